@@ -1,0 +1,31 @@
+-- What was given, over one write after another.
+use Rattle.std.proofs.Common.{ℕ, ◌+◌, ◌-◌, List, [], ◌++◌, length, take, drop, Option, ap, sym, ◌∙◌, subst, append_assoc, append-nil}
+use Rattle.std.proofs.Math.Seq.{take-add}
+use Rattle.std.proofs.lemmas.List.{take-append-drop, take_rest}
+use Rattle.hex_io.specs.Told.{Told, Gives, Same}
+use Rattle.hex_io.specs.Grew.{Gave, GavePart}
+use Rattle.hex_io.proofs.BothLaws.{Both-then, Both-weaker, Both-refl}
+
+pub gives_then : (xs ys : List ℕ) (x y z : Told) → Gives x y xs → Gives y z ys → Gives x z (xs ++ ys)
+gives_then xs ys x y z p q = q ∙ ap (λ (t : Told). record t { given = t.given ++ ys }) p ∙ ap (λ l. record x { given = l }) (append_assoc x.given xs ys)
+
+-- these bytes were given, and then those
+pub Gave-then : (a b c : Option Told) (xs ys : List ℕ) → Gave a b xs → Gave b c ys → Gave a c (xs ++ ys)
+Gave-then a b c xs ys p q = Both-then a b c _ _ _ (gives_then xs ys) p q
+
+-- n more bytes were given, of those from i on
+pub Gave-take : (a b c : Option Told) (bytes : List ℕ) (i n : ℕ) → Gave a b (take i bytes) → Gave b c (take n (take (length bytes - i) (drop i bytes))) → Gave a c (take (i + n) bytes)
+Gave-take a b c bytes i n p q = rw (take-add i n bytes) (Gave-then a b c (take i bytes) (take n (drop i bytes)) p (subst (λ l. Gave b c (take n l)) (take_rest bytes i) q))
+
+-- where nothing changed, no byte was given
+pub Same-gave : (a b : Option Told) → Same a b → Gave a b []
+Same-gave a b p = Both-weaker a b _ _ (λ x y e. e ∙ ap (λ l. record x { given = l }) (sym (append-nil x.given))) p
+
+pub Gave-nothing : (a : Option Told) → Gave a a []
+Gave-nothing a = Both-refl a (λ o n. Gives o n []) (λ x. ap (λ l. record x { given = l }) (sym (append-nil x.given)))
+
+-- a front was given, and then nothing
+pub Gave-front : (a b c : Option Told) (bytes : List ℕ) (i : ℕ) → Gave a b (take i bytes) → Same b c → GavePart a c bytes
+Gave-front a b c bytes i p same =
+    let gave : Gave a c (take i bytes) = rw (← append-nil (take i bytes)) (Gave-then a b c (take i bytes) [] p (Same-gave b c same)) in
+    (take i bytes, drop i bytes, sym (take-append-drop i bytes), gave)

@@ -1,0 +1,46 @@
+-- A link in memory: what it tells, what it may still do, and which of its calls fail.
+use Rattle.std.specs.Prelude.{ℕ, ◌+◌, ◌-◌, ◌^◌, ◌≤◌, ◌⊎◌, List, min, length, Contains, Result, Ok, Err}
+use Rattle.hex_io.specs.Told.{Told}
+use Rattle.hex_io.specs.declared.in_memory.Ask.{Ask}
+
+-- what is known of a link in memory
+pub record Wire : Type 0 where
+  pub told : Told
+  -- the most bytes that one call moves
+  pub piece : ℕ
+  -- the most bytes that are given in all, and the most reads in all
+  pub room : ℕ
+  pub reads : ℕ
+  -- the numbers, from 0, of the reads and writes that fail
+  pub bad_reads : List ℕ
+  pub bad_writes : List ℕ
+  -- how many reads and writes began, so the numbers of the next ones
+  pub next_read : ℕ
+  pub next_write : ℕ
+  pub read_faults : ℕ
+  pub write_faults : ℕ
+
+-- the next read is past the last one, or is among those that fail
+abbrev pub ReadFails : Wire → Type 0
+ReadFails w = (w.reads ≤ w.next_read) ⊎ Contains w.bad_reads w.next_read
+
+-- no room is left for a byte, or the next write is among those that fail
+abbrev pub WriteFails : Wire → Type 0
+WriteFails w = (w.room ≤ length w.told.given) ⊎ Contains w.bad_writes w.next_write
+
+-- one more, where a u64 holds it
+abbrev pub one_more : ℕ → ℕ
+one_more n = min (n + 1) (2 ^ 64 - 1)
+
+-- the count of faults after an answer
+abbrev pub counted : {T E : Type 0} → ℕ → Result T E → ℕ
+counted faults (Ok n) = faults
+counted faults (Err e) = one_more faults
+
+-- as many bytes as the piece, the call and what is left allow
+abbrev pub moved_of : ℕ → ℕ → ℕ → ℕ
+moved_of left piece asked = min (min left piece) asked
+
+-- the lengths of an ask, as a pair
+abbrev pub ask_pair : Ask → ℕ × ℕ
+ask_pair a = (a.taken, a.given)

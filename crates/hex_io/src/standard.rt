@@ -1,0 +1,110 @@
+//! The links over the standard streams: the trusted edge.
+//!
+//! They tell nothing of their bytes. Each read and each write is one call of the system with the
+//! whole slice, so a read takes what is there and a write has left the process when it returns.
+
+ghost use Rattle.std.specs.Prelude.{◌≡◌, ◌<◌, ◌≤◌, length, IfOk, None};
+ghost use Rattle.hex_io.specs.Told.{Reads};
+ghost use Rattle.hex_io.specs.Causes.{HasCause};
+
+use super::links::Link;
+use super::refusals::LinkFault;
+use std::io::{Read, Write};
+use std::rt::{HostRuntime, Stderr, Stdin, Stdout};
+
+/// Standard input and standard output.
+#[derive(Drop)]
+pub struct StdLink {
+    input: Stdin,
+    output: Stdout,
+    read_faults: u64,
+    write_faults: u64,
+}
+
+impl StdLink {
+    /// The standard streams of the process, with no fault counted yet.
+    pub fn new(rt: &HostRuntime) -> StdLink {
+        StdLink {
+            input: rt.stdin(),
+            output: rt.stdout(),
+            read_faults: 0,
+            write_faults: 0,
+        }
+    }
+}
+
+impl Link for StdLink {
+    ghost told = { λ _. None };
+
+    ghost read_faults = { λ s. s.read_faults };
+
+    ghost write_faults = { λ s. s.write_faults };
+
+    fn read(&mut self, buf: &mut [u8]) -> Result<usize, LinkFault> {
+        match self.input.read(buf) {
+            Ok(count) => Ok(count),
+            Err(_) => {
+                self.read_faults = self.read_faults.saturating_add(1);
+                Err(LinkFault)
+            }
+        }
+    }
+
+    fn write(&mut self, bytes: &[u8]) -> Result<usize, LinkFault> {
+        give(&mut self.output, &mut self.write_faults, bytes)
+    }
+}
+
+/// Standard error. Nothing is to come: a read answers 0.
+#[derive(Drop)]
+pub struct ErrLink {
+    output: Stderr,
+    write_faults: u64,
+}
+
+impl ErrLink {
+    /// Standard error of the process, with no fault counted yet.
+    pub fn new(rt: &HostRuntime) -> ErrLink {
+        ErrLink {
+            output: rt.stderr(),
+            write_faults: 0,
+        }
+    }
+}
+
+impl Link for ErrLink {
+    ghost told = { λ _. None };
+
+    ghost read_faults = { λ _. 0 };
+
+    ghost write_faults = { λ s. s.write_faults };
+
+    fn read(&mut self, buf: &mut [u8]) -> Result<usize, LinkFault>
+        ensures bound { IfOk result (λ n. n ≤ length buf.new) }
+        ensures told { Reads None None result buf.new }
+        ensures cause { HasCause 0 0 result }
+        ensures writes { self.new.write_faults ≡ self.old.write_faults }
+        ensures nothing { result ≡ Ok 0 }
+    {
+        Ok(0)
+    }
+
+    fn write(&mut self, bytes: &[u8]) -> Result<usize, LinkFault> {
+        give(&mut self.output, &mut self.write_faults, bytes)
+    }
+}
+
+/// Gives bytes from the front of `bytes` to a stream. One that takes none of them is at fault too.
+fn give<W: Write>(output: &mut W, faults: &mut u64, bytes: &[u8]) -> Result<usize, LinkFault>
+    requires { 0 < length bytes.now }
+    ensures bound { IfOk result (λ n. (0 < n) × (n ≤ length bytes.now)) }
+    ensures cause { HasCause faults.old faults.new result }
+{
+    match output.write(bytes) {
+        Ok(count) if count > 0 => Ok(count),
+        _ => {
+            *faults = faults.saturating_add(1);
+            Err(LinkFault)
+        }
+    }
+}

@@ -1,0 +1,4 @@
+pub mod Lines
+pub mod Splitting
+pub mod Reading
+pub mod Answering

@@ -1,0 +1,88 @@
+-- What a raw line asks, by filters of the whole line.
+use Rattle.std.specs.Prelude.{ℕ, ◌==◌, ◌&&◌, ◌||◌, not, Bool, List, [], ◌∷◌, length, map, filter, Option, Some, None, nat_le, nat_lt, if◌then◌else◌, take_while}
+use Rattle.std.specs.List.{slice_split, list_all}
+use Rattle.std.specs.Str.Parse.{digits_value}
+use Rattle.htp_line.specs.declared.request.Parsed.{Parsed}
+use Rattle.htp_line.specs.declared.request.Request.{Request}
+use Rattle.htp_line.specs.declared.request.Parsed.TheVariants as parsed
+
+-- a byte that stays: no control byte (0 to 31, 127) but the tab
+abbrev pub is_kept : ℕ → Bool
+is_kept b = (nat_le 32 b && not (b == 127)) || (b == 9)
+
+-- a byte before a comment, which begins with a hash sign
+abbrev pub is_no_hash : ℕ → Bool
+is_no_hash b = not (b == 35)
+
+-- a tab becomes a space
+abbrev pub tab_to_space : ℕ → ℕ
+tab_to_space b = if b == 9 then 32 else b
+
+-- the line without control bytes and comment, each tab a space
+abbrev pub cleaned : List ℕ → List ℕ
+cleaned raw = map tab_to_space (take_while is_no_hash (filter is_kept raw))
+
+-- a space
+abbrev pub is_space : ℕ → Bool
+is_space b = b == 32
+
+-- a part that is not empty
+abbrev pub is_word : List ℕ → Bool
+is_word part = nat_lt 0 (length part)
+
+-- the words between spaces
+unfoldable pub words : List ℕ → List (List ℕ)
+words text = filter is_word (slice_split is_space text)
+
+-- a decimal digit
+abbrev pub is_digit : ℕ → Bool
+is_digit b = nat_le 48 b && nat_le b 57
+
+-- an id: one to ten digits with a value of at most 2,147,483,647
+abbrev pub is_number : List ℕ → Bool
+is_number word = nat_le 1 (length word) && (nat_le (length word) 10 && (list_all is_digit word && nat_le (digits_value 10 word) 2147483647))
+
+-- the id that a word is
+abbrev pub number_of : List ℕ → Option ℕ
+number_of word = if is_number word then Some (digits_value 10 word) else None
+
+-- a request as plain data: an id or none, the name and the arguments
+pub record Asked : Type 0 where
+  pub id : Option ℕ
+  pub name : List ℕ
+  pub args : List (List ℕ)
+
+-- a line is discarded, an id stands alone, or it is a request
+pub data Reading : Type 0 where
+  Blank : Reading
+  Bare : ℕ → Reading
+  Ask : Asked → Reading
+
+-- the words behind an id
+abbrev pub with_id : ℕ → List (List ℕ) → Reading
+with_id id [] = Bare id
+with_id id (name ∷ args) = Ask (record { id = Some id; name = name; args = args })
+
+-- the words, of which the first may be an id
+abbrev pub reading_by : Option ℕ → List ℕ → List (List ℕ) → Reading
+reading_by None first others = Ask (record { id = None; name = first; args = others })
+reading_by (Some id) first others = with_id id others
+
+-- what the words of a line ask
+abbrev pub reading_of_words : List (List ℕ) → Reading
+reading_of_words [] = Blank
+reading_of_words (first ∷ others) = reading_by (number_of first) first others
+
+-- what a raw line asks
+abbrev pub reading : List ℕ → Reading
+reading raw = reading_of_words (words (cleaned raw))
+
+-- a request, as it was asked
+abbrev pub asked_of : Request → Asked
+asked_of request = record { id = request.id; name = request.name; args = request.args }
+
+-- what was parsed, as a reading
+abbrev pub seen : Parsed → Reading
+seen parsed.Blank = Blank
+seen (parsed.Bare id) = Bare id
+seen (parsed.Request request) = Ask (asked_of request)
