@@ -1,0 +1,4 @@
+pub mod Parts
+pub mod Reach
+pub mod Roots
+pub mod Search

@@ -1,0 +1,9 @@
+pub use Rattle.hex_cells.specs.Colours
+pub use Rattle.hex_cells.specs.Edges
+pub use Rattle.hex_cells.specs.Graph
+pub use Rattle.hex_cells.specs.Sets
+pub mod Positions
+pub mod Joined
+pub mod Groups
+pub mod Elements
+pub mod Wins

@@ -1,0 +1,41 @@
+//! Paths of stones: which stones lead to a set, and whether a player's edges are joined.
+
+ghost use Rattle.std.specs.Prelude.{◌≡◌, ℕ, ◌↔◌, IsTrue};
+ghost use Rattle.hex_cells.specs.declared.colours.Colour.{Colour};
+ghost use Rattle.hex_cells.specs.Sets.{has};
+ghost use Rattle.hex_board.specs.Joined.{Joined, Leads, is_joined};
+
+use hex_cells::{CellSet, Colour, Size, edge};
+
+/// The stones from which a path of stones leads to a stone of `goal`.
+pub fn flood(goal: CellSet, stones: CellSet, size: Size) -> CellSet
+    ensures { (d : ℕ) → IsTrue (has result d) ↔ Leads size stones goal d }
+{
+    let mut reach = CellSet::none().union(goal.meet(stones));
+    'spread: loop {
+        let next = reach.union(reach.around(size).meet(stones));
+        if next.inside(reach) {
+            return reach;
+        }
+        reach = next;
+    }
+}
+
+/// Whether the stones join the player's edges: some path of them leads from his first edge to his second.
+pub fn joined(stones: CellSet, colour: Colour, size: Size) -> bool
+    ensures path { IsTrue result ↔ Joined size colour stones }
+    ensures value { result ≡ is_joined size colour stones }
+{
+    let reach = flood(edge(colour, true, size), stones, size);
+    let first = reach.meet(edge(colour, false, size));
+    match first.least() {
+        Some(_) => true,
+        None => false,
+    }
+}
+
+/// A law, with nothing to run: the test `is_joined`, which searches for a path cell by cell, passes exactly where there
+/// is a path that joins the edges. So callers may define what is joined as a function.
+pub fn joined_is_decided()
+    ensures { (n : ℕ) (c : Colour) (s : ℕ) → IsTrue (is_joined n c s) ↔ Joined n c s }
+{}

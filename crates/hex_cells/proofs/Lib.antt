@@ -1,0 +1,9 @@
+pub mod Bits
+pub mod Around
+pub mod Beside
+pub mod Counts
+pub mod Digits
+pub mod Naming
+pub mod Ranks
+pub mod Shared
+pub mod Tables

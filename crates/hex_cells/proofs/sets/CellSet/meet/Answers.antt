@@ -1,0 +1,11 @@
+use Rattle.std.proofs.Common.{arith, sym}
+use Rattle.std.proofs.lemmas.Nat.{and_le_l}
+use Rattle.hex_cells.proofs.Bits.{has_and}
+use Rattle.hex_cells.proofs.sets.CellSet.meet.Goals as goal
+
+pub returns : goal.returns
+returns c = record {
+  shrinks = rw (sym c.self.view_is) (and_le_l c.self.inside.bits _);
+  small = omega (arith, and_le_l c.self.inside.bits c.other.inside.bits, c.self.invariant);
+  items = λ k. cc (has_and c.self.inside.bits c.other.inside.bits k);
+}

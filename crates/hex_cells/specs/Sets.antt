@@ -1,0 +1,19 @@
+use Rattle.std.specs.Prelude.{ℕ, Bool, ◌==◌, ◌+◌, ◌^◌, zero, suc, cond, bit_and, bit_or, bit_xor}
+use Rattle.std.specs.Int.{bit_at}
+
+-- cell k is in the set whose number is s
+unfoldable pub has : ℕ → ℕ → Bool
+has s k = bit_at s k == 1
+
+-- how many cells below j are in the set s
+unfoldable pub members : ℕ → ℕ → ℕ
+members s zero = 0
+members s (suc j) = cond (has s j) 1 0 + members s j
+
+-- the number of the set s with cell k too
+abbrev pub with_cell : ℕ → ℕ → ℕ
+with_cell s k = bit_or s (2 ^ k)
+
+-- the number of the set s without cell k
+abbrev pub without_cell : ℕ → ℕ → ℕ
+without_cell s k = bit_and s (bit_xor s (2 ^ k))

@@ -1,0 +1,53 @@
+//! The size of a board.
+
+ghost use Rattle.std.specs.Prelude.{◌≡◌, ℕ, ◌*◌, ◌≤◌, MatchOption};
+
+use std::marker::Model;
+
+/// How many columns a board has, and how many rows: 1 to 11.
+#[derive(Clone, Copy, Debug, PartialEq, Eq)]
+pub struct Size {
+    n: u32,
+}
+
+impl Model for Size {
+    ghost Value = { ℕ };
+
+    ghost view = { λ s. s.n };
+
+    ghost inverse = { λ n. record { n = n } };
+
+    ghost invariant = { λ s. (1 ≤ s.n) × (s.n ≤ 11) };
+}
+
+impl Size {
+    /// The largest size.
+    pub const MAX: u32 = 11;
+
+    /// The size `n`; `None` exactly where `n` is not 1 to 11.
+    pub fn of(n: u32) -> Option<Size>
+        ensures { MatchOption result (¬ ((1 ≤ n) × (n ≤ 11))) (λ s. (s ≡ n) × ((1 ≤ n) × (n ≤ 11))) }
+    {
+        if 1 <= n && n <= Size::MAX {
+            Some(Size { n })
+        } else {
+            None
+        }
+    }
+
+    /// The number of columns, and of rows: 1 to 11.
+    pub fn get(self) -> u32
+        ensures value { result ≡ self }
+        ensures range { (1 ≤ result) × (result ≤ 11) }
+    {
+        self.n
+    }
+
+    /// The number of cells: 1 to 121.
+    pub fn cells(self) -> u32
+        ensures value { result ≡ self * self }
+        ensures range { (1 ≤ result) × (result ≤ 121) }
+    {
+        self.n * self.n
+    }
+}

@@ -1,0 +1,26 @@
+//! The two players.
+
+ghost use Rattle.std.specs.Prelude.{◌≡◌};
+
+/// A player, and the colour of his stones. Black joins the first row to the last, White the first column to the last.
+#[derive(Clone, Copy, Debug, PartialEq, Eq)]
+pub enum Colour {
+    /// Joins the first row to the last.
+    Black,
+    /// Joins the first column to the last.
+    White,
+}
+
+impl Colour {
+    ghost use Rattle.hex_cells.specs.Colours.{other_of};
+
+    /// The other player.
+    pub fn other(self) -> Colour
+        ensures { result ≡ other_of self }
+    {
+        match self {
+            Colour::Black => Colour::White,
+            Colour::White => Colour::Black,
+        }
+    }
+}

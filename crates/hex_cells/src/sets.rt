@@ -1,0 +1,220 @@
+//! Sets of cells.
+
+ghost use Rattle.std.specs.Prelude.{◌≡◌, ℕ, ◌+◌, ◌-◌, ◌*◌, ◌^◌, ◌<◌, ◌≤◌, ◌==◌, ◌↔◌, ◌&&◌, ◌||◌, nat_lt, not, true, false, IsTrue, MatchOption};
+ghost use Rattle.hex_cells.specs.Sets.{has, members, with_cell, without_cell};
+
+use super::{Cell, Size};
+use std::marker::Model;
+
+// As many cells as the largest board has.
+const CELLS: u32 = Size::MAX * Size::MAX;
+
+/// A set of cells: bit k of its number is set where cell k is in it. It is not tied to a size.
+#[derive(Clone, Copy, Debug, PartialEq, Eq)]
+pub struct CellSet {
+    bits: u128,
+}
+
+impl Model for CellSet {
+    ghost Value = { ℕ };
+
+    ghost view = { λ s. s.bits };
+
+    ghost inverse = { λ n. record { bits = n } };
+
+    ghost invariant = { λ s. s.bits < 2 ^ 121 };
+}
+
+impl CellSet {
+    // The set with this number.
+    pub(crate) fn numbered(bits: u128) -> CellSet
+        requires { bits < 2 ^ 121 }
+        ensures { result ≡ bits }
+    {
+        CellSet { bits }
+    }
+
+    /// The empty set.
+    pub fn none() -> CellSet
+        ensures value { result ≡ 0 }
+        ensures items { (k : ℕ) → has result k ≡ false }
+    {
+        CellSet { bits: 0 }
+    }
+
+    /// All cells of a board.
+    pub fn all(size: Size) -> CellSet
+        ensures value { result ≡ 2 ^ (size * size) - 1 }
+        ensures small { result < 2 ^ 121 }
+        ensures items { (k : ℕ) → has result k ≡ nat_lt k (size * size) }
+    {
+        CellSet {
+            bits: (1u128 << size.cells()) - 1,
+        }
+    }
+
+    /// The set with this cell too.
+    pub fn with(self, cell: Cell) -> CellSet
+        ensures value { result ≡ with_cell self cell }
+        ensures small { result < 2 ^ 121 }
+        ensures items { (k : ℕ) → has result k ≡ (has self k || k == cell) }
+    {
+        CellSet {
+            bits: self.bits | 1 << cell.number(),
+        }
+    }
+
+    /// The set without this cell. With `least` it goes over a set: the set falls in each step.
+    pub fn without(self, cell: Cell) -> CellSet
+        ensures value { result ≡ without_cell self cell }
+        ensures shrinks { result ≤ self }
+        ensures fewer { has self cell ≡ true → result < self }
+        ensures small { result < 2 ^ 121 }
+        ensures items { (k : ℕ) → has result k ≡ (has self k && not (k == cell)) }
+    {
+        CellSet {
+            bits: self.bits & !(1 << cell.number()),
+        }
+    }
+
+    /// Whether the cell is in the set.
+    pub fn has(self, cell: Cell) -> bool
+        ensures { result ≡ has self cell }
+    {
+        self.bits >> cell.number() & 1 == 1
+    }
+
+    /// The cells of either set.
+    #[tactic(auto, using(crate::proofs::Bits::has_or, crate::proofs::Bits::or_below, crate::proofs::Bits::or_grows))]
+    pub fn union(self, other: CellSet) -> CellSet
+        ensures grows { self ≤ result }
+        ensures small { result < 2 ^ 121 }
+        ensures items { (k : ℕ) → has result k ≡ (has self k || has other k) }
+    {
+        CellSet {
+            bits: self.bits | other.bits,
+        }
+    }
+
+    /// The cells of both sets.
+    pub fn meet(self, other: CellSet) -> CellSet
+        ensures shrinks { result ≤ self }
+        ensures small { result < 2 ^ 121 }
+        ensures items { (k : ℕ) → has result k ≡ (has self k && has other k) }
+    {
+        CellSet {
+            bits: self.bits & other.bits,
+        }
+    }
+
+    /// The cells of this set that are not in the other.
+    pub fn minus(self, other: CellSet) -> CellSet
+        ensures shrinks { result ≤ self }
+        ensures small { result < 2 ^ 121 }
+        ensures items { (k : ℕ) → has result k ≡ (has self k && not (has other k)) }
+    {
+        CellSet {
+            bits: self.bits & !other.bits,
+        }
+    }
+
+    /// Whether each cell of this set is in the other.
+    pub fn inside(self, other: CellSet) -> bool
+        ensures { IsTrue result ↔ ((k : ℕ) → has self k ≡ true → has other k ≡ true) }
+    {
+        self.bits & !other.bits == 0
+    }
+
+    /// Whether the sets have a cell in common.
+    pub fn meets(self, other: CellSet) -> bool
+        ensures { IsTrue result ↔ ((k : ℕ) × (has self k ≡ true) × (has other k ≡ true)) }
+    {
+        self.bits & other.bits != 0
+    }
+
+    /// Whether the set has no cell.
+    pub fn is_empty(self) -> bool
+        ensures { IsTrue result ↔ ((k : ℕ) → has self k ≡ false) }
+    {
+        self.bits == 0
+    }
+
+    /// How many cells are in the set.
+    pub fn count(self) -> u32
+        ensures value { result ≡ members self 121 }
+        ensures range { result ≤ 121 }
+    {
+        self.bits.count_ones()
+    }
+
+    /// How many cells of the set have a lower number than this cell: where the cell is in the set, the place at which
+    /// `nth` has it.
+    pub fn rank(self, cell: Cell) -> u32
+        ensures value { result ≡ members self cell }
+        ensures range { result < 121 }
+    {
+        self.below(cell.number())
+    }
+
+    /// The cell with the least number; `None` exactly for the empty set.
+    pub fn least(self) -> Option<Cell>
+        ensures { MatchOption result ((k : ℕ) → has self k ≡ false) (λ c. (has self c ≡ true) × ((k : ℕ) → k < c → has self k ≡ false)) }
+    {
+        if self.bits == 0 {
+            None
+        } else {
+            Some(Cell::numbered(self.bits.trailing_zeros()))
+        }
+    }
+
+    /// The cell with `k` cells of the set below it: the cells in rising order, from 0.
+    #[tactic(auto, using(crate::proofs::Counts::members_more, crate::proofs::Counts::members_none))]
+    pub fn nth(self, k: u32) -> Cell
+        requires { k < members self 121 }
+        ensures inside { has self result ≡ true }
+        ensures order { members self result ≡ k }
+    {
+        let mut at = 0;
+        let mut width = CELLS;
+        // The cell is one of the `width` numbers from `at` on; halving them takes seven steps.
+        while 1 < width {
+            let half = width / 2;
+            if k < self.below(at + half) {
+                width = half;
+            } else {
+                at += half;
+                width -= half;
+            }
+        }
+        Cell::numbered(at)
+    }
+
+    // How many cells of the set have a number below `end`.
+    fn below(self, end: u32) -> u32
+        requires { end ≤ 121 }
+        ensures value { result ≡ members self end }
+        ensures range { result ≤ end }
+    {
+        (self.bits & (1u128 << end) - 1).count_ones()
+    }
+
+    // The set with each number risen by `by`, where that is a cell of `all`.
+    pub(crate) fn up(self, by: u32, all: CellSet) -> CellSet
+        requires { by ≤ 11 }
+        ensures { (k : ℕ) → has result k ≡ (has all k && (not (nat_lt k by) && has self (k - by))) }
+    {
+        CellSet {
+            bits: self.bits << by & all.bits,
+        }
+    }
+
+    // The set with each number lowered by `by`; those below `by` are dropped.
+    pub(crate) fn down(self, by: u32) -> CellSet
+        requires { by ≤ 11 }
+        ensures { (k : ℕ) → has result k ≡ has self (k + by) }
+    {
+        CellSet {
+            bits: self.bits >> by,
+        }
+    }
+}
