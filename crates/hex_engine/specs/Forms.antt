@@ -1,0 +1,72 @@
+-- How arguments are spelled.
+use Rattle.std.specs.Prelude.{◌≡◌, ℕ, ◌*◌, ◌<◌, ◌==◌, ◌&&◌, ◌||◌, not, Bool, true, false, List, [], ◌∷◌, Option, Some, None, codes, map, nat_le, if◌then◌else◌}
+use Rattle.std.specs.Str.{bytes_eq}
+use Rattle.std.specs.Char.{to_ascii_lowercase}
+use Rattle.htp_line.specs.Reading.{number_of, is_digit}
+use Rattle.hex_cells.specs.Vertices.{vertex_cell}
+use Rattle.hex_cells.specs.declared.colours.Colour.{Colour}
+use Rattle.hex_cells.specs.declared.colours.Colour.TheVariants.{Black, White}
+use Rattle.hex_game.specs.declared.moves.Move.{Move}
+use Rattle.hex_game.specs.declared.moves.Move.TheVariants.{Stone, Swap}
+use Rattle.hex_engine.specs.declared.forms.MoveWord.{MoveWord}
+use Rattle.hex_engine.specs.declared.forms.MoveWord.TheVariants.{Formless, OffBoard, Says}
+
+-- the word is this text, each letter in either case
+unfoldable pub spells : List ℕ → List ℕ → Bool
+spells word text = bytes_eq (map to_ascii_lowercase word) (map to_ascii_lowercase text)
+
+-- `b`, `black`, `w` or `white`
+abbrev pub colour_of : List ℕ → Option Colour
+colour_of word =
+    if spells word (codes "b") || spells word (codes "black") then Some Black
+    else if spells word (codes "w") || spells word (codes "white") then Some White
+    else None
+
+abbrev pub is_letter : ℕ → Bool
+is_letter b = nat_le 97 (to_ascii_lowercase b) && nat_le (to_ascii_lowercase b) 122
+
+-- a digit but 0
+abbrev pub is_first_digit_of : ℕ → Bool
+is_first_digit_of b = is_digit b && not (b == 48)
+
+-- one or two digits, of which the first is not 0
+abbrev pub is_row : List ℕ → Bool
+is_row [] = false
+is_row (d ∷ []) = is_first_digit_of d
+is_row (d ∷ e ∷ []) = is_first_digit_of d && is_digit e
+is_row (d ∷ e ∷ f ∷ more) = false
+
+-- a letter and a row, on the board or off it
+abbrev pub is_vertex : List ℕ → Bool
+is_vertex [] = false
+is_vertex (letter ∷ row) = is_letter letter && is_row row
+
+abbrev pub on_board : Option ℕ → MoveWord
+on_board None = OffBoard
+on_board (Some cell) = Says (Stone cell)
+
+-- what a move's word says on a board of that size
+abbrev pub move_of : ℕ → List ℕ → MoveWord
+move_of size word =
+    if spells word (codes "swap-pieces") then Says Swap
+    else if is_vertex word then on_board (vertex_cell size word)
+    else Formless
+
+-- a vertex that a word says lies on a board of that size
+abbrev pub IsSaidOf : ℕ → MoveWord → Type 0
+IsSaidOf size Formless = Unit {0}
+IsSaidOf size OffBoard = Unit {0}
+IsSaidOf size (Says (Stone cell)) = cell < size * size
+IsSaidOf size (Says Swap) = Unit {0}
+
+abbrev pub pair_of : Option ℕ → Option ℕ → Option (ℕ × ℕ)
+pair_of None b = None
+pair_of (Some a) None = None
+pair_of (Some a) (Some b) = Some (a, b)
+
+-- a number, which stands for columns and rows, or two
+abbrev pub sizes_of : List (List ℕ) → Option (ℕ × ℕ)
+sizes_of [] = None
+sizes_of (a ∷ []) = pair_of (number_of a) (number_of a)
+sizes_of (a ∷ b ∷ []) = pair_of (number_of a) (number_of b)
+sizes_of (a ∷ b ∷ c ∷ more) = None

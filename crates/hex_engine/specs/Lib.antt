@@ -1,0 +1,5 @@
+pub mod Commands
+pub mod Forms
+pub mod Picture
+pub mod Standing
+pub mod Replies

@@ -1,0 +1,70 @@
+//! What the engine answers.
+
+ghost use Rattle.std.specs.Prelude.{◌≡◌};
+ghost use Rattle.hex_engine.specs.Replies.{message};
+ghost use Rattle.hex_engine.specs.declared.answers.EngineError.TheVariants.{Memory};
+
+use htp_line::Bytes;
+use std::alloc::AllocError;
+use thiserror::Error;
+
+/// Why a request fails. The numbers are those of the manual's table of failures.
+#[derive(Clone, Copy, Debug, PartialEq, Eq, Drop)]
+pub enum Fail {
+    /// No command that is built has this name.
+    UnknownCommand = 1,
+    /// The number or the form of the arguments is wrong, or an id stands alone.
+    Syntax = 2,
+    /// A number is not 1 to 11, or two numbers differ.
+    Size = 3,
+    /// The vertex is not on the board, or the move is not legal.
+    Illegal = 4,
+    /// There is no step to take back.
+    NoUndo = 6,
+}
+
+impl Fail {
+    /// The text of the failure.
+    pub fn message(self) -> &'static str
+        ensures { result.now ≡ message self }
+    {
+        match self {
+            Fail::UnknownCommand => "unknown command",
+            Fail::Syntax => "syntax error",
+            Fail::Size => "unacceptable size",
+            Fail::Illegal => "illegal move",
+            Fail::NoUndo => "cannot undo",
+        }
+    }
+}
+
+/// What answers a request.
+#[derive(Debug, Drop)]
+pub enum Answer {
+    /// A success with this text.
+    Done(Bytes),
+    /// A success without text, after which nothing more is answered.
+    Quit,
+    /// A failure.
+    Fail(Fail),
+}
+
+/// Memory ran out.
+#[derive(Clone, Copy, Debug, PartialEq, Eq)]
+pub struct Memory;
+
+/// Why a request got no answer. Nothing changed then.
+#[derive(Clone, Copy, Debug, PartialEq, Eq, Drop, Error)]
+pub enum EngineError {
+    /// Memory ran out.
+    #[error("out of memory")]
+    Memory,
+}
+
+impl From<AllocError> for EngineError {
+    ghost from_gives = { λ _ error. error ≡ Memory };
+
+    fn from(_error: AllocError) -> EngineError {
+        EngineError::Memory
+    }
+}

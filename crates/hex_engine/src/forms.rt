@@ -1,0 +1,90 @@
+//! How arguments are spelled.
+
+ghost use Rattle.std.specs.Prelude.{◌≡◌};
+ghost use Rattle.hex_engine.specs.Forms.{spells, colour_of, is_first_digit_of, is_vertex, move_of, sizes_of, IsSaidOf};
+
+use hex_cells::{Colour, Size, read_vertex};
+use hex_game::Move;
+use htp_line::{Bytes, read_number};
+
+/// What a move's word says.
+#[derive(Clone, Copy)]
+pub enum MoveWord {
+    /// It has the form of no move.
+    Formless,
+    /// It has the form of a vertex that lies off the board.
+    OffBoard,
+    Says(Move),
+}
+
+/// Whether the word is this text, each letter in either case.
+#[tactic(auto, using(crate::proofs::Spelling::same_text), unfolding(crate::specs::Forms::spells))]
+fn is_spelled(word: &[u8], text: &[u8]) -> bool
+    ensures { result ≡ spells word.now text.now }
+{
+    word.eq_ignore_ascii_case(text)
+}
+
+/// The colour of `b`, `black`, `w` or `white`, in either case.
+pub fn read_colour(word: &[u8]) -> Option<Colour>
+    ensures { result ≡ colour_of word.now }
+{
+    if is_spelled(word, b"b") || is_spelled(word, b"black") {
+        Some(Colour::Black)
+    } else if is_spelled(word, b"w") || is_spelled(word, b"white") {
+        Some(Colour::White)
+    } else {
+        None
+    }
+}
+
+/// What a move's word says on a board of that size.
+pub fn read_move(word: &[u8], size: Size) -> MoveWord
+    ensures value { result ≡ move_of size word.now }
+    ensures on_board { IsSaidOf size result }
+{
+    if is_spelled(word, b"swap-pieces") {
+        return MoveWord::Says(Move::Swap);
+    }
+    if !has_vertex_form(word) {
+        return MoveWord::Formless;
+    }
+    match read_vertex(word, size) {
+        Some(cell) => MoveWord::Says(Move::Stone(cell)),
+        None => MoveWord::OffBoard,
+    }
+}
+
+/// Whether the word is a letter and one or two digits of which the first is not 0.
+fn has_vertex_form(word: &[u8]) -> bool
+    ensures { result ≡ is_vertex word.now }
+{
+    match word {
+        [letter, d] => letter.is_ascii_alphabetic() && is_first_digit(*d),
+        [letter, d, e] => letter.is_ascii_alphabetic() && is_first_digit(*d) && e.is_ascii_digit(),
+        _ => false,
+    }
+}
+
+fn is_first_digit(byte: u8) -> bool
+    ensures { result ≡ is_first_digit_of byte }
+{
+    byte.is_ascii_digit() && byte != b'0'
+}
+
+/// The columns and the rows that one number or two ask for.
+pub fn read_sizes(args: &[Bytes]) -> Option<(u32, u32)>
+    ensures { result ≡ sizes_of args.now }
+{
+    match args {
+        [both] => {
+            let size = read_number(both.as_slice())?;
+            Some((size, size))
+        }
+        [columns, rows] => Some((
+            read_number(columns.as_slice())?,
+            read_number(rows.as_slice())?,
+        )),
+        _ => None,
+    }
+}

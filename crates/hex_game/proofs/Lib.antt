@@ -1,0 +1,4 @@
+pub mod Chains
+pub mod Room
+pub mod Rules
+pub mod Swaps

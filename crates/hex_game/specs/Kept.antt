@@ -1,0 +1,24 @@
+-- What a game keeps beside its start board and its steps.
+use Rattle.std.specs.Prelude.{◌≡◌, ℕ, ◌+◌, ◌≤◌, true, List, [], ◌∷◌, ◌++◌, length}
+use Rattle.hex_cells.specs.Sets.{members}
+use Rattle.hex_board.specs.Positions.{Position}
+use Rattle.hex_game.specs.Games.{is_legal_on, after_step}
+use Rattle.hex_game.specs.declared.moves.Step.{Step}
+
+-- how many stones stand on the board
+abbrev pub stones_on : Position → ℕ
+stones_on now = members now.black 121 + members now.white 121
+
+-- each step but a swap leaves one stone more
+abbrev pub IsFew : List Step → Position → Type 0
+IsFew done now = length done ≤ stones_on now + 1
+
+-- the steps lead, each of them legal, from the board now to the last one, and these are the boards before each;
+-- the steps done before led from the start to the board now
+abbrev pub Leads : Position → List Step → Position → List Step → List Position → Position → Type 0
+Leads start done now [] [] last = (last ≡ now) × IsFew done now
+Leads start done now [] (board ∷ boards) last = ⊥
+Leads start done now (step ∷ steps) [] last = ⊥
+Leads start done now (step ∷ steps) (board ∷ boards) last =
+    (board ≡ now) × IsFew done now × (is_legal_on start done now step ≡ true)
+    × Leads start (done ++ step ∷ []) (after_step start done now step) steps boards last

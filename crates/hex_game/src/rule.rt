@@ -1,0 +1,114 @@
+//! The rule of one step.
+
+ghost use Rattle.std.specs.Prelude.{◌≡◌, ℕ, true, false, List, Some, None, is_none, ◌+◌, ◌*◌, ◌<◌, ◌≤◌, length};
+ghost use Rattle.hex_game.specs.Moves.{lone_black_stone, is_white};
+ghost use Rattle.hex_board.specs.Positions.{placed, empty_board, is_empty_at};
+ghost use Rattle.hex_game.specs.Kept.{IsFew, stones_on};
+ghost use Rattle.hex_game.specs.Games.{IsOnBoard, is_over, has_no_stone, may_swap, is_legal_on, refusal_on, moved, swapped, mirrored, Fits};
+
+use super::moves::{Move, PlayError, Step};
+use hex_board::Board;
+use hex_cells::{Cell, CellSet, Colour, Size};
+
+/// Why the step is refused on this board, which the history led to from the start board.
+pub fn cause_against(start: &Board, steps: &[Step], now: &Board, step: &Step) -> Option<PlayError>
+    requires { IsOnBoard now.now step.now.what }
+    ensures { result ≡ refusal_on start.now steps.now now.now step.now }
+{
+    if is_over_on(now) {
+        return Some(PlayError::Over);
+    }
+    match step.what {
+        Move::Stone(cell) => match now.at(cell) {
+            Some(_) => Some(PlayError::Occupied),
+            None => None,
+        },
+        Move::Swap => {
+            if swap_may_come(start, steps, step.colour) {
+                None
+            } else {
+                Some(PlayError::BadSwap)
+            }
+        }
+    }
+}
+
+fn is_over_on(now: &Board) -> bool
+    ensures { result ≡ is_over now.now }
+{
+    now.joined(Colour::Black) || now.joined(Colour::White)
+}
+
+/// A swap is White's alone, on a board that was empty, after Black's one stone.
+fn swap_may_come(start: &Board, steps: &[Step], colour: Colour) -> bool
+    ensures { result ≡ may_swap start.now steps.now colour }
+{
+    match colour {
+        Colour::Black => false,
+        Colour::White => is_bare(start) && lone_stone(steps).is_some(),
+    }
+}
+
+fn is_bare(start: &Board) -> bool
+    ensures { result ≡ has_no_stone start.now }
+{
+    start.stones(Colour::Black) == CellSet::none() && start.stones(Colour::White) == CellSet::none()
+}
+
+/// The cell of Black's stone, where that one stone is the whole history.
+fn lone_stone(steps: &[Step]) -> Option<Cell>
+    ensures { result ≡ lone_black_stone steps.now }
+{
+    match steps {
+        [
+            Step {
+                colour: Colour::Black,
+                what: Move::Stone(cell),
+            },
+        ] => Some(*cell),
+        _ => None,
+    }
+}
+
+/// The board after a step that is legal there.
+pub fn board_after(now: &Board, steps: &[Step], step: &Step) -> Board
+    requires fits { Fits now.now steps.now step.now.what }
+    requires lone { (cell : ℕ) → lone_black_stone steps.now ≡ Some cell → cell < now.now.size * now.now.size }
+    ensures value { result ≡ moved now.now steps.now step.now.colour step.now.what }
+    ensures room { IsFew steps.now now.now → length steps.now < 122 }
+    ensures few { IsFew steps.now now.now → length steps.now ≤ stones_on result }
+{
+    match step.what {
+        Move::Stone(cell) => with_stone(now, step.colour, cell),
+        Move::Swap => match lone_stone(steps) {
+            Some(cell) => mirror_stone(now, cell),
+            None => unreachable!(),
+        },
+    }
+}
+
+/// The board with one stone more.
+fn with_stone(now: &Board, colour: Colour, cell: Cell) -> Board
+    requires { is_empty_at now.now cell ≡ true }
+    ensures value { result ≡ placed now.now colour cell }
+    ensures room { stones_on now.now < 121 }
+    ensures more { stones_on result ≡ stones_on now.now + 1 }
+{
+    // That the board has at most 121 cells and that its two sets are apart leaves room for one more stone.
+    let _size = now.size();
+    let _stones = now.stones(Colour::Black);
+    let mut next = *now;
+    next.place(colour, cell);
+    next
+}
+
+/// The board with White's stone alone, on the mirrored cell.
+fn mirror_stone(now: &Board, cell: Cell) -> Board
+    requires { cell < now.now.size * now.now.size }
+    ensures value { result ≡ swapped now.now (Some cell) }
+    ensures some { 1 ≤ stones_on result }
+{
+    let size = now.size();
+    let mirrored = Cell::at(size, cell.row(size), cell.column(size));
+    Board::of(size, CellSet::none(), CellSet::none().with(mirrored))
+}
