@@ -1,0 +1,96 @@
+-- The ends of a conversation, from what each call told.
+use Rattle.std.proofs.Common.{◌≡◌, ℕ, ◌+◌, ◌≤◌, List, [], ◌++◌, length, take, Option, refl, ap, sym, ◌∙◌, subst, append-nil, append_assoc}
+use Rattle.hex_io.specs.Told.{Told, Both, Takes, Same}
+use Rattle.hex_io.specs.Grew.{Gave}
+use Rattle.hex_io.proofs.BothLaws.{Both-then, Both-weaker, Both-refl, Both-last}
+use Rattle.htp_line.specs.Lines.{lines}
+use Rattle.hex_engine.specs.Standing.{Standing}
+use Rattle.hex_cli.specs.Talk.{Going, AfterQuit, talk}
+use Rattle.hex_cli.specs.Sessions.{talk_to, AnswersAll, BrokeOff, GaveUp, AnsweredLast, BrokeOffLast, HasLast}
+use Rattle.hex_cli.specs.Outcome.{Outcome}
+use Rattle.hex_cli.specs.declared.ends.End.{End}
+use Rattle.hex_cli.specs.declared.ends.End.TheVariants as ending
+use Rattle.hex_cli.proofs.Keeping.{Keeps, keeps_taking, keeps_giving, keeps_nothing, end_complete, end_quit, end_unread, end_unwritten, end_unwritten_last, end_unfinished, end_unfinished_last, end_unbegun, end_overlong}
+use Rattle.hex_cli.proofs.TalkLaws.{talk_to-nil}
+
+abbrev pub Kept : Standing → Option Told → Option Told → List ℕ → List ℕ → Type 0
+Kept start a b seen text = Both a b (λ o n. Keeps start o n seen text)
+
+-- what stands at an end, where the link tells
+abbrev pub EndsBy : End → Standing → ℕ → Option Told → Option Told → Type 0
+EndsBy end start limit a b = Both a b (Outcome end start limit)
+
+pub kept_taking : (start : Standing) (a b c : Option Told) (seen buf : List ℕ) (n : ℕ) → Kept start a b seen (talk_to start seen).text → (talk_to start seen).ending ≡ Going → Both b c (λ o t. Takes o t n buf)
+    → Kept start a c (seen ++ take n buf) (talk_to start seen).text
+kept_taking start a b c seen buf n k going t = Both-then a b c _ _ _ (λ x y z p q. keeps_taking start x y z seen (talk_to start seen).text buf n p refl going q) k t
+
+pub kept_giving : (start : Standing) (a b c : Option Told) (seen text bytes : List ℕ) → Kept start a b seen text → Gave b c bytes → Kept start a c seen (text ++ bytes)
+kept_giving start a b c seen text bytes k g = Both-then a b c _ _ _ (λ x y z p q. keeps_giving start x y z seen text bytes p q) k g
+
+kept_same : (start : Standing) (a b c : Option Told) (seen text : List ℕ) → Kept start a b seen text → Same b c → Kept start a c seen text
+kept_same start a b c seen text k same = Both-then a b c _ _ _ (λ x y z p q. subst (λ m. Keeps start x m seen text) (sym q) p) k same
+
+pub kept_nothing : (start : Standing) (a : Option Told) → Kept start a a [] (talk_to start []).text
+kept_nothing start a = Both-refl a (λ o n. Keeps start o n [] (talk_to start []).text) (λ o. rw talk_to-nil (keeps_nothing start o))
+
+-- the conversation goes on
+pub feed_on : (start : Standing) (a b c : Option Told) (seen piece : List ℕ) → Kept start a b (seen ++ piece) (talk_to start seen).text → AnswersAll b c start seen piece → Kept start a c (seen ++ piece) (talk_to start (seen ++ piece)).text
+feed_on start a b c seen piece k r = rw r.gave.2 (kept_giving start a b c (seen ++ piece) (talk_to start seen).text r.gave.0 k r.gave.1)
+
+pub feed_quit : (start : Standing) (limit : ℕ) (a b c : Option Told) (seen piece : List ℕ) → length (seen ++ piece) ≤ limit → Kept start a b (seen ++ piece) (talk_to start seen).text → AnswersAll b c start seen piece
+    → (talk_to start (seen ++ piece)).ending ≡ AfterQuit → EndsBy ending.Done start limit a c
+feed_quit start limit a b c seen piece few k r quit =
+    Both-weaker a c _ _ (λ x y p. end_quit start limit x y (seen ++ piece) _ few p refl quit) (feed_on start a b c seen piece k r)
+
+pub feed_unwritten : (start : Standing) (limit : ℕ) (a b c : Option Told) (seen piece : List ℕ) → length (seen ++ piece) ≤ limit → Kept start a b (seen ++ piece) (talk_to start seen).text → BrokeOff b c start seen piece
+    → EndsBy ending.WriteFault start limit a c
+feed_unwritten start limit a b c seen piece few k r =
+    let front = r.gave.0 in let others = r.gave.1 in let part = r.gave.4 in
+    let split : seen ++ piece ≡ (seen ++ front) ++ others = ap (λ l. seen ++ l) r.gave.3 ∙ sym (append_assoc seen front others) in
+    let all : Kept start a c ((seen ++ front) ++ others) ((talk_to start seen).text ++ part.0) = rw (← split) (kept_giving start a b c (seen ++ piece) (talk_to start seen).text part.0 k part.3) in
+    let said : (talk_to start (seen ++ front)).text ≡ ((talk_to start seen).text ++ part.0) ++ part.1 = r.gave.5 ∙ ap (λ l. (talk_to start seen).text ++ l) part.2 ∙ sym (append_assoc (talk_to start seen).text part.0 part.1) in
+    Both-weaker a c _ _ (λ x y p. end_unwritten start limit x y (seen ++ front) others _ part.1 (rw (← split) few) p said) all
+
+pub feed_unfinished : (start : Standing) (limit : ℕ) (a b c : Option Told) (seen piece : List ℕ) → length (seen ++ piece) ≤ limit → Kept start a b (seen ++ piece) (talk_to start seen).text → GaveUp b c start seen piece
+    → EndsBy ending.Memory start limit a c
+feed_unfinished start limit a b c seen piece few k r =
+    let front = r.gave.0 in let others = r.gave.1 in let bytes = r.gave.2 in
+    let split : seen ++ piece ≡ (seen ++ front) ++ others = ap (λ l. seen ++ l) r.gave.3 ∙ sym (append_assoc seen front others) in
+    let all : Kept start a c ((seen ++ front) ++ others) ((talk_to start seen).text ++ bytes) = rw (← split) (kept_giving start a b c (seen ++ piece) (talk_to start seen).text bytes k r.gave.4) in
+    Both-weaker a c _ _ (λ x y p. end_unfinished start limit x y (seen ++ front) others _ (rw (← split) few) p r.gave.5 r.gave.6 r.gave.7) all
+
+pub read_overlong : (start : Standing) (limit : ℕ) (a b : Option Told) (seen piece : List ℕ) → length seen ≡ limit → length piece ≡ 1 → Kept start a b (seen ++ piece) (talk_to start seen).text → (talk_to start seen).ending ≡ Going
+    → EndsBy ending.TooLong start limit a b
+read_overlong start limit a b seen piece many one k going = Both-weaker a b _ _ (λ x y p. end_overlong start limit x y seen piece _ many one p refl going) k
+
+pub read_fault : (start : Standing) (limit : ℕ) (a b c : Option Told) (seen : List ℕ) → length seen ≤ limit → Kept start a b seen (talk_to start seen).text → (talk_to start seen).ending ≡ Going → Same b c
+    → EndsBy ending.ReadFault start limit a c
+read_fault start limit a b c seen few k going same = Both-weaker a c _ _ (λ x y p. end_unread start limit x y seen _ few p refl going) (kept_same start a b c seen _ k same)
+
+-- the read that found the end of the input
+at_end : (start : Standing) (a b c : Option Told) (seen buf : List ℕ) → Kept start a b seen (talk_to start seen).text → (talk_to start seen).ending ≡ Going → Both b c (λ o t. Takes o t 0 buf) → Kept start a c seen (talk_to start seen).text
+at_end start a b c seen buf k going t = subst (λ l. Kept start a c l (talk_to start seen).text) (append-nil seen) (kept_taking start a b c seen buf 0 k going t)
+
+pub finish_complete : (start : Standing) (limit : ℕ) (a b c d : Option Told) (seen buf : List ℕ) → length seen ≤ limit → Kept start a b seen (talk_to start seen).text → (talk_to start seen).ending ≡ Going → Both b c (λ o t. Takes o t 0 buf)
+    → AnsweredLast c d start seen → EndsBy ending.Done start limit a d
+finish_complete start limit a b c d seen buf few k going t r =
+    let all : Kept start a d seen ((talk_to start seen).text ++ r.gave.0) = kept_giving start a c d seen (talk_to start seen).text r.gave.0 (at_end start a b c seen buf k going t) r.gave.1 in
+    let none : Both b d (λ x y. y.to_come ≡ []) = Both-then b c d _ _ _ (λ x y z p q. ap (λ (s : Told). s.to_come) q ∙ p.at_end refl) t r.gave.1 in
+    Both-last a b d _ _ _ (λ x y z p q. end_complete start limit x z seen _ r.gave.2.ended.0 few p r.gave.2.answers r.gave.2.ended.1 q) all none (Both-weaker a b _ _ (λ x y p. tt) k)
+
+pub finish_unwritten : (start : Standing) (limit : ℕ) (a b c d : Option Told) (seen buf : List ℕ) → length seen ≤ limit → Kept start a b seen (talk_to start seen).text → (talk_to start seen).ending ≡ Going → Both b c (λ o t. Takes o t 0 buf)
+    → BrokeOffLast c d start seen → EndsBy ending.WriteFault start limit a d
+finish_unwritten start limit a b c d seen buf few k going t r =
+    let part = r.gave.1 in
+    let all : Kept start a d seen ((talk_to start seen).text ++ part.0) = kept_giving start a c d seen (talk_to start seen).text part.0 (at_end start a b c seen buf k going t) part.3 in
+    let said : (talk start (lines seen)).text ≡ ((talk_to start seen).text ++ part.0) ++ part.1 = r.gave.2.answers ∙ ap (λ l. (talk_to start seen).text ++ l) part.2 ∙ sym (append_assoc (talk_to start seen).text part.0 part.1) in
+    Both-weaker a d _ _ (λ x y p. end_unwritten_last start limit x y seen _ part.1 few p said) all
+
+pub finish_unfinished : (start : Standing) (limit : ℕ) (a b c d : Option Told) (seen buf : List ℕ) → length seen ≤ limit → Kept start a b seen (talk_to start seen).text → (talk_to start seen).ending ≡ Going → Both b c (λ o t. Takes o t 0 buf)
+    → Same c d → HasLast seen → EndsBy ending.Memory start limit a d
+finish_unfinished start limit a b c d seen buf few k going t same last =
+    Both-weaker a d _ _ (λ x y p. end_unfinished_last start limit x y seen _ few p refl going last) (kept_same start a c d seen _ (at_end start a b c seen buf k going t) same)
+
+-- memory ran out before the first read
+pub unbegun : (start : Standing) (limit : ℕ) (a : Option Told) → EndsBy ending.Memory start limit a a
+unbegun start limit a = Both-refl a (Outcome ending.Memory start limit) (end_unbegun start limit)

@@ -1,0 +1,15 @@
+use Rattle.std.proofs.Common.{◌≤◌, arith, rules, take, drop}
+use Rattle.std.proofs.lemmas.Grind.{common_steps}
+use Rattle.hex_io.proofs.GaveLaws.{Gave-take, Gave-front}
+use Rattle.hex_cli.proofs.giving.give.Goals as goal
+
+pub loop-at-preserved : goal.loop-at-preserved
+loop-at-preserved g c = record {
+  in_bytes = omega (arith, c.in-Ok.ensures.bound);
+  gave = Gave-take _ _ _ c.args.bytes.now c.loop-at.at c.in-Ok.count c.loop-at.invariant.gave c.in-Ok.ensures.told;
+  later = omega (arith, c.write.ensures.cause.later);
+  reads = grind arith;
+}
+
+pub returns-in-Err-clause-part : goal.returns-in-Err-clause-part
+returns-in-Err-clause-part g c = Gave-front _ _ _ c.args.bytes.now c.loop-at.at c.loop-at.invariant.gave c.in-Err.ensures.told

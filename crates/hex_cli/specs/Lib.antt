@@ -1,0 +1,6 @@
+pub mod Talk
+pub mod Left
+pub mod Sessions
+pub mod Outcome
+pub mod Errors
+pub mod Runs

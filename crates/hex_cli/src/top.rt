@@ -1,0 +1,107 @@
+//! The top call: from the words of the command line to a status.
+
+ghost use Rattle.std.specs.Prelude.{◌≡◌, ◌+◌, ◌≤◌, ◌⊎◌, ◌↔◌, length};
+ghost use Rattle.hex_io.specs.Told.{Both};
+ghost use Rattle.hex_io.specs.Causes.{Rose};
+ghost use Rattle.hex_engine.specs.Standing.{opening};
+ghost use Rattle.hexd_words.specs.Reading.{WellFormed};
+ghost use Rattle.hexd_words.specs.declared.settings.Options.{Options};
+ghost use Rattle.hex_cli.specs.Errors.{Reported};
+ghost use Rattle.hex_cli.specs.Outcome.{Outcome, since, status_of, error_line};
+ghost use Rattle.hex_cli.specs.Runs.{AreRefused, Untouched};
+ghost use Rattle.hex_cli.specs.declared.ends.End.{End};
+
+use crate::conversation::converse;
+use crate::ends::End;
+use crate::giving::give;
+use hex_cells::Size;
+use hex_io::{Link, Word};
+use hexd_words::read_words;
+use std::alloc::Global;
+
+/// The most bytes of input that a run answers: 64 MiB, so that a stream without end is not read for
+/// good. One byte more ends the run.
+pub const INPUT_LIMIT: usize = 67_108_864;
+
+/// Runs the program that the words ask for over a link, and answers its status.
+///
+/// The words are those of the command line after the program's name. In mode `htp` each raw line of
+/// the input is answered, by GTP version 2, from an empty board of the size that the words say.
+///
+/// | status | comes | line for the errors |
+/// |---|---|---|
+/// | 0 | the input was answered to its end, or to an answered `quit` | |
+/// | 2 | exactly where the words are not well formed | `hexd: usage` |
+/// | 3 | only where a read failed; all whole lines taken were answered | `hexd: read fault` |
+/// | 4 | only where a write failed; a front of the answers was given | |
+/// | 5 | memory ran out; all lines before the one that met it were answered | `hexd: out of memory` |
+/// | 6 | exactly where one byte more than [`INPUT_LIMIT`] was taken; the whole lines before it were answered | `hexd: input too long` |
+///
+/// A fault of the errors changes nothing of the status. Status 5 may come in place of any other.
+pub fn run<L: Link, E: Link>(alloc: Global, words: &[Word], link: &mut L, errors: &mut E) -> u8
+    ensures status { (end : End) × (result ≡ status_of end) }
+
+    // The words. Want of memory may come in place of a refusal.
+    ensures usage { result ≡ status_of End.Usage → AreRefused words.now }
+    ensures refused { AreRefused words.now → (result ≡ status_of End.Usage) ⊎ (result ≡ status_of End.Memory) }
+    ensures untouched { AreRefused words.now →
+        Untouched (L.told link.old) (L.told link.new) (L.read_faults link.old) (L.read_faults link.new) (L.write_faults link.old) (L.write_faults link.new) }
+
+    // What was taken and given, and when, where the link tells it.
+    ensures outcome { (options : Options) → WellFormed words.now options → (end : End) → result ≡ status_of end →
+        Both (L.told link.old) (L.told link.new) (Outcome end (opening options.size) INPUT_LIMIT) }
+
+    // The causes.
+    ensures read_fault { result ≡ status_of End.ReadFault → Rose (L.read_faults link.old) (L.read_faults link.new) }
+    ensures write_fault { result ≡ status_of End.WriteFault → Rose (L.write_faults link.old) (L.write_faults link.new) }
+    ensures too_long { (options : Options) → WellFormed words.now options →
+        Both (L.told link.old) (L.told link.new) (λ old new.
+        (result ≡ status_of End.TooLong) ↔ (length (since old new) ≡ INPUT_LIMIT + 1)) }
+    ensures complete { (options : Options) → WellFormed words.now options →
+        ¬ Rose (L.read_faults link.old) (L.read_faults link.new) → ¬ Rose (L.write_faults link.old) (L.write_faults link.new) →
+        Both (L.told link.old) (L.told link.new) (λ old new. length (since old new) ≤ INPUT_LIMIT →
+        (result ≡ status_of End.Done) ⊎ (result ≡ status_of End.Memory)) }
+
+    // The line for the errors.
+    ensures errors { (end : End) → result ≡ status_of end →
+        Reported (E.told errors.old) (E.told errors.new) (E.write_faults errors.old) (E.write_faults errors.new) (error_line end) }
+{
+    let end = serve(alloc, words, link);
+    report(errors, end)
+}
+
+/// Gives the line of an end to the errors, and answers its status, whatever comes of the line.
+pub fn report<E: Link>(errors: &mut E, end: End) -> u8
+    ensures status { result ≡ status_of end }
+    ensures errors { Reported (E.told errors.old) (E.told errors.new) (E.write_faults errors.old) (E.write_faults errors.new) (error_line end) }
+{
+    let _ = give(errors, end.line());
+    end.status()
+}
+
+/// Reads the words, and does over the link what they ask for.
+fn serve<L: Link>(alloc: Global, words: &[Word], link: &mut L) -> End
+    ensures usage { result ≡ End.Usage → AreRefused words.now }
+    ensures refused { AreRefused words.now → (result ≡ End.Usage) ⊎ (result ≡ End.Memory) }
+    ensures untouched { AreRefused words.now →
+        Untouched (L.told link.old) (L.told link.new) (L.read_faults link.old) (L.read_faults link.new) (L.write_faults link.old) (L.write_faults link.new) }
+    ensures outcome { (options : Options) → WellFormed words.now options →
+        Both (L.told link.old) (L.told link.new) (Outcome result (opening options.size) INPUT_LIMIT) }
+    ensures read_fault { result ≡ End.ReadFault → Rose (L.read_faults link.old) (L.read_faults link.new) }
+    ensures write_fault { result ≡ End.WriteFault → Rose (L.write_faults link.old) (L.write_faults link.new) }
+{
+    let options = match read_words(alloc, words) {
+        Err(_) => return End::Memory,
+        Ok(None) => return End::Usage,
+        Ok(Some(options)) => options,
+    };
+    converse(alloc, link, board_size(options.size), INPUT_LIMIT)
+}
+
+/// The board size of this side.
+fn board_size(side: u32) -> Size
+    requires { (1 ≤ side) × (side ≤ 11) }
+    ensures { result ≡ side }
+{
+    Size::of(side).unwrap()
+}

@@ -1,0 +1,41 @@
+-- Digits and numbers.
+use Rattle.std.proofs.Common.{◌≡◌, ◌≤◌, ◌&&◌, ℕ, true, false, List, [], ◌∷◌, Option, Some, None, arith, refl, ◌↔◌, IfSome, codes}
+use Rattle.std.specs.List.{list_all}
+use Rattle.std.specs.Char.{is_ascii_digit}
+use Rattle.std.specs.Str.Parse.{AllDigits}
+use Rattle.std.proofs.lemmas.Bool.Decides.{nat_tests}
+use Rattle.std.proofs.lemmas.Str.Parse.{digit_from_value}
+use Rattle.hexd_words.specs.Values.{AreInRange, AreOptions, IsNumberFrom, Text}
+use Rattle.hexd_words.specs.declared.settings.Options.{Options}
+
+is_digit : (c : ℕ) → 48 ≤ c → c ≤ 57 → is_ascii_digit c ≡ true
+is_digit c low high = grind (arith, nat_tests)
+
+pub digits_pass : (ds : List ℕ) → AllDigits 10 ds → list_all is_ascii_digit ds ≡ true
+digits_pass [] h = refl
+digits_pass (c ∷ cs) h =
+    let range = digit_from_value c h.0 in rw (is_digit c range.0 range.1) (digits_pass cs h.1)
+
+pub number_at_most : (least most n : ℕ) (text : Option Text) → IsNumberFrom least most text n → n ≤ most
+number_at_most least most n None h = absurd h
+number_at_most least most n (Some text) h = h.4
+
+pub number_in_range : (least most n : ℕ) (text : Option Text) → IsNumberFrom least most text n → (least ≤ n) × (n ≤ most)
+number_in_range least most n None h = absurd h
+number_in_range least most n (Some text) h = (h.3, h.4)
+
+pub in_range : (value : Text → Option Text) (o : Options) → AreOptions value o → AreInRange o
+in_range value o h = record {
+  size = number_in_range _ _ _ (value (codes "size")) h.size;
+  workers = number_in_range _ _ _ (value (codes "workers")) h.workers;
+  playouts = number_in_range _ _ _ (value (codes "playouts")) h.playouts;
+  words = number_in_range _ _ _ (value (codes "words")) h.words;
+  expand = number_in_range _ _ _ (value (codes "expand")) h.expand;
+  weight = (number_in_range _ _ _ (value (codes "weight")) h.weight).1;
+  steps = (number_in_range _ _ _ (value (codes "steps")) h.steps).1;
+  budget = (number_in_range _ _ _ (value (codes "budget")) h.budget).0;
+}
+
+pub ranges_from : (value : Text → Option Text) (r : Option Options) → ((o : Options) → (r ≡ Some o) ↔ AreOptions value o) → IfSome r AreInRange
+ranges_from value None h = tt
+ranges_from value (Some o) h = in_range value o ((h o).0 refl)

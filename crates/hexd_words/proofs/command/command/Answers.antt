@@ -1,0 +1,12 @@
+use Rattle.std.proofs.Common.{◌≡◌, ◌∙◌, ap}
+use Rattle.std.proofs.lemmas.Result.{IfOk-weaker}
+use Rattle.clap.specs.Words.{App}
+use Rattle.hexd_words.specs.Command.{hexd_app, knob_table, other_table, with_options}
+use Rattle.hexd_words.proofs.command.command.Goals as goal
+
+pub returns : goal.returns
+unfolding hexd_app
+returns c =
+    IfOk-weaker c.with_others.result _ _ (λ m h. h
+    ∙ ap (λ (a : App). with_options a other_table) (c.in_ok-knobs.ensures
+    ∙ ap (λ (a : App). with_options a knob_table) c.in_ok-bare.ensures)) c.with_others.ensures

@@ -1,0 +1,40 @@
+//! What the words of hexd's command line ask for.
+//!
+//! **What it is.** The *words* are those after the program's name. One of them is positional and
+//! names the *mode*; each *option* stands at most once, before or after it, as `--name value` or
+//! `--name=value`. A word `--` ends the options, and every word after it is positional. [`Options`]
+//! has the mode and the value of each option, given or default. The ranges and defaults are beside
+//! its fields.
+//!
+//! **A caller** hands in the words and gets the options, or none where the words are wrong:
+//!
+//! ```text
+//! let Some(options) = read_words(alloc, &words)? else {
+//!     return usage();
+//! };
+//! ```
+//!
+//! **What is proved.** [`read_words`] answers options exactly where the words are well formed with
+//! these values, `WellFormed` of `specs/Reading.antt`, and none exactly where no options make them
+//! so. That definition and the grammar that it stands on, `specs/Grammar.antt`, do not speak of
+//! `clap`, which reads the words here; [`clap_reads_lines`] is the law that both say the same.
+//! Numbers are read by this crate: `clap` takes a plus sign and more than twenty digits.
+//!
+//! **Only tested, or not said.** That memory suffices: a call may always answer [`Memory`]. The
+//! tests have a table of lines, each with its answer by the rules above.
+//!
+//! **Limits.** Of the modes only `htp` is known yet; each other name is refused. There are no short
+//! options, no shortened names, no `--help` and no `--version`. Every word has to be text.
+#![tactic(auto)]
+
+mod command;
+mod numbers;
+mod reading;
+mod refusals;
+mod settings;
+#[cfg(test)]
+mod tests;
+
+pub use reading::{clap_reads_lines, read_words};
+pub use refusals::Memory;
+pub use settings::{Mode, Options};

@@ -1,0 +1,130 @@
+//! From the words of a command line to its options.
+
+ghost use Rattle.std.specs.Prelude.{
+  ◌≡◌,
+  ◌≢◌,
+  ◌↔◌,
+  ◌++◌,
+  ℕ,
+  All,
+  Contains,
+  IfOk,
+  IfSome,
+  IsTrue,
+  List,
+  Some,
+  [],
+  codes,
+  option_map,
+};
+ghost use Rattle.std.specs.Bool.{OnFalse};
+ghost use Rattle.std.specs.Str.{IsUtf8};
+ghost use Rattle.clap.specs.Words.{fault_of, first_of, first_value, found_of, matches_of};
+ghost use Rattle.hexd_words.specs.Command.{hexd_app};
+ghost use Rattle.hexd_words.specs.Grammar.{Saying, defaults, value_of};
+ghost use Rattle.hexd_words.specs.Reading.{IsLine, WellFormed};
+ghost use Rattle.hexd_words.specs.Values.{AreInRange, AreOptions, Text, lone_hyphen};
+ghost use Rattle.hexd_words.specs.declared.settings.Options.{Options};
+
+use crate::command::matched;
+use crate::numbers::{mode, number, small_number, switch};
+use crate::{Memory, Options};
+use clap::ArgMatches;
+use hex_io::Word;
+use std::alloc::Global;
+
+/// The options that the words ask for; none exactly where the words are not well formed.
+pub fn read_words(alloc: Global, words: &[Word]) -> Result<Option<Options>, Memory>
+    ensures exact { IfOk result (λ r. (o : Options) → (r ≡ Some o) ↔ WellFormed words.now o) }
+    ensures ranges { IfOk result (λ r. IfSome r AreInRange) }
+{
+    if has_lone_hyphen(words) {
+        return Ok(None);
+    }
+    match matched(alloc, words)? {
+        Some(matches) => options_of(alloc, &matches),
+        None => Ok(None),
+    }
+}
+
+/// The law that `clap` reads the grammar; it does nothing when it runs.
+///
+/// Of words that are text, none of them a hyphen alone, `clap` finds no fault exactly in those that
+/// are a line, and the value that it then finds of a name is what the line says, or the default.
+pub fn clap_reads_lines(words: &[Word])
+    ensures line { All IsUtf8 words.now → ¬ Contains words.now lone_hyphen
+        → fault_of hexd_app words.now ≡ [] → (said : List Saying) × IsLine words.now said }
+    ensures clear { (said : List Saying) → IsLine words.now said → fault_of hexd_app words.now ≡ [] }
+    ensures values { (said : List Saying) → IsLine words.now said → (name : Text)
+        → first_of name (matches_of hexd_app words.now) ≡ value_of (said ++ defaults) name }
+{
+    let _words = words;
+}
+
+// Whether one of the words is a hyphen alone. No line has one, but `clap` takes it for a value. Each
+// word that was looked at is text.
+fn has_lone_hyphen(words: &[Word]) -> bool
+    ensures found { IsTrue result ↔ Contains words.now lone_hyphen }
+    ensures text { OnFalse result (All IsUtf8 words.now) }
+{
+    for word in words {
+        if word.as_str() == "-" {
+            return true;
+        }
+    }
+    false
+}
+
+// The options that the matches say; none where a value is not as its option wants it.
+fn options_of(alloc: Global, matches: &ArgMatches<'_>) -> Result<Option<Options>, Memory>
+    ensures { IfOk result (λ r. (o : Options)
+        → (r ≡ Some o) ↔ AreOptions (first_value (found_of matches.now)) o) }
+{
+    let name = matches.get_str("trace");
+    if is_empty(name) {
+        return Ok(None);
+    }
+    let trace = copied(alloc, name)?;
+    Ok(with_trace(matches, trace))
+}
+
+fn is_empty(text: Option<&str>) -> bool
+    ensures { IsTrue result ↔ (option_map (λ t. t.now) text.entry ≡ Some []) }
+{
+    match text {
+        Some(text) => text.is_empty(),
+        None => false,
+    }
+}
+
+fn copied(alloc: Global, text: Option<&str>) -> Result<Option<Word>, Memory>
+    ensures { IfOk result (λ w. w ≡ option_map (λ t. t.now) text.entry) }
+{
+    match text {
+        Some(text) => Ok(Some(Word::of(String::from_str(alloc, text)?))),
+        None => Ok(None),
+    }
+}
+
+// The options, where the name of the trace is at hand. The ranges are those of the table in `Options`.
+fn with_trace(matches: &ArgMatches<'_>, trace: Option<Word>) -> Option<Options>
+    requires as_given { first_value (found_of matches.now) (codes "trace") ≡ trace }
+    requires named { trace ≢ Some [] }
+    ensures { (o : Options)
+        → (result ≡ Some o) ↔ AreOptions (first_value (found_of matches.now)) o }
+{
+    Some(Options {
+        mode: mode(matches.get_str("mode"))?,
+        size: small_number(matches.get_str("size"), 1, 11)?,
+        workers: small_number(matches.get_str("workers"), 1, 64)?,
+        playouts: small_number(matches.get_str("playouts"), 1, 1_000_000)?,
+        seed: number(matches.get_str("seed"), 0, u64::MAX)?,
+        words: small_number(matches.get_str("words"), 1_024, 16_777_216)?,
+        expand: small_number(matches.get_str("expand"), 1, 1_000)?,
+        weight: small_number(matches.get_str("weight"), 0, 1_024)?,
+        hsearch: switch(matches.get_str("hsearch"))?,
+        steps: small_number(matches.get_str("steps"), 0, 1_000_000)?,
+        budget: number(matches.get_str("budget"), 1, u64::MAX)?,
+        trace,
+    })
+}
