@@ -1,0 +1,94 @@
+-- The cells of a set, listed row by row.
+use Rattle.std.proofs.Common.{◌≡◌, ℕ, ◌+◌, ◌*◌, ◌<◌, ◌≤◌, true, false, Bool, cond, List, [], ◌∷◌, ◌++◌, length, take, refl, sym, ◌∙◌, ap, arith, zero, suc, add-one, add-zero, append-nil, length-append}
+use Rattle.std.proofs.Math.ListN.{set, length-set}
+use Rattle.std.proofs.Math.Nat.{mul-le-mul, suc-mul}
+use Rattle.std.specs.List.{filter, range_with_len}
+use Rattle.std.proofs.lemmas.List.{take_more_set, take-set}
+use Rattle.std.proofs.lemmas.List.Elements.{filter_agree}
+use Rattle.std.proofs.lemmas.List.Sums.{length-filter, count_by-le-length}
+use Rattle.std.proofs.lemmas.List.FromFn.{length-range_with_len}
+use Rattle.hex_cells.specs.Sets.{has}
+use Rattle.hex_board.specs.Joined.{cells_of}
+use Rattle.hex_board.specs.Positions.{Position, is_empty_at}
+use Rattle.play_out.specs.Fills.{empties_of}
+
+front : (b : Bool) (x : ℕ) (xs ys : List ℕ) → cond b (x ∷ (xs ++ ys)) (xs ++ ys) ≡ cond b (x ∷ xs) xs ++ ys
+front true x xs ys = refl
+front false x xs ys = refl
+
+-- a filter of one number more
+filter_more : (p : ℕ → Bool) (a n m : ℕ) → a + n ≡ m → filter p (range_with_len a (suc n)) ≡ filter p (range_with_len a n) ++ cond (p m) (m ∷ []) []
+filter_more p a zero m e = ap (λ v. cond (p v) (v ∷ []) []) (sym (add-zero a) ∙ e)
+filter_more p a (suc n) m e =
+    ap (λ xs. cond (p a) (a ∷ xs) xs) (filter_more p (a + 1) n m (omega arith))
+    ∙ front (p a) a (filter p (range_with_len (a + 1) n)) (cond (p m) (m ∷ []) [])
+
+-- the cells of the set s below end
+below : ℕ → ℕ → List ℕ
+below s end = filter (has s) (range_with_len 0 end)
+
+below_more : (s end : ℕ) → below s (end + 1) ≡ below s end ++ cond (has s end) (end ∷ []) []
+unfolding below
+below_more s end = ap (λ v. filter (has s) (range_with_len 0 v)) (add-one end) ∙ filter_more (has s) 0 end end (omega arith)
+
+few_below : (s end : ℕ) → length (below s end) ≤ end
+unfolding below
+few_below s end = omega (arith, length-filter (has s) (range_with_len 0 end), count_by-le-length (has s) (range_with_len 0 end), length-range_with_len 0 end)
+
+-- the first count cells of the list are those of the set s below end
+pub record Listed (s : ℕ) (cells : List ℕ) (count end : ℕ) : Type 0 where
+  pub items : take count cells ≡ filter (has s) (range_with_len 0 end)
+  pub many : count ≡ length (filter (has s) (range_with_len 0 end))
+  pub size : length cells ≡ 121
+
+pub listed_few : (s : ℕ) (cells : List ℕ) (count end : ℕ) → Listed s cells count end → count ≤ end
+unfolding below
+listed_few s cells count end l = omega (arith, l.many, few_below s end)
+
+pub cell_kept : (s : ℕ) (cells : List ℕ) (count end c : ℕ) → Listed s cells count end → end < 121 → c ≡ end → has s c ≡ true → Listed s (set cells count c) (count + 1) (end + 1)
+unfolding below
+cell_kept s cells count end c l h e t =
+    let more : below s (end + 1) ≡ below s end ++ end ∷ [] = below_more s end ∙ ap (λ b. below s end ++ cond b (end ∷ []) []) (ap (λ v. has s v) (sym e) ∙ t) in
+    record {
+      items = take_more_set cells count c (omega (arith, listed_few s cells count end l, l.size))
+          ∙ (ap (λ xs. xs ++ c ∷ []) l.items ∙ (ap (λ v. below s end ++ v ∷ []) e ∙ sym more));
+      many = ap (λ v. v + 1) l.many ∙ (sym (length-append (below s end) (end ∷ [])) ∙ ap length (sym more));
+      size = length-set cells count c ∙ l.size;
+    }
+
+pub cell_passed : (s : ℕ) (cells : List ℕ) (count end c : ℕ) → Listed s cells count end → c ≡ end → has s c ≡ false → Listed s (set cells count c) count (end + 1)
+unfolding below
+cell_passed s cells count end c l e t =
+    let same : below s (end + 1) ≡ below s end =
+    below_more s end ∙ (ap (λ b. below s end ++ cond b (end ∷ []) []) (ap (λ v. has s v) (sym e) ∙ t) ∙ append-nil (below s end)) in
+    record {
+      items = take-set cells count c ∙ (l.items ∙ sym same);
+      many = l.many ∙ ap length (sym same);
+      size = length-set cells count c ∙ l.size;
+    }
+
+-- the row ends where the next begins
+pub row_end : (row n : ℕ) → row * n + n ≡ (row + 1) * n
+row_end row n = sym (ap (λ v. v * n) (add-one row) ∙ suc-mul row n)
+
+pub row_within : (row n : ℕ) → row < n → n ≤ 11 → row * n + n ≤ 121
+row_within row n h small =
+    let most : (row + 1) * n ≤ 11 * 11 = mul-le-mul {n₂ = 11} (omega arith) small in
+    omega (arith, most, row_end row n)
+
+-- all rows are the whole board
+pub all_rows : (p : Position) (s : ℕ) (cells : List ℕ) (count : ℕ) → ((k : ℕ) → has s k ≡ is_empty_at p k)
+    → take count cells ≡ filter (has s) (range_with_len 0 (p.size * p.size)) → take count cells ≡ empties_of p
+unfolding empties_of
+all_rows p s cells count f e = e ∙ filter_agree (has s) (is_empty_at p) f (cells_of p.size)
+
+pub all_counted : (p : Position) (s count : ℕ) → ((k : ℕ) → has s k ≡ is_empty_at p k)
+    → count ≡ length (filter (has s) (range_with_len 0 (p.size * p.size))) → count ≡ length (empties_of p)
+unfolding empties_of
+all_counted p s count f e = e ∙ ap length (filter_agree (has s) (is_empty_at p) f (cells_of p.size))
+
+pub few_empties : (p : Position) (s : ℕ) → p.size ≤ 11 → length (filter (has s) (range_with_len 0 (p.size * p.size))) ≤ 121
+unfolding below
+few_empties p s small =
+    let most : p.size * p.size ≤ 11 * 11 = mul-le-mul small small in
+    omega (arith, most, few_below s (p.size * p.size))

@@ -1,0 +1,66 @@
+-- The shuffle, from the last place down.
+use Rattle.std.proofs.Common.{◌≡◌, ℕ, ◌-◌, ◌<◌, ◌≤◌, List, ◌++◌, length, take, refl, sym, ◌∙◌, ap, subst, arith, suc}
+use Rattle.std.specs.List.{swap}
+use Rattle.std.specs.List.Sorted.{IsPermutation}
+use Rattle.std.proofs.lemmas.List.Sorted.{IsPermutation-refl, IsPermutation-trans}
+use Rattle.rand_core.specs.Stream.{Stream, next_u64}
+use Rattle.hex_board.specs.Positions.{Position}
+use Rattle.std.proofs.Math.Seq.{take-append_seam}
+use Rattle.play_out.specs.Fills.{empties_of, order_of}
+use Rattle.play_out.specs.Streams.{stream_at, state_for, words_of, place_of, shuffled}
+
+-- the cells, and the state of the generator, where the places below i are still to be shuffled, and what began as start
+pub record Shuffling (start : List ℕ) (first : List ℕ) (cells : List ℕ) (state : List ℕ) (i : ℕ) : Type 0 where
+  pub order : shuffled (i - 1) (words_of (i - 1) (stream_at state)) cells ≡ shuffled (length start - 1) (words_of (length start - 1) (stream_at first)) start
+  pub same : IsPermutation start cells
+  pub within : i ≤ length cells
+
+pub first_shuffling : (start first : List ℕ) → Shuffling start first start first (length start)
+first_shuffling start first = record { order = refl; same = IsPermutation-refl start; within = omega arith }
+
+step : (n : ℕ) (stream : Stream) (cells : List ℕ) → shuffled (suc n) (words_of (suc n) stream) cells
+    ≡ shuffled n (words_of n (next_u64 stream).1) (swap cells (suc n) (place_of (next_u64 stream).0 (suc n)))
+unfolding shuffled words_of
+step n stream cells = refl
+
+-- the same with the place as m, and with what the word gave as data
+step_at : (m n : ℕ) (stream rest : Stream) (cells next : List ℕ) (word j : ℕ) → m ≡ suc n → (word, rest) ≡ next_u64 stream
+    → j ≡ place_of word m → next ≡ swap cells m j → shuffled n (words_of n rest) next ≡ shuffled m (words_of m stream) cells
+step_at m n stream rest cells next word j q e f g =
+    let w : word ≡ (next_u64 stream).0 = ap (λ (p : ℕ × Stream). p.0) e in
+    let r : rest ≡ (next_u64 stream).1 = ap (λ (p : ℕ × Stream). p.1) e in
+    let g' : next ≡ swap cells (suc n) (place_of (next_u64 stream).0 (suc n)) =
+    g ∙ (ap (λ v. swap cells m v) f ∙ (ap (λ v. swap cells m (place_of v m)) w ∙ ap (λ v. swap cells v (place_of (next_u64 stream).0 v)) q)) in
+    subst (λ v. shuffled n (words_of n rest) next ≡ shuffled v (words_of v stream) cells) (sym q)
+    (ap (λ v. shuffled n (words_of n v) next) r ∙ (ap (λ v. shuffled n (words_of n (next_u64 stream).1) v) g' ∙ sym (step n stream cells)))
+
+-- one word more: places i and j change, where the word gives j
+pub next_shuffling : (start first cells state after next : List ℕ) (i word j : ℕ) → Shuffling start first cells state i → 1 < i
+    → (word, stream_at after) ≡ next_u64 (stream_at state) → j ≡ place_of word (i - 1) → next ≡ swap cells (i - 1) j → IsPermutation cells next
+    → length next ≡ length cells
+    → Shuffling start first next after (i - 1)
+next_shuffling start first cells state after next i word j s l e f g p len = record {
+  order = step_at (i - 1) (i - 1 - 1) (stream_at state) (stream_at after) cells next word j (omega arith) e f g ∙ s.order;
+  same = IsPermutation-trans start cells next s.same p;
+  within = omega (arith, s.within);
+}
+
+-- no place is left
+pub all_shuffled : (start first cells state : List ℕ) (i : ℕ) → Shuffling start first cells state i → (1 < i → ⊥)
+    → cells ≡ shuffled (length start - 1) (words_of (length start - 1) (stream_at first)) start
+unfolding shuffled
+all_shuffled start first cells state i s n =
+    let z : i - 1 ≡ 0 = omega arith in
+    subst (λ v. shuffled v (words_of v (stream_at state)) cells ≡ shuffled (length start - 1) (words_of (length start - 1) (stream_at first)) start) z s.order
+
+-- ---- a shuffle of the front of a list
+
+pub front_is : (n : ℕ) (xs ys : List ℕ) → length xs ≡ n → take n (xs ++ ys) ≡ xs
+front_is n xs ys e = subst (λ v. take v (xs ++ ys) ≡ xs) e (take-append_seam xs ys)
+
+pub dealt : (p : Position) (seed k : ℕ) (listed state ys : List ℕ) → listed ≡ empties_of p → state ≡ state_for seed k
+    → ys ≡ shuffled (length listed - 1) (words_of (length listed - 1) (stream_at state)) listed → ys ≡ order_of p seed k
+unfolding order_of
+dealt p seed k listed state ys e f g =
+    g ∙ (ap (λ v. shuffled (length listed - 1) (words_of (length listed - 1) (stream_at v)) listed) f
+    ∙ ap (λ v. shuffled (length v - 1) (words_of (length v - 1) (stream_at (state_for seed k))) v) e)

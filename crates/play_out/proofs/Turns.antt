@@ -1,0 +1,175 @@
+-- Stones on cells in turn: what stays empty, what stays, and the stones of one player.
+use Rattle.std.proofs.Common.{◌≡◌, ℕ, ◌+◌, ◌-◌, ◌*◌, ◌^◌, ◌<◌, ◌≤◌, ◌==◌, ◌&&◌, ◌||◌, not, nat_lt, true, false, Bool, cond, List, [], ◌∷◌, length, drop, get_or, refl, sym, ◌∙◌, ap, arith, inl, inr, suc, add-one, lit<}
+use Rattle.std.proofs.Math.Nat.{one-mul}
+use Rattle.std.proofs.Math.Seq.{drop-cons}
+use Rattle.std.proofs.lemmas.List.{drop_all, drop-drop}
+use Rattle.std.specs.List.{count_by}
+use Rattle.std.proofs.lemmas.Bool.{cases_eq, or_left}
+use Rattle.std.proofs.lemmas.Bool.Decides.{nat_tests}
+use Rattle.hex_cells.specs.Sets.{has, with_cell}
+use Rattle.hex_cells.specs.Colours.{other_of}
+use Rattle.hex_cells.specs.declared.colours.Colour.{Colour}
+use Rattle.hex_cells.specs.declared.colours.Colour.TheVariants.{Black, White}
+use Rattle.hex_cells.specs.contracts.colours.Colour.{the_type}
+use denote.Enum.Bare.{sameb}
+use Rattle.hex_cells.proofs.Bits.{has_or, has_shl, has_above}
+use Rattle.hex_board.specs.Positions.{Position, is_empty_at, placed, stones_of}
+use Rattle.hex_board.specs.Wins.{is_same}
+use Rattle.play_out.specs.Fills.{ListsEmpties, filled_by}
+use Rattle.play_out.proofs.Counting.{is_cell, no_cell, counted_here, counted_later}
+
+zeroth : has 1 0 ≡ true
+unfolding has
+zeroth = refl
+
+has_one : (k : ℕ) → has 1 k ≡ (k == 0)
+has_one k = elim (cases_eq k 0) [
+  | inl e ↦ ap (λ v. has 1 v) e ∙ (zeroth ∙ sym (is_cell k 0 e))
+  | inr n ↦ has_above 1 1 k (lit< tt) (omega arith) ∙ sym (no_cell k 0 n)
+]
+
+pub has_with_cell : (s c k : ℕ) → has (with_cell s c) k ≡ (has s k || k == c)
+has_with_cell s c k =
+    let e : has (2 ^ c) k ≡ (not (nat_lt k c) && has 1 (k - c)) = ap (λ v. has v k) (sym (one-mul (2 ^ c))) ∙ has_shl 1 c k in
+    has_or s (2 ^ c) k ∙ ap (λ b. has s k || b) (e ∙ (ap (λ b. not (nat_lt k c) && b) (has_one (k - c)) ∙ same k c))
+  where
+    same : (j i : ℕ) → (not (nat_lt j i) && j - i == 0) ≡ (j == i)
+    same j i = grind (arith, nat_tests)
+
+-- a stone more leaves the other cells as they are
+placed_leaves : (p : Position) (player : Colour) (c k : ℕ) → is_empty_at (placed p player c) k ≡ (is_empty_at p k && not (k == c))
+placed_leaves p Black c k = ap (λ b. nat_lt k (p.size * p.size) && not b && not (has p.white k)) (has_with_cell p.black c k) ∙ black (nat_lt k (p.size * p.size)) (has p.black k) (has p.white k) (k == c)
+  where
+    black : (a b w e : Bool) → (a && not (b || e) && not w) ≡ ((a && not b && not w) && not e)
+    black true true w e = refl
+    black true false true true = refl
+    black true false true false = refl
+    black true false false true = refl
+    black true false false false = refl
+    black false b w e = refl
+placed_leaves p White c k = ap (λ b. nat_lt k (p.size * p.size) && not (has p.black k) && not b) (has_with_cell p.white c k) ∙ white (nat_lt k (p.size * p.size)) (has p.black k) (has p.white k) (k == c)
+  where
+    white : (a b w e : Bool) → (a && not b && not (w || e)) ≡ ((a && not b && not w) && not e)
+    white true true w e = refl
+    white true false true e = refl
+    white true false false e = refl
+    white false b w e = refl
+
+one_of : (b : Bool) (n : ℕ) → 1 + n ≡ cond b 1 0 → b ≡ true
+one_of true n e = refl
+one_of false n e = absurd (omega arith)
+
+none_left : (b : Bool) (n : ℕ) → 1 + n ≡ cond b 1 0 → n ≡ 0
+none_left true n e = omega arith
+none_left false n e = absurd (omega arith)
+
+pub first_empty : (p : Position) (c : ℕ) (left : List ℕ) → ListsEmpties p (c ∷ left) → is_empty_at p c ≡ true
+first_empty p c left f = one_of (is_empty_at p c) (count_by (λ x. x == c) left) (sym (counted_here c c left refl) ∙ f c)
+
+pub rest_empty : (p : Position) (player : Colour) (c : ℕ) (left : List ℕ) → ListsEmpties p (c ∷ left) → ListsEmpties (placed p player c) left
+rest_empty p player c left f k = elim (cases_eq c k) [
+  | inl e ↦ none_left (is_empty_at p k) (count_by (λ x. x == k) left) (sym (counted_here k c left e) ∙ f k)
+      ∙ sym (ap (λ b. cond b 1 0) (placed_leaves p player c k ∙ (ap (λ b. is_empty_at p k && not b) (is_cell k c (sym e)) ∙ and_no (is_empty_at p k))))
+  | inr n ↦ sym (counted_later k c left n) ∙ (f k ∙ sym (ap (λ b. cond b 1 0) (placed_leaves p player c k ∙ (ap (λ b. is_empty_at p k && not b) (no_cell k c (λ e. n (sym e))) ∙ and_yes (is_empty_at p k)))))
+]
+  where
+    and_no : (b : Bool) → (b && false) ≡ false
+    and_no true = refl
+    and_no false = refl
+
+    and_yes : (b : Bool) → (b && true) ≡ b
+    and_yes true = refl
+    and_yes false = refl
+
+-- ---- the board after all of them
+
+none_empty : (b : Bool) → 0 ≡ cond {A = ℕ} b 1 0 → b ≡ false
+none_empty true e = absurd (omega arith)
+none_empty false e = refl
+
+-- no cell is empty after stones on all that were
+pub full_after : (p : Position) (player : Colour) (cells : List ℕ) → ListsEmpties p cells → (k : ℕ) → is_empty_at (filled_by p player cells) k ≡ false
+unfolding filled_by
+full_after p player [] f k = none_empty (is_empty_at p k) (f k)
+full_after p player (c ∷ cells) f k = full_after (placed p player c) (other_of player) cells (rest_empty p player c cells f) k
+
+one_kept : (p : Position) (player : Colour) (c : ℕ) (owner : Colour) (k : ℕ) → has (stones_of p owner) k ≡ true → has (stones_of (placed p player c) owner) k ≡ true
+one_kept p Black c Black k h = has_with_cell p.black c k ∙ or_left (has p.black k) (k == c) h
+one_kept p Black c White k h = h
+one_kept p White c Black k h = h
+one_kept p White c White k h = has_with_cell p.white c k ∙ or_left (has p.white k) (k == c) h
+
+-- each stone stays
+pub kept_after : (p : Position) (player : Colour) (cells : List ℕ) (owner : Colour) (k : ℕ) → has (stones_of p owner) k ≡ true
+    → has (stones_of (filled_by p player cells) owner) k ≡ true
+unfolding filled_by
+kept_after p player [] owner k h = h
+kept_after p player (c ∷ cells) owner k h = kept_after (placed p player c) (other_of player) cells owner k (one_kept p player c owner k h)
+
+one_size : (p : Position) (player : Colour) (c : ℕ) → (placed p player c).size ≡ p.size
+one_size p Black c = refl
+one_size p White c = refl
+
+-- the size stays
+pub size_after : (p : Position) (player : Colour) (cells : List ℕ) → (filled_by p player cells).size ≡ p.size
+unfolding filled_by
+size_after p player [] = refl
+size_after p player (c ∷ cells) = size_after (placed p player c) (other_of player) cells ∙ one_size p player c
+
+-- ---- the stones of one player
+
+-- the set s with every second of the cells too: the first, the third and so on where the test passes, else the second,
+-- the fourth and so on
+unfoldable pub with_turns : Bool → ℕ → List ℕ → ℕ
+with_turns begins s [] = s
+with_turns true s (c ∷ cells) = with_turns false (with_cell s c) cells
+with_turns false s (c ∷ cells) = with_turns true s cells
+
+every_second : (s : ℕ) (cells : List ℕ) → with_turns false s cells ≡ with_turns true s (drop 1 cells)
+unfolding with_turns
+every_second s [] = refl
+every_second s (c ∷ cells) = refl
+
+-- a player's stones after stones in turn
+turns : (p : Position) (player owner : Colour) (cells : List ℕ) → with_turns (is_same player owner) (stones_of p owner) cells ≡ stones_of (filled_by p player cells) owner
+unfolding filled_by with_turns
+turns p Black Black [] = refl
+turns p Black White [] = refl
+turns p White Black [] = refl
+turns p White White [] = refl
+turns p Black Black (c ∷ cells) = turns (placed p Black c) White Black cells
+turns p Black White (c ∷ cells) = turns (placed p Black c) White White cells
+turns p White Black (c ∷ cells) = turns (placed p White c) Black Black cells
+turns p White White (c ∷ cells) = turns (placed p White c) Black White cells
+
+-- from the first place on, or from the second
+from_place : (begins : Bool) (s : ℕ) (cells : List ℕ) (i : ℕ) → i ≡ cond begins 0 1 → with_turns true s (drop i cells) ≡ with_turns begins s cells
+from_place true s cells i e = ap (λ v. with_turns true s (drop v cells)) e
+from_place false s cells i e = ap (λ v. with_turns true s (drop v cells)) e ∙ sym (every_second s cells)
+
+pub turns_begin : (p : Position) (player owner : Colour) (cells : List ℕ) (s i : ℕ) → s ≡ stones_of p owner → i ≡ cond (is_same player owner) 0 1
+    → with_turns true s (drop i cells) ≡ stones_of (filled_by p player cells) owner
+turns_begin p player owner cells s i e f =
+    from_place (is_same player owner) s cells i f ∙ (ap (λ v. with_turns (is_same player owner) v cells) e ∙ turns p player owner cells)
+
+pub turns_go_on : (s : ℕ) (cells : List ℕ) (i c next : ℕ) → i < length cells → c ≡ get_or cells i c → next ≡ with_cell s c
+    → with_turns true next (drop (i + 2) cells) ≡ with_turns true s (drop i cells)
+unfolding with_turns
+turns_go_on s cells i c next l q e =
+    let d : drop i cells ≡ c ∷ drop (i + 1) cells =
+    drop-cons cells i c l ∙ (ap (λ v. v ∷ drop (suc i) cells) (sym q) ∙ ap (λ v. c ∷ drop v cells) (sym (add-one i))) in
+    let sum : i + 2 ≡ i + 1 + 1 = omega arith in
+    let two : drop (i + 2) cells ≡ drop 1 (drop (i + 1) cells) = ap (λ v. drop v cells) sum ∙ sym (drop-drop 1 (i + 1) cells) in
+    ap (λ v. with_turns true v (drop (i + 2) cells)) e ∙ (ap (λ v. with_turns true (with_cell s c) v) two
+    ∙ (sym (every_second (with_cell s c) (drop (i + 1) cells)) ∙ sym (ap (λ v. with_turns true s v) d)))
+
+pub turns_end : (s : ℕ) (cells : List ℕ) (i : ℕ) → length cells ≤ i → s ≡ with_turns true s (drop i cells)
+unfolding with_turns
+turns_end s cells i l = sym (ap (λ v. with_turns true s v) (drop_all i cells l))
+
+-- the players that the code compares
+pub same_player : (a b : Colour) → sameb the_type a b ≡ is_same a b
+same_player Black Black = refl
+same_player Black White = refl
+same_player White Black = refl
+same_player White White = refl

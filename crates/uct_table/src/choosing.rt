@@ -1,0 +1,58 @@
+//! Which of two children is preferred.
+
+ghost use Rattle.std.specs.Prelude.{◌≡◌, ◌≤◌, ℕ, List};
+ghost use Rattle.uct_table.specs.Choice.{Child, is_better, kept_of, choice_of};
+
+use super::scoring::{bonus, mean};
+
+/// Whether the second child, with visits v2, wins w2, seen visits a2 and seen wins b2, is strictly
+/// preferred to the first, below p visits and with the weight c.
+///
+/// True exactly where v1 is at least 1 and either v2 is 0 or the second score is the greater. So a
+/// child without visits is kept against every other, and equal scores keep the first. Counts are
+/// from 0 to 1,048,576, v1 and v2 may be 0, and c is from 0 to 1,024.
+#[tactic(auto, using(crate::proofs::Roots::bonus_falls), unfolding(crate::specs::Choice::is_better))]
+pub fn better(
+    p: u32,
+    v1: u32,
+    w1: u32,
+    a1: u32,
+    b1: u32,
+    v2: u32,
+    w2: u32,
+    a2: u32,
+    b2: u32,
+    c: u32,
+) -> bool
+    requires parent { p ≤ 1048576 }
+    requires first { (v1 ≤ 1048576) × (w1 ≤ 1048576) × (a1 ≤ 1048576) × (b1 ≤ 1048576) }
+    requires second { (v2 ≤ 1048576) × (w2 ≤ 1048576) × (a2 ≤ 1048576) × (b2 ≤ 1048576) }
+    requires weight { c ≤ 1024 }
+    ensures { let first : Child = record { visits = v1; wins = w1; seen = a1; seen_wins = b1 } in
+        let second : Child = record { visits = v2; wins = w2; seen = a2; seen_wins = b2 } in
+        result ≡ is_better p c first second }
+{
+    if v1 == 0 {
+        return false;
+    }
+    if v2 == 0 {
+        return true;
+    }
+    let first = mean(v1, w1, a1, b1);
+    let second = mean(v2, w2, a2, b2);
+    // More visits never have the greater bonus, so the means alone often decide.
+    if v1 <= v2 && second <= first {
+        return false;
+    }
+    if v2 <= v1 && first < second {
+        return true;
+    }
+    first + bonus(p, v1, c) < second + bonus(p, v2, c)
+}
+
+/// The law of `better`: going through a list of children from the first on, and keeping the one
+/// that is preferred, gives Choice, the first without visits or else the first of the greatest
+/// score.
+pub fn going_through_gives_choice()
+    ensures { (p c : ℕ) (children : List Child) → kept_of p c children ≡ choice_of p c children }
+{}

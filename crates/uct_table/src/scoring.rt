@@ -1,0 +1,137 @@
+//! The level, the root and the score.
+
+ghost use Rattle.std.specs.Prelude.{◌≡◌, ◌+◌, ◌*◌, ◌/◌, ◌^◌, ◌<◌, ◌≤◌, ◌==◌, if◌then◌else◌};
+ghost use Rattle.uct_table.specs.Scores.{isqrt, level_of, share_of, mean_of, bonus_of, score_of};
+
+use std::num::{nearest_u64_to_f64, saturating_f64_to_u64};
+
+/// Parts of a share, a mean and a score: 65,536 is a mean of 1.
+const SHARE_PARTS: u64 = 65_536;
+
+/// Parts of a level: 256 is a doubling of visits.
+const LEVEL_PARTS: u32 = 256;
+
+/// How many visits the seen counts of a child weigh.
+const SEEN_WEIGHT: u64 = 64;
+
+/// A level is taken in 2^24th parts before its root, so that the root has 2^12th parts.
+const ROOT_SHIFT: u32 = 24;
+
+/// Parts of a weight: 256 is a weight of 1.
+const WEIGHT_PARTS: u64 = 256;
+
+/// A root that is guessed is at most this, so that its square times a count fits.
+const GREATEST_GUESS: u64 = (1 << 20) - 1;
+
+/// The level of p visits, from 0 to 1,048,576: the binary logarithm in 256th parts, straight
+/// between powers of two, and 0 for no visit. For p at least 1 and b the floor of its binary
+/// logarithm it is `256·b + floor(256·(p - 2^b) / 2^b)`.
+#[tactic(auto, using(crate::proofs::Roots::log2_is), unfolding(crate::specs::Scores::level_of))]
+pub fn level(p: u32) -> u32
+    requires { p ≤ 1048576 }
+    ensures { result ≡ level_of p }
+{
+    if p == 0 {
+        return 0;
+    }
+    let power = p.ilog2();
+    LEVEL_PARTS * power + ((LEVEL_PARTS * (p - (1 << power))) >> power)
+}
+
+/// The greatest number whose square is at most x.
+///
+/// The root that the processor gives is taken where its square shows that it is right, as it is
+/// for every x below 2^52.
+#[tactic(auto, using(crate::proofs::Roots::isqrt_is))]
+pub fn root(x: u64) -> u32
+    ensures { result ≡ isqrt x }
+{
+    let guess = saturating_f64_to_u64(nearest_u64_to_f64(x).sqrt()).min(u64::from(u32::MAX));
+    let square = guess * guess;
+    if square <= x && x - square <= 2 * guess {
+        return guess as u32;
+    }
+    x.isqrt() as u32
+}
+
+/// The score of a child with v visits, w wins, a seen visits and b seen wins below p visits, with
+/// the weight c.
+///
+/// With `m = floor(65536·w / v)`, and `mean` the mean of m with weight v and of
+/// `floor(65536·b / a)` with weight 64, or m where a is 0, it is
+/// `mean + floor(c·root(floor(level(p)·2^24 / v)) / 256)`. Counts are from 0 to 1,048,576, v at
+/// least 1, and c is from 0 to 1,024. It is defined for w above v, b above a and p below v too.
+pub fn score(p: u32, v: u32, w: u32, a: u32, b: u32, c: u32) -> u64
+    requires parent { p ≤ 1048576 }
+    requires visited { 1 ≤ v }
+    requires visits { v ≤ 1048576 }
+    requires wins { w ≤ 1048576 }
+    requires seen { a ≤ 1048576 }
+    requires seen_wins { b ≤ 1048576 }
+    requires weight { c ≤ 1024 }
+    ensures { result ≡ score_of p v w a b c }
+{
+    mean(v, w, a, b) + bonus(p, v, c)
+}
+
+/// The mean of the visits and of the seen visits.
+#[tactic(auto, unfolding(crate::specs::Scores::mean_of))]
+pub fn mean(v: u32, w: u32, a: u32, b: u32) -> u64
+    requires visited { 1 ≤ v }
+    requires visits { v ≤ 1048576 }
+    requires wins { w ≤ 1048576 }
+    requires seen { a ≤ 1048576 }
+    requires seen_wins { b ≤ 1048576 }
+    ensures value { result ≡ mean_of v w a b }
+    ensures bound { result < 2 ^ 60 }
+{
+    let own = share(w, v);
+    if a == 0 {
+        return own;
+    }
+    let visits = u64::from(v);
+    (visits * own + SEEN_WEIGHT * share(b, a)) / (visits + SEEN_WEIGHT)
+}
+
+/// What few visits add.
+#[tactic(auto, unfolding(crate::specs::Scores::bonus_of))]
+pub fn bonus(p: u32, v: u32, c: u32) -> u64
+    requires parent { p ≤ 1048576 }
+    requires visited { 1 ≤ v }
+    requires visits { v ≤ 1048576 }
+    requires weight { c ≤ 1024 }
+    ensures value { result ≡ bonus_of p v c }
+    ensures bound { result < 2 ^ 42 }
+{
+    let parts = u64::from(level(p)) << ROOT_SHIFT;
+    u64::from(c) * u64::from(root_of_quotient(parts, v)) / WEIGHT_PARTS
+}
+
+/// The share of wins among visits.
+fn share(wins: u32, visits: u32) -> u64
+    requires visited { 1 ≤ visits }
+    requires visits { visits ≤ 1048576 }
+    requires wins { wins ≤ 1048576 }
+    ensures value { result ≡ share_of wins visits }
+    ensures bound { result ≤ 65536 * 1048576 }
+{
+    SHARE_PARTS * u64::from(wins) / u64::from(visits)
+}
+
+/// The root of n / d, rounded down. The root of a quotient that is not rounded is the same, so the
+/// processor's float root is taken where its square shows that it is right, as it is for every n
+/// below 2^48.
+#[tactic(auto, using(crate::proofs::Roots::root_is))]
+fn root_of_quotient(n: u64, d: u32) -> u32
+    requires positive { 0 < d }
+    requires small { d ≤ 1048576 }
+    ensures { result ≡ isqrt (n / d) }
+{
+    let divisor = u64::from(d);
+    let ratio = nearest_u64_to_f64(n) / f64::from(d);
+    let guess = saturating_f64_to_u64(ratio.sqrt()).min(GREATEST_GUESS);
+    if guess * guess * divisor <= n && n < (guess + 1) * (guess + 1) * divisor {
+        return guess as u32;
+    }
+    root(n / divisor)
+}
