@@ -2,3 +2,4 @@ pub mod Parts
 pub mod Reach
 pub mod Roots
 pub mod Search
+pub mod Tabled

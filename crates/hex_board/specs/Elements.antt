@@ -1,4 +1,4 @@
-use Rattle.std.specs.Prelude.{◌≡◌, ◌≢◌, ℕ, ◌+◌, ◌≤◌, ◌*◌, ◌==◌, ◌&&◌, ◌||◌, ◌⊎◌, not, Bool, true, false, Option, Some, count_by, if◌then◌else◌}
+use Rattle.std.specs.Prelude.{◌<◌, ◌↔◌, IsTrue, List, get_or, ◌≡◌, ◌≢◌, ℕ, ◌+◌, ◌≤◌, ◌*◌, ◌==◌, ◌&&◌, ◌||◌, ◌⊎◌, not, Bool, true, false, Option, Some, count_by, if◌then◌else◌}
 use Rattle.std.specs.List.{find, list_any, range_with_len}
 use Rattle.std.specs.Option.{option_map}
 use Rattle.hex_cells.specs.Sets.{has}
@@ -77,6 +77,24 @@ Borders e x y = (a : ℕ) × (b : ℕ) × Holds e x a × Holds e y b × Neighbou
 -- x and y differ, and a cell of one is a neighbour of a cell of the other, or one holds an edge on which the other has a cell
 abbrev pub Near : Side → ℕ → ℕ → Type 0
 Near e x y = (x ≢ y) × (Borders e x y ⊎ (Touches e x y ⊎ Touches e y x))
+
+-- cell k lies on an edge that element x holds
+abbrev pub HasEdge : Side → ℕ → ℕ → Type 0
+HasEdge e x k = (second : Bool) × (edge_element e second ≡ x) × (on_edge e.player second e.board.size k ≡ true)
+
+-- cell k is beside element x: a neighbour of a cell of x, or on an edge that x holds
+abbrev pub Reaches : Side → ℕ → ℕ → Type 0
+Reaches e x k = ((a : ℕ) × Holds e x a × Neighbour e.board.size a k) ⊎ HasEdge e x k
+
+-- a cell of element y is beside element x
+abbrev pub Meets : Side → ℕ → ℕ → Type 0
+Meets e x y = (k : ℕ) × Reaches e x k × Holds e y k
+
+-- tables of the cells of each element, and of the cells beside it
+pub record IsTabled (e : Side) (parts reaches : List ℕ) : Type 0 where
+  pub few : element_count e ≤ 123
+  pub held : (x k : ℕ) → x < element_count e → IsTrue (has (get_or parts x 0) k) ↔ Holds e x k
+  pub reached : (x k : ℕ) → x < element_count e → IsTrue (has (get_or reaches x 0) k) ↔ Reaches e x k
 
 -- what is kept of a side: whether its edges are joined, the stones tied to each, and the least cells of the other
 -- elements; and that the stones lie on a board of at most 11 by 11 cells, apart from the other player's

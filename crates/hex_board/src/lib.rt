@@ -25,10 +25,11 @@ mod calls;
 mod groups;
 mod numbering;
 mod paths;
+mod tables;
 #[cfg(test)]
 mod tests;
 
 pub use boards::Board;
 pub use groups::roots_of;
-pub use numbering::Elements;
 pub use paths::{flood, joined, joined_is_decided};
+pub use tables::Elements;

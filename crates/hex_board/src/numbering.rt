@@ -1,21 +1,19 @@
-//! The elements of a player: his empty cells and groups, by numbers.
+//! How the elements of a player are numbered: the edges first, then the others by their least cells.
 
 ghost use Rattle.std.specs.Prelude.{◌≡◌, ℕ, ◌*◌, ◌<◌, ◌≤◌, ◌↔◌, true, IsTrue, IfNone, IfSome, Some, None};
 ghost use Rattle.hex_cells.specs.Colours.{other_of};
 ghost use Rattle.hex_cells.specs.Sets.{has};
-ghost use Rattle.hex_board.specs.Elements.{Borders, Holds, Near, Touches, edge_element, edge_elements, element_count, element_of, head_element, is_head, is_linked};
+ghost use Rattle.hex_board.specs.Elements.{HasEdge, Holds, Reaches, edge_element, edge_elements, element_count, element_of, head_element, is_head, is_linked};
 ghost use Rattle.hex_board.specs.Positions.{is_empty_at, stones_of};
 
 use super::{Board, flood, roots_of};
 use hex_cells::{Cell, CellSet, Colour, edge};
 use std::marker::Model;
 
-/// The elements of a player on a board: each empty cell by itself, and the groups. A group is a connected part of the
-/// player's stones and his two edges, where stones are linked as neighbours and a stone on an edge is linked to that
-/// edge. Element 0 holds the first edge, and the second edge is in element 1, or in element 0 where the player is joined.
-/// The others follow in rising order of their least cells. There are at most 123.
+/// The numbers of a player's elements: whether his edges are joined, the stones tied to each edge, and the least cells of
+/// the other elements.
 #[derive(Debug, Drop)]
-pub struct Elements {
+pub(crate) struct Numbering {
     board: Board,
     colour: Colour,
     joined: bool,
@@ -24,7 +22,7 @@ pub struct Elements {
     heads: CellSet,
 }
 
-impl Model for Elements {
+impl Model for Numbering {
     ghost use Rattle.hex_board.specs.Elements.{IsNumbered, Side};
 
     ghost Value = { Side };
@@ -34,28 +32,26 @@ impl Model for Elements {
     ghost invariant = { λ e. IsNumbered (record { board = e.board; player = e.colour }) e.joined e.first e.second e.heads };
 }
 
-impl Board {
-    /// The elements of a player.
-    pub fn elements(&self, colour: Colour) -> Elements
-        ensures { result ≡ record { board = self.now; player = colour } }
+impl Numbering {
+    // Numbers the elements of a player.
+    pub(crate) fn of_board(board: &Board, colour: Colour) -> Numbering
+        ensures { result ≡ record { board = board.now; player = colour } }
     {
-        let size = self.size();
-        let stones = self.stones(colour);
+        let size = board.size();
+        let stones = board.stones(colour);
         let first = flood(edge(colour, false, size), stones, size);
         let second = flood(edge(colour, true, size), stones, size);
         let lone = roots_of(stones, size).minus(first).minus(second);
-        Elements {
-            board: *self,
+        Numbering {
+            board: *board,
             colour,
-            joined: self.joined(colour),
+            joined: board.joined(colour),
             first,
             second,
-            heads: self.empties().union(lone),
+            heads: board.empties().union(lone),
         }
     }
-}
 
-impl Elements {
     // How many elements hold an edge.
     fn edge_elements(&self) -> u32
         ensures value { result ≡ edge_elements self.now }
@@ -71,16 +67,16 @@ impl Elements {
         (self.edge_elements() + self.heads.rank(cell)) as u8
     }
 
-    /// How many elements there are: 1 to 123.
-    pub fn count(&self) -> u32
+    // How many elements there are: 1 to 123.
+    pub(crate) fn count(&self) -> u32
         ensures value { result ≡ element_count self.now }
         ensures range { (1 ≤ result) × (result ≤ 123) }
     {
         self.edge_elements() + self.heads.count()
     }
 
-    /// The element that holds the first edge, or the second: 0 or 1.
-    pub fn edge(&self, second: bool) -> u8
+    // The element that holds the first edge, or the second: 0 or 1.
+    pub(crate) fn edge(&self, second: bool) -> u8
         ensures value { result ≡ edge_element self.now second }
         ensures range { result < element_count self.now }
     {
@@ -114,8 +110,8 @@ impl Elements {
         flood(CellSet::none().with(cell), stones, self.board.size())
     }
 
-    /// The element of a cell of the board; `None` exactly for a stone of the other player.
-    pub fn of(&self, cell: Cell) -> Option<u8>
+    // The element of a cell of the board; `None` exactly for a stone of the other player.
+    pub(crate) fn of(&self, cell: Cell) -> Option<u8>
         requires { cell < self.now.board.size * self.now.board.size }
         ensures value { result ≡ element_of self.now cell }
         ensures range { IfSome result (λ x. x < element_count self.now) }
@@ -135,8 +131,8 @@ impl Elements {
         self.heads.nth(u32::from(element) - self.edge_elements())
     }
 
-    /// The empty cell that an element below the count is; `None` exactly for a group.
-    pub fn cell(&self, element: u8) -> Option<Cell>
+    // The empty cell that an element below the count is; `None` exactly for a group.
+    pub(crate) fn cell(&self, element: u8) -> Option<Cell>
         requires { element < element_count self.now }
         ensures empty { IfSome result (λ k. (is_empty_at self.now.board k ≡ true) × Holds self.now element k) }
         ensures group { IfNone result ((k : ℕ) → is_empty_at self.now.board k ≡ true → ¬ (Holds self.now element k)) }
@@ -164,8 +160,8 @@ impl Elements {
         }
     }
 
-    /// The cells of an element below the count: the empty cell or the stones of the group, where the edges are no cells.
-    pub fn cells(&self, element: u8) -> CellSet
+    // The cells of an element below the count: the empty cell or the stones of the group.
+    pub(crate) fn cells(&self, element: u8) -> CellSet
         requires { element < element_count self.now }
         ensures { (k : ℕ) → IsTrue (has result k) ↔ Holds self.now element k }
     {
@@ -182,35 +178,32 @@ impl Elements {
         }
     }
 
-    // Whether element `x` holds an edge on which element `y` has a cell.
-    fn touches(&self, x: u8, y: u8) -> bool
-        requires { y < element_count self.now }
-        ensures { IsTrue result ↔ Touches self.now x y }
+    // The cells of the edges that an element holds.
+    fn edges_of(&self, element: u8) -> CellSet
+        ensures { (k : ℕ) → IsTrue (has result k) ↔ HasEdge self.now element k }
     {
-        let cells = self.cells(y);
         let size = self.board.size();
-        let first = edge(self.colour, false, size);
-        let second = edge(self.colour, true, size);
-        (self.edge(false) == x && cells.meets(first))
-            || (self.edge(true) == x && cells.meets(second))
+        let first = if self.edge(false) == element {
+            edge(self.colour, false, size)
+        } else {
+            CellSet::none()
+        };
+        let second = if self.edge(true) == element {
+            edge(self.colour, true, size)
+        } else {
+            CellSet::none()
+        };
+        first.union(second)
     }
 
-    // Whether a cell of element `x` is a neighbour of a cell of element `y`.
-    fn borders(&self, x: u8, y: u8) -> bool
-        requires x { x < element_count self.now }
-        requires y { y < element_count self.now }
-        ensures { IsTrue result ↔ Borders self.now x y }
+    // The cells beside an element below the count: the neighbours of its cells, and the edges that it holds.
+    pub(crate) fn beside(&self, element: u8) -> CellSet
+        requires { element < element_count self.now }
+        ensures { (k : ℕ) → IsTrue (has result k) ↔ Reaches self.now element k }
     {
-        self.cells(x).around(self.board.size()).meets(self.cells(y))
-    }
-
-    /// Whether two elements below the count lie side by side: they differ, and a cell of one is a neighbour of a cell of
-    /// the other, or one holds an edge and the other has a cell on that edge.
-    pub fn near(&self, x: u8, y: u8) -> bool
-        requires x { x < element_count self.now }
-        requires y { y < element_count self.now }
-        ensures { IsTrue result ↔ Near self.now x y }
-    {
-        x != y && (self.borders(x, y) || self.touches(x, y) || self.touches(y, x))
+        let cells = self.cells(element);
+        cells
+            .around(self.board.size())
+            .union(self.edges_of(element))
     }
 }

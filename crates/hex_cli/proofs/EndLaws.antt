@@ -1,5 +1,5 @@
 -- The ends of a conversation, from what each call told.
-use Rattle.std.proofs.Common.{◌≡◌, ℕ, ◌+◌, ◌≤◌, List, [], ◌++◌, length, take, Option, refl, ap, sym, ◌∙◌, subst, append-nil, append_assoc}
+use Rattle.std.proofs.Common.{◌≡◌, ℕ, ◌≤◌, List, [], ◌++◌, length, take, Option, refl, ap, sym, ◌∙◌, subst, append-nil, append_assoc}
 use Rattle.hex_io.specs.Told.{Told, Both, Takes, Same}
 use Rattle.hex_io.specs.Grew.{Gave}
 use Rattle.hex_io.proofs.BothLaws.{Both-then, Both-weaker, Both-refl, Both-last}

@@ -6,8 +6,8 @@ use Rattle.hex_io.specs.Grew.{Gave, GavePart}
 use Rattle.hex_io.proofs.GaveLaws.{Gave-then, Gave-nothing}
 use Rattle.htp_line.specs.Splitting.{Held}
 use Rattle.hex_engine.specs.Standing.{Standing}
-use Rattle.hex_cli.specs.Talk.{Said, AfterQuit, Going}
-use Rattle.hex_cli.specs.Sessions.{talk_to, Stands, Answers, AnswersAll, BrokeOff, GaveUp, EndsLine, Collects, Pauses}
+use Rattle.hex_cli.specs.Talk.{Said, AfterQuit}
+use Rattle.hex_cli.specs.Sessions.{talk_to, Answers, AnswersAll, BrokeOff, GaveUp, Collects, Pauses}
 use Rattle.hex_cli.specs.declared.session.Pause.{Pause}
 use Rattle.hex_cli.specs.declared.session.Pause.TheVariants.{Memory}
 use Rattle.hex_cli.proofs.TalkLaws.{talk_to_quit}

@@ -1,19 +1,19 @@
 -- What a conversation keeps while it goes on, and what stands at each end.
-use Rattle.std.proofs.Common.{◌≡◌, ◌≢◌, ℕ, ◌+◌, ◌-◌, ◌<◌, ◌≤◌, Bool, true, false, List, [], ◌∷◌, ◌++◌, length, take, drop, Option, Some, None, refl, ap, sym, ◌∙◌, subst, inl, inr, append-nil, append_assoc, length-append, fold, cond, rules, arith}
+use Rattle.std.proofs.Common.{◌≡◌, ◌≢◌, ℕ, ◌+◌, ◌≤◌, Bool, true, false, List, [], ◌∷◌, ◌++◌, length, take, drop, refl, ap, sym, ◌∙◌, inl, inr, append-nil, append_assoc, length-append, fold, cond, arith}
 use Rattle.std.specs.List.{AllByRecursion}
-use Rattle.std.proofs.Math.Seq.{take-append_seam, drop-append_seam, take-append-add}
-use Rattle.std.proofs.lemmas.List.{take-append-le, take-append-drop}
+use Rattle.std.proofs.Math.Seq.{take-append_seam, drop-append_seam}
+use Rattle.std.proofs.lemmas.List.{take-append-le}
 use Rattle.std.proofs.lemmas.List.Sums.{fold-append}
 use Rattle.hex_io.specs.Told.{Told, Takes, Gives}
 use Rattle.htp_line.specs.Lines.{whole, rest, lines, unless_empty}
 use Rattle.htp_line.specs.Splitting.{kept}
 use Rattle.htp_line.proofs.LinesLaws.{whole-append}
 use Rattle.hex_engine.specs.Standing.{Standing}
-use Rattle.hex_cli.specs.Talk.{Said, Ending, Going, AfterQuit, Short, ending_if, goes_on, IsThrough, said, with_said, step, silence, talk}
+use Rattle.hex_cli.specs.Talk.{Said, Ending, Going, AfterQuit, Short, ending_if, goes_on, said, with_said, step, silence, talk}
 use Rattle.hex_cli.specs.Sessions.{talk_to, EndsLine, HasLast}
-use Rattle.hex_cli.specs.Outcome.{since, Shown, AsksShown, Course, Complete, Unread, Unwritten, StopsAt, Unfinished, Overlong, Outcome}
+use Rattle.hex_cli.specs.Outcome.{since, Shown, AsksShown, Course, StopsAt, Outcome}
 use Rattle.hex_cli.specs.declared.ends.End.TheVariants as ending
-use Rattle.hex_cli.proofs.TalkLaws.{talk_quit, talk_to-nil}
+use Rattle.hex_cli.proofs.TalkLaws.{talk_quit}
 
 -- what a conversation keeps: what it took, what it gave, and that each read came after the answers
 pub record Keeps (start : Standing) (old new : Told) (seen text : List ℕ) : Type 0 where

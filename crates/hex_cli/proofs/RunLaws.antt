@@ -3,7 +3,6 @@ use Rattle.std.proofs.Common.{◌≡◌, ◌≢◌, ℕ, ◌+◌, ◌≤◌, ◌
 use Rattle.std.specs.Prelude.{◌↔◌}
 use Rattle.std.proofs.Math.Seq.{drop-append_seam}
 use Rattle.hex_io.specs.Told.{Told, Both}
-use Rattle.hex_io.specs.Causes.{Rose}
 use Rattle.hex_io.proofs.BothLaws.{Both-weaker}
 use Rattle.hex_engine.specs.Standing.{Standing}
 use Rattle.hex_cli.specs.Outcome.{Outcome, since, status_of}

@@ -1,6 +1,5 @@
 -- A talk goes on by one line.
-use Rattle.std.proofs.Common.{◌≡◌, ℕ, Bool, true, false, cond, List, [], ◌∷◌, ◌++◌, Option, Some, None, fold, refl, ap, sym, ◌∙◌, subst, append-nil, append_assoc, take, drop}
-use Rattle.std.proofs.lemmas.List.{take-append-drop}
+use Rattle.std.proofs.Common.{◌≡◌, ℕ, Bool, true, false, cond, List, [], ◌∷◌, ◌++◌, Option, refl, ap, sym, ◌∙◌, subst, append_assoc}
 use Rattle.std.proofs.lemmas.List.Sums.{fold_push, fold-append}
 use Rattle.std.proofs.lemmas.List.Folds.{fold_stays}
 use Rattle.htp_line.proofs.LinesLaws.{whole-append}
@@ -9,7 +8,7 @@ use Rattle.htp_line.specs.Splitting.{Held, kept, shown, what_of, Ends, Advances,
 use Rattle.htp_line.specs.declared.splitter.What.{What}
 use Rattle.htp_line.specs.declared.splitter.What.TheVariants.{More}
 use Rattle.hex_engine.specs.Standing.{Standing}
-use Rattle.hex_cli.specs.Talk.{Said, Ending, Going, AfterQuit, Short, ending_if, goes_on, said, with_said, step, silence, talk}
+use Rattle.hex_cli.specs.Talk.{Said, Going, AfterQuit, ending_if, goes_on, said, with_said, step, silence, talk}
 use Rattle.hex_cli.specs.Sessions.{talk_to, Stands, Owes, Moves, EndsLine, AnswersLast, HasLast}
 
 step-going : (so_far : Said) (raw : List ℕ) → so_far.ending ≡ Going → step so_far raw ≡ with_said so_far (said so_far.at (kept raw))

@@ -4,8 +4,8 @@ use Rattle.htp_line.specs.Reading.{Asked}
 use Rattle.hex_cells.specs.declared.colours.Colour.{Colour}
 use Rattle.hex_cells.specs.declared.colours.Colour.TheVariants.{Black, White}
 use Rattle.hex_board.specs.Joined.{winner_of}
-use Rattle.hex_game.specs.Moves.{step_of, before_last}
-use Rattle.hex_game.specs.Games.{Played, board_of, is_legal, with_step, without_last}
+use Rattle.hex_game.specs.Moves.{step_of}
+use Rattle.hex_game.specs.Games.{board_of, is_legal, with_step, without_last}
 use Rattle.hex_game.specs.declared.moves.Step.{Step}
 use Rattle.hex_engine.specs.Commands.{command_named, all_names}
 use Rattle.hex_engine.specs.Forms.{colour_of, move_of, sizes_of}

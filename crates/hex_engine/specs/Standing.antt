@@ -1,5 +1,5 @@
 -- Where a conversation stands.
-use Rattle.std.specs.Prelude.{◌≡◌, ℕ}
+use Rattle.std.specs.Prelude.{ℕ}
 use Rattle.hex_board.specs.Positions.{empty_board}
 use Rattle.hex_game.specs.Games.{Played, new_game}
 

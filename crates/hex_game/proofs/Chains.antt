@@ -1,5 +1,5 @@
 -- One more step, and one less, of a history.
-use Rattle.std.proofs.Common.{◌≡◌, ℕ, ◌+◌, ◌≤◌, Bool, true, false, cond, suc, List, [], ◌∷◌, ◌++◌, length, Option, Some, None, refl, ap, sym, ◌∙◌, subst, append-nil, append_assoc, rules, arith}
+use Rattle.std.proofs.Common.{◌≡◌, Bool, true, cond, suc, List, [], ◌∷◌, ◌++◌, length, refl, ap, sym, ◌∙◌, subst, append-nil, append_assoc}
 use Rattle.hex_board.specs.Positions.{Position}
 use Rattle.hex_game.specs.Games.{is_legal_on, after_step, replay_on, replay, moved}
 use Rattle.hex_game.specs.Kept.{IsFew, Leads}

@@ -1,13 +1,12 @@
 -- Where a swap may come, Black's one stone lies on the board.
-use Rattle.std.proofs.Common.{◌≡◌, ℕ, ◌+◌, ◌*◌, ◌<◌, ◌≤◌, Bool, true, false, cond, not, ◌&&◌, ◌||◌, nat_lt, List, [], ◌∷◌, ◌++◌, length, Option, Some, None, refl, ap, sym, ◌∙◌, subst, rules, arith}
-use Rattle.std.proofs.lemmas.Bool.{and_parts}
+use Rattle.std.proofs.Common.{◌≡◌, ℕ, ◌*◌, ◌<◌, Bool, true, cond, not, ◌&&◌, nat_lt, List, [], ◌∷◌, Some, ap, ◌∙◌, arith}
 use Rattle.std.proofs.lemmas.Bool.Decides.{nat_tests}
 use Rattle.hex_cells.specs.Sets.{has}
 use Rattle.hex_cells.specs.declared.colours.Colour.{Colour}
 use Rattle.hex_cells.specs.declared.colours.Colour.TheVariants.{Black, White}
 use Rattle.hex_board.specs.Positions.{Position, is_empty_at, placed}
-use Rattle.hex_game.specs.Moves.{lone_black_stone, black_stone_by, stone_cell}
-use Rattle.hex_game.specs.Games.{is_over, is_legal_on, after_step, fits, moved}
+use Rattle.hex_game.specs.Moves.{lone_black_stone, black_stone_by}
+use Rattle.hex_game.specs.Games.{is_over, is_legal_on, after_step}
 use Rattle.hex_game.specs.Kept.{Leads}
 use Rattle.hex_game.specs.declared.moves.Move.{Move}
 use Rattle.hex_game.specs.declared.moves.Move.TheVariants.{Stone, Swap}

@@ -1,14 +1,14 @@
 -- The end of a walk: defaults come in, and the mode has to be there.
-use Rattle.std.proofs.Common.{◌≡◌, ◌∙◌, ◌&&◌, ◌||◌, ◌==◌, ℕ, Bool, cond, not, true, false, refl, sym, ap, ap₂, subst, List, [], ◌∷◌, ◌++◌, map, Option, Some, None, option_map, true≢false, codes}
+use Rattle.std.proofs.Common.{◌≡◌, ◌∙◌, ◌&&◌, ◌||◌, Bool, cond, not, true, false, refl, sym, ap, List, [], ◌∷◌, ◌++◌, map, Option, Some, None, option_map, true≢false}
 use Rattle.std.specs.Prelude.{slice_get, option_and_then}
-use Rattle.std.specs.List.{find, fold, list_all, list_any}
+use Rattle.std.specs.List.{find, fold, list_any}
 use Rattle.std.specs.Option.{option_map_or}
 use Rattle.std.specs.Str.{bytes_eq}
-use Rattle.clap.specs.Kinds.{Kinds, or_else, values_kinds}
-use Rattle.clap.specs.Faults.{check_fault, defaults_fault, given_default_fault, settle_fault}
+use Rattle.clap.specs.Kinds.{Kinds, values_kinds}
+use Rattle.clap.specs.Faults.{check_fault, defaults_fault}
 use Rattle.clap.specs.Facts.{explicit_source}
 use Rattle.clap.specs.Takes.{is_given}
-use Rattle.clap.specs.Walk.{Held, Row, Rule, Text, at_row, default_rows, finished, first_of, has_row, more_values, settled, with_default, with_values}
+use Rattle.clap.specs.Walk.{Row, Text, default_rows, first_of, has_row, more_values, with_default}
 use Rattle.clap.specs.declared.builder.value_parser.Reading.TheVariants as reading
 use Rattle.clap.specs.declared.builder.value_parser.ValueParser.TheVariants as vp
 use Rattle.clap.specs.declared.error.kind.ErrorKind.TheVariants as kind
@@ -16,8 +16,8 @@ use Rattle.clap.specs.declared.parser.matches.ValueSource.TheVariants.{DefaultVa
 use Rattle.clap.proofs.WalkLemmas.{both}
 use Rattle.hexd_words.specs.Command.{mode_name}
 use Rattle.hexd_words.specs.Grammar.{Saying, value_of}
-use Rattle.hexd_words.proofs.Rules.{KeepsMode, Table, at_row-absent, bytes_same, conflict, differs_back, is_false, mode_built, option_built, or_false, or_none, row_for, rows_for, rules_with, same_bytes, says, shape_with}
-use Rattle.hexd_words.proofs.Turns.{Pending, as_list, clashes, both_none, held_with, no_conflict, none_both, settle_is, settled_is}
+use Rattle.hexd_words.proofs.Rules.{KeepsMode, Table, at_row-absent, differs_back, is_false, mode_built, option_built, row_for, rows_for, rules_with, same_bytes, says, shape_with}
+use Rattle.hexd_words.proofs.Turns.{both_none}
 
 -- ---- no default is at fault
 

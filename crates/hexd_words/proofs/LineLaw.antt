@@ -1,23 +1,22 @@
 -- `clap` finds no fault in words exactly where they are a line by the grammar, and its values are what the line says.
-use Rattle.std.proofs.Common.{◌≡◌, ◌≢◌, ◌∙◌, ◌||◌, ◌==◌, ◌&&◌, ◌<◌, ◌+◌, ◌⊎◌, inl, inr, ℕ, Bool, cond, not, true, false, refl, sym, ap, ap₂, subst, List, [], ◌∷◌, ◌++◌, map, length, Option, Some, None, append-nil, true≢false, zero, suc, arith, All, Contains, IsSome, codes}
-use Rattle.std.specs.Prelude.{unwrap_or, is_some}
-use Rattle.std.specs.List.{find, flat_map, list_any, slice_index_or}
-use Rattle.std.specs.Str.{IsUtf8, bytes_eq}
-use Rattle.std.proofs.lemmas.List.Elements.{All-append, All-cons, All-nil, Contains-append_cases}
+use Rattle.std.proofs.Common.{◌≡◌, ◌∙◌, ◌||◌, ◌<◌, ℕ, Bool, cond, true, false, refl, sym, ap, subst, List, [], ◌∷◌, ◌++◌, map, length, Option, Some, None, true≢false, zero, suc, arith, All, Contains, IsSome}
+use Rattle.std.specs.Prelude.{is_some}
+use Rattle.std.specs.List.{slice_index_or}
+use Rattle.std.specs.Str.{bytes_eq}
+use Rattle.std.proofs.lemmas.List.Elements.{All-cons, All-nil}
 use Rattle.clap.specs.Faults.{built_fault, entered_fault, fault_of, level_fault}
-use Rattle.clap.specs.Simple.{App, built, entered, matches_of}
+use Rattle.clap.specs.Simple.{App, entered, matches_of}
 use Rattle.clap.specs.Walk.{Text, first_of, idle, nothing_held, walk, with_default}
 use Rattle.hexd_words.specs.Command.{hexd_app, mode_name}
-use Rattle.hexd_words.specs.Grammar.{IsPart, Part, Saying, Says, SaysOnce, after_hyphens, apart, begins_with_hyphen, defaults, joined, option_names, part_words, plain, saying, value_of}
+use Rattle.hexd_words.specs.Grammar.{IsPart, Part, Saying, apart, defaults, joined, plain, value_of}
 use Rattle.hexd_words.specs.Reading.{IsLine}
-use Rattle.hexd_words.specs.Values.{lone_hyphen}
-use Rattle.hexd_words.proofs.Rules.{KeepsMode, Table, bytes_same, hexd_built, or_false, option_in, rules_with, same_bytes, says, shape_with, table}
+use Rattle.hexd_words.proofs.Rules.{KeepsMode, Table, bytes_same, hexd_built, option_in, rules_with, same_bytes, says, shape_with, table}
 use Rattle.hexd_words.proofs.Steps.{at}
 use Rattle.hexd_words.proofs.Turns.{held_with}
 use Rattle.hexd_words.proofs.Ends.{defaults_of, end_value}
 use Rattle.hexd_words.proofs.Rest.{Done, end_rows, rest_fault}
-use Rattle.hexd_words.proofs.Sayings.{Once, fresh_at, once_from_pairs, pairs_from_once}
-use Rattle.hexd_words.proofs.Sound.{Complete, IsNamed, IsPartOf, Parts, Spelling, Words, modes, ready, sound, uses}
+use Rattle.hexd_words.proofs.Sayings.{once_from_pairs, pairs_from_once}
+use Rattle.hexd_words.proofs.Sound.{IsNamed, IsPartOf, Parts, Spelling, Words, ready, sound, uses}
 use Rattle.hexd_words.proofs.Whole.{WellNamed, whole}
 use Rattle.hexd_words.proofs.TextLemmas.{IsOther}
 

@@ -1,5 +1,5 @@
 -- Digits and numbers.
-use Rattle.std.proofs.Common.{◌≡◌, ◌≤◌, ◌&&◌, ℕ, true, false, List, [], ◌∷◌, Option, Some, None, arith, refl, ◌↔◌, IfSome, codes}
+use Rattle.std.proofs.Common.{◌≡◌, ◌≤◌, ℕ, true, List, [], ◌∷◌, Option, Some, None, arith, refl, ◌↔◌, IfSome, codes}
 use Rattle.std.specs.List.{list_all}
 use Rattle.std.specs.Char.{is_ascii_digit}
 use Rattle.std.specs.Str.Parse.{AllDigits}

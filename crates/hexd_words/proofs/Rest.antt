@@ -1,15 +1,14 @@
 -- The faults of the words from a place of the walk on, and the rows at their end.
-use Rattle.std.proofs.Common.{◌≡◌, ◌∙◌, ◌||◌, ◌==◌, ◌&&◌, ℕ, Bool, cond, true, false, refl, sym, ap, subst, List, [], ◌∷◌, ◌++◌, Option, Some, None, append-nil}
+use Rattle.std.proofs.Common.{◌≡◌, ◌∙◌, ◌&&◌, Bool, cond, true, false, refl, sym, ap, subst, List, [], ◌∷◌, ◌++◌, Option, Some}
 use Rattle.std.specs.List.{fold}
 use Rattle.clap.specs.Kinds.{Kinds, or_else}
 use Rattle.clap.specs.Faults.{check_fault, defaults_fault, settle_fault, turn_fault, walk_fault}
-use Rattle.clap.specs.Walk.{Held, Row, Text, Waiting, Walk, finished, idle, is_pending, next_position, option, positional_held, pushed, settled, walked, with_default}
+use Rattle.clap.specs.Walk.{Held, Row, Text, Walk, finished, is_pending, positional_held, pushed, settled, walked, with_default}
 use Rattle.hexd_words.specs.Command.{mode_name}
 use Rattle.hexd_words.specs.Grammar.{Saying}
-use Rattle.hexd_words.proofs.Rules.{Found, HasOption, KeepsMode, Table, conflict, found_mode, mode_built, rows_for, rule_by_index, rules_with, says, shape_with}
+use Rattle.hexd_words.proofs.Rules.{Found, KeepsMode, Table, conflict, mode_built, rows_for, rules_with, says, shape_with}
 use Rattle.hexd_words.proofs.Turns.{Pending, as_list, asking, asking_faults, clashes, both_none, held_with, no_conflict, none_both, pend, settle_is, settled_is}
 use Rattle.hexd_words.proofs.Ends.{check_is, defaults_clear, missing, not_missing}
-use Rattle.hexd_words.proofs.Steps.{at, past}
 
 -- what was said, with what is pending
 abbrev pub base : List Saying → Option Saying → List Saying

@@ -1,9 +1,8 @@
 -- Things that are said at most once.
-use Rattle.std.proofs.Common.{◌≡◌, ◌≢◌, ◌∙◌, ◌||◌, ◌<◌, ◌+◌, ℕ, Bool, true, false, refl, sym, ap, subst, List, [], ◌∷◌, ◌++◌, length, true≢false, zero, suc, arith}
+use Rattle.std.proofs.Common.{◌≡◌, ◌≢◌, ◌∙◌, ◌||◌, Bool, true, false, refl, sym, List, [], ◌∷◌, ◌++◌, true≢false, zero, suc, arith}
 use Rattle.std.specs.Prelude.{⊤}
-use Rattle.std.specs.List.{All, AllPairs, list_any, slice_index_or}
+use Rattle.std.specs.List.{All}
 use Rattle.std.specs.Str.{bytes_eq}
-use Rattle.std.proofs.lemmas.List.{append_assoc}
 use Rattle.std.proofs.lemmas.List.Kept.{AllPairs-cons}
 use Rattle.clap.specs.Walk.{Text}
 use Rattle.hexd_words.specs.Grammar.{Saying, SaysOnce}

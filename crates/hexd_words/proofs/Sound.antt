@@ -1,18 +1,18 @@
 -- Where a parse finds no fault, the words are parts that say each thing once, and the mode.
-use Rattle.std.proofs.Common.{◌≡◌, ◌≢◌, ◌∙◌, ◌||◌, ◌==◌, ◌&&◌, ℕ, Bool, cond, true, false, refl, sym, ap, ap₂, subst, List, [], ◌∷◌, ◌++◌, map, Option, Some, None, option_map, append-nil, append_assoc}
+use Rattle.std.proofs.Common.{◌≡◌, ◌≢◌, ◌∙◌, ◌==◌, ℕ, Bool, cond, true, false, refl, sym, ap, ap₂, subst, List, [], ◌∷◌, ◌++◌, map, Option, Some, None, option_map, append-nil, append_assoc}
 use Rattle.std.specs.Prelude.{unwrap_or, ⊤}
 use Rattle.std.specs.List.{flat_map}
 use Rattle.std.specs.Str.{IsUtf8, bytes_eq}
 use Rattle.clap.specs.Kinds.{Kinds, or_else}
-use Rattle.clap.specs.Faults.{react_fault, settle_fault, stray_fault, turn_fault}
-use Rattle.clap.specs.Lexer.{long_of, short_of}
-use Rattle.clap.specs.Walk.{Held, Rule, Text, Waiting, Walk, arg_by_index, arg_by_long, idle, next_position, option, pushed, settled, subcommand_met, walked}
+use Rattle.clap.specs.Faults.{settle_fault, stray_fault, turn_fault}
+use Rattle.clap.specs.Lexer.{long_of}
+use Rattle.clap.specs.Walk.{Held, Text, Waiting, Walk, arg_by_index, idle, next_position, option, settled}
 use Rattle.clap.specs.declared.error.kind.ErrorKind.TheVariants as kind
 use Rattle.hexd_words.specs.Command.{mode_name}
 use Rattle.hexd_words.specs.Grammar.{Part, Saying, after_hyphens, apart, begins_with_hyphen, joined, part_words, plain, saying}
 use Rattle.hexd_words.proofs.Rules.{Found, HasOption, KeepsMode, Table, found_mode, has_option, mode_built, option_built, option_in, rule_by_index, rule_by_long, rule_by_short, rules_with, says, shape_with}
 use Rattle.hexd_words.proofs.Steps.{at, dashes, fault_joined, fault_named, fault_past, fault_past_stray, fault_plain, fault_short, fault_stray, fault_unknown, past, walked_dashes, walked_joined, walked_named, walked_past, walked_plain, walked_value}
-use Rattle.hexd_words.proofs.Turns.{Pending, as_list, asking, asking_faults, clashes, held_with, no_conflict, none_both, or_nothing, react_needs, reacted_is, settle_is, settled_is}
+use Rattle.hexd_words.proofs.Turns.{Pending, asking, asking_faults, clashes, held_with, no_conflict, or_nothing, react_needs, reacted_is, settle_is, settled_is}
 use Rattle.hexd_words.proofs.Lexing.{Class, classify, is_dashes, is_joined, is_named, is_plain, is_short, plain_facts}
 use Rattle.hexd_words.proofs.Rest.{asking_ends, base, ends_need, no_later_fault, no_turn_fault, positional_is, rest_fault}
 use Rattle.hexd_words.proofs.Sayings.{Once, once_more}

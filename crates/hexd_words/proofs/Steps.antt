@@ -1,5 +1,5 @@
 -- One turn of a walk, at each kind of word.
-use Rattle.std.proofs.Common.{refl, codes, List, ℕ, [], ◌∷◌, ◌≡◌, Option, Some, None, true, false, Bool, cond, ◌&&◌, ap, sym, ◌∙◌}
+use Rattle.std.proofs.Common.{refl, List, ℕ, [], ◌∷◌, ◌≡◌, Option, Some, None, true, false, Bool, cond, ◌&&◌}
 use Rattle.std.specs.Prelude.{slice_get}
 use Rattle.std.specs.Str.{bytes_eq, chars}
 use Rattle.clap.specs.Lexer.{long_of, short_of}

@@ -1,5 +1,5 @@
 -- Words that are text, and are no hyphen alone.
-use Rattle.std.proofs.Common.{◌≡◌, ◌≢◌, ℕ, ◌≤◌, List, length, take, subst, All, Contains, ◌∙◌}
+use Rattle.std.proofs.Common.{◌≢◌, ℕ, ◌≤◌, List, length, take, subst, All, Contains, ◌∙◌}
 use Rattle.std.specs.Str.{IsUtf8}
 use Rattle.std.proofs.lemmas.List.{get_or_default, take_all}
 use Rattle.hexd_words.specs.Values.{Text, lone_hyphen}

@@ -1,16 +1,12 @@
 -- What a turn needs to have no fault, and where the walk stands after it.
-use Rattle.std.proofs.Common.{◌≡◌, ◌∙◌, ◌&&◌, ◌||◌, ◌==◌, ℕ, Bool, cond, true, false, refl, sym, ap, subst, List, [], ◌∷◌, ◌++◌, map, Option, Some, None, option_map, append-nil, true≢false, codes}
+use Rattle.std.proofs.Common.{◌≡◌, ◌∙◌, Bool, true, false, refl, sym, ap, List, [], ◌∷◌, ◌++◌, Option, Some, None, append-nil}
 use Rattle.std.specs.Prelude.{⊤}
-use Rattle.std.specs.Str.{bytes_eq}
-use Rattle.clap.specs.Lexer.{long_of, short_of}
 use Rattle.clap.specs.Kinds.{Kinds, or_else}
-use Rattle.clap.specs.Faults.{react_fault, settle_fault, turn_fault, use_fault}
-use Rattle.clap.specs.Walk.{Held, Row, Rule, Text, Waiting, Walk, arg_by_long, has_row, idle, is_pending, next_position, option, positional_held, pushed, reacted, settled, subcommand_met, takes_several, used, walked}
+use Rattle.clap.specs.Faults.{react_fault, settle_fault, use_fault}
+use Rattle.clap.specs.Walk.{Held, Row, Text, reacted, settled, used}
 use Rattle.clap.specs.declared.error.kind.ErrorKind.TheVariants as kind
-use Rattle.hexd_words.specs.Command.{mode_name}
 use Rattle.hexd_words.specs.Grammar.{Saying}
-use Rattle.hexd_words.proofs.Rules.{Found, Table, conflict, has_row-rows, mode_built, option_built, option_in, or_none, rows_for, rule_by_index, rule_by_long, rules_with, says, shape_with, used_fresh}
-use Rattle.hexd_words.proofs.Steps.{at, dashes, fault_joined, fault_named, fault_past, fault_past_stray, fault_plain, fault_stray, past, walked_joined, walked_named, walked_past, walked_plain, walked_value}
+use Rattle.hexd_words.proofs.Rules.{Found, Table, conflict, has_row-rows, rows_for, rules_with, says, used_fresh}
 
 -- ---- what is held
 

@@ -1,8 +1,8 @@
 -- Words that are well formed, and what `clap` finds in them.
-use Rattle.std.proofs.Common.{◌≡◌, ◌≢◌, ◌∙◌, ◌||◌, Bool, true, false, refl, sym, ap, subst, List, [], ◌∷◌, ◌++◌, map, Option, Some, None, append_assoc, true≢false, inl, inr, All, AllPairs, Contains, IsSome, codes, arith, suc}
+use Rattle.std.proofs.Common.{◌≡◌, ◌≢◌, ◌∙◌, true, false, refl, sym, ap, subst, List, [], ◌∷◌, ◌++◌, map, Option, Some, None, append_assoc, true≢false, All, AllPairs, Contains, codes, arith, suc}
 use Rattle.std.specs.Prelude.{is_some, unwrap_or}
-use Rattle.std.specs.List.{find, flat_map}
-use Rattle.std.specs.Str.{IsUtf8, bytes_eq}
+use Rattle.std.specs.List.{flat_map}
+use Rattle.std.specs.Str.{bytes_eq}
 use Rattle.std.proofs.lemmas.List.Elements.{All-append, All-cons, All-nil}
 use Rattle.clap.specs.Faults.{fault_of}
 use Rattle.clap.specs.Simple.{matches_of}
@@ -14,7 +14,7 @@ use Rattle.hexd_words.specs.Values.{AreOptions, Text, lone_hyphen, mode_word}
 use Rattle.hexd_words.specs.declared.settings.Mode.{Mode}
 use Rattle.hexd_words.specs.declared.settings.Mode.TheVariants.{Htp}
 use Rattle.hexd_words.specs.declared.settings.Options.{Options}
-use Rattle.hexd_words.proofs.Ends.{or_option, or_option_none, value_pushed}
+use Rattle.hexd_words.proofs.Ends.{or_option_none, value_pushed}
 use Rattle.hexd_words.proofs.LineLaw.{line_clear, line_from, line_values}
 use Rattle.hexd_words.proofs.Rules.{or_false, says}
 use Rattle.hexd_words.proofs.Sayings.{Once, fresh_at, once_from_pairs, says_both}

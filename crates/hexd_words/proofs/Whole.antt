@@ -1,22 +1,19 @@
 -- Where the words are parts that say each thing once, and the mode, a parse finds no fault in them, and its rows are
 -- what they say.
-use Rattle.std.proofs.Common.{◌≡◌, ◌≢◌, ◌∙◌, ◌||◌, ◌==◌, ◌&&◌, ℕ, Bool, cond, not, true, false, refl, sym, ap, ap₂, subst, List, [], ◌∷◌, ◌++◌, map, Option, Some, None, append-nil, append_assoc, true≢false}
-use Rattle.std.specs.Prelude.{unwrap_or, ⊤}
+use Rattle.std.proofs.Common.{◌≡◌, ◌∙◌, ◌==◌, ℕ, Bool, not, true, false, refl, sym, ap, ap₂, subst, List, [], ◌∷◌, ◌++◌, Option, Some, None, append-nil, append_assoc, true≢false}
 use Rattle.std.specs.List.{flat_map, list_all}
 use Rattle.std.specs.Str.{bytes_eq}
-use Rattle.clap.specs.Kinds.{or_else}
 use Rattle.clap.specs.Lexer.{has_byte, long_of}
-use Rattle.clap.specs.Walk.{Held, Text, Waiting, Walk, idle, next_position, option, settled}
+use Rattle.clap.specs.Walk.{Held, Text, Waiting, idle, next_position, option, settled}
 use Rattle.hexd_words.specs.Command.{mode_name}
-use Rattle.hexd_words.specs.Grammar.{Part, Saying, after_hyphens, apart, begins_with_hyphen, joined, part_words, plain, saying}
-use Rattle.hexd_words.proofs.Rules.{HasOption, KeepsMode, Table, conflict, found_all, found_mode, found_passes, has_option, is_false, mode_built, option_in, or_false, rule_by_index, rules_with, same_bytes, says, shape_with}
-use Rattle.clap.proofs.WalkLemmas.{both}
+use Rattle.hexd_words.specs.Grammar.{Part, Saying, after_hyphens, apart, joined, part_words, plain}
+use Rattle.hexd_words.proofs.Rules.{KeepsMode, Table, conflict, found_all, found_mode, found_passes, has_option, is_false, mode_built, option_in, or_false, rules_with, same_bytes, says, shape_with}
 use Rattle.hexd_words.proofs.Steps.{at, dashes, fault_dashes, fault_joined, fault_named, fault_past, fault_plain, fault_value, past, walked_dashes, walked_joined, walked_named, walked_past, walked_plain, walked_value}
 use Rattle.hexd_words.proofs.Turns.{Pending, asking, clashes, held_with, or_nothing, react_passes, reacted_is, settle_is, settled_is}
 use Rattle.hexd_words.proofs.Lexing.{name_and_value_at, name_and_value_none, plain_facts}
 use Rattle.hexd_words.proofs.Rest.{Done, base, done_end, done_more, positional_is}
-use Rattle.hexd_words.proofs.Sayings.{Once, fresh_at, once_front, says_both}
-use Rattle.hexd_words.proofs.Sound.{Complete, IsNamed, IsPartOf, Parts, modes, uses, wanted}
+use Rattle.hexd_words.proofs.Sayings.{Once, fresh_at, says_both}
+use Rattle.hexd_words.proofs.Sound.{Complete, IsPartOf, Parts, modes, uses, wanted}
 
 -- ---- names
 

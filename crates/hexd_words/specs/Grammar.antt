@@ -1,5 +1,5 @@
 -- How the words of a command line say its mode and its options.
-use Rattle.std.specs.Prelude.{◌≡◌, ◌≢◌, ◌==◌, ℕ, Bool, false, List, [], ◌∷◌, ◌++◌, Option, Some, None, codes, map, unwrap_or, find, option_map}
+use Rattle.std.specs.Prelude.{◌≡◌, ◌≢◌, ◌==◌, Bool, false, List, [], ◌∷◌, ◌++◌, Option, Some, None, codes, map, unwrap_or, find, option_map}
 use Rattle.std.specs.List.{All, Contains, AllPairs, flat_map}
 use Rattle.std.specs.Str.{bytes_eq}
 use Rattle.hexd_words.specs.Values.{Text}

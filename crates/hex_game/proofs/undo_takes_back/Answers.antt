@@ -1,5 +1,4 @@
-use Rattle.std.proofs.Common.{◌≡◌, List, ap}
-use Rattle.hex_game.specs.Games.{Played}
+use Rattle.std.proofs.Common.{List, ap}
 use Rattle.hex_game.specs.declared.moves.Step.{Step}
 use Rattle.hex_game.proofs.Chains.{before_last-push}
 use Rattle.hex_game.proofs.undo_takes_back.Goals as goal

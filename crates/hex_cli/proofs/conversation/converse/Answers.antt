@@ -1,10 +1,9 @@
 -- What stands at each end, and after one piece more.
-use Rattle.std.proofs.Common.{◌≡◌, ◌≤◌, ◌+◌, ◌-◌, ◌++◌, ◌<◌, [], ℕ, List, take, length, refl, arith, subst, sym, ◌∙◌}
-use Rattle.std.proofs.lemmas.Grind.{common_steps}
+use Rattle.std.proofs.Common.{◌≡◌, ◌≤◌, ◌+◌, ◌++◌, [], ℕ, List, take, length, refl, arith, subst, ◌∙◌}
 use Rattle.hex_io.specs.Told.{Both, Takes}
 use Rattle.hex_engine.specs.Standing.{Standing, opening}
 use Rattle.hex_cli.specs.Talk.{AfterQuit}
-use Rattle.hex_cli.specs.Sessions.{Stands, Moves, AnswersAll, talk_to}
+use Rattle.hex_cli.specs.Sessions.{Stands, Moves, talk_to}
 use Rattle.hex_cli.proofs.Pieces.{length-taken, length-front}
 use Rattle.hex_cli.proofs.EndLaws.{Kept, kept_taking, kept_nothing, feed_on, feed_quit, feed_unwritten, feed_unfinished, read_overlong, finish_complete, finish_unwritten, finish_unfinished}
 use Rattle.hex_cli.proofs.conversation.converse.Goals as goal

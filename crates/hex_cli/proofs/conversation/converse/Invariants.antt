@@ -1,4 +1,4 @@
-use Rattle.std.proofs.Common.{◌≡◌, ◌≤◌, ◌-◌, ◌+◌, ℕ, List, length}
+use Rattle.std.proofs.Common.{◌≡◌, ◌≤◌, ◌-◌, ℕ, List, length}
 use Rattle.hex_io.specs.Told.{Both}
 use Rattle.hex_engine.specs.Standing.{opening}
 use Rattle.hex_cli.specs.Sessions.{Stands, talk_to}

@@ -1,5 +1,4 @@
-use Rattle.std.proofs.Common.{◌≤◌, arith, rules, take, drop}
-use Rattle.std.proofs.lemmas.Grind.{common_steps}
+use Rattle.std.proofs.Common.{arith}
 use Rattle.hex_io.proofs.GaveLaws.{Gave-take, Gave-front}
 use Rattle.hex_cli.proofs.giving.give.Goals as goal
 

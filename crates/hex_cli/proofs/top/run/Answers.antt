@@ -1,8 +1,6 @@
 -- What the status tells of the end.
-use Rattle.std.proofs.Common.{◌≡◌, sym, ◌∙◌, subst}
+use Rattle.std.proofs.Common.{sym, ◌∙◌}
 use Rattle.hex_engine.specs.Standing.{opening}
-use Rattle.hex_cli.specs.Errors.{Reported}
-use Rattle.hex_cli.specs.Outcome.{error_line}
 use Rattle.hex_cli.specs.declared.ends.End.TheVariants.{Usage}
 use Rattle.hex_cli.specs.declared.top.TheConstants.{INPUT_LIMIT}
 use Rattle.hex_cli.proofs.RunLaws.{same_end, complete_at, too_long_exactly}

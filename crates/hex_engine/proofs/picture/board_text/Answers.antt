@@ -1,4 +1,4 @@
-use Rattle.std.proofs.Common.{◌+◌, ◌∷◌, ◌++◌, [], refl}
+use Rattle.std.proofs.Common.{◌∷◌, refl}
 use Rattle.hex_engine.specs.Picture.{header, row_line}
 use Rattle.hex_engine.proofs.Ranges.{range_step}
 use Rattle.hex_engine.proofs.picture.board_text.Goals as goal

@@ -1,4 +1,4 @@
-use Rattle.std.proofs.Common.{◌≡◌, ◌+◌, ◌++◌, ◌∷◌, [], ℕ}
+use Rattle.std.proofs.Common.{◌≡◌, ◌++◌, ◌∷◌}
 use Rattle.std.specs.List.{flat_map, range_with_len}
 use Rattle.hex_engine.specs.Picture.{header, row_line}
 use Rattle.hex_engine.proofs.picture.board_text.Given as goal

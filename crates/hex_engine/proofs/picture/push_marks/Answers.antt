@@ -1,4 +1,4 @@
-use Rattle.std.proofs.Common.{◌≡◌, ◌+◌, ◌*◌, ◌∷◌, [], ap, ◌∙◌, refl}
+use Rattle.std.proofs.Common.{◌≡◌, ◌+◌, ◌*◌, ◌∷◌, [], ap, ◌∙◌}
 use Rattle.hex_engine.specs.Picture.{mark}
 use Rattle.hex_engine.proofs.Ranges.{range_step}
 use Rattle.hex_engine.proofs.picture.push_marks.Goals as goal

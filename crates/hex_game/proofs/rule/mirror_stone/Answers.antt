@@ -1,4 +1,4 @@
-use Rattle.std.proofs.Common.{◌≡◌, ℕ, ◌+◌, ◌<◌, ◌≤◌, ap, ◌∙◌, sym, subst, rules, arith}
+use Rattle.std.proofs.Common.{◌<◌, ◌≤◌, sym, subst, arith}
 use Rattle.hex_cells.specs.Sets.{members}
 use Rattle.hex_game.proofs.Room.{members_some, board_cell}
 use Rattle.hex_game.proofs.rule.mirror_stone.Goals as goal

@@ -1,6 +1,5 @@
-use Rattle.std.proofs.Common.{◌≡◌, ℕ, ◌+◌, ◌≤◌, ap, ◌∙◌, subst, rules, arith}
-use Rattle.hex_board.specs.Positions.{Position, Apart, stones_of}
-use Rattle.hex_cells.specs.declared.colours.Colour.TheVariants.{Black, White}
+use Rattle.std.proofs.Common.{◌≤◌, ap, ◌∙◌, subst}
+use Rattle.hex_board.specs.Positions.{Apart}
 use Rattle.hex_game.specs.Kept.{stones_on}
 use Rattle.hex_game.proofs.Room.{room_for_stone, empty_cell, one_placed}
 use Rattle.hex_game.proofs.rule.with_stone.Goals as goal

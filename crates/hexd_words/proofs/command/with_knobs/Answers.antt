@@ -1,4 +1,3 @@
-use Rattle.std.proofs.Common.{◌≡◌, refl}
 use Rattle.std.proofs.lemmas.Result.{IfOk-weaker}
 use Rattle.hexd_words.proofs.CommandLemmas.{one_more}
 use Rattle.hexd_words.proofs.command.with_knobs.Goals as goal

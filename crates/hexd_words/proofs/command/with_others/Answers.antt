@@ -1,4 +1,4 @@
-use Rattle.std.proofs.Common.{◌≡◌, refl, rules, codes, []}
+use Rattle.std.proofs.Common.{◌≡◌, rules, codes, []}
 use Rattle.std.proofs.lemmas.Result.{IfOk-weaker}
 use Rattle.clap.specs.Words.{rule_of}
 use Rattle.hexd_words.specs.Command.{option_rule}

@@ -1,4 +1,4 @@
-use Rattle.std.proofs.Common.{◌≡◌, ◌≤◌, ◌<◌, arith}
+use Rattle.std.proofs.Common.{◌≤◌, arith}
 use Rattle.hexd_words.proofs.NumberLemmas.{number_at_most}
 use Rattle.hexd_words.proofs.numbers.small_number.Goals as goal
 

@@ -1,8 +1,8 @@
-use Rattle.std.proofs.Common.{◌≡◌, ◌≢◌, ◌≤◌, ◌<◌, ◌∙◌, sym, arith, length, All, true, refl, subst}
+use Rattle.std.proofs.Common.{◌≡◌, ◌≢◌, arith, true, refl, subst}
 use Rattle.std.specs.Str.{IsUtf8, bytes_eq}
 use Rattle.std.proofs.lemmas.List.Elements.{All-more}
 use Rattle.hexd_words.specs.Values.{lone_hyphen}
-use Rattle.hexd_words.proofs.TextLemmas.{IsOther, all_seen, all_text, none_alone}
+use Rattle.hexd_words.proofs.TextLemmas.{IsOther, all_seen, all_text}
 use Rattle.hexd_words.proofs.reading.has_lone_hyphen.Goals as goal
 
 pub loop-word-preserved : goal.loop-word-preserved

@@ -1,29 +1,20 @@
-use Rattle.std.proofs.Common.{◌≡◌, ℕ, ◌&&◌, not, true, false, ap, ◌∙◌, arith}
-use Rattle.hex_cells.specs.Sets.{has}
-use Rattle.hex_cells.specs.Edges.{on_edge}
-use Rattle.hex_board.specs.Elements.{Side, is_tied}
-use Rattle.hex_board.specs.Positions.{Within}
-use Rattle.hex_board.proofs.Parts.{flood_test, root_test, head_test}
+use Rattle.std.proofs.Common.{arith}
+use Rattle.hex_board.specs.Elements.{Holds, Reaches}
+use Rattle.hex_board.proofs.Tabled.{set_more}
 use Rattle.hex_board.proofs.boards.Board.elements.Goals as goal
 
+pub elements-init : goal.elements-init
+elements-init c = record { held = λ j k l. absurd (omega arith); reached = λ j k l. absurd (omega arith) }
+
+pub elements-preserved : goal.elements-preserved
+elements-preserved c = record {
+  held = set_more (Holds c.of_board-numbering.result) c.elements.parts c.elements.x c.cells.result (omega arith) c.elements.invariant.held c.cells.ensures;
+  reached = set_more (Reaches c.of_board-numbering.result) c.elements.reaches c.elements.x c.beside.result (omega arith) c.elements.invariant.reached c.beside.ensures;
+}
+
 pub invariant_of-result : goal.invariant_of-result
-invariant_of-result c =
-    let e : Side = record { board = c.args.self.now; player = c.args.colour } in
-    let on : Within c.size-size.result c.stones-stones.result = rw c.size-size.ensures.value c.stones-stones.ensures.on_board in
-    let first : (k : ℕ) → has c.flood-first.result k ≡ is_tied e false k = λ k. rw (← c.size-size.ensures.value, ← c.stones-stones.ensures.value)
-    (flood_test c.size-size.result c.stones-stones.result c.edge.result (on_edge c.args.colour false c.size-size.result) c.flood-first.result k on c.edge.ensures (c.flood-first.ensures k)) in
-    let second : (k : ℕ) → has c.flood-second.result k ≡ is_tied e true k = λ k. rw (← c.size-size.ensures.value, ← c.stones-stones.ensures.value)
-    (flood_test c.size-size.result c.stones-stones.result c.edge-2.result (on_edge c.args.colour true c.size-size.result) c.flood-second.result k on c.edge-2.ensures (c.flood-second.ensures k)) in
-    let on_board : Within e.board.size c.stones-stones.result = c.stones-stones.ensures.on_board in
-    record {
-      joins = c.joined.ensures.value;
-      to_first = first;
-      to_second = second;
-      headed = λ k. head_test e c.union.result c.minus-lone.result c.roots_of.result c.flood-first.result c.flood-second.result c.empties.result k (c.union.ensures.items k)
-          (c.minus-lone.ensures.items k ∙ ap (λ v. v && not (has c.flood-second.result k)) (c.minus.ensures.items k)) (c.empties.ensures k)
-          (root_test e c.roots_of.result k (rw (← c.stones-stones.ensures.value) on_board) (rw (← c.size-size.ensures.value, ← c.stones-stones.ensures.value) (c.roots_of.ensures k)))
-          (first k) (second k);
-      sized = omega arith;
-      on_board = rw (← c.stones-stones.ensures.value) on_board;
-      apart = rw (← c.stones-stones.ensures.value) c.stones-stones.ensures.apart;
-    }
+invariant_of-result c = record {
+  few = omega arith;
+  held = λ x k l. c.elements.invariant.held x k (omega arith);
+  reached = λ x k l. c.elements.invariant.reached x k (omega arith);
+}

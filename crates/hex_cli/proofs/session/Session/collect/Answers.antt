@@ -1,9 +1,8 @@
 -- What stands after one line more.
-use Rattle.std.proofs.Common.{◌≡◌, ◌<◌, ◌+◌, ◌-◌, ◌++◌, true, false, ℕ, List, length, take, drop, arith, subst}
+use Rattle.std.proofs.Common.{◌≡◌, ◌++◌, ℕ, List, take, arith, subst}
 use Rattle.std.proofs.lemmas.Grind.{common_steps}
-use Rattle.hex_engine.specs.Standing.{Standing}
 use Rattle.hex_cli.specs.Talk.{AfterQuit}
-use Rattle.hex_cli.specs.Sessions.{talk_to, Stands, Answers, Owes, Moves}
+use Rattle.hex_cli.specs.Sessions.{talk_to, Stands, Owes}
 use Rattle.hex_cli.proofs.Pieces.{next_seen}
 use Rattle.hex_cli.proofs.session.Session.collect.Goals as goal
 

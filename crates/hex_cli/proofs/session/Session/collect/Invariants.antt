@@ -1,4 +1,4 @@
-use Rattle.std.proofs.Common.{◌≡◌, ◌<◌, ◌-◌, ◌++◌, ℕ, List, length, take}
+use Rattle.std.proofs.Common.{◌<◌, ◌-◌, ◌++◌, ℕ, List, length, take}
 use Rattle.hex_engine.specs.Standing.{Standing}
 use Rattle.hex_cli.specs.Sessions.{Stands, Answers}
 use Rattle.hex_cli.proofs.session.Session.collect.Given as goal

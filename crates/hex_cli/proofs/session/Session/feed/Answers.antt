@@ -1,10 +1,9 @@
 -- What stands after one batch more.
-use Rattle.std.proofs.Common.{◌≡◌, ◌≤◌, ◌+◌, ◌-◌, ◌++◌, ℕ, List, take, drop, length, arith, subst, sym}
+use Rattle.std.proofs.Common.{◌≡◌, ◌+◌, ◌-◌, ◌++◌, ℕ, List, take, drop, length, arith, subst}
 use Rattle.std.proofs.lemmas.Grind.{common_steps}
 use Rattle.std.proofs.lemmas.List.{take-append-drop}
 use Rattle.hex_cli.specs.Talk.{AfterQuit}
-use Rattle.hex_cli.specs.Sessions.{talk_to, Stands, AnswersAll, BrokeOff, GaveUp, Collects, Pauses}
-use Rattle.hex_cli.specs.declared.session.Pause.TheVariants.{Answered, Quit}
+use Rattle.hex_cli.specs.Sessions.{talk_to, Stands, AnswersAll, BrokeOff, GaveUp, Pauses}
 use Rattle.hex_cli.proofs.Pieces.{next_part, next_seen, parts_make}
 use Rattle.hex_cli.proofs.Given.{AnswersAll-then, BrokeOff-then, GaveUp-then, AnswersAll-quit, quit_stays, batch_answers, batch_broke_off, batch_gave_up}
 use Rattle.hex_cli.proofs.session.Session.feed.Goals as goal

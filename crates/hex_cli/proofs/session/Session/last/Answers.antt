@@ -1,4 +1,4 @@
-use Rattle.std.proofs.Common.{◌≡◌, ◌++◌, [], true, rules}
+use Rattle.std.proofs.Common.{◌≡◌, true, rules}
 use Rattle.hex_cli.proofs.TalkLaws.{last_answers}
 use Rattle.hex_cli.proofs.session.Session.last.Goals as goal
 

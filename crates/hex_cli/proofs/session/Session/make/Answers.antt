@@ -1,4 +1,4 @@
-use Rattle.std.proofs.Common.{refl, ap, ◌≡◌}
+use Rattle.std.proofs.Common.{refl, ap}
 use Rattle.htp_line.specs.Lines.{whole, rest}
 use Rattle.htp_line.specs.Splitting.{so_far}
 use Rattle.hex_cli.proofs.session.Session.make.Goals as goal

@@ -1,11 +1,10 @@
-use Rattle.std.proofs.Common.{◌≡◌, ℕ, ◌+◌, ◌<◌, ◌≤◌, ◌++◌, ◌∷◌, [], true, false, List, Option, Some, None, length, refl, ap, sym, ◌∙◌, subst, length-append, rules, arith}
+use Rattle.std.proofs.Common.{◌≡◌, ◌++◌, ◌∷◌, [], true, List, Some, length, refl, ap, sym, ◌∙◌, subst, length-append, arith}
 use Rattle.hex_board.specs.Positions.{Position}
-use Rattle.hex_game.specs.Games.{Played, board_of, is_legal_on, refusal_on, IsOnBoard, moved, replay, with_step}
-use Rattle.hex_game.specs.Kept.{Leads, IsFew, stones_on}
+use Rattle.hex_game.specs.Games.{Played, is_legal_on, refusal_on, IsOnBoard, moved, replay, with_step}
+use Rattle.hex_game.specs.Kept.{IsFew}
 use Rattle.hex_game.specs.declared.moves.Step.{Step}
 use Rattle.hex_game.proofs.Chains.{leads_to_replay, one_more, few_on, as_many_on}
-use Rattle.hex_game.proofs.Rules.{refused, allowed, fits_of_legal, same_rule, same_refusal, same_board}
-use Rattle.hex_game.proofs.Swaps.{lone_on_board}
+use Rattle.hex_game.proofs.Rules.{refused, allowed, same_rule, same_refusal, same_board}
 use Rattle.hex_game.proofs.history.Game.play.Goals as goal
 
 pub cause_against-requires : goal.cause_against-requires

@@ -1,7 +1,6 @@
-use Rattle.std.proofs.Common.{rules, ◌≡◌, ℕ, ◌≤◌, ◌++◌, ◌∷◌, [], List, ap, sym, ◌∙◌, subst}
-use Rattle.hex_board.specs.Positions.{Position}
+use Rattle.std.proofs.Common.{◌≡◌, List, ap, sym, ◌∙◌}
 use Rattle.hex_game.specs.Moves.{before_last}
-use Rattle.hex_game.specs.Games.{Played, without_last}
+use Rattle.hex_game.specs.Games.{without_last}
 use Rattle.hex_game.specs.declared.moves.Step.{Step}
 use Rattle.hex_game.proofs.Chains.{one_less, before_last-push}
 use Rattle.hex_game.proofs.history.Game.undo.Goals as goal

@@ -1,0 +1,12 @@
+pub mod RowLaws
+pub mod Stacks
+pub mod Choices
+pub mod Forward
+pub mod Backward
+pub mod Depths
+pub mod Completion
+pub mod Verdicts
+pub mod Going
+pub mod Printed
+pub mod Answering
+pub mod Finishing

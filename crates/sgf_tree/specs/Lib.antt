@@ -1,0 +1,9 @@
+pub mod Trees
+pub mod Rows
+pub mod Falls
+pub mod Grammar
+pub mod Printing
+pub mod Places
+pub mod Reading
+pub mod Standing
+pub mod Verdict

@@ -1,0 +1,15 @@
+pub mod Settings
+pub mod Words
+pub mod Blocks
+pub mod Paths
+pub mod Complete
+pub mod Walks
+pub mod Sequence
+pub mod Trees
+pub mod Descents
+pub mod Records
+pub mod Counts
+pub mod Growth
+pub mod Closing
+pub mod Opening
+pub mod Roots

@@ -1,0 +1,25 @@
+-- The opening words.
+use Rattle.std.specs.Prelude.{◌≡◌, ℕ, ◌+◌, ◌-◌, ◌<◌, ◌==◌, ◌&&◌, ◌||◌, if◌then◌else◌, Bool, List, length, slice_index}
+use Rattle.tree_words.specs.Settings.{Setting}
+use Rattle.tree_words.specs.Words.{root_at, area_at, end_of}
+use Rattle.tree_words.specs.Blocks.{LinkedBlock, size, covers, stays, header_or_move}
+use Rattle.tree_words.specs.Complete.{HasEmpties, allowed_cells}
+
+-- the root's block, where the empty cells of the board are this set
+abbrev pub root_block : Setting → ℕ → LinkedBlock
+root_block s empties = record { start = area_at s; parent = root_at s; empties = empties; cells = allowed_cells s }
+
+-- word i: NEXT is the word after the root's block, the root's link names it, its header and moves stand there, and each other word
+-- is 0
+abbrev pub opening_word : Setting → ℕ → ℕ → ℕ
+opening_word s empties i = let b = root_block s empties in
+    if i == 0 then b.start + size b
+    else (if i == root_at s + 1 then b.start
+    else (if covers i b && stays (i - b.start) then header_or_move b (i - b.start) else 0))
+
+-- the opening words of a setting
+pub record AreOpening (s : Setting) (words : List ℕ) : Type 0 where
+  pub long : length words ≡ end_of s
+  pub empties : ℕ
+  pub set : HasEmpties empties s.board
+  pub each : (i : ℕ) → i < end_of s → slice_index words i ≡ opening_word s empties i

@@ -1,0 +1,37 @@
+-- What a tree is searched for.
+use Rattle.std.specs.Prelude.{◌≡◌, ℕ, ◌+◌, ◌^◌, ◌<◌, ◌≤◌, true}
+use Rattle.hex_cells.specs.Sets.{has}
+use Rattle.hex_cells.specs.declared.colours.Colour.{Colour}
+use Rattle.hex_board.specs.Positions.{Position, IsPosition, is_empty_at}
+use Rattle.tree_words.specs.declared.settings.Knobs.{Knobs}
+
+-- a board, the player to move, the cells that he may play, and the knobs
+pub record Setting : Type 0 where
+  pub board : Position
+  pub player : Colour
+  pub allowed : ℕ
+  pub knobs : Knobs
+
+-- the ranges of the knobs
+pub record AreInRange (k : Knobs) : Type 0 where
+  pub workers : (1 ≤ k.workers) × (k.workers ≤ 64)
+  pub playouts : (1 ≤ k.playouts) × (k.playouts ≤ 1000000)
+  pub seed : k.seed < 2 ^ 64
+  pub words : (1024 ≤ k.words) × (k.words ≤ 16777216)
+  pub expand : (1 ≤ k.expand) × (k.expand ≤ 1000)
+  pub weight : k.weight ≤ 1024
+
+-- the allowed cells lie inside the empty cells of the board
+abbrev pub AreEmpty : ℕ → Position → Type 0
+AreEmpty allowed board = (k : ℕ) → has allowed k ≡ true → is_empty_at board k ≡ true
+
+-- there is an allowed cell
+abbrev pub IsAny : ℕ → Type 0
+IsAny allowed = (k : ℕ) × (has allowed k ≡ true)
+
+-- what holds of each setting that is searched
+pub record IsSetting (s : Setting) : Type 0 where
+  pub position : IsPosition s.board.size s.board.black s.board.white
+  pub any : IsAny s.allowed
+  pub empty : AreEmpty s.allowed s.board
+  pub ranges : AreInRange s.knobs

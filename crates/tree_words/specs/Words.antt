@@ -1,0 +1,94 @@
+-- The layout: what each word of a tree holds, and how its parts are read.
+use Rattle.std.specs.Prelude.{ℕ, ◌+◌, ◌*◌, ◌/◌, ◌%◌, ◌^◌, ◌==◌, List, slice_index, if◌then◌else◌}
+use Rattle.hex_cells.specs.declared.colours.Colour.{Colour}
+use Rattle.hex_cells.specs.declared.colours.Colour.TheVariants.{Black, White}
+use Rattle.tree_words.specs.Settings.{Setting}
+use Rattle.tree_words.specs.declared.types.Node.{Node}
+use Rattle.tree_words.specs.declared.types.Block.{Block}
+
+-- the first word of the root node, behind NEXT, TICKET and the records
+abbrev pub root_at : Setting → ℕ
+root_at s = s.knobs.playouts + 2
+
+-- the first word of the block area, behind the root's four words
+abbrev pub area_at : Setting → ℕ
+area_at s = s.knobs.playouts + 6
+
+-- the word after the block area, which is the number of words
+abbrev pub end_of : Setting → ℕ
+end_of s = s.knobs.playouts + s.knobs.words + 6
+
+-- NEXT: the first word that is not claimed yet
+abbrev pub next_in : List ℕ → ℕ
+next_in words = slice_index words 0
+
+-- TICKET: the next playout number
+abbrev pub ticket_in : List ℕ → ℕ
+ticket_in words = slice_index words 1
+
+-- the record of playout k
+abbrev pub record_in : List ℕ → ℕ → ℕ
+record_in words k = slice_index words (2 + k)
+
+-- a record is twice its leaf's first word, and 1 more where White won
+abbrev pub leaf_in : ℕ → ℕ
+leaf_in n = n / 2
+
+abbrev pub winner_in : ℕ → Colour
+winner_in n = if n % 2 == 0 then Black else White
+
+-- a move word is 256 times the place and the cell
+abbrev pub move_of : ℕ → ℕ → ℕ
+move_of place cell = 256 * place + cell
+
+abbrev pub cell_in : ℕ → ℕ
+cell_in move = move % 256
+
+abbrev pub place_in : ℕ → ℕ
+place_in move = move / 256
+
+-- visits and wins
+pub record Count : Type 0 where
+  pub visits : ℕ
+  pub wins : ℕ
+
+-- a tally and a seen word are 2^32 times the visits and the wins
+abbrev pub visits_in : ℕ → ℕ
+visits_in n = n / 2 ^ 32
+
+abbrev pub wins_in : ℕ → ℕ
+wins_in n = n % 2 ^ 32
+
+abbrev pub count_in : ℕ → Count
+count_in n = record { visits = visits_in n; wins = wins_in n }
+
+-- the words of the node at x: its move, its link, its tally and its seen word
+abbrev pub link_in : List ℕ → ℕ → ℕ
+link_in words x = slice_index words (x + 1)
+
+abbrev pub tally_in : List ℕ → ℕ → Count
+tally_in words x = count_in (slice_index words (x + 2))
+
+abbrev pub seen_in : List ℕ → ℕ → Count
+seen_in words x = count_in (slice_index words (x + 3))
+
+-- the fields of the node at x
+abbrev pub node_in : List ℕ → ℕ → Node
+node_in words x = record {
+  cell = cell_in (slice_index words x);
+  place = place_in (slice_index words x);
+  link = link_in words x;
+  visits = (tally_in words x).visits;
+  wins = (tally_in words x).wins;
+  seen = (seen_in words x).visits;
+  seen_wins = (seen_in words x).wins;
+}
+
+-- the fields of the header of the block at b: the first word of the parent node, the empty cells 0 to 63 and 64 to 120 as
+-- bits, and the count
+abbrev pub block_in : List ℕ → ℕ → Block
+block_in words b = record {
+  parent = slice_index words b;
+  empties = slice_index words (b + 2) * 2 ^ 64 + slice_index words (b + 1);
+  count = slice_index words (b + 3);
+}

@@ -1,0 +1,119 @@
+//! The root's children: the best one, and a report of all.
+
+ghost use Rattle.std.specs.Prelude.{◌≡◌, ℕ, ◌+◌, ◌*◌, ◌<◌, ◌≤◌, ◌^◌, length, slice_index, IfOk, IsTrue, ◌↔◌};
+ghost use Rattle.tree_words.specs.Roots.{HasRoot, IsBest, root_count, root_link, row_at, rows_of, Beats, Rise};
+
+use super::closed_tree::Closed;
+use super::readings::{cell_of, numbered, visits_of, wins_of};
+use hex_cells::Cell;
+use std::alloc::Global;
+
+/// The records begin behind NEXT and TICKET.
+const RECORDS_AT: usize = 2;
+
+/// A node has four words, and so has a block's header.
+const NODE_WORDS: usize = 4;
+
+/// The link is the second word of a node.
+const LINK_WORD: usize = 1;
+
+/// The tally is the third word of a node.
+const TALLY_WORD: usize = 2;
+
+/// The count is the fourth word of a block's header.
+const COUNT_WORD: usize = 3;
+
+/// A call wanted memory that it was not given.
+#[derive(Debug, Clone, Copy, PartialEq, Eq, Drop)]
+pub struct Memory;
+
+/// A child of the root: its cell, its visits and its wins.
+#[derive(Debug, Clone, Copy, PartialEq, Eq)]
+pub struct Row {
+    /// The cell.
+    pub cell: Cell,
+    /// How many playouts went through it.
+    pub visits: u32,
+    /// How many of these the player who placed the cell's stone won.
+    pub wins: u32,
+}
+
+impl Closed {
+    // The number of the root's children: 1 to 121.
+    fn root_count(&self) -> usize
+        ensures value { result ≡ root_count self.now.shape self.now.words }
+        ensures range { (1 ≤ result) × (result ≤ 121) }
+        ensures root { HasRoot self.now.shape self.now.words }
+    {
+        let link = self.root_link();
+        self.words()[link + COUNT_WORD] as usize
+    }
+
+    // The first word of the root's block.
+    fn root_link(&self) -> usize
+        ensures value { result ≡ root_link self.now.shape self.now.words }
+        ensures root { HasRoot self.now.shape self.now.words }
+    {
+        let root = self.shape().knobs().playouts as usize + RECORDS_AT;
+        self.words()[root + LINK_WORD] as usize
+    }
+
+    // The row of the root's child of a place.
+    fn row(&self, place: usize) -> Row
+        requires { place < root_count self.now.shape self.now.words }
+        ensures { result ≡ row_at self.now.shape self.now.words place }
+    {
+        let words = self.words();
+        let at = self.root_link() + NODE_WORDS + NODE_WORDS * place;
+        let tally = words[at + TALLY_WORD];
+        Row {
+            cell: numbered(cell_of(words[at]), self.shape().board().size()),
+            visits: visits_of(tally),
+            wins: wins_of(tally),
+        }
+    }
+}
+
+impl Closed {
+    // Whether the child of the first place is to be preferred to that of the second: it has more visits, or as many and a
+    // lower cell.
+    fn is_better(&self, first: usize, second: usize) -> bool
+        requires first { first < root_count self.now.shape self.now.words }
+        requires second { second < root_count self.now.shape self.now.words }
+        ensures { let a = row_at self.now.shape self.now.words first in let b = row_at self.now.shape self.now.words second in IsTrue result ↔ Beats a b }
+    {
+        let a = self.row(first);
+        let b = self.row(second);
+        b.visits < a.visits || (a.visits == b.visits && a.cell.number() < b.cell.number())
+    }
+}
+
+/// The root's child with most visits, and of those with as many the one with the least cell.
+pub fn best(closed: &Closed) -> Cell
+    ensures { IsBest closed.now.shape closed.now.words result }
+{
+    let mut best = 0;
+    for place in 1..closed.root_count() {
+        if closed.is_better(place, best) {
+            best = place;
+        }
+    }
+    closed.row(best).cell
+}
+
+/// One row for each child of the root, in rising order of cells.
+pub fn report(alloc: Global, closed: &Closed) -> Result<Vec<Row>, Memory>
+    ensures rows { IfOk result (λ rows. rows.items ≡ rows_of closed.now.shape closed.now.words) }
+    ensures rising { IfOk result (λ rows. Rise rows.items) }
+{
+    let count = closed.root_count();
+    let Ok(mut rows) = Vec::with_capacity(alloc, count) else {
+        return Err(Memory);
+    };
+    for place in 0..count {
+        let Ok(()) = rows.push(closed.row(place)) else {
+            return Err(Memory);
+        };
+    }
+    Ok(rows)
+}

@@ -1,0 +1,97 @@
+//! The shape of a tree: what it is searched for.
+
+ghost use Rattle.std.specs.Prelude.{◌≡◌, ℕ, ◌<◌, ◌^◌};
+ghost use Rattle.hex_board.specs.Positions.{IsPosition};
+ghost use Rattle.tree_words.specs.Settings.{AreEmpty, AreInRange, IsAny, IsSetting};
+ghost use Rattle.tree_words.specs.Words.{end_of};
+
+use super::settings::Knobs;
+use hex_board::Board;
+use hex_cells::{CellSet, Colour};
+use std::marker::Model;
+
+/// The words in front of the block area besides the records: NEXT, TICKET and the root's four.
+const FRONT_WORDS: u32 = 6;
+
+/// What a tree is searched for: a board, the player to move there, the cells that he may play, and the knobs.
+#[derive(Clone, Copy, Debug, PartialEq, Eq)]
+pub struct Shape {
+    board: Board,
+    colour: Colour,
+    allowed: CellSet,
+    knobs: Knobs,
+}
+
+impl Model for Shape {
+    ghost use Rattle.tree_words.specs.Settings.{Setting, IsSetting};
+
+    ghost Value = { Setting };
+
+    ghost view = { λ s. record { board = s.board; player = s.colour; allowed = s.allowed; knobs = s.knobs } };
+
+    ghost inverse = { λ s. record { board = s.board; colour = s.player; allowed = s.allowed; knobs = s.knobs } };
+
+    ghost invariant = { λ s. IsSetting (record { board = s.board; player = s.colour; allowed = s.allowed; knobs = s.knobs }) };
+}
+
+impl Shape {
+    /// The shape with these parts. Some cell is allowed, the allowed cells lie inside the empty cells of the board, and the
+    /// knobs are in their ranges.
+    pub fn make(board: &Board, colour: Colour, allowed: CellSet, knobs: &Knobs) -> Shape
+        requires any { IsAny allowed }
+        requires empty { AreEmpty allowed board.now }
+        requires ranges { AreInRange knobs.now }
+        ensures { result ≡ record { board = board.now; player = colour; allowed = allowed; knobs = knobs.now } }
+    {
+        // What each board keeps of itself, so that the shape keeps it too.
+        let _size = board.size();
+        let _black = board.stones(Colour::Black);
+        let _white = board.stones(Colour::White);
+        Shape {
+            board: *board,
+            colour,
+            allowed,
+            knobs: *knobs,
+        }
+    }
+
+    /// The board.
+    pub fn board(&self) -> &Board
+        ensures value { result.now ≡ self.now.board }
+        ensures setting { IsSetting self.now }
+    {
+        &self.board
+    }
+
+    /// The player to move.
+    pub fn colour(&self) -> Colour
+        ensures { result ≡ self.now.player }
+    {
+        self.colour
+    }
+
+    /// The allowed cells.
+    pub fn allowed(&self) -> CellSet
+        ensures value { result ≡ self.now.allowed }
+        ensures any { IsAny result }
+        ensures empty { AreEmpty result self.now.board }
+    {
+        self.allowed
+    }
+
+    /// The knobs.
+    pub fn knobs(&self) -> &Knobs
+        ensures value { result.now ≡ self.now.knobs }
+        ensures ranges { AreInRange result.now }
+    {
+        &self.knobs
+    }
+
+    /// The number of words of the tree: one for NEXT, one for TICKET, one for each record, four for the root, and the block
+    /// area's.
+    pub fn total(&self) -> u32
+        ensures { result ≡ end_of self.now }
+    {
+        self.knobs.playouts + self.knobs.words + FRONT_WORDS
+    }
+}
