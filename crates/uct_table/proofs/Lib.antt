@@ -1,3 +1,4 @@
 pub mod Roots
 pub mod Keeping
 pub mod ChoiceLaws
+pub mod Means

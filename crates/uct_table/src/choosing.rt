@@ -1,9 +1,27 @@
 //! Which of two children is preferred.
 
-ghost use Rattle.std.specs.Prelude.{◌≡◌, ◌≤◌, ℕ, List};
+ghost use Rattle.std.specs.Prelude.{◌≡◌, ◌≤◌, ℕ, List, nat_lt};
 ghost use Rattle.uct_table.specs.Choice.{Child, is_better, kept_of, choice_of};
+ghost use Rattle.uct_table.specs.Scores.{score_of};
 
-use super::scoring::{bonus, mean};
+use super::scoring::{bonus, is_mean_above, score};
+
+/// Whether a child's score is above `kept`, below p visits and with the weight c: exactly
+/// `kept < score(p, v, w, a, b, c)`.
+///
+/// A search that keeps the best child's score asks this of each later child. Most children are
+/// settled by products, without their mean's three divisions. Counts are from 0 to 1,048,576, v at
+/// least 1, and c is from 0 to 1,024.
+pub fn is_score_above(kept: u64, p: u32, v: u32, w: u32, a: u32, b: u32, c: u32) -> bool
+    requires parent { p ≤ 1048576 }
+    requires visited { 1 ≤ v }
+    requires counts { (v ≤ 1048576) × (w ≤ 1048576) × (a ≤ 1048576) × (b ≤ 1048576) }
+    requires weight { c ≤ 1024 }
+    ensures { result ≡ nat_lt kept (score_of p v w a b c) }
+{
+    let extra = bonus(p, v, c);
+    kept < extra || is_mean_above(kept - extra, v, w, a, b)
+}
 
 /// Whether the second child, with visits v2, wins w2, seen visits a2 and seen wins b2, is strictly
 /// preferred to the first, below p visits and with the weight c.
@@ -11,7 +29,7 @@ use super::scoring::{bonus, mean};
 /// True exactly where v1 is at least 1 and either v2 is 0 or the second score is the greater. So a
 /// child without visits is kept against every other, and equal scores keep the first. Counts are
 /// from 0 to 1,048,576, v1 and v2 may be 0, and c is from 0 to 1,024.
-#[tactic(auto, using(crate::proofs::Roots::bonus_falls), unfolding(crate::specs::Choice::is_better))]
+#[tactic(auto, unfolding(crate::specs::Choice::is_better))]
 pub fn better(
     p: u32,
     v1: u32,
@@ -32,22 +50,7 @@ pub fn better(
         let second : Child = record { visits = v2; wins = w2; seen = a2; seen_wins = b2 } in
         result ≡ is_better p c first second }
 {
-    if v1 == 0 {
-        return false;
-    }
-    if v2 == 0 {
-        return true;
-    }
-    let first = mean(v1, w1, a1, b1);
-    let second = mean(v2, w2, a2, b2);
-    // More visits never have the greater bonus, so the means alone often decide.
-    if v1 <= v2 && second <= first {
-        return false;
-    }
-    if v2 <= v1 && first < second {
-        return true;
-    }
-    first + bonus(p, v1, c) < second + bonus(p, v2, c)
+    v1 > 0 && (v2 == 0 || is_score_above(score(p, v1, w1, a1, b1, c), p, v2, w2, a2, b2, c))
 }
 
 /// The law of `better`: going through a list of children from the first on, and keeping the one

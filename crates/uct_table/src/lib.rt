@@ -13,10 +13,13 @@
 //! if better(p, kept.v, kept.w, kept.a, kept.b, next.v, next.w, next.a, next.b, c) { kept = next; }
 //! ```
 //!
+//! or, faster, keeps the best score as well, and asks [`is_score_above`] of each later child.
+//!
 //! **What is proved.** [`level`], [`root`] and [`score`] give exactly the numbers of
-//! `specs/Scores.antt`, and [`better`] is exactly its word in `specs/Choice.antt`. The law
-//! [`going_through_gives_choice`] says that the child kept at the end is Choice. Floats are only
-//! guesses: a guess is taken where its square shows that it is right.
+//! `specs/Scores.antt`, [`is_score_above`] is exactly the comparison with such a score, and [`better`]
+//! is exactly its word in `specs/Choice.antt`. The law [`going_through_gives_choice`] says that the
+//! child kept at the end is Choice. Floats are only guesses: a guess is taken where its square shows
+//! that it is right.
 //!
 //! **Only tested, or not said.** That scores choose well, and how long a call takes.
 //!
@@ -29,5 +32,5 @@ mod scoring;
 #[cfg(test)]
 mod tests;
 
-pub use choosing::{better, going_through_gives_choice};
+pub use choosing::{better, going_through_gives_choice, is_score_above};
 pub use scoring::{level, root, score};
