@@ -2,3 +2,5 @@ pub mod Told
 pub mod Causes
 pub mod Grew
 pub mod Mem
+pub mod Shelves
+pub mod MemShelves

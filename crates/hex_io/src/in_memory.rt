@@ -124,7 +124,8 @@ impl Link for MemLink {
     }
 }
 
-fn is_among(numbers: &[u32], number: usize) -> bool
+/// Whether the number stands among these.
+pub(crate) fn is_among(numbers: &[u32], number: usize) -> bool
     ensures { IsTrue result ↔ Contains numbers.now number }
 {
     numbers.iter().any(|&n| n as usize == number)

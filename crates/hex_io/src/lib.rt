@@ -4,8 +4,10 @@
 //! [`Link`] is the trait; [`MemLink`] is a link in memory, [`StdLink`] is standard input and output,
 //! [`ErrLink`] is standard error. What a link *tells* are the bytes still to come, those taken and
 //! those given, and an *ask* for each read that was answered: how much was taken and given when it
-//! began. A *count* of faults is known of every link, whether it tells or not. A [`Word`] is one
-//! word of a command line.
+//! began. A *shelf* has files by name: [`Shelf`] is the trait, [`MemShelf`] is a shelf in memory, and
+//! [`DirShelf`] has the files of the system. It tells its files, and of each fetch whether it was at
+//! fault. A *count* of faults is known of every link and shelf, whether it tells or not. A [`Word`]
+//! is one word of a command line.
 //!
 //! **A caller** is generic over `L: Link`, reads pieces into a buffer of its own and hands `write`
 //! what is left of an answer until all of it was given:
@@ -13,31 +15,41 @@
 //! ```text
 //! let count = link.read(&mut buffer)?;      // 0 only at the end
 //! let given = link.write(&answer[done..])?; // at least 1
+//! let file = shelf.fetch(alloc, "game.sgf")?; // `None` where there is no such file
 //! ```
 //!
 //! **What is proved.** Bytes are moved in order and none is lost or made up, where a link tells; a
 //! fault comes only where its count rose, and then no byte was moved. Generic code can't raise a
-//! count, so a body that gives up without a fault of its link is refused. A `MemLink` tells all and
-//! fails exactly where it was told to.
+//! count, so a body that gives up without a fault of its link is refused. A fetch answers what the
+//! files hold. A `MemLink` and a `MemShelf` tell all and fail exactly where they were told to.
 //!
-//! **Only tested, or not said.** What a terminal, a file or another program gave or got: `StdLink`
-//! and `ErrLink` tell nothing. A read may wait for its device.
+//! **Only tested, or not said.** What a terminal, a file or another program gave or got: `StdLink`,
+//! `ErrLink` and `DirShelf` tell nothing. A read may wait for its device.
 //!
-//! **Limits.** A count stands still at the greatest value of a `u64`. `MemLink::make` takes memory
-//! for all that it will hold; no other call takes any.
+//! **Limits.** A file of [`FILE_LIMIT`] bytes. A count stands still at the greatest value of a
+//! `u64`. `MemLink::make` takes memory for all that it will hold, and a fetch for what it answers;
+//! no other call takes any.
 #![tactic(auto)]
 
+mod directory;
+mod file_shelves;
+mod files;
 mod in_memory;
 mod links;
 mod refusals;
+mod shelves;
 mod source;
 mod standard;
 #[cfg(test)]
 mod tests;
 mod words;
 
+pub use directory::DirShelf;
+pub use file_shelves::MemShelf;
+pub use files::{Bytes, File};
 pub use in_memory::MemLink;
 pub use links::Link;
 pub use refusals::{LinkFault, Memory};
+pub use shelves::{FILE_LIMIT, Shelf, ShelfError};
 pub use standard::{ErrLink, StdLink};
 pub use words::Word;

@@ -1,6 +1,9 @@
 //! What no clause says: that a call succeeds with ample memory, and that the devices are there.
 
-use super::{ErrLink, Link, LinkFault, MemLink, StdLink, Word};
+use super::{
+    Bytes, DirShelf, ErrLink, File, Link, LinkFault, MemLink, MemShelf, Shelf, ShelfError, StdLink,
+    Word,
+};
 use std::alloc::{AllocError, Global};
 use std::convert::AsStr;
 
@@ -72,4 +75,56 @@ fn a_word_lends_its_text(rt: HostRuntime) -> Result<(), AllocError> {
     assert!(rt; word.as_str() == "--size=5");
     assert!(rt; AsStr::as_str(&word) == "--size=5");
     Ok(())
+}
+
+fn file(alloc: Global, name: &[u8], content: Vec<u8>) -> Result<File, AllocError> {
+    Ok(File {
+        name: Bytes::of(name.to_vec(alloc)?),
+        content: Bytes::of(content),
+    })
+}
+
+// The first file of a name counts, fetch number 2 fails, and a file is fetched up to 1 MiB.
+#[test]
+fn fetches_files(rt: HostRuntime) -> Result<(), AllocError> {
+    let alloc = rt.alloc();
+    let files = vec![in alloc;
+        file(alloc, b"a.sgf", b"(;)".to_vec(alloc)?)?,
+        file(alloc, b"a.sgf", b"x".to_vec(alloc)?)?,
+        file(alloc, b"longest", vec![in alloc; b' '; 1_048_576]?)?,
+        file(alloc, b"longer", vec![in alloc; b' '; 1_048_577]?)?,
+    ]?;
+    let Ok(mut shelf) = MemShelf::make(alloc, files, vec![in alloc; 2u32]?) else {
+        assert!(rt; false);
+        return Ok(());
+    };
+    let wanted: [(&str, Result<Option<usize>, ShelfError>); 6] = [
+        ("a.sgf", Ok(Some(3))),
+        ("A.sgf", Ok(None)),
+        ("a.sgf", Err(ShelfError::Fault)),
+        ("longest", Ok(Some(1_048_576))),
+        ("longer", Err(ShelfError::TooLong)),
+        ("a.sgf", Ok(Some(3))),
+    ];
+    for (name, want) in wanted {
+        let got = shelf
+            .fetch(alloc, name)
+            .map(|found| found.map(|bytes| bytes.len()));
+        assert!(rt; got == want);
+    }
+    Ok(())
+}
+
+// A path without a file, a directory, a device that never ends, and one that is empty.
+#[test]
+fn the_system_has_files(rt: HostRuntime) {
+    let mut shelf = DirShelf::new(&rt);
+    assert!(rt; shelf.fetch(rt.alloc(), "no such file") == Ok(None));
+    assert!(rt; shelf.fetch(rt.alloc(), "/") == Err(ShelfError::Fault));
+    let zeros = shelf.fetch(rt.alloc(), "/dev/zero").map(|_| ());
+    assert!(rt; zeros == Err(ShelfError::TooLong));
+    let nothing = shelf
+        .fetch(rt.alloc(), "/dev/null")
+        .map(|found| found.map(|bytes| bytes.len()));
+    assert!(rt; nothing == Ok(Some(0)));
 }

@@ -1,0 +1,57 @@
+//! The shelf: where a session fetches files from.
+
+ghost use Rattle.std.specs.Prelude.{◌≡◌, ◌≤◌, ℕ};
+ghost use Rattle.std.specs.declared.option.Option.{Option};
+ghost use Rattle.hex_io.specs.Causes.{Rose};
+ghost use Rattle.hex_io.specs.Shelves.{Shelved, Fetches, says};
+
+use std::alloc::{AllocError, Global};
+use thiserror::Error;
+
+/// The most bytes of a file that is fetched: 1 MiB, far more than any record of a game.
+pub const FILE_LIMIT: usize = 1_048_576;
+
+/// Why a file was not fetched.
+#[derive(Clone, Copy, Debug, PartialEq, Eq, Drop, Error)]
+pub enum ShelfError {
+    /// The shelf counted a fault.
+    #[error("the shelf is at fault")]
+    Fault,
+    /// The file has more than [`FILE_LIMIT`] bytes.
+    #[error("the file is too long")]
+    TooLong,
+    /// Memory ran out.
+    #[error("out of memory")]
+    Memory,
+}
+
+impl From<AllocError> for ShelfError {
+    ghost use Rattle.hex_io.specs.declared.shelves.ShelfError.{ShelfError};
+
+    ghost from_gives = { λ _ error. error ≡ ShelfError.Memory };
+
+    fn from(_refused: AllocError) -> ShelfError {
+        ShelfError::Memory
+    }
+}
+
+/// What files are fetched from, by name, with a count of its own faults.
+///
+/// A shelf may tell what it holds (`told`): its files, and for each fetch so far that did not run
+/// out of memory whether it was at fault. Its count of faults is known of every shelf, and stands
+/// still at the greatest value of a `u64`.
+pub trait Shelf {
+    ghost told: { Self → Option Shelved };
+
+    ghost faults: { Self → ℕ };
+
+    /// Fetches the bytes of the file of that name; `None` where no file has it. The files stay as
+    /// they are.
+    ///
+    /// A file of more than [`FILE_LIMIT`] bytes is `TooLong`. `Fault` comes only where the count
+    /// of faults rose. After want of memory nothing changed.
+    fn fetch(&mut self, alloc: Global, name: &str) -> Result<Option<Vec<u8>>, ShelfError>
+        ensures told { Fetches (told self.old) (told self.new) name.now (says (λ file. file.items) result) }
+        ensures cause { result ≡ Err ShelfError.Fault → Rose (faults self.old) (faults self.new) }
+        ensures later { faults self.old ≤ faults self.new };
+}
