@@ -2,8 +2,14 @@
 #![tactic(auto)]
 
 mod error;
+mod line;
 mod reading;
+mod setup;
+mod sizes;
+#[cfg(test)]
+mod tests;
 mod turns;
+mod values;
 mod writing;
 
 pub use error::GameError;

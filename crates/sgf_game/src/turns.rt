@@ -1,7 +1,11 @@
 //! The moves of a record as turns of a game.
 
-use hex_cells::Colour;
+use super::line::{ends, mover};
+use super::values::{spells, trimmed};
+use hex_cells::{Colour, Size, read_vertex};
 use hex_game::Move;
+use sgf_tree::{Bytes, Node};
+use std::alloc::{AllocError, Global};
 
 /// What the text of a move says.
 #[derive(Clone, Copy)]
@@ -17,4 +21,70 @@ pub struct Turn {
     pub colour: Colour,
     /// `None` where the text is no move, or where the move is not alone in its node.
     pub said: Option<Said>,
+}
+
+/// What a move's text says on a board of this size.
+fn said_by(text: &[u8], size: Size) -> Option<Said> {
+    if spells(text, b"swap-pieces") {
+        return Some(Said::Plays(Move::Swap));
+    }
+    if ends(text) {
+        return Some(Said::Ends);
+    }
+    match read_vertex(text, size) {
+        Some(cell) => Some(Said::Plays(Move::Stone(cell))),
+        None => None,
+    }
+}
+
+/// Whether the node has exactly one move.
+fn has_one_move(node: &Node) -> bool {
+    let mut found = false;
+    for prop in node.props.as_slice() {
+        if mover(prop).is_some() {
+            match prop.values.as_slice() {
+                [] => {}
+                [_] if !found => found = true,
+                _ => return false,
+            }
+        }
+    }
+    found
+}
+
+fn push_values(
+    turns: &mut Vec<Turn>,
+    colour: Colour,
+    values: &[Bytes],
+    size: Size,
+    alone: bool,
+) -> Result<(), AllocError> {
+    for value in values {
+        let said = if alone {
+            said_by(trimmed(value), size)
+        } else {
+            None
+        };
+        turns.push(Turn { colour, said })?;
+    }
+    Ok(())
+}
+
+fn push_node(turns: &mut Vec<Turn>, node: &Node, size: Size) -> Result<(), AllocError> {
+    let alone = has_one_move(node);
+    for prop in node.props.as_slice() {
+        if let Some(colour) = mover(prop) {
+            push_values(turns, colour, prop.values.as_slice(), size, alone)?;
+        }
+    }
+    Ok(())
+}
+
+/// The turns of a line, one for each move.
+pub fn turns_of(alloc: Global, line: &[&Node], size: Size) -> Result<Vec<Turn>, AllocError> {
+    let mut turns = Vec::new(alloc);
+    for node in line {
+        push_node(&mut turns, node, size)?;
+    }
+    Ok(turns)
 }
