@@ -7,7 +7,7 @@ use Rattle.hex_cells.specs.Sets.{with_cell}
 use Rattle.hex_cells.specs.Vertices.{vertex_cell}
 use Rattle.hex_board.specs.Positions.{Position}
 use Rattle.sgf_tree.specs.declared.lists.Node.{Node}
-use Rattle.sgf_game.specs.Values.{values_named, first_named}
+use Rattle.sgf_game.specs.Values.{has_named, values_named, first_named}
 
 abbrev pub is_eleven : Option (List ℕ) → Bool
 is_eleven None = false
@@ -49,10 +49,6 @@ is_in cells (Some k) = list_any (is_cell k) cells
 abbrev pub has_twice : List (Option ℕ) → Bool
 has_twice [] = false
 has_twice (cell ∷ cells) = is_in cells cell || has_twice cells
-
--- the node has a property of this name
-abbrev pub has_named : List ℕ → Node → Bool
-has_named name node = list_any (λ p. bytes_eq p.name name) node.props
 
 abbrev pub sets_up : Node → Bool
 sets_up node = has_named (codes "AB") node || has_named (codes "AW") node

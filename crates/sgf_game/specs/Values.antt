@@ -1,5 +1,6 @@
 -- The values of a node's properties.
 use Rattle.std.specs.Prelude.{ℕ, Bool, List, [], ◌∷◌, Option, Some, None, reverse, map, flat_map, if◌then◌else◌}
+use Rattle.std.specs.List.{list_any}
 use Rattle.std.specs.Str.{bytes_eq, str_to_ascii_lowercase}
 use Rattle.sgf_tree.specs.declared.lists.Prop.{Prop}
 use Rattle.sgf_tree.specs.declared.lists.Node.{Node}
@@ -14,9 +15,13 @@ without_front_space (x ∷ text) = if is_space x then without_front_space text e
 abbrev pub trimmed : List ℕ → List ℕ
 trimmed text = reverse (without_front_space (reverse (without_front_space text)))
 
--- the text is this word of small letters, each letter in either case
-abbrev pub spells : List ℕ → List ℕ → Bool
-spells text word = bytes_eq (str_to_ascii_lowercase text) word
+-- the text is this word, each letter in either case
+unfoldable pub spells : List ℕ → List ℕ → Bool
+spells text word = bytes_eq (str_to_ascii_lowercase text) (str_to_ascii_lowercase word)
+
+-- the node has a property of this name
+abbrev pub has_named : List ℕ → Node → Bool
+has_named name node = list_any (λ p. bytes_eq p.name name) node.props
 
 abbrev pub values_if : List ℕ → Prop → List (List ℕ)
 values_if name p = if bytes_eq p.name name then map trimmed p.values else []
