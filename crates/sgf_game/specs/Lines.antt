@@ -1,5 +1,5 @@
 -- The main line of a collection, and the moves in its nodes.
-use Rattle.std.specs.Prelude.{ℕ, Bool, ◌||◌, List, [], ◌∷◌, ◌++◌, map, flat_map, codes, if◌then◌else◌}
+use Rattle.std.specs.Prelude.{ℕ, Bool, ◌||◌, List, [], ◌∷◌, ◌++◌, Option, Some, None, map, flat_map, codes, if◌then◌else◌}
 use Rattle.std.specs.List.{list_any}
 use Rattle.std.specs.Str.{bytes_eq}
 use Rattle.hex_cells.specs.declared.colours.Colour.{Colour}
@@ -22,10 +22,16 @@ pub record Entry : Type 0 where
 abbrev pub entry : Colour → List ℕ → Entry
 entry colour value = record { colour = colour; text = trimmed value }
 
+-- the player whose moves the properties of this name hold
+abbrev pub mover : List ℕ → Option Colour
+mover name = if bytes_eq name (codes "B") then Some Black else (if bytes_eq name (codes "W") then Some White else None)
+
+abbrev pub entries_by : Option Colour → List (List ℕ) → List Entry
+entries_by None values = []
+entries_by (Some colour) values = map (entry colour) values
+
 abbrev pub entries_if : Prop → List Entry
-entries_if p =
-    if bytes_eq p.name (codes "B") then map (entry Black) p.values
-    else (if bytes_eq p.name (codes "W") then map (entry White) p.values else [])
+entries_if p = entries_by (mover p.name) p.values
 
 -- the moves in a node, in the order of its properties and values
 abbrev pub entries_in : Node → List Entry
@@ -35,9 +41,12 @@ entries_in node = flat_map entries_if node.props
 abbrev pub ends : List ℕ → Bool
 ends text = spells text (codes "resign") || spells text (codes "forfeit")
 
+abbrev pub has_end : List Entry → Bool
+has_end entries = list_any (λ e. ends e.text) entries
+
 -- a move in the node ends the line
 abbrev pub is_last : Node → Bool
-is_last node = list_any (λ e. ends e.text) (entries_in node)
+is_last node = has_end (entries_in node)
 
 -- up to the first node that ends the line, with that node
 abbrev pub up_to_end : List Node → List Node
