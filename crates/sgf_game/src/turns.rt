@@ -1,5 +1,9 @@
 //! The moves of a record as turns of a game.
 
+ghost use Rattle.std.specs.Prelude.{◌≡◌, ◌==◌, ◌++◌, length, map, IfOk, OnOk};
+ghost use Rattle.sgf_game.specs.Lines.{entry, entries_in};
+ghost use Rattle.sgf_game.specs.Turns.{said_by, turn_of, turns_in, turns_of};
+
 use super::line::{ends, mover};
 use super::values::{spells, trimmed};
 use hex_cells::{Colour, Size, read_vertex};
@@ -24,7 +28,9 @@ pub struct Turn {
 }
 
 /// What a move's text says on a board of this size.
-fn said_by(text: &[u8], size: Size) -> Option<Said> {
+fn said_by(text: &[u8], size: Size) -> Option<Said>
+    ensures { result ≡ said_by size text.now }
+{
     if spells(text, b"swap-pieces") {
         return Some(Said::Plays(Move::Swap));
     }
@@ -38,7 +44,9 @@ fn said_by(text: &[u8], size: Size) -> Option<Said> {
 }
 
 /// Whether the node has exactly one move.
-fn has_one_move(node: &Node) -> bool {
+fn has_one_move(node: &Node) -> bool
+    ensures { result ≡ (length (entries_in node.now) == 1) }
+{
     let mut found = false;
     for prop in node.props.as_slice() {
         if mover(prop).is_some() {
@@ -58,7 +66,9 @@ fn push_values(
     values: &[Bytes],
     size: Size,
     alone: bool,
-) -> Result<(), AllocError> {
+) -> Result<(), AllocError>
+    ensures { OnOk result (turns.new.items ≡ turns.old.items ++ map (turn_of size alone) (map (entry colour) values.now)) }
+{
     for value in values {
         let said = if alone {
             said_by(trimmed(value), size)
@@ -70,7 +80,9 @@ fn push_values(
     Ok(())
 }
 
-fn push_node(turns: &mut Vec<Turn>, node: &Node, size: Size) -> Result<(), AllocError> {
+fn push_node(turns: &mut Vec<Turn>, node: &Node, size: Size) -> Result<(), AllocError>
+    ensures { OnOk result (turns.new.items ≡ turns.old.items ++ turns_in size node.now) }
+{
     let alone = has_one_move(node);
     for prop in node.props.as_slice() {
         if let Some(colour) = mover(prop) {
@@ -81,7 +93,9 @@ fn push_node(turns: &mut Vec<Turn>, node: &Node, size: Size) -> Result<(), Alloc
 }
 
 /// The turns of a line, one for each move.
-pub fn turns_of(alloc: Global, line: &[&Node], size: Size) -> Result<Vec<Turn>, AllocError> {
+pub fn turns_of(alloc: Global, line: &[&Node], size: Size) -> Result<Vec<Turn>, AllocError>
+    ensures { IfOk result (λ turns. turns.items ≡ turns_of size (map (λ node. node.now) line.now)) }
+{
     let mut turns = Vec::new(alloc);
     for node in line {
         push_node(&mut turns, node, size)?;
