@@ -17,9 +17,13 @@ is_eleven (Some value) = bytes_eq value (codes "11")
 abbrev pub is_hex : Node → Bool
 is_hex root = is_eleven (first_named (codes "GM") root)
 
--- the size from 1 to 11 that a text names: its number, or its number twice with `:` between
-abbrev pub size_named : List ℕ → Option ℕ
-size_named text = find (λ n. bytes_eq text (decimal n) || bytes_eq text (decimal n ++ 58 ∷ decimal n)) (range_with_len 1 11)
+-- the text is the number n, or twice the number n with `:` between
+abbrev pub is_size : List ℕ → ℕ → Bool
+is_size text n = bytes_eq text (decimal n) || bytes_eq text (decimal n ++ 58 ∷ decimal n)
+
+-- the size from 1 to 11 that a text names
+unfoldable pub size_named : List ℕ → Option ℕ
+size_named text = find (is_size text) (range_with_len 1 11)
 
 abbrev pub size_or_eleven : Option (List ℕ) → Option ℕ
 size_or_eleven None = Some 11
