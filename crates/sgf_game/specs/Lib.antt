@@ -2,5 +2,6 @@ pub mod Values
 pub mod Lines
 pub mod Turns
 pub mod Setup
+pub mod Placing
 pub mod GameOf
 pub mod Record

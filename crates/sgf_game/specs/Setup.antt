@@ -54,15 +54,22 @@ abbrev pub has_twice : List (Option ℕ) → Bool
 has_twice [] = false
 has_twice (cell ∷ cells) = is_in cells cell || has_twice cells
 
-abbrev pub sets_up : Node → Bool
-sets_up node = has_named (codes "AB") node || has_named (codes "AW") node
+-- the node adds stones or takes them away
+abbrev pub changes : Node → Bool
+changes node = has_named (codes "AB") node || has_named (codes "AW") node || has_named (codes "AE") node
 
--- BadSetup: a node behind the root has AB or AW, or any has AE; or a value of the root's AB or AW is no vertex, or two
--- of them name one cell
+-- a node behind the root adds stones or takes them away, or the root takes some away
+abbrev pub is_changed_late : Node → List Node → Bool
+is_changed_late root behind = list_any changes behind || has_named (codes "AE") root
+
+-- a cell is none of the board, or stands twice
+abbrev pub are_misplaced : List (Option ℕ) → Bool
+are_misplaced cells = list_any is_none cells || has_twice cells
+
+-- BadSetup: a node behind the root has AB, AW or AE, or the root has AE; or a value of its AB or AW is no vertex, or two of
+-- them name one cell
 abbrev pub is_bad_setup : ℕ → Node → List Node → Bool
-is_bad_setup n root behind =
-    list_any sets_up behind || list_any (has_named (codes "AE")) (root ∷ behind)
-    || (list_any is_none (set_up_cells n root) || has_twice (set_up_cells n root))
+is_bad_setup n root behind = is_changed_late root behind || are_misplaced (set_up_cells n root)
 
 -- the set s with these cells too
 abbrev pub with_cells : ℕ → List (Option ℕ) → ℕ
