@@ -3,6 +3,7 @@
 
 mod error;
 mod line;
+mod playing;
 mod reading;
 mod setup;
 mod sizes;

@@ -1,21 +1,22 @@
 //! Reading: the game of a collection.
 
-ghost use Rattle.sgf_tree.specs.Printing.{HasText};
-ghost use Rattle.sgf_game.specs.GameOf.{game_of, OrMemory};
+ghost use Rattle.std.specs.Prelude.{ℕ, map};
+ghost use Rattle.sgf_game.specs.GameOf.{game_of, game_of_line, OrMemory};
+ghost use Rattle.sgf_game.specs.Playing.{EndsLast};
+ghost use Rattle.sgf_game.specs.Turns.{turns_of};
 
 use super::error::GameError;
 use super::line::line_of;
+use super::playing::game_of_turns;
 use super::setup::start_of;
 use super::sizes::{is_hex, size_of};
-use super::turns::{Said, Turn, turns_of};
-use hex_board::Board;
+use super::turns::turns_of;
 use hex_game::Game;
 use sgf_tree::{Collection, Node};
 use std::alloc::Global;
 
 /// The game of a collection's first tree, along its main line.
 pub fn to_game(alloc: Global, collection: &Collection) -> Result<Game, GameError>
-    requires { HasText collection.now.trees }
     ensures { OrMemory result (game_of collection.now.trees) }
 {
     match line_of(alloc, collection) {
@@ -24,7 +25,11 @@ pub fn to_game(alloc: Global, collection: &Collection) -> Result<Game, GameError
     }
 }
 
-fn game_of_line(alloc: Global, line: &[&Node]) -> Result<Game, GameError> {
+/// The game of a line that begins with its root.
+fn game_of_line(alloc: Global, line: &[&Node]) -> Result<Game, GameError>
+    requires { (n : ℕ) → EndsLast (turns_of n (map (λ node. node.now) line.now)) }
+    ensures { OrMemory result (game_of_line (map (λ node. node.now) line.now)) }
+{
     let [root, behind @ ..] = line else {
         return Err(GameError::NotHex);
     };
@@ -41,23 +46,4 @@ fn game_of_line(alloc: Global, line: &[&Node]) -> Result<Game, GameError> {
         Ok(turns) => game_of_turns(alloc, &start, &turns),
         Err(_) => Err(GameError::Memory),
     }
-}
-
-fn game_of_turns(alloc: Global, start: &Board, turns: &[Turn]) -> Result<Game, GameError> {
-    let mut game = match Game::make(alloc, start) {
-        Ok(game) => game,
-        Err(_) => return Err(GameError::Memory),
-    };
-    for (index, turn) in turns.iter().enumerate() {
-        match turn.said {
-            Some(Said::Ends) => return Ok(game),
-            Some(Said::Plays(what)) if game.play(turn.colour, what).is_ok() => {}
-            _ => {
-                return Err(GameError::BadMove {
-                    index: index as u32,
-                });
-            }
-        }
-    }
-    Ok(game)
 }
