@@ -1,7 +1,7 @@
 -- One more step, and one less, of a history.
 use Rattle.std.proofs.Common.{◌≡◌, Bool, true, cond, suc, List, [], ◌∷◌, ◌++◌, length, refl, ap, sym, ◌∙◌, subst, append-nil, append_assoc}
 use Rattle.hex_board.specs.Positions.{Position}
-use Rattle.hex_game.specs.Games.{is_legal_on, after_step, replay_on, replay, moved}
+use Rattle.hex_game.specs.Games.{is_legal_on, after_step, replay_on, replay, moved, AreLegal}
 use Rattle.hex_game.specs.Kept.{IsFew, Leads}
 use Rattle.hex_game.specs.Moves.{before_last}
 use Rattle.hex_game.specs.declared.moves.Step.{Step}
@@ -107,3 +107,27 @@ replay_on-push start done now (first ∷ steps) step =
 pub replay-push : (start : Position) (steps : List Step) (step : Step) → replay start (steps ++ step ∷ []) ≡ after_step start steps (replay start steps) step
 unfolding replay
 replay-push start steps step = replay_on-push start [] start steps step
+
+-- each step is legal where it was taken
+legal_on : (start : Position) (before : List Step) (now : Position) (steps : List Step) (boards : List Position) (last : Position)
+    → Leads start before now steps boards last → now ≡ replay start before
+    → (done : List Step) (step : Step) (rest : List Step) → done ++ step ∷ rest ≡ steps → is_legal_on start (before ++ done) (replay start (before ++ done)) step ≡ true
+legal_on start before now [] boards last h e [] step rest q = absurd (cc)
+legal_on start before now [] boards last h e (d ∷ done) step rest q = absurd (cc)
+legal_on start before now (s ∷ steps) [] last h e done step rest q = absurd h
+legal_on start before now (s ∷ steps) (board ∷ boards) last h e [] step rest q =
+    let same : s ≡ step = cc in
+    let at_end : before ++ [] ≡ before = append-nil before in
+    rw (at_end, ← e) (subst (λ (t : Step). is_legal_on start before now t ≡ true) same h.2)
+legal_on start before now (s ∷ steps) (board ∷ boards) last h e (d ∷ done) step rest q =
+    let same : d ≡ s = cc in
+    let more : done ++ step ∷ rest ≡ steps = cc in
+    let next : after_step start before now s ≡ replay start (before ++ s ∷ []) =
+    ap (λ (p : Position). after_step start before p s) e ∙ sym (replay-push start before s) in
+    let regroup : (before ++ s ∷ []) ++ done ≡ before ++ d ∷ done = append_assoc before (s ∷ []) done ∙ ap (λ (t : Step). before ++ t ∷ done) (sym same) in
+    subst (λ (l : List Step). is_legal_on start l (replay start l) step ≡ true) regroup
+    (legal_on start (before ++ s ∷ []) (after_step start before now s) steps boards last h.3 next done step rest more)
+
+pub legal_steps : (start : Position) (steps : List Step) (boards : List Position) (last : Position) → Leads start [] start steps boards last → AreLegal start steps
+unfolding replay
+legal_steps start steps boards last h = λ done step rest q. legal_on start [] start steps boards last h refl done step rest q

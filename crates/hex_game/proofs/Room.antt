@@ -70,7 +70,7 @@ two_lt false false m n j a h = omega arith
 none_lt : (x y : Bool) (m n j : ℕ) → x ≡ false → y ≡ false → m + n ≤ j → (cond {A = ℕ} x 1 0 + m) + (cond {A = ℕ} y 1 0 + n) < suc j
 none_lt x y m n j e f h = rw (e, f) (omega arith)
 
-members_two : (b w j : ℕ) → Apart b w → members b j + members w j ≤ j
+pub members_two : (b w j : ℕ) → Apart b w → members b j + members w j ≤ j
 unfolding members
 members_two b w zero a = omega arith
 members_two b w (suc j) a = two_le (has b j) (has w j) (members b j) (members w j) j (a j) (members_two b w j a)

@@ -97,3 +97,8 @@ Fits now steps Swap = is_some (lone_black_stone steps) ≡ true
 
 abbrev pub new_game : Position → Played
 new_game start = record { start = start; steps = [] }
+
+-- each step is legal in the game that the steps before it make
+abbrev pub AreLegal : Position → List Step → Type 0
+AreLegal start steps =
+    (done : List Step) (step : Step) (rest : List Step) → done ++ step ∷ rest ≡ steps → is_legal (record { start = start; steps = done }) step ≡ true

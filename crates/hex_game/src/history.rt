@@ -1,9 +1,9 @@
 //! A game: a start board, the steps taken from it, and the board now.
 
-ghost use Rattle.std.specs.Prelude.{◌≡◌, ℕ, ◌<◌, ◌≤◌, ◌++◌, ◌∷◌, [], ◌↔◌, List, true, false, IfOk, OnOk, OnErr, IfErr, IsErr, vec_capacity, Some, None};
+ghost use Rattle.std.specs.Prelude.{◌≡◌, ℕ, ◌<◌, ◌≤◌, ◌++◌, ◌∷◌, [], ◌↔◌, List, true, false, IfOk, OnOk, OnErr, IfErr, IsErr, vec_capacity, length, Some, None};
 ghost use Rattle.hex_board.specs.Positions.{Position, empty_board};
 ghost use Rattle.hex_game.specs.Moves.{step_of, lone_black_stone};
-ghost use Rattle.hex_game.specs.Games.{Played, new_game, board_of, is_legal, is_legal_on, refusal, refusal_on, with_step, without_last, moved, IsOnBoard};
+ghost use Rattle.hex_game.specs.Games.{Played, new_game, board_of, is_legal, is_legal_on, refusal, refusal_on, with_step, without_last, moved, IsOnBoard, AreLegal};
 
 use super::moves::{Memory, Move, NoMove, PlayError, Step};
 use super::rule::{board_after, cause_against};
@@ -123,5 +123,15 @@ impl Game {
         ensures { result.now ≡ self.now.steps }
     {
         &self.steps
+    }
+
+    /// A law of each game: each of its steps was legal where it was taken, and there are at most [`MOST_STEPS`]. It
+    /// does nothing.
+    pub fn steps_are_legal(&self)
+        ensures legal { AreLegal self.now.start self.now.steps }
+        ensures few { length self.now.steps ≤ 122 }
+    {
+        // That the board's two sets of stones are apart bounds the steps.
+        let _stones = self.board.stones(Colour::Black);
     }
 }

@@ -1,0 +1,58 @@
+-- The main line of a collection, and the moves in its nodes.
+use Rattle.std.specs.Prelude.{ℕ, Bool, ◌||◌, List, [], ◌∷◌, ◌++◌, Option, Some, None, map, flat_map, codes, if◌then◌else◌}
+use Rattle.std.specs.List.{list_any}
+use Rattle.std.specs.Str.{bytes_eq}
+use Rattle.hex_cells.specs.declared.colours.Colour.{Colour}
+use Rattle.hex_cells.specs.declared.colours.Colour.TheVariants.{Black, White}
+use Rattle.sgf_tree.specs.declared.lists.Prop.{Prop}
+use Rattle.sgf_tree.specs.declared.lists.Node.{Node}
+use Rattle.sgf_tree.specs.Trees.{GameTrees, none, tree}
+use Rattle.sgf_game.specs.Values.{trimmed, spells}
+
+-- the nodes of the first tree, then those of the first of its kids, and so on
+abbrev pub main_line : GameTrees → List Node
+main_line none = []
+main_line (tree nodes kids others) = nodes ++ main_line kids
+
+-- a move of a record: a value of B or W
+pub record Entry : Type 0 where
+  pub colour : Colour
+  pub text : List ℕ
+
+abbrev pub entry : Colour → List ℕ → Entry
+entry colour value = record { colour = colour; text = trimmed value }
+
+-- the player whose moves the properties of this name hold
+abbrev pub mover : List ℕ → Option Colour
+mover name = if bytes_eq name (codes "B") then Some Black else (if bytes_eq name (codes "W") then Some White else None)
+
+abbrev pub entries_by : Option Colour → List (List ℕ) → List Entry
+entries_by None values = []
+entries_by (Some colour) values = map (entry colour) values
+
+abbrev pub entries_if : Prop → List Entry
+entries_if p = entries_by (mover p.name) p.values
+
+-- the moves in a node, in the order of its properties and values
+abbrev pub entries_in : Node → List Entry
+entries_in node = flat_map entries_if node.props
+
+-- the words that end a game without a step
+abbrev pub ends : List ℕ → Bool
+ends text = spells text (codes "resign") || spells text (codes "forfeit")
+
+abbrev pub has_end : List Entry → Bool
+has_end entries = list_any (λ e. ends e.text) entries
+
+-- a move in the node ends the line
+abbrev pub is_last : Node → Bool
+is_last node = has_end (entries_in node)
+
+-- up to the first node that ends the line, with that node
+abbrev pub up_to_end : List Node → List Node
+up_to_end [] = []
+up_to_end (node ∷ nodes) = node ∷ (if is_last node then [] else up_to_end nodes)
+
+-- the nodes that are read
+abbrev pub line_of : GameTrees → List Node
+line_of trees = up_to_end (main_line trees)

@@ -1,0 +1,52 @@
+-- The record of a game.
+use Rattle.std.specs.Prelude.{ℕ, List, [], ◌∷◌, ◌++◌, map, filter, codes}
+use Rattle.std.specs.Fmt.{decimal}
+use Rattle.hex_cells.specs.Sets.{has}
+use Rattle.hex_cells.specs.Vertices.{vertex_of}
+use Rattle.hex_cells.specs.declared.colours.Colour.{Colour}
+use Rattle.hex_cells.specs.declared.colours.Colour.TheVariants.{Black, White}
+use Rattle.hex_board.specs.Joined.{cells_of}
+use Rattle.hex_board.specs.Positions.{Position}
+use Rattle.hex_game.specs.Games.{Played}
+use Rattle.hex_game.specs.declared.moves.Move.{Move}
+use Rattle.hex_game.specs.declared.moves.Move.TheVariants.{Stone, Swap}
+use Rattle.hex_game.specs.declared.moves.Step.{Step}
+use Rattle.sgf_tree.specs.declared.lists.Prop.{Prop}
+use Rattle.sgf_tree.specs.declared.lists.Node.{Node}
+use Rattle.sgf_tree.specs.Trees.{GameTrees, none, tree}
+
+abbrev pub prop_of : List ℕ → List (List ℕ) → Prop
+prop_of name values = record { name = name; values = values }
+
+-- the vertices of a set's cells, in rising order
+abbrev pub vertices : ℕ → ℕ → List (List ℕ)
+vertices n set = map (vertex_of n) (filter (has set) (cells_of n))
+
+-- a property stands only where it has a value
+abbrev pub prop_if : List ℕ → List (List ℕ) → List Prop
+prop_if name [] = []
+prop_if name (value ∷ values) = prop_of name (value ∷ values) ∷ []
+
+-- `FF[4]GM[11]SZ[n]`, then AB and AW where there are such start stones
+abbrev pub root_of : Position → Node
+root_of start = record {
+  props =
+      prop_of (codes "FF") (codes "4" ∷ []) ∷ prop_of (codes "GM") (codes "11" ∷ []) ∷ prop_of (codes "SZ") (decimal start.size ∷ [])
+      ∷ (prop_if (codes "AB") (vertices start.size start.black) ++ prop_if (codes "AW") (vertices start.size start.white));
+}
+
+abbrev pub letter_of : Colour → List ℕ
+letter_of Black = codes "B"
+letter_of White = codes "W"
+
+abbrev pub text_of : ℕ → Move → List ℕ
+text_of n (Stone cell) = vertex_of n cell
+text_of n Swap = codes "swap-pieces"
+
+-- the node of a step
+abbrev pub node_of : ℕ → Step → Node
+node_of n step = record { props = prop_of (letter_of step.colour) (text_of n step.what ∷ []) ∷ [] }
+
+-- Record: one tree without kids, of the root and a node for each step
+abbrev pub record_of : Played → GameTrees
+record_of game = tree (root_of game.start ∷ map (node_of game.start.size) game.steps) none none

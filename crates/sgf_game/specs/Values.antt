@@ -1,0 +1,39 @@
+-- The values of a node's properties.
+use Rattle.std.specs.Prelude.{ℕ, Bool, List, [], ◌∷◌, Option, Some, None, reverse, map, flat_map, if◌then◌else◌}
+use Rattle.std.specs.List.{list_any}
+use Rattle.std.specs.Str.{bytes_eq, str_to_ascii_lowercase}
+use Rattle.sgf_tree.specs.declared.lists.Prop.{Prop}
+use Rattle.sgf_tree.specs.declared.lists.Node.{Node}
+use Rattle.sgf_tree.specs.Grammar.{is_space}
+
+-- without the white space at its front
+abbrev pub without_front_space : List ℕ → List ℕ
+without_front_space [] = []
+without_front_space (x ∷ text) = if is_space x then without_front_space text else x ∷ text
+
+-- without the white space at both ends
+abbrev pub trimmed : List ℕ → List ℕ
+trimmed text = reverse (without_front_space (reverse (without_front_space text)))
+
+-- the text is this word, each letter in either case
+unfoldable pub spells : List ℕ → List ℕ → Bool
+spells text word = bytes_eq (str_to_ascii_lowercase text) (str_to_ascii_lowercase word)
+
+-- the node has a property of this name
+abbrev pub has_named : List ℕ → Node → Bool
+has_named name node = list_any (λ p. bytes_eq p.name name) node.props
+
+abbrev pub values_if : List ℕ → Prop → List (List ℕ)
+values_if name p = if bytes_eq p.name name then map trimmed p.values else []
+
+-- the values that the node has under this name, in the order in which they stand
+abbrev pub values_named : List ℕ → Node → List (List ℕ)
+values_named name node = flat_map (values_if name) node.props
+
+abbrev pub first_of : List (List ℕ) → Option (List ℕ)
+first_of [] = None
+first_of (value ∷ values) = Some value
+
+-- the first value that the node has under this name
+abbrev pub first_named : List ℕ → Node → Option (List ℕ)
+first_named name node = first_of (values_named name node)

@@ -1,0 +1,90 @@
+//! The values of a node's properties, without the white space at their ends.
+
+ghost use Rattle.std.specs.Prelude.{◌≡◌, reverse, MatchOption, Some, None};
+ghost use Rattle.std.specs.Str.{bytes_eq};
+ghost use Rattle.sgf_tree.specs.Grammar.{is_space};
+ghost use Rattle.sgf_game.specs.Values.{without_front_space, trimmed, spells, has_named, first_named};
+
+use sgf_tree::{Bytes, Node, Prop};
+
+/// White space is bytes 9 to 13 and 32.
+fn is_space(byte: u8) -> bool
+    ensures { result ≡ is_space byte }
+{
+    9 <= byte && byte <= 13 || byte == 32
+}
+
+fn without_front_space(text: &[u8]) -> &[u8]
+    ensures { result.now ≡ without_front_space text.now }
+{
+    let mut rest = text;
+    while let [first, more @ ..] = rest {
+        if !is_space(*first) {
+            break;
+        }
+        rest = more;
+    }
+    rest
+}
+
+fn without_back_space(text: &[u8]) -> &[u8]
+    ensures { result.now ≡ reverse (without_front_space (reverse text.now)) }
+{
+    let mut rest = text;
+    while let [more @ .., last] = rest {
+        if !is_space(*last) {
+            break;
+        }
+        rest = more;
+    }
+    rest
+}
+
+/// A value without the white space at both ends.
+pub fn trimmed(value: &Bytes) -> &[u8]
+    ensures { result.now ≡ trimmed value.now }
+{
+    without_back_space(without_front_space(value.as_slice()))
+}
+
+/// Whether the property has this name.
+#[tactic(auto, using(crate::proofs::Texts::same_text))]
+pub fn is_named(prop: &Prop, name: &[u8]) -> bool
+    ensures { result ≡ bytes_eq prop.now.name name.now }
+{
+    prop.name.as_slice() == name
+}
+
+/// Whether the text is this word, each letter in either case.
+#[tactic(auto, using(crate::proofs::Texts::same_text), unfolding(crate::specs::Values::spells))]
+pub fn spells(text: &[u8], word: &[u8]) -> bool
+    ensures { result ≡ spells text.now word.now }
+{
+    text.eq_ignore_ascii_case(word)
+}
+
+/// Whether the node has a property of this name.
+pub fn has_named(node: &Node, name: &[u8]) -> bool
+    ensures { result ≡ has_named name.now node.now }
+{
+    for prop in node.props.as_slice() {
+        if is_named(prop, name) {
+            return true;
+        }
+    }
+    false
+}
+
+/// The first value that the node has under this name.
+pub fn first_named<'a>(node: &'a Node, name: &[u8]) -> Option<&'a [u8]>
+    ensures { MatchOption result (first_named name.now node.now ≡ None) (λ value. first_named name.now node.now ≡ Some value.now) }
+{
+    for prop in node.props.as_slice() {
+        if is_named(prop, name) {
+            if let [value, ..] = prop.values.as_slice() {
+                return Some(trimmed(value));
+            }
+        }
+    }
+    None
+}

@@ -1,0 +1,126 @@
+//! Writing: the record of a game.
+
+ghost use Rattle.std.specs.Prelude.{◌≡◌, ◌≤◌, IfOk, Ok};
+ghost use Rattle.sgf_tree.specs.Trees.{depth};
+ghost use Rattle.sgf_tree.specs.Printing.{HasText, max_depth};
+ghost use Rattle.sgf_game.specs.GameOf.{game_of};
+ghost use Rattle.sgf_game.specs.Record.{record_of};
+
+use super::sizes::write_number;
+use hex_board::Board;
+use hex_cells::{CellSet, Colour, Size, VERTEX_LEN, write_vertex};
+use hex_game::{Game, Move, Step};
+use sgf_tree::{Bytes, Collection, Memory, Node, Nodes, Prop, Props, Tree, Trees, Values};
+use std::alloc::{AllocError, Global};
+
+/// The record of a game.
+pub fn from_game(alloc: Global, game: &Game) -> Result<Collection, Memory>
+    ensures record_is { IfOk result (λ c. c.trees ≡ record_of game.now) }
+    // Its game is the game.
+    ensures same { IfOk result (λ c. game_of c.trees ≡ Ok game.now) }
+    // So it may be printed.
+    ensures text { IfOk result (λ c. HasText c.trees) }
+    ensures shallow { IfOk result (λ c. depth c.trees ≤ max_depth) }
+{
+    match record_of(alloc, game) {
+        Ok(collection) => Ok(collection),
+        Err(_) => Err(Memory),
+    }
+}
+
+fn record_of(alloc: Global, game: &Game) -> Result<Collection, AllocError> {
+    let size = game.start().size();
+    let mut nodes = Vec::new(alloc);
+    nodes.push(root_of(alloc, game.start())?)?;
+    for step in game.steps() {
+        nodes.push(node_of(alloc, step, size)?)?;
+    }
+    let tree = Tree {
+        nodes: Nodes::of(nodes),
+        kids: Trees::of(Vec::new(alloc)),
+    };
+    let mut trees = Vec::new(alloc);
+    trees.push(tree)?;
+    Ok(Collection {
+        trees: Trees::of(trees),
+    })
+}
+
+/// The root: FF, GM and SZ, and then AB and AW where there are such start stones.
+fn root_of(alloc: Global, start: &Board) -> Result<Node, AllocError> {
+    let size = start.size();
+    let mut digits = [0; 2];
+    let length = write_number(size.get(), &mut digits);
+    let mut props = Vec::new(alloc);
+    props.push(prop_of(alloc, b"FF", b"4")?)?;
+    props.push(prop_of(alloc, b"GM", b"11")?)?;
+    props.push(prop_of(alloc, b"SZ", &digits[..length])?)?;
+    push_stones(alloc, &mut props, b"AB", start.stones(Colour::Black), size)?;
+    push_stones(alloc, &mut props, b"AW", start.stones(Colour::White), size)?;
+    Ok(Node {
+        props: Props::of(props),
+    })
+}
+
+/// The node of a step: B or W with its one move.
+fn node_of(alloc: Global, step: &Step, size: Size) -> Result<Node, AllocError> {
+    let name: &[u8] = match step.colour {
+        Colour::Black => b"B",
+        Colour::White => b"W",
+    };
+    let prop = match step.what {
+        Move::Swap => prop_of(alloc, name, b"swap-pieces")?,
+        Move::Stone(cell) => {
+            let mut vertex = [0; VERTEX_LEN];
+            let length = write_vertex(cell, size, &mut vertex);
+            prop_of(alloc, name, &vertex[..length])?
+        }
+    };
+    let mut props = Vec::new(alloc);
+    props.push(prop)?;
+    Ok(Node {
+        props: Props::of(props),
+    })
+}
+
+/// A property of one value.
+fn prop_of(alloc: Global, name: &[u8], value: &[u8]) -> Result<Prop, AllocError> {
+    let mut values = Vec::new(alloc);
+    values.push(Bytes::of(value.to_vec(alloc)?))?;
+    Ok(Prop {
+        name: Bytes::of(name.to_vec(alloc)?),
+        values: Values::of(values),
+    })
+}
+
+/// The property of these stones, where there are any.
+fn push_stones(
+    alloc: Global,
+    props: &mut Vec<Prop>,
+    name: &[u8],
+    stones: CellSet,
+    size: Size,
+) -> Result<(), AllocError> {
+    if stones.is_empty() {
+        return Ok(());
+    }
+    let values = vertices(alloc, stones, size)?;
+    props.push(Prop {
+        name: Bytes::of(name.to_vec(alloc)?),
+        values: Values::of(values),
+    })?;
+    Ok(())
+}
+
+/// The vertices of the cells, in rising order.
+fn vertices(alloc: Global, stones: CellSet, size: Size) -> Result<Vec<Bytes>, AllocError> {
+    let mut values = Vec::new(alloc);
+    let mut rest = stones;
+    while let Some(cell) = rest.least() {
+        let mut vertex = [0; VERTEX_LEN];
+        let length = write_vertex(cell, size, &mut vertex);
+        values.push(Bytes::of(vertex[..length].to_vec(alloc)?))?;
+        rest = rest.without(cell);
+    }
+    Ok(values)
+}
