@@ -21,6 +21,10 @@ pub enum Fail {
     Illegal = 4,
     /// There is no step to take back.
     NoUndo = 6,
+    /// The shelf has no file of the name, or it is too long, or no record of a game.
+    NoLoad = 7,
+    /// The shelf was at fault.
+    ReadFault = 8,
 }
 
 impl Fail {
@@ -34,6 +38,8 @@ impl Fail {
             Fail::Size => "unacceptable size",
             Fail::Illegal => "illegal move",
             Fail::NoUndo => "cannot undo",
+            Fail::NoLoad => "cannot load file",
+            Fail::ReadFault => "read fault",
         }
     }
 }

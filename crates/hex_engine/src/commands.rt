@@ -8,28 +8,46 @@ use std::alloc::{AllocError, Global};
 /// A command of the protocol (GTP version 2, draft, with the vertices of Hex).
 #[derive(Clone, Copy, Debug, PartialEq, Eq)]
 pub enum Command {
+    /// Empties the board, and gives it a size.
     BoardSize,
+    /// Empties the board.
     ClearBoard,
+    /// Asks whether a command is built.
     KnownCommand,
+    /// Asks for the names of all commands.
     ListCommands,
+    /// Fetches the record of a game.
+    LoadSgf,
+    /// Asks for the engine's name.
     Name,
+    /// Makes a move.
     Play,
+    /// Asks for the record of the game.
+    PrintSgf,
+    /// Asks for the version of the protocol.
     ProtocolVersion,
+    /// Ends the session.
     Quit,
+    /// Asks for the board as text.
     ShowBoard,
+    /// Takes back the last step.
     Undo,
+    /// Asks for the engine's version.
     Version,
+    /// Asks who is joined.
     Winner,
 }
 
 /// All commands, in the order in which `list_commands` names them.
-pub const COMMANDS: [Command; 12] = [
+pub const COMMANDS: [Command; 14] = [
     Command::BoardSize,
     Command::ClearBoard,
     Command::KnownCommand,
     Command::ListCommands,
+    Command::LoadSgf,
     Command::Name,
     Command::Play,
+    Command::PrintSgf,
     Command::ProtocolVersion,
     Command::Quit,
     Command::ShowBoard,
@@ -59,8 +77,10 @@ impl Command {
             Command::ClearBoard => "clear_board",
             Command::KnownCommand => "known_command",
             Command::ListCommands => "list_commands",
+            Command::LoadSgf => "loadsgf",
             Command::Name => "name",
             Command::Play => "play",
+            Command::PrintSgf => "printsgf",
             Command::ProtocolVersion => "protocol_version",
             Command::Quit => "quit",
             Command::ShowBoard => "showboard",
@@ -76,7 +96,7 @@ impl Command {
 pub fn command_list(alloc: Global) -> Result<Vec<u8>, AllocError>
     ensures { IfOk result (λ text. text.items ≡ all_names) }
 {
-    b"boardsize\nclear_board\nknown_command\nlist_commands\nname\nplay\nprotocol_version\nquit\nshowboard\nundo\nversion\nwinner".to_vec(
+    b"boardsize\nclear_board\nknown_command\nlist_commands\nloadsgf\nname\nplay\nprintsgf\nprotocol_version\nquit\nshowboard\nundo\nversion\nwinner".to_vec(
         alloc,
     )
 }

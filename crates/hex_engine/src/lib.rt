@@ -19,6 +19,7 @@
 
 mod answers;
 mod commands;
+mod files;
 mod forms;
 mod picture;
 mod standing;

@@ -1,22 +1,29 @@
 //! The engine and its commands.
 
-ghost use Rattle.std.specs.Prelude.{◌≡◌, ℕ, List, [], IfOk, OnErr, Some, None, codes};
+ghost use Rattle.std.specs.Prelude.{◌≡◌, ◌≤◌, ℕ, Bool, List, [], IfOk, OnErr, Some, None, codes};
+ghost use Rattle.hex_io.specs.Causes.{Rose};
+ghost use Rattle.sgf_tree.specs.Printing.{trees_print};
+ghost use Rattle.sgf_game.specs.Record.{record_of};
+ghost use Rattle.hex_engine.specs.Left.{Left, nothing_left};
+ghost use Rattle.hex_engine.specs.Loads.{Uses};
 ghost use Rattle.hex_game.specs.Games.{board_of};
 ghost use Rattle.hex_engine.specs.Commands.{all_names};
 ghost use Rattle.hex_board.specs.Joined.{winner_of};
 ghost use Rattle.hex_engine.specs.Forms.{sizes_of, IsSaidOf};
 ghost use Rattle.hex_engine.specs.Picture.{picture};
 ghost use Rattle.hex_engine.specs.Standing.{Standing, opening};
-ghost use Rattle.hex_engine.specs.Replies.{Reacts, Done, Quit, reaction, replied, obeyed, if_bare, stays, moves_on, resized, playing, played, undone, knowing, winner_text};
+ghost use Rattle.hex_engine.specs.Replies.{Reacts, Answers, Loading, Done, Quit, reaction, reacted, replied, obeyed, if_bare, stays, moves_on, resized, playing, played, undone, knowing, winner_text};
 ghost use Rattle.htp_line.specs.Reading.{asked_of};
 
 use super::answers::{Answer, EngineError, Fail, Memory};
 use super::commands::{Command, command_list};
 use super::forms::{MoveWord, read_colour, read_move, read_sizes};
+use super::files::{File, game_text, load_game};
 use super::picture::board_text;
 use hex_board::Board;
 use hex_cells::{CellSet, Colour, Size};
 use hex_game::Game;
+use hex_io::Shelf;
 use htp_line::{Bytes, Request};
 use std::alloc::Global;
 use std::marker::Model;
@@ -55,38 +62,51 @@ impl Engine {
         &self.game
     }
 
-    /// Answers one request. After an error nothing changed.
+    /// Answers one request. After an error nothing changed here; a file may have been fetched.
+    ///
+    /// `read fault` comes only where the shelf counted a fault, and `cannot load file` exactly where
+    /// the fetched file is none, too long, or no record of a game (SGF FF[4], GM[11]).
     #[tactic(auto, unfolding(crate::specs::Replies::reaction))]
-    pub fn line(&mut self, request: &Request) -> Result<Answer, EngineError>
-        ensures reply { IfOk result (λ answer. reaction self.old (asked_of request.now) ≡ Some (record { reply = replied answer; after = self.new })) }
+    pub fn line<F: Shelf>(&mut self, request: &Request, shelf: &mut F) -> Result<Answer, EngineError>
+        ensures reply { IfOk result (λ answer. (used : Left) × Uses (F.told shelf.old) (F.told shelf.new) used [] × Answers self.old used (asked_of request.now) answer self.new) }
         ensures err { OnErr result (self.new ≡ self.old) }
+        ensures vain { OnErr result ((tries : List Bool) × Uses (F.told shelf.old) (F.told shelf.new) nothing_left tries) }
+        ensures read_fault { result ≡ Ok (Answer.Fail Fail.ReadFault) → Rose (F.faults shelf.old) (F.faults shelf.new) }
+        ensures later { F.faults shelf.old ≤ F.faults shelf.new }
     {
-        match Command::named(request.name.as_slice()) {
-            None => Ok(Answer::Fail(Fail::UnknownCommand)),
-            Some(command) => self.obey(command, request.args.as_slice()),
+        let args = request.args.as_slice();
+        let Some(command) = Command::named(request.name.as_slice()) else {
+            return Ok(Answer::Fail(Fail::UnknownCommand));
+        };
+        match self.obey(command, args)? {
+            Some(answer) => Ok(answer),
+            None => self.load(args, shelf),
         }
     }
 
-    /// Does what the command says.
+    /// Does what a command says that needs nothing from outside; `loadsgf` is none of these.
     #[tactic(auto, unfolding(crate::specs::Replies::obeyed))]
-    fn obey(&mut self, command: Command, args: &[Bytes]) -> Result<Answer, EngineError>
-        ensures ok { IfOk result (λ answer. Reacts (obeyed self.old command args.now) answer self.new) }
+    fn obey(&mut self, command: Command, args: &[Bytes]) -> Result<Option<Answer>, EngineError>
+        ensures ok { IfOk result (λ done. obeyed self.old command args.now ≡ reacted done self.new) }
         ensures err { OnErr result (self.new ≡ self.old) }
     {
-        match command {
-            Command::BoardSize => Ok(self.resize(args)),
-            Command::ClearBoard => Ok(self.clear(args)),
-            Command::KnownCommand => self.know(args),
-            Command::ListCommands => self.list(args),
-            Command::Name => self.tell(args, b"hexd"),
-            Command::Play => Ok(self.play(args)),
-            Command::ProtocolVersion => self.tell(args, b"2"),
-            Command::Quit => Ok(self.quit(args)),
-            Command::ShowBoard => self.show(args),
-            Command::Undo => Ok(self.undo(args)),
-            Command::Version => self.tell(args, b"1.0"),
-            Command::Winner => self.tell(args, name_of_winner(self.game.board())),
-        }
+        let answer = match command {
+            Command::BoardSize => self.resize(args),
+            Command::ClearBoard => self.clear(args),
+            Command::KnownCommand => self.know(args)?,
+            Command::ListCommands => self.list(args)?,
+            Command::LoadSgf => return Ok(None),
+            Command::Name => self.tell(args, b"hexd")?,
+            Command::Play => self.play(args),
+            Command::PrintSgf => self.print(args)?,
+            Command::ProtocolVersion => self.tell(args, b"2")?,
+            Command::Quit => self.quit(args),
+            Command::ShowBoard => self.show(args)?,
+            Command::Undo => self.undo(args),
+            Command::Version => self.tell(args, b"1.0")?,
+            Command::Winner => self.tell(args, name_of_winner(self.game.board()))?,
+        };
+        Ok(Some(answer))
     }
 
     /// `boardsize`, with a number or two.
@@ -201,6 +221,44 @@ impl Engine {
             return Ok(Answer::Fail(Fail::Syntax));
         }
         Ok(Answer::Done(Bytes::of(command_list(self.alloc)?)))
+    }
+
+    /// `loadsgf`, with a file's name.
+    /// Fails, in order: `syntax error`; `read fault`; `cannot load file`.
+    /// Answers nothing; the game is the record's.
+    fn load<F: Shelf>(&mut self, args: &[Bytes], shelf: &mut F) -> Result<Answer, EngineError>
+        ensures reply { IfOk result (λ answer. (used : Left) × Uses (F.told shelf.old) (F.told shelf.new) used [] × Loading self.old used args.now answer self.new) }
+        ensures err { OnErr result (self.new ≡ self.old) }
+        ensures vain { OnErr result ((tries : List Bool) × Uses (F.told shelf.old) (F.told shelf.new) nothing_left tries) }
+        ensures read_fault { result ≡ Ok (Answer.Fail Fail.ReadFault) → Rose (F.faults shelf.old) (F.faults shelf.new) }
+        ensures later { F.faults shelf.old ≤ F.faults shelf.new }
+    {
+        let [name] = args else {
+            return Ok(Answer::Fail(Fail::Syntax));
+        };
+        let Ok(name) = str::from_utf8(name.as_slice()) else {
+            return Ok(Answer::Fail(Fail::Syntax));
+        };
+        match load_game(self.alloc, shelf, name)? {
+            File::Unread => Ok(Answer::Fail(Fail::ReadFault)),
+            File::Refused => Ok(Answer::Fail(Fail::NoLoad)),
+            File::Loads(game) => {
+                self.game = game;
+                Ok(self.empty_answer())
+            }
+        }
+    }
+
+    /// `printsgf`.
+    /// Fails: `syntax error`.
+    /// Answers the record of the game (SGF FF[4]), without white space.
+    fn print(&self, args: &[Bytes]) -> Result<Answer, EngineError>
+        ensures { IfOk result (λ answer. Reacts (if_bare self.now args.now (stays self.now (Done (trees_print (record_of self.now.game))))) answer self.now) }
+    {
+        if !args.is_empty() {
+            return Ok(Answer::Fail(Fail::Syntax));
+        }
+        Ok(Answer::Done(game_text(self.alloc, &self.game)?))
     }
 
     /// `showboard`.

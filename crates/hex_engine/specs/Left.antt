@@ -1,0 +1,27 @@
+-- What a conversation uses up: what comes of the files that it asks for.
+use Rattle.std.specs.Prelude.{ℕ, List, [], ◌++◌}
+use Rattle.hex_game.specs.Games.{Played}
+
+-- what comes of a file that is asked for
+pub data Loaded : Type 0 where
+  -- its fetch was at fault
+  Unread : Loaded
+  -- there is no such file, or it is too long, or no record of a game
+  Refused : Loaded
+  Loads : Played → Loaded
+
+-- the name that was asked for, and what came of it
+pub record Load : Type 0 where
+  pub name : List ℕ
+  pub what : Loaded
+
+-- what is left to be used up, in turn
+pub record Left : Type 0 where
+  pub loads : List Load
+
+abbrev pub nothing_left : Left
+nothing_left = record { loads = [] }
+
+-- this, and then that
+abbrev pub and_then : Left → Left → Left
+and_then a b = record { loads = a.loads ++ b.loads }
