@@ -2,3 +2,4 @@ pub mod Texts
 pub mod Lists
 pub mod Placing
 pub mod Refusals
+pub mod Rising
