@@ -132,7 +132,7 @@ ends_last n (node ∷ nodes) = behind_last n (is_last node) node (up_to_end node
 
 -- ---- the first that is refused
 
-first_at : (p : ℕ → Bool) (a m i : ℕ) → a ≤ i → i < a + m → p i ≡ true → ((j : ℕ) → a ≤ j → j < i → p j ≡ false) → find p (range_with_len a m) ≡ Some i
+pub first_at : (p : ℕ → Bool) (a m i : ℕ) → a ≤ i → i < a + m → p i ≡ true → ((j : ℕ) → a ≤ j → j < i → p j ≡ false) → find p (range_with_len a m) ≡ Some i
 first_at p a zero i l h e f = absurd (omega arith)
 first_at p a (suc m) i l h e f = elim (cases_lt a i) [
   | inl t ↦ rw (f a (omega arith) t) (first_at p (a + 1) m i (omega arith) (omega arith) e (λ j u v. f j (omega arith) v))
