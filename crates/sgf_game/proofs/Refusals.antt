@@ -1,8 +1,8 @@
 -- The turns of a line: none follows one that ends it, each stone lies on the board, and so the first that is refused stands behind few steps.
-use Rattle.std.proofs.Common.{◌≡◌, ℕ, ◌+◌, ◌*◌, ◌<◌, ◌≤◌, ◌==◌, ◌||◌, Bool, true, false, not, cond, List, [], ◌∷◌, ◌++◌, Some, None, Ok, Err, map, flat_map, length, take, get_or, refl, sym, ap, ◌∙◌, subst, arith, inl, inr, zero, suc, append-nil, length-append}
+use Rattle.std.proofs.Common.{◌≡◌, ℕ, ◌+◌, ◌<◌, ◌≤◌, ◌==◌, ◌||◌, Bool, true, false, not, cond, List, [], ◌∷◌, ◌++◌, Some, None, map, length, take, get_or, refl, sym, ap, ◌∙◌, subst, arith, inl, inr, zero, suc, append-nil, length-append}
 use Rattle.std.specs.Prelude.{Option, slice_get, option_map}
-use Rattle.std.specs.List.{find, range_with_len, list_any}
-use Rattle.std.proofs.lemmas.Bool.{cases_Bool, cases_lt}
+use Rattle.std.specs.List.{find, range_with_len}
+use Rattle.std.proofs.lemmas.Bool.{cases_lt}
 use Rattle.std.proofs.lemmas.Grind.{flat_map-append}
 use Rattle.std.proofs.lemmas.List.{take_more}
 use Rattle.hex_cells.specs.Vertices.{vertex_cell}

@@ -1,20 +1,19 @@
 -- The start stones of a record are read back.
-use Rattle.std.proofs.Common.{◌≡◌, ℕ, ◌+◌, ◌*◌, ◌<◌, ◌≤◌, ◌==◌, ◌&&◌, ◌||◌, Bool, true, false, cond, List, [], ◌∷◌, ◌++◌, Some, None, map, flat_map, refl, sym, ap, ◌∙◌, subst, arith, inl, inr, zero, suc, append-nil}
+use Rattle.std.proofs.Common.{◌≡◌, ℕ, ◌+◌, ◌*◌, ◌<◌, ◌≤◌, ◌==◌, ◌||◌, Bool, true, false, cond, List, [], ◌∷◌, ◌++◌, Some, map, flat_map, refl, sym, ap, ◌∙◌, subst, arith, inl, inr, zero, suc, append-nil}
 use Rattle.std.specs.Prelude.{Option, codes, filter, is_none}
 use Rattle.std.specs.List.{list_any, range_with_len}
 use Rattle.std.specs.Str.{bytes_eq}
 use Rattle.std.proofs.lemmas.Bool.{cases_Bool, cases_eq, eqb-true}
 use Rattle.std.proofs.lemmas.Bool.Decides.{nat_tests}
-use Rattle.hex_cells.specs.Sets.{has, with_cell}
+use Rattle.hex_cells.specs.Sets.{has}
 use Rattle.hex_cells.specs.Vertices.{vertex_of, vertex_cell}
 use Rattle.hex_cells.proofs.Bits.{has_none, same_set}
 use Rattle.hex_cells.proofs.Naming.{read_back}
 use Rattle.hex_board.specs.Joined.{cells_of}
 use Rattle.hex_board.specs.Positions.{Apart, Within, Position}
 use Rattle.sgf_tree.specs.declared.lists.Prop.{Prop}
-use Rattle.sgf_tree.specs.declared.lists.Node.{Node}
-use Rattle.sgf_game.specs.Values.{trimmed, values_if, values_named, has_named}
-use Rattle.sgf_game.specs.Lines.{entries_in, entries_if, is_last}
+use Rattle.sgf_game.specs.Values.{trimmed, values_if, has_named}
+use Rattle.sgf_game.specs.Lines.{entries_in, entries_if}
 use Rattle.sgf_game.specs.Setup.{is_cell, is_in, has_twice, are_misplaced, with_cells, cells_named, set_up_cells, start_of}
 use Rattle.sgf_game.specs.Record.{vertices, prop_if, root_of}
 use Rattle.sgf_game.proofs.Lists.{any_append}

@@ -1,24 +1,23 @@
 -- The steps of a record are read back, and so is the game.
-use Rattle.std.proofs.Common.{◌≡◌, ℕ, ◌+◌, ◌*◌, ◌<◌, ◌≤◌, ◌==◌, ◌&&◌, ◌||◌, nat_lt, not, Bool, true, false, cond, List, [], ◌∷◌, ◌++◌, Some, None, Ok, Err, map, flat_map, length, take, drop, get_or, refl, sym, ap, ◌∙◌, subst, arith, zero, suc, append-nil, append_assoc}
-use Rattle.std.specs.Prelude.{Option, Result, slice_get}
+use Rattle.std.proofs.Common.{◌≡◌, ℕ, ◌*◌, ◌<◌, ◌≤◌, ◌==◌, ◌&&◌, ◌||◌, nat_lt, not, Bool, true, false, cond, List, [], ◌∷◌, ◌++◌, Some, None, Ok, map, flat_map, length, take, drop, get_or, refl, sym, ap, ◌∙◌, subst, arith, zero, suc, append-nil, append_assoc}
+use Rattle.std.specs.Prelude.{Result, slice_get}
 use Rattle.std.specs.List.{list_any, take-map}
 use Rattle.std.proofs.lemmas.Bool.Decides.{nat_tests}
 use Rattle.std.proofs.lemmas.List.{length-map}
 use Rattle.hex_cells.specs.declared.colours.Colour.{Colour}
 use Rattle.hex_cells.specs.declared.colours.Colour.TheVariants.{Black, White}
-use Rattle.hex_board.specs.Positions.{Position, Within, Apart, is_empty_at}
+use Rattle.hex_board.specs.Positions.{Position, Within, Apart}
 use Rattle.hex_game.specs.Games.{Played, AreLegal, is_legal, is_over, replay}
 use Rattle.hex_game.specs.declared.moves.Move.{Move}
 use Rattle.hex_game.specs.declared.moves.Move.TheVariants.{Stone, Swap}
 use Rattle.hex_game.specs.declared.moves.Step.{Step}
 use Rattle.sgf_tree.specs.declared.lists.Node.{Node}
 use Rattle.sgf_game.specs.declared.error.GameError.{GameError}
-use Rattle.sgf_game.specs.declared.turns.Said.TheVariants.{Plays, Ends}
+use Rattle.sgf_game.specs.declared.turns.Said.TheVariants.{Plays}
 use Rattle.sgf_game.specs.declared.turns.Turn.{Turn}
-use Rattle.sgf_game.specs.Values.{trimmed}
-use Rattle.sgf_game.specs.Lines.{Entry, entry, entries_if, entries_in, ends, has_end, is_last, up_to_end, main_line, line_of}
-use Rattle.sgf_game.specs.Turns.{said_by, turn_of, turns_in, turns_of, steps_of, is_refused, is_refused_next, first_refused, game_after, game_unless, game_of_turns}
-use Rattle.sgf_game.specs.Setup.{changes, is_changed_late, is_bad_setup, are_misplaced, set_up_cells, size_of, start_of}
+use Rattle.sgf_game.specs.Lines.{Entry, entry, entries_if, entries_in, has_end, is_last, up_to_end, line_of}
+use Rattle.sgf_game.specs.Turns.{turn_of, turns_in, turns_of, steps_of, is_refused, is_refused_next, first_refused, game_after, game_unless, game_of_turns}
+use Rattle.sgf_game.specs.Setup.{changes, is_bad_setup, start_of}
 use Rattle.sgf_game.specs.GameOf.{game_of, game_of_line, game_of_size}
 use Rattle.sgf_game.specs.Record.{letter_of, text_of, prop_of, node_of, root_of, record_of}
 use Rattle.sgf_game.specs.Playing.{IsMoveOn}

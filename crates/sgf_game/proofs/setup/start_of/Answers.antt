@@ -1,8 +1,8 @@
-use Rattle.std.proofs.Common.{◌≡◌, ℕ, ◌≤◌, ◌++◌, ◌||◌, Bool, true, false, List, Some, None, map, refl, ap, sym, ◌∙◌, subst, arith}
+use Rattle.std.proofs.Common.{◌≡◌, ℕ, ◌≤◌, ◌||◌, Bool, true, false, List, Some, None, map, ap, ◌∙◌, arith}
 use Rattle.std.specs.Prelude.{codes}
 use Rattle.sgf_tree.specs.declared.lists.Node.{Node}
 use Rattle.sgf_game.specs.Values.{values_named}
-use Rattle.sgf_game.specs.Setup.{cells_named, with_cells, set_up_cells, are_misplaced, is_bad_setup, is_changed_late}
+use Rattle.sgf_game.specs.Setup.{cells_named, with_cells, set_up_cells, are_misplaced, is_changed_late}
 use Rattle.sgf_game.specs.Placing.{placed_on}
 use Rattle.sgf_game.proofs.Placing.{first_refused, second_refused, both_placed, vertices_on_board, AreCells, ArePlaced}
 use Rattle.sgf_game.proofs.setup.start_of.Goals as goal

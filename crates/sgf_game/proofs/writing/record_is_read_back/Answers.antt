@@ -1,6 +1,5 @@
-use Rattle.std.proofs.Common.{◌≡◌, ◌≤◌, Ok, ap, sym, subst, ◌∙◌}
+use Rattle.std.proofs.Common.{◌≡◌, ◌≤◌, ap, subst, ◌∙◌}
 use Rattle.hex_board.specs.Positions.{Position, Within, Apart}
-use Rattle.hex_game.specs.Games.{Played}
 use Rattle.sgf_game.proofs.StepsBack.{game_again}
 use Rattle.sgf_game.proofs.writing.record_is_read_back.Goals as goal
 

@@ -1,4 +1,4 @@
-use Rattle.std.proofs.Common.{◌≡◌, ◌<◌, length, get_or, ap, sym, subst, ◌∙◌, arith}
+use Rattle.std.proofs.Common.{◌≡◌, ◌<◌, length, get_or, sym, subst, arith}
 use Rattle.sgf_game.specs.Playing.{IsMoveOn}
 use Rattle.sgf_game.proofs.StepsBack.{legal_on_board, step_on}
 use Rattle.sgf_game.proofs.writing.record_of.Goals as goal
