@@ -2,3 +2,8 @@ pub mod Texts
 pub mod Lists
 pub mod Placing
 pub mod Refusals
+pub mod Rising
+pub mod Spelled
+pub mod SetUpBack
+pub mod StepsBack
+pub mod HasText

@@ -225,7 +225,7 @@ twice_shuffle false true false true x = refl
 twice_shuffle false true false false x = refl
 twice_shuffle false false t u x = refl
 
-twice_append : (cells others : List (Option ℕ)) → has_twice (cells ++ others) ≡ (has_twice cells || (has_twice others || list_any (is_in cells) others))
+pub twice_append : (cells others : List (Option ℕ)) → has_twice (cells ++ others) ≡ (has_twice cells || (has_twice others || list_any (is_in cells) others))
 twice_append [] others = or_false (has_twice others) ∙ ap (λ b. has_twice others || b) (sym (any_in_none others))
 twice_append (None ∷ cells) others = twice_append cells others ∙ ap (λ b. has_twice cells || (has_twice others || b)) (sym (any_after_none cells others))
 twice_append (Some k ∷ cells) others =

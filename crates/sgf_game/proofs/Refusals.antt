@@ -1,8 +1,8 @@
 -- The turns of a line: none follows one that ends it, each stone lies on the board, and so the first that is refused stands behind few steps.
-use Rattle.std.proofs.Common.{◌≡◌, ℕ, ◌+◌, ◌*◌, ◌<◌, ◌≤◌, ◌==◌, ◌||◌, Bool, true, false, not, cond, List, [], ◌∷◌, ◌++◌, Some, None, Ok, Err, map, flat_map, length, take, get_or, refl, sym, ap, ◌∙◌, subst, arith, inl, inr, zero, suc, append-nil, length-append}
+use Rattle.std.proofs.Common.{◌≡◌, ℕ, ◌+◌, ◌<◌, ◌≤◌, ◌==◌, ◌||◌, Bool, true, false, not, cond, List, [], ◌∷◌, ◌++◌, Some, None, map, length, take, get_or, refl, sym, ap, ◌∙◌, subst, arith, inl, inr, zero, suc, append-nil, length-append}
 use Rattle.std.specs.Prelude.{Option, slice_get, option_map}
-use Rattle.std.specs.List.{find, range_with_len, list_any}
-use Rattle.std.proofs.lemmas.Bool.{cases_Bool, cases_lt}
+use Rattle.std.specs.List.{find, range_with_len}
+use Rattle.std.proofs.lemmas.Bool.{cases_lt}
 use Rattle.std.proofs.lemmas.Grind.{flat_map-append}
 use Rattle.std.proofs.lemmas.List.{take_more}
 use Rattle.hex_cells.specs.Vertices.{vertex_cell}
@@ -132,7 +132,7 @@ ends_last n (node ∷ nodes) = behind_last n (is_last node) node (up_to_end node
 
 -- ---- the first that is refused
 
-first_at : (p : ℕ → Bool) (a m i : ℕ) → a ≤ i → i < a + m → p i ≡ true → ((j : ℕ) → a ≤ j → j < i → p j ≡ false) → find p (range_with_len a m) ≡ Some i
+pub first_at : (p : ℕ → Bool) (a m i : ℕ) → a ≤ i → i < a + m → p i ≡ true → ((j : ℕ) → a ≤ j → j < i → p j ≡ false) → find p (range_with_len a m) ≡ Some i
 first_at p a zero i l h e f = absurd (omega arith)
 first_at p a (suc m) i l h e f = elim (cases_lt a i) [
   | inl t ↦ rw (f a (omega arith) t) (first_at p (a + 1) m i (omega arith) (omega arith) e (λ j u v. f j (omega arith) v))

@@ -1,5 +1,6 @@
 -- The main line of a collection, and the moves in its nodes.
 use Rattle.std.specs.Prelude.{ℕ, Bool, ◌||◌, List, [], ◌∷◌, ◌++◌, Option, Some, None, map, flat_map, codes, if◌then◌else◌}
+use Rattle.std.specs.Borrow.{Bor}
 use Rattle.std.specs.List.{list_any}
 use Rattle.std.specs.Str.{bytes_eq}
 use Rattle.hex_cells.specs.declared.colours.Colour.{Colour}
@@ -8,6 +9,10 @@ use Rattle.sgf_tree.specs.declared.lists.Prop.{Prop}
 use Rattle.sgf_tree.specs.declared.lists.Node.{Node}
 use Rattle.sgf_tree.specs.Trees.{GameTrees, none, tree}
 use Rattle.sgf_game.specs.Values.{trimmed, spells}
+
+-- the nodes that references lend
+abbrev pub seen : List (Bor Node) → List Node
+seen nodes = map (λ node. node.now) nodes
 
 -- the nodes of the first tree, then those of the first of its kids, and so on
 abbrev pub main_line : GameTrees → List Node

@@ -16,7 +16,8 @@ use std::alloc::Global;
 fn take_turn(game: &mut Game, turn: &Turn) -> bool
     requires { IsSaidOn game.old.start.size turn.now.said }
     ensures legal { result ≡ not (is_refused_said game.old turn.now.colour turn.now.said) }
-    ensures taken { result ≡ true → game.new ≡ record game.old { steps = game.old.steps ++ step_said turn.now.colour turn.now.said } }
+    ensures taken { result ≡ true → game.new
+        ≡ record game.old { steps = game.old.steps ++ step_said turn.now.colour turn.now.said } }
     ensures refused { result ≡ false → game.new ≡ game.old }
 {
     match turn.said {

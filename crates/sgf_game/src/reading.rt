@@ -1,7 +1,8 @@
 //! Reading: the game of a collection.
 
-ghost use Rattle.std.specs.Prelude.{ℕ, map};
+ghost use Rattle.std.specs.Prelude.{ℕ};
 ghost use Rattle.sgf_game.specs.GameOf.{game_of, game_of_line, OrMemory};
+ghost use Rattle.sgf_game.specs.Lines.{seen};
 ghost use Rattle.sgf_game.specs.Playing.{EndsLast};
 ghost use Rattle.sgf_game.specs.Turns.{turns_of};
 
@@ -15,7 +16,27 @@ use hex_game::Game;
 use sgf_tree::{Collection, Node};
 use std::alloc::Global;
 
-/// The game of a collection's first tree, along its main line.
+/// The game of a collection: of the first tree alone, along its main line. The line is the nodes of
+/// the tree, then those of its first kid, and so on; it ends with the node that holds a move
+/// `resign` or `forfeit`. White space at both ends of a value is dropped.
+///
+/// - `NotHex` comes exactly where the root has no GM, or the first value is not `11`. So it does
+///   where the collection has no node at all.
+/// - Otherwise `BadSize` comes exactly where the root has SZ, and the first value is neither a number
+///   from 1 to 11 without leading zero nor two equal such numbers with `:` between. Without SZ the
+///   size is 11.
+/// - Otherwise `BadSetup` comes exactly where a node of the line behind the root has AB, AW or AE, or
+///   the root has AE; or where a value of the root's AB or AW is no vertex of the board, or two of
+///   them name one cell. They are the start stones.
+/// - Otherwise `BadMove` comes exactly where a move is refused, with the first such. The moves are the
+///   values of B and W along the line, counted from 0, also those in the root. Refused is what is
+///   neither a vertex of the board nor `swap-pieces`, `resign` or `forfeit`, in either case; what
+///   stands in a node with more than one move; and what [`Game::play`] refuses.
+/// - Otherwise the game has the start stones and the steps of the moves; `resign` and `forfeit` make
+///   none.
+///
+/// `Memory` may come in place of any answer. The properties are those of SGF FF[4], GM[11]; all
+/// others are skipped.
 pub fn to_game(alloc: Global, collection: &Collection) -> Result<Game, GameError>
     ensures { OrMemory result (game_of collection.now.trees) }
 {
@@ -27,8 +48,8 @@ pub fn to_game(alloc: Global, collection: &Collection) -> Result<Game, GameError
 
 /// The game of a line that begins with its root.
 fn game_of_line(alloc: Global, line: &[&Node]) -> Result<Game, GameError>
-    requires { (n : ℕ) → EndsLast (turns_of n (map (λ node. node.now) line.now)) }
-    ensures { OrMemory result (game_of_line (map (λ node. node.now) line.now)) }
+    requires { (n : ℕ) → EndsLast (turns_of n (seen line.now)) }
+    ensures { OrMemory result (game_of_line (seen line.now)) }
 {
     let [root, behind @ ..] = line else {
         return Err(GameError::NotHex);

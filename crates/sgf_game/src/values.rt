@@ -77,7 +77,8 @@ pub fn has_named(node: &Node, name: &[u8]) -> bool
 
 /// The first value that the node has under this name.
 pub fn first_named<'a>(node: &'a Node, name: &[u8]) -> Option<&'a [u8]>
-    ensures { MatchOption result (first_named name.now node.now ≡ None) (λ value. first_named name.now node.now ≡ Some value.now) }
+    ensures { let first = first_named name.now node.now in
+        MatchOption result (first ≡ None) (λ value. first ≡ Some value.now) }
 {
     for prop in node.props.as_slice() {
         if is_named(prop, name) {

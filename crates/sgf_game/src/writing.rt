@@ -1,10 +1,12 @@
 //! Writing: the record of a game.
 
-ghost use Rattle.std.specs.Prelude.{◌≡◌, ◌≤◌, IfOk, Ok};
+ghost use Rattle.std.specs.Prelude.{◌≡◌, ◌*◌, ◌<◌, ◌≤◌, ◌++◌, ◌∷◌, [], IfOk, OnOk, Ok};
+ghost use Rattle.hex_board.specs.Positions.{Within};
 ghost use Rattle.sgf_tree.specs.Trees.{depth};
 ghost use Rattle.sgf_tree.specs.Printing.{HasText, max_depth};
 ghost use Rattle.sgf_game.specs.GameOf.{game_of};
-ghost use Rattle.sgf_game.specs.Record.{record_of};
+ghost use Rattle.sgf_game.specs.Record.{prop_of, vertices, prop_if, root_of, node_of, record_of};
+ghost use Rattle.sgf_game.specs.Playing.{IsMoveOn};
 
 use super::sizes::write_number;
 use hex_board::Board;
@@ -13,7 +15,10 @@ use hex_game::{Game, Move, Step};
 use sgf_tree::{Bytes, Collection, Memory, Node, Nodes, Prop, Props, Tree, Trees, Values};
 use std::alloc::{AllocError, Global};
 
-/// The record of a game.
+/// The record of a game: one tree without kids. Its root has `FF[4]`, `GM[11]`, SZ with the size, and
+/// AB and AW with the start stones of Black and of White, cells in rising order, each only where there
+/// are such stones. A node follows for each step, with B or W and the vertex in lower case, or
+/// `swap-pieces`. Want of memory is the only refusal.
 pub fn from_game(alloc: Global, game: &Game) -> Result<Collection, Memory>
     ensures record_is { IfOk result (λ c. c.trees ≡ record_of game.now) }
     // Its game is the game.
@@ -22,13 +27,29 @@ pub fn from_game(alloc: Global, game: &Game) -> Result<Collection, Memory>
     ensures text { IfOk result (λ c. HasText c.trees) }
     ensures shallow { IfOk result (λ c. depth c.trees ≤ max_depth) }
 {
+    record_is_read_back(game);
     match record_of(alloc, game) {
         Ok(collection) => Ok(collection),
         Err(_) => Err(Memory),
     }
 }
 
-fn record_of(alloc: Global, game: &Game) -> Result<Collection, AllocError> {
+/// A law of each game: the game of its record is the game. It does nothing.
+fn record_is_read_back(game: &Game)
+    ensures { game_of (record_of game.now) ≡ Ok game.now }
+{
+    let start = game.start();
+    let _size = start.size();
+    let _black = start.stones(Colour::Black);
+    let _white = start.stones(Colour::White);
+    game.steps_are_legal();
+}
+
+fn record_of(alloc: Global, game: &Game) -> Result<Collection, AllocError>
+    ensures { IfOk result (λ c. c.trees ≡ record_of game.now) }
+{
+    // Legal steps put their stones on the board.
+    game.steps_are_legal();
     let size = game.start().size();
     let mut nodes = Vec::new(alloc);
     nodes.push(root_of(alloc, game.start())?)?;
@@ -47,7 +68,9 @@ fn record_of(alloc: Global, game: &Game) -> Result<Collection, AllocError> {
 }
 
 /// The root: FF, GM and SZ, and then AB and AW where there are such start stones.
-fn root_of(alloc: Global, start: &Board) -> Result<Node, AllocError> {
+fn root_of(alloc: Global, start: &Board) -> Result<Node, AllocError>
+    ensures { IfOk result (λ node. node ≡ root_of start.now) }
+{
     let size = start.size();
     let mut digits = [0; 2];
     let length = write_number(size.get(), &mut digits);
@@ -63,7 +86,10 @@ fn root_of(alloc: Global, start: &Board) -> Result<Node, AllocError> {
 }
 
 /// The node of a step: B or W with its one move.
-fn node_of(alloc: Global, step: &Step, size: Size) -> Result<Node, AllocError> {
+fn node_of(alloc: Global, step: &Step, size: Size) -> Result<Node, AllocError>
+    requires { IsMoveOn size step.now.what }
+    ensures { IfOk result (λ node. node ≡ node_of size step.now) }
+{
     let name: &[u8] = match step.colour {
         Colour::Black => b"B",
         Colour::White => b"W",
@@ -84,7 +110,9 @@ fn node_of(alloc: Global, step: &Step, size: Size) -> Result<Node, AllocError> {
 }
 
 /// A property of one value.
-fn prop_of(alloc: Global, name: &[u8], value: &[u8]) -> Result<Prop, AllocError> {
+fn prop_of(alloc: Global, name: &[u8], value: &[u8]) -> Result<Prop, AllocError>
+    ensures { IfOk result (λ prop. prop ≡ prop_of name.now (value.now ∷ [])) }
+{
     let mut values = Vec::new(alloc);
     values.push(Bytes::of(value.to_vec(alloc)?))?;
     Ok(Prop {
@@ -100,20 +128,25 @@ fn push_stones(
     name: &[u8],
     stones: CellSet,
     size: Size,
-) -> Result<(), AllocError> {
-    if stones.is_empty() {
-        return Ok(());
-    }
+) -> Result<(), AllocError>
+    requires { Within size stones }
+    ensures { OnOk result (props.new.items ≡ props.old.items ++ prop_if name.now (vertices size stones)) }
+{
     let values = vertices(alloc, stones, size)?;
-    props.push(Prop {
-        name: Bytes::of(name.to_vec(alloc)?),
-        values: Values::of(values),
-    })?;
+    if !values.is_empty() {
+        props.push(Prop {
+            name: Bytes::of(name.to_vec(alloc)?),
+            values: Values::of(values),
+        })?;
+    }
     Ok(())
 }
 
 /// The vertices of the cells, in rising order.
-fn vertices(alloc: Global, stones: CellSet, size: Size) -> Result<Vec<Bytes>, AllocError> {
+fn vertices(alloc: Global, stones: CellSet, size: Size) -> Result<Vec<Bytes>, AllocError>
+    requires { Within size stones }
+    ensures { IfOk result (λ values. values.items ≡ vertices size stones) }
+{
     let mut values = Vec::new(alloc);
     let mut rest = stones;
     while let Some(cell) = rest.least() {

@@ -1,9 +1,8 @@
-use Rattle.std.proofs.Common.{◌≡◌, ◌<◌, ◌≤◌, ◌+◌, Ok, length, take, ap, refl, sym, ◌∙◌, subst, arith, inl, below_more}
+use Rattle.std.proofs.Common.{◌≡◌, ◌<◌, ◌≤◌, Ok, length, take, ap, sym, ◌∙◌, subst, arith, inl, below_more}
 use Rattle.std.proofs.lemmas.List.{take_all}
 use Rattle.hex_game.specs.Games.{Played}
-use Rattle.hex_game.specs.declared.moves.Step.{Step}
 use Rattle.sgf_game.specs.Playing.{IsSaidOn}
-use Rattle.sgf_game.specs.Turns.{game_after, game_unless, steps_of, first_refused}
+use Rattle.sgf_game.specs.Turns.{game_after, game_unless, steps_of}
 use Rattle.sgf_game.proofs.Refusals.{said_at, refused_at, taken_at, game_more, few_turns, first_is, first_none}
 use Rattle.sgf_game.proofs.playing.game_of_turns.Goals as goal
 
