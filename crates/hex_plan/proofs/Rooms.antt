@@ -1,0 +1,29 @@
+-- Boards with an empty cell.
+use Rattle.std.proofs.Common.{◌≡◌, ℕ, ◌*◌, ◌<◌, ◌↔◌, ◌&&◌, IsTrue, not, nat_lt, Bool, true, false, refl, sym, ap, ◌∙◌, arith}
+use Rattle.std.specs.List.{list_any}
+use Rattle.std.proofs.lemmas.Bool.{and_parts, false≢true, ltb-true, false_from_ne_true}
+use Rattle.hex_cells.specs.Sets.{has}
+use Rattle.hex_board.specs.Joined.{cells_of}
+use Rattle.hex_board.specs.Positions.{Position, is_empty_at}
+use Rattle.hex_board.proofs.Search.{any_in, any_out}
+use Rattle.hex_plan.specs.Openings.{has_room}
+
+pub on_board : (p : Position) (k : ℕ) → is_empty_at p k ≡ true → k < p.size * p.size
+on_board p k e = ltb-true k (p.size * p.size) (and_parts _ _ (and_parts _ _ e).0).0
+
+-- an empty cell makes room
+pub room_of : (p : Position) (k : ℕ) → is_empty_at p k ≡ true → has_room p ≡ true
+room_of p k e = any_in (is_empty_at p) 0 (p.size * p.size) k (omega arith) (omega (arith, on_board p k e)) e
+
+-- where there is room, a cell is empty
+pub empty_in : (p : Position) → has_room p ≡ true → (k : ℕ) × (is_empty_at p k ≡ true)
+empty_in p h = let w = any_out (is_empty_at p) 0 (p.size * p.size) h in (w.0, w.2)
+
+-- the set of the empty cells has no cell where there is no room
+pub no_room : (p : Position) (s : ℕ) (none : Bool) → ((k : ℕ) → has s k ≡ is_empty_at p k) → (IsTrue none ↔ ((k : ℕ) → has s k ≡ false)) → not none ≡ has_room p
+no_room p s true items h = sym (false_from_ne_true (has_room p) (λ r. let w = empty_in p r in false≢true (sym (h.0 refl w.0) ∙ (items w.0 ∙ w.1))))
+no_room p s false items h = room_by (has_room p) refl
+  where
+    room_by : (b : Bool) → has_room p ≡ b → true ≡ b
+    room_by true e = refl
+    room_by false e = absurd (false≢true (h.1 (λ k. items k ∙ false_from_ne_true (is_empty_at p k) (λ f. false≢true (sym e ∙ room_of p k f)))))

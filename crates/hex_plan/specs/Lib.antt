@@ -1,0 +1,5 @@
+pub mod Turns
+pub mod Openings
+pub mod Seeds
+pub mod Good
+pub mod Archived

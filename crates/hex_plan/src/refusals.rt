@@ -1,0 +1,17 @@
+//! What a call of this crate answers in place of a value.
+
+use std::alloc::AllocError;
+
+/// An archive did not take a turn, and counted a fault.
+#[derive(Debug, Clone, Copy, PartialEq, Eq, Drop)]
+pub struct ArchiveFault;
+
+/// Memory ran out.
+#[derive(Debug, Clone, Copy, PartialEq, Eq, Drop)]
+pub struct Memory;
+
+impl From<AllocError> for Memory {
+    fn from(_refused: AllocError) -> Memory {
+        Memory
+    }
+}

@@ -1,0 +1,47 @@
+//! The shape of the search of a turn.
+
+ghost use Rattle.std.specs.Prelude.{◌≡◌, ℕ, true};
+ghost use Rattle.hex_board.specs.Positions.{is_empty_at};
+ghost use Rattle.tree_words.specs.Settings.{AreInRange};
+ghost use Rattle.hex_plan.specs.Good.{IsTurnShape};
+ghost use Rattle.hex_plan.specs.Openings.{may_move};
+ghost use Rattle.hex_plan.specs.Seeds.{seed_of, turn_knobs};
+
+use hex_board::Board;
+use hex_cells::Colour;
+use tree_words::{Knobs, Shape};
+
+/// The seeds of two turns that follow one another are this far apart. The playouts of one search have seeds of their own,
+/// less than this above that of the turn.
+const TURN_STEP: u64 = 1 << 32;
+
+// The seed of the turn with this number.
+fn seed_of(seed: u64, number: u64) -> u64
+    ensures { result ≡ seed_of seed number }
+{
+    seed.wrapping_add(number.wrapping_mul(TURN_STEP))
+}
+
+// The knobs of the turn with this number.
+fn turn_knobs(options: &Knobs, number: u64) -> Knobs
+    requires { AreInRange options.now }
+    ensures value { result ≡ turn_knobs options.now number }
+    ensures ranges { AreInRange result }
+{
+    Knobs {
+        seed: seed_of(options.seed, number),
+        ..*options
+    }
+}
+
+/// The shape of the search of the turn with this number, where `colour` is to move: all empty cells of the board are
+/// allowed, and the seed is `S + number·2^32` modulo 2^64, S being that of the options. A cell of the board is empty, and
+/// the options are in their ranges.
+pub fn turn_shape(board: &Board, colour: Colour, options: &Knobs, number: u64) -> Shape
+    requires room { (k : ℕ) × (is_empty_at board.now k ≡ true) }
+    requires ranges { AreInRange options.now }
+    ensures { IsTurnShape options.now board.now colour number result }
+{
+    let knobs = turn_knobs(options, number);
+    Shape::make(board, colour, board.empties(), &knobs)
+}
