@@ -1,0 +1,2 @@
+mod SetNumbers
+pub mod Writes
