@@ -1,0 +1,5 @@
+//! The search of one worker.
+#![tactic(auto)]
+
+mod choosing;
+mod layout;
