@@ -1,2 +1,3 @@
+pub mod Choices
 mod SetNumbers
 pub mod Writes

@@ -5,10 +5,8 @@ ghost use Rattle.tree_words.specs.Blocks.{LinkedBlock, size, words_of};
 ghost use Rattle.seq_search.specs.Writing.{WritesBlock, WritesMoves, listed};
 
 use hex_cells::{Cell, CellSet, Size};
+use super::layout::NODE_WORDS;
 use tree_words::numbered;
-
-/// A node has four words, and so has a block's header.
-pub(crate) const NODE_WORDS: usize = 4;
 
 /// A move word is this many times the place, and the cell.
 const PLACE_UNIT: u64 = 256;

@@ -2,5 +2,7 @@
 #![tactic(auto)]
 
 mod blocks;
+mod choosing;
 mod expanding;
+mod layout;
 mod opening;

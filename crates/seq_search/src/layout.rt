@@ -1,0 +1,16 @@
+//! Where the parts of a node and of a block stand among the words.
+
+/// A node has four words: its move, its link, its tally and its seen word. A block's header has four too.
+pub(crate) const NODE_WORDS: usize = 4;
+
+/// The link is the second word of a node.
+pub(crate) const LINK_WORD: usize = 1;
+
+/// The tally is the third word of a node.
+pub(crate) const TALLY_WORD: usize = 2;
+
+/// The seen word is the fourth word of a node.
+pub(crate) const SEEN_WORD: usize = 3;
+
+/// The count is the fourth word of a block's header.
+pub(crate) const COUNT_WORD: usize = 3;
