@@ -43,19 +43,19 @@ module _ {A : Type 0} (step : LinkedBlock → ℕ → A → A) where
 abbrev pub meets : (ℕ → Bool) → LinkedBlock → ℕ → Bool → Bool
 meets test b y rest = test y || rest
 
-or_true : (a b : Bool) → b ≡ true → (a || b) ≡ true
+pub or_true : (a b : Bool) → b ≡ true → (a || b) ≡ true
 or_true true b e = refl
 or_true false b e = e
 
-or_first : (a b : Bool) → a ≡ true → (a || b) ≡ true
+pub or_first : (a b : Bool) → a ≡ true → (a || b) ≡ true
 or_first true b e = refl
 or_first false b e = absurd (not_both false e refl)
 
-or_false : (a b : Bool) → b ≡ false → (a || b) ≡ a
+pub or_false : (a b : Bool) → b ≡ false → (a || b) ≡ a
 or_false true b e = refl
 or_false false b e = e
 
-neither : (a b : Bool) → a ≡ false → b ≡ false → (a || b) ≡ false
+pub neither : (a b : Bool) → a ≡ false → b ≡ false → (a || b) ≡ false
 neither true b d e = d
 neither false b d e = e
 
@@ -76,7 +76,7 @@ in-out [] b x i out = absurd i
 in-out (c ∷ os) b x i out = ⊎_elim (λ (e : b ≡ c). ap (λ (d : LinkedBlock). has d x) e ∙ out.0) (λ (j : In b os). in-out os b x j out.1) i
 
 module _ {S O : Type 0} (g : Game S O) (fair : Fair g) (p q : ℕ → Count) where
-  child-in : (b : LinkedBlock) (x : ℕ) → 0 < length b.cells → has b (child b (pick g p q b x)) ≡ true
+  pub child-in : (b : LinkedBlock) (x : ℕ) → 0 < length b.cells → has b (child b (pick g p q b x)) ≡ true
   child-in b x l = child-has b (pick g p q b x) (pick-in g fair p q b x l)
 
   -- what is met above x is met above the leaf
@@ -106,7 +106,7 @@ module _ {S O : Type 0} (g : Game S O) (fair : Fair g) (p q : ℕ → Count) whe
   abbrev pub state_step : LinkedBlock → ℕ → S → S
   state_step b y above = g.next above (cell_at b (place b y))
 
-  step-child : (b : LinkedBlock) (j : ℕ) (a : S) → state_step b (child b j) a ≡ g.next a (cell_at b j)
+  pub step-child : (b : LinkedBlock) (j : ℕ) (a : S) → state_step b (child b j) a ≡ g.next a (cell_at b j)
   step-child b j a = ap (λ (k : ℕ). g.next a (cell_at b k)) (is_child b.start j)
 
   -- the state at the leaf is what is gathered up
