@@ -12,7 +12,7 @@ use Rattle.seq_search.proofs.Climbs.{over, climb, over-in, over-past, climb-out,
 module _ {S O : Type 0} (g : Game S O) (fair : Fair g) (p q : ℕ → Count) (o : O) where
   -- each node of the path gains, and no other
   pub adds-up : (os : List LinkedBlock) (root : ℕ → S) (on : ℕ → Bool) (x w : ℕ) (s : S) → Sprouts os → Out os x → root x ≡ s → on x ≡ (x == w)
-      → adds g p q o os x s w ≡ cond (climb (meets (λ (z : ℕ). z == w)) on os (leaf_at g p q os x)) (g.gain o (climb (state_step g fair p q) root os w)) nothing
+      → adds g p q o os x s w ≡ cond (climb (meets (λ (z : ℕ). z == w)) on os (leaf_at g p q os x)) (g.gain o (climb (state_step g) root os w)) nothing
   adds-up [] root on x w s sp out e a = ⊎_elim
       (λ (t : (x == w) ≡ true).
       let at : g.gain o s ≡ g.gain o (root w) = ap (g.gain o) (sym e ∙ ap root (eq_of x w t)) in
@@ -28,29 +28,29 @@ module _ {S O : Type 0} (g : Game S O) (fair : Fair g) (p q : ℕ → Count) (o 
       let h : has b y ≡ true = child-in g fair p q b x sp.0.some in
       let s' : S = g.next s (cell_at b j) in
       let F : ℕ → Bool = climb (meets test) (over (meets test) on b) os in
-      let R : S = climb (state_step g fair p q) root (b ∷ os) w in
+      let R : S = climb (state_step g) root (b ∷ os) w in
       let lf : leaf_at g p q (b ∷ os) x ≡ leaf_at g p q os y = down-here (λ (y : ℕ). y) (leaf_inner g p q) b os x t in
       ap (λ (f : S → ℕ → Count). f s w) (down-here (adds_leaf g p q o) (adds_inner g p q o) b os x t)
       ∙ ⊎_elim
       (λ (u : (x == w) ≡ true).
       let met : F (leaf_at g p q (b ∷ os) x) ≡ true = meets-on g fair p q test (b ∷ os) on x sp out (a ∙ u) in
-      let at : g.gain o s ≡ g.gain o R = ap (g.gain o) (sym e ∙ sym (climb-out (state_step g fair p q) root (b ∷ os) x out) ∙ ap (climb (state_step g fair p q) root (b ∷ os)) (eq_of x w u)) in
+      let at : g.gain o s ≡ g.gain o R = ap (g.gain o) (sym e ∙ sym (climb-out (state_step g) root (b ∷ os) x out) ∙ ap (climb (state_step g) root (b ∷ os)) (eq_of x w u)) in
       ap (λ (v : Bool). cond v (g.gain o s) (adds g p q o os y s' w)) u ∙ at ∙ sym (ap (λ (v : Bool). cond v (g.gain o R) nothing) met))
       (λ (u : (x == w) ≡ false).
       ap (λ (v : Bool). cond v (g.gain o s) (adds g p q o os y s' w)) u
-      ∙ adds-up os (over (state_step g fair p q) root b) (over (meets test) on b) y w s' sp.1 (sp.0.apart y h)
-      (over-in (state_step g fair p q) root b x y h (eq_of b.parent x t) ∙ step-child g fair p q b j (root x) ∙ ap (λ (z : S). g.next z (cell_at b j)) e)
+      ∙ adds-up os (over (state_step g) root b) (over (meets test) on b) y w s' sp.1 (sp.0.apart y h)
+      (over-in (state_step g) root b x y h (eq_of b.parent x t) ∙ step-child g b j (root x) ∙ ap (λ (z : S). g.next z (cell_at b j)) e)
       (over-in (meets test) on b x y h (eq_of b.parent x t) ∙ or_false (y == w) (on x) (a ∙ u))
       ∙ ap (λ (z : ℕ). cond (F z) (g.gain o R) nothing) (sym lf))
       (bool_is (x == w)))
       (λ (t : (b.parent == x) ≡ false).
       let test : ℕ → Bool = λ z. z == w in
       let F : ℕ → Bool = climb (meets test) (over (meets test) on b) os in
-      let R : S = climb (state_step g fair p q) root (b ∷ os) w in
+      let R : S = climb (state_step g) root (b ∷ os) w in
       let lf : leaf_at g p q (b ∷ os) x ≡ leaf_at g p q os x = down-else (λ (y : ℕ). y) (leaf_inner g p q) b os x t in
       ap (λ (f : S → ℕ → Count). f s w) (down-else (adds_leaf g p q o) (adds_inner g p q o) b os x t)
-      ∙ adds-up os (over (state_step g fair p q) root b) (over (meets test) on b) x w s sp.1 out.1
-      (over-past (state_step g fair p q) root b x out.0 ∙ e) (over-past (meets test) on b x out.0 ∙ a)
+      ∙ adds-up os (over (state_step g) root b) (over (meets test) on b) x w s sp.1 out.1
+      (over-past (state_step g) root b x out.0 ∙ e) (over-past (meets test) on b x out.0 ∙ a)
       ∙ ap (λ (z : ℕ). cond (F z) (g.gain o R) nothing) (sym lf))
       (bool_is (b.parent == x))
 
@@ -74,10 +74,10 @@ older b c os w i h k = ⊎_elim (λ (e : b ≡ c). absurd (not_both (has b w) h 
 module _ {S O : Type 0} (g : Game S O) (fair : Fair g) (p q : ℕ → Count) (o : O) where
   -- each node of a block that the path enters is seen or not, and no other
   pub sees-up : (os : List LinkedBlock) (root : ℕ → S) (on : ℕ → Bool) (x w : ℕ) (s : S) (c : LinkedBlock) → Sprouts os → Out os x → root x ≡ s → on x ≡ false → In c os → has c w ≡ true
-      → sees g p q o os x s w ≡ cond (climb (meets (has c)) on os (leaf_at g p q os x)) (g.glimpse o (climb (state_step g fair p q) root os c.parent) (cell_at c (place c w))) nothing
+      → sees g p q o os x s w ≡ cond (climb (meets (has c)) on os (leaf_at g p q os x)) (g.glimpse o (climb (state_step g) root os c.parent) (cell_at c (place c w))) nothing
   sees-up [] root on x w s c sp out e a i h = absurd i
   sees-up (b ∷ os) root on x w s c sp out e a i h =
-      let step : LinkedBlock → ℕ → S → S = state_step g fair p q in
+      let step : LinkedBlock → ℕ → S → S = state_step g in
       let F : ℕ → Bool = climb (meets (has c)) (over (meets (has c)) on b) os in
       let G : S → Count = λ z. g.glimpse o z (cell_at c (place c w)) in
       let R : S = climb step root (b ∷ os) c.parent in
@@ -103,7 +103,7 @@ module _ {S O : Type 0} (g : Game S O) (fair : Fair g) (p q : ℕ → Count) (o 
       let j' : In c os = older c b os w i h u in
       ap (λ (v : Bool). cond v (g.glimpse o s (cell_at b (place b w))) (sees g p q o os y s' w)) u
       ∙ sees-up os (over step root b) (over (meets (has c)) on b) y w s' c sp.1 (sp.0.apart y hy)
-      (over-in step root b x y hy (eq_of b.parent x t) ∙ step-child g fair p q b j (root x) ∙ ap (λ (z : S). g.next z (cell_at b j)) e)
+      (over-in step root b x y hy (eq_of b.parent x t) ∙ step-child g b j (root x) ∙ ap (λ (z : S). g.next z (cell_at b j)) e)
       (over-in (meets (has c)) on b x y hy (eq_of b.parent x t) ∙ neither (has c y) (on x) (in-out os c y j' (sp.0.apart y hy)) a) j' h
       ∙ ap (λ (z : ℕ). cond (F z) (G R) nothing) (sym lf))
       (bool_is (has b w)))
@@ -124,6 +124,7 @@ module _ {S O : Type 0} (g : Game S O) (fair : Fair g) (p q : ℕ → Count) (o 
       (bool_is (has b w)))
       (bool_is (b.parent == x))
 
+module _ {S O : Type 0} (g : Game S O) (fair : Fair g) (p q : ℕ → Count) where
   -- a node of the path below x is the child that is chosen in its block
   pub on-picked : (os : List LinkedBlock) (on : ℕ → Bool) (x w : ℕ) (c : LinkedBlock) → Sprouts os → Out os x → on x ≡ false → In c os → has c w ≡ true
       → climb (meets (λ (z : ℕ). z == w)) on os (leaf_at g p q os x) ≡ true → w ≡ child c (pick g p q c c.parent)

@@ -75,6 +75,13 @@ pub in-out : (os : List LinkedBlock) (b : LinkedBlock) (x : ℕ) → In b os →
 in-out [] b x i out = absurd i
 in-out (c ∷ os) b x i out = ⊎_elim (λ (e : b ≡ c). ap (λ (d : LinkedBlock). has d x) e ∙ out.0) (λ (j : In b os). in-out os b x j out.1) i
 
+-- what a child stands for, by its parent
+abbrev pub state_step : {S O : Type 0} → Game S O → LinkedBlock → ℕ → S → S
+state_step g b y above = g.next above (cell_at b (place b y))
+
+pub step-child : {S O : Type 0} (g : Game S O) (b : LinkedBlock) (j : ℕ) (a : S) → state_step g b (child b j) a ≡ g.next a (cell_at b j)
+step-child g b j a = ap (λ (k : ℕ). g.next a (cell_at b k)) (is_child b.start j)
+
 module _ {S O : Type 0} (g : Game S O) (fair : Fair g) (p q : ℕ → Count) where
   pub child-in : (b : LinkedBlock) (x : ℕ) → 0 < length b.cells → has b (child b (pick g p q b x)) ≡ true
   child-in b x l = child-has b (pick g p q b x) (pick-in g fair p q b x l)
@@ -102,27 +109,20 @@ module _ {S O : Type 0} (g : Game S O) (fair : Fair g) (p q : ℕ → Count) whe
       meets-none test os (over (meets test) on b) y sp.1 (sp.0.apart y h) (λ z u. (no-one z u).1) (over-in (meets test) on b x y h (eq_of b.parent x t) ∙ neither (test y) (on x) n e))
       (λ (t : (b.parent == x) ≡ false). meets-none test os (over (meets test) on b) x sp.1 out.1 (λ z u. (no-one z u).1) (over-past (meets test) on b x out.0 ∙ e))
 
-  -- what a child stands for
-  abbrev pub state_step : LinkedBlock → ℕ → S → S
-  state_step b y above = g.next above (cell_at b (place b y))
-
-  pub step-child : (b : LinkedBlock) (j : ℕ) (a : S) → state_step b (child b j) a ≡ g.next a (cell_at b j)
-  step-child b j a = ap (λ (k : ℕ). g.next a (cell_at b k)) (is_child b.start j)
-
   -- the state at the leaf is what is gathered up
   pub state-up : (os : List LinkedBlock) (root : ℕ → S) (x : ℕ) (s : S) → Sprouts os → Out os x → root x ≡ s
-      → climb state_step root os (leaf_at g p q os x) ≡ (state_at g p q os x s).1
+      → climb (state_step g) root os (leaf_at g p q os x) ≡ (state_at g p q os x s).1
   state-up [] root x s sp out e = e
   state-up (b ∷ os) root x s sp out e = ⊎_elim
       (λ (t : (b.parent == x) ≡ true).
       let j : ℕ = pick g p q b x in
       let y : ℕ = child b j in
       let h : has b y ≡ true = child-in b x sp.0.some in
-      ap (climb state_step (over state_step root b) os) (down-here (λ (y : ℕ). y) (leaf_inner g p q) b os x t)
-      ∙ state-up os (over state_step root b) y (g.next s (cell_at b j)) sp.1 (sp.0.apart y h) (over-in state_step root b x y h (eq_of b.parent x t) ∙ step-child b j (root x) ∙ ap (λ (a : S). g.next a (cell_at b j)) e)
+      ap (climb (state_step g) (over (state_step g) root b) os) (down-here (λ (y : ℕ). y) (leaf_inner g p q) b os x t)
+      ∙ state-up os (over (state_step g) root b) y (g.next s (cell_at b j)) sp.1 (sp.0.apart y h) (over-in (state_step g) root b x y h (eq_of b.parent x t) ∙ step-child g b j (root x) ∙ ap (λ (a : S). g.next a (cell_at b j)) e)
       ∙ sym (ap (λ (f : S → Count × S). (f s).1) (down-here (state_leaf g p q) (state_inner g p q) b os x t)))
       (λ (t : (b.parent == x) ≡ false).
-      ap (climb state_step (over state_step root b) os) (down-else (λ (y : ℕ). y) (leaf_inner g p q) b os x t)
-      ∙ state-up os (over state_step root b) x s sp.1 out.1 (over-past state_step root b x out.0 ∙ e)
+      ap (climb (state_step g) (over (state_step g) root b) os) (down-else (λ (y : ℕ). y) (leaf_inner g p q) b os x t)
+      ∙ state-up os (over (state_step g) root b) x s sp.1 out.1 (over-past (state_step g) root b x out.0 ∙ e)
       ∙ sym (ap (λ (f : S → Count × S). (f s).1) (down-else (state_leaf g p q) (state_inner g p q) b os x t)))
       (bool_is (b.parent == x))
