@@ -1,3 +1,4 @@
 pub mod Steps
 pub mod Choosing
 pub mod Writing
+pub mod Standing
