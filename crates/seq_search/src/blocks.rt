@@ -4,8 +4,8 @@ ghost use Rattle.std.specs.Prelude.{◌≡◌, ℕ, ◌+◌, ◌*◌, ◌<◌, �
 ghost use Rattle.tree_words.specs.Blocks.{LinkedBlock, size, words_of};
 ghost use Rattle.seq_search.specs.Writing.{WritesBlock, WritesMoves, listed};
 
-use hex_cells::{Cell, CellSet, Size};
 use super::layout::NODE_WORDS;
+use hex_cells::{Cell, CellSet, Size};
 use tree_words::numbered;
 
 /// A move word is this many times the place, and the cell.
@@ -38,7 +38,8 @@ fn write_moves(words: &mut [u64], start: usize, cells: CellSet, size: Size) -> u
     let mut place = 0;
     for k in 0..size.cells() {
         if cells.has(numbered(k, size)) {
-            words[start + NODE_WORDS + NODE_WORDS * place] = PLACE_UNIT * place as u64 + u64::from(k);
+            words[start + NODE_WORDS + NODE_WORDS * place] = PLACE_UNIT * place as u64
+                + u64::from(k);
             place += 1;
         }
     }

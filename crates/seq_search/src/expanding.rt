@@ -5,23 +5,28 @@ ghost use Rattle.tree_words.specs.Words.{next_in, tally_in, end_of, root_at};
 ghost use Rattle.tree_words.specs.Sequence.{gets_block};
 ghost use Rattle.seq_search.specs.Writing.{Grows};
 
-use super::blocks::{NODE_WORDS, write_block};
-use super::opening::LINK_WORD;
+use super::blocks::write_block;
+use super::layout::{LINK_WORD, NODE_WORDS, TALLY_WORD};
 use hex_board::Board;
 use hex_cells::Colour;
 use tree_words::{Shape, visits_of};
 
-/// The tally is the third word of a node.
-const TALLY_WORD: usize = 2;
-
 /// Gives the leaf, whose board this is, its block where it asks for one and the block fits inside the area, and answers
 /// whether it did.
-pub(crate) fn expand(words: &mut [u64], shape: &Shape, leaf: usize, board: &Board, player: Colour) -> bool
-{
+pub(crate) fn expand(
+    words: &mut [u64],
+    shape: &Shape,
+    leaf: usize,
+    board: &Board,
+    player: Colour,
+) -> bool {
     let end = words.len();
     let next = words[0] as usize;
     let empties = board.empties();
-    if visits_of(words[leaf + TALLY_WORD]) < shape.knobs().expand || empties.is_empty() || end < next {
+    if visits_of(words[leaf + TALLY_WORD]) < shape.knobs().expand
+        || empties.is_empty()
+        || end < next
+    {
         return false;
     }
     let past = next + NODE_WORDS + NODE_WORDS * empties.count() as usize;

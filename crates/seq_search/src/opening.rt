@@ -1,30 +1,24 @@
 //! The opening words.
 
-ghost use Rattle.std.specs.Prelude.{IfOk};
+ghost use Rattle.std.specs.Prelude.{◌≡◌, IfOk, length, replicate};
+ghost use Rattle.tree_words.specs.Words.{end_of};
 ghost use Rattle.tree_words.specs.Opening.{AreOpening};
 
-use super::blocks::{NODE_WORDS, write_block};
+use super::blocks::write_block;
+use super::layout::{LINK_WORD, NODE_WORDS, RECORDS_AT};
 use std::alloc::Global;
 use tree_words::{Memory, Shape};
 
-/// The records begin behind NEXT and TICKET.
-pub(crate) const RECORDS_AT: usize = 2;
-
-/// The link is the second word of a node.
-pub(crate) const LINK_WORD: usize = 1;
-
-/// The opening words of the shape. One allocation has them all.
-pub(crate) fn opening_words(alloc: Global, shape: &Shape) -> Result<Vec<u64>, Memory>
-    ensures { IfOk result (λ words. AreOpening shape.now words.items) }
+// Writes the opening words of the shape over words that are 0.
+fn write_opening(words: &mut [u64], shape: &Shape)
+    requires { words.old ≡ replicate (end_of shape.now) 0 }
+    ensures { AreOpening shape.now words.new }
 {
-    let Ok(mut words) = vec![in alloc; 0; shape.total() as usize] else {
-        return Err(Memory);
-    };
     let root = shape.knobs().playouts as usize + RECORDS_AT;
     let start = root + NODE_WORDS;
     let board = shape.board();
     let count = write_block(
-        &mut words,
+        words,
         start,
         root,
         board.empties(),
@@ -33,5 +27,15 @@ pub(crate) fn opening_words(alloc: Global, shape: &Shape) -> Result<Vec<u64>, Me
     );
     words[root + LINK_WORD] = start as u64;
     words[0] = (start + NODE_WORDS + NODE_WORDS * count) as u64;
+}
+
+/// The opening words of the shape. One allocation has them all.
+pub(crate) fn opening_words(alloc: Global, shape: &Shape) -> Result<Vec<u64>, Memory>
+    ensures { IfOk result (λ words. AreOpening shape.now words.items) }
+{
+    let Ok(mut words) = vec![in alloc; 0; shape.total() as usize] else {
+        return Err(Memory);
+    };
+    write_opening(&mut words, shape);
     Ok(words)
 }

@@ -12,43 +12,43 @@ loop-k-init c = moved-none c.args.start c.args.cells c.args.words.now
 pub bounds-words-start : goal.bounds-words-start
 bounds-words-start c =
     let few = few_places c.args.start c.args.cells (c.args.size * c.args.size) c.loop-k.k c.loop-k.place c.args.words.now c.loop-k.words c.loop-k.invariant
-        (omega (arith, c.loop-k-test.true, c.cells-k-end.ensures.value)) (sym (c.has.ensures ∙ ap (has_cell c.args.cells) c.numbered.ensures) ∙ c.if-has.true) in
+    (omega (arith, c.loop-k-test.true, c.cells-k-end.ensures.value)) (sym (c.has.ensures ∙ ap (has_cell c.args.cells) c.numbered.ensures) ∙ c.if-has.true) in
     omega (arith, few, c.requires.within, c.loop-k.auto.words, c.from.ensures)
 
 pub overflow_mul-words : goal.overflow_mul-words
 overflow_mul-words c =
     let few = few_places c.args.start c.args.cells (c.args.size * c.args.size) c.loop-k.k c.loop-k.place c.args.words.now c.loop-k.words c.loop-k.invariant
-        (omega (arith, c.loop-k-test.true, c.cells-k-end.ensures.value)) (sym (c.has.ensures ∙ ap (has_cell c.args.cells) c.numbered.ensures) ∙ c.if-has.true) in
+    (omega (arith, c.loop-k-test.true, c.cells-k-end.ensures.value)) (sym (c.has.ensures ∙ ap (has_cell c.args.cells) c.numbered.ensures) ∙ c.if-has.true) in
     omega (arith, moved-few c.args.start c.args.cells c.args.words.now c.loop-k.words c.loop-k.place c.loop-k.k c.loop-k.invariant, c.loop-k-test.true, c.cells-k-end.ensures, c.loop-k.auto.words)
 
 pub overflow_add-words : goal.overflow_add-words
 overflow_add-words c =
     let few = few_places c.args.start c.args.cells (c.args.size * c.args.size) c.loop-k.k c.loop-k.place c.args.words.now c.loop-k.words c.loop-k.invariant
-        (omega (arith, c.loop-k-test.true, c.cells-k-end.ensures.value)) (sym (c.has.ensures ∙ ap (has_cell c.args.cells) c.numbered.ensures) ∙ c.if-has.true) in
+    (omega (arith, c.loop-k-test.true, c.cells-k-end.ensures.value)) (sym (c.has.ensures ∙ ap (has_cell c.args.cells) c.numbered.ensures) ∙ c.if-has.true) in
     omega (arith, moved-few c.args.start c.args.cells c.args.words.now c.loop-k.words c.loop-k.place c.loop-k.k c.loop-k.invariant, c.loop-k-test.true, c.cells-k-end.ensures, c.loop-k.auto.words, c.from.ensures)
 
 pub overflow_mul-words-then-has : goal.overflow_mul-words-then-has
 overflow_mul-words-then-has c =
     let few = few_places c.args.start c.args.cells (c.args.size * c.args.size) c.loop-k.k c.loop-k.place c.args.words.now c.loop-k.words c.loop-k.invariant
-        (omega (arith, c.loop-k-test.true, c.cells-k-end.ensures.value)) (sym (c.has.ensures ∙ ap (has_cell c.args.cells) c.numbered.ensures) ∙ c.if-has.true) in
+    (omega (arith, c.loop-k-test.true, c.cells-k-end.ensures.value)) (sym (c.has.ensures ∙ ap (has_cell c.args.cells) c.numbered.ensures) ∙ c.if-has.true) in
     omega (arith, few, c.requires.within, c.loop-k.auto.words, c.from.ensures)
 
 pub overflow_add-words-then-has-2 : goal.overflow_add-words-then-has-2
 overflow_add-words-then-has-2 c =
     let few = few_places c.args.start c.args.cells (c.args.size * c.args.size) c.loop-k.k c.loop-k.place c.args.words.now c.loop-k.words c.loop-k.invariant
-        (omega (arith, c.loop-k-test.true, c.cells-k-end.ensures.value)) (sym (c.has.ensures ∙ ap (has_cell c.args.cells) c.numbered.ensures) ∙ c.if-has.true) in
+    (omega (arith, c.loop-k-test.true, c.cells-k-end.ensures.value)) (sym (c.has.ensures ∙ ap (has_cell c.args.cells) c.numbered.ensures) ∙ c.if-has.true) in
     omega (arith, few, c.requires.within, c.loop-k.auto.words, c.from.ensures)
 
 pub offset_bounds-words-start : goal.offset_bounds-words-start
 offset_bounds-words-start c =
     let few = few_places c.args.start c.args.cells (c.args.size * c.args.size) c.loop-k.k c.loop-k.place c.args.words.now c.loop-k.words c.loop-k.invariant
-        (omega (arith, c.loop-k-test.true, c.cells-k-end.ensures.value)) (sym (c.has.ensures ∙ ap (has_cell c.args.cells) c.numbered.ensures) ∙ c.if-has.true) in
+    (omega (arith, c.loop-k-test.true, c.cells-k-end.ensures.value)) (sym (c.has.ensures ∙ ap (has_cell c.args.cells) c.numbered.ensures) ∙ c.if-has.true) in
     omega (arith, few, c.requires.within, c.loop-k.auto.words, c.from.ensures)
 
 pub overflow_add-place : goal.overflow_add-place
 overflow_add-place c =
     let few = few_places c.args.start c.args.cells (c.args.size * c.args.size) c.loop-k.k c.loop-k.place c.args.words.now c.loop-k.words c.loop-k.invariant
-        (omega (arith, c.loop-k-test.true, c.cells-k-end.ensures.value)) (sym (c.has.ensures ∙ ap (has_cell c.args.cells) c.numbered.ensures) ∙ c.if-has.true) in
+    (omega (arith, c.loop-k-test.true, c.cells-k-end.ensures.value)) (sym (c.has.ensures ∙ ap (has_cell c.args.cells) c.numbered.ensures) ∙ c.if-has.true) in
     omega (arith, few, c.requires.within, c.loop-k.auto.words, c.from.ensures)
 
 pub loop-k-preserved : goal.loop-k-preserved
