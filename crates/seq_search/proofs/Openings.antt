@@ -53,7 +53,7 @@ opening-written s root e count cells before words h zeros at is set w many =
     let b : LinkedBlock = root_block s e in
     let start : root + 4 ≡ area_at s = omega (arith, at) in
     let v : WritesBlock b before words = subst (λ (r : ℕ). WritesBlock (block_of (area_at s) r e (allowed_cells s)) before words) at
-        (subst (λ (a : ℕ). WritesBlock (block_of a root e (allowed_cells s)) before words) start (subst (λ (l : List ℕ). WritesBlock (block_of (root + 4) root e l) before words) is w)) in
+    (subst (λ (a : ℕ). WritesBlock (block_of a root e (allowed_cells s)) before words) start (subst (λ (l : List ℕ). WritesBlock (block_of (root + 4) root e l) before words) is w)) in
     let long : length words ≡ end_of s = w.long ∙ ap length zeros ∙ length-replicate (end_of s) 0 in
     let w1 : List ℕ = set_word words (root + 1) (root + 4) in
     let w2 : List ℕ = set_word w1 0 (root + 4 + 4 + 4 * count) in
@@ -63,21 +63,21 @@ opening-written s root e count cells before words h zeros at is set w many =
       empties = e;
       set = set;
       each = λ i l. ⊎_elim
-      (λ (q : i ≡ 0).
-      let n : root + 4 + 4 + 4 * count ≡ b.start + size b = omega (arith, at, many, ap length is) in
-      ap (λ (z : ℕ). get_or w2 z 0) q ∙ get_or-set_same w1 0 (root + 4 + 4 + 4 * count) 0 (omega (arith, l1, long)) ∙ n
-      ∙ sym (ap (opening_word s e) q))
-      (λ (d : i ≡ 0 → ⊥).
-      let rest : ℕ = cond (covers i b && stays (i - b.start)) (header_or_move b (i - b.start)) 0 in
-      let first : opening_word s e i ≡ cond (i == root_at s + 1) b.start rest = ap (λ (t : Bool). cond t (b.start + size b) (cond (i == root_at s + 1) b.start rest)) (other_is i 0 d) in
-      get_or-set_other w1 0 i (root + 4 + 4 + 4 * count) 0 d ∙ ⊎_elim
-      (λ (q : i ≡ root + 1).
-      ap (λ (z : ℕ). get_or w1 z 0) q ∙ get_or-set_same words (root + 1) (root + 4) 0 (omega (arith, long, at, h.ranges.words.0)) ∙ start
-      ∙ sym (first ∙ ap (λ (t : Bool). cond t b.start rest) (same_is i (root_at s + 1) (q ∙ ap (λ (z : ℕ). z + 1) at))))
-      (λ (n : i ≡ root + 1 → ⊥).
-      get_or-set_other words (root + 1) i (root + 4) 0 n ∙ v.each i
-      ∙ ap (λ (z : ℕ). cond (covers i b && stays (i - b.start)) (header_or_move b (i - b.start)) z) (ap (λ (x : List ℕ). get_or x i 0) zeros ∙ get_or-replicate (end_of s) i 0 0 l)
-      ∙ sym (first ∙ ap (λ (t : Bool). cond t b.start rest) (other_is i (root_at s + 1) (λ z. n (z ∙ ap (λ (u : ℕ). u + 1) (sym at))))))
-      (cases_eq i (root + 1)))
-      (cases_eq i 0);
+          (λ (q : i ≡ 0).
+          let n : root + 4 + 4 + 4 * count ≡ b.start + size b = omega (arith, at, many, ap length is) in
+          ap (λ (z : ℕ). get_or w2 z 0) q ∙ get_or-set_same w1 0 (root + 4 + 4 + 4 * count) 0 (omega (arith, l1, long)) ∙ n
+          ∙ sym (ap (opening_word s e) q))
+          (λ (d : i ≡ 0 → ⊥).
+          let rest : ℕ = cond (covers i b && stays (i - b.start)) (header_or_move b (i - b.start)) 0 in
+          let first : opening_word s e i ≡ cond (i == root_at s + 1) b.start rest = ap (λ (t : Bool). cond t (b.start + size b) (cond (i == root_at s + 1) b.start rest)) (other_is i 0 d) in
+          get_or-set_other w1 0 i (root + 4 + 4 + 4 * count) 0 d ∙ ⊎_elim
+          (λ (q : i ≡ root + 1).
+          ap (λ (z : ℕ). get_or w1 z 0) q ∙ get_or-set_same words (root + 1) (root + 4) 0 (omega (arith, long, at, h.ranges.words.0)) ∙ start
+          ∙ sym (first ∙ ap (λ (t : Bool). cond t b.start rest) (same_is i (root_at s + 1) (q ∙ ap (λ (z : ℕ). z + 1) at))))
+          (λ (n : i ≡ root + 1 → ⊥).
+          get_or-set_other words (root + 1) i (root + 4) 0 n ∙ v.each i
+          ∙ ap (λ (z : ℕ). cond (covers i b && stays (i - b.start)) (header_or_move b (i - b.start)) z) (ap (λ (x : List ℕ). get_or x i 0) zeros ∙ get_or-replicate (end_of s) i 0 0 l)
+          ∙ sym (first ∙ ap (λ (t : Bool). cond t b.start rest) (other_is i (root_at s + 1) (λ z. n (z ∙ ap (λ (u : ℕ). u + 1) (sym at))))))
+          (cases_eq i (root + 1)))
+          (cases_eq i 0);
     }

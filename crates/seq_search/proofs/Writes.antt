@@ -23,7 +23,7 @@ front true x xs ys = refl
 front false x xs ys = refl
 
 -- a filter of one number more
-filter_more : (p : ℕ → Bool) (a n m : ℕ) → a + n ≡ m → filter p (range_with_len a (suc n)) ≡ filter p (range_with_len a n) ++ cond (p m) (m ∷ []) []
+pub filter_more : (p : ℕ → Bool) (a n m : ℕ) → a + n ≡ m → filter p (range_with_len a (suc n)) ≡ filter p (range_with_len a n) ++ cond (p m) (m ∷ []) []
 filter_more p a zero m e = ap (λ (v : ℕ). cond (p v) (v ∷ []) []) (sym (add-zero a) ∙ e)
 filter_more p a (suc n) m e =
     ap (λ (xs : List ℕ). cond (p a) (a ∷ xs) xs) (filter_more p (a + 1) n m (omega arith))
@@ -92,7 +92,7 @@ pub record Moved (start set : ℕ) (before words : List ℕ) (place k : ℕ) : T
 pub moved-none : (start set : ℕ) (words : List ℕ) → Moved start set words words 0 0
 moved-none start set words = record { many = refl; moves = no-moves start 0 0 words }
 
-cells-more : (set k : ℕ) → filter (has_cell set) (range_with_len 0 (k + 1)) ≡ filter (has_cell set) (range_with_len 0 k) ++ cond (has_cell set k) (k ∷ []) []
+pub cells-more : (set k : ℕ) → filter (has_cell set) (range_with_len 0 (k + 1)) ≡ filter (has_cell set) (range_with_len 0 k) ++ cond (has_cell set k) (k ∷ []) []
 cells-more set k = ap (λ (z : ℕ). filter (has_cell set) (range_with_len 0 z)) (add-one k) ∙ filter_more (has_cell set) 0 k k (zero-add k)
 
 pub moved-one : (start set : ℕ) (before words : List ℕ) (n k at : ℕ) → Moved start set before words n k → has_cell set k ≡ true → at ≡ start + 4 + 4 * n → at < length words
