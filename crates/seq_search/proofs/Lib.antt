@@ -5,4 +5,4 @@ pub mod Leaves
 mod SetNumbers
 pub mod Writes
 pub mod Openings
-pub mod Asking
+pub mod LeafBlocks

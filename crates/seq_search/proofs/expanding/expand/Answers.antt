@@ -3,7 +3,7 @@ use Rattle.std.proofs.Math.ListN.{length-set}
 use Rattle.tree_words.specs.Words.{next_in, tally_in}
 use Rattle.tree_words.specs.Sequence.{size_below}
 use Rattle.play_out.specs.Fills.{empties_of}
-use Rattle.seq_search.proofs.Asking.{gets-none, gets-past, gets-made, grows-none, grows-past, grows-made}
+use Rattle.seq_search.proofs.LeafBlocks.{gets-none, gets-past, gets-made, grows-none, grows-past, grows-made}
 use Rattle.seq_search.proofs.expanding.expand.Goals as goal
 
 pub returns-then-not-asks_for_block-clause-told : goal.returns-then-not-asks_for_block-clause-told

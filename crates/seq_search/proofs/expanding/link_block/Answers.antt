@@ -3,7 +3,7 @@ use Rattle.tree_words.specs.Complete.{HasEmpties}
 use Rattle.play_out.specs.Fills.{empties_of}
 use Rattle.seq_search.specs.Writing.{listed}
 use Rattle.seq_search.proofs.Openings.{has-empties}
-use Rattle.seq_search.proofs.Asking.{empties-listed, link-written}
+use Rattle.seq_search.proofs.LeafBlocks.{empties-listed, link-written}
 use Rattle.seq_search.proofs.expanding.link_block.Goals as goal
 
 pub write_block-requires-clause-within : goal.write_block-requires-clause-within
