@@ -1,3 +1,4 @@
 pub mod Climbs
 pub mod Bridges
 pub mod Leaves
+pub mod Tallies
