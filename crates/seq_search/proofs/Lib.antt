@@ -2,3 +2,4 @@ pub mod Climbs
 pub mod Bridges
 pub mod Leaves
 pub mod Tallies
+pub mod Asking
