@@ -1,23 +1,22 @@
 -- Where a leaf asks for a block.
-use Rattle.std.proofs.Common.{◌≡◌, ◌⊎◌, ℕ, zero, suc, ◌+◌, ◌*◌, ◌<◌, ◌≤◌, Bool, true, false, cond, List, [], ◌∷◌, ◌++◌, length, refl, sym, ap, ◌∙◌, subst, ⊎_elim, inl, inr, arith}
+use Rattle.std.proofs.Common.{◌≡◌, ℕ, ◌+◌, ◌*◌, ◌<◌, ◌≤◌, Bool, true, false, cond, List, [], ◌∷◌, ◌++◌, length, refl, sym, ap, ◌∙◌, ⊎_elim, arith}
 use Rattle.std.specs.Prelude.{◌==◌, ◌&&◌, nat_le, nat_lt}
 use Rattle.std.proofs.lemmas.Bool.Decides.{nat_tests}
 use Rattle.hex_cells.specs.declared.colours.Colour.{Colour}
 use Rattle.hex_cells.specs.declared.colours.Colour.TheVariants.{Black, White}
 use Rattle.hex_board.specs.Positions.{Position, is_empty_at, placed}
 use Rattle.play_out.specs.Fills.{empties_of}
-use Rattle.tree_words.specs.Settings.{Setting, IsSetting}
-use Rattle.tree_words.specs.Words.{Count, root_at, end_of}
-use Rattle.tree_words.specs.Blocks.{LinkedBlock, child, has, place, cell_at, words_of, up}
+use Rattle.tree_words.specs.Settings.{Setting}
+use Rattle.tree_words.specs.Words.{Count, end_of}
+use Rattle.tree_words.specs.Blocks.{LinkedBlock, child, has, place, cell_at}
 use Rattle.tree_words.specs.Paths.{Spot, first_spot, spot_after, spot_of}
 use Rattle.tree_words.specs.Growth.{most_words}
 use Rattle.tree_words.specs.Walks.{nothing, Game, leaf_state}
 use Rattle.tree_words.specs.Sequence.{Outcome, size_below, asks, gets_block, next_after, game_of}
-use Rattle.tree_words.specs.Trees.{tree_at}
 use Rattle.tree_words.specs.Descents.{Config, ends, NewBlock, Widened, pick, leaf_inner, leaf_at, state_leaf, state_inner, state_at, top, Out, Sprouts}
-use Rattle.tree_words.proofs.BlockLaws.{true_both, le_of, lt_of, eq_of, same_is, bool_is}
+use Rattle.tree_words.proofs.BlockLaws.{true_both, le_of, lt_of, same_is, bool_is}
 use Rattle.tree_words.proofs.RootLaws.{filter_some, few_cells}
-use Rattle.tree_words.proofs.Down.{Fair, not_both, child-has, pick-in, down-here, down-else, down-split, same-under}
+use Rattle.tree_words.proofs.Down.{Fair, child-has, pick-in, down-here, down-else, same-under}
 use Rattle.tree_words.proofs.Expands.{state-tree}
 use Rattle.tree_words.proofs.GameLaws.{fair_game}
 

@@ -3,3 +3,4 @@ pub mod Bridges
 pub mod Leaves
 pub mod Tallies
 pub mod Asking
+pub mod Standings
