@@ -4,3 +4,4 @@ pub mod Leaves
 pub mod Tallies
 pub mod Asking
 pub mod Standings
+pub mod Turns
