@@ -1,13 +1,13 @@
 -- From the leaf up is from the root down.
-use Rattle.std.proofs.Common.{◌≡◌, ◌⊎◌, ℕ, ◌+◌, ◌-◌, ◌*◌, ◌/◌, ◌<◌, Bool, true, false, cond, List, [], ◌∷◌, ◌++◌, length, get_or, refl, sym, ap, ◌∙◌, subst, ⊎_elim, inl, inr, arith}
+use Rattle.std.proofs.Common.{◌≡◌, ℕ, ◌<◌, Bool, true, false, cond, List, [], ◌∷◌, ◌++◌, length, refl, sym, ap, ◌∙◌, ⊎_elim}
 use Rattle.std.specs.Prelude.{◌==◌, ◌||◌, if◌then◌else◌}
 use Rattle.std.specs.List.{list_any}
 use Rattle.tree_words.specs.Words.{Count}
 use Rattle.tree_words.specs.Blocks.{LinkedBlock, child, has, place, cell_at, up, In}
-use Rattle.tree_words.specs.Walks.{nothing, Game}
+use Rattle.tree_words.specs.Walks.{Game}
 use Rattle.tree_words.specs.Trees.{oldest_first}
-use Rattle.tree_words.specs.Descents.{pick, leaf_inner, leaf_at, state_leaf, state_inner, state_at, adds_leaf, adds_inner, adds, sees_leaf, sees_inner, sees, Out, Sprouts}
-use Rattle.tree_words.proofs.BlockLaws.{eq_of, same_is, other_is, bool_is}
+use Rattle.tree_words.specs.Descents.{pick, leaf_inner, leaf_at, state_leaf, state_inner, state_at, Out, Sprouts}
+use Rattle.tree_words.proofs.BlockLaws.{eq_of, bool_is}
 use Rattle.tree_words.proofs.Down.{Fair, not_both, child-has, down-here, down-else, down-split, pick-in}
 use Rattle.tree_words.proofs.Adds.{is_child}
 

@@ -1,13 +1,13 @@
 -- The leaf of a walk on the linked blocks of a setting.
-use Rattle.std.proofs.Common.{◌≡◌, ◌≢◌, ◌⊎◌, ℕ, zero, suc, ◌+◌, ◌-◌, ◌*◌, ◌/◌, ◌<◌, ◌≤◌, Bool, true, false, cond, List, [], ◌∷◌, ◌++◌, length, map, refl, sym, ap, ◌∙◌, subst, ⊎_elim, inl, inr, arith}
-use Rattle.std.specs.Prelude.{◌==◌, ◌||◌, not, if◌then◌else◌}
+use Rattle.std.proofs.Common.{◌≡◌, ◌≢◌, ◌⊎◌, ℕ, zero, suc, ◌+◌, ◌*◌, ◌<◌, Bool, true, false, cond, List, [], ◌∷◌, ◌++◌, length, map, refl, sym, ap, ◌∙◌, subst, ⊎_elim, inl, inr, arith}
+use Rattle.std.specs.Prelude.{◌==◌, ◌||◌, not}
 use Rattle.std.specs.List.{list_any, position_or_len}
 use Rattle.std.proofs.lemmas.Bool.Decides.{nat_tests}
 use Rattle.uct_table.specs.Choice.{Child, is_unvisited, score_in, first_of_largest, choice_of}
 use Rattle.tree_words.specs.Settings.{Setting}
 use Rattle.tree_words.specs.Words.{Count, root_at}
 use Rattle.tree_words.specs.Blocks.{LinkedBlock, child, has, place, cell_at, is_node, link_of, In, InOrder}
-use Rattle.tree_words.specs.Paths.{Spot, first_spot, spot_after, path_of, is_on, enters, spot_of}
+use Rattle.tree_words.specs.Paths.{Spot, first_spot, is_on, enters, spot_of}
 use Rattle.tree_words.specs.Walks.{nothing, Game}
 use Rattle.tree_words.specs.Sequence.{Outcome, gain_of, glimpse_of, child_of, chosen_of, game_of}
 use Rattle.tree_words.specs.Trees.{oldest_first}

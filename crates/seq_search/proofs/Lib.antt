@@ -2,6 +2,10 @@ pub mod Choices
 pub mod Climbs
 pub mod Bridges
 pub mod Leaves
+pub mod Tallies
+pub mod Asking
+pub mod Standings
+pub mod Turns
 mod SetNumbers
 pub mod Writes
 pub mod Openings

@@ -1,7 +1,7 @@
 -- What a search has reached after so many walks.
 use Rattle.std.specs.Prelude.{◌≡◌, ℕ, ◌+◌, ◌<◌, ◌≤◌, true, List}
 use Rattle.tree_words.specs.Settings.{Setting}
-use Rattle.tree_words.specs.Words.{Count, root_at, end_of, next_in, tally_in}
+use Rattle.tree_words.specs.Words.{root_at, end_of, next_in, tally_in}
 use Rattle.tree_words.specs.Blocks.{LinkedBlock, has, is_node, link_of, In}
 use Rattle.tree_words.specs.Paths.{board_of}
 use Rattle.tree_words.specs.Records.{IsRecord}
