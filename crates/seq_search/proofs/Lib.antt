@@ -10,3 +10,5 @@ mod SetNumbers
 pub mod Writes
 pub mod Openings
 pub mod LeafBlocks
+pub mod NodeLaws
+pub mod Growing
