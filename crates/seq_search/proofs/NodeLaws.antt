@@ -22,13 +22,13 @@ pub nodes-apart : (r : ℕ) (bs : List LinkedBlock) (x y i j : ℕ) → InOrder 
 nodes-apart r [] x y i j g n m li lj e = eq_of x r n ∙ sym (eq_of y r m)
 nodes-apart r (b ∷ bs) x y i j g n m li lj e = ⊎_elim
     (λ (h : has b x ≡ true). ⊎_elim
-      (λ (u : has b y ≡ true). let p = has-at b x h in let q = has-at b y u in omega (arith, p.2, q.2, e))
-      (λ (u : is_node r bs y ≡ true). absurd (clash (covers (x + i) b) (has-covers b x i h li) (ap (λ (z : ℕ). covers z b) e ∙ node-apart r b bs y j g.0 u lj)))
-      (either_true (has b y) (is_node r bs y) m))
+    (λ (u : has b y ≡ true). let p = has-at b x h in let q = has-at b y u in omega (arith, p.2, q.2, e))
+    (λ (u : is_node r bs y ≡ true). absurd (clash (covers (x + i) b) (has-covers b x i h li) (ap (λ (z : ℕ). covers z b) e ∙ node-apart r b bs y j g.0 u lj)))
+    (either_true (has b y) (is_node r bs y) m))
     (λ (h : is_node r bs x ≡ true). ⊎_elim
-      (λ (u : has b y ≡ true). absurd (clash (covers (y + j) b) (has-covers b y j u lj) (ap (λ (z : ℕ). covers z b) (sym e) ∙ node-apart r b bs x i g.0 h li)))
-      (λ (u : is_node r bs y ≡ true). nodes-apart r bs x y i j g.1 h u li lj e)
-      (either_true (has b y) (is_node r bs y) m))
+    (λ (u : has b y ≡ true). absurd (clash (covers (y + j) b) (has-covers b y j u lj) (ap (λ (z : ℕ). covers z b) (sym e) ∙ node-apart r b bs x i g.0 h li)))
+    (λ (u : is_node r bs y ≡ true). nodes-apart r bs x y i j g.1 h u li lj e)
+    (either_true (has b y) (is_node r bs y) m))
     (either_true (has b x) (is_node r bs x) n)
 
 not-stays : (i k j : ℕ) → 1 ≤ j → j < 4 → i ≡ 4 + 4 * k + j → stays i ≡ true → ⊥
@@ -51,14 +51,14 @@ pub stays-clear : (r : ℕ) (bs : List LinkedBlock) (c : LinkedBlock) (i x j : �
 stays-clear r [] c i x j g n li st m l1 l4 e = n
 stays-clear r (b ∷ bs) c i x j g n li st m l1 l4 e = ⊎_elim
     (λ (q : c ≡ b). ⊎_elim
-      (λ (h : has b x ≡ true). let p = has-at b x h in let s : c.start ≡ b.start = ap (λ (d : LinkedBlock). d.start) q in not-stays i p.0 j l1 l4 (omega (arith, p.2, e, s)) st)
-      (λ (h : is_node r bs x ≡ true). clash (covers (x + j) b) (sym (ap (λ (z : ℕ). covers z b) e) ∙ ap (covers (c.start + i)) (sym q) ∙ covers_if (c.start + i) c (omega arith) (omega (arith, li))) (node-apart r b bs x j g.0 h l4))
-      (either_true (has b x) (is_node r bs x) m))
+    (λ (h : has b x ≡ true). let p = has-at b x h in let s : c.start ≡ b.start = ap (λ (d : LinkedBlock). d.start) q in not-stays i p.0 j l1 l4 (omega (arith, p.2, e, s)) st)
+    (λ (h : is_node r bs x ≡ true). clash (covers (x + j) b) (sym (ap (λ (z : ℕ). covers z b) e) ∙ ap (covers (c.start + i)) (sym q) ∙ covers_if (c.start + i) c (omega arith) (omega (arith, li))) (node-apart r b bs x j g.0 h l4))
+    (either_true (has b x) (is_node r bs x) m))
     (λ (q : In c bs). ⊎_elim
-      (λ (h : has b x ≡ true). let z : cover (x + j) bs ≡ 0 = g.0.clear (x + j) (has-covers b x j h l4) in
-        let u : 0 < cover (x + j) bs = in-cover bs c (x + j) q (ap (λ (z : ℕ). covers z c) (sym e) ∙ covers_if (c.start + i) c (omega arith) (omega (arith, li))) in omega arith)
-      (λ (h : is_node r bs x ≡ true). stays-clear r bs c i x j g.1 q li st h l1 l4 e)
-      (either_true (has b x) (is_node r bs x) m)) n
+    (λ (h : has b x ≡ true). let z : cover (x + j) bs ≡ 0 = g.0.clear (x + j) (has-covers b x j h l4) in
+    let u : 0 < cover (x + j) bs = in-cover bs c (x + j) q (ap (λ (z : ℕ). covers z c) (sym e) ∙ covers_if (c.start + i) c (omega arith) (omega (arith, li))) in omega arith)
+    (λ (h : is_node r bs x ≡ true). stays-clear r bs c i x j g.1 q li st h l1 l4 e)
+    (either_true (has b x) (is_node r bs x) m)) n
 
 -- where a node lies
 pub node-lies : (s : Setting) (next : ℕ) (bs : List LinkedBlock) (x : ℕ) → AreComplete s next bs → is_node (root_at s) bs x ≡ true

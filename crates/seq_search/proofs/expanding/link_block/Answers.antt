@@ -13,8 +13,9 @@ write_block-requires-clause-within c =
 
 pub returns : goal.returns
 returns c p e =
-    let is : listed c.size.result c.empties-empties.result ≡ empties_of c.args.board.now = ap (λ n. listed n c.empties-empties.result) c.size.ensures.value ∙ empties-listed c.empties-empties.result c.args.board.now c.empties-empties.ensures in
-    (c.empties-empties.result,
+    let is : listed c.size.result c.empties-empties.result ≡ empties_of c.args.board.now = ap (λ n. listed n c.empties-empties.result) c.size.ensures.value ∙ empties-listed c.empties-empties.result c.args.board.now c.empties-empties.ensures in (
+      c.empties-empties.result,
       subst (HasEmpties c.empties-empties.result) (sym e) (has-empties c.empties-empties.result c.args.board.now (omega (arith, c.size.ensures.value, c.size.ensures.range)) c.empties-empties.ensures),
       link-written c.args.start c.args.leaf c.empties-empties.result p (listed c.size.result c.empties-empties.result) c.args.words.now c.write_block.new.words
-        c.write_block.ensures.words (is ∙ ap empties_of (sym e)) c.requires.leaf)
+          c.write_block.ensures.words (is ∙ ap empties_of (sym e)) c.requires.leaf,
+    )
