@@ -14,3 +14,6 @@ pub(crate) const SEEN_WORD: usize = 3;
 
 /// The count is the fourth word of a block's header.
 pub(crate) const COUNT_WORD: usize = 3;
+
+/// The records begin behind NEXT and TICKET.
+pub(crate) const RECORDS_AT: usize = 2;

@@ -2,4 +2,5 @@
 #![tactic(auto)]
 
 mod choosing;
+mod descending;
 mod layout;
