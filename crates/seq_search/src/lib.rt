@@ -1,6 +1,9 @@
-//! The search of one worker.
+//! The search of one worker over plain words.
 #![tactic(auto)]
 
+mod blocks;
 mod choosing;
 mod descending;
+mod expanding;
 mod layout;
+mod opening;
