@@ -1,4 +1,6 @@
 pub mod Choices
+pub mod LinkLaws
+pub mod Ways
 pub mod Climbs
 pub mod Bridges
 pub mod Leaves

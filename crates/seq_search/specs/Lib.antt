@@ -1,4 +1,5 @@
 pub mod Steps
 pub mod Choosing
+pub mod Descending
 pub mod Writing
 pub mod Standing

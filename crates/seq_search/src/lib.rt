@@ -3,6 +3,7 @@
 
 mod blocks;
 mod choosing;
+mod descending;
 mod expanding;
 mod layout;
 mod opening;
