@@ -14,3 +14,4 @@ pub mod Openings
 pub mod LeafBlocks
 pub mod NodeLaws
 pub mod Growing
+pub mod Openers
