@@ -279,7 +279,7 @@ none-all : (s : Setting) (bs : List LinkedBlock) (before after : List ℕ) (k le
     → gets_block s (next_in before) (tally_in before leaf) p ≡ false → next_in after ≡ next_after s (next_in before) (tally_in before leaf) p
     → next_in before ≤ next_in after → next_in after ≤ end_of s + most_words
     → length after ≡ length before → ((i : ℕ) → 1 ≤ i → get_or after i 0 ≡ get_or before i 0)
-    → (cs : List LinkedBlock) × Holds s cs after k × Widened (game_of s) (first_spot s) (root_at s) (config_of bs before) (config_of cs after) × KeepsRecords s before after
+    → Holds s bs after k × Widened (game_of s) (first_spot s) (root_at s) (config_of bs before) (config_of bs after) × KeepsRecords s before after
 none-all s bs before after k leaf p h is_leaf is_spot narrow rule grew most long same =
     let g : Game Spot Outcome = game_of s in
     let st : Count × Spot = state_at g (tally_in before) (seen_in before) (oldest_first bs) (root_at s) (first_spot s) in
@@ -308,7 +308,7 @@ none-all s bs before after k leaf p h is_leaf is_spot narrow rule grew most long
       tally = λ w e. tally w;
       seen = λ w e d. seen w;
     } in
-    (bs, holds, widened, λ i m t. same i m)
+    (holds, widened, λ i m t. same i m)
   where
     block-lies : (s : Setting) (next : ℕ) (bs : List LinkedBlock) (c : LinkedBlock) → AreComplete s next bs → In c bs → area_at s ≤ c.start
     block-lies s next [] c a i = absurd i
@@ -316,29 +316,35 @@ none-all s bs before after k leaf p h is_leaf is_spot narrow rule grew most long
         (λ (q : c ≡ b). subst (λ (d : LinkedBlock). area_at s ≤ d.start) (sym q) a.0.inside.0)
         (λ (q : In c bs). block-lies s next bs c a.1 q) i
 
--- after the leaf has got its block or none the words hold a tree, widened by the leaf's block, with the same records
-pub expanded : (s : Setting) (bs : List LinkedBlock) (before after : List ℕ) (k leaf : ℕ) (p : Spot) → IsSetting s → Holds s bs before k → 0 < link_of bs (root_at s)
+-- The words hold the tree after the leaf has got its block, with the same records.
+pub made-block : (s : Setting) (bs : List LinkedBlock) (before after : List ℕ) (k leaf : ℕ) (p : Spot) → IsSetting s → Holds s bs before k → 0 < link_of bs (root_at s)
     → leaf ≡ leaf_at (game_of s) (tally_in before) (seen_in before) (oldest_first bs) (root_at s)
     → p ≡ (state_at (game_of s) (tally_in before) (seen_in before) (oldest_first bs) (root_at s) (first_spot s)).1
-    → Grows s leaf p before after
+    → Grows s leaf p before after → gets_block s (next_in before) (tally_in before leaf) p ≡ true
     → (cs : List LinkedBlock) × Holds s cs after k × Widened (game_of s) (first_spot s) (root_at s) (config_of bs before) (config_of cs after) × KeepsRecords s before after
-expanded s bs before after k leaf p set h rooted is_leaf is_spot w =
+made-block s bs before after k leaf p set h rooted is_leaf is_spot w t =
+    let n : ℕ = next_in before in
+    let v : Count = tally_in before leaf in
+    let f = gets-facts s n v p t in
+    let grown = next-gets s n v p t in
+    let m = w.made t in
+    new-all s bs before after k set h rooted leaf m.0 (next_after s n v p) p is_leaf is_spot f.0 f.1 grown.1 m.1 m.2 t refl
+
+-- They hold the same tree where it has got none; NEXT may have grown.
+pub no-block : (s : Setting) (bs : List LinkedBlock) (before after : List ℕ) (k leaf : ℕ) (p : Spot) → IsSetting s → Holds s bs before k
+    → leaf ≡ leaf_at (game_of s) (tally_in before) (seen_in before) (oldest_first bs) (root_at s)
+    → p ≡ (state_at (game_of s) (tally_in before) (seen_in before) (oldest_first bs) (root_at s) (first_spot s)).1
+    → Grows s leaf p before after → gets_block s (next_in before) (tally_in before leaf) p ≡ false
+    → Holds s bs after k × Widened (game_of s) (first_spot s) (root_at s) (config_of bs before) (config_of bs after) × KeepsRecords s before after
+no-block s bs before after k leaf p set h is_leaf is_spot w t =
     let n : ℕ = next_in before in
     let v : Count = tally_in before leaf in
     let whole : Whole (root_at s) bs = record { order = h.linked.order; filled = h.filled } in
     let small : size_below p ≤ most_words = size-most p (subst (λ (z : ℕ). z ≤ 11)
     (sym (ap (λ (z : Spot). z.board.size) (is_spot ∙ sym (leaf-spot s (tally_in before) (seen_in before) bs whole)) ∙ spot-size s bs (leaf_at (game_of s) (tally_in before) (seen_in before) (oldest_first bs) (root_at s)))) set.position.most) in
-    ⊎_elim
-    (λ (t : gets_block s n v p ≡ true).
-    let f = gets-facts s n v p t in
-    let grown = next-gets s n v p t in
-    let m = w.made t in
-    new-all s bs before after k set h rooted leaf m.0 (next_after s n v p) p is_leaf is_spot f.0 f.1 grown.1 m.1 m.2 t refl)
-    (λ (t : gets_block s n v p ≡ false).
     let none = w.none t in
     let range : (n ≤ next_in after) × (next_in after ≤ end_of s + most_words) = ⊎_elim
     (λ (a : asks s n v p ≡ true). let u = next-vain s n v p t a in (omega (arith, w.next, u.1), omega (arith, w.next, u.0, u.1, small)))
     (λ (a : asks s n v p ≡ false). let u = next-stays s n v p a in (omega (arith, w.next, u), omega (arith, w.next, u, h.next.1)))
     (bool_is (asks s n v p)) in
-    none-all s bs before after k leaf p h is_leaf is_spot t w.next range.0 range.1 none.0 none.1)
-    (bool_is (gets_block s n v p))
+    none-all s bs before after k leaf p h is_leaf is_spot t w.next range.0 range.1 none.0 none.1

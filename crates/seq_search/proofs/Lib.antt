@@ -15,3 +15,4 @@ pub mod LeafBlocks
 pub mod NodeLaws
 pub mod Growing
 pub mod Openers
+pub mod Reaches

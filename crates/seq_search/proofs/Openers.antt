@@ -75,7 +75,7 @@ module _ (s : Setting) (words : List ℕ) (e : ℕ) (set : IsSetting s) (empties
   clear i m d o = ⊎_elim
       (λ (l : i < end_of s).
       other i l m d ∙ ap (λ (t : Bool). cond (t && stays (i - area_at s)) (header_or_move (root_block s e) (i - area_at s)) 0) (not_both (covers i (root_block s e)) (λ t. let u = covers_of i (root_block s e) t in
-        ⊎_elim (λ (q : i < area_at s). omega (arith, u.0)) (λ (q : root_end s ≤ i). omega (arith, u.1)) o)))
+      ⊎_elim (λ (q : i < area_at s). omega (arith, u.0)) (λ (q : root_end s ≤ i). omega (arith, u.1)) o)))
       (λ (l : end_of s ≤ i). get_or_past words i 0 (omega (arith, long)))
       (cases_lt i (end_of s))
 
@@ -101,7 +101,7 @@ module _ (s : Setting) (words : List ℕ) (e : ℕ) (set : IsSetting s) (empties
   no-counts x n = ⊎_elim
       (λ (t : has (root_block s e) x ≡ true). (ap count_in (node-word x 2 t (omega arith) (omega arith)), ap count_in (node-word x 3 t (omega arith) (omega arith))))
       (λ (t : (x == root_at s) ≡ true). let q = eq_of x (root_at s) t in
-        (ap count_in (ap (λ (z : ℕ). get_or words (z + 2) 0) q ∙ root-word 2 (omega arith) (λ z. omega arith)), ap count_in (ap (λ (z : ℕ). get_or words (z + 3) 0) q ∙ root-word 3 (omega arith) (λ z. omega arith))))
+      (ap count_in (ap (λ (z : ℕ). get_or words (z + 2) 0) q ∙ root-word 2 (omega arith) (λ z. omega arith)), ap count_in (ap (λ (z : ℕ). get_or words (z + 3) 0) q ∙ root-word 3 (omega arith) (λ z. omega arith))))
       (either_true (has (root_block s e) x) (x == root_at s) n)
 
   pub opening-holds : Holds s (root_block s e ∷ []) words 0
@@ -124,17 +124,17 @@ module _ (s : Setting) (words : List ℕ) (e : ℕ) (set : IsSetting s) (empties
       } in
       let shows : Shows r (c ∷ []) words = record {
         blocks = λ d i m l t. ⊎_elim
-        (λ (q : d ≡ c). subst (λ (z : LinkedBlock). get_or words (z.start + i) 0 ≡ header_or_move z i) (sym q)
-          (inside i (subst (λ (z : LinkedBlock). i < size z) q l) ∙ ap (λ (u : Bool). cond u (header_or_move c i) 0) t))
-        (λ (q : In d []). absurd q) m;
+            (λ (q : d ≡ c). subst (λ (z : LinkedBlock). get_or words (z.start + i) 0 ≡ header_or_move z i) (sym q)
+            (inside i (subst (λ (z : LinkedBlock). i < size z) q l) ∙ ap (λ (u : Bool). cond u (header_or_move c i) 0) t))
+            (λ (q : In d []). absurd q) m;
         links = λ x m. ⊎_elim
-        (λ (t : has c x ≡ true).
-          let q = has-at c x t in
-          node-word x 1 t (omega arith) (omega arith) ∙ sym (ap (λ (u : Bool). cond u c.start 0) (other_is r x (λ z. omega (arith, z, q.2)))))
-        (λ (t : (x == r) ≡ true).
-          let q = eq_of x r t in
-          ap (λ (z : ℕ). get_or words (z + 1) 0) q ∙ link-is ∙ sym (ap (λ (u : Bool). cond u c.start 0) (same_is r x (sym q))))
-        (either_true (has c x) (x == r) m);
+            (λ (t : has c x ≡ true).
+            let q = has-at c x t in
+            node-word x 1 t (omega arith) (omega arith) ∙ sym (ap (λ (u : Bool). cond u c.start 0) (other_is r x (λ z. omega (arith, z, q.2)))))
+            (λ (t : (x == r) ≡ true).
+            let q = eq_of x r t in
+            ap (λ (z : ℕ). get_or words (z + 1) 0) q ∙ link-is ∙ sym (ap (λ (u : Bool). cond u c.start 0) (same_is r x (sym q))))
+            (either_true (has c x) (x == r) m);
       } in
       record {
         long = long;

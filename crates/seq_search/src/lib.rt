@@ -7,3 +7,4 @@ mod descending;
 mod expanding;
 mod layout;
 mod opening;
+mod reaching;
