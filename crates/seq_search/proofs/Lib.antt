@@ -16,3 +16,8 @@ pub mod NodeLaws
 pub mod Growing
 pub mod Openers
 pub mod Reaches
+pub mod Additions
+pub mod Countings
+pub mod Paces
+pub mod Recordings
+pub mod Searches

@@ -28,6 +28,8 @@ descended-same s bs before after d same w =
       state = (λ i. state_at (game_of s) (tally i) (seen i) (oldest_first bs) (root_at s) (first_spot s)) ∙ w.state ∙ (λ i. (sym tally i d.node, spot_in d));
       steps = (λ i. steps_at (game_of s) (tally i) (seen i) (oldest_first bs) (root_at s)) ∙ w.steps;
       bare = same (d.node + 1) (omega arith) ∙ w.bare;
+      few = w.few;
+      long = w.long;
     }
 
 -- where the walk asks for its leaf's block, the words have room

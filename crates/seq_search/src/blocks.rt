@@ -4,8 +4,8 @@ ghost use Rattle.std.specs.Prelude.{◌≡◌, ℕ, ◌+◌, ◌*◌, ◌<◌, �
 ghost use Rattle.tree_words.specs.Blocks.{LinkedBlock, size, words_of};
 ghost use Rattle.seq_search.specs.Writing.{WritesBlock, WritesMoves, listed};
 
-use super::layout::NODE_WORDS;
-use hex_cells::{Cell, CellSet, Size};
+use super::layout::{COUNT_WORD, HIGH_EMPTIES_WORD, LOW_EMPTIES_WORD, NODE_WORDS};
+use hex_cells::{CellSet, Size};
 use tree_words::numbered;
 
 /// A move word is this many times the place, and the cell.
@@ -64,8 +64,8 @@ pub(crate) fn write_block(
     let count = write_moves(words, start, cells, size);
     let bits = number_of(empties);
     words[start] = parent as u64;
-    words[start + 1] = (bits % (1 << u64::BITS)) as u64;
-    words[start + 2] = (bits >> u64::BITS) as u64;
-    words[start + 3] = count as u64;
+    words[start + LOW_EMPTIES_WORD] = (bits % (1 << u64::BITS)) as u64;
+    words[start + HIGH_EMPTIES_WORD] = (bits >> u64::BITS) as u64;
+    words[start + COUNT_WORD] = count as u64;
     count
 }

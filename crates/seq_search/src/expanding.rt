@@ -10,7 +10,7 @@ ghost use Rattle.play_out.specs.Fills.{empties_of};
 ghost use Rattle.seq_search.specs.Writing.{Grows, LinksBelow};
 
 use super::blocks::write_block;
-use super::layout::{LINK_WORD, NODE_WORDS, TALLY_WORD};
+use super::layout::{LINK_WORD, NEXT_AT, NODE_WORDS, TALLY_WORD};
 use hex_board::Board;
 use tree_words::{Shape, visits_of};
 
@@ -37,7 +37,7 @@ fn asks_for_block(words: &[u64], shape: &Shape, leaf: usize, board: &Board) -> b
     if empty_count(board) == 0 {
         return false;
     }
-    words[0] as usize <= words.len()
+    words[NEXT_AT] as usize <= words.len()
 }
 
 // Writes the block below the leaf, whose board this is, from the word `start` on, and names it by the leaf's link.
@@ -63,9 +63,9 @@ pub(crate) fn expand(words: &mut [u64], shape: &Shape, leaf: usize, board: &Boar
     if !asks_for_block(words, shape, leaf, board) {
         return false;
     }
-    let start = words[0] as usize;
+    let start = words[NEXT_AT] as usize;
     let past = start + NODE_WORDS + NODE_WORDS * empty_count(board);
-    words[0] = past as u64;
+    words[NEXT_AT] = past as u64;
     if words.len() < past {
         return false;
     }

@@ -17,3 +17,15 @@ pub(crate) const COUNT_WORD: usize = 3;
 
 /// The records begin behind NEXT and TICKET.
 pub(crate) const RECORDS_AT: usize = 2;
+
+/// The second and the third word of a block's header have the lower and the upper 64 of its empty cells.
+pub(crate) const LOW_EMPTIES_WORD: usize = 1;
+
+/// The upper ones.
+pub(crate) const HIGH_EMPTIES_WORD: usize = 2;
+
+/// NEXT is the first word.
+pub(crate) const NEXT_AT: usize = 0;
+
+/// TICKET is the second word.
+pub(crate) const TICKET_AT: usize = 1;

@@ -5,7 +5,7 @@ ghost use Rattle.tree_words.specs.Words.{end_of};
 ghost use Rattle.tree_words.specs.Opening.{AreOpening};
 
 use super::blocks::write_block;
-use super::layout::{LINK_WORD, NODE_WORDS, RECORDS_AT};
+use super::layout::{LINK_WORD, NEXT_AT, NODE_WORDS, RECORDS_AT};
 use std::alloc::Global;
 use tree_words::{Memory, Shape};
 
@@ -26,7 +26,7 @@ fn write_opening(words: &mut [u64], shape: &Shape)
         board.size(),
     );
     words[root + LINK_WORD] = start as u64;
-    words[0] = (start + NODE_WORDS + NODE_WORDS * count) as u64;
+    words[NEXT_AT] = (start + NODE_WORDS + NODE_WORDS * count) as u64;
 }
 
 /// The opening words of the shape. One allocation has them all.
