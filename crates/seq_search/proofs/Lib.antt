@@ -14,3 +14,6 @@ pub mod Openings
 pub mod LeafBlocks
 pub mod NodeLaws
 pub mod Growing
+pub mod Additions
+pub mod Countings
+pub mod Paces

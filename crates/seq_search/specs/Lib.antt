@@ -3,3 +3,4 @@ pub mod Choosing
 pub mod Descending
 pub mod Writing
 pub mod Standing
+pub mod Adding

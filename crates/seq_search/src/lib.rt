@@ -1,6 +1,7 @@
 //! The search of one worker over plain words.
 #![tactic(auto)]
 
+mod adding;
 mod blocks;
 mod choosing;
 mod descending;
