@@ -3,12 +3,14 @@ use Rattle.std.proofs.Common.{◌≡◌, ◌≢◌, ◌⊎◌, ℕ, ◌+◌, ◌
 use Rattle.std.specs.Prelude.{◌==◌}
 use Rattle.tree_words.specs.Settings.{Setting}
 use Rattle.tree_words.specs.Words.{root_at, link_in, next_in, move_of, tally_in, seen_in}
-use Rattle.tree_words.specs.Blocks.{LinkedBlock, words_of, child, has, cell_at, is_node, In, link_of}
+use Rattle.tree_words.specs.Blocks.{LinkedBlock, words_of, child, has, place, cell_at, is_node, In, link_of}
+use Rattle.tree_words.specs.Paths.{first_spot, spot_after, spot_of}
 use Rattle.tree_words.specs.Trees.{oldest_first}
 use Rattle.tree_words.specs.Descents.{Names, Filled}
+use Rattle.tree_words.proofs.Adds.{is_child}
 use Rattle.tree_words.proofs.BlockLaws.{either_true, eq_of, has-at, move-word, move-stays}
 use Rattle.tree_words.proofs.Down.{child-has}
-use Rattle.tree_words.proofs.GameLaws.{IsWhole, whole-in, in-node}
+use Rattle.tree_words.proofs.GameLaws.{IsWhole, whole-in, in-node, up-in}
 use Rattle.tree_words.proofs.Orders.{link-names}
 use Rattle.seq_search.specs.Steps.{AtMost, Holds}
 
@@ -98,3 +100,9 @@ module _ (s : Setting) (bs : List LinkedBlock) (words : List ℕ) (k : ℕ) (h :
   -- the counts of a child
   pub child-counts : (b : LinkedBlock) (i : ℕ) → In b bs → i < length b.cells → AtMost k (tally_in words (child b i)) × AtMost k (seen_in words (child b i))
   child-counts b i inside l = h.counts (child b i) (child-node b i inside l)
+
+  -- the spot of a child is its parent's after its cell
+  pub child-spot : (b : LinkedBlock) (i : ℕ) → In b bs → i < length b.cells → spot_of s bs (child b i) ≡ spot_after (spot_of s bs b.parent) (cell_at b i)
+  child-spot b i inside l =
+      up-in (first_spot s) (λ c y above. spot_after above (cell_at c (place c y))) (root_at s) bs b (child b i) h.linked.order inside (child-has b i l)
+      ∙ ap (λ (j : ℕ). spot_after (spot_of s bs b.parent) (cell_at b j)) (is_child b.start i)

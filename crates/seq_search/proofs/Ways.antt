@@ -39,7 +39,7 @@ pairs-children words y [] = refl
 pairs-children words y (c ∷ cs) = ap (λ l. child_of (tally_in words y, seen_in words y) ∷ l) (pairs-children words (y + 4) cs)
 
 -- no block has the root among its nodes
-up-root : {A : Type 0} (root : A) (step : LinkedBlock → ℕ → A → A) (r : ℕ) (bs : List LinkedBlock) → InOrder r bs → up root step bs r ≡ root
+pub up-root : {A : Type 0} (root : A) (step : LinkedBlock → ℕ → A → A) (r : ℕ) (bs : List LinkedBlock) → InOrder r bs → up root step bs r ≡ root
 up-root root step r [] g = refl
 up-root root step r (b ∷ bs) g = up_same root step b bs r (apart r b bs r g.0 (root_node r bs)) ∙ up-root root step r bs g.1
 
@@ -52,7 +52,7 @@ allowed-empty : (s : Setting) (i : ℕ) → IsSetting s → i < length (allowed_
 unfolding allowed_cells
 allowed-empty s i h l = h.empty _ (filter_at (has_cell s.allowed) 0 (s.board.size * s.board.size) i l).0
 
-below-empty : (s : Setting) (bs : List LinkedBlock) (x i : ℕ) → IsSetting s → InOrder (root_at s) bs → i < length (cells_below s bs x) → is_empty_at (board_of s bs x) (get_or (cells_below s bs x) i 0) ≡ true
+pub below-empty : (s : Setting) (bs : List LinkedBlock) (x i : ℕ) → IsSetting s → InOrder (root_at s) bs → i < length (cells_below s bs x) → is_empty_at (board_of s bs x) (get_or (cells_below s bs x) i 0) ≡ true
 below-empty s bs x i h g l = ⊎_elim
     (λ (t : (x == root_at s) ≡ true).
     let at : x ≡ root_at s = eq_of x (root_at s) t in
@@ -65,10 +65,10 @@ below-empty s bs x i h g l = ⊎_elim
     (bool_is (x == root_at s))
 
 -- an empty cell lies on the board
-on-board : (p : Position) (c : ℕ) → is_empty_at p c ≡ true → c < p.size * p.size
+pub on-board : (p : Position) (c : ℕ) → is_empty_at p c ≡ true → c < p.size * p.size
 on-board p c e = lt_of c (p.size * p.size) (true_both (nat_lt c (p.size * p.size)) (not (has_cell p.black c)) (true_both _ (not (has_cell p.white c)) e).0).0
 
-few-cells : (n : ℕ) → n ≤ 11 → n * n ≤ 121
+pub few-cells : (n : ℕ) → n ≤ 11 → n * n ≤ 121
 few-cells n l = grind arith
 
 pub cell-of-move : (i c : ℕ) → c < 256 → cell_in (move_of i c) ≡ c
@@ -207,7 +207,7 @@ placed-empty p player c k l e =
         no : (u : Bool) → u ≡ true → not u ≡ true → ⊥
         no u a b = cc
 
-placed-size : (p : Position) (player : Colour) (c : ℕ) → (placed p player c).size ≡ p.size
+pub placed-size : (p : Position) (player : Colour) (c : ℕ) → (placed p player c).size ≡ p.size
 placed-size p Black c = refl
 placed-size p White c = refl
 
@@ -287,8 +287,8 @@ begin-way s d board player node count bs words k h =
     }
 
 -- where it ends
-pub end-way : (s : Setting) (bs : List LinkedBlock) (words : List ℕ) (d : Descent) (k : ℕ) → Holds s bs words k → Underway s bs words d → link_in words d.node ≡ 0 → Descended s bs words d
-end-way s bs words d k h u e =
+pub end-way : (s : Setting) (bs : List LinkedBlock) (words : List ℕ) (d : Descent) (k : ℕ) → Holds s bs words k → HasRoom d → Underway s bs words d → link_in words d.node ≡ 0 → Descended s bs words d
+end-way s bs words d k h r u e =
     let g = game_of s in let p = tally_in words in let q = seen_in words in let os = oldest_first bs in
     let bare : Bare os d.node = link-bare (root_at s) bs d.node h.linked.order (sym (h.linked.shows.links d.node u.node) ∙ e) in
     record {
@@ -298,6 +298,8 @@ end-way s bs words d k h u e =
       state = u.state ∙ ap (λ (f : Spot → Count × Spot). f (spot_in d)) (down-bare (state_leaf g p q) (state_inner g p q) os d.node bare);
       steps = u.steps ∙ ap (λ (l : List ℕ). steps_in d ++ l) (down-bare (λ (y : ℕ). []) (steps_inner g p q) os d.node bare) ∙ append-nil (steps_in d);
       bare = e;
+      few = omega (arith, r.cells);
+      long = r.long;
     }
 
 -- what a turn of the way down may read

@@ -56,3 +56,5 @@ module _ (s : Setting) (bs : List LinkedBlock) (words : List ℕ) where
     pub state : state_below (root_at s) (first_spot s) ≡ (tally_in words d.node, spot_in d)
     pub steps : steps_below (root_at s) ≡ steps_in d
     pub bare : link_in words d.node ≡ 0
+    pub few : d.count ≤ 121
+    pub long : length d.steps ≡ 121

@@ -101,4 +101,4 @@ down-preserved c =
     )
 
 pub returns : goal.returns
-returns c = record { leaf = λ bs k l h. end-way c.args.shape.now bs c.args.words.now c.down.walk k h (c.down.invariant.2 bs k l h) (sym c.down.invariant.0 ∙ c.down-test.false) }
+returns c = record { leaf = λ bs k l h. end-way c.args.shape.now bs c.args.words.now c.down.walk k h c.down.invariant.1 (c.down.invariant.2 bs k l h) (sym c.down.invariant.0 ∙ c.down-test.false) }
