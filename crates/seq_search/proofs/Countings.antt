@@ -28,12 +28,14 @@ count-more n true l = λ i. record { visits = v n l i; wins = w n l i }
   where
     v : (n : ℕ) → wins_in n + 1 < 2 ^ 32 → visits_in (n + (2 ^ 32 + 1)) ≡ visits_in n + 1
     v n l = omega (arith, l)
+
     w : (n : ℕ) → wins_in n + 1 < 2 ^ 32 → wins_in (n + (2 ^ 32 + 1)) ≡ wins_in n + 1
     w n l = omega (arith, l)
 count-more n false l = λ i. record { visits = v n i; wins = w n i }
   where
     v : (n : ℕ) → visits_in (n + (2 ^ 32 + 0)) ≡ visits_in n + 1
     v n = omega arith
+
     w : (n : ℕ) → wins_in (n + (2 ^ 32 + 0)) ≡ wins_in n + 0
     w n = omega arith
 
@@ -79,13 +81,13 @@ pub has-one : (r : ℕ) (bs : List LinkedBlock) (b c : LinkedBlock) (w : ℕ) �
 has-one r [] b c w g i j hb hc = absurd i
 has-one r (d ∷ bs) b c w g i j hb hc = ⊎_elim
     (λ (e : b ≡ d). ⊎_elim
-      (λ (f : c ≡ d). e ∙ sym f)
-      (λ (f : In c bs). absurd (not_both (has d w) (ap (λ (a : LinkedBlock). has a w) (sym e) ∙ hb) (apart r d bs w g.0 (in-node r bs c w f hc))))
-      j)
+    (λ (f : c ≡ d). e ∙ sym f)
+    (λ (f : In c bs). absurd (not_both (has d w) (ap (λ (a : LinkedBlock). has a w) (sym e) ∙ hb) (apart r d bs w g.0 (in-node r bs c w f hc))))
+    j)
     (λ (e : In b bs). ⊎_elim
-      (λ (f : c ≡ d). absurd (not_both (has d w) (ap (λ (a : LinkedBlock). has a w) (sym f) ∙ hc) (apart r d bs w g.0 (in-node r bs b w e hb))))
-      (λ (f : In c bs). has-one r bs b c w g.1 e f hb hc)
-      j)
+    (λ (f : c ≡ d). absurd (not_both (has d w) (ap (λ (a : LinkedBlock). has a w) (sym f) ∙ hc) (apart r d bs w g.0 (in-node r bs b w e hb))))
+    (λ (f : In c bs). has-one r bs b c w g.1 e f hb hc)
+    j)
     i
 
 module _ (s : Setting) (p q : ℕ → Count) (o : Outcome) where

@@ -37,19 +37,22 @@ abbrev pub NoCount : ℕ → List LinkedBlock → ℕ → Type 0
 NoCount r bs i = (w : ℕ) → is_node r bs w ≡ true → (i ≢ w + 2) × (i ≢ w + 3)
 
 pub link-no-count : (r : ℕ) (bs : List LinkedBlock) (x : ℕ) → InOrder r bs → is_node r bs x ≡ true → NoCount r bs (x + 1)
-link-no-count r bs x g n w m =
-    ((λ e. let q = nodes-apart r bs x w 1 2 g n m (omega arith) (omega arith) e in omega arith),
-    (λ e. let q = nodes-apart r bs x w 1 3 g n m (omega arith) (omega arith) e in omega arith))
+link-no-count r bs x g n w m = (
+  (λ e. let q = nodes-apart r bs x w 1 2 g n m (omega arith) (omega arith) e in omega arith),
+  (λ e. let q = nodes-apart r bs x w 1 3 g n m (omega arith) (omega arith) e in omega arith),
+)
 
 pub move-no-count : (r : ℕ) (bs : List LinkedBlock) (x : ℕ) → InOrder r bs → is_node r bs x ≡ true → NoCount r bs x
-move-no-count r bs x g n w m =
-    ((λ e. let q = nodes-apart r bs x w 0 2 g n m (omega arith) (omega arith) (omega (arith, e)) in omega arith),
-    (λ e. let q = nodes-apart r bs x w 0 3 g n m (omega arith) (omega arith) (omega (arith, e)) in omega arith))
+move-no-count r bs x g n w m = (
+  (λ e. let q = nodes-apart r bs x w 0 2 g n m (omega arith) (omega arith) (omega (arith, e)) in omega arith),
+  (λ e. let q = nodes-apart r bs x w 0 3 g n m (omega arith) (omega arith) (omega (arith, e)) in omega arith),
+)
 
 pub head-no-count : (r : ℕ) (bs : List LinkedBlock) (b : LinkedBlock) → InOrder r bs → In b bs → NoCount r bs (b.start + 3)
-head-no-count r bs b g i w m =
-    (stays-clear r bs b 3 w 2 g i (omega arith) refl m (omega arith) (omega arith),
-    stays-clear r bs b 3 w 3 g i (omega arith) refl m (omega arith) (omega arith))
+head-no-count r bs b g i w m = (
+  stays-clear r bs b 3 w 2 g i (omega arith) refl m (omega arith) (omega arith),
+  stays-clear r bs b 3 w 3 g i (omega arith) refl m (omega arith) (omega arith),
+)
 
 -- a count that is one of a sum is at most the sum
 part-most : (k : ℕ) (a b c d : Count) → plus a b ≡ plus c d → AtMost k c → AtMost 1 d → AtMost (k + 1) a
@@ -217,7 +220,7 @@ module _ (s : Setting) (bs : List LinkedBlock) (o : Outcome) (before : List ℕ)
                     (λ e. plus (after-seen v n e) (sees g p q o os (at e) (spot e) v))
                     ∙ join (has b v) (seen_in now v) (glimpse_of o (spot_of s bs x) (cell_at b (place b v))) later
                     (λ t. sees-before s p q o os (child b i) (spot_after (spot_of s bs x) (cell_at b i)) v above
-                      (λ c m l. never (has c v) (λ u. let e = has-one (root_at s) bs b c v h.linked.order w.inside (in-turned c bs m) t u in let f : b.parent ≡ c.parent = ap (λ (d : LinkedBlock). d.parent) e in omega (arith, f, l, behind, w.parent))))
+                    (λ c m l. never (has c v) (λ u. let e = has-one (root_at s) bs b c v h.linked.order w.inside (in-turned c bs m) t u in let f : b.parent ≡ c.parent = ap (λ (d : LinkedBlock). d.parent) e in omega (arith, f, l, behind, w.parent))))
                     ∙ ap (plus (seen_in now v)) (sym (sees-link g fair p q o os x b (spot_of s bs x) v rooted w.names w.some))
                     ∙ a.seen v n;
                 others = after-kept;

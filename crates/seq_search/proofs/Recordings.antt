@@ -27,7 +27,7 @@ module _ {S O : Type 0} (g : Game S O) (p q : ℕ → Count) (o : O) where
   sees-out [] x w s out = refl
   sees-out (b ∷ os) x w s out = down-split (sees_leaf g p q o) (sees_inner g p q o) (λ (f : S → ℕ → Count). f s w ≡ nothing) b os x
       (λ t. ap (λ (u : Bool). cond u (g.glimpse o s (cell_at b (place b w))) (sees g p q o os (child b (pick g p q b x)) (g.next s (cell_at b (pick g p q b x))) w)) out.0
-        ∙ sees-out os (child b (pick g p q b x)) w (g.next s (cell_at b (pick g p q b x))) out.1)
+      ∙ sees-out os (child b (pick g p q b x)) w (g.next s (cell_at b (pick g p q b x))) out.1)
       (λ t. sees-out os x w s out.1)
 
 plus-most : (k : ℕ) (a b c : Count) → c ≡ plus a b → AtMost k a → AtMost 1 b → AtMost (k + 1) c
@@ -65,9 +65,10 @@ module _ (s : Setting) (bs : List LinkedBlock) (before middle : List ℕ) (k n :
       let g : Game Spot Outcome = game_of s in
       let r : ℕ = root_at s in
       let clear : (x : ℕ) (i : ℕ) → is_node r bs x ≡ true → i < 2 → (w : ℕ) → is_node r bs w ≡ true → (x + i ≢ w + 2) × (x + i ≢ w + 3)
-      = λ x i m li w t.
-      ((λ z. let q : x ≡ w = nodes-apart r bs x w i 2 h.linked.order m t (omega arith) (omega arith) z in omega arith),
-        (λ z. let q : x ≡ w = nodes-apart r bs x w i 3 h.linked.order m t (omega arith) (omega arith) z in omega arith)) in
+      = λ x i m li w t. (
+        (λ z. let q : x ≡ w = nodes-apart r bs x w i 2 h.linked.order m t (omega arith) (omega arith) z in omega arith),
+        (λ z. let q : x ≡ w = nodes-apart r bs x w i 3 h.linked.order m t (omega arith) (omega arith) z in omega arith),
+      ) in
       let unseen : seen_in after r ≡ nothing
       = seen-is r (root_node r bs) ∙ (λ i. plus (count_in (h.root.1 i)) (sees-out g (tally_in before) (seen_in before) o (oldest_first bs) r r (first_spot s) (root-out r bs h.linked.order) i)) in
       record {
@@ -76,9 +77,9 @@ module _ (s : Setting) (bs : List LinkedBlock) (before middle : List ℕ) (k n :
           order = h.linked.order;
           shows = record {
             blocks = λ b i m li t.
-            let start = block-starts s (next_in before) bs b h.linked.complete m in
-            high (b.start + i) (omega (arith, start)) (λ w u. (stays-clear r bs b i w 2 h.linked.order m li t u (omega arith) (omega arith), stays-clear r bs b i w 3 h.linked.order m li t u (omega arith) (omega arith)))
-            ∙ h.linked.shows.blocks b i m li t;
+                let start = block-starts s (next_in before) bs b h.linked.complete m in
+                high (b.start + i) (omega (arith, start)) (λ w u. (stays-clear r bs b i w 2 h.linked.order m li t u (omega arith) (omega arith), stays-clear r bs b i w 3 h.linked.order m li t u (omega arith) (omega arith)))
+                ∙ h.linked.shows.blocks b i m li t;
             links = λ x m. let q = lies x m in high (x + 1) (omega (arith, q.0)) (clear x 1 m (omega arith)) ∙ h.linked.shows.links x m;
           };
           complete = subst (λ (z : ℕ). AreComplete s z bs) (sym next-same) h.linked.complete;
@@ -87,9 +88,10 @@ module _ (s : Setting) (bs : List LinkedBlock) (before middle : List ℕ) (k n :
         root = (high r (omega arith) (λ w t. ((λ z. (clear r 0 (root_node r bs) (omega arith) w t).0 (omega (arith, z))), (λ z. (clear r 0 (root_node r bs) (omega arith) w t).1 (omega (arith, z))))) ∙ h.root.0, no-word (get_or after (r + 3) 0) unseen);
         next = (omega (arith, next-same, h.next.0), omega (arith, next-same, h.next.1));
         fresh = λ i m. high i (omega (arith, m, next-same, h.next.0)) (λ w t. let q = lies w t in ((λ z. omega (arith, z, q.1, m, next-same)), (λ z. omega (arith, z, q.1, m, next-same)))) ∙ h.fresh i (omega (arith, m, next-same));
-        counts = λ x m.
-        (plus-most k (tally_in before x) _ (tally_in after x) (tally-is x m) (h.counts x m).0 (adds-one s (tally_in before) (seen_in before) o (oldest_first bs) r (first_spot s) x),
-          plus-most k (seen_in before x) _ (seen_in after x) (seen-is x m) (h.counts x m).1 (sees-one s (tally_in before) (seen_in before) o (oldest_first bs) r (first_spot s) x));
+        counts = λ x m. (
+          plus-most k (tally_in before x) _ (tally_in after x) (tally-is x m) (h.counts x m).0 (adds-one s (tally_in before) (seen_in before) o (oldest_first bs) r (first_spot s) x),
+          plus-most k (seen_in before x) _ (seen_in after x) (seen-is x m) (h.counts x m).1 (sees-one s (tally_in before) (seen_in before) o (oldest_first bs) r (first_spot s) x),
+        );
       }
     where
       block-starts : (s : Setting) (next : ℕ) (bs : List LinkedBlock) (c : LinkedBlock) → AreComplete s next bs → In c bs → area_at s ≤ c.start
@@ -102,7 +104,7 @@ module _ (s : Setting) (bs : List LinkedBlock) (before middle : List ℕ) (k n :
   recorded-added =
       let node : (w : ℕ) → top (oldest_first bs) w ≡ root_at s → is_node (root_at s) bs w ≡ true
       = λ w e. ⊎_elim (λ (q : w ≡ root_at s). ap (is_node (root_at s) bs) q ∙ root_node (root_at s) bs)
-        (λ (i : Inside (oldest_first bs) w). inside-node (root_at s) bs w i) (under-root (oldest_first bs) (root_at s) w e) in
+      (λ (i : Inside (oldest_first bs) w). inside-node (root_at s) bs w i) (under-root (oldest_first bs) (root_at s) w e) in
       record {
         next = next-same;
         blocks = refl;

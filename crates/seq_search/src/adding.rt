@@ -56,11 +56,7 @@ pub(crate) fn play(board: &Board, player: Colour, seed: u64, k: u64) -> Ending
 fn amount(player: Colour, winner: Colour) -> u64
     ensures { result ≡ amount_of (is_same winner player) }
 {
-    if player == winner {
-        VISIT + 1
-    } else {
-        VISIT
-    }
+    if player == winner { VISIT + 1 } else { VISIT }
 }
 
 // Adds to the tally of the node.
@@ -109,6 +105,17 @@ fn count(words: &mut [u64], shape: &Shape, walk: &Descent, ending: &Ending)
     gain(words, node, amount(player.other(), ending.winner));
 }
 
+// How a record tells who won: 0 for Black, 1 for White.
+fn mark(winner: Colour) -> u64
+    ensures value { result ≡ one_if (is_same winner White) }
+    ensures range { result ≤ 1 }
+{
+    match winner {
+        Colour::Black => 0,
+        Colour::White => 1,
+    }
+}
+
 /// Adds the ending of playout `k` to the counts of the walk's nodes, and writes its record.
 pub(crate) fn add(words: &mut [u64], shape: &Shape, walk: &Descent, k: u32, ending: &Ending)
     requires number { k < shape.now.knobs.playouts }
@@ -119,6 +126,5 @@ pub(crate) fn add(words: &mut [u64], shape: &Shape, walk: &Descent, k: u32, endi
     ensures record { Records shape.now k (2 * walk.now.node + one_if (is_same ending.now.winner White)) words.old words.new }
 {
     count(words, shape, walk, ending);
-    let result = if ending.winner == Colour::White { 1 } else { 0 };
-    words[RECORDS_AT + k as usize] = 2 * walk.node as u64 + result;
+    words[RECORDS_AT + k as usize] = 2 * walk.node as u64 + mark(ending.winner);
 }

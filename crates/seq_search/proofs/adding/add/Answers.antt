@@ -22,19 +22,18 @@ pub overflow_add-words : goal.overflow_add-words
 overflow_add-words c =
     let q = c.requires.walked in
     let fits = leaf-within c.args.shape.now q.0 c.args.words.now c.args.k c.args.walk.now q.1 q.2 in
-    omega (arith, fits)
+    omega (arith, fits, c.mark.ensures.range)
 
 pub returns-clause-holds : goal.returns-clause-holds
 returns-clause-holds c bs h d =
-    recorded-holds c.args.shape.now bs c.args.words.now c.count.new.words c.args.k (2 * c.args.walk.now.node + c.if-eq.result) (outcome_in c.args.ending.now) c.requires.number h (c.count.ensures bs c.args.k c.requires.number h d)
+    recorded-holds c.args.shape.now bs c.args.words.now c.count.new.words c.args.k (2 * c.args.walk.now.node + c.mark.result) (outcome_in c.args.ending.now) c.requires.number h (c.count.ensures bs c.args.k c.requires.number h d)
 
 pub returns-clause-added : goal.returns-clause-added
 returns-clause-added c bs h d =
-    recorded-added c.args.shape.now bs c.args.words.now c.count.new.words c.args.k (2 * c.args.walk.now.node + c.if-eq.result) (outcome_in c.args.ending.now) c.requires.number h (c.count.ensures bs c.args.k c.requires.number h d)
+    recorded-added c.args.shape.now bs c.args.words.now c.count.new.words c.args.k (2 * c.args.walk.now.node + c.mark.result) (outcome_in c.args.ending.now) c.requires.number h (c.count.ensures bs c.args.k c.requires.number h d)
 
 pub returns-clause-record : goal.returns-clause-record
 returns-clause-record c =
     let q = c.requires.walked in
-    let won : one_if (is_same c.args.ending.now.winner White) ≡ c.if-eq.result = ? in
-    subst (λ r. Records c.args.shape.now c.args.k (2 * c.args.walk.now.node + r) c.args.words.now (set_at c.count.new.words (2 + c.args.k) (2 * c.args.walk.now.node + c.if-eq.result))) (sym won)
-    (recorded-records c.args.shape.now q.0 c.args.words.now c.count.new.words c.args.k (2 * c.args.walk.now.node + c.if-eq.result) (outcome_in c.args.ending.now) c.requires.number q.1 (c.count.ensures q.0 c.args.k c.requires.number q.1 q.2))
+    subst (λ r. Records c.args.shape.now c.args.k (2 * c.args.walk.now.node + r) c.args.words.now (set_at c.count.new.words (2 + c.args.k) (2 * c.args.walk.now.node + c.mark.result))) c.mark.ensures.value
+    (recorded-records c.args.shape.now q.0 c.args.words.now c.count.new.words c.args.k (2 * c.args.walk.now.node + c.mark.result) (outcome_in c.args.ending.now) c.requires.number q.1 (c.count.ensures q.0 c.args.k c.requires.number q.1 q.2))
