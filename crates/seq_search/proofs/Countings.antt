@@ -1,0 +1,141 @@
+-- The counts along the way of a walk.
+use Rattle.std.proofs.Common.{◌≡◌, ◌≢◌, ◌⊎◌, ℕ, zero, suc, ◌+◌, ◌-◌, ◌*◌, ◌/◌, ◌%◌, ◌≤◌, ◌<◌, ◌^◌, Bool, true, false, cond, List, [], ◌∷◌, ◌++◌, length, set as set_at, length-set, get_or, get_or-set_same, get_or-set_other, slice_index, refl, sym, ap, ◌∙◌, subst, ⊎_elim, inl, inr, arith}
+use Rattle.std.specs.Prelude.{◌==◌}
+use Rattle.hex_cells.specs.Sets.{has as has_cell}
+use Rattle.hex_cells.specs.Colours.{other_of}
+use Rattle.hex_cells.specs.declared.colours.Colour.{Colour}
+use Rattle.hex_board.specs.Wins.{is_same}
+use Rattle.hex_board.specs.Positions.{stones_of}
+use Rattle.tree_words.specs.Settings.{Setting}
+use Rattle.tree_words.specs.Words.{Count, root_at, count_in, visits_in, wins_in, link_in, tally_in, seen_in, cell_in}
+use Rattle.tree_words.specs.Blocks.{LinkedBlock, one_if, child, has, place, cell_at, is_node, In, InOrder, Follows}
+use Rattle.tree_words.specs.Paths.{Spot, first_spot, spot_after, mover_at, spot_of}
+use Rattle.tree_words.specs.Walks.{nothing, plus, Game}
+use Rattle.tree_words.specs.Trees.{down, oldest_first}
+use Rattle.tree_words.specs.Sequence.{Outcome, one, gain_of, glimpse_of, game_of}
+use Rattle.tree_words.specs.Descents.{pick, adds_leaf, adds_inner, adds, sees_leaf, sees_inner, sees, Bare}
+use Rattle.tree_words.proofs.BlockLaws.{eq_of, same_is, other_is, bool_is, apart}
+use Rattle.tree_words.proofs.Down.{down-split, plus-nothing, not_both, never}
+use Rattle.tree_words.proofs.GameLaws.{in-node, fair_game}
+use Rattle.tree_words.proofs.Links.{down-bare, adds-link, sees-link, steps-link}
+use Rattle.seq_search.specs.Steps.{AtMost, Holds}
+use Rattle.seq_search.specs.Descending.{steps_below}
+use Rattle.seq_search.specs.Adding.{amount_of, node_of, Sighted, Counted}
+
+-- a count with one more, and the word that has it
+pub count-more : (n : ℕ) (t : Bool) → wins_in n + 1 < 2 ^ 32 → count_in (n + amount_of t) ≡ plus (count_in n) (one t)
+count-more n true l = λ i. record { visits = v n l i; wins = w n l i }
+  where
+    v : (n : ℕ) → wins_in n + 1 < 2 ^ 32 → visits_in (n + (2 ^ 32 + 1)) ≡ visits_in n + 1
+    v n l = omega (arith, l)
+
+    w : (n : ℕ) → wins_in n + 1 < 2 ^ 32 → wins_in (n + (2 ^ 32 + 1)) ≡ wins_in n + 1
+    w n l = omega (arith, l)
+count-more n false l = λ i. record { visits = v n i; wins = w n i }
+  where
+    v : (n : ℕ) → visits_in (n + (2 ^ 32 + 0)) ≡ visits_in n + 1
+    v n = omega arith
+
+    w : (n : ℕ) → wins_in (n + (2 ^ 32 + 0)) ≡ wins_in n + 0
+    w n = omega arith
+
+-- each walk adds at most one to a count
+gain-one : (o : Outcome) (p : Spot) → AtMost 1 (gain_of o p)
+unfolding gain_of
+gain-one o p = one-one (is_same o.winner (mover_at p))
+  where
+    one-one : (t : Bool) → AtMost 1 (one t)
+    one-one true = (omega arith, omega arith)
+    one-one false = (omega arith, omega arith)
+
+none-one : AtMost 1 nothing
+none-one = (omega arith, omega arith)
+
+at-most-if : (t : Bool) (a b : Count) → AtMost 1 a → AtMost 1 b → AtMost 1 (cond t a b)
+at-most-if true a b ha hb = ha
+at-most-if false a b ha hb = hb
+
+glimpse-one : (o : Outcome) (p : Spot) (c : ℕ) → AtMost 1 (glimpse_of o p c)
+unfolding glimpse_of
+glimpse-one o p c = at-most-if (has_cell (stones_of o.full p.player) c) (one (is_same o.winner p.player)) nothing (one-one (is_same o.winner p.player)) none-one
+  where
+    one-one : (t : Bool) → AtMost 1 (one t)
+    one-one true = (omega arith, omega arith)
+    one-one false = (omega arith, omega arith)
+
+-- each block lies behind its parent
+abbrev pub Above : List LinkedBlock → Type 0
+Above [] = Unit {0}
+Above (b ∷ os) = (b.parent < b.start) × Above os
+
+above-snoc : (n : LinkedBlock) (os : List LinkedBlock) → Above os → n.parent < n.start → Above (os ++ n ∷ [])
+above-snoc n [] a l = (l, tt)
+above-snoc n (b ∷ os) a l = (a.0, above-snoc n os a.1 l)
+
+pub above-turned : (r : ℕ) (bs : List LinkedBlock) → InOrder r bs → Above (oldest_first bs)
+above-turned r [] g = tt
+above-turned r (b ∷ bs) g = above-snoc b (oldest_first bs) (above-turned r bs g.1) g.0.above
+
+-- two blocks with a node in common are one
+pub has-one : (r : ℕ) (bs : List LinkedBlock) (b c : LinkedBlock) (w : ℕ) → InOrder r bs → In b bs → In c bs → has b w ≡ true → has c w ≡ true → b ≡ c
+has-one r [] b c w g i j hb hc = absurd i
+has-one r (d ∷ bs) b c w g i j hb hc = ⊎_elim
+    (λ (e : b ≡ d). ⊎_elim
+    (λ (f : c ≡ d). e ∙ sym f)
+    (λ (f : In c bs). absurd (not_both (has d w) (ap (λ (a : LinkedBlock). has a w) (sym e) ∙ hb) (apart r d bs w g.0 (in-node r bs c w f hc))))
+    j)
+    (λ (e : In b bs). ⊎_elim
+    (λ (f : c ≡ d). absurd (not_both (has d w) (ap (λ (a : LinkedBlock). has a w) (sym f) ∙ hc) (apart r d bs w g.0 (in-node r bs b w e hb))))
+    (λ (f : In c bs). has-one r bs b c w g.1 e f hb hc)
+    j)
+    i
+
+module _ (s : Setting) (p q : ℕ → Count) (o : Outcome) where
+  pub adds-one : (os : List LinkedBlock) (x : ℕ) (u : Spot) (w : ℕ) → AtMost 1 (adds (game_of s) p q o os x u w)
+  adds-one [] x u w = at-most-if (x == w) (gain_of o u) nothing (gain-one o u) none-one
+  adds-one (b ∷ os) x u w = down-split (adds_leaf (game_of s) p q o) (adds_inner (game_of s) p q o) (λ (f : Spot → ℕ → Count). AtMost 1 (f u w)) b os x
+      (λ t. at-most-if (x == w) (gain_of o u) _ (gain-one o u) (adds-one os (child b (pick (game_of s) p q b x)) (spot_after u (cell_at b (pick (game_of s) p q b x))) w))
+      (λ t. adds-one os x u w)
+
+  pub sees-one : (os : List LinkedBlock) (x : ℕ) (u : Spot) (w : ℕ) → AtMost 1 (sees (game_of s) p q o os x u w)
+  sees-one [] x u w = none-one
+  sees-one (b ∷ os) x u w = down-split (sees_leaf (game_of s) p q o) (sees_inner (game_of s) p q o) (λ (f : Spot → ℕ → Count). AtMost 1 (f u w)) b os x
+      (λ t. at-most-if (has b w) (glimpse_of o u (cell_at b (place b w))) _ (glimpse-one o u (cell_at b (place b w))) (sees-one os (child b (pick (game_of s) p q b x)) (spot_after u (cell_at b (pick (game_of s) p q b x))) w))
+      (λ t. sees-one os x u w)
+
+  -- what lies before x gets nothing from the way below x
+  pub adds-before : (os : List LinkedBlock) (x : ℕ) (u : Spot) (w : ℕ) → Above os → w < x → adds (game_of s) p q o os x u w ≡ nothing
+  adds-before [] x u w a l = ap (λ (t : Bool). cond t (gain_of o u) nothing) (other_is x w (λ e. omega arith))
+  adds-before (b ∷ os) x u w a l = down-split (adds_leaf (game_of s) p q o) (adds_inner (game_of s) p q o) (λ (f : Spot → ℕ → Count). f u w ≡ nothing) b os x
+      (λ t.
+      let j : ℕ = pick (game_of s) p q b x in
+      let v : Spot = spot_after u (cell_at b j) in
+      ap (λ (t : Bool). cond t (gain_of o u) (adds (game_of s) p q o os (child b j) v w)) (other_is x w (λ e. omega arith))
+      ∙ adds-before os (child b j) v w a.1 (let e = eq_of b.parent x t in omega (arith, a.0, l, e)))
+      (λ t. adds-before os x u w a.1 l)
+
+  -- what is a node of no block whose parent lies behind x sees nothing from the way below x
+  pub sees-before : (os : List LinkedBlock) (x : ℕ) (u : Spot) (w : ℕ) → Above os → ((c : LinkedBlock) → In c os → x ≤ c.parent → has c w ≡ false) → sees (game_of s) p q o os x u w ≡ nothing
+  sees-before [] x u w a h = refl
+  sees-before (b ∷ os) x u w a h = down-split (sees_leaf (game_of s) p q o) (sees_inner (game_of s) p q o) (λ (f : Spot → ℕ → Count). f u w ≡ nothing) b os x
+      (λ t.
+      let j : ℕ = pick (game_of s) p q b x in
+      let v : Spot = spot_after u (cell_at b j) in
+      let e : b.parent ≡ x = eq_of b.parent x t in
+      ap (λ (t : Bool). cond t (glimpse_of o u (cell_at b (place b w))) (sees (game_of s) p q o os (child b j) v w)) (h b (inl refl) (omega (arith, e)))
+      ∙ sees-before os (child b j) v w a.1 (λ c i l. h c (inr i) (omega (arith, a.0, l, e))))
+      (λ t. sees-before os x u w a.1 (λ c i l. h c (inr i) l))
+
+-- how far the adds have come: the way is gone down to x, the counts of x are still to come, and these are the steps that are left
+pub record Adding (s : Setting) (bs : List LinkedBlock) (o : Outcome) (before now : List ℕ) (x : ℕ) (who : Colour) (left : List ℕ) : Type 0 where
+  pub long : length now ≡ length before
+  pub node : is_node (root_at s) bs x ≡ true
+  pub player : who ≡ (spot_of s bs x).player
+  pub tally : (w : ℕ) → is_node (root_at s) bs w ≡ true
+      → plus (tally_in now w) (adds (game_of s) (tally_in before) (seen_in before) o (oldest_first bs) x (spot_of s bs x) w)
+      ≡ plus (tally_in before w) (adds (game_of s) (tally_in before) (seen_in before) o (oldest_first bs) (root_at s) (first_spot s) w)
+  pub seen : (w : ℕ) → is_node (root_at s) bs w ≡ true
+      → plus (seen_in now w) (sees (game_of s) (tally_in before) (seen_in before) o (oldest_first bs) x (spot_of s bs x) w)
+      ≡ plus (seen_in before w) (sees (game_of s) (tally_in before) (seen_in before) o (oldest_first bs) (root_at s) (first_spot s) w)
+  pub others : (i : ℕ) → ((w : ℕ) → is_node (root_at s) bs w ≡ true → (i ≢ w + 2) × (i ≢ w + 3)) → slice_index now i ≡ slice_index before i
+  pub rest : left ≡ steps_below s bs before x

@@ -1,0 +1,145 @@
+-- Whether a leaf asks for a block.
+use Rattle.std.proofs.Common.{◌≡◌, ℕ, zero, suc, ◌+◌, ◌-◌, ◌*◌, ◌^◌, ◌<◌, ◌≤◌, nat_lt, nat_le, Bool, true, false, cond, List, [], ◌∷◌, ◌++◌, length, length-append, set, get_or, get_or-set_same, get_or-set_other, refl, sym, ap, ◌∙◌, subst, ⊎_elim, arith}
+use Rattle.std.specs.Prelude.{◌&&◌, ◌==◌}
+use Rattle.std.specs.List.{filter, range_with_len}
+use Rattle.std.proofs.Math.ListN.{length-set}
+use Rattle.std.proofs.Math.Nat.{mul-le-mul}
+use Rattle.std.proofs.lemmas.Bool.Decides.{nat_tests}
+use Rattle.std.proofs.lemmas.List.Elements.{filter_agree}
+use Rattle.hex_cells.specs.Sets.{has as has_cell, members}
+use Rattle.hex_board.specs.Joined.{cells_of}
+use Rattle.hex_board.specs.Positions.{Position, is_empty_at}
+use Rattle.play_out.specs.Fills.{empties_of}
+use Rattle.tree_words.specs.Settings.{Setting}
+use Rattle.tree_words.specs.Words.{Count, end_of, next_in, tally_in}
+use Rattle.tree_words.specs.Blocks.{LinkedBlock, one_if, words_of, size, covers, stays, header_or_move}
+use Rattle.tree_words.specs.Paths.{Spot}
+use Rattle.tree_words.specs.Complete.{HasEmpties}
+use Rattle.tree_words.specs.Sequence.{asks, gets_block, next_after, size_below}
+use Rattle.tree_words.proofs.BlockLaws.{not_both, true_both, lt_of}
+use Rattle.seq_search.specs.Writing.{listed, WritesBlock, Links, LinksBelow, Grows, block_below}
+use Rattle.seq_search.proofs.Writes.{filter_more, block_of}
+
+-- how many cells below n the set has
+members-listed : (set n : ℕ) → members set n ≡ length (filter (has_cell set) (range_with_len 0 n))
+unfolding members
+members-listed set zero = refl
+members-listed set (suc n) = omega (arith, members-listed set n, ap length (filter_more (has_cell set) 0 n n (omega arith)), length-append (filter (has_cell set) (range_with_len 0 n)) (cond (has_cell set n) (n ∷ []) []), one (has_cell set n) n)
+  where
+    one : (t : Bool) (n : ℕ) → length (cond t (n ∷ []) []) ≡ cond t 1 0
+    one true n = refl
+    one false n = refl
+
+members-past : (set m d : ℕ) → ((k : ℕ) → m ≤ k → has_cell set k ≡ false) → members set (m + d) ≡ members set m
+unfolding members
+members-past s m zero h = ap (members s) (omega arith)
+members-past s m (suc d) h = omega (arith, ap (members s) (shift m d), ap one_if (h (m + d) (omega arith)), members-past s m d h)
+  where
+    shift : (m d : ℕ) → m + suc d ≡ suc (m + d)
+    shift m d = omega arith
+
+on_the_board : (p : Position) (k : ℕ) → is_empty_at p k ≡ true → k < p.size * p.size
+on_the_board p k e = lt_of _ _ (true_both _ _ ((true_both _ _ e).0)).0
+
+pub empties-listed : (set : ℕ) (p : Position) → ((k : ℕ) → has_cell set k ≡ is_empty_at p k) → listed p.size set ≡ empties_of p
+unfolding empties_of
+empties-listed set p e = filter_agree (has_cell set) (is_empty_at p) e (cells_of p.size)
+
+-- the number of the empty cells
+pub count_empties : (set : ℕ) (p : Position) → p.size ≤ 11 → ((k : ℕ) → has_cell set k ≡ is_empty_at p k) → members set 121 ≡ length (empties_of p)
+count_empties set p l e =
+    let n : ℕ = p.size * p.size in
+    let most : n ≤ 11 * 11 = mul-le-mul l l in
+    let past : members set (n + (121 - n)) ≡ members set n = members-past set n (121 - n) (λ k m. not_both (has_cell set k) (λ t. let on : k < n = on_the_board p k (sym (e k) ∙ t) in omega arith)) in
+    ap (members set) (rest n most) ∙ past ∙ members-listed set n ∙ ap length (empties-listed set p e)
+  where
+    rest : (n : ℕ) → n ≤ 11 * 11 → 121 ≡ n + (121 - n)
+    rest n l = omega arith
+
+-- a leaf with few visits, or without an empty cell, asks for none
+pub few_asks : (s : Setting) (n : ℕ) (v : Count) (p : Spot) → v.visits < s.knobs.expand → asks s n v p ≡ false
+few_asks s n v p l = low s.knobs.expand v.visits (nat_lt 0 (length (empties_of p.board)) && nat_le n (end_of s)) l
+  where
+    low : (a b : ℕ) (t : Bool) → b < a → (nat_le a b && t) ≡ false
+    low a b t l = grind (arith, nat_tests)
+
+pub full_asks : (s : Setting) (n : ℕ) (v : Count) (p : Spot) → length (empties_of p.board) ≡ 0 → asks s n v p ≡ false
+full_asks s n v p e = low (nat_le s.knobs.expand v.visits) (length (empties_of p.board)) (nat_le n (end_of s)) e
+  where
+    low : (u : Bool) (a : ℕ) (t : Bool) → a ≡ 0 → (u && (nat_lt 0 a && t)) ≡ false
+    low u a t e = grind (arith, nat_tests)
+
+pub else_asks : (s : Setting) (n : ℕ) (v : Count) (p : Spot) → s.knobs.expand ≤ v.visits → (length (empties_of p.board) ≡ 0 → ⊥) → asks s n v p ≡ nat_le n (end_of s)
+else_asks s n v p l e = high s.knobs.expand v.visits (length (empties_of p.board)) (nat_le n (end_of s)) l e
+  where
+    high : (a b c : ℕ) (t : Bool) → a ≤ b → (c ≡ 0 → ⊥) → (nat_le a b && (nat_lt 0 c && t)) ≡ t
+    high a b c t l e = grind (arith, nat_tests)
+
+-- the block is written and named by the leaf's link
+pub link-written : (start leaf e : ℕ) (p : Spot) (cells before words : List ℕ) → WritesBlock (block_of start leaf e cells) before words → cells ≡ empties_of p.board → leaf + 4 ≤ length before
+    → Links (block_below start leaf e p) before (set words (leaf + 1) start)
+link-written start leaf e p cells before words w is l =
+    let v : WritesBlock (block_below start leaf e p) before words = subst (λ (x : List ℕ). WritesBlock (block_of start leaf e x) before words) is w in
+    record {
+      long = length-set words (leaf + 1) start ∙ v.long;
+      link = get_or-set_same words (leaf + 1) start 0 (omega (arith, v.long));
+      each = λ i d. get_or-set_other words (leaf + 1) i start 0 d ∙ v.each i;
+    }
+
+gets-of : (s : Setting) (n : ℕ) (v : Count) (p : Spot) (t : Bool) → asks s n v p ≡ t → gets_block s n v p ≡ (t && nat_le (n + size_below p) (end_of s))
+unfolding gets_block
+gets-of s n v p t e = ap (λ (u : Bool). u && nat_le (n + size_below p) (end_of s)) e
+
+pub next-of : (s : Setting) (n : ℕ) (v : Count) (p : Spot) (t : Bool) → asks s n v p ≡ t → next_after s n v p ≡ cond t (n + size_below p) n
+unfolding next_after
+next-of s n v p t e = ap (λ (u : Bool). cond u (n + size_below p) n) e
+
+at_most : (a b : ℕ) → a ≤ b → nat_le a b ≡ true
+at_most a b l = grind (arith, nat_tests)
+
+more_than : (a b : ℕ) → b < a → nat_le a b ≡ false
+more_than a b l = grind (arith, nat_tests)
+
+pub gets-none : (s : Setting) (n : ℕ) (v : Count) (p : Spot) → asks s n v p ≡ false → gets_block s n v p ≡ false
+gets-none s n v p e = gets-of s n v p false e
+
+pub gets-past : (s : Setting) (n : ℕ) (v : Count) (p : Spot) → asks s n v p ≡ true → end_of s < n + size_below p → gets_block s n v p ≡ false
+gets-past s n v p e l = gets-of s n v p true e ∙ more_than (n + size_below p) (end_of s) l
+
+pub gets-made : (s : Setting) (n : ℕ) (v : Count) (p : Spot) → asks s n v p ≡ true → n + size_below p ≤ end_of s → gets_block s n v p ≡ true
+gets-made s n v p e l = gets-of s n v p true e ∙ at_most (n + size_below p) (end_of s) l
+
+clash : (t : Bool) → t ≡ true → t ≡ false → ⊥
+clash t a b = cc
+
+pub grows-none : (s : Setting) (leaf : ℕ) (p : Spot) (words : List ℕ) → asks s (next_in words) (tally_in words leaf) p ≡ false → Grows s leaf p words words
+grows-none s leaf p words e = record {
+  next = sym (next-of s (next_in words) (tally_in words leaf) p false e);
+  made = λ t. absurd (clash (gets_block s (next_in words) (tally_in words leaf) p) t (gets-none s (next_in words) (tally_in words leaf) p e));
+  none = λ t. (refl, λ i l. refl);
+}
+
+pub grows-past : (s : Setting) (leaf m : ℕ) (p : Spot) (words : List ℕ) → asks s (next_in words) (tally_in words leaf) p ≡ true → end_of s < next_in words + size_below p
+    → m ≡ next_in words + size_below p → 0 < length words → Grows s leaf p words (set words 0 m)
+grows-past s leaf m p words e l is some = record {
+  next = get_or-set_same words 0 m 0 some ∙ is ∙ sym (next-of s (next_in words) (tally_in words leaf) p true e);
+  made = λ t. absurd (clash (gets_block s (next_in words) (tally_in words leaf) p) t (gets-past s (next_in words) (tally_in words leaf) p e l));
+  none = λ t. (length-set words 0 m, λ i h. get_or-set_other words 0 i m 0 (λ z. omega arith));
+}
+
+pub grows-made : (s : Setting) (leaf m : ℕ) (p : Spot) (words after : List ℕ) → asks s (next_in words) (tally_in words leaf) p ≡ true → next_in words + size_below p ≤ end_of s
+    → m ≡ next_in words + size_below p → 0 < length words → 1 ≤ next_in words → LinksBelow (next_in words) leaf p (set words 0 m) after → Grows s leaf p words after
+grows-made s leaf m p words after e l is some low w =
+    let n : ℕ = next_in words in
+    let b : LinkedBlock = block_below n leaf w.0 p in
+    let all : m ≡ next_after s n (tally_in words leaf) p = is ∙ sym (next-of s n (tally_in words leaf) p true e) in
+    record {
+      next = w.2.each 0 (λ z. omega arith)
+          ∙ ap (λ (t : Bool). cond (t && stays (0 - n)) (header_or_move b (0 - n)) (get_or (set words 0 m) 0 0)) (before-it n (size b) low)
+          ∙ get_or-set_same words 0 m 0 some ∙ all;
+      made = λ t. subst (λ (z : ℕ). LinksBelow n leaf p (set words 0 z) after) all w;
+      none = λ t. absurd (clash (gets_block s n (tally_in words leaf) p) (gets-made s n (tally_in words leaf) p e l) t);
+    }
+  where
+    before-it : (a n : ℕ) → 1 ≤ a → (nat_le a 0 && nat_lt 0 (a + n)) ≡ false
+    before-it a n l = grind (arith, nat_tests)

@@ -1,0 +1,108 @@
+-- The block that the link of a node names, and what stands in it.
+use Rattle.std.proofs.Common.{◌≡◌, ◌≢◌, ◌⊎◌, ℕ, ◌+◌, ◌*◌, ◌≤◌, ◌<◌, true, false, List, [], ◌∷◌, ◌++◌, length, slice_index, refl, sym, ap, ◌∙◌, subst, ⊎_elim, inl, inr, arith}
+use Rattle.std.specs.Prelude.{◌==◌}
+use Rattle.tree_words.specs.Settings.{Setting}
+use Rattle.tree_words.specs.Words.{root_at, link_in, next_in, move_of, tally_in, seen_in}
+use Rattle.tree_words.specs.Blocks.{LinkedBlock, words_of, child, has, place, cell_at, is_node, In, link_of}
+use Rattle.tree_words.specs.Paths.{first_spot, spot_after, spot_of}
+use Rattle.tree_words.specs.Trees.{oldest_first}
+use Rattle.tree_words.specs.Descents.{Names, Filled}
+use Rattle.tree_words.proofs.Adds.{is_child}
+use Rattle.tree_words.proofs.BlockLaws.{either_true, eq_of, has-at, move-word, move-stays}
+use Rattle.tree_words.proofs.Down.{child-has}
+use Rattle.tree_words.proofs.GameLaws.{IsWhole, whole-in, in-node, up-in}
+use Rattle.tree_words.proofs.Orders.{link-names}
+use Rattle.seq_search.specs.Steps.{AtMost, Holds}
+
+-- a node of the tree is the root or a node of a block
+pub node-in : (r : ℕ) (bs : List LinkedBlock) (x : ℕ) → is_node r bs x ≡ true → (x ≡ r) ⊎ ((b : LinkedBlock) × In b bs × (has b x ≡ true))
+node-in r [] x n = inl (eq_of x r n)
+node-in r (b ∷ bs) x n = ⊎_elim
+    (λ (h : has b x ≡ true). inr (b, inl refl, h))
+    (λ (h : is_node r bs x ≡ true). ⊎_elim (λ (e : x ≡ r). inl e) (λ (t : (c : LinkedBlock) × In c bs × (has c x ≡ true)). inr (t.0, inr t.1, t.2)) (node-in r bs x h))
+    (either_true (has b x) (is_node r bs x) n)
+
+-- a block is one of the blocks, in either order
+in-snoc : (b n : LinkedBlock) (os : List LinkedBlock) → In b (os ++ n ∷ []) → (In b os) ⊎ (b ≡ n)
+in-snoc b n [] i = ⊎_elim (λ (e : b ≡ n). inr e) (λ (z : ⊥). absurd z) i
+in-snoc b n (c ∷ os) i = ⊎_elim (λ (e : b ≡ c). inl (inl e))
+    (λ (h : In b (os ++ n ∷ [])). ⊎_elim (λ (u : In b os). inl (inr u)) (λ (u : b ≡ n). inr u) (in-snoc b n os h)) i
+
+pub in-turned : (b : LinkedBlock) (bs : List LinkedBlock) → In b (oldest_first bs) → In b bs
+in-turned b [] i = absurd i
+in-turned b (c ∷ bs) i = ⊎_elim (λ (h : In b (oldest_first bs)). inr (in-turned b bs h)) (λ (e : b ≡ c). inl e) (in-snoc b c (oldest_first bs) i)
+
+names-in : (os : List LinkedBlock) (x : ℕ) (b : LinkedBlock) → Names os x b → (In b os) × (b.parent ≡ x)
+names-in [] x b n = absurd n
+names-in (c ∷ os) x b n = ⊎_elim
+    (λ (e : (c ≡ b) × (b.parent ≡ x)). (inl (sym e.0), e.1))
+    (λ (e : ((c.parent == x) ≡ false) × Names os x b). let t = names-in os x b e.1 in (inr t.0, t.1)) n
+
+filled-in : (bs : List LinkedBlock) (b : LinkedBlock) → Filled bs → In b bs → 0 < length b.cells
+filled-in [] b f i = absurd i
+filled-in (c ∷ bs) b f i = ⊎_elim (λ (e : b ≡ c). subst (λ (d : LinkedBlock). 0 < length d.cells) (sym e) f.0) (λ (h : In b bs). filled-in bs b f.1 h) i
+
+-- b is the block below x
+pub record IsBelow (s : Setting) (bs : List LinkedBlock) (words : List ℕ) (x : ℕ) (b : LinkedBlock) : Type 0 where
+  pub names : Names (oldest_first bs) x b
+  pub inside : In b bs
+  pub parent : b.parent ≡ x
+  pub start : b.start ≡ link_in words x
+  pub whole : IsWhole s (next_in words) bs b
+  pub some : 0 < length b.cells
+  pub count : slice_index words (b.start + 3) ≡ length b.cells
+  pub fits : b.start + words_of (length b.cells) ≤ length words
+
+module _ (s : Setting) (bs : List LinkedBlock) (words : List ℕ) (k : ℕ) (h : Holds s bs words k) where
+  -- a node's four words are words of the tree
+  pub node-fits : (x : ℕ) → is_node (root_at s) bs x ≡ true → x + 4 ≤ length words
+  node-fits x n = ⊎_elim
+      (λ (e : x ≡ root_at s). omega (arith, e, h.long))
+      (λ (t : (b : LinkedBlock) × In b bs × (has b x ≡ true)).
+      let w = whole-in s (next_in words) bs t.0 h.linked.order h.linked.complete t.1 in
+      let a = has-at t.0 x t.2 in
+      omega (arith, w.inside.1, a.1, a.2, h.long))
+      (node-in (root_at s) bs x n)
+
+  -- a link that is not 0 names a block
+  pub below : (x : ℕ) → is_node (root_at s) bs x ≡ true → (link_in words x ≢ 0) → (b : LinkedBlock) × IsBelow s bs words x b
+  below x n l =
+      let link : link_in words x ≡ link_of bs x = h.linked.shows.links x n in
+      let some : 0 < link_of bs x = omega (arith, link, l) in
+      let t = link-names (root_at s) bs x h.linked.order some in
+      let b : LinkedBlock = t.0 in
+      let i = names-in (oldest_first bs) x b t.1 in
+      let inside : In b bs = in-turned b bs i.0 in
+      let w = whole-in s (next_in words) bs b h.linked.order h.linked.complete inside in (
+        b,
+        record {
+          names = t.1;
+          inside = inside;
+          parent = i.1;
+          start = t.2 ∙ sym link;
+          whole = w;
+          some = filled-in bs b h.filled inside;
+          count = h.linked.shows.blocks b 3 inside (omega arith) refl;
+          fits = omega (arith, w.inside.1, h.long);
+        },
+      )
+
+  -- a child is a node
+  pub child-node : (b : LinkedBlock) (i : ℕ) → In b bs → i < length b.cells → is_node (root_at s) bs (child b i) ≡ true
+  child-node b i inside l = in-node (root_at s) bs b (child b i) inside (child-has b i l)
+
+  -- the move word of a child
+  pub child-move : (b : LinkedBlock) (i : ℕ) → In b bs → i < length b.cells → slice_index words (child b i) ≡ move_of i (cell_at b i)
+  child-move b i inside l =
+      let at : b.start + (4 + 4 * i) ≡ child b i = omega arith in
+      ap (slice_index words) (sym at) ∙ h.linked.shows.blocks b (4 + 4 * i) inside (omega (arith, l)) (move-stays i) ∙ move-word b i
+
+  -- the counts of a child
+  pub child-counts : (b : LinkedBlock) (i : ℕ) → In b bs → i < length b.cells → AtMost k (tally_in words (child b i)) × AtMost k (seen_in words (child b i))
+  child-counts b i inside l = h.counts (child b i) (child-node b i inside l)
+
+  -- the spot of a child is its parent's after its cell
+  pub child-spot : (b : LinkedBlock) (i : ℕ) → In b bs → i < length b.cells → spot_of s bs (child b i) ≡ spot_after (spot_of s bs b.parent) (cell_at b i)
+  child-spot b i inside l =
+      up-in (first_spot s) (λ c y above. spot_after above (cell_at c (place c y))) (root_at s) bs b (child b i) h.linked.order inside (child-has b i l)
+      ∙ ap (λ (j : ℕ). spot_after (spot_of s bs b.parent) (cell_at b j)) (is_child b.start i)

@@ -1,0 +1,372 @@
+-- The way of a walk down to its leaf.
+use Rattle.std.proofs.Common.{◌≡◌, ◌≢◌, ℕ, zero, suc, ◌+◌, ◌*◌, ◌≤◌, ◌<◌, Bool, true, false, cond, not, List, [], ◌∷◌, ◌++◌, length, map, take, set, length-set, get_or, slice_index, refl, sym, ap, ◌∙◌, subst, ⊎_elim, append-nil, arith}
+use Rattle.std.specs.Prelude.{◌==◌, ◌||◌, ◌&&◌, nat_lt}
+use Rattle.std.proofs.lemmas.Bool.Decides.{nat_tests}
+use Rattle.std.proofs.lemmas.List.{take_more_set, append_assoc}
+use Rattle.hex_cells.specs.Sets.{has as has_cell, with_cell}
+use Rattle.hex_cells.proofs.Bits.{has_with, with_value}
+use Rattle.hex_cells.specs.Colours.{other_of}
+use Rattle.hex_cells.specs.declared.colours.Colour.{Colour}
+use Rattle.hex_cells.specs.declared.colours.Colour.TheVariants.{Black, White}
+use Rattle.hex_board.specs.Positions.{Position, is_empty_at, placed}
+use Rattle.play_out.specs.Fills.{empties_of}
+use Rattle.uct_table.specs.Choice.{choice_of}
+use Rattle.tree_words.specs.Settings.{Setting, IsSetting}
+use Rattle.tree_words.specs.Words.{Count, root_at, link_in, move_of, cell_in, tally_in, seen_in}
+use Rattle.tree_words.specs.Blocks.{LinkedBlock, one_if, words_of, child, has, place, cell_at, is_node, InOrder, up}
+use Rattle.tree_words.specs.Paths.{Spot, first_spot, spot_after, spot_of, board_of}
+use Rattle.tree_words.specs.Complete.{allowed_cells, cells_below}
+use Rattle.tree_words.specs.Counts.{count_below}
+use Rattle.tree_words.specs.Trees.{oldest_first}
+use Rattle.tree_words.specs.Sequence.{child_of, chosen_of, game_of}
+use Rattle.tree_words.specs.Descents.{pairs_of, pick, leaf_inner, state_leaf, state_inner, steps_inner, Bare}
+use Rattle.tree_words.proofs.Adds.{is_child}
+use Rattle.tree_words.proofs.BlockLaws.{eq_of, same_is, bool_is, apart, up_same, true_both, lt_of}
+use Rattle.tree_words.proofs.Down.{child-has, pick-in, not_both, never}
+use Rattle.tree_words.proofs.GameLaws.{up-in, in-node, root_node, fair_game}
+use Rattle.tree_words.proofs.Links.{down-bare, leaf-link, state-link, steps-link}
+use Rattle.tree_words.proofs.Orders.{rooted-turned, link-bare}
+use Rattle.tree_words.proofs.RootLaws.{filter_at}
+use Rattle.seq_search.specs.Steps.{AtMost, Holds}
+use Rattle.seq_search.specs.Choosing.{children_in, most_count, CanBeScored}
+use Rattle.seq_search.specs.declared.descending.Descent.{Descent}
+use Rattle.seq_search.specs.Descending.{spot_in, steps_in, left_on, HasRoom, leaf_below, state_below, steps_below, Underway, Descended}
+use Rattle.seq_search.proofs.LinkLaws.{IsBelow, below, node-fits, child-move, child-counts}
+
+-- the children as Choice reads them
+pub pairs-children : (words : List ℕ) (y : ℕ) (cs : List ℕ) → map child_of (pairs_of (tally_in words) (seen_in words) y cs) ≡ children_in words y (length cs)
+pairs-children words y [] = refl
+pairs-children words y (c ∷ cs) = ap (λ l. child_of (tally_in words y, seen_in words y) ∷ l) (pairs-children words (y + 4) cs)
+
+-- no block has the root among its nodes
+pub up-root : {A : Type 0} (root : A) (step : LinkedBlock → ℕ → A → A) (r : ℕ) (bs : List LinkedBlock) → InOrder r bs → up root step bs r ≡ root
+up-root root step r [] g = refl
+up-root root step r (b ∷ bs) g = up_same root step b bs r (apart r b bs r g.0 (root_node r bs)) ∙ up-root root step r bs g.1
+
+-- the cells of a block are empty on its parent's board
+empties-empty : (p : Position) (i : ℕ) → i < length (empties_of p) → is_empty_at p (get_or (empties_of p) i 0) ≡ true
+unfolding empties_of
+empties-empty p i l = (filter_at (is_empty_at p) 0 (p.size * p.size) i l).0
+
+allowed-empty : (s : Setting) (i : ℕ) → IsSetting s → i < length (allowed_cells s) → is_empty_at s.board (get_or (allowed_cells s) i 0) ≡ true
+unfolding allowed_cells
+allowed-empty s i h l = h.empty _ (filter_at (has_cell s.allowed) 0 (s.board.size * s.board.size) i l).0
+
+pub below-empty : (s : Setting) (bs : List LinkedBlock) (x i : ℕ) → IsSetting s → InOrder (root_at s) bs → i < length (cells_below s bs x) → is_empty_at (board_of s bs x) (get_or (cells_below s bs x) i 0) ≡ true
+below-empty s bs x i h g l = ⊎_elim
+    (λ (t : (x == root_at s) ≡ true).
+    let at : x ≡ root_at s = eq_of x (root_at s) t in
+    let cells : cells_below s bs x ≡ allowed_cells s = ap (λ (u : Bool). cond u (allowed_cells s) (empties_of (board_of s bs x))) t in
+    let board : board_of s bs x ≡ s.board = ap (board_of s bs) at ∙ ap (λ (p : Spot). p.board) (up-root (first_spot s) (λ b y above. spot_after above (cell_at b (place b y))) (root_at s) bs g) in
+    (λ j. is_empty_at (board j) (get_or (cells j) i 0)) ∙ allowed-empty s i h (subst (λ (c : List ℕ). i < length c) cells l))
+    (λ (t : (x == root_at s) ≡ false).
+    let cells : cells_below s bs x ≡ empties_of (board_of s bs x) = ap (λ (u : Bool). cond u (allowed_cells s) (empties_of (board_of s bs x))) t in
+    ap (λ (c : List ℕ). is_empty_at (board_of s bs x) (get_or c i 0)) cells ∙ empties-empty (board_of s bs x) i (subst (λ (c : List ℕ). i < length c) cells l))
+    (bool_is (x == root_at s))
+
+-- an empty cell lies on the board
+pub on-board : (p : Position) (c : ℕ) → is_empty_at p c ≡ true → c < p.size * p.size
+on-board p c e = lt_of c (p.size * p.size) (true_both (nat_lt c (p.size * p.size)) (not (has_cell p.black c)) (true_both _ (not (has_cell p.white c)) e).0).0
+
+pub few-cells : (n : ℕ) → n ≤ 11 → n * n ≤ 121
+few-cells n l = grind arith
+
+pub cell-of-move : (i c : ℕ) → c < 256 → cell_in (move_of i c) ≡ c
+cell-of-move i c l = omega arith
+
+-- how a call of the way down is told that the words are those of a search
+abbrev pub Searched : Setting → List ℕ → Type 0
+Searched s words = (bs : List LinkedBlock) × (k : ℕ) × (k ≤ s.knobs.playouts) × Holds s bs words k
+
+-- the walk stands on its way, whatever the blocks are called
+abbrev pub OnWay : Setting → List ℕ → Descent → Type 0
+OnWay s words d = (bs : List LinkedBlock) (k : ℕ) → k ≤ s.knobs.playouts → Holds s bs words k → Underway s bs words d
+
+pub way-fits : (s : Setting) (words : List ℕ) (d : Descent) → Searched s words → OnWay s words d → d.node + 4 ≤ length words
+way-fits s words d q w = node-fits s q.0 words q.1 q.3 d.node (w q.0 q.1 q.2 q.3).node
+
+module _ (s : Setting) (bs : List LinkedBlock) (words : List ℕ) (k : ℕ) (few : k ≤ most_count) (h : Holds s bs words k) (x block : ℕ) (n : is_node (root_at s) bs x ≡ true) (at : block ≡ link_in words x) (some : block ≢ 0) where
+  link-some : link_in words x ≢ 0
+  link-some e = some (at ∙ e)
+
+  pub block-below : (b : LinkedBlock) × IsBelow s bs words x b
+  block-below = below s bs words k h x n link-some
+
+  pub block-start : block ≡ block-below.0.start
+  block-start = at ∙ sym block-below.1.start
+
+  pub block-count : slice_index words (block + 3) ≡ length block-below.0.cells
+  block-count = ap (λ (z : ℕ). slice_index words (z + 3)) block-start ∙ block-below.1.count
+
+  pub block-fits : block + words_of (slice_index words (block + 3)) ≤ length words
+  block-fits = omega (arith, block-start, block-count, block-below.1.fits)
+
+  pub block-scored : CanBeScored words (block + 4) (slice_index words (block + 3))
+  block-scored i l =
+      let b : LinkedBlock = block-below.0 in
+      let li : i < length b.cells = omega (arith, l, block-count) in
+      let same : child b i ≡ block + 4 + 4 * i = ap (λ (z : ℕ). z + 4 + 4 * i) (sym block-start) in
+      let c = subst (λ (z : ℕ). AtMost k (tally_in words z) × AtMost k (seen_in words z)) same (child-counts s bs words k h b i block-below.1.inside li) in
+      ((omega (arith, few, c.0.0), omega (arith, few, c.0.1)), (omega (arith, few, c.1.0), omega (arith, few, c.1.1)))
+
+  pub parent-scored : (tally_in words x).visits ≤ most_count
+  parent-scored = let c = h.counts x n in omega (arith, few, c.0.0)
+
+  -- the place that is chosen
+  module _ (visits weight chosen : ℕ) (own : visits ≡ (tally_in words x).visits) (same : weight ≡ s.knobs.weight) (is : chosen ≡ choice_of visits weight (children_in words (block + 4) (slice_index words (block + 3)))) where
+    pub chosen-pick : chosen ≡ pick (game_of s) (tally_in words) (seen_in words) block-below.0 x
+    unfolding chosen_of
+    chosen-pick =
+        let b : LinkedBlock = block-below.0 in
+        is ∙ (λ i. choice_of (own i) (same i) (children_in words (block-start i + 4) (block-count i)))
+        ∙ sym (ap (choice_of (tally_in words x).visits s.knobs.weight) (pairs-children words (b.start + 4) b.cells))
+
+    pub chosen-in : chosen < length block-below.0.cells
+    chosen-in = let b : LinkedBlock = block-below.0 in omega (arith, chosen-pick, pick-in (game_of s) (fair_game s) (tally_in words) (seen_in words) b x block-below.1.some)
+
+    pub chosen-at : block + 4 + 4 * chosen ≡ child block-below.0 chosen
+    chosen-at = ap (λ (z : ℕ). z + 4 + 4 * chosen) block-start
+
+    pub chosen-fits : block + 4 + 4 * chosen + 4 ≤ length words
+    chosen-fits = omega (arith, block-fits, block-count, chosen-in)
+
+    pub chosen-after : x < block
+    chosen-after = omega (arith, block-below.1.whole.above, block-below.1.parent, block-start)
+
+    pub chosen-empty : IsSetting s → is_empty_at (board_of s bs x) (cell_at block-below.0 chosen) ≡ true
+    chosen-empty z =
+        let b : LinkedBlock = block-below.0 in
+        let cells = block-below.1.whole.cells in
+        let l : chosen < length (cells_below s bs b.parent) = subst (λ (c : List ℕ). chosen < length c) cells chosen-in in
+        (λ i. is_empty_at (board_of s bs (sym block-below.1.parent i)) (get_or (cells i) chosen 0)) ∙ below-empty s bs b.parent chosen z h.linked.order l
+
+-- a stone less to place
+fewer-le : (n : ℕ) (f g : ℕ → Bool) → ((k : ℕ) → g k ≡ true → f k ≡ true) → count_below n g ≤ count_below n f
+fewer-le zero f g h = omega arith
+fewer-le (suc n) f g h = let r = fewer-le n f g h in one (f n) (g n) (h n) r
+  where
+    one : {a b : ℕ} (t u : Bool) → (u ≡ true → t ≡ true) → b ≤ a → b + one_if u ≤ a + one_if t
+    one true true h l = omega (arith, l)
+    one true false h l = omega (arith, l)
+    one false true h l = absurd (not_both false (h refl) refl)
+    one false false h l = omega (arith, l)
+
+fewer : (n c : ℕ) (f g : ℕ → Bool) → ((k : ℕ) → g k ≡ true → (f k ≡ true) × (k ≢ c)) → f c ≡ true → c < n → count_below n g < count_below n f
+fewer zero c f g h e l = absurd (omega arith)
+fewer (suc n) c f g h e l = ⊎_elim
+    (λ (t : (n == c) ≡ true).
+    let at : n ≡ c = eq_of n c t in
+    let off : g n ≡ false = never (g n) (λ u. (h n u).1 at) in
+    let on : f n ≡ true = ap f at ∙ e in
+    let r = fewer-le n f g (λ k u. (h k u).0) in
+    omega (arith, r, ap one_if off, ap one_if on))
+    (λ (t : (n == c) ≡ false).
+    let r = fewer n c f g h e (past n c t l) in
+    step (f n) (g n) (λ u. (h n u).0) r)
+    (bool_is (n == c))
+  where
+    past : (n c : ℕ) → (n == c) ≡ false → c < suc n → c < n
+    past n c t l = grind (arith, nat_tests)
+
+    step : {a b : ℕ} (t u : Bool) → (u ≡ true → t ≡ true) → b < a → b + one_if u < a + one_if t
+    step true true h l = omega (arith, l)
+    step true false h l = omega (arith, l)
+    step false true h l = absurd (not_both false (h refl) refl)
+    step false false h l = omega (arith, l)
+
+most-below : (n : ℕ) (f : ℕ → Bool) → count_below n f ≤ n
+most-below zero f = omega arith
+most-below (suc n) f = let r = most-below n f in one (f n) r
+  where
+    one : {a n : ℕ} (t : Bool) → a ≤ n → a + one_if t ≤ suc n
+    one true l = omega (arith, l)
+    one false l = omega (arith, l)
+
+-- on a board with one more stone
+has-with-cell : (set c k : ℕ) → c < 121 → has_cell (with_cell set c) k ≡ (has_cell set k || k == c)
+has-with-cell set c k l = ap (λ (v : ℕ). has_cell v k) (sym (with_value set c l)) ∙ has_with set c k (omega (arith, l))
+
+placed_leaves : (p : Position) (player : Colour) (c k : ℕ) → c < 121 → is_empty_at (placed p player c) k ≡ (is_empty_at p k && not (k == c))
+placed_leaves p Black c k l = ap (λ b. nat_lt k (p.size * p.size) && not b && not (has_cell p.white k)) (has-with-cell p.black c k l) ∙ black (nat_lt k (p.size * p.size)) (has_cell p.black k) (has_cell p.white k) (k == c)
+  where
+    black : (a b w e : Bool) → (a && not (b || e) && not w) ≡ ((a && not b && not w) && not e)
+    black a b w e = grind arith
+placed_leaves p White c k l = ap (λ b. nat_lt k (p.size * p.size) && not (has_cell p.black k) && not b) (has-with-cell p.white c k l) ∙ white (nat_lt k (p.size * p.size)) (has_cell p.black k) (has_cell p.white k) (k == c)
+  where
+    white : (a b w e : Bool) → (a && not b && not (w || e)) ≡ ((a && not b && not w) && not e)
+    white a b w e = grind arith
+
+placed-empty : (p : Position) (player : Colour) (c k : ℕ) → c < 121 → is_empty_at (placed p player c) k ≡ true → (is_empty_at p k ≡ true) × (k ≢ c)
+placed-empty p player c k l e =
+    let t = true_both (is_empty_at p k) (not (k == c)) (sym (placed_leaves p player c k l) ∙ e) in
+    (t.0, apart_of k c t.1)
+  where
+    apart_of : (k c : ℕ) → not (k == c) ≡ true → k ≢ c
+    apart_of k c h e = no (k == c) (same_is k c e) h
+      where
+        no : (u : Bool) → u ≡ true → not u ≡ true → ⊥
+        no u a b = cc
+
+pub placed-size : (p : Position) (player : Colour) (c : ℕ) → (placed p player c).size ≡ p.size
+placed-size p Black c = refl
+placed-size p White c = refl
+
+pub most-left : (p : Position) → left_on p ≤ 121
+unfolding left_on
+most-left p = most-below 121 (is_empty_at p)
+
+fewer-left : (p : Position) (player : Colour) (c : ℕ) → is_empty_at p c ≡ true → c < 121 → left_on (placed p player c) < left_on p
+unfolding left_on
+fewer-left p player c e l = fewer 121 c (is_empty_at p) (is_empty_at (placed p player c)) (λ k u. placed-empty p player c k l u) e l
+
+-- a walk that can take a step has room for it
+pub step-count : (d : Descent) (cell : ℕ) → is_empty_at d.board cell ≡ true → HasRoom d → d.count < 121
+step-count d cell e r =
+    let o = on-board d.board cell e in
+    let m = few-cells d.board.size r.size in
+    let f = fewer-left d.board d.player cell e (omega arith) in
+    omega (arith, f, r.cells)
+
+-- a step of the walk
+module _ (d e : Descent) (cell kid : ℕ) (board : e.board ≡ placed d.board d.player cell) (player : e.player ≡ other_of d.player) (node : e.node ≡ kid)
+    (steps : e.steps ≡ set d.steps d.count kid) (count : e.count ≡ d.count + 1) (empty : is_empty_at d.board cell ≡ true) where
+  step-cell : d.board.size ≤ 11 → cell < 121
+  step-cell l = let o = on-board d.board cell empty in let m = few-cells d.board.size l in omega arith
+
+  pub step-room : HasRoom d → HasRoom e
+  step-room r =
+      let f = fewer-left d.board d.player cell empty (step-cell r.size) in
+      let same : left_on e.board ≡ left_on (placed d.board d.player cell) = ap left_on board in
+      record {
+        size = subst (λ (n : ℕ). n ≤ 11) (sym (ap (λ (p : Position). p.size) board ∙ placed-size d.board d.player cell)) r.size;
+        cells = omega (arith, f, r.cells, count, same);
+        long = ap length steps ∙ length-set d.steps d.count kid ∙ r.long;
+      }
+
+  step-steps : HasRoom d → steps_in e ≡ steps_in d ++ kid ∷ []
+  step-steps r = (λ i. take (count i) (steps i)) ∙ take_more_set d.steps d.count kid (omega (arith, r.long, step-count d cell empty r))
+
+  step-spot : spot_in e ≡ spot_after (spot_in d) cell
+  step-spot i = record { board = board i; player = player i }
+
+  pub step-way : (s : Setting) (bs : List LinkedBlock) (words : List ℕ) (k : ℕ) → Holds s bs words k → (b : LinkedBlock) → IsBelow s bs words d.node b → (j : ℕ)
+      → j ≡ pick (game_of s) (tally_in words) (seen_in words) b d.node → j < length b.cells → kid ≡ child b j → cell ≡ cell_at b j
+      → HasRoom d → Underway s bs words d → Underway s bs words e
+  step-way s bs words k h b w j is l at mine r u =
+      let g = game_of s in let fair = fair_game s in let p = tally_in words in let q = seen_in words in let os = oldest_first bs in
+      let rooted = rooted-turned (root_at s) bs h.linked.order in
+      let i : ℕ = pick g p q b d.node in
+      let here : e.node ≡ child b i = node ∙ at ∙ ap (child b) is in
+      let inside : has b e.node ≡ true = ap (has b) (node ∙ at) ∙ child-has b j l in
+      let cell-is : cell ≡ cell_at b i = mine ∙ ap (cell_at b) is in
+      let spot : spot_in e ≡ spot_after (spot_in d) (cell_at b i) = step-spot ∙ ap (spot_after (spot_in d)) cell-is in
+      let up : spot_of s bs e.node ≡ spot_after (spot_of s bs b.parent) (cell_at b (place b e.node))
+      = up-in (first_spot s) (λ c y above. spot_after above (cell_at c (place c y))) (root_at s) bs b e.node h.linked.order w.inside inside in
+      let at-place : place b e.node ≡ i = ap (place b) here ∙ is_child b.start i in
+      record {
+        node = in-node (root_at s) bs b e.node w.inside inside;
+        spot = spot ∙ (λ t. spot_after (u.spot t) (cell_at b i)) ∙ sym (up ∙ (λ t. spot_after (spot_of s bs (w.parent t)) (cell_at b (at-place t))));
+        leaf = u.leaf ∙ leaf-link g fair p q os d.node b rooted w.names w.some ∙ ap (leaf_below s bs words) (sym here);
+        state = u.state ∙ state-link g fair p q os d.node b (spot_in d) rooted w.names w.some ∙ sym (λ t. state_below s bs words (here t) (spot t));
+        steps = u.steps ∙ ap (λ (l : List ℕ). steps_in d ++ l) (steps-link g fair p q os d.node b rooted w.names w.some ∙ sym (λ t. here t ∷ steps_below s bs words (here t)))
+            ∙ sym (append_assoc (steps_in d) (e.node ∷ []) (steps_below s bs words e.node))
+            ∙ ap (λ (l : List ℕ). l ++ steps_below s bs words e.node) (sym (step-steps r ∙ ap (λ (x : ℕ). steps_in d ++ x ∷ []) (sym node)));
+      }
+
+-- where the walk begins
+pub begin-way : (s : Setting) (d : Descent) → d.board ≡ s.board → d.player ≡ s.player → d.node ≡ root_at s → d.count ≡ 0
+    → (bs : List LinkedBlock) (words : List ℕ) (k : ℕ) → Holds s bs words k → Underway s bs words d
+begin-way s d board player node count bs words k h =
+    let spot : spot_in d ≡ first_spot s = λ i. record { board = board i; player = player i } in
+    record {
+      node = ap (is_node (root_at s) bs) node ∙ root_node (root_at s) bs;
+      spot = spot ∙ sym (ap (spot_of s bs) node ∙ up-root (first_spot s) (λ c y above. spot_after above (cell_at c (place c y))) (root_at s) bs h.linked.order);
+      leaf = ap (leaf_below s bs words) (sym node);
+      state = sym (λ i. state_below s bs words (node i) (spot i));
+      steps = sym (λ i. take (count i) d.steps ++ steps_below s bs words (node i));
+    }
+
+-- where it ends
+pub end-way : (s : Setting) (bs : List LinkedBlock) (words : List ℕ) (d : Descent) (k : ℕ) → Holds s bs words k → HasRoom d → Underway s bs words d → link_in words d.node ≡ 0 → Descended s bs words d
+end-way s bs words d k h r u e =
+    let g = game_of s in let p = tally_in words in let q = seen_in words in let os = oldest_first bs in
+    let bare : Bare os d.node = link-bare (root_at s) bs d.node h.linked.order (sym (h.linked.shows.links d.node u.node) ∙ e) in
+    record {
+      node = u.node;
+      spot = u.spot;
+      leaf = u.leaf ∙ down-bare (λ (y : ℕ). y) (leaf_inner g p q) os d.node bare;
+      state = u.state ∙ ap (λ (f : Spot → Count × Spot). f (spot_in d)) (down-bare (state_leaf g p q) (state_inner g p q) os d.node bare);
+      steps = u.steps ∙ ap (λ (l : List ℕ). steps_in d ++ l) (down-bare (λ (y : ℕ). []) (steps_inner g p q) os d.node bare) ∙ append-nil (steps_in d);
+      bare = e;
+      few = omega (arith, r.cells);
+      long = r.long;
+    }
+
+-- what a turn of the way down may read
+pub few-words : (s : Setting) (words : List ℕ) → IsSetting s → Searched s words → length words ≤ 17777222
+few-words s words z q = omega (arith, q.3.long, z.ranges.playouts.1, z.ranges.words.1)
+
+few-counts : (s : Setting) (k : ℕ) → IsSetting s → k ≤ s.knobs.playouts → k ≤ most_count
+few-counts s k z l = omega (arith, l, z.ranges.playouts.1)
+
+-- the block of the node can be chosen from
+pub record MayChoose (s : Setting) (words : List ℕ) (d : Descent) (block : ℕ) : Type 0 where
+  pub within : block + words_of (slice_index words (block + 3)) ≤ length words
+  pub parent : (tally_in words d.node).visits ≤ most_count
+  pub counts : CanBeScored words (block + 4) (slice_index words (block + 3))
+
+pub may-choose : (s : Setting) (words : List ℕ) (d : Descent) (block : ℕ) → IsSetting s → Searched s words → OnWay s words d → block ≡ link_in words d.node → block ≢ 0 → MayChoose s words d block
+may-choose s words d block z q w at some =
+    let n = (w q.0 q.1 q.2 q.3).node in
+    let few = few-counts s q.1 z q.2 in
+    record {
+      within = block-fits s q.0 words q.1 few q.3 d.node block n at some;
+      parent = parent-scored s q.0 words q.1 few q.3 d.node block n at some;
+      counts = block-scored s q.0 words q.1 few q.3 d.node block n at some;
+    }
+
+-- the child may be gone to
+pub record MayGo (words : List ℕ) (d : Descent) (kid : ℕ) : Type 0 where
+  pub fits : kid + 4 ≤ length words
+  pub empty : is_empty_at d.board (cell_in (slice_index words kid)) ≡ true
+  pub after : d.node < kid
+
+module _ (s : Setting) (words : List ℕ) (d : Descent) (block visits weight chosen : ℕ) (z : IsSetting s) (at : block ≡ link_in words d.node) (some : block ≢ 0)
+    (own : visits ≡ (tally_in words d.node).visits) (same : weight ≡ s.knobs.weight) (is : chosen ≡ choice_of visits weight (children_in words (block + 4) (slice_index words (block + 3)))) where
+  -- the cell that the move word of the chosen child has
+  chosen-cell : (bs : List LinkedBlock) (k : ℕ) → k ≤ s.knobs.playouts → (h : Holds s bs words k) → d.board.size ≤ 11 → (u : Underway s bs words d)
+      → (b : LinkedBlock) × (w : IsBelow s bs words d.node b) × (chosen ≡ pick (game_of s) (tally_in words) (seen_in words) b d.node) × (chosen < length b.cells) × (block + 4 + 4 * chosen ≡ child b chosen)
+      × (cell_in (slice_index words (block + 4 + 4 * chosen)) ≡ cell_at b chosen) × (is_empty_at d.board (cell_at b chosen) ≡ true)
+  chosen-cell bs k l h small u =
+      let few = few-counts s k z l in
+      let t = block-below s bs words k few h d.node block u.node at some in
+      let b : LinkedBlock = t.0 in
+      let pick-is = chosen-pick s bs words k few h d.node block u.node at some visits weight chosen own same is in
+      let within = chosen-in s bs words k few h d.node block u.node at some visits weight chosen own same is in
+      let kid-at = chosen-at s bs words k few h d.node block u.node at some visits weight chosen own same is in
+      let empty : is_empty_at d.board (cell_at b chosen) ≡ true
+      = ap (λ (p : Spot). is_empty_at p.board (cell_at b chosen)) u.spot ∙ chosen-empty s bs words k few h d.node block u.node at some visits weight chosen own same is z in
+      let on = on-board d.board (cell_at b chosen) empty in
+      let low = few-cells d.board.size small in
+      let move : cell_in (slice_index words (block + 4 + 4 * chosen)) ≡ cell_at b chosen
+      = ap (λ (y : ℕ). cell_in (slice_index words y)) kid-at ∙ ap cell_in (child-move s bs words k h b chosen t.1.inside within) ∙ cell-of-move chosen (cell_at b chosen) (omega (arith, on, low)) in
+      (b, t.1, pick-is, within, kid-at, move, empty)
+
+  pub may-go : Searched s words → OnWay s words d → d.board.size ≤ 11 → MayGo words d (block + 4 + 4 * chosen)
+  may-go q w small =
+      let u = w q.0 q.1 q.2 q.3 in
+      let few = few-counts s q.1 z q.2 in
+      let t = chosen-cell q.0 q.1 q.2 q.3 small u in
+      record {
+        fits = chosen-fits s q.0 words q.1 few q.3 d.node block u.node at some visits weight chosen own same is;
+        empty = ap (is_empty_at d.board) t.5 ∙ t.6;
+        after = let a = chosen-after s q.0 words q.1 few q.3 d.node block u.node at some visits weight chosen own same is in omega (arith, a);
+      }
+
+  pub gone-way : (e : Descent) → e.board ≡ placed d.board d.player (cell_in (slice_index words (block + 4 + 4 * chosen))) → e.player ≡ other_of d.player → e.node ≡ block + 4 + 4 * chosen
+      → e.steps ≡ set d.steps d.count (block + 4 + 4 * chosen) → e.count ≡ d.count + 1 → HasRoom d → OnWay s words d → OnWay s words e
+  gone-way e board player node steps count r w bs k l h =
+      let u = w bs k l h in
+      let t = chosen-cell bs k l h r.size u in
+      step-way d e (cell_in (slice_index words (block + 4 + 4 * chosen))) (block + 4 + 4 * chosen) board player node steps count (ap (is_empty_at d.board) t.5 ∙ t.6)
+      s bs words k h t.0 t.1 chosen t.2 t.3 t.4 t.5 r u

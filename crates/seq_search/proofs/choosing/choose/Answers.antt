@@ -1,0 +1,44 @@
+use Rattle.std.proofs.Common.{◌≡◌, ◌+◌, ◌-◌, ◌*◌, ◌<◌, ℕ, slice_index, List, sym, ap, ◌∙◌, arith}
+use Rattle.uct_table.specs.Choice.{Child, score_in}
+use Rattle.tree_words.specs.Words.{tally_in, seen_in}
+use Rattle.tree_words.specs.Sequence.{child_of}
+use Rattle.seq_search.specs.Choosing.{children_in}
+use Rattle.seq_search.proofs.Choices.{chosen_from, chosen_first, chosen_here, chosen_last, children_more, children_first, score_is, taken, passed}
+use Rattle.seq_search.proofs.choosing.choose.Goals as goal
+use Rattle.seq_search.proofs.choosing.choose.Goals.{then-most-score, else-most-score}
+
+pub children-init : goal.children-init
+children-init c =
+    let count : ℕ = slice_index c.args.words.now (c.args.block + 3) in
+    chosen_first c.args.visits c.args.weight (children_in c.args.words.now (c.args.block + 4) count) ∙ ap (chosen_from c.args.visits c.args.weight 0 0 0) (children_first c.args.words.now c.args.block count)
+
+pub children-preserved : goal.children-preserved
+children-preserved c =
+    let p : ℕ = c.args.visits in let w : ℕ = c.args.weight in let place : ℕ = c.children.place in
+    let count : ℕ = slice_index c.args.words.now (c.args.block + 3) in
+    let at : ℕ = c.args.block + 4 + 4 * place in
+    let x : Child = child_of (tally_in c.args.words.now at, seen_in c.args.words.now at) in
+    let xs : List Child = children_in c.args.words.now (c.args.block + 4 + 4 * (place + 1)) (count - (place + 1)) in
+    let some : 0 < x.visits = omega (arith, c.visits_of-own.ensures, c.if-own-eq0.false) in
+    let is : c.score-score.result ≡ score_in p w x = score_is p w c.visits_of-own.result c.wins_of.result c.visits_of.result c.wins_of-in-children.result c.score-score.result x
+    c.visits_of-own.ensures c.wins_of.ensures c.visits_of.ensures c.wins_of-in-children.ensures c.score-score.ensures in
+    c.children.invariant ∙ ap (chosen_from p w place c.children.best c.children.most) (children_more c.args.words.now c.args.block place count c.children-test.true)
+    ∙ elim c.if-most-score.branch [
+      | then-most-score u ↦ taken p w place c.children.best c.children.most c.score-score.result x xs some is u.if-most-score.true ∙ sym (λ i. chosen_from p w (place + 1) (u.best-is i) (u.most-is i) xs)
+      | else-most-score u ↦ passed p w place c.children.best c.children.most c.score-score.result x xs some is u.if-most-score.false ∙ sym (λ i. chosen_from p w (place + 1) (u.best-is i) (u.most-is i) xs)
+    ]
+
+pub returns-then-own-eq0 : goal.returns-then-own-eq0
+returns-then-own-eq0 c =
+    let p : ℕ = c.args.visits in let w : ℕ = c.args.weight in let place : ℕ = c.children.place in
+    let count : ℕ = slice_index c.args.words.now (c.args.block + 3) in
+    let at : ℕ = c.args.block + 4 + 4 * place in
+    let x : Child = child_of (tally_in c.args.words.now at, seen_in c.args.words.now at) in
+    let xs : List Child = children_in c.args.words.now (c.args.block + 4 + 4 * (place + 1)) (count - (place + 1)) in
+    sym (c.children.invariant ∙ ap (chosen_from p w place c.children.best c.children.most) (children_more c.args.words.now c.args.block place count c.children-test.true)
+    ∙ chosen_here p w place c.children.best c.children.most x xs (sym c.visits_of-own.ensures ∙ c.if-own-eq0.true))
+
+pub returns : goal.returns
+returns c =
+    let count : ℕ = slice_index c.args.words.now (c.args.block + 3) in
+    sym (c.children.invariant ∙ chosen_last c.args.visits c.args.weight c.children.place c.children.best c.children.most c.args.words.now (c.args.block + 4 + 4 * c.children.place) (count - c.children.place) (omega (arith, c.children-test.false)))

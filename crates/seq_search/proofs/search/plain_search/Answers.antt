@@ -1,0 +1,11 @@
+use Rattle.std.proofs.Common.{◌≡◌, ◌∙◌, ap, sym, subst, length, arith}
+use Rattle.std.specs.Vec.{with_items}
+use Rattle.std.proofs.lemmas.List.{with_items_is}
+use Rattle.tree_words.specs.Closing.{IsClosed}
+use Rattle.seq_search.proofs.Searches.{searched-closed, searched-tree}
+use Rattle.seq_search.proofs.search.plain_search.Goals as goal
+
+pub of-requires : goal.of-requires
+of-requires c =
+    subst (λ l. IsClosed c.args.shape.now l) (sym (with_items_is c.in_ok-words.words c.make_walks.new.words (omega (arith, c.make_walks.auto.words, c.deref_mut.ensures.len))))
+    (searched-closed c.args.shape.now c.make_walks.new.words c.board-board.ensures.setting c.make_walks.ensures)

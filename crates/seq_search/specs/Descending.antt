@@ -1,0 +1,60 @@
+-- How far a walk has come, and its leaf.
+use Rattle.std.specs.Prelude.{◌≡◌, ℕ, ◌+◌, ◌≤◌, true, List, ◌++◌, length, take}
+use Rattle.hex_board.specs.Positions.{Position, is_empty_at}
+use Rattle.tree_words.specs.Settings.{Setting}
+use Rattle.tree_words.specs.Words.{Count, root_at, link_in, tally_in, seen_in}
+use Rattle.tree_words.specs.Blocks.{LinkedBlock, is_node}
+use Rattle.tree_words.specs.Paths.{Spot, first_spot, spot_of}
+use Rattle.tree_words.specs.Trees.{oldest_first}
+use Rattle.tree_words.specs.Sequence.{game_of}
+use Rattle.tree_words.specs.Descents.{leaf_at, state_at, steps_at}
+use Rattle.tree_words.specs.Counts.{count_below}
+use Rattle.seq_search.specs.declared.descending.Descent.{Descent}
+
+-- the board and the player to move
+abbrev pub spot_in : Descent → Spot
+spot_in d = record { board = d.board; player = d.player }
+
+-- the nodes below the root, down to where it stands
+abbrev pub steps_in : Descent → List ℕ
+steps_in d = take d.count d.steps
+
+-- how many cells of the board are empty
+unfoldable pub left_on : Position → ℕ
+left_on p = count_below 121 (is_empty_at p)
+
+-- There is room for its further steps: each takes an empty cell, of 121 at most.
+pub record HasRoom (d : Descent) : Type 0 where
+  pub size : d.board.size ≤ 11
+  pub cells : d.count + left_on d.board ≤ 121
+  pub long : length d.steps ≡ 121
+
+module _ (s : Setting) (bs : List LinkedBlock) (words : List ℕ) where
+  -- the leaf of the walk from x down, its state and its steps, by the words
+  abbrev pub leaf_below : ℕ → ℕ
+  leaf_below x = leaf_at (game_of s) (tally_in words) (seen_in words) (oldest_first bs) x
+
+  abbrev pub state_below : ℕ → Spot → Count × Spot
+  state_below x p = state_at (game_of s) (tally_in words) (seen_in words) (oldest_first bs) x p
+
+  abbrev pub steps_below : ℕ → List ℕ
+  steps_below x = steps_at (game_of s) (tally_in words) (seen_in words) (oldest_first bs) x
+
+  -- The walk stands at a node on its way: its board and its player are those of the node.
+  pub record Underway (d : Descent) : Type 0 where
+    pub node : is_node (root_at s) bs d.node ≡ true
+    pub spot : spot_in d ≡ spot_of s bs d.node
+    pub leaf : leaf_below (root_at s) ≡ leaf_below d.node
+    pub state : state_below (root_at s) (first_spot s) ≡ state_below d.node (spot_in d)
+    pub steps : steps_below (root_at s) ≡ steps_in d ++ steps_below d.node
+
+  -- The walk has come to its leaf.
+  pub record Descended (d : Descent) : Type 0 where
+    pub node : is_node (root_at s) bs d.node ≡ true
+    pub spot : spot_in d ≡ spot_of s bs d.node
+    pub leaf : leaf_below (root_at s) ≡ d.node
+    pub state : state_below (root_at s) (first_spot s) ≡ (tally_in words d.node, spot_in d)
+    pub steps : steps_below (root_at s) ≡ steps_in d
+    pub bare : link_in words d.node ≡ 0
+    pub few : d.count ≤ 121
+    pub long : length d.steps ≡ 121

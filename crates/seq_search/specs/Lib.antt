@@ -1,0 +1,7 @@
+pub mod Steps
+pub mod Choosing
+pub mod Descending
+pub mod Adding
+pub mod Writing
+pub mod Standing
+pub mod Searching

@@ -1,0 +1,130 @@
+//! What a walk adds: its playout's result to the counts and to the records.
+
+ghost use Rattle.std.specs.Prelude.{◌≡◌, ℕ, ◌+◌, ◌*◌, ◌^◌, ◌≤◌, ◌<◌, length, set, slice_index, List, true};
+ghost use Rattle.hex_cells.specs.declared.colours.Colour.TheVariants.{White};
+ghost use Rattle.hex_board.specs.Wins.{is_same};
+ghost use Rattle.tree_words.specs.Blocks.{LinkedBlock, one_if, words_of};
+ghost use Rattle.tree_words.specs.Words.{cell_in, root_at};
+ghost use Rattle.tree_words.specs.Paths.{first_spot};
+ghost use Rattle.tree_words.specs.Sequence.{game_of};
+ghost use Rattle.tree_words.specs.Descents.{Added};
+ghost use Rattle.play_out.specs.Fills.{filled, playout_of};
+ghost use Rattle.seq_search.specs.Steps.{Holds, Records, config_of};
+ghost use Rattle.seq_search.specs.Descending.{Descended};
+ghost use Rattle.seq_search.specs.Adding.{Counted, Sighted, amount_of, node_of, outcome_in};
+
+use super::descending::Descent;
+use super::layout::{COUNT_WORD, LINK_WORD, NODE_WORDS, RECORDS_AT, SEEN_WORD, TALLY_WORD};
+use hex_board::Board;
+use hex_cells::{CellSet, Colour, Size};
+use play_out::fill;
+use tree_words::{Shape, cell_of, numbered};
+
+/// One visit in a tally or in a seen word; the wins are below it.
+const VISIT: u64 = 1 << u32::BITS;
+
+/// How a playout ended: the filled board, and who won.
+#[derive(Drop)]
+pub(crate) struct Ending {
+    /// The filled board.
+    pub(crate) full: Board,
+    /// Black where Black is joined on it, else White.
+    pub(crate) winner: Colour,
+}
+
+/// Playout `k` of a search with this seed.
+pub(crate) fn play(board: &Board, player: Colour, seed: u64, k: u64) -> Ending
+    ensures full { result.full ≡ filled board.now player seed k }
+    ensures winner { result.winner ≡ playout_of board.now player seed k }
+{
+    let full = fill(board, player, seed, k);
+    let black_won = full.joined(Colour::Black);
+    if black_won {
+        Ending {
+            full,
+            winner: Colour::Black,
+        }
+    } else {
+        Ending {
+            full,
+            winner: Colour::White,
+        }
+    }
+}
+
+// One visit, and one win where the player is the winner.
+fn amount(player: Colour, winner: Colour) -> u64
+    ensures { result ≡ amount_of (is_same winner player) }
+{
+    if player == winner { VISIT + 1 } else { VISIT }
+}
+
+// Adds to the tally of the node.
+fn gain(words: &mut [u64], node: usize, amount: u64)
+    requires within { node + 4 ≤ length words.old }
+    requires small { slice_index words.old (node + 2) + amount < 2 ^ 64 }
+    ensures { words.new ≡ set words.old (node + 2) (slice_index words.old (node + 2) + amount) }
+{
+    words[node + TALLY_WORD] += amount;
+}
+
+// Adds to the seen word of each node of the block whose cell is in the set.
+fn see(words: &mut [u64], block: usize, stones: CellSet, size: Size, amount: u64)
+    requires within { block + words_of (slice_index words.old (block + 3)) ≤ length words.old }
+    requires cells { (k : ℕ) → k < slice_index words.old (block + 3) → cell_in (slice_index words.old (node_of block k)) < size * size }
+    requires small { (k : ℕ) → k < slice_index words.old (block + 3) → slice_index words.old (node_of block k + 3) + amount < 2 ^ 64 }
+    ensures { Sighted block (slice_index words.old (block + 3)) stones amount words.old words.new }
+{
+    let count = words[block + COUNT_WORD] as usize;
+    'nodes: for place in 0..count {
+        let at = block + NODE_WORDS + NODE_WORDS * place;
+        if stones.has(numbered(cell_of(words[at]), size)) {
+            words[at + SEEN_WORD] += amount;
+        }
+    }
+}
+
+// Adds the ending to the counts: each node of the walk's way has one visit more, and one win more where its mover won; and each
+// node of the blocks that it went through is seen where its cell holds a stone of its mover.
+fn count(words: &mut [u64], shape: &Shape, walk: &Descent, ending: &Ending)
+    requires walked { (bs : List LinkedBlock) × (k : ℕ) × (k < shape.now.knobs.playouts) × Holds shape.now bs words.old k × Descended shape.now bs words.old walk.now }
+    ensures { (bs : List LinkedBlock) (k : ℕ) → k < shape.now.knobs.playouts → Holds shape.now bs words.old k → Descended shape.now bs words.old walk.now
+        → Counted shape.now bs (outcome_in ending.now) words.old words.new }
+{
+    let size = shape.board().size();
+    let mut node = shape.knobs().playouts as usize + RECORDS_AT;
+    let mut player = shape.colour();
+    'down: for i in 0..walk.count {
+        gain(words, node, amount(player.other(), ending.winner));
+        let block = words[node + LINK_WORD] as usize;
+        let stones = ending.full.stones(player);
+        see(words, block, stones, size, amount(player, ending.winner));
+        node = walk.steps[i];
+        player = player.other();
+    }
+    gain(words, node, amount(player.other(), ending.winner));
+}
+
+// How a record tells who won: 0 for Black, 1 for White.
+fn mark(winner: Colour) -> u64
+    ensures value { result ≡ one_if (is_same winner White) }
+    ensures range { result ≤ 1 }
+{
+    match winner {
+        Colour::Black => 0,
+        Colour::White => 1,
+    }
+}
+
+/// Adds the ending of playout `k` to the counts of the walk's nodes, and writes its record.
+pub(crate) fn add(words: &mut [u64], shape: &Shape, walk: &Descent, k: u32, ending: &Ending)
+    requires number { k < shape.now.knobs.playouts }
+    requires walked { (bs : List LinkedBlock) × Holds shape.now bs words.old k × Descended shape.now bs words.old walk.now }
+    ensures holds { (bs : List LinkedBlock) → Holds shape.now bs words.old k → Descended shape.now bs words.old walk.now → Holds shape.now bs words.new (k + 1) }
+    ensures added { (bs : List LinkedBlock) → Holds shape.now bs words.old k → Descended shape.now bs words.old walk.now
+        → Added (game_of shape.now) (first_spot shape.now) (root_at shape.now) (outcome_in ending.now) (config_of bs words.old) (config_of bs words.new) }
+    ensures record { Records shape.now k (2 * walk.now.node + one_if (is_same ending.now.winner White)) words.old words.new }
+{
+    count(words, shape, walk, ending);
+    words[RECORDS_AT + k as usize] = 2 * walk.node as u64 + mark(ending.winner);
+}

@@ -1,0 +1,91 @@
+//! The way of a walk from the root down to its leaf.
+
+ghost use Rattle.std.specs.Prelude.{◌≡◌, ℕ, ◌+◌, ◌≤◌, ◌<◌, length, set, slice_index, List, true};
+ghost use Rattle.hex_cells.specs.Colours.{other_of};
+ghost use Rattle.hex_board.specs.Positions.{is_empty_at, placed};
+ghost use Rattle.tree_words.specs.Blocks.{LinkedBlock};
+ghost use Rattle.tree_words.specs.Settings.{IsSetting};
+ghost use Rattle.tree_words.specs.Words.{cell_in, root_at};
+ghost use Rattle.seq_search.specs.Steps.{Holds};
+ghost use Rattle.seq_search.specs.Descending.{Descended, HasRoom};
+
+use super::choosing::choose;
+use super::layout::{LINK_WORD, NODE_WORDS, RECORDS_AT, TALLY_WORD};
+use hex_board::Board;
+use hex_cells::Colour;
+use tree_words::{Shape, cell_of, numbered, visits_of};
+
+/// Each step places a stone, and the largest board has 121 cells.
+pub(crate) const MOST_STEPS: usize = 121;
+
+/// How far a walk has come: the node that it stands at, the board there with the player to move, and the nodes that it went
+/// through below the root.
+#[derive(Drop)]
+pub(crate) struct Descent {
+    /// The board.
+    pub(crate) board: Board,
+    /// The player to move.
+    pub(crate) player: Colour,
+    /// The first word of the node.
+    pub(crate) node: usize,
+    /// The first words of the nodes below the root on the way to it, the node itself last.
+    pub(crate) steps: [usize; MOST_STEPS],
+    /// How many these are.
+    pub(crate) count: usize,
+}
+
+impl Descent {
+    // At the root.
+    fn begin(shape: &Shape) -> Descent
+        ensures board { result.board ≡ shape.now.board }
+        ensures player { result.player ≡ shape.now.player }
+        ensures node { result.node ≡ root_at shape.now }
+        ensures count { result.count ≡ 0 }
+        ensures room { HasRoom result }
+        ensures setting { IsSetting shape.now }
+    {
+        Descent {
+            board: *shape.board(),
+            player: shape.colour(),
+            node: shape.knobs().playouts as usize + RECORDS_AT,
+            steps: [0; MOST_STEPS],
+            count: 0,
+        }
+    }
+
+    // Goes on to a child of the node.
+    fn step(&mut self, words: &[u64], child: usize)
+        requires within { child < length words.now }
+        requires empty { is_empty_at self.old.board (cell_in (slice_index words.now child)) ≡ true }
+        requires room { self.old.count < 121 }
+        ensures board { self.new.board ≡ placed self.old.board self.old.player (cell_in (slice_index words.now child)) }
+        ensures player { self.new.player ≡ other_of self.old.player }
+        ensures node { self.new.node ≡ child }
+        ensures steps { self.new.steps ≡ set self.old.steps self.old.count child }
+        ensures count { self.new.count ≡ self.old.count + 1 }
+    {
+        let cell = numbered(cell_of(words[child]), self.board.size());
+        self.board.place(self.player, cell);
+        self.player = self.player.other();
+        self.steps[self.count] = child;
+        self.count += 1;
+        self.node = child;
+    }
+}
+
+/// The walk from the root to its leaf: at each node with a block it goes to the child that Choice takes.
+pub(crate) fn descend(words: &[u64], shape: &Shape) -> Descent
+    requires { (bs : List LinkedBlock) × (k : ℕ) × (k ≤ shape.now.knobs.playouts) × Holds shape.now bs words.now k }
+    ensures leaf { (bs : List LinkedBlock) (k : ℕ) → k ≤ shape.now.knobs.playouts → Holds shape.now bs words.now k → Descended shape.now bs words.now result }
+{
+    let weight = shape.knobs().weight;
+    let mut walk = Descent::begin(shape);
+    let mut block = words[walk.node + LINK_WORD] as usize;
+    'down: while block != 0 {
+        let visits = visits_of(words[walk.node + TALLY_WORD]);
+        let place = choose(words, block, visits, weight);
+        walk.step(words, block + NODE_WORDS + NODE_WORDS * place);
+        block = words[walk.node + LINK_WORD] as usize;
+    }
+    walk
+}
