@@ -3,15 +3,16 @@ use Rattle.std.specs.Prelude.{ℕ, List, [], ◌∷◌, Option, codes, map}
 use Rattle.std.specs.List.{find, join_with_byte}
 use Rattle.std.specs.Str.{bytes_eq}
 use Rattle.hex_engine.specs.declared.commands.Command.{Command}
-use Rattle.hex_engine.specs.declared.commands.Command.TheVariants.{BoardSize, ClearBoard, KnownCommand, ListCommands, LoadSgf, Name, Play, PrintSgf, ProtocolVersion, Quit, ShowBoard, Undo, Version, Winner}
+use Rattle.hex_engine.specs.declared.commands.Command.TheVariants.{BoardSize, ClearBoard, GenMove, KnownCommand, ListCommands, LoadSgf, Name, Play, PrintSgf, ProtocolVersion, Quit, SearchReport, ShowBoard, Undo, Version, Winner}
 
 -- all of them, in the order in which `list_commands` names them
 abbrev pub commands : List Command
-commands = BoardSize ∷ ClearBoard ∷ KnownCommand ∷ ListCommands ∷ LoadSgf ∷ Name ∷ Play ∷ PrintSgf ∷ ProtocolVersion ∷ Quit ∷ ShowBoard ∷ Undo ∷ Version ∷ Winner ∷ []
+commands = BoardSize ∷ ClearBoard ∷ GenMove ∷ KnownCommand ∷ ListCommands ∷ LoadSgf ∷ Name ∷ Play ∷ PrintSgf ∷ ProtocolVersion ∷ Quit ∷ SearchReport ∷ ShowBoard ∷ Undo ∷ Version ∷ Winner ∷ []
 
 abbrev pub name_of : Command → List ℕ
 name_of BoardSize = codes "boardsize"
 name_of ClearBoard = codes "clear_board"
+name_of GenMove = codes "genmove"
 name_of KnownCommand = codes "known_command"
 name_of ListCommands = codes "list_commands"
 name_of LoadSgf = codes "loadsgf"
@@ -20,6 +21,7 @@ name_of Play = codes "play"
 name_of PrintSgf = codes "printsgf"
 name_of ProtocolVersion = codes "protocol_version"
 name_of Quit = codes "quit"
+name_of SearchReport = codes "search-report"
 name_of ShowBoard = codes "showboard"
 name_of Undo = codes "undo"
 name_of Version = codes "version"

@@ -1,6 +1,7 @@
--- What a conversation uses up: what comes of the files that it asks for.
+-- What a conversation uses up: what comes of the files that it asks for, and the turns that its moves are searched in.
 use Rattle.std.specs.Prelude.{ℕ, List, [], ◌++◌}
 use Rattle.hex_game.specs.Games.{Played}
+use Rattle.hex_plan.specs.Turns.{Decision}
 
 -- what comes of a file that is asked for
 pub data Loaded : Type 0 where
@@ -15,13 +16,14 @@ pub record Load : Type 0 where
   pub name : List ℕ
   pub what : Loaded
 
--- what is left to be used up, in turn
+-- what is left to be used up, each in turn
 pub record Left : Type 0 where
   pub loads : List Load
+  pub turns : List Decision
 
 abbrev pub nothing_left : Left
-nothing_left = record { loads = [] }
+nothing_left = record { loads = []; turns = [] }
 
 -- this, and then that
 abbrev pub and_then : Left → Left → Left
-and_then a b = record { loads = a.loads ++ b.loads }
+and_then a b = record { loads = a.loads ++ b.loads; turns = a.turns ++ b.turns }

@@ -3,6 +3,7 @@ pub mod Forms
 pub mod Picture
 pub mod Standing
 pub mod Left
-pub mod Loads
+pub mod Uses
+pub mod Report
 pub mod Replies
 pub mod Files

@@ -1,26 +1,34 @@
 -- What answers a request, and what stands then.
-use Rattle.std.specs.Prelude.{◌≡◌, ℕ, ◌==◌, ◌&&◌, Bool, true, false, List, [], ◌∷◌, Option, Some, None, codes, is_some, nat_le, if◌then◌else◌}
+use Rattle.std.specs.Prelude.{◌≡◌, ℕ, ◌+◌, ◌==◌, ◌&&◌, Bool, true, false, List, [], ◌∷◌, Option, Some, None, Result, Ok, Err, codes, is_some, nat_le, if◌then◌else◌}
 use Rattle.std.specs.Str.{bytes_eq, is_utf8}
 use Rattle.htp_line.specs.Reading.{Asked}
 use Rattle.sgf_tree.specs.Printing.{trees_print}
 use Rattle.sgf_game.specs.Record.{record_of}
 use Rattle.hex_cells.specs.declared.colours.Colour.{Colour}
 use Rattle.hex_cells.specs.declared.colours.Colour.TheVariants.{Black, White}
+use Rattle.hex_cells.specs.Vertices.{vertex_of}
+use Rattle.hex_board.specs.Positions.{Position}
 use Rattle.hex_board.specs.Joined.{winner_of}
+use Rattle.hex_board.specs.Wins.{is_same}
+use Rattle.hex_game.specs.declared.moves.Move.TheVariants.{Stone}
+use Rattle.hex_plan.specs.Turns.{Decision}
+use Rattle.hex_plan.specs.Openings.{may_move}
 use Rattle.hex_game.specs.Moves.{step_of}
 use Rattle.hex_game.specs.Games.{board_of, is_legal, with_step, without_last}
 use Rattle.hex_game.specs.declared.moves.Step.{Step}
 use Rattle.hex_engine.specs.Commands.{command_named, all_names}
 use Rattle.hex_engine.specs.Forms.{colour_of, move_of, sizes_of}
 use Rattle.hex_engine.specs.Picture.{picture}
-use Rattle.hex_engine.specs.Standing.{Standing, opening}
+use Rattle.hex_engine.specs.Report.{report_of}
+use Rattle.hex_engine.specs.Standing.{Standing, emptied}
 use Rattle.hex_engine.specs.Left.{Loaded, Unread, Refused, Loads, Load, Left, and_then}
 use Rattle.hex_engine.specs.declared.commands.Command.{Command}
 use Rattle.hex_engine.specs.declared.commands.Command.TheVariants as command
 use Rattle.hex_engine.specs.declared.forms.MoveWord.{MoveWord}
 use Rattle.hex_engine.specs.declared.forms.MoveWord.TheVariants.{Formless, OffBoard, Says}
 use Rattle.hex_engine.specs.declared.answers.Fail.{Fail}
-use Rattle.hex_engine.specs.declared.answers.Fail.TheVariants.{UnknownCommand, Syntax, Size, Illegal, NoUndo, NoLoad, ReadFault}
+use Rattle.hex_engine.specs.declared.answers.Fail.TheVariants as fail
+use Rattle.hex_engine.specs.declared.answers.Fail.TheVariants.{UnknownCommand, Syntax, Size, Illegal, Over, NoUndo, ReadFault, NoSearch}
 use Rattle.hex_engine.specs.declared.answers.Answer.{Answer}
 use Rattle.hex_engine.specs.declared.answers.Answer.TheVariants as answer
 
@@ -45,9 +53,11 @@ message UnknownCommand = codes "unknown command"
 message Syntax = codes "syntax error"
 message Size = codes "unacceptable size"
 message Illegal = codes "illegal move"
+message Over = codes "game over"
 message NoUndo = codes "cannot undo"
-message NoLoad = codes "cannot load file"
+message fail.NoLoad = codes "cannot load file"
 message ReadFault = codes "read fault"
+message NoSearch = codes "no search"
 
 -- an answer after which all stands as before
 abbrev pub stays : Standing → Reply → Reaction
@@ -68,7 +78,7 @@ is_size columns rows = (columns == rows) && (nat_le 1 columns && nat_le columns 
 
 abbrev pub resized : Standing → Option (ℕ × ℕ) → Reaction
 resized standing None = stays standing (Failed Syntax)
-resized standing (Some sizes) = if is_size sizes.0 sizes.1 then moves_on (opening sizes.0) else stays standing (Failed Size)
+resized standing (Some sizes) = if is_size sizes.0 sizes.1 then moves_on (emptied standing sizes.0) else stays standing (Failed Size)
 
 abbrev pub played : Standing → Colour → MoveWord → Reaction
 played standing colour Formless = stays standing (Failed Syntax)
@@ -105,55 +115,97 @@ winner_text None = codes "none"
 winner_text (Some Black) = codes "black"
 winner_text (Some White) = codes "white"
 
+-- what a request wants that is not there
+pub data Missing : Type 0 where
+  NoLoad : Missing
+  NoTurn : Missing
+
 -- nothing is used up
-abbrev pub unused : Left → Reaction → Option Turned
-unused left r = Some (record { reply = r.reply; after = r.after; left = left })
+abbrev pub unused : Left → Reaction → Result Turned Missing
+unused left r = Ok (record { reply = r.reply; after = r.after; left = left })
 
 -- what stands after a file came to this
 abbrev pub loaded : Standing → Loaded → Reaction
 loaded standing Unread = stays standing (Failed ReadFault)
-loaded standing Refused = stays standing (Failed NoLoad)
+loaded standing Refused = stays standing (Failed fail.NoLoad)
 loaded standing (Loads game) = moves_on (record standing { game = game })
 
 -- the next load is used up, which has to be of this name
-abbrev pub loading_next : Standing → List Load → List ℕ → Option Turned
-loading_next standing [] name = None
-loading_next standing (load ∷ loads) name =
-    if bytes_eq load.name name then unused (record { loads = loads }) (loaded standing load.what) else None
+abbrev pub loading_next : Standing → Left → List Load → List ℕ → Result Turned Missing
+loading_next standing left [] name = Err NoLoad
+loading_next standing left (load ∷ loads) name =
+    if bytes_eq load.name name then unused (record left { loads = loads }) (loaded standing load.what) else Err NoLoad
 
-abbrev pub loading : Standing → Left → List (List ℕ) → Option Turned
+abbrev pub loading : Standing → Left → List (List ℕ) → Result Turned Missing
 loading standing left [] = unused left (stays standing (Failed Syntax))
 loading standing left (name ∷ []) =
-    if is_utf8 name then loading_next standing left.loads name else unused left (stays standing (Failed Syntax))
+    if is_utf8 name then loading_next standing left left.loads name else unused left (stays standing (Failed Syntax))
 loading standing left (name ∷ word ∷ words) = unused left (stays standing (Failed Syntax))
 
--- what a command that uses nothing up does with these arguments; `loadsgf` is none
-unfoldable pub obeyed : Standing → Command → List (List ℕ) → Option Reaction
-obeyed standing command.BoardSize args = Some (resized standing (sizes_of args))
-obeyed standing command.ClearBoard args = Some (if_bare standing args (moves_on (opening (board_of standing.game).size)))
-obeyed standing command.KnownCommand args = Some (knowing standing args)
-obeyed standing command.ListCommands args = Some (if_bare standing args (stays standing (Done all_names)))
-obeyed standing command.LoadSgf args = None
-obeyed standing command.Name args = Some (if_bare standing args (stays standing (Done (codes "hexd"))))
-obeyed standing command.Play args = Some (playing standing args)
-obeyed standing command.PrintSgf args = Some (if_bare standing args (stays standing (Done (trees_print (record_of standing.game)))))
-obeyed standing command.ProtocolVersion args = Some (if_bare standing args (stays standing (Done (codes "2"))))
-obeyed standing command.Quit args = Some (if_bare standing args (stays standing Quit))
-obeyed standing command.ShowBoard args = Some (if_bare standing args (stays standing (Done (picture (board_of standing.game)))))
-obeyed standing command.Undo args = Some (if_bare standing args (undone standing standing.game.steps))
-obeyed standing command.Version args = Some (if_bare standing args (stays standing (Done (codes "1.0"))))
-obeyed standing command.Winner args = Some (if_bare standing args (stays standing (Done (winner_text (winner_of (board_of standing.game))))))
+abbrev pub is_board : Position → Position → Bool
+is_board a b = (a.size == b.size) && ((a.black == b.black) && (a.white == b.white))
 
-abbrev pub unused_or : Left → Option Turned → Option Reaction → Option Turned
-unused_or left other None = other
-unused_or left other (Some r) = unused left r
+-- the turn is this conversation's next: it has the board of the game, this colour, and the number of turns before it
+abbrev pub is_next : Standing → Colour → Decision → Bool
+is_next standing colour turn =
+    is_board turn.board (board_of standing.game) && (is_same turn.player colour && (turn.number == standing.turns))
 
-abbrev pub reaction_by : Standing → Left → Option Command → List (List ℕ) → Option Turned
+-- the turn's cell is played and answered, and the turn is the last one
+abbrev pub turned : Standing → Colour → Decision → Reaction
+turned standing colour turn = record {
+  reply = Done (vertex_of (board_of standing.game).size turn.cell);
+  after = record standing {
+    game = with_step standing.game (step_of colour (Stone turn.cell));
+    turns = standing.turns + 1;
+    report = Some (report_of turn);
+  };
+}
+
+-- the next turn is used up
+abbrev pub moving_next : Standing → Left → List Decision → Colour → Result Turned Missing
+moving_next standing left [] colour = Err NoTurn
+moving_next standing left (turn ∷ turns) colour =
+    if is_next standing colour turn then unused (record left { turns = turns }) (turned standing colour turn) else Err NoTurn
+
+abbrev pub moving_by : Standing → Left → Option Colour → Result Turned Missing
+moving_by standing left None = unused left (stays standing (Failed Syntax))
+moving_by standing left (Some colour) =
+    if may_move (board_of standing.game) then moving_next standing left left.turns colour else unused left (stays standing (Failed Over))
+
+abbrev pub moving : Standing → Left → List (List ℕ) → Result Turned Missing
+moving standing left [] = unused left (stays standing (Failed Syntax))
+moving standing left (colour ∷ []) = moving_by standing left (colour_of colour)
+moving standing left (colour ∷ word ∷ words) = unused left (stays standing (Failed Syntax))
+
+abbrev pub reporting : Standing → Option (List ℕ) → Reaction
+reporting standing None = stays standing (Failed NoSearch)
+reporting standing (Some text) = stays standing (Done text)
+
+-- what a command with these arguments does to a conversation
+unfoldable pub obeyed : Standing → Left → Command → List (List ℕ) → Result Turned Missing
+obeyed standing left command.BoardSize args = unused left (resized standing (sizes_of args))
+obeyed standing left command.ClearBoard args = unused left (if_bare standing args (moves_on (emptied standing (board_of standing.game).size)))
+obeyed standing left command.GenMove args = moving standing left args
+obeyed standing left command.KnownCommand args = unused left (knowing standing args)
+obeyed standing left command.ListCommands args = unused left (if_bare standing args (stays standing (Done all_names)))
+obeyed standing left command.LoadSgf args = loading standing left args
+obeyed standing left command.Name args = unused left (if_bare standing args (stays standing (Done (codes "hexd"))))
+obeyed standing left command.Play args = unused left (playing standing args)
+obeyed standing left command.PrintSgf args = unused left (if_bare standing args (stays standing (Done (trees_print (record_of standing.game)))))
+obeyed standing left command.ProtocolVersion args = unused left (if_bare standing args (stays standing (Done (codes "2"))))
+obeyed standing left command.Quit args = unused left (if_bare standing args (stays standing Quit))
+obeyed standing left command.SearchReport args = unused left (if_bare standing args (reporting standing standing.report))
+obeyed standing left command.ShowBoard args = unused left (if_bare standing args (stays standing (Done (picture (board_of standing.game)))))
+obeyed standing left command.Undo args = unused left (if_bare standing args (undone standing standing.game.steps))
+obeyed standing left command.Version args = unused left (if_bare standing args (stays standing (Done (codes "1.0"))))
+obeyed standing left command.Winner args = unused left (if_bare standing args (stays standing (Done (winner_text (winner_of (board_of standing.game))))))
+
+abbrev pub reaction_by : Standing → Left → Option Command → List (List ℕ) → Result Turned Missing
 reaction_by standing left None args = unused left (stays standing (Failed UnknownCommand))
-reaction_by standing left (Some command) args = unused_or left (loading standing left args) (obeyed standing command args)
+reaction_by standing left (Some command) args = obeyed standing left command args
 
--- what answers a request; nothing, where the conversation stops short before it
-unfoldable pub reaction : Standing → Left → Asked → Option Turned
+-- what answers a request, or what it wants that is not there
+unfoldable pub reaction : Standing → Left → Asked → Result Turned Missing
 reaction standing left asked = reaction_by standing left (command_named asked.name) asked.args
 
 -- an answer, as a reply
@@ -166,17 +218,22 @@ replied (answer.Fail fail) = Failed fail
 abbrev pub Reacts : Reaction → Answer → Standing → Type 0
 Reacts reaction answer after = record { reply = replied answer; after = after } ≡ reaction
 
--- the answer to a command that used nothing up, and what stands after it; nothing where there is none
-abbrev pub reacted : Option Answer → Standing → Option Reaction
-reacted None after = None
-reacted (Some answer) after = Some (record { reply = replied answer; after = after })
+-- the command needs what the conversation has left: a file, or a turn
+abbrev pub uses_up : Command → Bool
+uses_up command.GenMove = true
+uses_up command.LoadSgf = true
+uses_up _ = false
 
--- this answer, and what stands after it, are those to `loadsgf` with these arguments, where these were used up
-abbrev pub Loading : Standing → Left → List (List ℕ) → Answer → Standing → Type 0
-Loading standing used args answer after =
-    (later : Left) → loading standing (and_then used later) args ≡ Some (record { reply = replied answer; after = after; left = later })
+-- the answer to a command that uses nothing up, and what stands after it; there is none where the command uses something up
+abbrev pub Obeys : Standing → Command → List (List ℕ) → Option Answer → Standing → Type 0
+Obeys standing command args None after = (uses_up command ≡ true) × (after ≡ standing)
+Obeys standing command args (Some answer) after =
+    (left : Left) → obeyed standing left command args ≡ Ok (record { reply = replied answer; after = after; left = left })
 
--- This answer, and what stands after it, are the reaction to what was asked, where these were used up: whatever is left then.
+-- This answer, and what stands after it, are what these uses gave, whatever is left then.
+abbrev pub Gives : (Left → Result Turned Missing) → Left → Answer → Standing → Type 0
+Gives react used answer after = (later : Left) → react (and_then used later) ≡ Ok (record { reply = replied answer; after = after; left = later })
+
+-- the answer to a request that used this up, and what stands after it
 abbrev pub Answers : Standing → Left → Asked → Answer → Standing → Type 0
-Answers standing used asked answer after =
-    (later : Left) → reaction standing (and_then used later) asked ≡ Some (record { reply = replied answer; after = after; left = later })
+Answers standing used asked answer after = Gives (λ left. reaction standing left asked) used answer after

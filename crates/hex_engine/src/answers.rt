@@ -19,12 +19,16 @@ pub enum Fail {
     Size = 3,
     /// The vertex is not on the board, or the move is not legal.
     Illegal = 4,
+    /// A player is joined, or no cell is empty.
+    Over = 5,
     /// There is no step to take back.
     NoUndo = 6,
     /// The shelf has no file of the name, or it is too long, or no record of a game.
     NoLoad = 7,
     /// The shelf was at fault.
     ReadFault = 8,
+    /// No move was searched yet.
+    NoSearch = 9,
 }
 
 impl Fail {
@@ -37,9 +41,11 @@ impl Fail {
             Fail::Syntax => "syntax error",
             Fail::Size => "unacceptable size",
             Fail::Illegal => "illegal move",
+            Fail::Over => "game over",
             Fail::NoUndo => "cannot undo",
             Fail::NoLoad => "cannot load file",
             Fail::ReadFault => "read fault",
+            Fail::NoSearch => "no search",
         }
     }
 }
@@ -65,6 +71,9 @@ pub enum EngineError {
     /// Memory ran out.
     #[error("out of memory")]
     Memory,
+    /// The archive did not take a turn, and counted a fault.
+    #[error("archive fault")]
+    Archive,
 }
 
 impl From<AllocError> for EngineError {

@@ -12,6 +12,8 @@ pub enum Command {
     BoardSize,
     /// Empties the board.
     ClearBoard,
+    /// Asks for a searched move, which is played.
+    GenMove,
     /// Asks whether a command is built.
     KnownCommand,
     /// Asks for the names of all commands.
@@ -28,6 +30,8 @@ pub enum Command {
     ProtocolVersion,
     /// Ends the session.
     Quit,
+    /// Asks for the report of the last search.
+    SearchReport,
     /// Asks for the board as text.
     ShowBoard,
     /// Takes back the last step.
@@ -39,9 +43,10 @@ pub enum Command {
 }
 
 /// All commands, in the order in which `list_commands` names them.
-pub const COMMANDS: [Command; 14] = [
+pub const COMMANDS: [Command; 16] = [
     Command::BoardSize,
     Command::ClearBoard,
+    Command::GenMove,
     Command::KnownCommand,
     Command::ListCommands,
     Command::LoadSgf,
@@ -50,6 +55,7 @@ pub const COMMANDS: [Command; 14] = [
     Command::PrintSgf,
     Command::ProtocolVersion,
     Command::Quit,
+    Command::SearchReport,
     Command::ShowBoard,
     Command::Undo,
     Command::Version,
@@ -75,6 +81,7 @@ impl Command {
         match self {
             Command::BoardSize => "boardsize",
             Command::ClearBoard => "clear_board",
+            Command::GenMove => "genmove",
             Command::KnownCommand => "known_command",
             Command::ListCommands => "list_commands",
             Command::LoadSgf => "loadsgf",
@@ -83,6 +90,7 @@ impl Command {
             Command::PrintSgf => "printsgf",
             Command::ProtocolVersion => "protocol_version",
             Command::Quit => "quit",
+            Command::SearchReport => "search-report",
             Command::ShowBoard => "showboard",
             Command::Undo => "undo",
             Command::Version => "version",
@@ -96,7 +104,7 @@ impl Command {
 pub fn command_list(alloc: Global) -> Result<Vec<u8>, AllocError>
     ensures { IfOk result (λ text. text.items ≡ all_names) }
 {
-    b"boardsize\nclear_board\nknown_command\nlist_commands\nloadsgf\nname\nplay\nprintsgf\nprotocol_version\nquit\nshowboard\nundo\nversion\nwinner".to_vec(
+    b"boardsize\nclear_board\ngenmove\nknown_command\nlist_commands\nloadsgf\nname\nplay\nprintsgf\nprotocol_version\nquit\nsearch-report\nshowboard\nundo\nversion\nwinner".to_vec(
         alloc,
     )
 }

@@ -1,56 +1,80 @@
 //! The engine and its commands.
 
-ghost use Rattle.std.specs.Prelude.{◌≡◌, ◌≤◌, ℕ, Bool, List, [], IfOk, OnErr, Some, None, codes};
+ghost use Rattle.std.specs.Prelude.{◌≡◌, ◌≤◌, ℕ, Bool, List, [], IfOk, OnErr, Ok, Err, Some, None, codes};
 ghost use Rattle.hex_io.specs.Causes.{Rose};
+ghost use Rattle.hex_game.specs.Games.{board_of};
+ghost use Rattle.hex_board.specs.Joined.{winner_of};
 ghost use Rattle.sgf_tree.specs.Printing.{trees_print};
 ghost use Rattle.sgf_game.specs.Record.{record_of};
-ghost use Rattle.hex_engine.specs.Left.{Left, nothing_left};
-ghost use Rattle.hex_engine.specs.Loads.{Uses};
-ghost use Rattle.hex_game.specs.Games.{board_of};
+ghost use Rattle.tree_words.specs.Settings.{AreInRange};
 ghost use Rattle.hex_engine.specs.Commands.{all_names};
-ghost use Rattle.hex_board.specs.Joined.{winner_of};
 ghost use Rattle.hex_engine.specs.Forms.{sizes_of, IsSaidOf};
 ghost use Rattle.hex_engine.specs.Picture.{picture};
-ghost use Rattle.hex_engine.specs.Standing.{Standing, opening};
-ghost use Rattle.hex_engine.specs.Replies.{Reacts, Answers, Loading, Done, Quit, reaction, reacted, replied, obeyed, if_bare, stays, moves_on, resized, playing, played, undone, knowing, winner_text};
+ghost use Rattle.hex_engine.specs.Standing.{Standing, opening, emptied};
+ghost use Rattle.hex_engine.specs.Left.{Left, nothing_left};
+ghost use Rattle.hex_engine.specs.Uses.{Uses};
+ghost use Rattle.hex_engine.specs.Replies.{Reacts, Answers, Gives, Obeys, NoTurn, Done, Quit, reaction, replied, obeyed, if_bare, stays, moves_on, loading, moving, resized, playing, played, undone, knowing, reporting, winner_text};
 ghost use Rattle.htp_line.specs.Reading.{asked_of};
 
 use super::answers::{Answer, EngineError, Fail, Memory};
 use super::commands::{Command, command_list};
-use super::forms::{MoveWord, read_colour, read_move, read_sizes};
 use super::files::{File, game_text, load_game};
+use super::forms::{MoveWord, read_colour, read_move, read_sizes};
 use super::picture::board_text;
+use super::texts::{report_text, vertex_text};
 use hex_board::Board;
 use hex_cells::{CellSet, Colour, Size};
-use hex_game::Game;
+use hex_game::{Game, Move};
 use hex_io::Shelf;
+use hex_plan::{Archive, Turn, may_move, turn_shape};
 use htp_line::{Bytes, Request};
+use seq_search::plain_search;
 use std::alloc::Global;
 use std::marker::Model;
+use tree_words::Knobs;
 
 /// Answers requests one by one, each from the game that the requests before it led to.
 #[derive(Drop)]
 pub struct Engine {
     alloc: Global,
+    options: Knobs,
     game: Game,
+    turns: u64,
+    report: Option<Vec<u8>>,
 }
 
 impl Model for Engine {
+    ghost use Rattle.std.specs.Prelude.{option_map};
+    ghost use Rattle.tree_words.specs.Settings.{AreInRange};
     ghost use Rattle.hex_engine.specs.Standing.{Standing};
 
     ghost Value = { Standing };
 
-    ghost view = { λ e. record { game = e.game } };
+    ghost view = { λ e. record {
+      options = e.options;
+      game = e.game;
+      turns = e.turns;
+      report = option_map (λ text. text.items) e.report;
+    } };
+
+    ghost invariant = { λ e. AreInRange e.options };
 }
 
 impl Engine {
-    /// An engine over an empty board of that size.
-    pub fn make(alloc: Global, size: Size) -> Result<Engine, Memory>
-        ensures { IfOk result (λ engine. engine ≡ opening size) }
+    /// An engine over an empty board of that size. The options are those of its searches, in their ranges.
+    pub fn make(alloc: Global, options: &Knobs, size: Size) -> Result<Engine, Memory>
+        requires { AreInRange options.now }
+        ensures { IfOk result (λ engine. engine ≡ opening options.now size) }
     {
         let board = Board::of(size, CellSet::none(), CellSet::none());
         match Game::make(alloc, &board) {
-            Ok(game) => Ok(Engine { alloc, game }),
+            Ok(game) => Ok(Engine {
+                alloc,
+                options: *options,
+                game,
+                turns: 0,
+                report: None,
+            }),
             Err(_) => Err(Memory),
         }
     }
@@ -62,17 +86,38 @@ impl Engine {
         &self.game
     }
 
-    /// Answers one request. After an error nothing changed here; a file may have been fetched.
+    /// How many turns were made so far.
+    pub fn turns(&self) -> u64
+        ensures { result ≡ self.now.turns }
+    {
+        self.turns
+    }
+
+    /// Answers one request. After an error nothing changed here, and no turn was taken; a file may have been fetched.
     ///
-    /// `read fault` comes only where the shelf counted a fault, and `cannot load file` exactly where
-    /// the fetched file is none, too long, or no record of a game (SGF FF[4], GM[11]).
+    /// `read fault` comes only where the shelf counted a fault, and `cannot load file` exactly where the fetched file is
+    /// none, too long, or no record of a game (SGF FF[4], GM[11]). `Archive` comes only where the archive counted a fault.
     #[tactic(auto, unfolding(crate::specs::Replies::reaction))]
-    pub fn line<F: Shelf>(&mut self, request: &Request, shelf: &mut F) -> Result<Answer, EngineError>
-        ensures reply { IfOk result (λ answer. (used : Left) × Uses (F.told shelf.old) (F.told shelf.new) used [] × Answers self.old used (asked_of request.now) answer self.new) }
+    pub fn line<F: Shelf, A: Archive>(
+        &mut self,
+        request: &Request,
+        shelf: &mut F,
+        archive: &mut A,
+    ) -> Result<Answer, EngineError>
+        ensures reply { IfOk result (λ answer. (used : Left)
+            × Uses self.old.options (F.told shelf.old) (F.told shelf.new) (A.told archive.old) (A.told archive.new) used []
+            × Answers self.old used (asked_of request.now) answer self.new) }
+
+        // After an error.
         ensures err { OnErr result (self.new ≡ self.old) }
-        ensures vain { OnErr result ((tries : List Bool) × Uses (F.told shelf.old) (F.told shelf.new) nothing_left tries) }
+        ensures in_vain { OnErr result ((tries : List Bool)
+            × Uses self.old.options (F.told shelf.old) (F.told shelf.new) (A.told archive.old) (A.told archive.new) nothing_left tries) }
+        ensures wants_turn { result ≡ Err EngineError.Archive → reaction self.old nothing_left (asked_of request.now) ≡ Err NoTurn }
+
+        // The causes.
         ensures read_fault { result ≡ Ok (Answer.Fail Fail.ReadFault) → Rose (F.faults shelf.old) (F.faults shelf.new) }
-        ensures later { F.faults shelf.old ≤ F.faults shelf.new }
+        ensures archive_fault { result ≡ Err EngineError.Archive → Rose (A.faults archive.old) (A.faults archive.new) }
+        ensures later { A.faults archive.old ≤ A.faults archive.new }
     {
         let args = request.args.as_slice();
         let Some(command) = Command::named(request.name.as_slice()) else {
@@ -80,27 +125,30 @@ impl Engine {
         };
         match self.obey(command, args)? {
             Some(answer) => Ok(answer),
-            None => self.load(args, shelf),
+            None if command == Command::LoadSgf => self.load(args, shelf),
+            None => self.generate(args, archive),
         }
     }
 
-    /// Does what a command says that needs nothing from outside; `loadsgf` is none of these.
+    /// Does what a command says that uses nothing up.
     #[tactic(auto, unfolding(crate::specs::Replies::obeyed))]
     fn obey(&mut self, command: Command, args: &[Bytes]) -> Result<Option<Answer>, EngineError>
-        ensures ok { IfOk result (λ done. obeyed self.old command args.now ≡ reacted done self.new) }
+        ensures ok { IfOk result (λ done. Obeys self.old command args.now done self.new) }
         ensures err { OnErr result (self.new ≡ self.old) }
+        ensures memory { (e : EngineError) → result ≡ Err e → e ≡ EngineError.Memory }
     {
         let answer = match command {
+            Command::GenMove | Command::LoadSgf => return Ok(None),
             Command::BoardSize => self.resize(args),
             Command::ClearBoard => self.clear(args),
             Command::KnownCommand => self.know(args)?,
             Command::ListCommands => self.list(args)?,
-            Command::LoadSgf => return Ok(None),
             Command::Name => self.tell(args, b"hexd")?,
             Command::Play => self.play(args),
             Command::PrintSgf => self.print(args)?,
             Command::ProtocolVersion => self.tell(args, b"2")?,
             Command::Quit => self.quit(args),
+            Command::SearchReport => self.tell_report(args)?,
             Command::ShowBoard => self.show(args)?,
             Command::Undo => self.undo(args),
             Command::Version => self.tell(args, b"1.0")?,
@@ -140,7 +188,7 @@ impl Engine {
     /// Fails: `syntax error`.
     /// Answers nothing; board and history are emptied, the size stays.
     fn clear(&mut self, args: &[Bytes]) -> Answer
-        ensures { Reacts (if_bare self.old args.now (moves_on (opening (board_of self.old.game).size))) result self.new }
+        ensures { Reacts (if_bare self.old args.now (moves_on (emptied self.old (board_of self.old.game).size))) result self.new }
     {
         if !args.is_empty() {
             return Answer::Fail(Fail::Syntax);
@@ -227,11 +275,12 @@ impl Engine {
     /// Fails, in order: `syntax error`; `read fault`; `cannot load file`.
     /// Answers nothing; the game is the record's.
     fn load<F: Shelf>(&mut self, args: &[Bytes], shelf: &mut F) -> Result<Answer, EngineError>
-        ensures reply { IfOk result (λ answer. (used : Left) × Uses (F.told shelf.old) (F.told shelf.new) used [] × Loading self.old used args.now answer self.new) }
+        ensures reply { IfOk result (λ answer. (used : Left) × Loading (F.told shelf.old) (F.told shelf.new) used []
+            × Gives (λ left. loading self.old left args.now) used answer self.new) }
         ensures err { OnErr result (self.new ≡ self.old) }
-        ensures vain { OnErr result ((tries : List Bool) × Uses (F.told shelf.old) (F.told shelf.new) nothing_left tries) }
+        ensures in_vain { OnErr result ((tries : List Bool) × Loading (F.told shelf.old) (F.told shelf.new) nothing_left tries) }
+        ensures memory { (e : EngineError) → result ≡ Err e → e ≡ EngineError.Memory }
         ensures read_fault { result ≡ Ok (Answer.Fail Fail.ReadFault) → Rose (F.faults shelf.old) (F.faults shelf.new) }
-        ensures later { F.faults shelf.old ≤ F.faults shelf.new }
     {
         let [name] = args else {
             return Ok(Answer::Fail(Fail::Syntax));
@@ -249,6 +298,70 @@ impl Engine {
         }
     }
 
+    /// `genmove`, with a colour.
+    /// Fails, in order: `syntax error`; `game over`.
+    /// Answers the vertex of a searched cell, on which it puts a stone; the archive has the turn then.
+    fn generate<A: Archive>(&mut self, args: &[Bytes], archive: &mut A) -> Result<Answer, EngineError>
+        ensures reply { IfOk result (λ answer. (used : Left) × Moving self.old.options (A.told archive.old) (A.told archive.new) used
+            × Gives (λ left. moving self.old left args.now) used answer self.new) }
+        ensures err { OnErr result (self.new ≡ self.old) }
+        ensures in_vain { OnErr result (Same (A.told archive.old) (A.told archive.new)) }
+        ensures wants_turn { result ≡ Err EngineError.Archive → moving self.old nothing_left args.now ≡ Err NoTurn }
+        ensures archive_fault { result ≡ Err EngineError.Archive → Rose (A.faults archive.old) (A.faults archive.new) }
+        ensures later { A.faults archive.old ≤ A.faults archive.new }
+    {
+        let [colour] = args else {
+            return Ok(Answer::Fail(Fail::Syntax));
+        };
+        let Some(colour) = read_colour(colour.as_slice()) else {
+            return Ok(Answer::Fail(Fail::Syntax));
+        };
+        if !may_move(self.game.board()) {
+            return Ok(Answer::Fail(Fail::Over));
+        }
+        self.take_turn(colour, archive)
+    }
+
+    /// Searches a move, hands the turn to the archive, and plays the move.
+    fn take_turn<A: Archive>(&mut self, colour: Colour, archive: &mut A) -> Result<Answer, EngineError>
+        requires { may_move (board_of self.old.game) ≡ true }
+        ensures reply { IfOk result (λ answer. (turn : Decision) × IsGood self.old.options turn × IsTrue (is_next self.old colour turn)
+            × Both (A.told archive.old) (A.told archive.new) (λ o n. n ≡ o ++ turn ∷ []) × Reacts (turned self.old colour turn) answer self.new) }
+        ensures err { OnErr result (self.new ≡ self.old) }
+        ensures in_vain { OnErr result (Same (A.told archive.old) (A.told archive.new)) }
+        ensures archive_fault { result ≡ Err EngineError.Archive → Rose (A.faults archive.old) (A.faults archive.new) }
+        ensures later { A.faults archive.old ≤ A.faults archive.new }
+    {
+        let turn = self.decide(colour)?;
+        let cell = turn.cell();
+        let report = report_text(self.alloc, &turn)?;
+        let answer = vertex_text(self.alloc, cell, self.game.board().size())?;
+        // A session has no room for more turns than this.
+        let Some(turns) = self.turns.checked_add(1) else {
+            return Err(EngineError::Memory);
+        };
+        let Ok(()) = archive.take(turn) else {
+            return Err(EngineError::Archive);
+        };
+        self.game.play(colour, Move::Stone(cell)).unwrap();
+        self.turns = turns;
+        self.report = Some(report);
+        Ok(Answer::Done(answer))
+    }
+
+    /// The next turn: the search of the board with this colour to move, and its best cell.
+    fn decide(&self, colour: Colour) -> Result<Turn, EngineError>
+        requires { may_move (board_of self.now.game) ≡ true }
+        ensures { IfOk result (λ turn. IsGood self.now.options turn × IsTrue (is_next self.now colour turn)) }
+        ensures memory { (e : EngineError) → result ≡ Err e → e ≡ EngineError.Memory }
+    {
+        let shape = turn_shape(self.game.board(), colour, &self.options, self.turns);
+        let Ok(closed) = plain_search(self.alloc, &shape) else {
+            return Err(EngineError::Memory);
+        };
+        Ok(Turn::of(closed, self.turns))
+    }
+
     /// `printsgf`.
     /// Fails: `syntax error`.
     /// Answers the record of the game (SGF FF[4]), without white space.
@@ -259,6 +372,22 @@ impl Engine {
             return Ok(Answer::Fail(Fail::Syntax));
         }
         Ok(Answer::Done(game_text(self.alloc, &self.game)?))
+    }
+
+    /// `search-report`.
+    /// Fails, in order: `syntax error`; `no search`.
+    /// Answers the playouts of the last turn's search, and each child of its root with visits and wins.
+    fn tell_report(&self, args: &[Bytes]) -> Result<Answer, EngineError>
+        ensures ok { IfOk result (λ answer. Reacts (if_bare self.now args.now (reporting self.now self.now.report)) answer self.now) }
+        ensures memory { (e : EngineError) → result ≡ Err e → e ≡ EngineError.Memory }
+    {
+        if !args.is_empty() {
+            return Ok(Answer::Fail(Fail::Syntax));
+        }
+        match &self.report {
+            None => Ok(Answer::Fail(Fail::NoSearch)),
+            Some(text) => Ok(Answer::Done(Bytes::of(text.as_slice().to_vec(self.alloc)?))),
+        }
     }
 
     /// `showboard`.

@@ -1,4 +1,4 @@
--- How what a conversation used up came of its shelf.
+-- Where what a conversation used up came from: its shelf, and the searches whose turns its archive took.
 use Rattle.std.specs.Prelude.{◌≡◌, ◌≤◌, ℕ, Bool, List, [], ◌∷◌, ◌++◌, Option, Ok}
 use Rattle.hex_io.specs.Told.{Both}
 use Rattle.hex_io.specs.declared.files.File.{File}
@@ -8,6 +8,9 @@ use Rattle.sgf_tree.specs.Trees.{GameTrees, depth}
 use Rattle.sgf_tree.specs.Grammar.{Text}
 use Rattle.sgf_tree.specs.Printing.{max_depth}
 use Rattle.sgf_game.specs.GameOf.{game_of}
+use Rattle.tree_words.specs.declared.settings.Knobs.{Knobs}
+use Rattle.hex_plan.specs.Turns.{Decision}
+use Rattle.hex_plan.specs.Good.{IsGood}
 use Rattle.hex_engine.specs.Left.{Loaded, Unread, Refused, Loads, Load, Left}
 
 -- the bytes are a record of the game: a text of trees that nest no deeper than is read, whose game it is
@@ -37,12 +40,27 @@ CameOf files [] (load ∷ loads) = ⊥
 CameOf files (failed ∷ tries) [] = ⊥
 CameOf files (failed ∷ tries) (load ∷ loads) = IsLoadOf (fetched_of files failed load.name) load.what × CameOf files tries loads
 
--- the files stay, and what was used up came of the fetches that were tried since, but for those at the end that came to nothing
-pub record Used (old new : Shelved) (used : Left) (in_vain : List Bool) : Type 0 where
+-- the files stay, and the loads came of the fetches that were tried since, but for those at the end that came to nothing
+pub record Fetches (old new : Shelved) (loads : List Load) (in_vain : List Bool) : Type 0 where
   pub tries : List Bool
   pub tried : new ≡ record old { tries = old.tries ++ (tries ++ in_vain) }
-  pub came : CameOf old.files tries used.loads
+  pub came : CameOf old.files tries loads
 
 -- the same, where the shelf tells it
-abbrev pub Uses : Option Shelved → Option Shelved → Left → List Bool → Type 0
-Uses old new used in_vain = Both old new (λ o n. Used o n used in_vain)
+abbrev pub Loading : Option Shelved → Option Shelved → Left → List Bool → Type 0
+Loading old new used in_vain = Both old new (λ o n. Fetches o n used.loads in_vain)
+
+-- each of these turns is good
+abbrev pub AreGood : Knobs → List Decision → Type 0
+AreGood options [] = Unit {0}
+AreGood options (turn ∷ turns) = IsGood options turn × AreGood options turns
+
+-- the archive, where it tells it, took these turns, and each is good
+pub record Moving (options : Knobs) (old new : Option (List Decision)) (used : Left) : Type 0 where
+  pub took : Both old new (λ o n. n ≡ o ++ used.turns)
+  pub good : AreGood options used.turns
+
+-- This was used up since: its loads came of the shelf's fetches, and its turns were taken by the archive.
+pub record Uses (options : Knobs) (shelf shelf_now : Option Shelved) (archive archive_now : Option (List Decision)) (used : Left) (in_vain : List Bool) : Type 0 where
+  pub loading : Loading shelf shelf_now used in_vain
+  pub moving : Moving options archive archive_now used

@@ -1,0 +1,18 @@
+-- What `search-report` says of a turn.
+use Rattle.std.specs.Prelude.{ℕ, List, ◌∷◌, ◌++◌, codes}
+use Rattle.std.specs.List.{flat_map}
+use Rattle.std.specs.Fmt.{decimal}
+use Rattle.hex_cells.specs.Vertices.{vertex_of}
+use Rattle.tree_words.specs.Roots.{rows_of}
+use Rattle.tree_words.specs.declared.roots.Row.{Row}
+use Rattle.hex_plan.specs.Turns.{Decision}
+
+-- a line feed, and a row's vertex, visits and wins
+abbrev pub row_line : ℕ → Row → List ℕ
+row_line size row = 10 ∷ vertex_of size row.cell ++ 32 ∷ decimal row.visits ++ 32 ∷ decimal row.wins
+
+-- the number of playouts, and a line for each child of the tree's root, in rising order of cells
+unfoldable pub report_of : Decision → List ℕ
+report_of turn =
+    codes "playouts " ++ decimal turn.closed.shape.knobs.playouts
+    ++ flat_map (row_line turn.board.size) (rows_of turn.closed.shape turn.closed.words)
