@@ -1,2 +1,4 @@
 pub mod Ranges
 pub mod Spelling
+pub mod Rows
+pub mod Using

@@ -23,6 +23,7 @@ mod files;
 mod forms;
 mod picture;
 mod standing;
+mod texts;
 
 pub use answers::{Answer, EngineError, Fail, Memory};
 pub use commands::{COMMANDS, Command};
