@@ -2,3 +2,4 @@ pub mod Ranges
 pub mod Spelling
 pub mod Rows
 pub mod Using
+pub mod Names

@@ -14,7 +14,11 @@ row_on size (r ∷ rows) (suc i) row h l e = row_on size rows i row h.1 (omega a
 lines_at : (size : ℕ) (rows : List Row) (i : ℕ) (row : Row) → i < length rows → row ≡ get_or rows i row → row_lines size (drop i rows) ≡ row_line size row ++ row_lines size (drop (i + 1) rows)
 lines_at size [] i row l e = absurd (omega arith)
 lines_at size (r ∷ rows) zero row l e = ap (λ u. row_line size u ++ row_lines size rows) (sym e)
-lines_at size (r ∷ rows) (suc i) row l e = lines_at size rows i row (omega arith) e
+lines_at size (r ∷ rows) (suc i) row l e =
+    lines_at size rows i row (omega arith) e ∙ ap (λ k. row_line size row ++ row_lines size (drop k (r ∷ rows))) (next i)
+  where
+    next : (i : ℕ) → suc (i + 1) ≡ suc i + 1
+    next i = omega arith
 
 -- a loop that writes the line of one row more
 pub lines_step : (size : ℕ) (rows : List Row) (i : ℕ) (row : Row) (old now new : List ℕ) → i < length rows → row ≡ get_or rows i row → now ++ row_lines size (drop i rows) ≡ old

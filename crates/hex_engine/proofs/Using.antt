@@ -6,11 +6,21 @@ use Rattle.hex_io.proofs.BothLaws.{Both-weaker, Both-refl}
 use Rattle.hex_plan.specs.Turns.{Decision}
 use Rattle.hex_plan.specs.Good.{IsGood}
 use Rattle.tree_words.specs.declared.settings.Knobs.{Knobs}
-use Rattle.hex_engine.specs.declared.answers.Fail.TheVariants.{Syntax}
+use Rattle.hex_engine.specs.declared.answers.Fail.TheVariants.{Over}
 use Rattle.hex_engine.specs.Standing.{Standing}
 use Rattle.hex_engine.specs.Left.{Left, Loaded, nothing_left, loaded_only, turn_only, and_then}
 use Rattle.hex_engine.specs.Uses.{IsLoadOf, CameOf, Fetches, Loading, Moving, Uses}
-use Rattle.hex_engine.specs.Replies.{Failed as FailedReply, stays, unused, loading, moving}
+use Rattle.hex_engine.specs.Replies.{Failed as FailedReply, Reaction, Reacts, NoLoad, NoTurn, replied, stays, unused, loaded, loading, loading_by, file_named, lone_colour, is_next, turned, moving, moving_by, moving_next}
+use Rattle.hex_engine.specs.declared.answers.Answer.{Answer}
+use Rattle.hex_cells.specs.declared.colours.Colour.{Colour}
+use Rattle.hex_board.specs.Positions.{Position, is_empty_at}
+use Rattle.hex_board.specs.Joined.{winner_of}
+use Rattle.hex_game.specs.Games.{board_of}
+use Rattle.hex_plan.specs.Openings.{may_move}
+use Rattle.hex_plan.proofs.Rooms.{empty_in}
+use Rattle.std.specs.Prelude.{IfOk, OnErr, bytes_eq, Result, Err, not, is_some}
+use Rattle.std.proofs.lemmas.Slice.Eq.{bytes_eq-Decides}
+use Rattle.std.proofs.lemmas.Bool.{and_parts}
 
 pub unfetched : (t : Option Shelved) → Loading t t nothing_left []
 unfetched t = Both-refl t (λ o n. Fetches o n [] []) (λ x. record { tries = []; tried = ap (λ l. record x { tries = l }) (sym (append-nil x.tries)); came = tt })
@@ -25,22 +35,67 @@ fetched_as : (o n : Shelved) (name : List ℕ) (f : Fetched) (what : Loaded) →
 fetched_as o n name f what load t = record { tries = is_failed f ∷ []; tried = t.tried; came = (subst (λ u. IsLoadOf u what) t.is load, tt) }
 
 -- a fetch of which this came, and what came of its file
-pub fetched_one : (old new : Option Shelved) (name : List ℕ) (f : Fetched) (what : Loaded) → FetchesOne old new name (Some f) → IsLoadOf f what → Loading old new (loaded_only name what) []
-fetched_one old new name f what h load = Both-weaker old new (λ o n. Tries o n name f) (λ o n. Fetches o n (loaded_only name what).loads []) (λ o n. fetched_as o n name f what load) h
+pub fetched_one : (old new : Option Shelved) (name : List ℕ) (said : Option Fetched) (f : Fetched) (what : Loaded) → FetchesOne old new name said → said ≡ Some f → IsLoadOf f what
+    → Loading old new (loaded_only name what) []
+fetched_one old new name said f what h e load =
+    Both-weaker old new (λ o n. Tries o n name f) (λ o n. Fetches o n (loaded_only name what).loads []) (λ o n. fetched_as o n name f what load) (subst (FetchesOne old new name) e h)
 
 vain_as : (o n : Shelved) (name : List ℕ) (f : Fetched) → Tries o n name f → Fetches o n [] (is_failed f ∷ [])
 vain_as o n name f t = record { tries = []; tried = t.tried; came = tt }
 
 -- a fetch that came to nothing else
-pub fetched_in_vain : (old new : Option Shelved) (name : List ℕ) (f : Fetched) → FetchesOne old new name (Some f) → (tries : List Bool) × Loading old new nothing_left tries
-fetched_in_vain old new name f h = (is_failed f ∷ [], Both-weaker old new (λ o n. Tries o n name f) (λ o n. Fetches o n [] (is_failed f ∷ [])) (λ o n. vain_as o n name f) h)
+pub fetched_in_vain : (old new : Option Shelved) (name : List ℕ) (said : Option Fetched) (f : Fetched) → FetchesOne old new name said → said ≡ Some f
+    → (tries : List Bool) × Loading old new nothing_left tries
+fetched_in_vain old new name said f h e =
+    (is_failed f ∷ [], Both-weaker old new (λ o n. Tries o n name f) (λ o n. Fetches o n [] (is_failed f ∷ [])) (λ o n. vain_as o n name f) (subst (FetchesOne old new name) e h))
 
-pub loading_no_name : (s : Standing) (left : Left) (args : List (List ℕ)) → (length args ≡ 1 → ⊥) → loading s left args ≡ unused left (stays s (FailedReply Syntax))
-loading_no_name s left [] no = refl
-loading_no_name s left (a ∷ []) no = absurd (no refl)
-loading_no_name s left (a ∷ b ∷ args) no = refl
+pub if_ok : {T E : Type 0} (r : Result T E) (P Q : T → Type 0) → ((x : T) → P x → Q x) → IfOk r P → IfOk r Q
+if_ok (Ok x) P Q go h = go x h
+if_ok (Err e) P Q go h = tt
 
-pub moving_no_colour : (s : Standing) (left : Left) (args : List (List ℕ)) → (length args ≡ 1 → ⊥) → moving s left args ≡ unused left (stays s (FailedReply Syntax))
-moving_no_colour s left [] no = refl
-moving_no_colour s left (a ∷ []) no = absurd (no refl)
-moving_no_colour s left (a ∷ b ∷ args) no = refl
+pub on_err : {T E : Type 0} (r : Result T E) (P : Type 0) → P → OnErr r P
+on_err (Ok x) P h = tt
+on_err (Err e) P h = h
+
+same_name : (name : List ℕ) → bytes_eq name name ≡ true
+same_name name = Decides-true (bytes_eq-Decides name name) refl
+
+pub uses_nothing : (options : Knobs) (shelf : Option Shelved) (archive : Option (List Decision)) → Uses options shelf shelf archive archive nothing_left []
+uses_nothing options shelf archive = record { loading = unfetched shelf; moving = nothing_moved options archive }
+
+-- a file of this name came to this
+pub loads_reply : (s : Standing) (name : List ℕ) (what : Loaded) (args : List (List ℕ)) → file_named args ≡ Some name
+    → (later : Left) → loading s (and_then (loaded_only name what) later) args ≡ unused later (loaded s what)
+loads_reply s name what args e later =
+    ap (loading_by s (and_then (loaded_only name what) later)) e
+    ∙ ap (λ b. cond b (unused later (loaded s what)) (Err NoLoad)) (same_name name)
+
+pub over_reply : (s : Standing) (colour : Colour) (args : List (List ℕ)) → lone_colour args ≡ Some colour → may_move (board_of s.game) ≡ false
+    → (later : Left) → moving s later args ≡ unused later (stays s (FailedReply Over))
+over_reply s colour args e f later =
+    ap (moving_by s later) e ∙ ap (λ b. cond b (moving_next s later later.turns colour) (unused later (stays s (FailedReply Over)))) f
+
+pub moved_reply : (s : Standing) (colour : Colour) (turn : Decision) (args : List (List ℕ)) → lone_colour args ≡ Some colour → may_move (board_of s.game) ≡ true → is_next s colour turn ≡ true
+    → (later : Left) → moving s (and_then (turn_only turn) later) args ≡ unused later (turned s colour turn)
+moved_reply s colour turn args e f n later =
+    let left : Left = and_then (turn_only turn) later in
+    ap (moving_by s left) e ∙ ap (λ b. cond b (moving_next s left left.turns colour) (unused left (stays s (FailedReply Over)))) f
+    ∙ ap (λ b. cond b (unused later (turned s colour turn)) (Err NoTurn)) n
+
+pub wants_reply : (s : Standing) (colour : Colour) (args : List (List ℕ)) → lone_colour args ≡ Some colour → may_move (board_of s.game) ≡ true → moving s nothing_left args ≡ Err NoTurn
+wants_reply s colour args e f =
+    ap (moving_by s nothing_left) e ∙ ap (λ b. cond b (moving_next s nothing_left [] colour) (unused nothing_left (stays s (FailedReply Over)))) f
+
+-- the reaction that this answer gives
+pub reacts_reply : (r : Reaction) (answer : Answer) (after : Standing) (later : Left) → Reacts r answer after → unused later r ≡ Ok (record { reply = replied answer; after = after; left = later })
+reacts_reply r answer after later e = ap (unused later) (sym e)
+
+pub nobody_joined : (p : Position) → may_move p ≡ true → winner_of p ≡ None
+nobody_joined p e = nobody (winner_of p) (and_parts _ _ e).0
+  where
+    nobody : (w : Option Colour) → not (is_some w) ≡ true → w ≡ None
+    nobody None e = refl
+    nobody (Some c) e = absurd (cc)
+
+pub has_empty : (p : Position) → may_move p ≡ true → (k : ℕ) × (is_empty_at p k ≡ true)
+has_empty p e = empty_in p (and_parts _ _ e).1

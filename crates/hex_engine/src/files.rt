@@ -35,7 +35,8 @@ pub fn load_game<F: Shelf>(alloc: Global, shelf: &mut F, name: &str) -> Result<F
 {
     match shelf.fetch(alloc, name) {
         Ok(Some(bytes)) => read_game(alloc, &bytes),
-        Ok(None) | Err(ShelfError::TooLong) => Ok(File::Refused),
+        Ok(None) => Ok(File::Refused),
+        Err(ShelfError::TooLong) => Ok(File::Refused),
         Err(ShelfError::Fault) => Ok(File::Unread),
         Err(ShelfError::Memory) => Err(Memory),
     }

@@ -1,6 +1,6 @@
 //! The engine and its commands.
 
-ghost use Rattle.std.specs.Prelude.{◌≡◌, ◌≤◌, ◌∷◌, ◌++◌, ℕ, Bool, true, IsTrue, List, [], IfOk, OnErr, Ok, Err, Some, None, codes};
+ghost use Rattle.std.specs.Prelude.{◌≡◌, ◌≤◌, ◌∷◌, ◌++◌, ℕ, Bool, true, List, [], IfOk, OnErr, Ok, Err, Some, None, codes};
 ghost use Rattle.hex_io.specs.Causes.{Rose};
 ghost use Rattle.hex_io.specs.Told.{Both, Same};
 ghost use Rattle.hex_plan.specs.Turns.{Decision};
@@ -23,7 +23,7 @@ ghost use Rattle.htp_line.specs.Reading.{asked_of};
 use super::answers::{Answer, EngineError, Fail, Memory};
 use super::commands::{Command, command_list};
 use super::files::{File, game_text, load_game};
-use super::forms::{MoveWord, read_colour, read_move, read_sizes};
+use super::forms::{MoveWord, file_name, lone_colour, read_colour, read_move, read_sizes};
 use super::picture::board_text;
 use super::texts::{push_vertex, report_text};
 use hex_board::Board;
@@ -284,10 +284,7 @@ impl Engine {
         ensures in_vain { OnErr result ((tries : List Bool) × Loading (F.told shelf.old) (F.told shelf.new) nothing_left tries) }
         ensures read_fault { result ≡ Ok (Answer.Fail Fail.ReadFault) → Rose (F.faults shelf.old) (F.faults shelf.new) }
     {
-        let [name] = args else {
-            return Ok(Answer::Fail(Fail::Syntax));
-        };
-        let Ok(name) = str::from_utf8(name.as_slice()) else {
+        let Some(name) = file_name(args) else {
             return Ok(Answer::Fail(Fail::Syntax));
         };
         match load_game(self.alloc, shelf, name)? {
@@ -312,10 +309,7 @@ impl Engine {
         ensures archive_fault { result ≡ Err EngineError.Archive → Rose (A.faults archive.old) (A.faults archive.new) }
         ensures later { A.faults archive.old ≤ A.faults archive.new }
     {
-        let [colour] = args else {
-            return Ok(Answer::Fail(Fail::Syntax));
-        };
-        let Some(colour) = read_colour(colour.as_slice()) else {
+        let Some(colour) = lone_colour(args) else {
             return Ok(Answer::Fail(Fail::Syntax));
         };
         if !may_move(self.game.board()) {
@@ -327,7 +321,7 @@ impl Engine {
     /// Searches a move, hands the turn to the archive, and plays the move.
     fn take_turn<A: Archive>(&mut self, colour: Colour, archive: &mut A) -> Result<Answer, EngineError>
         requires { may_move (board_of self.old.game) ≡ true }
-        ensures reply { IfOk result (λ answer. (turn : Decision) × IsGood self.old.options turn × IsTrue (is_next self.old colour turn)
+        ensures reply { IfOk result (λ answer. (turn : Decision) × IsGood self.old.options turn × (is_next self.old colour turn ≡ true)
             × Both (A.told archive.old) (A.told archive.new) (λ o n. n ≡ o ++ turn ∷ []) × Reacts (turned self.old colour turn) answer self.new) }
         ensures err { OnErr result (self.new ≡ self.old) }
         ensures in_vain { OnErr result (Same (A.told archive.old) (A.told archive.new)) }
@@ -355,7 +349,7 @@ impl Engine {
     /// The next turn: the search of the board with this colour to move, and its best cell.
     fn decide(&self, colour: Colour) -> Result<Turn, Memory>
         requires { may_move (board_of self.now.game) ≡ true }
-        ensures { IfOk result (λ turn. IsGood self.now.options turn × IsTrue (is_next self.now colour turn)) }
+        ensures { IfOk result (λ turn. IsGood self.now.options turn × (is_next self.now colour turn ≡ true)) }
     {
         let shape = turn_shape(self.game.board(), colour, &self.options, self.turns);
         let Ok(closed) = plain_search(self.alloc, &shape) else {
