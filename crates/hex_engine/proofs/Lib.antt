@@ -3,3 +3,4 @@ pub mod Spelling
 pub mod Rows
 pub mod Using
 pub mod Names
+pub mod Calm

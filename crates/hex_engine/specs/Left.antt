@@ -1,5 +1,5 @@
 -- What a conversation uses up: what comes of the files that it asks for, and the turns that its moves are searched in.
-use Rattle.std.specs.Prelude.{ℕ, List, [], ◌∷◌, ◌++◌}
+use Rattle.std.specs.Prelude.{ℕ, List, [], ◌++◌}
 use Rattle.hex_game.specs.Games.{Played}
 use Rattle.hex_plan.specs.Turns.{Decision}
 
@@ -28,10 +28,9 @@ nothing_left = record { loads = []; turns = [] }
 abbrev pub and_then : Left → Left → Left
 and_then a b = record { loads = a.loads ++ b.loads; turns = a.turns ++ b.turns }
 
--- one file
-abbrev pub loaded_only : List ℕ → Loaded → Left
-loaded_only name what = record { loads = record { name = name; what = what } ∷ []; turns = [] }
+-- files alone, and turns alone
+abbrev pub loads_only : List Load → Left
+loads_only loads = record { loads = loads; turns = [] }
 
--- one turn
-abbrev pub turn_only : Decision → Left
-turn_only turn = record { loads = []; turns = turn ∷ [] }
+abbrev pub turns_only : List Decision → Left
+turns_only turns = record { loads = []; turns = turns }

@@ -239,7 +239,7 @@ uses_up _ = false
 abbrev pub Obeys : Standing → Command → List (List ℕ) → Option Answer → Standing → Type 0
 Obeys standing command args None after = (uses_up command ≡ true) × (after ≡ standing)
 Obeys standing command args (Some answer) after =
-    (left : Left) → obeyed standing left command args ≡ Ok (record { reply = replied answer; after = after; left = left })
+    (uses_up command ≡ false) × ((left : Left) → obeyed standing left command args ≡ Ok (record { reply = replied answer; after = after; left = left }))
 
 -- This answer, and what stands after it, are what these uses gave, whatever is left then.
 abbrev pub Gives : (Left → Result Turned Missing) → Left → Answer → Standing → Type 0

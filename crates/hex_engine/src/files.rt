@@ -5,7 +5,7 @@ ghost use Rattle.hex_io.specs.Causes.{Rose};
 ghost use Rattle.hex_game.specs.Games.{Played};
 ghost use Rattle.sgf_tree.specs.Printing.{trees_print};
 ghost use Rattle.sgf_game.specs.Record.{record_of};
-ghost use Rattle.hex_engine.specs.Left.{nothing_left, loaded_only};
+ghost use Rattle.hex_engine.specs.Left.{nothing_left, loads_only};
 ghost use Rattle.hex_engine.specs.Uses.{IsReadAs, Loading};
 ghost use Rattle.hex_engine.specs.Files.{came_to};
 
@@ -29,7 +29,7 @@ pub enum File {
 
 /// Fetches the file of that name, and reads its game.
 pub fn load_game<F: Shelf>(alloc: Global, shelf: &mut F, name: &str) -> Result<File, Memory>
-    ensures came { IfOk result (λ file. Loading (F.told shelf.old) (F.told shelf.new) (loaded_only name.now (came_to file)) []) }
+    ensures came { IfOk result (λ file. Loading (F.told shelf.old) (F.told shelf.new) (loads_only (record { name = name.now; what = came_to file } ∷ [])) []) }
     ensures vain { OnErr result ((tries : List Bool) × Loading (F.told shelf.old) (F.told shelf.new) nothing_left tries) }
     ensures read_fault { result ≡ Ok File.Unread → Rose (F.faults shelf.old) (F.faults shelf.new) }
 {

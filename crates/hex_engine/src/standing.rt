@@ -15,7 +15,7 @@ ghost use Rattle.hex_engine.specs.Commands.{all_names};
 ghost use Rattle.hex_engine.specs.Forms.{sizes_of, IsSaidOf};
 ghost use Rattle.hex_engine.specs.Picture.{picture};
 ghost use Rattle.hex_engine.specs.Standing.{Standing, opening, emptied};
-ghost use Rattle.hex_engine.specs.Left.{Left, nothing_left};
+ghost use Rattle.hex_engine.specs.Left.{Left, Load, nothing_left, loads_only, turns_only};
 ghost use Rattle.hex_engine.specs.Uses.{Uses, Loading, Moving};
 ghost use Rattle.hex_engine.specs.Replies.{Reacts, Answers, Gives, Obeys, NoTurn, Done, Quit, reaction, replied, obeyed, if_bare, stays, moves_on, loading, moving, is_next, turned, resized, playing, played, undone, knowing, reporting, winner_text};
 ghost use Rattle.htp_line.specs.Reading.{asked_of};
@@ -278,8 +278,8 @@ impl Engine {
     /// Fails, in order: `syntax error`; `read fault`; `cannot load file`.
     /// Answers nothing; the game is the record's.
     fn load<F: Shelf>(&mut self, args: &[Bytes], shelf: &mut F) -> Result<Answer, Memory>
-        ensures reply { IfOk result (λ answer. (used : Left) × Loading (F.told shelf.old) (F.told shelf.new) used []
-            × Gives (λ left. loading self.old left args.now) used answer self.new) }
+        ensures reply { IfOk result (λ answer. (loads : List Load) × Loading (F.told shelf.old) (F.told shelf.new) (loads_only loads) []
+            × Gives (λ left. loading self.old left args.now) (loads_only loads) answer self.new) }
         ensures err { OnErr result (self.new ≡ self.old) }
         ensures in_vain { OnErr result ((tries : List Bool) × Loading (F.told shelf.old) (F.told shelf.new) nothing_left tries) }
         ensures read_fault { result ≡ Ok (Answer.Fail Fail.ReadFault) → Rose (F.faults shelf.old) (F.faults shelf.new) }
@@ -301,8 +301,8 @@ impl Engine {
     /// Fails, in order: `syntax error`; `game over`.
     /// Answers the vertex of a searched cell, on which it puts a stone; the archive has the turn then.
     fn generate<A: Archive>(&mut self, args: &[Bytes], archive: &mut A) -> Result<Answer, EngineError>
-        ensures reply { IfOk result (λ answer. (used : Left) × Moving self.old.options (A.told archive.old) (A.told archive.new) used
-            × Gives (λ left. moving self.old left args.now) used answer self.new) }
+        ensures reply { IfOk result (λ answer. (turns : List Decision) × Moving self.old.options (A.told archive.old) (A.told archive.new) (turns_only turns)
+            × Gives (λ left. moving self.old left args.now) (turns_only turns) answer self.new) }
         ensures err { OnErr result (self.new ≡ self.old) }
         ensures in_vain { OnErr result (Same (A.told archive.old) (A.told archive.new)) }
         ensures wants_turn { result ≡ Err EngineError.Archive → moving self.old nothing_left args.now ≡ Err NoTurn }

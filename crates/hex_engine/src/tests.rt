@@ -10,6 +10,7 @@ use std::test::Fail as Failure;
 fn check(
     rt: &(impl Abort + Alloc<A = Global>),
     engine: &mut Engine,
+    shelf: &mut MemShelf,
     line: &[u8],
     want: &[u8],
 ) -> Result<(), Failure> {

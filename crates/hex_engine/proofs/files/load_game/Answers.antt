@@ -1,5 +1,5 @@
 -- What comes of one fetch.
-use Rattle.std.proofs.Common.{◌≡◌, Some, None, Ok, refl, subst, sym, ap}
+use Rattle.std.proofs.Common.{◌≡◌, Some, None, Ok, refl, subst, ap}
 use Rattle.std.specs.Prelude.{Err}
 use Rattle.hex_io.specs.Shelves.{Failed, Missing, Long, Held, says}
 use Rattle.hex_io.specs.declared.shelves.ShelfError.TheVariants.{Fault, TooLong}
