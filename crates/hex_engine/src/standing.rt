@@ -300,7 +300,11 @@ impl Engine {
     /// `genmove`, with a colour.
     /// Fails, in order: `syntax error`; `game over`.
     /// Answers the vertex of a searched cell, on which it puts a stone; the archive has the turn then.
-    fn generate<A: Archive>(&mut self, args: &[Bytes], archive: &mut A) -> Result<Answer, EngineError>
+    fn generate<A: Archive>(
+        &mut self,
+        args: &[Bytes],
+        archive: &mut A,
+    ) -> Result<Answer, EngineError>
         ensures reply { IfOk result (λ answer. (turns : List Decision) × Moving self.old.options (A.told archive.old) (A.told archive.new) (turns_only turns)
             × Gives (λ left. moving self.old left args.now) (turns_only turns) answer self.new) }
         ensures err { OnErr result (self.new ≡ self.old) }
@@ -319,7 +323,11 @@ impl Engine {
     }
 
     /// Searches a move, hands the turn to the archive, and plays the move.
-    fn take_turn<A: Archive>(&mut self, colour: Colour, archive: &mut A) -> Result<Answer, EngineError>
+    fn take_turn<A: Archive>(
+        &mut self,
+        colour: Colour,
+        archive: &mut A,
+    ) -> Result<Answer, EngineError>
         requires { may_move (board_of self.old.game) ≡ true }
         ensures reply { IfOk result (λ answer. (turn : Decision) × IsGood self.old.options turn × (is_next self.old colour turn ≡ true)
             × Both (A.told archive.old) (A.told archive.new) (λ o n. n ≡ o ++ turn ∷ []) × Reacts (turned self.old colour turn) answer self.new) }

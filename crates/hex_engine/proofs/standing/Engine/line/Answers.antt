@@ -21,7 +21,7 @@ returns-in-Some-2-clause-reply g c =
       nothing_left,
       uses_nothing _ _ _,
       λ later.
-      known_reply c.args.self.now later (asked_of c.args.request.now) c.as_slice.result.now c.as_slice-args.result.now c.in-Some.command _ c.as_slice.ensures c.as_slice-args.ensures (sym c.named.ensures ∙ c.in-Some.is) (obeys.1 later),
+          known_reply c.args.self.now later (asked_of c.args.request.now) c.as_slice.result.now c.as_slice-args.result.now c.in-Some.command _ c.as_slice.ensures c.as_slice-args.ensures (sym c.named.ensures ∙ c.in-Some.is) (obeys.1 later),
     )
 
 pub returns-in-Some-2-clause-read_fault : goal.returns-in-Some-2-clause-read_fault
@@ -39,8 +39,8 @@ returns-in_ok-load-in-None-clause-reply g c =
       loads_only came.0,
       record { loading = came.1; moving = record { took = (nothing_moved c.args.self.now.options (g.A.Archive.told c.args.archive.now)).took; good = tt } },
       λ later.
-      known_reply c.args.self.now _ (asked_of c.args.request.now) c.as_slice.result.now c.as_slice-args.result.now c.in-Some.command _ c.as_slice.ensures c.as_slice-args.ensures (sym c.named.ensures ∙ c.in-Some.is)
-      (obeyed_load c.args.self.now _ c.in-Some.command _ load ∙ ap (λ (s : Standing). loading s (and_then (loads_only came.0) later) c.as_slice-args.result.now) (sym kept.1) ∙ came.2 later),
+          known_reply c.args.self.now _ (asked_of c.args.request.now) c.as_slice.result.now c.as_slice-args.result.now c.in-Some.command _ c.as_slice.ensures c.as_slice-args.ensures (sym c.named.ensures ∙ c.in-Some.is)
+          (obeyed_load c.args.self.now _ c.in-Some.command _ load ∙ ap (λ (s : Standing). loading s (and_then (loads_only came.0) later) c.as_slice-args.result.now) (sym kept.1) ∙ came.2 later),
     )
 
 pub returns-in-None-2-clause-reply : goal.returns-in-None-2-clause-reply
@@ -55,8 +55,8 @@ returns-in-None-2-clause-reply g c =
         moving = subst (λ (s : Standing). Moving s.options (g.A.Archive.told c.args.archive.now) (g.A.Archive.told c.generate.new.archive) (turns_only h.0)) kept.1 h.1;
       },
       λ later.
-      known_reply c.args.self.now _ (asked_of c.args.request.now) c.as_slice.result.now c.as_slice-args.result.now c.in-Some.command _ c.as_slice.ensures c.as_slice-args.ensures (sym c.named.ensures ∙ c.in-Some.is)
-      (obeyed_move c.args.self.now _ c.in-Some.command _ kept.0 other ∙ ap (λ (s : Standing). moving s (and_then (turns_only h.0) later) c.as_slice-args.result.now) (sym kept.1) ∙ h.2 later),
+          known_reply c.args.self.now _ (asked_of c.args.request.now) c.as_slice.result.now c.as_slice-args.result.now c.in-Some.command _ c.as_slice.ensures c.as_slice-args.ensures (sym c.named.ensures ∙ c.in-Some.is)
+          (obeyed_move c.args.self.now _ c.in-Some.command _ kept.0 other ∙ ap (λ (s : Standing). moving s (and_then (turns_only h.0) later) c.as_slice-args.result.now) (sym kept.1) ∙ h.2 later),
     ))
     c.generate.ensures.reply
 
