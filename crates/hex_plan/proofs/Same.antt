@@ -1,14 +1,12 @@
 -- What determines a good turn.
-use Rattle.std.proofs.Common.{◌≡◌, ℕ, ◌+◌, ◌*◌, ◌<◌, ◌≤◌, List, length, get_or, map, refl, sym, ap, ◌∙◌, subst, arith}
-use Rattle.std.specs.List.{range_with_len}
+use Rattle.std.proofs.Common.{◌≡◌, ℕ, ◌<◌, List, get_or, refl, sym, ap, ◌∙◌, subst, arith}
 use Rattle.std.proofs.lemmas.List.FromFn.{get_or-map-range_with_len}
 use Rattle.hex_cells.specs.declared.colours.Colour.{Colour}
 use Rattle.hex_cells.proofs.Bits.{same_set}
 use Rattle.hex_board.specs.Positions.{Position}
 use Rattle.tree_words.specs.declared.settings.Knobs.{Knobs}
 use Rattle.tree_words.specs.declared.roots.Row.{Row}
-use Rattle.tree_words.specs.Settings.{Setting, IsSetting}
-use Rattle.tree_words.specs.Closing.{IsClosed}
+use Rattle.tree_words.specs.Settings.{Setting}
 use Rattle.tree_words.specs.Roots.{IsBest, HasRoot, root_count, row_at, rows_of}
 use Rattle.tree_words.specs.Sequence.{seq_of}
 use Rattle.tree_words.proofs.RootLaws.{has_root}
