@@ -1,15 +1,15 @@
 -- The root's rows in a closed tree's words are those of its tree.
-use Rattle.std.proofs.Common.{◌≡◌, ◌⊎◌, ℕ, zero, suc, ◌+◌, ◌*◌, ◌<◌, ◌≤◌, Bool, true, false, cond, List, [], ◌∷◌, ◌++◌, length, get_or, map, refl, sym, ap, ◌∙◌, subst, ⊎_elim, inl, inr, arith}
+use Rattle.std.proofs.Common.{◌≡◌, ◌⊎◌, ℕ, suc, ◌+◌, ◌*◌, ◌<◌, Bool, true, false, cond, List, [], ◌∷◌, ◌++◌, length, get_or, map, refl, sym, ap, ◌∙◌, ⊎_elim, inl, inr, arith}
 use Rattle.std.specs.Prelude.{◌==◌}
 use Rattle.std.specs.List.{range_with_len}
 use Rattle.tree_words.specs.Settings.{Setting, IsSetting}
-use Rattle.tree_words.specs.Words.{Count, root_at, area_at, next_in, tally_in, seen_in, cell_in}
-use Rattle.tree_words.specs.Blocks.{LinkedBlock, has, child, In, InOrder, link_of, is_node}
-use Rattle.tree_words.specs.Complete.{Complete, Linked, allowed_cells}
+use Rattle.tree_words.specs.Words.{Count, root_at, next_in, tally_in, seen_in}
+use Rattle.tree_words.specs.Blocks.{LinkedBlock, has, In, InOrder, link_of}
+use Rattle.tree_words.specs.Complete.{allowed_cells}
 use Rattle.tree_words.specs.Closing.{IsClosed}
 use Rattle.tree_words.specs.Records.{leaf_of}
-use Rattle.tree_words.specs.Walks.{Tree, node, Children, more}
-use Rattle.tree_words.specs.Trees.{IsTreeOf, oldest_first, down, row_of, tree_leaf, tree_inner, tree_at, tree_of}
+use Rattle.tree_words.specs.Walks.{Tree, node, Children}
+use Rattle.tree_words.specs.Trees.{IsTreeOf, oldest_first, down, row_of, tree_leaf, tree_inner, tree_at}
 use Rattle.tree_words.specs.Descents.{Names}
 use Rattle.tree_words.specs.declared.roots.Row.{Row}
 use Rattle.tree_words.specs.Roots.{HasRoot, root_link, root_count, row_at, rows_of}

@@ -1,14 +1,12 @@
 -- What determines a good turn.
-use Rattle.std.proofs.Common.{◌≡◌, ℕ, ◌+◌, ◌*◌, ◌<◌, ◌≤◌, List, length, get_or, map, refl, sym, ap, ◌∙◌, subst, arith}
-use Rattle.std.specs.List.{range_with_len}
+use Rattle.std.proofs.Common.{◌≡◌, ℕ, ◌<◌, List, get_or, refl, sym, ap, ◌∙◌, subst, arith}
 use Rattle.std.proofs.lemmas.List.FromFn.{get_or-map-range_with_len}
 use Rattle.hex_cells.specs.declared.colours.Colour.{Colour}
 use Rattle.hex_cells.proofs.Bits.{same_set}
 use Rattle.hex_board.specs.Positions.{Position}
 use Rattle.tree_words.specs.declared.settings.Knobs.{Knobs}
 use Rattle.tree_words.specs.declared.roots.Row.{Row}
-use Rattle.tree_words.specs.Settings.{Setting, IsSetting}
-use Rattle.tree_words.specs.Closing.{IsClosed}
+use Rattle.tree_words.specs.Settings.{Setting}
 use Rattle.tree_words.specs.Roots.{IsBest, HasRoot, root_count, row_at, rows_of}
 use Rattle.tree_words.specs.Sequence.{seq_of}
 use Rattle.tree_words.proofs.RootLaws.{has_root}
@@ -22,9 +20,6 @@ same_shape : (options : Knobs) (now : Position) (mover : Colour) (number : ℕ) 
 same_shape options now mover number a b h k =
     let allowed : a.allowed ≡ b.allowed = same_set a.allowed b.allowed (λ c. h.allowed.items c ∙ sym (k.allowed.items c)) in
     λ i. record { board = (h.board ∙ sym k.board) i; player = (h.player ∙ sym k.player) i; allowed = allowed i; knobs = (h.knobs ∙ sym k.knobs) i }
-
-row-of : (s : Setting) (words : List ℕ) (i : ℕ) → i < root_count s words → get_or (rows_of s words) i (row_at s words 0) ≡ row_at s words i
-row-of s words i l = get_or-map-range_with_len (row_at s words) 0 (root_count s words) i i (row_at s words 0) l (omega arith)
 
 same_row : (s : Setting) (a b : List ℕ) (i : ℕ) → root_count s a ≡ root_count s b → rows_of s a ≡ rows_of s b → i < root_count s a → row_at s a i ≡ row_at s b i
 same_row s a b i n e l =
