@@ -1,5 +1,7 @@
 //! Each call once, with ample memory, and answers that no clause spells out byte by byte.
 
+ghost use Rattle.tree_words.specs.Settings.{AreInRange};
+
 use super::{Answer, Engine, Fail};
 use hex_cells::Size;
 use hex_io::{Bytes, File, MemShelf};
@@ -10,11 +12,13 @@ use std::process::Abort;
 use std::test::Fail as Failure;
 use tree_words::Knobs;
 
-/// The options that a command line has without options, with this many playouts.
-fn options(playouts: u32) -> Knobs {
+/// The options of a command line that says nothing but one playout a move.
+fn options() -> Knobs
+    ensures { AreInRange result }
+{
     Knobs {
         workers: 1,
-        playouts,
+        playouts: 1,
         seed: 0,
         words: 4_194_304,
         expand: 8,
@@ -49,7 +53,7 @@ fn check(
 fn answers(rt: HostRuntime) -> Result<(), Failure> {
     let alloc = rt.alloc();
     let size = Size::of(3).ok_or("a size")?;
-    let mut engine = Engine::make(alloc, &options(1), size)?;
+    let mut engine = Engine::make(alloc, &options(), size)?;
     let record = b"(;FF[4]GM[11]SZ[3]AP[Editor:0.9]C[a\\]b];B[a2];W[swap-pieces];B[c3])";
     let file = File {
         name: Bytes::of(b"g.sgf".to_vec(alloc)?),
