@@ -169,3 +169,7 @@ last_unarchived options size limit a b c x y z w engine held seen buf few g t sa
     let at = d.1.stood (opening options size) (all_of g.used d.1.used nothing_left) nothing_left seen here in
     conversed_by ending.ArchiveFault options size limit a b c x w g.used d.1.used d.0 g.uses at.0 tt
     (finish_held_back (opening options size) (all_of g.used d.1.used nothing_left) limit x y z w seen buf few (g.kept (and_then d.1.used nothing_left)) here.going t same at.1)
+
+-- the same options and size
+pub conversed_same : (end : End) (k l : Knobs) (m n limit : ℕ) (a b : Stock) (x y : Option Told) → k ≡ l → m ≡ n → Conversed end k m limit a b x y → Conversed end l n limit a b x y
+conversed_same end k l m n limit a b x y p q c = subst (λ o. Conversed end o n limit a b x y) p (subst (λ s. Conversed end k s limit a b x y) q c)
