@@ -1,6 +1,6 @@
 -- What an answered request keeps, and that it does not depend on what is left after it.
 use Rattle.std.proofs.Common.{◌≡◌, ℕ, Bool, true, false, cond, List, [], ◌∷◌, ◌++◌, Option, Some, None, Result, Ok, Err, refl, ap}
-use Rattle.std.specs.Str.{bytes_eq, is_utf8}
+use Rattle.std.specs.Str.{bytes_eq}
 use Rattle.htp_line.specs.Reading.{Asked}
 use Rattle.hex_cells.specs.declared.colours.Colour.{Colour}
 use Rattle.hex_game.specs.Games.{board_of, is_legal}
@@ -12,7 +12,7 @@ use Rattle.hex_engine.specs.Commands.{command_named}
 use Rattle.hex_engine.specs.Forms.{colour_of, move_of, sizes_of}
 use Rattle.hex_engine.specs.Standing.{Standing}
 use Rattle.hex_engine.specs.Left.{Left, Load, Loaded, Unread, Refused, Loads, and_then}
-use Rattle.hex_engine.specs.Replies.{Reaction, Turned, Missing, if_bare, is_size, resized, played, played_by, playing, undone, knowing, reporting, loaded, loading_next, loading, is_next, moving_next, moving_by, moving, obeyed, reaction_by, reaction}
+use Rattle.hex_engine.specs.Replies.{Reaction, Turned, Missing, if_bare, is_size, resized, played, played_by, playing, undone, knowing, reporting, loaded, file_named, loading_next, loading_by, is_next, moving_next, moving_by, lone_colour, obeyed, reaction_by, reaction}
 use Rattle.hex_engine.specs.declared.commands.Command.{Command}
 use Rattle.hex_engine.specs.declared.commands.Command.TheVariants as command
 use Rattle.hex_engine.specs.declared.forms.MoveWord.{MoveWord}
@@ -82,10 +82,9 @@ loading_next_keeps : (at : Standing) (left : Left) (loads : List Load) (name : L
 loading_next_keeps at left [] name = tt
 loading_next_keeps at left (load ∷ loads) name = either_keeps (bytes_eq load.name name) at _ _ (loaded_keeps at load.what) tt
 
-loading_keeps : (at : Standing) (left : Left) (args : List (List ℕ)) → KeepsOptions at (loading at left args)
-loading_keeps at left [] = refl
-loading_keeps at left (name ∷ []) = either_keeps (is_utf8 name) at _ _ (loading_next_keeps at left left.loads name) refl
-loading_keeps at left (name ∷ word ∷ words) = refl
+loading_keeps : (at : Standing) (left : Left) (name : Option (List ℕ)) → KeepsOptions at (loading_by at left name)
+loading_keeps at left None = refl
+loading_keeps at left (Some name) = loading_next_keeps at left left.loads name
 
 moving_next_keeps : (at : Standing) (left : Left) (turns : List Decision) (colour : Colour) → KeepsOptions at (moving_next at left turns colour)
 moving_next_keeps at left [] colour = tt
@@ -95,19 +94,14 @@ moving_by_keeps : (at : Standing) (left : Left) (colour : Option Colour) → Kee
 moving_by_keeps at left None = refl
 moving_by_keeps at left (Some colour) = either_keeps (may_move (board_of at.game)) at _ _ (moving_next_keeps at left left.turns colour) refl
 
-moving_keeps : (at : Standing) (left : Left) (args : List (List ℕ)) → KeepsOptions at (moving at left args)
-moving_keeps at left [] = refl
-moving_keeps at left (colour ∷ []) = moving_by_keeps at left (colour_of colour)
-moving_keeps at left (colour ∷ word ∷ words) = refl
-
 obeyed_keeps : (at : Standing) (left : Left) (what : Command) (args : List (List ℕ)) → KeepsOptions at (obeyed at left what args)
 unfolding obeyed
 obeyed_keeps at left command.BoardSize args = resized_keeps at (sizes_of args)
 obeyed_keeps at left command.ClearBoard args = bare_keeps at args _ refl
-obeyed_keeps at left command.GenMove args = moving_keeps at left args
+obeyed_keeps at left command.GenMove args = moving_by_keeps at left (lone_colour args)
 obeyed_keeps at left command.KnownCommand args = knowing_keeps at args
 obeyed_keeps at left command.ListCommands args = bare_keeps at args _ refl
-obeyed_keeps at left command.LoadSgf args = loading_keeps at left args
+obeyed_keeps at left command.LoadSgf args = loading_keeps at left (file_named args)
 obeyed_keeps at left command.Name args = bare_keeps at args _ refl
 obeyed_keeps at left command.Play args = playing_keeps at args
 obeyed_keeps at left command.PrintSgf args = bare_keeps at args _ refl
@@ -149,10 +143,9 @@ loading_next_more : (at : Standing) (left more : Left) (loads : List Load) (name
 loading_next_more at left more [] name all = absurd all
 loading_next_more at left more (load ∷ loads) name all = either_more (bytes_eq load.name name) more _ _ _ _ (λ _. refl) (λ none. absurd none) all
 
-loading_more : (at : Standing) (left more : Left) (args : List (List ℕ)) → HasAll (loading at left args) → loading at (and_then left more) args ≡ leaving_more more (loading at left args)
-loading_more at left more [] all = refl
-loading_more at left more (name ∷ []) all = either_more (is_utf8 name) more _ _ _ _ (loading_next_more at left more left.loads name) (λ _. refl) all
-loading_more at left more (name ∷ word ∷ words) all = refl
+loading_more : (at : Standing) (left more : Left) (name : Option (List ℕ)) → HasAll (loading_by at left name) → loading_by at (and_then left more) name ≡ leaving_more more (loading_by at left name)
+loading_more at left more None all = refl
+loading_more at left more (Some name) all = loading_next_more at left more left.loads name all
 
 moving_next_more : (at : Standing) (left more : Left) (turns : List Decision) (colour : Colour) → HasAll (moving_next at left turns colour)
     → moving_next at (and_then left more) (turns ++ more.turns) colour ≡ leaving_more more (moving_next at left turns colour)
@@ -163,19 +156,14 @@ moving_by_more : (at : Standing) (left more : Left) (colour : Option Colour) →
 moving_by_more at left more None all = refl
 moving_by_more at left more (Some colour) all = either_more (may_move (board_of at.game)) more _ _ _ _ (moving_next_more at left more left.turns colour) (λ _. refl) all
 
-moving_more : (at : Standing) (left more : Left) (args : List (List ℕ)) → HasAll (moving at left args) → moving at (and_then left more) args ≡ leaving_more more (moving at left args)
-moving_more at left more [] all = refl
-moving_more at left more (colour ∷ []) all = moving_by_more at left more (colour_of colour) all
-moving_more at left more (colour ∷ word ∷ words) all = refl
-
 obeyed_more : (at : Standing) (left more : Left) (what : Command) (args : List (List ℕ)) → HasAll (obeyed at left what args) → obeyed at (and_then left more) what args ≡ leaving_more more (obeyed at left what args)
 unfolding obeyed
 obeyed_more at left more command.BoardSize args all = refl
 obeyed_more at left more command.ClearBoard args all = refl
-obeyed_more at left more command.GenMove args all = moving_more at left more args all
+obeyed_more at left more command.GenMove args all = moving_by_more at left more (lone_colour args) all
 obeyed_more at left more command.KnownCommand args all = refl
 obeyed_more at left more command.ListCommands args all = refl
-obeyed_more at left more command.LoadSgf args all = loading_more at left more args all
+obeyed_more at left more command.LoadSgf args all = loading_more at left more (file_named args) all
 obeyed_more at left more command.Name args all = refl
 obeyed_more at left more command.Play args all = refl
 obeyed_more at left more command.PrintSgf args all = refl
