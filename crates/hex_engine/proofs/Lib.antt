@@ -1,2 +1,6 @@
 pub mod Ranges
 pub mod Spelling
+pub mod Rows
+pub mod Using
+pub mod Names
+pub mod Calm

@@ -27,3 +27,10 @@ nothing_left = record { loads = []; turns = [] }
 -- this, and then that
 abbrev pub and_then : Left → Left → Left
 and_then a b = record { loads = a.loads ++ b.loads; turns = a.turns ++ b.turns }
+
+-- files alone, and turns alone
+abbrev pub loads_only : List Load → Left
+loads_only loads = record { loads = loads; turns = [] }
+
+abbrev pub turns_only : List Decision → Left
+turns_only turns = record { loads = []; turns = turns }

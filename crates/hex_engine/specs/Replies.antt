@@ -136,11 +136,18 @@ loading_next standing left [] name = Err NoLoad
 loading_next standing left (load ∷ loads) name =
     if bytes_eq load.name name then unused (record left { loads = loads }) (loaded standing load.what) else Err NoLoad
 
+-- the file's name, where it is the only argument and valid UTF-8
+abbrev pub file_named : List (List ℕ) → Option (List ℕ)
+file_named [] = None
+file_named (name ∷ []) = if is_utf8 name then Some name else None
+file_named (name ∷ word ∷ words) = None
+
+abbrev pub loading_by : Standing → Left → Option (List ℕ) → Result Turned Missing
+loading_by standing left None = unused left (stays standing (Failed Syntax))
+loading_by standing left (Some name) = loading_next standing left left.loads name
+
 abbrev pub loading : Standing → Left → List (List ℕ) → Result Turned Missing
-loading standing left [] = unused left (stays standing (Failed Syntax))
-loading standing left (name ∷ []) =
-    if is_utf8 name then loading_next standing left left.loads name else unused left (stays standing (Failed Syntax))
-loading standing left (name ∷ word ∷ words) = unused left (stays standing (Failed Syntax))
+loading standing left args = loading_by standing left (file_named args)
 
 abbrev pub is_board : Position → Position → Bool
 is_board a b = (a.size == b.size) && ((a.black == b.black) && (a.white == b.white))
@@ -172,10 +179,14 @@ moving_by standing left None = unused left (stays standing (Failed Syntax))
 moving_by standing left (Some colour) =
     if may_move (board_of standing.game) then moving_next standing left left.turns colour else unused left (stays standing (Failed Over))
 
+-- the colour, where it is the only argument
+abbrev pub lone_colour : List (List ℕ) → Option Colour
+lone_colour [] = None
+lone_colour (word ∷ []) = colour_of word
+lone_colour (word ∷ other ∷ words) = None
+
 abbrev pub moving : Standing → Left → List (List ℕ) → Result Turned Missing
-moving standing left [] = unused left (stays standing (Failed Syntax))
-moving standing left (colour ∷ []) = moving_by standing left (colour_of colour)
-moving standing left (colour ∷ word ∷ words) = unused left (stays standing (Failed Syntax))
+moving standing left args = moving_by standing left (lone_colour args)
 
 abbrev pub reporting : Standing → Option (List ℕ) → Reaction
 reporting standing None = stays standing (Failed NoSearch)
@@ -228,7 +239,7 @@ uses_up _ = false
 abbrev pub Obeys : Standing → Command → List (List ℕ) → Option Answer → Standing → Type 0
 Obeys standing command args None after = (uses_up command ≡ true) × (after ≡ standing)
 Obeys standing command args (Some answer) after =
-    (left : Left) → obeyed standing left command args ≡ Ok (record { reply = replied answer; after = after; left = left })
+    (uses_up command ≡ false) × ((left : Left) → obeyed standing left command args ≡ Ok (record { reply = replied answer; after = after; left = left }))
 
 -- This answer, and what stands after it, are what these uses gave, whatever is left then.
 abbrev pub Gives : (Left → Result Turned Missing) → Left → Answer → Standing → Type 0

@@ -1,5 +1,5 @@
 -- What `search-report` says of a turn.
-use Rattle.std.specs.Prelude.{ℕ, List, ◌∷◌, ◌++◌, codes}
+use Rattle.std.specs.Prelude.{ℕ, ◌*◌, ◌<◌, List, [], ◌∷◌, ◌++◌, codes}
 use Rattle.std.specs.List.{flat_map}
 use Rattle.std.specs.Fmt.{decimal}
 use Rattle.hex_cells.specs.Vertices.{vertex_of}
@@ -11,8 +11,16 @@ use Rattle.hex_plan.specs.Turns.{Decision}
 abbrev pub row_line : ℕ → Row → List ℕ
 row_line size row = 10 ∷ vertex_of size row.cell ++ 32 ∷ decimal row.visits ++ 32 ∷ decimal row.wins
 
+abbrev pub row_lines : ℕ → List Row → List ℕ
+row_lines size rows = flat_map (row_line size) rows
+
+-- the cells of the rows lie on the board
+abbrev pub AreOn : ℕ → List Row → Type 0
+AreOn size [] = Unit {0}
+AreOn size (row ∷ rows) = (row.cell < size * size) × AreOn size rows
+
 -- the number of playouts, and a line for each child of the tree's root, in rising order of cells
 unfoldable pub report_of : Decision → List ℕ
 report_of turn =
     codes "playouts " ++ decimal turn.closed.shape.knobs.playouts
-    ++ flat_map (row_line turn.board.size) (rows_of turn.closed.shape turn.closed.words)
+    ++ row_lines turn.board.size (rows_of turn.closed.shape turn.closed.words)

@@ -65,6 +65,12 @@ pub enum Answer {
 #[derive(Clone, Copy, Debug, PartialEq, Eq)]
 pub struct Memory;
 
+impl From<AllocError> for Memory {
+    fn from(_error: AllocError) -> Memory {
+        Memory
+    }
+}
+
 /// Why a request got no answer. Nothing changed then.
 #[derive(Clone, Copy, Debug, PartialEq, Eq, Drop, Error)]
 pub enum EngineError {
@@ -80,6 +86,14 @@ impl From<AllocError> for EngineError {
     ghost from_gives = { λ _ error. error ≡ Memory };
 
     fn from(_error: AllocError) -> EngineError {
+        EngineError::Memory
+    }
+}
+
+impl From<Memory> for EngineError {
+    ghost from_gives = { λ _ error. error ≡ Memory };
+
+    fn from(_error: Memory) -> EngineError {
         EngineError::Memory
     }
 }

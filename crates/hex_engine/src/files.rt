@@ -5,11 +5,11 @@ ghost use Rattle.hex_io.specs.Causes.{Rose};
 ghost use Rattle.hex_game.specs.Games.{Played};
 ghost use Rattle.sgf_tree.specs.Printing.{trees_print};
 ghost use Rattle.sgf_game.specs.Record.{record_of};
-ghost use Rattle.hex_engine.specs.Left.{nothing_left};
-ghost use Rattle.hex_engine.specs.Loads.{IsReadAs, Uses};
+ghost use Rattle.hex_engine.specs.Left.{nothing_left, loads_only};
+ghost use Rattle.hex_engine.specs.Uses.{IsReadAs, Loading};
 ghost use Rattle.hex_engine.specs.Files.{came_to};
 
-use super::answers::EngineError;
+use super::answers::Memory;
 use hex_game::Game;
 use hex_io::{Shelf, ShelfError};
 use htp_line::Bytes;
@@ -28,45 +28,45 @@ pub enum File {
 }
 
 /// Fetches the file of that name, and reads its game.
-pub fn load_game<F: Shelf>(alloc: Global, shelf: &mut F, name: &str) -> Result<File, EngineError>
-    ensures came { IfOk result (λ file. Uses (F.told shelf.old) (F.told shelf.new) (record { loads = record { name = name.now; what = came_to file } ∷ [] }) []) }
-    ensures vain { OnErr result ((tries : List Bool) × Uses (F.told shelf.old) (F.told shelf.new) nothing_left tries) }
+pub fn load_game<F: Shelf>(alloc: Global, shelf: &mut F, name: &str) -> Result<File, Memory>
+    ensures came { IfOk result (λ file. Loading (F.told shelf.old) (F.told shelf.new) (loads_only (record { name = name.now; what = came_to file } ∷ [])) []) }
+    ensures vain { OnErr result ((tries : List Bool) × Loading (F.told shelf.old) (F.told shelf.new) nothing_left tries) }
     ensures read_fault { result ≡ Ok File.Unread → Rose (F.faults shelf.old) (F.faults shelf.new) }
-    ensures later { F.faults shelf.old ≤ F.faults shelf.new }
 {
     match shelf.fetch(alloc, name) {
         Ok(Some(bytes)) => read_game(alloc, &bytes),
-        Ok(None) | Err(ShelfError::TooLong) => Ok(File::Refused),
+        Ok(None) => Ok(File::Refused),
+        Err(ShelfError::TooLong) => Ok(File::Refused),
         Err(ShelfError::Fault) => Ok(File::Unread),
-        Err(ShelfError::Memory) => Err(EngineError::Memory),
+        Err(ShelfError::Memory) => Err(Memory),
     }
 }
 
 /// Reads the game of a record.
-fn read_game(alloc: Global, bytes: &[u8]) -> Result<File, EngineError>
+fn read_game(alloc: Global, bytes: &[u8]) -> Result<File, Memory>
     ensures { IfOk result (λ file. IsReadAs bytes.now (came_to file)) }
 {
     let collection = match parse(alloc, bytes) {
         Ok(collection) => collection,
-        Err(SgfError::Memory) => return Err(EngineError::Memory),
+        Err(SgfError::Memory) => return Err(Memory),
         Err(_) => return Ok(File::Refused),
     };
     match to_game(alloc, &collection) {
         Ok(game) => Ok(File::Loads(game)),
-        Err(GameError::Memory) => Err(EngineError::Memory),
+        Err(GameError::Memory) => Err(Memory),
         Err(_) => Ok(File::Refused),
     }
 }
 
 /// The record of a game, as text.
-pub fn game_text(alloc: Global, game: &Game) -> Result<Bytes, EngineError>
+pub fn game_text(alloc: Global, game: &Game) -> Result<Bytes, Memory>
     ensures { IfOk result (λ text. text ≡ trees_print (record_of game.now)) }
 {
     let Ok(collection) = from_game(alloc, game) else {
-        return Err(EngineError::Memory);
+        return Err(Memory);
     };
     let Ok(text) = print(alloc, &collection) else {
-        return Err(EngineError::Memory);
+        return Err(Memory);
     };
     Ok(Bytes::of(text.as_slice().to_vec(alloc)?))
 }

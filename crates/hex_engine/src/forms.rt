@@ -1,6 +1,7 @@
 //! How arguments are spelled.
 
-ghost use Rattle.std.specs.Prelude.{◌≡◌};
+ghost use Rattle.std.specs.Prelude.{◌≡◌, option_map};
+ghost use Rattle.hex_engine.specs.Replies.{file_named, lone_colour};
 ghost use Rattle.hex_engine.specs.Forms.{spells, colour_of, is_first_digit_of, is_vertex, move_of, sizes_of, IsSaidOf};
 
 use hex_cells::{Colour, Size, read_vertex};
@@ -85,6 +86,27 @@ pub fn read_sizes(args: &[Bytes]) -> Option<(u32, u32)>
             read_number(columns.as_slice())?,
             read_number(rows.as_slice())?,
         )),
+        _ => None,
+    }
+}
+
+/// The colour, where it is the only argument.
+pub fn lone_colour(args: &[Bytes]) -> Option<Colour>
+    ensures { result ≡ lone_colour args.now }
+{
+    match args {
+        [word] => read_colour(word.as_slice()),
+        _ => None,
+    }
+}
+
+/// The name of a file, where it is the only argument and valid UTF-8.
+#[tactic(auto, using(crate::proofs::Names::name_is, crate::proofs::Names::name_is_none))]
+pub fn file_name(args: &[Bytes]) -> Option<&str>
+    ensures { option_map (λ name. name.now) result ≡ file_named args.now }
+{
+    match args {
+        [word] => str::from_utf8(word.as_slice()).ok(),
         _ => None,
     }
 }

@@ -1,7 +1,11 @@
 //! The engine and its commands.
 
-ghost use Rattle.std.specs.Prelude.{◌≡◌, ◌≤◌, ℕ, Bool, List, [], IfOk, OnErr, Ok, Err, Some, None, codes};
+ghost use Rattle.std.specs.Prelude.{◌≡◌, ◌≤◌, ◌∷◌, ◌++◌, ℕ, Bool, true, List, [], IfOk, OnErr, Ok, Err, Some, None, codes};
 ghost use Rattle.hex_io.specs.Causes.{Rose};
+ghost use Rattle.hex_io.specs.Told.{Both, Same};
+ghost use Rattle.hex_plan.specs.Turns.{Decision};
+ghost use Rattle.hex_plan.specs.Good.{IsGood};
+ghost use Rattle.hex_plan.specs.Openings.{may_move};
 ghost use Rattle.hex_game.specs.Games.{board_of};
 ghost use Rattle.hex_board.specs.Joined.{winner_of};
 ghost use Rattle.sgf_tree.specs.Printing.{trees_print};
@@ -11,17 +15,17 @@ ghost use Rattle.hex_engine.specs.Commands.{all_names};
 ghost use Rattle.hex_engine.specs.Forms.{sizes_of, IsSaidOf};
 ghost use Rattle.hex_engine.specs.Picture.{picture};
 ghost use Rattle.hex_engine.specs.Standing.{Standing, opening, emptied};
-ghost use Rattle.hex_engine.specs.Left.{Left, nothing_left};
-ghost use Rattle.hex_engine.specs.Uses.{Uses};
-ghost use Rattle.hex_engine.specs.Replies.{Reacts, Answers, Gives, Obeys, NoTurn, Done, Quit, reaction, replied, obeyed, if_bare, stays, moves_on, loading, moving, resized, playing, played, undone, knowing, reporting, winner_text};
+ghost use Rattle.hex_engine.specs.Left.{Left, Load, nothing_left, loads_only, turns_only};
+ghost use Rattle.hex_engine.specs.Uses.{Uses, Loading, Moving};
+ghost use Rattle.hex_engine.specs.Replies.{Reacts, Answers, Gives, Obeys, NoTurn, Done, Quit, reaction, replied, obeyed, if_bare, stays, moves_on, loading, moving, is_next, turned, resized, playing, played, undone, knowing, reporting, winner_text};
 ghost use Rattle.htp_line.specs.Reading.{asked_of};
 
 use super::answers::{Answer, EngineError, Fail, Memory};
 use super::commands::{Command, command_list};
 use super::files::{File, game_text, load_game};
-use super::forms::{MoveWord, read_colour, read_move, read_sizes};
+use super::forms::{MoveWord, file_name, lone_colour, read_colour, read_move, read_sizes};
 use super::picture::board_text;
-use super::texts::{report_text, vertex_text};
+use super::texts::{push_vertex, report_text};
 use hex_board::Board;
 use hex_cells::{CellSet, Colour, Size};
 use hex_game::{Game, Move};
@@ -125,17 +129,16 @@ impl Engine {
         };
         match self.obey(command, args)? {
             Some(answer) => Ok(answer),
-            None if command == Command::LoadSgf => self.load(args, shelf),
+            None if command == Command::LoadSgf => Ok(self.load(args, shelf)?),
             None => self.generate(args, archive),
         }
     }
 
     /// Does what a command says that uses nothing up.
     #[tactic(auto, unfolding(crate::specs::Replies::obeyed))]
-    fn obey(&mut self, command: Command, args: &[Bytes]) -> Result<Option<Answer>, EngineError>
+    fn obey(&mut self, command: Command, args: &[Bytes]) -> Result<Option<Answer>, Memory>
         ensures ok { IfOk result (λ done. Obeys self.old command args.now done self.new) }
         ensures err { OnErr result (self.new ≡ self.old) }
-        ensures memory { (e : EngineError) → result ≡ Err e → e ≡ EngineError.Memory }
     {
         let answer = match command {
             Command::GenMove | Command::LoadSgf => return Ok(None),
@@ -246,7 +249,7 @@ impl Engine {
     /// `known_command`, with a word.
     /// Fails: `syntax error`.
     /// Answers `true` exactly where a command that is built has this name, else `false`.
-    fn know(&self, args: &[Bytes]) -> Result<Answer, EngineError>
+    fn know(&self, args: &[Bytes]) -> Result<Answer, Memory>
         ensures { IfOk result (λ answer. Reacts (knowing self.now args.now) answer self.now) }
     {
         let [word] = args else {
@@ -262,7 +265,7 @@ impl Engine {
     /// `list_commands`.
     /// Fails: `syntax error`.
     /// Answers the names of all commands that are built, each on a line.
-    fn list(&self, args: &[Bytes]) -> Result<Answer, EngineError>
+    fn list(&self, args: &[Bytes]) -> Result<Answer, Memory>
         ensures { IfOk result (λ answer. Reacts (if_bare self.now args.now (stays self.now (Done all_names))) answer self.now) }
     {
         if !args.is_empty() {
@@ -274,18 +277,14 @@ impl Engine {
     /// `loadsgf`, with a file's name.
     /// Fails, in order: `syntax error`; `read fault`; `cannot load file`.
     /// Answers nothing; the game is the record's.
-    fn load<F: Shelf>(&mut self, args: &[Bytes], shelf: &mut F) -> Result<Answer, EngineError>
-        ensures reply { IfOk result (λ answer. (used : Left) × Loading (F.told shelf.old) (F.told shelf.new) used []
-            × Gives (λ left. loading self.old left args.now) used answer self.new) }
+    fn load<F: Shelf>(&mut self, args: &[Bytes], shelf: &mut F) -> Result<Answer, Memory>
+        ensures reply { IfOk result (λ answer. (loads : List Load) × Loading (F.told shelf.old) (F.told shelf.new) (loads_only loads) []
+            × Gives (λ left. loading self.old left args.now) (loads_only loads) answer self.new) }
         ensures err { OnErr result (self.new ≡ self.old) }
         ensures in_vain { OnErr result ((tries : List Bool) × Loading (F.told shelf.old) (F.told shelf.new) nothing_left tries) }
-        ensures memory { (e : EngineError) → result ≡ Err e → e ≡ EngineError.Memory }
         ensures read_fault { result ≡ Ok (Answer.Fail Fail.ReadFault) → Rose (F.faults shelf.old) (F.faults shelf.new) }
     {
-        let [name] = args else {
-            return Ok(Answer::Fail(Fail::Syntax));
-        };
-        let Ok(name) = str::from_utf8(name.as_slice()) else {
+        let Some(name) = file_name(args) else {
             return Ok(Answer::Fail(Fail::Syntax));
         };
         match load_game(self.alloc, shelf, name)? {
@@ -301,19 +300,20 @@ impl Engine {
     /// `genmove`, with a colour.
     /// Fails, in order: `syntax error`; `game over`.
     /// Answers the vertex of a searched cell, on which it puts a stone; the archive has the turn then.
-    fn generate<A: Archive>(&mut self, args: &[Bytes], archive: &mut A) -> Result<Answer, EngineError>
-        ensures reply { IfOk result (λ answer. (used : Left) × Moving self.old.options (A.told archive.old) (A.told archive.new) used
-            × Gives (λ left. moving self.old left args.now) used answer self.new) }
+    fn generate<A: Archive>(
+        &mut self,
+        args: &[Bytes],
+        archive: &mut A,
+    ) -> Result<Answer, EngineError>
+        ensures reply { IfOk result (λ answer. (turns : List Decision) × Moving self.old.options (A.told archive.old) (A.told archive.new) (turns_only turns)
+            × Gives (λ left. moving self.old left args.now) (turns_only turns) answer self.new) }
         ensures err { OnErr result (self.new ≡ self.old) }
         ensures in_vain { OnErr result (Same (A.told archive.old) (A.told archive.new)) }
         ensures wants_turn { result ≡ Err EngineError.Archive → moving self.old nothing_left args.now ≡ Err NoTurn }
         ensures archive_fault { result ≡ Err EngineError.Archive → Rose (A.faults archive.old) (A.faults archive.new) }
         ensures later { A.faults archive.old ≤ A.faults archive.new }
     {
-        let [colour] = args else {
-            return Ok(Answer::Fail(Fail::Syntax));
-        };
-        let Some(colour) = read_colour(colour.as_slice()) else {
+        let Some(colour) = lone_colour(args) else {
             return Ok(Answer::Fail(Fail::Syntax));
         };
         if !may_move(self.game.board()) {
@@ -323,9 +323,13 @@ impl Engine {
     }
 
     /// Searches a move, hands the turn to the archive, and plays the move.
-    fn take_turn<A: Archive>(&mut self, colour: Colour, archive: &mut A) -> Result<Answer, EngineError>
+    fn take_turn<A: Archive>(
+        &mut self,
+        colour: Colour,
+        archive: &mut A,
+    ) -> Result<Answer, EngineError>
         requires { may_move (board_of self.old.game) ≡ true }
-        ensures reply { IfOk result (λ answer. (turn : Decision) × IsGood self.old.options turn × IsTrue (is_next self.old colour turn)
+        ensures reply { IfOk result (λ answer. (turn : Decision) × IsGood self.old.options turn × (is_next self.old colour turn ≡ true)
             × Both (A.told archive.old) (A.told archive.new) (λ o n. n ≡ o ++ turn ∷ []) × Reacts (turned self.old colour turn) answer self.new) }
         ensures err { OnErr result (self.new ≡ self.old) }
         ensures in_vain { OnErr result (Same (A.told archive.old) (A.told archive.new)) }
@@ -335,7 +339,8 @@ impl Engine {
         let turn = self.decide(colour)?;
         let cell = turn.cell();
         let report = report_text(self.alloc, &turn)?;
-        let answer = vertex_text(self.alloc, cell, self.game.board().size())?;
+        let mut vertex = Vec::new(self.alloc);
+        push_vertex(&mut vertex, cell, self.game.board().size())?;
         // A session has no room for more turns than this.
         let Some(turns) = self.turns.checked_add(1) else {
             return Err(EngineError::Memory);
@@ -346,18 +351,17 @@ impl Engine {
         self.game.play(colour, Move::Stone(cell)).unwrap();
         self.turns = turns;
         self.report = Some(report);
-        Ok(Answer::Done(answer))
+        Ok(Answer::Done(Bytes::of(vertex)))
     }
 
     /// The next turn: the search of the board with this colour to move, and its best cell.
-    fn decide(&self, colour: Colour) -> Result<Turn, EngineError>
+    fn decide(&self, colour: Colour) -> Result<Turn, Memory>
         requires { may_move (board_of self.now.game) ≡ true }
-        ensures { IfOk result (λ turn. IsGood self.now.options turn × IsTrue (is_next self.now colour turn)) }
-        ensures memory { (e : EngineError) → result ≡ Err e → e ≡ EngineError.Memory }
+        ensures { IfOk result (λ turn. IsGood self.now.options turn × (is_next self.now colour turn ≡ true)) }
     {
         let shape = turn_shape(self.game.board(), colour, &self.options, self.turns);
         let Ok(closed) = plain_search(self.alloc, &shape) else {
-            return Err(EngineError::Memory);
+            return Err(Memory);
         };
         Ok(Turn::of(closed, self.turns))
     }
@@ -365,7 +369,7 @@ impl Engine {
     /// `printsgf`.
     /// Fails: `syntax error`.
     /// Answers the record of the game (SGF FF[4]), without white space.
-    fn print(&self, args: &[Bytes]) -> Result<Answer, EngineError>
+    fn print(&self, args: &[Bytes]) -> Result<Answer, Memory>
         ensures { IfOk result (λ answer. Reacts (if_bare self.now args.now (stays self.now (Done (trees_print (record_of self.now.game))))) answer self.now) }
     {
         if !args.is_empty() {
@@ -377,9 +381,8 @@ impl Engine {
     /// `search-report`.
     /// Fails, in order: `syntax error`; `no search`.
     /// Answers the playouts of the last turn's search, and each child of its root with visits and wins.
-    fn tell_report(&self, args: &[Bytes]) -> Result<Answer, EngineError>
-        ensures ok { IfOk result (λ answer. Reacts (if_bare self.now args.now (reporting self.now self.now.report)) answer self.now) }
-        ensures memory { (e : EngineError) → result ≡ Err e → e ≡ EngineError.Memory }
+    fn tell_report(&self, args: &[Bytes]) -> Result<Answer, Memory>
+        ensures { IfOk result (λ answer. Reacts (if_bare self.now args.now (reporting self.now self.now.report)) answer self.now) }
     {
         if !args.is_empty() {
             return Ok(Answer::Fail(Fail::Syntax));
@@ -393,7 +396,7 @@ impl Engine {
     /// `showboard`.
     /// Fails: `syntax error`.
     /// Answers the board as text.
-    fn show(&self, args: &[Bytes]) -> Result<Answer, EngineError>
+    fn show(&self, args: &[Bytes]) -> Result<Answer, Memory>
         ensures { IfOk result (λ answer. Reacts (if_bare self.now args.now (stays self.now (Done (picture (board_of self.now.game))))) answer self.now) }
     {
         if !args.is_empty() {
@@ -405,7 +408,7 @@ impl Engine {
     /// `name`, `protocol_version`, `version` and `winner`.
     /// Fails: `syntax error`.
     /// Answers this text.
-    fn tell(&self, args: &[Bytes], text: &[u8]) -> Result<Answer, EngineError>
+    fn tell(&self, args: &[Bytes], text: &[u8]) -> Result<Answer, Memory>
         ensures { IfOk result (λ answer. Reacts (if_bare self.now args.now (stays self.now (Done text.now))) answer self.now) }
     {
         if !args.is_empty() {

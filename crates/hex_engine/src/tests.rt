@@ -1,15 +1,36 @@
 //! Each call once, with ample memory, and answers that no clause spells out byte by byte.
 
+ghost use Rattle.tree_words.specs.Settings.{AreInRange};
+
 use super::{Answer, Engine, Fail};
 use hex_cells::Size;
+use hex_io::{Bytes, File, MemShelf};
+use hex_plan::MemArchive;
 use htp_line::{Parsed, read_line};
 use std::alloc::Global;
 use std::process::Abort;
 use std::test::Fail as Failure;
+use tree_words::Knobs;
+
+/// The options of a command line that says nothing but one playout a move.
+fn options() -> Knobs
+    ensures { AreInRange result }
+{
+    Knobs {
+        workers: 1,
+        playouts: 1,
+        seed: 0,
+        words: 4_194_304,
+        expand: 8,
+        weight: 180,
+    }
+}
 
 fn check(
     rt: &(impl Abort + Alloc<A = Global>),
     engine: &mut Engine,
+    shelf: &mut MemShelf,
+    archive: &mut MemArchive,
     line: &[u8],
     want: &[u8],
 ) -> Result<(), Failure> {
@@ -20,7 +41,7 @@ fn check(
     let Parsed::Request(request) = parsed else {
         return Ok(());
     };
-    match engine.line(&request)? {
+    match engine.line(&request, shelf, archive)? {
         Answer::Done(text) => assert_eq!(rt; text.as_slice(), want),
         Answer::Quit => assert_eq!(rt; b"quits".as_slice(), want),
         Answer::Fail(fail) => assert_eq!(rt; fail.message().as_bytes(), want),
@@ -30,9 +51,17 @@ fn check(
 
 #[test]
 fn answers(rt: HostRuntime) -> Result<(), Failure> {
+    let alloc = rt.alloc();
     let size = Size::of(3).ok_or("a size")?;
-    let mut engine = Engine::make(rt.alloc(), size)?;
-    let table: [(&[u8], &[u8]); 16] = [
+    let mut engine = Engine::make(alloc, &options(), size)?;
+    let record = b"(;FF[4]GM[11]SZ[3]AP[Editor:0.9]C[a\\]b];B[a2];W[swap-pieces];B[c3])";
+    let file = File {
+        name: Bytes::of(b"g.sgf".to_vec(alloc)?),
+        content: Bytes::of(record.to_vec(alloc)?),
+    };
+    let mut shelf = MemShelf::make(alloc, vec![in alloc; file]?, vec![in alloc; 2u32]?)?;
+    let mut archive = MemArchive::make(alloc, 1)?;
+    let table: [(&[u8], &[u8]); 31] = [
         (b"showboard", b"\n   a b c\n 1 . . .\n  2 . . .\n   3 . . ."),
         (b"play b A1", b""),
         (b"play BLACK a1", b"illegal move"),
@@ -46,6 +75,30 @@ fn answers(rt: HostRuntime) -> Result<(), Failure> {
         (b"showboard", b"\n   a b c\n 1 W . .\n  2 . . .\n   3 . . ."),
         (b"winner now", b"syntax error"),
         (b"boardsize 0", b"unacceptable size"),
+        (b"loadsgf g.sgf", b""),
+        (
+            b"printsgf",
+            b"(;FF[4]GM[11]SZ[3];B[a2];W[swap-pieces];B[c3])",
+        ),
+        (b"loadsgf x", b"cannot load file"),
+        (b"loadsgf g.sgf", b"read fault"),
+        (b"loadsgf", b"syntax error"),
+        (b"loadsgf \xff", b"syntax error"),
+        (b"printsgf now", b"syntax error"),
+        (b"search-report", b"no search"),
+        (b"boardsize 2", b""),
+        (b"genmove", b"syntax error"),
+        (b"genmove b", b"a1"),
+        (
+            b"search-report",
+            b"playouts 1\na1 1 0\nb1 0 0\na2 0 0\nb2 0 0",
+        ),
+        (b"play b a2", b""),
+        (b"genmove w", b"game over"),
+        (
+            b"search-report",
+            b"playouts 1\na1 1 0\nb1 0 0\na2 0 0\nb2 0 0",
+        ),
         (b"boardsize 11 11", b""),
         (
             b"showboard",
@@ -54,9 +107,11 @@ fn answers(rt: HostRuntime) -> Result<(), Failure> {
         (b"quit", b"quits"),
     ];
     for (line, want) in table {
-        check(&rt, &mut engine, line, want)?;
+        check(&rt, &mut engine, &mut shelf, &mut archive, line, want)?;
     }
     assert!(rt; engine.game().steps().is_empty());
+    assert_eq!(rt; engine.turns(), 1);
+    assert_eq!(rt; archive.turns().len(), 1);
     assert_eq!(rt; Fail::NoUndo as u8, 6);
     Ok(())
 }

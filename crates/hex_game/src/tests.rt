@@ -25,6 +25,7 @@ fn a_short_game(rt: HostRuntime) -> Result<(), Fail> {
         )
         .is_ok()
     );
+    game.steps_are_legal();
     assert!(rt; game.undo().is_ok());
     assert!(rt; game.steps().is_empty());
     assert_eq!(rt; game.start().stones(Colour::Black).count(), 0);

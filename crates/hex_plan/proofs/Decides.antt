@@ -1,13 +1,11 @@
 -- What a closed tree decides.
-use Rattle.std.proofs.Common.{◌≡◌, ℕ, ◌+◌, ◌*◌, ◌<◌, true, List, get_or, length, sym, ap, ◌∙◌, subst, arith}
-use Rattle.std.specs.List.{filter}
+use Rattle.std.proofs.Common.{◌≡◌, ℕ, ◌*◌, ◌<◌, true, List, get_or, length, sym, ◌∙◌, subst, arith}
 use Rattle.hex_cells.specs.Sets.{has}
-use Rattle.hex_board.specs.Joined.{cells_of}
 use Rattle.hex_board.specs.Positions.{is_empty_at}
 use Rattle.tree_words.specs.Settings.{Setting, IsSetting}
 use Rattle.tree_words.specs.Complete.{allowed_cells}
 use Rattle.tree_words.specs.Closing.{IsClosed}
-use Rattle.tree_words.specs.Roots.{IsBest, HasRoot, row_at}
+use Rattle.tree_words.specs.Roots.{IsBest, HasRoot}
 use Rattle.tree_words.proofs.RootLaws.{has_root, filter_at}
 
 -- each allowed cell is in the set of those

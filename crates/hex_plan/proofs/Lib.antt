@@ -1,2 +1,4 @@
 pub mod Decides
+pub mod Reports
 pub mod Rooms
+pub mod Same

@@ -4,7 +4,7 @@ use Rattle.hex_cells.specs.declared.colours.Colour.{Colour}
 use Rattle.hex_board.specs.Joined.{winner_of}
 use Rattle.hex_board.specs.Positions.{Position, is_empty_at}
 use Rattle.tree_words.specs.declared.settings.Knobs.{Knobs}
-use Rattle.tree_words.specs.Settings.{Setting}
+use Rattle.tree_words.specs.Settings.{Setting, IsSetting}
 use Rattle.tree_words.specs.Closing.{ClosedTree, IsClosed}
 use Rattle.tree_words.specs.Complete.{HasEmpties}
 use Rattle.tree_words.specs.Roots.{IsBest}
@@ -30,9 +30,11 @@ pub record IsGood (options : Knobs) (t : Decision) : Type 0 where
   -- no player is joined on the turn's board, and the turn's cell is empty there
   pub nobody : winner_of t.board ≡ None
   pub empty : is_empty_at t.board t.cell ≡ true
-  -- the search was that of this turn, and its tree is closed
+  -- the search was that of this turn, its shape is one that can be searched, and its tree is closed
   pub shape : IsTurnShape options t.board t.player t.number t.closed.shape
+  pub setting : IsSetting t.closed.shape
   pub closed : IsClosed t.closed.shape t.closed.words
   -- the cell is the least among the cells of the root's children of most visits
   pub best : IsBest t.closed.shape t.closed.words t.cell
+  -- with one worker the tree is that of Seq
   pub sequential : IsSequential options t.closed

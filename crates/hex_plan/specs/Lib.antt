@@ -3,3 +3,4 @@ pub mod Openings
 pub mod Seeds
 pub mod Good
 pub mod Archived
+pub mod Reports

@@ -1,6 +1,6 @@
 //! Turns.
 
-ghost use Rattle.std.specs.Prelude.{◌≡◌, None, true};
+ghost use Rattle.std.specs.Prelude.{◌≡◌, ◌*◌, ◌<◌, None, true};
 ghost use Rattle.hex_board.specs.Joined.{winner_of};
 ghost use Rattle.hex_board.specs.Positions.{is_empty_at};
 ghost use Rattle.tree_words.specs.declared.settings.Knobs.{Knobs};
@@ -102,8 +102,10 @@ impl Turn {
     }
 
     /// The cell that was chosen: the least of those of the root's children with most visits, which is empty.
+    #[tactic(auto, using(crate::proofs::Rooms::on_board))]
     pub fn cell(&self) -> Cell
         ensures value { result ≡ self.now.cell }
+        ensures on_board { result < self.now.board.size * self.now.board.size }
         ensures empty { is_empty_at self.now.board result ≡ true }
         ensures best { IsBest self.now.closed.shape self.now.closed.words result }
     {

@@ -82,8 +82,8 @@ chosen_last p c place best most words y n e = ap (λ m. chosen_from p c place be
     none most best = grind arith
 
 -- the score of a child, told by its counts
-pub score_is : (p c v w a b n : ℕ) (x : Child) → v ≡ x.visits → w ≡ x.wins → a ≡ x.seen → b ≡ x.seen_wins → n ≡ score_of p v w a b c → n ≡ score_in p c x
-score_is p c v w a b n x hv hw ha hb e = e ∙ (λ i. score_of p (hv i) (hw i) (ha i) (hb i) c)
+pub score_is : (p c v w a b : ℕ) (x : Child) → v ≡ x.visits → w ≡ x.wins → a ≡ x.seen → b ≡ x.seen_wins → score_of p v w a b c ≡ score_in p c x
+score_is p c v w a b x hv hw ha hb i = score_of p (hv i) (hw i) (ha i) (hb i) c
 
 -- a child with visits is taken, or passed over
 pub taken : (p c place best most score : ℕ) (x : Child) (xs : List Child) → 0 < x.visits → score ≡ score_in p c x → most < score
@@ -97,10 +97,10 @@ taken p c place best most score x xs some is less =
     yes_less : (a b : ℕ) → a < b → nat_lt a b ≡ true
     yes_less a b l = grind arith
 
-pub passed : (p c place best most score : ℕ) (x : Child) (xs : List Child) → 0 < x.visits → score ≡ score_in p c x → score ≤ most
+pub passed : (p c place best most : ℕ) (x : Child) (xs : List Child) → 0 < x.visits → score_in p c x ≤ most
     → chosen_from p c place best most (x ∷ xs) ≡ chosen_from p c (place + 1) best most xs
-passed p c place best most score x xs some is less =
-    let t : nat_lt most (score_in p c x) ≡ false = ap (nat_lt most) (sym is) ∙ not_less most score less in
+passed p c place best most x xs some less =
+    let t : nat_lt most (score_in p c x) ≡ false = not_less most (score_in p c x) less in
     sym (chosen_later p c place best most x xs some)
     ∙ ap (λ u. cond u (chosen_from p c (place + 1) place (score_in p c x) xs) (chosen_from p c (place + 1) best most xs)) t
   where

@@ -1,26 +1,24 @@
 -- The counts along the way of a walk.
-use Rattle.std.proofs.Common.{◌≡◌, ◌≢◌, ◌⊎◌, ℕ, zero, suc, ◌+◌, ◌-◌, ◌*◌, ◌/◌, ◌%◌, ◌≤◌, ◌<◌, ◌^◌, Bool, true, false, cond, List, [], ◌∷◌, ◌++◌, length, set as set_at, length-set, get_or, get_or-set_same, get_or-set_other, slice_index, refl, sym, ap, ◌∙◌, subst, ⊎_elim, inl, inr, arith}
+use Rattle.std.proofs.Common.{◌≡◌, ◌≢◌, ℕ, ◌+◌, ◌≤◌, ◌<◌, ◌^◌, Bool, true, false, cond, List, [], ◌∷◌, ◌++◌, length, slice_index, refl, sym, ap, ◌∙◌, ⊎_elim, inl, inr, arith}
 use Rattle.std.specs.Prelude.{◌==◌}
 use Rattle.hex_cells.specs.Sets.{has as has_cell}
-use Rattle.hex_cells.specs.Colours.{other_of}
 use Rattle.hex_cells.specs.declared.colours.Colour.{Colour}
 use Rattle.hex_board.specs.Wins.{is_same}
 use Rattle.hex_board.specs.Positions.{stones_of}
 use Rattle.tree_words.specs.Settings.{Setting}
-use Rattle.tree_words.specs.Words.{Count, root_at, count_in, visits_in, wins_in, link_in, tally_in, seen_in, cell_in}
-use Rattle.tree_words.specs.Blocks.{LinkedBlock, one_if, child, has, place, cell_at, is_node, In, InOrder, Follows}
+use Rattle.tree_words.specs.Words.{Count, root_at, count_in, visits_in, wins_in, tally_in, seen_in}
+use Rattle.tree_words.specs.Blocks.{LinkedBlock, child, has, place, cell_at, is_node, In, InOrder}
 use Rattle.tree_words.specs.Paths.{Spot, first_spot, spot_after, mover_at, spot_of}
-use Rattle.tree_words.specs.Walks.{nothing, plus, Game}
-use Rattle.tree_words.specs.Trees.{down, oldest_first}
+use Rattle.tree_words.specs.Walks.{nothing, plus}
+use Rattle.tree_words.specs.Trees.{oldest_first}
 use Rattle.tree_words.specs.Sequence.{Outcome, one, gain_of, glimpse_of, game_of}
-use Rattle.tree_words.specs.Descents.{pick, adds_leaf, adds_inner, adds, sees_leaf, sees_inner, sees, Bare}
-use Rattle.tree_words.proofs.BlockLaws.{eq_of, same_is, other_is, bool_is, apart}
-use Rattle.tree_words.proofs.Down.{down-split, plus-nothing, not_both, never}
-use Rattle.tree_words.proofs.GameLaws.{in-node, fair_game}
-use Rattle.tree_words.proofs.Links.{down-bare, adds-link, sees-link, steps-link}
-use Rattle.seq_search.specs.Steps.{AtMost, Holds}
+use Rattle.tree_words.specs.Descents.{pick, adds_leaf, adds_inner, adds, sees_leaf, sees_inner, sees}
+use Rattle.tree_words.proofs.BlockLaws.{eq_of, other_is, apart}
+use Rattle.tree_words.proofs.Down.{down-split, not_both}
+use Rattle.tree_words.proofs.GameLaws.{in-node}
+use Rattle.seq_search.specs.Steps.{AtMost}
 use Rattle.seq_search.specs.Descending.{steps_below}
-use Rattle.seq_search.specs.Adding.{amount_of, node_of, Sighted, Counted}
+use Rattle.seq_search.specs.Adding.{amount_of}
 
 -- a count with one more, and the word that has it
 pub count-more : (n : ℕ) (t : Bool) → wins_in n + 1 < 2 ^ 32 → count_in (n + amount_of t) ≡ plus (count_in n) (one t)

@@ -1,25 +1,24 @@
 -- What stands after the leaf has got its block, or none.
-use Rattle.std.proofs.Common.{◌≡◌, ◌≢◌, ◌⊎◌, ℕ, zero, suc, ◌+◌, ◌-◌, ◌*◌, ◌/◌, ◌%◌, ◌^◌, ◌<◌, ◌≤◌, nat_lt, nat_le, Bool, true, false, cond, List, [], ◌∷◌, ◌++◌, length, set, get_or, get_or-set_same, get_or-set_other, refl, sym, ap, ◌∙◌, subst, ⊎_elim, inl, inr, arith}
+use Rattle.std.proofs.Common.{◌≡◌, ◌≢◌, ℕ, ◌+◌, ◌-◌, ◌*◌, ◌<◌, ◌≤◌, nat_lt, nat_le, Bool, true, false, cond, List, [], ◌∷◌, length, set, get_or, get_or-set_same, get_or-set_other, refl, sym, ap, ◌∙◌, subst, ⊎_elim, inl, inr, arith}
 use Rattle.std.specs.Prelude.{◌==◌, ◌&&◌, ◌||◌}
 use Rattle.std.proofs.Math.ListN.{length-set}
-use Rattle.std.proofs.lemmas.Bool.Decides.{nat_tests}
 use Rattle.std.proofs.lemmas.Bool.{cases_eq}
 use Rattle.tree_words.specs.Settings.{Setting, IsSetting}
 use Rattle.tree_words.specs.Words.{Count, count_in, root_at, area_at, end_of, next_in, tally_in, seen_in}
-use Rattle.tree_words.specs.Blocks.{LinkedBlock, size, covers, has, is_node, link_of, header_or_move, stays, cover, Follows, InOrder, In, Shows}
+use Rattle.tree_words.specs.Blocks.{LinkedBlock, size, covers, has, is_node, link_of, header_or_move, stays, Follows, In, Shows}
 use Rattle.tree_words.specs.Paths.{Spot, first_spot, spot_of, board_of}
-use Rattle.tree_words.specs.Complete.{HasEmpties, Complete, AreComplete, Linked, cells_below, allowed_cells}
-use Rattle.tree_words.specs.Growth.{most_words, root_end}
+use Rattle.tree_words.specs.Complete.{HasEmpties, Complete, AreComplete, allowed_cells}
+use Rattle.tree_words.specs.Growth.{most_words}
 use Rattle.tree_words.specs.Walks.{nothing, Game}
 use Rattle.tree_words.specs.Sequence.{Outcome, asks, gets_block, next_after, size_below, game_of}
 use Rattle.tree_words.specs.Trees.{oldest_first}
-use Rattle.tree_words.specs.Descents.{Config, ends, NewBlock, Widened, Fine, leaf_at, state_at, top, Out, Sprouts, Filled, Inside}
-use Rattle.tree_words.proofs.BlockLaws.{eq_of, same_is, other_is, bool_is, either_true, true_both, le_of, lt_of, covers_of, covers_if, has-at, not_both, apart}
+use Rattle.tree_words.specs.Descents.{NewBlock, Widened, Fine, leaf_at, state_at, top, Inside}
+use Rattle.tree_words.proofs.BlockLaws.{same_is, other_is, bool_is, either_true, true_both, le_of, lt_of, covers_of, covers_if, has-at, not_both, apart}
 use Rattle.tree_words.proofs.GameLaws.{fair_game, root_node}
 use Rattle.tree_words.proofs.Orders.{inside-node, rooted-turned}
 use Rattle.play_out.specs.Fills.{empties_of}
 use Rattle.seq_search.specs.Steps.{config_of, AtMost, Holds, KeepsRecords}
-use Rattle.seq_search.specs.Writing.{block_below, Links, LinksBelow, Grows}
+use Rattle.seq_search.specs.Writing.{block_below, Links, Grows}
 use Rattle.seq_search.proofs.Leaves.{Whole, root-out, sprouts-of, leaf-node, leaf-spot}
 use Rattle.seq_search.proofs.Asking.{size-most, spot-size, next-gets, next-vain, next-stays, state-count}
 use Rattle.seq_search.proofs.NodeLaws.{nodes-apart, stays-not, stays-clear, node-lies, link-none, cover-none, complete-more, ends-turned, under-root, leaf-vacant}

@@ -1,6 +1,6 @@
 -- Whether a leaf asks for a block.
-use Rattle.std.proofs.Common.{◌≡◌, ℕ, zero, suc, ◌+◌, ◌-◌, ◌*◌, ◌^◌, ◌<◌, ◌≤◌, nat_lt, nat_le, Bool, true, false, cond, List, [], ◌∷◌, ◌++◌, length, length-append, set, get_or, get_or-set_same, get_or-set_other, refl, sym, ap, ◌∙◌, subst, ⊎_elim, arith}
-use Rattle.std.specs.Prelude.{◌&&◌, ◌==◌}
+use Rattle.std.proofs.Common.{◌≡◌, ℕ, zero, suc, ◌+◌, ◌-◌, ◌*◌, ◌<◌, ◌≤◌, nat_lt, nat_le, Bool, true, false, cond, List, [], ◌∷◌, length, length-append, set, get_or, get_or-set_same, get_or-set_other, refl, sym, ap, ◌∙◌, subst, arith}
+use Rattle.std.specs.Prelude.{◌&&◌}
 use Rattle.std.specs.List.{filter, range_with_len}
 use Rattle.std.proofs.Math.ListN.{length-set}
 use Rattle.std.proofs.Math.Nat.{mul-le-mul}
@@ -12,9 +12,8 @@ use Rattle.hex_board.specs.Positions.{Position, is_empty_at}
 use Rattle.play_out.specs.Fills.{empties_of}
 use Rattle.tree_words.specs.Settings.{Setting}
 use Rattle.tree_words.specs.Words.{Count, end_of, next_in, tally_in}
-use Rattle.tree_words.specs.Blocks.{LinkedBlock, one_if, words_of, size, covers, stays, header_or_move}
+use Rattle.tree_words.specs.Blocks.{LinkedBlock, one_if, size, stays, header_or_move}
 use Rattle.tree_words.specs.Paths.{Spot}
-use Rattle.tree_words.specs.Complete.{HasEmpties}
 use Rattle.tree_words.specs.Sequence.{asks, gets_block, next_after, size_below}
 use Rattle.tree_words.proofs.BlockLaws.{not_both, true_both, lt_of}
 use Rattle.seq_search.specs.Writing.{listed, WritesBlock, Links, LinksBelow, Grows, block_below}

@@ -1,15 +1,15 @@
 -- The words of nodes, and the leaf of a walk.
-use Rattle.std.proofs.Common.{◌≡◌, ◌⊎◌, ℕ, zero, suc, ◌+◌, ◌-◌, ◌*◌, ◌%◌, ◌<◌, ◌≤◌, Bool, true, false, cond, List, [], ◌∷◌, ◌++◌, length, refl, sym, ap, ◌∙◌, subst, ⊎_elim, inl, inr, arith}
+use Rattle.std.proofs.Common.{◌≡◌, ◌⊎◌, ℕ, ◌+◌, ◌*◌, ◌%◌, ◌<◌, ◌≤◌, Bool, true, false, cond, List, [], ◌∷◌, ◌++◌, refl, sym, ap, ◌∙◌, subst, ⊎_elim, inl, inr, arith}
 use Rattle.std.specs.Prelude.{◌==◌, ◌||◌, nat_lt}
 use Rattle.std.proofs.lemmas.Bool.Decides.{nat_tests}
 use Rattle.tree_words.specs.Settings.{Setting}
 use Rattle.tree_words.specs.Words.{Count, root_at, area_at, end_of}
-use Rattle.tree_words.specs.Blocks.{LinkedBlock, one_if, size, covers, child, has, is_node, link_of, stays, cover, Follows, InOrder, In}
+use Rattle.tree_words.specs.Blocks.{LinkedBlock, one_if, size, covers, child, has, is_node, link_of, stays, cover, InOrder, In}
 use Rattle.tree_words.specs.Walks.{Game}
 use Rattle.tree_words.specs.Trees.{oldest_first}
-use Rattle.tree_words.specs.Complete.{Complete, AreComplete}
+use Rattle.tree_words.specs.Complete.{AreComplete}
 use Rattle.tree_words.specs.Descents.{pick, leaf_inner, leaf_at, top, Out, Sprouts, EndsBy, Rooted, Bare, Inside}
-use Rattle.tree_words.proofs.BlockLaws.{eq_of, other_is, bool_is, either_true, covers_of, covers_if, has-at, has-covers, cover-cons, node-apart, apart, not_both}
+use Rattle.tree_words.proofs.BlockLaws.{eq_of, other_is, bool_is, either_true, covers_of, covers_if, has-at, has-covers, cover-cons, node-apart, not_both}
 use Rattle.tree_words.proofs.Down.{Fair, child-has, pick-in, down-here, down-else, top-out, top-past}
 use Rattle.tree_words.proofs.Expands.{leaf-top}
 use Rattle.tree_words.proofs.WalkLaws.{ends-snoc}

@@ -1,7 +1,6 @@
 -- The opening words hold the first tree.
-use Rattle.std.proofs.Common.{◌≡◌, ◌⊎◌, ℕ, zero, suc, ◌+◌, ◌-◌, ◌*◌, ◌/◌, ◌%◌, ◌^◌, ◌<◌, ◌≤◌, nat_lt, nat_le, Bool, true, false, cond, List, [], ◌∷◌, length, get_or, refl, sym, ap, ◌∙◌, subst, ⊎_elim, inl, inr, arith}
+use Rattle.std.proofs.Common.{◌≡◌, ◌⊎◌, ℕ, suc, ◌+◌, ◌-◌, ◌*◌, ◌<◌, ◌≤◌, Bool, true, false, cond, List, [], ◌∷◌, length, get_or, refl, sym, ap, ◌∙◌, subst, ⊎_elim, inl, inr, arith}
 use Rattle.std.specs.Prelude.{◌==◌, ◌&&◌, ◌||◌}
-use Rattle.std.proofs.lemmas.Bool.Decides.{nat_tests}
 use Rattle.std.proofs.lemmas.Bool.{cases_lt}
 use Rattle.std.proofs.lemmas.List.{get_or_past}
 use Rattle.hex_cells.specs.Sets.{has as has_cell}
@@ -9,21 +8,20 @@ use Rattle.hex_board.specs.Positions.{Position, is_empty_at}
 use Rattle.play_out.specs.Fills.{empties_of}
 use Rattle.tree_words.specs.Settings.{Setting, IsSetting}
 use Rattle.tree_words.specs.Words.{Count, count_in, cell_in, root_at, area_at, end_of, next_in, tally_in, seen_in}
-use Rattle.tree_words.specs.Blocks.{LinkedBlock, size, words_of, covers, child, has, is_node, link_of, header_or_move, stays, Follows, In, Shows}
-use Rattle.tree_words.specs.Paths.{first_spot}
-use Rattle.tree_words.specs.Complete.{HasEmpties, Complete, AreComplete, Linked, cells_below, allowed_cells}
-use Rattle.tree_words.specs.Growth.{most_words, root_end}
+use Rattle.tree_words.specs.Blocks.{LinkedBlock, size, covers, has, is_node, header_or_move, stays, Follows, In, Shows}
+use Rattle.tree_words.specs.Complete.{HasEmpties, Complete, allowed_cells}
+use Rattle.tree_words.specs.Growth.{root_end}
 use Rattle.tree_words.specs.Opening.{root_block, opening_word}
-use Rattle.tree_words.specs.Walks.{nothing, Tree, node, Children, done, more, fresh}
+use Rattle.tree_words.specs.Walks.{nothing, Tree, node, done, more, fresh}
 use Rattle.tree_words.specs.Sequence.{first_tree}
 use Rattle.tree_words.specs.Trees.{row_of, tree_leaf, tree_inner, tree_at, tree_of, oldest_first}
-use Rattle.tree_words.specs.Descents.{tree_in, Filled}
-use Rattle.tree_words.proofs.BlockLaws.{eq_of, same_is, other_is, bool_is, either_true, true_both, lt_of, covers_of, covers_if, has-at, not_both}
+use Rattle.tree_words.specs.Descents.{tree_in}
+use Rattle.tree_words.proofs.BlockLaws.{eq_of, same_is, other_is, either_true, true_both, lt_of, covers_of, covers_if, has-at, not_both}
 use Rattle.tree_words.proofs.Down.{child-has, down-here}
-use Rattle.tree_words.proofs.RootLaws.{filter_some, few_cells}
+use Rattle.tree_words.proofs.RootLaws.{filter_some}
 use Rattle.seq_search.specs.Steps.{config_of, AtMost, Holds}
 use Rattle.seq_search.proofs.NodeLaws.{stays-not}
-use Rattle.seq_search.proofs.Openings.{few-allowed, root-fits}
+use Rattle.seq_search.proofs.Openings.{root-fits}
 
 on_the_board : (p : Position) (k : ℕ) → is_empty_at p k ≡ true → k < p.size * p.size
 on_the_board p k e = lt_of _ _ (true_both _ _ ((true_both _ _ e).0)).0

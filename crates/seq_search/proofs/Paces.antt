@@ -1,5 +1,5 @@
 -- One pace of the adds: the counts of a node, and the seen words of the block below it.
-use Rattle.std.proofs.Common.{◌≡◌, ◌≢◌, ◌⊎◌, ℕ, zero, suc, ◌+◌, ◌-◌, ◌*◌, ◌/◌, ◌%◌, ◌≤◌, ◌<◌, ◌^◌, Bool, true, false, cond, List, [], ◌∷◌, ◌++◌, length, drop, set as set_at, length-set, get_or, get_or-set_same, get_or-set_other, slice_index, refl, sym, ap, ◌∙◌, subst, ⊎_elim, inl, inr, arith}
+use Rattle.std.proofs.Common.{◌≡◌, ◌≢◌, ℕ, ◌+◌, ◌*◌, ◌≤◌, ◌<◌, ◌^◌, Bool, true, false, cond, List, [], ◌∷◌, length, drop, set as set_at, length-set, get_or, get_or-set_same, get_or-set_other, slice_index, refl, sym, ap, ◌∙◌, subst, ⊎_elim, arith}
 use Rattle.std.specs.Prelude.{◌==◌}
 use Rattle.std.proofs.lemmas.List.{drop_more, get_or-take, length-take-le}
 use Rattle.std.proofs.Math.Seq.{drop-length}
@@ -7,19 +7,19 @@ use Rattle.hex_cells.specs.Sets.{has as has_cell}
 use Rattle.hex_cells.specs.Colours.{other_of}
 use Rattle.hex_cells.specs.declared.colours.Colour.{Colour}
 use Rattle.hex_board.specs.Wins.{is_same}
-use Rattle.hex_board.specs.Positions.{Position, stones_of, is_empty_at}
+use Rattle.hex_board.specs.Positions.{stones_of}
 use Rattle.tree_words.specs.Settings.{Setting, IsSetting}
-use Rattle.tree_words.specs.Words.{Count, root_at, count_in, visits_in, wins_in, link_in, tally_in, seen_in, cell_in, move_of}
-use Rattle.tree_words.specs.Blocks.{LinkedBlock, one_if, words_of, size, child, has, place, cell_at, is_node, In, InOrder}
+use Rattle.tree_words.specs.Words.{Count, root_at, count_in, wins_in, link_in, tally_in, seen_in, cell_in, move_of}
+use Rattle.tree_words.specs.Blocks.{LinkedBlock, words_of, child, has, place, cell_at, is_node, In, InOrder}
 use Rattle.tree_words.specs.Paths.{Spot, first_spot, spot_after, mover_at, spot_of, board_of}
 use Rattle.tree_words.specs.Complete.{cells_below}
-use Rattle.tree_words.specs.Walks.{nothing, plus, Game}
+use Rattle.tree_words.specs.Walks.{nothing, plus}
 use Rattle.tree_words.specs.Trees.{oldest_first}
 use Rattle.tree_words.specs.Sequence.{Outcome, one, gain_of, glimpse_of, game_of}
 use Rattle.tree_words.specs.Descents.{pick, adds_leaf, adds_inner, adds, sees_leaf, sees_inner, sees, steps_inner, Bare}
-use Rattle.tree_words.proofs.BlockLaws.{eq_of, same_is, other_is, bool_is, has-at}
+use Rattle.tree_words.proofs.BlockLaws.{eq_of, same_is, bool_is, has-at}
 use Rattle.tree_words.proofs.Down.{plus-nothing, not_both, never, child-has, pick-in}
-use Rattle.tree_words.proofs.GameLaws.{in-node, root_node, fair_game}
+use Rattle.tree_words.proofs.GameLaws.{root_node, fair_game}
 use Rattle.tree_words.proofs.Links.{down-bare, adds-link, sees-link, steps-link}
 use Rattle.tree_words.proofs.Orders.{rooted-turned, link-bare}
 use Rattle.seq_search.specs.Steps.{AtMost, Holds}

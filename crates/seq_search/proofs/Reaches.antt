@@ -1,10 +1,9 @@
 -- The way of a walk to a leaf that has got its block before.
-use Rattle.std.proofs.Common.{◌≡◌, ◌≢◌, ◌⊎◌, ℕ, ◌+◌, ◌<◌, ◌≤◌, Bool, true, false, List, length, get_or, refl, sym, ap, ◌∙◌, subst, ⊎_elim, arith}
+use Rattle.std.proofs.Common.{◌≡◌, ℕ, ◌+◌, ◌<◌, ◌≤◌, true, false, List, length, get_or, sym, ap, ◌∙◌, ⊎_elim, arith}
 use Rattle.tree_words.specs.Settings.{Setting, IsSetting}
-use Rattle.tree_words.specs.Words.{Count, count_in, root_at, area_at, end_of, next_in, tally_in, seen_in, link_in}
-use Rattle.tree_words.specs.Blocks.{LinkedBlock, is_node, link_of}
-use Rattle.tree_words.specs.Paths.{Spot, first_spot, spot_of}
-use Rattle.tree_words.specs.Growth.{most_words, root_end}
+use Rattle.tree_words.specs.Words.{Count, count_in, root_at, area_at, end_of, next_in, tally_in, seen_in}
+use Rattle.tree_words.specs.Blocks.{LinkedBlock, link_of}
+use Rattle.tree_words.specs.Paths.{Spot, first_spot}
 use Rattle.tree_words.specs.Sequence.{gets_block, game_of}
 use Rattle.tree_words.specs.Trees.{oldest_first}
 use Rattle.tree_words.specs.Descents.{leaf_at, state_at, steps_at}

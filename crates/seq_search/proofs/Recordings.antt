@@ -1,17 +1,15 @@
 -- What stands after the adds and the record.
-use Rattle.std.proofs.Common.{◌≡◌, ◌≢◌, ◌⊎◌, ℕ, zero, suc, ◌+◌, ◌-◌, ◌*◌, ◌/◌, ◌%◌, ◌^◌, ◌<◌, ◌≤◌, Bool, true, false, cond, List, [], ◌∷◌, length, set, get_or, get_or-set_same, get_or-set_other, refl, sym, ap, ◌∙◌, subst, ⊎_elim, inl, inr, arith}
+use Rattle.std.proofs.Common.{◌≡◌, ◌≢◌, ℕ, ◌+◌, ◌<◌, ◌≤◌, Bool, true, cond, List, [], ◌∷◌, set, get_or, get_or-set_same, get_or-set_other, refl, sym, ap, ◌∙◌, subst, ⊎_elim, arith}
 use Rattle.std.proofs.Math.ListN.{length-set}
 use Rattle.tree_words.specs.Settings.{Setting}
-use Rattle.tree_words.specs.Words.{Count, count_in, root_at, area_at, end_of, next_in, record_in, tally_in, seen_in}
-use Rattle.tree_words.specs.Blocks.{LinkedBlock, size, child, has, place, cell_at, is_node, In, InOrder, Shows, stays, header_or_move}
-use Rattle.tree_words.specs.Paths.{Spot, first_spot, spot_after}
+use Rattle.tree_words.specs.Words.{Count, count_in, root_at, area_at, end_of, next_in, tally_in, seen_in}
+use Rattle.tree_words.specs.Blocks.{LinkedBlock, child, place, cell_at, is_node, In}
+use Rattle.tree_words.specs.Paths.{Spot, first_spot}
 use Rattle.tree_words.specs.Complete.{AreComplete}
-use Rattle.tree_words.specs.Growth.{root_end}
 use Rattle.tree_words.specs.Walks.{nothing, plus, Game}
 use Rattle.tree_words.specs.Sequence.{Outcome, game_of}
 use Rattle.tree_words.specs.Trees.{oldest_first}
-use Rattle.tree_words.specs.Descents.{Config, Added, pick, adds, sees_leaf, sees_inner, sees, top, Out, Inside}
-use Rattle.tree_words.proofs.BlockLaws.{bool_is}
+use Rattle.tree_words.specs.Descents.{Added, pick, adds, sees_leaf, sees_inner, sees, top, Out, Inside}
 use Rattle.tree_words.proofs.Down.{down-split}
 use Rattle.tree_words.proofs.GameLaws.{root_node}
 use Rattle.tree_words.proofs.Orders.{inside-node}

@@ -1,5 +1,5 @@
 -- A search from its opening words to its end.
-use Rattle.std.proofs.Common.{◌≡◌, ℕ, suc, ◌+◌, ◌*◌, ◌<◌, ◌≤◌, add-one, List, [], ◌∷◌, length, set, get_or, get_or-set_same, get_or-set_other, refl, sym, ap, ◌∙◌, subst, arith}
+use Rattle.std.proofs.Common.{◌≡◌, ℕ, ◌+◌, ◌*◌, ◌<◌, add-one, List, [], ◌∷◌, length, set, get_or, get_or-set_same, get_or-set_other, refl, sym, ap, ◌∙◌, arith}
 use Rattle.std.proofs.Math.ListN.{length-set}
 use Rattle.hex_cells.specs.declared.colours.Colour.{Colour}
 use Rattle.hex_cells.specs.declared.colours.Colour.TheVariants.{White}
@@ -7,22 +7,19 @@ use Rattle.hex_board.specs.Wins.{is_same}
 use Rattle.hex_board.specs.Positions.{Position}
 use Rattle.play_out.specs.Fills.{filled, playout_of}
 use Rattle.tree_words.specs.Settings.{Setting, IsSetting}
-use Rattle.tree_words.specs.Words.{Count, root_at, end_of, next_in, tally_in, seen_in, ticket_in, leaf_in, winner_in}
+use Rattle.tree_words.specs.Words.{Count, root_at, end_of, next_in, tally_in}
 use Rattle.tree_words.specs.Blocks.{LinkedBlock, one_if}
 use Rattle.tree_words.specs.Paths.{Spot, first_spot}
-use Rattle.tree_words.specs.Complete.{HasEmpties}
 use Rattle.tree_words.specs.Opening.{root_block, opening_word, AreOpening}
-use Rattle.tree_words.specs.Growth.{root_end}
 use Rattle.tree_words.specs.Closing.{IsClosed}
 use Rattle.tree_words.specs.Walks.{Tree, Game, walk, walks}
 use Rattle.tree_words.specs.Sequence.{Outcome, outcome_of, game_of, first_tree, seq_of}
-use Rattle.tree_words.specs.Trees.{oldest_first, IsTreeOf, tree_of}
-use Rattle.tree_words.specs.Descents.{Config, tree_in, ends, Added, leaf_at}
+use Rattle.tree_words.specs.Trees.{IsTreeOf}
+use Rattle.tree_words.specs.Descents.{tree_in, ends, Added}
 use Rattle.tree_words.proofs.GameLaws.{fair_game}
 use Rattle.tree_words.proofs.WalkLaws.{walk-tree}
 use Rattle.seq_search.specs.Steps.{config_of, Holds, Records}
-use Rattle.seq_search.specs.Standing.{Standing}
-use Rattle.seq_search.specs.Descending.{Descended, spot_in}
+use Rattle.seq_search.specs.Descending.{spot_in}
 use Rattle.seq_search.specs.Searching.{Searched, Reached}
 use Rattle.seq_search.specs.declared.descending.Descent.{Descent}
 use Rattle.seq_search.proofs.Standings.{standing-opening, closed-of}

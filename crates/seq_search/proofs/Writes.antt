@@ -10,7 +10,7 @@ use Rattle.std.proofs.lemmas.List.FromFn.{length-range_with_len}
 use Rattle.std.proofs.lemmas.List.Sums.{length-filter, count_by-le-length}
 use Rattle.hex_cells.specs.Sets.{has as has_cell}
 use Rattle.tree_words.specs.Words.{move_of}
-use Rattle.tree_words.specs.Blocks.{LinkedBlock, size, covers, has, place, cell_at, stays, header_or_move}
+use Rattle.tree_words.specs.Blocks.{LinkedBlock, covers, has, place, cell_at, stays, header_or_move}
 use Rattle.tree_words.proofs.BlockLaws.{bool_is, has-at, has-here, move-word}
 use Rattle.seq_search.specs.Writing.{WritesMoves, WritesBlock}
 

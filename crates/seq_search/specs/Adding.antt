@@ -2,7 +2,7 @@
 use Rattle.std.specs.Prelude.{◌≡◌, ◌≢◌, ℕ, ◌+◌, ◌*◌, ◌^◌, ◌<◌, if◌then◌else◌, Bool, true, List, length, slice_index}
 use Rattle.hex_cells.specs.Sets.{has as has_cell}
 use Rattle.tree_words.specs.Settings.{Setting}
-use Rattle.tree_words.specs.Words.{Count, root_at, cell_in, tally_in, seen_in}
+use Rattle.tree_words.specs.Words.{root_at, cell_in, tally_in, seen_in}
 use Rattle.tree_words.specs.Blocks.{LinkedBlock, one_if, is_node}
 use Rattle.tree_words.specs.Paths.{first_spot}
 use Rattle.tree_words.specs.Walks.{plus}

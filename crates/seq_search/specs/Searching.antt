@@ -1,8 +1,8 @@
 -- What a search keeps from walk to walk.
-use Rattle.std.specs.Prelude.{◌≡◌, ℕ, ◌<◌, ◌≤◌, List}
+use Rattle.std.specs.Prelude.{◌≡◌, ℕ, List}
 use Rattle.tree_words.specs.Settings.{Setting}
 use Rattle.tree_words.specs.Words.{root_at, next_in, ticket_in}
-use Rattle.tree_words.specs.Blocks.{LinkedBlock, link_of}
+use Rattle.tree_words.specs.Blocks.{LinkedBlock}
 use Rattle.tree_words.specs.Paths.{first_spot}
 use Rattle.tree_words.specs.Walks.{walks}
 use Rattle.tree_words.specs.Sequence.{game_of, first_tree}

@@ -1,5 +1,5 @@
 -- The writes of a new block.
-use Rattle.std.specs.Prelude.{◌≡◌, ℕ, ◌+◌, ◌-◌, ◌*◌, ◌<◌, ◌≤◌, ◌&&◌, if◌then◌else◌, Bool, true, false, List, length, slice_index, slice_set}
+use Rattle.std.specs.Prelude.{◌≡◌, ℕ, ◌+◌, ◌-◌, ◌≤◌, ◌&&◌, if◌then◌else◌, true, false, List, length, slice_index, slice_set}
 use Rattle.std.specs.List.{filter}
 use Rattle.hex_cells.specs.Sets.{has as has_cell}
 use Rattle.hex_board.specs.Joined.{cells_of}
@@ -8,7 +8,7 @@ use Rattle.tree_words.specs.Words.{move_of, next_in, tally_in}
 use Rattle.tree_words.specs.Blocks.{LinkedBlock, size, covers, has, place, cell_at, stays, header_or_move}
 use Rattle.tree_words.specs.Complete.{HasEmpties}
 use Rattle.tree_words.specs.Paths.{Spot}
-use Rattle.tree_words.specs.Sequence.{asks, gets_block, next_after}
+use Rattle.tree_words.specs.Sequence.{gets_block, next_after}
 use Rattle.play_out.specs.Fills.{empties_of}
 
 -- the cells of the set on a board of this size, in rising order

@@ -7,7 +7,7 @@ ghost use Rattle.seq_search.specs.Choosing.{children_in, CanBeScored};
 
 use super::layout::{COUNT_WORD, NODE_WORDS, SEEN_WORD, TALLY_WORD};
 use tree_words::{visits_of, wins_of};
-use uct_table::score;
+use uct_table::score_above;
 
 /// The place of the node of a block that Choice takes: the first without visits, or else the first of the greatest score.
 /// `block` is the block's first word, and `visits` are the parent's, at most 1,048,576 like all counts of the block.
@@ -29,7 +29,8 @@ pub(crate) fn choose(words: &[u64], block: usize, visits: u32, weight: u32) -> u
             return place;
         }
         let seen = words[at + SEEN_WORD];
-        let score = score(
+        let above = score_above(
+            most,
             visits,
             own,
             wins_of(tally),
@@ -37,7 +38,7 @@ pub(crate) fn choose(words: &[u64], block: usize, visits: u32, weight: u32) -> u
             wins_of(seen),
             weight,
         );
-        if most < score {
+        if let Some(score) = above {
             most = score;
             best = place;
         }

@@ -1,5 +1,8 @@
 //! The trees of small searches, against those that another program computed from the rules alone.
 
+ghost use Rattle.std.specs.Prelude.{IfSome};
+ghost use Rattle.tree_words.specs.Settings.{AreEmpty, IsAny};
+
 use super::plain_search;
 use hex_board::Board;
 use hex_cells::{CellSet, Colour, Size};
@@ -31,6 +34,19 @@ fn set_of(size: Size, bits: u32) -> CellSet {
     set
 }
 
+// The empty cells of the board whose bits are set, or else all; `None` where the board is full.
+fn allowed_on(board: &Board, bits: u32) -> Option<CellSet>
+    ensures { IfSome result (λ set. IsAny set × AreEmpty set board.now) }
+{
+    let named = set_of(board.size(), bits).meet(board.empties());
+    if named.least().is_some() {
+        return Some(named);
+    }
+    let all = board.empties();
+    all.least()?;
+    Some(all)
+}
+
 // The shape of a search, where its numbers are in their ranges.
 fn shape_of(search: &Search) -> Option<Shape> {
     let &(number, black, white, allowed, colour, [playouts, seed, words, expand, weight]) = search;
@@ -39,12 +55,7 @@ fn shape_of(search: &Search) -> Option<Shape> {
     let white = set_of(size, white).minus(black);
     let all = CellSet::all(size);
     let board = Board::of(size, black.meet(all), white.meet(all));
-    let named = set_of(size, allowed).meet(board.empties());
-    let allowed = if named.is_empty() {
-        board.empties()
-    } else {
-        named
-    };
+    let allowed = allowed_on(&board, allowed)?;
     let in_range = 1 <= playouts
         && playouts <= 1_000_000
         && 1_024 <= words
@@ -52,7 +63,7 @@ fn shape_of(search: &Search) -> Option<Shape> {
         && 1 <= expand
         && expand <= 1_000
         && weight <= 1_024;
-    if allowed.is_empty() || !in_range {
+    if !in_range {
         return None;
     }
     let knobs = Knobs {
@@ -88,6 +99,22 @@ fn blocks_from(closed: &Closed, first: u64) -> u32 {
 // A tally or a seen word.
 fn counts(visits: u64, wins: u64) -> u64 {
     visits.wrapping_mul(1 << 32).wrapping_add(wins)
+}
+
+// Whether the nodes one after another, the first of which begins at this word, have these counts, and blocks where they say so.
+fn has_children(closed: &Closed, first: u64, children: &[Child]) -> bool {
+    let mut at = first;
+    for &(visits, wins, seen, seen_wins, is_parent) in children {
+        let link = word(closed, at.wrapping_add(1)).unwrap_or(0);
+        if (link != 0) != is_parent
+            || word(closed, at.wrapping_add(2)) != Some(counts(visits, wins))
+            || word(closed, at.wrapping_add(3)) != Some(counts(seen, seen_wins))
+        {
+            return false;
+        }
+        at = at.wrapping_add(4);
+    }
+    true
 }
 
 #[test]
@@ -336,22 +363,10 @@ fn trees(rt: HostRuntime) -> Result<(), Fail> {
         assert_eq!(rt; word(&closed, 0), Some(next));
         assert_eq!(rt; blocks_from(&closed, root.wrapping_add(4)), blocks);
         assert_eq!(rt; best(&closed).number(), cell);
-        let mut at = root.wrapping_add(8);
-        for &(visits, wins, seen, seen_wins, is_parent) in children {
-            assert_eq!(rt;
-                word(&closed, at.wrapping_add(1)).map(|link| link != 0),
-                Some(is_parent)
-            );
-            assert_eq!(rt;
-                word(&closed, at.wrapping_add(2)),
-                Some(counts(visits, wins))
-            );
-            assert_eq!(rt;
-                word(&closed, at.wrapping_add(3)),
-                Some(counts(seen, seen_wins))
-            );
-            at = at.wrapping_add(4);
-        }
+        assert!(rt;
+            has_children(&closed, root.wrapping_add(8), children),
+            "the children of a root with {visits} visits and {wins} wins"
+        );
     }
     Ok(())
 }
@@ -420,16 +435,9 @@ fn large_trees(rt: HostRuntime) -> Result<(), Fail> {
         assert_eq!(rt; blocks_from(&closed, root.wrapping_add(4)), blocks);
         assert_eq!(rt; best(&closed).number(), cell);
         assert_eq!(rt; seen_of(&closed, first.wrapping_add(3), 121), seen);
-        for (place, (visits, wins, seen, seen_wins, _)) in children {
+        for (place, child) in children {
             let at = first.wrapping_add(place.wrapping_mul(4));
-            assert_eq!(rt;
-                word(&closed, at.wrapping_add(2)),
-                Some(counts(visits, wins))
-            );
-            assert_eq!(rt;
-                word(&closed, at.wrapping_add(3)),
-                Some(counts(seen, seen_wins))
-            );
+            assert!(rt; has_children(&closed, at, &[child]), "cell {place}");
         }
     }
     Ok(())

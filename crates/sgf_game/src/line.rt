@@ -29,6 +29,7 @@ pub fn ends(text: &[u8]) -> bool
     spells(text, b"resign") || spells(text, b"forfeit")
 }
 
+/// Whether one of the values of B or W ends the line.
 fn holds_end(values: &[Bytes]) -> bool
     ensures { (colour : Colour) → result ≡ has_end (map (entry colour) values.now) }
 {

@@ -82,6 +82,19 @@ fn refused(rt: HostRuntime) -> Result<(), Fail> {
 }
 
 #[test]
+fn sixty_four_deep(rt: HostRuntime) -> Result<(), Fail> {
+    let mut text = Vec::new(rt.alloc());
+    for _ in 0..64 {
+        text.extend_from_slice(b"(;")?;
+    }
+    for _ in 0..64 {
+        text.push(b')')?;
+    }
+    assert_eq!(rt; read(rt.alloc(), &text).err(), Some(GameError::NotHex));
+    Ok(())
+}
+
+#[test]
 fn read_and_written(rt: HostRuntime) -> Result<(), Fail> {
     let cases: [(&[u8], &[u8]); 14] = [
         (

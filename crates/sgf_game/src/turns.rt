@@ -60,6 +60,7 @@ fn has_one_move(node: &Node) -> bool
     found
 }
 
+/// Adds a turn for each value; where they are not alone in their node, it says nothing.
 fn push_values(
     turns: &mut Vec<Turn>,
     colour: Colour,
@@ -81,6 +82,7 @@ fn push_values(
     Ok(())
 }
 
+/// Adds a turn for each move of the node.
 fn push_node(turns: &mut Vec<Turn>, node: &Node, size: Size) -> Result<(), AllocError>
     ensures { OnOk result (turns.new.items ≡ turns.old.items ++ turns_in size node.now) }
 {

@@ -14,6 +14,7 @@ fn is_space(byte: u8) -> bool
     9 <= byte && byte <= 13 || byte == 32
 }
 
+/// The text without the white space at its front.
 fn without_front_space(text: &[u8]) -> &[u8]
     ensures { result.now ≡ without_front_space text.now }
 {
@@ -27,6 +28,7 @@ fn without_front_space(text: &[u8]) -> &[u8]
     rest
 }
 
+/// The text without the white space at its end.
 fn without_back_space(text: &[u8]) -> &[u8]
     ensures { result.now ≡ reverse (without_front_space (reverse text.now)) }
 {

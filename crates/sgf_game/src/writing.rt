@@ -45,6 +45,7 @@ fn record_is_read_back(game: &Game)
     game.steps_are_legal();
 }
 
+/// The record of a game, or that memory ran out.
 fn record_of(alloc: Global, game: &Game) -> Result<Collection, AllocError>
     ensures { IfOk result (λ c. c.trees ≡ record_of game.now) }
 {

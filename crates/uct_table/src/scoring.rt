@@ -1,6 +1,6 @@
 //! The level, the root and the score.
 
-ghost use Rattle.std.specs.Prelude.{◌≡◌, ◌+◌, ◌*◌, ◌/◌, ◌^◌, ◌<◌, ◌≤◌, ◌==◌, if◌then◌else◌, nat_lt, IsTrue};
+ghost use Rattle.std.specs.Prelude.{◌≡◌, ◌+◌, ◌*◌, ◌/◌, ◌^◌, ◌<◌, ◌≤◌, ◌==◌, if◌then◌else◌, IsTrue};
 ghost use Rattle.uct_table.specs.Scores.{isqrt, level_of, share_of, mean_of, bonus_of, score_of};
 
 use std::num::{nearest_u64_to_f64, saturating_f64_to_u64};
@@ -97,26 +97,10 @@ pub fn mean(v: u32, w: u32, a: u32, b: u32) -> u64
 /// [`is_mean_at_most`] fit.
 const FLOOR_LIMIT: u64 = 1 << 20;
 
-/// Whether the mean is above `floor`.
-pub fn is_mean_above(floor: u64, v: u32, w: u32, a: u32, b: u32) -> bool
-    requires visited { 1 ≤ v }
-    requires visits { v ≤ 1048576 }
-    requires wins { w ≤ 1048576 }
-    requires seen { a ≤ 1048576 }
-    requires seen_wins { b ≤ 1048576 }
-    ensures { result ≡ nat_lt floor (mean_of v w a b) }
-{
-    if floor < FLOOR_LIMIT && is_mean_at_most(floor, v, w, a, b) {
-        return false;
-    }
-    floor < mean(v, w, a, b)
-}
-
 /// Whether the mean would be at most `floor` if none of its parts were rounded down; so the mean
-/// is. Told by products alone.
+/// is. Told by products alone; no floor of [`FLOOR_LIMIT`] or more is told.
 #[tactic(auto, using(crate::proofs::Means::mean_is_low))]
-fn is_mean_at_most(floor: u64, v: u32, w: u32, a: u32, b: u32) -> bool
-    requires floor { floor < 1048576 }
+pub fn is_mean_at_most(floor: u64, v: u32, w: u32, a: u32, b: u32) -> bool
     requires visited { 1 ≤ v }
     requires visits { v ≤ 1048576 }
     requires wins { w ≤ 1048576 }
@@ -124,6 +108,9 @@ fn is_mean_at_most(floor: u64, v: u32, w: u32, a: u32, b: u32) -> bool
     requires seen_wins { b ≤ 1048576 }
     ensures { IsTrue result → mean_of v w a b ≤ floor }
 {
+    if floor >= FLOOR_LIMIT {
+        return false;
+    }
     let seen = u64::from(a);
     let won = u64::from(w) * seen + SEEN_WEIGHT * u64::from(b);
     SHARE_PARTS * won < (floor + 1) * ((u64::from(v) + SEEN_WEIGHT) * seen)

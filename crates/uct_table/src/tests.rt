@@ -1,6 +1,6 @@
 //! Values that were computed elsewhere from the formulas.
 
-use super::{better, going_through_gives_choice, is_score_above, level, root, score};
+use super::{better, going_through_gives_choice, level, root, score, score_above};
 
 #[test]
 fn levels(rt: HostRuntime) {
@@ -71,8 +71,8 @@ fn scores(rt: HostRuntime) {
         assert!(rt; p <= 1_048_576 && v <= 1_048_576 && w <= 1_048_576);
         assert!(rt; a <= 1_048_576 && b <= 1_048_576);
         assert_eq!(rt; score(p, v, w, a, b, c), want, "at {p} {v} {w} {a} {b} {c}");
-        assert!(rt; !is_score_above(want, p, v, w, a, b, c));
-        assert!(rt; is_score_above(want - 1, p, v, w, a, b, c));
+        assert_eq!(rt; score_above(want, p, v, w, a, b, c), None);
+        assert_eq!(rt; score_above(want - 1, p, v, w, a, b, c), Some(want));
     }
 }
 

@@ -1,5 +1,5 @@
 -- The best cell is empty.
-use Rattle.std.proofs.Common.{subst, List, ℕ}
+use Rattle.std.proofs.Common.{subst}
 use Rattle.tree_words.specs.Settings.{Setting, IsSetting}
 use Rattle.tree_words.specs.Closing.{IsClosed}
 use Rattle.hex_plan.proofs.Decides.{best_is_empty}

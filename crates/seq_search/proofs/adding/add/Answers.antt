@@ -1,12 +1,5 @@
-use Rattle.std.proofs.Common.{◌≡◌, ◌+◌, ◌*◌, ◌≤◌, arith, ap, sym, ◌∙◌, subst, set as set_at}
-use Rattle.hex_cells.specs.declared.colours.Colour.TheVariants.{White}
-use Rattle.hex_board.specs.Wins.{is_same}
-use Rattle.tree_words.specs.Blocks.{one_if}
-use Rattle.tree_words.specs.Paths.{first_spot}
-use Rattle.tree_words.specs.Words.{root_at}
-use Rattle.tree_words.specs.Sequence.{game_of}
-use Rattle.tree_words.specs.Descents.{Added}
-use Rattle.seq_search.specs.Steps.{Holds, Records, config_of}
+use Rattle.std.proofs.Common.{◌+◌, ◌*◌, arith, subst, set as set_at}
+use Rattle.seq_search.specs.Steps.{Records}
 use Rattle.seq_search.specs.Adding.{outcome_in}
 use Rattle.seq_search.proofs.Reaches.{leaf-within}
 use Rattle.seq_search.proofs.Recordings.{recorded-holds, recorded-added, recorded-records}

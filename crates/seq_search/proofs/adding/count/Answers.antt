@@ -1,7 +1,4 @@
-use Rattle.std.proofs.Common.{◌≡◌, ℕ, ◌+◌, ◌*◌, ◌<◌, List, drop, slice_index, sym, ap, subst, ◌∙◌, refl, arith}
-use Rattle.hex_cells.specs.Colours.{other_of}
-use Rattle.hex_cells.specs.declared.colours.Colour.{Colour}
-use Rattle.hex_board.specs.Wins.{is_same}
+use Rattle.std.proofs.Common.{◌≡◌, ◌+◌, ◌*◌, ◌<◌, drop, slice_index, sym, ap, subst, ◌∙◌, refl, arith}
 use Rattle.seq_search.specs.Descending.{steps_in}
 use Rattle.tree_words.specs.Words.{cell_in}
 use Rattle.seq_search.specs.Adding.{node_of, outcome_in}

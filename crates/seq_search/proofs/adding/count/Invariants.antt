@@ -1,4 +1,4 @@
-use Rattle.std.proofs.Common.{◌≡◌, ℕ, ◌<◌, List, drop}
+use Rattle.std.proofs.Common.{ℕ, ◌<◌, List, drop}
 use Rattle.tree_words.specs.Blocks.{LinkedBlock}
 use Rattle.seq_search.specs.Steps.{Holds}
 use Rattle.seq_search.specs.Descending.{Descended, steps_in}

@@ -1,4 +1,4 @@
-use Rattle.std.proofs.Common.{◌≡◌, sym, ap, ◌∙◌, cond}
+use Rattle.std.proofs.Common.{sym, ap, ◌∙◌, cond}
 use Rattle.hex_cells.specs.declared.colours.Colour.TheVariants.{Black, White}
 use Rattle.seq_search.proofs.Additions.{won}
 use Rattle.seq_search.proofs.adding.play.Goals as goal

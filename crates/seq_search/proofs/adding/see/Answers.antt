@@ -1,4 +1,4 @@
-use Rattle.std.proofs.Common.{◌≡◌, ◌+◌, ◌*◌, ◌<◌, ℕ, List, slice_index, length, sym, ap, ◌∙◌, subst, arith, true, false}
+use Rattle.std.proofs.Common.{◌≡◌, ◌+◌, ◌<◌, ℕ, List, slice_index, length, sym, ap, ◌∙◌, subst, arith}
 use Rattle.hex_cells.specs.Sets.{has as has_cell}
 use Rattle.tree_words.specs.Words.{cell_in}
 use Rattle.seq_search.specs.Adding.{Sighted, node_of}

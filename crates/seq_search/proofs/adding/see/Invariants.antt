@@ -1,4 +1,3 @@
-use Rattle.std.proofs.Common.{◌≡◌}
 use Rattle.seq_search.specs.Adding.{Sighted}
 use Rattle.seq_search.proofs.adding.see.Given as goal
 

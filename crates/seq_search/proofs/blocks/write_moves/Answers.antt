@@ -1,8 +1,7 @@
-use Rattle.std.proofs.Common.{◌≡◌, ◌+◌, ◌-◌, ◌*◌, ◌<◌, ◌≤◌, length, ap, refl, sym, ◌∙◌, subst, arith}
+use Rattle.std.proofs.Common.{◌≡◌, ◌+◌, ◌*◌, ap, refl, sym, ◌∙◌, subst, arith}
 use Rattle.std.proofs.Math.ListN.{set as set_word}
-use Rattle.std.specs.List.{filter, range_with_len}
 use Rattle.hex_cells.specs.Sets.{has as has_cell}
-use Rattle.seq_search.proofs.Writes.{Moved, moved-none, moved-one, moved-past, cells-fewer, few_places, moved-few}
+use Rattle.seq_search.proofs.Writes.{Moved, moved-none, moved-one, moved-past, few_places, moved-few}
 use Rattle.seq_search.proofs.blocks.write_moves.Goals as goal
 use Rattle.seq_search.proofs.blocks.write_moves.Goals.{then-has, else-has}
 

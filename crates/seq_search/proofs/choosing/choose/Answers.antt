@@ -1,11 +1,12 @@
-use Rattle.std.proofs.Common.{◌≡◌, ◌+◌, ◌-◌, ◌*◌, ◌<◌, ℕ, slice_index, List, sym, ap, ◌∙◌, arith}
+use Rattle.std.proofs.Common.{◌≡◌, ◌+◌, ◌-◌, ◌*◌, ◌<◌, ◌≤◌, ℕ, subst, slice_index, List, sym, ap, ◌∙◌, arith}
+use Rattle.uct_table.specs.Scores.{score_of}
 use Rattle.uct_table.specs.Choice.{Child, score_in}
 use Rattle.tree_words.specs.Words.{tally_in, seen_in}
 use Rattle.tree_words.specs.Sequence.{child_of}
 use Rattle.seq_search.specs.Choosing.{children_in}
 use Rattle.seq_search.proofs.Choices.{chosen_from, chosen_first, chosen_here, chosen_last, children_more, children_first, score_is, taken, passed}
 use Rattle.seq_search.proofs.choosing.choose.Goals as goal
-use Rattle.seq_search.proofs.choosing.choose.Goals.{then-most-score, else-most-score}
+use Rattle.seq_search.proofs.choosing.choose.Goals.{in-Some, in_default}
 
 pub children-init : goal.children-init
 children-init c =
@@ -20,12 +21,15 @@ children-preserved c =
     let x : Child = child_of (tally_in c.args.words.now at, seen_in c.args.words.now at) in
     let xs : List Child = children_in c.args.words.now (c.args.block + 4 + 4 * (place + 1)) (count - (place + 1)) in
     let some : 0 < x.visits = omega (arith, c.visits_of-own.ensures, c.if-own-eq0.false) in
-    let is : c.score-score.result ≡ score_in p w x = score_is p w c.visits_of-own.result c.wins_of.result c.visits_of.result c.wins_of-in-children.result c.score-score.result x
-    c.visits_of-own.ensures c.wins_of.ensures c.visits_of.ensures c.wins_of-in-children.ensures c.score-score.ensures in
+    let a : ℕ = c.visits_of.result in let b : ℕ = c.wins_of-in-children.result in
+    let scored : score_of p c.visits_of-own.result c.wins_of.result a b w ≡ score_in p w x = score_is p w c.visits_of-own.result c.wins_of.result a b x
+    c.visits_of-own.ensures c.wins_of.ensures c.visits_of.ensures c.wins_of-in-children.ensures in
     c.children.invariant ∙ ap (chosen_from p w place c.children.best c.children.most) (children_more c.args.words.now c.args.block place count c.children-test.true)
-    ∙ elim c.if-most-score.branch [
-      | then-most-score u ↦ taken p w place c.children.best c.children.most c.score-score.result x xs some is u.if-most-score.true ∙ sym (λ i. chosen_from p w (place + 1) (u.best-is i) (u.most-is i) xs)
-      | else-most-score u ↦ passed p w place c.children.best c.children.most c.score-score.result x xs some is u.if-most-score.false ∙ sym (λ i. chosen_from p w (place + 1) (u.best-is i) (u.most-is i) xs)
+    ∙ elim c.match-above.branch [
+      | in-Some u ↦ taken p w place c.children.best c.children.most u.in-Some.score x xs some (u.in-Some.ensures.above.0 ∙ scored) u.in-Some.ensures.above.1
+          ∙ sym (λ i. chosen_from p w (place + 1) (u.best-is i) (u.most-is i) xs)
+      | in_default u ↦ passed p w place c.children.best c.children.most x xs some (subst (λ n. n ≤ c.children.most) scored (c.score_above-above.ensures.not_above u.in_default.is))
+          ∙ sym (λ i. chosen_from p w (place + 1) (u.best-is i) (u.most-is i) xs)
     ]
 
 pub returns-then-own-eq0 : goal.returns-then-own-eq0

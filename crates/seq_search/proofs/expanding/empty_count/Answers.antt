@@ -1,4 +1,4 @@
-use Rattle.std.proofs.Common.{◌≡◌, ◌∙◌, arith}
+use Rattle.std.proofs.Common.{◌∙◌, arith}
 use Rattle.seq_search.proofs.LeafBlocks.{count_empties}
 use Rattle.seq_search.proofs.expanding.empty_count.Goals as goal
 

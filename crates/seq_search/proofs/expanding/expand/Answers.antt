@@ -1,7 +1,6 @@
-use Rattle.std.proofs.Common.{◌≡◌, ◌+◌, ◌*◌, ◌≤◌, true, false, length, ap, sym, ◌∙◌, subst, arith}
+use Rattle.std.proofs.Common.{◌+◌, ◌*◌, length, ap, sym, ◌∙◌, arith}
 use Rattle.std.proofs.Math.ListN.{length-set}
 use Rattle.tree_words.specs.Words.{next_in, tally_in}
-use Rattle.tree_words.specs.Sequence.{size_below}
 use Rattle.play_out.specs.Fills.{empties_of}
 use Rattle.seq_search.proofs.LeafBlocks.{gets-none, gets-past, gets-made, grows-none, grows-past, grows-made}
 use Rattle.seq_search.proofs.expanding.expand.Goals as goal

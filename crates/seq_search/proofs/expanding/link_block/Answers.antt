@@ -1,4 +1,4 @@
-use Rattle.std.proofs.Common.{◌≡◌, ◌+◌, length, ap, sym, ◌∙◌, subst, arith}
+use Rattle.std.proofs.Common.{◌≡◌, length, ap, sym, ◌∙◌, subst, arith}
 use Rattle.tree_words.specs.Complete.{HasEmpties}
 use Rattle.play_out.specs.Fills.{empties_of}
 use Rattle.seq_search.specs.Writing.{listed}

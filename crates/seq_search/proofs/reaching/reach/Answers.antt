@@ -1,4 +1,4 @@
-use Rattle.std.proofs.Common.{◌≡◌, refl, sym, ◌∙◌}
+use Rattle.std.proofs.Common.{refl, sym, ◌∙◌}
 use Rattle.seq_search.specs.Descending.{spot_in}
 use Rattle.seq_search.proofs.Reaches.{leaf-within, reached-made, holds-made, reached-none}
 use Rattle.seq_search.proofs.reaching.reach.Goals as goal

@@ -1,4 +1,4 @@
-use Rattle.std.proofs.Common.{◌≡◌, ◌∙◌, ap, sym, subst}
+use Rattle.std.proofs.Common.{◌∙◌, ap, sym, subst}
 use Rattle.std.proofs.Common.{set}
 use Rattle.seq_search.specs.Searching.{Searched}
 use Rattle.seq_search.proofs.Searches.{searched-opening}

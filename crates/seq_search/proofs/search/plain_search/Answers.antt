@@ -1,8 +1,7 @@
-use Rattle.std.proofs.Common.{◌≡◌, ◌∙◌, ap, sym, subst, length, arith}
-use Rattle.std.specs.Vec.{with_items}
+use Rattle.std.proofs.Common.{sym, subst, arith}
 use Rattle.std.proofs.lemmas.List.{with_items_is}
 use Rattle.tree_words.specs.Closing.{IsClosed}
-use Rattle.seq_search.proofs.Searches.{searched-closed, searched-tree}
+use Rattle.seq_search.proofs.Searches.{searched-closed}
 use Rattle.seq_search.proofs.search.plain_search.Goals as goal
 
 pub of-requires : goal.of-requires

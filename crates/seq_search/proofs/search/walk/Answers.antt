@@ -1,8 +1,7 @@
-use Rattle.std.proofs.Common.{◌≡◌, ◌+◌, ◌*◌, ◌≤◌, List, arith, sym, ◌∙◌, ap}
+use Rattle.std.proofs.Common.{◌≡◌, arith, ◌∙◌, ap}
 use Rattle.play_out.specs.Fills.{filled, playout_of}
 use Rattle.tree_words.specs.Settings.{Setting}
-use Rattle.tree_words.specs.Blocks.{LinkedBlock}
-use Rattle.tree_words.specs.Sequence.{Outcome, outcome_of}
+use Rattle.tree_words.specs.Sequence.{outcome_of}
 use Rattle.seq_search.specs.Searching.{Searched, Reached}
 use Rattle.seq_search.specs.Descending.{spot_in}
 use Rattle.seq_search.specs.Adding.{outcome_in}

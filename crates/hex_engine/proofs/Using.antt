@@ -1,0 +1,141 @@
+-- What a fetch uses up, and what uses nothing up.
+use Rattle.std.proofs.Common.{◌≡◌, ℕ, Bool, true, false, cond, List, [], ◌∷◌, ◌++◌, Option, None, Some, Ok, refl, sym, ap, ◌∙◌, subst, append-nil}
+use Rattle.hex_io.specs.Told.{Same}
+use Rattle.hex_io.specs.Shelves.{Shelved, Fetched, is_failed, Tries, Fetches as FetchesOne}
+use Rattle.hex_io.proofs.BothLaws.{Both-weaker, Both-refl}
+use Rattle.hex_plan.specs.Turns.{Decision}
+use Rattle.tree_words.specs.declared.settings.Knobs.{Knobs}
+use Rattle.hex_engine.specs.declared.answers.Fail.TheVariants.{Over, UnknownCommand}
+use Rattle.hex_engine.specs.declared.commands.Command.{Command}
+use Rattle.hex_engine.specs.declared.commands.Command.TheVariants.{BoardSize, ClearBoard, GenMove, KnownCommand, ListCommands, LoadSgf, Name, Play, PrintSgf, ProtocolVersion, Quit, SearchReport, ShowBoard, Undo, Version, Winner}
+use Rattle.hex_engine.specs.Commands.{command_named}
+use Rattle.htp_line.specs.Reading.{Asked}
+use Rattle.std.proofs.lemmas.Bool.{and_parts, true≢false}
+use Rattle.hex_engine.specs.Standing.{Standing}
+use Rattle.hex_engine.specs.Left.{Left, Loaded, nothing_left, loads_only, turns_only, and_then}
+use Rattle.hex_engine.specs.Uses.{IsLoadOf, Fetches, Loading, Moving, Uses}
+use Rattle.hex_engine.specs.Replies.{Failed as FailedReply, Reaction, Reacts, NoLoad, NoTurn, replied, stays, unused, loaded, loading, loading_by, file_named, lone_colour, Turned, Missing, reaction, reaction_by, obeyed, uses_up, is_next, turned, moving, moving_by, moving_next}
+use Rattle.hex_engine.specs.declared.answers.Answer.{Answer}
+use Rattle.hex_cells.specs.declared.colours.Colour.{Colour}
+use Rattle.hex_board.specs.Positions.{Position, is_empty_at}
+use Rattle.hex_board.specs.Joined.{winner_of}
+use Rattle.hex_game.specs.Games.{board_of}
+use Rattle.hex_plan.specs.Openings.{may_move}
+use Rattle.hex_plan.proofs.Rooms.{empty_in}
+use Rattle.std.specs.Prelude.{IfOk, OnErr, bytes_eq, Result, Err, not, is_some}
+use Rattle.hex_engine.proofs.Spelling.{same_text}
+
+pub unfetched : (t : Option Shelved) → Loading t t nothing_left []
+unfetched t = Both-refl t (λ o n. Fetches o n [] []) (λ x. record { tries = []; tried = ap (λ l. record x { tries = l }) (sym (append-nil x.tries)); came = tt })
+
+pub nothing_moved : (options : Knobs) (t : Option (List Decision)) → Moving options t t nothing_left
+nothing_moved options t = record { took = Both-refl t (λ o n. n ≡ o ++ []) (λ x. sym (append-nil x)); good = tt }
+
+pub unmoved : (options : Knobs) (old new : Option (List Decision)) → Same old new → Moving options old new nothing_left
+unmoved options old new same = record { took = Both-weaker old new (λ o n. n ≡ o) (λ o n. n ≡ o ++ []) (λ o n e. e ∙ sym (append-nil o)) same; good = tt }
+
+fetched_as : (o n : Shelved) (name : List ℕ) (f : Fetched) (what : Loaded) → IsLoadOf f what → Tries o n name f → Fetches o n (loads_only (record { name = name; what = what } ∷ [])).loads []
+fetched_as o n name f what load t = record { tries = is_failed f ∷ []; tried = t.tried; came = (subst (λ u. IsLoadOf u what) t.is load, tt) }
+
+-- a fetch of which this came, and what came of its file
+pub fetched_one : (old new : Option Shelved) (name : List ℕ) (said : Option Fetched) (f : Fetched) (what : Loaded) → FetchesOne old new name said → said ≡ Some f → IsLoadOf f what
+    → Loading old new (loads_only (record { name = name; what = what } ∷ [])) []
+fetched_one old new name said f what h e load =
+    Both-weaker old new (λ o n. Tries o n name f) (λ o n. Fetches o n (loads_only (record { name = name; what = what } ∷ [])).loads []) (λ o n. fetched_as o n name f what load) (subst (FetchesOne old new name) e h)
+
+vain_as : (o n : Shelved) (name : List ℕ) (f : Fetched) → Tries o n name f → Fetches o n [] (is_failed f ∷ [])
+vain_as o n name f t = record { tries = []; tried = t.tried; came = tt }
+
+-- a fetch that came to nothing else
+pub fetched_in_vain : (old new : Option Shelved) (name : List ℕ) (said : Option Fetched) (f : Fetched) → FetchesOne old new name said → said ≡ Some f
+    → (tries : List Bool) × Loading old new nothing_left tries
+fetched_in_vain old new name said f h e =
+    (is_failed f ∷ [], Both-weaker old new (λ o n. Tries o n name f) (λ o n. Fetches o n [] (is_failed f ∷ [])) (λ o n. vain_as o n name f) (subst (FetchesOne old new name) e h))
+
+pub if_ok : {T E : Type 0} (r : Result T E) (P Q : T → Type 0) → ((x : T) → P x → Q x) → IfOk r P → IfOk r Q
+if_ok (Ok x) P Q go h = go x h
+if_ok (Err e) P Q go h = tt
+
+pub on_err : {T E : Type 0} (r : Result T E) (P : Type 0) → P → OnErr r P
+on_err (Ok x) P h = tt
+on_err (Err e) P h = h
+
+same_name : (name : List ℕ) → bytes_eq name name ≡ true
+same_name name = sym (same_text true name name (λ t. refl, λ e. refl))
+
+pub uses_nothing : (options : Knobs) (shelf : Option Shelved) (archive : Option (List Decision)) → Uses options shelf shelf archive archive nothing_left []
+uses_nothing options shelf archive = record { loading = unfetched shelf; moving = nothing_moved options archive }
+
+-- a file of this name came to this
+pub loads_reply : (s : Standing) (name : List ℕ) (what : Loaded) (args : List (List ℕ)) → file_named args ≡ Some name
+    → (later : Left) → loading s (and_then (loads_only (record { name = name; what = what } ∷ [])) later) args ≡ unused later (loaded s what)
+loads_reply s name what args e later =
+    ap (loading_by s (and_then (loads_only (record { name = name; what = what } ∷ [])) later)) e
+    ∙ ap (λ b. cond b (unused later (loaded s what)) (Err NoLoad)) (same_name name)
+
+pub over_reply : (s : Standing) (colour : Colour) (args : List (List ℕ)) → lone_colour args ≡ Some colour → may_move (board_of s.game) ≡ false
+    → (later : Left) → moving s later args ≡ unused later (stays s (FailedReply Over))
+over_reply s colour args e f later =
+    ap (moving_by s later) e ∙ ap (λ b. cond b (moving_next s later later.turns colour) (unused later (stays s (FailedReply Over)))) f
+
+pub moved_reply : (s : Standing) (colour : Colour) (turn : Decision) (args : List (List ℕ)) → lone_colour args ≡ Some colour → may_move (board_of s.game) ≡ true → is_next s colour turn ≡ true
+    → (later : Left) → moving s (and_then (turns_only (turn ∷ [])) later) args ≡ unused later (turned s colour turn)
+moved_reply s colour turn args e f n later =
+    let left : Left = and_then (turns_only (turn ∷ [])) later in
+    ap (moving_by s left) e ∙ ap (λ b. cond b (moving_next s left left.turns colour) (unused left (stays s (FailedReply Over)))) f
+    ∙ ap (λ b. cond b (unused later (turned s colour turn)) (Err NoTurn)) n
+
+pub wants_reply : (s : Standing) (colour : Colour) (args : List (List ℕ)) → lone_colour args ≡ Some colour → may_move (board_of s.game) ≡ true → moving s nothing_left args ≡ Err NoTurn
+wants_reply s colour args e f =
+    ap (moving_by s nothing_left) e ∙ ap (λ b. cond b (moving_next s nothing_left [] colour) (unused nothing_left (stays s (FailedReply Over)))) f
+
+-- the reaction that this answer gives
+pub reacts_reply : (r : Reaction) (answer : Answer) (after : Standing) (later : Left) → Reacts r answer after → unused later r ≡ Ok (record { reply = replied answer; after = after; left = later })
+reacts_reply r answer after later e = ap (unused later) (sym e)
+
+pub nobody_joined : (p : Position) → may_move p ≡ true → winner_of p ≡ None
+nobody_joined p e = nobody (winner_of p) (and_parts _ _ e).0
+  where
+    nobody : (w : Option Colour) → not (is_some w) ≡ true → w ≡ None
+    nobody None e = refl
+    nobody (Some c) e = absurd (cc)
+
+pub has_empty : (p : Position) → may_move p ≡ true → (k : ℕ) × (is_empty_at p k ≡ true)
+has_empty p e = empty_in p (and_parts _ _ e).1
+
+pub unknown_reply : (s : Standing) (left : Left) (asked : Asked) (name : List ℕ) → name ≡ asked.name → command_named name ≡ None → reaction s left asked ≡ unused left (stays s (FailedReply UnknownCommand))
+unfolding reaction
+unknown_reply s left asked name is e = ap (λ n. reaction_by s left (command_named n) asked.args) (sym is) ∙ ap (λ k. reaction_by s left k asked.args) e
+
+-- a request for this command is answered as the command says
+pub known_reply : (s : Standing) (left : Left) (asked : Asked) (name : List ℕ) (args : List (List ℕ)) (command : Command) (t : Result Turned Missing)
+    → name ≡ asked.name → args ≡ asked.args → command_named name ≡ Some command → obeyed s left command args ≡ t → reaction s left asked ≡ t
+unfolding reaction
+known_reply s left asked name args command t is are e h =
+    ap (λ n. reaction_by s left (command_named n) asked.args) (sym is) ∙ ap (λ k. reaction_by s left k asked.args) e ∙ ap (obeyed s left command) (sym are) ∙ h
+
+pub obeyed_load : (s : Standing) (left : Left) (command : Command) (args : List (List ℕ)) → command ≡ LoadSgf → obeyed s left command args ≡ loading s left args
+unfolding obeyed
+obeyed_load s left command args e = ap (λ k. obeyed s left k args) e
+
+pub obeyed_move : (s : Standing) (left : Left) (command : Command) (args : List (List ℕ)) → uses_up command ≡ true → (command ≡ LoadSgf → ⊥) → obeyed s left command args ≡ moving s left args
+unfolding obeyed
+obeyed_move s left GenMove args e never = refl
+obeyed_move s left LoadSgf args e never = absurd (never refl)
+obeyed_move s left BoardSize args e never = absurd (true≢false (sym e))
+obeyed_move s left ClearBoard args e never = absurd (true≢false (sym e))
+obeyed_move s left KnownCommand args e never = absurd (true≢false (sym e))
+obeyed_move s left ListCommands args e never = absurd (true≢false (sym e))
+obeyed_move s left Name args e never = absurd (true≢false (sym e))
+obeyed_move s left Play args e never = absurd (true≢false (sym e))
+obeyed_move s left PrintSgf args e never = absurd (true≢false (sym e))
+obeyed_move s left ProtocolVersion args e never = absurd (true≢false (sym e))
+obeyed_move s left Quit args e never = absurd (true≢false (sym e))
+obeyed_move s left SearchReport args e never = absurd (true≢false (sym e))
+obeyed_move s left ShowBoard args e never = absurd (true≢false (sym e))
+obeyed_move s left Undo args e never = absurd (true≢false (sym e))
+obeyed_move s left Version args e never = absurd (true≢false (sym e))
+obeyed_move s left Winner args e never = absurd (true≢false (sym e))
+
+pub if_is_ok : {T E : Type 0} (r : Result T E) (x : T) (P : T → Type 0) → r ≡ Ok x → IfOk r P → P x
+if_is_ok r x P e h = subst (λ q. IfOk q P) e h
