@@ -4,4 +4,9 @@ pub mod Given
 pub mod Keeping
 pub mod EndLaws
 pub mod RunLaws
+pub mod Reactions
 pub mod LeftLaws
+pub mod StockLaws
+pub mod Advances
+pub mod Batches
+pub mod Conversations

@@ -1,5 +1,5 @@
 -- A talk goes on by one line.
-use Rattle.std.proofs.Common.{◌≡◌, ℕ, Bool, true, false, cond, List, [], ◌∷◌, ◌++◌, Option, refl, ap, sym, ◌∙◌, subst, append_assoc}
+use Rattle.std.proofs.Common.{◌≡◌, ℕ, Bool, true, false, cond, List, [], ◌∷◌, ◌++◌, Option, refl, ap, sym, ◌∙◌, subst, append-nil, append_assoc}
 use Rattle.std.proofs.lemmas.List.Sums.{fold_push, fold-append}
 use Rattle.std.proofs.lemmas.List.Folds.{fold_stays}
 use Rattle.htp_line.proofs.LinesLaws.{whole-append}
@@ -8,10 +8,12 @@ use Rattle.htp_line.specs.Splitting.{Held, kept, shown, what_of, Ends, Advances,
 use Rattle.htp_line.specs.declared.splitter.What.{What}
 use Rattle.htp_line.specs.declared.splitter.What.TheVariants.{More}
 use Rattle.hex_engine.specs.Standing.{Standing}
-use Rattle.hex_cli.specs.Talk.{Said, Going, AfterQuit, ending_if, goes_on, said, with_said, step, silence, talk}
-use Rattle.hex_cli.specs.Sessions.{talk_to, Stands, Owes, Moves, EndsLine, AnswersLast, HasLast}
+use Rattle.hex_engine.specs.Left.{Left, nothing_left}
+use Rattle.hex_engine.specs.Replies.{NoTurn}
+use Rattle.hex_cli.specs.Talk.{Said, Going, AfterQuit, Short, ending_if, goes_on, said, with_said, step, silence, talk}
+use Rattle.hex_cli.specs.Sessions.{talk_to, Stands, Moves, EndsLine, Advanced, AnswersShort, AnswersLast, HasLast, LastIsShort}
 
-step-going : (so_far : Said) (raw : List ℕ) → so_far.ending ≡ Going → step so_far raw ≡ with_said so_far (said so_far.at (kept raw))
+step-going : (so_far : Said) (raw : List ℕ) → so_far.ending ≡ Going → step so_far raw ≡ with_said so_far (said so_far.at so_far.left (kept raw))
 unfolding step
 step-going so_far raw e = rw e refl
 
@@ -20,53 +22,91 @@ unfolding step
 step-stays so_far raw e = rw e refl
 
 -- one more line while the talk goes on
-pub talk_more : (start : Standing) (ls : List (List ℕ)) (raw : List ℕ) → (talk start ls).ending ≡ Going
-    → talk start (ls ++ raw ∷ []) ≡ with_said (talk start ls) (said (talk start ls).at (kept raw))
-talk_more start ls raw e = fold_push step (silence start) ls raw ∙ step-going (talk start ls) raw e
+pub talk_more : (start : Standing) (all : Left) (ls : List (List ℕ)) (raw : List ℕ) → (talk start all ls).ending ≡ Going
+    → talk start all (ls ++ raw ∷ []) ≡ with_said (talk start all ls) (said (talk start all ls).at (talk start all ls).left (kept raw))
+talk_more start all ls raw e = fold_push step (silence start all) ls raw ∙ step-going (talk start all ls) raw e
 
 -- lines after the end of a talk change nothing
-pub talk_stays : (start : Standing) (ls more : List (List ℕ)) → goes_on (talk start ls).ending ≡ false → talk start (ls ++ more) ≡ talk start ls
-talk_stays start ls more e = fold-append step (silence start) ls more ∙ fold_stays step (talk start ls) (λ raw. step-stays (talk start ls) raw e) more
+pub talk_stays : (start : Standing) (all : Left) (ls more : List (List ℕ)) → goes_on (talk start all ls).ending ≡ false → talk start all (ls ++ more) ≡ talk start all ls
+talk_stays start all ls more e = fold-append step (silence start all) ls more ∙ fold_stays step (talk start all ls) (λ raw. step-stays (talk start all ls) raw e) more
 
-pub talk_quit : (start : Standing) (ls more : List (List ℕ)) → (talk start ls).ending ≡ AfterQuit → talk start (ls ++ more) ≡ talk start ls
-talk_quit start ls more e = talk_stays start ls more (ap goes_on e)
+pub talk_quit : (start : Standing) (all : Left) (ls more : List (List ℕ)) → (talk start all ls).ending ≡ AfterQuit → talk start all (ls ++ more) ≡ talk start all ls
+talk_quit start all ls more e = talk_stays start all ls more (ap goes_on e)
 
-pub talk_to_quit : (start : Standing) (s t : List ℕ) → (talk_to start s).ending ≡ AfterQuit → talk_to start (s ++ t) ≡ talk_to start s
-talk_to_quit start s t e = let w = whole-append s t in ap (talk start) w.1 ∙ talk_quit start (whole s) w.0 e
+pub talk_to_stays : (start : Standing) (all : Left) (s t : List ℕ) → goes_on (talk_to start all s).ending ≡ false → talk_to start all (s ++ t) ≡ talk_to start all s
+talk_to_stays start all s t e = let w = whole-append s t in ap (talk start all) w.1 ∙ talk_stays start all (whole s) w.0 e
+
+pub talk_to_quit : (start : Standing) (all : Left) (s t : List ℕ) → (talk_to start all s).ending ≡ AfterQuit → talk_to start all (s ++ t) ≡ talk_to start all s
+talk_to_quit start all s t e = let w = whole-append s t in ap (talk start all) w.1 ∙ talk_quit start all (whole s) w.0 e
 
 -- before any byte nothing is said
-pub talk_to-nil : (start : Standing) → talk_to start [] ≡ silence start
+pub talk_to-nil : (start : Standing) (all : Left) → talk_to start all [] ≡ silence start all
 unfolding whole
-talk_to-nil start = refl
+talk_to-nil start all = refl
 
 -- the last of these lines is what is kept of it
-said_last : (start engine : Standing) (all seen : List (List ℕ)) (line : Option (List ℕ)) → engine ≡ (talk start seen).at → (talk start seen).ending ≡ Going
-    → Ends true line seen all → talk start all ≡ with_said (talk start seen) (said engine line)
-said_last start engine all seen line at going ended =
-    let same : said (talk start seen).at (kept ended.0) ≡ said engine line = ap (λ a. said a (kept ended.0)) (sym at) ∙ ap (said engine) (sym ended.2) in
-    ap (talk start) ended.1 ∙ talk_more start seen ended.0 going ∙ ap (with_said (talk start seen)) same
+said_last : (start : Standing) (all left : Left) (engine : Standing) (ls seen : List (List ℕ)) (line : Option (List ℕ)) → engine ≡ (talk start all seen).at → left ≡ (talk start all seen).left → (talk start all seen).ending ≡ Going
+    → Ends true line seen ls → talk start all ls ≡ with_said (talk start all seen) (said engine left line)
+said_last start all left engine ls seen line at same_left going ended =
+    let same : said (talk start all seen).at (talk start all seen).left (kept ended.0) ≡ said engine left line =
+    ap (λ a. said a (talk start all seen).left (kept ended.0)) (sym at) ∙ ap (λ l. said engine l (kept ended.0)) (sym same_left) ∙ ap (said engine left) (sym ended.2) in
+    ap (talk start all) ended.1 ∙ talk_more start all seen ended.0 going ∙ ap (with_said (talk start all seen)) same
 
 -- one line ended, and this answers it
-line_said : (start engine : Standing) (held new : Held) (seen front : List ℕ) → Stands start engine held seen → Advances new seen front → new.ended ≡ true
-    → talk_to start (seen ++ front) ≡ with_said (talk_to start seen) (said engine new.line)
-line_said start engine held new seen front stands adv e =
-    said_last start engine (whole (seen ++ front)) (whole seen) new.line stands.at stands.going (subst (λ b. Ends b new.line (whole seen) (whole (seen ++ front))) e adv.ended)
+pub line_said : (start : Standing) (all left : Left) (engine : Standing) (held new : Held) (seen front : List ℕ) → Stands start all left engine held seen → Advances new seen front → new.ended ≡ true
+    → talk_to start all (seen ++ front) ≡ with_said (talk_to start all seen) (said engine left new.line)
+line_said start all left engine held new seen front stands adv e =
+    said_last start all left engine (whole (seen ++ front)) (whole seen) new.line stands.at stands.left stands.going (subst (λ b. Ends b new.line (whole seen) (whole (seen ++ front))) e adv.ended)
 
-pub line_owed : (start engine : Standing) (held new : Held) (seen front given old_out out : List ℕ) → Stands start engine held seen → Advances new seen front → new.ended ≡ true
-    → Owes start given old_out seen → out ≡ old_out ++ (said engine new.line).text → Owes start given out (seen ++ front)
-line_owed start engine held new seen front given old_out out stands adv e owed grew =
-    ap (λ (s : Said). s.text) (line_said start engine held new seen front stands adv e) ∙ ap (λ l. l ++ (said engine new.line).text) owed
-    ∙ append_assoc given old_out (said engine new.line).text ∙ ap (λ l. given ++ l) (sym grew)
+-- no line ended
+pub no_line : (start : Standing) (all : Left) (new : Held) (seen front : List ℕ) → Advances new seen front → new.ended ≡ false → talk_to start all (seen ++ front) ≡ talk_to start all seen
+no_line start all new seen front adv e =
+    let ended : Ends false new.line (whole seen) (whole (seen ++ front)) = subst (λ b. Ends b new.line (whole seen) (whole (seen ++ front))) e adv.ended in
+    ap (talk start all) ended
 
-moves_by : (quit : Bool) (start engine : Standing) (new : Held) (seen : List ℕ) → engine ≡ (talk_to start seen).at → (talk_to start seen).ending ≡ ending_if quit → StandsAfter new seen → Moves quit start engine new seen
-moves_by true start engine new seen at ending stands = ending
-moves_by false start engine new seen at ending stands = record { at = at; going = ending; in_hand = stands }
+moves_by : (quit : Bool) (start : Standing) (all later : Left) (engine : Standing) (new : Held) (seen : List ℕ) → engine ≡ (talk_to start all seen).at → later ≡ (talk_to start all seen).left
+    → (talk_to start all seen).ending ≡ ending_if quit → StandsAfter new seen → Moves quit start all later engine new seen
+moves_by true start all later engine new seen at left ending stands = record { ending = ending; left = left }
+moves_by false start all later engine new seen at left ending stands = record { at = at; left = left; going = ending; in_hand = stands }
 
-pub line_moves : (start engine after : Standing) (held new : Held) (seen front : List ℕ) (quit : Bool) → Stands start engine held seen → Advances new seen front → new.ended ≡ true
-    → after ≡ (said engine new.line).at → (said engine new.line).ending ≡ ending_if quit → Moves quit start after new (seen ++ front)
-line_moves start engine after held new seen front quit stands adv e at ending =
-    let eq = line_said start engine held new seen front stands adv e in
-    moves_by quit start after new (seen ++ front) (at ∙ sym (ap (λ (s : Said). s.at) eq)) (ap (λ (s : Said). s.ending) eq ∙ ending) adv.stands
+-- what a line that ended answers
+pub line_advanced : (start : Standing) (all left later : Left) (engine after : Standing) (held new : Held) (seen front old_out out bytes : List ℕ) (quit : Bool) → Stands start all left engine held seen → Advances new seen front → new.ended ≡ true
+    → out ≡ old_out ++ bytes → said engine left new.line ≡ record { text = bytes; at = after; left = later; ending = ending_if quit } → Advanced quit start all later after new old_out out seen front
+line_advanced start all left later engine after held new seen front old_out out bytes quit stands adv e grew says =
+    let eq : talk_to start all (seen ++ front) ≡ with_said (talk_to start all seen) (record { text = bytes; at = after; left = later; ending = ending_if quit }) =
+    line_said start all left engine held new seen front stands adv e ∙ ap (with_said (talk_to start all seen)) says in
+    record {
+      answers = (bytes, grew, ap (λ (s : Said). s.text) eq);
+      moved = moves_by quit start all later after new (seen ++ front) (sym (ap (λ (s : Said). s.at) eq)) (sym (ap (λ (s : Said). s.left) eq)) (ap (λ (s : Said). s.ending) eq) adv.stands;
+    }
+
+-- where no line ended nothing is said
+pub none_advanced : (start : Standing) (all later : Left) (engine : Standing) (held new : Held) (seen front out : List ℕ) → Stands start all later engine held seen → Advances new seen front → new.ended ≡ false
+    → Advanced false start all later engine new out out seen front
+none_advanced start all later engine held new seen front out stands adv e =
+    let eq = no_line start all new seen front adv e in
+    record {
+      answers = ([], sym (append-nil out), ap (λ (s : Said). s.text) eq ∙ sym (append-nil (talk_to start all seen).text));
+      moved = record {
+        at = stands.at ∙ sym (ap (λ (s : Said). s.at) eq);
+        left = stands.left ∙ sym (ap (λ (s : Said). s.left) eq);
+        going = ap (λ (s : Said). s.ending) eq ∙ stands.going;
+        in_hand = adv.stands;
+      };
+    }
+
+-- a line that ended wants a turn
+pub line_short : (start : Standing) (all later : Left) (engine : Standing) (held new : Held) (seen front others : List ℕ) → Stands start all later engine held seen → Advances new seen front → new.ended ≡ true
+    → said engine nothing_left new.line ≡ record { text = []; at = engine; left = nothing_left; ending = Short NoTurn } → AnswersShort start all later [] seen (front ++ others)
+line_short start all later engine held new seen front others stands adv e says none =
+    let here : said engine later new.line ≡ record { text = []; at = engine; left = nothing_left; ending = Short NoTurn } = ap (λ l. said engine l new.line) none ∙ says in
+    let eq : talk_to start all (seen ++ front) ≡ with_said (talk_to start all seen) (record { text = []; at = engine; left = nothing_left; ending = Short NoTurn }) =
+    line_said start all later engine held new seen front stands adv e ∙ ap (with_said (talk_to start all seen)) here in
+    let same : talk_to start all (seen ++ (front ++ others)) ≡ talk_to start all (seen ++ front) =
+    ap (talk_to start all) (sym (append_assoc seen front others)) ∙ talk_to_stays start all (seen ++ front) others (ap (λ (s : Said). goes_on s.ending) eq) in (
+      ap (λ (s : Said). s.text) (same ∙ eq),
+      record { ending = ap (λ (s : Said). s.ending) (same ∙ eq); left = ap (λ (s : Said). s.left) (same ∙ eq) },
+    )
 
 -- a line ended within more bytes
 pub line_ends : (new : Held) (seen front others : List ℕ) → Advances new seen front → new.ended ≡ true → EndsLine seen (front ++ others)
@@ -79,11 +119,39 @@ line_ends new seen front others adv e =
     )
 
 -- the last line, which no line feed ends
-pub last_answers : (start engine : Standing) (held new : Held) (seen out : List ℕ) (quit : Bool) → Stands start engine held seen → Ends new.ended new.line (whole seen) (lines seen) → new.ended ≡ true
-    → out ≡ (said engine new.line).text → (said engine new.line).ending ≡ ending_if quit → AnswersLast start out seen
-last_answers start engine held new seen out quit stands ends e text ending =
-    let eq = said_last start engine (lines seen) (whole seen) new.line stands.at stands.going (subst (λ b. Ends b new.line (whole seen) (lines seen)) e ends) in
-    record { answers = ap (λ (s : Said). s.text) eq ∙ ap (λ l. (talk_to start seen).text ++ l) (sym text); ended = (quit, ap (λ (s : Said). s.ending) eq ∙ ending) }
+pub last_said : (start : Standing) (all left : Left) (engine : Standing) (held new : Held) (seen : List ℕ) → Stands start all left engine held seen → Ends new.ended new.line (whole seen) (lines seen) → new.ended ≡ true
+    → talk start all (lines seen) ≡ with_said (talk_to start all seen) (said engine left new.line)
+last_said start all left engine held new seen stands ends e =
+    said_last start all left engine (lines seen) (whole seen) new.line stands.at stands.left stands.going (subst (λ b. Ends b new.line (whole seen) (lines seen)) e ends)
+
+pub last_answers : (start : Standing) (all left later : Left) (engine after : Standing) (held new : Held) (seen out : List ℕ) (quit : Bool) → Stands start all left engine held seen → Ends new.ended new.line (whole seen) (lines seen) → new.ended ≡ true
+    → said engine left new.line ≡ record { text = out; at = after; left = later; ending = ending_if quit } → AnswersLast start all later out seen
+last_answers start all left later engine after held new seen out quit stands ends e says =
+    let eq : talk start all (lines seen) ≡ with_said (talk_to start all seen) (record { text = out; at = after; left = later; ending = ending_if quit }) =
+    last_said start all left engine held new seen stands ends e ∙ ap (with_said (talk_to start all seen)) says in
+    record { answers = ap (λ (s : Said). s.text) eq; ended = (quit, ap (λ (s : Said). s.ending) eq); left = sym (ap (λ (s : Said). s.left) eq) }
+
+-- there is no last line
+pub last_none : (start : Standing) (all later : Left) (engine : Standing) (held new : Held) (seen out : List ℕ) → Stands start all later engine held seen → Ends new.ended new.line (whole seen) (lines seen) → new.ended ≡ false → out ≡ []
+    → AnswersLast start all later out seen
+last_none start all later engine held new seen out stands ends e none =
+    let ended : Ends false new.line (whole seen) (lines seen) = subst (λ b. Ends b new.line (whole seen) (lines seen)) e ends in
+    let eq : talk start all (lines seen) ≡ talk_to start all seen = ap (talk start all) ended in
+    record {
+      answers = ap (λ (s : Said). s.text) eq ∙ sym (append-nil (talk_to start all seen).text) ∙ ap (λ l. (talk_to start all seen).text ++ l) (sym none);
+      ended = (false, ap (λ (s : Said). s.ending) eq ∙ stands.going);
+      left = stands.left ∙ sym (ap (λ (s : Said). s.left) eq);
+    }
+
+pub last_short : (start : Standing) (all later : Left) (engine : Standing) (held new : Held) (seen : List ℕ) → Stands start all later engine held seen → Ends new.ended new.line (whole seen) (lines seen) → new.ended ≡ true
+    → said engine nothing_left new.line ≡ record { text = []; at = engine; left = nothing_left; ending = Short NoTurn } → LastIsShort start all later seen
+last_short start all later engine held new seen stands ends e says none =
+    let here : said engine later new.line ≡ record { text = []; at = engine; left = nothing_left; ending = Short NoTurn } = ap (λ l. said engine l new.line) none ∙ says in
+    let eq : talk start all (lines seen) ≡ with_said (talk_to start all seen) (record { text = []; at = engine; left = nothing_left; ending = Short NoTurn }) =
+    last_said start all later engine held new seen stands ends e ∙ ap (with_said (talk_to start all seen)) here in (
+      ap (λ (s : Said). s.text) eq ∙ append-nil (talk_to start all seen).text,
+      record { ending = ap (λ (s : Said). s.ending) eq; left = ap (λ (s : Said). s.left) eq },
+    )
 
 pub last_ends : (new : Held) (seen : List ℕ) → Ends new.ended new.line (whole seen) (lines seen) → new.ended ≡ true → HasLast seen
 last_ends new seen ends e = let ended : Ends true new.line (whole seen) (lines seen) = subst (λ b. Ends b new.line (whole seen) (lines seen)) e ends in (ended.0, ended.1)

@@ -1,5 +1,6 @@
 pub mod Talk
 pub mod Left
+pub mod Stocks
 pub mod Sessions
 pub mod Outcome
 pub mod Errors

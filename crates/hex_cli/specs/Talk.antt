@@ -1,23 +1,25 @@
 -- The bytes that answer a list of raw lines.
-use Rattle.std.specs.Prelude.{◌≢◌, ℕ, Bool, true, false, List, [], ◌++◌, Option, Some, None, codes, fold, if◌then◌else◌}
+use Rattle.std.specs.Prelude.{◌≡◌, ◌≢◌, ℕ, Bool, true, false, List, [], ◌++◌, Option, Some, None, Result, Ok, Err, codes, fold, if◌then◌else◌}
 use Rattle.htp_line.specs.Reading.{Reading, Blank, Bare, Ask, reading}
 use Rattle.htp_line.specs.Splitting.{kept}
 use Rattle.htp_line.specs.Answering.{success, failure}
 use Rattle.hex_engine.specs.Standing.{Standing}
-use Rattle.hex_engine.specs.Replies.{Reply, Done, Quit, Failed, Reaction, reaction, message}
+use Rattle.hex_engine.specs.Left.{Left, nothing_left}
+use Rattle.hex_engine.specs.Replies.{Reply, Done, Quit, Failed, Turned, Missing, reaction, message}
 
 -- whether a talk goes on, or how it ended
 pub data Ending : Type 0 where
   Going : Ending
   -- quit was answered
   AfterQuit : Ending
-  -- a request can't be answered from what the conversation has
-  Short : Ending
+  -- a request wants a file or a turn that is not there
+  Short : Missing → Ending
 
--- what was said, and what the conversation stands at then
+-- what was said, what the conversation stands at then, and what is left to be used up
 pub record Said : Type 0 where
   pub text : List ℕ
   pub at : Standing
+  pub left : Left
   pub ending : Ending
 
 abbrev pub reply_text : Option ℕ → Reply → List ℕ
@@ -35,40 +37,45 @@ is_quit Quit = true
 is_quit _ = false
 
 -- what is said to a request
-abbrev pub said_reaction : Standing → Option ℕ → Option Reaction → Said
-said_reaction at id None = record { text = []; at = at; ending = Short }
-said_reaction at id (Some r) = record { text = reply_text id r.reply; at = r.after; ending = ending_if (is_quit r.reply) }
+abbrev pub said_turned : Standing → Left → Option ℕ → Result Turned Missing → Said
+said_turned at left id (Err missing) = record { text = []; at = at; left = left; ending = Short missing }
+said_turned at left id (Ok t) = record { text = reply_text id t.reply; at = t.after; left = t.left; ending = ending_if (is_quit t.reply) }
 
 -- what is said to a line: nothing to a blank one, and a refusal to an id that stands alone
-abbrev pub said_reading : Standing → Reading → Said
-said_reading at Blank = record { text = []; at = at; ending = Going }
-said_reading at (Bare id) = record { text = failure (Some id) (codes "syntax error"); at = at; ending = Going }
-said_reading at (Ask asked) = said_reaction at asked.id (reaction at asked)
+abbrev pub said_reading : Standing → Left → Reading → Said
+said_reading at left Blank = record { text = []; at = at; left = left; ending = Going }
+said_reading at left (Bare id) = record { text = failure (Some id) (codes "syntax error"); at = at; left = left; ending = Going }
+said_reading at left (Ask asked) = said_turned at left asked.id (reaction at left asked)
 
 -- what is said to a line as far as it is kept, which is nothing where the line is too long
-abbrev pub said : Standing → Option (List ℕ) → Said
-said at None = record { text = failure None (codes "line too long"); at = at; ending = Going }
-said at (Some raw) = said_reading at (reading raw)
+abbrev pub said : Standing → Left → Option (List ℕ) → Said
+said at left None = record { text = failure None (codes "line too long"); at = at; left = left; ending = Going }
+said at left (Some raw) = said_reading at left (reading raw)
 
 abbrev pub with_said : Said → Said → Said
-with_said so_far next = record { text = so_far.text ++ next.text; at = next.at; ending = next.ending }
+with_said so_far next = record { text = so_far.text ++ next.text; at = next.at; left = next.left; ending = next.ending }
 
 abbrev pub goes_on : Ending → Bool
 goes_on Going = true
 goes_on AfterQuit = false
-goes_on Short = false
+goes_on (Short missing) = false
 
 -- one more line: where the talk has ended it changes nothing
 unfoldable pub step : Said → List ℕ → Said
-step so_far raw = if goes_on so_far.ending then with_said so_far (said so_far.at (kept raw)) else so_far
+step so_far raw = if goes_on so_far.ending then with_said so_far (said so_far.at so_far.left (kept raw)) else so_far
 
-abbrev pub silence : Standing → Said
-silence start = record { text = []; at = start; ending = Going }
+abbrev pub silence : Standing → Left → Said
+silence start left = record { text = []; at = start; left = left; ending = Going }
 
--- the talk over these lines, from where the conversation stands at its start
-abbrev pub talk : Standing → List (List ℕ) → Said
-talk start lines = fold step (silence start) lines
+-- the talk over these lines, from where the conversation stands at its start and with this left to be used up
+abbrev pub talk : Standing → Left → List (List ℕ) → Said
+talk start left lines = fold step (silence start left) lines
 
--- each line was answered, up to an answered quit
-abbrev pub IsThrough : Said → Type 0
-IsThrough s = s.ending ≢ Short
+-- no request wanted what was not there
+abbrev pub IsAnswered : Said → Type 0
+IsAnswered s = (missing : Missing) → s.ending ≢ Short missing
+
+-- each line was answered, up to an answered quit, and all was used up
+pub record IsThrough (s : Said) : Type 0 where
+  pub answered : IsAnswered s
+  pub used : s.left ≡ nothing_left

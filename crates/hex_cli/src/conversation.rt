@@ -1,16 +1,18 @@
 //! A conversation from its first byte to its end.
 
 ghost use Rattle.std.specs.Prelude.{◌≡◌, ◌≢◌, ◌<◌, ◌≤◌, length, IfOk};
-ghost use Rattle.hex_io.specs.Told.{Both, Reads};
+ghost use Rattle.hex_io.specs.Told.{Reads};
 ghost use Rattle.hex_io.specs.Causes.{HasCause, Rose};
-ghost use Rattle.hex_engine.specs.Standing.{opening};
-ghost use Rattle.hex_cli.specs.Outcome.{Outcome};
+ghost use Rattle.tree_words.specs.Settings.{AreInRange};
+ghost use Rattle.hex_cli.specs.Outcome.{Conversed};
 
 use crate::ends::End;
 use crate::session::{Session, Stop};
 use hex_cells::Size;
-use hex_io::{Link, LinkFault};
+use hex_io::{Link, LinkFault, Shelf};
+use hex_plan::Archive;
 use std::alloc::Global;
+use tree_words::Knobs;
 
 /// The most bytes of one read.
 const PIECE: usize = 16_384;
@@ -27,15 +29,25 @@ fn read_some<L: Link>(link: &mut L, buffer: &mut [u8], room: usize) -> Result<us
     link.read(&mut buffer[..room])
 }
 
-/// Answers what the link has, up to `limit` bytes. All whole lines are answered before the next
-/// read, also before the one byte after the limit is asked for.
-pub fn converse<L: Link>(alloc: Global, link: &mut L, size: Size, limit: usize) -> End
-    ensures outcome { Both (L.told link.old) (L.told link.new) (Outcome result (opening size) limit) }
+/// Answers what the link has, up to `limit` bytes. The options are those of the searches. All whole lines are answered before
+/// the next read, also before the one byte after the limit is asked for.
+pub fn converse<L: Link, F: Shelf, A: Archive>(
+    alloc: Global,
+    link: &mut L,
+    shelf: &mut F,
+    archive: &mut A,
+    options: &Knobs,
+    size: Size,
+    limit: usize,
+) -> End
+    requires { AreInRange options.now }
+    ensures conversed { Conversed result options.now size limit (F.told shelf.old, A.told archive.old) (F.told shelf.new, A.told archive.new) (L.told link.old) (L.told link.new) }
     ensures served { result ≢ End.Usage }
     ensures read_fault { result ≡ End.ReadFault → Rose (L.read_faults link.old) (L.read_faults link.new) }
     ensures write_fault { result ≡ End.WriteFault → Rose (L.write_faults link.old) (L.write_faults link.new) }
+    ensures archive_fault { result ≡ End.ArchiveFault → Rose (A.faults archive.old) (A.faults archive.new) }
 {
-    let mut session = match Session::make(alloc, size) {
+    let mut session = match Session::make(alloc, options, size) {
         Err(_) => return End::Memory,
         Ok(session) => session,
     };
@@ -48,18 +60,20 @@ pub fn converse<L: Link>(alloc: Global, link: &mut L, size: Size, limit: usize) 
             Ok(count) => count,
         };
         if count == 0 {
-            match session.finish(alloc, link) {
+            match session.finish(alloc, link, shelf, archive) {
                 Ok(()) => return End::Done,
                 Err(Stop::WriteFault) => return End::WriteFault,
                 Err(Stop::Memory) => return End::Memory,
+                Err(Stop::Archive) => return End::ArchiveFault,
             }
         }
         if total == limit {
             return End::TooLong;
         }
-        match session.feed(alloc, link, &buffer[..count]) {
+        match session.feed(alloc, link, shelf, archive, &buffer[..count]) {
             Err(Stop::WriteFault) => return End::WriteFault,
             Err(Stop::Memory) => return End::Memory,
+            Err(Stop::Archive) => return End::ArchiveFault,
             Ok(true) => return End::Done,
             Ok(false) => {}
         }

@@ -18,6 +18,8 @@ pub enum End {
     Memory = 5,
     /// The input is longer than the limit.
     TooLong = 6,
+    /// The archive failed.
+    ArchiveFault = 7,
 }
 
 impl End {
@@ -38,6 +40,7 @@ impl End {
             End::ReadFault => b"hexd: read fault\n",
             End::Memory => b"hexd: out of memory\n",
             End::TooLong => b"hexd: input too long\n",
+            End::ArchiveFault => b"hexd: archive fault\n",
         }
     }
 }

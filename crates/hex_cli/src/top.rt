@@ -1,23 +1,26 @@
 //! The top call: from the words of the command line to a status.
 
-ghost use Rattle.std.specs.Prelude.{◌≡◌, ◌+◌, ◌≤◌, ◌⊎◌, ◌↔◌, length};
+ghost use Rattle.std.specs.Prelude.{◌≡◌, ◌+◌, ◌^◌, ◌<◌, ◌≤◌, ◌⊎◌, ◌↔◌, length};
 ghost use Rattle.hex_io.specs.Told.{Both};
 ghost use Rattle.hex_io.specs.Causes.{Rose};
-ghost use Rattle.hex_engine.specs.Standing.{opening};
+ghost use Rattle.tree_words.specs.Settings.{AreInRange};
 ghost use Rattle.hexd_words.specs.Reading.{WellFormed};
+ghost use Rattle.hexd_words.specs.Values as value;
 ghost use Rattle.hexd_words.specs.declared.settings.Options.{Options};
 ghost use Rattle.hex_cli.specs.Errors.{Reported};
-ghost use Rattle.hex_cli.specs.Outcome.{Outcome, since, status_of, error_line};
-ghost use Rattle.hex_cli.specs.Runs.{AreRefused, Untouched};
+ghost use Rattle.hex_cli.specs.Outcome.{Conversed, since, status_of, error_line};
+ghost use Rattle.hex_cli.specs.Runs.{AreRefused, Untouched, Unused, knobs_of};
 ghost use Rattle.hex_cli.specs.declared.ends.End.{End};
 
 use crate::conversation::converse;
 use crate::ends::End;
 use crate::giving::give;
 use hex_cells::Size;
-use hex_io::{Link, Word};
-use hexd_words::read_words;
+use hex_io::{Link, Shelf, Word};
+use hex_plan::Archive;
+use hexd_words::{Options, read_words};
 use std::alloc::Global;
+use tree_words::Knobs;
 
 /// The most bytes of input that a run answers: 64 MiB, so that a stream without end is not read for
 /// good. One byte more ends the run.
@@ -26,7 +29,8 @@ pub const INPUT_LIMIT: usize = 67_108_864;
 /// Runs the program that the words ask for over a link, and answers its status.
 ///
 /// The words are those of the command line after the program's name. In mode `htp` each raw line of
-/// the input is answered, by GTP version 2, from an empty board of the size that the words say.
+/// the input is answered, by GTP version 2, from an empty board of the size that the words say. The
+/// shelf has the files of `loadsgf`, and the archive takes the turn of each `genmove`.
 ///
 /// | status | comes | line for the errors |
 /// |---|---|---|
@@ -36,9 +40,17 @@ pub const INPUT_LIMIT: usize = 67_108_864;
 /// | 4 | only where a write failed; a front of the answers was given | |
 /// | 5 | memory ran out; all lines before the one that met it were answered | `hexd: out of memory` |
 /// | 6 | exactly where one byte more than [`INPUT_LIMIT`] was taken; the whole lines before it were answered | `hexd: input too long` |
+/// | 7 | only where the archive failed; all lines before the `genmove` that met it were answered | `hexd: archive fault` |
 ///
 /// A fault of the errors changes nothing of the status. Status 5 may come in place of any other.
-pub fn run<L: Link, E: Link>(alloc: Global, words: &[Word], link: &mut L, errors: &mut E) -> u8
+pub fn run<L: Link, E: Link, F: Shelf, A: Archive>(
+    alloc: Global,
+    words: &[Word],
+    link: &mut L,
+    errors: &mut E,
+    shelf: &mut F,
+    archive: &mut A,
+) -> u8
     ensures status { (end : End) × (result ≡ status_of end) }
 
     // The words. Want of memory may come in place of a refusal.
@@ -46,19 +58,23 @@ pub fn run<L: Link, E: Link>(alloc: Global, words: &[Word], link: &mut L, errors
     ensures refused { AreRefused words.now → (result ≡ status_of End.Usage) ⊎ (result ≡ status_of End.Memory) }
     ensures untouched { AreRefused words.now →
         Untouched (L.told link.old) (L.told link.new) (L.read_faults link.old) (L.read_faults link.new) (L.write_faults link.old) (L.write_faults link.new) }
+    ensures unused { AreRefused words.now →
+        Unused (F.told shelf.old) (F.told shelf.new) (F.faults shelf.old) (F.faults shelf.new) (A.told archive.old) (A.told archive.new) (A.faults archive.old) (A.faults archive.new) }
 
-    // What was taken and given, and when, where the link tells it.
-    ensures outcome { (options : Options) → WellFormed words.now options → (end : End) → result ≡ status_of end →
-        Both (L.told link.old) (L.told link.new) (Outcome end (opening options.size) INPUT_LIMIT) }
+    // What was taken and given, and when, where the link tells it; and what was used up from the shelf and for the archive.
+    ensures conversed { (options : Options) → WellFormed words.now options → (end : End) → result ≡ status_of end →
+        Conversed end (knobs_of options) options.size INPUT_LIMIT (F.told shelf.old, A.told archive.old) (F.told shelf.new, A.told archive.new) (L.told link.old) (L.told link.new) }
 
     // The causes.
     ensures read_fault { result ≡ status_of End.ReadFault → Rose (L.read_faults link.old) (L.read_faults link.new) }
     ensures write_fault { result ≡ status_of End.WriteFault → Rose (L.write_faults link.old) (L.write_faults link.new) }
+    ensures archive_fault { result ≡ status_of End.ArchiveFault → Rose (A.faults archive.old) (A.faults archive.new) }
     ensures too_long { (options : Options) → WellFormed words.now options →
         Both (L.told link.old) (L.told link.new) (λ old new.
         (result ≡ status_of End.TooLong) ↔ (length (since old new) ≡ INPUT_LIMIT + 1)) }
     ensures complete { (options : Options) → WellFormed words.now options →
         ¬ Rose (L.read_faults link.old) (L.read_faults link.new) → ¬ Rose (L.write_faults link.old) (L.write_faults link.new) →
+        ¬ Rose (A.faults archive.old) (A.faults archive.new) →
         Both (L.told link.old) (L.told link.new) (λ old new. length (since old new) ≤ INPUT_LIMIT →
         (result ≡ status_of End.Done) ⊎ (result ≡ status_of End.Memory)) }
 
@@ -66,7 +82,7 @@ pub fn run<L: Link, E: Link>(alloc: Global, words: &[Word], link: &mut L, errors
     ensures errors { (end : End) → result ≡ status_of end →
         Reported (E.told errors.old) (E.told errors.new) (E.write_faults errors.old) (E.write_faults errors.new) (error_line end) }
 {
-    let end = serve(alloc, words, link);
+    let end = serve(alloc, words, link, shelf, archive);
     report(errors, end)
 }
 
@@ -80,22 +96,49 @@ pub fn report<E: Link>(errors: &mut E, end: End) -> u8
 }
 
 /// Reads the words, and does over the link what they ask for.
-fn serve<L: Link>(alloc: Global, words: &[Word], link: &mut L) -> End
+fn serve<L: Link, F: Shelf, A: Archive>(
+    alloc: Global,
+    words: &[Word],
+    link: &mut L,
+    shelf: &mut F,
+    archive: &mut A,
+) -> End
     ensures usage { result ≡ End.Usage → AreRefused words.now }
     ensures refused { AreRefused words.now → (result ≡ End.Usage) ⊎ (result ≡ End.Memory) }
     ensures untouched { AreRefused words.now →
         Untouched (L.told link.old) (L.told link.new) (L.read_faults link.old) (L.read_faults link.new) (L.write_faults link.old) (L.write_faults link.new) }
-    ensures outcome { (options : Options) → WellFormed words.now options →
-        Both (L.told link.old) (L.told link.new) (Outcome result (opening options.size) INPUT_LIMIT) }
+    ensures unused { AreRefused words.now →
+        Unused (F.told shelf.old) (F.told shelf.new) (F.faults shelf.old) (F.faults shelf.new) (A.told archive.old) (A.told archive.new) (A.faults archive.old) (A.faults archive.new) }
+    ensures conversed { (options : Options) → WellFormed words.now options →
+        Conversed result (knobs_of options) options.size INPUT_LIMIT (F.told shelf.old, A.told archive.old) (F.told shelf.new, A.told archive.new) (L.told link.old) (L.told link.new) }
     ensures read_fault { result ≡ End.ReadFault → Rose (L.read_faults link.old) (L.read_faults link.new) }
     ensures write_fault { result ≡ End.WriteFault → Rose (L.write_faults link.old) (L.write_faults link.new) }
+    ensures archive_fault { result ≡ End.ArchiveFault → Rose (A.faults archive.old) (A.faults archive.new) }
 {
     let options = match read_words(alloc, words) {
         Err(_) => return End::Memory,
         Ok(None) => return End::Usage,
         Ok(Some(options)) => options,
     };
-    converse(alloc, link, board_size(options.size), INPUT_LIMIT)
+    let knobs = knobs(&options);
+    converse(alloc, link, shelf, archive, &knobs, board_size(options.size), INPUT_LIMIT)
+}
+
+/// The options of the searches.
+fn knobs(options: &Options) -> Knobs
+    requires ranges { value.AreInRange options.now }
+    requires seed { options.now.seed < 2 ^ 64 }
+    ensures value { result ≡ knobs_of options.now }
+    ensures ranges { AreInRange result }
+{
+    Knobs {
+        workers: options.workers,
+        playouts: options.playouts,
+        seed: options.seed,
+        words: options.words,
+        expand: options.expand,
+        weight: options.weight,
+    }
 }
 
 /// The board size of this side.

@@ -1,7 +1,8 @@
 //! The program `hexd`: [`hex_cli::run`] over the standard streams of the process.
 //!
 //! **What it is.** The words of the command line, standard input and output as the link, standard
-//! error for the one line of a failure, and the status as the exit code.
+//! error for the one line of a failure, the files of the system as the shelf, an archive that drops
+//! its turns, and the status as the exit code.
 //!
 //! **A caller** is the shell: `printf 'boardsize 3\nshowboard\n' | hexd htp`.
 //!
@@ -14,7 +15,8 @@
 #![tactic(auto)]
 
 use hex_cli::{End, report, run};
-use hex_io::{ErrLink, StdLink, Word};
+use hex_io::{DirShelf, ErrLink, StdLink, Word};
+use hex_plan::NoArchive;
 use std::process::ExitCode;
 use std::{env, io};
 
@@ -23,7 +25,15 @@ fn main(rt: HostRuntime) -> ExitCode {
     let status = match words_of(&rt) {
         Ok(words) => {
             let mut link = StdLink::new(&rt);
-            run(rt.alloc(), &words, &mut link, &mut errors)
+            let mut shelf = DirShelf::new(&rt);
+            run(
+                rt.alloc(),
+                &words,
+                &mut link,
+                &mut errors,
+                &mut shelf,
+                &mut NoArchive,
+            )
         }
         Err(end) => report(&mut errors, end),
     };

@@ -1,137 +1,152 @@
 -- What stands at each end, and after one piece more.
-use Rattle.std.proofs.Common.{◌≡◌, ◌≤◌, ◌+◌, ◌++◌, [], ℕ, List, take, length, refl, arith, subst, ◌∙◌}
+use Rattle.std.proofs.Common.{◌≡◌, ◌≤◌, ◌+◌, ◌++◌, [], ℕ, List, true, false, take, length, refl, arith, subst, ◌∙◌}
 use Rattle.hex_io.specs.Told.{Both, Takes}
 use Rattle.hex_engine.specs.Standing.{Standing, opening}
-use Rattle.hex_cli.specs.Talk.{AfterQuit}
-use Rattle.hex_cli.specs.Sessions.{Stands, Moves, talk_to}
+use Rattle.hex_cli.specs.Sessions.{Does, Fed}
 use Rattle.hex_cli.proofs.Pieces.{length-taken, length-front}
-use Rattle.hex_cli.proofs.EndLaws.{Kept, kept_taking, kept_nothing, feed_on, feed_quit, feed_unwritten, feed_unfinished, read_overlong, finish_complete, finish_unwritten, finish_unfinished}
+use Rattle.hex_cli.proofs.Conversations.{Took, goes_nothing, goes_taking, goes_on_feeding, conversed_nothing, ends_unread, ends_overlong, ends_quit, ends_unwritten, ends_unfinished, ends_unarchived, last_complete, last_unwritten, last_unfinished, last_unarchived}
 use Rattle.hex_cli.proofs.conversation.converse.Goals as goal
+
+pub returns-in-Err-clause-conversed : goal.returns-in-Err-clause-conversed
+returns-in-Err-clause-conversed g c = conversed_nothing c.args.options.now c.args.size c.args.limit _ _
 
 pub loop-session-init : goal.loop-session-init
 loop-session-init g c = record {
   in_limit = omega arith;
   later = omega arith;
   later_reads = omega arith;
-  kept = ([], refl, c.in-Ok.ensures.stands, kept_nothing (opening c.args.size) _);
+  later_archive = omega arith;
+  goes = ([], refl, goes_nothing (opening c.args.options.now c.args.size) _ _ c.in-Ok.session.engine c.in-Ok.session.splitter c.in-Ok.ensures.stands);
 }
 
-pub returns-in-Ok-finish-clause-outcome : goal.returns-in-Ok-finish-clause-outcome
-returns-in-Ok-finish-clause-outcome g c =
+pub returns-in-Err-read_some-clause-conversed : goal.returns-in-Err-read_some-clause-conversed
+returns-in-Err-read_some-clause-conversed g c =
+    let inv = c.loop-session.invariant.goes in
+    let few : length inv.0 ≤ c.args.limit = omega (arith, inv.1, c.loop-session.invariant.in_limit) in
+    ends_unread c.args.options.now c.args.size c.args.limit _ _ _ (g.L.Link.told c.loop-session.link) _ c.loop-session.session.engine c.loop-session.session.splitter inv.0 few inv.2 c.in-Err-read_some.ensures.told
+
+pub returns-in-Ok-finish-clause-conversed : goal.returns-in-Ok-finish-clause-conversed
+returns-in-Ok-finish-clause-conversed g c =
     let told = g.L.Link.told in
-    let start : Standing = opening c.args.size in
-    let inv = c.loop-session.invariant.kept in
-    let seen : List ℕ = inv.0 in
+    let inv = c.loop-session.invariant.goes in
     let buf : List ℕ = c.read_some.new.buffer in
-    let count : ℕ = c.in-Ok-read_some.count in
+    let few : length inv.0 ≤ c.args.limit = omega (arith, inv.1, c.loop-session.invariant.in_limit) in
     let none : Both (told c.loop-session.link) (told c.read_some.new.link) (λ o t. Takes o t 0 buf) =
     subst (λ n. Both (told c.loop-session.link) (told c.read_some.new.link) (λ o t. Takes o t n buf)) c.if-count-eq0.true c.in-Ok-read_some.ensures.told in
-    let few : length seen ≤ c.args.limit = omega (arith, inv.1) in
-    finish_complete start c.args.limit _ (told c.loop-session.link) (told c.read_some.new.link) _ seen buf few inv.3 inv.2.going none (c.in-Ok-finish.ensures.answered start seen inv.2)
+    last_complete c.args.options.now c.args.size c.args.limit _ _ _ _ (told c.loop-session.link) (told c.read_some.new.link) _ c.loop-session.session.engine c.loop-session.session.splitter inv.0 buf few inv.2 none c.in-Ok-finish.ensures.answered
 
-pub returns-in-Err-WriteFault-clause-outcome : goal.returns-in-Err-WriteFault-clause-outcome
-returns-in-Err-WriteFault-clause-outcome g c =
+pub returns-in-Err-WriteFault-clause-conversed : goal.returns-in-Err-WriteFault-clause-conversed
+returns-in-Err-WriteFault-clause-conversed g c =
     let told = g.L.Link.told in
-    let start : Standing = opening c.args.size in
-    let inv = c.loop-session.invariant.kept in
-    let seen : List ℕ = inv.0 in
+    let inv = c.loop-session.invariant.goes in
     let buf : List ℕ = c.read_some.new.buffer in
-    let count : ℕ = c.in-Ok-read_some.count in
+    let few : length inv.0 ≤ c.args.limit = omega (arith, inv.1, c.loop-session.invariant.in_limit) in
     let none : Both (told c.loop-session.link) (told c.read_some.new.link) (λ o t. Takes o t 0 buf) =
     subst (λ n. Both (told c.loop-session.link) (told c.read_some.new.link) (λ o t. Takes o t n buf)) c.if-count-eq0.true c.in-Ok-read_some.ensures.told in
-    let few : length seen ≤ c.args.limit = omega (arith, inv.1) in
-    finish_unwritten start c.args.limit _ (told c.loop-session.link) (told c.read_some.new.link) _ seen buf few inv.3 inv.2.going none (c.finish.ensures.broke_off start seen inv.2 (cc))
+    last_unwritten c.args.options.now c.args.size c.args.limit _ _ _ _ (told c.loop-session.link) (told c.read_some.new.link) _ c.loop-session.session.engine c.loop-session.session.splitter inv.0 buf few inv.2 none (c.finish.ensures.broke_off (cc))
 
-pub returns-in-Err-Memory-clause-outcome : goal.returns-in-Err-Memory-clause-outcome
-returns-in-Err-Memory-clause-outcome g c =
+pub returns-in-Err-Memory-clause-conversed : goal.returns-in-Err-Memory-clause-conversed
+returns-in-Err-Memory-clause-conversed g c =
     let told = g.L.Link.told in
-    let start : Standing = opening c.args.size in
-    let inv = c.loop-session.invariant.kept in
-    let seen : List ℕ = inv.0 in
+    let inv = c.loop-session.invariant.goes in
     let buf : List ℕ = c.read_some.new.buffer in
-    let count : ℕ = c.in-Ok-read_some.count in
+    let few : length inv.0 ≤ c.args.limit = omega (arith, inv.1, c.loop-session.invariant.in_limit) in
     let none : Both (told c.loop-session.link) (told c.read_some.new.link) (λ o t. Takes o t 0 buf) =
     subst (λ n. Both (told c.loop-session.link) (told c.read_some.new.link) (λ o t. Takes o t n buf)) c.if-count-eq0.true c.in-Ok-read_some.ensures.told in
-    let few : length seen ≤ c.args.limit = omega (arith, inv.1) in
-    finish_unfinished start c.args.limit _ (told c.loop-session.link) (told c.read_some.new.link) _ seen buf few inv.3 inv.2.going none (c.finish.ensures.gave_up (cc)) (c.finish.ensures.stopped start seen inv.2 (cc))
+    last_unfinished c.args.options.now c.args.size c.args.limit _ _ _ _ (told c.loop-session.link) (told c.read_some.new.link) _ c.loop-session.session.engine c.loop-session.session.splitter inv.0 buf few inv.2 none (c.finish.ensures.silent (cc)) (c.finish.ensures.gave_up (cc))
 
-pub returns-then-total-limit-clause-outcome : goal.returns-then-total-limit-clause-outcome
-returns-then-total-limit-clause-outcome g c =
+pub returns-in-Err-Archive-clause-conversed : goal.returns-in-Err-Archive-clause-conversed
+returns-in-Err-Archive-clause-conversed g c =
     let told = g.L.Link.told in
-    let start : Standing = opening c.args.size in
-    let inv = c.loop-session.invariant.kept in
+    let inv = c.loop-session.invariant.goes in
+    let buf : List ℕ = c.read_some.new.buffer in
+    let few : length inv.0 ≤ c.args.limit = omega (arith, inv.1, c.loop-session.invariant.in_limit) in
+    let none : Both (told c.loop-session.link) (told c.read_some.new.link) (λ o t. Takes o t 0 buf) =
+    subst (λ n. Both (told c.loop-session.link) (told c.read_some.new.link) (λ o t. Takes o t n buf)) c.if-count-eq0.true c.in-Ok-read_some.ensures.told in
+    last_unarchived c.args.options.now c.args.size c.args.limit _ _ _ _ (told c.loop-session.link) (told c.read_some.new.link) _ c.loop-session.session.engine c.loop-session.session.splitter inv.0 buf few inv.2 none (c.finish.ensures.silent_held_back (cc)) (c.finish.ensures.held_back (cc))
+
+pub returns-then-total-limit-clause-conversed : goal.returns-then-total-limit-clause-conversed
+returns-then-total-limit-clause-conversed g c =
+    let told = g.L.Link.told in
+    let inv = c.loop-session.invariant.goes in
     let seen : List ℕ = inv.0 in
     let buf : List ℕ = c.read_some.new.buffer in
     let count : ℕ = c.in-Ok-read_some.count in
     let fits : count ≤ length buf = omega (arith, c.in-Ok-read_some.ensures.bound) in
-    let took : Kept start (told c.args.link.now) (told c.read_some.new.link) (seen ++ take count buf) (talk_to start seen).text =
-    kept_taking start _ (told c.loop-session.link) _ seen buf count inv.3 inv.2.going c.in-Ok-read_some.ensures.told in
+    let took = goes_taking (opening c.args.options.now c.args.size) _ _ _ (told c.loop-session.link) (told c.read_some.new.link) c.loop-session.session.engine c.loop-session.session.splitter seen buf count inv.2 c.in-Ok-read_some.ensures.told in
     let one : count ≡ 1 = omega (arith, c.in-Ok-read_some.ensures.bound) in
-    read_overlong start c.args.limit _ (told c.read_some.new.link) seen (take count buf) (omega (arith, inv.1)) (length-front buf count fits ∙ one) took inv.2.going
+    let many : length seen ≡ c.args.limit = omega (arith, inv.1) in
+    ends_overlong c.args.options.now c.args.size c.args.limit _ _ _ (told c.read_some.new.link) c.loop-session.session.engine c.loop-session.session.splitter seen (take count buf) many (length-front buf count fits ∙ one) took
 
-pub returns-in-Err-WriteFault-feed-clause-outcome : goal.returns-in-Err-WriteFault-feed-clause-outcome
-returns-in-Err-WriteFault-feed-clause-outcome g c =
+pub returns-in-Err-WriteFault-feed-clause-conversed : goal.returns-in-Err-WriteFault-feed-clause-conversed
+returns-in-Err-WriteFault-feed-clause-conversed g c =
     let told = g.L.Link.told in
-    let start : Standing = opening c.args.size in
-    let inv = c.loop-session.invariant.kept in
+    let inv = c.loop-session.invariant.goes in
     let seen : List ℕ = inv.0 in
     let buf : List ℕ = c.read_some.new.buffer in
     let count : ℕ = c.in-Ok-read_some.count in
     let fits : count ≤ length buf = omega (arith, c.in-Ok-read_some.ensures.bound) in
-    let took : Kept start (told c.args.link.now) (told c.read_some.new.link) (seen ++ take count buf) (talk_to start seen).text =
-    kept_taking start _ (told c.loop-session.link) _ seen buf count inv.3 inv.2.going c.in-Ok-read_some.ensures.told in
+    let took = goes_taking (opening c.args.options.now c.args.size) _ _ _ (told c.loop-session.link) (told c.read_some.new.link) c.loop-session.session.engine c.loop-session.session.splitter seen buf count inv.2 c.in-Ok-read_some.ensures.told in
     let many : length (seen ++ take count buf) ≡ c.loop-session.total + count = length-taken seen buf _ count inv.1 fits in
     let few : length (seen ++ take count buf) ≤ c.args.limit = omega (arith, many, c.in-Ok-read_some.ensures.bound) in
-    feed_unwritten start c.args.limit _ (told c.read_some.new.link) _ seen (take count buf) few took (c.feed.ensures.broke_off start seen inv.2 (cc))
+    ends_unwritten c.args.options.now c.args.size c.args.limit _ _ _ _ (told c.read_some.new.link) _ c.loop-session.session.engine c.loop-session.session.splitter seen (take count buf) few took (c.feed.ensures.broke_off (cc))
 
-pub returns-in-Err-Memory-feed-clause-outcome : goal.returns-in-Err-Memory-feed-clause-outcome
-returns-in-Err-Memory-feed-clause-outcome g c =
+pub returns-in-Err-Memory-feed-clause-conversed : goal.returns-in-Err-Memory-feed-clause-conversed
+returns-in-Err-Memory-feed-clause-conversed g c =
     let told = g.L.Link.told in
-    let start : Standing = opening c.args.size in
-    let inv = c.loop-session.invariant.kept in
+    let inv = c.loop-session.invariant.goes in
     let seen : List ℕ = inv.0 in
     let buf : List ℕ = c.read_some.new.buffer in
     let count : ℕ = c.in-Ok-read_some.count in
     let fits : count ≤ length buf = omega (arith, c.in-Ok-read_some.ensures.bound) in
-    let took : Kept start (told c.args.link.now) (told c.read_some.new.link) (seen ++ take count buf) (talk_to start seen).text =
-    kept_taking start _ (told c.loop-session.link) _ seen buf count inv.3 inv.2.going c.in-Ok-read_some.ensures.told in
+    let took = goes_taking (opening c.args.options.now c.args.size) _ _ _ (told c.loop-session.link) (told c.read_some.new.link) c.loop-session.session.engine c.loop-session.session.splitter seen buf count inv.2 c.in-Ok-read_some.ensures.told in
     let many : length (seen ++ take count buf) ≡ c.loop-session.total + count = length-taken seen buf _ count inv.1 fits in
     let few : length (seen ++ take count buf) ≤ c.args.limit = omega (arith, many, c.in-Ok-read_some.ensures.bound) in
-    feed_unfinished start c.args.limit _ (told c.read_some.new.link) _ seen (take count buf) few took (c.feed.ensures.gave_up start seen inv.2 (cc))
+    ends_unfinished c.args.options.now c.args.size c.args.limit _ _ _ _ (told c.read_some.new.link) _ c.loop-session.session.engine c.loop-session.session.splitter seen (take count buf) few took (c.feed.ensures.gave_up (cc))
 
-pub returns-in-Ok-true-clause-outcome : goal.returns-in-Ok-true-clause-outcome
-returns-in-Ok-true-clause-outcome g c =
+pub returns-in-Err-Archive-feed-clause-conversed : goal.returns-in-Err-Archive-feed-clause-conversed
+returns-in-Err-Archive-feed-clause-conversed g c =
     let told = g.L.Link.told in
-    let start : Standing = opening c.args.size in
-    let inv = c.loop-session.invariant.kept in
+    let inv = c.loop-session.invariant.goes in
     let seen : List ℕ = inv.0 in
     let buf : List ℕ = c.read_some.new.buffer in
     let count : ℕ = c.in-Ok-read_some.count in
     let fits : count ≤ length buf = omega (arith, c.in-Ok-read_some.ensures.bound) in
-    let took : Kept start (told c.args.link.now) (told c.read_some.new.link) (seen ++ take count buf) (talk_to start seen).text =
-    kept_taking start _ (told c.loop-session.link) _ seen buf count inv.3 inv.2.going c.in-Ok-read_some.ensures.told in
+    let took = goes_taking (opening c.args.options.now c.args.size) _ _ _ (told c.loop-session.link) (told c.read_some.new.link) c.loop-session.session.engine c.loop-session.session.splitter seen buf count inv.2 c.in-Ok-read_some.ensures.told in
     let many : length (seen ++ take count buf) ≡ c.loop-session.total + count = length-taken seen buf _ count inv.1 fits in
     let few : length (seen ++ take count buf) ≤ c.args.limit = omega (arith, many, c.in-Ok-read_some.ensures.bound) in
-    let quit : (talk_to start (seen ++ take count buf)).ending ≡ AfterQuit =
-    subst (λ b. Moves b start c.feed.new.self.engine c.feed.new.self.splitter (seen ++ take count buf)) c.in-Ok-true.field-0-test (c.in-Ok-true.ensures.moved start seen inv.2) in
-    feed_quit start c.args.limit _ (told c.read_some.new.link) _ seen (take count buf) few took (c.in-Ok-true.ensures.answered start seen inv.2) quit
+    ends_unarchived c.args.options.now c.args.size c.args.limit _ _ _ _ (told c.read_some.new.link) _ c.loop-session.session.engine c.loop-session.session.splitter seen (take count buf) few took (c.feed.ensures.held_back (cc))
+
+pub returns-in-Ok-true-clause-conversed : goal.returns-in-Ok-true-clause-conversed
+returns-in-Ok-true-clause-conversed g c =
+    let told = g.L.Link.told in
+    let inv = c.loop-session.invariant.goes in
+    let seen : List ℕ = inv.0 in
+    let buf : List ℕ = c.read_some.new.buffer in
+    let count : ℕ = c.in-Ok-read_some.count in
+    let fits : count ≤ length buf = omega (arith, c.in-Ok-read_some.ensures.bound) in
+    let took = goes_taking (opening c.args.options.now c.args.size) _ _ _ (told c.loop-session.link) (told c.read_some.new.link) c.loop-session.session.engine c.loop-session.session.splitter seen buf count inv.2 c.in-Ok-read_some.ensures.told in
+    let many : length (seen ++ take count buf) ≡ c.loop-session.total + count = length-taken seen buf _ count inv.1 fits in
+    let few : length (seen ++ take count buf) ≤ c.args.limit = omega (arith, many, c.in-Ok-read_some.ensures.bound) in
+    ends_quit c.args.options.now c.args.size c.args.limit _ _ _ _ (told c.read_some.new.link) _ c.loop-session.session.engine c.feed.new.self.engine c.loop-session.session.splitter c.feed.new.self.splitter seen (take count buf) few took (rw c.in-Ok-true.field-0-test at c.in-Ok-true.ensures.fed)
 
 pub loop-session-preserved : goal.loop-session-preserved
 loop-session-preserved g c =
     let told = g.L.Link.told in
-    let start : Standing = opening c.args.size in
-    let inv = c.loop-session.invariant.kept in
+    let inv = c.loop-session.invariant.goes in
     let seen : List ℕ = inv.0 in
     let buf : List ℕ = c.read_some.new.buffer in
     let count : ℕ = c.in-Ok-read_some.count in
     let fits : count ≤ length buf = omega (arith, c.in-Ok-read_some.ensures.bound) in
-    let took : Kept start (told c.args.link.now) (told c.read_some.new.link) (seen ++ take count buf) (talk_to start seen).text =
-    kept_taking start _ (told c.loop-session.link) _ seen buf count inv.3 inv.2.going c.in-Ok-read_some.ensures.told in
-    let stands : Stands start c.feed.new.self.engine c.feed.new.self.splitter (seen ++ take count buf) =
-    subst (λ b. Moves b start c.feed.new.self.engine c.feed.new.self.splitter (seen ++ take count buf)) c.in-Ok-false.field-0-test (c.in-Ok-false.ensures.moved start seen inv.2) in
+    let took = goes_taking (opening c.args.options.now c.args.size) _ _ _ (told c.loop-session.link) (told c.read_some.new.link) c.loop-session.session.engine c.loop-session.session.splitter seen buf count inv.2 c.in-Ok-read_some.ensures.told in
     record {
       in_limit = omega (arith, c.in-Ok-read_some.ensures.bound);
       later = omega (arith, c.read_some.ensures.cause.later);
       later_reads = omega (arith, c.read_some.ensures.cause.later);
-      kept = (seen ++ take count buf, length-taken seen buf _ count inv.1 fits, stands, feed_on start _ (told c.read_some.new.link) _ seen (take count buf) took (c.in-Ok-false.ensures.answered start seen inv.2));
+      later_archive = omega (arith, c.feed.ensures.later_archive);
+      goes = (
+        seen ++ take count buf,
+        length-taken seen buf _ count inv.1 fits,
+        goes_on_feeding (opening c.args.options.now c.args.size) _ _ _ _ (told c.read_some.new.link) _ c.loop-session.session.engine c.feed.new.self.engine c.loop-session.session.splitter c.feed.new.self.splitter seen (take count buf) took (rw c.in-Ok-false.field-0-test at c.in-Ok-false.ensures.fed),
+      );
     }

@@ -1,23 +1,24 @@
 -- The answer to one line: what was pushed, and what was said.
-use Rattle.std.proofs.Common.{◌≡◌, true, take, drop, rules, subst}
-use Rattle.std.proofs.lemmas.List.{take-append-drop}
-use Rattle.hex_cli.specs.Sessions.{EndsLine}
-use Rattle.hex_cli.proofs.TalkLaws.{line_owed, line_moves, line_ends}
+use Rattle.std.proofs.Common.{◌≡◌, true, false, rules}
+use Rattle.hex_cli.proofs.Advances.{answered_line, open_line, spent_line, short_line}
 use Rattle.hex_cli.proofs.session.Session.advance.Goals as goal
 
-pub returns-in-Err-clause-stopped : goal.returns-in-Err-clause-stopped
-returns-in-Err-clause-stopped c = λ start seen stands.
-    let ended : c.push-fed.new.self.ended ≡ true = search rules in
-    let piece = c.args.piece.now in
-    let used = c.push-fed.result.used in
-    subst (EndsLine seen) (take-append-drop used piece) (line_ends c.push-fed.new.self seen (take used piece) (drop used piece) (c.push-fed.ensures.stream seen stands.in_hand) ended)
+pub returns-then-eq-clause-advanced : goal.returns-then-eq-clause-advanced
+returns-then-eq-clause-advanced g c =
+    let ended : c.push-fed.new.self.ended ≡ false = search rules in
+    open_line _ _ _ c.push-fed.new.self _ _ c.push-fed.ensures.stream ended
 
-pub returns-in-Ok-clause-owed : goal.returns-in-Ok-clause-owed
-returns-in-Ok-clause-owed c = λ start front seen stands owed.
+pub returns-in-Err-clause-gave_up : goal.returns-in-Err-clause-gave_up
+returns-in-Err-clause-gave_up g c = λ e.
     let ended : c.push-fed.new.self.ended ≡ true = search rules in
-    line_owed start c.args.self.now.engine c.args.self.now.splitter c.push-fed.new.self seen _ front _ _ stands (c.push-fed.ensures.stream seen stands.in_hand) ended owed c.in-Ok.ensures.text
+    spent_line _ _ c.args.self.now.engine c.args.self.now.splitter c.push-fed.new.self c.args.piece.now c.push-fed.result.used c.push-fed.ensures.stream ended (c.answer.ensures.spends (cc))
 
-pub returns-in-Ok-clause-moved : goal.returns-in-Ok-clause-moved
-returns-in-Ok-clause-moved c = λ start seen stands.
+pub returns-in-Err-clause-held_back : goal.returns-in-Err-clause-held_back
+returns-in-Err-clause-held_back g c = λ e.
     let ended : c.push-fed.new.self.ended ≡ true = search rules in
-    rw c.in-Ok.ensures.splitter (line_moves start c.args.self.now.engine c.answer.new.self.engine c.args.self.now.splitter c.push-fed.new.self seen _ c.in-Ok.quit stands (c.push-fed.ensures.stream seen stands.in_hand) ended c.in-Ok.ensures.at c.in-Ok.ensures.ending)
+    short_line _ _ c.args.self.now.engine c.args.self.now.splitter c.push-fed.new.self c.args.piece.now c.push-fed.result.used c.push-fed.ensures.stream ended (c.answer.ensures.lacks (cc))
+
+pub returns-in-Ok-clause-advanced : goal.returns-in-Ok-clause-advanced
+returns-in-Ok-clause-advanced g c =
+    let ended : c.push-fed.new.self.ended ≡ true = search rules in
+    answered_line _ _ c.args.self.now.engine c.answer.new.self.engine c.args.self.now.splitter c.push-fed.new.self c.answer.new.self.splitter _ _ _ c.in-Ok.quit c.push-fed.ensures.stream ended c.in-Ok.ensures.splitter c.in-Ok.ensures.responds

@@ -1,48 +1,45 @@
 -- What stands after one line more.
-use Rattle.std.proofs.Common.{◌≡◌, ◌++◌, ℕ, List, take, arith, subst}
+use Rattle.std.proofs.Common.{◌≡◌, [], refl, append-nil, sym, arith}
 use Rattle.std.proofs.lemmas.Grind.{common_steps}
-use Rattle.hex_cli.specs.Talk.{AfterQuit}
-use Rattle.hex_cli.specs.Sessions.{talk_to, Stands, Owes}
-use Rattle.hex_cli.proofs.Pieces.{next_seen}
+use Rattle.hex_cli.specs.Sessions.{Does}
+use Rattle.hex_cli.proofs.StockLaws.{does_nothing}
+use Rattle.hex_cli.proofs.Batches.{Gathered, GatheredBy, gathered_nothing, gather, batch_of, quit_batch_of, memory_batch_of, archive_batch_of}
 use Rattle.hex_cli.proofs.session.Session.collect.Goals as goal
 
-pub returns-then-moved-clause-collects : goal.returns-then-moved-clause-collects
-returns-then-moved-clause-collects c = λ start seen stands.
+pub loop-moved-init : goal.loop-moved-init
+loop-moved-init g c = record {
+  in_piece = c.requires.some;
+  gathered = gathered_nothing _ c.args.self.now.engine c.args.self.now.splitter c.clear.new.self.items c.clear.ensures.items;
+  later = omega arith;
+}
+
+pub returns-in-Err-Memory-clause-collects : goal.returns-in-Err-Memory-clause-collects
+returns-in-Err-Memory-clause-collects g c =
     let inv = c.loop-moved.invariant in
-    let piece : List ℕ = c.args.piece.now in
-    let i : ℕ = c.loop-moved.at in
-    let n : ℕ = c.in-Ok.moved.used in
-    let here = inv.stands start seen stands in
-    let moved = rw c.if-moved.true at c.in-Ok.ensures.moved start (seen ++ take i piece) here in
-    record {
-      answers = subst (Owes start (talk_to start seen).text c.advance.new.self.out.items) (next_seen seen piece i n) (c.in-Ok.ensures.owed start (talk_to start seen).text (seen ++ take i piece) here (inv.answers start seen stands));
-      paused = subst (λ s. (talk_to start s).ending ≡ AfterQuit) (next_seen seen piece i n) moved;
-    }
+    memory_batch_of _ _ _ _ c.loop-moved.self.engine _ _ c.loop-moved.self.splitter _ c.loop-moved.self.out.items c.advance.new.self.out.items c.args.piece.now c.loop-moved.at inv.gathered (c.advance.ensures.gave_up (cc)) c.in-Err-Memory.ensures.err
+
+pub returns-in-Err-Archive-clause-collects : goal.returns-in-Err-Archive-clause-collects
+returns-in-Err-Archive-clause-collects g c =
+    let inv = c.loop-moved.invariant in
+    archive_batch_of _ _ _ _ c.loop-moved.self.engine _ _ c.loop-moved.self.splitter _ c.loop-moved.self.out.items c.advance.new.self.out.items c.args.piece.now c.loop-moved.at inv.gathered (c.advance.ensures.held_back (cc)) c.in-Err-Archive.ensures.err
+
+pub returns-then-moved-clause-collects : goal.returns-then-moved-clause-collects
+returns-then-moved-clause-collects g c =
+    let inv = c.loop-moved.invariant in
+    quit_batch_of _ _ _ _ _ _ c.advance.new.self.out.items c.args.piece.now _
+    (gather _ _ _ _ c.loop-moved.self.engine _ _ c.loop-moved.self.splitter _ c.loop-moved.self.out.items c.advance.new.self.out.items _ c.args.piece.now c.loop-moved.at c.in-Ok.moved.used inv.gathered (rw c.if-moved.true at c.in-Ok.ensures.advanced))
 
 pub returns-then-at-piece-clause-collects : goal.returns-then-at-piece-clause-collects
-returns-then-at-piece-clause-collects c = λ start seen stands.
+returns-then-at-piece-clause-collects g c =
     let inv = c.loop-moved.invariant in
-    let piece : List ℕ = c.args.piece.now in
-    let i : ℕ = c.loop-moved.at in
-    let n : ℕ = c.in-Ok.moved.used in
-    let here = inv.stands start seen stands in
-    let moved = rw c.if-moved.false at c.in-Ok.ensures.moved start (seen ++ take i piece) here in
-    record {
-      answers = subst (Owes start (talk_to start seen).text c.advance.new.self.out.items) (next_seen seen piece i n) (c.in-Ok.ensures.owed start (talk_to start seen).text (seen ++ take i piece) here (inv.answers start seen stands));
-      paused = subst (Stands start c.advance.new.self.engine c.advance.new.self.splitter) (next_seen seen piece i n) moved;
-    }
+    batch_of _ _ _ _ _ _ c.advance.new.self.out.items c.args.piece.now _
+    (gather _ _ _ _ c.loop-moved.self.engine _ _ c.loop-moved.self.splitter _ c.loop-moved.self.out.items c.advance.new.self.out.items _ c.args.piece.now c.loop-moved.at c.in-Ok.moved.used inv.gathered (rw c.if-moved.false at c.in-Ok.ensures.advanced))
 
 pub loop-moved-preserved : goal.loop-moved-preserved
-loop-moved-preserved c =
+loop-moved-preserved g c =
     let inv = c.loop-moved.invariant in
-    let piece : List ℕ = c.args.piece.now in
-    let i : ℕ = c.loop-moved.at in
-    let n : ℕ = c.in-Ok.moved.used in
     record {
       in_piece = grind (arith, common_steps, c.in-Ok.ensures.used.1);
-      answers = λ start seen stands.
-          subst (Owes start (talk_to start seen).text c.advance.new.self.out.items) (next_seen seen piece i n) (c.in-Ok.ensures.owed start (talk_to start seen).text (seen ++ take i piece) (inv.stands start seen stands) (inv.answers start seen stands));
-      stands = λ start seen stands.
-          let moved = rw c.if-moved.false at c.in-Ok.ensures.moved start (seen ++ take i piece) (inv.stands start seen stands) in
-          subst (Stands start c.advance.new.self.engine c.advance.new.self.splitter) (next_seen seen piece i n) moved;
+      gathered = gather _ _ _ _ c.loop-moved.self.engine _ _ c.loop-moved.self.splitter _ c.loop-moved.self.out.items c.advance.new.self.out.items _ c.args.piece.now c.loop-moved.at c.in-Ok.moved.used inv.gathered (rw c.if-moved.false at c.in-Ok.ensures.advanced);
+      later = omega (arith, inv.later, c.advance.ensures.later);
     }

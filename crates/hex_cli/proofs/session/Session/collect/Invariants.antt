@@ -1,15 +1,18 @@
-use Rattle.std.proofs.Common.{◌<◌, ◌-◌, ◌++◌, ℕ, List, length, take}
-use Rattle.hex_engine.specs.Standing.{Standing}
-use Rattle.hex_cli.specs.Sessions.{Stands, Answers}
+use Rattle.std.proofs.Common.{◌<◌, ◌≤◌, ◌-◌, [], length, take}
+use Rattle.hex_cli.specs.Sessions.{Does}
+use Rattle.hex_cli.proofs.Batches.{Gathered}
 use Rattle.hex_cli.proofs.session.Session.collect.Given as goal
 
 -- what is owed so far, and where the session stands
 abbrev pub invariant-loop-moved : goal.invariant-loop-moved
-invariant-loop-moved l = record {
-  in_piece : l.at < length l.piece;
-  answers : (start : Standing) → (seen : List ℕ) → Stands start l.fn.self.engine l.fn.self.splitter seen → Answers start l.self.out.items seen (take l.at l.piece);
-  stands : (start : Standing) → (seen : List ℕ) → Stands start l.fn.self.engine l.fn.self.splitter seen → Stands start l.self.engine l.self.splitter (seen ++ take l.at l.piece);
-}
+invariant-loop-moved g l =
+    let shelf = g.F.Shelf.told in
+    let archive = g.A.Archive.told in
+    record {
+      in_piece : l.at < length l.piece;
+      gathered : Does (shelf l.fn.shelf, archive l.fn.archive) (shelf l.shelf, archive l.archive) [] l.fn.self.engine l.fn.self.splitter (Gathered l.self.engine l.self.splitter l.self.out.items (take l.at l.piece));
+      later : g.A.Archive.faults l.fn.archive ≤ g.A.Archive.faults l.archive;
+    }
 
 abbrev pub decreases-loop-moved : goal.decreases-loop-moved
-decreases-loop-moved l = length l.piece - l.at
+decreases-loop-moved g l = length l.piece - l.at

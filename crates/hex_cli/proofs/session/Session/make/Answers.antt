@@ -5,4 +5,4 @@ use Rattle.hex_cli.proofs.session.Session.make.Goals as goal
 
 pub returns : goal.returns
 unfolding whole rest
-returns c = record { stands = record { at = c.in-Ok.ensures; going = refl; in_hand = ap so_far c.in-Ok-make.ensures } }
+returns c = record { stands = λ later. record { at = c.in_ok-engine.ensures; left = refl; going = refl; in_hand = ap so_far c.in-Ok.ensures } }
