@@ -76,17 +76,14 @@ spent_line a b engine held new piece n stream ended s =
 
 pub short_line : (a b : Stock) (engine : Standing) (held new : Held) (piece : List ℕ) (n : ℕ)
     → ((seen : List ℕ) → StandsAfter held seen → Advances new seen (take n piece)) → new.ended ≡ true
-    → Lacks a b engine new.line → DoesSome a b engine held (λ start all later seen. AnswersShort start all later [] seen piece)
-short_line a b engine held new piece n stream ended s = (
-  s.in_vain,
-  record {
-    used = nothing_left;
-    stood = λ start all later seen here. (
-      uses_of_start a b nothing_left s.in_vain start all later engine held seen here s.uses,
-      subst (AnswersShort start all later [] seen) (take-append-drop n piece) (line_short start all later engine held new seen (take n piece) (drop n piece) here (stream seen here.in_hand) ended s.is),
-    );
-  },
-)
+    → Lacks a b engine new.line → Does a b [] engine held (λ start all later seen. AnswersShort start all later [] seen piece)
+short_line a b engine held new piece n stream ended s = record {
+  used = nothing_left;
+  stood = λ start all later seen here. (
+    uses_of_start a b nothing_left [] start all later engine held seen here s.uses,
+    subst (AnswersShort start all later [] seen) (take-append-drop n piece) (line_short start all later engine held new seen (take n piece) (drop n piece) here (stream seen here.in_hand) ended s.is),
+  );
+}
 
 -- ---- the last line
 
@@ -119,14 +116,11 @@ spent_last a b engine held new stream ended s =
 
 pub lacking_last : (a b : Stock) (engine : Standing) (held new : Held)
     → ((seen : List ℕ) → StandsAfter held seen → Ends new.ended new.line (whole seen) (lines seen)) → new.ended ≡ true
-    → Lacks a b engine new.line → DoesSome a b engine held (λ start all later seen. LastIsShort start all later seen)
-lacking_last a b engine held new stream ended s = (
-  s.in_vain,
-  record {
-    used = nothing_left;
-    stood = λ start all later seen here. (
-      uses_of_start a b nothing_left s.in_vain start all later engine held seen here s.uses,
-      last_short start all later engine held new seen here (stream seen here.in_hand) ended s.is,
-    );
-  },
-)
+    → Lacks a b engine new.line → Does a b [] engine held (λ start all later seen. LastIsShort start all later seen)
+lacking_last a b engine held new stream ended s = record {
+  used = nothing_left;
+  stood = λ start all later seen here. (
+    uses_of_start a b nothing_left [] start all later engine held seen here s.uses,
+    last_short start all later engine held new seen here (stream seen here.in_hand) ended s.is,
+  );
+}

@@ -39,8 +39,8 @@ gather a b c engine mid after held mid_held then out more quit piece i n p q =
     (λ start all later seen t. t.1)
     (λ start all between later seen t s. (
       let bytes = s.answers in
-      subst (λ l. Answers start all more seen l) (next_part piece i n)
-      (subst (λ o. Answers start all o seen (take i piece ++ take n (rest_of piece i))) (sym bytes.1) (answers_then start all seen (take i piece) (take n (rest_of piece i)) out bytes.0 t.0 bytes.2)),
+          subst (λ l. Answers start all more seen l) (next_part piece i n)
+          (subst (λ o. Answers start all o seen (take i piece ++ take n (rest_of piece i))) (sym bytes.1) (answers_then start all seen (take i piece) (take n (rest_of piece i)) out bytes.0 t.0 bytes.2)),
       subst (λ l. Moves quit start all later after then l) (next_seen seen piece i n) s.moved,
     )) p q
 
@@ -51,7 +51,7 @@ batch_of a b engine after held then out piece n p = (
   [],
   refl,
   does_weaker a b [] engine held (GatheredBy false after then out (take n piece)) (λ start all later seen. Collects Answered start all later after then out seen n piece)
-  (λ start all later seen t. record { answers = t.0; paused = t.1 }) p,
+      (λ start all later seen t. record { answers = t.0; paused = t.1 }) p,
 )
 
 pub quit_batch_of : (a b : Stock) (engine after : Standing) (held then : Held) (out piece : List ℕ) (n : ℕ)
@@ -60,7 +60,7 @@ quit_batch_of a b engine after held then out piece n p = (
   [],
   refl,
   does_weaker a b [] engine held (GatheredBy true after then out (take n piece)) (λ start all later seen. Collects Quit start all later after then out seen n piece)
-  (λ start all later seen t. record { answers = t.0; paused = t.1 }) p,
+      (λ start all later seen t. record { answers = t.0; paused = t.1 }) p,
 )
 
 -- memory runs out, or a turn is wanted
@@ -71,27 +71,27 @@ memory_batch_of a b c engine mid after held mid_held then out out_now piece i p 
   q.0,
   tt,
   does_then a b c q.0 engine mid held mid_held (take i piece) (Gathered mid mid_held out (take i piece)) (λ start all later seen. EndsLine seen (rest_of piece i))
-  (λ start all later seen. Collects Memory start all later after then out_now seen i piece)
-  (λ start all later seen t. t.1)
-  (λ start all between later seen t s. record {
-    answers = rw same t.0;
-    paused = (t.1.going, subst (EndsLine (seen ++ take i piece)) (take_rest piece i) s);
-  }) p q.1,
+      (λ start all later seen. Collects Memory start all later after then out_now seen i piece)
+      (λ start all later seen t. t.1)
+      (λ start all between later seen t s. record {
+        answers = rw same t.0;
+        paused = (t.1.going, subst (EndsLine (seen ++ take i piece)) (take_rest piece i) s);
+      }) p q.1,
 )
 
 pub archive_batch_of : (a b c : Stock) (engine mid after : Standing) (held mid_held then : Held) (out out_now piece : List ℕ) (i : ℕ)
-    → Does a b [] engine held (Gathered mid mid_held out (take i piece)) → DoesSome b c mid mid_held (λ start all later seen. AnswersShort start all later [] seen (rest_of piece i)) → out_now ≡ out
+    → Does a b [] engine held (Gathered mid mid_held out (take i piece)) → Does b c [] mid mid_held (λ start all later seen. AnswersShort start all later [] seen (rest_of piece i)) → out_now ≡ out
     → (in_vain : List Bool) × IsVain Archive in_vain × Does a c in_vain engine held (λ start all later seen. Collects Archive start all later after then out_now seen i piece)
 archive_batch_of a b c engine mid after held mid_held then out out_now piece i p q same = (
-  q.0,
-  tt,
-  does_then a b c q.0 engine mid held mid_held (take i piece) (Gathered mid mid_held out (take i piece)) (λ start all later seen. AnswersShort start all later [] seen (rest_of piece i))
-  (λ start all later seen. Collects Archive start all later after then out_now seen i piece)
-  (λ start all later seen t. t.1)
-  (λ start all between later seen t s. record {
-    answers = rw same t.0;
-    paused = subst (AnswersShort start all later [] (seen ++ take i piece)) (take_rest piece i) s;
-  }) p q.1,
+  [],
+  refl,
+  does_then a b c [] engine mid held mid_held (take i piece) (Gathered mid mid_held out (take i piece)) (λ start all later seen. AnswersShort start all later [] seen (rest_of piece i))
+      (λ start all later seen. Collects Archive start all later after then out_now seen i piece)
+      (λ start all later seen t. t.1)
+      (λ start all between later seen t s. record {
+        answers = rw same t.0;
+        paused = subst (AnswersShort start all later [] (seen ++ take i piece)) (take_rest piece i) s;
+      }) p q,
 )
 
 -- ---- batches
@@ -115,7 +115,7 @@ fed_on x y z a b c engine mid after held mid_held then out piece i n pause e p q
     (λ start all later seen t. t.1)
     (λ start all between later seen t s. (
       subst (AnswersAll x z start all seen) (next_part piece i n)
-      (AnswersAll-then x y z start all seen (take i piece) (take n (rest_of piece i)) t.0 (batch_answers y z Answered start all later after then out (seen ++ take i piece) n (rest_of piece i) s gave)),
+          (AnswersAll-then x y z start all seen (take i piece) (take n (rest_of piece i)) t.0 (batch_answers y z Answered start all later after then out (seen ++ take i piece) n (rest_of piece i) s gave)),
       subst (Stands start all later after then) (next_seen seen piece i n) s.paused,
     )) p does
 
@@ -129,15 +129,15 @@ fed_quit x y z a b c engine mid after held mid_held then out piece i n pause e p
     (λ start all later seen. Fed true x z start all later after then seen piece)
     (λ start all later seen t. t.1)
     (λ start all between later seen t s.
-        let parts = take-append-drop (i + n) piece in
-        let quit : Quits start all later (seen ++ take (i + n) piece) = subst (Quits start all later) (next_seen seen piece i n) s.paused in
-        let answered : AnswersAll x z start all seen (take (i + n) piece) =
-        subst (AnswersAll x z start all seen) (next_part piece i n)
-        (AnswersAll-then x y z start all seen (take i piece) (take n (rest_of piece i)) t.0 (batch_answers y z Quit start all later after then out (seen ++ take i piece) n (rest_of piece i) s gave)) in
-        record {
-          answered = subst (AnswersAll x z start all seen) parts (AnswersAll-quit x z start all seen (take (i + n) piece) (drop (i + n) piece) answered quit.ending);
-          moved = subst (λ l. Quits start all later (seen ++ l)) parts (quits_stay start all later seen (take (i + n) piece) (drop (i + n) piece) quit);
-        }) p does
+    let parts = take-append-drop (i + n) piece in
+    let quit : Quits start all later (seen ++ take (i + n) piece) = subst (Quits start all later) (next_seen seen piece i n) s.paused in
+    let answered : AnswersAll x z start all seen (take (i + n) piece) =
+    subst (AnswersAll x z start all seen) (next_part piece i n)
+    (AnswersAll-then x y z start all seen (take i piece) (take n (rest_of piece i)) t.0 (batch_answers y z Quit start all later after then out (seen ++ take i piece) n (rest_of piece i) s gave)) in
+    record {
+      answered = subst (AnswersAll x z start all seen) parts (AnswersAll-quit x z start all seen (take (i + n) piece) (drop (i + n) piece) answered quit.ending);
+      moved = subst (λ l. Quits start all later (seen ++ l)) parts (quits_stay start all later seen (take (i + n) piece) (drop (i + n) piece) quit);
+    }) p does
 
 pub fed_broke_off : (x y z : Option Told) (a b c : Stock) (engine mid after : Standing) (held mid_held then : Held) (out piece : List ℕ) (i n : ℕ) (pause : Pause)
     → Does a b [] engine held (FedTo x y mid mid_held (take i piece)) → Batched pause b c mid mid_held after then out n (rest_of piece i) → GavePart y z out
@@ -145,10 +145,10 @@ pub fed_broke_off : (x y z : Option Told) (a b c : Stock) (engine mid after : St
 fed_broke_off x y z a b c engine mid after held mid_held then out piece i n pause p q part = (
   q.0,
   does_then a b c q.0 engine mid held mid_held (take i piece) (FedTo x y mid mid_held (take i piece)) (λ start all later seen. Collects pause start all later after then out seen n (rest_of piece i))
-  (λ start all later seen. BrokeOff x z start all seen piece)
-  (λ start all later seen t. t.1)
-  (λ start all between later seen t s. subst (BrokeOff x z start all seen) (parts_make piece i)
-  (BrokeOff-then x y z start all seen (take i piece) (rest_of piece i) t.0 (batch_broke_off y z pause start all later after then out (seen ++ take i piece) n (rest_of piece i) s part))) p q.2,
+      (λ start all later seen. BrokeOff x z start all seen piece)
+      (λ start all later seen t. t.1)
+      (λ start all between later seen t s. subst (BrokeOff x z start all seen) (parts_make piece i)
+      (BrokeOff-then x y z start all seen (take i piece) (rest_of piece i) t.0 (batch_broke_off y z pause start all later after then out (seen ++ take i piece) n (rest_of piece i) s part))) p q.2,
 )
 
 pub fed_gave_up : (x y z : Option Told) (a b c : Stock) (engine mid after : Standing) (held mid_held then : Held) (out piece : List ℕ) (i n : ℕ) (pause : Pause) → pause ≡ Memory
@@ -158,24 +158,23 @@ fed_gave_up x y z a b c engine mid after held mid_held then out piece i n pause 
     let batch : Batched Memory b c mid mid_held after then out n (rest_of piece i) = subst (λ w. Batched w b c mid mid_held after then out n (rest_of piece i)) e q in (
       batch.0,
       does_then a b c batch.0 engine mid held mid_held (take i piece) (FedTo x y mid mid_held (take i piece)) (λ start all later seen. Collects Memory start all later after then out seen n (rest_of piece i))
-      (λ start all later seen. GaveUp x z start all seen piece)
-      (λ start all later seen t. t.1)
-      (λ start all between later seen t s. subst (GaveUp x z start all seen) (parts_make piece i)
-      (GaveUp-then x y z start all seen (take i piece) (rest_of piece i) t.0 (batch_gave_up y z start all later after then out (seen ++ take i piece) n (rest_of piece i) s gave))) p batch.2,
+          (λ start all later seen. GaveUp x z start all seen piece)
+          (λ start all later seen t. t.1)
+          (λ start all between later seen t s. subst (GaveUp x z start all seen) (parts_make piece i)
+          (GaveUp-then x y z start all seen (take i piece) (rest_of piece i) t.0 (batch_gave_up y z start all later after then out (seen ++ take i piece) n (rest_of piece i) s gave))) p batch.2,
     )
 
 pub fed_held_back : (x y z : Option Told) (a b c : Stock) (engine mid after : Standing) (held mid_held then : Held) (out piece : List ℕ) (i n : ℕ) (pause : Pause) → pause ≡ Archive
     → Does a b [] engine held (FedTo x y mid mid_held (take i piece)) → Batched pause b c mid mid_held after then out n (rest_of piece i) → Gave y z out
-    → DoesSome a c engine held (λ start all later seen. HeldBack x z start all later seen piece)
+    → Does a c [] engine held (λ start all later seen. HeldBack x z start all later seen piece)
 fed_held_back x y z a b c engine mid after held mid_held then out piece i n pause e p q gave =
-    let batch : Batched Archive b c mid mid_held after then out n (rest_of piece i) = subst (λ w. Batched w b c mid mid_held after then out n (rest_of piece i)) e q in (
-      batch.0,
-      does_then a b c batch.0 engine mid held mid_held (take i piece) (FedTo x y mid mid_held (take i piece)) (λ start all later seen. Collects Archive start all later after then out seen n (rest_of piece i))
-      (λ start all later seen. HeldBack x z start all later seen piece)
-      (λ start all later seen t. t.1)
-      (λ start all between later seen t s. subst (HeldBack x z start all later seen) (parts_make piece i)
-      (HeldBack-then x y z start all later seen (take i piece) (rest_of piece i) t.0 (batch_held_back y z start all later after then out (seen ++ take i piece) n (rest_of piece i) s gave))) p batch.2,
-    )
+    let batch : Batched Archive b c mid mid_held after then out n (rest_of piece i) = subst (λ w. Batched w b c mid mid_held after then out n (rest_of piece i)) e q in
+    let does = subst (λ v. Does b c v mid mid_held (λ start all later seen. Collects Archive start all later after then out seen n (rest_of piece i))) batch.1 batch.2 in
+    does_then a b c [] engine mid held mid_held (take i piece) (FedTo x y mid mid_held (take i piece)) (λ start all later seen. Collects Archive start all later after then out seen n (rest_of piece i))
+    (λ start all later seen. HeldBack x z start all later seen piece)
+    (λ start all later seen t. t.1)
+    (λ start all between later seen t s. subst (HeldBack x z start all later seen) (parts_make piece i)
+    (HeldBack-then x y z start all later seen (take i piece) (rest_of piece i) t.0 (batch_held_back y z start all later after then out (seen ++ take i piece) n (rest_of piece i) s gave))) p does
 
 -- ---- before the first and after the last
 
@@ -211,5 +210,5 @@ pub last_broke_off : (x y : Option Told) (a b : Stock) (engine : Standing) (held
 last_broke_off x y a b engine held out p part = (
   [],
   does_weaker a b [] engine held (λ start all later seen. AnswersLast start all later out seen) (λ start all later seen. BrokeOffLast x y start all later seen)
-  (λ start all later seen t. record { gave = (out, part, t) }) p,
+      (λ start all later seen t. record { gave = (out, part, t) }) p,
 )

@@ -132,11 +132,11 @@ ends_unfinished options size limit a b c x y z engine held seen piece few g d =
     (feed_unfinished (opening options size) (all_of g.used d.1.used nothing_left) limit x y z seen piece few (g.kept (and_then d.1.used nothing_left)) at.1)
 
 pub ends_unarchived : (options : Knobs) (size limit : ℕ) (a b c : Stock) (x y z : Option Told) (engine : Standing) (held : Held) (seen piece : List ℕ) → length (seen ++ piece) ≤ limit
-    → Took (opening options size) a b x y engine held seen piece → DoesSome b c engine held (λ start all later seen. HeldBack y z start all later seen piece) → Conversed ending.ArchiveFault options size limit a c x z
+    → Took (opening options size) a b x y engine held seen piece → Does b c [] engine held (λ start all later seen. HeldBack y z start all later seen piece) → Conversed ending.ArchiveFault options size limit a c x z
 ends_unarchived options size limit a b c x y z engine held seen piece few g d =
-    let at = d.1.stood (opening options size) (all_of g.used d.1.used nothing_left) nothing_left seen (g.stands (and_then d.1.used nothing_left)) in
-    conversed_by ending.ArchiveFault options size limit a b c x z g.used d.1.used d.0 g.uses at.0 tt
-    (feed_held_back (opening options size) (all_of g.used d.1.used nothing_left) limit x y z seen piece few (g.kept (and_then d.1.used nothing_left)) at.1)
+    let at = d.stood (opening options size) (all_of g.used d.used nothing_left) nothing_left seen (g.stands (and_then d.used nothing_left)) in
+    conversed_by ending.ArchiveFault options size limit a b c x z g.used d.used [] g.uses at.0 refl
+    (feed_held_back (opening options size) (all_of g.used d.used nothing_left) limit x y z seen piece few (g.kept (and_then d.used nothing_left)) at.1)
 
 pub last_complete : (options : Knobs) (size limit : ℕ) (a b c : Stock) (x y z w : Option Told) (engine : Standing) (held : Held) (seen buf : List ℕ) → length seen ≤ limit
     → Goes (opening options size) a b x y engine held seen → Both y z (λ o t. Takes o t 0 buf) → Does b c [] engine held (λ start all later seen. AnsweredLast z w start all later seen) → Conversed ending.Done options size limit a c x w
@@ -163,12 +163,12 @@ last_unfinished options size limit a b c x y z w engine held seen buf few g t sa
     (finish_unfinished (opening options size) (all_of g.used d.1.used nothing_left) limit x y z w seen buf few (g.kept (and_then d.1.used nothing_left)) here.going t same at.1)
 
 pub last_unarchived : (options : Knobs) (size limit : ℕ) (a b c : Stock) (x y z w : Option Told) (engine : Standing) (held : Held) (seen buf : List ℕ) → length seen ≤ limit
-    → Goes (opening options size) a b x y engine held seen → Both y z (λ o t. Takes o t 0 buf) → Same z w → DoesSome b c engine held (λ start all later seen. LastIsShort start all later seen) → Conversed ending.ArchiveFault options size limit a c x w
+    → Goes (opening options size) a b x y engine held seen → Both y z (λ o t. Takes o t 0 buf) → Same z w → Does b c [] engine held (λ start all later seen. LastIsShort start all later seen) → Conversed ending.ArchiveFault options size limit a c x w
 last_unarchived options size limit a b c x y z w engine held seen buf few g t same d =
-    let here = g.stands (and_then d.1.used nothing_left) in
-    let at = d.1.stood (opening options size) (all_of g.used d.1.used nothing_left) nothing_left seen here in
-    conversed_by ending.ArchiveFault options size limit a b c x w g.used d.1.used d.0 g.uses at.0 tt
-    (finish_held_back (opening options size) (all_of g.used d.1.used nothing_left) limit x y z w seen buf few (g.kept (and_then d.1.used nothing_left)) here.going t same at.1)
+    let here = g.stands (and_then d.used nothing_left) in
+    let at = d.stood (opening options size) (all_of g.used d.used nothing_left) nothing_left seen here in
+    conversed_by ending.ArchiveFault options size limit a b c x w g.used d.used [] g.uses at.0 refl
+    (finish_held_back (opening options size) (all_of g.used d.used nothing_left) limit x y z w seen buf few (g.kept (and_then d.used nothing_left)) here.going t same at.1)
 
 -- the same options and size
 pub conversed_same : (end : End) (k l : Knobs) (m n limit : ℕ) (a b : Stock) (x y : Option Told) → k ≡ l → m ≡ n → Conversed end k m limit a b x y → Conversed end l n limit a b x y

@@ -92,7 +92,7 @@ pub record Outcome (end : End) (start : Standing) (all : Left) (limit : ℕ) (ol
   pub course : Course start all old new
   pub ends : EndsAs end start all limit old new
 
--- fetches come to nothing only where memory ran out, or a write or the archive failed
+-- fetches come to nothing only where memory ran out, also where a write of the answers before failed then
 abbrev pub IsInVain : End → List Bool → Type 0
 IsInVain Done in_vain = in_vain ≡ []
 IsInVain Usage in_vain = in_vain ≡ []
@@ -100,7 +100,7 @@ IsInVain ReadFault in_vain = in_vain ≡ []
 IsInVain WriteFault in_vain = Unit {0}
 IsInVain Memory in_vain = Unit {0}
 IsInVain TooLong in_vain = in_vain ≡ []
-IsInVain ArchiveFault in_vain = Unit {0}
+IsInVain ArchiveFault in_vain = in_vain ≡ []
 
 -- A conversation with these options, from an empty board of that size to this end: what it used up from its shelf and for its
 -- archive, each turn of which is good, and what stands where the link tells it.

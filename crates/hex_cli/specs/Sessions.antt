@@ -74,12 +74,12 @@ Pauses Quit start all later engine held seen others = Quits start all later seen
 Pauses Memory start all later engine held seen others = ((talk_to start all seen).ending ≡ Going) × EndsLine seen others
 Pauses Archive start all later engine held seen others = AnswersShort start all later [] seen others
 
--- fetches come to nothing only where the answers stop for want of memory or of a turn
+-- fetches come to nothing only where memory ran out
 abbrev pub IsVain : Pause → List Bool → Type 0
 IsVain Answered in_vain = in_vain ≡ []
 IsVain Quit in_vain = in_vain ≡ []
 IsVain Memory in_vain = Unit {0}
-IsVain Archive in_vain = Unit {0}
+IsVain Archive in_vain = in_vain ≡ []
 
 -- the answers to the first bytes of a piece, and why they end there
 pub record Collects (pause : Pause) (start : Standing) (all later : Left) (engine : Standing) (held : Held) (out seen : List ℕ) (used : ℕ) (piece : List ℕ) : Type 0 where

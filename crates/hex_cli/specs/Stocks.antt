@@ -33,8 +33,7 @@ pub record Says (options : Knobs) (old new : Stock) (says : Left → Said) (text
 
 -- a turn is wanted, and nothing was used up
 pub record Wants (options : Knobs) (old new : Stock) (at : Standing) (says : Left → Said) : Type 0 where
-  pub in_vain : List Bool
-  pub uses : UsesUp options old new nothing_left in_vain
+  pub uses : UsesUp options old new nothing_left []
   pub is : says nothing_left ≡ record { text = []; at = at; left = nothing_left; ending = Short NoTurn }
 
 -- a line was answered so

@@ -32,6 +32,8 @@ mod ends;
 mod giving;
 mod laws;
 mod session;
+#[cfg(test)]
+mod tests;
 mod top;
 
 pub use ends::End;

@@ -130,7 +130,7 @@ impl Session {
             DoesSome (F.told shelf.old, A.told archive.old) (F.told shelf.new, A.told archive.new) self.old.engine self.old.splitter
             (λ start all later seen. EndsLine seen piece.now) }
         ensures held_back { result ≡ Err EngineError.Archive →
-            DoesSome (F.told shelf.old, A.told archive.old) (F.told shelf.new, A.told archive.new) self.old.engine self.old.splitter
+            Does (F.told shelf.old, A.told archive.old) (F.told shelf.new, A.told archive.new) [] self.old.engine self.old.splitter
             (λ start all later seen. AnswersShort start all later [] seen piece.now) }
         ensures archive_fault { result ≡ Err EngineError.Archive → Rose (A.faults archive.old) (A.faults archive.new) }
         ensures later { A.faults archive.old ≤ A.faults archive.new }
@@ -215,7 +215,7 @@ impl Session {
         ensures gave_up { result ≡ Err EngineError.Memory →
             DoesSome (F.told shelf.old, A.told archive.old) (F.told shelf.new, A.told archive.new) self.old.engine self.old.splitter (λ start all later seen. HasLast seen) }
         ensures held_back { result ≡ Err EngineError.Archive →
-            DoesSome (F.told shelf.old, A.told archive.old) (F.told shelf.new, A.told archive.new) self.old.engine self.old.splitter
+            Does (F.told shelf.old, A.told archive.old) (F.told shelf.new, A.told archive.new) [] self.old.engine self.old.splitter
             (λ start all later seen. LastIsShort start all later seen) }
         ensures archive_fault { result ≡ Err EngineError.Archive → Rose (A.faults archive.old) (A.faults archive.new) }
         ensures later { A.faults archive.old ≤ A.faults archive.new }
@@ -253,7 +253,7 @@ impl Session {
             DoesSome (F.told shelf.old, A.told archive.old) (F.told shelf.new, A.told archive.new) self.old.engine self.old.splitter
             (λ start all later seen. GaveUp (L.told link.old) (L.told link.new) start all seen piece.now) }
         ensures held_back { result ≡ Err Stop.Archive →
-            DoesSome (F.told shelf.old, A.told archive.old) (F.told shelf.new, A.told archive.new) self.old.engine self.old.splitter
+            Does (F.told shelf.old, A.told archive.old) (F.told shelf.new, A.told archive.new) [] self.old.engine self.old.splitter
             (λ start all later seen. HeldBack (L.told link.old) (L.told link.new) start all later seen piece.now) }
         ensures write_fault { result ≡ Err Stop.WriteFault → Rose (L.write_faults link.old) (L.write_faults link.new) }
         ensures archive_fault { result ≡ Err Stop.Archive → Rose (A.faults archive.old) (A.faults archive.new) }
@@ -294,7 +294,7 @@ impl Session {
         ensures gave_up { result ≡ Err Stop.Memory →
             DoesSome (F.told shelf.old, A.told archive.old) (F.told shelf.new, A.told archive.new) self.old.engine self.old.splitter (λ start all later seen. HasLast seen) }
         ensures held_back { result ≡ Err Stop.Archive →
-            DoesSome (F.told shelf.old, A.told archive.old) (F.told shelf.new, A.told archive.new) self.old.engine self.old.splitter
+            Does (F.told shelf.old, A.told archive.old) (F.told shelf.new, A.told archive.new) [] self.old.engine self.old.splitter
             (λ start all later seen. LastIsShort start all later seen) }
         ensures silent { result ≡ Err Stop.Memory → Same (L.told link.old) (L.told link.new) }
         ensures silent_held_back { result ≡ Err Stop.Archive → Same (L.told link.old) (L.told link.new) }

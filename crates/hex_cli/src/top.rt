@@ -121,7 +121,15 @@ fn serve<L: Link, F: Shelf, A: Archive>(
         Ok(Some(options)) => options,
     };
     let knobs = knobs(&options);
-    converse(alloc, link, shelf, archive, &knobs, board_size(options.size), INPUT_LIMIT)
+    converse(
+        alloc,
+        link,
+        shelf,
+        archive,
+        &knobs,
+        board_size(options.size),
+        INPUT_LIMIT,
+    )
 }
 
 /// The options of the searches.

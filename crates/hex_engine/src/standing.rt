@@ -117,6 +117,7 @@ impl Engine {
         ensures in_vain { OnErr result ((tries : List Bool)
             × Uses self.old.options (F.told shelf.old) (F.told shelf.new) (A.told archive.old) (A.told archive.new) nothing_left tries) }
         ensures wants_turn { result ≡ Err EngineError.Archive → reaction self.old nothing_left (asked_of request.now) ≡ Err NoTurn }
+        ensures no_fetch { result ≡ Err EngineError.Archive → Same (F.told shelf.old) (F.told shelf.new) }
 
         // The causes.
         ensures read_fault { result ≡ Ok (Answer.Fail Fail.ReadFault) → Rose (F.faults shelf.old) (F.faults shelf.new) }
