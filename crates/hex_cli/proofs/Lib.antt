@@ -10,3 +10,5 @@ pub mod StockLaws
 pub mod Advances
 pub mod Batches
 pub mod Conversations
+pub mod OneWorkerMoves
+pub mod OneWorker

@@ -3,7 +3,8 @@
 ghost use Rattle.std.specs.Prelude.{◌≡◌, List, ℕ};
 ghost use Rattle.hex_engine.specs.Standing.{Standing};
 ghost use Rattle.hex_engine.specs.Left.{Left, and_then};
-ghost use Rattle.hex_cli.specs.Talk.{IsAnswered, talk};
+ghost use Rattle.hex_engine.specs.Uses.{AreGood};
+ghost use Rattle.hex_cli.specs.Talk.{IsAnswered, IsThrough, talk};
 ghost use Rattle.hex_cli.specs.Left.{said_with_more};
 
 /// More at the end of what a conversation has left to use up changes nothing of a talk that was not
@@ -11,4 +12,17 @@ ghost use Rattle.hex_cli.specs.Left.{said_with_more};
 pub fn more_left_is_not_used()
     ensures { (start : Standing) → (left more : Left) → (lines : List (List ℕ)) → IsAnswered (talk start left lines) →
         talk start (and_then left more) lines ≡ said_with_more (talk start left lines) more }
+{}
+
+/// With one worker a talk is determined by the lines, the options and what came of the files, whatever
+/// good turns its moves used up: two talks that were answered say the same and stand at the same then,
+/// and two that are through are the same in all.
+pub fn one_worker_is_determined()
+    ensures answered { (start : Standing) → start.options.workers ≡ 1 → (one other : Left) → one.loads ≡ other.loads →
+        AreGood start.options one.turns → AreGood start.options other.turns → (lines : List (List ℕ)) →
+        IsAnswered (talk start one lines) → IsAnswered (talk start other lines) →
+        ((talk start one lines).text ≡ (talk start other lines).text) × ((talk start one lines).at ≡ (talk start other lines).at) }
+    ensures through { (start : Standing) → start.options.workers ≡ 1 → (one other : Left) → one.loads ≡ other.loads →
+        AreGood start.options one.turns → AreGood start.options other.turns → (lines : List (List ℕ)) →
+        IsThrough (talk start one lines) → IsThrough (talk start other lines) → talk start one lines ≡ talk start other lines }
 {}

@@ -37,5 +37,5 @@ mod tests;
 mod top;
 
 pub use ends::End;
-pub use laws::more_left_is_not_used;
+pub use laws::{more_left_is_not_used, one_worker_is_determined};
 pub use top::{INPUT_LIMIT, report, run};
