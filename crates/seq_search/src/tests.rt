@@ -3,11 +3,12 @@
 ghost use Rattle.std.specs.Prelude.{IfSome};
 ghost use Rattle.tree_words.specs.Settings.{AreEmpty, IsAny};
 
+use super::opening::opening_words;
 use super::plain_search;
 use hex_board::Board;
 use hex_cells::{CellSet, Colour, Size};
 use std::test::Fail;
-use tree_words::{Closed, Knobs, Shape, best, numbered};
+use tree_words::{Closed, Knobs, Shape, best, numbered, report};
 
 // What a search is for: the size, Black's and White's stones and the allowed cells, all empty ones where there is none, as the
 // bits of a number, the player to move, and playouts, seed, words, expand number and weight.
@@ -438,6 +439,131 @@ fn large_trees(rt: HostRuntime) -> Result<(), Fail> {
         for (place, child) in children {
             let at = first.wrapping_add(place.wrapping_mul(4));
             assert!(rt; has_children(&closed, at, &[child]), "cell {place}");
+        }
+    }
+    Ok(())
+}
+
+// How many words are not 0.
+fn marked(words: &[u64]) -> usize {
+    let mut marked = 0usize;
+    for &word in words {
+        if word != 0 {
+            marked = marked.wrapping_add(1);
+        }
+    }
+    marked
+}
+
+// A search, and all of its opening words that are not 0: their places and values.
+type Opening<'a> = (Search, &'a [(usize, u64)]);
+
+#[test]
+fn opening_words_of_small_boards(rt: HostRuntime) -> Result<(), Fail> {
+    let table: [Opening; 4] = [
+        (
+            (1, 0, 0, 0, B, [2, 0, 1024, 8, 180]),
+            &[(0, 16), (5, 8), (8, 4), (9, 1), (11, 1)],
+        ),
+        (
+            (2, 0, 0, 0, B, [4, 0, 1024, 8, 180]),
+            &[
+                (0, 30),
+                (7, 10),
+                (10, 6),
+                (11, 15),
+                (13, 4),
+                (18, 257),
+                (22, 514),
+                (26, 771),
+            ],
+        ),
+        (
+            (2, 0, 0, 6, B, [10, 0, 1024, 8, 180]),
+            &[
+                (0, 28),
+                (13, 16),
+                (16, 12),
+                (17, 15),
+                (19, 2),
+                (20, 1),
+                (24, 258),
+            ],
+        ),
+        (
+            (3, 16, 0, 0, W, [4, 0, 1024, 8, 180]),
+            &[
+                (0, 46),
+                (7, 10),
+                (10, 6),
+                (11, 495),
+                (13, 8),
+                (18, 257),
+                (22, 514),
+                (26, 771),
+                (30, 1029),
+                (34, 1286),
+                (38, 1543),
+                (42, 1800),
+            ],
+        ),
+    ];
+    for (search, wanted) in table {
+        let shape = shape_of(&search).ok_or("a shape")?;
+        let words = opening_words(rt.alloc(), &shape)?;
+        for &(at, value) in wanted {
+            assert_eq!(rt; words.get(at).copied(), Some(value));
+        }
+        assert_eq!(rt; marked(&words), wanted.len());
+    }
+    Ok(())
+}
+
+#[test]
+fn opening_words_of_a_large_board(rt: HostRuntime) -> Result<(), Fail> {
+    let shape = shape_of(&(11, 0, 0, 0, B, [10_000, 0, 1024, 8, 180])).ok_or("a shape")?;
+    let words = opening_words(rt.alloc(), &shape)?;
+    let header = [
+        (0usize, 10_494),
+        (10_003, 10_006),
+        (10_006, 10_002),
+        (10_007, u64::MAX),
+        (10_008, 144_115_188_075_855_871),
+        (10_009, 121),
+    ];
+    for (at, value) in header {
+        assert_eq!(rt; words.get(at).copied(), Some(value));
+    }
+    for place in 0..121usize {
+        let at = place.wrapping_mul(4).wrapping_add(10_010);
+        assert_eq!(rt; words.get(at).copied(), Some(257 * place as u64));
+    }
+    assert_eq!(rt; marked(&words), 126);
+    Ok(())
+}
+
+// A search, and the report of its tree: cells, visits and wins.
+type Report<'a> = (Search, &'a [(u32, u32, u32)]);
+
+#[test]
+fn reports_go_up_the_cells(rt: HostRuntime) -> Result<(), Fail> {
+    let table: [Report; 2] = [
+        (
+            (2, 0, 0, 0, B, [4, 0, 4194304, 8, 180]),
+            &[(0, 1, 0), (1, 1, 1), (2, 1, 1), (3, 1, 1)],
+        ),
+        (
+            (2, 0, 0, 6, B, [10, 0, 4194304, 2, 180]),
+            &[(1, 6, 4), (2, 4, 2)],
+        ),
+    ];
+    for (search, wanted) in table {
+        let shape = shape_of(&search).ok_or("a shape")?;
+        let closed = plain_search(rt.alloc(), &shape)?;
+        let rows = report(rt.alloc(), &closed)?;
+        assert_eq!(rt; rows.len(), wanted.len());
+        for (row, want) in rows.iter().zip(wanted) {
+            assert_eq!(rt; (row.cell.number(), row.visits, row.wins), *want);
         }
     }
     Ok(())
