@@ -10,5 +10,6 @@ pub mod StockLaws
 pub mod Advances
 pub mod Batches
 pub mod Conversations
+pub mod OneWorkerLoads
 pub mod OneWorkerMoves
 pub mod OneWorker

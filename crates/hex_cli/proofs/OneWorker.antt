@@ -1,13 +1,15 @@
 -- With one worker a talk is determined: any good turns with which it is answered give the same talk.
 use Rattle.std.proofs.Common.{◌≡◌, ℕ, Bool, true, false, cond, List, [], ◌∷◌, Option, Some, None, Result, Ok, Err, fold, refl, sym, ap, ◌∙◌, subst}
+use Rattle.hex_io.specs.declared.files.File.{File}
 use Rattle.htp_line.specs.Reading.{Reading, Blank, Bare, Ask, reading}
 use Rattle.htp_line.specs.Splitting.{kept}
 use Rattle.tree_words.specs.declared.settings.Knobs.{Knobs}
 use Rattle.hex_engine.specs.Left.{Left}
 use Rattle.hex_engine.specs.Standing.{Standing}
-use Rattle.hex_engine.specs.Uses.{AreGood}
+use Rattle.hex_engine.specs.Uses.{AreGood, CameOf}
 use Rattle.hex_engine.specs.Replies.{Turned, Missing, reaction}
 use Rattle.hex_cli.specs.Talk.{Said, IsAnswered, IsThrough, goes_on, said_turned, said_reading, said, with_said, step, silence, talk}
+use Rattle.hex_cli.proofs.OneWorkerLoads.{SameLoads, equal_loads, told_loads}
 use Rattle.hex_cli.proofs.OneWorkerMoves.{Alike, Agree, reactions_agree}
 use Rattle.hex_cli.proofs.TalkLaws.{step-stays}
 
@@ -63,12 +65,12 @@ lines_same options s b (raw ∷ lines) one h p q =
     subst (λ (z : Said). SaysSame options (fold step (step s raw) lines) (fold step z lines)) (sym same.is)
     (lines_same options (step s raw) next.left lines one same.left p (subst (λ (z : Said). IsAnswered (fold step z lines)) same.is q))
 
-talk_same : (start : Standing) (one other : Left) (lines : List (List ℕ)) → start.options.workers ≡ 1 → one.loads ≡ other.loads → AreGood start.options one.turns → AreGood start.options other.turns
+talk_same : (start : Standing) (one other : Left) (lines : List (List ℕ)) → start.options.workers ≡ 1 → SameLoads one.loads other.loads → AreGood start.options one.turns → AreGood start.options other.turns
     → IsAnswered (talk start one lines) → IsAnswered (talk start other lines) → SaysSame start.options (talk start one lines) (talk start other lines)
 talk_same start one other lines worker e g h p q = lines_same start.options (silence start one) other lines worker (record { loads = e; good = g; other = h }) p q
 
 -- with one worker two answered talks are the same but for what is left
-pub answered_same : (start : Standing) → start.options.workers ≡ 1 → (one other : Left) → one.loads ≡ other.loads → AreGood start.options one.turns → AreGood start.options other.turns → (lines : List (List ℕ))
+answered_same : (start : Standing) → start.options.workers ≡ 1 → (one other : Left) → SameLoads one.loads other.loads → AreGood start.options one.turns → AreGood start.options other.turns → (lines : List (List ℕ))
     → IsAnswered (talk start one lines) → IsAnswered (talk start other lines) → ((talk start one lines).text ≡ (talk start other lines).text) × ((talk start one lines).at ≡ (talk start other lines).at)
 answered_same start worker one other e g h lines p q =
     let same = talk_same start one other lines worker e g h p q in (
@@ -77,8 +79,30 @@ answered_same start worker one other e g h lines p q =
     )
 
 -- with one worker two talks that are through are the same
-pub through_same : (start : Standing) → start.options.workers ≡ 1 → (one other : Left) → one.loads ≡ other.loads → AreGood start.options one.turns → AreGood start.options other.turns → (lines : List (List ℕ))
+through_same : (start : Standing) → start.options.workers ≡ 1 → (one other : Left) → SameLoads one.loads other.loads → AreGood start.options one.turns → AreGood start.options other.turns → (lines : List (List ℕ))
     → IsThrough (talk start one lines) → IsThrough (talk start other lines) → talk start one lines ≡ talk start other lines
 through_same start worker one other e g h lines p q =
     let same = talk_same start one other lines worker e g h p.answered q.answered in
     sym (same.is ∙ ap (with_left (talk start one lines)) (q.used ∙ sym p.used))
+
+-- ---- where the loads of both are equal
+
+pub answered_equal : (start : Standing) → start.options.workers ≡ 1 → (one other : Left) → one.loads ≡ other.loads → AreGood start.options one.turns → AreGood start.options other.turns → (lines : List (List ℕ))
+    → IsAnswered (talk start one lines) → IsAnswered (talk start other lines) → ((talk start one lines).text ≡ (talk start other lines).text) × ((talk start one lines).at ≡ (talk start other lines).at)
+answered_equal start worker one other e = answered_same start worker one other (equal_loads one.loads other.loads e)
+
+pub through_equal : (start : Standing) → start.options.workers ≡ 1 → (one other : Left) → one.loads ≡ other.loads → AreGood start.options one.turns → AreGood start.options other.turns → (lines : List (List ℕ))
+    → IsThrough (talk start one lines) → IsThrough (talk start other lines) → talk start one lines ≡ talk start other lines
+through_equal start worker one other e = through_same start worker one other (equal_loads one.loads other.loads e)
+
+-- ---- where the loads of both came of the same files and faults
+
+pub answered_told : (start : Standing) → start.options.workers ≡ 1 → (files : List File) → (tries : List Bool) → (one other : Left) → CameOf files tries one.loads → CameOf files tries other.loads
+    → AreGood start.options one.turns → AreGood start.options other.turns → (lines : List (List ℕ)) → IsAnswered (talk start one lines) → IsAnswered (talk start other lines)
+    → ((talk start one lines).text ≡ (talk start other lines).text) × ((talk start one lines).at ≡ (talk start other lines).at)
+answered_told start worker files tries one other c d = answered_same start worker one other (told_loads files tries one.loads other.loads c d)
+
+pub through_told : (start : Standing) → start.options.workers ≡ 1 → (files : List File) → (tries : List Bool) → (one other : Left) → CameOf files tries one.loads → CameOf files tries other.loads
+    → AreGood start.options one.turns → AreGood start.options other.turns → (lines : List (List ℕ)) → IsThrough (talk start one lines) → IsThrough (talk start other lines)
+    → talk start one lines ≡ talk start other lines
+through_told start worker files tries one other c d = through_same start worker one other (told_loads files tries one.loads other.loads c d)

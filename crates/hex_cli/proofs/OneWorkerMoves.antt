@@ -1,8 +1,9 @@
 -- With one worker a request is answered the same whatever good turns are left: those that are next are played and reported alike.
-use Rattle.std.proofs.Common.{◌≡◌, ℕ, ◌+◌, Bool, true, false, cond, List, [], ◌∷◌, ◌++◌, Option, Some, None, Result, Ok, Err, codes, refl, sym, ap, ◌∙◌, subst}
+use Rattle.std.proofs.Common.{◌≡◌, ℕ, ◌+◌, Bool, true, false, cond, List, [], ◌∷◌, ◌++◌, Option, Some, None, Result, Ok, Err, codes, refl, sym, ap, ◌∙◌}
 use Rattle.std.specs.Str.{bytes_eq}
 use Rattle.std.specs.Fmt.{decimal}
 use Rattle.std.proofs.lemmas.Bool.{and_parts, eqb-true, true≢false}
+use Rattle.std.proofs.lemmas.Slice.Eq.{bytes_eq-Decides}
 use Rattle.htp_line.specs.Reading.{Asked}
 use Rattle.hex_cells.specs.declared.colours.Colour.{Colour}
 use Rattle.hex_cells.specs.declared.colours.Colour.TheVariants.{Black, White}
@@ -20,7 +21,7 @@ use Rattle.hex_plan.specs.Openings.{may_move}
 use Rattle.hex_plan.specs.Turns.{Decision}
 use Rattle.hex_plan.proofs.Same.{same_turn}
 use Rattle.hex_engine.specs.Commands.{command_named}
-use Rattle.hex_engine.specs.Left.{Left, Load}
+use Rattle.hex_engine.specs.Left.{Left, Load, Loaded}
 use Rattle.hex_engine.specs.Report.{report_of, row_lines}
 use Rattle.hex_engine.specs.Standing.{Standing}
 use Rattle.hex_engine.specs.Uses.{AreGood}
@@ -28,6 +29,7 @@ use Rattle.hex_engine.specs.Replies.{Reaction, Turned, Missing, Done, NoLoad, No
 use Rattle.hex_engine.specs.declared.answers.Fail.TheVariants.{Over}
 use Rattle.hex_engine.specs.declared.commands.Command.{Command}
 use Rattle.hex_engine.specs.declared.commands.Command.TheVariants as command
+use Rattle.hex_cli.proofs.OneWorkerLoads.{SameLoads}
 
 -- ---- one turn
 
@@ -77,9 +79,9 @@ same_move options at colour t u one g h e f =
 
 -- ---- one request
 
--- as many loads are left of both, the same ones, and the turns of both are good
+-- of one name the same came in the loads of both, and the turns of both are good
 pub record Alike (options : Knobs) (a b : Left) : Type 0 where
-  pub loads : a.loads ≡ b.loads
+  pub loads : SameLoads a.loads b.loads
   pub good : AreGood options a.turns
   pub other : AreGood options b.turns
 
@@ -96,20 +98,31 @@ missing_agree : (options : Knobs) (r : Result Turned Missing) (missing : Missing
 missing_agree options (Ok t) missing = tt
 missing_agree options (Err other) missing = tt
 
-loads_agree : (options : Knobs) (at : Standing) (a b : Left) (loads : List Load) (name : List ℕ) → Alike options a b → Agree options (loading_next at a loads name) (loading_next at b loads name)
-loads_agree options at a b [] name h = tt
-loads_agree options at a b (load ∷ loads) name h = by (bytes_eq load.name name)
+-- of one name the same came of both next loads
+load_agree : (options : Knobs) (at : Standing) (a b : Left) (load other : Load) (name : List ℕ) → (load.name ≡ other.name → load.what ≡ other.what) → Alike options a b
+    → Agree options (cond (bytes_eq load.name name) (unused a (loaded at load.what)) (Err NoLoad)) (cond (bytes_eq other.name name) (unused b (loaded at other.what)) (Err NoLoad))
+load_agree options at a b load other name same h = by (bytes_eq load.name name) (bytes_eq other.name name) refl refl
   where
-    by : (x : Bool) → Agree options (cond x (unused (record a { loads = loads }) (loaded at load.what)) (Err NoLoad)) (cond x (unused (record b { loads = loads }) (loaded at load.what)) (Err NoLoad))
-    by true = (refl, record { loads = refl; good = h.good; other = h.other })
-    by false = tt
+    by : (x y : Bool) → bytes_eq load.name name ≡ x → bytes_eq other.name name ≡ y
+        → Agree options (cond x (unused a (loaded at load.what)) (Err NoLoad)) (cond y (unused b (loaded at other.what)) (Err NoLoad))
+    by true true p q =
+        let what : load.what ≡ other.what = same ((bytes_eq-Decides load.name name).0 p ∙ sym ((bytes_eq-Decides other.name name).0 q)) in
+        (ap (λ (w : Loaded). record { reply = (loaded at w).reply; after = (loaded at w).after; left = b }) (sym what), h)
+    by true false p q = tt
+    by false y p q = tt
+
+loads_agree : (options : Knobs) (at : Standing) (a b : Left) (loads others : List Load) (name : List ℕ) → SameLoads loads others → AreGood options a.turns → AreGood options b.turns
+    → Agree options (loading_next at a loads name) (loading_next at b others name)
+loads_agree options at a b [] others name same g h = tt
+loads_agree options at a b (load ∷ loads) [] name same g h = missing_agree options (loading_next at a (load ∷ loads) name) NoLoad
+loads_agree options at a b (load ∷ loads) (other ∷ others) name same g h =
+    load_agree options at (record a { loads = loads }) (record b { loads = others }) load other name same.0 (record { loads = same.1; good = g; other = h })
 
 loading_agree : (options : Knobs) (at : Standing) (a b : Left) (name : Option (List ℕ)) → Alike options a b → Agree options (loading_by at a name) (loading_by at b name)
 loading_agree options at a b None h = (refl, h)
-loading_agree options at a b (Some name) h =
-    subst (λ (loads : List Load). Agree options (loading_next at a a.loads name) (loading_next at b loads name)) h.loads (loads_agree options at a b a.loads name h)
+loading_agree options at a b (Some name) h = loads_agree options at a b a.loads b.loads name h.loads h.good h.other
 
-moves_agree : (options : Knobs) (at : Standing) (a b : Left) (turns others : List Decision) (colour : Colour) → options.workers ≡ 1 → a.loads ≡ b.loads → AreGood options turns → AreGood options others
+moves_agree : (options : Knobs) (at : Standing) (a b : Left) (turns others : List Decision) (colour : Colour) → options.workers ≡ 1 → SameLoads a.loads b.loads → AreGood options turns → AreGood options others
     → Agree options (moving_next at a turns colour) (moving_next at b others colour)
 moves_agree options at a b [] others colour one e g h = tt
 moves_agree options at a b (t ∷ turns) [] colour one e g h = missing_agree options (moving_next at a (t ∷ turns) colour) NoTurn

@@ -1,9 +1,10 @@
 //! Laws of a talk, as functions with nothing to do.
 
-ghost use Rattle.std.specs.Prelude.{◌≡◌, List, ℕ};
+ghost use Rattle.std.specs.Prelude.{◌≡◌, Bool, List, ℕ};
+ghost use Rattle.hex_io.specs.declared.files.File.{File};
 ghost use Rattle.hex_engine.specs.Standing.{Standing};
 ghost use Rattle.hex_engine.specs.Left.{Left, and_then};
-ghost use Rattle.hex_engine.specs.Uses.{AreGood};
+ghost use Rattle.hex_engine.specs.Uses.{AreGood, CameOf};
 ghost use Rattle.hex_cli.specs.Talk.{IsAnswered, IsThrough, talk};
 ghost use Rattle.hex_cli.specs.Left.{said_with_more};
 
@@ -23,6 +24,23 @@ pub fn one_worker_is_determined()
         IsAnswered (talk start one lines) → IsAnswered (talk start other lines) →
         ((talk start one lines).text ≡ (talk start other lines).text) × ((talk start one lines).at ≡ (talk start other lines).at) }
     ensures through { (start : Standing) → start.options.workers ≡ 1 → (one other : Left) → one.loads ≡ other.loads →
+        AreGood start.options one.turns → AreGood start.options other.turns → (lines : List (List ℕ)) →
+        IsThrough (talk start one lines) → IsThrough (talk start other lines) → talk start one lines ≡ talk start other lines }
+{}
+
+/// With one worker and a told shelf a talk is determined by the lines, the options, the files and
+/// which fetches were at fault: what came of the files need not be given, for bytes are a record of
+/// one game at most. Two talks whose loads came of these files and faults, and whose turns are good,
+/// say the same and stand at the same then, where they were answered; where they are through, they are
+/// the same in all.
+pub fn one_worker_and_one_shelf_determine()
+    ensures answered { (start : Standing) → start.options.workers ≡ 1 → (files : List File) → (tries : List Bool) →
+        (one other : Left) → CameOf files tries one.loads → CameOf files tries other.loads →
+        AreGood start.options one.turns → AreGood start.options other.turns → (lines : List (List ℕ)) →
+        IsAnswered (talk start one lines) → IsAnswered (talk start other lines) →
+        ((talk start one lines).text ≡ (talk start other lines).text) × ((talk start one lines).at ≡ (talk start other lines).at) }
+    ensures through { (start : Standing) → start.options.workers ≡ 1 → (files : List File) → (tries : List Bool) →
+        (one other : Left) → CameOf files tries one.loads → CameOf files tries other.loads →
         AreGood start.options one.turns → AreGood start.options other.turns → (lines : List (List ℕ)) →
         IsThrough (talk start one lines) → IsThrough (talk start other lines) → talk start one lines ≡ talk start other lines }
 {}

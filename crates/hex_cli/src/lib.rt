@@ -37,5 +37,7 @@ mod tests;
 mod top;
 
 pub use ends::End;
-pub use laws::{more_left_is_not_used, one_worker_is_determined};
+pub use laws::{
+    more_left_is_not_used, one_worker_and_one_shelf_determine, one_worker_is_determined,
+};
 pub use top::{INPUT_LIMIT, report, run};
