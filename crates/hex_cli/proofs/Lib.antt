@@ -10,3 +10,4 @@ pub mod StockLaws
 pub mod Advances
 pub mod Batches
 pub mod Conversations
+pub mod OneWorker
