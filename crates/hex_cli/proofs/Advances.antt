@@ -1,5 +1,5 @@
 -- What a line does: how its answer, or the want of one, moves a session.
-use Rattle.std.proofs.Common.{◌≡◌, ℕ, Bool, true, false, List, [], ◌++◌, Option, refl, ap, sym, ◌∙◌, subst, append-nil, Result, Ok, Err, take, drop}
+use Rattle.std.proofs.Common.{◌≡◌, ℕ, Bool, true, false, List, [], ◌++◌, ap, ◌∙◌, subst, Result, Ok, Err, take, drop}
 use Rattle.std.proofs.lemmas.List.{take-append-drop}
 use Rattle.std.specs.Prelude.{IfOk}
 use Rattle.htp_line.specs.Lines.{whole, lines}

@@ -5,7 +5,6 @@ use Rattle.hex_io.specs.Told.{Told}
 use Rattle.hex_io.specs.Grew.{Gave, GavePart}
 use Rattle.htp_line.specs.Splitting.{Held}
 use Rattle.hex_engine.specs.Standing.{Standing}
-use Rattle.hex_engine.specs.Left.{Left}
 use Rattle.hex_cli.specs.Stocks.{Stock}
 use Rattle.hex_cli.specs.Sessions.{Stands, Quits, Does, DoesSome, Moves, EndsLine, Answers, AnswersShort, Advanced, IsVain, Collects, AnswersAll, Fed, BrokeOff, GaveUp, HeldBack, AnswersLast, AnsweredLast, BrokeOffLast, talk_to}
 use Rattle.hex_cli.specs.declared.session.Pause.{Pause}

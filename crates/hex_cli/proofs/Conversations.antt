@@ -1,17 +1,16 @@
 -- A conversation piece by piece: what it used up, and what stands.
-use Rattle.std.proofs.Common.{◌≡◌, ◌≤◌, ℕ, true, false, List, [], ◌++◌, length, take, Option, refl, ap, sym, ◌∙◌, subst, Bool}
+use Rattle.std.proofs.Common.{◌≡◌, ◌≤◌, ℕ, true, false, List, [], ◌++◌, length, take, Option, refl, ap, sym, subst, Bool}
 use Rattle.hex_io.specs.Told.{Told, Both, Takes, Same}
 use Rattle.htp_line.specs.Splitting.{Held}
 use Rattle.tree_words.specs.declared.settings.Knobs.{Knobs}
 use Rattle.hex_engine.specs.Standing.{Standing, opening}
 use Rattle.hex_engine.specs.Left.{Left, nothing_left, and_then}
-use Rattle.hex_cli.specs.Talk.{Said, Going}
 use Rattle.hex_cli.specs.Stocks.{Stock, UsesUp}
-use Rattle.hex_cli.specs.Sessions.{Stands, Quits, Does, DoesSome, talk_to, Fed, BrokeOff, GaveUp, HeldBack, AnsweredLast, BrokeOffLast, HasLast, LastIsShort}
-use Rattle.hex_cli.specs.Outcome.{Outcome, Conversed, IsInVain}
+use Rattle.hex_cli.specs.Sessions.{Stands, Does, DoesSome, talk_to, Fed, BrokeOff, GaveUp, HeldBack, AnsweredLast, BrokeOffLast, HasLast, LastIsShort}
+use Rattle.hex_cli.specs.Outcome.{Conversed, IsInVain}
 use Rattle.hex_cli.specs.declared.ends.End.{End}
 use Rattle.hex_cli.specs.declared.ends.End.TheVariants as ending
-use Rattle.hex_cli.proofs.StockLaws.{After, and_then_nothing, and_then_assoc, uses_then, uses_nothing}
+use Rattle.hex_cli.proofs.StockLaws.{and_then_nothing, and_then_assoc, uses_then, uses_nothing}
 use Rattle.hex_cli.proofs.EndLaws.{Kept, EndsBy, kept_taking, kept_nothing, feed_on, feed_quit, feed_unwritten, feed_unfinished, feed_held_back, read_overlong, read_fault, finish_complete, finish_unwritten, finish_unfinished, finish_held_back, unbegun}
 
 -- What a conversation keeps after this text: what was used up so far, and whatever is used up later, where it stands and what the

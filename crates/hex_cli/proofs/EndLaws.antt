@@ -7,7 +7,7 @@ use Rattle.htp_line.specs.Lines.{lines}
 use Rattle.hex_engine.specs.Standing.{Standing}
 use Rattle.hex_engine.specs.Left.{Left, nothing_left}
 use Rattle.hex_cli.specs.Talk.{Said, Going, talk}
-use Rattle.hex_cli.specs.Sessions.{talk_to, Quits, WantsTurn, AnswersAll, BrokeOff, GaveUp, HeldBack, AnsweredLast, BrokeOffLast, HasLast, LastIsShort}
+use Rattle.hex_cli.specs.Sessions.{talk_to, Quits, AnswersAll, BrokeOff, GaveUp, HeldBack, AnsweredLast, BrokeOffLast, HasLast, LastIsShort}
 use Rattle.hex_cli.specs.Outcome.{Outcome}
 use Rattle.hex_cli.specs.declared.ends.End.{End}
 use Rattle.hex_cli.specs.declared.ends.End.TheVariants as ending

@@ -5,7 +5,6 @@ use Rattle.htp_line.specs.Reading.{Reading, Blank, Bare, Ask, reading}
 use Rattle.htp_line.specs.Splitting.{kept}
 use Rattle.htp_line.specs.Lines.{whole}
 use Rattle.htp_line.specs.Splitting.{Held}
-use Rattle.tree_words.specs.declared.settings.Knobs.{Knobs}
 use Rattle.hex_engine.specs.Standing.{Standing}
 use Rattle.hex_engine.specs.Left.{Left, and_then}
 use Rattle.hex_engine.specs.Replies.{Turned, Missing, reaction}
@@ -34,7 +33,7 @@ step_keeps_if : (b : Bool) (a : Said) (line : Option (List ℕ)) → (cond b (wi
 step_keeps_if true a line = said_keeps a.at a.left line
 step_keeps_if false a line = refl
 
-step_keeps : (a : Said) (raw : List ℕ) → (step a raw).at.options ≡ a.at.options
+pub step_keeps : (a : Said) (raw : List ℕ) → (step a raw).at.options ≡ a.at.options
 unfolding step
 step_keeps a raw = step_keeps_if (goes_on a.ending) a (kept raw)
 
@@ -72,7 +71,7 @@ unfolding step
 step_more a more raw answered = step_if (goes_on a.ending) a more (kept raw) answered
 
 -- a talk that was short stays so
-fold_short : (a : Said) (lines : List (List ℕ)) (missing : Missing) → a.ending ≡ Short missing → (fold step a lines).ending ≡ Short missing
+pub fold_short : (a : Said) (lines : List (List ℕ)) (missing : Missing) → a.ending ≡ Short missing → (fold step a lines).ending ≡ Short missing
 fold_short a lines missing e = ap (λ (s : Said). s.ending) (fold_stays step a (λ raw. step-stays a raw (ap goes_on e)) lines) ∙ e
 
 fold_more : (a : Said) (more : Left) (lines : List (List ℕ)) → IsAnswered (fold step a lines) → fold step (said_with_more a more) lines ≡ said_with_more (fold step a lines) more

@@ -1,5 +1,5 @@
 -- What an answered request keeps, and that it does not depend on what is left after it.
-use Rattle.std.proofs.Common.{◌≡◌, ℕ, Bool, true, false, cond, List, [], ◌∷◌, ◌++◌, Option, Some, None, Result, Ok, Err, refl, ap}
+use Rattle.std.proofs.Common.{◌≡◌, ℕ, Bool, true, false, cond, List, [], ◌∷◌, ◌++◌, Option, Some, None, Result, Ok, Err, refl}
 use Rattle.std.specs.Str.{bytes_eq}
 use Rattle.htp_line.specs.Reading.{Asked}
 use Rattle.hex_cells.specs.declared.colours.Colour.{Colour}

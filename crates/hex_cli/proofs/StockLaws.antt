@@ -1,6 +1,5 @@
 -- What is used up by one call after another.
-use Rattle.std.proofs.Common.{◌≡◌, ℕ, Bool, List, [], ◌∷◌, ◌++◌, Option, refl, ap, sym, ◌∙◌, subst, append-nil, append_assoc}
-use Rattle.hex_io.specs.Told.{Both}
+use Rattle.std.proofs.Common.{◌≡◌, ℕ, Bool, List, [], ◌∷◌, ◌++◌, refl, ap, sym, ◌∙◌, subst, append-nil, append_assoc}
 use Rattle.hex_io.specs.declared.files.File.{File}
 use Rattle.hex_io.specs.Shelves.{Shelved}
 use Rattle.hex_io.proofs.BothLaws.{Both-then, Both-refl}
@@ -9,7 +8,7 @@ use Rattle.hex_plan.specs.Turns.{Decision}
 use Rattle.htp_line.specs.Splitting.{Held}
 use Rattle.hex_engine.specs.Standing.{Standing}
 use Rattle.hex_engine.specs.Left.{Left, Load, nothing_left, and_then}
-use Rattle.hex_engine.specs.Uses.{CameOf, Fetches, Loading, Moving, AreGood, Uses}
+use Rattle.hex_engine.specs.Uses.{CameOf, Fetches, AreGood}
 use Rattle.hex_cli.specs.Stocks.{Stock, UsesUp}
 use Rattle.hex_cli.specs.Sessions.{Stands, Does}
 

@@ -1,5 +1,5 @@
 -- Lines that ask for nothing that is used up.
-use Rattle.std.proofs.Common.{◌≡◌, refl, rules}
+use Rattle.std.proofs.Common.{refl, rules}
 use Rattle.hex_cli.proofs.Advances.{says_nothing_used, spends_nothing, if_ok_both}
 use Rattle.hex_cli.proofs.answering.respond.Goals as goal
 

@@ -1,10 +1,9 @@
 -- What stands at each end, and after one piece more.
-use Rattle.std.proofs.Common.{◌≡◌, ◌≤◌, ◌+◌, ◌++◌, [], ℕ, List, true, false, take, length, refl, arith, subst, ◌∙◌}
+use Rattle.std.proofs.Common.{◌≡◌, ◌≤◌, ◌+◌, ◌++◌, [], ℕ, List, take, length, refl, arith, subst, ◌∙◌}
 use Rattle.hex_io.specs.Told.{Both, Takes}
-use Rattle.hex_engine.specs.Standing.{Standing, opening}
-use Rattle.hex_cli.specs.Sessions.{Does, Fed}
+use Rattle.hex_engine.specs.Standing.{opening}
 use Rattle.hex_cli.proofs.Pieces.{length-taken, length-front}
-use Rattle.hex_cli.proofs.Conversations.{Took, goes_nothing, goes_taking, goes_on_feeding, conversed_nothing, ends_unread, ends_overlong, ends_quit, ends_unwritten, ends_unfinished, ends_unarchived, last_complete, last_unwritten, last_unfinished, last_unarchived}
+use Rattle.hex_cli.proofs.Conversations.{goes_nothing, goes_taking, goes_on_feeding, conversed_nothing, ends_unread, ends_overlong, ends_quit, ends_unwritten, ends_unfinished, ends_unarchived, last_complete, last_unwritten, last_unfinished, last_unarchived}
 use Rattle.hex_cli.proofs.conversation.converse.Goals as goal
 
 pub returns-in-Err-clause-conversed : goal.returns-in-Err-clause-conversed

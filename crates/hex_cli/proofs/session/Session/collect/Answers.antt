@@ -1,9 +1,7 @@
 -- What stands after one line more.
-use Rattle.std.proofs.Common.{◌≡◌, [], refl, append-nil, sym, arith}
+use Rattle.std.proofs.Common.{arith}
 use Rattle.std.proofs.lemmas.Grind.{common_steps}
-use Rattle.hex_cli.specs.Sessions.{Does}
-use Rattle.hex_cli.proofs.StockLaws.{does_nothing}
-use Rattle.hex_cli.proofs.Batches.{Gathered, GatheredBy, gathered_nothing, gather, batch_of, quit_batch_of, memory_batch_of, archive_batch_of}
+use Rattle.hex_cli.proofs.Batches.{gathered_nothing, gather, batch_of, quit_batch_of, memory_batch_of, archive_batch_of}
 use Rattle.hex_cli.proofs.session.Session.collect.Goals as goal
 
 pub loop-moved-init : goal.loop-moved-init

@@ -1,5 +1,5 @@
 -- What stands after one batch more.
-use Rattle.std.proofs.Common.{◌≡◌, [], List, ℕ, take, length, refl, arith, subst, rules}
+use Rattle.std.proofs.Common.{◌≡◌, take, refl, arith}
 use Rattle.std.proofs.lemmas.Grind.{common_steps}
 use Rattle.hex_cli.proofs.Batches.{fed_nothing, fed_all, fed_on, fed_quit, fed_broke_off, fed_gave_up, fed_held_back}
 use Rattle.hex_cli.proofs.session.Session.feed.Goals as goal
