@@ -13,7 +13,7 @@ ghost use Rattle.hex_cli.specs.Sessions.{Does, DoesSome};
 use crate::answering::{line_of, respond};
 use crate::giving::give;
 use hex_cells::Size;
-use hex_engine::{Engine, EngineError, Memory};
+use hex_engine::{Engine, EngineError, Memory, Options};
 use hex_io::{Link, Shelf};
 use hex_plan::Archive;
 use htp_line::{Splitter, What};
@@ -70,7 +70,12 @@ impl Session {
         requires { AreInRange options.now }
         ensures stands { IfOk result (λ s. (later : Left) → Stands (opening options.now size) later later s.engine s.splitter []) }
     {
-        let engine = Engine::make(alloc, options, size)?;
+        // No connections are looked for yet, whatever the words say.
+        let options = Options {
+            knobs: *options,
+            hsearch: false,
+        };
+        let engine = Engine::make(alloc, &options, size)?;
         let Ok(splitter) = Splitter::make(alloc) else {
             return Err(Memory);
         };

@@ -32,7 +32,7 @@ mod texts;
 
 pub use answers::{Answer, EngineError, Fail, Memory};
 pub use commands::{COMMANDS, Command};
-pub use standing::Engine;
+pub use standing::{Engine, Options};
 
 #[cfg(test)]
 mod tests;

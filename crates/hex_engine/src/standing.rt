@@ -37,6 +37,15 @@ use std::alloc::Global;
 use std::marker::Model;
 use tree_words::Knobs;
 
+/// How an engine chooses its moves.
+#[derive(Clone, Copy, Debug, PartialEq, Eq)]
+pub struct Options {
+    /// The knobs of its searches. The seed is that of the first one.
+    pub knobs: Knobs,
+    /// Whether it looks for virtual connections before it searches. It has no effect yet: none are looked for.
+    pub hsearch: bool,
+}
+
 /// Answers requests one by one, each from the game that the requests before it led to.
 #[derive(Drop)]
 pub struct Engine {
@@ -65,16 +74,16 @@ impl Model for Engine {
 }
 
 impl Engine {
-    /// An engine over an empty board of that size. The options are those of its searches, in their ranges.
-    pub fn make(alloc: Global, options: &Knobs, size: Size) -> Result<Engine, Memory>
-        requires { AreInRange options.now }
-        ensures { IfOk result (λ engine. engine ≡ opening options.now size) }
+    /// An engine over an empty board of that size. The knobs of its searches are in their ranges.
+    pub fn make(alloc: Global, options: &Options, size: Size) -> Result<Engine, Memory>
+        requires { AreInRange options.now.knobs }
+        ensures { IfOk result (λ engine. engine ≡ opening options.now.knobs size) }
     {
         let board = Board::of(size, CellSet::none(), CellSet::none());
         match Game::make(alloc, &board) {
             Ok(game) => Ok(Engine {
                 alloc,
-                options: *options,
+                options: options.knobs,
                 game,
                 turns: 0,
                 report: None,

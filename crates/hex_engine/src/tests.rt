@@ -2,7 +2,7 @@
 
 ghost use Rattle.tree_words.specs.Settings.{AreInRange};
 
-use super::{Answer, Engine, Fail};
+use super::{Answer, Engine, Fail, Options};
 use hex_cells::Size;
 use hex_io::{Bytes, File, MemShelf};
 use hex_plan::MemArchive;
@@ -13,16 +13,20 @@ use std::test::Fail as Failure;
 use tree_words::Knobs;
 
 /// The options of a command line that says nothing but one playout a move.
-fn options() -> Knobs
-    ensures { AreInRange result }
+fn options() -> Options
+    ensures { AreInRange result.knobs }
 {
-    Knobs {
+    let knobs = Knobs {
         workers: 1,
         playouts: 1,
         seed: 0,
         words: 4_194_304,
         expand: 8,
         weight: 180,
+    };
+    Options {
+        knobs,
+        hsearch: false,
     }
 }
 
