@@ -13,3 +13,4 @@ pub mod Conversations
 pub mod OneWorkerLoads
 pub mod OneWorkerMoves
 pub mod OneWorker
+pub mod LegalMoves

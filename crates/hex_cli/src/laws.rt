@@ -1,6 +1,13 @@
 //! Laws of a talk, as functions with nothing to do.
 
-ghost use Rattle.std.specs.Prelude.{◌≡◌, Bool, List, ℕ};
+ghost use Rattle.std.specs.Prelude.{◌≡◌, Bool, List, true, ℕ};
+ghost use Rattle.hex_cells.specs.declared.colours.Colour.{Colour};
+ghost use Rattle.hex_game.specs.Games.{is_legal};
+ghost use Rattle.hex_game.specs.Moves.{step_of};
+ghost use Rattle.hex_game.specs.declared.moves.Move.TheVariants.{Stone};
+ghost use Rattle.hex_plan.specs.Good.{IsGood};
+ghost use Rattle.hex_plan.specs.Turns.{Decision};
+ghost use Rattle.hex_engine.specs.Replies.{is_next};
 ghost use Rattle.hex_io.specs.declared.files.File.{File};
 ghost use Rattle.hex_engine.specs.Standing.{Standing};
 ghost use Rattle.hex_engine.specs.Left.{Left, and_then};
@@ -43,4 +50,11 @@ pub fn one_worker_and_one_shelf_determine()
         (one other : Left) → CameOf files tries one.loads → CameOf files tries other.loads →
         AreGood start.options one.turns → AreGood start.options other.turns → (lines : List (List ℕ)) →
         IsThrough (talk start one lines) → IsThrough (talk start other lines) → talk start one lines ≡ talk start other lines }
+{}
+
+/// Each searched move is legal where a talk plays it: where a good turn is a conversation's next, a
+/// stone of the colour asked on the turn's cell is a legal step of its game.
+pub fn searched_moves_are_legal()
+    ensures { (at : Standing) → (colour : Colour) → (turn : Decision) → IsGood at.options turn → is_next at colour turn ≡ true →
+        is_legal at.game (step_of colour (Stone turn.cell)) ≡ true }
 {}

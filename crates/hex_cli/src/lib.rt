@@ -47,5 +47,6 @@ mod top;
 pub use ends::End;
 pub use laws::{
     more_left_is_not_used, one_worker_and_one_shelf_determine, one_worker_is_determined,
+    searched_moves_are_legal,
 };
 pub use top::{INPUT_LIMIT, report, run};
