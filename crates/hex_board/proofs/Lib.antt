@@ -3,3 +3,5 @@ pub mod Reach
 pub mod Roots
 pub mod Search
 pub mod Tabled
+pub mod WinLaws
+pub mod GroupLaws

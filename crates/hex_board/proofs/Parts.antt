@@ -15,15 +15,11 @@ use Rattle.hex_cells.proofs.Counts.{members_more, members_few, members_apart, me
 use Rattle.hex_board.specs.Joined.{Path, last_of, Leads, leads_in, cells_of}
 use Rattle.hex_board.specs.Positions.{Position, Within, Apart, stones_of, is_empty_at}
 use Rattle.hex_board.specs.Groups.{Links, IsRoot}
-use Rattle.hex_board.specs.Elements.{Side, is_linked, is_tied, are_joined, is_root, is_head, edge_element, edge_elements, head_element, element_count, element_of}
+use Rattle.hex_board.specs.Elements.{PlayerBoard, is_linked, is_tied, are_joined, is_root, is_head, edge_element, edge_elements, head_element, element_count, element_of}
 use Rattle.hex_board.proofs.Roots.{links_through, turned_link, first_in}
 use Rattle.hex_board.proofs.Search.{any_out, any_in, leads_out, leads_found, starts_in, joined_found}
 
 -- ---- what a search says, on a board
-
-ends_in : (n s x : ℕ) (xs : List ℕ) → Path n s x xs → has s (last_of x xs) ≡ true
-ends_in n s x [] p = p
-ends_in n s x (y ∷ ys) p = ends_in n s y ys p.2
 
 same_cell : (a b : ℕ) → (a == b) ≡ true → a ≡ b
 same_cell a b e = grind (arith, nat_tests)
@@ -52,32 +48,32 @@ flood_test n s g test r k on hg hr = same_test (has r k) (leads_in (n * n) n s t
 
 -- ---- linked and tied
 
-pub linked_through : (e : Side) (a b c : ℕ) → Within e.board.size (stones_of e.board e.player) → is_linked e a b ≡ true → is_linked e b c ≡ true → is_linked e a c ≡ true
+pub linked_through : (e : PlayerBoard) (a b c : ℕ) → Within e.board.size (stones_of e.board e.player) → is_linked e a b ≡ true → is_linked e b c ≡ true → is_linked e a c ≡ true
 linked_through e a b c on h i = let n = e.board.size in let s = stones_of e.board e.player in
     link_in n s a c on (links_through n s a b c (link_out n s a b h) (link_out n s b c i))
 
-pub linked_back : (e : Side) (a b : ℕ) → Within e.board.size (stones_of e.board e.player) → is_linked e a b ≡ true → is_linked e b a ≡ true
+pub linked_back : (e : PlayerBoard) (a b : ℕ) → Within e.board.size (stones_of e.board e.player) → is_linked e a b ≡ true → is_linked e b a ≡ true
 linked_back e a b on h = let n = e.board.size in let s = stones_of e.board e.player in link_in n s b a on (turned_link n s a b (link_out n s a b h))
 
-pub tied_through : (e : Side) (second : Bool) (a b : ℕ) → Within e.board.size (stones_of e.board e.player) → is_linked e a b ≡ true → is_tied e second b ≡ true → is_tied e second a ≡ true
+pub tied_through : (e : PlayerBoard) (second : Bool) (a b : ℕ) → Within e.board.size (stones_of e.board e.player) → is_linked e a b ≡ true → is_tied e second b ≡ true → is_tied e second a ≡ true
 tied_through e second a b on h i =
     let n = e.board.size in let s = stones_of e.board e.player in
     let t = leads_out (n * n) n s (on_edge e.player second n) b i in
     let l : Links n s a (last_of b t.0) = links_through n s a b (last_of b t.0) (link_out n s a b h) (t.0, t.1, refl) in
     leads_on_board n s (on_edge e.player second n) a l.0 on l.1 (ap (on_edge e.player second n) l.2 ∙ t.2)
 
-pub linked_first : (e : Side) (a b : ℕ) → is_linked e a b ≡ true → has (stones_of e.board e.player) a ≡ true
+pub linked_first : (e : PlayerBoard) (a b : ℕ) → is_linked e a b ≡ true → has (stones_of e.board e.player) a ≡ true
 linked_first e a b h = first_in e.board.size (stones_of e.board e.player) a b (link_out e.board.size (stones_of e.board e.player) a b h)
 
-pub linked_last : (e : Side) (a b : ℕ) → is_linked e a b ≡ true → has (stones_of e.board e.player) b ≡ true
+pub linked_last : (e : PlayerBoard) (a b : ℕ) → is_linked e a b ≡ true → has (stones_of e.board e.player) b ≡ true
 linked_last e a b h = last_in e.board.size (stones_of e.board e.player) a b (link_out e.board.size (stones_of e.board e.player) a b h)
 
-pub tied_stone : (e : Side) (second : Bool) (k : ℕ) → is_tied e second k ≡ true → has (stones_of e.board e.player) k ≡ true
+pub tied_stone : (e : PlayerBoard) (second : Bool) (k : ℕ) → is_tied e second k ≡ true → has (stones_of e.board e.player) k ≡ true
 tied_stone e second k h = let n = e.board.size in let s = stones_of e.board e.player in
     let t = leads_out (n * n) n s (on_edge e.player second n) k h in starts_in n s k t.0 t.1
 
 -- a stone tied to both edges joins them
-pub tied_joins : (e : Side) (k : ℕ) → is_tied e false k ≡ true → is_tied e true k ≡ true → are_joined e ≡ true
+pub tied_joins : (e : PlayerBoard) (k : ℕ) → is_tied e false k ≡ true → is_tied e true k ≡ true → are_joined e ≡ true
 tied_joins e k h i =
     let n = e.board.size in let s = stones_of e.board e.player in
     let t = leads_out (n * n) n s (on_edge e.player false n) k h in
@@ -96,7 +92,7 @@ pub stone_full : (p : Position) (c : Colour) (k : ℕ) → has (stones_of p c) k
 stone_full p Black k h = full_black (nat_lt k (p.size * p.size)) (has p.black k) (has p.white k) h
 stone_full p White k h = full_white (nat_lt k (p.size * p.size)) (has p.black k) (has p.white k) h
 
-pub tied_full : (e : Side) (second : Bool) (k : ℕ) → is_tied e second k ≡ true → is_empty_at e.board k ≡ false
+pub tied_full : (e : PlayerBoard) (second : Bool) (k : ℕ) → is_tied e second k ≡ true → is_empty_at e.board k ≡ false
 tied_full e second k h = stone_full e.board e.player k (tied_stone e second k h)
 
 empty_on : (p : Position) (k : ℕ) → is_empty_at p k ≡ true → k < p.size * p.size
@@ -136,7 +132,7 @@ pick_third a b c x y z v h i j = rw (h, i, j) refl
 pick_last : (a b c : Bool) (x y z v : Option ℕ) → a ≡ false → b ≡ false → c ≡ false → (if a then x else (if b then y else (if c then z else v))) ≡ v
 pick_last a b c x y z v h i j = rw (h, i, j) refl
 
-pub data Case (e : Side) (k : ℕ) : Type 0 where
+pub data Case (e : PlayerBoard) (k : ℕ) : Type 0 where
   is_free : is_empty_at e.board k ≡ true → element_of e k ≡ Some (head_element e k) → Case e k
   is_first : is_tied e false k ≡ true → element_of e k ≡ Some 0 → Case e k
   is_second : is_tied e false k ≡ false → is_tied e true k ≡ true → element_of e k ≡ Some (edge_element e true) → Case e k
@@ -145,7 +141,7 @@ pub data Case (e : Side) (k : ℕ) : Type 0 where
   is_other : is_empty_at e.board k ≡ false → is_tied e false k ≡ false → is_tied e true k ≡ false → ((j : ℕ) → is_linked e j k ≡ false)
       → element_of e k ≡ None → Case e k
 
-pub case_of : (e : Side) (k : ℕ) → Within e.board.size (stones_of e.board e.player) → Case e k
+pub case_of : (e : PlayerBoard) (k : ℕ) → Within e.board.size (stones_of e.board e.player) → Case e k
 case_of e k on =
     let v = option_map (head_element e) (find (λ j. is_linked e j k) (cells_of e.board.size)) in
     elim (cases_Bool (is_empty_at e.board k)) [
@@ -164,13 +160,10 @@ case_of e k on =
       ]
     ]
   where
-    all_below : (e : Side) (j k : ℕ) → Within e.board.size (stones_of e.board e.player) → (j < 0 + e.board.size * e.board.size → is_linked e j k ≡ false) → is_linked e j k ≡ false
+    all_below : (e : PlayerBoard) (j k : ℕ) → Within e.board.size (stones_of e.board e.player) → (j < 0 + e.board.size * e.board.size → is_linked e j k ≡ false) → is_linked e j k ≡ false
     all_below e j k on f = false_from_ne_true (is_linked e j k) (λ t. both_ways (is_linked e j k) (f (omega (arith, on j (linked_first e j k t)))) t)
 
 -- ---- heads
-
-and_three : (a b c : Bool) → a ≡ true → b ≡ false → c ≡ false → (a && not b && not c) ≡ true
-and_three a b c h i j = grind arith
 
 head_from_root : (a b c d : Bool) → b ≡ true → c ≡ false → d ≡ false → (a || (b && not c && not d)) ≡ true
 head_from_root a b c d h i j = grind arith
@@ -179,27 +172,27 @@ stone_alone : (a b : Bool) → a ≡ true → b ≡ false → (a && not b) ≡ t
 stone_alone a b h i = grind arith
 
 -- the least stone that is linked to a stone is the least of its group
-pub least_root : (e : Side) (r k : ℕ) → Within e.board.size (stones_of e.board e.player) → is_linked e r k ≡ true
+pub least_root : (e : PlayerBoard) (r k : ℕ) → Within e.board.size (stones_of e.board e.player) → is_linked e r k ≡ true
     → ((j : ℕ) → j < r → is_linked e j k ≡ false) → is_root e r ≡ true
 least_root e r k on h m = stone_alone (has (stones_of e.board e.player) r) (list_any (λ j. is_linked e j r) (range_with_len 0 r)) (linked_first e r k h)
     (false_from_ne_true (list_any (λ j. is_linked e j r) (range_with_len 0 r)) (λ t.
     let w = any_out (λ j. is_linked e j r) 0 r t in
     both_ways (is_linked e w.0 k) (m w.0 (omega (arith, w.1))) (linked_through e w.0 r k on w.2 h)))
 
-untied : (e : Side) (second : Bool) (r k : ℕ) → Within e.board.size (stones_of e.board e.player) → is_linked e r k ≡ true → is_tied e second k ≡ false → is_tied e second r ≡ false
+untied : (e : PlayerBoard) (second : Bool) (r k : ℕ) → Within e.board.size (stones_of e.board e.player) → is_linked e r k ≡ true → is_tied e second k ≡ false → is_tied e second r ≡ false
 untied e second r k on h f = false_from_ne_true (is_tied e second r) (λ t.
     both_ways (is_tied e second k) f (tied_through e second k r on (linked_back e r k on h) t))
 
-pub root_head : (e : Side) (r k : ℕ) → Within e.board.size (stones_of e.board e.player) → is_tied e false k ≡ false → is_tied e true k ≡ false
+pub root_head : (e : PlayerBoard) (r k : ℕ) → Within e.board.size (stones_of e.board e.player) → is_tied e false k ≡ false → is_tied e true k ≡ false
     → is_linked e r k ≡ true → ((j : ℕ) → j < r → is_linked e j k ≡ false) → is_head e r ≡ true
 root_head e r k on f g h m = head_from_root (is_empty_at e.board r) (is_root e r) (is_tied e false r) (is_tied e true r)
     (least_root e r k on h m) (untied e false r k on h f) (untied e true r k on h g)
 
-pub empty_head : (e : Side) (k : ℕ) → is_empty_at e.board k ≡ true → is_head e k ≡ true
+pub empty_head : (e : PlayerBoard) (k : ℕ) → is_empty_at e.board k ≡ true → is_head e k ≡ true
 empty_head e k h = or_left (is_empty_at e.board k) (is_root e k && not (is_tied e false k) && not (is_tied e true k)) h
 
 -- a head is an empty cell, or the least stone of a group that is tied to no edge
-pub head_cases : (e : Side) (k : ℕ) → is_head e k ≡ true → (is_empty_at e.board k ≡ true) ⊎ ((is_root e k ≡ true) × (is_tied e false k ≡ false) × (is_tied e true k ≡ false))
+pub head_cases : (e : PlayerBoard) (k : ℕ) → is_head e k ≡ true → (is_empty_at e.board k ≡ true) ⊎ ((is_root e k ≡ true) × (is_tied e false k ≡ false) × (is_tied e true k ≡ false))
 head_cases e k h = elim (or_cases (is_empty_at e.board k) (is_root e k && not (is_tied e false k) && not (is_tied e true k)) h) [
   | inl t ↦ inl t
   | inr t ↦ inr (parts (is_root e k) (is_tied e false k) (is_tied e true k) t)
@@ -211,7 +204,7 @@ head_cases e k h = elim (or_cases (is_empty_at e.board k) (is_root e k && not (i
     parts true false false h = (refl, refl, refl)
     parts false b c h = absurd (false≢true h)
 
-pub head_on : (e : Side) (k : ℕ) → Within e.board.size (stones_of e.board e.player) → is_head e k ≡ true → k < e.board.size * e.board.size
+pub head_on : (e : PlayerBoard) (k : ℕ) → Within e.board.size (stones_of e.board e.player) → is_head e k ≡ true → k < e.board.size * e.board.size
 head_on e k on h = elim (head_cases e k h) [
   | inl t ↦ empty_on e.board k t
   | inr t ↦ on k (and_parts (has (stones_of e.board e.player) k) (not (list_any (λ j. is_linked e j k) (range_with_len 0 k))) t.0).0
@@ -272,7 +265,7 @@ members_flat s m (suc d) f =
     zero_plus a = omega arith
 
 -- all heads lie on the board
-pub all_heads : (e : Side) (h : ℕ) → Within e.board.size (stones_of e.board e.player) → e.board.size ≤ 11 → ((k : ℕ) → has h k ≡ is_head e k)
+pub all_heads : (e : PlayerBoard) (h : ℕ) → Within e.board.size (stones_of e.board e.player) → e.board.size ≤ 11 → ((k : ℕ) → has h k ≡ is_head e k)
     → members h 121 ≡ count_by (is_head e) (cells_of e.board.size)
 all_heads e h on l f =
     let m = e.board.size * e.board.size in
@@ -286,7 +279,7 @@ all_heads e h on l f =
 
 -- ---- ranges
 
-pub edge_below : (e : Side) (b : Bool) → edge_element e b < edge_elements e
+pub edge_below : (e : PlayerBoard) (b : Bool) → edge_element e b < edge_elements e
 edge_below e false = first_below (are_joined e)
   where
     first_below : (j : Bool) → 0 < (if j then 1 else 2)
@@ -298,7 +291,7 @@ edge_below e true = second_below (are_joined e)
     second_below true = omega arith
     second_below false = omega arith
 
-pub head_below : (e : Side) (h k : ℕ) → Within e.board.size (stones_of e.board e.player) → ((j : ℕ) → has h j ≡ is_head e j) → is_head e k ≡ true
+pub head_below : (e : PlayerBoard) (h k : ℕ) → Within e.board.size (stones_of e.board e.player) → ((j : ℕ) → has h j ≡ is_head e j) → is_head e k ≡ true
     → head_element e k < element_count e
 head_below e h k on f i = let l = head_counts h (is_head e) k (e.board.size * e.board.size) f i (head_on e k on i) in
     add_below (edge_elements e) (count_by (is_head e) (range_with_len 0 k)) (count_by (is_head e) (cells_of e.board.size)) l
@@ -315,7 +308,7 @@ some_same x y e = cc
 low_below : (x b c : ℕ) → x < b → x < b + c
 low_below x b c l = omega arith
 
-pub element_below : (e : Side) (h k x : ℕ) → Within e.board.size (stones_of e.board e.player) → ((j : ℕ) → has h j ≡ is_head e j) → element_of e k ≡ Some x
+pub element_below : (e : PlayerBoard) (h k x : ℕ) → Within e.board.size (stones_of e.board e.player) → ((j : ℕ) → has h j ≡ is_head e j) → element_of e k ≡ Some x
     → x < element_count e
 element_below e h k x on f q = elim (case_of e k on) [
   | is_free i t ↦ subst (λ v. v < element_count e) (some_same _ _ (sym t ∙ q)) (head_below e h k on f (empty_head e k i))
@@ -327,7 +320,7 @@ element_below e h k x on f q = elim (case_of e k on) [
 
 -- ---- the other player's stones
 
-link_self : (e : Side) (k : ℕ) → Within e.board.size (stones_of e.board e.player) → has (stones_of e.board e.player) k ≡ true → is_linked e k k ≡ true
+link_self : (e : PlayerBoard) (k : ℕ) → Within e.board.size (stones_of e.board e.player) → has (stones_of e.board e.player) k ≡ true → is_linked e k k ≡ true
 link_self e k on h = link_in e.board.size (stones_of e.board e.player) k k on ([], h, refl)
 
 rest_stone : (a b c : Bool) → (a && not b && not c) ≡ false → a ≡ true → b ≡ false → c ≡ true
@@ -343,7 +336,7 @@ other_stone : (p : Position) (c : Colour) (k : ℕ) → k < p.size * p.size → 
 other_stone p Black k l e h = rest_stone (nat_lt k (p.size * p.size)) (has p.black k) (has p.white k) e (on_test _ _ l) h
 other_stone p White k l e h = rest_other (nat_lt k (p.size * p.size)) (has p.black k) (has p.white k) e (on_test _ _ l) h
 
-pub none_other : (e : Side) (k : ℕ) → Within e.board.size (stones_of e.board e.player)
+pub none_other : (e : PlayerBoard) (k : ℕ) → Within e.board.size (stones_of e.board e.player)
     → Apart (stones_of e.board e.player) (stones_of e.board (other_of e.player)) → k < e.board.size * e.board.size
     → (element_of e k ≡ None) ↔ (has (stones_of e.board (other_of e.player)) k ≡ true)
 none_other e k on apart l = (
@@ -365,16 +358,16 @@ none_other e k on apart l = (
 
 -- ---- what the code finds
 
-pub of_free : (e : Side) (k : ℕ) → is_empty_at e.board k ≡ true → element_of e k ≡ Some (head_element e k)
+pub of_free : (e : PlayerBoard) (k : ℕ) → is_empty_at e.board k ≡ true → element_of e k ≡ Some (head_element e k)
 of_free e k h = pick_first (is_empty_at e.board k) (is_tied e false k) (is_tied e true k) _ _ _ _ h
 
-pub of_first : (e : Side) (k : ℕ) → is_tied e false k ≡ true → element_of e k ≡ Some 0
+pub of_first : (e : PlayerBoard) (k : ℕ) → is_tied e false k ≡ true → element_of e k ≡ Some 0
 of_first e k h = pick_second (is_empty_at e.board k) (is_tied e false k) (is_tied e true k) _ _ _ _ (tied_full e false k h) h
 
-pub of_second : (e : Side) (k : ℕ) → is_tied e false k ≡ false → is_tied e true k ≡ true → element_of e k ≡ Some (edge_element e true)
+pub of_second : (e : PlayerBoard) (k : ℕ) → is_tied e false k ≡ false → is_tied e true k ≡ true → element_of e k ≡ Some (edge_element e true)
 of_second e k g h = pick_third (is_empty_at e.board k) (is_tied e false k) (is_tied e true k) _ _ _ _ (tied_full e true k h) g h
 
-pub of_rest : (e : Side) (k : ℕ) → is_empty_at e.board k ≡ false → is_tied e false k ≡ false → is_tied e true k ≡ false
+pub of_rest : (e : PlayerBoard) (k : ℕ) → is_empty_at e.board k ≡ false → is_tied e false k ≡ false → is_tied e true k ≡ false
     → element_of e k ≡ option_map (head_element e) (find (λ j. is_linked e j k) (cells_of e.board.size))
 of_rest e k f g h = pick_last (is_empty_at e.board k) (is_tied e false k) (is_tied e true k) _ _ _ _ f g h
 
@@ -393,22 +386,22 @@ find_least p m r l h f = elim (find_case p 0 m) [
 find_nothing : (p : ℕ → Bool) (m : ℕ) → ((j : ℕ) → p j ≡ false) → find p (range_with_len 0 m) ≡ None
 find_nothing p m f = elim (find_case p 0 m) [ inl u ↦ u.0 | inr u ↦ absurd (both_ways (p u.0) (f u.0) u.3) ]
 
-pub of_group : (e : Side) (k r : ℕ) → Within e.board.size (stones_of e.board e.player) → is_empty_at e.board k ≡ false → is_tied e false k ≡ false → is_tied e true k ≡ false
+pub of_group : (e : PlayerBoard) (k r : ℕ) → Within e.board.size (stones_of e.board e.player) → is_empty_at e.board k ≡ false → is_tied e false k ≡ false → is_tied e true k ≡ false
     → is_linked e r k ≡ true → ((j : ℕ) → j < r → is_linked e j k ≡ false) → element_of e k ≡ Some (head_element e r)
 of_group e k r on f g h l m = of_rest e k f g h ∙ ap (option_map (head_element e))
     (find_least (λ j. is_linked e j k) (e.board.size * e.board.size) r (on r (linked_first e r k l)) l m)
 
-pub of_other : (e : Side) (k : ℕ) → is_empty_at e.board k ≡ false → is_tied e false k ≡ false → is_tied e true k ≡ false
+pub of_other : (e : PlayerBoard) (k : ℕ) → is_empty_at e.board k ≡ false → is_tied e false k ≡ false → is_tied e true k ≡ false
     → ((j : ℕ) → is_linked e j k ≡ false) → element_of e k ≡ None
 of_other e k f g h m = of_rest e k f g h ∙ ap (option_map (head_element e)) (find_nothing (λ j. is_linked e j k) (e.board.size * e.board.size) m)
 
 -- the flood from one cell finds the stones that are linked to it
-pub flood_linked : (e : Side) (g none r c k : ℕ) → Within e.board.size (stones_of e.board e.player) → ((j : ℕ) → has g j ≡ (has none j || j == c)) → ((j : ℕ) → has none j ≡ false)
+pub flood_linked : (e : PlayerBoard) (g none r c k : ℕ) → Within e.board.size (stones_of e.board e.player) → ((j : ℕ) → has g j ≡ (has none j || j == c)) → ((j : ℕ) → has none j ≡ false)
     → IsTrue (has r k) ↔ Leads e.board.size (stones_of e.board e.player) g k → has r k ≡ is_linked e k c
 flood_linked e g none r c k on hg hn hr = flood_test e.board.size (stones_of e.board e.player) g (λ v. v == c) r k on (λ j. hg j ∙ ap (λ v. v || (j == c)) (hn j)) hr
 
 -- the set of roots is the test of roots
-pub root_test : (e : Side) (r k : ℕ) → Within e.board.size (stones_of e.board e.player) → IsTrue (has r k) ↔ IsRoot e.board.size (stones_of e.board e.player) k
+pub root_test : (e : PlayerBoard) (r k : ℕ) → Within e.board.size (stones_of e.board e.player) → IsTrue (has r k) ↔ IsRoot e.board.size (stones_of e.board e.player) k
     → has r k ≡ is_root e k
 root_test e r k on h = same_test (has r k) (is_root e k)
     (λ t. let u = h.0 t in stone_alone (has (stones_of e.board e.player) k) (list_any (λ j. is_linked e j k) (range_with_len 0 k)) u.0
@@ -421,7 +414,7 @@ root_test e r k on h = same_test (has r k) (is_root e k)
           (any_in (λ i. is_linked e i k) 0 k j (omega arith) (omega arith) (link_in e.board.size (stones_of e.board e.player) j k on v)),
     ))
 
-pub head_test : (e : Side) (u l r f g em k : ℕ) → has u k ≡ (has em k || has l k) → has l k ≡ ((has r k && not (has f k)) && not (has g k))
+pub head_test : (e : PlayerBoard) (u l r f g em k : ℕ) → has u k ≡ (has em k || has l k) → has l k ≡ ((has r k && not (has f k)) && not (has g k))
     → has em k ≡ is_empty_at e.board k → has r k ≡ is_root e k → has f k ≡ is_tied e false k → has g k ≡ is_tied e true k → has u k ≡ is_head e k
 head_test e u l r f g em k a b c d x y = a ∙ (ap (λ v. v || has l k) c ∙ ap (λ v. is_empty_at e.board k || v)
     (b ∙ (ap (λ v. (v && not (has f k)) && not (has g k)) d ∙ (ap (λ v. (is_root e k && not v) && not (has g k)) x ∙ ap (λ v. (is_root e k && not (is_tied e false k)) && not v) y))))
@@ -435,10 +428,10 @@ joined_low : (j : Bool) → ◌≡◌ {A = ℕ} (if j then 0 else 1) 0 → j ≡
 joined_low true e = refl
 joined_low false e = absurd (omega arith)
 
-some_edges : (e : Side) → 0 < edge_elements e
+some_edges : (e : PlayerBoard) → 0 < edge_elements e
 some_edges e = edge_below e false
 
-pub zero_out : (e : Side) (k : ℕ) → Within e.board.size (stones_of e.board e.player) → element_of e k ≡ Some 0
+pub zero_out : (e : PlayerBoard) (k : ℕ) → Within e.board.size (stones_of e.board e.player) → element_of e k ≡ Some 0
     → (is_tied e false k ≡ true) ⊎ ((are_joined e ≡ true) × (is_tied e true k ≡ true))
 zero_out e k on q = elim (case_of e k on) [
   | is_free i t ↦ absurd (low_head (edge_elements e) (count_by (is_head e) (range_with_len 0 k)) (some_edges e) (some_same _ _ (sym q ∙ t)))
@@ -454,13 +447,13 @@ low_joined j h = rw h refl
 high_apart : (j : Bool) → j ≡ false → ◌≡◌ {A = ℕ} (if j then 0 else 1) 1
 high_apart j h = rw h refl
 
-pub zero_in : (e : Side) (k : ℕ) → are_joined e ≡ true → is_tied e true k ≡ true → element_of e k ≡ Some 0
+pub zero_in : (e : PlayerBoard) (k : ℕ) → are_joined e ≡ true → is_tied e true k ≡ true → element_of e k ≡ Some 0
 zero_in e k j h = elim (cases_Bool (is_tied e false k)) [
   | inl t ↦ of_first e k t
   | inr t ↦ of_second e k t h ∙ ap Some (low_joined (are_joined e) j)
 ]
 
-pub one_out : (e : Side) (k : ℕ) → Within e.board.size (stones_of e.board e.player) → are_joined e ≡ false → element_of e k ≡ Some 1 → is_tied e true k ≡ true
+pub one_out : (e : PlayerBoard) (k : ℕ) → Within e.board.size (stones_of e.board e.player) → are_joined e ≡ false → element_of e k ≡ Some 1 → is_tied e true k ≡ true
 one_out e k on f q = elim (case_of e k on) [
   | is_free i t ↦ absurd (one_head_far (are_joined e) (count_by (is_head e) (range_with_len 0 k)) f (some_same _ _ (sym q ∙ t)))
   | is_first i t ↦ absurd (differ (some_same _ _ (sym q ∙ t)))
@@ -476,11 +469,11 @@ one_out e k on f q = elim (case_of e k on) [
     differ : ◌≡◌ {A = ℕ} 1 0 → ⊥
     differ e = absurd (omega arith)
 
-pub one_in : (e : Side) (k : ℕ) → are_joined e ≡ false → is_tied e true k ≡ true → element_of e k ≡ Some 1
+pub one_in : (e : PlayerBoard) (k : ℕ) → are_joined e ≡ false → is_tied e true k ≡ true → element_of e k ≡ Some 1
 one_in e k f h = of_second e k (false_from_ne_true (is_tied e false k) (λ t. both_ways (are_joined e) f (tied_joins e k t h))) h
     ∙ ap Some (high_apart (are_joined e) f)
 
-head_number : (e : Side) (h a b : ℕ) → ((j : ℕ) → has h j ≡ is_head e j) → is_head e a ≡ true → is_head e b ≡ true → head_element e a ≡ head_element e b → a ≡ b
+head_number : (e : PlayerBoard) (h a b : ℕ) → ((j : ℕ) → has h j ≡ is_head e j) → is_head e a ≡ true → is_head e b ≡ true → head_element e a ≡ head_element e b → a ≡ b
 head_number e h a b f i j q = one_head h (is_head e) a b f i j (cancel (edge_elements e) (count_by (is_head e) (range_with_len 0 a)) (count_by (is_head e) (range_with_len 0 b)) q)
   where
     cancel : (b x y : ℕ) → b + x ≡ b + y → x ≡ y
@@ -490,7 +483,7 @@ high_edge : (b x v : ℕ) → v < b → v ≡ b + x → ⊥
 high_edge b x v h e = absurd (omega arith)
 
 -- the cells of an element without an edge: its least cell alone where that is empty, else the stones that are linked to it
-pub head_out : (e : Side) (h a k : ℕ) → Within e.board.size (stones_of e.board e.player) → ((j : ℕ) → has h j ≡ is_head e j) → is_head e a ≡ true
+pub head_out : (e : PlayerBoard) (h a k : ℕ) → Within e.board.size (stones_of e.board e.player) → ((j : ℕ) → has h j ≡ is_head e j) → is_head e a ≡ true
     → element_of e k ≡ Some (head_element e a) → ((is_empty_at e.board a ≡ true) × (k ≡ a)) ⊎ ((is_empty_at e.board a ≡ false) × (is_linked e k a ≡ true))
 head_out e h a k on f i q = elim (case_of e k on) [
   | is_free u t ↦ let s = head_number e h k a f (empty_head e k u) i (some_same _ _ (sym t ∙ q)) in inl (subst (λ v. is_empty_at e.board v ≡ true) s u, s)
@@ -504,12 +497,12 @@ head_out e h a k on f i q = elim (case_of e k on) [
   | is_other u w l m t ↦ absurd (none_some _ (sym t ∙ q))
 ]
 
-root_least : (e : Side) (a j : ℕ) → is_root e a ≡ true → j < a → is_linked e j a ≡ false
+root_least : (e : PlayerBoard) (a j : ℕ) → is_root e a ≡ true → j < a → is_linked e j a ≡ false
 root_least e a j h l = let u = and_parts (has (stones_of e.board e.player) a) (not (list_any (λ i. is_linked e i a) (range_with_len 0 a))) h in
     false_from_ne_true (is_linked e j a) (λ t. both_ways (list_any (λ i. is_linked e i a) (range_with_len 0 a)) (not-true (list_any (λ i. is_linked e i a) (range_with_len 0 a)) u.1)
     (any_in (λ i. is_linked e i a) 0 a j (omega arith) (omega arith) t))
 
-pub head_in : (e : Side) (a k : ℕ) → Within e.board.size (stones_of e.board e.player) → is_head e a ≡ true → is_empty_at e.board a ≡ false → is_linked e k a ≡ true
+pub head_in : (e : PlayerBoard) (a k : ℕ) → Within e.board.size (stones_of e.board e.player) → is_head e a ≡ true → is_empty_at e.board a ≡ false → is_linked e k a ≡ true
     → element_of e k ≡ Some (head_element e a)
 head_in e a k on i f l = elim (head_cases e a i) [
   | inl t ↦ absurd (both_ways (is_empty_at e.board a) f t)
@@ -518,13 +511,13 @@ head_in e a k on i f l = elim (head_cases e a i) [
 ]
 
 -- the head at a place is the one with that number
-pub head_at : (e : Side) (h k m : ℕ) → ((j : ℕ) → has h j ≡ is_head e j) → edge_elements e ≤ m → members h k ≡ m - edge_elements e → head_element e k ≡ m
+pub head_at : (e : PlayerBoard) (h k m : ℕ) → ((j : ℕ) → has h j ≡ is_head e j) → edge_elements e ≤ m → members h k ≡ m - edge_elements e → head_element e k ≡ m
 head_at e h k m f l q = sum_of (edge_elements e) (count_by (is_head e) (range_with_len 0 k)) m l (sym (members_test h (is_head e) k f) ∙ q)
   where
     sum_of : (b x m : ℕ) → b ≤ m → x ≡ m - b → b + x ≡ m
     sum_of b x m l e = omega arith
 
-pub place_below : (e : Side) (h m : ℕ) → Within e.board.size (stones_of e.board e.player) → e.board.size ≤ 11 → ((j : ℕ) → has h j ≡ is_head e j) → edge_elements e ≤ m
+pub place_below : (e : PlayerBoard) (h m : ℕ) → Within e.board.size (stones_of e.board e.player) → e.board.size ≤ 11 → ((j : ℕ) → has h j ≡ is_head e j) → edge_elements e ≤ m
     → m < element_count e → m - edge_elements e < members h 121
 place_below e h m on s f l b = subst (λ v. m - edge_elements e < v) (sym (all_heads e h on s f)) (rest_below (edge_elements e) m (count_by (is_head e) (cells_of e.board.size)) l b)
   where
@@ -541,7 +534,7 @@ single_out w none c k e f h = same_cell k c (or_rest (has none k) (k == c) f (sy
 pub single_in : (w none c k : ℕ) → has w k ≡ (has none k || k == c) → k ≡ c → has w k ≡ true
 single_in w none c k e q = e ∙ or_right (has none k) (k == c) (is_cell k c q)
 
-pub some_below : (e : Side) (h k : ℕ) (r : Option ℕ) → Within e.board.size (stones_of e.board e.player) → ((j : ℕ) → has h j ≡ is_head e j) → r ≡ element_of e k
+pub some_below : (e : PlayerBoard) (h k : ℕ) (r : Option ℕ) → Within e.board.size (stones_of e.board e.player) → ((j : ℕ) → has h j ≡ is_head e j) → r ≡ element_of e k
     → IfSome r (λ x. x < element_count e)
 some_below e h k None on f q = tt
 some_below e h k (Some x) on f q = element_below e h k x on f (sym q)
@@ -550,7 +543,7 @@ pub only_second : (j : Bool) (x : ℕ) → (x ≡ 0 → ⊥) → x < (if j then 
 only_second true x n l = absurd (n (omega arith))
 only_second false x n l = (omega arith, refl)
 
-pub no_free : (e : Side) (h a k x : ℕ) → Within e.board.size (stones_of e.board e.player) → ((j : ℕ) → has h j ≡ is_head e j) → is_head e a ≡ true → head_element e a ≡ x
+pub no_free : (e : PlayerBoard) (h a k x : ℕ) → Within e.board.size (stones_of e.board e.player) → ((j : ℕ) → has h j ≡ is_head e j) → is_head e a ≡ true → head_element e a ≡ x
     → is_empty_at e.board a ≡ false → is_empty_at e.board k ≡ true → element_of e k ≡ Some x → ⊥
 no_free e h a k x on f i n g u q = elim (head_out e h a k on f i (q ∙ ap Some (sym n))) [
   | inl t ↦ both_ways (is_empty_at e.board a) g t.0

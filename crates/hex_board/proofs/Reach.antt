@@ -65,17 +65,6 @@ no_more n s g r a next i f e q d = (
 )
 
 -- a path's cells are stones
-first_is : (n s x : ℕ) (xs : List ℕ) → Path n s x xs → has s x ≡ true
-first_is n s x [] p = p
-first_is n s x (y ∷ ys) p = p.0
-
-last_is : (n s x : ℕ) (xs : List ℕ) → Path n s x xs → has s (last_of x xs) ≡ true
-last_is n s x [] p = p
-last_is n s x (y ∷ ys) p = last_is n s y ys p.2
-
-is_lt : (k m : ℕ) → k < m → nat_lt k m ≡ true
-is_lt k m h = grind (arith, nat_tests)
-
 pub joined_from : (n : ℕ) (p : Colour) (s g e r x : ℕ) → ((k : ℕ) → has g k ≡ on_edge p true n k)
     → ((k : ℕ) → has e k ≡ on_edge p false n k) → ((d : ℕ) → IsTrue (has r d) ↔ Leads n s g d)
     → (has r x && has e x) ≡ true → Joined n p s
@@ -91,6 +80,3 @@ joined_reaches n p s g e r hg he hr j =
     let l : has g (last_of j.0 j.1) ≡ true = hg (last_of j.0 j.1) ∙ j.4 in
     let f : has e j.0 ≡ true = he j.0 ∙ j.3 in
     and_from (has r j.0) (has e j.0) ((hr j.0).1 (j.1, j.2, l)) f
-
-pub none_or : (z m g s k : ℕ) (u : Bool) → u ≡ (has z k || has m k) → has z k ≡ false → has m k ≡ (has g k && has s k) → u ≡ (has g k && has s k)
-none_or z m g s k u e f h = e ∙ (rw f h)

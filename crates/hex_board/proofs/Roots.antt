@@ -109,19 +109,4 @@ fewer rest c fl less h e f l = elim (cases_eq less rest) [
   | inr w ↦ omega arith
 ]
 
-pub least_links : (n s g fl c k : ℕ) → ((j : ℕ) → has g j ≡ (false || j == k)) → ((j : ℕ) → IsTrue (has fl j) ↔ Leads n s g j)
-    → has fl c ≡ true → ((j : ℕ) → j < c → has fl j ≡ false) → IsRoot n s c × Links n s c k
-least_links n s g fl c k eg ef h m =
-    let l : Links n s c k = links_from n s g k c eg ((ef c).0 h) in
-    ((first_in n s c k l, λ j b r. both_ways (has fl j) (m j b) ((ef j).1 (leads_from n s g k j eg (links_through n s j c k r l)))), l)
-
-pub itself : (n s g fl k : ℕ) → ((j : ℕ) → has g j ≡ (false || j == k)) → ((j : ℕ) → IsTrue (has fl j) ↔ Leads n s g j)
-    → has s k ≡ true → has fl k ≡ true
-itself n s g fl k eg ef h = (ef k).1 (leads_from n s g k k eg ([], h, refl))
-
 -- a group has one root
-pub one_root : (n s a b : ℕ) → IsRoot n s a → IsRoot n s b → Links n s a b → a ≡ b
-one_root n s a b p q l = elim (cases_order a b) [
-  | inl e ↦ e
-  | inr o ↦ elim o [ inl h ↦ absurd (q.1 a h l) | inr h ↦ absurd (p.1 b h (turned_link n s a b l)) ]
-]

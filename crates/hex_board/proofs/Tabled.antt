@@ -3,7 +3,7 @@ use Rattle.std.proofs.lemmas.Bool.{or_cases, or_left, or_right, cases_eq}
 use Rattle.std.proofs.lemmas.List.{get_or_default, get_or-set_same, get_or-set_other}
 use Rattle.hex_cells.specs.Sets.{has}
 use Rattle.hex_cells.specs.Graph.{Bordered, Neighbour}
-use Rattle.hex_board.specs.Elements.{Side, Holds, HasEdge, Reaches, Meets, Borders, Touches, Near}
+use Rattle.hex_board.specs.Elements.{PlayerBoard, Holds, HasEdge, Reaches, Meets, Borders, Touches, Near}
 use Rattle.hex_board.proofs.Reach.{back}
 
 -- one entry more of a table
@@ -20,7 +20,7 @@ pub read : (Q : ℕ → ℕ → Type 0) (xs : List ℕ) (x d k : ℕ) → x < le
 read Q xs x d k l h = subst (λ w. IsTrue (has w k) ↔ Q x k) (get_or_default xs x 0 d l) h
 
 -- the cells beside an element are those around its cells, and those of its edges
-pub beside : (e : Side) (x part a b u : ℕ) (k n : ℕ) → n ≡ e.board.size → ((j : ℕ) → IsTrue (has part j) ↔ Holds e x j)
+pub beside : (e : PlayerBoard) (x part a b u : ℕ) (k n : ℕ) → n ≡ e.board.size → ((j : ℕ) → IsTrue (has part j) ↔ Holds e x j)
     → IsTrue (has a k) ↔ Bordered n part k → IsTrue (has b k) ↔ HasEdge e x k → has u k ≡ (has a k || has b k) → IsTrue (has u k) ↔ Reaches e x k
 beside e x part a b u k n q hp ha hb hu = (
   (λ h. elim (or_cases (has a k) (has b k) (sym hu ∙ h)) [
@@ -33,23 +33,23 @@ beside e x part a b u k n q hp ha hb hu = (
   ]),
 )
 
-meets_parts : (e : Side) (x y : ℕ) → Meets e x y → Borders e x y ⊎ Touches e x y
+meets_parts : (e : PlayerBoard) (x y : ℕ) → Meets e x y → Borders e x y ⊎ Touches e x y
 meets_parts e x y m = elim m.1 [
   | inl t ↦ inl (t.0, m.0, t.1, m.2, t.2)
   | inr t ↦ inr (t.0, m.0, t.1, m.2, t.2)
 ]
 
-borders_meets : (e : Side) (x y : ℕ) → Borders e x y → Meets e x y
+borders_meets : (e : PlayerBoard) (x y : ℕ) → Borders e x y → Meets e x y
 borders_meets e x y b = (b.1, inl (b.0, b.2, b.4), b.3)
 
-touches_meets : (e : Side) (x y : ℕ) → Touches e x y → Meets e x y
+touches_meets : (e : PlayerBoard) (x y : ℕ) → Touches e x y → Meets e x y
 touches_meets e x y t = (t.1, inr (t.0, t.2, t.4), t.3)
 
-borders_back : (e : Side) (x y : ℕ) → Borders e x y → Borders e y x
+borders_back : (e : PlayerBoard) (x y : ℕ) → Borders e x y → Borders e y x
 borders_back e x y b = (b.1, b.0, b.3, b.2, back e.board.size b.0 b.1 b.4)
 
 -- a cell of one is beside the other
-pub near_from : (e : Side) (x y : ℕ) → (x ≡ y → ⊥) → Meets e x y ⊎ Meets e y x → Near e x y
+pub near_from : (e : PlayerBoard) (x y : ℕ) → (x ≡ y → ⊥) → Meets e x y ⊎ Meets e y x → Near e x y
 near_from e x y n o = (
   n,
   elim o [
@@ -58,14 +58,14 @@ near_from e x y n o = (
   ],
 )
 
-pub near_meets : (e : Side) (x y : ℕ) → Near e x y → Meets e x y ⊎ Meets e y x
+pub near_meets : (e : PlayerBoard) (x y : ℕ) → Near e x y → Meets e x y ⊎ Meets e y x
 near_meets e x y h = elim h.1 [
   | inl b ↦ inl (borders_meets e x y b)
   | inr o ↦ elim o [ inl t ↦ inl (touches_meets e x y t) | inr t ↦ inr (touches_meets e y x t) ]
 ]
 
 -- two sets of the tables meet where one element has a cell beside the other
-pub sets_meet : (e : Side) (x y p q : ℕ) (r : Bool) → ((k : ℕ) → IsTrue (has p k) ↔ Reaches e x k) → ((k : ℕ) → IsTrue (has q k) ↔ Holds e y k)
+pub sets_meet : (e : PlayerBoard) (x y p q : ℕ) (r : Bool) → ((k : ℕ) → IsTrue (has p k) ↔ Reaches e x k) → ((k : ℕ) → IsTrue (has q k) ↔ Holds e y k)
     → IsTrue r ↔ ((k : ℕ) × (has p k ≡ true) × (has q k ≡ true)) → IsTrue r ↔ Meets e x y
 sets_meet e x y p q r hp hq hr = (
   (λ h. let w = hr.0 h in (w.0, (hp w.0).0 w.1, (hq w.0).0 w.2)),

@@ -23,6 +23,7 @@
 mod boards;
 mod calls;
 mod groups;
+mod laws;
 mod numbering;
 mod paths;
 mod tables;
@@ -31,5 +32,6 @@ mod tests;
 
 pub use boards::Board;
 pub use groups::roots_of;
+pub use laws::{one_element_is_a_group, wins_go_on};
 pub use paths::{flood, joined, joined_is_decided};
 pub use tables::Elements;

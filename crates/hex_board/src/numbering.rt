@@ -23,9 +23,9 @@ pub(crate) struct Numbering {
 }
 
 impl Model for Numbering {
-    ghost use Rattle.hex_board.specs.Elements.{IsNumbered, Side};
+    ghost use Rattle.hex_board.specs.Elements.{IsNumbered, PlayerBoard};
 
-    ghost Value = { Side };
+    ghost Value = { PlayerBoard };
 
     ghost view = { λ e. record { board = e.board; player = e.colour } };
 

@@ -11,7 +11,7 @@ use hex_cells::{CellSet, Colour, Size, edge};
 pub fn flood(goal: CellSet, stones: CellSet, size: Size) -> CellSet
     ensures { (d : ℕ) → IsTrue (has result d) ↔ Leads size stones goal d }
 {
-    let mut reach = CellSet::none().union(goal.meet(stones));
+    let mut reach = goal.meet(stones);
     'spread: loop {
         let next = reach.union(reach.around(size).meet(stones));
         if next.inside(reach) {

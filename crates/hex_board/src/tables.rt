@@ -3,7 +3,7 @@
 ghost use Rattle.std.specs.Prelude.{◌≡◌, ℕ, ◌*◌, ◌<◌, ◌≤◌, ◌↔◌, true, IsTrue, IfNone, IfSome, None};
 ghost use Rattle.hex_cells.specs.Colours.{other_of};
 ghost use Rattle.hex_cells.specs.Sets.{has};
-ghost use Rattle.hex_board.specs.Elements.{Holds, Meets, Near, Side, edge_element, element_count, element_of};
+ghost use Rattle.hex_board.specs.Elements.{Holds, Meets, Near, PlayerBoard, edge_element, element_count, element_of};
 ghost use Rattle.hex_board.specs.Positions.{is_empty_at, stones_of};
 
 use super::Board;
@@ -28,9 +28,9 @@ pub struct Elements {
 }
 
 impl Model for Elements {
-    ghost use Rattle.hex_board.specs.Elements.{IsTabled, Side};
+    ghost use Rattle.hex_board.specs.Elements.{IsTabled, PlayerBoard};
 
-    ghost Value = { Side };
+    ghost Value = { PlayerBoard };
 
     ghost view = { λ e. e.numbering };
 

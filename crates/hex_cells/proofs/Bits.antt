@@ -93,9 +93,6 @@ least_of a p h =
       λ k l. is_none _ (t.2 k l),
     )
 
-pub empty_has : (a b k : ℕ) → a ≡ b → b ≡ 0 → has a k ≡ false
-empty_has a b k e f = rw (e ∙ f) (has_none k)
-
 pub has_shr : (a j k : ℕ) → has (a / 2 ^ j) k ≡ has a (k + j)
 unfolding has
 has_shr a j k = let e : a / 2 ^ j / 2 ^ k ≡ a / 2 ^ (k + j) = div-div-eq-div-mul a (2 ^ j) (2 ^ k) ∙ ap (λ v. a / v) (sym (pow-add 2 j k) ∙ ap (λ v. 2 ^ v) (add_comm j k)) in ap (λ v. v % 2 == 1) e
@@ -228,9 +225,6 @@ has_without s k j =
       | inr n ↦ kept_at _ _ j k (bit_at-lt s j) n (x ∙ ap (λ v. (bit_at s j + v) % 2) (bit_at-pow_other k j n))
     ] in
     has_and s (bit_xor s (2 ^ k)) j ∙ r
-
-pub without_below : (s k w : ℕ) → s < 2 ^ w → without_cell s k < 2 ^ w
-without_below s k w h = omega (arith, and_le_l s (bit_xor s (2 ^ k)))
 
 -- a cell of a set below 2 ^ w is below w
 pub cell_below : (s w k : ℕ) → s < 2 ^ w → has s k ≡ true → k < w

@@ -34,9 +34,6 @@ members_ones s (suc j) =
 pub members_all : (s : ℕ) → s < 2 ^ 121 → members s 121 ≡ count_ones s
 members_all s h = members_ones s 121 ∙ ap count_ones (mod-eq_of_lt h)
 
-pub members_last : (s : ℕ) → members s 121 ≡ cond (has s 120) 1 0 + members s 120
-members_last s = members_more s 120
-
 bit_small : (b : Bool) → cond {A = ℕ} b 1 0 ≤ 1
 bit_small true = omega arith
 bit_small false = omega arith

@@ -23,7 +23,7 @@ impl Model for Cell {
 
 impl Cell {
     /// The cell with this number.
-    pub(crate) fn numbered(number: u32) -> Cell
+    pub fn numbered(number: u32) -> Cell
         requires { number < 121 }
         ensures { result ≡ number }
     {

@@ -1,6 +1,6 @@
 //! Sets of cells.
 
-ghost use Rattle.std.specs.Prelude.{◌≡◌, ℕ, ◌+◌, ◌-◌, ◌*◌, ◌^◌, ◌<◌, ◌≤◌, ◌==◌, ◌↔◌, ◌&&◌, ◌||◌, nat_lt, not, true, false, IsTrue, MatchOption};
+ghost use Rattle.std.specs.Prelude.{◌≡◌, ℕ, ◌+◌, ◌-◌, ◌*◌, ◌^◌, ◌<◌, ◌≤◌, ◌==◌, ◌↔◌, ◌&&◌, ◌||◌, nat_lt, not, true, false, IsTrue, MatchOption, bit_or, bit_and};
 ghost use Rattle.hex_cells.specs.Sets.{has, members, with_cell, without_cell};
 
 use super::{Cell, Size};
@@ -26,8 +26,16 @@ impl Model for CellSet {
 }
 
 impl CellSet {
-    // The set with this number.
-    pub(crate) fn numbered(bits: u128) -> CellSet
+    /// The number of the set: bit k is set where cell k is in it.
+    pub fn number(self) -> u128
+        ensures value { result ≡ self }
+        ensures range { result < 2 ^ 121 }
+    {
+        self.bits
+    }
+
+    /// The set with this number.
+    pub fn numbered(bits: u128) -> CellSet
         requires { bits < 2 ^ 121 }
         ensures { result ≡ bits }
     {
@@ -87,6 +95,7 @@ impl CellSet {
     /// The cells of either set.
     #[tactic(auto, using(crate::proofs::Bits::has_or, crate::proofs::Bits::or_below, crate::proofs::Bits::or_grows))]
     pub fn union(self, other: CellSet) -> CellSet
+        ensures value { result ≡ bit_or self other }
         ensures grows { self ≤ result }
         ensures small { result < 2 ^ 121 }
         ensures items { (k : ℕ) → has result k ≡ (has self k || has other k) }
@@ -98,6 +107,7 @@ impl CellSet {
 
     /// The cells of both sets.
     pub fn meet(self, other: CellSet) -> CellSet
+        ensures value { result ≡ bit_and self other }
         ensures shrinks { result ≤ self }
         ensures small { result < 2 ^ 121 }
         ensures items { (k : ℕ) → has result k ≡ (has self k && has other k) }

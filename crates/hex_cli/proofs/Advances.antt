@@ -5,19 +5,19 @@ use Rattle.std.specs.Prelude.{IfOk}
 use Rattle.htp_line.specs.Lines.{whole, lines}
 use Rattle.htp_line.specs.Splitting.{Held, Ends, Advances, StandsAfter}
 use Rattle.tree_words.specs.declared.settings.Knobs.{Knobs}
-use Rattle.hex_engine.specs.Standing.{Standing}
-use Rattle.hex_engine.specs.Left.{Left, nothing_left, and_then}
+use Rattle.hex_engine.specs.EngineState.{EngineState}
+use Rattle.hex_engine.specs.Supply.{Supply, nothing_left, and_then}
 use Rattle.hex_cli.specs.Talk.{Said, ending_if}
 use Rattle.hex_cli.specs.Stocks.{Stock, UsesUp, Says, Responds, Lacks, Spends}
 use Rattle.hex_cli.specs.Sessions.{Stands, Does, DoesSome, Advanced, EndsLine, AnswersShort, AnswersLast, HasLast, LastIsShort}
-use Rattle.hex_cli.proofs.LeftLaws.{stands_options}
+use Rattle.hex_cli.proofs.SupplyLaws.{stands_options}
 use Rattle.hex_cli.proofs.StockLaws.{After, uses_nothing, does_nothing}
 use Rattle.hex_cli.proofs.TalkLaws.{line_advanced, none_advanced, line_short, line_ends, last_answers, last_none, last_short, last_ends}
 
 -- ---- answers that use nothing up
 
-pub says_nothing_used : (options : Knobs) (a : Stock) (says : Left → Said) (text : List ℕ) (at : Standing) (quit : Bool)
-    → ((later : Left) → says later ≡ record { text = text; at = at; left = later; ending = ending_if quit }) → Says options a a says text at quit
+pub says_nothing_used : (options : Knobs) (a : Stock) (says : Supply → Said) (text : List ℕ) (at : EngineState) (quit : Bool)
+    → ((later : Supply) → says later ≡ record { text = text; at = at; left = later; ending = ending_if quit }) → Says options a a says text at quit
 says_nothing_used options a says text at quit is = record { used = nothing_left; uses = uses_nothing options a; is = is }
 
 pub spends_nothing : (options : Knobs) (a : Stock) → Spends options a a
@@ -31,11 +31,11 @@ if_ok_both (Err e) P Q R go p q = tt
 -- ---- a line
 
 -- the engine's options are those of the conversation
-uses_of_start : (a b : Stock) (used : Left) (in_vain : List Bool) (start : Standing) (all later : Left) (engine : Standing) (held : Held) (seen : List ℕ)
+uses_of_start : (a b : Stock) (used : Supply) (in_vain : List Bool) (start : EngineState) (all later : Supply) (engine : EngineState) (held : Held) (seen : List ℕ)
     → Stands start all later engine held seen → UsesUp engine.options a b used in_vain → UsesUp start.options a b used in_vain
 uses_of_start a b used in_vain start all later engine held seen stands uses = subst (λ o. UsesUp o a b used in_vain) (stands_options start all later engine held seen stands) uses
 
-pub answered_line : (a b : Stock) (engine after : Standing) (held new now : Held) (front old_out out : List ℕ) (quit : Bool)
+pub answered_line : (a b : Stock) (engine after : EngineState) (held new now : Held) (front old_out out : List ℕ) (quit : Bool)
     → ((seen : List ℕ) → StandsAfter held seen → Advances new seen front) → new.ended ≡ true → now ≡ new
     → (bytes : List ℕ) × (out ≡ old_out ++ bytes) × Responds a b engine new.line bytes after quit
     → Does a b [] engine held (λ start all later seen. Advanced quit start all later after now old_out out seen front)
@@ -47,7 +47,7 @@ answered_line a b engine after held new now front old_out out quit stream ended 
   );
 }
 
-pub open_line : (a : Stock) (engine : Standing) (held new : Held) (front out : List ℕ)
+pub open_line : (a : Stock) (engine : EngineState) (held new : Held) (front out : List ℕ)
     → ((seen : List ℕ) → StandsAfter held seen → Advances new seen front) → new.ended ≡ false
     → Does a a [] engine held (λ start all later seen. Advanced false start all later engine new out out seen front)
 open_line a engine held new front out stream ended =
@@ -55,7 +55,7 @@ open_line a engine held new front out stream ended =
     (λ start all later seen here. none_advanced start all later engine held new seen front out here (stream seen here.in_hand) ended)
 
 -- memory ran out after something was used up
-pub spent : (a b : Stock) (engine : Standing) (held : Held) (Now : After) → ((start : Standing) (all later : Left) (seen : List ℕ) → StandsAfter held seen → Now start all later seen)
+pub spent : (a b : Stock) (engine : EngineState) (held : Held) (Now : After) → ((start : EngineState) (all later : Supply) (seen : List ℕ) → StandsAfter held seen → Now start all later seen)
     → Spends engine.options a b → DoesSome a b engine held Now
 spent a b engine held Now go s = (
   s.in_vain,
@@ -68,13 +68,13 @@ spent a b engine held Now go s = (
   },
 )
 
-pub spent_line : (a b : Stock) (engine : Standing) (held new : Held) (piece : List ℕ) (n : ℕ)
+pub spent_line : (a b : Stock) (engine : EngineState) (held new : Held) (piece : List ℕ) (n : ℕ)
     → ((seen : List ℕ) → StandsAfter held seen → Advances new seen (take n piece)) → new.ended ≡ true
     → Spends engine.options a b → DoesSome a b engine held (λ start all later seen. EndsLine seen piece)
 spent_line a b engine held new piece n stream ended s =
     spent a b engine held (λ start all later seen. EndsLine seen piece) (λ start all later seen in_hand. subst (EndsLine seen) (take-append-drop n piece) (line_ends new seen (take n piece) (drop n piece) (stream seen in_hand) ended)) s
 
-pub short_line : (a b : Stock) (engine : Standing) (held new : Held) (piece : List ℕ) (n : ℕ)
+pub short_line : (a b : Stock) (engine : EngineState) (held new : Held) (piece : List ℕ) (n : ℕ)
     → ((seen : List ℕ) → StandsAfter held seen → Advances new seen (take n piece)) → new.ended ≡ true
     → Lacks a b engine new.line → Does a b [] engine held (λ start all later seen. AnswersShort start all later [] seen piece)
 short_line a b engine held new piece n stream ended s = record {
@@ -87,7 +87,7 @@ short_line a b engine held new piece n stream ended s = record {
 
 -- ---- the last line
 
-pub answered_last : (a b : Stock) (engine after : Standing) (held new : Held) (old_out out : List ℕ) (quit : Bool)
+pub answered_last : (a b : Stock) (engine after : EngineState) (held new : Held) (old_out out : List ℕ) (quit : Bool)
     → ((seen : List ℕ) → StandsAfter held seen → Ends new.ended new.line (whole seen) (lines seen)) → new.ended ≡ true → old_out ≡ []
     → (bytes : List ℕ) × (out ≡ old_out ++ bytes) × Responds a b engine new.line bytes after quit
     → Does a b [] engine held (λ start all later seen. AnswersLast start all later out seen)
@@ -101,20 +101,20 @@ answered_last a b engine after held new old_out out quit stream ended none r =
       );
     }
 
-pub no_last : (a : Stock) (engine : Standing) (held new : Held) (out : List ℕ)
+pub no_last : (a : Stock) (engine : EngineState) (held new : Held) (out : List ℕ)
     → ((seen : List ℕ) → StandsAfter held seen → Ends new.ended new.line (whole seen) (lines seen)) → new.ended ≡ false → out ≡ []
     → Does a a [] engine held (λ start all later seen. AnswersLast start all later out seen)
 no_last a engine held new out stream ended none =
     does_nothing a engine held (λ start all later seen. AnswersLast start all later out seen)
     (λ start all later seen here. last_none start all later engine held new seen out here (stream seen here.in_hand) ended none)
 
-pub spent_last : (a b : Stock) (engine : Standing) (held new : Held)
+pub spent_last : (a b : Stock) (engine : EngineState) (held new : Held)
     → ((seen : List ℕ) → StandsAfter held seen → Ends new.ended new.line (whole seen) (lines seen)) → new.ended ≡ true
     → Spends engine.options a b → DoesSome a b engine held (λ start all later seen. HasLast seen)
 spent_last a b engine held new stream ended s =
     spent a b engine held (λ start all later seen. HasLast seen) (λ start all later seen in_hand. last_ends new seen (stream seen in_hand) ended) s
 
-pub lacking_last : (a b : Stock) (engine : Standing) (held new : Held)
+pub lacking_last : (a b : Stock) (engine : EngineState) (held new : Held)
     → ((seen : List ℕ) → StandsAfter held seen → Ends new.ended new.line (whole seen) (lines seen)) → new.ended ≡ true
     → Lacks a b engine new.line → Does a b [] engine held (λ start all later seen. LastIsShort start all later seen)
 lacking_last a b engine held new stream ended s = record {

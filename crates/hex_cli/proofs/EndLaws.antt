@@ -4,8 +4,8 @@ use Rattle.hex_io.specs.Told.{Told, Both, Takes, Same}
 use Rattle.hex_io.specs.Grew.{Gave}
 use Rattle.hex_io.proofs.BothLaws.{Both-then, Both-weaker, Both-refl, Both-last}
 use Rattle.htp_line.specs.Lines.{lines}
-use Rattle.hex_engine.specs.Standing.{Standing}
-use Rattle.hex_engine.specs.Left.{Left, nothing_left}
+use Rattle.hex_engine.specs.EngineState.{EngineState}
+use Rattle.hex_engine.specs.Supply.{Supply, nothing_left}
 use Rattle.hex_cli.specs.Talk.{Said, Going, talk}
 use Rattle.hex_cli.specs.Sessions.{talk_to, Quits, AnswersAll, BrokeOff, GaveUp, HeldBack, AnsweredLast, BrokeOffLast, HasLast, LastIsShort}
 use Rattle.hex_cli.specs.Outcome.{Outcome}
@@ -14,36 +14,36 @@ use Rattle.hex_cli.specs.declared.ends.End.TheVariants as ending
 use Rattle.hex_cli.proofs.Keeping.{Keeps, keeps_taking, keeps_giving, keeps_nothing, end_complete, end_quit, end_unread, end_unwritten, end_unwritten_last, end_unfinished, end_unfinished_last, end_unbegun, end_overlong, end_unarchived, wants_lines}
 use Rattle.hex_cli.proofs.TalkLaws.{talk_to-nil}
 
-abbrev pub Kept : Standing → Left → Option Told → Option Told → List ℕ → List ℕ → Type 0
+abbrev pub Kept : EngineState → Supply → Option Told → Option Told → List ℕ → List ℕ → Type 0
 Kept start all a b seen text = Both a b (λ o n. Keeps start all o n seen text)
 
 -- what stands at an end, where the link tells
-abbrev pub EndsBy : End → Standing → Left → ℕ → Option Told → Option Told → Type 0
+abbrev pub EndsBy : End → EngineState → Supply → ℕ → Option Told → Option Told → Type 0
 EndsBy end start all limit a b = Both a b (Outcome end start all limit)
 
-pub kept_taking : (start : Standing) (all : Left) (a b c : Option Told) (seen buf : List ℕ) (n : ℕ) → Kept start all a b seen (talk_to start all seen).text → (talk_to start all seen).ending ≡ Going → Both b c (λ o t. Takes o t n buf)
+pub kept_taking : (start : EngineState) (all : Supply) (a b c : Option Told) (seen buf : List ℕ) (n : ℕ) → Kept start all a b seen (talk_to start all seen).text → (talk_to start all seen).ending ≡ Going → Both b c (λ o t. Takes o t n buf)
     → Kept start all a c (seen ++ take n buf) (talk_to start all seen).text
 kept_taking start all a b c seen buf n k going t = Both-then a b c _ _ _ (λ x y z p q. keeps_taking start all x y z seen (talk_to start all seen).text buf n p refl going q) k t
 
-pub kept_giving : (start : Standing) (all : Left) (a b c : Option Told) (seen text bytes : List ℕ) → Kept start all a b seen text → Gave b c bytes → Kept start all a c seen (text ++ bytes)
+pub kept_giving : (start : EngineState) (all : Supply) (a b c : Option Told) (seen text bytes : List ℕ) → Kept start all a b seen text → Gave b c bytes → Kept start all a c seen (text ++ bytes)
 kept_giving start all a b c seen text bytes k g = Both-then a b c _ _ _ (λ x y z p q. keeps_giving start all x y z seen text bytes p q) k g
 
-kept_same : (start : Standing) (all : Left) (a b c : Option Told) (seen text : List ℕ) → Kept start all a b seen text → Same b c → Kept start all a c seen text
+kept_same : (start : EngineState) (all : Supply) (a b c : Option Told) (seen text : List ℕ) → Kept start all a b seen text → Same b c → Kept start all a c seen text
 kept_same start all a b c seen text k same = Both-then a b c _ _ _ (λ x y z p q. subst (λ m. Keeps start all x m seen text) (sym q) p) k same
 
-pub kept_nothing : (start : Standing) (all : Left) (a : Option Told) → Kept start all a a [] (talk_to start all []).text
+pub kept_nothing : (start : EngineState) (all : Supply) (a : Option Told) → Kept start all a a [] (talk_to start all []).text
 kept_nothing start all a = Both-refl a (λ o n. Keeps start all o n [] (talk_to start all []).text) (λ o. rw talk_to-nil (keeps_nothing start all o))
 
 -- the conversation goes on
-pub feed_on : (start : Standing) (all : Left) (a b c : Option Told) (seen piece : List ℕ) → Kept start all a b (seen ++ piece) (talk_to start all seen).text → AnswersAll b c start all seen piece → Kept start all a c (seen ++ piece) (talk_to start all (seen ++ piece)).text
+pub feed_on : (start : EngineState) (all : Supply) (a b c : Option Told) (seen piece : List ℕ) → Kept start all a b (seen ++ piece) (talk_to start all seen).text → AnswersAll b c start all seen piece → Kept start all a c (seen ++ piece) (talk_to start all (seen ++ piece)).text
 feed_on start all a b c seen piece k r = rw r.gave.2 (kept_giving start all a b c (seen ++ piece) (talk_to start all seen).text r.gave.0 k r.gave.1)
 
-pub feed_quit : (start : Standing) (all : Left) (limit : ℕ) (a b c : Option Told) (seen piece : List ℕ) → length (seen ++ piece) ≤ limit → Kept start all a b (seen ++ piece) (talk_to start all seen).text → AnswersAll b c start all seen piece
+pub feed_quit : (start : EngineState) (all : Supply) (limit : ℕ) (a b c : Option Told) (seen piece : List ℕ) → length (seen ++ piece) ≤ limit → Kept start all a b (seen ++ piece) (talk_to start all seen).text → AnswersAll b c start all seen piece
     → Quits start all nothing_left (seen ++ piece) → EndsBy ending.Done start all limit a c
 feed_quit start all limit a b c seen piece few k r quit =
     Both-weaker a c _ _ (λ x y p. end_quit start all limit x y (seen ++ piece) _ few p refl quit.ending (sym quit.left)) (feed_on start all a b c seen piece k r)
 
-pub feed_unwritten : (start : Standing) (all : Left) (limit : ℕ) (a b c : Option Told) (seen piece : List ℕ) → length (seen ++ piece) ≤ limit → Kept start all a b (seen ++ piece) (talk_to start all seen).text → BrokeOff b c start all seen piece
+pub feed_unwritten : (start : EngineState) (all : Supply) (limit : ℕ) (a b c : Option Told) (seen piece : List ℕ) → length (seen ++ piece) ≤ limit → Kept start all a b (seen ++ piece) (talk_to start all seen).text → BrokeOff b c start all seen piece
     → EndsBy ending.WriteFault start all limit a c
 feed_unwritten start all limit a b c seen piece few k r =
     let front = r.gave.0 in let others = r.gave.1 in let part = r.gave.4 in
@@ -52,7 +52,7 @@ feed_unwritten start all limit a b c seen piece few k r =
     let said : (talk_to start all (seen ++ front)).text ≡ ((talk_to start all seen).text ++ part.0) ++ part.1 = r.gave.5 ∙ ap (λ l. (talk_to start all seen).text ++ l) part.2 ∙ sym (append_assoc (talk_to start all seen).text part.0 part.1) in
     Both-weaker a c _ _ (λ x y p. end_unwritten start all limit x y (seen ++ front) others _ part.1 (rw (← split) few) p said) grown
 
-pub feed_unfinished : (start : Standing) (all : Left) (limit : ℕ) (a b c : Option Told) (seen piece : List ℕ) → length (seen ++ piece) ≤ limit → Kept start all a b (seen ++ piece) (talk_to start all seen).text → GaveUp b c start all seen piece
+pub feed_unfinished : (start : EngineState) (all : Supply) (limit : ℕ) (a b c : Option Told) (seen piece : List ℕ) → length (seen ++ piece) ≤ limit → Kept start all a b (seen ++ piece) (talk_to start all seen).text → GaveUp b c start all seen piece
     → EndsBy ending.Memory start all limit a c
 feed_unfinished start all limit a b c seen piece few k r =
     let front = r.gave.0 in let others = r.gave.1 in let bytes = r.gave.2 in
@@ -60,26 +60,26 @@ feed_unfinished start all limit a b c seen piece few k r =
     let grown : Kept start all a c ((seen ++ front) ++ others) ((talk_to start all seen).text ++ bytes) = rw (← split) (kept_giving start all a b c (seen ++ piece) (talk_to start all seen).text bytes k r.gave.4) in
     Both-weaker a c _ _ (λ x y p. end_unfinished start all limit x y (seen ++ front) others _ (rw (← split) few) p r.gave.5 r.gave.6 r.gave.7) grown
 
-pub read_overlong : (start : Standing) (all : Left) (limit : ℕ) (a b : Option Told) (seen piece : List ℕ) → length seen ≡ limit → length piece ≡ 1 → Kept start all a b (seen ++ piece) (talk_to start all seen).text → (talk_to start all seen).ending ≡ Going
+pub read_overlong : (start : EngineState) (all : Supply) (limit : ℕ) (a b : Option Told) (seen piece : List ℕ) → length seen ≡ limit → length piece ≡ 1 → Kept start all a b (seen ++ piece) (talk_to start all seen).text → (talk_to start all seen).ending ≡ Going
     → nothing_left ≡ (talk_to start all seen).left → EndsBy ending.TooLong start all limit a b
 read_overlong start all limit a b seen piece many one k going left = Both-weaker a b _ _ (λ x y p. end_overlong start all limit x y seen piece _ many one p refl going (sym left)) k
 
-pub read_fault : (start : Standing) (all : Left) (limit : ℕ) (a b c : Option Told) (seen : List ℕ) → length seen ≤ limit → Kept start all a b seen (talk_to start all seen).text → (talk_to start all seen).ending ≡ Going → nothing_left ≡ (talk_to start all seen).left → Same b c
+pub read_fault : (start : EngineState) (all : Supply) (limit : ℕ) (a b c : Option Told) (seen : List ℕ) → length seen ≤ limit → Kept start all a b seen (talk_to start all seen).text → (talk_to start all seen).ending ≡ Going → nothing_left ≡ (talk_to start all seen).left → Same b c
     → EndsBy ending.ReadFault start all limit a c
 read_fault start all limit a b c seen few k going left same = Both-weaker a c _ _ (λ x y p. end_unread start all limit x y seen _ few p refl going (sym left)) (kept_same start all a b c seen _ k same)
 
 -- the read that found the end of the input
-at_end : (start : Standing) (all : Left) (a b c : Option Told) (seen buf : List ℕ) → Kept start all a b seen (talk_to start all seen).text → (talk_to start all seen).ending ≡ Going → Both b c (λ o t. Takes o t 0 buf) → Kept start all a c seen (talk_to start all seen).text
+at_end : (start : EngineState) (all : Supply) (a b c : Option Told) (seen buf : List ℕ) → Kept start all a b seen (talk_to start all seen).text → (talk_to start all seen).ending ≡ Going → Both b c (λ o t. Takes o t 0 buf) → Kept start all a c seen (talk_to start all seen).text
 at_end start all a b c seen buf k going t = subst (λ l. Kept start all a c l (talk_to start all seen).text) (append-nil seen) (kept_taking start all a b c seen buf 0 k going t)
 
-pub finish_complete : (start : Standing) (all : Left) (limit : ℕ) (a b c d : Option Told) (seen buf : List ℕ) → length seen ≤ limit → Kept start all a b seen (talk_to start all seen).text → (talk_to start all seen).ending ≡ Going → Both b c (λ o t. Takes o t 0 buf)
+pub finish_complete : (start : EngineState) (all : Supply) (limit : ℕ) (a b c d : Option Told) (seen buf : List ℕ) → length seen ≤ limit → Kept start all a b seen (talk_to start all seen).text → (talk_to start all seen).ending ≡ Going → Both b c (λ o t. Takes o t 0 buf)
     → AnsweredLast c d start all nothing_left seen → EndsBy ending.Done start all limit a d
 finish_complete start all limit a b c d seen buf few k going t r =
     let grown : Kept start all a d seen ((talk_to start all seen).text ++ r.gave.0) = kept_giving start all a c d seen (talk_to start all seen).text r.gave.0 (at_end start all a b c seen buf k going t) r.gave.1 in
     let none : Both b d (λ x y. y.to_come ≡ []) = Both-then b c d _ _ _ (λ x y z p q. ap (λ (s : Told). s.to_come) q ∙ p.at_end refl) t r.gave.1 in
     Both-last a b d _ _ _ (λ x y z p q. end_complete start all limit x z seen _ r.gave.2.ended.0 few p r.gave.2.answers r.gave.2.ended.1 (sym r.gave.2.left) q) grown none (Both-weaker a b _ _ (λ x y p. tt) k)
 
-pub finish_unwritten : (start : Standing) (all : Left) (limit : ℕ) (a b c d : Option Told) (seen buf : List ℕ) → length seen ≤ limit → Kept start all a b seen (talk_to start all seen).text → (talk_to start all seen).ending ≡ Going → Both b c (λ o t. Takes o t 0 buf)
+pub finish_unwritten : (start : EngineState) (all : Supply) (limit : ℕ) (a b c d : Option Told) (seen buf : List ℕ) → length seen ≤ limit → Kept start all a b seen (talk_to start all seen).text → (talk_to start all seen).ending ≡ Going → Both b c (λ o t. Takes o t 0 buf)
     → BrokeOffLast c d start all nothing_left seen → EndsBy ending.WriteFault start all limit a d
 finish_unwritten start all limit a b c d seen buf few k going t r =
     let part = r.gave.1 in
@@ -87,13 +87,13 @@ finish_unwritten start all limit a b c d seen buf few k going t r =
     let said : (talk start all (lines seen)).text ≡ ((talk_to start all seen).text ++ part.0) ++ part.1 = r.gave.2.answers ∙ ap (λ l. (talk_to start all seen).text ++ l) part.2 ∙ sym (append_assoc (talk_to start all seen).text part.0 part.1) in
     Both-weaker a d _ _ (λ x y p. end_unwritten_last start all limit x y seen _ part.1 few p said) grown
 
-pub finish_unfinished : (start : Standing) (all : Left) (limit : ℕ) (a b c d : Option Told) (seen buf : List ℕ) → length seen ≤ limit → Kept start all a b seen (talk_to start all seen).text → (talk_to start all seen).ending ≡ Going → Both b c (λ o t. Takes o t 0 buf)
+pub finish_unfinished : (start : EngineState) (all : Supply) (limit : ℕ) (a b c d : Option Told) (seen buf : List ℕ) → length seen ≤ limit → Kept start all a b seen (talk_to start all seen).text → (talk_to start all seen).ending ≡ Going → Both b c (λ o t. Takes o t 0 buf)
     → Same c d → HasLast seen → EndsBy ending.Memory start all limit a d
 finish_unfinished start all limit a b c d seen buf few k going t same last =
     Both-weaker a d _ _ (λ x y p. end_unfinished_last start all limit x y seen _ few p refl going last) (kept_same start all a c d seen _ (at_end start all a b c seen buf k going t) same)
 
 -- a turn is wanted
-pub feed_held_back : (start : Standing) (all : Left) (limit : ℕ) (a b c : Option Told) (seen piece : List ℕ) → length (seen ++ piece) ≤ limit → Kept start all a b (seen ++ piece) (talk_to start all seen).text
+pub feed_held_back : (start : EngineState) (all : Supply) (limit : ℕ) (a b c : Option Told) (seen piece : List ℕ) → length (seen ++ piece) ≤ limit → Kept start all a b (seen ++ piece) (talk_to start all seen).text
     → HeldBack b c start all nothing_left seen piece → EndsBy ending.ArchiveFault start all limit a c
 feed_held_back start all limit a b c seen piece few k r =
     let short = r.gave.2 refl in
@@ -101,12 +101,12 @@ feed_held_back start all limit a b c seen piece few k r =
     Both-weaker a c _ _ (λ x y p. end_unarchived start all limit x y (seen ++ piece) _ few p (ap (λ (s : Said). s.text) same ∙ short.0) (rw same short.1))
     (kept_giving start all a b c (seen ++ piece) (talk_to start all seen).text r.gave.0 k r.gave.1)
 
-pub finish_held_back : (start : Standing) (all : Left) (limit : ℕ) (a b c d : Option Told) (seen buf : List ℕ) → length seen ≤ limit → Kept start all a b seen (talk_to start all seen).text → (talk_to start all seen).ending ≡ Going
+pub finish_held_back : (start : EngineState) (all : Supply) (limit : ℕ) (a b c d : Option Told) (seen buf : List ℕ) → length seen ≤ limit → Kept start all a b seen (talk_to start all seen).text → (talk_to start all seen).ending ≡ Going
     → Both b c (λ o t. Takes o t 0 buf) → Same c d → LastIsShort start all nothing_left seen → EndsBy ending.ArchiveFault start all limit a d
 finish_held_back start all limit a b c d seen buf few k going t same last =
     let short = last refl in
     Both-weaker a d _ _ (λ x y p. end_unarchived start all limit x y seen _ few p short.0 short.1) (kept_same start all a c d seen _ (at_end start all a b c seen buf k going t) same)
 
 -- memory ran out before the first read
-pub unbegun : (start : Standing) (all : Left) (limit : ℕ) (a : Option Told) → EndsBy ending.Memory start all limit a a
+pub unbegun : (start : EngineState) (all : Supply) (limit : ℕ) (a : Option Told) → EndsBy ending.Memory start all limit a a
 unbegun start all limit a = Both-refl a (Outcome ending.Memory start all limit) (end_unbegun start all limit)

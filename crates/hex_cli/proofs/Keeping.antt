@@ -8,8 +8,8 @@ use Rattle.hex_io.specs.Told.{Told, Takes, Gives}
 use Rattle.htp_line.specs.Lines.{whole, rest, lines, unless_empty}
 use Rattle.htp_line.specs.Splitting.{kept}
 use Rattle.htp_line.proofs.LinesLaws.{whole-append}
-use Rattle.hex_engine.specs.Standing.{Standing}
-use Rattle.hex_engine.specs.Left.{Left, nothing_left}
+use Rattle.hex_engine.specs.EngineState.{EngineState}
+use Rattle.hex_engine.specs.Supply.{Supply, nothing_left}
 use Rattle.hex_engine.specs.Replies.{Missing}
 use Rattle.hex_cli.specs.Talk.{Said, Ending, Going, AfterQuit, Short, ending_if, goes_on, said, with_said, step, silence, talk}
 use Rattle.hex_cli.specs.Sessions.{talk_to, WantsTurn, EndsLine, HasLast}
@@ -18,16 +18,16 @@ use Rattle.hex_cli.specs.declared.ends.End.TheVariants as ending
 use Rattle.hex_cli.proofs.TalkLaws.{talk_stays, talk_quit}
 
 -- what a conversation keeps: what it took, what it gave, and that each read came after the answers
-pub record Keeps (start : Standing) (all : Left) (old new : Told) (seen text : List ℕ) : Type 0 where
+pub record Keeps (start : EngineState) (all : Supply) (old new : Told) (seen text : List ℕ) : Type 0 where
   pub taken : new.taken ≡ old.taken ++ seen
   pub moved : old.to_come ≡ seen ++ new.to_come
   pub given : new.given ≡ old.given ++ text
   pub asks : AsksShown start all old new
 
-since_keeps : (start : Standing) (all : Left) (o n : Told) (seen text : List ℕ) → Keeps start all o n seen text → since o n ≡ seen
+since_keeps : (start : EngineState) (all : Supply) (o n : Told) (seen text : List ℕ) → Keeps start all o n seen text → since o n ≡ seen
 since_keeps start all o n seen text k = ap (drop (length o.taken)) k.taken ∙ drop-append_seam o.taken seen
 
-shown_grows : (start : Standing) (all : Left) (o n m : Told) (x y : List ℕ) (ask : ℕ × ℕ) → m.taken ≡ n.taken ++ x → m.given ≡ n.given ++ y → Shown start all o n ask → Shown start all o m ask
+shown_grows : (start : EngineState) (all : Supply) (o n m : Told) (x y : List ℕ) (ask : ℕ × ℕ) → m.taken ≡ n.taken ++ x → m.given ≡ n.given ++ y → Shown start all o n ask → Shown start all o m ask
 shown_grows start all o n m x y ask p q s =
     let t : take ask.0 m.taken ≡ take ask.0 n.taken = ap (take ask.0) p ∙ take-append-le ask.0 n.taken x s.in_taken in
     let g : take ask.1 m.given ≡ take ask.1 n.given = ap (take ask.1) q ∙ take-append-le ask.1 n.given y s.in_given in
@@ -38,7 +38,7 @@ shown_grows start all o n m x y ask p q s =
       going = rw t s.going;
     }
 
-all_shown_grow : (start : Standing) (all : Left) (o n m : Told) (x y : List ℕ) → m.taken ≡ n.taken ++ x → m.given ≡ n.given ++ y → (asks : List (ℕ × ℕ)) → AllByRecursion (Shown start all o n) asks → AllByRecursion (Shown start all o m) asks
+all_shown_grow : (start : EngineState) (all : Supply) (o n m : Told) (x y : List ℕ) → m.taken ≡ n.taken ++ x → m.given ≡ n.given ++ y → (asks : List (ℕ × ℕ)) → AllByRecursion (Shown start all o n) asks → AllByRecursion (Shown start all o m) asks
 all_shown_grow start all o n m x y p q [] shown = shown
 all_shown_grow start all o n m x y p q (ask ∷ asks) shown = (shown_grows start all o n m x y ask p q shown.0, all_shown_grow start all o n m x y p q asks shown.1)
 
@@ -47,7 +47,7 @@ all_push P [] x all p = (p, tt)
 all_push P (y ∷ ys) x all p = (all.0, all_push P ys x all.1 p)
 
 -- a read took more
-pub keeps_taking : (start : Standing) (all : Left) (o n m : Told) (seen text buf : List ℕ) (k : ℕ) → Keeps start all o n seen text → text ≡ (talk_to start all seen).text → (talk_to start all seen).ending ≡ Going → Takes n m k buf
+pub keeps_taking : (start : EngineState) (all : Supply) (o n m : Told) (seen text buf : List ℕ) (k : ℕ) → Keeps start all o n seen text → text ≡ (talk_to start all seen).text → (talk_to start all seen).ending ≡ Going → Takes n m k buf
     → Keeps start all o m (seen ++ take k buf) text
 keeps_taking start all o n m seen text buf k kept e going t =
     let ask : ℕ × ℕ = (length n.taken, length n.given) in
@@ -71,7 +71,7 @@ keeps_taking start all o n m seen text buf k kept e going t =
     }
 
 -- more was given
-pub keeps_giving : (start : Standing) (all : Left) (o n m : Told) (seen text bytes : List ℕ) → Keeps start all o n seen text → Gives n m bytes → Keeps start all o m seen (text ++ bytes)
+pub keeps_giving : (start : EngineState) (all : Supply) (o n m : Told) (seen text bytes : List ℕ) → Keeps start all o n seen text → Gives n m bytes → Keeps start all o m seen (text ++ bytes)
 keeps_giving start all o n m seen text bytes kept g =
     let taken : m.taken ≡ n.taken = ap (λ (t : Told). t.taken) g in
     let given : m.given ≡ n.given ++ bytes = ap (λ (t : Told). t.given) g in
@@ -82,10 +82,10 @@ keeps_giving start all o n m seen text bytes kept g =
       asks = (kept.asks.0, ap (λ (t : Told). t.asks) g ∙ kept.asks.1, all_shown_grow start all o n m [] bytes (taken ∙ sym (append-nil n.taken)) given kept.asks.0 kept.asks.2);
     }
 
-pub keeps_nothing : (start : Standing) (all : Left) (o : Told) → Keeps start all o o [] []
+pub keeps_nothing : (start : EngineState) (all : Supply) (o : Told) → Keeps start all o o [] []
 keeps_nothing start all o = record { taken = sym (append-nil o.taken); moved = refl; given = sym (append-nil o.given); asks = ([], sym (append-nil o.asks), tt) }
 
-pub course_of : (start : Standing) (all : Left) (o n : Told) (seen text : List ℕ) → Keeps start all o n seen text → Course start all o n
+pub course_of : (start : EngineState) (all : Supply) (o n : Told) (seen text : List ℕ) → Keeps start all o n seen text → Course start all o n
 course_of start all o n seen text kept =
     let s = since_keeps start all o n seen text kept in
     record { taken = rw s kept.taken; moved = rw s kept.moved; asks = kept.asks }
@@ -108,7 +108,7 @@ fold_text a (raw ∷ ls) =
     (first.0 ++ others.0, others.1 ∙ ap (λ l. l ++ others.0) first.1 ∙ append_assoc a.text first.0 others.0)
 
 -- the answers to the first lines come first
-pub talk_text : (start : Standing) (all : Left) (ls more : List (List ℕ)) → (bytes : List ℕ) × ((talk start all (ls ++ more)).text ≡ (talk start all ls).text ++ bytes)
+pub talk_text : (start : EngineState) (all : Supply) (ls more : List (List ℕ)) → (bytes : List ℕ) × ((talk start all (ls ++ more)).text ≡ (talk start all ls).text ++ bytes)
 talk_text start all ls more = let f = fold_text (talk start all ls) more in (f.0, ap (λ (t : Said). t.text) (fold-append step (silence start all) ls more) ∙ f.1)
 
 -- the lines of a longer text begin with the whole lines of a text
@@ -123,7 +123,7 @@ through_if : (quit : Bool) (e : Ending) → e ≡ ending_if quit → (missing : 
 through_if true e p = λ missing q. cc
 through_if false e p = λ missing q. cc
 
-pub end_complete : (start : Standing) (all : Left) (limit : ℕ) (o n : Told) (seen text : List ℕ) (quit : Bool) → length seen ≤ limit → Keeps start all o n seen text → (talk start all (lines seen)).text ≡ text
+pub end_complete : (start : EngineState) (all : Supply) (limit : ℕ) (o n : Told) (seen text : List ℕ) (quit : Bool) → length seen ≤ limit → Keeps start all o n seen text → (talk start all (lines seen)).text ≡ text
     → (talk start all (lines seen)).ending ≡ ending_if quit → (talk start all (lines seen)).left ≡ nothing_left → n.to_come ≡ [] → Outcome ending.Done start all limit o n
 end_complete start all limit o n seen text quit few kept e ends used none =
     let s = since_keeps start all o n seen text kept in
@@ -138,7 +138,7 @@ end_complete start all limit o n seen text quit few kept e ends used none =
       };
     }
 
-pub end_quit : (start : Standing) (all : Left) (limit : ℕ) (o n : Told) (seen text : List ℕ) → length seen ≤ limit → Keeps start all o n seen text → (talk_to start all seen).text ≡ text
+pub end_quit : (start : EngineState) (all : Supply) (limit : ℕ) (o n : Told) (seen text : List ℕ) → length seen ≤ limit → Keeps start all o n seen text → (talk_to start all seen).text ≡ text
     → (talk_to start all seen).ending ≡ AfterQuit → (talk_to start all seen).left ≡ nothing_left → Outcome ending.Done start all limit o n
 end_quit start all limit o n seen text few kept e quit used =
     let s = since_keeps start all o n seen text kept in
@@ -155,7 +155,7 @@ end_quit start all limit o n seen text few kept e quit used =
       };
     }
 
-pub end_unread : (start : Standing) (all : Left) (limit : ℕ) (o n : Told) (seen text : List ℕ) → length seen ≤ limit → Keeps start all o n seen text → (talk_to start all seen).text ≡ text → (talk_to start all seen).ending ≡ Going
+pub end_unread : (start : EngineState) (all : Supply) (limit : ℕ) (o n : Told) (seen text : List ℕ) → length seen ≤ limit → Keeps start all o n seen text → (talk_to start all seen).text ≡ text → (talk_to start all seen).ending ≡ Going
     → (talk_to start all seen).left ≡ nothing_left → Outcome ending.ReadFault start all limit o n
 end_unread start all limit o n seen text few kept e going used =
     let s = since_keeps start all o n seen text kept in
@@ -166,7 +166,7 @@ end_unread start all limit o n seen text few kept e going used =
     }
 
 -- a turn is wanted
-pub end_unarchived : (start : Standing) (all : Left) (limit : ℕ) (o n : Told) (seen text : List ℕ) → length seen ≤ limit → Keeps start all o n seen text → (talk start all (lines seen)).text ≡ text
+pub end_unarchived : (start : EngineState) (all : Supply) (limit : ℕ) (o n : Told) (seen text : List ℕ) → length seen ≤ limit → Keeps start all o n seen text → (talk start all (lines seen)).text ≡ text
     → WantsTurn (talk start all (lines seen)) → Outcome ending.ArchiveFault start all limit o n
 end_unarchived start all limit o n seen text few kept e wants =
     let s = since_keeps start all o n seen text kept in
@@ -181,11 +181,11 @@ end_unarchived start all limit o n seen text few kept e wants =
     }
 
 -- where a turn is wanted no more lines are answered
-pub wants_lines : (start : Standing) (all : Left) (seen : List ℕ) → WantsTurn (talk_to start all seen) → talk start all (lines seen) ≡ talk_to start all seen
+pub wants_lines : (start : EngineState) (all : Supply) (seen : List ℕ) → WantsTurn (talk_to start all seen) → talk start all (lines seen) ≡ talk_to start all seen
 wants_lines start all seen wants = talk_stays start all (whole seen) (unless_empty (rest seen)) (ap goes_on wants.ending)
 
 -- a write broke off within the answers to a front s of what was taken
-pub end_unwritten : (start : Standing) (all : Left) (limit : ℕ) (o n : Told) (s t part more : List ℕ) → length (s ++ t) ≤ limit → Keeps start all o n (s ++ t) part → (talk_to start all s).text ≡ part ++ more
+pub end_unwritten : (start : EngineState) (all : Supply) (limit : ℕ) (o n : Told) (s t part more : List ℕ) → length (s ++ t) ≤ limit → Keeps start all o n (s ++ t) part → (talk_to start all s).text ≡ part ++ more
     → Outcome ending.WriteFault start all limit o n
 end_unwritten start all limit o n s t part more few kept e =
     let w = since_keeps start all o n (s ++ t) part kept in
@@ -200,7 +200,7 @@ end_unwritten start all limit o n s t part more few kept e =
       };
     }
 
-pub end_unwritten_last : (start : Standing) (all : Left) (limit : ℕ) (o n : Told) (seen part more : List ℕ) → length seen ≤ limit → Keeps start all o n seen part → (talk start all (lines seen)).text ≡ part ++ more
+pub end_unwritten_last : (start : EngineState) (all : Supply) (limit : ℕ) (o n : Told) (seen part more : List ℕ) → length seen ≤ limit → Keeps start all o n seen part → (talk start all (lines seen)).text ≡ part ++ more
     → Outcome ending.WriteFault start all limit o n
 end_unwritten_last start all limit o n seen part more few kept e =
     let w = since_keeps start all o n seen part kept in
@@ -208,7 +208,7 @@ end_unwritten_last start all limit o n seen part more few kept e =
     record { course = course_of start all o n seen part kept; ends = record { in_limit = omega arith; given = (part, more, ap (λ l. (talk start all (lines l)).text) w ∙ e, kept.given) } }
 
 -- memory ran out at the line after the first ones
-stops_at : (start : Standing) (all : Left) (o n : Told) (seen text : List ℕ) (ls : List (List ℕ)) (raw : List ℕ) (others : List (List ℕ)) → Keeps start all o n seen text → lines seen ≡ ls ++ raw ∷ others → (talk start all ls).text ≡ text
+stops_at : (start : EngineState) (all : Supply) (o n : Told) (seen text : List ℕ) (ls : List (List ℕ)) (raw : List ℕ) (others : List (List ℕ)) → Keeps start all o n seen text → lines seen ≡ ls ++ raw ∷ others → (talk start all ls).text ≡ text
     → (talk start all ls).ending ≡ Going → StopsAt start all o n (length ls)
 stops_at start all o n seen text ls raw others kept split e going =
     let w : lines (since o n) ≡ ls ++ raw ∷ others = ap lines (since_keeps start all o n seen text kept) ∙ split in
@@ -220,7 +220,7 @@ stops_at start all o n seen text ls raw others kept split e going =
       line = inl (omega (arith, many));
     }
 
-pub end_unfinished : (start : Standing) (all : Left) (limit : ℕ) (o n : Told) (s t text : List ℕ) → length (s ++ t) ≤ limit → Keeps start all o n (s ++ t) text → (talk_to start all s).text ≡ text → (talk_to start all s).ending ≡ Going → EndsLine s t
+pub end_unfinished : (start : EngineState) (all : Supply) (limit : ℕ) (o n : Told) (s t text : List ℕ) → length (s ++ t) ≤ limit → Keeps start all o n (s ++ t) text → (talk_to start all s).text ≡ text → (talk_to start all s).ending ≡ Going → EndsLine s t
     → Outcome ending.Memory start all limit o n
 end_unfinished start all limit o n s t text few kept e going line =
     let same_length = ap length (since_keeps start all o n (s ++ t) text kept) in
@@ -231,14 +231,14 @@ end_unfinished start all limit o n s t text few kept e going line =
       ends = record { in_limit = omega arith; stops = (length (whole s), stops_at start all o n (s ++ t) text (whole s) line.0 _ kept split e going) };
     }
 
-pub end_unfinished_last : (start : Standing) (all : Left) (limit : ℕ) (o n : Told) (seen text : List ℕ) → length seen ≤ limit → Keeps start all o n seen text → (talk_to start all seen).text ≡ text → (talk_to start all seen).ending ≡ Going → HasLast seen
+pub end_unfinished_last : (start : EngineState) (all : Supply) (limit : ℕ) (o n : Told) (seen text : List ℕ) → length seen ≤ limit → Keeps start all o n seen text → (talk_to start all seen).text ≡ text → (talk_to start all seen).ending ≡ Going → HasLast seen
     → Outcome ending.Memory start all limit o n
 end_unfinished_last start all limit o n seen text few kept e going line =
     let same_length = ap length (since_keeps start all o n seen text kept) in
     record { course = course_of start all o n seen text kept; ends = record { in_limit = omega arith; stops = (length (whole seen), stops_at start all o n seen text (whole seen) line.0 [] kept line.1 e going) } }
 
 -- memory ran out before the first read
-pub end_unbegun : (start : Standing) (all : Left) (limit : ℕ) (o : Told) → Outcome ending.Memory start all limit o o
+pub end_unbegun : (start : EngineState) (all : Supply) (limit : ℕ) (o : Told) → Outcome ending.Memory start all limit o o
 end_unbegun start all limit o =
     let kept = keeps_nothing start all o in
     let s : since o o ≡ [] = since_keeps start all o o [] [] kept in
@@ -249,7 +249,7 @@ end_unbegun start all limit o =
     }
 
 -- one byte t more than the limit was taken
-pub end_overlong : (start : Standing) (all : Left) (limit : ℕ) (o n : Told) (s t text : List ℕ) → length s ≡ limit → length t ≡ 1 → Keeps start all o n (s ++ t) text → (talk_to start all s).text ≡ text → (talk_to start all s).ending ≡ Going
+pub end_overlong : (start : EngineState) (all : Supply) (limit : ℕ) (o n : Told) (s t text : List ℕ) → length s ≡ limit → length t ≡ 1 → Keeps start all o n (s ++ t) text → (talk_to start all s).text ≡ text → (talk_to start all s).ending ≡ Going
     → (talk_to start all s).left ≡ nothing_left → Outcome ending.TooLong start all limit o n
 end_overlong start all limit o n s t text ls lt kept e going used =
     let w = since_keeps start all o n (s ++ t) text kept in

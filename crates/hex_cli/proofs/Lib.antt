@@ -5,7 +5,7 @@ pub mod Keeping
 pub mod EndLaws
 pub mod RunLaws
 pub mod Reactions
-pub mod LeftLaws
+pub mod SupplyLaws
 pub mod StockLaws
 pub mod Advances
 pub mod Batches
@@ -14,3 +14,4 @@ pub mod OneWorkerLoads
 pub mod OneWorkerMoves
 pub mod OneWorker
 pub mod LegalMoves
+pub mod DeterminedLaws

@@ -2,9 +2,9 @@
 use Rattle.std.proofs.Common.{◌≡◌, ℕ, Bool, List, [], ◌∷◌, refl, sym, ap, ◌∙◌, subst}
 use Rattle.hex_io.specs.declared.files.File.{File}
 use Rattle.hex_io.specs.Shelves.{Fetched, Failed, Missing, Long, Held, fetched_of}
-use Rattle.hex_game.specs.Games.{Played}
+use Rattle.hex_game.specs.Games.{GameData}
 use Rattle.sgf_tree.proofs.Verdicts.{one_collection}
-use Rattle.hex_engine.specs.Left.{Loaded, Unread, Refused, Loads, Load}
+use Rattle.hex_engine.specs.Supply.{Loaded, Unread, Refused, Loads, Load}
 use Rattle.hex_engine.specs.Uses.{IsRecordOf, IsReadAs, IsLoadOf, CameOf}
 
 -- as far as both go, the same came of one name
@@ -25,7 +25,7 @@ equal_loads loads others e = subst (λ (z : List Load). SameLoads loads z) e (on
 -- ---- loads that came of the same files and faults
 
 -- bytes are a record of one game at most
-one_game : (bytes : List ℕ) (a b : Played) → IsRecordOf bytes a → IsRecordOf bytes b → a ≡ b
+one_game : (bytes : List ℕ) (a b : GameData) → IsRecordOf bytes a → IsRecordOf bytes b → a ≡ b
 one_game bytes a b p q =
     let same = one_collection p.trees q.trees bytes p.text q.text in
     let one = p.is in

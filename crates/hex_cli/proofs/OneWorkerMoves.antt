@@ -21,9 +21,9 @@ use Rattle.hex_plan.specs.Openings.{may_move}
 use Rattle.hex_plan.specs.Turns.{Decision}
 use Rattle.hex_plan.proofs.Same.{same_turn}
 use Rattle.hex_engine.specs.Commands.{command_named}
-use Rattle.hex_engine.specs.Left.{Left, Load, Loaded}
+use Rattle.hex_engine.specs.Supply.{Supply, Load, Loaded}
 use Rattle.hex_engine.specs.Report.{report_of, row_lines}
-use Rattle.hex_engine.specs.Standing.{Standing}
+use Rattle.hex_engine.specs.EngineState.{EngineState}
 use Rattle.hex_engine.specs.Uses.{AreGood}
 use Rattle.hex_engine.specs.Replies.{Reaction, Turned, Missing, Done, NoLoad, NoTurn, unused, loaded, file_named, loading_next, loading_by, is_board, is_next, turned, moving_next, moving_by, lone_colour, stays, Failed, obeyed, reaction_by, reaction}
 use Rattle.hex_engine.specs.declared.answers.Fail.TheVariants.{Over}
@@ -59,7 +59,7 @@ same_report t u p b r =
     ∙ ap (λ (rows : List Row). codes "playouts " ++ decimal u.closed.shape.knobs.playouts ++ row_lines u.board.size rows) r
 
 -- two good turns that are a conversation's next are played and reported alike
-same_move : (options : Knobs) (at : Standing) (colour : Colour) (t u : Decision) → options.workers ≡ 1 → IsGood options t → IsGood options u → is_next at colour t ≡ true → is_next at colour u ≡ true
+same_move : (options : Knobs) (at : EngineState) (colour : Colour) (t u : Decision) → options.workers ≡ 1 → IsGood options t → IsGood options u → is_next at colour t ≡ true → is_next at colour u ≡ true
     → turned at colour u ≡ turned at colour t
 same_move options at colour t u one g h e f =
     let p = and_parts _ _ e in
@@ -80,7 +80,7 @@ same_move options at colour t u one g h e f =
 -- ---- one request
 
 -- of one name the same came in the loads of both, and the turns of both are good
-pub record Alike (options : Knobs) (a b : Left) : Type 0 where
+pub record Alike (options : Knobs) (a b : Supply) : Type 0 where
   pub loads : SameLoads a.loads b.loads
   pub good : AreGood options a.turns
   pub other : AreGood options b.turns
@@ -91,7 +91,7 @@ Agree options (Ok t) (Ok u) = (u ≡ record t { left = u.left }) × Alike option
 Agree options (Ok t) (Err missing) = Unit {0}
 Agree options (Err missing) other = Unit {0}
 
-unused_agree : (options : Knobs) (a b : Left) (r : Reaction) → Alike options a b → Agree options (unused a r) (unused b r)
+unused_agree : (options : Knobs) (a b : Supply) (r : Reaction) → Alike options a b → Agree options (unused a r) (unused b r)
 unused_agree options a b r h = (refl, h)
 
 missing_agree : (options : Knobs) (r : Result Turned Missing) (missing : Missing) → Agree options r (Err missing)
@@ -99,7 +99,7 @@ missing_agree options (Ok t) missing = tt
 missing_agree options (Err other) missing = tt
 
 -- of one name the same came of both next loads
-load_agree : (options : Knobs) (at : Standing) (a b : Left) (load other : Load) (name : List ℕ) → (load.name ≡ other.name → load.what ≡ other.what) → Alike options a b
+load_agree : (options : Knobs) (at : EngineState) (a b : Supply) (load other : Load) (name : List ℕ) → (load.name ≡ other.name → load.what ≡ other.what) → Alike options a b
     → Agree options (cond (bytes_eq load.name name) (unused a (loaded at load.what)) (Err NoLoad)) (cond (bytes_eq other.name name) (unused b (loaded at other.what)) (Err NoLoad))
 load_agree options at a b load other name same h = by (bytes_eq load.name name) (bytes_eq other.name name) refl refl
   where
@@ -111,18 +111,18 @@ load_agree options at a b load other name same h = by (bytes_eq load.name name) 
     by true false p q = tt
     by false y p q = tt
 
-loads_agree : (options : Knobs) (at : Standing) (a b : Left) (loads others : List Load) (name : List ℕ) → SameLoads loads others → AreGood options a.turns → AreGood options b.turns
+loads_agree : (options : Knobs) (at : EngineState) (a b : Supply) (loads others : List Load) (name : List ℕ) → SameLoads loads others → AreGood options a.turns → AreGood options b.turns
     → Agree options (loading_next at a loads name) (loading_next at b others name)
 loads_agree options at a b [] others name same g h = tt
 loads_agree options at a b (load ∷ loads) [] name same g h = missing_agree options (loading_next at a (load ∷ loads) name) NoLoad
 loads_agree options at a b (load ∷ loads) (other ∷ others) name same g h =
     load_agree options at (record a { loads = loads }) (record b { loads = others }) load other name same.0 (record { loads = same.1; good = g; other = h })
 
-loading_agree : (options : Knobs) (at : Standing) (a b : Left) (name : Option (List ℕ)) → Alike options a b → Agree options (loading_by at a name) (loading_by at b name)
+loading_agree : (options : Knobs) (at : EngineState) (a b : Supply) (name : Option (List ℕ)) → Alike options a b → Agree options (loading_by at a name) (loading_by at b name)
 loading_agree options at a b None h = (refl, h)
 loading_agree options at a b (Some name) h = loads_agree options at a b a.loads b.loads name h.loads h.good h.other
 
-moves_agree : (options : Knobs) (at : Standing) (a b : Left) (turns others : List Decision) (colour : Colour) → options.workers ≡ 1 → SameLoads a.loads b.loads → AreGood options turns → AreGood options others
+moves_agree : (options : Knobs) (at : EngineState) (a b : Supply) (turns others : List Decision) (colour : Colour) → options.workers ≡ 1 → SameLoads a.loads b.loads → AreGood options turns → AreGood options others
     → Agree options (moving_next at a turns colour) (moving_next at b others colour)
 moves_agree options at a b [] others colour one e g h = tt
 moves_agree options at a b (t ∷ turns) [] colour one e g h = missing_agree options (moving_next at a (t ∷ turns) colour) NoTurn
@@ -134,7 +134,7 @@ moves_agree options at a b (t ∷ turns) (u ∷ others) colour one e g h = by (i
     by true false p q = tt
     by false y p q = tt
 
-moving_agree : (options : Knobs) (at : Standing) (a b : Left) (colour : Option Colour) → options.workers ≡ 1 → Alike options a b → Agree options (moving_by at a colour) (moving_by at b colour)
+moving_agree : (options : Knobs) (at : EngineState) (a b : Supply) (colour : Option Colour) → options.workers ≡ 1 → Alike options a b → Agree options (moving_by at a colour) (moving_by at b colour)
 moving_agree options at a b None one h = (refl, h)
 moving_agree options at a b (Some colour) one h = by (may_move (board_of at.game))
   where
@@ -142,7 +142,7 @@ moving_agree options at a b (Some colour) one h = by (may_move (board_of at.game
     by true = moves_agree options at a b a.turns b.turns colour one h.loads h.good h.other
     by false = (refl, h)
 
-obeyed_agree : (options : Knobs) (at : Standing) (a b : Left) (what : Command) (args : List (List ℕ)) → options.workers ≡ 1 → Alike options a b → Agree options (obeyed at a what args) (obeyed at b what args)
+obeyed_agree : (options : Knobs) (at : EngineState) (a b : Supply) (what : Command) (args : List (List ℕ)) → options.workers ≡ 1 → Alike options a b → Agree options (obeyed at a what args) (obeyed at b what args)
 unfolding obeyed
 obeyed_agree options at a b command.BoardSize args one h = (refl, h)
 obeyed_agree options at a b command.ClearBoard args one h = (refl, h)
@@ -161,11 +161,11 @@ obeyed_agree options at a b command.Undo args one h = (refl, h)
 obeyed_agree options at a b command.Version args one h = (refl, h)
 obeyed_agree options at a b command.Winner args one h = (refl, h)
 
-by_agree : (options : Knobs) (at : Standing) (a b : Left) (what : Option Command) (args : List (List ℕ)) → options.workers ≡ 1 → Alike options a b → Agree options (reaction_by at a what args) (reaction_by at b what args)
+by_agree : (options : Knobs) (at : EngineState) (a b : Supply) (what : Option Command) (args : List (List ℕ)) → options.workers ≡ 1 → Alike options a b → Agree options (reaction_by at a what args) (reaction_by at b what args)
 by_agree options at a b None args one h = (refl, h)
 by_agree options at a b (Some what) args one h = obeyed_agree options at a b what args one h
 
 -- a request is answered the same by both
-pub reactions_agree : (options : Knobs) (at : Standing) (a b : Left) (asked : Asked) → options.workers ≡ 1 → Alike options a b → Agree options (reaction at a asked) (reaction at b asked)
+pub reactions_agree : (options : Knobs) (at : EngineState) (a b : Supply) (asked : Asked) → options.workers ≡ 1 → Alike options a b → Agree options (reaction at a asked) (reaction at b asked)
 unfolding reaction
 reactions_agree options at a b asked one h = by_agree options at a b (command_named asked.name) asked.args one h

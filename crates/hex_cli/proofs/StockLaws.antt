@@ -6,18 +6,18 @@ use Rattle.hex_io.proofs.BothLaws.{Both-then, Both-refl}
 use Rattle.tree_words.specs.declared.settings.Knobs.{Knobs}
 use Rattle.hex_plan.specs.Turns.{Decision}
 use Rattle.htp_line.specs.Splitting.{Held}
-use Rattle.hex_engine.specs.Standing.{Standing}
-use Rattle.hex_engine.specs.Left.{Left, Load, nothing_left, and_then}
+use Rattle.hex_engine.specs.EngineState.{EngineState}
+use Rattle.hex_engine.specs.Supply.{Supply, Load, nothing_left, and_then}
 use Rattle.hex_engine.specs.Uses.{CameOf, Fetches, AreGood}
 use Rattle.hex_cli.specs.Stocks.{Stock, UsesUp}
 use Rattle.hex_cli.specs.Sessions.{Stands, Does}
 
 -- ---- what is left
 
-pub and_then_nothing : (a : Left) → and_then a nothing_left ≡ a
+pub and_then_nothing : (a : Supply) → and_then a nothing_left ≡ a
 and_then_nothing a = let l = append-nil a.loads in let t = append-nil a.turns in rw (l, t) refl
 
-pub and_then_assoc : (a b c : Left) → and_then (and_then a b) c ≡ and_then a (and_then b c)
+pub and_then_assoc : (a b c : Supply) → and_then (and_then a b) c ≡ and_then a (and_then b c)
 and_then_assoc a b c = let l = append_assoc a.loads b.loads c.loads in let t = append_assoc a.turns b.turns c.turns in rw (l, t) refl
 
 -- ---- uses
@@ -45,7 +45,7 @@ good_then : (options : Knobs) (s t : List Decision) → AreGood options s → Ar
 good_then options [] t p q = q
 good_then options (turn ∷ turns) t p q = (p.0, good_then options turns t p.1 q)
 
-pub uses_then : (options : Knobs) (a b c : Stock) (u v : Left) (in_vain : List Bool) → UsesUp options a b u [] → UsesUp options b c v in_vain → UsesUp options a c (and_then u v) in_vain
+pub uses_then : (options : Knobs) (a b c : Stock) (u v : Supply) (in_vain : List Bool) → UsesUp options a b u [] → UsesUp options b c v in_vain → UsesUp options a c (and_then u v) in_vain
 uses_then options a b c u v in_vain p q = record {
   loading = Both-then a.0 b.0 c.0 _ _ _ (λ x y z s t. fetches_then x y z u.loads v.loads in_vain s t) p.loading q.loading;
   moving = record {
@@ -63,12 +63,12 @@ uses_nothing options a = record {
 -- ---- what calls do
 
 abbrev pub After : Type 1
-After = Standing → Left → Left → List ℕ → Type 0
+After = EngineState → Supply → Supply → List ℕ → Type 0
 
 -- a call that did something more and a call after it, where the text m was taken by the first
-pub does_then : (a b c : Stock) (in_vain : List Bool) (engine after : Standing) (held then : Held) (m : List ℕ) (T S R : After)
-    → ((start : Standing) (all later : Left) (seen : List ℕ) → T start all later seen → Stands start all later after then (seen ++ m))
-    → ((start : Standing) (all mid later : Left) (seen : List ℕ) → T start all mid seen → S start all later (seen ++ m) → R start all later seen)
+pub does_then : (a b c : Stock) (in_vain : List Bool) (engine after : EngineState) (held then : Held) (m : List ℕ) (T S R : After)
+    → ((start : EngineState) (all later : Supply) (seen : List ℕ) → T start all later seen → Stands start all later after then (seen ++ m))
+    → ((start : EngineState) (all mid later : Supply) (seen : List ℕ) → T start all mid seen → S start all later (seen ++ m) → R start all later seen)
     → Does a b [] engine held T → Does b c in_vain after then S → Does a c in_vain engine held R
 does_then a b c in_vain engine after held then m T S R stands go p q = record {
   used = and_then p.used q.used;
@@ -81,16 +81,16 @@ does_then a b c in_vain engine after held then m T S R stands go p q = record {
 }
 
 -- what holds then follows from what held
-pub does_weaker : (a b : Stock) (in_vain : List Bool) (engine : Standing) (held : Held) (T S : After)
-    → ((start : Standing) (all later : Left) (seen : List ℕ) → T start all later seen → S start all later seen) → Does a b in_vain engine held T → Does a b in_vain engine held S
+pub does_weaker : (a b : Stock) (in_vain : List Bool) (engine : EngineState) (held : Held) (T S : After)
+    → ((start : EngineState) (all later : Supply) (seen : List ℕ) → T start all later seen → S start all later seen) → Does a b in_vain engine held T → Does a b in_vain engine held S
 does_weaker a b in_vain engine held T S go p = record {
   used = p.used;
   stood = λ start all later seen here. let all_of = p.stood start all later seen here in (all_of.0, go start all later seen all_of.1);
 }
 
 -- a call that used nothing up
-pub does_nothing : (a : Stock) (engine : Standing) (held : Held) (T : After)
-    → ((start : Standing) (all later : Left) (seen : List ℕ) → Stands start all later engine held seen → T start all later seen) → Does a a [] engine held T
+pub does_nothing : (a : Stock) (engine : EngineState) (held : Held) (T : After)
+    → ((start : EngineState) (all later : Supply) (seen : List ℕ) → Stands start all later engine held seen → T start all later seen) → Does a a [] engine held T
 does_nothing a engine held T go = record {
   used = nothing_left;
   stood = λ start all later seen here. (uses_nothing start.options a, go start all later seen here);

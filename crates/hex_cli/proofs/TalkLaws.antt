@@ -7,8 +7,8 @@ use Rattle.htp_line.specs.Lines.{whole, lines}
 use Rattle.htp_line.specs.Splitting.{Held, kept, shown, what_of, Ends, Advances, StandsAfter}
 use Rattle.htp_line.specs.declared.splitter.What.{What}
 use Rattle.htp_line.specs.declared.splitter.What.TheVariants.{More}
-use Rattle.hex_engine.specs.Standing.{Standing}
-use Rattle.hex_engine.specs.Left.{Left, nothing_left}
+use Rattle.hex_engine.specs.EngineState.{EngineState}
+use Rattle.hex_engine.specs.Supply.{Supply, nothing_left}
 use Rattle.hex_engine.specs.Replies.{NoTurn}
 use Rattle.hex_cli.specs.Talk.{Said, Going, AfterQuit, Short, ending_if, goes_on, said, with_said, step, silence, talk}
 use Rattle.hex_cli.specs.Sessions.{talk_to, Stands, Moves, EndsLine, Advanced, AnswersShort, AnswersLast, HasLast, LastIsShort}
@@ -22,30 +22,30 @@ unfolding step
 step-stays so_far raw e = rw e refl
 
 -- one more line while the talk goes on
-pub talk_more : (start : Standing) (all : Left) (ls : List (List ℕ)) (raw : List ℕ) → (talk start all ls).ending ≡ Going
+pub talk_more : (start : EngineState) (all : Supply) (ls : List (List ℕ)) (raw : List ℕ) → (talk start all ls).ending ≡ Going
     → talk start all (ls ++ raw ∷ []) ≡ with_said (talk start all ls) (said (talk start all ls).at (talk start all ls).left (kept raw))
 talk_more start all ls raw e = fold_push step (silence start all) ls raw ∙ step-going (talk start all ls) raw e
 
 -- lines after the end of a talk change nothing
-pub talk_stays : (start : Standing) (all : Left) (ls more : List (List ℕ)) → goes_on (talk start all ls).ending ≡ false → talk start all (ls ++ more) ≡ talk start all ls
+pub talk_stays : (start : EngineState) (all : Supply) (ls more : List (List ℕ)) → goes_on (talk start all ls).ending ≡ false → talk start all (ls ++ more) ≡ talk start all ls
 talk_stays start all ls more e = fold-append step (silence start all) ls more ∙ fold_stays step (talk start all ls) (λ raw. step-stays (talk start all ls) raw e) more
 
-pub talk_quit : (start : Standing) (all : Left) (ls more : List (List ℕ)) → (talk start all ls).ending ≡ AfterQuit → talk start all (ls ++ more) ≡ talk start all ls
+pub talk_quit : (start : EngineState) (all : Supply) (ls more : List (List ℕ)) → (talk start all ls).ending ≡ AfterQuit → talk start all (ls ++ more) ≡ talk start all ls
 talk_quit start all ls more e = talk_stays start all ls more (ap goes_on e)
 
-pub talk_to_stays : (start : Standing) (all : Left) (s t : List ℕ) → goes_on (talk_to start all s).ending ≡ false → talk_to start all (s ++ t) ≡ talk_to start all s
+pub talk_to_stays : (start : EngineState) (all : Supply) (s t : List ℕ) → goes_on (talk_to start all s).ending ≡ false → talk_to start all (s ++ t) ≡ talk_to start all s
 talk_to_stays start all s t e = let w = whole-append s t in ap (talk start all) w.1 ∙ talk_stays start all (whole s) w.0 e
 
-pub talk_to_quit : (start : Standing) (all : Left) (s t : List ℕ) → (talk_to start all s).ending ≡ AfterQuit → talk_to start all (s ++ t) ≡ talk_to start all s
+pub talk_to_quit : (start : EngineState) (all : Supply) (s t : List ℕ) → (talk_to start all s).ending ≡ AfterQuit → talk_to start all (s ++ t) ≡ talk_to start all s
 talk_to_quit start all s t e = let w = whole-append s t in ap (talk start all) w.1 ∙ talk_quit start all (whole s) w.0 e
 
 -- before any byte nothing is said
-pub talk_to-nil : (start : Standing) (all : Left) → talk_to start all [] ≡ silence start all
+pub talk_to-nil : (start : EngineState) (all : Supply) → talk_to start all [] ≡ silence start all
 unfolding whole
 talk_to-nil start all = refl
 
 -- the last of these lines is what is kept of it
-said_last : (start : Standing) (all left : Left) (engine : Standing) (ls seen : List (List ℕ)) (line : Option (List ℕ)) → engine ≡ (talk start all seen).at → left ≡ (talk start all seen).left → (talk start all seen).ending ≡ Going
+said_last : (start : EngineState) (all left : Supply) (engine : EngineState) (ls seen : List (List ℕ)) (line : Option (List ℕ)) → engine ≡ (talk start all seen).at → left ≡ (talk start all seen).left → (talk start all seen).ending ≡ Going
     → Ends true line seen ls → talk start all ls ≡ with_said (talk start all seen) (said engine left line)
 said_last start all left engine ls seen line at same_left going ended =
     let same : said (talk start all seen).at (talk start all seen).left (kept ended.0) ≡ said engine left line =
@@ -53,24 +53,24 @@ said_last start all left engine ls seen line at same_left going ended =
     ap (talk start all) ended.1 ∙ talk_more start all seen ended.0 going ∙ ap (with_said (talk start all seen)) same
 
 -- one line ended, and this answers it
-pub line_said : (start : Standing) (all left : Left) (engine : Standing) (held new : Held) (seen front : List ℕ) → Stands start all left engine held seen → Advances new seen front → new.ended ≡ true
+pub line_said : (start : EngineState) (all left : Supply) (engine : EngineState) (held new : Held) (seen front : List ℕ) → Stands start all left engine held seen → Advances new seen front → new.ended ≡ true
     → talk_to start all (seen ++ front) ≡ with_said (talk_to start all seen) (said engine left new.line)
 line_said start all left engine held new seen front stands adv e =
     said_last start all left engine (whole (seen ++ front)) (whole seen) new.line stands.at stands.left stands.going (subst (λ b. Ends b new.line (whole seen) (whole (seen ++ front))) e adv.ended)
 
 -- no line ended
-pub no_line : (start : Standing) (all : Left) (new : Held) (seen front : List ℕ) → Advances new seen front → new.ended ≡ false → talk_to start all (seen ++ front) ≡ talk_to start all seen
+pub no_line : (start : EngineState) (all : Supply) (new : Held) (seen front : List ℕ) → Advances new seen front → new.ended ≡ false → talk_to start all (seen ++ front) ≡ talk_to start all seen
 no_line start all new seen front adv e =
     let ended : Ends false new.line (whole seen) (whole (seen ++ front)) = subst (λ b. Ends b new.line (whole seen) (whole (seen ++ front))) e adv.ended in
     ap (talk start all) ended
 
-moves_by : (quit : Bool) (start : Standing) (all later : Left) (engine : Standing) (new : Held) (seen : List ℕ) → engine ≡ (talk_to start all seen).at → later ≡ (talk_to start all seen).left
+moves_by : (quit : Bool) (start : EngineState) (all later : Supply) (engine : EngineState) (new : Held) (seen : List ℕ) → engine ≡ (talk_to start all seen).at → later ≡ (talk_to start all seen).left
     → (talk_to start all seen).ending ≡ ending_if quit → StandsAfter new seen → Moves quit start all later engine new seen
 moves_by true start all later engine new seen at left ending stands = record { ending = ending; left = left }
 moves_by false start all later engine new seen at left ending stands = record { at = at; left = left; going = ending; in_hand = stands }
 
 -- what a line that ended answers
-pub line_advanced : (start : Standing) (all left later : Left) (engine after : Standing) (held new : Held) (seen front old_out out bytes : List ℕ) (quit : Bool) → Stands start all left engine held seen → Advances new seen front → new.ended ≡ true
+pub line_advanced : (start : EngineState) (all left later : Supply) (engine after : EngineState) (held new : Held) (seen front old_out out bytes : List ℕ) (quit : Bool) → Stands start all left engine held seen → Advances new seen front → new.ended ≡ true
     → out ≡ old_out ++ bytes → said engine left new.line ≡ record { text = bytes; at = after; left = later; ending = ending_if quit } → Advanced quit start all later after new old_out out seen front
 line_advanced start all left later engine after held new seen front old_out out bytes quit stands adv e grew says =
     let eq : talk_to start all (seen ++ front) ≡ with_said (talk_to start all seen) (record { text = bytes; at = after; left = later; ending = ending_if quit }) =
@@ -81,7 +81,7 @@ line_advanced start all left later engine after held new seen front old_out out 
     }
 
 -- where no line ended nothing is said
-pub none_advanced : (start : Standing) (all later : Left) (engine : Standing) (held new : Held) (seen front out : List ℕ) → Stands start all later engine held seen → Advances new seen front → new.ended ≡ false
+pub none_advanced : (start : EngineState) (all later : Supply) (engine : EngineState) (held new : Held) (seen front out : List ℕ) → Stands start all later engine held seen → Advances new seen front → new.ended ≡ false
     → Advanced false start all later engine new out out seen front
 none_advanced start all later engine held new seen front out stands adv e =
     let eq = no_line start all new seen front adv e in
@@ -96,7 +96,7 @@ none_advanced start all later engine held new seen front out stands adv e =
     }
 
 -- a line that ended wants a turn
-pub line_short : (start : Standing) (all later : Left) (engine : Standing) (held new : Held) (seen front others : List ℕ) → Stands start all later engine held seen → Advances new seen front → new.ended ≡ true
+pub line_short : (start : EngineState) (all later : Supply) (engine : EngineState) (held new : Held) (seen front others : List ℕ) → Stands start all later engine held seen → Advances new seen front → new.ended ≡ true
     → said engine nothing_left new.line ≡ record { text = []; at = engine; left = nothing_left; ending = Short NoTurn } → AnswersShort start all later [] seen (front ++ others)
 line_short start all later engine held new seen front others stands adv e says none =
     let here : said engine later new.line ≡ record { text = []; at = engine; left = nothing_left; ending = Short NoTurn } = ap (λ l. said engine l new.line) none ∙ says in
@@ -119,12 +119,12 @@ line_ends new seen front others adv e =
     )
 
 -- the last line, which no line feed ends
-pub last_said : (start : Standing) (all left : Left) (engine : Standing) (held new : Held) (seen : List ℕ) → Stands start all left engine held seen → Ends new.ended new.line (whole seen) (lines seen) → new.ended ≡ true
+pub last_said : (start : EngineState) (all left : Supply) (engine : EngineState) (held new : Held) (seen : List ℕ) → Stands start all left engine held seen → Ends new.ended new.line (whole seen) (lines seen) → new.ended ≡ true
     → talk start all (lines seen) ≡ with_said (talk_to start all seen) (said engine left new.line)
 last_said start all left engine held new seen stands ends e =
     said_last start all left engine (lines seen) (whole seen) new.line stands.at stands.left stands.going (subst (λ b. Ends b new.line (whole seen) (lines seen)) e ends)
 
-pub last_answers : (start : Standing) (all left later : Left) (engine after : Standing) (held new : Held) (seen out : List ℕ) (quit : Bool) → Stands start all left engine held seen → Ends new.ended new.line (whole seen) (lines seen) → new.ended ≡ true
+pub last_answers : (start : EngineState) (all left later : Supply) (engine after : EngineState) (held new : Held) (seen out : List ℕ) (quit : Bool) → Stands start all left engine held seen → Ends new.ended new.line (whole seen) (lines seen) → new.ended ≡ true
     → said engine left new.line ≡ record { text = out; at = after; left = later; ending = ending_if quit } → AnswersLast start all later out seen
 last_answers start all left later engine after held new seen out quit stands ends e says =
     let eq : talk start all (lines seen) ≡ with_said (talk_to start all seen) (record { text = out; at = after; left = later; ending = ending_if quit }) =
@@ -132,7 +132,7 @@ last_answers start all left later engine after held new seen out quit stands end
     record { answers = ap (λ (s : Said). s.text) eq; ended = (quit, ap (λ (s : Said). s.ending) eq); left = sym (ap (λ (s : Said). s.left) eq) }
 
 -- there is no last line
-pub last_none : (start : Standing) (all later : Left) (engine : Standing) (held new : Held) (seen out : List ℕ) → Stands start all later engine held seen → Ends new.ended new.line (whole seen) (lines seen) → new.ended ≡ false → out ≡ []
+pub last_none : (start : EngineState) (all later : Supply) (engine : EngineState) (held new : Held) (seen out : List ℕ) → Stands start all later engine held seen → Ends new.ended new.line (whole seen) (lines seen) → new.ended ≡ false → out ≡ []
     → AnswersLast start all later out seen
 last_none start all later engine held new seen out stands ends e none =
     let ended : Ends false new.line (whole seen) (lines seen) = subst (λ b. Ends b new.line (whole seen) (lines seen)) e ends in
@@ -143,7 +143,7 @@ last_none start all later engine held new seen out stands ends e none =
       left = stands.left ∙ sym (ap (λ (s : Said). s.left) eq);
     }
 
-pub last_short : (start : Standing) (all later : Left) (engine : Standing) (held new : Held) (seen : List ℕ) → Stands start all later engine held seen → Ends new.ended new.line (whole seen) (lines seen) → new.ended ≡ true
+pub last_short : (start : EngineState) (all later : Supply) (engine : EngineState) (held new : Held) (seen : List ℕ) → Stands start all later engine held seen → Ends new.ended new.line (whole seen) (lines seen) → new.ended ≡ true
     → said engine nothing_left new.line ≡ record { text = []; at = engine; left = nothing_left; ending = Short NoTurn } → LastIsShort start all later seen
 last_short start all later engine held new seen stands ends e says none =
     let here : said engine later new.line ≡ record { text = []; at = engine; left = nothing_left; ending = Short NoTurn } = ap (λ l. said engine l new.line) none ∙ says in

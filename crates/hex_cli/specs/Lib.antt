@@ -1,7 +1,8 @@
 pub mod Talk
-pub mod Left
+pub mod Supply
 pub mod Stocks
 pub mod Sessions
 pub mod Outcome
 pub mod Errors
 pub mod Runs
+pub mod Determined

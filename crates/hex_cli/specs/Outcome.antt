@@ -5,8 +5,8 @@ use Rattle.std.specs.declared.option.Option.{Option}
 use Rattle.hex_io.specs.Told.{Told, Both}
 use Rattle.htp_line.specs.Lines.{lines}
 use Rattle.tree_words.specs.declared.settings.Knobs.{Knobs}
-use Rattle.hex_engine.specs.Standing.{Standing, opening}
-use Rattle.hex_engine.specs.Left.{Left, nothing_left}
+use Rattle.hex_engine.specs.EngineState.{EngineState, opening}
+use Rattle.hex_engine.specs.Supply.{Supply, nothing_left}
 use Rattle.hex_cli.specs.Talk.{Going, AfterQuit, IsThrough, talk}
 use Rattle.hex_cli.specs.Stocks.{Stock, UsesUp}
 use Rattle.hex_cli.specs.Sessions.{talk_to, WantsTurn}
@@ -18,67 +18,67 @@ abbrev pub since : Told → Told → List ℕ
 since old new = drop (length old.taken) new.taken
 
 -- when this read began, what was given was the talk over all whole lines taken by then, and it went on
-pub record Shown (start : Standing) (all : Left) (old new : Told) (ask : ℕ × ℕ) : Type 0 where
+pub record Shown (start : EngineState) (all : Supply) (old new : Told) (ask : ℕ × ℕ) : Type 0 where
   pub in_taken : ask.0 ≤ length new.taken
   pub in_given : ask.1 ≤ length new.given
   pub answered : take ask.1 new.given ≡ old.given ++ (talk_to start all (drop (length old.taken) (take ask.0 new.taken))).text
   pub going : (talk_to start all (drop (length old.taken) (take ask.0 new.taken))).ending ≡ Going
 
 -- each read that was answered came after the answers
-abbrev pub AsksShown : Standing → Left → Told → Told → Type 0
+abbrev pub AsksShown : EngineState → Supply → Told → Told → Type 0
 AsksShown start all old new = (added : List (ℕ × ℕ)) × (new.asks ≡ old.asks ++ added) × AllByRecursion (Shown start all old new) added
 
 -- the bytes taken are the first of those that were to come, and each read came after the answers
-pub record Course (start : Standing) (all : Left) (old new : Told) : Type 0 where
+pub record Course (start : EngineState) (all : Supply) (old new : Told) : Type 0 where
   pub taken : new.taken ≡ old.taken ++ since old new
   pub moved : old.to_come ≡ since old new ++ new.to_come
   pub asks : AsksShown start all old new
 
 -- the talk over all lines was given, to the end of the input or to an answered quit
-pub record Complete (start : Standing) (all : Left) (limit : ℕ) (old new : Told) : Type 0 where
+pub record Complete (start : EngineState) (all : Supply) (limit : ℕ) (old new : Told) : Type 0 where
   pub in_limit : length (since old new) ≤ limit
   pub given : new.given ≡ old.given ++ (talk start all (lines (since old new))).text
   pub through : IsThrough (talk start all (lines (since old new)))
   pub ended : (new.to_come ≡ []) ⊎ ((talk start all (lines (since old new))).ending ≡ AfterQuit)
 
 -- a read failed: the talk over the whole lines was given
-pub record Unread (start : Standing) (all : Left) (limit : ℕ) (old new : Told) : Type 0 where
+pub record Unread (start : EngineState) (all : Supply) (limit : ℕ) (old new : Told) : Type 0 where
   pub in_limit : length (since old new) ≤ limit
   pub given : new.given ≡ old.given ++ (talk_to start all (since old new)).text
   pub going : (talk_to start all (since old new)).ending ≡ Going
   pub used : (talk_to start all (since old new)).left ≡ nothing_left
 
 -- the archive failed: the talk over all lines was given, and it stopped before a move that wants a turn
-pub record Unarchived (start : Standing) (all : Left) (limit : ℕ) (old new : Told) : Type 0 where
+pub record Unarchived (start : EngineState) (all : Supply) (limit : ℕ) (old new : Told) : Type 0 where
   pub in_limit : length (since old new) ≤ limit
   pub given : new.given ≡ old.given ++ (talk start all (lines (since old new))).text
   pub wants : WantsTurn (talk start all (lines (since old new)))
 
 -- a write failed: a front of the talk was given
-pub record Unwritten (start : Standing) (all : Left) (limit : ℕ) (old new : Told) : Type 0 where
+pub record Unwritten (start : EngineState) (all : Supply) (limit : ℕ) (old new : Told) : Type 0 where
   pub in_limit : length (since old new) ≤ limit
   pub given : (part : List ℕ) × (more : List ℕ) × ((talk start all (lines (since old new))).text ≡ part ++ more) × (new.given ≡ old.given ++ part)
 
 -- the talk over the first m lines was given, and a line more stands there unless nothing was taken
-pub record StopsAt (start : Standing) (all : Left) (old new : Told) (m : ℕ) : Type 0 where
+pub record StopsAt (start : EngineState) (all : Supply) (old new : Told) (m : ℕ) : Type 0 where
   pub given : new.given ≡ old.given ++ (talk start all (take m (lines (since old new)))).text
   pub going : (talk start all (take m (lines (since old new)))).ending ≡ Going
   pub line : (m < length (lines (since old new))) ⊎ (since old new ≡ [])
 
 -- memory ran out at a line, or before the first read: the talk over the lines before it was given
-pub record Unfinished (start : Standing) (all : Left) (limit : ℕ) (old new : Told) : Type 0 where
+pub record Unfinished (start : EngineState) (all : Supply) (limit : ℕ) (old new : Told) : Type 0 where
   pub in_limit : length (since old new) ≤ limit
   pub stops : (m : ℕ) × StopsAt start all old new m
 
 -- one byte more than the limit was taken: the talk over the whole lines up to the limit was given
-pub record Overlong (start : Standing) (all : Left) (limit : ℕ) (old new : Told) : Type 0 where
+pub record Overlong (start : EngineState) (all : Supply) (limit : ℕ) (old new : Told) : Type 0 where
   pub many : length (since old new) ≡ limit + 1
   pub given : new.given ≡ old.given ++ (talk_to start all (take limit (since old new))).text
   pub going : (talk_to start all (take limit (since old new))).ending ≡ Going
   pub used : (talk_to start all (take limit (since old new))).left ≡ nothing_left
 
 -- what stands at each end
-abbrev pub EndsAs : End → Standing → Left → ℕ → Told → Told → Type 0
+abbrev pub EndsAs : End → EngineState → Supply → ℕ → Told → Told → Type 0
 EndsAs Done = Complete
 EndsAs Usage = λ start all limit old new. new ≡ old
 EndsAs ReadFault = Unread
@@ -88,7 +88,7 @@ EndsAs TooLong = Overlong
 EndsAs ArchiveFault = Unarchived
 
 -- a conversation from its first byte to this end, with all this to use up
-pub record Outcome (end : End) (start : Standing) (all : Left) (limit : ℕ) (old new : Told) : Type 0 where
+pub record Outcome (end : End) (start : EngineState) (all : Supply) (limit : ℕ) (old new : Told) : Type 0 where
   pub course : Course start all old new
   pub ends : EndsAs end start all limit old new
 
@@ -105,7 +105,7 @@ IsInVain ArchiveFault in_vain = in_vain ≡ []
 -- A conversation with these options, from an empty board of that size to this end: what it used up from its shelf and for its
 -- archive, each turn of which is good, and what stands where the link tells it.
 pub record Conversed (end : End) (options : Knobs) (size limit : ℕ) (old new : Stock) (link link_now : Option Told) : Type 0 where
-  pub used : Left
+  pub used : Supply
   pub in_vain : List Bool
   pub uses : UsesUp options old new used in_vain
   pub vain : IsInVain end in_vain

@@ -5,8 +5,8 @@ use Rattle.hex_io.specs.Told.{Told}
 use Rattle.hex_io.specs.Grew.{Gave, GavePart}
 use Rattle.htp_line.specs.Lines.{whole, lines}
 use Rattle.htp_line.specs.Splitting.{Held, StandsAfter}
-use Rattle.hex_engine.specs.Standing.{Standing}
-use Rattle.hex_engine.specs.Left.{Left, nothing_left, and_then}
+use Rattle.hex_engine.specs.EngineState.{EngineState}
+use Rattle.hex_engine.specs.Supply.{Supply, nothing_left, and_then}
 use Rattle.hex_engine.specs.Replies.{NoTurn}
 use Rattle.hex_cli.specs.Talk.{Said, Going, AfterQuit, Short, ending_if, talk}
 use Rattle.hex_cli.specs.Stocks.{Stock, UsesUp}
@@ -14,11 +14,11 @@ use Rattle.hex_cli.specs.declared.session.Pause.{Pause}
 use Rattle.hex_cli.specs.declared.session.Pause.TheVariants.{Answered, Quit, Memory, Archive}
 
 -- the talk over the whole lines of a text, with all this to use up
-abbrev pub talk_to : Standing → Left → List ℕ → Said
+abbrev pub talk_to : EngineState → Supply → List ℕ → Said
 talk_to start all seen = talk start all (whole seen)
 
 -- engine and splitter stand after this text, the talk goes on, and this is left to be used up later
-pub record Stands (start : Standing) (all later : Left) (engine : Standing) (held : Held) (seen : List ℕ) : Type 0 where
+pub record Stands (start : EngineState) (all later : Supply) (engine : EngineState) (held : Held) (seen : List ℕ) : Type 0 where
   pub at : engine ≡ (talk_to start all seen).at
   pub left : later ≡ (talk_to start all seen).left
   pub going : (talk_to start all seen).ending ≡ Going
@@ -26,22 +26,22 @@ pub record Stands (start : Standing) (all later : Left) (engine : Standing) (hel
 
 -- What a call did. It used something up, whatever the conversation is and whatever it uses up later; and where engine and
 -- splitter stood after a text before the call, this holds now.
-pub record Does (old new : Stock) (in_vain : List Bool) (engine : Standing) (held : Held) (Now : Standing → Left → Left → List ℕ → Type 0) : Type 0 where
-  pub used : Left
-  pub stood : (start : Standing) → (all later : Left) → (seen : List ℕ) → Stands start all (and_then used later) engine held seen →
+pub record Does (old new : Stock) (in_vain : List Bool) (engine : EngineState) (held : Held) (Now : EngineState → Supply → Supply → List ℕ → Type 0) : Type 0 where
+  pub used : Supply
+  pub stood : (start : EngineState) → (all later : Supply) → (seen : List ℕ) → Stands start all (and_then used later) engine held seen →
       UsesUp start.options old new used in_vain × Now start all later seen
 
 -- the same, where fetches at the end may have come to nothing
-abbrev pub DoesSome : Stock → Stock → Standing → Held → (Standing → Left → Left → List ℕ → Type 0) → Type 0
+abbrev pub DoesSome : Stock → Stock → EngineState → Held → (EngineState → Supply → Supply → List ℕ → Type 0) → Type 0
 DoesSome old new engine held Now = (in_vain : List Bool) × Does old new in_vain engine held Now
 
 -- quit was answered at the end of this text, and this is left
-pub record Quits (start : Standing) (all later : Left) (seen : List ℕ) : Type 0 where
+pub record Quits (start : EngineState) (all later : Supply) (seen : List ℕ) : Type 0 where
   pub ending : (talk_to start all seen).ending ≡ AfterQuit
   pub left : later ≡ (talk_to start all seen).left
 
 -- what stands after up to one line more
-abbrev pub Moves : Bool → Standing → Left → Left → Standing → Held → List ℕ → Type 0
+abbrev pub Moves : Bool → EngineState → Supply → Supply → EngineState → Held → List ℕ → Type 0
 Moves true start all later engine held seen = Quits start all later seen
 Moves false start all later engine held seen = Stands start all later engine held seen
 
@@ -50,7 +50,7 @@ abbrev pub EndsLine : List ℕ → List ℕ → Type 0
 EndsLine seen more = (raw : List ℕ) × (others : List (List ℕ)) × (whole (seen ++ more) ≡ whole seen ++ raw ∷ others)
 
 -- these bytes answer the lines that more bytes ended
-abbrev pub Answers : Standing → Left → List ℕ → List ℕ → List ℕ → Type 0
+abbrev pub Answers : EngineState → Supply → List ℕ → List ℕ → List ℕ → Type 0
 Answers start all bytes seen more = (talk_to start all (seen ++ more)).text ≡ (talk_to start all seen).text ++ bytes
 
 -- the talk wants a turn, and all was used up
@@ -59,16 +59,16 @@ pub record WantsTurn (s : Said) : Type 0 where
   pub left : s.left ≡ nothing_left
 
 -- where nothing is left, these bytes are what more lines are answered before a turn is wanted
-abbrev pub AnswersShort : Standing → Left → Left → List ℕ → List ℕ → List ℕ → Type 0
+abbrev pub AnswersShort : EngineState → Supply → Supply → List ℕ → List ℕ → List ℕ → Type 0
 AnswersShort start all later bytes seen more = later ≡ nothing_left → Answers start all bytes seen more × WantsTurn (talk_to start all (seen ++ more))
 
 -- up to one line more was taken, and this answers it
-pub record Advanced (quit : Bool) (start : Standing) (all later : Left) (engine : Standing) (held : Held) (old_out out seen front : List ℕ) : Type 0 where
+pub record Advanced (quit : Bool) (start : EngineState) (all later : Supply) (engine : EngineState) (held : Held) (old_out out seen front : List ℕ) : Type 0 where
   pub answers : (bytes : List ℕ) × (out ≡ old_out ++ bytes) × Answers start all bytes seen front
   pub moved : Moves quit start all later engine held (seen ++ front)
 
 -- why the answers to this text end where they do
-abbrev pub Pauses : Pause → Standing → Left → Left → Standing → Held → List ℕ → List ℕ → Type 0
+abbrev pub Pauses : Pause → EngineState → Supply → Supply → EngineState → Held → List ℕ → List ℕ → Type 0
 Pauses Answered start all later engine held seen others = Stands start all later engine held seen
 Pauses Quit start all later engine held seen others = Quits start all later seen
 Pauses Memory start all later engine held seen others = ((talk_to start all seen).ending ≡ Going) × EndsLine seen others
@@ -82,34 +82,34 @@ IsVain Memory in_vain = Unit {0}
 IsVain Archive in_vain = in_vain ≡ []
 
 -- the answers to the first bytes of a piece, and why they end there
-pub record Collects (pause : Pause) (start : Standing) (all later : Left) (engine : Standing) (held : Held) (out seen : List ℕ) (used : ℕ) (piece : List ℕ) : Type 0 where
+pub record Collects (pause : Pause) (start : EngineState) (all later : Supply) (engine : EngineState) (held : Held) (out seen : List ℕ) (used : ℕ) (piece : List ℕ) : Type 0 where
   pub answers : Answers start all out seen (take used piece)
   pub paused : Pauses pause start all later engine held (seen ++ take used piece) (drop used piece)
 
 -- all that more bytes ask was answered
-pub record AnswersAll (old new : Option Told) (start : Standing) (all : Left) (seen more : List ℕ) : Type 0 where
+pub record AnswersAll (old new : Option Told) (start : EngineState) (all : Supply) (seen more : List ℕ) : Type 0 where
   pub gave : (bytes : List ℕ) × Gave old new bytes × Answers start all bytes seen more
 
 -- all that a piece asks was answered, and this stands then
-pub record Fed (quit : Bool) (old new : Option Told) (start : Standing) (all later : Left) (engine : Standing) (held : Held) (seen piece : List ℕ) : Type 0 where
+pub record Fed (quit : Bool) (old new : Option Told) (start : EngineState) (all later : Supply) (engine : EngineState) (held : Held) (seen piece : List ℕ) : Type 0 where
   pub answered : AnswersAll old new start all seen piece
   pub moved : Moves quit start all later engine held (seen ++ piece)
 
 -- a front of what a front of more bytes asks was given
-pub record BrokeOff (old new : Option Told) (start : Standing) (all : Left) (seen more : List ℕ) : Type 0 where
+pub record BrokeOff (old new : Option Told) (start : EngineState) (all : Supply) (seen more : List ℕ) : Type 0 where
   pub gave : (front : List ℕ) × (others : List ℕ) × (bytes : List ℕ) × (more ≡ front ++ others) × GavePart old new bytes × Answers start all bytes seen front
 
 -- all that a front of more bytes asks was answered, and nothing else given; a line more stood there
-pub record GaveUp (old new : Option Told) (start : Standing) (all : Left) (seen more : List ℕ) : Type 0 where
+pub record GaveUp (old new : Option Told) (start : EngineState) (all : Supply) (seen more : List ℕ) : Type 0 where
   pub gave : (front : List ℕ) × (others : List ℕ) × (bytes : List ℕ) × (more ≡ front ++ others) × Gave old new bytes × Answers start all bytes seen front
       × ((talk_to start all (seen ++ front)).ending ≡ Going) × EndsLine (seen ++ front) others
 
 -- all that more bytes ask before a turn is wanted was answered, and nothing else given
-pub record HeldBack (old new : Option Told) (start : Standing) (all later : Left) (seen more : List ℕ) : Type 0 where
+pub record HeldBack (old new : Option Told) (start : EngineState) (all later : Supply) (seen more : List ℕ) : Type 0 where
   pub gave : (bytes : List ℕ) × Gave old new bytes × AnswersShort start all later bytes seen more
 
 -- these bytes answer the last line too, where no line feed ends it, and this is left
-pub record AnswersLast (start : Standing) (all later : Left) (bytes seen : List ℕ) : Type 0 where
+pub record AnswersLast (start : EngineState) (all later : Supply) (bytes seen : List ℕ) : Type 0 where
   pub answers : (talk start all (lines seen)).text ≡ (talk_to start all seen).text ++ bytes
   pub ended : (quit : Bool) × ((talk start all (lines seen)).ending ≡ ending_if quit)
   pub left : later ≡ (talk start all (lines seen)).left
@@ -119,13 +119,13 @@ abbrev pub HasLast : List ℕ → Type 0
 HasLast seen = (raw : List ℕ) × (lines seen ≡ whole seen ++ raw ∷ [])
 
 -- where nothing is left, the last line wants a turn
-abbrev pub LastIsShort : Standing → Left → Left → List ℕ → Type 0
+abbrev pub LastIsShort : EngineState → Supply → Supply → List ℕ → Type 0
 LastIsShort start all later seen = later ≡ nothing_left → ((talk start all (lines seen)).text ≡ (talk_to start all seen).text) × WantsTurn (talk start all (lines seen))
 
 -- the last line was answered too
-pub record AnsweredLast (old new : Option Told) (start : Standing) (all later : Left) (seen : List ℕ) : Type 0 where
+pub record AnsweredLast (old new : Option Told) (start : EngineState) (all later : Supply) (seen : List ℕ) : Type 0 where
   pub gave : (bytes : List ℕ) × Gave old new bytes × AnswersLast start all later bytes seen
 
 -- a front of its answer was given
-pub record BrokeOffLast (old new : Option Told) (start : Standing) (all later : Left) (seen : List ℕ) : Type 0 where
+pub record BrokeOffLast (old new : Option Told) (start : EngineState) (all later : Supply) (seen : List ℕ) : Type 0 where
   pub gave : (bytes : List ℕ) × GavePart old new bytes × AnswersLast start all later bytes seen

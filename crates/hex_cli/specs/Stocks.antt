@@ -4,8 +4,8 @@ use Rattle.std.specs.declared.option.Option.{Option}
 use Rattle.hex_io.specs.Shelves.{Shelved}
 use Rattle.tree_words.specs.declared.settings.Knobs.{Knobs}
 use Rattle.hex_plan.specs.Turns.{Decision}
-use Rattle.hex_engine.specs.Standing.{Standing}
-use Rattle.hex_engine.specs.Left.{Left, nothing_left, and_then}
+use Rattle.hex_engine.specs.EngineState.{EngineState}
+use Rattle.hex_engine.specs.Supply.{Supply, nothing_left, and_then}
 use Rattle.hex_engine.specs.Uses.{Uses}
 use Rattle.hex_engine.specs.Replies.{NoTurn}
 use Rattle.htp_line.specs.Reading.{Asked, Ask}
@@ -16,38 +16,38 @@ abbrev pub Stock : Type 0
 Stock = Option Shelved × Option (List Decision)
 
 -- this was used up since, and these fetches at the end came to nothing
-abbrev pub UsesUp : Knobs → Stock → Stock → Left → List Bool → Type 0
+abbrev pub UsesUp : Knobs → Stock → Stock → Supply → List Bool → Type 0
 UsesUp options old new used in_vain = Uses options old.0 new.0 old.1 new.1 used in_vain
 
 -- something was used up, and some fetches at the end came to nothing
 pub record Spends (options : Knobs) (old new : Stock) : Type 0 where
-  pub used : Left
+  pub used : Supply
   pub in_vain : List Bool
   pub uses : UsesUp options old new used in_vain
 
 -- this says so: whatever is left after what was used up, this is said, and the conversation stands here then
-pub record Says (options : Knobs) (old new : Stock) (says : Left → Said) (text : List ℕ) (after : Standing) (quit : Bool) : Type 0 where
-  pub used : Left
+pub record Says (options : Knobs) (old new : Stock) (says : Supply → Said) (text : List ℕ) (after : EngineState) (quit : Bool) : Type 0 where
+  pub used : Supply
   pub uses : UsesUp options old new used []
-  pub is : (later : Left) → says (and_then used later) ≡ record { text = text; at = after; left = later; ending = ending_if quit }
+  pub is : (later : Supply) → says (and_then used later) ≡ record { text = text; at = after; left = later; ending = ending_if quit }
 
 -- a turn is wanted, and nothing was used up
-pub record Wants (options : Knobs) (old new : Stock) (at : Standing) (says : Left → Said) : Type 0 where
+pub record Wants (options : Knobs) (old new : Stock) (at : EngineState) (says : Supply → Said) : Type 0 where
   pub uses : UsesUp options old new nothing_left []
   pub is : says nothing_left ≡ record { text = []; at = at; left = nothing_left; ending = Short NoTurn }
 
 -- a line was answered so
-abbrev pub Responds : Stock → Stock → Standing → Option (List ℕ) → List ℕ → Standing → Bool → Type 0
+abbrev pub Responds : Stock → Stock → EngineState → Option (List ℕ) → List ℕ → EngineState → Bool → Type 0
 Responds old new engine line text after quit = Says engine.options old new (λ left. said engine left line) text after quit
 
 -- a request was answered so
-abbrev pub RespondsTo : Stock → Stock → Standing → Asked → List ℕ → Standing → Bool → Type 0
+abbrev pub RespondsTo : Stock → Stock → EngineState → Asked → List ℕ → EngineState → Bool → Type 0
 RespondsTo old new engine asked text after quit = Says engine.options old new (λ left. said_reading engine left (Ask asked)) text after quit
 
 -- a line wants a turn
-abbrev pub Lacks : Stock → Stock → Standing → Option (List ℕ) → Type 0
+abbrev pub Lacks : Stock → Stock → EngineState → Option (List ℕ) → Type 0
 Lacks old new engine line = Wants engine.options old new engine (λ left. said engine left line)
 
 -- a request wants a turn
-abbrev pub LacksFor : Stock → Stock → Standing → Asked → Type 0
+abbrev pub LacksFor : Stock → Stock → EngineState → Asked → Type 0
 LacksFor old new engine asked = Wants engine.options old new engine (λ left. said_reading engine left (Ask asked))

@@ -3,8 +3,8 @@ use Rattle.std.specs.Prelude.{◌≡◌, ◌≢◌, ℕ, Bool, true, false, List
 use Rattle.htp_line.specs.Reading.{Reading, Blank, Bare, Ask, reading}
 use Rattle.htp_line.specs.Splitting.{kept}
 use Rattle.htp_line.specs.Answering.{success, failure}
-use Rattle.hex_engine.specs.Standing.{Standing}
-use Rattle.hex_engine.specs.Left.{Left, nothing_left}
+use Rattle.hex_engine.specs.EngineState.{EngineState}
+use Rattle.hex_engine.specs.Supply.{Supply, nothing_left}
 use Rattle.hex_engine.specs.Replies.{Reply, Done, Quit, Failed, Turned, Missing, reaction, message}
 
 -- whether a talk goes on, or how it ended
@@ -18,8 +18,8 @@ pub data Ending : Type 0 where
 -- what was said, what the conversation stands at then, and what is left to be used up
 pub record Said : Type 0 where
   pub text : List ℕ
-  pub at : Standing
-  pub left : Left
+  pub at : EngineState
+  pub left : Supply
   pub ending : Ending
 
 abbrev pub reply_text : Option ℕ → Reply → List ℕ
@@ -37,18 +37,18 @@ is_quit Quit = true
 is_quit _ = false
 
 -- what is said to a request
-abbrev pub said_turned : Standing → Left → Option ℕ → Result Turned Missing → Said
+abbrev pub said_turned : EngineState → Supply → Option ℕ → Result Turned Missing → Said
 said_turned at left id (Err missing) = record { text = []; at = at; left = left; ending = Short missing }
 said_turned at left id (Ok t) = record { text = reply_text id t.reply; at = t.after; left = t.left; ending = ending_if (is_quit t.reply) }
 
 -- what is said to a line: nothing to a blank one, and a refusal to an id that stands alone
-abbrev pub said_reading : Standing → Left → Reading → Said
+abbrev pub said_reading : EngineState → Supply → Reading → Said
 said_reading at left Blank = record { text = []; at = at; left = left; ending = Going }
 said_reading at left (Bare id) = record { text = failure (Some id) (codes "syntax error"); at = at; left = left; ending = Going }
 said_reading at left (Ask asked) = said_turned at left asked.id (reaction at left asked)
 
 -- what is said to a line as far as it is kept, which is nothing where the line is too long
-abbrev pub said : Standing → Left → Option (List ℕ) → Said
+abbrev pub said : EngineState → Supply → Option (List ℕ) → Said
 said at left None = record { text = failure None (codes "line too long"); at = at; left = left; ending = Going }
 said at left (Some raw) = said_reading at left (reading raw)
 
@@ -64,11 +64,11 @@ goes_on (Short missing) = false
 unfoldable pub step : Said → List ℕ → Said
 step so_far raw = if goes_on so_far.ending then with_said so_far (said so_far.at so_far.left (kept raw)) else so_far
 
-abbrev pub silence : Standing → Left → Said
+abbrev pub silence : EngineState → Supply → Said
 silence start left = record { text = []; at = start; left = left; ending = Going }
 
 -- the talk over these lines, from where the conversation stands at its start and with this left to be used up
-abbrev pub talk : Standing → Left → List (List ℕ) → Said
+abbrev pub talk : EngineState → Supply → List (List ℕ) → Said
 talk start left lines = fold step (silence start left) lines
 
 -- no request wanted what was not there

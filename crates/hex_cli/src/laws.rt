@@ -9,16 +9,16 @@ ghost use Rattle.hex_plan.specs.Good.{IsGood};
 ghost use Rattle.hex_plan.specs.Turns.{Decision};
 ghost use Rattle.hex_engine.specs.Replies.{is_next};
 ghost use Rattle.hex_io.specs.declared.files.File.{File};
-ghost use Rattle.hex_engine.specs.Standing.{Standing};
-ghost use Rattle.hex_engine.specs.Left.{Left, and_then};
+ghost use Rattle.hex_engine.specs.EngineState.{EngineState};
+ghost use Rattle.hex_engine.specs.Supply.{Supply, and_then};
 ghost use Rattle.hex_engine.specs.Uses.{AreGood, CameOf};
 ghost use Rattle.hex_cli.specs.Talk.{IsAnswered, IsThrough, talk};
-ghost use Rattle.hex_cli.specs.Left.{said_with_more};
+ghost use Rattle.hex_cli.specs.Supply.{said_with_more};
 
 /// More at the end of what a conversation has left to use up changes nothing of a talk that was not
 /// short. So a talk over what was used up so far stays true whatever is used up later.
 pub fn more_left_is_not_used()
-    ensures { (start : Standing) → (left more : Left) → (lines : List (List ℕ)) → IsAnswered (talk start left lines) →
+    ensures { (start : EngineState) → (left more : Supply) → (lines : List (List ℕ)) → IsAnswered (talk start left lines) →
         talk start (and_then left more) lines ≡ said_with_more (talk start left lines) more }
 {}
 
@@ -26,11 +26,11 @@ pub fn more_left_is_not_used()
 /// good turns its moves used up: two talks that were answered say the same and stand at the same then,
 /// and two that are through are the same in all.
 pub fn one_worker_is_determined()
-    ensures answered { (start : Standing) → start.options.workers ≡ 1 → (one other : Left) → one.loads ≡ other.loads →
+    ensures answered { (start : EngineState) → start.options.workers ≡ 1 → (one other : Supply) → one.loads ≡ other.loads →
         AreGood start.options one.turns → AreGood start.options other.turns → (lines : List (List ℕ)) →
         IsAnswered (talk start one lines) → IsAnswered (talk start other lines) →
         ((talk start one lines).text ≡ (talk start other lines).text) × ((talk start one lines).at ≡ (talk start other lines).at) }
-    ensures through { (start : Standing) → start.options.workers ≡ 1 → (one other : Left) → one.loads ≡ other.loads →
+    ensures through { (start : EngineState) → start.options.workers ≡ 1 → (one other : Supply) → one.loads ≡ other.loads →
         AreGood start.options one.turns → AreGood start.options other.turns → (lines : List (List ℕ)) →
         IsThrough (talk start one lines) → IsThrough (talk start other lines) → talk start one lines ≡ talk start other lines }
 {}
@@ -41,13 +41,13 @@ pub fn one_worker_is_determined()
 /// say the same and stand at the same then, where they were answered; where they are through, they are
 /// the same in all.
 pub fn one_worker_and_one_shelf_determine()
-    ensures answered { (start : Standing) → start.options.workers ≡ 1 → (files : List File) → (tries : List Bool) →
-        (one other : Left) → CameOf files tries one.loads → CameOf files tries other.loads →
+    ensures answered { (start : EngineState) → start.options.workers ≡ 1 → (files : List File) → (tries : List Bool) →
+        (one other : Supply) → CameOf files tries one.loads → CameOf files tries other.loads →
         AreGood start.options one.turns → AreGood start.options other.turns → (lines : List (List ℕ)) →
         IsAnswered (talk start one lines) → IsAnswered (talk start other lines) →
         ((talk start one lines).text ≡ (talk start other lines).text) × ((talk start one lines).at ≡ (talk start other lines).at) }
-    ensures through { (start : Standing) → start.options.workers ≡ 1 → (files : List File) → (tries : List Bool) →
-        (one other : Left) → CameOf files tries one.loads → CameOf files tries other.loads →
+    ensures through { (start : EngineState) → start.options.workers ≡ 1 → (files : List File) → (tries : List Bool) →
+        (one other : Supply) → CameOf files tries one.loads → CameOf files tries other.loads →
         AreGood start.options one.turns → AreGood start.options other.turns → (lines : List (List ℕ)) →
         IsThrough (talk start one lines) → IsThrough (talk start other lines) → talk start one lines ≡ talk start other lines }
 {}
@@ -55,6 +55,6 @@ pub fn one_worker_and_one_shelf_determine()
 /// Each searched move is legal where a talk plays it: where a good turn is a conversation's next, a
 /// stone of the colour asked on the turn's cell is a legal step of its game.
 pub fn searched_moves_are_legal()
-    ensures { (at : Standing) → (colour : Colour) → (turn : Decision) → IsGood at.options turn → is_next at colour turn ≡ true →
+    ensures { (at : EngineState) → (colour : Colour) → (turn : Decision) → IsGood at.options turn → is_next at colour turn ≡ true →
         is_legal at.game (step_of colour (Stone turn.cell)) ≡ true }
 {}

@@ -5,8 +5,8 @@ ghost use Rattle.htp_line.specs.Splitting.{what_of};
 ghost use Rattle.hex_io.specs.Causes.{Rose};
 ghost use Rattle.hex_io.specs.Told.{Same};
 ghost use Rattle.tree_words.specs.Settings.{AreInRange};
-ghost use Rattle.hex_engine.specs.Standing.{opening};
-ghost use Rattle.hex_engine.specs.Left.{Left, nothing_left};
+ghost use Rattle.hex_engine.specs.EngineState.{opening};
+ghost use Rattle.hex_engine.specs.Supply.{Supply, nothing_left};
 ghost use Rattle.hex_cli.specs.Stocks.{Responds, Lacks, Spends};
 ghost use Rattle.hex_cli.specs.Sessions.{Does, DoesSome};
 
@@ -68,7 +68,7 @@ impl Session {
     /// A session before its first byte. The options are those of its searches.
     pub fn make(alloc: Global, options: &Knobs, size: Size) -> Result<Session, Memory>
         requires { AreInRange options.now }
-        ensures stands { IfOk result (λ s. (later : Left) → Stands (opening options.now size) later later s.engine s.splitter []) }
+        ensures stands { IfOk result (λ s. (later : Supply) → Stands (opening options.now size) later later s.engine s.splitter []) }
     {
         // No connections are looked for yet, whatever the words say.
         let options = Options {

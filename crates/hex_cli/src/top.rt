@@ -9,6 +9,7 @@ ghost use Rattle.hexd_words.specs.Values as value;
 ghost use Rattle.hexd_words.specs.declared.settings.Options.{Options};
 ghost use Rattle.hex_cli.specs.Errors.{Reported};
 ghost use Rattle.hex_cli.specs.Outcome.{Conversed, since, status_of, error_line};
+ghost use Rattle.hex_cli.specs.Determined.{IsDetermined};
 ghost use Rattle.hex_cli.specs.Runs.{AreRefused, Untouched, Unused, knobs_of};
 ghost use Rattle.hex_cli.specs.declared.ends.End.{End};
 
@@ -64,6 +65,11 @@ pub fn run<L: Link, E: Link, F: Shelf, A: Archive>(
     // What was taken and given, and when, where the link tells it; and what was used up from the shelf and for the archive.
     ensures conversed { (options : Options) → WellFormed words.now options → (end : End) → result ≡ status_of end →
         Conversed end (knobs_of options) options.size INPUT_LIMIT (F.told shelf.old, A.told archive.old) (F.told shelf.new, A.told archive.new) (L.told link.old) (L.told link.new) }
+
+    // With one worker the words, the bytes taken and the shelf determine what was given.
+    ensures determined { (options : Options) → WellFormed words.now options → result ≡ status_of End.Done →
+        Both (F.told shelf.old) (F.told shelf.new) (λ files files_now. Both (L.told link.old) (L.told link.new) (λ old new.
+        IsDetermined (knobs_of options) options.size files files_now old new)) }
 
     // The causes.
     ensures read_fault { result ≡ status_of End.ReadFault → Rose (L.read_faults link.old) (L.read_faults link.new) }

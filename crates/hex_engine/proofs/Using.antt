@@ -11,8 +11,8 @@ use Rattle.hex_engine.specs.declared.commands.Command.TheVariants.{BoardSize, Cl
 use Rattle.hex_engine.specs.Commands.{command_named}
 use Rattle.htp_line.specs.Reading.{Asked}
 use Rattle.std.proofs.lemmas.Bool.{and_parts, true≢false}
-use Rattle.hex_engine.specs.Standing.{Standing}
-use Rattle.hex_engine.specs.Left.{Left, Loaded, nothing_left, loads_only, turns_only, and_then}
+use Rattle.hex_engine.specs.EngineState.{EngineState}
+use Rattle.hex_engine.specs.Supply.{Supply, Loaded, nothing_left, loads_only, turns_only, and_then}
 use Rattle.hex_engine.specs.Uses.{IsLoadOf, Fetches, Loading, Moving, Uses}
 use Rattle.hex_engine.specs.Replies.{Failed as FailedReply, Reaction, Reacts, NoLoad, NoTurn, replied, stays, unused, loaded, loading, loading_by, file_named, lone_colour, Turned, Missing, reaction, reaction_by, obeyed, uses_up, is_next, turned, moving, moving_by, moving_next}
 use Rattle.hex_engine.specs.declared.answers.Answer.{Answer}
@@ -67,30 +67,30 @@ pub uses_nothing : (options : Knobs) (shelf : Option Shelved) (archive : Option 
 uses_nothing options shelf archive = record { loading = unfetched shelf; moving = nothing_moved options archive }
 
 -- a file of this name came to this
-pub loads_reply : (s : Standing) (name : List ℕ) (what : Loaded) (args : List (List ℕ)) → file_named args ≡ Some name
-    → (later : Left) → loading s (and_then (loads_only (record { name = name; what = what } ∷ [])) later) args ≡ unused later (loaded s what)
+pub loads_reply : (s : EngineState) (name : List ℕ) (what : Loaded) (args : List (List ℕ)) → file_named args ≡ Some name
+    → (later : Supply) → loading s (and_then (loads_only (record { name = name; what = what } ∷ [])) later) args ≡ unused later (loaded s what)
 loads_reply s name what args e later =
     ap (loading_by s (and_then (loads_only (record { name = name; what = what } ∷ [])) later)) e
     ∙ ap (λ b. cond b (unused later (loaded s what)) (Err NoLoad)) (same_name name)
 
-pub over_reply : (s : Standing) (colour : Colour) (args : List (List ℕ)) → lone_colour args ≡ Some colour → may_move (board_of s.game) ≡ false
-    → (later : Left) → moving s later args ≡ unused later (stays s (FailedReply Over))
+pub over_reply : (s : EngineState) (colour : Colour) (args : List (List ℕ)) → lone_colour args ≡ Some colour → may_move (board_of s.game) ≡ false
+    → (later : Supply) → moving s later args ≡ unused later (stays s (FailedReply Over))
 over_reply s colour args e f later =
     ap (moving_by s later) e ∙ ap (λ b. cond b (moving_next s later later.turns colour) (unused later (stays s (FailedReply Over)))) f
 
-pub moved_reply : (s : Standing) (colour : Colour) (turn : Decision) (args : List (List ℕ)) → lone_colour args ≡ Some colour → may_move (board_of s.game) ≡ true → is_next s colour turn ≡ true
-    → (later : Left) → moving s (and_then (turns_only (turn ∷ [])) later) args ≡ unused later (turned s colour turn)
+pub moved_reply : (s : EngineState) (colour : Colour) (turn : Decision) (args : List (List ℕ)) → lone_colour args ≡ Some colour → may_move (board_of s.game) ≡ true → is_next s colour turn ≡ true
+    → (later : Supply) → moving s (and_then (turns_only (turn ∷ [])) later) args ≡ unused later (turned s colour turn)
 moved_reply s colour turn args e f n later =
-    let left : Left = and_then (turns_only (turn ∷ [])) later in
+    let left : Supply = and_then (turns_only (turn ∷ [])) later in
     ap (moving_by s left) e ∙ ap (λ b. cond b (moving_next s left left.turns colour) (unused left (stays s (FailedReply Over)))) f
     ∙ ap (λ b. cond b (unused later (turned s colour turn)) (Err NoTurn)) n
 
-pub wants_reply : (s : Standing) (colour : Colour) (args : List (List ℕ)) → lone_colour args ≡ Some colour → may_move (board_of s.game) ≡ true → moving s nothing_left args ≡ Err NoTurn
+pub wants_reply : (s : EngineState) (colour : Colour) (args : List (List ℕ)) → lone_colour args ≡ Some colour → may_move (board_of s.game) ≡ true → moving s nothing_left args ≡ Err NoTurn
 wants_reply s colour args e f =
     ap (moving_by s nothing_left) e ∙ ap (λ b. cond b (moving_next s nothing_left [] colour) (unused nothing_left (stays s (FailedReply Over)))) f
 
 -- the reaction that this answer gives
-pub reacts_reply : (r : Reaction) (answer : Answer) (after : Standing) (later : Left) → Reacts r answer after → unused later r ≡ Ok (record { reply = replied answer; after = after; left = later })
+pub reacts_reply : (r : Reaction) (answer : Answer) (after : EngineState) (later : Supply) → Reacts r answer after → unused later r ≡ Ok (record { reply = replied answer; after = after; left = later })
 reacts_reply r answer after later e = ap (unused later) (sym e)
 
 pub nobody_joined : (p : Position) → may_move p ≡ true → winner_of p ≡ None
@@ -103,22 +103,22 @@ nobody_joined p e = nobody (winner_of p) (and_parts _ _ e).0
 pub has_empty : (p : Position) → may_move p ≡ true → (k : ℕ) × (is_empty_at p k ≡ true)
 has_empty p e = empty_in p (and_parts _ _ e).1
 
-pub unknown_reply : (s : Standing) (left : Left) (asked : Asked) (name : List ℕ) → name ≡ asked.name → command_named name ≡ None → reaction s left asked ≡ unused left (stays s (FailedReply UnknownCommand))
+pub unknown_reply : (s : EngineState) (left : Supply) (asked : Asked) (name : List ℕ) → name ≡ asked.name → command_named name ≡ None → reaction s left asked ≡ unused left (stays s (FailedReply UnknownCommand))
 unfolding reaction
 unknown_reply s left asked name is e = ap (λ n. reaction_by s left (command_named n) asked.args) (sym is) ∙ ap (λ k. reaction_by s left k asked.args) e
 
 -- a request for this command is answered as the command says
-pub known_reply : (s : Standing) (left : Left) (asked : Asked) (name : List ℕ) (args : List (List ℕ)) (command : Command) (t : Result Turned Missing)
+pub known_reply : (s : EngineState) (left : Supply) (asked : Asked) (name : List ℕ) (args : List (List ℕ)) (command : Command) (t : Result Turned Missing)
     → name ≡ asked.name → args ≡ asked.args → command_named name ≡ Some command → obeyed s left command args ≡ t → reaction s left asked ≡ t
 unfolding reaction
 known_reply s left asked name args command t is are e h =
     ap (λ n. reaction_by s left (command_named n) asked.args) (sym is) ∙ ap (λ k. reaction_by s left k asked.args) e ∙ ap (obeyed s left command) (sym are) ∙ h
 
-pub obeyed_load : (s : Standing) (left : Left) (command : Command) (args : List (List ℕ)) → command ≡ LoadSgf → obeyed s left command args ≡ loading s left args
+pub obeyed_load : (s : EngineState) (left : Supply) (command : Command) (args : List (List ℕ)) → command ≡ LoadSgf → obeyed s left command args ≡ loading s left args
 unfolding obeyed
 obeyed_load s left command args e = ap (λ k. obeyed s left k args) e
 
-pub obeyed_move : (s : Standing) (left : Left) (command : Command) (args : List (List ℕ)) → uses_up command ≡ true → (command ≡ LoadSgf → ⊥) → obeyed s left command args ≡ moving s left args
+pub obeyed_move : (s : EngineState) (left : Supply) (command : Command) (args : List (List ℕ)) → uses_up command ≡ true → (command ≡ LoadSgf → ⊥) → obeyed s left command args ≡ moving s left args
 unfolding obeyed
 obeyed_move s left GenMove args e never = refl
 obeyed_move s left LoadSgf args e never = absurd (never refl)

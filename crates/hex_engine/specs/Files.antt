@@ -1,5 +1,5 @@
 -- What comes of a file, as the code has it.
-use Rattle.hex_engine.specs.Left.{Loaded, Unread, Refused, Loads}
+use Rattle.hex_engine.specs.Supply.{Loaded, Unread, Refused, Loads}
 use Rattle.hex_engine.specs.declared.files.File.{File}
 use Rattle.hex_engine.specs.declared.files.File.TheVariants as file
 

@@ -1,8 +1,8 @@
 pub mod Commands
 pub mod Forms
 pub mod Picture
-pub mod Standing
-pub mod Left
+pub mod EngineState
+pub mod Supply
 pub mod Uses
 pub mod Report
 pub mod Replies

@@ -20,8 +20,8 @@ use Rattle.hex_engine.specs.Commands.{command_named, all_names}
 use Rattle.hex_engine.specs.Forms.{colour_of, move_of, sizes_of}
 use Rattle.hex_engine.specs.Picture.{picture}
 use Rattle.hex_engine.specs.Report.{report_of}
-use Rattle.hex_engine.specs.Standing.{Standing, emptied}
-use Rattle.hex_engine.specs.Left.{Loaded, Unread, Refused, Loads, Load, Left, and_then}
+use Rattle.hex_engine.specs.EngineState.{EngineState, emptied}
+use Rattle.hex_engine.specs.Supply.{Loaded, Unread, Refused, Loads, Load, Supply, and_then}
 use Rattle.hex_engine.specs.declared.commands.Command.{Command}
 use Rattle.hex_engine.specs.declared.commands.Command.TheVariants as command
 use Rattle.hex_engine.specs.declared.forms.MoveWord.{MoveWord}
@@ -40,13 +40,13 @@ pub data Reply : Type 0 where
 
 pub record Reaction : Type 0 where
   pub reply : Reply
-  pub after : Standing
+  pub after : EngineState
 
 -- a reaction, and what is left to be used up then
 pub record Turned : Type 0 where
   pub reply : Reply
-  pub after : Standing
-  pub left : Left
+  pub after : EngineState
+  pub left : Supply
 
 abbrev pub message : Fail → List ℕ
 message UnknownCommand = codes "unknown command"
@@ -60,15 +60,15 @@ message ReadFault = codes "read fault"
 message NoSearch = codes "no search"
 
 -- an answer after which all stands as before
-abbrev pub stays : Standing → Reply → Reaction
+abbrev pub stays : EngineState → Reply → Reaction
 stays standing reply = record { reply = reply; after = standing }
 
 -- a success without text, after which this stands
-abbrev pub moves_on : Standing → Reaction
+abbrev pub moves_on : EngineState → Reaction
 moves_on standing = record { reply = Done []; after = standing }
 
 -- for a command that takes no argument
-abbrev pub if_bare : Standing → List (List ℕ) → Reaction → Reaction
+abbrev pub if_bare : EngineState → List (List ℕ) → Reaction → Reaction
 if_bare standing [] reaction = reaction
 if_bare standing (word ∷ words) reaction = stays standing (Failed Syntax)
 
@@ -76,28 +76,28 @@ if_bare standing (word ∷ words) reaction = stays standing (Failed Syntax)
 abbrev pub is_size : ℕ → ℕ → Bool
 is_size columns rows = (columns == rows) && (nat_le 1 columns && nat_le columns 11)
 
-abbrev pub resized : Standing → Option (ℕ × ℕ) → Reaction
+abbrev pub resized : EngineState → Option (ℕ × ℕ) → Reaction
 resized standing None = stays standing (Failed Syntax)
 resized standing (Some sizes) = if is_size sizes.0 sizes.1 then moves_on (emptied standing sizes.0) else stays standing (Failed Size)
 
-abbrev pub played : Standing → Colour → MoveWord → Reaction
+abbrev pub played : EngineState → Colour → MoveWord → Reaction
 played standing colour Formless = stays standing (Failed Syntax)
 played standing colour OffBoard = stays standing (Failed Illegal)
 played standing colour (Says what) =
     if is_legal standing.game (step_of colour what) then moves_on (record standing { game = with_step standing.game (step_of colour what) })
     else stays standing (Failed Illegal)
 
-abbrev pub played_by : Standing → Option Colour → MoveWord → Reaction
+abbrev pub played_by : EngineState → Option Colour → MoveWord → Reaction
 played_by standing None what = stays standing (Failed Syntax)
 played_by standing (Some colour) what = played standing colour what
 
-abbrev pub playing : Standing → List (List ℕ) → Reaction
+abbrev pub playing : EngineState → List (List ℕ) → Reaction
 playing standing [] = stays standing (Failed Syntax)
 playing standing (colour ∷ []) = stays standing (Failed Syntax)
 playing standing (colour ∷ what ∷ []) = played_by standing (colour_of colour) (move_of (board_of standing.game).size what)
 playing standing (colour ∷ what ∷ word ∷ words) = stays standing (Failed Syntax)
 
-abbrev pub undone : Standing → List Step → Reaction
+abbrev pub undone : EngineState → List Step → Reaction
 undone standing [] = stays standing (Failed NoUndo)
 undone standing (step ∷ steps) = moves_on (record standing { game = without_last standing.game })
 
@@ -105,7 +105,7 @@ abbrev pub truth : Bool → List ℕ
 truth true = codes "true"
 truth false = codes "false"
 
-abbrev pub knowing : Standing → List (List ℕ) → Reaction
+abbrev pub knowing : EngineState → List (List ℕ) → Reaction
 knowing standing [] = stays standing (Failed Syntax)
 knowing standing (word ∷ []) = stays standing (Done (truth (is_some (command_named word))))
 knowing standing (word ∷ other ∷ words) = stays standing (Failed Syntax)
@@ -121,17 +121,17 @@ pub data Missing : Type 0 where
   NoTurn : Missing
 
 -- nothing is used up
-abbrev pub unused : Left → Reaction → Result Turned Missing
+abbrev pub unused : Supply → Reaction → Result Turned Missing
 unused left r = Ok (record { reply = r.reply; after = r.after; left = left })
 
 -- what stands after a file came to this
-abbrev pub loaded : Standing → Loaded → Reaction
+abbrev pub loaded : EngineState → Loaded → Reaction
 loaded standing Unread = stays standing (Failed ReadFault)
 loaded standing Refused = stays standing (Failed fail.NoLoad)
 loaded standing (Loads game) = moves_on (record standing { game = game })
 
 -- the next load is used up, which has to be of this name
-abbrev pub loading_next : Standing → Left → List Load → List ℕ → Result Turned Missing
+abbrev pub loading_next : EngineState → Supply → List Load → List ℕ → Result Turned Missing
 loading_next standing left [] name = Err NoLoad
 loading_next standing left (load ∷ loads) name =
     if bytes_eq load.name name then unused (record left { loads = loads }) (loaded standing load.what) else Err NoLoad
@@ -142,23 +142,23 @@ file_named [] = None
 file_named (name ∷ []) = if is_utf8 name then Some name else None
 file_named (name ∷ word ∷ words) = None
 
-abbrev pub loading_by : Standing → Left → Option (List ℕ) → Result Turned Missing
+abbrev pub loading_by : EngineState → Supply → Option (List ℕ) → Result Turned Missing
 loading_by standing left None = unused left (stays standing (Failed Syntax))
 loading_by standing left (Some name) = loading_next standing left left.loads name
 
-abbrev pub loading : Standing → Left → List (List ℕ) → Result Turned Missing
+abbrev pub loading : EngineState → Supply → List (List ℕ) → Result Turned Missing
 loading standing left args = loading_by standing left (file_named args)
 
 abbrev pub is_board : Position → Position → Bool
 is_board a b = (a.size == b.size) && ((a.black == b.black) && (a.white == b.white))
 
 -- the turn is this conversation's next: it has the board of the game, this colour, and the number of turns before it
-abbrev pub is_next : Standing → Colour → Decision → Bool
+abbrev pub is_next : EngineState → Colour → Decision → Bool
 is_next standing colour turn =
     is_board turn.board (board_of standing.game) && (is_same turn.player colour && (turn.number == standing.turns))
 
 -- the turn's cell is played and answered, and the turn is the last one
-abbrev pub turned : Standing → Colour → Decision → Reaction
+abbrev pub turned : EngineState → Colour → Decision → Reaction
 turned standing colour turn = record {
   reply = Done (vertex_of (board_of standing.game).size turn.cell);
   after = record standing {
@@ -169,12 +169,12 @@ turned standing colour turn = record {
 }
 
 -- the next turn is used up
-abbrev pub moving_next : Standing → Left → List Decision → Colour → Result Turned Missing
+abbrev pub moving_next : EngineState → Supply → List Decision → Colour → Result Turned Missing
 moving_next standing left [] colour = Err NoTurn
 moving_next standing left (turn ∷ turns) colour =
     if is_next standing colour turn then unused (record left { turns = turns }) (turned standing colour turn) else Err NoTurn
 
-abbrev pub moving_by : Standing → Left → Option Colour → Result Turned Missing
+abbrev pub moving_by : EngineState → Supply → Option Colour → Result Turned Missing
 moving_by standing left None = unused left (stays standing (Failed Syntax))
 moving_by standing left (Some colour) =
     if may_move (board_of standing.game) then moving_next standing left left.turns colour else unused left (stays standing (Failed Over))
@@ -185,15 +185,15 @@ lone_colour [] = None
 lone_colour (word ∷ []) = colour_of word
 lone_colour (word ∷ other ∷ words) = None
 
-abbrev pub moving : Standing → Left → List (List ℕ) → Result Turned Missing
+abbrev pub moving : EngineState → Supply → List (List ℕ) → Result Turned Missing
 moving standing left args = moving_by standing left (lone_colour args)
 
-abbrev pub reporting : Standing → Option (List ℕ) → Reaction
+abbrev pub reporting : EngineState → Option (List ℕ) → Reaction
 reporting standing None = stays standing (Failed NoSearch)
 reporting standing (Some text) = stays standing (Done text)
 
 -- what a command with these arguments does to a conversation
-unfoldable pub obeyed : Standing → Left → Command → List (List ℕ) → Result Turned Missing
+unfoldable pub obeyed : EngineState → Supply → Command → List (List ℕ) → Result Turned Missing
 obeyed standing left command.BoardSize args = unused left (resized standing (sizes_of args))
 obeyed standing left command.ClearBoard args = unused left (if_bare standing args (moves_on (emptied standing (board_of standing.game).size)))
 obeyed standing left command.GenMove args = moving standing left args
@@ -211,12 +211,12 @@ obeyed standing left command.Undo args = unused left (if_bare standing args (und
 obeyed standing left command.Version args = unused left (if_bare standing args (stays standing (Done (codes "1.0"))))
 obeyed standing left command.Winner args = unused left (if_bare standing args (stays standing (Done (winner_text (winner_of (board_of standing.game))))))
 
-abbrev pub reaction_by : Standing → Left → Option Command → List (List ℕ) → Result Turned Missing
+abbrev pub reaction_by : EngineState → Supply → Option Command → List (List ℕ) → Result Turned Missing
 reaction_by standing left None args = unused left (stays standing (Failed UnknownCommand))
 reaction_by standing left (Some command) args = obeyed standing left command args
 
 -- what answers a request, or what it wants that is not there
-unfoldable pub reaction : Standing → Left → Asked → Result Turned Missing
+unfoldable pub reaction : EngineState → Supply → Asked → Result Turned Missing
 reaction standing left asked = reaction_by standing left (command_named asked.name) asked.args
 
 -- an answer, as a reply
@@ -226,7 +226,7 @@ replied answer.Quit = Quit
 replied (answer.Fail fail) = Failed fail
 
 -- this answer, and what stands after it, are the reaction
-abbrev pub Reacts : Reaction → Answer → Standing → Type 0
+abbrev pub Reacts : Reaction → Answer → EngineState → Type 0
 Reacts reaction answer after = record { reply = replied answer; after = after } ≡ reaction
 
 -- the command needs what the conversation has left: a file, or a turn
@@ -236,15 +236,15 @@ uses_up command.LoadSgf = true
 uses_up _ = false
 
 -- the answer to a command that uses nothing up, and what stands after it; there is none where the command uses something up
-abbrev pub Obeys : Standing → Command → List (List ℕ) → Option Answer → Standing → Type 0
+abbrev pub Obeys : EngineState → Command → List (List ℕ) → Option Answer → EngineState → Type 0
 Obeys standing command args None after = (uses_up command ≡ true) × (after ≡ standing)
 Obeys standing command args (Some answer) after =
-    (uses_up command ≡ false) × ((left : Left) → obeyed standing left command args ≡ Ok (record { reply = replied answer; after = after; left = left }))
+    (uses_up command ≡ false) × ((left : Supply) → obeyed standing left command args ≡ Ok (record { reply = replied answer; after = after; left = left }))
 
 -- This answer, and what stands after it, are what these uses gave, whatever is left then.
-abbrev pub Gives : (Left → Result Turned Missing) → Left → Answer → Standing → Type 0
-Gives react used answer after = (later : Left) → react (and_then used later) ≡ Ok (record { reply = replied answer; after = after; left = later })
+abbrev pub Gives : (Supply → Result Turned Missing) → Supply → Answer → EngineState → Type 0
+Gives react used answer after = (later : Supply) → react (and_then used later) ≡ Ok (record { reply = replied answer; after = after; left = later })
 
 -- the answer to a request that used this up, and what stands after it
-abbrev pub Answers : Standing → Left → Asked → Answer → Standing → Type 0
+abbrev pub Answers : EngineState → Supply → Asked → Answer → EngineState → Type 0
 Answers standing used asked answer after = Gives (λ left. reaction standing left asked) used answer after

@@ -3,7 +3,7 @@ use Rattle.std.specs.Prelude.{◌≡◌, ◌≤◌, ℕ, Bool, List, [], ◌∷�
 use Rattle.hex_io.specs.Told.{Both}
 use Rattle.hex_io.specs.declared.files.File.{File}
 use Rattle.hex_io.specs.Shelves.{Shelved, Fetched, Failed, Missing, Long, Held, fetched_of}
-use Rattle.hex_game.specs.Games.{Played}
+use Rattle.hex_game.specs.Games.{GameData}
 use Rattle.sgf_tree.specs.Trees.{GameTrees, depth}
 use Rattle.sgf_tree.specs.Grammar.{Text}
 use Rattle.sgf_tree.specs.Printing.{max_depth}
@@ -11,10 +11,10 @@ use Rattle.sgf_game.specs.GameOf.{game_of}
 use Rattle.tree_words.specs.declared.settings.Knobs.{Knobs}
 use Rattle.hex_plan.specs.Turns.{Decision}
 use Rattle.hex_plan.specs.Good.{IsGood}
-use Rattle.hex_engine.specs.Left.{Loaded, Unread, Refused, Loads, Load, Left}
+use Rattle.hex_engine.specs.Supply.{Loaded, Unread, Refused, Loads, Load, Supply}
 
 -- the bytes are a record of the game: a text of trees that nest no deeper than is read, whose game it is
-pub record IsRecordOf (bytes : List ℕ) (game : Played) : Type 0 where
+pub record IsRecordOf (bytes : List ℕ) (game : GameData) : Type 0 where
   pub trees : GameTrees
   pub text : Text trees bytes
   pub shallow : depth trees ≤ max_depth
@@ -23,7 +23,7 @@ pub record IsRecordOf (bytes : List ℕ) (game : Played) : Type 0 where
 -- what comes of bytes: the game of which they are a record, or, where there is none, a refusal
 abbrev pub IsReadAs : List ℕ → Loaded → Type 0
 IsReadAs bytes Unread = ⊥
-IsReadAs bytes Refused = (game : Played) → ¬ IsRecordOf bytes game
+IsReadAs bytes Refused = (game : GameData) → ¬ IsRecordOf bytes game
 IsReadAs bytes (Loads game) = IsRecordOf bytes game
 
 -- what comes of a file of which a fetch came to this
@@ -47,7 +47,7 @@ pub record Fetches (old new : Shelved) (loads : List Load) (in_vain : List Bool)
   pub came : CameOf old.files tries loads
 
 -- the same, where the shelf tells it
-abbrev pub Loading : Option Shelved → Option Shelved → Left → List Bool → Type 0
+abbrev pub Loading : Option Shelved → Option Shelved → Supply → List Bool → Type 0
 Loading old new used in_vain = Both old new (λ o n. Fetches o n used.loads in_vain)
 
 -- each of these turns is good
@@ -56,11 +56,11 @@ AreGood options [] = Unit {0}
 AreGood options (turn ∷ turns) = IsGood options turn × AreGood options turns
 
 -- the archive, where it tells it, took these turns, and each is good
-pub record Moving (options : Knobs) (old new : Option (List Decision)) (used : Left) : Type 0 where
+pub record Moving (options : Knobs) (old new : Option (List Decision)) (used : Supply) : Type 0 where
   pub took : Both old new (λ o n. n ≡ o ++ used.turns)
   pub good : AreGood options used.turns
 
 -- This was used up since: its loads came of the shelf's fetches, and its turns were taken by the archive.
-pub record Uses (options : Knobs) (shelf shelf_now : Option Shelved) (archive archive_now : Option (List Decision)) (used : Left) (in_vain : List Bool) : Type 0 where
+pub record Uses (options : Knobs) (shelf shelf_now : Option Shelved) (archive archive_now : Option (List Decision)) (used : Supply) (in_vain : List Bool) : Type 0 where
   pub loading : Loading shelf shelf_now used in_vain
   pub moving : Moving options archive archive_now used

@@ -2,10 +2,10 @@
 
 ghost use Rattle.std.specs.Prelude.{◌≡◌, ◌≤◌, ℕ, Bool, List, [], ◌∷◌, IfOk, OnErr, Some};
 ghost use Rattle.hex_io.specs.Causes.{Rose};
-ghost use Rattle.hex_game.specs.Games.{Played};
+ghost use Rattle.hex_game.specs.Games.{GameData};
 ghost use Rattle.sgf_tree.specs.Printing.{trees_print};
 ghost use Rattle.sgf_game.specs.Record.{record_of};
-ghost use Rattle.hex_engine.specs.Left.{nothing_left, loads_only};
+ghost use Rattle.hex_engine.specs.Supply.{nothing_left, loads_only};
 ghost use Rattle.hex_engine.specs.Uses.{IsReadAs, Loading};
 ghost use Rattle.hex_engine.specs.Files.{came_to};
 

@@ -14,8 +14,8 @@ ghost use Rattle.tree_words.specs.Settings.{AreInRange};
 ghost use Rattle.hex_engine.specs.Commands.{all_names};
 ghost use Rattle.hex_engine.specs.Forms.{sizes_of, IsSaidOf};
 ghost use Rattle.hex_engine.specs.Picture.{picture};
-ghost use Rattle.hex_engine.specs.Standing.{Standing, opening, emptied};
-ghost use Rattle.hex_engine.specs.Left.{Left, Load, nothing_left, loads_only, turns_only};
+ghost use Rattle.hex_engine.specs.EngineState.{EngineState, opening, emptied};
+ghost use Rattle.hex_engine.specs.Supply.{Supply, Load, nothing_left, loads_only, turns_only};
 ghost use Rattle.hex_engine.specs.Uses.{Uses, Loading, Moving};
 ghost use Rattle.hex_engine.specs.Replies.{Reacts, Answers, Gives, Obeys, NoTurn, Done, Quit, reaction, replied, obeyed, if_bare, stays, moves_on, loading, moving, is_next, turned, resized, playing, played, undone, knowing, reporting, winner_text};
 ghost use Rattle.htp_line.specs.Reading.{asked_of};
@@ -59,9 +59,9 @@ pub struct Engine {
 impl Model for Engine {
     ghost use Rattle.std.specs.Prelude.{option_map};
     ghost use Rattle.tree_words.specs.Settings.{AreInRange};
-    ghost use Rattle.hex_engine.specs.Standing.{Standing};
+    ghost use Rattle.hex_engine.specs.EngineState.{EngineState};
 
-    ghost Value = { Standing };
+    ghost Value = { EngineState };
 
     ghost view = { λ e. record {
       options = e.options;
@@ -117,7 +117,7 @@ impl Engine {
         shelf: &mut F,
         archive: &mut A,
     ) -> Result<Answer, EngineError>
-        ensures reply { IfOk result (λ answer. (used : Left)
+        ensures reply { IfOk result (λ answer. (used : Supply)
             × Uses self.old.options (F.told shelf.old) (F.told shelf.new) (A.told archive.old) (A.told archive.new) used []
             × Answers self.old used (asked_of request.now) answer self.new) }
 

@@ -1,4 +1,3 @@
 pub mod Chains
 pub mod Room
 pub mod Rules
-pub mod Swaps

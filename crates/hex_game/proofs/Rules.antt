@@ -6,7 +6,7 @@ use Rattle.hex_cells.specs.declared.colours.Colour.{Colour}
 use Rattle.hex_cells.specs.declared.colours.Colour.TheVariants.{Black, White}
 use Rattle.hex_game.specs.Moves.{lone_black_stone}
 use Rattle.hex_board.specs.Positions.{Position, is_empty_at}
-use Rattle.hex_game.specs.Games.{Played, is_over, may_swap, has_no_stone, is_legal_on, is_legal, refusal_on, refusal, replay, board_of, Fits}
+use Rattle.hex_game.specs.Games.{GameData, is_over, may_swap, has_no_stone, is_legal_on, is_legal, refusal_on, refusal, replay, board_of, Fits}
 use Rattle.hex_game.specs.declared.moves.Move.{Move}
 use Rattle.hex_game.specs.declared.moves.Move.TheVariants.{Stone, Swap}
 use Rattle.hex_game.specs.declared.moves.Step.{Step}
@@ -33,28 +33,15 @@ pub allowed : (start : Position) (steps : List Step) (now : Position) (colour : 
 allowed start steps now colour (Stone cell) e = allowed_by (is_over now) (is_empty_at now cell) Over Occupied e
 allowed start steps now colour Swap e = allowed_by (is_over now) (may_swap start steps colour) Over BadSwap e
 
-fit_of : (over fit : Bool) → (not over && fit) ≡ true → fit ≡ true
-fit_of true fit e = absurd (cc)
-fit_of false fit e = e
-
-and_right_of : (a b : Bool) → (true && (a && b)) ≡ true → b ≡ true
-and_right_of a b e = grind arith
-
-pub fits_of_legal : (start : Position) (steps : List Step) (now : Position) (colour : Colour) (what : Move)
-    → is_legal_on start steps now (record { colour = colour; what = what }) ≡ true → Fits now steps what
-fits_of_legal start steps now colour (Stone cell) e = fit_of (is_over now) (is_empty_at now cell) e
-fits_of_legal start steps now Black Swap e = absurd (false≢true (fit_of (is_over now) false e))
-fits_of_legal start steps now White Swap e = and_right_of (has_no_stone start) (is_some (lone_black_stone steps)) (fit_of (is_over now) (true && (has_no_stone start && is_some (lone_black_stone steps))) e)
-
 -- a game as its parts and as a value
-pub same_rule : (start : Position) (steps : List Step) (now : Position) (game : Played) (step : Step)
+pub same_rule : (start : Position) (steps : List Step) (now : Position) (game : GameData) (step : Step)
     → record { start = start; steps = steps } ≡ game → now ≡ replay start steps → is_legal game step ≡ is_legal_on start steps now step
-same_rule start steps now game step v e = ap (λ (g : Played). is_legal g step) (sym v) ∙ ap (λ (p : Position). is_legal_on start steps p step) (sym e)
+same_rule start steps now game step v e = ap (λ (g : GameData). is_legal g step) (sym v) ∙ ap (λ (p : Position). is_legal_on start steps p step) (sym e)
 
-pub same_refusal : (start : Position) (steps : List Step) (now : Position) (game : Played) (step : Step)
+pub same_refusal : (start : Position) (steps : List Step) (now : Position) (game : GameData) (step : Step)
     → record { start = start; steps = steps } ≡ game → now ≡ replay start steps → refusal game step ≡ refusal_on start steps now step
-same_refusal start steps now game step v e = ap (λ (g : Played). refusal g step) (sym v) ∙ ap (λ (p : Position). refusal_on start steps p step) (sym e)
+same_refusal start steps now game step v e = ap (λ (g : GameData). refusal g step) (sym v) ∙ ap (λ (p : Position). refusal_on start steps p step) (sym e)
 
-pub same_board : (start : Position) (steps : List Step) (now : Position) (game : Played)
+pub same_board : (start : Position) (steps : List Step) (now : Position) (game : GameData)
     → record { start = start; steps = steps } ≡ game → now ≡ replay start steps → now ≡ board_of game
-same_board start steps now game v e = e ∙ ap (λ (g : Played). board_of g) v
+same_board start steps now game v e = e ∙ ap (λ (g : GameData). board_of g) v

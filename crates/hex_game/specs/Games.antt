@@ -58,14 +58,14 @@ unfoldable pub replay : Position → List Step → Position
 replay start steps = replay_on start [] start steps
 
 -- a game without where it lies in memory
-pub record Played : Type 0 where
+pub record GameData : Type 0 where
   pub start : Position
   pub steps : List Step
 
-abbrev pub board_of : Played → Position
+abbrev pub board_of : GameData → Position
 board_of game = replay game.start game.steps
 
-abbrev pub is_legal : Played → Step → Bool
+abbrev pub is_legal : GameData → Step → Bool
 is_legal game step = is_legal_on game.start game.steps (board_of game) step
 
 -- why a step is refused: by the first cause that applies
@@ -76,13 +76,13 @@ misfit start steps now colour Swap = if may_swap start steps colour then None el
 abbrev pub refusal_on : Position → List Step → Position → Step → Option PlayError
 refusal_on start steps now step = if is_over now then Some Over else misfit start steps now step.colour step.what
 
-abbrev pub refusal : Played → Step → Option PlayError
+abbrev pub refusal : GameData → Step → Option PlayError
 refusal game step = refusal_on game.start game.steps (board_of game) step
 
-abbrev pub with_step : Played → Step → Played
+abbrev pub with_step : GameData → Step → GameData
 with_step game step = record game { steps = game.steps ++ step ∷ [] }
 
-abbrev pub without_last : Played → Played
+abbrev pub without_last : GameData → GameData
 without_last game = record game { steps = before_last game.steps }
 
 -- a stone's cell lies on the board
@@ -95,7 +95,7 @@ abbrev pub Fits : Position → List Step → Move → Type 0
 Fits now steps (Stone cell) = is_empty_at now cell ≡ true
 Fits now steps Swap = is_some (lone_black_stone steps) ≡ true
 
-abbrev pub new_game : Position → Played
+abbrev pub new_game : Position → GameData
 new_game start = record { start = start; steps = [] }
 
 -- each step is legal in the game that the steps before it make

@@ -3,7 +3,7 @@
 ghost use Rattle.std.specs.Prelude.{◌≡◌, ℕ, ◌<◌, ◌≤◌, ◌++◌, ◌∷◌, [], ◌↔◌, List, true, false, IfOk, OnOk, OnErr, IfErr, IsErr, vec_capacity, length, Some, None};
 ghost use Rattle.hex_board.specs.Positions.{Position, empty_board};
 ghost use Rattle.hex_game.specs.Moves.{step_of, lone_black_stone};
-ghost use Rattle.hex_game.specs.Games.{Played, new_game, board_of, is_legal, is_legal_on, refusal, refusal_on, with_step, without_last, moved, IsOnBoard, AreLegal};
+ghost use Rattle.hex_game.specs.Games.{GameData, new_game, board_of, is_legal, is_legal_on, refusal, refusal_on, with_step, without_last, moved, IsOnBoard, AreLegal};
 
 use super::moves::{Memory, Move, NoMove, PlayError, Step};
 use super::rule::{board_after, cause_against};
@@ -27,10 +27,10 @@ pub struct Game {
 
 impl Model for Game {
     ghost use Rattle.std.specs.Prelude.{◌≤◌, [], vec_capacity};
-    ghost use Rattle.hex_game.specs.Games.{Played};
+    ghost use Rattle.hex_game.specs.Games.{GameData};
     ghost use Rattle.hex_game.specs.Kept.{Leads};
 
-    ghost Value = { Played };
+    ghost Value = { GameData };
 
     ghost view = { λ g. record { start = g.start; steps = g.steps.items } };
 

@@ -19,7 +19,7 @@
 #![tactic(auto)]
 
 ghost use Rattle.std.specs.Prelude.{◌≡◌};
-ghost use Rattle.hex_game.specs.Games.{Played, board_of, replay, after_step, with_step, without_last};
+ghost use Rattle.hex_game.specs.Games.{GameData, board_of, replay, after_step, with_step, without_last};
 ghost use Rattle.hex_game.specs.declared.moves.Step.{Step};
 
 mod history;
@@ -31,12 +31,12 @@ pub use moves::{Memory, Move, NoMove, PlayError, Step};
 
 /// The law of `play` and `undo`: taking back the step that was just taken gives the game before it.
 pub fn undo_takes_back()
-    ensures { (game : Played) (step : Step) → without_last (with_step game step) ≡ game }
+    ensures { (game : GameData) (step : Step) → without_last (with_step game step) ≡ game }
 {}
 
 /// The law of the replay: one step more changes the board as that step does on the board before it.
 pub fn replay_goes_on()
-    ensures { (game : Played) (step : Step) → board_of (with_step game step) ≡ after_step game.start game.steps (board_of game) step }
+    ensures { (game : GameData) (step : Step) → board_of (with_step game step) ≡ after_step game.start game.steps (board_of game) step }
 {}
 
 #[cfg(test)]

@@ -9,7 +9,7 @@ use Rattle.play_out.specs.Fills.{empties_of}
 use Rattle.tree_words.specs.Settings.{Setting}
 use Rattle.tree_words.specs.Words.{Count, end_of}
 use Rattle.tree_words.specs.Blocks.{LinkedBlock, child, has, place, cell_at}
-use Rattle.tree_words.specs.Paths.{Spot, first_spot, spot_after, spot_of}
+use Rattle.tree_words.specs.Paths.{NodeState, root_state, state_after, node_state}
 use Rattle.tree_words.specs.Growth.{most_words}
 use Rattle.tree_words.specs.Walks.{nothing, Game, leaf_state}
 use Rattle.tree_words.specs.Sequence.{Outcome, size_below, asks, gets_block, next_after, game_of}
@@ -29,7 +29,7 @@ unfolding empties_of
 some-empty p c e = filter_some (is_empty_at p) 0 (p.size * p.size) c e (omega arith) (omega (arith, on_board p c e))
 
 -- no block is larger than the largest
-pub size-most : (p : Spot) → p.board.size ≤ 11 → size_below p ≤ most_words
+pub size-most : (p : NodeState) → p.board.size ≤ 11 → size_below p ≤ most_words
 unfolding empties_of
 size-most p l = omega (arith, few_cells p.board.size (is_empty_at p.board) l)
 
@@ -38,49 +38,49 @@ same_size p Black k = refl
 same_size p White k = refl
 
 -- all boards of a tree have one size
-pub spot-size : (s : Setting) (bs : List LinkedBlock) (x : ℕ) → (spot_of s bs x).board.size ≡ s.board.size
+pub spot-size : (s : Setting) (bs : List LinkedBlock) (x : ℕ) → (node_state s bs x).board.size ≡ s.board.size
 spot-size s [] x = refl
 spot-size s (b ∷ bs) x =
-    let A : Spot = spot_of s bs b.parent in
+    let A : NodeState = node_state s bs b.parent in
     ⊎_elim
-    (λ (h : has b x ≡ true). ap (λ (t : Bool). (cond t (spot_after A (cell_at b (place b x))) (spot_of s bs x)).board.size) h ∙ same_size A.board A.player (cell_at b (place b x)) ∙ spot-size s bs b.parent)
-    (λ (h : has b x ≡ false). ap (λ (t : Bool). (cond t (spot_after A (cell_at b (place b x))) (spot_of s bs x)).board.size) h ∙ spot-size s bs x)
+    (λ (h : has b x ≡ true). ap (λ (t : Bool). (cond t (state_after A (cell_at b (place b x))) (node_state s bs x)).board.size) h ∙ same_size A.board A.player (cell_at b (place b x)) ∙ spot-size s bs b.parent)
+    (λ (h : has b x ≡ false). ap (λ (t : Bool). (cond t (state_after A (cell_at b (place b x))) (node_state s bs x)).board.size) h ∙ spot-size s bs x)
     (bool_is (has b x))
 
-pub asks-then : (s : Setting) (next : ℕ) (v : Count) (p : Spot) → asks s next v p ≡ true → (s.knobs.expand ≤ v.visits) × (next ≤ end_of s)
+pub asks-then : (s : Setting) (next : ℕ) (v : Count) (p : NodeState) → asks s next v p ≡ true → (s.knobs.expand ≤ v.visits) × (next ≤ end_of s)
 asks-then s next v p e =
     let t = true_both (nat_le s.knobs.expand v.visits) (nat_lt 0 (length (empties_of p.board)) && nat_le next (end_of s)) e in
     (le_of _ _ t.0, le_of _ _ (true_both (nat_lt 0 (length (empties_of p.board))) (nat_le next (end_of s)) t.1).1)
 
 -- where it asks for none though it could have one, it has too few visits
-pub asks-not : (s : Setting) (next : ℕ) (v : Count) (p : Spot) → asks s next v p ≡ false → 0 < length (empties_of p.board) → next ≤ end_of s → v.visits < s.knobs.expand
+pub asks-not : (s : Setting) (next : ℕ) (v : Count) (p : NodeState) → asks s next v p ≡ false → 0 < length (empties_of p.board) → next ≤ end_of s → v.visits < s.knobs.expand
 asks-not s next v p e l m = few s.knobs.expand v.visits (length (empties_of p.board)) next (end_of s) e l m
   where
     few : (a b c d n : ℕ) → (nat_le a b && (nat_lt 0 c && nat_le d n)) ≡ false → 0 < c → d ≤ n → b < a
     few a b c d n e l m = grind (arith, nat_tests)
 
 -- a leaf without visits asks for none
-pub unvisited-asks : (s : Setting) (next : ℕ) (v : Count) (p : Spot) → 0 < s.knobs.expand → v.visits ≡ 0 → asks s next v p ≡ false
+pub unvisited-asks : (s : Setting) (next : ℕ) (v : Count) (p : NodeState) → 0 < s.knobs.expand → v.visits ≡ 0 → asks s next v p ≡ false
 unvisited-asks s next v p l e = none s.knobs.expand v.visits (nat_lt 0 (length (empties_of p.board)) && nat_le next (end_of s)) l e
   where
     none : (a b : ℕ) (t : Bool) → 0 < a → b ≡ 0 → (nat_le a b && t) ≡ false
     none a b t l e = grind (arith, nat_tests)
 
 -- and past the area's end no leaf does
-pub past-asks : (s : Setting) (next : ℕ) (v : Count) (p : Spot) → end_of s < next → asks s next v p ≡ false
+pub past-asks : (s : Setting) (next : ℕ) (v : Count) (p : NodeState) → end_of s < next → asks s next v p ≡ false
 past-asks s next v p l = none (nat_le s.knobs.expand v.visits) (nat_lt 0 (length (empties_of p.board))) next (end_of s) l
   where
     none : (t u : Bool) (a b : ℕ) → b < a → (t && (u && nat_le a b)) ≡ false
     none t u a b l = grind (arith, nat_tests)
 
 -- `next` after a leaf that gets its block, one that asks in vain, and one that does not ask
-pub next-gets : (s : Setting) (next : ℕ) (v : Count) (p : Spot) → gets_block s next v p ≡ true → (next ≤ end_of s) × (next_after s next v p ≡ next + size_below p)
+pub next-gets : (s : Setting) (next : ℕ) (v : Count) (p : NodeState) → gets_block s next v p ≡ true → (next ≤ end_of s) × (next_after s next v p ≡ next + size_below p)
 unfolding gets_block next_after
 next-gets s next v p e =
     let t = true_both (asks s next v p) (nat_le (next + size_below p) (end_of s)) e in
     ((asks-then s next v p t.0).1, ap (λ (u : Bool). cond u (next + size_below p) next) t.0)
 
-pub next-vain : (s : Setting) (next : ℕ) (v : Count) (p : Spot) → gets_block s next v p ≡ false → asks s next v p ≡ true
+pub next-vain : (s : Setting) (next : ℕ) (v : Count) (p : NodeState) → gets_block s next v p ≡ false → asks s next v p ≡ true
     → (next ≤ end_of s) × (next_after s next v p ≡ next + size_below p) × (end_of s < next + size_below p)
 unfolding gets_block next_after
 next-vain s next v p e a = ((asks-then s next v p a).1, ap (λ (u : Bool). cond u (next + size_below p) next) a, past (asks s next v p) (next + size_below p) (end_of s) a e)
@@ -88,7 +88,7 @@ next-vain s next v p e a = ((asks-then s next v p a).1, ap (λ (u : Bool). cond 
     past : (t : Bool) (a b : ℕ) → t ≡ true → (t && nat_le a b) ≡ false → b < a
     past t a b h e = grind (arith, nat_tests)
 
-pub next-stays : (s : Setting) (next : ℕ) (v : Count) (p : Spot) → asks s next v p ≡ false → next_after s next v p ≡ next
+pub next-stays : (s : Setting) (next : ℕ) (v : Count) (p : NodeState) → asks s next v p ≡ false → next_after s next v p ≡ next
 unfolding next_after
 next-stays s next v p a = ap (λ (u : Bool). cond u (next + size_below p) next) a
 
@@ -126,13 +126,13 @@ module _ {S O : Type 0} (g : Game S O) (fair : Fair g) (p q : ℕ → Count) whe
       ∙ sym (state-tree g fair p q os x 0 nothing s sp)
 
 -- After a leaf has got its block, or has asked in vain, the leaf of the walk asks for none.
-pub widened-asks : (s : Setting) (r : ℕ) (c d : Config) → 0 < s.knobs.expand → Sprouts d.blocks → Out d.blocks r → Widened (game_of s) (first_spot s) r c d
-    → asks s d.next (ends (game_of s) (first_spot s) r d).0 (ends (game_of s) (first_spot s) r d).1 ≡ false
+pub widened-asks : (s : Setting) (r : ℕ) (c d : Config) → 0 < s.knobs.expand → Sprouts d.blocks → Out d.blocks r → Widened (game_of s) (root_state s) r c d
+    → asks s d.next (ends (game_of s) (root_state s) r d).0 (ends (game_of s) (root_state s) r d).1 ≡ false
 widened-asks s r c d l sp out w =
-    let g : Game Spot Outcome = game_of s in
-    let u : Spot = first_spot s in
+    let g : Game NodeState Outcome = game_of s in
+    let u : NodeState = root_state s in
     let v : Count = (ends g u r c).0 in
-    let p : Spot = (ends g u r c).1 in
+    let p : NodeState = (ends g u r c).1 in
     let same : state_at g d.tally d.seen d.blocks r u ≡ state_at g c.tally c.seen d.blocks r u = state-same g (fair_game s) c.tally c.seen d.tally d.seen d.blocks r u sp out w.tally w.seen in
     ⊎_elim
     (λ (e : (n : LinkedBlock) × NewBlock g u r c d n).
@@ -142,7 +142,7 @@ widened-asks s r c d l sp out w =
     let h : has n (child n j) ≡ true = child-has n j (pick-in g (fair_game s) c.tally c.seen n n.parent b.some) in
     let at : leaf_at g c.tally c.seen d.blocks r ≡ child n j = ap (λ (l : List LinkedBlock). leaf_at g c.tally c.seen l r) b.blocks ∙ leaf-snoc g (fair_game s) c.tally c.seen n c.blocks r b.parent in
     let none : (ends g u r d).0.visits ≡ 0
-    = ap (λ (z : Count × Spot). z.0.visits) same ∙ ap (λ (z : Count). z.visits) (state-count g (fair_game s) c.tally c.seen d.blocks r u ∙ ap c.tally at ∙ (b.blank (child n j) h).0) in
+    = ap (λ (z : Count × NodeState). z.0.visits) same ∙ ap (λ (z : Count). z.visits) (state-count g (fair_game s) c.tally c.seen d.blocks r u ∙ ap c.tally at ∙ (b.blank (child n j) h).0) in
     unvisited-asks s d.next (ends g u r d).0 (ends g u r d).1 l none)
     (λ (e : (gets_block s c.next v p ≡ false) × (d.blocks ≡ c.blocks)).
     let as_before : ends g u r d ≡ ends g u r c = same ∙ ap (λ (l : List LinkedBlock). state_at g c.tally c.seen l r u) e.1 in

@@ -8,7 +8,7 @@ use Rattle.hex_board.specs.Positions.{stones_of}
 use Rattle.tree_words.specs.Settings.{Setting}
 use Rattle.tree_words.specs.Words.{Count, root_at, count_in, visits_in, wins_in, tally_in, seen_in}
 use Rattle.tree_words.specs.Blocks.{LinkedBlock, child, has, place, cell_at, is_node, In, InOrder}
-use Rattle.tree_words.specs.Paths.{Spot, first_spot, spot_after, mover_at, spot_of}
+use Rattle.tree_words.specs.Paths.{NodeState, root_state, state_after, mover_at, node_state}
 use Rattle.tree_words.specs.Walks.{nothing, plus}
 use Rattle.tree_words.specs.Trees.{oldest_first}
 use Rattle.tree_words.specs.Sequence.{Outcome, one, gain_of, glimpse_of, game_of}
@@ -38,7 +38,7 @@ count-more n false l = λ i. record { visits = v n i; wins = w n i }
     w n = omega arith
 
 -- each walk adds at most one to a count
-gain-one : (o : Outcome) (p : Spot) → AtMost 1 (gain_of o p)
+gain-one : (o : Outcome) (p : NodeState) → AtMost 1 (gain_of o p)
 unfolding gain_of
 gain-one o p = one-one (is_same o.winner (mover_at p))
   where
@@ -53,7 +53,7 @@ at-most-if : (t : Bool) (a b : Count) → AtMost 1 a → AtMost 1 b → AtMost 1
 at-most-if true a b ha hb = ha
 at-most-if false a b ha hb = hb
 
-glimpse-one : (o : Outcome) (p : Spot) (c : ℕ) → AtMost 1 (glimpse_of o p c)
+glimpse-one : (o : Outcome) (p : NodeState) (c : ℕ) → AtMost 1 (glimpse_of o p c)
 unfolding glimpse_of
 glimpse-one o p c = at-most-if (has_cell (stones_of o.full p.player) c) (one (is_same o.winner p.player)) nothing (one-one (is_same o.winner p.player)) none-one
   where
@@ -89,36 +89,36 @@ has-one r (d ∷ bs) b c w g i j hb hc = ⊎_elim
     i
 
 module _ (s : Setting) (p q : ℕ → Count) (o : Outcome) where
-  pub adds-one : (os : List LinkedBlock) (x : ℕ) (u : Spot) (w : ℕ) → AtMost 1 (adds (game_of s) p q o os x u w)
+  pub adds-one : (os : List LinkedBlock) (x : ℕ) (u : NodeState) (w : ℕ) → AtMost 1 (adds (game_of s) p q o os x u w)
   adds-one [] x u w = at-most-if (x == w) (gain_of o u) nothing (gain-one o u) none-one
-  adds-one (b ∷ os) x u w = down-split (adds_leaf (game_of s) p q o) (adds_inner (game_of s) p q o) (λ (f : Spot → ℕ → Count). AtMost 1 (f u w)) b os x
-      (λ t. at-most-if (x == w) (gain_of o u) _ (gain-one o u) (adds-one os (child b (pick (game_of s) p q b x)) (spot_after u (cell_at b (pick (game_of s) p q b x))) w))
+  adds-one (b ∷ os) x u w = down-split (adds_leaf (game_of s) p q o) (adds_inner (game_of s) p q o) (λ (f : NodeState → ℕ → Count). AtMost 1 (f u w)) b os x
+      (λ t. at-most-if (x == w) (gain_of o u) _ (gain-one o u) (adds-one os (child b (pick (game_of s) p q b x)) (state_after u (cell_at b (pick (game_of s) p q b x))) w))
       (λ t. adds-one os x u w)
 
-  pub sees-one : (os : List LinkedBlock) (x : ℕ) (u : Spot) (w : ℕ) → AtMost 1 (sees (game_of s) p q o os x u w)
+  pub sees-one : (os : List LinkedBlock) (x : ℕ) (u : NodeState) (w : ℕ) → AtMost 1 (sees (game_of s) p q o os x u w)
   sees-one [] x u w = none-one
-  sees-one (b ∷ os) x u w = down-split (sees_leaf (game_of s) p q o) (sees_inner (game_of s) p q o) (λ (f : Spot → ℕ → Count). AtMost 1 (f u w)) b os x
-      (λ t. at-most-if (has b w) (glimpse_of o u (cell_at b (place b w))) _ (glimpse-one o u (cell_at b (place b w))) (sees-one os (child b (pick (game_of s) p q b x)) (spot_after u (cell_at b (pick (game_of s) p q b x))) w))
+  sees-one (b ∷ os) x u w = down-split (sees_leaf (game_of s) p q o) (sees_inner (game_of s) p q o) (λ (f : NodeState → ℕ → Count). AtMost 1 (f u w)) b os x
+      (λ t. at-most-if (has b w) (glimpse_of o u (cell_at b (place b w))) _ (glimpse-one o u (cell_at b (place b w))) (sees-one os (child b (pick (game_of s) p q b x)) (state_after u (cell_at b (pick (game_of s) p q b x))) w))
       (λ t. sees-one os x u w)
 
   -- what lies before x gets nothing from the way below x
-  pub adds-before : (os : List LinkedBlock) (x : ℕ) (u : Spot) (w : ℕ) → Above os → w < x → adds (game_of s) p q o os x u w ≡ nothing
+  pub adds-before : (os : List LinkedBlock) (x : ℕ) (u : NodeState) (w : ℕ) → Above os → w < x → adds (game_of s) p q o os x u w ≡ nothing
   adds-before [] x u w a l = ap (λ (t : Bool). cond t (gain_of o u) nothing) (other_is x w (λ e. omega arith))
-  adds-before (b ∷ os) x u w a l = down-split (adds_leaf (game_of s) p q o) (adds_inner (game_of s) p q o) (λ (f : Spot → ℕ → Count). f u w ≡ nothing) b os x
+  adds-before (b ∷ os) x u w a l = down-split (adds_leaf (game_of s) p q o) (adds_inner (game_of s) p q o) (λ (f : NodeState → ℕ → Count). f u w ≡ nothing) b os x
       (λ t.
       let j : ℕ = pick (game_of s) p q b x in
-      let v : Spot = spot_after u (cell_at b j) in
+      let v : NodeState = state_after u (cell_at b j) in
       ap (λ (t : Bool). cond t (gain_of o u) (adds (game_of s) p q o os (child b j) v w)) (other_is x w (λ e. omega arith))
       ∙ adds-before os (child b j) v w a.1 (let e = eq_of b.parent x t in omega (arith, a.0, l, e)))
       (λ t. adds-before os x u w a.1 l)
 
   -- what is a node of no block whose parent lies behind x sees nothing from the way below x
-  pub sees-before : (os : List LinkedBlock) (x : ℕ) (u : Spot) (w : ℕ) → Above os → ((c : LinkedBlock) → In c os → x ≤ c.parent → has c w ≡ false) → sees (game_of s) p q o os x u w ≡ nothing
+  pub sees-before : (os : List LinkedBlock) (x : ℕ) (u : NodeState) (w : ℕ) → Above os → ((c : LinkedBlock) → In c os → x ≤ c.parent → has c w ≡ false) → sees (game_of s) p q o os x u w ≡ nothing
   sees-before [] x u w a h = refl
-  sees-before (b ∷ os) x u w a h = down-split (sees_leaf (game_of s) p q o) (sees_inner (game_of s) p q o) (λ (f : Spot → ℕ → Count). f u w ≡ nothing) b os x
+  sees-before (b ∷ os) x u w a h = down-split (sees_leaf (game_of s) p q o) (sees_inner (game_of s) p q o) (λ (f : NodeState → ℕ → Count). f u w ≡ nothing) b os x
       (λ t.
       let j : ℕ = pick (game_of s) p q b x in
-      let v : Spot = spot_after u (cell_at b j) in
+      let v : NodeState = state_after u (cell_at b j) in
       let e : b.parent ≡ x = eq_of b.parent x t in
       ap (λ (t : Bool). cond t (glimpse_of o u (cell_at b (place b w))) (sees (game_of s) p q o os (child b j) v w)) (h b (inl refl) (omega (arith, e)))
       ∙ sees-before os (child b j) v w a.1 (λ c i l. h c (inr i) (omega (arith, a.0, l, e))))
@@ -128,12 +128,12 @@ module _ (s : Setting) (p q : ℕ → Count) (o : Outcome) where
 pub record Adding (s : Setting) (bs : List LinkedBlock) (o : Outcome) (before now : List ℕ) (x : ℕ) (who : Colour) (left : List ℕ) : Type 0 where
   pub long : length now ≡ length before
   pub node : is_node (root_at s) bs x ≡ true
-  pub player : who ≡ (spot_of s bs x).player
+  pub player : who ≡ (node_state s bs x).player
   pub tally : (w : ℕ) → is_node (root_at s) bs w ≡ true
-      → plus (tally_in now w) (adds (game_of s) (tally_in before) (seen_in before) o (oldest_first bs) x (spot_of s bs x) w)
-      ≡ plus (tally_in before w) (adds (game_of s) (tally_in before) (seen_in before) o (oldest_first bs) (root_at s) (first_spot s) w)
+      → plus (tally_in now w) (adds (game_of s) (tally_in before) (seen_in before) o (oldest_first bs) x (node_state s bs x) w)
+      ≡ plus (tally_in before w) (adds (game_of s) (tally_in before) (seen_in before) o (oldest_first bs) (root_at s) (root_state s) w)
   pub seen : (w : ℕ) → is_node (root_at s) bs w ≡ true
-      → plus (seen_in now w) (sees (game_of s) (tally_in before) (seen_in before) o (oldest_first bs) x (spot_of s bs x) w)
-      ≡ plus (seen_in before w) (sees (game_of s) (tally_in before) (seen_in before) o (oldest_first bs) (root_at s) (first_spot s) w)
+      → plus (seen_in now w) (sees (game_of s) (tally_in before) (seen_in before) o (oldest_first bs) x (node_state s bs x) w)
+      ≡ plus (seen_in before w) (sees (game_of s) (tally_in before) (seen_in before) o (oldest_first bs) (root_at s) (root_state s) w)
   pub others : (i : ℕ) → ((w : ℕ) → is_node (root_at s) bs w ≡ true → (i ≢ w + 2) × (i ≢ w + 3)) → slice_index now i ≡ slice_index before i
   pub rest : left ≡ steps_below s bs before x

@@ -6,7 +6,7 @@ use Rattle.std.proofs.lemmas.Bool.{cases_eq}
 use Rattle.tree_words.specs.Settings.{Setting, IsSetting}
 use Rattle.tree_words.specs.Words.{Count, count_in, root_at, area_at, end_of, next_in, tally_in, seen_in}
 use Rattle.tree_words.specs.Blocks.{LinkedBlock, size, covers, has, is_node, link_of, header_or_move, stays, Follows, In, Shows}
-use Rattle.tree_words.specs.Paths.{Spot, first_spot, spot_of, board_of}
+use Rattle.tree_words.specs.Paths.{NodeState, root_state, node_state, board_of}
 use Rattle.tree_words.specs.Complete.{HasEmpties, Complete, AreComplete, allowed_cells}
 use Rattle.tree_words.specs.Growth.{most_words}
 use Rattle.tree_words.specs.Walks.{nothing, Game}
@@ -35,7 +35,7 @@ fine-of s bs words k h =
     }
 
 -- where a leaf gets its block, it has an empty cell and the block fits
-gets-facts : (s : Setting) (n : ℕ) (v : Count) (p : Spot) → gets_block s n v p ≡ true → (0 < length (empties_of p.board)) × (n + size_below p ≤ end_of s)
+gets-facts : (s : Setting) (n : ℕ) (v : Count) (p : NodeState) → gets_block s n v p ≡ true → (0 < length (empties_of p.board)) × (n + size_below p ≤ end_of s)
 unfolding gets_block
 gets-facts s n v p e =
     let t = true_both (asks s n v p) (nat_le (n + size_below p) (end_of s)) e in
@@ -68,8 +68,8 @@ either_false false u e = refl
 
 -- what is got of the leaf and its words, where the leaf of the walk gets the new block
 module _ (s : Setting) (bs : List LinkedBlock) (before after : List ℕ) (k : ℕ) (set_ : IsSetting s) (h : Holds s bs before k) (rooted : 0 < link_of bs (root_at s))
-    (leaf e next : ℕ) (p : Spot) (is_leaf : leaf ≡ leaf_at (game_of s) (tally_in before) (seen_in before) (oldest_first bs) (root_at s))
-    (is_spot : p ≡ (state_at (game_of s) (tally_in before) (seen_in before) (oldest_first bs) (root_at s) (first_spot s)).1)
+    (leaf e next : ℕ) (p : NodeState) (is_leaf : leaf ≡ leaf_at (game_of s) (tally_in before) (seen_in before) (oldest_first bs) (root_at s))
+    (is_spot : p ≡ (state_at (game_of s) (tally_in before) (seen_in before) (oldest_first bs) (root_at s) (root_state s)).1)
     (some : 0 < length (empties_of p.board)) (room : next_in before + size_below p ≤ end_of s) (grown : next ≡ next_in before + size_below p)
     (empties : HasEmpties e p.board) (l : Links (block_below (next_in before) leaf e p) (set before 0 next) after) where
   r : ℕ
@@ -150,9 +150,9 @@ module _ (s : Setting) (bs : List LinkedBlock) (before after : List ℕ) (k : �
   unfolding n
   counts-fresh x t = let q = has-at n x t in (ap count_in (h.fresh (x + 2) (omega (arith, q.2))), ap count_in (h.fresh (x + 3) (omega (arith, q.2))))
 
-  spot-is : spot_of s bs leaf ≡ p
+  spot-is : node_state s bs leaf ≡ p
   unfolding r whole
-  spot-is = ap (spot_of s bs) is_leaf ∙ leaf-spot s (tally_in before) (seen_in before) bs whole ∙ sym is_spot
+  spot-is = ap (node_state s bs) is_leaf ∙ leaf-spot s (tally_in before) (seen_in before) bs whole ∙ sym is_spot
 
   new-follows : Follows (root_at s) n bs
   unfolding n r whole
@@ -185,8 +185,8 @@ module _ (s : Setting) (bs : List LinkedBlock) (before after : List ℕ) (k : �
       let complete : Complete s next bs n = record {
         claimed = omega (arith, grown);
         inside = (omega (arith, h.next.0), omega (arith, room));
-        empties = subst (λ (z : Spot). HasEmpties e z.board) (sym spot-is) empties;
-        cells = ap (λ (z : Spot). empties_of z.board) (sym spot-is) ∙ sym (ap (λ (t : Bool). cond t (allowed_cells s) (empties_of (board_of s bs leaf))) notroot);
+        empties = subst (λ (z : NodeState). HasEmpties e z.board) (sym spot-is) empties;
+        cells = ap (λ (z : NodeState). empties_of z.board) (sym spot-is) ∙ sym (ap (λ (t : Bool). cond t (allowed_cells s) (empties_of (board_of s bs leaf))) notroot);
       } in
       let shows : Shows (root_at s) (n ∷ bs) after = record {
         blocks = λ c i m li t. ⊎_elim
@@ -237,17 +237,17 @@ module _ (s : Setting) (bs : List LinkedBlock) (before after : List ℕ) (k : �
           (λ (q : In c bs). whole-lies s next bs c a.1 q) i
 
   new-widened : gets_block s (next_in before) (tally_in before leaf) p ≡ true → next ≡ next_after s (next_in before) (tally_in before leaf) p
-      → Widened (game_of s) (first_spot s) (root_at s) (config_of bs before) (config_of (n ∷ bs) after)
+      → Widened (game_of s) (root_state s) (root_at s) (config_of bs before) (config_of (n ∷ bs) after)
   unfolding n
   new-widened wide rule =
-      let g : Game Spot Outcome = game_of s in
-      let st : Count × Spot = state_at g (tally_in before) (seen_in before) (oldest_first bs) (root_at s) (first_spot s) in
-      let count : tally_in before leaf ≡ st.0 = ap (tally_in before) is_leaf ∙ sym (state-count g (fair_game s) (tally_in before) (seen_in before) (oldest_first bs) (root_at s) (first_spot s)) in
-      let new : NewBlock g (first_spot s) (root_at s) (config_of bs before) (config_of (n ∷ bs) after) n = record {
+      let g : Game NodeState Outcome = game_of s in
+      let st : Count × NodeState = state_at g (tally_in before) (seen_in before) (oldest_first bs) (root_at s) (root_state s) in
+      let count : tally_in before leaf ≡ st.0 = ap (tally_in before) is_leaf ∙ sym (state-count g (fair_game s) (tally_in before) (seen_in before) (oldest_first bs) (root_at s) (root_state s)) in
+      let new : NewBlock g (root_state s) (root_at s) (config_of bs before) (config_of (n ∷ bs) after) n = record {
         wide = sym (λ i. gets_block s (next_in before) (count i) (is_spot i)) ∙ wide;
         blocks = refl;
         parent = is_leaf;
-        cells = ap (λ (z : Spot). empties_of z.board) is_spot;
+        cells = ap (λ (z : NodeState). empties_of z.board) is_spot;
         start = refl;
         room = omega (arith, next-is, grown);
         some = some;
@@ -267,22 +267,22 @@ module _ (s : Setting) (bs : List LinkedBlock) (before after : List ℕ) (k : �
   new-keeps i m t = let low = leaf_lies in off i m (omega (arith, h.next.0)) (λ z. omega (arith, low.0))
 
   new-all : gets_block s (next_in before) (tally_in before leaf) p ≡ true → next ≡ next_after s (next_in before) (tally_in before leaf) p
-      → (cs : List LinkedBlock) × Holds s cs after k × Widened (game_of s) (first_spot s) (root_at s) (config_of bs before) (config_of cs after) × KeepsRecords s before after
+      → (cs : List LinkedBlock) × Holds s cs after k × Widened (game_of s) (root_state s) (root_at s) (config_of bs before) (config_of cs after) × KeepsRecords s before after
   unfolding n
   new-all wide rule = (block_below (next_in before) leaf e p ∷ bs, new-holds, new-widened wide rule, new-keeps)
 
 -- where no block is made
-none-all : (s : Setting) (bs : List LinkedBlock) (before after : List ℕ) (k leaf : ℕ) (p : Spot) → Holds s bs before k
+none-all : (s : Setting) (bs : List LinkedBlock) (before after : List ℕ) (k leaf : ℕ) (p : NodeState) → Holds s bs before k
     → leaf ≡ leaf_at (game_of s) (tally_in before) (seen_in before) (oldest_first bs) (root_at s)
-    → p ≡ (state_at (game_of s) (tally_in before) (seen_in before) (oldest_first bs) (root_at s) (first_spot s)).1
+    → p ≡ (state_at (game_of s) (tally_in before) (seen_in before) (oldest_first bs) (root_at s) (root_state s)).1
     → gets_block s (next_in before) (tally_in before leaf) p ≡ false → next_in after ≡ next_after s (next_in before) (tally_in before leaf) p
     → next_in before ≤ next_in after → next_in after ≤ end_of s + most_words
     → length after ≡ length before → ((i : ℕ) → 1 ≤ i → get_or after i 0 ≡ get_or before i 0)
-    → Holds s bs after k × Widened (game_of s) (first_spot s) (root_at s) (config_of bs before) (config_of bs after) × KeepsRecords s before after
+    → Holds s bs after k × Widened (game_of s) (root_state s) (root_at s) (config_of bs before) (config_of bs after) × KeepsRecords s before after
 none-all s bs before after k leaf p h is_leaf is_spot narrow rule grew most long same =
-    let g : Game Spot Outcome = game_of s in
-    let st : Count × Spot = state_at g (tally_in before) (seen_in before) (oldest_first bs) (root_at s) (first_spot s) in
-    let count : tally_in before leaf ≡ st.0 = ap (tally_in before) is_leaf ∙ sym (state-count g (fair_game s) (tally_in before) (seen_in before) (oldest_first bs) (root_at s) (first_spot s)) in
+    let g : Game NodeState Outcome = game_of s in
+    let st : Count × NodeState = state_at g (tally_in before) (seen_in before) (oldest_first bs) (root_at s) (root_state s) in
+    let count : tally_in before leaf ≡ st.0 = ap (tally_in before) is_leaf ∙ sym (state-count g (fair_game s) (tally_in before) (seen_in before) (oldest_first bs) (root_at s) (root_state s)) in
     let tally : (w : ℕ) → tally_in after w ≡ tally_in before w = λ w. ap count_in (same (w + 2) (omega arith)) in
     let seen : (w : ℕ) → seen_in after w ≡ seen_in before w = λ w. ap count_in (same (w + 3) (omega arith)) in
     let holds : Holds s bs after k = record {
@@ -301,7 +301,7 @@ none-all s bs before after k leaf p h is_leaf is_spot narrow rule grew most long
       fresh = λ i m. same i (omega (arith, m, grew, h.next.0)) ∙ h.fresh i (omega (arith, m, grew));
       counts = λ x m. let u = h.counts x m in (subst (AtMost k) (sym (tally x)) u.0, subst (AtMost k) (sym (seen x)) u.1);
     } in
-    let widened : Widened g (first_spot s) (root_at s) (config_of bs before) (config_of bs after) = record {
+    let widened : Widened g (root_state s) (root_at s) (config_of bs before) (config_of bs after) = record {
       next = rule ∙ (λ i. next_after s (next_in before) (count i) (is_spot i));
       block = inr (sym (λ i. gets_block s (next_in before) (count i) (is_spot i)) ∙ narrow, refl);
       tally = λ w e. tally w;
@@ -316,11 +316,11 @@ none-all s bs before after k leaf p h is_leaf is_spot narrow rule grew most long
         (λ (q : In c bs). block-lies s next bs c a.1 q) i
 
 -- The words hold the tree after the leaf has got its block, with the same records.
-pub made-block : (s : Setting) (bs : List LinkedBlock) (before after : List ℕ) (k leaf : ℕ) (p : Spot) → IsSetting s → Holds s bs before k → 0 < link_of bs (root_at s)
+pub made-block : (s : Setting) (bs : List LinkedBlock) (before after : List ℕ) (k leaf : ℕ) (p : NodeState) → IsSetting s → Holds s bs before k → 0 < link_of bs (root_at s)
     → leaf ≡ leaf_at (game_of s) (tally_in before) (seen_in before) (oldest_first bs) (root_at s)
-    → p ≡ (state_at (game_of s) (tally_in before) (seen_in before) (oldest_first bs) (root_at s) (first_spot s)).1
+    → p ≡ (state_at (game_of s) (tally_in before) (seen_in before) (oldest_first bs) (root_at s) (root_state s)).1
     → Grows s leaf p before after → gets_block s (next_in before) (tally_in before leaf) p ≡ true
-    → (cs : List LinkedBlock) × Holds s cs after k × Widened (game_of s) (first_spot s) (root_at s) (config_of bs before) (config_of cs after) × KeepsRecords s before after
+    → (cs : List LinkedBlock) × Holds s cs after k × Widened (game_of s) (root_state s) (root_at s) (config_of bs before) (config_of cs after) × KeepsRecords s before after
 made-block s bs before after k leaf p set h rooted is_leaf is_spot w t =
     let n : ℕ = next_in before in
     let v : Count = tally_in before leaf in
@@ -330,17 +330,17 @@ made-block s bs before after k leaf p set h rooted is_leaf is_spot w t =
     new-all s bs before after k set h rooted leaf m.0 (next_after s n v p) p is_leaf is_spot f.0 f.1 grown.1 m.1 m.2 t refl
 
 -- They hold the same tree where it has got none; NEXT may have grown.
-pub no-block : (s : Setting) (bs : List LinkedBlock) (before after : List ℕ) (k leaf : ℕ) (p : Spot) → IsSetting s → Holds s bs before k
+pub no-block : (s : Setting) (bs : List LinkedBlock) (before after : List ℕ) (k leaf : ℕ) (p : NodeState) → IsSetting s → Holds s bs before k
     → leaf ≡ leaf_at (game_of s) (tally_in before) (seen_in before) (oldest_first bs) (root_at s)
-    → p ≡ (state_at (game_of s) (tally_in before) (seen_in before) (oldest_first bs) (root_at s) (first_spot s)).1
+    → p ≡ (state_at (game_of s) (tally_in before) (seen_in before) (oldest_first bs) (root_at s) (root_state s)).1
     → Grows s leaf p before after → gets_block s (next_in before) (tally_in before leaf) p ≡ false
-    → Holds s bs after k × Widened (game_of s) (first_spot s) (root_at s) (config_of bs before) (config_of bs after) × KeepsRecords s before after
+    → Holds s bs after k × Widened (game_of s) (root_state s) (root_at s) (config_of bs before) (config_of bs after) × KeepsRecords s before after
 no-block s bs before after k leaf p set h is_leaf is_spot w t =
     let n : ℕ = next_in before in
     let v : Count = tally_in before leaf in
     let whole : Whole (root_at s) bs = record { order = h.linked.order; filled = h.filled } in
     let small : size_below p ≤ most_words = size-most p (subst (λ (z : ℕ). z ≤ 11)
-    (sym (ap (λ (z : Spot). z.board.size) (is_spot ∙ sym (leaf-spot s (tally_in before) (seen_in before) bs whole)) ∙ spot-size s bs (leaf_at (game_of s) (tally_in before) (seen_in before) (oldest_first bs) (root_at s)))) set.position.most) in
+    (sym (ap (λ (z : NodeState). z.board.size) (is_spot ∙ sym (leaf-spot s (tally_in before) (seen_in before) bs whole)) ∙ spot-size s bs (leaf_at (game_of s) (tally_in before) (seen_in before) (oldest_first bs) (root_at s)))) set.position.most) in
     let none = w.none t in
     let range : (n ≤ next_in after) × (next_in after ≤ end_of s + most_words) = ⊎_elim
     (λ (a : asks s n v p ≡ true). let u = next-vain s n v p t a in (omega (arith, w.next, u.1), omega (arith, w.next, u.0, u.1, small)))

@@ -13,7 +13,7 @@ use Rattle.play_out.specs.Fills.{empties_of}
 use Rattle.tree_words.specs.Settings.{Setting}
 use Rattle.tree_words.specs.Words.{Count, end_of, next_in, tally_in}
 use Rattle.tree_words.specs.Blocks.{LinkedBlock, one_if, size, stays, header_or_move}
-use Rattle.tree_words.specs.Paths.{Spot}
+use Rattle.tree_words.specs.Paths.{NodeState}
 use Rattle.tree_words.specs.Sequence.{asks, gets_block, next_after, size_below}
 use Rattle.tree_words.proofs.BlockLaws.{not_both, true_both, lt_of}
 use Rattle.seq_search.specs.Writing.{listed, WritesBlock, Links, LinksBelow, Grows, block_below}
@@ -56,26 +56,26 @@ count_empties set p l e =
     rest n l = omega arith
 
 -- a leaf with few visits, or without an empty cell, asks for none
-pub few_asks : (s : Setting) (n : ℕ) (v : Count) (p : Spot) → v.visits < s.knobs.expand → asks s n v p ≡ false
+pub few_asks : (s : Setting) (n : ℕ) (v : Count) (p : NodeState) → v.visits < s.knobs.expand → asks s n v p ≡ false
 few_asks s n v p l = low s.knobs.expand v.visits (nat_lt 0 (length (empties_of p.board)) && nat_le n (end_of s)) l
   where
     low : (a b : ℕ) (t : Bool) → b < a → (nat_le a b && t) ≡ false
     low a b t l = grind (arith, nat_tests)
 
-pub full_asks : (s : Setting) (n : ℕ) (v : Count) (p : Spot) → length (empties_of p.board) ≡ 0 → asks s n v p ≡ false
+pub full_asks : (s : Setting) (n : ℕ) (v : Count) (p : NodeState) → length (empties_of p.board) ≡ 0 → asks s n v p ≡ false
 full_asks s n v p e = low (nat_le s.knobs.expand v.visits) (length (empties_of p.board)) (nat_le n (end_of s)) e
   where
     low : (u : Bool) (a : ℕ) (t : Bool) → a ≡ 0 → (u && (nat_lt 0 a && t)) ≡ false
     low u a t e = grind (arith, nat_tests)
 
-pub else_asks : (s : Setting) (n : ℕ) (v : Count) (p : Spot) → s.knobs.expand ≤ v.visits → (length (empties_of p.board) ≡ 0 → ⊥) → asks s n v p ≡ nat_le n (end_of s)
+pub else_asks : (s : Setting) (n : ℕ) (v : Count) (p : NodeState) → s.knobs.expand ≤ v.visits → (length (empties_of p.board) ≡ 0 → ⊥) → asks s n v p ≡ nat_le n (end_of s)
 else_asks s n v p l e = high s.knobs.expand v.visits (length (empties_of p.board)) (nat_le n (end_of s)) l e
   where
     high : (a b c : ℕ) (t : Bool) → a ≤ b → (c ≡ 0 → ⊥) → (nat_le a b && (nat_lt 0 c && t)) ≡ t
     high a b c t l e = grind (arith, nat_tests)
 
 -- the block is written and named by the leaf's link
-pub link-written : (start leaf e : ℕ) (p : Spot) (cells before words : List ℕ) → WritesBlock (block_of start leaf e cells) before words → cells ≡ empties_of p.board → leaf + 4 ≤ length before
+pub link-written : (start leaf e : ℕ) (p : NodeState) (cells before words : List ℕ) → WritesBlock (block_of start leaf e cells) before words → cells ≡ empties_of p.board → leaf + 4 ≤ length before
     → Links (block_below start leaf e p) before (set words (leaf + 1) start)
 link-written start leaf e p cells before words w is l =
     let v : WritesBlock (block_below start leaf e p) before words = subst (λ (x : List ℕ). WritesBlock (block_of start leaf e x) before words) is w in
@@ -85,11 +85,11 @@ link-written start leaf e p cells before words w is l =
       each = λ i d. get_or-set_other words (leaf + 1) i start 0 d ∙ v.each i;
     }
 
-gets-of : (s : Setting) (n : ℕ) (v : Count) (p : Spot) (t : Bool) → asks s n v p ≡ t → gets_block s n v p ≡ (t && nat_le (n + size_below p) (end_of s))
+gets-of : (s : Setting) (n : ℕ) (v : Count) (p : NodeState) (t : Bool) → asks s n v p ≡ t → gets_block s n v p ≡ (t && nat_le (n + size_below p) (end_of s))
 unfolding gets_block
 gets-of s n v p t e = ap (λ (u : Bool). u && nat_le (n + size_below p) (end_of s)) e
 
-pub next-of : (s : Setting) (n : ℕ) (v : Count) (p : Spot) (t : Bool) → asks s n v p ≡ t → next_after s n v p ≡ cond t (n + size_below p) n
+pub next-of : (s : Setting) (n : ℕ) (v : Count) (p : NodeState) (t : Bool) → asks s n v p ≡ t → next_after s n v p ≡ cond t (n + size_below p) n
 unfolding next_after
 next-of s n v p t e = ap (λ (u : Bool). cond u (n + size_below p) n) e
 
@@ -99,26 +99,26 @@ at_most a b l = grind (arith, nat_tests)
 more_than : (a b : ℕ) → b < a → nat_le a b ≡ false
 more_than a b l = grind (arith, nat_tests)
 
-pub gets-none : (s : Setting) (n : ℕ) (v : Count) (p : Spot) → asks s n v p ≡ false → gets_block s n v p ≡ false
+pub gets-none : (s : Setting) (n : ℕ) (v : Count) (p : NodeState) → asks s n v p ≡ false → gets_block s n v p ≡ false
 gets-none s n v p e = gets-of s n v p false e
 
-pub gets-past : (s : Setting) (n : ℕ) (v : Count) (p : Spot) → asks s n v p ≡ true → end_of s < n + size_below p → gets_block s n v p ≡ false
+pub gets-past : (s : Setting) (n : ℕ) (v : Count) (p : NodeState) → asks s n v p ≡ true → end_of s < n + size_below p → gets_block s n v p ≡ false
 gets-past s n v p e l = gets-of s n v p true e ∙ more_than (n + size_below p) (end_of s) l
 
-pub gets-made : (s : Setting) (n : ℕ) (v : Count) (p : Spot) → asks s n v p ≡ true → n + size_below p ≤ end_of s → gets_block s n v p ≡ true
+pub gets-made : (s : Setting) (n : ℕ) (v : Count) (p : NodeState) → asks s n v p ≡ true → n + size_below p ≤ end_of s → gets_block s n v p ≡ true
 gets-made s n v p e l = gets-of s n v p true e ∙ at_most (n + size_below p) (end_of s) l
 
 clash : (t : Bool) → t ≡ true → t ≡ false → ⊥
 clash t a b = cc
 
-pub grows-none : (s : Setting) (leaf : ℕ) (p : Spot) (words : List ℕ) → asks s (next_in words) (tally_in words leaf) p ≡ false → Grows s leaf p words words
+pub grows-none : (s : Setting) (leaf : ℕ) (p : NodeState) (words : List ℕ) → asks s (next_in words) (tally_in words leaf) p ≡ false → Grows s leaf p words words
 grows-none s leaf p words e = record {
   next = sym (next-of s (next_in words) (tally_in words leaf) p false e);
   made = λ t. absurd (clash (gets_block s (next_in words) (tally_in words leaf) p) t (gets-none s (next_in words) (tally_in words leaf) p e));
   none = λ t. (refl, λ i l. refl);
 }
 
-pub grows-past : (s : Setting) (leaf m : ℕ) (p : Spot) (words : List ℕ) → asks s (next_in words) (tally_in words leaf) p ≡ true → end_of s < next_in words + size_below p
+pub grows-past : (s : Setting) (leaf m : ℕ) (p : NodeState) (words : List ℕ) → asks s (next_in words) (tally_in words leaf) p ≡ true → end_of s < next_in words + size_below p
     → m ≡ next_in words + size_below p → 0 < length words → Grows s leaf p words (set words 0 m)
 grows-past s leaf m p words e l is some = record {
   next = get_or-set_same words 0 m 0 some ∙ is ∙ sym (next-of s (next_in words) (tally_in words leaf) p true e);
@@ -126,7 +126,7 @@ grows-past s leaf m p words e l is some = record {
   none = λ t. (length-set words 0 m, λ i h. get_or-set_other words 0 i m 0 (λ z. omega arith));
 }
 
-pub grows-made : (s : Setting) (leaf m : ℕ) (p : Spot) (words after : List ℕ) → asks s (next_in words) (tally_in words leaf) p ≡ true → next_in words + size_below p ≤ end_of s
+pub grows-made : (s : Setting) (leaf m : ℕ) (p : NodeState) (words after : List ℕ) → asks s (next_in words) (tally_in words leaf) p ≡ true → next_in words + size_below p ≤ end_of s
     → m ≡ next_in words + size_below p → 0 < length words → 1 ≤ next_in words → LinksBelow (next_in words) leaf p (set words 0 m) after → Grows s leaf p words after
 grows-made s leaf m p words after e l is some low w =
     let n : ℕ = next_in words in

@@ -7,7 +7,7 @@ use Rattle.uct_table.specs.Choice.{Child, is_unvisited, score_in, first_of_large
 use Rattle.tree_words.specs.Settings.{Setting}
 use Rattle.tree_words.specs.Words.{Count, root_at}
 use Rattle.tree_words.specs.Blocks.{LinkedBlock, child, has, place, cell_at, is_node, link_of, In, InOrder}
-use Rattle.tree_words.specs.Paths.{Spot, first_spot, is_on, enters, spot_of}
+use Rattle.tree_words.specs.Paths.{NodeState, root_state, is_on, enters, node_state}
 use Rattle.tree_words.specs.Walks.{nothing, Game}
 use Rattle.tree_words.specs.Sequence.{Outcome, gain_of, glimpse_of, child_of, chosen_of, game_of}
 use Rattle.tree_words.specs.Trees.{oldest_first}
@@ -96,40 +96,40 @@ module _ {S O : Type 0} (g : Game S O) (fair : Fair g) (p q : ℕ → Count) whe
 
 module _ (s : Setting) (p q : ℕ → Count) (bs : List LinkedBlock) (w : Whole (root_at s) bs) where
   -- the state at the leaf is its board and the player to move there
-  pub leaf-spot : spot_of s bs (leaf_at (game_of s) p q (oldest_first bs) (root_at s)) ≡ (state_at (game_of s) p q (oldest_first bs) (root_at s) (first_spot s)).1
+  pub leaf-spot : node_state s bs (leaf_at (game_of s) p q (oldest_first bs) (root_at s)) ≡ (state_at (game_of s) p q (oldest_first bs) (root_at s) (root_state s)).1
   leaf-spot =
       let r : ℕ = root_at s in
       let os : List LinkedBlock = oldest_first bs in
-      let g : Game Spot Outcome = game_of s in
-      up-climb (state_step g) (first_spot s) bs (leaf_at g p q os r)
-      ∙ state-up g (fair_game s) p q os (λ (z : ℕ). first_spot s) r (first_spot s) (sprouts-of r bs w) (root-out r bs w.order) refl
+      let g : Game NodeState Outcome = game_of s in
+      up-climb (state_step g) (root_state s) bs (leaf_at g p q os r)
+      ∙ state-up g (fair_game s) p q os (λ (z : ℕ). root_state s) r (root_state s) (sprouts-of r bs w) (root-out r bs w.order) refl
 
-  pub adds-at : (o : Outcome) (x : ℕ) → adds (game_of s) p q o (oldest_first bs) (root_at s) (first_spot s) x
-      ≡ cond (is_on s bs x (leaf_at (game_of s) p q (oldest_first bs) (root_at s))) (gain_of o (spot_of s bs x)) nothing
+  pub adds-at : (o : Outcome) (x : ℕ) → adds (game_of s) p q o (oldest_first bs) (root_at s) (root_state s) x
+      ≡ cond (is_on s bs x (leaf_at (game_of s) p q (oldest_first bs) (root_at s))) (gain_of o (node_state s bs x)) nothing
   adds-at o x =
       let r : ℕ = root_at s in
       let os : List LinkedBlock = oldest_first bs in
-      let g : Game Spot Outcome = game_of s in
+      let g : Game NodeState Outcome = game_of s in
       let test : ℕ → Bool = λ z. z == x in
       let on : ℕ → Bool = λ z. test r || false in
       let lf : ℕ = leaf_at g p q os r in
       let met : is_on s bs x lf ≡ climb (meets test) on os lf = path-meets test r bs lf ∙ up-climb (meets test) (test r || false) bs lf in
-      adds-up g (fair_game s) p q o os (λ (z : ℕ). first_spot s) on r x (first_spot s) (sprouts-of r bs w) (root-out r bs w.order) refl (or_false (r == x) false refl)
-      ∙ (λ i. cond (sym met i) (gain_of o (sym (up-climb (state_step g) (first_spot s) bs x) i)) nothing)
+      adds-up g (fair_game s) p q o os (λ (z : ℕ). root_state s) on r x (root_state s) (sprouts-of r bs w) (root-out r bs w.order) refl (or_false (r == x) false refl)
+      ∙ (λ i. cond (sym met i) (gain_of o (sym (up-climb (state_step g) (root_state s) bs x) i)) nothing)
 
-  pub sees-at : (o : Outcome) (b : LinkedBlock) (x : ℕ) → In b bs → has b x ≡ true → sees (game_of s) p q o (oldest_first bs) (root_at s) (first_spot s) x
-      ≡ cond (enters s bs b (leaf_at (game_of s) p q (oldest_first bs) (root_at s))) (glimpse_of o (spot_of s bs b.parent) (cell_at b (place b x))) nothing
+  pub sees-at : (o : Outcome) (b : LinkedBlock) (x : ℕ) → In b bs → has b x ≡ true → sees (game_of s) p q o (oldest_first bs) (root_at s) (root_state s) x
+      ≡ cond (enters s bs b (leaf_at (game_of s) p q (oldest_first bs) (root_at s))) (glimpse_of o (node_state s bs b.parent) (cell_at b (place b x))) nothing
   sees-at o b x i h =
       let r : ℕ = root_at s in
       let os : List LinkedBlock = oldest_first bs in
-      let g : Game Spot Outcome = game_of s in
+      let g : Game NodeState Outcome = game_of s in
       let out : Out os r = root-out r bs w.order in
       let j : In b os = in-turned bs b i in
       let on : ℕ → Bool = λ z. has b r || false in
       let lf : ℕ = leaf_at g p q os r in
       let met : enters s bs b lf ≡ climb (meets (has b)) on os lf = path-meets (has b) r bs lf ∙ up-climb (meets (has b)) (has b r || false) bs lf in
-      sees-up g (fair_game s) p q o os (λ (z : ℕ). first_spot s) on r x (first_spot s) b (sprouts-of r bs w) out refl (neither (has b r) false (in-out os b r j out) refl) j h
-      ∙ (λ i. cond (sym met i) (glimpse_of o (sym (up-climb (state_step g) (first_spot s) bs b.parent) i) (cell_at b (place b x))) nothing)
+      sees-up g (fair_game s) p q o os (λ (z : ℕ). root_state s) on r x (root_state s) b (sprouts-of r bs w) out refl (neither (has b r) false (in-out os b r j out) refl) j h
+      ∙ (λ i. cond (sym met i) (glimpse_of o (sym (up-climb (state_step g) (root_state s) bs b.parent) i) (cell_at b (place b x))) nothing)
 
   -- a node of a block on the leaf's path is the chosen one
   pub picked-at : (b : LinkedBlock) (x : ℕ) → In b bs → has b x ≡ true → is_on s bs x (leaf_at (game_of s) p q (oldest_first bs) (root_at s)) ≡ true
@@ -137,7 +137,7 @@ module _ (s : Setting) (p q : ℕ → Count) (bs : List LinkedBlock) (w : Whole 
   picked-at b x i h e =
       let r : ℕ = root_at s in
       let os : List LinkedBlock = oldest_first bs in
-      let g : Game Spot Outcome = game_of s in
+      let g : Game NodeState Outcome = game_of s in
       let out : Out os r = root-out r bs w.order in
       let j : In b os = in-turned bs b i in
       let test : ℕ → Bool = λ z. z == x in

@@ -4,7 +4,7 @@ use Rattle.std.specs.Prelude.{◌==◌}
 use Rattle.tree_words.specs.Settings.{Setting}
 use Rattle.tree_words.specs.Words.{root_at, link_in, next_in, move_of, tally_in, seen_in}
 use Rattle.tree_words.specs.Blocks.{LinkedBlock, words_of, child, has, place, cell_at, is_node, In, link_of}
-use Rattle.tree_words.specs.Paths.{first_spot, spot_after, spot_of}
+use Rattle.tree_words.specs.Paths.{root_state, state_after, node_state}
 use Rattle.tree_words.specs.Trees.{oldest_first}
 use Rattle.tree_words.specs.Descents.{Names, Filled}
 use Rattle.tree_words.proofs.Adds.{is_child}
@@ -102,7 +102,7 @@ module _ (s : Setting) (bs : List LinkedBlock) (words : List ℕ) (k : ℕ) (h :
   child-counts b i inside l = h.counts (child b i) (child-node b i inside l)
 
   -- the spot of a child is its parent's after its cell
-  pub child-spot : (b : LinkedBlock) (i : ℕ) → In b bs → i < length b.cells → spot_of s bs (child b i) ≡ spot_after (spot_of s bs b.parent) (cell_at b i)
+  pub child-spot : (b : LinkedBlock) (i : ℕ) → In b bs → i < length b.cells → node_state s bs (child b i) ≡ state_after (node_state s bs b.parent) (cell_at b i)
   child-spot b i inside l =
-      up-in (first_spot s) (λ c y above. spot_after above (cell_at c (place c y))) (root_at s) bs b (child b i) h.linked.order inside (child-has b i l)
-      ∙ ap (λ (j : ℕ). spot_after (spot_of s bs b.parent) (cell_at b j)) (is_child b.start i)
+      up-in (root_state s) (λ c y above. state_after above (cell_at c (place c y))) (root_at s) bs b (child b i) h.linked.order inside (child-has b i l)
+      ∙ ap (λ (j : ℕ). state_after (node_state s bs b.parent) (cell_at b j)) (is_child b.start i)

@@ -11,7 +11,7 @@ use Rattle.hex_board.specs.Positions.{stones_of}
 use Rattle.tree_words.specs.Settings.{Setting, IsSetting}
 use Rattle.tree_words.specs.Words.{Count, root_at, count_in, wins_in, link_in, tally_in, seen_in, cell_in, move_of}
 use Rattle.tree_words.specs.Blocks.{LinkedBlock, words_of, child, has, place, cell_at, is_node, In, InOrder}
-use Rattle.tree_words.specs.Paths.{Spot, first_spot, spot_after, mover_at, spot_of, board_of}
+use Rattle.tree_words.specs.Paths.{NodeState, root_state, state_after, mover_at, node_state, board_of}
 use Rattle.tree_words.specs.Complete.{cells_below}
 use Rattle.tree_words.specs.Walks.{nothing, plus}
 use Rattle.tree_words.specs.Trees.{oldest_first}
@@ -71,7 +71,7 @@ word-glimpse : (n : ℕ) (t u : Bool) → wins_in n + 1 < 2 ^ 32 → count_in (n
 word-glimpse n true u l = count-more n u l
 word-glimpse n false u l = ap count_in (let z : n + 0 ≡ n = omega arith in z) ∙ sym (plus-nothing (count_in n))
 
-glimpse-is : (o : Outcome) (p : Spot) (who : Colour) (c : ℕ) → who ≡ p.player → cond (has_cell (stones_of o.full who) c) (one (is_same o.winner who)) nothing ≡ glimpse_of o p c
+glimpse-is : (o : Outcome) (p : NodeState) (who : Colour) (c : ℕ) → who ≡ p.player → cond (has_cell (stones_of o.full who) c) (one (is_same o.winner who)) nothing ≡ glimpse_of o p c
 unfolding glimpse_of
 glimpse-is o p who c e = ap (λ (z : Colour). cond (has_cell (stones_of o.full z) c) (one (is_same o.winner z)) nothing) e
 
@@ -98,10 +98,10 @@ module _ (s : Setting) (bs : List LinkedBlock) (o : Outcome) (before : List ℕ)
 
   module _ (now : List ℕ) (x : ℕ) (who : Colour) (left : List ℕ) (a : Adding s bs o before now x who left) where
     pub tally-most : (w : ℕ) → is_node (root_at s) bs w ≡ true → AtMost (k + 1) (tally_in now w)
-    tally-most w n = part-most k (tally_in now w) _ (tally_in before w) _ (a.tally w n) (h.counts w n).0 (adds-one s (tally_in before) (seen_in before) o (oldest_first bs) (root_at s) (first_spot s) w)
+    tally-most w n = part-most k (tally_in now w) _ (tally_in before w) _ (a.tally w n) (h.counts w n).0 (adds-one s (tally_in before) (seen_in before) o (oldest_first bs) (root_at s) (root_state s) w)
 
     pub seen-most : (w : ℕ) → is_node (root_at s) bs w ≡ true → AtMost (k + 1) (seen_in now w)
-    seen-most w n = part-most k (seen_in now w) _ (seen_in before w) _ (a.seen w n) (h.counts w n).1 (sees-one s (tally_in before) (seen_in before) o (oldest_first bs) (root_at s) (first_spot s) w)
+    seen-most w n = part-most k (seen_in now w) _ (seen_in before w) _ (a.seen w n) (h.counts w n).1 (sees-one s (tally_in before) (seen_in before) o (oldest_first bs) (root_at s) (root_state s) w)
 
     pub node-room : x + 4 ≤ length now
     node-room = let f = node-fits s bs before k h x a.node in omega (arith, f, a.long)
@@ -123,7 +123,7 @@ module _ (s : Setting) (bs : List LinkedBlock) (o : Outcome) (before : List ℕ)
       gained-seen : (w : ℕ) → is_node (root_at s) bs w ≡ true → seen_in gained w ≡ seen_in now w
       gained-seen w n = ap count_in (gained-other (w + 3) (λ e. let q = nodes-apart (root_at s) bs w x 3 2 h.linked.order n a.node (omega arith) (omega arith) e in omega arith))
 
-      gained-tally : (w : ℕ) → is_node (root_at s) bs w ≡ true → tally_in gained w ≡ cond (x == w) (plus (tally_in now w) (gain_of o (spot_of s bs x))) (tally_in now w)
+      gained-tally : (w : ℕ) → is_node (root_at s) bs w ≡ true → tally_in gained w ≡ cond (x == w) (plus (tally_in now w) (gain_of o (node_state s bs x))) (tally_in now w)
       unfolding gain_of
       gained-tally w n = ⊎_elim
           (λ (t : (x == w) ≡ true).
@@ -131,13 +131,13 @@ module _ (s : Setting) (bs : List LinkedBlock) (o : Outcome) (before : List ℕ)
           let t' : Bool = is_same o.winner (other_of who) in
           let most = tally-most x a.node in
           let word : slice_index gained (x + 2) ≡ slice_index now (x + 2) + amount_of t' = ap (λ (l : List ℕ). slice_index l (x + 2)) is ∙ get_or-set_same now (x + 2) _ 0 (omega (arith, node-room)) in
-          let mine : tally_in gained x ≡ plus (tally_in now x) (one (is_same o.winner (mover_at (spot_of s bs x))))
+          let mine : tally_in gained x ≡ plus (tally_in now x) (one (is_same o.winner (mover_at (node_state s bs x))))
           = ap count_in word ∙ count-more (slice_index now (x + 2)) t' (let v = most.1 in omega (arith, v, few)) ∙ ap (λ (c : Colour). plus (tally_in now x) (one (is_same o.winner (other_of c)))) a.player in
-          subst (λ (z : ℕ). tally_in gained z ≡ plus (tally_in now z) (one (is_same o.winner (mover_at (spot_of s bs x))))) at mine
-          ∙ sym (ap (λ (u : Bool). cond u (plus (tally_in now w) (one (is_same o.winner (mover_at (spot_of s bs x))))) (tally_in now w)) t))
+          subst (λ (z : ℕ). tally_in gained z ≡ plus (tally_in now z) (one (is_same o.winner (mover_at (node_state s bs x))))) at mine
+          ∙ sym (ap (λ (u : Bool). cond u (plus (tally_in now w) (one (is_same o.winner (mover_at (node_state s bs x))))) (tally_in now w)) t))
           (λ (t : (x == w) ≡ false).
           ap count_in (gained-other (w + 2) (λ e. not_both (x == w) (same_is x w (omega (arith, e))) t))
-          ∙ sym (ap (λ (u : Bool). cond u (plus (tally_in now w) (one (is_same o.winner (mover_at (spot_of s bs x))))) (tally_in now w)) t))
+          ∙ sym (ap (λ (u : Bool). cond u (plus (tally_in now w) (one (is_same o.winner (mover_at (node_state s bs x))))) (tally_in now w)) t))
           (bool_is (x == w))
 
       -- the block below the node, by the words after the gain
@@ -165,27 +165,27 @@ module _ (s : Setting) (bs : List LinkedBlock) (o : Outcome) (before : List ℕ)
           after-past : (v : ℕ) → is_node (root_at s) bs v ≡ true → has b v ≡ false → seen_in after v ≡ seen_in gained v
           after-past v n f = ap count_in (lit.others (v + 3) (λ j l e. let at : v ≡ child b j = omega (arith, e) in not_both (has b v) (ap (has b) at ∙ child-has b j l) f))
 
-          after-kid : (j : ℕ) → j < length b.cells → seen_in after (child b j) ≡ plus (seen_in gained (child b j)) (glimpse_of o (spot_of s bs x) (cell_at b j))
+          after-kid : (j : ℕ) → j < length b.cells → seen_in after (child b j) ≡ plus (seen_in gained (child b j)) (glimpse_of o (node_state s bs x) (cell_at b j))
           after-kid j l =
               let cell : cell_in (slice_index gained (child b j)) ≡ cell_at b j = ap cell_in (kid-move j l) ∙ cell-of-move j (cell_at b j) (cells j l) in
               let most : AtMost (k + 1) (seen_in gained (child b j)) = subst (AtMost (k + 1)) (sym (gained-seen (child b j) (kid-node j l))) (seen-most (child b j) (kid-node j l)) in
               ap count_in (lit.seen j l ∙ ap (λ (z : ℕ). slice_index gained (child b j + 3) + cond (has_cell (stones_of o.full who) z) (amount_of (is_same o.winner who)) 0) cell)
               ∙ word-glimpse (slice_index gained (child b j + 3)) (has_cell (stones_of o.full who) (cell_at b j)) (is_same o.winner who) (let v = most.1 in omega (arith, v, few))
-              ∙ ap (plus (seen_in gained (child b j))) (glimpse-is o (spot_of s bs x) who (cell_at b j) a.player)
+              ∙ ap (plus (seen_in gained (child b j))) (glimpse-is o (node_state s bs x) who (cell_at b j) a.player)
 
-          after-seen : (v : ℕ) → is_node (root_at s) bs v ≡ true → seen_in after v ≡ cond (has b v) (plus (seen_in now v) (glimpse_of o (spot_of s bs x) (cell_at b (place b v)))) (seen_in now v)
+          after-seen : (v : ℕ) → is_node (root_at s) bs v ≡ true → seen_in after v ≡ cond (has b v) (plus (seen_in now v) (glimpse_of o (node_state s bs x) (cell_at b (place b v)))) (seen_in now v)
           after-seen v n = ⊎_elim
               (λ (t : has b v ≡ true).
               let p = has-at b v t in
               let j : ℕ = p.0 in
               let at : v ≡ child b j = omega (arith, p.2) in
-              let kid : seen_in after (child b j) ≡ plus (seen_in now (child b j)) (glimpse_of o (spot_of s bs x) (cell_at b (place b (child b j))))
-              = after-kid j p.1 ∙ (λ i. plus (gained-seen (child b j) (kid-node j p.1) i) (glimpse_of o (spot_of s bs x) (cell_at b (sym (is_child b.start j) i)))) in
-              subst (λ (z : ℕ). seen_in after z ≡ plus (seen_in now z) (glimpse_of o (spot_of s bs x) (cell_at b (place b z)))) (sym at) kid
-              ∙ sym (ap (λ (u : Bool). cond u (plus (seen_in now v) (glimpse_of o (spot_of s bs x) (cell_at b (place b v)))) (seen_in now v)) t))
+              let kid : seen_in after (child b j) ≡ plus (seen_in now (child b j)) (glimpse_of o (node_state s bs x) (cell_at b (place b (child b j))))
+              = after-kid j p.1 ∙ (λ i. plus (gained-seen (child b j) (kid-node j p.1) i) (glimpse_of o (node_state s bs x) (cell_at b (sym (is_child b.start j) i)))) in
+              subst (λ (z : ℕ). seen_in after z ≡ plus (seen_in now z) (glimpse_of o (node_state s bs x) (cell_at b (place b z)))) (sym at) kid
+              ∙ sym (ap (λ (u : Bool). cond u (plus (seen_in now v) (glimpse_of o (node_state s bs x) (cell_at b (place b v)))) (seen_in now v)) t))
               (λ (t : has b v ≡ false).
               after-past v n t ∙ gained-seen v n
-              ∙ sym (ap (λ (u : Bool). cond u (plus (seen_in now v) (glimpse_of o (spot_of s bs x) (cell_at b (place b v)))) (seen_in now v)) t))
+              ∙ sym (ap (λ (u : Bool). cond u (plus (seen_in now v) (glimpse_of o (node_state s bs x) (cell_at b (place b v)))) (seen_in now v)) t))
               (bool_is (has b v))
 
           after-kept : (i : ℕ) → NoCount (root_at s) bs i → slice_index after i ≡ slice_index before i
@@ -201,27 +201,27 @@ module _ (s : Setting) (bs : List LinkedBlock) (o : Outcome) (before : List ℕ)
               let li : i < length b.cells = pick-in g fair p q b x w.some in
               let steps : y ∷ rest ≡ child b i ∷ steps_below s bs before (child b i) = sym cons ∙ a.rest ∙ steps-link g fair p q os x b rooted w.names w.some in
               let at : y ≡ child b i = head-of y (child b i) rest _ steps in
-              let spot : spot_of s bs y ≡ spot_after (spot_of s bs x) (cell_at b i)
-              = ap (spot_of s bs) at ∙ child-spot s bs before k h b i w.inside li ∙ ap (λ (z : ℕ). spot_after (spot_of s bs z) (cell_at b i)) w.parent in
+              let spot : node_state s bs y ≡ state_after (node_state s bs x) (cell_at b i)
+              = ap (node_state s bs) at ∙ child-spot s bs before k h b i w.inside li ∙ ap (λ (z : ℕ). state_after (node_state s bs z) (cell_at b i)) w.parent in
               let behind : x < child b i = let u = w.whole.above in omega (arith, u, w.parent) in
               record {
                 long = lit.long ∙ gained-long;
                 node = ap (is_node (root_at s) bs) at ∙ kid-node i li;
-                player = ap other_of a.player ∙ ap (λ (z : Spot). z.player) (sym spot);
+                player = ap other_of a.player ∙ ap (λ (z : NodeState). z.player) (sym spot);
                 tally = λ v n.
-                    let later : Count = adds g p q o os (child b i) (spot_after (spot_of s bs x) (cell_at b i)) v in
-                    let mine : tally_in after v ≡ cond (x == v) (plus (tally_in now v) (gain_of o (spot_of s bs x))) (tally_in now v) = after-tally v n ∙ gained-tally v n in
+                    let later : Count = adds g p q o os (child b i) (state_after (node_state s bs x) (cell_at b i)) v in
+                    let mine : tally_in after v ≡ cond (x == v) (plus (tally_in now v) (gain_of o (node_state s bs x))) (tally_in now v) = after-tally v n ∙ gained-tally v n in
                     (λ e. plus (mine e) (adds g p q o os (at e) (spot e) v))
-                    ∙ join (x == v) (tally_in now v) (gain_of o (spot_of s bs x)) later (λ t. adds-before s p q o os (child b i) (spot_after (spot_of s bs x) (cell_at b i)) v above (let e = eq_of x v t in omega (arith, behind, e)))
-                    ∙ ap (plus (tally_in now v)) (sym (adds-link g fair p q o os x b (spot_of s bs x) v rooted w.names w.some))
+                    ∙ join (x == v) (tally_in now v) (gain_of o (node_state s bs x)) later (λ t. adds-before s p q o os (child b i) (state_after (node_state s bs x) (cell_at b i)) v above (let e = eq_of x v t in omega (arith, behind, e)))
+                    ∙ ap (plus (tally_in now v)) (sym (adds-link g fair p q o os x b (node_state s bs x) v rooted w.names w.some))
                     ∙ a.tally v n;
                 seen = λ v n.
-                    let later : Count = sees g p q o os (child b i) (spot_after (spot_of s bs x) (cell_at b i)) v in
+                    let later : Count = sees g p q o os (child b i) (state_after (node_state s bs x) (cell_at b i)) v in
                     (λ e. plus (after-seen v n e) (sees g p q o os (at e) (spot e) v))
-                    ∙ join (has b v) (seen_in now v) (glimpse_of o (spot_of s bs x) (cell_at b (place b v))) later
-                    (λ t. sees-before s p q o os (child b i) (spot_after (spot_of s bs x) (cell_at b i)) v above
+                    ∙ join (has b v) (seen_in now v) (glimpse_of o (node_state s bs x) (cell_at b (place b v))) later
+                    (λ t. sees-before s p q o os (child b i) (state_after (node_state s bs x) (cell_at b i)) v above
                     (λ c m l. never (has c v) (λ u. let e = has-one (root_at s) bs b c v h.linked.order w.inside (in-turned c bs m) t u in let f : b.parent ≡ c.parent = ap (λ (d : LinkedBlock). d.parent) e in omega (arith, f, l, behind, w.parent))))
-                    ∙ ap (plus (seen_in now v)) (sym (sees-link g fair p q o os x b (spot_of s bs x) v rooted w.names w.some))
+                    ∙ ap (plus (seen_in now v)) (sym (sees-link g fair p q o os x b (node_state s bs x) v rooted w.names w.some))
                     ∙ a.seen v n;
                 others = after-kept;
                 rest = tail-of y (child b i) rest _ steps ∙ ap (steps_below s bs before) (sym at);
@@ -235,12 +235,12 @@ module _ (s : Setting) (bs : List LinkedBlock) (o : Outcome) (before : List ℕ)
           record {
             long = gained-long;
             tally = λ v n.
-                gained-tally v n ∙ last (x == v) (tally_in now v) (gain_of o (spot_of s bs x))
-                ∙ ap (plus (tally_in now v)) (sym (ap (λ (f : Spot → ℕ → Count). f (spot_of s bs x) v) (down-bare (adds_leaf g p q o) (adds_inner g p q o) os x bare)))
+                gained-tally v n ∙ last (x == v) (tally_in now v) (gain_of o (node_state s bs x))
+                ∙ ap (plus (tally_in now v)) (sym (ap (λ (f : NodeState → ℕ → Count). f (node_state s bs x) v) (down-bare (adds_leaf g p q o) (adds_inner g p q o) os x bare)))
                 ∙ a.tally v n;
             seen = λ v n.
                 gained-seen v n ∙ sym (plus-nothing (seen_in now v))
-                ∙ ap (plus (seen_in now v)) (sym (ap (λ (f : Spot → ℕ → Count). f (spot_of s bs x) v) (down-bare (sees_leaf g p q o) (sees_inner g p q o) os x bare)))
+                ∙ ap (plus (seen_in now v)) (sym (ap (λ (f : NodeState → ℕ → Count). f (node_state s bs x) v) (down-bare (sees_leaf g p q o) (sees_inner g p q o) os x bare)))
                 ∙ a.seen v n;
             others = gained-kept;
           }
@@ -261,15 +261,15 @@ module _ (s : Setting) (bs : List LinkedBlock) (o : Outcome) (before : List ℕ)
     link-some y rest cons e = no-cons y rest (sym cons ∙ a.rest ∙ steps-none x a.node e)
 
 -- every board of the tree has the size of the setting's
-pub spot-size : (s : Setting) (bs : List LinkedBlock) (x : ℕ) → (spot_of s bs x).board.size ≡ s.board.size
+pub spot-size : (s : Setting) (bs : List LinkedBlock) (x : ℕ) → (node_state s bs x).board.size ≡ s.board.size
 spot-size s [] x = refl
 spot-size s (b ∷ bs) x = ⊎_elim
     (λ (t : has b x ≡ true).
-    let u : Spot = spot_of s bs b.parent in
-    ap (λ (h : Bool). (cond h (spot_after u (cell_at b (place b x))) (spot_of s bs x)).board.size) t
+    let u : NodeState = node_state s bs b.parent in
+    ap (λ (h : Bool). (cond h (state_after u (cell_at b (place b x))) (node_state s bs x)).board.size) t
     ∙ placed-size u.board u.player (cell_at b (place b x)) ∙ spot-size s bs b.parent)
     (λ (t : has b x ≡ false).
-    ap (λ (h : Bool). (cond h (spot_after (spot_of s bs b.parent) (cell_at b (place b x))) (spot_of s bs x)).board.size) t ∙ spot-size s bs x)
+    ap (λ (h : Bool). (cond h (state_after (node_state s bs b.parent) (cell_at b (place b x))) (node_state s bs x)).board.size) t ∙ spot-size s bs x)
     (bool_is (has b x))
 
 -- the cells of a block lie on the board
@@ -307,11 +307,11 @@ pub record MaySee (size amount : ℕ) (words : List ℕ) (block : ℕ) : Type 0 
 pub adds-begin : (s : Setting) (before : List ℕ) (d : Descent) (o : Outcome) (x : ℕ) (who : Colour) → x ≡ root_at s → who ≡ s.player → Adds s before d o before x who (drop 0 (steps_in d))
 adds-begin s before d o x who at same bs k l h e =
     let g = game_of s in let p = tally_in before in let q = seen_in before in let os = oldest_first bs in
-    let spot : spot_of s bs x ≡ first_spot s = ap (spot_of s bs) at ∙ up-root (first_spot s) (λ c y above. spot_after above (cell_at c (place c y))) (root_at s) bs h.linked.order in
+    let spot : node_state s bs x ≡ root_state s = ap (node_state s bs) at ∙ up-root (root_state s) (λ c y above. state_after above (cell_at c (place c y))) (root_at s) bs h.linked.order in
     record {
       long = refl;
       node = ap (is_node (root_at s) bs) at ∙ root_node (root_at s) bs;
-      player = same ∙ ap (λ (u : Spot). u.player) (sym spot);
+      player = same ∙ ap (λ (u : NodeState). u.player) (sym spot);
       tally = λ w n i. plus (tally_in before w) (adds g p q o os (at i) (spot i) w);
       seen = λ w n i. plus (seen_in before w) (sees g p q o os (at i) (spot i) w);
       others = λ i c. refl;

@@ -3,7 +3,7 @@ use Rattle.std.proofs.Common.{◌≡◌, ℕ, ◌+◌, ◌<◌, ◌≤◌, true,
 use Rattle.tree_words.specs.Settings.{Setting, IsSetting}
 use Rattle.tree_words.specs.Words.{Count, count_in, root_at, area_at, end_of, next_in, tally_in, seen_in}
 use Rattle.tree_words.specs.Blocks.{LinkedBlock, link_of}
-use Rattle.tree_words.specs.Paths.{Spot, first_spot}
+use Rattle.tree_words.specs.Paths.{NodeState, root_state}
 use Rattle.tree_words.specs.Sequence.{gets_block, game_of}
 use Rattle.tree_words.specs.Trees.{oldest_first}
 use Rattle.tree_words.specs.Descents.{leaf_at, state_at, steps_at}
@@ -24,7 +24,7 @@ descended-same s bs before after d same w =
       node = w.node;
       spot = w.spot;
       leaf = (λ i. leaf_at (game_of s) (tally i) (seen i) (oldest_first bs) (root_at s)) ∙ w.leaf;
-      state = (λ i. state_at (game_of s) (tally i) (seen i) (oldest_first bs) (root_at s) (first_spot s)) ∙ w.state ∙ (λ i. (sym tally i d.node, spot_in d));
+      state = (λ i. state_at (game_of s) (tally i) (seen i) (oldest_first bs) (root_at s) (root_state s)) ∙ w.state ∙ (λ i. (sym tally i d.node, spot_in d));
       steps = (λ i. steps_at (game_of s) (tally i) (seen i) (oldest_first bs) (root_at s)) ∙ w.steps;
       bare = same (d.node + 1) (omega arith) ∙ w.bare;
       few = w.few;
@@ -43,7 +43,7 @@ pub reached-made : (s : Setting) (bs : List LinkedBlock) (before after : List �
     → Descended s bs before d → Grows s d.node (spot_in d) before after → gets_block s (next_in before) (tally_in before d.node) (spot_in d) ≡ true
     → ((cs : List LinkedBlock) → Holds s cs after k → Descended s cs after e) → Reached s bs k before after e
 reached-made s bs before after k d e set h rooted w grows t again =
-    let m = made-block s bs before after k d.node (spot_in d) set h rooted (sym w.leaf) (ap (λ (z : Count × Spot). z.1) (sym w.state)) grows t in
+    let m = made-block s bs before after k d.node (spot_in d) set h rooted (sym w.leaf) (ap (λ (z : Count × NodeState). z.1) (sym w.state)) grows t in
     record { blocks = m.0; holds = m.1; widened = m.2; keeps = m.3; descended = again m.0 m.1 }
 
 -- the words before a second way down hold a tree
@@ -51,12 +51,12 @@ pub holds-made : (s : Setting) (bs : List LinkedBlock) (before after : List ℕ)
     → Descended s bs before d → Grows s d.node (spot_in d) before after → gets_block s (next_in before) (tally_in before d.node) (spot_in d) ≡ true
     → (cs : List LinkedBlock) × Holds s cs after k
 holds-made s bs before after k d set h rooted w grows t =
-    let m = made-block s bs before after k d.node (spot_in d) set h rooted (sym w.leaf) (ap (λ (z : Count × Spot). z.1) (sym w.state)) grows t in
+    let m = made-block s bs before after k d.node (spot_in d) set h rooted (sym w.leaf) (ap (λ (z : Count × NodeState). z.1) (sym w.state)) grows t in
     (m.0, m.1)
 
 -- the leaf has got none
 pub reached-none : (s : Setting) (bs : List LinkedBlock) (before after : List ℕ) (k : ℕ) (d : Descent) → IsSetting s → Holds s bs before k
     → Descended s bs before d → Grows s d.node (spot_in d) before after → gets_block s (next_in before) (tally_in before d.node) (spot_in d) ≡ false → Reached s bs k before after d
 reached-none s bs before after k d set h w grows t =
-    let m = no-block s bs before after k d.node (spot_in d) set h (sym w.leaf) (ap (λ (z : Count × Spot). z.1) (sym w.state)) grows t in
+    let m = no-block s bs before after k d.node (spot_in d) set h (sym w.leaf) (ap (λ (z : Count × NodeState). z.1) (sym w.state)) grows t in
     record { blocks = bs; holds = m.0; widened = m.1; keeps = m.2; descended = descended-same s bs before after d (grows.none t).1 w }

@@ -4,7 +4,7 @@ use Rattle.std.proofs.Math.ListN.{length-set}
 use Rattle.tree_words.specs.Settings.{Setting}
 use Rattle.tree_words.specs.Words.{Count, count_in, root_at, area_at, end_of, next_in, tally_in, seen_in}
 use Rattle.tree_words.specs.Blocks.{LinkedBlock, child, place, cell_at, is_node, In}
-use Rattle.tree_words.specs.Paths.{Spot, first_spot}
+use Rattle.tree_words.specs.Paths.{NodeState, root_state}
 use Rattle.tree_words.specs.Complete.{AreComplete}
 use Rattle.tree_words.specs.Walks.{nothing, plus, Game}
 use Rattle.tree_words.specs.Sequence.{Outcome, game_of}
@@ -48,10 +48,10 @@ module _ (s : Setting) (bs : List LinkedBlock) (before middle : List ℕ) (k n :
   high : (i : ℕ) → root_at s ≤ i → ((w : ℕ) → is_node (root_at s) bs w ≡ true → (i ≢ w + 2) × (i ≢ w + 3)) → get_or (set middle (2 + k) n) i 0 ≡ get_or before i 0
   high i m d = get_or-set_other middle (2 + k) i n 0 (λ z. omega arith) ∙ c.others i d
 
-  tally-is : (w : ℕ) → is_node (root_at s) bs w ≡ true → tally_in (set middle (2 + k) n) w ≡ plus (tally_in before w) (adds (game_of s) (tally_in before) (seen_in before) o (oldest_first bs) (root_at s) (first_spot s) w)
+  tally-is : (w : ℕ) → is_node (root_at s) bs w ≡ true → tally_in (set middle (2 + k) n) w ≡ plus (tally_in before w) (adds (game_of s) (tally_in before) (seen_in before) o (oldest_first bs) (root_at s) (root_state s) w)
   tally-is w t = let q = lies w t in ap count_in (get_or-set_other middle (2 + k) (w + 2) n 0 (λ z. omega (arith, q.0))) ∙ c.tally w t
 
-  seen-is : (w : ℕ) → is_node (root_at s) bs w ≡ true → seen_in (set middle (2 + k) n) w ≡ plus (seen_in before w) (sees (game_of s) (tally_in before) (seen_in before) o (oldest_first bs) (root_at s) (first_spot s) w)
+  seen-is : (w : ℕ) → is_node (root_at s) bs w ≡ true → seen_in (set middle (2 + k) n) w ≡ plus (seen_in before w) (sees (game_of s) (tally_in before) (seen_in before) o (oldest_first bs) (root_at s) (root_state s) w)
   seen-is w t = let q = lies w t in ap count_in (get_or-set_other middle (2 + k) (w + 3) n 0 (λ z. omega (arith, q.0))) ∙ c.seen w t
 
   next-same : next_in (set middle (2 + k) n) ≡ next_in before
@@ -60,7 +60,7 @@ module _ (s : Setting) (bs : List LinkedBlock) (before middle : List ℕ) (k n :
   pub recorded-holds : Holds s bs (set middle (2 + k) n) (k + 1)
   recorded-holds =
       let after : List ℕ = set middle (2 + k) n in
-      let g : Game Spot Outcome = game_of s in
+      let g : Game NodeState Outcome = game_of s in
       let r : ℕ = root_at s in
       let clear : (x : ℕ) (i : ℕ) → is_node r bs x ≡ true → i < 2 → (w : ℕ) → is_node r bs w ≡ true → (x + i ≢ w + 2) × (x + i ≢ w + 3)
       = λ x i m li w t. (
@@ -68,7 +68,7 @@ module _ (s : Setting) (bs : List LinkedBlock) (before middle : List ℕ) (k n :
         (λ z. let q : x ≡ w = nodes-apart r bs x w i 3 h.linked.order m t (omega arith) (omega arith) z in omega arith),
       ) in
       let unseen : seen_in after r ≡ nothing
-      = seen-is r (root_node r bs) ∙ (λ i. plus (count_in (h.root.1 i)) (sees-out g (tally_in before) (seen_in before) o (oldest_first bs) r r (first_spot s) (root-out r bs h.linked.order) i)) in
+      = seen-is r (root_node r bs) ∙ (λ i. plus (count_in (h.root.1 i)) (sees-out g (tally_in before) (seen_in before) o (oldest_first bs) r r (root_state s) (root-out r bs h.linked.order) i)) in
       record {
         long = length-set middle (2 + k) n ∙ c.long ∙ h.long;
         linked = record {
@@ -87,8 +87,8 @@ module _ (s : Setting) (bs : List LinkedBlock) (before middle : List ℕ) (k n :
         next = (omega (arith, next-same, h.next.0), omega (arith, next-same, h.next.1));
         fresh = λ i m. high i (omega (arith, m, next-same, h.next.0)) (λ w t. let q = lies w t in ((λ z. omega (arith, z, q.1, m, next-same)), (λ z. omega (arith, z, q.1, m, next-same)))) ∙ h.fresh i (omega (arith, m, next-same));
         counts = λ x m. (
-          plus-most k (tally_in before x) _ (tally_in after x) (tally-is x m) (h.counts x m).0 (adds-one s (tally_in before) (seen_in before) o (oldest_first bs) r (first_spot s) x),
-          plus-most k (seen_in before x) _ (seen_in after x) (seen-is x m) (h.counts x m).1 (sees-one s (tally_in before) (seen_in before) o (oldest_first bs) r (first_spot s) x),
+          plus-most k (tally_in before x) _ (tally_in after x) (tally-is x m) (h.counts x m).0 (adds-one s (tally_in before) (seen_in before) o (oldest_first bs) r (root_state s) x),
+          plus-most k (seen_in before x) _ (seen_in after x) (seen-is x m) (h.counts x m).1 (sees-one s (tally_in before) (seen_in before) o (oldest_first bs) r (root_state s) x),
         );
       }
     where
@@ -98,7 +98,7 @@ module _ (s : Setting) (bs : List LinkedBlock) (before middle : List ℕ) (k n :
           (λ (q : c ≡ b). subst (λ (d : LinkedBlock). area_at s ≤ d.start) (sym q) a.0.inside.0)
           (λ (q : In c bs). block-starts s next bs c a.1 q) i
 
-  pub recorded-added : Added (game_of s) (first_spot s) (root_at s) o (config_of bs before) (config_of bs (set middle (2 + k) n))
+  pub recorded-added : Added (game_of s) (root_state s) (root_at s) o (config_of bs before) (config_of bs (set middle (2 + k) n))
   recorded-added =
       let node : (w : ℕ) → top (oldest_first bs) w ≡ root_at s → is_node (root_at s) bs w ≡ true
       = λ w e. ⊎_elim (λ (q : w ≡ root_at s). ap (is_node (root_at s) bs) q ∙ root_node (root_at s) bs)

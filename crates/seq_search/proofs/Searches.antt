@@ -9,7 +9,7 @@ use Rattle.play_out.specs.Fills.{filled, playout_of}
 use Rattle.tree_words.specs.Settings.{Setting, IsSetting}
 use Rattle.tree_words.specs.Words.{Count, root_at, end_of, next_in, tally_in}
 use Rattle.tree_words.specs.Blocks.{LinkedBlock, one_if}
-use Rattle.tree_words.specs.Paths.{Spot, first_spot}
+use Rattle.tree_words.specs.Paths.{NodeState, root_state}
 use Rattle.tree_words.specs.Opening.{root_block, opening_word, AreOpening}
 use Rattle.tree_words.specs.Closing.{IsClosed}
 use Rattle.tree_words.specs.Walks.{Tree, Game, walk, walks}
@@ -28,7 +28,7 @@ use Rattle.seq_search.proofs.Growing.{fine-of}
 use Rattle.seq_search.proofs.Openers.{opening-holds, opening-tree, tree-is}
 
 -- what a playout gave
-pub outcome-is : (s : Setting) (k : ℕ) (p : Spot) (winner : Colour) (full : Position) → winner ≡ playout_of p.board p.player s.knobs.seed k → full ≡ filled p.board p.player s.knobs.seed k
+pub outcome-is : (s : Setting) (k : ℕ) (p : NodeState) (winner : Colour) (full : Position) → winner ≡ playout_of p.board p.player s.knobs.seed k → full ≡ filled p.board p.player s.knobs.seed k
     → (record { winner = winner; full = full }) ≡ outcome_of s k p
 unfolding outcome_of
 outcome-is s k p winner full e f = λ i. record { winner = e i; full = f i }
@@ -53,21 +53,21 @@ searched-opening s words h o =
 -- one walk more
 pub searched-more : (s : Setting) (words middle after : List ℕ) (k : ℕ) (d : Descent) (o : Outcome) → IsSetting s → k < s.knobs.playouts → (w : Searched s words k) → (r : Reached s w.blocks k words middle d)
     → o ≡ outcome_of s k (spot_in d) → Holds s r.blocks after (k + 1)
-    → Added (game_of s) (first_spot s) (root_at s) o (config_of r.blocks middle) (config_of r.blocks after)
+    → Added (game_of s) (root_state s) (root_at s) o (config_of r.blocks middle) (config_of r.blocks after)
     → Records s k (2 * d.node + one_if (is_same o.winner White)) middle after → Searched s after (k + 1)
 searched-more s words middle after k d o h l w r played holds added records =
-    let g : Game Spot Outcome = game_of s in
-    let state : ends g (first_spot s) (root_at s) (config_of r.blocks middle) ≡ (tally_in middle d.node, spot_in d) = r.descended.state in
-    let made : o ≡ outcome_of s k (ends g (first_spot s) (root_at s) (config_of r.blocks middle)).1 = played ∙ ap (λ (z : Count × Spot). outcome_of s k z.1) (sym state) in
+    let g : Game NodeState Outcome = game_of s in
+    let state : ends g (root_state s) (root_at s) (config_of r.blocks middle) ≡ (tally_in middle d.node, spot_in d) = r.descended.state in
+    let made : o ≡ outcome_of s k (ends g (root_state s) (root_at s) (config_of r.blocks middle)).1 = played ∙ ap (λ (z : Count × NodeState). outcome_of s k z.1) (sym state) in
     let reads = record-reads d.node (2 * d.node + one_if (is_same o.winner White)) o.winner refl in
-    let tree : (tree_in (root_at s) (config_of r.blocks after), next_in after) ≡ walk g (first_spot s) k (tree_in (root_at s) (config_of w.blocks words), next_in words)
-    = walk-tree g (fair_game s) (first_spot s) (root_at s) k o (config_of w.blocks words) (config_of r.blocks middle) (config_of r.blocks after) (fine-of s w.blocks words k w.holds) r.widened added made in
+    let tree : (tree_in (root_at s) (config_of r.blocks after), next_in after) ≡ walk g (root_state s) k (tree_in (root_at s) (config_of w.blocks words), next_in words)
+    = walk-tree g (fair_game s) (root_state s) (root_at s) k o (config_of w.blocks words) (config_of r.blocks middle) (config_of r.blocks after) (fine-of s w.blocks words k w.holds) r.widened added made in
     record {
       blocks = r.blocks;
       holds = holds;
       standing = standing-walked s w.blocks r.blocks words middle after k (2 * d.node + one_if (is_same o.winner White)) o h l w.holds w.standing r.holds r.widened r.keeps made added records
           (reads.0 ∙ sym r.descended.leaf) reads.1;
-      tree = tree ∙ ap (walk g (first_spot s) k) w.tree ∙ ap (walks g (first_spot s) (first_tree s)) (sym (add-one k));
+      tree = tree ∙ ap (walk g (root_state s) k) w.tree ∙ ap (walks g (root_state s) (first_tree s)) (sym (add-one k));
       ticket = records.others 1 (omega arith) (omega arith) (λ z. omega arith) ∙ r.keeps 1 (omega arith) (omega arith) ∙ w.ticket;
     }
 

@@ -10,7 +10,7 @@ use Rattle.play_out.specs.Fills.{empties_of}
 use Rattle.tree_words.specs.Settings.{Setting, IsSetting}
 use Rattle.tree_words.specs.Words.{Count, root_at, end_of, next_in, ticket_in, leaf_in, winner_in, tally_in, seen_in}
 use Rattle.tree_words.specs.Blocks.{LinkedBlock, child, has, place, cell_at, size, words_of, is_node, link_of, one_if, In, InOrder, Follows}
-use Rattle.tree_words.specs.Paths.{Spot, first_spot, is_on, enters, spot_of, board_of}
+use Rattle.tree_words.specs.Paths.{NodeState, root_state, is_on, enters, node_state, board_of}
 use Rattle.tree_words.specs.Records.{leaf_of, outcome_in, IsRecord}
 use Rattle.tree_words.specs.Counts.{sights_at, ExactTo}
 use Rattle.tree_words.specs.Growth.{most_words, root_end, other_words, ends_at, Grown}
@@ -23,7 +23,7 @@ use Rattle.tree_words.proofs.BlockLaws.{eq_of, same_is, other_is, bool_is, eithe
 use Rattle.tree_words.proofs.Down.{not_both}
 use Rattle.tree_words.proofs.GameLaws.{fair_game, in-node, spot-same}
 use Rattle.seq_search.specs.Steps.{config_of, AtMost, Holds, KeepsRecords, Records}
-use Rattle.seq_search.specs.Standing.{Standing}
+use Rattle.seq_search.specs.IsSearched.{IsSearched}
 use Rattle.seq_search.proofs.Climbs.{or_true, or_first, in-out}
 use Rattle.seq_search.proofs.Leaves.{Whole, in-turned, root-out, node-top, leaf-node, leaf-spot, adds-at, sees-at, picked-at, picks-unvisited}
 use Rattle.seq_search.proofs.Tallies.{SameRecords, visits-words, sights-words, ends-words, record-words, visits-block, sights-block, visits-new, sights-new, ends-new, record-block, visits-more, sights-more, ends-visits}
@@ -44,7 +44,7 @@ no_count : (c : Count) → AtMost 0 c → c ≡ nothing
 no_count c h = let v : c.visits ≡ 0 = omega (arith, h.0) in let w : c.wins ≡ 0 = omega (arith, h.1) in λ i. record { visits = v i; wins = w i }
 
 -- after the opening
-pub standing-opening : (s : Setting) (b : LinkedBlock) (words : List ℕ) → b.parent ≡ root_at s → next_in words ≡ root_end s → Holds s (b ∷ []) words 0 → Standing s (b ∷ []) words 0
+pub standing-opening : (s : Setting) (b : LinkedBlock) (words : List ℕ) → b.parent ≡ root_at s → next_in words ≡ root_end s → Holds s (b ∷ []) words 0 → IsSearched s (b ∷ []) words 0
 standing-opening s b words e n h =
     let r : ℕ = root_at s in
     let bs : List LinkedBlock = b ∷ [] in
@@ -79,11 +79,11 @@ pub turned-same : (bs cs : List LinkedBlock) → oldest_first bs ≡ oldest_firs
 turned-same bs cs e = sym (turned-twice bs) ∙ ap oldest_first e ∙ turned-twice cs
 
 -- where no block is new, and NEXT may have grown
-module _ (s : Setting) (bs : List LinkedBlock) (words after : List ℕ) (k : ℕ) (st : Standing s bs words k) (same : SameRecords k words after) where
+module _ (s : Setting) (bs : List LinkedBlock) (words after : List ℕ) (k : ℕ) (st : IsSearched s bs words k) (same : SameRecords k words after) where
   standing-kept : ((x : ℕ) → is_node (root_at s) bs x ≡ true → tally_in after x ≡ tally_in words x)
       → ((b : LinkedBlock) (y : ℕ) → In b bs → has b y ≡ true → seen_in after y ≡ seen_in words y)
       → next_in words ≤ next_in after → (next_in after ≤ end_of s → next_in after ≡ root_end s + other_words s bs) → next_in after ≤ root_end s + other_words s bs + most_words
-      → Standing s bs after k
+      → IsSearched s bs after k
   standing-kept tally seen grows within room =
       let r : ℕ = root_at s in
       let exact : ExactTo s bs after k = record {
@@ -109,7 +109,7 @@ module _ (s : Setting) (bs : List LinkedBlock) (words after : List ℕ) (k : ℕ
       → ((b : LinkedBlock) (y : ℕ) → In b (n ∷ bs) → has b y ≡ true → seen_in after y ≡ seen_in words y)
       → ((y : ℕ) → has n y ≡ true → (tally_in words y ≡ nothing) × (seen_in words y ≡ nothing))
       → next_in words ≤ end_of s → next_in after ≡ next_in words + size n
-      → Standing s (n ∷ bs) after k
+      → IsSearched s (n ∷ bs) after k
   standing-grown n f tally seen blank low next =
       let r : ℕ = root_at s in
       let nodes : (j : ℕ) → j < k → is_node r bs (leaf_of words j) ≡ true = λ j l. (st.recorded j l).node in
@@ -146,7 +146,7 @@ module _ (s : Setting) (bs : List LinkedBlock) (words after : List ℕ) (k : ℕ
         leaves = λ l x c m e. ⊎_elim
             (λ (h : has n x ≡ true). omega (arith, ends-words s bs words after k same x, ends-new s n bs f words k nodes x h))
             (λ (h : is_node r bs x ≡ true).
-            let empty : is_empty_at (board_of s bs x) c ≡ true = sym (ap (λ (p : Spot). is_empty_at p.board c) (spot-same s n bs x f h)) ∙ e in
+            let empty : is_empty_at (board_of s bs x) c ≡ true = sym (ap (λ (p : NodeState). is_empty_at p.board c) (spot-same s n bs x f h)) ∙ e in
             omega (arith, st.leaves low x c h empty, ends-words s bs words after k same x))
             (either_true (has n x) (is_node r bs x) m);
         within = λ l. omega (arith, next, old_words, words_more);
@@ -162,21 +162,21 @@ not_root r bs b y g i h e = not_both (has b y) h (ap (has b) e ∙ in-out (oldes
 
 -- after the leaf has got its block, or none
 pub standing-widened : (s : Setting) (bs after_bs : List LinkedBlock) (words after : List ℕ) (k : ℕ) → IsSetting s → k ≤ s.knobs.playouts
-    → Holds s bs words k → Standing s bs words k → Holds s after_bs after k
-    → Widened (game_of s) (first_spot s) (root_at s) (config_of bs words) (config_of after_bs after) → KeepsRecords s words after
-    → Standing s after_bs after k
+    → Holds s bs words k → IsSearched s bs words k → Holds s after_bs after k
+    → Widened (game_of s) (root_state s) (root_at s) (config_of bs words) (config_of after_bs after) → KeepsRecords s words after
+    → IsSearched s after_bs after k
 standing-widened s bs cs words after k set few h st h' w keeps =
     let r : ℕ = root_at s in
-    let g : Game Spot Outcome = game_of s in
-    let u : Spot = first_spot s in
+    let g : Game NodeState Outcome = game_of s in
+    let u : NodeState = root_state s in
     let v : Count = (ends g u r (config_of bs words)).0 in
-    let p : Spot = (ends g u r (config_of bs words)).1 in
+    let p : NodeState = (ends g u r (config_of bs words)).1 in
     let same : SameRecords k words after = λ j l. keeps (2 + j) (omega arith) (omega (arith, l, few)) in
     let tally : (x : ℕ) → is_node r cs x ≡ true → tally_in after x ≡ tally_in words x = λ x m. w.tally x (node-top r cs x h'.linked.order m) in
     let seen : (b : LinkedBlock) (y : ℕ) → In b cs → has b y ≡ true → seen_in after y ≡ seen_in words y
     = λ b y i k. w.seen y (node-top r cs y h'.linked.order (in-node r cs b y i k)) (not_root r cs b y h'.linked.order i k) in
-    let spot : spot_of s bs (leaf_at g (tally_in words) (seen_in words) (oldest_first bs) r) ≡ p = leaf-spot s (tally_in words) (seen_in words) bs (whole s bs words k h) in
-    let small : p.board.size ≤ 11 = omega (arith, ap (λ (z : Spot). z.board.size) spot, spot-size s bs (leaf_at g (tally_in words) (seen_in words) (oldest_first bs) r), set.position.most) in
+    let spot : node_state s bs (leaf_at g (tally_in words) (seen_in words) (oldest_first bs) r) ≡ p = leaf-spot s (tally_in words) (seen_in words) bs (whole s bs words k h) in
+    let small : p.board.size ≤ 11 = omega (arith, ap (λ (z : NodeState). z.board.size) spot, spot-size s bs (leaf_at g (tally_in words) (seen_in words) (oldest_first bs) r), set.position.most) in
     ⊎_elim
     (λ (e : (n : LinkedBlock) × NewBlock g u r (config_of bs words) (config_of cs after) n).
     let n : LinkedBlock = e.0 in
@@ -186,7 +186,7 @@ standing-widened s bs cs words after k set few h st h' w keeps =
     let long : size n ≡ size_below p = ap (λ (l : List ℕ). words_of (length l)) b.cells in
     let next : next_in after ≡ next_in words + size n = omega (arith, w.next, t.1, long) in
     let order : InOrder r (n ∷ bs) = subst (InOrder r) is h'.linked.order in
-    subst (λ (l : List LinkedBlock). Standing s l after k) (sym is)
+    subst (λ (l : List LinkedBlock). IsSearched s l after k) (sym is)
     (standing-grown s bs words after k st same n order.0
     (λ x m. tally x (ap (λ (l : List LinkedBlock). is_node r l x) is ∙ m))
     (λ c y i k. seen c y (subst (In c) (sym is) i) k)
@@ -195,7 +195,7 @@ standing-widened s bs cs words after k set few h st h' w keeps =
     let is : cs ≡ bs = turned-same cs bs e.1 in
     let tally' : (x : ℕ) → is_node r bs x ≡ true → tally_in after x ≡ tally_in words x = λ x m. tally x (ap (λ (l : List LinkedBlock). is_node r l x) is ∙ m) in
     let seen' : (b : LinkedBlock) (y : ℕ) → In b bs → has b y ≡ true → seen_in after y ≡ seen_in words y = λ c y i k. seen c y (subst (In c) (sym is) i) k in
-    subst (λ (l : List LinkedBlock). Standing s l after k) (sym is)
+    subst (λ (l : List LinkedBlock). IsSearched s l after k) (sym is)
     (⊎_elim
     (λ (a : asks s (next_in words) v p ≡ true).
     let t = next-vain s (next_in words) v p e.0 a in
@@ -209,7 +209,7 @@ standing-widened s bs cs words after k set few h st h' w keeps =
     (bool_is (asks s (next_in words) v p))))
     w.block
 
-one_gain : (o : Outcome) (p : Spot) → (gain_of o p).visits ≡ 1
+one_gain : (o : Outcome) (p : NodeState) → (gain_of o p).visits ≡ 1
 unfolding gain_of
 one_gain o p = refl
 
@@ -218,42 +218,42 @@ sum_zero a b c e z = omega (arith, ap (λ (v : Count). v.visits) e, z)
 
 -- after the walk has added
 pub standing-added : (s : Setting) (bs : List LinkedBlock) (words after : List ℕ) (k n : ℕ) (o : Outcome) → k < s.knobs.playouts
-    → Holds s bs words k → Standing s bs words k
-    → o ≡ outcome_of s k (ends (game_of s) (first_spot s) (root_at s) (config_of bs words)).1
-    → asks s (next_in words) (ends (game_of s) (first_spot s) (root_at s) (config_of bs words)).0 (ends (game_of s) (first_spot s) (root_at s) (config_of bs words)).1 ≡ false
-    → Added (game_of s) (first_spot s) (root_at s) o (config_of bs words) (config_of bs after)
+    → Holds s bs words k → IsSearched s bs words k
+    → o ≡ outcome_of s k (ends (game_of s) (root_state s) (root_at s) (config_of bs words)).1
+    → asks s (next_in words) (ends (game_of s) (root_state s) (root_at s) (config_of bs words)).0 (ends (game_of s) (root_state s) (root_at s) (config_of bs words)).1 ≡ false
+    → Added (game_of s) (root_state s) (root_at s) o (config_of bs words) (config_of bs after)
     → Records s k n words after → leaf_in n ≡ leaf_at (game_of s) (tally_in words) (seen_in words) (oldest_first bs) (root_at s) → winner_in n ≡ o.winner
-    → Standing s bs after (k + 1)
+    → IsSearched s bs after (k + 1)
 standing-added s bs words after k n o low h st played sated a rec at won =
     let r : ℕ = root_at s in
-    let g : Game Spot Outcome = game_of s in
+    let g : Game NodeState Outcome = game_of s in
     let p : ℕ → Count = tally_in words in
     let q : ℕ → Count = seen_in words in
-    let v : Count = (ends g (first_spot s) r (config_of bs words)).0 in
-    let spot : Spot = (ends g (first_spot s) r (config_of bs words)).1 in
+    let v : Count = (ends g (root_state s) r (config_of bs words)).0 in
+    let spot : NodeState = (ends g (root_state s) r (config_of bs words)).1 in
     let lf : ℕ = leaf_at g p q (oldest_first bs) r in
     let w : Whole r bs = whole s bs words k h in
     let here = leaf-node g (fair_game s) p q r bs w st.rooted in
     let leaf : leaf_of after k ≡ lf = ap leaf_in rec.is ∙ at in
-    let at_leaf : spot_of s bs lf ≡ spot = leaf-spot s p q bs w in
-    let outcome : outcome_in s bs after k ≡ o = ap (λ (x : ℕ). outcome_of s k (spot_of s bs x)) leaf ∙ (ap (outcome_of s k) at_leaf ∙ sym played) in
+    let at_leaf : node_state s bs lf ≡ spot = leaf-spot s p q bs w in
+    let outcome : outcome_in s bs after k ≡ o = ap (λ (x : ℕ). outcome_of s k (node_state s bs x)) leaf ∙ (ap (outcome_of s k) at_leaf ∙ sym played) in
     let same : SameRecords k words after = λ j l. rec.others (2 + j) (omega arith) (omega (arith, l, low)) (λ e. omega (arith, e, l)) in
-    let tally : (x : ℕ) → is_node r bs x ≡ true → tally_in after x ≡ plus (p x) (cond (is_on s bs x lf) (gain_of o (spot_of s bs x)) nothing)
+    let tally : (x : ℕ) → is_node r bs x ≡ true → tally_in after x ≡ plus (p x) (cond (is_on s bs x lf) (gain_of o (node_state s bs x)) nothing)
     = λ x m. a.tally x (node-top r bs x w.order m) ∙ ap (plus (p x)) (adds-at s p q bs w o x) in
     let exact : ExactTo s bs after (suc k) = record {
       tallies = λ x m. tally x m ∙ sym (visits-more s bs after k x
-          ∙ (λ i. plus ((visits-words s bs words after k same x ∙ sym (st.exact.tallies x m)) i) (cond (is_on s bs x (leaf i)) (gain_of (outcome i) (spot_of s bs x)) nothing)));
+          ∙ (λ i. plus ((visits-words s bs words after k same x ∙ sym (st.exact.tallies x m)) i) (cond (is_on s bs x (leaf i)) (gain_of (outcome i) (node_state s bs x)) nothing)));
       seen = λ b y i hy. a.seen y (node-top r bs y w.order (in-node r bs b y i hy)) (not_root r bs b y w.order i hy)
           ∙ (ap (plus (q y)) (sees-at s p q bs w o b y i hy)
           ∙ sym (sights-more s bs after k b y w.order i hy
-          ∙ (λ t. plus ((sights-words s bs words after k same b y ∙ sym (st.exact.seen b y i hy)) t) (cond (enters s bs b (leaf t)) (glimpse_of (outcome t) (spot_of s bs b.parent) (cell_at b (place b y))) nothing))));
+          ∙ (λ t. plus ((sights-words s bs words after k same b y ∙ sym (st.exact.seen b y i hy)) t) (cond (enters s bs b (leaf t)) (glimpse_of (outcome t) (node_state s bs b.parent) (cell_at b (place b y))) nothing))));
     } in
     let now : IsRecord s bs after k = record {
       node = ap (is_node r bs) leaf ∙ here.0;
       below = λ z. here.1 (sym leaf ∙ z);
       result = ap winner_in rec.is ∙ (won ∙ sym (ap (λ (z : Outcome). z.winner) outcome));
     } in
-    let stands : Standing s bs after (suc k) = record {
+    let stands : IsSearched s bs after (suc k) = record {
       exact = exact;
       recorded = λ j l. ⊎_elim
           (λ (m : j < k). record-words s bs words after k same j m (st.recorded j m))
@@ -270,10 +270,10 @@ standing-added s bs words after k n o low h st played sated a rec at won =
           let f = has-at b y hy in
           let yk : y ≡ child b f.0 = omega (arith, f.2) in
           let zero_x : (p x).visits ≡ 0 = ap (λ (c : ℕ). (p c).visits) picked ∙ picks-unvisited s p q b b.parent f.0 f.1 (ap (λ (c : ℕ). (p c).visits) (sym yk) ∙ none) in
-          let gains : tally_in after x ≡ plus (p x) (gain_of o (spot_of s bs x)) = tally x nx ∙ ap (λ (u : Bool). plus (p x) (cond u (gain_of o (spot_of s bs x)) nothing)) t in
-          omega (arith, ap (λ (c : Count). c.visits) gains, one_gain o (spot_of s bs x), zero_x))
+          let gains : tally_in after x ≡ plus (p x) (gain_of o (node_state s bs x)) = tally x nx ∙ ap (λ (u : Bool). plus (p x) (cond u (gain_of o (node_state s bs x)) nothing)) t in
+          omega (arith, ap (λ (c : Count). c.visits) gains, one_gain o (node_state s bs x), zero_x))
           (λ (t : is_on s bs x lf ≡ false).
-          let stays : tally_in after x ≡ plus (p x) nothing = tally x nx ∙ ap (λ (u : Bool). plus (p x) (cond u (gain_of o (spot_of s bs x)) nothing)) t in
+          let stays : tally_in after x ≡ plus (p x) nothing = tally x nx ∙ ap (λ (u : Bool). plus (p x) (cond u (gain_of o (node_state s bs x)) nothing)) t in
           omega (arith, ap (λ (c : Count). c.visits) stays, st.first b x y i hx hy none))
           (bool_is (is_on s bs x lf));
       leaves = λ l x c m e.
@@ -282,10 +282,10 @@ standing-added s bs words after k n o low h st played sated a rec at won =
           ⊎_elim
           (λ (t : (leaf_of after k == x) ≡ true).
           let is : lf ≡ x = sym leaf ∙ eq_of (leaf_of after k) x t in
-          let board : spot_of s bs x ≡ spot = ap (spot_of s bs) (sym is) ∙ at_leaf in
-          let some : 0 < length (empties_of spot.board) = some-empty spot.board c (sym (ap (λ (z : Spot). is_empty_at z.board c) board) ∙ e) in
+          let board : node_state s bs x ≡ spot = ap (node_state s bs) (sym is) ∙ at_leaf in
+          let some : 0 < length (empties_of spot.board) = some-empty spot.board c (sym (ap (λ (z : NodeState). is_empty_at z.board c) board) ∙ e) in
           let fewer : v.visits < s.knobs.expand = asks-not s (next_in words) v spot sated some low_next in
-          let count : v ≡ p x = state-count g (fair_game s) p q (oldest_first bs) r (first_spot s) ∙ ap p is in
+          let count : v ≡ p x = state-count g (fair_game s) p q (oldest_first bs) r (root_state s) ∙ ap p is in
           omega (arith, before, ap one_if t, ends-visits s bs words k x m, ap (λ (z : Count). z.visits) (st.exact.tallies x m), ap (λ (z : Count). z.visits) count, fewer))
           (λ (t : (leaf_of after k == x) ≡ false). omega (arith, before, ap one_if t, st.leaves low_next x c m e))
           (bool_is (leaf_of after k == x));
@@ -293,13 +293,13 @@ standing-added s bs words after k n o low h st played sated a rec at won =
       room = omega (arith, a.next, st.room);
     } in
     let next : suc k ≡ k + 1 = omega arith in
-    subst (Standing s bs after) next stands
+    subst (IsSearched s bs after) next stands
 
 times : (k n : ℕ) → 1 ≤ k → n ≤ k * n
 times k n l = let le : n ≤ n = omega arith in omega (arith, mul-le-mul l le)
 
 -- after all walks the words are a closed tree
-pub closed-of : (s : Setting) (bs : List LinkedBlock) (words : List ℕ) → IsSetting s → Holds s bs words s.knobs.playouts → Standing s bs words s.knobs.playouts
+pub closed-of : (s : Setting) (bs : List LinkedBlock) (words : List ℕ) → IsSetting s → Holds s bs words s.knobs.playouts → IsSearched s bs words s.knobs.playouts
     → s.knobs.playouts ≤ ticket_in words → ticket_in words ≤ s.knobs.playouts + most_workers → IsClosed s words
 closed-of s bs words set h st from to =
     let K : ℕ = s.knobs.workers in

@@ -11,7 +11,7 @@ use Rattle.hex_board.specs.Wins.{is_same}
 use Rattle.tree_words.specs.Settings.{Setting}
 use Rattle.tree_words.specs.Words.{Count, root_at, record_in, leaf_in, winner_in}
 use Rattle.tree_words.specs.Blocks.{LinkedBlock, one_if, has, place, cell_at, up, is_node, In, InOrder, Follows}
-use Rattle.tree_words.specs.Paths.{Spot, first_spot, spot_after, mover_at, path_of, is_on, enters, spot_of, mover_of}
+use Rattle.tree_words.specs.Paths.{NodeState, root_state, state_after, mover_at, path_of, is_on, enters, node_state, mover_of}
 use Rattle.tree_words.specs.Walks.{nothing, plus}
 use Rattle.tree_words.specs.Sequence.{Outcome, outcome_of, one, gain_of, glimpse_of}
 use Rattle.tree_words.specs.Records.{leaf_of, outcome_in, IsRecord}
@@ -47,16 +47,16 @@ module _ (s : Setting) (bs : List LinkedBlock) (words after : List ℕ) (k : ℕ
   visits-words x = λ i. record {
     visits = count-same k (λ j. is_on s bs x (leaf_of after j)) (λ j. is_on s bs x (leaf_of words j)) (λ j l. ap (λ (n : ℕ). is_on s bs x (leaf_in n)) (same j l)) i;
     wins = count-same k (λ j. is_on s bs x (leaf_of after j) && is_same (outcome_in s bs after j).winner (mover_of s bs x)) (λ j. is_on s bs x (leaf_of words j) && is_same (outcome_in s bs words j).winner (mover_of s bs x))
-        (λ j l. ap (λ (n : ℕ). is_on s bs x (leaf_in n) && is_same (outcome_of s j (spot_of s bs (leaf_in n))).winner (mover_of s bs x)) (same j l)) i;
+        (λ j l. ap (λ (n : ℕ). is_on s bs x (leaf_in n) && is_same (outcome_of s j (node_state s bs (leaf_in n))).winner (mover_of s bs x)) (same j l)) i;
   }
 
   pub sights-words : (b : LinkedBlock) (y : ℕ) → sights_at s bs after k b y ≡ sights_at s bs words k b y
   sights-words b y = λ i. record {
     visits = count-same k (λ j. is_seen s bs after b y j) (λ j. is_seen s bs words b y j)
-        (λ j l. ap (λ (n : ℕ). enters s bs b (leaf_in n) && has_cell (stones_of (outcome_of s j (spot_of s bs (leaf_in n))).full (mover_of s bs y)) (cell_at b (place b y))) (same j l)) i;
+        (λ j l. ap (λ (n : ℕ). enters s bs b (leaf_in n) && has_cell (stones_of (outcome_of s j (node_state s bs (leaf_in n))).full (mover_of s bs y)) (cell_at b (place b y))) (same j l)) i;
     wins = count-same k (λ j. is_seen s bs after b y j && is_same (outcome_in s bs after j).winner (mover_of s bs y)) (λ j. is_seen s bs words b y j && is_same (outcome_in s bs words j).winner (mover_of s bs y))
-        (λ j l. ap (λ (n : ℕ). (enters s bs b (leaf_in n) && has_cell (stones_of (outcome_of s j (spot_of s bs (leaf_in n))).full (mover_of s bs y)) (cell_at b (place b y)))
-        && is_same (outcome_of s j (spot_of s bs (leaf_in n))).winner (mover_of s bs y)) (same j l)) i;
+        (λ j l. ap (λ (n : ℕ). (enters s bs b (leaf_in n) && has_cell (stones_of (outcome_of s j (node_state s bs (leaf_in n))).full (mover_of s bs y)) (cell_at b (place b y)))
+        && is_same (outcome_of s j (node_state s bs (leaf_in n))).winner (mover_of s bs y)) (same j l)) i;
   }
 
   pub ends-words : (x : ℕ) → ends_at after k x ≡ ends_at words k x
@@ -68,7 +68,7 @@ module _ (s : Setting) (bs : List LinkedBlock) (words after : List ℕ) (k : ℕ
       record {
         node = ap (λ (n : ℕ). is_node (root_at s) bs (leaf_in n)) e ∙ is.node;
         below = λ z. is.below (ap leaf_in (sym e) ∙ z);
-        result = ap winner_in e ∙ is.result ∙ sym (ap (λ (n : ℕ). (outcome_of s j (spot_of s bs (leaf_in n))).winner) e);
+        result = ap winner_in e ∙ is.result ∙ sym (ap (λ (n : ℕ). (outcome_of s j (node_state s bs (leaf_in n))).winner) e);
       }
 
 meets-clear : (test : ℕ → Bool) (r : ℕ) (start : Bool) (bs : List LinkedBlock) (y : ℕ) → start ≡ false → ((z : ℕ) → is_node r bs z ≡ true → test z ≡ false) → up start (meets test) bs y ≡ false
@@ -158,7 +158,7 @@ module _ (s : Setting) (n : LinkedBlock) (bs : List LinkedBlock) (f : Follows (r
   record-block words j is = record {
     node = or_true (has n (leaf_of words j)) (is_node (root_at s) bs (leaf_of words j)) is.node;
     below = is.below;
-    result = is.result ∙ sym (ap (λ (p : Spot). (outcome_of s j p).winner) (spot-same s n bs (leaf_of words j) f is.node));
+    result = is.result ∙ sym (ap (λ (p : NodeState). (outcome_of s j p).winner) (spot-same s n bs (leaf_of words j) f is.node));
   }
 
 more_visits : (t u : Bool) (c : Count) → record { visits = c.visits + one_if t; wins = c.wins + one_if (t && u) } ≡ plus c (cond t (one u) nothing)
@@ -177,17 +177,17 @@ other_again White = refl
 -- with one record more
 module _ (s : Setting) (bs : List LinkedBlock) (words : List ℕ) (k : ℕ) where
   pub visits-more : (x : ℕ) → visits_at s bs words (suc k) x
-      ≡ plus (visits_at s bs words k x) (cond (is_on s bs x (leaf_of words k)) (gain_of (outcome_in s bs words k) (spot_of s bs x)) nothing)
+      ≡ plus (visits_at s bs words k x) (cond (is_on s bs x (leaf_of words k)) (gain_of (outcome_in s bs words k) (node_state s bs x)) nothing)
   unfolding gain_of
   visits-more x = more_visits (is_on s bs x (leaf_of words k)) (is_same (outcome_in s bs words k).winner (mover_of s bs x)) (visits_at s bs words k x)
 
   pub sights-more : (b : LinkedBlock) (y : ℕ) → InOrder (root_at s) bs → In b bs → has b y ≡ true → sights_at s bs words (suc k) b y
-      ≡ plus (sights_at s bs words k b y) (cond (enters s bs b (leaf_of words k)) (glimpse_of (outcome_in s bs words k) (spot_of s bs b.parent) (cell_at b (place b y))) nothing)
+      ≡ plus (sights_at s bs words k b y) (cond (enters s bs b (leaf_of words k)) (glimpse_of (outcome_in s bs words k) (node_state s bs b.parent) (cell_at b (place b y))) nothing)
   unfolding glimpse_of
   sights-more b y g i h =
       let o : Outcome = outcome_in s bs words k in
-      let spot : spot_of s bs y ≡ spot_after (spot_of s bs b.parent) (cell_at b (place b y)) = up-in (first_spot s) (λ c z above. spot_after above (cell_at c (place c z))) (root_at s) bs b y g i h in
-      let mover : mover_of s bs y ≡ (spot_of s bs b.parent).player = ap mover_at spot ∙ other_again (spot_of s bs b.parent).player in
+      let spot : node_state s bs y ≡ state_after (node_state s bs b.parent) (cell_at b (place b y)) = up-in (root_state s) (λ c z above. state_after above (cell_at c (place c z))) (root_at s) bs b y g i h in
+      let mover : mover_of s bs y ≡ (node_state s bs b.parent).player = ap mover_at spot ∙ other_again (node_state s bs b.parent).player in
       more_sights (enters s bs b (leaf_of words k)) (has_cell (stones_of o.full (mover_of s bs y)) (cell_at b (place b y))) (is_same o.winner (mover_of s bs y)) (sights_at s bs words k b y)
       ∙ ap (λ (c : Colour). plus (sights_at s bs words k b y) (cond (enters s bs b (leaf_of words k)) (cond (has_cell (stones_of o.full c) (cell_at b (place b y))) (one (is_same o.winner c)) nothing) nothing)) mover
 

@@ -14,7 +14,7 @@ use Rattle.uct_table.specs.Choice.{choice_of}
 use Rattle.tree_words.specs.Settings.{Setting, IsSetting}
 use Rattle.tree_words.specs.Words.{Count, root_at, link_in, move_of, cell_in, tally_in, seen_in}
 use Rattle.tree_words.specs.Blocks.{LinkedBlock, one_if, words_of, child, has, place, cell_at, is_node, InOrder, up}
-use Rattle.tree_words.specs.Paths.{Spot, first_spot, spot_after, spot_of, board_of}
+use Rattle.tree_words.specs.Paths.{NodeState, root_state, state_after, node_state, board_of}
 use Rattle.tree_words.specs.Complete.{allowed_cells, cells_below}
 use Rattle.tree_words.specs.Counts.{count_below}
 use Rattle.tree_words.specs.Trees.{oldest_first}
@@ -57,7 +57,7 @@ below-empty s bs x i h g l = ⊎_elim
     (λ (t : (x == root_at s) ≡ true).
     let at : x ≡ root_at s = eq_of x (root_at s) t in
     let cells : cells_below s bs x ≡ allowed_cells s = ap (λ (u : Bool). cond u (allowed_cells s) (empties_of (board_of s bs x))) t in
-    let board : board_of s bs x ≡ s.board = ap (board_of s bs) at ∙ ap (λ (p : Spot). p.board) (up-root (first_spot s) (λ b y above. spot_after above (cell_at b (place b y))) (root_at s) bs g) in
+    let board : board_of s bs x ≡ s.board = ap (board_of s bs) at ∙ ap (λ (p : NodeState). p.board) (up-root (root_state s) (λ b y above. state_after above (cell_at b (place b y))) (root_at s) bs g) in
     (λ j. is_empty_at (board j) (get_or (cells j) i 0)) ∙ allowed-empty s i h (subst (λ (c : List ℕ). i < length c) cells l))
     (λ (t : (x == root_at s) ≡ false).
     let cells : cells_below s bs x ≡ empties_of (board_of s bs x) = ap (λ (u : Bool). cond u (allowed_cells s) (empties_of (board_of s bs x))) t in
@@ -246,7 +246,7 @@ module _ (d e : Descent) (cell kid : ℕ) (board : e.board ≡ placed d.board d.
   step-steps : HasRoom d → steps_in e ≡ steps_in d ++ kid ∷ []
   step-steps r = (λ i. take (count i) (steps i)) ∙ take_more_set d.steps d.count kid (omega (arith, r.long, step-count d cell empty r))
 
-  step-spot : spot_in e ≡ spot_after (spot_in d) cell
+  step-spot : spot_in e ≡ state_after (spot_in d) cell
   step-spot i = record { board = board i; player = player i }
 
   pub step-way : (s : Setting) (bs : List LinkedBlock) (words : List ℕ) (k : ℕ) → Holds s bs words k → (b : LinkedBlock) → IsBelow s bs words d.node b → (j : ℕ)
@@ -259,13 +259,13 @@ module _ (d e : Descent) (cell kid : ℕ) (board : e.board ≡ placed d.board d.
       let here : e.node ≡ child b i = node ∙ at ∙ ap (child b) is in
       let inside : has b e.node ≡ true = ap (has b) (node ∙ at) ∙ child-has b j l in
       let cell-is : cell ≡ cell_at b i = mine ∙ ap (cell_at b) is in
-      let spot : spot_in e ≡ spot_after (spot_in d) (cell_at b i) = step-spot ∙ ap (spot_after (spot_in d)) cell-is in
-      let up : spot_of s bs e.node ≡ spot_after (spot_of s bs b.parent) (cell_at b (place b e.node))
-      = up-in (first_spot s) (λ c y above. spot_after above (cell_at c (place c y))) (root_at s) bs b e.node h.linked.order w.inside inside in
+      let spot : spot_in e ≡ state_after (spot_in d) (cell_at b i) = step-spot ∙ ap (state_after (spot_in d)) cell-is in
+      let up : node_state s bs e.node ≡ state_after (node_state s bs b.parent) (cell_at b (place b e.node))
+      = up-in (root_state s) (λ c y above. state_after above (cell_at c (place c y))) (root_at s) bs b e.node h.linked.order w.inside inside in
       let at-place : place b e.node ≡ i = ap (place b) here ∙ is_child b.start i in
       record {
         node = in-node (root_at s) bs b e.node w.inside inside;
-        spot = spot ∙ (λ t. spot_after (u.spot t) (cell_at b i)) ∙ sym (up ∙ (λ t. spot_after (spot_of s bs (w.parent t)) (cell_at b (at-place t))));
+        spot = spot ∙ (λ t. state_after (u.spot t) (cell_at b i)) ∙ sym (up ∙ (λ t. state_after (node_state s bs (w.parent t)) (cell_at b (at-place t))));
         leaf = u.leaf ∙ leaf-link g fair p q os d.node b rooted w.names w.some ∙ ap (leaf_below s bs words) (sym here);
         state = u.state ∙ state-link g fair p q os d.node b (spot_in d) rooted w.names w.some ∙ sym (λ t. state_below s bs words (here t) (spot t));
         steps = u.steps ∙ ap (λ (l : List ℕ). steps_in d ++ l) (steps-link g fair p q os d.node b rooted w.names w.some ∙ sym (λ t. here t ∷ steps_below s bs words (here t)))
@@ -277,10 +277,10 @@ module _ (d e : Descent) (cell kid : ℕ) (board : e.board ≡ placed d.board d.
 pub begin-way : (s : Setting) (d : Descent) → d.board ≡ s.board → d.player ≡ s.player → d.node ≡ root_at s → d.count ≡ 0
     → (bs : List LinkedBlock) (words : List ℕ) (k : ℕ) → Holds s bs words k → Underway s bs words d
 begin-way s d board player node count bs words k h =
-    let spot : spot_in d ≡ first_spot s = λ i. record { board = board i; player = player i } in
+    let spot : spot_in d ≡ root_state s = λ i. record { board = board i; player = player i } in
     record {
       node = ap (is_node (root_at s) bs) node ∙ root_node (root_at s) bs;
-      spot = spot ∙ sym (ap (spot_of s bs) node ∙ up-root (first_spot s) (λ c y above. spot_after above (cell_at c (place c y))) (root_at s) bs h.linked.order);
+      spot = spot ∙ sym (ap (node_state s bs) node ∙ up-root (root_state s) (λ c y above. state_after above (cell_at c (place c y))) (root_at s) bs h.linked.order);
       leaf = ap (leaf_below s bs words) (sym node);
       state = sym (λ i. state_below s bs words (node i) (spot i));
       steps = sym (λ i. take (count i) d.steps ++ steps_below s bs words (node i));
@@ -295,7 +295,7 @@ end-way s bs words d k h r u e =
       node = u.node;
       spot = u.spot;
       leaf = u.leaf ∙ down-bare (λ (y : ℕ). y) (leaf_inner g p q) os d.node bare;
-      state = u.state ∙ ap (λ (f : Spot → Count × Spot). f (spot_in d)) (down-bare (state_leaf g p q) (state_inner g p q) os d.node bare);
+      state = u.state ∙ ap (λ (f : NodeState → Count × NodeState). f (spot_in d)) (down-bare (state_leaf g p q) (state_inner g p q) os d.node bare);
       steps = u.steps ∙ ap (λ (l : List ℕ). steps_in d ++ l) (down-bare (λ (y : ℕ). []) (steps_inner g p q) os d.node bare) ∙ append-nil (steps_in d);
       bare = e;
       few = omega (arith, r.cells);
@@ -345,7 +345,7 @@ module _ (s : Setting) (words : List ℕ) (d : Descent) (block visits weight cho
       let within = chosen-in s bs words k few h d.node block u.node at some visits weight chosen own same is in
       let kid-at = chosen-at s bs words k few h d.node block u.node at some visits weight chosen own same is in
       let empty : is_empty_at d.board (cell_at b chosen) ≡ true
-      = ap (λ (p : Spot). is_empty_at p.board (cell_at b chosen)) u.spot ∙ chosen-empty s bs words k few h d.node block u.node at some visits weight chosen own same is z in
+      = ap (λ (p : NodeState). is_empty_at p.board (cell_at b chosen)) u.spot ∙ chosen-empty s bs words k few h d.node block u.node at some visits weight chosen own same is z in
       let on = on-board d.board (cell_at b chosen) empty in
       let low = few-cells d.board.size small in
       let move : cell_in (slice_index words (block + 4 + 4 * chosen)) ≡ cell_at b chosen

@@ -4,7 +4,7 @@ use Rattle.hex_cells.specs.Sets.{has as has_cell}
 use Rattle.tree_words.specs.Settings.{Setting}
 use Rattle.tree_words.specs.Words.{root_at, cell_in, tally_in, seen_in}
 use Rattle.tree_words.specs.Blocks.{LinkedBlock, one_if, is_node}
-use Rattle.tree_words.specs.Paths.{first_spot}
+use Rattle.tree_words.specs.Paths.{root_state}
 use Rattle.tree_words.specs.Walks.{plus}
 use Rattle.tree_words.specs.Trees.{oldest_first}
 use Rattle.tree_words.specs.Sequence.{Outcome, game_of}
@@ -34,7 +34,7 @@ pub record Sighted (b n set amount : ℕ) (before after : List ℕ) : Type 0 whe
 pub record Counted (s : Setting) (bs : List LinkedBlock) (o : Outcome) (before after : List ℕ) : Type 0 where
   pub long : length after ≡ length before
   pub tally : (w : ℕ) → is_node (root_at s) bs w ≡ true → tally_in after w
-      ≡ plus (tally_in before w) (adds (game_of s) (tally_in before) (seen_in before) o (oldest_first bs) (root_at s) (first_spot s) w)
+      ≡ plus (tally_in before w) (adds (game_of s) (tally_in before) (seen_in before) o (oldest_first bs) (root_at s) (root_state s) w)
   pub seen : (w : ℕ) → is_node (root_at s) bs w ≡ true → seen_in after w
-      ≡ plus (seen_in before w) (sees (game_of s) (tally_in before) (seen_in before) o (oldest_first bs) (root_at s) (first_spot s) w)
+      ≡ plus (seen_in before w) (sees (game_of s) (tally_in before) (seen_in before) o (oldest_first bs) (root_at s) (root_state s) w)
   pub others : (i : ℕ) → ((w : ℕ) → is_node (root_at s) bs w ≡ true → (i ≢ w + 2) × (i ≢ w + 3)) → slice_index after i ≡ slice_index before i

@@ -4,7 +4,7 @@ use Rattle.hex_board.specs.Positions.{Position, is_empty_at}
 use Rattle.tree_words.specs.Settings.{Setting}
 use Rattle.tree_words.specs.Words.{Count, root_at, link_in, tally_in, seen_in}
 use Rattle.tree_words.specs.Blocks.{LinkedBlock, is_node}
-use Rattle.tree_words.specs.Paths.{Spot, first_spot, spot_of}
+use Rattle.tree_words.specs.Paths.{NodeState, root_state, node_state}
 use Rattle.tree_words.specs.Trees.{oldest_first}
 use Rattle.tree_words.specs.Sequence.{game_of}
 use Rattle.tree_words.specs.Descents.{leaf_at, state_at, steps_at}
@@ -12,7 +12,7 @@ use Rattle.tree_words.specs.Counts.{count_below}
 use Rattle.seq_search.specs.declared.descending.Descent.{Descent}
 
 -- the board and the player to move
-abbrev pub spot_in : Descent → Spot
+abbrev pub spot_in : Descent → NodeState
 spot_in d = record { board = d.board; player = d.player }
 
 -- the nodes below the root, down to where it stands
@@ -34,7 +34,7 @@ module _ (s : Setting) (bs : List LinkedBlock) (words : List ℕ) where
   abbrev pub leaf_below : ℕ → ℕ
   leaf_below x = leaf_at (game_of s) (tally_in words) (seen_in words) (oldest_first bs) x
 
-  abbrev pub state_below : ℕ → Spot → Count × Spot
+  abbrev pub state_below : ℕ → NodeState → Count × NodeState
   state_below x p = state_at (game_of s) (tally_in words) (seen_in words) (oldest_first bs) x p
 
   abbrev pub steps_below : ℕ → List ℕ
@@ -43,17 +43,17 @@ module _ (s : Setting) (bs : List LinkedBlock) (words : List ℕ) where
   -- The walk stands at a node on its way: its board and its player are those of the node.
   pub record Underway (d : Descent) : Type 0 where
     pub node : is_node (root_at s) bs d.node ≡ true
-    pub spot : spot_in d ≡ spot_of s bs d.node
+    pub spot : spot_in d ≡ node_state s bs d.node
     pub leaf : leaf_below (root_at s) ≡ leaf_below d.node
-    pub state : state_below (root_at s) (first_spot s) ≡ state_below d.node (spot_in d)
+    pub state : state_below (root_at s) (root_state s) ≡ state_below d.node (spot_in d)
     pub steps : steps_below (root_at s) ≡ steps_in d ++ steps_below d.node
 
   -- The walk has come to its leaf.
   pub record Descended (d : Descent) : Type 0 where
     pub node : is_node (root_at s) bs d.node ≡ true
-    pub spot : spot_in d ≡ spot_of s bs d.node
+    pub spot : spot_in d ≡ node_state s bs d.node
     pub leaf : leaf_below (root_at s) ≡ d.node
-    pub state : state_below (root_at s) (first_spot s) ≡ (tally_in words d.node, spot_in d)
+    pub state : state_below (root_at s) (root_state s) ≡ (tally_in words d.node, spot_in d)
     pub steps : steps_below (root_at s) ≡ steps_in d
     pub bare : link_in words d.node ≡ 0
     pub few : d.count ≤ 121

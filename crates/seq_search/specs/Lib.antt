@@ -3,5 +3,5 @@ pub mod Choosing
 pub mod Descending
 pub mod Adding
 pub mod Writing
-pub mod Standing
+pub mod IsSearched
 pub mod Searching

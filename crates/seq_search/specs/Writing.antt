@@ -7,7 +7,7 @@ use Rattle.tree_words.specs.Settings.{Setting}
 use Rattle.tree_words.specs.Words.{move_of, next_in, tally_in}
 use Rattle.tree_words.specs.Blocks.{LinkedBlock, size, covers, has, place, cell_at, stays, header_or_move}
 use Rattle.tree_words.specs.Complete.{HasEmpties}
-use Rattle.tree_words.specs.Paths.{Spot}
+use Rattle.tree_words.specs.Paths.{NodeState}
 use Rattle.tree_words.specs.Sequence.{gets_block, next_after}
 use Rattle.play_out.specs.Fills.{empties_of}
 
@@ -26,7 +26,7 @@ pub record WritesBlock (b : LinkedBlock) (before after : List ℕ) : Type 0 wher
   pub each : (i : ℕ) → slice_index after i ≡ (if covers i b && stays (i - b.start) then header_or_move b (i - b.start) else slice_index before i)
 
 -- the block below a leaf of this spot: it begins at NEXT
-abbrev pub block_below : ℕ → ℕ → ℕ → Spot → LinkedBlock
+abbrev pub block_below : ℕ → ℕ → ℕ → NodeState → LinkedBlock
 block_below next leaf empties p = record { start = next; parent = leaf; empties = empties; cells = empties_of p.board }
 
 -- the block is written, its parent's link names it, and no other word changes
@@ -36,11 +36,11 @@ pub record Links (b : LinkedBlock) (before after : List ℕ) : Type 0 where
   pub each : (i : ℕ) → (i ≡ b.parent + 1 → ⊥) → slice_index after i ≡ (if covers i b && stays (i - b.start) then header_or_move b (i - b.start) else slice_index before i)
 
 -- a block with the empty cells of this spot is written so
-abbrev pub LinksBelow : ℕ → ℕ → Spot → List ℕ → List ℕ → Type 0
+abbrev pub LinksBelow : ℕ → ℕ → NodeState → List ℕ → List ℕ → Type 0
 LinksBelow start leaf p before after = (empties : ℕ) × HasEmpties empties p.board × Links (block_below start leaf empties p) before after
 
 -- The leaf of this spot gets its block where it is to have one, and NEXT grows where it asks for one; no other word changes.
-pub record Grows (s : Setting) (leaf : ℕ) (p : Spot) (before after : List ℕ) : Type 0 where
+pub record Grows (s : Setting) (leaf : ℕ) (p : NodeState) (before after : List ℕ) : Type 0 where
   pub next : next_in after ≡ next_after s (next_in before) (tally_in before leaf) p
   pub made : gets_block s (next_in before) (tally_in before leaf) p ≡ true → LinksBelow (next_in before) leaf p (slice_set before 0 (next_after s (next_in before) (tally_in before leaf) p)) after
   pub none : gets_block s (next_in before) (tally_in before leaf) p ≡ false → (length after ≡ length before) × ((i : ℕ) → 1 ≤ i → slice_index after i ≡ slice_index before i)

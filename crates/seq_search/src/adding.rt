@@ -5,7 +5,7 @@ ghost use Rattle.hex_cells.specs.declared.colours.Colour.TheVariants.{White};
 ghost use Rattle.hex_board.specs.Wins.{is_same};
 ghost use Rattle.tree_words.specs.Blocks.{LinkedBlock, one_if, words_of};
 ghost use Rattle.tree_words.specs.Words.{cell_in, root_at};
-ghost use Rattle.tree_words.specs.Paths.{first_spot};
+ghost use Rattle.tree_words.specs.Paths.{root_state};
 ghost use Rattle.tree_words.specs.Sequence.{game_of};
 ghost use Rattle.tree_words.specs.Descents.{Added};
 ghost use Rattle.play_out.specs.Fills.{filled, playout_of};
@@ -122,7 +122,7 @@ pub(crate) fn add(words: &mut [u64], shape: &Shape, walk: &Descent, k: u32, endi
     requires walked { (bs : List LinkedBlock) × Holds shape.now bs words.old k × Descended shape.now bs words.old walk.now }
     ensures holds { (bs : List LinkedBlock) → Holds shape.now bs words.old k → Descended shape.now bs words.old walk.now → Holds shape.now bs words.new (k + 1) }
     ensures added { (bs : List LinkedBlock) → Holds shape.now bs words.old k → Descended shape.now bs words.old walk.now
-        → Added (game_of shape.now) (first_spot shape.now) (root_at shape.now) (outcome_in ending.now) (config_of bs words.old) (config_of bs words.new) }
+        → Added (game_of shape.now) (root_state shape.now) (root_at shape.now) (outcome_in ending.now) (config_of bs words.old) (config_of bs words.new) }
     ensures record { Records shape.now k (2 * walk.now.node + one_if (is_same ending.now.winner White)) words.old words.new }
 {
     count(words, shape, walk, ending);

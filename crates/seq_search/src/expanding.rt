@@ -3,7 +3,7 @@
 ghost use Rattle.std.specs.Prelude.{◌≡◌, ◌+◌, ◌<◌, ◌≤◌, length};
 ghost use Rattle.tree_words.specs.Blocks.{words_of};
 ghost use Rattle.tree_words.specs.Growth.{most_words};
-ghost use Rattle.tree_words.specs.Paths.{Spot};
+ghost use Rattle.tree_words.specs.Paths.{NodeState};
 ghost use Rattle.tree_words.specs.Sequence.{asks, gets_block};
 ghost use Rattle.tree_words.specs.Words.{end_of, next_in, tally_in};
 ghost use Rattle.play_out.specs.Fills.{empties_of};
@@ -29,7 +29,7 @@ fn empty_count(board: &Board) -> usize
 fn asks_for_block(words: &[u64], shape: &Shape, leaf: usize, board: &Board) -> bool
     requires long { length words.now ≡ end_of shape.now }
     requires leaf { leaf + 4 ≤ length words.now }
-    ensures { (p : Spot) → p.board ≡ board.now → result ≡ asks shape.now (next_in words.now) (tally_in words.now leaf) p }
+    ensures { (p : NodeState) → p.board ≡ board.now → result ≡ asks shape.now (next_in words.now) (tally_in words.now leaf) p }
 {
     if visits_of(words[leaf + TALLY_WORD]) < shape.knobs().expand {
         return false;
@@ -44,7 +44,7 @@ fn asks_for_block(words: &[u64], shape: &Shape, leaf: usize, board: &Board) -> b
 fn link_block(words: &mut [u64], start: usize, leaf: usize, board: &Board)
     requires within { start + words_of (length (empties_of board.now)) ≤ length words.old }
     requires leaf { leaf + 4 ≤ length words.old }
-    ensures { (p : Spot) → p.board ≡ board.now → LinksBelow start leaf p words.old words.new }
+    ensures { (p : NodeState) → p.board ≡ board.now → LinksBelow start leaf p words.old words.new }
 {
     let empties = board.empties();
     write_block(words, start, leaf, empties, empties, board.size());
@@ -57,8 +57,8 @@ pub(crate) fn expand(words: &mut [u64], shape: &Shape, leaf: usize, board: &Boar
     requires long { length words.old ≡ end_of shape.now }
     requires leaf { leaf + 4 ≤ length words.old }
     requires next { (1 ≤ next_in words.old) × (next_in words.old ≤ end_of shape.now + most_words) }
-    ensures told { (p : Spot) → p.board ≡ board.now → result ≡ gets_block shape.now (next_in words.old) (tally_in words.old leaf) p }
-    ensures words { (p : Spot) → p.board ≡ board.now → Grows shape.now leaf p words.old words.new }
+    ensures told { (p : NodeState) → p.board ≡ board.now → result ≡ gets_block shape.now (next_in words.old) (tally_in words.old leaf) p }
+    ensures words { (p : NodeState) → p.board ≡ board.now → Grows shape.now leaf p words.old words.new }
 {
     if !asks_for_block(words, shape, leaf, board) {
         return false;

@@ -15,7 +15,7 @@
 //! **What is only tested, or not said.** Speed. That the vector gets its memory.
 //!
 //! **How it is proved.** The words are read as a list of linked blocks, and one walk on these blocks is one walk on the tree.
-//! `specs/` says what stands between the steps of a walk: `Holds` that the words hold the tree of their blocks, `Standing` that
+//! `specs/` says what stands between the steps of a walk: `Holds` that the words hold the tree of their blocks, `IsSearched` that
 //! their counts and records are those of the walks made so far, `Searched` both with the tree.
 //!
 //! **Limits.** Those of a `Shape`. One allocation of all words; a walk takes no memory.

@@ -4,7 +4,7 @@ use Rattle.std.specs.Prelude.{codes}
 use Rattle.hex_cells.specs.declared.colours.Colour.{Colour}
 use Rattle.hex_cells.specs.declared.colours.Colour.TheVariants.{Black, White}
 use Rattle.hex_board.specs.Positions.{Position}
-use Rattle.hex_game.specs.Games.{Played}
+use Rattle.hex_game.specs.Games.{GameData}
 use Rattle.hex_game.specs.declared.moves.Step.{Step}
 use Rattle.sgf_tree.specs.declared.lists.Prop.{Prop}
 use Rattle.sgf_tree.specs.Grammar.{is_capital, IsName}
@@ -47,5 +47,5 @@ nodes_have : (n : ℕ) (steps : List Step) → NodesHaveTexts (map (node_of n) s
 nodes_have n [] = tt
 nodes_have n (step ∷ steps) = ((letter_is_name step.colour, tt, tt), nodes_have n steps)
 
-pub record_has_text : (game : Played) → HasText (record_of game)
+pub record_has_text : (game : GameData) → HasText (record_of game)
 record_has_text game = (tt, (tt, (root_has game.start, nodes_have game.start.size game.steps), tt, tt))

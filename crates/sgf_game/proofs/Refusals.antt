@@ -10,7 +10,7 @@ use Rattle.hex_cells.specs.declared.colours.Colour.{Colour}
 use Rattle.hex_cells.specs.declared.colours.Colour.TheVariants.{Black, White}
 use Rattle.hex_board.specs.Positions.{Position, placed}
 use Rattle.hex_game.specs.Moves.{lone_black_stone}
-use Rattle.hex_game.specs.Games.{Played, is_legal_on, moved, swapped, after_step, replay_on, replay, IsOnBoard}
+use Rattle.hex_game.specs.Games.{GameData, is_legal_on, moved, swapped, after_step, replay_on, replay, IsOnBoard}
 use Rattle.hex_game.specs.declared.moves.Move.{Move}
 use Rattle.hex_game.specs.declared.moves.Move.TheVariants.{Stone, Swap}
 use Rattle.hex_game.specs.declared.moves.Step.{Step}
@@ -160,11 +160,11 @@ abbrev pub says : Option Turn → Bool
 says None = true
 says (Some turn) = speaks turn.said
 
-refused_or_speaks : (game : Played) (colour : Colour) (said : Option Said) → is_refused_said game colour said ≡ false → speaks said ≡ true
+refused_or_speaks : (game : GameData) (colour : Colour) (said : Option Said) → is_refused_said game colour said ≡ false → speaks said ≡ true
 refused_or_speaks game colour None e = absurd (cc)
 refused_or_speaks game colour (Some said) e = refl
 
-refused_or_says : (game : Played) (turn : Option Turn) → is_refused_next game turn ≡ false → says turn ≡ true
+refused_or_says : (game : GameData) (turn : Option Turn) → is_refused_next game turn ≡ false → says turn ≡ true
 refused_or_says game None e = refl
 refused_or_says game (Some turn) e = refused_or_speaks game turn.colour turn.said e
 
@@ -206,11 +206,11 @@ turn_at [] i turn l e = absurd (omega arith)
 turn_at (t ∷ turns) zero turn l e = ap Some (sym e)
 turn_at (t ∷ turns) (suc i) turn l e = turn_at turns i turn (omega arith) e
 
-refusal_at : (start : Position) (turns : List Turn) (i : ℕ) (turn : Turn) (game : Played) → i < length turns → turn ≡ get_or turns i turn → game ≡ game_after start (take i turns)
+refusal_at : (start : Position) (turns : List Turn) (i : ℕ) (turn : Turn) (game : GameData) → i < length turns → turn ≡ get_or turns i turn → game ≡ game_after start (take i turns)
     → is_refused start turns i ≡ is_refused_said game turn.colour turn.said
 refusal_at start turns i turn game l e g =
     ap (is_refused_next (game_after start (take i turns))) (turn_at turns i turn l e)
-    ∙ ap (λ (h : Played). is_refused_said h turn.colour turn.said) (sym g)
+    ∙ ap (λ (h : GameData). is_refused_said h turn.colour turn.said) (sym g)
 
 not_true : (b : Bool) → false ≡ not b → b ≡ true
 not_true true e = refl
@@ -220,20 +220,20 @@ not_false : (b : Bool) → true ≡ not b → b ≡ false
 not_false true e = absurd (cc)
 not_false false e = refl
 
-pub refused_at : (start : Position) (turns : List Turn) (i : ℕ) (turn : Turn) (game : Played) → i < length turns → turn ≡ get_or turns i turn → game ≡ game_after start (take i turns)
+pub refused_at : (start : Position) (turns : List Turn) (i : ℕ) (turn : Turn) (game : GameData) → i < length turns → turn ≡ get_or turns i turn → game ≡ game_after start (take i turns)
     → false ≡ not (is_refused_said game turn.colour turn.said) → is_refused start turns i ≡ true
 refused_at start turns i turn game l e g h = refusal_at start turns i turn game l e g ∙ not_true (is_refused_said game turn.colour turn.said) h
 
-pub taken_at : (start : Position) (turns : List Turn) (i : ℕ) (turn : Turn) (game : Played) → i < length turns → turn ≡ get_or turns i turn → game ≡ game_after start (take i turns)
+pub taken_at : (start : Position) (turns : List Turn) (i : ℕ) (turn : Turn) (game : GameData) → i < length turns → turn ≡ get_or turns i turn → game ≡ game_after start (take i turns)
     → true ≡ not (is_refused_said game turn.colour turn.said) → is_refused start turns i ≡ false
 taken_at start turns i turn game l e g h = refusal_at start turns i turn game l e g ∙ not_false (is_refused_said game turn.colour turn.said) h
 
 -- the game after one turn more
-pub game_more : (start : Position) (turns : List Turn) (i : ℕ) (turn : Turn) (game : Played) → i < length turns → turn ≡ get_or turns i turn → game ≡ game_after start (take i turns)
+pub game_more : (start : Position) (turns : List Turn) (i : ℕ) (turn : Turn) (game : GameData) → i < length turns → turn ≡ get_or turns i turn → game ≡ game_after start (take i turns)
     → record game { steps = game.steps ++ step_said turn.colour turn.said } ≡ game_after start (take (i + 1) turns)
 game_more start turns i turn game l e g =
     let said : List Step = step_said turn.colour turn.said in
     let more : take (i + 1) turns ≡ take i turns ++ turn ∷ [] = take_more turns i turn l ∙ ap (λ (t : Turn). take i turns ++ t ∷ []) (sym e) in
     let steps : steps_of (take (i + 1) turns) ≡ steps_of (take i turns) ++ said =
     ap steps_of more ∙ flat_map-append (λ (t : Turn). step_said t.colour t.said) (take i turns) (turn ∷ []) ∙ ap (λ ss. steps_of (take i turns) ++ ss) (append-nil said) in
-    ap (λ (h : Played). record h { steps = h.steps ++ said }) g ∙ ap (λ ss. record { start = start; steps = ss }) (sym steps)
+    ap (λ (h : GameData). record h { steps = h.steps ++ said }) g ∙ ap (λ ss. record { start = start; steps = ss }) (sym steps)

@@ -7,7 +7,7 @@ use Rattle.std.proofs.lemmas.List.{length-map}
 use Rattle.hex_cells.specs.declared.colours.Colour.{Colour}
 use Rattle.hex_cells.specs.declared.colours.Colour.TheVariants.{Black, White}
 use Rattle.hex_board.specs.Positions.{Position, Within, Apart}
-use Rattle.hex_game.specs.Games.{Played, AreLegal, is_legal, is_over, replay}
+use Rattle.hex_game.specs.Games.{GameData, AreLegal, is_legal, is_over, replay}
 use Rattle.hex_game.specs.declared.moves.Move.{Move}
 use Rattle.hex_game.specs.declared.moves.Move.TheVariants.{Stone, Swap}
 use Rattle.hex_game.specs.declared.moves.Step.{Step}
@@ -135,7 +135,7 @@ turns_played start steps h =
 root_goes_on : (start : Position) → is_last (root_of start) ≡ false
 root_goes_on start = ap has_end (root_entries start)
 
-line_again : (game : Played) → game.start.size ≤ 11 → AreOn game.start.size game.steps → line_of (record_of game) ≡ root_of game.start ∷ map (node_of game.start.size) game.steps
+line_again : (game : GameData) → game.start.size ≤ 11 → AreOn game.start.size game.steps → line_of (record_of game) ≡ root_of game.start ∷ map (node_of game.start.size) game.steps
 line_again game h o =
     let nodes : List Node = map (node_of game.start.size) game.steps in
     ap (λ (more : List Node). up_to_end (root_of game.start ∷ more)) (append-nil nodes)
@@ -152,11 +152,11 @@ root_turns : (start : Position) (steps : List Step) → start.size ≤ 11 → Ar
 root_turns start steps h o =
     ap (λ (es : List Entry). map (turn_of start.size (length es == 1)) es ++ turns_of start.size (map (node_of start.size) steps)) (root_entries start) ∙ turns_again start.size steps h o
 
-sized : (b : Bool) (r s : Result Played GameError) → b ≡ false → cond b r s ≡ s
+sized : (b : Bool) (r s : Result GameData GameError) → b ≡ false → cond b r s ≡ s
 sized b r s e = rw e refl
 
 -- the game of a game's record is the game
-pub game_again : (game : Played) → 1 ≤ game.start.size → game.start.size ≤ 11 → Within game.start.size game.start.black → Within game.start.size game.start.white
+pub game_again : (game : GameData) → 1 ≤ game.start.size → game.start.size ≤ 11 → Within game.start.size game.start.black → Within game.start.size game.start.white
     → Apart game.start.black game.start.white → AreLegal game.start game.steps → game_of (record_of game) ≡ Ok game
 game_again game l h b w a legal =
     let start = game.start in

@@ -7,7 +7,7 @@ use Rattle.hex_cells.specs.declared.colours.Colour.{Colour}
 use Rattle.hex_cells.specs.declared.colours.Colour.TheVariants.{Black, White}
 use Rattle.hex_board.specs.Joined.{cells_of}
 use Rattle.hex_board.specs.Positions.{Position}
-use Rattle.hex_game.specs.Games.{Played}
+use Rattle.hex_game.specs.Games.{GameData}
 use Rattle.hex_game.specs.declared.moves.Move.{Move}
 use Rattle.hex_game.specs.declared.moves.Move.TheVariants.{Stone, Swap}
 use Rattle.hex_game.specs.declared.moves.Step.{Step}
@@ -48,5 +48,5 @@ abbrev pub node_of : ℕ → Step → Node
 node_of n step = record { props = prop_of (letter_of step.colour) (text_of n step.what ∷ []) ∷ [] }
 
 -- Record: one tree without kids, of the root and a node for each step
-abbrev pub record_of : Played → GameTrees
+abbrev pub record_of : GameData → GameTrees
 record_of game = tree (root_of game.start ∷ map (node_of game.start.size) game.steps) none none

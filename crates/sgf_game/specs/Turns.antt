@@ -5,7 +5,7 @@ use Rattle.hex_cells.specs.Vertices.{vertex_cell}
 use Rattle.hex_cells.specs.declared.colours.Colour.{Colour}
 use Rattle.hex_board.specs.Positions.{Position}
 use Rattle.hex_game.specs.Moves.{step_of}
-use Rattle.hex_game.specs.Games.{Played, is_legal}
+use Rattle.hex_game.specs.Games.{GameData, is_legal}
 use Rattle.hex_game.specs.declared.moves.Move.TheVariants.{Stone, Swap}
 use Rattle.hex_game.specs.declared.moves.Step.{Step}
 use Rattle.sgf_tree.specs.declared.lists.Node.{Node}
@@ -44,15 +44,15 @@ abbrev pub steps_of : List Turn → List Step
 steps_of turns = flat_map (λ turn. step_said turn.colour turn.said) turns
 
 -- the game that these turns lead to
-abbrev pub game_after : Position → List Turn → Played
+abbrev pub game_after : Position → List Turn → GameData
 game_after start turns = record { start = start; steps = steps_of turns }
 
-abbrev pub is_refused_said : Played → Colour → Option Said → Bool
+abbrev pub is_refused_said : GameData → Colour → Option Said → Bool
 is_refused_said game colour None = true
 is_refused_said game colour (Some Ends) = false
 is_refused_said game colour (Some (Plays what)) = not (is_legal game (step_of colour what))
 
-abbrev pub is_refused_next : Played → Option Turn → Bool
+abbrev pub is_refused_next : GameData → Option Turn → Bool
 is_refused_next game None = false
 is_refused_next game (Some turn) = is_refused_said game turn.colour turn.said
 
@@ -64,10 +64,10 @@ is_refused start turns i = is_refused_next (game_after start (take i turns)) (sl
 abbrev pub first_refused : Position → List Turn → Option ℕ
 first_refused start turns = find (is_refused start turns) (range_with_len 0 (length turns))
 
-abbrev pub game_unless : Option ℕ → Played → Result Played GameError
+abbrev pub game_unless : Option ℕ → GameData → Result GameData GameError
 game_unless None game = Ok game
 game_unless (Some index) game = Err (BadMove index)
 
 -- the game of these turns, unless one is refused
-abbrev pub game_of_turns : Position → List Turn → Result Played GameError
+abbrev pub game_of_turns : Position → List Turn → Result GameData GameError
 game_of_turns start turns = game_unless (first_refused start turns) (game_after start turns)

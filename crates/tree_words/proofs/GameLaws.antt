@@ -7,7 +7,7 @@ use Rattle.uct_table.proofs.ChoiceLaws.{choice_of-lt}
 use Rattle.tree_words.specs.Settings.{Setting}
 use Rattle.tree_words.specs.Words.{Count, root_at, area_at, end_of}
 use Rattle.tree_words.specs.Blocks.{LinkedBlock, words_of, size, has, place, cell_at, up, is_node, In, Follows, InOrder}
-use Rattle.tree_words.specs.Paths.{Spot, first_spot, spot_after, spot_of, board_of}
+use Rattle.tree_words.specs.Paths.{NodeState, root_state, state_after, node_state, board_of}
 use Rattle.tree_words.specs.Complete.{HasEmpties, Complete, AreComplete, cells_below, allowed_cells}
 use Rattle.play_out.specs.Fills.{empties_of}
 use Rattle.tree_words.specs.Sequence.{Outcome, child_of, chosen_of, asks, next_after, size_below, game_of}
@@ -28,7 +28,7 @@ grows_by : (t : Bool) (n m : ℕ) → n ≤ cond t (n + m) n
 grows_by true n m = omega arith
 grows_by false n m = omega arith
 
-next_grows : (s : Setting) (n : ℕ) (v : Count) (p : Spot) → n ≤ next_after s n v p
+next_grows : (s : Setting) (n : ℕ) (v : Count) (p : NodeState) → n ≤ next_after s n v p
 unfolding next_after
 next_grows s n v p = grows_by (asks s n v p) n (size_below p)
 
@@ -81,8 +81,8 @@ module _ {A : Type 0} (root : A) (step : LinkedBlock → ℕ → A → A) where
       i
 
 -- a newer block changes no spot of an older node
-pub spot-same : (s : Setting) (c : LinkedBlock) (bs : List LinkedBlock) (x : ℕ) → Follows (root_at s) c bs → is_node (root_at s) bs x ≡ true → spot_of s (c ∷ bs) x ≡ spot_of s bs x
-spot-same s c bs x f n = up_same (first_spot s) (λ b y above. spot_after above (cell_at b (place b y))) c bs x (apart (root_at s) c bs x f n)
+pub spot-same : (s : Setting) (c : LinkedBlock) (bs : List LinkedBlock) (x : ℕ) → Follows (root_at s) c bs → is_node (root_at s) bs x ≡ true → node_state s (c ∷ bs) x ≡ node_state s bs x
+spot-same s c bs x f n = up_same (root_state s) (λ b y above. state_after above (cell_at b (place b y))) c bs x (apart (root_at s) c bs x f n)
 
 -- a linked block, told by all blocks
 pub record IsWhole (s : Setting) (next : ℕ) (bs : List LinkedBlock) (b : LinkedBlock) : Type 0 where
@@ -98,26 +98,26 @@ whole-in s next (d ∷ bs) b g c i =
     let r : ℕ = root_at s in
     ⊎_elim
     (λ (e : b ≡ d).
-    let same : spot_of s bs d.parent ≡ spot_of s (d ∷ bs) d.parent = sym (spot-same s d bs d.parent g.0 g.0.parent) in
+    let same : node_state s bs d.parent ≡ node_state s (d ∷ bs) d.parent = sym (spot-same s d bs d.parent g.0 g.0.parent) in
     let w : IsWhole s next (d ∷ bs) d = record {
       claimed = c.0.claimed;
       inside = c.0.inside;
-      empties = subst (λ (p : Spot). HasEmpties d.empties p.board) same c.0.empties;
+      empties = subst (λ (p : NodeState). HasEmpties d.empties p.board) same c.0.empties;
       cells = c.0.cells ∙ below s bs (d ∷ bs) d.parent same;
       above = g.0.above;
     } in
     subst (IsWhole s next (d ∷ bs)) (sym e) w)
     (λ (j : In b bs).
     let w = whole-in s next bs b g.1 c.1 j in
-    let same : spot_of s bs b.parent ≡ spot_of s (d ∷ bs) b.parent = sym (spot-same s d bs b.parent g.0 (in-parent r bs b g.1 j)) in
+    let same : node_state s bs b.parent ≡ node_state s (d ∷ bs) b.parent = sym (spot-same s d bs b.parent g.0 (in-parent r bs b g.1 j)) in
     let w' : IsWhole s next (d ∷ bs) b = record {
       claimed = w.claimed;
       inside = w.inside;
-      empties = subst (λ (p : Spot). HasEmpties b.empties p.board) same w.empties;
+      empties = subst (λ (p : NodeState). HasEmpties b.empties p.board) same w.empties;
       cells = w.cells ∙ below s bs (d ∷ bs) b.parent same;
       above = w.above;
     } in w')
     i
   where
-    below : (s : Setting) (bs cs : List LinkedBlock) (x : ℕ) → spot_of s bs x ≡ spot_of s cs x → cells_below s bs x ≡ cells_below s cs x
-    below s bs cs x e = ap (λ (p : Spot). cond (x == root_at s) (allowed_cells s) (empties_of p.board)) e
+    below : (s : Setting) (bs cs : List LinkedBlock) (x : ℕ) → node_state s bs x ≡ node_state s cs x → cells_below s bs x ≡ cells_below s cs x
+    below s bs cs x e = ap (λ (p : NodeState). cond (x == root_at s) (allowed_cells s) (empties_of p.board)) e

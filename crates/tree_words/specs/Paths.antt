@@ -9,20 +9,20 @@ use Rattle.tree_words.specs.Words.{root_at}
 use Rattle.tree_words.specs.Blocks.{LinkedBlock, has, place, cell_at, up}
 
 -- a board, and the player to move there
-pub record Spot : Type 0 where
+pub record NodeState : Type 0 where
   pub board : Position
   pub player : Colour
 
 -- the root's: the setting's board and player
-abbrev pub first_spot : Setting → Spot
-first_spot s = record { board = s.board; player = s.player }
+abbrev pub root_state : Setting → NodeState
+root_state s = record { board = s.board; player = s.player }
 
 -- after a stone of the player to move
-abbrev pub spot_after : Spot → ℕ → Spot
-spot_after p cell = record { board = placed p.board p.player cell; player = other_of p.player }
+abbrev pub state_after : NodeState → ℕ → NodeState
+state_after p cell = record { board = placed p.board p.player cell; player = other_of p.player }
 
 -- the player who placed the last stone
-abbrev pub mover_at : Spot → Colour
+abbrev pub mover_at : NodeState → Colour
 mover_at p = other_of p.player
 
 -- Path: the nodes from x up to the root
@@ -39,13 +39,13 @@ enters s bs b y = list_any (λ z. has b z) (path_of s bs y)
 
 -- the board of x and the player to move there: from the root down each node of the path below the root places its cell, the
 -- setting's player first
-abbrev pub spot_of : Setting → List LinkedBlock → ℕ → Spot
-spot_of s bs x = up (first_spot s) (λ b y above. spot_after above (cell_at b (place b y))) bs x
+abbrev pub node_state : Setting → List LinkedBlock → ℕ → NodeState
+node_state s bs x = up (root_state s) (λ b y above. state_after above (cell_at b (place b y))) bs x
 
 -- Board(x)
 abbrev pub board_of : Setting → List LinkedBlock → ℕ → Position
-board_of s bs x = (spot_of s bs x).board
+board_of s bs x = (node_state s bs x).board
 
 -- Mover(x): the player who placed the cell of x; for the root the player not to move
 abbrev pub mover_of : Setting → List LinkedBlock → ℕ → Colour
-mover_of s bs x = mover_at (spot_of s bs x)
+mover_of s bs x = mover_at (node_state s bs x)

@@ -4,7 +4,7 @@ use Rattle.play_out.specs.Fills.{playout_of}
 use Rattle.tree_words.specs.Settings.{Setting}
 use Rattle.tree_words.specs.Words.{root_at, record_in, leaf_in, winner_in}
 use Rattle.tree_words.specs.Blocks.{LinkedBlock, is_node}
-use Rattle.tree_words.specs.Paths.{Spot, spot_of}
+use Rattle.tree_words.specs.Paths.{NodeState, node_state}
 use Rattle.tree_words.specs.Sequence.{Outcome, outcome_of}
 
 -- the leaf of playout k
@@ -13,7 +13,7 @@ leaf_of words k = leaf_in (record_in words k)
 
 -- what playout k gives from the leaf's board, with the player to move there
 abbrev pub outcome_in : Setting → List LinkedBlock → List ℕ → ℕ → Outcome
-outcome_in s bs words k = outcome_of s k (spot_of s bs (leaf_of words k))
+outcome_in s bs words k = outcome_of s k (node_state s bs (leaf_of words k))
 
 -- the record of playout k is right: its leaf is a node of the tree other than the root, and its result is that of the playout
 pub record IsRecord (s : Setting) (bs : List LinkedBlock) (words : List ℕ) (k : ℕ) : Type 0 where

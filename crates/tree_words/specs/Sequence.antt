@@ -9,7 +9,7 @@ use Rattle.play_out.specs.Fills.{empties_of, filled, playout_of}
 use Rattle.tree_words.specs.Settings.{Setting}
 use Rattle.tree_words.specs.Words.{Count, area_at, end_of}
 use Rattle.tree_words.specs.Blocks.{words_of}
-use Rattle.tree_words.specs.Paths.{Spot, first_spot, spot_after, mover_at}
+use Rattle.tree_words.specs.Paths.{NodeState, root_state, state_after, mover_at}
 use Rattle.tree_words.specs.Complete.{allowed_cells}
 use Rattle.tree_words.specs.Walks.{nothing, Tree, node, Game, fresh, walks}
 
@@ -19,7 +19,7 @@ pub record Outcome : Type 0 where
   pub full : Position
 
 -- playout k from a spot
-unfoldable pub outcome_of : Setting → ℕ → Spot → Outcome
+unfoldable pub outcome_of : Setting → ℕ → NodeState → Outcome
 outcome_of s k p = record {
   winner = playout_of p.board p.player s.knobs.seed k;
   full = filled p.board p.player s.knobs.seed k;
@@ -34,28 +34,28 @@ abbrev pub one : Bool → Count
 one wins = record { visits = 1; wins = (if wins then 1 else 0) }
 
 -- a node of the path has one visit more, and one win more where its mover won
-unfoldable pub gain_of : Outcome → Spot → Count
+unfoldable pub gain_of : Outcome → NodeState → Count
 gain_of o p = one (is_same o.winner (mover_at p))
 
 -- a node of its block, whose parent has this spot, has one seen visit more where its cell holds a stone of its mover on the filled
 -- board, and one seen win more where that mover won
-unfoldable pub glimpse_of : Outcome → Spot → ℕ → Count
+unfoldable pub glimpse_of : Outcome → NodeState → ℕ → Count
 glimpse_of o p cell = if has (stones_of o.full p.player) cell then one (is_same o.winner p.player) else nothing
 
 -- the number of words of a block below this spot
-abbrev pub size_below : Spot → ℕ
+abbrev pub size_below : NodeState → ℕ
 size_below p = words_of (length (empties_of p.board))
 
 -- a leaf asks for a block where it has T visits, its board has an empty cell, and `next` is at most the area's end
-abbrev pub asks : Setting → ℕ → Count → Spot → Bool
+abbrev pub asks : Setting → ℕ → Count → NodeState → Bool
 asks s next v p = nat_le s.knobs.expand v.visits && (nat_lt 0 (length (empties_of p.board)) && nat_le next (end_of s))
 
 -- it gets the block where this fits inside the area
-unfoldable pub gets_block : Setting → ℕ → Count → Spot → Bool
+unfoldable pub gets_block : Setting → ℕ → Count → NodeState → Bool
 gets_block s next v p = asks s next v p && nat_le (next + size_below p) (end_of s)
 
 -- `next` grows wherever a block is asked for
-unfoldable pub next_after : Setting → ℕ → Count → Spot → ℕ
+unfoldable pub next_after : Setting → ℕ → Count → NodeState → ℕ
 next_after s next v p = if asks s next v p then next + size_below p else next
 
 -- Choice, with the weight
@@ -63,10 +63,10 @@ unfoldable pub chosen_of : Setting → Count → List (Count × Count) → ℕ
 chosen_of s v children = choice_of v.visits s.knobs.weight (map child_of children)
 
 -- the search of Hex
-abbrev pub game_of : Setting → Game Spot Outcome
+abbrev pub game_of : Setting → Game NodeState Outcome
 game_of s = record {
   choose = chosen_of s;
-  next = spot_after;
+  next = state_after;
   play = outcome_of s;
   gain = gain_of;
   glimpse = glimpse_of;
@@ -81,4 +81,4 @@ first_tree s = (node 0 nothing nothing (fresh (allowed_cells s)), area_at s + wo
 
 -- Seq: the tree and `next` after all playouts
 abbrev pub seq_of : Setting → Tree × ℕ
-seq_of s = walks (game_of s) (first_spot s) (first_tree s) s.knobs.playouts
+seq_of s = walks (game_of s) (root_state s) (first_tree s) s.knobs.playouts

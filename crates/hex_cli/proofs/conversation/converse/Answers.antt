@@ -1,7 +1,7 @@
 -- What stands at each end, and after one piece more.
 use Rattle.std.proofs.Common.{◌≡◌, ◌≤◌, ◌+◌, ◌++◌, [], ℕ, List, take, length, refl, arith, subst, ◌∙◌}
 use Rattle.hex_io.specs.Told.{Both, Takes}
-use Rattle.hex_engine.specs.Standing.{opening}
+use Rattle.hex_engine.specs.EngineState.{opening}
 use Rattle.hex_cli.proofs.Pieces.{length-taken, length-front}
 use Rattle.hex_cli.proofs.Conversations.{goes_nothing, goes_taking, goes_on_feeding, conversed_nothing, ends_unread, ends_overlong, ends_quit, ends_unwritten, ends_unfinished, ends_unarchived, last_complete, last_unwritten, last_unfinished, last_unarchived}
 use Rattle.hex_cli.proofs.conversation.converse.Goals as goal

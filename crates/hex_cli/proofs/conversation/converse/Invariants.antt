@@ -1,5 +1,5 @@
 use Rattle.std.proofs.Common.{◌≡◌, ◌≤◌, ◌-◌, ℕ, List, length}
-use Rattle.hex_engine.specs.Standing.{opening}
+use Rattle.hex_engine.specs.EngineState.{opening}
 use Rattle.hex_cli.proofs.Conversations.{Goes}
 use Rattle.hex_cli.proofs.conversation.converse.Given as goal
 

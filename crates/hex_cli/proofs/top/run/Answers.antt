@@ -1,10 +1,13 @@
 -- What the status tells of the end.
 use Rattle.std.proofs.Common.{sym, ◌∙◌}
-use Rattle.hex_engine.specs.Standing.{opening}
+use Rattle.hex_engine.specs.EngineState.{opening}
 use Rattle.hex_cli.specs.Runs.{knobs_of}
-use Rattle.hex_cli.specs.declared.ends.End.TheVariants.{Usage}
+use Rattle.hex_cli.specs.declared.ends.End.TheVariants.{Usage, Done}
 use Rattle.hex_cli.specs.declared.top.TheConstants.{INPUT_LIMIT}
 use Rattle.hex_cli.proofs.RunLaws.{same_end, complete_at, too_long_exactly}
+use Rattle.hex_cli.proofs.DeterminedLaws.{determined_at}
+use Rattle.std.proofs.Common.{subst}
+use Rattle.hex_cli.specs.Outcome.{Conversed}
 use Rattle.hex_cli.proofs.top.run.Goals as goal
 
 pub returns-clause-usage : goal.returns-clause-usage
@@ -23,3 +26,8 @@ returns-clause-complete g c = λ options well_formed read write archive.
 
 pub returns-clause-errors : goal.returns-clause-errors
 returns-clause-errors g c = λ end e. rw (← same_end c.serve-end.result end (sym c.report.ensures.status ∙ e)) c.report.ensures.errors
+
+pub returns-clause-determined : goal.returns-clause-determined
+returns-clause-determined g c = λ options well_formed e.
+    let done = same_end c.serve-end.result Done (sym c.report.ensures.status ∙ e) in
+    determined_at (knobs_of options) options.size INPUT_LIMIT _ _ _ _ _ _ (rw done at c.serve-end.ensures.conversed options well_formed)

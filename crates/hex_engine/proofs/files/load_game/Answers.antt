@@ -3,7 +3,7 @@ use Rattle.std.proofs.Common.{◌≡◌, Some, None, Ok, refl, subst, ap}
 use Rattle.std.specs.Prelude.{Err}
 use Rattle.hex_io.specs.Shelves.{Failed, Missing, Long, Held, says}
 use Rattle.hex_io.specs.declared.shelves.ShelfError.TheVariants.{Fault, TooLong}
-use Rattle.hex_engine.specs.Left.{Unread, Refused}
+use Rattle.hex_engine.specs.Supply.{Unread, Refused}
 use Rattle.hex_engine.specs.Uses.{IsReadAs}
 use Rattle.hex_engine.specs.Files.{came_to}
 use Rattle.hex_engine.proofs.Using.{fetched_one, fetched_in_vain, if_ok, on_err}

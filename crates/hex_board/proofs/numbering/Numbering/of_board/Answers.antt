@@ -1,14 +1,14 @@
 use Rattle.std.proofs.Common.{◌≡◌, ℕ, ◌&&◌, not, true, false, ap, ◌∙◌, arith}
 use Rattle.hex_cells.specs.Sets.{has}
 use Rattle.hex_cells.specs.Edges.{on_edge}
-use Rattle.hex_board.specs.Elements.{Side, is_tied}
+use Rattle.hex_board.specs.Elements.{PlayerBoard, is_tied}
 use Rattle.hex_board.specs.Positions.{Within}
 use Rattle.hex_board.proofs.Parts.{flood_test, root_test, head_test}
 use Rattle.hex_board.proofs.numbering.Numbering.of_board.Goals as goal
 
 pub invariant_of-result : goal.invariant_of-result
 invariant_of-result c =
-    let e : Side = record { board = c.args.board.now; player = c.args.colour } in
+    let e : PlayerBoard = record { board = c.args.board.now; player = c.args.colour } in
     let on : Within c.size-size.result c.stones-stones.result = rw c.size-size.ensures.value c.stones-stones.ensures.on_board in
     let first : (k : ℕ) → has c.flood-first.result k ≡ is_tied e false k = λ k. rw (← c.size-size.ensures.value, ← c.stones-stones.ensures.value)
     (flood_test c.size-size.result c.stones-stones.result c.edge.result (on_edge c.args.colour false c.size-size.result) c.flood-first.result k on c.edge.ensures (c.flood-first.ensures k)) in

@@ -5,6 +5,7 @@ use Rattle.hex_cells.proofs.sets.CellSet.meet.Goals as goal
 
 pub returns : goal.returns
 returns c = record {
+  value = cc;
   shrinks = rw (sym c.self.view_is) (and_le_l c.self.inside.bits _);
   small = omega (arith, and_le_l c.self.inside.bits c.other.inside.bits, c.self.invariant);
   items = λ k. cc (has_and c.self.inside.bits c.other.inside.bits k);

@@ -1,10 +1,10 @@
 use Rattle.std.proofs.Common.{◌≡◌, true, sym, ◌∙◌, subst, ap}
 use Rattle.hex_game.specs.Games.{board_of}
 use Rattle.hex_plan.specs.Openings.{may_move}
-use Rattle.hex_engine.specs.Standing.{Standing}
+use Rattle.hex_engine.specs.EngineState.{EngineState}
 use Rattle.hex_engine.proofs.Using.{has_empty}
 use Rattle.hex_engine.proofs.standing.Engine.decide.Goals as goal
 
 pub turn_shape-shape-requires-clause-room : goal.turn_shape-shape-requires-clause-room
 turn_shape-shape-requires-clause-room c =
-    has_empty c.board.result.now (subst (λ p. may_move p ≡ true) (sym (c.board.ensures ∙ ap (λ (s : Standing). board_of s.game) c.self.view_is)) c.requires)
+    has_empty c.board.result.now (subst (λ p. may_move p ≡ true) (sym (c.board.ensures ∙ ap (λ (s : EngineState). board_of s.game) c.self.view_is)) c.requires)

@@ -1,8 +1,8 @@
 use Rattle.std.proofs.Common.{◌≡◌, Ok, rules, sym, ap, ◌∙◌, subst}
 use Rattle.htp_line.specs.Reading.{asked_of}
 use Rattle.hex_engine.specs.declared.commands.Command.TheVariants.{LoadSgf}
-use Rattle.hex_engine.specs.Standing.{Standing}
-use Rattle.hex_engine.specs.Left.{nothing_left, and_then, loads_only, turns_only}
+use Rattle.hex_engine.specs.EngineState.{EngineState}
+use Rattle.hex_engine.specs.Supply.{nothing_left, and_then, loads_only, turns_only}
 use Rattle.hex_engine.specs.Uses.{Moving}
 use Rattle.hex_engine.specs.declared.answers.Answer.TheVariants as answer
 use Rattle.hex_engine.specs.declared.answers.Fail.TheVariants.{ReadFault}
@@ -40,7 +40,7 @@ returns-in_ok-load-in-None-clause-reply g c =
       record { loading = came.1; moving = record { took = (nothing_moved c.args.self.now.options (g.A.Archive.told c.args.archive.now)).took; good = tt } },
       λ later.
           known_reply c.args.self.now _ (asked_of c.args.request.now) c.as_slice.result.now c.as_slice-args.result.now c.in-Some.command _ c.as_slice.ensures c.as_slice-args.ensures (sym c.named.ensures ∙ c.in-Some.is)
-          (obeyed_load c.args.self.now _ c.in-Some.command _ load ∙ ap (λ (s : Standing). loading s (and_then (loads_only came.0) later) c.as_slice-args.result.now) (sym kept.1) ∙ came.2 later),
+          (obeyed_load c.args.self.now _ c.in-Some.command _ load ∙ ap (λ (s : EngineState). loading s (and_then (loads_only came.0) later) c.as_slice-args.result.now) (sym kept.1) ∙ came.2 later),
     )
 
 pub returns-in-None-2-clause-reply : goal.returns-in-None-2-clause-reply
@@ -52,11 +52,11 @@ returns-in-None-2-clause-reply g c =
       turns_only h.0,
       record {
         loading = unfetched (g.F.Shelf.told c.args.shelf.now);
-        moving = subst (λ (s : Standing). Moving s.options (g.A.Archive.told c.args.archive.now) (g.A.Archive.told c.generate.new.archive) (turns_only h.0)) kept.1 h.1;
+        moving = subst (λ (s : EngineState). Moving s.options (g.A.Archive.told c.args.archive.now) (g.A.Archive.told c.generate.new.archive) (turns_only h.0)) kept.1 h.1;
       },
       λ later.
           known_reply c.args.self.now _ (asked_of c.args.request.now) c.as_slice.result.now c.as_slice-args.result.now c.in-Some.command _ c.as_slice.ensures c.as_slice-args.ensures (sym c.named.ensures ∙ c.in-Some.is)
-          (obeyed_move c.args.self.now _ c.in-Some.command _ kept.0 other ∙ ap (λ (s : Standing). moving s (and_then (turns_only h.0) later) c.as_slice-args.result.now) (sym kept.1) ∙ h.2 later),
+          (obeyed_move c.args.self.now _ c.in-Some.command _ kept.0 other ∙ ap (λ (s : EngineState). moving s (and_then (turns_only h.0) later) c.as_slice-args.result.now) (sym kept.1) ∙ h.2 later),
     ))
     c.generate.ensures.reply
 
@@ -65,7 +65,7 @@ returns-in-None-2-clause-wants_turn g c = λ e.
     let kept = subst (λ d. Obeys c.args.self.now c.in-Some.command c.as_slice-args.result.now d c.obey.new.self) c.in-None-2.is c.in_ok-answer.ensures.ok in
     let other : c.in-Some.command ≡ LoadSgf → ⊥ = search rules in
     known_reply c.args.self.now nothing_left (asked_of c.args.request.now) c.as_slice.result.now c.as_slice-args.result.now c.in-Some.command _ c.as_slice.ensures c.as_slice-args.ensures (sym c.named.ensures ∙ c.in-Some.is)
-    (obeyed_move c.args.self.now nothing_left c.in-Some.command _ kept.0 other ∙ ap (λ (s : Standing). moving s nothing_left c.as_slice-args.result.now) (sym kept.1) ∙ c.generate.ensures.wants_turn e)
+    (obeyed_move c.args.self.now nothing_left c.in-Some.command _ kept.0 other ∙ ap (λ (s : EngineState). moving s nothing_left c.as_slice-args.result.now) (sym kept.1) ∙ c.generate.ensures.wants_turn e)
 
 pub returns-in-None-2-clause-read_fault : goal.returns-in-None-2-clause-read_fault
 returns-in-None-2-clause-read_fault g c = λ e.

@@ -1,5 +1,5 @@
 use Rattle.std.proofs.Common.{Ok, [], ◌∷◌, sym, ap, ◌∙◌, subst}
-use Rattle.hex_engine.specs.Left.{loads_only, Unread, Refused, Loads}
+use Rattle.hex_engine.specs.Supply.{loads_only, Unread, Refused, Loads}
 use Rattle.hex_engine.specs.Uses.{Loading}
 use Rattle.hex_engine.specs.Files.{came_to}
 use Rattle.hex_engine.specs.Replies.{loading_by}

@@ -1,6 +1,6 @@
 use Rattle.std.proofs.Common.{◌≡◌, ◌++◌, ◌∷◌, [], true, List, Some, length, refl, ap, sym, ◌∙◌, subst, length-append, arith}
 use Rattle.hex_board.specs.Positions.{Position}
-use Rattle.hex_game.specs.Games.{Played, is_legal_on, refusal_on, IsOnBoard, moved, replay, with_step}
+use Rattle.hex_game.specs.Games.{GameData, is_legal_on, refusal_on, IsOnBoard, moved, replay, with_step}
 use Rattle.hex_game.specs.Kept.{IsFew}
 use Rattle.hex_game.specs.declared.moves.Step.{Step}
 use Rattle.hex_game.proofs.Chains.{leads_to_replay, one_more, few_on, as_many_on}
@@ -62,5 +62,5 @@ returns-clause-ok c =
     allowed c.self.inside.start c.self.inside.steps.items c.self.inside.board c.args.colour c.args.what (rw (← c.deref.ensures.value) (sym c.cause_against.ensures ∙ c.in_default.is)) in
     let steps_are : c.push.new.self.items ≡ c.self.inside.steps.items ++ step ∷ [] = rw c.unwrap.ensures at c.push.ensures.items in (
       same_rule _ _ _ c.args.self.now step c.self.view_is at ∙ legal,
-      ap (λ (l : List Step). record { start = c.self.inside.start; steps = l }) steps_are ∙ ap (λ (g : Played). with_step g step) c.self.view_is,
+      ap (λ (l : List Step). record { start = c.self.inside.start; steps = l }) steps_are ∙ ap (λ (g : GameData). with_step g step) c.self.view_is,
     )

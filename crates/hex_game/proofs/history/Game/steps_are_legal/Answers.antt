@@ -1,7 +1,7 @@
 use Rattle.std.proofs.Common.{◌+◌, ◌≤◌, [], length, subst, arith}
 use Rattle.hex_cells.specs.Sets.{members}
 use Rattle.hex_board.specs.Positions.{Apart}
-use Rattle.hex_game.specs.Games.{Played, AreLegal}
+use Rattle.hex_game.specs.Games.{GameData, AreLegal}
 use Rattle.hex_game.specs.Kept.{IsFew}
 use Rattle.hex_game.proofs.Chains.{legal_steps, few_on}
 use Rattle.hex_game.proofs.Room.{members_two}
@@ -9,7 +9,7 @@ use Rattle.hex_game.proofs.history.Game.steps_are_legal.Goals as goal
 
 pub returns-clause-legal : goal.returns-clause-legal
 returns-clause-legal c =
-    subst (λ (g : Played). AreLegal g.start g.steps) c.self.view_is
+    subst (λ (g : GameData). AreLegal g.start g.steps) c.self.view_is
     (legal_steps c.self.inside.start c.self.inside.steps.items c.self.inside.before.items c.self.inside.board c.self.invariant.0)
 
 pub returns-clause-few : goal.returns-clause-few
@@ -18,4 +18,4 @@ returns-clause-few c =
     let few : IsFew c.self.inside.steps.items now = few_on c.self.inside.start [] c.self.inside.start _ _ now c.self.invariant.0 in
     let apart : Apart now.black now.white = subst (λ s. Apart s now.white) c.stones-stones.ensures.value c.stones-stones.ensures.apart in
     let stones : members now.black 121 + members now.white 121 ≤ 121 = members_two now.black now.white 121 apart in
-    subst (λ (g : Played). length g.steps ≤ 122) c.self.view_is (omega arith)
+    subst (λ (g : GameData). length g.steps ≤ 122) c.self.view_is (omega arith)

@@ -13,7 +13,7 @@ use Rattle.hex_board.specs.Positions.{is_empty_at}
 -- block that has a child without visits no child has more than one; where NEXT is at most the area's end, a node with an empty cell
 -- on its board is the leaf of at most T playouts, and NEXT is the end of the root's block and the other blocks' words; and past the
 -- end it is at most one largest block more.
-pub record Standing (s : Setting) (bs : List LinkedBlock) (words : List ℕ) (k : ℕ) : Type 0 where
+pub record IsSearched (s : Setting) (bs : List LinkedBlock) (words : List ℕ) (k : ℕ) : Type 0 where
   pub exact : ExactTo s bs words k
   pub recorded : (j : ℕ) → j < k → IsRecord s bs words j
   pub rooted : 0 < link_of bs (root_at s)

@@ -1,6 +1,6 @@
 -- What a conversation uses up: what comes of the files that it asks for, and the turns that its moves are searched in.
 use Rattle.std.specs.Prelude.{ℕ, List, [], ◌++◌}
-use Rattle.hex_game.specs.Games.{Played}
+use Rattle.hex_game.specs.Games.{GameData}
 use Rattle.hex_plan.specs.Turns.{Decision}
 
 -- what comes of a file that is asked for
@@ -9,7 +9,7 @@ pub data Loaded : Type 0 where
   Unread : Loaded
   -- there is no such file, or it is too long, or no record of a game
   Refused : Loaded
-  Loads : Played → Loaded
+  Loads : GameData → Loaded
 
 -- the name that was asked for, and what came of it
 pub record Load : Type 0 where
@@ -17,20 +17,20 @@ pub record Load : Type 0 where
   pub what : Loaded
 
 -- what is left to be used up, each in turn
-pub record Left : Type 0 where
+pub record Supply : Type 0 where
   pub loads : List Load
   pub turns : List Decision
 
-abbrev pub nothing_left : Left
+abbrev pub nothing_left : Supply
 nothing_left = record { loads = []; turns = [] }
 
 -- this, and then that
-abbrev pub and_then : Left → Left → Left
+abbrev pub and_then : Supply → Supply → Supply
 and_then a b = record { loads = a.loads ++ b.loads; turns = a.turns ++ b.turns }
 
 -- files alone, and turns alone
-abbrev pub loads_only : List Load → Left
+abbrev pub loads_only : List Load → Supply
 loads_only loads = record { loads = loads; turns = [] }
 
-abbrev pub turns_only : List Decision → Left
+abbrev pub turns_only : List Decision → Supply
 turns_only turns = record { loads = []; turns = turns }

@@ -5,27 +5,27 @@ use Rattle.htp_line.specs.Reading.{Reading, Blank, Bare, Ask, reading}
 use Rattle.htp_line.specs.Splitting.{kept}
 use Rattle.htp_line.specs.Lines.{whole}
 use Rattle.htp_line.specs.Splitting.{Held}
-use Rattle.hex_engine.specs.Standing.{Standing}
-use Rattle.hex_engine.specs.Left.{Left, and_then}
+use Rattle.hex_engine.specs.EngineState.{EngineState}
+use Rattle.hex_engine.specs.Supply.{Supply, and_then}
 use Rattle.hex_engine.specs.Replies.{Turned, Missing, reaction}
 use Rattle.hex_cli.specs.Talk.{Said, Short, IsAnswered, goes_on, said_turned, said_reading, said, with_said, step, silence, talk}
-use Rattle.hex_cli.specs.Left.{said_with_more}
+use Rattle.hex_cli.specs.Supply.{said_with_more}
 use Rattle.hex_cli.specs.Sessions.{Stands}
 use Rattle.hex_cli.proofs.TalkLaws.{step-stays}
 use Rattle.hex_cli.proofs.Reactions.{KeepsOptions, reaction_keeps, HasAll, leaving_more, reaction_more}
 
 -- ---- a talk keeps its options
 
-turned_keeps : (at : Standing) (left : Left) (id : Option ℕ) (r : Result Turned Missing) → KeepsOptions at r → (said_turned at left id r).at.options ≡ at.options
+turned_keeps : (at : EngineState) (left : Supply) (id : Option ℕ) (r : Result Turned Missing) → KeepsOptions at r → (said_turned at left id r).at.options ≡ at.options
 turned_keeps at left id (Ok t) keeps = keeps
 turned_keeps at left id (Err missing) keeps = refl
 
-reading_keeps : (at : Standing) (left : Left) (line : Reading) → (said_reading at left line).at.options ≡ at.options
+reading_keeps : (at : EngineState) (left : Supply) (line : Reading) → (said_reading at left line).at.options ≡ at.options
 reading_keeps at left Blank = refl
 reading_keeps at left (Bare id) = refl
 reading_keeps at left (Ask asked) = turned_keeps at left asked.id (reaction at left asked) (reaction_keeps at left asked)
 
-said_keeps : (at : Standing) (left : Left) (line : Option (List ℕ)) → (said at left line).at.options ≡ at.options
+said_keeps : (at : EngineState) (left : Supply) (line : Option (List ℕ)) → (said at left line).at.options ≡ at.options
 said_keeps at left None = refl
 said_keeps at left (Some raw) = reading_keeps at left (reading raw)
 
@@ -42,31 +42,31 @@ fold_keeps a [] = refl
 fold_keeps a (raw ∷ lines) = fold_keeps (step a raw) lines ∙ step_keeps a raw
 
 -- the engine of a conversation has the options of its start
-pub stands_options : (start : Standing) (all later : Left) (engine : Standing) (held : Held) (seen : List ℕ) → Stands start all later engine held seen → engine.options ≡ start.options
-stands_options start all later engine held seen stands = ap (λ (s : Standing). s.options) stands.at ∙ fold_keeps (silence start all) (whole seen)
+pub stands_options : (start : EngineState) (all later : Supply) (engine : EngineState) (held : Held) (seen : List ℕ) → Stands start all later engine held seen → engine.options ≡ start.options
+stands_options start all later engine held seen stands = ap (λ (s : EngineState). s.options) stands.at ∙ fold_keeps (silence start all) (whole seen)
 
 -- ---- more at the end of what is left
 
-turned_more : (at : Standing) (left more : Left) (id : Option ℕ) (now later : Result Turned Missing) → (HasAll now → later ≡ leaving_more more now) → IsAnswered (said_turned at left id now)
+turned_more : (at : EngineState) (left more : Supply) (id : Option ℕ) (now later : Result Turned Missing) → (HasAll now → later ≡ leaving_more more now) → IsAnswered (said_turned at left id now)
     → said_turned at (and_then left more) id later ≡ said_with_more (said_turned at left id now) more
 turned_more at left more id (Err missing) later same answered = absurd (answered missing refl)
 turned_more at left more id (Ok t) later same answered = rw (same tt) refl
 
-reading_more : (at : Standing) (left more : Left) (line : Reading) → IsAnswered (said_reading at left line) → said_reading at (and_then left more) line ≡ said_with_more (said_reading at left line) more
+reading_more : (at : EngineState) (left more : Supply) (line : Reading) → IsAnswered (said_reading at left line) → said_reading at (and_then left more) line ≡ said_with_more (said_reading at left line) more
 reading_more at left more Blank answered = refl
 reading_more at left more (Bare id) answered = refl
 reading_more at left more (Ask asked) answered = turned_more at left more asked.id (reaction at left asked) (reaction at (and_then left more) asked) (reaction_more at left more asked) answered
 
-said_more : (at : Standing) (left more : Left) (line : Option (List ℕ)) → IsAnswered (said at left line) → said at (and_then left more) line ≡ said_with_more (said at left line) more
+said_more : (at : EngineState) (left more : Supply) (line : Option (List ℕ)) → IsAnswered (said at left line) → said at (and_then left more) line ≡ said_with_more (said at left line) more
 said_more at left more None answered = refl
 said_more at left more (Some raw) answered = reading_more at left more (reading raw) answered
 
-step_if : (b : Bool) (a : Said) (more : Left) (line : Option (List ℕ)) → IsAnswered (cond b (with_said a (said a.at a.left line)) a)
+step_if : (b : Bool) (a : Said) (more : Supply) (line : Option (List ℕ)) → IsAnswered (cond b (with_said a (said a.at a.left line)) a)
     → cond b (with_said (said_with_more a more) (said a.at (and_then a.left more) line)) (said_with_more a more) ≡ said_with_more (cond b (with_said a (said a.at a.left line)) a) more
 step_if true a more line answered = ap (with_said (said_with_more a more)) (said_more a.at a.left more line answered)
 step_if false a more line answered = refl
 
-step_more : (a : Said) (more : Left) (raw : List ℕ) → IsAnswered (step a raw) → step (said_with_more a more) raw ≡ said_with_more (step a raw) more
+step_more : (a : Said) (more : Supply) (raw : List ℕ) → IsAnswered (step a raw) → step (said_with_more a more) raw ≡ said_with_more (step a raw) more
 unfolding step
 step_more a more raw answered = step_if (goes_on a.ending) a more (kept raw) answered
 
@@ -74,10 +74,10 @@ step_more a more raw answered = step_if (goes_on a.ending) a more (kept raw) ans
 pub fold_short : (a : Said) (lines : List (List ℕ)) (missing : Missing) → a.ending ≡ Short missing → (fold step a lines).ending ≡ Short missing
 fold_short a lines missing e = ap (λ (s : Said). s.ending) (fold_stays step a (λ raw. step-stays a raw (ap goes_on e)) lines) ∙ e
 
-fold_more : (a : Said) (more : Left) (lines : List (List ℕ)) → IsAnswered (fold step a lines) → fold step (said_with_more a more) lines ≡ said_with_more (fold step a lines) more
+fold_more : (a : Said) (more : Supply) (lines : List (List ℕ)) → IsAnswered (fold step a lines) → fold step (said_with_more a more) lines ≡ said_with_more (fold step a lines) more
 fold_more a more [] answered = refl
 fold_more a more (raw ∷ lines) answered =
     ap (λ s. fold step s lines) (step_more a more raw (λ missing e. answered missing (fold_short (step a raw) lines missing e))) ∙ fold_more (step a raw) more lines answered
 
-pub talk_more_left : (start : Standing) (left more : Left) (lines : List (List ℕ)) → IsAnswered (talk start left lines) → talk start (and_then left more) lines ≡ said_with_more (talk start left lines) more
+pub talk_more_left : (start : EngineState) (left more : Supply) (lines : List (List ℕ)) → IsAnswered (talk start left lines) → talk start (and_then left more) lines ≡ said_with_more (talk start left lines) more
 talk_more_left start left more lines answered = fold_more (silence start left) more lines answered

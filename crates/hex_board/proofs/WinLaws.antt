@@ -1,0 +1,155 @@
+-- Who wins, by one stone more.
+use Rattle.std.proofs.Common.{◌≡◌, ℕ, ◌+◌, ◌-◌, ◌*◌, ◌<◌, ◌^◌, ◌≤◌, ◌==◌, ◌&&◌, ◌||◌, not, nat_lt, true, false, Bool, cond, refl, sym, ◌∙◌, ap, subst, arith, inl, inr, ◌⊎◌, zero, suc, lit<}
+use Rattle.std.specs.List.{count_by, range_with_len}
+use Rattle.std.proofs.Math.Nat.{one-mul}
+use Rattle.std.proofs.lemmas.Bool.{cases_eq, and_parts}
+use Rattle.std.proofs.lemmas.Bool.Decides.{nat_tests}
+use Rattle.std.proofs.lemmas.List.Sums.{sum_by-cons}
+use Rattle.hex_cells.specs.Sets.{has, with_cell}
+use Rattle.hex_cells.specs.Colours.{other_of}
+use Rattle.hex_cells.specs.declared.colours.Colour.{Colour}
+use Rattle.hex_cells.specs.declared.colours.Colour.TheVariants.{Black, White}
+use Rattle.hex_cells.proofs.Bits.{has_or, has_shl, has_above}
+use Rattle.hex_board.specs.Joined.{Joined, cells_of}
+use Rattle.hex_board.specs.Positions.{Position, stones_of, is_empty_at, placed}
+use Rattle.hex_board.specs.Wins.{empty_count, WinsIn, Wins}
+
+is_cell : (x k : ℕ) → x ≡ k → (x == k) ≡ true
+is_cell x k e = grind (arith, nat_tests)
+
+no_cell : (x k : ℕ) → (x ≡ k → ⊥) → (x == k) ≡ false
+no_cell x k e = grind (arith, nat_tests)
+
+zeroth : has 1 0 ≡ true
+unfolding has
+zeroth = refl
+
+has_one : (k : ℕ) → has 1 k ≡ (k == 0)
+has_one k = elim (cases_eq k 0) [
+  | inl e ↦ ap (λ v. has 1 v) e ∙ (zeroth ∙ sym (is_cell k 0 e))
+  | inr n ↦ has_above 1 1 k (lit< tt) (omega arith) ∙ sym (no_cell k 0 n)
+]
+
+pub has_with_cell : (s c k : ℕ) → has (with_cell s c) k ≡ (has s k || k == c)
+has_with_cell s c k =
+    let e : has (2 ^ c) k ≡ (not (nat_lt k c) && has 1 (k - c)) = ap (λ v. has v k) (sym (one-mul (2 ^ c))) ∙ has_shl 1 c k in
+    has_or s (2 ^ c) k ∙ ap (λ b. has s k || b) (e ∙ (ap (λ b. not (nat_lt k c) && b) (has_one (k - c)) ∙ same k c))
+  where
+    same : (j i : ℕ) → (not (nat_lt j i) && j - i == 0) ≡ (j == i)
+    same j i = grind (arith, nat_tests)
+
+less_black : (a b w e : Bool) → ((a && not (b || e)) && not w) ≡ (((a && not b) && not w) && not e)
+less_black a b w e = grind arith
+
+less_white : (a b w e : Bool) → ((a && not b) && not (w || e)) ≡ (((a && not b) && not w) && not e)
+less_white a b w e = grind arith
+
+pub placed_leaves : (p : Position) (player : Colour) (c k : ℕ) → is_empty_at (placed p player c) k ≡ (is_empty_at p k && not (k == c))
+placed_leaves p Black c k = ap (λ b. (nat_lt k (p.size * p.size) && not b) && not (has p.white k)) (has_with_cell p.black c k) ∙ less_black (nat_lt k (p.size * p.size)) (has p.black k) (has p.white k) (k == c)
+placed_leaves p White c k = ap (λ b. (nat_lt k (p.size * p.size) && not (has p.black k)) && not b) (has_with_cell p.white c k) ∙ less_white (nat_lt k (p.size * p.size)) (has p.black k) (has p.white k) (k == c)
+
+-- ---- counts
+
+counted : (p : ℕ → Bool) (a m : ℕ) → count_by p (range_with_len a (suc m)) ≡ cond (p a) 1 0 + count_by p (range_with_len (a + 1) m)
+counted p a m = sum_by-cons (λ x. cond (p x) 1 0) a (range_with_len (a + 1) m)
+
+same_test : (x y : Bool) (j k : ℕ) → y ≡ (x && not (j == k)) → (j ≡ k → ⊥) → x ≡ y
+same_test x y j k e n = grind (arith, nat_tests)
+
+gone : (x y : Bool) (k : ℕ) → y ≡ (x && not (k == k)) → y ≡ false
+gone x y k e = grind (arith, nat_tests)
+
+same_counts : (p q : ℕ → Bool) (k a m : ℕ) → k < a → ((j : ℕ) → q j ≡ (p j && not (j == k))) → count_by p (range_with_len a m) ≡ count_by q (range_with_len a m)
+same_counts p q k a zero l f = refl
+same_counts p q k a (suc m) l f =
+    let t : p a ≡ q a = same_test (p a) (q a) a k (f a) (λ e. omega arith) in
+    counted p a m ∙ (ap (λ v. cond v 1 0 + count_by p (range_with_len (a + 1) m)) t
+    ∙ (ap (λ v. cond (q a) 1 0 + v) (same_counts p q k (a + 1) m (omega arith) f) ∙ sym (counted q a m)))
+
+one_of : (x y : Bool) (c d : ℕ) → x ≡ true → y ≡ false → c ≡ d → cond {A = ℕ} x 1 0 + c ≡ suc (cond {A = ℕ} y 1 0 + d)
+one_of x y c d e f g = rw (e, f, g) (omega arith)
+
+none_of : (x y : Bool) (c d : ℕ) → x ≡ y → c ≡ suc d → cond {A = ℕ} x 1 0 + c ≡ suc (cond {A = ℕ} y 1 0 + d)
+none_of x y c d e f = rw (e, f) (omega arith)
+
+one_less : (p q : ℕ → Bool) (k a m : ℕ) → a ≤ k → k < a + m → p k ≡ true → ((j : ℕ) → q j ≡ (p j && not (j == k)))
+    → count_by p (range_with_len a m) ≡ suc (count_by q (range_with_len a m))
+one_less p q k a zero l b h f = absurd (omega arith)
+one_less p q k a (suc m) l b h f = elim (cases_eq a k) [
+  | inl e ↦ counted p a m ∙ (one_of (p a) (q a) (count_by p (range_with_len (a + 1) m)) (count_by q (range_with_len (a + 1) m)) (ap p e ∙ h) (ap q e ∙ gone (p k) (q k) k (f k)) (same_counts p q k (a + 1) m (omega arith) f)
+      ∙ ap suc (sym (counted q a m)))
+  | inr n ↦ counted p a m ∙ (none_of (p a) (q a) (count_by p (range_with_len (a + 1) m)) (count_by q (range_with_len (a + 1) m)) (same_test (p a) (q a) a k (f a) n) (one_less p q k (a + 1) m (omega arith) (omega arith) h f)
+      ∙ ap suc (sym (counted q a m)))
+]
+
+on_board : (k m : ℕ) (b w : Bool) → ((nat_lt k m && not b) && not w) ≡ true → k < m
+on_board k m b w e = grind (arith, nat_tests)
+
+same_size : (p : Position) (player : Colour) (k : ℕ) → (placed p player k).size ≡ p.size
+same_size p Black k = refl
+same_size p White k = refl
+
+-- one stone more leaves one empty cell less
+pub one_empty_less : (p : Position) (player : Colour) (k : ℕ) → is_empty_at p k ≡ true → empty_count p ≡ suc (empty_count (placed p player k))
+one_empty_less p player k h =
+    let l : k < p.size * p.size = on_board k (p.size * p.size) (has p.black k) (has p.white k) h in
+    one_less (is_empty_at p) (is_empty_at (placed p player k)) k 0 (p.size * p.size) (omega arith) (omega arith) h (placed_leaves p player k)
+    ∙ ap (λ n. suc (count_by (is_empty_at (placed p player k)) (cells_of n))) (sym (same_size p player k))
+
+-- ---- wins
+
+joined_in : (fuel : ℕ) (player : Colour) (p : Position) (mover : Colour) → Joined p.size player (stones_of p player) → WinsIn fuel player p mover
+joined_in zero player p mover j = j
+joined_in (suc fuel) player p mover j = inl j
+
+pub joined_wins : (player : Colour) (p : Position) (mover : Colour) → Joined p.size player (stones_of p player) → Wins player p mover
+joined_wins player p mover j = joined_in (empty_count p) player p mover j
+
+own_in : (fuel : ℕ) (player : Colour) (p : Position) (k : ℕ) → is_empty_at p k ≡ true → WinsIn fuel player (placed p player k) (other_of player) → WinsIn (suc fuel) player p player
+own_in fuel Black p k h w = inr (k, h, w)
+own_in fuel White p k h w = inr (k, h, w)
+
+pub own_wins : (player : Colour) (p : Position) (k : ℕ) → is_empty_at p k ≡ true → Wins player (placed p player k) (other_of player) → Wins player p player
+own_wins player p k h w = subst (λ n. WinsIn n player p player) (sym (one_empty_less p player k h)) (own_in (empty_count (placed p player k)) player p k h w)
+
+other_in : (fuel : ℕ) (player : Colour) (p : Position) (k : ℕ) → is_empty_at p k ≡ true → ((j : ℕ) → is_empty_at p j ≡ true → WinsIn fuel player (placed p (other_of player) j) player)
+    → WinsIn (suc fuel) player p (other_of player)
+other_in fuel Black p k h w = inr ((k, h), w)
+other_in fuel White p k h w = inr ((k, h), w)
+
+pub other_wins : (player : Colour) (p : Position) (k : ℕ) → is_empty_at p k ≡ true → ((j : ℕ) → is_empty_at p j ≡ true → Wins player (placed p (other_of player) j) player)
+    → Wins player p (other_of player)
+other_wins player p k h w =
+    let e = one_empty_less p (other_of player) k h in
+    subst (λ n. WinsIn n player p (other_of player)) (sym e) (other_in (empty_count (placed p (other_of player) k)) player p k h
+    (λ j i. subst (λ n. WinsIn n player (placed p (other_of player) j) player) (same_suc (empty_count (placed p (other_of player) j)) (empty_count (placed p (other_of player) k)) (sym (one_empty_less p (other_of player) j i) ∙ e)) (w j i)))
+  where
+    same_suc : (a b : ℕ) → suc a ≡ suc b → a ≡ b
+    same_suc a b e = omega arith
+
+-- ---- and what a win means
+
+less_suc : (a b : ℕ) → suc a ≡ suc b → a ≡ b
+less_suc a b e = omega arith
+
+own_out : (fuel : ℕ) (player : Colour) (p : Position) → empty_count p ≡ fuel → WinsIn fuel player p player
+    → Joined p.size player (stones_of p player) ⊎ ((k : ℕ) × (is_empty_at p k ≡ true) × Wins player (placed p player k) (other_of player))
+own_out zero player p e w = inl w
+own_out (suc fuel) player p e (inl j) = inl j
+own_out (suc fuel) Black p e (inr (k, h, w)) = inr (k, h, subst (λ n. WinsIn n Black (placed p Black k) White) (less_suc fuel (empty_count (placed p Black k)) (sym e ∙ one_empty_less p Black k h)) w)
+own_out (suc fuel) White p e (inr (k, h, w)) = inr (k, h, subst (λ n. WinsIn n White (placed p White k) Black) (less_suc fuel (empty_count (placed p White k)) (sym e ∙ one_empty_less p White k h)) w)
+
+pub own_means : (player : Colour) (p : Position) → Wins player p player
+    → Joined p.size player (stones_of p player) ⊎ ((k : ℕ) × (is_empty_at p k ≡ true) × Wins player (placed p player k) (other_of player))
+own_means player p w = own_out (empty_count p) player p refl w
+
+other_out : (fuel : ℕ) (player : Colour) (p : Position) → empty_count p ≡ fuel → WinsIn fuel player p (other_of player)
+    → Joined p.size player (stones_of p player) ⊎ (((k : ℕ) × (is_empty_at p k ≡ true)) × ((j : ℕ) → is_empty_at p j ≡ true → Wins player (placed p (other_of player) j) player))
+other_out zero player p e w = inl w
+other_out (suc fuel) player p e (inl j) = inl j
+other_out (suc fuel) Black p e (inr (s, w)) = inr (s, λ j i. subst (λ n. WinsIn n Black (placed p White j) Black) (less_suc fuel (empty_count (placed p White j)) (sym e ∙ one_empty_less p White j i)) (w j i))
+other_out (suc fuel) White p e (inr (s, w)) = inr (s, λ j i. subst (λ n. WinsIn n White (placed p Black j) White) (less_suc fuel (empty_count (placed p Black j)) (sym e ∙ one_empty_less p Black j i)) (w j i))
+
+pub other_means : (player : Colour) (p : Position) → Wins player p (other_of player)
+    → Joined p.size player (stones_of p player) ⊎ (((k : ℕ) × (is_empty_at p k ≡ true)) × ((j : ℕ) → is_empty_at p j ≡ true → Wins player (placed p (other_of player) j) player))
+other_means player p w = other_out (empty_count p) player p refl w

@@ -1,0 +1,28 @@
+-- A run that is done with one worker gave the one text.
+use Rattle.std.proofs.Common.{◌≡◌, ℕ, Bool, List, [], ◌++◌, Option, length, drop, ap, sym, ◌∙◌, subst, append-nil}
+use Rattle.std.proofs.Math.Seq.{drop-append_seam}
+use Rattle.hex_io.specs.Told.{Told, Both}
+use Rattle.hex_io.specs.Shelves.{Shelved}
+use Rattle.hex_io.proofs.BothLaws.{Both-weaker}
+use Rattle.htp_line.specs.Lines.{lines}
+use Rattle.tree_words.specs.declared.settings.Knobs.{Knobs}
+use Rattle.hex_plan.specs.Turns.{Decision}
+use Rattle.hex_engine.specs.EngineState.{opening}
+use Rattle.hex_engine.specs.Uses.{CameOf}
+use Rattle.hex_cli.specs.Talk.{Said}
+use Rattle.hex_cli.specs.Outcome.{Conversed, since}
+use Rattle.hex_cli.specs.Determined.{IsDetermined}
+use Rattle.hex_cli.specs.declared.ends.End.TheVariants as ending
+use Rattle.hex_cli.proofs.OneWorker.{through_told}
+
+same_end_of : (xs ys zs : List Bool) → xs ++ ys ≡ xs ++ zs → ys ≡ zs
+same_end_of xs ys zs e = sym (drop-append_seam xs ys) ∙ ap (drop (length xs)) e ∙ drop-append_seam xs zs
+
+pub determined_at : (options : Knobs) (size limit : ℕ) (a b : Option Shelved) (c d : Option (List Decision)) (x y : Option Told) → Conversed ending.Done options size limit (a, c) (b, d) x y
+    → Both a b (λ s t. Both x y (λ o n. IsDetermined options size s t o n))
+determined_at options size limit a b c d x y k =
+    Both-weaker a b _ _ (λ s t f. Both-weaker x y _ _ (λ o n p. λ one tries grew all came good through.
+    let mine : f.tries ≡ tries =
+    same_end_of s.tries f.tries tries (ap (λ l. s.tries ++ l) (sym (append-nil f.tries) ∙ ap (λ l. f.tries ++ l) (sym k.vain)) ∙ sym (ap (λ (z : Shelved). z.tries) f.tried) ∙ grew) in
+    let same = through_told (opening options size) one s.files tries k.used all (subst (λ l. CameOf s.files l k.used.loads) mine f.came) came k.uses.moving.good good (lines (since o n)) p.ends.through through in
+    p.ends.given ∙ ap (λ (z : Said). o.given ++ z.text) same) k.outcome) k.uses.loading
