@@ -1,4 +1,3 @@
-mod Sets
 pub mod BlockLaws
 pub mod RootLaws
 pub mod Bests

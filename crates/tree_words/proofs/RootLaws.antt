@@ -123,6 +123,7 @@ has_root s words h c =
       few = omega (arith, few, count, len);
       cells = cell;
       on_board = λ i l. omega (arith, cell i l, (filter_at (has_cell s.allowed) 0 n i (omega (arith, l, count, len))).1);
+      numbers = λ i l. omega (arith, cell i l, (filter_at (has_cell s.allowed) 0 n i (omega (arith, l, count, len))).1, small s.board.size h.position.most);
       rise = rising_range (has_cell s.allowed) n;
     }
   where

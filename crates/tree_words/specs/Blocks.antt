@@ -1,6 +1,7 @@
 -- The linked blocks, newest first, and what they fix.
 use Rattle.std.specs.Prelude.{◌≡◌, ◌⊎◌, ℕ, zero, suc, ◌+◌, ◌-◌, ◌*◌, ◌/◌, ◌%◌, ◌^◌, ◌<◌, ◌≤◌, ◌==◌, nat_lt, nat_le, ◌&&◌, ◌||◌, if◌then◌else◌, Bool, true, List, [], ◌∷◌, length, slice_index, sum_by}
 use Rattle.tree_words.specs.Words.{move_of}
+use Rattle.tree_words.specs.declared.layout.TheConstants.{NODE_WORDS, LINK_WORD, HEADER_WORDS, HIGH_EMPTIES_SHIFT}
 
 -- a block: its first word, the first word of its parent node, the set of the empty cells of the parent's board, and the cells of
 -- its nodes in the order of their places
@@ -15,7 +16,7 @@ one_if b = if b then 1 else 0
 
 -- the number of words of a block of so many nodes: four of the header and four for each node
 abbrev pub words_of : ℕ → ℕ
-words_of count = 4 + 4 * count
+words_of count = HEADER_WORDS + NODE_WORDS * count
 
 abbrev pub size : LinkedBlock → ℕ
 size b = words_of (length b.cells)
@@ -26,15 +27,15 @@ covers i b = nat_le b.start i && nat_lt i (b.start + size b)
 
 -- the first word of the node of place i
 abbrev pub child : LinkedBlock → ℕ → ℕ
-child b i = b.start + 4 + 4 * i
+child b i = b.start + HEADER_WORDS + NODE_WORDS * i
 
 -- a node of the block begins at x
 abbrev pub has : LinkedBlock → ℕ → Bool
-has b x = nat_le (b.start + 4) x && (nat_lt x (b.start + size b) && ((x - b.start) % 4 == 0))
+has b x = nat_le (b.start + HEADER_WORDS) x && (nat_lt x (b.start + size b) && ((x - b.start) % NODE_WORDS == 0))
 
 -- the place of the block's node at x
 abbrev pub place : LinkedBlock → ℕ → ℕ
-place b x = (x - b.start - 4) / 4
+place b x = (x - b.start - HEADER_WORDS) / NODE_WORDS
 
 -- the cell of the node of place i
 abbrev pub cell_at : LinkedBlock → ℕ → ℕ
@@ -73,7 +74,7 @@ pub record Follows (r : ℕ) (b : LinkedBlock) (bs : List LinkedBlock) : Type 0 
   pub vacant : link_of bs b.parent ≡ 0
   pub above : b.parent < b.start
   pub clear : (i : ℕ) → covers i b ≡ true → cover i bs ≡ 0
-  pub root : r + 4 ≤ b.start
+  pub root : r + NODE_WORDS ≤ b.start
 
 -- each block follows the older ones
 abbrev pub InOrder : ℕ → List LinkedBlock → Type 0
@@ -84,17 +85,17 @@ InOrder r (b ∷ bs) = Follows r b bs × InOrder r bs
 -- each fourth word the move of a node
 abbrev pub header_or_move : LinkedBlock → ℕ → ℕ
 header_or_move b zero = b.parent
-header_or_move b (suc zero) = b.empties % 2 ^ 64
-header_or_move b (suc (suc zero)) = b.empties / 2 ^ 64
+header_or_move b (suc zero) = b.empties % 2 ^ HIGH_EMPTIES_SHIFT
+header_or_move b (suc (suc zero)) = b.empties / 2 ^ HIGH_EMPTIES_SHIFT
 header_or_move b (suc (suc (suc zero))) = length b.cells
-header_or_move b (suc (suc (suc (suc i)))) = move_of (i / 4) (cell_at b (i / 4))
+header_or_move b (suc (suc (suc (suc i)))) = move_of (i / NODE_WORDS) (cell_at b (i / NODE_WORDS))
 
 -- word i of a block is a header word or a move word
 abbrev pub stays : ℕ → Bool
-stays i = nat_lt i 4 || (i % 4 == 0)
+stays i = nat_lt i HEADER_WORDS || (i % NODE_WORDS == 0)
 
 -- the words have these linked blocks: the header and the moves of each, and at each node of the tree the link that names the block
 -- whose parent it is, or 0
 pub record Shows (r : ℕ) (bs : List LinkedBlock) (words : List ℕ) : Type 0 where
   pub blocks : (c : LinkedBlock) (i : ℕ) → In c bs → i < size c → stays i ≡ true → slice_index words (c.start + i) ≡ header_or_move c i
-  pub links : (x : ℕ) → is_node r bs x ≡ true → slice_index words (x + 1) ≡ link_of bs x
+  pub links : (x : ℕ) → is_node r bs x ≡ true → slice_index words (x + LINK_WORD) ≡ link_of bs x

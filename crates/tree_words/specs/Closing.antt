@@ -6,16 +6,15 @@ use Rattle.tree_words.specs.Blocks.{LinkedBlock}
 use Rattle.tree_words.specs.Complete.{Linked}
 use Rattle.tree_words.specs.Records.{Recorded}
 use Rattle.tree_words.specs.Counts.{Exact}
-use Rattle.tree_words.specs.Growth.{most_words, Grown}
+use Rattle.tree_words.specs.Growth.{Grown}
+use Rattle.tree_words.specs.declared.layout.TheConstants.{MOST_BLOCK_WORDS}
+use Rattle.tree_words.specs.declared.settings.TheConstants.{MOST_WORKERS}
 
--- the most workers
-abbrev pub most_workers : ℕ
-most_workers = 64
-
--- NEXT is at most 64 largest blocks past the area's end, and TICKET from N to N + 64
+-- NEXT is at most a largest block for each of the most workers past the area's end, and TICKET is at
+-- most their number past N
 pub record Ends (s : Setting) (words : List ℕ) : Type 0 where
-  pub next : next_in words ≤ end_of s + most_workers * most_words
-  pub ticket : (s.knobs.playouts ≤ ticket_in words) × (ticket_in words ≤ s.knobs.playouts + most_workers)
+  pub next : next_in words ≤ end_of s + MOST_WORKERS * MOST_BLOCK_WORDS
+  pub ticket : (s.knobs.playouts ≤ ticket_in words) × (ticket_in words ≤ s.knobs.playouts + MOST_WORKERS)
 
 -- Closed: the words are N + M + 6 in number, and there are blocks of which the five points hold: they are linked and complete, each
 -- playout has its record, the counts are exact, the ends are kept, and the tree is grown. No record's leaf is the root, which the

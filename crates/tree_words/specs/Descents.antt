@@ -4,15 +4,16 @@ use Rattle.tree_words.specs.Words.{Count}
 use Rattle.tree_words.specs.Blocks.{LinkedBlock, size, child, has, place, cell_at}
 use Rattle.tree_words.specs.Walks.{nothing, plus, Game, Tree}
 use Rattle.tree_words.specs.Trees.{down, tree_at}
+use Rattle.tree_words.specs.declared.layout.TheConstants.{NODE_WORDS, HEADER_WORDS}
 
 -- the two counts of each node of a block whose first node begins at y
 abbrev pub pairs_of : (ℕ → Count) → (ℕ → Count) → ℕ → List ℕ → List (Count × Count)
 pairs_of p q y [] = []
-pairs_of p q y (c ∷ cs) = (p y, q y) ∷ pairs_of p q (y + 4) cs
+pairs_of p q y (c ∷ cs) = (p y, q y) ∷ pairs_of p q (y + NODE_WORDS) cs
 
 -- the place of the child of x that is chosen, b being the block below x
 abbrev pub pick : {S O : Type 0} → Game S O → (ℕ → Count) → (ℕ → Count) → LinkedBlock → ℕ → ℕ
-pick g p q b x = g.choose (p x) (pairs_of p q (b.start + 4) b.cells)
+pick g p q b x = g.choose (p x) (pairs_of p q (b.start + HEADER_WORDS) b.cells)
 
 module _ {S O : Type 0} (g : Game S O) (p q : ℕ → Count) where
   abbrev pub leaf_inner : LinkedBlock → ℕ → (ℕ → ℕ) → ℕ

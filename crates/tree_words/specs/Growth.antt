@@ -9,10 +9,7 @@ use Rattle.tree_words.specs.Paths.{board_of}
 use Rattle.tree_words.specs.Complete.{allowed_cells}
 use Rattle.tree_words.specs.Records.{leaf_of}
 use Rattle.tree_words.specs.Counts.{count_below}
-
--- the words of the largest block: four of the header and four for each of 121 nodes
-abbrev pub most_words : ℕ
-most_words = words_of 121
+use Rattle.tree_words.specs.declared.layout.TheConstants.{MOST_BLOCK_WORDS}
 
 -- the end of the root's block
 abbrev pub root_end : Setting → ℕ
@@ -34,4 +31,4 @@ pub record Grown (s : Setting) (bs : List LinkedBlock) (words : List ℕ) : Type
       → (tally_in words x).visits ≤ s.knobs.workers
   pub leaves : next_in words ≤ end_of s → (x c : ℕ) → is_node (root_at s) bs x ≡ true → is_empty_at (board_of s bs x) c ≡ true
       → ends_at words s.knobs.playouts x ≤ s.knobs.workers * s.knobs.expand
-  pub room : next_in words ≤ root_end s + s.knobs.workers * other_words s bs + most_words * s.knobs.workers
+  pub room : next_in words ≤ root_end s + s.knobs.workers * other_words s bs + MOST_BLOCK_WORDS * s.knobs.workers

@@ -4,6 +4,7 @@ use Rattle.tree_words.specs.Settings.{Setting}
 use Rattle.tree_words.specs.Words.{root_at, area_at, end_of}
 use Rattle.tree_words.specs.Blocks.{LinkedBlock, size, covers, stays, header_or_move}
 use Rattle.tree_words.specs.Complete.{HasEmpties, allowed_cells}
+use Rattle.tree_words.specs.declared.layout.TheConstants.{NEXT_AT, LINK_WORD}
 
 -- the root's block, where the empty cells of the board are this set
 abbrev pub root_block : Setting → ℕ → LinkedBlock
@@ -13,8 +14,8 @@ root_block s empties = record { start = area_at s; parent = root_at s; empties =
 -- is 0
 abbrev pub opening_word : Setting → ℕ → ℕ → ℕ
 opening_word s empties i = let b = root_block s empties in
-    if i == 0 then b.start + size b
-    else (if i == root_at s + 1 then b.start
+    if i == NEXT_AT then b.start + size b
+    else (if i == root_at s + LINK_WORD then b.start
     else (if covers i b && stays (i - b.start) then header_or_move b (i - b.start) else 0))
 
 -- the opening words of a setting

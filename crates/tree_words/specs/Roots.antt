@@ -6,17 +6,19 @@ use Rattle.tree_words.specs.Settings.{Setting}
 use Rattle.tree_words.specs.Words.{root_at, cell_in, link_in, tally_in, Count}
 use Rattle.tree_words.specs.Complete.{allowed_cells}
 use Rattle.tree_words.specs.declared.roots.Row.{Row}
+use Rattle.tree_words.specs.declared.layout.TheConstants.{NODE_WORDS, HEADER_WORDS, COUNT_WORD, MOST_NODES}
+use Rattle.tree_words.specs.Blocks.{words_of}
 
 -- the first word of the root's block, and how many nodes it has
 abbrev pub root_link : Setting → List ℕ → ℕ
 root_link s words = link_in words (root_at s)
 
 abbrev pub root_count : Setting → List ℕ → ℕ
-root_count s words = slice_index words (root_link s words + 3)
+root_count s words = slice_index words (root_link s words + COUNT_WORD)
 
 -- the cell, the visits and the wins of the root's child of place i
 abbrev pub row_at : Setting → List ℕ → ℕ → Row
-row_at s words i = let x = root_link s words + 4 + 4 * i in
+row_at s words i = let x = root_link s words + HEADER_WORDS + NODE_WORDS * i in
     record { cell = cell_in (slice_index words x); visits = (tally_in words x).visits; wins = (tally_in words x).wins }
 
 -- one row for each child of the root, by rising place
@@ -42,10 +44,11 @@ Beats a b = (b.visits < a.visits) ⊎ ((a.visits ≡ b.visits) × (a.cell < b.ce
 -- what the words of a closed tree say of the root's children: their block lies within the words, there are 1 to 121 of them, and
 -- they have the allowed cells, which are cells of the board, in rising order
 pub record HasRoot (s : Setting) (words : List ℕ) : Type 0 where
-  pub within : root_link s words + (4 + 4 * root_count s words) ≤ length words
+  pub within : root_link s words + words_of (root_count s words) ≤ length words
   pub count : root_count s words ≡ length (allowed_cells s)
   pub some : 1 ≤ root_count s words
-  pub few : root_count s words ≤ 121
+  pub few : root_count s words ≤ MOST_NODES
   pub cells : (i : ℕ) → i < root_count s words → (row_at s words i).cell ≡ slice_index (allowed_cells s) i
   pub on_board : (i : ℕ) → i < root_count s words → (row_at s words i).cell < s.board.size * s.board.size
+  pub numbers : (i : ℕ) → i < root_count s words → (row_at s words i).cell < MOST_NODES
   pub rise : IsStrictlyIncreasing (allowed_cells s)

@@ -4,6 +4,8 @@ use Rattle.hex_cells.specs.Sets.{has}
 use Rattle.hex_cells.specs.declared.colours.Colour.{Colour}
 use Rattle.hex_board.specs.Positions.{Position, IsPosition, is_empty_at}
 use Rattle.tree_words.specs.declared.settings.Knobs.{Knobs}
+use Rattle.tree_words.specs.declared.settings.TheConstants.{MOST_WORKERS, MOST_PLAYOUTS, LEAST_WORDS, MOST_WORDS, MOST_EXPAND}
+use Rattle.uct_table.specs.declared.scoring.TheConstants.{MOST_WEIGHT}
 
 -- a board, the player to move, the cells that he may play, and the knobs
 pub record Setting : Type 0 where
@@ -14,12 +16,12 @@ pub record Setting : Type 0 where
 
 -- the ranges of the knobs
 pub record AreInRange (k : Knobs) : Type 0 where
-  pub workers : (1 ≤ k.workers) × (k.workers ≤ 64)
-  pub playouts : (1 ≤ k.playouts) × (k.playouts ≤ 1000000)
+  pub workers : (1 ≤ k.workers) × (k.workers ≤ MOST_WORKERS)
+  pub playouts : (1 ≤ k.playouts) × (k.playouts ≤ MOST_PLAYOUTS)
   pub seed : k.seed < 2 ^ 64
-  pub words : (1024 ≤ k.words) × (k.words ≤ 16777216)
-  pub expand : (1 ≤ k.expand) × (k.expand ≤ 1000)
-  pub weight : k.weight ≤ 1024
+  pub words : (LEAST_WORDS ≤ k.words) × (k.words ≤ MOST_WORDS)
+  pub expand : (1 ≤ k.expand) × (k.expand ≤ MOST_EXPAND)
+  pub weight : k.weight ≤ MOST_WEIGHT
 
 -- the allowed cells lie inside the empty cells of the board
 abbrev pub AreEmpty : ℕ → Position → Type 0

@@ -5,6 +5,7 @@ use Rattle.tree_words.specs.Words.{Count, root_at, cell_in, tally_in, seen_in}
 use Rattle.tree_words.specs.Blocks.{LinkedBlock}
 use Rattle.tree_words.specs.Complete.{Linked}
 use Rattle.tree_words.specs.Walks.{Tree, node, Children, done, more}
+use Rattle.tree_words.specs.declared.layout.TheConstants.{NODE_WORDS, HEADER_WORDS}
 
 -- the blocks the other way round
 abbrev pub oldest_first : List LinkedBlock → List LinkedBlock
@@ -21,13 +22,13 @@ module _ {A : Type 0} (leaf : ℕ → A) (inner : LinkedBlock → ℕ → (ℕ �
 -- the children of a block whose first node begins at y, made one by one from their first words and cells
 abbrev pub row_of : (ℕ → ℕ → Tree) → ℕ → List ℕ → Children
 row_of make y [] = done
-row_of make y (c ∷ cs) = more (make y c) (row_of make (y + 4) cs)
+row_of make y (c ∷ cs) = more (make y c) (row_of make (y + NODE_WORDS) cs)
 
 abbrev pub tree_leaf : (ℕ → Count) → ℕ → ℕ → Count → Tree
 tree_leaf p x c e = node c (p x) e done
 
 abbrev pub tree_inner : (ℕ → Count) → (ℕ → Count) → LinkedBlock → ℕ → (ℕ → ℕ → Count → Tree) → ℕ → Count → Tree
-tree_inner p q b x f c e = node c (p x) e (row_of (λ y d. f y d (q y)) (b.start + 4) b.cells)
+tree_inner p q b x f c e = node c (p x) e (row_of (λ y d. f y d (q y)) (b.start + HEADER_WORDS) b.cells)
 
 -- the tree from x down, whose cell and seen counts are given; p and q are the visits and wins, and the seen counts, of each node
 abbrev pub tree_at : (ℕ → Count) → (ℕ → Count) → List LinkedBlock → ℕ → ℕ → Count → Tree

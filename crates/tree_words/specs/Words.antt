@@ -3,49 +3,50 @@ use Rattle.std.specs.Prelude.{ℕ, ◌+◌, ◌*◌, ◌/◌, ◌%◌, ◌^◌, 
 use Rattle.hex_cells.specs.declared.colours.Colour.{Colour}
 use Rattle.hex_cells.specs.declared.colours.Colour.TheVariants.{Black, White}
 use Rattle.tree_words.specs.Settings.{Setting}
+use Rattle.tree_words.specs.declared.layout.TheConstants.{NEXT_AT, TICKET_AT, RECORDS_AT, FRONT_WORDS, LINK_WORD, TALLY_WORD, SEEN_WORD, LOW_EMPTIES_WORD, HIGH_EMPTIES_WORD, COUNT_WORD, HIGH_EMPTIES_SHIFT, PLACE_UNIT, VISITS_SHIFT, RECORD_UNIT}
 use Rattle.tree_words.specs.declared.types.Node.{Node}
 use Rattle.tree_words.specs.declared.types.Block.{Block}
 
 -- the first word of the root node, behind NEXT, TICKET and the records
 abbrev pub root_at : Setting → ℕ
-root_at s = s.knobs.playouts + 2
+root_at s = s.knobs.playouts + RECORDS_AT
 
 -- the first word of the block area, behind the root's four words
 abbrev pub area_at : Setting → ℕ
-area_at s = s.knobs.playouts + 6
+area_at s = s.knobs.playouts + FRONT_WORDS
 
 -- the word after the block area, which is the number of words
 abbrev pub end_of : Setting → ℕ
-end_of s = s.knobs.playouts + s.knobs.words + 6
+end_of s = s.knobs.playouts + s.knobs.words + FRONT_WORDS
 
 -- NEXT: the first word that is not claimed yet
 abbrev pub next_in : List ℕ → ℕ
-next_in words = slice_index words 0
+next_in words = slice_index words NEXT_AT
 
 -- TICKET: the next playout number
 abbrev pub ticket_in : List ℕ → ℕ
-ticket_in words = slice_index words 1
+ticket_in words = slice_index words TICKET_AT
 
 -- the record of playout k
 abbrev pub record_in : List ℕ → ℕ → ℕ
-record_in words k = slice_index words (2 + k)
+record_in words k = slice_index words (RECORDS_AT + k)
 
 -- a record is twice its leaf's first word, and 1 more where White won
 abbrev pub leaf_in : ℕ → ℕ
-leaf_in n = n / 2
+leaf_in n = n / RECORD_UNIT
 
 abbrev pub winner_in : ℕ → Colour
-winner_in n = if n % 2 == 0 then Black else White
+winner_in n = if n % RECORD_UNIT == 0 then Black else White
 
 -- a move word is 256 times the place and the cell
 abbrev pub move_of : ℕ → ℕ → ℕ
-move_of place cell = 256 * place + cell
+move_of place cell = PLACE_UNIT * place + cell
 
 abbrev pub cell_in : ℕ → ℕ
-cell_in move = move % 256
+cell_in move = move % PLACE_UNIT
 
 abbrev pub place_in : ℕ → ℕ
-place_in move = move / 256
+place_in move = move / PLACE_UNIT
 
 -- visits and wins
 pub record Count : Type 0 where
@@ -54,23 +55,23 @@ pub record Count : Type 0 where
 
 -- a tally and a seen word are 2^32 times the visits and the wins
 abbrev pub visits_in : ℕ → ℕ
-visits_in n = n / 2 ^ 32
+visits_in n = n / 2 ^ VISITS_SHIFT
 
 abbrev pub wins_in : ℕ → ℕ
-wins_in n = n % 2 ^ 32
+wins_in n = n % 2 ^ VISITS_SHIFT
 
 abbrev pub count_in : ℕ → Count
 count_in n = record { visits = visits_in n; wins = wins_in n }
 
 -- the words of the node at x: its move, its link, its tally and its seen word
 abbrev pub link_in : List ℕ → ℕ → ℕ
-link_in words x = slice_index words (x + 1)
+link_in words x = slice_index words (x + LINK_WORD)
 
 abbrev pub tally_in : List ℕ → ℕ → Count
-tally_in words x = count_in (slice_index words (x + 2))
+tally_in words x = count_in (slice_index words (x + TALLY_WORD))
 
 abbrev pub seen_in : List ℕ → ℕ → Count
-seen_in words x = count_in (slice_index words (x + 3))
+seen_in words x = count_in (slice_index words (x + SEEN_WORD))
 
 -- the fields of the node at x
 abbrev pub node_in : List ℕ → ℕ → Node
@@ -89,6 +90,6 @@ node_in words x = record {
 abbrev pub block_in : List ℕ → ℕ → Block
 block_in words b = record {
   parent = slice_index words b;
-  empties = slice_index words (b + 2) * 2 ^ 64 + slice_index words (b + 1);
-  count = slice_index words (b + 3);
+  empties = slice_index words (b + HIGH_EMPTIES_WORD) * 2 ^ HIGH_EMPTIES_SHIFT + slice_index words (b + LOW_EMPTIES_WORD);
+  count = slice_index words (b + COUNT_WORD);
 }

@@ -22,6 +22,7 @@
 #![tactic(auto)]
 
 mod closed_tree;
+pub mod layout;
 mod readings;
 mod roots;
 mod settings;
@@ -30,8 +31,8 @@ mod steps;
 pub mod types;
 
 pub use closed_tree::Closed;
-pub use readings::{block, cell_of, node, numbered, visits_of, wins_of};
+pub use readings::{block, cell_of, node, visits_of, wins_of};
 pub use roots::{Memory, Row, best, report};
-pub use settings::Knobs;
+pub use settings::{Knobs, LEAST_WORDS, MOST_EXPAND, MOST_PLAYOUTS, MOST_WORDS, MOST_WORKERS};
 pub use shapes::Shape;
 pub use steps::Op;

@@ -4,24 +4,12 @@ ghost use Rattle.std.specs.Prelude.{◌≡◌, ℕ, ◌+◌, ◌*◌, ◌<◌, �
 ghost use Rattle.tree_words.specs.Roots.{HasRoot, IsBest, root_count, root_link, row_at, rows_of, Beats, Rise};
 
 use super::closed_tree::Closed;
-use super::readings::{cell_of, numbered, visits_of, wins_of};
+use super::layout::{
+    COUNT_WORD, HEADER_WORDS, LINK_WORD, MOST_NODES, NODE_WORDS, RECORDS_AT, TALLY_WORD,
+};
+use super::readings::{cell_of, visits_of, wins_of};
 use hex_cells::Cell;
 use std::alloc::Global;
-
-/// The records begin behind NEXT and TICKET.
-const RECORDS_AT: usize = 2;
-
-/// A node has four words, and so has a block's header.
-const NODE_WORDS: usize = 4;
-
-/// The link is the second word of a node.
-const LINK_WORD: usize = 1;
-
-/// The tally is the third word of a node.
-const TALLY_WORD: usize = 2;
-
-/// The count is the fourth word of a block's header.
-const COUNT_WORD: usize = 3;
 
 /// A call wanted memory that it was not given.
 #[derive(Debug, Clone, Copy, PartialEq, Eq, Drop)]
@@ -39,10 +27,10 @@ pub struct Row {
 }
 
 impl Closed {
-    // The number of the root's children: 1 to 121.
+    // The number of the root's children, of which there is one at least.
     fn root_count(&self) -> usize
         ensures value { result ≡ root_count self.now.shape self.now.words }
-        ensures range { (1 ≤ result) × (result ≤ 121) }
+        ensures range { (1 ≤ result) × (result ≤ MOST_NODES) }
         ensures root { HasRoot self.now.shape self.now.words }
     {
         let link = self.root_link();
@@ -64,10 +52,10 @@ impl Closed {
         ensures { result ≡ row_at self.now.shape self.now.words place }
     {
         let words = self.words();
-        let at = self.root_link() + NODE_WORDS + NODE_WORDS * place;
+        let at = self.root_link() + HEADER_WORDS + NODE_WORDS * place;
         let tally = words[at + TALLY_WORD];
         Row {
-            cell: numbered(cell_of(words[at]), self.shape().board().size()),
+            cell: Cell::numbered(cell_of(words[at])),
             visits: visits_of(tally),
             wins: wins_of(tally),
         }

@@ -5,13 +5,11 @@ ghost use Rattle.hex_board.specs.Positions.{IsPosition};
 ghost use Rattle.tree_words.specs.Settings.{AreEmpty, AreInRange, IsAny, IsSetting};
 ghost use Rattle.tree_words.specs.Words.{end_of};
 
+use super::layout::FRONT_WORDS;
 use super::settings::Knobs;
 use hex_board::Board;
 use hex_cells::{CellSet, Colour};
 use std::marker::Model;
-
-/// The words in front of the block area besides the records: NEXT, TICKET and the root's four.
-const FRONT_WORDS: u32 = 6;
 
 /// What a tree is searched for: a board, the player to move there, the cells that he may play, and the knobs.
 #[derive(Clone, Copy, Debug, PartialEq, Eq)]
@@ -92,6 +90,6 @@ impl Shape {
     pub fn total(&self) -> u32
         ensures { result ≡ end_of self.now }
     {
-        self.knobs.playouts + self.knobs.words + FRONT_WORDS
+        self.knobs.playouts + self.knobs.words + FRONT_WORDS as u32
     }
 }

@@ -4,7 +4,7 @@ ghost use Rattle.std.specs.Prelude.{◌≡◌, ◌≤◌, ◌<◌, ℕ, List, If
 ghost use Rattle.uct_table.specs.Choice.{Child, is_better, kept_of, choice_of};
 ghost use Rattle.uct_table.specs.Scores.{score_of};
 
-use super::scoring::{bonus, is_mean_at_most, mean, score};
+use super::scoring::{MOST_COUNT, MOST_WEIGHT, bonus, is_mean_at_most, mean, score};
 
 /// The score of a child where it is above `kept`, below p visits and with the weight c.
 ///
@@ -12,10 +12,10 @@ use super::scoring::{bonus, is_mean_at_most, mean, score};
 /// settled by products, without their mean's three divisions. Counts are from 0 to 1,048,576, v at
 /// least 1, and c is from 0 to 1,024.
 pub fn score_above(kept: u64, p: u32, v: u32, w: u32, a: u32, b: u32, c: u32) -> Option<u64>
-    requires parent { p ≤ 1048576 }
+    requires parent { p ≤ MOST_COUNT }
     requires visited { 1 ≤ v }
-    requires counts { (v ≤ 1048576) × (w ≤ 1048576) × (a ≤ 1048576) × (b ≤ 1048576) }
-    requires weight { c ≤ 1024 }
+    requires counts { (v ≤ MOST_COUNT) × (w ≤ MOST_COUNT) × (a ≤ MOST_COUNT) × (b ≤ MOST_COUNT) }
+    requires weight { c ≤ MOST_WEIGHT }
     ensures above { IfSome result (λ score. (score ≡ score_of p v w a b c) × (kept < score)) }
     ensures not_above { result ≡ None → score_of p v w a b c ≤ kept }
 {
@@ -46,10 +46,10 @@ pub fn better(
     b2: u32,
     c: u32,
 ) -> bool
-    requires parent { p ≤ 1048576 }
-    requires first { (v1 ≤ 1048576) × (w1 ≤ 1048576) × (a1 ≤ 1048576) × (b1 ≤ 1048576) }
-    requires second { (v2 ≤ 1048576) × (w2 ≤ 1048576) × (a2 ≤ 1048576) × (b2 ≤ 1048576) }
-    requires weight { c ≤ 1024 }
+    requires parent { p ≤ MOST_COUNT }
+    requires first { (v1 ≤ MOST_COUNT) × (w1 ≤ MOST_COUNT) × (a1 ≤ MOST_COUNT) × (b1 ≤ MOST_COUNT) }
+    requires second { (v2 ≤ MOST_COUNT) × (w2 ≤ MOST_COUNT) × (a2 ≤ MOST_COUNT) × (b2 ≤ MOST_COUNT) }
+    requires weight { c ≤ MOST_WEIGHT }
     ensures { let first : Child = record { visits = v1; wins = w1; seen = a1; seen_wins = b1 } in
         let second : Child = record { visits = v2; wins = w2; seen = a2; seen_wins = b2 } in
         result ≡ is_better p c first second }

@@ -23,7 +23,7 @@
 //!
 //! **Only tested, or not said.** That scores choose well, and how long a call takes.
 //!
-//! **Limits.** Counts are at most 1,048,576 and a weight at most 1,024. No call takes memory, and
+//! **Limits.** Counts are at most [`MOST_COUNT`] and a weight at most [`MOST_WEIGHT`]. No call takes memory, and
 //! none refuses.
 #![tactic(auto)]
 
@@ -33,4 +33,4 @@ mod scoring;
 mod tests;
 
 pub use choosing::{better, going_through_gives_choice, score_above};
-pub use scoring::{level, root, score};
+pub use scoring::{MOST_COUNT, MOST_WEIGHT, level, root, score};

@@ -5,6 +5,13 @@ ghost use Rattle.uct_table.specs.Scores.{isqrt, level_of, share_of, mean_of, bon
 
 use std::num::{nearest_u64_to_f64, saturating_f64_to_u64};
 
+/// The greatest count that a score takes, of visits or of wins: products of two counts and a share's parts stay far below
+/// 2^64.
+pub const MOST_COUNT: u32 = 1_048_576;
+
+/// The greatest weight that a score takes.
+pub const MOST_WEIGHT: u32 = 1_024;
+
 /// Parts of a share, a mean and a score: 65,536 is a mean of 1.
 const SHARE_PARTS: u64 = 65_536;
 
@@ -28,7 +35,7 @@ const GREATEST_GUESS: u64 = (1 << 20) - 1;
 /// logarithm it is `256·b + floor(256·(p - 2^b) / 2^b)`.
 #[tactic(auto, using(crate::proofs::Roots::log2_is), unfolding(crate::specs::Scores::level_of))]
 pub fn level(p: u32) -> u32
-    requires { p ≤ 1048576 }
+    requires { p ≤ MOST_COUNT }
     ensures { result ≡ level_of p }
 {
     if p == 0 {
@@ -62,13 +69,13 @@ pub fn root(x: u64) -> u32
 /// `mean + floor(c·root(floor(level(p)·2^24 / v)) / 256)`. Counts are from 0 to 1,048,576, v at
 /// least 1, and c is from 0 to 1,024. It is defined for w above v, b above a and p below v too.
 pub fn score(p: u32, v: u32, w: u32, a: u32, b: u32, c: u32) -> u64
-    requires parent { p ≤ 1048576 }
+    requires parent { p ≤ MOST_COUNT }
     requires visited { 1 ≤ v }
-    requires visits { v ≤ 1048576 }
-    requires wins { w ≤ 1048576 }
-    requires seen { a ≤ 1048576 }
-    requires seen_wins { b ≤ 1048576 }
-    requires weight { c ≤ 1024 }
+    requires visits { v ≤ MOST_COUNT }
+    requires wins { w ≤ MOST_COUNT }
+    requires seen { a ≤ MOST_COUNT }
+    requires seen_wins { b ≤ MOST_COUNT }
+    requires weight { c ≤ MOST_WEIGHT }
     ensures { result ≡ score_of p v w a b c }
 {
     mean(v, w, a, b) + bonus(p, v, c)
@@ -78,10 +85,10 @@ pub fn score(p: u32, v: u32, w: u32, a: u32, b: u32, c: u32) -> u64
 #[tactic(auto, unfolding(crate::specs::Scores::mean_of))]
 pub fn mean(v: u32, w: u32, a: u32, b: u32) -> u64
     requires visited { 1 ≤ v }
-    requires visits { v ≤ 1048576 }
-    requires wins { w ≤ 1048576 }
-    requires seen { a ≤ 1048576 }
-    requires seen_wins { b ≤ 1048576 }
+    requires visits { v ≤ MOST_COUNT }
+    requires wins { w ≤ MOST_COUNT }
+    requires seen { a ≤ MOST_COUNT }
+    requires seen_wins { b ≤ MOST_COUNT }
     ensures value { result ≡ mean_of v w a b }
     ensures bound { result < 2 ^ 60 }
 {
@@ -102,10 +109,10 @@ const FLOOR_LIMIT: u64 = 1 << 20;
 #[tactic(auto, using(crate::proofs::Means::mean_is_low))]
 pub fn is_mean_at_most(floor: u64, v: u32, w: u32, a: u32, b: u32) -> bool
     requires visited { 1 ≤ v }
-    requires visits { v ≤ 1048576 }
-    requires wins { w ≤ 1048576 }
-    requires seen { a ≤ 1048576 }
-    requires seen_wins { b ≤ 1048576 }
+    requires visits { v ≤ MOST_COUNT }
+    requires wins { w ≤ MOST_COUNT }
+    requires seen { a ≤ MOST_COUNT }
+    requires seen_wins { b ≤ MOST_COUNT }
     ensures { IsTrue result → mean_of v w a b ≤ floor }
 {
     if floor >= FLOOR_LIMIT {
@@ -119,10 +126,10 @@ pub fn is_mean_at_most(floor: u64, v: u32, w: u32, a: u32, b: u32) -> bool
 /// What few visits add.
 #[tactic(auto, unfolding(crate::specs::Scores::bonus_of))]
 pub fn bonus(p: u32, v: u32, c: u32) -> u64
-    requires parent { p ≤ 1048576 }
+    requires parent { p ≤ MOST_COUNT }
     requires visited { 1 ≤ v }
-    requires visits { v ≤ 1048576 }
-    requires weight { c ≤ 1024 }
+    requires visits { v ≤ MOST_COUNT }
+    requires weight { c ≤ MOST_WEIGHT }
     ensures value { result ≡ bonus_of p v c }
     ensures bound { result < 2 ^ 42 }
 {
@@ -133,10 +140,10 @@ pub fn bonus(p: u32, v: u32, c: u32) -> u64
 /// The share of wins among visits.
 fn share(wins: u32, visits: u32) -> u64
     requires visited { 1 ≤ visits }
-    requires visits { visits ≤ 1048576 }
-    requires wins { wins ≤ 1048576 }
+    requires visits { visits ≤ MOST_COUNT }
+    requires wins { wins ≤ MOST_COUNT }
     ensures value { result ≡ share_of wins visits }
-    ensures bound { result ≤ 65536 * 1048576 }
+    ensures bound { result ≤ SHARE_PARTS * MOST_COUNT }
 {
     SHARE_PARTS * u64::from(wins) / u64::from(visits)
 }
@@ -147,7 +154,7 @@ fn share(wins: u32, visits: u32) -> u64
 #[tactic(auto, using(crate::proofs::Roots::root_is))]
 fn root_of_quotient(n: u64, d: u32) -> u32
     requires positive { 0 < d }
-    requires small { d ≤ 1048576 }
+    requires small { d ≤ MOST_COUNT }
     ensures { result ≡ isqrt (n / d) }
 {
     let divisor = u64::from(d);
