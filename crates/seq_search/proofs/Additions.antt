@@ -1,13 +1,22 @@
 -- What a walk adds, word by word.
-use Rattle.std.proofs.Common.{◌≡◌, ◌≢◌, ◌⊎◌, ℕ, ◌+◌, ◌<◌, Bool, true, false, cond, List, length, set as set_at, length-set, get_or-set_same, get_or-set_other, slice_index, refl, sym, ap, ◌∙◌, subst, ⊎_elim, arith}
+use Rattle.std.proofs.Common.{◌≡◌, ◌≢◌, ◌⊎◌, ℕ, ◌+◌, ◌<◌, Bool, true, false, cond, List, length, set as set_at, length-set, get_or-set_same, get_or-set_other, slice_index, refl, sym, ap, ◌∙◌, subst, ⊎_elim, arith, ◌≤◌, ◌^◌, [], ◌∷◌, ◌++◌}
 use Rattle.hex_cells.specs.Sets.{has as has_cell}
 use Rattle.hex_cells.specs.declared.colours.Colour.{Colour}
 use Rattle.hex_cells.specs.declared.colours.Colour.TheVariants.{Black, White}
 use Rattle.hex_board.specs.Joined.{is_joined}
 use Rattle.hex_board.specs.Positions.{Position}
 use Rattle.play_out.specs.Fills.{filled, playout_of}
-use Rattle.tree_words.specs.Words.{cell_in}
+use Rattle.tree_words.specs.Words.{cell_in, root_at, tally_in, seen_in}
 use Rattle.seq_search.specs.Adding.{Sighted, node_of}
+use Rattle.std.specs.Prelude.{◌==◌}
+use Rattle.tree_words.specs.Settings.{Setting}
+use Rattle.tree_words.specs.Blocks.{LinkedBlock, is_node}
+use Rattle.tree_words.specs.Paths.{root_state, node_state}
+use Rattle.tree_words.specs.Walks.{plus}
+use Rattle.tree_words.specs.Trees.{oldest_first}
+use Rattle.tree_words.specs.Sequence.{Outcome, game_of}
+use Rattle.tree_words.specs.Descents.{adds, sees}
+use Rattle.seq_search.specs.Descending.{steps_below}
 
 -- who won
 pub won : (p : Position) (player : Colour) (seed k : ℕ) (full : Position) (t : Bool) → full ≡ filled p player seed k → t ≡ is_joined full.size Black full.black → cond t Black White ≡ playout_of p player seed k
@@ -64,3 +73,17 @@ module _ (b n set amount : ℕ) (before now : List ℕ) (s : Sighted b n set amo
     where
       last : (k : ℕ) → k < n + 1 → (k < n) ⊎ (k ≡ n)
       last k l = grind arith
+
+-- how far the adds have come: the way is gone down to x, the counts of x are still to come, and these are the steps that are left
+pub record Adding (s : Setting) (bs : List LinkedBlock) (o : Outcome) (before now : List ℕ) (x : ℕ) (who : Colour) (left : List ℕ) : Type 0 where
+  pub long : length now ≡ length before
+  pub node : is_node (root_at s) bs x ≡ true
+  pub player : who ≡ (node_state s bs x).player
+  pub tally : (w : ℕ) → is_node (root_at s) bs w ≡ true
+      → plus (tally_in now w) (adds (game_of s) (tally_in before) (seen_in before) o (oldest_first bs) x (node_state s bs x) w)
+      ≡ plus (tally_in before w) (adds (game_of s) (tally_in before) (seen_in before) o (oldest_first bs) (root_at s) (root_state s) w)
+  pub seen : (w : ℕ) → is_node (root_at s) bs w ≡ true
+      → plus (seen_in now w) (sees (game_of s) (tally_in before) (seen_in before) o (oldest_first bs) x (node_state s bs x) w)
+      ≡ plus (seen_in before w) (sees (game_of s) (tally_in before) (seen_in before) o (oldest_first bs) (root_at s) (root_state s) w)
+  pub others : (i : ℕ) → ((w : ℕ) → is_node (root_at s) bs w ≡ true → (i ≢ w + 2) × (i ≢ w + 3)) → slice_index now i ≡ slice_index before i
+  pub rest : left ≡ steps_below s bs before x

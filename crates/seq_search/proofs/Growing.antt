@@ -8,20 +8,20 @@ use Rattle.tree_words.specs.Words.{Count, count_in, root_at, area_at, end_of, ne
 use Rattle.tree_words.specs.Blocks.{LinkedBlock, size, covers, has, is_node, link_of, header_or_move, stays, Follows, In, Shows}
 use Rattle.tree_words.specs.Paths.{NodeState, root_state, node_state, board_of}
 use Rattle.tree_words.specs.Complete.{HasEmpties, Complete, AreComplete, allowed_cells}
-use Rattle.tree_words.specs.Growth.{most_words}
-use Rattle.tree_words.specs.Walks.{nothing, Game}
+use Rattle.tree_words.specs.declared.layout.TheConstants.{MOST_BLOCK_WORDS}
+use Rattle.tree_words.specs.Walks.{nothing, Game, AtMost}
 use Rattle.tree_words.specs.Sequence.{Outcome, asks, gets_block, next_after, size_below, game_of}
 use Rattle.tree_words.specs.Trees.{oldest_first}
-use Rattle.tree_words.specs.Descents.{NewBlock, Widened, Fine, leaf_at, state_at, top, Inside}
+use Rattle.tree_words.specs.Descents.{NewBlock, Widened, Fine, leaf_at, state_at, top, Inside, config_of}
 use Rattle.tree_words.proofs.BlockLaws.{same_is, other_is, bool_is, either_true, true_both, le_of, lt_of, covers_of, covers_if, has-at, not_both, apart}
 use Rattle.tree_words.proofs.GameLaws.{fair_game, root_node}
 use Rattle.tree_words.proofs.Orders.{inside-node, rooted-turned}
 use Rattle.play_out.specs.Fills.{empties_of}
-use Rattle.seq_search.specs.Steps.{config_of, AtMost, Holds, KeepsRecords}
+use Rattle.seq_search.specs.Steps.{Holds, KeepsRecords}
 use Rattle.seq_search.specs.Writing.{block_below, Links, Grows}
-use Rattle.seq_search.proofs.Leaves.{Whole, root-out, sprouts-of, leaf-node, leaf-spot}
-use Rattle.seq_search.proofs.Asking.{size-most, spot-size, next-gets, next-vain, next-stays, state-count}
-use Rattle.seq_search.proofs.NodeLaws.{nodes-apart, stays-not, stays-clear, node-lies, link-none, cover-none, complete-more, ends-turned, under-root, leaf-vacant}
+use Rattle.tree_words.proofs.Leaves.{Whole, root-out, sprouts-of, leaf-node, leaf-spot}
+use Rattle.tree_words.proofs.Asking.{size-most, spot-size, next-gets, next-vain, next-stays, state-count}
+use Rattle.tree_words.proofs.NodeLaws.{nodes-apart, stays-not, stays-clear, node-lies, link-none, cover-none, complete-more, ends-turned, under-root, leaf-vacant}
 
 -- the blocks of the words are fine
 pub fine-of : (s : Setting) (bs : List LinkedBlock) (words : List ℕ) (k : ℕ) → Holds s bs words k → Fine (root_at s) (config_of bs words)
@@ -276,7 +276,7 @@ none-all : (s : Setting) (bs : List LinkedBlock) (before after : List ℕ) (k le
     → leaf ≡ leaf_at (game_of s) (tally_in before) (seen_in before) (oldest_first bs) (root_at s)
     → p ≡ (state_at (game_of s) (tally_in before) (seen_in before) (oldest_first bs) (root_at s) (root_state s)).1
     → gets_block s (next_in before) (tally_in before leaf) p ≡ false → next_in after ≡ next_after s (next_in before) (tally_in before leaf) p
-    → next_in before ≤ next_in after → next_in after ≤ end_of s + most_words
+    → next_in before ≤ next_in after → next_in after ≤ end_of s + MOST_BLOCK_WORDS
     → length after ≡ length before → ((i : ℕ) → 1 ≤ i → get_or after i 0 ≡ get_or before i 0)
     → Holds s bs after k × Widened (game_of s) (root_state s) (root_at s) (config_of bs before) (config_of bs after) × KeepsRecords s before after
 none-all s bs before after k leaf p h is_leaf is_spot narrow rule grew most long same =
@@ -339,10 +339,10 @@ no-block s bs before after k leaf p set h is_leaf is_spot w t =
     let n : ℕ = next_in before in
     let v : Count = tally_in before leaf in
     let whole : Whole (root_at s) bs = record { order = h.linked.order; filled = h.filled } in
-    let small : size_below p ≤ most_words = size-most p (subst (λ (z : ℕ). z ≤ 11)
+    let small : size_below p ≤ MOST_BLOCK_WORDS = size-most p (subst (λ (z : ℕ). z ≤ 11)
     (sym (ap (λ (z : NodeState). z.board.size) (is_spot ∙ sym (leaf-spot s (tally_in before) (seen_in before) bs whole)) ∙ spot-size s bs (leaf_at (game_of s) (tally_in before) (seen_in before) (oldest_first bs) (root_at s)))) set.position.most) in
     let none = w.none t in
-    let range : (n ≤ next_in after) × (next_in after ≤ end_of s + most_words) = ⊎_elim
+    let range : (n ≤ next_in after) × (next_in after ≤ end_of s + MOST_BLOCK_WORDS) = ⊎_elim
     (λ (a : asks s n v p ≡ true). let u = next-vain s n v p t a in (omega (arith, w.next, u.1), omega (arith, w.next, u.0, u.1, small)))
     (λ (a : asks s n v p ≡ false). let u = next-stays s n v p a in (omega (arith, w.next, u), omega (arith, w.next, u, h.next.1)))
     (bool_is (asks s n v p)) in

@@ -16,44 +16,12 @@ use Rattle.tree_words.specs.Blocks.{LinkedBlock, one_if, size, stays, header_or_
 use Rattle.tree_words.specs.Paths.{NodeState}
 use Rattle.tree_words.specs.Sequence.{asks, gets_block, next_after, size_below}
 use Rattle.tree_words.proofs.BlockLaws.{not_both, true_both, lt_of}
-use Rattle.seq_search.specs.Writing.{listed, WritesBlock, Links, LinksBelow, Grows, block_below}
-use Rattle.seq_search.proofs.Writes.{filter_more, block_of}
-
--- how many cells below n the set has
-members-listed : (set n : ℕ) → members set n ≡ length (filter (has_cell set) (range_with_len 0 n))
-unfolding members
-members-listed set zero = refl
-members-listed set (suc n) = omega (arith, members-listed set n, ap length (filter_more (has_cell set) 0 n n (omega arith)), length-append (filter (has_cell set) (range_with_len 0 n)) (cond (has_cell set n) (n ∷ []) []), one (has_cell set n) n)
-  where
-    one : (t : Bool) (n : ℕ) → length (cond t (n ∷ []) []) ≡ cond t 1 0
-    one true n = refl
-    one false n = refl
-
-members-past : (set m d : ℕ) → ((k : ℕ) → m ≤ k → has_cell set k ≡ false) → members set (m + d) ≡ members set m
-unfolding members
-members-past s m zero h = ap (members s) (omega arith)
-members-past s m (suc d) h = omega (arith, ap (members s) (shift m d), ap one_if (h (m + d) (omega arith)), members-past s m d h)
-  where
-    shift : (m d : ℕ) → m + suc d ≡ suc (m + d)
-    shift m d = omega arith
+use Rattle.tree_words.specs.Writing.{listed, WritesBlock}
+use Rattle.seq_search.specs.Writing.{Links, LinksBelow, Grows, block_below}
+use Rattle.tree_words.proofs.Writes.{filter_more, block_of}
 
 on_the_board : (p : Position) (k : ℕ) → is_empty_at p k ≡ true → k < p.size * p.size
 on_the_board p k e = lt_of _ _ (true_both _ _ ((true_both _ _ e).0)).0
-
-pub empties-listed : (set : ℕ) (p : Position) → ((k : ℕ) → has_cell set k ≡ is_empty_at p k) → listed p.size set ≡ empties_of p
-unfolding empties_of
-empties-listed set p e = filter_agree (has_cell set) (is_empty_at p) e (cells_of p.size)
-
--- the number of the empty cells
-pub count_empties : (set : ℕ) (p : Position) → p.size ≤ 11 → ((k : ℕ) → has_cell set k ≡ is_empty_at p k) → members set 121 ≡ length (empties_of p)
-count_empties set p l e =
-    let n : ℕ = p.size * p.size in
-    let most : n ≤ 11 * 11 = mul-le-mul l l in
-    let past : members set (n + (121 - n)) ≡ members set n = members-past set n (121 - n) (λ k m. not_both (has_cell set k) (λ t. let on : k < n = on_the_board p k (sym (e k) ∙ t) in omega arith)) in
-    ap (members set) (rest n most) ∙ past ∙ members-listed set n ∙ ap length (empties-listed set p e)
-  where
-    rest : (n : ℕ) → n ≤ 11 * 11 → 121 ≡ n + (121 - n)
-    rest n l = omega arith
 
 -- a leaf with few visits, or without an empty cell, asks for none
 pub few_asks : (s : Setting) (n : ℕ) (v : Count) (p : NodeState) → v.visits < s.knobs.expand → asks s n v p ≡ false

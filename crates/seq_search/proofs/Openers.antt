@@ -12,16 +12,16 @@ use Rattle.tree_words.specs.Blocks.{LinkedBlock, size, covers, has, is_node, hea
 use Rattle.tree_words.specs.Complete.{HasEmpties, Complete, allowed_cells}
 use Rattle.tree_words.specs.Growth.{root_end}
 use Rattle.tree_words.specs.Opening.{root_block, opening_word}
-use Rattle.tree_words.specs.Walks.{nothing, Tree, node, done, more, fresh}
+use Rattle.tree_words.specs.Walks.{nothing, Tree, node, done, more, fresh, AtMost}
 use Rattle.tree_words.specs.Sequence.{first_tree}
 use Rattle.tree_words.specs.Trees.{row_of, tree_leaf, tree_inner, tree_at, tree_of, oldest_first}
-use Rattle.tree_words.specs.Descents.{tree_in}
+use Rattle.tree_words.specs.Descents.{tree_in, config_of}
 use Rattle.tree_words.proofs.BlockLaws.{eq_of, same_is, other_is, either_true, true_both, lt_of, covers_of, covers_if, has-at, not_both}
 use Rattle.tree_words.proofs.Down.{child-has, down-here}
 use Rattle.tree_words.proofs.RootLaws.{filter_some}
-use Rattle.seq_search.specs.Steps.{config_of, AtMost, Holds}
-use Rattle.seq_search.proofs.NodeLaws.{stays-not}
-use Rattle.seq_search.proofs.Openings.{root-fits}
+use Rattle.seq_search.specs.Steps.{Holds}
+use Rattle.tree_words.proofs.NodeLaws.{stays-not}
+use Rattle.tree_words.proofs.Openings.{root-fits}
 
 on_the_board : (p : Position) (k : ℕ) → is_empty_at p k ≡ true → k < p.size * p.size
 on_the_board p k e = lt_of _ _ (true_both _ _ ((true_both _ _ e).0)).0

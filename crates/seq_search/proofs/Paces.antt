@@ -13,24 +13,27 @@ use Rattle.tree_words.specs.Words.{Count, root_at, count_in, wins_in, link_in, t
 use Rattle.tree_words.specs.Blocks.{LinkedBlock, words_of, child, has, place, cell_at, is_node, In, InOrder}
 use Rattle.tree_words.specs.Paths.{NodeState, root_state, state_after, mover_at, node_state, board_of}
 use Rattle.tree_words.specs.Complete.{cells_below}
-use Rattle.tree_words.specs.Walks.{nothing, plus}
+use Rattle.tree_words.specs.Walks.{nothing, plus, AtMost}
 use Rattle.tree_words.specs.Trees.{oldest_first}
-use Rattle.tree_words.specs.Sequence.{Outcome, one, gain_of, glimpse_of, game_of}
+use Rattle.tree_words.specs.Sequence.{Outcome, one, gain_of, glimpse_of, game_of, amount_of}
 use Rattle.tree_words.specs.Descents.{pick, adds_leaf, adds_inner, adds, sees_leaf, sees_inner, sees, steps_inner, Bare}
 use Rattle.tree_words.proofs.BlockLaws.{eq_of, same_is, bool_is, has-at}
 use Rattle.tree_words.proofs.Down.{plus-nothing, not_both, never, child-has, pick-in}
 use Rattle.tree_words.proofs.GameLaws.{root_node, fair_game}
 use Rattle.tree_words.proofs.Links.{down-bare, adds-link, sees-link, steps-link}
 use Rattle.tree_words.proofs.Orders.{rooted-turned, link-bare}
-use Rattle.seq_search.specs.Steps.{AtMost, Holds}
+use Rattle.seq_search.specs.Steps.{Holds}
 use Rattle.seq_search.specs.declared.descending.Descent.{Descent}
 use Rattle.seq_search.specs.Descending.{steps_in, steps_below, Descended}
-use Rattle.seq_search.specs.Adding.{amount_of, node_of, Sighted, Counted}
-use Rattle.seq_search.proofs.NodeLaws.{nodes-apart, stays-clear}
-use Rattle.seq_search.proofs.LinkLaws.{IsBelow, below, node-fits, child-node, child-move, child-spot, in-turned}
-use Rattle.seq_search.proofs.Ways.{up-root, cell-of-move, placed-size, below-empty, on-board, few-cells}
+use Rattle.seq_search.specs.Adding.{node_of, Sighted, Counted}
+use Rattle.tree_words.proofs.NodeLaws.{nodes-apart, stays-clear}
+use Rattle.tree_words.proofs.Members.{in-turned}
+use Rattle.seq_search.proofs.LinkLaws.{IsBelow, below, node-fits, child-node, child-move, child-spot}
+use Rattle.tree_words.proofs.EmptyLaws.{up-root, cell-of-move, below-empty, on-board, few-cells}
+use Rattle.seq_search.proofs.Ways.{placed-size}
 use Rattle.tree_words.proofs.Adds.{is_child}
-use Rattle.seq_search.proofs.Countings.{count-more, adds-one, sees-one, above-turned, adds-before, sees-before, has-one, Adding}
+use Rattle.seq_search.proofs.Additions.{Adding}
+use Rattle.tree_words.proofs.Countings.{count-more, adds-one, sees-one, above-turned, adds-before, sees-before, has-one}
 
 -- word i is neither a tally nor a seen word of a node
 abbrev pub NoCount : ℕ → List LinkedBlock → ℕ → Type 0

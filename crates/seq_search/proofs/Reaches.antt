@@ -12,7 +12,7 @@ use Rattle.seq_search.specs.Writing.{Grows}
 use Rattle.seq_search.specs.Descending.{Descended, spot_in}
 use Rattle.seq_search.specs.Searching.{Reached}
 use Rattle.seq_search.specs.declared.descending.Descent.{Descent}
-use Rattle.seq_search.proofs.NodeLaws.{node-lies}
+use Rattle.tree_words.proofs.NodeLaws.{node-lies}
 use Rattle.seq_search.proofs.Growing.{made-block, no-block}
 
 -- a walk that has come to a leaf is there also where only NEXT changes

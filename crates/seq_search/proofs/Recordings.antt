@@ -6,18 +6,18 @@ use Rattle.tree_words.specs.Words.{Count, count_in, root_at, area_at, end_of, ne
 use Rattle.tree_words.specs.Blocks.{LinkedBlock, child, place, cell_at, is_node, In}
 use Rattle.tree_words.specs.Paths.{NodeState, root_state}
 use Rattle.tree_words.specs.Complete.{AreComplete}
-use Rattle.tree_words.specs.Walks.{nothing, plus, Game}
+use Rattle.tree_words.specs.Walks.{nothing, plus, Game, AtMost}
 use Rattle.tree_words.specs.Sequence.{Outcome, game_of}
 use Rattle.tree_words.specs.Trees.{oldest_first}
-use Rattle.tree_words.specs.Descents.{Added, pick, adds, sees_leaf, sees_inner, sees, top, Out, Inside}
+use Rattle.tree_words.specs.Descents.{Added, pick, adds, sees_leaf, sees_inner, sees, top, Out, Inside, config_of}
 use Rattle.tree_words.proofs.Down.{down-split}
 use Rattle.tree_words.proofs.GameLaws.{root_node}
 use Rattle.tree_words.proofs.Orders.{inside-node}
-use Rattle.seq_search.specs.Steps.{config_of, AtMost, Holds, Records}
+use Rattle.seq_search.specs.Steps.{Holds, Records}
 use Rattle.seq_search.specs.Adding.{Counted}
-use Rattle.seq_search.proofs.Leaves.{root-out}
-use Rattle.seq_search.proofs.NodeLaws.{nodes-apart, stays-clear, node-lies, under-root}
-use Rattle.seq_search.proofs.Countings.{adds-one, sees-one}
+use Rattle.tree_words.proofs.Leaves.{root-out}
+use Rattle.tree_words.proofs.NodeLaws.{nodes-apart, stays-clear, node-lies, under-root}
+use Rattle.tree_words.proofs.Countings.{adds-one, sees-one}
 
 module _ {S O : Type 0} (g : Game S O) (p q : ℕ → Count) (o : O) where
   -- what is a node of no block is not seen

@@ -15,10 +15,10 @@ use Rattle.tree_words.specs.Closing.{IsClosed}
 use Rattle.tree_words.specs.Walks.{Tree, Game, walk, walks}
 use Rattle.tree_words.specs.Sequence.{Outcome, outcome_of, game_of, first_tree, seq_of}
 use Rattle.tree_words.specs.Trees.{IsTreeOf}
-use Rattle.tree_words.specs.Descents.{tree_in, ends, Added}
+use Rattle.tree_words.specs.Descents.{tree_in, ends, Added, config_of}
 use Rattle.tree_words.proofs.GameLaws.{fair_game}
 use Rattle.tree_words.proofs.WalkLaws.{walk-tree}
-use Rattle.seq_search.specs.Steps.{config_of, Holds, Records}
+use Rattle.seq_search.specs.Steps.{Holds, Records}
 use Rattle.seq_search.specs.Descending.{spot_in}
 use Rattle.seq_search.specs.Searching.{Searched, Reached}
 use Rattle.seq_search.specs.declared.descending.Descent.{Descent}

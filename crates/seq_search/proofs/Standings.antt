@@ -13,32 +13,24 @@ use Rattle.tree_words.specs.Blocks.{LinkedBlock, child, has, place, cell_at, siz
 use Rattle.tree_words.specs.Paths.{NodeState, root_state, is_on, enters, node_state, board_of}
 use Rattle.tree_words.specs.Records.{leaf_of, outcome_in, IsRecord}
 use Rattle.tree_words.specs.Counts.{sights_at, ExactTo}
-use Rattle.tree_words.specs.Growth.{most_words, root_end, other_words, ends_at, Grown}
-use Rattle.tree_words.specs.Closing.{most_workers, Ends, IsClosed}
-use Rattle.tree_words.specs.Walks.{nothing, plus, Game}
+use Rattle.tree_words.specs.declared.layout.TheConstants.{MOST_BLOCK_WORDS}
+use Rattle.tree_words.specs.Growth.{root_end, other_words, ends_at, Grown}
+use Rattle.tree_words.specs.declared.settings.TheConstants.{MOST_WORKERS}
+use Rattle.tree_words.specs.Closing.{Ends, IsClosed}
+use Rattle.tree_words.specs.Walks.{nothing, plus, Game, AtMost}
 use Rattle.tree_words.specs.Sequence.{Outcome, outcome_of, gain_of, glimpse_of, size_below, asks, gets_block, game_of}
 use Rattle.tree_words.specs.Trees.{oldest_first}
-use Rattle.tree_words.specs.Descents.{ends, NewBlock, Widened, Added, pick, leaf_at}
+use Rattle.tree_words.specs.Descents.{ends, NewBlock, Widened, Added, pick, leaf_at, config_of}
 use Rattle.tree_words.proofs.BlockLaws.{eq_of, same_is, other_is, bool_is, either_true, has-at}
 use Rattle.tree_words.proofs.Down.{not_both}
 use Rattle.tree_words.proofs.GameLaws.{fair_game, in-node, spot-same}
-use Rattle.seq_search.specs.Steps.{config_of, AtMost, Holds, KeepsRecords, Records}
+use Rattle.seq_search.specs.Steps.{Holds, KeepsRecords, Records}
 use Rattle.seq_search.specs.IsSearched.{IsSearched}
-use Rattle.seq_search.proofs.Climbs.{or_true, or_first, in-out}
-use Rattle.seq_search.proofs.Leaves.{Whole, in-turned, root-out, node-top, leaf-node, leaf-spot, adds-at, sees-at, picked-at, picks-unvisited}
-use Rattle.seq_search.proofs.Tallies.{SameRecords, visits-words, sights-words, ends-words, record-words, visits-block, sights-block, visits-new, sights-new, ends-new, record-block, visits-more, sights-more, ends-visits}
-use Rattle.seq_search.proofs.Asking.{some-empty, size-most, spot-size, asks-not, next-gets, next-vain, next-stays, state-count}
-
--- the words of the blocks but the root's
-other-root : (s : Setting) (b : LinkedBlock) (bs : List LinkedBlock) → b.parent ≡ root_at s → other_words s (b ∷ bs) ≡ other_words s bs
-other-root s b bs e =
-    let rest : List LinkedBlock = filter (λ (c : LinkedBlock). not (c.parent == root_at s)) bs in
-    ap (λ (t : Bool). sum_by size (cond (not t) (b ∷ rest) rest)) (same_is b.parent (root_at s) e)
-
-other-more : (s : Setting) (b : LinkedBlock) (bs : List LinkedBlock) → (b.parent ≡ root_at s → ⊥) → other_words s (b ∷ bs) ≡ size b + other_words s bs
-other-more s b bs e =
-    let rest : List LinkedBlock = filter (λ (c : LinkedBlock). not (c.parent == root_at s)) bs in
-    ap (λ (t : Bool). sum_by size (cond (not t) (b ∷ rest) rest)) (other_is b.parent (root_at s) e) ∙ sum_by-cons size b rest
+use Rattle.tree_words.proofs.Climbs.{or_true, or_first, in-out}
+use Rattle.tree_words.proofs.Leaves.{Whole, in-turned, root-out, node-top, leaf-node, leaf-spot, adds-at, sees-at, picked-at, picks-unvisited}
+use Rattle.tree_words.proofs.Tallies.{SameRecords, visits-words, sights-words, ends-words, record-words, visits-block, sights-block, visits-new, sights-new, ends-new, record-block, visits-more, sights-more, ends-visits}
+use Rattle.tree_words.proofs.Asking.{some-empty, size-most, spot-size, asks-not, next-gets, next-vain, next-stays, state-count}
+use Rattle.tree_words.proofs.Turned.{other-root, other-more, turned-same}
 
 no_count : (c : Count) → AtMost 0 c → c ≡ nothing
 no_count c h = let v : c.visits ≡ 0 = omega (arith, h.0) in let w : c.wins ≡ 0 = omega (arith, h.1) in λ i. record { visits = v i; wins = w i }
@@ -66,23 +58,11 @@ standing-opening s b words e n h =
       room = omega (arith, n, other);
     }
 
--- the blocks the other way round, twice, are the blocks
-turned-snoc : (os : List LinkedBlock) (b : LinkedBlock) → oldest_first (os ++ b ∷ []) ≡ b ∷ oldest_first os
-turned-snoc [] b = refl
-turned-snoc (c ∷ os) b = ap (λ (l : List LinkedBlock). l ++ c ∷ []) (turned-snoc os b)
-
-turned-twice : (bs : List LinkedBlock) → oldest_first (oldest_first bs) ≡ bs
-turned-twice [] = refl
-turned-twice (b ∷ bs) = turned-snoc (oldest_first bs) b ∙ ap (λ (l : List LinkedBlock). b ∷ l) (turned-twice bs)
-
-pub turned-same : (bs cs : List LinkedBlock) → oldest_first bs ≡ oldest_first cs → bs ≡ cs
-turned-same bs cs e = sym (turned-twice bs) ∙ ap oldest_first e ∙ turned-twice cs
-
 -- where no block is new, and NEXT may have grown
 module _ (s : Setting) (bs : List LinkedBlock) (words after : List ℕ) (k : ℕ) (st : IsSearched s bs words k) (same : SameRecords k words after) where
   standing-kept : ((x : ℕ) → is_node (root_at s) bs x ≡ true → tally_in after x ≡ tally_in words x)
       → ((b : LinkedBlock) (y : ℕ) → In b bs → has b y ≡ true → seen_in after y ≡ seen_in words y)
-      → next_in words ≤ next_in after → (next_in after ≤ end_of s → next_in after ≡ root_end s + other_words s bs) → next_in after ≤ root_end s + other_words s bs + most_words
+      → next_in words ≤ next_in after → (next_in after ≤ end_of s → next_in after ≡ root_end s + other_words s bs) → next_in after ≤ root_end s + other_words s bs + MOST_BLOCK_WORDS
       → IsSearched s bs after k
   standing-kept tally seen grows within room =
       let r : ℕ = root_at s in
@@ -300,7 +280,7 @@ times k n l = let le : n ≤ n = omega arith in omega (arith, mul-le-mul l le)
 
 -- after all walks the words are a closed tree
 pub closed-of : (s : Setting) (bs : List LinkedBlock) (words : List ℕ) → IsSetting s → Holds s bs words s.knobs.playouts → IsSearched s bs words s.knobs.playouts
-    → s.knobs.playouts ≤ ticket_in words → ticket_in words ≤ s.knobs.playouts + most_workers → IsClosed s words
+    → s.knobs.playouts ≤ ticket_in words → ticket_in words ≤ s.knobs.playouts + MOST_WORKERS → IsClosed s words
 closed-of s bs words set h st from to =
     let K : ℕ = s.knobs.workers in
     let some : 1 ≤ K = set.ranges.workers.0 in

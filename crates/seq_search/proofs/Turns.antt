@@ -9,12 +9,12 @@ use Rattle.tree_words.specs.Blocks.{LinkedBlock, one_if}
 use Rattle.tree_words.specs.Paths.{root_state}
 use Rattle.tree_words.specs.Sequence.{Outcome, outcome_of, asks, game_of}
 use Rattle.tree_words.specs.Trees.{oldest_first}
-use Rattle.tree_words.specs.Descents.{ends, Widened, Added, leaf_at}
+use Rattle.tree_words.specs.Descents.{ends, Widened, Added, leaf_at, config_of}
 use Rattle.tree_words.proofs.BlockLaws.{same_is, other_is}
-use Rattle.seq_search.specs.Steps.{config_of, Holds, KeepsRecords, Records}
+use Rattle.seq_search.specs.Steps.{Holds, KeepsRecords, Records}
 use Rattle.seq_search.specs.IsSearched.{IsSearched}
-use Rattle.seq_search.proofs.Leaves.{Whole, root-out, sprouts-of}
-use Rattle.seq_search.proofs.Asking.{widened-asks}
+use Rattle.tree_words.proofs.Leaves.{Whole, root-out, sprouts-of}
+use Rattle.tree_words.proofs.Asking.{widened-asks}
 use Rattle.seq_search.proofs.Standings.{standing-widened, standing-added}
 
 -- the leaf and the winner are read off the record

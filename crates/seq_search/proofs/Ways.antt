@@ -18,7 +18,7 @@ use Rattle.tree_words.specs.Paths.{NodeState, root_state, state_after, node_stat
 use Rattle.tree_words.specs.Complete.{allowed_cells, cells_below}
 use Rattle.tree_words.specs.Counts.{count_below}
 use Rattle.tree_words.specs.Trees.{oldest_first}
-use Rattle.tree_words.specs.Sequence.{child_of, chosen_of, game_of}
+use Rattle.tree_words.specs.Sequence.{child_of, chosen_of, game_of, children_in}
 use Rattle.tree_words.specs.Descents.{pairs_of, pick, leaf_inner, state_leaf, state_inner, steps_inner, Bare}
 use Rattle.tree_words.proofs.Adds.{is_child}
 use Rattle.tree_words.proofs.BlockLaws.{eq_of, same_is, bool_is, apart, up_same, true_both, lt_of}
@@ -27,52 +27,15 @@ use Rattle.tree_words.proofs.GameLaws.{up-in, in-node, root_node, fair_game}
 use Rattle.tree_words.proofs.Links.{down-bare, leaf-link, state-link, steps-link}
 use Rattle.tree_words.proofs.Orders.{rooted-turned, link-bare}
 use Rattle.tree_words.proofs.RootLaws.{filter_at}
-use Rattle.seq_search.specs.Steps.{AtMost, Holds}
-use Rattle.seq_search.specs.Choosing.{children_in, most_count, CanBeScored}
+use Rattle.tree_words.specs.Walks.{AtMost}
+use Rattle.seq_search.specs.Steps.{Holds}
+use Rattle.uct_table.specs.declared.scoring.TheConstants.{MOST_COUNT}
+use Rattle.seq_search.specs.Choosing.{CanBeScored}
 use Rattle.seq_search.specs.declared.descending.Descent.{Descent}
 use Rattle.seq_search.specs.Descending.{spot_in, steps_in, left_on, HasRoom, leaf_below, state_below, steps_below, Underway, Descended}
 use Rattle.seq_search.proofs.LinkLaws.{IsBelow, below, node-fits, child-move, child-counts}
-
--- the children as Choice reads them
-pub pairs-children : (words : List ℕ) (y : ℕ) (cs : List ℕ) → map child_of (pairs_of (tally_in words) (seen_in words) y cs) ≡ children_in words y (length cs)
-pairs-children words y [] = refl
-pairs-children words y (c ∷ cs) = ap (λ l. child_of (tally_in words y, seen_in words y) ∷ l) (pairs-children words (y + 4) cs)
-
--- no block has the root among its nodes
-pub up-root : {A : Type 0} (root : A) (step : LinkedBlock → ℕ → A → A) (r : ℕ) (bs : List LinkedBlock) → InOrder r bs → up root step bs r ≡ root
-up-root root step r [] g = refl
-up-root root step r (b ∷ bs) g = up_same root step b bs r (apart r b bs r g.0 (root_node r bs)) ∙ up-root root step r bs g.1
-
--- the cells of a block are empty on its parent's board
-empties-empty : (p : Position) (i : ℕ) → i < length (empties_of p) → is_empty_at p (get_or (empties_of p) i 0) ≡ true
-unfolding empties_of
-empties-empty p i l = (filter_at (is_empty_at p) 0 (p.size * p.size) i l).0
-
-allowed-empty : (s : Setting) (i : ℕ) → IsSetting s → i < length (allowed_cells s) → is_empty_at s.board (get_or (allowed_cells s) i 0) ≡ true
-unfolding allowed_cells
-allowed-empty s i h l = h.empty _ (filter_at (has_cell s.allowed) 0 (s.board.size * s.board.size) i l).0
-
-pub below-empty : (s : Setting) (bs : List LinkedBlock) (x i : ℕ) → IsSetting s → InOrder (root_at s) bs → i < length (cells_below s bs x) → is_empty_at (board_of s bs x) (get_or (cells_below s bs x) i 0) ≡ true
-below-empty s bs x i h g l = ⊎_elim
-    (λ (t : (x == root_at s) ≡ true).
-    let at : x ≡ root_at s = eq_of x (root_at s) t in
-    let cells : cells_below s bs x ≡ allowed_cells s = ap (λ (u : Bool). cond u (allowed_cells s) (empties_of (board_of s bs x))) t in
-    let board : board_of s bs x ≡ s.board = ap (board_of s bs) at ∙ ap (λ (p : NodeState). p.board) (up-root (root_state s) (λ b y above. state_after above (cell_at b (place b y))) (root_at s) bs g) in
-    (λ j. is_empty_at (board j) (get_or (cells j) i 0)) ∙ allowed-empty s i h (subst (λ (c : List ℕ). i < length c) cells l))
-    (λ (t : (x == root_at s) ≡ false).
-    let cells : cells_below s bs x ≡ empties_of (board_of s bs x) = ap (λ (u : Bool). cond u (allowed_cells s) (empties_of (board_of s bs x))) t in
-    ap (λ (c : List ℕ). is_empty_at (board_of s bs x) (get_or c i 0)) cells ∙ empties-empty (board_of s bs x) i (subst (λ (c : List ℕ). i < length c) cells l))
-    (bool_is (x == root_at s))
-
--- an empty cell lies on the board
-pub on-board : (p : Position) (c : ℕ) → is_empty_at p c ≡ true → c < p.size * p.size
-on-board p c e = lt_of c (p.size * p.size) (true_both (nat_lt c (p.size * p.size)) (not (has_cell p.black c)) (true_both _ (not (has_cell p.white c)) e).0).0
-
-pub few-cells : (n : ℕ) → n ≤ 11 → n * n ≤ 121
-few-cells n l = grind arith
-
-pub cell-of-move : (i c : ℕ) → c < 256 → cell_in (move_of i c) ≡ c
-cell-of-move i c l = omega arith
+use Rattle.tree_words.proofs.EmptyLaws.{below-empty, on-board, few-cells, cell-of-move, up-root}
+use Rattle.tree_words.proofs.ChildLaws.{pairs-children}
 
 -- how a call of the way down is told that the words are those of a search
 abbrev pub Searched : Setting → List ℕ → Type 0
@@ -85,7 +48,7 @@ OnWay s words d = (bs : List LinkedBlock) (k : ℕ) → k ≤ s.knobs.playouts �
 pub way-fits : (s : Setting) (words : List ℕ) (d : Descent) → Searched s words → OnWay s words d → d.node + 4 ≤ length words
 way-fits s words d q w = node-fits s q.0 words q.1 q.3 d.node (w q.0 q.1 q.2 q.3).node
 
-module _ (s : Setting) (bs : List LinkedBlock) (words : List ℕ) (k : ℕ) (few : k ≤ most_count) (h : Holds s bs words k) (x block : ℕ) (n : is_node (root_at s) bs x ≡ true) (at : block ≡ link_in words x) (some : block ≢ 0) where
+module _ (s : Setting) (bs : List LinkedBlock) (words : List ℕ) (k : ℕ) (few : k ≤ MOST_COUNT) (h : Holds s bs words k) (x block : ℕ) (n : is_node (root_at s) bs x ≡ true) (at : block ≡ link_in words x) (some : block ≢ 0) where
   link-some : link_in words x ≢ 0
   link-some e = some (at ∙ e)
 
@@ -109,7 +72,7 @@ module _ (s : Setting) (bs : List LinkedBlock) (words : List ℕ) (k : ℕ) (few
       let c = subst (λ (z : ℕ). AtMost k (tally_in words z) × AtMost k (seen_in words z)) same (child-counts s bs words k h b i block-below.1.inside li) in
       ((omega (arith, few, c.0.0), omega (arith, few, c.0.1)), (omega (arith, few, c.1.0), omega (arith, few, c.1.1)))
 
-  pub parent-scored : (tally_in words x).visits ≤ most_count
+  pub parent-scored : (tally_in words x).visits ≤ MOST_COUNT
   parent-scored = let c = h.counts x n in omega (arith, few, c.0.0)
 
   -- the place that is chosen
@@ -306,13 +269,13 @@ end-way s bs words d k h r u e =
 pub few-words : (s : Setting) (words : List ℕ) → IsSetting s → Searched s words → length words ≤ 17777222
 few-words s words z q = omega (arith, q.3.long, z.ranges.playouts.1, z.ranges.words.1)
 
-few-counts : (s : Setting) (k : ℕ) → IsSetting s → k ≤ s.knobs.playouts → k ≤ most_count
+few-counts : (s : Setting) (k : ℕ) → IsSetting s → k ≤ s.knobs.playouts → k ≤ MOST_COUNT
 few-counts s k z l = omega (arith, l, z.ranges.playouts.1)
 
 -- the block of the node can be chosen from
 pub record MayChoose (s : Setting) (words : List ℕ) (d : Descent) (block : ℕ) : Type 0 where
   pub within : block + words_of (slice_index words (block + 3)) ≤ length words
-  pub parent : (tally_in words d.node).visits ≤ most_count
+  pub parent : (tally_in words d.node).visits ≤ MOST_COUNT
   pub counts : CanBeScored words (block + 4) (slice_index words (block + 3))
 
 pub may-choose : (s : Setting) (words : List ℕ) (d : Descent) (block : ℕ) → IsSetting s → Searched s words → OnWay s words d → block ≡ link_in words d.node → block ≢ 0 → MayChoose s words d block

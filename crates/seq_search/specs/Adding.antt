@@ -10,10 +10,7 @@ use Rattle.tree_words.specs.Trees.{oldest_first}
 use Rattle.tree_words.specs.Sequence.{Outcome, game_of}
 use Rattle.tree_words.specs.Descents.{adds, sees}
 use Rattle.seq_search.specs.declared.adding.Ending.{Ending}
-
--- one visit, and one win where `wins`, as a tally or a seen word counts them
-abbrev pub amount_of : Bool → ℕ
-amount_of wins = 2 ^ 32 + one_if wins
+use Rattle.tree_words.specs.declared.layout.TheConstants.{HEADER_WORDS, NODE_WORDS, TALLY_WORD, SEEN_WORD}
 
 -- what a playout gave
 abbrev pub outcome_in : Ending → Outcome
@@ -21,14 +18,14 @@ outcome_in e = record { winner = e.winner; full = e.full }
 
 -- the first word of the node of place k of the block at b
 abbrev pub node_of : ℕ → ℕ → ℕ
-node_of b k = b + 4 + 4 * k
+node_of b k = b + HEADER_WORDS + NODE_WORDS * k
 
 -- Of the first n nodes of the block at b, the seen word of each whose cell is in the set has so much more, and all else is as before.
 pub record Sighted (b n set amount : ℕ) (before after : List ℕ) : Type 0 where
   pub long : length after ≡ length before
-  pub seen : (k : ℕ) → k < n → slice_index after (node_of b k + 3)
-      ≡ slice_index before (node_of b k + 3) + (if has_cell set (cell_in (slice_index before (node_of b k))) then amount else 0)
-  pub others : (i : ℕ) → ((k : ℕ) → k < n → i ≢ node_of b k + 3) → slice_index after i ≡ slice_index before i
+  pub seen : (k : ℕ) → k < n → slice_index after (node_of b k + SEEN_WORD)
+      ≡ slice_index before (node_of b k + SEEN_WORD) + (if has_cell set (cell_in (slice_index before (node_of b k))) then amount else 0)
+  pub others : (i : ℕ) → ((k : ℕ) → k < n → i ≢ node_of b k + SEEN_WORD) → slice_index after i ≡ slice_index before i
 
 -- Each node has the counts that the walk adds where its playout gave o, and all other words are as before.
 pub record Counted (s : Setting) (bs : List LinkedBlock) (o : Outcome) (before after : List ℕ) : Type 0 where
@@ -37,4 +34,4 @@ pub record Counted (s : Setting) (bs : List LinkedBlock) (o : Outcome) (before a
       ≡ plus (tally_in before w) (adds (game_of s) (tally_in before) (seen_in before) o (oldest_first bs) (root_at s) (root_state s) w)
   pub seen : (w : ℕ) → is_node (root_at s) bs w ≡ true → seen_in after w
       ≡ plus (seen_in before w) (sees (game_of s) (tally_in before) (seen_in before) o (oldest_first bs) (root_at s) (root_state s) w)
-  pub others : (i : ℕ) → ((w : ℕ) → is_node (root_at s) bs w ≡ true → (i ≢ w + 2) × (i ≢ w + 3)) → slice_index after i ≡ slice_index before i
+  pub others : (i : ℕ) → ((w : ℕ) → is_node (root_at s) bs w ≡ true → (i ≢ w + TALLY_WORD) × (i ≢ w + SEEN_WORD)) → slice_index after i ≡ slice_index before i

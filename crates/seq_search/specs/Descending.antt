@@ -10,6 +10,8 @@ use Rattle.tree_words.specs.Sequence.{game_of}
 use Rattle.tree_words.specs.Descents.{leaf_at, state_at, steps_at}
 use Rattle.tree_words.specs.Counts.{count_below}
 use Rattle.seq_search.specs.declared.descending.Descent.{Descent}
+use Rattle.tree_words.specs.declared.layout.TheConstants.{MOST_NODES}
+use Rattle.seq_search.specs.declared.descending.TheConstants.{MOST_STEPS}
 
 -- the board and the player to move
 abbrev pub spot_in : Descent → NodeState
@@ -21,13 +23,13 @@ steps_in d = take d.count d.steps
 
 -- how many cells of the board are empty
 unfoldable pub left_on : Position → ℕ
-left_on p = count_below 121 (is_empty_at p)
+left_on p = count_below MOST_NODES (is_empty_at p)
 
--- There is room for its further steps: each takes an empty cell, of 121 at most.
+-- There is room for its further steps: each takes an empty cell.
 pub record HasRoom (d : Descent) : Type 0 where
   pub size : d.board.size ≤ 11
-  pub cells : d.count + left_on d.board ≤ 121
-  pub long : length d.steps ≡ 121
+  pub cells : d.count + left_on d.board ≤ MOST_STEPS
+  pub long : length d.steps ≡ MOST_STEPS
 
 module _ (s : Setting) (bs : List LinkedBlock) (words : List ℕ) where
   -- the leaf of the walk from x down, its state and its steps, by the words
@@ -56,5 +58,5 @@ module _ (s : Setting) (bs : List LinkedBlock) (words : List ℕ) where
     pub state : state_below (root_at s) (root_state s) ≡ (tally_in words d.node, spot_in d)
     pub steps : steps_below (root_at s) ≡ steps_in d
     pub bare : link_in words d.node ≡ 0
-    pub few : d.count ≤ 121
-    pub long : length d.steps ≡ 121
+    pub few : d.count ≤ MOST_STEPS
+    pub long : length d.steps ≡ MOST_STEPS

@@ -6,7 +6,8 @@ use Rattle.tree_words.specs.Blocks.{LinkedBlock, has, is_node, link_of, In}
 use Rattle.tree_words.specs.Paths.{board_of}
 use Rattle.tree_words.specs.Records.{IsRecord}
 use Rattle.tree_words.specs.Counts.{ExactTo}
-use Rattle.tree_words.specs.Growth.{most_words, root_end, other_words, ends_at}
+use Rattle.tree_words.specs.declared.layout.TheConstants.{MOST_BLOCK_WORDS}
+use Rattle.tree_words.specs.Growth.{root_end, other_words, ends_at}
 use Rattle.hex_board.specs.Positions.{is_empty_at}
 
 -- After k walks of one worker: the counts are those of the k playouts, and each of these has its record; the root has a block; in a
@@ -22,4 +23,4 @@ pub record IsSearched (s : Setting) (bs : List LinkedBlock) (words : List ℕ) (
   pub leaves : next_in words ≤ end_of s → (x c : ℕ) → is_node (root_at s) bs x ≡ true → is_empty_at (board_of s bs x) c ≡ true
       → ends_at words k x ≤ s.knobs.expand
   pub within : next_in words ≤ end_of s → next_in words ≡ root_end s + other_words s bs
-  pub room : next_in words ≤ root_end s + other_words s bs + most_words
+  pub room : next_in words ≤ root_end s + other_words s bs + MOST_BLOCK_WORDS

@@ -6,8 +6,8 @@ use Rattle.tree_words.specs.Blocks.{LinkedBlock}
 use Rattle.tree_words.specs.Paths.{root_state}
 use Rattle.tree_words.specs.Walks.{walks}
 use Rattle.tree_words.specs.Sequence.{game_of, first_tree}
-use Rattle.tree_words.specs.Descents.{tree_in, Widened}
-use Rattle.seq_search.specs.Steps.{config_of, Holds, KeepsRecords}
+use Rattle.tree_words.specs.Descents.{tree_in, Widened, config_of}
+use Rattle.seq_search.specs.Steps.{Holds, KeepsRecords}
 use Rattle.seq_search.specs.IsSearched.{IsSearched}
 use Rattle.seq_search.specs.Descending.{Descended}
 use Rattle.seq_search.specs.declared.descending.Descent.{Descent}

@@ -10,20 +10,7 @@ use Rattle.tree_words.specs.Complete.{HasEmpties}
 use Rattle.tree_words.specs.Paths.{NodeState}
 use Rattle.tree_words.specs.Sequence.{gets_block, next_after}
 use Rattle.play_out.specs.Fills.{empties_of}
-
--- the cells of the set on a board of this size, in rising order
-abbrev pub listed : ℕ → ℕ → List ℕ
-listed size set = filter (has_cell set) (cells_of size)
-
--- the move of each node of the block is written, and no other word changes
-pub record WritesMoves (b : LinkedBlock) (before after : List ℕ) : Type 0 where
-  pub long : length after ≡ length before
-  pub each : (i : ℕ) → slice_index after i ≡ (if has b i then move_of (place b i) (cell_at b (place b i)) else slice_index before i)
-
--- the header and the moves of the block are written, and no other word changes
-pub record WritesBlock (b : LinkedBlock) (before after : List ℕ) : Type 0 where
-  pub long : length after ≡ length before
-  pub each : (i : ℕ) → slice_index after i ≡ (if covers i b && stays (i - b.start) then header_or_move b (i - b.start) else slice_index before i)
+use Rattle.tree_words.specs.declared.layout.TheConstants.{LINK_WORD, NEXT_AT, TICKET_AT}
 
 -- the block below a leaf of this spot: it begins at NEXT
 abbrev pub block_below : ℕ → ℕ → ℕ → NodeState → LinkedBlock
@@ -32,8 +19,8 @@ block_below next leaf empties p = record { start = next; parent = leaf; empties 
 -- the block is written, its parent's link names it, and no other word changes
 pub record Links (b : LinkedBlock) (before after : List ℕ) : Type 0 where
   pub long : length after ≡ length before
-  pub link : slice_index after (b.parent + 1) ≡ b.start
-  pub each : (i : ℕ) → (i ≡ b.parent + 1 → ⊥) → slice_index after i ≡ (if covers i b && stays (i - b.start) then header_or_move b (i - b.start) else slice_index before i)
+  pub link : slice_index after (b.parent + LINK_WORD) ≡ b.start
+  pub each : (i : ℕ) → (i ≡ b.parent + LINK_WORD → ⊥) → slice_index after i ≡ (if covers i b && stays (i - b.start) then header_or_move b (i - b.start) else slice_index before i)
 
 -- a block with the empty cells of this spot is written so
 abbrev pub LinksBelow : ℕ → ℕ → NodeState → List ℕ → List ℕ → Type 0
@@ -42,5 +29,5 @@ LinksBelow start leaf p before after = (empties : ℕ) × HasEmpties empties p.b
 -- The leaf of this spot gets its block where it is to have one, and NEXT grows where it asks for one; no other word changes.
 pub record Grows (s : Setting) (leaf : ℕ) (p : NodeState) (before after : List ℕ) : Type 0 where
   pub next : next_in after ≡ next_after s (next_in before) (tally_in before leaf) p
-  pub made : gets_block s (next_in before) (tally_in before leaf) p ≡ true → LinksBelow (next_in before) leaf p (slice_set before 0 (next_after s (next_in before) (tally_in before leaf) p)) after
-  pub none : gets_block s (next_in before) (tally_in before leaf) p ≡ false → (length after ≡ length before) × ((i : ℕ) → 1 ≤ i → slice_index after i ≡ slice_index before i)
+  pub made : gets_block s (next_in before) (tally_in before leaf) p ≡ true → LinksBelow (next_in before) leaf p (slice_set before NEXT_AT (next_after s (next_in before) (tally_in before leaf) p)) after
+  pub none : gets_block s (next_in before) (tally_in before leaf) p ≡ false → (length after ≡ length before) × ((i : ℕ) → TICKET_AT ≤ i → slice_index after i ≡ slice_index before i)

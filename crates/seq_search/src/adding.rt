@@ -6,22 +6,22 @@ ghost use Rattle.hex_board.specs.Wins.{is_same};
 ghost use Rattle.tree_words.specs.Blocks.{LinkedBlock, one_if, words_of};
 ghost use Rattle.tree_words.specs.Words.{cell_in, root_at};
 ghost use Rattle.tree_words.specs.Paths.{root_state};
-ghost use Rattle.tree_words.specs.Sequence.{game_of};
-ghost use Rattle.tree_words.specs.Descents.{Added};
+ghost use Rattle.tree_words.specs.Sequence.{game_of, amount_of};
+ghost use Rattle.tree_words.specs.Descents.{Added, config_of};
 ghost use Rattle.play_out.specs.Fills.{filled, playout_of};
-ghost use Rattle.seq_search.specs.Steps.{Holds, Records, config_of};
+ghost use Rattle.seq_search.specs.Steps.{Holds, Records};
 ghost use Rattle.seq_search.specs.Descending.{Descended};
-ghost use Rattle.seq_search.specs.Adding.{Counted, Sighted, amount_of, node_of, outcome_in};
+ghost use Rattle.seq_search.specs.Adding.{Counted, Sighted, node_of, outcome_in};
 
 use super::descending::Descent;
-use super::layout::{COUNT_WORD, LINK_WORD, NODE_WORDS, RECORDS_AT, SEEN_WORD, TALLY_WORD};
 use hex_board::Board;
-use hex_cells::{CellSet, Colour, Size};
+use hex_cells::{Cell, CellSet, Colour};
 use play_out::fill;
-use tree_words::{Shape, cell_of, numbered};
-
-/// One visit in a tally or in a seen word; the wins are below it.
-const VISIT: u64 = 1 << u32::BITS;
+use tree_words::layout::{
+    COUNT_WORD, HEADER_WORDS, LINK_WORD, MOST_NODES, NODE_WORDS, RECORDS_AT, RECORD_UNIT, SEEN_WORD,
+    TALLY_WORD, VISIT,
+};
+use tree_words::{Shape, cell_of};
 
 /// How a playout ended: the filled board, and who won.
 #[derive(Drop)]
@@ -61,24 +61,24 @@ fn amount(player: Colour, winner: Colour) -> u64
 
 // Adds to the tally of the node.
 fn gain(words: &mut [u64], node: usize, amount: u64)
-    requires within { node + 4 ≤ length words.old }
-    requires small { slice_index words.old (node + 2) + amount < 2 ^ 64 }
-    ensures { words.new ≡ set words.old (node + 2) (slice_index words.old (node + 2) + amount) }
+    requires within { node + NODE_WORDS ≤ length words.old }
+    requires small { slice_index words.old (node + TALLY_WORD) + amount < 2 ^ 64 }
+    ensures { words.new ≡ set words.old (node + TALLY_WORD) (slice_index words.old (node + TALLY_WORD) + amount) }
 {
     words[node + TALLY_WORD] += amount;
 }
 
 // Adds to the seen word of each node of the block whose cell is in the set.
-fn see(words: &mut [u64], block: usize, stones: CellSet, size: Size, amount: u64)
-    requires within { block + words_of (slice_index words.old (block + 3)) ≤ length words.old }
-    requires cells { (k : ℕ) → k < slice_index words.old (block + 3) → cell_in (slice_index words.old (node_of block k)) < size * size }
-    requires small { (k : ℕ) → k < slice_index words.old (block + 3) → slice_index words.old (node_of block k + 3) + amount < 2 ^ 64 }
-    ensures { Sighted block (slice_index words.old (block + 3)) stones amount words.old words.new }
+fn see(words: &mut [u64], block: usize, stones: CellSet, amount: u64)
+    requires within { block + words_of (slice_index words.old (block + COUNT_WORD)) ≤ length words.old }
+    requires cells { (k : ℕ) → k < slice_index words.old (block + COUNT_WORD) → cell_in (slice_index words.old (node_of block k)) < MOST_NODES }
+    requires small { (k : ℕ) → k < slice_index words.old (block + COUNT_WORD) → slice_index words.old (node_of block k + SEEN_WORD) + amount < 2 ^ 64 }
+    ensures { Sighted block (slice_index words.old (block + COUNT_WORD)) stones amount words.old words.new }
 {
     let count = words[block + COUNT_WORD] as usize;
     'nodes: for place in 0..count {
-        let at = block + NODE_WORDS + NODE_WORDS * place;
-        if stones.has(numbered(cell_of(words[at]), size)) {
+        let at = block + HEADER_WORDS + NODE_WORDS * place;
+        if stones.has(Cell::numbered(cell_of(words[at]))) {
             words[at + SEEN_WORD] += amount;
         }
     }
@@ -91,14 +91,15 @@ fn count(words: &mut [u64], shape: &Shape, walk: &Descent, ending: &Ending)
     ensures { (bs : List LinkedBlock) (k : ℕ) → k < shape.now.knobs.playouts → Holds shape.now bs words.old k → Descended shape.now bs words.old walk.now
         → Counted shape.now bs (outcome_in ending.now) words.old words.new }
 {
-    let size = shape.board().size();
+    // What each shape keeps of itself.
+    let _board = shape.board();
     let mut node = shape.knobs().playouts as usize + RECORDS_AT;
     let mut player = shape.colour();
     'down: for i in 0..walk.count {
         gain(words, node, amount(player.other(), ending.winner));
         let block = words[node + LINK_WORD] as usize;
         let stones = ending.full.stones(player);
-        see(words, block, stones, size, amount(player, ending.winner));
+        see(words, block, stones, amount(player, ending.winner));
         node = walk.steps[i];
         player = player.other();
     }
@@ -123,8 +124,8 @@ pub(crate) fn add(words: &mut [u64], shape: &Shape, walk: &Descent, k: u32, endi
     ensures holds { (bs : List LinkedBlock) → Holds shape.now bs words.old k → Descended shape.now bs words.old walk.now → Holds shape.now bs words.new (k + 1) }
     ensures added { (bs : List LinkedBlock) → Holds shape.now bs words.old k → Descended shape.now bs words.old walk.now
         → Added (game_of shape.now) (root_state shape.now) (root_at shape.now) (outcome_in ending.now) (config_of bs words.old) (config_of bs words.new) }
-    ensures record { Records shape.now k (2 * walk.now.node + one_if (is_same ending.now.winner White)) words.old words.new }
+    ensures record { Records shape.now k (RECORD_UNIT * walk.now.node + one_if (is_same ending.now.winner White)) words.old words.new }
 {
     count(words, shape, walk, ending);
-    words[RECORDS_AT + k as usize] = 2 * walk.node as u64 + mark(ending.winner);
+    words[RECORDS_AT + k as usize] = RECORD_UNIT * walk.node as u64 + mark(ending.winner);
 }

@@ -3,26 +3,27 @@
 ghost use Rattle.std.specs.Prelude.{◌≡◌, ◌+◌, ◌≤◌, length, slice_index};
 ghost use Rattle.uct_table.specs.Choice.{choice_of};
 ghost use Rattle.tree_words.specs.Blocks.{words_of};
-ghost use Rattle.seq_search.specs.Choosing.{children_in, CanBeScored};
+ghost use Rattle.tree_words.specs.Sequence.{children_in};
+ghost use Rattle.seq_search.specs.Choosing.{CanBeScored};
 
-use super::layout::{COUNT_WORD, NODE_WORDS, SEEN_WORD, TALLY_WORD};
+use tree_words::layout::{COUNT_WORD, HEADER_WORDS, NODE_WORDS, SEEN_WORD, TALLY_WORD};
 use tree_words::{visits_of, wins_of};
-use uct_table::score_above;
+use uct_table::{MOST_COUNT, MOST_WEIGHT, score_above};
 
 /// The place of the node of a block that Choice takes: the first without visits, or else the first of the greatest score.
-/// `block` is the block's first word, and `visits` are the parent's, at most 1,048,576 like all counts of the block.
+/// `block` is the block's first word, and `visits` are the parent's, at most [`MOST_COUNT`] like all counts of the block.
 pub(crate) fn choose(words: &[u64], block: usize, visits: u32, weight: u32) -> usize
-    requires within { block + words_of (slice_index words.now (block + 3)) ≤ length words.now }
-    requires parent { visits ≤ 1048576 }
-    requires counts { CanBeScored words.now (block + 4) (slice_index words.now (block + 3)) }
-    requires weight { weight ≤ 1024 }
-    ensures { result ≡ choice_of visits weight (children_in words.now (block + 4) (slice_index words.now (block + 3))) }
+    requires within { block + words_of (slice_index words.now (block + COUNT_WORD)) ≤ length words.now }
+    requires parent { visits ≤ MOST_COUNT }
+    requires counts { CanBeScored words.now (block + HEADER_WORDS) (slice_index words.now (block + COUNT_WORD)) }
+    requires weight { weight ≤ MOST_WEIGHT }
+    ensures { result ≡ choice_of visits weight (children_in words.now (block + HEADER_WORDS) (slice_index words.now (block + COUNT_WORD))) }
 {
     let count = words[block + COUNT_WORD] as usize;
     let mut best = 0;
     let mut most = 0;
     'children: for place in 0..count {
-        let at = block + NODE_WORDS + NODE_WORDS * place;
+        let at = block + HEADER_WORDS + NODE_WORDS * place;
         let tally = words[at + TALLY_WORD];
         let own = visits_of(tally);
         if own == 0 {

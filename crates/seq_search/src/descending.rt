@@ -10,13 +10,13 @@ ghost use Rattle.seq_search.specs.Steps.{Holds};
 ghost use Rattle.seq_search.specs.Descending.{Descended, HasRoom};
 
 use super::choosing::choose;
-use super::layout::{LINK_WORD, NODE_WORDS, RECORDS_AT, TALLY_WORD};
 use hex_board::Board;
-use hex_cells::Colour;
-use tree_words::{Shape, cell_of, numbered, visits_of};
+use hex_cells::{Cell, Colour};
+use tree_words::layout::{HEADER_WORDS, LINK_WORD, MOST_NODES, NODE_WORDS, RECORDS_AT, TALLY_WORD};
+use tree_words::{Shape, cell_of, visits_of};
 
-/// Each step places a stone, and the largest board has 121 cells.
-pub(crate) const MOST_STEPS: usize = 121;
+/// Each step places a stone on an empty cell, of which there are no more than nodes of the largest block.
+pub(crate) const MOST_STEPS: usize = MOST_NODES;
 
 /// How far a walk has come: the node that it stands at, the board there with the player to move, and the nodes that it went
 /// through below the root.
@@ -57,14 +57,14 @@ impl Descent {
     fn step(&mut self, words: &[u64], child: usize)
         requires within { child < length words.now }
         requires empty { is_empty_at self.old.board (cell_in (slice_index words.now child)) ≡ true }
-        requires room { self.old.count < 121 }
+        requires room { self.old.count < MOST_STEPS }
         ensures board { self.new.board ≡ placed self.old.board self.old.player (cell_in (slice_index words.now child)) }
         ensures player { self.new.player ≡ other_of self.old.player }
         ensures node { self.new.node ≡ child }
         ensures steps { self.new.steps ≡ set self.old.steps self.old.count child }
         ensures count { self.new.count ≡ self.old.count + 1 }
     {
-        let cell = numbered(cell_of(words[child]), self.board.size());
+        let cell = Cell::numbered(cell_of(words[child]));
         self.board.place(self.player, cell);
         self.player = self.player.other();
         self.steps[self.count] = child;
@@ -84,7 +84,7 @@ pub(crate) fn descend(words: &[u64], shape: &Shape) -> Descent
     'down: while block != 0 {
         let visits = visits_of(words[walk.node + TALLY_WORD]);
         let place = choose(words, block, visits, weight);
-        walk.step(words, block + NODE_WORDS + NODE_WORDS * place);
+        walk.step(words, block + HEADER_WORDS + NODE_WORDS * place);
         block = words[walk.node + LINK_WORD] as usize;
     }
     walk

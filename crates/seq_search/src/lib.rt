@@ -22,11 +22,9 @@
 #![tactic(auto)]
 
 mod adding;
-mod blocks;
 mod choosing;
 mod descending;
 mod expanding;
-mod layout;
 mod opening;
 mod reaching;
 mod search;

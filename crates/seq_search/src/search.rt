@@ -7,10 +7,10 @@ ghost use Rattle.tree_words.specs.Trees.{IsTreeOf};
 ghost use Rattle.seq_search.specs.Searching.{Searched};
 
 use super::adding::{add, play};
-use super::layout::TICKET_AT;
 use super::opening::opening_words;
 use super::reaching::reach;
 use std::alloc::Global;
+use tree_words::layout::TICKET_AT;
 use tree_words::{Closed, Memory, Shape};
 
 // One walk, for playout `k`: down to a leaf, the playout from there, and its adds on the way.

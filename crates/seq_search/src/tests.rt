@@ -6,9 +6,9 @@ ghost use Rattle.tree_words.specs.Settings.{AreEmpty, IsAny};
 use super::opening::opening_words;
 use super::plain_search;
 use hex_board::Board;
-use hex_cells::{CellSet, Colour, Size};
+use hex_cells::{Cell, CellSet, Colour, Size};
 use std::test::Fail;
-use tree_words::{Closed, Knobs, Shape, best, numbered, report};
+use tree_words::{Closed, Knobs, Shape, best, report};
 
 // What a search is for: the size, Black's and White's stones and the allowed cells, all empty ones where there is none, as the
 // bits of a number, the player to move, and playouts, seed, words, expand number and weight.
@@ -29,7 +29,7 @@ fn set_of(size: Size, bits: u32) -> CellSet {
     let mut set = CellSet::none();
     for k in 0..size.cells() {
         if k < u32::BITS && bits >> k & 1 == 1 {
-            set = set.with(numbered(k, size));
+            set = set.with(Cell::numbered(k));
         }
     }
     set

@@ -8,3 +8,16 @@ pub mod WalkLaws
 pub mod Orders
 pub mod Links
 pub mod GameLaws
+pub mod Members
+pub mod EmptyLaws
+pub mod ChildLaws
+pub mod Turned
+pub mod Climbs
+pub mod Bridges
+pub mod Leaves
+pub mod NodeLaws
+pub mod Tallies
+pub mod Asking
+pub mod Writes
+pub mod Openings
+pub mod Countings

@@ -1,9 +1,9 @@
 -- The walk on the linked blocks, oldest first: where it goes, and what it adds to each node.
 use Rattle.std.specs.Prelude.{◌≡◌, ◌⊎◌, ℕ, ◌+◌, ◌-◌, ◌*◌, ◌/◌, ◌<◌, ◌≤◌, ◌==◌, if◌then◌else◌, Bool, true, false, List, [], ◌∷◌, ◌++◌, length}
-use Rattle.tree_words.specs.Words.{Count}
+use Rattle.tree_words.specs.Words.{Count, next_in, tally_in, seen_in}
 use Rattle.tree_words.specs.Blocks.{LinkedBlock, size, child, has, place, cell_at}
 use Rattle.tree_words.specs.Walks.{nothing, plus, Game, Tree}
-use Rattle.tree_words.specs.Trees.{down, tree_at}
+use Rattle.tree_words.specs.Trees.{down, tree_at, oldest_first}
 use Rattle.tree_words.specs.declared.layout.TheConstants.{NODE_WORDS, HEADER_WORDS}
 
 -- the two counts of each node of a block whose first node begins at y
@@ -157,3 +157,7 @@ Inside (b ∷ bs) x = (has b x ≡ true) ⊎ Inside bs x
 abbrev pub Filled : List LinkedBlock → Type 0
 Filled [] = Unit {0}
 Filled (b ∷ bs) = (0 < length b.cells) × Filled bs
+
+-- the linked blocks, `next` and the counts that the words have, as a walk on blocks reads them
+abbrev pub config_of : List LinkedBlock → List ℕ → Config
+config_of bs words = record { blocks = oldest_first bs; tally = tally_in words; seen = seen_in words; next = next_in words }

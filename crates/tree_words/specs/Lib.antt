@@ -13,3 +13,4 @@ pub mod Growth
 pub mod Closing
 pub mod Opening
 pub mod Roots
+pub mod Writing

@@ -1,5 +1,5 @@
 -- Seq: the search of one worker, as a fold over its playouts.
-use Rattle.std.specs.Prelude.{ℕ, zero, suc, ◌+◌, ◌*◌, ◌^◌, ◌==◌, ◌≤◌, nat_le, nat_lt, ◌&&◌, not, if◌then◌else◌, Bool, List, [], ◌∷◌, length, map}
+use Rattle.std.specs.Prelude.{ℕ, zero, suc, ◌+◌, ◌*◌, ◌^◌, ◌==◌, ◌≤◌, nat_le, nat_lt, ◌&&◌, not, if◌then◌else◌, Bool, List, [], ◌∷◌, length, map, ◌≡◌, ◌≢◌, ◌<◌}
 use Rattle.hex_cells.specs.Sets.{has}
 use Rattle.hex_cells.specs.declared.colours.Colour.{Colour}
 use Rattle.hex_board.specs.Positions.{Position, stones_of}
@@ -7,11 +7,12 @@ use Rattle.hex_board.specs.Wins.{is_same}
 use Rattle.uct_table.specs.Choice.{Child, choice_of}
 use Rattle.play_out.specs.Fills.{empties_of, filled, playout_of}
 use Rattle.tree_words.specs.Settings.{Setting}
-use Rattle.tree_words.specs.Words.{Count, area_at, end_of}
-use Rattle.tree_words.specs.Blocks.{words_of}
+use Rattle.tree_words.specs.Words.{Count, area_at, end_of, tally_in, seen_in}
+use Rattle.tree_words.specs.Blocks.{words_of, one_if}
 use Rattle.tree_words.specs.Paths.{NodeState, root_state, state_after, mover_at}
 use Rattle.tree_words.specs.Complete.{allowed_cells}
 use Rattle.tree_words.specs.Walks.{nothing, Tree, node, Game, fresh, walks}
+use Rattle.tree_words.specs.declared.layout.TheConstants.{NODE_WORDS, VISIT}
 
 -- what a playout gives: who won, and the filled board
 pub record Outcome : Type 0 where
@@ -29,9 +30,18 @@ outcome_of s k p = record {
 abbrev pub child_of : Count × Count → Child
 child_of c = record { visits = c.0.visits; wins = c.0.wins; seen = c.1.visits; seen_wins = c.1.wins }
 
+-- the counts of the n nodes that stand from word y on
+abbrev pub children_in : List ℕ → ℕ → ℕ → List Child
+children_in words y zero = []
+children_in words y (suc n) = child_of (tally_in words y, seen_in words y) ∷ children_in words (y + NODE_WORDS) n
+
 -- one visit, and one win where `wins`
 abbrev pub one : Bool → Count
 one wins = record { visits = 1; wins = (if wins then 1 else 0) }
+
+-- one visit, and one win where `wins`, as a tally or a seen word counts them
+abbrev pub amount_of : Bool → ℕ
+amount_of wins = VISIT + one_if wins
 
 -- a node of the path has one visit more, and one win more where its mover won
 unfoldable pub gain_of : Outcome → NodeState → Count

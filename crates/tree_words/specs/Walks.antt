@@ -110,3 +110,7 @@ walk g s k t = (added g s k (expand g t.1 t.0 s), g.grown t.1 (leaf_state g t.0 
 abbrev pub walks : {S O : Type 0} → Game S O → S → Tree × ℕ → ℕ → Tree × ℕ
 walks g s first zero = first
 walks g s first (suc k) = walk g s k (walks g s first k)
+
+-- neither count passes k
+abbrev pub AtMost : ℕ → Count → Type 0
+AtMost k c = (c.visits ≤ k) × (c.wins ≤ k)

@@ -23,16 +23,20 @@
 
 mod closed_tree;
 pub mod layout;
+mod opening;
 mod readings;
 mod roots;
 mod settings;
 mod shapes;
 mod steps;
 pub mod types;
+mod writing;
 
 pub use closed_tree::Closed;
+pub use opening::write_opening;
 pub use readings::{block, cell_of, node, visits_of, wins_of};
 pub use roots::{Memory, Row, best, report};
 pub use settings::{Knobs, LEAST_WORDS, MOST_EXPAND, MOST_PLAYOUTS, MOST_WORDS, MOST_WORKERS};
 pub use shapes::Shape;
 pub use steps::Op;
+pub use writing::{write_block, write_moves};

@@ -2,3 +2,4 @@ pub mod Roots
 pub mod Keeping
 pub mod ChoiceLaws
 pub mod Means
+pub mod Choices

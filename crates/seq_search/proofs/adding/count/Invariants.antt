@@ -3,7 +3,7 @@ use Rattle.tree_words.specs.Blocks.{LinkedBlock}
 use Rattle.seq_search.specs.Steps.{Holds}
 use Rattle.seq_search.specs.Descending.{Descended, steps_in}
 use Rattle.seq_search.specs.Adding.{outcome_in}
-use Rattle.seq_search.proofs.Countings.{Adding}
+use Rattle.seq_search.proofs.Additions.{Adding}
 use Rattle.seq_search.proofs.adding.count.Given as goal
 
 abbrev pub invariant-down : goal.invariant-down

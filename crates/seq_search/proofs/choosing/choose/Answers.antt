@@ -2,9 +2,9 @@ use Rattle.std.proofs.Common.{◌≡◌, ◌+◌, ◌-◌, ◌*◌, ◌<◌, ◌
 use Rattle.uct_table.specs.Scores.{score_of}
 use Rattle.uct_table.specs.Choice.{Child, score_in}
 use Rattle.tree_words.specs.Words.{tally_in, seen_in}
-use Rattle.tree_words.specs.Sequence.{child_of}
-use Rattle.seq_search.specs.Choosing.{children_in}
-use Rattle.seq_search.proofs.Choices.{chosen_from, chosen_first, chosen_here, chosen_last, children_more, children_first, score_is, taken, passed}
+use Rattle.tree_words.specs.Sequence.{child_of, children_in}
+use Rattle.uct_table.proofs.Choices.{chosen_from, chosen_first, chosen_here, score_is, taken, passed}
+use Rattle.seq_search.proofs.Choices.{chosen_last, children_more, children_first}
 use Rattle.seq_search.proofs.choosing.choose.Goals as goal
 use Rattle.seq_search.proofs.choosing.choose.Goals.{in-Some, in_default}
 

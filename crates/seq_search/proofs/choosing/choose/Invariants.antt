@@ -1,7 +1,7 @@
 use Rattle.std.proofs.Common.{◌≡◌, ◌+◌, ◌-◌, ◌*◌}
 use Rattle.uct_table.specs.Choice.{choice_of}
-use Rattle.seq_search.specs.Choosing.{children_in}
-use Rattle.seq_search.proofs.Choices.{chosen_from}
+use Rattle.tree_words.specs.Sequence.{children_in}
+use Rattle.uct_table.proofs.Choices.{chosen_from}
 use Rattle.seq_search.proofs.choosing.choose.Given as goal
 
 abbrev pub invariant-children : goal.invariant-children

@@ -1,13 +1,13 @@
 use Rattle.std.proofs.Common.{◌≡◌, length, ap, sym, ◌∙◌, subst, arith}
 use Rattle.tree_words.specs.Complete.{HasEmpties}
 use Rattle.play_out.specs.Fills.{empties_of}
-use Rattle.seq_search.specs.Writing.{listed}
-use Rattle.seq_search.proofs.Openings.{has-empties}
-use Rattle.seq_search.proofs.LeafBlocks.{empties-listed, link-written}
+use Rattle.tree_words.specs.Writing.{listed}
+use Rattle.tree_words.proofs.EmptyLaws.{has-empties, empties-listed}
+use Rattle.seq_search.proofs.LeafBlocks.{link-written}
 use Rattle.seq_search.proofs.expanding.link_block.Goals as goal
 
-pub write_block-requires-clause-within : goal.write_block-requires-clause-within
-write_block-requires-clause-within c =
+pub write_block-requires : goal.write_block-requires
+write_block-requires c =
     let is : listed c.size.result c.empties-empties.result ≡ empties_of c.args.board.now = ap (λ n. listed n c.empties-empties.result) c.size.ensures.value ∙ empties-listed c.empties-empties.result c.args.board.now c.empties-empties.ensures in
     omega (arith, ap length is, c.requires.within)
 

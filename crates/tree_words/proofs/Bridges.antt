@@ -7,7 +7,7 @@ use Rattle.tree_words.specs.Walks.{nothing, Game}
 use Rattle.tree_words.specs.Descents.{pick, leaf_inner, leaf_at, adds_leaf, adds_inner, adds, sees_leaf, sees_inner, sees, Out, Sprouts}
 use Rattle.tree_words.proofs.BlockLaws.{eq_of, other_is, bool_is}
 use Rattle.tree_words.proofs.Down.{Fair, not_both, down-here, down-else, down-split}
-use Rattle.seq_search.proofs.Climbs.{over, climb, over-in, over-past, climb-out, meets, or_first, or_false, neither, in-out, child-in, meets-on, meets-none, state_step, step-child}
+use Rattle.tree_words.proofs.Climbs.{over, climb, over-in, over-past, climb-out, meets, or_first, or_false, neither, in-out, child-in, meets-on, meets-none, state_step, step-child}
 
 module _ {S O : Type 0} (g : Game S O) (fair : Fair g) (p q : ℕ → Count) (o : O) where
   -- each node of the path gains, and no other

@@ -12,7 +12,7 @@ use Rattle.hex_cells.specs.Sets.{has as has_cell}
 use Rattle.tree_words.specs.Words.{move_of}
 use Rattle.tree_words.specs.Blocks.{LinkedBlock, covers, has, place, cell_at, stays, header_or_move}
 use Rattle.tree_words.proofs.BlockLaws.{bool_is, has-at, has-here, move-word}
-use Rattle.seq_search.specs.Writing.{WritesMoves, WritesBlock}
+use Rattle.tree_words.specs.Writing.{WritesMoves, WritesBlock}
 
 -- a block of these cells
 abbrev pub block_of : ℕ → ℕ → ℕ → List ℕ → LinkedBlock

@@ -10,7 +10,7 @@ use Rattle.tree_words.specs.Settings.{Setting}
 use Rattle.tree_words.specs.Words.{Count, end_of}
 use Rattle.tree_words.specs.Blocks.{LinkedBlock, child, has, place, cell_at}
 use Rattle.tree_words.specs.Paths.{NodeState, root_state, state_after, node_state}
-use Rattle.tree_words.specs.Growth.{most_words}
+use Rattle.tree_words.specs.declared.layout.TheConstants.{MOST_BLOCK_WORDS}
 use Rattle.tree_words.specs.Walks.{nothing, Game, leaf_state}
 use Rattle.tree_words.specs.Sequence.{Outcome, size_below, asks, gets_block, next_after, game_of}
 use Rattle.tree_words.specs.Descents.{Config, ends, NewBlock, Widened, pick, leaf_inner, leaf_at, state_leaf, state_inner, state_at, top, Out, Sprouts}
@@ -29,7 +29,7 @@ unfolding empties_of
 some-empty p c e = filter_some (is_empty_at p) 0 (p.size * p.size) c e (omega arith) (omega (arith, on_board p c e))
 
 -- no block is larger than the largest
-pub size-most : (p : NodeState) → p.board.size ≤ 11 → size_below p ≤ most_words
+pub size-most : (p : NodeState) → p.board.size ≤ 11 → size_below p ≤ MOST_BLOCK_WORDS
 unfolding empties_of
 size-most p l = omega (arith, few_cells p.board.size (is_empty_at p.board) l)
 

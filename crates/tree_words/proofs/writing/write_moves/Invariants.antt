@@ -1,5 +1,5 @@
-use Rattle.seq_search.proofs.Writes.{Moved}
-use Rattle.seq_search.proofs.blocks.write_moves.Given as goal
+use Rattle.tree_words.proofs.Writes.{Moved}
+use Rattle.tree_words.proofs.writing.write_moves.Given as goal
 
 abbrev pub invariant-loop-k : goal.invariant-loop-k
 invariant-loop-k l = Moved l.start l.cells l.fn.words l.words l.place l.k

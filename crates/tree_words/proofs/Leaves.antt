@@ -17,8 +17,8 @@ use Rattle.tree_words.proofs.Down.{Fair, not_both, child-has, pick-in, down-here
 use Rattle.tree_words.proofs.WalkLaws.{out-snoc, no-has}
 use Rattle.tree_words.proofs.Orders.{inside-node, sprouts-turned, link-names}
 use Rattle.tree_words.proofs.GameLaws.{fair_game}
-use Rattle.seq_search.proofs.Climbs.{climb, up-climb, meets, path-meets, or_false, neither, in-out, state_step, state-up}
-use Rattle.seq_search.proofs.Bridges.{adds-up, sees-up, on-picked}
+use Rattle.tree_words.proofs.Climbs.{climb, up-climb, meets, path-meets, or_false, neither, in-out, state_step, state-up}
+use Rattle.tree_words.proofs.Bridges.{adds-up, sees-up, on-picked}
 
 -- what is needed of the linked blocks
 pub record Whole (r : ℕ) (bs : List LinkedBlock) : Type 0 where

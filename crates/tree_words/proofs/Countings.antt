@@ -9,16 +9,13 @@ use Rattle.tree_words.specs.Settings.{Setting}
 use Rattle.tree_words.specs.Words.{Count, root_at, count_in, visits_in, wins_in, tally_in, seen_in}
 use Rattle.tree_words.specs.Blocks.{LinkedBlock, child, has, place, cell_at, is_node, In, InOrder}
 use Rattle.tree_words.specs.Paths.{NodeState, root_state, state_after, mover_at, node_state}
-use Rattle.tree_words.specs.Walks.{nothing, plus}
+use Rattle.tree_words.specs.Walks.{nothing, plus, AtMost}
 use Rattle.tree_words.specs.Trees.{oldest_first}
-use Rattle.tree_words.specs.Sequence.{Outcome, one, gain_of, glimpse_of, game_of}
+use Rattle.tree_words.specs.Sequence.{Outcome, one, gain_of, glimpse_of, game_of, amount_of}
 use Rattle.tree_words.specs.Descents.{pick, adds_leaf, adds_inner, adds, sees_leaf, sees_inner, sees}
 use Rattle.tree_words.proofs.BlockLaws.{eq_of, other_is, apart}
 use Rattle.tree_words.proofs.Down.{down-split, not_both}
 use Rattle.tree_words.proofs.GameLaws.{in-node}
-use Rattle.seq_search.specs.Steps.{AtMost}
-use Rattle.seq_search.specs.Descending.{steps_below}
-use Rattle.seq_search.specs.Adding.{amount_of}
 
 -- a count with one more, and the word that has it
 pub count-more : (n : ℕ) (t : Bool) → wins_in n + 1 < 2 ^ 32 → count_in (n + amount_of t) ≡ plus (count_in n) (one t)
@@ -123,17 +120,3 @@ module _ (s : Setting) (p q : ℕ → Count) (o : Outcome) where
       ap (λ (t : Bool). cond t (glimpse_of o u (cell_at b (place b w))) (sees (game_of s) p q o os (child b j) v w)) (h b (inl refl) (omega (arith, e)))
       ∙ sees-before os (child b j) v w a.1 (λ c i l. h c (inr i) (omega (arith, a.0, l, e))))
       (λ t. sees-before os x u w a.1 (λ c i l. h c (inr i) l))
-
--- how far the adds have come: the way is gone down to x, the counts of x are still to come, and these are the steps that are left
-pub record Adding (s : Setting) (bs : List LinkedBlock) (o : Outcome) (before now : List ℕ) (x : ℕ) (who : Colour) (left : List ℕ) : Type 0 where
-  pub long : length now ≡ length before
-  pub node : is_node (root_at s) bs x ≡ true
-  pub player : who ≡ (node_state s bs x).player
-  pub tally : (w : ℕ) → is_node (root_at s) bs w ≡ true
-      → plus (tally_in now w) (adds (game_of s) (tally_in before) (seen_in before) o (oldest_first bs) x (node_state s bs x) w)
-      ≡ plus (tally_in before w) (adds (game_of s) (tally_in before) (seen_in before) o (oldest_first bs) (root_at s) (root_state s) w)
-  pub seen : (w : ℕ) → is_node (root_at s) bs w ≡ true
-      → plus (seen_in now w) (sees (game_of s) (tally_in before) (seen_in before) o (oldest_first bs) x (node_state s bs x) w)
-      ≡ plus (seen_in before w) (sees (game_of s) (tally_in before) (seen_in before) o (oldest_first bs) (root_at s) (root_state s) w)
-  pub others : (i : ℕ) → ((w : ℕ) → is_node (root_at s) bs w ≡ true → (i ≢ w + 2) × (i ≢ w + 3)) → slice_index now i ≡ slice_index before i
-  pub rest : left ≡ steps_below s bs before x

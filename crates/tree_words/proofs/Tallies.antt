@@ -20,7 +20,7 @@ use Rattle.tree_words.specs.Growth.{ends_at}
 use Rattle.tree_words.proofs.BlockLaws.{apart, up_same, eq_of, same_is, bool_is, either_true}
 use Rattle.tree_words.proofs.Down.{not_both, never}
 use Rattle.tree_words.proofs.GameLaws.{up-in, spot-same, root_node}
-use Rattle.seq_search.proofs.Climbs.{meets, path-meets, or_true, or_first, neither}
+use Rattle.tree_words.proofs.Climbs.{meets, path-meets, or_true, or_first, neither}
 
 pub count-same : (n : ℕ) (f h : ℕ → Bool) → ((k : ℕ) → k < n → f k ≡ h k) → count_below n f ≡ count_below n h
 count-same zero f h e = refl

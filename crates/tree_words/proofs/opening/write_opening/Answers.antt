@@ -3,12 +3,13 @@ use Rattle.tree_words.specs.Settings.{Setting, IsSetting}
 use Rattle.tree_words.specs.Words.{end_of}
 use Rattle.std.proofs.lemmas.List.{length-replicate}
 use Rattle.tree_words.specs.Complete.{HasEmpties, allowed_cells}
-use Rattle.seq_search.specs.Writing.{listed}
-use Rattle.seq_search.proofs.Openings.{allowed-listed, has-empties, root-fits, few-allowed, opening-written}
-use Rattle.seq_search.proofs.opening.write_opening.Goals as goal
+use Rattle.tree_words.specs.Writing.{listed}
+use Rattle.tree_words.proofs.EmptyLaws.{has-empties}
+use Rattle.tree_words.proofs.Openings.{allowed-listed, root-fits, few-allowed, opening-written}
+use Rattle.tree_words.proofs.opening.write_opening.Goals as goal
 
-pub write_block-count-requires-clause-within : goal.write_block-count-requires-clause-within
-write_block-count-requires-clause-within c =
+pub write_block-count-requires : goal.write_block-count-requires
+write_block-count-requires c =
     let s : Setting = c.args.shape.now in
     let h : IsSetting s = c.board-board.ensures.setting in
     let is : listed c.size.result c.allowed.result ≡ allowed_cells s = allowed-listed s c.size.result c.allowed.result (c.size.ensures.value ∙ ap (λ p. p.size) c.board-board.ensures.value) c.allowed.ensures.value in

@@ -18,23 +18,12 @@ use Rattle.tree_words.specs.Complete.{HasEmpties, allowed_cells}
 use Rattle.tree_words.specs.Opening.{root_block, opening_word, AreOpening}
 use Rattle.tree_words.proofs.BlockLaws.{same_is, other_is}
 use Rattle.tree_words.proofs.RootLaws.{few_cells}
-use Rattle.seq_search.specs.Writing.{listed, WritesBlock}
-use Rattle.seq_search.proofs.Writes.{block_of}
+use Rattle.tree_words.specs.Writing.{listed, WritesBlock}
+use Rattle.tree_words.proofs.Writes.{block_of}
 
 pub allowed-listed : (s : Setting) (size set : ℕ) → size ≡ s.board.size → set ≡ s.allowed → listed size set ≡ allowed_cells s
 unfolding allowed_cells
 allowed-listed s size set e f = ap (λ (n : ℕ). filter (has_cell set) (cells_of n)) e ∙ ap (λ (z : ℕ). filter (has_cell z) (cells_of s.board.size)) f
-
--- a set of the empty cells of a board
-pub has-empties : (set : ℕ) (p : Position) → p.size ≤ 11 → ((k : ℕ) → has_cell set k ≡ is_empty_at p k) → HasEmpties set p
-has-empties set p h e = record {
-  small = below_from_items set 121 (λ k t. let most : p.size * p.size ≤ 11 * 11 = mul-le-mul h h in
-      let on : k < p.size * p.size = on_the_board p k (sym (e k) ∙ t) in omega arith);
-  items = e;
-}
-  where
-    on_the_board : (p : Position) (k : ℕ) → is_empty_at p k ≡ true → k < p.size * p.size
-    on_the_board p k e = lt_of _ _ (true_both _ _ ((true_both _ _ e).0)).0
 
 -- the root's block fits into the area
 pub root-fits : (s : Setting) → IsSetting s → area_at s + words_of (length (allowed_cells s)) ≤ end_of s

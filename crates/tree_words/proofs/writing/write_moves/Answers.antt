@@ -1,9 +1,9 @@
 use Rattle.std.proofs.Common.{◌≡◌, ◌+◌, ◌*◌, ap, refl, sym, ◌∙◌, subst, arith}
 use Rattle.std.proofs.Math.ListN.{set as set_word}
 use Rattle.hex_cells.specs.Sets.{has as has_cell}
-use Rattle.seq_search.proofs.Writes.{Moved, moved-none, moved-one, moved-past, few_places, moved-few}
-use Rattle.seq_search.proofs.blocks.write_moves.Goals as goal
-use Rattle.seq_search.proofs.blocks.write_moves.Goals.{then-has, else-has}
+use Rattle.tree_words.proofs.Writes.{Moved, moved-none, moved-one, moved-past, few_places, moved-few}
+use Rattle.tree_words.proofs.writing.write_moves.Goals as goal
+use Rattle.tree_words.proofs.writing.write_moves.Goals.{then-has, else-has}
 
 pub loop-k-init : goal.loop-k-init
 loop-k-init c = moved-none c.args.start c.args.cells c.args.words.now

@@ -1,0 +1,29 @@
+//! The opening words.
+
+ghost use Rattle.std.specs.Prelude.{◌≡◌, length, replicate};
+ghost use Rattle.tree_words.specs.Words.{end_of};
+ghost use Rattle.tree_words.specs.Opening.{AreOpening};
+
+use super::layout::{HEADER_WORDS, LINK_WORD, NEXT_AT, NODE_WORDS, RECORDS_AT};
+use super::shapes::Shape;
+use super::writing::write_block;
+
+/// Writes the opening words of the shape over words that are 0.
+pub fn write_opening(words: &mut [u64], shape: &Shape)
+    requires { words.old ≡ replicate (end_of shape.now) 0 }
+    ensures { AreOpening shape.now words.new }
+{
+    let root = shape.knobs().playouts as usize + RECORDS_AT;
+    let start = root + NODE_WORDS;
+    let board = shape.board();
+    let count = write_block(
+        words,
+        start,
+        root,
+        board.empties(),
+        shape.allowed(),
+        board.size(),
+    );
+    words[root + LINK_WORD] = start as u64;
+    words[NEXT_AT] = (start + HEADER_WORDS + NODE_WORDS * count) as u64;
+}
