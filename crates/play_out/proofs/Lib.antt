@@ -1,6 +1,6 @@
 mod Listing
 mod Shuffles
-mod Counting
+pub mod Counting
 mod Turns
 mod Stones
 pub mod Filling

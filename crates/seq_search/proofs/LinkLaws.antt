@@ -6,7 +6,8 @@ use Rattle.tree_words.specs.Words.{root_at, link_in, next_in, move_of, tally_in,
 use Rattle.tree_words.specs.Blocks.{LinkedBlock, words_of, child, has, place, cell_at, is_node, In, link_of}
 use Rattle.tree_words.specs.Paths.{root_state, state_after, node_state}
 use Rattle.tree_words.specs.Trees.{oldest_first}
-use Rattle.tree_words.specs.Descents.{Names, Filled}
+use Rattle.tree_words.specs.Complete.{HaveNodes}
+use Rattle.tree_words.specs.Descents.{Names}
 use Rattle.tree_words.proofs.Adds.{is_child}
 use Rattle.tree_words.proofs.BlockLaws.{either_true, eq_of, has-at, move-word, move-stays}
 use Rattle.tree_words.proofs.Down.{child-has}

@@ -25,7 +25,8 @@ use Rattle.seq_search.specs.declared.descending.Descent.{Descent}
 use Rattle.seq_search.proofs.Standings.{standing-opening, closed-of}
 use Rattle.seq_search.proofs.Turns.{record-reads, standing-walked}
 use Rattle.seq_search.proofs.Growing.{fine-of}
-use Rattle.seq_search.proofs.Openers.{opening-holds, opening-tree, tree-is}
+use Rattle.tree_words.proofs.OpeningLaws.{opening-tree}
+use Rattle.seq_search.proofs.Openers.{opening-holds, tree-is}
 
 -- what a playout gave
 pub outcome-is : (s : Setting) (k : ℕ) (p : NodeState) (winner : Colour) (full : Position) → winner ≡ playout_of p.board p.player s.knobs.seed k → full ≡ filled p.board p.player s.knobs.seed k

@@ -3,10 +3,9 @@ use Rattle.std.specs.Prelude.{◌≡◌, ℕ, ◌+◌, ◌<◌, ◌≤◌, true,
 use Rattle.tree_words.specs.Settings.{Setting}
 use Rattle.tree_words.specs.Words.{Count, root_at, end_of, next_in, record_in, tally_in, seen_in}
 use Rattle.tree_words.specs.Blocks.{LinkedBlock, is_node}
-use Rattle.tree_words.specs.Complete.{Linked}
+use Rattle.tree_words.specs.Complete.{Linked, HaveNodes}
 use Rattle.tree_words.specs.declared.layout.TheConstants.{MOST_BLOCK_WORDS, TICKET_AT, RECORDS_AT, SEEN_WORD}
 use Rattle.tree_words.specs.Growth.{root_end}
-use Rattle.tree_words.specs.Descents.{Filled}
 use Rattle.tree_words.specs.Walks.{AtMost}
 
 -- After k walks the words are a tree of the setting with these linked blocks, newest first: all words are there, the blocks are
@@ -14,7 +13,7 @@ use Rattle.tree_words.specs.Walks.{AtMost}
 pub record Holds (s : Setting) (bs : List LinkedBlock) (words : List ℕ) (k : ℕ) : Type 0 where
   pub long : length words ≡ end_of s
   pub linked : Linked s words bs
-  pub filled : Filled bs
+  pub filled : HaveNodes bs
   pub root : (slice_index words (root_at s) ≡ 0) × (slice_index words (root_at s + SEEN_WORD) ≡ 0)
   pub next : (root_end s ≤ next_in words) × (next_in words ≤ end_of s + MOST_BLOCK_WORDS)
   pub fresh : (i : ℕ) → next_in words ≤ i → slice_index words i ≡ 0

@@ -34,7 +34,7 @@ module _ {S O : Type 0} (g : Game S O) where
       let tail : row_of h (a + 4) cs ≡ expand_row g m (row_of f (a + 4) cs) j s = row-expand m s f h (a + 4) cs j (λ k y l i n. e (suc k) y (omega arith) (omega arith) (λ z. n (omega arith))) (λ y l i. one y (omega arith) (omega arith)) cell in
       λ i. more (head i) (tail i)
 
-row-fresh : (p q : ℕ → Count) (a : ℕ) (cs : List ℕ) → ((k y : ℕ) → k < length cs → y ≡ a + 4 * k → (p y ≡ nothing) × (q y ≡ nothing)) → row_of (λ y d. node d (p y) (q y) done) a cs ≡ fresh cs
+pub row-fresh : (p q : ℕ → Count) (a : ℕ) (cs : List ℕ) → ((k y : ℕ) → k < length cs → y ≡ a + 4 * k → (p y ≡ nothing) × (q y ≡ nothing)) → row_of (λ y d. node d (p y) (q y) done) a cs ≡ fresh cs
 row-fresh p q a [] z = refl
 row-fresh p q a (c ∷ cs) z =
     let here : (p a ≡ nothing) × (q a ≡ nothing) = z 0 a (omega arith) (omega arith) in

@@ -11,7 +11,8 @@ use Rattle.tree_words.specs.Paths.{NodeState, root_state, is_on, enters, node_st
 use Rattle.tree_words.specs.Walks.{nothing, Game}
 use Rattle.tree_words.specs.Sequence.{Outcome, gain_of, glimpse_of, child_of, chosen_of, game_of}
 use Rattle.tree_words.specs.Trees.{oldest_first}
-use Rattle.tree_words.specs.Descents.{pairs_of, pick, leaf_inner, leaf_at, state_at, adds, sees, top, Out, Sprouts, Names, Inside, Filled}
+use Rattle.tree_words.specs.Complete.{HaveNodes}
+use Rattle.tree_words.specs.Descents.{pairs_of, pick, leaf_inner, leaf_at, state_at, adds, sees, top, Out, Sprouts, Names, Inside}
 use Rattle.tree_words.proofs.BlockLaws.{eq_of, same_is, other_is, bool_is, either_true}
 use Rattle.tree_words.proofs.Down.{Fair, not_both, child-has, pick-in, down-here, down-else, down-split}
 use Rattle.tree_words.proofs.WalkLaws.{out-snoc, no-has}
@@ -23,7 +24,7 @@ use Rattle.tree_words.proofs.Bridges.{adds-up, sees-up, on-picked}
 -- what is needed of the linked blocks
 pub record Whole (r : ℕ) (bs : List LinkedBlock) : Type 0 where
   pub order : InOrder r bs
-  pub filled : Filled bs
+  pub filled : HaveNodes bs
 
 in-snoc : (n : LinkedBlock) (os : List LinkedBlock) (b : LinkedBlock) → In b os → In b (os ++ n ∷ [])
 in-snoc n [] b i = absurd i

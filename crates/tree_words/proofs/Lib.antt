@@ -21,3 +21,8 @@ pub mod Asking
 pub mod Writes
 pub mod Openings
 pub mod Countings
+pub mod SetNumbers
+pub mod Within
+pub mod OpeningLaws
+pub mod OneTree
+pub mod OpeningTold

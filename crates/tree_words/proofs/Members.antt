@@ -3,7 +3,8 @@ use Rattle.std.proofs.Common.{◌≡◌, ◌≢◌, ◌⊎◌, ℕ, ◌+◌, ◌
 use Rattle.std.specs.Prelude.{◌==◌}
 use Rattle.tree_words.specs.Blocks.{LinkedBlock, has, is_node, In}
 use Rattle.tree_words.specs.Trees.{oldest_first}
-use Rattle.tree_words.specs.Descents.{Names, Filled}
+use Rattle.tree_words.specs.Complete.{HaveNodes}
+use Rattle.tree_words.specs.Descents.{Names}
 use Rattle.tree_words.proofs.BlockLaws.{either_true, eq_of}
 
 -- a node of the tree is the root or a node of a block
@@ -30,6 +31,6 @@ names-in (c ∷ os) x b n = ⊎_elim
     (λ (e : (c ≡ b) × (b.parent ≡ x)). (inl (sym e.0), e.1))
     (λ (e : ((c.parent == x) ≡ false) × Names os x b). let t = names-in os x b e.1 in (inr t.0, t.1)) n
 
-pub filled-in : (bs : List LinkedBlock) (b : LinkedBlock) → Filled bs → In b bs → 0 < length b.cells
+pub filled-in : (bs : List LinkedBlock) (b : LinkedBlock) → HaveNodes bs → In b bs → 0 < length b.cells
 filled-in [] b f i = absurd i
 filled-in (c ∷ bs) b f i = ⊎_elim (λ (e : b ≡ c). subst (λ (d : LinkedBlock). 0 < length d.cells) (sym e) f.0) (λ (h : In b bs). filled-in bs b f.1 h) i

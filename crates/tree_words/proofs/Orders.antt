@@ -3,7 +3,8 @@ use Rattle.std.proofs.Common.{◌≡◌, ◌⊎◌, ℕ, ◌<◌, Bool, true, fa
 use Rattle.std.specs.Prelude.{◌==◌, ◌||◌}
 use Rattle.tree_words.specs.Blocks.{LinkedBlock, has, is_node, link_of, Follows, InOrder}
 use Rattle.tree_words.specs.Trees.{oldest_first}
-use Rattle.tree_words.specs.Descents.{Out, Sprouts, Rooted, Names, Inside, Filled, Bare}
+use Rattle.tree_words.specs.Complete.{HaveNodes}
+use Rattle.tree_words.specs.Descents.{Out, Sprouts, Rooted, Names, Inside, Bare}
 use Rattle.tree_words.proofs.BlockLaws.{eq_of, bool_is, apart}
 use Rattle.tree_words.proofs.Down.{not_both as clash}
 use Rattle.tree_words.proofs.WalkLaws.{out-snoc}
@@ -30,7 +31,7 @@ snoc n [] sp e l = (record { apart = λ x h. tt; some = l }, tt)
 snoc n (b ∷ os) sp e l = (record { apart = λ x h. out-snoc n os x (sp.0.apart x h) (e x (inl h)); some = sp.0.some }, snoc n os sp.1 (λ x h. e x (inr h)) l)
 
 -- the blocks as the rule has them, the other way round
-pub sprouts-turned : (r : ℕ) (bs : List LinkedBlock) → InOrder r bs → Filled bs → Sprouts (oldest_first bs)
+pub sprouts-turned : (r : ℕ) (bs : List LinkedBlock) → InOrder r bs → HaveNodes bs → Sprouts (oldest_first bs)
 sprouts-turned r [] g f = tt
 sprouts-turned r (b ∷ bs) g f = snoc b (oldest_first bs) (sprouts-turned r bs g.1 f.1) (λ x h. apart r b bs x g.0 (inside-node r bs x h)) f.0
 

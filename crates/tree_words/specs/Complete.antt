@@ -1,7 +1,7 @@
 -- Complete blocks.
-use Rattle.std.specs.Prelude.{◌≡◌, ℕ, ◌+◌, ◌^◌, ◌<◌, ◌≤◌, ◌==◌, List, [], ◌∷◌, if◌then◌else◌}
+use Rattle.std.specs.Prelude.{◌≡◌, ℕ, ◌+◌, ◌^◌, ◌<◌, ◌≤◌, ◌==◌, List, [], ◌∷◌, length, if◌then◌else◌}
 use Rattle.std.specs.List.{filter}
-use Rattle.hex_cells.specs.Sets.{has}
+use Rattle.hex_cells.specs.Sets.{has, with_cell}
 use Rattle.hex_board.specs.Joined.{cells_of}
 use Rattle.hex_board.specs.Positions.{Position, is_empty_at}
 use Rattle.play_out.specs.Fills.{empties_of}
@@ -14,6 +14,11 @@ use Rattle.tree_words.specs.Paths.{board_of}
 pub record HasEmpties (set : ℕ) (p : Position) : Type 0 where
   pub small : set < 2 ^ 121
   pub items : (k : ℕ) → has set k ≡ is_empty_at p k
+
+-- the number of the set of these cells
+unfoldable pub set_of : List ℕ → ℕ
+set_of [] = 0
+set_of (c ∷ cells) = with_cell (set_of cells) c
 
 -- the allowed cells, in rising order
 unfoldable pub allowed_cells : Setting → List ℕ
@@ -41,3 +46,8 @@ pub record Linked (s : Setting) (words : List ℕ) (bs : List LinkedBlock) : Typ
   pub order : InOrder (root_at s) bs
   pub shows : Shows (root_at s) bs words
   pub complete : AreComplete s (next_in words) bs
+
+-- each block has a node. No step makes another; the closed tree does not ask it.
+abbrev pub HaveNodes : List LinkedBlock → Type 0
+HaveNodes [] = Unit {0}
+HaveNodes (b ∷ bs) = (0 < length b.cells) × HaveNodes bs

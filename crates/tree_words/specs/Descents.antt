@@ -153,11 +153,6 @@ abbrev pub Inside : List LinkedBlock → ℕ → Type 0
 Inside [] x = ⊥
 Inside (b ∷ bs) x = (has b x ≡ true) ⊎ Inside bs x
 
--- each block has a node
-abbrev pub Filled : List LinkedBlock → Type 0
-Filled [] = Unit {0}
-Filled (b ∷ bs) = (0 < length b.cells) × Filled bs
-
 -- the linked blocks, `next` and the counts that the words have, as a walk on blocks reads them
 abbrev pub config_of : List LinkedBlock → List ℕ → Config
 config_of bs words = record { blocks = oldest_first bs; tally = tally_in words; seen = seen_in words; next = next_in words }

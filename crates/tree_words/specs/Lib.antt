@@ -14,3 +14,4 @@ pub mod Closing
 pub mod Opening
 pub mod Roots
 pub mod Writing
+pub mod Told

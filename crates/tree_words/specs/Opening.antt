@@ -1,10 +1,12 @@
 -- The opening words.
-use Rattle.std.specs.Prelude.{◌≡◌, ℕ, ◌+◌, ◌-◌, ◌<◌, ◌==◌, ◌&&◌, ◌||◌, if◌then◌else◌, Bool, List, length, slice_index}
+use Rattle.std.specs.Prelude.{◌≡◌, ℕ, ◌+◌, ◌-◌, ◌<◌, ◌==◌, ◌&&◌, ◌||◌, if◌then◌else◌, Bool, List, [], ◌∷◌, length, map, slice_index}
 use Rattle.tree_words.specs.Settings.{Setting}
 use Rattle.tree_words.specs.Words.{root_at, area_at, end_of}
 use Rattle.tree_words.specs.Blocks.{LinkedBlock, size, covers, stays, header_or_move}
-use Rattle.tree_words.specs.Complete.{HasEmpties, allowed_cells}
+use Rattle.tree_words.specs.Complete.{HasEmpties, HaveNodes, Linked, allowed_cells, set_of}
 use Rattle.tree_words.specs.declared.layout.TheConstants.{NEXT_AT, LINK_WORD}
+use Rattle.std.specs.List.{range_with_len}
+use Rattle.play_out.specs.Fills.{empties_of}
 
 -- the root's block, where the empty cells of the board are this set
 abbrev pub root_block : Setting → ℕ → LinkedBlock
@@ -24,3 +26,12 @@ pub record AreOpening (s : Setting) (words : List ℕ) : Type 0 where
   pub empties : ℕ
   pub set : HasEmpties empties s.board
   pub each : (i : ℕ) → i < end_of s → slice_index words i ≡ opening_word s empties i
+
+-- the opening words, as a function of the setting
+unfoldable pub opening_words : Setting → List ℕ
+opening_words s = map (opening_word s (set_of (empties_of s.board))) (range_with_len 0 (end_of s))
+
+-- the words show one block, the root's, which has a node
+pub record ShowRootBlock (s : Setting) (words : List ℕ) : Type 0 where
+  pub linked : Linked s words (root_block s (set_of (empties_of s.board)) ∷ [])
+  pub nodes : HaveNodes (root_block s (set_of (empties_of s.board)) ∷ [])

@@ -22,6 +22,7 @@
 #![tactic(auto)]
 
 mod closed_tree;
+mod laws;
 pub mod layout;
 mod opening;
 mod readings;
@@ -33,6 +34,7 @@ pub mod types;
 mod writing;
 
 pub use closed_tree::Closed;
+pub use laws::{opening_words_are_told, told_blocks_are_linked, words_show_one_tree};
 pub use opening::write_opening;
 pub use readings::{block, cell_of, node, visits_of, wins_of};
 pub use roots::{Memory, Row, best, report};

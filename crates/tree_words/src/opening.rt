@@ -2,7 +2,7 @@
 
 ghost use Rattle.std.specs.Prelude.{◌≡◌, length, replicate};
 ghost use Rattle.tree_words.specs.Words.{end_of};
-ghost use Rattle.tree_words.specs.Opening.{AreOpening};
+ghost use Rattle.tree_words.specs.Opening.{AreOpening, opening_words};
 
 use super::layout::{HEADER_WORDS, LINK_WORD, NEXT_AT, NODE_WORDS, RECORDS_AT};
 use super::shapes::Shape;
@@ -11,7 +11,8 @@ use super::writing::write_block;
 /// Writes the opening words of the shape over words that are 0.
 pub fn write_opening(words: &mut [u64], shape: &Shape)
     requires { words.old ≡ replicate (end_of shape.now) 0 }
-    ensures { AreOpening shape.now words.new }
+    ensures opening { AreOpening shape.now words.new }
+    ensures told { words.new ≡ opening_words shape.now }
 {
     let root = shape.knobs().playouts as usize + RECORDS_AT;
     let start = root + NODE_WORDS;

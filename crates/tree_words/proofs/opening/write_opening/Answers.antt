@@ -6,6 +6,7 @@ use Rattle.tree_words.specs.Complete.{HasEmpties, allowed_cells}
 use Rattle.tree_words.specs.Writing.{listed}
 use Rattle.tree_words.proofs.EmptyLaws.{has-empties}
 use Rattle.tree_words.proofs.Openings.{allowed-listed, root-fits, few-allowed, opening-written}
+use Rattle.tree_words.proofs.OpeningTold.{opening-one}
 use Rattle.tree_words.proofs.opening.write_opening.Goals as goal
 
 pub write_block-count-requires : goal.write_block-count-requires
@@ -32,8 +33,8 @@ overflow_add-words-3 c =
     let n : c.knobs.result.now.playouts ≡ s.knobs.playouts = ap (λ k. k.playouts) c.knobs.ensures.value in
     omega (arith, few-allowed s h, ap length is, n, c.write_block-count.ensures.count, h.ranges.playouts.1)
 
-pub returns : goal.returns
-returns c =
+pub returns-clause-opening : goal.returns-clause-opening
+returns-clause-opening c =
     let s : Setting = c.args.shape.now in
     let h : IsSetting s = c.board-board.ensures.setting in
     let is : listed c.size.result c.allowed.result ≡ allowed_cells s = allowed-listed s c.size.result c.allowed.result (c.size.ensures.value ∙ ap (λ p. p.size) c.board-board.ensures.value) c.allowed.ensures.value in
@@ -42,3 +43,6 @@ returns c =
     c.requires (ap (λ z. z + 2) n) is
     (subst (HasEmpties c.empties.result) c.board-board.ensures.value (has-empties c.empties.result c.board-board.result.now (omega (arith, c.size.ensures.value, c.size.ensures.range)) c.empties.ensures))
     c.write_block-count.ensures.words c.write_block-count.ensures.count
+
+pub returns-clause-told : goal.returns-clause-told
+returns-clause-told c = opening-one c.args.shape.now _ c.board-board.ensures.setting (returns-clause-opening c)
