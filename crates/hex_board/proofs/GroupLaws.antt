@@ -1,12 +1,11 @@
 -- Two cells of one element.
-use Rattle.std.proofs.Common.{if◌then◌else◌, ◌≡◌, ℕ, ◌+◌, ◌-◌, ◌*◌, ◌<◌, ◌≤◌, ◌⊎◌, true, false, Bool, cond, Some, refl, sym, ◌∙◌, ap, subst, arith, inl, inr, zero, suc}
+use Rattle.std.proofs.Common.{if◌then◌else◌, ◌≡◌, ℕ, ◌+◌, ◌-◌, ◌<◌, ◌≤◌, ◌⊎◌, true, false, Bool, cond, Some, refl, sym, ◌∙◌, ap, subst, arith, inl, inr, zero, suc}
 use Rattle.std.specs.List.{count_by, range_with_len}
 use Rattle.std.proofs.lemmas.Bool.{cases_order, cases_Bool, both_ways, false_from_ne_true}
 use Rattle.std.proofs.lemmas.List.Sums.{sum_by-cons}
-use Rattle.hex_cells.specs.Sets.{has}
 use Rattle.hex_board.specs.Positions.{Within, stones_of, is_empty_at}
-use Rattle.hex_board.specs.Elements.{PlayerBoard, are_joined, is_linked, is_tied, is_head, edge_element, edge_elements, head_element, element_of, Holds}
-use Rattle.hex_board.proofs.Parts.{tied_through, tied_joins, tied_full, of_first, of_second, of_group, Case, case_of, is_free, is_first, is_second, is_group, is_other, linked_through, linked_back, linked_first, stone_full, empty_head, root_head, edge_below}
+use Rattle.hex_board.specs.Elements.{PlayerBoard, are_joined, is_linked, is_tied, is_head, edge_element, edge_elements, head_element, element_of, HasCell}
+use Rattle.hex_board.proofs.Parts.{tied_through, tied_joins, of_first, of_second, of_group, case_of, is_free, is_first, is_second, is_group, is_other, linked_through, linked_back, linked_first, stone_full, empty_head, root_head, edge_below}
 
 -- ---- counts, with no set of heads
 
@@ -86,7 +85,7 @@ Together e a b = (a ≡ b) ⊎ ((is_linked e a b ≡ true) ⊎ ((s : Bool) × (t
 full_head : (e : PlayerBoard) (r a k : ℕ) → r ≡ a → is_linked e r k ≡ true → is_empty_at e.board a ≡ true → ⊥
 full_head e r a k q l h = both_ways (is_empty_at e.board a) (subst (λ v. is_empty_at e.board v ≡ false) q (stone_full e.board e.player r (linked_first e r k l))) h
 
-pub one_element : (e : PlayerBoard) (x a b : ℕ) → Within e.board.size (stones_of e.board e.player) → Holds e x a → Holds e x b → Together e a b
+pub one_element : (e : PlayerBoard) (x a b : ℕ) → Within e.board.size (stones_of e.board e.player) → HasCell e x a → HasCell e x b → Together e a b
 one_element e x a b on h i = elim (case_of e a on) [
   | is_free f t ↦ elim (case_of e b on) [
     | is_free g u ↦ inl (head_number e a b (empty_head e a f) (empty_head e b g) (some_same _ _ (sym t ∙ (h ∙ (sym i ∙ u)))))
@@ -127,7 +126,7 @@ joined_low : (j : Bool) → j ≡ true → ◌≡◌ {A = ℕ} 0 (if j then 0 el
 joined_low j h = rw h refl
 
 -- a stone that is tied to an edge lies in that edge's element
-pub tied_element : (e : PlayerBoard) (second : Bool) (k : ℕ) → is_tied e second k ≡ true → Holds e (edge_element e second) k
+pub tied_element : (e : PlayerBoard) (second : Bool) (k : ℕ) → is_tied e second k ≡ true → HasCell e (edge_element e second) k
 tied_element e false k h = of_first e k h
 tied_element e true k h = elim (cases_Bool (is_tied e false k)) [
   | inl t ↦ of_first e k t ∙ ap Some (joined_low (are_joined e) (tied_joins e k t h))

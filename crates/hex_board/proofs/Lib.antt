@@ -5,3 +5,4 @@ pub mod Search
 pub mod Tabled
 pub mod WinLaws
 pub mod GroupLaws
+pub mod Places

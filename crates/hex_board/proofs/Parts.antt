@@ -1,4 +1,4 @@
-use Rattle.std.proofs.Common.{◌≡◌, ℕ, ◌+◌, ◌-◌, ◌*◌, ◌<◌, ◌≤◌, ◌==◌, ◌&&◌, ◌||◌, ◌⊎◌, ◌↔◌, IsTrue, not, true, false, Bool, cond, List, [], ◌∷◌, Option, Some, None, refl, sym, ◌∙◌, ap, subst, arith, inl, inr, zero, suc, nat_lt, IfSome, if◌then◌else◌}
+use Rattle.std.proofs.Common.{◌≡◌, ℕ, ◌+◌, ◌-◌, ◌*◌, ◌<◌, ◌≤◌, ◌==◌, ◌&&◌, ◌||◌, ◌⊎◌, ◌↔◌, IsTrue, not, true, false, Bool, cond, List, [], Option, Some, None, refl, sym, ◌∙◌, ap, subst, arith, inl, inr, zero, suc, nat_lt, IfSome, if◌then◌else◌}
 use Rattle.std.specs.List.{count_by, find, list_any, range_with_len}
 use Rattle.std.specs.Option.{option_map}
 use Rattle.std.proofs.lemmas.Bool.{and_parts, or_cases, or_left, or_right, cases_Bool, cases_eq, cases_order, false≢true, both_ways, false_from_ne_true, not-true}
@@ -95,7 +95,7 @@ stone_full p White k h = full_white (nat_lt k (p.size * p.size)) (has p.black k)
 pub tied_full : (e : PlayerBoard) (second : Bool) (k : ℕ) → is_tied e second k ≡ true → is_empty_at e.board k ≡ false
 tied_full e second k h = stone_full e.board e.player k (tied_stone e second k h)
 
-empty_on : (p : Position) (k : ℕ) → is_empty_at p k ≡ true → k < p.size * p.size
+pub empty_on : (p : Position) (k : ℕ) → is_empty_at p k ≡ true → k < p.size * p.size
 empty_on p k h = lt_of k (p.size * p.size) (and_parts (nat_lt k (p.size * p.size)) (not (has p.black k)) (and_parts (nat_lt k (p.size * p.size) && not (has p.black k)) (not (has p.white k)) h).0).0
   where
     lt_of : (k m : ℕ) → nat_lt k m ≡ true → k < m
@@ -371,7 +371,7 @@ pub of_rest : (e : PlayerBoard) (k : ℕ) → is_empty_at e.board k ≡ false �
     → element_of e k ≡ option_map (head_element e) (find (λ j. is_linked e j k) (cells_of e.board.size))
 of_rest e k f g h = pick_last (is_empty_at e.board k) (is_tied e false k) (is_tied e true k) _ _ _ _ f g h
 
-find_least : (p : ℕ → Bool) (m r : ℕ) → r < m → p r ≡ true → ((j : ℕ) → j < r → p j ≡ false) → find p (range_with_len 0 m) ≡ Some r
+pub find_least : (p : ℕ → Bool) (m r : ℕ) → r < m → p r ≡ true → ((j : ℕ) → j < r → p j ≡ false) → find p (range_with_len 0 m) ≡ Some r
 find_least p m r l h f = elim (find_case p 0 m) [
   | inl u ↦ absurd (both_ways (p r) (u.1 r (omega arith) (omega arith)) h)
   | inr u ↦ u.1 ∙ ap Some (least_one p u.0 r u.3 (λ j b. u.4 j (omega arith) b) h f)
@@ -383,7 +383,7 @@ find_least p m r l h f = elim (find_case p 0 m) [
       | inr o ↦ elim o [ inl l ↦ absurd (both_ways (p a) (g a l) h) | inr l ↦ absurd (both_ways (p b) (f b l) i) ]
     ]
 
-find_nothing : (p : ℕ → Bool) (m : ℕ) → ((j : ℕ) → p j ≡ false) → find p (range_with_len 0 m) ≡ None
+pub find_nothing : (p : ℕ → Bool) (m : ℕ) → ((j : ℕ) → p j ≡ false) → find p (range_with_len 0 m) ≡ None
 find_nothing p m f = elim (find_case p 0 m) [ inl u ↦ u.0 | inr u ↦ absurd (both_ways (p u.0) (f u.0) u.3) ]
 
 pub of_group : (e : PlayerBoard) (k r : ℕ) → Within e.board.size (stones_of e.board e.player) → is_empty_at e.board k ≡ false → is_tied e false k ≡ false → is_tied e true k ≡ false

@@ -108,7 +108,7 @@ leads_found (suc fuel) n s test x xs b m p e =
       ]
     ])
 
-edge_on : (p : Colour) (b : Bool) (n k : ℕ) → on_edge p b n k ≡ true → k < n * n
+pub edge_on : (p : Colour) (b : Bool) (n k : ℕ) → on_edge p b n k ≡ true → k < n * n
 edge_on Black false n k h = grind (arith, nat_tests)
 edge_on Black true n k h = grind (arith, nat_tests)
 edge_on White false n k h = grind (arith, nat_tests)

@@ -3,8 +3,9 @@ use Rattle.std.proofs.lemmas.Bool.{or_cases, or_left, or_right, cases_eq}
 use Rattle.std.proofs.lemmas.List.{get_or_default, get_or-set_same, get_or-set_other}
 use Rattle.hex_cells.specs.Sets.{has}
 use Rattle.hex_cells.specs.Graph.{Bordered, Neighbour}
-use Rattle.hex_board.specs.Elements.{PlayerBoard, Holds, HasEdge, Reaches, Meets, Borders, Touches, Near}
-use Rattle.hex_board.proofs.Reach.{back}
+use Rattle.hex_board.specs.Elements.{PlayerBoard, HasCell}
+use Rattle.hex_board.specs.Places.{at_cell, at_edge}
+use Rattle.hex_board.specs.ElementTables.{IsOnEdgeOf, Reaches, Meets}
 
 -- one entry more of a table
 pub set_more : (Q : ℕ → ℕ → Type 0) (xs : List ℕ) (x v : ℕ) → x < length xs → ((j k : ℕ) → j < x → IsTrue (has (get_or xs j 0) k) ↔ Q j k)
@@ -20,52 +21,28 @@ pub read : (Q : ℕ → ℕ → Type 0) (xs : List ℕ) (x d k : ℕ) → x < le
 read Q xs x d k l h = subst (λ w. IsTrue (has w k) ↔ Q x k) (get_or_default xs x 0 d l) h
 
 -- the cells beside an element are those around its cells, and those of its edges
-pub beside : (e : PlayerBoard) (x part a b u : ℕ) (k n : ℕ) → n ≡ e.board.size → ((j : ℕ) → IsTrue (has part j) ↔ Holds e x j)
-    → IsTrue (has a k) ↔ Bordered n part k → IsTrue (has b k) ↔ HasEdge e x k → has u k ≡ (has a k || has b k) → IsTrue (has u k) ↔ Reaches e x k
+pub beside : (e : PlayerBoard) (x part a b u : ℕ) (k n : ℕ) → n ≡ e.board.size
+    → ((j : ℕ) → IsTrue (has part j) ↔ HasCell e x j) → IsTrue (has a k) ↔ Bordered n part k
+    → IsTrue (has b k) ↔ IsOnEdgeOf e x k → has u k ≡ (has a k || has b k) → IsTrue (has u k) ↔ Reaches e x k
 beside e x part a b u k n q hp ha hb hu = (
   (λ h. elim (or_cases (has a k) (has b k) (sym hu ∙ h)) [
-    | inl t ↦ let w = ha.0 t in inl (w.0, (hp w.0).0 w.1, subst (λ m. Neighbour m w.0 k) q w.2)
-    | inr t ↦ inr (hb.0 t)
+    | inl t ↦ let w = ha.0 t in (at_cell w.0, (hp w.0).0 w.1, subst (λ m. Neighbour m w.0 k) q w.2)
+    | inr t ↦ let w = hb.0 t in (at_edge w.0, w.1, w.2)
   ]),
-  (λ r. elim r [
-    | inl t ↦ hu ∙ or_left (has a k) (has b k) (ha.1 (t.0, (hp t.0).1 t.1, subst (λ m. Neighbour m t.0 k) (sym q) t.2))
+  (λ r. elim (parts e x k r) [
+    | inl t ↦ hu ∙ or_left (has a k) (has b k)
+        (ha.1 (t.0, (hp t.0).1 t.1, subst (λ m. Neighbour m t.0 k) (sym q) t.2))
     | inr t ↦ hu ∙ or_right (has a k) (has b k) (hb.1 t)
   ]),
 )
-
-meets_parts : (e : PlayerBoard) (x y : ℕ) → Meets e x y → Borders e x y ⊎ Touches e x y
-meets_parts e x y m = elim m.1 [
-  | inl t ↦ inl (t.0, m.0, t.1, m.2, t.2)
-  | inr t ↦ inr (t.0, m.0, t.1, m.2, t.2)
-]
-
-borders_meets : (e : PlayerBoard) (x y : ℕ) → Borders e x y → Meets e x y
-borders_meets e x y b = (b.1, inl (b.0, b.2, b.4), b.3)
-
-touches_meets : (e : PlayerBoard) (x y : ℕ) → Touches e x y → Meets e x y
-touches_meets e x y t = (t.1, inr (t.0, t.2, t.4), t.3)
-
-borders_back : (e : PlayerBoard) (x y : ℕ) → Borders e x y → Borders e y x
-borders_back e x y b = (b.1, b.0, b.3, b.2, back e.board.size b.0 b.1 b.4)
-
--- a cell of one is beside the other
-pub near_from : (e : PlayerBoard) (x y : ℕ) → (x ≡ y → ⊥) → Meets e x y ⊎ Meets e y x → Near e x y
-near_from e x y n o = (
-  n,
-  elim o [
-    | inl m ↦ elim (meets_parts e x y m) [ inl b ↦ inl b | inr t ↦ inr (inl t) ]
-    | inr m ↦ elim (meets_parts e y x m) [ inl b ↦ inl (borders_back e y x b) | inr t ↦ inr (inr t) ]
-  ],
-)
-
-pub near_meets : (e : PlayerBoard) (x y : ℕ) → Near e x y → Meets e x y ⊎ Meets e y x
-near_meets e x y h = elim h.1 [
-  | inl b ↦ inl (borders_meets e x y b)
-  | inr o ↦ elim o [ inl t ↦ inl (touches_meets e x y t) | inr t ↦ inr (touches_meets e y x t) ]
-]
+  where
+    parts : (e : PlayerBoard) (x k : ℕ) → Reaches e x k
+        → ((a : ℕ) × HasCell e x a × Neighbour e.board.size a k) ⊎ IsOnEdgeOf e x k
+    parts e x k (at_cell a, h, b) = inl (a, h, b)
+    parts e x k (at_edge second, h, b) = inr (second, h, b)
 
 -- two sets of the tables meet where one element has a cell beside the other
-pub sets_meet : (e : PlayerBoard) (x y p q : ℕ) (r : Bool) → ((k : ℕ) → IsTrue (has p k) ↔ Reaches e x k) → ((k : ℕ) → IsTrue (has q k) ↔ Holds e y k)
+pub sets_meet : (e : PlayerBoard) (x y p q : ℕ) (r : Bool) → ((k : ℕ) → IsTrue (has p k) ↔ Reaches e x k) → ((k : ℕ) → IsTrue (has q k) ↔ HasCell e y k)
     → IsTrue r ↔ ((k : ℕ) × (has p k ≡ true) × (has q k ≡ true)) → IsTrue r ↔ Meets e x y
 sets_meet e x y p q r hp hq hr = (
   (λ h. let w = hr.0 h in (w.0, (hp w.0).0 w.1, (hq w.0).0 w.2)),

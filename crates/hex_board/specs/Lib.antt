@@ -6,4 +6,6 @@ pub mod Positions
 pub mod Joined
 pub mod Groups
 pub mod Elements
+pub mod Places
+pub mod ElementTables
 pub mod Wins

@@ -1,10 +1,11 @@
 //! How the elements of a player are numbered: the edges first, then the others by their least cells.
 
-ghost use Rattle.std.specs.Prelude.{◌≡◌, ℕ, ◌*◌, ◌<◌, ◌≤◌, ◌↔◌, true, IsTrue, IfNone, IfSome, Some, None};
+ghost use Rattle.std.specs.Prelude.{◌≡◌, ℕ, ◌*◌, ◌<◌, ◌≤◌, ◌↔◌, true, IsTrue, IfSome, Some, None};
 ghost use Rattle.hex_cells.specs.Colours.{other_of};
 ghost use Rattle.hex_cells.specs.Sets.{has};
-ghost use Rattle.hex_board.specs.Elements.{HasEdge, Holds, Reaches, edge_element, edge_elements, element_count, element_of, head_element, is_head, is_linked};
-ghost use Rattle.hex_board.specs.Positions.{is_empty_at, stones_of};
+ghost use Rattle.hex_board.specs.Elements.{HasCell, edge_element, edge_elements, element_count, element_of, head_element, is_head, is_linked};
+ghost use Rattle.hex_board.specs.ElementTables.{IsOnEdgeOf, Reaches};
+ghost use Rattle.hex_board.specs.Positions.{Within, is_empty_at, stones_of};
 
 use super::{Board, flood, roots_of};
 use hex_cells::{Cell, CellSet, Colour, edge};
@@ -23,7 +24,8 @@ pub(crate) struct Numbering {
 }
 
 impl Model for Numbering {
-    ghost use Rattle.hex_board.specs.Elements.{IsNumbered, PlayerBoard};
+    ghost use Rattle.hex_board.specs.Elements.{PlayerBoard};
+    ghost use Rattle.hex_board.specs.ElementTables.{IsNumbered};
 
     ghost Value = { PlayerBoard };
 
@@ -102,6 +104,14 @@ impl Numbering {
         }
     }
 
+    // The empty cells of the board.
+    pub(crate) fn empties(&self) -> CellSet
+        ensures items { (k : ℕ) → has result k ≡ is_empty_at self.now.board k }
+        ensures stones { Within self.now.board.size (stones_of self.now.board self.now.player) }
+    {
+        self.board.empties()
+    }
+
     // The stones that are linked to a cell, itself among them where it has a stone of the player.
     fn linked(&self, cell: Cell) -> CellSet
         ensures { (k : ℕ) → has result k ≡ is_linked self.now k cell }
@@ -131,27 +141,10 @@ impl Numbering {
         self.heads.nth(u32::from(element) - self.edge_elements())
     }
 
-    // The empty cell that an element below the count is; `None` exactly for a group.
-    pub(crate) fn cell(&self, element: u8) -> Option<Cell>
-        requires { element < element_count self.now }
-        ensures empty { IfSome result (λ k. (is_empty_at self.now.board k ≡ true) × Holds self.now element k) }
-        ensures group { IfNone result ((k : ℕ) → is_empty_at self.now.board k ≡ true → ¬ (Holds self.now element k)) }
-    {
-        if u32::from(element) < self.edge_elements() {
-            return None;
-        }
-        let head = self.head(element);
-        if self.board.empties().has(head) {
-            Some(head)
-        } else {
-            None
-        }
-    }
-
     // The cells of an element without an edge, by its least cell.
     fn headed(&self, head: Cell) -> CellSet
         requires { is_head self.now head ≡ true }
-        ensures { (k : ℕ) → IsTrue (has result k) ↔ Holds self.now (head_element self.now head) k }
+        ensures { (k : ℕ) → IsTrue (has result k) ↔ HasCell self.now (head_element self.now head) k }
     {
         if self.board.empties().has(head) {
             CellSet::none().with(head)
@@ -163,7 +156,7 @@ impl Numbering {
     // The cells of an element below the count: the empty cell or the stones of the group.
     pub(crate) fn cells(&self, element: u8) -> CellSet
         requires { element < element_count self.now }
-        ensures { (k : ℕ) → IsTrue (has result k) ↔ Holds self.now element k }
+        ensures { (k : ℕ) → IsTrue (has result k) ↔ HasCell self.now element k }
     {
         if element == 0 {
             if self.joined {
@@ -180,7 +173,7 @@ impl Numbering {
 
     // The cells of the edges that an element holds.
     fn edges_of(&self, element: u8) -> CellSet
-        ensures { (k : ℕ) → IsTrue (has result k) ↔ HasEdge self.now element k }
+        ensures { (k : ℕ) → IsTrue (has result k) ↔ IsOnEdgeOf self.now element k }
     {
         let size = self.board.size();
         let first = if self.edge(false) == element {

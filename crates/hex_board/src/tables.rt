@@ -3,7 +3,9 @@
 ghost use Rattle.std.specs.Prelude.{◌≡◌, ℕ, ◌*◌, ◌<◌, ◌≤◌, ◌↔◌, true, IsTrue, IfNone, IfSome, None};
 ghost use Rattle.hex_cells.specs.Colours.{other_of};
 ghost use Rattle.hex_cells.specs.Sets.{has};
-ghost use Rattle.hex_board.specs.Elements.{Holds, Meets, Near, PlayerBoard, edge_element, element_count, element_of};
+ghost use Rattle.hex_board.specs.Elements.{HasCell, PlayerBoard, edge_element, element_count, element_of};
+ghost use Rattle.hex_board.specs.Places.{Near, cell_of, is_near};
+ghost use Rattle.hex_board.specs.ElementTables.{Meets};
 ghost use Rattle.hex_board.specs.Positions.{is_empty_at, stones_of};
 
 use super::Board;
@@ -28,7 +30,8 @@ pub struct Elements {
 }
 
 impl Model for Elements {
-    ghost use Rattle.hex_board.specs.Elements.{IsTabled, PlayerBoard};
+    ghost use Rattle.hex_board.specs.Elements.{PlayerBoard};
+    ghost use Rattle.hex_board.specs.ElementTables.{IsTabled};
 
     ghost Value = { PlayerBoard };
 
@@ -88,16 +91,18 @@ impl Elements {
     /// The empty cell that an element below the count is; `None` exactly for a group.
     pub fn cell(&self, element: u8) -> Option<Cell>
         requires { element < element_count self.now }
-        ensures empty { IfSome result (λ k. (is_empty_at self.now.board k ≡ true) × Holds self.now element k) }
-        ensures group { IfNone result ((k : ℕ) → is_empty_at self.now.board k ≡ true → ¬ (Holds self.now element k)) }
+        ensures value { result ≡ cell_of self.now element }
+        ensures empty { IfSome result (λ k. (is_empty_at self.now.board k ≡ true) × HasCell self.now element k) }
+        ensures group { IfNone result ((k : ℕ) → is_empty_at self.now.board k ≡ true → ¬ (HasCell self.now element k)) }
     {
-        self.numbering.cell(element)
+        let empty = self.cells(element).meet(self.numbering.empties());
+        empty.least()
     }
 
     /// The cells of an element below the count: the empty cell, or the stones of the group.
     pub fn cells(&self, element: u8) -> CellSet
         requires { element < element_count self.now }
-        ensures { (k : ℕ) → IsTrue (has result k) ↔ Holds self.now element k }
+        ensures { (k : ℕ) → IsTrue (has result k) ↔ HasCell self.now element k }
     {
         self.parts[element as usize]
     }
@@ -107,7 +112,8 @@ impl Elements {
     pub fn near(&self, x: u8, y: u8) -> bool
         requires x { x < element_count self.now }
         requires y { y < element_count self.now }
-        ensures { IsTrue result ↔ Near self.now x y }
+        ensures near { IsTrue result ↔ Near self.now x y }
+        ensures value { result ≡ is_near self.now x y }
     {
         x != y && (self.leads(x, y) || self.leads(y, x))
     }

@@ -1,7 +1,8 @@
 use Rattle.std.proofs.Common.{sym, ◌∙◌, arith, subst, inl, inr}
 use Rattle.hex_cells.specs.Sets.{has}
 use Rattle.std.proofs.lemmas.Bool.{both_ways, or_cases, or_left, or_right}
-use Rattle.hex_board.specs.Elements.{IsNumbered, are_joined}
+use Rattle.hex_board.specs.Elements.{are_joined}
+use Rattle.hex_board.specs.ElementTables.{IsNumbered}
 use Rattle.hex_board.proofs.Parts.{zero_out, zero_in, one_out, one_in, of_first, only_second}
 use Rattle.hex_board.proofs.numbering.Numbering.cells.Goals as goal
 

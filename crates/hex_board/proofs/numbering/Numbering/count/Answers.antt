@@ -1,5 +1,6 @@
 use Rattle.std.proofs.Common.{◌+◌, ap, ◌∙◌, subst}
-use Rattle.hex_board.specs.Elements.{IsNumbered, edge_elements}
+use Rattle.hex_board.specs.Elements.{edge_elements}
+use Rattle.hex_board.specs.ElementTables.{IsNumbered}
 use Rattle.hex_board.proofs.Parts.{all_heads}
 use Rattle.hex_board.proofs.numbering.Numbering.count.Goals as goal
 

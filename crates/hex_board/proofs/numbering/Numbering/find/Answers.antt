@@ -1,6 +1,7 @@
 use Rattle.std.proofs.Common.{◌≡◌, true, false, Some, sym, ap, ◌∙◌, subst}
 use Rattle.hex_board.specs.Positions.{is_empty_at}
-use Rattle.hex_board.specs.Elements.{IsNumbered, is_tied}
+use Rattle.hex_board.specs.Elements.{is_tied}
+use Rattle.hex_board.specs.ElementTables.{IsNumbered}
 use Rattle.hex_board.proofs.Parts.{of_group, of_other}
 use Rattle.hex_board.proofs.numbering.Numbering.find.Goals as goal
 

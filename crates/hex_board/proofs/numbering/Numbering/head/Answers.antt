@@ -1,5 +1,5 @@
 use Rattle.std.proofs.Common.{◌-◌, ap, ◌∙◌, subst}
-use Rattle.hex_board.specs.Elements.{IsNumbered}
+use Rattle.hex_board.specs.ElementTables.{IsNumbered}
 use Rattle.hex_board.proofs.Parts.{head_at, place_below}
 use Rattle.hex_board.proofs.numbering.Numbering.head.Goals as goal
 

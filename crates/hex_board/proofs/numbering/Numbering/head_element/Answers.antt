@@ -1,5 +1,6 @@
 use Rattle.std.proofs.Common.{◌+◌, ap, ◌∙◌, subst}
-use Rattle.hex_board.specs.Elements.{IsNumbered, edge_elements, is_head}
+use Rattle.hex_board.specs.Elements.{edge_elements, is_head}
+use Rattle.hex_board.specs.ElementTables.{IsNumbered}
 use Rattle.hex_board.proofs.Parts.{members_test}
 use Rattle.hex_board.proofs.numbering.Numbering.head_element.Goals as goal
 

@@ -2,7 +2,8 @@ use Rattle.std.proofs.Common.{◌≡◌, ℕ, true, false, Some, sym, ap, ◌∙
 use Rattle.hex_cells.specs.Sets.{has}
 use Rattle.hex_board.specs.Positions.{is_empty_at}
 use Rattle.std.proofs.lemmas.Bool.{both_ways}
-use Rattle.hex_board.specs.Elements.{IsNumbered, element_of, head_element}
+use Rattle.hex_board.specs.Elements.{element_of, head_element}
+use Rattle.hex_board.specs.ElementTables.{IsNumbered}
 use Rattle.hex_board.proofs.Parts.{head_out, head_in, of_free, single_in, single_out}
 use Rattle.hex_board.proofs.numbering.Numbering.headed.Goals as goal
 

@@ -1,5 +1,5 @@
 use Rattle.std.proofs.Common.{subst}
-use Rattle.hex_board.specs.Elements.{IsNumbered}
+use Rattle.hex_board.specs.ElementTables.{IsNumbered}
 use Rattle.hex_board.proofs.Parts.{some_below, none_other}
 use Rattle.hex_board.proofs.numbering.Numbering.of.Goals as goal
 

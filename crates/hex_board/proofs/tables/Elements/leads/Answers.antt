@@ -1,5 +1,6 @@
 use Rattle.std.proofs.Common.{arith, subst}
-use Rattle.hex_board.specs.Elements.{IsTabled, Holds, Reaches}
+use Rattle.hex_board.specs.Elements.{HasCell}
+use Rattle.hex_board.specs.ElementTables.{IsTabled, Reaches}
 use Rattle.hex_board.proofs.Tabled.{read, sets_meet}
 use Rattle.hex_board.proofs.tables.Elements.leads.Goals as goal
 
@@ -28,5 +29,5 @@ returns c =
     let i : IsTabled c.args.self.now c.self.inside.parts c.self.inside.reaches = subst (λ v. IsTabled v c.self.inside.parts c.self.inside.reaches) c.self.view_is c.self.invariant in
     sets_meet c.args.self.now c.args.x c.args.y _ _ c.meets.result
     (λ k. read (Reaches c.args.self.now) c.self.inside.reaches c.args.x c.index-self-x.result k (omega (arith, i.few, c.requires.x)) (i.reached c.args.x k c.requires.x))
-    (λ k. read (Holds c.args.self.now) c.self.inside.parts c.args.y c.index-self-y.result k (omega (arith, i.few, c.requires.y)) (i.held c.args.y k c.requires.y))
+    (λ k. read (HasCell c.args.self.now) c.self.inside.parts c.args.y c.index-self-y.result k (omega (arith, i.few, c.requires.y)) (i.held c.args.y k c.requires.y))
     c.meets.ensures
