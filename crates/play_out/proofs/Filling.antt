@@ -6,7 +6,7 @@ use Rattle.hex_cells.specs.declared.colours.Colour.TheVariants.{Black, White}
 use Rattle.hex_board.specs.Joined.{Joined, is_joined}
 use Rattle.hex_board.proofs.Search.{joined_test}
 use Rattle.hex_board.specs.Positions.{Position, is_empty_at, stones_of}
-use Rattle.play_out.specs.Fills.{ListsEmpties, order_of, filled_by, filled, playout_of}
+use Rattle.play_out.specs.Fills.{ListsEmpties, order_of, filled_by, filled, playout_of, winner_by}
 use Rattle.play_out.proofs.Turns.{size_after, full_after, kept_after}
 
 -- the filled board of a playout has the size of its board
@@ -42,12 +42,12 @@ pub black_is : (p : Position) (player : Colour) (seed k : ℕ) (cells : List ℕ
 unfolding filled
 black_is p player seed k cells black e b = b ∙ ap (λ v. (filled_by p player v).black) e
 
--- what the test on the filled board says of the result
-pub result_is : (p : Position) (player : Colour) (seed k size black : ℕ) (joined : Bool) → size ≡ p.size → black ≡ (filled p player seed k).black
-    → joined ≡ is_joined size Black black → cond joined Black White ≡ playout_of p player seed k
+-- the result, told by the size of the board and by Black's stones on the filled one
+pub result_is : (p : Position) (player : Colour) (seed k size black : ℕ) → size ≡ p.size → black ≡ (filled p player seed k).black
+    → winner_by size black ≡ playout_of p player seed k
 unfolding playout_of
-result_is p player seed k size black joined s b j =
-    ap (λ v. cond v Black White) (j ∙ (ap (λ v. is_joined v Black black) (s ∙ sym (filled_size p player seed k)) ∙ ap (λ v. is_joined (filled p player seed k).size Black v) b))
+result_is p player seed k size black s b =
+    ap (λ v. winner_by v black) (s ∙ sym (filled_size p player seed k)) ∙ ap (λ v. winner_by (filled p player seed k).size v) b
 
 -- the result is Black where a path of Black's stones joins his edges
 pub black_joins : (p : Position) (player : Colour) (seed k : ℕ) (result : Colour) → result ≡ playout_of p player seed k

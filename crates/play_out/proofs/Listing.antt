@@ -1,7 +1,7 @@
--- The cells of a set, listed row by row.
+-- The cells of a set, listed one by one.
 use Rattle.std.proofs.Common.{◌≡◌, ℕ, ◌+◌, ◌*◌, ◌<◌, ◌≤◌, true, false, Bool, cond, List, [], ◌∷◌, ◌++◌, length, take, refl, sym, ◌∙◌, ap, arith, zero, suc, add-one, add-zero, append-nil, length-append}
 use Rattle.std.proofs.Math.ListN.{set, length-set}
-use Rattle.std.proofs.Math.Nat.{mul-le-mul, suc-mul}
+use Rattle.std.proofs.Math.Nat.{mul-le-mul}
 use Rattle.std.specs.List.{filter, range_with_len}
 use Rattle.std.proofs.lemmas.List.{take_more_set, take-set}
 use Rattle.std.proofs.lemmas.List.Elements.{filter_agree}
@@ -67,20 +67,11 @@ cell_passed s cells count end c l e t =
       size = length-set cells count c ∙ l.size;
     }
 
--- the row ends where the next begins
-pub row_end : (row n : ℕ) → row * n + n ≡ (row + 1) * n
-row_end row n = sym (ap (λ v. v * n) (add-one row) ∙ suc-mul row n)
-
-pub row_within : (row n : ℕ) → row < n → n ≤ 11 → row * n + n ≤ 121
-row_within row n h small =
-    let most : (row + 1) * n ≤ 11 * 11 = mul-le-mul {n₂ = 11} (omega arith) small in
-    omega (arith, most, row_end row n)
-
--- all rows are the whole board
-pub all_rows : (p : Position) (s : ℕ) (cells : List ℕ) (count : ℕ) → ((k : ℕ) → has s k ≡ is_empty_at p k)
+-- all cells are the whole board
+pub all_cells : (p : Position) (s : ℕ) (cells : List ℕ) (count : ℕ) → ((k : ℕ) → has s k ≡ is_empty_at p k)
     → take count cells ≡ filter (has s) (range_with_len 0 (p.size * p.size)) → take count cells ≡ empties_of p
 unfolding empties_of
-all_rows p s cells count f e = e ∙ filter_agree (has s) (is_empty_at p) f (cells_of p.size)
+all_cells p s cells count f e = e ∙ filter_agree (has s) (is_empty_at p) f (cells_of p.size)
 
 pub all_counted : (p : Position) (s count : ℕ) → ((k : ℕ) → has s k ≡ is_empty_at p k)
     → count ≡ length (filter (has s) (range_with_len 0 (p.size * p.size))) → count ≡ length (empties_of p)

@@ -1,3 +1,4 @@
+-- Playouts: the empty cells, their order, the filled board and the result.
 use Rattle.std.specs.Prelude.{◌≡◌, ℕ, ◌-◌, ◌==◌, List, [], ◌∷◌, length, count_by, if◌then◌else◌}
 use Rattle.std.specs.List.{filter}
 use Rattle.hex_cells.specs.Colours.{other_of}
@@ -30,7 +31,10 @@ filled_by p player (c ∷ cells) = filled_by (placed p player c) (other_of playe
 unfoldable pub filled : Position → Colour → ℕ → ℕ → Position
 filled p player seed k = filled_by p player (order_of p seed k)
 
--- the result of that playout: Black where Black is joined on the filled board, else White
+-- who has won on a filled board of this size where these are Black's stones: Black where he is joined, else White
+abbrev pub winner_by : ℕ → ℕ → Colour
+winner_by size black = if is_joined size Black black then Black else White
+
+-- the result of that playout
 unfoldable pub playout_of : Position → Colour → ℕ → ℕ → Colour
-playout_of p player seed k =
-    let full = filled p player seed k in if is_joined full.size Black full.black then Black else White
+playout_of p player seed k = let full = filled p player seed k in winner_by full.size full.black

@@ -1,3 +1,4 @@
+-- The words of a playout's generator, and the shuffle that they make.
 use Rattle.std.specs.Prelude.{ℕ, ◌+◌, ◌*◌, ◌/◌, ◌%◌, ◌^◌, List, [], ◌∷◌, zero, suc}
 use Rattle.std.specs.List.{swap}
 use Rattle.rand_core.specs.Stream.{Stream, next_u64}

@@ -7,8 +7,9 @@
 //! places. The *filled board* has stones on these cells, in turn, the first of the player to move. Its *result* is Black
 //! where Black is joined on it, else White.
 //!
-//! **A caller** asks for the result, `playout(&board, Colour::Black, seed, k)`, or for the filled board,
-//! `fill(&board, Colour::Black, seed, k)`.
+//! **A caller** asks for the result, `playout(&board, Colour::Black, seed, k)`, for the filled board,
+//! `fill(&board, Colour::Black, seed, k)`, or for both, `play(&board, Colour::Black, seed, k)`. [`write_order`] gives the
+//! shuffled empty cells alone.
 //!
 //! **What is proved.** `fill` gives the filled board and `playout` its result, for every board, player, seed and `k`,
 //! with the words as `rand_xoshiro` says what that generator answers. No cell of a filled board is empty, each stone of
@@ -26,4 +27,5 @@ mod playouts;
 #[cfg(test)]
 mod tests;
 
-pub use playouts::{fill, playout};
+pub use order::{MOST_EMPTIES, write_order};
+pub use playouts::{Ending, fill, play, playout};

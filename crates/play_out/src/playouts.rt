@@ -6,11 +6,11 @@ ghost use Rattle.hex_cells.specs.Colours.{other_of};
 ghost use Rattle.hex_cells.specs.declared.colours.Colour.{Colour};
 ghost use Rattle.hex_board.specs.Joined.{Joined};
 ghost use Rattle.hex_board.specs.Positions.{Apart, Within, is_empty_at, stones_of};
-ghost use Rattle.play_out.specs.Fills.{ListsEmpties, filled_by, filled, playout_of};
+ghost use Rattle.play_out.specs.Fills.{ListsEmpties, filled_by, filled, playout_of, winner_by};
 
-use super::order::{MOST_CELLS, deal};
+use super::order::{MOST_EMPTIES, write_order};
 use hex_board::{Board, joined};
-use hex_cells::{Cell, CellSet, Colour};
+use hex_cells::{Cell, CellSet, Colour, Size};
 
 // The stones of one player after stones on the cells in turn, the first of the player to move. He puts his on every second
 // cell.
@@ -29,6 +29,27 @@ fn stones_after(board: &Board, to_move: Colour, owner: Colour, cells: &[Cell]) -
     stones
 }
 
+// Who has won on a filled board of this size where these are Black's stones: Black where he is joined, else White.
+fn winner(black: CellSet, size: Size) -> Colour
+    ensures { result ≡ winner_by size black }
+{
+    let black_won = joined(black, Colour::Black, size);
+    if black_won {
+        Colour::Black
+    } else {
+        Colour::White
+    }
+}
+
+/// How a playout ended: the filled board, and who won.
+#[derive(Clone, Copy, Debug, PartialEq, Eq)]
+pub struct Ending {
+    /// The filled board.
+    pub full: Board,
+    /// Black where Black is joined on it, else White.
+    pub winner: Colour,
+}
+
 /// The filled board of playout `k` of a search with this seed: stones on the shuffled empty cells, in turn, the first of
 /// the player to move. A full board is its own filled board.
 pub fn fill(board: &Board, to_move: Colour, seed: u64, k: u64) -> Board
@@ -37,8 +58,8 @@ pub fn fill(board: &Board, to_move: Colour, seed: u64, k: u64) -> Board
     ensures kept { (owner : Colour) (c : ℕ) → has (stones_of board.now owner) c ≡ true → has (stones_of result owner) c ≡ true }
     ensures size { result.size ≡ board.now.size }
 {
-    let mut cells = [Cell::at(board.size(), 0, 0); MOST_CELLS];
-    let count = deal(board, seed, k, &mut cells);
+    let mut cells = [Cell::numbered(0); MOST_EMPTIES];
+    let count = write_order(board, seed, k, &mut cells);
     let black = stones_after(board, to_move, Colour::Black, &cells[..count]);
     let white = stones_after(board, to_move, Colour::White, &cells[..count]);
     Board::of(board.size(), black, white)
@@ -50,14 +71,21 @@ pub fn playout(board: &Board, to_move: Colour, seed: u64, k: u64) -> Colour
     ensures value { result ≡ playout_of board.now to_move seed k }
     ensures joined { let full = filled board.now to_move seed k in (result ≡ Colour.Black) ↔ Joined full.size Colour.Black full.black }
 {
-    let mut cells = [Cell::at(board.size(), 0, 0); MOST_CELLS];
-    let count = deal(board, seed, k, &mut cells);
+    let mut cells = [Cell::numbered(0); MOST_EMPTIES];
+    let count = write_order(board, seed, k, &mut cells);
     // Only Black's stones say who won.
     let stones = stones_after(board, to_move, Colour::Black, &cells[..count]);
-    let black_won = joined(stones, Colour::Black, board.size());
-    if black_won {
-        Colour::Black
-    } else {
-        Colour::White
+    winner(stones, board.size())
+}
+
+/// Playout `k` of a search with this seed: its filled board and its result.
+pub fn play(board: &Board, to_move: Colour, seed: u64, k: u64) -> Ending
+    ensures full { result.full ≡ filled board.now to_move seed k }
+    ensures winner { result.winner ≡ playout_of board.now to_move seed k }
+{
+    let full = fill(board, to_move, seed, k);
+    Ending {
+        full,
+        winner: winner(full.stones(Colour::Black), full.size()),
     }
 }

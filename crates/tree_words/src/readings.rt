@@ -65,7 +65,7 @@ pub fn block(words: &[u64], at: u32) -> Block
     let at = at as usize;
     Block {
         parent: words[at] as u32,
-        empties: CellSet::numbered(
+        empties: CellSet::of_bits(
             (u128::from(words[at + HIGH_EMPTIES_WORD]) << HIGH_EMPTIES_SHIFT)
                 + u128::from(words[at + LOW_EMPTIES_WORD]),
         ),

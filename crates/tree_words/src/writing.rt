@@ -44,7 +44,7 @@ pub fn write_block(
     ensures count { result ≡ length (listed size cells) }
 {
     let count = write_moves(words, start, cells, size);
-    let bits = empties.number();
+    let bits = empties.bits();
     words[start] = parent as u64;
     words[start + LOW_EMPTIES_WORD] = (bits % (1 << HIGH_EMPTIES_SHIFT)) as u64;
     words[start + HIGH_EMPTIES_WORD] = (bits >> HIGH_EMPTIES_SHIFT) as u64;

@@ -3,7 +3,7 @@ use Rattle.std.proofs.lemmas.List.Sorted.{length_permutation}
 use Rattle.play_out.specs.Fills.{ListsEmpties}
 use Rattle.play_out.proofs.Shuffles.{front_is, dealt}
 use Rattle.play_out.proofs.Counting.{empties_listed, empties_moved}
-use Rattle.play_out.proofs.order.deal.Goals as goal
+use Rattle.play_out.proofs.order.write_order.Goals as goal
 
 -- the shuffled cells are as many as the empty cells
 as_many : (c : goal.After-cells-1) → length c.shuffle.new.cells ≡ c.list_empties-count.result
