@@ -14,14 +14,10 @@ use Rattle.tree_words.specs.Blocks.{LinkedBlock, is_node}
 use Rattle.tree_words.specs.Paths.{root_state, node_state}
 use Rattle.tree_words.specs.Walks.{plus}
 use Rattle.tree_words.specs.Trees.{oldest_first}
-use Rattle.tree_words.specs.Sequence.{Outcome, game_of}
+use Rattle.play_out.specs.declared.playouts.Ending.{Ending}
+use Rattle.tree_words.specs.Sequence.{game_of}
 use Rattle.tree_words.specs.Descents.{adds, sees}
 use Rattle.seq_search.specs.Descending.{steps_below}
-
--- who won
-pub won : (p : Position) (player : Colour) (seed k : ℕ) (full : Position) (t : Bool) → full ≡ filled p player seed k → t ≡ is_joined full.size Black full.black → cond t Black White ≡ playout_of p player seed k
-unfolding playout_of
-won p player seed k full t e is = ap (λ (u : Bool). cond u Black White) is ∙ ap (λ (f : Position). cond (is_joined f.size Black f.black) Black White) e
 
 -- the seen words of a block, one by one
 pub sighted-none : (b set amount : ℕ) (words : List ℕ) → Sighted b 0 set amount words words
@@ -75,7 +71,7 @@ module _ (b n set amount : ℕ) (before now : List ℕ) (s : Sighted b n set amo
       last k l = grind arith
 
 -- how far the adds have come: the way is gone down to x, the counts of x are still to come, and these are the steps that are left
-pub record Adding (s : Setting) (bs : List LinkedBlock) (o : Outcome) (before now : List ℕ) (x : ℕ) (who : Colour) (left : List ℕ) : Type 0 where
+pub record Adding (s : Setting) (bs : List LinkedBlock) (o : Ending) (before now : List ℕ) (x : ℕ) (who : Colour) (left : List ℕ) : Type 0 where
   pub long : length now ≡ length before
   pub node : is_node (root_at s) bs x ≡ true
   pub player : who ≡ (node_state s bs x).player

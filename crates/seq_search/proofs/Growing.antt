@@ -10,7 +10,8 @@ use Rattle.tree_words.specs.Paths.{NodeState, root_state, node_state, board_of}
 use Rattle.tree_words.specs.Complete.{HasEmpties, Complete, AreComplete, allowed_cells}
 use Rattle.tree_words.specs.declared.layout.TheConstants.{MOST_BLOCK_WORDS}
 use Rattle.tree_words.specs.Walks.{nothing, Game, AtMost}
-use Rattle.tree_words.specs.Sequence.{Outcome, asks, gets_block, next_after, size_below, game_of}
+use Rattle.play_out.specs.declared.playouts.Ending.{Ending}
+use Rattle.tree_words.specs.Sequence.{asks, gets_block, next_after, size_below, game_of}
 use Rattle.tree_words.specs.Trees.{oldest_first}
 use Rattle.tree_words.specs.Descents.{NewBlock, Widened, Fine, leaf_at, state_at, top, Inside, config_of}
 use Rattle.tree_words.proofs.BlockLaws.{same_is, other_is, bool_is, either_true, true_both, le_of, lt_of, covers_of, covers_if, has-at, not_both, apart}
@@ -240,7 +241,7 @@ module _ (s : Setting) (bs : List LinkedBlock) (before after : List ℕ) (k : �
       → Widened (game_of s) (root_state s) (root_at s) (config_of bs before) (config_of (n ∷ bs) after)
   unfolding n
   new-widened wide rule =
-      let g : Game NodeState Outcome = game_of s in
+      let g : Game NodeState Ending = game_of s in
       let st : Count × NodeState = state_at g (tally_in before) (seen_in before) (oldest_first bs) (root_at s) (root_state s) in
       let count : tally_in before leaf ≡ st.0 = ap (tally_in before) is_leaf ∙ sym (state-count g (fair_game s) (tally_in before) (seen_in before) (oldest_first bs) (root_at s) (root_state s)) in
       let new : NewBlock g (root_state s) (root_at s) (config_of bs before) (config_of (n ∷ bs) after) n = record {
@@ -280,7 +281,7 @@ none-all : (s : Setting) (bs : List LinkedBlock) (before after : List ℕ) (k le
     → length after ≡ length before → ((i : ℕ) → 1 ≤ i → get_or after i 0 ≡ get_or before i 0)
     → Holds s bs after k × Widened (game_of s) (root_state s) (root_at s) (config_of bs before) (config_of bs after) × KeepsRecords s before after
 none-all s bs before after k leaf p h is_leaf is_spot narrow rule grew most long same =
-    let g : Game NodeState Outcome = game_of s in
+    let g : Game NodeState Ending = game_of s in
     let st : Count × NodeState = state_at g (tally_in before) (seen_in before) (oldest_first bs) (root_at s) (root_state s) in
     let count : tally_in before leaf ≡ st.0 = ap (tally_in before) is_leaf ∙ sym (state-count g (fair_game s) (tally_in before) (seen_in before) (oldest_first bs) (root_at s) (root_state s)) in
     let tally : (w : ℕ) → tally_in after w ≡ tally_in before w = λ w. ap count_in (same (w + 2) (omega arith)) in

@@ -15,7 +15,8 @@ use Rattle.tree_words.specs.Paths.{NodeState, root_state, state_after, mover_at,
 use Rattle.tree_words.specs.Complete.{cells_below}
 use Rattle.tree_words.specs.Walks.{nothing, plus, AtMost}
 use Rattle.tree_words.specs.Trees.{oldest_first}
-use Rattle.tree_words.specs.Sequence.{Outcome, one, gain_of, glimpse_of, game_of, amount_of}
+use Rattle.play_out.specs.declared.playouts.Ending.{Ending}
+use Rattle.tree_words.specs.Sequence.{one, gain_of, glimpse_of, game_of, amount_of}
 use Rattle.tree_words.specs.Descents.{pick, adds_leaf, adds_inner, adds, sees_leaf, sees_inner, sees, steps_inner, Bare}
 use Rattle.tree_words.proofs.BlockLaws.{eq_of, same_is, bool_is, has-at}
 use Rattle.tree_words.proofs.Down.{plus-nothing, not_both, never, child-has, pick-in}
@@ -74,7 +75,7 @@ word-glimpse : (n : ℕ) (t u : Bool) → wins_in n + 1 < 2 ^ 32 → count_in (n
 word-glimpse n true u l = count-more n u l
 word-glimpse n false u l = ap count_in (let z : n + 0 ≡ n = omega arith in z) ∙ sym (plus-nothing (count_in n))
 
-glimpse-is : (o : Outcome) (p : NodeState) (who : Colour) (c : ℕ) → who ≡ p.player → cond (has_cell (stones_of o.full who) c) (one (is_same o.winner who)) nothing ≡ glimpse_of o p c
+glimpse-is : (o : Ending) (p : NodeState) (who : Colour) (c : ℕ) → who ≡ p.player → cond (has_cell (stones_of o.full who) c) (one (is_same o.winner who)) nothing ≡ glimpse_of o p c
 unfolding glimpse_of
 glimpse-is o p who c e = ap (λ (z : Colour). cond (has_cell (stones_of o.full z) c) (one (is_same o.winner z)) nothing) e
 
@@ -92,7 +93,7 @@ head-of a b l m e = ap (λ (z : List ℕ). get_or z 0 0) e
 tail-of : (a b : ℕ) (l m : List ℕ) → a ∷ l ≡ b ∷ m → l ≡ m
 tail-of a b l m e = ap (λ (z : List ℕ). drop 1 z) e
 
-module _ (s : Setting) (bs : List LinkedBlock) (o : Outcome) (before : List ℕ) (k : ℕ) (h : Holds s bs before k) (few : k ≤ 1000000) where
+module _ (s : Setting) (bs : List LinkedBlock) (o : Ending) (before : List ℕ) (k : ℕ) (h : Holds s bs before k) (few : k ≤ 1000000) where
   -- the leaf has no steps
   pub steps-none : (x : ℕ) → is_node (root_at s) bs x ≡ true → link_in before x ≡ 0 → steps_below s bs before x ≡ []
   steps-none x n e =
@@ -291,7 +292,7 @@ kid-small s z c l = let f = few-cells s.board.size z.position.most in omega (ari
 abbrev pub HasWalked : Setting → List ℕ → Descent → Type 0
 HasWalked s before d = (bs : List LinkedBlock) × (k : ℕ) × (k < s.knobs.playouts) × Holds s bs before k × Descended s bs before d
 
-abbrev pub Adds : Setting → List ℕ → Descent → Outcome → List ℕ → ℕ → Colour → List ℕ → Type 0
+abbrev pub Adds : Setting → List ℕ → Descent → Ending → List ℕ → ℕ → Colour → List ℕ → Type 0
 Adds s before d o now x who left = (bs : List LinkedBlock) (k : ℕ) → k < s.knobs.playouts → Holds s bs before k → Descended s bs before d → Adding s bs o before now x who left
 
 few-walks : (s : Setting) (k : ℕ) → IsSetting s → k < s.knobs.playouts → k ≤ 1000000
@@ -307,7 +308,7 @@ pub record MaySee (size amount : ℕ) (words : List ℕ) (block : ℕ) : Type 0 
   pub small : (j : ℕ) → j < slice_index words (block + 3) → slice_index words (node_of block j + 3) + amount < 2 ^ 64
 
 -- where the adds begin
-pub adds-begin : (s : Setting) (before : List ℕ) (d : Descent) (o : Outcome) (x : ℕ) (who : Colour) → x ≡ root_at s → who ≡ s.player → Adds s before d o before x who (drop 0 (steps_in d))
+pub adds-begin : (s : Setting) (before : List ℕ) (d : Descent) (o : Ending) (x : ℕ) (who : Colour) → x ≡ root_at s → who ≡ s.player → Adds s before d o before x who (drop 0 (steps_in d))
 adds-begin s before d o x who at same bs k l h e =
     let g = game_of s in let p = tally_in before in let q = seen_in before in let os = oldest_first bs in
     let spot : node_state s bs x ≡ root_state s = ap (node_state s bs) at ∙ up-root (root_state s) (λ c y above. state_after above (cell_at c (place c y))) (root_at s) bs h.linked.order in
@@ -321,7 +322,7 @@ adds-begin s before d o x who at same bs k l h e =
       rest = sym e.steps ∙ ap (steps_below s bs before) (sym at);
     }
 
-module _ (s : Setting) (before : List ℕ) (d : Descent) (o : Outcome) (now : List ℕ) (x : ℕ) (who : Colour) (left : List ℕ) (z : IsSetting s) (a : Adds s before d o now x who left) where
+module _ (s : Setting) (before : List ℕ) (d : Descent) (o : Ending) (now : List ℕ) (x : ℕ) (who : Colour) (left : List ℕ) (z : IsSetting s) (a : Adds s before d o now x who left) where
   -- the node's tally can be gained
   pub pace-fits : HasWalked s before d → x + 4 ≤ length now
   pace-fits v = node-room s v.0 o before v.1 v.3 (few-walks s v.1 z v.2) now x who left (a v.0 v.1 v.2 v.3 v.4)

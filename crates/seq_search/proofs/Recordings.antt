@@ -7,7 +7,8 @@ use Rattle.tree_words.specs.Blocks.{LinkedBlock, child, place, cell_at, is_node,
 use Rattle.tree_words.specs.Paths.{NodeState, root_state}
 use Rattle.tree_words.specs.Complete.{AreComplete}
 use Rattle.tree_words.specs.Walks.{nothing, plus, Game, AtMost}
-use Rattle.tree_words.specs.Sequence.{Outcome, game_of}
+use Rattle.play_out.specs.declared.playouts.Ending.{Ending}
+use Rattle.tree_words.specs.Sequence.{game_of}
 use Rattle.tree_words.specs.Trees.{oldest_first}
 use Rattle.tree_words.specs.Descents.{Added, pick, adds, sees_leaf, sees_inner, sees, top, Out, Inside, config_of}
 use Rattle.tree_words.proofs.Down.{down-split}
@@ -35,7 +36,7 @@ no-word : (n : ℕ) → count_in n ≡ nothing → n ≡ 0
 no-word n e = let v = ap (λ (c : Count). c.visits) e in let w = ap (λ (c : Count). c.wins) e in omega (arith, v, w)
 
 -- the adds, and then the record of playout k
-module _ (s : Setting) (bs : List LinkedBlock) (before middle : List ℕ) (k n : ℕ) (o : Outcome) (l : k < s.knobs.playouts) (h : Holds s bs before k) (c : Counted s bs o before middle) where
+module _ (s : Setting) (bs : List LinkedBlock) (before middle : List ℕ) (k n : ℕ) (o : Ending) (l : k < s.knobs.playouts) (h : Holds s bs before k) (c : Counted s bs o before middle) where
   lies : (x : ℕ) → is_node (root_at s) bs x ≡ true → (root_at s ≤ x) × (x + 4 ≤ next_in before)
   lies x m = ⊎_elim (λ (q : x ≡ root_at s). (omega (arith, q), omega (arith, q, h.next.0)))
       (λ (q : (area_at s ≤ x) × (x + 4 ≤ next_in before) × (x + 4 ≤ end_of s)). (omega (arith, q.0), q.1))
@@ -60,7 +61,7 @@ module _ (s : Setting) (bs : List LinkedBlock) (before middle : List ℕ) (k n :
   pub recorded-holds : Holds s bs (set middle (2 + k) n) (k + 1)
   recorded-holds =
       let after : List ℕ = set middle (2 + k) n in
-      let g : Game NodeState Outcome = game_of s in
+      let g : Game NodeState Ending = game_of s in
       let r : ℕ = root_at s in
       let clear : (x : ℕ) (i : ℕ) → is_node r bs x ≡ true → i < 2 → (w : ℕ) → is_node r bs w ≡ true → (x + i ≢ w + 2) × (x + i ≢ w + 3)
       = λ x i m li w t. (

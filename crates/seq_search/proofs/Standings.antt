@@ -18,7 +18,8 @@ use Rattle.tree_words.specs.Growth.{root_end, other_words, ends_at, Grown}
 use Rattle.tree_words.specs.declared.settings.TheConstants.{MOST_WORKERS}
 use Rattle.tree_words.specs.Closing.{Ends, IsClosed}
 use Rattle.tree_words.specs.Walks.{nothing, plus, Game, AtMost}
-use Rattle.tree_words.specs.Sequence.{Outcome, outcome_of, gain_of, glimpse_of, size_below, asks, gets_block, game_of}
+use Rattle.play_out.specs.declared.playouts.Ending.{Ending}
+use Rattle.tree_words.specs.Sequence.{outcome_of, gain_of, glimpse_of, size_below, asks, gets_block, game_of}
 use Rattle.tree_words.specs.Trees.{oldest_first}
 use Rattle.tree_words.specs.Descents.{ends, NewBlock, Widened, Added, pick, leaf_at, config_of}
 use Rattle.tree_words.proofs.BlockLaws.{eq_of, same_is, other_is, bool_is, either_true, has-at}
@@ -147,7 +148,7 @@ pub standing-widened : (s : Setting) (bs after_bs : List LinkedBlock) (words aft
     → IsSearched s after_bs after k
 standing-widened s bs cs words after k set few h st h' w keeps =
     let r : ℕ = root_at s in
-    let g : Game NodeState Outcome = game_of s in
+    let g : Game NodeState Ending = game_of s in
     let u : NodeState = root_state s in
     let v : Count = (ends g u r (config_of bs words)).0 in
     let p : NodeState = (ends g u r (config_of bs words)).1 in
@@ -189,7 +190,7 @@ standing-widened s bs cs words after k set few h st h' w keeps =
     (bool_is (asks s (next_in words) v p))))
     w.block
 
-one_gain : (o : Outcome) (p : NodeState) → (gain_of o p).visits ≡ 1
+one_gain : (o : Ending) (p : NodeState) → (gain_of o p).visits ≡ 1
 unfolding gain_of
 one_gain o p = refl
 
@@ -197,7 +198,7 @@ sum_zero : (a b c : Count) → a ≡ plus b c → a.visits ≡ 0 → b.visits �
 sum_zero a b c e z = omega (arith, ap (λ (v : Count). v.visits) e, z)
 
 -- after the walk has added
-pub standing-added : (s : Setting) (bs : List LinkedBlock) (words after : List ℕ) (k n : ℕ) (o : Outcome) → k < s.knobs.playouts
+pub standing-added : (s : Setting) (bs : List LinkedBlock) (words after : List ℕ) (k n : ℕ) (o : Ending) → k < s.knobs.playouts
     → Holds s bs words k → IsSearched s bs words k
     → o ≡ outcome_of s k (ends (game_of s) (root_state s) (root_at s) (config_of bs words)).1
     → asks s (next_in words) (ends (game_of s) (root_state s) (root_at s) (config_of bs words)).0 (ends (game_of s) (root_state s) (root_at s) (config_of bs words)).1 ≡ false
@@ -206,7 +207,7 @@ pub standing-added : (s : Setting) (bs : List LinkedBlock) (words after : List �
     → IsSearched s bs after (k + 1)
 standing-added s bs words after k n o low h st played sated a rec at won =
     let r : ℕ = root_at s in
-    let g : Game NodeState Outcome = game_of s in
+    let g : Game NodeState Ending = game_of s in
     let p : ℕ → Count = tally_in words in
     let q : ℕ → Count = seen_in words in
     let v : Count = (ends g (root_state s) r (config_of bs words)).0 in
@@ -231,7 +232,7 @@ standing-added s bs words after k n o low h st played sated a rec at won =
     let now : IsRecord s bs after k = record {
       node = ap (is_node r bs) leaf ∙ here.0;
       below = λ z. here.1 (sym leaf ∙ z);
-      result = ap winner_in rec.is ∙ (won ∙ sym (ap (λ (z : Outcome). z.winner) outcome));
+      result = ap winner_in rec.is ∙ (won ∙ sym (ap (λ (z : Ending). z.winner) outcome));
     } in
     let stands : IsSearched s bs after (suc k) = record {
       exact = exact;

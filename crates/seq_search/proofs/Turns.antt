@@ -7,7 +7,8 @@ use Rattle.tree_words.specs.Settings.{Setting, IsSetting}
 use Rattle.tree_words.specs.Words.{root_at, next_in, leaf_in, winner_in, tally_in, seen_in}
 use Rattle.tree_words.specs.Blocks.{LinkedBlock, one_if}
 use Rattle.tree_words.specs.Paths.{root_state}
-use Rattle.tree_words.specs.Sequence.{Outcome, outcome_of, asks, game_of}
+use Rattle.play_out.specs.declared.playouts.Ending.{Ending}
+use Rattle.tree_words.specs.Sequence.{outcome_of, asks, game_of}
 use Rattle.tree_words.specs.Trees.{oldest_first}
 use Rattle.tree_words.specs.Descents.{ends, Widened, Added, leaf_at, config_of}
 use Rattle.tree_words.proofs.BlockLaws.{same_is, other_is}
@@ -33,7 +34,7 @@ standing-asks s bs after_bs words after k set h w =
     widened-asks s r (config_of bs words) (config_of after_bs after) (omega arith) (sprouts-of r after_bs whole) (root-out r after_bs h.linked.order) w
 
 -- One walk: the leaf gets its block, or none, and the walk adds.
-pub standing-walked : (s : Setting) (bs after_bs : List LinkedBlock) (words middle after : List ℕ) (k n : ℕ) (o : Outcome) → IsSetting s → k < s.knobs.playouts
+pub standing-walked : (s : Setting) (bs after_bs : List LinkedBlock) (words middle after : List ℕ) (k n : ℕ) (o : Ending) → IsSetting s → k < s.knobs.playouts
     → Holds s bs words k → IsSearched s bs words k
     → Holds s after_bs middle k → Widened (game_of s) (root_state s) (root_at s) (config_of bs words) (config_of after_bs middle) → KeepsRecords s words middle
     → o ≡ outcome_of s k (ends (game_of s) (root_state s) (root_at s) (config_of after_bs middle)).1

@@ -7,14 +7,10 @@ use Rattle.tree_words.specs.Blocks.{LinkedBlock, one_if, is_node}
 use Rattle.tree_words.specs.Paths.{root_state}
 use Rattle.tree_words.specs.Walks.{plus}
 use Rattle.tree_words.specs.Trees.{oldest_first}
-use Rattle.tree_words.specs.Sequence.{Outcome, game_of}
+use Rattle.play_out.specs.declared.playouts.Ending.{Ending}
+use Rattle.tree_words.specs.Sequence.{game_of}
 use Rattle.tree_words.specs.Descents.{adds, sees}
-use Rattle.seq_search.specs.declared.adding.Ending.{Ending}
 use Rattle.tree_words.specs.declared.layout.TheConstants.{HEADER_WORDS, NODE_WORDS, TALLY_WORD, SEEN_WORD}
-
--- what a playout gave
-abbrev pub outcome_in : Ending → Outcome
-outcome_in e = record { winner = e.winner; full = e.full }
 
 -- the first word of the node of place k of the block at b
 abbrev pub node_of : ℕ → ℕ → ℕ
@@ -28,7 +24,7 @@ pub record Sighted (b n set amount : ℕ) (before after : List ℕ) : Type 0 whe
   pub others : (i : ℕ) → ((k : ℕ) → k < n → i ≢ node_of b k + SEEN_WORD) → slice_index after i ≡ slice_index before i
 
 -- Each node has the counts that the walk adds where its playout gave o, and all other words are as before.
-pub record Counted (s : Setting) (bs : List LinkedBlock) (o : Outcome) (before after : List ℕ) : Type 0 where
+pub record Counted (s : Setting) (bs : List LinkedBlock) (o : Ending) (before after : List ℕ) : Type 0 where
   pub long : length after ≡ length before
   pub tally : (w : ℕ) → is_node (root_at s) bs w ≡ true → tally_in after w
       ≡ plus (tally_in before w) (adds (game_of s) (tally_in before) (seen_in before) o (oldest_first bs) (root_at s) (root_state s) w)

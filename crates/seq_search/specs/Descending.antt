@@ -10,8 +10,8 @@ use Rattle.tree_words.specs.Sequence.{game_of}
 use Rattle.tree_words.specs.Descents.{leaf_at, state_at, steps_at}
 use Rattle.tree_words.specs.Counts.{count_below}
 use Rattle.seq_search.specs.declared.descending.Descent.{Descent}
-use Rattle.tree_words.specs.declared.layout.TheConstants.{MOST_NODES}
 use Rattle.seq_search.specs.declared.descending.TheConstants.{MOST_STEPS}
+use Rattle.hex_cells.specs.declared.board_size.TheConstants.{MOST_CELLS}
 
 -- the board and the player to move
 abbrev pub spot_in : Descent → NodeState
@@ -23,7 +23,7 @@ steps_in d = take d.count d.steps
 
 -- how many cells of the board are empty
 unfoldable pub left_on : Position → ℕ
-left_on p = count_below MOST_NODES (is_empty_at p)
+left_on p = count_below MOST_CELLS (is_empty_at p)
 
 -- There is room for its further steps: each takes an empty cell.
 pub record HasRoom (d : Descent) : Type 0 where

@@ -8,49 +8,18 @@ ghost use Rattle.tree_words.specs.Words.{cell_in, root_at};
 ghost use Rattle.tree_words.specs.Paths.{root_state};
 ghost use Rattle.tree_words.specs.Sequence.{game_of, amount_of};
 ghost use Rattle.tree_words.specs.Descents.{Added, config_of};
-ghost use Rattle.play_out.specs.Fills.{filled, playout_of};
 ghost use Rattle.seq_search.specs.Steps.{Holds, Records};
 ghost use Rattle.seq_search.specs.Descending.{Descended};
-ghost use Rattle.seq_search.specs.Adding.{Counted, Sighted, node_of, outcome_in};
+ghost use Rattle.seq_search.specs.Adding.{Counted, Sighted, node_of};
 
 use super::descending::Descent;
-use hex_board::Board;
-use hex_cells::{Cell, CellSet, Colour};
-use play_out::fill;
+use hex_cells::{Cell, CellSet, Colour, MOST_CELLS};
+use play_out::Ending;
 use tree_words::layout::{
-    COUNT_WORD, HEADER_WORDS, LINK_WORD, MOST_NODES, NODE_WORDS, RECORDS_AT, RECORD_UNIT, SEEN_WORD,
+    COUNT_WORD, HEADER_WORDS, LINK_WORD, NODE_WORDS, RECORDS_AT, RECORD_UNIT, SEEN_WORD,
     TALLY_WORD, VISIT,
 };
 use tree_words::{Shape, cell_of};
-
-/// How a playout ended: the filled board, and who won.
-#[derive(Drop)]
-pub(crate) struct Ending {
-    /// The filled board.
-    pub(crate) full: Board,
-    /// Black where Black is joined on it, else White.
-    pub(crate) winner: Colour,
-}
-
-/// Playout `k` of a search with this seed.
-pub(crate) fn play(board: &Board, player: Colour, seed: u64, k: u64) -> Ending
-    ensures full { result.full ≡ filled board.now player seed k }
-    ensures winner { result.winner ≡ playout_of board.now player seed k }
-{
-    let full = fill(board, player, seed, k);
-    let black_won = full.joined(Colour::Black);
-    if black_won {
-        Ending {
-            full,
-            winner: Colour::Black,
-        }
-    } else {
-        Ending {
-            full,
-            winner: Colour::White,
-        }
-    }
-}
 
 // One visit, and one win where the player is the winner.
 fn amount(player: Colour, winner: Colour) -> u64
@@ -71,7 +40,7 @@ fn gain(words: &mut [u64], node: usize, amount: u64)
 // Adds to the seen word of each node of the block whose cell is in the set.
 fn see(words: &mut [u64], block: usize, stones: CellSet, amount: u64)
     requires within { block + words_of (slice_index words.old (block + COUNT_WORD)) ≤ length words.old }
-    requires cells { (k : ℕ) → k < slice_index words.old (block + COUNT_WORD) → cell_in (slice_index words.old (node_of block k)) < MOST_NODES }
+    requires cells { (k : ℕ) → k < slice_index words.old (block + COUNT_WORD) → cell_in (slice_index words.old (node_of block k)) < MOST_CELLS }
     requires small { (k : ℕ) → k < slice_index words.old (block + COUNT_WORD) → slice_index words.old (node_of block k + SEEN_WORD) + amount < 2 ^ 64 }
     ensures { Sighted block (slice_index words.old (block + COUNT_WORD)) stones amount words.old words.new }
 {
@@ -89,7 +58,7 @@ fn see(words: &mut [u64], block: usize, stones: CellSet, amount: u64)
 fn count(words: &mut [u64], shape: &Shape, walk: &Descent, ending: &Ending)
     requires walked { (bs : List LinkedBlock) × (k : ℕ) × (k < shape.now.knobs.playouts) × Holds shape.now bs words.old k × Descended shape.now bs words.old walk.now }
     ensures { (bs : List LinkedBlock) (k : ℕ) → k < shape.now.knobs.playouts → Holds shape.now bs words.old k → Descended shape.now bs words.old walk.now
-        → Counted shape.now bs (outcome_in ending.now) words.old words.new }
+        → Counted shape.now bs ending.now words.old words.new }
 {
     // What each shape keeps of itself.
     let _board = shape.board();
@@ -123,7 +92,7 @@ pub(crate) fn add(words: &mut [u64], shape: &Shape, walk: &Descent, k: u32, endi
     requires walked { (bs : List LinkedBlock) × Holds shape.now bs words.old k × Descended shape.now bs words.old walk.now }
     ensures holds { (bs : List LinkedBlock) → Holds shape.now bs words.old k → Descended shape.now bs words.old walk.now → Holds shape.now bs words.new (k + 1) }
     ensures added { (bs : List LinkedBlock) → Holds shape.now bs words.old k → Descended shape.now bs words.old walk.now
-        → Added (game_of shape.now) (root_state shape.now) (root_at shape.now) (outcome_in ending.now) (config_of bs words.old) (config_of bs words.new) }
+        → Added (game_of shape.now) (root_state shape.now) (root_at shape.now) ending.now (config_of bs words.old) (config_of bs words.new) }
     ensures record { Records shape.now k (RECORD_UNIT * walk.now.node + one_if (is_same ending.now.winner White)) words.old words.new }
 {
     count(words, shape, walk, ending);

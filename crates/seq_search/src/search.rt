@@ -6,9 +6,10 @@ ghost use Rattle.tree_words.specs.Sequence.{seq_of};
 ghost use Rattle.tree_words.specs.Trees.{IsTreeOf};
 ghost use Rattle.seq_search.specs.Searching.{Searched};
 
-use super::adding::{add, play};
+use super::adding::add;
 use super::opening::opening_words;
 use super::reaching::reach;
+use play_out::play;
 use std::alloc::Global;
 use tree_words::layout::TICKET_AT;
 use tree_words::{Closed, Memory, Shape};

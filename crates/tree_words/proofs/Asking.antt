@@ -12,7 +12,8 @@ use Rattle.tree_words.specs.Blocks.{LinkedBlock, child, has, place, cell_at}
 use Rattle.tree_words.specs.Paths.{NodeState, root_state, state_after, node_state}
 use Rattle.tree_words.specs.declared.layout.TheConstants.{MOST_BLOCK_WORDS}
 use Rattle.tree_words.specs.Walks.{nothing, Game, leaf_state}
-use Rattle.tree_words.specs.Sequence.{Outcome, size_below, asks, gets_block, next_after, game_of}
+use Rattle.play_out.specs.declared.playouts.Ending.{Ending}
+use Rattle.tree_words.specs.Sequence.{size_below, asks, gets_block, next_after, game_of}
 use Rattle.tree_words.specs.Descents.{Config, ends, NewBlock, Widened, pick, leaf_inner, leaf_at, state_leaf, state_inner, state_at, top, Out, Sprouts}
 use Rattle.tree_words.proofs.BlockLaws.{true_both, le_of, lt_of, same_is, bool_is}
 use Rattle.tree_words.proofs.RootLaws.{filter_some, few_cells}
@@ -129,7 +130,7 @@ module _ {S O : Type 0} (g : Game S O) (fair : Fair g) (p q : ℕ → Count) whe
 pub widened-asks : (s : Setting) (r : ℕ) (c d : Config) → 0 < s.knobs.expand → Sprouts d.blocks → Out d.blocks r → Widened (game_of s) (root_state s) r c d
     → asks s d.next (ends (game_of s) (root_state s) r d).0 (ends (game_of s) (root_state s) r d).1 ≡ false
 widened-asks s r c d l sp out w =
-    let g : Game NodeState Outcome = game_of s in
+    let g : Game NodeState Ending = game_of s in
     let u : NodeState = root_state s in
     let v : Count = (ends g u r c).0 in
     let p : NodeState = (ends g u r c).1 in

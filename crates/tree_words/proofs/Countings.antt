@@ -11,7 +11,8 @@ use Rattle.tree_words.specs.Blocks.{LinkedBlock, child, has, place, cell_at, is_
 use Rattle.tree_words.specs.Paths.{NodeState, root_state, state_after, mover_at, node_state}
 use Rattle.tree_words.specs.Walks.{nothing, plus, AtMost}
 use Rattle.tree_words.specs.Trees.{oldest_first}
-use Rattle.tree_words.specs.Sequence.{Outcome, one, gain_of, glimpse_of, game_of, amount_of}
+use Rattle.play_out.specs.declared.playouts.Ending.{Ending}
+use Rattle.tree_words.specs.Sequence.{one, gain_of, glimpse_of, game_of, amount_of}
 use Rattle.tree_words.specs.Descents.{pick, adds_leaf, adds_inner, adds, sees_leaf, sees_inner, sees}
 use Rattle.tree_words.proofs.BlockLaws.{eq_of, other_is, apart}
 use Rattle.tree_words.proofs.Down.{down-split, not_both}
@@ -35,7 +36,7 @@ count-more n false l = λ i. record { visits = v n i; wins = w n i }
     w n = omega arith
 
 -- each walk adds at most one to a count
-gain-one : (o : Outcome) (p : NodeState) → AtMost 1 (gain_of o p)
+gain-one : (o : Ending) (p : NodeState) → AtMost 1 (gain_of o p)
 unfolding gain_of
 gain-one o p = one-one (is_same o.winner (mover_at p))
   where
@@ -50,7 +51,7 @@ at-most-if : (t : Bool) (a b : Count) → AtMost 1 a → AtMost 1 b → AtMost 1
 at-most-if true a b ha hb = ha
 at-most-if false a b ha hb = hb
 
-glimpse-one : (o : Outcome) (p : NodeState) (c : ℕ) → AtMost 1 (glimpse_of o p c)
+glimpse-one : (o : Ending) (p : NodeState) (c : ℕ) → AtMost 1 (glimpse_of o p c)
 unfolding glimpse_of
 glimpse-one o p c = at-most-if (has_cell (stones_of o.full p.player) c) (one (is_same o.winner p.player)) nothing (one-one (is_same o.winner p.player)) none-one
   where
@@ -85,7 +86,7 @@ has-one r (d ∷ bs) b c w g i j hb hc = ⊎_elim
     j)
     i
 
-module _ (s : Setting) (p q : ℕ → Count) (o : Outcome) where
+module _ (s : Setting) (p q : ℕ → Count) (o : Ending) where
   pub adds-one : (os : List LinkedBlock) (x : ℕ) (u : NodeState) (w : ℕ) → AtMost 1 (adds (game_of s) p q o os x u w)
   adds-one [] x u w = at-most-if (x == w) (gain_of o u) nothing (gain-one o u) none-one
   adds-one (b ∷ os) x u w = down-split (adds_leaf (game_of s) p q o) (adds_inner (game_of s) p q o) (λ (f : NodeState → ℕ → Count). AtMost 1 (f u w)) b os x

@@ -10,7 +10,8 @@ use Rattle.tree_words.specs.Blocks.{LinkedBlock, words_of, size, has, place, cel
 use Rattle.tree_words.specs.Paths.{NodeState, root_state, state_after, node_state, board_of}
 use Rattle.tree_words.specs.Complete.{HasEmpties, Complete, AreComplete, cells_below, allowed_cells}
 use Rattle.play_out.specs.Fills.{empties_of}
-use Rattle.tree_words.specs.Sequence.{Outcome, child_of, chosen_of, asks, next_after, size_below, game_of}
+use Rattle.play_out.specs.declared.playouts.Ending.{Ending}
+use Rattle.tree_words.specs.Sequence.{child_of, chosen_of, asks, next_after, size_below, game_of}
 use Rattle.tree_words.proofs.BlockLaws.{apart, up_same, same_is}
 use Rattle.tree_words.proofs.Down.{Fair}
 

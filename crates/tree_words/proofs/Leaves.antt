@@ -9,7 +9,8 @@ use Rattle.tree_words.specs.Words.{Count, root_at}
 use Rattle.tree_words.specs.Blocks.{LinkedBlock, child, has, place, cell_at, is_node, link_of, In, InOrder}
 use Rattle.tree_words.specs.Paths.{NodeState, root_state, is_on, enters, node_state}
 use Rattle.tree_words.specs.Walks.{nothing, Game}
-use Rattle.tree_words.specs.Sequence.{Outcome, gain_of, glimpse_of, child_of, chosen_of, game_of}
+use Rattle.play_out.specs.declared.playouts.Ending.{Ending}
+use Rattle.tree_words.specs.Sequence.{gain_of, glimpse_of, child_of, chosen_of, game_of}
 use Rattle.tree_words.specs.Trees.{oldest_first}
 use Rattle.tree_words.specs.Complete.{HaveNodes}
 use Rattle.tree_words.specs.Descents.{pairs_of, pick, leaf_inner, leaf_at, state_at, adds, sees, top, Out, Sprouts, Names, Inside}
@@ -101,16 +102,16 @@ module _ (s : Setting) (p q : ℕ → Count) (bs : List LinkedBlock) (w : Whole 
   leaf-spot =
       let r : ℕ = root_at s in
       let os : List LinkedBlock = oldest_first bs in
-      let g : Game NodeState Outcome = game_of s in
+      let g : Game NodeState Ending = game_of s in
       up-climb (state_step g) (root_state s) bs (leaf_at g p q os r)
       ∙ state-up g (fair_game s) p q os (λ (z : ℕ). root_state s) r (root_state s) (sprouts-of r bs w) (root-out r bs w.order) refl
 
-  pub adds-at : (o : Outcome) (x : ℕ) → adds (game_of s) p q o (oldest_first bs) (root_at s) (root_state s) x
+  pub adds-at : (o : Ending) (x : ℕ) → adds (game_of s) p q o (oldest_first bs) (root_at s) (root_state s) x
       ≡ cond (is_on s bs x (leaf_at (game_of s) p q (oldest_first bs) (root_at s))) (gain_of o (node_state s bs x)) nothing
   adds-at o x =
       let r : ℕ = root_at s in
       let os : List LinkedBlock = oldest_first bs in
-      let g : Game NodeState Outcome = game_of s in
+      let g : Game NodeState Ending = game_of s in
       let test : ℕ → Bool = λ z. z == x in
       let on : ℕ → Bool = λ z. test r || false in
       let lf : ℕ = leaf_at g p q os r in
@@ -118,12 +119,12 @@ module _ (s : Setting) (p q : ℕ → Count) (bs : List LinkedBlock) (w : Whole 
       adds-up g (fair_game s) p q o os (λ (z : ℕ). root_state s) on r x (root_state s) (sprouts-of r bs w) (root-out r bs w.order) refl (or_false (r == x) false refl)
       ∙ (λ i. cond (sym met i) (gain_of o (sym (up-climb (state_step g) (root_state s) bs x) i)) nothing)
 
-  pub sees-at : (o : Outcome) (b : LinkedBlock) (x : ℕ) → In b bs → has b x ≡ true → sees (game_of s) p q o (oldest_first bs) (root_at s) (root_state s) x
+  pub sees-at : (o : Ending) (b : LinkedBlock) (x : ℕ) → In b bs → has b x ≡ true → sees (game_of s) p q o (oldest_first bs) (root_at s) (root_state s) x
       ≡ cond (enters s bs b (leaf_at (game_of s) p q (oldest_first bs) (root_at s))) (glimpse_of o (node_state s bs b.parent) (cell_at b (place b x))) nothing
   sees-at o b x i h =
       let r : ℕ = root_at s in
       let os : List LinkedBlock = oldest_first bs in
-      let g : Game NodeState Outcome = game_of s in
+      let g : Game NodeState Ending = game_of s in
       let out : Out os r = root-out r bs w.order in
       let j : In b os = in-turned bs b i in
       let on : ℕ → Bool = λ z. has b r || false in
@@ -138,7 +139,7 @@ module _ (s : Setting) (p q : ℕ → Count) (bs : List LinkedBlock) (w : Whole 
   picked-at b x i h e =
       let r : ℕ = root_at s in
       let os : List LinkedBlock = oldest_first bs in
-      let g : Game NodeState Outcome = game_of s in
+      let g : Game NodeState Ending = game_of s in
       let out : Out os r = root-out r bs w.order in
       let j : In b os = in-turned bs b i in
       let test : ℕ → Bool = λ z. z == x in

@@ -13,7 +13,8 @@ use Rattle.tree_words.specs.Words.{Count, root_at, record_in, leaf_in, winner_in
 use Rattle.tree_words.specs.Blocks.{LinkedBlock, one_if, has, place, cell_at, up, is_node, In, InOrder, Follows}
 use Rattle.tree_words.specs.Paths.{NodeState, root_state, state_after, mover_at, path_of, is_on, enters, node_state, mover_of}
 use Rattle.tree_words.specs.Walks.{nothing, plus}
-use Rattle.tree_words.specs.Sequence.{Outcome, outcome_of, one, gain_of, glimpse_of}
+use Rattle.play_out.specs.declared.playouts.Ending.{Ending}
+use Rattle.tree_words.specs.Sequence.{outcome_of, one, gain_of, glimpse_of}
 use Rattle.tree_words.specs.Records.{leaf_of, outcome_in, IsRecord}
 use Rattle.tree_words.specs.Counts.{count_below, visits_at, is_seen, sights_at}
 use Rattle.tree_words.specs.Growth.{ends_at}
@@ -185,7 +186,7 @@ module _ (s : Setting) (bs : List LinkedBlock) (words : List ℕ) (k : ℕ) wher
       ≡ plus (sights_at s bs words k b y) (cond (enters s bs b (leaf_of words k)) (glimpse_of (outcome_in s bs words k) (node_state s bs b.parent) (cell_at b (place b y))) nothing)
   unfolding glimpse_of
   sights-more b y g i h =
-      let o : Outcome = outcome_in s bs words k in
+      let o : Ending = outcome_in s bs words k in
       let spot : node_state s bs y ≡ state_after (node_state s bs b.parent) (cell_at b (place b y)) = up-in (root_state s) (λ c z above. state_after above (cell_at c (place c z))) (root_at s) bs b y g i h in
       let mover : mover_of s bs y ≡ (node_state s bs b.parent).player = ap mover_at spot ∙ other_again (node_state s bs b.parent).player in
       more_sights (enters s bs b (leaf_of words k)) (has_cell (stones_of o.full (mover_of s bs y)) (cell_at b (place b y))) (is_same o.winner (mover_of s bs y)) (sights_at s bs words k b y)

@@ -9,10 +9,11 @@ use Rattle.tree_words.specs.Settings.{Setting}
 use Rattle.tree_words.specs.Words.{root_at, area_at, end_of, next_in}
 use Rattle.tree_words.specs.Blocks.{LinkedBlock, size, InOrder, Shows}
 use Rattle.tree_words.specs.Paths.{board_of}
+use Rattle.hex_cells.specs.declared.board_size.TheConstants.{MOST_CELLS}
 
 -- the set has just the empty cells of the board
 pub record HasEmpties (set : ℕ) (p : Position) : Type 0 where
-  pub small : set < 2 ^ 121
+  pub small : set < 2 ^ MOST_CELLS
   pub items : (k : ℕ) → has set k ≡ is_empty_at p k
 
 -- the number of the set of these cells

@@ -8,6 +8,7 @@ use Rattle.tree_words.specs.Complete.{allowed_cells}
 use Rattle.tree_words.specs.declared.roots.Row.{Row}
 use Rattle.tree_words.specs.declared.layout.TheConstants.{NODE_WORDS, HEADER_WORDS, COUNT_WORD, MOST_NODES}
 use Rattle.tree_words.specs.Blocks.{words_of}
+use Rattle.hex_cells.specs.declared.board_size.TheConstants.{MOST_CELLS}
 
 -- the first word of the root's block, and how many nodes it has
 abbrev pub root_link : Setting → List ℕ → ℕ
@@ -50,5 +51,5 @@ pub record HasRoot (s : Setting) (words : List ℕ) : Type 0 where
   pub few : root_count s words ≤ MOST_NODES
   pub cells : (i : ℕ) → i < root_count s words → (row_at s words i).cell ≡ slice_index (allowed_cells s) i
   pub on_board : (i : ℕ) → i < root_count s words → (row_at s words i).cell < s.board.size * s.board.size
-  pub numbers : (i : ℕ) → i < root_count s words → (row_at s words i).cell < MOST_NODES
+  pub numbers : (i : ℕ) → i < root_count s words → (row_at s words i).cell < MOST_CELLS
   pub rise : IsStrictlyIncreasing (allowed_cells s)

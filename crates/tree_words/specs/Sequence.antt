@@ -13,14 +13,10 @@ use Rattle.tree_words.specs.Paths.{NodeState, root_state, state_after, mover_at}
 use Rattle.tree_words.specs.Complete.{allowed_cells}
 use Rattle.tree_words.specs.Walks.{nothing, Tree, node, Game, fresh, walks}
 use Rattle.tree_words.specs.declared.layout.TheConstants.{NODE_WORDS, VISIT}
-
--- what a playout gives: who won, and the filled board
-pub record Outcome : Type 0 where
-  pub winner : Colour
-  pub full : Position
+use Rattle.play_out.specs.declared.playouts.Ending.{Ending}
 
 -- playout k from a spot
-unfoldable pub outcome_of : Setting → ℕ → NodeState → Outcome
+unfoldable pub outcome_of : Setting → ℕ → NodeState → Ending
 outcome_of s k p = record {
   winner = playout_of p.board p.player s.knobs.seed k;
   full = filled p.board p.player s.knobs.seed k;
@@ -44,12 +40,12 @@ abbrev pub amount_of : Bool → ℕ
 amount_of wins = VISIT + one_if wins
 
 -- a node of the path has one visit more, and one win more where its mover won
-unfoldable pub gain_of : Outcome → NodeState → Count
+unfoldable pub gain_of : Ending → NodeState → Count
 gain_of o p = one (is_same o.winner (mover_at p))
 
 -- a node of its block, whose parent has this spot, has one seen visit more where its cell holds a stone of its mover on the filled
 -- board, and one seen win more where that mover won
-unfoldable pub glimpse_of : Outcome → NodeState → ℕ → Count
+unfoldable pub glimpse_of : Ending → NodeState → ℕ → Count
 glimpse_of o p cell = if has (stones_of o.full p.player) cell then one (is_same o.winner p.player) else nothing
 
 -- the number of words of a block below this spot
@@ -73,7 +69,7 @@ unfoldable pub chosen_of : Setting → Count → List (Count × Count) → ℕ
 chosen_of s v children = choice_of v.visits s.knobs.weight (map child_of children)
 
 -- the search of Hex
-abbrev pub game_of : Setting → Game NodeState Outcome
+abbrev pub game_of : Setting → Game NodeState Ending
 game_of s = record {
   choose = chosen_of s;
   next = state_after;

@@ -14,6 +14,8 @@
 //! a record         2 * leaf, and 1 more where White won
 //! ```
 
+use hex_cells::MOST_CELLS;
+
 /// NEXT is the first word.
 pub const NEXT_AT: usize = 0;
 
@@ -65,8 +67,8 @@ pub const VISIT: u64 = 1 << VISITS_SHIFT;
 /// A record is so many times its leaf's first word, so that its lowest bit tells who won.
 pub const RECORD_UNIT: u64 = 2;
 
-/// A block has a node for each empty cell of a board, of which the largest has 121 cells.
-pub const MOST_NODES: usize = 121;
+/// A block has at most a node for each cell of the largest board.
+pub const MOST_NODES: usize = MOST_CELLS as usize;
 
-/// The words of the largest block: those of its header and of 121 nodes.
-pub const MOST_BLOCK_WORDS: usize = 488;
+/// The words of the largest block: 488.
+pub const MOST_BLOCK_WORDS: usize = HEADER_WORDS + NODE_WORDS * MOST_NODES;
