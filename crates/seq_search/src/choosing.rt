@@ -7,7 +7,7 @@ ghost use Rattle.seq_search.specs.Choosing.{children_in, CanBeScored};
 
 use super::layout::{COUNT_WORD, NODE_WORDS, SEEN_WORD, TALLY_WORD};
 use tree_words::{visits_of, wins_of};
-use uct_table::score_above;
+use uct_table::Parent;
 
 /// The place of the node of a block that Choice takes: the first without visits, or else the first of the greatest score.
 /// `block` is the block's first word, and `visits` are the parent's, at most 1,048,576 like all counts of the block.
@@ -19,6 +19,7 @@ pub(crate) fn choose(words: &[u64], block: usize, visits: u32, weight: u32) -> u
     ensures { result ≡ choice_of visits weight (children_in words.now (block + 4) (slice_index words.now (block + 3))) }
 {
     let count = words[block + COUNT_WORD] as usize;
+    let parent = Parent::of(visits, weight);
     let mut best = 0;
     let mut most = 0;
     'children: for place in 0..count {
@@ -29,15 +30,7 @@ pub(crate) fn choose(words: &[u64], block: usize, visits: u32, weight: u32) -> u
             return place;
         }
         let seen = words[at + SEEN_WORD];
-        let above = score_above(
-            most,
-            visits,
-            own,
-            wins_of(tally),
-            visits_of(seen),
-            wins_of(seen),
-            weight,
-        );
+        let above = parent.score_above(most, own, wins_of(tally), visits_of(seen), wins_of(seen));
         if let Some(score) = above {
             most = score;
             best = place;

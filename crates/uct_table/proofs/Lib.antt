@@ -2,3 +2,6 @@ pub mod Roots
 pub mod Keeping
 pub mod ChoiceLaws
 pub mod Means
+pub mod Levels
+pub mod Bounds
+pub mod ReciprocalRoots

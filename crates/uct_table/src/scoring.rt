@@ -15,7 +15,7 @@ const LEVEL_PARTS: u32 = 256;
 const SEEN_WEIGHT: u64 = 64;
 
 /// A level is taken in 2^24th parts before its root, so that the root has 2^12th parts.
-const ROOT_SHIFT: u32 = 24;
+pub const ROOT_SHIFT: u32 = 24;
 
 /// Parts of a weight: 256 is a weight of 1.
 const WEIGHT_PARTS: u64 = 256;
@@ -29,7 +29,8 @@ const GREATEST_GUESS: u64 = (1 << 20) - 1;
 #[tactic(auto, using(crate::proofs::Roots::log2_is), unfolding(crate::specs::Scores::level_of))]
 pub fn level(p: u32) -> u32
     requires { p ≤ 1048576 }
-    ensures { result ≡ level_of p }
+    ensures value { result ≡ level_of p }
+    ensures bound { result ≤ 5376 }
 {
     if p == 0 {
         return 0;

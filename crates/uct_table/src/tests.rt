@@ -1,6 +1,6 @@
 //! Values that were computed elsewhere from the formulas.
 
-use super::{better, going_through_gives_choice, level, root, score, score_above};
+use super::{Parent, better, going_through_gives_choice, level, root, score};
 
 #[test]
 fn levels(rt: HostRuntime) {
@@ -71,8 +71,9 @@ fn scores(rt: HostRuntime) {
         assert!(rt; p <= 1_048_576 && v <= 1_048_576 && w <= 1_048_576);
         assert!(rt; a <= 1_048_576 && b <= 1_048_576);
         assert_eq!(rt; score(p, v, w, a, b, c), want, "at {p} {v} {w} {a} {b} {c}");
-        assert_eq!(rt; score_above(want, p, v, w, a, b, c), None);
-        assert_eq!(rt; score_above(want - 1, p, v, w, a, b, c), Some(want));
+        let parent = Parent::of(p, c);
+        assert_eq!(rt; parent.score_above(want, v, w, a, b), None);
+        assert_eq!(rt; parent.score_above(want - 1, v, w, a, b), Some(want));
     }
 }
 
