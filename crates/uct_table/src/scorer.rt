@@ -79,7 +79,7 @@ impl Parent {
 
     // No less than the bonus of v visits.
     #[tactic(auto, using(crate::proofs::Bounds::bonus_bound))]
-    fn most_bonus(&self, v: u32) -> u64
+    pub(crate) fn most_bonus(&self, v: u32) -> u64
         requires visited { 1 ≤ v }
         requires visits { v ≤ 1048576 }
         ensures { bonus_of self.now.visits v self.now.weight ≤ result }
