@@ -8,7 +8,7 @@ ghost use Rattle.seq_search.specs.Choosing.{CanBeScored};
 
 use tree_words::layout::{COUNT_WORD, HEADER_WORDS, NODE_WORDS, SEEN_WORD, TALLY_WORD};
 use tree_words::{visits_of, wins_of};
-use uct_table::{MOST_COUNT, MOST_WEIGHT, score_above};
+use uct_table::{MOST_COUNT, MOST_WEIGHT, Parent};
 
 /// The place of the node of a block that Choice takes: the first without visits, or else the first of the greatest score.
 /// `block` is the block's first word, and `visits` are the parent's, at most [`MOST_COUNT`] like all counts of the block.
@@ -20,6 +20,7 @@ pub(crate) fn choose(words: &[u64], block: usize, visits: u32, weight: u32) -> u
     ensures { result ≡ choice_of visits weight (children_in words.now (block + HEADER_WORDS) (slice_index words.now (block + COUNT_WORD))) }
 {
     let count = words[block + COUNT_WORD] as usize;
+    let parent = Parent::of(visits, weight);
     let mut best = 0;
     let mut most = 0;
     'children: for place in 0..count {
@@ -30,15 +31,7 @@ pub(crate) fn choose(words: &[u64], block: usize, visits: u32, weight: u32) -> u
             return place;
         }
         let seen = words[at + SEEN_WORD];
-        let above = score_above(
-            most,
-            visits,
-            own,
-            wins_of(tally),
-            visits_of(seen),
-            wins_of(seen),
-            weight,
-        );
+        let above = parent.score_above(most, own, wins_of(tally), visits_of(seen), wins_of(seen));
         if let Some(score) = above {
             most = score;
             best = place;

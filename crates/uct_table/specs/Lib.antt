@@ -1,2 +1,4 @@
 pub mod Scores
 pub mod Choice
+pub mod Bounds
+pub mod ReciprocalRoots

@@ -1,31 +1,9 @@
 //! Which of two children is preferred.
 
-ghost use Rattle.std.specs.Prelude.{◌≡◌, ◌≤◌, ◌<◌, ℕ, List, IfSome, None};
+ghost use Rattle.std.specs.Prelude.{◌≡◌, ◌≤◌, ℕ, List};
 ghost use Rattle.uct_table.specs.Choice.{Child, is_better, kept_of, choice_of};
-ghost use Rattle.uct_table.specs.Scores.{score_of};
 
-use super::scoring::{MOST_COUNT, MOST_WEIGHT, bonus, is_mean_at_most, mean, score};
-
-/// The score of a child where it is above `kept`, below p visits and with the weight c.
-///
-/// A search that keeps the best child's score asks this of each later child. Most children are
-/// settled by products, without their mean's three divisions. Counts are from 0 to 1,048,576, v at
-/// least 1, and c is from 0 to 1,024.
-pub fn score_above(kept: u64, p: u32, v: u32, w: u32, a: u32, b: u32, c: u32) -> Option<u64>
-    requires parent { p ≤ MOST_COUNT }
-    requires visited { 1 ≤ v }
-    requires counts { (v ≤ MOST_COUNT) × (w ≤ MOST_COUNT) × (a ≤ MOST_COUNT) × (b ≤ MOST_COUNT) }
-    requires weight { c ≤ MOST_WEIGHT }
-    ensures above { IfSome result (λ score. (score ≡ score_of p v w a b c) × (kept < score)) }
-    ensures not_above { result ≡ None → score_of p v w a b c ≤ kept }
-{
-    let extra = bonus(p, v, c);
-    if extra <= kept && is_mean_at_most(kept - extra, v, w, a, b) {
-        return None;
-    }
-    let score = mean(v, w, a, b) + extra;
-    if kept < score { Some(score) } else { None }
-}
+use super::scoring::{MOST_COUNT, MOST_WEIGHT, score};
 
 /// Whether the second child, with visits v2, wins w2, seen visits a2 and seen wins b2, is strictly
 /// preferred to the first, below p visits and with the weight c.
@@ -54,7 +32,7 @@ pub fn better(
         let second : Child = record { visits = v2; wins = w2; seen = a2; seen_wins = b2 } in
         result ≡ is_better p c first second }
 {
-    v1 > 0 && (v2 == 0 || score_above(score(p, v1, w1, a1, b1, c), p, v2, w2, a2, b2, c).is_some())
+    v1 > 0 && (v2 == 0 || score(p, v1, w1, a1, b1, c) < score(p, v2, w2, a2, b2, c))
 }
 
 /// The law of `better`: going through a list of children from the first on, and keeping the one

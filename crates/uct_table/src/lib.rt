@@ -13,11 +13,12 @@
 //! if better(p, kept.v, kept.w, kept.a, kept.b, next.v, next.w, next.a, next.b, c) { kept = next; }
 //! ```
 //!
-//! or, faster, keeps the best score as well, and asks [`score_above`] of each later child.
+//! or, faster, makes a [`Parent`] for the block, keeps the best score as well, and asks
+//! [`Parent::score_above`] of each later child.
 //!
 //! **What is proved.** [`level`], [`root`] and [`score`] give exactly the numbers of
-//! `specs/Scores.antt`, [`score_above`] is such a score exactly where it is greater, and [`better`] is
-//! exactly its word in `specs/Choice.antt`. The law [`going_through_gives_choice`] says that the
+//! `specs/Scores.antt`, [`Parent::score_above`] is such a score exactly where it is greater, and
+//! [`better`] is exactly its word in `specs/Choice.antt`. The law [`going_through_gives_choice`] says that the
 //! child kept at the end is Choice. Floats are only guesses: a guess is taken where its square shows
 //! that it is right.
 //!
@@ -28,9 +29,12 @@
 #![tactic(auto)]
 
 mod choosing;
+mod reciprocal_roots;
+mod scorer;
 mod scoring;
 #[cfg(test)]
 mod tests;
 
-pub use choosing::{better, going_through_gives_choice, score_above};
+pub use choosing::{better, going_through_gives_choice};
+pub use scorer::Parent;
 pub use scoring::{MOST_COUNT, MOST_WEIGHT, level, root, score};

@@ -18,11 +18,14 @@ const SHARE_PARTS: u64 = 65_536;
 /// Parts of a level: 256 is a doubling of visits.
 const LEVEL_PARTS: u32 = 256;
 
+/// No level is above this: [`MOST_COUNT`] is 2^20, and there are 256 parts for each of 21 powers.
+pub const MOST_LEVEL: u32 = 21 * LEVEL_PARTS;
+
 /// How many visits the seen counts of a child weigh.
 const SEEN_WEIGHT: u64 = 64;
 
 /// A level is taken in 2^24th parts before its root, so that the root has 2^12th parts.
-const ROOT_SHIFT: u32 = 24;
+pub const ROOT_SHIFT: u32 = 24;
 
 /// Parts of a weight: 256 is a weight of 1.
 const WEIGHT_PARTS: u64 = 256;
@@ -36,7 +39,8 @@ const GREATEST_GUESS: u64 = (1 << 20) - 1;
 #[tactic(auto, using(crate::proofs::Roots::log2_is), unfolding(crate::specs::Scores::level_of))]
 pub fn level(p: u32) -> u32
     requires { p ≤ MOST_COUNT }
-    ensures { result ≡ level_of p }
+    ensures value { result ≡ level_of p }
+    ensures bound { result ≤ MOST_LEVEL }
 {
     if p == 0 {
         return 0;

@@ -1,6 +1,7 @@
 //! Values that were computed elsewhere from the formulas.
 
-use super::{better, going_through_gives_choice, level, root, score, score_above};
+use super::scoring::bonus;
+use super::{Parent, better, going_through_gives_choice, level, root, score};
 
 #[test]
 fn levels(rt: HostRuntime) {
@@ -71,8 +72,9 @@ fn scores(rt: HostRuntime) {
         assert!(rt; p <= 1_048_576 && v <= 1_048_576 && w <= 1_048_576);
         assert!(rt; a <= 1_048_576 && b <= 1_048_576);
         assert_eq!(rt; score(p, v, w, a, b, c), want, "at {p} {v} {w} {a} {b} {c}");
-        assert_eq!(rt; score_above(want, p, v, w, a, b, c), None);
-        assert_eq!(rt; score_above(want - 1, p, v, w, a, b, c), Some(want));
+        let parent = Parent::of(p, c);
+        assert_eq!(rt; parent.score_above(want, v, w, a, b), None);
+        assert_eq!(rt; parent.score_above(want - 1, v, w, a, b), Some(want));
     }
 }
 
@@ -86,4 +88,29 @@ fn preferences(rt: HostRuntime) {
     assert!(rt; better(3, 1, 0, 1, 0, 0, 0, 0, 0, 180));
     assert!(rt; !better(3, 0, 0, 0, 0, 1, 1, 1, 1, 180));
     assert!(rt; better(3, 2, 2, 2, 2, 1, 1, 1, 1, 180));
+}
+
+// The bound of a bonus is near it: for every level, and visits at the powers of two.
+#[test]
+fn bounds(rt: HostRuntime) {
+    for weight in [0u32, 1, 7, 180, 256, 1024] {
+        for power in 0..20u32 {
+            for part in 0..256u32 {
+                let visits = (1u32 << power) + ((part << power) >> 8);
+                assert!(rt; visits <= 1_048_576 && weight <= 1024);
+                let parent = Parent::of(visits, weight);
+                for v in [
+                    1u32, 2, 4, 8, 16, 32, 64, 128, 256, 512, 1023, 1024, 1_048_576,
+                ] {
+                    assert!(rt; 1 <= v && v <= 1_048_576);
+                    let exact = bonus(visits, v, weight);
+                    let most = parent.most_bonus(v);
+                    assert!(rt;
+                        exact <= most && most - exact <= 5,
+                        "at {visits} {v} {weight}"
+                    );
+                }
+            }
+        }
+    }
 }

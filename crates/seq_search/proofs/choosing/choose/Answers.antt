@@ -22,8 +22,12 @@ children-preserved c =
     let xs : List Child = children_in c.args.words.now (c.args.block + 4 + 4 * (place + 1)) (count - (place + 1)) in
     let some : 0 < x.visits = omega (arith, c.visits_of-own.ensures, c.if-own-eq0.false) in
     let a : ℕ = c.visits_of.result in let b : ℕ = c.wins_of-in-children.result in
-    let scored : score_of p c.visits_of-own.result c.wins_of.result a b w ≡ score_in p w x = score_is p w c.visits_of-own.result c.wins_of.result a b x
-    c.visits_of-own.ensures c.wins_of.ensures c.visits_of.ensures c.wins_of-in-children.ensures in
+    let pv : ℕ = c.of-parent.result.visits in let pw : ℕ = c.of-parent.result.weight in
+    let scored : score_of pv c.visits_of-own.result c.wins_of.result a b pw ≡ score_in p w x =
+    ap (λ v. score_of v c.visits_of-own.result c.wins_of.result a b pw) c.of-parent.ensures.visits
+    ∙ (ap (λ v. score_of p c.visits_of-own.result c.wins_of.result a b v) c.of-parent.ensures.weight
+    ∙ score_is p w c.visits_of-own.result c.wins_of.result a b x
+    c.visits_of-own.ensures c.wins_of.ensures c.visits_of.ensures c.wins_of-in-children.ensures) in
     c.children.invariant ∙ ap (chosen_from p w place c.children.best c.children.most) (children_more c.args.words.now c.args.block place count c.children-test.true)
     ∙ elim c.match-above.branch [
       | in-Some u ↦ taken p w place c.children.best c.children.most u.in-Some.score x xs some (u.in-Some.ensures.above.0 ∙ scored) u.in-Some.ensures.above.1

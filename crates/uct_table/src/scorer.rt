@@ -1,0 +1,95 @@
+//! Scores of the children of one block, which have a parent and a weight in common.
+
+ghost use Rattle.std.specs.Prelude.{◌≡◌, ◌+◌, ◌*◌, ◌^◌, ◌<◌, ◌≤◌, IfSome, None};
+ghost use Rattle.uct_table.specs.Scores.{bonus_of, level_of, score_of};
+
+use super::reciprocal_roots::{TABLED_VISITS, reciprocal_root};
+use super::scoring::{
+    MOST_COUNT, MOST_WEIGHT, ROOT_SHIFT, bonus, is_mean_at_most, level, mean, root,
+};
+use std::marker::Model;
+
+/// A factor and a reciprocal root have 2^12th and 2^20th parts, and the weight 2^8th parts more
+/// than a bonus; so their product has 2^28 parts of a bonus' one, the root's 2^12 being the
+/// bonus' own parts.
+const BOUND_SHIFT: u32 = 28;
+
+/// The parent of a block's children: what their scores have in common.
+///
+/// A search makes one for each block that it chooses in, and asks it of each child. Nearly every
+/// child is settled by products: its bonus is bounded by a factor that is made once, times the
+/// reciprocal root of its visits; its mean by what stands before it is rounded. Only a child whose
+/// score may be greater than the one that is kept is scored in full.
+#[derive(Clone, Copy, Debug)]
+pub struct Parent {
+    visits: u32,
+    weight: u32,
+    /// Above the weight times the root of the level's 2^24th parts.
+    factor: u64,
+}
+
+impl Model for Parent {
+    ghost use Rattle.uct_table.specs.Choice.{ParentData};
+    ghost use Rattle.uct_table.specs.Bounds.{IsParent};
+
+    ghost Value = { ParentData };
+
+    ghost view = { λ s. record { visits = s.visits; weight = s.weight; factor = s.factor } };
+
+    ghost inverse = { λ p. record { visits = p.visits; weight = p.weight; factor = p.factor } };
+
+    ghost invariant = { λ s. IsParent (record { visits = s.visits; weight = s.weight; factor = s.factor }) };
+}
+
+impl Parent {
+    /// The parent with these visits, from 0 to 1,048,576, and this weight, from 0 to 1,024.
+    #[tactic(auto, using(crate::proofs::Bounds::factor_bound, crate::proofs::Roots::isqrt_high))]
+    pub fn of(visits: u32, weight: u32) -> Parent
+        requires parent { visits ≤ MOST_COUNT }
+        requires weight { weight ≤ MOST_WEIGHT }
+        ensures visits { result.visits ≡ visits }
+        ensures weight { result.weight ≡ weight }
+    {
+        let square = u64::from(weight) * u64::from(weight);
+        let parts = u64::from(level(visits)) << ROOT_SHIFT;
+        Parent {
+            visits,
+            weight,
+            factor: u64::from(root(square * parts)) + 1,
+        }
+    }
+
+    /// The score of a child where it is above `kept`.
+    ///
+    /// A search that keeps the best child's score asks this of each later child. Counts are from 0
+    /// to 1,048,576, and v is at least 1.
+    pub fn score_above(&self, kept: u64, v: u32, w: u32, a: u32, b: u32) -> Option<u64>
+        requires visited { 1 ≤ v }
+        requires counts { (v ≤ MOST_COUNT) × (w ≤ MOST_COUNT) × (a ≤ MOST_COUNT) × (b ≤ MOST_COUNT) }
+        ensures above { IfSome result (λ score.
+            (score ≡ score_of self.now.visits v w a b self.now.weight) × (kept < score)) }
+        ensures not_above { result ≡ None →
+            score_of self.now.visits v w a b self.now.weight ≤ kept }
+    {
+        let most = self.most_bonus(v);
+        if most <= kept && is_mean_at_most(kept - most, v, w, a, b) {
+            return None;
+        }
+        let score = mean(v, w, a, b) + bonus(self.visits, v, self.weight);
+        if kept < score { Some(score) } else { None }
+    }
+
+    // No less than the bonus of v visits.
+    #[tactic(auto, using(crate::proofs::Bounds::bonus_bound))]
+    pub(crate) fn most_bonus(&self, v: u32) -> u64
+        requires visited { 1 ≤ v }
+        requires visits { v ≤ MOST_COUNT }
+        ensures { bonus_of self.now.visits v self.now.weight ≤ result }
+    {
+        if v < TABLED_VISITS {
+            (self.factor * reciprocal_root(v)) >> BOUND_SHIFT
+        } else {
+            bonus(self.visits, v, self.weight)
+        }
+    }
+}
