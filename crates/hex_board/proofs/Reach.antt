@@ -1,3 +1,4 @@
+-- The stones from which a path leads to a set, as a flood finds them.
 use Rattle.std.proofs.Common.{◌≡◌, ℕ, ◌<◌, ◌^◌, List, [], ◌∷◌, true, false, sym, ◌∙◌, ◌&&◌, ◌||◌, ◌↔◌, IsTrue, inl, inr}
 use Rattle.std.proofs.lemmas.Bool.{and_parts, and_from, or_cases, or_left, or_right}
 use Rattle.hex_cells.specs.Edges.{on_edge}
