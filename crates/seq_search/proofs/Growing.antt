@@ -2,7 +2,7 @@
 use Rattle.std.proofs.Common.{◌≡◌, ◌≢◌, ℕ, ◌+◌, ◌-◌, ◌*◌, ◌<◌, ◌≤◌, nat_lt, nat_le, Bool, true, false, cond, List, [], ◌∷◌, length, set, get_or, get_or-set_same, get_or-set_other, refl, sym, ap, ◌∙◌, subst, ⊎_elim, inl, inr, arith}
 use Rattle.std.specs.Prelude.{◌==◌, ◌&&◌, ◌||◌}
 use Rattle.std.proofs.Math.ListN.{length-set}
-use Rattle.std.proofs.lemmas.Bool.{cases_eq}
+use Rattle.std.proofs.lemmas.Bool.{cases_eq, or_right, eq-eqb, ne_eqb, cases_Bool, or_cases, and_parts, leb-true, ltb-true, false_from_ne_true}
 use Rattle.tree_words.specs.Settings.{Setting, IsSetting}
 use Rattle.tree_words.specs.Words.{Count, count_in, root_at, area_at, end_of, next_in, tally_in, seen_in}
 use Rattle.tree_words.specs.Blocks.{LinkedBlock, size, covers, has, is_node, link_of, header_or_move, stays, Follows, In, Shows}
@@ -14,8 +14,8 @@ use Rattle.play_out.specs.declared.playouts.Ending.{Ending}
 use Rattle.tree_words.specs.Sequence.{asks, gets_block, next_after, size_below, game_of}
 use Rattle.tree_words.specs.Trees.{oldest_first}
 use Rattle.tree_words.specs.Descents.{NewBlock, Widened, Fine, leaf_at, state_at, top, Inside, config_of}
-use Rattle.tree_words.proofs.BlockLaws.{same_is, other_is, bool_is, either_true, true_both, le_of, lt_of, covers_of, covers_if, has-at, not_both, apart}
-use Rattle.tree_words.proofs.GameLaws.{fair_game, root_node}
+use Rattle.tree_words.proofs.BlockLaws.{covers_of, covers_if, has-at, apart, root_node}
+use Rattle.tree_words.proofs.GameLaws.{fair_game}
 use Rattle.tree_words.proofs.Orders.{inside-node, rooted-turned}
 use Rattle.play_out.specs.Fills.{empties_of}
 use Rattle.seq_search.specs.Steps.{Holds, KeepsRecords}
@@ -39,33 +39,15 @@ fine-of s bs words k h =
 gets-facts : (s : Setting) (n : ℕ) (v : Count) (p : NodeState) → gets_block s n v p ≡ true → (0 < length (empties_of p.board)) × (n + size_below p ≤ end_of s)
 unfolding gets_block
 gets-facts s n v p e =
-    let t = true_both (asks s n v p) (nat_le (n + size_below p) (end_of s)) e in
-    let u = true_both (nat_le s.knobs.expand v.visits) (nat_lt 0 (length (empties_of p.board)) && nat_le n (end_of s)) t.0 in
-    (lt_of _ _ (true_both (nat_lt 0 (length (empties_of p.board))) (nat_le n (end_of s)) u.1).0, le_of _ _ t.1)
+    let t = and_parts (asks s n v p) (nat_le (n + size_below p) (end_of s)) e in
+    let u = and_parts (nat_le s.knobs.expand v.visits) (nat_lt 0 (length (empties_of p.board)) && nat_le n (end_of s)) t.0 in
+    (ltb-true _ _ (and_parts (nat_lt 0 (length (empties_of p.board))) (nat_le n (end_of s)) u.1).0, leb-true _ _ t.1)
 
 count-none : (words : List ℕ) (i : ℕ) → get_or words i 0 ≡ 0 → count_in (get_or words i 0) ≡ nothing
 count-none words i e = ap count_in e
 
-at-most-none : (k : ℕ) (c : Count) → c ≡ nothing → AtMost k c
+pub at-most-none : (k : ℕ) (c : Count) → c ≡ nothing → AtMost k c
 at-most-none k c e = (omega (arith, ap (λ (c : Count). c.visits) e), omega (arith, ap (λ (c : Count). c.wins) e))
-
-first_true : (a b : Bool) → a ≡ true → (a || b) ≡ true
-first_true true b e = refl
-first_true false b e = absurd (no e)
-  where
-    no : false ≡ true → ⊥
-    no e = cc
-
-second_true : (a b : Bool) → b ≡ true → (a || b) ≡ true
-second_true true b e = refl
-second_true false b e = e
-
-either_false : (t u : Bool) → t ≡ false → (t && u) ≡ false
-either_false true u e = absurd (no e)
-  where
-    no : true ≡ false → ⊥
-    no e = cc
-either_false false u e = refl
 
 -- what is got of the leaf and its words, where the leaf of the walk gets the new block
 module _ (s : Setting) (bs : List LinkedBlock) (before after : List ℕ) (k : ℕ) (set_ : IsSetting s) (h : Holds s bs before k) (rooted : 0 < link_of bs (root_at s))
@@ -94,14 +76,14 @@ module _ (s : Setting) (bs : List LinkedBlock) (before after : List ℕ) (k : �
   off : (i : ℕ) → 1 ≤ i → i < next_in before → (i ≡ leaf + 1 → ⊥) → get_or after i 0 ≡ get_or before i 0
   unfolding n
   off i m low d =
-      l.each i d ∙ ap (λ (t : Bool). cond (t && stays (i - n.start)) (header_or_move n (i - n.start)) (get_or (set before 0 next) i 0)) (not_both (covers i n) (λ t. let u = covers_of i n t in omega arith))
+      l.each i d ∙ ap (λ (t : Bool). cond (t && stays (i - n.start)) (header_or_move n (i - n.start)) (get_or (set before 0 next) i 0)) (false_from_ne_true (covers i n) (λ t. let u = covers_of i n t in omega arith))
       ∙ get_or-set_other before 0 i next 0 (λ z. omega arith)
 
   off-past : (i : ℕ) → next ≤ i → get_or after i 0 ≡ 0
   unfolding n
   off-past i m =
       let low = leaf_lies in
-      l.each i (λ z. omega arith) ∙ ap (λ (t : Bool). cond (t && stays (i - n.start)) (header_or_move n (i - n.start)) (get_or (set before 0 next) i 0)) (not_both (covers i n) (λ t. let u = covers_of i n t in omega (arith, u.1)))
+      l.each i (λ z. omega arith) ∙ ap (λ (t : Bool). cond (t && stays (i - n.start)) (header_or_move n (i - n.start)) (get_or (set before 0 next) i 0)) (false_from_ne_true (covers i n) (λ t. let u = covers_of i n t in omega (arith, u.1)))
       ∙ get_or-set_other before 0 i next 0 (λ z. omega arith) ∙ h.fresh i (omega arith)
 
   -- the new block's words
@@ -171,7 +153,7 @@ module _ (s : Setting) (bs : List LinkedBlock) (before after : List ℕ) (k : �
   unfolding n
   next-is =
       let low = leaf_lies in
-      l.each 0 (λ z. omega arith) ∙ ap (λ (t : Bool). cond (t && stays (0 - n.start)) (header_or_move n (0 - n.start)) (get_or (set before 0 next) 0 0)) (not_both (covers 0 n) (λ t. let u = covers_of 0 n t in omega (arith, u.0, h.next.0)))
+      l.each 0 (λ z. omega arith) ∙ ap (λ (t : Bool). cond (t && stays (0 - n.start)) (header_or_move n (0 - n.start)) (get_or (set before 0 next) 0 0)) (false_from_ne_true (covers 0 n) (λ t. let u = covers_of 0 n t in omega (arith, u.0, h.next.0)))
       ∙ zero-set before next (omega (arith, h.long))
     where
       zero-set : (ws : List ℕ) (m : ℕ) → 0 < length ws → get_or (set ws 0 m) 0 0 ≡ m
@@ -182,7 +164,7 @@ module _ (s : Setting) (bs : List LinkedBlock) (before after : List ℕ) (k : �
   new-holds =
       let low = leaf_lies in
       let f = new-follows in
-      let notroot : (leaf == root_at s) ≡ false = other_is leaf (root_at s) leaf_is_node.1 in
+      let notroot : (leaf == root_at s) ≡ false = ne_eqb leaf (root_at s) leaf_is_node.1 in
       let complete : Complete s next bs n = record {
         claimed = omega (arith, grown);
         inside = (omega (arith, h.next.0), omega (arith, room));
@@ -200,15 +182,15 @@ module _ (s : Setting) (bs : List LinkedBlock) (before after : List ℕ) (k : �
         links = λ x m. ⊎_elim
             (λ (t : has n x ≡ true).
             let q = has-at n x t in
-            let far : (leaf == x) ≡ false = other_is leaf x (λ z. omega (arith, z, q.2, low.1)) in
-            let none : is_node (root_at s) bs x ≡ false = not_both (is_node (root_at s) bs x) (λ u. clash (has n x) t (apart (root_at s) n bs x f u)) in
+            let far : (leaf == x) ≡ false = ne_eqb leaf x (λ z. omega (arith, z, q.2, low.1)) in
+            let none : is_node (root_at s) bs x ≡ false = false_from_ne_true (is_node (root_at s) bs x) (λ u. clash (has n x) t (apart (root_at s) n bs x f u)) in
             new-word x 1 t (omega arith) (omega arith) ∙ sym (ap (λ (u : Bool). cond u n.start (link_of bs x)) far ∙ link-none (root_at s) bs x h.linked.order none))
             (λ (t : is_node (root_at s) bs x ≡ true). ⊎_elim
-            (λ (q : x ≡ leaf). ap (λ (z : ℕ). get_or after (z + 1) 0) q ∙ l.link ∙ sym (ap (λ (u : Bool). cond u n.start (link_of bs x)) (same_is leaf x (sym q))))
+            (λ (q : x ≡ leaf). ap (λ (z : ℕ). get_or after (z + 1) 0) q ∙ l.link ∙ sym (ap (λ (u : Bool). cond u n.start (link_of bs x)) (eq-eqb leaf x (sym q))))
             (λ (q : x ≡ leaf → ⊥). old-word x 1 t (omega arith) (omega arith) (λ a b. q a) ∙ h.linked.shows.links x t
-            ∙ sym (ap (λ (u : Bool). cond u n.start (link_of bs x)) (other_is leaf x (λ z. q (sym z)))))
+            ∙ sym (ap (λ (u : Bool). cond u n.start (link_of bs x)) (ne_eqb leaf x (λ z. q (sym z)))))
             (cases_eq x leaf))
-            (either_true (has n x) (is_node (root_at s) bs x) m);
+            (or_cases (has n x) (is_node (root_at s) bs x) m);
       } in
       let grew : next_in before ≤ next = omega (arith, grown) in
       record {
@@ -225,7 +207,7 @@ module _ (s : Setting) (bs : List LinkedBlock) (before after : List ℕ) (k : �
         counts = λ x m. ⊎_elim
             (λ (t : has n x ≡ true). let c = counts-new x t in (at-most-none k (tally_in after x) c.0, at-most-none k (seen_in after x) c.1))
             (λ (t : is_node (root_at s) bs x ≡ true). let c = counts-old x t in let u = h.counts x t in (subst (AtMost k) (sym c.0) u.0, subst (AtMost k) (sym c.1) u.1))
-            (either_true (has n x) (is_node (root_at s) bs x) m);
+            (or_cases (has n x) (is_node (root_at s) bs x) m);
       }
     where
       clash : (t : Bool) → t ≡ true → t ≡ false → ⊥
@@ -255,13 +237,13 @@ module _ (s : Setting) (bs : List LinkedBlock) (before after : List ℕ) (k : �
         blank = counts-fresh;
       } in
       let node : (w : ℕ) → top (oldest_first (n ∷ bs)) w ≡ root_at s → is_node (root_at s) (n ∷ bs) w ≡ true
-      = λ w e. ⊎_elim (λ (q : w ≡ root_at s). second_true (has n w) (is_node (root_at s) bs w) (ap (is_node (root_at s) bs) q ∙ root_node (root_at s) bs))
+      = λ w e. ⊎_elim (λ (q : w ≡ root_at s). or_right (has n w) (is_node (root_at s) bs w) (ap (is_node (root_at s) bs) q ∙ root_node (root_at s) bs))
       (λ (i : Inside (oldest_first (n ∷ bs)) w). inside-node (root_at s) (n ∷ bs) w i) (under-root (oldest_first (n ∷ bs)) (root_at s) w e) in
       record {
         next = next-is ∙ rule ∙ (λ i. next_after s (next_in before) (count i) (is_spot i));
         block = inl (n, new);
-        tally = λ w e. ⊎_elim (λ (t : has n w ≡ true). (counts-new w t).0 ∙ sym (counts-fresh w t).0) (λ (t : is_node (root_at s) bs w ≡ true). (counts-old w t).0) (either_true (has n w) (is_node (root_at s) bs w) (node w e));
-        seen = λ w e d. ⊎_elim (λ (t : has n w ≡ true). (counts-new w t).1 ∙ sym (counts-fresh w t).1) (λ (t : is_node (root_at s) bs w ≡ true). (counts-old w t).1) (either_true (has n w) (is_node (root_at s) bs w) (node w e));
+        tally = λ w e. ⊎_elim (λ (t : has n w ≡ true). (counts-new w t).0 ∙ sym (counts-fresh w t).0) (λ (t : is_node (root_at s) bs w ≡ true). (counts-old w t).0) (or_cases (has n w) (is_node (root_at s) bs w) (node w e));
+        seen = λ w e d. ⊎_elim (λ (t : has n w ≡ true). (counts-new w t).1 ∙ sym (counts-fresh w t).1) (λ (t : is_node (root_at s) bs w ≡ true). (counts-old w t).1) (or_cases (has n w) (is_node (root_at s) bs w) (node w e));
       }
 
   new-keeps : KeepsRecords s before after
@@ -346,5 +328,5 @@ no-block s bs before after k leaf p set h is_leaf is_spot w t =
     let range : (n ≤ next_in after) × (next_in after ≤ end_of s + MOST_BLOCK_WORDS) = ⊎_elim
     (λ (a : asks s n v p ≡ true). let u = next-vain s n v p t a in (omega (arith, w.next, u.1), omega (arith, w.next, u.0, u.1, small)))
     (λ (a : asks s n v p ≡ false). let u = next-stays s n v p a in (omega (arith, w.next, u), omega (arith, w.next, u, h.next.1)))
-    (bool_is (asks s n v p)) in
+    (cases_Bool (asks s n v p)) in
     none-all s bs before after k leaf p h is_leaf is_spot t w.next range.0 range.1 none.0 none.1

@@ -15,13 +15,12 @@ use Rattle.tree_words.specs.Words.{Count, end_of, next_in, tally_in}
 use Rattle.tree_words.specs.Blocks.{LinkedBlock, one_if, size, stays, header_or_move}
 use Rattle.tree_words.specs.Paths.{NodeState}
 use Rattle.tree_words.specs.Sequence.{asks, gets_block, next_after, size_below}
-use Rattle.tree_words.proofs.BlockLaws.{not_both, true_both, lt_of}
+use Rattle.std.proofs.lemmas.Bool.{false_from_ne_true, and_parts, ltb-true}
 use Rattle.tree_words.specs.Writing.{listed, WritesBlock}
 use Rattle.seq_search.specs.Writing.{Links, LinksBelow, Grows, block_below}
-use Rattle.tree_words.proofs.Writes.{filter_more, block_of}
-
-on_the_board : (p : Position) (k : ℕ) → is_empty_at p k ≡ true → k < p.size * p.size
-on_the_board p k e = lt_of _ _ (true_both _ _ ((true_both _ _ e).0)).0
+use Rattle.play_out.proofs.Listing.{filter_more}
+use Rattle.tree_words.proofs.Writes.{block_of}
+use Rattle.tree_words.proofs.BlockLaws.{clash}
 
 -- a leaf with few visits, or without an empty cell, asks for none
 pub few_asks : (s : Setting) (n : ℕ) (v : Count) (p : NodeState) → v.visits < s.knobs.expand → asks s n v p ≡ false
@@ -75,9 +74,6 @@ gets-past s n v p e l = gets-of s n v p true e ∙ more_than (n + size_below p) 
 
 pub gets-made : (s : Setting) (n : ℕ) (v : Count) (p : NodeState) → asks s n v p ≡ true → n + size_below p ≤ end_of s → gets_block s n v p ≡ true
 gets-made s n v p e l = gets-of s n v p true e ∙ at_most (n + size_below p) (end_of s) l
-
-clash : (t : Bool) → t ≡ true → t ≡ false → ⊥
-clash t a b = cc
 
 pub grows-none : (s : Setting) (leaf : ℕ) (p : NodeState) (words : List ℕ) → asks s (next_in words) (tally_in words leaf) p ≡ false → Grows s leaf p words words
 grows-none s leaf p words e = record {

@@ -9,7 +9,8 @@ use Rattle.tree_words.specs.Trees.{oldest_first}
 use Rattle.tree_words.specs.Complete.{HaveNodes}
 use Rattle.tree_words.specs.Descents.{Names}
 use Rattle.tree_words.proofs.Adds.{is_child}
-use Rattle.tree_words.proofs.BlockLaws.{either_true, eq_of, has-at, move-word, move-stays}
+use Rattle.std.proofs.lemmas.Bool.{or_cases, eqb-true}
+use Rattle.tree_words.proofs.BlockLaws.{has-at, move-word, move-stays}
 use Rattle.tree_words.proofs.Down.{child-has}
 use Rattle.tree_words.proofs.GameLaws.{IsWhole, whole-in, in-node, up-in}
 use Rattle.tree_words.proofs.Orders.{link-names}

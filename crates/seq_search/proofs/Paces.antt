@@ -4,9 +4,8 @@ use Rattle.std.specs.Prelude.{◌==◌}
 use Rattle.std.proofs.lemmas.List.{drop_more, get_or-take, length-take-le}
 use Rattle.std.proofs.Math.Seq.{drop-length}
 use Rattle.hex_cells.specs.Sets.{has as has_cell}
-use Rattle.hex_cells.specs.Colours.{other_of}
+use Rattle.hex_cells.specs.Colours.{other_of, is_same}
 use Rattle.hex_cells.specs.declared.colours.Colour.{Colour}
-use Rattle.hex_board.specs.Wins.{is_same}
 use Rattle.hex_board.specs.Positions.{stones_of}
 use Rattle.tree_words.specs.Settings.{Setting, IsSetting}
 use Rattle.tree_words.specs.Words.{Count, root_at, count_in, wins_in, link_in, tally_in, seen_in, cell_in, move_of}
@@ -18,9 +17,10 @@ use Rattle.tree_words.specs.Trees.{oldest_first}
 use Rattle.play_out.specs.declared.playouts.Ending.{Ending}
 use Rattle.tree_words.specs.Sequence.{one, gain_of, glimpse_of, game_of, amount_of}
 use Rattle.tree_words.specs.Descents.{pick, adds_leaf, adds_inner, adds, sees_leaf, sees_inner, sees, steps_inner, Bare}
-use Rattle.tree_words.proofs.BlockLaws.{eq_of, same_is, bool_is, has-at}
-use Rattle.tree_words.proofs.Down.{plus-nothing, not_both, never, child-has, pick-in}
-use Rattle.tree_words.proofs.GameLaws.{root_node, fair_game}
+use Rattle.std.proofs.lemmas.Bool.{eqb-true, eq-eqb, cases_Bool, false_from_ne_true}
+use Rattle.tree_words.proofs.BlockLaws.{has-at, clash, root_node}
+use Rattle.tree_words.proofs.Down.{plus-nothing, child-has, pick-in}
+use Rattle.tree_words.proofs.GameLaws.{fair_game}
 use Rattle.tree_words.proofs.Links.{down-bare, adds-link, sees-link, steps-link}
 use Rattle.tree_words.proofs.Orders.{rooted-turned, link-bare}
 use Rattle.seq_search.specs.Steps.{Holds}
@@ -30,11 +30,13 @@ use Rattle.seq_search.specs.Adding.{node_of, Sighted, Counted}
 use Rattle.tree_words.proofs.NodeLaws.{nodes-apart, stays-clear}
 use Rattle.tree_words.proofs.Members.{in-turned}
 use Rattle.seq_search.proofs.LinkLaws.{IsBelow, below, node-fits, child-node, child-move, child-spot}
-use Rattle.tree_words.proofs.EmptyLaws.{up-root, cell-of-move, below-empty, on-board, few-cells}
-use Rattle.seq_search.proofs.Ways.{placed-size}
+use Rattle.hex_cells.proofs.Tables.{square_small}
+use Rattle.hex_board.proofs.Placed.{empty_on, placed_size}
+use Rattle.tree_words.proofs.EmptyLaws.{up-root, cell-of-move, below-empty}
 use Rattle.tree_words.proofs.Adds.{is_child}
 use Rattle.seq_search.proofs.Additions.{Adding}
 use Rattle.tree_words.proofs.Countings.{count-more, adds-one, sees-one, above-turned, adds-before, sees-before, has-one}
+use Rattle.tree_words.proofs.Asking.{spot-size}
 
 -- word i is neither a tally nor a seen word of a node
 abbrev pub NoCount : ℕ → List LinkedBlock → ℕ → Type 0
@@ -131,7 +133,7 @@ module _ (s : Setting) (bs : List LinkedBlock) (o : Ending) (before : List ℕ) 
       unfolding gain_of
       gained-tally w n = ⊎_elim
           (λ (t : (x == w) ≡ true).
-          let at : x ≡ w = eq_of x w t in
+          let at : x ≡ w = eqb-true x w t in
           let t' : Bool = is_same o.winner (other_of who) in
           let most = tally-most x a.node in
           let word : slice_index gained (x + 2) ≡ slice_index now (x + 2) + amount_of t' = ap (λ (l : List ℕ). slice_index l (x + 2)) is ∙ get_or-set_same now (x + 2) _ 0 (omega (arith, node-room)) in
@@ -140,9 +142,9 @@ module _ (s : Setting) (bs : List LinkedBlock) (o : Ending) (before : List ℕ) 
           subst (λ (z : ℕ). tally_in gained z ≡ plus (tally_in now z) (one (is_same o.winner (mover_at (node_state s bs x))))) at mine
           ∙ sym (ap (λ (u : Bool). cond u (plus (tally_in now w) (one (is_same o.winner (mover_at (node_state s bs x))))) (tally_in now w)) t))
           (λ (t : (x == w) ≡ false).
-          ap count_in (gained-other (w + 2) (λ e. not_both (x == w) (same_is x w (omega (arith, e))) t))
+          ap count_in (gained-other (w + 2) (λ e. clash (x == w) (eq-eqb x w (omega (arith, e))) t))
           ∙ sym (ap (λ (u : Bool). cond u (plus (tally_in now w) (one (is_same o.winner (mover_at (node_state s bs x))))) (tally_in now w)) t))
-          (bool_is (x == w))
+          (cases_Bool (x == w))
 
       -- the block below the node, by the words after the gain
       module _ (b : LinkedBlock) (w : IsBelow s bs before x b) where
@@ -167,7 +169,7 @@ module _ (s : Setting) (bs : List LinkedBlock) (o : Ending) (before : List ℕ) 
           after-tally v n = ap count_in (lit.others (v + 2) (λ j l e. let q = nodes-apart (root_at s) bs v (child b j) 2 3 h.linked.order n (kid-node j l) (omega arith) (omega arith) e in omega arith))
 
           after-past : (v : ℕ) → is_node (root_at s) bs v ≡ true → has b v ≡ false → seen_in after v ≡ seen_in gained v
-          after-past v n f = ap count_in (lit.others (v + 3) (λ j l e. let at : v ≡ child b j = omega (arith, e) in not_both (has b v) (ap (has b) at ∙ child-has b j l) f))
+          after-past v n f = ap count_in (lit.others (v + 3) (λ j l e. let at : v ≡ child b j = omega (arith, e) in clash (has b v) (ap (has b) at ∙ child-has b j l) f))
 
           after-kid : (j : ℕ) → j < length b.cells → seen_in after (child b j) ≡ plus (seen_in gained (child b j)) (glimpse_of o (node_state s bs x) (cell_at b j))
           after-kid j l =
@@ -190,7 +192,7 @@ module _ (s : Setting) (bs : List LinkedBlock) (o : Ending) (before : List ℕ) 
               (λ (t : has b v ≡ false).
               after-past v n t ∙ gained-seen v n
               ∙ sym (ap (λ (u : Bool). cond u (plus (seen_in now v) (glimpse_of o (node_state s bs x) (cell_at b (place b v)))) (seen_in now v)) t))
-              (bool_is (has b v))
+              (cases_Bool (has b v))
 
           after-kept : (i : ℕ) → NoCount (root_at s) bs i → slice_index after i ≡ slice_index before i
           after-kept i c = lit.others i (λ j l e. (c (child b j) (kid-node j l)).1 e) ∙ gained-kept i c
@@ -216,7 +218,7 @@ module _ (s : Setting) (bs : List LinkedBlock) (o : Ending) (before : List ℕ) 
                     let later : Count = adds g p q o os (child b i) (state_after (node_state s bs x) (cell_at b i)) v in
                     let mine : tally_in after v ≡ cond (x == v) (plus (tally_in now v) (gain_of o (node_state s bs x))) (tally_in now v) = after-tally v n ∙ gained-tally v n in
                     (λ e. plus (mine e) (adds g p q o os (at e) (spot e) v))
-                    ∙ join (x == v) (tally_in now v) (gain_of o (node_state s bs x)) later (λ t. adds-before s p q o os (child b i) (state_after (node_state s bs x) (cell_at b i)) v above (let e = eq_of x v t in omega (arith, behind, e)))
+                    ∙ join (x == v) (tally_in now v) (gain_of o (node_state s bs x)) later (λ t. adds-before s p q o os (child b i) (state_after (node_state s bs x) (cell_at b i)) v above (let e = eqb-true x v t in omega (arith, behind, e)))
                     ∙ ap (plus (tally_in now v)) (sym (adds-link g fair p q o os x b (node_state s bs x) v rooted w.names w.some))
                     ∙ a.tally v n;
                 seen = λ v n.
@@ -224,7 +226,7 @@ module _ (s : Setting) (bs : List LinkedBlock) (o : Ending) (before : List ℕ) 
                     (λ e. plus (after-seen v n e) (sees g p q o os (at e) (spot e) v))
                     ∙ join (has b v) (seen_in now v) (glimpse_of o (node_state s bs x) (cell_at b (place b v))) later
                     (λ t. sees-before s p q o os (child b i) (state_after (node_state s bs x) (cell_at b i)) v above
-                    (λ c m l. never (has c v) (λ u. let e = has-one (root_at s) bs b c v h.linked.order w.inside (in-turned c bs m) t u in let f : b.parent ≡ c.parent = ap (λ (d : LinkedBlock). d.parent) e in omega (arith, f, l, behind, w.parent))))
+                    (λ c m l. false_from_ne_true (has c v) (λ u. let e = has-one (root_at s) bs b c v h.linked.order w.inside (in-turned c bs m) t u in let f : b.parent ≡ c.parent = ap (λ (d : LinkedBlock). d.parent) e in omega (arith, f, l, behind, w.parent))))
                     ∙ ap (plus (seen_in now v)) (sym (sees-link g fair p q o os x b (node_state s bs x) v rooted w.names w.some))
                     ∙ a.seen v n;
                 others = after-kept;
@@ -254,39 +256,27 @@ module _ (s : Setting) (bs : List LinkedBlock) (o : Ending) (before : List ℕ) 
           last false n g = sym (plus-nothing n)
 
           link-none : left ≡ [] → link_in before x ≡ 0
-          link-none e = ⊎_elim (λ (t : (link_in before x == 0) ≡ true). eq_of (link_in before x) 0 t)
+          link-none e = ⊎_elim (λ (t : (link_in before x == 0) ≡ true). eqb-true (link_in before x) 0 t)
               (λ (t : (link_in before x == 0) ≡ false).
-              let m = below s bs before k h x a.node (λ z. not_both (link_in before x == 0) (same_is (link_in before x) 0 z) t) in
+              let m = below s bs before k h x a.node (λ z. clash (link_in before x == 0) (eq-eqb (link_in before x) 0 z) t) in
               absurd (no-cons _ _ (sym (steps-link (game_of s) (fair_game s) (tally_in before) (seen_in before) (oldest_first bs) x m.0 (rooted-turned (root_at s) bs h.linked.order) m.1.names m.1.some) ∙ sym a.rest ∙ e)))
-              (bool_is (link_in before x == 0))
+              (cases_Bool (link_in before x == 0))
 
     -- where a step is left, the node has a block
     pub link-some : (y : ℕ) (rest : List ℕ) → left ≡ y ∷ rest → link_in before x ≢ 0
     link-some y rest cons e = no-cons y rest (sym cons ∙ a.rest ∙ steps-none x a.node e)
-
--- every board of the tree has the size of the setting's
-pub spot-size : (s : Setting) (bs : List LinkedBlock) (x : ℕ) → (node_state s bs x).board.size ≡ s.board.size
-spot-size s [] x = refl
-spot-size s (b ∷ bs) x = ⊎_elim
-    (λ (t : has b x ≡ true).
-    let u : NodeState = node_state s bs b.parent in
-    ap (λ (h : Bool). (cond h (state_after u (cell_at b (place b x))) (node_state s bs x)).board.size) t
-    ∙ placed-size u.board u.player (cell_at b (place b x)) ∙ spot-size s bs b.parent)
-    (λ (t : has b x ≡ false).
-    ap (λ (h : Bool). (cond h (state_after (node_state s bs b.parent) (cell_at b (place b x))) (node_state s bs x)).board.size) t ∙ spot-size s bs x)
-    (bool_is (has b x))
 
 -- the cells of a block lie on the board
 pub kid-cell : (s : Setting) (bs : List LinkedBlock) (words : List ℕ) (k : ℕ) → IsSetting s → Holds s bs words k → (x : ℕ) (b : LinkedBlock) → IsBelow s bs words x b → (j : ℕ) → j < length b.cells
     → cell_at b j < s.board.size * s.board.size
 kid-cell s bs words k z h x b w j l =
     let e = below-empty s bs b.parent j z h.linked.order (subst (λ (c : List ℕ). j < length c) w.whole.cells l) in
-    let o = on-board (board_of s bs b.parent) _ e in
+    let o = empty_on (board_of s bs b.parent) _ e in
     let cell : cell_at b j ≡ get_or (cells_below s bs b.parent) j 0 = ap (λ (c : List ℕ). get_or c j 0) w.whole.cells in
     subst (λ (n : ℕ). cell_at b j < n * n) (spot-size s bs b.parent) (omega (arith, o, cell))
 
 pub kid-small : (s : Setting) → IsSetting s → (c : ℕ) → c < s.board.size * s.board.size → c < 256
-kid-small s z c l = let f = few-cells s.board.size z.position.most in omega (arith, f, l)
+kid-small s z c l = let f = square_small s.board.size z.position.most in omega (arith, f, l)
 
 -- how the adds are told that a walk has come to its leaf, and how far they are
 abbrev pub HasWalked : Setting → List ℕ → Descent → Type 0

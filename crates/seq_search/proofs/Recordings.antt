@@ -12,7 +12,7 @@ use Rattle.tree_words.specs.Sequence.{game_of}
 use Rattle.tree_words.specs.Trees.{oldest_first}
 use Rattle.tree_words.specs.Descents.{Added, pick, adds, sees_leaf, sees_inner, sees, top, Out, Inside, config_of}
 use Rattle.tree_words.proofs.Down.{down-split}
-use Rattle.tree_words.proofs.GameLaws.{root_node}
+use Rattle.tree_words.proofs.BlockLaws.{root_node}
 use Rattle.tree_words.proofs.Orders.{inside-node}
 use Rattle.seq_search.specs.Steps.{Holds, Records}
 use Rattle.seq_search.specs.Adding.{Counted}

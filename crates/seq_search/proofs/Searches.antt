@@ -3,7 +3,7 @@ use Rattle.std.proofs.Common.{◌≡◌, ℕ, ◌+◌, ◌*◌, ◌<◌, add-one
 use Rattle.std.proofs.Math.ListN.{length-set}
 use Rattle.hex_cells.specs.declared.colours.Colour.{Colour}
 use Rattle.hex_cells.specs.declared.colours.Colour.TheVariants.{White}
-use Rattle.hex_board.specs.Wins.{is_same}
+use Rattle.hex_cells.specs.Colours.{is_same}
 use Rattle.hex_board.specs.Positions.{Position}
 use Rattle.play_out.specs.Fills.{filled, playout_of}
 use Rattle.tree_words.specs.Settings.{Setting, IsSetting}

@@ -2,7 +2,7 @@
 use Rattle.std.proofs.Common.{◌≡◌, ℕ, suc, ◌+◌, ◌*◌, ◌<◌, ◌≤◌, Bool, true, false, cond, List, [], ◌∷◌, ◌++◌, length, refl, sym, ap, ◌∙◌, subst, ⊎_elim, arith}
 use Rattle.std.specs.Prelude.{◌==◌, not, sum_by}
 use Rattle.std.specs.List.{filter}
-use Rattle.std.proofs.lemmas.Bool.{cases_lt}
+use Rattle.std.proofs.lemmas.Bool.{cases_lt, eqb-true, eq-eqb, ne_eqb, cases_Bool, or_cases, or_right, or_left}
 use Rattle.std.proofs.lemmas.List.Sums.{sum_by-cons}
 use Rattle.std.proofs.Math.Nat.{mul-le-mul}
 use Rattle.hex_board.specs.Positions.{is_empty_at}
@@ -22,12 +22,11 @@ use Rattle.play_out.specs.declared.playouts.Ending.{Ending}
 use Rattle.tree_words.specs.Sequence.{outcome_of, gain_of, glimpse_of, size_below, asks, gets_block, game_of}
 use Rattle.tree_words.specs.Trees.{oldest_first}
 use Rattle.tree_words.specs.Descents.{ends, NewBlock, Widened, Added, pick, leaf_at, config_of}
-use Rattle.tree_words.proofs.BlockLaws.{eq_of, same_is, other_is, bool_is, either_true, has-at}
-use Rattle.tree_words.proofs.Down.{not_both}
+use Rattle.tree_words.proofs.BlockLaws.{has-at, clash}
 use Rattle.tree_words.proofs.GameLaws.{fair_game, in-node, spot-same}
 use Rattle.seq_search.specs.Steps.{Holds, KeepsRecords, Records}
 use Rattle.seq_search.specs.IsSearched.{IsSearched}
-use Rattle.tree_words.proofs.Climbs.{or_true, or_first, in-out}
+use Rattle.tree_words.proofs.Climbs.{in-out}
 use Rattle.tree_words.proofs.Leaves.{Whole, in-turned, root-out, node-top, leaf-node, leaf-spot, adds-at, sees-at, picked-at, picks-unvisited}
 use Rattle.tree_words.proofs.Tallies.{SameRecords, visits-words, sights-words, ends-words, record-words, visits-block, sights-block, visits-new, sights-new, ends-new, record-block, visits-more, sights-more, ends-visits}
 use Rattle.tree_words.proofs.Asking.{some-empty, size-most, spot-size, asks-not, next-gets, next-vain, next-stays, state-count}
@@ -43,7 +42,7 @@ standing-opening s b words e n h =
     let bs : List LinkedBlock = b ∷ [] in
     let none : (x : ℕ) → is_node r bs x ≡ true → tally_in words x ≡ nothing = λ x m. no_count (tally_in words x) (h.counts x m).0 in
     let other : other_words s bs ≡ 0 = other-root s b [] e in
-    let link : link_of bs r ≡ b.start = ap (λ (t : Bool). cond t b.start 0) (same_is b.parent r e) in
+    let link : link_of bs r ≡ b.start = ap (λ (t : Bool). cond t b.start 0) (eq-eqb b.parent r e) in
     let above = h.linked.order.0.above in
     let exact : ExactTo s bs words 0 = record {
       tallies = none;
@@ -94,8 +93,8 @@ module _ (s : Setting) (bs : List LinkedBlock) (words after : List ℕ) (k : ℕ
   standing-grown n f tally seen blank low next =
       let r : ℕ = root_at s in
       let nodes : (j : ℕ) → j < k → is_node r bs (leaf_of words j) ≡ true = λ j l. (st.recorded j l).node in
-      let old : (x : ℕ) → is_node r bs x ≡ true → is_node r (n ∷ bs) x ≡ true = λ x m. or_true (has n x) (is_node r bs x) m in
-      let new : (x : ℕ) → has n x ≡ true → is_node r (n ∷ bs) x ≡ true = λ x h. or_first (has n x) (is_node r bs x) h in
+      let old : (x : ℕ) → is_node r bs x ≡ true → is_node r (n ∷ bs) x ≡ true = λ x m. or_right (has n x) (is_node r bs x) m in
+      let new : (x : ℕ) → has n x ≡ true → is_node r (n ∷ bs) x ≡ true = λ x h. or_left (has n x) (is_node r bs x) h in
       let away : n.parent ≡ r → ⊥ = λ e. let z : link_of bs r ≡ 0 = ap (link_of bs) (sym e) ∙ f.vacant in let l = st.rooted in omega arith in
       let words_more : other_words s (n ∷ bs) ≡ size n + other_words s bs = other-more s n bs away in
       let old_words = st.within low in
@@ -103,7 +102,7 @@ module _ (s : Setting) (bs : List LinkedBlock) (words after : List ℕ) (k : ℕ
         tallies = λ x m. tally x m ∙ (⊎_elim
             (λ (h : has n x ≡ true). (blank x h).0 ∙ sym (visits-new s n bs f words k nodes x h))
             (λ (h : is_node r bs x ≡ true). st.exact.tallies x h ∙ sym (visits-block s n bs f words k nodes x h))
-            (either_true (has n x) (is_node r bs x) m)
+            (or_cases (has n x) (is_node r bs x) m)
             ∙ sym (visits-words s (n ∷ bs) words after k same x));
         seen = λ b y i h. seen b y i h ∙ (⊎_elim
             (λ (e : b ≡ n). (blank y (ap (λ (d : LinkedBlock). has d y) (sym e) ∙ h)).1 ∙ sym (ap (λ (d : LinkedBlock). sights_at s (n ∷ bs) words k d y) e ∙ sights-new s n bs f words k nodes y))
@@ -114,7 +113,7 @@ module _ (s : Setting) (bs : List LinkedBlock) (words after : List ℕ) (k : ℕ
       record {
         exact = exact;
         recorded = λ j l. record-words s (n ∷ bs) words after k same j l (record-block s n bs f words j (st.recorded j l));
-        rooted = omega (arith, st.rooted, ap (λ (t : Bool). cond t n.start (link_of bs r)) (other_is n.parent r away));
+        rooted = omega (arith, st.rooted, ap (λ (t : Bool). cond t n.start (link_of bs r)) (ne_eqb n.parent r away));
         first = λ b x y i hx hy z. ⊎_elim
             (λ (e : b ≡ n).
             let h : has n x ≡ true = ap (λ (d : LinkedBlock). has d x) (sym e) ∙ hx in
@@ -129,7 +128,7 @@ module _ (s : Setting) (bs : List LinkedBlock) (words after : List ℕ) (k : ℕ
             (λ (h : is_node r bs x ≡ true).
             let empty : is_empty_at (board_of s bs x) c ≡ true = sym (ap (λ (p : NodeState). is_empty_at p.board c) (spot-same s n bs x f h)) ∙ e in
             omega (arith, st.leaves low x c h empty, ends-words s bs words after k same x))
-            (either_true (has n x) (is_node r bs x) m);
+            (or_cases (has n x) (is_node r bs x) m);
         within = λ l. omega (arith, next, old_words, words_more);
         room = omega (arith, next, old_words, words_more);
       }
@@ -139,7 +138,7 @@ whole s bs words k h = record { order = h.linked.order; filled = h.filled }
 
 -- a block's node is not the root
 not_root : (r : ℕ) (bs : List LinkedBlock) (b : LinkedBlock) (y : ℕ) → InOrder r bs → In b bs → has b y ≡ true → y ≡ r → ⊥
-not_root r bs b y g i h e = not_both (has b y) h (ap (has b) e ∙ in-out (oldest_first bs) b r (in-turned bs b i) (root-out r bs g))
+not_root r bs b y g i h e = clash (has b y) h (ap (has b) e ∙ in-out (oldest_first bs) b r (in-turned bs b i) (root-out r bs g))
 
 -- after the leaf has got its block, or none
 pub standing-widened : (s : Setting) (bs after_bs : List LinkedBlock) (words after : List ℕ) (k : ℕ) → IsSetting s → k ≤ s.knobs.playouts
@@ -187,7 +186,7 @@ standing-widened s bs cs words after k set few h st h' w keeps =
     (λ (a : asks s (next_in words) v p ≡ false).
     let next : next_in after ≡ next_in words = w.next ∙ next-stays s (next_in words) v p a in
     standing-kept s bs words after k st same tally' seen' (omega (arith, next)) (λ l. next ∙ st.within (omega (arith, l, next))) (omega (arith, next, st.room)))
-    (bool_is (asks s (next_in words) v p))))
+    (cases_Bool (asks s (next_in words) v p))))
     w.block
 
 one_gain : (o : Ending) (p : NodeState) → (gain_of o p).visits ≡ 1
@@ -256,20 +255,20 @@ standing-added s bs words after k n o low h st played sated a rec at won =
           (λ (t : is_on s bs x lf ≡ false).
           let stays : tally_in after x ≡ plus (p x) nothing = tally x nx ∙ ap (λ (u : Bool). plus (p x) (cond u (gain_of o (node_state s bs x)) nothing)) t in
           omega (arith, ap (λ (c : Count). c.visits) stays, st.first b x y i hx hy none))
-          (bool_is (is_on s bs x lf));
+          (cases_Bool (is_on s bs x lf));
       leaves = λ l x c m e.
           let low_next : next_in words ≤ end_of s = omega (arith, l, a.next) in
           let before : ends_at after k x ≡ ends_at words k x = ends-words s bs words after k same x in
           ⊎_elim
           (λ (t : (leaf_of after k == x) ≡ true).
-          let is : lf ≡ x = sym leaf ∙ eq_of (leaf_of after k) x t in
+          let is : lf ≡ x = sym leaf ∙ eqb-true (leaf_of after k) x t in
           let board : node_state s bs x ≡ spot = ap (node_state s bs) (sym is) ∙ at_leaf in
           let some : 0 < length (empties_of spot.board) = some-empty spot.board c (sym (ap (λ (z : NodeState). is_empty_at z.board c) board) ∙ e) in
           let fewer : v.visits < s.knobs.expand = asks-not s (next_in words) v spot sated some low_next in
           let count : v ≡ p x = state-count g (fair_game s) p q (oldest_first bs) r (root_state s) ∙ ap p is in
           omega (arith, before, ap one_if t, ends-visits s bs words k x m, ap (λ (z : Count). z.visits) (st.exact.tallies x m), ap (λ (z : Count). z.visits) count, fewer))
           (λ (t : (leaf_of after k == x) ≡ false). omega (arith, before, ap one_if t, st.leaves low_next x c m e))
-          (bool_is (leaf_of after k == x));
+          (cases_Bool (leaf_of after k == x));
       within = λ l. a.next ∙ st.within (omega (arith, l, a.next));
       room = omega (arith, a.next, st.room);
     } in

@@ -2,7 +2,7 @@
 use Rattle.std.proofs.Common.{◌≡◌, ℕ, ◌+◌, ◌*◌, ◌%◌, ◌<◌, Bool, false, cond, List, ap, arith}
 use Rattle.hex_cells.specs.declared.colours.Colour.{Colour}
 use Rattle.hex_cells.specs.declared.colours.Colour.TheVariants.{Black, White}
-use Rattle.hex_board.specs.Wins.{is_same}
+use Rattle.hex_cells.specs.Colours.{is_same}
 use Rattle.tree_words.specs.Settings.{Setting, IsSetting}
 use Rattle.tree_words.specs.Words.{root_at, next_in, leaf_in, winner_in, tally_in, seen_in}
 use Rattle.tree_words.specs.Blocks.{LinkedBlock, one_if}
@@ -11,7 +11,7 @@ use Rattle.play_out.specs.declared.playouts.Ending.{Ending}
 use Rattle.tree_words.specs.Sequence.{outcome_of, asks, game_of}
 use Rattle.tree_words.specs.Trees.{oldest_first}
 use Rattle.tree_words.specs.Descents.{ends, Widened, Added, leaf_at, config_of}
-use Rattle.tree_words.proofs.BlockLaws.{same_is, other_is}
+use Rattle.std.proofs.lemmas.Bool.{eq-eqb, ne_eqb}
 use Rattle.seq_search.specs.Steps.{Holds, KeepsRecords, Records}
 use Rattle.seq_search.specs.IsSearched.{IsSearched}
 use Rattle.tree_words.proofs.Leaves.{Whole, root-out, sprouts-of}
@@ -20,8 +20,8 @@ use Rattle.seq_search.proofs.Standings.{standing-widened, standing-added}
 
 -- the leaf and the winner are read off the record
 pub record-reads : (leaf n : ℕ) (c : Colour) → n ≡ 2 * leaf + one_if (is_same c White) → (leaf_in n ≡ leaf) × (winner_in n ≡ c)
-record-reads leaf n Black e = let even : n % 2 ≡ 0 = omega arith in (omega arith, ap (λ (t : Bool). cond t Black White) (same_is (n % 2) 0 even))
-record-reads leaf n White e = let odd : n % 2 ≡ 1 = omega arith in (omega arith, ap (λ (t : Bool). cond t Black White) (other_is (n % 2) 0 (λ z. omega (arith, odd, z))))
+record-reads leaf n Black e = let even : n % 2 ≡ 0 = omega arith in (omega arith, ap (λ (t : Bool). cond t Black White) (eq-eqb (n % 2) 0 even))
+record-reads leaf n White e = let odd : n % 2 ≡ 1 = omega arith in (omega arith, ap (λ (t : Bool). cond t Black White) (ne_eqb (n % 2) 0 (λ z. omega (arith, odd, z))))
 
 -- where the leaf has got its block, or none, it asks for none
 pub standing-asks : (s : Setting) (bs after_bs : List LinkedBlock) (words after : List ℕ) (k : ℕ) → IsSetting s → Holds s after_bs after k

@@ -21,9 +21,10 @@ use Rattle.tree_words.specs.Trees.{oldest_first}
 use Rattle.tree_words.specs.Sequence.{child_of, chosen_of, game_of, children_in}
 use Rattle.tree_words.specs.Descents.{pairs_of, pick, leaf_inner, state_leaf, state_inner, steps_inner, Bare}
 use Rattle.tree_words.proofs.Adds.{is_child}
-use Rattle.tree_words.proofs.BlockLaws.{eq_of, same_is, bool_is, apart, up_same, true_both, lt_of}
-use Rattle.tree_words.proofs.Down.{child-has, pick-in, not_both, never}
-use Rattle.tree_words.proofs.GameLaws.{up-in, in-node, root_node, fair_game}
+use Rattle.std.proofs.lemmas.Bool.{eqb-true, eq-eqb, cases_Bool, and_parts, ltb-true, false_from_ne_true}
+use Rattle.tree_words.proofs.BlockLaws.{apart, up_same, clash, root_node}
+use Rattle.tree_words.proofs.Down.{child-has, pick-in}
+use Rattle.tree_words.proofs.GameLaws.{up-in, in-node, fair_game}
 use Rattle.tree_words.proofs.Links.{down-bare, leaf-link, state-link, steps-link}
 use Rattle.tree_words.proofs.Orders.{rooted-turned, link-bare}
 use Rattle.tree_words.proofs.RootLaws.{filter_at}
@@ -34,7 +35,9 @@ use Rattle.seq_search.specs.Choosing.{CanBeScored}
 use Rattle.seq_search.specs.declared.descending.Descent.{Descent}
 use Rattle.seq_search.specs.Descending.{spot_in, steps_in, left_on, HasRoom, leaf_below, state_below, steps_below, Underway, Descended}
 use Rattle.seq_search.proofs.LinkLaws.{IsBelow, below, node-fits, child-move, child-counts}
-use Rattle.tree_words.proofs.EmptyLaws.{below-empty, on-board, few-cells, cell-of-move, up-root}
+use Rattle.hex_cells.proofs.Tables.{square_small}
+use Rattle.hex_board.proofs.Placed.{empty_on, placed_empty, placed_size}
+use Rattle.tree_words.proofs.EmptyLaws.{below-empty, cell-of-move, up-root}
 use Rattle.tree_words.proofs.ChildLaws.{pairs-children}
 
 -- how a call of the way down is told that the words are those of a search
@@ -111,22 +114,22 @@ fewer-le (suc n) f g h = let r = fewer-le n f g h in one (f n) (g n) (h n) r
     one : {a b : ℕ} (t u : Bool) → (u ≡ true → t ≡ true) → b ≤ a → b + one_if u ≤ a + one_if t
     one true true h l = omega (arith, l)
     one true false h l = omega (arith, l)
-    one false true h l = absurd (not_both false (h refl) refl)
+    one false true h l = absurd (clash false (h refl) refl)
     one false false h l = omega (arith, l)
 
 fewer : (n c : ℕ) (f g : ℕ → Bool) → ((k : ℕ) → g k ≡ true → (f k ≡ true) × (k ≢ c)) → f c ≡ true → c < n → count_below n g < count_below n f
 fewer zero c f g h e l = absurd (omega arith)
 fewer (suc n) c f g h e l = ⊎_elim
     (λ (t : (n == c) ≡ true).
-    let at : n ≡ c = eq_of n c t in
-    let off : g n ≡ false = never (g n) (λ u. (h n u).1 at) in
+    let at : n ≡ c = eqb-true n c t in
+    let off : g n ≡ false = false_from_ne_true (g n) (λ u. (h n u).1 at) in
     let on : f n ≡ true = ap f at ∙ e in
     let r = fewer-le n f g (λ k u. (h k u).0) in
     omega (arith, r, ap one_if off, ap one_if on))
     (λ (t : (n == c) ≡ false).
     let r = fewer n c f g h e (past n c t l) in
     step (f n) (g n) (λ u. (h n u).0) r)
-    (bool_is (n == c))
+    (cases_Bool (n == c))
   where
     past : (n c : ℕ) → (n == c) ≡ false → c < suc n → c < n
     past n c t l = grind (arith, nat_tests)
@@ -134,7 +137,7 @@ fewer (suc n) c f g h e l = ⊎_elim
     step : {a b : ℕ} (t u : Bool) → (u ≡ true → t ≡ true) → b < a → b + one_if u < a + one_if t
     step true true h l = omega (arith, l)
     step true false h l = omega (arith, l)
-    step false true h l = absurd (not_both false (h refl) refl)
+    step false true h l = absurd (clash false (h refl) refl)
     step false false h l = omega (arith, l)
 
 most-below : (n : ℕ) (f : ℕ → Bool) → count_below n f ≤ n
@@ -145,48 +148,19 @@ most-below (suc n) f = let r = most-below n f in one (f n) r
     one true l = omega (arith, l)
     one false l = omega (arith, l)
 
--- on a board with one more stone
-has-with-cell : (set c k : ℕ) → c < 121 → has_cell (with_cell set c) k ≡ (has_cell set k || k == c)
-has-with-cell set c k l = ap (λ (v : ℕ). has_cell v k) (sym (with_value set c l)) ∙ has_with set c k (omega (arith, l))
-
-placed_leaves : (p : Position) (player : Colour) (c k : ℕ) → c < 121 → is_empty_at (placed p player c) k ≡ (is_empty_at p k && not (k == c))
-placed_leaves p Black c k l = ap (λ b. nat_lt k (p.size * p.size) && not b && not (has_cell p.white k)) (has-with-cell p.black c k l) ∙ black (nat_lt k (p.size * p.size)) (has_cell p.black k) (has_cell p.white k) (k == c)
-  where
-    black : (a b w e : Bool) → (a && not (b || e) && not w) ≡ ((a && not b && not w) && not e)
-    black a b w e = grind arith
-placed_leaves p White c k l = ap (λ b. nat_lt k (p.size * p.size) && not (has_cell p.black k) && not b) (has-with-cell p.white c k l) ∙ white (nat_lt k (p.size * p.size)) (has_cell p.black k) (has_cell p.white k) (k == c)
-  where
-    white : (a b w e : Bool) → (a && not b && not (w || e)) ≡ ((a && not b && not w) && not e)
-    white a b w e = grind arith
-
-placed-empty : (p : Position) (player : Colour) (c k : ℕ) → c < 121 → is_empty_at (placed p player c) k ≡ true → (is_empty_at p k ≡ true) × (k ≢ c)
-placed-empty p player c k l e =
-    let t = true_both (is_empty_at p k) (not (k == c)) (sym (placed_leaves p player c k l) ∙ e) in
-    (t.0, apart_of k c t.1)
-  where
-    apart_of : (k c : ℕ) → not (k == c) ≡ true → k ≢ c
-    apart_of k c h e = no (k == c) (same_is k c e) h
-      where
-        no : (u : Bool) → u ≡ true → not u ≡ true → ⊥
-        no u a b = cc
-
-pub placed-size : (p : Position) (player : Colour) (c : ℕ) → (placed p player c).size ≡ p.size
-placed-size p Black c = refl
-placed-size p White c = refl
-
 pub most-left : (p : Position) → left_on p ≤ 121
 unfolding left_on
 most-left p = most-below 121 (is_empty_at p)
 
 fewer-left : (p : Position) (player : Colour) (c : ℕ) → is_empty_at p c ≡ true → c < 121 → left_on (placed p player c) < left_on p
 unfolding left_on
-fewer-left p player c e l = fewer 121 c (is_empty_at p) (is_empty_at (placed p player c)) (λ k u. placed-empty p player c k l u) e l
+fewer-left p player c e l = fewer 121 c (is_empty_at p) (is_empty_at (placed p player c)) (λ k u. placed_empty p player c k u) e l
 
 -- a walk that can take a step has room for it
 pub step-count : (d : Descent) (cell : ℕ) → is_empty_at d.board cell ≡ true → HasRoom d → d.count < 121
 step-count d cell e r =
-    let o = on-board d.board cell e in
-    let m = few-cells d.board.size r.size in
+    let o = empty_on d.board cell e in
+    let m = square_small d.board.size r.size in
     let f = fewer-left d.board d.player cell e (omega arith) in
     omega (arith, f, r.cells)
 
@@ -194,14 +168,14 @@ step-count d cell e r =
 module _ (d e : Descent) (cell kid : ℕ) (board : e.board ≡ placed d.board d.player cell) (player : e.player ≡ other_of d.player) (node : e.node ≡ kid)
     (steps : e.steps ≡ set d.steps d.count kid) (count : e.count ≡ d.count + 1) (empty : is_empty_at d.board cell ≡ true) where
   step-cell : d.board.size ≤ 11 → cell < 121
-  step-cell l = let o = on-board d.board cell empty in let m = few-cells d.board.size l in omega arith
+  step-cell l = let o = empty_on d.board cell empty in let m = square_small d.board.size l in omega arith
 
   pub step-room : HasRoom d → HasRoom e
   step-room r =
       let f = fewer-left d.board d.player cell empty (step-cell r.size) in
       let same : left_on e.board ≡ left_on (placed d.board d.player cell) = ap left_on board in
       record {
-        size = subst (λ (n : ℕ). n ≤ 11) (sym (ap (λ (p : Position). p.size) board ∙ placed-size d.board d.player cell)) r.size;
+        size = subst (λ (n : ℕ). n ≤ 11) (sym (ap (λ (p : Position). p.size) board ∙ placed_size d.board d.player cell)) r.size;
         cells = omega (arith, f, r.cells, count, same);
         long = ap length steps ∙ length-set d.steps d.count kid ∙ r.long;
       }
@@ -309,8 +283,8 @@ module _ (s : Setting) (words : List ℕ) (d : Descent) (block visits weight cho
       let kid-at = chosen-at s bs words k few h d.node block u.node at some visits weight chosen own same is in
       let empty : is_empty_at d.board (cell_at b chosen) ≡ true
       = ap (λ (p : NodeState). is_empty_at p.board (cell_at b chosen)) u.spot ∙ chosen-empty s bs words k few h d.node block u.node at some visits weight chosen own same is z in
-      let on = on-board d.board (cell_at b chosen) empty in
-      let low = few-cells d.board.size small in
+      let on = empty_on d.board (cell_at b chosen) empty in
+      let low = square_small d.board.size small in
       let move : cell_in (slice_index words (block + 4 + 4 * chosen)) ≡ cell_at b chosen
       = ap (λ (y : ℕ). cell_in (slice_index words y)) kid-at ∙ ap cell_in (child-move s bs words k h b chosen t.1.inside within) ∙ cell-of-move chosen (cell_at b chosen) (omega (arith, on, low)) in
       (b, t.1, pick-is, within, kid-at, move, empty)

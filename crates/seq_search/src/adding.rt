@@ -2,7 +2,7 @@
 
 ghost use Rattle.std.specs.Prelude.{◌≡◌, ℕ, ◌+◌, ◌*◌, ◌^◌, ◌≤◌, ◌<◌, length, set, slice_index, List, true};
 ghost use Rattle.hex_cells.specs.declared.colours.Colour.TheVariants.{White};
-ghost use Rattle.hex_board.specs.Wins.{is_same};
+ghost use Rattle.hex_cells.specs.Colours.{is_same};
 ghost use Rattle.tree_words.specs.Blocks.{LinkedBlock, one_if, words_of};
 ghost use Rattle.tree_words.specs.Words.{cell_in, root_at};
 ghost use Rattle.tree_words.specs.Paths.{root_state};

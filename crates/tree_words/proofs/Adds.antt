@@ -6,8 +6,9 @@ use Rattle.tree_words.specs.Blocks.{LinkedBlock, child, has, place, cell_at}
 use Rattle.tree_words.specs.Walks.{nothing, plus, Tree, node, done, Game, lit, pairs, add, add_row}
 use Rattle.tree_words.specs.Trees.{row_of, tree_leaf, tree_inner, tree_at}
 use Rattle.tree_words.specs.Descents.{pick, adds_leaf, adds_inner, adds, sees_leaf, sees_inner, sees, top, Out, Sprouts}
-use Rattle.tree_words.proofs.BlockLaws.{eq_of, same_is, other_is, bool_is}
-use Rattle.tree_words.proofs.Down.{Fair, plus-nothing, not_both, child-has, down-here, down-else, top-out, top-in, top-past, never, cell-tree, lit-tree, pairs-row, row-add, pick-in, under-not, adds-off, sees-off, same-under}
+use Rattle.std.proofs.lemmas.Bool.{eqb-true, eq-eqb, ne_eqb, cases_Bool, false_from_ne_true}
+use Rattle.tree_words.proofs.BlockLaws.{clash}
+use Rattle.tree_words.proofs.Down.{Fair, plus-nothing, child-has, down-here, down-else, top-out, top-in, top-past, cell-tree, lit-tree, pairs-row, row-add, pick-in, under-not, adds-off, sees-off, same-under}
 
 pub is_child : (a k : ℕ) → (a + 4 + 4 * k - a - 4) / 4 ≡ k
 is_child a k = omega arith
@@ -25,11 +26,11 @@ module _ {S O : Type 0} (g : Game S O) (fair : Fair g) (o : O) (p q p' q' : ℕ 
       → ((w : ℕ) → top bs w ≡ x → (w ≡ x → ⊥) → q' w ≡ plus (q w) (sees g p q o bs x s w))
       → tree_at p' q' bs x c e ≡ add g o (tree_at p q bs x c e) s
   add-tree [] x c e s sp out hp hq =
-      let v : p' x ≡ plus (p x) (g.gain o s) = hp x refl ∙ ap (λ (t : Bool). plus (p x) (cond t (g.gain o s) nothing)) (same_is x x refl) in
+      let v : p' x ≡ plus (p x) (g.gain o s) = hp x refl ∙ ap (λ (t : Bool). plus (p x) (cond t (g.gain o s) nothing)) (eq-eqb x x refl) in
       ap (λ (n : Count). node c n e done) v
   add-tree (b ∷ bs) x c e s sp out hp hq = ⊎_elim
       (λ (t : (b.parent == x) ≡ true).
-      let par : b.parent ≡ x = eq_of b.parent x t in
+      let par : b.parent ≡ x = eqb-true b.parent x t in
       let j : ℕ = pick g p q b x in
       let lj : j < length b.cells = pick-in g fair p q b x sp.0.some in
       let hj : has b (child b j) ≡ true = child-has b j lj in
@@ -38,17 +39,17 @@ module _ {S O : Type 0} (g : Game S O) (fair : Fair g) (o : O) (p q p' q' : ℕ 
       let H : ℕ → ℕ → Tree = λ y d. tree_at p' q' bs y d (q' y) in
       -- the walk's adds, seen from the child
       let pw : (w : ℕ) → top (b ∷ bs) w ≡ x → (x ≡ w → ⊥) → p' w ≡ plus (p w) (adds g p q o bs (child b j) s' w)
-      = λ w u n. hp w u ∙ ap (plus (p w)) (ap (λ (f : S → ℕ → Count). f s w) (down-here (adds_leaf g p q o) (adds_inner g p q o) b bs x t) ∙ ap (λ (r : Bool). cond r (g.gain o s) (adds g p q o bs (child b j) s' w)) (other_is x w n)) in
+      = λ w u n. hp w u ∙ ap (plus (p w)) (ap (λ (f : S → ℕ → Count). f s w) (down-here (adds_leaf g p q o) (adds_inner g p q o) b bs x t) ∙ ap (λ (r : Bool). cond r (g.gain o s) (adds g p q o bs (child b j) s' w)) (ne_eqb x w n)) in
       let qw : (w : ℕ) → top (b ∷ bs) w ≡ x → (w ≡ x → ⊥) → has b w ≡ false → q' w ≡ plus (q w) (sees g p q o bs (child b j) s' w)
       = λ w u n h. hq w u n ∙ ap (plus (q w)) (ap (λ (f : S → ℕ → Count). f s w) (down-here (sees_leaf g p q o) (sees_inner g p q o) b bs x t) ∙ ap (λ (r : Bool). cond r (g.glimpse o s (cell_at b (place b w))) (sees g p q o bs (child b j) s' w)) h) in
       let below : (y w : ℕ) → has b y ≡ true → top bs w ≡ y → (w ≡ y → ⊥) → has b w ≡ false
-      = λ y w h u n. never (has b w) (λ r. n (sym (top-out bs w (sp.0.apart w r)) ∙ u)) in
+      = λ y w h u n. false_from_ne_true (has b w) (λ r. n (sym (top-out bs w (sp.0.apart w r)) ∙ u)) in
       -- the seen of each child
       let mine : (k y : ℕ) → k < length b.cells → y ≡ b.start + 4 + 4 * k → q' y ≡ plus (q y) (g.glimpse o s (cell_at b k))
       = λ k y l is.
       let h : has b y ≡ true = ap (has b) is ∙ child-has b k l in
       let at : place b y ≡ k = ap (place b) is ∙ is_child b.start k in
-      hq y (top-in b bs y y (top-out bs y (sp.0.apart y h)) h ∙ par) (λ z. not_both (has b y) h (ap (has b) z ∙ out.0))
+      hq y (top-in b bs y y (top-out bs y (sp.0.apart y h)) h ∙ par) (λ z. clash (has b y) h (ap (has b) z ∙ out.0))
       ∙ ap (plus (q y)) (ap (λ (f : S → ℕ → Count). f s y) (down-here (sees_leaf g p q o) (sees_inner g p q o) b bs x t)
       ∙ ap (λ (r : Bool). cond r (g.glimpse o s (cell_at b (place b y))) (sees g p q o bs (child b j) s' y)) h
       ∙ ap (λ (z : ℕ). g.glimpse o s (cell_at b z)) at) in
@@ -73,7 +74,7 @@ module _ {S O : Type 0} (g : Game S O) (fair : Fair g) (o : O) (p q p' q' : ℕ 
       let rows : row_of H (b.start + 4) b.cells ≡ add_row g o (row_of F (b.start + 4) b.cells) j s
       = row-add g o s F H (b.start + 4) b.cells j by one (λ y d. cell-tree p q bs y d (q y)) in
       let chose : j ≡ g.choose (p x) (pairs (row_of F (b.start + 4) b.cells)) = ap (g.choose (p x)) (sym (pairs-row p q bs (b.start + 4) b.cells)) in
-      let tally : p' x ≡ plus (p x) (g.gain o s) = hp x (top-out (b ∷ bs) x out) ∙ ap (plus (p x)) (ap (λ (f : S → ℕ → Count). f s x) (down-here (adds_leaf g p q o) (adds_inner g p q o) b bs x t) ∙ ap (λ (r : Bool). cond r (g.gain o s) (adds g p q o bs (child b j) s' x)) (same_is x x refl)) in
+      let tally : p' x ≡ plus (p x) (g.gain o s) = hp x (top-out (b ∷ bs) x out) ∙ ap (plus (p x)) (ap (λ (f : S → ℕ → Count). f s x) (down-here (adds_leaf g p q o) (adds_inner g p q o) b bs x t) ∙ ap (λ (r : Bool). cond r (g.gain o s) (adds g p q o bs (child b j) s' x)) (eq-eqb x x refl)) in
       let all : node c (p' x) e (row_of H (b.start + 4) b.cells) ≡ node c (plus (p x) (g.gain o s)) e (add_row g o (row_of F (b.start + 4) b.cells) (g.choose (p x) (pairs (row_of F (b.start + 4) b.cells))) s)
       = λ i. node c (tally i) e ((rows ∙ ap (λ (n : ℕ). add_row g o (row_of F (b.start + 4) b.cells) n s) chose) i) in
       ap (λ (f : ℕ → Count → Tree). f c e) (down-here (tree_leaf p') (tree_inner p' q') b bs x t) ∙ all ∙ sym (ap (λ (f : ℕ → Count → Tree). add g o (f c e) s) (down-here (tree_leaf p) (tree_inner p q) b bs x t)))
@@ -83,4 +84,4 @@ module _ {S O : Type 0} (g : Game S O) (fair : Fair g) (o : O) (p q p' q' : ℕ 
       (λ w u. hp w (top-past b bs w x u out.0) ∙ ap (λ (f : S → ℕ → Count). plus (p w) (f s w)) (down-else (adds_leaf g p q o) (adds_inner g p q o) b bs x t))
       (λ w u n. hq w (top-past b bs w x u out.0) n ∙ ap (λ (f : S → ℕ → Count). plus (q w) (f s w)) (down-else (sees_leaf g p q o) (sees_inner g p q o) b bs x t))
       ∙ sym (ap (λ (f : ℕ → Count → Tree). add g o (f c e) s) (down-else (tree_leaf p) (tree_inner p q) b bs x t)))
-      (bool_is (b.parent == x))
+      (cases_Bool (b.parent == x))

@@ -15,28 +15,22 @@ use Rattle.tree_words.specs.Walks.{nothing, Game, leaf_state}
 use Rattle.play_out.specs.declared.playouts.Ending.{Ending}
 use Rattle.tree_words.specs.Sequence.{size_below, asks, gets_block, next_after, game_of}
 use Rattle.tree_words.specs.Descents.{Config, ends, NewBlock, Widened, pick, leaf_inner, leaf_at, state_leaf, state_inner, state_at, top, Out, Sprouts}
-use Rattle.tree_words.proofs.BlockLaws.{true_both, le_of, lt_of, same_is, bool_is}
+use Rattle.std.proofs.lemmas.Bool.{and_parts, leb-true, ltb-true, eq-eqb, cases_Bool}
 use Rattle.tree_words.proofs.RootLaws.{filter_some, few_cells}
 use Rattle.tree_words.proofs.Down.{Fair, child-has, pick-in, down-here, down-else, same-under}
 use Rattle.tree_words.proofs.Expands.{state-tree}
 use Rattle.tree_words.proofs.GameLaws.{fair_game}
-
-on_board : (p : Position) (k : ℕ) → is_empty_at p k ≡ true → k < p.size * p.size
-on_board p k e = lt_of _ _ (true_both _ _ ((true_both _ _ e).0)).0
+use Rattle.hex_board.proofs.Placed.{empty_on, placed_size}
 
 -- a board with an empty cell has one in its list
 pub some-empty : (p : Position) (c : ℕ) → is_empty_at p c ≡ true → 0 < length (empties_of p)
 unfolding empties_of
-some-empty p c e = filter_some (is_empty_at p) 0 (p.size * p.size) c e (omega arith) (omega (arith, on_board p c e))
+some-empty p c e = filter_some (is_empty_at p) 0 (p.size * p.size) c e (omega arith) (omega (arith, empty_on p c e))
 
 -- no block is larger than the largest
 pub size-most : (p : NodeState) → p.board.size ≤ 11 → size_below p ≤ MOST_BLOCK_WORDS
 unfolding empties_of
 size-most p l = omega (arith, few_cells p.board.size (is_empty_at p.board) l)
-
-same_size : (p : Position) (c : Colour) (k : ℕ) → (placed p c k).size ≡ p.size
-same_size p Black k = refl
-same_size p White k = refl
 
 -- all boards of a tree have one size
 pub spot-size : (s : Setting) (bs : List LinkedBlock) (x : ℕ) → (node_state s bs x).board.size ≡ s.board.size
@@ -44,14 +38,14 @@ spot-size s [] x = refl
 spot-size s (b ∷ bs) x =
     let A : NodeState = node_state s bs b.parent in
     ⊎_elim
-    (λ (h : has b x ≡ true). ap (λ (t : Bool). (cond t (state_after A (cell_at b (place b x))) (node_state s bs x)).board.size) h ∙ same_size A.board A.player (cell_at b (place b x)) ∙ spot-size s bs b.parent)
+    (λ (h : has b x ≡ true). ap (λ (t : Bool). (cond t (state_after A (cell_at b (place b x))) (node_state s bs x)).board.size) h ∙ placed_size A.board A.player (cell_at b (place b x)) ∙ spot-size s bs b.parent)
     (λ (h : has b x ≡ false). ap (λ (t : Bool). (cond t (state_after A (cell_at b (place b x))) (node_state s bs x)).board.size) h ∙ spot-size s bs x)
-    (bool_is (has b x))
+    (cases_Bool (has b x))
 
 pub asks-then : (s : Setting) (next : ℕ) (v : Count) (p : NodeState) → asks s next v p ≡ true → (s.knobs.expand ≤ v.visits) × (next ≤ end_of s)
 asks-then s next v p e =
-    let t = true_both (nat_le s.knobs.expand v.visits) (nat_lt 0 (length (empties_of p.board)) && nat_le next (end_of s)) e in
-    (le_of _ _ t.0, le_of _ _ (true_both (nat_lt 0 (length (empties_of p.board))) (nat_le next (end_of s)) t.1).1)
+    let t = and_parts (nat_le s.knobs.expand v.visits) (nat_lt 0 (length (empties_of p.board)) && nat_le next (end_of s)) e in
+    (leb-true _ _ t.0, leb-true _ _ (and_parts (nat_lt 0 (length (empties_of p.board))) (nat_le next (end_of s)) t.1).1)
 
 -- where it asks for none though it could have one, it has too few visits
 pub asks-not : (s : Setting) (next : ℕ) (v : Count) (p : NodeState) → asks s next v p ≡ false → 0 < length (empties_of p.board) → next ≤ end_of s → v.visits < s.knobs.expand
@@ -78,7 +72,7 @@ past-asks s next v p l = none (nat_le s.knobs.expand v.visits) (nat_lt 0 (length
 pub next-gets : (s : Setting) (next : ℕ) (v : Count) (p : NodeState) → gets_block s next v p ≡ true → (next ≤ end_of s) × (next_after s next v p ≡ next + size_below p)
 unfolding gets_block next_after
 next-gets s next v p e =
-    let t = true_both (asks s next v p) (nat_le (next + size_below p) (end_of s)) e in
+    let t = and_parts (asks s next v p) (nat_le (next + size_below p) (end_of s)) e in
     ((asks-then s next v p t.0).1, ap (λ (u : Bool). cond u (next + size_below p) next) t.0)
 
 pub next-vain : (s : Setting) (next : ℕ) (v : Count) (p : NodeState) → gets_block s next v p ≡ false → asks s next v p ≡ true
@@ -105,17 +99,17 @@ module _ {S O : Type 0} (g : Game S O) (fair : Fair g) (p q : ℕ → Count) whe
       (λ (t : (b.parent == x) ≡ false).
       ap (λ (f : S → Count × S). (f s).0) (down-else (state_leaf g p q) (state_inner g p q) b os x t)
       ∙ state-count os x s ∙ sym (ap p (down-else (λ (y : ℕ). y) (leaf_inner g p q) b os x t)))
-      (bool_is (b.parent == x))
+      (cases_Bool (b.parent == x))
 
   -- with a new block below the leaf, the walk ends at one of its nodes
   pub leaf-snoc : (n : LinkedBlock) (os : List LinkedBlock) (x : ℕ) → n.parent ≡ leaf_at g p q os x → leaf_at g p q (os ++ n ∷ []) x ≡ child n (pick g p q n n.parent)
-  leaf-snoc n [] x e = down-here (λ (y : ℕ). y) (leaf_inner g p q) n [] x (same_is n.parent x e) ∙ ap (λ (z : ℕ). child n (pick g p q n z)) (sym e)
+  leaf-snoc n [] x e = down-here (λ (y : ℕ). y) (leaf_inner g p q) n [] x (eq-eqb n.parent x e) ∙ ap (λ (z : ℕ). child n (pick g p q n z)) (sym e)
   leaf-snoc n (b ∷ os) x e = ⊎_elim
       (λ (t : (b.parent == x) ≡ true). down-here (λ (y : ℕ). y) (leaf_inner g p q) b (os ++ n ∷ []) x t
       ∙ leaf-snoc n os (child b (pick g p q b x)) (e ∙ down-here (λ (y : ℕ). y) (leaf_inner g p q) b os x t))
       (λ (t : (b.parent == x) ≡ false). down-else (λ (y : ℕ). y) (leaf_inner g p q) b (os ++ n ∷ []) x t
       ∙ leaf-snoc n os x (e ∙ down-else (λ (y : ℕ). y) (leaf_inner g p q) b os x t))
-      (bool_is (b.parent == x))
+      (cases_Bool (b.parent == x))
 
   -- the walk reads nothing but the counts under its node
   pub state-same : (p' q' : ℕ → Count) (os : List LinkedBlock) (x : ℕ) (s : S) → Sprouts os → Out os x
@@ -154,5 +148,5 @@ widened-asks s r c d l sp out w =
     (λ (a : asks s c.next v p ≡ false).
     let stay : d.next ≡ c.next = w.next ∙ next-stays s c.next v p a in
     (λ i. asks s (stay i) (as_before i).0 (as_before i).1) ∙ a)
-    (bool_is (asks s c.next v p)))
+    (cases_Bool (asks s c.next v p)))
     w.block

@@ -5,21 +5,14 @@ use Rattle.std.proofs.lemmas.Bool.Decides.{nat_tests}
 use Rattle.std.proofs.lemmas.List.Sums.{sum_by-cons}
 use Rattle.tree_words.specs.Words.{move_of}
 use Rattle.tree_words.specs.Blocks.{LinkedBlock, one_if, size, covers, has, up, is_node, link_of, header_or_move, stays, cover, Follows, InOrder, In}
+use Rattle.std.proofs.lemmas.Bool.{eq-eqb, and_parts, leb-true, ltb-true, eqb-true, or_cases, false_from_ne_true, both_ways, or_right}
 
-pub true_both : (a b : Bool) → (a && b) ≡ true → (a ≡ true) × (b ≡ true)
-true_both a b e = grind (arith, nat_tests)
-
-pub le_of : (a b : ℕ) → nat_le a b ≡ true → a ≤ b
-le_of a b e = grind (arith, nat_tests)
-
-pub lt_of : (a b : ℕ) → nat_lt a b ≡ true → a < b
-lt_of a b e = grind (arith, nat_tests)
-
-pub eq_of : (a b : ℕ) → (a == b) ≡ true → a ≡ b
-eq_of a b e = grind (arith, nat_tests)
+-- no test is both
+pub clash : (t : Bool) → t ≡ true → t ≡ false → ⊥
+clash t a b = both_ways t b a
 
 pub covers_of : (i : ℕ) (b : LinkedBlock) → covers i b ≡ true → (b.start ≤ i) × (i < b.start + size b)
-covers_of i b e = let t = true_both (nat_le b.start i) (nat_lt i (b.start + size b)) e in (le_of _ _ t.0, lt_of _ _ t.1)
+covers_of i b e = let t = and_parts (nat_le b.start i) (nat_lt i (b.start + size b)) e in (leb-true _ _ t.0, ltb-true _ _ t.1)
 
 pub covers_if : (i : ℕ) (b : LinkedBlock) → b.start ≤ i → i < b.start + size b → covers i b ≡ true
 covers_if i b l h = both (b.start) i (b.start + size b) l h
@@ -30,11 +23,11 @@ covers_if i b l h = both (b.start) i (b.start + size b) l h
 -- where a node of the block is
 pub has-at : (b : LinkedBlock) (x : ℕ) → has b x ≡ true → (k : ℕ) × (k < length b.cells) × (x ≡ b.start + (4 + 4 * k))
 has-at b x h =
-    let t = true_both (nat_le (b.start + 4) x) (nat_lt x (b.start + size b) && ((x - b.start) % 4 == 0)) h in
-    let u = true_both (nat_lt x (b.start + size b)) ((x - b.start) % 4 == 0) t.1 in
-    let low : b.start + 4 ≤ x = le_of _ _ t.0 in
-    let high : x < b.start + size b = lt_of _ _ u.0 in
-    let even : (x - b.start) % 4 ≡ 0 = eq_of _ _ u.1 in
+    let t = and_parts (nat_le (b.start + 4) x) (nat_lt x (b.start + size b) && ((x - b.start) % 4 == 0)) h in
+    let u = and_parts (nat_lt x (b.start + size b)) ((x - b.start) % 4 == 0) t.1 in
+    let low : b.start + 4 ≤ x = leb-true _ _ t.0 in
+    let high : x < b.start + size b = ltb-true _ _ u.0 in
+    let even : (x - b.start) % 4 ≡ 0 = eqb-true _ _ u.1 in
     ((x - b.start) / 4 - 1, omega arith, omega arith)
 
 pub has-here : (b : LinkedBlock) (k : ℕ) → k < length b.cells → has b (b.start + (4 + 4 * k)) ≡ true
@@ -54,40 +47,27 @@ module _ {A : Type 0} (root : A) (step : LinkedBlock → ℕ → A → A) where
 pub cover-cons : (i : ℕ) (b : LinkedBlock) (bs : List LinkedBlock) → cover i (b ∷ bs) ≡ one_if (covers i b) + cover i bs
 cover-cons i b bs = sum_by-cons (λ (c : LinkedBlock). one_if (covers i c)) b bs
 
-pub either_true : (a b : Bool) → (a || b) ≡ true → (a ≡ true) ⊎ (b ≡ true)
-either_true a b e = grind (arith, nat_tests)
-
-pub not_both : (t : Bool) → (t ≡ true → ⊥) → t ≡ false
-not_both true h = absurd (h refl)
-not_both false h = refl
-
 -- a node's words are covered, or it is the root
 pub node-cover : (r : ℕ) (bs : List LinkedBlock) (x i : ℕ) → is_node r bs x ≡ true → i < 4 → (x ≡ r) ⊎ (0 < cover (x + i) bs)
-node-cover r [] x i n l = inl (eq_of x r n)
+node-cover r [] x i n l = inl (eqb-true x r n)
 node-cover r (b ∷ bs) x i n l = ⊎_elim
     (λ (h : has b x ≡ true). inr (omega (arith, cover-cons (x + i) b bs, ap one_if (has-covers b x i h l))))
     (λ (h : is_node r bs x ≡ true). ⊎_elim (λ (e : x ≡ r). inl e) (λ (p : 0 < cover (x + i) bs). inr (omega (arith, cover-cons (x + i) b bs))) (node-cover r bs x i h l))
-    (either_true (has b x) (is_node r bs x) n)
+    (or_cases (has b x) (is_node r bs x) n)
 
 -- no word of a node of the others lies in the new block
 pub node-apart : (r : ℕ) (b : LinkedBlock) (bs : List LinkedBlock) (x i : ℕ) → Follows r b bs → is_node r bs x ≡ true → i < 4 → covers (x + i) b ≡ false
-node-apart r b bs x i f n l = not_both (covers (x + i) b) (λ h. ⊎_elim
+node-apart r b bs x i f n l = false_from_ne_true (covers (x + i) b) (λ h. ⊎_elim
     (λ (e : x ≡ r). let t = covers_of (x + i) b h in let low = f.root in omega arith)
     (λ (p : 0 < cover (x + i) bs). let z = f.clear (x + i) h in omega arith)
     (node-cover r bs x i n l))
 
 -- a node of the others is no node of the new block
 pub apart : (r : ℕ) (b : LinkedBlock) (bs : List LinkedBlock) (x : ℕ) → Follows r b bs → is_node r bs x ≡ true → has b x ≡ false
-apart r b bs x f n = not_both (has b x) (λ h. no (covers (x + 0) b) (has-covers b x 0 h (omega arith)) (node-apart r b bs x 0 f n (omega arith)))
+apart r b bs x f n = false_from_ne_true (has b x) (λ h. no (covers (x + 0) b) (has-covers b x 0 h (omega arith)) (node-apart r b bs x 0 f n (omega arith)))
   where
     no : (t : Bool) → t ≡ true → t ≡ false → ⊥
     no t a b = cc
-
-pub same_is : (a b : ℕ) → a ≡ b → (a == b) ≡ true
-same_is a b e = grind (arith, nat_tests)
-
-pub other_is : (a b : ℕ) → (a ≡ b → ⊥) → (a == b) ≡ false
-other_is a b e = grind (arith, nat_tests)
 
 -- the word of a move
 pub move-word : (b : LinkedBlock) (k : ℕ) → header_or_move b (4 + 4 * k) ≡ move_of k (get_or b.cells k 0)
@@ -103,6 +83,7 @@ move-word b k = at b (4 + 4 * k) k refl
 pub move-stays : (k : ℕ) → stays (4 + 4 * k) ≡ true
 move-stays k = let m : (4 + 4 * k) % 4 ≡ 0 = omega arith in grind (arith, nat_tests)
 
-pub bool_is : (t : Bool) → (t ≡ true) ⊎ (t ≡ false)
-bool_is true = inl refl
-bool_is false = inr refl
+-- the root is a node
+pub root_node : (r : ℕ) (bs : List LinkedBlock) → is_node r bs r ≡ true
+root_node r [] = eq-eqb r r refl
+root_node r (b ∷ bs) = or_right (has b r) (is_node r bs r) (root_node r bs)

@@ -5,9 +5,10 @@ use Rattle.tree_words.specs.Words.{Count}
 use Rattle.tree_words.specs.Blocks.{LinkedBlock, child, has, place, cell_at, In}
 use Rattle.tree_words.specs.Walks.{nothing, Game}
 use Rattle.tree_words.specs.Descents.{pick, leaf_inner, leaf_at, adds_leaf, adds_inner, adds, sees_leaf, sees_inner, sees, Out, Sprouts}
-use Rattle.tree_words.proofs.BlockLaws.{eq_of, other_is, bool_is}
-use Rattle.tree_words.proofs.Down.{Fair, not_both, down-here, down-else, down-split}
-use Rattle.tree_words.proofs.Climbs.{over, climb, over-in, over-past, climb-out, meets, or_first, or_false, neither, in-out, child-in, meets-on, meets-none, state_step, step-child}
+use Rattle.std.proofs.lemmas.Bool.{eqb-true, ne_eqb, cases_Bool, or_left, or_from}
+use Rattle.tree_words.proofs.BlockLaws.{clash}
+use Rattle.tree_words.proofs.Down.{Fair, down-here, down-else, down-split}
+use Rattle.tree_words.proofs.Climbs.{over, climb, over-in, over-past, climb-out, meets, or_false, in-out, child-in, meets-on, meets-none, state_step, step-child}
 
 module _ {S O : Type 0} (g : Game S O) (fair : Fair g) (p q : ℕ → Count) (o : O) where
   -- each node of the path gains, and no other
@@ -15,11 +16,11 @@ module _ {S O : Type 0} (g : Game S O) (fair : Fair g) (p q : ℕ → Count) (o 
       → adds g p q o os x s w ≡ cond (climb (meets (λ (z : ℕ). z == w)) on os (leaf_at g p q os x)) (g.gain o (climb (state_step g) root os w)) nothing
   adds-up [] root on x w s sp out e a = ⊎_elim
       (λ (t : (x == w) ≡ true).
-      let at : g.gain o s ≡ g.gain o (root w) = ap (g.gain o) (sym e ∙ ap root (eq_of x w t)) in
+      let at : g.gain o s ≡ g.gain o (root w) = ap (g.gain o) (sym e ∙ ap root (eqb-true x w t)) in
       ap (λ (u : Bool). cond u (g.gain o s) nothing) t ∙ at ∙ sym (ap (λ (u : Bool). cond u (g.gain o (root w)) nothing) (a ∙ t)))
       (λ (t : (x == w) ≡ false).
       ap (λ (u : Bool). cond u (g.gain o s) nothing) t ∙ sym (ap (λ (u : Bool). cond u (g.gain o (root w)) nothing) (a ∙ t)))
-      (bool_is (x == w))
+      (cases_Bool (x == w))
   adds-up (b ∷ os) root on x w s sp out e a = ⊎_elim
       (λ (t : (b.parent == x) ≡ true).
       let test : ℕ → Bool = λ z. z == w in
@@ -34,15 +35,15 @@ module _ {S O : Type 0} (g : Game S O) (fair : Fair g) (p q : ℕ → Count) (o 
       ∙ ⊎_elim
       (λ (u : (x == w) ≡ true).
       let met : F (leaf_at g p q (b ∷ os) x) ≡ true = meets-on g fair p q test (b ∷ os) on x sp out (a ∙ u) in
-      let at : g.gain o s ≡ g.gain o R = ap (g.gain o) (sym e ∙ sym (climb-out (state_step g) root (b ∷ os) x out) ∙ ap (climb (state_step g) root (b ∷ os)) (eq_of x w u)) in
+      let at : g.gain o s ≡ g.gain o R = ap (g.gain o) (sym e ∙ sym (climb-out (state_step g) root (b ∷ os) x out) ∙ ap (climb (state_step g) root (b ∷ os)) (eqb-true x w u)) in
       ap (λ (v : Bool). cond v (g.gain o s) (adds g p q o os y s' w)) u ∙ at ∙ sym (ap (λ (v : Bool). cond v (g.gain o R) nothing) met))
       (λ (u : (x == w) ≡ false).
       ap (λ (v : Bool). cond v (g.gain o s) (adds g p q o os y s' w)) u
       ∙ adds-up os (over (state_step g) root b) (over (meets test) on b) y w s' sp.1 (sp.0.apart y h)
-      (over-in (state_step g) root b x y h (eq_of b.parent x t) ∙ step-child g b j (root x) ∙ ap (λ (z : S). g.next z (cell_at b j)) e)
-      (over-in (meets test) on b x y h (eq_of b.parent x t) ∙ or_false (y == w) (on x) (a ∙ u))
+      (over-in (state_step g) root b x y h (eqb-true b.parent x t) ∙ step-child g b j (root x) ∙ ap (λ (z : S). g.next z (cell_at b j)) e)
+      (over-in (meets test) on b x y h (eqb-true b.parent x t) ∙ or_false (y == w) (on x) (a ∙ u))
       ∙ ap (λ (z : ℕ). cond (F z) (g.gain o R) nothing) (sym lf))
-      (bool_is (x == w)))
+      (cases_Bool (x == w)))
       (λ (t : (b.parent == x) ≡ false).
       let test : ℕ → Bool = λ z. z == w in
       let F : ℕ → Bool = climb (meets test) (over (meets test) on b) os in
@@ -52,7 +53,7 @@ module _ {S O : Type 0} (g : Game S O) (fair : Fair g) (p q : ℕ → Count) (o 
       ∙ adds-up os (over (state_step g) root b) (over (meets test) on b) x w s sp.1 out.1
       (over-past (state_step g) root b x out.0 ∙ e) (over-past (meets test) on b x out.0 ∙ a)
       ∙ ap (λ (z : ℕ). cond (F z) (g.gain o R) nothing) (sym lf))
-      (bool_is (b.parent == x))
+      (cases_Bool (b.parent == x))
 
   -- nothing is seen at what is no node of the blocks
   pub sees-out : (os : List LinkedBlock) (x w : ℕ) (s : S) → Out os w → sees g p q o os x s w ≡ nothing
@@ -66,10 +67,10 @@ module _ {S O : Type 0} (g : Game S O) (fair : Fair g) (p q : ℕ → Count) (o 
 
 -- which of the blocks has the node
 own : (b c : LinkedBlock) (os : List LinkedBlock) (w : ℕ) → Sprouts (c ∷ os) → In b (c ∷ os) → has b w ≡ true → has c w ≡ true → b ≡ c
-own b c os w sp i h k = ⊎_elim (λ (e : b ≡ c). e) (λ (j : In b os). absurd (not_both (has b w) h (in-out os b w j (sp.0.apart w k)))) i
+own b c os w sp i h k = ⊎_elim (λ (e : b ≡ c). e) (λ (j : In b os). absurd (clash (has b w) h (in-out os b w j (sp.0.apart w k)))) i
 
 older : (b c : LinkedBlock) (os : List LinkedBlock) (w : ℕ) → In b (c ∷ os) → has b w ≡ true → has c w ≡ false → In b os
-older b c os w i h k = ⊎_elim (λ (e : b ≡ c). absurd (not_both (has b w) h (ap (λ (d : LinkedBlock). has d w) e ∙ k))) (λ (j : In b os). j) i
+older b c os w i h k = ⊎_elim (λ (e : b ≡ c). absurd (clash (has b w) h (ap (λ (d : LinkedBlock). has d w) e ∙ k))) (λ (j : In b os). j) i
 
 module _ {S O : Type 0} (g : Game S O) (fair : Fair g) (p q : ℕ → Count) (o : O) where
   -- each node of a block that the path enters is seen or not, and no other
@@ -94,8 +95,8 @@ module _ {S O : Type 0} (g : Game S O) (fair : Fair g) (p q : ℕ → Count) (o 
       let is : c ≡ b = own c b os w sp i h u in
       let cy : has c y ≡ true = ap (λ (d : LinkedBlock). has d y) is ∙ hy in
       let met : F (leaf_at g p q (b ∷ os) x) ≡ true
-      = ap F lf ∙ meets-on g fair p q (has c) os (over (meets (has c)) on b) y sp.1 (sp.0.apart y hy) (over-in (meets (has c)) on b x y hy (eq_of b.parent x t) ∙ or_first (has c y) (on x) cy) in
-      let at : s ≡ R = sym e ∙ sym (climb-out step root (b ∷ os) x out) ∙ ap (climb step root (b ∷ os)) (sym (eq_of b.parent x t) ∙ ap (λ (d : LinkedBlock). d.parent) (sym is)) in
+      = ap F lf ∙ meets-on g fair p q (has c) os (over (meets (has c)) on b) y sp.1 (sp.0.apart y hy) (over-in (meets (has c)) on b x y hy (eqb-true b.parent x t) ∙ or_left (has c y) (on x) cy) in
+      let at : s ≡ R = sym e ∙ sym (climb-out step root (b ∷ os) x out) ∙ ap (climb step root (b ∷ os)) (sym (eqb-true b.parent x t) ∙ ap (λ (d : LinkedBlock). d.parent) (sym is)) in
       ap (λ (v : Bool). cond v (g.glimpse o s (cell_at b (place b w))) (sees g p q o os y s' w)) u
       ∙ ap (λ (d : LinkedBlock). g.glimpse o s (cell_at d (place d w))) (sym is)
       ∙ ap G at ∙ sym (ap (λ (v : Bool). cond v (G R) nothing) met))
@@ -103,10 +104,10 @@ module _ {S O : Type 0} (g : Game S O) (fair : Fair g) (p q : ℕ → Count) (o 
       let j' : In c os = older c b os w i h u in
       ap (λ (v : Bool). cond v (g.glimpse o s (cell_at b (place b w))) (sees g p q o os y s' w)) u
       ∙ sees-up os (over step root b) (over (meets (has c)) on b) y w s' c sp.1 (sp.0.apart y hy)
-      (over-in step root b x y hy (eq_of b.parent x t) ∙ step-child g b j (root x) ∙ ap (λ (z : S). g.next z (cell_at b j)) e)
-      (over-in (meets (has c)) on b x y hy (eq_of b.parent x t) ∙ neither (has c y) (on x) (in-out os c y j' (sp.0.apart y hy)) a) j' h
+      (over-in step root b x y hy (eqb-true b.parent x t) ∙ step-child g b j (root x) ∙ ap (λ (z : S). g.next z (cell_at b j)) e)
+      (over-in (meets (has c)) on b x y hy (eqb-true b.parent x t) ∙ or_from (has c y) (on x) (in-out os c y j' (sp.0.apart y hy)) a) j' h
       ∙ ap (λ (z : ℕ). cond (F z) (G R) nothing) (sym lf))
-      (bool_is (has b w)))
+      (cases_Bool (has b w)))
       (λ (t : (b.parent == x) ≡ false).
       let lf : leaf_at g p q (b ∷ os) x ≡ leaf_at g p q os x = down-else (λ (y : ℕ). y) (leaf_inner g p q) b os x t in
       ap (λ (f : S → ℕ → Count). f s w) (down-else (sees_leaf g p q o) (sees_inner g p q o) b os x t)
@@ -121,8 +122,8 @@ module _ {S O : Type 0} (g : Game S O) (fair : Fair g) (p q : ℕ → Count) (o 
       sees-up os (over step root b) (over (meets (has c)) on b) x w s c sp.1 out.1
       (over-past step root b x out.0 ∙ e) (over-past (meets (has c)) on b x out.0 ∙ a) j' h
       ∙ ap (λ (z : ℕ). cond (F z) (G R) nothing) (sym lf))
-      (bool_is (has b w)))
-      (bool_is (b.parent == x))
+      (cases_Bool (has b w)))
+      (cases_Bool (b.parent == x))
 
 module _ {S O : Type 0} (g : Game S O) (fair : Fair g) (p q : ℕ → Count) where
   -- a node of the path below x is the child that is chosen in its block
@@ -142,24 +143,24 @@ module _ {S O : Type 0} (g : Game S O) (fair : Fair g) (p q : ℕ → Count) whe
       (λ (u : has b w ≡ true).
       let is : c ≡ b = own c b os w sp i h u in
       ⊎_elim
-      (λ (v : (y == w) ≡ true). sym (eq_of y w v) ∙ ap (λ (z : ℕ). child b (pick g p q b z)) (sym (eq_of b.parent x t)) ∙ ap (λ (d : LinkedBlock). child d (pick g p q d d.parent)) (sym is))
+      (λ (v : (y == w) ≡ true). sym (eqb-true y w v) ∙ ap (λ (z : ℕ). child b (pick g p q b z)) (sym (eqb-true b.parent x t)) ∙ ap (λ (d : LinkedBlock). child d (pick g p q d d.parent)) (sym is))
       (λ (v : (y == w) ≡ false).
       let unmet : F (leaf_at g p q os y) ≡ false
-      = meets-none g fair p q test os (over (meets test) on b) y sp.1 (sp.0.apart y hy) (λ z k. subst (Out os) (sym (eq_of z w k)) (sp.0.apart w u)) (over-in (meets test) on b x y hy (eq_of b.parent x t) ∙ neither (y == w) (on x) v a) in
-      absurd (not_both (F (leaf_at g p q os y)) met' unmet))
-      (bool_is (y == w)))
+      = meets-none g fair p q test os (over (meets test) on b) y sp.1 (sp.0.apart y hy) (λ z k. subst (Out os) (sym (eqb-true z w k)) (sp.0.apart w u)) (over-in (meets test) on b x y hy (eqb-true b.parent x t) ∙ or_from (y == w) (on x) v a) in
+      absurd (clash (F (leaf_at g p q os y)) met' unmet))
+      (cases_Bool (y == w)))
       (λ (u : has b w ≡ false).
-      let away : (y == w) ≡ false = other_is y w (λ z. not_both (has b y) hy (ap (has b) z ∙ u)) in
-      on-picked os (over (meets test) on b) y w c sp.1 (sp.0.apart y hy) (over-in (meets test) on b x y hy (eq_of b.parent x t) ∙ neither (y == w) (on x) away a) (older c b os w i h u) h met')
-      (bool_is (has b w)))
+      let away : (y == w) ≡ false = ne_eqb y w (λ z. clash (has b y) hy (ap (has b) z ∙ u)) in
+      on-picked os (over (meets test) on b) y w c sp.1 (sp.0.apart y hy) (over-in (meets test) on b x y hy (eqb-true b.parent x t) ∙ or_from (y == w) (on x) away a) (older c b os w i h u) h met')
+      (cases_Bool (has b w)))
       (λ (t : (b.parent == x) ≡ false).
       let lf : leaf_at g p q (b ∷ os) x ≡ leaf_at g p q os x = down-else (λ (y : ℕ). y) (leaf_inner g p q) b os x t in
       let met' : F (leaf_at g p q os x) ≡ true = ap F (sym lf) ∙ met in
       ⊎_elim
       (λ (u : has b w ≡ true).
       let unmet : F (leaf_at g p q os x) ≡ false
-      = meets-none g fair p q test os (over (meets test) on b) x sp.1 out.1 (λ z k. subst (Out os) (sym (eq_of z w k)) (sp.0.apart w u)) (over-past (meets test) on b x out.0 ∙ a) in
-      absurd (not_both (F (leaf_at g p q os x)) met' unmet))
+      = meets-none g fair p q test os (over (meets test) on b) x sp.1 out.1 (λ z k. subst (Out os) (sym (eqb-true z w k)) (sp.0.apart w u)) (over-past (meets test) on b x out.0 ∙ a) in
+      absurd (clash (F (leaf_at g p q os x)) met' unmet))
       (λ (u : has b w ≡ false). on-picked os (over (meets test) on b) x w c sp.1 out.1 (over-past (meets test) on b x out.0 ∙ a) (older c b os w i h u) h met')
-      (bool_is (has b w)))
-      (bool_is (b.parent == x))
+      (cases_Bool (has b w)))
+      (cases_Bool (b.parent == x))

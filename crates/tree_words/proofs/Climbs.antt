@@ -7,9 +7,10 @@ use Rattle.tree_words.specs.Blocks.{LinkedBlock, child, has, place, cell_at, up,
 use Rattle.tree_words.specs.Walks.{Game}
 use Rattle.tree_words.specs.Trees.{oldest_first}
 use Rattle.tree_words.specs.Descents.{pick, leaf_inner, leaf_at, state_leaf, state_inner, state_at, Out, Sprouts}
-use Rattle.tree_words.proofs.BlockLaws.{eq_of, bool_is}
-use Rattle.tree_words.proofs.Down.{Fair, not_both, child-has, down-here, down-else, down-split, pick-in}
+use Rattle.tree_words.proofs.BlockLaws.{clash}
+use Rattle.tree_words.proofs.Down.{Fair, child-has, down-here, down-else, down-split, pick-in}
 use Rattle.tree_words.proofs.Adds.{is_child}
+use Rattle.std.proofs.lemmas.Bool.{or_right, or_from, eqb-true, cases_Bool}
 
 -- What is gathered from x up, the blocks oldest first: the oldest block goes into the root's part, which is a function of the node.
 module _ {A : Type 0} (step : LinkedBlock → ℕ → A → A) where
@@ -43,21 +44,9 @@ module _ {A : Type 0} (step : LinkedBlock → ℕ → A → A) where
 abbrev pub meets : (ℕ → Bool) → LinkedBlock → ℕ → Bool → Bool
 meets test b y rest = test y || rest
 
-pub or_true : (a b : Bool) → b ≡ true → (a || b) ≡ true
-or_true true b e = refl
-or_true false b e = e
-
-pub or_first : (a b : Bool) → a ≡ true → (a || b) ≡ true
-or_first true b e = refl
-or_first false b e = absurd (not_both false e refl)
-
 pub or_false : (a b : Bool) → b ≡ false → (a || b) ≡ a
 or_false true b e = refl
 or_false false b e = e
-
-pub neither : (a b : Bool) → a ≡ false → b ≡ false → (a || b) ≡ false
-neither true b d e = d
-neither false b d e = e
 
 pub path-meets : (test : ℕ → Bool) (r : ℕ) (bs : List LinkedBlock) (y : ℕ)
     → list_any test (up (r ∷ []) (λ b z rest. z ∷ rest) bs y) ≡ up (test r || false) (meets test) bs y
@@ -94,7 +83,7 @@ module _ {S O : Type 0} (g : Game S O) (fair : Fair g) (p q : ℕ → Count) whe
       (λ (t : (b.parent == x) ≡ true).
       let y : ℕ = child b (pick g p q b x) in
       let h : has b y ≡ true = child-in b x sp.0.some in
-      meets-on test os (over (meets test) on b) y sp.1 (sp.0.apart y h) (over-in (meets test) on b x y h (eq_of b.parent x t) ∙ or_true (test y) (on x) e))
+      meets-on test os (over (meets test) on b) y sp.1 (sp.0.apart y h) (over-in (meets test) on b x y h (eqb-true b.parent x t) ∙ or_right (test y) (on x) e))
       (λ (t : (b.parent == x) ≡ false). meets-on test os (over (meets test) on b) x sp.1 out.1 (over-past (meets test) on b x out.0 ∙ e))
 
   -- nothing is met where no node of the blocks passes the test
@@ -105,8 +94,8 @@ module _ {S O : Type 0} (g : Game S O) (fair : Fair g) (p q : ℕ → Count) whe
       (λ (t : (b.parent == x) ≡ true).
       let y : ℕ = child b (pick g p q b x) in
       let h : has b y ≡ true = child-in b x sp.0.some in
-      let n : test y ≡ false = ⊎_elim (λ (u : test y ≡ true). absurd (not_both (has b y) h (no-one y u).0)) (λ (u : test y ≡ false). u) (bool_is (test y)) in
-      meets-none test os (over (meets test) on b) y sp.1 (sp.0.apart y h) (λ z u. (no-one z u).1) (over-in (meets test) on b x y h (eq_of b.parent x t) ∙ neither (test y) (on x) n e))
+      let n : test y ≡ false = ⊎_elim (λ (u : test y ≡ true). absurd (clash (has b y) h (no-one y u).0)) (λ (u : test y ≡ false). u) (cases_Bool (test y)) in
+      meets-none test os (over (meets test) on b) y sp.1 (sp.0.apart y h) (λ z u. (no-one z u).1) (over-in (meets test) on b x y h (eqb-true b.parent x t) ∙ or_from (test y) (on x) n e))
       (λ (t : (b.parent == x) ≡ false). meets-none test os (over (meets test) on b) x sp.1 out.1 (λ z u. (no-one z u).1) (over-past (meets test) on b x out.0 ∙ e))
 
   -- the state at the leaf is what is gathered up
@@ -119,10 +108,10 @@ module _ {S O : Type 0} (g : Game S O) (fair : Fair g) (p q : ℕ → Count) whe
       let y : ℕ = child b j in
       let h : has b y ≡ true = child-in b x sp.0.some in
       ap (climb (state_step g) (over (state_step g) root b) os) (down-here (λ (y : ℕ). y) (leaf_inner g p q) b os x t)
-      ∙ state-up os (over (state_step g) root b) y (g.next s (cell_at b j)) sp.1 (sp.0.apart y h) (over-in (state_step g) root b x y h (eq_of b.parent x t) ∙ step-child g b j (root x) ∙ ap (λ (a : S). g.next a (cell_at b j)) e)
+      ∙ state-up os (over (state_step g) root b) y (g.next s (cell_at b j)) sp.1 (sp.0.apart y h) (over-in (state_step g) root b x y h (eqb-true b.parent x t) ∙ step-child g b j (root x) ∙ ap (λ (a : S). g.next a (cell_at b j)) e)
       ∙ sym (ap (λ (f : S → Count × S). (f s).1) (down-here (state_leaf g p q) (state_inner g p q) b os x t)))
       (λ (t : (b.parent == x) ≡ false).
       ap (climb (state_step g) (over (state_step g) root b) os) (down-else (λ (y : ℕ). y) (leaf_inner g p q) b os x t)
       ∙ state-up os (over (state_step g) root b) x s sp.1 out.1 (over-past (state_step g) root b x out.0 ∙ e)
       ∙ sym (ap (λ (f : S → Count × S). (f s).1) (down-else (state_leaf g p q) (state_inner g p q) b os x t)))
-      (bool_is (b.parent == x))
+      (cases_Bool (b.parent == x))

@@ -3,7 +3,7 @@ use Rattle.std.proofs.Common.{◌≡◌, ◌≢◌, ℕ, ◌+◌, ◌≤◌, ◌
 use Rattle.std.specs.Prelude.{◌==◌}
 use Rattle.hex_cells.specs.Sets.{has as has_cell}
 use Rattle.hex_cells.specs.declared.colours.Colour.{Colour}
-use Rattle.hex_board.specs.Wins.{is_same}
+use Rattle.hex_cells.specs.Colours.{is_same}
 use Rattle.hex_board.specs.Positions.{stones_of}
 use Rattle.tree_words.specs.Settings.{Setting}
 use Rattle.tree_words.specs.Words.{Count, root_at, count_in, visits_in, wins_in, tally_in, seen_in}
@@ -14,8 +14,9 @@ use Rattle.tree_words.specs.Trees.{oldest_first}
 use Rattle.play_out.specs.declared.playouts.Ending.{Ending}
 use Rattle.tree_words.specs.Sequence.{one, gain_of, glimpse_of, game_of, amount_of}
 use Rattle.tree_words.specs.Descents.{pick, adds_leaf, adds_inner, adds, sees_leaf, sees_inner, sees}
-use Rattle.tree_words.proofs.BlockLaws.{eq_of, other_is, apart}
-use Rattle.tree_words.proofs.Down.{down-split, not_both}
+use Rattle.std.proofs.lemmas.Bool.{eqb-true, ne_eqb}
+use Rattle.tree_words.proofs.BlockLaws.{apart, clash}
+use Rattle.tree_words.proofs.Down.{down-split}
 use Rattle.tree_words.proofs.GameLaws.{in-node}
 
 -- a count with one more, and the word that has it
@@ -78,10 +79,10 @@ has-one r [] b c w g i j hb hc = absurd i
 has-one r (d ∷ bs) b c w g i j hb hc = ⊎_elim
     (λ (e : b ≡ d). ⊎_elim
     (λ (f : c ≡ d). e ∙ sym f)
-    (λ (f : In c bs). absurd (not_both (has d w) (ap (λ (a : LinkedBlock). has a w) (sym e) ∙ hb) (apart r d bs w g.0 (in-node r bs c w f hc))))
+    (λ (f : In c bs). absurd (clash (has d w) (ap (λ (a : LinkedBlock). has a w) (sym e) ∙ hb) (apart r d bs w g.0 (in-node r bs c w f hc))))
     j)
     (λ (e : In b bs). ⊎_elim
-    (λ (f : c ≡ d). absurd (not_both (has d w) (ap (λ (a : LinkedBlock). has a w) (sym f) ∙ hc) (apart r d bs w g.0 (in-node r bs b w e hb))))
+    (λ (f : c ≡ d). absurd (clash (has d w) (ap (λ (a : LinkedBlock). has a w) (sym f) ∙ hc) (apart r d bs w g.0 (in-node r bs b w e hb))))
     (λ (f : In c bs). has-one r bs b c w g.1 e f hb hc)
     j)
     i
@@ -101,13 +102,13 @@ module _ (s : Setting) (p q : ℕ → Count) (o : Ending) where
 
   -- what lies before x gets nothing from the way below x
   pub adds-before : (os : List LinkedBlock) (x : ℕ) (u : NodeState) (w : ℕ) → Above os → w < x → adds (game_of s) p q o os x u w ≡ nothing
-  adds-before [] x u w a l = ap (λ (t : Bool). cond t (gain_of o u) nothing) (other_is x w (λ e. omega arith))
+  adds-before [] x u w a l = ap (λ (t : Bool). cond t (gain_of o u) nothing) (ne_eqb x w (λ e. omega arith))
   adds-before (b ∷ os) x u w a l = down-split (adds_leaf (game_of s) p q o) (adds_inner (game_of s) p q o) (λ (f : NodeState → ℕ → Count). f u w ≡ nothing) b os x
       (λ t.
       let j : ℕ = pick (game_of s) p q b x in
       let v : NodeState = state_after u (cell_at b j) in
-      ap (λ (t : Bool). cond t (gain_of o u) (adds (game_of s) p q o os (child b j) v w)) (other_is x w (λ e. omega arith))
-      ∙ adds-before os (child b j) v w a.1 (let e = eq_of b.parent x t in omega (arith, a.0, l, e)))
+      ap (λ (t : Bool). cond t (gain_of o u) (adds (game_of s) p q o os (child b j) v w)) (ne_eqb x w (λ e. omega arith))
+      ∙ adds-before os (child b j) v w a.1 (let e = eqb-true b.parent x t in omega (arith, a.0, l, e)))
       (λ t. adds-before os x u w a.1 l)
 
   -- what is a node of no block whose parent lies behind x sees nothing from the way below x
@@ -117,7 +118,7 @@ module _ (s : Setting) (p q : ℕ → Count) (o : Ending) where
       (λ t.
       let j : ℕ = pick (game_of s) p q b x in
       let v : NodeState = state_after u (cell_at b j) in
-      let e : b.parent ≡ x = eq_of b.parent x t in
+      let e : b.parent ≡ x = eqb-true b.parent x t in
       ap (λ (t : Bool). cond t (glimpse_of o u (cell_at b (place b w))) (sees (game_of s) p q o os (child b j) v w)) (h b (inl refl) (omega (arith, e)))
       ∙ sees-before os (child b j) v w a.1 (λ c i l. h c (inr i) (omega (arith, a.0, l, e))))
       (λ t. sees-before os x u w a.1 (λ c i l. h c (inr i) l))

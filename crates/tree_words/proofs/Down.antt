@@ -7,18 +7,16 @@ use Rattle.tree_words.specs.Blocks.{LinkedBlock, child, has, place, cell_at}
 use Rattle.tree_words.specs.Walks.{nothing, plus, Tree, node, Children, done, more, Game, cell_of, counts_of, lit, pairs, pass, add, add_row}
 use Rattle.tree_words.specs.Trees.{down, row_of, tree_leaf, tree_inner, tree_at}
 use Rattle.tree_words.specs.Descents.{pairs_of, pick, adds_leaf, adds_inner, adds, sees_leaf, sees_inner, sees, top, Out, Sprouts}
-use Rattle.tree_words.proofs.BlockLaws.{eq_of, same_is, other_is, bool_is}
+use Rattle.std.proofs.lemmas.Bool.{false_from_ne_true, eqb-true, eq-eqb, ne_eqb, cases_Bool}
+use Rattle.tree_words.proofs.BlockLaws.{clash}
 
--- what a game keeps: the chosen child is one of the children, and `next` never falls
+-- what a game keeps: the chosen child is one of the children, and `next` false_from_ne_true falls
 pub record Fair {S O : Type 0} (g : Game S O) : Type 0 where
   pub chosen : (v : Count) (l : List (Count × Count)) → 0 < length l → g.choose v l < length l
   pub grows : (n : ℕ) (v : Count) (s : S) → n ≤ g.grown n v s
 
 pub plus-nothing : (n : Count) → plus n nothing ≡ n
 plus-nothing n = λ i. record { visits = add-zero n.visits i; wins = add-zero n.wins i }
-
-pub not_both : (t : Bool) → t ≡ true → t ≡ false → ⊥
-not_both t a b = cc
 
 -- where a node of the block is
 pub child-has : (b : LinkedBlock) (k : ℕ) → k < length b.cells → has b (child b k) ≡ true
@@ -54,10 +52,6 @@ top-in b bs w y e h = ap (λ (z : ℕ). cond (has b z) b.parent z) e ∙ ap (λ 
 
 pub top-past : (b : LinkedBlock) (bs : List LinkedBlock) (w y : ℕ) → top bs w ≡ y → has b y ≡ false → top (b ∷ bs) w ≡ y
 top-past b bs w y e h = ap (λ (z : ℕ). cond (has b z) b.parent z) e ∙ ap (λ (u : Bool). cond u b.parent y) h
-
-pub never : (t : Bool) → (t ≡ true → ⊥) → t ≡ false
-never true h = absurd (h refl)
-never false h = refl
 
 -- the root of the tree
 pub cell-tree : (p q : ℕ → Count) (bs : List LinkedBlock) (x c : ℕ) (e : Count) → cell_of (tree_at p q bs x c e) ≡ c
@@ -123,18 +117,18 @@ module _ {S O : Type 0} (g : Game S O) (fair : Fair g) (p q : ℕ → Count) whe
 pub under-not : (b : LinkedBlock) (bs : List LinkedBlock) (x y w : ℕ) → Out (b ∷ bs) x → has b y ≡ true → top bs w ≡ y → x ≡ w → ⊥
 under-not b bs x y w out h t e =
     let at : x ≡ y = sym (top-out bs x out.1) ∙ ap (top bs) e ∙ t in
-    not_both (has b x) (ap (has b) at ∙ h) out.0
+    clash (has b x) (ap (has b) at ∙ h) out.0
 
 module _ {S O : Type 0} (g : Game S O) (fair : Fair g) (p q : ℕ → Count) (o : O) where
   pub adds-off : (bs : List LinkedBlock) (x w : ℕ) (s : S) → Sprouts bs → Out bs x → (top bs w ≡ x → ⊥) → adds g p q o bs x s w ≡ nothing
-  adds-off [] x w s sp out n = ap (λ (t : Bool). cond t (g.gain o s) nothing) (other_is x w (λ e. n (sym e)))
+  adds-off [] x w s sp out n = ap (λ (t : Bool). cond t (g.gain o s) nothing) (ne_eqb x w (λ e. n (sym e)))
   adds-off (b ∷ bs) x w s sp out n = down-split (adds_leaf g p q o) (adds_inner g p q o) (λ (f : S → ℕ → Count). f s w ≡ nothing) b bs x
       (λ (t : (b.parent == x) ≡ true).
       let i = pick g p q b x in
       let l : i < length b.cells = pick-in g fair p q b x sp.0.some in
       let h : has b (child b i) ≡ true = child-has b i l in
-      let rest : adds g p q o bs (child b i) (g.next s (get_or b.cells i 0)) w ≡ nothing = adds-off bs (child b i) w (g.next s (get_or b.cells i 0)) sp.1 (sp.0.apart (child b i) h) (λ e. n (top-in b bs w (child b i) e h ∙ eq_of b.parent x t)) in
-      let far : (x == w) ≡ false = other_is x w (λ e. n (ap (top (b ∷ bs)) (sym e) ∙ top-out (b ∷ bs) x out)) in
+      let rest : adds g p q o bs (child b i) (g.next s (get_or b.cells i 0)) w ≡ nothing = adds-off bs (child b i) w (g.next s (get_or b.cells i 0)) sp.1 (sp.0.apart (child b i) h) (λ e. n (top-in b bs w (child b i) e h ∙ eqb-true b.parent x t)) in
+      let far : (x == w) ≡ false = ne_eqb x w (λ e. n (ap (top (b ∷ bs)) (sym e) ∙ top-out (b ∷ bs) x out)) in
       ap (λ (u : Bool). cond u (g.gain o s) (adds g p q o bs (child b i) (g.next s (get_or b.cells i 0)) w)) far ∙ rest)
       (λ (t : (b.parent == x) ≡ false). adds-off bs x w s sp.1 out.1 (λ e. n (top-past b bs w x e out.0)))
 
@@ -145,8 +139,8 @@ module _ {S O : Type 0} (g : Game S O) (fair : Fair g) (p q : ℕ → Count) (o 
       let i = pick g p q b x in
       let l : i < length b.cells = pick-in g fair p q b x sp.0.some in
       let h : has b (child b i) ≡ true = child-has b i l in
-      let rest : sees g p q o bs (child b i) (g.next s (get_or b.cells i 0)) w ≡ nothing = sees-off bs (child b i) w (g.next s (get_or b.cells i 0)) sp.1 (sp.0.apart (child b i) h) (λ e. n (top-in b bs w (child b i) e h ∙ eq_of b.parent x t)) in
-      let far : has b w ≡ false = never (has b w) (λ (u : has b w ≡ true). n (top-in b bs w w (top-out bs w (sp.0.apart w u)) u ∙ eq_of b.parent x t)) in
+      let rest : sees g p q o bs (child b i) (g.next s (get_or b.cells i 0)) w ≡ nothing = sees-off bs (child b i) w (g.next s (get_or b.cells i 0)) sp.1 (sp.0.apart (child b i) h) (λ e. n (top-in b bs w (child b i) e h ∙ eqb-true b.parent x t)) in
+      let far : has b w ≡ false = false_from_ne_true (has b w) (λ (u : has b w ≡ true). n (top-in b bs w w (top-out bs w (sp.0.apart w u)) u ∙ eqb-true b.parent x t)) in
       ap (λ (u : Bool). cond u (g.glimpse o s (get_or b.cells (place b w) 0)) (sees g p q o bs (child b i) (g.next s (get_or b.cells i 0)) w)) far ∙ rest)
       (λ (t : (b.parent == x) ≡ false). sees-off bs x w s sp.1 out.1 (λ e. n (top-past b bs w x e out.0)))
 
@@ -157,12 +151,12 @@ pub same-under : (p q p' q' : ℕ → Count) (bs : List LinkedBlock) (x c : ℕ)
 same-under p q p' q' [] x c e sp out hp hq = ap (λ (v : Count). node c v e done) (hp x refl)
 same-under p q p' q' (b ∷ bs) x c e sp out hp hq = ⊎_elim
     (λ (t : (b.parent == x) ≡ true).
-    let par : b.parent ≡ x = eq_of b.parent x t in
+    let par : b.parent ≡ x = eqb-true b.parent x t in
     let kid : (k y : ℕ) → k < length b.cells → y ≡ b.start + 4 + 4 * k → tree_at p' q' bs y (get_or b.cells k 0) (q' y) ≡ tree_at p q bs y (get_or b.cells k 0) (q y)
     = λ k y l is.
     let h : has b y ≡ true = ap (has b) is ∙ child-has b k l in
     let o : Out bs y = sp.0.apart y h in
-    let mine : q' y ≡ q y = hq y (top-in b bs y y (top-out bs y o) h ∙ par) (λ z. not_both (has b y) h (ap (has b) z ∙ out.0)) in
+    let mine : q' y ≡ q y = hq y (top-in b bs y y (top-out bs y o) h ∙ par) (λ z. clash (has b y) h (ap (has b) z ∙ out.0)) in
     same-under p q p' q' bs y (get_or b.cells k 0) (q' y) sp.1 o
     (λ w u. hp w (top-in b bs w y u h ∙ par))
     (λ w u n. hq w (top-in b bs w y u h ∙ par) (λ z. under-not b bs x y w out h u (sym z)))
@@ -176,4 +170,4 @@ same-under p q p' q' (b ∷ bs) x c e sp out hp hq = ⊎_elim
     ap (λ (f : ℕ → Count → Tree). f c e) (down-else (tree_leaf p') (tree_inner p' q') b bs x t)
     ∙ same-under p q p' q' bs x c e sp.1 out.1 (λ w u. hp w (top-past b bs w x u out.0)) (λ w u n. hq w (top-past b bs w x u out.0) n)
     ∙ sym (ap (λ (f : ℕ → Count → Tree). f c e) (down-else (tree_leaf p) (tree_inner p q) b bs x t)))
-    (bool_is (b.parent == x))
+    (cases_Bool (b.parent == x))

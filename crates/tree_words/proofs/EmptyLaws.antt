@@ -10,15 +10,16 @@ use Rattle.tree_words.specs.Words.{root_at, move_of, cell_in}
 use Rattle.tree_words.specs.Blocks.{LinkedBlock, one_if, has, place, cell_at, InOrder, up, size}
 use Rattle.tree_words.specs.Paths.{NodeState, root_state, state_after, board_of}
 use Rattle.tree_words.specs.Complete.{allowed_cells, cells_below, HasEmpties}
-use Rattle.tree_words.proofs.BlockLaws.{eq_of, bool_is, apart, up_same, true_both, lt_of, not_both}
-use Rattle.tree_words.proofs.GameLaws.{root_node}
+use Rattle.std.proofs.lemmas.Bool.{eqb-true, cases_Bool, and_parts, ltb-true, false_from_ne_true}
+use Rattle.tree_words.proofs.BlockLaws.{apart, up_same, root_node}
 use Rattle.tree_words.proofs.RootLaws.{filter_at}
 use Rattle.std.specs.List.{filter, range_with_len}
 use Rattle.std.proofs.Math.Nat.{mul-le-mul}
 use Rattle.std.proofs.lemmas.List.Elements.{filter_agree}
 use Rattle.hex_board.specs.Joined.{cells_of}
 use Rattle.tree_words.specs.Writing.{listed}
-use Rattle.tree_words.proofs.Writes.{filter_more}
+use Rattle.play_out.proofs.Listing.{filter_more}
+use Rattle.hex_board.proofs.Placed.{empty_on}
 
 -- no block has the root among its nodes
 pub up-root : {A : Type 0} (root : A) (step : LinkedBlock → ℕ → A → A) (r : ℕ) (bs : List LinkedBlock) → InOrder r bs → up root step bs r ≡ root
@@ -37,21 +38,14 @@ allowed-empty s i h l = h.empty _ (filter_at (has_cell s.allowed) 0 (s.board.siz
 pub below-empty : (s : Setting) (bs : List LinkedBlock) (x i : ℕ) → IsSetting s → InOrder (root_at s) bs → i < length (cells_below s bs x) → is_empty_at (board_of s bs x) (get_or (cells_below s bs x) i 0) ≡ true
 below-empty s bs x i h g l = ⊎_elim
     (λ (t : (x == root_at s) ≡ true).
-    let at : x ≡ root_at s = eq_of x (root_at s) t in
+    let at : x ≡ root_at s = eqb-true x (root_at s) t in
     let cells : cells_below s bs x ≡ allowed_cells s = ap (λ (u : Bool). cond u (allowed_cells s) (empties_of (board_of s bs x))) t in
     let board : board_of s bs x ≡ s.board = ap (board_of s bs) at ∙ ap (λ (p : NodeState). p.board) (up-root (root_state s) (λ b y above. state_after above (cell_at b (place b y))) (root_at s) bs g) in
     (λ j. is_empty_at (board j) (get_or (cells j) i 0)) ∙ allowed-empty s i h (subst (λ (c : List ℕ). i < length c) cells l))
     (λ (t : (x == root_at s) ≡ false).
     let cells : cells_below s bs x ≡ empties_of (board_of s bs x) = ap (λ (u : Bool). cond u (allowed_cells s) (empties_of (board_of s bs x))) t in
     ap (λ (c : List ℕ). is_empty_at (board_of s bs x) (get_or c i 0)) cells ∙ empties-empty (board_of s bs x) i (subst (λ (c : List ℕ). i < length c) cells l))
-    (bool_is (x == root_at s))
-
--- an empty cell lies on the board
-pub on-board : (p : Position) (c : ℕ) → is_empty_at p c ≡ true → c < p.size * p.size
-on-board p c e = lt_of c (p.size * p.size) (true_both (nat_lt c (p.size * p.size)) (not (has_cell p.black c)) (true_both _ (not (has_cell p.white c)) e).0).0
-
-pub few-cells : (n : ℕ) → n ≤ 11 → n * n ≤ 121
-few-cells n l = grind arith
+    (cases_Bool (x == root_at s))
 
 pub cell-of-move : (i c : ℕ) → c < 256 → cell_in (move_of i c) ≡ c
 cell-of-move i c l = omega arith
@@ -83,7 +77,7 @@ pub count_empties : (set : ℕ) (p : Position) → p.size ≤ 11 → ((k : ℕ) 
 count_empties set p l e =
     let n : ℕ = p.size * p.size in
     let most : n ≤ 11 * 11 = mul-le-mul l l in
-    let past : members set (n + (121 - n)) ≡ members set n = members-past set n (121 - n) (λ k m. not_both (has_cell set k) (λ t. let on : k < n = on-board p k (sym (e k) ∙ t) in omega arith)) in
+    let past : members set (n + (121 - n)) ≡ members set n = members-past set n (121 - n) (λ k m. false_from_ne_true (has_cell set k) (λ t. let on : k < n = empty_on p k (sym (e k) ∙ t) in omega arith)) in
     ap (members set) (rest n most) ∙ past ∙ members-listed set n ∙ ap length (empties-listed set p e)
   where
     rest : (n : ℕ) → n ≤ 11 * 11 → 121 ≡ n + (121 - n)
@@ -93,6 +87,6 @@ count_empties set p l e =
 pub has-empties : (set : ℕ) (p : Position) → p.size ≤ 11 → ((k : ℕ) → has_cell set k ≡ is_empty_at p k) → HasEmpties set p
 has-empties set p h e = record {
   small = below_from_items set 121 (λ k t. let most : p.size * p.size ≤ 11 * 11 = mul-le-mul h h in
-      let on : k < p.size * p.size = on-board p k (sym (e k) ∙ t) in omega arith);
+      let on : k < p.size * p.size = empty_on p k (sym (e k) ∙ t) in omega arith);
   items = e;
 }

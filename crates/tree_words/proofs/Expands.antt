@@ -6,7 +6,7 @@ use Rattle.tree_words.specs.Blocks.{LinkedBlock, child, has, cell_at}
 use Rattle.tree_words.specs.Walks.{nothing, plus, Tree, node, Children, done, more, Game, cell_of, pairs, is_bare, fresh, leaf_state, leaf_row, expand, expand_row}
 use Rattle.tree_words.specs.Trees.{row_of, tree_leaf, tree_inner, tree_at}
 use Rattle.tree_words.specs.Descents.{pick, leaf_inner, leaf_at, state_leaf, state_inner, state_at, top, Out, Sprouts}
-use Rattle.tree_words.proofs.BlockLaws.{eq_of, same_is, other_is, bool_is}
+use Rattle.std.proofs.lemmas.Bool.{eqb-true, eq-eqb, ne_eqb, cases_Bool}
 use Rattle.tree_words.proofs.Down.{Fair, child-has, down-here, down-else, down-split, top-in, top-past, cell-tree, pairs-row, pick-in, row-same}
 use Rattle.tree_words.proofs.Adds.{child-other}
 
@@ -48,10 +48,10 @@ bare-row f a (c ∷ cs) l = refl
 -- a block put after the others changes only what its parent is under
 pub snoc-same : (p q : ℕ → Count) (n : LinkedBlock) (bs : List LinkedBlock) (x c : ℕ) (e : Count) → Sprouts bs → Out bs x → (top bs n.parent ≡ x → ⊥)
     → tree_at p q (bs ++ n ∷ []) x c e ≡ tree_at p q bs x c e
-snoc-same p q n [] x c e sp out h = ap (λ (f : ℕ → Count → Tree). f c e) (down-else (tree_leaf p) (tree_inner p q) n [] x (other_is n.parent x h))
+snoc-same p q n [] x c e sp out h = ap (λ (f : ℕ → Count → Tree). f c e) (down-else (tree_leaf p) (tree_inner p q) n [] x (ne_eqb n.parent x h))
 snoc-same p q n (b ∷ bs) x c e sp out h = ⊎_elim
     (λ (t : (b.parent == x) ≡ true).
-    let par : b.parent ≡ x = eq_of b.parent x t in
+    let par : b.parent ≡ x = eqb-true b.parent x t in
     let rows : row_of (λ y d. tree_at p q (bs ++ n ∷ []) y d (q y)) (b.start + 4) b.cells ≡ row_of (λ y d. tree_at p q bs y d (q y)) (b.start + 4) b.cells
     = row-same (λ y d. tree_at p q (bs ++ n ∷ []) y d (q y)) (λ y d. tree_at p q bs y d (q y)) (b.start + 4) b.cells
     (λ k y l is. let hy : has b y ≡ true = ap (has b) is ∙ child-has b k l in
@@ -62,7 +62,7 @@ snoc-same p q n (b ∷ bs) x c e sp out h = ⊎_elim
     ap (λ (f : ℕ → Count → Tree). f c e) (down-else (tree_leaf p) (tree_inner p q) b (bs ++ n ∷ []) x t)
     ∙ snoc-same p q n bs x c e sp.1 out.1 (λ z. h (top-past b bs n.parent x z out.0))
     ∙ sym (ap (λ (f : ℕ → Count → Tree). f c e) (down-else (tree_leaf p) (tree_inner p q) b bs x t)))
-    (bool_is (b.parent == x))
+    (cases_Bool (b.parent == x))
 
 module _ {S O : Type 0} (g : Game S O) (fair : Fair g) (p q : ℕ → Count) where
   -- the leaf is under the node where the walk begins
@@ -72,7 +72,7 @@ module _ {S O : Type 0} (g : Game S O) (fair : Fair g) (p q : ℕ → Count) whe
       (λ (t : (b.parent == x) ≡ true).
       let j : ℕ = pick g p q b x in
       let h : has b (child b j) ≡ true = child-has b j (pick-in g fair p q b x sp.0.some) in
-      top-in b bs (leaf_at g p q bs (child b j)) (child b j) (leaf-top bs (child b j) sp.1 (sp.0.apart (child b j) h)) h ∙ eq_of b.parent x t)
+      top-in b bs (leaf_at g p q bs (child b j)) (child b j) (leaf-top bs (child b j) sp.1 (sp.0.apart (child b j) h)) h ∙ eqb-true b.parent x t)
       (λ (t : (b.parent == x) ≡ false). top-past b bs (leaf_at g p q bs x) x (leaf-top bs x sp.1 out.1) out.0)
 
   -- the state at the leaf is that of the tree
@@ -93,7 +93,7 @@ module _ {S O : Type 0} (g : Game S O) (fair : Fair g) (p q : ℕ → Count) whe
       ap (λ (f : S → Count × S). f s) (down-else (state_leaf g p q) (state_inner g p q) b bs x t)
       ∙ state-tree bs x c e s sp.1
       ∙ sym (ap (λ (f : ℕ → Count → Tree). leaf_state g (f c e) s) (down-else (tree_leaf p) (tree_inner p q) b bs x t)))
-      (bool_is (b.parent == x))
+      (cases_Bool (b.parent == x))
 
   -- the block n, put below the leaf: the tree is expanded
   pub expand-tree : (m : ℕ) (n : LinkedBlock) (bs : List LinkedBlock) (x c : ℕ) (e : Count) (s : S) → Sprouts bs → Out bs x
@@ -103,12 +103,12 @@ module _ {S O : Type 0} (g : Game S O) (fair : Fair g) (p q : ℕ → Count) whe
   expand-tree m n [] x c e s sp out at cells wide zeros =
       let rows : row_of (λ y d. node d (p y) (q y) done) (n.start + 4) n.cells ≡ fresh n.cells
       = row-fresh p q (n.start + 4) n.cells (λ k y l is. zeros y (ap (has n) is ∙ child-has n k l)) in
-      ap (λ (f : ℕ → Count → Tree). f c e) (down-here (tree_leaf p) (tree_inner p q) n [] x (same_is n.parent x at))
+      ap (λ (f : ℕ → Count → Tree). f c e) (down-here (tree_leaf p) (tree_inner p q) n [] x (eq-eqb n.parent x at))
       ∙ ap (node c (p x) e) (rows ∙ ap fresh cells)
       ∙ sym (ap (λ (t : Bool). node c (p x) e (cond t (fresh (g.cells s)) done)) wide)
   expand-tree m n (b ∷ bs) x c e s sp out at cells wide zeros = ⊎_elim
       (λ (t : (b.parent == x) ≡ true).
-      let par : b.parent ≡ x = eq_of b.parent x t in
+      let par : b.parent ≡ x = eqb-true b.parent x t in
       let j : ℕ = pick g p q b x in
       let lj : j < length b.cells = pick-in g fair p q b x sp.0.some in
       let hj : has b (child b j) ≡ true = child-has b j lj in
@@ -140,4 +140,4 @@ module _ {S O : Type 0} (g : Game S O) (fair : Fair g) (p q : ℕ → Count) whe
       ap (λ (f : ℕ → Count → Tree). f c e) (down-else (tree_leaf p) (tree_inner p q) b (bs ++ n ∷ []) x t)
       ∙ expand-tree m n bs x c e s sp.1 out.1 (at ∙ lf) (cells ∙ ap (λ (u : Count × S). g.cells u.1) st) (sym (ap (λ (u : Count × S). g.wide m u.0 u.1) st) ∙ wide) zeros
       ∙ sym (ap (λ (f : ℕ → Count → Tree). expand g m (f c e) s) (down-else (tree_leaf p) (tree_inner p q) b bs x t)))
-      (bool_is (b.parent == x))
+      (cases_Bool (b.parent == x))

@@ -12,8 +12,9 @@ use Rattle.tree_words.specs.Complete.{HasEmpties, Complete, AreComplete, cells_b
 use Rattle.play_out.specs.Fills.{empties_of}
 use Rattle.play_out.specs.declared.playouts.Ending.{Ending}
 use Rattle.tree_words.specs.Sequence.{child_of, chosen_of, asks, next_after, size_below, game_of}
-use Rattle.tree_words.proofs.BlockLaws.{apart, up_same, same_is}
+use Rattle.tree_words.proofs.BlockLaws.{apart, up_same, root_node}
 use Rattle.tree_words.proofs.Down.{Fair}
+use Rattle.std.proofs.lemmas.Bool.{or_left, or_right, eq-eqb}
 
 choice_below : (p c : ℕ) (xs : List Child) → 0 < length xs → choice_of p c xs < length xs
 choice_below p c [] l = absurd (omega arith)
@@ -36,33 +37,18 @@ next_grows s n v p = grows_by (asks s n v p) n (size_below p)
 pub fair_game : (s : Setting) → Fair (game_of s)
 fair_game s = record { chosen = chosen_below s; grows = next_grows s }
 
-second : (a b : Bool) → b ≡ true → (a || b) ≡ true
-second true b e = refl
-second false b e = e
-
-first : (a b : Bool) → a ≡ true → (a || b) ≡ true
-first true b e = refl
-first false b e = absurd (no e)
-  where
-    no : false ≡ true → ⊥
-    no e = cc
-
-pub root_node : (r : ℕ) (bs : List LinkedBlock) → is_node r bs r ≡ true
-root_node r [] = same_is r r refl
-root_node r (b ∷ bs) = second (has b r) (is_node r bs r) (root_node r bs)
-
 -- a block's nodes are nodes of the tree, and so is its parent
 pub in-node : (r : ℕ) (bs : List LinkedBlock) (b : LinkedBlock) (x : ℕ) → In b bs → has b x ≡ true → is_node r bs x ≡ true
 in-node r [] b x i h = absurd i
 in-node r (c ∷ bs) b x i h = ⊎_elim
-    (λ (e : b ≡ c). first (has c x) (is_node r bs x) (ap (λ (d : LinkedBlock). has d x) (sym e) ∙ h))
-    (λ (j : In b bs). second (has c x) (is_node r bs x) (in-node r bs b x j h)) i
+    (λ (e : b ≡ c). or_left (has c x) (is_node r bs x) (ap (λ (d : LinkedBlock). has d x) (sym e) ∙ h))
+    (λ (j : In b bs). or_right (has c x) (is_node r bs x) (in-node r bs b x j h)) i
 
 pub in-parent : (r : ℕ) (bs : List LinkedBlock) (b : LinkedBlock) → InOrder r bs → In b bs → is_node r bs b.parent ≡ true
 in-parent r [] b g i = absurd i
 in-parent r (c ∷ bs) b g i = ⊎_elim
-    (λ (e : b ≡ c). second (has c b.parent) (is_node r bs b.parent) (ap (λ (d : LinkedBlock). is_node r bs d.parent) e ∙ g.0.parent))
-    (λ (j : In b bs). second (has c b.parent) (is_node r bs b.parent) (in-parent r bs b g.1 j)) i
+    (λ (e : b ≡ c). or_right (has c b.parent) (is_node r bs b.parent) (ap (λ (d : LinkedBlock). is_node r bs d.parent) e ∙ g.0.parent))
+    (λ (j : In b bs). or_right (has c b.parent) (is_node r bs b.parent) (in-parent r bs b g.1 j)) i
 
 module _ {A : Type 0} (root : A) (step : LinkedBlock → ℕ → A → A) where
   -- what is gathered at a node comes from its block's parent

@@ -14,12 +14,13 @@ use Rattle.tree_words.specs.Sequence.{gain_of, glimpse_of, child_of, chosen_of, 
 use Rattle.tree_words.specs.Trees.{oldest_first}
 use Rattle.tree_words.specs.Complete.{HaveNodes}
 use Rattle.tree_words.specs.Descents.{pairs_of, pick, leaf_inner, leaf_at, state_at, adds, sees, top, Out, Sprouts, Names, Inside}
-use Rattle.tree_words.proofs.BlockLaws.{eq_of, same_is, other_is, bool_is, either_true}
-use Rattle.tree_words.proofs.Down.{Fair, not_both, child-has, pick-in, down-here, down-else, down-split}
+use Rattle.std.proofs.lemmas.Bool.{eqb-true, eq-eqb, ne_eqb, cases_Bool, or_cases, or_from}
+use Rattle.tree_words.proofs.BlockLaws.{clash}
+use Rattle.tree_words.proofs.Down.{Fair, child-has, pick-in, down-here, down-else, down-split}
 use Rattle.tree_words.proofs.WalkLaws.{out-snoc, no-has}
 use Rattle.tree_words.proofs.Orders.{inside-node, sprouts-turned, link-names}
 use Rattle.tree_words.proofs.GameLaws.{fair_game}
-use Rattle.tree_words.proofs.Climbs.{climb, up-climb, meets, path-meets, or_false, neither, in-out, state_step, state-up}
+use Rattle.tree_words.proofs.Climbs.{climb, up-climb, meets, path-meets, or_false, in-out, state_step, state-up}
 use Rattle.tree_words.proofs.Bridges.{adds-up, sees-up, on-picked}
 
 -- what is needed of the linked blocks
@@ -53,15 +54,15 @@ top-snoc n (c ∷ os) w = ap (λ (y : ℕ). cond (has c y) c.parent y) (top-snoc
 
 -- each node comes from the root
 pub node-top : (r : ℕ) (bs : List LinkedBlock) (w : ℕ) → InOrder r bs → is_node r bs w ≡ true → top (oldest_first bs) w ≡ r
-node-top r [] w g n = eq_of w r n
+node-top r [] w g n = eqb-true w r n
 node-top r (b ∷ bs) w g n = top-snoc b (oldest_first bs) w ∙ ⊎_elim
     (λ (h : has b w ≡ true). ap (λ (t : Bool). top (oldest_first bs) (cond t b.parent w)) h ∙ node-top r bs b.parent g.1 g.0.parent)
-    (λ (h : has b w ≡ false). ap (λ (t : Bool). top (oldest_first bs) (cond t b.parent w)) h ∙ node-top r bs w g.1 (⊎_elim (λ (u : has b w ≡ true). absurd (not_both (has b w) u h)) (λ (u : is_node r bs w ≡ true). u) (either_true (has b w) (is_node r bs w) n)))
-    (bool_is (has b w))
+    (λ (h : has b w ≡ false). ap (λ (t : Bool). top (oldest_first bs) (cond t b.parent w)) h ∙ node-top r bs w g.1 (⊎_elim (λ (u : has b w ≡ true). absurd (clash (has b w) u h)) (λ (u : is_node r bs w ≡ true). u) (or_cases (has b w) (is_node r bs w) n)))
+    (cases_Bool (has b w))
 
 inside-out : (os : List LinkedBlock) (x : ℕ) → Inside os x → Out os x → ⊥
 inside-out [] x i out = i
-inside-out (b ∷ os) x i out = ⊎_elim (λ (h : has b x ≡ true). not_both (has b x) h out.0) (λ (j : Inside os x). inside-out os x j out.1) i
+inside-out (b ∷ os) x i out = ⊎_elim (λ (h : has b x ≡ true). clash (has b x) h out.0) (λ (j : Inside os x). inside-out os x j out.1) i
 
 module _ {S O : Type 0} (g : Game S O) (fair : Fair g) (p q : ℕ → Count) where
   -- the walk stays or ends in the blocks
@@ -79,7 +80,7 @@ module _ {S O : Type 0} (g : Game S O) (fair : Fair g) (p q : ℕ → Count) whe
   leaf-inside [] x c sp n = absurd n
   leaf-inside (b ∷ os) x c sp n = ⊎_elim
       (λ (e : (b ≡ c) × (c.parent ≡ x)).
-      let t : (b.parent == x) ≡ true = same_is b.parent x (ap (λ (d : LinkedBlock). d.parent) e.0 ∙ e.1) in
+      let t : (b.parent == x) ≡ true = eq-eqb b.parent x (ap (λ (d : LinkedBlock). d.parent) e.0 ∙ e.1) in
       let y : ℕ = child b (pick g p q b x) in
       let h : has b y ≡ true = child-has b (pick g p q b x) (pick-in g fair p q b x sp.0.some) in
       subst (Inside (b ∷ os)) (sym (down-here (λ (y : ℕ). y) (leaf_inner g p q) b os x t))
@@ -130,7 +131,7 @@ module _ (s : Setting) (p q : ℕ → Count) (bs : List LinkedBlock) (w : Whole 
       let on : ℕ → Bool = λ z. has b r || false in
       let lf : ℕ = leaf_at g p q os r in
       let met : enters s bs b lf ≡ climb (meets (has b)) on os lf = path-meets (has b) r bs lf ∙ up-climb (meets (has b)) (has b r || false) bs lf in
-      sees-up g (fair_game s) p q o os (λ (z : ℕ). root_state s) on r x (root_state s) b (sprouts-of r bs w) out refl (neither (has b r) false (in-out os b r j out) refl) j h
+      sees-up g (fair_game s) p q o os (λ (z : ℕ). root_state s) on r x (root_state s) b (sprouts-of r bs w) out refl (or_from (has b r) false (in-out os b r j out) refl) j h
       ∙ (λ i. cond (sym met i) (glimpse_of o (sym (up-climb (state_step g) (root_state s) bs b.parent) i) (cell_at b (place b x))) nothing)
 
   -- a node of a block on the leaf's path is the chosen one
@@ -146,8 +147,8 @@ module _ (s : Setting) (p q : ℕ → Count) (bs : List LinkedBlock) (w : Whole 
       let on : ℕ → Bool = λ z. test r || false in
       let lf : ℕ = leaf_at g p q os r in
       let met : is_on s bs x lf ≡ climb (meets test) on os lf = path-meets test r bs lf ∙ up-climb (meets test) (test r || false) bs lf in
-      let away : (r == x) ≡ false = other_is r x (λ z. not_both (has b x) h (ap (has b) (sym z) ∙ in-out os b r j out)) in
-      on-picked g (fair_game s) p q os on r x b (sprouts-of r bs w) out (neither (r == x) false away refl) j h (sym met ∙ e)
+      let away : (r == x) ≡ false = ne_eqb r x (λ z. clash (has b x) h (ap (has b) (sym z) ∙ in-out os b r j out)) in
+      on-picked g (fair_game s) p q os on r x b (sprouts-of r bs w) out (or_from (r == x) false away refl) j h (sym met ∙ e)
 
 -- a child without visits is chosen, where there is one
 any-unvisited : (p q : ℕ → Count) (a y k : ℕ) (cs : List ℕ) → k < length cs → y ≡ a + 4 * k → (p y).visits ≡ 0 → list_any is_unvisited (map child_of (pairs_of p q a cs)) ≡ true
@@ -167,14 +168,14 @@ first-unvisited p q a (c ∷ cs) e = ⊎_elim
     (λ (t : ((p a).visits == 0) ≡ true).
     let at : a + 4 * cond (not ((p a).visits == 0)) (1 + position_or_len is_unvisited (map child_of (pairs_of p q (a + 4) cs))) 0 ≡ a
     = ap (λ (u : Bool). a + 4 * cond (not u) (1 + position_or_len is_unvisited (map child_of (pairs_of p q (a + 4) cs))) 0) t ∙ omega arith in
-    ap (λ (x : ℕ). (p x).visits) at ∙ eq_of (p a).visits 0 t)
+    ap (λ (x : ℕ). (p x).visits) at ∙ eqb-true (p a).visits 0 t)
     (λ (t : ((p a).visits == 0) ≡ false).
     let k : ℕ = position_or_len is_unvisited (map child_of (pairs_of p q (a + 4) cs)) in
     let at : a + 4 * cond (not ((p a).visits == 0)) (1 + k) 0 ≡ a + 4 + 4 * k = ap (λ (u : Bool). a + 4 * cond (not u) (1 + k) 0) t ∙ omega arith in
     let rest : list_any is_unvisited (map child_of (pairs_of p q (a + 4) cs)) ≡ true
     = sym (ap (λ (u : Bool). u || list_any is_unvisited (map child_of (pairs_of p q (a + 4) cs))) t) ∙ e in
     ap (λ (x : ℕ). (p x).visits) at ∙ first-unvisited p q (a + 4) cs rest)
-    (bool_is ((p a).visits == 0))
+    (cases_Bool ((p a).visits == 0))
 
 pub picks-unvisited : (s : Setting) (p q : ℕ → Count) (b : LinkedBlock) (x k : ℕ) → k < length b.cells → (p (child b k)).visits ≡ 0 → (p (child b (pick (game_of s) p q b x))).visits ≡ 0
 unfolding chosen_of choice_of

@@ -6,8 +6,9 @@ use Rattle.tree_words.specs.Blocks.{LinkedBlock, child, has, place, cell_at}
 use Rattle.tree_words.specs.Walks.{Game}
 use Rattle.tree_words.specs.Trees.{down}
 use Rattle.tree_words.specs.Descents.{pick, leaf_inner, leaf_at, state_leaf, state_inner, state_at, steps_inner, steps_at, adds_leaf, adds_inner, adds, sees_leaf, sees_inner, sees, Out, Rooted, Names, Bare}
-use Rattle.tree_words.proofs.BlockLaws.{same_is, other_is}
-use Rattle.tree_words.proofs.Down.{Fair, not_both, child-has, pick-in, down-here, down-else}
+use Rattle.std.proofs.lemmas.Bool.{eq-eqb, ne_eqb}
+use Rattle.tree_words.proofs.BlockLaws.{clash}
+use Rattle.tree_words.proofs.Down.{Fair, child-has, pick-in, down-here, down-else}
 
 -- b is one of the blocks
 names-out : (bs : List LinkedBlock) (x y : ℕ) (b : LinkedBlock) → Names bs x b → Out bs y → has b y ≡ false
@@ -23,12 +24,12 @@ module _ {A : Type 0} (leaf : ℕ → A) (inner : LinkedBlock → ℕ → (ℕ �
   down-link (c ∷ bs) x b r n local = ⊎_elim
       (λ (e : (c ≡ b) × (b.parent ≡ x)).
       let at : c.parent ≡ x = ap (λ (d : LinkedBlock). d.parent) e.0 ∙ e.1 in
-      down-here leaf inner c bs x (same_is c.parent x at)
+      down-here leaf inner c bs x (eq-eqb c.parent x at)
       ∙ ap (λ (d : LinkedBlock). inner d x (down leaf inner bs)) e.0
-      ∙ local (down leaf inner bs) (down leaf inner (c ∷ bs)) (λ y h. sym (down-else leaf inner c bs y (other_is c.parent y (λ z. not_both (has b y) h (ap (λ (d : LinkedBlock). has d y) (sym e.0) ∙ ap (has c) (sym z) ∙ r.0))))))
+      ∙ local (down leaf inner bs) (down leaf inner (c ∷ bs)) (λ y h. sym (down-else leaf inner c bs y (ne_eqb c.parent y (λ z. clash (has b y) h (ap (λ (d : LinkedBlock). has d y) (sym e.0) ∙ ap (has c) (sym z) ∙ r.0))))))
       (λ (e : ((c.parent == x) ≡ false) × Names bs x b).
       down-else leaf inner c bs x e.0 ∙ down-link bs x b r.2 e.1 local
-      ∙ local (down leaf inner bs) (down leaf inner (c ∷ bs)) (λ y h. sym (down-else leaf inner c bs y (other_is c.parent y (λ z. not_both (has b y) h (names-out bs x y b e.1 (subst (Out bs) z r.1)))))))
+      ∙ local (down leaf inner bs) (down leaf inner (c ∷ bs)) (λ y h. sym (down-else leaf inner c bs y (ne_eqb c.parent y (λ z. clash (has b y) h (names-out bs x y b e.1 (subst (Out bs) z r.1)))))))
       n
 
 -- no block is below x: what is found is the leaf's

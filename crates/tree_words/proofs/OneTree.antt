@@ -1,7 +1,7 @@
 -- The words show one tree: what two lists of blocks that they link have in common.
 use Rattle.std.proofs.Common.{◌≡◌, ◌⊎◌, ℕ, zero, suc, ◌+◌, ◌*◌, ◌<◌, ◌≤◌, Bool, true, false, cond, List, [], ◌∷◌, length, get_or, refl, sym, ap, ◌∙◌, subst, ⊎_elim, inl, inr, arith}
 use Rattle.std.specs.Prelude.{◌==◌, slice_index}
-use Rattle.std.proofs.lemmas.Bool.{cases_eq}
+use Rattle.std.proofs.lemmas.Bool.{cases_eq, eq-eqb, ne_eqb}
 use Rattle.tree_words.specs.Settings.{Setting}
 use Rattle.tree_words.specs.Words.{Count, root_at, area_at, end_of, next_in, link_in, cell_in, tally_in, seen_in}
 use Rattle.tree_words.specs.Blocks.{LinkedBlock, child, has, In, InOrder, Follows, is_node, link_of}
@@ -10,9 +10,9 @@ use Rattle.tree_words.specs.Walks.{Tree, node, Children, done}
 use Rattle.tree_words.specs.Trees.{oldest_first, down, row_of, tree_leaf, tree_inner, tree_at, tree_of}
 use Rattle.tree_words.specs.Descents.{Names}
 use Rattle.tree_words.specs.Told.{told_block, Knows, AreAmong}
-use Rattle.tree_words.proofs.BlockLaws.{same_is, other_is}
 use Rattle.tree_words.proofs.Down.{child-has, row-same}
-use Rattle.tree_words.proofs.GameLaws.{IsWhole, root_node, in-node, in-parent, whole-in}
+use Rattle.tree_words.proofs.BlockLaws.{root_node}
+use Rattle.tree_words.proofs.GameLaws.{IsWhole, in-node, in-parent, whole-in}
 use Rattle.tree_words.proofs.Links.{down-link, down-bare}
 use Rattle.tree_words.proofs.Members.{in-turned, names-in}
 use Rattle.tree_words.proofs.NodeLaws.{node-lies}
@@ -30,13 +30,13 @@ link-in : (r : ℕ) (bs : List LinkedBlock) (b : LinkedBlock) → InOrder r bs �
 link-in r [] b g i = absurd i
 link-in r (c ∷ bs) b g i = ⊎_elim
     (λ (e : b ≡ c).
-    ap (λ (u : Bool). cond u c.start (link_of bs b.parent)) (same_is c.parent b.parent (ap (λ (d : LinkedBlock). d.parent) (sym e)))
+    ap (λ (u : Bool). cond u c.start (link_of bs b.parent)) (eq-eqb c.parent b.parent (ap (λ (d : LinkedBlock). d.parent) (sym e)))
     ∙ ap (λ (d : LinkedBlock). d.start) (sym e))
     (λ (j : In b bs).
     let h : link_of bs b.parent ≡ b.start = link-in r bs b g.1 j in
     let low = in-above r bs b g.1 j in
     let other : (c.parent == b.parent) ≡ false
-    = other_is c.parent b.parent (λ z. let none : link_of bs b.parent ≡ 0 = ap (link_of bs) (sym z) ∙ g.0.vacant in omega (arith, h, none, low)) in
+    = ne_eqb c.parent b.parent (λ z. let none : link_of bs b.parent ≡ 0 = ap (link_of bs) (sym z) ∙ g.0.vacant in omega (arith, h, none, low)) in
     ap (λ (u : Bool). cond u c.start (link_of bs b.parent)) other ∙ h)
     i
 

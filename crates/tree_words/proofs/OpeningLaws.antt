@@ -1,7 +1,7 @@
 -- What the opening words show: the root's block, and the first tree.
 use Rattle.std.proofs.Common.{◌≡◌, ◌⊎◌, ℕ, ◌+◌, ◌-◌, ◌*◌, ◌<◌, ◌≤◌, Bool, true, false, cond, List, [], ◌∷◌, length, get_or, refl, sym, ap, ◌∙◌, subst, ⊎_elim, inl, arith}
 use Rattle.std.specs.Prelude.{◌==◌, ◌&&◌, ◌||◌}
-use Rattle.std.proofs.lemmas.Bool.{cases_lt}
+use Rattle.std.proofs.lemmas.Bool.{cases_lt, eqb-true, eq-eqb, ne_eqb, or_cases, false_from_ne_true}
 use Rattle.std.proofs.lemmas.List.{get_or_past}
 use Rattle.hex_cells.specs.Sets.{has as has_cell}
 use Rattle.play_out.specs.Fills.{empties_of}
@@ -15,19 +15,19 @@ use Rattle.tree_words.specs.Walks.{nothing, Tree, node, done, fresh}
 use Rattle.tree_words.specs.Sequence.{first_tree}
 use Rattle.tree_words.specs.Trees.{row_of, tree_leaf, tree_inner}
 use Rattle.tree_words.specs.Descents.{tree_in, config_of}
-use Rattle.tree_words.proofs.BlockLaws.{eq_of, same_is, other_is, either_true, covers_of, covers_if, has-at, not_both}
+use Rattle.tree_words.proofs.BlockLaws.{covers_of, covers_if, has-at}
 use Rattle.tree_words.proofs.Down.{child-has, down-here}
 use Rattle.tree_words.proofs.RootLaws.{filter_some}
 use Rattle.tree_words.proofs.NodeLaws.{stays-not}
 use Rattle.tree_words.proofs.Openings.{root-fits}
-use Rattle.tree_words.proofs.EmptyLaws.{on-board}
+use Rattle.hex_board.proofs.Placed.{empty_on}
 use Rattle.tree_words.proofs.Expands.{row-fresh}
 
 pub some-allowed : (s : Setting) → IsSetting s → 0 < length (allowed_cells s)
 unfolding allowed_cells
 some-allowed s h =
     let many = h.any in
-    filter_some (has_cell s.allowed) 0 (s.board.size * s.board.size) many.0 many.1 (omega arith) (omega (arith, on-board s.board many.0 (h.empty many.0 many.1)))
+    filter_some (has_cell s.allowed) 0 (s.board.size * s.board.size) many.0 many.1 (omega arith) (omega (arith, empty_on s.board many.0 (h.empty many.0 many.1)))
 
 -- The words are the opening words, whatever TICKET is.
 module _ (s : Setting) (words : List ℕ) (e : ℕ) (set : IsSetting s) (empties : HasEmpties e s.board) (long : length words ≡ end_of s)
@@ -40,8 +40,8 @@ module _ (s : Setting) (words : List ℕ) (e : ℕ) (set : IsSetting s) (empties
   other i l m d =
       let c : LinkedBlock = root_block s e in
       let rest : ℕ = cond (covers i c && stays (i - c.start)) (header_or_move c (i - c.start)) 0 in
-      each i l (λ z. omega arith) ∙ ap (λ (t : Bool). cond t (c.start + size c) (cond (i == root_at s + 1) c.start rest)) (other_is i 0 (λ z. omega arith))
-      ∙ ap (λ (t : Bool). cond t c.start rest) (other_is i (root_at s + 1) d)
+      each i l (λ z. omega arith) ∙ ap (λ (t : Bool). cond t (c.start + size c) (cond (i == root_at s + 1) c.start rest)) (ne_eqb i 0 (λ z. omega arith))
+      ∙ ap (λ (t : Bool). cond t c.start rest) (ne_eqb i (root_at s + 1) d)
 
   pub link-is : get_or words (root_at s + 1) 0 ≡ area_at s
   link-is =
@@ -49,14 +49,14 @@ module _ (s : Setting) (words : List ℕ) (e : ℕ) (set : IsSetting s) (empties
       let c : LinkedBlock = root_block s e in
       let rest : ℕ = cond (covers i c && stays (i - c.start)) (header_or_move c (i - c.start)) 0 in
       each i (omega (arith, set.ranges.words.0)) (λ z. omega (arith, set.ranges.playouts.0))
-      ∙ ap (λ (t : Bool). cond t (c.start + size c) (cond (i == root_at s + 1) c.start rest)) (other_is i 0 (λ z. omega arith))
-      ∙ ap (λ (t : Bool). cond t c.start rest) (same_is i (root_at s + 1) refl)
+      ∙ ap (λ (t : Bool). cond t (c.start + size c) (cond (i == root_at s + 1) c.start rest)) (ne_eqb i 0 (λ z. omega arith))
+      ∙ ap (λ (t : Bool). cond t c.start rest) (eq-eqb i (root_at s + 1) refl)
 
   -- a word of no block
   pub clear : (i : ℕ) → 2 ≤ i → (i ≡ root_at s + 1 → ⊥) → ((i < area_at s) ⊎ (root_end s ≤ i)) → get_or words i 0 ≡ 0
   clear i m d o = ⊎_elim
       (λ (l : i < end_of s).
-      other i l m d ∙ ap (λ (t : Bool). cond (t && stays (i - area_at s)) (header_or_move (root_block s e) (i - area_at s)) 0) (not_both (covers i (root_block s e)) (λ t. let u = covers_of i (root_block s e) t in
+      other i l m d ∙ ap (λ (t : Bool). cond (t && stays (i - area_at s)) (header_or_move (root_block s e) (i - area_at s)) 0) (false_from_ne_true (covers i (root_block s e)) (λ t. let u = covers_of i (root_block s e) t in
       ⊎_elim (λ (q : i < area_at s). omega (arith, u.0)) (λ (q : root_end s ≤ i). omega (arith, u.1)) o)))
       (λ (l : end_of s ≤ i). get_or_past words i 0 (omega (arith, long)))
       (cases_lt i (end_of s))
@@ -82,9 +82,9 @@ module _ (s : Setting) (words : List ℕ) (e : ℕ) (set : IsSetting s) (empties
   pub no-counts : (x : ℕ) → is_node (root_at s) (root_block s e ∷ []) x ≡ true → (tally_in words x ≡ nothing) × (seen_in words x ≡ nothing)
   no-counts x n = ⊎_elim
       (λ (t : has (root_block s e) x ≡ true). (ap count_in (node-word x 2 t (omega arith) (omega arith)), ap count_in (node-word x 3 t (omega arith) (omega arith))))
-      (λ (t : (x == root_at s) ≡ true). let q = eq_of x (root_at s) t in
+      (λ (t : (x == root_at s) ≡ true). let q = eqb-true x (root_at s) t in
       (ap count_in (ap (λ (z : ℕ). get_or words (z + 2) 0) q ∙ root-word 2 (omega arith) (λ z. omega arith)), ap count_in (ap (λ (z : ℕ). get_or words (z + 3) 0) q ∙ root-word 3 (omega arith) (λ z. omega arith))))
-      (either_true (has (root_block s e) x) (x == root_at s) n)
+      (or_cases (has (root_block s e) x) (x == root_at s) n)
 
   -- they link the root's block, which is complete
   pub opening-linked : Linked s words (root_block s e ∷ [])
@@ -93,7 +93,7 @@ module _ (s : Setting) (words : List ℕ) (e : ℕ) (set : IsSetting s) (empties
       let r : ℕ = root_at s in
       let fit = root-fits s set in
       let follows : Follows r c [] = record {
-        parent = same_is r r refl;
+        parent = eq-eqb r r refl;
         vacant = refl;
         above = omega arith;
         clear = λ i t. refl;
@@ -103,7 +103,7 @@ module _ (s : Setting) (words : List ℕ) (e : ℕ) (set : IsSetting s) (empties
         claimed = omega (arith, next-is);
         inside = (omega arith, omega (arith, fit));
         empties = empties;
-        cells = sym (ap (λ (t : Bool). cond t (allowed_cells s) (empties_of s.board)) (same_is r r refl));
+        cells = sym (ap (λ (t : Bool). cond t (allowed_cells s) (empties_of s.board)) (eq-eqb r r refl));
       } in
       let shows : Shows r (c ∷ []) words = record {
         blocks = λ d i m l t. ⊎_elim
@@ -113,11 +113,11 @@ module _ (s : Setting) (words : List ℕ) (e : ℕ) (set : IsSetting s) (empties
         links = λ x m. ⊎_elim
             (λ (t : has c x ≡ true).
             let q = has-at c x t in
-            node-word x 1 t (omega arith) (omega arith) ∙ sym (ap (λ (u : Bool). cond u c.start 0) (other_is r x (λ z. omega (arith, z, q.2)))))
+            node-word x 1 t (omega arith) (omega arith) ∙ sym (ap (λ (u : Bool). cond u c.start 0) (ne_eqb r x (λ z. omega (arith, z, q.2)))))
             (λ (t : (x == r) ≡ true).
-            let q = eq_of x r t in
-            ap (λ (z : ℕ). get_or words (z + 1) 0) q ∙ link-is ∙ sym (ap (λ (u : Bool). cond u c.start 0) (same_is r x (sym q))))
-            (either_true (has c x) (x == r) m);
+            let q = eqb-true x r t in
+            ap (λ (z : ℕ). get_or words (z + 1) 0) q ∙ link-is ∙ sym (ap (λ (u : Bool). cond u c.start 0) (eq-eqb r x (sym q))))
+            (or_cases (has c x) (x == r) m);
       } in
       record { order = (follows, tt); shows = shows; complete = (complete, tt) }
 
@@ -134,7 +134,7 @@ module _ (s : Setting) (words : List ℕ) (e : ℕ) (set : IsSetting s) (empties
       = row-fresh p q (c.start + 4) c.cells (λ k y l i. no-counts y (first_true (has c y) (y == r) (ap (has c) i ∙ child-has c k l))) in
       let root : p r ≡ nothing = ap count_in (root-word 2 (omega arith) (λ z. omega arith)) in
       let tree : tree_in r (config_of (c ∷ []) words) ≡ node 0 nothing nothing (fresh c.cells)
-      = ap (λ (f : ℕ → Count → Tree). f 0 nothing) (down-here (tree_leaf p) (tree_inner p q) c [] r (same_is r r refl)) ∙ (λ i. node 0 (root i) nothing (row i)) in
+      = ap (λ (f : ℕ → Count → Tree). f 0 nothing) (down-here (tree_leaf p) (tree_inner p q) c [] r (eq-eqb r r refl)) ∙ (λ i. node 0 (root i) nothing (row i)) in
       λ i. (tree i, next-is i)
     where
       first_true : (a b : Bool) → a ≡ true → (a || b) ≡ true

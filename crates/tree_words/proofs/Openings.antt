@@ -4,9 +4,8 @@ use Rattle.std.specs.Prelude.{◌==◌, ◌&&◌}
 use Rattle.std.specs.List.{filter}
 use Rattle.std.proofs.Math.ListN.{set as set_word, length-set}
 use Rattle.std.proofs.lemmas.List.{length-replicate, get_or-replicate}
-use Rattle.std.proofs.lemmas.Bool.{cases_eq}
+use Rattle.std.proofs.lemmas.Bool.{cases_eq, and_parts, ltb-true, eq-eqb, ne_eqb}
 use Rattle.std.proofs.Math.Nat.{mul-le-mul}
-use Rattle.tree_words.proofs.BlockLaws.{true_both, lt_of}
 use Rattle.hex_cells.specs.Sets.{has as has_cell}
 use Rattle.hex_cells.proofs.Bits.{below_from_items}
 use Rattle.hex_board.specs.Joined.{cells_of}
@@ -16,7 +15,6 @@ use Rattle.tree_words.specs.Words.{root_at, area_at, end_of}
 use Rattle.tree_words.specs.Blocks.{LinkedBlock, size, words_of, covers, stays, header_or_move}
 use Rattle.tree_words.specs.Complete.{HasEmpties, allowed_cells}
 use Rattle.tree_words.specs.Opening.{root_block, opening_word, AreOpening}
-use Rattle.tree_words.proofs.BlockLaws.{same_is, other_is}
 use Rattle.tree_words.proofs.RootLaws.{few_cells}
 use Rattle.tree_words.specs.Writing.{listed, WritesBlock}
 use Rattle.tree_words.proofs.Writes.{block_of}
@@ -58,15 +56,15 @@ opening-written s root e count cells before words h zeros at is set w many =
           ∙ sym (ap (opening_word s e) q))
           (λ (d : i ≡ 0 → ⊥).
           let rest : ℕ = cond (covers i b && stays (i - b.start)) (header_or_move b (i - b.start)) 0 in
-          let first : opening_word s e i ≡ cond (i == root_at s + 1) b.start rest = ap (λ (t : Bool). cond t (b.start + size b) (cond (i == root_at s + 1) b.start rest)) (other_is i 0 d) in
+          let first : opening_word s e i ≡ cond (i == root_at s + 1) b.start rest = ap (λ (t : Bool). cond t (b.start + size b) (cond (i == root_at s + 1) b.start rest)) (ne_eqb i 0 d) in
           get_or-set_other w1 0 i (root + 4 + 4 + 4 * count) 0 d ∙ ⊎_elim
           (λ (q : i ≡ root + 1).
           ap (λ (z : ℕ). get_or w1 z 0) q ∙ get_or-set_same words (root + 1) (root + 4) 0 (omega (arith, long, at, h.ranges.words.0)) ∙ start
-          ∙ sym (first ∙ ap (λ (t : Bool). cond t b.start rest) (same_is i (root_at s + 1) (q ∙ ap (λ (z : ℕ). z + 1) at))))
+          ∙ sym (first ∙ ap (λ (t : Bool). cond t b.start rest) (eq-eqb i (root_at s + 1) (q ∙ ap (λ (z : ℕ). z + 1) at))))
           (λ (n : i ≡ root + 1 → ⊥).
           get_or-set_other words (root + 1) i (root + 4) 0 n ∙ v.each i
           ∙ ap (λ (z : ℕ). cond (covers i b && stays (i - b.start)) (header_or_move b (i - b.start)) z) (ap (λ (x : List ℕ). get_or x i 0) zeros ∙ get_or-replicate (end_of s) i 0 0 l)
-          ∙ sym (first ∙ ap (λ (t : Bool). cond t b.start rest) (other_is i (root_at s + 1) (λ z. n (z ∙ ap (λ (u : ℕ). u + 1) (sym at))))))
+          ∙ sym (first ∙ ap (λ (t : Bool). cond t b.start rest) (ne_eqb i (root_at s + 1) (λ z. n (z ∙ ap (λ (u : ℕ). u + 1) (sym at))))))
           (cases_eq i (root + 1)))
           (cases_eq i 0);
     }

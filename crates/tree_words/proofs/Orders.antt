@@ -5,8 +5,8 @@ use Rattle.tree_words.specs.Blocks.{LinkedBlock, has, is_node, link_of, Follows,
 use Rattle.tree_words.specs.Trees.{oldest_first}
 use Rattle.tree_words.specs.Complete.{HaveNodes}
 use Rattle.tree_words.specs.Descents.{Out, Sprouts, Rooted, Names, Inside, Bare}
-use Rattle.tree_words.proofs.BlockLaws.{eq_of, bool_is, apart}
-use Rattle.tree_words.proofs.Down.{not_both as clash}
+use Rattle.std.proofs.lemmas.Bool.{eqb-true, cases_Bool}
+use Rattle.tree_words.proofs.BlockLaws.{apart, clash as clash}
 use Rattle.tree_words.proofs.WalkLaws.{out-snoc}
 
 or_true : (a b : Bool) → b ≡ true → (a || b) ≡ true
@@ -77,7 +77,7 @@ link-bare r [] x g e = tt
 link-bare r (b ∷ bs) x g e = ⊎_elim
     (λ (t : (b.parent == x) ≡ true). let z : b.start ≡ 0 = sym (ap (λ (u : Bool). cond u b.start (link_of bs x)) t) ∙ e in let l = g.0.root in absurd (omega arith))
     (λ (t : (b.parent == x) ≡ false). bare-snoc b (oldest_first bs) x (link-bare r bs x g.1 (sym (ap (λ (u : Bool). cond u b.start (link_of bs x)) t) ∙ e)) t)
-    (bool_is (b.parent == x))
+    (cases_Bool (b.parent == x))
 
 names-snoc : (n : LinkedBlock) (os : List LinkedBlock) (x : ℕ) (b : LinkedBlock) → Names os x b → Names (os ++ n ∷ []) x b
 names-snoc n [] x b h = absurd h
@@ -92,10 +92,10 @@ pub link-names : (r : ℕ) (bs : List LinkedBlock) (x : ℕ) → InOrder r bs �
 link-names r [] x g l = absurd (omega arith)
 link-names r (b ∷ bs) x g l = ⊎_elim
     (λ (t : (b.parent == x) ≡ true).
-    let at : b.parent ≡ x = eq_of b.parent x t in
+    let at : b.parent ≡ x = eqb-true b.parent x t in
     (b, names-last b (oldest_first bs) x (link-bare r bs x g.1 (ap (link_of bs) (sym at) ∙ g.0.vacant)) at, sym (ap (λ (u : Bool). cond u b.start (link_of bs x)) t)))
     (λ (t : (b.parent == x) ≡ false).
     let is : link_of (b ∷ bs) x ≡ link_of bs x = ap (λ (u : Bool). cond u b.start (link_of bs x)) t in
     let h : (c : LinkedBlock) × Names (oldest_first bs) x c × (c.start ≡ link_of bs x) = link-names r bs x g.1 (omega (arith, is)) in
     (h.0, names-snoc b (oldest_first bs) x h.0 h.1, h.2 ∙ sym is))
-    (bool_is (b.parent == x))
+    (cases_Bool (b.parent == x))

@@ -2,12 +2,11 @@
 use Rattle.std.proofs.Common.{◌≡◌, ℕ, zero, suc, ◌+◌, ◌<◌, ◌≤◌, Bool, true, false, cond, List, [], ◌∷◌, refl, sym, ap, ◌∙◌, ⊎_elim, arith}
 use Rattle.std.specs.Prelude.{◌==◌, ◌&&◌, ◌||◌}
 use Rattle.std.specs.List.{list_any}
-use Rattle.hex_cells.specs.Colours.{other_of}
+use Rattle.hex_cells.specs.Colours.{other_of, is_same}
 use Rattle.hex_cells.specs.declared.colours.Colour.{Colour}
 use Rattle.hex_cells.specs.declared.colours.Colour.TheVariants.{Black, White}
 use Rattle.hex_cells.specs.Sets.{has as has_cell}
 use Rattle.hex_board.specs.Positions.{stones_of}
-use Rattle.hex_board.specs.Wins.{is_same}
 use Rattle.tree_words.specs.Settings.{Setting}
 use Rattle.tree_words.specs.Words.{Count, root_at, record_in, leaf_in, winner_in}
 use Rattle.tree_words.specs.Blocks.{LinkedBlock, one_if, has, place, cell_at, up, is_node, In, InOrder, Follows}
@@ -18,10 +17,10 @@ use Rattle.tree_words.specs.Sequence.{outcome_of, one, gain_of, glimpse_of}
 use Rattle.tree_words.specs.Records.{leaf_of, outcome_in, IsRecord}
 use Rattle.tree_words.specs.Counts.{count_below, visits_at, is_seen, sights_at}
 use Rattle.tree_words.specs.Growth.{ends_at}
-use Rattle.tree_words.proofs.BlockLaws.{apart, up_same, eq_of, same_is, bool_is, either_true}
-use Rattle.tree_words.proofs.Down.{not_both, never}
-use Rattle.tree_words.proofs.GameLaws.{up-in, spot-same, root_node}
-use Rattle.tree_words.proofs.Climbs.{meets, path-meets, or_true, or_first, neither}
+use Rattle.tree_words.proofs.BlockLaws.{apart, up_same, clash, root_node}
+use Rattle.tree_words.proofs.GameLaws.{up-in, spot-same}
+use Rattle.tree_words.proofs.Climbs.{meets, path-meets}
+use Rattle.std.proofs.lemmas.Bool.{and_left, eqb-true, eq-eqb, cases_Bool, or_cases, false_from_ne_true, or_right, or_left, or_from}
 
 pub count-same : (n : ℕ) (f h : ℕ → Bool) → ((k : ℕ) → k < n → f k ≡ h k) → count_below n f ≡ count_below n h
 count-same zero f h e = refl
@@ -75,22 +74,18 @@ module _ (s : Setting) (bs : List LinkedBlock) (words after : List ℕ) (k : ℕ
 meets-clear : (test : ℕ → Bool) (r : ℕ) (start : Bool) (bs : List LinkedBlock) (y : ℕ) → start ≡ false → ((z : ℕ) → is_node r bs z ≡ true → test z ≡ false) → up start (meets test) bs y ≡ false
 meets-clear test r start [] y e h = e
 meets-clear test r start (b ∷ bs) y e h =
-    let older : (z : ℕ) → is_node r bs z ≡ true → test z ≡ false = λ z n. h z (or_true (has b z) (is_node r bs z) n) in
+    let older : (z : ℕ) → is_node r bs z ≡ true → test z ≡ false = λ z n. h z (or_right (has b z) (is_node r bs z) n) in
     let above : Bool = test y || up start (meets test) bs b.parent in
     ⊎_elim
-    (λ (u : has b y ≡ true). ap (λ (t : Bool). cond t above (up start (meets test) bs y)) u ∙ neither (test y) (up start (meets test) bs b.parent) (h y (or_first (has b y) (is_node r bs y) u)) (meets-clear test r start bs b.parent e older))
+    (λ (u : has b y ≡ true). ap (λ (t : Bool). cond t above (up start (meets test) bs y)) u ∙ or_from (test y) (up start (meets test) bs b.parent) (h y (or_left (has b y) (is_node r bs y) u)) (meets-clear test r start bs b.parent e older))
     (λ (u : has b y ≡ false). ap (λ (t : Bool). cond t above (up start (meets test) bs y)) u ∙ meets-clear test r start bs y e older)
-    (bool_is (has b y))
+    (cases_Bool (has b y))
 
 -- no node of a path passes a test that no node of the tree passes
 pub path-clear : (s : Setting) (test : ℕ → Bool) (bs : List LinkedBlock) (y : ℕ) → ((z : ℕ) → is_node (root_at s) bs z ≡ true → test z ≡ false) → list_any test (path_of s bs y) ≡ false
 path-clear s test bs y h =
     let r : ℕ = root_at s in
-    path-meets test r bs y ∙ meets-clear test r (test r || false) bs y (neither (test r) false (h r (root_node r bs)) refl) h
-
-both_false : (a b : Bool) → a ≡ false → (a && b) ≡ false
-both_false true b e = absurd (not_both true refl e)
-both_false false b e = refl
+    path-meets test r bs y ∙ meets-clear test r (test r || false) bs y (or_from (test r) false (h r (root_node r bs)) refl) h
 
 module _ (s : Setting) (n : LinkedBlock) (bs : List LinkedBlock) (f : Follows (root_at s) n bs) where
   -- a new block changes no path of an older node
@@ -103,7 +98,7 @@ module _ (s : Setting) (n : LinkedBlock) (bs : List LinkedBlock) (f : Follows (r
 
   is_on-not : (x y : ℕ) → has n x ≡ true → is_node (root_at s) bs y ≡ true → is_on s (n ∷ bs) x y ≡ false
   is_on-not x y hx h = ap (list_any (λ (z : ℕ). z == x)) (path-same y h)
-      ∙ path-clear s (λ (z : ℕ). z == x) bs y (λ z u. never (z == x) (λ e. not_both (has n x) hx (ap (has n) (sym (eq_of z x e)) ∙ apart (root_at s) n bs z f u)))
+      ∙ path-clear s (λ (z : ℕ). z == x) bs y (λ z u. false_from_ne_true (z == x) (λ e. clash (has n x) hx (ap (has n) (sym (eqb-true z x e)) ∙ apart (root_at s) n bs z f u)))
 
   module _ (words : List ℕ) (k : ℕ) (leaves : (j : ℕ) → j < k → is_node (root_at s) bs (leaf_of words j) ≡ true) where
     outcome-same : (j : ℕ) → j < k → outcome_in s (n ∷ bs) words j ≡ outcome_in s bs words j
@@ -138,26 +133,26 @@ module _ (s : Setting) (n : LinkedBlock) (bs : List LinkedBlock) (f : Follows (r
         λ i. record {
           visits = count-none k (λ j. is_on s (n ∷ bs) x (leaf_of words j)) on i;
           wins = count-none k (λ j. is_on s (n ∷ bs) x (leaf_of words j) && is_same (outcome_in s (n ∷ bs) words j).winner (mover_of s (n ∷ bs) x))
-              (λ j l. both_false (is_on s (n ∷ bs) x (leaf_of words j)) (is_same (outcome_in s (n ∷ bs) words j).winner (mover_of s (n ∷ bs) x)) (on j l)) i;
+              (λ j l. and_left (is_on s (n ∷ bs) x (leaf_of words j)) (is_same (outcome_in s (n ∷ bs) words j).winner (mover_of s (n ∷ bs) x)) (on j l)) i;
         }
 
     pub sights-new : (y : ℕ) → sights_at s (n ∷ bs) words k n y ≡ nothing
     sights-new y =
         let seen : (j : ℕ) → j < k → is_seen s (n ∷ bs) words n y j ≡ false
-        = λ j l. both_false (enters s (n ∷ bs) n (leaf_of words j)) (has_cell (stones_of (outcome_in s (n ∷ bs) words j).full (mover_of s (n ∷ bs) y)) (cell_at n (place n y))) (enters-not (leaf_of words j) (leaves j l)) in
+        = λ j l. and_left (enters s (n ∷ bs) n (leaf_of words j)) (has_cell (stones_of (outcome_in s (n ∷ bs) words j).full (mover_of s (n ∷ bs) y)) (cell_at n (place n y))) (enters-not (leaf_of words j) (leaves j l)) in
         λ i. record {
           visits = count-none k (λ j. is_seen s (n ∷ bs) words n y j) seen i;
           wins = count-none k (λ j. is_seen s (n ∷ bs) words n y j && is_same (outcome_in s (n ∷ bs) words j).winner (mover_of s (n ∷ bs) y))
-              (λ j l. both_false (is_seen s (n ∷ bs) words n y j) (is_same (outcome_in s (n ∷ bs) words j).winner (mover_of s (n ∷ bs) y)) (seen j l)) i;
+              (λ j l. and_left (is_seen s (n ∷ bs) words n y j) (is_same (outcome_in s (n ∷ bs) words j).winner (mover_of s (n ∷ bs) y)) (seen j l)) i;
         }
 
     -- a new node is no leaf
     pub ends-new : (x : ℕ) → has n x ≡ true → ends_at words k x ≡ 0
-    ends-new x h = count-none k (λ j. leaf_of words j == x) (λ j l. never (leaf_of words j == x) (λ e. not_both (has n x) h (ap (has n) (sym (eq_of (leaf_of words j) x e)) ∙ apart (root_at s) n bs (leaf_of words j) f (leaves j l))))
+    ends-new x h = count-none k (λ j. leaf_of words j == x) (λ j l. false_from_ne_true (leaf_of words j == x) (λ e. clash (has n x) h (ap (has n) (sym (eqb-true (leaf_of words j) x e)) ∙ apart (root_at s) n bs (leaf_of words j) f (leaves j l))))
 
   pub record-block : (words : List ℕ) (j : ℕ) → IsRecord s bs words j → IsRecord s (n ∷ bs) words j
   record-block words j is = record {
-    node = or_true (has n (leaf_of words j)) (is_node (root_at s) bs (leaf_of words j)) is.node;
+    node = or_right (has n (leaf_of words j)) (is_node (root_at s) bs (leaf_of words j)) is.node;
     below = is.below;
     result = is.result ∙ sym (ap (λ (p : NodeState). (outcome_of s j p).winner) (spot-same s n bs (leaf_of words j) f is.node));
   }
@@ -197,15 +192,15 @@ pub on-itself : (s : Setting) (bs : List LinkedBlock) (x : ℕ) → is_node (roo
 on-itself s bs x h = path-meets (λ (z : ℕ). z == x) (root_at s) bs x ∙ here bs h
   where
     here : (cs : List LinkedBlock) → is_node (root_at s) cs x ≡ true → up ((root_at s == x) || false) (meets (λ (z : ℕ). z == x)) cs x ≡ true
-    here [] n = or_first (root_at s == x) false (same_is (root_at s) x (sym (eq_of x (root_at s) n)))
+    here [] n = or_left (root_at s == x) false (eq-eqb (root_at s) x (sym (eqb-true x (root_at s) n)))
     here (b ∷ cs) n = ⊎_elim
         (λ (u : has b x ≡ true). ap (λ (t : Bool). cond t ((x == x) || up ((root_at s == x) || false) (meets (λ (z : ℕ). z == x)) cs b.parent) (up ((root_at s == x) || false) (meets (λ (z : ℕ). z == x)) cs x)) u
-        ∙ or_first (x == x) (up ((root_at s == x) || false) (meets (λ (z : ℕ). z == x)) cs b.parent) (same_is x x refl))
+        ∙ or_left (x == x) (up ((root_at s == x) || false) (meets (λ (z : ℕ). z == x)) cs b.parent) (eq-eqb x x refl))
         (λ (u : has b x ≡ false). ap (λ (t : Bool). cond t ((x == x) || up ((root_at s == x) || false) (meets (λ (z : ℕ). z == x)) cs b.parent) (up ((root_at s == x) || false) (meets (λ (z : ℕ). z == x)) cs x)) u
-        ∙ here cs (⊎_elim (λ (v : has b x ≡ true). absurd (not_both (has b x) v u)) (λ (v : is_node (root_at s) cs x ≡ true). v) (either_true (has b x) (is_node (root_at s) cs x) n)))
-        (bool_is (has b x))
+        ∙ here cs (⊎_elim (λ (v : has b x ≡ true). absurd (clash (has b x) v u)) (λ (v : is_node (root_at s) cs x ≡ true). v) (or_cases (has b x) (is_node (root_at s) cs x) n)))
+        (cases_Bool (has b x))
 
 -- a node is on the paths of at least the playouts whose leaf it is
 pub ends-visits : (s : Setting) (bs : List LinkedBlock) (words : List ℕ) (k x : ℕ) → is_node (root_at s) bs x ≡ true → ends_at words k x ≤ (visits_at s bs words k x).visits
 ends-visits s bs words k x h = count-le k (λ j. leaf_of words j == x) (λ j. is_on s bs x (leaf_of words j))
-    (λ j l e. ap (is_on s bs x) (eq_of (leaf_of words j) x e) ∙ on-itself s bs x h)
+    (λ j l e. ap (is_on s bs x) (eqb-true (leaf_of words j) x e) ∙ on-itself s bs x h)

@@ -8,18 +8,18 @@ use Rattle.tree_words.specs.Words.{root_at}
 use Rattle.tree_words.specs.Blocks.{LinkedBlock, size}
 use Rattle.tree_words.specs.Growth.{other_words}
 use Rattle.tree_words.specs.Trees.{oldest_first}
-use Rattle.tree_words.proofs.BlockLaws.{same_is, other_is}
+use Rattle.std.proofs.lemmas.Bool.{eq-eqb, ne_eqb}
 
 -- the words of the blocks but the root's
 pub other-root : (s : Setting) (b : LinkedBlock) (bs : List LinkedBlock) → b.parent ≡ root_at s → other_words s (b ∷ bs) ≡ other_words s bs
 other-root s b bs e =
     let rest : List LinkedBlock = filter (λ (c : LinkedBlock). not (c.parent == root_at s)) bs in
-    ap (λ (t : Bool). sum_by size (cond (not t) (b ∷ rest) rest)) (same_is b.parent (root_at s) e)
+    ap (λ (t : Bool). sum_by size (cond (not t) (b ∷ rest) rest)) (eq-eqb b.parent (root_at s) e)
 
 pub other-more : (s : Setting) (b : LinkedBlock) (bs : List LinkedBlock) → (b.parent ≡ root_at s → ⊥) → other_words s (b ∷ bs) ≡ size b + other_words s bs
 other-more s b bs e =
     let rest : List LinkedBlock = filter (λ (c : LinkedBlock). not (c.parent == root_at s)) bs in
-    ap (λ (t : Bool). sum_by size (cond (not t) (b ∷ rest) rest)) (other_is b.parent (root_at s) e) ∙ sum_by-cons size b rest
+    ap (λ (t : Bool). sum_by size (cond (not t) (b ∷ rest) rest)) (ne_eqb b.parent (root_at s) e) ∙ sum_by-cons size b rest
 
 -- the blocks the other way round, twice, are the blocks
 turned-snoc : (os : List LinkedBlock) (b : LinkedBlock) → oldest_first (os ++ b ∷ []) ≡ b ∷ oldest_first os

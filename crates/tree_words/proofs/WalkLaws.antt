@@ -7,8 +7,8 @@ use Rattle.tree_words.specs.Blocks.{LinkedBlock, child, has, size, cell_at}
 use Rattle.tree_words.specs.Walks.{nothing, plus, Tree, node, Children, done, Game, pairs, fresh, leaf_state, add, expand, expand_row, added, walk}
 use Rattle.tree_words.specs.Trees.{row_of, tree_leaf, tree_inner, tree_at}
 use Rattle.tree_words.specs.Descents.{Config, tree_in, ends, NewBlock, Widened, Added, EndsBy, Fine, pick, state_leaf, state_inner, state_at, top, Out, Sprouts}
-use Rattle.tree_words.proofs.BlockLaws.{true_both, bool_is}
-use Rattle.tree_words.proofs.Down.{Fair, down-here, down-else, never, cell-tree, pairs-row, same-under}
+use Rattle.std.proofs.lemmas.Bool.{and_parts, cases_Bool, false_from_ne_true}
+use Rattle.tree_words.proofs.Down.{Fair, down-here, down-else, cell-tree, pairs-row, same-under}
 use Rattle.tree_words.proofs.Adds.{add-tree}
 use Rattle.tree_words.proofs.Expands.{row-expand, bare-row, state-tree, expand-tree}
 
@@ -16,11 +16,11 @@ pub has-below : (b : LinkedBlock) (x : ℕ) → has b x ≡ true → (b.start + 
 has-below b x h = both (b.start + 4) x (b.start + size b) _ h
   where
     both : (a x n : ℕ) (t : Bool) → (nat_le a x && (nat_lt x n && t)) ≡ true → (a ≤ x) × (x < n)
-    both a x n t e = let u = true_both (nat_le a x) (nat_lt x n && t) e in let v = true_both (nat_lt x n) t u.1 in
+    both a x n t e = let u = and_parts (nat_le a x) (nat_lt x n && t) e in let v = and_parts (nat_lt x n) t u.1 in
         let l : nat_le a x ≡ true = u.0 in let m : nat_lt x n ≡ true = v.0 in (grind (arith, nat_tests), grind (arith, nat_tests))
 
 pub no-has : (b : LinkedBlock) (x : ℕ) → x < b.start + 4 → has b x ≡ false
-no-has b x l = never (has b x) (λ h. let u = has-below b x h in omega arith)
+no-has b x l = false_from_ne_true (has b x) (λ h. let u = has-below b x h in omega arith)
 
 pub out-snoc : (n : LinkedBlock) (bs : List LinkedBlock) (x : ℕ) → Out bs x → has n x ≡ false → Out (bs ++ n ∷ []) x
 out-snoc n [] x out h = (h, tt)
@@ -67,7 +67,7 @@ module _ {S O : Type 0} (g : Game S O) (fair : Fair g) (p q : ℕ → Count) whe
       ap (λ (f : ℕ → Count → Tree). f c e) (down-else (tree_leaf p) (tree_inner p q) b bs x t)
       ∙ stay-tree m bs x c e s sp.1 (sym (ap (λ (u : Count × S). g.wide m u.0 u.1) st) ∙ wide)
       ∙ sym (ap (λ (f : ℕ → Count → Tree). expand g m (f c e) s) (down-else (tree_leaf p) (tree_inner p q) b bs x t)))
-      (bool_is (b.parent == x))
+      (cases_Bool (b.parent == x))
 
 module _ {S O : Type 0} (g : Game S O) (fair : Fair g) (s : S) (r : ℕ) where
   pub next-grows : (c d : Config) → Widened g s r c d → c.next ≤ d.next

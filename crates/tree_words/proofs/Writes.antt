@@ -4,30 +4,20 @@ use Rattle.std.proofs.Math.ListN.{set as set_word, length-set, get_or-append}
 use Rattle.std.proofs.Math.Seq.{get_or-append_seam}
 use Rattle.std.proofs.Common.{get_or-set_same, get_or-set_other}
 use Rattle.std.proofs.lemmas.Bool.Decides.{nat_tests}
-use Rattle.std.proofs.lemmas.Bool.{cases_eq, cases_lt}
+use Rattle.std.proofs.lemmas.Bool.{cases_eq, cases_lt, cases_Bool}
 use Rattle.std.specs.List.{filter, range_with_len}
 use Rattle.std.proofs.lemmas.List.FromFn.{length-range_with_len}
 use Rattle.std.proofs.lemmas.List.Sums.{length-filter, count_by-le-length}
 use Rattle.hex_cells.specs.Sets.{has as has_cell}
 use Rattle.tree_words.specs.Words.{move_of}
 use Rattle.tree_words.specs.Blocks.{LinkedBlock, covers, has, place, cell_at, stays, header_or_move}
-use Rattle.tree_words.proofs.BlockLaws.{bool_is, has-at, has-here, move-word}
+use Rattle.tree_words.proofs.BlockLaws.{has-at, has-here, move-word}
 use Rattle.tree_words.specs.Writing.{WritesMoves, WritesBlock}
+use Rattle.play_out.proofs.Listing.{filter_more}
 
 -- a block of these cells
 abbrev pub block_of : ℕ → ℕ → ℕ → List ℕ → LinkedBlock
 block_of start parent empties cells = record { start = start; parent = parent; empties = empties; cells = cells }
-
-front : (b : Bool) (x : ℕ) (xs ys : List ℕ) → cond b (x ∷ (xs ++ ys)) (xs ++ ys) ≡ cond b (x ∷ xs) xs ++ ys
-front true x xs ys = refl
-front false x xs ys = refl
-
--- a filter of one number more
-pub filter_more : (p : ℕ → Bool) (a n m : ℕ) → a + n ≡ m → filter p (range_with_len a (suc n)) ≡ filter p (range_with_len a n) ++ cond (p m) (m ∷ []) []
-filter_more p a zero m e = ap (λ (v : ℕ). cond (p v) (v ∷ []) []) (sym (add-zero a) ∙ e)
-filter_more p a (suc n) m e =
-    ap (λ (xs : List ℕ). cond (p a) (a ∷ xs) xs) (filter_more p (a + 1) n m (omega arith))
-    ∙ front (p a) a (filter p (range_with_len (a + 1) n)) (cond (p m) (m ∷ []) [])
 
 zero-add : (k : ℕ) → 0 + k ≡ k
 zero-add k = omega arith
@@ -80,7 +70,7 @@ one-move a p e cs c at before words is l w =
           (λ (t : has b i ≡ false).
           ap (λ (u : Bool). cond u (move_of (place b i) (cell_at b (place b i))) (get_or before i 0)) t
           ∙ sym (ap (λ (u : Bool). cond u (move_of (place d i) (cell_at d (place d i))) (get_or before i 0)) (h ∙ t)))
-          (bool_is (has b i)))
+          (cases_Bool (has b i)))
           (cases_eq i at);
     }
 
@@ -207,7 +197,7 @@ header-written a p e cs before words after l w is =
           (λ (t : has b i ≡ false).
           ap (λ (u : Bool). cond u (move_of (place b i) (cell_at b (place b i))) (get_or before i 0)) t
           ∙ sym (ap (λ (u : Bool). cond u (header_or_move b (i - a)) (get_or before i 0)) (behind a n i high ∙ t)))
-          (bool_is (has b i)))
+          (cases_Bool (has b i)))
           (cases_lt i (a + 4));
     } in
     subst (WritesBlock b before) (sym is) all

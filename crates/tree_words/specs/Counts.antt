@@ -2,7 +2,7 @@
 use Rattle.std.specs.Prelude.{◌≡◌, ℕ, zero, suc, ◌+◌, ◌&&◌, Bool, true, List}
 use Rattle.hex_cells.specs.Sets.{has as has_cell}
 use Rattle.hex_board.specs.Positions.{stones_of}
-use Rattle.hex_board.specs.Wins.{is_same}
+use Rattle.hex_cells.specs.Colours.{is_same}
 use Rattle.tree_words.specs.Settings.{Setting}
 use Rattle.tree_words.specs.Words.{Count, root_at, tally_in, seen_in}
 use Rattle.tree_words.specs.Blocks.{LinkedBlock, one_if, has, place, cell_at, is_node, In}
