@@ -10,8 +10,8 @@ use Rattle.tree_words.specs.Walks.{nothing, fresh, AtMost}
 use Rattle.tree_words.specs.Trees.{tree_at, tree_of, oldest_first}
 use Rattle.tree_words.specs.Descents.{tree_in, config_of}
 use Rattle.seq_search.specs.Steps.{Holds}
-use Rattle.tree_words.proofs.Openings.{root-fits}
-use Rattle.tree_words.proofs.OpeningLaws.{next-is, clear, root-word, no-counts, opening-linked, opening-nodes}
+use Rattle.tree_words.proofs.NewBlocks.Openings.{root-fits}
+use Rattle.tree_words.proofs.NewBlocks.OpeningLaws.{next-is, clear, root-word, no-counts, opening-linked, opening-nodes}
 use Rattle.seq_search.proofs.Growing.{at-most-none}
 
 -- the words are the opening words, whatever TICKET is

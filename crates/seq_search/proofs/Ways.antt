@@ -12,22 +12,22 @@ use Rattle.hex_board.specs.Positions.{Position, is_empty_at, placed}
 use Rattle.play_out.specs.Fills.{empties_of}
 use Rattle.uct_table.specs.Choice.{choice_of}
 use Rattle.tree_words.specs.Settings.{Setting, IsSetting}
-use Rattle.tree_words.specs.Words.{Count, root_at, link_in, move_of, cell_in, tally_in, seen_in}
-use Rattle.tree_words.specs.Blocks.{LinkedBlock, one_if, words_of, child, has, place, cell_at, is_node, InOrder, up}
-use Rattle.tree_words.specs.Paths.{NodeState, root_state, state_after, node_state, board_of}
+use Rattle.tree_words.specs.Words.{Count, root_at, link_in, move_word, cell_in, tally_in, seen_in}
+use Rattle.tree_words.specs.Blocks.{LinkedBlock, one_if, block_size, child, has_node, place, cell_at, is_node, InOrder, up}
+use Rattle.tree_words.specs.Paths.{NodeState, root_state, state_after, node_state, node_board}
 use Rattle.tree_words.specs.Complete.{allowed_cells, cells_below}
 use Rattle.tree_words.specs.Counts.{count_below}
 use Rattle.tree_words.specs.Trees.{oldest_first}
-use Rattle.tree_words.specs.Sequence.{child_of, chosen_of, game_of, children_in}
+use Rattle.tree_words.specs.Sequence.{child_of, chosen_of, search_game, children_in}
 use Rattle.tree_words.specs.Descents.{pairs_of, pick, leaf_inner, state_leaf, state_inner, steps_inner, Bare}
-use Rattle.tree_words.proofs.Adds.{is_child}
+use Rattle.tree_words.proofs.Walks.Adds.{is_child}
 use Rattle.std.proofs.lemmas.Bool.{eqb-true, eq-eqb, cases_Bool, and_parts, ltb-true, false_from_ne_true}
-use Rattle.tree_words.proofs.BlockLaws.{apart, up_same, clash, root_node}
-use Rattle.tree_words.proofs.Down.{child-has, pick-in}
-use Rattle.tree_words.proofs.GameLaws.{up-in, in-node, fair_game}
-use Rattle.tree_words.proofs.Links.{down-bare, leaf-link, state-link, steps-link}
-use Rattle.tree_words.proofs.Orders.{rooted-turned, link-bare}
-use Rattle.tree_words.proofs.RootLaws.{filter_at}
+use Rattle.tree_words.proofs.Blocks.BlockLaws.{apart, up_same, clash, root_node}
+use Rattle.tree_words.proofs.Walks.Down.{child-has, pick-in}
+use Rattle.tree_words.proofs.Blocks.GameLaws.{up-in, in-node, fair_game}
+use Rattle.tree_words.proofs.Blocks.Links.{down-bare, leaf-link, state-link, steps-link}
+use Rattle.tree_words.proofs.Blocks.Orders.{rooted-turned, link-bare}
+use Rattle.tree_words.proofs.Boards.RootLaws.{filter_at}
 use Rattle.tree_words.specs.Walks.{AtMost}
 use Rattle.seq_search.specs.Steps.{Holds}
 use Rattle.uct_table.specs.declared.scoring.TheConstants.{MOST_COUNT}
@@ -37,8 +37,8 @@ use Rattle.seq_search.specs.Descending.{spot_in, steps_in, left_on, HasRoom, lea
 use Rattle.seq_search.proofs.LinkLaws.{IsBelow, below, node-fits, child-move, child-counts}
 use Rattle.hex_cells.proofs.Tables.{square_small}
 use Rattle.hex_board.proofs.Placed.{empty_on, placed_empty, placed_size}
-use Rattle.tree_words.proofs.EmptyLaws.{below-empty, cell-of-move, up-root}
-use Rattle.tree_words.proofs.ChildLaws.{pairs-children}
+use Rattle.tree_words.proofs.Boards.EmptyLaws.{below-empty, cell-of-move, up-root}
+use Rattle.tree_words.proofs.Walks.ChildLaws.{pairs-children}
 
 -- how a call of the way down is told that the words are those of a search
 abbrev pub Searched : Setting → List ℕ → Type 0
@@ -64,7 +64,7 @@ module _ (s : Setting) (bs : List LinkedBlock) (words : List ℕ) (k : ℕ) (few
   pub block-count : slice_index words (block + 3) ≡ length block-below.0.cells
   block-count = ap (λ (z : ℕ). slice_index words (z + 3)) block-start ∙ block-below.1.count
 
-  pub block-fits : block + words_of (slice_index words (block + 3)) ≤ length words
+  pub block-fits : block + block_size (slice_index words (block + 3)) ≤ length words
   block-fits = omega (arith, block-start, block-count, block-below.1.fits)
 
   pub block-scored : CanBeScored words (block + 4) (slice_index words (block + 3))
@@ -80,7 +80,7 @@ module _ (s : Setting) (bs : List LinkedBlock) (words : List ℕ) (k : ℕ) (few
 
   -- the place that is chosen
   module _ (visits weight chosen : ℕ) (own : visits ≡ (tally_in words x).visits) (same : weight ≡ s.knobs.weight) (is : chosen ≡ choice_of visits weight (children_in words (block + 4) (slice_index words (block + 3)))) where
-    pub chosen-pick : chosen ≡ pick (game_of s) (tally_in words) (seen_in words) block-below.0 x
+    pub chosen-pick : chosen ≡ pick (search_game s) (tally_in words) (seen_in words) block-below.0 x
     unfolding chosen_of
     chosen-pick =
         let b : LinkedBlock = block-below.0 in
@@ -88,7 +88,7 @@ module _ (s : Setting) (bs : List LinkedBlock) (words : List ℕ) (k : ℕ) (few
         ∙ sym (ap (choice_of (tally_in words x).visits s.knobs.weight) (pairs-children words (b.start + 4) b.cells))
 
     pub chosen-in : chosen < length block-below.0.cells
-    chosen-in = let b : LinkedBlock = block-below.0 in omega (arith, chosen-pick, pick-in (game_of s) (fair_game s) (tally_in words) (seen_in words) b x block-below.1.some)
+    chosen-in = let b : LinkedBlock = block-below.0 in omega (arith, chosen-pick, pick-in (search_game s) (fair_game s) (tally_in words) (seen_in words) b x block-below.1.some)
 
     pub chosen-at : block + 4 + 4 * chosen ≡ child block-below.0 chosen
     chosen-at = ap (λ (z : ℕ). z + 4 + 4 * chosen) block-start
@@ -99,12 +99,12 @@ module _ (s : Setting) (bs : List LinkedBlock) (words : List ℕ) (k : ℕ) (few
     pub chosen-after : x < block
     chosen-after = omega (arith, block-below.1.whole.above, block-below.1.parent, block-start)
 
-    pub chosen-empty : IsSetting s → is_empty_at (board_of s bs x) (cell_at block-below.0 chosen) ≡ true
+    pub chosen-empty : IsSetting s → is_empty_at (node_board s bs x) (cell_at block-below.0 chosen) ≡ true
     chosen-empty z =
         let b : LinkedBlock = block-below.0 in
         let cells = block-below.1.whole.cells in
         let l : chosen < length (cells_below s bs b.parent) = subst (λ (c : List ℕ). chosen < length c) cells chosen-in in
-        (λ i. is_empty_at (board_of s bs (sym block-below.1.parent i)) (get_or (cells i) chosen 0)) ∙ below-empty s bs b.parent chosen z h.linked.order l
+        (λ i. is_empty_at (node_board s bs (sym block-below.1.parent i)) (get_or (cells i) chosen 0)) ∙ below-empty s bs b.parent chosen z h.linked.order l
 
 -- a stone less to place
 fewer-le : (n : ℕ) (f g : ℕ → Bool) → ((k : ℕ) → g k ≡ true → f k ≡ true) → count_below n g ≤ count_below n f
@@ -156,7 +156,7 @@ fewer-left : (p : Position) (player : Colour) (c : ℕ) → is_empty_at p c ≡ 
 unfolding left_on
 fewer-left p player c e l = fewer 121 c (is_empty_at p) (is_empty_at (placed p player c)) (λ k u. placed_empty p player c k u) e l
 
--- a walk that can take a step has room for it
+-- a walk that can take a step has_node room for it
 pub step-count : (d : Descent) (cell : ℕ) → is_empty_at d.board cell ≡ true → HasRoom d → d.count < 121
 step-count d cell e r =
     let o = empty_on d.board cell e in
@@ -187,14 +187,14 @@ module _ (d e : Descent) (cell kid : ℕ) (board : e.board ≡ placed d.board d.
   step-spot i = record { board = board i; player = player i }
 
   pub step-way : (s : Setting) (bs : List LinkedBlock) (words : List ℕ) (k : ℕ) → Holds s bs words k → (b : LinkedBlock) → IsBelow s bs words d.node b → (j : ℕ)
-      → j ≡ pick (game_of s) (tally_in words) (seen_in words) b d.node → j < length b.cells → kid ≡ child b j → cell ≡ cell_at b j
+      → j ≡ pick (search_game s) (tally_in words) (seen_in words) b d.node → j < length b.cells → kid ≡ child b j → cell ≡ cell_at b j
       → HasRoom d → Underway s bs words d → Underway s bs words e
   step-way s bs words k h b w j is l at mine r u =
-      let g = game_of s in let fair = fair_game s in let p = tally_in words in let q = seen_in words in let os = oldest_first bs in
+      let g = search_game s in let fair = fair_game s in let p = tally_in words in let q = seen_in words in let os = oldest_first bs in
       let rooted = rooted-turned (root_at s) bs h.linked.order in
       let i : ℕ = pick g p q b d.node in
       let here : e.node ≡ child b i = node ∙ at ∙ ap (child b) is in
-      let inside : has b e.node ≡ true = ap (has b) (node ∙ at) ∙ child-has b j l in
+      let inside : has_node b e.node ≡ true = ap (has_node b) (node ∙ at) ∙ child-has b j l in
       let cell-is : cell ≡ cell_at b i = mine ∙ ap (cell_at b) is in
       let spot : spot_in e ≡ state_after (spot_in d) (cell_at b i) = step-spot ∙ ap (state_after (spot_in d)) cell-is in
       let up : node_state s bs e.node ≡ state_after (node_state s bs b.parent) (cell_at b (place b e.node))
@@ -226,7 +226,7 @@ begin-way s d board player node count bs words k h =
 -- where it ends
 pub end-way : (s : Setting) (bs : List LinkedBlock) (words : List ℕ) (d : Descent) (k : ℕ) → Holds s bs words k → HasRoom d → Underway s bs words d → link_in words d.node ≡ 0 → Descended s bs words d
 end-way s bs words d k h r u e =
-    let g = game_of s in let p = tally_in words in let q = seen_in words in let os = oldest_first bs in
+    let g = search_game s in let p = tally_in words in let q = seen_in words in let os = oldest_first bs in
     let bare : Bare os d.node = link-bare (root_at s) bs d.node h.linked.order (sym (h.linked.shows.links d.node u.node) ∙ e) in
     record {
       node = u.node;
@@ -248,7 +248,7 @@ few-counts s k z l = omega (arith, l, z.ranges.playouts.1)
 
 -- the block of the node can be chosen from
 pub record MayChoose (s : Setting) (words : List ℕ) (d : Descent) (block : ℕ) : Type 0 where
-  pub within : block + words_of (slice_index words (block + 3)) ≤ length words
+  pub within : block + block_size (slice_index words (block + 3)) ≤ length words
   pub parent : (tally_in words d.node).visits ≤ MOST_COUNT
   pub counts : CanBeScored words (block + 4) (slice_index words (block + 3))
 
@@ -270,9 +270,9 @@ pub record MayGo (words : List ℕ) (d : Descent) (kid : ℕ) : Type 0 where
 
 module _ (s : Setting) (words : List ℕ) (d : Descent) (block visits weight chosen : ℕ) (z : IsSetting s) (at : block ≡ link_in words d.node) (some : block ≢ 0)
     (own : visits ≡ (tally_in words d.node).visits) (same : weight ≡ s.knobs.weight) (is : chosen ≡ choice_of visits weight (children_in words (block + 4) (slice_index words (block + 3)))) where
-  -- the cell that the move word of the chosen child has
+  -- the cell that the move word of the chosen child has_node
   chosen-cell : (bs : List LinkedBlock) (k : ℕ) → k ≤ s.knobs.playouts → (h : Holds s bs words k) → d.board.size ≤ 11 → (u : Underway s bs words d)
-      → (b : LinkedBlock) × (w : IsBelow s bs words d.node b) × (chosen ≡ pick (game_of s) (tally_in words) (seen_in words) b d.node) × (chosen < length b.cells) × (block + 4 + 4 * chosen ≡ child b chosen)
+      → (b : LinkedBlock) × (w : IsBelow s bs words d.node b) × (chosen ≡ pick (search_game s) (tally_in words) (seen_in words) b d.node) × (chosen < length b.cells) × (block + 4 + 4 * chosen ≡ child b chosen)
       × (cell_in (slice_index words (block + 4 + 4 * chosen)) ≡ cell_at b chosen) × (is_empty_at d.board (cell_at b chosen) ≡ true)
   chosen-cell bs k l h small u =
       let few = few-counts s k z l in

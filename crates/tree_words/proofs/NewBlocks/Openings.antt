@@ -12,19 +12,19 @@ use Rattle.hex_board.specs.Joined.{cells_of}
 use Rattle.hex_board.specs.Positions.{Position, is_empty_at}
 use Rattle.tree_words.specs.Settings.{Setting, IsSetting}
 use Rattle.tree_words.specs.Words.{root_at, area_at, end_of}
-use Rattle.tree_words.specs.Blocks.{LinkedBlock, size, words_of, covers, stays, header_or_move}
+use Rattle.tree_words.specs.Blocks.{LinkedBlock, size, block_size, covers, is_header_or_move, header_or_move}
 use Rattle.tree_words.specs.Complete.{HasEmpties, allowed_cells}
 use Rattle.tree_words.specs.Opening.{root_block, opening_word, AreOpening}
-use Rattle.tree_words.proofs.RootLaws.{few_cells}
+use Rattle.tree_words.proofs.Boards.RootLaws.{few_cells}
 use Rattle.tree_words.specs.Writing.{listed, WritesBlock}
-use Rattle.tree_words.proofs.Writes.{block_of}
+use Rattle.tree_words.proofs.NewBlocks.Writes.{block_of}
 
 pub allowed-listed : (s : Setting) (size set : ℕ) → size ≡ s.board.size → set ≡ s.allowed → listed size set ≡ allowed_cells s
 unfolding allowed_cells
 allowed-listed s size set e f = ap (λ (n : ℕ). filter (has_cell set) (cells_of n)) e ∙ ap (λ (z : ℕ). filter (has_cell z) (cells_of s.board.size)) f
 
 -- the root's block fits into the area
-pub root-fits : (s : Setting) → IsSetting s → area_at s + words_of (length (allowed_cells s)) ≤ end_of s
+pub root-fits : (s : Setting) → IsSetting s → area_at s + block_size (length (allowed_cells s)) ≤ end_of s
 unfolding allowed_cells
 root-fits s h = omega (arith, few_cells s.board.size (has_cell s.allowed) h.position.most, h.ranges.words.0)
 
@@ -55,7 +55,7 @@ opening-written s root e count cells before words h zeros at is set w many =
           ap (λ (z : ℕ). get_or w2 z 0) q ∙ get_or-set_same w1 0 (root + 4 + 4 + 4 * count) 0 (omega (arith, l1, long)) ∙ n
           ∙ sym (ap (opening_word s e) q))
           (λ (d : i ≡ 0 → ⊥).
-          let rest : ℕ = cond (covers i b && stays (i - b.start)) (header_or_move b (i - b.start)) 0 in
+          let rest : ℕ = cond (covers i b && is_header_or_move (i - b.start)) (header_or_move b (i - b.start)) 0 in
           let first : opening_word s e i ≡ cond (i == root_at s + 1) b.start rest = ap (λ (t : Bool). cond t (b.start + size b) (cond (i == root_at s + 1) b.start rest)) (ne_eqb i 0 d) in
           get_or-set_other w1 0 i (root + 4 + 4 + 4 * count) 0 d ∙ ⊎_elim
           (λ (q : i ≡ root + 1).
@@ -63,7 +63,7 @@ opening-written s root e count cells before words h zeros at is set w many =
           ∙ sym (first ∙ ap (λ (t : Bool). cond t b.start rest) (eq-eqb i (root_at s + 1) (q ∙ ap (λ (z : ℕ). z + 1) at))))
           (λ (n : i ≡ root + 1 → ⊥).
           get_or-set_other words (root + 1) i (root + 4) 0 n ∙ v.each i
-          ∙ ap (λ (z : ℕ). cond (covers i b && stays (i - b.start)) (header_or_move b (i - b.start)) z) (ap (λ (x : List ℕ). get_or x i 0) zeros ∙ get_or-replicate (end_of s) i 0 0 l)
+          ∙ ap (λ (z : ℕ). cond (covers i b && is_header_or_move (i - b.start)) (header_or_move b (i - b.start)) z) (ap (λ (x : List ℕ). get_or x i 0) zeros ∙ get_or-replicate (end_of s) i 0 0 l)
           ∙ sym (first ∙ ap (λ (t : Bool). cond t b.start rest) (ne_eqb i (root_at s + 1) (λ z. n (z ∙ ap (λ (u : ℕ). u + 1) (sym at))))))
           (cases_eq i (root + 1)))
           (cases_eq i 0);

@@ -13,15 +13,15 @@ use Rattle.hex_cells.specs.Sets.{has as has_cell}
 use Rattle.hex_board.specs.Joined.{cells_of}
 use Rattle.hex_board.specs.Positions.{Position, is_empty_at}
 use Rattle.play_out.specs.Fills.{empties_of}
-use Rattle.tree_words.specs.Paths.{board_of}
+use Rattle.tree_words.specs.Paths.{node_board}
 use Rattle.tree_words.specs.Settings.{Setting, IsSetting}
-use Rattle.tree_words.specs.Words.{root_at, area_at, end_of, next_in, link_in, cell_in, move_of}
-use Rattle.tree_words.specs.Blocks.{LinkedBlock, size, words_of, In, InOrder, Follows, is_node, link_of}
-use Rattle.tree_words.specs.Complete.{Complete, AreComplete, Linked, cells_below, allowed_cells}
+use Rattle.tree_words.specs.Words.{root_at, area_at, end_of, next_in, link_in, cell_in, move_word}
+use Rattle.tree_words.specs.Blocks.{LinkedBlock, size, block_size, In, InOrder, Follows, is_node, link_of}
+use Rattle.tree_words.specs.Complete.{IsComplete, AreComplete, Linked, cells_below, allowed_cells}
 use Rattle.tree_words.specs.Records.{leaf_of}
 use Rattle.tree_words.specs.Closing.{IsClosed}
 use Rattle.tree_words.specs.Roots.{root_link, root_count, row_at, HasRoot}
-use Rattle.tree_words.proofs.BlockLaws.{move-word, move-stays, clash, root_node}
+use Rattle.tree_words.proofs.Blocks.BlockLaws.{move-word, move-stays, clash, root_node}
 use Rattle.hex_cells.proofs.Tables.{square_small}
 use Rattle.hex_board.proofs.Placed.{empty_on}
 
@@ -76,10 +76,10 @@ pub root_of : (r : ℕ) (bs : List LinkedBlock) (x : ℕ) → InOrder r bs → i
 root_of r [] x g n d = absurd (d (eqb-true x r n))
 root_of r (b ∷ bs) x g n d = find_root r b bs g
 
-pub complete_in : (s : Setting) (next : ℕ) (bs : List LinkedBlock) (b : LinkedBlock) → AreComplete s next bs → In b bs → (older : List LinkedBlock) × Complete s next older b
+pub complete_in : (s : Setting) (next : ℕ) (bs : List LinkedBlock) (b : LinkedBlock) → AreComplete s next bs → In b bs → (older : List LinkedBlock) × IsComplete s next older b
 complete_in s next [] b c i = absurd i
 complete_in s next (d ∷ bs) b c i = ⊎_elim
-    (λ (e : b ≡ d). (bs, subst (λ (z : LinkedBlock). Complete s next bs z) (sym e) c.0))
+    (λ (e : b ≡ d). (bs, subst (λ (z : LinkedBlock). IsComplete s next bs z) (sym e) c.0))
     (λ (h : In b bs). complete_in s next bs b c.1 h) i
 
 cell_of_move : (k c : ℕ) → c < 256 → (256 * k + c) % 256 ≡ c
@@ -96,7 +96,7 @@ has_root s words h c =
     let k = complete_in s (next_in words) c.blocks b c.linked.complete f.1 in
     let is_root : is_node r c.blocks r ≡ true = root_node r c.blocks in
     let link : root_link s words ≡ b.start = c.linked.shows.links r is_root ∙ f.3 in
-    let cells : b.cells ≡ allowed_cells s = k.1.cells ∙ ap (λ (t : Bool). cond t (allowed_cells s) (empties_of (board_of s k.0 b.parent))) (eq-eqb b.parent r f.2) in
+    let cells : b.cells ≡ allowed_cells s = k.1.cells ∙ ap (λ (t : Bool). cond t (allowed_cells s) (empties_of (node_board s k.0 b.parent))) (eq-eqb b.parent r f.2) in
     let head = c.linked.shows.blocks b 3 f.1 (omega arith) refl in
     let count : root_count s words ≡ length b.cells = ap (λ (z : ℕ). get_or words (z + 3) 0) link ∙ head in
     let len : length b.cells ≡ length (allowed_cells s) = ap length cells in
@@ -110,8 +110,8 @@ has_root s words h c =
     let sq = square_small s.board.size h.position.most in
     let at : root_link s words + 4 + 4 * i ≡ b.start + (4 + 4 * i) = omega (arith, link) in
     let m = c.linked.shows.blocks b (4 + 4 * i) f.1 (omega (arith, l, count)) (move-stays i) ∙ move-word b i in
-    let m' : get_or words (root_link s words + 4 + 4 * i) 0 ≡ move_of i (get_or b.cells i 0) = ap (λ (z : ℕ). get_or words z 0) at ∙ m in
-    ap cell_in m' ∙ (ap (λ (l : List ℕ). cell_in (move_of i (get_or l i 0))) cells ∙ cell_of_move i (get_or (allowed_cells s) i 0) (omega (arith, low, sq))) in
+    let m' : get_or words (root_link s words + 4 + 4 * i) 0 ≡ move_word i (get_or b.cells i 0) = ap (λ (z : ℕ). get_or words z 0) at ∙ m in
+    ap cell_in m' ∙ (ap (λ (l : List ℕ). cell_in (move_word i (get_or l i 0))) cells ∙ cell_of_move i (get_or (allowed_cells s) i 0) (omega (arith, low, sq))) in
     record {
       within = omega (arith, link, count, k.1.inside.1, c.long);
       count = count ∙ len;

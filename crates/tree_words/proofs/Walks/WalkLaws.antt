@@ -3,26 +3,26 @@ use Rattle.std.proofs.Common.{◌≡◌, ◌⊎◌, ℕ, zero, suc, ◌+◌, ◌
 use Rattle.std.specs.Prelude.{◌==◌, nat_lt, nat_le, ◌&&◌}
 use Rattle.std.proofs.lemmas.Bool.Decides.{nat_tests}
 use Rattle.tree_words.specs.Words.{Count}
-use Rattle.tree_words.specs.Blocks.{LinkedBlock, child, has, size, cell_at}
+use Rattle.tree_words.specs.Blocks.{LinkedBlock, child, has_node, size, cell_at}
 use Rattle.tree_words.specs.Walks.{nothing, plus, Tree, node, Children, done, Game, pairs, fresh, leaf_state, add, expand, expand_row, added, walk}
 use Rattle.tree_words.specs.Trees.{row_of, tree_leaf, tree_inner, tree_at}
-use Rattle.tree_words.specs.Descents.{Config, tree_in, ends, NewBlock, Widened, Added, EndsBy, Fine, pick, state_leaf, state_inner, state_at, top, Out, Sprouts}
+use Rattle.tree_words.specs.Descents.{Config, tree_in, walk_end, NewBlock, Widened, Added, EndsBy, Fine, pick, state_leaf, state_inner, state_at, top, Out, Sprouts}
 use Rattle.std.proofs.lemmas.Bool.{and_parts, cases_Bool, false_from_ne_true}
-use Rattle.tree_words.proofs.Down.{Fair, down-here, down-else, cell-tree, pairs-row, same-under}
-use Rattle.tree_words.proofs.Adds.{add-tree}
-use Rattle.tree_words.proofs.Expands.{row-expand, bare-row, state-tree, expand-tree}
+use Rattle.tree_words.proofs.Walks.Down.{Fair, down-here, down-else, cell-tree, pairs-row, same-under}
+use Rattle.tree_words.proofs.Walks.Adds.{add-tree}
+use Rattle.tree_words.proofs.Walks.Expands.{row-expand, bare-row, state-tree, expand-tree}
 
-pub has-below : (b : LinkedBlock) (x : ℕ) → has b x ≡ true → (b.start + 4 ≤ x) × (x < b.start + (4 + 4 * length b.cells))
+pub has-below : (b : LinkedBlock) (x : ℕ) → has_node b x ≡ true → (b.start + 4 ≤ x) × (x < b.start + (4 + 4 * length b.cells))
 has-below b x h = both (b.start + 4) x (b.start + size b) _ h
   where
     both : (a x n : ℕ) (t : Bool) → (nat_le a x && (nat_lt x n && t)) ≡ true → (a ≤ x) × (x < n)
     both a x n t e = let u = and_parts (nat_le a x) (nat_lt x n && t) e in let v = and_parts (nat_lt x n) t u.1 in
         let l : nat_le a x ≡ true = u.0 in let m : nat_lt x n ≡ true = v.0 in (grind (arith, nat_tests), grind (arith, nat_tests))
 
-pub no-has : (b : LinkedBlock) (x : ℕ) → x < b.start + 4 → has b x ≡ false
-no-has b x l = false_from_ne_true (has b x) (λ h. let u = has-below b x h in omega arith)
+pub no-has : (b : LinkedBlock) (x : ℕ) → x < b.start + 4 → has_node b x ≡ false
+no-has b x l = false_from_ne_true (has_node b x) (λ h. let u = has-below b x h in omega arith)
 
-pub out-snoc : (n : LinkedBlock) (bs : List LinkedBlock) (x : ℕ) → Out bs x → has n x ≡ false → Out (bs ++ n ∷ []) x
+pub out-snoc : (n : LinkedBlock) (bs : List LinkedBlock) (x : ℕ) → Out bs x → has_node n x ≡ false → Out (bs ++ n ∷ []) x
 out-snoc n [] x out h = (h, tt)
 out-snoc n (b ∷ bs) x out h = (out.0, out-snoc n bs x out.1 h)
 
@@ -71,7 +71,7 @@ module _ {S O : Type 0} (g : Game S O) (fair : Fair g) (p q : ℕ → Count) whe
 
 module _ {S O : Type 0} (g : Game S O) (fair : Fair g) (s : S) (r : ℕ) where
   pub next-grows : (c d : Config) → Widened g s r c d → c.next ≤ d.next
-  next-grows c d w = subst (λ (z : ℕ). c.next ≤ z) (sym w.next) (fair.grows c.next (ends g s r c).0 (ends g s r c).1)
+  next-grows c d w = subst (λ (z : ℕ). c.next ≤ z) (sym w.next) (fair.grows c.next (walk_end g s r c).0 (walk_end g s r c).1)
 
   -- what is fine stays fine where the leaf gets its block
   pub fine-widened : (c d : Config) → Fine r c → Widened g s r c d → Fine r d
@@ -87,7 +87,7 @@ module _ {S O : Type 0} (g : Game S O) (fair : Fair g) (s : S) (r : ℕ) where
         ends_by = subst (EndsBy d.next) (sym b.blocks) (ends-snoc d.next n c.blocks (ends-more c.next d.next c.blocks grow f.ends_by) b.room);
         low = omega (arith, f.low, grow);
       } in done')
-      (λ (e : (g.wide c.next (ends g s r c).0 (ends g s r c).1 ≡ false) × (d.blocks ≡ c.blocks)).
+      (λ (e : (g.wide c.next (walk_end g s r c).0 (walk_end g s r c).1 ≡ false) × (d.blocks ≡ c.blocks)).
       let done' : Fine r d = record {
         sprouts = subst Sprouts (sym e.1) f.sprouts;
         root = subst (λ (l : List LinkedBlock). Out l r) (sym e.1) f.root;
@@ -106,7 +106,7 @@ module _ {S O : Type 0} (g : Game S O) (fair : Fair g) (s : S) (r : ℕ) where
       let n : LinkedBlock = e.0 in let b : NewBlock g s r c d n = e.1 in
       ap (λ (l : List LinkedBlock). tree_at c.tally c.seen l r 0 nothing) b.blocks
       ∙ expand-tree g fair c.tally c.seen c.next n c.blocks r 0 nothing s f.sprouts f.root b.parent b.cells b.wide b.blank)
-      (λ (e : (g.wide c.next (ends g s r c).0 (ends g s r c).1 ≡ false) × (d.blocks ≡ c.blocks)).
+      (λ (e : (g.wide c.next (walk_end g s r c).0 (walk_end g s r c).1 ≡ false) × (d.blocks ≡ c.blocks)).
       ap (λ (l : List LinkedBlock). tree_at c.tally c.seen l r 0 nothing) e.1 ∙ stay-tree g fair c.tally c.seen c.next c.blocks r 0 nothing s f.sprouts e.0)
       w.block
 
@@ -118,14 +118,14 @@ module _ {S O : Type 0} (g : Game S O) (fair : Fair g) (s : S) (r : ℕ) where
     low = omega (arith, f.low, w.next);
   }
 
-  -- where a walk adds, its tree has the adds
+  -- where a walk adds, its tree has_node the adds
   pub added-tree : (o : O) (c d : Config) → Fine r c → Added g s r o c d → tree_in r d ≡ add g o (tree_in r c) s
   added-tree o c d f w =
       ap (λ (l : List LinkedBlock). tree_at d.tally d.seen l r 0 nothing) w.blocks
       ∙ add-tree g fair o c.tally c.seen d.tally d.seen c.blocks r 0 nothing s f.sprouts f.root w.tally w.seen
 
   -- one walk on the blocks, from c by m to d, is one walk on the tree
-  pub walk-tree : (k : ℕ) (o : O) (c m d : Config) → Fine r c → Widened g s r c m → Added g s r o m d → o ≡ g.play k (ends g s r m).1
+  pub walk-tree : (k : ℕ) (o : O) (c m d : Config) → Fine r c → Widened g s r c m → Added g s r o m d → o ≡ g.play k (walk_end g s r m).1
       → (tree_in r d, d.next) ≡ walk g s k (tree_in r c, c.next)
   walk-tree k o c m d f w a is =
       let u : Fine r m = fine-widened c m f w in

@@ -9,9 +9,9 @@ use Rattle.std.specs.List.{filter, range_with_len}
 use Rattle.std.proofs.lemmas.List.FromFn.{length-range_with_len}
 use Rattle.std.proofs.lemmas.List.Sums.{length-filter, count_by-le-length}
 use Rattle.hex_cells.specs.Sets.{has as has_cell}
-use Rattle.tree_words.specs.Words.{move_of}
-use Rattle.tree_words.specs.Blocks.{LinkedBlock, covers, has, place, cell_at, stays, header_or_move}
-use Rattle.tree_words.proofs.BlockLaws.{has-at, has-here, move-word}
+use Rattle.tree_words.specs.Words.{move_word}
+use Rattle.tree_words.specs.Blocks.{LinkedBlock, covers, has_node, place, cell_at, is_header_or_move, header_or_move}
+use Rattle.tree_words.proofs.Blocks.BlockLaws.{has-at, has-here, move-word}
 use Rattle.tree_words.specs.Writing.{WritesMoves, WritesBlock}
 use Rattle.play_out.proofs.Listing.{filter_more}
 
@@ -26,7 +26,7 @@ zero-add k = omega arith
 pub no-moves : (a p e : ℕ) (words : List ℕ) → WritesMoves (block_of a p e []) words words
 no-moves a p e words = record {
   long = refl;
-  each = λ i. sym (ap (λ (t : Bool). cond t (move_of ((i - a - 4) / 4) 0) (get_or words i 0)) (none a i));
+  each = λ i. sym (ap (λ (t : Bool). cond t (move_word ((i - a - 4) / 4) 0) (get_or words i 0)) (none a i));
 }
   where
     none : (a i : ℕ) → (nat_le (a + 4) i && (nat_lt i (a + (4 + 4 * 0)) && ((i - a) % 4 == 0))) ≡ false
@@ -44,33 +44,33 @@ same-has a n i d = ⊎_elim
 
 -- one move more
 pub one-move : (a p e : ℕ) (cs : List ℕ) (c at : ℕ) (before words : List ℕ) → at ≡ a + (4 + 4 * length cs) → at < length words
-    → WritesMoves (block_of a p e cs) before words → WritesMoves (block_of a p e (cs ++ c ∷ [])) before (set_word words at (move_of (length cs) c))
+    → WritesMoves (block_of a p e cs) before words → WritesMoves (block_of a p e (cs ++ c ∷ [])) before (set_word words at (move_word (length cs) c))
 one-move a p e cs c at before words is l w =
     let b : LinkedBlock = block_of a p e cs in
     let d : LinkedBlock = block_of a p e (cs ++ c ∷ []) in
     let n : length (cs ++ c ∷ []) ≡ length cs + 1 = length-append cs (c ∷ []) in
     record {
-      long = length-set words at (move_of (length cs) c) ∙ w.long;
+      long = length-set words at (move_word (length cs) c) ∙ w.long;
       each = λ i. ⊎_elim
           (λ (q : i ≡ at).
-          let h : has d i ≡ true = ap (has d) (q ∙ is) ∙ has-here d (length cs) (omega (arith, n)) in
+          let h : has_node d i ≡ true = ap (has_node d) (q ∙ is) ∙ has-here d (length cs) (omega (arith, n)) in
           let k : place d i ≡ length cs = omega (arith, q, is) in
-          ap (λ (z : ℕ). get_or (set_word words at (move_of (length cs) c)) z 0) q ∙ get_or-set_same words at (move_of (length cs) c) 0 l
-          ∙ sym (ap (λ (t : Bool). cond t (move_of (place d i) (cell_at d (place d i))) (get_or before i 0)) h
-          ∙ ap (λ (z : ℕ). move_of z (get_or (cs ++ c ∷ []) z 0)) k ∙ ap (move_of (length cs)) (get_or-append_seam cs c [] 0)))
+          ap (λ (z : ℕ). get_or (set_word words at (move_word (length cs) c)) z 0) q ∙ get_or-set_same words at (move_word (length cs) c) 0 l
+          ∙ sym (ap (λ (t : Bool). cond t (move_word (place d i) (cell_at d (place d i))) (get_or before i 0)) h
+          ∙ ap (λ (z : ℕ). move_word z (get_or (cs ++ c ∷ []) z 0)) k ∙ ap (move_word (length cs)) (get_or-append_seam cs c [] 0)))
           (λ (q : i ≡ at → ⊥).
-          let h : has d i ≡ has b i = ap (λ (m : ℕ). nat_le (a + 4) i && (nat_lt i (a + (4 + 4 * m)) && ((i - a) % 4 == 0))) n ∙ same-has a (length cs) i (λ z. q (z ∙ sym is)) in
-          get_or-set_other words at i (move_of (length cs) c) 0 q ∙ w.each i
+          let h : has_node d i ≡ has_node b i = ap (λ (m : ℕ). nat_le (a + 4) i && (nat_lt i (a + (4 + 4 * m)) && ((i - a) % 4 == 0))) n ∙ same-has a (length cs) i (λ z. q (z ∙ sym is)) in
+          get_or-set_other words at i (move_word (length cs) c) 0 q ∙ w.each i
           ∙ ⊎_elim
-          (λ (t : has b i ≡ true).
+          (λ (t : has_node b i ≡ true).
           let k = has-at b i t in
           let low : place b i < length cs = omega (arith, k.1, k.2) in
-          ap (λ (u : Bool). cond u (move_of (place b i) (cell_at b (place b i))) (get_or before i 0)) t
-          ∙ sym (ap (λ (u : Bool). cond u (move_of (place d i) (cell_at d (place d i))) (get_or before i 0)) (h ∙ t) ∙ ap (move_of (place b i)) (get_or-append cs (c ∷ []) 0 (place b i) low)))
-          (λ (t : has b i ≡ false).
-          ap (λ (u : Bool). cond u (move_of (place b i) (cell_at b (place b i))) (get_or before i 0)) t
-          ∙ sym (ap (λ (u : Bool). cond u (move_of (place d i) (cell_at d (place d i))) (get_or before i 0)) (h ∙ t)))
-          (cases_Bool (has b i)))
+          ap (λ (u : Bool). cond u (move_word (place b i) (cell_at b (place b i))) (get_or before i 0)) t
+          ∙ sym (ap (λ (u : Bool). cond u (move_word (place d i) (cell_at d (place d i))) (get_or before i 0)) (h ∙ t) ∙ ap (move_word (place b i)) (get_or-append cs (c ∷ []) 0 (place b i) low)))
+          (λ (t : has_node b i ≡ false).
+          ap (λ (u : Bool). cond u (move_word (place b i) (cell_at b (place b i))) (get_or before i 0)) t
+          ∙ sym (ap (λ (u : Bool). cond u (move_word (place d i) (cell_at d (place d i))) (get_or before i 0)) (h ∙ t)))
+          (cases_Bool (has_node b i)))
           (cases_eq i at);
     }
 
@@ -90,12 +90,12 @@ pub moved-one : (start set : ℕ) (before words : List ℕ) (n k at : ℕ) → M
 moved-one start set before words n k at m h is l =
     let cs : List ℕ = filter (has_cell set) (range_with_len 0 k) in
     let next : filter (has_cell set) (range_with_len 0 (k + 1)) ≡ cs ++ k ∷ [] = cells-more set k ∙ ap (λ (t : Bool). cs ++ cond t (k ∷ []) []) h in
-    let one : WritesMoves (block_of start 0 0 (cs ++ k ∷ [])) before (set_word words at (move_of (length cs) k))
+    let one : WritesMoves (block_of start 0 0 (cs ++ k ∷ [])) before (set_word words at (move_word (length cs) k))
     = one-move start 0 0 cs k at before words (omega (arith, is, m.many)) l m.moves in
     record {
       many = ap (λ (z : ℕ). z + 1) m.many ∙ sym (length-append cs (k ∷ [])) ∙ sym (ap length next);
-      moves = subst (λ (l : List ℕ). WritesMoves (block_of start 0 0 l) before (set_word words at (move_of n k))) (sym next)
-          (subst (λ (z : ℕ). WritesMoves (block_of start 0 0 (cs ++ k ∷ [])) before (set_word words at (move_of z k))) (sym m.many) one);
+      moves = subst (λ (l : List ℕ). WritesMoves (block_of start 0 0 l) before (set_word words at (move_word n k))) (sym next)
+          (subst (λ (z : ℕ). WritesMoves (block_of start 0 0 (cs ++ k ∷ [])) before (set_word words at (move_word z k))) (sym m.many) one);
     }
 
 pub moved-past : (start set : ℕ) (before words : List ℕ) (n k : ℕ) → Moved start set before words n k → has_cell set k ≡ false → Moved start set before words n (k + 1)
@@ -168,7 +168,7 @@ header-written a p e cs before words after l w is =
     let h2 : get_or w4 (a + 2) 0 ≡ e / 2 ^ 64 = get_or-set_other w3 (a + 3) (a + 2) (length cs) 0 (λ z. omega arith) ∙ get_or-set_same w2 (a + 2) (e / 2 ^ 64) 0 (omega arith) in
     let h3 : get_or w4 (a + 3) 0 ≡ length cs = get_or-set_same w3 (a + 3) (length cs) 0 (omega arith) in
     let header : (i j : ℕ) → i ≡ a + j → j < 4 → get_or w4 (a + j) 0 ≡ header_or_move b j
-    → get_or w4 i 0 ≡ cond (covers i b && stays (i - a)) (header_or_move b (i - a)) (get_or before i 0)
+    → get_or w4 i 0 ≡ cond (covers i b && is_header_or_move (i - a)) (header_or_move b (i - a)) (get_or before i 0)
     = λ i j q lj h. let k : i - a ≡ j = omega arith in
     ap (λ (z : ℕ). get_or w4 z 0) q ∙ h ∙ sym (ap (λ (t : Bool). cond t (header_or_move b (i - a)) (get_or before i 0)) (in-header a n i j q lj) ∙ ap (header_or_move b) k) in
     let all : WritesBlock b before w4 = record {
@@ -176,7 +176,7 @@ header-written a p e cs before words after l w is =
       each = λ i. ⊎_elim
           (λ (low : i < a + 4). ⊎_elim
           (λ (q : i < a). off i (λ z. omega arith) (λ z. omega arith) (λ z. omega arith) (λ z. omega arith)
-          ∙ w.each i ∙ ap (λ (t : Bool). cond t (move_of (place (block_of a 0 0 cs) i) (cell_at (block_of a 0 0 cs) (place (block_of a 0 0 cs) i))) (get_or before i 0)) (no-node a n i low)
+          ∙ w.each i ∙ ap (λ (t : Bool). cond t (move_word (place (block_of a 0 0 cs) i) (cell_at (block_of a 0 0 cs) (place (block_of a 0 0 cs) i))) (get_or before i 0)) (no-node a n i low)
           ∙ sym (ap (λ (t : Bool). cond t (header_or_move b (i - a)) (get_or before i 0)) (before-it a n i q)))
           (λ (q : a ≤ i). ⊎_elim (λ (z : i ≡ a). header i 0 (omega arith) (omega arith) (ap (λ (u : ℕ). get_or w4 u 0) (add-zero a) ∙ h0))
           (λ (d0 : i ≡ a → ⊥). ⊎_elim (λ (z : i ≡ a + 1). header i 1 z (omega arith) h1)
@@ -187,17 +187,17 @@ header-written a p e cs before words after l w is =
           (cases_eq i a))
           (cases_lt i a))
           (λ (high : a + 4 ≤ i). off i (λ z. omega arith) (λ z. omega arith) (λ z. omega arith) (λ z. omega arith) ∙ w.each i ∙ ⊎_elim
-          (λ (t : has b i ≡ true).
+          (λ (t : has_node b i ≡ true).
           let k = has-at b i t in
           let j : i - a ≡ 4 + 4 * k.0 = omega (arith, k.2) in
           let m : place b i ≡ k.0 = omega (arith, k.2) in
-          ap (λ (u : Bool). cond u (move_of (place b i) (cell_at b (place b i))) (get_or before i 0)) t
-          ∙ ap (λ (z : ℕ). move_of z (cell_at b z)) m
+          ap (λ (u : Bool). cond u (move_word (place b i) (cell_at b (place b i))) (get_or before i 0)) t
+          ∙ ap (λ (z : ℕ). move_word z (cell_at b z)) m
           ∙ sym (ap (λ (u : Bool). cond u (header_or_move b (i - a)) (get_or before i 0)) (behind a n i high ∙ t) ∙ ap (header_or_move b) j ∙ move-word b k.0))
-          (λ (t : has b i ≡ false).
-          ap (λ (u : Bool). cond u (move_of (place b i) (cell_at b (place b i))) (get_or before i 0)) t
+          (λ (t : has_node b i ≡ false).
+          ap (λ (u : Bool). cond u (move_word (place b i) (cell_at b (place b i))) (get_or before i 0)) t
           ∙ sym (ap (λ (u : Bool). cond u (header_or_move b (i - a)) (get_or before i 0)) (behind a n i high ∙ t)))
-          (cases_Bool (has b i)))
+          (cases_Bool (has_node b i)))
           (cases_lt i (a + 4));
     } in
     subst (WritesBlock b before) (sym is) all

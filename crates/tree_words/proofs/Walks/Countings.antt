@@ -7,19 +7,19 @@ use Rattle.hex_cells.specs.Colours.{is_same}
 use Rattle.hex_board.specs.Positions.{stones_of}
 use Rattle.tree_words.specs.Settings.{Setting}
 use Rattle.tree_words.specs.Words.{Count, root_at, count_in, visits_in, wins_in, tally_in, seen_in}
-use Rattle.tree_words.specs.Blocks.{LinkedBlock, child, has, place, cell_at, is_node, In, InOrder}
+use Rattle.tree_words.specs.Blocks.{LinkedBlock, child, has_node, place, cell_at, is_node, In, InOrder}
 use Rattle.tree_words.specs.Paths.{NodeState, root_state, state_after, mover_at, node_state}
 use Rattle.tree_words.specs.Walks.{nothing, plus, AtMost}
 use Rattle.tree_words.specs.Trees.{oldest_first}
 use Rattle.play_out.specs.declared.playouts.Ending.{Ending}
-use Rattle.tree_words.specs.Sequence.{one, gain_of, glimpse_of, game_of, amount_of}
+use Rattle.tree_words.specs.Sequence.{one, gain_of, glimpse_of, search_game, amount_of}
 use Rattle.tree_words.specs.Descents.{pick, adds_leaf, adds_inner, adds, sees_leaf, sees_inner, sees}
 use Rattle.std.proofs.lemmas.Bool.{eqb-true, ne_eqb}
-use Rattle.tree_words.proofs.BlockLaws.{apart, clash}
-use Rattle.tree_words.proofs.Down.{down-split}
-use Rattle.tree_words.proofs.GameLaws.{in-node}
+use Rattle.tree_words.proofs.Blocks.BlockLaws.{apart, clash}
+use Rattle.tree_words.proofs.Walks.Down.{down-split}
+use Rattle.tree_words.proofs.Blocks.GameLaws.{in-node}
 
--- a count with one more, and the word that has it
+-- a count with one more, and the word that has_node it
 pub count-more : (n : ℕ) (t : Bool) → wins_in n + 1 < 2 ^ 32 → count_in (n + amount_of t) ≡ plus (count_in n) (one t)
 count-more n true l = λ i. record { visits = v n l i; wins = w n l i }
   where
@@ -74,51 +74,51 @@ above-turned r [] g = tt
 above-turned r (b ∷ bs) g = above-snoc b (oldest_first bs) (above-turned r bs g.1) g.0.above
 
 -- two blocks with a node in common are one
-pub has-one : (r : ℕ) (bs : List LinkedBlock) (b c : LinkedBlock) (w : ℕ) → InOrder r bs → In b bs → In c bs → has b w ≡ true → has c w ≡ true → b ≡ c
+pub has-one : (r : ℕ) (bs : List LinkedBlock) (b c : LinkedBlock) (w : ℕ) → InOrder r bs → In b bs → In c bs → has_node b w ≡ true → has_node c w ≡ true → b ≡ c
 has-one r [] b c w g i j hb hc = absurd i
 has-one r (d ∷ bs) b c w g i j hb hc = ⊎_elim
     (λ (e : b ≡ d). ⊎_elim
     (λ (f : c ≡ d). e ∙ sym f)
-    (λ (f : In c bs). absurd (clash (has d w) (ap (λ (a : LinkedBlock). has a w) (sym e) ∙ hb) (apart r d bs w g.0 (in-node r bs c w f hc))))
+    (λ (f : In c bs). absurd (clash (has_node d w) (ap (λ (a : LinkedBlock). has_node a w) (sym e) ∙ hb) (apart r d bs w g.0 (in-node r bs c w f hc))))
     j)
     (λ (e : In b bs). ⊎_elim
-    (λ (f : c ≡ d). absurd (clash (has d w) (ap (λ (a : LinkedBlock). has a w) (sym f) ∙ hc) (apart r d bs w g.0 (in-node r bs b w e hb))))
+    (λ (f : c ≡ d). absurd (clash (has_node d w) (ap (λ (a : LinkedBlock). has_node a w) (sym f) ∙ hc) (apart r d bs w g.0 (in-node r bs b w e hb))))
     (λ (f : In c bs). has-one r bs b c w g.1 e f hb hc)
     j)
     i
 
 module _ (s : Setting) (p q : ℕ → Count) (o : Ending) where
-  pub adds-one : (os : List LinkedBlock) (x : ℕ) (u : NodeState) (w : ℕ) → AtMost 1 (adds (game_of s) p q o os x u w)
+  pub adds-one : (os : List LinkedBlock) (x : ℕ) (u : NodeState) (w : ℕ) → AtMost 1 (adds (search_game s) p q o os x u w)
   adds-one [] x u w = at-most-if (x == w) (gain_of o u) nothing (gain-one o u) none-one
-  adds-one (b ∷ os) x u w = down-split (adds_leaf (game_of s) p q o) (adds_inner (game_of s) p q o) (λ (f : NodeState → ℕ → Count). AtMost 1 (f u w)) b os x
-      (λ t. at-most-if (x == w) (gain_of o u) _ (gain-one o u) (adds-one os (child b (pick (game_of s) p q b x)) (state_after u (cell_at b (pick (game_of s) p q b x))) w))
+  adds-one (b ∷ os) x u w = down-split (adds_leaf (search_game s) p q o) (adds_inner (search_game s) p q o) (λ (f : NodeState → ℕ → Count). AtMost 1 (f u w)) b os x
+      (λ t. at-most-if (x == w) (gain_of o u) _ (gain-one o u) (adds-one os (child b (pick (search_game s) p q b x)) (state_after u (cell_at b (pick (search_game s) p q b x))) w))
       (λ t. adds-one os x u w)
 
-  pub sees-one : (os : List LinkedBlock) (x : ℕ) (u : NodeState) (w : ℕ) → AtMost 1 (sees (game_of s) p q o os x u w)
+  pub sees-one : (os : List LinkedBlock) (x : ℕ) (u : NodeState) (w : ℕ) → AtMost 1 (sees (search_game s) p q o os x u w)
   sees-one [] x u w = none-one
-  sees-one (b ∷ os) x u w = down-split (sees_leaf (game_of s) p q o) (sees_inner (game_of s) p q o) (λ (f : NodeState → ℕ → Count). AtMost 1 (f u w)) b os x
-      (λ t. at-most-if (has b w) (glimpse_of o u (cell_at b (place b w))) _ (glimpse-one o u (cell_at b (place b w))) (sees-one os (child b (pick (game_of s) p q b x)) (state_after u (cell_at b (pick (game_of s) p q b x))) w))
+  sees-one (b ∷ os) x u w = down-split (sees_leaf (search_game s) p q o) (sees_inner (search_game s) p q o) (λ (f : NodeState → ℕ → Count). AtMost 1 (f u w)) b os x
+      (λ t. at-most-if (has_node b w) (glimpse_of o u (cell_at b (place b w))) _ (glimpse-one o u (cell_at b (place b w))) (sees-one os (child b (pick (search_game s) p q b x)) (state_after u (cell_at b (pick (search_game s) p q b x))) w))
       (λ t. sees-one os x u w)
 
   -- what lies before x gets nothing from the way below x
-  pub adds-before : (os : List LinkedBlock) (x : ℕ) (u : NodeState) (w : ℕ) → Above os → w < x → adds (game_of s) p q o os x u w ≡ nothing
+  pub adds-before : (os : List LinkedBlock) (x : ℕ) (u : NodeState) (w : ℕ) → Above os → w < x → adds (search_game s) p q o os x u w ≡ nothing
   adds-before [] x u w a l = ap (λ (t : Bool). cond t (gain_of o u) nothing) (ne_eqb x w (λ e. omega arith))
-  adds-before (b ∷ os) x u w a l = down-split (adds_leaf (game_of s) p q o) (adds_inner (game_of s) p q o) (λ (f : NodeState → ℕ → Count). f u w ≡ nothing) b os x
+  adds-before (b ∷ os) x u w a l = down-split (adds_leaf (search_game s) p q o) (adds_inner (search_game s) p q o) (λ (f : NodeState → ℕ → Count). f u w ≡ nothing) b os x
       (λ t.
-      let j : ℕ = pick (game_of s) p q b x in
+      let j : ℕ = pick (search_game s) p q b x in
       let v : NodeState = state_after u (cell_at b j) in
-      ap (λ (t : Bool). cond t (gain_of o u) (adds (game_of s) p q o os (child b j) v w)) (ne_eqb x w (λ e. omega arith))
+      ap (λ (t : Bool). cond t (gain_of o u) (adds (search_game s) p q o os (child b j) v w)) (ne_eqb x w (λ e. omega arith))
       ∙ adds-before os (child b j) v w a.1 (let e = eqb-true b.parent x t in omega (arith, a.0, l, e)))
       (λ t. adds-before os x u w a.1 l)
 
   -- what is a node of no block whose parent lies behind x sees nothing from the way below x
-  pub sees-before : (os : List LinkedBlock) (x : ℕ) (u : NodeState) (w : ℕ) → Above os → ((c : LinkedBlock) → In c os → x ≤ c.parent → has c w ≡ false) → sees (game_of s) p q o os x u w ≡ nothing
+  pub sees-before : (os : List LinkedBlock) (x : ℕ) (u : NodeState) (w : ℕ) → Above os → ((c : LinkedBlock) → In c os → x ≤ c.parent → has_node c w ≡ false) → sees (search_game s) p q o os x u w ≡ nothing
   sees-before [] x u w a h = refl
-  sees-before (b ∷ os) x u w a h = down-split (sees_leaf (game_of s) p q o) (sees_inner (game_of s) p q o) (λ (f : NodeState → ℕ → Count). f u w ≡ nothing) b os x
+  sees-before (b ∷ os) x u w a h = down-split (sees_leaf (search_game s) p q o) (sees_inner (search_game s) p q o) (λ (f : NodeState → ℕ → Count). f u w ≡ nothing) b os x
       (λ t.
-      let j : ℕ = pick (game_of s) p q b x in
+      let j : ℕ = pick (search_game s) p q b x in
       let v : NodeState = state_after u (cell_at b j) in
       let e : b.parent ≡ x = eqb-true b.parent x t in
-      ap (λ (t : Bool). cond t (glimpse_of o u (cell_at b (place b w))) (sees (game_of s) p q o os (child b j) v w)) (h b (inl refl) (omega (arith, e)))
+      ap (λ (t : Bool). cond t (glimpse_of o u (cell_at b (place b w))) (sees (search_game s) p q o os (child b j) v w)) (h b (inl refl) (omega (arith, e)))
       ∙ sees-before os (child b j) v w a.1 (λ c i l. h c (inr i) (omega (arith, a.0, l, e))))
       (λ t. sees-before os x u w a.1 (λ c i l. h c (inr i) l))

@@ -2,13 +2,13 @@
 use Rattle.std.proofs.Common.{◌≡◌, ℕ, ◌+◌, ◌-◌, ◌*◌, ◌/◌, ◌<◌, Bool, true, false, cond, List, [], ◌∷◌, length, refl, sym, ap, ◌∙◌, subst, ⊎_elim, arith}
 use Rattle.std.specs.Prelude.{◌==◌}
 use Rattle.tree_words.specs.Words.{Count}
-use Rattle.tree_words.specs.Blocks.{LinkedBlock, child, has, place, cell_at}
+use Rattle.tree_words.specs.Blocks.{LinkedBlock, child, has_node, place, cell_at}
 use Rattle.tree_words.specs.Walks.{nothing, plus, Tree, node, done, Game, lit, pairs, add, add_row}
 use Rattle.tree_words.specs.Trees.{row_of, tree_leaf, tree_inner, tree_at}
 use Rattle.tree_words.specs.Descents.{pick, adds_leaf, adds_inner, adds, sees_leaf, sees_inner, sees, top, Out, Sprouts}
 use Rattle.std.proofs.lemmas.Bool.{eqb-true, eq-eqb, ne_eqb, cases_Bool, false_from_ne_true}
-use Rattle.tree_words.proofs.BlockLaws.{clash}
-use Rattle.tree_words.proofs.Down.{Fair, plus-nothing, child-has, down-here, down-else, top-out, top-in, top-past, cell-tree, lit-tree, pairs-row, row-add, pick-in, under-not, adds-off, sees-off, same-under}
+use Rattle.tree_words.proofs.Blocks.BlockLaws.{clash}
+use Rattle.tree_words.proofs.Walks.Down.{Fair, plus-nothing, child-has, down-here, down-else, top-out, top-in, top-past, cell-tree, lit-tree, pairs-row, row-add, pick-in, under-not, adds-off, sees-off, same-under}
 
 pub is_child : (a k : ℕ) → (a + 4 + 4 * k - a - 4) / 4 ≡ k
 is_child a k = omega arith
@@ -33,30 +33,30 @@ module _ {S O : Type 0} (g : Game S O) (fair : Fair g) (o : O) (p q p' q' : ℕ 
       let par : b.parent ≡ x = eqb-true b.parent x t in
       let j : ℕ = pick g p q b x in
       let lj : j < length b.cells = pick-in g fair p q b x sp.0.some in
-      let hj : has b (child b j) ≡ true = child-has b j lj in
+      let hj : has_node b (child b j) ≡ true = child-has b j lj in
       let s' : S = g.next s (cell_at b j) in
       let F : ℕ → ℕ → Tree = λ y d. tree_at p q bs y d (q y) in
       let H : ℕ → ℕ → Tree = λ y d. tree_at p' q' bs y d (q' y) in
       -- the walk's adds, seen from the child
       let pw : (w : ℕ) → top (b ∷ bs) w ≡ x → (x ≡ w → ⊥) → p' w ≡ plus (p w) (adds g p q o bs (child b j) s' w)
       = λ w u n. hp w u ∙ ap (plus (p w)) (ap (λ (f : S → ℕ → Count). f s w) (down-here (adds_leaf g p q o) (adds_inner g p q o) b bs x t) ∙ ap (λ (r : Bool). cond r (g.gain o s) (adds g p q o bs (child b j) s' w)) (ne_eqb x w n)) in
-      let qw : (w : ℕ) → top (b ∷ bs) w ≡ x → (w ≡ x → ⊥) → has b w ≡ false → q' w ≡ plus (q w) (sees g p q o bs (child b j) s' w)
+      let qw : (w : ℕ) → top (b ∷ bs) w ≡ x → (w ≡ x → ⊥) → has_node b w ≡ false → q' w ≡ plus (q w) (sees g p q o bs (child b j) s' w)
       = λ w u n h. hq w u n ∙ ap (plus (q w)) (ap (λ (f : S → ℕ → Count). f s w) (down-here (sees_leaf g p q o) (sees_inner g p q o) b bs x t) ∙ ap (λ (r : Bool). cond r (g.glimpse o s (cell_at b (place b w))) (sees g p q o bs (child b j) s' w)) h) in
-      let below : (y w : ℕ) → has b y ≡ true → top bs w ≡ y → (w ≡ y → ⊥) → has b w ≡ false
-      = λ y w h u n. false_from_ne_true (has b w) (λ r. n (sym (top-out bs w (sp.0.apart w r)) ∙ u)) in
+      let below : (y w : ℕ) → has_node b y ≡ true → top bs w ≡ y → (w ≡ y → ⊥) → has_node b w ≡ false
+      = λ y w h u n. false_from_ne_true (has_node b w) (λ r. n (sym (top-out bs w (sp.0.apart w r)) ∙ u)) in
       -- the seen of each child
       let mine : (k y : ℕ) → k < length b.cells → y ≡ b.start + 4 + 4 * k → q' y ≡ plus (q y) (g.glimpse o s (cell_at b k))
       = λ k y l is.
-      let h : has b y ≡ true = ap (has b) is ∙ child-has b k l in
+      let h : has_node b y ≡ true = ap (has_node b) is ∙ child-has b k l in
       let at : place b y ≡ k = ap (place b) is ∙ is_child b.start k in
-      hq y (top-in b bs y y (top-out bs y (sp.0.apart y h)) h ∙ par) (λ z. clash (has b y) h (ap (has b) z ∙ out.0))
+      hq y (top-in b bs y y (top-out bs y (sp.0.apart y h)) h ∙ par) (λ z. clash (has_node b y) h (ap (has_node b) z ∙ out.0))
       ∙ ap (plus (q y)) (ap (λ (f : S → ℕ → Count). f s y) (down-here (sees_leaf g p q o) (sees_inner g p q o) b bs x t)
       ∙ ap (λ (r : Bool). cond r (g.glimpse o s (cell_at b (place b y))) (sees g p q o bs (child b j) s' y)) h
       ∙ ap (λ (z : ℕ). g.glimpse o s (cell_at b z)) at) in
       -- a child that the walk passes by
       let by : (k y : ℕ) → k < length b.cells → y ≡ b.start + 4 + 4 * k → (k ≡ j → ⊥) → H y (cell_at b k) ≡ lit (g.glimpse o s (cell_at b k)) (F y (cell_at b k))
       = λ k y l is n.
-      let h : has b y ≡ true = ap (has b) is ∙ child-has b k l in
+      let h : has_node b y ≡ true = ap (has_node b) is ∙ child-has b k l in
       let far : (w : ℕ) → top bs w ≡ y → top bs w ≡ child b j → ⊥ = λ w u v. n (child-other b.start j k (sym is ∙ sym u ∙ v)) in
       same-under p q p' q' bs y (cell_at b k) (q' y) sp.1 (sp.0.apart y h)
       (λ w u. off (p' w) (p w) _ (pw w (top-in b bs w y u h ∙ par) (under-not b bs x y w out h u)) (adds-off g fair p q o bs (child b j) w s' sp.1 (sp.0.apart (child b j) hj) (far w u)))

@@ -9,7 +9,7 @@ use Rattle.hex_cells.specs.Sets.{has as has_cell}
 use Rattle.hex_board.specs.Positions.{stones_of}
 use Rattle.tree_words.specs.Settings.{Setting}
 use Rattle.tree_words.specs.Words.{Count, root_at, record_in, leaf_in, winner_in}
-use Rattle.tree_words.specs.Blocks.{LinkedBlock, one_if, has, place, cell_at, up, is_node, In, InOrder, Follows}
+use Rattle.tree_words.specs.Blocks.{LinkedBlock, one_if, has_node, place, cell_at, up, is_node, In, InOrder, Follows}
 use Rattle.tree_words.specs.Paths.{NodeState, root_state, state_after, mover_at, path_of, is_on, enters, node_state, mover_of}
 use Rattle.tree_words.specs.Walks.{nothing, plus}
 use Rattle.play_out.specs.declared.playouts.Ending.{Ending}
@@ -17,9 +17,9 @@ use Rattle.tree_words.specs.Sequence.{outcome_of, one, gain_of, glimpse_of}
 use Rattle.tree_words.specs.Records.{leaf_of, outcome_in, IsRecord}
 use Rattle.tree_words.specs.Counts.{count_below, visits_at, is_seen, sights_at}
 use Rattle.tree_words.specs.Growth.{ends_at}
-use Rattle.tree_words.proofs.BlockLaws.{apart, up_same, clash, root_node}
-use Rattle.tree_words.proofs.GameLaws.{up-in, spot-same}
-use Rattle.tree_words.proofs.Climbs.{meets, path-meets}
+use Rattle.tree_words.proofs.Blocks.BlockLaws.{apart, up_same, clash, root_node}
+use Rattle.tree_words.proofs.Blocks.GameLaws.{up-in, spot-same}
+use Rattle.tree_words.proofs.Walks.Climbs.{meets, path-meets}
 use Rattle.std.proofs.lemmas.Bool.{and_left, eqb-true, eq-eqb, cases_Bool, or_cases, false_from_ne_true, or_right, or_left, or_from}
 
 pub count-same : (n : ℕ) (f h : ℕ → Bool) → ((k : ℕ) → k < n → f k ≡ h k) → count_below n f ≡ count_below n h
@@ -74,12 +74,12 @@ module _ (s : Setting) (bs : List LinkedBlock) (words after : List ℕ) (k : ℕ
 meets-clear : (test : ℕ → Bool) (r : ℕ) (start : Bool) (bs : List LinkedBlock) (y : ℕ) → start ≡ false → ((z : ℕ) → is_node r bs z ≡ true → test z ≡ false) → up start (meets test) bs y ≡ false
 meets-clear test r start [] y e h = e
 meets-clear test r start (b ∷ bs) y e h =
-    let older : (z : ℕ) → is_node r bs z ≡ true → test z ≡ false = λ z n. h z (or_right (has b z) (is_node r bs z) n) in
+    let older : (z : ℕ) → is_node r bs z ≡ true → test z ≡ false = λ z n. h z (or_right (has_node b z) (is_node r bs z) n) in
     let above : Bool = test y || up start (meets test) bs b.parent in
     ⊎_elim
-    (λ (u : has b y ≡ true). ap (λ (t : Bool). cond t above (up start (meets test) bs y)) u ∙ or_from (test y) (up start (meets test) bs b.parent) (h y (or_left (has b y) (is_node r bs y) u)) (meets-clear test r start bs b.parent e older))
-    (λ (u : has b y ≡ false). ap (λ (t : Bool). cond t above (up start (meets test) bs y)) u ∙ meets-clear test r start bs y e older)
-    (cases_Bool (has b y))
+    (λ (u : has_node b y ≡ true). ap (λ (t : Bool). cond t above (up start (meets test) bs y)) u ∙ or_from (test y) (up start (meets test) bs b.parent) (h y (or_left (has_node b y) (is_node r bs y) u)) (meets-clear test r start bs b.parent e older))
+    (λ (u : has_node b y ≡ false). ap (λ (t : Bool). cond t above (up start (meets test) bs y)) u ∙ meets-clear test r start bs y e older)
+    (cases_Bool (has_node b y))
 
 -- no node of a path passes a test that no node of the tree passes
 pub path-clear : (s : Setting) (test : ℕ → Bool) (bs : List LinkedBlock) (y : ℕ) → ((z : ℕ) → is_node (root_at s) bs z ≡ true → test z ≡ false) → list_any test (path_of s bs y) ≡ false
@@ -94,11 +94,11 @@ module _ (s : Setting) (n : LinkedBlock) (bs : List LinkedBlock) (f : Follows (r
 
   -- and is not met there
   enters-not : (y : ℕ) → is_node (root_at s) bs y ≡ true → enters s (n ∷ bs) n y ≡ false
-  enters-not y h = ap (list_any (has n)) (path-same y h) ∙ path-clear s (has n) bs y (λ z u. apart (root_at s) n bs z f u)
+  enters-not y h = ap (list_any (has_node n)) (path-same y h) ∙ path-clear s (has_node n) bs y (λ z u. apart (root_at s) n bs z f u)
 
-  is_on-not : (x y : ℕ) → has n x ≡ true → is_node (root_at s) bs y ≡ true → is_on s (n ∷ bs) x y ≡ false
+  is_on-not : (x y : ℕ) → has_node n x ≡ true → is_node (root_at s) bs y ≡ true → is_on s (n ∷ bs) x y ≡ false
   is_on-not x y hx h = ap (list_any (λ (z : ℕ). z == x)) (path-same y h)
-      ∙ path-clear s (λ (z : ℕ). z == x) bs y (λ z u. false_from_ne_true (z == x) (λ e. clash (has n x) hx (ap (has n) (sym (eqb-true z x e)) ∙ apart (root_at s) n bs z f u)))
+      ∙ path-clear s (λ (z : ℕ). z == x) bs y (λ z u. false_from_ne_true (z == x) (λ e. clash (has_node n x) hx (ap (has_node n) (sym (eqb-true z x e)) ∙ apart (root_at s) n bs z f u)))
 
   module _ (words : List ℕ) (k : ℕ) (leaves : (j : ℕ) → j < k → is_node (root_at s) bs (leaf_of words j) ≡ true) where
     outcome-same : (j : ℕ) → j < k → outcome_in s (n ∷ bs) words j ≡ outcome_in s bs words j
@@ -119,15 +119,15 @@ module _ (s : Setting) (n : LinkedBlock) (bs : List LinkedBlock) (f : Follows (r
     sights-block b y h =
         let mover : mover_of s (n ∷ bs) y ≡ mover_of s bs y = ap mover_at (spot-same s n bs y f h) in
         let seen : (j : ℕ) → j < k → is_seen s (n ∷ bs) words b y j ≡ is_seen s bs words b y j
-        = λ j l t. list_any (has b) (path-same (leaf_of words j) (leaves j l) t) && has_cell (stones_of (outcome-same j l t).full (mover t)) (cell_at b (place b y)) in
+        = λ j l t. list_any (has_node b) (path-same (leaf_of words j) (leaves j l) t) && has_cell (stones_of (outcome-same j l t).full (mover t)) (cell_at b (place b y)) in
         λ i. record {
           visits = count-same k (λ j. is_seen s (n ∷ bs) words b y j) (λ j. is_seen s bs words b y j) seen i;
           wins = count-same k (λ j. is_seen s (n ∷ bs) words b y j && is_same (outcome_in s (n ∷ bs) words j).winner (mover_of s (n ∷ bs) y)) (λ j. is_seen s bs words b y j && is_same (outcome_in s bs words j).winner (mover_of s bs y))
               (λ j l t. seen j l t && is_same (outcome-same j l t).winner (mover t)) i;
         }
 
-    -- a new node has none
-    pub visits-new : (x : ℕ) → has n x ≡ true → visits_at s (n ∷ bs) words k x ≡ nothing
+    -- a new node has_node none
+    pub visits-new : (x : ℕ) → has_node n x ≡ true → visits_at s (n ∷ bs) words k x ≡ nothing
     visits-new x h =
         let on : (j : ℕ) → j < k → is_on s (n ∷ bs) x (leaf_of words j) ≡ false = λ j l. is_on-not x (leaf_of words j) h (leaves j l) in
         λ i. record {
@@ -147,12 +147,12 @@ module _ (s : Setting) (n : LinkedBlock) (bs : List LinkedBlock) (f : Follows (r
         }
 
     -- a new node is no leaf
-    pub ends-new : (x : ℕ) → has n x ≡ true → ends_at words k x ≡ 0
-    ends-new x h = count-none k (λ j. leaf_of words j == x) (λ j l. false_from_ne_true (leaf_of words j == x) (λ e. clash (has n x) h (ap (has n) (sym (eqb-true (leaf_of words j) x e)) ∙ apart (root_at s) n bs (leaf_of words j) f (leaves j l))))
+    pub ends-new : (x : ℕ) → has_node n x ≡ true → ends_at words k x ≡ 0
+    ends-new x h = count-none k (λ j. leaf_of words j == x) (λ j l. false_from_ne_true (leaf_of words j == x) (λ e. clash (has_node n x) h (ap (has_node n) (sym (eqb-true (leaf_of words j) x e)) ∙ apart (root_at s) n bs (leaf_of words j) f (leaves j l))))
 
   pub record-block : (words : List ℕ) (j : ℕ) → IsRecord s bs words j → IsRecord s (n ∷ bs) words j
   record-block words j is = record {
-    node = or_right (has n (leaf_of words j)) (is_node (root_at s) bs (leaf_of words j)) is.node;
+    node = or_right (has_node n (leaf_of words j)) (is_node (root_at s) bs (leaf_of words j)) is.node;
     below = is.below;
     result = is.result ∙ sym (ap (λ (p : NodeState). (outcome_of s j p).winner) (spot-same s n bs (leaf_of words j) f is.node));
   }
@@ -177,7 +177,7 @@ module _ (s : Setting) (bs : List LinkedBlock) (words : List ℕ) (k : ℕ) wher
   unfolding gain_of
   visits-more x = more_visits (is_on s bs x (leaf_of words k)) (is_same (outcome_in s bs words k).winner (mover_of s bs x)) (visits_at s bs words k x)
 
-  pub sights-more : (b : LinkedBlock) (y : ℕ) → InOrder (root_at s) bs → In b bs → has b y ≡ true → sights_at s bs words (suc k) b y
+  pub sights-more : (b : LinkedBlock) (y : ℕ) → InOrder (root_at s) bs → In b bs → has_node b y ≡ true → sights_at s bs words (suc k) b y
       ≡ plus (sights_at s bs words k b y) (cond (enters s bs b (leaf_of words k)) (glimpse_of (outcome_in s bs words k) (node_state s bs b.parent) (cell_at b (place b y))) nothing)
   unfolding glimpse_of
   sights-more b y g i h =
@@ -194,11 +194,11 @@ on-itself s bs x h = path-meets (λ (z : ℕ). z == x) (root_at s) bs x ∙ here
     here : (cs : List LinkedBlock) → is_node (root_at s) cs x ≡ true → up ((root_at s == x) || false) (meets (λ (z : ℕ). z == x)) cs x ≡ true
     here [] n = or_left (root_at s == x) false (eq-eqb (root_at s) x (sym (eqb-true x (root_at s) n)))
     here (b ∷ cs) n = ⊎_elim
-        (λ (u : has b x ≡ true). ap (λ (t : Bool). cond t ((x == x) || up ((root_at s == x) || false) (meets (λ (z : ℕ). z == x)) cs b.parent) (up ((root_at s == x) || false) (meets (λ (z : ℕ). z == x)) cs x)) u
+        (λ (u : has_node b x ≡ true). ap (λ (t : Bool). cond t ((x == x) || up ((root_at s == x) || false) (meets (λ (z : ℕ). z == x)) cs b.parent) (up ((root_at s == x) || false) (meets (λ (z : ℕ). z == x)) cs x)) u
         ∙ or_left (x == x) (up ((root_at s == x) || false) (meets (λ (z : ℕ). z == x)) cs b.parent) (eq-eqb x x refl))
-        (λ (u : has b x ≡ false). ap (λ (t : Bool). cond t ((x == x) || up ((root_at s == x) || false) (meets (λ (z : ℕ). z == x)) cs b.parent) (up ((root_at s == x) || false) (meets (λ (z : ℕ). z == x)) cs x)) u
-        ∙ here cs (⊎_elim (λ (v : has b x ≡ true). absurd (clash (has b x) v u)) (λ (v : is_node (root_at s) cs x ≡ true). v) (or_cases (has b x) (is_node (root_at s) cs x) n)))
-        (cases_Bool (has b x))
+        (λ (u : has_node b x ≡ false). ap (λ (t : Bool). cond t ((x == x) || up ((root_at s == x) || false) (meets (λ (z : ℕ). z == x)) cs b.parent) (up ((root_at s == x) || false) (meets (λ (z : ℕ). z == x)) cs x)) u
+        ∙ here cs (⊎_elim (λ (v : has_node b x ≡ true). absurd (clash (has_node b x) v u)) (λ (v : is_node (root_at s) cs x ≡ true). v) (or_cases (has_node b x) (is_node (root_at s) cs x) n)))
+        (cases_Bool (has_node b x))
 
 -- a node is on the paths of at least the playouts whose leaf it is
 pub ends-visits : (s : Setting) (bs : List LinkedBlock) (words : List ℕ) (k x : ℕ) → is_node (root_at s) bs x ≡ true → ends_at words k x ≤ (visits_at s bs words k x).visits

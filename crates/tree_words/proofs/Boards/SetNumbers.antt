@@ -9,9 +9,9 @@ use Rattle.play_out.specs.Fills.{empties_of}
 use Rattle.play_out.proofs.Counting.{empties_listed, counted_here, counted_later}
 use Rattle.tree_words.specs.Complete.{HasEmpties, set_of}
 use Rattle.std.proofs.lemmas.Bool.{eqb-true, eq-eqb, cases_Bool}
-use Rattle.tree_words.proofs.BlockLaws.{clash}
-use Rattle.tree_words.proofs.RootLaws.{filter_at}
-use Rattle.tree_words.proofs.EmptyLaws.{has-empties}
+use Rattle.tree_words.proofs.Blocks.BlockLaws.{clash}
+use Rattle.tree_words.proofs.Boards.RootLaws.{filter_at}
+use Rattle.tree_words.proofs.Boards.EmptyLaws.{has-empties}
 use Rattle.hex_cells.proofs.WithCell.{has_with_cell}
 
 turn : (a b : ℕ) → (a == b) ≡ (b == a)

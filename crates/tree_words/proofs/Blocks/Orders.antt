@@ -1,13 +1,13 @@
 -- The blocks oldest first.
 use Rattle.std.proofs.Common.{◌≡◌, ◌⊎◌, ℕ, ◌<◌, Bool, true, false, cond, List, [], ◌∷◌, ◌++◌, length, refl, sym, ap, ◌∙◌, ⊎_elim, inl, inr, arith}
 use Rattle.std.specs.Prelude.{◌==◌, ◌||◌}
-use Rattle.tree_words.specs.Blocks.{LinkedBlock, has, is_node, link_of, Follows, InOrder}
+use Rattle.tree_words.specs.Blocks.{LinkedBlock, has_node, is_node, link_of, Follows, InOrder}
 use Rattle.tree_words.specs.Trees.{oldest_first}
 use Rattle.tree_words.specs.Complete.{HaveNodes}
 use Rattle.tree_words.specs.Descents.{Out, Sprouts, Rooted, Names, Inside, Bare}
 use Rattle.std.proofs.lemmas.Bool.{eqb-true, cases_Bool}
-use Rattle.tree_words.proofs.BlockLaws.{apart, clash as clash}
-use Rattle.tree_words.proofs.WalkLaws.{out-snoc}
+use Rattle.tree_words.proofs.Blocks.BlockLaws.{apart, clash as clash}
+use Rattle.tree_words.proofs.Walks.WalkLaws.{out-snoc}
 
 or_true : (a b : Bool) → b ≡ true → (a || b) ≡ true
 or_true true b e = refl
@@ -17,20 +17,20 @@ or_first : (a b : Bool) → a ≡ true → (a || b) ≡ true
 or_first true b e = refl
 or_first false b e = absurd (clash false e refl)
 
-pub inside-snoc : (n : LinkedBlock) (os : List LinkedBlock) (x : ℕ) → Inside (os ++ n ∷ []) x → (Inside os x) ⊎ (has n x ≡ true)
-inside-snoc n [] x i = ⊎_elim (λ (h : has n x ≡ true). inr h) (λ (z : ⊥). absurd z) i
-inside-snoc n (b ∷ os) x i = ⊎_elim (λ (h : has b x ≡ true). inl (inl h))
-    (λ (h : Inside (os ++ n ∷ []) x). ⊎_elim (λ (u : Inside os x). inl (inr u)) (λ (u : has n x ≡ true). inr u) (inside-snoc n os x h)) i
+pub inside-snoc : (n : LinkedBlock) (os : List LinkedBlock) (x : ℕ) → Inside (os ++ n ∷ []) x → (Inside os x) ⊎ (has_node n x ≡ true)
+inside-snoc n [] x i = ⊎_elim (λ (h : has_node n x ≡ true). inr h) (λ (z : ⊥). absurd z) i
+inside-snoc n (b ∷ os) x i = ⊎_elim (λ (h : has_node b x ≡ true). inl (inl h))
+    (λ (h : Inside (os ++ n ∷ []) x). ⊎_elim (λ (u : Inside os x). inl (inr u)) (λ (u : has_node n x ≡ true). inr u) (inside-snoc n os x h)) i
 
 pub inside-node : (r : ℕ) (bs : List LinkedBlock) (x : ℕ) → Inside (oldest_first bs) x → is_node r bs x ≡ true
 inside-node r [] x i = absurd i
-inside-node r (b ∷ bs) x i = ⊎_elim (λ (h : Inside (oldest_first bs) x). or_true (has b x) (is_node r bs x) (inside-node r bs x h)) (λ (h : has b x ≡ true). or_first (has b x) (is_node r bs x) h) (inside-snoc b (oldest_first bs) x i)
+inside-node r (b ∷ bs) x i = ⊎_elim (λ (h : Inside (oldest_first bs) x). or_true (has_node b x) (is_node r bs x) (inside-node r bs x h)) (λ (h : has_node b x ≡ true). or_first (has_node b x) (is_node r bs x) h) (inside-snoc b (oldest_first bs) x i)
 
-snoc : (n : LinkedBlock) (os : List LinkedBlock) → Sprouts os → ((x : ℕ) → Inside os x → has n x ≡ false) → 0 < length n.cells → Sprouts (os ++ n ∷ [])
+snoc : (n : LinkedBlock) (os : List LinkedBlock) → Sprouts os → ((x : ℕ) → Inside os x → has_node n x ≡ false) → 0 < length n.cells → Sprouts (os ++ n ∷ [])
 snoc n [] sp e l = (record { apart = λ x h. tt; some = l }, tt)
 snoc n (b ∷ os) sp e l = (record { apart = λ x h. out-snoc n os x (sp.0.apart x h) (e x (inl h)); some = sp.0.some }, snoc n os sp.1 (λ x h. e x (inr h)) l)
 
--- the blocks as the rule has them, the other way round
+-- the blocks as the rule has_node them, the other way round
 pub sprouts-turned : (r : ℕ) (bs : List LinkedBlock) → InOrder r bs → HaveNodes bs → Sprouts (oldest_first bs)
 sprouts-turned r [] g f = tt
 sprouts-turned r (b ∷ bs) g f = snoc b (oldest_first bs) (sprouts-turned r bs g.1 f.1) (λ x h. apart r b bs x g.0 (inside-node r bs x h)) f.0
@@ -43,7 +43,7 @@ Parents r bs (b ∷ os) = (is_node r bs b.parent ≡ true) × Parents r bs os
 parents-more : (r : ℕ) (n : LinkedBlock) (bs os : List LinkedBlock) → Parents r bs os → Parents r (n ∷ bs) os
 unfolding Parents
 parents-more r n bs [] p = tt
-parents-more r n bs (b ∷ os) p = (or_true (has n b.parent) (is_node r bs b.parent) p.0, parents-more r n bs os p.1)
+parents-more r n bs (b ∷ os) p = (or_true (has_node n b.parent) (is_node r bs b.parent) p.0, parents-more r n bs os p.1)
 
 parents-snoc : (r : ℕ) (n : LinkedBlock) (bs os : List LinkedBlock) → Parents r bs os → is_node r bs n.parent ≡ true → Parents r bs (os ++ n ∷ [])
 unfolding Parents
@@ -53,7 +53,7 @@ parents-snoc r n bs (b ∷ os) p h = (p.0, parents-snoc r n bs os p.1 h)
 parents-turned : (r : ℕ) (bs : List LinkedBlock) → InOrder r bs → Parents r bs (oldest_first bs)
 unfolding Parents
 parents-turned r [] g = tt
-parents-turned r (b ∷ bs) g = parents-snoc r b (b ∷ bs) (oldest_first bs) (parents-more r b bs (oldest_first bs) (parents-turned r bs g.1)) (or_true (has b b.parent) (is_node r bs b.parent) g.0.parent)
+parents-turned r (b ∷ bs) g = parents-snoc r b (b ∷ bs) (oldest_first bs) (parents-more r b bs (oldest_first bs) (parents-turned r bs g.1)) (or_true (has_node b b.parent) (is_node r bs b.parent) g.0.parent)
 
 rooted-snoc : (r : ℕ) (n : LinkedBlock) (bs os : List LinkedBlock) → Follows r n bs → Parents r bs os → Rooted os → Rooted (os ++ n ∷ [])
 unfolding Parents
@@ -64,7 +64,7 @@ pub rooted-turned : (r : ℕ) (bs : List LinkedBlock) → InOrder r bs → Roote
 rooted-turned r [] g = tt
 rooted-turned r (b ∷ bs) g = rooted-snoc r b bs (oldest_first bs) g.0 (parents-turned r bs g.1) (rooted-turned r bs g.1)
 
-out-oldest_first : (bs : List LinkedBlock) (x : ℕ) → ((b : LinkedBlock) → has b x ≡ false) → Out (oldest_first bs) x
+out-oldest_first : (bs : List LinkedBlock) (x : ℕ) → ((b : LinkedBlock) → has_node b x ≡ false) → Out (oldest_first bs) x
 out-oldest_first [] x h = tt
 out-oldest_first (b ∷ bs) x h = out-snoc b (oldest_first bs) x (out-oldest_first bs x h) (h b)
 

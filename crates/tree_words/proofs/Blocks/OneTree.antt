@@ -4,20 +4,20 @@ use Rattle.std.specs.Prelude.{◌==◌, slice_index}
 use Rattle.std.proofs.lemmas.Bool.{cases_eq, eq-eqb, ne_eqb}
 use Rattle.tree_words.specs.Settings.{Setting}
 use Rattle.tree_words.specs.Words.{Count, root_at, area_at, end_of, next_in, link_in, cell_in, tally_in, seen_in}
-use Rattle.tree_words.specs.Blocks.{LinkedBlock, child, has, In, InOrder, Follows, is_node, link_of}
+use Rattle.tree_words.specs.Blocks.{LinkedBlock, child, has_node, In, InOrder, Follows, is_node, link_of}
 use Rattle.tree_words.specs.Complete.{AreComplete, Linked}
 use Rattle.tree_words.specs.Walks.{Tree, node, Children, done}
 use Rattle.tree_words.specs.Trees.{oldest_first, down, row_of, tree_leaf, tree_inner, tree_at, tree_of}
 use Rattle.tree_words.specs.Descents.{Names}
 use Rattle.tree_words.specs.Told.{told_block, Knows, AreAmong}
-use Rattle.tree_words.proofs.Down.{child-has, row-same}
-use Rattle.tree_words.proofs.BlockLaws.{root_node}
-use Rattle.tree_words.proofs.GameLaws.{IsWhole, in-node, in-parent, whole-in}
-use Rattle.tree_words.proofs.Links.{down-link, down-bare}
-use Rattle.tree_words.proofs.Members.{in-turned, names-in}
-use Rattle.tree_words.proofs.NodeLaws.{node-lies}
-use Rattle.tree_words.proofs.Orders.{rooted-turned, link-bare, link-names}
-use Rattle.tree_words.proofs.Within.{within-node, whole-told, told-real}
+use Rattle.tree_words.proofs.Walks.Down.{child-has, row-same}
+use Rattle.tree_words.proofs.Blocks.BlockLaws.{root_node}
+use Rattle.tree_words.proofs.Blocks.GameLaws.{IsWhole, in-node, in-parent, whole-in}
+use Rattle.tree_words.proofs.Blocks.Links.{down-link, down-bare}
+use Rattle.tree_words.proofs.Blocks.Members.{in-turned, names-in}
+use Rattle.tree_words.proofs.Blocks.NodeLaws.{node-lies}
+use Rattle.tree_words.proofs.Blocks.Orders.{rooted-turned, link-bare, link-names}
+use Rattle.tree_words.proofs.Blocks.Within.{within-node, whole-told, told-real}
 
 in-above : (r : ℕ) (bs : List LinkedBlock) (b : LinkedBlock) → InOrder r bs → In b bs → b.parent < b.start
 in-above r [] b g i = absurd i
@@ -65,16 +65,16 @@ one-knows s words bs cs small h k =
 pub one-blocks : (s : Setting) (words : List ℕ) (bs cs : List LinkedBlock) → s.board.size ≤ 11 → Linked s words bs → Linked s words cs → AreAmong bs cs
 one-blocks s words bs cs small h k b i = knows-in (root_at s) cs bs b (one-knows s words bs cs small h k) i
 
--- what is below x goes by the block that has it as its parent
+-- what is below x goes by the block that has_node it as its parent
 pub tree-link : (p q : ℕ → Count) (r : ℕ) (bs : List LinkedBlock) (x : ℕ) (b : LinkedBlock) → InOrder r bs → Names (oldest_first bs) x b
     → down (tree_leaf p) (tree_inner p q) (oldest_first bs) x ≡ tree_inner p q b x (down (tree_leaf p) (tree_inner p q) (oldest_first bs))
 tree-link p q r bs x b g n = down-link (tree_leaf p) (tree_inner p q) (oldest_first bs) x b (rooted-turned r bs g) n
     (λ f h e. ap (λ (z : Children). λ (c : ℕ) (v : Count). node c (p x) v z)
     (row-same (λ y d. f y d (q y)) (λ y d. h y d (q y)) (b.start + 4) b.cells
-    (λ k y l is. ap (λ (t : ℕ → Count → Tree). t (get_or b.cells k 0) (q y)) (e y (ap (has b) is ∙ child-has b k l)))))
+    (λ k y l is. ap (λ (t : ℕ → Count → Tree). t (get_or b.cells k 0) (q y)) (e y (ap (has_node b) is ∙ child-has b k l)))))
 
 module _ (s : Setting) (words : List ℕ) (bs cs : List LinkedBlock) (small : s.board.size ≤ 11) (h : Linked s words bs) (k : Linked s words cs) (p q : ℕ → Count) where
-  -- a block of one that has a parent, told by the other
+  -- a block of one that has_node a parent, told by the other
   same-block : (b : LinkedBlock) (x : ℕ) → In b cs → b.parent ≡ x → b.start ≡ link_in words x → b ≡ told_block s cs x (link_in words x)
   same-block b x i e f =
       whole-told s cs cs b (next_in words) small (whole-in s (next_in words) cs b k.order k.complete i) refl ∙ (λ j. told_block s cs (e j) (f j))
@@ -105,7 +105,7 @@ module _ (s : Setting) (words : List ℕ) (bs cs : List LinkedBlock) (small : s.
       let above = in-above r bs b h.order inside in
       let rows : row_of (λ y d. tree_at p q (oldest_first bs) y d (q y)) (b.start + 4) b.cells ≡ row_of (λ y d. tree_at p q (oldest_first cs) y d (q y)) (b.start + 4) b.cells
       = row-same (λ y d. tree_at p q (oldest_first bs) y d (q y)) (λ y d. tree_at p q (oldest_first cs) y d (q y)) (b.start + 4) b.cells
-      (λ i y li iy. one-below n y (get_or b.cells i 0) (q y) (omega (arith, l, iy, above, at.1)) (in-node r bs b y inside (ap (has b) iy ∙ child-has b i li))) in
+      (λ i y li iy. one-below n y (get_or b.cells i 0) (q y) (omega (arith, l, iy, above, at.1)) (in-node r bs b y inside (ap (has_node b) iy ∙ child-has b i li))) in
       ap (λ (f : ℕ → Count → Tree). f c v) (tree-link p q r bs x b h.order t.1)
       ∙ ap (node c (p x) v) rows
       ∙ sym (ap (λ (f : ℕ → Count → Tree). f c v) (tree-link p q r cs x b k.order names')))

@@ -2,13 +2,13 @@
 use Rattle.std.proofs.Common.{◌≡◌, ℕ, zero, suc, ◌+◌, ◌*◌, ◌<◌, Bool, true, false, cond, List, [], ◌∷◌, ◌++◌, length, get_or, refl, sym, ap, ◌∙◌, subst, ⊎_elim, arith}
 use Rattle.std.specs.Prelude.{◌==◌}
 use Rattle.tree_words.specs.Words.{Count}
-use Rattle.tree_words.specs.Blocks.{LinkedBlock, child, has, cell_at}
+use Rattle.tree_words.specs.Blocks.{LinkedBlock, child, has_node, cell_at}
 use Rattle.tree_words.specs.Walks.{nothing, plus, Tree, node, Children, done, more, Game, cell_of, pairs, is_bare, fresh, leaf_state, leaf_row, expand, expand_row}
 use Rattle.tree_words.specs.Trees.{row_of, tree_leaf, tree_inner, tree_at}
 use Rattle.tree_words.specs.Descents.{pick, leaf_inner, leaf_at, state_leaf, state_inner, state_at, top, Out, Sprouts}
 use Rattle.std.proofs.lemmas.Bool.{eqb-true, eq-eqb, ne_eqb, cases_Bool}
-use Rattle.tree_words.proofs.Down.{Fair, child-has, down-here, down-else, down-split, top-in, top-past, cell-tree, pairs-row, pick-in, row-same}
-use Rattle.tree_words.proofs.Adds.{child-other}
+use Rattle.tree_words.proofs.Walks.Down.{Fair, child-has, down-here, down-else, down-split, top-in, top-past, cell-tree, pairs-row, pick-in, row-same}
+use Rattle.tree_words.proofs.Walks.Adds.{child-other}
 
 module _ {S O : Type 0} (g : Game S O) where
   -- the child that the walk enters
@@ -54,7 +54,7 @@ snoc-same p q n (b ∷ bs) x c e sp out h = ⊎_elim
     let par : b.parent ≡ x = eqb-true b.parent x t in
     let rows : row_of (λ y d. tree_at p q (bs ++ n ∷ []) y d (q y)) (b.start + 4) b.cells ≡ row_of (λ y d. tree_at p q bs y d (q y)) (b.start + 4) b.cells
     = row-same (λ y d. tree_at p q (bs ++ n ∷ []) y d (q y)) (λ y d. tree_at p q bs y d (q y)) (b.start + 4) b.cells
-    (λ k y l is. let hy : has b y ≡ true = ap (has b) is ∙ child-has b k l in
+    (λ k y l is. let hy : has_node b y ≡ true = ap (has_node b) is ∙ child-has b k l in
     snoc-same p q n bs y (get_or b.cells k 0) (q y) sp.1 (sp.0.apart y hy) (λ z. h (top-in b bs n.parent y z hy ∙ par))) in
     ap (λ (f : ℕ → Count → Tree). f c e) (down-here (tree_leaf p) (tree_inner p q) b (bs ++ n ∷ []) x t)
     ∙ ap (node c (p x) e) rows ∙ sym (ap (λ (f : ℕ → Count → Tree). f c e) (down-here (tree_leaf p) (tree_inner p q) b bs x t)))
@@ -71,7 +71,7 @@ module _ {S O : Type 0} (g : Game S O) (fair : Fair g) (p q : ℕ → Count) whe
   leaf-top (b ∷ bs) x sp out = down-split (λ (y : ℕ). y) (leaf_inner g p q) (λ (y : ℕ). top (b ∷ bs) y ≡ x) b bs x
       (λ (t : (b.parent == x) ≡ true).
       let j : ℕ = pick g p q b x in
-      let h : has b (child b j) ≡ true = child-has b j (pick-in g fair p q b x sp.0.some) in
+      let h : has_node b (child b j) ≡ true = child-has b j (pick-in g fair p q b x sp.0.some) in
       top-in b bs (leaf_at g p q bs (child b j)) (child b j) (leaf-top bs (child b j) sp.1 (sp.0.apart (child b j) h)) h ∙ eqb-true b.parent x t)
       (λ (t : (b.parent == x) ≡ false). top-past b bs (leaf_at g p q bs x) x (leaf-top bs x sp.1 out.1) out.0)
 
@@ -98,11 +98,11 @@ module _ {S O : Type 0} (g : Game S O) (fair : Fair g) (p q : ℕ → Count) whe
   -- the block n, put below the leaf: the tree is expanded
   pub expand-tree : (m : ℕ) (n : LinkedBlock) (bs : List LinkedBlock) (x c : ℕ) (e : Count) (s : S) → Sprouts bs → Out bs x
       → n.parent ≡ leaf_at g p q bs x → n.cells ≡ g.cells (state_at g p q bs x s).1 → g.wide m (state_at g p q bs x s).0 (state_at g p q bs x s).1 ≡ true
-      → ((y : ℕ) → has n y ≡ true → (p y ≡ nothing) × (q y ≡ nothing))
+      → ((y : ℕ) → has_node n y ≡ true → (p y ≡ nothing) × (q y ≡ nothing))
       → tree_at p q (bs ++ n ∷ []) x c e ≡ expand g m (tree_at p q bs x c e) s
   expand-tree m n [] x c e s sp out at cells wide zeros =
       let rows : row_of (λ y d. node d (p y) (q y) done) (n.start + 4) n.cells ≡ fresh n.cells
-      = row-fresh p q (n.start + 4) n.cells (λ k y l is. zeros y (ap (has n) is ∙ child-has n k l)) in
+      = row-fresh p q (n.start + 4) n.cells (λ k y l is. zeros y (ap (has_node n) is ∙ child-has n k l)) in
       ap (λ (f : ℕ → Count → Tree). f c e) (down-here (tree_leaf p) (tree_inner p q) n [] x (eq-eqb n.parent x at))
       ∙ ap (node c (p x) e) (rows ∙ ap fresh cells)
       ∙ sym (ap (λ (t : Bool). node c (p x) e (cond t (fresh (g.cells s)) done)) wide)
@@ -111,7 +111,7 @@ module _ {S O : Type 0} (g : Game S O) (fair : Fair g) (p q : ℕ → Count) whe
       let par : b.parent ≡ x = eqb-true b.parent x t in
       let j : ℕ = pick g p q b x in
       let lj : j < length b.cells = pick-in g fair p q b x sp.0.some in
-      let hj : has b (child b j) ≡ true = child-has b j lj in
+      let hj : has_node b (child b j) ≡ true = child-has b j lj in
       let s' : S = g.next s (cell_at b j) in
       let F : ℕ → ℕ → Tree = λ y d. tree_at p q bs y d (q y) in
       let H : ℕ → ℕ → Tree = λ y d. tree_at p q (bs ++ n ∷ []) y d (q y) in
@@ -119,7 +119,7 @@ module _ {S O : Type 0} (g : Game S O) (fair : Fair g) (p q : ℕ → Count) whe
       let st : state_at g p q (b ∷ bs) x s ≡ state_at g p q bs (child b j) s' = ap (λ (f : S → Count × S). f s) (down-here (state_leaf g p q) (state_inner g p q) b bs x t) in
       let from : top bs n.parent ≡ child b j = ap (top bs) (at ∙ lf) ∙ leaf-top bs (child b j) sp.1 (sp.0.apart (child b j) hj) in
       let by : (k y : ℕ) → k < length b.cells → y ≡ b.start + 4 + 4 * k → (k ≡ j → ⊥) → H y (cell_at b k) ≡ F y (cell_at b k)
-      = λ k y l is d. let h : has b y ≡ true = ap (has b) is ∙ child-has b k l in
+      = λ k y l is d. let h : has_node b y ≡ true = ap (has_node b) is ∙ child-has b k l in
       snoc-same p q n bs y (cell_at b k) (q y) sp.1 (sp.0.apart y h) (λ z. d (child-other b.start j k (sym is ∙ sym z ∙ from))) in
       let one : (y : ℕ) → j < length b.cells → y ≡ b.start + 4 + 4 * j → H y (cell_at b j) ≡ expand g m (F y (cell_at b j)) (g.next s (cell_at b j))
       = λ y l is. subst (λ (z : ℕ). H z (cell_at b j) ≡ expand g m (F z (cell_at b j)) s') (sym is)

@@ -3,12 +3,12 @@ use Rattle.std.proofs.Common.{◌≡◌, ◌⊎◌, ℕ, zero, suc, ◌+◌, ◌
 use Rattle.std.specs.Prelude.{◌==◌, nat_lt, nat_le, ◌&&◌}
 use Rattle.std.proofs.lemmas.Bool.Decides.{nat_tests}
 use Rattle.tree_words.specs.Words.{Count}
-use Rattle.tree_words.specs.Blocks.{LinkedBlock, child, has, place, cell_at}
+use Rattle.tree_words.specs.Blocks.{LinkedBlock, child, has_node, place, cell_at}
 use Rattle.tree_words.specs.Walks.{nothing, plus, Tree, node, Children, done, more, Game, cell_of, counts_of, lit, pairs, pass, add, add_row}
 use Rattle.tree_words.specs.Trees.{down, row_of, tree_leaf, tree_inner, tree_at}
 use Rattle.tree_words.specs.Descents.{pairs_of, pick, adds_leaf, adds_inner, adds, sees_leaf, sees_inner, sees, top, Out, Sprouts}
 use Rattle.std.proofs.lemmas.Bool.{false_from_ne_true, eqb-true, eq-eqb, ne_eqb, cases_Bool}
-use Rattle.tree_words.proofs.BlockLaws.{clash}
+use Rattle.tree_words.proofs.Blocks.BlockLaws.{clash}
 
 -- what a game keeps: the chosen child is one of the children, and `next` false_from_ne_true falls
 pub record Fair {S O : Type 0} (g : Game S O) : Type 0 where
@@ -19,7 +19,7 @@ pub plus-nothing : (n : Count) → plus n nothing ≡ n
 plus-nothing n = λ i. record { visits = add-zero n.visits i; wins = add-zero n.wins i }
 
 -- where a node of the block is
-pub child-has : (b : LinkedBlock) (k : ℕ) → k < length b.cells → has b (child b k) ≡ true
+pub child-has : (b : LinkedBlock) (k : ℕ) → k < length b.cells → has_node b (child b k) ≡ true
 child-has b k l = all (b.start) k (length b.cells) l
   where
     all : (a k n : ℕ) → k < n → (nat_le (a + 4) (a + 4 + 4 * k) && (nat_lt (a + 4 + 4 * k) (a + (4 + 4 * n)) && ((a + 4 + 4 * k - a) % 4 == 0))) ≡ true
@@ -44,14 +44,14 @@ module _ {A : Type 0} (leaf : ℕ → A) (inner : LinkedBlock → ℕ → (ℕ �
 pub top-out : (bs : List LinkedBlock) (x : ℕ) → Out bs x → top bs x ≡ x
 top-out [] x h = refl
 top-out (b ∷ bs) x h = let t : top bs x ≡ x = top-out bs x h.1 in
-    ap (λ (y : ℕ). cond (has b y) b.parent y) t ∙ ap (λ (u : Bool). cond u b.parent x) h.0
+    ap (λ (y : ℕ). cond (has_node b y) b.parent y) t ∙ ap (λ (u : Bool). cond u b.parent x) h.0
 
 -- what comes from a node of b comes from b's parent
-pub top-in : (b : LinkedBlock) (bs : List LinkedBlock) (w y : ℕ) → top bs w ≡ y → has b y ≡ true → top (b ∷ bs) w ≡ b.parent
-top-in b bs w y e h = ap (λ (z : ℕ). cond (has b z) b.parent z) e ∙ ap (λ (u : Bool). cond u b.parent y) h
+pub top-in : (b : LinkedBlock) (bs : List LinkedBlock) (w y : ℕ) → top bs w ≡ y → has_node b y ≡ true → top (b ∷ bs) w ≡ b.parent
+top-in b bs w y e h = ap (λ (z : ℕ). cond (has_node b z) b.parent z) e ∙ ap (λ (u : Bool). cond u b.parent y) h
 
-pub top-past : (b : LinkedBlock) (bs : List LinkedBlock) (w y : ℕ) → top bs w ≡ y → has b y ≡ false → top (b ∷ bs) w ≡ y
-top-past b bs w y e h = ap (λ (z : ℕ). cond (has b z) b.parent z) e ∙ ap (λ (u : Bool). cond u b.parent y) h
+pub top-past : (b : LinkedBlock) (bs : List LinkedBlock) (w y : ℕ) → top bs w ≡ y → has_node b y ≡ false → top (b ∷ bs) w ≡ y
+top-past b bs w y e h = ap (λ (z : ℕ). cond (has_node b z) b.parent z) e ∙ ap (λ (u : Bool). cond u b.parent y) h
 
 -- the root of the tree
 pub cell-tree : (p q : ℕ → Count) (bs : List LinkedBlock) (x c : ℕ) (e : Count) → cell_of (tree_at p q bs x c e) ≡ c
@@ -114,10 +114,10 @@ module _ {S O : Type 0} (g : Game S O) (fair : Fair g) (p q : ℕ → Count) whe
       omega (arith, len, fair.chosen (p x) (pairs_of p q (b.start + 4) b.cells) some)
 
 -- what is under a child of b is not what is under another one, and not the parent
-pub under-not : (b : LinkedBlock) (bs : List LinkedBlock) (x y w : ℕ) → Out (b ∷ bs) x → has b y ≡ true → top bs w ≡ y → x ≡ w → ⊥
+pub under-not : (b : LinkedBlock) (bs : List LinkedBlock) (x y w : ℕ) → Out (b ∷ bs) x → has_node b y ≡ true → top bs w ≡ y → x ≡ w → ⊥
 under-not b bs x y w out h t e =
     let at : x ≡ y = sym (top-out bs x out.1) ∙ ap (top bs) e ∙ t in
-    clash (has b x) (ap (has b) at ∙ h) out.0
+    clash (has_node b x) (ap (has_node b) at ∙ h) out.0
 
 module _ {S O : Type 0} (g : Game S O) (fair : Fair g) (p q : ℕ → Count) (o : O) where
   pub adds-off : (bs : List LinkedBlock) (x w : ℕ) (s : S) → Sprouts bs → Out bs x → (top bs w ≡ x → ⊥) → adds g p q o bs x s w ≡ nothing
@@ -126,7 +126,7 @@ module _ {S O : Type 0} (g : Game S O) (fair : Fair g) (p q : ℕ → Count) (o 
       (λ (t : (b.parent == x) ≡ true).
       let i = pick g p q b x in
       let l : i < length b.cells = pick-in g fair p q b x sp.0.some in
-      let h : has b (child b i) ≡ true = child-has b i l in
+      let h : has_node b (child b i) ≡ true = child-has b i l in
       let rest : adds g p q o bs (child b i) (g.next s (get_or b.cells i 0)) w ≡ nothing = adds-off bs (child b i) w (g.next s (get_or b.cells i 0)) sp.1 (sp.0.apart (child b i) h) (λ e. n (top-in b bs w (child b i) e h ∙ eqb-true b.parent x t)) in
       let far : (x == w) ≡ false = ne_eqb x w (λ e. n (ap (top (b ∷ bs)) (sym e) ∙ top-out (b ∷ bs) x out)) in
       ap (λ (u : Bool). cond u (g.gain o s) (adds g p q o bs (child b i) (g.next s (get_or b.cells i 0)) w)) far ∙ rest)
@@ -138,9 +138,9 @@ module _ {S O : Type 0} (g : Game S O) (fair : Fair g) (p q : ℕ → Count) (o 
       (λ (t : (b.parent == x) ≡ true).
       let i = pick g p q b x in
       let l : i < length b.cells = pick-in g fair p q b x sp.0.some in
-      let h : has b (child b i) ≡ true = child-has b i l in
+      let h : has_node b (child b i) ≡ true = child-has b i l in
       let rest : sees g p q o bs (child b i) (g.next s (get_or b.cells i 0)) w ≡ nothing = sees-off bs (child b i) w (g.next s (get_or b.cells i 0)) sp.1 (sp.0.apart (child b i) h) (λ e. n (top-in b bs w (child b i) e h ∙ eqb-true b.parent x t)) in
-      let far : has b w ≡ false = false_from_ne_true (has b w) (λ (u : has b w ≡ true). n (top-in b bs w w (top-out bs w (sp.0.apart w u)) u ∙ eqb-true b.parent x t)) in
+      let far : has_node b w ≡ false = false_from_ne_true (has_node b w) (λ (u : has_node b w ≡ true). n (top-in b bs w w (top-out bs w (sp.0.apart w u)) u ∙ eqb-true b.parent x t)) in
       ap (λ (u : Bool). cond u (g.glimpse o s (get_or b.cells (place b w) 0)) (sees g p q o bs (child b i) (g.next s (get_or b.cells i 0)) w)) far ∙ rest)
       (λ (t : (b.parent == x) ≡ false). sees-off bs x w s sp.1 out.1 (λ e. n (top-past b bs w x e out.0)))
 
@@ -154,9 +154,9 @@ same-under p q p' q' (b ∷ bs) x c e sp out hp hq = ⊎_elim
     let par : b.parent ≡ x = eqb-true b.parent x t in
     let kid : (k y : ℕ) → k < length b.cells → y ≡ b.start + 4 + 4 * k → tree_at p' q' bs y (get_or b.cells k 0) (q' y) ≡ tree_at p q bs y (get_or b.cells k 0) (q y)
     = λ k y l is.
-    let h : has b y ≡ true = ap (has b) is ∙ child-has b k l in
+    let h : has_node b y ≡ true = ap (has_node b) is ∙ child-has b k l in
     let o : Out bs y = sp.0.apart y h in
-    let mine : q' y ≡ q y = hq y (top-in b bs y y (top-out bs y o) h ∙ par) (λ z. clash (has b y) h (ap (has b) z ∙ out.0)) in
+    let mine : q' y ≡ q y = hq y (top-in b bs y y (top-out bs y o) h ∙ par) (λ z. clash (has_node b y) h (ap (has_node b) z ∙ out.0)) in
     same-under p q p' q' bs y (get_or b.cells k 0) (q' y) sp.1 o
     (λ w u. hp w (top-in b bs w y u h ∙ par))
     (λ w u n. hq w (top-in b bs w y u h ∙ par) (λ z. under-not b bs x y w out h u (sym z)))

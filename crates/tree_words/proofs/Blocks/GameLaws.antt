@@ -6,14 +6,14 @@ use Rattle.uct_table.specs.Choice.{Child, choice_of}
 use Rattle.uct_table.proofs.ChoiceLaws.{choice_of-lt}
 use Rattle.tree_words.specs.Settings.{Setting}
 use Rattle.tree_words.specs.Words.{Count, root_at, area_at, end_of}
-use Rattle.tree_words.specs.Blocks.{LinkedBlock, words_of, size, has, place, cell_at, up, is_node, In, Follows, InOrder}
-use Rattle.tree_words.specs.Paths.{NodeState, root_state, state_after, node_state, board_of}
-use Rattle.tree_words.specs.Complete.{HasEmpties, Complete, AreComplete, cells_below, allowed_cells}
+use Rattle.tree_words.specs.Blocks.{LinkedBlock, block_size, size, has_node, place, cell_at, up, is_node, In, Follows, InOrder}
+use Rattle.tree_words.specs.Paths.{NodeState, root_state, state_after, node_state, node_board}
+use Rattle.tree_words.specs.Complete.{HasEmpties, IsComplete, AreComplete, cells_below, allowed_cells}
 use Rattle.play_out.specs.Fills.{empties_of}
 use Rattle.play_out.specs.declared.playouts.Ending.{Ending}
-use Rattle.tree_words.specs.Sequence.{child_of, chosen_of, asks, next_after, size_below, game_of}
-use Rattle.tree_words.proofs.BlockLaws.{apart, up_same, root_node}
-use Rattle.tree_words.proofs.Down.{Fair}
+use Rattle.tree_words.specs.Sequence.{child_of, chosen_of, asks, next_after, size_below, search_game}
+use Rattle.tree_words.proofs.Blocks.BlockLaws.{apart, up_same, root_node}
+use Rattle.tree_words.proofs.Walks.Down.{Fair}
 use Rattle.std.proofs.lemmas.Bool.{or_left, or_right, eq-eqb}
 
 choice_below : (p c : ℕ) (xs : List Child) → 0 < length xs → choice_of p c xs < length xs
@@ -34,30 +34,30 @@ next_grows : (s : Setting) (n : ℕ) (v : Count) (p : NodeState) → n ≤ next_
 unfolding next_after
 next_grows s n v p = grows_by (asks s n v p) n (size_below p)
 
-pub fair_game : (s : Setting) → Fair (game_of s)
+pub fair_game : (s : Setting) → Fair (search_game s)
 fair_game s = record { chosen = chosen_below s; grows = next_grows s }
 
 -- a block's nodes are nodes of the tree, and so is its parent
-pub in-node : (r : ℕ) (bs : List LinkedBlock) (b : LinkedBlock) (x : ℕ) → In b bs → has b x ≡ true → is_node r bs x ≡ true
+pub in-node : (r : ℕ) (bs : List LinkedBlock) (b : LinkedBlock) (x : ℕ) → In b bs → has_node b x ≡ true → is_node r bs x ≡ true
 in-node r [] b x i h = absurd i
 in-node r (c ∷ bs) b x i h = ⊎_elim
-    (λ (e : b ≡ c). or_left (has c x) (is_node r bs x) (ap (λ (d : LinkedBlock). has d x) (sym e) ∙ h))
-    (λ (j : In b bs). or_right (has c x) (is_node r bs x) (in-node r bs b x j h)) i
+    (λ (e : b ≡ c). or_left (has_node c x) (is_node r bs x) (ap (λ (d : LinkedBlock). has_node d x) (sym e) ∙ h))
+    (λ (j : In b bs). or_right (has_node c x) (is_node r bs x) (in-node r bs b x j h)) i
 
 pub in-parent : (r : ℕ) (bs : List LinkedBlock) (b : LinkedBlock) → InOrder r bs → In b bs → is_node r bs b.parent ≡ true
 in-parent r [] b g i = absurd i
 in-parent r (c ∷ bs) b g i = ⊎_elim
-    (λ (e : b ≡ c). or_right (has c b.parent) (is_node r bs b.parent) (ap (λ (d : LinkedBlock). is_node r bs d.parent) e ∙ g.0.parent))
-    (λ (j : In b bs). or_right (has c b.parent) (is_node r bs b.parent) (in-parent r bs b g.1 j)) i
+    (λ (e : b ≡ c). or_right (has_node c b.parent) (is_node r bs b.parent) (ap (λ (d : LinkedBlock). is_node r bs d.parent) e ∙ g.0.parent))
+    (λ (j : In b bs). or_right (has_node c b.parent) (is_node r bs b.parent) (in-parent r bs b g.1 j)) i
 
 module _ {A : Type 0} (root : A) (step : LinkedBlock → ℕ → A → A) where
   -- what is gathered at a node comes from its block's parent
-  pub up-in : (r : ℕ) (bs : List LinkedBlock) (b : LinkedBlock) (x : ℕ) → InOrder r bs → In b bs → has b x ≡ true → up root step bs x ≡ step b x (up root step bs b.parent)
+  pub up-in : (r : ℕ) (bs : List LinkedBlock) (b : LinkedBlock) (x : ℕ) → InOrder r bs → In b bs → has_node b x ≡ true → up root step bs x ≡ step b x (up root step bs b.parent)
   up-in r [] b x g i h = absurd i
   up-in r (c ∷ bs) b x g i h = ⊎_elim
       (λ (e : b ≡ c).
-      let hc : has c x ≡ true = ap (λ (d : LinkedBlock). has d x) (sym e) ∙ h in
-      let out : has c c.parent ≡ false = apart r c bs c.parent g.0 g.0.parent in
+      let hc : has_node c x ≡ true = ap (λ (d : LinkedBlock). has_node d x) (sym e) ∙ h in
+      let out : has_node c c.parent ≡ false = apart r c bs c.parent g.0 g.0.parent in
       ap (λ (t : Bool). cond t (step c x (up root step bs c.parent)) (up root step bs x)) hc
       ∙ (ap (step c x) (sym (up_same root step c bs c.parent out))
       ∙ ap (λ (d : LinkedBlock). step d x (up root step (c ∷ bs) d.parent)) (sym e)))
@@ -75,7 +75,7 @@ spot-same s c bs x f n = up_same (root_state s) (λ b y above. state_after above
 pub record IsWhole (s : Setting) (next : ℕ) (bs : List LinkedBlock) (b : LinkedBlock) : Type 0 where
   pub claimed : b.start + size b ≤ next
   pub inside : (area_at s ≤ b.start) × (b.start + size b ≤ end_of s)
-  pub empties : HasEmpties b.empties (board_of s bs b.parent)
+  pub empties : HasEmpties b.empties (node_board s bs b.parent)
   pub cells : b.cells ≡ cells_below s bs b.parent
   pub above : b.parent < b.start
 

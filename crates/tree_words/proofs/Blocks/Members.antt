@@ -1,19 +1,19 @@
 -- The nodes of a tree and the blocks that they are in.
 use Rattle.std.proofs.Common.{◌≡◌, ◌≢◌, ◌⊎◌, ℕ, ◌+◌, ◌*◌, ◌≤◌, ◌<◌, true, false, List, [], ◌∷◌, ◌++◌, length, refl, sym, ◌∙◌, subst, ⊎_elim, inl, inr}
 use Rattle.std.specs.Prelude.{◌==◌}
-use Rattle.tree_words.specs.Blocks.{LinkedBlock, has, is_node, In}
+use Rattle.tree_words.specs.Blocks.{LinkedBlock, has_node, is_node, In}
 use Rattle.tree_words.specs.Trees.{oldest_first}
 use Rattle.tree_words.specs.Complete.{HaveNodes}
 use Rattle.tree_words.specs.Descents.{Names}
 use Rattle.std.proofs.lemmas.Bool.{or_cases, eqb-true}
 
 -- a node of the tree is the root or a node of a block
-pub node-in : (r : ℕ) (bs : List LinkedBlock) (x : ℕ) → is_node r bs x ≡ true → (x ≡ r) ⊎ ((b : LinkedBlock) × In b bs × (has b x ≡ true))
+pub node-in : (r : ℕ) (bs : List LinkedBlock) (x : ℕ) → is_node r bs x ≡ true → (x ≡ r) ⊎ ((b : LinkedBlock) × In b bs × (has_node b x ≡ true))
 node-in r [] x n = inl (eqb-true x r n)
 node-in r (b ∷ bs) x n = ⊎_elim
-    (λ (h : has b x ≡ true). inr (b, inl refl, h))
-    (λ (h : is_node r bs x ≡ true). ⊎_elim (λ (e : x ≡ r). inl e) (λ (t : (c : LinkedBlock) × In c bs × (has c x ≡ true)). inr (t.0, inr t.1, t.2)) (node-in r bs x h))
-    (or_cases (has b x) (is_node r bs x) n)
+    (λ (h : has_node b x ≡ true). inr (b, inl refl, h))
+    (λ (h : is_node r bs x ≡ true). ⊎_elim (λ (e : x ≡ r). inl e) (λ (t : (c : LinkedBlock) × In c bs × (has_node c x ≡ true)). inr (t.0, inr t.1, t.2)) (node-in r bs x h))
+    (or_cases (has_node b x) (is_node r bs x) n)
 
 -- a block is one of the blocks, in either order
 in-snoc : (b n : LinkedBlock) (os : List LinkedBlock) → In b (os ++ n ∷ []) → (In b os) ⊎ (b ≡ n)

@@ -10,8 +10,8 @@ use Rattle.tree_words.specs.Words.{end_of}
 use Rattle.tree_words.specs.Blocks.{LinkedBlock}
 use Rattle.tree_words.specs.Complete.{HasEmpties, HaveNodes, Linked, set_of}
 use Rattle.tree_words.specs.Opening.{root_block, opening_word, opening_words, AreOpening, ShowRootBlock}
-use Rattle.tree_words.proofs.OpeningLaws.{opening-linked, opening-nodes}
-use Rattle.tree_words.proofs.SetNumbers.{set-has_empties}
+use Rattle.tree_words.proofs.NewBlocks.OpeningLaws.{opening-linked, opening-nodes}
+use Rattle.tree_words.proofs.Boards.SetNumbers.{set-has_empties}
 
 -- the set of a board's empty cells is one number
 empties-one : (s : Setting) (words : List ℕ) → IsSetting s → (a : AreOpening s words) → a.empties ≡ set_of (empties_of s.board)

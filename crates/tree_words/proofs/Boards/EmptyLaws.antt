@@ -6,13 +6,13 @@ use Rattle.hex_cells.proofs.Bits.{below_from_items}
 use Rattle.hex_board.specs.Positions.{Position, is_empty_at}
 use Rattle.play_out.specs.Fills.{empties_of}
 use Rattle.tree_words.specs.Settings.{Setting, IsSetting}
-use Rattle.tree_words.specs.Words.{root_at, move_of, cell_in}
-use Rattle.tree_words.specs.Blocks.{LinkedBlock, one_if, has, place, cell_at, InOrder, up, size}
-use Rattle.tree_words.specs.Paths.{NodeState, root_state, state_after, board_of}
+use Rattle.tree_words.specs.Words.{root_at, move_word, cell_in}
+use Rattle.tree_words.specs.Blocks.{LinkedBlock, one_if, has_node, place, cell_at, InOrder, up, size}
+use Rattle.tree_words.specs.Paths.{NodeState, root_state, state_after, node_board}
 use Rattle.tree_words.specs.Complete.{allowed_cells, cells_below, HasEmpties}
 use Rattle.std.proofs.lemmas.Bool.{eqb-true, cases_Bool, and_parts, ltb-true, false_from_ne_true}
-use Rattle.tree_words.proofs.BlockLaws.{apart, up_same, root_node}
-use Rattle.tree_words.proofs.RootLaws.{filter_at}
+use Rattle.tree_words.proofs.Blocks.BlockLaws.{apart, up_same, root_node}
+use Rattle.tree_words.proofs.Boards.RootLaws.{filter_at}
 use Rattle.std.specs.List.{filter, range_with_len}
 use Rattle.std.proofs.Math.Nat.{mul-le-mul}
 use Rattle.std.proofs.lemmas.List.Elements.{filter_agree}
@@ -21,7 +21,7 @@ use Rattle.tree_words.specs.Writing.{listed}
 use Rattle.play_out.proofs.Listing.{filter_more}
 use Rattle.hex_board.proofs.Placed.{empty_on}
 
--- no block has the root among its nodes
+-- no block has_node the root among its nodes
 pub up-root : {A : Type 0} (root : A) (step : LinkedBlock → ℕ → A → A) (r : ℕ) (bs : List LinkedBlock) → InOrder r bs → up root step bs r ≡ root
 up-root root step r [] g = refl
 up-root root step r (b ∷ bs) g = up_same root step b bs r (apart r b bs r g.0 (root_node r bs)) ∙ up-root root step r bs g.1
@@ -35,22 +35,22 @@ allowed-empty : (s : Setting) (i : ℕ) → IsSetting s → i < length (allowed_
 unfolding allowed_cells
 allowed-empty s i h l = h.empty _ (filter_at (has_cell s.allowed) 0 (s.board.size * s.board.size) i l).0
 
-pub below-empty : (s : Setting) (bs : List LinkedBlock) (x i : ℕ) → IsSetting s → InOrder (root_at s) bs → i < length (cells_below s bs x) → is_empty_at (board_of s bs x) (get_or (cells_below s bs x) i 0) ≡ true
+pub below-empty : (s : Setting) (bs : List LinkedBlock) (x i : ℕ) → IsSetting s → InOrder (root_at s) bs → i < length (cells_below s bs x) → is_empty_at (node_board s bs x) (get_or (cells_below s bs x) i 0) ≡ true
 below-empty s bs x i h g l = ⊎_elim
     (λ (t : (x == root_at s) ≡ true).
     let at : x ≡ root_at s = eqb-true x (root_at s) t in
-    let cells : cells_below s bs x ≡ allowed_cells s = ap (λ (u : Bool). cond u (allowed_cells s) (empties_of (board_of s bs x))) t in
-    let board : board_of s bs x ≡ s.board = ap (board_of s bs) at ∙ ap (λ (p : NodeState). p.board) (up-root (root_state s) (λ b y above. state_after above (cell_at b (place b y))) (root_at s) bs g) in
+    let cells : cells_below s bs x ≡ allowed_cells s = ap (λ (u : Bool). cond u (allowed_cells s) (empties_of (node_board s bs x))) t in
+    let board : node_board s bs x ≡ s.board = ap (node_board s bs) at ∙ ap (λ (p : NodeState). p.board) (up-root (root_state s) (λ b y above. state_after above (cell_at b (place b y))) (root_at s) bs g) in
     (λ j. is_empty_at (board j) (get_or (cells j) i 0)) ∙ allowed-empty s i h (subst (λ (c : List ℕ). i < length c) cells l))
     (λ (t : (x == root_at s) ≡ false).
-    let cells : cells_below s bs x ≡ empties_of (board_of s bs x) = ap (λ (u : Bool). cond u (allowed_cells s) (empties_of (board_of s bs x))) t in
-    ap (λ (c : List ℕ). is_empty_at (board_of s bs x) (get_or c i 0)) cells ∙ empties-empty (board_of s bs x) i (subst (λ (c : List ℕ). i < length c) cells l))
+    let cells : cells_below s bs x ≡ empties_of (node_board s bs x) = ap (λ (u : Bool). cond u (allowed_cells s) (empties_of (node_board s bs x))) t in
+    ap (λ (c : List ℕ). is_empty_at (node_board s bs x) (get_or c i 0)) cells ∙ empties-empty (node_board s bs x) i (subst (λ (c : List ℕ). i < length c) cells l))
     (cases_Bool (x == root_at s))
 
-pub cell-of-move : (i c : ℕ) → c < 256 → cell_in (move_of i c) ≡ c
+pub cell-of-move : (i c : ℕ) → c < 256 → cell_in (move_word i c) ≡ c
 cell-of-move i c l = omega arith
 
--- how many cells below n the set has
+-- how many cells below n the set has_node
 members-listed : (set n : ℕ) → members set n ≡ length (filter (has_cell set) (range_with_len 0 n))
 unfolding members
 members-listed set zero = refl
