@@ -17,7 +17,7 @@ front true x xs ys = refl
 front false x xs ys = refl
 
 -- a filter of one number more
-filter_more : (p : ℕ → Bool) (a n m : ℕ) → a + n ≡ m → filter p (range_with_len a (suc n)) ≡ filter p (range_with_len a n) ++ cond (p m) (m ∷ []) []
+pub filter_more : (p : ℕ → Bool) (a n m : ℕ) → a + n ≡ m → filter p (range_with_len a (suc n)) ≡ filter p (range_with_len a n) ++ cond (p m) (m ∷ []) []
 filter_more p a zero m e = ap (λ v. cond (p v) (v ∷ []) []) (sym (add-zero a) ∙ e)
 filter_more p a (suc n) m e =
     ap (λ xs. cond (p a) (a ∷ xs) xs) (filter_more p (a + 1) n m (omega arith))

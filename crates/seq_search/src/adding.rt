@@ -2,15 +2,15 @@
 
 ghost use Rattle.std.specs.Prelude.{◌≡◌, ℕ, ◌+◌, ◌*◌, ◌^◌, ◌≤◌, ◌<◌, length, set, slice_index, List, true};
 ghost use Rattle.hex_cells.specs.declared.colours.Colour.TheVariants.{White};
-ghost use Rattle.hex_board.specs.Wins.{is_same};
-ghost use Rattle.tree_words.specs.Blocks.{LinkedBlock, one_if, words_of};
+ghost use Rattle.hex_cells.specs.Colours.{is_same};
+ghost use Rattle.tree_words.specs.Blocks.{LinkedBlock, one_if, block_size};
 ghost use Rattle.tree_words.specs.Words.{cell_in, root_at};
 ghost use Rattle.tree_words.specs.Paths.{root_state};
-ghost use Rattle.tree_words.specs.Sequence.{game_of, amount_of};
+ghost use Rattle.tree_words.specs.Sequence.{search_game, amount_of};
 ghost use Rattle.tree_words.specs.Descents.{Added, config_of};
 ghost use Rattle.seq_search.specs.Steps.{Holds, Records};
 ghost use Rattle.seq_search.specs.Descending.{Descended};
-ghost use Rattle.seq_search.specs.Adding.{Counted, Sighted, node_of};
+ghost use Rattle.seq_search.specs.Adding.{Counted, Sighted, node_at};
 
 use super::descending::Descent;
 use hex_cells::{Cell, CellSet, Colour, MOST_CELLS};
@@ -39,9 +39,9 @@ fn gain(words: &mut [u64], node: usize, amount: u64)
 
 // Adds to the seen word of each node of the block whose cell is in the set.
 fn see(words: &mut [u64], block: usize, stones: CellSet, amount: u64)
-    requires within { block + words_of (slice_index words.old (block + COUNT_WORD)) ≤ length words.old }
-    requires cells { (k : ℕ) → k < slice_index words.old (block + COUNT_WORD) → cell_in (slice_index words.old (node_of block k)) < MOST_CELLS }
-    requires small { (k : ℕ) → k < slice_index words.old (block + COUNT_WORD) → slice_index words.old (node_of block k + SEEN_WORD) + amount < 2 ^ 64 }
+    requires within { block + block_size (slice_index words.old (block + COUNT_WORD)) ≤ length words.old }
+    requires cells { (k : ℕ) → k < slice_index words.old (block + COUNT_WORD) → cell_in (slice_index words.old (node_at block k)) < MOST_CELLS }
+    requires small { (k : ℕ) → k < slice_index words.old (block + COUNT_WORD) → slice_index words.old (node_at block k + SEEN_WORD) + amount < 2 ^ 64 }
     ensures { Sighted block (slice_index words.old (block + COUNT_WORD)) stones amount words.old words.new }
 {
     let count = words[block + COUNT_WORD] as usize;
@@ -92,7 +92,7 @@ pub(crate) fn add(words: &mut [u64], shape: &Shape, walk: &Descent, k: u32, endi
     requires walked { (bs : List LinkedBlock) × Holds shape.now bs words.old k × Descended shape.now bs words.old walk.now }
     ensures holds { (bs : List LinkedBlock) → Holds shape.now bs words.old k → Descended shape.now bs words.old walk.now → Holds shape.now bs words.new (k + 1) }
     ensures added { (bs : List LinkedBlock) → Holds shape.now bs words.old k → Descended shape.now bs words.old walk.now
-        → Added (game_of shape.now) (root_state shape.now) (root_at shape.now) ending.now (config_of bs words.old) (config_of bs words.new) }
+        → Added (search_game shape.now) (root_state shape.now) (root_at shape.now) ending.now (config_of bs words.old) (config_of bs words.new) }
     ensures record { Records shape.now k (RECORD_UNIT * walk.now.node + one_if (is_same ending.now.winner White)) words.old words.new }
 {
     count(words, shape, walk, ending);

@@ -2,7 +2,7 @@
 
 ghost use Rattle.std.specs.Prelude.{◌≡◌, ◌+◌, ◌≤◌, length, slice_index};
 ghost use Rattle.uct_table.specs.Choice.{choice_of};
-ghost use Rattle.tree_words.specs.Blocks.{words_of};
+ghost use Rattle.tree_words.specs.Blocks.{block_size};
 ghost use Rattle.tree_words.specs.Sequence.{children_in};
 ghost use Rattle.seq_search.specs.Choosing.{CanBeScored};
 
@@ -13,7 +13,7 @@ use uct_table::{MOST_COUNT, MOST_WEIGHT, Parent};
 /// The place of the node of a block that Choice takes: the first without visits, or else the first of the greatest score.
 /// `block` is the block's first word, and `visits` are the parent's, at most [`MOST_COUNT`] like all counts of the block.
 pub(crate) fn choose(words: &[u64], block: usize, visits: u32, weight: u32) -> usize
-    requires within { block + words_of (slice_index words.now (block + COUNT_WORD)) ≤ length words.now }
+    requires within { block + block_size (slice_index words.now (block + COUNT_WORD)) ≤ length words.now }
     requires parent { visits ≤ MOST_COUNT }
     requires counts { CanBeScored words.now (block + HEADER_WORDS) (slice_index words.now (block + COUNT_WORD)) }
     requires weight { weight ≤ MOST_WEIGHT }

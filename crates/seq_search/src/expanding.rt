@@ -1,7 +1,7 @@
 //! A leaf's block, where it asks for one.
 
 ghost use Rattle.std.specs.Prelude.{◌≡◌, ◌+◌, ◌<◌, ◌≤◌, length};
-ghost use Rattle.tree_words.specs.Blocks.{words_of};
+ghost use Rattle.tree_words.specs.Blocks.{block_size};
 ghost use Rattle.tree_words.specs.declared.layout.TheConstants.{MOST_BLOCK_WORDS};
 ghost use Rattle.tree_words.specs.Paths.{NodeState};
 ghost use Rattle.tree_words.specs.Sequence.{asks, gets_block};
@@ -43,7 +43,7 @@ fn asks_for_block(words: &[u64], shape: &Shape, leaf: usize, board: &Board) -> b
 
 // Writes the block below the leaf, whose board this is, from the word `start` on, and names it by the leaf's link.
 fn link_block(words: &mut [u64], start: usize, leaf: usize, board: &Board)
-    requires within { start + words_of (length (empties_of board.now)) ≤ length words.old }
+    requires within { start + block_size (length (empties_of board.now)) ≤ length words.old }
     requires leaf { leaf + NODE_WORDS ≤ length words.old }
     ensures { (p : NodeState) → p.board ≡ board.now → LinksBelow start leaf p words.old words.new }
 {

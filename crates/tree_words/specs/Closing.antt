@@ -12,7 +12,7 @@ use Rattle.tree_words.specs.declared.settings.TheConstants.{MOST_WORKERS}
 
 -- NEXT is at most a largest block for each of the most workers past the area's end, and TICKET is at
 -- most their number past N
-pub record Ends (s : Setting) (words : List ℕ) : Type 0 where
+pub record KeepsEnds (s : Setting) (words : List ℕ) : Type 0 where
   pub next : next_in words ≤ end_of s + MOST_WORKERS * MOST_BLOCK_WORDS
   pub ticket : (s.knobs.playouts ≤ ticket_in words) × (ticket_in words ≤ s.knobs.playouts + MOST_WORKERS)
 
@@ -25,7 +25,7 @@ pub record IsClosed (s : Setting) (words : List ℕ) : Type 0 where
   pub linked : Linked s words blocks
   pub recorded : Recorded s blocks words
   pub exact : Exact s blocks words
-  pub ends : Ends s words
+  pub ends : KeepsEnds s words
   pub grown : Grown s blocks words
 
 -- what is seen of a closed tree: its shape and its words

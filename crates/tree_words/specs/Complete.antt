@@ -8,7 +8,7 @@ use Rattle.play_out.specs.Fills.{empties_of}
 use Rattle.tree_words.specs.Settings.{Setting}
 use Rattle.tree_words.specs.Words.{root_at, area_at, end_of, next_in}
 use Rattle.tree_words.specs.Blocks.{LinkedBlock, size, InOrder, Shows}
-use Rattle.tree_words.specs.Paths.{board_of}
+use Rattle.tree_words.specs.Paths.{node_board}
 use Rattle.hex_cells.specs.declared.board_size.TheConstants.{MOST_CELLS}
 
 -- the set has just the empty cells of the board
@@ -27,19 +27,19 @@ allowed_cells s = filter (has s.allowed) (cells_of s.board.size)
 
 -- the cells of a block below x: the allowed cells for the root's block, else the empty cells of the board of x in rising order
 abbrev pub cells_below : Setting → List LinkedBlock → ℕ → List ℕ
-cells_below s bs x = if x == root_at s then allowed_cells s else empties_of (board_of s bs x)
+cells_below s bs x = if x == root_at s then allowed_cells s else empties_of (node_board s bs x)
 
 -- the block b, linked after the blocks bs, is complete: it lies below NEXT and inside the area, has the empty cells of its
 -- parent's board, and its cells are all of them, or the allowed ones at the root
-pub record Complete (s : Setting) (next : ℕ) (bs : List LinkedBlock) (b : LinkedBlock) : Type 0 where
+pub record IsComplete (s : Setting) (next : ℕ) (bs : List LinkedBlock) (b : LinkedBlock) : Type 0 where
   pub claimed : b.start + size b ≤ next
   pub inside : (area_at s ≤ b.start) × (b.start + size b ≤ end_of s)
-  pub empties : HasEmpties b.empties (board_of s bs b.parent)
+  pub empties : HasEmpties b.empties (node_board s bs b.parent)
   pub cells : b.cells ≡ cells_below s bs b.parent
 
 abbrev pub AreComplete : Setting → ℕ → List LinkedBlock → Type 0
 AreComplete s next [] = Unit {0}
-AreComplete s next (b ∷ bs) = Complete s next bs b × AreComplete s next bs
+AreComplete s next (b ∷ bs) = IsComplete s next bs b × AreComplete s next bs
 
 -- bs are the blocks that the links show from the root on, newest first: each is complete, is named by its parent's link, and shares
 -- no word with another

@@ -7,7 +7,7 @@ use Rattle.tree_words.specs.Words.{root_at, cell_in, link_in, tally_in, Count}
 use Rattle.tree_words.specs.Complete.{allowed_cells}
 use Rattle.tree_words.specs.declared.roots.Row.{Row}
 use Rattle.tree_words.specs.declared.layout.TheConstants.{NODE_WORDS, HEADER_WORDS, COUNT_WORD, MOST_NODES}
-use Rattle.tree_words.specs.Blocks.{words_of}
+use Rattle.tree_words.specs.Blocks.{block_size}
 use Rattle.hex_cells.specs.declared.board_size.TheConstants.{MOST_CELLS}
 
 -- the first word of the root's block, and how many nodes it has
@@ -45,7 +45,7 @@ Beats a b = (b.visits < a.visits) ⊎ ((a.visits ≡ b.visits) × (a.cell < b.ce
 -- what the words of a closed tree say of the root's children: their block lies within the words, there are 1 to 121 of them, and
 -- they have the allowed cells, which are cells of the board, in rising order
 pub record HasRoot (s : Setting) (words : List ℕ) : Type 0 where
-  pub within : root_link s words + words_of (root_count s words) ≤ length words
+  pub within : root_link s words + block_size (root_count s words) ≤ length words
   pub count : root_count s words ≡ length (allowed_cells s)
   pub some : 1 ≤ root_count s words
   pub few : root_count s words ≤ MOST_NODES

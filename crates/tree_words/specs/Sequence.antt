@@ -3,12 +3,12 @@ use Rattle.std.specs.Prelude.{ℕ, zero, suc, ◌+◌, ◌*◌, ◌^◌, ◌==�
 use Rattle.hex_cells.specs.Sets.{has}
 use Rattle.hex_cells.specs.declared.colours.Colour.{Colour}
 use Rattle.hex_board.specs.Positions.{Position, stones_of}
-use Rattle.hex_board.specs.Wins.{is_same}
+use Rattle.hex_cells.specs.Colours.{is_same}
 use Rattle.uct_table.specs.Choice.{Child, choice_of}
 use Rattle.play_out.specs.Fills.{empties_of, filled, playout_of}
 use Rattle.tree_words.specs.Settings.{Setting}
 use Rattle.tree_words.specs.Words.{Count, area_at, end_of, tally_in, seen_in}
-use Rattle.tree_words.specs.Blocks.{words_of, one_if}
+use Rattle.tree_words.specs.Blocks.{block_size, one_if}
 use Rattle.tree_words.specs.Paths.{NodeState, root_state, state_after, mover_at}
 use Rattle.tree_words.specs.Complete.{allowed_cells}
 use Rattle.tree_words.specs.Walks.{nothing, Tree, node, Game, fresh, walks}
@@ -50,7 +50,7 @@ glimpse_of o p cell = if has (stones_of o.full p.player) cell then one (is_same 
 
 -- the number of words of a block below this spot
 abbrev pub size_below : NodeState → ℕ
-size_below p = words_of (length (empties_of p.board))
+size_below p = block_size (length (empties_of p.board))
 
 -- a leaf asks for a block where it has T visits, its board has an empty cell, and `next` is at most the area's end
 abbrev pub asks : Setting → ℕ → Count → NodeState → Bool
@@ -69,8 +69,8 @@ unfoldable pub chosen_of : Setting → Count → List (Count × Count) → ℕ
 chosen_of s v children = choice_of v.visits s.knobs.weight (map child_of children)
 
 -- the search of Hex
-abbrev pub game_of : Setting → Game NodeState Ending
-game_of s = record {
+abbrev pub search_game : Setting → Game NodeState Ending
+search_game s = record {
   choose = chosen_of s;
   next = state_after;
   play = outcome_of s;
@@ -83,8 +83,8 @@ game_of s = record {
 
 -- the first tree: the root without counts, with one child for each allowed cell; and `next`, the end of the root's block
 abbrev pub first_tree : Setting → Tree × ℕ
-first_tree s = (node 0 nothing nothing (fresh (allowed_cells s)), area_at s + words_of (length (allowed_cells s)))
+first_tree s = (node 0 nothing nothing (fresh (allowed_cells s)), area_at s + block_size (length (allowed_cells s)))
 
 -- Seq: the tree and `next` after all playouts
 abbrev pub seq_of : Setting → Tree × ℕ
-seq_of s = walks (game_of s) (root_state s) (first_tree s) s.knobs.playouts
+seq_of s = walks (search_game s) (root_state s) (first_tree s) s.knobs.playouts

@@ -4,7 +4,7 @@ use Rattle.play_out.specs.Fills.{empties_of}
 use Rattle.tree_words.specs.Settings.{Setting}
 use Rattle.tree_words.specs.Words.{root_at, link_in}
 use Rattle.tree_words.specs.Blocks.{LinkedBlock, In, is_node}
-use Rattle.tree_words.specs.Paths.{board_of, node_state}
+use Rattle.tree_words.specs.Paths.{node_board, node_state}
 use Rattle.tree_words.specs.Complete.{Linked, cells_below, set_of}
 
 -- the told block: the block below the node x of the known blocks, newest first, that begins at b
@@ -12,7 +12,7 @@ abbrev pub told_block : Setting → List LinkedBlock → ℕ → ℕ → LinkedB
 told_block s known x b = record {
   start = b;
   parent = x;
-  empties = set_of (empties_of (board_of s known x));
+  empties = set_of (empties_of (node_board s known x));
   cells = cells_below s known x;
 }
 

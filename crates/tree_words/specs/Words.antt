@@ -39,8 +39,8 @@ abbrev pub winner_in : ℕ → Colour
 winner_in n = if n % RECORD_UNIT == 0 then Black else White
 
 -- a move word is 256 times the place and the cell
-abbrev pub move_of : ℕ → ℕ → ℕ
-move_of place cell = PLACE_UNIT * place + cell
+abbrev pub move_word : ℕ → ℕ → ℕ
+move_word place cell = PLACE_UNIT * place + cell
 
 abbrev pub cell_in : ℕ → ℕ
 cell_in move = move % PLACE_UNIT

@@ -1,9 +1,9 @@
 use Rattle.std.proofs.Common.{◌≡◌, ◌+◌, ◌*◌, ◌<◌, drop, slice_index, sym, ap, subst, ◌∙◌, refl, arith}
 use Rattle.seq_search.specs.Descending.{steps_in}
 use Rattle.tree_words.specs.Words.{cell_in}
-use Rattle.seq_search.specs.Adding.{node_of}
+use Rattle.seq_search.specs.Adding.{node_at}
 use Rattle.seq_search.proofs.Paces.{gained-is, pace-short, adds-begin, pace-fits, pace-room, may-see, pace, pace-last, step-left, none-left}
-use Rattle.tree_words.proofs.EmptyLaws.{few-cells}
+use Rattle.hex_cells.proofs.Tables.{square_small}
 use Rattle.seq_search.proofs.adding.count.Goals as goal
 
 pub down-init : goal.down-init
@@ -49,7 +49,7 @@ see-requires-clause-cells c =
     let cons = step-left c.args.shape.now c.args.words.now c.args.walk.now c.requires.walked c.down.i c.down-test.true in
     let may = may-see c.args.shape.now c.args.words.now c.args.walk.now c.args.ending.now c.down.words c.down.node c.down.player (drop c.down.i (steps_in c.args.walk.now)) c.board-board.ensures.setting c.down.invariant
     _ _ cons c.gain.new.words (gained-is c.down.words c.gain.new.words c.down.node c.amount.result c.args.ending.now.winner c.down.player c.other.result c.gain.ensures c.amount.ensures c.other.ensures) c.requires.walked c.amount-in-down.result _ c.amount-in-down.ensures in
-    let most = few-cells c.args.shape.now.board.size c.board-board.ensures.setting.position.most in
+    let most = square_small c.args.shape.now.board.size c.board-board.ensures.setting.position.most in
     λ j l. omega (arith, may.cells j l, most)
 
 pub see-requires-clause-small : goal.see-requires-clause-small
