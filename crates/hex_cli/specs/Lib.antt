@@ -3,6 +3,5 @@ pub mod Supply
 pub mod Stocks
 pub mod Sessions
 pub mod Outcome
-pub mod Errors
 pub mod Runs
 pub mod Determined

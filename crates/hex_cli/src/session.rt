@@ -11,10 +11,9 @@ ghost use Rattle.hex_cli.specs.Stocks.{Responds, Lacks, Spends};
 ghost use Rattle.hex_cli.specs.Sessions.{Does, DoesSome};
 
 use crate::answering::{line_of, respond};
-use crate::giving::give;
 use hex_cells::Size;
 use hex_engine::{Engine, EngineError, Memory, Options};
-use hex_io::{Link, Shelf};
+use hex_io::{Link, Shelf, give};
 use hex_plan::Archive;
 use htp_line::{Splitter, What};
 use std::alloc::Global;

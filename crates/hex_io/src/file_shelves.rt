@@ -46,6 +46,7 @@ impl Shelf for MemShelf {
     fn fetch(&mut self, alloc: Global, name: &str) -> Result<Option<Vec<u8>>, ShelfError>
         ensures told { Fetches (Some self.old.told) (Some self.new.told) name.now (says (λ file. file.items) result) }
         ensures cause { result ≡ Err ShelfError.Fault → Rose self.old.faults self.new.faults }
+        ensures kept { result ≢ Err ShelfError.Fault → self.new.faults ≡ self.old.faults }
         ensures later { self.old.faults ≤ self.new.faults }
         ensures fails { result ≢ Err ShelfError.Memory → (result ≡ Err ShelfError.Fault) ↔ NextIsBad self.old }
         ensures rest { self.new ≡ record self.old { told = self.new.told; faults = faults_after self.old.faults (says (λ file. file.items) result) } }
