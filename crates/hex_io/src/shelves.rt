@@ -1,8 +1,8 @@
 //! The shelf: where a session fetches files from.
 
-ghost use Rattle.std.specs.Prelude.{◌≡◌, ◌≢◌, ◌≤◌, ℕ};
+ghost use Rattle.std.specs.Prelude.{◌≡◌, ℕ};
 ghost use Rattle.std.specs.declared.option.Option.{Option};
-ghost use Rattle.hex_io.specs.Causes.{Rose};
+ghost use Rattle.hex_io.specs.Causes.{CountsFault};
 ghost use Rattle.hex_io.specs.Shelves.{Shelved, Fetches, says};
 
 use std::alloc::{AllocError, Global};
@@ -53,7 +53,5 @@ pub trait Shelf {
     /// nothing changed.
     fn fetch(&mut self, alloc: Global, name: &str) -> Result<Option<Vec<u8>>, ShelfError>
         ensures told { Fetches (told self.old) (told self.new) name.now (says (λ file. file.items) result) }
-        ensures cause { result ≡ Err ShelfError.Fault → Rose (faults self.old) (faults self.new) }
-        ensures kept { result ≢ Err ShelfError.Fault → faults self.new ≡ faults self.old }
-        ensures later { faults self.old ≤ faults self.new };
+        ensures cause { CountsFault (faults self.old) (faults self.new) (result ≡ Err ShelfError.Fault) };
 }
