@@ -8,7 +8,7 @@ pub mod Reactions
 pub mod SupplyLaws
 pub mod StockLaws
 pub mod Advances
-pub mod Batches
+pub mod Feeding
 pub mod Conversations
 pub mod OneWorkerLoads
 pub mod OneWorkerMoves
