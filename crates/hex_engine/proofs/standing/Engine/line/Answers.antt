@@ -8,7 +8,7 @@ use Rattle.hex_engine.specs.declared.answers.Answer.TheVariants as answer
 use Rattle.hex_engine.specs.declared.answers.Fail.TheVariants.{ReadFault}
 use Rattle.hex_engine.specs.Replies.{Obeys, replied, loading, moving}
 use Rattle.hex_engine.proofs.Using.{uses_nothing, nothing_moved, unfetched, unknown_reply, known_reply, obeyed_load, obeyed_move, if_ok_both, if_is_ok, no_fault_counted}
-use Rattle.hex_engine.proofs.Calm.{never_at_fault, moves_at_no_fault, no_load}
+use Rattle.hex_engine.proofs.Calm.{never_at_fault, moves_at_no_fault}
 use Rattle.hex_engine.proofs.standing.Engine.line.Goals as goal
 
 pub returns-in_default-clause-reply : goal.returns-in_default-clause-reply
@@ -35,7 +35,7 @@ pub returns-in-Some-2-clause-read_fault : goal.returns-in-Some-2-clause-read_fau
 returns-in-Some-2-clause-read_fault g c = no_fault_counted _ _ (λ e.
     let obeys = subst (λ d. Obeys c.args.self.now c.in-Some.command c.as_slice-args.result.now d c.obey.new.self) c.in-Some-2.is c.in_ok-answer.ensures.ok in
     let same : c.in-Some-2.answer ≡ answer.Fail ReadFault = cc in
-    absurd (never_at_fault c.args.self.now nothing_left c.in-Some.command c.as_slice-args.result.now c.obey.new.self nothing_left (no_load c.in-Some.command obeys.0)
+    absurd (never_at_fault c.args.self.now nothing_left c.in-Some.command c.as_slice-args.result.now c.obey.new.self nothing_left obeys.0
     (obeys.1 nothing_left ∙ ap (λ a. Ok (record { reply = replied a; after = c.obey.new.self; left = nothing_left })) same)))
 
 pub returns-in_ok-load-in-None-clause-reply : goal.returns-in_ok-load-in-None-clause-reply
