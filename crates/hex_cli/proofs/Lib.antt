@@ -15,3 +15,4 @@ pub mod OneWorkerMoves
 pub mod OneWorker
 pub mod LegalMoves
 pub mod DeterminedLaws
+pub mod SearchedMoves

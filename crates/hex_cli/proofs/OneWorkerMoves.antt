@@ -159,22 +159,9 @@ moving_agree options at a b (Some colour) one h = by (may_move (board_of at.game
 
 obeyed_agree : (options : Options) (at : EngineState) (a b : Supply) (what : Command) (args : List (List ℕ)) → HasOneWorker options → Alike options a b → Agree options (obeyed at a what args) (obeyed at b what args)
 unfolding obeyed
-obeyed_agree options at a b command.BoardSize args one h = (refl, h)
-obeyed_agree options at a b command.ClearBoard args one h = (refl, h)
 obeyed_agree options at a b command.GenMove args one h = moving_agree options at a b (lone_colour args) one h
-obeyed_agree options at a b command.KnownCommand args one h = (refl, h)
-obeyed_agree options at a b command.ListCommands args one h = (refl, h)
 obeyed_agree options at a b command.LoadSgf args one h = loading_agree options at a b (file_named args) h
-obeyed_agree options at a b command.Name args one h = (refl, h)
-obeyed_agree options at a b command.Play args one h = (refl, h)
-obeyed_agree options at a b command.PrintSgf args one h = (refl, h)
-obeyed_agree options at a b command.ProtocolVersion args one h = (refl, h)
-obeyed_agree options at a b command.Quit args one h = (refl, h)
-obeyed_agree options at a b command.SearchReport args one h = (refl, h)
-obeyed_agree options at a b command.ShowBoard args one h = (refl, h)
-obeyed_agree options at a b command.Undo args one h = (refl, h)
-obeyed_agree options at a b command.Version args one h = (refl, h)
-obeyed_agree options at a b command.Winner args one h = (refl, h)
+obeyed_agree options at a b what args one h = (refl, h)
 
 by_agree : (options : Options) (at : EngineState) (a b : Supply) (what : Option Command) (args : List (List ℕ)) → HasOneWorker options → Alike options a b → Agree options (reaction_by at a what args) (reaction_by at b what args)
 by_agree options at a b None args one h = (refl, h)

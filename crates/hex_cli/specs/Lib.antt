@@ -5,3 +5,4 @@ pub mod Sessions
 pub mod Outcome
 pub mod Runs
 pub mod Determined
+pub mod Headline

@@ -10,6 +10,7 @@ ghost use Rattle.hexd_words.specs.declared.settings.Options.{Options};
 ghost use Rattle.hex_io.specs.Reported.{Reported};
 ghost use Rattle.hex_cli.specs.Outcome.{Conversed, since, status_of, error_line};
 ghost use Rattle.hex_cli.specs.Determined.{IsDetermined};
+ghost use Rattle.hex_cli.specs.Headline.{Headline};
 ghost use Rattle.hex_cli.specs.Runs.{AreRefused, Untouched, Unused, engine_options};
 ghost use Rattle.hex_cli.specs.declared.ends.End.{End};
 
@@ -67,6 +68,11 @@ pub fn run<L: Link, E: Link, F: Shelf, A: Archive>(
     ensures conversed { (options : Options) → WellFormed words.now options → (end : End) → result ≡ status_of end →
         Conversed end (engine_options options) options.size INPUT_LIMIT (F.told shelf.old, A.told archive.old)
         (F.told shelf.new, A.told archive.new) (L.told link.old) (L.told link.new) }
+
+    // Each searched move of a run that is done.
+    ensures headline { (options : Options) → WellFormed words.now options → result ≡ status_of End.Done →
+        Both (A.told archive.old) (A.told archive.new) (λ turns turns_now. Both (L.told link.old) (L.told link.new) (λ old new.
+        Headline (engine_options options) options.size turns turns_now old new)) }
 
     // With one worker the words, the bytes taken and the shelf determine what was given.
     ensures determined { (options : Options) → WellFormed words.now options → result ≡ status_of End.Done →

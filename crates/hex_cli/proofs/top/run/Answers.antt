@@ -7,6 +7,7 @@ use Rattle.hex_cli.specs.declared.ends.End.TheVariants.{Usage, Done, ReadFault, 
 use Rattle.hex_cli.specs.declared.top.TheConstants.{INPUT_LIMIT}
 use Rattle.hex_cli.proofs.RunLaws.{same_end, status_counts, complete_at, too_long_exactly}
 use Rattle.hex_cli.proofs.DeterminedLaws.{determined_at}
+use Rattle.hex_cli.proofs.SearchedMoves.{headline_at}
 use Rattle.std.proofs.Common.{subst}
 use Rattle.hex_cli.specs.Outcome.{Conversed, error_line, status_of}
 use Rattle.hex_cli.proofs.top.run.Goals as goal
@@ -46,3 +47,8 @@ returns-clause-write_fault g c = status_counts _ _ c.serve-end.result WriteFault
 
 pub returns-clause-archive_fault : goal.returns-clause-archive_fault
 returns-clause-archive_fault g c = status_counts _ _ c.serve-end.result ArchiveFault c.status.result c.status.ensures c.serve-end.ensures.archive_fault
+
+pub returns-clause-headline : goal.returns-clause-headline
+returns-clause-headline g c = λ options well_formed e.
+    let done = same_end c.serve-end.result Done (sym c.status.ensures ∙ e) in
+    headline_at (engine_options options) options.size INPUT_LIMIT _ _ _ _ _ _ (rw done at c.serve-end.ensures.conversed options well_formed)
