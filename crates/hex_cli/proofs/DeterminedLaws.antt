@@ -5,7 +5,7 @@ use Rattle.hex_io.specs.Told.{Told, Both}
 use Rattle.hex_io.specs.Shelves.{Shelved}
 use Rattle.hex_io.proofs.BothLaws.{Both-weaker}
 use Rattle.htp_line.specs.Lines.{lines}
-use Rattle.tree_words.specs.declared.settings.Knobs.{Knobs}
+use Rattle.hex_engine.specs.declared.options.Options.{Options}
 use Rattle.hex_plan.specs.Turns.{Decision}
 use Rattle.hex_engine.specs.EngineState.{opening}
 use Rattle.hex_engine.specs.Uses.{CameOf}
@@ -18,7 +18,7 @@ use Rattle.hex_cli.proofs.OneWorker.{through_told}
 same_end_of : (xs ys zs : List Bool) → xs ++ ys ≡ xs ++ zs → ys ≡ zs
 same_end_of xs ys zs e = sym (drop-append_seam xs ys) ∙ ap (drop (length xs)) e ∙ drop-append_seam xs zs
 
-pub determined_at : (options : Knobs) (size limit : ℕ) (a b : Option Shelved) (c d : Option (List Decision)) (x y : Option Told) → Conversed ending.Done options size limit (a, c) (b, d) x y
+pub determined_at : (options : Options) (size limit : ℕ) (a b : Option Shelved) (c d : Option (List Decision)) (x y : Option Told) → Conversed ending.Done options size limit (a, c) (b, d) x y
     → Both a b (λ s t. Both x y (λ o n. IsDetermined options size s t o n))
 determined_at options size limit a b c d x y k =
     Both-weaker a b _ _ (λ s t f. Both-weaker x y _ _ (λ o n p. λ one tries grew all came good through.

@@ -7,7 +7,7 @@ use Rattle.htp_line.specs.Lines.{lines}
 use Rattle.hex_engine.specs.EngineState.{EngineState}
 use Rattle.hex_engine.specs.Supply.{Supply, nothing_left}
 use Rattle.hex_cli.specs.Talk.{Said, Going, talk}
-use Rattle.hex_cli.specs.Sessions.{talk_to, Quits, AnswersAll, BrokeOff, GaveUp, HeldBack, AnsweredLast, BrokeOffLast, HasLast, LastIsShort}
+use Rattle.hex_cli.specs.Sessions.{talk_to, Quits, AnswersAll, BrokeOff, GaveUp, HeldBack, AnsweredLast, BrokeOffLast, StopsBeforeLast, LastIsShort}
 use Rattle.hex_cli.specs.Outcome.{Outcome}
 use Rattle.hex_cli.specs.declared.ends.End.{End}
 use Rattle.hex_cli.specs.declared.ends.End.TheVariants as ending
@@ -52,13 +52,13 @@ feed_unwritten start all limit a b c seen piece few k r =
     let said : (talk_to start all (seen ++ front)).text ≡ ((talk_to start all seen).text ++ part.0) ++ part.1 = r.gave.5 ∙ ap (λ l. (talk_to start all seen).text ++ l) part.2 ∙ sym (append_assoc (talk_to start all seen).text part.0 part.1) in
     Both-weaker a c _ _ (λ x y p. end_unwritten start all limit x y (seen ++ front) others _ part.1 (rw (← split) few) p said) grown
 
-pub feed_unfinished : (start : EngineState) (all : Supply) (limit : ℕ) (a b c : Option Told) (seen piece : List ℕ) → length (seen ++ piece) ≤ limit → Kept start all a b (seen ++ piece) (talk_to start all seen).text → GaveUp b c start all seen piece
+pub feed_unfinished : (start : EngineState) (all : Supply) (limit : ℕ) (a b c : Option Told) (seen piece : List ℕ) → length (seen ++ piece) ≤ limit → Kept start all a b (seen ++ piece) (talk_to start all seen).text → GaveUp b c start all nothing_left seen piece
     → EndsBy ending.Memory start all limit a c
 feed_unfinished start all limit a b c seen piece few k r =
     let front = r.gave.0 in let others = r.gave.1 in let bytes = r.gave.2 in
     let split : seen ++ piece ≡ (seen ++ front) ++ others = ap (λ l. seen ++ l) r.gave.3 ∙ sym (append_assoc seen front others) in
     let grown : Kept start all a c ((seen ++ front) ++ others) ((talk_to start all seen).text ++ bytes) = rw (← split) (kept_giving start all a b c (seen ++ piece) (talk_to start all seen).text bytes k r.gave.4) in
-    Both-weaker a c _ _ (λ x y p. end_unfinished start all limit x y (seen ++ front) others _ (rw (← split) few) p r.gave.5 r.gave.6 r.gave.7) grown
+    Both-weaker a c _ _ (λ x y p. end_unfinished start all limit x y (seen ++ front) others _ (rw (← split) few) p r.gave.5 r.gave.6 (sym r.gave.7.left) r.gave.7.line) grown
 
 pub read_overlong : (start : EngineState) (all : Supply) (limit : ℕ) (a b : Option Told) (seen piece : List ℕ) → length seen ≡ limit → length piece ≡ 1 → Kept start all a b (seen ++ piece) (talk_to start all seen).text → (talk_to start all seen).ending ≡ Going
     → nothing_left ≡ (talk_to start all seen).left → EndsBy ending.TooLong start all limit a b
@@ -88,9 +88,9 @@ finish_unwritten start all limit a b c d seen buf few k going t r =
     Both-weaker a d _ _ (λ x y p. end_unwritten_last start all limit x y seen _ part.1 few p said) grown
 
 pub finish_unfinished : (start : EngineState) (all : Supply) (limit : ℕ) (a b c d : Option Told) (seen buf : List ℕ) → length seen ≤ limit → Kept start all a b seen (talk_to start all seen).text → (talk_to start all seen).ending ≡ Going → Both b c (λ o t. Takes o t 0 buf)
-    → Same c d → HasLast seen → EndsBy ending.Memory start all limit a d
+    → Same c d → StopsBeforeLast start all nothing_left seen → EndsBy ending.Memory start all limit a d
 finish_unfinished start all limit a b c d seen buf few k going t same last =
-    Both-weaker a d _ _ (λ x y p. end_unfinished_last start all limit x y seen _ few p refl going last) (kept_same start all a c d seen _ (at_end start all a b c seen buf k going t) same)
+    Both-weaker a d _ _ (λ x y p. end_unfinished_last start all limit x y seen _ few p refl going (sym last.left) last.line) (kept_same start all a c d seen _ (at_end start all a b c seen buf k going t) same)
 
 -- a turn is wanted
 pub feed_held_back : (start : EngineState) (all : Supply) (limit : ℕ) (a b c : Option Told) (seen piece : List ℕ) → length (seen ++ piece) ≤ limit → Kept start all a b (seen ++ piece) (talk_to start all seen).text
@@ -108,5 +108,5 @@ finish_held_back start all limit a b c d seen buf few k going t same last =
     Both-weaker a d _ _ (λ x y p. end_unarchived start all limit x y seen _ few p short.0 short.1) (kept_same start all a c d seen _ (at_end start all a b c seen buf k going t) same)
 
 -- memory ran out before the first read
-pub unbegun : (start : EngineState) (all : Supply) (limit : ℕ) (a : Option Told) → EndsBy ending.Memory start all limit a a
-unbegun start all limit a = Both-refl a (Outcome ending.Memory start all limit) (end_unbegun start all limit)
+pub unbegun : (start : EngineState) (limit : ℕ) (a : Option Told) → EndsBy ending.Memory start nothing_left limit a a
+unbegun start limit a = Both-refl a (Outcome ending.Memory start nothing_left limit) (end_unbegun start limit)

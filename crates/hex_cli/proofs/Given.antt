@@ -1,16 +1,13 @@
 -- What is given for one piece after another.
-use Rattle.std.proofs.Common.{◌≡◌, ℕ, List, [], ◌++◌, Option, ap, sym, ◌∙◌, subst, append-nil, append_assoc, take, drop}
+use Rattle.std.proofs.Common.{◌≡◌, ℕ, List, [], ◌++◌, Option, refl, ap, sym, ◌∙◌, subst, append-nil, append_assoc, take, drop}
 use Rattle.std.proofs.lemmas.List.{take-append-drop}
 use Rattle.hex_io.specs.Told.{Told}
 use Rattle.hex_io.specs.Grew.{Gave, GavePart}
 use Rattle.hex_io.proofs.GaveLaws.{Gave-then, Gave-nothing}
-use Rattle.htp_line.specs.Splitting.{Held}
 use Rattle.hex_engine.specs.EngineState.{EngineState}
 use Rattle.hex_engine.specs.Supply.{Supply}
-use Rattle.hex_cli.specs.Talk.{Said, AfterQuit}
-use Rattle.hex_cli.specs.Sessions.{talk_to, Quits, Answers, AnswersAll, WantsTurn, BrokeOff, GaveUp, HeldBack, Collects}
-use Rattle.hex_cli.specs.declared.session.Pause.{Pause}
-use Rattle.hex_cli.specs.declared.session.Pause.TheVariants.{Memory, Archive}
+use Rattle.hex_cli.specs.Talk.{Said, Going, AfterQuit}
+use Rattle.hex_cli.specs.Sessions.{talk_to, Quits, Answers, AnswersAll, AnswersShort, StopsBefore, BrokeOff, GaveUp, HeldBack}
 use Rattle.hex_cli.proofs.TalkLaws.{talk_to_quit}
 
 pub answers_then : (start : EngineState) (all : Supply) (seen m n xs ys : List ℕ) → Answers start all xs seen m → Answers start all ys (seen ++ m) n → Answers start all (xs ++ ys) seen (m ++ n)
@@ -36,8 +33,8 @@ BrokeOff-then a b c start all seen m n p r =
       );
     }
 
-pub GaveUp-then : (a b c : Option Told) (start : EngineState) (all : Supply) (seen m n : List ℕ) → AnswersAll a b start all seen m → GaveUp b c start all (seen ++ m) n → GaveUp a c start all seen (m ++ n)
-GaveUp-then a b c start all seen m n p r =
+pub GaveUp-then : (a b c : Option Told) (start : EngineState) (all later : Supply) (seen m n : List ℕ) → AnswersAll a b start all seen m → GaveUp b c start all later (seen ++ m) n → GaveUp a c start all later seen (m ++ n)
+GaveUp-then a b c start all later seen m n p r =
     let front = r.gave.0 in let others = r.gave.1 in let ys = r.gave.2 in
     record {
       gave = (
@@ -81,33 +78,20 @@ HeldBack-then a b c start all later seen m n p r = record {
   );
 }
 
--- ---- what was gathered was given
+-- ---- one line more
 
-pub batch_answers : (a b : Option Told) (pause : Pause) (start : EngineState) (all later : Supply) (engine : EngineState) (held : Held) (out seen : List ℕ) (used : ℕ) (piece : List ℕ)
-    → Collects pause start all later engine held out seen used piece → Gave a b out → AnswersAll a b start all seen (take used piece)
-batch_answers a b pause start all later engine held out seen used piece batch gave = record { gave = (out, gave, batch.answers) }
+-- a front of the answer to the first bytes was given
+pub line_broke_off : (a b : Option Told) (start : EngineState) (all : Supply) (out seen : List ℕ) (n : ℕ) (piece : List ℕ) → Answers start all out seen (take n piece) → GavePart a b out → BrokeOff a b start all seen piece
+line_broke_off a b start all out seen n piece answers part = record { gave = (take n piece, drop n piece, out, sym (take-append-drop n piece), part, answers) }
 
-pub batch_broke_off : (a b : Option Told) (pause : Pause) (start : EngineState) (all later : Supply) (engine : EngineState) (held : Held) (out seen : List ℕ) (used : ℕ) (piece : List ℕ)
-    → Collects pause start all later engine held out seen used piece → GavePart a b out → BrokeOff a b start all seen piece
-batch_broke_off a b pause start all later engine held out seen used piece batch part = record { gave = (take used piece, drop used piece, out, sym (take-append-drop used piece), part, batch.answers) }
+-- nothing more was asked of what was answered
+answers_nothing : (start : EngineState) (all : Supply) (seen : List ℕ) → Answers start all [] seen []
+answers_nothing start all seen = ap (λ l. (talk_to start all l).text) (append-nil seen) ∙ sym (append-nil (talk_to start all seen).text)
 
-pub batch_gave_up : (a b : Option Told) (start : EngineState) (all later : Supply) (engine : EngineState) (held : Held) (out seen : List ℕ) (used : ℕ) (piece : List ℕ)
-    → Collects Memory start all later engine held out seen used piece → Gave a b out → GaveUp a b start all seen piece
-batch_gave_up a b start all later engine held out seen used piece batch gave =
-    record { gave = (take used piece, drop used piece, out, sym (take-append-drop used piece), gave, batch.answers, batch.paused.0, batch.paused.1) }
+pub gave_up_at_once : (a : Option Told) (start : EngineState) (all later : Supply) (seen piece : List ℕ) → (talk_to start all seen).ending ≡ Going → StopsBefore start all later seen piece → GaveUp a a start all later seen piece
+gave_up_at_once a start all later seen piece going stops =
+    let same : seen ++ [] ≡ seen = append-nil seen in
+    record { gave = ([], piece, [], refl, Gave-nothing a, answers_nothing start all seen, ap (λ l. (talk_to start all l).ending) same ∙ going, rw same stops) }
 
-pub batch_held_back : (a b : Option Told) (start : EngineState) (all later : Supply) (engine : EngineState) (held : Held) (out seen : List ℕ) (used : ℕ) (piece : List ℕ)
-    → Collects Archive start all later engine held out seen used piece → Gave a b out → HeldBack a b start all later seen piece
-batch_held_back a b start all later engine held out seen used piece batch gave = record {
-  gave = (
-    out,
-    gave,
-    λ none.
-        let short = batch.paused none in
-        let parts = take-append-drop used piece in
-        let same : (seen ++ take used piece) ++ drop used piece ≡ seen ++ piece = append_assoc seen (take used piece) (drop used piece) ∙ ap (λ l. seen ++ l) parts in (
-          ap (λ l. (talk_to start all l).text) (sym same) ∙ short.0 ∙ append-nil (talk_to start all (seen ++ take used piece)).text ∙ batch.answers,
-          subst (λ l. WantsTurn (talk_to start all l)) same short.1,
-        ),
-  );
-}
+pub held_back_at_once : (a : Option Told) (start : EngineState) (all later : Supply) (seen piece : List ℕ) → AnswersShort start all later [] seen piece → HeldBack a a start all later seen piece
+held_back_at_once a start all later seen piece short = record { gave = ([], Gave-nothing a, short) }

@@ -8,10 +8,11 @@ pub mod Reactions
 pub mod SupplyLaws
 pub mod StockLaws
 pub mod Advances
-pub mod Batches
+pub mod Feeding
 pub mod Conversations
 pub mod OneWorkerLoads
 pub mod OneWorkerMoves
 pub mod OneWorker
 pub mod LegalMoves
 pub mod DeterminedLaws
+pub mod SearchedMoves

@@ -3,10 +3,10 @@ use Rattle.std.proofs.Common.{◌≡◌, ℕ, Bool, true, false, cond, List, [],
 use Rattle.hex_io.specs.declared.files.File.{File}
 use Rattle.htp_line.specs.Reading.{Reading, Blank, Bare, Ask, reading}
 use Rattle.htp_line.specs.Splitting.{kept}
-use Rattle.tree_words.specs.declared.settings.Knobs.{Knobs}
+use Rattle.hex_engine.specs.declared.options.Options.{Options}
 use Rattle.hex_engine.specs.Supply.{Supply}
 use Rattle.hex_engine.specs.EngineState.{EngineState}
-use Rattle.hex_engine.specs.Uses.{AreGood, CameOf}
+use Rattle.hex_engine.specs.Uses.{AreGood, CameOf, HasOneWorker}
 use Rattle.hex_engine.specs.Replies.{Turned, Missing, reaction}
 use Rattle.hex_cli.specs.Talk.{Said, IsAnswered, IsThrough, goes_on, said_turned, said_reading, said, with_said, step, silence, talk}
 use Rattle.hex_cli.proofs.OneWorkerLoads.{SameLoads, equal_loads, told_loads}
@@ -14,23 +14,23 @@ use Rattle.hex_cli.proofs.OneWorkerMoves.{Alike, Agree, reactions_agree}
 use Rattle.hex_cli.proofs.TalkLaws.{step-stays}
 
 -- the same is said, and the same stands then, but for what is left
-record SaysSame (options : Knobs) (a b : Said) : Type 0 where
+record SaysSame (options : Options) (a b : Said) : Type 0 where
   is : b ≡ record a { left = b.left }
   left : Alike options a.left b.left
 
-turned_same : (options : Knobs) (at : EngineState) (a b : Supply) (id : Option ℕ) (r s : Result Turned Missing) → Agree options r s → IsAnswered (said_turned at a id r) → IsAnswered (said_turned at b id s)
+turned_same : (options : Options) (at : EngineState) (a b : Supply) (id : Option ℕ) (r s : Result Turned Missing) → Agree options r s → IsAnswered (said_turned at a id r) → IsAnswered (said_turned at b id s)
     → SaysSame options (said_turned at a id r) (said_turned at b id s)
 turned_same options at a b id (Err missing) s h p q = absurd (p missing refl)
 turned_same options at a b id (Ok t) (Err missing) h p q = absurd (q missing refl)
 turned_same options at a b id (Ok t) (Ok u) h p q = record { is = ap (λ (v : Turned). said_turned at b id (Ok v)) h.0; left = h.1 }
 
-reading_same : (options : Knobs) (at : EngineState) (a b : Supply) (line : Reading) → options.workers ≡ 1 → Alike options a b → IsAnswered (said_reading at a line) → IsAnswered (said_reading at b line)
+reading_same : (options : Options) (at : EngineState) (a b : Supply) (line : Reading) → HasOneWorker options → Alike options a b → IsAnswered (said_reading at a line) → IsAnswered (said_reading at b line)
     → SaysSame options (said_reading at a line) (said_reading at b line)
 reading_same options at a b Blank one h p q = record { is = refl; left = h }
 reading_same options at a b (Bare id) one h p q = record { is = refl; left = h }
 reading_same options at a b (Ask asked) one h p q = turned_same options at a b asked.id (reaction at a asked) (reaction at b asked) (reactions_agree options at a b asked one h) p q
 
-said_same : (options : Knobs) (at : EngineState) (a b : Supply) (line : Option (List ℕ)) → options.workers ≡ 1 → Alike options a b → IsAnswered (said at a line) → IsAnswered (said at b line)
+said_same : (options : Options) (at : EngineState) (a b : Supply) (line : Option (List ℕ)) → HasOneWorker options → Alike options a b → IsAnswered (said at a line) → IsAnswered (said at b line)
     → SaysSame options (said at a line) (said at b line)
 said_same options at a b None one h p q = record { is = refl; left = h }
 said_same options at a b (Some raw) one h p q = reading_same options at a b (reading raw) one h p q
@@ -39,7 +39,7 @@ said_same options at a b (Some raw) one h p q = reading_same options at a b (rea
 abbrev with_left : Said → Supply → Said
 with_left s left = record s { left = left }
 
-step_same : (options : Knobs) (s : Said) (b : Supply) (raw : List ℕ) → options.workers ≡ 1 → Alike options s.left b → IsAnswered (step s raw) → IsAnswered (step (with_left s b) raw)
+step_same : (options : Options) (s : Said) (b : Supply) (raw : List ℕ) → HasOneWorker options → Alike options s.left b → IsAnswered (step s raw) → IsAnswered (step (with_left s b) raw)
     → SaysSame options (step s raw) (step (with_left s b) raw)
 unfolding step
 step_same options s b raw one h = by (goes_on s.ending) (kept raw)
@@ -56,7 +56,7 @@ answered_before : (s : Said) (lines : List (List ℕ)) → IsAnswered (fold step
 answered_before s [] p = p
 answered_before s (raw ∷ lines) p = λ missing e. answered_before (step s raw) lines p missing (ap (λ (z : Said). z.ending) (step-stays s raw (ap goes_on e)) ∙ e)
 
-lines_same : (options : Knobs) (s : Said) (b : Supply) (lines : List (List ℕ)) → options.workers ≡ 1 → Alike options s.left b → IsAnswered (fold step s lines) → IsAnswered (fold step (with_left s b) lines)
+lines_same : (options : Options) (s : Said) (b : Supply) (lines : List (List ℕ)) → HasOneWorker options → Alike options s.left b → IsAnswered (fold step s lines) → IsAnswered (fold step (with_left s b) lines)
     → SaysSame options (fold step s lines) (fold step (with_left s b) lines)
 lines_same options s b [] one h p q = record { is = refl; left = h }
 lines_same options s b (raw ∷ lines) one h p q =
@@ -65,12 +65,12 @@ lines_same options s b (raw ∷ lines) one h p q =
     subst (λ (z : Said). SaysSame options (fold step (step s raw) lines) (fold step z lines)) (sym same.is)
     (lines_same options (step s raw) next.left lines one same.left p (subst (λ (z : Said). IsAnswered (fold step z lines)) same.is q))
 
-talk_same : (start : EngineState) (one other : Supply) (lines : List (List ℕ)) → start.options.workers ≡ 1 → SameLoads one.loads other.loads → AreGood start.options one.turns → AreGood start.options other.turns
+talk_same : (start : EngineState) (one other : Supply) (lines : List (List ℕ)) → HasOneWorker start.options → SameLoads one.loads other.loads → AreGood start.options one.turns → AreGood start.options other.turns
     → IsAnswered (talk start one lines) → IsAnswered (talk start other lines) → SaysSame start.options (talk start one lines) (talk start other lines)
 talk_same start one other lines worker e g h p q = lines_same start.options (silence start one) other lines worker (record { loads = e; good = g; other = h }) p q
 
 -- with one worker two answered talks are the same but for what is left
-answered_same : (start : EngineState) → start.options.workers ≡ 1 → (one other : Supply) → SameLoads one.loads other.loads → AreGood start.options one.turns → AreGood start.options other.turns → (lines : List (List ℕ))
+answered_same : (start : EngineState) → HasOneWorker start.options → (one other : Supply) → SameLoads one.loads other.loads → AreGood start.options one.turns → AreGood start.options other.turns → (lines : List (List ℕ))
     → IsAnswered (talk start one lines) → IsAnswered (talk start other lines) → ((talk start one lines).text ≡ (talk start other lines).text) × ((talk start one lines).at ≡ (talk start other lines).at)
 answered_same start worker one other e g h lines p q =
     let same = talk_same start one other lines worker e g h p q in (
@@ -79,7 +79,7 @@ answered_same start worker one other e g h lines p q =
     )
 
 -- with one worker two talks that are through are the same
-through_same : (start : EngineState) → start.options.workers ≡ 1 → (one other : Supply) → SameLoads one.loads other.loads → AreGood start.options one.turns → AreGood start.options other.turns → (lines : List (List ℕ))
+through_same : (start : EngineState) → HasOneWorker start.options → (one other : Supply) → SameLoads one.loads other.loads → AreGood start.options one.turns → AreGood start.options other.turns → (lines : List (List ℕ))
     → IsThrough (talk start one lines) → IsThrough (talk start other lines) → talk start one lines ≡ talk start other lines
 through_same start worker one other e g h lines p q =
     let same = talk_same start one other lines worker e g h p.answered q.answered in
@@ -87,22 +87,22 @@ through_same start worker one other e g h lines p q =
 
 -- ---- where the loads of both are equal
 
-pub answered_equal : (start : EngineState) → start.options.workers ≡ 1 → (one other : Supply) → one.loads ≡ other.loads → AreGood start.options one.turns → AreGood start.options other.turns → (lines : List (List ℕ))
+pub answered_equal : (start : EngineState) → HasOneWorker start.options → (one other : Supply) → one.loads ≡ other.loads → AreGood start.options one.turns → AreGood start.options other.turns → (lines : List (List ℕ))
     → IsAnswered (talk start one lines) → IsAnswered (talk start other lines) → ((talk start one lines).text ≡ (talk start other lines).text) × ((talk start one lines).at ≡ (talk start other lines).at)
 answered_equal start worker one other e = answered_same start worker one other (equal_loads one.loads other.loads e)
 
-pub through_equal : (start : EngineState) → start.options.workers ≡ 1 → (one other : Supply) → one.loads ≡ other.loads → AreGood start.options one.turns → AreGood start.options other.turns → (lines : List (List ℕ))
+pub through_equal : (start : EngineState) → HasOneWorker start.options → (one other : Supply) → one.loads ≡ other.loads → AreGood start.options one.turns → AreGood start.options other.turns → (lines : List (List ℕ))
     → IsThrough (talk start one lines) → IsThrough (talk start other lines) → talk start one lines ≡ talk start other lines
 through_equal start worker one other e = through_same start worker one other (equal_loads one.loads other.loads e)
 
 -- ---- where the loads of both came of the same files and faults
 
-pub answered_told : (start : EngineState) → start.options.workers ≡ 1 → (files : List File) → (tries : List Bool) → (one other : Supply) → CameOf files tries one.loads → CameOf files tries other.loads
+pub answered_told : (start : EngineState) → HasOneWorker start.options → (files : List File) → (tries : List Bool) → (one other : Supply) → CameOf files tries one.loads → CameOf files tries other.loads
     → AreGood start.options one.turns → AreGood start.options other.turns → (lines : List (List ℕ)) → IsAnswered (talk start one lines) → IsAnswered (talk start other lines)
     → ((talk start one lines).text ≡ (talk start other lines).text) × ((talk start one lines).at ≡ (talk start other lines).at)
 answered_told start worker files tries one other c d = answered_same start worker one other (told_loads files tries one.loads other.loads c d)
 
-pub through_told : (start : EngineState) → start.options.workers ≡ 1 → (files : List File) → (tries : List Bool) → (one other : Supply) → CameOf files tries one.loads → CameOf files tries other.loads
+pub through_told : (start : EngineState) → HasOneWorker start.options → (files : List File) → (tries : List Bool) → (one other : Supply) → CameOf files tries one.loads → CameOf files tries other.loads
     → AreGood start.options one.turns → AreGood start.options other.turns → (lines : List (List ℕ)) → IsThrough (talk start one lines) → IsThrough (talk start other lines)
     → talk start one lines ≡ talk start other lines
 through_told start worker files tries one other c d = through_same start worker one other (told_loads files tries one.loads other.loads c d)

@@ -1,74 +1,27 @@
--- What an answered request keeps, and that it does not depend on what is left after it.
-use Rattle.std.proofs.Common.{◌≡◌, ℕ, Bool, true, false, cond, List, [], ◌∷◌, ◌++◌, Option, Some, None, Result, Ok, Err, refl}
+-- What an answered request keeps, that it does not depend on what is left after it, and whether it takes a turn.
+use Rattle.std.proofs.Common.{◌≡◌, ℕ, Bool, true, false, cond, List, [], ◌∷◌, ◌++◌, Option, Some, None, Result, Ok, Err, ◌⊎◌, inl, inr, refl, sym, subst}
 use Rattle.std.specs.Str.{bytes_eq}
 use Rattle.htp_line.specs.Reading.{Asked}
 use Rattle.hex_cells.specs.declared.colours.Colour.{Colour}
-use Rattle.hex_game.specs.Games.{board_of, is_legal}
-use Rattle.hex_game.specs.Moves.{step_of}
-use Rattle.hex_game.specs.declared.moves.Step.{Step}
+use Rattle.hex_game.specs.Games.{board_of}
 use Rattle.hex_plan.specs.Turns.{Decision}
 use Rattle.hex_plan.specs.Openings.{may_move}
 use Rattle.hex_engine.specs.Commands.{command_named}
-use Rattle.hex_engine.specs.Forms.{colour_of, move_of, sizes_of}
 use Rattle.hex_engine.specs.EngineState.{EngineState}
 use Rattle.hex_engine.specs.Supply.{Supply, Load, Loaded, Unread, Refused, Loads, and_then}
-use Rattle.hex_engine.specs.Replies.{Reaction, Turned, Missing, if_bare, is_size, resized, played, played_by, playing, undone, knowing, reporting, loaded, file_named, loading_next, loading_by, is_next, moving_next, moving_by, lone_colour, obeyed, reaction_by, reaction}
+use Rattle.hex_engine.specs.Replies.{Turned, Missing, turned, loaded, file_named, loading_next, loading_by, is_next, moving_next, moving_by, lone_colour, obeyed, reaction_by, reaction}
 use Rattle.hex_engine.specs.declared.commands.Command.{Command}
 use Rattle.hex_engine.specs.declared.commands.Command.TheVariants as command
-use Rattle.hex_engine.specs.declared.forms.MoveWord.{MoveWord}
-use Rattle.hex_engine.specs.declared.forms.MoveWord.TheVariants.{Formless, OffBoard, Says}
+use Rattle.hex_engine.proofs.Calm.{QuietReaction, obeyed_quietly}
 
 -- ---- the options
-
-abbrev Keeps : EngineState → Reaction → Type 0
-Keeps at r = r.after.options ≡ at.options
 
 -- the options are kept, where there is an answer
 abbrev pub KeepsOptions : EngineState → Result Turned Missing → Type 0
 KeepsOptions at (Ok t) = t.after.options ≡ at.options
 KeepsOptions at (Err missing) = Unit {0}
 
-if_keeps : (b : Bool) (at : EngineState) (r s : Reaction) → Keeps at r → Keeps at s → Keeps at (cond b r s)
-if_keeps true at r s p q = p
-if_keeps false at r s p q = q
-
-bare_keeps : (at : EngineState) (args : List (List ℕ)) (r : Reaction) → Keeps at r → Keeps at (if_bare at args r)
-bare_keeps at [] r keeps = keeps
-bare_keeps at (word ∷ words) r keeps = refl
-
-resized_keeps : (at : EngineState) (sizes : Option (ℕ × ℕ)) → Keeps at (resized at sizes)
-resized_keeps at None = refl
-resized_keeps at (Some sizes) = if_keeps (is_size sizes.0 sizes.1) at _ _ refl refl
-
-played_keeps : (at : EngineState) (colour : Colour) (what : MoveWord) → Keeps at (played at colour what)
-played_keeps at colour Formless = refl
-played_keeps at colour OffBoard = refl
-played_keeps at colour (Says what) = if_keeps (is_legal at.game (step_of colour what)) at _ _ refl refl
-
-played_by_keeps : (at : EngineState) (colour : Option Colour) (what : MoveWord) → Keeps at (played_by at colour what)
-played_by_keeps at None what = refl
-played_by_keeps at (Some colour) what = played_keeps at colour what
-
-playing_keeps : (at : EngineState) (args : List (List ℕ)) → Keeps at (playing at args)
-playing_keeps at [] = refl
-playing_keeps at (colour ∷ []) = refl
-playing_keeps at (colour ∷ what ∷ []) = played_by_keeps at (colour_of colour) (move_of (board_of at.game).size what)
-playing_keeps at (colour ∷ what ∷ word ∷ words) = refl
-
-undone_keeps : (at : EngineState) (steps : List Step) → Keeps at (undone at steps)
-undone_keeps at [] = refl
-undone_keeps at (step ∷ steps) = refl
-
-knowing_keeps : (at : EngineState) (args : List (List ℕ)) → Keeps at (knowing at args)
-knowing_keeps at [] = refl
-knowing_keeps at (word ∷ []) = refl
-knowing_keeps at (word ∷ other ∷ words) = refl
-
-reporting_keeps : (at : EngineState) (report : Option (List ℕ)) → Keeps at (reporting at report)
-reporting_keeps at None = refl
-reporting_keeps at (Some text) = refl
-
-loaded_keeps : (at : EngineState) (what : Loaded) → Keeps at (loaded at what)
+loaded_keeps : (at : EngineState) (what : Loaded) → (loaded at what).after.options ≡ at.options
 loaded_keeps at Unread = refl
 loaded_keeps at Refused = refl
 loaded_keeps at (Loads game) = refl
@@ -94,24 +47,14 @@ moving_by_keeps : (at : EngineState) (left : Supply) (colour : Option Colour) �
 moving_by_keeps at left None = refl
 moving_by_keeps at left (Some colour) = either_keeps (may_move (board_of at.game)) at _ _ (moving_next_keeps at left left.turns colour) refl
 
+quiet_keeps : (at : EngineState) (left : Supply) (r : Result Turned Missing) → QuietReaction at left r → KeepsOptions at r
+quiet_keeps at left r q = subst (KeepsOptions at) (sym q.is) q.calm.options
+
 obeyed_keeps : (at : EngineState) (left : Supply) (what : Command) (args : List (List ℕ)) → KeepsOptions at (obeyed at left what args)
 unfolding obeyed
-obeyed_keeps at left command.BoardSize args = resized_keeps at (sizes_of args)
-obeyed_keeps at left command.ClearBoard args = bare_keeps at args _ refl
 obeyed_keeps at left command.GenMove args = moving_by_keeps at left (lone_colour args)
-obeyed_keeps at left command.KnownCommand args = knowing_keeps at args
-obeyed_keeps at left command.ListCommands args = bare_keeps at args _ refl
 obeyed_keeps at left command.LoadSgf args = loading_keeps at left (file_named args)
-obeyed_keeps at left command.Name args = bare_keeps at args _ refl
-obeyed_keeps at left command.Play args = playing_keeps at args
-obeyed_keeps at left command.PrintSgf args = bare_keeps at args _ refl
-obeyed_keeps at left command.ProtocolVersion args = bare_keeps at args _ refl
-obeyed_keeps at left command.Quit args = bare_keeps at args _ refl
-obeyed_keeps at left command.SearchReport args = bare_keeps at args _ (reporting_keeps at at.report)
-obeyed_keeps at left command.ShowBoard args = bare_keeps at args _ refl
-obeyed_keeps at left command.Undo args = bare_keeps at args _ (undone_keeps at at.game.steps)
-obeyed_keeps at left command.Version args = bare_keeps at args _ refl
-obeyed_keeps at left command.Winner args = bare_keeps at args _ refl
+obeyed_keeps at left what args = quiet_keeps at left _ (obeyed_quietly at left what args refl)
 
 by_keeps : (at : EngineState) (left : Supply) (what : Option Command) (args : List (List ℕ)) → KeepsOptions at (reaction_by at left what args)
 by_keeps at left None args = refl
@@ -158,22 +101,9 @@ moving_by_more at left more (Some colour) all = either_more (may_move (board_of 
 
 obeyed_more : (at : EngineState) (left more : Supply) (what : Command) (args : List (List ℕ)) → HasAll (obeyed at left what args) → obeyed at (and_then left more) what args ≡ leaving_more more (obeyed at left what args)
 unfolding obeyed
-obeyed_more at left more command.BoardSize args all = refl
-obeyed_more at left more command.ClearBoard args all = refl
 obeyed_more at left more command.GenMove args all = moving_by_more at left more (lone_colour args) all
-obeyed_more at left more command.KnownCommand args all = refl
-obeyed_more at left more command.ListCommands args all = refl
 obeyed_more at left more command.LoadSgf args all = loading_more at left more (file_named args) all
-obeyed_more at left more command.Name args all = refl
-obeyed_more at left more command.Play args all = refl
-obeyed_more at left more command.PrintSgf args all = refl
-obeyed_more at left more command.ProtocolVersion args all = refl
-obeyed_more at left more command.Quit args all = refl
-obeyed_more at left more command.SearchReport args all = refl
-obeyed_more at left more command.ShowBoard args all = refl
-obeyed_more at left more command.Undo args all = refl
-obeyed_more at left more command.Version args all = refl
-obeyed_more at left more command.Winner args all = refl
+obeyed_more at left more what args all = refl
 
 by_more : (at : EngineState) (left more : Supply) (what : Option Command) (args : List (List ℕ)) → HasAll (reaction_by at left what args) → reaction_by at (and_then left more) what args ≡ leaving_more more (reaction_by at left what args)
 by_more at left more None args all = refl
@@ -183,3 +113,62 @@ by_more at left more (Some what) args all = obeyed_more at left more what args a
 pub reaction_more : (at : EngineState) (left more : Supply) (asked : Asked) → HasAll (reaction at left asked) → reaction at (and_then left more) asked ≡ leaving_more more (reaction at left asked)
 unfolding reaction
 reaction_more at left more asked all = by_more at left more (command_named asked.name) asked.args all
+
+-- ---- whether it takes a turn
+
+-- the next turn was taken: it is the conversation's next of this colour, and its cell was played and answered
+pub record TakesTurn (at : EngineState) (left : Supply) (t : Turned) : Type 0 where
+  pub turn : Decision
+  pub colour : Colour
+  pub was : left.turns ≡ turn ∷ t.left.turns
+  pub next : is_next at colour turn ≡ true
+  pub after : t.after ≡ (turned at colour turn).after
+  pub reply : t.reply ≡ (turned at colour turn).reply
+
+-- where there is an answer, no turn was taken, or the next one
+abbrev pub MayTakeTurn : EngineState → Supply → Result Turned Missing → Type 0
+MayTakeTurn at left (Ok t) = ((t.left.turns ≡ left.turns) × (t.after.turns ≡ at.turns)) ⊎ TakesTurn at left t
+MayTakeTurn at left (Err missing) = Unit {0}
+
+loaded_turns : (at : EngineState) (what : Loaded) → (loaded at what).after.turns ≡ at.turns
+loaded_turns at Unread = refl
+loaded_turns at Refused = refl
+loaded_turns at (Loads game) = refl
+
+either_takes : (b : Bool) (at : EngineState) (left : Supply) (r s : Result Turned Missing) → (b ≡ true → MayTakeTurn at left r) → MayTakeTurn at left s → MayTakeTurn at left (cond b r s)
+either_takes true at left r s p q = p refl
+either_takes false at left r s p q = q
+
+loading_next_takes : (at : EngineState) (left : Supply) (loads : List Load) (name : List ℕ) → MayTakeTurn at left (loading_next at left loads name)
+loading_next_takes at left [] name = tt
+loading_next_takes at left (load ∷ loads) name = either_takes (bytes_eq load.name name) at left _ _ (λ e. inl (refl, loaded_turns at load.what)) tt
+
+loading_takes : (at : EngineState) (left : Supply) (name : Option (List ℕ)) → MayTakeTurn at left (loading_by at left name)
+loading_takes at left None = inl (refl, refl)
+loading_takes at left (Some name) = loading_next_takes at left left.loads name
+
+moving_next_takes : (at : EngineState) (left : Supply) (turns : List Decision) (colour : Colour) → left.turns ≡ turns → MayTakeTurn at left (moving_next at left turns colour)
+moving_next_takes at left [] colour was = tt
+moving_next_takes at left (turn ∷ turns) colour was =
+    either_takes (is_next at colour turn) at left _ _ (λ e. inr (record { turn = turn; colour = colour; was = was; next = e; after = refl; reply = refl })) tt
+
+moving_by_takes : (at : EngineState) (left : Supply) (colour : Option Colour) → MayTakeTurn at left (moving_by at left colour)
+moving_by_takes at left None = inl (refl, refl)
+moving_by_takes at left (Some colour) = either_takes (may_move (board_of at.game)) at left _ _ (λ e. moving_next_takes at left left.turns colour refl) (inl (refl, refl))
+
+quiet_takes : (at : EngineState) (left : Supply) (r : Result Turned Missing) → QuietReaction at left r → MayTakeTurn at left r
+quiet_takes at left r q = subst (MayTakeTurn at left) (sym q.is) (inl (refl, q.calm.turns))
+
+obeyed_takes : (at : EngineState) (left : Supply) (what : Command) (args : List (List ℕ)) → MayTakeTurn at left (obeyed at left what args)
+unfolding obeyed
+obeyed_takes at left command.GenMove args = moving_by_takes at left (lone_colour args)
+obeyed_takes at left command.LoadSgf args = loading_takes at left (file_named args)
+obeyed_takes at left what args = quiet_takes at left _ (obeyed_quietly at left what args refl)
+
+by_takes : (at : EngineState) (left : Supply) (what : Option Command) (args : List (List ℕ)) → MayTakeTurn at left (reaction_by at left what args)
+by_takes at left None args = inl (refl, refl)
+by_takes at left (Some what) args = obeyed_takes at left what args
+
+pub reaction_takes : (at : EngineState) (left : Supply) (asked : Asked) → MayTakeTurn at left (reaction at left asked)
+unfolding reaction
+reaction_takes at left asked = by_takes at left (command_named asked.name) asked.args

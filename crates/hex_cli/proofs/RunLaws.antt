@@ -2,6 +2,7 @@
 use Rattle.std.proofs.Common.{◌≡◌, ◌≢◌, ℕ, ◌+◌, ◌≤◌, ◌⊎◌, ◌==◌, if◌then◌else◌, [], length, drop, Option, refl, ap, sym, ◌∙◌, inl, inr, arith, append-nil}
 use Rattle.std.specs.Prelude.{◌↔◌}
 use Rattle.std.proofs.Math.Seq.{drop-append_seam}
+use Rattle.hex_io.specs.Causes.{CountsFault}
 use Rattle.hex_io.specs.Told.{Told, Both}
 use Rattle.hex_io.proofs.BothLaws.{Both-weaker}
 use Rattle.hex_engine.specs.EngineState.{EngineState}
@@ -26,6 +27,14 @@ end_of_status ArchiveFault = refl
 -- each status is that of one end
 pub same_end : (a b : End) → status_of a ≡ status_of b → a ≡ b
 same_end a b e = sym (end_of_status a) ∙ ap end_of e ∙ end_of_status b
+
+-- a count that rises with one end rises with its status
+pub status_counts : (before now : ℕ) (end other : End) (status : ℕ) → status ≡ status_of end → CountsFault before now (end ≡ other) → CountsFault before now (status ≡ status_of other)
+status_counts before now end other status e c = record {
+  later = c.later;
+  rose = λ s. c.rose (same_end end other (sym e ∙ s));
+  kept = λ n. c.kept (λ s. n (e ∙ ap status_of s));
+}
 
 -- without a fault and within the limit a run of well-formed words is done, or memory ran out
 pub complete_at : (end : End) (start : EngineState) (all : Supply) (limit : ℕ) (a b : Option Told) → Both a b (Outcome end start all limit) → end ≢ Usage → end ≢ ReadFault → end ≢ WriteFault → end ≢ ArchiveFault

@@ -3,7 +3,7 @@ use Rattle.std.proofs.Common.{◌≡◌, ℕ, Bool, List, [], ◌∷◌, ◌++�
 use Rattle.hex_io.specs.declared.files.File.{File}
 use Rattle.hex_io.specs.Shelves.{Shelved}
 use Rattle.hex_io.proofs.BothLaws.{Both-then, Both-refl}
-use Rattle.tree_words.specs.declared.settings.Knobs.{Knobs}
+use Rattle.hex_engine.specs.declared.options.Options.{Options}
 use Rattle.hex_plan.specs.Turns.{Decision}
 use Rattle.htp_line.specs.Splitting.{Held}
 use Rattle.hex_engine.specs.EngineState.{EngineState}
@@ -41,11 +41,11 @@ fetches_then x y z k l in_vain p q =
       came = came_then x.files p.tries q.tries k l p.came came;
     }
 
-good_then : (options : Knobs) (s t : List Decision) → AreGood options s → AreGood options t → AreGood options (s ++ t)
+good_then : (options : Options) (s t : List Decision) → AreGood options s → AreGood options t → AreGood options (s ++ t)
 good_then options [] t p q = q
 good_then options (turn ∷ turns) t p q = (p.0, good_then options turns t p.1 q)
 
-pub uses_then : (options : Knobs) (a b c : Stock) (u v : Supply) (in_vain : List Bool) → UsesUp options a b u [] → UsesUp options b c v in_vain → UsesUp options a c (and_then u v) in_vain
+pub uses_then : (options : Options) (a b c : Stock) (u v : Supply) (in_vain : List Bool) → UsesUp options a b u [] → UsesUp options b c v in_vain → UsesUp options a c (and_then u v) in_vain
 uses_then options a b c u v in_vain p q = record {
   loading = Both-then a.0 b.0 c.0 _ _ _ (λ x y z s t. fetches_then x y z u.loads v.loads in_vain s t) p.loading q.loading;
   moving = record {
@@ -54,7 +54,7 @@ uses_then options a b c u v in_vain p q = record {
   };
 }
 
-pub uses_nothing : (options : Knobs) (a : Stock) → UsesUp options a a nothing_left []
+pub uses_nothing : (options : Options) (a : Stock) → UsesUp options a a nothing_left []
 uses_nothing options a = record {
   loading = Both-refl a.0 (λ x y. Fetches x y [] []) (λ x. record { tries = []; tried = let e = append-nil x.tries in rw e refl; came = tt });
   moving = record { took = Both-refl a.1 (λ x y. y ≡ x ++ []) (λ x. sym (append-nil x)); good = tt };

@@ -70,23 +70,23 @@ moves_by true start all later engine new seen at left ending stands = record { e
 moves_by false start all later engine new seen at left ending stands = record { at = at; left = left; going = ending; in_hand = stands }
 
 -- what a line that ended answers
-pub line_advanced : (start : EngineState) (all left later : Supply) (engine after : EngineState) (held new : Held) (seen front old_out out bytes : List ℕ) (quit : Bool) → Stands start all left engine held seen → Advances new seen front → new.ended ≡ true
-    → out ≡ old_out ++ bytes → said engine left new.line ≡ record { text = bytes; at = after; left = later; ending = ending_if quit } → Advanced quit start all later after new old_out out seen front
-line_advanced start all left later engine after held new seen front old_out out bytes quit stands adv e grew says =
-    let eq : talk_to start all (seen ++ front) ≡ with_said (talk_to start all seen) (record { text = bytes; at = after; left = later; ending = ending_if quit }) =
+pub line_advanced : (start : EngineState) (all left later : Supply) (engine after : EngineState) (held new : Held) (seen front out : List ℕ) (quit : Bool) → Stands start all left engine held seen → Advances new seen front → new.ended ≡ true
+    → said engine left new.line ≡ record { text = out; at = after; left = later; ending = ending_if quit } → Advanced quit start all later after new out seen front
+line_advanced start all left later engine after held new seen front out quit stands adv e says =
+    let eq : talk_to start all (seen ++ front) ≡ with_said (talk_to start all seen) (record { text = out; at = after; left = later; ending = ending_if quit }) =
     line_said start all left engine held new seen front stands adv e ∙ ap (with_said (talk_to start all seen)) says in
     record {
-      answers = (bytes, grew, ap (λ (s : Said). s.text) eq);
+      answers = ap (λ (s : Said). s.text) eq;
       moved = moves_by quit start all later after new (seen ++ front) (sym (ap (λ (s : Said). s.at) eq)) (sym (ap (λ (s : Said). s.left) eq)) (ap (λ (s : Said). s.ending) eq) adv.stands;
     }
 
 -- where no line ended nothing is said
-pub none_advanced : (start : EngineState) (all later : Supply) (engine : EngineState) (held new : Held) (seen front out : List ℕ) → Stands start all later engine held seen → Advances new seen front → new.ended ≡ false
-    → Advanced false start all later engine new out out seen front
-none_advanced start all later engine held new seen front out stands adv e =
+pub none_advanced : (start : EngineState) (all later : Supply) (engine : EngineState) (held new : Held) (seen front out : List ℕ) → Stands start all later engine held seen → Advances new seen front → new.ended ≡ false → out ≡ []
+    → Advanced false start all later engine new out seen front
+none_advanced start all later engine held new seen front out stands adv e none =
     let eq = no_line start all new seen front adv e in
     record {
-      answers = ([], sym (append-nil out), ap (λ (s : Said). s.text) eq ∙ sym (append-nil (talk_to start all seen).text));
+      answers = ap (λ (s : Said). s.text) eq ∙ sym (append-nil (talk_to start all seen).text) ∙ ap (λ l. (talk_to start all seen).text ++ l) (sym none);
       moved = record {
         at = stands.at ∙ sym (ap (λ (s : Said). s.at) eq);
         left = stands.left ∙ sym (ap (λ (s : Said). s.left) eq);

@@ -3,6 +3,6 @@ pub mod Supply
 pub mod Stocks
 pub mod Sessions
 pub mod Outcome
-pub mod Errors
 pub mod Runs
 pub mod Determined
+pub mod Headline

@@ -4,7 +4,7 @@ use Rattle.std.specs.List.{AllByRecursion}
 use Rattle.std.specs.declared.option.Option.{Option}
 use Rattle.hex_io.specs.Told.{Told, Both}
 use Rattle.htp_line.specs.Lines.{lines}
-use Rattle.tree_words.specs.declared.settings.Knobs.{Knobs}
+use Rattle.hex_engine.specs.declared.options.Options.{Options}
 use Rattle.hex_engine.specs.EngineState.{EngineState, opening}
 use Rattle.hex_engine.specs.Supply.{Supply, nothing_left}
 use Rattle.hex_cli.specs.Talk.{Going, AfterQuit, IsThrough, talk}
@@ -59,10 +59,11 @@ pub record Unwritten (start : EngineState) (all : Supply) (limit : ℕ) (old new
   pub in_limit : length (since old new) ≤ limit
   pub given : (part : List ℕ) × (more : List ℕ) × ((talk start all (lines (since old new))).text ≡ part ++ more) × (new.given ≡ old.given ++ part)
 
--- the talk over the first m lines was given, and a line more stands there unless nothing was taken
+-- the talk over the first m lines was given, which used up all, and a line more stands there unless nothing was taken
 pub record StopsAt (start : EngineState) (all : Supply) (old new : Told) (m : ℕ) : Type 0 where
   pub given : new.given ≡ old.given ++ (talk start all (take m (lines (since old new)))).text
   pub going : (talk start all (take m (lines (since old new)))).ending ≡ Going
+  pub used : (talk start all (take m (lines (since old new)))).left ≡ nothing_left
   pub line : (m < length (lines (since old new))) ⊎ (since old new ≡ [])
 
 -- memory ran out at a line, or before the first read: the talk over the lines before it was given
@@ -92,19 +93,14 @@ pub record Outcome (end : End) (start : EngineState) (all : Supply) (limit : ℕ
   pub course : Course start all old new
   pub ends : EndsAs end start all limit old new
 
--- fetches come to nothing only where memory ran out, also where a write of the answers before failed then
+-- a fetch came to nothing only where memory ran out, and then one at most
 abbrev pub IsInVain : End → List Bool → Type 0
-IsInVain Done in_vain = in_vain ≡ []
-IsInVain Usage in_vain = in_vain ≡ []
-IsInVain ReadFault in_vain = in_vain ≡ []
-IsInVain WriteFault in_vain = Unit {0}
-IsInVain Memory in_vain = Unit {0}
-IsInVain TooLong in_vain = in_vain ≡ []
-IsInVain ArchiveFault in_vain = in_vain ≡ []
+IsInVain Memory in_vain = length in_vain ≤ 1
+IsInVain _ in_vain = in_vain ≡ []
 
 -- A conversation with these options, from an empty board of that size to this end: what it used up from its shelf and for its
 -- archive, each turn of which is good, and what stands where the link tells it.
-pub record Conversed (end : End) (options : Knobs) (size limit : ℕ) (old new : Stock) (link link_now : Option Told) : Type 0 where
+pub record Conversed (end : End) (options : Options) (size limit : ℕ) (old new : Stock) (link link_now : Option Told) : Type 0 where
   pub used : Supply
   pub in_vain : List Bool
   pub uses : UsesUp options old new used in_vain

@@ -1,26 +1,29 @@
 -- What a run does with its words.
-use Rattle.std.specs.Prelude.{◌≡◌, ℕ, List}
+use Rattle.std.specs.Prelude.{◌≡◌, ℕ, List, false}
 use Rattle.std.specs.declared.option.Option.{Option}
 use Rattle.hex_io.specs.Told.{Told, Same}
 use Rattle.hex_io.specs.Shelves.{Shelved}
 use Rattle.hex_plan.specs.Turns.{Decision}
-use Rattle.tree_words.specs.declared.settings.Knobs.{Knobs}
 use Rattle.hexd_words.specs.Reading.{WellFormed}
 use Rattle.hexd_words.specs.declared.settings.Options.{Options}
+use Rattle.hex_engine.specs.declared.options.Options as engine
 
 -- no options make these words well formed
 abbrev pub AreRefused : List (List ℕ) → Type 0
 AreRefused words = (options : Options) → ¬ WellFormed words options
 
--- the options of the searches
-abbrev pub knobs_of : Options → Knobs
-knobs_of o = record {
-  workers = o.workers;
-  playouts = o.playouts;
-  seed = o.seed;
-  words = o.words;
-  expand = o.expand;
-  weight = o.weight;
+-- the engine's options; no connections are looked for yet, whatever the words say
+abbrev pub engine_options : Options → engine.Options
+engine_options o = record {
+  knobs = record {
+    workers = o.workers;
+    playouts = o.playouts;
+    seed = o.seed;
+    words = o.words;
+    expand = o.expand;
+    weight = o.weight;
+  };
+  hsearch = false;
 }
 
 -- a link was not read or written: it tells the same and has counted no fault

@@ -1,5 +1,5 @@
 -- Where a session stands after a text.
-use Rattle.std.specs.Prelude.{◌≡◌, ℕ, Bool, true, false, List, ◌++◌, ◌∷◌, [], take, drop}
+use Rattle.std.specs.Prelude.{◌≡◌, ◌≤◌, ℕ, Bool, true, false, List, ◌++◌, ◌∷◌, [], length}
 use Rattle.std.specs.declared.option.Option.{Option}
 use Rattle.hex_io.specs.Told.{Told}
 use Rattle.hex_io.specs.Grew.{Gave, GavePart}
@@ -10,8 +10,6 @@ use Rattle.hex_engine.specs.Supply.{Supply, nothing_left, and_then}
 use Rattle.hex_engine.specs.Replies.{NoTurn}
 use Rattle.hex_cli.specs.Talk.{Said, Going, AfterQuit, Short, ending_if, talk}
 use Rattle.hex_cli.specs.Stocks.{Stock, UsesUp}
-use Rattle.hex_cli.specs.declared.session.Pause.{Pause}
-use Rattle.hex_cli.specs.declared.session.Pause.TheVariants.{Answered, Quit, Memory, Archive}
 
 -- the talk over the whole lines of a text, with all this to use up
 abbrev pub talk_to : EngineState → Supply → List ℕ → Said
@@ -31,9 +29,9 @@ pub record Does (old new : Stock) (in_vain : List Bool) (engine : EngineState) (
   pub stood : (start : EngineState) → (all later : Supply) → (seen : List ℕ) → Stands start all (and_then used later) engine held seen →
       UsesUp start.options old new used in_vain × Now start all later seen
 
--- the same, where fetches at the end may have come to nothing
+-- the same, where one fetch at most came to nothing at the end
 abbrev pub DoesSome : Stock → Stock → EngineState → Held → (EngineState → Supply → Supply → List ℕ → Type 0) → Type 0
-DoesSome old new engine held Now = (in_vain : List Bool) × Does old new in_vain engine held Now
+DoesSome old new engine held Now = (in_vain : List Bool) × (length in_vain ≤ 1) × Does old new in_vain engine held Now
 
 -- quit was answered at the end of this text, and this is left
 pub record Quits (start : EngineState) (all later : Supply) (seen : List ℕ) : Type 0 where
@@ -49,6 +47,11 @@ Moves false start all later engine held seen = Stands start all later engine hel
 abbrev pub EndsLine : List ℕ → List ℕ → Type 0
 EndsLine seen more = (raw : List ℕ) × (others : List (List ℕ)) × (whole (seen ++ more) ≡ whole seen ++ raw ∷ others)
 
+-- this is left after a text, and more bytes end at least one line more
+pub record StopsBefore (start : EngineState) (all later : Supply) (seen more : List ℕ) : Type 0 where
+  pub left : later ≡ (talk_to start all seen).left
+  pub line : EndsLine seen more
+
 -- these bytes answer the lines that more bytes ended
 abbrev pub Answers : EngineState → Supply → List ℕ → List ℕ → List ℕ → Type 0
 Answers start all bytes seen more = (talk_to start all (seen ++ more)).text ≡ (talk_to start all seen).text ++ bytes
@@ -63,28 +66,9 @@ abbrev pub AnswersShort : EngineState → Supply → Supply → List ℕ → Lis
 AnswersShort start all later bytes seen more = later ≡ nothing_left → Answers start all bytes seen more × WantsTurn (talk_to start all (seen ++ more))
 
 -- up to one line more was taken, and this answers it
-pub record Advanced (quit : Bool) (start : EngineState) (all later : Supply) (engine : EngineState) (held : Held) (old_out out seen front : List ℕ) : Type 0 where
-  pub answers : (bytes : List ℕ) × (out ≡ old_out ++ bytes) × Answers start all bytes seen front
+pub record Advanced (quit : Bool) (start : EngineState) (all later : Supply) (engine : EngineState) (held : Held) (out seen front : List ℕ) : Type 0 where
+  pub answers : Answers start all out seen front
   pub moved : Moves quit start all later engine held (seen ++ front)
-
--- why the answers to this text end where they do
-abbrev pub Pauses : Pause → EngineState → Supply → Supply → EngineState → Held → List ℕ → List ℕ → Type 0
-Pauses Answered start all later engine held seen others = Stands start all later engine held seen
-Pauses Quit start all later engine held seen others = Quits start all later seen
-Pauses Memory start all later engine held seen others = ((talk_to start all seen).ending ≡ Going) × EndsLine seen others
-Pauses Archive start all later engine held seen others = AnswersShort start all later [] seen others
-
--- fetches come to nothing only where memory ran out
-abbrev pub IsVain : Pause → List Bool → Type 0
-IsVain Answered in_vain = in_vain ≡ []
-IsVain Quit in_vain = in_vain ≡ []
-IsVain Memory in_vain = Unit {0}
-IsVain Archive in_vain = in_vain ≡ []
-
--- the answers to the first bytes of a piece, and why they end there
-pub record Collects (pause : Pause) (start : EngineState) (all later : Supply) (engine : EngineState) (held : Held) (out seen : List ℕ) (used : ℕ) (piece : List ℕ) : Type 0 where
-  pub answers : Answers start all out seen (take used piece)
-  pub paused : Pauses pause start all later engine held (seen ++ take used piece) (drop used piece)
 
 -- all that more bytes ask was answered
 pub record AnswersAll (old new : Option Told) (start : EngineState) (all : Supply) (seen more : List ℕ) : Type 0 where
@@ -97,12 +81,15 @@ pub record Fed (quit : Bool) (old new : Option Told) (start : EngineState) (all 
 
 -- a front of what a front of more bytes asks was given
 pub record BrokeOff (old new : Option Told) (start : EngineState) (all : Supply) (seen more : List ℕ) : Type 0 where
-  pub gave : (front : List ℕ) × (others : List ℕ) × (bytes : List ℕ) × (more ≡ front ++ others) × GavePart old new bytes × Answers start all bytes seen front
+  pub gave : (front : List ℕ) × (others : List ℕ) × (bytes : List ℕ) × (more ≡ front ++ others)
+      × GavePart old new bytes × Answers start all bytes seen front
 
--- all that a front of more bytes asks was answered, and nothing else given; a line more stood there
-pub record GaveUp (old new : Option Told) (start : EngineState) (all : Supply) (seen more : List ℕ) : Type 0 where
-  pub gave : (front : List ℕ) × (others : List ℕ) × (bytes : List ℕ) × (more ≡ front ++ others) × Gave old new bytes × Answers start all bytes seen front
-      × ((talk_to start all (seen ++ front)).ending ≡ Going) × EndsLine (seen ++ front) others
+-- All that a front of more bytes asks was answered, and nothing else given: the talk over it goes on, this is left then, and a
+-- line more stood there.
+pub record GaveUp (old new : Option Told) (start : EngineState) (all later : Supply) (seen more : List ℕ) : Type 0 where
+  pub gave : (front : List ℕ) × (others : List ℕ) × (bytes : List ℕ) × (more ≡ front ++ others)
+      × Gave old new bytes × Answers start all bytes seen front
+      × ((talk_to start all (seen ++ front)).ending ≡ Going) × StopsBefore start all later (seen ++ front) others
 
 -- all that more bytes ask before a turn is wanted was answered, and nothing else given
 pub record HeldBack (old new : Option Told) (start : EngineState) (all later : Supply) (seen more : List ℕ) : Type 0 where
@@ -117,6 +104,11 @@ pub record AnswersLast (start : EngineState) (all later : Supply) (bytes seen : 
 -- there is a last line that no line feed ends
 abbrev pub HasLast : List ℕ → Type 0
 HasLast seen = (raw : List ℕ) × (lines seen ≡ whole seen ++ raw ∷ [])
+
+-- this is left after a text, and there is a last line that no line feed ends
+pub record StopsBeforeLast (start : EngineState) (all later : Supply) (seen : List ℕ) : Type 0 where
+  pub left : later ≡ (talk_to start all seen).left
+  pub line : HasLast seen
 
 -- where nothing is left, the last line wants a turn
 abbrev pub LastIsShort : EngineState → Supply → Supply → List ℕ → Type 0

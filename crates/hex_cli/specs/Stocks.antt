@@ -2,11 +2,11 @@
 use Rattle.std.specs.Prelude.{◌≡◌, ℕ, Bool, List, []}
 use Rattle.std.specs.declared.option.Option.{Option}
 use Rattle.hex_io.specs.Shelves.{Shelved}
-use Rattle.tree_words.specs.declared.settings.Knobs.{Knobs}
+use Rattle.hex_engine.specs.declared.options.Options.{Options}
 use Rattle.hex_plan.specs.Turns.{Decision}
 use Rattle.hex_engine.specs.EngineState.{EngineState}
 use Rattle.hex_engine.specs.Supply.{Supply, nothing_left, and_then}
-use Rattle.hex_engine.specs.Uses.{Uses}
+use Rattle.hex_engine.specs.Uses.{Uses, UsesNothing}
 use Rattle.hex_engine.specs.Replies.{NoTurn}
 use Rattle.htp_line.specs.Reading.{Asked, Ask}
 use Rattle.hex_cli.specs.Talk.{Said, Short, ending_if, said, said_reading}
@@ -16,23 +16,21 @@ abbrev pub Stock : Type 0
 Stock = Option Shelved × Option (List Decision)
 
 -- this was used up since, and these fetches at the end came to nothing
-abbrev pub UsesUp : Knobs → Stock → Stock → Supply → List Bool → Type 0
+abbrev pub UsesUp : Options → Stock → Stock → Supply → List Bool → Type 0
 UsesUp options old new used in_vain = Uses options old.0 new.0 old.1 new.1 used in_vain
 
--- something was used up, and some fetches at the end came to nothing
-pub record Spends (options : Knobs) (old new : Stock) : Type 0 where
-  pub used : Supply
-  pub in_vain : List Bool
-  pub uses : UsesUp options old new used in_vain
+-- nothing was used up, and one fetch at most came to nothing
+abbrev pub UsesUpNothing : Options → Stock → Stock → Type 0
+UsesUpNothing options old new = UsesNothing options old.0 new.0 old.1 new.1
 
 -- this says so: whatever is left after what was used up, this is said, and the conversation stands here then
-pub record Says (options : Knobs) (old new : Stock) (says : Supply → Said) (text : List ℕ) (after : EngineState) (quit : Bool) : Type 0 where
+pub record Says (options : Options) (old new : Stock) (says : Supply → Said) (text : List ℕ) (after : EngineState) (quit : Bool) : Type 0 where
   pub used : Supply
   pub uses : UsesUp options old new used []
   pub is : (later : Supply) → says (and_then used later) ≡ record { text = text; at = after; left = later; ending = ending_if quit }
 
 -- a turn is wanted, and nothing was used up
-pub record Wants (options : Knobs) (old new : Stock) (at : EngineState) (says : Supply → Said) : Type 0 where
+pub record Wants (options : Options) (old new : Stock) (at : EngineState) (says : Supply → Said) : Type 0 where
   pub uses : UsesUp options old new nothing_left []
   pub is : says nothing_left ≡ record { text = []; at = at; left = nothing_left; ending = Short NoTurn }
 

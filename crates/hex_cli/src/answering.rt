@@ -1,117 +1,169 @@
 //! Answers one raw line.
 
-ghost use Rattle.std.specs.Prelude.{◌≡◌, ◌≤◌, length, IfOk, IfSome, option_map, true, false, Some};
-ghost use Rattle.hex_io.specs.Causes.{Rose};
+ghost use Rattle.std.specs.Prelude.{◌≡◌, ◌+◌, ◌≤◌, ◌++◌, ◌∷◌, ℕ, List, [], length, codes, IfOk, IfSome, IsOk, OnOk, OnErr, option_map, vec_len, vec_capacity, true, false, Some};
+ghost use Rattle.std.specs.declared.option.Option.{Option};
+ghost use Rattle.hex_io.specs.Causes.{CountsFault};
 ghost use Rattle.htp_line.specs.Reading.{asked_of};
 ghost use Rattle.htp_line.specs.Splitting.{what_of};
-ghost use Rattle.htp_line.specs.Answering.{success, failure};
-ghost use Rattle.hex_cli.specs.Stocks.{Responds, RespondsTo, Lacks, LacksFor, Spends};
+ghost use Rattle.htp_line.specs.Answering.{failure, id_text};
+ghost use Rattle.hex_cli.specs.Stocks.{Responds, RespondsTo, Lacks, LacksFor, UsesUpNothing};
 ghost use Rattle.hex_cli.specs.Talk.{reply_text, is_quit};
-ghost use Rattle.hex_engine.specs.Replies.{replied};
+ghost use Rattle.hex_engine.specs.Replies.{IsBrief, replied};
 
 use hex_engine::{Answer, Engine, EngineError, Fail};
 use hex_io::Shelf;
 use hex_plan::Archive;
-use htp_line::{Bytes, Parsed, Request, Splitter, What, read_line, write_fail, write_ok};
-use std::alloc::Global;
+use htp_line::{Parsed, Request, Splitter, What, read_line};
+use std::alloc::{AllocError, Global};
 
-/// What answers a line.
-#[derive(Debug, Drop)]
-pub struct Response {
-    pub text: Bytes,
-    pub quit: bool,
-}
+/// The most bytes of a brief answer beside its id: the sign, a space, a message of 17 bytes, and two line feeds.
+const BRIEF: usize = 21;
 
-/// Answers a raw line, or one that is too long.
+/// Answers a raw line, or one that is too long, at the end of `out`, and says whether quit was answered.
 pub fn respond<F: Shelf, A: Archive>(
     alloc: Global,
     engine: &mut Engine,
     shelf: &mut F,
     archive: &mut A,
     raw: Option<&[u8]>,
-) -> Result<Response, EngineError>
+    out: &mut Vec<u8>,
+) -> Result<bool, EngineError>
     requires short { IfSome raw (λ raw. length raw.now ≤ 4096) }
-    ensures responds { IfOk result (λ r. Responds (F.told shelf.old, A.told archive.old) (F.told shelf.new, A.told archive.new)
-        engine.old (option_map (λ raw. raw.now) raw.entry) r.text engine.new r.quit) }
-    ensures spends { result ≡ Err EngineError.Memory → Spends engine.old.options (F.told shelf.old, A.told archive.old) (F.told shelf.new, A.told archive.new) }
+    ensures responds { IfOk result (λ quit. (bytes : List ℕ) × (out.new.items ≡ out.old.items ++ bytes) ×
+        Responds (F.told shelf.old, A.told archive.old) (F.told shelf.new, A.told archive.new)
+        engine.old (option_map (λ raw. raw.now) raw.entry) bytes engine.new quit) }
+    ensures err { OnErr result (out.new.items ≡ out.old.items) }
+    ensures in_vain { result ≡ Err EngineError.Memory →
+        UsesUpNothing engine.old.options (F.told shelf.old, A.told archive.old) (F.told shelf.new, A.told archive.new) }
     ensures lacks { result ≡ Err EngineError.Archive →
         Lacks (F.told shelf.old, A.told archive.old) (F.told shelf.new, A.told archive.new) engine.old (option_map (λ raw. raw.now) raw.entry) }
-    ensures archive_fault { result ≡ Err EngineError.Archive → Rose (A.faults archive.old) (A.faults archive.new) }
-    ensures later { A.faults archive.old ≤ A.faults archive.new }
+    ensures archive_fault { CountsFault (A.faults archive.old) (A.faults archive.new) (result ≡ Err EngineError.Archive) }
 {
     let Some(raw) = raw else {
-        return refusal(alloc, None, b"line too long");
+        return refuse(out, b"", b"line too long");
     };
     let Ok(parsed) = read_line(alloc, raw) else {
         return Err(EngineError::Memory);
     };
     match parsed {
-        Parsed::Blank => Ok(Response {
-            text: Bytes::of(Vec::new(alloc)),
-            quit: false,
-        }),
-        Parsed::Bare(id) => refusal(alloc, Some(id), Fail::Syntax.message().as_bytes()),
-        Parsed::Request(request) => respond_to(alloc, engine, shelf, archive, &request),
+        Parsed::Blank => Ok(false),
+        Parsed::Bare(id) => refuse_bare(alloc, id, out),
+        Parsed::Request(request) => respond_to(alloc, engine, shelf, archive, &request, out),
     }
 }
 
-/// Answers a request.
+/// Answers a request at the end of `out`, and says whether quit was answered. There is room for a brief answer before the
+/// engine is asked, so the answer of each turn that the archive took is written.
 fn respond_to<F: Shelf, A: Archive>(
     alloc: Global,
     engine: &mut Engine,
     shelf: &mut F,
     archive: &mut A,
     request: &Request,
-) -> Result<Response, EngineError>
-    ensures responds { IfOk result (λ r. RespondsTo (F.told shelf.old, A.told archive.old) (F.told shelf.new, A.told archive.new)
-        engine.old (asked_of request.now) r.text engine.new r.quit) }
-    ensures spends { result ≡ Err EngineError.Memory → Spends engine.old.options (F.told shelf.old, A.told archive.old) (F.told shelf.new, A.told archive.new) }
+    out: &mut Vec<u8>,
+) -> Result<bool, EngineError>
+    ensures responds { IfOk result (λ quit. (bytes : List ℕ) × (out.new.items ≡ out.old.items ++ bytes) ×
+        RespondsTo (F.told shelf.old, A.told archive.old) (F.told shelf.new, A.told archive.new)
+        engine.old (asked_of request.now) bytes engine.new quit) }
+    ensures err { OnErr result (out.new.items ≡ out.old.items) }
+    ensures in_vain { result ≡ Err EngineError.Memory →
+        UsesUpNothing engine.old.options (F.told shelf.old, A.told archive.old) (F.told shelf.new, A.told archive.new) }
     ensures lacks { result ≡ Err EngineError.Archive →
         LacksFor (F.told shelf.old, A.told archive.old) (F.told shelf.new, A.told archive.new) engine.old (asked_of request.now) }
-    ensures archive_fault { result ≡ Err EngineError.Archive → Rose (A.faults archive.old) (A.faults archive.new) }
-    ensures later { A.faults archive.old ≤ A.faults archive.new }
+    ensures archive_fault { CountsFault (A.faults archive.old) (A.faults archive.new) (result ≡ Err EngineError.Archive) }
 {
+    let Ok(id) = id_text(alloc, request.id) else {
+        return Err(EngineError::Memory);
+    };
+    let Ok(()) = out.reserve(id.len() + BRIEF) else {
+        return Err(EngineError::Memory);
+    };
     let answer = match engine.line(request, shelf, archive) {
         Err(error) => return Err(error),
         Ok(answer) => answer,
     };
-    write_answer(alloc, request.id, &answer)
+    match push_answer(out, &id, &answer) {
+        Err(_) => Err(EngineError::Memory),
+        Ok(quit) => Ok(quit),
+    }
 }
 
-/// The answer as it is written.
-fn write_answer(alloc: Global, id: Option<u32>, answer: &Answer) -> Result<Response, EngineError>
-    ensures text { IfOk result (λ r. r.text ≡ reply_text id (replied answer.now)) }
-    ensures quit { IfOk result (λ r. r.quit ≡ is_quit (replied answer.now)) }
-    ensures memory { (e : EngineError) → result ≡ Err e → e ≡ EngineError.Memory }
+/// An id in its shortest form.
+fn id_text(alloc: Global, id: Option<u32>) -> Result<Vec<u8>, AllocError>
+    ensures text { IfOk result (λ text. text.items ≡ id_text id) }
+    ensures length { IfOk result (λ text. vec_len text ≤ 10) }
+{
+    match id {
+        None => Ok(Vec::new(alloc)),
+        Some(id) => id.to_string(alloc)?.as_bytes().to_vec(alloc),
+    }
+}
+
+/// Writes an answer at the end of `out`, and says whether it is that to quit.
+fn push_answer(out: &mut Vec<u8>, id: &[u8], answer: &Answer) -> Result<bool, AllocError>
+    requires id { length id.now ≤ 10 }
+    ensures text { (n : Option ℕ) → id.now ≡ id_text n →
+        OnOk result (out.new.items ≡ out.old.items ++ reply_text n (replied answer.now)) }
+    ensures quit { IfOk result (λ quit. quit ≡ is_quit (replied answer.now)) }
+    ensures err { OnErr result (out.new.items ≡ out.old.items) }
+    ensures room { IsBrief answer.now → vec_len out.old + (length id.now + BRIEF) ≤ vec_capacity out.old → IsOk result }
 {
     match answer {
-        Answer::Done(text) => done(alloc, id, text.as_slice(), false),
-        Answer::Quit => done(alloc, id, b"", true),
-        Answer::Fail(fail) => refusal(alloc, id, fail.message().as_bytes()),
+        Answer::Done(text) => {
+            push_text(out, b'=', id, text.as_slice())?;
+            Ok(false)
+        }
+        Answer::Quit => {
+            push_text(out, b'=', id, b"")?;
+            Ok(true)
+        }
+        Answer::Fail(fail) => {
+            push_text(out, b'?', id, fail.message().as_bytes())?;
+            Ok(false)
+        }
     }
 }
 
-/// A success with this text.
-fn done(alloc: Global, id: Option<u32>, text: &[u8], quit: bool) -> Result<Response, EngineError>
-    ensures text { IfOk result (λ r. r.text ≡ success id text.now) }
-    ensures quit { IfOk result (λ r. r.quit ≡ quit) }
+/// Writes the sign, the id, a space, the text and two line feeds at the end of `out`. GTP version 2, responses.
+fn push_text(out: &mut Vec<u8>, sign: u8, id: &[u8], text: &[u8]) -> Result<(), AllocError>
+    requires id { length id.now ≤ 10 }
+    ensures text { OnOk result (out.new.items ≡ out.old.items ++ sign ∷ id.now ++ 32 ∷ text.now ++ 10 ∷ 10 ∷ []) }
+    ensures err { OnErr result (out.new.items ≡ out.old.items) }
+    ensures room { vec_len out.old + (length id.now + length text.now + 4) ≤ vec_capacity out.old → IsOk result }
+{
+    out.reserve(id.len() + text.len() + 4)?;
+    out.push(sign).unwrap();
+    out.extend_from_slice(id).unwrap();
+    out.push(b' ').unwrap();
+    out.extend_from_slice(text).unwrap();
+    out.extend_from_slice(b"\n\n").unwrap();
+    Ok(())
+}
+
+/// Writes a failure at the end of `out`. It is no answer to quit.
+fn refuse(out: &mut Vec<u8>, id: &[u8], message: &[u8]) -> Result<bool, EngineError>
+    requires id { length id.now ≤ 10 }
+    ensures text { (n : Option ℕ) → id.now ≡ id_text n → OnOk result (out.new.items ≡ out.old.items ++ failure n message.now) }
+    ensures quit { IfOk result (λ quit. quit ≡ false) }
+    ensures err { OnErr result (out.new.items ≡ out.old.items) }
     ensures memory { (e : EngineError) → result ≡ Err e → e ≡ EngineError.Memory }
 {
-    match write_ok(alloc, id, text) {
+    match push_text(out, b'?', id, message) {
         Err(_) => Err(EngineError::Memory),
-        Ok(text) => Ok(Response { text, quit }),
+        Ok(()) => Ok(false),
     }
 }
 
-/// A failure with this message.
-fn refusal(alloc: Global, id: Option<u32>, message: &[u8]) -> Result<Response, EngineError>
-    ensures text { IfOk result (λ r. r.text ≡ failure id message.now) }
-    ensures quit { IfOk result (λ r. r.quit ≡ false) }
+/// Refuses an id that stands alone.
+fn refuse_bare(alloc: Global, id: u32, out: &mut Vec<u8>) -> Result<bool, EngineError>
+    ensures text { OnOk result (out.new.items ≡ out.old.items ++ failure (Some id) (codes "syntax error")) }
+    ensures quit { IfOk result (λ quit. quit ≡ false) }
+    ensures err { OnErr result (out.new.items ≡ out.old.items) }
     ensures memory { (e : EngineError) → result ≡ Err e → e ≡ EngineError.Memory }
 {
-    match write_fail(alloc, id, message) {
+    match id_text(alloc, Some(id)) {
         Err(_) => Err(EngineError::Memory),
-        Ok(text) => Ok(Response { text, quit: false }),
+        Ok(id) => refuse(out, &id, Fail::Syntax.message().as_bytes()),
     }
 }
 

@@ -2,17 +2,17 @@
 
 ghost use Rattle.std.specs.Prelude.{◌≡◌, ◌≢◌, ◌<◌, ◌≤◌, length, IfOk};
 ghost use Rattle.hex_io.specs.Told.{Reads};
-ghost use Rattle.hex_io.specs.Causes.{HasCause, Rose};
+ghost use Rattle.hex_io.specs.Causes.{CountsFault, HasCause};
 ghost use Rattle.tree_words.specs.Settings.{AreInRange};
 ghost use Rattle.hex_cli.specs.Outcome.{Conversed};
 
 use crate::ends::End;
 use crate::session::{Session, Stop};
 use hex_cells::Size;
+use hex_engine::Options;
 use hex_io::{Link, LinkFault, Shelf};
 use hex_plan::Archive;
 use std::alloc::Global;
-use tree_words::Knobs;
 
 /// The most bytes of one read.
 const PIECE: usize = 16_384;
@@ -29,23 +29,24 @@ fn read_some<L: Link>(link: &mut L, buffer: &mut [u8], room: usize) -> Result<us
     link.read(&mut buffer[..room])
 }
 
-/// Answers what the link has, up to `limit` bytes. The options are those of the searches. All whole lines are answered before
-/// the next read, also before the one byte after the limit is asked for.
+/// Answers what the link has, up to `limit` bytes. All whole lines are answered before the next read, also before the one
+/// byte after the limit is asked for. What fails first ends it: nothing is read, written or handed over after a fault.
 pub fn converse<L: Link, F: Shelf, A: Archive>(
     alloc: Global,
     link: &mut L,
     shelf: &mut F,
     archive: &mut A,
-    options: &Knobs,
+    options: &Options,
     size: Size,
     limit: usize,
 ) -> End
-    requires { AreInRange options.now }
-    ensures conversed { Conversed result options.now size limit (F.told shelf.old, A.told archive.old) (F.told shelf.new, A.told archive.new) (L.told link.old) (L.told link.new) }
+    requires { AreInRange options.now.knobs }
+    ensures conversed { Conversed result options.now size limit (F.told shelf.old, A.told archive.old)
+        (F.told shelf.new, A.told archive.new) (L.told link.old) (L.told link.new) }
     ensures served { result ≢ End.Usage }
-    ensures read_fault { result ≡ End.ReadFault → Rose (L.read_faults link.old) (L.read_faults link.new) }
-    ensures write_fault { result ≡ End.WriteFault → Rose (L.write_faults link.old) (L.write_faults link.new) }
-    ensures archive_fault { result ≡ End.ArchiveFault → Rose (A.faults archive.old) (A.faults archive.new) }
+    ensures read_fault { CountsFault (L.read_faults link.old) (L.read_faults link.new) (result ≡ End.ReadFault) }
+    ensures write_fault { CountsFault (L.write_faults link.old) (L.write_faults link.new) (result ≡ End.WriteFault) }
+    ensures archive_fault { CountsFault (A.faults archive.old) (A.faults archive.new) (result ≡ End.ArchiveFault) }
 {
     let mut session = match Session::make(alloc, options, size) {
         Err(_) => return End::Memory,
@@ -53,7 +54,7 @@ pub fn converse<L: Link, F: Shelf, A: Archive>(
     };
     let mut buffer = [0u8; PIECE];
     let mut total = 0;
-    loop {
+    'pieces: loop {
         let room = buffer.len().min((limit - total).max(1));
         let count = match read_some(link, &mut buffer, room) {
             Err(_) => return End::ReadFault,

@@ -37,7 +37,6 @@
 mod answering;
 mod conversation;
 mod ends;
-mod giving;
 mod laws;
 mod session;
 #[cfg(test)]
@@ -49,4 +48,4 @@ pub use laws::{
     more_left_is_not_used, one_worker_and_one_shelf_determine, one_worker_is_determined,
     searched_moves_are_legal,
 };
-pub use top::{INPUT_LIMIT, report, run};
+pub use top::{INPUT_LIMIT, run};

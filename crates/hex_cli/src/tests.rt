@@ -7,6 +7,7 @@ use crate::conversation::converse;
 use crate::ends::End;
 use crate::top::{INPUT_LIMIT, run};
 use hex_cells::{Size, read_vertex};
+use hex_engine::Options;
 use hex_io::{Bytes, File, Link, LinkFault, MemLink, MemShelf, Word};
 use hex_plan::{MemArchive, NoArchive};
 use std::alloc::Global;
@@ -434,7 +435,8 @@ fn four_playouts(rt: HostRuntime) -> Result<(), Fail> {
     assert_eq!(rt; link.given(), b"= \n\n= a1\n\n".as_slice());
     assert_eq!(rt; archive.turns().len(), 1);
     for turn in archive.turns() {
-        let rows = report(alloc, turn.closed())?;
+        let closed = turn.closed().ok_or("a tree")?;
+        let rows = report(alloc, closed)?;
         assert_eq!(rt; rows.len(), 4);
         for row in &rows {
             assert_eq!(rt; row.visits, 1);
@@ -633,16 +635,20 @@ fn line_length(rt: HostRuntime) -> Result<(), Fail> {
 }
 
 /// The options of a command line that says nothing.
-fn options() -> Knobs
-    ensures { AreInRange result }
+fn options() -> Options
+    ensures { AreInRange result.knobs }
 {
-    Knobs {
+    let knobs = Knobs {
         workers: 1,
         playouts: 10_000,
         seed: 0,
         words: 4_194_304,
         expand: 8,
         weight: 180,
+    };
+    Options {
+        knobs,
+        hsearch: false,
     }
 }
 

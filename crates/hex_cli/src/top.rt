@@ -1,23 +1,23 @@
 //! The top call: from the words of the command line to a status.
 
-ghost use Rattle.std.specs.Prelude.{◌≡◌, ◌+◌, ◌^◌, ◌<◌, ◌≤◌, ◌⊎◌, ◌↔◌, length};
+ghost use Rattle.std.specs.Prelude.{◌≡◌, ◌≢◌, ◌+◌, ◌^◌, ◌<◌, ◌≤◌, ◌⊎◌, ◌↔◌, length};
 ghost use Rattle.hex_io.specs.Told.{Both};
-ghost use Rattle.hex_io.specs.Causes.{Rose};
+ghost use Rattle.hex_io.specs.Causes.{CountsFault, Rose};
 ghost use Rattle.tree_words.specs.Settings.{AreInRange};
 ghost use Rattle.hexd_words.specs.Reading.{WellFormed};
 ghost use Rattle.hexd_words.specs.Values as value;
 ghost use Rattle.hexd_words.specs.declared.settings.Options.{Options};
-ghost use Rattle.hex_cli.specs.Errors.{Reported};
+ghost use Rattle.hex_io.specs.Reported.{Reported};
 ghost use Rattle.hex_cli.specs.Outcome.{Conversed, since, status_of, error_line};
 ghost use Rattle.hex_cli.specs.Determined.{IsDetermined};
-ghost use Rattle.hex_cli.specs.Runs.{AreRefused, Untouched, Unused, knobs_of};
+ghost use Rattle.hex_cli.specs.Headline.{Headline};
+ghost use Rattle.hex_cli.specs.Runs.{AreRefused, Untouched, Unused, engine_options};
 ghost use Rattle.hex_cli.specs.declared.ends.End.{End};
 
 use crate::conversation::converse;
 use crate::ends::End;
-use crate::giving::give;
 use hex_cells::Size;
-use hex_io::{Link, Shelf, Word};
+use hex_io::{Link, Shelf, Word, report};
 use hex_plan::Archive;
 use hexd_words::{Options, read_words};
 use std::alloc::Global;
@@ -56,6 +56,8 @@ pub fn run<L: Link, E: Link, F: Shelf, A: Archive>(
 
     // The words. Want of memory may come in place of a refusal.
     ensures usage { result ≡ status_of End.Usage → AreRefused words.now }
+    ensures well_formed { result ≢ status_of End.Usage → result ≢ status_of End.Memory →
+        (options : Options) × WellFormed words.now options }
     ensures refused { AreRefused words.now → (result ≡ status_of End.Usage) ⊎ (result ≡ status_of End.Memory) }
     ensures untouched { AreRefused words.now →
         Untouched (L.told link.old) (L.told link.new) (L.read_faults link.old) (L.read_faults link.new) (L.write_faults link.old) (L.write_faults link.new) }
@@ -64,17 +66,23 @@ pub fn run<L: Link, E: Link, F: Shelf, A: Archive>(
 
     // What was taken and given, and when, where the link tells it; and what was used up from the shelf and for the archive.
     ensures conversed { (options : Options) → WellFormed words.now options → (end : End) → result ≡ status_of end →
-        Conversed end (knobs_of options) options.size INPUT_LIMIT (F.told shelf.old, A.told archive.old) (F.told shelf.new, A.told archive.new) (L.told link.old) (L.told link.new) }
+        Conversed end (engine_options options) options.size INPUT_LIMIT (F.told shelf.old, A.told archive.old)
+        (F.told shelf.new, A.told archive.new) (L.told link.old) (L.told link.new) }
+
+    // Each searched move of a run that is done.
+    ensures headline { (options : Options) → WellFormed words.now options → result ≡ status_of End.Done →
+        Both (A.told archive.old) (A.told archive.new) (λ turns turns_now. Both (L.told link.old) (L.told link.new) (λ old new.
+        Headline (engine_options options) options.size turns turns_now old new)) }
 
     // With one worker the words, the bytes taken and the shelf determine what was given.
     ensures determined { (options : Options) → WellFormed words.now options → result ≡ status_of End.Done →
         Both (F.told shelf.old) (F.told shelf.new) (λ files files_now. Both (L.told link.old) (L.told link.new) (λ old new.
-        IsDetermined (knobs_of options) options.size files files_now old new)) }
+        IsDetermined (engine_options options) options.size files files_now old new)) }
 
-    // The causes.
-    ensures read_fault { result ≡ status_of End.ReadFault → Rose (L.read_faults link.old) (L.read_faults link.new) }
-    ensures write_fault { result ≡ status_of End.WriteFault → Rose (L.write_faults link.old) (L.write_faults link.new) }
-    ensures archive_fault { result ≡ status_of End.ArchiveFault → Rose (A.faults archive.old) (A.faults archive.new) }
+    // The causes. What fails first ends the run: a count rose with its own status, and is as before with every other.
+    ensures read_fault { CountsFault (L.read_faults link.old) (L.read_faults link.new) (result ≡ status_of End.ReadFault) }
+    ensures write_fault { CountsFault (L.write_faults link.old) (L.write_faults link.new) (result ≡ status_of End.WriteFault) }
+    ensures archive_fault { CountsFault (A.faults archive.old) (A.faults archive.new) (result ≡ status_of End.ArchiveFault) }
     ensures too_long { (options : Options) → WellFormed words.now options →
         Both (L.told link.old) (L.told link.new) (λ old new.
         (result ≡ status_of End.TooLong) ↔ (length (since old new) ≡ INPUT_LIMIT + 1)) }
@@ -89,15 +97,7 @@ pub fn run<L: Link, E: Link, F: Shelf, A: Archive>(
         Reported (E.told errors.old) (E.told errors.new) (E.write_faults errors.old) (E.write_faults errors.new) (error_line end) }
 {
     let end = serve(alloc, words, link, shelf, archive);
-    report(errors, end)
-}
-
-/// Gives the line of an end to the errors, and answers its status, whatever comes of the line.
-pub fn report<E: Link>(errors: &mut E, end: End) -> u8
-    ensures status { result ≡ status_of end }
-    ensures errors { Reported (E.told errors.old) (E.told errors.new) (E.write_faults errors.old) (E.write_faults errors.new) (error_line end) }
-{
-    let _ = give(errors, end.line());
+    report(errors, end.line());
     end.status()
 }
 
@@ -110,48 +110,52 @@ fn serve<L: Link, F: Shelf, A: Archive>(
     archive: &mut A,
 ) -> End
     ensures usage { result ≡ End.Usage → AreRefused words.now }
+    ensures well_formed { result ≢ End.Usage → result ≢ End.Memory → (options : Options) × WellFormed words.now options }
     ensures refused { AreRefused words.now → (result ≡ End.Usage) ⊎ (result ≡ End.Memory) }
     ensures untouched { AreRefused words.now →
         Untouched (L.told link.old) (L.told link.new) (L.read_faults link.old) (L.read_faults link.new) (L.write_faults link.old) (L.write_faults link.new) }
     ensures unused { AreRefused words.now →
         Unused (F.told shelf.old) (F.told shelf.new) (F.faults shelf.old) (F.faults shelf.new) (A.told archive.old) (A.told archive.new) (A.faults archive.old) (A.faults archive.new) }
     ensures conversed { (options : Options) → WellFormed words.now options →
-        Conversed result (knobs_of options) options.size INPUT_LIMIT (F.told shelf.old, A.told archive.old) (F.told shelf.new, A.told archive.new) (L.told link.old) (L.told link.new) }
-    ensures read_fault { result ≡ End.ReadFault → Rose (L.read_faults link.old) (L.read_faults link.new) }
-    ensures write_fault { result ≡ End.WriteFault → Rose (L.write_faults link.old) (L.write_faults link.new) }
-    ensures archive_fault { result ≡ End.ArchiveFault → Rose (A.faults archive.old) (A.faults archive.new) }
+        Conversed result (engine_options options) options.size INPUT_LIMIT (F.told shelf.old, A.told archive.old)
+        (F.told shelf.new, A.told archive.new) (L.told link.old) (L.told link.new) }
+    ensures read_fault { CountsFault (L.read_faults link.old) (L.read_faults link.new) (result ≡ End.ReadFault) }
+    ensures write_fault { CountsFault (L.write_faults link.old) (L.write_faults link.new) (result ≡ End.WriteFault) }
+    ensures archive_fault { CountsFault (A.faults archive.old) (A.faults archive.new) (result ≡ End.ArchiveFault) }
 {
     let options = match read_words(alloc, words) {
         Err(_) => return End::Memory,
         Ok(None) => return End::Usage,
         Ok(Some(options)) => options,
     };
-    let knobs = knobs(&options);
     converse(
         alloc,
         link,
         shelf,
         archive,
-        &knobs,
+        &engine_options(&options),
         board_size(options.size),
         INPUT_LIMIT,
     )
 }
 
-/// The options of the searches.
-fn knobs(options: &Options) -> Knobs
+/// The engine's options. No connections are looked for yet, whatever the words say.
+fn engine_options(options: &Options) -> hex_engine::Options
     requires ranges { value.AreInRange options.now }
     requires seed { options.now.seed < 2 ^ 64 }
-    ensures value { result ≡ knobs_of options.now }
-    ensures ranges { AreInRange result }
+    ensures value { result ≡ engine_options options.now }
+    ensures ranges { AreInRange result.knobs }
 {
-    Knobs {
-        workers: options.workers,
-        playouts: options.playouts,
-        seed: options.seed,
-        words: options.words,
-        expand: options.expand,
-        weight: options.weight,
+    hex_engine::Options {
+        knobs: Knobs {
+            workers: options.workers,
+            playouts: options.playouts,
+            seed: options.seed,
+            words: options.words,
+            expand: options.expand,
+            weight: options.weight,
+        },
+        hsearch: false,
     }
 }
 

@@ -1,10 +1,11 @@
 -- What a fetch uses up, and what uses nothing up.
-use Rattle.std.proofs.Common.{◌≡◌, ℕ, Bool, true, false, cond, List, [], ◌∷◌, ◌++◌, Option, None, Some, Ok, refl, sym, ap, ◌∙◌, subst, append-nil}
+use Rattle.std.proofs.Common.{◌≡◌, ◌≤◌, ℕ, length, arith, Bool, true, false, cond, List, [], ◌∷◌, ◌++◌, Option, None, Some, Ok, refl, sym, ap, ◌∙◌, subst, append-nil}
+use Rattle.hex_io.specs.Causes.{CountsFault}
 use Rattle.hex_io.specs.Told.{Same}
 use Rattle.hex_io.specs.Shelves.{Shelved, Fetched, is_failed, Tries, Fetches as FetchesOne}
 use Rattle.hex_io.proofs.BothLaws.{Both-weaker, Both-refl}
 use Rattle.hex_plan.specs.Turns.{Decision}
-use Rattle.tree_words.specs.declared.settings.Knobs.{Knobs}
+use Rattle.hex_engine.specs.declared.options.Options.{Options}
 use Rattle.hex_engine.specs.declared.answers.Fail.TheVariants.{Over, UnknownCommand}
 use Rattle.hex_engine.specs.declared.commands.Command.{Command}
 use Rattle.hex_engine.specs.declared.commands.Command.TheVariants.{BoardSize, ClearBoard, GenMove, KnownCommand, ListCommands, LoadSgf, Name, Play, PrintSgf, ProtocolVersion, Quit, SearchReport, ShowBoard, Undo, Version, Winner}
@@ -28,10 +29,10 @@ use Rattle.hex_engine.proofs.Spelling.{same_text}
 pub unfetched : (t : Option Shelved) → Loading t t nothing_left []
 unfetched t = Both-refl t (λ o n. Fetches o n [] []) (λ x. record { tries = []; tried = ap (λ l. record x { tries = l }) (sym (append-nil x.tries)); came = tt })
 
-pub nothing_moved : (options : Knobs) (t : Option (List Decision)) → Moving options t t nothing_left
+pub nothing_moved : (options : Options) (t : Option (List Decision)) → Moving options t t nothing_left
 nothing_moved options t = record { took = Both-refl t (λ o n. n ≡ o ++ []) (λ x. sym (append-nil x)); good = tt }
 
-pub unmoved : (options : Knobs) (old new : Option (List Decision)) → Same old new → Moving options old new nothing_left
+pub unmoved : (options : Options) (old new : Option (List Decision)) → Same old new → Moving options old new nothing_left
 unmoved options old new same = record { took = Both-weaker old new (λ o n. n ≡ o) (λ o n. n ≡ o ++ []) (λ o n e. e ∙ sym (append-nil o)) same; good = tt }
 
 fetched_as : (o n : Shelved) (name : List ℕ) (f : Fetched) (what : Loaded) → IsLoadOf f what → Tries o n name f → Fetches o n (loads_only (record { name = name; what = what } ∷ [])).loads []
@@ -48,13 +49,22 @@ vain_as o n name f t = record { tries = []; tried = t.tried; came = tt }
 
 -- a fetch that came to nothing else
 pub fetched_in_vain : (old new : Option Shelved) (name : List ℕ) (said : Option Fetched) (f : Fetched) → FetchesOne old new name said → said ≡ Some f
-    → (tries : List Bool) × Loading old new nothing_left tries
+    → (tries : List Bool) × (length tries ≤ 1) × Loading old new nothing_left tries
 fetched_in_vain old new name said f h e =
-    (is_failed f ∷ [], Both-weaker old new (λ o n. Tries o n name f) (λ o n. Fetches o n [] (is_failed f ∷ [])) (λ o n. vain_as o n name f) (subst (FetchesOne old new name) e h))
+    (is_failed f ∷ [], omega arith, Both-weaker old new (λ o n. Tries o n name f) (λ o n. Fetches o n [] (is_failed f ∷ [])) (λ o n. vain_as o n name f) (subst (FetchesOne old new name) e h))
 
 pub if_ok : {T E : Type 0} (r : Result T E) (P Q : T → Type 0) → ((x : T) → P x → Q x) → IfOk r P → IfOk r Q
 if_ok (Ok x) P Q go h = go x h
 if_ok (Err e) P Q go h = tt
+
+-- two facts of a success give a third
+pub if_ok_both : {T E : Type 0} (result : Result T E) (P Q R : T → Type 0) → ((x : T) → P x → Q x → R x) → IfOk result P → IfOk result Q → IfOk result R
+if_ok_both (Ok x) P Q R go p q = go x p q
+if_ok_both (Err e) P Q R go p q = tt
+
+-- where there was no fault and the count is as before
+pub no_fault_counted : (before : ℕ) (Fault : Type 0) → (Fault → ⊥) → CountsFault before before Fault
+no_fault_counted before Fault never = record { later = omega arith; rose = λ f. absurd (never f); kept = λ f. refl }
 
 pub on_err : {T E : Type 0} (r : Result T E) (P : Type 0) → P → OnErr r P
 on_err (Ok x) P h = tt
@@ -63,7 +73,7 @@ on_err (Err e) P h = h
 same_name : (name : List ℕ) → bytes_eq name name ≡ true
 same_name name = sym (same_text true name name (λ t. refl, λ e. refl))
 
-pub uses_nothing : (options : Knobs) (shelf : Option Shelved) (archive : Option (List Decision)) → Uses options shelf shelf archive archive nothing_left []
+pub uses_nothing : (options : Options) (shelf : Option Shelved) (archive : Option (List Decision)) → Uses options shelf shelf archive archive nothing_left []
 uses_nothing options shelf archive = record { loading = unfetched shelf; moving = nothing_moved options archive }
 
 -- a file of this name came to this

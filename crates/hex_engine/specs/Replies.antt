@@ -1,5 +1,5 @@
 -- What answers a request, and what stands then.
-use Rattle.std.specs.Prelude.{◌≡◌, ℕ, ◌+◌, ◌==◌, ◌&&◌, Bool, true, false, List, [], ◌∷◌, Option, Some, None, Result, Ok, Err, codes, is_some, nat_le, if◌then◌else◌}
+use Rattle.std.specs.Prelude.{◌≡◌, ℕ, ◌+◌, ◌==◌, ◌&&◌, ◌≤◌, length, Bool, true, false, List, [], ◌∷◌, Option, Some, None, Result, Ok, Err, codes, is_some, nat_le, if◌then◌else◌}
 use Rattle.std.specs.Str.{bytes_eq, is_utf8}
 use Rattle.htp_line.specs.Reading.{Asked}
 use Rattle.sgf_tree.specs.Printing.{trees_print}
@@ -164,7 +164,7 @@ turned standing colour turn = record {
   after = record standing {
     game = with_step standing.game (step_of colour (Stone turn.cell));
     turns = standing.turns + 1;
-    report = Some (report_of turn);
+    report = report_of turn;
   };
 }
 
@@ -241,10 +241,12 @@ Obeys standing command args None after = (uses_up command ≡ true) × (after �
 Obeys standing command args (Some answer) after =
     (uses_up command ≡ false) × ((left : Supply) → obeyed standing left command args ≡ Ok (record { reply = replied answer; after = after; left = left }))
 
--- This answer, and what stands after it, are what these uses gave, whatever is left then.
-abbrev pub Gives : (Supply → Result Turned Missing) → Supply → Answer → EngineState → Type 0
-Gives react used answer after = (later : Supply) → react (and_then used later) ≡ Ok (record { reply = replied answer; after = after; left = later })
+-- This answer, and what stands after it, are the reaction where this is used up, whatever is left then.
+abbrev pub ReactsWith : (Supply → Result Turned Missing) → Supply → Answer → EngineState → Type 0
+ReactsWith react used answer after = (later : Supply) → react (and_then used later) ≡ Ok (record { reply = replied answer; after = after; left = later })
 
--- the answer to a request that used this up, and what stands after it
-abbrev pub Answers : EngineState → Supply → Asked → Answer → EngineState → Type 0
-Answers standing used asked answer after = Gives (λ left. reaction standing left asked) used answer after
+-- the answer has no text longer than a vertex, or it is a failure
+abbrev pub IsBrief : Answer → Type 0
+IsBrief (answer.Done text) = length text ≤ 3
+IsBrief answer.Quit = Unit {0}
+IsBrief (answer.Fail fail) = Unit {0}

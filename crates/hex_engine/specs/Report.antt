@@ -1,5 +1,6 @@
 -- What `search-report` says of a turn.
-use Rattle.std.specs.Prelude.{ℕ, ◌*◌, ◌<◌, List, [], ◌∷◌, ◌++◌, codes}
+use Rattle.std.specs.Prelude.{ℕ, ◌*◌, ◌<◌, List, [], ◌∷◌, ◌++◌, codes, Option, option_map}
+use Rattle.tree_words.specs.Closing.{ClosedTree}
 use Rattle.std.specs.List.{flat_map}
 use Rattle.std.specs.Fmt.{decimal}
 use Rattle.hex_cells.specs.Vertices.{vertex_of}
@@ -19,8 +20,10 @@ abbrev pub AreOn : ℕ → List Row → Type 0
 AreOn size [] = Unit {0}
 AreOn size (row ∷ rows) = (row.cell < size * size) × AreOn size rows
 
--- the number of playouts, and a line for each child of the tree's root, in rising order of cells
-unfoldable pub report_of : Decision → List ℕ
-report_of turn =
-    codes "playouts " ++ decimal turn.closed.shape.knobs.playouts
-    ++ row_lines turn.board.size (rows_of turn.closed.shape turn.closed.words)
+-- the number of a tree's playouts, and a line for each child of its root, in rising order of cells
+abbrev pub report_on : ℕ → ClosedTree → List ℕ
+report_on size closed = codes "playouts " ++ decimal closed.shape.knobs.playouts ++ row_lines size (rows_of closed.shape closed.words)
+
+-- the report of a turn's tree, if it has one
+unfoldable pub report_of : Decision → Option (List ℕ)
+report_of turn = option_map (report_on turn.board.size) turn.closed

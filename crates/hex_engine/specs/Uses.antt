@@ -1,5 +1,6 @@
 -- Where what a conversation used up came from: its shelf, and the searches whose turns its archive took.
-use Rattle.std.specs.Prelude.{◌≡◌, ◌≤◌, ℕ, Bool, List, [], ◌∷◌, ◌++◌, Option, Ok}
+use Rattle.std.specs.Prelude.{◌≡◌, ◌≤◌, ◌⊎◌, ℕ, Bool, false, List, [], ◌∷◌, ◌++◌, length, Option, Ok}
+use Rattle.htp_line.specs.Reading.{Asked}
 use Rattle.hex_io.specs.Told.{Both}
 use Rattle.hex_io.specs.declared.files.File.{File}
 use Rattle.hex_io.specs.Shelves.{Shelved, Fetched, Failed, Missing, Long, Held, fetched_of}
@@ -8,10 +9,13 @@ use Rattle.sgf_tree.specs.Trees.{GameTrees, depth}
 use Rattle.sgf_tree.specs.Grammar.{Text}
 use Rattle.sgf_tree.specs.Printing.{max_depth}
 use Rattle.sgf_game.specs.GameOf.{game_of}
-use Rattle.tree_words.specs.declared.settings.Knobs.{Knobs}
 use Rattle.hex_plan.specs.Turns.{Decision}
 use Rattle.hex_plan.specs.Good.{IsGood}
-use Rattle.hex_engine.specs.Supply.{Loaded, Unread, Refused, Loads, Load, Supply}
+use Rattle.hex_engine.specs.Supply.{Loaded, Unread, Refused, Loads, Load, Supply, nothing_left}
+use Rattle.hex_engine.specs.EngineState.{EngineState}
+use Rattle.hex_engine.specs.Replies.{ReactsWith, IsBrief, reaction}
+use Rattle.hex_engine.specs.declared.answers.Answer.{Answer}
+use Rattle.hex_engine.specs.declared.options.Options.{Options}
 
 -- the bytes are a record of the game: a text of trees that nest no deeper than is read, whose game it is
 pub record IsRecordOf (bytes : List ℕ) (game : GameData) : Type 0 where
@@ -50,17 +54,40 @@ pub record Fetches (old new : Shelved) (loads : List Load) (in_vain : List Bool)
 abbrev pub Loading : Option Shelved → Option Shelved → Supply → List Bool → Type 0
 Loading old new used in_vain = Both old new (λ o n. Fetches o n used.loads in_vain)
 
+-- the turn is one that a session with these options owes
+abbrev pub IsGoodFor : Options → Decision → Type 0
+IsGoodFor options turn = IsGood options.knobs options.hsearch turn
+
 -- each of these turns is good
-abbrev pub AreGood : Knobs → List Decision → Type 0
+abbrev pub AreGood : Options → List Decision → Type 0
 AreGood options [] = Unit {0}
-AreGood options (turn ∷ turns) = IsGood options turn × AreGood options turns
+AreGood options (turn ∷ turns) = IsGoodFor options turn × AreGood options turns
+
+-- one worker searches, and no connections are looked for
+pub record HasOneWorker (options : Options) : Type 0 where
+  pub workers : options.knobs.workers ≡ 1
+  pub no_connections : options.hsearch ≡ false
 
 -- the archive, where it tells it, took these turns, and each is good
-pub record Moving (options : Knobs) (old new : Option (List Decision)) (used : Supply) : Type 0 where
+pub record Moving (options : Options) (old new : Option (List Decision)) (used : Supply) : Type 0 where
   pub took : Both old new (λ o n. n ≡ o ++ used.turns)
   pub good : AreGood options used.turns
 
 -- This was used up since: its loads came of the shelf's fetches, and its turns were taken by the archive.
-pub record Uses (options : Knobs) (shelf shelf_now : Option Shelved) (archive archive_now : Option (List Decision)) (used : Supply) (in_vain : List Bool) : Type 0 where
+pub record Uses (options : Options) (shelf shelf_now : Option Shelved) (archive archive_now : Option (List Decision)) (used : Supply) (in_vain : List Bool) : Type 0 where
   pub loading : Loading shelf shelf_now used in_vain
   pub moving : Moving options archive archive_now used
+
+-- nothing was used up, and one fetch at most came to nothing
+pub record UsesNothing (options : Options) (shelf shelf_now : Option Shelved) (archive archive_now : Option (List Decision)) : Type 0 where
+  pub in_vain : List Bool
+  pub few : length in_vain ≤ 1
+  pub uses : Uses options shelf shelf_now archive archive_now nothing_left in_vain
+
+-- A request was answered so: this was used up for it, and the answer, with what stands after it, is the reaction to the
+-- request with that to use up. An answer for which something was used up is brief.
+pub record Answered (engine : EngineState) (shelf shelf_now : Option Shelved) (archive archive_now : Option (List Decision)) (asked : Asked) (answer : Answer) (after : EngineState) : Type 0 where
+  pub used : Supply
+  pub uses : Uses engine.options shelf shelf_now archive archive_now used []
+  pub reacts : ReactsWith (λ supply. reaction engine supply asked) used answer after
+  pub brief : (used ≡ nothing_left) ⊎ IsBrief answer

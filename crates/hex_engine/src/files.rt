@@ -1,7 +1,7 @@
 //! Games from files, and the record of a game as text.
 
-ghost use Rattle.std.specs.Prelude.{◌≡◌, ◌≤◌, ℕ, Bool, List, [], ◌∷◌, IfOk, OnErr, Some};
-ghost use Rattle.hex_io.specs.Causes.{Rose};
+ghost use Rattle.std.specs.Prelude.{◌≡◌, ◌≤◌, length, ℕ, Bool, List, [], ◌∷◌, IfOk, OnErr, Some};
+ghost use Rattle.hex_io.specs.Causes.{CountsFault};
 ghost use Rattle.hex_game.specs.Games.{GameData};
 ghost use Rattle.sgf_tree.specs.Printing.{trees_print};
 ghost use Rattle.sgf_game.specs.Record.{record_of};
@@ -30,8 +30,9 @@ pub enum File {
 /// Fetches the file of that name, and reads its game.
 pub fn load_game<F: Shelf>(alloc: Global, shelf: &mut F, name: &str) -> Result<File, Memory>
     ensures came { IfOk result (λ file. Loading (F.told shelf.old) (F.told shelf.new) (loads_only (record { name = name.now; what = came_to file } ∷ [])) []) }
-    ensures vain { OnErr result ((tries : List Bool) × Loading (F.told shelf.old) (F.told shelf.new) nothing_left tries) }
-    ensures read_fault { result ≡ Ok File.Unread → Rose (F.faults shelf.old) (F.faults shelf.new) }
+    ensures vain { OnErr result ((tries : List Bool) × (length tries ≤ 1)
+        × Loading (F.told shelf.old) (F.told shelf.new) nothing_left tries) }
+    ensures read_fault { CountsFault (F.faults shelf.old) (F.faults shelf.new) (result ≡ Ok File.Unread) }
 {
     match shelf.fetch(alloc, name) {
         Ok(Some(bytes)) => read_game(alloc, &bytes),

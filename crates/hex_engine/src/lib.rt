@@ -12,7 +12,9 @@
 //! **What is proved.** The reply and what stands after it are a function of what stood before, of what was used up, and
 //! of the request, told command by command in specs/Replies.antt. Each load is what the shelf's fetch gave: the game of
 //! which the file is a record, or a refusal exactly where it is of none (specs/Uses.antt). Each turn is good, and the
-//! archive has it before its move is played. After want of memory or an archive's fault nothing changed.
+//! archive has it before its move is played; its answer was made before, and is brief. After want of memory or an
+//! archive's fault nothing changed, and one fetch at most came to nothing. A count of faults changes only with the answer
+//! that tells the fault.
 //!
 //! **What is only tested, or not said.** That memory suffices. How strong a move is.
 //!
@@ -26,13 +28,15 @@ mod answers;
 mod commands;
 mod files;
 mod forms;
+mod options;
 mod picture;
 mod standing;
 mod texts;
 
 pub use answers::{Answer, EngineError, Fail, Memory};
 pub use commands::{COMMANDS, Command};
-pub use standing::{Engine, Options};
+pub use options::Options;
+pub use standing::Engine;
 
 #[cfg(test)]
 mod tests;

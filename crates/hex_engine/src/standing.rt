@@ -1,10 +1,9 @@
 //! The engine and its commands.
 
-ghost use Rattle.std.specs.Prelude.{◌≡◌, ◌≤◌, ◌∷◌, ◌++◌, ℕ, Bool, true, List, [], IfOk, OnErr, Ok, Err, Some, None, codes};
-ghost use Rattle.hex_io.specs.Causes.{Rose};
+ghost use Rattle.std.specs.Prelude.{◌≡◌, ◌≤◌, ◌∷◌, ◌++◌, length, ℕ, Bool, true, List, [], IfOk, OnErr, Ok, Err, Some, None, codes};
+ghost use Rattle.hex_io.specs.Causes.{CountsFault};
 ghost use Rattle.hex_io.specs.Told.{Both, Same};
 ghost use Rattle.hex_plan.specs.Turns.{Decision};
-ghost use Rattle.hex_plan.specs.Good.{IsGood};
 ghost use Rattle.hex_plan.specs.Openings.{may_move};
 ghost use Rattle.hex_game.specs.Games.{board_of};
 ghost use Rattle.hex_board.specs.Joined.{winner_of};
@@ -15,17 +14,18 @@ ghost use Rattle.hex_engine.specs.Commands.{all_names};
 ghost use Rattle.hex_engine.specs.Forms.{sizes_of, IsSaidOf};
 ghost use Rattle.hex_engine.specs.Picture.{picture};
 ghost use Rattle.hex_engine.specs.EngineState.{EngineState, opening, emptied};
-ghost use Rattle.hex_engine.specs.Supply.{Supply, Load, nothing_left, loads_only, turns_only};
-ghost use Rattle.hex_engine.specs.Uses.{Uses, Loading, Moving};
-ghost use Rattle.hex_engine.specs.Replies.{Reacts, Answers, Gives, Obeys, NoTurn, Done, Quit, reaction, replied, obeyed, if_bare, stays, moves_on, loading, moving, is_next, turned, resized, playing, played, undone, knowing, reporting, winner_text};
+ghost use Rattle.hex_engine.specs.Supply.{Load, nothing_left, loads_only, turns_only};
+ghost use Rattle.hex_engine.specs.Uses.{Answered, IsGoodFor, Loading, Moving, UsesNothing};
+ghost use Rattle.hex_engine.specs.Replies.{IsBrief, Reacts, ReactsWith, Obeys, NoTurn, Done, Quit, reaction, replied, obeyed, if_bare, stays, moves_on, loading, moving, is_next, turned, resized, playing, played, undone, knowing, reporting, winner_text};
 ghost use Rattle.htp_line.specs.Reading.{asked_of};
 
 use super::answers::{Answer, EngineError, Fail, Memory};
 use super::commands::{Command, command_list};
 use super::files::{File, game_text, load_game};
 use super::forms::{MoveWord, file_name, lone_colour, read_colour, read_move, read_sizes};
+use super::options::Options;
 use super::picture::board_text;
-use super::texts::{push_vertex, report_text};
+use super::texts::{report_text, vertex_text};
 use hex_board::Board;
 use hex_cells::{CellSet, Colour, Size};
 use hex_game::{Game, Move};
@@ -35,22 +35,12 @@ use htp_line::{Bytes, Request};
 use seq_search::plain_search;
 use std::alloc::Global;
 use std::marker::Model;
-use tree_words::Knobs;
-
-/// How an engine chooses its moves.
-#[derive(Clone, Copy, Debug, PartialEq, Eq)]
-pub struct Options {
-    /// The knobs of its searches. The seed is that of the first one.
-    pub knobs: Knobs,
-    /// Whether it looks for virtual connections before it searches. It has no effect yet: none are looked for.
-    pub hsearch: bool,
-}
 
 /// Answers requests one by one, each from the game that the requests before it led to.
 #[derive(Drop)]
 pub struct Engine {
     alloc: Global,
-    options: Knobs,
+    options: Options,
     game: Game,
     turns: u64,
     report: Option<Vec<u8>>,
@@ -70,20 +60,20 @@ impl Model for Engine {
       report = option_map (λ text. text.items) e.report;
     } };
 
-    ghost invariant = { λ e. AreInRange e.options };
+    ghost invariant = { λ e. AreInRange e.options.knobs };
 }
 
 impl Engine {
     /// An engine over an empty board of that size. The knobs of its searches are in their ranges.
     pub fn make(alloc: Global, options: &Options, size: Size) -> Result<Engine, Memory>
         requires { AreInRange options.now.knobs }
-        ensures { IfOk result (λ engine. engine ≡ opening options.now.knobs size) }
+        ensures { IfOk result (λ engine. engine ≡ opening options.now size) }
     {
         let board = Board::of(size, CellSet::none(), CellSet::none());
         match Game::make(alloc, &board) {
             Ok(game) => Ok(Engine {
                 alloc,
-                options: options.knobs,
+                options: *options,
                 game,
                 turns: 0,
                 report: None,
@@ -110,6 +100,10 @@ impl Engine {
     ///
     /// `read fault` comes only where the shelf counted a fault, and `cannot load file` exactly where the fetched file is
     /// none, too long, or no record of a game (SGF FF[4], GM[11]). `Archive` comes only where the archive counted a fault.
+    /// With every other answer the counts are as before.
+    ///
+    /// The answer to a `genmove` or a `loadsgf` is brief: a vertex, nothing, or the message of a failure. So a caller that
+    /// has room for such an answer before it asks can give the answer of each turn that was taken.
     #[tactic(auto, unfolding(crate::specs::Replies::reaction))]
     pub fn line<F: Shelf, A: Archive>(
         &mut self,
@@ -117,21 +111,19 @@ impl Engine {
         shelf: &mut F,
         archive: &mut A,
     ) -> Result<Answer, EngineError>
-        ensures reply { IfOk result (λ answer. (used : Supply)
-            × Uses self.old.options (F.told shelf.old) (F.told shelf.new) (A.told archive.old) (A.told archive.new) used []
-            × Answers self.old used (asked_of request.now) answer self.new) }
+        ensures reply { IfOk result (λ answer. Answered self.old (F.told shelf.old) (F.told shelf.new)
+            (A.told archive.old) (A.told archive.new) (asked_of request.now) answer self.new) }
 
         // After an error.
         ensures err { OnErr result (self.new ≡ self.old) }
-        ensures in_vain { OnErr result ((tries : List Bool)
-            × Uses self.old.options (F.told shelf.old) (F.told shelf.new) (A.told archive.old) (A.told archive.new) nothing_left tries) }
+        ensures in_vain { OnErr result (UsesNothing self.old.options (F.told shelf.old) (F.told shelf.new)
+            (A.told archive.old) (A.told archive.new)) }
         ensures wants_turn { result ≡ Err EngineError.Archive → reaction self.old nothing_left (asked_of request.now) ≡ Err NoTurn }
         ensures no_fetch { result ≡ Err EngineError.Archive → Same (F.told shelf.old) (F.told shelf.new) }
 
         // The causes.
-        ensures read_fault { result ≡ Ok (Answer.Fail Fail.ReadFault) → Rose (F.faults shelf.old) (F.faults shelf.new) }
-        ensures archive_fault { result ≡ Err EngineError.Archive → Rose (A.faults archive.old) (A.faults archive.new) }
-        ensures later { A.faults archive.old ≤ A.faults archive.new }
+        ensures read_fault { CountsFault (F.faults shelf.old) (F.faults shelf.new) (result ≡ Ok (Answer.Fail Fail.ReadFault)) }
+        ensures archive_fault { CountsFault (A.faults archive.old) (A.faults archive.new) (result ≡ Err EngineError.Archive) }
     {
         let args = request.args.as_slice();
         let Some(command) = Command::named(request.name.as_slice()) else {
@@ -288,11 +280,14 @@ impl Engine {
     /// Fails, in order: `syntax error`; `read fault`; `cannot load file`.
     /// Answers nothing; the game is the record's.
     fn load<F: Shelf>(&mut self, args: &[Bytes], shelf: &mut F) -> Result<Answer, Memory>
-        ensures reply { IfOk result (λ answer. (loads : List Load) × Loading (F.told shelf.old) (F.told shelf.new) (loads_only loads) []
-            × Gives (λ left. loading self.old left args.now) (loads_only loads) answer self.new) }
+        ensures reply { IfOk result (λ answer. (loads : List Load)
+            × Loading (F.told shelf.old) (F.told shelf.new) (loads_only loads) []
+            × ReactsWith (λ left. loading self.old left args.now) (loads_only loads) answer self.new) }
+        ensures brief { IfOk result IsBrief }
         ensures err { OnErr result (self.new ≡ self.old) }
-        ensures in_vain { OnErr result ((tries : List Bool) × Loading (F.told shelf.old) (F.told shelf.new) nothing_left tries) }
-        ensures read_fault { result ≡ Ok (Answer.Fail Fail.ReadFault) → Rose (F.faults shelf.old) (F.faults shelf.new) }
+        ensures in_vain { OnErr result ((tries : List Bool) × (length tries ≤ 1)
+            × Loading (F.told shelf.old) (F.told shelf.new) nothing_left tries) }
+        ensures read_fault { CountsFault (F.faults shelf.old) (F.faults shelf.new) (result ≡ Ok (Answer.Fail Fail.ReadFault)) }
     {
         let Some(name) = file_name(args) else {
             return Ok(Answer::Fail(Fail::Syntax));
@@ -315,13 +310,14 @@ impl Engine {
         args: &[Bytes],
         archive: &mut A,
     ) -> Result<Answer, EngineError>
-        ensures reply { IfOk result (λ answer. (turns : List Decision) × Moving self.old.options (A.told archive.old) (A.told archive.new) (turns_only turns)
-            × Gives (λ left. moving self.old left args.now) (turns_only turns) answer self.new) }
+        ensures reply { IfOk result (λ answer. (turns : List Decision)
+            × Moving self.old.options (A.told archive.old) (A.told archive.new) (turns_only turns)
+            × ReactsWith (λ left. moving self.old left args.now) (turns_only turns) answer self.new) }
+        ensures brief { IfOk result IsBrief }
         ensures err { OnErr result (self.new ≡ self.old) }
         ensures in_vain { OnErr result (Same (A.told archive.old) (A.told archive.new)) }
         ensures wants_turn { result ≡ Err EngineError.Archive → moving self.old nothing_left args.now ≡ Err NoTurn }
-        ensures archive_fault { result ≡ Err EngineError.Archive → Rose (A.faults archive.old) (A.faults archive.new) }
-        ensures later { A.faults archive.old ≤ A.faults archive.new }
+        ensures archive_fault { CountsFault (A.faults archive.old) (A.faults archive.new) (result ≡ Err EngineError.Archive) }
     {
         let Some(colour) = lone_colour(args) else {
             return Ok(Answer::Fail(Fail::Syntax));
@@ -339,18 +335,19 @@ impl Engine {
         archive: &mut A,
     ) -> Result<Answer, EngineError>
         requires { may_move (board_of self.old.game) ≡ true }
-        ensures reply { IfOk result (λ answer. (turn : Decision) × IsGood self.old.options turn × (is_next self.old colour turn ≡ true)
+        ensures reply { IfOk result (λ answer. (turn : Decision)
+            × IsGoodFor self.old.options turn × (is_next self.old colour turn ≡ true)
             × Both (A.told archive.old) (A.told archive.new) (λ o n. n ≡ o ++ turn ∷ []) × Reacts (turned self.old colour turn) answer self.new) }
+        ensures brief { IfOk result IsBrief }
         ensures err { OnErr result (self.new ≡ self.old) }
         ensures in_vain { OnErr result (Same (A.told archive.old) (A.told archive.new)) }
-        ensures archive_fault { result ≡ Err EngineError.Archive → Rose (A.faults archive.old) (A.faults archive.new) }
-        ensures later { A.faults archive.old ≤ A.faults archive.new }
+        ensures archive_fault { CountsFault (A.faults archive.old) (A.faults archive.new) (result ≡ Err EngineError.Archive) }
     {
         let turn = self.decide(colour)?;
         let cell = turn.cell();
+        // All that the answer needs is made before the turn is handed over.
         let report = report_text(self.alloc, &turn)?;
-        let mut vertex = Vec::new(self.alloc);
-        push_vertex(&mut vertex, cell, self.game.board().size())?;
+        let vertex = vertex_text(self.alloc, cell, self.game.board().size())?;
         // A session has no room for more turns than this.
         let Some(turns) = self.turns.checked_add(1) else {
             return Err(EngineError::Memory);
@@ -360,16 +357,16 @@ impl Engine {
         };
         self.game.play(colour, Move::Stone(cell)).unwrap();
         self.turns = turns;
-        self.report = Some(report);
-        Ok(Answer::Done(Bytes::of(vertex)))
+        self.report = report;
+        Ok(Answer::Done(vertex))
     }
 
     /// The next turn: the search of the board with this colour to move, and its best cell.
     fn decide(&self, colour: Colour) -> Result<Turn, Memory>
         requires { may_move (board_of self.now.game) ≡ true }
-        ensures { IfOk result (λ turn. IsGood self.now.options turn × (is_next self.now colour turn ≡ true)) }
+        ensures { IfOk result (λ turn. IsGoodFor self.now.options turn × (is_next self.now colour turn ≡ true)) }
     {
-        let shape = turn_shape(self.game.board(), colour, &self.options, self.turns);
+        let shape = turn_shape(self.game.board(), colour, &self.options.knobs, self.turns);
         let Ok(closed) = plain_search(self.alloc, &shape) else {
             return Err(Memory);
         };
@@ -441,7 +438,8 @@ impl Engine {
 
     /// A success without text.
     fn empty_answer(&self) -> Answer
-        ensures { replied result ≡ Done [] }
+        ensures reply { replied result ≡ Done [] }
+        ensures brief { IsBrief result }
     {
         Answer::Done(Bytes::of(Vec::new(self.alloc)))
     }

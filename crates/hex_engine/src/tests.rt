@@ -39,11 +39,10 @@ fn check(
     want: &[u8],
 ) -> Result<(), Failure> {
     if line.len() > 100 {
-        return Ok(());
+        return Err(Failure::from("a row has at most 100 bytes"));
     }
-    let parsed = read_line(rt.alloc(), line)?;
-    let Parsed::Request(request) = parsed else {
-        return Ok(());
+    let Parsed::Request(request) = read_line(rt.alloc(), line)? else {
+        return Err(Failure::from("a row is a request"));
     };
     match engine.line(&request, shelf, archive)? {
         Answer::Done(text) => assert_eq!(rt; text.as_slice(), want),

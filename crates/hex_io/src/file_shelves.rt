@@ -1,10 +1,10 @@
 //! A shelf in memory, which is at fault where it is told to be.
 
-ghost use Rattle.std.specs.Prelude.{◌≡◌, ◌≢◌, ◌≤◌, IfOk, Contains, IsTrue, ◌↔◌, [], length, Some, option_map};
+ghost use Rattle.std.specs.Prelude.{◌≡◌, ◌≢◌, IfOk, Contains, IsTrue, ◌↔◌, [], length, Some, option_map};
 ghost use Rattle.std.specs.List.{find};
 ghost use Rattle.std.specs.Str.{bytes_eq};
 ghost use Rattle.hex_io.specs.Shelves.{content_of, found, Fetches, says};
-ghost use Rattle.hex_io.specs.Causes.{Rose};
+ghost use Rattle.hex_io.specs.Causes.{CountsFault};
 ghost use Rattle.hex_io.specs.MemShelves.{NextIsBad, faults_after};
 
 use super::files::File;
@@ -45,8 +45,7 @@ impl Shelf for MemShelf {
 
     fn fetch(&mut self, alloc: Global, name: &str) -> Result<Option<Vec<u8>>, ShelfError>
         ensures told { Fetches (Some self.old.told) (Some self.new.told) name.now (says (λ file. file.items) result) }
-        ensures cause { result ≡ Err ShelfError.Fault → Rose self.old.faults self.new.faults }
-        ensures later { self.old.faults ≤ self.new.faults }
+        ensures cause { CountsFault self.old.faults self.new.faults (result ≡ Err ShelfError.Fault) }
         ensures fails { result ≢ Err ShelfError.Memory → (result ≡ Err ShelfError.Fault) ↔ NextIsBad self.old }
         ensures rest { self.new ≡ record self.old { told = self.new.told; faults = faults_after self.old.faults (says (λ file. file.items) result) } }
     {

@@ -9,19 +9,22 @@
 //! fault. A *count* of faults is known of every link and shelf, whether it tells or not. A [`Word`]
 //! is one word of a command line.
 //!
-//! **A caller** is generic over `L: Link`, reads pieces into a buffer of its own and hands `write`
-//! what is left of an answer until all of it was given:
+//! **A caller** is generic over `L: Link`, reads pieces into a buffer of its own and gives each
+//! answer whole:
 //!
 //! ```text
 //! let count = link.read(&mut buffer)?;      // 0 only at the end
-//! let given = link.write(&answer[done..])?; // at least 1
+//! give(link, answer)?;                      // all of it, or a front of it at a fault
 //! let file = shelf.fetch(alloc, "game.sgf")?; // `None` where there is no such file
+//! report(errors, b"hexd: read fault\n");    // whatever comes of it
 //! ```
 //!
 //! **What is proved.** Bytes are moved in order and none is lost or made up, where a link tells; a
-//! fault comes only where its count rose, and then no byte was moved. Generic code can't raise a
-//! count, so a body that gives up without a fault of its link is refused. A fetch answers what the
-//! files hold. A `MemLink` and a `MemShelf` tell all and fail exactly where they were told to.
+//! fault comes only where its count rose, and then no byte was moved; with every other answer the
+//! count is as before. Generic code can't change a count, so a body that gives up without a fault
+//! of its link is refused, and one that tries again after a fault where its contract says that no
+//! fault came. A fetch answers what the files hold. A `MemLink` and a `MemShelf` tell all and fail
+//! exactly where they were told to.
 //!
 //! **Only tested, or not said.** What a terminal, a file or another program gave or got: `StdLink`,
 //! `ErrLink` and `DirShelf` tell nothing. A read may wait for its device.
@@ -34,6 +37,7 @@
 mod directory;
 mod file_shelves;
 mod files;
+mod giving;
 mod in_memory;
 mod links;
 mod refusals;
@@ -47,6 +51,7 @@ mod words;
 pub use directory::DirShelf;
 pub use file_shelves::MemShelf;
 pub use files::{Bytes, File};
+pub use giving::{give, report};
 pub use in_memory::MemLink;
 pub use links::Link;
 pub use refusals::{LinkFault, Memory};

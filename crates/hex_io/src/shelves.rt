@@ -1,8 +1,8 @@
 //! The shelf: where a session fetches files from.
 
-ghost use Rattle.std.specs.Prelude.{◌≡◌, ◌≤◌, ℕ};
+ghost use Rattle.std.specs.Prelude.{◌≡◌, ℕ};
 ghost use Rattle.std.specs.declared.option.Option.{Option};
-ghost use Rattle.hex_io.specs.Causes.{Rose};
+ghost use Rattle.hex_io.specs.Causes.{CountsFault};
 ghost use Rattle.hex_io.specs.Shelves.{Shelved, Fetches, says};
 
 use std::alloc::{AllocError, Global};
@@ -49,9 +49,9 @@ pub trait Shelf {
     /// they are.
     ///
     /// A file of more than [`FILE_LIMIT`] bytes is `TooLong`. `Fault` comes only where the count
-    /// of faults rose. After want of memory nothing changed.
+    /// of faults rose, and with every other answer the count is as before. After want of memory
+    /// nothing changed.
     fn fetch(&mut self, alloc: Global, name: &str) -> Result<Option<Vec<u8>>, ShelfError>
         ensures told { Fetches (told self.old) (told self.new) name.now (says (λ file. file.items) result) }
-        ensures cause { result ≡ Err ShelfError.Fault → Rose (faults self.old) (faults self.new) }
-        ensures later { faults self.old ≤ faults self.new };
+        ensures cause { CountsFault (faults self.old) (faults self.new) (result ≡ Err ShelfError.Fault) };
 }

@@ -51,7 +51,7 @@ impl Link for StdLink {
     }
 
     fn write(&mut self, bytes: &[u8]) -> Result<usize, LinkFault> {
-        give(&mut self.output, &mut self.write_faults, bytes)
+        write_once(&mut self.output, &mut self.write_faults, bytes)
     }
 }
 
@@ -90,12 +90,12 @@ impl Link for ErrLink {
     }
 
     fn write(&mut self, bytes: &[u8]) -> Result<usize, LinkFault> {
-        give(&mut self.output, &mut self.write_faults, bytes)
+        write_once(&mut self.output, &mut self.write_faults, bytes)
     }
 }
 
 /// Gives bytes from the front of `bytes` to a stream. One that takes none of them is at fault too.
-fn give<W: Write>(output: &mut W, faults: &mut u64, bytes: &[u8]) -> Result<usize, LinkFault>
+fn write_once<W: Write>(output: &mut W, faults: &mut u64, bytes: &[u8]) -> Result<usize, LinkFault>
     requires { 0 < length bytes.now }
     ensures bound { IfOk result (λ n. (0 < n) × (n ≤ length bytes.now)) }
     ensures cause { HasCause faults.old faults.new result }

@@ -2,10 +2,12 @@
 
 use super::{
     Bytes, DirShelf, ErrLink, File, Link, LinkFault, MemLink, MemShelf, Shelf, ShelfError, StdLink,
-    Word,
+    Word, give, report,
 };
 use std::alloc::{AllocError, Global};
 use std::convert::AsStr;
+use std::fs;
+use std::test::Fail;
 
 /// The bytes that one read of at most four moves.
 fn next(alloc: Global, link: &mut MemLink) -> Result<Option<Vec<u8>>, AllocError> {
@@ -54,6 +56,19 @@ fn writes_in_pieces(rt: HostRuntime) -> Result<(), AllocError> {
         assert!(rt; link.write(b"= hexd") == want);
     }
     assert!(rt; link.given() == b"= h= ".as_slice());
+    Ok(())
+}
+
+// In pieces of two bytes, where write number 2 fails.
+#[test]
+fn gives_all_or_a_front(rt: HostRuntime) -> Result<(), Fail> {
+    let alloc = rt.alloc();
+    let bad = vec![in alloc; 2u32]?;
+    let mut link = MemLink::make(alloc, Vec::new(alloc), 2, 9, 0, Vec::new(alloc), bad)?;
+    assert!(rt; give(&mut link, b"abc") == Ok(()));
+    assert!(rt; give(&mut link, b"defg") == Err(LinkFault));
+    report(&mut link, b"hi");
+    assert!(rt; link.given() == b"abchi".as_slice());
     Ok(())
 }
 
@@ -112,6 +127,19 @@ fn fetches_files(rt: HostRuntime) -> Result<(), AllocError> {
             .map(|found| found.map(|bytes| bytes.len()));
         assert!(rt; got == want);
     }
+    Ok(())
+}
+
+// A file is fetched as it was written, also by its path alone.
+#[test]
+fn a_written_file_is_fetched(rt: HostRuntime) -> Result<(), Fail> {
+    let record = b"(;FF[4]GM[11]SZ[3];B[a2])\n";
+    fs::write(&rt, "fetched.sgf", record.as_slice())?;
+    let mut shelf = DirShelf::new(&rt);
+    let found = shelf.fetch(rt.alloc(), "fetched.sgf")?;
+    assert!(rt; found.as_deref() == Some(record.as_slice()));
+    fs::remove_file(&rt, "fetched.sgf")?;
+    assert!(rt; shelf.fetch(rt.alloc(), "fetched.sgf") == Ok(None));
     Ok(())
 }
 

@@ -1,5 +1,6 @@
 -- What determines a good turn.
-use Rattle.std.proofs.Common.{◌≡◌, ℕ, ◌<◌, List, get_or, refl, sym, ap, ◌∙◌, subst, arith}
+use Rattle.std.proofs.Common.{◌≡◌, ℕ, ◌<◌, true, false, List, get_or, Option, Some, None, refl, sym, ap, ◌∙◌, subst, arith, rules}
+use Rattle.std.specs.Prelude.{IsSome, option_map}
 use Rattle.std.proofs.lemmas.List.FromFn.{get_or-map-range_with_len}
 use Rattle.hex_cells.specs.declared.colours.Colour.{Colour}
 use Rattle.hex_cells.proofs.Bits.{same_set}
@@ -10,8 +11,10 @@ use Rattle.tree_words.specs.Settings.{Setting}
 use Rattle.tree_words.specs.Roots.{IsBest, HasRoot, root_count, row_at, rows_of}
 use Rattle.tree_words.specs.Sequence.{seq_of}
 use Rattle.tree_words.proofs.Boards.RootLaws.{has_root}
-use Rattle.hex_plan.specs.Good.{IsTurnShape, IsGood}
-use Rattle.hex_plan.specs.Reports.{rows_in}
+use Rattle.tree_words.specs.Closing.{ClosedTree}
+use Rattle.hex_plan.specs.Good.{IsTurnShape, IsGood, IsSearchedFor}
+use Rattle.hex_plan.specs.Reports.{rows_in, reported_rows, sequential_rows}
+use Rattle.hex_plan.specs.Seeds.{turn_knobs}
 use Rattle.hex_plan.specs.Turns.{Decision}
 use Rattle.hex_plan.proofs.Reports.{rows_of_tree}
 
@@ -47,29 +50,62 @@ same_best s a b x y h k e p q =
     let ge = q.least i li (omega (arith, most_a, most_b, vi, vj)) in
     omega (arith, le, ge, p.is, q.is, ci, cj)
 
--- with one worker the report of a good turn is that of Seq
-pub report_is_seq : (options : Knobs) (t : Decision) → options.workers ≡ 1 → IsGood options t → rows_of t.closed.shape t.closed.words ≡ rows_in (seq_of t.closed.shape).0
-report_is_seq options t one g = rows_of_tree t.closed.shape t.closed.words (seq_of t.closed.shape).0 g.setting g.closed (g.sequential one)
+-- where no connections are looked for a good turn has a tree, which was searched for it
+tree_of : (options : Knobs) (t : Decision) → IsGood options false t → (c : ClosedTree) × (t.closed ≡ Some c) × IsSearchedFor options t c
+tree_of options t g = the_tree t.closed (g.tree refl) (λ c e. g.searched c e)
+  where
+    the_tree : (o : Option ClosedTree) → IsSome o → ((c : ClosedTree) → o ≡ Some c → IsSearchedFor options t c) → (c : ClosedTree) × (o ≡ Some c) × IsSearchedFor options t c
+    the_tree None h s = absurd (search rules)
+    the_tree (Some c) h s = (c, refl, s c refl)
 
--- two good turns of one shape, with one worker
-twins : (options : Knobs) (s : Setting) (t u : Decision) → options.workers ≡ 1 → IsGood options t → IsGood options u → t.closed.shape ≡ s → u.closed.shape ≡ s
-    → (t.cell ≡ u.cell) × (rows_of t.closed.shape t.closed.words ≡ rows_of u.closed.shape u.closed.words)
-twins options s t u one g h e f =
-    let rows : rows_of t.closed.shape t.closed.words ≡ rows_of u.closed.shape u.closed.words
-    = report_is_seq options t one g ∙ (ap (λ (z : Setting). rows_in (seq_of z).0) (e ∙ sym f) ∙ sym (report_is_seq options u one h)) in
-    let rows' : rows_of s t.closed.words ≡ rows_of s u.closed.words = ap (λ (z : Setting). rows_of z t.closed.words) (sym e) ∙ rows ∙ ap (λ (z : Setting). rows_of z u.closed.words) f in
-    let root_t : HasRoot s t.closed.words = subst (λ (z : Setting). HasRoot z t.closed.words) e (has_root t.closed.shape t.closed.words g.setting g.closed) in
-    let root_u : HasRoot s u.closed.words = subst (λ (z : Setting). HasRoot z u.closed.words) f (has_root u.closed.shape u.closed.words h.setting h.closed) in
-    let best_t : IsBest s t.closed.words t.cell = subst (λ (z : Setting). IsBest z t.closed.words t.cell) e g.best in
-    let best_u : IsBest s u.closed.words u.cell = subst (λ (z : Setting). IsBest z u.closed.words u.cell) f h.best in
-    (same_best s t.closed.words u.closed.words t.cell u.cell root_t root_u rows' best_t best_u, rows)
+rows_in_tree : (options : Knobs) (t : Decision) (c : ClosedTree) → options.workers ≡ 1 → IsSearchedFor options t c → rows_of c.shape c.words ≡ rows_in (seq_of c.shape).0
+rows_in_tree options t c one s = rows_of_tree c.shape c.words (seq_of c.shape).0 s.setting s.closed (s.sequential one)
+
+-- with one worker the report of a good turn is that of Seq
+pub report_is_seq : (options : Knobs) (t : Decision) → options.workers ≡ 1 → IsGood options false t → reported_rows t ≡ sequential_rows t
+report_is_seq options t one g =
+    let tree = tree_of options t g in
+    let c : ClosedTree = tree.0 in
+    ap (option_map (λ (z : ClosedTree). rows_of z.shape z.words)) tree.1 ∙ ap Some (rows_in_tree options t c one tree.2)
+    ∙ ap (option_map (λ (z : ClosedTree). rows_in (seq_of z.shape).0)) (sym tree.1)
+
+-- two trees of one shape that were searched for turns, with one worker
+twins : (options : Knobs) (s : Setting) (t u : Decision) (c d : ClosedTree) → options.workers ≡ 1 → IsSearchedFor options t c → IsSearchedFor options u d → c.shape ≡ s → d.shape ≡ s
+    → (t.cell ≡ u.cell) × (rows_of c.shape c.words ≡ rows_of d.shape d.words)
+twins options s t u c d one g h e f =
+    let rows : rows_of c.shape c.words ≡ rows_of d.shape d.words
+    = rows_in_tree options t c one g ∙ (ap (λ (z : Setting). rows_in (seq_of z).0) (e ∙ sym f) ∙ sym (rows_in_tree options u d one h)) in
+    let rows' : rows_of s c.words ≡ rows_of s d.words = ap (λ (z : Setting). rows_of z c.words) (sym e) ∙ rows ∙ ap (λ (z : Setting). rows_of z d.words) f in
+    let root_t : HasRoot s c.words = subst (λ (z : Setting). HasRoot z c.words) e (has_root c.shape c.words g.setting g.closed) in
+    let root_u : HasRoot s d.words = subst (λ (z : Setting). HasRoot z d.words) f (has_root d.shape d.words h.setting h.closed) in
+    let best_t : IsBest s c.words t.cell = subst (λ (z : Setting). IsBest z c.words t.cell) e g.best in
+    let best_u : IsBest s d.words u.cell = subst (λ (z : Setting). IsBest z d.words u.cell) f h.best in
+    (same_best s c.words d.words t.cell u.cell root_t root_u rows' best_t best_u, rows)
 
 -- with one worker the options, the board, the player and the number determine what a good turn plays and reports
-pub same_turn : (options : Knobs) (t u : Decision) → options.workers ≡ 1 → IsGood options t → IsGood options u → t.board ≡ u.board → t.player ≡ u.player → t.number ≡ u.number
-    → (t.cell ≡ u.cell) × (rows_of t.closed.shape t.closed.words ≡ rows_of u.closed.shape u.closed.words)
+pub same_turn : (options : Knobs) (t u : Decision) → options.workers ≡ 1 → IsGood options false t → IsGood options false u → t.board ≡ u.board → t.player ≡ u.player → t.number ≡ u.number
+    → (t.cell ≡ u.cell) × (reported_rows t ≡ reported_rows u)
 same_turn options t u one g h b p n =
-    let moved : IsTurnShape options u.board u.player u.number t.closed.shape
-    = subst (λ (m : ℕ). IsTurnShape options u.board u.player m t.closed.shape) n
-    (subst (λ (c : Colour). IsTurnShape options u.board c t.number t.closed.shape) p
-    (subst (λ (z : Position). IsTurnShape options z t.player t.number t.closed.shape) b g.shape)) in
-    twins options u.closed.shape t u one g h (same_shape options u.board u.player u.number t.closed.shape u.closed.shape moved h.shape) refl
+    let mine = tree_of options t g in
+    let other = tree_of options u h in
+    let c : ClosedTree = mine.0 in
+    let d : ClosedTree = other.0 in
+    let moved : IsTurnShape options u.board u.player u.number c.shape
+    = subst (λ (m : ℕ). IsTurnShape options u.board u.player m c.shape) n
+    (subst (λ (k : Colour). IsTurnShape options u.board k t.number c.shape) p
+    (subst (λ (z : Position). IsTurnShape options z t.player t.number c.shape) b mine.2.shape)) in
+    let same = twins options d.shape t u c d one mine.2 other.2 (same_shape options u.board u.player u.number c.shape d.shape moved other.2.shape) refl in (
+      same.0,
+      ap (option_map (λ (z : ClosedTree). rows_of z.shape z.words)) mine.1 ∙ ap Some same.1
+          ∙ ap (option_map (λ (z : ClosedTree). rows_of z.shape z.words)) (sym other.1),
+    )
+
+-- with one worker, of two good turns of one board, player and number the searches have one shape
+pub same_searches : (options : Knobs) (t u : Decision) → IsGood options false t → IsGood options false u → t.board ≡ u.board → t.player ≡ u.player → t.number ≡ u.number
+    → option_map (λ (z : ClosedTree). z.shape.knobs) t.closed ≡ option_map (λ (z : ClosedTree). z.shape.knobs) u.closed
+same_searches options t u g h b p n =
+    let mine = tree_of options t g in
+    let other = tree_of options u h in
+    ap (option_map (λ (z : ClosedTree). z.shape.knobs)) mine.1
+    ∙ ap Some (mine.2.shape.knobs ∙ ap (turn_knobs options) n ∙ sym other.2.shape.knobs)
+    ∙ ap (option_map (λ (z : ClosedTree). z.shape.knobs)) (sym other.1)

@@ -1,6 +1,7 @@
 //! Turns.
 
-ghost use Rattle.std.specs.Prelude.{◌≡◌, ◌*◌, ◌<◌, None, true};
+ghost use Rattle.std.specs.Prelude.{◌≡◌, ◌*◌, ◌<◌, Bool, None, Some, true, IfSome, option_map};
+ghost use Rattle.std.specs.Option.{ForSome};
 ghost use Rattle.hex_board.specs.Joined.{winner_of};
 ghost use Rattle.hex_board.specs.Positions.{is_empty_at};
 ghost use Rattle.tree_words.specs.declared.settings.Knobs.{Knobs};
@@ -14,14 +15,15 @@ use hex_cells::{Cell, Colour};
 use std::marker::Model;
 use tree_words::{Closed, best};
 
-/// A turn: the board, the player to move there, the turn's number, the closed tree of its search, and the cell that was
-/// chosen. It keeps that the tree is that of its board and player, and that the cell is empty and the tree's best.
+/// A turn: the board, the player to move there, the turn's number, the closed tree that was searched for it, if one
+/// was, and the cell that was chosen. It keeps that the cell is empty, and that the tree is one of its board and player
+/// whose best cell this is.
 #[derive(Debug, Drop)]
 pub struct Turn {
     board: Board,
     colour: Colour,
     number: u64,
-    closed: Closed,
+    closed: Option<Closed>,
     cell: Cell,
 }
 
@@ -51,12 +53,20 @@ impl Turn {
     /// The turn with this number that the tree decides: its board and player are those of the tree, and its cell is the
     /// tree's best.
     pub fn of(closed: Closed, number: u64) -> Turn
-        ensures parts { result ≡ record { board = closed.shape.board; player = closed.shape.player; number = number; closed = closed; cell = result.cell } }
+        ensures parts { result ≡ record {
+          board = closed.shape.board;
+          player = closed.shape.player;
+          number = number;
+          closed = Some closed;
+          cell = result.cell;
+        } }
         ensures best { IsBest closed.shape closed.words result.cell }
         ensures empty { is_empty_at closed.shape.board result.cell ≡ true }
         // Where the tree's shape is that of this turn and no player is joined, the turn is good; for one worker the tree has
         // to be that of Seq.
-        ensures good { (options : Knobs) → winner_of closed.shape.board ≡ None → IsTurnShape options closed.shape.board closed.shape.player number closed.shape → IsSequential options closed → IsGood options result }
+        ensures good { (options : Knobs) (hsearch : Bool) → winner_of closed.shape.board ≡ None →
+            IsTurnShape options closed.shape.board closed.shape.player number closed.shape →
+            IsSequential options closed → IsGood options hsearch result }
     {
         let cell = decided(&closed);
         let shape = closed.shape();
@@ -66,7 +76,7 @@ impl Turn {
             board,
             colour,
             number,
-            closed,
+            closed: Some(closed),
             cell,
         }
     }
@@ -92,22 +102,23 @@ impl Turn {
         self.number
     }
 
-    /// The tree of the turn's search.
-    pub fn closed(&self) -> &Closed
-        ensures value { result.now ≡ self.now.closed }
-        ensures board { result.now.shape.board ≡ self.now.board }
-        ensures player { result.now.shape.player ≡ self.now.player }
+    /// The tree that was searched for the turn, if one was: one of its board and player.
+    pub fn closed(&self) -> Option<&Closed>
+        ensures value { option_map (λ closed. closed.now) result ≡ self.now.closed }
+        ensures board { IfSome result (λ closed. closed.now.shape.board ≡ self.now.board) }
+        ensures player { IfSome result (λ closed. closed.now.shape.player ≡ self.now.player) }
     {
-        &self.closed
+        self.closed.as_ref()
     }
 
-    /// The cell that was chosen: the least of those of the root's children with most visits, which is empty.
+    /// The cell that was chosen, which is empty: of a turn with a tree, the least cell of those of the root's children
+    /// with most visits.
     #[tactic(auto, using(hex_board::proofs::Placed::empty_on))]
     pub fn cell(&self) -> Cell
         ensures value { result ≡ self.now.cell }
         ensures on_board { result < self.now.board.size * self.now.board.size }
         ensures empty { is_empty_at self.now.board result ≡ true }
-        ensures best { IsBest self.now.closed.shape self.now.closed.words result }
+        ensures best { ForSome self.now.closed (λ closed. IsBest closed.shape closed.words result) }
     {
         self.cell
     }

@@ -1,33 +1,54 @@
 -- What the status tells of the end.
-use Rattle.std.proofs.Common.{sym, ◌∙◌}
+use Rattle.std.proofs.Common.{sym, ap, ◌∙◌}
+use Rattle.hex_io.specs.Reported.{Reported}
 use Rattle.hex_engine.specs.EngineState.{opening}
-use Rattle.hex_cli.specs.Runs.{knobs_of}
-use Rattle.hex_cli.specs.declared.ends.End.TheVariants.{Usage, Done}
+use Rattle.hex_cli.specs.Runs.{engine_options}
+use Rattle.hex_cli.specs.declared.ends.End.TheVariants.{Usage, Done, ReadFault, WriteFault, ArchiveFault}
 use Rattle.hex_cli.specs.declared.top.TheConstants.{INPUT_LIMIT}
-use Rattle.hex_cli.proofs.RunLaws.{same_end, complete_at, too_long_exactly}
+use Rattle.hex_cli.proofs.RunLaws.{same_end, status_counts, complete_at, too_long_exactly}
 use Rattle.hex_cli.proofs.DeterminedLaws.{determined_at}
+use Rattle.hex_cli.proofs.SearchedMoves.{headline_at}
 use Rattle.std.proofs.Common.{subst}
-use Rattle.hex_cli.specs.Outcome.{Conversed}
+use Rattle.hex_cli.specs.Outcome.{Conversed, error_line, status_of}
 use Rattle.hex_cli.proofs.top.run.Goals as goal
 
 pub returns-clause-usage : goal.returns-clause-usage
-returns-clause-usage g c = λ e. c.serve-end.ensures.usage (same_end c.serve-end.result Usage (sym c.report.ensures.status ∙ e))
+returns-clause-usage g c = λ e. c.serve-end.ensures.usage (same_end c.serve-end.result Usage (sym c.status.ensures ∙ e))
 
 pub returns-clause-too_long : goal.returns-clause-too_long
 returns-clause-too_long g c = λ options well_formed.
     let all = c.serve-end.ensures.conversed options well_formed in
-    rw c.report.ensures.status (too_long_exactly c.serve-end.result (opening (knobs_of options) options.size) all.used INPUT_LIMIT _ _ all.outcome)
+    rw c.status.ensures (too_long_exactly c.serve-end.result (opening (engine_options options) options.size) all.used INPUT_LIMIT _ _ all.outcome)
 
 pub returns-clause-complete : goal.returns-clause-complete
 returns-clause-complete g c = λ options well_formed read write archive.
     let all = c.serve-end.ensures.conversed options well_formed in
-    rw c.report.ensures.status (complete_at c.serve-end.result (opening (knobs_of options) options.size) all.used INPUT_LIMIT _ _ all.outcome
-    (λ e. c.serve-end.ensures.usage e options well_formed) (λ e. read (c.serve-end.ensures.read_fault e)) (λ e. write (c.serve-end.ensures.write_fault e)) (λ e. archive (c.serve-end.ensures.archive_fault e)))
+    rw c.status.ensures (complete_at c.serve-end.result (opening (engine_options options) options.size) all.used INPUT_LIMIT _ _ all.outcome
+    (λ e. c.serve-end.ensures.usage e options well_formed) (λ e. read (c.serve-end.ensures.read_fault.rose e)) (λ e. write (c.serve-end.ensures.write_fault.rose e)) (λ e. archive (c.serve-end.ensures.archive_fault.rose e)))
 
 pub returns-clause-errors : goal.returns-clause-errors
-returns-clause-errors g c = λ end e. rw (← same_end c.serve-end.result end (sym c.report.ensures.status ∙ e)) c.report.ensures.errors
+returns-clause-errors g c = λ end e.
+    subst (Reported (g.E.Link.told c.args.errors.now) (g.E.Link.told c.report.new.errors) (g.E.Link.write_faults c.args.errors.now) (g.E.Link.write_faults c.report.new.errors))
+    (c.line.ensures ∙ ap error_line (same_end c.serve-end.result end (sym c.status.ensures ∙ e))) c.report.ensures
 
 pub returns-clause-determined : goal.returns-clause-determined
 returns-clause-determined g c = λ options well_formed e.
-    let done = same_end c.serve-end.result Done (sym c.report.ensures.status ∙ e) in
-    determined_at (knobs_of options) options.size INPUT_LIMIT _ _ _ _ _ _ (rw done at c.serve-end.ensures.conversed options well_formed)
+    let done = same_end c.serve-end.result Done (sym c.status.ensures ∙ e) in
+    determined_at (engine_options options) options.size INPUT_LIMIT _ _ _ _ _ _ (rw done at c.serve-end.ensures.conversed options well_formed)
+
+pub returns-clause-well_formed : goal.returns-clause-well_formed
+returns-clause-well_formed g c = λ used ample. c.serve-end.ensures.well_formed (λ e. used (c.status.ensures ∙ ap status_of e)) (λ e. ample (c.status.ensures ∙ ap status_of e))
+
+pub returns-clause-read_fault : goal.returns-clause-read_fault
+returns-clause-read_fault g c = status_counts _ _ c.serve-end.result ReadFault c.status.result c.status.ensures c.serve-end.ensures.read_fault
+
+pub returns-clause-write_fault : goal.returns-clause-write_fault
+returns-clause-write_fault g c = status_counts _ _ c.serve-end.result WriteFault c.status.result c.status.ensures c.serve-end.ensures.write_fault
+
+pub returns-clause-archive_fault : goal.returns-clause-archive_fault
+returns-clause-archive_fault g c = status_counts _ _ c.serve-end.result ArchiveFault c.status.result c.status.ensures c.serve-end.ensures.archive_fault
+
+pub returns-clause-headline : goal.returns-clause-headline
+returns-clause-headline g c = λ options well_formed e.
+    let done = same_end c.serve-end.result Done (sym c.status.ensures ∙ e) in
+    headline_at (engine_options options) options.size INPUT_LIMIT _ _ _ _ _ _ (rw done at c.serve-end.ensures.conversed options well_formed)

@@ -1,13 +1,13 @@
 -- Words that made options are well formed, and their values are in range.
 use Rattle.std.proofs.Common.{◌≡◌, Some, ap, ◌∙◌}
 use Rattle.hexd_words.specs.declared.settings.Options.{Options}
-use Rattle.hex_cli.specs.Runs.{knobs_of}
+use Rattle.hex_cli.specs.Runs.{engine_options}
 use Rattle.hex_cli.specs.declared.top.TheConstants.{INPUT_LIMIT}
 use Rattle.hex_cli.proofs.Conversations.{conversed_nothing, conversed_same}
 use Rattle.hex_cli.proofs.top.serve.Goals as goal
 
 pub returns-in-Err-clause-conversed : goal.returns-in-Err-clause-conversed
-returns-in-Err-clause-conversed g c = λ options well_formed. conversed_nothing (knobs_of options) options.size INPUT_LIMIT _ _
+returns-in-Err-clause-conversed g c = λ options well_formed. conversed_nothing (engine_options options) options.size INPUT_LIMIT _ _
 
 pub returns-in-Ok-None-clause-usage : goal.returns-in-Ok-None-clause-usage
 returns-in-Ok-None-clause-usage g c = λ e options well_formed.
@@ -32,5 +32,8 @@ pub returns-clause-conversed : goal.returns-clause-conversed
 returns-clause-conversed g c = λ options well_formed.
     let made : c.in-Ok-Some.field-0 ≡ Some options = (c.in-Ok-Some.ensures.exact options).1 well_formed in
     let same : c.in-Ok-Some.options ≡ options = cc in
-    conversed_same c.converse.result c.knobs-knobs.result (knobs_of options) c.board_size.result options.size INPUT_LIMIT _ _ _ _
-    (c.knobs-knobs.ensures.value ∙ ap knobs_of same) (c.board_size.ensures ∙ ap (λ (o : Options). o.size) same) c.converse.ensures.conversed
+    conversed_same c.converse.result c.engine_options.result (engine_options options) c.board_size.result options.size INPUT_LIMIT _ _ _ _
+    (c.engine_options.ensures.value ∙ ap engine_options same) (c.board_size.ensures ∙ ap (λ (o : Options). o.size) same) c.converse.ensures.conversed
+
+pub returns-clause-well_formed : goal.returns-clause-well_formed
+returns-clause-well_formed g c = λ used ample. (c.in-Ok-Some.options, (c.in-Ok-Some.ensures.exact c.in-Ok-Some.options).0 (cc))

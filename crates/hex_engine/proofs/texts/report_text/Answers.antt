@@ -1,13 +1,20 @@
-use Rattle.std.proofs.Common.{◌≡◌, ◌∙◌, subst}
-use Rattle.tree_words.specs.Settings.{IsSetting}
-use Rattle.tree_words.specs.Closing.{IsClosed}
-use Rattle.hex_engine.proofs.Rows.{turn_rows_on}
+-- The report is that of the turn's tree, if it has one.
+use Rattle.std.proofs.Common.{◌≡◌, Option, Some, None, sym, ap, ◌∙◌}
+use Rattle.std.specs.Prelude.{option_map}
+use Rattle.tree_words.specs.Closing.{ClosedTree}
+use Rattle.hex_engine.specs.Report.{report_of, report_on}
 use Rattle.hex_engine.proofs.texts.report_text.Goals as goal
 
--- the rows are those of a closed tree on the turn's board
-pub push_rows-requires : goal.push_rows-requires
-push_rows-requires c =
-    let closed : IsClosed c.closed-closed.result.now.shape c.closed-closed.result.now.words = subst (IsClosed c.closed-closed.result.now.shape) c.words-words.ensures.value c.words-words.ensures.closed in
-    let set : IsSetting c.closed-closed.result.now.shape = subst IsSetting c.shape.ensures.value c.shape.ensures.setting in
-    let size : c.closed-closed.result.now.shape.board.size ≡ c.size.result = cc in
-    turn_rows_on c.closed-closed.result.now.shape c.closed-closed.result.now.words c.size.result c.deref.result.now set closed size (c.deref.ensures.value ∙ c.in-Ok.ensures.rows)
+pub returns-in-None : goal.returns-in-None
+unfolding report_of
+returns-in-None c =
+    let none : c.args.turn.now.closed ≡ None = sym c.closed.ensures.value ∙ ap (option_map (λ tree. tree.now)) c.in-None.is in
+    sym (ap (option_map (report_on c.args.turn.now.board.size)) none)
+
+pub returns-in_ok-tree_text-in-Some : goal.returns-in_ok-tree_text-in-Some
+unfolding report_of
+returns-in_ok-tree_text-in-Some c =
+    let tree : ClosedTree = c.in-Some.closed.now in
+    let some : c.args.turn.now.closed ≡ Some tree = sym c.closed.ensures.value ∙ ap (option_map (λ tree. tree.now)) c.in-Some.is in
+    let size : c.size.result ≡ c.args.turn.now.board.size = cc in
+    ap Some (c.in_ok-tree_text-in-Some.ensures ∙ ap (λ n. report_on n tree) size) ∙ sym (ap (option_map (report_on c.args.turn.now.board.size)) some)

@@ -1,5 +1,5 @@
 -- What was gathered for the last line was given.
-use Rattle.hex_cli.proofs.Batches.{last_given, last_broke_off}
+use Rattle.hex_cli.proofs.Feeding.{last_given, last_broke_off}
 use Rattle.hex_cli.proofs.session.Session.finish.Goals as goal
 
 pub returns-in-Err-clause-broke_off : goal.returns-in-Err-clause-broke_off

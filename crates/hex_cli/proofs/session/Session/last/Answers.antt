@@ -1,6 +1,6 @@
 -- The answer to the last line.
 use Rattle.std.proofs.Common.{◌≡◌, true, false, rules}
-use Rattle.hex_cli.proofs.Advances.{answered_last, no_last, spent_last, lacking_last}
+use Rattle.hex_cli.proofs.Advances.{answered_last, no_last, stopped_last, lacking_last}
 use Rattle.hex_cli.proofs.session.Session.last.Goals as goal
 
 pub returns-then-eq-clause-answers : goal.returns-then-eq-clause-answers
@@ -11,7 +11,7 @@ returns-then-eq-clause-answers g c =
 pub returns-in-Err-clause-gave_up : goal.returns-in-Err-clause-gave_up
 returns-in-Err-clause-gave_up g c = λ e.
     let ended : c.finish-what.new.self.ended ≡ true = search rules in
-    spent_last _ _ _ _ c.finish-what.new.self c.finish-what.ensures.stream ended (c.answer.ensures.spends (cc))
+    stopped_last _ _ _ _ c.finish-what.new.self c.finish-what.ensures.stream ended (c.answer.ensures.in_vain (cc))
 
 pub returns-in-Err-clause-held_back : goal.returns-in-Err-clause-held_back
 returns-in-Err-clause-held_back g c = λ e.

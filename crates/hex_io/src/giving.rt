@@ -1,12 +1,14 @@
-//! Gives all of some bytes to a link.
+//! Gives all of some bytes to a link, and a line of failure whatever comes of it.
 
 ghost use Rattle.std.specs.Prelude.{◌≡◌, OnOk, OnErr};
-ghost use Rattle.hex_io.specs.Grew.{Gave, GavePart};
 ghost use Rattle.hex_io.specs.Causes.{HasCause};
+ghost use Rattle.hex_io.specs.Grew.{Gave, GavePart};
+ghost use Rattle.hex_io.specs.Reported.{Reported};
 
-use hex_io::{Link, LinkFault};
+use super::links::Link;
+use super::refusals::LinkFault;
 
-/// Gives all of the bytes. At a fault a front of them was given.
+/// Gives all of the bytes. At a fault a front of them was given, and nothing is given after it.
 pub fn give<L: Link>(link: &mut L, bytes: &[u8]) -> Result<(), LinkFault>
     ensures all { OnOk result (Gave (L.told link.old) (L.told link.new) bytes.now) }
     ensures part { OnErr result (GavePart (L.told link.old) (L.told link.new) bytes.now) }
@@ -21,4 +23,12 @@ pub fn give<L: Link>(link: &mut L, bytes: &[u8]) -> Result<(), LinkFault>
         }
     }
     Ok(())
+}
+
+/// Gives a line of failure. A fault changes nothing but how much of the line is given.
+pub fn report<L: Link>(errors: &mut L, line: &[u8])
+    ensures { Reported (L.told errors.old) (L.told errors.new)
+        (L.write_faults errors.old) (L.write_faults errors.new) line.now }
+{
+    let _ = give(errors, line);
 }

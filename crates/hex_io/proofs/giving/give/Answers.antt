@@ -1,12 +1,12 @@
 use Rattle.std.proofs.Common.{arith}
 use Rattle.hex_io.proofs.GaveLaws.{Gave-take, Gave-front}
-use Rattle.hex_cli.proofs.giving.give.Goals as goal
+use Rattle.hex_io.proofs.giving.give.Goals as goal
 
 pub loop-at-preserved : goal.loop-at-preserved
 loop-at-preserved g c = record {
   in_bytes = omega (arith, c.in-Ok.ensures.bound);
   gave = Gave-take _ _ _ c.args.bytes.now c.loop-at.at c.in-Ok.count c.loop-at.invariant.gave c.in-Ok.ensures.told;
-  later = omega (arith, c.write.ensures.cause.later);
+  kept = omega (arith, c.in-Ok.ensures.cause.kept);
   reads = grind arith;
 }
 

@@ -1,10 +1,10 @@
--- What is given to the errors.
+-- What is given to a link for a line of failure.
 use Rattle.std.specs.Prelude.{ℕ, List, ◌⊎◌}
 use Rattle.std.specs.declared.option.Option.{Option}
 use Rattle.hex_io.specs.Told.{Told}
 use Rattle.hex_io.specs.Causes.{Rose}
 use Rattle.hex_io.specs.Grew.{Gave, GavePart}
 
--- the text was given, or a front of it where the count of faults rose
+-- the line was given, or a front of it where the count of faults rose
 abbrev pub Reported : Option Told → Option Told → ℕ → ℕ → List ℕ → Type 0
-Reported old new before now text = Gave old new text ⊎ (GavePart old new text × Rose before now)
+Reported old new before now line = Gave old new line ⊎ (GavePart old new line × Rose before now)

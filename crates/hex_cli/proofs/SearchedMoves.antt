@@ -1,0 +1,148 @@
+-- Each line that takes a turn is answered by a searched move.
+use Rattle.std.proofs.Common.{◌≡◌, ◌≢◌, ℕ, zero, suc, ◌+◌, Bool, true, false, cond, List, [], ◌∷◌, ◌++◌, Option, Some, None, Result, Ok, Err, ◌⊎◌, ⊎_elim, inl, inr, fold, drop, refl, sym, ap, ◌∙◌, subst, add-one}
+use Rattle.std.specs.Prelude.{slice_get}
+use Rattle.std.proofs.lemmas.List.Sums.{fold_push}
+use Rattle.hex_io.specs.Told.{Told, Both}
+use Rattle.hex_io.proofs.BothLaws.{Both-weaker}
+use Rattle.htp_line.specs.Answering.{success}
+use Rattle.htp_line.specs.Reading.{Reading, Blank, Bare, Ask, reading}
+use Rattle.htp_line.specs.Splitting.{kept}
+use Rattle.hex_cells.specs.declared.colours.Colour.{Colour}
+use Rattle.hex_cells.specs.Vertices.{vertex_of}
+use Rattle.hex_game.specs.Games.{board_of}
+use Rattle.hex_io.specs.Shelves.{Shelved}
+use Rattle.hex_plan.specs.Turns.{Decision}
+use Rattle.hex_engine.specs.declared.options.Options.{Options}
+use Rattle.hex_engine.specs.EngineState.{EngineState, opening}
+use Rattle.hex_engine.specs.Supply.{Supply}
+use Rattle.hex_engine.specs.Uses.{AreGood, IsGoodFor}
+use Rattle.hex_engine.specs.Replies.{Turned, Missing, Reply, is_next, turned, reaction}
+use Rattle.hex_cli.specs.Talk.{Said, goes_on, reply_text, said_turned, said_reading, said, with_said, step, silence, talk}
+use Rattle.hex_cli.specs.Outcome.{Conversed}
+use Rattle.hex_cli.specs.Headline.{IsSearchedMove, AreSearchedMoves, Headline}
+use Rattle.hex_cli.specs.declared.ends.End.TheVariants as ending
+use Rattle.hex_cli.proofs.LegalMoves.{next_is_legal}
+use Rattle.hex_cli.proofs.Reactions.{TakesTurn, MayTakeTurn, reaction_takes}
+use Rattle.hex_cli.proofs.SupplyLaws.{step_keeps}
+
+-- ---- a line
+
+-- what was said to a line that took the next turn
+record SaysTurn (at : EngineState) (left : Supply) (s : Said) : Type 0 where
+  turn : Decision
+  colour : Colour
+  was : left.turns ≡ turn ∷ s.left.turns
+  next : is_next at colour turn ≡ true
+  after : s.at ≡ (turned at colour turn).after
+  written : (id : Option ℕ) × (s.text ≡ success id (vertex_of (board_of at.game).size turn.cell))
+
+abbrev MaySayTurn : EngineState → Supply → Said → Type 0
+MaySayTurn at left s = ((s.left.turns ≡ left.turns) × (s.at.turns ≡ at.turns)) ⊎ SaysTurn at left s
+
+turned_says : (at : EngineState) (left : Supply) (id : Option ℕ) (r : Result Turned Missing) → MayTakeTurn at left r → MaySayTurn at left (said_turned at left id r)
+turned_says at left id (Err missing) h = inl (refl, refl)
+turned_says at left id (Ok t) h = ⊎_elim
+    (λ (same : (t.left.turns ≡ left.turns) × (t.after.turns ≡ at.turns)). inl same)
+    (λ (took : TakesTurn at left t). inr (record {
+      turn = took.turn;
+      colour = took.colour;
+      was = took.was;
+      next = took.next;
+      after = took.after;
+      written = (id, ap (reply_text id) took.reply);
+    })) h
+
+reading_says : (at : EngineState) (left : Supply) (line : Reading) → MaySayTurn at left (said_reading at left line)
+reading_says at left Blank = inl (refl, refl)
+reading_says at left (Bare id) = inl (refl, refl)
+reading_says at left (Ask asked) = turned_says at left asked.id (reaction at left asked) (reaction_takes at left asked)
+
+said_says : (at : EngineState) (left : Supply) (line : Option (List ℕ)) → MaySayTurn at left (said at left line)
+said_says at left None = inl (refl, refl)
+said_says at left (Some raw) = reading_says at left (reading raw)
+
+-- ---- the turns that are left
+
+-- what begins with x from place n on has x there, and goes on with what follows
+dropped : (xs : List Decision) (n : ℕ) (x : Decision) (others : List Decision) → drop n xs ≡ x ∷ others → (slice_get xs n ≡ Some x) × (drop (suc n) xs ≡ others)
+dropped [] zero x others e = absurd (cc)
+dropped [] (suc n) x others e = absurd (cc)
+dropped (y ∷ ys) zero x others e = (cc, cc)
+dropped (y ∷ ys) (suc n) x others e = dropped ys n x others e
+
+-- the turns that are left are those after the turns that were taken, and they are good for the options
+record Holds (options : Options) (turns : List Decision) (s : Said) : Type 0 where
+  good : AreGood options s.left.turns
+  place : drop s.at.turns turns ≡ s.left.turns
+  same : s.at.options ≡ options
+
+-- one line more
+record Goes (options : Options) (turns : List Decision) (before after : Said) : Type 0 where
+  holds : Holds options turns after
+  searched : after.at.turns ≢ before.at.turns → IsSearchedMove options turns before after
+
+stands_still : (options : Options) (turns : List Decision) (before after : Said) → Holds options turns before → after.at.options ≡ before.at.options → after.left.turns ≡ before.left.turns → after.at.turns ≡ before.at.turns
+    → Goes options turns before after
+stands_still options turns before after h o l t = record {
+  holds = record {
+    good = subst (AreGood options) (sym l) h.good;
+    place = ap (λ n. drop n turns) t ∙ h.place ∙ sym l;
+    same = o ∙ h.same;
+  };
+  searched = λ moved. absurd (moved t);
+}
+
+takes_turn : (options : Options) (turns : List Decision) (before : Said) (s : Said) → Holds options turns before → s.at.options ≡ before.at.options → SaysTurn before.at before.left s → Goes options turns before (with_said before s)
+takes_turn options turns before s h o took =
+    let good : AreGood options (took.turn ∷ s.left.turns) = subst (AreGood options) took.was h.good in
+    let at = dropped turns before.at.turns took.turn s.left.turns (h.place ∙ took.was) in
+    let count : s.at.turns ≡ suc before.at.turns = ap (λ (e : EngineState). e.turns) took.after ∙ add-one before.at.turns in
+    record {
+      holds = record { good = good.1; place = ap (λ n. drop n turns) count ∙ at.1; same = o ∙ h.same };
+      searched = λ moved. record {
+        turn = took.turn;
+        colour = took.colour;
+        good = good.0;
+        placed = at.0;
+        legal = next_is_legal before.at took.colour took.turn (subst (λ p. IsGoodFor p took.turn) (sym h.same) good.0) took.next;
+        played = ap (λ (e : EngineState). e.game) took.after;
+        written = (took.written.0, ap (λ l. before.text ++ l) took.written.1);
+      };
+    }
+
+step_goes_if : (b : Bool) (options : Options) (turns : List Decision) (a : Said) (line : Option (List ℕ)) → Holds options turns a → (cond b (with_said a (said a.at a.left line)) a).at.options ≡ a.at.options
+    → Goes options turns a (cond b (with_said a (said a.at a.left line)) a)
+step_goes_if false options turns a line h o = stands_still options turns a a h refl refl refl
+step_goes_if true options turns a line h o = ⊎_elim
+    (λ (same : ((said a.at a.left line).left.turns ≡ a.left.turns) × ((said a.at a.left line).at.turns ≡ a.at.turns)). stands_still options turns a (with_said a (said a.at a.left line)) h o same.0 same.1)
+    (λ (took : SaysTurn a.at a.left (said a.at a.left line)). takes_turn options turns a (said a.at a.left line) h o took)
+    (said_says a.at a.left line)
+
+step_goes : (options : Options) (turns : List Decision) (a : Said) (raw : List ℕ) → Holds options turns a → (step a raw).at.options ≡ a.at.options → Goes options turns a (step a raw)
+unfolding step
+step_goes options turns a raw h o = step_goes_if (goes_on a.ending) options turns a (kept raw) h o
+
+-- ---- a talk
+
+fold_holds : (options : Options) (turns : List Decision) (a : Said) (lines : List (List ℕ)) → Holds options turns a → Holds options turns (fold step a lines)
+fold_holds options turns a [] h = h
+fold_holds options turns a (raw ∷ lines) h = fold_holds options turns (step a raw) lines (step_goes options turns a raw h (step_keeps a raw)).holds
+
+are_searched : (start : EngineState) (all : Supply) (lines : List (List ℕ)) → AreGood start.options all.turns → start.turns ≡ 0 → AreSearchedMoves start all lines
+are_searched start all lines good none before raw others split moved =
+    let first : Holds start.options all.turns (silence start all) = record { good = good; place = ap (λ n. drop n all.turns) none; same = refl } in
+    let here : Said = talk start all before in
+    let holds : Holds start.options all.turns here = fold_holds start.options all.turns (silence start all) before first in
+    let more : talk start all (before ++ raw ∷ []) ≡ step here raw = fold_push step (silence start all) before raw in
+    let goes = step_goes start.options all.turns here raw holds (step_keeps here raw) in
+    subst (IsSearchedMove start.options all.turns here) (sym more) (goes.searched (subst (λ (s : Said). s.at.turns ≢ here.at.turns) more moved))
+
+pub headline_at : (options : Options) (size limit : ℕ) (a b : Option Shelved) (c d : Option (List Decision)) (x y : Option Told) → Conversed ending.Done options size limit (a, c) (b, d) x y
+    → Both c d (λ s t. Both x y (λ o n. Headline options size s t o n))
+headline_at options size limit a b c d x y k =
+    Both-weaker c d _ _ (λ s t took. Both-weaker x y _ _ (λ o n p. record {
+      all = k.used;
+      archived = took;
+      given = p.ends.given;
+      searched = are_searched (opening options size) k.used _ k.uses.moving.good refl;
+    }) k.outcome) k.uses.moving.took

@@ -1,0 +1,12 @@
+//! How an engine chooses its moves.
+
+use tree_words::Knobs;
+
+/// How an engine chooses its moves.
+#[derive(Clone, Copy, Debug, PartialEq, Eq)]
+pub struct Options {
+    /// The knobs of its searches. The seed is that of the first one.
+    pub knobs: Knobs,
+    /// Whether it looks for virtual connections before it searches. It has no effect yet: none are looked for.
+    pub hsearch: bool,
+}
