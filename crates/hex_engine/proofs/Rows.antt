@@ -3,7 +3,7 @@ use Rattle.std.proofs.Common.{◌≡◌, ℕ, zero, suc, ◌+◌, ◌*◌, ◌<�
 use Rattle.std.specs.List.{range_with_len}
 use Rattle.tree_words.specs.Settings.{Setting, IsSetting}
 use Rattle.tree_words.specs.Closing.{IsClosed}
-use Rattle.tree_words.proofs.RootLaws.{has_root}
+use Rattle.tree_words.proofs.Boards.RootLaws.{has_root}
 use Rattle.tree_words.specs.Roots.{HasRoot, root_count, row_at, rows_of}
 use Rattle.tree_words.specs.declared.roots.Row.{Row}
 use Rattle.hex_engine.specs.Report.{row_line, row_lines, AreOn}
