@@ -9,7 +9,7 @@ use Rattle.tree_words.specs.Walks.{plus}
 use Rattle.tree_words.specs.Trees.{oldest_first}
 use Rattle.play_out.specs.declared.playouts.Ending.{Ending}
 use Rattle.tree_words.specs.Sequence.{search_game}
-use Rattle.tree_words.specs.Descents.{adds, sees}
+use Rattle.tree_words.specs.Descents.{adds, sees, Added, config_of}
 use Rattle.tree_words.specs.declared.layout.TheConstants.{HEADER_WORDS, NODE_WORDS, TALLY_WORD, SEEN_WORD}
 
 -- the first word of the node of place k of the block at b
@@ -40,3 +40,8 @@ pub record Counted (s : Setting) (bs : List LinkedBlock) (o : Ending)
   pub others : (i : ℕ)
       → ((w : ℕ) → is_node (root_at s) bs w ≡ true → (i ≢ w + TALLY_WORD) × (i ≢ w + SEEN_WORD))
       → slice_index after i ≡ slice_index before i
+
+-- the words after a walk have what it adds where its playout gave o
+abbrev pub AddsWalk : Setting → List LinkedBlock → Ending → List ℕ → List ℕ → Type 0
+AddsWalk s bs o before after =
+    Added (search_game s) (root_state s) (root_at s) o (config_of bs before) (config_of bs after)

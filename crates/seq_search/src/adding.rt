@@ -4,13 +4,11 @@ ghost use Rattle.std.specs.Prelude.{◌≡◌, ℕ, ◌+◌, ◌*◌, ◌^◌, �
 ghost use Rattle.hex_cells.specs.declared.colours.Colour.TheVariants.{White};
 ghost use Rattle.hex_cells.specs.Colours.{is_same};
 ghost use Rattle.tree_words.specs.Blocks.{LinkedBlock, one_if, block_size};
-ghost use Rattle.tree_words.specs.Words.{cell_in, root_at, nodes_in};
-ghost use Rattle.tree_words.specs.Paths.{root_state};
-ghost use Rattle.tree_words.specs.Sequence.{search_game, amount_of};
-ghost use Rattle.tree_words.specs.Descents.{Added, config_of};
+ghost use Rattle.tree_words.specs.Words.{cell_in, nodes_in};
+ghost use Rattle.tree_words.specs.Sequence.{amount_of};
 ghost use Rattle.seq_search.specs.Steps.{Holds, Records};
 ghost use Rattle.seq_search.specs.Descending.{Descended};
-ghost use Rattle.seq_search.specs.Adding.{Counted, Sighted, node_at};
+ghost use Rattle.seq_search.specs.Adding.{Counted, Sighted, node_at, AddsWalk};
 
 use super::descending::Descent;
 use hex_cells::{Cell, CellSet, Colour, MOST_CELLS};
@@ -101,8 +99,7 @@ pub(crate) fn add(words: &mut [u64], shape: &Shape, walk: &Descent, k: u32, endi
         → Descended shape.now bs words.old walk.now → Holds shape.now bs words.new (k + 1) }
     ensures added { (bs : List LinkedBlock) → Holds shape.now bs words.old k
         → Descended shape.now bs words.old walk.now
-        → Added (search_game shape.now) (root_state shape.now) (root_at shape.now) ending.now
-        (config_of bs words.old) (config_of bs words.new) }
+        → AddsWalk shape.now bs ending.now words.old words.new }
     ensures record { let white = one_if (is_same ending.now.winner White) in
         Records shape.now k (RECORD_UNIT * walk.now.node + white) words.old words.new }
 {

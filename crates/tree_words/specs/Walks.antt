@@ -41,8 +41,8 @@ pub record Game (S O : Type 0) : Type 0 where
   -- the cells of a new block
   pub cells : S → List ℕ
 
-abbrev pub cell_of : Tree → ℕ
-cell_of (node c v e row) = c
+abbrev pub node_cell : Tree → ℕ
+node_cell (node c v e row) = c
 
 abbrev pub counts_of : Tree → Count × Count
 counts_of (node c v e row) = (v, e)
@@ -67,7 +67,7 @@ fresh (c ∷ cs) = more (node c nothing nothing done) (fresh cs)
 -- the children that the walk does not enter: they may have been seen
 abbrev pub pass : {S O : Type 0} → Game S O → O → S → Children → Children
 pass g o s done = done
-pass g o s (more t ts) = more (lit (g.glimpse o s (cell_of t)) t) (pass g o s ts)
+pass g o s (more t ts) = more (lit (g.glimpse o s (node_cell t)) t) (pass g o s ts)
 
 -- the leaf of the walk, its visits and its S: at a node with children the walk goes to the chosen
 -- one
@@ -77,7 +77,7 @@ abbrev mutual
 
   pub leaf_row : {S O : Type 0} → Game S O → Count → Children → ℕ → S → Count × S
   leaf_row g v done i s = (v, s)
-  leaf_row g v (more t ts) zero s = leaf_state g t (g.next s (cell_of t))
+  leaf_row g v (more t ts) zero s = leaf_state g t (g.next s (node_cell t))
   leaf_row g v (more t ts) (suc i) s = leaf_row g v ts i s
 
 -- what the walk adds where its playout gave o: each node of the path gains, and each node of its
@@ -90,8 +90,8 @@ abbrev mutual
   pub add_row : {S O : Type 0} → Game S O → O → Children → ℕ → S → Children
   add_row g o done i s = done
   add_row g o (more t ts) zero s =
-      more (lit (g.glimpse o s (cell_of t)) (add g o t (g.next s (cell_of t)))) (pass g o s ts)
-  add_row g o (more t ts) (suc i) s = more (lit (g.glimpse o s (cell_of t)) t) (add_row g o ts i s)
+      more (lit (g.glimpse o s (node_cell t)) (add g o t (g.next s (node_cell t)))) (pass g o s ts)
+  add_row g o (more t ts) (suc i) s = more (lit (g.glimpse o s (node_cell t)) t) (add_row g o ts i s)
 
 -- the leaf of the walk gets its block, where it is to have one; n is `next`
 abbrev mutual
@@ -103,7 +103,7 @@ abbrev mutual
 
   pub expand_row : {S O : Type 0} → Game S O → ℕ → Children → ℕ → S → Children
   expand_row g n done i s = done
-  expand_row g n (more t ts) zero s = more (expand g n t (g.next s (cell_of t))) ts
+  expand_row g n (more t ts) zero s = more (expand g n t (g.next s (node_cell t))) ts
   expand_row g n (more t ts) (suc i) s = more t (expand_row g n ts i s)
 
 -- playout k from the leaf, and its adds
