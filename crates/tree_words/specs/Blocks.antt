@@ -3,8 +3,8 @@ use Rattle.std.specs.Prelude.{◌≡◌, ◌⊎◌, ℕ, zero, suc, ◌+◌, ◌
 use Rattle.tree_words.specs.Words.{move_word}
 use Rattle.tree_words.specs.declared.layout.TheConstants.{NODE_WORDS, LINK_WORD, HEADER_WORDS, HIGH_EMPTIES_SHIFT}
 
--- a block: its first word, the first word of its parent node, the set of the empty cells of the parent's board, and the cells of
--- its nodes in the order of their places
+-- a block: its first word, the first word of its parent node, the set of the empty cells of the
+-- parent's board, and the cells of its nodes in the order of their places
 pub record LinkedBlock : Type 0 where
   pub start : ℕ
   pub parent : ℕ
@@ -31,7 +31,9 @@ child b i = b.start + HEADER_WORDS + NODE_WORDS * i
 
 -- a node of the block begins at x
 abbrev pub has_node : LinkedBlock → ℕ → Bool
-has_node b x = nat_le (b.start + HEADER_WORDS) x && (nat_lt x (b.start + size b) && ((x - b.start) % NODE_WORDS == 0))
+has_node b x =
+    nat_le (b.start + HEADER_WORDS) x
+    && (nat_lt x (b.start + size b) && ((x - b.start) % NODE_WORDS == 0))
 
 -- the place of the block's node at x
 abbrev pub place : LinkedBlock → ℕ → ℕ
@@ -41,8 +43,9 @@ place b x = (x - b.start - HEADER_WORDS) / NODE_WORDS
 abbrev pub cell_at : LinkedBlock → ℕ → ℕ
 cell_at b i = slice_index b.cells i
 
--- What is gathered from x up to the root: the block of a parent is older, so it stands behind. The root's part is given, and
--- `step` has the block, its node and what is gathered at the block's parent.
+-- What is gathered from x up to the root: the block of a parent is older, so it stands behind. The
+-- root's part is given, and `step` has the block, its node and what is gathered at the block's
+-- parent.
 module _ {A : Type 0} (root : A) (step : LinkedBlock → ℕ → A → A) where
   abbrev pub up : List LinkedBlock → ℕ → A
   up [] x = root
@@ -67,8 +70,8 @@ link_of (b ∷ bs) x = if b.parent == x then b.start else link_of bs x
 abbrev pub cover : ℕ → List LinkedBlock → ℕ
 cover i bs = sum_by (λ b. one_if (covers i b)) bs
 
--- b may be linked after the blocks bs: its parent is a node of the tree that has no block yet and lies before it, and it shares
--- no word with the root or with them
+-- b may be linked after the blocks bs: its parent is a node of the tree that has no block yet and
+-- lies before it, and it shares no word with the root or with them
 pub record Follows (r : ℕ) (b : LinkedBlock) (bs : List LinkedBlock) : Type 0 where
   pub parent : is_node r bs b.parent ≡ true
   pub vacant : link_of bs b.parent ≡ 0
@@ -81,8 +84,8 @@ abbrev pub InOrder : ℕ → List LinkedBlock → Type 0
 InOrder r [] = Unit {0}
 InOrder r (b ∷ bs) = Follows r b bs × InOrder r bs
 
--- word i of a block, where it is a header word or a move word: the parent, the two halves of the empty cells, the count, and then
--- each fourth word the move of a node
+-- word i of a block, where it is a header word or a move word: the parent, the two halves of the
+-- empty cells, the count, and then each fourth word the move of a node
 abbrev pub header_or_move : LinkedBlock → ℕ → ℕ
 header_or_move b zero = b.parent
 header_or_move b (suc zero) = b.empties % 2 ^ HIGH_EMPTIES_SHIFT
@@ -94,8 +97,9 @@ header_or_move b (suc (suc (suc (suc i)))) = move_word (i / NODE_WORDS) (cell_at
 abbrev pub is_header_or_move : ℕ → Bool
 is_header_or_move i = nat_lt i HEADER_WORDS || (i % NODE_WORDS == 0)
 
--- the words have these linked blocks: the header and the moves of each, and at each node of the tree the link that names the block
--- whose parent it is, or 0
+-- the words have these linked blocks: the header and the moves of each, and at each node of the
+-- tree the link that names the block whose parent it is, or 0
 pub record Shows (r : ℕ) (bs : List LinkedBlock) (words : List ℕ) : Type 0 where
-  pub blocks : (c : LinkedBlock) (i : ℕ) → In c bs → i < size c → is_header_or_move i ≡ true → slice_index words (c.start + i) ≡ header_or_move c i
+  pub blocks : (c : LinkedBlock) (i : ℕ) → In c bs → i < size c → is_header_or_move i ≡ true
+      → slice_index words (c.start + i) ≡ header_or_move c i
   pub links : (x : ℕ) → is_node r bs x ≡ true → slice_index words (x + LINK_WORD) ≡ link_of bs x

@@ -25,13 +25,16 @@ set_of (c ∷ cells) = with_cell (set_of cells) c
 unfoldable pub allowed_cells : Setting → List ℕ
 allowed_cells s = filter (has s.allowed) (cells_of s.board.size)
 
--- the cells of a block below x: the allowed cells for the root's block, else the empty cells of the board of x in rising order
+-- the cells of a block below x: the allowed cells for the root's block, else the empty cells of the
+-- board of x in rising order
 abbrev pub cells_below : Setting → List LinkedBlock → ℕ → List ℕ
 cells_below s bs x = if x == root_at s then allowed_cells s else empties_of (node_board s bs x)
 
--- the block b, linked after the blocks bs, is complete: it lies below NEXT and inside the area, has the empty cells of its
--- parent's board, and its cells are all of them, or the allowed ones at the root
-pub record IsComplete (s : Setting) (next : ℕ) (bs : List LinkedBlock) (b : LinkedBlock) : Type 0 where
+-- the block b, linked after the blocks bs, is complete: it lies below NEXT and inside the area, has
+-- the empty cells of its parent's board, and its cells are all of them, or the allowed ones at the
+-- root
+pub record IsComplete (s : Setting) (next : ℕ) (bs : List LinkedBlock)
+    (b : LinkedBlock) : Type 0 where
   pub claimed : b.start + size b ≤ next
   pub inside : (area_at s ≤ b.start) × (b.start + size b ≤ end_of s)
   pub empties : HasEmpties b.empties (node_board s bs b.parent)
@@ -41,8 +44,8 @@ abbrev pub AreComplete : Setting → ℕ → List LinkedBlock → Type 0
 AreComplete s next [] = Unit {0}
 AreComplete s next (b ∷ bs) = IsComplete s next bs b × AreComplete s next bs
 
--- bs are the blocks that the links show from the root on, newest first: each is complete, is named by its parent's link, and shares
--- no word with another
+-- bs are the blocks that the links show from the root on, newest first: each is complete, is named
+-- by its parent's link, and shares no word with another
 pub record Linked (s : Setting) (words : List ℕ) (bs : List LinkedBlock) : Type 0 where
   pub order : InOrder (root_at s) bs
   pub shows : Shows (root_at s) bs words

@@ -45,7 +45,9 @@ module _ {S O : Type 0} (g : Game S O) (p q : ℕ → Count) where
     adds_leaf x s w = if x == w then g.gain o s else nothing
 
     abbrev pub adds_inner : LinkedBlock → ℕ → (ℕ → S → ℕ → Count) → S → ℕ → Count
-    adds_inner b x f s w = if x == w then g.gain o s else f (child b (pick g p q b x)) (g.next s (cell_at b (pick g p q b x))) w
+    adds_inner b x f s w =
+        if x == w then g.gain o s
+        else f (child b (pick g p q b x)) (g.next s (cell_at b (pick g p q b x))) w
 
     -- what the walk from x down adds to the visits and wins of w
     abbrev pub adds : List LinkedBlock → ℕ → S → ℕ → Count
@@ -56,7 +58,8 @@ module _ {S O : Type 0} (g : Game S O) (p q : ℕ → Count) where
 
     abbrev pub sees_inner : LinkedBlock → ℕ → (ℕ → S → ℕ → Count) → S → ℕ → Count
     sees_inner b x f s w =
-        if has_node b w then g.glimpse o s (cell_at b (place b w)) else f (child b (pick g p q b x)) (g.next s (cell_at b (pick g p q b x))) w
+        if has_node b w then g.glimpse o s (cell_at b (place b w))
+        else f (child b (pick g p q b x)) (g.next s (cell_at b (pick g p q b x))) w
 
     -- what it adds to the seen counts of w
     abbrev pub sees : List LinkedBlock → ℕ → S → ℕ → Count
@@ -102,7 +105,8 @@ abbrev pub walk_end : {S O : Type 0} → Game S O → S → ℕ → Config → C
 walk_end g s r c = state_at g c.tally c.seen c.blocks r s
 
 -- c has_node the new block n, below its leaf
-pub record NewBlock {S O : Type 0} (g : Game S O) (s : S) (r : ℕ) (c d : Config) (n : LinkedBlock) : Type 0 where
+pub record NewBlock {S O : Type 0} (g : Game S O) (s : S) (r : ℕ) (c d : Config)
+    (n : LinkedBlock) : Type 0 where
   pub wide : g.wide c.next (walk_end g s r c).0 (walk_end g s r c).1 ≡ true
   pub blocks : d.blocks ≡ c.blocks ++ n ∷ []
   pub parent : n.parent ≡ leaf_at g c.tally c.seen c.blocks r
@@ -115,7 +119,8 @@ pub record NewBlock {S O : Type 0} (g : Game S O) (s : S) (r : ℕ) (c d : Confi
 -- the leaf of c gets its block in d, where it is to have one, and no count changes
 pub record Widened {S O : Type 0} (g : Game S O) (s : S) (r : ℕ) (c d : Config) : Type 0 where
   pub next : d.next ≡ g.grown c.next (walk_end g s r c).0 (walk_end g s r c).1
-  pub block : ((n : LinkedBlock) × NewBlock g s r c d n) ⊎ ((g.wide c.next (walk_end g s r c).0 (walk_end g s r c).1 ≡ false) × (d.blocks ≡ c.blocks))
+  pub block : ((n : LinkedBlock) × NewBlock g s r c d n)
+      ⊎ ((g.wide c.next (walk_end g s r c).0 (walk_end g s r c).1 ≡ false) × (d.blocks ≡ c.blocks))
   pub tally : (w : ℕ) → top d.blocks w ≡ r → d.tally w ≡ c.tally w
   pub seen : (w : ℕ) → top d.blocks w ≡ r → (w ≡ r → ⊥) → d.seen w ≡ c.seen w
 
@@ -123,8 +128,10 @@ pub record Widened {S O : Type 0} (g : Game S O) (s : S) (r : ℕ) (c d : Config
 pub record Added {S O : Type 0} (g : Game S O) (s : S) (r : ℕ) (o : O) (c d : Config) : Type 0 where
   pub next : d.next ≡ c.next
   pub blocks : d.blocks ≡ c.blocks
-  pub tally : (w : ℕ) → top c.blocks w ≡ r → d.tally w ≡ plus (c.tally w) (adds g c.tally c.seen o c.blocks r s w)
-  pub seen : (w : ℕ) → top c.blocks w ≡ r → (w ≡ r → ⊥) → d.seen w ≡ plus (c.seen w) (sees g c.tally c.seen o c.blocks r s w)
+  pub tally : (w : ℕ) → top c.blocks w ≡ r
+      → d.tally w ≡ plus (c.tally w) (adds g c.tally c.seen o c.blocks r s w)
+  pub seen : (w : ℕ) → top c.blocks w ≡ r → (w ≡ r → ⊥)
+      → d.seen w ≡ plus (c.seen w) (sees g c.tally c.seen o c.blocks r s w)
 
 -- what keeps the tree of the blocks whole
 pub record Fine (r : ℕ) (c : Config) : Type 0 where
@@ -155,4 +162,9 @@ Inside (b ∷ bs) x = (has_node b x ≡ true) ⊎ Inside bs x
 
 -- the linked blocks, `next` and the counts that the words have, as a walk on blocks reads them
 abbrev pub config_of : List LinkedBlock → List ℕ → Config
-config_of bs words = record { blocks = oldest_first bs; tally = tally_in words; seen = seen_in words; next = next_in words }
+config_of bs words = record {
+  blocks = oldest_first bs;
+  tally = tally_in words;
+  seen = seen_in words;
+  next = next_in words;
+}

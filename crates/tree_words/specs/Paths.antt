@@ -37,8 +37,8 @@ is_on s bs x y = list_any (λ z. z == x) (path_of s bs y)
 abbrev pub enters : Setting → List LinkedBlock → LinkedBlock → ℕ → Bool
 enters s bs b y = list_any (λ z. has_node b z) (path_of s bs y)
 
--- the board of x and the player to move there: from the root down each node of the path below the root places its cell, the
--- setting's player first
+-- the board of x and the player to move there: from the root down each node of the path below the
+-- root places its cell, the setting's player first
 abbrev pub node_state : Setting → List LinkedBlock → ℕ → NodeState
 node_state s bs x = up (root_state s) (λ b y above. state_after above (cell_at b (place b y))) bs x
 

@@ -16,7 +16,8 @@ leaf_of words k = leaf_in (record_in words k)
 abbrev pub outcome_in : Setting → List LinkedBlock → List ℕ → ℕ → Ending
 outcome_in s bs words k = outcome_of s k (node_state s bs (leaf_of words k))
 
--- the record of playout k is right: its leaf is a node of the tree other than the root, and its result is that of the playout
+-- the record of playout k is right: its leaf is a node of the tree other than the root, and its
+-- result is that of the playout
 pub record IsRecord (s : Setting) (bs : List LinkedBlock) (words : List ℕ) (k : ℕ) : Type 0 where
   pub node : is_node (root_at s) bs (leaf_of words k) ≡ true
   pub below : leaf_of words k ≢ root_at s

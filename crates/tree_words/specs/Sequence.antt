@@ -24,12 +24,18 @@ outcome_of s k p = record {
 
 -- the counts of a child, as Choice reads them
 abbrev pub child_of : Count × Count → Child
-child_of c = record { visits = c.0.visits; wins = c.0.wins; seen = c.1.visits; seen_wins = c.1.wins }
+child_of c = record {
+  visits = c.0.visits;
+  wins = c.0.wins;
+  seen = c.1.visits;
+  seen_wins = c.1.wins;
+}
 
 -- the counts of the n nodes that stand from word y on
 abbrev pub children_in : List ℕ → ℕ → ℕ → List Child
 children_in words y zero = []
-children_in words y (suc n) = child_of (tally_in words y, seen_in words y) ∷ children_in words (y + NODE_WORDS) n
+children_in words y (suc n) =
+    child_of (tally_in words y, seen_in words y) ∷ children_in words (y + NODE_WORDS) n
 
 -- one visit, and one win where `wins`
 abbrev pub one : Bool → Count
@@ -43,18 +49,22 @@ amount_of wins = VISIT + one_if wins
 unfoldable pub gain_of : Ending → NodeState → Count
 gain_of o p = one (is_same o.winner (mover_at p))
 
--- a node of its block, whose parent has this spot, has one seen visit more where its cell holds a stone of its mover on the filled
--- board, and one seen win more where that mover won
+-- a node of its block, whose parent has this spot, has one seen visit more where its cell holds a
+-- stone of its mover on the filled board, and one seen win more where that mover won
 unfoldable pub glimpse_of : Ending → NodeState → ℕ → Count
-glimpse_of o p cell = if has (stones_of o.full p.player) cell then one (is_same o.winner p.player) else nothing
+glimpse_of o p cell =
+    if has (stones_of o.full p.player) cell then one (is_same o.winner p.player) else nothing
 
 -- the number of words of a block below this spot
 abbrev pub size_below : NodeState → ℕ
 size_below p = block_size (length (empties_of p.board))
 
--- a leaf asks for a block where it has T visits, its board has an empty cell, and `next` is at most the area's end
+-- a leaf asks for a block where it has T visits, its board has an empty cell, and `next` is at most
+-- the area's end
 abbrev pub asks : Setting → ℕ → Count → NodeState → Bool
-asks s next v p = nat_le s.knobs.expand v.visits && (nat_lt 0 (length (empties_of p.board)) && nat_le next (end_of s))
+asks s next v p =
+    nat_le s.knobs.expand v.visits
+    && (nat_lt 0 (length (empties_of p.board)) && nat_le next (end_of s))
 
 -- it gets the block where this fits inside the area
 unfoldable pub gets_block : Setting → ℕ → Count → NodeState → Bool
@@ -81,9 +91,11 @@ search_game s = record {
   cells = λ p. empties_of p.board;
 }
 
--- the first tree: the root without counts, with one child for each allowed cell; and `next`, the end of the root's block
+-- the first tree: the root without counts, with one child for each allowed cell; and `next`, the
+-- end of the root's block
 abbrev pub first_tree : Setting → Tree × ℕ
-first_tree s = (node 0 nothing nothing (fresh (allowed_cells s)), area_at s + block_size (length (allowed_cells s)))
+first_tree s = let cells = allowed_cells s in
+    (node 0 nothing nothing (fresh cells), area_at s + block_size (length cells))
 
 -- Seq: the tree and `next` after all playouts
 abbrev pub seq_of : Setting → Tree × ℕ

@@ -13,9 +13,13 @@ listed size set = filter (has_cell set) (cells_of size)
 -- the move of each node of the block is written, and no other word changes
 pub record WritesMoves (b : LinkedBlock) (before after : List ℕ) : Type 0 where
   pub long : length after ≡ length before
-  pub each : (i : ℕ) → slice_index after i ≡ (if has_node b i then move_word (place b i) (cell_at b (place b i)) else slice_index before i)
+  pub each : (i : ℕ) → slice_index after i
+      ≡ (if has_node b i then move_word (place b i) (cell_at b (place b i))
+      else slice_index before i)
 
 -- the header and the moves of the block are written, and no other word changes
 pub record WritesBlock (b : LinkedBlock) (before after : List ℕ) : Type 0 where
   pub long : length after ≡ length before
-  pub each : (i : ℕ) → slice_index after i ≡ (if covers i b && is_header_or_move (i - b.start) then header_or_move b (i - b.start) else slice_index before i)
+  pub each : (i : ℕ) → slice_index after i
+      ≡ (if covers i b && is_header_or_move (i - b.start) then header_or_move b (i - b.start)
+      else slice_index before i)

@@ -1,4 +1,5 @@
-//! The layout: where each part of a tree stands among its words, and how many words there are at most.
+//! The layout: where each part of a tree stands among its words, and how many words there are at
+//! most.
 //!
 //! ```text
 //! 0                NEXT: the first word that is not claimed yet
@@ -58,7 +59,8 @@ pub const HIGH_EMPTIES_SHIFT: u32 = 64;
 /// A move word is so many times the place, and the cell, whose number is below 256.
 pub const PLACE_UNIT: u64 = 256;
 
-/// The visits stand above the wins, in the upper half of a tally and of a seen word: no count comes near 2^32.
+/// The visits stand above the wins, in the upper half of a tally and of a seen word: no count comes
+/// near 2^32.
 pub const VISITS_SHIFT: u32 = 32;
 
 /// One visit, as a tally and a seen word have it.

@@ -10,11 +10,16 @@ use super::layout::{
 };
 use hex_cells::{Cell, CellSet, Size};
 
-/// Writes the moves of a block that begins at `start` and has these cells of the board, in rising order, and answers how
-/// many they are. No other word changes.
+/// Writes the moves of a block that begins at `start` and has these cells of the board, in rising
+/// order, and answers how many they are. No other word changes.
 pub fn write_moves(words: &mut [u64], start: usize, cells: CellSet, size: Size) -> usize
     requires within { start + block_size (length (listed size cells)) ≤ length words.old }
-    ensures moves { WritesMoves (record { start = start; parent = 0; empties = 0; cells = listed size cells }) words.old words.new }
+    ensures moves { WritesMoves (record {
+      start = start;
+      parent = 0;
+      empties = 0;
+      cells = listed size cells;
+    }) words.old words.new }
     ensures count { result ≡ length (listed size cells) }
 {
     let mut place = 0;
@@ -28,9 +33,10 @@ pub fn write_moves(words: &mut [u64], start: usize, cells: CellSet, size: Size) 
     place
 }
 
-/// Writes the header and the moves of the block that begins at `start`, below the node at `parent` whose board has these
-/// empty cells: its nodes have the given cells of the board in rising order. Answers how many they are. No other word
-/// changes: where the words of the block were 0, its links, tallies and seen words are 0.
+/// Writes the header and the moves of the block that begins at `start`, below the node at `parent`
+/// whose board has these empty cells: its nodes have the given cells of the board in rising order.
+/// Answers how many they are. No other word changes: where the words of the block were 0, its
+/// links, tallies and seen words are 0.
 pub fn write_block(
     words: &mut [u64],
     start: usize,
@@ -40,7 +46,12 @@ pub fn write_block(
     size: Size,
 ) -> usize
     requires { start + block_size (length (listed size cells)) ≤ length words.old }
-    ensures words { WritesBlock (record { start = start; parent = parent; empties = empties; cells = listed size cells }) words.old words.new }
+    ensures words { WritesBlock (record {
+      start = start;
+      parent = parent;
+      empties = empties;
+      cells = listed size cells;
+    }) words.old words.new }
     ensures count { result ≡ length (listed size cells) }
 {
     let count = write_moves(words, start, cells, size);

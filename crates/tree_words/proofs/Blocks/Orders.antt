@@ -5,17 +5,9 @@ use Rattle.tree_words.specs.Blocks.{LinkedBlock, has_node, is_node, link_of, Fol
 use Rattle.tree_words.specs.Trees.{oldest_first}
 use Rattle.tree_words.specs.Complete.{HaveNodes}
 use Rattle.tree_words.specs.Descents.{Out, Sprouts, Rooted, Names, Inside, Bare}
-use Rattle.std.proofs.lemmas.Bool.{eqb-true, cases_Bool}
+use Rattle.std.proofs.lemmas.Bool.{eqb-true, cases_Bool, or_right, or_left}
 use Rattle.tree_words.proofs.Blocks.BlockLaws.{apart, clash as clash}
 use Rattle.tree_words.proofs.Walks.WalkLaws.{out-snoc}
-
-or_true : (a b : Bool) → b ≡ true → (a || b) ≡ true
-or_true true b e = refl
-or_true false b e = e
-
-or_first : (a b : Bool) → a ≡ true → (a || b) ≡ true
-or_first true b e = refl
-or_first false b e = absurd (clash false e refl)
 
 pub inside-snoc : (n : LinkedBlock) (os : List LinkedBlock) (x : ℕ) → Inside (os ++ n ∷ []) x → (Inside os x) ⊎ (has_node n x ≡ true)
 inside-snoc n [] x i = ⊎_elim (λ (h : has_node n x ≡ true). inr h) (λ (z : ⊥). absurd z) i
@@ -24,7 +16,7 @@ inside-snoc n (b ∷ os) x i = ⊎_elim (λ (h : has_node b x ≡ true). inl (in
 
 pub inside-node : (r : ℕ) (bs : List LinkedBlock) (x : ℕ) → Inside (oldest_first bs) x → is_node r bs x ≡ true
 inside-node r [] x i = absurd i
-inside-node r (b ∷ bs) x i = ⊎_elim (λ (h : Inside (oldest_first bs) x). or_true (has_node b x) (is_node r bs x) (inside-node r bs x h)) (λ (h : has_node b x ≡ true). or_first (has_node b x) (is_node r bs x) h) (inside-snoc b (oldest_first bs) x i)
+inside-node r (b ∷ bs) x i = ⊎_elim (λ (h : Inside (oldest_first bs) x). or_right (has_node b x) (is_node r bs x) (inside-node r bs x h)) (λ (h : has_node b x ≡ true). or_left (has_node b x) (is_node r bs x) h) (inside-snoc b (oldest_first bs) x i)
 
 snoc : (n : LinkedBlock) (os : List LinkedBlock) → Sprouts os → ((x : ℕ) → Inside os x → has_node n x ≡ false) → 0 < length n.cells → Sprouts (os ++ n ∷ [])
 snoc n [] sp e l = (record { apart = λ x h. tt; some = l }, tt)
@@ -43,7 +35,7 @@ Parents r bs (b ∷ os) = (is_node r bs b.parent ≡ true) × Parents r bs os
 parents-more : (r : ℕ) (n : LinkedBlock) (bs os : List LinkedBlock) → Parents r bs os → Parents r (n ∷ bs) os
 unfolding Parents
 parents-more r n bs [] p = tt
-parents-more r n bs (b ∷ os) p = (or_true (has_node n b.parent) (is_node r bs b.parent) p.0, parents-more r n bs os p.1)
+parents-more r n bs (b ∷ os) p = (or_right (has_node n b.parent) (is_node r bs b.parent) p.0, parents-more r n bs os p.1)
 
 parents-snoc : (r : ℕ) (n : LinkedBlock) (bs os : List LinkedBlock) → Parents r bs os → is_node r bs n.parent ≡ true → Parents r bs (os ++ n ∷ [])
 unfolding Parents
@@ -53,7 +45,7 @@ parents-snoc r n bs (b ∷ os) p h = (p.0, parents-snoc r n bs os p.1 h)
 parents-turned : (r : ℕ) (bs : List LinkedBlock) → InOrder r bs → Parents r bs (oldest_first bs)
 unfolding Parents
 parents-turned r [] g = tt
-parents-turned r (b ∷ bs) g = parents-snoc r b (b ∷ bs) (oldest_first bs) (parents-more r b bs (oldest_first bs) (parents-turned r bs g.1)) (or_true (has_node b b.parent) (is_node r bs b.parent) g.0.parent)
+parents-turned r (b ∷ bs) g = parents-snoc r b (b ∷ bs) (oldest_first bs) (parents-more r b bs (oldest_first bs) (parents-turned r bs g.1)) (or_right (has_node b b.parent) (is_node r bs b.parent) g.0.parent)
 
 rooted-snoc : (r : ℕ) (n : LinkedBlock) (bs os : List LinkedBlock) → Follows r n bs → Parents r bs os → Rooted os → Rooted (os ++ n ∷ [])
 unfolding Parents

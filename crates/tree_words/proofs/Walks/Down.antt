@@ -4,7 +4,7 @@ use Rattle.std.specs.Prelude.{◌==◌, nat_lt, nat_le, ◌&&◌}
 use Rattle.std.proofs.lemmas.Bool.Decides.{nat_tests}
 use Rattle.tree_words.specs.Words.{Count}
 use Rattle.tree_words.specs.Blocks.{LinkedBlock, child, has_node, place, cell_at}
-use Rattle.tree_words.specs.Walks.{nothing, plus, Tree, node, Children, done, more, Game, cell_of, counts_of, lit, pairs, pass, add, add_row}
+use Rattle.tree_words.specs.Walks.{nothing, plus, Tree, node, Children, done, more, Game, node_cell, counts_of, lit, pairs, pass, add, add_row}
 use Rattle.tree_words.specs.Trees.{down, row_of, tree_leaf, tree_inner, tree_at}
 use Rattle.tree_words.specs.Descents.{pairs_of, pick, adds_leaf, adds_inner, adds, sees_leaf, sees_inner, sees, top, Out, Sprouts}
 use Rattle.std.proofs.lemmas.Bool.{false_from_ne_true, eqb-true, eq-eqb, ne_eqb, cases_Bool}
@@ -54,9 +54,9 @@ pub top-past : (b : LinkedBlock) (bs : List LinkedBlock) (w y : ℕ) → top bs 
 top-past b bs w y e h = ap (λ (z : ℕ). cond (has_node b z) b.parent z) e ∙ ap (λ (u : Bool). cond u b.parent y) h
 
 -- the root of the tree
-pub cell-tree : (p q : ℕ → Count) (bs : List LinkedBlock) (x c : ℕ) (e : Count) → cell_of (tree_at p q bs x c e) ≡ c
+pub cell-tree : (p q : ℕ → Count) (bs : List LinkedBlock) (x c : ℕ) (e : Count) → node_cell (tree_at p q bs x c e) ≡ c
 cell-tree p q [] x c e = refl
-cell-tree p q (b ∷ bs) x c e = down-split (tree_leaf p) (tree_inner p q) (λ (t : ℕ → Count → Tree). cell_of (t c e) ≡ c) b bs x (λ t. refl) (λ t. cell-tree p q bs x c e)
+cell-tree p q (b ∷ bs) x c e = down-split (tree_leaf p) (tree_inner p q) (λ (t : ℕ → Count → Tree). node_cell (t c e) ≡ c) b bs x (λ t. refl) (λ t. cell-tree p q bs x c e)
 
 pub pair-tree : (p q : ℕ → Count) (bs : List LinkedBlock) (x c : ℕ) (e : Count) → counts_of (tree_at p q bs x c e) ≡ (p x, e)
 pair-tree p q [] x c e = refl
@@ -85,24 +85,24 @@ row-same f h a (c ∷ cs) e =
 module _ {S O : Type 0} (g : Game S O) (o : O) where
   row-pass : (s : S) (f h : ℕ → ℕ → Tree) (a : ℕ) (cs : List ℕ)
       → ((k y : ℕ) → k < length cs → y ≡ a + 4 * k → h y (get_or cs k 0) ≡ lit (g.glimpse o s (get_or cs k 0)) (f y (get_or cs k 0)))
-      → ((y d : ℕ) → cell_of (f y d) ≡ d) → row_of h a cs ≡ pass g o s (row_of f a cs)
+      → ((y d : ℕ) → node_cell (f y d) ≡ d) → row_of h a cs ≡ pass g o s (row_of f a cs)
   row-pass s f h a [] e cell = refl
   row-pass s f h a (c ∷ cs) e cell =
-      let head : h a c ≡ lit (g.glimpse o s (cell_of (f a c))) (f a c) = e 0 a (omega arith) (omega arith) ∙ sym (ap (λ (d : ℕ). lit (g.glimpse o s d) (f a c)) (cell a c)) in
+      let head : h a c ≡ lit (g.glimpse o s (node_cell (f a c))) (f a c) = e 0 a (omega arith) (omega arith) ∙ sym (ap (λ (d : ℕ). lit (g.glimpse o s d) (f a c)) (cell a c)) in
       let tail : row_of h (a + 4) cs ≡ pass g o s (row_of f (a + 4) cs) = row-pass s f h (a + 4) cs (λ k y l i. e (suc k) y (omega arith) (omega arith)) cell in
       λ i. more (head i) (tail i)
 
   pub row-add : (s : S) (f h : ℕ → ℕ → Tree) (a : ℕ) (cs : List ℕ) (j : ℕ)
       → ((k y : ℕ) → k < length cs → y ≡ a + 4 * k → (k ≡ j → ⊥) → h y (get_or cs k 0) ≡ lit (g.glimpse o s (get_or cs k 0)) (f y (get_or cs k 0)))
       → ((y : ℕ) → j < length cs → y ≡ a + 4 * j → h y (get_or cs j 0) ≡ lit (g.glimpse o s (get_or cs j 0)) (add g o (f y (get_or cs j 0)) (g.next s (get_or cs j 0))))
-      → ((y d : ℕ) → cell_of (f y d) ≡ d) → row_of h a cs ≡ add_row g o (row_of f a cs) j s
+      → ((y d : ℕ) → node_cell (f y d) ≡ d) → row_of h a cs ≡ add_row g o (row_of f a cs) j s
   row-add s f h a [] j e one cell = refl
   row-add s f h a (c ∷ cs) zero e one cell =
-      let head : h a c ≡ lit (g.glimpse o s (cell_of (f a c))) (add g o (f a c) (g.next s (cell_of (f a c)))) = one a (omega arith) (omega arith) ∙ sym (ap (λ (d : ℕ). lit (g.glimpse o s d) (add g o (f a c) (g.next s d))) (cell a c)) in
+      let head : h a c ≡ lit (g.glimpse o s (node_cell (f a c))) (add g o (f a c) (g.next s (node_cell (f a c)))) = one a (omega arith) (omega arith) ∙ sym (ap (λ (d : ℕ). lit (g.glimpse o s d) (add g o (f a c) (g.next s d))) (cell a c)) in
       let tail : row_of h (a + 4) cs ≡ pass g o s (row_of f (a + 4) cs) = row-pass s f h (a + 4) cs (λ k y l i. e (suc k) y (omega arith) (omega arith) (λ z. omega arith)) cell in
       λ i. more (head i) (tail i)
   row-add s f h a (c ∷ cs) (suc j) e one cell =
-      let head : h a c ≡ lit (g.glimpse o s (cell_of (f a c))) (f a c) = e 0 a (omega arith) (omega arith) (λ z. omega arith) ∙ sym (ap (λ (d : ℕ). lit (g.glimpse o s d) (f a c)) (cell a c)) in
+      let head : h a c ≡ lit (g.glimpse o s (node_cell (f a c))) (f a c) = e 0 a (omega arith) (omega arith) (λ z. omega arith) ∙ sym (ap (λ (d : ℕ). lit (g.glimpse o s d) (f a c)) (cell a c)) in
       let tail : row_of h (a + 4) cs ≡ add_row g o (row_of f (a + 4) cs) j s = row-add s f h (a + 4) cs j (λ k y l i n. e (suc k) y (omega arith) (omega arith) (λ z. n (omega arith))) (λ y l i. one y (omega arith) (omega arith)) cell in
       λ i. more (head i) (tail i)
 

@@ -3,7 +3,7 @@ use Rattle.std.proofs.Common.{◌≡◌, ℕ, zero, suc, ◌+◌, ◌*◌, ◌<�
 use Rattle.std.specs.Prelude.{◌==◌}
 use Rattle.tree_words.specs.Words.{Count}
 use Rattle.tree_words.specs.Blocks.{LinkedBlock, child, has_node, cell_at}
-use Rattle.tree_words.specs.Walks.{nothing, plus, Tree, node, Children, done, more, Game, cell_of, pairs, is_bare, fresh, leaf_state, leaf_row, expand, expand_row}
+use Rattle.tree_words.specs.Walks.{nothing, plus, Tree, node, Children, done, more, Game, node_cell, pairs, is_bare, fresh, leaf_state, leaf_row, expand, expand_row}
 use Rattle.tree_words.specs.Trees.{row_of, tree_leaf, tree_inner, tree_at}
 use Rattle.tree_words.specs.Descents.{pick, leaf_inner, leaf_at, state_leaf, state_inner, state_at, top, Out, Sprouts}
 use Rattle.std.proofs.lemmas.Bool.{eqb-true, eq-eqb, ne_eqb, cases_Bool}
@@ -12,7 +12,7 @@ use Rattle.tree_words.proofs.Walks.Adds.{child-other}
 
 module _ {S O : Type 0} (g : Game S O) where
   -- the child that the walk enters
-  row-leaf : (v : Count) (s : S) (f : ℕ → ℕ → Tree) (a y : ℕ) (cs : List ℕ) (j : ℕ) → j < length cs → y ≡ a + 4 * j → ((y d : ℕ) → cell_of (f y d) ≡ d)
+  row-leaf : (v : Count) (s : S) (f : ℕ → ℕ → Tree) (a y : ℕ) (cs : List ℕ) (j : ℕ) → j < length cs → y ≡ a + 4 * j → ((y d : ℕ) → node_cell (f y d) ≡ d)
       → leaf_row g v (row_of f a cs) j s ≡ leaf_state g (f y (get_or cs j 0)) (g.next s (get_or cs j 0))
   row-leaf v s f a y [] j l is cell = absurd (omega arith)
   row-leaf v s f a y (c ∷ cs) zero l is cell =
@@ -23,10 +23,10 @@ module _ {S O : Type 0} (g : Game S O) where
   pub row-expand : (m : ℕ) (s : S) (f h : ℕ → ℕ → Tree) (a : ℕ) (cs : List ℕ) (j : ℕ)
       → ((k y : ℕ) → k < length cs → y ≡ a + 4 * k → (k ≡ j → ⊥) → h y (get_or cs k 0) ≡ f y (get_or cs k 0))
       → ((y : ℕ) → j < length cs → y ≡ a + 4 * j → h y (get_or cs j 0) ≡ expand g m (f y (get_or cs j 0)) (g.next s (get_or cs j 0)))
-      → ((y d : ℕ) → cell_of (f y d) ≡ d) → row_of h a cs ≡ expand_row g m (row_of f a cs) j s
+      → ((y d : ℕ) → node_cell (f y d) ≡ d) → row_of h a cs ≡ expand_row g m (row_of f a cs) j s
   row-expand m s f h a [] j e one cell = refl
   row-expand m s f h a (c ∷ cs) zero e one cell =
-      let head : h a c ≡ expand g m (f a c) (g.next s (cell_of (f a c))) = one a (omega arith) (omega arith) ∙ sym (ap (λ (d : ℕ). expand g m (f a c) (g.next s d)) (cell a c)) in
+      let head : h a c ≡ expand g m (f a c) (g.next s (node_cell (f a c))) = one a (omega arith) (omega arith) ∙ sym (ap (λ (d : ℕ). expand g m (f a c) (g.next s d)) (cell a c)) in
       let tail : row_of h (a + 4) cs ≡ row_of f (a + 4) cs = row-same h f (a + 4) cs (λ k y l i. e (suc k) y (omega arith) (omega arith) (λ z. omega arith)) in
       λ i. more (head i) (tail i)
   row-expand m s f h a (c ∷ cs) (suc j) e one cell =
