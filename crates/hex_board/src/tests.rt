@@ -291,11 +291,12 @@ fn elements_on_size_three(rt: HostRuntime) -> Result<(), Fail> {
             (elements.edge(false), elements.edge(true)),
             (0, case.second_edge)
         );
+        let wanted = case.elements;
         for row in 0..3 {
             for column in 0..3 {
                 let cell = cell_at(&rt, board.size(), column, row);
                 let element = elements.of(cell);
-                assert_eq!(rt; element, case.elements[(3 * row + column) as usize]);
+                assert_eq!(rt; element, wanted[(3 * row + column) as usize]);
                 if let Some(x) = element {
                     let alone = if board.at(cell).is_none() {
                         Some(cell)

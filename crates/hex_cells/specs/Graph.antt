@@ -1,3 +1,4 @@
+-- The board graph.
 use Rattle.std.specs.Prelude.{◌≡◌, ℕ, ◌+◌, ◌*◌, ◌/◌, ◌%◌, ◌<◌, ◌==◌, ◌&&◌, ◌||◌, nat_lt, Bool, true}
 use Rattle.hex_cells.specs.Sets.{has}
 

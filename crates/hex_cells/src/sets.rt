@@ -95,7 +95,7 @@ impl CellSet {
     }
 
     /// The cells of either set.
-    #[tactic(auto, using(crate::proofs::Bits::has_or, crate::proofs::Bits::or_below, crate::proofs::Bits::or_grows))]
+    #[tactic(auto, using(crate::proofs::Bits::has_or, crate::proofs::Bits::or_below, std::proofs::lemmas::Nat::le_or_l))]
     pub fn union(self, other: CellSet) -> CellSet
         ensures value { result ≡ bit_or self other }
         ensures grows { self ≤ result }

@@ -1,14 +1,13 @@
 -- What a word looks like to a parse.
+use Rattle.std.proofs.lemmas.Bool.{eqb-true, or_parts}
 use Rattle.std.proofs.Common.{◌≡◌, ◌≢◌, ◌∙◌, ◌||◌, ◌==◌, ◌+◌, ℕ, Bool, true, false, refl, sym, ap, ap₂, subst, [], ◌∷◌, ◌++◌, drop, take, suc, Some, None, true≢false, arith}
 use Rattle.std.specs.Prelude.{slice_get}
 use Rattle.std.specs.List.{after_first, before_first, position_or_len}
 use Rattle.std.specs.Str.{IsUtf8, bytes_eq, chars}
-use Rattle.std.proofs.lemmas.Bool.Decides.{nat_tests}
 use Rattle.std.proofs.lemmas.Str.{IsUtf8-drop, IsCharBoundary-after_ascii, chars-encodes}
 use Rattle.clap.specs.Lexer.{has_byte, long_of, name_and_value, short_of}
 use Rattle.clap.specs.Walk.{Text}
 use Rattle.hexd_words.specs.Grammar.{begins_with_hyphen}
-use Rattle.hexd_words.proofs.Rules.{or_false}
 use Rattle.hexd_words.proofs.Steps.{dashes}
 
 -- what a word can be, if it is text and no hyphen alone
@@ -37,23 +36,20 @@ after_next x xs e = rw e (drop_one_more (position_or_len (λ y. y == 61) xs) x x
 pub before_at : (xs ys : Text) → has_byte 61 xs ≡ false → before_first (λ x. x == 61) (xs ++ (61 ∷ ys)) ≡ xs
 before_at [] ys h = refl
 before_at (x ∷ xs) ys h =
-    let p = or_false (x == 61) (has_byte 61 xs) h in before_next x (xs ++ (61 ∷ ys)) p.0 ∙ ap (λ (zs : Text). x ∷ zs) (before_at xs ys p.1)
+    let p = or_parts (x == 61) (has_byte 61 xs) h in before_next x (xs ++ (61 ∷ ys)) p.0 ∙ ap (λ (zs : Text). x ∷ zs) (before_at xs ys p.1)
 
 pub after_at : (xs ys : Text) → has_byte 61 xs ≡ false → after_first (λ x. x == 61) (xs ++ (61 ∷ ys)) ≡ ys
 after_at [] ys h = refl
-after_at (x ∷ xs) ys h = let p = or_false (x == 61) (has_byte 61 xs) h in after_next x (xs ++ (61 ∷ ys)) p.0 ∙ after_at xs ys p.1
+after_at (x ∷ xs) ys h = let p = or_parts (x == 61) (has_byte 61 xs) h in after_next x (xs ++ (61 ∷ ys)) p.0 ∙ after_at xs ys p.1
 
 pub before_none : (xs : Text) → has_byte 61 xs ≡ false → before_first (λ x. x == 61) xs ≡ xs
 before_none [] h = refl
 before_none (x ∷ xs) h =
-    let p = or_false (x == 61) (has_byte 61 xs) h in before_next x xs p.0 ∙ ap (λ (zs : Text). x ∷ zs) (before_none xs p.1)
+    let p = or_parts (x == 61) (has_byte 61 xs) h in before_next x xs p.0 ∙ ap (λ (zs : Text). x ∷ zs) (before_none xs p.1)
 
 has_at : (xs ys : Text) → has_byte 61 (xs ++ (61 ∷ ys)) ≡ true
 has_at [] ys = refl
 has_at (x ∷ xs) ys = let rest = has_at xs ys in elim (x == 61) as (λ b. (b || has_byte 61 (xs ++ (61 ∷ ys))) ≡ true) [ true ↦ refl | false ↦ rest ]
-
-same_byte : (x y : ℕ) → (x == y) ≡ true → x ≡ y
-same_byte x y e = grind (arith, nat_tests)
 
 pub split_at_equals : (xs : Text) → has_byte 61 xs ≡ true → xs ≡ before_first (λ x. x == 61) xs ++ (61 ∷ after_first (λ x. x == 61) xs)
 split_at_equals [] h = absurd (true≢false (sym h))
@@ -61,7 +57,7 @@ split_at_equals (x ∷ xs) h = go (x == 61) refl h (λ rest. split_at_equals xs 
   where
     go : (b : Bool) → (x == 61) ≡ b → (b || has_byte 61 xs) ≡ true → (has_byte 61 xs ≡ true → xs ≡ before_first (λ y. y == 61) xs ++ (61 ∷ after_first (λ y. y == 61) xs))
         → x ∷ xs ≡ before_first (λ y. y == 61) (x ∷ xs) ++ (61 ∷ after_first (λ y. y == 61) (x ∷ xs))
-    go true e f rest = let same = same_byte x 61 e in rw e (ap (λ n. n ∷ xs) same)
+    go true e f rest = let same = eqb-true x 61 e in rw e (ap (λ n. n ∷ xs) same)
     go false e f rest =
         ap (λ (zs : Text). x ∷ zs) (rest f)
         ∙ sym (ap₂ (λ (front back : Text). front ++ (61 ∷ back)) (before_next x xs e) (after_next x xs e))
@@ -100,15 +96,15 @@ hyphens_class [] = is_dashes refl refl
 hyphens_class (z ∷ zs) = long_class z zs (has_byte 61 (z ∷ zs)) refl
 
 hyphen_class : (y : ℕ) (ys : Text) → IsUtf8 (45 ∷ y ∷ ys) → (b : Bool) → (y == 45) ≡ b → Class (45 ∷ y ∷ ys)
-hyphen_class y ys u true e = subst (λ (n : ℕ). Class (45 ∷ n ∷ ys)) (sym (same_byte y 45 e)) (hyphens_class ys)
+hyphen_class y ys u true e = subst (λ (n : ℕ). Class (45 ∷ n ∷ ys)) (sym (eqb-true y 45 e)) (hyphens_class ys)
 hyphen_class y ys u false e =
     let first = first_char y ys (tail_text y ys u) in is_short y first.0 ys (rw e refl) (rw e refl) (rw e refl) first.1
 
 word_class : (x : ℕ) (xs : Text) → IsUtf8 (x ∷ xs) → x ∷ xs ≢ 45 ∷ [] → (b : Bool) → (x == 45) ≡ b → Class (x ∷ xs)
 word_class x xs u other false e = is_plain e
-word_class x [] u other true e = absurd (other (ap (λ n. n ∷ []) (same_byte x 45 e)))
+word_class x [] u other true e = absurd (other (ap (λ n. n ∷ []) (eqb-true x 45 e)))
 word_class x (y ∷ ys) u other true e =
-    let same = same_byte x 45 e in
+    let same = eqb-true x 45 e in
     subst (λ (n : ℕ). Class (n ∷ y ∷ ys)) (sym same) (hyphen_class y ys (subst (λ (n : ℕ). IsUtf8 (n ∷ y ∷ ys)) same u) (y == 45) refl)
 
 pub classify : (w : Text) → IsUtf8 w → w ≢ 45 ∷ [] → Class w

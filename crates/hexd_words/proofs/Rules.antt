@@ -1,4 +1,5 @@
 -- The rules of a command that has a mode and options, as a parse reads them, and one use of a rule.
+use Rattle.std.proofs.lemmas.Bool.{or_parts}
 use Rattle.std.proofs.Common.{◌≡◌, ◌∙◌, ◌&&◌, ◌||◌, ℕ, Bool, cond, true, false, not, refl, sym, ap, subst, List, [], ◌∷◌, ◌++◌, map, Option, Some, None, option_map, append-nil, true≢false, codes, ◌==◌}
 use Rattle.std.specs.List.{find, list_any, list_all}
 use Rattle.std.specs.Option.{option_map_or}
@@ -73,18 +74,10 @@ says name us = list_any (λ u. bytes_eq u.0 name) us
 pub has_row-rows : (name : Text) (us : List Saying) → has_row name (rows_for us) ≡ says name us
 has_row-rows name us = sym (list_any-map (λ r. bytes_eq r.id name) row_for us)
 
-pub or_false : (a b : Bool) → (a || b) ≡ false → (a ≡ false) × (b ≡ false)
-or_false true b e = absurd (true≢false e)
-or_false false b e = (refl, e)
-
-pub or_none : (b : Bool) → (b || false) ≡ b
-or_none true = refl
-or_none false = refl
-
 pub at_row-absent : (id : Text) (change : Row → List Row) (missing rows : List Row) → has_row id rows ≡ false → at_row id change missing rows ≡ rows ++ missing
 at_row-absent id change missing [] h = refl
 at_row-absent id change missing (r ∷ rs) h =
-    let p = or_false (bytes_eq r.id id) (has_row id rs) h in rw p.0 (ap (λ (ys : List Row). r ∷ ys) (at_row-absent id change missing rs p.1))
+    let p = or_parts (bytes_eq r.id id) (has_row id rs) h in rw p.0 (ap (λ (ys : List Row). r ∷ ys) (at_row-absent id change missing rs p.1))
 
 pub used_fresh : (id v : Text) (S : List Saying) → says id S ≡ false → with_values id reading.AsWritten CommandLine (v ∷ []) (without id (rows_for S)) ≡ rows_for (S ++ (id, v) ∷ [])
 used_fresh id v S h =

@@ -1,4 +1,5 @@
 -- Words that are well formed, and what `clap` finds in them.
+use Rattle.std.proofs.lemmas.Bool.{or_parts}
 use Rattle.std.proofs.Common.{◌≡◌, ◌≢◌, ◌∙◌, true, false, refl, sym, ap, subst, List, [], ◌∷◌, ◌++◌, map, Option, Some, None, append_assoc, true≢false, All, AllPairs, Contains, codes, arith, suc}
 use Rattle.std.specs.Prelude.{is_some, unwrap_or}
 use Rattle.std.specs.List.{flat_map}
@@ -16,7 +17,7 @@ use Rattle.hexd_words.specs.declared.settings.Mode.TheVariants.{Htp}
 use Rattle.hexd_words.specs.declared.settings.Options.{Options}
 use Rattle.hexd_words.proofs.Ends.{or_option_none, value_pushed}
 use Rattle.hexd_words.proofs.LineLaw.{line_clear, line_from, line_values}
-use Rattle.hexd_words.proofs.Rules.{or_false, says}
+use Rattle.hexd_words.proofs.Rules.{says}
 use Rattle.hexd_words.proofs.Sayings.{Once, fresh_at, once_from_pairs, says_both}
 use Rattle.hexd_words.proofs.Sound.{modes}
 use Rattle.hexd_words.proofs.TextLemmas.{IsOther}
@@ -78,14 +79,14 @@ parts_more (p ∷ ps) h =
 first_said : (name value : Text) (front rest : List Saying) → bytes_eq name name ≡ true → says name front ≡ false → value_of (front ++ ((name, value) ∷ rest)) name ≡ Some value
 first_said name value [] rest same h = rw same refl
 first_said name value (u ∷ front) rest same h =
-    let apart = or_false (bytes_eq u.0 name) (says name front) h in rw apart.0 (first_said name value front rest same apart.1)
+    let apart = or_parts (bytes_eq u.0 name) (says name front) h in rw apart.0 (first_said name value front rest same apart.1)
 
 -- the mode is said once
 one_mode : (front : List Saying) (word : Text) (ws : List Text) → Once (front ++ modes (word ∷ ws)) → ws ≡ []
 one_mode front word [] once = refl
 one_mode front word (w ∷ ws) once =
     let fresh = fresh_at (front ++ (mode_name, word) ∷ []) (mode_name, w) (modes ws) (subst Once (sym (append_assoc front ((mode_name, word) ∷ []) (modes (w ∷ ws)))) once) in
-    absurd (true≢false (or_false (says mode_name front) true (sym (says_both mode_name front ((mode_name, word) ∷ [])) ∙ fresh)).1)
+    absurd (true≢false (or_parts (says mode_name front) true (sym (says_both mode_name front ((mode_name, word) ∷ [])) ∙ fresh)).1)
 
 mode_more : (m : Mode) → IsMore (mode_word m)
 mode_more Htp = λ same. cc

@@ -1,5 +1,6 @@
 -- Where the words are parts that say each thing once, and the mode, a parse finds no fault in them, and its rows are
 -- what they say.
+use Rattle.std.proofs.lemmas.Bool.{or_parts}
 use Rattle.std.proofs.Common.{◌≡◌, ◌∙◌, ◌==◌, ℕ, Bool, not, true, false, refl, sym, ap, ap₂, subst, List, [], ◌∷◌, ◌++◌, Option, Some, None, append-nil, append_assoc, true≢false}
 use Rattle.std.specs.List.{flat_map, list_all}
 use Rattle.std.specs.Str.{bytes_eq}
@@ -7,7 +8,7 @@ use Rattle.clap.specs.Lexer.{has_byte, long_of}
 use Rattle.clap.specs.Walk.{Held, Text, Waiting, idle, next_position, option, settled}
 use Rattle.hexd_words.specs.Command.{mode_name}
 use Rattle.hexd_words.specs.Grammar.{Part, Saying, after_hyphens, apart, joined, part_words, plain}
-use Rattle.hexd_words.proofs.Rules.{KeepsMode, Table, conflict, found_all, found_mode, found_passes, has_option, is_false, mode_built, option_in, or_false, rules_with, same_bytes, says, shape_with}
+use Rattle.hexd_words.proofs.Rules.{KeepsMode, Table, conflict, found_all, found_mode, found_passes, has_option, is_false, mode_built, option_in, rules_with, same_bytes, says, shape_with}
 use Rattle.hexd_words.proofs.Steps.{at, dashes, fault_dashes, fault_joined, fault_named, fault_past, fault_plain, fault_value, past, walked_dashes, walked_joined, walked_named, walked_past, walked_plain, walked_value}
 use Rattle.hexd_words.proofs.Turns.{Pending, asking, clashes, held_with, or_nothing, react_passes, reacted_is, settle_is, settled_is}
 use Rattle.hexd_words.proofs.Lexing.{name_and_value_at, name_and_value_none, plain_facts}
@@ -49,11 +50,11 @@ Expects us p = says mode_name us ≡ false → 1 ≡ p
 
 expects_after : (us : List Saying) (name v : Text) (p : ℕ) → Expects us p → Expects (us ++ (name, v) ∷ []) p
 expects_after us name v p expects h =
-    expects (or_false (says mode_name us) _ (sym (says_both mode_name us ((name, v) ∷ [])) ∙ h)).0
+    expects (or_parts (says mode_name us) _ (sym (says_both mode_name us ((name, v) ∷ [])) ∙ h)).0
 
 expected_no_more : (us : List Saying) (word : Text) (p : ℕ) → Expects (us ++ (mode_name, word) ∷ []) p
 expected_no_more us word p h =
-    absurd (true≢false (or_false (says mode_name us) true (sym (says_both mode_name us ((mode_name, word) ∷ [])) ∙ h)).1)
+    absurd (true≢false (or_parts (says mode_name us) true (sym (says_both mode_name us ((mode_name, word) ∷ [])) ∙ h)).1)
 
 -- one more thing at the front of the rest
 regrouped : (before : List Saying) (u : Saying) (rest U : List Saying) → U ≡ before ++ (u ∷ rest) → U ≡ (before ++ u ∷ []) ++ rest
