@@ -29,7 +29,8 @@ impl Size {
 
     /// The size `n`; `None` exactly where `n` is not 1 to 11.
     pub fn of(n: u32) -> Option<Size>
-        ensures { MatchOption result (¬ ((1 ≤ n) × (n ≤ 11))) (λ s. (s ≡ n) × ((1 ≤ n) × (n ≤ 11))) }
+        ensures { MatchOption result (¬ ((1 ≤ n) × (n ≤ 11)))
+            (λ s. (s ≡ n) × ((1 ≤ n) × (n ≤ 11))) }
     {
         if 1 <= n && n <= Size::MAX {
             Some(Size { n })

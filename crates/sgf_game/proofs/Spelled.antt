@@ -15,7 +15,7 @@ use Rattle.hex_cells.proofs.Digits.{decimal_two}
 use Rattle.hex_cells.proofs.Naming.{read_back}
 use Rattle.hex_game.specs.declared.moves.Move.{Move}
 use Rattle.hex_game.specs.declared.moves.Move.TheVariants.{Stone, Swap}
-use Rattle.sgf_tree.specs.Grammar.{is_space}
+use Rattle.sgf_tree.specs.Grammar.{is_white_space}
 use Rattle.sgf_game.specs.declared.turns.Said.TheVariants.{Plays}
 use Rattle.sgf_game.specs.Values.{trimmed, spells}
 use Rattle.sgf_game.specs.Lines.{ends}
@@ -26,17 +26,17 @@ use Rattle.sgf_game.specs.Playing.{IsMoveOn}
 
 -- ---- without white space
 
-no_space : (x : ℕ) → 33 ≤ x → is_space x ≡ false
+no_space : (x : ℕ) → 33 ≤ x → is_white_space x ≡ false
 no_space x h = grind (arith, nat_tests)
 
 trim_one : (a : ℕ) → 33 ≤ a → trimmed (a ∷ []) ≡ a ∷ []
-trim_one a h = let e : is_space a ≡ false = no_space a h in rw (e, e) refl
+trim_one a h = let e : is_white_space a ≡ false = no_space a h in rw (e, e) refl
 
 trim_two : (a b : ℕ) → 33 ≤ a → 33 ≤ b → trimmed (a ∷ b ∷ []) ≡ a ∷ b ∷ []
-trim_two a b h k = let e : is_space a ≡ false = no_space a h in let f : is_space b ≡ false = no_space b k in rw (e, f) refl
+trim_two a b h k = let e : is_white_space a ≡ false = no_space a h in let f : is_white_space b ≡ false = no_space b k in rw (e, f) refl
 
 trim_three : (a b d : ℕ) → 33 ≤ a → 33 ≤ d → trimmed (a ∷ b ∷ d ∷ []) ≡ a ∷ b ∷ d ∷ []
-trim_three a b d h k = let e : is_space a ≡ false = no_space a h in let f : is_space d ≡ false = no_space d k in rw (e, f) refl
+trim_three a b d h k = let e : is_white_space a ≡ false = no_space a h in let f : is_white_space d ≡ false = no_space d k in rw (e, f) refl
 
 pub trim_decimal : (m : ℕ) → m < 100 → trimmed (decimal m) ≡ decimal m
 trim_decimal m h = elim (cases_lt m 10) [

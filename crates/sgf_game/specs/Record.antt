@@ -31,8 +31,10 @@ prop_if name (value ∷ values) = prop_of name (value ∷ values) ∷ []
 abbrev pub root_of : Position → Node
 root_of start = record {
   props =
-      prop_of (codes "FF") (codes "4" ∷ []) ∷ prop_of (codes "GM") (codes "11" ∷ []) ∷ prop_of (codes "SZ") (decimal start.size ∷ [])
-      ∷ (prop_if (codes "AB") (vertices start.size start.black) ++ prop_if (codes "AW") (vertices start.size start.white));
+      prop_of (codes "FF") (codes "4" ∷ []) ∷ prop_of (codes "GM") (codes "11" ∷ [])
+      ∷ prop_of (codes "SZ") (decimal start.size ∷ [])
+      ∷ (prop_if (codes "AB") (vertices start.size start.black)
+      ++ prop_if (codes "AW") (vertices start.size start.white));
 }
 
 abbrev pub letter_of : Colour → List ℕ

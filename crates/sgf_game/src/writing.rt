@@ -15,9 +15,10 @@ use hex_game::{Game, Move, Step};
 use sgf_tree::{Bytes, Collection, Memory, Node, Nodes, Prop, Props, Tree, Trees, Values};
 use std::alloc::{AllocError, Global};
 
-/// The record of a game: one tree without kids. Its root has `FF[4]`, `GM[11]`, SZ with the size, and
-/// AB and AW with the start stones of Black and of White, cells in rising order, each only where there
-/// are such stones. A node follows for each step, with B or W and the vertex in lower case, or
+/// The record of a game: one tree without kids. Its root has `FF[4]`, `GM[11]`, SZ with the size,
+/// and AB and AW with the start stones of Black and of White, cells in rising order, each only
+/// where there are such stones. A node follows for each step, with B or W and the vertex in lower
+/// case, or
 /// `swap-pieces`. Want of memory is the only refusal.
 pub fn from_game(alloc: Global, game: &Game) -> Result<Collection, Memory>
     ensures record_is { IfOk result (λ c. c.trees ≡ record_of game.now) }
@@ -131,7 +132,8 @@ fn push_stones(
     size: Size,
 ) -> Result<(), AllocError>
     requires { Within size stones }
-    ensures { OnOk result (props.new.items ≡ props.old.items ++ prop_if name.now (vertices size stones)) }
+    ensures { OnOk result
+        (props.new.items ≡ props.old.items ++ prop_if name.now (vertices size stones)) }
 {
     let values = vertices(alloc, stones, size)?;
     if !values.is_empty() {

@@ -1,12 +1,15 @@
--- What the reader finds of all the bytes, for private clauses; and what an answer is beside want of memory.
-use Rattle.std.specs.Prelude.{◌≡◌, ℕ, ◌<◌, ◌≤◌, List, [], ◌∷◌, length, take, drop, Some, None, Result, Ok, Err, ◌⊎◌}
+-- What the reader finds of all the bytes, for private clauses; and what an answer is beside want of
+-- memory.
+use Rattle.std.specs.Prelude.{◌≡◌, ℕ, ◌<◌, ◌≤◌, List, [], ◌∷◌, length, take, drop, Some, None}
+use Rattle.std.specs.Prelude.{Result, Ok, Err, ◌⊎◌}
 use Rattle.sgf_tree.specs.declared.error.SgfError.{SgfError}
 use Rattle.sgf_tree.specs.declared.error.SgfError.TheVariants.{NotSgf, TooDeep, Memory}
 use Rattle.sgf_tree.specs.declared.reading.Reading.{Reading}
 use Rattle.sgf_tree.specs.Trees.{GameTrees}
 use Rattle.sgf_tree.specs.Grammar.{HasTree}
 use Rattle.sgf_tree.specs.Printing.{max_depth}
-use Rattle.sgf_tree.specs.Reading.{State, between, opened, in_node, in_name, after_name, in_value, escaped, after_value, step, run, begin, open_of, deepest_of}
+use Rattle.sgf_tree.specs.Reading.{State, between, opened, in_node, in_name, after_name, in_value}
+use Rattle.sgf_tree.specs.Reading.{escaped, after_value, step, run, begin, open_of, deepest_of}
 use Rattle.sgf_tree.specs.Standing.{state_of}
 
 -- the answer, unless memory ran out
@@ -38,5 +41,6 @@ Finds bytes (Ok reading) = GoesTo bytes (state_of reading)
 Finds bytes (Err (NotSgf at)) =
     (s : State) × (at < length bytes) × GoesTo (take at bytes) s × StopsAt s (drop at bytes)
 Finds bytes (Err TooDeep) =
-    (n : ℕ) × (s : State) × (run begin (take n bytes) ≡ Some s) × (max_depth < length (open_of s).outer)
+    (n : ℕ) × (s : State) × (run begin (take n bytes) ≡ Some s)
+    × (max_depth < length (open_of s).outer)
 Finds bytes (Err Memory) = Unit {0}
