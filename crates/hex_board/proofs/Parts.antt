@@ -354,7 +354,7 @@ head_test e u l r f g em k a b c d x y = a ∙ (ap (λ v. v || has l k) c ∙ ap
 low_head : (b x : ℕ) → 0 < b → 0 ≡ b + x → ⊥
 low_head b x h e = absurd (omega arith)
 
-joined_low : (j : Bool) → ◌≡◌ {A = ℕ} (if j then 0 else 1) 0 → j ≡ true
+pub joined_low : (j : Bool) → ◌≡◌ {A = ℕ} (if j then 0 else 1) 0 → j ≡ true
 joined_low true e = refl
 joined_low false e = absurd (omega arith)
 
@@ -371,10 +371,10 @@ zero_out e k on q = elim (case_of e k on) [
   | is_other i j l m t ↦ absurd (none_some _ (sym t ∙ q))
 ]
 
-low_joined : (j : Bool) → j ≡ true → ◌≡◌ {A = ℕ} (if j then 0 else 1) 0
+pub low_joined : (j : Bool) → j ≡ true → ◌≡◌ {A = ℕ} (if j then 0 else 1) 0
 low_joined j h = rw h refl
 
-high_apart : (j : Bool) → j ≡ false → ◌≡◌ {A = ℕ} (if j then 0 else 1) 1
+pub high_apart : (j : Bool) → j ≡ false → ◌≡◌ {A = ℕ} (if j then 0 else 1) 1
 high_apart j h = rw h refl
 
 pub zero_in : (e : PlayerBoard) (k : ℕ) → are_joined e ≡ true → is_tied e true k ≡ true → element_of e k ≡ Some 0

@@ -28,7 +28,7 @@ impl Board {
     /// The size of the board.
     pub fn size(&self) -> Size
         ensures value { result ≡ self.now.size }
-        ensures range { (1 ≤ result) × (result ≤ 11) }
+        ensures range { (1 ≤ result) × (result ≤ Size.MAX) }
     {
         self.size
     }

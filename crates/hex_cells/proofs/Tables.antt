@@ -61,6 +61,10 @@ edge_on White true n k h = grind (arith, nat_tests)
 pub square_small : (n : ℕ) → n ≤ 11 → n * n ≤ 121
 square_small n h = let m : n * n ≤ 11 * n = mul-le-mul_right n h in omega arith
 
+-- a cell of a board is one of 121
+pub board_cell : (n k : ℕ) → n ≤ 11 → k < n * n → k < 121
+board_cell n k h l = let s : n * n ≤ 121 = square_small n h in omega arith
+
 table_has : (c : Colour) (b : Bool) (fs : List ℕ) (n k : ℕ) → fits (on_edge c b) fs ≡ true → n < length fs → n ≤ 11 → has (get_or fs n 0) k ≡ on_edge c b n k
 table_has c b fs n k h l m = elim (cases_lt k 121) [
   | inl s ↦ right_at (on_edge c b n) (get_or fs n 0) k (entry (on_edge c b) fs n h l) s

@@ -28,14 +28,14 @@ pub struct Game {
 impl Model for Game {
     ghost use Rattle.std.specs.Prelude.{◌≤◌, [], vec_capacity};
     ghost use Rattle.hex_game.specs.Games.{GameData};
-    ghost use Rattle.hex_game.specs.Kept.{Leads};
+    ghost use Rattle.hex_game.specs.Kept.{StepsLead};
     ghost use Rattle.hex_game.specs.declared.moves.TheConstants.{MOST_STEPS};
 
     ghost Value = { GameData };
 
     ghost view = { λ g. record { start = g.start; steps = g.steps.items } };
 
-    ghost invariant = { λ g. Leads g.start [] g.start g.steps.items g.before.items g.board
+    ghost invariant = { λ g. StepsLead g.start [] g.start g.steps.items g.before.items g.board
         × (MOST_STEPS ≤ vec_capacity g.steps) × (MOST_STEPS ≤ vec_capacity g.before) };
 }
 

@@ -5,7 +5,7 @@ use Rattle.std.specs.Prelude.{⊤}
 use Rattle.std.specs.List.{All}
 use Rattle.std.specs.Str.{bytes_eq}
 use Rattle.std.proofs.lemmas.List.Kept.{AllPairs-cons}
-use Rattle.clap.specs.Walk.{Text}
+use Rattle.clap.specs.Walk.{TextBytes}
 use Rattle.hexd_words.specs.Grammar.{Saying, SaysOnce}
 use Rattle.hexd_words.proofs.Rules.{bytes_same, differs_back, same_bytes, says}
 
@@ -14,7 +14,7 @@ abbrev pub Once : List Saying → Type 0
 Once [] = ⊤
 Once (u ∷ us) = (says u.0 us ≡ false) × Once us
 
-pub says_both : (name : Text) (us vs : List Saying) → says name (us ++ vs) ≡ (says name us || says name vs)
+pub says_both : (name : TextBytes) (us vs : List Saying) → says name (us ++ vs) ≡ (says name us || says name vs)
 says_both name [] vs = refl
 says_both name (u ∷ us) vs =
     let rest = says_both name us vs in
@@ -44,7 +44,7 @@ once_front (u ∷ us) vs h =
 
 -- ---- the same by pairs
 
-said_at : (name : Text) (us : List Saying) → says name us ≡ false → All (λ s. name ≢ s.0) us
+said_at : (name : TextBytes) (us : List Saying) → says name us ≡ false → All (λ s. name ≢ s.0) us
 said_at name [] h k d lt = absurd (omega arith)
 said_at name (u ∷ us) h zero d lt = λ same. absurd (true≢false (sym (bytes_same u.0 name (sym same)) ∙ (or_parts (bytes_eq u.0 name) (says name us) h).0))
 said_at name (u ∷ us) h (suc k) d lt = said_at name us (or_parts (bytes_eq u.0 name) (says name us) h).1 k d (omega arith)
@@ -54,7 +54,7 @@ pairs_from_once [] h = λ i j d lt below. absurd (omega arith)
 pairs_from_once (u ∷ us) h =
     AllPairs-cons (λ (a b : Saying). a.0 ≢ b.0) u us (said_at u.0 us h.0) (pairs_from_once us h.1)
 
-not_said : (name : Text) (us : List Saying) → All (λ s. name ≢ s.0) us → says name us ≡ false
+not_said : (name : TextBytes) (us : List Saying) → All (λ s. name ≢ s.0) us → says name us ≡ false
 not_said name [] h = refl
 not_said name (u ∷ us) h =
     let other : name ≢ u.0 = h 0 u (omega arith) in

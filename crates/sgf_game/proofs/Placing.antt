@@ -13,7 +13,7 @@ use Rattle.hex_cells.specs.Vertices.{vertex_cell}
 use Rattle.hex_cells.proofs.Bits.{has_none}
 use Rattle.hex_board.specs.Positions.{Apart, Within}
 use Rattle.hex_cells.proofs.WithCell.{has_with_cell}
-use Rattle.hex_game.proofs.Room.{board_cell}
+use Rattle.hex_cells.proofs.Tables.{board_cell}
 use Rattle.sgf_tree.specs.declared.lists.Prop.{Prop}
 use Rattle.sgf_game.specs.Values.{values_if, trimmed}
 use Rattle.sgf_game.specs.Setup.{is_cell, is_in, has_twice, are_misplaced, with_cells, cells_named}

@@ -3,7 +3,7 @@ use Rattle.hex_board.proofs.Placed.{placed_size}
 use Rattle.hex_cells.proofs.Ranges.{find_none, find_first}
 use Rattle.std.proofs.Common.{◌≡◌, ℕ, ◌+◌, ◌<◌, ◌==◌, Bool, true, false, not, cond, List, [], ◌∷◌, ◌++◌, Some, None, map, length, take, get_or, refl, sym, ap, ◌∙◌, subst, arith, zero, suc, append-nil, length-append}
 use Rattle.std.specs.Prelude.{Option, slice_get, option_map}
-use Rattle.std.proofs.lemmas.Bool.{or_parts}
+use Rattle.std.proofs.lemmas.Bool.{or_parts, not-false}
 use Rattle.std.proofs.lemmas.Grind.{flat_map-append}
 use Rattle.std.proofs.lemmas.List.{take_more}
 use Rattle.hex_cells.specs.Vertices.{vertex_cell}
@@ -193,17 +193,13 @@ refusal_at start turns i turn game l e g =
     ap (is_refused_next (game_after start (take i turns))) (turn_at turns i turn l e)
     ∙ ap (λ (h : GameData). is_refused_said h turn.colour turn.said) (sym g)
 
-not_true : (b : Bool) → false ≡ not b → b ≡ true
-not_true true e = refl
-not_true false e = absurd (cc)
-
 not_false : (b : Bool) → true ≡ not b → b ≡ false
 not_false true e = absurd (cc)
 not_false false e = refl
 
 pub refused_at : (start : Position) (turns : List Turn) (i : ℕ) (turn : Turn) (game : GameData) → i < length turns → turn ≡ get_or turns i turn → game ≡ game_after start (take i turns)
     → false ≡ not (is_refused_said game turn.colour turn.said) → is_refused start turns i ≡ true
-refused_at start turns i turn game l e g h = refusal_at start turns i turn game l e g ∙ not_true (is_refused_said game turn.colour turn.said) h
+refused_at start turns i turn game l e g h = refusal_at start turns i turn game l e g ∙ not-false (is_refused_said game turn.colour turn.said) (sym h)
 
 pub taken_at : (start : Position) (turns : List Turn) (i : ℕ) (turn : Turn) (game : GameData) → i < length turns → turn ≡ get_or turns i turn → game ≡ game_after start (take i turns)
     → true ≡ not (is_refused_said game turn.colour turn.said) → is_refused start turns i ≡ false

@@ -28,5 +28,5 @@ abbrev pub game_of : GameTrees → Result GameData GameError
 game_of trees = game_of_line (line_of trees)
 
 -- the answer, unless memory ran out
-abbrev pub OrMemory : Result GameData GameError → Result GameData GameError → Type 0
-OrMemory result answer = (result ≡ answer) ⊎ (result ≡ Err Memory)
+abbrev pub GameOrMemory : Result GameData GameError → Result GameData GameError → Type 0
+GameOrMemory result answer = (result ≡ answer) ⊎ (result ≡ Err Memory)

@@ -46,9 +46,10 @@ text_of n (Stone cell) = vertex_of n cell
 text_of n Swap = codes "swap-pieces"
 
 -- the node of a step
-abbrev pub node_of : ℕ → Step → Node
-node_of n step = record { props = prop_of (letter_of step.colour) (text_of n step.what ∷ []) ∷ [] }
+abbrev pub node_of_step : ℕ → Step → Node
+node_of_step n step =
+    record { props = prop_of (letter_of step.colour) (text_of n step.what ∷ []) ∷ [] }
 
 -- Record: one tree without kids, of the root and a node for each step
 abbrev pub record_of : GameData → GameTrees
-record_of game = tree (root_of game.start ∷ map (node_of game.start.size) game.steps) none none
+record_of game = tree (root_of game.start ∷ map (node_of_step game.start.size) game.steps) none none

@@ -1,7 +1,7 @@
 //! Reading: the game of a collection.
 
 ghost use Rattle.std.specs.Prelude.{ℕ};
-ghost use Rattle.sgf_game.specs.GameOf.{game_of, game_of_line, OrMemory};
+ghost use Rattle.sgf_game.specs.GameOf.{game_of, game_of_line, GameOrMemory};
 ghost use Rattle.sgf_game.specs.Lines.{seen};
 ghost use Rattle.sgf_game.specs.Playing.{EndsLast};
 ghost use Rattle.sgf_game.specs.Turns.{turns_of};
@@ -38,7 +38,7 @@ use std::alloc::Global;
 /// `Memory` may come in place of any answer. The properties are those of SGF FF[4], GM[11]; all
 /// others are skipped.
 pub fn to_game(alloc: Global, collection: &Collection) -> Result<Game, GameError>
-    ensures { OrMemory result (game_of collection.now.trees) }
+    ensures { GameOrMemory result (game_of collection.now.trees) }
 {
     match line_of(alloc, collection) {
         Ok(line) => game_of_line(alloc, &line),
@@ -49,7 +49,7 @@ pub fn to_game(alloc: Global, collection: &Collection) -> Result<Game, GameError
 /// The game of a line that begins with its root.
 fn game_of_line(alloc: Global, line: &[&Node]) -> Result<Game, GameError>
     requires { (n : ℕ) → EndsLast (turns_of n (seen line.now)) }
-    ensures { OrMemory result (game_of_line (seen line.now)) }
+    ensures { GameOrMemory result (game_of_line (seen line.now)) }
 {
     let [root, behind @ ..] = line else {
         return Err(GameError::NotHex);

@@ -5,7 +5,8 @@ ghost use Rattle.hex_board.specs.Positions.{Within};
 ghost use Rattle.sgf_tree.specs.Trees.{depth};
 ghost use Rattle.sgf_tree.specs.Printing.{HasText, max_depth};
 ghost use Rattle.sgf_game.specs.GameOf.{game_of};
-ghost use Rattle.sgf_game.specs.Record.{prop_of, vertices, prop_if, root_of, node_of, record_of};
+ghost use Rattle.sgf_game.specs.Record.{prop_of, vertices, prop_if, root_of, node_of_step};
+ghost use Rattle.sgf_game.specs.Record.{record_of};
 ghost use Rattle.sgf_game.specs.Playing.{IsMoveOn};
 
 use super::sizes::write_number;
@@ -90,7 +91,7 @@ fn root_of(alloc: Global, start: &Board) -> Result<Node, AllocError>
 /// The node of a step: B or W with its one move.
 fn node_of(alloc: Global, step: &Step, size: Size) -> Result<Node, AllocError>
     requires { IsMoveOn size step.now.what }
-    ensures { IfOk result (λ node. node ≡ node_of size step.now) }
+    ensures { IfOk result (λ node. node ≡ node_of_step size step.now) }
 {
     let name: &[u8] = match step.colour {
         Colour::Black => b"B",

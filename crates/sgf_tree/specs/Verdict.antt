@@ -28,9 +28,9 @@ IsFinal (escaped o props name values value) trees = ⊥
 IsFinal (after_value o props name values) trees = ⊥
 
 -- no byte follows, or one that can't stand there
-abbrev pub StopsAt : State → List ℕ → Type 0
-StopsAt s [] = Unit {0}
-StopsAt s (x ∷ bytes) = step s x ≡ None
+abbrev pub IsStuckAt : State → List ℕ → Type 0
+IsStuckAt s [] = Unit {0}
+IsStuckAt s (x ∷ bytes) = step s x ≡ None
 
 -- The state after these bytes, in which no more trees are or were open than may be.
 abbrev pub GoesTo : List ℕ → State → Type 0
@@ -39,7 +39,7 @@ GoesTo bytes s = (run begin bytes ≡ Some s) × (deepest_of s ≤ max_depth)
 abbrev pub Finds : List ℕ → Result Reading SgfError → Type 0
 Finds bytes (Ok reading) = GoesTo bytes (state_of reading)
 Finds bytes (Err (NotSgf at)) =
-    (s : State) × (at < length bytes) × GoesTo (take at bytes) s × StopsAt s (drop at bytes)
+    (s : State) × (at < length bytes) × GoesTo (take at bytes) s × IsStuckAt s (drop at bytes)
 Finds bytes (Err TooDeep) =
     (n : ℕ) × (s : State) × (run begin (take n bytes) ≡ Some s)
     × (max_depth < length (open_of s).outer)

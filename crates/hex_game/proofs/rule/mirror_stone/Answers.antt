@@ -1,7 +1,7 @@
 use Rattle.std.proofs.Common.{◌<◌, ◌≤◌, sym, subst, arith}
 use Rattle.hex_cells.proofs.WithCell.{members_some, with_cell-here}
 use Rattle.hex_cells.specs.Sets.{members, with_cell}
-use Rattle.hex_game.proofs.Room.{board_cell}
+use Rattle.hex_cells.proofs.Tables.{board_cell}
 use Rattle.hex_game.proofs.rule.mirror_stone.Goals as goal
 
 pub returns-clause-some : goal.returns-clause-some
