@@ -1,0 +1,5 @@
+pub mod Sureness
+pub mod Winning
+pub mod Ways
+pub mod Edges
+pub mod RuleTruth

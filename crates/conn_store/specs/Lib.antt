@@ -1,0 +1,6 @@
+pub use Rattle.hex_cells.specs.Sets
+pub mod Truth
+pub mod Links
+pub mod Entries
+pub mod Rules
+pub mod Stores
