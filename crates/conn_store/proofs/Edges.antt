@@ -12,8 +12,8 @@ use Rattle.hex_board.specs.Positions.{Within, stones_of}
 use Rattle.hex_board.proofs.Parts.{zero_out, one_out, tied_stone}
 use Rattle.hex_board.proofs.Roots.{turned_link, links_through}
 use Rattle.hex_board.proofs.Search.{leads_out, joined_out, starts_in}
+use Rattle.conn_store.specs.Laws.{Inside}
 use Rattle.conn_store.specs.Links.{MayPass, Linked}
-use Rattle.conn_store.proofs.Sureness.{Inside}
 use Rattle.conn_store.proofs.Ways.{both_first, first_alone}
 
 more_path : (n s t a : ℕ) (xs : List ℕ) → Inside s t → Path n s a xs → Path n t a xs

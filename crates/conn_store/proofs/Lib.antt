@@ -3,3 +3,6 @@ pub mod Winning
 pub mod Ways
 pub mod Edges
 pub mod RuleTruth
+pub mod Pairs
+pub mod Numbers
+pub mod Tables

@@ -7,7 +7,9 @@ use Rattle.hex_cells.specs.Sets.{has, members, with_cell, without_cell}
 use Rattle.hex_board.specs.Elements.{PlayerBoard, HasCell}
 use Rattle.hex_board.specs.Positions.{Apart, Position, Within, stones_of, is_empty_at}
 use Rattle.hex_board.proofs.Parts.{empty_on}
+use Rattle.conn_store.specs.Laws.{Inside}
 use Rattle.conn_store.specs.Entries.{AreEmpty, Connects, IsBetween, IsTrueEntry, IsValid, Misses}
+use Rattle.conn_store.specs.Index.{IsSmall}
 use Rattle.conn_store.specs.Links.{Linked}
 use Rattle.conn_store.specs.Rules.{AndRule, AreAt, Follows, FollowsBy, IsCell, IsGroup, OrRule, both_of, is_in_all, union_of}
 use Rattle.conn_store.specs.Truth.{IsSureIn, IsSure}
@@ -16,7 +18,7 @@ use Rattle.conn_store.specs.declared.entries.Cause.TheVariants.{Adjacent, AndGro
 use Rattle.conn_store.specs.declared.entries.Entry.{Entry}
 use Rattle.conn_store.specs.declared.entries.Kind.{Kind}
 use Rattle.conn_store.specs.declared.entries.Kind.TheVariants.{Full, Semi}
-use Rattle.conn_store.proofs.Sureness.{Inside, Gives, IsKept, Disjoint, in_union, union_left, union_right, with_new, with_old, in_with, sure_more, sure_trimmed, sure_both, sure_over, sure_by_one}
+use Rattle.conn_store.proofs.Sureness.{Gives, IsKept, Disjoint, in_union, union_left, union_right, with_new, with_old, in_with, sure_more, sure_trimmed, sure_both, sure_over, sure_by_one}
 use Rattle.conn_store.proofs.Ways.{linked_kept, linked_back, near_linked, linked_group, linked_cell}
 
 -- ---- entries of a pair without an order
@@ -46,11 +48,6 @@ between_back e n kind a x y s c h g = elim (least_first x y a.x a.y h.0 h.1) [
 ]
 
 -- ---- carriers
-
--- a board of at most 121 cells, with the player's stones on it
-pub record IsSmall (e : PlayerBoard) : Type 0 where
-  pub size : e.board.size ≤ 11
-  pub stones : Within e.board.size (stones_of e.board e.player)
 
 pub few_cells : (n k : ℕ) → n ≤ 11 → k < n * n → k < 121
 few_cells n k h l = let m : n * n ≤ 11 * 11 = mul-le-mul h h in omega arith

@@ -6,14 +6,12 @@ use Rattle.hex_cells.specs.Sets.{has, members, with_cell, without_cell}
 use Rattle.hex_cells.proofs.Bits.{has_without, has_or}
 use Rattle.hex_cells.proofs.Counts.{members_sub, members_less}
 use Rattle.hex_board.proofs.WinLaws.{has_with_cell}
+use Rattle.conn_store.specs.Laws.{Inside}
 use Rattle.conn_store.specs.Truth.{IsSureIn, IsSure}
 use Rattle.conn_store.specs.declared.entries.Kind.{Kind}
 use Rattle.conn_store.specs.declared.entries.Kind.TheVariants.{Full, Semi}
 
 -- ---- sets
-
-abbrev pub Inside : ℕ → ℕ → Type 0
-Inside a b = (k : ℕ) → has a k ≡ true → has b k ≡ true
 
 with_out : (a b : Bool) (k j : ℕ) → (b ≡ (a || k == j)) → b ≡ true → (a ≡ true) ⊎ (k ≡ j)
 with_out a b k j e h = grind (arith, nat_tests)
@@ -93,7 +91,7 @@ IsKept G = (a b : ℕ) → Inside a b → G a → G b
 kept_gives : (G : ℕ → Type 0) (s : ℕ) → IsKept G → Gives s G G
 kept_gives G s f a b p q g = f a b q g
 
-same : (s : ℕ) → Inside s s
+pub same : (s : ℕ) → Inside s s
 same s k h = h
 
 -- more cells, and more stones

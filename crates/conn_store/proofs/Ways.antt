@@ -14,8 +14,9 @@ use Rattle.hex_board.proofs.GroupLaws.{one_element}
 use Rattle.hex_board.proofs.Parts.{link_out, zero_out, one_out, case_of, is_free, is_first, is_second, is_group, is_other, linked_last, tied_stone, edge_below, of_free}
 use Rattle.hex_board.proofs.Places.{beside_back, empty_alone}
 use Rattle.hex_board.proofs.Search.{leads_out, joined_out}
+use Rattle.conn_store.specs.Laws.{Inside}
 use Rattle.conn_store.specs.Links.{MayPass, Linked}
-use Rattle.conn_store.proofs.Sureness.{Inside, IsKept}
+use Rattle.conn_store.proofs.Sureness.{IsKept}
 
 -- a path from p to q
 abbrev pub Way : ℕ → Colour → (Place → Type 0) → Place → Place → Type 0

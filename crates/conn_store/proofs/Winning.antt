@@ -10,11 +10,12 @@ use Rattle.hex_board.specs.Joined.{Joined}
 use Rattle.hex_board.specs.Positions.{Position, stones_of, is_empty_at, placed}
 use Rattle.hex_board.specs.Wins.{Wins}
 use Rattle.hex_board.proofs.WinLaws.{joined_wins, own_wins, other_wins, placed_leaves}
+use Rattle.conn_store.specs.Laws.{Inside}
 use Rattle.conn_store.specs.Entries.{AreEmpty}
 use Rattle.conn_store.specs.Truth.{IsSureIn}
 use Rattle.conn_store.specs.declared.entries.Kind.{Kind}
 use Rattle.conn_store.specs.declared.entries.Kind.TheVariants.{Full, Semi}
-use Rattle.conn_store.proofs.Sureness.{Inside, in_without, without_inside, more_stones}
+use Rattle.conn_store.proofs.Sureness.{in_without, without_inside, more_stones}
 
 -- who is to move: the opponent where the player is sure all the same
 abbrev pub mover_of : Kind → Colour → Colour

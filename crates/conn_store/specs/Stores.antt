@@ -9,6 +9,7 @@ use Rattle.conn_store.specs.declared.entries.Entry.{Entry}
 use Rattle.conn_store.specs.declared.entries.Held.{Held}
 use Rattle.conn_store.specs.declared.entries.Kind.{Kind}
 use Rattle.conn_store.specs.declared.entries.Kind.TheVariants.{Full, Semi}
+use Rattle.conn_store.specs.declared.entries.TheConstants.{MOST_FULL, MOST_SEMI}
 use Rattle.conn_store.specs.declared.entries.Put.{Put}
 use Rattle.conn_store.specs.declared.entries.Put.TheVariants.{Added, Dominated, PairFull}
 
@@ -19,8 +20,8 @@ pub record StoreData : Type 0 where
 
 -- the number of entries of one pair that a store takes of a kind
 abbrev pub most_of : Kind → ℕ
-most_of Full = 4
-most_of Semi = 6
+most_of Full = MOST_FULL
+most_of Semi = MOST_SEMI
 
 abbrev pub same_kind : Kind → Kind → Bool
 same_kind Full Full = true
@@ -42,9 +43,9 @@ numbers_from n kind x y (a ∷ entries) =
 abbrev pub numbers_of : StoreData → Kind → ℕ → ℕ → List ℕ
 numbers_of d kind x y = numbers_from 0 kind x y d.entries
 
--- these numbers, and zeros in the places that are left of six
+-- these numbers, and zeros in the places that are left
 abbrev pub held_of : List ℕ → Held
-held_of numbers = record { count = length numbers; at = numbers ++ replicate (6 - length numbers) 0 }
+held_of numbers = record { count = length numbers; at = numbers ++ replicate (MOST_SEMI - length numbers) 0 }
 
 -- an entry of that kind and pair has its carrier inside c
 abbrev pub IsCovered : StoreData → Kind → ℕ → ℕ → ℕ → Type 0

@@ -1,6 +1,17 @@
 //! Entries: what is kept of a connection.
 
+ghost use Rattle.std.specs.Prelude.{◌≡◌};
+
 use hex_cells::CellSet;
+
+/// The most full entries of a pair that a store takes: with more, derivations grow long and find little.
+pub const MOST_FULL: usize = 4;
+
+/// The most semi entries of a pair that a store takes. Six make 15 pairs and 20 triples for the rule of OR.
+pub const MOST_SEMI: usize = 6;
+
+/// The most entries of a store: so many for each of the 7,503 pairs of 123 elements.
+pub const MOST_ENTRIES: usize = (MOST_FULL + MOST_SEMI) * 7_503;
 
 /// Who may move first inside the carrier.
 #[derive(Clone, Copy, Debug, PartialEq, Eq)]
@@ -9,6 +20,20 @@ pub enum Kind {
     Full,
     /// He joins them if he moves first.
     Semi,
+}
+
+impl Kind {
+    ghost use Rattle.conn_store.specs.Stores.{most_of};
+
+    /// The most entries of a pair that a store takes of this kind.
+    pub fn most(self) -> u32
+        ensures { result ≡ most_of self }
+    {
+        match self {
+            Kind::Full => MOST_FULL as u32,
+            Kind::Semi => MOST_SEMI as u32,
+        }
+    }
 }
 
 /// The rule by which an entry follows, and the numbers of the entries that it follows from.
@@ -39,7 +64,7 @@ pub enum Put {
 #[derive(Clone, Copy, Debug, PartialEq, Eq)]
 pub struct Held {
     pub count: u32,
-    pub at: [u32; 6],
+    pub at: [u32; MOST_SEMI],
 }
 
 /// A connection of two elements.
