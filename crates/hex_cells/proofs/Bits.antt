@@ -9,9 +9,9 @@ use Rattle.std.proofs.Math.Nat.{div-div-eq-div-mul}
 use Rattle.std.proofs.Common.{pow-add, add-zero}
 use Rattle.std.proofs.Math.Nat.{add_comm}
 use Rattle.std.proofs.Math.Pow.{pow_mono, pow_pos}
-use Rattle.std.proofs.lemmas.Nat.{or_lt, and_le_l, le_or_l}
+use Rattle.std.proofs.lemmas.Nat.{or_lt, le_or_l}
 use Rattle.std.proofs.Math.Pow.{pow-lt}
-use Rattle.hex_cells.specs.Sets.{has, with_cell, without_cell}
+use Rattle.hex_cells.specs.Sets.{has, with_cell, without_cell, without_cells}
 
 max_one : (x y : ℕ) → x < 2 → y < 2 → (max x y == 1) ≡ (x == 1 || y == 1)
 max_one x y hx hy = grind (arith, nat_tests)
@@ -226,6 +226,17 @@ has_without s k j =
     ] in
     has_and s (bit_xor s (2 ^ k)) j ∙ r
 
+differ_at : (b x y : ℕ) → b < 2 → y < 2 → x ≡ (b + y) % 2 → ((b == 1) && (x == 1)) ≡ ((b == 1) && not (y == 1))
+differ_at zero x y h g e = refl
+differ_at (suc zero) x zero h g e = let f : x ≡ 1 = e in grind (arith, nat_tests)
+differ_at (suc zero) x (suc zero) h g e = let f : x ≡ 0 = e in grind (arith, nat_tests)
+differ_at (suc zero) x (suc (suc y)) h g e = absurd (omega arith)
+differ_at (suc (suc b)) x y h g e = absurd (omega arith)
+
+pub has_without_cells : (s t k : ℕ) → has (without_cells s t) k ≡ (has s k && not (has t k))
+unfolding has
+has_without_cells s t k = has_and s (bit_xor s t) k ∙ differ_at (bit_at s k) _ (bit_at t k) (bit_at-lt s k) (bit_at-lt t k) (bit_at_xor s t k)
+
 -- a cell of a set below 2 ^ w is below w
 pub cell_below : (s w k : ℕ) → s < 2 ^ w → has s k ≡ true → k < w
 cell_below s w k h e = elim (cases_lt k w) [ inl l ↦ l | inr g ↦ absurd (off_on (has s k) (has_above s w k h g) e) ]
@@ -242,7 +253,7 @@ has_cleared a c k h l = has_minus a (1 * 2 ^ c % 2 ^ 128) k h (pow_below c l) �
 pub cleared_value : (a c : ℕ) → a < 2 ^ 121 → c < 121 → bit_and a (2 ^ 128 - 1 - 1 * 2 ^ c % 2 ^ 128) ≡ without_cell a c
 cleared_value a c h l = same_set (bit_and a (2 ^ 128 - 1 - 1 * 2 ^ c % 2 ^ 128)) (without_cell a c) (λ k. has_cleared a c k h l ∙ sym (has_without a c k))
 
-same_out : (a : Bool) (c : ℕ) → (a && not (c == c)) ≡ false
+pub same_out : (a : Bool) (c : ℕ) → (a && not (c == c)) ≡ false
 same_out a c = grind (arith, nat_tests)
 
 -- a set with a cell less is a lesser number
@@ -251,3 +262,7 @@ cleared_less a b c l e h = elim (cases_eq b a) [
   | inl q ↦ absurd (off_on (has a c) (ap (λ v. has v c) (sym q) ∙ (e ∙ same_out (has a c) c)) h)
   | inr n ↦ omega arith
 ]
+
+-- a without the bits of b, in two ways
+pub minus_value : (a b : ℕ) → a < 2 ^ 121 → b < 2 ^ 121 → bit_and a (2 ^ 128 - 1 - b) ≡ without_cells a b
+minus_value a b ha hb = same_set (bit_and a (2 ^ 128 - 1 - b)) (without_cells a b) (λ k. has_minus a b k ha hb ∙ sym (has_without_cells a b k))

@@ -17,3 +17,7 @@ with_cell s k = bit_or s (2 ^ k)
 -- the number of the set s without cell k
 abbrev pub without_cell : ℕ → ℕ → ℕ
 without_cell s k = bit_and s (bit_xor s (2 ^ k))
+
+-- the number of the set s without the cells of the set t
+abbrev pub without_cells : ℕ → ℕ → ℕ
+without_cells s t = bit_and s (bit_xor s t)

@@ -4,6 +4,9 @@ ghost use Rattle.std.specs.Prelude.{◌≡◌, ℕ, ◌*◌, ◌≤◌, MatchOpt
 
 use std::marker::Model;
 
+/// The most cells of a board: the largest has 11 by 11.
+pub const MOST_CELLS: u32 = 121;
+
 /// How many columns a board has, and how many rows: 1 to 11.
 #[derive(Clone, Copy, Debug, PartialEq, Eq)]
 pub struct Size {
@@ -43,10 +46,10 @@ impl Size {
         self.n
     }
 
-    /// The number of cells: 1 to 121.
+    /// The number of cells: 1 to [`MOST_CELLS`].
     pub fn cells(self) -> u32
         ensures value { result ≡ self * self }
-        ensures range { (1 ≤ result) × (result ≤ 121) }
+        ensures range { (1 ≤ result) × (result ≤ MOST_CELLS) }
     {
         self.n * self.n
     }

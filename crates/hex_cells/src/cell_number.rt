@@ -2,7 +2,7 @@
 
 ghost use Rattle.std.specs.Prelude.{◌≡◌, ℕ, ◌+◌, ◌*◌, ◌/◌, ◌%◌, ◌<◌};
 
-use super::Size;
+use super::{MOST_CELLS, Size};
 use std::marker::Model;
 
 /// A cell of a board, by its number `row * size + column`, from 0 to 120. Column and row count from 0, so `a1` is 0.
@@ -12,19 +12,22 @@ pub struct Cell {
 }
 
 impl Model for Cell {
+    ghost use Rattle.std.specs.Prelude.{ℕ, ◌<◌};
+    ghost use Rattle.hex_cells.specs.declared.board_size.TheConstants.{MOST_CELLS};
+
     ghost Value = { ℕ };
 
     ghost view = { λ s. s.number };
 
     ghost inverse = { λ k. record { number = k } };
 
-    ghost invariant = { λ s. s.number < 121 };
+    ghost invariant = { λ s. s.number < MOST_CELLS };
 }
 
 impl Cell {
     /// The cell with this number.
     pub fn numbered(number: u32) -> Cell
-        requires { number < 121 }
+        requires { number < MOST_CELLS }
         ensures { result ≡ number }
     {
         Cell { number }
@@ -45,7 +48,7 @@ impl Cell {
     /// The cell's number, from 0 to 120.
     pub fn number(self) -> u32
         ensures value { result ≡ self }
-        ensures range { result < 121 }
+        ensures range { result < MOST_CELLS }
     {
         self.number
     }

@@ -65,25 +65,25 @@ const LAST_COLUMNS: [u128; SIZES] = [
 fn first_row(size: Size) -> CellSet
     ensures { (k : ℕ) → has result k ≡ on_edge Colour.Black false size k }
 {
-    CellSet::numbered(FIRST_ROWS[size.get() as usize])
+    CellSet::of_bits(FIRST_ROWS[size.get() as usize])
 }
 
 fn last_row(size: Size) -> CellSet
     ensures { (k : ℕ) → has result k ≡ on_edge Colour.Black true size k }
 {
-    CellSet::numbered(LAST_ROWS[size.get() as usize])
+    CellSet::of_bits(LAST_ROWS[size.get() as usize])
 }
 
 pub(crate) fn first_column(size: Size) -> CellSet
     ensures { (k : ℕ) → has result k ≡ on_edge Colour.White false size k }
 {
-    CellSet::numbered(FIRST_COLUMNS[size.get() as usize])
+    CellSet::of_bits(FIRST_COLUMNS[size.get() as usize])
 }
 
 pub(crate) fn last_column(size: Size) -> CellSet
     ensures { (k : ℕ) → has result k ≡ on_edge Colour.White true size k }
 {
-    CellSet::numbered(LAST_COLUMNS[size.get() as usize])
+    CellSet::of_bits(LAST_COLUMNS[size.get() as usize])
 }
 
 /// The cells of a player's first edge, or of his second: Black's are the first and the last row, White's the first and

@@ -25,7 +25,7 @@ mod sets;
 mod tests;
 mod vertices;
 
-pub use board_size::Size;
+pub use board_size::{MOST_CELLS, Size};
 pub use cell_number::Cell;
 pub use colours::Colour;
 pub use edges::edge;

@@ -1,13 +1,10 @@
 //! Sets of cells.
 
 ghost use Rattle.std.specs.Prelude.{◌≡◌, ℕ, ◌+◌, ◌-◌, ◌*◌, ◌^◌, ◌<◌, ◌≤◌, ◌==◌, ◌↔◌, ◌&&◌, ◌||◌, nat_lt, not, true, false, IsTrue, MatchOption, bit_or, bit_and};
-ghost use Rattle.hex_cells.specs.Sets.{has, members, with_cell, without_cell};
+ghost use Rattle.hex_cells.specs.Sets.{has, members, with_cell, without_cell, without_cells};
 
-use super::{Cell, Size};
+use super::{Cell, MOST_CELLS, Size};
 use std::marker::Model;
-
-// As many cells as the largest board has.
-const CELLS: u32 = Size::MAX * Size::MAX;
 
 /// A set of cells: bit k of its number is set where cell k is in it. It is not tied to a size.
 #[derive(Clone, Copy, Debug, PartialEq, Eq)]
@@ -16,28 +13,33 @@ pub struct CellSet {
 }
 
 impl Model for CellSet {
+    ghost use Rattle.std.specs.Prelude.{ℕ, ◌^◌, ◌<◌};
+    ghost use Rattle.hex_cells.specs.declared.board_size.TheConstants.{MOST_CELLS};
+
     ghost Value = { ℕ };
 
     ghost view = { λ s. s.bits };
 
     ghost inverse = { λ n. record { bits = n } };
 
-    ghost invariant = { λ s. s.bits < 2 ^ 121 };
+    ghost invariant = { λ s. s.bits < 2 ^ MOST_CELLS };
 }
 
 impl CellSet {
-    /// The number of the set: bit k is set where cell k is in it.
-    pub fn number(self) -> u128
+    /// The set as a number: bit k is set exactly where cell k is in it.
+    pub fn bits(self) -> u128
         ensures value { result ≡ self }
-        ensures range { result < 2 ^ 121 }
+        ensures range { result < 2 ^ MOST_CELLS }
+        ensures items { (k : ℕ) → has result k ≡ has self k }
     {
         self.bits
     }
 
-    /// The set with this number.
-    pub fn numbered(bits: u128) -> CellSet
-        requires { bits < 2 ^ 121 }
-        ensures { result ≡ bits }
+    /// The set with this number: cell k is in it exactly where bit k is set. No bit from [`MOST_CELLS`] on may be set.
+    pub fn of_bits(bits: u128) -> CellSet
+        requires { bits < 2 ^ MOST_CELLS }
+        ensures value { result ≡ bits }
+        ensures items { (k : ℕ) → has result k ≡ has bits k }
     {
         CellSet { bits }
     }
@@ -53,7 +55,7 @@ impl CellSet {
     /// All cells of a board.
     pub fn all(size: Size) -> CellSet
         ensures value { result ≡ 2 ^ (size * size) - 1 }
-        ensures small { result < 2 ^ 121 }
+        ensures small { result < 2 ^ MOST_CELLS }
         ensures items { (k : ℕ) → has result k ≡ nat_lt k (size * size) }
     {
         CellSet {
@@ -64,7 +66,7 @@ impl CellSet {
     /// The set with this cell too.
     pub fn with(self, cell: Cell) -> CellSet
         ensures value { result ≡ with_cell self cell }
-        ensures small { result < 2 ^ 121 }
+        ensures small { result < 2 ^ MOST_CELLS }
         ensures items { (k : ℕ) → has result k ≡ (has self k || k == cell) }
     {
         CellSet {
@@ -77,7 +79,7 @@ impl CellSet {
         ensures value { result ≡ without_cell self cell }
         ensures shrinks { result ≤ self }
         ensures fewer { has self cell ≡ true → result < self }
-        ensures small { result < 2 ^ 121 }
+        ensures small { result < 2 ^ MOST_CELLS }
         ensures items { (k : ℕ) → has result k ≡ (has self k && not (k == cell)) }
     {
         CellSet {
@@ -97,7 +99,7 @@ impl CellSet {
     pub fn union(self, other: CellSet) -> CellSet
         ensures value { result ≡ bit_or self other }
         ensures grows { self ≤ result }
-        ensures small { result < 2 ^ 121 }
+        ensures small { result < 2 ^ MOST_CELLS }
         ensures items { (k : ℕ) → has result k ≡ (has self k || has other k) }
     {
         CellSet {
@@ -109,7 +111,7 @@ impl CellSet {
     pub fn meet(self, other: CellSet) -> CellSet
         ensures value { result ≡ bit_and self other }
         ensures shrinks { result ≤ self }
-        ensures small { result < 2 ^ 121 }
+        ensures small { result < 2 ^ MOST_CELLS }
         ensures items { (k : ℕ) → has result k ≡ (has self k && has other k) }
     {
         CellSet {
@@ -119,8 +121,9 @@ impl CellSet {
 
     /// The cells of this set that are not in the other.
     pub fn minus(self, other: CellSet) -> CellSet
+        ensures value { result ≡ without_cells self other }
         ensures shrinks { result ≤ self }
-        ensures small { result < 2 ^ 121 }
+        ensures small { result < 2 ^ MOST_CELLS }
         ensures items { (k : ℕ) → has result k ≡ (has self k && not (has other k)) }
     {
         CellSet {
@@ -151,8 +154,8 @@ impl CellSet {
 
     /// How many cells are in the set.
     pub fn count(self) -> u32
-        ensures value { result ≡ members self 121 }
-        ensures range { result ≤ 121 }
+        ensures value { result ≡ members self MOST_CELLS }
+        ensures range { result ≤ MOST_CELLS }
     {
         self.bits.count_ones()
     }
@@ -161,7 +164,7 @@ impl CellSet {
     /// `nth` has it.
     pub fn rank(self, cell: Cell) -> u32
         ensures value { result ≡ members self cell }
-        ensures range { result < 121 }
+        ensures range { result < MOST_CELLS }
     {
         self.below(cell.number())
     }
@@ -180,12 +183,12 @@ impl CellSet {
     /// The cell with `k` cells of the set below it: the cells in rising order, from 0.
     #[tactic(auto, using(crate::proofs::Counts::members_more, crate::proofs::Counts::members_none))]
     pub fn nth(self, k: u32) -> Cell
-        requires { k < members self 121 }
+        requires { k < members self MOST_CELLS }
         ensures inside { has self result ≡ true }
         ensures order { members self result ≡ k }
     {
         let mut at = 0;
-        let mut width = CELLS;
+        let mut width = MOST_CELLS;
         // The cell is one of the `width` numbers from `at` on; halving them takes seven steps.
         while 1 < width {
             let half = width / 2;
@@ -201,7 +204,7 @@ impl CellSet {
 
     // How many cells of the set have a number below `end`.
     fn below(self, end: u32) -> u32
-        requires { end ≤ 121 }
+        requires { end ≤ MOST_CELLS }
         ensures value { result ≡ members self end }
         ensures range { result ≤ end }
     {

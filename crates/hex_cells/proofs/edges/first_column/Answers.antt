@@ -3,8 +3,8 @@ use Rattle.hex_cells.specs.Sets.{has}
 use Rattle.hex_cells.proofs.Tables.{first_column_below, first_column_has}
 use Rattle.hex_cells.proofs.edges.first_column.Goals as goal
 
-pub numbered-requires : goal.numbered-requires
-numbered-requires c = rw c.get.ensures.value (first_column_below c.args.size (omega arith))
+pub of_bits-requires : goal.of_bits-requires
+of_bits-requires c = rw c.get.ensures.value (first_column_below c.args.size (omega arith))
 
 pub returns : goal.returns
-returns c = λ k. ap (λ v. has v k) c.numbered.ensures ∙ rw c.get.ensures.value (first_column_has c.args.size k (omega arith))
+returns c = λ k. ap (λ v. has v k) c.of_bits.ensures.value ∙ rw c.get.ensures.value (first_column_has c.args.size k (omega arith))
