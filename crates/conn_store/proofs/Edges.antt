@@ -11,12 +11,12 @@ use Rattle.hex_board.specs.Places.{Place, at_cell, at_edge, Beside, IsMember, Ro
 use Rattle.hex_board.specs.Positions.{Within, stones_of}
 use Rattle.hex_board.proofs.Parts.{zero_out, one_out, tied_stone}
 use Rattle.hex_board.proofs.Roots.{turned_link, links_through}
-use Rattle.hex_board.proofs.Search.{leads_out, joined_out, starts_in}
-use Rattle.conn_store.specs.Laws.{Inside}
-use Rattle.conn_store.specs.Links.{MayPass, Linked}
-use Rattle.conn_store.proofs.Ways.{both_first, first_alone}
+use Rattle.hex_board.proofs.Search.{leads_out, joined_out}
+use Rattle.conn_store.specs.Laws.{IsSubset}
+use Rattle.conn_store.specs.Links.{MayPass, AreLinked}
+use Rattle.conn_store.proofs.Ways.{first_alone}
 
-more_path : (n s t a : ℕ) (xs : List ℕ) → Inside s t → Path n s a xs → Path n t a xs
+more_path : (n s t a : ℕ) (xs : List ℕ) → IsSubset s t → Path n s a xs → Path n t a xs
 more_path n s t a [] f p = f a p
 more_path n s t a (x ∷ xs) f p = (f a p.0, p.1, more_path n s t x xs f p.2)
 
@@ -51,7 +51,7 @@ route_ends n c t P p [] f w e = e
 route_ends n c t P p (q ∷ qs) f w e = step_back n c t p q (f p w.0) w.1 (route_ends n c t P q qs f w.2 e)
 
 -- a path of the player's stones to an edge, in the stones t
-tied_path : (e : PlayerBoard) (second : Bool) (t k : ℕ) → Inside (stones_of e.board e.player) t → is_tied e second k ≡ true
+tied_path : (e : PlayerBoard) (second : Bool) (t k : ℕ) → IsSubset (stones_of e.board e.player) t → is_tied e second k ≡ true
     → (xs : List ℕ) × Path e.board.size t k xs × (on_edge e.player second e.board.size (last_of k xs) ≡ true)
 tied_path e second t k f h =
     let l = leads_out (e.board.size * e.board.size) e.board.size (stones_of e.board e.player) (on_edge e.player second e.board.size) k h in
@@ -66,14 +66,14 @@ second_cell e k on j h = one_out e k on j (h ∙ ap_some (first_alone (are_joine
     ap_some : {a b : ℕ} → a ≡ b → Some a ≡ Some b
     ap_some q = ap Some q
 
-stone_passes : (e : PlayerBoard) (t : ℕ) (q : Place) → Within e.board.size (stones_of e.board e.player) → Inside (stones_of e.board e.player) t → are_joined e ≡ false
+stone_passes : (e : PlayerBoard) (t : ℕ) (q : Place) → Within e.board.size (stones_of e.board e.player) → IsSubset (stones_of e.board e.player) t → are_joined e ≡ false
     → MayPass e (edge_element e false) (edge_element e true) t q → IsStone t q
 stone_passes e t (at_cell k) on f j (inl h) = h
 stone_passes e t (at_cell k) on f j (inr (inl h)) = f k (tied_stone e false k (first_cell e k on j h))
 stone_passes e t (at_cell k) on f j (inr (inr h)) = f k (tied_stone e true k (second_cell e k on j h))
 stone_passes e t (at_edge second) on f j h = tt
 
-last_ends : (e : PlayerBoard) (t : ℕ) (q : Place) → Within e.board.size (stones_of e.board e.player) → Inside (stones_of e.board e.player) t → are_joined e ≡ false
+last_ends : (e : PlayerBoard) (t : ℕ) (q : Place) → Within e.board.size (stones_of e.board e.player) → IsSubset (stones_of e.board e.player) t → are_joined e ≡ false
     → IsMember e (edge_element e true) q → Ends e.board.size e.player t q
 last_ends e t (at_cell k) on f j h = inl (tied_path e true t k f (second_cell e k on j h))
 last_ends e t (at_edge true) on f j h = tt
@@ -89,7 +89,7 @@ meet_there n c t k xs p h w =
     let b : Links n t (last_of k xs) (last_of k w.0) = links_through n t (last_of k xs) k (last_of k w.0) a (w.0, w.1, refl) in
     (last_of k xs, b.0, b.1, h, subst (λ v. on_edge c true n v ≡ true) (sym b.2) w.2)
 
-first_ends : (e : PlayerBoard) (t : ℕ) (p : Place) → Within e.board.size (stones_of e.board e.player) → Inside (stones_of e.board e.player) t → are_joined e ≡ false
+first_ends : (e : PlayerBoard) (t : ℕ) (p : Place) → Within e.board.size (stones_of e.board e.player) → IsSubset (stones_of e.board e.player) t → are_joined e ≡ false
     → IsMember e (edge_element e false) p → Ends e.board.size e.player t p → Joined e.board.size e.player t
 first_ends e t (at_cell k) on f j h (inr w) = w
 first_ends e t (at_cell k) on f j h (inl w) =
@@ -101,11 +101,11 @@ first_ends e t (at_edge true) on f j h w = absurd (apart (sym h ∙ first_alone 
     apart : ◌≡◌ {A = ℕ} 0 1 → ⊥
     apart q = absurd (omega arith)
 
-more_joined : (n : ℕ) (c : Colour) (s t : ℕ) → Inside s t → Joined n c s → Joined n c t
+more_joined : (n : ℕ) (c : Colour) (s t : ℕ) → IsSubset s t → Joined n c s → Joined n c t
 more_joined n c s t f j = (j.0, j.1, more_path n s t j.0 j.1 f j.2, j.3, j.4)
 
-pub linked_joins : (e : PlayerBoard) (t : ℕ) → Within e.board.size (stones_of e.board e.player) → Inside (stones_of e.board e.player) t
-    → Linked e (edge_element e false) (edge_element e true) t → Joined e.board.size e.player t
+pub linked_joins : (e : PlayerBoard) (t : ℕ) → Within e.board.size (stones_of e.board e.player) → IsSubset (stones_of e.board e.player) t
+    → AreLinked e (edge_element e false) (edge_element e true) t → Joined e.board.size e.player t
 linked_joins e t on f l = elim (cases_Bool (are_joined e)) [
   | inl j ↦ more_joined e.board.size e.player (stones_of e.board e.player) t f (joined_out e.board.size e.player (stones_of e.board e.player) j)
   | inr j ↦ first_ends e t l.0 on f j l.2

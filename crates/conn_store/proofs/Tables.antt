@@ -1,5 +1,5 @@
 -- The tables of a store's index.
-use Rattle.std.proofs.Common.{◌≡◌, ℕ, ◌+◌, ◌-◌, ◌*◌, ◌/◌, ◌<◌, ◌≤◌, ◌⊎◌, ◌==◌, ◌&&◌, zero, suc, Bool, true, false, cond, if◌then◌else◌, List, [], ◌∷◌, ◌++◌, length, replicate, get_or, set, take, Some, None, All, sum_by, refl, sym, ◌∙◌, ap, subst, arith, inl, inr, IsTrue, ◌↔◌, length-append, append_assoc}
+use Rattle.std.proofs.Common.{◌≡◌, ℕ, ◌+◌, ◌-◌, ◌*◌, ◌<◌, ◌≤◌, ◌⊎◌, ◌==◌, ◌&&◌, zero, suc, Bool, true, false, List, [], ◌∷◌, ◌++◌, length, replicate, get_or, set, take, Some, All, refl, sym, ◌∙◌, ap, subst, arith, inl, inr, IsTrue, ◌↔◌, length-append}
 use Rattle.std.specs.List.{slice_get}
 use Rattle.std.proofs.lemmas.Bool.{both_ways, cases_Bool, cases_eq, false_from_ne_true, and_left, and_parts, and_from, eqb-true, eq-eqb}
 use Rattle.std.proofs.Math.Seq.{take-append_seam}
@@ -12,8 +12,8 @@ use Rattle.hex_cells.specs.declared.colours.Colour.{Colour}
 use Rattle.hex_board.specs.Elements.{PlayerBoard, element_count}
 use Rattle.hex_board.specs.Positions.{Position, Within, stones_of}
 use Rattle.conn_store.specs.Entries.{IsTrueEntry, IsValid}
-use Rattle.conn_store.specs.Rules.{Follows}
-use Rattle.conn_store.specs.Index.{AnyInside, IsSmall, IsStored, IsTable, number_of_pair, pairs_of, total_of}
+use Rattle.conn_store.specs.Rules.{FollowsFrom}
+use Rattle.conn_store.specs.Index.{AnyInside, IsStored, IsTable, number_of_pair, pairs_among, total_of}
 use Rattle.conn_store.specs.Stores.{AreFew, IsCovered, IsPairFull, IsSound, StoreData, held_of, is_of, most_of, numbers_from, numbers_of, same_kind, with_entry}
 use Rattle.conn_store.specs.declared.entries.Entry.{Entry}
 use Rattle.conn_store.specs.declared.entries.Held.{Held}
@@ -26,12 +26,11 @@ use Rattle.conn_store.proofs.Pairs.{pair_below, pairs_few, same_pair}
 
 -- ---- no entries
 
-
-pub empty_table : (e : PlayerBoard) (kind : Kind) → IsTable (record { elements = e; entries = [] }) kind (replicate (pairs_of (element_count e)) (held_of []))
+pub empty_table : (e : PlayerBoard) (kind : Kind) → IsTable (record { elements = e; entries = [] }) kind (replicate (pairs_among (element_count e)) (held_of []))
 empty_table e kind = record {
-  pairs = length-replicate (pairs_of (element_count e)) (held_of []);
-  numbers = λ x y h l m. get_or-replicate (pairs_of (element_count e)) (number_of_pair x y) (held_of []) h (pair_below x y (element_count e) l m);
-  few = All-replicate (λ (h : Held). h.count ≤ most_of kind) (pairs_of (element_count e)) (held_of []) (zero_most kind);
+  pairs = length-replicate (pairs_among (element_count e)) (held_of []);
+  numbers = λ x y h l m. get_or-replicate (pairs_among (element_count e)) (number_of_pair x y) (held_of []) h (pair_below x y (element_count e) l m);
+  few = All-replicate (λ (h : Held). h.count ≤ most_of kind) (pairs_among (element_count e)) (held_of []) (zero_most kind);
 }
   where
     zero_most : (kind : Kind) → 0 ≤ most_of kind
@@ -103,15 +102,15 @@ table_more d a table h l m t e f = record {
   pairs = length-set table (number_of_pair a.x a.y) (more_held h (length d.entries)) ∙ t.pairs;
   numbers = λ x y g i j. elim (cases_eq (number_of_pair x y) (number_of_pair a.x a.y)) [
     | inl q ↦
-      let s = same_pair x y a.x a.y i l q in
-      let here : get_or (set table (number_of_pair a.x a.y) (more_held h (length d.entries))) (number_of_pair x y) g ≡ more_held h (length d.entries) =
-      ap (λ v. get_or (set table (number_of_pair a.x a.y) (more_held h (length d.entries))) v g) q ∙ get_or-set_same table (number_of_pair a.x a.y) (more_held h (length d.entries)) g within in
-      let of : is_of a.kind x y a ≡ true = ap (λ v. is_of a.kind v y a) s.0 ∙ (ap (λ v. is_of a.kind a.x v a) s.1 ∙ of_itself a) in
-      let was : h ≡ held_of (numbers_of d a.kind x y) = e ∙ (t.numbers a.x a.y h l m ∙ (ap (λ v. held_of (numbers_of d a.kind v a.y)) (sym s.0) ∙ ap (λ v. held_of (numbers_of d a.kind x v)) (sym s.1))) in
-      here ∙ (held_after (numbers_of d a.kind x y) (length d.entries) h was (six a.kind (length (numbers_of d a.kind x y)) (subst (λ (v : Held). v.count < most_of a.kind) was f))
-      ∙ ap held_of (sym (numbers_more d a a.kind x y of)))
+        let s = same_pair x y a.x a.y i l q in
+        let here : get_or (set table (number_of_pair a.x a.y) (more_held h (length d.entries))) (number_of_pair x y) g ≡ more_held h (length d.entries) =
+        ap (λ v. get_or (set table (number_of_pair a.x a.y) (more_held h (length d.entries))) v g) q ∙ get_or-set_same table (number_of_pair a.x a.y) (more_held h (length d.entries)) g within in
+        let of : is_of a.kind x y a ≡ true = ap (λ v. is_of a.kind v y a) s.0 ∙ (ap (λ v. is_of a.kind a.x v a) s.1 ∙ of_itself a) in
+        let was : h ≡ held_of (numbers_of d a.kind x y) = e ∙ (t.numbers a.x a.y h l m ∙ (ap (λ v. held_of (numbers_of d a.kind v a.y)) (sym s.0) ∙ ap (λ v. held_of (numbers_of d a.kind x v)) (sym s.1))) in
+        here ∙ (held_after (numbers_of d a.kind x y) (length d.entries) h was (six a.kind (length (numbers_of d a.kind x y)) (subst (λ (v : Held). v.count < most_of a.kind) was f))
+        ∙ ap held_of (sym (numbers_more d a a.kind x y of)))
     | inr n ↦ get_or-set_other table (number_of_pair a.x a.y) (number_of_pair x y) (more_held h (length d.entries)) g n
-      ∙ (t.numbers x y g i j ∙ ap held_of (sym (numbers_stay d a a.kind x y (apart_of a.kind x y a n))))
+        ∙ (t.numbers x y g i j ∙ ap held_of (sym (numbers_stay d a a.kind x y (apart_of a.kind x y a n))))
   ];
   few = All-set (λ (v : Held). v.count ≤ most_of a.kind) table (number_of_pair a.x a.y) (more_held h (length d.entries)) (omega arith) t.few;
 }
@@ -131,10 +130,10 @@ total_few table most f = sum_by-le (λ (v : Held). v.count) most table f
 pub few_more : (d : StoreData) (a : Entry) → AreFew d → length (numbers_of d a.kind a.x a.y) < most_of a.kind → AreFew (with_entry d a)
 few_more d a f l kind x y = elim (cases_Bool (is_of kind x y a)) [
   | inl h ↦
-    let t = of_means kind x y a h in
-    let e : length (numbers_of (with_entry d a) kind x y) ≡ length (numbers_of d kind x y) + 1 = ap length (numbers_more d a kind x y h) ∙ length-append (numbers_of d kind x y) (length d.entries ∷ []) in
-    let g : length (numbers_of d kind x y) < most_of kind = here kind x y t.0 t.1 t.2 in
-    omega arith
+      let t = of_means kind x y a h in
+      let e : length (numbers_of (with_entry d a) kind x y) ≡ length (numbers_of d kind x y) + 1 = ap length (numbers_more d a kind x y h) ∙ length-append (numbers_of d kind x y) (length d.entries ∷ []) in
+      let g : length (numbers_of d kind x y) < most_of kind = here kind x y t.0 t.1 t.2 in
+      omega arith
   | inr h ↦ subst (λ (v : List ℕ). length v ≤ most_of kind) (sym (numbers_stay d a kind x y h)) (f kind x y)
 ]
   where
@@ -153,7 +152,7 @@ last_or_before (c ∷ entries) a b (suc i) h = elim (last_or_before entries a b 
   | inr t ↦ inr (ap suc t.0, t.1)
 ]
 
-pub sound_more : (d : StoreData) (a : Entry) → IsSound d → IsValid d.elements a → Follows d.elements d.entries a → IsTrueEntry d.elements a → IsSound (with_entry d a)
+pub sound_more : (d : StoreData) (a : Entry) → IsSound d → IsValid d.elements a → FollowsFrom d.elements d.entries a → IsTrueEntry d.elements a → IsSound (with_entry d a)
 sound_more d a s v f t = record {
   valid = λ i b h. elim (last_or_before d.entries a b i h) [
     | inl p ↦ s.valid i b p.1
@@ -161,9 +160,9 @@ sound_more d a s v f t = record {
   ];
   follows = λ i b h. elim (last_or_before d.entries a b i h) [
     | inl p ↦ let l : i ≤ length d.entries = omega arith in
-      subst (λ w. Follows d.elements w b) (sym (take-append-le i d.entries (a ∷ []) l)) (s.follows i b p.1)
-    | inr p ↦ subst (λ w. Follows d.elements w b) (sym (ap (λ n. take n (d.entries ++ a ∷ [])) p.0 ∙ take-append_seam d.entries (a ∷ [])))
-        (subst (λ w. Follows d.elements d.entries w) (sym p.1) f)
+        subst (λ w. FollowsFrom d.elements w b) (sym (take-append-le i d.entries (a ∷ []) l)) (s.follows i b p.1)
+    | inr p ↦ subst (λ w. FollowsFrom d.elements w b) (sym (ap (λ n. take n (d.entries ++ a ∷ [])) p.0 ∙ take-append_seam d.entries (a ∷ [])))
+        (subst (λ w. FollowsFrom d.elements d.entries w) (sym p.1) f)
   ];
   true_entries = λ i b h. elim (last_or_before d.entries a b i h) [
     | inl p ↦ s.true_entries i b p.1
@@ -216,17 +215,17 @@ most_in_all a b p n h i e = omega arith
 
 -- the tables bound the entries
 pub tables_few : (d : StoreData) (full semi : List Held) (n : ℕ) → IsTable d Full full → IsTable d Semi semi → total_of full + total_of semi ≡ n
-    → n ≤ 10 * pairs_of (element_count d.elements)
+    → n ≤ 10 * pairs_among (element_count d.elements)
 tables_few d full semi n t u e =
-    let f : total_of full ≤ pairs_of (element_count d.elements) * MOST_FULL = subst (λ v. total_of full ≤ v * MOST_FULL) t.pairs (total_few full MOST_FULL t.few) in
-    let g : total_of semi ≤ pairs_of (element_count d.elements) * MOST_SEMI = subst (λ v. total_of semi ≤ v * MOST_SEMI) u.pairs (total_few semi MOST_SEMI u.few) in
-    most_in_all (total_of full) (total_of semi) (pairs_of (element_count d.elements)) n f g e
+    let f : total_of full ≤ pairs_among (element_count d.elements) * MOST_FULL = subst (λ v. total_of full ≤ v * MOST_FULL) t.pairs (total_few full MOST_FULL t.few) in
+    let g : total_of semi ≤ pairs_among (element_count d.elements) * MOST_SEMI = subst (λ v. total_of semi ≤ v * MOST_SEMI) u.pairs (total_few semi MOST_SEMI u.few) in
+    most_in_all (total_of full) (total_of semi) (pairs_among (element_count d.elements)) n f g e
 
 pub stored_few : (board : Position) (player : Colour) (d : StoreData) (full semi : List Held) (room : ℕ) → IsStored board player d full semi room
     → length d.entries ≤ MOST_ENTRIES
 stored_few board player d full semi room s =
-    let l : length d.entries ≤ 10 * pairs_of (element_count d.elements) = tables_few d full semi (length d.entries) s.full_table s.semi_table s.total in
-    let m : pairs_of (element_count d.elements) ≤ 7503 = pairs_few (element_count d.elements) s.small.count in omega arith
+    let l : length d.entries ≤ 10 * pairs_among (element_count d.elements) = tables_few d full semi (length d.entries) s.full_table s.semi_table s.total in
+    let m : pairs_among (element_count d.elements) ≤ 7503 = pairs_few (element_count d.elements) s.small.count in omega arith
 
 -- what is read of a table
 pub held_here : (d f : StoreData) (kind k : Kind) (table : List Held) (h : Held) (p x y : ℕ) → IsTable d kind table → d ≡ f → k ≡ kind → p ≡ number_of_pair x y
@@ -243,7 +242,7 @@ place_here d f kind table p x y t q e l m =
 
 -- a store without entries
 pub new_stored : (board : Position) (player : Colour) (e : PlayerBoard) (entries : List Entry) (full semi : List Held) (room n : ℕ)
-    → e ≡ record { board = board; player = player } → board.size ≤ 11 → Within board.size (stones_of board player) → element_count e ≤ 123 → n ≡ pairs_of (element_count e)
+    → e ≡ record { board = board; player = player } → board.size ≤ 11 → Within board.size (stones_of board player) → element_count e ≤ 123 → n ≡ pairs_among (element_count e)
     → entries ≡ [] → full ≡ replicate n (held_of []) → semi ≡ replicate n (held_of []) → room ≡ 10 * n
     → IsStored board player (record { elements = e; entries = entries }) full semi room
 new_stored board player e entries full semi room n q z w f m i j k r = record {
@@ -265,6 +264,7 @@ new_stored board player e entries full semi room n q z w f m i j k r = record {
     table : (kind : Kind) (t : List Held) → t ≡ replicate n (held_of []) → IsTable (record { elements = e; entries = entries }) kind t
     table kind t h = subst (λ (v : List Entry). IsTable (record { elements = e; entries = v }) kind t) (sym i)
         (subst (λ v. IsTable (record { elements = e; entries = [] }) kind v) (sym (h ∙ ap (λ v. replicate v (held_of [])) m)) (empty_table e kind))
+
     none : total_of (replicate n (held_of [])) ≡ n * 0
     none = sum_by-replicate (λ (v : Held). v.count) n (held_of [])
 
@@ -303,7 +303,7 @@ held_count h numbers e = ap (λ (v : Held). v.count) e
 
 -- a store with one entry more
 pub stored_more : (board : Position) (player : Colour) (d : StoreData) (full semi : List Held) (room : ℕ) (a : Entry) (h : Held) (next_full next_semi : List Held) (next_room : ℕ)
-    → IsStored board player d full semi room → IsValid d.elements a → Follows d.elements d.entries a → h ≡ held_of (numbers_of d a.kind a.x a.y) → h.count < most_of a.kind
+    → IsStored board player d full semi room → IsValid d.elements a → FollowsFrom d.elements d.entries a → h ≡ held_of (numbers_of d a.kind a.x a.y) → h.count < most_of a.kind
     → Writes a (number_of_pair a.x a.y) (more_held h (length d.entries)) full semi next_full next_semi → room ≤ next_room
     → IsStored board player (with_entry d a) next_full next_semi next_room
 stored_more board player d full semi room a h next_full next_semi next_room s v f e l w r =
@@ -329,7 +329,7 @@ pub room_more : (board : Position) (player : Colour) (d : StoreData) (full semi 
     → Writes a (number_of_pair a.x a.y) (more_held h (length d.entries)) full semi next_full next_semi → length d.entries < room
 room_more board player d full semi room a h next_full next_semi s v e l w =
     let b = both_written d a h full semi next_full next_semi v.order v.elements s.full_table s.semi_table e l w in
-    let t : length d.entries + 1 ≤ 10 * pairs_of (element_count d.elements) =
+    let t : length d.entries + 1 ≤ 10 * pairs_among (element_count d.elements) =
     tables_few (with_entry d a) next_full next_semi (length d.entries + 1) b.0 b.1 (omega (arith, b.2, s.total)) in
     omega (arith, s.space)
 

@@ -12,16 +12,16 @@ use Rattle.conn_store.specs.declared.entries.Kind.{Kind}
 use Rattle.conn_store.specs.declared.entries.Kind.TheVariants.{Full, Semi}
 
 -- how many pairs n elements make
-abbrev pub pairs_of : ℕ → ℕ
-pairs_of n = n * (n - 1) / 2
+abbrev pub pairs_among : ℕ → ℕ
+pairs_among n = n * (n - 1) / 2
 
 -- the number of the pair of x and y, the lesser first: the pairs of lesser elements come before
 abbrev pub number_of_pair : ℕ → ℕ → ℕ
-number_of_pair x y = pairs_of y + x
+number_of_pair x y = pairs_among y + x
 
 -- the table has at each pair the numbers of its entries of that kind, of which there are at most the full number
 pub record IsTable (d : StoreData) (kind : Kind) (table : List Held) : Type 0 where
-  pub pairs : length table ≡ pairs_of (element_count d.elements)
+  pub pairs : length table ≡ pairs_among (element_count d.elements)
   pub numbers : (x y : ℕ) (h : Held) → x < y → y < element_count d.elements
       → slice_index_or table (number_of_pair x y) h ≡ held_of (numbers_of d kind x y)
   pub few : All (λ (h : Held). h.count ≤ most_of kind) table
@@ -52,4 +52,4 @@ pub record IsStored (board : Position) (player : Colour) (d : StoreData) (full s
   pub full_table : IsTable d Full full
   pub semi_table : IsTable d Semi semi
   pub total : total_of full + total_of semi ≡ length d.entries
-  pub space : 10 * pairs_of (element_count d.elements) ≤ room
+  pub space : 10 * pairs_among (element_count d.elements) ≤ room

@@ -1,6 +1,6 @@
 -- The four rules by which an entry follows from others. An entry of a pair has the lesser element first; the rules speak
 -- of the pair without an order.
-use Rattle.std.specs.Prelude.{◌≡◌, ◌≢◌, ℕ, ◌⊎◌, ◌&&◌, Bool, true, false, List, [], ◌∷◌, Option, Some, All, length, map, take, bit_or}
+use Rattle.std.specs.Prelude.{◌≡◌, ◌≢◌, ℕ, ◌⊎◌, Bool, true, false, List, [], ◌∷◌, Some, All, length, map, take, bit_or}
 use Rattle.std.specs.List.{list_all, slice_get}
 use Rattle.hex_cells.specs.Sets.{has, with_cell}
 use Rattle.hex_board.specs.Elements.{PlayerBoard, HasCell}
@@ -72,5 +72,5 @@ FollowsBy e entries entry (Or numbers count) =
     × (entry.kind ≡ Full) × (entry.carrier ≡ union_of ways)
 
 -- the entry follows from these entries by the rule that its cause names
-abbrev pub Follows : PlayerBoard → List Entry → Entry → Type 0
-Follows e entries entry = FollowsBy e entries entry entry.cause
+abbrev pub FollowsFrom : PlayerBoard → List Entry → Entry → Type 0
+FollowsFrom e entries entry = FollowsBy e entries entry entry.cause

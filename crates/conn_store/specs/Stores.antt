@@ -1,10 +1,10 @@
 -- Stores: a player's entries in the order in which they came, and what becomes of one more.
-use Rattle.std.specs.Prelude.{◌≡◌, ℕ, ◌+◌, ◌-◌, ◌<◌, ◌≤◌, ◌==◌, ◌&&◌, Bool, true, false, zero, suc, List, [], ◌∷◌, ◌++◌, Some, length, take, replicate, if◌then◌else◌}
+use Rattle.std.specs.Prelude.{◌≡◌, ℕ, ◌-◌, ◌≤◌, ◌==◌, ◌&&◌, Bool, true, false, suc, List, [], ◌∷◌, ◌++◌, Some, length, take, replicate, if◌then◌else◌}
 use Rattle.std.specs.List.{slice_get}
 use Rattle.hex_cells.specs.Sets.{has}
 use Rattle.hex_board.specs.Elements.{PlayerBoard}
 use Rattle.conn_store.specs.Entries.{IsValid, IsTrueEntry}
-use Rattle.conn_store.specs.Rules.{Follows}
+use Rattle.conn_store.specs.Rules.{FollowsFrom}
 use Rattle.conn_store.specs.declared.entries.Entry.{Entry}
 use Rattle.conn_store.specs.declared.entries.Held.{Held}
 use Rattle.conn_store.specs.declared.entries.Kind.{Kind}
@@ -70,7 +70,7 @@ after_put d entry PairFull = d
 -- each entry is valid, follows from earlier ones, and is true
 pub record IsSound (d : StoreData) : Type 0 where
   pub valid : (i : ℕ) (a : Entry) → slice_get d.entries i ≡ Some a → IsValid d.elements a
-  pub follows : (i : ℕ) (a : Entry) → slice_get d.entries i ≡ Some a → Follows d.elements (take i d.entries) a
+  pub follows : (i : ℕ) (a : Entry) → slice_get d.entries i ≡ Some a → FollowsFrom d.elements (take i d.entries) a
   pub true_entries : (i : ℕ) (a : Entry) → slice_get d.entries i ≡ Some a → IsTrueEntry d.elements a
 
 -- each pair has at most its full number of entries

@@ -1,5 +1,7 @@
+-- What a player is sure of: a game of placing in turn inside a set of cells.
 use Rattle.std.specs.Prelude.{◌≡◌, ℕ, ◌⊎◌, true, zero, suc}
 use Rattle.hex_cells.specs.Sets.{has, members, with_cell, without_cell}
+use Rattle.hex_cells.specs.declared.board_size.TheConstants.{MOST_CELLS}
 use Rattle.conn_store.specs.declared.entries.Kind.{Kind}
 use Rattle.conn_store.specs.declared.entries.Kind.TheVariants.{Full, Semi}
 
@@ -15,4 +17,4 @@ IsSureIn (suc fuel) Semi goal s c =
 
 -- the same, by recursion on the number of cells in c
 abbrev pub IsSure : Kind → (ℕ → Type 0) → ℕ → ℕ → Type 0
-IsSure kind goal s c = IsSureIn (members c 121) kind goal s c
+IsSure kind goal s c = IsSureIn (members c MOST_CELLS) kind goal s c

@@ -1,7 +1,7 @@
 //! The index of a store: which entries a pair has of a kind.
 
 ghost use Rattle.std.specs.Prelude.{◌≡◌, ℕ, ◌+◌, ◌<◌, ◌≤◌, ◌↔◌, IsTrue, length, slice_index, slice_set};
-ghost use Rattle.conn_store.specs.Index.{AnyInside, number_of_pair, pairs_of};
+ghost use Rattle.conn_store.specs.Index.{AnyInside, number_of_pair, pairs_among};
 
 use super::entries::{Entry, Held};
 use hex_cells::CellSet;
@@ -9,7 +9,7 @@ use hex_cells::CellSet;
 /// How many pairs so many elements make.
 pub(crate) fn pair_count(elements: u32) -> usize
     requires { elements ≤ 123 }
-    ensures value { result ≡ pairs_of elements }
+    ensures value { result ≡ pairs_among elements }
     ensures range { result ≤ 7503 }
 {
     if elements == 0 {

@@ -3,7 +3,7 @@
 ghost use Rattle.std.specs.Prelude.{◌≡◌, ℕ, ◌+◌, ◌<◌, ◌≤◌, ◌↔◌, [], IfOk, length};
 ghost use Rattle.hex_board.specs.Elements.{element_count};
 ghost use Rattle.conn_store.specs.Entries.{IsValid};
-ghost use Rattle.conn_store.specs.Rules.{Follows};
+ghost use Rattle.conn_store.specs.Rules.{FollowsFrom};
 ghost use Rattle.conn_store.specs.Stores.{StoreData, IsCovered, IsPairFull, IsSound, after_put, held_of, most_of, numbers_of, with_entry};
 
 use super::entries::{Entry, Held, Kind, MOST_ENTRIES, MOST_FULL, MOST_SEMI, Put};
@@ -70,7 +70,7 @@ impl Store {
     /// cause names.
     pub fn add(&mut self, entry: Entry) -> Put
         requires valid { IsValid self.old.elements entry }
-        requires follows { Follows self.old.elements self.old.entries entry }
+        requires follows { FollowsFrom self.old.elements self.old.entries entry }
         ensures dominated { (result ≡ Put.Dominated) ↔ IsCovered self.old entry.kind entry.x entry.y entry.carrier }
         ensures full { (result ≡ Put.PairFull) ↔ (¬ (IsCovered self.old entry.kind entry.x entry.y entry.carrier) × IsPairFull self.old entry.kind entry.x entry.y) }
         ensures added { (n : ℕ) → result ≡ Put.Added n → n ≡ length self.old.entries }
@@ -89,7 +89,7 @@ impl Store {
     // Puts the entry at the end, where its pair has these numbers of its kind, and answers its number.
     fn append(&mut self, entry: Entry, held: Held) -> u32
         requires valid { IsValid self.old.elements entry }
-        requires follows { Follows self.old.elements self.old.entries entry }
+        requires follows { FollowsFrom self.old.elements self.old.entries entry }
         requires held { held ≡ held_of (numbers_of self.old entry.kind entry.x entry.y) }
         requires room { held.count < most_of entry.kind }
         ensures number { result ≡ length self.old.entries }

@@ -1,5 +1,5 @@
-use Rattle.std.proofs.Common.{◌≡◌, false, true, refl}
-use Rattle.conn_store.proofs.Tables.{IsLooked, looked_full, looked_in, looked_out, looked_room, not_full, numbers_here}
+use Rattle.std.proofs.Common.{refl}
+use Rattle.conn_store.proofs.Tables.{IsLooked, looked_full, looked_in, looked_out, looked_room, numbers_here}
 use Rattle.conn_store.proofs.stores.Store.add.Goals as goal
 
 pub has_inside-requires-clause-numbers : goal.has_inside-requires-clause-numbers

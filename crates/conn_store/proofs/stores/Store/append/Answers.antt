@@ -1,10 +1,9 @@
-use Rattle.std.proofs.Common.{◌≡◌, ℕ, ◌+◌, ◌<◌, ◌≤◌, ◌⊎◌, length, ◌-◌, ◌*◌, List, ◌∷◌, [], ◌++◌, set, arith, sym, ap, ◌∙◌, subst, refl, inl, inr}
+use Rattle.std.proofs.Common.{◌≡◌, ℕ, ◌<◌, ◌≤◌, length, List, ◌∷◌, [], ◌++◌, set, arith, sym, ap, ◌∙◌, subst, inl, inr}
 use Rattle.std.specs.Vec.{vec_capacity, with_item}
-use Rattle.hex_board.specs.Elements.{element_count}
 use Rattle.conn_store.specs.Entries.{IsValid}
-use Rattle.conn_store.specs.Index.{IsStored, number_of_pair}
-use Rattle.conn_store.specs.Rules.{Follows}
-use Rattle.conn_store.specs.Stores.{StoreData, held_of, most_of, numbers_of, with_entry}
+use Rattle.conn_store.specs.Index.{number_of_pair}
+use Rattle.conn_store.specs.Rules.{FollowsFrom}
+use Rattle.conn_store.specs.Stores.{StoreData, held_of, most_of, numbers_of}
 use Rattle.conn_store.specs.declared.entries.Entry.{Entry}
 use Rattle.conn_store.specs.declared.entries.Held.{Held}
 use Rattle.conn_store.specs.declared.entries.Kind.TheVariants.{Full, Semi}
@@ -80,15 +79,15 @@ semi_written i n a h m p k e q l f w = record {
 -- what is asked of the entry, of the fields
 record Asked (i : Inside) (a : Entry) (h : Held) : Type 0 where
   valid : IsValid i.elements a
-  follows : Follows i.elements i.entries.items a
+  follows : FollowsFrom i.elements i.entries.items a
   held : h ≡ held_of (numbers_of (record { elements = i.elements; entries = i.entries.items }) a.kind a.x a.y)
   room : h.count < most_of a.kind
 
-asked : (i : Inside) (d : StoreData) (a : Entry) (h : Held) → record { elements = i.elements; entries = i.entries.items } ≡ d → IsValid d.elements a → Follows d.elements d.entries a
+asked : (i : Inside) (d : StoreData) (a : Entry) (h : Held) → record { elements = i.elements; entries = i.entries.items } ≡ d → IsValid d.elements a → FollowsFrom d.elements d.entries a
     → h ≡ held_of (numbers_of d a.kind a.x a.y) → h.count < most_of a.kind → Asked i a h
 asked i d a h e v f q r = record {
   valid = subst (λ (w : StoreData). IsValid w.elements a) (sym e) v;
-  follows = subst (λ (w : StoreData). Follows w.elements w.entries a) (sym e) f;
+  follows = subst (λ (w : StoreData). FollowsFrom w.elements w.entries a) (sym e) f;
   held = q ∙ ap (λ w. held_of (numbers_of w a.kind a.x a.y)) (sym e);
   room = r;
 }
