@@ -6,3 +6,5 @@ pub mod RuleTruth
 pub mod Pairs
 pub mod Numbers
 pub mod Tables
+pub mod Chains
+pub mod RuleEntries

@@ -23,7 +23,7 @@ use Rattle.conn_store.proofs.Ways.{linked_kept, linked_back, near_linked, linked
 
 -- ---- entries of a pair without an order
 
-least_first : (x y a b : ℕ) → a ≡ min x y → b ≡ max x y → ((a ≡ x) × (b ≡ y)) ⊎ ((a ≡ y) × (b ≡ x))
+pub least_first : (x y a b : ℕ) → a ≡ min x y → b ≡ max x y → ((a ≡ x) × (b ≡ y)) ⊎ ((a ≡ y) × (b ≡ x))
 least_first x y a b h i = elim (cases_lt x y) [ inl l ↦ inl (omega arith, omega arith) | inr l ↦ inr (omega arith, omega arith) ]
 
 turned : (e : PlayerBoard) (n : ℕ) (kind : Kind) (x y s c : ℕ) → IsSureIn n kind (AreLinked e x y) s c → IsSureIn n kind (AreLinked e y x) s c
@@ -71,7 +71,7 @@ disjoint : (a b : ℕ) → Apart a b → Disjoint a b
 disjoint a b d k h = false_from_ne_true (has b k) (d k h)
 
 -- no cell of u is in the carrier of an entry of x and u
-misses_middle : (e : PlayerBoard) (a : Entry) (x u : ℕ) → IsValid e a → IsBetween a x u → Misses e u a.carrier
+pub misses_middle : (e : PlayerBoard) (a : Entry) (x u : ℕ) → IsValid e a → IsBetween a x u → Misses e u a.carrier
 misses_middle e a x u v h = elim (least_first x u a.x a.y h.0 h.1) [
   | inl p ↦ subst (λ w. Misses e w a.carrier) p.1 v.second
   | inr p ↦ subst (λ w. Misses e w a.carrier) p.0 v.first
@@ -92,7 +92,7 @@ group_true e a b entry x u y m v ta tb r g h q c =
     (linked_kept e x u) (linked_kept e u y) (linked_kept e x y)
     (λ t i j k. linked_group e x u y t m.stones i (λ w f z. g w (f, z)) j k)
     (disjoint a.carrier b.carrier r.apart) (union_left a.carrier b.carrier) (union_right a.carrier b.carrier)
-    (says e a Full x u ta r.first_kind r.first_pair) (says e b Full u y tb r.second_kind r.second_pair))))
+    (says e a Full x u ta r.first_kind r.chain.first) (says e b Full u y tb r.second_kind r.chain.second))))
 
 cell_true : (e : PlayerBoard) (a b entry : Entry) (x u y k : ℕ) → IsSmall e → IsValid e entry → IsValid e a → IsValid e b → IsTrueEntry e a → IsTrueEntry e b
     → AndRule e a b x u y → IsCell e u k → IsBetween entry x y → entry.kind ≡ Semi → entry.carrier ≡ with_cell (both_of a b) k → IsTrueEntry e entry
@@ -110,10 +110,10 @@ cell_true e a b entry x u y k m v va vb ta tb r g h q c =
     (disjoint a.carrier b.carrier r.apart)
     (λ z i. with_cell-keeps (both_of a b) k z (union_left a.carrier b.carrier z i))
     (λ z i. with_cell-keeps (both_of a b) k z (union_right a.carrier b.carrier z i))
-    (false_from_ne_true (has a.carrier k) (misses_middle e a x u va r.first_pair k g.1))
-    (false_from_ne_true (has b.carrier k) (other_middle e b u y k vb r.second_pair g.1))
+    (false_from_ne_true (has a.carrier k) (misses_middle e a x u va r.chain.first k g.1))
+    (false_from_ne_true (has b.carrier k) (other_middle e b u y k vb r.chain.second g.1))
     (with_cell-here (both_of a b) k)
-    (says e a Full x u ta r.first_kind r.first_pair) (says e b Full u y tb r.second_kind r.second_pair))))
+    (says e a Full x u ta r.first_kind r.chain.first) (says e b Full u y tb r.second_kind r.chain.second))))
   where
     other_middle : (e : PlayerBoard) (b : Entry) (u y k : ℕ) → IsValid e b → IsBetween b u y → HasCell e u k → has b.carrier k ≡ true → ⊥
     other_middle e b u y k v h z = elim (least_first u y b.x b.y h.0 h.1) [
@@ -127,10 +127,10 @@ three a b c h i j = grind arith
 two : (a b : Bool) → a ≡ true → b ≡ true → (a && (b && true)) ≡ true
 two a b h i = grind arith
 
-second_of : (P : Entry → Type 0) (a b : Entry) (ways : List Entry) → All P (a ∷ b ∷ ways) → P b
+pub second_of : (P : Entry → Type 0) (a b : Entry) (ways : List Entry) → All P (a ∷ b ∷ ways) → P b
 second_of P a b ways h = All-head P b ways (All-tail P a (b ∷ ways) h)
 
-third_of : (P : Entry → Type 0) (a b d : Entry) (ways : List Entry) → All P (a ∷ b ∷ d ∷ ways) → P d
+pub third_of : (P : Entry → Type 0) (a b d : Entry) (ways : List Entry) → All P (a ∷ b ∷ d ∷ ways) → P d
 third_of P a b d ways h = second_of P b d ways (All-tail P a (b ∷ d ∷ ways) h)
 
 or_true : (e : PlayerBoard) (entry : Entry) (ways : List Entry) → IsSmall e → IsValid e entry → All (λ a. IsTrueEntry e a) ways

@@ -10,6 +10,7 @@ use Rattle.conn_store.specs.Entries.{IsBetween, Misses}
 use Rattle.conn_store.specs.declared.entries.Cause.{Cause}
 use Rattle.conn_store.specs.declared.entries.Cause.TheVariants.{Adjacent, AndGroup, AndEmpty, Or}
 use Rattle.conn_store.specs.declared.entries.Entry.{Entry}
+use Rattle.conn_store.specs.declared.entries.Kind.{Kind}
 use Rattle.conn_store.specs.declared.entries.Kind.TheVariants.{Full, Semi}
 
 -- element u is the empty cell k
@@ -20,17 +21,36 @@ IsCell e u k = (is_empty_at e.board k ≡ true) × HasCell e u k
 abbrev pub IsGroup : PlayerBoard → ℕ → Type 0
 IsGroup e u = (k : ℕ) → ¬ (IsCell e u k)
 
--- what the rules of AND ask of entries a of x and u, and b of u and y: both are full, no cell is in both carriers, and
--- neither carrier holds the other's end
+-- entry a is one of x and u, and b one of u and y, and x and y differ
+pub record IsChain (a b : Entry) (x u y : ℕ) : Type 0 where
+  pub first : IsBetween a x u
+  pub second : IsBetween b u y
+  pub ends : x ≢ y
+
+-- what the rules of AND ask of entries a of x and u, and b of u and y: both are full, no cell is in both
+-- carriers, and neither carrier holds the other's end
 pub record AndRule (e : PlayerBoard) (a b : Entry) (x u y : ℕ) : Type 0 where
   pub first_kind : a.kind ≡ Full
   pub second_kind : b.kind ≡ Full
-  pub first_pair : IsBetween a x u
-  pub second_pair : IsBetween b u y
-  pub ends : x ≢ y
+  pub chain : IsChain a b x u y
   pub apart : Apart a.carrier b.carrier
   pub first_end : Misses e x b.carrier
   pub second_end : Misses e y a.carrier
+
+-- both are semi entries of one pair
+abbrev pub AreWays : Entry → Entry → Type 0
+AreWays a b = (a.kind ≡ Semi) × (b.kind ≡ Semi) × (a.x ≡ b.x) × (a.y ≡ b.y)
+
+-- the entry has this kind, these elements in either order, this carrier and this cause
+pub record IsEntry (entry : Entry) (kind : Kind) (x y carrier : ℕ) (cause : Cause) : Type 0 where
+  pub kind_is : entry.kind ≡ kind
+  pub pair : IsBetween entry x y
+  pub carrier_is : entry.carrier ≡ carrier
+  pub cause_is : entry.cause ≡ cause
+
+-- the entry of two elements that lie side by side, the lesser first
+abbrev pub adjacent_entry : ℕ → ℕ → Entry
+adjacent_entry x y = record { kind = Full; x = x; y = y; carrier = 0; cause = Adjacent }
 
 -- the cells of both carriers
 abbrev pub both_of : Entry → Entry → ℕ

@@ -4,7 +4,7 @@ use Rattle.std.specs.List.{slice_get}
 use Rattle.hex_cells.specs.Sets.{has}
 use Rattle.hex_board.specs.Elements.{PlayerBoard}
 use Rattle.conn_store.specs.Entries.{IsValid, IsTrueEntry}
-use Rattle.conn_store.specs.Rules.{FollowsFrom}
+use Rattle.conn_store.specs.Rules.{AndRule, AreAt, FollowsFrom, OrRule}
 use Rattle.conn_store.specs.declared.entries.Entry.{Entry}
 use Rattle.conn_store.specs.declared.entries.Held.{Held}
 use Rattle.conn_store.specs.declared.entries.Kind.{Kind}
@@ -60,6 +60,21 @@ IsPairFull d kind x y = length (numbers_of d kind x y) ≡ most_of kind
 -- the store with the entry at its end
 abbrev pub with_entry : StoreData → Entry → StoreData
 with_entry d entry = record d { entries = d.entries ++ entry ∷ [] }
+
+-- the entry may be added: it is valid, and it follows from entries of the store
+abbrev pub IsNext : StoreData → Entry → Type 0
+IsNext d entry = IsValid d.elements entry × FollowsFrom d.elements d.entries entry
+
+-- a rule of AND applies to the entries with these numbers
+abbrev pub CanAnd : StoreData → ℕ → ℕ → Type 0
+CanAnd d i j =
+    (a : Entry) × (b : Entry) × (x : ℕ) × (u : ℕ) × (y : ℕ) × AreAt d.entries (i ∷ j ∷ []) (a ∷ b ∷ [])
+    × AndRule d.elements a b x u y
+
+-- the rule of OR applies to the entries with these numbers
+abbrev pub CanOr : StoreData → List ℕ → Type 0
+CanOr d numbers =
+    (ways : List Entry) × (x : ℕ) × (y : ℕ) × AreAt d.entries numbers ways × OrRule ways x y
 
 -- what stands after an answer: one entry more, or the store as before
 abbrev pub after_put : StoreData → Entry → Put → StoreData

@@ -19,7 +19,7 @@ use std::marker::Model;
 pub struct Store {
     board: Board,
     colour: Colour,
-    elements: Elements,
+    pub(crate) elements: Elements,
     entries: Vec<Entry>,
     full: Vec<Held>,
     semi: Vec<Held>,
