@@ -1,0 +1,91 @@
+-- The numbers of the entries of a pair and kind.
+use Rattle.std.proofs.Common.{◌≡◌, ℕ, ◌+◌, ◌-◌, ◌<◌, zero, suc, Bool, true, false, if◌then◌else◌, List, [], ◌∷◌, ◌++◌, length, replicate, get_or, set, Some, refl, sym, ◌∙◌, ap, subst, arith, length-append, append_assoc}
+use Rattle.std.specs.List.{slice_get}
+use Rattle.std.proofs.Math.Seq.{set-append_seam}
+use Rattle.conn_store.specs.Stores.{held_of, is_of, numbers_from}
+use Rattle.conn_store.specs.declared.entries.Entry.{Entry}
+use Rattle.conn_store.specs.declared.entries.Held.{Held}
+use Rattle.conn_store.specs.declared.entries.Kind.{Kind}
+
+-- the number n, if the test passes
+abbrev pub one_if : Bool → ℕ → List ℕ
+one_if b n = if b then n ∷ [] else []
+
+front : (b : Bool) (n : ℕ) (xs ys zs : List ℕ) → xs ≡ ys ++ zs → (if b then n ∷ xs else xs) ≡ (if b then n ∷ ys else ys) ++ zs
+front true n xs ys zs e = ap (λ v. n ∷ v) e
+front false n xs ys zs e = e
+
+pub numbers_push : (n : ℕ) (kind : Kind) (x y : ℕ) (entries : List Entry) (a : Entry)
+    → numbers_from n kind x y (entries ++ a ∷ []) ≡ numbers_from n kind x y entries ++ one_if (is_of kind x y a) (n + length entries)
+numbers_push n kind x y [] a = let e : n + 0 ≡ n = omega arith in ap (λ v. one_if (is_of kind x y a) v) (sym e)
+numbers_push n kind x y (b ∷ entries) a =
+    let e : suc n + length entries ≡ n + suc (length entries) = omega arith in
+    front (is_of kind x y b) n (numbers_from (suc n) kind x y (entries ++ a ∷ [])) (numbers_from (suc n) kind x y entries) (one_if (is_of kind x y a) (n + suc (length entries)))
+    (numbers_push (suc n) kind x y entries a ∙ ap (λ v. numbers_from (suc n) kind x y entries ++ one_if (is_of kind x y a) v) e)
+
+-- entry i, where the first has the number n, is of that kind and pair
+abbrev pub IsListed : ℕ → Kind → ℕ → ℕ → List Entry → ℕ → Type 0
+IsListed n kind x y entries number =
+    (i : ℕ) × (a : Entry) × (number ≡ n + i) × (slice_get entries i ≡ Some a) × (is_of kind x y a ≡ true)
+
+listed_later : (n : ℕ) (kind : Kind) (x y : ℕ) (b : Entry) (entries : List Entry) (number : ℕ) → IsListed (suc n) kind x y entries number → IsListed n kind x y (b ∷ entries) number
+listed_later n kind x y b entries number (i, a, e, g, h) = (suc i, a, omega arith, g, h)
+
+in_front : (b : Bool) (n : ℕ) (xs : List ℕ) (j : ℕ) → j < length (if b then n ∷ xs else xs) → (i : ℕ) → b ≡ true → j ≡ suc i → i < length xs
+in_front true n xs j l i h e = omega arith
+in_front false n xs j l i h e = absurd (cc)
+
+pub numbers_in : (n : ℕ) (kind : Kind) (x y : ℕ) (entries : List Entry) (j : ℕ) → j < length (numbers_from n kind x y entries)
+    → IsListed n kind x y entries (get_or (numbers_from n kind x y entries) j 0)
+numbers_in n kind x y [] j l = absurd (omega arith)
+numbers_in n kind x y (a ∷ entries) j l = cases (is_of kind x y a) n x y a entries j refl l (λ i. numbers_in (suc n) kind x y entries i)
+  where
+    cases : (b : Bool) (n x y : ℕ) (a : Entry) (entries : List Entry) (j : ℕ) → is_of kind x y a ≡ b
+        → j < length (if b then n ∷ numbers_from (suc n) kind x y entries else numbers_from (suc n) kind x y entries)
+        → ((i : ℕ) → i < length (numbers_from (suc n) kind x y entries) → IsListed (suc n) kind x y entries (get_or (numbers_from (suc n) kind x y entries) i 0))
+        → IsListed n kind x y (a ∷ entries) (get_or (if b then n ∷ numbers_from (suc n) kind x y entries else numbers_from (suc n) kind x y entries) j 0)
+    cases true n x y a entries zero h l f = let e : n ≡ n + 0 = omega arith in (0, a, e, refl, h)
+    cases true n x y a entries (suc j) h l f = listed_later n kind x y a entries (get_or (numbers_from (suc n) kind x y entries) j 0) (f j (omega arith))
+    cases false n x y a entries j h l f = listed_later n kind x y a entries (get_or (numbers_from (suc n) kind x y entries) j 0) (f j l)
+
+-- number i stands in the list
+abbrev pub Stands : List ℕ → ℕ → Type 0
+Stands numbers i = (j : ℕ) × (j < length numbers) × (get_or numbers j 0 ≡ i)
+
+stands_later : (b : Bool) (n : ℕ) (xs : List ℕ) (i : ℕ) → Stands xs i → Stands (if b then n ∷ xs else xs) i
+stands_later true n xs i (j, l, e) = (suc j, omega arith, e)
+stands_later false n xs i s = s
+
+stands_first : (b : Bool) (n : ℕ) (xs : List ℕ) (i : ℕ) → b ≡ true → i ≡ n → Stands (if b then n ∷ xs else xs) i
+stands_first true n xs i h e = (0, omega arith, sym e)
+stands_first false n xs i h e = absurd (cc)
+
+pub numbers_all : (n : ℕ) (kind : Kind) (x y : ℕ) (entries : List Entry) (i : ℕ) (a : Entry) → slice_get entries i ≡ Some a → is_of kind x y a ≡ true
+    → Stands (numbers_from n kind x y entries) (n + i)
+numbers_all n kind x y [] i a g h = absurd (cc)
+numbers_all n kind x y (b ∷ entries) zero a g h =
+    let q : b ≡ a = cc in
+    stands_first (is_of kind x y b) n (numbers_from (suc n) kind x y entries) (n + 0) (ap (λ v. is_of kind x y v) q ∙ h) (omega arith)
+numbers_all n kind x y (b ∷ entries) (suc i) a g h =
+    let e : suc n + i ≡ n + suc i = omega arith in
+    stands_later (is_of kind x y b) n (numbers_from (suc n) kind x y entries) (n + suc i) (subst (λ v. Stands (numbers_from (suc n) kind x y entries) v) e (numbers_all (suc n) kind x y entries i a g h))
+
+-- ---- one number more
+
+zeros : (m n : ℕ) → m ≡ suc n → replicate {A = ℕ} m 0 ≡ 0 ∷ replicate {A = ℕ} n 0
+zeros m n e = ap (λ v. replicate {A = ℕ} v 0) e
+
+pub held_more : (numbers : List ℕ) (i : ℕ) → length numbers < 6
+    → held_of (numbers ++ i ∷ []) ≡ record { count = length numbers + 1; at = set (held_of numbers).at (length numbers) i }
+held_more numbers i l =
+    let n = length numbers in
+    let e : length (numbers ++ i ∷ []) ≡ n + 1 = length-append numbers (i ∷ []) in
+    let f : replicate {A = ℕ} (6 - n) 0 ≡ 0 ∷ replicate {A = ℕ} (6 - (n + 1)) 0 = zeros (6 - n) (6 - (n + 1)) (omega arith) in
+    let g : set (numbers ++ replicate (6 - n) 0) n i ≡ numbers ++ i ∷ replicate (6 - (n + 1)) 0 =
+    ap (λ (v : List ℕ). set (numbers ++ v) n i) f ∙ set-append_seam numbers 0 (replicate {A = ℕ} (6 - (n + 1)) 0) i in
+    let h : (numbers ++ i ∷ []) ++ replicate (6 - length (numbers ++ i ∷ [])) 0 ≡ numbers ++ i ∷ replicate (6 - (n + 1)) 0 =
+    ap (λ v. (numbers ++ i ∷ []) ++ replicate (6 - v) 0) e ∙ append_assoc numbers (i ∷ []) (replicate (6 - (n + 1)) 0) in
+    held_same (length (numbers ++ i ∷ [])) (n + 1) _ _ e (h ∙ sym g)
+  where
+    held_same : (a b : ℕ) (xs ys : List ℕ) → a ≡ b → xs ≡ ys → ◌≡◌ {A = Held} (record { count = a; at = xs }) (record { count = b; at = ys })
+    held_same a b xs ys e f = cc

@@ -1,0 +1,93 @@
+-- Stores: a player's entries in the order in which they came, and what becomes of one more.
+use Rattle.std.specs.Prelude.{◌≡◌, ℕ, ◌-◌, ◌≤◌, ◌==◌, ◌&&◌, Bool, true, false, suc, List, [], ◌∷◌, ◌++◌, Some, length, take, replicate, if◌then◌else◌}
+use Rattle.std.specs.List.{slice_get}
+use Rattle.hex_cells.specs.Sets.{has}
+use Rattle.hex_board.specs.Elements.{PlayerBoard}
+use Rattle.conn_store.specs.Entries.{IsValid, IsTrueEntry}
+use Rattle.conn_store.specs.Rules.{AndRule, AreAt, FollowsFrom, OrRule}
+use Rattle.conn_store.specs.declared.entries.Entry.{Entry}
+use Rattle.conn_store.specs.declared.entries.Held.{Held}
+use Rattle.conn_store.specs.declared.entries.Kind.{Kind}
+use Rattle.conn_store.specs.declared.entries.Kind.TheVariants.{Full, Semi}
+use Rattle.conn_store.specs.declared.entries.TheConstants.{MOST_FULL, MOST_SEMI}
+use Rattle.conn_store.specs.declared.entries.Put.{Put}
+use Rattle.conn_store.specs.declared.entries.Put.TheVariants.{Added, Dominated, PairFull}
+
+-- a store without where it lies in memory: the board and the player of whose elements it speaks, and the entries
+pub record StoreData : Type 0 where
+  pub elements : PlayerBoard
+  pub entries : List Entry
+
+-- the number of entries of one pair that a store takes of a kind
+abbrev pub most_of : Kind → ℕ
+most_of Full = MOST_FULL
+most_of Semi = MOST_SEMI
+
+abbrev pub same_kind : Kind → Kind → Bool
+same_kind Full Full = true
+same_kind Full Semi = false
+same_kind Semi Full = false
+same_kind Semi Semi = true
+
+-- whether the entry is of that kind and of elements x and y, the lesser first
+abbrev pub is_of : Kind → ℕ → ℕ → Entry → Bool
+is_of kind x y entry = same_kind entry.kind kind && (entry.x == x && entry.y == y)
+
+-- the numbers of the entries of that kind and pair, in rising order, where the first entry has the number n
+abbrev pub numbers_from : ℕ → Kind → ℕ → ℕ → List Entry → List ℕ
+numbers_from n kind x y [] = []
+numbers_from n kind x y (a ∷ entries) =
+    if is_of kind x y a then n ∷ numbers_from (suc n) kind x y entries else numbers_from (suc n) kind x y entries
+
+-- the numbers of the store's entries of that kind and pair, in rising order
+abbrev pub numbers_of : StoreData → Kind → ℕ → ℕ → List ℕ
+numbers_of d kind x y = numbers_from 0 kind x y d.entries
+
+-- these numbers, and zeros in the places that are left
+abbrev pub held_of : List ℕ → Held
+held_of numbers = record { count = length numbers; at = numbers ++ replicate (MOST_SEMI - length numbers) 0 }
+
+-- an entry of that kind and pair has its carrier inside c
+abbrev pub IsCovered : StoreData → Kind → ℕ → ℕ → ℕ → Type 0
+IsCovered d kind x y c =
+    (i : ℕ) × (a : Entry) × (slice_get d.entries i ≡ Some a) × (is_of kind x y a ≡ true)
+    × ((k : ℕ) → has a.carrier k ≡ true → has c k ≡ true)
+
+-- the pair has its full number of entries of that kind
+abbrev pub IsPairFull : StoreData → Kind → ℕ → ℕ → Type 0
+IsPairFull d kind x y = length (numbers_of d kind x y) ≡ most_of kind
+
+-- the store with the entry at its end
+abbrev pub with_entry : StoreData → Entry → StoreData
+with_entry d entry = record d { entries = d.entries ++ entry ∷ [] }
+
+-- the entry may be added: it is valid, and it follows from entries of the store
+abbrev pub IsNext : StoreData → Entry → Type 0
+IsNext d entry = IsValid d.elements entry × FollowsFrom d.elements d.entries entry
+
+-- a rule of AND applies to the entries with these numbers
+abbrev pub CanAnd : StoreData → ℕ → ℕ → Type 0
+CanAnd d i j =
+    (a : Entry) × (b : Entry) × (x : ℕ) × (u : ℕ) × (y : ℕ) × AreAt d.entries (i ∷ j ∷ []) (a ∷ b ∷ [])
+    × AndRule d.elements a b x u y
+
+-- the rule of OR applies to the entries with these numbers
+abbrev pub CanOr : StoreData → List ℕ → Type 0
+CanOr d numbers =
+    (ways : List Entry) × (x : ℕ) × (y : ℕ) × AreAt d.entries numbers ways × OrRule ways x y
+
+-- what stands after an answer: one entry more, or the store as before
+abbrev pub after_put : StoreData → Entry → Put → StoreData
+after_put d entry (Added n) = with_entry d entry
+after_put d entry Dominated = d
+after_put d entry PairFull = d
+
+-- each entry is valid, follows from earlier ones, and is true
+pub record IsSound (d : StoreData) : Type 0 where
+  pub valid : (i : ℕ) (a : Entry) → slice_get d.entries i ≡ Some a → IsValid d.elements a
+  pub follows : (i : ℕ) (a : Entry) → slice_get d.entries i ≡ Some a → FollowsFrom d.elements (take i d.entries) a
+  pub true_entries : (i : ℕ) (a : Entry) → slice_get d.entries i ≡ Some a → IsTrueEntry d.elements a
+
+-- each pair has at most its full number of entries
+abbrev pub AreFew : StoreData → Type 0
+AreFew d = (kind : Kind) (x y : ℕ) → length (numbers_of d kind x y) ≤ most_of kind

@@ -1,0 +1,152 @@
+//! A store: the entries of a player on a board, with an index by pair and kind.
+
+ghost use Rattle.std.specs.Prelude.{◌≡◌, ℕ, ◌+◌, ◌<◌, ◌≤◌, ◌↔◌, [], IfOk, length};
+ghost use Rattle.hex_board.specs.Elements.{element_count};
+ghost use Rattle.conn_store.specs.Entries.{IsValid};
+ghost use Rattle.conn_store.specs.Rules.{FollowsFrom};
+ghost use Rattle.conn_store.specs.Stores.{StoreData, IsCovered, IsPairFull, IsSound, after_put, held_of, most_of, numbers_of, with_entry};
+
+use super::entries::{Entry, Held, Kind, MOST_ENTRIES, MOST_FULL, MOST_SEMI, Put};
+use super::index::{has_inside, pair_count, pair_number, with_number};
+use super::refusals::Memory;
+use hex_board::{Board, Elements};
+use hex_cells::Colour;
+use std::alloc::Global;
+use std::marker::Model;
+
+/// The entries of a player on a board, in the order in which they came.
+#[derive(Drop)]
+pub struct Store {
+    board: Board,
+    colour: Colour,
+    pub(crate) elements: Elements,
+    entries: Vec<Entry>,
+    full: Vec<Held>,
+    semi: Vec<Held>,
+}
+
+impl Model for Store {
+    ghost use Rattle.std.specs.Prelude.{vec_capacity};
+    ghost use Rattle.conn_store.specs.Stores.{StoreData};
+    ghost use Rattle.conn_store.specs.Index.{IsStored};
+
+    ghost Value = { StoreData };
+
+    ghost view = { λ s. record { elements = s.elements; entries = s.entries.items } };
+
+    ghost invariant = { λ s. IsStored s.board s.colour (record { elements = s.elements; entries = s.entries.items }) s.full.items s.semi.items (vec_capacity s.entries) };
+}
+
+impl Store {
+    /// A store without entries, for the elements of the player on the board. It takes the room for all entries that may
+    /// come: [`MOST_FULL`] full and [`MOST_SEMI`] semi ones of each pair of elements.
+    pub fn make(alloc: Global, board: &Board, colour: Colour) -> Result<Store, Memory>
+        ensures { IfOk result (λ store. store ≡ record { elements = record { board = board.now; player = colour }; entries = [] }) }
+    {
+        // A board has 1 to 121 cells, and its stones lie on it.
+        let _size = board.size();
+        let _stones = board.stones(colour);
+        let elements = board.elements(colour);
+        let pairs = pair_count(elements.count());
+        let none = Held {
+            count: 0,
+            at: [0; MOST_SEMI],
+        };
+        let entries = Vec::with_capacity(alloc, (MOST_FULL + MOST_SEMI) * pairs)?;
+        let full = vec![in alloc; none; pairs]?;
+        let semi = vec![in alloc; none; pairs]?;
+        Ok(Store {
+            board: *board,
+            colour,
+            elements,
+            entries,
+            full,
+            semi,
+        })
+    }
+
+    /// Adds an entry, unless the store has one of that pair and kind with a carrier inside the new one, or the pair has its
+    /// full number of entries of that kind. The entry is valid, and follows from entries of the store by the rule that its
+    /// cause names.
+    pub fn add(&mut self, entry: Entry) -> Put
+        requires valid { IsValid self.old.elements entry }
+        requires follows { FollowsFrom self.old.elements self.old.entries entry }
+        ensures dominated { (result ≡ Put.Dominated) ↔ IsCovered self.old entry.kind entry.x entry.y entry.carrier }
+        ensures full { (result ≡ Put.PairFull) ↔ (¬ (IsCovered self.old entry.kind entry.x entry.y entry.carrier) × IsPairFull self.old entry.kind entry.x entry.y) }
+        ensures added { (n : ℕ) → result ≡ Put.Added n → n ≡ length self.old.entries }
+        ensures after { self.new ≡ after_put self.old entry result }
+    {
+        let held = self.held(entry.x, entry.y, entry.kind);
+        if has_inside(self.entries(), &held, entry.carrier) {
+            return Put::Dominated;
+        }
+        if held.count == entry.kind.most() {
+            return Put::PairFull;
+        }
+        Put::Added(self.append(entry, held))
+    }
+
+    // Puts the entry at the end, where its pair has these numbers of its kind, and answers its number.
+    fn append(&mut self, entry: Entry, held: Held) -> u32
+        requires valid { IsValid self.old.elements entry }
+        requires follows { FollowsFrom self.old.elements self.old.entries entry }
+        requires held { held ≡ held_of (numbers_of self.old entry.kind entry.x entry.y) }
+        requires room { held.count < most_of entry.kind }
+        ensures number { result ≡ length self.old.entries }
+        ensures after { self.new ≡ with_entry self.old entry }
+    {
+        let pair = pair_number(entry.x, entry.y);
+        let number = self.entries.len() as u32;
+        let more = with_number(held, number);
+        match entry.kind {
+            Kind::Full => self.full[pair] = more,
+            Kind::Semi => self.semi[pair] = more,
+        }
+        self.entries.push(entry).unwrap();
+        number
+    }
+
+    /// The numbers of the entries of two elements, the lesser first, and of a kind.
+    pub fn held(&self, x: u8, y: u8, kind: Kind) -> Held
+        requires order { x < y }
+        requires elements { y < element_count self.now.elements }
+        ensures numbers { result ≡ held_of (numbers_of self.now kind x y) }
+        ensures few { result.count ≤ most_of kind }
+    {
+        let pair = pair_number(x, y);
+        match kind {
+            Kind::Full => self.full[pair],
+            Kind::Semi => self.semi[pair],
+        }
+    }
+
+    /// The entries, in the order in which they came. Each is valid, follows from earlier ones, and is true.
+    pub fn entries(&self) -> &[Entry]
+        ensures value { result.now ≡ self.now.entries }
+        ensures sound { IsSound self.now }
+        ensures few { length result.now ≤ MOST_ENTRIES }
+    {
+        &self.entries
+    }
+
+    /// The board of whose elements the entries speak.
+    pub fn board(&self) -> &Board
+        ensures { result.now ≡ self.now.elements.board }
+    {
+        &self.board
+    }
+
+    /// The player.
+    pub fn colour(&self) -> Colour
+        ensures { result ≡ self.now.elements.player }
+    {
+        self.colour
+    }
+
+    /// The elements of which the entries speak.
+    pub fn elements(&self) -> &Elements
+        ensures { result.now ≡ self.now.elements }
+    {
+        &self.elements
+    }
+}
