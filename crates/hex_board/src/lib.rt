@@ -10,11 +10,11 @@
 //! [`joined`] and [`roots_of`] work on sets of stones that are on no board yet.
 //!
 //! **What is proved.** `joined` answers yes exactly where there is a path of stones between the
-//! edges, and equals
-//! `is_joined`, a plain search of paths that callers may define things by ([`joined_is_decided`]).
-//! A board is told apart by its `Position`. The elements are those of the definitions in
-//! specs/Elements.antt, where an element's number is a count of least cells. `Wins`, who wins where
-//! both play on, is a definition alone, for the crates above.
+//! edges, and equals `is_joined`, a plain search of paths that callers may define things by
+//! ([`joined_is_decided`]). A board is told apart by its `Position`. The elements are those of the
+//! definitions in specs/Elements.antt, where an element's number is a count of least cells; what
+//! lies near is said in specs/Places.antt, where a place is a cell or an edge. `Wins`, who wins
+//! where both play on, is a definition for the crates above, with its laws ([`wins_go_on`]).
 //!
 //! **What is only tested, or not said.** That a full board has exactly one winner is nowhere used,
 //! and tested on all boards of sizes 1 to 4. Speed, and what the derived `Debug` prints.

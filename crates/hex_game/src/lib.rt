@@ -1,11 +1,10 @@
 //! Games of Hex: a start board, the steps taken from it, and the board now.
 //!
 //! **What it is.** A *move* is a stone on a cell, or the swap. A *step* is a move with the colour
-//! that made it. A
-//! *history* is the list of steps. The *replay* of a history is the board that it leads to from the
-//! start board; a step that isn't legal leaves a replay as it is. A step is legal where no player
-//! is joined, and a stone's cell is empty, or the swap is White's answer to Black's one stone on a
-//! board that was empty.
+//! that made it. A *history* is the list of steps. The *replay* of a history is the board that it
+//! leads to from the start board; a step that isn't legal leaves a replay as it is. A step is legal
+//! where no player is joined, and a stone's cell is empty, or the swap is White's answer to Black's
+//! one stone on a board that was empty.
 //!
 //! **A caller** makes a [`Game`] from a board, plays and takes back, and reads the board:
 //! `game.play(Colour::Black, Move::Stone(cell))`, `game.undo()`, `game.board()`.

@@ -16,8 +16,7 @@ use crate::Mode;
 const MOST_DIGITS: usize = 20;
 
 /// The number that the text writes in one to twenty decimal digits, without a sign, where it is
-/// from
-/// `least` to `most`.
+/// from `least` to `most`.
 pub fn number(text: Option<&str>, least: u64, most: u64) -> Option<u64>
     ensures { (n : ℕ) → (result ≡ Some n)
         ↔ IsNumberFrom least most (option_map (λ t. t.now) text.entry) n }

@@ -12,8 +12,8 @@ use Rattle.sgf_tree.specs.Trees.{GameTrees, none, tree}
 use Rattle.sgf_game.specs.Values.{trimmed, spells}
 
 -- the nodes that references lend
-abbrev pub seen : List (Bor Node) → List Node
-seen nodes = map (λ node. node.now) nodes
+abbrev pub nodes_lent : List (Bor Node) → List Node
+nodes_lent nodes = map (λ node. node.now) nodes
 
 -- the nodes of the first tree, then those of the first of its kids, and so on
 abbrev pub main_line : GameTrees → List Node

@@ -2,10 +2,9 @@
 //!
 //! **What it is.** A record is an SGF collection (crate sgf_tree) that tells a game of Hex (SGF
 //! FF[4], GM[11]). Its *main line* is the nodes of the first tree, then those of its first kid, and
-//! so on. The
-//! *root* is the first node; GM, SZ, AB and AW there say that it is Hex, the size and the start
-//! stones. A *move* is a value of B or W along the line, and a *turn* is a move as it is read: a
-//! step of a game (crate hex_game), the end of the line (`resign`, `forfeit`), or nothing.
+//! so on. The *root* is the first node; GM, SZ, AB and AW there say that it is Hex, the size and
+//! the start stones. A *move* is a value of B or W along the line, and a *turn* is a move as it is
+//! read: a step of a game (crate hex_game), the end of the line (`resign`, `forfeit`), or nothing.
 //!
 //! **A caller.** [`to_game`] makes a game of a collection, as `parse` reads it, and [`from_game`]
 //! the record of a game, which `print` prints.

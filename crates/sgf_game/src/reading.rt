@@ -2,7 +2,7 @@
 
 ghost use Rattle.std.specs.Prelude.{ℕ};
 ghost use Rattle.sgf_game.specs.GameOf.{game_of, game_of_line, GameOrMemory};
-ghost use Rattle.sgf_game.specs.Lines.{seen};
+ghost use Rattle.sgf_game.specs.Lines.{nodes_lent};
 ghost use Rattle.sgf_game.specs.Playing.{EndsLast};
 ghost use Rattle.sgf_game.specs.Turns.{turns_of};
 
@@ -48,8 +48,8 @@ pub fn to_game(alloc: Global, collection: &Collection) -> Result<Game, GameError
 
 /// The game of a line that begins with its root.
 fn game_of_line(alloc: Global, line: &[&Node]) -> Result<Game, GameError>
-    requires { (n : ℕ) → EndsLast (turns_of n (seen line.now)) }
-    ensures { GameOrMemory result (game_of_line (seen line.now)) }
+    requires { (n : ℕ) → EndsLast (turns_of n (nodes_lent line.now)) }
+    ensures { GameOrMemory result (game_of_line (nodes_lent line.now)) }
 {
     let [root, behind @ ..] = line else {
         return Err(GameError::NotHex);

@@ -2,7 +2,7 @@
 
 ghost use Rattle.std.specs.Prelude.{◌≡◌, true, false, map, MatchOption};
 ghost use Rattle.hex_cells.specs.Vertices.{vertex_cell};
-ghost use Rattle.sgf_game.specs.Lines.{seen};
+ghost use Rattle.sgf_game.specs.Lines.{nodes_lent};
 ghost use Rattle.sgf_game.specs.Values.{trimmed};
 ghost use Rattle.sgf_game.specs.Setup.{changes, is_changed_late, cells_named, is_bad_setup};
 ghost use Rattle.sgf_game.specs.Setup.{start_of};
@@ -22,7 +22,7 @@ fn changes(node: &Node) -> bool
 
 /// Whether a node behind the root adds stones or takes them away, or the root takes some away.
 fn is_changed_late(root: &Node, behind: &[&Node]) -> bool
-    ensures { result ≡ is_changed_late root.now (seen behind.now) }
+    ensures { result ≡ is_changed_late root.now (nodes_lent behind.now) }
 {
     for node in behind {
         if changes(node) {
@@ -64,7 +64,7 @@ fn stones_named(root: &Node, name: &[u8], taken: CellSet, size: Size) -> Option<
 
 /// The start board of a line; `None` exactly where its set-up is refused.
 pub fn start_of(root: &Node, behind: &[&Node], size: Size) -> Option<Board>
-    ensures { let bad = is_bad_setup size root.now (seen behind.now) in
+    ensures { let bad = is_bad_setup size root.now (nodes_lent behind.now) in
         MatchOption result (bad ≡ true)
         (λ start. (bad ≡ false) × (start ≡ start_of size root.now)) }
 {
