@@ -21,17 +21,22 @@
 //! of these turns is good, in the words of hex_plan: a closed tree, and a cell of most visits among
 //! its root's children. With status 0 each line was answered, up to an answered `quit`, and all was
 //! used up. All whole lines taken were answered before the next read, and no read that was answered
-//! follows an answered `quit`. Status 2 comes exactly where the words are not well formed, 3 and 4
-//! only where the link counted a fault, 6 exactly where one byte more than [`INPUT_LIMIT`] was
-//! taken, 7 only where the archive counted a fault, before a `genmove` that is not refused. The
-//! errors get the one line of the status. With one worker the words, the bytes read and the files
-//! determine what is given ([`one_worker_is_determined`]).
+//! follows an answered `quit`. What fails first ends the run: a count of faults rose with its own
+//! status (3, 4 or 7) and is as before with every other. Status 2 comes only where the words are
+//! not well formed, 6 exactly where one byte more than [`INPUT_LIMIT`] was taken, 7 before a
+//! `genmove` that is not refused. With status 5 the lines that were answered used up all that was
+//! used up, so no turn is thrown away. The errors get the one line of the status. Each searched
+//! move of a run that is done is legal and good, and its turn stands at its place of the archive
+//! (specs/Headline.antt). With one worker the words, the bytes read and the files determine what is
+//! given ([`one_worker_is_determined`]).
 //!
 //! **Only tested, or not said.** That memory suffices: a run may always end with status 5, which no
-//! clause ties to a refused growth. How fast it is.
+//! clause ties to a refused growth; and a quiet answer that is dropped then can't be told from
+//! memory that ran out earlier. That a run which met a fault reads and writes no more, where it
+//! answers that fault's status all the same. How fast it is.
 //!
-//! **Limits.** An input of [`INPUT_LIMIT`] bytes. Answers are gathered up to 64 KiB and one answer
-//! more before they are given, so no memory grows with the input but the game's own.
+//! **Limits.** An input of [`INPUT_LIMIT`] bytes. Each answer is given before the next line is
+//! looked at, so no memory grows with the input but the game's own.
 #![tactic(auto)]
 
 mod answering;

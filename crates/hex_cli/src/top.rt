@@ -39,11 +39,13 @@ pub const INPUT_LIMIT: usize = 67_108_864;
 /// | 2 | exactly where the words are not well formed | `hexd: usage` |
 /// | 3 | only where a read failed; all whole lines taken were answered | `hexd: read fault` |
 /// | 4 | only where a write failed; a front of the answers was given | |
-/// | 5 | memory ran out; all lines before the one that met it were answered | `hexd: out of memory` |
+/// | 5 | memory ran out; the first lines were answered, and these used up all that was used up | `hexd: out of memory` |
 /// | 6 | exactly where one byte more than [`INPUT_LIMIT`] was taken; the whole lines before it were answered | `hexd: input too long` |
 /// | 7 | only where the archive failed; all lines before the `genmove` that met it were answered | `hexd: archive fault` |
 ///
-/// A fault of the errors changes nothing of the status. Status 5 may come in place of any other.
+/// What fails first ends the run: with every status but 3 the link's count of read faults is as before,
+/// with every one but 4 its count of write faults, with every one but 7 the archive's. A fault of the
+/// errors changes nothing of the status. Status 5 may come in place of any other.
 pub fn run<L: Link, E: Link, F: Shelf, A: Archive>(
     alloc: Global,
     words: &[Word],

@@ -14,8 +14,8 @@
 //! **Limits.** An argument that is no text is a wrong word.
 #![tactic(auto)]
 
-use hex_cli::{End, report, run};
-use hex_io::{DirShelf, ErrLink, StdLink, Word};
+use hex_cli::{End, run};
+use hex_io::{DirShelf, ErrLink, StdLink, Word, report};
 use hex_plan::NoArchive;
 use std::process::ExitCode;
 use std::{env, io};
@@ -35,7 +35,10 @@ fn main(rt: HostRuntime) -> ExitCode {
                 &mut NoArchive,
             )
         }
-        Err(end) => report(&mut errors, end),
+        Err(end) => {
+            report(&mut errors, end.line());
+            end.status()
+        }
     };
     ExitCode::from(status)
 }
