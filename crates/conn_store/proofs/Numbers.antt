@@ -15,13 +15,17 @@ front : (b : Bool) (n : ℕ) (xs ys zs : List ℕ) → xs ≡ ys ++ zs → (if b
 front true n xs ys zs e = ap (λ v. n ∷ v) e
 front false n xs ys zs e = e
 
+pub numbers_over : (n : ℕ) (kind : Kind) (x y : ℕ) (entries more : List Entry)
+    → numbers_from n kind x y (entries ++ more) ≡ numbers_from n kind x y entries ++ numbers_from (n + length entries) kind x y more
+numbers_over n kind x y [] more = let e : n + 0 ≡ n = omega arith in ap (λ v. numbers_from v kind x y more) (sym e)
+numbers_over n kind x y (b ∷ entries) more =
+    let e : suc n + length entries ≡ n + suc (length entries) = omega arith in
+    front (is_of kind x y b) n (numbers_from (suc n) kind x y (entries ++ more)) (numbers_from (suc n) kind x y entries) (numbers_from (n + suc (length entries)) kind x y more)
+    (numbers_over (suc n) kind x y entries more ∙ ap (λ v. numbers_from (suc n) kind x y entries ++ numbers_from v kind x y more) e)
+
 pub numbers_push : (n : ℕ) (kind : Kind) (x y : ℕ) (entries : List Entry) (a : Entry)
     → numbers_from n kind x y (entries ++ a ∷ []) ≡ numbers_from n kind x y entries ++ one_if (is_of kind x y a) (n + length entries)
-numbers_push n kind x y [] a = let e : n + 0 ≡ n = omega arith in ap (λ v. one_if (is_of kind x y a) v) (sym e)
-numbers_push n kind x y (b ∷ entries) a =
-    let e : suc n + length entries ≡ n + suc (length entries) = omega arith in
-    front (is_of kind x y b) n (numbers_from (suc n) kind x y (entries ++ a ∷ [])) (numbers_from (suc n) kind x y entries) (one_if (is_of kind x y a) (n + suc (length entries)))
-    (numbers_push (suc n) kind x y entries a ∙ ap (λ v. numbers_from (suc n) kind x y entries ++ one_if (is_of kind x y a) v) e)
+numbers_push n kind x y entries a = numbers_over n kind x y entries (a ∷ [])
 
 -- entry i, where the first has the number n, is of that kind and pair
 abbrev pub IsListed : ℕ → Kind → ℕ → ℕ → List Entry → ℕ → Type 0

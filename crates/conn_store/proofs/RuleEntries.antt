@@ -10,14 +10,14 @@ use Rattle.hex_board.specs.Places.{Near}
 use Rattle.hex_board.specs.Positions.{Within, stones_of, is_empty_at}
 use Rattle.hex_board.proofs.Places.{empty_alone}
 use Rattle.conn_store.specs.Entries.{AllEmpty, IsBetween, IsValid, Misses}
-use Rattle.conn_store.specs.Rules.{AndRule, AreAt, AreWays, FollowsBy, FollowsFrom, IsCell, IsChain, IsEntry, IsGroup, OrRule, adjacent_entry, both_of, is_in_all, union_of}
-use Rattle.conn_store.specs.Stores.{CanAnd, CanOr, IsNext, IsSound, StoreData}
+use Rattle.conn_store.specs.Rules.{AndRule, AreAt, AreWays, FollowsBy, FollowsFrom, IsCell, IsAndOf, IsChain, IsEntry, IsGroup, OrRule, adjacent_entry, both_of, is_in_all, union_of}
+use Rattle.conn_store.specs.Stores.{CanAnd, CanOr, GivesAnd, IsNext, IsSound, StoreData}
 use Rattle.conn_store.specs.declared.entries.Cause.{Cause}
 use Rattle.conn_store.specs.declared.entries.Cause.TheVariants.{Adjacent, AndGroup, AndEmpty, Or}
 use Rattle.conn_store.specs.declared.entries.Entry.{Entry}
 use Rattle.conn_store.specs.declared.entries.Kind.{Kind}
 use Rattle.conn_store.specs.declared.entries.Kind.TheVariants.{Full, Semi}
-use Rattle.conn_store.proofs.Chains.{cell_valid, empty_both, group_valid, misses_both, valid_from}
+use Rattle.conn_store.proofs.Chains.{one_chain, cell_valid, empty_both, group_valid, misses_both, valid_from}
 use Rattle.conn_store.proofs.RuleTruth.{second_of, third_of}
 
 -- what is read of the entries
@@ -59,6 +59,41 @@ cell_next d i j a b entry x u y k s h g r f n = (
   cell_valid d.elements a b entry x u y k (s.valid i a h) (s.valid j b g) r f n.pair n.carrier_is,
   subst (λ v. FollowsBy d.elements d.entries entry v) (sym n.cause_is) (a, b, x, u, y, k, at_two d.entries i j a b h g, r, f, n.pair, n.kind_is, n.carrier_is),
 )
+
+-- of two entries the rules of AND give one entry alone
+same_cell_of : (e : PlayerBoard) (u k j : ℕ) → Within e.board.size (stones_of e.board e.player) → IsCell e u k → IsCell e u j → k ≡ j
+same_cell_of e u k j on f g = empty_alone e u k j on f.0 f.1 g.1
+
+group_of : (e : PlayerBoard) (a b entry : Entry) (x u y : ℕ) (cause : Cause) → IsGroup e u → IsEntry entry Full x y (both_of a b) cause → IsAndOf e a b x u y entry
+group_of e a b entry x u y cause f n = record { pair = n.pair; group = λ q. (n.kind_is, n.carrier_is); cell = λ k q. absurd (f k q) }
+
+cell_of_and : (e : PlayerBoard) (a b entry : Entry) (x u y k : ℕ) (cause : Cause) → Within e.board.size (stones_of e.board e.player) → IsCell e u k
+    → IsEntry entry Semi x y (with_cell (both_of a b) k) cause → IsAndOf e a b x u y entry
+cell_of_and e a b entry x u y k cause on f n = record {
+  pair = n.pair;
+  group = λ q. absurd (q k f);
+  cell = λ j q. (n.kind_is, n.carrier_is ∙ ap (λ v. with_cell (both_of a b) v) (same_cell_of e u k j on f q));
+}
+
+gives_one : (d : StoreData) (i j : ℕ) (a b entry : Entry) (x u y : ℕ) → IsSound d → slice_get d.entries i ≡ Some a → slice_get d.entries j ≡ Some b → AndRule d.elements a b x u y
+    → IsAndOf d.elements a b x u y entry → GivesAnd d i j entry
+gives_one d i j a b entry x u y s h g r n p q v w z at o =
+    let t = two_at d.entries i j p q at in
+    let e : a ≡ p = same_Some a p (sym h ∙ t.0) in
+    let f : b ≡ q = same_Some b q (sym g ∙ t.1) in
+    let m : IsAndOf d.elements p q x u y entry = subst (λ k. IsAndOf d.elements p k x u y entry) f (subst (λ k. IsAndOf d.elements k b x u y entry) e n) in
+    let c : IsChain p q x u y = subst (λ k. IsChain p k x u y) f (subst (λ k. IsChain k b x u y) e r.chain) in
+    let l = one_chain p q x u y v w z (s.valid i p t.0).order (s.valid j q t.1).order c o.chain in
+    subst (λ k. IsAndOf d.elements p q v w k entry) l.2 (subst (λ k. IsAndOf d.elements p q v k y entry) l.1 (subst (λ k. IsAndOf d.elements p q k u y entry) l.0 m))
+
+pub group_gives : (d : StoreData) (i j : ℕ) (a b entry : Entry) (x u y : ℕ) (cause : Cause) → IsSound d → slice_get d.entries i ≡ Some a → slice_get d.entries j ≡ Some b
+    → AndRule d.elements a b x u y → IsGroup d.elements u → IsEntry entry Full x y (both_of a b) cause → GivesAnd d i j entry
+group_gives d i j a b entry x u y cause s h g r f n = gives_one d i j a b entry x u y s h g r (group_of d.elements a b entry x u y cause f n)
+
+pub cell_gives : (d : StoreData) (i j : ℕ) (a b entry : Entry) (x u y k : ℕ) (cause : Cause) → IsSound d → slice_get d.entries i ≡ Some a → slice_get d.entries j ≡ Some b
+    → AndRule d.elements a b x u y → Within d.elements.board.size (stones_of d.elements.board d.elements.player) → IsCell d.elements u k
+    → IsEntry entry Semi x y (with_cell (both_of a b) k) cause → GivesAnd d i j entry
+cell_gives d i j a b entry x u y k cause s h g r on f n = gives_one d i j a b entry x u y s h g r (cell_of_and d.elements a b entry x u y k cause on f n)
 
 pub no_and : (d : StoreData) (i j : ℕ) (a b : Entry) → slice_get d.entries i ≡ Some a → slice_get d.entries j ≡ Some b
     → ((x u y : ℕ) → AndRule d.elements a b x u y → ⊥) → CanAnd d i j → ⊥

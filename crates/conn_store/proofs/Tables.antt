@@ -358,15 +358,12 @@ looked_in d a h entries inside k t g = both_ways inside t (k.answer.1
 
 pub looked_full : (d : StoreData) (a : Entry) (h : Held) (entries : List Entry) (inside : Bool) (most : ℕ) → IsLooked d a h entries inside → most ≡ most_of a.kind → h.count ≡ most
     → IsPairFull d a.kind a.x a.y
-looked_full d a h entries inside most k e f = let c = held_count h (numbers_of d a.kind a.x a.y) k.held in sym c ∙ (f ∙ e)
+looked_full d a h entries inside most k e f =
+    let c : h.count ≡ length (numbers_of d a.kind a.x a.y) = held_count h (numbers_of d a.kind a.x a.y) k.held in omega arith
 
 pub looked_room : (d : StoreData) (a : Entry) (h : Held) (entries : List Entry) (inside : Bool) (most : ℕ) → IsLooked d a h entries inside → most ≡ most_of a.kind
     → (h.count ≡ most → ⊥) → h.count < most_of a.kind
 looked_room d a h entries inside most k e f = let l : h.count ≤ most_of a.kind = k.few in omega arith
-
-pub not_full : (d : StoreData) (a : Entry) (h : Held) (entries : List Entry) (inside : Bool) (most : ℕ) → IsLooked d a h entries inside → most ≡ most_of a.kind
-    → (h.count ≡ most → ⊥) → ¬ (IsPairFull d a.kind a.x a.y)
-not_full d a h entries inside most k e f g = let c = held_count h (numbers_of d a.kind a.x a.y) k.held in f (c ∙ (g ∙ sym e))
 
 -- the numbers of the index are those of entries
 pub numbers_here : (d : StoreData) (a : Entry) (h : Held) (entries : List Entry) → h ≡ held_of (numbers_of d a.kind a.x a.y) → entries ≡ d.entries

@@ -56,6 +56,12 @@ adjacent_entry x y = record { kind = Full; x = x; y = y; carrier = 0; cause = Ad
 abbrev pub both_of : Entry → Entry → ℕ
 both_of a b = bit_or a.carrier b.carrier
 
+-- what the rules of AND give of a and b: a full entry over a group, and a semi one over an empty cell
+pub record IsAndOf (e : PlayerBoard) (a b : Entry) (x u y : ℕ) (entry : Entry) : Type 0 where
+  pub pair : IsBetween entry x y
+  pub group : IsGroup e u → (entry.kind ≡ Full) × (entry.carrier ≡ both_of a b)
+  pub cell : (k : ℕ) → IsCell e u k → (entry.kind ≡ Semi) × (entry.carrier ≡ with_cell (both_of a b) k)
+
 -- whether cell k is in all the carriers
 abbrev pub is_in_all : List Entry → ℕ → Bool
 is_in_all ways k = list_all (λ (a : Entry). has a.carrier k) ways

@@ -4,7 +4,7 @@ use Rattle.std.specs.List.{slice_get}
 use Rattle.hex_cells.specs.Sets.{has}
 use Rattle.hex_board.specs.Elements.{PlayerBoard}
 use Rattle.conn_store.specs.Entries.{IsValid, IsTrueEntry}
-use Rattle.conn_store.specs.Rules.{AndRule, AreAt, FollowsFrom, OrRule}
+use Rattle.conn_store.specs.Rules.{AndRule, AreAt, FollowsFrom, IsAndOf, OrRule}
 use Rattle.conn_store.specs.declared.entries.Entry.{Entry}
 use Rattle.conn_store.specs.declared.entries.Held.{Held}
 use Rattle.conn_store.specs.declared.entries.Kind.{Kind}
@@ -53,9 +53,9 @@ IsCovered d kind x y c =
     (i : ℕ) × (a : Entry) × (slice_get d.entries i ≡ Some a) × (is_of kind x y a ≡ true)
     × ((k : ℕ) → has a.carrier k ≡ true → has c k ≡ true)
 
--- the pair has its full number of entries of that kind
+-- the pair has its full number of entries of that kind; no store has more
 abbrev pub IsPairFull : StoreData → Kind → ℕ → ℕ → Type 0
-IsPairFull d kind x y = length (numbers_of d kind x y) ≡ most_of kind
+IsPairFull d kind x y = most_of kind ≤ length (numbers_of d kind x y)
 
 -- the store with the entry at its end
 abbrev pub with_entry : StoreData → Entry → StoreData
@@ -70,6 +70,12 @@ abbrev pub CanAnd : StoreData → ℕ → ℕ → Type 0
 CanAnd d i j =
     (a : Entry) × (b : Entry) × (x : ℕ) × (u : ℕ) × (y : ℕ) × AreAt d.entries (i ∷ j ∷ []) (a ∷ b ∷ [])
     × AndRule d.elements a b x u y
+
+-- the entry is what the rules of AND give of the entries with these numbers
+abbrev pub GivesAnd : StoreData → ℕ → ℕ → Entry → Type 0
+GivesAnd d i j entry =
+    (a b : Entry) (x u y : ℕ) → AreAt d.entries (i ∷ j ∷ []) (a ∷ b ∷ []) → AndRule d.elements a b x u y
+    → IsAndOf d.elements a b x u y entry
 
 -- the rule of OR applies to the entries with these numbers
 abbrev pub CanOr : StoreData → List ℕ → Type 0

@@ -1,11 +1,11 @@
 //! The four rules: the entries that follow from those of a store.
 
-ghost use Rattle.std.specs.Prelude.{◌≡◌, ◌⊎◌, ◌↔◌, ℕ, ◌<◌, ◌∷◌, [], IfNone, IfSome, IsTrue, length};
+ghost use Rattle.std.specs.Prelude.{◌≡◌, ◌↔◌, ℕ, ◌<◌, ◌∷◌, [], IfNone, IfSome, IsTrue, length};
 ghost use Rattle.hex_board.specs.Elements.{element_count};
 ghost use Rattle.hex_board.specs.Places.{Near};
 ghost use Rattle.conn_store.specs.Entries.{AllEmpty, IsValid, Misses};
 ghost use Rattle.conn_store.specs.Rules.{AndRule, AreWays, IsChain, IsEntry, OrRule, adjacent_entry};
-ghost use Rattle.conn_store.specs.Stores.{CanAnd, CanOr, IsNext};
+ghost use Rattle.conn_store.specs.Stores.{CanAnd, CanOr, GivesAnd, IsNext};
 
 use super::Store;
 use super::entries::{Cause, Entry, Kind};
@@ -96,14 +96,14 @@ impl Store {
         requires first { i < length self.now.entries }
         requires second { j < length self.now.entries }
         ensures next { IfSome result (IsNext self.now) }
-        ensures cause { IfSome result (λ a. (a.cause ≡ Cause.AndGroup i j) ⊎ (a.cause ≡ Cause.AndEmpty i j)) }
+        ensures gives { IfSome result (GivesAnd self.now i j) }
         ensures none { IfNone result (¬ (CanAnd self.now i j)) }
     {
         let a = self.entries()[i as usize];
         let b = self.entries()[j as usize];
         let chain = self.and_chain(&a, &b)?;
         let both = a.carrier.union(b.carrier);
-        match self.elements().cell(chain.u) {
+        match self.elements.cell(chain.u) {
             None => {
                 let cause = Cause::AndGroup(i, j);
                 Some(entry_of(Kind::Full, chain.x, chain.y, both, cause))
