@@ -8,7 +8,7 @@ use Rattle.clap.specs.Kinds.{Kinds, values_kinds}
 use Rattle.clap.specs.Faults.{check_fault, defaults_fault}
 use Rattle.clap.specs.Facts.{explicit_source}
 use Rattle.clap.specs.Takes.{is_given}
-use Rattle.clap.specs.Walk.{Row, TextBytes, default_rows, first_of, has_row, more_values, with_default}
+use Rattle.clap.specs.Walk.{Row, Text as TextBytes, default_rows, first_of, has_row, more_values, with_default}
 use Rattle.clap.specs.declared.builder.value_parser.Reading.TheVariants as reading
 use Rattle.clap.specs.declared.builder.value_parser.ValueParser.TheVariants as vp
 use Rattle.clap.specs.declared.error.kind.ErrorKind.TheVariants as kind

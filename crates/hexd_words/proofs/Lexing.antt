@@ -6,7 +6,7 @@ use Rattle.std.specs.List.{after_first, before_first, position_or_len}
 use Rattle.std.specs.Str.{IsUtf8, bytes_eq, chars}
 use Rattle.std.proofs.lemmas.Str.{IsUtf8-drop, IsCharBoundary-after_ascii, chars-encodes}
 use Rattle.clap.specs.Lexer.{has_byte, long_of, name_and_value, short_of}
-use Rattle.clap.specs.Walk.{TextBytes}
+use Rattle.clap.specs.Walk.{Text as TextBytes}
 use Rattle.hexd_words.specs.Grammar.{begins_with_hyphen}
 use Rattle.hexd_words.proofs.Steps.{dashes}
 

@@ -6,7 +6,7 @@ use Rattle.std.specs.Str.{bytes_eq}
 use Rattle.std.proofs.lemmas.List.Elements.{All-cons, All-nil}
 use Rattle.clap.specs.Faults.{built_fault, entered_fault, fault_of, level_fault}
 use Rattle.clap.specs.Simple.{App, entered, matches_of}
-use Rattle.clap.specs.Walk.{TextBytes, first_of, idle, nothing_held, walk, with_default}
+use Rattle.clap.specs.Walk.{Text as TextBytes, first_of, idle, nothing_held, walk, with_default}
 use Rattle.hexd_words.specs.Command.{hexd_app, mode_name}
 use Rattle.hexd_words.specs.Grammar.{IsPart, Part, Saying, apart, defaults, joined, plain, value_of}
 use Rattle.hexd_words.specs.Reading.{IsLine}

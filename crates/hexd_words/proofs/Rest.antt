@@ -3,7 +3,7 @@ use Rattle.std.proofs.Common.{◌≡◌, ◌∙◌, ◌&&◌, Bool, cond, true, 
 use Rattle.std.specs.List.{fold}
 use Rattle.clap.specs.Kinds.{Kinds, or_else}
 use Rattle.clap.specs.Faults.{check_fault, defaults_fault, settle_fault, turn_fault, walk_fault}
-use Rattle.clap.specs.Walk.{Held, Row, TextBytes, Walk, finished, is_pending, positional_held, pushed, settled, walked, with_default}
+use Rattle.clap.specs.Walk.{Held, Row, Text as TextBytes, Walk, finished, is_pending, positional_held, pushed, settled, walked, with_default}
 use Rattle.hexd_words.specs.Command.{mode_name}
 use Rattle.hexd_words.specs.Grammar.{Saying}
 use Rattle.hexd_words.proofs.Rules.{Found, KeepsMode, Table, conflict, mode_built, rows_for, rules_with, says, shape_with}

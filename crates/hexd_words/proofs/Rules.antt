@@ -8,7 +8,7 @@ use Rattle.std.proofs.lemmas.Slice.Eq.{bytes_eq-Decides}
 use Rattle.std.proofs.lemmas.List.{map-append}
 use Rattle.clap.specs.Kinds.{Kinds, or_else}
 use Rattle.clap.specs.Faults.{use_fault}
-use Rattle.clap.specs.Walk.{Row, Rule, TextBytes, arg_by_id, arg_by_index, arg_by_long, arg_by_short, at_row, has_row, more_values, most_values, takes_values, used, with_values, without}
+use Rattle.clap.specs.Walk.{Row, Rule, Text as TextBytes, arg_by_id, arg_by_index, arg_by_long, arg_by_short, at_row, has_row, more_values, most_values, takes_values, used, with_values, without}
 use Rattle.clap.specs.Simple.{Shape, built, new_rule, new_shape}
 use Rattle.clap.proofs.WalkLemmas.{list_any-map, both}
 use Rattle.clap.specs.declared.builder.action.ArgAction.TheVariants.{Set}

@@ -5,7 +5,7 @@ use Rattle.std.specs.Prelude.{⊤}
 use Rattle.std.specs.List.{All}
 use Rattle.std.specs.Str.{bytes_eq}
 use Rattle.std.proofs.lemmas.List.Kept.{AllPairs-cons}
-use Rattle.clap.specs.Walk.{TextBytes}
+use Rattle.clap.specs.Walk.{Text as TextBytes}
 use Rattle.hexd_words.specs.Grammar.{Saying, SaysOnce}
 use Rattle.hexd_words.proofs.Rules.{bytes_same, differs_back, same_bytes, says}
 

@@ -6,7 +6,7 @@ use Rattle.std.specs.Str.{IsUtf8, bytes_eq}
 use Rattle.clap.specs.Kinds.{Kinds, or_else}
 use Rattle.clap.specs.Faults.{settle_fault, stray_fault, turn_fault}
 use Rattle.clap.specs.Lexer.{long_of}
-use Rattle.clap.specs.Walk.{Held, TextBytes, Waiting, Walk, arg_by_index, idle, next_position, option, settled}
+use Rattle.clap.specs.Walk.{Held, Text as TextBytes, Waiting, Walk, arg_by_index, idle, next_position, option, settled}
 use Rattle.clap.specs.declared.error.kind.ErrorKind.TheVariants as kind
 use Rattle.hexd_words.specs.Command.{mode_name}
 use Rattle.hexd_words.specs.Grammar.{Part, Saying, after_hyphens, apart, begins_with_hyphen, joined, part_words, plain, saying}

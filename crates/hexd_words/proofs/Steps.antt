@@ -7,7 +7,7 @@ use Rattle.clap.specs.Simple.{Shape}
 use Rattle.clap.specs.Kinds.{Kinds, or_else}
 use Rattle.clap.specs.Faults.{flags_fault, turn_fault, react_fault, settle_fault, stray_fault}
 use Rattle.clap.specs.declared.error.kind.ErrorKind.TheVariants as kind
-use Rattle.clap.specs.Walk.{TextBytes, Rule, Held, Walk, Waiting, idle, option, walked, reacted, settled, arg_by_long, arg_by_id, arg_by_index, arg_by_short, takes_values, pushed, pending_count, most_values, is_multiple, is_pending, subcommand_met, takes_several, positional_held, next_position}
+use Rattle.clap.specs.Walk.{Text as TextBytes, Rule, Held, Walk, Waiting, idle, option, walked, reacted, settled, arg_by_long, arg_by_id, arg_by_index, arg_by_short, takes_values, pushed, pending_count, most_values, is_multiple, is_pending, subcommand_met, takes_several, positional_held, next_position}
 
 -- the walk before any `--`
 abbrev pub at : Held → Waiting → ℕ → Walk

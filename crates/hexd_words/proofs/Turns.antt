@@ -3,7 +3,7 @@ use Rattle.std.proofs.Common.{◌≡◌, ◌∙◌, Bool, true, false, refl, sym
 use Rattle.std.specs.Prelude.{⊤}
 use Rattle.clap.specs.Kinds.{Kinds, or_else}
 use Rattle.clap.specs.Faults.{react_fault, settle_fault, use_fault}
-use Rattle.clap.specs.Walk.{Held, Row, TextBytes, reacted, settled, used}
+use Rattle.clap.specs.Walk.{Held, Row, Text as TextBytes, reacted, settled, used}
 use Rattle.clap.specs.declared.error.kind.ErrorKind.TheVariants as kind
 use Rattle.hexd_words.specs.Grammar.{Saying}
 use Rattle.hexd_words.proofs.Rules.{Found, Table, conflict, has_row-rows, rows_for, rules_with, says, used_fresh}

@@ -5,7 +5,7 @@ use Rattle.std.proofs.Common.{◌≡◌, ◌∙◌, ◌==◌, ℕ, Bool, not, tr
 use Rattle.std.specs.List.{flat_map, list_all}
 use Rattle.std.specs.Str.{bytes_eq}
 use Rattle.clap.specs.Lexer.{has_byte, long_of}
-use Rattle.clap.specs.Walk.{Held, TextBytes, Waiting, idle, next_position, option, settled}
+use Rattle.clap.specs.Walk.{Held, Text as TextBytes, Waiting, idle, next_position, option, settled}
 use Rattle.hexd_words.specs.Command.{mode_name}
 use Rattle.hexd_words.specs.Grammar.{Part, Saying, after_hyphens, apart, joined, part_words, plain}
 use Rattle.hexd_words.proofs.Rules.{KeepsMode, Table, conflict, found_all, found_mode, found_passes, has_option, is_false, mode_built, option_in, rules_with, same_bytes, says, shape_with}

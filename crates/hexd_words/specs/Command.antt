@@ -1,6 +1,6 @@
 -- The command, as clap reads it: one positional argument, and options with a value each.
 use Rattle.std.specs.Prelude.{true, List, [], ◌∷◌, Some, codes}
-use Rattle.clap.specs.Walk.{Rule, TextBytes}
+use Rattle.clap.specs.Walk.{Rule, Text as TextBytes}
 use Rattle.clap.specs.Simple.{App, new_app, new_rule, with_rule, on_top}
 use Rattle.clap.specs.declared.builder.action.ArgAction.TheVariants.{Set}
 
