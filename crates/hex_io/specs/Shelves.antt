@@ -1,5 +1,6 @@
 -- What a shelf tells of itself, and what a fetch answers.
-use Rattle.std.specs.Prelude.{◌≡◌, ℕ, Bool, true, false, List, [], ◌∷◌, ◌++◌, length, nat_le, Option, Some, None, option_map, Result, Ok, Err, if◌then◌else◌}
+use Rattle.std.specs.Prelude.{◌≡◌, ℕ, Bool, true, false, List, [], ◌∷◌, ◌++◌, length, nat_le}
+use Rattle.std.specs.Prelude.{Option, Some, None, option_map, Result, Ok, Err, if◌then◌else◌}
 use Rattle.std.specs.List.{find}
 use Rattle.std.specs.Str.{bytes_eq}
 use Rattle.hex_io.specs.Told.{Both}
@@ -19,19 +20,20 @@ most_bytes = 1048576
 
 -- what the file of that name holds
 abbrev pub content_of : List File → List ℕ → Option (List ℕ)
-content_of files name = option_map (λ file. file.content) (find (λ file. bytes_eq file.name name) files)
+content_of files name = option_map
+    (λ file. file.content) (find (λ file. bytes_eq file.name name) files)
 
 -- what comes of a fetch
 pub data Fetched : Type 0 where
   Failed : Fetched
   Missing : Fetched
   Long : Fetched
-  Held : List ℕ → Fetched
+  Contents : List ℕ → Fetched
 
 -- what a fetch finds, where none is at fault
 abbrev pub found : Option (List ℕ) → Fetched
 found None = Missing
-found (Some bytes) = if nat_le (length bytes) most_bytes then Held bytes else Long
+found (Some bytes) = if nat_le (length bytes) most_bytes then Contents bytes else Long
 
 -- what comes of the fetch of a name from these files, where it is at fault or not
 abbrev pub fetched_of : List File → Bool → List ℕ → Fetched
@@ -45,7 +47,7 @@ is_failed _ = false
 -- what an answer says, where this reads its bytes; nothing, where memory ran out
 abbrev pub says : {T : Type 0} → (T → List ℕ) → Result (Option T) ShelfError → Option Fetched
 says bytes (Ok None) = Some Missing
-says bytes (Ok (Some file)) = Some (Held (bytes file))
+says bytes (Ok (Some file)) = Some (Contents (bytes file))
 says bytes (Err Fault) = Some Failed
 says bytes (Err TooLong) = Some Long
 says bytes (Err Memory) = None

@@ -52,6 +52,8 @@ pub trait Shelf {
     /// of faults rose, and with every other answer the count is as before. After want of memory
     /// nothing changed.
     fn fetch(&mut self, alloc: Global, name: &str) -> Result<Option<Vec<u8>>, ShelfError>
-        ensures told { Fetches (told self.old) (told self.new) name.now (says (λ file. file.items) result) }
-        ensures cause { CountsFault (faults self.old) (faults self.new) (result ≡ Err ShelfError.Fault) };
+        ensures told { Fetches (told self.old) (told self.new) name.now
+            (says (λ file. file.items) result) }
+        ensures cause { CountsFault (faults self.old) (faults self.new)
+            (result ≡ Err ShelfError.Fault) };
 }

@@ -1,5 +1,6 @@
 -- How the words of a command line say its mode and its options.
-use Rattle.std.specs.Prelude.{◌≡◌, ◌≢◌, ◌==◌, Bool, false, List, [], ◌∷◌, ◌++◌, Option, Some, None, codes, map, unwrap_or, find, option_map}
+use Rattle.std.specs.Prelude.{◌≡◌, ◌≢◌, ◌==◌, Bool, false, List, [], ◌∷◌, ◌++◌, Option, Some, None}
+use Rattle.std.specs.Prelude.{codes, map, unwrap_or, find, option_map}
 use Rattle.std.specs.List.{All, Contains, AllPairs, flat_map}
 use Rattle.std.specs.Str.{bytes_eq}
 use Rattle.hexd_words.specs.Values.{Text}
@@ -8,8 +9,8 @@ use Rattle.hexd_words.specs.Values.{Text}
 abbrev pub Saying : Type 0
 Saying = Text × Text
 
--- One part of the words: an option with its value in the same word, an option and its value in two words, or a
--- positional word.
+-- One part of the words: an option with its value in the same word, an option and its value in two
+-- words, or a positional word.
 pub data Part : Type 0 where
   joined : Text → Text → Part
   apart : Text → Text → Part
@@ -38,7 +39,8 @@ abbrev pub begins_with_hyphen : Text → Bool
 begins_with_hyphen [] = false
 begins_with_hyphen (byte ∷ bytes) = byte == 45
 
--- An option has one of the names in full. Neither a value of its own word nor a positional word begins with a hyphen.
+-- An option has one of the names in full. Neither a value of its own word nor a positional word
+-- begins with a hyphen.
 abbrev pub IsPart : Part → Type 0
 IsPart (joined name value) = Contains option_names name
 IsPart (apart name value) = Contains option_names name × (begins_with_hyphen value ≡ false)
@@ -49,7 +51,8 @@ abbrev pub after_hyphens : Option (List Text) → List Text
 after_hyphens None = []
 after_hyphens (Some rest) = codes "--" ∷ rest
 
--- The words are parts, and then maybe `--` and positional words of any form; they say these things in this order.
+-- The words are parts, and then maybe `--` and positional words of any form; they say these things
+-- in this order.
 pub record Says (words : List Text) (said : List Saying) : Type 0 where
   pub parts : List Part
   pub rest : Option (List Text)

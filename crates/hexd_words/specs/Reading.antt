@@ -4,8 +4,8 @@ use Rattle.hexd_words.specs.Grammar.{Saying, Says, SaysOnce, defaults, value_of}
 use Rattle.hexd_words.specs.Values.{AreOptions, Text}
 use Rattle.hexd_words.specs.declared.settings.Options.{Options}
 
--- The words say a mode and options, each at most once, and with the defaults for what they do not say, the values
--- are these options.
+-- The words say a mode and options, each at most once, and with the defaults for what they do not
+-- say, the values are these options.
 pub record WellFormed (words : List Text) (o : Options) : Type 0 where
   pub said : List Saying
   pub says : Says words said

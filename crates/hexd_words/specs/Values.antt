@@ -1,5 +1,6 @@
 -- What the texts of the options' values say.
-use Rattle.std.specs.Prelude.{◌≡◌, ◌≢◌, ◌≤◌, ◌^◌, ◌-◌, ℕ, Bool, true, false, List, [], Option, Some, None, length, codes}
+use Rattle.std.specs.Prelude.{◌≡◌, ◌≢◌, ◌≤◌, ◌^◌, ◌-◌, ℕ, Bool, true, false, List, [], Option, Some}
+use Rattle.std.specs.Prelude.{None, length, codes}
 use Rattle.std.specs.Str.Parse.{IsNumeral, digits_value}
 use Rattle.hexd_words.specs.declared.settings.Mode.{Mode}
 use Rattle.hexd_words.specs.declared.settings.Mode.TheVariants.{Htp}
@@ -8,7 +9,8 @@ use Rattle.hexd_words.specs.declared.settings.Options.{Options}
 abbrev pub Text : Type 0
 Text = List ℕ
 
--- There is a text, it is one to twenty decimal digits, they write n, and n is from `least` to `most`.
+-- There is a text, it is one to twenty decimal digits, they write n, and n is from `least` to
+-- `most`.
 abbrev pub IsNumberFrom : ℕ → ℕ → Option Text → ℕ → Type 0
 IsNumberFrom least most None n = ⊥
 IsNumberFrom least most (Some text) n =

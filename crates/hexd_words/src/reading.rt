@@ -54,15 +54,16 @@ pub fn read_words(alloc: Global, words: &[Word]) -> Result<Option<Options>, Memo
 pub fn clap_reads_lines(words: &[Word])
     ensures line { All IsUtf8 words.now → ¬ Contains words.now lone_hyphen
         → fault_of hexd_app words.now ≡ [] → (said : List Saying) × IsLine words.now said }
-    ensures clear { (said : List Saying) → IsLine words.now said → fault_of hexd_app words.now ≡ [] }
+    ensures clear { (said : List Saying) → IsLine words.now said →
+        fault_of hexd_app words.now ≡ [] }
     ensures values { (said : List Saying) → IsLine words.now said → (name : Text)
         → first_of name (matches_of hexd_app words.now) ≡ value_of (said ++ defaults) name }
 {
     let _words = words;
 }
 
-// Whether one of the words is a hyphen alone. No line has one, but `clap` takes it for a value. Each
-// word that was looked at is text.
+// Whether one of the words is a hyphen alone. No line has one, but `clap` takes it for a value.
+// Each word that was looked at is text.
 fn has_lone_hyphen(words: &[Word]) -> bool
     ensures found { IsTrue result ↔ Contains words.now lone_hyphen }
     ensures text { OnFalse result (All IsUtf8 words.now) }
@@ -106,7 +107,8 @@ fn copied(alloc: Global, text: Option<&str>) -> Result<Option<Word>, Memory>
     }
 }
 
-// The options, where the name of the trace is at hand. The ranges are those of the table in `Options`.
+// The options, where the name of the trace is at hand. The ranges are those of the table in
+// `Options`.
 fn with_trace(matches: &ArgMatches<'_>, trace: Option<Word>) -> Option<Options>
     requires as_given { first_value (found_of matches.now) (codes "trace") ≡ trace }
     requires named { trace ≢ Some [] }
