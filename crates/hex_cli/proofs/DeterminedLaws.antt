@@ -9,8 +9,8 @@ use Rattle.hex_engine.specs.declared.options.Options.{Options}
 use Rattle.hex_plan.specs.Turns.{Decision}
 use Rattle.hex_engine.specs.EngineState.{opening}
 use Rattle.hex_engine.specs.Uses.{CameOf}
-use Rattle.hex_cli.specs.Talk.{Said}
-use Rattle.hex_cli.specs.Outcome.{Conversed, since}
+use Rattle.hex_cli.specs.Talk.{TalkState}
+use Rattle.hex_cli.specs.Endings.{Conversed, since}
 use Rattle.hex_cli.specs.Determined.{IsDetermined}
 use Rattle.hex_cli.specs.declared.ends.End.TheVariants as ending
 use Rattle.hex_cli.proofs.OneWorker.{through_told}
@@ -25,4 +25,4 @@ determined_at options size limit a b c d x y k =
     let mine : f.tries ≡ tries =
     same_end_of s.tries f.tries tries (ap (λ l. s.tries ++ l) (sym (append-nil f.tries) ∙ ap (λ l. f.tries ++ l) (sym k.vain)) ∙ sym (ap (λ (z : Shelved). z.tries) f.tried) ∙ grew) in
     let same = through_told (opening options size) one s.files tries k.used all (subst (λ l. CameOf s.files l k.used.loads) mine f.came) came k.uses.moving.good good (lines (since o n)) p.ends.through through in
-    p.ends.given ∙ ap (λ (z : Said). o.given ++ z.text) same) k.outcome) k.uses.loading
+    p.ends.given ∙ ap (λ (z : TalkState). o.given ++ z.text) same) k.outcome) k.uses.loading

@@ -7,8 +7,8 @@ use Rattle.hex_io.proofs.GaveLaws.{Gave-nothing}
 use Rattle.htp_line.specs.Splitting.{Held}
 use Rattle.hex_engine.specs.EngineState.{EngineState}
 use Rattle.hex_engine.specs.Supply.{Supply}
-use Rattle.hex_cli.specs.Stocks.{Stock}
-use Rattle.hex_cli.specs.Sessions.{Stands, Quits, Does, DoesSome, StopsBefore, Answers, AnswersShort, Advanced, AnswersAll, Fed, BrokeOff, GaveUp, HeldBack, AnswersLast, AnsweredLast, BrokeOffLast, talk_to}
+use Rattle.hex_cli.specs.Stocks.{ShelfAndArchive}
+use Rattle.hex_cli.specs.Sessions.{Stands, Quits, Does, DoesSome, StopsBefore, AnswersLines, AnswersShort, Advanced, AnswersAll, Fed, BrokeOff, GaveUp, HeldBack, AnswersLast, AnsweredLast, BrokeOffLast, talk_to}
 use Rattle.hex_cli.proofs.Pieces.{next_part, next_seen, parts_make}
 use Rattle.hex_cli.proofs.StockLaws.{After, does_then, does_weaker, does_nothing}
 use Rattle.hex_cli.proofs.Given.{AnswersAll-then, BrokeOff-then, GaveUp-then, HeldBack-then, AnswersAll-quit, AnswersAll-nothing, quits_stay, line_broke_off, gave_up_at_once, held_back_at_once}
@@ -24,11 +24,11 @@ abbrev pub FedTo : Option Told → Option Told → EngineState → Held → List
 FedTo old new engine held front = λ start all later seen. AnswersAll old new start all seen front × Stands start all later engine held (seen ++ front)
 
 -- what up to one line more does
-abbrev pub LineMore : Bool → Stock → Stock → EngineState → Held → EngineState → Held → List ℕ → ℕ → List ℕ → Type 0
+abbrev pub LineMore : Bool → ShelfAndArchive → ShelfAndArchive → EngineState → Held → EngineState → Held → List ℕ → ℕ → List ℕ → Type 0
 LineMore quit old new engine held after then out n piece =
     Does old new [] engine held (λ start all later seen. Advanced quit start all later after then out seen (take n piece))
 
-pub fed_on : (x y z : Option Told) (a b c : Stock) (engine mid after : EngineState) (held mid_held then : Held) (out piece : List ℕ) (i n : ℕ)
+pub fed_on : (x y z : Option Told) (a b c : ShelfAndArchive) (engine mid after : EngineState) (held mid_held then : Held) (out piece : List ℕ) (i n : ℕ)
     → Does a b [] engine held (FedTo x y mid mid_held (take i piece)) → LineMore false b c mid mid_held after then out n (rest_of piece i) → Gave y z out
     → Does a c [] engine held (FedTo x z after then (take (i + n) piece))
 fed_on x y z a b c engine mid after held mid_held then out piece i n p q gave =
@@ -40,7 +40,7 @@ fed_on x y z a b c engine mid after held mid_held then out piece i n p q gave =
       subst (Stands start all later after then) (next_seen seen piece i n) s.moved,
     )) p q
 
-pub fed_quit : (x y z : Option Told) (a b c : Stock) (engine mid after : EngineState) (held mid_held then : Held) (out piece : List ℕ) (i n : ℕ)
+pub fed_quit : (x y z : Option Told) (a b c : ShelfAndArchive) (engine mid after : EngineState) (held mid_held then : Held) (out piece : List ℕ) (i n : ℕ)
     → Does a b [] engine held (FedTo x y mid mid_held (take i piece)) → LineMore true b c mid mid_held after then out n (rest_of piece i) → Gave y z out
     → Does a c [] engine held (λ start all later seen. Fed true x z start all later after then seen piece)
 fed_quit x y z a b c engine mid after held mid_held then out piece i n p q gave =
@@ -58,7 +58,7 @@ fed_quit x y z a b c engine mid after held mid_held then out piece i n p q gave 
       moved = subst (λ l. Quits start all later (seen ++ l)) parts (quits_stay start all later seen (take (i + n) piece) (drop (i + n) piece) quit);
     }) p q
 
-pub fed_broke_off : (x y z : Option Told) (a b c : Stock) (engine mid after : EngineState) (held mid_held then : Held) (out piece : List ℕ) (i n : ℕ) (quit : Bool)
+pub fed_broke_off : (x y z : Option Told) (a b c : ShelfAndArchive) (engine mid after : EngineState) (held mid_held then : Held) (out piece : List ℕ) (i n : ℕ) (quit : Bool)
     → Does a b [] engine held (FedTo x y mid mid_held (take i piece)) → LineMore quit b c mid mid_held after then out n (rest_of piece i) → GavePart y z out
     → Does a c [] engine held (λ start all later seen. BrokeOff x z start all seen piece)
 fed_broke_off x y z a b c engine mid after held mid_held then out piece i n quit p q part =
@@ -69,7 +69,7 @@ fed_broke_off x y z a b c engine mid after held mid_held then out piece i n quit
     (BrokeOff-then x y z start all seen (take i piece) (rest_of piece i) t.0 (line_broke_off y z start all out (seen ++ take i piece) n (rest_of piece i) s.answers part))) p q
 
 -- memory ran out at the next line, and nothing more was given
-pub fed_gave_up : (x y : Option Told) (a b c : Stock) (engine mid : EngineState) (held mid_held : Held) (piece : List ℕ) (i : ℕ)
+pub fed_gave_up : (x y : Option Told) (a b c : ShelfAndArchive) (engine mid : EngineState) (held mid_held : Held) (piece : List ℕ) (i : ℕ)
     → Does a b [] engine held (FedTo x y mid mid_held (take i piece)) → DoesSome b c mid mid_held (λ start all later seen. StopsBefore start all later seen (rest_of piece i))
     → DoesSome a c engine held (λ start all later seen. GaveUp x y start all later seen piece)
 fed_gave_up x y a b c engine mid held mid_held piece i p q = (
@@ -83,7 +83,7 @@ fed_gave_up x y a b c engine mid held mid_held piece i p q = (
 )
 
 -- a turn is wanted at the next line, and nothing more was given
-pub fed_held_back : (x y : Option Told) (a b c : Stock) (engine mid : EngineState) (held mid_held : Held) (piece : List ℕ) (i : ℕ)
+pub fed_held_back : (x y : Option Told) (a b c : ShelfAndArchive) (engine mid : EngineState) (held mid_held : Held) (piece : List ℕ) (i : ℕ)
     → Does a b [] engine held (FedTo x y mid mid_held (take i piece)) → Does b c [] mid mid_held (λ start all later seen. AnswersShort start all later [] seen (rest_of piece i))
     → Does a c [] engine held (λ start all later seen. HeldBack x y start all later seen piece)
 fed_held_back x y a b c engine mid held mid_held piece i p q =
@@ -95,12 +95,12 @@ fed_held_back x y a b c engine mid held mid_held piece i p q =
 
 -- ---- before the first and after the last
 
-pub fed_nothing : (x : Option Told) (a : Stock) (engine : EngineState) (held : Held) → Does a a [] engine held (FedTo x x engine held [])
+pub fed_nothing : (x : Option Told) (a : ShelfAndArchive) (engine : EngineState) (held : Held) → Does a a [] engine held (FedTo x x engine held [])
 fed_nothing x a engine held =
     does_nothing a engine held (FedTo x x engine held [])
     (λ start all later seen here. (AnswersAll-nothing x start all seen, subst (Stands start all later engine held) (sym (append-nil seen)) here))
 
-pub fed_all : (x y : Option Told) (a b : Stock) (engine after : EngineState) (held then : Held) (piece front : List ℕ) → front ≡ piece → Does a b [] engine held (FedTo x y after then front)
+pub fed_all : (x y : Option Told) (a b : ShelfAndArchive) (engine after : EngineState) (held then : Held) (piece front : List ℕ) → front ≡ piece → Does a b [] engine held (FedTo x y after then front)
     → Does a b [] engine held (λ start all later seen. Fed false x y start all later after then seen piece)
 fed_all x y a b engine after held then piece front whole p =
     does_weaker a b [] engine held (FedTo x y after then front) (λ start all later seen. Fed false x y start all later after then seen piece)
@@ -108,13 +108,13 @@ fed_all x y a b engine after held then piece front whole p =
 
 -- ---- the last line
 
-pub last_given : (x y : Option Told) (a b : Stock) (engine : EngineState) (held : Held) (out : List ℕ) → Does a b [] engine held (λ start all later seen. AnswersLast start all later out seen) → Gave x y out
+pub last_given : (x y : Option Told) (a b : ShelfAndArchive) (engine : EngineState) (held : Held) (out : List ℕ) → Does a b [] engine held (λ start all later seen. AnswersLast start all later out seen) → Gave x y out
     → Does a b [] engine held (λ start all later seen. AnsweredLast x y start all later seen)
 last_given x y a b engine held out p gave =
     does_weaker a b [] engine held (λ start all later seen. AnswersLast start all later out seen) (λ start all later seen. AnsweredLast x y start all later seen)
     (λ start all later seen t. record { gave = (out, gave, t) }) p
 
-pub last_broke_off : (x y : Option Told) (a b : Stock) (engine : EngineState) (held : Held) (out : List ℕ) → Does a b [] engine held (λ start all later seen. AnswersLast start all later out seen) → GavePart x y out
+pub last_broke_off : (x y : Option Told) (a b : ShelfAndArchive) (engine : EngineState) (held : Held) (out : List ℕ) → Does a b [] engine held (λ start all later seen. AnswersLast start all later out seen) → GavePart x y out
     → Does a b [] engine held (λ start all later seen. BrokeOffLast x y start all later seen)
 last_broke_off x y a b engine held out p part =
     does_weaker a b [] engine held (λ start all later seen. AnswersLast start all later out seen) (λ start all later seen. BrokeOffLast x y start all later seen)

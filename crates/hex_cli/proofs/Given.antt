@@ -6,11 +6,11 @@ use Rattle.hex_io.specs.Grew.{Gave, GavePart}
 use Rattle.hex_io.proofs.GaveLaws.{Gave-then, Gave-nothing}
 use Rattle.hex_engine.specs.EngineState.{EngineState}
 use Rattle.hex_engine.specs.Supply.{Supply}
-use Rattle.hex_cli.specs.Talk.{Said, Going, AfterQuit}
-use Rattle.hex_cli.specs.Sessions.{talk_to, Quits, Answers, AnswersAll, AnswersShort, StopsBefore, BrokeOff, GaveUp, HeldBack}
+use Rattle.hex_cli.specs.Talk.{TalkState, Going, AfterQuit}
+use Rattle.hex_cli.specs.Sessions.{talk_to, Quits, AnswersLines, AnswersAll, AnswersShort, StopsBefore, BrokeOff, GaveUp, HeldBack}
 use Rattle.hex_cli.proofs.TalkLaws.{talk_to_quit}
 
-pub answers_then : (start : EngineState) (all : Supply) (seen m n xs ys : List ℕ) → Answers start all xs seen m → Answers start all ys (seen ++ m) n → Answers start all (xs ++ ys) seen (m ++ n)
+pub answers_then : (start : EngineState) (all : Supply) (seen m n xs ys : List ℕ) → AnswersLines start all xs seen m → AnswersLines start all ys (seen ++ m) n → AnswersLines start all (xs ++ ys) seen (m ++ n)
 answers_then start all seen m n xs ys p q =
     ap (λ l. (talk_to start all l).text) (sym (append_assoc seen m n)) ∙ q ∙ ap (λ l. l ++ ys) p ∙ append_assoc (talk_to start all seen).text xs ys
 
@@ -53,11 +53,11 @@ GaveUp-then a b c start all later seen m n p r =
 pub quits_stay : (start : EngineState) (all later : Supply) (seen m n : List ℕ) → Quits start all later (seen ++ m) → Quits start all later (seen ++ (m ++ n))
 quits_stay start all later seen m n quit =
     let same : talk_to start all (seen ++ (m ++ n)) ≡ talk_to start all (seen ++ m) = ap (talk_to start all) (sym (append_assoc seen m n)) ∙ talk_to_quit start all (seen ++ m) n quit.ending in
-    record { ending = ap (λ (t : Said). t.ending) same ∙ quit.ending; left = quit.left ∙ sym (ap (λ (t : Said). t.left) same) }
+    record { ending = ap (λ (t : TalkState). t.ending) same ∙ quit.ending; left = quit.left ∙ sym (ap (λ (t : TalkState). t.left) same) }
 
 pub AnswersAll-quit : (a b : Option Told) (start : EngineState) (all : Supply) (seen m n : List ℕ) → AnswersAll a b start all seen m → (talk_to start all (seen ++ m)).ending ≡ AfterQuit → AnswersAll a b start all seen (m ++ n)
 AnswersAll-quit a b start all seen m n p quit = record {
-  gave = (p.gave.0, p.gave.1, ap (λ l. (talk_to start all l).text) (sym (append_assoc seen m n)) ∙ ap (λ (t : Said). t.text) (talk_to_quit start all (seen ++ m) n quit) ∙ p.gave.2);
+  gave = (p.gave.0, p.gave.1, ap (λ l. (talk_to start all l).text) (sym (append_assoc seen m n)) ∙ ap (λ (t : TalkState). t.text) (talk_to_quit start all (seen ++ m) n quit) ∙ p.gave.2);
 }
 
 -- nothing was asked yet
@@ -81,11 +81,11 @@ HeldBack-then a b c start all later seen m n p r = record {
 -- ---- one line more
 
 -- a front of the answer to the first bytes was given
-pub line_broke_off : (a b : Option Told) (start : EngineState) (all : Supply) (out seen : List ℕ) (n : ℕ) (piece : List ℕ) → Answers start all out seen (take n piece) → GavePart a b out → BrokeOff a b start all seen piece
+pub line_broke_off : (a b : Option Told) (start : EngineState) (all : Supply) (out seen : List ℕ) (n : ℕ) (piece : List ℕ) → AnswersLines start all out seen (take n piece) → GavePart a b out → BrokeOff a b start all seen piece
 line_broke_off a b start all out seen n piece answers part = record { gave = (take n piece, drop n piece, out, sym (take-append-drop n piece), part, answers) }
 
 -- nothing more was asked of what was answered
-answers_nothing : (start : EngineState) (all : Supply) (seen : List ℕ) → Answers start all [] seen []
+answers_nothing : (start : EngineState) (all : Supply) (seen : List ℕ) → AnswersLines start all [] seen []
 answers_nothing start all seen = ap (λ l. (talk_to start all l).text) (append-nil seen) ∙ sym (append-nil (talk_to start all seen).text)
 
 pub gave_up_at_once : (a : Option Told) (start : EngineState) (all later : Supply) (seen piece : List ℕ) → (talk_to start all seen).ending ≡ Going → StopsBefore start all later seen piece → GaveUp a a start all later seen piece

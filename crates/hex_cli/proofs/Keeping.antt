@@ -4,16 +4,16 @@ use Rattle.std.specs.List.{AllByRecursion}
 use Rattle.std.proofs.Math.Seq.{take-append_seam, drop-append_seam}
 use Rattle.std.proofs.lemmas.List.{take-append-le}
 use Rattle.std.proofs.lemmas.List.Sums.{fold-append}
-use Rattle.hex_io.specs.Told.{Told, Takes, Gives}
+use Rattle.hex_io.specs.Told.{Told, TakesBytes, GivesBytes}
 use Rattle.htp_line.specs.Lines.{whole, rest, lines, unless_empty}
 use Rattle.htp_line.specs.Splitting.{kept}
 use Rattle.htp_line.proofs.LinesLaws.{whole-append}
 use Rattle.hex_engine.specs.EngineState.{EngineState}
 use Rattle.hex_engine.specs.Supply.{Supply, nothing_left}
 use Rattle.hex_engine.specs.Replies.{Missing}
-use Rattle.hex_cli.specs.Talk.{Said, Ending, Going, AfterQuit, Short, ending_if, goes_on, said, with_said, step, silence, talk}
+use Rattle.hex_cli.specs.Talk.{TalkState, Ending, Going, AfterQuit, Short, ending_if, goes_on, after_line, followed_by, with_line, talk_start, talk}
 use Rattle.hex_cli.specs.Sessions.{talk_to, WantsTurn, EndsLine, HasLast}
-use Rattle.hex_cli.specs.Outcome.{since, Shown, AsksShown, Course, StopsAt, Outcome}
+use Rattle.hex_cli.specs.Endings.{since, Shown, AsksShown, Course, StoppedAfter, Ended}
 use Rattle.hex_cli.specs.declared.ends.End.TheVariants as ending
 use Rattle.hex_cli.proofs.TalkLaws.{talk_stays, talk_quit}
 
@@ -47,7 +47,7 @@ all_push P [] x all p = (p, tt)
 all_push P (y ∷ ys) x all p = (all.0, all_push P ys x all.1 p)
 
 -- a read took more
-pub keeps_taking : (start : EngineState) (all : Supply) (o n m : Told) (seen text buf : List ℕ) (k : ℕ) → Keeps start all o n seen text → text ≡ (talk_to start all seen).text → (talk_to start all seen).ending ≡ Going → Takes n m k buf
+pub keeps_taking : (start : EngineState) (all : Supply) (o n m : Told) (seen text buf : List ℕ) (k : ℕ) → Keeps start all o n seen text → text ≡ (talk_to start all seen).text → (talk_to start all seen).ending ≡ Going → TakesBytes n m k buf
     → Keeps start all o m (seen ++ take k buf) text
 keeps_taking start all o n m seen text buf k kept e going t =
     let ask : ℕ × ℕ = (length n.taken, length n.given) in
@@ -71,7 +71,7 @@ keeps_taking start all o n m seen text buf k kept e going t =
     }
 
 -- more was given
-pub keeps_giving : (start : EngineState) (all : Supply) (o n m : Told) (seen text bytes : List ℕ) → Keeps start all o n seen text → Gives n m bytes → Keeps start all o m seen (text ++ bytes)
+pub keeps_giving : (start : EngineState) (all : Supply) (o n m : Told) (seen text bytes : List ℕ) → Keeps start all o n seen text → GivesBytes n m bytes → Keeps start all o m seen (text ++ bytes)
 keeps_giving start all o n m seen text bytes kept g =
     let taken : m.taken ≡ n.taken = ap (λ (t : Told). t.taken) g in
     let given : m.given ≡ n.given ++ bytes = ap (λ (t : Told). t.given) g in
@@ -92,24 +92,24 @@ course_of start all o n seen text kept =
 
 -- ---- the text of more lines
 
-step_if : (b : Bool) (a c : Said) → (more : List ℕ) × ((cond b (with_said a c) a).text ≡ a.text ++ more)
+step_if : (b : Bool) (a c : TalkState) → (more : List ℕ) × ((cond b (followed_by a c) a).text ≡ a.text ++ more)
 step_if true a c = (c.text, refl)
 step_if false a c = ([], sym (append-nil a.text))
 
-step_text : (a : Said) (raw : List ℕ) → (more : List ℕ) × ((step a raw).text ≡ a.text ++ more)
-unfolding step
-step_text a raw = step_if (goes_on a.ending) a (said a.at a.left (kept raw))
+step_text : (a : TalkState) (raw : List ℕ) → (more : List ℕ) × ((with_line a raw).text ≡ a.text ++ more)
+unfolding with_line
+step_text a raw = step_if (goes_on a.ending) a (after_line a.at a.left (kept raw))
 
-fold_text : (a : Said) (ls : List (List ℕ)) → (more : List ℕ) × ((fold step a ls).text ≡ a.text ++ more)
+fold_text : (a : TalkState) (ls : List (List ℕ)) → (more : List ℕ) × ((fold with_line a ls).text ≡ a.text ++ more)
 fold_text a [] = ([], sym (append-nil a.text))
 fold_text a (raw ∷ ls) =
     let first = step_text a raw in
-    let others = fold_text (step a raw) ls in
+    let others = fold_text (with_line a raw) ls in
     (first.0 ++ others.0, others.1 ∙ ap (λ l. l ++ others.0) first.1 ∙ append_assoc a.text first.0 others.0)
 
 -- the answers to the first lines come first
 pub talk_text : (start : EngineState) (all : Supply) (ls more : List (List ℕ)) → (bytes : List ℕ) × ((talk start all (ls ++ more)).text ≡ (talk start all ls).text ++ bytes)
-talk_text start all ls more = let f = fold_text (talk start all ls) more in (f.0, ap (λ (t : Said). t.text) (fold-append step (silence start all) ls more) ∙ f.1)
+talk_text start all ls more = let f = fold_text (talk start all ls) more in (f.0, ap (λ (t : TalkState). t.text) (fold-append with_line (talk_start start all) ls more) ∙ f.1)
 
 -- the lines of a longer text begin with the whole lines of a text
 pub lines-append : (s t : List ℕ) → (more : List (List ℕ)) × (lines (s ++ t) ≡ whole s ++ more)
@@ -124,7 +124,7 @@ through_if true e p = λ missing q. cc
 through_if false e p = λ missing q. cc
 
 pub end_complete : (start : EngineState) (all : Supply) (limit : ℕ) (o n : Told) (seen text : List ℕ) (quit : Bool) → length seen ≤ limit → Keeps start all o n seen text → (talk start all (lines seen)).text ≡ text
-    → (talk start all (lines seen)).ending ≡ ending_if quit → (talk start all (lines seen)).left ≡ nothing_left → n.to_come ≡ [] → Outcome ending.Done start all limit o n
+    → (talk start all (lines seen)).ending ≡ ending_if quit → (talk start all (lines seen)).left ≡ nothing_left → n.to_come ≡ [] → Ended ending.Done start all limit o n
 end_complete start all limit o n seen text quit few kept e ends used none =
     let s = since_keeps start all o n seen text kept in
     let same_length = ap length s in
@@ -139,24 +139,24 @@ end_complete start all limit o n seen text quit few kept e ends used none =
     }
 
 pub end_quit : (start : EngineState) (all : Supply) (limit : ℕ) (o n : Told) (seen text : List ℕ) → length seen ≤ limit → Keeps start all o n seen text → (talk_to start all seen).text ≡ text
-    → (talk_to start all seen).ending ≡ AfterQuit → (talk_to start all seen).left ≡ nothing_left → Outcome ending.Done start all limit o n
+    → (talk_to start all seen).ending ≡ AfterQuit → (talk_to start all seen).left ≡ nothing_left → Ended ending.Done start all limit o n
 end_quit start all limit o n seen text few kept e quit used =
     let s = since_keeps start all o n seen text kept in
     let same_length = ap length s in
     let same : talk start all (lines (since o n)) ≡ talk_to start all seen = ap (λ l. talk start all (lines l)) s ∙ talk_quit start all (whole seen) (unless_empty (rest seen)) quit in
-    let ends : (talk start all (lines (since o n))).ending ≡ AfterQuit = ap (λ (x : Said). x.ending) same ∙ quit in
+    let ends : (talk start all (lines (since o n))).ending ≡ AfterQuit = ap (λ (x : TalkState). x.ending) same ∙ quit in
     record {
       course = course_of start all o n seen text kept;
       ends = record {
         in_limit = omega arith;
-        given = kept.given ∙ ap (λ l. o.given ++ l) (sym e) ∙ ap (λ (x : Said). o.given ++ x.text) (sym same);
-        through = record { answered = through_if true _ ends; used = ap (λ (x : Said). x.left) same ∙ used };
+        given = kept.given ∙ ap (λ l. o.given ++ l) (sym e) ∙ ap (λ (x : TalkState). o.given ++ x.text) (sym same);
+        through = record { answered = through_if true _ ends; used = ap (λ (x : TalkState). x.left) same ∙ used };
         ended = inr ends;
       };
     }
 
 pub end_unread : (start : EngineState) (all : Supply) (limit : ℕ) (o n : Told) (seen text : List ℕ) → length seen ≤ limit → Keeps start all o n seen text → (talk_to start all seen).text ≡ text → (talk_to start all seen).ending ≡ Going
-    → (talk_to start all seen).left ≡ nothing_left → Outcome ending.ReadFault start all limit o n
+    → (talk_to start all seen).left ≡ nothing_left → Ended ending.ReadFault start all limit o n
 end_unread start all limit o n seen text few kept e going used =
     let s = since_keeps start all o n seen text kept in
     let same_length = ap length s in
@@ -167,7 +167,7 @@ end_unread start all limit o n seen text few kept e going used =
 
 -- a turn is wanted
 pub end_unarchived : (start : EngineState) (all : Supply) (limit : ℕ) (o n : Told) (seen text : List ℕ) → length seen ≤ limit → Keeps start all o n seen text → (talk start all (lines seen)).text ≡ text
-    → WantsTurn (talk start all (lines seen)) → Outcome ending.ArchiveFault start all limit o n
+    → WantsTurn (talk start all (lines seen)) → Ended ending.ArchiveFault start all limit o n
 end_unarchived start all limit o n seen text few kept e wants =
     let s = since_keeps start all o n seen text kept in
     let same_length = ap length s in
@@ -186,7 +186,7 @@ wants_lines start all seen wants = talk_stays start all (whole seen) (unless_emp
 
 -- a write broke off within the answers to a front s of what was taken
 pub end_unwritten : (start : EngineState) (all : Supply) (limit : ℕ) (o n : Told) (s t part more : List ℕ) → length (s ++ t) ≤ limit → Keeps start all o n (s ++ t) part → (talk_to start all s).text ≡ part ++ more
-    → Outcome ending.WriteFault start all limit o n
+    → Ended ending.WriteFault start all limit o n
 end_unwritten start all limit o n s t part more few kept e =
     let w = since_keeps start all o n (s ++ t) part kept in
     let same_length = ap length w in
@@ -201,7 +201,7 @@ end_unwritten start all limit o n s t part more few kept e =
     }
 
 pub end_unwritten_last : (start : EngineState) (all : Supply) (limit : ℕ) (o n : Told) (seen part more : List ℕ) → length seen ≤ limit → Keeps start all o n seen part → (talk start all (lines seen)).text ≡ part ++ more
-    → Outcome ending.WriteFault start all limit o n
+    → Ended ending.WriteFault start all limit o n
 end_unwritten_last start all limit o n seen part more few kept e =
     let w = since_keeps start all o n seen part kept in
     let same_length = ap length w in
@@ -209,7 +209,7 @@ end_unwritten_last start all limit o n seen part more few kept e =
 
 -- memory ran out at the line after the first ones
 stops_at : (start : EngineState) (all : Supply) (o n : Told) (seen text : List ℕ) (ls : List (List ℕ)) (raw : List ℕ) (others : List (List ℕ)) → Keeps start all o n seen text → lines seen ≡ ls ++ raw ∷ others → (talk start all ls).text ≡ text
-    → (talk start all ls).ending ≡ Going → (talk start all ls).left ≡ nothing_left → StopsAt start all o n (length ls)
+    → (talk start all ls).ending ≡ Going → (talk start all ls).left ≡ nothing_left → StoppedAfter start all o n (length ls)
 stops_at start all o n seen text ls raw others kept split e going used =
     let w : lines (since o n) ≡ ls ++ raw ∷ others = ap lines (since_keeps start all o n seen text kept) ∙ split in
     let front : take (length ls) (lines (since o n)) ≡ ls = ap (take (length ls)) w ∙ take-append_seam ls (raw ∷ others) in
@@ -222,7 +222,7 @@ stops_at start all o n seen text ls raw others kept split e going used =
     }
 
 pub end_unfinished : (start : EngineState) (all : Supply) (limit : ℕ) (o n : Told) (s t text : List ℕ) → length (s ++ t) ≤ limit → Keeps start all o n (s ++ t) text → (talk_to start all s).text ≡ text → (talk_to start all s).ending ≡ Going → (talk_to start all s).left ≡ nothing_left → EndsLine s t
-    → Outcome ending.Memory start all limit o n
+    → Ended ending.Memory start all limit o n
 end_unfinished start all limit o n s t text few kept e going used line =
     let same_length = ap length (since_keeps start all o n (s ++ t) text kept) in
     let split : lines (s ++ t) ≡ whole s ++ line.0 ∷ (line.1 ++ unless_empty (rest (s ++ t))) =
@@ -233,13 +233,13 @@ end_unfinished start all limit o n s t text few kept e going used line =
     }
 
 pub end_unfinished_last : (start : EngineState) (all : Supply) (limit : ℕ) (o n : Told) (seen text : List ℕ) → length seen ≤ limit → Keeps start all o n seen text → (talk_to start all seen).text ≡ text → (talk_to start all seen).ending ≡ Going → (talk_to start all seen).left ≡ nothing_left → HasLast seen
-    → Outcome ending.Memory start all limit o n
+    → Ended ending.Memory start all limit o n
 end_unfinished_last start all limit o n seen text few kept e going used line =
     let same_length = ap length (since_keeps start all o n seen text kept) in
     record { course = course_of start all o n seen text kept; ends = record { in_limit = omega arith; stops = (length (whole seen), stops_at start all o n seen text (whole seen) line.0 [] kept line.1 e going used) } }
 
 -- memory ran out before the first read
-pub end_unbegun : (start : EngineState) (limit : ℕ) (o : Told) → Outcome ending.Memory start nothing_left limit o o
+pub end_unbegun : (start : EngineState) (limit : ℕ) (o : Told) → Ended ending.Memory start nothing_left limit o o
 end_unbegun start limit o =
     let kept = keeps_nothing start nothing_left o in
     let s : since o o ≡ [] = since_keeps start nothing_left o o [] [] kept in
@@ -251,7 +251,7 @@ end_unbegun start limit o =
 
 -- one byte t more than the limit was taken
 pub end_overlong : (start : EngineState) (all : Supply) (limit : ℕ) (o n : Told) (s t text : List ℕ) → length s ≡ limit → length t ≡ 1 → Keeps start all o n (s ++ t) text → (talk_to start all s).text ≡ text → (talk_to start all s).ending ≡ Going
-    → (talk_to start all s).left ≡ nothing_left → Outcome ending.TooLong start all limit o n
+    → (talk_to start all s).left ≡ nothing_left → Ended ending.TooLong start all limit o n
 end_overlong start all limit o n s t text ls lt kept e going used =
     let w = since_keeps start all o n (s ++ t) text kept in
     let front : take limit (since o n) ≡ s = ap (take limit) w ∙ ap (λ k. take k (s ++ t)) (sym ls) ∙ take-append_seam s t in

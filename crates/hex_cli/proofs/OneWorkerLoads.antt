@@ -1,7 +1,7 @@
 -- What came of a file is settled by its fetch, so of one name the same came in both of two talks over the same files and faults.
 use Rattle.std.proofs.Common.{◌≡◌, ℕ, Bool, List, [], ◌∷◌, refl, sym, ap, ◌∙◌, subst}
 use Rattle.hex_io.specs.declared.files.File.{File}
-use Rattle.hex_io.specs.Shelves.{Fetched, Failed, Missing, Long, Held, fetched_of}
+use Rattle.hex_io.specs.Shelves.{Fetched, Failed, Missing, Long, Contents, fetched_of}
 use Rattle.hex_game.specs.Games.{GameData}
 use Rattle.sgf_tree.proofs.Verdicts.{one_collection}
 use Rattle.hex_engine.specs.Supply.{Loaded, Unread, Refused, Loads, Load}
@@ -45,7 +45,7 @@ one_load : (fetched : Fetched) (a b : Loaded) → IsLoadOf fetched a → IsLoadO
 one_load Failed a b p q = p ∙ sym q
 one_load Missing a b p q = p ∙ sym q
 one_load Long a b p q = p ∙ sym q
-one_load (Held bytes) a b p q = one_reading bytes a b p q
+one_load (Contents bytes) a b p q = one_reading bytes a b p q
 
 pub told_loads : (files : List File) (tries : List Bool) (loads others : List Load) → CameOf files tries loads → CameOf files tries others → SameLoads loads others
 told_loads files tries [] others p q = tt

@@ -28,7 +28,7 @@ use Rattle.hex_engine.specs.Supply.{Supply, Load, Loaded}
 use Rattle.hex_engine.specs.Report.{report_of, report_on, row_lines}
 use Rattle.hex_engine.specs.EngineState.{EngineState}
 use Rattle.hex_engine.specs.Uses.{AreGood, HasOneWorker, IsGoodFor}
-use Rattle.hex_engine.specs.Replies.{Reaction, Turned, Missing, Done, NoLoad, NoTurn, unused, loaded, file_named, loading_next, loading_by, is_board, is_next, turned, moving_next, moving_by, lone_colour, stays, Failed, obeyed, reaction_by, reaction}
+use Rattle.hex_engine.specs.Replies.{Reaction, Turned, Missing, Done, NoLoad, NoTurn, unused, loaded, file_named, loading_next, loading_by, is_board, is_next, turned, moving_next, moving_by, lone_colour, unchanged, Failed, obeyed, reaction_by, reaction}
 use Rattle.hex_engine.specs.declared.answers.Fail.TheVariants.{Over}
 use Rattle.hex_engine.specs.declared.commands.Command.{Command}
 use Rattle.hex_engine.specs.declared.commands.Command.TheVariants as command
@@ -153,7 +153,7 @@ moving_agree : (options : Options) (at : EngineState) (a b : Supply) (colour : O
 moving_agree options at a b None one h = (refl, h)
 moving_agree options at a b (Some colour) one h = by (may_move (board_of at.game))
   where
-    by : (x : Bool) → Agree options (cond x (moving_next at a a.turns colour) (unused a (stays at (Failed Over)))) (cond x (moving_next at b b.turns colour) (unused b (stays at (Failed Over))))
+    by : (x : Bool) → Agree options (cond x (moving_next at a a.turns colour) (unused a (unchanged at (Failed Over)))) (cond x (moving_next at b b.turns colour) (unused b (unchanged at (Failed Over))))
     by true = moves_agree options at a b a.turns b.turns colour one h.loads h.good h.other
     by false = (refl, h)
 

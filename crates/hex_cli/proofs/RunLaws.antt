@@ -7,7 +7,7 @@ use Rattle.hex_io.specs.Told.{Told, Both}
 use Rattle.hex_io.proofs.BothLaws.{Both-weaker}
 use Rattle.hex_engine.specs.EngineState.{EngineState}
 use Rattle.hex_engine.specs.Supply.{Supply}
-use Rattle.hex_cli.specs.Outcome.{Outcome, since, status_of}
+use Rattle.hex_cli.specs.Endings.{Ended, since, status_of}
 use Rattle.hex_cli.specs.declared.ends.End.{End}
 use Rattle.hex_cli.specs.declared.ends.End.TheVariants.{Done, Usage, ReadFault, WriteFault, Memory, TooLong, ArchiveFault}
 
@@ -37,7 +37,7 @@ status_counts before now end other status e c = record {
 }
 
 -- without a fault and within the limit a run of well-formed words is done, or memory ran out
-pub complete_at : (end : End) (start : EngineState) (all : Supply) (limit : ℕ) (a b : Option Told) → Both a b (Outcome end start all limit) → end ≢ Usage → end ≢ ReadFault → end ≢ WriteFault → end ≢ ArchiveFault
+pub complete_at : (end : End) (start : EngineState) (all : Supply) (limit : ℕ) (a b : Option Told) → Both a b (Ended end start all limit) → end ≢ Usage → end ≢ ReadFault → end ≢ WriteFault → end ≢ ArchiveFault
     → Both a b (λ o n. length (since o n) ≤ limit → (status_of end ≡ 0) ⊎ (status_of end ≡ 5))
 complete_at Done start all limit a b told u r w v = Both-weaker a b _ _ (λ o n p few. inl refl) told
 complete_at Usage start all limit a b told u r w v = absurd (u refl)
@@ -52,7 +52,7 @@ since-refl : (o : Told) → since o o ≡ []
 since-refl o = ap (drop (length o.taken)) (sym (append-nil o.taken)) ∙ drop-append_seam o.taken []
 
 -- too long is the end exactly where one byte more than the limit was taken
-too_long_at : (end : End) (start : EngineState) (all : Supply) (limit : ℕ) (o n : Told) → Outcome end start all limit o n → (status_of end ≡ 6) ↔ (length (since o n) ≡ limit + 1)
+too_long_at : (end : End) (start : EngineState) (all : Supply) (limit : ℕ) (o n : Told) → Ended end start all limit o n → (status_of end ≡ 6) ↔ (length (since o n) ≡ limit + 1)
 too_long_at Done start all limit o n p = (λ e. absurd (omega (arith, e)), λ e. absurd (omega (arith, p.ends.in_limit, e)))
 too_long_at Usage start all limit o n p =
     let same : length (since o n) ≡ 0 = ap (λ x. length (since o x)) p.ends ∙ ap length (since-refl o) in
@@ -63,5 +63,5 @@ too_long_at Memory start all limit o n p = (λ e. absurd (omega (arith, e)), λ 
 too_long_at ArchiveFault start all limit o n p = (λ e. absurd (omega (arith, e)), λ e. absurd (omega (arith, p.ends.in_limit, e)))
 too_long_at TooLong start all limit o n p = (λ e. p.ends.many, λ e. refl)
 
-pub too_long_exactly : (end : End) (start : EngineState) (all : Supply) (limit : ℕ) (a b : Option Told) → Both a b (Outcome end start all limit) → Both a b (λ o n. (status_of end ≡ 6) ↔ (length (since o n) ≡ limit + 1))
+pub too_long_exactly : (end : End) (start : EngineState) (all : Supply) (limit : ℕ) (a b : Option Told) → Both a b (Ended end start all limit) → Both a b (λ o n. (status_of end ≡ 6) ↔ (length (since o n) ≡ limit + 1))
 too_long_exactly end start all limit a b told = Both-weaker a b _ _ (λ o n p. too_long_at end start all limit o n p) told

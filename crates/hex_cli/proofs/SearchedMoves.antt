@@ -17,8 +17,8 @@ use Rattle.hex_engine.specs.EngineState.{EngineState, opening}
 use Rattle.hex_engine.specs.Supply.{Supply}
 use Rattle.hex_engine.specs.Uses.{AreGood, IsGoodFor}
 use Rattle.hex_engine.specs.Replies.{Turned, Missing, Reply, is_next, turned, reaction}
-use Rattle.hex_cli.specs.Talk.{Said, goes_on, reply_text, said_turned, said_reading, said, with_said, step, silence, talk}
-use Rattle.hex_cli.specs.Outcome.{Conversed}
+use Rattle.hex_cli.specs.Talk.{TalkState, goes_on, reply_text, after_reaction, after_reading, after_line, followed_by, with_line, talk_start, talk}
+use Rattle.hex_cli.specs.Endings.{Conversed}
 use Rattle.hex_cli.specs.Headline.{IsSearchedMove, AreSearchedMoves, Headline}
 use Rattle.hex_cli.specs.declared.ends.End.TheVariants as ending
 use Rattle.hex_cli.proofs.LegalMoves.{next_is_legal}
@@ -28,7 +28,7 @@ use Rattle.hex_cli.proofs.SupplyLaws.{step_keeps}
 -- ---- a line
 
 -- what was said to a line that took the next turn
-record SaysTurn (at : EngineState) (left : Supply) (s : Said) : Type 0 where
+record SaysTurn (at : EngineState) (left : Supply) (s : TalkState) : Type 0 where
   turn : Decision
   colour : Colour
   was : left.turns ≡ turn ∷ s.left.turns
@@ -36,10 +36,10 @@ record SaysTurn (at : EngineState) (left : Supply) (s : Said) : Type 0 where
   after : s.at ≡ (turned at colour turn).after
   written : (id : Option ℕ) × (s.text ≡ success id (vertex_of (board_of at.game).size turn.cell))
 
-abbrev MaySayTurn : EngineState → Supply → Said → Type 0
+abbrev MaySayTurn : EngineState → Supply → TalkState → Type 0
 MaySayTurn at left s = ((s.left.turns ≡ left.turns) × (s.at.turns ≡ at.turns)) ⊎ SaysTurn at left s
 
-turned_says : (at : EngineState) (left : Supply) (id : Option ℕ) (r : Result Turned Missing) → MayTakeTurn at left r → MaySayTurn at left (said_turned at left id r)
+turned_says : (at : EngineState) (left : Supply) (id : Option ℕ) (r : Result Turned Missing) → MayTakeTurn at left r → MaySayTurn at left (after_reaction at left id r)
 turned_says at left id (Err missing) h = inl (refl, refl)
 turned_says at left id (Ok t) h = ⊎_elim
     (λ (same : (t.left.turns ≡ left.turns) × (t.after.turns ≡ at.turns)). inl same)
@@ -52,12 +52,12 @@ turned_says at left id (Ok t) h = ⊎_elim
       written = (id, ap (reply_text id) took.reply);
     })) h
 
-reading_says : (at : EngineState) (left : Supply) (line : Reading) → MaySayTurn at left (said_reading at left line)
+reading_says : (at : EngineState) (left : Supply) (line : Reading) → MaySayTurn at left (after_reading at left line)
 reading_says at left Blank = inl (refl, refl)
 reading_says at left (Bare id) = inl (refl, refl)
 reading_says at left (Ask asked) = turned_says at left asked.id (reaction at left asked) (reaction_takes at left asked)
 
-said_says : (at : EngineState) (left : Supply) (line : Option (List ℕ)) → MaySayTurn at left (said at left line)
+said_says : (at : EngineState) (left : Supply) (line : Option (List ℕ)) → MaySayTurn at left (after_line at left line)
 said_says at left None = inl (refl, refl)
 said_says at left (Some raw) = reading_says at left (reading raw)
 
@@ -71,17 +71,17 @@ dropped (y ∷ ys) zero x others e = (cc, cc)
 dropped (y ∷ ys) (suc n) x others e = dropped ys n x others e
 
 -- the turns that are left are those after the turns that were taken, and they are good for the options
-record Holds (options : Options) (turns : List Decision) (s : Said) : Type 0 where
+record Holds (options : Options) (turns : List Decision) (s : TalkState) : Type 0 where
   good : AreGood options s.left.turns
   place : drop s.at.turns turns ≡ s.left.turns
   same : s.at.options ≡ options
 
 -- one line more
-record Goes (options : Options) (turns : List Decision) (before after : Said) : Type 0 where
+record Goes (options : Options) (turns : List Decision) (before after : TalkState) : Type 0 where
   holds : Holds options turns after
   searched : after.at.turns ≢ before.at.turns → IsSearchedMove options turns before after
 
-stands_still : (options : Options) (turns : List Decision) (before after : Said) → Holds options turns before → after.at.options ≡ before.at.options → after.left.turns ≡ before.left.turns → after.at.turns ≡ before.at.turns
+stands_still : (options : Options) (turns : List Decision) (before after : TalkState) → Holds options turns before → after.at.options ≡ before.at.options → after.left.turns ≡ before.left.turns → after.at.turns ≡ before.at.turns
     → Goes options turns before after
 stands_still options turns before after h o l t = record {
   holds = record {
@@ -92,7 +92,7 @@ stands_still options turns before after h o l t = record {
   searched = λ moved. absurd (moved t);
 }
 
-takes_turn : (options : Options) (turns : List Decision) (before : Said) (s : Said) → Holds options turns before → s.at.options ≡ before.at.options → SaysTurn before.at before.left s → Goes options turns before (with_said before s)
+takes_turn : (options : Options) (turns : List Decision) (before : TalkState) (s : TalkState) → Holds options turns before → s.at.options ≡ before.at.options → SaysTurn before.at before.left s → Goes options turns before (followed_by before s)
 takes_turn options turns before s h o took =
     let good : AreGood options (took.turn ∷ s.left.turns) = subst (AreGood options) took.was h.good in
     let at = dropped turns before.at.turns took.turn s.left.turns (h.place ∙ took.was) in
@@ -110,32 +110,32 @@ takes_turn options turns before s h o took =
       };
     }
 
-step_goes_if : (b : Bool) (options : Options) (turns : List Decision) (a : Said) (line : Option (List ℕ)) → Holds options turns a → (cond b (with_said a (said a.at a.left line)) a).at.options ≡ a.at.options
-    → Goes options turns a (cond b (with_said a (said a.at a.left line)) a)
+step_goes_if : (b : Bool) (options : Options) (turns : List Decision) (a : TalkState) (line : Option (List ℕ)) → Holds options turns a → (cond b (followed_by a (after_line a.at a.left line)) a).at.options ≡ a.at.options
+    → Goes options turns a (cond b (followed_by a (after_line a.at a.left line)) a)
 step_goes_if false options turns a line h o = stands_still options turns a a h refl refl refl
 step_goes_if true options turns a line h o = ⊎_elim
-    (λ (same : ((said a.at a.left line).left.turns ≡ a.left.turns) × ((said a.at a.left line).at.turns ≡ a.at.turns)). stands_still options turns a (with_said a (said a.at a.left line)) h o same.0 same.1)
-    (λ (took : SaysTurn a.at a.left (said a.at a.left line)). takes_turn options turns a (said a.at a.left line) h o took)
+    (λ (same : ((after_line a.at a.left line).left.turns ≡ a.left.turns) × ((after_line a.at a.left line).at.turns ≡ a.at.turns)). stands_still options turns a (followed_by a (after_line a.at a.left line)) h o same.0 same.1)
+    (λ (took : SaysTurn a.at a.left (after_line a.at a.left line)). takes_turn options turns a (after_line a.at a.left line) h o took)
     (said_says a.at a.left line)
 
-step_goes : (options : Options) (turns : List Decision) (a : Said) (raw : List ℕ) → Holds options turns a → (step a raw).at.options ≡ a.at.options → Goes options turns a (step a raw)
-unfolding step
+step_goes : (options : Options) (turns : List Decision) (a : TalkState) (raw : List ℕ) → Holds options turns a → (with_line a raw).at.options ≡ a.at.options → Goes options turns a (with_line a raw)
+unfolding with_line
 step_goes options turns a raw h o = step_goes_if (goes_on a.ending) options turns a (kept raw) h o
 
 -- ---- a talk
 
-fold_holds : (options : Options) (turns : List Decision) (a : Said) (lines : List (List ℕ)) → Holds options turns a → Holds options turns (fold step a lines)
+fold_holds : (options : Options) (turns : List Decision) (a : TalkState) (lines : List (List ℕ)) → Holds options turns a → Holds options turns (fold with_line a lines)
 fold_holds options turns a [] h = h
-fold_holds options turns a (raw ∷ lines) h = fold_holds options turns (step a raw) lines (step_goes options turns a raw h (step_keeps a raw)).holds
+fold_holds options turns a (raw ∷ lines) h = fold_holds options turns (with_line a raw) lines (step_goes options turns a raw h (step_keeps a raw)).holds
 
 are_searched : (start : EngineState) (all : Supply) (lines : List (List ℕ)) → AreGood start.options all.turns → start.turns ≡ 0 → AreSearchedMoves start all lines
 are_searched start all lines good none before raw others split moved =
-    let first : Holds start.options all.turns (silence start all) = record { good = good; place = ap (λ n. drop n all.turns) none; same = refl } in
-    let here : Said = talk start all before in
-    let holds : Holds start.options all.turns here = fold_holds start.options all.turns (silence start all) before first in
-    let more : talk start all (before ++ raw ∷ []) ≡ step here raw = fold_push step (silence start all) before raw in
+    let first : Holds start.options all.turns (talk_start start all) = record { good = good; place = ap (λ n. drop n all.turns) none; same = refl } in
+    let here : TalkState = talk start all before in
+    let holds : Holds start.options all.turns here = fold_holds start.options all.turns (talk_start start all) before first in
+    let more : talk start all (before ++ raw ∷ []) ≡ with_line here raw = fold_push with_line (talk_start start all) before raw in
     let goes = step_goes start.options all.turns here raw holds (step_keeps here raw) in
-    subst (IsSearchedMove start.options all.turns here) (sym more) (goes.searched (subst (λ (s : Said). s.at.turns ≢ here.at.turns) more moved))
+    subst (IsSearchedMove start.options all.turns here) (sym more) (goes.searched (subst (λ (s : TalkState). s.at.turns ≢ here.at.turns) more moved))
 
 pub headline_at : (options : Options) (size limit : ℕ) (a b : Option Shelved) (c d : Option (List Decision)) (x y : Option Told) → Conversed ending.Done options size limit (a, c) (b, d) x y
     → Both c d (λ s t. Both x y (λ o n. Headline options size s t o n))

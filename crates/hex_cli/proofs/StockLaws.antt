@@ -8,8 +8,8 @@ use Rattle.hex_plan.specs.Turns.{Decision}
 use Rattle.htp_line.specs.Splitting.{Held}
 use Rattle.hex_engine.specs.EngineState.{EngineState}
 use Rattle.hex_engine.specs.Supply.{Supply, Load, nothing_left, and_then}
-use Rattle.hex_engine.specs.Uses.{CameOf, Fetches, AreGood}
-use Rattle.hex_cli.specs.Stocks.{Stock, UsesUp}
+use Rattle.hex_engine.specs.Uses.{CameOf, FetchesLoads, AreGood}
+use Rattle.hex_cli.specs.Stocks.{ShelfAndArchive, UsesUp}
 use Rattle.hex_cli.specs.Sessions.{Stands, Does}
 
 -- ---- what is left
@@ -28,7 +28,7 @@ came_then files [] t (load ∷ loads) l c d = absurd c
 came_then files (failed ∷ tries) t [] l c d = absurd c
 came_then files (failed ∷ tries) t (load ∷ loads) l c d = (c.0, came_then files tries t loads l c.1 d)
 
-fetches_then : (x y z : Shelved) (k l : List Load) (in_vain : List Bool) → Fetches x y k [] → Fetches y z l in_vain → Fetches x z (k ++ l) in_vain
+fetches_then : (x y z : Shelved) (k l : List Load) (in_vain : List Bool) → FetchesLoads x y k [] → FetchesLoads y z l in_vain → FetchesLoads x z (k ++ l) in_vain
 fetches_then x y z k l in_vain p q =
     let first : y ≡ record x { tries = x.tries ++ p.tries } = p.tried ∙ ap (λ t. record x { tries = x.tries ++ t }) (append-nil p.tries) in
     let came : CameOf x.files q.tries l = subst (λ (s : Shelved). CameOf s.files q.tries l) first q.came in
@@ -45,7 +45,7 @@ good_then : (options : Options) (s t : List Decision) → AreGood options s → 
 good_then options [] t p q = q
 good_then options (turn ∷ turns) t p q = (p.0, good_then options turns t p.1 q)
 
-pub uses_then : (options : Options) (a b c : Stock) (u v : Supply) (in_vain : List Bool) → UsesUp options a b u [] → UsesUp options b c v in_vain → UsesUp options a c (and_then u v) in_vain
+pub uses_then : (options : Options) (a b c : ShelfAndArchive) (u v : Supply) (in_vain : List Bool) → UsesUp options a b u [] → UsesUp options b c v in_vain → UsesUp options a c (and_then u v) in_vain
 uses_then options a b c u v in_vain p q = record {
   loading = Both-then a.0 b.0 c.0 _ _ _ (λ x y z s t. fetches_then x y z u.loads v.loads in_vain s t) p.loading q.loading;
   moving = record {
@@ -54,9 +54,9 @@ uses_then options a b c u v in_vain p q = record {
   };
 }
 
-pub uses_nothing : (options : Options) (a : Stock) → UsesUp options a a nothing_left []
+pub uses_nothing : (options : Options) (a : ShelfAndArchive) → UsesUp options a a nothing_left []
 uses_nothing options a = record {
-  loading = Both-refl a.0 (λ x y. Fetches x y [] []) (λ x. record { tries = []; tried = let e = append-nil x.tries in rw e refl; came = tt });
+  loading = Both-refl a.0 (λ x y. FetchesLoads x y [] []) (λ x. record { tries = []; tried = let e = append-nil x.tries in rw e refl; came = tt });
   moving = record { took = Both-refl a.1 (λ x y. y ≡ x ++ []) (λ x. sym (append-nil x)); good = tt };
 }
 
@@ -66,7 +66,7 @@ abbrev pub After : Type 1
 After = EngineState → Supply → Supply → List ℕ → Type 0
 
 -- a call that did something more and a call after it, where the text m was taken by the first
-pub does_then : (a b c : Stock) (in_vain : List Bool) (engine after : EngineState) (held then : Held) (m : List ℕ) (T S R : After)
+pub does_then : (a b c : ShelfAndArchive) (in_vain : List Bool) (engine after : EngineState) (held then : Held) (m : List ℕ) (T S R : After)
     → ((start : EngineState) (all later : Supply) (seen : List ℕ) → T start all later seen → Stands start all later after then (seen ++ m))
     → ((start : EngineState) (all mid later : Supply) (seen : List ℕ) → T start all mid seen → S start all later (seen ++ m) → R start all later seen)
     → Does a b [] engine held T → Does b c in_vain after then S → Does a c in_vain engine held R
@@ -81,7 +81,7 @@ does_then a b c in_vain engine after held then m T S R stands go p q = record {
 }
 
 -- what holds then follows from what held
-pub does_weaker : (a b : Stock) (in_vain : List Bool) (engine : EngineState) (held : Held) (T S : After)
+pub does_weaker : (a b : ShelfAndArchive) (in_vain : List Bool) (engine : EngineState) (held : Held) (T S : After)
     → ((start : EngineState) (all later : Supply) (seen : List ℕ) → T start all later seen → S start all later seen) → Does a b in_vain engine held T → Does a b in_vain engine held S
 does_weaker a b in_vain engine held T S go p = record {
   used = p.used;
@@ -89,7 +89,7 @@ does_weaker a b in_vain engine held T S go p = record {
 }
 
 -- a call that used nothing up
-pub does_nothing : (a : Stock) (engine : EngineState) (held : Held) (T : After)
+pub does_nothing : (a : ShelfAndArchive) (engine : EngineState) (held : Held) (T : After)
     → ((start : EngineState) (all later : Supply) (seen : List ℕ) → Stands start all later engine held seen → T start all later seen) → Does a a [] engine held T
 does_nothing a engine held T go = record {
   used = nothing_left;

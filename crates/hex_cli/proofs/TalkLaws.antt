@@ -10,25 +10,25 @@ use Rattle.htp_line.specs.declared.splitter.What.TheVariants.{More}
 use Rattle.hex_engine.specs.EngineState.{EngineState}
 use Rattle.hex_engine.specs.Supply.{Supply, nothing_left}
 use Rattle.hex_engine.specs.Replies.{NoTurn}
-use Rattle.hex_cli.specs.Talk.{Said, Going, AfterQuit, Short, ending_if, goes_on, said, with_said, step, silence, talk}
+use Rattle.hex_cli.specs.Talk.{TalkState, Going, AfterQuit, Short, ending_if, goes_on, after_line, followed_by, with_line, talk_start, talk}
 use Rattle.hex_cli.specs.Sessions.{talk_to, Stands, Moves, EndsLine, Advanced, AnswersShort, AnswersLast, HasLast, LastIsShort}
 
-step-going : (so_far : Said) (raw : List ℕ) → so_far.ending ≡ Going → step so_far raw ≡ with_said so_far (said so_far.at so_far.left (kept raw))
-unfolding step
+step-going : (so_far : TalkState) (raw : List ℕ) → so_far.ending ≡ Going → with_line so_far raw ≡ followed_by so_far (after_line so_far.at so_far.left (kept raw))
+unfolding with_line
 step-going so_far raw e = rw e refl
 
-pub step-stays : (so_far : Said) (raw : List ℕ) → goes_on so_far.ending ≡ false → step so_far raw ≡ so_far
-unfolding step
+pub step-stays : (so_far : TalkState) (raw : List ℕ) → goes_on so_far.ending ≡ false → with_line so_far raw ≡ so_far
+unfolding with_line
 step-stays so_far raw e = rw e refl
 
 -- one more line while the talk goes on
 pub talk_more : (start : EngineState) (all : Supply) (ls : List (List ℕ)) (raw : List ℕ) → (talk start all ls).ending ≡ Going
-    → talk start all (ls ++ raw ∷ []) ≡ with_said (talk start all ls) (said (talk start all ls).at (talk start all ls).left (kept raw))
-talk_more start all ls raw e = fold_push step (silence start all) ls raw ∙ step-going (talk start all ls) raw e
+    → talk start all (ls ++ raw ∷ []) ≡ followed_by (talk start all ls) (after_line (talk start all ls).at (talk start all ls).left (kept raw))
+talk_more start all ls raw e = fold_push with_line (talk_start start all) ls raw ∙ step-going (talk start all ls) raw e
 
 -- lines after the end of a talk change nothing
 pub talk_stays : (start : EngineState) (all : Supply) (ls more : List (List ℕ)) → goes_on (talk start all ls).ending ≡ false → talk start all (ls ++ more) ≡ talk start all ls
-talk_stays start all ls more e = fold-append step (silence start all) ls more ∙ fold_stays step (talk start all ls) (λ raw. step-stays (talk start all ls) raw e) more
+talk_stays start all ls more e = fold-append with_line (talk_start start all) ls more ∙ fold_stays with_line (talk start all ls) (λ raw. step-stays (talk start all ls) raw e) more
 
 pub talk_quit : (start : EngineState) (all : Supply) (ls more : List (List ℕ)) → (talk start all ls).ending ≡ AfterQuit → talk start all (ls ++ more) ≡ talk start all ls
 talk_quit start all ls more e = talk_stays start all ls more (ap goes_on e)
@@ -40,21 +40,21 @@ pub talk_to_quit : (start : EngineState) (all : Supply) (s t : List ℕ) → (ta
 talk_to_quit start all s t e = let w = whole-append s t in ap (talk start all) w.1 ∙ talk_quit start all (whole s) w.0 e
 
 -- before any byte nothing is said
-pub talk_to-nil : (start : EngineState) (all : Supply) → talk_to start all [] ≡ silence start all
+pub talk_to-nil : (start : EngineState) (all : Supply) → talk_to start all [] ≡ talk_start start all
 unfolding whole
 talk_to-nil start all = refl
 
 -- the last of these lines is what is kept of it
 said_last : (start : EngineState) (all left : Supply) (engine : EngineState) (ls seen : List (List ℕ)) (line : Option (List ℕ)) → engine ≡ (talk start all seen).at → left ≡ (talk start all seen).left → (talk start all seen).ending ≡ Going
-    → Ends true line seen ls → talk start all ls ≡ with_said (talk start all seen) (said engine left line)
+    → Ends true line seen ls → talk start all ls ≡ followed_by (talk start all seen) (after_line engine left line)
 said_last start all left engine ls seen line at same_left going ended =
-    let same : said (talk start all seen).at (talk start all seen).left (kept ended.0) ≡ said engine left line =
-    ap (λ a. said a (talk start all seen).left (kept ended.0)) (sym at) ∙ ap (λ l. said engine l (kept ended.0)) (sym same_left) ∙ ap (said engine left) (sym ended.2) in
-    ap (talk start all) ended.1 ∙ talk_more start all seen ended.0 going ∙ ap (with_said (talk start all seen)) same
+    let same : after_line (talk start all seen).at (talk start all seen).left (kept ended.0) ≡ after_line engine left line =
+    ap (λ a. after_line a (talk start all seen).left (kept ended.0)) (sym at) ∙ ap (λ l. after_line engine l (kept ended.0)) (sym same_left) ∙ ap (after_line engine left) (sym ended.2) in
+    ap (talk start all) ended.1 ∙ talk_more start all seen ended.0 going ∙ ap (followed_by (talk start all seen)) same
 
 -- one line ended, and this answers it
 pub line_said : (start : EngineState) (all left : Supply) (engine : EngineState) (held new : Held) (seen front : List ℕ) → Stands start all left engine held seen → Advances new seen front → new.ended ≡ true
-    → talk_to start all (seen ++ front) ≡ with_said (talk_to start all seen) (said engine left new.line)
+    → talk_to start all (seen ++ front) ≡ followed_by (talk_to start all seen) (after_line engine left new.line)
 line_said start all left engine held new seen front stands adv e =
     said_last start all left engine (whole (seen ++ front)) (whole seen) new.line stands.at stands.left stands.going (subst (λ b. Ends b new.line (whole seen) (whole (seen ++ front))) e adv.ended)
 
@@ -71,13 +71,13 @@ moves_by false start all later engine new seen at left ending stands = record { 
 
 -- what a line that ended answers
 pub line_advanced : (start : EngineState) (all left later : Supply) (engine after : EngineState) (held new : Held) (seen front out : List ℕ) (quit : Bool) → Stands start all left engine held seen → Advances new seen front → new.ended ≡ true
-    → said engine left new.line ≡ record { text = out; at = after; left = later; ending = ending_if quit } → Advanced quit start all later after new out seen front
+    → after_line engine left new.line ≡ record { text = out; at = after; left = later; ending = ending_if quit } → Advanced quit start all later after new out seen front
 line_advanced start all left later engine after held new seen front out quit stands adv e says =
-    let eq : talk_to start all (seen ++ front) ≡ with_said (talk_to start all seen) (record { text = out; at = after; left = later; ending = ending_if quit }) =
-    line_said start all left engine held new seen front stands adv e ∙ ap (with_said (talk_to start all seen)) says in
+    let eq : talk_to start all (seen ++ front) ≡ followed_by (talk_to start all seen) (record { text = out; at = after; left = later; ending = ending_if quit }) =
+    line_said start all left engine held new seen front stands adv e ∙ ap (followed_by (talk_to start all seen)) says in
     record {
-      answers = ap (λ (s : Said). s.text) eq;
-      moved = moves_by quit start all later after new (seen ++ front) (sym (ap (λ (s : Said). s.at) eq)) (sym (ap (λ (s : Said). s.left) eq)) (ap (λ (s : Said). s.ending) eq) adv.stands;
+      answers = ap (λ (s : TalkState). s.text) eq;
+      moved = moves_by quit start all later after new (seen ++ front) (sym (ap (λ (s : TalkState). s.at) eq)) (sym (ap (λ (s : TalkState). s.left) eq)) (ap (λ (s : TalkState). s.ending) eq) adv.stands;
     }
 
 -- where no line ended nothing is said
@@ -86,26 +86,26 @@ pub none_advanced : (start : EngineState) (all later : Supply) (engine : EngineS
 none_advanced start all later engine held new seen front out stands adv e none =
     let eq = no_line start all new seen front adv e in
     record {
-      answers = ap (λ (s : Said). s.text) eq ∙ sym (append-nil (talk_to start all seen).text) ∙ ap (λ l. (talk_to start all seen).text ++ l) (sym none);
+      answers = ap (λ (s : TalkState). s.text) eq ∙ sym (append-nil (talk_to start all seen).text) ∙ ap (λ l. (talk_to start all seen).text ++ l) (sym none);
       moved = record {
-        at = stands.at ∙ sym (ap (λ (s : Said). s.at) eq);
-        left = stands.left ∙ sym (ap (λ (s : Said). s.left) eq);
-        going = ap (λ (s : Said). s.ending) eq ∙ stands.going;
+        at = stands.at ∙ sym (ap (λ (s : TalkState). s.at) eq);
+        left = stands.left ∙ sym (ap (λ (s : TalkState). s.left) eq);
+        going = ap (λ (s : TalkState). s.ending) eq ∙ stands.going;
         in_hand = adv.stands;
       };
     }
 
 -- a line that ended wants a turn
 pub line_short : (start : EngineState) (all later : Supply) (engine : EngineState) (held new : Held) (seen front others : List ℕ) → Stands start all later engine held seen → Advances new seen front → new.ended ≡ true
-    → said engine nothing_left new.line ≡ record { text = []; at = engine; left = nothing_left; ending = Short NoTurn } → AnswersShort start all later [] seen (front ++ others)
+    → after_line engine nothing_left new.line ≡ record { text = []; at = engine; left = nothing_left; ending = Short NoTurn } → AnswersShort start all later [] seen (front ++ others)
 line_short start all later engine held new seen front others stands adv e says none =
-    let here : said engine later new.line ≡ record { text = []; at = engine; left = nothing_left; ending = Short NoTurn } = ap (λ l. said engine l new.line) none ∙ says in
-    let eq : talk_to start all (seen ++ front) ≡ with_said (talk_to start all seen) (record { text = []; at = engine; left = nothing_left; ending = Short NoTurn }) =
-    line_said start all later engine held new seen front stands adv e ∙ ap (with_said (talk_to start all seen)) here in
+    let here : after_line engine later new.line ≡ record { text = []; at = engine; left = nothing_left; ending = Short NoTurn } = ap (λ l. after_line engine l new.line) none ∙ says in
+    let eq : talk_to start all (seen ++ front) ≡ followed_by (talk_to start all seen) (record { text = []; at = engine; left = nothing_left; ending = Short NoTurn }) =
+    line_said start all later engine held new seen front stands adv e ∙ ap (followed_by (talk_to start all seen)) here in
     let same : talk_to start all (seen ++ (front ++ others)) ≡ talk_to start all (seen ++ front) =
-    ap (talk_to start all) (sym (append_assoc seen front others)) ∙ talk_to_stays start all (seen ++ front) others (ap (λ (s : Said). goes_on s.ending) eq) in (
-      ap (λ (s : Said). s.text) (same ∙ eq),
-      record { ending = ap (λ (s : Said). s.ending) (same ∙ eq); left = ap (λ (s : Said). s.left) (same ∙ eq) },
+    ap (talk_to start all) (sym (append_assoc seen front others)) ∙ talk_to_stays start all (seen ++ front) others (ap (λ (s : TalkState). goes_on s.ending) eq) in (
+      ap (λ (s : TalkState). s.text) (same ∙ eq),
+      record { ending = ap (λ (s : TalkState). s.ending) (same ∙ eq); left = ap (λ (s : TalkState). s.left) (same ∙ eq) },
     )
 
 -- a line ended within more bytes
@@ -120,16 +120,16 @@ line_ends new seen front others adv e =
 
 -- the last line, which no line feed ends
 pub last_said : (start : EngineState) (all left : Supply) (engine : EngineState) (held new : Held) (seen : List ℕ) → Stands start all left engine held seen → Ends new.ended new.line (whole seen) (lines seen) → new.ended ≡ true
-    → talk start all (lines seen) ≡ with_said (talk_to start all seen) (said engine left new.line)
+    → talk start all (lines seen) ≡ followed_by (talk_to start all seen) (after_line engine left new.line)
 last_said start all left engine held new seen stands ends e =
     said_last start all left engine (lines seen) (whole seen) new.line stands.at stands.left stands.going (subst (λ b. Ends b new.line (whole seen) (lines seen)) e ends)
 
 pub last_answers : (start : EngineState) (all left later : Supply) (engine after : EngineState) (held new : Held) (seen out : List ℕ) (quit : Bool) → Stands start all left engine held seen → Ends new.ended new.line (whole seen) (lines seen) → new.ended ≡ true
-    → said engine left new.line ≡ record { text = out; at = after; left = later; ending = ending_if quit } → AnswersLast start all later out seen
+    → after_line engine left new.line ≡ record { text = out; at = after; left = later; ending = ending_if quit } → AnswersLast start all later out seen
 last_answers start all left later engine after held new seen out quit stands ends e says =
-    let eq : talk start all (lines seen) ≡ with_said (talk_to start all seen) (record { text = out; at = after; left = later; ending = ending_if quit }) =
-    last_said start all left engine held new seen stands ends e ∙ ap (with_said (talk_to start all seen)) says in
-    record { answers = ap (λ (s : Said). s.text) eq; ended = (quit, ap (λ (s : Said). s.ending) eq); left = sym (ap (λ (s : Said). s.left) eq) }
+    let eq : talk start all (lines seen) ≡ followed_by (talk_to start all seen) (record { text = out; at = after; left = later; ending = ending_if quit }) =
+    last_said start all left engine held new seen stands ends e ∙ ap (followed_by (talk_to start all seen)) says in
+    record { answers = ap (λ (s : TalkState). s.text) eq; ended = (quit, ap (λ (s : TalkState). s.ending) eq); left = sym (ap (λ (s : TalkState). s.left) eq) }
 
 -- there is no last line
 pub last_none : (start : EngineState) (all later : Supply) (engine : EngineState) (held new : Held) (seen out : List ℕ) → Stands start all later engine held seen → Ends new.ended new.line (whole seen) (lines seen) → new.ended ≡ false → out ≡ []
@@ -138,19 +138,19 @@ last_none start all later engine held new seen out stands ends e none =
     let ended : Ends false new.line (whole seen) (lines seen) = subst (λ b. Ends b new.line (whole seen) (lines seen)) e ends in
     let eq : talk start all (lines seen) ≡ talk_to start all seen = ap (talk start all) ended in
     record {
-      answers = ap (λ (s : Said). s.text) eq ∙ sym (append-nil (talk_to start all seen).text) ∙ ap (λ l. (talk_to start all seen).text ++ l) (sym none);
-      ended = (false, ap (λ (s : Said). s.ending) eq ∙ stands.going);
-      left = stands.left ∙ sym (ap (λ (s : Said). s.left) eq);
+      answers = ap (λ (s : TalkState). s.text) eq ∙ sym (append-nil (talk_to start all seen).text) ∙ ap (λ l. (talk_to start all seen).text ++ l) (sym none);
+      ended = (false, ap (λ (s : TalkState). s.ending) eq ∙ stands.going);
+      left = stands.left ∙ sym (ap (λ (s : TalkState). s.left) eq);
     }
 
 pub last_short : (start : EngineState) (all later : Supply) (engine : EngineState) (held new : Held) (seen : List ℕ) → Stands start all later engine held seen → Ends new.ended new.line (whole seen) (lines seen) → new.ended ≡ true
-    → said engine nothing_left new.line ≡ record { text = []; at = engine; left = nothing_left; ending = Short NoTurn } → LastIsShort start all later seen
+    → after_line engine nothing_left new.line ≡ record { text = []; at = engine; left = nothing_left; ending = Short NoTurn } → LastIsShort start all later seen
 last_short start all later engine held new seen stands ends e says none =
-    let here : said engine later new.line ≡ record { text = []; at = engine; left = nothing_left; ending = Short NoTurn } = ap (λ l. said engine l new.line) none ∙ says in
-    let eq : talk start all (lines seen) ≡ with_said (talk_to start all seen) (record { text = []; at = engine; left = nothing_left; ending = Short NoTurn }) =
-    last_said start all later engine held new seen stands ends e ∙ ap (with_said (talk_to start all seen)) here in (
-      ap (λ (s : Said). s.text) eq ∙ append-nil (talk_to start all seen).text,
-      record { ending = ap (λ (s : Said). s.ending) eq; left = ap (λ (s : Said). s.left) eq },
+    let here : after_line engine later new.line ≡ record { text = []; at = engine; left = nothing_left; ending = Short NoTurn } = ap (λ l. after_line engine l new.line) none ∙ says in
+    let eq : talk start all (lines seen) ≡ followed_by (talk_to start all seen) (record { text = []; at = engine; left = nothing_left; ending = Short NoTurn }) =
+    last_said start all later engine held new seen stands ends e ∙ ap (followed_by (talk_to start all seen)) here in (
+      ap (λ (s : TalkState). s.text) eq ∙ append-nil (talk_to start all seen).text,
+      record { ending = ap (λ (s : TalkState). s.ending) eq; left = ap (λ (s : TalkState). s.left) eq },
     )
 
 pub last_ends : (new : Held) (seen : List ℕ) → Ends new.ended new.line (whole seen) (lines seen) → new.ended ≡ true → HasLast seen

@@ -1,4 +1,5 @@
--- With one worker what a run gives is determined by its words, the bytes that it took and its shelf.
+-- With one worker what a run gives is determined by its words, the bytes that it took and its
+-- shelf.
 use Rattle.std.specs.Prelude.{◌≡◌, ℕ, Bool, List, ◌++◌}
 use Rattle.hex_io.specs.Told.{Told}
 use Rattle.hex_io.specs.Shelves.{Shelved}
@@ -8,11 +9,13 @@ use Rattle.hex_engine.specs.EngineState.{opening}
 use Rattle.hex_engine.specs.Supply.{Supply}
 use Rattle.hex_engine.specs.Uses.{AreGood, CameOf, HasOneWorker}
 use Rattle.hex_cli.specs.Talk.{IsThrough, talk}
-use Rattle.hex_cli.specs.Outcome.{since}
+use Rattle.hex_cli.specs.Endings.{since}
 
--- With one worker, what was given is the text of every talk over the lines taken that is through, whose loads came of these
--- fetches and whose turns are good: there is one such text.
+-- With one worker, what was given is the text of every talk over the lines taken that is through,
+-- whose loads came of these fetches and whose turns are good: there is one such text.
 abbrev pub IsDetermined : Options → ℕ → Shelved → Shelved → Told → Told → Type 0
 IsDetermined options size shelf shelf_now old new =
-    HasOneWorker options → (tries : List Bool) → shelf_now.tries ≡ shelf.tries ++ tries → (all : Supply) → CameOf shelf.files tries all.loads → AreGood options all.turns
-    → IsThrough (talk (opening options size) all (lines (since old new))) → new.given ≡ old.given ++ (talk (opening options size) all (lines (since old new))).text
+    HasOneWorker options → (tries : List Bool) → shelf_now.tries ≡ shelf.tries ++ tries
+    → (all : Supply) → CameOf shelf.files tries all.loads → AreGood options all.turns
+    → IsThrough (talk (opening options size) all (lines (since old new)))
+    → new.given ≡ old.given ++ (talk (opening options size) all (lines (since old new))).text

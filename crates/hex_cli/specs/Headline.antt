@@ -13,31 +13,39 @@ use Rattle.hex_engine.specs.declared.options.Options.{Options}
 use Rattle.hex_engine.specs.EngineState.{EngineState, opening}
 use Rattle.hex_engine.specs.Supply.{Supply}
 use Rattle.hex_engine.specs.Uses.{IsGoodFor}
-use Rattle.hex_cli.specs.Talk.{Said, talk}
-use Rattle.hex_cli.specs.Outcome.{since}
+use Rattle.hex_cli.specs.Talk.{TalkState, talk}
+use Rattle.hex_cli.specs.Endings.{since}
 
--- A line was answered by a searched move: its turn is good and stands, among these turns, at the place that the number of
--- turns before says; a stone of this colour on the turn's cell is legal in the game before; and it was played and written.
-pub record IsSearchedMove (options : Options) (turns : List Decision) (before after : Said) : Type 0 where
+-- A line was answered by a searched move: its turn is good and stands, among these turns, at the
+-- place that the number of turns before says; a stone of this colour on the turn's cell is legal in
+-- the game before; and it was played and written.
+pub record IsSearchedMove (options : Options) (turns : List Decision)
+    (before after : TalkState) : Type 0 where
   pub turn : Decision
   pub colour : Colour
   pub good : IsGoodFor options turn
   pub placed : slice_get turns before.at.turns ≡ Some turn
   pub legal : is_legal before.at.game (step_of colour (Stone turn.cell)) ≡ true
   pub played : after.at.game ≡ with_step before.at.game (step_of colour (Stone turn.cell))
-  pub written : (id : Option ℕ) × (after.text ≡ before.text ++ success id (vertex_of (board_of before.at.game).size turn.cell))
+  pub written : (id : Option ℕ)
+      × (after.text ≡ before.text
+      ++ success id (vertex_of (board_of before.at.game).size turn.cell))
 
 -- of these lines, each that took a turn was answered by a searched move
 abbrev pub AreSearchedMoves : EngineState → Supply → List (List ℕ) → Type 0
 AreSearchedMoves start all lines =
-    (before : List (List ℕ)) (raw : List ℕ) (others : List (List ℕ)) → lines ≡ before ++ raw ∷ others
+    (before : List (List ℕ)) (raw : List ℕ) (others : List (List ℕ))
+    → lines ≡ before ++ raw ∷ others
     → (talk start all (before ++ raw ∷ [])).at.turns ≢ (talk start all before).at.turns
-    → IsSearchedMove start.options all.turns (talk start all before) (talk start all (before ++ raw ∷ []))
+    → IsSearchedMove start.options all.turns (talk start all before)
+    (talk start all (before ++ raw ∷ []))
 
--- What was given is the talk over the lines taken, with the turns that the archive took since and what came of the files; and
--- each line that took a turn was answered by a searched move.
-pub record Headline (options : Options) (size : ℕ) (turns turns_now : List Decision) (old new : Told) : Type 0 where
+-- What was given is the talk over the lines taken, with the turns that the archive took since and
+-- what came of the files; and each line that took a turn was answered by a searched move.
+pub record Headline (options : Options) (size : ℕ) (turns turns_now : List Decision)
+    (old new : Told) : Type 0 where
   pub all : Supply
   pub archived : turns_now ≡ turns ++ all.turns
-  pub given : new.given ≡ old.given ++ (talk (opening options size) all (lines (since old new))).text
+  pub given : new.given ≡ old.given
+      ++ (talk (opening options size) all (lines (since old new))).text
   pub searched : AreSearchedMoves (opening options size) all (lines (since old new))

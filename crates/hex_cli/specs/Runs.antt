@@ -27,13 +27,16 @@ engine_options o = record {
 }
 
 -- a link was not read or written: it tells the same and has counted no fault
-pub record Untouched (old new : Option Told) (old_reads new_reads old_writes new_writes : ℕ) : Type 0 where
+pub record Untouched (old new : Option Told)
+    (old_reads new_reads old_writes new_writes : ℕ) : Type 0 where
   pub told : Same old new
   pub reads : new_reads ≡ old_reads
   pub writes : new_writes ≡ old_writes
 
--- nothing was fetched from a shelf and nothing handed to an archive: they tell the same and have counted no fault
-pub record Unused (old new : Option Shelved) (old_faults new_faults : ℕ) (turns turns_now : Option (List Decision)) (old_refusals new_refusals : ℕ) : Type 0 where
+-- nothing was fetched from a shelf and nothing handed to an archive: they tell the same and have
+-- counted no fault
+pub record Unused (old new : Option Shelved) (old_faults new_faults : ℕ)
+    (turns turns_now : Option (List Decision)) (old_refusals new_refusals : ℕ) : Type 0 where
   pub shelf : Same old new
   pub faults : new_faults ≡ old_faults
   pub archive : Same turns turns_now

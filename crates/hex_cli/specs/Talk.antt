@@ -1,5 +1,6 @@
 -- The bytes that answer a list of raw lines.
-use Rattle.std.specs.Prelude.{◌≡◌, ◌≢◌, ℕ, Bool, true, false, List, [], ◌++◌, Option, Some, None, Result, Ok, Err, codes, fold, if◌then◌else◌}
+use Rattle.std.specs.Prelude.{◌≡◌, ◌≢◌, ℕ, Bool, true, false, List, [], ◌++◌, Option, Some, None}
+use Rattle.std.specs.Prelude.{Result, Ok, Err, codes, fold, if◌then◌else◌}
 use Rattle.htp_line.specs.Reading.{Reading, Blank, Bare, Ask, reading}
 use Rattle.htp_line.specs.Splitting.{kept}
 use Rattle.htp_line.specs.Answering.{success, failure}
@@ -16,7 +17,7 @@ pub data Ending : Type 0 where
   Short : Missing → Ending
 
 -- what was said, what the conversation stands at then, and what is left to be used up
-pub record Said : Type 0 where
+pub record TalkState : Type 0 where
   pub text : List ℕ
   pub at : EngineState
   pub left : Supply
@@ -37,23 +38,35 @@ is_quit Quit = true
 is_quit _ = false
 
 -- what is said to a request
-abbrev pub said_turned : EngineState → Supply → Option ℕ → Result Turned Missing → Said
-said_turned at left id (Err missing) = record { text = []; at = at; left = left; ending = Short missing }
-said_turned at left id (Ok t) = record { text = reply_text id t.reply; at = t.after; left = t.left; ending = ending_if (is_quit t.reply) }
+abbrev pub after_reaction : EngineState → Supply → Option ℕ → Result Turned Missing → TalkState
+after_reaction at left id
+    (Err missing) = record { text = []; at = at; left = left; ending = Short missing }
+after_reaction at left id
+    (Ok t) = record {
+      text = reply_text id t.reply;
+      at = t.after;
+      left = t.left;
+      ending = ending_if
+          (is_quit t.reply);
+    }
 
 -- what is said to a line: nothing to a blank one, and a refusal to an id that stands alone
-abbrev pub said_reading : EngineState → Supply → Reading → Said
-said_reading at left Blank = record { text = []; at = at; left = left; ending = Going }
-said_reading at left (Bare id) = record { text = failure (Some id) (codes "syntax error"); at = at; left = left; ending = Going }
-said_reading at left (Ask asked) = said_turned at left asked.id (reaction at left asked)
+abbrev pub after_reading : EngineState → Supply → Reading → TalkState
+after_reading at left Blank = record { text = []; at = at; left = left; ending = Going }
+after_reading at left
+    (Bare id) =
+    record { text = failure (Some id) (codes "syntax error"); at = at; left = left; ending = Going }
+after_reading at left (Ask asked) = after_reaction at left asked.id (reaction at left asked)
 
 -- what is said to a line as far as it is kept, which is nothing where the line is too long
-abbrev pub said : EngineState → Supply → Option (List ℕ) → Said
-said at left None = record { text = failure None (codes "line too long"); at = at; left = left; ending = Going }
-said at left (Some raw) = said_reading at left (reading raw)
+abbrev pub after_line : EngineState → Supply → Option (List ℕ) → TalkState
+after_line at left None =
+    record { text = failure None (codes "line too long"); at = at; left = left; ending = Going }
+after_line at left (Some raw) = after_reading at left (reading raw)
 
-abbrev pub with_said : Said → Said → Said
-with_said so_far next = record { text = so_far.text ++ next.text; at = next.at; left = next.left; ending = next.ending }
+abbrev pub followed_by : TalkState → TalkState → TalkState
+followed_by so_far next =
+    record { text = so_far.text ++ next.text; at = next.at; left = next.left; ending = next.ending }
 
 abbrev pub goes_on : Ending → Bool
 goes_on Going = true
@@ -61,21 +74,23 @@ goes_on AfterQuit = false
 goes_on (Short missing) = false
 
 -- one more line: where the talk has ended it changes nothing
-unfoldable pub step : Said → List ℕ → Said
-step so_far raw = if goes_on so_far.ending then with_said so_far (said so_far.at so_far.left (kept raw)) else so_far
+unfoldable pub with_line : TalkState → List ℕ → TalkState
+with_line so_far raw = if goes_on so_far.ending then followed_by so_far
+    (after_line so_far.at so_far.left (kept raw)) else so_far
 
-abbrev pub silence : EngineState → Supply → Said
-silence start left = record { text = []; at = start; left = left; ending = Going }
+abbrev pub talk_start : EngineState → Supply → TalkState
+talk_start start left = record { text = []; at = start; left = left; ending = Going }
 
--- the talk over these lines, from where the conversation stands at its start and with this left to be used up
-abbrev pub talk : EngineState → Supply → List (List ℕ) → Said
-talk start left lines = fold step (silence start left) lines
+-- the talk over these lines, from where the conversation stands at its start and with this left to
+-- be used up
+abbrev pub talk : EngineState → Supply → List (List ℕ) → TalkState
+talk start left lines = fold with_line (talk_start start left) lines
 
 -- no request wanted what was not there
-abbrev pub IsAnswered : Said → Type 0
+abbrev pub IsAnswered : TalkState → Type 0
 IsAnswered s = (missing : Missing) → s.ending ≢ Short missing
 
 -- each line was answered, up to an answered quit, and all was used up
-pub record IsThrough (s : Said) : Type 0 where
+pub record IsThrough (s : TalkState) : Type 0 where
   pub answered : IsAnswered s
   pub used : s.left ≡ nothing_left

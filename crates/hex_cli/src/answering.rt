@@ -1,6 +1,8 @@
 //! Answers one raw line.
 
-ghost use Rattle.std.specs.Prelude.{◌≡◌, ◌+◌, ◌≤◌, ◌++◌, ◌∷◌, ℕ, List, [], length, codes, IfOk, IfSome, IsOk, OnOk, OnErr, option_map, vec_len, vec_capacity, true, false, Some};
+ghost use Rattle.std.specs.Prelude.{◌≡◌, ◌+◌, ◌≤◌, ◌++◌, ◌∷◌, ℕ, List, [], length, codes, IfOk};
+ghost use Rattle.std.specs.Prelude.{IfSome, IsOk, OnOk, OnErr, option_map, vec_len, vec_capacity};
+ghost use Rattle.std.specs.Prelude.{true, false, Some};
 ghost use Rattle.std.specs.declared.option.Option.{Option};
 ghost use Rattle.hex_io.specs.Causes.{CountsFault};
 ghost use Rattle.htp_line.specs.Reading.{asked_of};
@@ -16,10 +18,12 @@ use hex_plan::Archive;
 use htp_line::{Parsed, Request, Splitter, What, read_line};
 use std::alloc::{AllocError, Global};
 
-/// The most bytes of a brief answer beside its id: the sign, a space, a message of 17 bytes, and two line feeds.
+/// The most bytes of a brief answer beside its id: the sign, a space, a message of 17 bytes, and
+/// two line feeds.
 const BRIEF: usize = 21;
 
-/// Answers a raw line, or one that is too long, at the end of `out`, and says whether quit was answered.
+/// Answers a raw line, or one that is too long, at the end of `out`, and says whether quit was
+/// answered.
 pub fn respond<F: Shelf, A: Archive>(
     alloc: Global,
     engine: &mut Engine,
@@ -29,15 +33,19 @@ pub fn respond<F: Shelf, A: Archive>(
     out: &mut Vec<u8>,
 ) -> Result<bool, EngineError>
     requires short { IfSome raw (λ raw. length raw.now ≤ 4096) }
-    ensures responds { IfOk result (λ quit. (bytes : List ℕ) × (out.new.items ≡ out.old.items ++ bytes) ×
+    ensures responds { IfOk result
+        (λ quit. (bytes : List ℕ) × (out.new.items ≡ out.old.items ++ bytes) ×
         Responds (F.told shelf.old, A.told archive.old) (F.told shelf.new, A.told archive.new)
         engine.old (option_map (λ raw. raw.now) raw.entry) bytes engine.new quit) }
     ensures err { OnErr result (out.new.items ≡ out.old.items) }
     ensures in_vain { result ≡ Err EngineError.Memory →
-        UsesUpNothing engine.old.options (F.told shelf.old, A.told archive.old) (F.told shelf.new, A.told archive.new) }
+        UsesUpNothing engine.old.options (F.told shelf.old, A.told archive.old)
+        (F.told shelf.new, A.told archive.new) }
     ensures lacks { result ≡ Err EngineError.Archive →
-        Lacks (F.told shelf.old, A.told archive.old) (F.told shelf.new, A.told archive.new) engine.old (option_map (λ raw. raw.now) raw.entry) }
-    ensures archive_fault { CountsFault (A.faults archive.old) (A.faults archive.new) (result ≡ Err EngineError.Archive) }
+        Lacks (F.told shelf.old, A.told archive.old)
+        (F.told shelf.new, A.told archive.new) engine.old (option_map (λ raw. raw.now) raw.entry) }
+    ensures archive_fault { CountsFault (A.faults archive.old) (A.faults archive.new)
+        (result ≡ Err EngineError.Archive) }
 {
     let Some(raw) = raw else {
         return refuse(out, b"", b"line too long");
@@ -52,8 +60,9 @@ pub fn respond<F: Shelf, A: Archive>(
     }
 }
 
-/// Answers a request at the end of `out`, and says whether quit was answered. There is room for a brief answer before the
-/// engine is asked, so the answer of each turn that the archive took is written.
+/// Answers a request at the end of `out`, and says whether quit was answered. There is room for a
+/// brief answer before the engine is asked, so the answer of each turn that the archive took is
+/// written.
 fn respond_to<F: Shelf, A: Archive>(
     alloc: Global,
     engine: &mut Engine,
@@ -62,15 +71,19 @@ fn respond_to<F: Shelf, A: Archive>(
     request: &Request,
     out: &mut Vec<u8>,
 ) -> Result<bool, EngineError>
-    ensures responds { IfOk result (λ quit. (bytes : List ℕ) × (out.new.items ≡ out.old.items ++ bytes) ×
+    ensures responds { IfOk result
+        (λ quit. (bytes : List ℕ) × (out.new.items ≡ out.old.items ++ bytes) ×
         RespondsTo (F.told shelf.old, A.told archive.old) (F.told shelf.new, A.told archive.new)
         engine.old (asked_of request.now) bytes engine.new quit) }
     ensures err { OnErr result (out.new.items ≡ out.old.items) }
     ensures in_vain { result ≡ Err EngineError.Memory →
-        UsesUpNothing engine.old.options (F.told shelf.old, A.told archive.old) (F.told shelf.new, A.told archive.new) }
+        UsesUpNothing engine.old.options (F.told shelf.old, A.told archive.old)
+        (F.told shelf.new, A.told archive.new) }
     ensures lacks { result ≡ Err EngineError.Archive →
-        LacksFor (F.told shelf.old, A.told archive.old) (F.told shelf.new, A.told archive.new) engine.old (asked_of request.now) }
-    ensures archive_fault { CountsFault (A.faults archive.old) (A.faults archive.new) (result ≡ Err EngineError.Archive) }
+        LacksFor (F.told shelf.old, A.told archive.old)
+        (F.told shelf.new, A.told archive.new) engine.old (asked_of request.now) }
+    ensures archive_fault { CountsFault (A.faults archive.old) (A.faults archive.new)
+        (result ≡ Err EngineError.Archive) }
 {
     let Ok(id) = id_text(alloc, request.id) else {
         return Err(EngineError::Memory);
@@ -106,7 +119,9 @@ fn push_answer(out: &mut Vec<u8>, id: &[u8], answer: &Answer) -> Result<bool, Al
         OnOk result (out.new.items ≡ out.old.items ++ reply_text n (replied answer.now)) }
     ensures quit { IfOk result (λ quit. quit ≡ is_quit (replied answer.now)) }
     ensures err { OnErr result (out.new.items ≡ out.old.items) }
-    ensures room { IsBrief answer.now → vec_len out.old + (length id.now + BRIEF) ≤ vec_capacity out.old → IsOk result }
+    ensures room { IsBrief answer.now →
+        vec_len out.old + (length id.now + BRIEF) ≤ vec_capacity out.old →
+        IsOk result }
 {
     match answer {
         Answer::Done(text) => {
@@ -124,12 +139,15 @@ fn push_answer(out: &mut Vec<u8>, id: &[u8], answer: &Answer) -> Result<bool, Al
     }
 }
 
-/// Writes the sign, the id, a space, the text and two line feeds at the end of `out`. GTP version 2, responses.
+/// Writes the sign, the id, a space, the text and two line feeds at the end of `out`. GTP version
+/// 2, responses.
 fn push_text(out: &mut Vec<u8>, sign: u8, id: &[u8], text: &[u8]) -> Result<(), AllocError>
     requires id { length id.now ≤ 10 }
-    ensures text { OnOk result (out.new.items ≡ out.old.items ++ sign ∷ id.now ++ 32 ∷ text.now ++ 10 ∷ 10 ∷ []) }
+    ensures text { OnOk result
+        (out.new.items ≡ out.old.items ++ sign ∷ id.now ++ 32 ∷ text.now ++ 10 ∷ 10 ∷ []) }
     ensures err { OnErr result (out.new.items ≡ out.old.items) }
-    ensures room { vec_len out.old + (length id.now + length text.now + 4) ≤ vec_capacity out.old → IsOk result }
+    ensures room { vec_len out.old + (length id.now + length text.now + 4) ≤ vec_capacity out.old →
+        IsOk result }
 {
     out.reserve(id.len() + text.len() + 4)?;
     out.push(sign).unwrap();
@@ -143,7 +161,8 @@ fn push_text(out: &mut Vec<u8>, sign: u8, id: &[u8], text: &[u8]) -> Result<(), 
 /// Writes a failure at the end of `out`. It is no answer to quit.
 fn refuse(out: &mut Vec<u8>, id: &[u8], message: &[u8]) -> Result<bool, EngineError>
     requires id { length id.now ≤ 10 }
-    ensures text { (n : Option ℕ) → id.now ≡ id_text n → OnOk result (out.new.items ≡ out.old.items ++ failure n message.now) }
+    ensures text { (n : Option ℕ) → id.now ≡ id_text n →
+        OnOk result (out.new.items ≡ out.old.items ++ failure n message.now) }
     ensures quit { IfOk result (λ quit. quit ≡ false) }
     ensures err { OnErr result (out.new.items ≡ out.old.items) }
     ensures memory { (e : EngineError) → result ≡ Err e → e ≡ EngineError.Memory }
@@ -156,7 +175,8 @@ fn refuse(out: &mut Vec<u8>, id: &[u8], message: &[u8]) -> Result<bool, EngineEr
 
 /// Refuses an id that stands alone.
 fn refuse_bare(alloc: Global, id: u32, out: &mut Vec<u8>) -> Result<bool, EngineError>
-    ensures text { OnOk result (out.new.items ≡ out.old.items ++ failure (Some id) (codes "syntax error")) }
+    ensures text { OnOk result
+        (out.new.items ≡ out.old.items ++ failure (Some id) (codes "syntax error")) }
     ensures quit { IfOk result (λ quit. quit ≡ false) }
     ensures err { OnErr result (out.new.items ≡ out.old.items) }
     ensures memory { (e : EngineError) → result ≡ Err e → e ≡ EngineError.Memory }

@@ -1,10 +1,10 @@
 //! A conversation from its first byte to its end.
 
 ghost use Rattle.std.specs.Prelude.{◌≡◌, ◌≢◌, ◌<◌, ◌≤◌, length, IfOk};
-ghost use Rattle.hex_io.specs.Told.{Reads};
+ghost use Rattle.hex_io.specs.Told.{ReadsBytes};
 ghost use Rattle.hex_io.specs.Causes.{CountsFault, HasCause};
 ghost use Rattle.tree_words.specs.Settings.{AreInRange};
-ghost use Rattle.hex_cli.specs.Outcome.{Conversed};
+ghost use Rattle.hex_cli.specs.Endings.{Conversed};
 
 use crate::ends::End;
 use crate::session::{Session, Stop};
@@ -22,15 +22,16 @@ fn read_some<L: Link>(link: &mut L, buffer: &mut [u8], room: usize) -> Result<us
     requires some { 0 < room }
     requires fits { room ≤ length buffer.old }
     ensures bound { IfOk result (λ n. n ≤ room) }
-    ensures told { Reads (L.told link.old) (L.told link.new) result buffer.new }
+    ensures told { ReadsBytes (L.told link.old) (L.told link.new) result buffer.new }
     ensures cause { HasCause (L.read_faults link.old) (L.read_faults link.new) result }
     ensures writes { L.write_faults link.new ≡ L.write_faults link.old }
 {
     link.read(&mut buffer[..room])
 }
 
-/// Answers what the link has, up to `limit` bytes. All whole lines are answered before the next read, also before the one
-/// byte after the limit is asked for. What fails first ends it: nothing is read, written or handed over after a fault.
+/// Answers what the link has, up to `limit` bytes. All whole lines are answered before the next
+/// read, also before the one byte after the limit is asked for. What fails first ends it: nothing
+/// is read, written or handed over after a fault.
 pub fn converse<L: Link, F: Shelf, A: Archive>(
     alloc: Global,
     link: &mut L,
@@ -41,12 +42,16 @@ pub fn converse<L: Link, F: Shelf, A: Archive>(
     limit: usize,
 ) -> End
     requires { AreInRange options.now.knobs }
-    ensures conversed { Conversed result options.now size limit (F.told shelf.old, A.told archive.old)
+    ensures conversed { Conversed result options.now size limit
+        (F.told shelf.old, A.told archive.old)
         (F.told shelf.new, A.told archive.new) (L.told link.old) (L.told link.new) }
     ensures served { result ≢ End.Usage }
-    ensures read_fault { CountsFault (L.read_faults link.old) (L.read_faults link.new) (result ≡ End.ReadFault) }
-    ensures write_fault { CountsFault (L.write_faults link.old) (L.write_faults link.new) (result ≡ End.WriteFault) }
-    ensures archive_fault { CountsFault (A.faults archive.old) (A.faults archive.new) (result ≡ End.ArchiveFault) }
+    ensures read_fault { CountsFault (L.read_faults link.old) (L.read_faults link.new)
+        (result ≡ End.ReadFault) }
+    ensures write_fault { CountsFault (L.write_faults link.old) (L.write_faults link.new)
+        (result ≡ End.WriteFault) }
+    ensures archive_fault { CountsFault (A.faults archive.old) (A.faults archive.new)
+        (result ≡ End.ArchiveFault) }
 {
     let mut session = match Session::make(alloc, options, size) {
         Err(_) => return End::Memory,

@@ -1,7 +1,7 @@
 //! How a run ends: its status, and the line that it gives to the errors.
 
 ghost use Rattle.std.specs.Prelude.{◌≡◌};
-ghost use Rattle.hex_cli.specs.Outcome.{status_of, error_line};
+ghost use Rattle.hex_cli.specs.Endings.{status_of, error_line};
 
 /// How a run ended. The numbers are the statuses.
 #[derive(Clone, Copy, Debug, PartialEq, Eq)]

@@ -15,7 +15,7 @@
 //! let status = run(alloc, &words, &mut link, &mut errors, &mut shelf, &mut archive);
 //! ```
 //!
-//! **What is proved**, in the words of `specs/Outcome.antt` and `specs/Runs.antt`: where the link
+//! **What is proved**, in the words of `specs/Endings.antt` and `specs/Runs.antt`: where the link
 //! tells it, what was given is the talk over the lines of what was taken, as far as each status
 //! says, with the files that came of the shelf's fetches and the turns that the archive took. Each
 //! of these turns is good, in the words of hex_plan: a closed tree, and a cell of most visits among

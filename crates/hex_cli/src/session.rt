@@ -42,12 +42,15 @@ pub struct Session {
 }
 
 impl Session {
-    ghost use Rattle.hex_cli.specs.Sessions.{Stands, Advanced, StopsBefore, AnswersShort, AnswersLast, StopsBeforeLast, LastIsShort};
+    ghost use Rattle.hex_cli.specs.Sessions.{Stands, Advanced, StopsBefore, AnswersShort};
+    ghost use Rattle.hex_cli.specs.Sessions.{AnswersLast, StopsBeforeLast, LastIsShort};
 
     /// A session before its first byte.
     pub fn make(alloc: Global, options: &Options, size: Size) -> Result<Session, Memory>
         requires { AreInRange options.now.knobs }
-        ensures stands { IfOk result (λ s. (later : Supply) → Stands (opening options.now size) later later s.engine s.splitter []) }
+        ensures stands { IfOk result
+            (λ s. (later : Supply) →
+            Stands (opening options.now size) later later s.engine s.splitter []) }
     {
         let engine = Engine::make(alloc, options, size)?;
         let Ok(splitter) = Splitter::make(alloc) else {
@@ -70,14 +73,20 @@ impl Session {
     ) -> Result<bool, EngineError>
         requires what { what ≡ what_of self.old.splitter }
         requires ended { self.old.splitter.ended ≡ true }
-        ensures responds { IfOk result (λ quit. (bytes : List ℕ) × (self.new.out.items ≡ self.old.out.items ++ bytes) ×
-            Responds (F.told shelf.old, A.told archive.old) (F.told shelf.new, A.told archive.new) self.old.engine self.old.splitter.line bytes self.new.engine quit) }
+        ensures responds { IfOk result
+            (λ quit. (bytes : List ℕ) × (self.new.out.items ≡ self.old.out.items ++ bytes) ×
+            Responds (F.told shelf.old, A.told archive.old)
+            (F.told shelf.new, A.told archive.new) self.old.engine self.old.splitter.line bytes
+            self.new.engine quit) }
         ensures splitter { self.new.splitter ≡ self.old.splitter }
         ensures in_vain { result ≡ Err EngineError.Memory →
-            UsesUpNothing self.old.engine.options (F.told shelf.old, A.told archive.old) (F.told shelf.new, A.told archive.new) }
+            UsesUpNothing self.old.engine.options (F.told shelf.old, A.told archive.old)
+            (F.told shelf.new, A.told archive.new) }
         ensures lacks { result ≡ Err EngineError.Archive →
-            Lacks (F.told shelf.old, A.told archive.old) (F.told shelf.new, A.told archive.new) self.old.engine self.old.splitter.line }
-        ensures archive_fault { CountsFault (A.faults archive.old) (A.faults archive.new) (result ≡ Err EngineError.Archive) }
+            Lacks (F.told shelf.old, A.told archive.old)
+            (F.told shelf.new, A.told archive.new) self.old.engine self.old.splitter.line }
+        ensures archive_fault { CountsFault (A.faults archive.old) (A.faults archive.new)
+            (result ≡ Err EngineError.Archive) }
     {
         let raw = line_of(&self.splitter, what);
         respond(alloc, &mut self.engine, shelf, archive, raw, &mut self.out)
@@ -93,15 +102,21 @@ impl Session {
     ) -> Result<Moved, EngineError>
         requires some { 0 < length piece.now }
         ensures used { IfOk result (λ m. (0 < m.used) × (m.used ≤ length piece.now)) }
-        ensures advanced { IfOk result (λ m. Does (F.told shelf.old, A.told archive.old) (F.told shelf.new, A.told archive.new) [] self.old.engine self.old.splitter
-            (λ start all later seen. Advanced m.quit start all later self.new.engine self.new.splitter self.new.out.items seen (take m.used piece.now))) }
+        ensures advanced { IfOk result
+            (λ m. Does (F.told shelf.old, A.told archive.old)
+            (F.told shelf.new, A.told archive.new) [] self.old.engine self.old.splitter
+            (λ start all later seen. Advanced m.quit start all later self.new.engine
+            self.new.splitter self.new.out.items seen (take m.used piece.now))) }
         ensures gave_up { result ≡ Err EngineError.Memory →
-            DoesSome (F.told shelf.old, A.told archive.old) (F.told shelf.new, A.told archive.new) self.old.engine self.old.splitter
+            DoesSome (F.told shelf.old, A.told archive.old)
+            (F.told shelf.new, A.told archive.new) self.old.engine self.old.splitter
             (λ start all later seen. StopsBefore start all later seen piece.now) }
         ensures held_back { result ≡ Err EngineError.Archive →
-            Does (F.told shelf.old, A.told archive.old) (F.told shelf.new, A.told archive.new) [] self.old.engine self.old.splitter
+            Does (F.told shelf.old, A.told archive.old)
+            (F.told shelf.new, A.told archive.new) [] self.old.engine self.old.splitter
             (λ start all later seen. AnswersShort start all later [] seen piece.now) }
-        ensures archive_fault { CountsFault (A.faults archive.old) (A.faults archive.new) (result ≡ Err EngineError.Archive) }
+        ensures archive_fault { CountsFault (A.faults archive.old) (A.faults archive.new)
+            (result ≡ Err EngineError.Archive) }
     {
         self.out.clear();
         let fed = self.splitter.push(piece);
@@ -127,15 +142,20 @@ impl Session {
         shelf: &mut F,
         archive: &mut A,
     ) -> Result<(), EngineError>
-        ensures answers { IfOk result (λ _. Does (F.told shelf.old, A.told archive.old) (F.told shelf.new, A.told archive.new) [] self.old.engine self.old.splitter
+        ensures answers { IfOk result
+            (λ _. Does (F.told shelf.old, A.told archive.old)
+            (F.told shelf.new, A.told archive.new) [] self.old.engine self.old.splitter
             (λ start all later seen. AnswersLast start all later self.new.out.items seen)) }
         ensures gave_up { result ≡ Err EngineError.Memory →
-            DoesSome (F.told shelf.old, A.told archive.old) (F.told shelf.new, A.told archive.new) self.old.engine self.old.splitter
+            DoesSome (F.told shelf.old, A.told archive.old)
+            (F.told shelf.new, A.told archive.new) self.old.engine self.old.splitter
             (λ start all later seen. StopsBeforeLast start all later seen) }
         ensures held_back { result ≡ Err EngineError.Archive →
-            Does (F.told shelf.old, A.told archive.old) (F.told shelf.new, A.told archive.new) [] self.old.engine self.old.splitter
+            Does (F.told shelf.old, A.told archive.old)
+            (F.told shelf.new, A.told archive.new) [] self.old.engine self.old.splitter
             (λ start all later seen. LastIsShort start all later seen) }
-        ensures archive_fault { CountsFault (A.faults archive.old) (A.faults archive.new) (result ≡ Err EngineError.Archive) }
+        ensures archive_fault { CountsFault (A.faults archive.old) (A.faults archive.new)
+            (result ≡ Err EngineError.Archive) }
     {
         self.out.clear();
         let what = self.splitter.finish();
@@ -150,10 +170,11 @@ impl Session {
 }
 
 impl Session {
-    ghost use Rattle.hex_cli.specs.Sessions.{Fed, BrokeOff, GaveUp, HeldBack, AnsweredLast, BrokeOffLast, StopsBeforeLast, LastIsShort};
+    ghost use Rattle.hex_cli.specs.Sessions.{Fed, BrokeOff, GaveUp, HeldBack, AnsweredLast};
+    ghost use Rattle.hex_cli.specs.Sessions.{BrokeOffLast, StopsBeforeLast, LastIsShort};
 
-    /// Takes a piece and answers each line that ends in it, each before the next is looked at. It says whether quit was
-    /// answered.
+    /// Takes a piece and answers each line that ends in it, each before the next is looked at. It
+    /// says whether quit was answered.
     pub fn feed<L: Link, F: Shelf, A: Archive>(
         &mut self,
         alloc: Global,
@@ -162,19 +183,30 @@ impl Session {
         archive: &mut A,
         piece: &[u8],
     ) -> Result<bool, Stop>
-        ensures fed { IfOk result (λ quit. Does (F.told shelf.old, A.told archive.old) (F.told shelf.new, A.told archive.new) [] self.old.engine self.old.splitter
-            (λ start all later seen. Fed quit (L.told link.old) (L.told link.new) start all later self.new.engine self.new.splitter seen piece.now)) }
+        ensures fed { IfOk result
+            (λ quit. Does (F.told shelf.old, A.told archive.old)
+            (F.told shelf.new, A.told archive.new) [] self.old.engine self.old.splitter
+            (λ start all later seen. Fed quit (L.told link.old)
+            (L.told link.new) start all later self.new.engine self.new.splitter seen piece.now)) }
         ensures broke_off { result ≡ Err Stop.WriteFault →
-            Does (F.told shelf.old, A.told archive.old) (F.told shelf.new, A.told archive.new) [] self.old.engine self.old.splitter
-            (λ start all later seen. BrokeOff (L.told link.old) (L.told link.new) start all seen piece.now) }
+            Does (F.told shelf.old, A.told archive.old)
+            (F.told shelf.new, A.told archive.new) [] self.old.engine self.old.splitter
+            (λ start all later seen. BrokeOff (L.told link.old)
+            (L.told link.new) start all seen piece.now) }
         ensures gave_up { result ≡ Err Stop.Memory →
-            DoesSome (F.told shelf.old, A.told archive.old) (F.told shelf.new, A.told archive.new) self.old.engine self.old.splitter
-            (λ start all later seen. GaveUp (L.told link.old) (L.told link.new) start all later seen piece.now) }
+            DoesSome (F.told shelf.old, A.told archive.old)
+            (F.told shelf.new, A.told archive.new) self.old.engine self.old.splitter
+            (λ start all later seen. GaveUp (L.told link.old)
+            (L.told link.new) start all later seen piece.now) }
         ensures held_back { result ≡ Err Stop.Archive →
-            Does (F.told shelf.old, A.told archive.old) (F.told shelf.new, A.told archive.new) [] self.old.engine self.old.splitter
-            (λ start all later seen. HeldBack (L.told link.old) (L.told link.new) start all later seen piece.now) }
-        ensures write_fault { CountsFault (L.write_faults link.old) (L.write_faults link.new) (result ≡ Err Stop.WriteFault) }
-        ensures archive_fault { CountsFault (A.faults archive.old) (A.faults archive.new) (result ≡ Err Stop.Archive) }
+            Does (F.told shelf.old, A.told archive.old)
+            (F.told shelf.new, A.told archive.new) [] self.old.engine self.old.splitter
+            (λ start all later seen. HeldBack (L.told link.old)
+            (L.told link.new) start all later seen piece.now) }
+        ensures write_fault { CountsFault (L.write_faults link.old) (L.write_faults link.new)
+            (result ≡ Err Stop.WriteFault) }
+        ensures archive_fault { CountsFault (A.faults archive.old) (A.faults archive.new)
+            (result ≡ Err Stop.Archive) }
         ensures reads { L.read_faults link.new ≡ L.read_faults link.old }
     {
         let mut at = 0;
@@ -204,21 +236,31 @@ impl Session {
         shelf: &mut F,
         archive: &mut A,
     ) -> Result<(), Stop>
-        ensures answered { IfOk result (λ _. Does (F.told shelf.old, A.told archive.old) (F.told shelf.new, A.told archive.new) [] self.old.engine self.old.splitter
-            (λ start all later seen. AnsweredLast (L.told link.old) (L.told link.new) start all later seen)) }
+        ensures answered { IfOk result
+            (λ _. Does (F.told shelf.old, A.told archive.old)
+            (F.told shelf.new, A.told archive.new) [] self.old.engine self.old.splitter
+            (λ start all later seen. AnsweredLast (L.told link.old)
+            (L.told link.new) start all later seen)) }
         ensures broke_off { result ≡ Err Stop.WriteFault →
-            Does (F.told shelf.old, A.told archive.old) (F.told shelf.new, A.told archive.new) [] self.old.engine self.old.splitter
-            (λ start all later seen. BrokeOffLast (L.told link.old) (L.told link.new) start all later seen) }
+            Does (F.told shelf.old, A.told archive.old)
+            (F.told shelf.new, A.told archive.new) [] self.old.engine self.old.splitter
+            (λ start all later seen. BrokeOffLast (L.told link.old)
+            (L.told link.new) start all later seen) }
         ensures gave_up { result ≡ Err Stop.Memory →
-            DoesSome (F.told shelf.old, A.told archive.old) (F.told shelf.new, A.told archive.new) self.old.engine self.old.splitter
+            DoesSome (F.told shelf.old, A.told archive.old)
+            (F.told shelf.new, A.told archive.new) self.old.engine self.old.splitter
             (λ start all later seen. StopsBeforeLast start all later seen) }
         ensures held_back { result ≡ Err Stop.Archive →
-            Does (F.told shelf.old, A.told archive.old) (F.told shelf.new, A.told archive.new) [] self.old.engine self.old.splitter
+            Does (F.told shelf.old, A.told archive.old)
+            (F.told shelf.new, A.told archive.new) [] self.old.engine self.old.splitter
             (λ start all later seen. LastIsShort start all later seen) }
         ensures silent { result ≡ Err Stop.Memory → Same (L.told link.old) (L.told link.new) }
-        ensures silent_held_back { result ≡ Err Stop.Archive → Same (L.told link.old) (L.told link.new) }
-        ensures write_fault { CountsFault (L.write_faults link.old) (L.write_faults link.new) (result ≡ Err Stop.WriteFault) }
-        ensures archive_fault { CountsFault (A.faults archive.old) (A.faults archive.new) (result ≡ Err Stop.Archive) }
+        ensures silent_held_back { result ≡ Err Stop.Archive →
+            Same (L.told link.old) (L.told link.new) }
+        ensures write_fault { CountsFault (L.write_faults link.old) (L.write_faults link.new)
+            (result ≡ Err Stop.WriteFault) }
+        ensures archive_fault { CountsFault (A.faults archive.old) (A.faults archive.new)
+            (result ≡ Err Stop.Archive) }
         ensures reads { L.read_faults link.new ≡ L.read_faults link.old }
     {
         match self.last(alloc, shelf, archive) {

@@ -19,7 +19,7 @@ use tree_words::{Knobs, report};
 #[derive(Clone, Copy)]
 struct Row {
     words: &'static [&'static str],
-    stock: Stock,
+    stock: ShelfAndArchive,
     input: &'static [u8],
     given: &'static [u8],
     status: u8,
@@ -28,14 +28,14 @@ struct Row {
 
 /// What the shelf of a run has, which of its fetches fail, and how many turns its archive holds.
 #[derive(Clone, Copy)]
-struct Stock {
+struct ShelfAndArchive {
     file: Option<(&'static [u8], &'static [u8])>,
     bad_fetch: Option<u32>,
     room: usize,
 }
 
 /// No file, no fault, and room for every turn of these rows.
-const STOCK: Stock = Stock {
+const STOCK: ShelfAndArchive = ShelfAndArchive {
     file: None,
     bad_fetch: None,
     room: 4,
@@ -248,7 +248,7 @@ const RECORD: &[u8] = b"(;FF[4]GM[11]SZ[3]AP[Editor:0.9]C[a\\]b];B[a2];W[swap-pi
 
 #[test]
 fn records(rt: HostRuntime) -> Result<(), Fail> {
-    let held = Stock {
+    let held = ShelfAndArchive {
         file: Some((b"g.sgf", RECORD)),
         ..STOCK
     };
@@ -266,7 +266,7 @@ fn records(rt: HostRuntime) -> Result<(), Fail> {
         (
             "load-refusals",
             Row {
-                stock: Stock {
+                stock: ShelfAndArchive {
                     file: Some((b"h.sgf", RECORD.split_at(66).0)),
                     bad_fetch: Some(2),
                     ..STOCK
@@ -280,7 +280,7 @@ fn records(rt: HostRuntime) -> Result<(), Fail> {
         (
             "load-read-fault",
             Row {
-                stock: Stock {
+                stock: ShelfAndArchive {
                     bad_fetch: Some(0),
                     ..held
                 },
@@ -296,7 +296,7 @@ fn records(rt: HostRuntime) -> Result<(), Fail> {
     }
     for length in 0..RECORD.len() {
         let row = Row {
-            stock: Stock {
+            stock: ShelfAndArchive {
                 file: Some((b"p", &RECORD[..length])),
                 ..STOCK
             },
@@ -389,7 +389,7 @@ fn searches(rt: HostRuntime) -> Result<(), Fail> {
 fn failing_archives(rt: HostRuntime) -> Result<(), Fail> {
     let full = Row {
         words: &["htp", "--hsearch", "off", "--playouts", "1"],
-        stock: Stock { room: 0, ..STOCK },
+        stock: ShelfAndArchive { room: 0, ..STOCK },
         input: b"name\ngenmove b\nname\n",
         given: b"= hexd\n\n",
         status: 7,
@@ -404,7 +404,7 @@ fn failing_archives(rt: HostRuntime) -> Result<(), Fail> {
     for (room, (given, status, line)) in answers.into_iter().enumerate() {
         let row = Row {
             words: &["htp", "--hsearch", "off", "--playouts", "1", "--seed", "0"],
-            stock: Stock { room, ..STOCK },
+            stock: ShelfAndArchive { room, ..STOCK },
             input: b"boardsize 2\ngenmove b\ngenmove w\n",
             given,
             status,

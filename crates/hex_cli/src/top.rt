@@ -8,7 +8,7 @@ ghost use Rattle.hexd_words.specs.Reading.{WellFormed};
 ghost use Rattle.hexd_words.specs.Values as value;
 ghost use Rattle.hexd_words.specs.declared.settings.Options.{Options};
 ghost use Rattle.hex_io.specs.Reported.{Reported};
-ghost use Rattle.hex_cli.specs.Outcome.{Conversed, since, status_of, error_line};
+ghost use Rattle.hex_cli.specs.Endings.{Conversed, since, status_of, error_line};
 ghost use Rattle.hex_cli.specs.Determined.{IsDetermined};
 ghost use Rattle.hex_cli.specs.Headline.{Headline};
 ghost use Rattle.hex_cli.specs.Runs.{AreRefused, Untouched, Unused, engine_options};
@@ -43,9 +43,9 @@ pub const INPUT_LIMIT: usize = 67_108_864;
 /// | 6 | exactly where one byte more than [`INPUT_LIMIT`] was taken; the whole lines before it were answered | `hexd: input too long` |
 /// | 7 | only where the archive failed; all lines before the `genmove` that met it were answered | `hexd: archive fault` |
 ///
-/// What fails first ends the run: with every status but 3 the link's count of read faults is as before,
-/// with every one but 4 its count of write faults, with every one but 7 the archive's. A fault of the
-/// errors changes nothing of the status. Status 5 may come in place of any other.
+/// What fails first ends the run: with every status but 3 the link's count of read faults is as
+/// before, with every one but 4 its count of write faults, with every one but 7 the archive's. A
+/// fault of the errors changes nothing of the status. Status 5 may come in place of any other.
 pub fn run<L: Link, E: Link, F: Shelf, A: Archive>(
     alloc: Global,
     words: &[Word],
@@ -60,43 +60,59 @@ pub fn run<L: Link, E: Link, F: Shelf, A: Archive>(
     ensures usage { result ≡ status_of End.Usage → AreRefused words.now }
     ensures well_formed { result ≢ status_of End.Usage → result ≢ status_of End.Memory →
         (options : Options) × WellFormed words.now options }
-    ensures refused { AreRefused words.now → (result ≡ status_of End.Usage) ⊎ (result ≡ status_of End.Memory) }
+    ensures refused { AreRefused words.now →
+        (result ≡ status_of End.Usage) ⊎ (result ≡ status_of End.Memory) }
     ensures untouched { AreRefused words.now →
-        Untouched (L.told link.old) (L.told link.new) (L.read_faults link.old) (L.read_faults link.new) (L.write_faults link.old) (L.write_faults link.new) }
+        Untouched (L.told link.old) (L.told link.new) (L.read_faults link.old)
+        (L.read_faults link.new) (L.write_faults link.old) (L.write_faults link.new) }
     ensures unused { AreRefused words.now →
-        Unused (F.told shelf.old) (F.told shelf.new) (F.faults shelf.old) (F.faults shelf.new) (A.told archive.old) (A.told archive.new) (A.faults archive.old) (A.faults archive.new) }
+        Unused (F.told shelf.old) (F.told shelf.new) (F.faults shelf.old) (F.faults shelf.new)
+        (A.told archive.old) (A.told archive.new) (A.faults archive.old) (A.faults archive.new) }
 
-    // What was taken and given, and when, where the link tells it; and what was used up from the shelf and for the archive.
-    ensures conversed { (options : Options) → WellFormed words.now options → (end : End) → result ≡ status_of end →
-        Conversed end (engine_options options) options.size INPUT_LIMIT (F.told shelf.old, A.told archive.old)
+    // What was taken and given, and when, where the link tells it; and what was used up from the
+    // shelf and for the archive.
+    ensures conversed { (options : Options) → WellFormed words.now options → (end : End) →
+        result ≡ status_of end →
+        Conversed end (engine_options options) options.size INPUT_LIMIT
+        (F.told shelf.old, A.told archive.old)
         (F.told shelf.new, A.told archive.new) (L.told link.old) (L.told link.new) }
 
     // Each searched move of a run that is done.
-    ensures headline { (options : Options) → WellFormed words.now options → result ≡ status_of End.Done →
-        Both (A.told archive.old) (A.told archive.new) (λ turns turns_now. Both (L.told link.old) (L.told link.new) (λ old new.
+    ensures headline { (options : Options) → WellFormed words.now options →
+        result ≡ status_of End.Done →
+        Both (A.told archive.old) (A.told archive.new)
+        (λ turns turns_now. Both (L.told link.old) (L.told link.new) (λ old new.
         Headline (engine_options options) options.size turns turns_now old new)) }
 
     // With one worker the words, the bytes taken and the shelf determine what was given.
-    ensures determined { (options : Options) → WellFormed words.now options → result ≡ status_of End.Done →
-        Both (F.told shelf.old) (F.told shelf.new) (λ files files_now. Both (L.told link.old) (L.told link.new) (λ old new.
+    ensures determined { (options : Options) → WellFormed words.now options →
+        result ≡ status_of End.Done →
+        Both (F.told shelf.old) (F.told shelf.new)
+        (λ files files_now. Both (L.told link.old) (L.told link.new) (λ old new.
         IsDetermined (engine_options options) options.size files files_now old new)) }
 
-    // The causes. What fails first ends the run: a count rose with its own status, and is as before with every other.
-    ensures read_fault { CountsFault (L.read_faults link.old) (L.read_faults link.new) (result ≡ status_of End.ReadFault) }
-    ensures write_fault { CountsFault (L.write_faults link.old) (L.write_faults link.new) (result ≡ status_of End.WriteFault) }
-    ensures archive_fault { CountsFault (A.faults archive.old) (A.faults archive.new) (result ≡ status_of End.ArchiveFault) }
+    // The causes. What fails first ends the run: a count rose with its own status, and is as before
+    // with every other.
+    ensures read_fault { CountsFault (L.read_faults link.old) (L.read_faults link.new)
+        (result ≡ status_of End.ReadFault) }
+    ensures write_fault { CountsFault (L.write_faults link.old) (L.write_faults link.new)
+        (result ≡ status_of End.WriteFault) }
+    ensures archive_fault { CountsFault (A.faults archive.old) (A.faults archive.new)
+        (result ≡ status_of End.ArchiveFault) }
     ensures too_long { (options : Options) → WellFormed words.now options →
         Both (L.told link.old) (L.told link.new) (λ old new.
         (result ≡ status_of End.TooLong) ↔ (length (since old new) ≡ INPUT_LIMIT + 1)) }
     ensures complete { (options : Options) → WellFormed words.now options →
-        ¬ Rose (L.read_faults link.old) (L.read_faults link.new) → ¬ Rose (L.write_faults link.old) (L.write_faults link.new) →
+        ¬ Rose (L.read_faults link.old) (L.read_faults link.new) →
+        ¬ Rose (L.write_faults link.old) (L.write_faults link.new) →
         ¬ Rose (A.faults archive.old) (A.faults archive.new) →
         Both (L.told link.old) (L.told link.new) (λ old new. length (since old new) ≤ INPUT_LIMIT →
         (result ≡ status_of End.Done) ⊎ (result ≡ status_of End.Memory)) }
 
     // The line for the errors.
     ensures errors { (end : End) → result ≡ status_of end →
-        Reported (E.told errors.old) (E.told errors.new) (E.write_faults errors.old) (E.write_faults errors.new) (error_line end) }
+        Reported (E.told errors.old) (E.told errors.new) (E.write_faults errors.old)
+        (E.write_faults errors.new) (error_line end) }
 {
     let end = serve(alloc, words, link, shelf, archive);
     report(errors, end.line());
@@ -112,18 +128,25 @@ fn serve<L: Link, F: Shelf, A: Archive>(
     archive: &mut A,
 ) -> End
     ensures usage { result ≡ End.Usage → AreRefused words.now }
-    ensures well_formed { result ≢ End.Usage → result ≢ End.Memory → (options : Options) × WellFormed words.now options }
+    ensures well_formed { result ≢ End.Usage → result ≢ End.Memory →
+        (options : Options) × WellFormed words.now options }
     ensures refused { AreRefused words.now → (result ≡ End.Usage) ⊎ (result ≡ End.Memory) }
     ensures untouched { AreRefused words.now →
-        Untouched (L.told link.old) (L.told link.new) (L.read_faults link.old) (L.read_faults link.new) (L.write_faults link.old) (L.write_faults link.new) }
+        Untouched (L.told link.old) (L.told link.new) (L.read_faults link.old)
+        (L.read_faults link.new) (L.write_faults link.old) (L.write_faults link.new) }
     ensures unused { AreRefused words.now →
-        Unused (F.told shelf.old) (F.told shelf.new) (F.faults shelf.old) (F.faults shelf.new) (A.told archive.old) (A.told archive.new) (A.faults archive.old) (A.faults archive.new) }
+        Unused (F.told shelf.old) (F.told shelf.new) (F.faults shelf.old) (F.faults shelf.new)
+        (A.told archive.old) (A.told archive.new) (A.faults archive.old) (A.faults archive.new) }
     ensures conversed { (options : Options) → WellFormed words.now options →
-        Conversed result (engine_options options) options.size INPUT_LIMIT (F.told shelf.old, A.told archive.old)
+        Conversed result (engine_options options) options.size INPUT_LIMIT
+        (F.told shelf.old, A.told archive.old)
         (F.told shelf.new, A.told archive.new) (L.told link.old) (L.told link.new) }
-    ensures read_fault { CountsFault (L.read_faults link.old) (L.read_faults link.new) (result ≡ End.ReadFault) }
-    ensures write_fault { CountsFault (L.write_faults link.old) (L.write_faults link.new) (result ≡ End.WriteFault) }
-    ensures archive_fault { CountsFault (A.faults archive.old) (A.faults archive.new) (result ≡ End.ArchiveFault) }
+    ensures read_fault { CountsFault (L.read_faults link.old) (L.read_faults link.new)
+        (result ≡ End.ReadFault) }
+    ensures write_fault { CountsFault (L.write_faults link.old) (L.write_faults link.new)
+        (result ≡ End.WriteFault) }
+    ensures archive_fault { CountsFault (A.faults archive.old) (A.faults archive.new)
+        (result ≡ End.ArchiveFault) }
 {
     let options = match read_words(alloc, words) {
         Err(_) => return End::Memory,

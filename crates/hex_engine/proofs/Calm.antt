@@ -10,7 +10,7 @@ use Rattle.hex_game.specs.Games.{board_of, is_legal, with_step, without_last}
 use Rattle.hex_game.specs.declared.moves.Step.{Step}
 use Rattle.hex_plan.specs.Turns.{Decision}
 use Rattle.hex_plan.specs.Openings.{may_move}
-use Rattle.hex_engine.specs.Forms.{colour_of, move_of, sizes_of}
+use Rattle.hex_engine.specs.Forms.{colour_of, move_word_of, sizes_of}
 use Rattle.hex_engine.specs.EngineState.{EngineState, emptied}
 use Rattle.hex_engine.specs.Supply.{Supply}
 use Rattle.hex_engine.specs.declared.forms.MoveWord.{MoveWord}
@@ -18,7 +18,7 @@ use Rattle.hex_engine.specs.declared.forms.MoveWord.TheVariants.{Formless, OffBo
 use Rattle.hex_engine.specs.declared.answers.Fail.TheVariants.{Size, Illegal, Over, NoSearch, NoUndo, ReadFault, Syntax}
 use Rattle.hex_engine.specs.declared.commands.Command.{Command}
 use Rattle.hex_engine.specs.declared.commands.Command.TheVariants.{BoardSize, ClearBoard, GenMove, KnownCommand, ListCommands, LoadSgf, Name, Play, PrintSgf, ProtocolVersion, Quit, SearchReport, ShowBoard, Undo, Version, Winner}
-use Rattle.hex_engine.specs.Replies.{Reply, Done, Failed, Reaction, Turned, Missing, NoTurn, stays, moves_on, if_bare, is_size, resized, played, played_by, playing, undone, knowing, reporting, unused, is_next, turned, moving, moving_by, moving_next, lone_colour, obeyed, truth, uses_up}
+use Rattle.hex_engine.specs.Replies.{Reply, Done, Failed, Reaction, Turned, Missing, NoTurn, unchanged, moves_on, if_bare, are_sizes, resized, played, played_by, playing, undone, knowing, reporting, unused, is_next, turned, moving, moving_by, moving_next, lone_colour, obeyed, truth, uses_up}
 use Rattle.hex_engine.specs.Replies as reply
 
 abbrev pub is_calm : Reply → Bool
@@ -40,8 +40,8 @@ calm (Err e) = true
 calmly : (s : EngineState) (reply : Reply) (after : EngineState) → is_calm reply ≡ true → after.options ≡ s.options → after.turns ≡ s.turns → Calm s (record { reply = reply; after = after })
 calmly s reply after e o t = record { options = o; turns = t; calm = e }
 
-stays_calm : (s : EngineState) (reply : Reply) → is_calm reply ≡ true → Calm s (stays s reply)
-stays_calm s reply e = calmly s reply s e refl refl
+unchanged_calm : (s : EngineState) (reply : Reply) → is_calm reply ≡ true → Calm s (unchanged s reply)
+unchanged_calm s reply e = calmly s reply s e refl refl
 
 cond_calm : (s : EngineState) (b : Bool) (r q : Reaction) → Calm s r → Calm s q → Calm s (cond b r q)
 cond_calm s true r q e f = e
@@ -53,41 +53,41 @@ cond_calm' false r q e f = f
 
 bare_calm : (s : EngineState) (args : List (List ℕ)) (r : Reaction) → Calm s r → Calm s (if_bare s args r)
 bare_calm s [] r e = e
-bare_calm s (a ∷ args) r e = stays_calm s (Failed Syntax) refl
+bare_calm s (a ∷ args) r e = unchanged_calm s (Failed Syntax) refl
 
 resized_calm : (s : EngineState) (sizes : Option (ℕ × ℕ)) → Calm s (resized s sizes)
-resized_calm s None = stays_calm s (Failed Syntax) refl
-resized_calm s (Some n) = cond_calm s (is_size n.0 n.1) (moves_on (emptied s n.0)) (stays s (Failed Size)) (calmly s (Done []) (emptied s n.0) refl refl refl) (stays_calm s (Failed Size) refl)
+resized_calm s None = unchanged_calm s (Failed Syntax) refl
+resized_calm s (Some n) = cond_calm s (are_sizes n.0 n.1) (moves_on (emptied s n.0)) (unchanged s (Failed Size)) (calmly s (Done []) (emptied s n.0) refl refl refl) (unchanged_calm s (Failed Size) refl)
 
 played_calm : (s : EngineState) (colour : Colour) (word : MoveWord) → Calm s (played s colour word)
-played_calm s colour Formless = stays_calm s (Failed Syntax) refl
-played_calm s colour OffBoard = stays_calm s (Failed Illegal) refl
+played_calm s colour Formless = unchanged_calm s (Failed Syntax) refl
+played_calm s colour OffBoard = unchanged_calm s (Failed Illegal) refl
 played_calm s colour (Says what) =
     let after : EngineState = record s { game = with_step s.game (step_of colour what) } in
-    cond_calm s (is_legal s.game (step_of colour what)) (moves_on after) (stays s (Failed Illegal)) (calmly s (Done []) after refl refl refl) (stays_calm s (Failed Illegal) refl)
+    cond_calm s (is_legal s.game (step_of colour what)) (moves_on after) (unchanged s (Failed Illegal)) (calmly s (Done []) after refl refl refl) (unchanged_calm s (Failed Illegal) refl)
 
 played_by_calm : (s : EngineState) (colour : Option Colour) (word : MoveWord) → Calm s (played_by s colour word)
-played_by_calm s None word = stays_calm s (Failed Syntax) refl
+played_by_calm s None word = unchanged_calm s (Failed Syntax) refl
 played_by_calm s (Some colour) word = played_calm s colour word
 
 playing_calm : (s : EngineState) (args : List (List ℕ)) → Calm s (playing s args)
-playing_calm s [] = stays_calm s (Failed Syntax) refl
-playing_calm s (a ∷ []) = stays_calm s (Failed Syntax) refl
-playing_calm s (a ∷ b ∷ []) = played_by_calm s (colour_of a) (move_of (board_of s.game).size b)
-playing_calm s (a ∷ b ∷ c ∷ args) = stays_calm s (Failed Syntax) refl
+playing_calm s [] = unchanged_calm s (Failed Syntax) refl
+playing_calm s (a ∷ []) = unchanged_calm s (Failed Syntax) refl
+playing_calm s (a ∷ b ∷ []) = played_by_calm s (colour_of a) (move_word_of (board_of s.game).size b)
+playing_calm s (a ∷ b ∷ c ∷ args) = unchanged_calm s (Failed Syntax) refl
 
 undone_calm : (s : EngineState) (steps : List Step) → Calm s (undone s steps)
-undone_calm s [] = stays_calm s (Failed NoUndo) refl
+undone_calm s [] = unchanged_calm s (Failed NoUndo) refl
 undone_calm s (step ∷ steps) = calmly s (Done []) (record s { game = without_last s.game }) refl refl refl
 
 knowing_calm : (s : EngineState) (args : List (List ℕ)) → Calm s (knowing s args)
-knowing_calm s [] = stays_calm s (Failed Syntax) refl
-knowing_calm s (a ∷ []) = stays_calm s (Done (truth (is_some (command_named a)))) refl
-knowing_calm s (a ∷ b ∷ args) = stays_calm s (Failed Syntax) refl
+knowing_calm s [] = unchanged_calm s (Failed Syntax) refl
+knowing_calm s (a ∷ []) = unchanged_calm s (Done (truth (is_some (command_named a)))) refl
+knowing_calm s (a ∷ b ∷ args) = unchanged_calm s (Failed Syntax) refl
 
 reporting_calm : (s : EngineState) (text : Option (List ℕ)) → Calm s (reporting s text)
-reporting_calm s None = stays_calm s (Failed NoSearch) refl
-reporting_calm s (Some text) = stays_calm s (Done text) refl
+reporting_calm s None = unchanged_calm s (Failed NoSearch) refl
+reporting_calm s (Some text) = unchanged_calm s (Done text) refl
 
 moving_next_calm : (s : EngineState) (left : Supply) (turns : List Decision) (colour : Colour) → calm (moving_next s left turns colour) ≡ true
 moving_next_calm s left [] colour = refl
@@ -96,7 +96,7 @@ moving_next_calm s left (turn ∷ turns) colour = cond_calm' (is_next s colour t
 moving_by_calm : (s : EngineState) (left : Supply) (colour : Option Colour) → calm (moving_by s left colour) ≡ true
 moving_by_calm s left None = refl
 moving_by_calm s left (Some colour) =
-    cond_calm' (may_move (board_of s.game)) (moving_next s left left.turns colour) (unused left (stays s (Failed Over))) (moving_next_calm s left left.turns colour) refl
+    cond_calm' (may_move (board_of s.game)) (moving_next s left left.turns colour) (unused left (unchanged s (Failed Over))) (moving_next_calm s left left.turns colour) refl
 
 -- nothing is used up, and the reaction is calm
 pub record QuietReaction (s : EngineState) (left : Supply) (r : Result Turned Missing) : Type 0 where
@@ -116,10 +116,10 @@ obeyed_quietly s left GenMove args e = absurd (true≢false e)
 obeyed_quietly s left KnownCommand args e = quietly s left _ (knowing_calm s args)
 obeyed_quietly s left LoadSgf args e = absurd (true≢false e)
 obeyed_quietly s left Play args e = quietly s left _ (playing_calm s args)
-obeyed_quietly s left Quit args e = quietly s left _ (bare_calm s args _ (stays_calm s reply.Quit refl))
+obeyed_quietly s left Quit args e = quietly s left _ (bare_calm s args _ (unchanged_calm s reply.Quit refl))
 obeyed_quietly s left SearchReport args e = quietly s left _ (bare_calm s args _ (reporting_calm s s.report))
 obeyed_quietly s left Undo args e = quietly s left _ (bare_calm s args _ (undone_calm s s.game.steps))
-obeyed_quietly s left command args e = quietly s left _ (bare_calm s args _ (stays_calm s (Done _) refl))
+obeyed_quietly s left command args e = quietly s left _ (bare_calm s args _ (unchanged_calm s (Done _) refl))
 
 pub never_at_fault : (s : EngineState) (left : Supply) (command : Command) (args : List (List ℕ)) (after : EngineState) (later : Supply) → uses_up command ≡ false
     → obeyed s left command args ≡ Ok (record { reply = Failed ReadFault; after = after; left = later }) → ⊥

@@ -14,8 +14,8 @@ use Rattle.htp_line.specs.Reading.{Asked}
 use Rattle.std.proofs.lemmas.Bool.{and_parts, true≢false}
 use Rattle.hex_engine.specs.EngineState.{EngineState}
 use Rattle.hex_engine.specs.Supply.{Supply, Loaded, nothing_left, loads_only, turns_only, and_then}
-use Rattle.hex_engine.specs.Uses.{IsLoadOf, Fetches, Loading, Moving, Uses}
-use Rattle.hex_engine.specs.Replies.{Failed as FailedReply, Reaction, Reacts, NoLoad, NoTurn, replied, stays, unused, loaded, loading, loading_by, file_named, lone_colour, Turned, Missing, reaction, reaction_by, obeyed, uses_up, is_next, turned, moving, moving_by, moving_next}
+use Rattle.hex_engine.specs.Uses.{IsLoadOf, FetchesLoads, Loading, Moving, Uses}
+use Rattle.hex_engine.specs.Replies.{Failed as FailedReply, Reaction, Reacts, NoLoad, NoTurn, replied, unchanged, unused, loaded, loading, loading_by, file_named, lone_colour, Turned, Missing, reaction, reaction_by, obeyed, uses_up, is_next, turned, moving, moving_by, moving_next}
 use Rattle.hex_engine.specs.declared.answers.Answer.{Answer}
 use Rattle.hex_cells.specs.declared.colours.Colour.{Colour}
 use Rattle.hex_board.specs.Positions.{Position, is_empty_at}
@@ -27,7 +27,7 @@ use Rattle.std.specs.Prelude.{IfOk, OnErr, bytes_eq, Result, Err, not, is_some}
 use Rattle.hex_engine.proofs.Spelling.{same_text}
 
 pub unfetched : (t : Option Shelved) → Loading t t nothing_left []
-unfetched t = Both-refl t (λ o n. Fetches o n [] []) (λ x. record { tries = []; tried = ap (λ l. record x { tries = l }) (sym (append-nil x.tries)); came = tt })
+unfetched t = Both-refl t (λ o n. FetchesLoads o n [] []) (λ x. record { tries = []; tried = ap (λ l. record x { tries = l }) (sym (append-nil x.tries)); came = tt })
 
 pub nothing_moved : (options : Options) (t : Option (List Decision)) → Moving options t t nothing_left
 nothing_moved options t = record { took = Both-refl t (λ o n. n ≡ o ++ []) (λ x. sym (append-nil x)); good = tt }
@@ -35,23 +35,23 @@ nothing_moved options t = record { took = Both-refl t (λ o n. n ≡ o ++ []) (�
 pub unmoved : (options : Options) (old new : Option (List Decision)) → Same old new → Moving options old new nothing_left
 unmoved options old new same = record { took = Both-weaker old new (λ o n. n ≡ o) (λ o n. n ≡ o ++ []) (λ o n e. e ∙ sym (append-nil o)) same; good = tt }
 
-fetched_as : (o n : Shelved) (name : List ℕ) (f : Fetched) (what : Loaded) → IsLoadOf f what → Tries o n name f → Fetches o n (loads_only (record { name = name; what = what } ∷ [])).loads []
+fetched_as : (o n : Shelved) (name : List ℕ) (f : Fetched) (what : Loaded) → IsLoadOf f what → Tries o n name f → FetchesLoads o n (loads_only (record { name = name; what = what } ∷ [])).loads []
 fetched_as o n name f what load t = record { tries = is_failed f ∷ []; tried = t.tried; came = (subst (λ u. IsLoadOf u what) t.is load, tt) }
 
 -- a fetch of which this came, and what came of its file
 pub fetched_one : (old new : Option Shelved) (name : List ℕ) (said : Option Fetched) (f : Fetched) (what : Loaded) → FetchesOne old new name said → said ≡ Some f → IsLoadOf f what
     → Loading old new (loads_only (record { name = name; what = what } ∷ [])) []
 fetched_one old new name said f what h e load =
-    Both-weaker old new (λ o n. Tries o n name f) (λ o n. Fetches o n (loads_only (record { name = name; what = what } ∷ [])).loads []) (λ o n. fetched_as o n name f what load) (subst (FetchesOne old new name) e h)
+    Both-weaker old new (λ o n. Tries o n name f) (λ o n. FetchesLoads o n (loads_only (record { name = name; what = what } ∷ [])).loads []) (λ o n. fetched_as o n name f what load) (subst (FetchesOne old new name) e h)
 
-vain_as : (o n : Shelved) (name : List ℕ) (f : Fetched) → Tries o n name f → Fetches o n [] (is_failed f ∷ [])
+vain_as : (o n : Shelved) (name : List ℕ) (f : Fetched) → Tries o n name f → FetchesLoads o n [] (is_failed f ∷ [])
 vain_as o n name f t = record { tries = []; tried = t.tried; came = tt }
 
 -- a fetch that came to nothing else
 pub fetched_in_vain : (old new : Option Shelved) (name : List ℕ) (said : Option Fetched) (f : Fetched) → FetchesOne old new name said → said ≡ Some f
     → (tries : List Bool) × (length tries ≤ 1) × Loading old new nothing_left tries
 fetched_in_vain old new name said f h e =
-    (is_failed f ∷ [], omega arith, Both-weaker old new (λ o n. Tries o n name f) (λ o n. Fetches o n [] (is_failed f ∷ [])) (λ o n. vain_as o n name f) (subst (FetchesOne old new name) e h))
+    (is_failed f ∷ [], omega arith, Both-weaker old new (λ o n. Tries o n name f) (λ o n. FetchesLoads o n [] (is_failed f ∷ [])) (λ o n. vain_as o n name f) (subst (FetchesOne old new name) e h))
 
 pub if_ok : {T E : Type 0} (r : Result T E) (P Q : T → Type 0) → ((x : T) → P x → Q x) → IfOk r P → IfOk r Q
 if_ok (Ok x) P Q go h = go x h
@@ -84,20 +84,20 @@ loads_reply s name what args e later =
     ∙ ap (λ b. cond b (unused later (loaded s what)) (Err NoLoad)) (same_name name)
 
 pub over_reply : (s : EngineState) (colour : Colour) (args : List (List ℕ)) → lone_colour args ≡ Some colour → may_move (board_of s.game) ≡ false
-    → (later : Supply) → moving s later args ≡ unused later (stays s (FailedReply Over))
+    → (later : Supply) → moving s later args ≡ unused later (unchanged s (FailedReply Over))
 over_reply s colour args e f later =
-    ap (moving_by s later) e ∙ ap (λ b. cond b (moving_next s later later.turns colour) (unused later (stays s (FailedReply Over)))) f
+    ap (moving_by s later) e ∙ ap (λ b. cond b (moving_next s later later.turns colour) (unused later (unchanged s (FailedReply Over)))) f
 
 pub moved_reply : (s : EngineState) (colour : Colour) (turn : Decision) (args : List (List ℕ)) → lone_colour args ≡ Some colour → may_move (board_of s.game) ≡ true → is_next s colour turn ≡ true
     → (later : Supply) → moving s (and_then (turns_only (turn ∷ [])) later) args ≡ unused later (turned s colour turn)
 moved_reply s colour turn args e f n later =
     let left : Supply = and_then (turns_only (turn ∷ [])) later in
-    ap (moving_by s left) e ∙ ap (λ b. cond b (moving_next s left left.turns colour) (unused left (stays s (FailedReply Over)))) f
+    ap (moving_by s left) e ∙ ap (λ b. cond b (moving_next s left left.turns colour) (unused left (unchanged s (FailedReply Over)))) f
     ∙ ap (λ b. cond b (unused later (turned s colour turn)) (Err NoTurn)) n
 
 pub wants_reply : (s : EngineState) (colour : Colour) (args : List (List ℕ)) → lone_colour args ≡ Some colour → may_move (board_of s.game) ≡ true → moving s nothing_left args ≡ Err NoTurn
 wants_reply s colour args e f =
-    ap (moving_by s nothing_left) e ∙ ap (λ b. cond b (moving_next s nothing_left [] colour) (unused nothing_left (stays s (FailedReply Over)))) f
+    ap (moving_by s nothing_left) e ∙ ap (λ b. cond b (moving_next s nothing_left [] colour) (unused nothing_left (unchanged s (FailedReply Over)))) f
 
 -- the reaction that this answer gives
 pub reacts_reply : (r : Reaction) (answer : Answer) (after : EngineState) (later : Supply) → Reacts r answer after → unused later r ≡ Ok (record { reply = replied answer; after = after; left = later })
@@ -113,7 +113,7 @@ nobody_joined p e = nobody (winner_of p) (and_parts _ _ e).0
 pub has_empty : (p : Position) → may_move p ≡ true → (k : ℕ) × (is_empty_at p k ≡ true)
 has_empty p e = empty_in p (and_parts _ _ e).1
 
-pub unknown_reply : (s : EngineState) (left : Supply) (asked : Asked) (name : List ℕ) → name ≡ asked.name → command_named name ≡ None → reaction s left asked ≡ unused left (stays s (FailedReply UnknownCommand))
+pub unknown_reply : (s : EngineState) (left : Supply) (asked : Asked) (name : List ℕ) → name ≡ asked.name → command_named name ≡ None → reaction s left asked ≡ unused left (unchanged s (FailedReply UnknownCommand))
 unfolding reaction
 unknown_reply s left asked name is e = ap (λ n. reaction_by s left (command_named n) asked.args) (sym is) ∙ ap (λ k. reaction_by s left k asked.args) e
 

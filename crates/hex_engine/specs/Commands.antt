@@ -3,11 +3,17 @@ use Rattle.std.specs.Prelude.{ℕ, List, [], ◌∷◌, Option, codes, map}
 use Rattle.std.specs.List.{find, join_with_byte}
 use Rattle.std.specs.Str.{bytes_eq}
 use Rattle.hex_engine.specs.declared.commands.Command.{Command}
-use Rattle.hex_engine.specs.declared.commands.Command.TheVariants.{BoardSize, ClearBoard, GenMove, KnownCommand, ListCommands, LoadSgf, Name, Play, PrintSgf, ProtocolVersion, Quit, SearchReport, ShowBoard, Undo, Version, Winner}
+use Rattle.hex_engine.specs.declared.commands.Command.TheVariants.{BoardSize, ClearBoard, GenMove}
+use Rattle.hex_engine.specs.declared.commands.Command.TheVariants.{KnownCommand, ListCommands}
+use Rattle.hex_engine.specs.declared.commands.Command.TheVariants.{LoadSgf, Name, Play, PrintSgf}
+use Rattle.hex_engine.specs.declared.commands.Command.TheVariants.{ProtocolVersion, Quit}
+use Rattle.hex_engine.specs.declared.commands.Command.TheVariants.{SearchReport, ShowBoard, Undo}
+use Rattle.hex_engine.specs.declared.commands.Command.TheVariants.{Version, Winner}
 
 -- all of them, in the order in which `list_commands` names them
 abbrev pub commands : List Command
-commands = BoardSize ∷ ClearBoard ∷ GenMove ∷ KnownCommand ∷ ListCommands ∷ LoadSgf ∷ Name ∷ Play ∷ PrintSgf ∷ ProtocolVersion ∷ Quit ∷ SearchReport ∷ ShowBoard ∷ Undo ∷ Version ∷ Winner ∷ []
+commands = BoardSize ∷ ClearBoard ∷ GenMove ∷ KnownCommand ∷ ListCommands ∷ LoadSgf ∷ Name ∷ Play
+    ∷ PrintSgf ∷ ProtocolVersion ∷ Quit ∷ SearchReport ∷ ShowBoard ∷ Undo ∷ Version ∷ Winner ∷ []
 
 abbrev pub name_of : Command → List ℕ
 name_of BoardSize = codes "boardsize"

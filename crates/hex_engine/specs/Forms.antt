@@ -1,5 +1,6 @@
 -- How arguments are spelled.
-use Rattle.std.specs.Prelude.{ℕ, ◌*◌, ◌<◌, ◌==◌, ◌&&◌, ◌||◌, not, Bool, false, List, [], ◌∷◌, Option, Some, None, codes, map, nat_le, if◌then◌else◌}
+use Rattle.std.specs.Prelude.{ℕ, ◌*◌, ◌<◌, ◌==◌, ◌&&◌, ◌||◌, not, Bool, false, List, [], ◌∷◌}
+use Rattle.std.specs.Prelude.{Option, Some, None, codes, map, nat_le, if◌then◌else◌}
 use Rattle.std.specs.Str.{bytes_eq}
 use Rattle.std.specs.Char.{to_ascii_lowercase}
 use Rattle.htp_line.specs.Reading.{number_of, is_digit}
@@ -45,8 +46,8 @@ on_board None = OffBoard
 on_board (Some cell) = Says (Stone cell)
 
 -- what a move's word says on a board of that size
-abbrev pub move_of : ℕ → List ℕ → MoveWord
-move_of size word =
+abbrev pub move_word_of : ℕ → List ℕ → MoveWord
+move_word_of size word =
     if spells word (codes "swap-pieces") then Says Swap
     else if is_vertex word then on_board (vertex_cell size word)
     else Formless

@@ -1,5 +1,6 @@
 -- The board as `showboard` draws it.
-use Rattle.std.specs.Prelude.{ℕ, ◌+◌, ◌*◌, ◌/◌, ◌%◌, List, [], ◌∷◌, ◌++◌, replicate, nat_lt, if◌then◌else◌}
+use Rattle.std.specs.Prelude.{ℕ, ◌+◌, ◌*◌, ◌/◌, ◌%◌, List, [], ◌∷◌, ◌++◌, replicate, nat_lt}
+use Rattle.std.specs.Prelude.{if◌then◌else◌}
 use Rattle.std.specs.List.{flat_map, range_with_len}
 use Rattle.hex_cells.specs.Sets.{has}
 use Rattle.hex_board.specs.Positions.{Position}
@@ -18,7 +19,8 @@ in_two_places n = (if nat_lt n 10 then 32 else 48 + n / 10) ∷ (48 + n % 10) �
 
 -- the marks of row r, each after a space
 unfoldable pub marks : Position → ℕ → List ℕ
-marks now r = flat_map (λ column. 32 ∷ mark now (r * now.size + column) ∷ []) (range_with_len 0 now.size)
+marks now r = flat_map
+    (λ column. 32 ∷ mark now (r * now.size + column) ∷ []) (range_with_len 0 now.size)
 
 -- row r, from 0: r spaces, the row's number, and its marks
 unfoldable pub row_line : Position → ℕ → List ℕ
@@ -26,4 +28,5 @@ row_line now r = replicate r 32 ++ in_two_places (r + 1) ++ marks now r
 
 -- the header and the rows, a line feed before each
 unfoldable pub picture : Position → List ℕ
-picture now = 10 ∷ header now.size ++ flat_map (λ r. 10 ∷ row_line now r) (range_with_len 0 now.size)
+picture now = 10 ∷ header now.size
+    ++ flat_map (λ r. 10 ∷ row_line now r) (range_with_len 0 now.size)

@@ -1,5 +1,7 @@
 -- What answers a request, and what stands then.
-use Rattle.std.specs.Prelude.{◌≡◌, ℕ, ◌+◌, ◌==◌, ◌&&◌, ◌≤◌, length, Bool, true, false, List, [], ◌∷◌, Option, Some, None, Result, Ok, Err, codes, is_some, nat_le, if◌then◌else◌}
+use Rattle.std.specs.Prelude.{◌≡◌, ℕ, ◌+◌, ◌==◌, ◌&&◌, ◌≤◌, length, Bool, true, false, List, []}
+use Rattle.std.specs.Prelude.{◌∷◌, Option, Some, None, Result, Ok, Err, codes, is_some, nat_le}
+use Rattle.std.specs.Prelude.{if◌then◌else◌}
 use Rattle.std.specs.Str.{bytes_eq, is_utf8}
 use Rattle.htp_line.specs.Reading.{Asked}
 use Rattle.sgf_tree.specs.Printing.{trees_print}
@@ -17,7 +19,7 @@ use Rattle.hex_game.specs.Moves.{step_of}
 use Rattle.hex_game.specs.Games.{board_of, is_legal, with_step, without_last}
 use Rattle.hex_game.specs.declared.moves.Step.{Step}
 use Rattle.hex_engine.specs.Commands.{command_named, all_names}
-use Rattle.hex_engine.specs.Forms.{colour_of, move_of, sizes_of}
+use Rattle.hex_engine.specs.Forms.{colour_of, move_word_of, sizes_of}
 use Rattle.hex_engine.specs.Picture.{picture}
 use Rattle.hex_engine.specs.Report.{report_of}
 use Rattle.hex_engine.specs.EngineState.{EngineState, emptied}
@@ -28,7 +30,9 @@ use Rattle.hex_engine.specs.declared.forms.MoveWord.{MoveWord}
 use Rattle.hex_engine.specs.declared.forms.MoveWord.TheVariants.{Formless, OffBoard, Says}
 use Rattle.hex_engine.specs.declared.answers.Fail.{Fail}
 use Rattle.hex_engine.specs.declared.answers.Fail.TheVariants as fail
-use Rattle.hex_engine.specs.declared.answers.Fail.TheVariants.{UnknownCommand, Syntax, Size, Illegal, Over, NoUndo, ReadFault, NoSearch}
+use Rattle.hex_engine.specs.declared.answers.Fail.TheVariants.{UnknownCommand, Syntax, Size}
+use Rattle.hex_engine.specs.declared.answers.Fail.TheVariants.{Illegal, Over, NoUndo, ReadFault}
+use Rattle.hex_engine.specs.declared.answers.Fail.TheVariants.{NoSearch}
 use Rattle.hex_engine.specs.declared.answers.Answer.{Answer}
 use Rattle.hex_engine.specs.declared.answers.Answer.TheVariants as answer
 
@@ -60,8 +64,8 @@ message ReadFault = codes "read fault"
 message NoSearch = codes "no search"
 
 -- an answer after which all stands as before
-abbrev pub stays : EngineState → Reply → Reaction
-stays standing reply = record { reply = reply; after = standing }
+abbrev pub unchanged : EngineState → Reply → Reaction
+unchanged standing reply = record { reply = reply; after = standing }
 
 -- a success without text, after which this stands
 abbrev pub moves_on : EngineState → Reaction
@@ -70,35 +74,38 @@ moves_on standing = record { reply = Done []; after = standing }
 -- for a command that takes no argument
 abbrev pub if_bare : EngineState → List (List ℕ) → Reaction → Reaction
 if_bare standing [] reaction = reaction
-if_bare standing (word ∷ words) reaction = stays standing (Failed Syntax)
+if_bare standing (word ∷ words) reaction = unchanged standing (Failed Syntax)
 
 -- a board has 1 to 11 columns, and as many rows
-abbrev pub is_size : ℕ → ℕ → Bool
-is_size columns rows = (columns == rows) && (nat_le 1 columns && nat_le columns 11)
+abbrev pub are_sizes : ℕ → ℕ → Bool
+are_sizes columns rows = (columns == rows) && (nat_le 1 columns && nat_le columns 11)
 
 abbrev pub resized : EngineState → Option (ℕ × ℕ) → Reaction
-resized standing None = stays standing (Failed Syntax)
-resized standing (Some sizes) = if is_size sizes.0 sizes.1 then moves_on (emptied standing sizes.0) else stays standing (Failed Size)
+resized standing None = unchanged standing (Failed Syntax)
+resized standing (Some sizes) = if are_sizes sizes.0 sizes.1 then moves_on
+    (emptied standing sizes.0) else unchanged standing (Failed Size)
 
 abbrev pub played : EngineState → Colour → MoveWord → Reaction
-played standing colour Formless = stays standing (Failed Syntax)
-played standing colour OffBoard = stays standing (Failed Illegal)
+played standing colour Formless = unchanged standing (Failed Syntax)
+played standing colour OffBoard = unchanged standing (Failed Illegal)
 played standing colour (Says what) =
-    if is_legal standing.game (step_of colour what) then moves_on (record standing { game = with_step standing.game (step_of colour what) })
-    else stays standing (Failed Illegal)
+    if is_legal standing.game (step_of colour what) then moves_on
+    (record standing { game = with_step standing.game (step_of colour what) })
+    else unchanged standing (Failed Illegal)
 
 abbrev pub played_by : EngineState → Option Colour → MoveWord → Reaction
-played_by standing None what = stays standing (Failed Syntax)
+played_by standing None what = unchanged standing (Failed Syntax)
 played_by standing (Some colour) what = played standing colour what
 
 abbrev pub playing : EngineState → List (List ℕ) → Reaction
-playing standing [] = stays standing (Failed Syntax)
-playing standing (colour ∷ []) = stays standing (Failed Syntax)
-playing standing (colour ∷ what ∷ []) = played_by standing (colour_of colour) (move_of (board_of standing.game).size what)
-playing standing (colour ∷ what ∷ word ∷ words) = stays standing (Failed Syntax)
+playing standing [] = unchanged standing (Failed Syntax)
+playing standing (colour ∷ []) = unchanged standing (Failed Syntax)
+playing standing (colour ∷ what ∷ []) = played_by standing (colour_of colour)
+    (move_word_of (board_of standing.game).size what)
+playing standing (colour ∷ what ∷ word ∷ words) = unchanged standing (Failed Syntax)
 
 abbrev pub undone : EngineState → List Step → Reaction
-undone standing [] = stays standing (Failed NoUndo)
+undone standing [] = unchanged standing (Failed NoUndo)
 undone standing (step ∷ steps) = moves_on (record standing { game = without_last standing.game })
 
 abbrev pub truth : Bool → List ℕ
@@ -106,9 +113,9 @@ truth true = codes "true"
 truth false = codes "false"
 
 abbrev pub knowing : EngineState → List (List ℕ) → Reaction
-knowing standing [] = stays standing (Failed Syntax)
-knowing standing (word ∷ []) = stays standing (Done (truth (is_some (command_named word))))
-knowing standing (word ∷ other ∷ words) = stays standing (Failed Syntax)
+knowing standing [] = unchanged standing (Failed Syntax)
+knowing standing (word ∷ []) = unchanged standing (Done (truth (is_some (command_named word))))
+knowing standing (word ∷ other ∷ words) = unchanged standing (Failed Syntax)
 
 abbrev pub winner_text : Option Colour → List ℕ
 winner_text None = codes "none"
@@ -126,15 +133,16 @@ unused left r = Ok (record { reply = r.reply; after = r.after; left = left })
 
 -- what stands after a file came to this
 abbrev pub loaded : EngineState → Loaded → Reaction
-loaded standing Unread = stays standing (Failed ReadFault)
-loaded standing Refused = stays standing (Failed fail.NoLoad)
+loaded standing Unread = unchanged standing (Failed ReadFault)
+loaded standing Refused = unchanged standing (Failed fail.NoLoad)
 loaded standing (Loads game) = moves_on (record standing { game = game })
 
 -- the next load is used up, which has to be of this name
 abbrev pub loading_next : EngineState → Supply → List Load → List ℕ → Result Turned Missing
 loading_next standing left [] name = Err NoLoad
 loading_next standing left (load ∷ loads) name =
-    if bytes_eq load.name name then unused (record left { loads = loads }) (loaded standing load.what) else Err NoLoad
+    if bytes_eq load.name name then unused (record left { loads = loads })
+    (loaded standing load.what) else Err NoLoad
 
 -- the file's name, where it is the only argument and valid UTF-8
 abbrev pub file_named : List (List ℕ) → Option (List ℕ)
@@ -143,7 +151,7 @@ file_named (name ∷ []) = if is_utf8 name then Some name else None
 file_named (name ∷ word ∷ words) = None
 
 abbrev pub loading_by : EngineState → Supply → Option (List ℕ) → Result Turned Missing
-loading_by standing left None = unused left (stays standing (Failed Syntax))
+loading_by standing left None = unused left (unchanged standing (Failed Syntax))
 loading_by standing left (Some name) = loading_next standing left left.loads name
 
 abbrev pub loading : EngineState → Supply → List (List ℕ) → Result Turned Missing
@@ -152,10 +160,12 @@ loading standing left args = loading_by standing left (file_named args)
 abbrev pub is_board : Position → Position → Bool
 is_board a b = (a.size == b.size) && ((a.black == b.black) && (a.white == b.white))
 
--- the turn is this conversation's next: it has the board of the game, this colour, and the number of turns before it
+-- the turn is this conversation's next: it has the board of the game, this colour, and the number
+-- of turns before it
 abbrev pub is_next : EngineState → Colour → Decision → Bool
 is_next standing colour turn =
-    is_board turn.board (board_of standing.game) && (is_same turn.player colour && (turn.number == standing.turns))
+    is_board turn.board (board_of standing.game) &&
+    (is_same turn.player colour && (turn.number == standing.turns))
 
 -- the turn's cell is played and answered, and the turn is the last one
 abbrev pub turned : EngineState → Colour → Decision → Reaction
@@ -172,12 +182,15 @@ turned standing colour turn = record {
 abbrev pub moving_next : EngineState → Supply → List Decision → Colour → Result Turned Missing
 moving_next standing left [] colour = Err NoTurn
 moving_next standing left (turn ∷ turns) colour =
-    if is_next standing colour turn then unused (record left { turns = turns }) (turned standing colour turn) else Err NoTurn
+    if is_next standing colour turn then unused (record left { turns = turns })
+    (turned standing colour turn) else Err NoTurn
 
 abbrev pub moving_by : EngineState → Supply → Option Colour → Result Turned Missing
-moving_by standing left None = unused left (stays standing (Failed Syntax))
+moving_by standing left None = unused left (unchanged standing (Failed Syntax))
 moving_by standing left (Some colour) =
-    if may_move (board_of standing.game) then moving_next standing left left.turns colour else unused left (stays standing (Failed Over))
+    if may_move
+    (board_of standing.game) then moving_next standing left left.turns colour else unused left
+    (unchanged standing (Failed Over))
 
 -- the colour, where it is the only argument
 abbrev pub lone_colour : List (List ℕ) → Option Colour
@@ -189,30 +202,43 @@ abbrev pub moving : EngineState → Supply → List (List ℕ) → Result Turned
 moving standing left args = moving_by standing left (lone_colour args)
 
 abbrev pub reporting : EngineState → Option (List ℕ) → Reaction
-reporting standing None = stays standing (Failed NoSearch)
-reporting standing (Some text) = stays standing (Done text)
+reporting standing None = unchanged standing (Failed NoSearch)
+reporting standing (Some text) = unchanged standing (Done text)
 
 -- what a command with these arguments does to a conversation
 unfoldable pub obeyed : EngineState → Supply → Command → List (List ℕ) → Result Turned Missing
 obeyed standing left command.BoardSize args = unused left (resized standing (sizes_of args))
-obeyed standing left command.ClearBoard args = unused left (if_bare standing args (moves_on (emptied standing (board_of standing.game).size)))
+obeyed standing left command.ClearBoard args = unused left
+    (if_bare standing args (moves_on (emptied standing (board_of standing.game).size)))
 obeyed standing left command.GenMove args = moving standing left args
 obeyed standing left command.KnownCommand args = unused left (knowing standing args)
-obeyed standing left command.ListCommands args = unused left (if_bare standing args (stays standing (Done all_names)))
+obeyed standing left command.ListCommands args = unused left
+    (if_bare standing args (unchanged standing (Done all_names)))
 obeyed standing left command.LoadSgf args = loading standing left args
-obeyed standing left command.Name args = unused left (if_bare standing args (stays standing (Done (codes "hexd"))))
+obeyed standing left command.Name args = unused left
+    (if_bare standing args (unchanged standing (Done (codes "hexd"))))
 obeyed standing left command.Play args = unused left (playing standing args)
-obeyed standing left command.PrintSgf args = unused left (if_bare standing args (stays standing (Done (trees_print (record_of standing.game)))))
-obeyed standing left command.ProtocolVersion args = unused left (if_bare standing args (stays standing (Done (codes "2"))))
-obeyed standing left command.Quit args = unused left (if_bare standing args (stays standing Quit))
-obeyed standing left command.SearchReport args = unused left (if_bare standing args (reporting standing standing.report))
-obeyed standing left command.ShowBoard args = unused left (if_bare standing args (stays standing (Done (picture (board_of standing.game)))))
-obeyed standing left command.Undo args = unused left (if_bare standing args (undone standing standing.game.steps))
-obeyed standing left command.Version args = unused left (if_bare standing args (stays standing (Done (codes "1.0"))))
-obeyed standing left command.Winner args = unused left (if_bare standing args (stays standing (Done (winner_text (winner_of (board_of standing.game))))))
+obeyed standing left command.PrintSgf args = unused left
+    (if_bare standing args (unchanged standing (Done (trees_print (record_of standing.game)))))
+obeyed standing left command.ProtocolVersion args = unused left
+    (if_bare standing args (unchanged standing (Done (codes "2"))))
+obeyed standing left command.Quit args = unused left
+    (if_bare standing args (unchanged standing Quit))
+obeyed standing left command.SearchReport args = unused left
+    (if_bare standing args (reporting standing standing.report))
+obeyed standing left command.ShowBoard args = unused left
+    (if_bare standing args (unchanged standing (Done (picture (board_of standing.game)))))
+obeyed standing left command.Undo args = unused left
+    (if_bare standing args (undone standing standing.game.steps))
+obeyed standing left command.Version args = unused left
+    (if_bare standing args (unchanged standing (Done (codes "1.0"))))
+obeyed standing left command.Winner args = unused left
+    (if_bare standing args
+    (unchanged standing (Done (winner_text (winner_of (board_of standing.game))))))
 
-abbrev pub reaction_by : EngineState → Supply → Option Command → List (List ℕ) → Result Turned Missing
-reaction_by standing left None args = unused left (stays standing (Failed UnknownCommand))
+abbrev pub reaction_by : EngineState → Supply → Option Command → List (List ℕ)
+    → Result Turned Missing
+reaction_by standing left None args = unused left (unchanged standing (Failed UnknownCommand))
 reaction_by standing left (Some command) args = obeyed standing left command args
 
 -- what answers a request, or what it wants that is not there
@@ -235,15 +261,22 @@ uses_up command.GenMove = true
 uses_up command.LoadSgf = true
 uses_up _ = false
 
--- the answer to a command that uses nothing up, and what stands after it; there is none where the command uses something up
+-- the answer to a command that uses nothing up, and what stands after it; there is none where the
+-- command uses something up
 abbrev pub Obeys : EngineState → Command → List (List ℕ) → Option Answer → EngineState → Type 0
 Obeys standing command args None after = (uses_up command ≡ true) × (after ≡ standing)
 Obeys standing command args (Some answer) after =
-    (uses_up command ≡ false) × ((left : Supply) → obeyed standing left command args ≡ Ok (record { reply = replied answer; after = after; left = left }))
+    (uses_up command ≡ false)
+    × ((left : Supply)
+    → obeyed standing left command args
+    ≡ Ok (record { reply = replied answer; after = after; left = left }))
 
--- This answer, and what stands after it, are the reaction where this is used up, whatever is left then.
+-- This answer, and what stands after it, are the reaction where this is used up, whatever is left
+-- then.
 abbrev pub ReactsWith : (Supply → Result Turned Missing) → Supply → Answer → EngineState → Type 0
-ReactsWith react used answer after = (later : Supply) → react (and_then used later) ≡ Ok (record { reply = replied answer; after = after; left = later })
+ReactsWith react used answer after = (later : Supply)
+    → react (and_then used later)
+    ≡ Ok (record { reply = replied answer; after = after; left = later })
 
 -- the answer has no text longer than a vertex, or it is a failure
 abbrev pub IsBrief : Answer → Type 0

@@ -22,7 +22,8 @@ AreOn size (row ∷ rows) = (row.cell < size * size) × AreOn size rows
 
 -- the number of a tree's playouts, and a line for each child of its root, in rising order of cells
 abbrev pub report_on : ℕ → ClosedTree → List ℕ
-report_on size closed = codes "playouts " ++ decimal closed.shape.knobs.playouts ++ row_lines size (rows_of closed.shape closed.words)
+report_on size closed = codes "playouts " ++ decimal closed.shape.knobs.playouts
+    ++ row_lines size (rows_of closed.shape closed.words)
 
 -- the report of a turn's tree, if it has one
 unfoldable pub report_of : Decision → Option (List ℕ)

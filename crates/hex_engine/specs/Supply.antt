@@ -1,4 +1,5 @@
--- What a conversation uses up: what comes of the files that it asks for, and the turns that its moves are searched in.
+-- What a conversation uses up: what comes of the files that it asks for, and the turns that its
+-- moves are searched in.
 use Rattle.std.specs.Prelude.{ℕ, List, [], ◌++◌}
 use Rattle.hex_game.specs.Games.{GameData}
 use Rattle.hex_plan.specs.Turns.{Decision}

@@ -1,9 +1,11 @@
--- Where what a conversation used up came from: its shelf, and the searches whose turns its archive took.
-use Rattle.std.specs.Prelude.{◌≡◌, ◌≤◌, ◌⊎◌, ℕ, Bool, false, List, [], ◌∷◌, ◌++◌, length, Option, Ok}
+-- Where what a conversation used up came from: its shelf, and the searches whose turns its archive
+-- took.
+use Rattle.std.specs.Prelude.{◌≡◌, ◌≤◌, ◌⊎◌, ℕ, Bool, false, List, [], ◌∷◌, ◌++◌, length, Option}
+use Rattle.std.specs.Prelude.{Ok}
 use Rattle.htp_line.specs.Reading.{Asked}
 use Rattle.hex_io.specs.Told.{Both}
 use Rattle.hex_io.specs.declared.files.File.{File}
-use Rattle.hex_io.specs.Shelves.{Shelved, Fetched, Failed, Missing, Long, Held, fetched_of}
+use Rattle.hex_io.specs.Shelves.{Shelved, Fetched, Failed, Missing, Long, Contents, fetched_of}
 use Rattle.hex_game.specs.Games.{GameData}
 use Rattle.sgf_tree.specs.Trees.{GameTrees, depth}
 use Rattle.sgf_tree.specs.Grammar.{Text}
@@ -17,7 +19,8 @@ use Rattle.hex_engine.specs.Replies.{ReactsWith, IsBrief, reaction}
 use Rattle.hex_engine.specs.declared.answers.Answer.{Answer}
 use Rattle.hex_engine.specs.declared.options.Options.{Options}
 
--- the bytes are a record of the game: a text of trees that nest no deeper than is read, whose game it is
+-- the bytes are a record of the game: a text of trees that nest no deeper than is read, whose game
+-- it is
 pub record IsRecordOf (bytes : List ℕ) (game : GameData) : Type 0 where
   pub trees : GameTrees
   pub text : Text trees bytes
@@ -35,24 +38,27 @@ abbrev pub IsLoadOf : Fetched → Loaded → Type 0
 IsLoadOf Failed loaded = loaded ≡ Unread
 IsLoadOf Missing loaded = loaded ≡ Refused
 IsLoadOf Long loaded = loaded ≡ Refused
-IsLoadOf (Held bytes) loaded = IsReadAs bytes loaded
+IsLoadOf (Contents bytes) loaded = IsReadAs bytes loaded
 
--- each load came of the fetch of its name, in turn: for each fetch it is told whether it was at fault
+-- each load came of the fetch of its name, in turn: for each fetch it is told whether it was at
+-- fault
 abbrev pub CameOf : List File → List Bool → List Load → Type 0
 CameOf files [] [] = Unit {0}
 CameOf files [] (load ∷ loads) = ⊥
 CameOf files (failed ∷ tries) [] = ⊥
-CameOf files (failed ∷ tries) (load ∷ loads) = IsLoadOf (fetched_of files failed load.name) load.what × CameOf files tries loads
+CameOf files (failed ∷ tries) (load ∷ loads) = IsLoadOf
+    (fetched_of files failed load.name) load.what × CameOf files tries loads
 
--- the files stay, and the loads came of the fetches that were tried since, but for those at the end that came to nothing
-pub record Fetches (old new : Shelved) (loads : List Load) (in_vain : List Bool) : Type 0 where
+-- the files stay, and the loads came of the fetches that were tried since, but for those at the end
+-- that came to nothing
+pub record FetchesLoads (old new : Shelved) (loads : List Load) (in_vain : List Bool) : Type 0 where
   pub tries : List Bool
   pub tried : new ≡ record old { tries = old.tries ++ (tries ++ in_vain) }
   pub came : CameOf old.files tries loads
 
 -- the same, where the shelf tells it
 abbrev pub Loading : Option Shelved → Option Shelved → Supply → List Bool → Type 0
-Loading old new used in_vain = Both old new (λ o n. Fetches o n used.loads in_vain)
+Loading old new used in_vain = Both old new (λ o n. FetchesLoads o n used.loads in_vain)
 
 -- the turn is one that a session with these options owes
 abbrev pub IsGoodFor : Options → Decision → Type 0
@@ -69,24 +75,32 @@ pub record HasOneWorker (options : Options) : Type 0 where
   pub no_connections : options.hsearch ≡ false
 
 -- the archive, where it tells it, took these turns, and each is good
-pub record Moving (options : Options) (old new : Option (List Decision)) (used : Supply) : Type 0 where
+pub record Moving (options : Options) (old new : Option (List Decision))
+    (used : Supply) : Type 0 where
   pub took : Both old new (λ o n. n ≡ o ++ used.turns)
   pub good : AreGood options used.turns
 
--- This was used up since: its loads came of the shelf's fetches, and its turns were taken by the archive.
-pub record Uses (options : Options) (shelf shelf_now : Option Shelved) (archive archive_now : Option (List Decision)) (used : Supply) (in_vain : List Bool) : Type 0 where
+-- This was used up since: its loads came of the shelf's fetches, and its turns were taken by the
+-- archive.
+pub record Uses (options : Options) (shelf shelf_now : Option Shelved)
+    (archive archive_now : Option (List Decision)) (used : Supply)
+    (in_vain : List Bool) : Type 0 where
   pub loading : Loading shelf shelf_now used in_vain
   pub moving : Moving options archive archive_now used
 
 -- nothing was used up, and one fetch at most came to nothing
-pub record UsesNothing (options : Options) (shelf shelf_now : Option Shelved) (archive archive_now : Option (List Decision)) : Type 0 where
+pub record UsesNothing (options : Options) (shelf shelf_now : Option Shelved)
+    (archive archive_now : Option (List Decision)) : Type 0 where
   pub in_vain : List Bool
   pub few : length in_vain ≤ 1
   pub uses : Uses options shelf shelf_now archive archive_now nothing_left in_vain
 
--- A request was answered so: this was used up for it, and the answer, with what stands after it, is the reaction to the
--- request with that to use up. An answer for which something was used up is brief.
-pub record Answered (engine : EngineState) (shelf shelf_now : Option Shelved) (archive archive_now : Option (List Decision)) (asked : Asked) (answer : Answer) (after : EngineState) : Type 0 where
+-- A request was answered so: this was used up for it, and the answer, with what stands after it, is
+-- the reaction to the request with that to use up. An answer for which something was used up is
+-- brief.
+pub record Answered (engine : EngineState) (shelf shelf_now : Option Shelved)
+    (archive archive_now : Option (List Decision)) (asked : Asked) (answer : Answer)
+    (after : EngineState) : Type 0 where
   pub used : Supply
   pub uses : Uses engine.options shelf shelf_now archive archive_now used []
   pub reacts : ReactsWith (λ supply. reaction engine supply asked) used answer after

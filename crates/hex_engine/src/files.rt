@@ -29,10 +29,13 @@ pub enum File {
 
 /// Fetches the file of that name, and reads its game.
 pub fn load_game<F: Shelf>(alloc: Global, shelf: &mut F, name: &str) -> Result<File, Memory>
-    ensures came { IfOk result (λ file. Loading (F.told shelf.old) (F.told shelf.new) (loads_only (record { name = name.now; what = came_to file } ∷ [])) []) }
+    ensures came { IfOk result
+        (λ file. Loading (F.told shelf.old) (F.told shelf.new)
+        (loads_only (record { name = name.now; what = came_to file } ∷ [])) []) }
     ensures vain { OnErr result ((tries : List Bool) × (length tries ≤ 1)
         × Loading (F.told shelf.old) (F.told shelf.new) nothing_left tries) }
-    ensures read_fault { CountsFault (F.faults shelf.old) (F.faults shelf.new) (result ≡ Ok File.Unread) }
+    ensures read_fault { CountsFault (F.faults shelf.old) (F.faults shelf.new)
+        (result ≡ Ok File.Unread) }
 {
     match shelf.fetch(alloc, name) {
         Ok(Some(bytes)) => read_game(alloc, &bytes),

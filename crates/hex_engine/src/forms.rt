@@ -2,7 +2,8 @@
 
 ghost use Rattle.std.specs.Prelude.{◌≡◌, option_map};
 ghost use Rattle.hex_engine.specs.Replies.{file_named, lone_colour};
-ghost use Rattle.hex_engine.specs.Forms.{spells, colour_of, is_first_digit_of, is_vertex, move_of, sizes_of, IsSaidOf};
+ghost use Rattle.hex_engine.specs.Forms.{spells, colour_of, is_first_digit_of, is_vertex};
+ghost use Rattle.hex_engine.specs.Forms.{move_word_of, sizes_of, IsSaidOf};
 
 use hex_cells::{Colour, Size, read_vertex};
 use hex_game::Move;
@@ -41,7 +42,7 @@ pub fn read_colour(word: &[u8]) -> Option<Colour>
 
 /// What a move's word says on a board of that size.
 pub fn read_move(word: &[u8], size: Size) -> MoveWord
-    ensures value { result ≡ move_of size word.now }
+    ensures value { result ≡ move_word_of size word.now }
     ensures on_board { IsSaidOf size result }
 {
     if is_spelled(word, b"swap-pieces") {

@@ -7,6 +7,7 @@ use tree_words::Knobs;
 pub struct Options {
     /// The knobs of its searches. The seed is that of the first one.
     pub knobs: Knobs,
-    /// Whether it looks for virtual connections before it searches. It has no effect yet: none are looked for.
+    /// Whether it looks for virtual connections before it searches. It has no effect yet: none are
+    /// looked for.
     pub hsearch: bool,
 }

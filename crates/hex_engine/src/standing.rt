@@ -1,6 +1,7 @@
 //! The engine and its commands.
 
-ghost use Rattle.std.specs.Prelude.{◌≡◌, ◌≤◌, ◌∷◌, ◌++◌, length, ℕ, Bool, true, List, [], IfOk, OnErr, Ok, Err, Some, None, codes};
+ghost use Rattle.std.specs.Prelude.{◌≡◌, ◌≤◌, ◌∷◌, ◌++◌, length, ℕ, Bool, true, List, [], IfOk};
+ghost use Rattle.std.specs.Prelude.{OnErr, Ok, Err, Some, None, codes};
 ghost use Rattle.hex_io.specs.Causes.{CountsFault};
 ghost use Rattle.hex_io.specs.Told.{Both, Same};
 ghost use Rattle.hex_plan.specs.Turns.{Decision};
@@ -16,7 +17,10 @@ ghost use Rattle.hex_engine.specs.Picture.{picture};
 ghost use Rattle.hex_engine.specs.EngineState.{EngineState, opening, emptied};
 ghost use Rattle.hex_engine.specs.Supply.{Load, nothing_left, loads_only, turns_only};
 ghost use Rattle.hex_engine.specs.Uses.{Answered, IsGoodFor, Loading, Moving, UsesNothing};
-ghost use Rattle.hex_engine.specs.Replies.{IsBrief, Reacts, ReactsWith, Obeys, NoTurn, Done, Quit, reaction, replied, obeyed, if_bare, stays, moves_on, loading, moving, is_next, turned, resized, playing, played, undone, knowing, reporting, winner_text};
+ghost use Rattle.hex_engine.specs.Replies.{IsBrief, Reacts, ReactsWith, Obeys, NoTurn, Done, Quit};
+ghost use Rattle.hex_engine.specs.Replies.{reaction, replied, obeyed, if_bare, unchanged, moves_on};
+ghost use Rattle.hex_engine.specs.Replies.{loading, moving, is_next, turned, resized, playing};
+ghost use Rattle.hex_engine.specs.Replies.{played, undone, knowing, reporting, winner_text};
 ghost use Rattle.htp_line.specs.Reading.{asked_of};
 
 use super::answers::{Answer, EngineError, Fail, Memory};
@@ -96,14 +100,17 @@ impl Engine {
         self.turns
     }
 
-    /// Answers one request. After an error nothing changed here, and no turn was taken; a file may have been fetched.
+    /// Answers one request. After an error nothing changed here, and no turn was taken; a file may
+    /// have been fetched.
     ///
-    /// `read fault` comes only where the shelf counted a fault, and `cannot load file` exactly where the fetched file is
-    /// none, too long, or no record of a game (SGF FF[4], GM[11]). `Archive` comes only where the archive counted a fault.
-    /// With every other answer the counts are as before.
+    /// `read fault` comes only where the shelf counted a fault, and `cannot load file` exactly
+    /// where the fetched file is none, too long, or no record of a game (SGF FF[4], GM[11]).
+    /// `Archive` comes only where the archive counted a fault. With every other answer the counts
+    /// are as before.
     ///
-    /// The answer to a `genmove` or a `loadsgf` is brief: a vertex, nothing, or the message of a failure. So a caller that
-    /// has room for such an answer before it asks can give the answer of each turn that was taken.
+    /// The answer to a `genmove` or a `loadsgf` is brief: a vertex, nothing, or the message of a
+    /// failure. So a caller that has room for such an answer before it asks can give the answer of
+    /// each turn that was taken.
     #[tactic(auto, unfolding(crate::specs::Replies::reaction))]
     pub fn line<F: Shelf, A: Archive>(
         &mut self,
@@ -111,19 +118,25 @@ impl Engine {
         shelf: &mut F,
         archive: &mut A,
     ) -> Result<Answer, EngineError>
-        ensures reply { IfOk result (λ answer. Answered self.old (F.told shelf.old) (F.told shelf.new)
+        ensures reply { IfOk result
+            (λ answer. Answered self.old (F.told shelf.old) (F.told shelf.new)
             (A.told archive.old) (A.told archive.new) (asked_of request.now) answer self.new) }
 
         // After an error.
         ensures err { OnErr result (self.new ≡ self.old) }
-        ensures in_vain { OnErr result (UsesNothing self.old.options (F.told shelf.old) (F.told shelf.new)
+        ensures in_vain { OnErr result
+            (UsesNothing self.old.options (F.told shelf.old) (F.told shelf.new)
             (A.told archive.old) (A.told archive.new)) }
-        ensures wants_turn { result ≡ Err EngineError.Archive → reaction self.old nothing_left (asked_of request.now) ≡ Err NoTurn }
-        ensures no_fetch { result ≡ Err EngineError.Archive → Same (F.told shelf.old) (F.told shelf.new) }
+        ensures wants_turn { result ≡ Err EngineError.Archive →
+            reaction self.old nothing_left (asked_of request.now) ≡ Err NoTurn }
+        ensures no_fetch { result ≡ Err EngineError.Archive →
+            Same (F.told shelf.old) (F.told shelf.new) }
 
         // The causes.
-        ensures read_fault { CountsFault (F.faults shelf.old) (F.faults shelf.new) (result ≡ Ok (Answer.Fail Fail.ReadFault)) }
-        ensures archive_fault { CountsFault (A.faults archive.old) (A.faults archive.new) (result ≡ Err EngineError.Archive) }
+        ensures read_fault { CountsFault (F.faults shelf.old) (F.faults shelf.new)
+            (result ≡ Ok (Answer.Fail Fail.ReadFault)) }
+        ensures archive_fault { CountsFault (A.faults archive.old) (A.faults archive.new)
+            (result ≡ Err EngineError.Archive) }
     {
         let args = request.args.as_slice();
         let Some(command) = Command::named(request.name.as_slice()) else {
@@ -193,7 +206,9 @@ impl Engine {
     /// Fails: `syntax error`.
     /// Answers nothing; board and history are emptied, the size stays.
     fn clear(&mut self, args: &[Bytes]) -> Answer
-        ensures { Reacts (if_bare self.old args.now (moves_on (emptied self.old (board_of self.old.game).size))) result self.new }
+        ensures { Reacts
+            (if_bare self.old args.now (moves_on (emptied self.old (board_of self.old.game).size)))
+            result self.new }
     {
         if !args.is_empty() {
             return Answer::Fail(Fail::Syntax);
@@ -237,7 +252,8 @@ impl Engine {
     /// Fails, in order: `syntax error`; `cannot undo`.
     /// Answers nothing; the last step is taken back.
     fn undo(&mut self, args: &[Bytes]) -> Answer
-        ensures { Reacts (if_bare self.old args.now (undone self.old self.old.game.steps)) result self.new }
+        ensures { Reacts
+            (if_bare self.old args.now (undone self.old self.old.game.steps)) result self.new }
     {
         if !args.is_empty() {
             return Answer::Fail(Fail::Syntax);
@@ -268,7 +284,9 @@ impl Engine {
     /// Fails: `syntax error`.
     /// Answers the names of all commands that are built, each on a line.
     fn list(&self, args: &[Bytes]) -> Result<Answer, Memory>
-        ensures { IfOk result (λ answer. Reacts (if_bare self.now args.now (stays self.now (Done all_names))) answer self.now) }
+        ensures { IfOk result
+            (λ answer. Reacts
+            (if_bare self.now args.now (unchanged self.now (Done all_names))) answer self.now) }
     {
         if !args.is_empty() {
             return Ok(Answer::Fail(Fail::Syntax));
@@ -282,12 +300,14 @@ impl Engine {
     fn load<F: Shelf>(&mut self, args: &[Bytes], shelf: &mut F) -> Result<Answer, Memory>
         ensures reply { IfOk result (λ answer. (loads : List Load)
             × Loading (F.told shelf.old) (F.told shelf.new) (loads_only loads) []
-            × ReactsWith (λ left. loading self.old left args.now) (loads_only loads) answer self.new) }
+            × ReactsWith
+            (λ left. loading self.old left args.now) (loads_only loads) answer self.new) }
         ensures brief { IfOk result IsBrief }
         ensures err { OnErr result (self.new ≡ self.old) }
         ensures in_vain { OnErr result ((tries : List Bool) × (length tries ≤ 1)
             × Loading (F.told shelf.old) (F.told shelf.new) nothing_left tries) }
-        ensures read_fault { CountsFault (F.faults shelf.old) (F.faults shelf.new) (result ≡ Ok (Answer.Fail Fail.ReadFault)) }
+        ensures read_fault { CountsFault (F.faults shelf.old) (F.faults shelf.new)
+            (result ≡ Ok (Answer.Fail Fail.ReadFault)) }
     {
         let Some(name) = file_name(args) else {
             return Ok(Answer::Fail(Fail::Syntax));
@@ -304,7 +324,8 @@ impl Engine {
 
     /// `genmove`, with a colour.
     /// Fails, in order: `syntax error`; `game over`.
-    /// Answers the vertex of a searched cell, on which it puts a stone; the archive has the turn then.
+    /// Answers the vertex of a searched cell, on which it puts a stone; the archive has the turn
+    /// then.
     fn generate<A: Archive>(
         &mut self,
         args: &[Bytes],
@@ -316,8 +337,10 @@ impl Engine {
         ensures brief { IfOk result IsBrief }
         ensures err { OnErr result (self.new ≡ self.old) }
         ensures in_vain { OnErr result (Same (A.told archive.old) (A.told archive.new)) }
-        ensures wants_turn { result ≡ Err EngineError.Archive → moving self.old nothing_left args.now ≡ Err NoTurn }
-        ensures archive_fault { CountsFault (A.faults archive.old) (A.faults archive.new) (result ≡ Err EngineError.Archive) }
+        ensures wants_turn { result ≡ Err EngineError.Archive →
+            moving self.old nothing_left args.now ≡ Err NoTurn }
+        ensures archive_fault { CountsFault (A.faults archive.old) (A.faults archive.new)
+            (result ≡ Err EngineError.Archive) }
     {
         let Some(colour) = lone_colour(args) else {
             return Ok(Answer::Fail(Fail::Syntax));
@@ -337,11 +360,13 @@ impl Engine {
         requires { may_move (board_of self.old.game) ≡ true }
         ensures reply { IfOk result (λ answer. (turn : Decision)
             × IsGoodFor self.old.options turn × (is_next self.old colour turn ≡ true)
-            × Both (A.told archive.old) (A.told archive.new) (λ o n. n ≡ o ++ turn ∷ []) × Reacts (turned self.old colour turn) answer self.new) }
+            × Both (A.told archive.old) (A.told archive.new) (λ o n. n ≡ o ++ turn ∷ [])
+            × Reacts (turned self.old colour turn) answer self.new) }
         ensures brief { IfOk result IsBrief }
         ensures err { OnErr result (self.new ≡ self.old) }
         ensures in_vain { OnErr result (Same (A.told archive.old) (A.told archive.new)) }
-        ensures archive_fault { CountsFault (A.faults archive.old) (A.faults archive.new) (result ≡ Err EngineError.Archive) }
+        ensures archive_fault { CountsFault (A.faults archive.old) (A.faults archive.new)
+            (result ≡ Err EngineError.Archive) }
     {
         let turn = self.decide(colour)?;
         let cell = turn.cell();
@@ -364,7 +389,8 @@ impl Engine {
     /// The next turn: the search of the board with this colour to move, and its best cell.
     fn decide(&self, colour: Colour) -> Result<Turn, Memory>
         requires { may_move (board_of self.now.game) ≡ true }
-        ensures { IfOk result (λ turn. IsGoodFor self.now.options turn × (is_next self.now colour turn ≡ true)) }
+        ensures { IfOk result
+            (λ turn. IsGoodFor self.now.options turn × (is_next self.now colour turn ≡ true)) }
     {
         let shape = turn_shape(self.game.board(), colour, &self.options.knobs, self.turns);
         let Ok(closed) = plain_search(self.alloc, &shape) else {
@@ -377,7 +403,10 @@ impl Engine {
     /// Fails: `syntax error`.
     /// Answers the record of the game (SGF FF[4]), without white space.
     fn print(&self, args: &[Bytes]) -> Result<Answer, Memory>
-        ensures { IfOk result (λ answer. Reacts (if_bare self.now args.now (stays self.now (Done (trees_print (record_of self.now.game))))) answer self.now) }
+        ensures { IfOk result
+            (λ answer. Reacts
+            (if_bare self.now args.now
+            (unchanged self.now (Done (trees_print (record_of self.now.game))))) answer self.now) }
     {
         if !args.is_empty() {
             return Ok(Answer::Fail(Fail::Syntax));
@@ -387,9 +416,12 @@ impl Engine {
 
     /// `search-report`.
     /// Fails, in order: `syntax error`; `no search`.
-    /// Answers the playouts of the last turn's search, and each child of its root with visits and wins.
+    /// Answers the playouts of the last turn's search, and each child of its root with visits and
+    /// wins.
     fn tell_report(&self, args: &[Bytes]) -> Result<Answer, Memory>
-        ensures { IfOk result (λ answer. Reacts (if_bare self.now args.now (reporting self.now self.now.report)) answer self.now) }
+        ensures { IfOk result
+            (λ answer. Reacts
+            (if_bare self.now args.now (reporting self.now self.now.report)) answer self.now) }
     {
         if !args.is_empty() {
             return Ok(Answer::Fail(Fail::Syntax));
@@ -404,7 +436,10 @@ impl Engine {
     /// Fails: `syntax error`.
     /// Answers the board as text.
     fn show(&self, args: &[Bytes]) -> Result<Answer, Memory>
-        ensures { IfOk result (λ answer. Reacts (if_bare self.now args.now (stays self.now (Done (picture (board_of self.now.game))))) answer self.now) }
+        ensures { IfOk result
+            (λ answer. Reacts
+            (if_bare self.now args.now
+            (unchanged self.now (Done (picture (board_of self.now.game))))) answer self.now) }
     {
         if !args.is_empty() {
             return Ok(Answer::Fail(Fail::Syntax));
@@ -416,7 +451,9 @@ impl Engine {
     /// Fails: `syntax error`.
     /// Answers this text.
     fn tell(&self, args: &[Bytes], text: &[u8]) -> Result<Answer, Memory>
-        ensures { IfOk result (λ answer. Reacts (if_bare self.now args.now (stays self.now (Done text.now))) answer self.now) }
+        ensures { IfOk result
+            (λ answer. Reacts
+            (if_bare self.now args.now (unchanged self.now (Done text.now))) answer self.now) }
     {
         if !args.is_empty() {
             return Ok(Answer::Fail(Fail::Syntax));
@@ -428,7 +465,7 @@ impl Engine {
     /// Fails: `syntax error`.
     /// Answers nothing; no line after it is answered.
     fn quit(&self, args: &[Bytes]) -> Answer
-        ensures { Reacts (if_bare self.now args.now (stays self.now Quit)) result self.now }
+        ensures { Reacts (if_bare self.now args.now (unchanged self.now Quit)) result self.now }
     {
         if !args.is_empty() {
             return Answer::Fail(Fail::Syntax);

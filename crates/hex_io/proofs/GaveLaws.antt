@@ -2,11 +2,11 @@
 use Rattle.std.proofs.Common.{ℕ, ◌+◌, ◌-◌, List, [], ◌++◌, length, take, drop, Option, ap, sym, ◌∙◌, subst, append_assoc, append-nil}
 use Rattle.std.proofs.Math.Seq.{take-add}
 use Rattle.std.proofs.lemmas.List.{take-append-drop, take_rest}
-use Rattle.hex_io.specs.Told.{Told, Gives, Same}
+use Rattle.hex_io.specs.Told.{Told, GivesBytes, Same}
 use Rattle.hex_io.specs.Grew.{Gave, GavePart}
 use Rattle.hex_io.proofs.BothLaws.{Both-then, Both-weaker, Both-refl}
 
-pub gives_then : (xs ys : List ℕ) (x y z : Told) → Gives x y xs → Gives y z ys → Gives x z (xs ++ ys)
+pub gives_then : (xs ys : List ℕ) (x y z : Told) → GivesBytes x y xs → GivesBytes y z ys → GivesBytes x z (xs ++ ys)
 gives_then xs ys x y z p q = q ∙ ap (λ (t : Told). record t { given = t.given ++ ys }) p ∙ ap (λ l. record x { given = l }) (append_assoc x.given xs ys)
 
 -- these bytes were given, and then those
@@ -22,7 +22,7 @@ pub Same-gave : (a b : Option Told) → Same a b → Gave a b []
 Same-gave a b p = Both-weaker a b _ _ (λ x y e. e ∙ ap (λ l. record x { given = l }) (sym (append-nil x.given))) p
 
 pub Gave-nothing : (a : Option Told) → Gave a a []
-Gave-nothing a = Both-refl a (λ o n. Gives o n []) (λ x. ap (λ l. record x { given = l }) (sym (append-nil x.given)))
+Gave-nothing a = Both-refl a (λ o n. GivesBytes o n []) (λ x. ap (λ l. record x { given = l }) (sym (append-nil x.given)))
 
 -- a front was given, and then nothing
 pub Gave-front : (a b c : Option Told) (bytes : List ℕ) (i : ℕ) → Gave a b (take i bytes) → Same b c → GavePart a c bytes

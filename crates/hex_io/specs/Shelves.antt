@@ -25,12 +25,12 @@ pub data Fetched : Type 0 where
   Failed : Fetched
   Missing : Fetched
   Long : Fetched
-  Held : List ℕ → Fetched
+  Contents : List ℕ → Fetched
 
 -- what a fetch finds, where none is at fault
 abbrev pub found : Option (List ℕ) → Fetched
 found None = Missing
-found (Some bytes) = if nat_le (length bytes) FILE_LIMIT then Held bytes else Long
+found (Some bytes) = if nat_le (length bytes) FILE_LIMIT then Contents bytes else Long
 
 -- what comes of the fetch of a name from these files, where it is at fault or not
 abbrev pub fetched_of : List File → Bool → List ℕ → Fetched
@@ -44,7 +44,7 @@ is_failed _ = false
 -- what an answer says, where this reads its bytes; nothing, where memory ran out
 abbrev pub says : {T : Type 0} → (T → List ℕ) → Result (Option T) ShelfError → Option Fetched
 says bytes (Ok None) = Some Missing
-says bytes (Ok (Some file)) = Some (Held (bytes file))
+says bytes (Ok (Some file)) = Some (Contents (bytes file))
 says bytes (Err Fault) = Some Failed
 says bytes (Err TooLong) = Some Long
 says bytes (Err Memory) = None

@@ -25,7 +25,7 @@ together (Some x) None = None
 together (Some x) (Some y) = Some (x, y)
 
 -- a read took the first n bytes of what was to come, and they stand at the front of buf
-pub record Takes (old new : Told) (n : ℕ) (buf : List ℕ) : Type 0 where
+pub record TakesBytes (old new : Told) (n : ℕ) (buf : List ℕ) : Type 0 where
   pub moved : old.to_come ≡ take n buf ++ new.to_come
   pub taken : new.taken ≡ old.taken ++ take n buf
   pub given : new.given ≡ old.given
@@ -34,19 +34,19 @@ pub record Takes (old new : Told) (n : ℕ) (buf : List ℕ) : Type 0 where
   pub at_end : n ≡ 0 → new.to_come ≡ []
 
 -- these bytes were given, and nothing else changed
-abbrev pub Gives : Told → Told → List ℕ → Type 0
-Gives old new bytes = new ≡ record old { given = old.given ++ bytes }
+abbrev pub GivesBytes : Told → Told → List ℕ → Type 0
+GivesBytes old new bytes = new ≡ record old { given = old.given ++ bytes }
 
 -- where the link tells, nothing changed
 abbrev pub Same : {X : Type 0} → Option X → Option X → Type 0
 Same old new = Both old new (λ o n. n ≡ o)
 
 -- what a read did: at a fault nothing
-abbrev pub Reads : {E : Type 0} → Option Told → Option Told → Result ℕ E → List ℕ → Type 0
-Reads old new result buf =
-    MatchResult result (λ n. Both old new (λ o t. Takes o t n buf)) (λ _. Same old new)
+abbrev pub ReadsBytes : {E : Type 0} → Option Told → Option Told → Result ℕ E → List ℕ → Type 0
+ReadsBytes old new result buf =
+    MatchResult result (λ n. Both old new (λ o t. TakesBytes o t n buf)) (λ _. Same old new)
 
 -- what a write did: it gave the first n bytes, or at a fault nothing
-abbrev pub Writes : {E : Type 0} → Option Told → Option Told → Result ℕ E → List ℕ → Type 0
-Writes old new result bytes =
-    MatchResult result (λ n. Both old new (λ o t. Gives o t (take n bytes))) (λ _. Same old new)
+abbrev pub WritesBytes : {E : Type 0} → Option Told → Option Told → Result ℕ E → List ℕ → Type 0
+WritesBytes old new result bytes =
+    MatchResult result (λ n. Both old new (λ o t. GivesBytes o t (take n bytes))) (λ _. Same old new)

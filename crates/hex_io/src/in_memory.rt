@@ -2,7 +2,7 @@
 
 ghost use Rattle.std.specs.Prelude.{◌≡◌, ◌<◌, ◌≤◌, ◌-◌, length, IfOk, IsErr, Contains, IsTrue, ◌↔◌};
 ghost use Rattle.std.specs.Prelude.{[]};
-ghost use Rattle.hex_io.specs.Told.{Reads, Writes};
+ghost use Rattle.hex_io.specs.Told.{ReadsBytes, WritesBytes};
 ghost use Rattle.hex_io.specs.Causes.{HasCause};
 ghost use Rattle.hex_io.specs.Mem.{ReadFails, WriteFails, one_more, counted, moved_of};
 
@@ -81,7 +81,7 @@ impl Link for MemLink {
     fn read(&mut self, buf: &mut [u8]) -> Result<usize, LinkFault>
         requires { 0 < length buf.old }
         ensures bound { IfOk result (λ n. n ≤ length buf.new) }
-        ensures told { Reads (Some self.old.told) (Some self.new.told) result buf.new }
+        ensures told { ReadsBytes (Some self.old.told) (Some self.new.told) result buf.new }
         ensures cause { HasCause self.old.read_faults self.new.read_faults result }
         ensures writes { self.new.write_faults ≡ self.old.write_faults }
         ensures fails { IsErr result ↔ ReadFails self.old }
@@ -112,7 +112,7 @@ impl Link for MemLink {
     fn write(&mut self, bytes: &[u8]) -> Result<usize, LinkFault>
         requires { 0 < length bytes.now }
         ensures bound { IfOk result (λ n. (0 < n) × (n ≤ length bytes.now)) }
-        ensures told { Writes (Some self.old.told) (Some self.new.told) result bytes.now }
+        ensures told { WritesBytes (Some self.old.told) (Some self.new.told) result bytes.now }
         ensures cause { HasCause self.old.write_faults self.new.write_faults result }
         ensures reads { self.new.read_faults ≡ self.old.read_faults }
         ensures fails { IsErr result ↔ WriteFails self.old }

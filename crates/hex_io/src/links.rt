@@ -2,7 +2,7 @@
 
 ghost use Rattle.std.specs.Prelude.{◌≡◌, ℕ, ◌<◌, ◌≤◌, length, IfOk};
 ghost use Rattle.std.specs.declared.option.Option.{Option};
-ghost use Rattle.hex_io.specs.Told.{Told, Reads, Writes};
+ghost use Rattle.hex_io.specs.Told.{Told, ReadsBytes, WritesBytes};
 ghost use Rattle.hex_io.specs.Causes.{HasCause};
 
 use super::refusals::LinkFault;
@@ -25,7 +25,7 @@ pub trait Link {
     fn read(&mut self, buf: &mut [u8]) -> Result<usize, LinkFault>
         requires { 0 < length buf.old }
         ensures bound { IfOk result (λ n. n ≤ length buf.new) }
-        ensures told { Reads (told self.old) (told self.new) result buf.new }
+        ensures told { ReadsBytes (told self.old) (told self.new) result buf.new }
         ensures cause { HasCause (read_faults self.old) (read_faults self.new) result }
         ensures writes { write_faults self.new ≡ write_faults self.old };
 
@@ -35,7 +35,7 @@ pub trait Link {
     fn write(&mut self, bytes: &[u8]) -> Result<usize, LinkFault>
         requires { 0 < length bytes.now }
         ensures bound { IfOk result (λ n. (0 < n) × (n ≤ length bytes.now)) }
-        ensures told { Writes (told self.old) (told self.new) result bytes.now }
+        ensures told { WritesBytes (told self.old) (told self.new) result bytes.now }
         ensures cause { HasCause (write_faults self.old) (write_faults self.new) result }
         ensures reads { read_faults self.new ≡ read_faults self.old };
 }

@@ -4,7 +4,7 @@
 //! whole slice, so a read takes what is there and a write has left the process when it returns.
 
 ghost use Rattle.std.specs.Prelude.{◌≡◌, ◌<◌, ◌≤◌, length, IfOk, None};
-ghost use Rattle.hex_io.specs.Told.{Reads};
+ghost use Rattle.hex_io.specs.Told.{ReadsBytes};
 ghost use Rattle.hex_io.specs.Causes.{HasCause};
 
 use super::links::Link;
@@ -81,7 +81,7 @@ impl Link for ErrLink {
 
     fn read(&mut self, buf: &mut [u8]) -> Result<usize, LinkFault>
         ensures bound { IfOk result (λ n. n ≤ length buf.new) }
-        ensures told { Reads None None result buf.new }
+        ensures told { ReadsBytes None None result buf.new }
         ensures cause { HasCause 0 0 result }
         ensures writes { self.new.write_faults ≡ self.old.write_faults }
         ensures nothing { result ≡ Ok 0 }

@@ -4,12 +4,15 @@ use Rattle.std.specs.declared.option.Option.{Option}
 use Rattle.hex_io.specs.Told.{Both, Same}
 use Rattle.hex_plan.specs.Turns.{Decision}
 
--- where the archive tells, the turn stands at the end of its turns now; or at a fault nothing changed
-abbrev pub Takes : {X E : Type 0} → Option (List Decision) → Option (List Decision) → Result X E → Decision → Type 0
-Takes old new result turn = MatchResult result (λ _. Both old new (λ before now. now ≡ before ++ turn ∷ [])) (λ _. Same old new)
+-- where the archive tells, the turn stands at the end of its turns now; or at a fault nothing
+-- changed
+abbrev pub Archives : {X E : Type 0} → Option (List Decision) → Option (List Decision) → Result X E
+    → Decision → Type 0
+Archives old new result turn = MatchResult result
+    (λ _. Both old new (λ before now. now ≡ before ++ turn ∷ [])) (λ _. Same old new)
 
 -- what is known of an archive in memory: its turns, the most that it holds, and how many it refused
-pub record Held : Type 0 where
+pub record ArchiveState : Type 0 where
   pub turns : List Decision
   pub room : ℕ
   pub faults : ℕ

@@ -14,9 +14,11 @@ use Rattle.tree_words.specs.Trees.{IsTreeOf}
 use Rattle.hex_plan.specs.Seeds.{turn_knobs}
 use Rattle.hex_plan.specs.Turns.{Decision}
 
--- the shape is that of the search of the turn with this number, where the mover is to place a stone on the board now:
--- that board and player, all empty cells as allowed, and the options' knobs with the turn's seed
-pub record IsTurnShape (options : Knobs) (now : Position) (mover : Colour) (number : ℕ) (shape : Setting) : Type 0 where
+-- the shape is that of the search of the turn with this number, where the mover is to place a stone
+-- on the board now: that board and player, all empty cells as allowed, and the options' knobs with
+-- the turn's seed
+pub record IsTurnShape (options : Knobs) (now : Position) (mover : Colour) (number : ℕ)
+    (shape : Setting) : Type 0 where
   pub board : shape.board ≡ now
   pub player : shape.player ≡ mover
   pub allowed : HasEmpties shape.allowed now
@@ -24,7 +26,8 @@ pub record IsTurnShape (options : Knobs) (now : Position) (mover : Colour) (numb
 
 -- the tree is that of Seq, where there is one worker
 abbrev pub IsSequential : Knobs → ClosedTree → Type 0
-IsSequential options closed = options.workers ≡ 1 → IsTreeOf closed.shape closed.words (seq_of closed.shape).0
+IsSequential options closed = options.workers ≡ 1
+    → IsTreeOf closed.shape closed.words (seq_of closed.shape).0
 
 -- the tree was searched for this turn of a session with these options
 pub record IsSearchedFor (options : Knobs) (t : Decision) (tree : ClosedTree) : Type 0 where
@@ -37,11 +40,13 @@ pub record IsSearchedFor (options : Knobs) (t : Decision) (tree : ClosedTree) : 
   -- with one worker the tree is that of Seq
   pub sequential : IsSequential options tree
 
--- Good: what is promised of each turn of a session with these options, which looks for connections or doesn't
+-- Good: what is promised of each turn of a session with these options, which looks for connections
+-- or doesn't
 pub record IsGood (options : Knobs) (hsearch : Bool) (t : Decision) : Type 0 where
   -- no player is joined on the turn's board, and the turn's cell is empty there
   pub nobody : winner_of t.board ≡ None
   pub empty : is_empty_at t.board t.cell ≡ true
-  -- where no connections are looked for, a tree was searched; and what was searched is a tree of this turn
+  -- where no connections are looked for, a tree was searched; and what was searched is a tree of
+  -- this turn
   pub tree : hsearch ≡ false → IsSome t.closed
   pub searched : ForSome t.closed (IsSearchedFor options t)

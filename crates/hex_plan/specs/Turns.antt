@@ -7,8 +7,8 @@ use Rattle.hex_board.specs.Positions.{Position, is_empty_at}
 use Rattle.tree_words.specs.Closing.{ClosedTree}
 use Rattle.tree_words.specs.Roots.{IsBest}
 
--- a turn without where it lies in memory: the board, the player to move there, the turn's number, the tree that was
--- searched for it, if one was, and the cell that was chosen
+-- a turn without where it lies in memory: the board, the player to move there, the turn's number,
+-- the tree that was searched for it, if one was, and the cell that was chosen
 pub record Decision : Type 0 where
   pub board : Position
   pub player : Colour

@@ -3,7 +3,7 @@
 ghost use Rattle.std.specs.Prelude.{◌≡◌, ℕ, List, None};
 ghost use Rattle.std.specs.declared.option.Option.{Option};
 ghost use Rattle.hex_io.specs.Causes.{HasCause};
-ghost use Rattle.hex_plan.specs.Archived.{Takes};
+ghost use Rattle.hex_plan.specs.Archived.{Archives};
 ghost use Rattle.hex_plan.specs.Turns.{Decision};
 
 use super::refusals::ArchiveFault;
@@ -11,8 +11,8 @@ use super::turns::Turn;
 
 /// What takes turns, with a count of its own faults.
 ///
-/// An archive may tell the turns that it took (`told`), the first one first. Its count of faults is known of every
-/// archive; it stands still at the greatest value of a `u64`.
+/// An archive may tell the turns that it took (`told`), the first one first. Its count of faults is
+/// known of every archive; it stands still at the greatest value of a `u64`.
 pub trait Archive {
     ghost told: { Self → Option (List Decision) };
 
@@ -20,7 +20,7 @@ pub trait Archive {
 
     /// Adds the turn at the end, or counts a fault and changes no turn. It takes no memory.
     fn take(&mut self, turn: Turn) -> Result<(), ArchiveFault>
-        ensures told { Takes (told self.old) (told self.new) result turn }
+        ensures told { Archives (told self.old) (told self.new) result turn }
         ensures cause { HasCause (faults self.old) (faults self.new) result };
 }
 
@@ -34,7 +34,7 @@ impl Archive for NoArchive {
     ghost faults = { λ _. 0 };
 
     fn take(&mut self, turn: Turn) -> Result<(), ArchiveFault>
-        ensures told { Takes None None result turn }
+        ensures told { Archives None None result turn }
         ensures cause { HasCause 0 0 result }
         ensures never { result ≡ Ok tt }
     {

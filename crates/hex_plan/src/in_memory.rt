@@ -3,7 +3,7 @@
 ghost use Rattle.std.specs.Prelude.{◌≡◌, ◌≤◌, length, IfOk, IsErr, ◌↔◌, [], Some};
 ghost use Rattle.hex_io.specs.Causes.{HasCause};
 ghost use Rattle.hex_io.specs.Mem.{counted};
-ghost use Rattle.hex_plan.specs.Archived.{Takes};
+ghost use Rattle.hex_plan.specs.Archived.{Archives};
 
 use super::archives::Archive;
 use super::refusals::{ArchiveFault, Memory};
@@ -21,9 +21,9 @@ pub struct MemArchive {
 
 impl Model for MemArchive {
     ghost use Rattle.std.specs.Prelude.{◌≤◌, vec_len, vec_capacity};
-    ghost use Rattle.hex_plan.specs.Archived.{Held};
+    ghost use Rattle.hex_plan.specs.Archived.{ArchiveState};
 
-    ghost Value = { Held };
+    ghost Value = { ArchiveState };
 
     ghost view = { λ s. record { turns = s.turns.items; room = s.room; faults = s.faults } };
 
@@ -33,7 +33,8 @@ impl Model for MemArchive {
 impl MemArchive {
     /// An archive that has room for so many turns, and has none yet.
     pub fn make(alloc: Global, room: usize) -> Result<MemArchive, Memory>
-        ensures { IfOk result (λ archive. archive ≡ record { turns = []; room = room; faults = 0 }) }
+        ensures { IfOk result
+            (λ archive. archive ≡ record { turns = []; room = room; faults = 0 }) }
     {
         let turns = Vec::with_capacity(alloc, room)?;
         Ok(MemArchive {
@@ -57,10 +58,11 @@ impl Archive for MemArchive {
     ghost faults = { λ s. s.faults };
 
     fn take(&mut self, turn: Turn) -> Result<(), ArchiveFault>
-        ensures told { Takes (Some self.old.turns) (Some self.new.turns) result turn }
+        ensures told { Archives (Some self.old.turns) (Some self.new.turns) result turn }
         ensures cause { HasCause self.old.faults self.new.faults result }
         ensures full { IsErr result ↔ (self.old.room ≤ length self.old.turns) }
-        ensures rest { self.new ≡ record self.old { turns = self.new.turns; faults = counted self.old.faults result } }
+        ensures rest { self.new
+            ≡ record self.old { turns = self.new.turns; faults = counted self.old.faults result } }
     {
         if self.turns.len() >= self.room {
             self.faults = self.faults.saturating_add(1);

@@ -1,12 +1,13 @@
 //! Turns: what the engine decides at each `genmove`, and where the turns go.
 //!
-//! **Nouns.** A *turn* is a board, the player to move there, its number, the closed tree that was searched for it, if one
-//! was, and the cell that was chosen ([`Turn`]). An *archive* takes each turn ([`Archive`]). A turn is *good* for a
-//! session's options where it is what the session owes at that board: the definition `IsGood` of specs/Good.antt. It takes
-//! the options of the search and whether the session looks for connections; where it doesn't, each turn has a tree.
+//! **Nouns.** A *turn* is a board, the player to move there, its number, the closed tree that was
+//! searched for it, if one was, and the cell that was chosen ([`Turn`]). An *archive* takes each
+//! turn ([`Archive`]). A turn is *good* for a session's options where it is what the session owes
+//! at that board: the definition `IsGood` of specs/Good.antt. It takes the options of the search
+//! and whether the session looks for connections; where it doesn't, each turn has a tree.
 //!
-//! **A caller** asks [`may_move`], makes the [`turn_shape`], searches, makes the turn by [`Turn::of`], and hands it to an
-//! archive:
+//! **A caller** asks [`may_move`], makes the [`turn_shape`], searches, makes the turn by
+//! [`Turn::of`], and hands it to an archive:
 //!
 //! ```text
 //! let shape = turn_shape(board, colour, &options, number);
@@ -14,17 +15,18 @@
 //! archive.take(turn)?;
 //! ```
 //!
-//! **What is proved.** The shape of a turn has the board, the player, all empty cells as allowed, and the options' knobs
-//! with the seed `S + number·2^32` modulo 2^64. The turn of such a shape's tree is good. With one worker, where no
-//! connections are looked for, the cell and the report of a good turn are those of the sequential search
-//! ([`one_worker_decides`]). An archive that tells its turns has
-//! exactly this turn more at the end; a fault comes only where its count rose, and then no turn changed. A [`MemArchive`]
-//! is at fault exactly where it is full, [`NoArchive`] never.
+//! **What is proved.** The shape of a turn has the board, the player, all empty cells as allowed,
+//! and the options' knobs with the seed `S + number·2^32` modulo 2^64. The turn of such a shape's
+//! tree is good. With one worker, where no connections are looked for, the cell and the report of a
+//! good turn are those of the sequential search ([`one_worker_decides`]). An archive that tells its
+//! turns has exactly this turn more at the end; a fault comes only where its count rose, and then
+//! no turn changed. A [`MemArchive`] is at fault exactly where it is full, [`NoArchive`] never.
 //!
-//! **What is only tested, or not said.** That `MemArchive::make` gets its memory; what becomes of turns in [`NoArchive`].
+//! **What is only tested, or not said.** That `MemArchive::make` gets its memory; what becomes of
+//! turns in [`NoArchive`].
 //!
-//! **Limits.** A count of faults stands still at the greatest value of a `u64`. `MemArchive::make` takes memory for all
-//! that it will hold; no other call takes any.
+//! **Limits.** A count of faults stands still at the greatest value of a `u64`. `MemArchive::make`
+//! takes memory for all that it will hold; no other call takes any.
 #![tactic(auto)]
 
 ghost use Rattle.std.specs.Prelude.{◌≡◌, false};
@@ -49,8 +51,9 @@ pub use refusals::{ArchiveFault, Memory};
 pub use shapes::turn_shape;
 pub use turns::Turn;
 
-/// A law, with nothing to run: with one worker, where no connections are looked for, the report of a good turn is that of
-/// the sequential search, and the options, the board, the player and the number determine the turn's cell and report.
+/// A law, with nothing to run: with one worker, where no connections are looked for, the report of
+/// a good turn is that of the sequential search, and the options, the board, the player and the
+/// number determine the turn's cell and report.
 pub fn one_worker_decides()
     ensures report { (options : Knobs) (t : Decision) → options.workers ≡ 1 →
         IsGood options false t → reported_rows t ≡ sequential_rows t }

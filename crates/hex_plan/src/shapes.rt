@@ -11,8 +11,8 @@ use hex_board::Board;
 use hex_cells::Colour;
 use tree_words::{Knobs, Shape};
 
-/// The seeds of two turns that follow one another are this far apart. The playouts of one search have seeds of their own,
-/// less than this above that of the turn.
+/// The seeds of two turns that follow one another are this far apart. The playouts of one search
+/// have seeds of their own, less than this above that of the turn.
 const TURN_STEP: u64 = 1 << 32;
 
 // The seed of the turn with this number.
@@ -34,9 +34,9 @@ fn turn_knobs(options: &Knobs, number: u64) -> Knobs
     }
 }
 
-/// The shape of the search of the turn with this number, where `colour` is to move: all empty cells of the board are
-/// allowed, and the seed is `S + number·2^32` modulo 2^64, S being that of the options. A cell of the board is empty, and
-/// the options are in their ranges.
+/// The shape of the search of the turn with this number, where `colour` is to move: all empty cells
+/// of the board are allowed, and the seed is `S + number·2^32` modulo 2^64, S being that of the
+/// options. A cell of the board is empty, and the options are in their ranges.
 pub fn turn_shape(board: &Board, colour: Colour, options: &Knobs, number: u64) -> Shape
     requires room { (k : ℕ) × (is_empty_at board.now k ≡ true) }
     requires ranges { AreInRange options.now }

@@ -15,9 +15,9 @@ use hex_cells::{Cell, Colour};
 use std::marker::Model;
 use tree_words::{Closed, best};
 
-/// A turn: the board, the player to move there, the turn's number, the closed tree that was searched for it, if one
-/// was, and the cell that was chosen. It keeps that the cell is empty, and that the tree is one of its board and player
-/// whose best cell this is.
+/// A turn: the board, the player to move there, the turn's number, the closed tree that was
+/// searched for it, if one was, and the cell that was chosen. It keeps that the cell is empty, and
+/// that the tree is one of its board and player whose best cell this is.
 #[derive(Debug, Drop)]
 pub struct Turn {
     board: Board,
@@ -32,9 +32,18 @@ impl Model for Turn {
 
     ghost Value = { Decision };
 
-    ghost view = { λ t. record { board = t.board; player = t.colour; number = t.number; closed = t.closed; cell = t.cell } };
+    ghost view = { λ t. record
+        { board = t.board; player = t.colour; number = t.number; closed = t.closed; cell = t.cell } };
 
-    ghost invariant = { λ t. IsDecided (record { board = t.board; player = t.colour; number = t.number; closed = t.closed; cell = t.cell }) };
+    ghost invariant = { λ t. IsDecided
+        (record {
+          board = t.board;
+          player = t.colour;
+          number = t.number;
+          closed = t.closed;
+          cell =
+              t.cell;
+        }) };
 }
 
 // The best cell of a closed tree.
@@ -50,8 +59,8 @@ fn decided(closed: &Closed) -> Cell
 }
 
 impl Turn {
-    /// The turn with this number that the tree decides: its board and player are those of the tree, and its cell is the
-    /// tree's best.
+    /// The turn with this number that the tree decides: its board and player are those of the tree,
+    /// and its cell is the tree's best.
     pub fn of(closed: Closed, number: u64) -> Turn
         ensures parts { result ≡ record {
           board = closed.shape.board;
@@ -62,8 +71,8 @@ impl Turn {
         } }
         ensures best { IsBest closed.shape closed.words result.cell }
         ensures empty { is_empty_at closed.shape.board result.cell ≡ true }
-        // Where the tree's shape is that of this turn and no player is joined, the turn is good; for one worker the tree has
-        // to be that of Seq.
+        // Where the tree's shape is that of this turn and no player is joined, the turn is good;
+        // for one worker the tree has to be that of Seq.
         ensures good { (options : Knobs) (hsearch : Bool) → winner_of closed.shape.board ≡ None →
             IsTurnShape options closed.shape.board closed.shape.player number closed.shape →
             IsSequential options closed → IsGood options hsearch result }
@@ -111,8 +120,8 @@ impl Turn {
         self.closed.as_ref()
     }
 
-    /// The cell that was chosen, which is empty: of a turn with a tree, the least cell of those of the root's children
-    /// with most visits.
+    /// The cell that was chosen, which is empty: of a turn with a tree, the least cell of those of
+    /// the root's children with most visits.
     #[tactic(auto, using(hex_board::proofs::Placed::empty_on))]
     pub fn cell(&self) -> Cell
         ensures value { result ≡ self.now.cell }

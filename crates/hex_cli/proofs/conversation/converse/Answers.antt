@@ -1,6 +1,6 @@
 -- What stands at each end, and after one piece more.
 use Rattle.std.proofs.Common.{◌≡◌, ◌≤◌, ◌+◌, ◌++◌, [], ℕ, List, take, length, refl, arith, subst, ◌∙◌}
-use Rattle.hex_io.specs.Told.{Both, Takes}
+use Rattle.hex_io.specs.Told.{Both, TakesBytes}
 use Rattle.hex_engine.specs.EngineState.{opening}
 use Rattle.hex_cli.proofs.Pieces.{length-taken, length-front}
 use Rattle.hex_cli.proofs.Conversations.{goes_nothing, goes_taking, goes_on_feeding, conversed_nothing, ends_unread, ends_overlong, ends_quit, ends_unwritten, ends_unfinished, ends_unarchived, last_complete, last_unwritten, last_unfinished, last_unarchived}
@@ -30,8 +30,8 @@ returns-in-Ok-finish-clause-conversed g c =
     let inv = c.pieces.invariant.goes in
     let buf : List ℕ = c.read_some.new.buffer in
     let few : length inv.0 ≤ c.args.limit = omega (arith, inv.1, c.pieces.invariant.in_limit) in
-    let none : Both (told c.pieces.link) (told c.read_some.new.link) (λ o t. Takes o t 0 buf) =
-    subst (λ n. Both (told c.pieces.link) (told c.read_some.new.link) (λ o t. Takes o t n buf)) c.if-count-eq0.true c.in-Ok-read_some.ensures.told in
+    let none : Both (told c.pieces.link) (told c.read_some.new.link) (λ o t. TakesBytes o t 0 buf) =
+    subst (λ n. Both (told c.pieces.link) (told c.read_some.new.link) (λ o t. TakesBytes o t n buf)) c.if-count-eq0.true c.in-Ok-read_some.ensures.told in
     last_complete c.args.options.now c.args.size c.args.limit _ _ _ _ (told c.pieces.link) (told c.read_some.new.link) _ c.pieces.session.engine c.pieces.session.splitter inv.0 buf few inv.2 none c.in-Ok-finish.ensures.answered
 
 pub returns-in-Err-WriteFault-clause-conversed : goal.returns-in-Err-WriteFault-clause-conversed
@@ -40,8 +40,8 @@ returns-in-Err-WriteFault-clause-conversed g c =
     let inv = c.pieces.invariant.goes in
     let buf : List ℕ = c.read_some.new.buffer in
     let few : length inv.0 ≤ c.args.limit = omega (arith, inv.1, c.pieces.invariant.in_limit) in
-    let none : Both (told c.pieces.link) (told c.read_some.new.link) (λ o t. Takes o t 0 buf) =
-    subst (λ n. Both (told c.pieces.link) (told c.read_some.new.link) (λ o t. Takes o t n buf)) c.if-count-eq0.true c.in-Ok-read_some.ensures.told in
+    let none : Both (told c.pieces.link) (told c.read_some.new.link) (λ o t. TakesBytes o t 0 buf) =
+    subst (λ n. Both (told c.pieces.link) (told c.read_some.new.link) (λ o t. TakesBytes o t n buf)) c.if-count-eq0.true c.in-Ok-read_some.ensures.told in
     last_unwritten c.args.options.now c.args.size c.args.limit _ _ _ _ (told c.pieces.link) (told c.read_some.new.link) _ c.pieces.session.engine c.pieces.session.splitter inv.0 buf few inv.2 none (c.finish.ensures.broke_off (cc))
 
 pub returns-in-Err-Memory-clause-conversed : goal.returns-in-Err-Memory-clause-conversed
@@ -50,8 +50,8 @@ returns-in-Err-Memory-clause-conversed g c =
     let inv = c.pieces.invariant.goes in
     let buf : List ℕ = c.read_some.new.buffer in
     let few : length inv.0 ≤ c.args.limit = omega (arith, inv.1, c.pieces.invariant.in_limit) in
-    let none : Both (told c.pieces.link) (told c.read_some.new.link) (λ o t. Takes o t 0 buf) =
-    subst (λ n. Both (told c.pieces.link) (told c.read_some.new.link) (λ o t. Takes o t n buf)) c.if-count-eq0.true c.in-Ok-read_some.ensures.told in
+    let none : Both (told c.pieces.link) (told c.read_some.new.link) (λ o t. TakesBytes o t 0 buf) =
+    subst (λ n. Both (told c.pieces.link) (told c.read_some.new.link) (λ o t. TakesBytes o t n buf)) c.if-count-eq0.true c.in-Ok-read_some.ensures.told in
     last_unfinished c.args.options.now c.args.size c.args.limit _ _ _ _ (told c.pieces.link) (told c.read_some.new.link) _ c.pieces.session.engine c.pieces.session.splitter inv.0 buf few inv.2 none (c.finish.ensures.silent (cc)) (c.finish.ensures.gave_up (cc))
 
 pub returns-in-Err-Archive-clause-conversed : goal.returns-in-Err-Archive-clause-conversed
@@ -60,8 +60,8 @@ returns-in-Err-Archive-clause-conversed g c =
     let inv = c.pieces.invariant.goes in
     let buf : List ℕ = c.read_some.new.buffer in
     let few : length inv.0 ≤ c.args.limit = omega (arith, inv.1, c.pieces.invariant.in_limit) in
-    let none : Both (told c.pieces.link) (told c.read_some.new.link) (λ o t. Takes o t 0 buf) =
-    subst (λ n. Both (told c.pieces.link) (told c.read_some.new.link) (λ o t. Takes o t n buf)) c.if-count-eq0.true c.in-Ok-read_some.ensures.told in
+    let none : Both (told c.pieces.link) (told c.read_some.new.link) (λ o t. TakesBytes o t 0 buf) =
+    subst (λ n. Both (told c.pieces.link) (told c.read_some.new.link) (λ o t. TakesBytes o t n buf)) c.if-count-eq0.true c.in-Ok-read_some.ensures.told in
     last_unarchived c.args.options.now c.args.size c.args.limit _ _ _ _ (told c.pieces.link) (told c.read_some.new.link) _ c.pieces.session.engine c.pieces.session.splitter inv.0 buf few inv.2 none (c.finish.ensures.silent_held_back (cc)) (c.finish.ensures.held_back (cc))
 
 pub returns-then-total-limit-clause-conversed : goal.returns-then-total-limit-clause-conversed

@@ -9,7 +9,7 @@ use Rattle.hex_cli.proofs.RunLaws.{same_end, status_counts, complete_at, too_lon
 use Rattle.hex_cli.proofs.DeterminedLaws.{determined_at}
 use Rattle.hex_cli.proofs.SearchedMoves.{headline_at}
 use Rattle.std.proofs.Common.{subst}
-use Rattle.hex_cli.specs.Outcome.{Conversed, error_line, status_of}
+use Rattle.hex_cli.specs.Endings.{Conversed, error_line, status_of}
 use Rattle.hex_cli.proofs.top.run.Goals as goal
 
 pub returns-clause-usage : goal.returns-clause-usage

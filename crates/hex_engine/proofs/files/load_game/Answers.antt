@@ -1,7 +1,7 @@
 -- What comes of one fetch.
 use Rattle.std.proofs.Common.{◌≡◌, Some, None, Ok, refl, subst, ap}
 use Rattle.std.specs.Prelude.{Err}
-use Rattle.hex_io.specs.Shelves.{Failed, Missing, Long, Held, says}
+use Rattle.hex_io.specs.Shelves.{Failed, Missing, Long, Contents, says}
 use Rattle.hex_io.specs.declared.shelves.ShelfError.TheVariants.{Fault, TooLong}
 use Rattle.hex_engine.specs.Supply.{Unread, Refused}
 use Rattle.hex_engine.specs.Uses.{IsReadAs}
@@ -13,12 +13,12 @@ pub returns-in-Ok-Some-clause-came : goal.returns-in-Ok-Some-clause-came
 returns-in-Ok-Some-clause-came g c =
     let e : c.fetch.result ≡ Ok (Some c.in-Ok-Some.bytes) = cc in
     if_ok c.read_game.result _ _
-    (λ file h. fetched_one _ _ _ _ (Held c.in-Ok-Some.bytes.items) (came_to file) c.fetch.ensures.told (ap (says (λ f. f.items)) e) (subst (λ l. IsReadAs l (came_to file)) c.deref.ensures.value h)) c.read_game.ensures
+    (λ file h. fetched_one _ _ _ _ (Contents c.in-Ok-Some.bytes.items) (came_to file) c.fetch.ensures.told (ap (says (λ f. f.items)) e) (subst (λ l. IsReadAs l (came_to file)) c.deref.ensures.value h)) c.read_game.ensures
 
 pub returns-in-Ok-Some-clause-vain : goal.returns-in-Ok-Some-clause-vain
 returns-in-Ok-Some-clause-vain g c =
     let e : c.fetch.result ≡ Ok (Some c.in-Ok-Some.bytes) = cc in
-    on_err c.read_game.result _ (fetched_in_vain _ _ _ _ (Held c.in-Ok-Some.bytes.items) c.fetch.ensures.told (ap (says (λ f. f.items)) e))
+    on_err c.read_game.result _ (fetched_in_vain _ _ _ _ (Contents c.in-Ok-Some.bytes.items) c.fetch.ensures.told (ap (says (λ f. f.items)) e))
 
 pub returns-in-Err-Fault-clause-came : goal.returns-in-Err-Fault-clause-came
 returns-in-Err-Fault-clause-came g c =
