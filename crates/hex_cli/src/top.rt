@@ -166,7 +166,7 @@ fn serve<L: Link, F: Shelf, A: Archive>(
 
 /// The engine's options. No connections are looked for yet, whatever the words say.
 fn engine_options(options: &Options) -> hex_engine::Options
-    requires ranges { value.AreInRange options.now }
+    requires ranges { value.OptionsInRange options.now }
     requires seed { options.now.seed < 2 ^ 64 }
     ensures value { result ≡ engine_options options.now }
     ensures ranges { AreInRange result.knobs }
