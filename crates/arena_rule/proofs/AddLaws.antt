@@ -1,0 +1,1 @@
+-- What the adds of a walk add to a word.

@@ -1,0 +1,1 @@
+-- What a Look at a link or in a block, a Publish and a Claim answer.

@@ -1,0 +1,1 @@
+-- What a Look at a tally or a seen word and an Add answer.

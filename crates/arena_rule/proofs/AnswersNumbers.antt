@@ -1,0 +1,1 @@
+-- What a Draw answers, and the answers of a view with a copy of the words.

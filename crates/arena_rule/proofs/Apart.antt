@@ -1,0 +1,1 @@
+-- Claims, writes and publishes keep the words apart, fresh and written.

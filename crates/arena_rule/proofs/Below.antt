@@ -1,0 +1,1 @@
+-- Sums over the numbers below n.

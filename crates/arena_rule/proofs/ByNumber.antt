@@ -1,0 +1,1 @@
+-- A sum over walks is a sum over the numbers.

@@ -1,0 +1,1 @@
+-- A Publish that wins links the told block; other steps keep the linked and the known blocks.

@@ -1,0 +1,1 @@
+-- Numbers in hand and recorded: how often a view has one, and how many there are.

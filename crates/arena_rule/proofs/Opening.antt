@@ -1,0 +1,1 @@
+-- The opening words: Fresh, Apart, Linked, Held and Known.

@@ -1,0 +1,1 @@
+-- A split and a join keep Fresh, Apart, Linked, Held and Known.

@@ -1,0 +1,1 @@
+-- A split and a join keep Sums, and the opening words have them.

@@ -1,0 +1,1 @@
+-- A split and a join keep Widths, Tickets, InHand and Sole, and the opening words have them.

@@ -1,0 +1,1 @@
+-- A step whose answer may be given keeps a view in order.

@@ -1,0 +1,1 @@
+-- Each step keeps Widths.

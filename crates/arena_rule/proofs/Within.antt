@@ -1,0 +1,1 @@
+-- What a view knows is so: its blocks are linked, and what they tell of a node all blocks tell.

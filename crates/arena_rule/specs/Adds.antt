@@ -1,0 +1,55 @@
+-- The adds of a walk: the words that it counts in, from its leaf up.
+use Rattle.std.specs.Prelude.{ℕ, ◌+◌, ◌==◌, if◌then◌else◌, Bool, List, [], ◌∷◌, ◌++◌}
+use Rattle.hex_cells.specs.Sets.{has as has_cell}
+use Rattle.hex_board.specs.Positions.{stones_of}
+use Rattle.hex_board.specs.Wins.{is_same}
+use Rattle.tree_words.specs.Settings.{Setting}
+use Rattle.tree_words.specs.Words.{root_at}
+use Rattle.tree_words.specs.Blocks.{LinkedBlock, up, place, cell_at}
+use Rattle.tree_words.specs.Paths.{NodeState, root_state, state_after, node_state, mover_at}
+use Rattle.tree_words.specs.Sequence.{Outcome, outcome_of, amount_of}
+use Rattle.tree_words.specs.declared.layout.TheConstants.{NODE_WORDS, HEADER_WORDS, TALLY_WORD, SEEN_WORD}
+
+-- an add: the word, and whether the mover of that word's node won
+pub record CountAdd : Type 0 where
+  pub word : ℕ
+  pub won : Bool
+
+-- the adds of the seen words of a block's nodes whose cells are in the set, by rising place, where
+-- the first node begins at y
+abbrev pub seen_adds : ℕ → Bool → ℕ → List ℕ → List CountAdd
+seen_adds set won y [] = []
+seen_adds set won y (c ∷ cells) =
+    if has_cell set c then record { word = y + SEEN_WORD; won = won } ∷ seen_adds set won (y + NODE_WORDS) cells
+    else seen_adds set won (y + NODE_WORDS) cells
+
+-- what has been gathered on the way up to a node: the node's state, and the adds of its path
+pub record Gathered : Type 0 where
+  pub state : NodeState
+  pub adds : List CountAdd
+
+-- the root's adds: its tally
+abbrev pub root_adds : Setting → Outcome → Gathered
+root_adds s o = let p : NodeState = root_state s in
+    record { state = p; adds = record { word = root_at s + TALLY_WORD; won = is_same o.winner (mover_at p) } ∷ [] }
+
+-- the adds of a node y of a block, before those of its parent: its tally, and then the seen words
+-- of the block's nodes whose cell holds a stone of their mover, who is the player to move at the
+-- parent
+abbrev pub node_adds : Outcome → LinkedBlock → ℕ → Gathered → Gathered
+node_adds o b y above =
+    let won : Bool = is_same o.winner above.state.player in
+    let seen : List CountAdd = seen_adds (stones_of o.full above.state.player) won (b.start + HEADER_WORDS) b.cells in
+    record { state = state_after above.state (cell_at b (place b y)); adds = record { word = y + TALLY_WORD; won = won } ∷ (seen ++ above.adds) }
+
+abbrev pub adds_up : Setting → Outcome → List LinkedBlock → ℕ → Gathered
+adds_up s o bs x = up (root_adds s o) (node_adds o) bs x
+
+-- the adds of the walk of playout k to a leaf
+unfoldable pub walk_adds : Setting → List LinkedBlock → ℕ → ℕ → List CountAdd
+walk_adds s bs k leaf = (adds_up s (outcome_of s k (node_state s bs leaf)) bs leaf).adds
+
+-- what a list of adds adds to a word, as a tally and a seen word count visits and wins
+abbrev pub amount_at : ℕ → List CountAdd → ℕ
+amount_at w [] = 0
+amount_at w (a ∷ others) = (if a.word == w then amount_of a.won else 0) + amount_at w others
