@@ -1,5 +1,6 @@
 pub mod Before
 pub mod Totals
+pub mod Changes
 pub mod Below
 pub mod ByNumber
 pub mod Within
