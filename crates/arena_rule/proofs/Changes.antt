@@ -52,7 +52,7 @@ claimed_cases v size x = by (nat_le (x + size) (end_of v.shape)) refl
 
 -- a part that no Draw and no Claim reads
 module _ {A : Type 0} (f : SeatView → A) where
-  drew_same : (v : SeatView) (x : ℕ) → f (record v { ticket = Some x }) ≡ f v → f (record v { ended = 1 }) ≡ f v → f (drew v x) ≡ f v
+  pub drew_same : (v : SeatView) (x : ℕ) → f (record v { ticket = Some x }) ≡ f v → f (record v { ended = 1 }) ≡ f v → f (drew v x) ≡ f v
   unfolding drew
   drew_same v x a c = by (nat_lt x v.shape.knobs.playouts)
     where
@@ -60,7 +60,7 @@ module _ {A : Type 0} (f : SeatView → A) where
       by true = a
       by false = c
 
-  claimed_same : (v : SeatView) (size x : ℕ) → f (record v { held = Some (record { start = x; size = size; written = [] }); claimed = v.claimed + size }) ≡ f v → f (record v { full = true }) ≡ f v
+  pub claimed_same : (v : SeatView) (size x : ℕ) → f (record v { held = Some (record { start = x; size = size; written = [] }); claimed = v.claimed + size }) ≡ f v → f (record v { full = true }) ≡ f v
       → f (claimed_at v size x) ≡ f v
   unfolding claimed_at
   claimed_same v size x a c = by (nat_le (x + size) (end_of v.shape))

@@ -1,6 +1,7 @@
 pub mod Before
 pub mod Totals
 pub mod Changes
+pub mod Reach
 pub mod Below
 pub mod ByNumber
 pub mod Within
