@@ -18,7 +18,7 @@ use Rattle.tree_words.specs.declared.steps.Op.{Op}
 use Rattle.tree_words.specs.declared.steps.Op.TheVariants.{Draw, Look, Claim, Write, Publish, Add, Note, Done}
 use Rattle.tree_words.proofs.BlockLaws.{bool_is, cover-cons, covers_if, node-cover}
 use Rattle.tree_words.proofs.Down.{child-has}
-use Rattle.tree_words.proofs.GameLaws.{root_node, in-node}
+use Rattle.tree_words.proofs.GameLaws.{root_node, in-node, whole-in}
 use Rattle.tree_words.proofs.NodeLaws.{node-lies, nodes-apart, stays-clear}
 use Rattle.arena_rule.specs.Views.{SeatView, Flight}
 use Rattle.arena_rule.specs.Adds.{CountAdd, Gathered, seen_adds, node_adds, adds_up, walk_adds}
@@ -171,3 +171,103 @@ module _ (bs : List LinkedBlock) (words : List ℕ) (views : List SeatView) (id 
 
   pub note-low : (k n : ℕ) → FitsNote v k n → 2 + k < root_at v.shape
   note-low k n fits = let t = (b.state.in_hand id v b.at).ticket k fits.ticket in let l = t.1 in omega arith
+
+  -- a word that the step does not write
+  else-word : (op : Op) (i : ℕ) → word_of op ≢ i → slice_index (words_after words op) i ≡ slice_index words i
+  else-word op i ne = get_or-set_other words (word_of op) i (put op (slice_index words (word_of op))) 0 (λ e. ne (sym e))
+
+  same-word : (w i : ℕ) → slice_index (set words w (slice_index words w)) i ≡ slice_index words i
+  same-word w i = ap (λ (ws : List ℕ). slice_index ws i) (set-get_or words w 0)
+
+  -- A word at or behind the root stays where it is no link, tally or seen word of a node and the view does not hold it.
+  pub other-stays : (op : Op) (i : ℕ) → FitsStep v op → root_at v.shape ≤ i → ((x j : ℕ) → is_node (root_at v.shape) bs x ≡ true → 1 ≤ j → j < 4 → i ≢ x + j) → is_held v.held i ≢ true
+      → slice_index (words_after words op) i ≡ slice_index words i
+  other-stays Draw i fits low node held = else-word Draw i (λ e. omega arith)
+  other-stays (Look w) i fits low node held = same-word w i
+  other-stays (Claim many) i fits low node held = else-word (Claim many) i (λ e. omega arith)
+  other-stays (Write w value) i fits low node held = else-word (Write w value) i (λ e. absurd (held (ap (is_held v.held) (sym e) ∙ (write-word w fits).0)))
+  other-stays (Publish l c) i fits low node held =
+      let t = publish-word l c fits in
+      else-word (Publish l c) i (λ e. absurd (node t.0 1 t.1 (omega arith) (omega arith) (sym e ∙ t.2)))
+  other-stays (Add w won) i fits low node held =
+      let t = add-word (record { word = w; won = won }) fits in
+      else-word (Add w won) i (λ e. ⊎_elim
+      (λ (q : w ≡ t.0 + 2). absurd (node t.0 2 t.1 (omega arith) (omega arith) (sym e ∙ q)))
+      (λ (q : (w ≡ t.0 + 3) × (t.0 ≢ root_at v.shape)). absurd (node t.0 3 t.1 (omega arith) (omega arith) (sym e ∙ q.0)))
+      t.2)
+  other-stays (Note k value) i fits low node held = else-word (Note k value) i (λ e. omega (arith, note-low k value fits))
+  other-stays Done i fits low node held = same-word 0 i
+
+  -- the headers and moves of the linked blocks stay
+  pub block-stays : (op : Op) (c : LinkedBlock) (j : ℕ) → FitsStep v op → In c bs → j < size c → stays j ≡ true → slice_index (words_after words op) (c.start + j) ≡ slice_index words (c.start + j)
+  block-stays op c j fits n l st =
+      let g = b.state.linked.blocks.order in
+      other-stays op (c.start + j) fits (let low = block-low c n in omega arith)
+      (λ x i m l1 l4 e. stays-clear (root_at v.shape) bs c j x i g n l st m l1 l4 e)
+      (λ h. let none = held-clear id v (c.start + j) b.at h in absurd (omega (arith, none, in-cover bs c (c.start + j) n (covers_if (c.start + j) c (omega arith) (omega (arith, l))))))
+    where
+      block-low : (c : LinkedBlock) → In c bs → area_at v.shape ≤ c.start
+      block-low c n = (whole-in v.shape (next_in words) bs c b.state.linked.blocks.order b.state.linked.blocks.complete n).inside.0
+
+      in-cover : (ls : List LinkedBlock) (d : LinkedBlock) (i : ℕ) → In d ls → covers i d ≡ true → 0 < cover i ls
+      in-cover [] d i n h = absurd n
+      in-cover (a ∷ ls) d i n h = ⊎_elim
+          (λ (e : d ≡ a). omega (arith, cover-cons i a ls, ap one_if (ap (covers i) (sym e) ∙ h)))
+          (λ (m : In d ls). omega (arith, cover-cons i a ls, in-cover ls d i m h)) n
+
+  -- and the root's move word
+  pub root-stays : (op : Op) → FitsStep v op → slice_index (words_after words op) (root_at v.shape) ≡ slice_index words (root_at v.shape)
+  root-stays op fits = other-stays op (root_at v.shape) fits (omega arith)
+      (λ x j n l1 l4 e. absurd (omega (arith, e, (node-range x 0 n (omega arith)).0)))
+      (λ h. let low = (held-claimed id v (root_at v.shape) b.at h).0 in absurd (omega arith))
+
+  -- a word of the area at or above NEXT
+  pub fresh-stays : (op : Op) (i : ℕ) → FitsStep v op → area_at v.shape ≤ i → next_in words ≤ i → slice_index (words_after words op) i ≡ slice_index words i
+  fresh-stays op i fits low past = other-stays op i fits (omega arith)
+      (λ x j n l1 l4 e. ⊎_elim
+      (λ (q : x ≡ root_at v.shape). absurd (omega (arith, q, e)))
+      (λ (t : (area_at v.shape ≤ x) × (x + 4 ≤ next_in words) × (x + 4 ≤ end_of v.shape)). let high = t.1 in absurd (omega (arith, e)))
+      (node-lies v.shape (next_in words) bs x b.state.linked.blocks.complete n))
+      (λ h. let high = (held-claimed id v i b.at h).1 in absurd (omega arith))
+
+  -- a word that another view holds
+  pub held-stays : (op : Op) (j : ℕ) (u : SeatView) (i : ℕ) → FitsStep v op → j ≢ id → get_elem? views j ≡ some u → is_held u.held i ≡ true → slice_index (words_after words op) i ≡ slice_index words i
+  held-stays op j u i fits ne e h = other-stays op i fits (let low = (held-claimed j u i e h).0 in omega arith)
+      (λ x k n l1 l4 q. held-node j u x k e n l4 (ap (is_held u.held) (sym q) ∙ h))
+      (λ m. held-one j id u v i ne e b.at h m)
+
+  -- two words of nodes that are one are so as the same word of one node
+  apart : (x y i j : ℕ) → is_node (root_at v.shape) bs x ≡ true → is_node (root_at v.shape) bs y ≡ true → i < 4 → j < 4 → i ≢ j → x + i ≡ y + j → ⊥
+  apart x y i j n m li lj ne e = let q = nodes-apart (root_at v.shape) bs x y i j b.state.linked.blocks.order n m li lj e in ne (omega (arith, q, e))
+
+  write-stays : (w value x i : ℕ) → FitsWrite v w → is_node (root_at v.shape) bs x ≡ true → i < 4 → slice_index (words_after words (Write w value)) (x + i) ≡ slice_index words (x + i)
+  write-stays w value x i fits n l = else-word (Write w value) (x + i) (λ e. held-node id v x i b.at n l (ap (is_held v.held) (sym e) ∙ (write-word w fits).0))
+
+  -- no step but a Publish changes a link of a node
+  pub link-stays : (op : Op) (x : ℕ) → FitsStep v op → IsNoPublish op → is_node (root_at v.shape) bs x ≡ true → slice_index (words_after words op) (x + 1) ≡ slice_index words (x + 1)
+  link-stays Draw x fits kind n = else-word Draw (x + 1) (λ e. omega (arith, e, (node-range x 1 n (omega arith)).0))
+  link-stays (Look w) x fits kind n = same-word w (x + 1)
+  link-stays (Claim many) x fits kind n = else-word (Claim many) (x + 1) (λ e. omega (arith, e))
+  link-stays (Write w value) x fits kind n = write-stays w value x 1 fits n (omega arith)
+  link-stays (Publish l c) x fits kind n = absurd kind
+  link-stays (Add w won) x fits kind n =
+      let t = add-word (record { word = w; won = won }) fits in
+      else-word (Add w won) (x + 1) (λ e. ⊎_elim
+      (λ (q : w ≡ t.0 + 2). apart x t.0 1 2 n t.1 (omega arith) (omega arith) (λ z. omega arith) (sym e ∙ q))
+      (λ (q : (w ≡ t.0 + 3) × (t.0 ≢ root_at v.shape)). apart x t.0 1 3 n t.1 (omega arith) (omega arith) (λ z. omega arith) (sym e ∙ q.0))
+      t.2)
+  link-stays (Note k value) x fits kind n = else-word (Note k value) (x + 1) (λ e. omega (arith, e, note-low k value fits, (node-range x 1 n (omega arith)).0))
+  link-stays Done x fits kind n = same-word 0 (x + 1)
+
+  -- no step but an Add changes a tally or a seen word of a node
+  pub count-stays : (op : Op) (x i : ℕ) → FitsStep v op → IsNoAdd op → is_node (root_at v.shape) bs x ≡ true → 2 ≤ i → i < 4 → slice_index (words_after words op) (x + i) ≡ slice_index words (x + i)
+  count-stays Draw x i fits kind n l2 l4 = else-word Draw (x + i) (λ e. omega (arith, e))
+  count-stays (Look w) x i fits kind n l2 l4 = same-word w (x + i)
+  count-stays (Claim many) x i fits kind n l2 l4 = else-word (Claim many) (x + i) (λ e. omega (arith, e))
+  count-stays (Write w value) x i fits kind n l2 l4 = write-stays w value x i fits n l4
+  count-stays (Publish l c) x i fits kind n l2 l4 =
+      let t = publish-word l c fits in
+      else-word (Publish l c) (x + i) (λ e. apart x t.0 i 1 n t.1 l4 (omega arith) (λ z. omega (arith, z)) (sym e ∙ t.2))
+  count-stays (Add w won) x i fits kind n l2 l4 = absurd kind
+  count-stays (Note k value) x i fits kind n l2 l4 = else-word (Note k value) (x + i) (λ e. omega (arith, e, note-low k value fits, (node-range x i n l4).0))
+  count-stays Done x i fits kind n l2 l4 = same-word 0 (x + i)
