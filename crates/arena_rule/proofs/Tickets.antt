@@ -109,7 +109,7 @@ module _ (bs : List LinkedBlock) (words : List ℕ) (views : List SeatView) (id 
       cases
 
   -- the number in hand is in no walk
-  hand-alone : (k : ℕ) → v.ticket ≡ Some k → (j : ℕ) (u : SeatView) → get_elem? views j ≡ some u → times_walked k u.walks ≡ 0
+  pub hand-alone : (k : ℕ) → v.ticket ≡ Some k → (j : ℕ) (u : SeatView) → get_elem? views j ≡ some u → times_walked k u.walks ≡ 0
   hand-alone k t j u e =
       let mine : in_hand k v.ticket ≡ 1 = ap (in_hand k) t ∙ ap one_if (same_is k k refl) in
       let once = b.state.tickets.once k in
