@@ -29,6 +29,7 @@ use Rattle.arena_rule.proofs.Tickets.{tickets-step}
 use Rattle.arena_rule.proofs.InHand.{in_hand-step}
 use Rattle.arena_rule.proofs.Sole.{sole-step, sole-split, sole-join, sole-first}
 use Rattle.arena_rule.proofs.SeatsNumbers.{widths-split, widths-join, widths-first, tickets-split, tickets-join, tickets-first, in_hand-split, in_hand-join, in_hand-first}
+use Rattle.arena_rule.proofs.Firsts.{opening-first, ones-first}
 use Rattle.arena_rule.proofs.AnswersNumbers.{answers-draw, answers-whole}
 
 -- TO COME from the other hands
@@ -202,14 +203,6 @@ module _ (s : Setting) (words : List ℕ) (views : List SeatView) (r : Rule s wo
   pub joins : (other : ℕ) (w : SeatView) → get_elem? views other ≡ some w → other ≢ id → 0 < w.width → CanJoin v w → Rule s words (views_joined views id v other w)
   joins other w there ne more can = rule-of s r.blocks words (views_joined views id v other w) v.shape shape
       (state-join r.blocks words views id v b other w (record { at = there; else_ = ne; live = more; can = can }))
-
--- the opening view begins a search
-opening-first : (s : Setting) → IsSetting s → AreFirst s (opening_view s ∷ [])
-opening-first s h = ?
-
--- and so do K views of width 1
-ones-first : (s : Setting) → IsSetting s → AreFirst s (replicate s.knobs.workers (new_view s 1 []))
-ones-first s h = ?
 
 pub begins : (s : Setting) → IsSetting s → Rule s (opening_words s) (opening_view s ∷ [])
 begins s h = record { blocks = opening_blocks s; state = state-first s (opening_view s ∷ []) h (opening-first s h) }

@@ -20,6 +20,7 @@ pub mod Widths
 pub mod Sole
 pub mod SeatsNumbers
 pub mod AnswersNumbers
+pub mod Firsts
 pub mod SumsLaw
 pub mod SeatsCounts
 pub mod AnswersCounts
