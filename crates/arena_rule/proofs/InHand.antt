@@ -23,7 +23,8 @@ use Rattle.arena_rule.proofs.Totals.{each-set}
 use Rattle.arena_rule.proofs.Changes.{drew_cases, claimed_cases, drew_same, claimed_same}
 use Rattle.arena_rule.proofs.Numbers.{contains-cons, leaf-recorded}
 use Rattle.arena_rule.proofs.Reach.{IsHigh, low-same}
-use Rattle.arena_rule.proofs.WithinAdds.{within-adds, known-more}
+use Rattle.arena_rule.proofs.Within.{within-adds}
+use Rattle.arena_rule.proofs.KnownMore.{known-more}
 
 none-some : {A : Type 0} {x : A} → None ≡ Some x → ⊥
 none-some e = cc

@@ -14,7 +14,7 @@ pub mod Opening
 pub mod AnswersBlocks
 pub mod Numbers
 pub mod Tickets
-pub mod WithinAdds
+pub mod KnownMore
 pub mod InHand
 pub mod Widths
 pub mod Sole

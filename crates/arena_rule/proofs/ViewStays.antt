@@ -19,7 +19,7 @@ use Rattle.arena_rule.specs.Afters.{word_of, put, after, drew, looked, claimed_a
 use Rattle.arena_rule.specs.Answers.{MayAnswer, AnswersLook, AnswersClaim, AnswersPublish, AnswersLink, MayLieBelow}
 use Rattle.arena_rule.specs.IsView.{IsTold, AreTold, IsJoined, IsView}
 use Rattle.arena_rule.proofs.Changes.{drew_cases, claimed_cases, drew_same, claimed_same}
-use Rattle.arena_rule.proofs.WithinAdds.{known-more}
+use Rattle.arena_rule.proofs.KnownMore.{known-more}
 use Rattle.arena_rule.proofs.SeatsNumbers.{node-first}
 
 none-some : {A : Type 0} {x : A} → None ≡ Some x → ⊥
