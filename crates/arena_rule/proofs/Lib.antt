@@ -26,3 +26,4 @@ pub mod SeatsCounts
 pub mod AnswersCounts
 pub mod ViewStays
 pub mod Law
+pub mod RunLaws
