@@ -8,7 +8,7 @@ use Rattle.arena_rule.proofs.Law as law
 Keeps : Setting → Arena → Type 0
 Keeps s a = Rule s a.words a.views
 
-event-keeps : (s : Setting) (e : Event) (a b : Arena) → Rule s a.words a.views → Happens e a b → Rule s b.words b.views
+pub event-keeps : (s : Setting) (e : Event) (a b : Arena) → Rule s a.words a.views → Happens e a b → Rule s b.words b.views
 unfolding Keeps
 event-keeps s (acts id op) a b r h = subst (Keeps s) (sym h.is) (law.steps s a.words a.views r id h.view h.seat.at h.seat.live op h.fits)
 event-keeps s (splits id part) a b r h = subst (Keeps s) (sym h.is) (law.splits s a.words a.views r id h.view h.seat.at h.seat.live part h.can)

@@ -1,10 +1,11 @@
 -- Runs: lists of steps, splits and joins of the seats of one tree.
-use Rattle.std.specs.Prelude.{◌≡◌, ◌≢◌, ℕ, ◌<◌, List, [], ◌∷◌}
+use Rattle.std.specs.Prelude.{◌≡◌, ◌≢◌, ℕ, ◌<◌, List, [], ◌∷◌, slice_index}
 use mathlib.Core.Option.{some}
 use lib.ListN.{get_elem?}
 use Rattle.tree_words.specs.declared.steps.Op.{Op}
 use Rattle.arena_rule.specs.Views.{SeatView}
 use Rattle.arena_rule.specs.Fits.{FitsStep, CanSplit, CanJoin}
+use Rattle.arena_rule.specs.Afters.{word_of, answer_of}
 use Rattle.arena_rule.specs.Rule.{words_after, views_after, views_split, views_joined}
 
 -- the words, and the view of each seat
@@ -16,6 +17,10 @@ pub record Arena : Type 0 where
 pub record IsSeat (views : List SeatView) (id : ℕ) (v : SeatView) : Type 0 where
   pub at : get_elem? views id ≡ some v
   pub live : 0 < v.width
+
+-- what a step answers in the arena
+abbrev pub found_by : Arena → Op → ℕ
+found_by a op = answer_of op (slice_index a.words (word_of op))
 
 -- an event: a seat makes a step, or splits off a part of its width, or is joined with another seat
 pub data Event : Type 0 where
