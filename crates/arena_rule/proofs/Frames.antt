@@ -1,5 +1,5 @@
 -- Where a step writes, and which words it leaves alone.
-use Rattle.std.proofs.Common.{◌≡◌, ◌≢◌, ◌⊎◌, ℕ, zero, suc, ◌+◌, ◌*◌, ◌<◌, ◌≤◌, Bool, true, false, cond, List, [], ◌∷◌, ◌++◌, length, set, get_or, Option, Some, None, refl, sym, ap, ◌∙◌, subst, ⊎_elim, inl, inr, arith, get_or-set_other}
+use Rattle.std.proofs.Common.{◌≡◌, ◌≢◌, ◌⊎◌, ℕ, zero, suc, ◌+◌, ◌*◌, ◌<◌, ◌≤◌, Bool, true, false, cond, List, [], ◌∷◌, ◌++◌, length, set, get_or, Option, Some, None, refl, sym, ap, ◌∙◌, subst, ⊎_elim, inl, inr, arith, get_or-set_same, get_or-set_other}
 use Rattle.std.specs.Prelude.{slice_index, slice_get, nat_lt, nat_le, ◌&&◌, sum_by}
 use Rattle.std.proofs.lemmas.List.{set-get_or}
 use Rattle.std.proofs.lemmas.Option.{none-some, same_Some}
@@ -11,14 +11,16 @@ use Rattle.hex_board.specs.Positions.{stones_of}
 use Rattle.hex_board.specs.Wins.{is_same}
 use Rattle.tree_words.specs.Settings.{Setting}
 use Rattle.tree_words.specs.Words.{root_at, area_at, end_of, next_in}
-use Rattle.tree_words.specs.Blocks.{LinkedBlock, In, InOrder, one_if, has, covers, cover, is_node, size, stays}
+use Rattle.tree_words.specs.Blocks.{LinkedBlock, In, InOrder, one_if, has, covers, cover, is_node, link_of, size, stays}
 use Rattle.tree_words.specs.Paths.{node_state}
+use Rattle.tree_words.specs.Complete.{AreComplete}
 use Rattle.tree_words.specs.Sequence.{Outcome, outcome_of}
 use Rattle.tree_words.specs.declared.steps.Op.{Op}
 use Rattle.tree_words.specs.declared.steps.Op.TheVariants.{Draw, Look, Claim, Write, Publish, Add, Note, Done}
 use Rattle.tree_words.proofs.BlockLaws.{bool_is, cover-cons, covers_if, node-cover}
 use Rattle.tree_words.proofs.Down.{child-has}
 use Rattle.tree_words.proofs.GameLaws.{root_node, in-node, whole-in}
+use Rattle.tree_words.proofs.RootLaws.{find_root}
 use Rattle.tree_words.proofs.NodeLaws.{node-lies, nodes-apart, stays-clear}
 use Rattle.arena_rule.specs.Views.{SeatView, Flight}
 use Rattle.arena_rule.specs.Adds.{CountAdd, Gathered, seen_adds, node_adds, adds_up, walk_adds}
@@ -102,6 +104,11 @@ IsNoPublish op = Unit {0}
 abbrev pub IsNoAdd : Op → Type 0
 IsNoAdd (Add i won) = ⊥
 IsNoAdd op = Unit {0}
+
+-- the step is no Claim
+abbrev pub IsNoClaim : Op → Type 0
+IsNoClaim (Claim many) = ⊥
+IsNoClaim op = Unit {0}
 
 module _ (bs : List LinkedBlock) (words : List ℕ) (views : List SeatView) (id : ℕ) (v : SeatView) (b : Before bs words views id v) where
   -- where a node lies
@@ -271,3 +278,39 @@ module _ (bs : List LinkedBlock) (words : List ℕ) (views : List SeatView) (id 
   count-stays (Add w won) x i fits kind n l2 l4 = absurd kind
   count-stays (Note k value) x i fits kind n l2 l4 = else-word (Note k value) (x + i) (λ e. omega (arith, e, note-low k value fits, (node-range x i n l4).0))
   count-stays Done x i fits kind n l2 l4 = same-word 0 (x + i)
+
+  -- no step but a Claim changes NEXT
+  pub next-stays : (op : Op) → FitsStep v op → IsNoClaim op → next_in (words_after words op) ≡ next_in words
+  next-stays Draw fits kind = else-word Draw 0 (λ e. omega (arith, e))
+  next-stays (Look w) fits kind = same-word w 0
+  next-stays (Claim many) fits kind = absurd kind
+  next-stays (Write w value) fits kind = else-word (Write w value) 0 (λ e. omega (arith, e, write-high w fits))
+  next-stays (Publish l c) fits kind = else-word (Publish l c) 0 (λ e. omega (arith, e, publish-high l c fits))
+  next-stays (Add w won) fits kind = else-word (Add w won) 0 (λ e. omega (arith, e, add-high (record { word = w; won = won }) fits))
+  next-stays (Note k value) fits kind = else-word (Note k value) 0 (λ e. omega (arith, e))
+  next-stays Done fits kind = same-word 0 0
+
+  pub next-claimed : (many : ℕ) → next_in (words_after words (Claim many)) ≡ next_in words + many
+  next-claimed many = get_or-set_same words 0 (next_in words + many) 0 (omega (arith, b.state.long))
+
+  -- and so NEXT never falls
+  pub next-grows : (op : Op) → FitsStep v op → next_in words ≤ next_in (words_after words op)
+  next-grows Draw fits = omega (arith, next-stays Draw fits tt)
+  next-grows (Look w) fits = omega (arith, next-stays (Look w) fits tt)
+  next-grows (Claim many) fits = omega (arith, next-claimed many)
+  next-grows (Write w value) fits = omega (arith, next-stays (Write w value) fits tt)
+  next-grows (Publish l c) fits = omega (arith, next-stays (Publish l c) fits tt)
+  next-grows (Add w won) fits = omega (arith, next-stays (Add w won) fits tt)
+  next-grows (Note k value) fits = omega (arith, next-stays (Note k value) fits tt)
+  next-grows Done fits = omega (arith, next-stays Done fits tt)
+
+  -- the root's block begins the area, so NEXT lies behind its first word
+  pub next-area : area_at v.shape ≤ next_in words
+  next-area = by bs b.state.linked.blocks.order b.state.linked.blocks.complete (sym (b.state.linked.blocks.shows.links (root_at v.shape) (root_node (root_at v.shape) bs)) ∙ b.state.linked.link)
+    where
+      by : (ls : List LinkedBlock) → InOrder (root_at v.shape) ls → AreComplete v.shape (next_in words) ls → link_of ls (root_at v.shape) ≡ area_at v.shape → area_at v.shape ≤ next_in words
+      by [] g c e = absurd (omega (arith, e))
+      by (d ∷ ls) g c e =
+          let t = find_root (root_at v.shape) d ls g in
+          let w = whole-in v.shape (next_in words) (d ∷ ls) t.0 g c t.1 in
+          omega (arith, w.claimed, t.3, e)
