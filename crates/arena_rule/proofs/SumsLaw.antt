@@ -159,3 +159,118 @@ module _ (bs : List LinkedBlock) (words : List ℕ) (views : List SeatView) (id 
             before = ap (adds_made v.shape bs (Some fits.number)) e;
             later = ap (λ (o : Option Flight). adds_made v.shape bs (Some fits.number) (Some (flight_after a.word o))) e;
           }
+
+  -- where a node lies
+  node-low : (x : ℕ) → is_node (root_at v.shape) bs x ≡ true → root_at v.shape ≤ x
+  node-low x n = ⊎_elim (λ (e : x ≡ root_at v.shape). omega (arith, e)) (λ (t : (area_at v.shape ≤ x) × (x + 4 ≤ next_in words) × (x + 4 ≤ end_of v.shape)). omega (arith, t.0))
+      (node-lies v.shape (next_in words) bs x b.state.linked.blocks.complete n)
+
+  node-high : (x : ℕ) → is_node (root_at v.shape) bs x ≡ true → x + 4 ≤ length words
+  node-high x n = ⊎_elim (λ (e : x ≡ root_at v.shape). omega (arith, e, b.state.long)) (λ (t : (area_at v.shape ≤ x) × (x + 4 ≤ next_in words) × (x + 4 ≤ end_of v.shape)). omega (arith, t.2, b.state.long))
+      (node-lies v.shape (next_in words) bs x b.state.linked.blocks.complete n)
+
+  -- the view and the words have more of the same amounts
+  sums-more : (u : SeatView) (words' : List ℕ) (more : ℕ → ℕ) → ((w : ℕ) → amount_counted v.shape bs w u ≡ amount_counted v.shape bs w v + more w)
+      → ((x i : ℕ) → is_node (root_at v.shape) bs x ≡ true → 2 ≤ i → i < 4 → slice_index words' (x + i) ≡ slice_index words (x + i) + more (x + i))
+      → more (root_at v.shape + SEEN_WORD) ≡ 0 → Sums v.shape bs words' (set views id u)
+  sums-more u words' more c d r =
+      let old : Sums v.shape bs words views = b.state.sums in
+      record {
+        tallies = λ x n. omega (arith, d x 2 n (omega arith) (omega arith), old.tallies x n, total_set (amount_counted v.shape bs (x + 2)) views id v u b.at, c (x + 2));
+        seen = λ x n ne. omega (arith, d x 3 n (omega arith) (omega arith), old.seen x n ne, total_set (amount_counted v.shape bs (x + 3)) views id v u b.at, c (x + 3));
+        root = omega (arith, d (root_at v.shape) 3 (root_node (root_at v.shape) bs) (omega arith) (omega arith), old.root, r);
+      }
+
+  -- where no tally and no seen word of a node changes, and no amount
+  sums-frame : (u : SeatView) (words' : List ℕ) → ((w : ℕ) → amount_counted v.shape bs w u ≡ amount_counted v.shape bs w v)
+      → ((x i : ℕ) → is_node (root_at v.shape) bs x ≡ true → 2 ≤ i → i < 4 → slice_index words' (x + i) ≡ slice_index words (x + i)) → Sums v.shape bs words' (set views id u)
+  sums-frame u words' c d = sums-more u words' (λ _. 0) (λ w. omega (arith, c w)) (λ x i n l h. omega (arith, d x i n l h)) refl
+
+  -- a word below the root changes
+  low : (j n x i : ℕ) → j < root_at v.shape → is_node (root_at v.shape) bs x ≡ true → slice_index (set words j n) (x + i) ≡ slice_index words (x + i)
+  low j n x i l m = get_or-set_other words j (x + i) n 0 (λ e. omega (arith, e, node-low x m))
+
+  sums-draw : FitsDraw v → Sums v.shape bs (words_after words Draw) (views_after words views id v Draw)
+  unfolding with_word
+  sums-draw fits =
+      let n : ℕ = ticket_in words in
+      let none : v.adds ≡ None = ((b.state.in_hand id v b.at).idle fits.ticket).0 in
+      sums-frame (after v Draw n) (words_after words Draw)
+      (λ w. drew_same (λ z. amount_counted v.shape bs w z) v n
+      (ap (λ (o : Option Flight). amount_recorded v.shape bs w v.walks + amount_at w (adds_made v.shape bs (Some n) o)) none
+      ∙ sym (ap (λ (o : Option ℕ). amount_recorded v.shape bs w v.walks + amount_at w (adds_made v.shape bs o v.adds)) fits.ticket))
+      refl)
+      (λ x i m _ _. low 1 (n + 1) x i (omega arith) m)
+
+  sums-claim : (size : ℕ) → Sums v.shape bs (words_after words (Claim size)) (views_after words views id v (Claim size))
+  unfolding with_word
+  sums-claim size =
+      let n : ℕ = next_in words in
+      sums-frame (after v (Claim size) n) (words_after words (Claim size))
+      (λ w. claimed_same (λ z. amount_counted v.shape bs w z) v size n refl refl)
+      (λ x i m _ _. low 0 (n + size) x i (omega arith) m)
+
+  -- a held word is no word of a node
+  held-apart : (j x i : ℕ) → is_held v.held j ≡ true → is_node (root_at v.shape) bs x ≡ true → i < 4 → j ≢ x + i
+  held-apart j x i h n l e = held (cover j bs) (held_at j v) (sum_by (held_at j) views) (is_claimed v.shape words j) (ap one_if h) (total_at (held_at j) views id v b.at) (b.state.apart j)
+    where
+      held : (c k m : ℕ) (t : Bool) → k ≡ 1 → k ≤ m → c + m ≤ one_if t → ⊥
+      held c k m t one le le' = ?
+
+  sums-write : (i value : ℕ) → FitsWrite v i → Sums v.shape bs (words_after words (Write i value)) (views_after words views id v (Write i value))
+  unfolding with_word wrote
+  sums-write i value fits =
+      sums-frame (after v (Write i value) 0) (words_after words (Write i value)) (λ w. refl)
+      (λ x j m _ l. get_or-set_other words i (x + j) value 0 (λ e. held-apart i x j ? m l (sym e)))
+
+  sums-note : (k value : ℕ) → FitsNote v k value → Sums v.shape bs (words_after words (Note k value)) (views_after words views id v (Note k value))
+  unfolding with_word noted
+  sums-note k value fits =
+      let q : Walked = record { number = k; value = value } in
+      let leaf : ℕ = fits.flight.leaf in
+      let hand = b.state.in_hand id v b.at in
+      let same : walk_adds v.shape v.known k leaf ≡ walk_adds v.shape bs k leaf = known-adds bs words views id v b id v k leaf b.at (hand.flight k fits.flight fits.ticket fits.adds).known in
+      let is : leaf_in value ≡ leaf = ap leaf_in fits.value ∙ leaf-recorded leaf (outcome_of v.shape k (node_state v.shape v.known leaf)).winner in
+      let made : adds_made v.shape bs v.ticket v.adds ≡ walk_adds v.shape bs k (leaf_in value)
+      = (λ i. adds_made v.shape bs (fits.ticket i) (fits.adds i)) ∙ take_all fits.flight.made (walk_adds v.shape bs k leaf) (omega (arith, fits.all, ap length same))
+          ∙ ap (walk_adds v.shape bs k) (sym is) in
+      sums-frame (after v (Note k value) 0) (words_after words (Note k value))
+      (λ w. omega (arith, ap (amount_at w) made, sum_by-cons (λ (p : Walked). amount_at w (walk_adds v.shape bs p.number (leaf_in p.value))) q v.walks))
+      (λ x i m _ _. low (2 + k) value x i (omega (arith, (hand.ticket k fits.ticket).1)) m)
+
+  -- a word gets more
+  word-more : (i j n : ℕ) → j < length words → slice_index (set words i (slice_index words i + n)) j ≡ slice_index words j + cond (i == j) n 0
+  word-more i j n l = ⊎_elim
+      (λ (t : (i == j) ≡ true).
+      let e : j ≡ i = sym (eq_of i j t) in
+      ap (slice_index (set words i (slice_index words i + n))) e ∙ get_or-set_same words i (slice_index words i + n) 0 (omega (arith, e))
+      ∙ (λ k. slice_index words (e (~ k)) + cond (t (~ k)) n 0))
+      (λ (t : (i == j) ≡ false).
+      get_or-set_other words i j (slice_index words i + n) 0 (λ e. not_both (i == j) (same_is i j (sym e)) t) ∙ omega (arith, ap (λ (u : Bool). cond u n 0) t))
+      (bool_is (i == j))
+
+  sums-add : (i : ℕ) (won : Bool) → FitsStep v (Add i won) → Sums v.shape bs (words_after words (Add i won)) (views_after words views id v (Add i won))
+  unfolding with_word added_at
+  sums-add i won fits =
+      let k : ℕ = fits.number in
+      let a : CountAdd = record { word = i; won = won } in
+      let n : NextAdd bs v k a = next-add a fits in
+      let all : List CountAdd = walk_adds v.shape bs k n.leaf in
+      let more : ℕ → ℕ = λ w. cond (i == w) (amount_of won) 0 in
+      let root : ℕ = root_at v.shape + SEEN_WORD in
+      sums-more (after v (Add i won) (slice_index words i)) (words_after words (Add i won)) more
+      (λ w.
+      omega (
+        arith,
+        ap (λ (o : Option ℕ). amount_at w (adds_made v.shape bs o (Some (flight_after i v.adds)))) fits.ticket,
+        ap (λ (o : Option ℕ). amount_at w (adds_made v.shape bs o v.adds)) fits.ticket,
+        ap (amount_at w) n.before,
+        ap (amount_at w) n.later,
+        amount-next w n.made all a n.next,
+      ))
+      (λ x j m _ l. word-more i (x + j) (amount_of won) (omega (arith, node-high x m)))
+      (other (i == root) (adds-before root n.made all a n.next) (root-adds v.shape bs b.state.linked.blocks.order k n.leaf))
+    where
+      other : (t : Bool) {m c : ℕ} → m + cond t 1 0 ≤ c → c ≡ 0 → cond t (amount_of won) 0 ≡ 0
+      other true l z = absurd (omega (arith, l, z))
+      other false l z = refl
