@@ -1,6 +1,7 @@
 -- What the adds of a walk add to the tallies and to the seen words of the nodes.
-use Rattle.std.proofs.Common.{◌≡◌, ◌≢◌, ◌⊎◌, ℕ, zero, suc, ◌+◌, ◌*◌, ◌<◌, ◌≤◌, Bool, true, false, cond, List, [], ◌∷◌, ◌++◌, length, get_or, refl, sym, ap, ◌∙◌, subst, ⊎_elim, inl, inr, arith}
-use Rattle.std.specs.Prelude.{◌==◌, ◌||◌, ◌&&◌}
+use Rattle.std.proofs.Common.{◌≡◌, ◌≢◌, ◌⊎◌, ℕ, zero, suc, ◌+◌, ◌*◌, ◌<◌, ◌≤◌, Bool, true, false, cond, List, [], ◌∷◌, ◌++◌, length, get_or, take, Some, None, refl, sym, ap, ◌∙◌, subst, ⊎_elim, inl, inr, arith}
+use Rattle.std.specs.Prelude.{◌==◌, ◌||◌, ◌&&◌, count_by, slice_get}
+use Rattle.std.proofs.lemmas.List.Sums.{sum_by-cons}
 use Rattle.std.specs.List.{list_any}
 use Rattle.hex_cells.specs.Sets.{has as has_cell}
 use Rattle.hex_cells.specs.Colours.{other_of}
@@ -13,18 +14,100 @@ use Rattle.tree_words.specs.Words.{root_at}
 use Rattle.tree_words.specs.Blocks.{LinkedBlock, one_if, has, place, cell_at, covers, cover, up, is_node, In, InOrder, Follows, size}
 use Rattle.tree_words.specs.Paths.{NodeState, root_state, state_after, mover_at, node_state, mover_of, path_of, is_on, enters}
 use Rattle.tree_words.specs.Sequence.{Outcome, outcome_of, amount_of}
-use Rattle.tree_words.specs.declared.layout.TheConstants.{TALLY_WORD, SEEN_WORD}
-use Rattle.tree_words.proofs.BlockLaws.{eq_of, same_is, other_is, bool_is, either_true, apart, has-at, has-covers, covers_if, cover-cons, node-apart, up_same}
+use Rattle.tree_words.specs.declared.layout.TheConstants.{TALLY_WORD, SEEN_WORD, VISIT}
+use Rattle.tree_words.proofs.BlockLaws.{eq_of, same_is, other_is, bool_is, either_true, apart, has-at, has-covers, covers_of, covers_if, cover-cons, node-apart, up_same}
 use Rattle.tree_words.proofs.Down.{not_both, never}
 use Rattle.tree_words.proofs.GameLaws.{spot-same, in-node, up-in}
 use Rattle.tree_words.proofs.Adds.{is_child}
 use Rattle.tree_words.proofs.Climbs.{neither, or_first, or_true}
 use Rattle.tree_words.proofs.Tallies.{path-clear}
 use Rattle.arena_rule.specs.Adds.{CountAdd, Gathered, seen_adds, root_adds, node_adds, adds_up, walk_adds, amount_at}
+use Rattle.arena_rule.specs.Lookups.{adds_in}
 
 pub amount-append : (w : ℕ) (a b : List CountAdd) → amount_at w (a ++ b) ≡ amount_at w a + amount_at w b
 amount-append w [] b = omega arith
 amount-append w (x ∷ xs) b = omega (arith, amount-append w xs b)
+
+-- one add more
+pub amount-next : (w made : ℕ) (adds : List CountAdd) (a : CountAdd) → slice_get adds made ≡ Some a → amount_at w (take (made + 1) adds) ≡ amount_at w (take made adds) + cond (a.word == w) (amount_of a.won) 0
+amount-next w made adds a e = (let q : made + 1 ≡ suc made = omega arith in ap (λ (n : ℕ). amount_at w (take n adds)) q) ∙ at made adds e
+  where
+    some_is : (x a : CountAdd) → Some x ≡ Some a → x ≡ a
+    some_is x a e = cc
+
+    at : (made : ℕ) (adds : List CountAdd) → slice_get adds made ≡ Some a → amount_at w (take (suc made) adds) ≡ amount_at w (take made adds) + cond (a.word == w) (amount_of a.won) 0
+    at made [] e = absurd (cc)
+    at zero (x ∷ xs) e = ap (λ (o : CountAdd). cond (o.word == w) (amount_of o.won) 0 + 0) (some_is x a e) ∙ omega arith
+    at (suc made) (x ∷ xs) e = omega (arith, at made xs e)
+
+-- how many of the adds to a word are wins
+abbrev pub wins_added : ℕ → List CountAdd → ℕ
+wins_added w adds = count_by (λ a. (a.word == w) && a.won) adds
+
+-- an amount has the number of adds as its visits, and the wins among them as its wins
+pub amount-parts : (w : ℕ) (adds : List CountAdd) → amount_at w adds ≡ VISIT * adds_in w adds + wins_added w adds
+amount-parts w [] = refl
+amount-parts w (a ∷ adds) =
+    omega (
+      arith,
+      by (a.word == w) a.won,
+      amount-parts w adds,
+      sum_by-cons (λ (o : CountAdd). cond (o.word == w) 1 0) a adds,
+      sum_by-cons (λ (o : CountAdd). cond ((o.word == w) && o.won) 1 0) a adds,
+    )
+  where
+    by : (t u : Bool) → cond t (amount_of u) 0 ≡ VISIT * cond t 1 0 + cond (t && u) 1 0
+    by true true = refl
+    by true false = refl
+    by false u = refl
+
+pub wins-less : (w : ℕ) (adds : List CountAdd) → wins_added w adds ≤ adds_in w adds
+wins-less w [] = omega arith
+wins-less w (a ∷ adds) =
+    omega (
+      arith,
+      by (a.word == w) a.won,
+      wins-less w adds,
+      sum_by-cons (λ (o : CountAdd). cond (o.word == w) 1 0) a adds,
+      sum_by-cons (λ (o : CountAdd). cond ((o.word == w) && o.won) 1 0) a adds,
+    )
+  where
+    by : (t u : Bool) → cond (t && u) 1 0 ≤ cond t 1 0
+    by true true = omega arith
+    by true false = omega arith
+    by false u = omega arith
+
+-- the adds before one of them are fewer
+pub adds-before : (w made : ℕ) (adds : List CountAdd) (a : CountAdd) → slice_get adds made ≡ Some a → adds_in w (take made adds) + cond (a.word == w) 1 0 ≤ adds_in w adds
+adds-before w made [] a e = absurd (cc)
+adds-before w zero (x ∷ xs) a e = omega (arith, sum_by-cons (λ (o : CountAdd). cond (o.word == w) 1 0) x xs, ap {B = ℕ} (λ (o : CountAdd). cond (o.word == w) 1 0) (some_is x a e))
+  where
+    some_is : (x a : CountAdd) → Some x ≡ Some a → x ≡ a
+    some_is x a e = cc
+adds-before w (suc made) (x ∷ xs) a e =
+    omega (
+      arith,
+      sum_by-cons (λ (o : CountAdd). cond (o.word == w) 1 0) x (take made xs),
+      sum_by-cons (λ (o : CountAdd). cond (o.word == w) 1 0) x xs,
+      adds-before w made xs a e,
+    )
+
+pub adds-take : (w n : ℕ) (adds : List CountAdd) → adds_in w (take n adds) ≤ adds_in w adds
+adds-take w zero adds = omega arith
+adds-take w (suc n) [] = omega arith
+adds-take w (suc n) (x ∷ xs) =
+    omega (
+      arith,
+      sum_by-cons (λ (o : CountAdd). cond (o.word == w) 1 0) x (take n xs),
+      sum_by-cons (λ (o : CountAdd). cond (o.word == w) 1 0) x xs,
+      adds-take w n xs,
+    )
+
+-- an amount of one visit or of none is that of one add or of none
+one-add : (t u : Bool) (n m : ℕ) → cond t (amount_of u) 0 ≡ VISIT * n + m → m ≤ n → n ≡ cond t 1 0
+one-add true true n m e l = omega (arith, e)
+one-add true false n m e l = omega (arith, e)
+one-add false u n m e l = omega (arith, e)
 
 -- an add of another word
 miss : (a w : ℕ) (won : Bool) → a ≢ w → cond (a == w) (amount_of won) 0 ≡ 0
@@ -285,9 +368,47 @@ module _ (s : Setting) (bs : List LinkedBlock) (order : InOrder (root_at s) bs) 
   unfolding walk_adds
   amount-new b x i f h l = new-none s (outcome_of s k (node_state s bs leaf)) b bs x i leaf f h l
 
-  pub adds-more : (b : LinkedBlock) → Follows (root_at s) b bs → is_node (root_at s) bs leaf ≡ true → walk_adds s (b ∷ bs) k leaf ≡ walk_adds s bs k leaf
+  pub adds-linked : (b : LinkedBlock) → Follows (root_at s) b bs → is_node (root_at s) bs leaf ≡ true → walk_adds s (b ∷ bs) k leaf ≡ walk_adds s bs k leaf
   unfolding walk_adds
-  adds-more b f n =
+  adds-linked b f n =
       let o : NodeState → Outcome = outcome_of s k in
       ap (λ (p : NodeState). (adds_up s (o p) (b ∷ bs) leaf).adds) (spot-same s b bs leaf f n)
       ∙ ap (λ (a : Gathered). a.adds) (up_same (root_adds s (o (node_state s bs leaf))) (node_adds (o (node_state s bs leaf))) b bs leaf (apart (root_at s) b bs leaf f n))
+
+  -- at most one add of a walk counts in a word of a node: in the tally where the node is on the path
+  pub tally-adds : (x : ℕ) → is_node (root_at s) bs x ≡ true → adds_in (x + TALLY_WORD) (walk_adds s bs k leaf) ≡ cond (is_on s bs x leaf) 1 0
+  tally-adds x n =
+      let w : ℕ = x + TALLY_WORD in
+      let adds : List CountAdd = walk_adds s bs k leaf in
+      one-add (is_on s bs x leaf) (is_same (outcome_of s k (node_state s bs leaf)).winner (mover_of s bs x)) (adds_in w adds) (wins_added w adds)
+      (sym (tally-amount x n) ∙ amount-parts w adds) (wins-less w adds)
+
+  pub seen-adds : (c : LinkedBlock) (x : ℕ) → In c bs → has c x ≡ true
+      → adds_in (x + SEEN_WORD) (walk_adds s bs k leaf)
+      ≡ cond (enters s bs c leaf && has_cell (stones_of (outcome_of s k (node_state s bs leaf)).full (mover_of s bs x)) (cell_at c (place c x))) 1 0
+  seen-adds c x i h =
+      let w : ℕ = x + SEEN_WORD in
+      let adds : List CountAdd = walk_adds s bs k leaf in
+      let o : Outcome = outcome_of s k (node_state s bs leaf) in
+      let stone : Bool = has_cell (stones_of o.full (mover_of s bs x)) (cell_at c (place c x)) in
+      let won : Bool = is_same o.winner (mover_of s bs x) in
+      one-add (enters s bs c leaf && stone) won (adds_in w adds) (wins_added w adds)
+      (both (enters s bs c leaf) stone (amount_of won) ∙ sym (seen-amount c x i h) ∙ amount-parts w adds) (wins-less w adds)
+    where
+      both : (t u : Bool) (n : ℕ) → cond (t && u) n 0 ≡ cond t (cond u n 0) 0
+      both true u n = refl
+      both false u n = refl
+
+  -- no add counts in the root's seen word
+  pub root-adds : adds_in (root_at s + SEEN_WORD) (walk_adds s bs k leaf) ≡ 0
+  unfolding walk_adds
+  root-adds =
+      let o : Outcome = outcome_of s k (node_state s bs leaf) in
+      let w : ℕ = root_at s + SEEN_WORD in
+      omega (arith, amount-parts w (adds_up s o bs leaf).adds, adds-none s o w bs leaf (λ e. omega (arith, e)) (root-clear bs order))
+    where
+      root-clear : (cs : List LinkedBlock) → InOrder (root_at s) cs → cover (root_at s + SEEN_WORD) cs ≡ 0
+      root-clear [] g = refl
+      root-clear (c ∷ cs) g =
+          let out : covers (root_at s + SEEN_WORD) c ≡ false = never (covers (root_at s + SEEN_WORD) c) (λ t. let l = covers_of (root_at s + SEEN_WORD) c t in let low = g.0.root in omega (arith, l.0, low)) in
+          omega (arith, cover-cons (root_at s + SEEN_WORD) c cs, ap one_if out, root-clear cs g.1)
