@@ -96,10 +96,10 @@ module _ (bs : List LinkedBlock) (words : List ℕ) (views : List SeatView) (id 
       let wd : u.width ≡ v.width = drew_same (λ z. z.width) v x refl refl in
       let idle = old.idle fits.ticket in
       let hand : (k : ℕ) → u.ticket ≡ Some k → (k ≡ x) × (x < v.shape.knobs.playouts) × (u.ended ≡ 0) = λ k e. ⊎_elim
-          (λ (c : (x < v.shape.knobs.playouts) × (drew v x ≡ record v { ticket = Some x })).
-          (some-eq (sym e ∙ ap (λ (z : SeatView). z.ticket) c.1), c.0, ap (λ (z : SeatView). z.ended) c.1 ∙ fits.ended))
-          (λ (c : (v.shape.knobs.playouts ≤ x) × (drew v x ≡ record v { ended = 1 })). absurd (none-some (sym (ap (λ (z : SeatView). z.ticket) c.1 ∙ fits.ticket) ∙ e)))
-          (drew_cases v x) in
+      (λ (c : (x < v.shape.knobs.playouts) × (drew v x ≡ record v { ticket = Some x })).
+      (some-eq (sym e ∙ ap (λ (z : SeatView). z.ticket) c.1), c.0, ap (λ (z : SeatView). z.ended) c.1 ∙ fits.ended))
+      (λ (c : (v.shape.knobs.playouts ≤ x) × (drew v x ≡ record v { ended = 1 })). absurd (none-some (sym (ap (λ (z : SeatView). z.ticket) c.1 ∙ fits.ticket) ∙ e)))
+      (drew_cases v x) in
       make u (words_after words Draw) (omega (arith, t)) record {
         ticket = λ k e. let q = hand k e in (omega (arith, t, q.0), omega (arith, q.0, q.1));
         walks = λ q c. let l = old.walks q (subst (λ (ws : List Walked). Contains ws q) w c) in (omega (arith, t, l.0), l.1);
@@ -177,11 +177,12 @@ module _ (bs : List LinkedBlock) (words : List ℕ) (views : List SeatView) (id 
       → (is_known v (flight_after i o).leaf ≡ true) × ((flight_after i o).leaf ≢ root_at v.shape) × (1 ≤ (flight_after i o).made)
       × ((flight_after i o).made ≤ length (walk_adds v.shape v.known k (flight_after i o).leaf))
   flies i won k None t a next =
-      let at : i - 2 ≡ next.0 = omega (arith, next.1) in
-      (ap (is_known v) at ∙ next.2.known,
-      λ q. next.2.below (sym at ∙ q),
-      omega arith,
-      omega (arith, get-length (walk_adds v.shape v.known k next.0) 0 (record { word = i; won = won }) next.3, ap (λ (z : ℕ). length (walk_adds v.shape v.known k z)) at))
+      let at : i - 2 ≡ next.0 = omega (arith, next.1) in (
+        ap (is_known v) at ∙ next.2.known,
+        λ q. next.2.below (sym at ∙ q),
+        omega arith,
+        omega (arith, get-length (walk_adds v.shape v.known k next.0) 0 (record { word = i; won = won }) next.3, ap (λ (z : ℕ). length (walk_adds v.shape v.known k z)) at),
+      )
   flies i won k (Some f) t a next =
       let fly = old.flight k f t a in
       (fly.known, fly.below, omega arith, omega (arith, get-length (walk_adds v.shape v.known k f.leaf) f.made (record { word = i; won = won }) next))

@@ -24,6 +24,7 @@ use Rattle.arena_rule.specs.Parts.{Fresh, AreApart, AreLinked, AreWritten, Known
 use Rattle.arena_rule.specs.Rule.{IsState, Rule, words_after, views_after, views_split, views_joined}
 use Rattle.arena_rule.proofs.Before.{Before, Other, AreFirst, blocks_after, opening_blocks}
 use Rattle.arena_rule.proofs.Totals.{inside}
+use Rattle.arena_rule.proofs.Apart.{fresh-step, apart-step, held-step}
 use Rattle.arena_rule.proofs.Widths.{widths-step}
 use Rattle.arena_rule.proofs.Tickets.{tickets-step}
 use Rattle.arena_rule.proofs.InHand.{in_hand-step}
@@ -34,59 +35,75 @@ use Rattle.arena_rule.proofs.AnswersNumbers.{answers-draw, answers-whole}
 
 -- TO COME from the other hands
 module _ (bs : List LinkedBlock) (words : List ℕ) (views : List SeatView) (id : ℕ) (v : SeatView) (b : Before bs words views id v) where
-  fresh-step : (op : Op) → FitsStep v op → Fresh v.shape (words_after words op)
-  fresh-step op fits = ?
-  apart-step : (op : Op) → FitsStep v op → AreApart v.shape (blocks_after bs words v op) (words_after words op) (views_after words views id v op)
-  apart-step op fits = ?
   linked-step : (op : Op) → FitsStep v op → AreLinked v.shape (blocks_after bs words v op) (words_after words op)
   linked-step op fits = ?
-  held-step : (op : Op) → FitsStep v op → AreWritten (words_after words op) (views_after words views id v op)
-  held-step op fits = ?
+
   known-step : (op : Op) → FitsStep v op → Known v.shape (blocks_after bs words v op) (views_after words views id v op)
   known-step op fits = ?
+
   sums-step : (op : Op) → FitsStep v op → Sums v.shape (blocks_after bs words v op) (words_after words op) (views_after words views id v op)
   sums-step op fits = ?
+
   apart-split : (part : ℕ) → CanSplit v part → AreApart v.shape bs words (views_split views id v part)
   apart-split part can = ?
+
   held-split : (part : ℕ) → CanSplit v part → AreWritten words (views_split views id v part)
   held-split part can = ?
+
   known-split : (part : ℕ) → CanSplit v part → Known v.shape bs (views_split views id v part)
   known-split part can = ?
+
   sums-split : (part : ℕ) → CanSplit v part → Sums v.shape bs words (views_split views id v part)
   sums-split part can = ?
+
   apart-join : (other : ℕ) (w : SeatView) → Other views id v other w → AreApart v.shape bs words (views_joined views id v other w)
   apart-join other w o = ?
+
   held-join : (other : ℕ) (w : SeatView) → Other views id v other w → AreWritten words (views_joined views id v other w)
   held-join other w o = ?
+
   known-join : (other : ℕ) (w : SeatView) → Other views id v other w → Known v.shape bs (views_joined views id v other w)
   known-join other w o = ?
+
   sums-join : (other : ℕ) (w : SeatView) → Other views id v other w → Sums v.shape bs words (views_joined views id v other w)
   sums-join other w o = ?
+
   answers-link : (x : ℕ) → is_known v x ≡ true → AnswersLink v x (link_in words x)
   answers-link x n = ?
+
   answers-block : (c : LinkedBlock) (j : ℕ) → In c v.known → j < size c → stays j ≡ true → slice_index words (c.start + j) ≡ header_or_move c j
   answers-block c j = ?
+
   answers-claim : (size : ℕ) → FitsClaim v size → AnswersClaim v (slice_index words 0)
   answers-claim size fits = ?
+
   answers-tally : (x : ℕ) → is_known v x ≡ true → AnswersTally v x (slice_index words (x + TALLY_WORD))
   answers-tally x n = ?
+
   answers-seen : (x : ℕ) → is_known v x ≡ true → AnswersSeen v (slice_index words (x + SEEN_WORD))
   answers-seen x n = ?
+
   answers-add : (a : CountAdd) → FitsAdd v a → AnswersAdd v (slice_index words a.word)
   answers-add a fits = ?
 
 fresh-first : (s : Setting) (views : List SeatView) → IsSetting s → AreFirst s views → Fresh s (opening_words s)
 fresh-first s views h f = ?
+
 apart-first : (s : Setting) (views : List SeatView) → IsSetting s → AreFirst s views → AreApart s (opening_blocks s) (opening_words s) views
 apart-first s views h f = ?
+
 linked-first : (s : Setting) (views : List SeatView) → IsSetting s → AreFirst s views → AreLinked s (opening_blocks s) (opening_words s)
 linked-first s views h f = ?
+
 held-first : (s : Setting) (views : List SeatView) → IsSetting s → AreFirst s views → AreWritten (opening_words s) views
 held-first s views h f = ?
+
 known-first : (s : Setting) (views : List SeatView) → IsSetting s → AreFirst s views → Known s (opening_blocks s) views
 known-first s views h f = ?
+
 sums-first : (s : Setting) (views : List SeatView) → IsSetting s → AreFirst s views → Sums s (opening_blocks s) (opening_words s) views
 sums-first s views h f = ?
+
 -- END TO COME
 
 module _ (bs : List LinkedBlock) (words : List ℕ) (views : List SeatView) (id : ℕ) (v : SeatView) (b : Before bs words views id v) where

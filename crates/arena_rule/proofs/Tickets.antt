@@ -100,9 +100,9 @@ module _ (bs : List LinkedBlock) (words : List ℕ) (views : List SeatView) (id 
       let L : Type 0 = (x < v.shape.knobs.playouts) × (u.ticket ≡ Some x) in
       let R : Type 0 = (v.shape.knobs.playouts ≤ x) × (u.ticket ≡ None) in
       let cases : L ⊎ R = ⊎_elim
-          (λ (c : (x < v.shape.knobs.playouts) × (drew v x ≡ record v { ticket = Some x })). inl (c.0, ap (λ (z : SeatView). z.ticket) c.1))
-          (λ (c : (v.shape.knobs.playouts ≤ x) × (drew v x ≡ record v { ended = 1 })). inr (c.0, ap (λ (z : SeatView). z.ticket) c.1 ∙ fits.ticket))
-          (drew_cases v x) in
+      (λ (c : (x < v.shape.knobs.playouts) × (drew v x ≡ record v { ticket = Some x })). inl (c.0, ap (λ (z : SeatView). z.ticket) c.1))
+      (λ (c : (v.shape.knobs.playouts ≤ x) × (drew v x ≡ record v { ended = 1 })). inr (c.0, ap (λ (z : SeatView). z.ticket) c.1 ∙ fits.ticket))
+      (drew_cases v x) in
       drawn u (words_after words Draw) fits (drew_same (λ z. z.walks) v x refl refl)
       (get_or-set_same words 1 (x + 1) 0 (omega (arith, b.state.long)))
       (λ k l. get_or-set_other words 1 (2 + k) (x + 1) 0 (λ e. omega (arith, e)))

@@ -173,12 +173,13 @@ module _ (v : SeatView) (iv : IsView v) where
       own =
           let x : ℕ = fits.node in
           let in_area = iv.held fits.block fits.held in
-          let wide : size (told_below v x c) ≡ fits.block.size = told-size x c fits.may.below ∙ sym fits.may.fits in
-          (fits.above,
-          omega (arith, in_area.0, fits.start),
-          omega (arith, in_area.1, fits.start, wide),
-          λ i h. let q = covers_of i (told_below v x c) h in
-          iv.apart i (ap (λ (o : Option HeldBlock). is_held o i) fits.held ∙ within fits.block.start fits.block.size i (omega (arith, q.0, fits.start)) (omega (arith, q.1, fits.start, wide))))
+          let wide : size (told_below v x c) ≡ fits.block.size = told-size x c fits.may.below ∙ sym fits.may.fits in (
+            fits.above,
+            omega (arith, in_area.0, fits.start),
+            omega (arith, in_area.1, fits.start, wide),
+            λ i h. let q = covers_of i (told_below v x c) h in
+                iv.apart i (ap (λ (o : Option HeldBlock). is_held o i) fits.held ∙ within fits.block.start fits.block.size i (omega (arith, q.0, fits.start)) (omega (arith, q.1, fits.start, wide))),
+          )
         where
           within : (a n i : ℕ) → a ≤ i → i < a + n → (nat_le a i && nat_lt i (a + n)) ≡ true
           within a n i p q = grind (arith, nat_tests)
@@ -194,10 +195,10 @@ module _ (v : SeatView) (iv : IsView v) where
       let ad : u.adds ≡ v.adds = drew_same (λ z. z.adds) v x refl refl in
       let setting : IsSetting u.shape = subst IsSetting (sym sh) iv.setting in
       let hand : (k : ℕ) → u.ticket ≡ Some k → k < v.shape.knobs.playouts = λ k e. ⊎_elim
-          (λ (c : (x < v.shape.knobs.playouts) × (drew v x ≡ record v { ticket = Some x })).
-          let is : x ≡ k = some-eq (sym (ap (λ (z : SeatView). z.ticket) c.1) ∙ e) in let l = c.0 in omega (arith, is, l))
-          (λ (c : (v.shape.knobs.playouts ≤ x) × (drew v x ≡ record v { ended = 1 })). absurd (none-some (sym (ap (λ (z : SeatView). z.ticket) c.1 ∙ fits.ticket) ∙ e)))
-          (drew_cases v x) in
+      (λ (c : (x < v.shape.knobs.playouts) × (drew v x ≡ record v { ticket = Some x })).
+      let is : x ≡ k = some-eq (sym (ap (λ (z : SeatView). z.ticket) c.1) ∙ e) in let l = c.0 in omega (arith, is, l))
+      (λ (c : (v.shape.knobs.playouts ≤ x) × (drew v x ≡ record v { ended = 1 })). absurd (none-some (sym (ap (λ (z : SeatView). z.ticket) c.1 ∙ fits.ticket) ∙ e)))
+      (drew_cases v x) in
       record {
         setting = setting;
         width = omega (arith, wd, iv.width);
@@ -223,10 +224,10 @@ module _ (v : SeatView) (iv : IsView v) where
       let ad : u.adds ≡ v.adds = claimed_same (λ z. z.adds) v s x refl refl in
       let block : HeldBlock = record { start = x; size = s; written = [] } in
       let cases : ((x + s ≤ end_of v.shape) × (u.held ≡ Some block)) ⊎ (u.held ≡ None) = ⊎_elim
-          (λ (c : (x + s ≤ end_of v.shape) × (claimed_at v s x ≡ record v { held = Some (record { start = x; size = s; written = [] }); claimed = v.claimed + s })).
-          inl (c.0, ap (λ (z : SeatView). z.held) c.1))
-          (λ (c : (end_of v.shape < x + s) × (claimed_at v s x ≡ record v { full = true })). inr (ap (λ (z : SeatView). z.held) c.1 ∙ fits.held))
-          (claimed_cases v s x) in
+      (λ (c : (x + s ≤ end_of v.shape) × (claimed_at v s x ≡ record v { held = Some (record { start = x; size = s; written = [] }); claimed = v.claimed + s })).
+      inl (c.0, ap (λ (z : SeatView). z.held) c.1))
+      (λ (c : (end_of v.shape < x + s) × (claimed_at v s x ≡ record v { full = true })). inr (ap (λ (z : SeatView). z.held) c.1 ∙ fits.held))
+      (claimed_cases v s x) in
       stays u sh (claimed_same (λ z. z.width) v s x refl refl) (claimed_same (λ z. z.ended) v s x refl refl)
       (subst (KnownStays v) (sym kn) same)
       (λ k e. iv.ticket k (sym ti ∙ e))
@@ -354,12 +355,14 @@ module _ (s : Setting) (ls : List LinkedBlock) (told : AreTold s ls) where
   told-both [] t = told
   told-both (b ∷ ks) t =
       let same : node_state s ks b.parent ≡ node_state s (ks ++ ls) b.parent
-      = sym (behind-up (root_state s) (λ c y above. state_after above (cell_at c (place c y))) ks b.parent t.1 t.0.parent) in
-      (record {
-        parent = node-first (root_at s) ks ls b.parent t.0.parent;
-        told = t.0.told ∙ ap (λ (p : NodeState). block_at p b.parent b.start) same;
-        inside = t.0.inside;
-      }, told-both ks t.1)
+      = sym (behind-up (root_state s) (λ c y above. state_after above (cell_at c (place c y))) ks b.parent t.1 t.0.parent) in (
+        record {
+          parent = node-first (root_at s) ks ls b.parent t.0.parent;
+          told = t.0.told ∙ ap (λ (p : NodeState). block_at p b.parent b.start) same;
+          inside = t.0.inside;
+        },
+        told-both ks t.1,
+      )
     where
       block_at : NodeState → ℕ → ℕ → LinkedBlock
       block_at p x b = record { start = b; parent = x; empties = set_of (empties_of p.board); cells = cond (x == root_at s) (allowed_cells s) (empties_of p.board) }

@@ -3,10 +3,11 @@
 ghost use Rattle.std.specs.Prelude.{◌≡◌, ◌≢◌, ℕ, ◌+◌, Bool, true, List, [], ◌∷◌, slice_index, replicate, Some};
 ghost use Rattle.tree_words.specs.Settings.{Setting, IsSetting};
 ghost use Rattle.tree_words.specs.Words.{root_at, link_in};
-ghost use Rattle.tree_words.specs.Blocks.{LinkedBlock, In, is_node};
+ghost use Rattle.tree_words.specs.Blocks.{LinkedBlock, In, InOrder, is_node};
 ghost use Rattle.tree_words.specs.Opening.{opening_words};
 ghost use Rattle.tree_words.specs.declared.steps.Op.{Op};
 ghost use Rattle.arena_rule.specs.Views.{SeatView, HeldBlock, new_view, opening_view};
+ghost use Rattle.arena_rule.specs.Adds.{AddExactly};
 ghost use Rattle.arena_rule.specs.Fits.{FitsStep, CanSplit, CanJoin};
 ghost use Rattle.arena_rule.specs.Afters.{after, kept_part, given_part, joined};
 ghost use Rattle.arena_rule.specs.Answers.{MayAnswer};
@@ -50,6 +51,13 @@ pub fn begins()
 pub fn runs()
     ensures { (s : Setting) (events : List Event) (a last : Arena)
         → Rule s a.words a.views → LeadTo events a last → Rule s last.words last.views }
+{}
+
+/// The law of adds: what the adds of a walk add to each tally and each seen word is what the exact counts have of it. It does
+/// nothing.
+pub fn adds_are_exact()
+    ensures { (s : Setting) (blocks : List LinkedBlock) (k leaf : ℕ)
+        → InOrder (root_at s) blocks → AddExactly s blocks k leaf }
 {}
 
 /// The law of views in order: a step whose answer it may give keeps a view in order, a split both views, and a join the one

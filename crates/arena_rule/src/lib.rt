@@ -10,7 +10,7 @@
 //!
 //! **What is proved.** Each step that fits keeps the rule, and its answer is one that the step may give ([`steps`]); a split
 //! and a join keep it ([`splits`], [`joins`]); it holds of the opening words ([`begins`]); so it holds along every run
-//! ([`runs`]). A view stays in order ([`views_stay_in_order`]), what a seat knows is never false later
+//! ([`runs`]). The adds of a walk are those of the exact counts ([`adds_are_exact`]). A view stays in order ([`views_stay_in_order`]), what a seat knows is never false later
 //! ([`known_blocks_stay`]), and a held block is named by no link ([`held_blocks_are_unnamed`]).
 //!
 //! **What is only defined.** The four parts that bound the growth of the tree (specs/Bounds.antt) are not parts of the rule
@@ -23,7 +23,7 @@ mod laws;
 mod views;
 
 pub use laws::{
-    begins, held_blocks_are_unnamed, joins, known_blocks_stay, runs, splits, steps,
+    adds_are_exact, begins, held_blocks_are_unnamed, joins, known_blocks_stay, runs, splits, steps,
     views_stay_in_order,
 };
 pub use views::View;
