@@ -108,6 +108,11 @@ pub record FitsAdd (v : SeatView) (a : CountAdd) : Type 0 where
   pub held : v.held ≡ None
   pub next : IsNext v number v.adds a
 
+-- the record of the walk of playout k to a known leaf
+abbrev pub record_told : SeatView → ℕ → ℕ → ℕ
+record_told v k leaf =
+    record_word leaf (outcome_of v.shape k (node_state v.shape v.known leaf)).winner
+
 -- Note: k is the number in hand, all adds of its walk are made, and n is the record of the leaf and
 -- of the playout's result
 pub record FitsNote (v : SeatView) (k n : ℕ) : Type 0 where
@@ -115,8 +120,7 @@ pub record FitsNote (v : SeatView) (k n : ℕ) : Type 0 where
   pub flight : Flight
   pub adds : v.adds ≡ Some flight
   pub all : flight.made ≡ length (walk_adds v.shape v.known k flight.leaf)
-  pub value : n
-      ≡ record_word flight.leaf (outcome_of v.shape k (node_state v.shape v.known flight.leaf)).winner
+  pub value : n ≡ record_told v k flight.leaf
 
 -- the view fits the step; no step is left where all workers have ended
 abbrev pub FitsStep : SeatView → Op → Type 0
