@@ -1,5 +1,5 @@
 -- What the adds of a walk add to the tallies and to the seen words of the nodes.
-use Rattle.std.proofs.Common.{◌≡◌, ◌≢◌, ◌⊎◌, ℕ, zero, suc, ◌+◌, ◌*◌, ◌<◌, ◌≤◌, Bool, true, false, cond, List, [], ◌∷◌, ◌++◌, length, get_or, take, Some, None, refl, sym, ap, ◌∙◌, subst, ⊎_elim, inl, inr, arith}
+use Rattle.std.proofs.Common.{◌≡◌, ◌≢◌, ◌⊎◌, ℕ, zero, suc, ◌+◌, ◌*◌, ◌<◌, ◌≤◌, Bool, true, false, cond, List, [], ◌∷◌, ◌++◌, length, get_or, take, Some, refl, sym, ap, ◌∙◌, subst, ⊎_elim, arith}
 use Rattle.std.specs.Prelude.{◌==◌, ◌||◌, ◌&&◌, count_by, slice_get}
 use Rattle.std.proofs.lemmas.List.Sums.{sum_by-cons}
 use Rattle.std.specs.List.{list_any}
@@ -11,15 +11,15 @@ use Rattle.hex_board.specs.Positions.{stones_of}
 use Rattle.hex_board.specs.Wins.{is_same}
 use Rattle.tree_words.specs.Settings.{Setting}
 use Rattle.tree_words.specs.Words.{root_at}
-use Rattle.tree_words.specs.Blocks.{LinkedBlock, one_if, has, place, cell_at, covers, cover, up, is_node, In, InOrder, Follows, size}
+use Rattle.tree_words.specs.Blocks.{LinkedBlock, one_if, has, place, cell_at, covers, cover, is_node, In, InOrder, Follows}
 use Rattle.tree_words.specs.Paths.{NodeState, root_state, state_after, mover_at, node_state, mover_of, path_of, is_on, enters}
 use Rattle.tree_words.specs.Sequence.{Outcome, outcome_of, amount_of}
 use Rattle.tree_words.specs.declared.layout.TheConstants.{TALLY_WORD, SEEN_WORD, VISIT}
 use Rattle.tree_words.proofs.BlockLaws.{eq_of, same_is, other_is, bool_is, either_true, apart, has-at, has-covers, covers_of, covers_if, cover-cons, node-apart, up_same}
 use Rattle.tree_words.proofs.Down.{not_both, never}
-use Rattle.tree_words.proofs.GameLaws.{spot-same, in-node, up-in}
+use Rattle.tree_words.proofs.GameLaws.{spot-same, in-node}
 use Rattle.tree_words.proofs.Adds.{is_child}
-use Rattle.tree_words.proofs.Climbs.{neither, or_first, or_true}
+use Rattle.tree_words.proofs.Climbs.{or_first}
 use Rattle.tree_words.proofs.Tallies.{path-clear}
 use Rattle.arena_rule.specs.Adds.{CountAdd, Gathered, seen_adds, root_adds, node_adds, adds_up, walk_adds, amount_at}
 use Rattle.arena_rule.specs.Lookups.{adds_in}
@@ -400,9 +400,9 @@ module _ (s : Setting) (bs : List LinkedBlock) (order : InOrder (root_at s) bs) 
       both false u n = refl
 
   -- no add counts in the root's seen word
-  pub root-adds : adds_in (root_at s + SEEN_WORD) (walk_adds s bs k leaf) ≡ 0
+  pub adds-root : adds_in (root_at s + SEEN_WORD) (walk_adds s bs k leaf) ≡ 0
   unfolding walk_adds
-  root-adds =
+  adds-root =
       let o : Outcome = outcome_of s k (node_state s bs leaf) in
       let w : ℕ = root_at s + SEEN_WORD in
       omega (arith, amount-parts w (adds_up s o bs leaf).adds, adds-none s o w bs leaf (λ e. omega (arith, e)) (root-clear bs order))

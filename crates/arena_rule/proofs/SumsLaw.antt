@@ -1,38 +1,39 @@
 -- Each step keeps Sums.
-use Rattle.std.proofs.Common.{◌≡◌, ◌≢◌, ◌⊎◌, ℕ, zero, suc, ◌+◌, ◌-◌, ◌*◌, ◌<◌, ◌≤◌, Bool, true, false, cond, List, [], ◌∷◌, ◌++◌, length, take, set, get_or, Option, Some, None, refl, sym, ap, ◌∙◌, subst, ⊎_elim, inl, inr, arith, get_or-set_same, get_or-set_other}
-use Rattle.std.specs.Prelude.{◌==◌, ◌||◌, slice_index, slice_get, sum_by, Contains}
-use Rattle.std.proofs.lemmas.List.{take_all, set-get_or}
+use Rattle.std.proofs.Common.{◌≡◌, ◌⊎◌, ℕ, suc, ◌+◌, ◌-◌, ◌*◌, ◌<◌, ◌≤◌, Bool, true, false, cond, List, [], ◌∷◌, length, take, set, Option, Some, None, refl, sym, ap, ◌∙◌, subst, ⊎_elim, arith, get_or-set_same, get_or-set_other}
+use Rattle.std.specs.Prelude.{◌==◌, slice_index, slice_get, sum_by, Contains}
+use Rattle.std.proofs.lemmas.List.{take_all}
 use Rattle.std.proofs.lemmas.List.Sums.{sum_by-cons}
 use Rattle.std.proofs.lemmas.List.FromFn.{get_or-map-range_with_len}
 use mathlib.Core.Option.{some}
 use lib.ListN.{get_elem?}
 use Rattle.play_out.specs.Fills.{empties_of}
 use Rattle.tree_words.specs.Settings.{Setting}
-use Rattle.tree_words.specs.Words.{root_at, area_at, end_of, next_in, ticket_in, leaf_in}
-use Rattle.tree_words.specs.Blocks.{LinkedBlock, size, has, cover, covers, is_node, InOrder, Follows, stays, header_or_move}
+use Rattle.tree_words.specs.Words.{root_at, next_in, ticket_in, leaf_in}
+use Rattle.tree_words.specs.Blocks.{LinkedBlock, size, has, is_node, InOrder, Follows, stays, header_or_move}
 use Rattle.tree_words.specs.Paths.{node_state, board_of}
 use Rattle.tree_words.specs.Complete.{allowed_cells}
 use Rattle.tree_words.specs.Sequence.{outcome_of, amount_of}
-use Rattle.tree_words.specs.declared.layout.TheConstants.{LINK_WORD, TALLY_WORD, SEEN_WORD}
+use Rattle.tree_words.specs.declared.layout.TheConstants.{TALLY_WORD, SEEN_WORD}
 use Rattle.tree_words.specs.declared.steps.Op.{Op}
 use Rattle.tree_words.specs.declared.steps.Op.TheVariants.{Draw, Look, Claim, Write, Publish, Add, Note, Done}
-use Rattle.tree_words.proofs.BlockLaws.{eq_of, same_is, other_is, bool_is, either_true, has-at, has-covers, node-apart, node-cover}
+use Rattle.tree_words.proofs.BlockLaws.{eq_of, same_is, other_is, bool_is, either_true, has-at}
 use Rattle.tree_words.proofs.Down.{not_both}
 use Rattle.tree_words.proofs.GameLaws.{root_node}
-use Rattle.tree_words.proofs.NodeLaws.{node-lies, nodes-apart, stays-not}
+use Rattle.tree_words.proofs.NodeLaws.{stays-not}
 use Rattle.arena_rule.specs.Views.{SeatView, HeldBlock, Flight, Walked}
 use Rattle.arena_rule.specs.Adds.{CountAdd, walk_adds, amount_at}
 use Rattle.arena_rule.specs.Lookups.{adds_made, adds_in, is_held, told_below, empties_at}
-use Rattle.arena_rule.specs.Fits.{FitsStep, FitsDraw, FitsWrite, FitsPublish, FitsAdd, FitsNote, IsNext, block_words}
-use Rattle.arena_rule.specs.Afters.{word_of, put, answer_of, after, drew, looked, claimed_at, wrote, published, added_at, noted, with_word, flight_after, node_of_link}
-use Rattle.arena_rule.specs.Parts.{Each, Sums, amount_recorded, amount_counted, held_at, is_claimed}
+use Rattle.arena_rule.specs.Fits.{FitsStep, FitsDraw, FitsPublish, FitsAdd, FitsNote, IsNext, block_words}
+use Rattle.arena_rule.specs.Afters.{word_of, put, answer_of, after, looked, wrote, published, added_at, noted, with_word, flight_after, node_of_link}
+use Rattle.arena_rule.specs.Parts.{Each, Sums, amount_recorded, amount_counted}
 use Rattle.arena_rule.specs.Rule.{words_after, views_after}
 use Rattle.arena_rule.proofs.Before.{Before, blocks_after}
-use Rattle.arena_rule.proofs.Totals.{total_set, total_at, total_same, total_none, each-set}
+use Rattle.arena_rule.proofs.Totals.{total_set, total_same, total_none, each-set}
 use Rattle.arena_rule.proofs.Changes.{drew_same, claimed_same}
 use Rattle.arena_rule.proofs.Numbers.{leaf-recorded}
 use Rattle.arena_rule.proofs.Within.{shape-of-each, known-node, known-adds}
-use Rattle.arena_rule.proofs.AddLaws.{amount-next, amount-parts, wins-less, adds-before, adds-take, amount-new, adds-linked, root-adds}
+use Rattle.arena_rule.proofs.Frames.{IsNoAdd, in-range, node-range, held-node, publish-word, count-stays}
+use Rattle.arena_rule.proofs.AddLaws.{amount-next, amount-parts, wins-less, adds-before, adds-take, amount-new, adds-linked, adds-root}
 
 -- sums over walks
 pub walks-same : (f g : Walked → ℕ) (walks : List Walked) → ((q : Walked) → Contains walks q → f q ≡ g q) → sum_by f walks ≡ sum_by g walks
@@ -160,15 +161,6 @@ module _ (bs : List LinkedBlock) (words : List ℕ) (views : List SeatView) (id 
             later = ap (λ (o : Option Flight). adds_made v.shape bs (Some fits.number) (Some (flight_after a.word o))) e;
           }
 
-  -- where a node lies
-  node-low : (x : ℕ) → is_node (root_at v.shape) bs x ≡ true → root_at v.shape ≤ x
-  node-low x n = ⊎_elim (λ (e : x ≡ root_at v.shape). omega (arith, e)) (λ (t : (area_at v.shape ≤ x) × (x + 4 ≤ next_in words) × (x + 4 ≤ end_of v.shape)). omega (arith, t.0))
-      (node-lies v.shape (next_in words) bs x b.state.linked.blocks.complete n)
-
-  node-high : (x : ℕ) → is_node (root_at v.shape) bs x ≡ true → x + 4 ≤ length words
-  node-high x n = ⊎_elim (λ (e : x ≡ root_at v.shape). omega (arith, e, b.state.long)) (λ (t : (area_at v.shape ≤ x) × (x + 4 ≤ next_in words) × (x + 4 ≤ end_of v.shape)). omega (arith, t.2, b.state.long))
-      (node-lies v.shape (next_in words) bs x b.state.linked.blocks.complete n)
-
   -- the view and the words have more of the same amounts
   sums-more : (u : SeatView) (words' : List ℕ) (more : ℕ → ℕ) → ((w : ℕ) → amount_counted v.shape bs w u ≡ amount_counted v.shape bs w v + more w)
       → ((x i : ℕ) → is_node (root_at v.shape) bs x ≡ true → 2 ≤ i → i < 4 → slice_index words' (x + i) ≡ slice_index words (x + i) + more (x + i))
@@ -181,47 +173,23 @@ module _ (bs : List LinkedBlock) (words : List ℕ) (views : List SeatView) (id 
         root = omega (arith, d (root_at v.shape) 3 (root_node (root_at v.shape) bs) (omega arith) (omega arith), old.root, r);
       }
 
-  -- where no tally and no seen word of a node changes, and no amount
-  sums-frame : (u : SeatView) (words' : List ℕ) → ((w : ℕ) → amount_counted v.shape bs w u ≡ amount_counted v.shape bs w v)
-      → ((x i : ℕ) → is_node (root_at v.shape) bs x ≡ true → 2 ≤ i → i < 4 → slice_index words' (x + i) ≡ slice_index words (x + i)) → Sums v.shape bs words' (set views id u)
-  sums-frame u words' c d = sums-more u words' (λ _. 0) (λ w. omega (arith, c w)) (λ x i n l h. omega (arith, d x i n l h)) refl
-
-  -- a word below the root changes
-  low : (j n x i : ℕ) → j < root_at v.shape → is_node (root_at v.shape) bs x ≡ true → slice_index (set words j n) (x + i) ≡ slice_index words (x + i)
-  low j n x i l m = get_or-set_other words j (x + i) n 0 (λ e. omega (arith, e, node-low x m))
+  -- where no amount changes, and the step is no Add
+  sums-frame : (op : Op) → FitsStep v op → IsNoAdd op
+      → ((w : ℕ) → amount_counted v.shape bs w (after v op (answer_of op (slice_index words (word_of op)))) ≡ amount_counted v.shape bs w v)
+      → Sums v.shape bs (words_after words op) (views_after words views id v op)
+  sums-frame op fits kind c = sums-more (after v op (answer_of op (slice_index words (word_of op)))) (words_after words op) (λ _. 0) (λ w. omega (arith, c w))
+      (λ x i n l h. omega (arith, count-stays bs words views id v b op x i fits kind n l h)) refl
 
   sums-draw : FitsDraw v → Sums v.shape bs (words_after words Draw) (views_after words views id v Draw)
   unfolding with_word
   sums-draw fits =
       let n : ℕ = ticket_in words in
       let none : v.adds ≡ None = ((b.state.in_hand id v b.at).idle fits.ticket).0 in
-      sums-frame (after v Draw n) (words_after words Draw)
+      sums-frame Draw fits tt
       (λ w. drew_same (λ z. amount_counted v.shape bs w z) v n
       (ap (λ (o : Option Flight). amount_recorded v.shape bs w v.walks + amount_at w (adds_made v.shape bs (Some n) o)) none
       ∙ sym (ap (λ (o : Option ℕ). amount_recorded v.shape bs w v.walks + amount_at w (adds_made v.shape bs o v.adds)) fits.ticket))
       refl)
-      (λ x i m _ _. low 1 (n + 1) x i (omega arith) m)
-
-  sums-claim : (size : ℕ) → Sums v.shape bs (words_after words (Claim size)) (views_after words views id v (Claim size))
-  unfolding with_word
-  sums-claim size =
-      let n : ℕ = next_in words in
-      sums-frame (after v (Claim size) n) (words_after words (Claim size))
-      (λ w. claimed_same (λ z. amount_counted v.shape bs w z) v size n refl refl)
-      (λ x i m _ _. low 0 (n + size) x i (omega arith) m)
-
-  -- a held word is no word of a node
-  held-apart : (j x i : ℕ) → is_held v.held j ≡ true → is_node (root_at v.shape) bs x ≡ true → i < 4 → j ≢ x + i
-  held-apart j x i h n l e = held (cover j bs) (held_at j v) (sum_by (held_at j) views) (is_claimed v.shape words j) (ap one_if h) (total_at (held_at j) views id v b.at) (b.state.apart j)
-    where
-      held : (c k m : ℕ) (t : Bool) → k ≡ 1 → k ≤ m → c + m ≤ one_if t → ⊥
-      held c k m t one le le' = ?
-
-  sums-write : (i value : ℕ) → FitsWrite v i → Sums v.shape bs (words_after words (Write i value)) (views_after words views id v (Write i value))
-  unfolding with_word wrote
-  sums-write i value fits =
-      sums-frame (after v (Write i value) 0) (words_after words (Write i value)) (λ w. refl)
-      (λ x j m _ l. get_or-set_other words i (x + j) value 0 (λ e. held-apart i x j ? m l (sym e)))
 
   sums-note : (k value : ℕ) → FitsNote v k value → Sums v.shape bs (words_after words (Note k value)) (views_after words views id v (Note k value))
   unfolding with_word noted
@@ -234,9 +202,8 @@ module _ (bs : List LinkedBlock) (words : List ℕ) (views : List SeatView) (id 
       let made : adds_made v.shape bs v.ticket v.adds ≡ walk_adds v.shape bs k (leaf_in value)
       = (λ i. adds_made v.shape bs (fits.ticket i) (fits.adds i)) ∙ take_all fits.flight.made (walk_adds v.shape bs k leaf) (omega (arith, fits.all, ap length same))
           ∙ ap (walk_adds v.shape bs k) (sym is) in
-      sums-frame (after v (Note k value) 0) (words_after words (Note k value))
+      sums-frame (Note k value) fits tt
       (λ w. omega (arith, ap (amount_at w) made, sum_by-cons (λ (p : Walked). amount_at w (walk_adds v.shape bs p.number (leaf_in p.value))) q v.walks))
-      (λ x i m _ _. low (2 + k) value x i (omega (arith, (hand.ticket k fits.ticket).1)) m)
 
   -- a word gets more
   word-more : (i j n : ℕ) → j < length words → slice_index (set words i (slice_index words i + n)) j ≡ slice_index words j + cond (i == j) n 0
@@ -244,7 +211,7 @@ module _ (bs : List LinkedBlock) (words : List ℕ) (views : List SeatView) (id 
       (λ (t : (i == j) ≡ true).
       let e : j ≡ i = sym (eq_of i j t) in
       ap (slice_index (set words i (slice_index words i + n))) e ∙ get_or-set_same words i (slice_index words i + n) 0 (omega (arith, e))
-      ∙ (λ k. slice_index words (e (~ k)) + cond (t (~ k)) n 0))
+      ∙ omega (arith, ap (slice_index words) e, ap (λ (u : Bool). cond u n 0) t))
       (λ (t : (i == j) ≡ false).
       get_or-set_other words i j (slice_index words i + n) 0 (λ e. not_both (i == j) (same_is i j (sym e)) t) ∙ omega (arith, ap (λ (u : Bool). cond u n 0) t))
       (bool_is (i == j))
@@ -256,9 +223,8 @@ module _ (bs : List LinkedBlock) (words : List ℕ) (views : List SeatView) (id 
       let a : CountAdd = record { word = i; won = won } in
       let n : NextAdd bs v k a = next-add a fits in
       let all : List CountAdd = walk_adds v.shape bs k n.leaf in
-      let more : ℕ → ℕ = λ w. cond (i == w) (amount_of won) 0 in
       let root : ℕ = root_at v.shape + SEEN_WORD in
-      sums-more (after v (Add i won) (slice_index words i)) (words_after words (Add i won)) more
+      sums-more (after v (Add i won) (slice_index words i)) (words_after words (Add i won)) (λ w. cond (i == w) (amount_of won) 0)
       (λ w.
       omega (
         arith,
@@ -268,9 +234,63 @@ module _ (bs : List LinkedBlock) (words : List ℕ) (views : List SeatView) (id 
         ap (amount_at w) n.later,
         amount-next w n.made all a n.next,
       ))
-      (λ x j m _ l. word-more i (x + j) (amount_of won) (omega (arith, node-high x m)))
-      (other (i == root) (adds-before root n.made all a n.next) (root-adds v.shape bs b.state.linked.blocks.order k n.leaf))
+      (λ x j m _ l. word-more i (x + j) (amount_of won) (omega (arith, b.state.long, (node-range bs words views id v b x j m l).1)))
+      (other (i == root) (adds_in root (take n.made all)) (adds_in root all) (adds-before root n.made all a n.next) (adds-root v.shape bs b.state.linked.blocks.order k n.leaf))
     where
-      other : (t : Bool) {m c : ℕ} → m + cond t 1 0 ≤ c → c ≡ 0 → cond t (amount_of won) 0 ≡ 0
-      other true l z = absurd (omega (arith, l, z))
-      other false l z = refl
+      other : (t : Bool) (m c : ℕ) → m + cond t 1 0 ≤ c → c ≡ 0 → cond t (amount_of won) 0 ≡ 0
+      other true m c l z = absurd (omega (arith, l, z))
+      other false m c l z = refl
+
+  -- the leaves of the walks of each view are nodes
+  leaves : (j : ℕ) (u : SeatView) → get_elem? views j ≡ some u → HasLeaves v.shape bs u
+  leaves j u e = record {
+    walks = λ q d. (b.state.tickets.right j u e q d).node;
+    flight = λ k f t a.
+        known-node bs words views id v b j u f.leaf e
+        (subst (λ (s : Setting). is_node (root_at s) u.known f.leaf ≡ true) (shape-of-each bs words views id v b j u e) ((b.state.in_hand j u e).flight k f t a).known);
+  }
+
+  -- the tallies and seen words of the told block are 0
+  told-blank : (l c x i : ℕ) (fits : FitsPublish v l c) → has (told_below v (node_of_link l) c) x ≡ true → 2 ≤ i → i < 4 → slice_index (words_after words (Publish l c)) (x + i) ≡ 0
+  told-blank l c x i fits h low high =
+      let d : LinkedBlock = told_below v fits.node c in
+      let at : node_of_link l ≡ fits.node = let q = fits.link in omega (arith, q) in
+      let told : told_below v (node_of_link l) c ≡ d = ap (λ (y : ℕ). told_below v y c) at in
+      let p = has-at d x (ap (λ (z : LinkedBlock). has z x) (sym told) ∙ h) in
+      let held = b.state.held id v b.at fits.block fits.held in
+      let many : length d.cells ≡ empties_at v fits.node
+      = ap (λ (t : Bool). length (cond t (allowed_cells v.shape) (empties_of (board_of v.shape v.known fits.node)))) (other_is fits.node (root_at v.shape) fits.may.below) in
+      let j : ℕ = 4 + 4 * p.0 + i in
+      let is : x + i ≡ fits.block.start + j = omega (arith, p.2, fits.start) in
+      let inside : j < fits.block.size = omega (arith, p.1, many, fits.may.fits) in
+      let mine : is_held v.held (x + i) ≡ true = ap (λ (o : Option HeldBlock). is_held o (x + i)) fits.held
+          ∙ in-range fits.block.start fits.block.size (x + i) (omega (arith, is)) (omega (arith, is, inside)) in
+      let node = publish-word bs words views id v b l c fits in
+      let far : slice_index (words_after words (Publish l c)) (x + i) ≡ slice_index words (x + i)
+      = get_or-set_other words l (x + i) (put (Publish l c) (slice_index words l)) 0
+          (λ e. held-node bs words views id v b id v node.0 1 b.at node.1 (omega arith) (ap (is_held v.held) (sym node.2 ∙ sym e) ∙ mine)) in
+      far ∙ ap (slice_index words) is ∙ held.each j inside ∙ ap (λ (ws : List ℕ). slice_index ws j) fits.written
+      ∙ blank-word d j (omega (arith, p.1)) (stays-not p.0 i (omega arith) high)
+
+  sums-publish : (t : Bool) (l c : ℕ) → FitsPublish v l c → InOrder (root_at v.shape) (cond t (told_below v (node_of_link l) c ∷ bs) bs)
+      → Sums v.shape (cond t (told_below v (node_of_link l) c ∷ bs) bs) (words_after words (Publish l c)) (views_after words views id v (Publish l c))
+  unfolding with_word published
+  sums-publish true l c fits o =
+      let u : SeatView = after v (Publish l c) (slice_index words l) in
+      let mine = leaves id v b.at in
+      sums-linked v.shape bs o.1 (told_below v (node_of_link l) c) o.0 (words_after words (Publish l c)) (views_after words views id v (Publish l c))
+      (sums-frame (Publish l c) fits tt (λ w. refl))
+      (each-set (HasLeaves v.shape bs) views id u (λ j x _ e. leaves j x e) record { walks = mine.walks; flight = mine.flight })
+      (λ x i h low high. told-blank l c x i fits h low high)
+  sums-publish false l c fits o = sums-frame (Publish l c) fits tt (λ w. refl)
+
+  pub sums-step : (op : Op) → FitsStep v op → InOrder (root_at v.shape) (blocks_after bs words v op) → Sums v.shape (blocks_after bs words v op) (words_after words op) (views_after words views id v op)
+  unfolding with_word looked wrote
+  sums-step Draw fits o = sums-draw fits
+  sums-step (Look i) fits o = sums-frame (Look i) fits tt (λ w. refl)
+  sums-step (Claim size) fits o = sums-frame (Claim size) fits tt (λ w. claimed_same (λ z. amount_counted v.shape bs w z) v size (next_in words) refl refl)
+  sums-step (Write i value) fits o = sums-frame (Write i value) fits tt (λ w. refl)
+  sums-step (Publish l c) fits o = sums-publish (slice_index words l == 0) l c fits o
+  sums-step (Add i won) fits o = sums-add i won fits
+  sums-step (Note k value) fits o = sums-note k value fits
+  sums-step Done fits o = sums-frame Done fits tt (λ w. refl)
