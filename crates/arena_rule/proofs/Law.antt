@@ -25,6 +25,8 @@ use Rattle.arena_rule.specs.Rule.{IsState, Rule, words_after, views_after, views
 use Rattle.arena_rule.proofs.Before.{Before, Other, AreFirst, blocks_after, opening_blocks}
 use Rattle.arena_rule.proofs.Totals.{inside}
 use Rattle.arena_rule.proofs.Apart.{fresh-step, apart-step, held-step}
+use Rattle.arena_rule.proofs.SumsLaw.{sums-step}
+use Rattle.arena_rule.proofs.SeatsCounts.{sums-split, sums-join, sums-first}
 use Rattle.arena_rule.proofs.Widths.{widths-step}
 use Rattle.arena_rule.proofs.Tickets.{tickets-step}
 use Rattle.arena_rule.proofs.InHand.{in_hand-step}
@@ -41,8 +43,6 @@ module _ (bs : List LinkedBlock) (words : List ℕ) (views : List SeatView) (id 
   known-step : (op : Op) → FitsStep v op → Known v.shape (blocks_after bs words v op) (views_after words views id v op)
   known-step op fits = ?
 
-  sums-step : (op : Op) → FitsStep v op → Sums v.shape (blocks_after bs words v op) (words_after words op) (views_after words views id v op)
-  sums-step op fits = ?
 
   apart-split : (part : ℕ) → CanSplit v part → AreApart v.shape bs words (views_split views id v part)
   apart-split part can = ?
@@ -53,8 +53,6 @@ module _ (bs : List LinkedBlock) (words : List ℕ) (views : List SeatView) (id 
   known-split : (part : ℕ) → CanSplit v part → Known v.shape bs (views_split views id v part)
   known-split part can = ?
 
-  sums-split : (part : ℕ) → CanSplit v part → Sums v.shape bs words (views_split views id v part)
-  sums-split part can = ?
 
   apart-join : (other : ℕ) (w : SeatView) → Other views id v other w → AreApart v.shape bs words (views_joined views id v other w)
   apart-join other w o = ?
@@ -65,8 +63,6 @@ module _ (bs : List LinkedBlock) (words : List ℕ) (views : List SeatView) (id 
   known-join : (other : ℕ) (w : SeatView) → Other views id v other w → Known v.shape bs (views_joined views id v other w)
   known-join other w o = ?
 
-  sums-join : (other : ℕ) (w : SeatView) → Other views id v other w → Sums v.shape bs words (views_joined views id v other w)
-  sums-join other w o = ?
 
   answers-link : (x : ℕ) → is_known v x ≡ true → AnswersLink v x (link_in words x)
   answers-link x n = ?
@@ -101,8 +97,6 @@ held-first s views h f = ?
 known-first : (s : Setting) (views : List SeatView) → IsSetting s → AreFirst s views → Known s (opening_blocks s) views
 known-first s views h f = ?
 
-sums-first : (s : Setting) (views : List SeatView) → IsSetting s → AreFirst s views → Sums s (opening_blocks s) (opening_words s) views
-sums-first s views h f = ?
 
 -- END TO COME
 
@@ -125,7 +119,7 @@ module _ (bs : List LinkedBlock) (words : List ℕ) (views : List SeatView) (id 
         linked = linked;
         held = held-step bs words views id v b op fits;
         known = known-step bs words views id v b op fits;
-        sums = sums-step bs words views id v b op fits;
+        sums = sums-step bs words views id v b op fits linked.blocks.order;
         tickets = tickets-step bs words views id v b op fits linked.blocks.order;
         in_hand = in_hand-step bs words views id v b op fits (known-after op fits);
         sole = sole-step bs words views id v b op fits;
