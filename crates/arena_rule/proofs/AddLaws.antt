@@ -1,1 +1,414 @@
--- What the adds of a walk add to a word.
+-- What the adds of a walk add to the tallies and to the seen words of the nodes.
+use Rattle.std.proofs.Common.{◌≡◌, ◌≢◌, ◌⊎◌, ℕ, zero, suc, ◌+◌, ◌*◌, ◌<◌, ◌≤◌, Bool, true, false, cond, List, [], ◌∷◌, ◌++◌, length, get_or, take, Some, refl, sym, ap, ◌∙◌, subst, ⊎_elim, arith}
+use Rattle.std.specs.Prelude.{◌==◌, ◌||◌, ◌&&◌, count_by, slice_get}
+use Rattle.std.proofs.lemmas.List.Sums.{sum_by-cons}
+use Rattle.std.specs.List.{list_any}
+use Rattle.hex_cells.specs.Sets.{has as has_cell}
+use Rattle.hex_cells.specs.Colours.{other_of}
+use Rattle.hex_cells.specs.declared.colours.Colour.{Colour}
+use Rattle.hex_cells.specs.declared.colours.Colour.TheVariants.{Black, White}
+use Rattle.hex_board.specs.Positions.{stones_of}
+use Rattle.hex_board.specs.Wins.{is_same}
+use Rattle.tree_words.specs.Settings.{Setting}
+use Rattle.tree_words.specs.Words.{root_at}
+use Rattle.tree_words.specs.Blocks.{LinkedBlock, one_if, has, place, cell_at, covers, cover, is_node, In, InOrder, Follows}
+use Rattle.tree_words.specs.Paths.{NodeState, root_state, state_after, mover_at, node_state, mover_of, path_of, is_on, enters}
+use Rattle.tree_words.specs.Sequence.{Outcome, outcome_of, amount_of}
+use Rattle.tree_words.specs.declared.layout.TheConstants.{TALLY_WORD, SEEN_WORD, VISIT}
+use Rattle.tree_words.proofs.BlockLaws.{eq_of, same_is, other_is, bool_is, either_true, apart, has-at, has-covers, covers_of, covers_if, cover-cons, node-apart, up_same}
+use Rattle.tree_words.proofs.Down.{not_both, never}
+use Rattle.tree_words.proofs.GameLaws.{spot-same, in-node}
+use Rattle.tree_words.proofs.Adds.{is_child}
+use Rattle.tree_words.proofs.Climbs.{or_first}
+use Rattle.tree_words.proofs.Tallies.{path-clear}
+use Rattle.arena_rule.specs.Adds.{CountAdd, Gathered, seen_adds, root_adds, node_adds, adds_up, walk_adds, amount_at}
+use Rattle.arena_rule.specs.Lookups.{adds_in}
+
+pub amount-append : (w : ℕ) (a b : List CountAdd) → amount_at w (a ++ b) ≡ amount_at w a + amount_at w b
+amount-append w [] b = omega arith
+amount-append w (x ∷ xs) b = omega (arith, amount-append w xs b)
+
+-- one add more
+pub amount-next : (w made : ℕ) (adds : List CountAdd) (a : CountAdd) → slice_get adds made ≡ Some a → amount_at w (take (made + 1) adds) ≡ amount_at w (take made adds) + cond (a.word == w) (amount_of a.won) 0
+amount-next w made adds a e = (let q : made + 1 ≡ suc made = omega arith in ap (λ (n : ℕ). amount_at w (take n adds)) q) ∙ at made adds e
+  where
+    some_is : (x a : CountAdd) → Some x ≡ Some a → x ≡ a
+    some_is x a e = cc
+
+    at : (made : ℕ) (adds : List CountAdd) → slice_get adds made ≡ Some a → amount_at w (take (suc made) adds) ≡ amount_at w (take made adds) + cond (a.word == w) (amount_of a.won) 0
+    at made [] e = absurd (cc)
+    at zero (x ∷ xs) e = ap (λ (o : CountAdd). cond (o.word == w) (amount_of o.won) 0 + 0) (some_is x a e) ∙ omega arith
+    at (suc made) (x ∷ xs) e = omega (arith, at made xs e)
+
+-- how many of the adds to a word are wins
+abbrev pub wins_added : ℕ → List CountAdd → ℕ
+wins_added w adds = count_by (λ a. (a.word == w) && a.won) adds
+
+-- an amount has the number of adds as its visits, and the wins among them as its wins
+pub amount-parts : (w : ℕ) (adds : List CountAdd) → amount_at w adds ≡ VISIT * adds_in w adds + wins_added w adds
+amount-parts w [] = refl
+amount-parts w (a ∷ adds) =
+    omega (
+      arith,
+      by (a.word == w) a.won,
+      amount-parts w adds,
+      sum_by-cons (λ (o : CountAdd). cond (o.word == w) 1 0) a adds,
+      sum_by-cons (λ (o : CountAdd). cond ((o.word == w) && o.won) 1 0) a adds,
+    )
+  where
+    by : (t u : Bool) → cond t (amount_of u) 0 ≡ VISIT * cond t 1 0 + cond (t && u) 1 0
+    by true true = refl
+    by true false = refl
+    by false u = refl
+
+pub wins-less : (w : ℕ) (adds : List CountAdd) → wins_added w adds ≤ adds_in w adds
+wins-less w [] = omega arith
+wins-less w (a ∷ adds) =
+    omega (
+      arith,
+      by (a.word == w) a.won,
+      wins-less w adds,
+      sum_by-cons (λ (o : CountAdd). cond (o.word == w) 1 0) a adds,
+      sum_by-cons (λ (o : CountAdd). cond ((o.word == w) && o.won) 1 0) a adds,
+    )
+  where
+    by : (t u : Bool) → cond (t && u) 1 0 ≤ cond t 1 0
+    by true true = omega arith
+    by true false = omega arith
+    by false u = omega arith
+
+-- the adds before one of them are fewer
+pub adds-before : (w made : ℕ) (adds : List CountAdd) (a : CountAdd) → slice_get adds made ≡ Some a → adds_in w (take made adds) + cond (a.word == w) 1 0 ≤ adds_in w adds
+adds-before w made [] a e = absurd (cc)
+adds-before w zero (x ∷ xs) a e = omega (arith, sum_by-cons (λ (o : CountAdd). cond (o.word == w) 1 0) x xs, ap {B = ℕ} (λ (o : CountAdd). cond (o.word == w) 1 0) (some_is x a e))
+  where
+    some_is : (x a : CountAdd) → Some x ≡ Some a → x ≡ a
+    some_is x a e = cc
+adds-before w (suc made) (x ∷ xs) a e =
+    omega (
+      arith,
+      sum_by-cons (λ (o : CountAdd). cond (o.word == w) 1 0) x (take made xs),
+      sum_by-cons (λ (o : CountAdd). cond (o.word == w) 1 0) x xs,
+      adds-before w made xs a e,
+    )
+
+pub adds-take : (w n : ℕ) (adds : List CountAdd) → adds_in w (take n adds) ≤ adds_in w adds
+adds-take w zero adds = omega arith
+adds-take w (suc n) [] = omega arith
+adds-take w (suc n) (x ∷ xs) =
+    omega (
+      arith,
+      sum_by-cons (λ (o : CountAdd). cond (o.word == w) 1 0) x (take n xs),
+      sum_by-cons (λ (o : CountAdd). cond (o.word == w) 1 0) x xs,
+      adds-take w n xs,
+    )
+
+-- an amount of one visit or of none is that of one add or of none
+one-add : (t u : Bool) (n m : ℕ) → cond t (amount_of u) 0 ≡ VISIT * n + m → m ≤ n → n ≡ cond t 1 0
+one-add true true n m e l = omega (arith, e)
+one-add true false n m e l = omega (arith, e)
+one-add false u n m e l = omega (arith, e)
+
+-- an add of another word
+miss : (a w : ℕ) (won : Bool) → a ≢ w → cond (a == w) (amount_of won) 0 ≡ 0
+miss a w won ne = ap (λ (t : Bool). cond t (amount_of won) 0) (other_is a w ne)
+
+-- and of this one
+hit : (a w : ℕ) (won : Bool) → a ≡ w → cond (a == w) (amount_of won) 0 ≡ amount_of won
+hit a w won e = ap (λ (t : Bool). cond t (amount_of won) 0) (same_is a w e)
+
+seen-cons : (w set : ℕ) (won : Bool) (y c : ℕ) (cells : List ℕ) → amount_at w (seen_adds set won y (c ∷ cells))
+    ≡ cond (has_cell set c) (cond (y + SEEN_WORD == w) (amount_of won) 0) 0 + amount_at w (seen_adds set won (y + 4) cells)
+seen-cons w set won y c cells = by (has_cell set c)
+  where
+    by : (t : Bool) → amount_at w (cond t (record { word = y + SEEN_WORD; won = won } ∷ seen_adds set won (y + 4) cells) (seen_adds set won (y + 4) cells))
+        ≡ cond t (cond (y + SEEN_WORD == w) (amount_of won) 0) 0 + amount_at w (seen_adds set won (y + 4) cells)
+    by true = refl
+    by false = omega arith
+
+if_none : (t : Bool) (n : ℕ) → n ≡ 0 → cond t n 0 ≡ 0
+if_none true n e = e
+if_none false n e = refl
+
+-- a word that is no seen word of the block
+seen-none : (w set : ℕ) (won : Bool) (y : ℕ) (cells : List ℕ) → ((j : ℕ) → j < length cells → y + 4 * j + SEEN_WORD ≢ w) → amount_at w (seen_adds set won y cells) ≡ 0
+seen-none w set won y [] h = refl
+seen-none w set won y (c ∷ cells) h =
+    omega (
+      arith,
+      seen-cons w set won y c cells,
+      if_none (has_cell set c) (cond (y + SEEN_WORD == w) (amount_of won) 0) (miss (y + SEEN_WORD) w won (λ e. h 0 (omega arith) (omega (arith, e)))),
+      seen-none w set won (y + 4) cells (λ j l e. h (suc j) (omega arith) (omega (arith, e))),
+    )
+
+-- the seen word of the node of place i
+seen-hit : (set : ℕ) (won : Bool) (y i : ℕ) (cells : List ℕ) → i < length cells → amount_at (y + 4 * i + SEEN_WORD) (seen_adds set won y cells) ≡ cond (has_cell set (get_or cells i 0)) (amount_of won) 0
+seen-hit set won y i [] l = absurd (omega arith)
+seen-hit set won y zero (c ∷ cells) l =
+    let e : y + 4 * zero + SEEN_WORD ≡ y + SEEN_WORD = omega arith in
+    ap (λ (n : ℕ). amount_at n (seen_adds set won y (c ∷ cells))) e
+    ∙ omega (
+      arith,
+      seen-cons (y + SEEN_WORD) set won y c cells,
+      ap (λ (n : ℕ). cond (has_cell set c) n 0) (hit (y + SEEN_WORD) (y + SEEN_WORD) won refl),
+      seen-none (y + SEEN_WORD) set won (y + 4) cells (λ j l e. omega (arith, e)),
+    )
+seen-hit set won y (suc i) (c ∷ cells) l =
+    let w : ℕ = y + 4 * suc i + SEEN_WORD in
+    let v : ℕ = y + 4 + 4 * i + SEEN_WORD in
+    let e : w ≡ v = omega arith in
+    omega (
+      arith,
+      seen-cons w set won y c cells,
+      if_none (has_cell set c) (cond (y + SEEN_WORD == w) (amount_of won) 0) (miss (y + SEEN_WORD) w won (λ q. omega (arith, q))),
+      ap (λ (n : ℕ). amount_at n (seen_adds set won (y + 4) cells)) e,
+      seen-hit set won (y + 4) i cells (omega arith),
+    )
+
+-- the seen words of a block lie in it
+seen-covers : (b : LinkedBlock) (j : ℕ) → j < length b.cells → covers (b.start + 4 + 4 * j + SEEN_WORD) b ≡ true
+seen-covers b j l = covers_if (b.start + 4 + 4 * j + SEEN_WORD) b (omega arith) (omega (arith, l))
+
+other_again : (c : Colour) → other_of (other_of c) ≡ c
+other_again Black = refl
+other_again White = refl
+
+module _ (s : Setting) (o : Outcome) where
+  -- the state that is gathered with the adds is the node's
+  adds-state : (bs : List LinkedBlock) (y : ℕ) → (adds_up s o bs y).state ≡ node_state s bs y
+  adds-state [] y = refl
+  adds-state (b ∷ bs) y = by (has b y) (adds-state bs b.parent) (adds-state bs y)
+    where
+      by : (t : Bool) → (adds_up s o bs b.parent).state ≡ node_state s bs b.parent → (adds_up s o bs y).state ≡ node_state s bs y
+          → (cond t (node_adds o b y (adds_up s o bs b.parent)) (adds_up s o bs y)).state ≡ cond t (state_after (node_state s bs b.parent) (cell_at b (place b y))) (node_state s bs y)
+      by true e f = ap (λ (p : NodeState). state_after p (cell_at b (place b y))) e
+      by false e f = f
+
+  -- the adds of a block on the way: of a node's tally and of its block's seen words
+  abbrev block_adds : LinkedBlock → ℕ → NodeState → List CountAdd
+  block_adds b y p = record { word = y + TALLY_WORD; won = is_same o.winner p.player } ∷ seen_adds (stones_of o.full p.player) (is_same o.winner p.player) (b.start + 4) b.cells
+
+  up-here : (w : ℕ) (b : LinkedBlock) (bs : List LinkedBlock) (y : ℕ) → has b y ≡ true
+      → amount_at w (adds_up s o (b ∷ bs) y).adds ≡ amount_at w (block_adds b y (node_state s bs b.parent)) + amount_at w (adds_up s o bs b.parent).adds
+  up-here w b bs y h =
+      let a : Gathered = adds_up s o bs b.parent in
+      ap (λ (t : Bool). amount_at w (cond t (node_adds o b y a) (adds_up s o bs y)).adds) h
+      ∙ amount-append w (block_adds b y a.state) a.adds
+      ∙ ap (λ (p : NodeState). amount_at w (block_adds b y p) + amount_at w a.adds) (adds-state bs b.parent)
+
+  up-else : (w : ℕ) (b : LinkedBlock) (bs : List LinkedBlock) (y : ℕ) → has b y ≡ false → amount_at w (adds_up s o (b ∷ bs) y).adds ≡ amount_at w (adds_up s o bs y).adds
+  up-else w b bs y h = ap (λ (t : Bool). amount_at w (cond t (node_adds o b y (adds_up s o bs b.parent)) (adds_up s o bs y)).adds) h
+
+  -- a word outside the block gets nothing of it
+  block-out : (w : ℕ) (b : LinkedBlock) (y : ℕ) (p : NodeState) → has b y ≡ true → covers w b ≡ false → amount_at w (block_adds b y p) ≡ 0
+  block-out w b y p h out =
+      omega (
+        arith,
+        miss (y + TALLY_WORD) w (is_same o.winner p.player) (λ e. not_both (covers w b) (ap (λ (i : ℕ). covers i b) (sym e) ∙ has-covers b y 2 h (omega arith)) out),
+        seen-none w (stones_of o.full p.player) (is_same o.winner p.player) (b.start + 4) b.cells (λ j l e. not_both (covers w b) (ap (λ (i : ℕ). covers i b) (sym e) ∙ seen-covers b j l) out),
+      )
+
+  -- a word of no block that is not the root's tally gets nothing
+  adds-none : (w : ℕ) (bs : List LinkedBlock) (y : ℕ) → w ≢ root_at s + TALLY_WORD → cover w bs ≡ 0 → amount_at w (adds_up s o bs y).adds ≡ 0
+  adds-none w [] y ne z = omega (arith, miss (root_at s + TALLY_WORD) w (is_same o.winner (mover_at (root_state s))) (λ e. ne (sym e)))
+  adds-none w (b ∷ bs) y ne z =
+      let out : covers w b ≡ false = never (covers w b) (λ t. omega (arith, z, cover-cons w b bs, ap one_if t)) in
+      let rest : cover w bs ≡ 0 = omega (arith, z, cover-cons w b bs) in
+      ⊎_elim
+      (λ (h : has b y ≡ true). up-here w b bs y h ∙ omega (arith, block-out w b y (node_state s bs b.parent) h out, adds-none w bs b.parent ne rest))
+      (λ (h : has b y ≡ false). up-else w b bs y h ∙ adds-none w bs y ne rest)
+      (bool_is (has b y))
+
+-- a path on the way up
+any-here : (s : Setting) (test : ℕ → Bool) (b : LinkedBlock) (bs : List LinkedBlock) (y : ℕ) → has b y ≡ true
+    → list_any test (path_of s (b ∷ bs) y) ≡ (test y || list_any test (path_of s bs b.parent))
+any-here s test b bs y h = ap (λ (t : Bool). list_any test (cond t (y ∷ path_of s bs b.parent) (path_of s bs y))) h
+
+any-else : (s : Setting) (test : ℕ → Bool) (b : LinkedBlock) (bs : List LinkedBlock) (y : ℕ) → has b y ≡ false
+    → list_any test (path_of s (b ∷ bs) y) ≡ list_any test (path_of s bs y)
+any-else s test b bs y h = ap (λ (t : Bool). list_any test (cond t (y ∷ path_of s bs b.parent) (path_of s bs y))) h
+
+-- a node of a new block is on no older path
+on-none : (s : Setting) (b : LinkedBlock) (bs : List LinkedBlock) (x y : ℕ) → Follows (root_at s) b bs → has b x ≡ true → is_on s bs x y ≡ false
+on-none s b bs x y f h = path-clear s (λ (z : ℕ). z == x) bs y
+    (λ z n. never (z == x) (λ e. not_both (has b x) h (ap (has b) (sym (eq_of z x e)) ∙ apart (root_at s) b bs z f n)))
+
+-- the words of a new block get nothing from older adds
+new-none : (s : Setting) (o : Outcome) (b : LinkedBlock) (bs : List LinkedBlock) (x i y : ℕ) → Follows (root_at s) b bs → has b x ≡ true → i < 4 → amount_at (x + i) (adds_up s o bs y).adds ≡ 0
+new-none s o b bs x i y f h l = adds-none s o (x + i) bs y
+    (λ e. let q = has-at b x h in let low = f.root in omega (arith, e, q.2, low))
+    (f.clear (x + i) (has-covers b x i h l))
+
+-- the mover of a new node
+mover-new : (s : Setting) (b : LinkedBlock) (bs : List LinkedBlock) (x : ℕ) → has b x ≡ true → (node_state s bs b.parent).player ≡ mover_of s (b ∷ bs) x
+mover-new s b bs x h = sym (ap (λ (t : Bool). mover_at (cond t (state_after (node_state s bs b.parent) (cell_at b (place b x))) (node_state s bs x))) h ∙ other_again (node_state s bs b.parent).player)
+
+module _ (s : Setting) (o : Outcome) (x : ℕ) where
+  -- the tally of a node on the path gets one visit, and one win where its mover won; no other tally
+  -- of a node gets anything
+  pub tally-up : (bs : List LinkedBlock) (y : ℕ) → InOrder (root_at s) bs → is_node (root_at s) bs x ≡ true
+      → amount_at (x + TALLY_WORD) (adds_up s o bs y).adds ≡ cond (is_on s bs x y) (amount_of (is_same o.winner (mover_of s bs x))) 0
+  tally-up [] y g n =
+      let e : x ≡ root_at s = eq_of x (root_at s) n in
+      let won : Bool = is_same o.winner (mover_at (root_state s)) in
+      omega (
+        arith,
+        hit (root_at s + TALLY_WORD) (x + TALLY_WORD) won (omega (arith, e)),
+        ap (λ (t : Bool). cond t (amount_of won) 0) (or_first (root_at s == x) false (same_is (root_at s) x (sym e))),
+      )
+  tally-up (b ∷ bs) y g n = ⊎_elim
+      (λ (hx : has b x ≡ true). ⊎_elim
+      (λ (hy : has b y ≡ true).
+      let p : NodeState = node_state s bs b.parent in
+      let won : Bool = is_same o.winner p.player in
+      let seen = seen-none (x + TALLY_WORD) (stones_of o.full p.player) won (b.start + 4) b.cells (λ j l e. let q = has-at b x hx in omega (arith, q.2, e)) in
+      up-here s o (x + TALLY_WORD) b bs y hy
+      ∙ omega (arith, seen, new-none s o b bs x 2 b.parent g.0 hx (omega arith), tally (y == x) won refl)
+      ∙ ap (λ (t : Bool). cond t (amount_of won) 0) (sym (any-here s (λ (z : ℕ). z == x) b bs y hy ∙ last (y == x) (is_on s bs x b.parent) (on-none s b bs x b.parent g.0 hx)))
+      ∙ ap (λ (c : Colour). cond (is_on s (b ∷ bs) x y) (amount_of (is_same o.winner c)) 0) (mover-new s b bs x hx))
+      (λ (hy : has b y ≡ false).
+      up-else s o (x + TALLY_WORD) b bs y hy ∙ new-none s o b bs x 2 y g.0 hx (omega arith)
+      ∙ ap (λ (t : Bool). cond t (amount_of (is_same o.winner (mover_of s (b ∷ bs) x))) 0) (sym (any-else s (λ (z : ℕ). z == x) b bs y hy ∙ on-none s b bs x y g.0 hx)))
+      (bool_is (has b y)))
+      (λ (nx : is_node (root_at s) bs x ≡ true).
+      let hx : has b x ≡ false = apart (root_at s) b bs x g.0 nx in
+      let mover : mover_of s bs x ≡ mover_of s (b ∷ bs) x = sym (ap mover_at (spot-same s b bs x g.0 nx)) in
+      ⊎_elim
+      (λ (hy : has b y ≡ true).
+      let off : (y == x) ≡ false = never (y == x) (λ t. not_both (has b x) (ap (has b) (sym (eq_of y x t)) ∙ hy) hx) in
+      up-here s o (x + TALLY_WORD) b bs y hy
+      ∙ omega (arith, block-out s o (x + TALLY_WORD) b y (node_state s bs b.parent) hy (node-apart (root_at s) b bs x 2 g.0 nx (omega arith)))
+      ∙ tally-up bs b.parent g.1 nx
+      ∙ (λ i. cond (is_on s bs x b.parent) (amount_of (is_same o.winner (mover i))) 0)
+      ∙ ap (λ (t : Bool). cond t (amount_of (is_same o.winner (mover_of s (b ∷ bs) x))) 0) (sym (any-here s (λ (z : ℕ). z == x) b bs y hy ∙ ap (λ (t : Bool). t || is_on s bs x b.parent) off)))
+      (λ (hy : has b y ≡ false).
+      up-else s o (x + TALLY_WORD) b bs y hy ∙ tally-up bs y g.1 nx
+      ∙ (λ i. cond (is_on s bs x y) (amount_of (is_same o.winner (mover i))) 0)
+      ∙ ap (λ (t : Bool). cond t (amount_of (is_same o.winner (mover_of s (b ∷ bs) x))) 0) (sym (any-else s (λ (z : ℕ). z == x) b bs y hy)))
+      (bool_is (has b y)))
+      (either_true (has b x) (is_node (root_at s) bs x) n)
+    where
+      last : (t u : Bool) → u ≡ false → (t || u) ≡ t
+      last true u e = refl
+      last false u e = e
+
+      tally : (t : Bool) (won : Bool) → (y == x) ≡ t → cond (y + TALLY_WORD == x + TALLY_WORD) (amount_of won) 0 ≡ cond t (amount_of won) 0
+      tally true won e = hit (y + TALLY_WORD) (x + TALLY_WORD) won (let q = eq_of y x e in omega (arith, q))
+      tally false won e = miss (y + TALLY_WORD) (x + TALLY_WORD) won (λ q. not_both (y == x) (same_is y x (omega (arith, q))) e)
+
+-- the seen word of a node whose block is met on the path gets one seen visit where the cell holds a
+-- stone of its mover, and one seen win where that mover won; no other seen word gets anything
+module _ (s : Setting) (o : Outcome) (c : LinkedBlock) (x : ℕ) (hc : has c x ≡ true) where
+  abbrev seen : List LinkedBlock → ℕ
+  seen bs = cond (has_cell (stones_of o.full (mover_of s bs x)) (cell_at c (place c x))) (amount_of (is_same o.winner (mover_of s bs x))) 0
+
+  -- at the block itself
+  seen-here : (bs : List LinkedBlock) (y : ℕ) → Follows (root_at s) c bs → amount_at (x + SEEN_WORD) (adds_up s o (c ∷ bs) y).adds ≡ cond (enters s (c ∷ bs) c y) (seen (c ∷ bs)) 0
+  seen-here bs y f = ⊎_elim
+      (λ (hy : has c y ≡ true).
+      let p : NodeState = node_state s bs c.parent in
+      let won : Bool = is_same o.winner p.player in
+      let at = has-at c x hc in
+      let is : x + SEEN_WORD ≡ c.start + 4 + 4 * at.0 + SEEN_WORD = omega (arith, at.2) in
+      let k : at.0 ≡ place c x = sym (ap (λ (z : ℕ). place c z) (omega (arith, at.2)) ∙ is_child c.start at.0) in
+      up-here s o (x + SEEN_WORD) c bs y hy
+      ∙ omega (arith, miss (y + TALLY_WORD) (x + SEEN_WORD) won (λ e. let q = has-at c y hy in omega (arith, q.2, at.2, e)), new-none s o c bs x 3 c.parent f hc (omega arith))
+      ∙ ap (λ (w : ℕ). amount_at w (seen_adds (stones_of o.full p.player) won (c.start + 4) c.cells)) is
+      ∙ seen-hit (stones_of o.full p.player) won (c.start + 4) at.0 c.cells at.1
+      ∙ ap (λ (j : ℕ). cond (has_cell (stones_of o.full p.player) (cell_at c j)) (amount_of won) 0) k
+      ∙ ap (λ (m : Colour). cond (has_cell (stones_of o.full m) (cell_at c (place c x))) (amount_of (is_same o.winner m)) 0) (mover-new s c bs x hc)
+      ∙ ap (λ (t : Bool). cond t (seen (c ∷ bs)) 0) (sym (any-here s (has c) c bs y hy ∙ or_first (has c y) (list_any (has c) (path_of s bs c.parent)) hy)))
+      (λ (hy : has c y ≡ false).
+      up-else s o (x + SEEN_WORD) c bs y hy ∙ new-none s o c bs x 3 y f hc (omega arith)
+      ∙ ap (λ (t : Bool). cond t (seen (c ∷ bs)) 0) (sym (any-else s (has c) c bs y hy ∙ path-clear s (has c) bs y (λ z u. apart (root_at s) c bs z f u))))
+      (bool_is (has c y))
+
+  pub seen-up : (bs : List LinkedBlock) (y : ℕ) → InOrder (root_at s) bs → In c bs → amount_at (x + SEEN_WORD) (adds_up s o bs y).adds ≡ cond (enters s bs c y) (seen bs) 0
+  seen-up [] y g i = absurd i
+  seen-up (b ∷ bs) y g i = ⊎_elim
+      (λ (e : c ≡ b).
+      subst (λ (d : LinkedBlock). amount_at (x + SEEN_WORD) (adds_up s o (d ∷ bs) y).adds ≡ cond (enters s (d ∷ bs) c y) (seen (d ∷ bs)) 0) e
+      (seen-here bs y (subst (λ (d : LinkedBlock). Follows (root_at s) d bs) (sym e) g.0)))
+      (λ (j : In c bs).
+      let nx : is_node (root_at s) bs x ≡ true = in-node (root_at s) bs c x j hc in
+      let same : seen bs ≡ seen (b ∷ bs) = sym (ap (λ (p : NodeState). cond (has_cell (stones_of o.full (mover_at p)) (cell_at c (place c x))) (amount_of (is_same o.winner (mover_at p))) 0) (spot-same s b bs x g.0 nx)) in
+      ⊎_elim
+      (λ (hy : has b y ≡ true).
+      let off : has c y ≡ false = never (has c y) (λ t. not_both (has b y) hy (apart (root_at s) b bs y g.0 (in-node (root_at s) bs c y j t))) in
+      up-here s o (x + SEEN_WORD) b bs y hy
+      ∙ omega (arith, block-out s o (x + SEEN_WORD) b y (node_state s bs b.parent) hy (node-apart (root_at s) b bs x 3 g.0 nx (omega arith)))
+      ∙ seen-up bs b.parent g.1 j
+      ∙ (λ i. cond (enters s bs c b.parent) (same i) 0)
+      ∙ ap (λ (t : Bool). cond t (seen (b ∷ bs)) 0) (sym (any-here s (has c) b bs y hy ∙ ap (λ (t : Bool). t || enters s bs c b.parent) off)))
+      (λ (hy : has b y ≡ false).
+      up-else s o (x + SEEN_WORD) b bs y hy ∙ seen-up bs y g.1 j
+      ∙ (λ i. cond (enters s bs c y) (same i) 0)
+      ∙ ap (λ (t : Bool). cond t (seen (b ∷ bs)) 0) (sym (any-else s (has c) b bs y hy)))
+      (bool_is (has b y)))
+      i
+
+-- what the walk of playout k to a leaf adds to the tally of a node, and to the seen word of a node
+-- of the block c
+module _ (s : Setting) (bs : List LinkedBlock) (order : InOrder (root_at s) bs) (k leaf : ℕ) where
+  pub tally-amount : (x : ℕ) → is_node (root_at s) bs x ≡ true
+      → amount_at (x + TALLY_WORD) (walk_adds s bs k leaf) ≡ cond (is_on s bs x leaf) (amount_of (is_same (outcome_of s k (node_state s bs leaf)).winner (mover_of s bs x))) 0
+  unfolding walk_adds
+  tally-amount x n = tally-up s (outcome_of s k (node_state s bs leaf)) x bs leaf order n
+
+  pub seen-amount : (c : LinkedBlock) (x : ℕ) → In c bs → has c x ≡ true
+      → amount_at (x + SEEN_WORD) (walk_adds s bs k leaf)
+      ≡ cond (enters s bs c leaf)
+          (cond (has_cell (stones_of (outcome_of s k (node_state s bs leaf)).full (mover_of s bs x)) (cell_at c (place c x))) (amount_of (is_same (outcome_of s k (node_state s bs leaf)).winner (mover_of s bs x))) 0)
+          0
+  unfolding walk_adds
+  seen-amount c x i h = seen-up s (outcome_of s k (node_state s bs leaf)) c x h bs leaf order i
+
+  -- the words of a node of a new block get nothing, and the adds stay
+  pub amount-new : (b : LinkedBlock) (x i : ℕ) → Follows (root_at s) b bs → has b x ≡ true → i < 4 → amount_at (x + i) (walk_adds s bs k leaf) ≡ 0
+  unfolding walk_adds
+  amount-new b x i f h l = new-none s (outcome_of s k (node_state s bs leaf)) b bs x i leaf f h l
+
+  pub adds-linked : (b : LinkedBlock) → Follows (root_at s) b bs → is_node (root_at s) bs leaf ≡ true → walk_adds s (b ∷ bs) k leaf ≡ walk_adds s bs k leaf
+  unfolding walk_adds
+  adds-linked b f n =
+      let o : NodeState → Outcome = outcome_of s k in
+      ap (λ (p : NodeState). (adds_up s (o p) (b ∷ bs) leaf).adds) (spot-same s b bs leaf f n)
+      ∙ ap (λ (a : Gathered). a.adds) (up_same (root_adds s (o (node_state s bs leaf))) (node_adds (o (node_state s bs leaf))) b bs leaf (apart (root_at s) b bs leaf f n))
+
+  -- at most one add of a walk counts in a word of a node: in the tally where the node is on the path
+  pub tally-adds : (x : ℕ) → is_node (root_at s) bs x ≡ true → adds_in (x + TALLY_WORD) (walk_adds s bs k leaf) ≡ cond (is_on s bs x leaf) 1 0
+  tally-adds x n =
+      let w : ℕ = x + TALLY_WORD in
+      let adds : List CountAdd = walk_adds s bs k leaf in
+      one-add (is_on s bs x leaf) (is_same (outcome_of s k (node_state s bs leaf)).winner (mover_of s bs x)) (adds_in w adds) (wins_added w adds)
+      (sym (tally-amount x n) ∙ amount-parts w adds) (wins-less w adds)
+
+  pub seen-adds : (c : LinkedBlock) (x : ℕ) → In c bs → has c x ≡ true
+      → adds_in (x + SEEN_WORD) (walk_adds s bs k leaf)
+      ≡ cond (enters s bs c leaf && has_cell (stones_of (outcome_of s k (node_state s bs leaf)).full (mover_of s bs x)) (cell_at c (place c x))) 1 0
+  seen-adds c x i h =
+      let w : ℕ = x + SEEN_WORD in
+      let adds : List CountAdd = walk_adds s bs k leaf in
+      let o : Outcome = outcome_of s k (node_state s bs leaf) in
+      let stone : Bool = has_cell (stones_of o.full (mover_of s bs x)) (cell_at c (place c x)) in
+      let won : Bool = is_same o.winner (mover_of s bs x) in
+      one-add (enters s bs c leaf && stone) won (adds_in w adds) (wins_added w adds)
+      (both (enters s bs c leaf) stone (amount_of won) ∙ sym (seen-amount c x i h) ∙ amount-parts w adds) (wins-less w adds)
+    where
+      both : (t u : Bool) (n : ℕ) → cond (t && u) n 0 ≡ cond t (cond u n 0) 0
+      both true u n = refl
+      both false u n = refl
+
+  -- no add counts in the root's seen word
+  pub adds-root : adds_in (root_at s + SEEN_WORD) (walk_adds s bs k leaf) ≡ 0
+  unfolding walk_adds
+  adds-root =
+      let o : Outcome = outcome_of s k (node_state s bs leaf) in
+      let w : ℕ = root_at s + SEEN_WORD in
+      omega (arith, amount-parts w (adds_up s o bs leaf).adds, adds-none s o w bs leaf (λ e. omega (arith, e)) (root-clear bs order))
+    where
+      root-clear : (cs : List LinkedBlock) → InOrder (root_at s) cs → cover (root_at s + SEEN_WORD) cs ≡ 0
+      root-clear [] g = refl
+      root-clear (c ∷ cs) g =
+          let out : covers (root_at s + SEEN_WORD) c ≡ false = never (covers (root_at s + SEEN_WORD) c) (λ t. let l = covers_of (root_at s + SEEN_WORD) c t in let low = g.0.root in omega (arith, l.0, low)) in
+          omega (arith, cover-cons (root_at s + SEEN_WORD) c cs, ap one_if out, root-clear cs g.1)

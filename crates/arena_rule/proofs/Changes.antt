@@ -45,7 +45,7 @@ claimed_cases v size x = by (nat_le (x + size) (end_of v.shape)) refl
 
     by : (t : Bool) → nat_le (x + size) (end_of v.shape) ≡ t
         → ((x + size ≤ end_of v.shape) × (cond t (record v { held = Some (record { start = x; size = size; written = [] }); claimed = v.claimed + size }) (record v { full = true })
-            ≡ record v { held = Some (record { start = x; size = size; written = [] }); claimed = v.claimed + size }))
+        ≡ record v { held = Some (record { start = x; size = size; written = [] }); claimed = v.claimed + size }))
         ⊎ ((end_of v.shape < x + size) × (cond t (record v { held = Some (record { start = x; size = size; written = [] }); claimed = v.claimed + size }) (record v { full = true }) ≡ record v { full = true }))
     by true e = inl (below (x + size) (end_of v.shape) e, refl)
     by false e = inr (above (x + size) (end_of v.shape) e, refl)

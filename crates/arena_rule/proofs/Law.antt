@@ -1,1 +1,222 @@
--- The law.
+-- The law: a step that fits keeps the rule and gives an answer that it may give, a split and a join keep the rule, and it holds
+-- of the opening words.
+use Rattle.std.proofs.Common.{◌≡◌, ◌≢◌, ◌⊎◌, ℕ, zero, suc, ◌+◌, ◌*◌, ◌<◌, ◌≤◌, Bool, true, false, List, [], ◌∷◌, length, set, Option, Some, None, refl, sym, ap, ◌∙◌, subst, arith, length-set}
+use Rattle.std.specs.Prelude.{slice_index, sum_by, replicate}
+use mathlib.Core.Option.{some}
+use lib.ListN.{get_elem?}
+use Rattle.atomic_table.proofs.Lists.{set_here, set_else}
+use Rattle.tree_words.specs.Settings.{Setting, IsSetting}
+use Rattle.tree_words.specs.Words.{root_at, link_in}
+use Rattle.tree_words.specs.Blocks.{LinkedBlock, In, size, stays, header_or_move, is_node, InOrder}
+use Rattle.tree_words.specs.Told.{Knows}
+use Rattle.tree_words.specs.Opening.{opening_words}
+use Rattle.tree_words.specs.declared.layout.TheConstants.{LINK_WORD, TALLY_WORD, SEEN_WORD}
+use Rattle.tree_words.specs.declared.steps.Op.{Op}
+use Rattle.tree_words.specs.declared.steps.Op.TheVariants.{Draw, Look, Claim, Write, Publish, Add, Note, Done}
+use Rattle.tree_words.proofs.OpeningTold.{opening-are}
+use Rattle.arena_rule.specs.Views.{SeatView, new_view, opening_view, spent_view}
+use Rattle.arena_rule.specs.Adds.{CountAdd}
+use Rattle.arena_rule.specs.Lookups.{is_known}
+use Rattle.arena_rule.specs.Fits.{FitsStep, FitsClaim, FitsAdd, FitsPublish, CanSplit, CanJoin}
+use Rattle.arena_rule.specs.Afters.{word_of, put, answer_of, after}
+use Rattle.arena_rule.specs.Answers.{MayAnswer, AnswersStep, AnswersLink, AnswersClaim, AnswersTally, AnswersSeen, AnswersAdd}
+use Rattle.arena_rule.specs.Parts.{Fresh, AreApart, AreLinked, AreWritten, Known, Sums, width_of, Sole}
+use Rattle.arena_rule.specs.Rule.{IsState, Rule, words_after, views_after, views_split, views_joined}
+use Rattle.arena_rule.proofs.Before.{Before, Other, AreFirst, blocks_after, opening_blocks}
+use Rattle.arena_rule.proofs.Totals.{inside}
+use Rattle.arena_rule.proofs.Apart.{fresh-step, apart-step, held-step}
+use Rattle.arena_rule.proofs.SumsLaw.{sums-step}
+use Rattle.arena_rule.proofs.SeatsCounts.{sums-split, sums-join, sums-first}
+use Rattle.arena_rule.proofs.Widths.{widths-step}
+use Rattle.arena_rule.proofs.Tickets.{tickets-step}
+use Rattle.arena_rule.proofs.InHand.{in_hand-step}
+use Rattle.arena_rule.proofs.Sole.{sole-step, sole-split, sole-join, sole-first}
+use Rattle.arena_rule.proofs.SeatsNumbers.{widths-split, widths-join, widths-first, tickets-split, tickets-join, tickets-first, in_hand-split, in_hand-join, in_hand-first}
+use Rattle.arena_rule.proofs.Firsts.{opening-first, ones-first}
+use Rattle.arena_rule.proofs.AnswersNumbers.{answers-draw, answers-whole}
+
+-- TO COME from the other hands
+module _ (bs : List LinkedBlock) (words : List ℕ) (views : List SeatView) (id : ℕ) (v : SeatView) (b : Before bs words views id v) where
+  linked-step : (op : Op) → FitsStep v op → AreLinked v.shape (blocks_after bs words v op) (words_after words op)
+  linked-step op fits = ?
+
+  known-step : (op : Op) → FitsStep v op → Known v.shape (blocks_after bs words v op) (views_after words views id v op)
+  known-step op fits = ?
+
+
+  apart-split : (part : ℕ) → CanSplit v part → AreApart v.shape bs words (views_split views id v part)
+  apart-split part can = ?
+
+  held-split : (part : ℕ) → CanSplit v part → AreWritten words (views_split views id v part)
+  held-split part can = ?
+
+  known-split : (part : ℕ) → CanSplit v part → Known v.shape bs (views_split views id v part)
+  known-split part can = ?
+
+
+  apart-join : (other : ℕ) (w : SeatView) → Other views id v other w → AreApart v.shape bs words (views_joined views id v other w)
+  apart-join other w o = ?
+
+  held-join : (other : ℕ) (w : SeatView) → Other views id v other w → AreWritten words (views_joined views id v other w)
+  held-join other w o = ?
+
+  known-join : (other : ℕ) (w : SeatView) → Other views id v other w → Known v.shape bs (views_joined views id v other w)
+  known-join other w o = ?
+
+
+  answers-link : (x : ℕ) → is_known v x ≡ true → AnswersLink v x (link_in words x)
+  answers-link x n = ?
+
+  answers-block : (c : LinkedBlock) (j : ℕ) → In c v.known → j < size c → stays j ≡ true → slice_index words (c.start + j) ≡ header_or_move c j
+  answers-block c j = ?
+
+  answers-claim : (size : ℕ) → FitsClaim v size → AnswersClaim v (slice_index words 0)
+  answers-claim size fits = ?
+
+  answers-tally : (x : ℕ) → is_known v x ≡ true → AnswersTally v x (slice_index words (x + TALLY_WORD))
+  answers-tally x n = ?
+
+  answers-seen : (x : ℕ) → is_known v x ≡ true → AnswersSeen v (slice_index words (x + SEEN_WORD))
+  answers-seen x n = ?
+
+  answers-add : (a : CountAdd) → FitsAdd v a → AnswersAdd v (slice_index words a.word)
+  answers-add a fits = ?
+
+fresh-first : (s : Setting) (views : List SeatView) → IsSetting s → AreFirst s views → Fresh s (opening_words s)
+fresh-first s views h f = ?
+
+apart-first : (s : Setting) (views : List SeatView) → IsSetting s → AreFirst s views → AreApart s (opening_blocks s) (opening_words s) views
+apart-first s views h f = ?
+
+linked-first : (s : Setting) (views : List SeatView) → IsSetting s → AreFirst s views → AreLinked s (opening_blocks s) (opening_words s)
+linked-first s views h f = ?
+
+held-first : (s : Setting) (views : List SeatView) → IsSetting s → AreFirst s views → AreWritten (opening_words s) views
+held-first s views h f = ?
+
+known-first : (s : Setting) (views : List SeatView) → IsSetting s → AreFirst s views → Known s (opening_blocks s) views
+known-first s views h f = ?
+
+
+-- END TO COME
+
+module _ (bs : List LinkedBlock) (words : List ℕ) (views : List SeatView) (id : ℕ) (v : SeatView) (b : Before bs words views id v) where
+  -- what the seat itself knows after the step
+  known-after : (op : Op) → FitsStep v op → Knows (root_at v.shape) (blocks_after bs words v op) (after v op (answer_of op (slice_index words (word_of op)))).known
+  known-after op fits =
+      let u : SeatView = after v op (answer_of op (slice_index words (word_of op))) in
+      known-step bs words views id v b op fits id u (set_here views id u (inside views id v b.at))
+
+  state-step : (op : Op) → FitsStep v op → IsState v.shape (blocks_after bs words v op) (words_after words op) (views_after words views id v op)
+  state-step op fits =
+      let linked : AreLinked v.shape (blocks_after bs words v op) (words_after words op) = linked-step bs words views id v b op fits in
+      record {
+        setting = b.state.setting;
+        long = length-set words (word_of op) (put op (slice_index words (word_of op))) ∙ b.state.long;
+        widths = widths-step bs words views id v b op fits;
+        fresh = fresh-step bs words views id v b op fits;
+        apart = apart-step bs words views id v b op fits;
+        linked = linked;
+        held = held-step bs words views id v b op fits;
+        known = known-step bs words views id v b op fits;
+        sums = sums-step bs words views id v b op fits linked.blocks.order;
+        tickets = tickets-step bs words views id v b op fits linked.blocks.order;
+        in_hand = in_hand-step bs words views id v b op fits (known-after op fits);
+        sole = sole-step bs words views id v b op fits;
+      }
+
+  answers-step : (op : Op) → FitsStep v op → AnswersStep v op (answer_of op (slice_index words (word_of op)))
+  answers-step Draw fits = answers-draw bs words views id v b
+  answers-step (Look i) fits = record {
+    link = λ x n e. subst (AnswersLink v x) (sym (ap (slice_index words) e)) (answers-link bs words views id v b x n);
+    block = λ c j n l t e. ap (slice_index words) e ∙ answers-block bs words views id v b c j n l t;
+    tally = λ x n e. subst (AnswersTally v x) (sym (ap (slice_index words) e)) (answers-tally bs words views id v b x n);
+    seen = λ x n e. subst (AnswersSeen v) (sym (ap (slice_index words) e)) (answers-seen bs words views id v b x n);
+  }
+  answers-step (Claim size) fits = answers-claim bs words views id v b size fits
+  answers-step (Write i n) fits = refl
+  answers-step (Publish l c) fits = λ x n e. subst (AnswersLink v x) (sym (ap (slice_index words) e)) (answers-link bs words views id v b x n)
+  answers-step (Add i won) fits = answers-add bs words views id v b (record { word = i; won = won }) fits
+  answers-step (Note k n) fits = refl
+  answers-step Done fits = tt
+
+  state-split : (part : ℕ) → CanSplit v part → IsState v.shape bs words (views_split views id v part)
+  state-split part can = record {
+    setting = b.state.setting;
+    long = b.state.long;
+    widths = widths-split bs words views id v b part can;
+    fresh = b.state.fresh;
+    apart = apart-split bs words views id v b part can;
+    linked = b.state.linked;
+    held = held-split bs words views id v b part can;
+    known = known-split bs words views id v b part can;
+    sums = sums-split bs words views id v b part can;
+    tickets = tickets-split bs words views id v b part can;
+    in_hand = in_hand-split bs words views id v b part can;
+    sole = sole-split bs words views id v b part can;
+  }
+
+  state-join : (other : ℕ) (w : SeatView) → Other views id v other w → IsState v.shape bs words (views_joined views id v other w)
+  state-join other w o = record {
+    setting = b.state.setting;
+    long = b.state.long;
+    widths = widths-join bs words views id v b other w o;
+    fresh = b.state.fresh;
+    apart = apart-join bs words views id v b other w o;
+    linked = b.state.linked;
+    held = held-join bs words views id v b other w o;
+    known = known-join bs words views id v b other w o;
+    sums = sums-join bs words views id v b other w o;
+    tickets = tickets-join bs words views id v b other w o;
+    in_hand = in_hand-join bs words views id v b other w o;
+    sole = sole-join bs words views id v b other w o;
+  }
+
+state-first : (s : Setting) (views : List SeatView) → IsSetting s → AreFirst s views → IsState s (opening_blocks s) (opening_words s) views
+state-first s views h f = record {
+  setting = h;
+  long = (opening-are s h).long;
+  widths = widths-first s views h f;
+  fresh = fresh-first s views h f;
+  apart = apart-first s views h f;
+  linked = linked-first s views h f;
+  held = held-first s views h f;
+  known = known-first s views h f;
+  sums = sums-first s views h f;
+  tickets = tickets-first s views h f;
+  in_hand = in_hand-first s views h f;
+  sole = sole-first s views h f;
+}
+
+-- the state before a step, over the shape of the view that steps
+before : (s : Setting) (bs : List LinkedBlock) (words : List ℕ) (views : List SeatView) (id : ℕ) (v : SeatView) → IsState s bs words views → get_elem? views id ≡ some v → 0 < v.width → Before bs words views id v
+before s bs words views id v st at live = record { state = subst (λ (t : Setting). IsState t bs words views) (sym (st.widths.each id v at).shape) st; at = at; live = live }
+
+rule-of : (s : Setting) (bs : List LinkedBlock) (words : List ℕ) (views : List SeatView) (t : Setting) → t ≡ s → IsState t bs words views → Rule s words views
+rule-of s bs words views t e st = record { blocks = bs; state = subst (λ (t : Setting). IsState t bs words views) e st }
+
+module _ (s : Setting) (words : List ℕ) (views : List SeatView) (r : Rule s words views) (id : ℕ) (v : SeatView) (at : get_elem? views id ≡ some v) (live : 0 < v.width) where
+  b : Before r.blocks words views id v
+  b = before s r.blocks words views id v r.state at live
+
+  shape : v.shape ≡ s
+  shape = (r.state.widths.each id v at).shape
+
+  pub steps : (op : Op) → FitsStep v op → Rule s (words_after words op) (views_after words views id v op)
+  steps op fits = rule-of s (blocks_after r.blocks words v op) (words_after words op) (views_after words views id v op) v.shape shape (state-step r.blocks words views id v b op fits)
+
+  pub answers : (op : Op) → FitsStep v op → MayAnswer v op (answer_of op (slice_index words (word_of op)))
+  answers op fits = record { step = answers-step r.blocks words views id v b op fits; whole = answers-whole r.blocks words views id v b op fits }
+
+  pub splits : (part : ℕ) → CanSplit v part → Rule s words (views_split views id v part)
+  splits part can = rule-of s r.blocks words (views_split views id v part) v.shape shape (state-split r.blocks words views id v b part can)
+
+  pub joins : (other : ℕ) (w : SeatView) → get_elem? views other ≡ some w → other ≢ id → 0 < w.width → CanJoin v w → Rule s words (views_joined views id v other w)
+  joins other w there ne more can = rule-of s r.blocks words (views_joined views id v other w) v.shape shape
+      (state-join r.blocks words views id v b other w (record { at = there; else_ = ne; live = more; can = can }))
+
+pub begins : (s : Setting) → IsSetting s → Rule s (opening_words s) (opening_view s ∷ [])
+begins s h = record { blocks = opening_blocks s; state = state-first s (opening_view s ∷ []) h (opening-first s h) }
+
+pub begins-apart : (s : Setting) → IsSetting s → Rule s (opening_words s) (replicate s.knobs.workers (new_view s 1 []))
+begins-apart s h = record { blocks = opening_blocks s; state = state-first s (replicate s.knobs.workers (new_view s 1 [])) h (ones-first s h) }

@@ -14,13 +14,16 @@ pub mod Opening
 pub mod AnswersBlocks
 pub mod Numbers
 pub mod Tickets
+pub mod KnownMore
 pub mod InHand
 pub mod Widths
 pub mod Sole
 pub mod SeatsNumbers
 pub mod AnswersNumbers
+pub mod Firsts
 pub mod SumsLaw
 pub mod SeatsCounts
 pub mod AnswersCounts
 pub mod ViewStays
 pub mod Law
+pub mod RunLaws

@@ -12,6 +12,7 @@ use Rattle.arena_rule.specs.Fits.{FitsStep}
 use Rattle.arena_rule.specs.Afters.{word_of, put}
 use Rattle.arena_rule.specs.Rule.{words_after}
 use Rattle.arena_rule.proofs.Before.{Before}
+use Rattle.arena_rule.proofs.Frames.{write-high, publish-high, add-high}
 
 -- the step changes no word below the root
 abbrev pub IsHigh : Op → Type 0
@@ -25,15 +26,6 @@ IsHigh (Note k value) = ⊥
 IsHigh Done = Unit {0}
 
 module _ (bs : List LinkedBlock) (words : List ℕ) (views : List SeatView) (id : ℕ) (v : SeatView) (b : Before bs words views id v) where
-  write-high : (i value : ℕ) → FitsStep v (Write i value) → root_at v.shape ≤ i
-  write-high i value fits = ?
-
-  publish-high : (l c : ℕ) → FitsStep v (Publish l c) → root_at v.shape ≤ l
-  publish-high l c fits = ?
-
-  add-high : (i : ℕ) (won : Bool) → FitsStep v (Add i won) → root_at v.shape ≤ i
-  add-high i won fits = ?
-
   other : (i j n : ℕ) → root_at v.shape ≤ i → j < root_at v.shape → slice_index (set words i n) j ≡ slice_index words j
   other i j n low high = get_or-set_other words i j n 0 (λ e. omega arith)
 
@@ -41,8 +33,8 @@ module _ (bs : List LinkedBlock) (words : List ℕ) (views : List SeatView) (id 
   low-same Draw high fits j l = absurd high
   low-same (Look i) high fits j l = ap (λ (ws : List ℕ). slice_index ws j) (set-get_or words i 0)
   low-same (Claim size) high fits j l = absurd high
-  low-same (Write i value) high fits j l = other i j value (write-high i value fits) l
-  low-same (Publish p c) high fits j l = other p j (put (Publish p c) (slice_index words p)) (publish-high p c fits) l
-  low-same (Add i won) high fits j l = other i j (put (Add i won) (slice_index words i)) (add-high i won fits) l
+  low-same (Write i value) high fits j l = other i j value (write-high bs words views id v b i fits) l
+  low-same (Publish p c) high fits j l = other p j (put (Publish p c) (slice_index words p)) (publish-high bs words views id v b p c fits) l
+  low-same (Add i won) high fits j l = other i j (put (Add i won) (slice_index words i)) (add-high bs words views id v b (record { word = i; won = won }) fits) l
   low-same (Note k value) high fits j l = absurd high
   low-same Done high fits j l = ap (λ (ws : List ℕ). slice_index ws j) (set-get_or words 0 0)

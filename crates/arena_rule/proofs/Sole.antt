@@ -34,9 +34,10 @@ module _ (bs : List LinkedBlock) (words : List ℕ) (views : List SeatView) (id 
       → (set words w n ≡ copy) × ((j : ℕ) (other : SeatView) → get_elem? (set views id u) j ≡ some other → j ≢ i → other.width ≡ 0)
   kept u i w n copy None q m here = absurd (none_some m)
   kept u i w n copy (Some old) q m here =
-      let was = b.state.sole id v old b.at q in
-      (ap (λ (ws : List ℕ). set ws w n) was.0 ∙ some_eq m,
-      λ j other f ne. was.1 j other (sym (set_else views id j u (λ z. ne (z ∙ sym here))) ∙ f) (λ z. ne (z ∙ sym here)))
+      let was = b.state.sole id v old b.at q in (
+        ap (λ (ws : List ℕ). set ws w n) was.0 ∙ some_eq m,
+        λ j other f ne. was.1 j other (sym (set_else views id j u (λ z. ne (z ∙ sym here))) ∙ f) (λ z. ne (z ∙ sym here)),
+      )
 
   pub sole-step : (op : Op) → FitsStep v op → Sole (words_after words op) (views_after words views id v op)
   sole-step op fits i u copy e w =

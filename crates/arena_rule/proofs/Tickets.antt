@@ -100,16 +100,16 @@ module _ (bs : List LinkedBlock) (words : List ℕ) (views : List SeatView) (id 
       let L : Type 0 = (x < v.shape.knobs.playouts) × (u.ticket ≡ Some x) in
       let R : Type 0 = (v.shape.knobs.playouts ≤ x) × (u.ticket ≡ None) in
       let cases : L ⊎ R = ⊎_elim
-          (λ (c : (x < v.shape.knobs.playouts) × (drew v x ≡ record v { ticket = Some x })). inl (c.0, ap (λ (z : SeatView). z.ticket) c.1))
-          (λ (c : (v.shape.knobs.playouts ≤ x) × (drew v x ≡ record v { ended = 1 })). inr (c.0, ap (λ (z : SeatView). z.ticket) c.1 ∙ fits.ticket))
-          (drew_cases v x) in
+      (λ (c : (x < v.shape.knobs.playouts) × (drew v x ≡ record v { ticket = Some x })). inl (c.0, ap (λ (z : SeatView). z.ticket) c.1))
+      (λ (c : (v.shape.knobs.playouts ≤ x) × (drew v x ≡ record v { ended = 1 })). inr (c.0, ap (λ (z : SeatView). z.ticket) c.1 ∙ fits.ticket))
+      (drew_cases v x) in
       drawn u (words_after words Draw) fits (drew_same (λ z. z.walks) v x refl refl)
       (get_or-set_same words 1 (x + 1) 0 (omega (arith, b.state.long)))
       (λ k l. get_or-set_other words 1 (2 + k) (x + 1) 0 (λ e. omega (arith, e)))
       cases
 
   -- the number in hand is in no walk
-  hand-alone : (k : ℕ) → v.ticket ≡ Some k → (j : ℕ) (u : SeatView) → get_elem? views j ≡ some u → times_walked k u.walks ≡ 0
+  pub hand-alone : (k : ℕ) → v.ticket ≡ Some k → (j : ℕ) (u : SeatView) → get_elem? views j ≡ some u → times_walked k u.walks ≡ 0
   hand-alone k t j u e =
       let mine : in_hand k v.ticket ≡ 1 = ap (in_hand k) t ∙ ap one_if (same_is k k refl) in
       let once = b.state.tickets.once k in

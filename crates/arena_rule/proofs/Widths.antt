@@ -93,9 +93,9 @@ module _ (bs : List LinkedBlock) (words : List ℕ) (views : List SeatView) (id 
       let L : Type 0 = (x < v.shape.knobs.playouts) × (u.ended ≡ v.ended) in
       let R : Type 0 = (v.shape.knobs.playouts ≤ x) × (u.ended ≡ 1) in
       let cases : L ⊎ R = ⊎_elim
-          (λ (c : (x < v.shape.knobs.playouts) × (drew v x ≡ record v { ticket = Some x })). inl (c.0, ap (λ (z : SeatView). z.ended) c.1))
-          (λ (c : (v.shape.knobs.playouts ≤ x) × (drew v x ≡ record v { ended = 1 })). inr (c.0, ap (λ (z : SeatView). z.ended) c.1))
-          (drew_cases v x) in
+      (λ (c : (x < v.shape.knobs.playouts) × (drew v x ≡ record v { ticket = Some x })). inl (c.0, ap (λ (z : SeatView). z.ended) c.1))
+      (λ (c : (v.shape.knobs.playouts ≤ x) × (drew v x ≡ record v { ended = 1 })). inr (c.0, ap (λ (z : SeatView). z.ended) c.1))
+      (drew_cases v x) in
       drawn u fits (shape-after v Draw x) (width-after v Draw x) (drew_same full_width v x refl refl) cases
 
   -- NEXT grows by the size of a block: it fits inside the area, or the view is full
@@ -132,10 +132,10 @@ module _ (bs : List LinkedBlock) (words : List ℕ) (views : List SeatView) (id 
       let A : Type 0 = (x + size ≤ end_of v.shape) × (u.full ≡ false) in
       let B : Type 0 = (end_of v.shape < x + size) × (u.full ≡ true) in
       let cases : A ⊎ B = ⊎_elim
-          (λ (c : (x + size ≤ end_of v.shape) × (claimed_at v size x ≡ record v { held = Some (record { start = x; size = size; written = [] }); claimed = v.claimed + size })).
-          inl (c.0, ap (λ (z : SeatView). z.full) c.1 ∙ fits.room))
-          (λ (c : (end_of v.shape < x + size) × (claimed_at v size x ≡ record v { full = true })). inr (c.0, ap (λ (z : SeatView). z.full) c.1))
-          (claimed_cases v size x) in
+      (λ (c : (x + size ≤ end_of v.shape) × (claimed_at v size x ≡ record v { held = Some (record { start = x; size = size; written = [] }); claimed = v.claimed + size })).
+      inl (c.0, ap (λ (z : SeatView). z.full) c.1 ∙ fits.room))
+      (λ (c : (end_of v.shape < x + size) × (claimed_at v size x ≡ record v { full = true })). inr (c.0, ap (λ (z : SeatView). z.full) c.1))
+      (claimed_cases v size x) in
       claimed u size fits (shape-after v (Claim size) x) (width-after v (Claim size) x) (claimed_same (λ z. z.ended) v size x refl refl) cases
 
   widths-note : (k value : ℕ) → FitsStep v (Note k value) → Widths v.shape (words_after words (Note k value)) (views_after words views id v (Note k value))

@@ -45,12 +45,16 @@ answer_of Done x = x
 
 -- after a Draw of x: a number below N is in hand, any other ends the worker
 unfoldable pub drew : SeatView → ℕ → SeatView
-drew v x = if nat_lt x v.shape.knobs.playouts then record v { ticket = Some x } else record v { ended = 1 }
+drew v x =
+    if nat_lt x v.shape.knobs.playouts then record v { ticket = Some x }
+    else record v { ended = 1 }
 
 -- the known blocks after the link of the node x was found to be b: where it is a known node without
 -- a known block and b is not 0, the told block is known too
 unfoldable pub known_after : SeatView → ℕ → ℕ → List LinkedBlock
-known_after v x b = if is_known v x && (known_link v x == 0 && not (b == 0)) then told_below v x b ∷ v.known else v.known
+known_after v x b =
+    if is_known v x && (known_link v x == 0 && not (b == 0)) then told_below v x b ∷ v.known
+    else v.known
 
 -- the word i is the tally or the seen word of a known node; no node begins at 0
 abbrev pub is_count : SeatView → ℕ → Bool
@@ -74,7 +78,10 @@ looked v i x = record v { known = known_after v (node_of_link i) x; loads = load
 unfoldable pub claimed_at : SeatView → ℕ → ℕ → SeatView
 claimed_at v words x =
     if nat_le (x + words) (end_of v.shape)
-    then record v { held = Some (record { start = x; size = words; written = [] }); claimed = v.claimed + words }
+    then record v {
+      held = Some (record { start = x; size = words; written = [] });
+      claimed = v.claimed + words;
+    }
     else record v { full = true }
 
 -- the held block with one word more
@@ -88,7 +95,8 @@ wrote v value = record v { held = option_map (written_more value) v.held }
 -- after a Publish of b at the link l that found x: where this was 0 the held block is known, else
 -- the one that the link names; in both cases nothing is held
 unfoldable pub published : SeatView → ℕ → ℕ → ℕ → SeatView
-published v l b x = record v { known = known_after v (node_of_link l) (if x == 0 then b else x); held = None }
+published v l b x =
+    record v { known = known_after v (node_of_link l) (if x == 0 then b else x); held = None }
 
 -- the walk in flight after one more add, which is the leaf's tally where it is the first
 abbrev pub flight_after : ℕ → Option Flight → Flight
@@ -101,7 +109,12 @@ added_at v i = record v { adds = Some (flight_after i v.adds) }
 
 -- after a Note: the walk is recorded, and no number, no adds and no loads are left
 unfoldable pub noted : SeatView → ℕ → ℕ → SeatView
-noted v k value = record v { ticket = None; adds = None; walks = record { number = k; value = value } ∷ v.walks; loads = [] }
+noted v k value = record v {
+  ticket = None;
+  adds = None;
+  walks = record { number = k; value = value } ∷ v.walks;
+  loads = [];
+}
 
 -- the view after a step but for its copy of the words
 abbrev pub changed : SeatView → Op → ℕ → SeatView

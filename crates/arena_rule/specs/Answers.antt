@@ -41,7 +41,8 @@ pub record AnswersLink (v : SeatView) (x b : ℕ) : Type 0 where
 pub record AnswersTally (v : SeatView) (x n : ℕ) : Type 0 where
   pub visits : visits_in n ≤ v.shape.knobs.playouts
   pub wins : wins_in n ≤ v.shape.knobs.playouts
-  pub own : recorded_through v x + adds_in (x + TALLY_WORD) (adds_made v.shape v.known v.ticket v.adds) ≤ visits_in n
+  pub own : recorded_through v x
+      + adds_in (x + TALLY_WORD) (adds_made v.shape v.known v.ticket v.adds) ≤ visits_in n
 
 -- the seen word of a known node: two counts of at most N
 pub record AnswersSeen (v : SeatView) (n : ℕ) : Type 0 where
@@ -52,7 +53,8 @@ pub record AnswersSeen (v : SeatView) (n : ℕ) : Type 0 where
 -- of a known node it answers as said. At another word it may answer any value.
 pub record AnswersLook (v : SeatView) (i n : ℕ) : Type 0 where
   pub link : (x : ℕ) → is_known v x ≡ true → i ≡ x + LINK_WORD → AnswersLink v x n
-  pub block : (b : LinkedBlock) (j : ℕ) → In b v.known → j < size b → stays j ≡ true → i ≡ b.start + j → n ≡ header_or_move b j
+  pub block : (b : LinkedBlock) (j : ℕ) → In b v.known → j < size b → stays j ≡ true
+      → i ≡ b.start + j → n ≡ header_or_move b j
   pub tally : (x : ℕ) → is_known v x ≡ true → i ≡ x + TALLY_WORD → AnswersTally v x n
   pub seen : (x : ℕ) → is_known v x ≡ true → i ≡ x + SEEN_WORD → AnswersSeen v n
 

@@ -14,9 +14,12 @@ use Rattle.arena_rule.specs.Parts.{Each, full_width}
 -- what a view has loaded: tallies and seen words of known nodes; a tally's visits are now at least
 -- those loaded, and these are at least the view's recorded walks through the node
 pub record HasLoaded (words : List ℕ) (v : SeatView) : Type 0 where
-  pub counts : (w n : ℕ) → load_of v.loads w ≡ Some n → (x : ℕ) × (is_known v x ≡ true) × ((w ≡ x + TALLY_WORD) ⊎ (w ≡ x + SEEN_WORD))
-  pub less : (x n : ℕ) → is_known v x ≡ true → load_of v.loads (x + TALLY_WORD) ≡ Some n → visits_in n ≤ (tally_in words x).visits
-  pub own : (x n : ℕ) → is_known v x ≡ true → load_of v.loads (x + TALLY_WORD) ≡ Some n → recorded_through v x ≤ visits_in n
+  pub counts : (w n : ℕ) → load_of v.loads w ≡ Some n
+      → (x : ℕ) × (is_known v x ≡ true) × ((w ≡ x + TALLY_WORD) ⊎ (w ≡ x + SEEN_WORD))
+  pub less : (x n : ℕ) → is_known v x ≡ true → load_of v.loads (x + TALLY_WORD) ≡ Some n
+      → visits_in n ≤ (tally_in words x).visits
+  pub own : (x n : ℕ) → is_known v x ≡ true → load_of v.loads (x + TALLY_WORD) ≡ Some n
+      → recorded_through v x ≤ visits_in n
 
 -- Loaded: so is it with each view
 abbrev pub AreLoads : List ℕ → List SeatView → Type 0
@@ -32,12 +35,14 @@ FirstVisits bs words views = (b : LinkedBlock) (x y : ℕ) → In b bs → has b
 -- with an empty cell on its board are at most its width times T
 abbrev pub LeafBound : Setting → List LinkedBlock → List ℕ → List SeatView → Type 0
 LeafBound s bs words views = next_in words ≤ end_of s → (x c : ℕ) → is_node (root_at s) bs x ≡ true
-    → is_empty_at (board_of s bs x) c ≡ true → Each (λ v. walks_at v x ≤ v.width * s.knobs.expand) views
+    → is_empty_at (board_of s bs x) c ≡ true
+    → Each (λ v. walks_at v x ≤ v.width * s.knobs.expand) views
 
 -- the words of the linked blocks whose links the view knows, but the root's, each block counted
 -- once
 abbrev pub words_known : Setting → List LinkedBlock → SeatView → ℕ
-words_known s bs v = sum_by (λ b. if not (b.parent == root_at s) && not (link_of v.known b.parent == 0) then size b else 0) bs
+words_known s bs v = sum_by (λ b.
+    if not (b.parent == root_at s) && not (link_of v.known b.parent == 0) then size b else 0) bs
 
 -- the words that the view holds
 abbrev pub words_held : Option HeldBlock → ℕ
@@ -50,6 +55,8 @@ claimed_of v = v.claimed
 -- Room: NEXT is at most the end of the root's block, what all views claimed, and a largest block
 -- for each worker of the full views; and a view claimed at most its width times the words of the
 -- blocks that it knows, and what it holds
-pub record Room (s : Setting) (bs : List LinkedBlock) (words : List ℕ) (views : List SeatView) : Type 0 where
-  pub next : next_in words ≤ root_end s + sum_by claimed_of views + MOST_BLOCK_WORDS * sum_by full_width views
+pub record Room (s : Setting) (bs : List LinkedBlock)
+    (words : List ℕ) (views : List SeatView) : Type 0 where
+  pub next : next_in words
+      ≤ root_end s + sum_by claimed_of views + MOST_BLOCK_WORDS * sum_by full_width views
   pub claimed : Each (λ v. v.claimed ≤ v.width * words_known s bs v + words_held v.held) views

@@ -90,12 +90,15 @@ pub record IsChosen (v : SeatView) (b : LinkedBlock) (y : ℕ) : Type 0 where
 pub record MayBegin (v : SeatView) (leaf : ℕ) : Type 0 where
   pub known : is_known v leaf ≡ true
   pub below : leaf ≢ root_at v.shape
-  pub chosen : (b : LinkedBlock) (y : ℕ) → In b v.known → has b y ≡ true → is_on v.shape v.known y leaf ≡ true → IsChosen v b y
-  pub ends : ((tally_loaded v leaf).visits < v.shape.knobs.expand) ⊎ ((empties_at v leaf ≡ 0) ⊎ (v.full ≡ true))
+  pub chosen : (b : LinkedBlock) (y : ℕ) → In b v.known → has b y ≡ true
+      → is_on v.shape v.known y leaf ≡ true → IsChosen v b y
+  pub ends : ((tally_loaded v leaf).visits < v.shape.knobs.expand)
+      ⊎ ((empties_at v leaf ≡ 0) ⊎ (v.full ≡ true))
 
 -- the word is the next of the adds: of the walk in flight, or the first of a walk that may begin
 abbrev pub IsNext : SeatView → ℕ → Option Flight → CountAdd → Type 0
-IsNext v k None a = (leaf : ℕ) × (a.word ≡ leaf + TALLY_WORD) × MayBegin v leaf × IsNextAdd v k leaf 0 a
+IsNext v k None a =
+    (leaf : ℕ) × (a.word ≡ leaf + TALLY_WORD) × MayBegin v leaf × IsNextAdd v k leaf 0 a
 IsNext v k (Some f) a = IsNextAdd v k f.leaf f.made a
 
 -- Add: a number is in hand, nothing is held, and this is the next of the adds of its walk
@@ -105,6 +108,11 @@ pub record FitsAdd (v : SeatView) (a : CountAdd) : Type 0 where
   pub held : v.held ≡ None
   pub next : IsNext v number v.adds a
 
+-- the record of the walk of playout k to a known leaf
+abbrev pub record_told : SeatView → ℕ → ℕ → ℕ
+record_told v k leaf =
+    record_word leaf (outcome_of v.shape k (node_state v.shape v.known leaf)).winner
+
 -- Note: k is the number in hand, all adds of its walk are made, and n is the record of the leaf and
 -- of the playout's result
 pub record FitsNote (v : SeatView) (k n : ℕ) : Type 0 where
@@ -112,7 +120,7 @@ pub record FitsNote (v : SeatView) (k n : ℕ) : Type 0 where
   pub flight : Flight
   pub adds : v.adds ≡ Some flight
   pub all : flight.made ≡ length (walk_adds v.shape v.known k flight.leaf)
-  pub value : n ≡ record_word flight.leaf (outcome_of v.shape k (node_state v.shape v.known flight.leaf)).winner
+  pub value : n ≡ record_told v k flight.leaf
 
 -- the view fits the step; no step is left where all workers have ended
 abbrev pub FitsStep : SeatView → Op → Type 0

@@ -35,6 +35,7 @@ pub record IsView (v : SeatView) : Type 0 where
   pub known : AreTold v.shape v.known
   pub order : IsJoined v ⊎ InOrder (root_at v.shape) v.known
   pub ticket : (k : ℕ) → v.ticket ≡ Some k → k < v.shape.knobs.playouts
-  pub held : (h : HeldBlock) → v.held ≡ Some h → (area_at v.shape ≤ h.start) × (h.start + h.size ≤ end_of v.shape)
+  pub held : (h : HeldBlock) → v.held ≡ Some h
+      → (area_at v.shape ≤ h.start) × (h.start + h.size ≤ end_of v.shape)
   pub apart : (i : ℕ) → is_held v.held i ≡ true → cover i v.known ≡ 0
   pub leaf : (f : Flight) → v.adds ≡ Some f → is_known v f.leaf ≡ true

@@ -8,3 +8,5 @@ pub mod IsView
 pub mod Parts
 pub mod Bounds
 pub mod Rule
+pub mod Runs
+pub mod Shown

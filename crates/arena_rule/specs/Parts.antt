@@ -65,7 +65,8 @@ is_claimed s words i = nat_le (area_at s) i && (nat_lt i (next_in words) && nat_
 -- Apart: a word lies in at most one of the linked and held blocks, and in none unless it lies below
 -- NEXT and inside the area
 abbrev pub AreApart : Setting → List LinkedBlock → List ℕ → List SeatView → Type 0
-AreApart s bs words views = (i : ℕ) → cover i bs + sum_by (held_at i) views ≤ one_if (is_claimed s words i)
+AreApart s bs words views =
+    (i : ℕ) → cover i bs + sum_by (held_at i) views ≤ one_if (is_claimed s words i)
 
 -- Linked: bs are the linked blocks, each complete and named by its parent's link, and each with a
 -- node; the root's link is N + 6, and its move word is 0
@@ -92,14 +93,17 @@ Known s bs views = Each (λ v. Knows (root_at s) bs v.known) views
 -- what the recorded walks of a view add to the word w, and what the adds that it has made in flight
 -- add to it
 abbrev pub amount_recorded : Setting → List LinkedBlock → ℕ → List Walked → ℕ
-amount_recorded s bs w walks = sum_by (λ q. amount_at w (walk_adds s bs q.number (leaf_in q.value))) walks
+amount_recorded s bs w walks =
+    sum_by (λ q. amount_at w (walk_adds s bs q.number (leaf_in q.value))) walks
 
 abbrev pub amount_counted : Setting → List LinkedBlock → ℕ → SeatView → ℕ
-amount_counted s bs w v = amount_recorded s bs w v.walks + amount_at w (adds_made s bs v.ticket v.adds)
+amount_counted s bs w v =
+    amount_recorded s bs w v.walks + amount_at w (adds_made s bs v.ticket v.adds)
 
 -- Sums: the tally of each node of the tree is what the recorded walks and the adds made in flight,
 -- of all views, add to it; so is the seen word of each node but the root, whose seen word is 0
-pub record Sums (s : Setting) (bs : List LinkedBlock) (words : List ℕ) (views : List SeatView) : Type 0 where
+pub record Sums (s : Setting) (bs : List LinkedBlock)
+    (words : List ℕ) (views : List SeatView) : Type 0 where
   pub tallies : (x : ℕ) → is_node (root_at s) bs x ≡ true
       → slice_index words (x + TALLY_WORD) ≡ sum_by (amount_counted s bs (x + TALLY_WORD)) views
   pub seen : (x : ℕ) → is_node (root_at s) bs x ≡ true → x ≢ root_at s
@@ -123,13 +127,16 @@ value_noted k v = sum_by (λ w. if w.number == k then w.value else 0) v.walks
 pub record IsRight (s : Setting) (bs : List LinkedBlock) (w : Walked) : Type 0 where
   pub node : is_node (root_at s) bs (leaf_in w.value) ≡ true
   pub below : leaf_in w.value ≢ root_at s
-  pub result : winner_in w.value ≡ (outcome_of s w.number (node_state s bs (leaf_in w.value))).winner
+  pub result : winner_in w.value
+      ≡ (outcome_of s w.number (node_state s bs (leaf_in w.value))).winner
 
 -- Tickets: each number below TICKET and below N is in exactly one view, there once, and no other is
 -- in any. The record of a number is the value that a view's walks have for it, and else 0; and each
 -- recorded walk is right.
-pub record Tickets (s : Setting) (bs : List LinkedBlock) (words : List ℕ) (views : List SeatView) : Type 0 where
-  pub once : (k : ℕ) → sum_by (times_drawn k) views ≡ one_if (nat_lt k (ticket_in words) && nat_lt k s.knobs.playouts)
+pub record Tickets (s : Setting) (bs : List LinkedBlock)
+    (words : List ℕ) (views : List SeatView) : Type 0 where
+  pub once : (k : ℕ) → sum_by (times_drawn k) views
+      ≡ one_if (nat_lt k (ticket_in words) && nat_lt k s.knobs.playouts)
   pub records : (k : ℕ) → k < s.knobs.playouts → record_in words k ≡ sum_by (value_noted k) views
   pub right : Each (λ v. (w : Walked) → Contains v.walks w → IsRight s bs w) views
 
@@ -145,7 +152,8 @@ pub record IsFlying (v : SeatView) (k : ℕ) (f : Flight) : Type 0 where
 -- walks are known nodes
 pub record HasInHand (s : Setting) (words : List ℕ) (v : SeatView) : Type 0 where
   pub ticket : (k : ℕ) → v.ticket ≡ Some k → (k < ticket_in words) × (k < s.knobs.playouts)
-  pub walks : (w : Walked) → Contains v.walks w → (w.number < ticket_in words) × (w.number < s.knobs.playouts)
+  pub walks : (w : Walked) → Contains v.walks w
+      → (w.number < ticket_in words) × (w.number < s.knobs.playouts)
   pub one : (k : ℕ) → v.ticket ≡ Some k → (v.width ≡ 1) × (v.ended ≡ 0)
   pub idle : v.ticket ≡ None → (v.adds ≡ None) × (v.held ≡ None)
   pub either : (f : Flight) → v.adds ≡ Some f → v.held ≡ None
@@ -159,5 +167,7 @@ InHand s words views = Each (HasInHand s words) views
 -- Sole: a view that has a copy of all words is the only one that is not spent, and the words are
 -- that copy
 abbrev pub Sole : List ℕ → List SeatView → Type 0
-Sole words views = (i : ℕ) (v : SeatView) (copy : List ℕ) → get_elem? views i ≡ some v → v.whole ≡ Some copy
-    → (words ≡ copy) × ((j : ℕ) (other : SeatView) → get_elem? views j ≡ some other → j ≢ i → other.width ≡ 0)
+Sole words views = (i : ℕ) (v : SeatView) (copy : List ℕ)
+    → get_elem? views i ≡ some v → v.whole ≡ Some copy
+    → (words ≡ copy)
+    × ((j : ℕ) (other : SeatView) → get_elem? views j ≡ some other → j ≢ i → other.width ≡ 0)

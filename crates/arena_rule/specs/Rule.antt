@@ -9,7 +9,8 @@ use Rattle.arena_rule.specs.Afters.{word_of, put, answer_of, after, kept_part, g
 use Rattle.arena_rule.specs.Parts.{Widths, Fresh, AreApart, AreLinked, AreWritten, Known, Sums, Tickets, InHand, Sole}
 
 -- the parts of the rule hold, where bs are the linked blocks
-pub record IsState (s : Setting) (bs : List LinkedBlock) (words : List ℕ) (views : List SeatView) : Type 0 where
+pub record IsState (s : Setting) (bs : List LinkedBlock)
+    (words : List ℕ) (views : List SeatView) : Type 0 where
   pub setting : IsSetting s
   pub long : length words ≡ end_of s
   pub widths : Widths s words views
@@ -33,7 +34,8 @@ abbrev pub words_after : List ℕ → Op → List ℕ
 words_after words op = slice_set words (word_of op) (put op (slice_index words (word_of op)))
 
 abbrev pub views_after : List ℕ → List SeatView → ℕ → SeatView → Op → List SeatView
-views_after words views id v op = slice_set views id (after v op (answer_of op (slice_index words (word_of op))))
+views_after words views id v op =
+    slice_set views id (after v op (answer_of op (slice_index words (word_of op))))
 
 -- the views after a split of the seat, and after a join of the seat with the one whose number is
 -- other and whose view is w
@@ -41,4 +43,5 @@ abbrev pub views_split : List SeatView → ℕ → SeatView → ℕ → List Sea
 views_split views id v part = slice_set views id (kept_part v part) ++ given_part v part ∷ []
 
 abbrev pub views_joined : List SeatView → ℕ → SeatView → ℕ → SeatView → List SeatView
-views_joined views id v other w = slice_set (slice_set views id (joined v w)) other (spent_view v.shape)
+views_joined views id v other w =
+    slice_set (slice_set views id (joined v w)) other (spent_view v.shape)

@@ -1,0 +1,4 @@
+use Rattle.arena_rule.proofs.laws.held_blocks_are_unnamed.Goals as goal
+
+pub returns : goal.returns
+returns c s a id v h x r seat held n = ?
