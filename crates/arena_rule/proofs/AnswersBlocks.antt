@@ -1,5 +1,5 @@
 -- What is answered at a link, at a header or move word, and to a Claim.
-use Rattle.std.proofs.Common.{◌≡◌, ◌≢◌, ◌⊎◌, ℕ, ◌+◌, ◌*◌, ◌<◌, ◌≤◌, Bool, true, false, cond, List, [], ◌∷◌, Option, Some, None, refl, sym, ap, ◌∙◌, subst, ⊎_elim, inl, inr, arith}
+use Rattle.std.proofs.Common.{◌≡◌, ◌≢◌, ◌⊎◌, ℕ, ◌+◌, ◌<◌, ◌≤◌, Bool, true, false, cond, List, [], ◌∷◌, Option, Some, refl, sym, ap, ◌∙◌, subst, ⊎_elim, inl, inr, arith}
 use Rattle.std.specs.Prelude.{◌==◌, slice_index, sum_by}
 use Rattle.std.proofs.lemmas.Bool.{cases_eq}
 use mathlib.Core.Option.{some}
@@ -20,7 +20,7 @@ use Rattle.arena_rule.specs.Parts.{held_at, full_width, width_of}
 use Rattle.arena_rule.specs.Rule.{IsState}
 use Rattle.arena_rule.proofs.Before.{Before}
 use Rattle.arena_rule.proofs.Totals.{total_at, total_le}
-use Rattle.arena_rule.proofs.Within.{known-linked, known-node}
+use Rattle.arena_rule.proofs.Within.{known-linked}
 use Rattle.arena_rule.proofs.Frames.{claimed-low, claimed-one, held-clear, in-range, next-area}
 
 in-cover : (ls : List LinkedBlock) (c : LinkedBlock) (i : ℕ) → In c ls → covers i c ≡ true → 0 < cover i ls

@@ -1,5 +1,5 @@
 -- Where a step writes, and which words it leaves alone.
-use Rattle.std.proofs.Common.{◌≡◌, ◌≢◌, ◌⊎◌, ℕ, zero, suc, ◌+◌, ◌*◌, ◌<◌, ◌≤◌, Bool, true, false, cond, List, [], ◌∷◌, ◌++◌, length, set, get_or, Option, Some, None, refl, sym, ap, ◌∙◌, subst, ⊎_elim, inl, inr, arith, get_or-set_same, get_or-set_other}
+use Rattle.std.proofs.Common.{◌≡◌, ◌≢◌, ◌⊎◌, ℕ, zero, suc, ◌+◌, ◌*◌, ◌<◌, ◌≤◌, Bool, true, false, cond, List, [], ◌∷◌, ◌++◌, length, set, Option, Some, None, refl, sym, ap, ◌∙◌, subst, ⊎_elim, inl, inr, arith, get_or-set_same, get_or-set_other}
 use Rattle.std.specs.Prelude.{slice_index, slice_get, nat_lt, nat_le, ◌&&◌, sum_by}
 use Rattle.std.proofs.lemmas.List.{set-get_or}
 use Rattle.std.proofs.lemmas.Option.{none-some, same_Some}
@@ -25,9 +25,9 @@ use Rattle.tree_words.proofs.NodeLaws.{node-lies, nodes-apart, stays-clear}
 use Rattle.arena_rule.specs.Views.{SeatView, Flight}
 use Rattle.arena_rule.specs.Adds.{CountAdd, Gathered, seen_adds, node_adds, adds_up, walk_adds}
 use Rattle.arena_rule.specs.Lookups.{is_held}
-use Rattle.arena_rule.specs.Fits.{FitsStep, FitsWrite, FitsPublish, FitsAdd, FitsNote, IsNext, IsNextAdd, MayBegin}
+use Rattle.arena_rule.specs.Fits.{FitsStep, FitsWrite, FitsPublish, FitsAdd, FitsNote, IsNext}
 use Rattle.arena_rule.specs.Afters.{word_of, put}
-use Rattle.arena_rule.specs.Parts.{held_at, is_claimed}
+use Rattle.arena_rule.specs.Parts.{held_at}
 use Rattle.arena_rule.specs.Rule.{words_after}
 use Rattle.arena_rule.proofs.Before.{Before}
 use Rattle.arena_rule.proofs.Totals.{total_at, total_two}
