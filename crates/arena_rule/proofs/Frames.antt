@@ -87,7 +87,7 @@ pub walk-words : (s : Setting) (bs : List LinkedBlock) (k leaf n : ℕ) (a : Cou
 unfolding walk_adds
 walk-words s bs k leaf n a g e = adds-words s (outcome_of s k (node_state s bs leaf)) bs leaf g n a e
 
-claimed-low : (low next end i : ℕ) → 0 < one_if (nat_le low i && (nat_lt i next && nat_lt i end)) → (low ≤ i) × (i < next) × (i < end)
+pub claimed-low : (low next end i : ℕ) → 0 < one_if (nat_le low i && (nat_lt i next && nat_lt i end)) → (low ≤ i) × (i < next) × (i < end)
 claimed-low low next end i h = grind (arith, nat_tests)
 
 pub claimed-one : (low next end i : ℕ) → one_if (nat_le low i && (nat_lt i next && nat_lt i end)) ≤ 1
