@@ -85,12 +85,12 @@ pub sums-first : (s : Setting) (views : List SeatView) → IsSetting s → AreFi
 sums-first s views setting first =
     let none : (w : ℕ) → sum_by (amount_counted s (opening_blocks s) w) views ≡ 0
     = λ w. total_none (amount_counted s (opening_blocks s) w) views (λ j v e.
-        let f = first.each j v e in
-        omega (
-          arith,
-          ap (amount_recorded s (opening_blocks s) w) f.1.walks,
-          ap (λ (t : Option ℕ). amount_at w (adds_made s (opening_blocks s) t v.adds)) f.1.ticket,
-        )) in
+    let f = first.each j v e in
+    omega (
+      arith,
+      ap (amount_recorded s (opening_blocks s) w) f.1.walks,
+      ap (λ (t : Option ℕ). amount_at w (adds_made s (opening_blocks s) t v.adds)) f.1.ticket,
+    )) in
     record {
       tallies = λ x n. opening-blank s x 2 setting n (omega arith) (omega arith) ∙ sym (none (x + 2));
       seen = λ x n ne. opening-blank s x 3 setting n (omega arith) (omega arith) ∙ sym (none (x + 3));
