@@ -358,8 +358,8 @@ module _ (s : Setting) (bs : List LinkedBlock) (order : InOrder (root_at s) bs) 
   pub seen-amount : (c : LinkedBlock) (x : ℕ) → In c bs → has c x ≡ true
       → amount_at (x + SEEN_WORD) (walk_adds s bs k leaf)
       ≡ cond (enters s bs c leaf)
-          (cond (has_cell (stones_of (outcome_of s k (node_state s bs leaf)).full (mover_of s bs x)) (cell_at c (place c x))) (amount_of (is_same (outcome_of s k (node_state s bs leaf)).winner (mover_of s bs x))) 0)
-          0
+      (cond (has_cell (stones_of (outcome_of s k (node_state s bs leaf)).full (mover_of s bs x)) (cell_at c (place c x))) (amount_of (is_same (outcome_of s k (node_state s bs leaf)).winner (mover_of s bs x))) 0)
+      0
   unfolding walk_adds
   seen-amount c x i h = seen-up s (outcome_of s k (node_state s bs leaf)) c x h bs leaf order i
 

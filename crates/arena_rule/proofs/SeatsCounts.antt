@@ -1,12 +1,11 @@
 -- A split and a join keep Sums, and the opening words have them.
-use Rattle.std.proofs.Common.{◌≡◌, ◌≢◌, ◌⊎◌, ℕ, ◌+◌, ◌-◌, ◌*◌, ◌<◌, ◌≤◌, Bool, true, false, cond, List, [], ◌∷◌, ◌++◌, length, Option, Some, None, refl, sym, ap, ◌∙◌, ⊎_elim, arith}
+use Rattle.std.proofs.Common.{◌≡◌, ◌⊎◌, ℕ, ◌+◌, ◌-◌, ◌*◌, ◌<◌, ◌≤◌, Bool, true, false, cond, List, Option, None, refl, sym, ap, ◌∙◌, ⊎_elim, arith}
 use Rattle.std.specs.Prelude.{◌==◌, ◌&&◌, slice_index, sum_by}
 use Rattle.std.proofs.lemmas.List.Sums.{sum_by-append}
 use Rattle.tree_words.specs.Settings.{Setting, IsSetting}
-use Rattle.tree_words.specs.Words.{root_at, area_at, end_of, leaf_in}
+use Rattle.tree_words.specs.Words.{root_at, leaf_in}
 use Rattle.tree_words.specs.Blocks.{LinkedBlock, size, covers, has, is_node, stays, header_or_move}
-use Rattle.tree_words.specs.Opening.{root_block, opening_word, opening_words}
-use Rattle.tree_words.specs.declared.layout.TheConstants.{SEEN_WORD}
+use Rattle.tree_words.specs.Opening.{root_block, opening_words}
 use Rattle.tree_words.proofs.BlockLaws.{eq_of, other_is, either_true, covers_of, has-at}
 use Rattle.tree_words.proofs.Down.{never}
 use Rattle.tree_words.proofs.GameLaws.{root_node}
@@ -86,12 +85,12 @@ pub sums-first : (s : Setting) (views : List SeatView) → IsSetting s → AreFi
 sums-first s views setting first =
     let none : (w : ℕ) → sum_by (amount_counted s (opening_blocks s) w) views ≡ 0
     = λ w. total_none (amount_counted s (opening_blocks s) w) views (λ j v e.
-        let f = first.each j v e in
-        omega (
-          arith,
-          ap (amount_recorded s (opening_blocks s) w) f.1.walks,
-          ap (λ (t : Option ℕ). amount_at w (adds_made s (opening_blocks s) t v.adds)) f.1.ticket,
-        )) in
+    let f = first.each j v e in
+    omega (
+      arith,
+      ap (amount_recorded s (opening_blocks s) w) f.1.walks,
+      ap (λ (t : Option ℕ). amount_at w (adds_made s (opening_blocks s) t v.adds)) f.1.ticket,
+    )) in
     record {
       tallies = λ x n. opening-blank s x 2 setting n (omega arith) (omega arith) ∙ sym (none (x + 2));
       seen = λ x n ne. opening-blank s x 3 setting n (omega arith) (omega arith) ∙ sym (none (x + 3));

@@ -69,7 +69,7 @@ module _ (s : Setting) (bs : List LinkedBlock) (order : InOrder (root_at s) bs) 
   counted-linked w u h =
       let walks : amount_recorded s (c ∷ bs) w u.walks ≡ amount_recorded s bs w u.walks
       = walks-same (λ q. amount_at w (walk_adds s (c ∷ bs) q.number (leaf_in q.value))) (λ q. amount_at w (walk_adds s bs q.number (leaf_in q.value))) u.walks
-          (λ q d. ap (amount_at w) (adds-linked s bs order q.number (leaf_in q.value) c f (h.walks q d))) in
+      (λ q d. ap (amount_at w) (adds-linked s bs order q.number (leaf_in q.value) c f (h.walks q d))) in
       let made : adds_made s (c ∷ bs) u.ticket u.adds ≡ adds_made s bs u.ticket u.adds
       = made-same s (c ∷ bs) bs u.ticket u.adds (λ k g t a. adds-linked s bs order k g.leaf c f (h.flight k g t a)) in
       λ i. walks i + amount_at w (made i)
@@ -201,7 +201,7 @@ module _ (bs : List LinkedBlock) (words : List ℕ) (views : List SeatView) (id 
       let is : leaf_in value ≡ leaf = ap leaf_in fits.value ∙ leaf-recorded leaf (outcome_of v.shape k (node_state v.shape v.known leaf)).winner in
       let made : adds_made v.shape bs v.ticket v.adds ≡ walk_adds v.shape bs k (leaf_in value)
       = (λ i. adds_made v.shape bs (fits.ticket i) (fits.adds i)) ∙ take_all fits.flight.made (walk_adds v.shape bs k leaf) (omega (arith, fits.all, ap length same))
-          ∙ ap (walk_adds v.shape bs k) (sym is) in
+      ∙ ap (walk_adds v.shape bs k) (sym is) in
       sums-frame (Note k value) fits tt
       (λ w. omega (arith, ap (amount_at w) made, sum_by-cons (λ (p : Walked). amount_at w (walk_adds v.shape bs p.number (leaf_in p.value))) q v.walks))
 
@@ -264,11 +264,11 @@ module _ (bs : List LinkedBlock) (words : List ℕ) (views : List SeatView) (id 
       let is : x + i ≡ fits.block.start + j = omega (arith, p.2, fits.start) in
       let inside : j < fits.block.size = omega (arith, p.1, many, fits.may.fits) in
       let mine : is_held v.held (x + i) ≡ true = ap (λ (o : Option HeldBlock). is_held o (x + i)) fits.held
-          ∙ in-range fits.block.start fits.block.size (x + i) (omega (arith, is)) (omega (arith, is, inside)) in
+      ∙ in-range fits.block.start fits.block.size (x + i) (omega (arith, is)) (omega (arith, is, inside)) in
       let node = publish-word bs words views id v b l c fits in
       let far : slice_index (words_after words (Publish l c)) (x + i) ≡ slice_index words (x + i)
       = get_or-set_other words l (x + i) (put (Publish l c) (slice_index words l)) 0
-          (λ e. held-node bs words views id v b id v node.0 1 b.at node.1 (omega arith) (ap (is_held v.held) (sym node.2 ∙ sym e) ∙ mine)) in
+      (λ e. held-node bs words views id v b id v node.0 1 b.at node.1 (omega arith) (ap (is_held v.held) (sym node.2 ∙ sym e) ∙ mine)) in
       far ∙ ap (slice_index words) is ∙ held.each j inside ∙ ap (λ (ws : List ℕ). slice_index ws j) fits.written
       ∙ blank-word d j (omega (arith, p.1)) (stays-not p.0 i (omega arith) high)
 
