@@ -21,13 +21,7 @@ use Rattle.arena_rule.specs.Rule.{IsState}
 use Rattle.arena_rule.proofs.Before.{Before}
 use Rattle.arena_rule.proofs.Totals.{total_at, total_le}
 use Rattle.arena_rule.proofs.Within.{known-linked}
-use Rattle.arena_rule.proofs.Frames.{claimed-low, claimed-one, held-clear, in-range, next-area}
-
-in-cover : (ls : List LinkedBlock) (c : LinkedBlock) (i : ℕ) → In c ls → covers i c ≡ true → 0 < cover i ls
-in-cover [] c i n h = absurd n
-in-cover (d ∷ ls) c i n h = ⊎_elim
-    (λ (e : c ≡ d). omega (arith, cover-cons i d ls, ap one_if (ap (covers i) (sym e) ∙ h)))
-    (λ (m : In c ls). omega (arith, cover-cons i d ls, in-cover ls c i m h)) n
+use Rattle.arena_rule.proofs.Frames.{claimed-low, claimed-one, held-clear, in-cover, in-range, next-area}
 
 -- blocks that have no word i
 cover-none : (ks : List LinkedBlock) (i : ℕ) → ((c : LinkedBlock) → In c ks → covers i c ≢ true) → cover i ks ≡ 0

@@ -87,6 +87,7 @@ pub walk-words : (s : Setting) (bs : List LinkedBlock) (k leaf n : ℕ) (a : Cou
 unfolding walk_adds
 walk-words s bs k leaf n a g e = adds-words s (outcome_of s k (node_state s bs leaf)) bs leaf g n a e
 
+-- a claimed word
 pub claimed-low : (low next end i : ℕ) → 0 < one_if (nat_le low i && (nat_lt i next && nat_lt i end)) → (low ≤ i) × (i < next) × (i < end)
 claimed-low low next end i h = grind (arith, nat_tests)
 
@@ -96,11 +97,19 @@ claimed-one low next end i = grind (arith, nat_tests)
 pub in-range : (a s i : ℕ) → a ≤ i → i < a + s → (nat_le a i && nat_lt i (a + s)) ≡ true
 in-range a s i l h = grind (arith, nat_tests)
 
--- the step is no Publish, and no Add
+-- a word of one of the blocks is covered
+pub in-cover : (bs : List LinkedBlock) (c : LinkedBlock) (i : ℕ) → In c bs → covers i c ≡ true → 0 < cover i bs
+in-cover [] c i n h = absurd n
+in-cover (d ∷ bs) c i n h = ⊎_elim
+    (λ (e : c ≡ d). omega (arith, cover-cons i d bs, ap one_if (ap (covers i) (sym e) ∙ h)))
+    (λ (m : In c bs). omega (arith, cover-cons i d bs, in-cover bs c i m h)) n
+
+-- the step is no Publish
 abbrev pub IsNoPublish : Op → Type 0
 IsNoPublish (Publish l c) = ⊥
 IsNoPublish op = Unit {0}
 
+-- the step is no Add
 abbrev pub IsNoAdd : Op → Type 0
 IsNoAdd (Add i won) = ⊥
 IsNoAdd op = Unit {0}
@@ -140,6 +149,7 @@ module _ (bs : List LinkedBlock) (words : List ℕ) (views : List SeatView) (id 
       (λ (q : 0 < cover (x + i) bs). absurd (omega arith))
       (node-cover (root_at v.shape) bs x i n l)
 
+  -- a Write changes a word that the view holds
   pub write-word : (i : ℕ) → FitsWrite v i → (is_held v.held i ≡ true) × (area_at v.shape ≤ i) × (i < end_of v.shape)
   write-word i fits =
       let left = fits.left in
@@ -148,9 +158,11 @@ module _ (bs : List LinkedBlock) (words : List ℕ) (views : List SeatView) (id 
       let t = held-claimed id v i b.at h in
       (h, t.0, t.2)
 
+  -- a Publish changes the link of a node
   pub publish-word : (l c : ℕ) → FitsPublish v l c → (x : ℕ) × (is_node (root_at v.shape) bs x ≡ true) × (l ≡ x + 1)
   publish-word l c fits = (fits.node, known-node bs words views id v b id v fits.node b.at fits.may.known, fits.link)
 
+  -- an Add changes a tally, or a seen word that is not the root's
   flight-word : (k : ℕ) (f : Option Flight) (a : CountAdd) → v.ticket ≡ Some k → v.adds ≡ f → IsNext v k f a → IsCount (root_at v.shape) bs a.word
   flight-word k None a t d n =
       let may = n.2 in
@@ -162,6 +174,7 @@ module _ (bs : List LinkedBlock) (words : List ℕ) (views : List SeatView) (id 
   pub add-word : (a : CountAdd) → FitsAdd v a → IsCount (root_at v.shape) bs a.word
   add-word a fits = flight-word fits.number v.adds a fits.ticket refl fits.next
 
+  -- so they change no word before the root, and a Note no other
   pub write-high : (i : ℕ) → FitsWrite v i → root_at v.shape ≤ i
   write-high i fits = let t = write-word i fits in let low = t.1 in omega arith
 
@@ -215,12 +228,6 @@ module _ (bs : List LinkedBlock) (words : List ℕ) (views : List SeatView) (id 
     where
       block-low : (c : LinkedBlock) → In c bs → area_at v.shape ≤ c.start
       block-low c n = (whole-in v.shape (next_in words) bs c b.state.linked.blocks.order b.state.linked.blocks.complete n).inside.0
-
-      in-cover : (ls : List LinkedBlock) (d : LinkedBlock) (i : ℕ) → In d ls → covers i d ≡ true → 0 < cover i ls
-      in-cover [] d i n h = absurd n
-      in-cover (a ∷ ls) d i n h = ⊎_elim
-          (λ (e : d ≡ a). omega (arith, cover-cons i a ls, ap one_if (ap (covers i) (sym e) ∙ h)))
-          (λ (m : In d ls). omega (arith, cover-cons i a ls, in-cover ls d i m h)) n
 
   -- and the root's move word
   pub root-stays : (op : Op) → FitsStep v op → slice_index (words_after words op) (root_at v.shape) ≡ slice_index words (root_at v.shape)
