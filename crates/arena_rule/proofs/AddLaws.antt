@@ -1,7 +1,8 @@
 -- What the adds of a walk add to the tallies and to the seen words of the nodes.
 use Rattle.std.proofs.Common.{◌≡◌, ◌≢◌, ◌⊎◌, ℕ, zero, suc, ◌+◌, ◌*◌, ◌<◌, ◌≤◌, Bool, true, false, cond, List, [], ◌∷◌, ◌++◌, length, get_or, take, Some, refl, sym, ap, ◌∙◌, subst, ⊎_elim, arith}
-use Rattle.std.specs.Prelude.{◌==◌, ◌||◌, ◌&&◌, count_by, slice_get}
-use Rattle.std.proofs.lemmas.List.Sums.{sum_by-cons}
+use Rattle.std.specs.Prelude.{◌==◌, ◌||◌, ◌&&◌, count_by, sum_by, slice_get}
+use Rattle.std.proofs.lemmas.List.Sums.{sum_by-cons, sum_by_more, sum_by_more_le, sum_by-take-le, sum_by-le-sum_by}
+use Rattle.std.proofs.lemmas.Option.{slice_get_within, get_or_from_slice_get}
 use Rattle.std.specs.List.{list_any}
 use Rattle.hex_cells.specs.Sets.{has as has_cell}
 use Rattle.hex_cells.specs.Colours.{other_of}
@@ -28,17 +29,24 @@ pub amount-append : (w : ℕ) (a b : List CountAdd) → amount_at w (a ++ b) ≡
 amount-append w [] b = omega arith
 amount-append w (x ∷ xs) b = omega (arith, amount-append w xs b)
 
+-- what one add adds to the word
+abbrev amount_here : ℕ → CountAdd → ℕ
+amount_here w a = cond (a.word == w) (amount_of a.won) 0
+
+amount-sum : (w : ℕ) (adds : List CountAdd) → amount_at w adds ≡ sum_by (amount_here w) adds
+amount-sum w [] = refl
+amount-sum w (a ∷ adds) = omega (arith, amount-sum w adds, sum_by-cons (amount_here w) a adds)
+
 -- one add more
 pub amount-next : (w made : ℕ) (adds : List CountAdd) (a : CountAdd) → slice_get adds made ≡ Some a → amount_at w (take (made + 1) adds) ≡ amount_at w (take made adds) + cond (a.word == w) (amount_of a.won) 0
-amount-next w made adds a e = (let q : made + 1 ≡ suc made = omega arith in ap (λ (n : ℕ). amount_at w (take n adds)) q) ∙ at made adds e
-  where
-    some_is : (x a : CountAdd) → Some x ≡ Some a → x ≡ a
-    some_is x a e = cc
-
-    at : (made : ℕ) (adds : List CountAdd) → slice_get adds made ≡ Some a → amount_at w (take (suc made) adds) ≡ amount_at w (take made adds) + cond (a.word == w) (amount_of a.won) 0
-    at made [] e = absurd (cc)
-    at zero (x ∷ xs) e = ap (λ (o : CountAdd). cond (o.word == w) (amount_of o.won) 0 + 0) (some_is x a e) ∙ omega arith
-    at (suc made) (x ∷ xs) e = omega (arith, at made xs e)
+amount-next w made adds a e =
+    omega (
+      arith,
+      amount-sum w (take (made + 1) adds),
+      amount-sum w (take made adds),
+      sum_by_more (amount_here w) adds made a (slice_get_within adds made a e),
+      ap (amount_here w) (get_or_from_slice_get adds made a a e),
+    )
 
 -- how many of the adds to a word are wins
 abbrev pub wins_added : ℕ → List CountAdd → ℕ
@@ -62,15 +70,7 @@ amount-parts w (a ∷ adds) =
     by false u = refl
 
 pub wins-less : (w : ℕ) (adds : List CountAdd) → wins_added w adds ≤ adds_in w adds
-wins-less w [] = omega arith
-wins-less w (a ∷ adds) =
-    omega (
-      arith,
-      by (a.word == w) a.won,
-      wins-less w adds,
-      sum_by-cons (λ (o : CountAdd). cond (o.word == w) 1 0) a adds,
-      sum_by-cons (λ (o : CountAdd). cond ((o.word == w) && o.won) 1 0) a adds,
-    )
+wins-less w adds = sum_by-le-sum_by (λ (a : CountAdd). cond ((a.word == w) && a.won) 1 0) (λ a. cond (a.word == w) 1 0) adds (λ a. by (a.word == w) a.won)
   where
     by : (t u : Bool) → cond (t && u) 1 0 ≤ cond t 1 0
     by true true = omega arith
@@ -79,29 +79,12 @@ wins-less w (a ∷ adds) =
 
 -- the adds before one of them are fewer
 pub adds-before : (w made : ℕ) (adds : List CountAdd) (a : CountAdd) → slice_get adds made ≡ Some a → adds_in w (take made adds) + cond (a.word == w) 1 0 ≤ adds_in w adds
-adds-before w made [] a e = absurd (cc)
-adds-before w zero (x ∷ xs) a e = omega (arith, sum_by-cons (λ (o : CountAdd). cond (o.word == w) 1 0) x xs, ap {B = ℕ} (λ (o : CountAdd). cond (o.word == w) 1 0) (some_is x a e))
-  where
-    some_is : (x a : CountAdd) → Some x ≡ Some a → x ≡ a
-    some_is x a e = cc
-adds-before w (suc made) (x ∷ xs) a e =
-    omega (
-      arith,
-      sum_by-cons (λ (o : CountAdd). cond (o.word == w) 1 0) x (take made xs),
-      sum_by-cons (λ (o : CountAdd). cond (o.word == w) 1 0) x xs,
-      adds-before w made xs a e,
-    )
+adds-before w made adds a e =
+    let one : CountAdd → ℕ = λ o. cond (o.word == w) 1 0 in
+    omega (arith, sum_by_more_le one adds made a (slice_get_within adds made a e), ap one (get_or_from_slice_get adds made a a e))
 
 pub adds-take : (w n : ℕ) (adds : List CountAdd) → adds_in w (take n adds) ≤ adds_in w adds
-adds-take w zero adds = omega arith
-adds-take w (suc n) [] = omega arith
-adds-take w (suc n) (x ∷ xs) =
-    omega (
-      arith,
-      sum_by-cons (λ (o : CountAdd). cond (o.word == w) 1 0) x (take n xs),
-      sum_by-cons (λ (o : CountAdd). cond (o.word == w) 1 0) x xs,
-      adds-take w n xs,
-    )
+adds-take w n adds = sum_by-take-le (λ (a : CountAdd). cond (a.word == w) 1 0) adds n
 
 -- an amount of one visit or of none is that of one add or of none
 one-add : (t u : Bool) (n m : ℕ) → cond t (amount_of u) 0 ≡ VISIT * n + m → m ≤ n → n ≡ cond t 1 0
