@@ -31,8 +31,10 @@ use Rattle.arena_rule.proofs.Totals.{total_at, total_add}
 use Rattle.arena_rule.proofs.Numbers.{has_number, holds_ticket, walks_of, few}
 use Rattle.arena_rule.proofs.Within.{known-node, known-adds}
 use Rattle.arena_rule.proofs.Frames.{add-word}
-use Rattle.arena_rule.proofs.AddLaws.{wins_added, amount-parts, wins-less, adds-before, adds-take, tally-adds, seen-adds}
-use Rattle.arena_rule.proofs.SumsLaw.{NextAdd, next-add, walks-same, made-same}
+use Rattle.arena_rule.proofs.Amounts.{wins_added, amount-parts, wins-less, adds-before, adds-take}
+use Rattle.arena_rule.proofs.AddLaws.{tally-adds, seen-adds}
+use Rattle.arena_rule.proofs.SumsLinked.{walks-same, made-same}
+use Rattle.arena_rule.proofs.SumsLaw.{NextAdd, next-add}
 
 module _ {A : Type 0} where
   -- a sum of words that have visits and wins
