@@ -1,7 +1,6 @@
 -- What the adds of a walk add to the tallies and to the seen words of the nodes.
-use Rattle.std.proofs.Common.{◌≡◌, ◌≢◌, ◌⊎◌, ℕ, zero, suc, ◌+◌, ◌*◌, ◌<◌, ◌≤◌, Bool, true, false, cond, List, [], ◌∷◌, ◌++◌, length, get_or, take, Some, refl, sym, ap, ◌∙◌, subst, ⊎_elim, arith}
-use Rattle.std.specs.Prelude.{◌==◌, ◌||◌, ◌&&◌, count_by, slice_get}
-use Rattle.std.proofs.lemmas.List.Sums.{sum_by-cons}
+use Rattle.std.proofs.Common.{◌≡◌, ◌≢◌, ◌⊎◌, ℕ, ◌+◌, ◌*◌, ◌<◌, Bool, true, false, cond, List, [], ◌∷◌, length, refl, sym, ap, ◌∙◌, subst, ⊎_elim, arith}
+use Rattle.std.specs.Prelude.{◌==◌, ◌||◌, ◌&&◌}
 use Rattle.std.specs.List.{list_any}
 use Rattle.hex_cells.specs.Sets.{has as has_cell}
 use Rattle.hex_cells.specs.Colours.{other_of}
@@ -14,8 +13,8 @@ use Rattle.tree_words.specs.Words.{root_at}
 use Rattle.tree_words.specs.Blocks.{LinkedBlock, one_if, has, place, cell_at, covers, cover, is_node, In, InOrder, Follows}
 use Rattle.tree_words.specs.Paths.{NodeState, root_state, state_after, mover_at, node_state, mover_of, path_of, is_on, enters}
 use Rattle.tree_words.specs.Sequence.{Outcome, outcome_of, amount_of}
-use Rattle.tree_words.specs.declared.layout.TheConstants.{TALLY_WORD, SEEN_WORD, VISIT}
-use Rattle.tree_words.proofs.BlockLaws.{eq_of, same_is, other_is, bool_is, either_true, apart, has-at, has-covers, covers_of, covers_if, cover-cons, node-apart, up_same}
+use Rattle.tree_words.specs.declared.layout.TheConstants.{TALLY_WORD, SEEN_WORD}
+use Rattle.tree_words.proofs.BlockLaws.{eq_of, same_is, bool_is, either_true, apart, has-at, has-covers, covers_of, covers_if, cover-cons, node-apart, up_same}
 use Rattle.tree_words.proofs.Down.{not_both, never}
 use Rattle.tree_words.proofs.GameLaws.{spot-same, in-node}
 use Rattle.tree_words.proofs.Adds.{is_child}
@@ -23,147 +22,7 @@ use Rattle.tree_words.proofs.Climbs.{or_first}
 use Rattle.tree_words.proofs.Tallies.{path-clear}
 use Rattle.arena_rule.specs.Adds.{CountAdd, Gathered, seen_adds, root_adds, node_adds, adds_up, walk_adds, amount_at}
 use Rattle.arena_rule.specs.Lookups.{adds_in}
-
-pub amount-append : (w : ℕ) (a b : List CountAdd) → amount_at w (a ++ b) ≡ amount_at w a + amount_at w b
-amount-append w [] b = omega arith
-amount-append w (x ∷ xs) b = omega (arith, amount-append w xs b)
-
--- one add more
-pub amount-next : (w made : ℕ) (adds : List CountAdd) (a : CountAdd) → slice_get adds made ≡ Some a → amount_at w (take (made + 1) adds) ≡ amount_at w (take made adds) + cond (a.word == w) (amount_of a.won) 0
-amount-next w made adds a e = (let q : made + 1 ≡ suc made = omega arith in ap (λ (n : ℕ). amount_at w (take n adds)) q) ∙ at made adds e
-  where
-    some_is : (x a : CountAdd) → Some x ≡ Some a → x ≡ a
-    some_is x a e = cc
-
-    at : (made : ℕ) (adds : List CountAdd) → slice_get adds made ≡ Some a → amount_at w (take (suc made) adds) ≡ amount_at w (take made adds) + cond (a.word == w) (amount_of a.won) 0
-    at made [] e = absurd (cc)
-    at zero (x ∷ xs) e = ap (λ (o : CountAdd). cond (o.word == w) (amount_of o.won) 0 + 0) (some_is x a e) ∙ omega arith
-    at (suc made) (x ∷ xs) e = omega (arith, at made xs e)
-
--- how many of the adds to a word are wins
-abbrev pub wins_added : ℕ → List CountAdd → ℕ
-wins_added w adds = count_by (λ a. (a.word == w) && a.won) adds
-
--- an amount has the number of adds as its visits, and the wins among them as its wins
-pub amount-parts : (w : ℕ) (adds : List CountAdd) → amount_at w adds ≡ VISIT * adds_in w adds + wins_added w adds
-amount-parts w [] = refl
-amount-parts w (a ∷ adds) =
-    omega (
-      arith,
-      by (a.word == w) a.won,
-      amount-parts w adds,
-      sum_by-cons (λ (o : CountAdd). cond (o.word == w) 1 0) a adds,
-      sum_by-cons (λ (o : CountAdd). cond ((o.word == w) && o.won) 1 0) a adds,
-    )
-  where
-    by : (t u : Bool) → cond t (amount_of u) 0 ≡ VISIT * cond t 1 0 + cond (t && u) 1 0
-    by true true = refl
-    by true false = refl
-    by false u = refl
-
-pub wins-less : (w : ℕ) (adds : List CountAdd) → wins_added w adds ≤ adds_in w adds
-wins-less w [] = omega arith
-wins-less w (a ∷ adds) =
-    omega (
-      arith,
-      by (a.word == w) a.won,
-      wins-less w adds,
-      sum_by-cons (λ (o : CountAdd). cond (o.word == w) 1 0) a adds,
-      sum_by-cons (λ (o : CountAdd). cond ((o.word == w) && o.won) 1 0) a adds,
-    )
-  where
-    by : (t u : Bool) → cond (t && u) 1 0 ≤ cond t 1 0
-    by true true = omega arith
-    by true false = omega arith
-    by false u = omega arith
-
--- the adds before one of them are fewer
-pub adds-before : (w made : ℕ) (adds : List CountAdd) (a : CountAdd) → slice_get adds made ≡ Some a → adds_in w (take made adds) + cond (a.word == w) 1 0 ≤ adds_in w adds
-adds-before w made [] a e = absurd (cc)
-adds-before w zero (x ∷ xs) a e = omega (arith, sum_by-cons (λ (o : CountAdd). cond (o.word == w) 1 0) x xs, ap {B = ℕ} (λ (o : CountAdd). cond (o.word == w) 1 0) (some_is x a e))
-  where
-    some_is : (x a : CountAdd) → Some x ≡ Some a → x ≡ a
-    some_is x a e = cc
-adds-before w (suc made) (x ∷ xs) a e =
-    omega (
-      arith,
-      sum_by-cons (λ (o : CountAdd). cond (o.word == w) 1 0) x (take made xs),
-      sum_by-cons (λ (o : CountAdd). cond (o.word == w) 1 0) x xs,
-      adds-before w made xs a e,
-    )
-
-pub adds-take : (w n : ℕ) (adds : List CountAdd) → adds_in w (take n adds) ≤ adds_in w adds
-adds-take w zero adds = omega arith
-adds-take w (suc n) [] = omega arith
-adds-take w (suc n) (x ∷ xs) =
-    omega (
-      arith,
-      sum_by-cons (λ (o : CountAdd). cond (o.word == w) 1 0) x (take n xs),
-      sum_by-cons (λ (o : CountAdd). cond (o.word == w) 1 0) x xs,
-      adds-take w n xs,
-    )
-
--- an amount of one visit or of none is that of one add or of none
-one-add : (t u : Bool) (n m : ℕ) → cond t (amount_of u) 0 ≡ VISIT * n + m → m ≤ n → n ≡ cond t 1 0
-one-add true true n m e l = omega (arith, e)
-one-add true false n m e l = omega (arith, e)
-one-add false u n m e l = omega (arith, e)
-
--- an add of another word
-miss : (a w : ℕ) (won : Bool) → a ≢ w → cond (a == w) (amount_of won) 0 ≡ 0
-miss a w won ne = ap (λ (t : Bool). cond t (amount_of won) 0) (other_is a w ne)
-
--- and of this one
-hit : (a w : ℕ) (won : Bool) → a ≡ w → cond (a == w) (amount_of won) 0 ≡ amount_of won
-hit a w won e = ap (λ (t : Bool). cond t (amount_of won) 0) (same_is a w e)
-
-seen-cons : (w set : ℕ) (won : Bool) (y c : ℕ) (cells : List ℕ) → amount_at w (seen_adds set won y (c ∷ cells))
-    ≡ cond (has_cell set c) (cond (y + SEEN_WORD == w) (amount_of won) 0) 0 + amount_at w (seen_adds set won (y + 4) cells)
-seen-cons w set won y c cells = by (has_cell set c)
-  where
-    by : (t : Bool) → amount_at w (cond t (record { word = y + SEEN_WORD; won = won } ∷ seen_adds set won (y + 4) cells) (seen_adds set won (y + 4) cells))
-        ≡ cond t (cond (y + SEEN_WORD == w) (amount_of won) 0) 0 + amount_at w (seen_adds set won (y + 4) cells)
-    by true = refl
-    by false = omega arith
-
-if_none : (t : Bool) (n : ℕ) → n ≡ 0 → cond t n 0 ≡ 0
-if_none true n e = e
-if_none false n e = refl
-
--- a word that is no seen word of the block
-seen-none : (w set : ℕ) (won : Bool) (y : ℕ) (cells : List ℕ) → ((j : ℕ) → j < length cells → y + 4 * j + SEEN_WORD ≢ w) → amount_at w (seen_adds set won y cells) ≡ 0
-seen-none w set won y [] h = refl
-seen-none w set won y (c ∷ cells) h =
-    omega (
-      arith,
-      seen-cons w set won y c cells,
-      if_none (has_cell set c) (cond (y + SEEN_WORD == w) (amount_of won) 0) (miss (y + SEEN_WORD) w won (λ e. h 0 (omega arith) (omega (arith, e)))),
-      seen-none w set won (y + 4) cells (λ j l e. h (suc j) (omega arith) (omega (arith, e))),
-    )
-
--- the seen word of the node of place i
-seen-hit : (set : ℕ) (won : Bool) (y i : ℕ) (cells : List ℕ) → i < length cells → amount_at (y + 4 * i + SEEN_WORD) (seen_adds set won y cells) ≡ cond (has_cell set (get_or cells i 0)) (amount_of won) 0
-seen-hit set won y i [] l = absurd (omega arith)
-seen-hit set won y zero (c ∷ cells) l =
-    let e : y + 4 * zero + SEEN_WORD ≡ y + SEEN_WORD = omega arith in
-    ap (λ (n : ℕ). amount_at n (seen_adds set won y (c ∷ cells))) e
-    ∙ omega (
-      arith,
-      seen-cons (y + SEEN_WORD) set won y c cells,
-      ap (λ (n : ℕ). cond (has_cell set c) n 0) (hit (y + SEEN_WORD) (y + SEEN_WORD) won refl),
-      seen-none (y + SEEN_WORD) set won (y + 4) cells (λ j l e. omega (arith, e)),
-    )
-seen-hit set won y (suc i) (c ∷ cells) l =
-    let w : ℕ = y + 4 * suc i + SEEN_WORD in
-    let v : ℕ = y + 4 + 4 * i + SEEN_WORD in
-    let e : w ≡ v = omega arith in
-    omega (
-      arith,
-      seen-cons w set won y c cells,
-      if_none (has_cell set c) (cond (y + SEEN_WORD == w) (amount_of won) 0) (miss (y + SEEN_WORD) w won (λ q. omega (arith, q))),
-      ap (λ (n : ℕ). amount_at n (seen_adds set won (y + 4) cells)) e,
-      seen-hit set won (y + 4) i cells (omega arith),
-    )
+use Rattle.arena_rule.proofs.Amounts.{amount-append, amount-parts, wins_added, wins-less, one-add, miss, hit, seen-none, seen-hit}
 
 -- the seen words of a block lie in it
 seen-covers : (b : LinkedBlock) (j : ℕ) → j < length b.cells → covers (b.start + 4 + 4 * j + SEEN_WORD) b ≡ true

@@ -3,7 +3,7 @@
 use Rattle.std.proofs.Common.{◌≡◌, ◌≢◌, ◌⊎◌, ℕ, zero, suc, ◌+◌, ◌*◌, ◌<◌, ◌≤◌, Bool, true, false, cond, List, [], ◌∷◌, length, take, Option, Some, None, refl, sym, ap, ◌∙◌, subst, ⊎_elim, arith}
 use Rattle.std.specs.Prelude.{◌==◌, ◌&&◌, slice_index, sum_by}
 use Rattle.std.specs.List.{list_any}
-use Rattle.std.proofs.lemmas.List.Sums.{sum_by-cons}
+use Rattle.std.proofs.lemmas.List.Sums.{sum_by-cons, sum_by-le-sum_by}
 use mathlib.Core.Option.{some, some-injective, some-ne-none}
 use mathlib.Core.Logic.{dite}
 use native.Mathlib.Decide.{ℕ_discrete}
@@ -31,18 +31,16 @@ use Rattle.arena_rule.proofs.Totals.{total_at, total_add}
 use Rattle.arena_rule.proofs.Numbers.{has_number, holds_ticket, walks_of, few}
 use Rattle.arena_rule.proofs.Within.{known-node, known-adds}
 use Rattle.arena_rule.proofs.Frames.{add-word}
-use Rattle.arena_rule.proofs.AddLaws.{wins_added, amount-parts, wins-less, adds-before, adds-take, tally-adds, seen-adds}
-use Rattle.arena_rule.proofs.SumsLaw.{NextAdd, next-add, walks-same, made-same}
+use Rattle.arena_rule.proofs.Amounts.{wins_added, amount-parts, wins-less, adds-before, adds-take}
+use Rattle.arena_rule.proofs.AddLaws.{tally-adds, seen-adds}
+use Rattle.arena_rule.proofs.SumsLinked.{walks-same, made-same}
+use Rattle.arena_rule.proofs.SumsLaw.{NextAdd, next-add}
 
 module _ {A : Type 0} where
   -- a sum of words that have visits and wins
   sum-parts : (f g h : A → ℕ) (l : List A) → ((x : A) → h x ≡ VISIT * f x + g x) → sum_by h l ≡ VISIT * sum_by f l + sum_by g l
   sum-parts f g h [] e = refl
   sum-parts f g h (x ∷ xs) e = omega (arith, sum_by-cons f x xs, sum_by-cons g x xs, sum_by-cons h x xs, e x, sum-parts f g h xs e)
-
-  sum-less : (f g : A → ℕ) (l : List A) → ((x : A) → f x ≤ g x) → sum_by f l ≤ sum_by g l
-  sum-less f g [] e = omega arith
-  sum-less f g (x ∷ xs) e = omega (arith, sum_by-cons f x xs, sum_by-cons g x xs, e x, sum-less f g xs e)
 
   -- a sum of which no summand is more than one
   sum-ones : (f : A → ℕ) (l : List A) → ((x : A) → f x ≤ 1) → sum_by f l ≤ length l
@@ -52,7 +50,7 @@ module _ {A : Type 0} where
   -- one summand is less
   sum-below : (f g : A → ℕ) (l : List A) (i : ℕ) (v : A) → get_elem? l i ≡ some v → ((x : A) → f x ≤ g x) → f v < g v → sum_by f l < sum_by g l
   sum-below f g [] i v e h l = absurd (some-ne-none v (sym e))
-  sum-below f g (x ∷ xs) zero v e h l = let q : x ≡ v = some-injective x v e in omega (arith, sum_by-cons f x xs, sum_by-cons g x xs, ap f q, ap g q, sum-less f g xs h)
+  sum-below f g (x ∷ xs) zero v e h l = let q : x ≡ v = some-injective x v e in omega (arith, sum_by-cons f x xs, sum_by-cons g x xs, ap f q, ap g q, sum_by-le-sum_by f g xs h)
   sum-below f g (x ∷ xs) (suc i) v e h l = omega (arith, sum_by-cons f x xs, sum_by-cons g x xs, h x, sum-below f g xs i v e h l)
 
 module _ (s : Setting) (bs : List LinkedBlock) (w : ℕ) where
@@ -76,7 +74,7 @@ module _ (s : Setting) (bs : List LinkedBlock) (w : ℕ) where
   wins-fewer u =
       omega (
         arith,
-        sum-less (λ q. wins_added w (walk_adds s bs q.number (leaf_in q.value))) (λ q. adds_in w (walk_adds s bs q.number (leaf_in q.value))) u.walks (λ q. wins-less w (walk_adds s bs q.number (leaf_in q.value))),
+        sum_by-le-sum_by (λ q. wins_added w (walk_adds s bs q.number (leaf_in q.value))) (λ q. adds_in w (walk_adds s bs q.number (leaf_in q.value))) u.walks (λ q. wins-less w (walk_adds s bs q.number (leaf_in q.value))),
         wins-less w (adds_made s bs u.ticket u.adds),
       )
 
@@ -123,11 +121,11 @@ module _ (bs : List LinkedBlock) (words : List ℕ) (views : List SeatView) (id 
       let visits : ℕ = sum_by (adds_counted v.shape bs w) views in
       let wins : ℕ = sum_by (wins_counted v.shape bs w) views in
       let parts : n ≡ VISIT * visits + wins = e ∙ sum-parts (adds_counted v.shape bs w) (wins_counted v.shape bs w) (amount_counted v.shape bs w) views (counted-parts v.shape bs w) in
-      let fewer : wins ≤ visits = sum-less (wins_counted v.shape bs w) (adds_counted v.shape bs w) views (wins-fewer v.shape bs w) in
+      let fewer : wins ≤ visits = sum_by-le-sum_by (wins_counted v.shape bs w) (adds_counted v.shape bs w) views (wins-fewer v.shape bs w) in
       let most : visits ≤ v.shape.knobs.playouts
       = omega (
         arith,
-        sum-less (adds_counted v.shape bs w) (λ u. walks_of u + holds_ticket u) views (λ u. counted-few v.shape bs w u h),
+        sum_by-le-sum_by (adds_counted v.shape bs w) (λ u. walks_of u + holds_ticket u) views (λ u. counted-few v.shape bs w u h),
         total_add walks_of holds_ticket views,
         few bs words views id v b,
       ) in

@@ -6,6 +6,7 @@ pub mod Below
 pub mod ByNumber
 pub mod Within
 pub mod Frames
+pub mod Amounts
 pub mod AddLaws
 pub mod Linking
 pub mod Apart
@@ -21,6 +22,7 @@ pub mod Sole
 pub mod SeatsNumbers
 pub mod AnswersNumbers
 pub mod Firsts
+pub mod SumsLinked
 pub mod SumsLaw
 pub mod SeatsCounts
 pub mod AnswersCounts
