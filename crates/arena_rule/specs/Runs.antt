@@ -1,32 +1,37 @@
 -- Runs: lists of steps, splits and joins of the seats of one tree.
-use Rattle.std.specs.Prelude.{◌≡◌, ◌≢◌, ℕ, ◌<◌, List, [], ◌∷◌, slice_index}
+use Rattle.std.specs.Prelude.{◌≡◌, ◌≢◌, ℕ, ◌<◌, List, [], ◌∷◌, slice_index, replicate}
 use mathlib.Core.Option.{some}
 use lib.ListN.{get_elem?}
 use Rattle.tree_words.specs.declared.steps.Op.{Op}
-use Rattle.arena_rule.specs.Views.{SeatView}
+use Rattle.tree_words.specs.Settings.{Setting}
+use Rattle.tree_words.specs.Opening.{opening_words}
+use Rattle.arena_rule.specs.Views.{SeatView, new_view, opening_view}
 use Rattle.arena_rule.specs.Fits.{FitsStep, CanSplit, CanJoin}
 use Rattle.arena_rule.specs.Afters.{word_of, answer_of}
-use Rattle.arena_rule.specs.Rule.{words_after, views_after, views_split, views_joined}
+use Rattle.arena_rule.specs.Answers.{MayAnswer}
+use Rattle.arena_rule.specs.Rule.{Rule, words_after, views_after, views_split, views_joined}
 
 -- the words, and the view of each seat
 pub record Arena : Type 0 where
   pub words : List ℕ
   pub views : List SeatView
 
+-- the arena rule holds of the arena
+abbrev pub Holds : Setting → Arena → Type 0
+Holds s a = Rule s a.words a.views
+
+-- the arena at the beginning: the opening words, with the opening view, or with K views of width 1
+abbrev pub opening_arena : Setting → Arena
+opening_arena s = record { words = opening_words s; views = opening_view s ∷ [] }
+
+abbrev pub workers_arena : Setting → Arena
+workers_arena s =
+    record { words = opening_words s; views = replicate s.knobs.workers (new_view s 1 []) }
+
 -- the seat has this view, which is not spent
 pub record IsSeat (views : List SeatView) (id : ℕ) (v : SeatView) : Type 0 where
   pub at : get_elem? views id ≡ some v
   pub live : 0 < v.width
-
--- what a step answers in the arena
-abbrev pub found_by : Arena → Op → ℕ
-found_by a op = answer_of op (slice_index a.words (word_of op))
-
--- an event: a seat makes a step, or splits off a part of its width, or is joined with another seat
-pub data Event : Type 0 where
-  acts : ℕ → Op → Event
-  splits : ℕ → ℕ → Event
-  joins : ℕ → ℕ → Event
 
 -- after a step of the seat, after its split, and after its join
 abbrev pub arena_after : Arena → ℕ → SeatView → Op → Arena
@@ -38,6 +43,26 @@ arena_split a id v part = record { words = a.words; views = views_split a.views 
 
 abbrev pub arena_joined : Arena → ℕ → SeatView → ℕ → SeatView → Arena
 arena_joined a id v other w = record { words = a.words; views = views_joined a.views id v other w }
+
+-- what a step answers in the arena
+abbrev pub found_by : Arena → Op → ℕ
+found_by a op = answer_of op (slice_index a.words (word_of op))
+
+-- a step that fits the view of any seat keeps the rule
+abbrev pub StepsKeep : Setting → Arena → Type 0
+StepsKeep s a = (id : ℕ) (v : SeatView) (op : Op) → IsSeat a.views id v → FitsStep v op
+    → Holds s (arena_after a id v op)
+
+-- and its answer is one that it may give
+abbrev pub StepsMayAnswer : Arena → Type 0
+StepsMayAnswer a = (id : ℕ) (v : SeatView) (op : Op) → IsSeat a.views id v → FitsStep v op
+    → MayAnswer v op (found_by a op)
+
+-- an event: a seat makes a step, or splits off a part of its width, or is joined with another seat
+pub data Event : Type 0 where
+  acts : ℕ → Op → Event
+  splits : ℕ → ℕ → Event
+  joins : ℕ → ℕ → Event
 
 -- the seat's view fits the step, and `after` is what stands after it
 pub record Acts (a : Arena) (id : ℕ) (op : Op) (after : Arena) : Type 0 where

@@ -2,7 +2,7 @@ use Rattle.arena_rule.proofs.ViewStays.{view-stays, kept-stays, given-stays, joi
 use Rattle.arena_rule.proofs.laws.views_stay_in_order.Goals as goal
 
 pub returns-clause-step : goal.returns-clause-step
-returns-clause-step c v op x iv fits a = view-stays v iv op x fits a
+returns-clause-step c v iv op x fits a = view-stays v iv op x fits a
 
 pub returns-clause-kept : goal.returns-clause-kept
 returns-clause-kept c v part iv can = kept-stays v iv part can
