@@ -8,13 +8,8 @@ use Rattle.tree_words.specs.Settings.{Setting, IsSetting}
 use Rattle.tree_words.specs.Opening.{opening_words}
 use Rattle.arena_rule.specs.Views.{SeatView, HasDrawnNothing, new_view, opening_view}
 use Rattle.arena_rule.specs.Parts.{Each, width_of}
+use Rattle.arena_rule.proofs.Options.{none-some, some-eq}
 use Rattle.arena_rule.proofs.Before.{AreFirst}
-
-none-some : {A : Type 0} {x : A} → None ≡ Some x → ⊥
-none-some e = cc
-
-some-eq : {A : Type 0} {x y : A} → Some x ≡ Some y → x ≡ y
-some-eq e = cc
 
 -- a view with nothing drawn, known or loaded
 abbrev IsNew : Setting → SeatView → Type 0

@@ -18,6 +18,7 @@ use Rattle.arena_rule.specs.Fits.{FitsStep, FitsDraw, FitsClaim, FitsWrite, Fits
 use Rattle.arena_rule.specs.Afters.{word_of, put, answer_of, after, drew, claimed_at, with_word, looked, wrote, published, added_at, noted, flight_after, node_of_link}
 use Rattle.arena_rule.specs.Parts.{Each, IsFlying, HasInHand, InHand}
 use Rattle.arena_rule.specs.Rule.{words_after, views_after}
+use Rattle.arena_rule.proofs.Options.{none-some, some-eq}
 use Rattle.arena_rule.proofs.Before.{Before, blocks_after}
 use Rattle.arena_rule.proofs.Totals.{each-set}
 use Rattle.arena_rule.proofs.Changes.{drew_cases, claimed_cases, drew_same, claimed_same}
@@ -25,12 +26,6 @@ use Rattle.arena_rule.proofs.Numbers.{contains-cons, leaf-recorded}
 use Rattle.arena_rule.proofs.Reach.{IsHigh, low-same}
 use Rattle.arena_rule.proofs.Within.{within-adds}
 use Rattle.arena_rule.proofs.KnownMore.{known-more}
-
-none-some : {A : Type 0} {x : A} → None ≡ Some x → ⊥
-none-some e = cc
-
-some-eq : {A : Type 0} {x y : A} → Some x ≡ Some y → x ≡ y
-some-eq e = cc
 
 get-length : {A : Type 0} (l : List A) (i : ℕ) (a : A) → slice_get l i ≡ Some a → i < length l
 get-length [] i a e = absurd (none-some e)

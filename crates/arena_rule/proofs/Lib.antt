@@ -1,3 +1,4 @@
+pub mod Options
 pub mod Before
 pub mod Totals
 pub mod Changes
@@ -27,5 +28,6 @@ pub mod SumsLaw
 pub mod SeatsCounts
 pub mod AnswersCounts
 pub mod ViewStays
+pub mod ViewSeats
 pub mod Law
 pub mod RunLaws

@@ -3,6 +3,7 @@ use Rattle.std.proofs.Common.{◌≡◌, ◌≢◌, ◌⊎◌, ℕ, zero, suc, �
 use Rattle.std.specs.Prelude.{◌==◌, ◌&&◌, ◌||◌, nat_lt, nat_le, slice_index, sum_by, Contains}
 use mathlib.Core.Option.{some}
 use lib.ListN.{get_elem?}
+use Rattle.std.proofs.lemmas.Bool.{or_right}
 use Rattle.std.proofs.lemmas.Bool.Decides.{nat_tests}
 use Rattle.tree_words.specs.Settings.{Setting, IsSetting}
 use Rattle.tree_words.specs.Words.{root_at, area_at, end_of, ticket_in, next_in, record_in, leaf_in}
@@ -21,31 +22,25 @@ use Rattle.arena_rule.specs.Fits.{CanSplit, CanJoin}
 use Rattle.arena_rule.specs.Afters.{kept_part, given_part, joined}
 use Rattle.arena_rule.specs.Parts.{Each, HasWidth, Widths, width_of, ended_of, full_width, Tickets, IsRight, times_drawn, value_noted, in_hand, HasInHand, InHand}
 use Rattle.arena_rule.specs.Rule.{views_split, views_joined}
+use Rattle.arena_rule.proofs.Options.{none-some}
 use Rattle.arena_rule.proofs.Before.{Before, Other, AreFirst, opening_blocks}
 use Rattle.arena_rule.proofs.Totals.{total_set, total_at, total_two, total_none, total_split, total_join, each-set, each-split, each-join}
 use Rattle.arena_rule.proofs.Numbers.{times_walked, value_walked, walked-append, value-append, contains-append, due}
 
-none-some : {A : Type 0} {x : A} → None ≡ Some x → ⊥
-none-some e = cc
-
 no-walk : (w : Walked) → Contains [] w → ⊥
 no-walk w c = let l = c.1 in omega (arith, l)
-
-or-true : (a c : Bool) → c ≡ true → (a || c) ≡ true
-or-true true c e = refl
-or-true false c e = e
 
 -- a node of either of two lists of blocks
 pub node-first : (r : ℕ) (ks ls : List LinkedBlock) (x : ℕ) → is_node r ks x ≡ true → is_node r (ks ++ ls) x ≡ true
 node-first r [] ls x n = subst (λ (y : ℕ). is_node r ls y ≡ true) (sym (eq_of x r n)) (root_node r ls)
 node-first r (k ∷ ks) ls x n = ⊎_elim
     (λ (h : has k x ≡ true). ap (λ (t : Bool). t || is_node r (ks ++ ls) x) h)
-    (λ (h : is_node r ks x ≡ true). or-true (has k x) (is_node r (ks ++ ls) x) (node-first r ks ls x h))
+    (λ (h : is_node r ks x ≡ true). or_right (has k x) (is_node r (ks ++ ls) x) (node-first r ks ls x h))
     (either_true (has k x) (is_node r ks x) n)
 
 pub node-second : (r : ℕ) (ks ls : List LinkedBlock) (x : ℕ) → is_node r ls x ≡ true → is_node r (ks ++ ls) x ≡ true
 node-second r [] ls x n = n
-node-second r (k ∷ ks) ls x n = or-true (has k x) (is_node r (ks ++ ls) x) (node-second r ks ls x n)
+node-second r (k ∷ ks) ls x n = or_right (has k x) (is_node r (ks ++ ls) x) (node-second r ks ls x n)
 
 module _ (bs : List LinkedBlock) (words : List ℕ) (views : List SeatView) (id : ℕ) (v : SeatView) (b : Before bs words views id v) where
   shape : (j : ℕ) (u : SeatView) → get_elem? views j ≡ some u → u.shape ≡ v.shape

@@ -15,14 +15,9 @@ use Rattle.arena_rule.specs.Fits.{FitsStep, CanSplit}
 use Rattle.arena_rule.specs.Afters.{word_of, put, answer_of, after, kept_part, given_part, joined}
 use Rattle.arena_rule.specs.Parts.{Sole}
 use Rattle.arena_rule.specs.Rule.{words_after, views_after, views_split, views_joined}
+use Rattle.arena_rule.proofs.Options.{none-some, some-eq}
 use Rattle.arena_rule.proofs.Before.{Before, Other, AreFirst}
 use Rattle.arena_rule.proofs.Changes.{whole-after, put-answered}
-
-none_some : {xs : List ℕ} → None ≡ Some xs → ⊥
-none_some m = cc
-
-some_eq : {xs ys : List ℕ} → Some xs ≡ Some ys → xs ≡ ys
-some_eq m = cc
 
 module _ (bs : List LinkedBlock) (words : List ℕ) (views : List SeatView) (id : ℕ) (v : SeatView) (b : Before bs words views id v) where
   -- only the seat that steps can have a copy of the words
@@ -32,10 +27,10 @@ module _ (bs : List LinkedBlock) (words : List ℕ) (views : List SeatView) (id 
   -- the seat's copy gets the new value of the word
   kept : (u : SeatView) (i w n : ℕ) (copy : List ℕ) (o : Option (List ℕ)) → v.whole ≡ o → option_map (λ ws. set ws w n) o ≡ Some copy → i ≡ id
       → (set words w n ≡ copy) × ((j : ℕ) (other : SeatView) → get_elem? (set views id u) j ≡ some other → j ≢ i → other.width ≡ 0)
-  kept u i w n copy None q m here = absurd (none_some m)
+  kept u i w n copy None q m here = absurd (none-some m)
   kept u i w n copy (Some old) q m here =
       let was = b.state.sole id v old b.at q in (
-        ap (λ (ws : List ℕ). set ws w n) was.0 ∙ some_eq m,
+        ap (λ (ws : List ℕ). set ws w n) was.0 ∙ some-eq m,
         λ j other f ne. was.1 j other (sym (set_else views id j u (λ z. ne (z ∙ sym here))) ∙ f) (λ z. ne (z ∙ sym here)),
       )
 
@@ -55,18 +50,18 @@ module _ (bs : List LinkedBlock) (words : List ℕ) (views : List SeatView) (id 
   unfolding kept_part
   sole-split part can i u copy e w = ⊎_elim
       (λ (t : get_elem? (set views id (kept_part v part)) i ≡ some u). ⊎_elim
-      (λ (q : (i ≡ id) × (kept_part v part ≡ u)). absurd (none_some (ap (λ (z : SeatView). z.whole) q.1 ∙ w)))
+      (λ (q : (i ≡ id) × (kept_part v part ≡ u)). absurd (none-some (ap (λ (z : SeatView). z.whole) q.1 ∙ w)))
       (λ (q : (i ≢ id) × (get_elem? views i ≡ some u)). absurd (mine i u copy q.0 q.1 w))
       (at_set views id i (kept_part v part) u t))
-      (λ (t : given_part v part ≡ u). absurd (none_some (ap (λ (z : SeatView). z.whole) t ∙ w)))
+      (λ (t : given_part v part ≡ u). absurd (none-some (ap (λ (z : SeatView). z.whole) t ∙ w)))
       (at_snoc (set views id (kept_part v part)) (given_part v part) u i e)
 
   pub sole-join : (other : ℕ) (w : SeatView) → Other views id v other w → Sole words (views_joined views id v other w)
   unfolding joined
   sole-join other w o i u copy e m = ⊎_elim
-      (λ (t : (i ≡ other) × (spent_view v.shape ≡ u)). absurd (none_some (ap (λ (z : SeatView). z.whole) t.1 ∙ m)))
+      (λ (t : (i ≡ other) × (spent_view v.shape ≡ u)). absurd (none-some (ap (λ (z : SeatView). z.whole) t.1 ∙ m)))
       (λ (t : (i ≢ other) × (get_elem? (set views id (joined v w)) i ≡ some u)). ⊎_elim
-      (λ (q : (i ≡ id) × (joined v w ≡ u)). absurd (none_some (ap (λ (z : SeatView). z.whole) q.1 ∙ m)))
+      (λ (q : (i ≡ id) × (joined v w ≡ u)). absurd (none-some (ap (λ (z : SeatView). z.whole) q.1 ∙ m)))
       (λ (q : (i ≢ id) × (get_elem? views i ≡ some u)). absurd (mine i u copy q.0 q.1 m))
       (at_set views id i (joined v w) u t.1))
       (at_set (set views id (joined v w)) other i (spent_view v.shape) u e)

@@ -1,4 +1,4 @@
--- A step whose answer may be given keeps a view in order, and so do a split and a join.
+-- A step whose answer may be given keeps a view in order.
 use Rattle.std.proofs.Common.{◌≡◌, ◌≢◌, ◌⊎◌, ℕ, zero, suc, ◌+◌, ◌-◌, ◌*◌, ◌<◌, ◌≤◌, Bool, true, false, cond, List, [], ◌∷◌, ◌++◌, length, Option, Some, None, refl, sym, ap, ◌∙◌, subst, ⊎_elim, inl, inr, arith}
 use Rattle.std.specs.Prelude.{◌==◌, ◌&&◌, ◌||◌, not, nat_le, nat_lt, option_map}
 use Rattle.std.proofs.lemmas.Bool.Decides.{nat_tests}
@@ -11,7 +11,7 @@ use Rattle.play_out.specs.Fills.{empties_of}
 use Rattle.tree_words.specs.Told.{told_block}
 use Rattle.tree_words.specs.declared.steps.Op.{Op}
 use Rattle.tree_words.specs.declared.steps.Op.TheVariants.{Draw, Look, Claim, Write, Publish, Add, Note, Done}
-use Rattle.tree_words.proofs.BlockLaws.{bool_is, eq_of, le_of, lt_of, true_both, covers_of, covers_if, cover-cons, has-at, not_both, other_is, either_true}
+use Rattle.tree_words.proofs.BlockLaws.{bool_is, eq_of, le_of, lt_of, true_both, covers_of, covers_if, cover-cons, has-at, not_both, other_is, same_is, either_true}
 use Rattle.arena_rule.specs.Views.{SeatView, HeldBlock, Flight, HasEnded}
 use Rattle.arena_rule.specs.Lookups.{is_known, known_link, told_below, is_held, empties_at}
 use Rattle.arena_rule.specs.Fits.{FitsStep, FitsDraw, FitsClaim, FitsWrite, FitsPublish, FitsAdd, FitsNote, IsNext, CanSplit, CanJoin}
@@ -19,14 +19,11 @@ use Rattle.arena_rule.specs.Afters.{word_of, put, after, drew, looked, claimed_a
 use Rattle.arena_rule.specs.Answers.{MayAnswer, AnswersLook, AnswersClaim, AnswersPublish, AnswersLink, MayLieBelow}
 use Rattle.arena_rule.specs.IsView.{IsTold, AreTold, IsJoined, IsView}
 use Rattle.arena_rule.proofs.Changes.{drew_cases, claimed_cases, drew_same, claimed_same}
-use Rattle.arena_rule.proofs.KnownMore.{known-more}
+use Rattle.tree_words.proofs.Down.{not_both as truth}
+use Rattle.arena_rule.proofs.Options.{none-some, some-eq, false-true}
+use Rattle.arena_rule.proofs.Apart.{told-size}
+use Rattle.arena_rule.proofs.KnownMore.{Grows, known_cases, known-more}
 use Rattle.arena_rule.proofs.SeatsNumbers.{node-first}
-
-none-some : {A : Type 0} {x : A} → None ≡ Some x → ⊥
-none-some e = cc
-
-some-eq : {A : Type 0} {x y : A} → Some x ≡ Some y → x ≡ y
-some-eq e = cc
 
 -- no node begins at 0
 zero-no-node : (n : ℕ) (ks : List LinkedBlock) → is_node (n + 2) ks 0 ≡ true → ⊥
@@ -47,56 +44,22 @@ record KnownStays (v : SeatView) (ks : List LinkedBlock) : Type 0 where
 
 module _ (v : SeatView) (iv : IsView v) where
   known-stays : (x b : ℕ) → (is_known v x ≡ true → known_link v x ≡ 0 → b ≢ 0 → MayBeKnown v x b) → KnownStays v (known_after v x b)
-  unfolding known_after
-  known-stays x b may = by (is_known v x && (known_link v x == 0 && not (b == 0))) refl
-    where
-      grows : is_known v x ≡ true → MayBeKnown v x b → known_link v x ≡ 0 → KnownStays v (told_below v x b ∷ v.known)
-      grows n m z = record {
-        told = (record { parent = n; told = refl; inside = (m.1, m.2) }, iv.known);
+  known-stays x b may = ⊎_elim
+      (λ (g : Grows v x b). let m = may g.known g.vacant g.some in subst (KnownStays v) (sym g.is) (record {
+        told = (record { parent = g.known; told = refl; inside = (m.1, m.2) }, iv.known);
         order = ⊎_elim (λ (j : IsJoined v). inl j)
-            (λ (o : InOrder (root_at v.shape) v.known). inr (record { parent = n; vacant = z; above = m.0; clear = m.3; root = omega (arith, m.1) }, o))
+            (λ (o : InOrder (root_at v.shape) v.known). inr (record { parent = g.known; vacant = g.vacant; above = m.0; clear = m.3; root = omega (arith, m.1) }, o))
             iv.order;
-      }
-
-      not-zero : (t : Bool) → not t ≡ true → t ≡ false
-      not-zero true e = sym e
-      not-zero false e = refl
-
-      differs : (n : ℕ) → (n == 0) ≡ false → n ≢ 0
-      differs n e q = clash (n == 0) (ap (λ (m : ℕ). m == 0) q) e
-        where
-          clash : (t : Bool) → t ≡ true → t ≡ false → ⊥
-          clash t c d = cc
-
-      by : (t : Bool) → (is_known v x && (known_link v x == 0 && not (b == 0))) ≡ t → KnownStays v (cond t (told_below v x b ∷ v.known) v.known)
-      by true e =
-          let p = true_both (is_known v x) (known_link v x == 0 && not (b == 0)) e in
-          let q = true_both (known_link v x == 0) (not (b == 0)) p.1 in
-          let z : known_link v x ≡ 0 = eq_of (known_link v x) 0 q.0 in
-          grows p.0 (may p.0 z (differs b (not-zero (b == 0) q.1))) z
-      by false e = record { told = iv.known; order = iv.order }
+      }))
+      (λ (e : known_after v x b ≡ v.known). subst (KnownStays v) (sym e) (record { told = iv.known; order = iv.order }))
+      (known_cases v x b)
 
   -- a word that no known block has, and that the new one has not
   still-apart : (x b i : ℕ) → (is_known v x ≡ true → known_link v x ≡ 0 → b ≢ 0 → covers i (told_below v x b) ≡ false) → cover i v.known ≡ 0 → cover i (known_after v x b) ≡ 0
-  unfolding known_after
-  still-apart x b i out z = by (is_known v x && (known_link v x == 0 && not (b == 0))) refl
-    where
-      not-zero : (t : Bool) → not t ≡ true → t ≡ false
-      not-zero true e = sym e
-      not-zero false e = refl
-
-      differs : (n : ℕ) → (n == 0) ≡ false → n ≢ 0
-      differs n e q = clash (n == 0) (ap (λ (m : ℕ). m == 0) q) e
-        where
-          clash : (t : Bool) → t ≡ true → t ≡ false → ⊥
-          clash t c d = cc
-
-      by : (t : Bool) → (is_known v x && (known_link v x == 0 && not (b == 0))) ≡ t → cover i (cond t (told_below v x b ∷ v.known) v.known) ≡ 0
-      by true e =
-          let p = true_both (is_known v x) (known_link v x == 0 && not (b == 0)) e in
-          let q = true_both (known_link v x == 0) (not (b == 0)) p.1 in
-          omega (arith, z, cover-cons i (told_below v x b) v.known, ap one_if (out p.0 (eq_of (known_link v x) 0 q.0) (differs b (not-zero (b == 0) q.1))))
-      by false e = z
+  still-apart x b i out z = ⊎_elim
+      (λ (g : Grows v x b). ap (cover i) g.is ∙ omega (arith, z, cover-cons i (told_below v x b) v.known, ap one_if (out g.known g.vacant g.some)))
+      (λ (e : known_after v x b ≡ v.known). ap (cover i) e ∙ z)
+      (known_cases v x b)
 
   -- what a link answers
   link-may : (x b : ℕ) → AnswersLink v x b → known_link v x ≡ 0 → b ≢ 0 → MayLieBelow v x b
@@ -134,19 +97,13 @@ module _ (v : SeatView) (iv : IsView v) where
       stays (after v (Look i) n) refl refl refl
       (known-stays x n (λ k z ne. link-known x n (link-may x n (link k) z ne)))
       iv.ticket iv.held
-      (λ j h. still-apart x n j (λ k z ne. not_both (covers j (told_below v x n)) (λ c. clash (is_held v.held j) h ((link-may x n (link k) z ne).held j c))) (iv.apart j h))
+      (λ j h. still-apart x n j (λ k z ne. not_both (covers j (told_below v x n)) (λ c. truth (is_held v.held j) h ((link-may x n (link k) z ne).held j c))) (iv.apart j h))
       (λ f e. known-more v x n f.leaf (iv.leaf f e))
     where
       at : (i : ℕ) → is_known v (i - 1) ≡ true → i ≡ (i - 1) + 1
       at zero k = absurd (zero-no-node v.shape.knobs.playouts v.known k)
       at (suc i) k = omega arith
 
-      clash : (t : Bool) → t ≡ true → t ≡ false → ⊥
-      clash t c d = cc
-
-  -- the told block below a node other than the root has as many nodes as the board has empty cells
-  told-size : (x b : ℕ) → x ≢ root_at v.shape → size (told_below v x b) ≡ words_of (empties_at v x)
-  told-size x b ne = ap (λ (t : Bool). words_of (length (cond t (allowed_cells v.shape) (empties_of (board_of v.shape v.known x))))) (other_is x (root_at v.shape) ne)
 
   stays-publish : (l c n : ℕ) → FitsPublish v l c → AnswersPublish v l n → IsView (after v (Publish l c) n)
   unfolding with_word published
@@ -154,26 +111,17 @@ module _ (v : SeatView) (iv : IsView v) where
       let x : ℕ = fits.node in
       let at : node_of_link l ≡ x = omega (arith, fits.link) in
       let link : AnswersLink v x n = a x fits.may.known fits.link in
-      let may : (t : Bool) → (n == 0) ≡ t → MayBeKnown v x (cond t c n) = elim [ true ↦ λ e. own | false ↦ λ e. link-known x n (link-may x n link fits.may.vacant (differs n e)) ] in
+      let may : (t : Bool) → (n == 0) ≡ t → MayBeKnown v x (cond t c n) = elim [ true ↦ λ e. own | false ↦ λ e. link-known x n (link-may x n link fits.may.vacant (λ z. truth (n == 0) (same_is n 0 z) e)) ] in
       let b : ℕ = cond (n == 0) c n in
       stays (after v (Publish l c) n) refl refl refl
       (subst (λ (y : ℕ). KnownStays v (known_after v y b)) (sym at) (known-stays x b (λ k z ne. may (n == 0) refl)))
-      iv.ticket (λ h e. absurd (none-some e)) (λ i h. absurd (no h)) (λ f e. known-more v (node_of_link l) b f.leaf (iv.leaf f e))
+      iv.ticket (λ h e. absurd (none-some e)) (λ i h. absurd (false-true h)) (λ f e. known-more v (node_of_link l) b f.leaf (iv.leaf f e))
     where
-      differs : (n : ℕ) → (n == 0) ≡ false → n ≢ 0
-      differs n e q = clash (n == 0) (ap (λ (m : ℕ). m == 0) q) e
-        where
-          clash : (t : Bool) → t ≡ true → t ≡ false → ⊥
-          clash t c d = cc
-
-      no : false ≡ true → ⊥
-      no e = cc
-
       own : MayBeKnown v fits.node c
       own =
           let x : ℕ = fits.node in
           let in_area = iv.held fits.block fits.held in
-          let wide : size (told_below v x c) ≡ fits.block.size = told-size x c fits.may.below ∙ sym fits.may.fits in (
+          let wide : size (told_below v x c) ≡ fits.block.size = told-size v x c fits.may.below ∙ sym fits.may.fits in (
             fits.above,
             omega (arith, in_area.0, fits.start),
             omega (arith, in_area.1, fits.start, wide),
@@ -207,12 +155,9 @@ module _ (v : SeatView) (iv : IsView v) where
             (λ (o : InOrder (root_at v.shape) v.known). inr (subst (λ (s : Setting). InOrder (root_at s) u.known) (sym sh) (subst (InOrder (root_at v.shape)) (sym kn) o))) iv.order;
         ticket = λ k e. subst (λ (s : Setting). k < s.knobs.playouts) (sym sh) (hand k e);
         held = λ h e. absurd (none-some (sym (he ∙ fits.held) ∙ e));
-        apart = λ i h. absurd (no (sym (ap (λ (o : Option HeldBlock). is_held o i) (he ∙ fits.held)) ∙ h));
+        apart = λ i h. absurd (false-true (sym (ap (λ (o : Option HeldBlock). is_held o i) (he ∙ fits.held)) ∙ h));
         leaf = λ f e. (λ i. is_node (root_at (sh i)) (kn i) f.leaf) ∙ iv.leaf f (sym ad ∙ e);
       }
-    where
-      no : false ≡ true → ⊥
-      no e = cc
 
   stays-claim : (s x : ℕ) → FitsClaim v s → AnswersClaim v x → IsView (after v (Claim s) x)
   unfolding with_word
@@ -240,12 +185,9 @@ module _ (v : SeatView) (iv : IsView v) where
       (λ (c : (x + s ≤ end_of v.shape) × (u.held ≡ Some block)).
       let in_block : (nat_le x i && nat_lt i (x + s)) ≡ true = sym (ap (λ (o : Option HeldBlock). is_held o i) c.1) ∙ h in
       ap (cover i) kn ∙ behind i (le_of x i (true_both (nat_le x i) (nat_lt i (x + s)) in_block).0) v.known a.behind)
-      (λ (c : u.held ≡ None). absurd (no (sym (ap (λ (o : Option HeldBlock). is_held o i) c) ∙ h))) cases)
+      (λ (c : u.held ≡ None). absurd (false-true (sym (ap (λ (o : Option HeldBlock). is_held o i) c) ∙ h))) cases)
       (λ f e. ap (λ (ks : List LinkedBlock). is_node (root_at v.shape) ks f.leaf) kn ∙ iv.leaf f (sym ad ∙ e))
     where
-      no : false ≡ true → ⊥
-      no e = cc
-
       behind : (i : ℕ) → x ≤ i → (ks : List LinkedBlock) → ((b : LinkedBlock) → In b ks → b.start + size b ≤ x) → cover i ks ≡ 0
       behind i l [] h = refl
       behind i l (b ∷ ks) h =
@@ -296,90 +238,3 @@ module _ (v : SeatView) (iv : IsView v) where
   view-stays (Add i won) x fits a = stays-add i won x fits
   view-stays (Note k n) x fits a = stays-note k n x fits
   view-stays Done x fits a = stays-done x
-
-  -- a split keeps both views in order
-  pub kept-stays : (part : ℕ) → CanSplit v part → IsView (kept_part v part)
-  unfolding kept_part
-  kept-stays part can = record {
-    setting = iv.setting;
-    width = omega (arith, can.kept);
-    known = iv.known;
-    order = ⊎_elim (λ (j : IsJoined v). absurd (let e = j.ended in let m = j.more in omega (arith, e, m, can.nothing.ended))) (λ (o : InOrder (root_at v.shape) v.known). inr o) iv.order;
-    ticket = iv.ticket;
-    held = iv.held;
-    apart = iv.apart;
-    leaf = iv.leaf;
-  }
-
-  pub given-stays : (part : ℕ) → CanSplit v part → IsView (given_part v part)
-  given-stays part can = record {
-    setting = iv.setting;
-    width = can.given;
-    known = iv.known;
-    order = ⊎_elim (λ (j : IsJoined v). absurd (let e = j.ended in let m = j.more in omega (arith, e, m, can.nothing.ended))) (λ (o : InOrder (root_at v.shape) v.known). inr o) iv.order;
-    ticket = λ k e. absurd (none-some e);
-    held = λ h e. absurd (none-some e);
-    apart = λ i h. absurd (no h);
-    leaf = λ f e. absurd (none-some e);
-  }
-    where
-      no : false ≡ true → ⊥
-      no e = cc
-
--- what is gathered at a node of some known blocks is gathered there over more blocks behind them
-module _ (s : Setting) (ls : List LinkedBlock) (told : AreTold s ls) where
-  -- no block of told ones has the root
-  root-out : (ls : List LinkedBlock) → AreTold s ls → {A : Type 0} (root : A) (step : LinkedBlock → ℕ → A → A) → up root step ls (root_at s) ≡ root
-  root-out [] t root step = refl
-  root-out (b ∷ ls) t root step =
-      let out : has b (root_at s) ≡ false = not_both (has b (root_at s)) (λ h. let q = has-at b (root_at s) h in let low = t.0.inside.0 in omega (arith, q.2, low)) in
-      ap (λ (c : Bool). cond c (step b (root_at s) (up root step ls b.parent)) (up root step ls (root_at s))) out ∙ root-out ls t.1 root step
-
-  behind-up : {A : Type 0} (root : A) (step : LinkedBlock → ℕ → A → A) (ks : List LinkedBlock) (x : ℕ) → AreTold s ks → is_node (root_at s) ks x ≡ true → up root step (ks ++ ls) x ≡ up root step ks x
-  behind-up root step [] x t n = ap (up root step ls) (eq_of x (root_at s) n) ∙ root-out ls told root step
-  behind-up root step (b ∷ ks) x t n = ⊎_elim
-      (λ (h : has b x ≡ true).
-      ap (λ (c : Bool). cond c (step b x (up root step (ks ++ ls) b.parent)) (up root step (ks ++ ls) x)) h
-      ∙ ap (step b x) (behind-up root step ks b.parent t.1 t.0.parent)
-      ∙ sym (ap (λ (c : Bool). cond c (step b x (up root step ks b.parent)) (up root step ks x)) h))
-      (λ (h : has b x ≡ false).
-      ap (λ (c : Bool). cond c (step b x (up root step (ks ++ ls) b.parent)) (up root step (ks ++ ls) x)) h
-      ∙ behind-up root step ks x t.1 (⊎_elim (λ (u : has b x ≡ true). absurd (clash (has b x) u h)) (λ (u : is_node (root_at s) ks x ≡ true). u) (either_true (has b x) (is_node (root_at s) ks x) n))
-      ∙ sym (ap (λ (c : Bool). cond c (step b x (up root step ks b.parent)) (up root step ks x)) h))
-      (bool_is (has b x))
-    where
-      clash : (t : Bool) → t ≡ true → t ≡ false → ⊥
-      clash t c d = cc
-
-  told-both : (ks : List LinkedBlock) → AreTold s ks → AreTold s (ks ++ ls)
-  told-both [] t = told
-  told-both (b ∷ ks) t =
-      let same : node_state s ks b.parent ≡ node_state s (ks ++ ls) b.parent
-      = sym (behind-up (root_state s) (λ c y above. state_after above (cell_at c (place c y))) ks b.parent t.1 t.0.parent) in (
-        record {
-          parent = node-first (root_at s) ks ls b.parent t.0.parent;
-          told = t.0.told ∙ ap (λ (p : NodeState). block_at p b.parent b.start) same;
-          inside = t.0.inside;
-        },
-        told-both ks t.1,
-      )
-    where
-      block_at : NodeState → ℕ → ℕ → LinkedBlock
-      block_at p x b = record { start = b; parent = x; empties = set_of (empties_of p.board); cells = cond (x == root_at s) (allowed_cells s) (empties_of p.board) }
-
--- a join keeps a view in order
-pub join-stays : (v w : SeatView) → IsView v → IsView w → w.shape ≡ v.shape → CanJoin v w → IsView (joined v w)
-unfolding joined
-join-stays v w iv iw same can = record {
-  setting = iv.setting;
-  width = omega (arith, iv.width);
-  known = told-both v.shape w.known (subst (λ (s : Setting). AreTold s w.known) same iw.known) v.known iv.known;
-  order = inl (record { ended = omega (arith, can.left, can.right); more = omega (arith, iv.width, iw.width) });
-  ticket = λ k e. absurd (none-some e);
-  held = λ h e. absurd (none-some e);
-  apart = λ i h. absurd (no h);
-  leaf = λ f e. absurd (none-some e);
-}
-  where
-    no : false ≡ true → ⊥
-    no e = cc

@@ -1,4 +1,5 @@
-use Rattle.arena_rule.proofs.ViewStays.{view-stays, kept-stays, given-stays, join-stays}
+use Rattle.arena_rule.proofs.ViewStays.{view-stays}
+use Rattle.arena_rule.proofs.ViewSeats.{kept-stays, given-stays, join-stays}
 use Rattle.arena_rule.proofs.laws.views_stay_in_order.Goals as goal
 
 pub returns-clause-step : goal.returns-clause-step
