@@ -1,13 +1,12 @@
 -- Each step keeps Fresh, Apart and Held.
-use Rattle.std.proofs.Common.{◌≡◌, ◌≢◌, ◌⊎◌, ℕ, zero, suc, ◌+◌, ◌*◌, ◌<◌, ◌≤◌, Bool, true, false, cond, List, [], ◌∷◌, ◌++◌, length, set, get_or, Option, Some, None, refl, sym, ap, ◌∙◌, subst, ⊎_elim, arith, length-append, get_or-set_same, get_or-set_other}
+use Rattle.std.proofs.Common.{◌≡◌, ◌≢◌, ◌⊎◌, ℕ, zero, suc, ◌+◌, ◌<◌, ◌≤◌, Bool, true, false, cond, List, [], ◌∷◌, ◌++◌, length, set, get_or, Option, Some, None, refl, sym, ap, ◌∙◌, subst, ⊎_elim, arith, length-append, get_or-set_same, get_or-set_other}
 use Rattle.std.specs.Prelude.{◌==◌, slice_index, sum_by, nat_lt, nat_le, ◌&&◌, option_map}
 use Rattle.std.proofs.lemmas.Bool.{cases_eq}
 use Rattle.std.proofs.lemmas.Bool.Decides.{nat_tests}
-use Rattle.std.proofs.lemmas.List.{get_or_past, set-get_or}
+use Rattle.std.proofs.lemmas.List.{set-get_or}
 use Rattle.std.proofs.lemmas.Option.{none-some, same_Some}
 use Rattle.std.proofs.Math.Seq.{get_or-append_seam}
 use mathlib.Core.Option.{some}
-use lib.ListN.{get_elem?}
 use Rattle.play_out.specs.Fills.{empties_of}
 use Rattle.tree_words.specs.Words.{root_at, area_at, end_of, next_in}
 use Rattle.tree_words.specs.Blocks.{LinkedBlock, one_if, covers, cover, size, words_of}
@@ -15,11 +14,11 @@ use Rattle.tree_words.specs.Paths.{board_of}
 use Rattle.tree_words.specs.Complete.{allowed_cells}
 use Rattle.tree_words.specs.declared.steps.Op.{Op}
 use Rattle.tree_words.specs.declared.steps.Op.TheVariants.{Draw, Look, Claim, Write, Publish, Add, Note, Done}
-use Rattle.tree_words.proofs.BlockLaws.{cover-cons, bool_is, eq_of, other_is}
+use Rattle.tree_words.proofs.BlockLaws.{cover-cons, other_is}
 use Rattle.arena_rule.specs.Views.{SeatView, HeldBlock}
 use Rattle.arena_rule.specs.Lookups.{is_held, told_below, empties_at}
 use Rattle.arena_rule.specs.Fits.{FitsStep, FitsClaim, FitsWrite, FitsPublish}
-use Rattle.arena_rule.specs.Afters.{word_of, put, answer_of, after, node_of_link, written_more, drew, looked, claimed_at, wrote, published, added_at, noted, with_word}
+use Rattle.arena_rule.specs.Afters.{word_of, answer_of, after, node_of_link, written_more, looked, claimed_at, wrote, published, added_at, noted, with_word}
 use Rattle.arena_rule.specs.Parts.{Fresh, AreApart, AreWritten, HasWritten, held_at, is_claimed}
 use Rattle.arena_rule.specs.Rule.{words_after, views_after}
 use Rattle.arena_rule.proofs.Before.{Before, blocks_after}

@@ -1,5 +1,5 @@
 -- Where a step writes, and which words it leaves alone.
-use Rattle.std.proofs.Common.{◌≡◌, ◌≢◌, ◌⊎◌, ℕ, zero, suc, ◌+◌, ◌*◌, ◌<◌, ◌≤◌, Bool, true, false, cond, List, [], ◌∷◌, ◌++◌, length, set, get_or, Option, Some, None, refl, sym, ap, ◌∙◌, subst, ⊎_elim, inl, inr, arith, get_or-set_same, get_or-set_other}
+use Rattle.std.proofs.Common.{◌≡◌, ◌≢◌, ◌⊎◌, ℕ, zero, suc, ◌+◌, ◌*◌, ◌<◌, ◌≤◌, Bool, true, false, cond, List, [], ◌∷◌, ◌++◌, length, set, Option, Some, None, refl, sym, ap, ◌∙◌, subst, ⊎_elim, inl, inr, arith, get_or-set_same, get_or-set_other}
 use Rattle.std.specs.Prelude.{slice_index, slice_get, nat_lt, nat_le, ◌&&◌, sum_by}
 use Rattle.std.proofs.lemmas.List.{set-get_or}
 use Rattle.std.proofs.lemmas.Option.{none-some, same_Some}
@@ -25,9 +25,9 @@ use Rattle.tree_words.proofs.NodeLaws.{node-lies, nodes-apart, stays-clear}
 use Rattle.arena_rule.specs.Views.{SeatView, Flight}
 use Rattle.arena_rule.specs.Adds.{CountAdd, Gathered, seen_adds, node_adds, adds_up, walk_adds}
 use Rattle.arena_rule.specs.Lookups.{is_held}
-use Rattle.arena_rule.specs.Fits.{FitsStep, FitsWrite, FitsPublish, FitsAdd, FitsNote, IsNext, IsNextAdd, MayBegin}
+use Rattle.arena_rule.specs.Fits.{FitsStep, FitsWrite, FitsPublish, FitsAdd, FitsNote, IsNext}
 use Rattle.arena_rule.specs.Afters.{word_of, put}
-use Rattle.arena_rule.specs.Parts.{held_at, is_claimed}
+use Rattle.arena_rule.specs.Parts.{held_at}
 use Rattle.arena_rule.specs.Rule.{words_after}
 use Rattle.arena_rule.proofs.Before.{Before}
 use Rattle.arena_rule.proofs.Totals.{total_at, total_two}
@@ -87,7 +87,7 @@ pub walk-words : (s : Setting) (bs : List LinkedBlock) (k leaf n : ℕ) (a : Cou
 unfolding walk_adds
 walk-words s bs k leaf n a g e = adds-words s (outcome_of s k (node_state s bs leaf)) bs leaf g n a e
 
-claimed-low : (low next end i : ℕ) → 0 < one_if (nat_le low i && (nat_lt i next && nat_lt i end)) → (low ≤ i) × (i < next) × (i < end)
+pub claimed-low : (low next end i : ℕ) → 0 < one_if (nat_le low i && (nat_lt i next && nat_lt i end)) → (low ≤ i) × (i < next) × (i < end)
 claimed-low low next end i h = grind (arith, nat_tests)
 
 pub claimed-one : (low next end i : ℕ) → one_if (nat_le low i && (nat_lt i next && nat_lt i end)) ≤ 1

@@ -27,6 +27,11 @@ use Rattle.arena_rule.proofs.Totals.{inside}
 use Rattle.arena_rule.proofs.Apart.{fresh-step, apart-step, held-step}
 use Rattle.arena_rule.proofs.SumsLaw.{sums-step}
 use Rattle.arena_rule.proofs.SeatsCounts.{sums-split, sums-join, sums-first}
+use Rattle.arena_rule.proofs.Linking.{linked-step, known-step}
+use Rattle.arena_rule.proofs.SeatsBlocks.{apart-split, apart-join, held-split, held-join, known-split, known-join}
+use Rattle.arena_rule.proofs.Opening.{fresh-first, apart-first, linked-first, held-first, known-first}
+use Rattle.arena_rule.proofs.AnswersBlocks.{answers-link, answers-block, answers-claim}
+use Rattle.arena_rule.proofs.AnswersCounts.{answers-tally, answers-seen, answers-add}
 use Rattle.arena_rule.proofs.Widths.{widths-step}
 use Rattle.arena_rule.proofs.Tickets.{tickets-step}
 use Rattle.arena_rule.proofs.InHand.{in_hand-step}
@@ -34,71 +39,6 @@ use Rattle.arena_rule.proofs.Sole.{sole-step, sole-split, sole-join, sole-first}
 use Rattle.arena_rule.proofs.SeatsNumbers.{widths-split, widths-join, widths-first, tickets-split, tickets-join, tickets-first, in_hand-split, in_hand-join, in_hand-first}
 use Rattle.arena_rule.proofs.Firsts.{opening-first, ones-first}
 use Rattle.arena_rule.proofs.AnswersNumbers.{answers-draw, answers-whole}
-
--- TO COME from the other hands
-module _ (bs : List LinkedBlock) (words : List ℕ) (views : List SeatView) (id : ℕ) (v : SeatView) (b : Before bs words views id v) where
-  linked-step : (op : Op) → FitsStep v op → AreLinked v.shape (blocks_after bs words v op) (words_after words op)
-  linked-step op fits = ?
-
-  known-step : (op : Op) → FitsStep v op → Known v.shape (blocks_after bs words v op) (views_after words views id v op)
-  known-step op fits = ?
-
-
-  apart-split : (part : ℕ) → CanSplit v part → AreApart v.shape bs words (views_split views id v part)
-  apart-split part can = ?
-
-  held-split : (part : ℕ) → CanSplit v part → AreWritten words (views_split views id v part)
-  held-split part can = ?
-
-  known-split : (part : ℕ) → CanSplit v part → Known v.shape bs (views_split views id v part)
-  known-split part can = ?
-
-
-  apart-join : (other : ℕ) (w : SeatView) → Other views id v other w → AreApart v.shape bs words (views_joined views id v other w)
-  apart-join other w o = ?
-
-  held-join : (other : ℕ) (w : SeatView) → Other views id v other w → AreWritten words (views_joined views id v other w)
-  held-join other w o = ?
-
-  known-join : (other : ℕ) (w : SeatView) → Other views id v other w → Known v.shape bs (views_joined views id v other w)
-  known-join other w o = ?
-
-
-  answers-link : (x : ℕ) → is_known v x ≡ true → AnswersLink v x (link_in words x)
-  answers-link x n = ?
-
-  answers-block : (c : LinkedBlock) (j : ℕ) → In c v.known → j < size c → stays j ≡ true → slice_index words (c.start + j) ≡ header_or_move c j
-  answers-block c j = ?
-
-  answers-claim : (size : ℕ) → FitsClaim v size → AnswersClaim v (slice_index words 0)
-  answers-claim size fits = ?
-
-  answers-tally : (x : ℕ) → is_known v x ≡ true → AnswersTally v x (slice_index words (x + TALLY_WORD))
-  answers-tally x n = ?
-
-  answers-seen : (x : ℕ) → is_known v x ≡ true → AnswersSeen v (slice_index words (x + SEEN_WORD))
-  answers-seen x n = ?
-
-  answers-add : (a : CountAdd) → FitsAdd v a → AnswersAdd v (slice_index words a.word)
-  answers-add a fits = ?
-
-fresh-first : (s : Setting) (views : List SeatView) → IsSetting s → AreFirst s views → Fresh s (opening_words s)
-fresh-first s views h f = ?
-
-apart-first : (s : Setting) (views : List SeatView) → IsSetting s → AreFirst s views → AreApart s (opening_blocks s) (opening_words s) views
-apart-first s views h f = ?
-
-linked-first : (s : Setting) (views : List SeatView) → IsSetting s → AreFirst s views → AreLinked s (opening_blocks s) (opening_words s)
-linked-first s views h f = ?
-
-held-first : (s : Setting) (views : List SeatView) → IsSetting s → AreFirst s views → AreWritten (opening_words s) views
-held-first s views h f = ?
-
-known-first : (s : Setting) (views : List SeatView) → IsSetting s → AreFirst s views → Known s (opening_blocks s) views
-known-first s views h f = ?
-
-
--- END TO COME
 
 module _ (bs : List LinkedBlock) (words : List ℕ) (views : List SeatView) (id : ℕ) (v : SeatView) (b : Before bs words views id v) where
   -- what the seat itself knows after the step

@@ -1,40 +1,36 @@
 -- Each step keeps Linked and Known: a Publish that wins adds a block to the linked ones, one that loses adds none.
-use Rattle.std.proofs.Common.{◌≡◌, ◌≢◌, ◌⊎◌, ℕ, ◌+◌, ◌-◌, ◌*◌, ◌<◌, ◌≤◌, Bool, true, false, cond, List, [], ◌∷◌, length, set, get_or, Option, Some, None, refl, sym, ap, ◌∙◌, subst, ⊎_elim, inl, inr, arith, get_or-set_same, get_or-set_other}
+use Rattle.std.proofs.Common.{◌≡◌, ◌≢◌, ◌⊎◌, ℕ, ◌+◌, ◌-◌, ◌*◌, ◌<◌, ◌≤◌, Bool, true, false, cond, List, ◌∷◌, length, set, Option, Some, None, refl, sym, ap, ◌∙◌, subst, ⊎_elim, inl, arith, get_or-set_same, get_or-set_other}
 use Rattle.std.specs.Prelude.{◌==◌, slice_index, nat_lt, nat_le, ◌&&◌, not}
-use Rattle.std.proofs.lemmas.Bool.{cases_eq}
 use Rattle.std.proofs.lemmas.Bool.Decides.{nat_tests}
 use Rattle.std.proofs.lemmas.List.{set-get_or}
 use Rattle.std.proofs.lemmas.List.FromFn.{get_or-map-range_with_len}
 use mathlib.Core.Option.{some}
-use lib.ListN.{get_elem?}
-use Rattle.hex_board.specs.Positions.{Position}
 use Rattle.play_out.specs.Fills.{empties_of}
-use Rattle.tree_words.specs.Settings.{Setting}
-use Rattle.tree_words.specs.Words.{root_at, area_at, end_of, next_in, link_in}
-use Rattle.tree_words.specs.Blocks.{LinkedBlock, In, InOrder, Follows, Shows, covers, has, is_node, link_of, size, stays, header_or_move}
+use Rattle.tree_words.specs.Words.{root_at, next_in}
+use Rattle.tree_words.specs.Blocks.{LinkedBlock, In, Follows, Shows, covers, has, is_node, link_of, size, stays, header_or_move}
 use Rattle.tree_words.specs.Paths.{NodeState, node_state, board_of}
-use Rattle.tree_words.specs.Complete.{AreComplete, Complete, HasEmpties, Linked, allowed_cells, cells_below, set_of}
+use Rattle.tree_words.specs.Complete.{AreComplete, Complete, HasEmpties, allowed_cells}
 use Rattle.tree_words.specs.Told.{Knows}
 use Rattle.tree_words.specs.declared.steps.Op.{Op}
 use Rattle.tree_words.specs.declared.steps.Op.TheVariants.{Draw, Look, Claim, Write, Publish, Add, Note, Done}
 use Rattle.tree_words.proofs.Asking.{spot-size}
-use Rattle.tree_words.proofs.BlockLaws.{apart, bool_is, covers_if, either_true, eq_of, lt_of, has-at, has-covers, other_is, same_is, true_both}
+use Rattle.tree_words.proofs.BlockLaws.{apart, bool_is, covers_if, either_true, eq_of, lt_of, has-at, other_is, same_is, true_both}
 use Rattle.tree_words.proofs.Down.{never, not_both}
 use Rattle.tree_words.proofs.GameLaws.{root_node}
-use Rattle.tree_words.proofs.NodeLaws.{complete-more, link-none, nodes-apart, stays-clear, stays-not}
+use Rattle.tree_words.proofs.NodeLaws.{complete-more, link-none, stays-clear, stays-not}
 use Rattle.tree_words.proofs.SetNumbers.{set-has_empties}
 use Rattle.tree_words.proofs.Within.{knows-more, told-real}
 use Rattle.arena_rule.specs.Views.{SeatView, HeldBlock}
-use Rattle.arena_rule.specs.Lookups.{is_held, is_known, known_link, told_below, empties_at}
+use Rattle.arena_rule.specs.Lookups.{is_held, is_known, known_link, told_below}
 use Rattle.arena_rule.specs.Fits.{FitsStep, FitsPublish, block_words}
-use Rattle.arena_rule.specs.Afters.{word_of, put, answer_of, after, node_of_link, known_after, drew, looked, wrote, published, added_at, noted, with_word}
-use Rattle.arena_rule.specs.Parts.{AreLinked, HasWritten, Known}
+use Rattle.arena_rule.specs.Afters.{after, node_of_link, known_after, looked, wrote, published, added_at, noted, with_word}
+use Rattle.arena_rule.specs.Parts.{AreLinked, Known}
 use Rattle.arena_rule.specs.Rule.{words_after, views_after}
 use Rattle.arena_rule.proofs.Before.{Before, blocks_after}
 use Rattle.arena_rule.proofs.Totals.{each-set}
 use Rattle.arena_rule.proofs.Changes.{drew_same, claimed_same}
 use Rattle.arena_rule.proofs.Within.{known-node, known-state}
-use Rattle.arena_rule.proofs.Frames.{IsNoPublish, block-stays, held-clear, held-claimed, held-node, link-stays, next-grows, next-stays, node-range, root-stays}
+use Rattle.arena_rule.proofs.Frames.{IsNoPublish, block-stays, held-clear, held-claimed, held-node, link-stays, next-grows, node-range, root-stays}
 use Rattle.arena_rule.proofs.Apart.{node-back, told-held}
 
 -- the words of a block that is not linked yet
