@@ -1,8 +1,7 @@
 -- A sum over walks is a sum over the numbers.
-use Rattle.std.proofs.Common.{◌≡◌, ◌≢◌, ◌⊎◌, ℕ, zero, suc, ◌+◌, ◌≤◌, ◌<◌, Bool, true, false, cond, List, [], ◌∷◌, length, refl, sym, ap, ◌∙◌, subst, ⊎_elim, arith}
+use Rattle.std.proofs.Common.{◌≡◌, ℕ, suc, ◌+◌, ◌<◌, Bool, true, false, cond, List, [], ◌∷◌, refl, sym, ap, ◌∙◌, ⊎_elim, arith}
 use Rattle.std.specs.Prelude.{◌==◌, sum_by, Contains}
 use Rattle.std.proofs.lemmas.List.Sums.{sum_by-cons}
-use Rattle.tree_words.specs.Blocks.{one_if}
 use Rattle.tree_words.proofs.BlockLaws.{eq_of, bool_is}
 use Rattle.arena_rule.specs.Views.{Walked}
 use Rattle.arena_rule.proofs.Below.{sum_below, below_hit, below_same, below_swap}

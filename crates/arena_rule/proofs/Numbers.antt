@@ -1,5 +1,5 @@
 -- Numbers in hand and recorded: how often a view has one, and how many there are.
-use Rattle.std.proofs.Common.{◌≡◌, ◌≢◌, ◌⊎◌, ℕ, zero, suc, ◌+◌, ◌*◌, ◌/◌, ◌%◌, ◌<◌, ◌≤◌, Bool, true, false, cond, List, [], ◌∷◌, ◌++◌, length, get_or, Option, Some, None, refl, sym, ap, ◌∙◌, subst, ⊎_elim, inl, inr, arith}
+use Rattle.std.proofs.Common.{◌≡◌, ◌⊎◌, ℕ, zero, suc, ◌+◌, ◌*◌, ◌%◌, ◌<◌, ◌≤◌, Bool, true, false, cond, List, [], ◌∷◌, ◌++◌, length, get_or, Option, Some, None, refl, sym, ap, ◌∙◌, ⊎_elim, inl, inr, arith}
 use Rattle.std.specs.Prelude.{◌==◌, ◌&&◌, nat_lt, sum_by, count_by, Contains}
 use Rattle.std.proofs.lemmas.List.Sums.{sum_by-cons, sum_by-append}
 use Rattle.std.proofs.lemmas.Bool.Decides.{nat_tests}
@@ -12,9 +12,9 @@ use Rattle.tree_words.specs.Words.{leaf_in, winner_in, ticket_in}
 use Rattle.tree_words.proofs.BlockLaws.{same_is}
 use Rattle.arena_rule.specs.Views.{SeatView, Walked}
 use Rattle.arena_rule.specs.Lookups.{record_word}
-use Rattle.arena_rule.specs.Parts.{in_hand, times_drawn, value_noted, Tickets, InHand}
+use Rattle.arena_rule.specs.Parts.{in_hand, times_drawn}
 use Rattle.arena_rule.proofs.Before.{Before}
-use Rattle.arena_rule.proofs.Totals.{total_at, total_add, total_same, total_none}
+use Rattle.arena_rule.proofs.Totals.{total_add, total_same}
 use Rattle.arena_rule.proofs.Below.{sum_below, below_add, below_hit, below_none, below_ones, below_same, below_swap}
 
 -- how often the number k stands in walks, and the value that they have for it

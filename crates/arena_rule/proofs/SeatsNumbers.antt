@@ -1,30 +1,27 @@
 -- A split and a join keep Widths, Tickets and InHand, and the opening words have them.
-use Rattle.std.proofs.Common.{◌≡◌, ◌≢◌, ◌⊎◌, ℕ, zero, suc, ◌+◌, ◌-◌, ◌*◌, ◌<◌, ◌≤◌, Bool, true, false, cond, List, [], ◌∷◌, ◌++◌, length, set, get_or, Option, Some, None, refl, sym, ap, ◌∙◌, subst, ⊎_elim, inl, inr, arith}
-use Rattle.std.specs.Prelude.{◌==◌, ◌&&◌, ◌||◌, nat_lt, nat_le, slice_index, sum_by, Contains}
+use Rattle.std.proofs.Common.{◌≡◌, ℕ, ◌+◌, ◌-◌, ◌<◌, ◌≤◌, Bool, true, false, cond, List, [], ◌∷◌, ◌++◌, length, Option, Some, None, refl, sym, ap, ◌∙◌, subst, ⊎_elim, arith}
+use Rattle.std.specs.Prelude.{◌==◌, ◌&&◌, ◌||◌, slice_index, sum_by, Contains}
 use mathlib.Core.Option.{some}
 use lib.ListN.{get_elem?}
 use Rattle.std.proofs.lemmas.Bool.{or_right}
 use Rattle.std.proofs.lemmas.Bool.Decides.{nat_tests}
 use Rattle.tree_words.specs.Settings.{Setting, IsSetting}
-use Rattle.tree_words.specs.Words.{root_at, area_at, end_of, ticket_in, next_in, record_in, leaf_in}
+use Rattle.tree_words.specs.Words.{root_at, area_at, ticket_in, next_in, leaf_in}
 use Rattle.tree_words.specs.Blocks.{LinkedBlock, has, is_node, stays, header_or_move, words_of, covers}
-use Rattle.tree_words.specs.Complete.{set_of, allowed_cells}
-use Rattle.tree_words.specs.Opening.{opening_words, opening_word, root_block}
-use Rattle.tree_words.specs.declared.layout.TheConstants.{MOST_BLOCK_WORDS}
-use Rattle.play_out.specs.Fills.{empties_of}
+use Rattle.tree_words.specs.Complete.{allowed_cells}
+use Rattle.tree_words.specs.Opening.{opening_words, root_block}
 use Rattle.tree_words.proofs.BlockLaws.{not_both, other_is, covers_of, either_true, eq_of}
 use Rattle.tree_words.proofs.GameLaws.{root_node}
 use Rattle.tree_words.proofs.Openings.{root-fits}
 use Rattle.tree_words.proofs.OpeningTold.{opening-are}
-use Rattle.arena_rule.specs.Views.{SeatView, HeldBlock, Flight, Walked, HasDrawnNothing, spent_view}
-use Rattle.arena_rule.specs.Lookups.{is_known}
-use Rattle.arena_rule.specs.Fits.{CanSplit, CanJoin}
+use Rattle.arena_rule.specs.Views.{SeatView, Walked, HasDrawnNothing, spent_view}
+use Rattle.arena_rule.specs.Fits.{CanSplit}
 use Rattle.arena_rule.specs.Afters.{kept_part, given_part, joined}
-use Rattle.arena_rule.specs.Parts.{Each, HasWidth, Widths, width_of, ended_of, full_width, Tickets, IsRight, times_drawn, value_noted, in_hand, HasInHand, InHand}
+use Rattle.arena_rule.specs.Parts.{HasWidth, Widths, width_of, ended_of, full_width, Tickets, IsRight, times_drawn, value_noted, in_hand, HasInHand, InHand}
 use Rattle.arena_rule.specs.Rule.{views_split, views_joined}
 use Rattle.arena_rule.proofs.Options.{none-some}
 use Rattle.arena_rule.proofs.Before.{Before, Other, AreFirst, opening_blocks}
-use Rattle.arena_rule.proofs.Totals.{total_set, total_at, total_two, total_none, total_split, total_join, each-set, each-split, each-join}
+use Rattle.arena_rule.proofs.Totals.{total_two, total_none, total_split, total_join, each-split, each-join}
 use Rattle.arena_rule.proofs.Numbers.{times_walked, value_walked, walked-append, value-append, contains-append, due}
 
 no-walk : (w : Walked) → Contains [] w → ⊥

@@ -1,26 +1,26 @@
 -- Each step keeps Tickets.
-use Rattle.std.proofs.Common.{◌≡◌, ◌≢◌, ◌⊎◌, ℕ, ◌+◌, ◌*◌, ◌<◌, ◌≤◌, Bool, true, false, cond, List, [], ◌∷◌, ◌++◌, length, set, get_or, Option, Some, None, refl, sym, ap, ◌∙◌, subst, ⊎_elim, inl, inr, arith, get_or-set_same, get_or-set_other}
-use Rattle.std.specs.Prelude.{◌==◌, ◌&&◌, ◌||◌, nat_lt, slice_index, sum_by, Contains}
+use Rattle.std.proofs.Common.{◌≡◌, ◌≢◌, ◌⊎◌, ℕ, ◌+◌, ◌<◌, ◌≤◌, Bool, true, false, cond, List, ◌∷◌, length, set, Some, None, refl, sym, ap, ◌∙◌, subst, ⊎_elim, inl, inr, arith, get_or-set_same, get_or-set_other}
+use Rattle.std.specs.Prelude.{◌==◌, ◌||◌, slice_index, sum_by, Contains}
 use Rattle.std.proofs.lemmas.Bool.Decides.{nat_tests}
 use mathlib.Core.Option.{some, some-injective}
 use mathlib.Core.Logic.{dite}
 use native.Mathlib.Decide.{ℕ_discrete}
 use lib.ListN.{get_elem?}
-use Rattle.tree_words.specs.Settings.{Setting, IsSetting}
+use Rattle.tree_words.specs.Settings.{Setting}
 use Rattle.tree_words.specs.Words.{root_at, ticket_in, record_in, leaf_in, winner_in}
 use Rattle.tree_words.specs.Blocks.{LinkedBlock, one_if, has, is_node, InOrder, Follows}
 use Rattle.tree_words.specs.Paths.{NodeState, node_state}
 use Rattle.tree_words.specs.Sequence.{outcome_of}
 use Rattle.tree_words.specs.declared.steps.Op.{Op}
 use Rattle.tree_words.specs.declared.steps.Op.TheVariants.{Draw, Look, Claim, Write, Publish, Add, Note, Done}
-use Rattle.tree_words.proofs.BlockLaws.{same_is, other_is, eq_of}
+use Rattle.tree_words.proofs.BlockLaws.{same_is, other_is}
 use Rattle.tree_words.proofs.GameLaws.{spot-same}
 use Rattle.tree_words.proofs.Within.{within-node, within-state}
 use Rattle.arena_rule.specs.Views.{SeatView, Walked}
 use Rattle.arena_rule.specs.Fits.{FitsStep, FitsDraw, FitsNote}
-use Rattle.arena_rule.specs.Lookups.{record_word, told_below}
-use Rattle.arena_rule.specs.Afters.{word_of, put, answer_of, after, drew, claimed_at, with_word, looked, wrote, published, added_at, noted, node_of_link}
-use Rattle.arena_rule.specs.Parts.{Each, IsRight, Tickets, in_hand, times_drawn, value_noted}
+use Rattle.arena_rule.specs.Lookups.{told_below}
+use Rattle.arena_rule.specs.Afters.{word_of, answer_of, after, drew, with_word, looked, wrote, published, added_at, noted, node_of_link}
+use Rattle.arena_rule.specs.Parts.{IsRight, Tickets, in_hand, times_drawn, value_noted}
 use Rattle.arena_rule.specs.Rule.{words_after, views_after}
 use Rattle.arena_rule.proofs.Before.{Before, blocks_after}
 use Rattle.arena_rule.proofs.Totals.{total_set, total_at, total_two, total_none, each-set}

@@ -1,28 +1,19 @@
 -- A split and a join keep a view in order.
-use Rattle.std.proofs.Common.{◌≡◌, ◌≢◌, ◌⊎◌, ℕ, zero, suc, ◌+◌, ◌-◌, ◌*◌, ◌<◌, ◌≤◌, Bool, true, false, cond, List, [], ◌∷◌, ◌++◌, length, Option, Some, None, refl, sym, ap, ◌∙◌, subst, ⊎_elim, inl, inr, arith}
-use Rattle.std.specs.Prelude.{◌==◌, ◌&&◌, ◌||◌, not, nat_le, nat_lt, option_map}
-use Rattle.std.proofs.lemmas.Bool.Decides.{nat_tests}
-use Rattle.tree_words.specs.Settings.{Setting, IsSetting}
-use Rattle.tree_words.specs.Words.{root_at, area_at, end_of}
-use Rattle.tree_words.specs.Blocks.{LinkedBlock, In, InOrder, Follows, has, up, is_node, link_of, size, covers, cover, one_if, place, cell_at, words_of}
-use Rattle.tree_words.specs.Complete.{cells_below, allowed_cells, set_of}
-use Rattle.tree_words.specs.Paths.{NodeState, node_state, root_state, state_after, board_of}
+use Rattle.std.proofs.Common.{◌≡◌, ℕ, Bool, true, false, cond, List, [], ◌∷◌, ◌++◌, refl, sym, ap, ◌∙◌, subst, ⊎_elim, inl, inr, arith}
+use Rattle.std.specs.Prelude.{◌==◌}
+use Rattle.tree_words.specs.Settings.{Setting}
+use Rattle.tree_words.specs.Words.{root_at}
+use Rattle.tree_words.specs.Blocks.{LinkedBlock, InOrder, has, up, is_node, place, cell_at}
+use Rattle.tree_words.specs.Complete.{allowed_cells, set_of}
+use Rattle.tree_words.specs.Paths.{NodeState, node_state, root_state, state_after}
 use Rattle.play_out.specs.Fills.{empties_of}
-use Rattle.tree_words.specs.Told.{told_block}
-use Rattle.tree_words.specs.declared.steps.Op.{Op}
-use Rattle.tree_words.specs.declared.steps.Op.TheVariants.{Draw, Look, Claim, Write, Publish, Add, Note, Done}
-use Rattle.tree_words.proofs.BlockLaws.{bool_is, eq_of, le_of, lt_of, true_both, covers_of, covers_if, cover-cons, has-at, not_both, other_is, same_is, either_true}
-use Rattle.arena_rule.specs.Views.{SeatView, HeldBlock, Flight, HasEnded}
-use Rattle.arena_rule.specs.Lookups.{is_known, known_link, told_below, is_held, empties_at}
-use Rattle.arena_rule.specs.Fits.{FitsStep, FitsDraw, FitsClaim, FitsWrite, FitsPublish, FitsAdd, FitsNote, IsNext, CanSplit, CanJoin}
-use Rattle.arena_rule.specs.Afters.{word_of, put, after, drew, looked, claimed_at, wrote, published, added_at, noted, with_word, known_after, node_of_link, flight_after, written_more, kept_part, given_part, joined}
-use Rattle.arena_rule.specs.Answers.{MayAnswer, AnswersLook, AnswersClaim, AnswersPublish, AnswersLink, MayLieBelow}
-use Rattle.arena_rule.specs.IsView.{IsTold, AreTold, IsJoined, IsView}
-use Rattle.arena_rule.proofs.Changes.{drew_cases, claimed_cases, drew_same, claimed_same}
+use Rattle.tree_words.proofs.BlockLaws.{bool_is, eq_of, has-at, not_both, either_true}
+use Rattle.arena_rule.specs.Views.{SeatView}
+use Rattle.arena_rule.specs.Fits.{CanSplit, CanJoin}
+use Rattle.arena_rule.specs.Afters.{kept_part, given_part, joined}
+use Rattle.arena_rule.specs.IsView.{AreTold, IsJoined, IsView}
 use Rattle.tree_words.proofs.Down.{not_both as truth}
-use Rattle.arena_rule.proofs.Options.{none-some, some-eq, false-true}
-use Rattle.arena_rule.proofs.Apart.{told-size}
-use Rattle.arena_rule.proofs.KnownMore.{Grows, known_cases, known-more}
+use Rattle.arena_rule.proofs.Options.{none-some, false-true}
 use Rattle.arena_rule.proofs.SeatsNumbers.{node-first}
 
 module _ (v : SeatView) (iv : IsView v) where

@@ -1,5 +1,5 @@
 -- What a view's known blocks tell, the linked blocks tell too: nodes, boards and the adds of walks.
-use Rattle.std.proofs.Common.{◌≡◌, ◌⊎◌, ℕ, Bool, true, false, List, [], ◌∷◌, refl, sym, ap, ◌∙◌, subst, ⊎_elim}
+use Rattle.std.proofs.Common.{◌≡◌, ℕ, Bool, true, false, List, [], ◌∷◌, refl, sym, ap, ◌∙◌, subst, ⊎_elim}
 use Rattle.std.specs.Prelude.{◌||◌}
 use mathlib.Core.Option.{some}
 use lib.ListN.{get_elem?}

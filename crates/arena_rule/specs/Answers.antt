@@ -1,7 +1,6 @@
 -- What an answer may be, told from the view before the step. All that is said of an answer holds of
 -- it together.
-use Rattle.std.specs.Prelude.{◌≡◌, ◌≢◌, ◌⊎◌, ℕ, ◌+◌, ◌*◌, ◌<◌, ◌≤◌, true, false, List, Contains, Option, Some, slice_index}
-use Rattle.tree_words.specs.Settings.{Setting}
+use Rattle.std.specs.Prelude.{◌≡◌, ◌≢◌, ◌⊎◌, ℕ, ◌+◌, ◌*◌, ◌<◌, ◌≤◌, true, false, List, Contains, Some, slice_index}
 use Rattle.tree_words.specs.Words.{root_at, area_at, end_of, visits_in, wins_in}
 use Rattle.tree_words.specs.Blocks.{LinkedBlock, In, size, covers, cover, stays, header_or_move}
 use Rattle.tree_words.specs.declared.layout.TheConstants.{LINK_WORD, TALLY_WORD, SEEN_WORD, MOST_BLOCK_WORDS}

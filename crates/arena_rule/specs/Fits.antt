@@ -1,7 +1,6 @@
 -- What a view fits: which steps a seat may make, told from its view alone.
-use Rattle.std.specs.Prelude.{◌≡◌, ◌≢◌, ◌⊎◌, ℕ, ◌+◌, ◌<◌, ◌≤◌, ◌&&◌, if◌then◌else◌, Bool, true, false, List, [], ◌∷◌, length, map, Option, Some, None, slice_get}
+use Rattle.std.specs.Prelude.{◌≡◌, ◌≢◌, ◌⊎◌, ℕ, ◌+◌, ◌<◌, ◌≤◌, if◌then◌else◌, true, false, List, length, map, Option, Some, None, slice_get}
 use Rattle.std.specs.List.{range_with_len}
-use Rattle.tree_words.specs.Settings.{Setting}
 use Rattle.tree_words.specs.Words.{root_at, end_of}
 use Rattle.tree_words.specs.Blocks.{LinkedBlock, In, has, child, size, words_of, stays, header_or_move}
 use Rattle.tree_words.specs.Paths.{node_state, is_on}

@@ -1,16 +1,15 @@
 -- What is looked up in a view: its nodes, its loads, its walks, and the adds of the walk in hand.
-use Rattle.std.specs.Prelude.{◌≡◌, ◌⊎◌, ℕ, ◌+◌, ◌*◌, ◌<◌, ◌≤◌, ◌==◌, ◌&&◌, nat_lt, nat_le, if◌then◌else◌, Bool, false, List, [], ◌∷◌, length, take, count_by, Option, Some, None}
-use Rattle.hex_board.specs.Positions.{Position}
+use Rattle.std.specs.Prelude.{◌≡◌, ℕ, ◌+◌, ◌*◌, ◌==◌, ◌&&◌, nat_lt, nat_le, if◌then◌else◌, Bool, false, List, [], ◌∷◌, length, take, count_by, Option, Some, None}
 use Rattle.hex_cells.specs.declared.colours.Colour.{Colour}
 use Rattle.hex_cells.specs.declared.colours.Colour.TheVariants.{Black, White}
 use Rattle.play_out.specs.Fills.{empties_of}
 use Rattle.tree_words.specs.Settings.{Setting}
-use Rattle.tree_words.specs.Words.{Count, root_at, leaf_in, count_in, visits_in}
+use Rattle.tree_words.specs.Words.{Count, root_at, leaf_in, count_in}
 use Rattle.tree_words.specs.Blocks.{LinkedBlock, one_if, is_node, link_of}
 use Rattle.tree_words.specs.Paths.{board_of, is_on}
 use Rattle.tree_words.specs.Told.{told_block}
 use Rattle.tree_words.specs.declared.layout.TheConstants.{TALLY_WORD, SEEN_WORD, RECORD_UNIT}
-use Rattle.arena_rule.specs.Views.{SeatView, HeldBlock, Flight, Walked, WordLoad}
+use Rattle.arena_rule.specs.Views.{SeatView, HeldBlock, Flight, WordLoad}
 use Rattle.arena_rule.specs.Adds.{CountAdd, walk_adds}
 
 -- x is a known node: the root, or a node of a known block
