@@ -2,7 +2,7 @@
 use Rattle.std.specs.Prelude.{◌≡◌, ◌≢◌, ℕ, ◌+◌, ◌<◌, true, List, Some, slice_index}
 use Rattle.tree_words.specs.Settings.{Setting}
 use Rattle.tree_words.specs.Words.{root_at, link_in}
-use Rattle.tree_words.specs.Blocks.{LinkedBlock, In, is_node, size, stays, header_or_move}
+use Rattle.tree_words.specs.Blocks.{LinkedBlock, In, is_node, size, is_header_or_move, header_or_move}
 use Rattle.tree_words.specs.declared.steps.Op.{Op}
 use Rattle.arena_rule.specs.Views.{SeatView, HeldBlock}
 use Rattle.arena_rule.specs.Fits.{FitsStep, CanSplit, CanJoin}
@@ -14,7 +14,7 @@ use Rattle.arena_rule.specs.Runs.{Arena, RuleHolds, IsSeat}
 -- the link of the block's parent names it, and its header and moves stand there
 pub record IsShown (words : List ℕ) (b : LinkedBlock) : Type 0 where
   pub link : link_in words b.parent ≡ b.start
-  pub block : (j : ℕ) → j < size b → stays j ≡ true
+  pub block : (j : ℕ) → j < size b → is_header_or_move j ≡ true
       → slice_index words (b.start + j) ≡ header_or_move b j
 
 -- each block that a seat knows is shown
