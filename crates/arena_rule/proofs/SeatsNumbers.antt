@@ -100,7 +100,7 @@ module _ (bs : List LinkedBlock) (words : List ℕ) (views : List SeatView) (id 
         leaves = λ w c. absurd (no-walk w c);
       }
 
-  -- a view all of whose workers have ended has_node no number in hand
+  -- a view all of whose workers have ended has no number in hand
   pub ended-idle : (j : ℕ) (u : SeatView) → get_elem? views j ≡ some u → 0 < u.width → u.ended ≡ u.width → u.ticket ≡ None
   ended-idle j u e live end = by u.ticket refl
     where

@@ -37,7 +37,8 @@ abbrev pub StepsKeepOrder : SeatView → Type 0
 StepsKeepOrder v =
     (op : Op) (x : ℕ) → FitsStep v op → MayAnswer v op x → IsView (after v op x)
 
--- each split of the view leaves both views in order, and each join with a view in order of its shape
+-- each split of the view leaves both views in order, and each join with a view in order of its
+-- shape
 abbrev pub SplitsKeepOrder : SeatView → Type 0
 SplitsKeepOrder v =
     (part : ℕ) → CanSplit v part → IsView (kept_part v part) × IsView (given_part v part)
