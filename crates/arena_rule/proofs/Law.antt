@@ -153,7 +153,7 @@ module _ (s : Setting) (words : List ℕ) (views : List SeatView) (r : Rule s wo
 
   pub joins : (other : ℕ) (w : SeatView) → get_elem? views other ≡ some w → other ≢ id → 0 < w.width → CanJoin v w → Rule s words (views_joined views id v other w)
   joins other w there ne more can = rule-of s r.blocks words (views_joined views id v other w) v.shape shape
-      (state-join r.blocks words views id v b other w (record { at = there; else_ = ne; live = more; can = can }))
+      (state-join r.blocks words views id v b other w (record { at = there; differ = ne; live = more; can = can }))
 
 pub begins : (s : Setting) → IsSetting s → Rule s (opening_words s) (opening_view s ∷ [])
 begins s h = record { blocks = opening_blocks s; state = state-first s (opening_view s ∷ []) h (opening-first s h) }
