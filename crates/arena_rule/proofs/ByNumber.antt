@@ -1,0 +1,66 @@
+-- A sum over walks is a sum over the numbers.
+use Rattle.std.proofs.Common.{◌≡◌, ℕ, suc, ◌+◌, ◌<◌, Bool, true, false, cond, List, [], ◌∷◌, refl, sym, ap, ◌∙◌, ⊎_elim, arith}
+use Rattle.std.specs.Prelude.{◌==◌, sum_by, Contains}
+use Rattle.std.proofs.lemmas.List.Sums.{sum_by-cons}
+use Rattle.arena_rule.specs.Views.{Walked}
+use Rattle.arena_rule.proofs.Below.{sum_below, below_hit, below_same, below_swap}
+use Rattle.arena_rule.proofs.Numbers.{times_walked, value_walked, walked-cons, value-cons, value-none}
+use Rattle.std.proofs.lemmas.Bool.{eqb-true, cases_Bool}
+
+-- what a walk with the number j counts
+abbrev if_here : ℕ → (ℕ → ℕ) → Walked → ℕ
+if_here j g w = cond (w.number == j) (g w.value) 0
+
+none-here : (j : ℕ) (g : ℕ → ℕ) (walks : List Walked) → times_walked j walks ≡ 0 → sum_by (if_here j g) walks ≡ 0
+none-here j g [] e = refl
+none-here j g (w ∷ walks) e = by (w.number == j) (times_walked j walks) (sum_by (if_here j g) walks) (g w.value) (sym (walked-cons j w walks) ∙ e) (none-here j g walks) (sum_by-cons (if_here j g) w walks)
+  where
+    by : (t : Bool) (c s x : ℕ) {m : ℕ} → cond t 1 0 + c ≡ 0 → (c ≡ 0 → s ≡ 0) → m ≡ cond t x 0 + s → m ≡ 0
+    by true c s x e h q = absurd (omega arith)
+    by false c s x e h q = omega (arith, q, h (omega arith))
+
+-- where a number has one walk, its value counts
+one-here : (j : ℕ) (g : ℕ → ℕ) (walks : List Walked) → times_walked j walks ≡ 1 → sum_by (if_here j g) walks ≡ g (value_walked j walks)
+one-here j g [] e = absurd (omega arith)
+one-here j g (w ∷ walks) e =
+    by (w.number == j) (times_walked j walks) (value_walked j walks) (sum_by (if_here j g) walks) w.value (sym (walked-cons j w walks) ∙ e) (one-here j g walks) (none-here j g walks) (value-none j walks)
+    (sum_by-cons (if_here j g) w walks) (value-cons j w walks)
+  where
+    by : (t : Bool) (c s m x : ℕ) {a b : ℕ} → cond t 1 0 + c ≡ 1 → (c ≡ 1 → m ≡ g s) → (c ≡ 0 → m ≡ 0) → (c ≡ 0 → s ≡ 0) → a ≡ cond t (g x) 0 + m → b ≡ cond t x 0 + s → a ≡ g b
+    by true c s m x {a} {b} e rec no_m no_s p q = let z : c ≡ 0 = omega arith in let same : x ≡ b = omega (arith, q, no_s z) in omega (arith, p, no_m z, ap g same)
+    by false c s m x {a} {b} e rec no_m no_s p q = let same : s ≡ b = omega (arith, q) in omega (arith, p, rec (omega arith), ap g same)
+
+pub by-number : (n : ℕ) (f : ℕ → ℕ → ℕ) (walks : List Walked) → ((j : ℕ) → j < n → times_walked j walks ≡ 1) → ((w : Walked) → Contains walks w → w.number < n)
+    → sum_by (λ w. f w.number w.value) walks ≡ sum_below n (λ j. f j (value_walked j walks))
+by-number n f walks once low =
+    spread walks low
+    ∙ sym (below_swap n (λ j w. cond (w.number == j) (f w.number w.value) 0) walks)
+    ∙ below_same n (λ j. sum_by (λ w. cond (w.number == j) (f w.number w.value) 0) walks) (λ j. f j (value_walked j walks)) (λ j l. keyed j walks ∙ one-here j (f j) walks (once j l))
+  where
+    spread : (ws : List Walked) → ((w : Walked) → Contains ws w → w.number < n) → sum_by (λ w. f w.number w.value) ws ≡ sum_by (λ w. sum_below n (λ j. cond (w.number == j) (f w.number w.value) 0)) ws
+    spread [] h = refl
+    spread (w ∷ ws) h =
+        omega (
+          arith,
+          sum_by-cons (λ q. f q.number q.value) w ws,
+          sum_by-cons (λ q. sum_below n (λ j. cond (q.number == j) (f q.number q.value) 0)) w ws,
+          below_hit n w.number (f w.number w.value) (h w (0, omega arith, refl)),
+          spread ws (λ q c. h q (suc c.0, (let l = c.1 in omega arith), c.2)),
+        )
+
+    same-key : (a j x : ℕ) → cond (a == j) (f a x) 0 ≡ cond (a == j) (f j x) 0
+    same-key a j x = ⊎_elim
+        (λ (e : (a == j) ≡ true). ap (λ (z : ℕ). cond (a == j) (f z x) 0) (eqb-true a j e))
+        (λ (e : (a == j) ≡ false). ap (λ (t : Bool). cond t (f a x) 0) e ∙ sym (ap (λ (t : Bool). cond t (f j x) 0) e))
+        (cases_Bool (a == j))
+
+    keyed : (j : ℕ) (ws : List Walked) → sum_by (λ w. cond (w.number == j) (f w.number w.value) 0) ws ≡ sum_by (if_here j (f j)) ws
+    keyed j [] = refl
+    keyed j (w ∷ ws) =
+        omega (
+          arith,
+          sum_by-cons (λ q. cond (q.number == j) (f q.number q.value) 0) w ws,
+          sum_by-cons (if_here j (f j)) w ws,
+          same-key w.number j w.value,
+          keyed j ws,
+        )

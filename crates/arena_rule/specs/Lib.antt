@@ -1,0 +1,12 @@
+pub mod Views
+pub mod Adds
+pub mod Lookups
+pub mod Fits
+pub mod Afters
+pub mod Answers
+pub mod IsView
+pub mod Parts
+pub mod Bounds
+pub mod Rule
+pub mod Runs
+pub mod Shown
