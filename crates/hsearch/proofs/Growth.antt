@@ -144,7 +144,12 @@ pub record IsPut (d f : StoreData) (a : Entry) (put : Put) : Type 0 where
 
 pub put_answers : (d f : StoreData) (a : Entry) (put : Put) → IsPut d f a put → IsCovered f a.kind a.x a.y a.carrier ⊎ IsPairFull f a.kind a.x a.y
 put_answers d f a (Added n) p = inl (
-  length d.entries, a, ap (λ (v : StoreData). slice_get v.entries (length d.entries)) p.after ∙ last_stands d.entries a, of_itself a, λ k h. h)
+  length d.entries,
+  a,
+  ap (λ (v : StoreData). slice_get v.entries (length d.entries)) p.after ∙ last_stands d.entries a,
+  of_itself a,
+  λ k h. h,
+)
 put_answers d f a Dominated p = inl (subst (λ (v : StoreData). IsCovered v a.kind a.x a.y a.carrier) (sym p.after) (p.dominated refl))
 put_answers d f a PairFull p = inr (subst (λ (v : StoreData). IsPairFull v a.kind a.x a.y) (sym p.after) (p.full refl))
 

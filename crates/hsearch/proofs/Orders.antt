@@ -147,8 +147,13 @@ swapped_last d a b c x y h r =
       | inr o ↦ elim o [ inl p ↦ third_in a.carrier b.carrier c.carrier k p | inr p ↦ second_in a.carrier b.carrier c.carrier k p ]
     ])
     (h (three_rule a c b x y (record {
-      first_kind = t.first_kind; second_kind = t.third_kind; third_kind = t.second_kind;
-      first_pair = t.first_pair; second_pair = t.third_pair; third_pair = t.second_pair; free = λ k f g i. t.free k f i g;
+      first_kind = t.first_kind;
+      second_kind = t.third_kind;
+      third_kind = t.second_kind;
+      first_pair = t.first_pair;
+      second_pair = t.third_pair;
+      third_pair = t.second_pair;
+      free = λ k f g i. t.free k f i g;
     })))
 
 -- the first two swapped
@@ -161,8 +166,13 @@ swapped_first d a b c x y h r =
       | inr o ↦ elim o [ inl p ↦ first_in a.carrier b.carrier c.carrier k p | inr p ↦ third_in a.carrier b.carrier c.carrier k p ]
     ])
     (h (three_rule b a c x y (record {
-      first_kind = t.second_kind; second_kind = t.first_kind; third_kind = t.third_kind;
-      first_pair = t.second_pair; second_pair = t.first_pair; third_pair = t.third_pair; free = λ k f g i. t.free k g f i;
+      first_kind = t.second_kind;
+      second_kind = t.first_kind;
+      third_kind = t.third_kind;
+      first_pair = t.second_pair;
+      second_pair = t.first_pair;
+      third_pair = t.third_pair;
+      free = λ k f g i. t.free k g f i;
     })))
 
 -- the last brought to the front

@@ -94,6 +94,7 @@ near_put d f x y entry put b q p = (
     bare_put d entry (Added n) b c = λ i a h. elim (last_or_before d.entries entry a i h) [ inl t ↦ b i a t.1 | inr t ↦ ap (λ (v : Entry). v.carrier) t.1 ∙ c ]
     bare_put d entry Dominated b c = b
     bare_put d entry PairFull b c = b
+
     bare : AreBare f
     bare = subst (λ (v : StoreData). AreBare v) (sym p.after) (bare_put d entry put b (ap (λ (a : Entry). a.carrier) q))
 
@@ -105,7 +106,7 @@ pub near_more : (f : StoreData) (y : ℕ) → AreNearBelow f y → ((x : ℕ) �
 near_more f y h g x z l m r = elim (cases_lt z y) [
   | inl b ↦ h x z l b r
   | inr b ↦ let q : y ≡ z = omega arith in
-    subst (λ v. IsCovered f Full x v 0) q (g x (omega arith) (subst (λ v. Near f.elements x v) (sym q) r))
+      subst (λ v. IsCovered f Full x v 0) q (g x (omega arith) (subst (λ v. Near f.elements x v) (sym q) r))
 ]
 
 -- what is known when the elements below x were tried with y
@@ -280,14 +281,14 @@ chosen_three d f n x y h e g l o done i j m k ways v w at r =
     let c_at = held_has d Semi x y j h t.2 e c u.third_kind z.0 z.1 in
     subst (λ (z : List Entry). AnswersOr f z v w) (sym t.3) (elim (cases_order b_at.0 c_at.0) [
       | inl same ↦
-        let ij : i ≡ j = sym b_at.2 ∙ (ap (λ p. get_or h.at p 0) same ∙ c_at.2) in
-        let bc : t.1 ≡ t.2 = same_Some t.1 t.2 (sym t.5 ∙ (ap (λ p. slice_get f.entries p) ij ∙ t.6)) in
-        subst (λ (z : Entry). AnswersOr f (t.0 ∷ t.1 ∷ z ∷ []) v w) bc
-        (way_twice f t.0 t.1 v w (subst (λ p. IsChosen f (n ∷ p ∷ [])) b_at.2 (done.twos b_at.0 b_at.1) (t.0 ∷ t.1 ∷ []) v w (two_at f.entries n i t.0 t.1 t.4 t.5)))
+          let ij : i ≡ j = sym b_at.2 ∙ (ap (λ p. get_or h.at p 0) same ∙ c_at.2) in
+          let bc : t.1 ≡ t.2 = same_Some t.1 t.2 (sym t.5 ∙ (ap (λ p. slice_get f.entries p) ij ∙ t.6)) in
+          subst (λ (z : Entry). AnswersOr f (t.0 ∷ t.1 ∷ z ∷ []) v w) bc
+          (way_twice f t.0 t.1 v w (subst (λ p. IsChosen f (n ∷ p ∷ [])) b_at.2 (done.twos b_at.0 b_at.1) (t.0 ∷ t.1 ∷ []) v w (two_at f.entries n i t.0 t.1 t.4 t.5)))
       | inr other ↦ elim other [
         | inl less ↦ swapped_last f t.0 t.1 t.2 v w
             (subst (λ p. IsChosen f (n ∷ p ∷ i ∷ [])) c_at.2 (subst (λ p. IsChosen f (n ∷ get_or h.at c_at.0 0 ∷ p ∷ [])) b_at.2 (done.threes c_at.0 b_at.0 c_at.1 less))
-                (t.0 ∷ t.2 ∷ t.1 ∷ []) v w (three_at f.entries n j i t.0 t.2 t.1 t.4 t.6 t.5))
+            (t.0 ∷ t.2 ∷ t.1 ∷ []) v w (three_at f.entries n j i t.0 t.2 t.1 t.4 t.6 t.5))
         | inr more ↦ subst (λ p. IsChosen f (n ∷ p ∷ j ∷ [])) b_at.2 (subst (λ p. IsChosen f (n ∷ get_or h.at b_at.0 0 ∷ p ∷ [])) c_at.2 (done.threes b_at.0 c_at.0 b_at.1 more))
             (t.0 ∷ t.1 ∷ t.2 ∷ []) v w (three_at f.entries n i j t.0 t.1 t.2 t.4 t.5 t.6)
       ]
@@ -305,11 +306,11 @@ pub combined_full : (d f : StoreData) (n : ℕ) (a : Entry) → Extends d f → 
     → ((i : ℕ) → i < length d.entries → IsJoinedOver f n i a.x) → ((i : ℕ) → i < length d.entries → IsJoinedOver f n i a.y) → IsCombined f n
 combined_full d f n a g l h k over_x over_y = record {
   ands = λ i m b c x u y at r z.
-    let q : b ≡ a = same_Some b a (sym (at_first f.entries n i b c at) ∙ entry_stays d f n a g h) in
-    elim (middle_of a x u (subst (λ (v : Entry). IsBetween v x u) q r.chain.first)) [
-      | inl p ↦ subst (λ v. IsJoinedOver f n i v) (sym p) (over_x i (omega arith)) b c x y at r z
-      | inr p ↦ subst (λ v. IsJoinedOver f n i v) (sym p) (over_y i (omega arith)) b c x y at r z
-    ];
+      let q : b ≡ a = same_Some b a (sym (at_first f.entries n i b c at) ∙ entry_stays d f n a g h) in
+      elim (middle_of a x u (subst (λ (v : Entry). IsBetween v x u) q r.chain.first)) [
+        | inl p ↦ subst (λ v. IsJoinedOver f n i v) (sym p) (over_x i (omega arith)) b c x y at r z
+        | inr p ↦ subst (λ v. IsJoinedOver f n i v) (sym p) (over_y i (omega arith)) b c x y at r z
+      ];
   twos = λ i m ways x y at r. absurd (no_way (n ∷ i ∷ []) ways x y (at_two f.entries n i ways at).0 (at_two f.entries n i ways at).3 (first_two i ways at) r);
   threes = λ i j m o ways x y at r. absurd (no_way (n ∷ i ∷ j ∷ []) ways x y (at_three f.entries n i j ways at).0 (at_three f.entries n i j ways at).4 (first_three i j ways at) r);
 }
@@ -318,8 +319,10 @@ combined_full d f n a g l h k over_x over_y = record {
     no_way numbers ways x y b s w r =
         let q : b ≡ a = same_Some b a (sym s ∙ entry_stays d f n a g h) in
         kinds_apart a.kind k (subst (λ (v : Entry). v.kind ≡ Semi) q (All-head (λ (v : Entry). v.kind ≡ Semi) b w.0 (subst (λ z. All (λ (v : Entry). v.kind ≡ Semi) z) w.1 r.kinds)))
+
     first_two : (i : ℕ) (ways : List Entry) (at : AreAt f.entries (n ∷ i ∷ []) ways) → (rest : List Entry) × (ways ≡ (at_two f.entries n i ways at).0 ∷ rest)
     first_two i ways at = let t = at_two f.entries n i ways at in (t.1 ∷ [], t.2)
+
     first_three : (i j : ℕ) (ways : List Entry) (at : AreAt f.entries (n ∷ i ∷ j ∷ []) ways) → (rest : List Entry) × (ways ≡ (at_three f.entries n i j ways at).0 ∷ rest)
     first_three i j ways at = let t = at_three f.entries n i j ways at in (t.1 ∷ t.2 ∷ [], t.3)
 
@@ -327,8 +330,8 @@ pub combined_semi : (d f : StoreData) (n : ℕ) (a : Entry) → Extends d f → 
     → ((i : ℕ) → i < length d.entries → IsChosen f (n ∷ i ∷ [])) → ((i j : ℕ) → i < length d.entries → j < length d.entries → IsChosen f (n ∷ i ∷ j ∷ [])) → IsCombined f n
 combined_semi d f n a g l h k twos threes = record {
   ands = λ i m b c x u y at r z.
-    let q : b ≡ a = same_Some b a (sym (at_first f.entries n i b c at) ∙ entry_stays d f n a g h) in
-    absurd (kinds_apart a.kind (subst (λ (v : Entry). v.kind ≡ Full) q r.first_kind) k);
+      let q : b ≡ a = same_Some b a (sym (at_first f.entries n i b c at) ∙ entry_stays d f n a g h) in
+      absurd (kinds_apart a.kind (subst (λ (v : Entry). v.kind ≡ Full) q r.first_kind) k);
   twos = λ i m. twos i (omega arith);
   threes = λ i j m o. threes i j (omega arith) (omega arith);
 }
@@ -350,11 +353,13 @@ all_taken d n t l near = record {
   where
     within : (i : ℕ) (a : Entry) → slice_get d.entries i ≡ Some a → i < n
     within i a h = omega (arith, slice_get_within d.entries i a h)
+
     closed_two : (a b : Entry) (x y : ℕ) → IsKept d a → IsKept d b → AnswersOr d (a ∷ b ∷ []) x y
     closed_two a b x y (i, h) (j, g) = elim (cases_lt i j) [
       | inl m ↦ swapped_two d a b x y ((t j (within j b g)).twos i (less_more i j (omega arith)) (b ∷ a ∷ []) x y (two_at d.entries j i b a g h))
       | inr m ↦ (t i (within i a h)).twos j (less_more j i m) (a ∷ b ∷ []) x y (two_at d.entries i j a b h g)
     ]
+
     closed_three : (a b c : Entry) (x y : ℕ) → IsKept d a → IsKept d b → IsKept d c → AnswersOr d (a ∷ b ∷ c ∷ []) x y
     closed_three a b c x y (i, h) (j, g) (k, f) = elim (cases_lt i j) [
       | inl m ↦ elim (cases_lt j k) [
@@ -366,6 +371,7 @@ all_taken d n t l near = record {
         | inr o ↦ (t i (within i a h)).threes j k (less_more j i m) (less_more k i o) (a ∷ b ∷ c ∷ []) x y (three_at d.entries i j k a b c h g f)
       ]
     ]
+
     closed_or : (ways : List Entry) (x y : ℕ) → All (IsKept d) ways → OrRule ways x y → AnswersOr d ways x y
     closed_or [] x y all r = elim r.number [ inl h ↦ absurd (omega arith) | inr h ↦ absurd (omega arith) ]
     closed_or (a ∷ []) x y all r = elim r.number [ inl h ↦ absurd (omega arith) | inr h ↦ absurd (omega arith) ]

@@ -19,23 +19,21 @@ seconds-preserved c =
       grown = grown_on _ _ _ c.seconds.invariant.grown g;
       twos = up_to (λ p. IsChosen c.choose_with.new.store (c.args.number ∷ get_or c.held-held.result.at p 0 ∷ [])) c.seconds.place
           (λ p l. chosen_stays c.seconds.store c.choose_with.new.store (c.args.number ∷ get_or c.held-held.result.at p 0 ∷ []) g
-              (n, (within_grown _ _ _ _ _ c.held-held.result p c.held-held.ensures.numbers c.seconds.invariant.grown (omega arith), tt)) (c.seconds.invariant.twos p l))
-          (chosen_stays c.choose_two.new.store c.choose_with.new.store (c.args.number ∷ get_or c.held-held.result.at c.seconds.place 0 ∷ []) c.choose_with.ensures.extends
-              (
-                number_grown _ _ _ (grown_on _ _ _ c.seconds.invariant.grown c.choose_two.ensures.extends) c.requires.number,
-                (within_grown _ _ _ _ _ c.held-held.result c.seconds.place c.held-held.ensures.numbers (grown_on _ _ _ c.seconds.invariant.grown c.choose_two.ensures.extends) (omega arith), tt),
-              )
-              c.choose_two.ensures.chosen);
+          (n, (within_grown _ _ _ _ _ c.held-held.result p c.held-held.ensures.numbers c.seconds.invariant.grown (omega arith), tt)) (c.seconds.invariant.twos p l))
+          (chosen_stays c.choose_two.new.store c.choose_with.new.store (c.args.number ∷ get_or c.held-held.result.at c.seconds.place 0 ∷ []) c.choose_with.ensures.extends (
+            number_grown _ _ _ (grown_on _ _ _ c.seconds.invariant.grown c.choose_two.ensures.extends) c.requires.number,
+            (within_grown _ _ _ _ _ c.held-held.result c.seconds.place c.held-held.ensures.numbers (grown_on _ _ _ c.seconds.invariant.grown c.choose_two.ensures.extends) (omega arith), tt),
+          )
+          c.choose_two.ensures.chosen);
       threes = λ p q l m. up_to (λ z. z ≤ c.seconds.place → (v : ℕ) → v < z → IsChosen c.choose_with.new.store (c.args.number ∷ get_or c.held-held.result.at z 0 ∷ get_or c.held-held.result.at v 0 ∷ [])) c.seconds.place
-          (λ z b o v k. chosen_stays c.seconds.store c.choose_with.new.store (c.args.number ∷ get_or c.held-held.result.at z 0 ∷ get_or c.held-held.result.at v 0 ∷ []) g
-              (
-                n,
-                (
-                  within_grown _ _ _ _ _ c.held-held.result z c.held-held.ensures.numbers c.seconds.invariant.grown (omega arith),
-                  (within_grown _ _ _ _ _ c.held-held.result v c.held-held.ensures.numbers c.seconds.invariant.grown (omega arith), tt),
-                ),
-              )
-              (c.seconds.invariant.threes z v b k))
+          (λ z b o v k. chosen_stays c.seconds.store c.choose_with.new.store (c.args.number ∷ get_or c.held-held.result.at z 0 ∷ get_or c.held-held.result.at v 0 ∷ []) g (
+            n,
+            (
+              within_grown _ _ _ _ _ c.held-held.result z c.held-held.ensures.numbers c.seconds.invariant.grown (omega arith),
+              (within_grown _ _ _ _ _ c.held-held.result v c.held-held.ensures.numbers c.seconds.invariant.grown (omega arith), tt),
+            ),
+          )
+          (c.seconds.invariant.threes z v b k))
           (λ o v k. c.choose_with.ensures.chosen v k) p l (omega arith) q m;
     }
 

@@ -30,7 +30,7 @@ returns-in-Full-clause-combined c =
     (grown_on _ _ _ c.join_over.ensures.extends c.join_over-in-Full.ensures.extends) c.requires
     (stands c.args.store.now _ _ _ c.entries.ensures.value c.requires c.index-entries-number.is) c.in-Full.is
     (λ i l. over_stays c.join_over.new.store c.join_over-in-Full.new.store c.args.number i c.index-entries-number.result.x c.join_over-in-Full.ensures.extends
-        (number_grown _ _ _ c.join_over.ensures.extends c.requires) (number_grown _ _ _ c.join_over.ensures.extends l) (c.join_over.ensures.joined i l))
+    (number_grown _ _ _ c.join_over.ensures.extends c.requires) (number_grown _ _ _ c.join_over.ensures.extends l) (c.join_over.ensures.joined i l))
     (λ i l. c.join_over-in-Full.ensures.joined i (number_grown _ _ _ c.join_over.ensures.extends l))
 
 pub returns-in-Semi-clause-combined : goal.returns-in-Semi-clause-combined

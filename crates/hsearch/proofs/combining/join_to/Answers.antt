@@ -14,8 +14,8 @@ others-preserved c = record {
   grown = grown_on _ _ _ c.others.invariant.grown c.join.ensures.extends;
   done = up_to (λ p. IsJoined c.join.new.store c.args.number (get_or c.held-held.result.at p 0)) c.others.place
       (λ p l. joined_stays c.others.store c.join.new.store c.args.number (get_or c.held-held.result.at p 0) c.join.ensures.extends
-          (number_grown _ _ _ c.others.invariant.grown c.requires.number)
-          (within_grown _ _ _ _ _ c.held-held.result p c.held-held.ensures.numbers c.others.invariant.grown (omega arith)) (c.others.invariant.done p l))
+      (number_grown _ _ _ c.others.invariant.grown c.requires.number)
+      (within_grown _ _ _ _ _ c.held-held.result p c.held-held.ensures.numbers c.others.invariant.grown (omega arith)) (c.others.invariant.done p l))
       c.join.ensures.joined;
 }
 
