@@ -298,7 +298,7 @@ both_written d a h full semi next_full next_semi l m t u e f (inr (q, r, s)) =
       rw (r, s) (omega (arith, total_more semi (number_of_pair a.x a.y) h (length d.entries) (pair_within d Semi semi a.x a.y u l m) was)),
     )
 
-held_count : (h : Held) (numbers : List ℕ) → h ≡ held_of numbers → h.count ≡ length numbers
+pub held_count : (h : Held) (numbers : List ℕ) → h ≡ held_of numbers → h.count ≡ length numbers
 held_count h numbers e = ap (λ (v : Held). v.count) e
 
 -- a store with one entry more
