@@ -1,10 +1,10 @@
 -- Entries that share a middle.
-use Rattle.std.proofs.Common.{◌≡◌, ℕ, ◌+◌, ◌<◌, ◌≤◌, min, max, true, false, Bool, bit_or, Some, refl, sym, ◌∙◌, ap, subst, inl, inr, ◌⊎◌, arith}
-use Rattle.std.proofs.lemmas.Bool.{both_ways, false_from_ne_true}
-use Rattle.hex_cells.specs.Sets.{has, with_cell}
+use Rattle.std.proofs.Common.{◌≡◌, ℕ, ◌<◌, min, max, true, bit_or, sym, ◌∙◌, subst, inl, inr, arith}
+use Rattle.hex_cells.specs.Sets.{with_cell}
 use Rattle.hex_cells.proofs.WithCell.{with_cell-cases}
 use Rattle.hex_board.specs.Elements.{PlayerBoard, HasCell, element_count}
 use Rattle.hex_board.specs.Positions.{is_empty_at}
+use Rattle.hex_board.proofs.Parts.{some_same}
 use Rattle.conn_store.specs.Entries.{AllEmpty, IsBetween, IsValid, Misses}
 use Rattle.conn_store.specs.Rules.{AndRule, IsCell, IsChain, both_of}
 use Rattle.conn_store.specs.declared.entries.Entry.{Entry}
@@ -48,9 +48,6 @@ misses_of e a x u v h = elim (least_first x u a.x a.y h.0 h.1) [
 
 pub misses_both : (e : PlayerBoard) (x c d : ℕ) → Misses e x c → Misses e x d → Misses e x (bit_or c d)
 misses_both e x c d f g k h i = elim (in_union c d k i) [ inl o ↦ f k h o | inr o ↦ g k h o ]
-
-some_same : (x y : ℕ) → Some x ≡ Some y → x ≡ y
-some_same x y e = cc
 
 misses_more : (e : PlayerBoard) (x u c k : ℕ) → Misses e x c → HasCell e u k → (x ≡ u → ⊥) → Misses e x (with_cell c k)
 misses_more e x u c k f g n j h i = elim (with_cell-cases c k j i) [

@@ -1,19 +1,18 @@
 -- The entries that the rules give.
-use Rattle.std.proofs.Common.{◌≡◌, ℕ, ◌+◌, ◌<◌, ◌≤◌, ◌⊎◌, ◌&&◌, true, false, Bool, bit_or, bit_and, List, [], ◌∷◌, length, get_or, take, Option, Some, None, map, All, refl, sym, ◌∙◌, ap, subst, inl, inr, arith}
-use Rattle.std.specs.List.{list_all, slice_get}
-use Rattle.std.proofs.lemmas.Bool.{both_ways, cases_Bool, false_from_ne_true, and_parts}
-use Rattle.std.proofs.lemmas.List.Elements.{All-cons, All-head, All-nil, All-tail}
+use Rattle.std.proofs.Common.{◌≡◌, ℕ, ◌<◌, ◌&&◌, true, false, Bool, bit_or, List, [], ◌∷◌, length, get_or, Some, refl, sym, ◌∙◌, ap, subst, inl, inr, arith}
+use Rattle.std.specs.List.{slice_get}
+use Rattle.std.proofs.lemmas.Bool.{both_ways, false_from_ne_true, and_parts}
+use Rattle.std.proofs.lemmas.List.Elements.{All-cons, All-head, All-nil}
 use Rattle.std.proofs.lemmas.Option.{same_Some, slice_get_read}
 use Rattle.hex_cells.specs.Sets.{has, with_cell}
-use Rattle.hex_board.specs.Elements.{PlayerBoard, HasCell, element_count}
-use Rattle.hex_board.specs.Places.{Near}
+use Rattle.hex_board.specs.Elements.{PlayerBoard, HasCell}
 use Rattle.hex_board.specs.Positions.{Within, stones_of, is_empty_at}
 use Rattle.hex_board.proofs.Places.{empty_alone}
 use Rattle.conn_store.specs.Entries.{AllEmpty, IsBetween, IsValid, Misses}
-use Rattle.conn_store.specs.Rules.{AndRule, AreAt, AreWays, FollowsBy, FollowsFrom, IsCell, IsAndOf, IsChain, IsEntry, IsGroup, OrRule, adjacent_entry, both_of, is_in_all, union_of}
+use Rattle.conn_store.specs.Rules.{AndRule, AreAt, AreWays, FollowsBy, IsCell, IsAndOf, IsChain, IsEntry, IsGroup, OrRule, both_of}
 use Rattle.conn_store.specs.Stores.{CanAnd, CanOr, GivesAnd, IsNext, IsSound, StoreData}
 use Rattle.conn_store.specs.declared.entries.Cause.{Cause}
-use Rattle.conn_store.specs.declared.entries.Cause.TheVariants.{Adjacent, AndGroup, AndEmpty, Or}
+use Rattle.conn_store.specs.declared.entries.Cause.TheVariants.{AndGroup, AndEmpty, Or}
 use Rattle.conn_store.specs.declared.entries.Entry.{Entry}
 use Rattle.conn_store.specs.declared.entries.Kind.{Kind}
 use Rattle.conn_store.specs.declared.entries.Kind.TheVariants.{Full, Semi}
@@ -40,7 +39,7 @@ entry_with entry kind x y c d cause q n = subst (λ v. IsEntry entry kind x y v 
 
 -- ---- AND
 
-at_two : (entries : List Entry) (i j : ℕ) (a b : Entry) → slice_get entries i ≡ Some a → slice_get entries j ≡ Some b → AreAt entries (i ∷ j ∷ []) (a ∷ b ∷ [])
+pub at_two : (entries : List Entry) (i j : ℕ) (a b : Entry) → slice_get entries i ≡ Some a → slice_get entries j ≡ Some b → AreAt entries (i ∷ j ∷ []) (a ∷ b ∷ [])
 at_two entries i j a b h g = cc
 
 two_at : (entries : List Entry) (i j : ℕ) (a b : Entry) → AreAt entries (i ∷ j ∷ []) (a ∷ b ∷ []) → (slice_get entries i ≡ Some a) × (slice_get entries j ≡ Some b)
@@ -105,18 +104,18 @@ no_and d i j a b h g f (p, q, x, u, y, at, r) =
 
 -- ---- OR
 
-both_full : (a b : Bool) → (a ≡ true → b ≡ true → ⊥) → (a && (b && true)) ≡ false
+pub both_full : (a b : Bool) → (a ≡ true → b ≡ true → ⊥) → (a && (b && true)) ≡ false
 both_full a b f = false_from_ne_true (a && (b && true)) (λ h. let t = and_parts a (b && true) h in f t.0 (and_parts b true t.1).0)
 
-all_full : (a b c : Bool) → (a ≡ true → b ≡ true → c ≡ true → ⊥) → (a && (b && (c && true))) ≡ false
+pub all_full : (a b c : Bool) → (a ≡ true → b ≡ true → c ≡ true → ⊥) → (a && (b && (c && true))) ≡ false
 all_full a b c f = false_from_ne_true (a && (b && (c && true))) (λ h.
     let t = and_parts a (b && (c && true)) h in
     let u = and_parts b (c && true) t.1 in f t.0 u.0 (and_parts c true u.1).0)
 
-both_not : (a b : Bool) → (a && (b && true)) ≡ false → a ≡ true → b ≡ true → ⊥
+pub both_not : (a b : Bool) → (a && (b && true)) ≡ false → a ≡ true → b ≡ true → ⊥
 both_not a b h f g = absurd (grind arith)
 
-all_not : (a b c : Bool) → (a && (b && (c && true))) ≡ false → a ≡ true → b ≡ true → c ≡ true → ⊥
+pub all_not : (a b c : Bool) → (a && (b && (c && true))) ≡ false → a ≡ true → b ≡ true → c ≡ true → ⊥
 all_not a b c h f g i = absurd (grind arith)
 
 -- no cell is in both carriers, or in all three
@@ -202,7 +201,7 @@ two_next d i j a b entry s h g r n =
           (a ∷ b ∷ [], at_two d.entries i j a b h g, or_rule (a ∷ b ∷ []) a entry v.order n.pair r, n.kind_is, n.carrier_is),
     )
 
-at_three : (entries : List Entry) (i j k : ℕ) (a b c : Entry) → slice_get entries i ≡ Some a → slice_get entries j ≡ Some b → slice_get entries k ≡ Some c
+pub at_three : (entries : List Entry) (i j k : ℕ) (a b c : Entry) → slice_get entries i ≡ Some a → slice_get entries j ≡ Some b → slice_get entries k ≡ Some c
     → AreAt entries (i ∷ j ∷ k ∷ []) (a ∷ b ∷ c ∷ [])
 at_three entries i j k a b c h g f = cc
 

@@ -142,7 +142,7 @@ few_more d a f l kind x y = elim (cases_Bool (is_of kind x y a)) [
 
 -- ---- sound entries
 
-last_or_before : (entries : List Entry) (a b : Entry) (i : ℕ) → slice_get (entries ++ a ∷ []) i ≡ Some b
+pub last_or_before : (entries : List Entry) (a b : Entry) (i : ℕ) → slice_get (entries ++ a ∷ []) i ≡ Some b
     → ((i < length entries) × (slice_get entries i ≡ Some b)) ⊎ ((i ≡ length entries) × (b ≡ a))
 last_or_before [] a b zero h = inr (refl, cc)
 last_or_before [] a b (suc i) h = absurd (cc)
@@ -175,7 +175,7 @@ nothing_sound e = record { valid = λ i a h. absurd (cc); follows = λ i a h. ab
 
 -- ---- what the index says of a carrier
 
-number_at : (numbers : List ℕ) (j : ℕ) → j < length numbers → get_or (held_of numbers).at j 0 ≡ get_or numbers j 0
+pub number_at : (numbers : List ℕ) (j : ℕ) → j < length numbers → get_or (held_of numbers).at j 0 ≡ get_or numbers j 0
 number_at numbers j l = get_or_append_left numbers (replicate {A = ℕ} (6 - length numbers) 0) 0 j l
 
 at_start : (n i : ℕ) → n ≡ 0 + i → n ≡ i
@@ -298,7 +298,7 @@ both_written d a h full semi next_full next_semi l m t u e f (inr (q, r, s)) =
       rw (r, s) (omega (arith, total_more semi (number_of_pair a.x a.y) h (length d.entries) (pair_within d Semi semi a.x a.y u l m) was)),
     )
 
-held_count : (h : Held) (numbers : List ℕ) → h ≡ held_of numbers → h.count ≡ length numbers
+pub held_count : (h : Held) (numbers : List ℕ) → h ≡ held_of numbers → h.count ≡ length numbers
 held_count h numbers e = ap (λ (v : Held). v.count) e
 
 -- a store with one entry more

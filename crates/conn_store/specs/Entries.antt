@@ -16,7 +16,8 @@ AllEmpty p c = (k : ℕ) → has c k ≡ true → is_empty_at p k ≡ true
 abbrev pub Misses : PlayerBoard → ℕ → ℕ → Type 0
 Misses e x c = (k : ℕ) → HasCell e x k → ¬ (has c k ≡ true)
 
--- an entry of two elements, the lesser first, with a carrier of empty cells, none of them a cell of these elements
+-- an entry of two elements, the lesser first, with a carrier of empty cells, none of them a cell
+-- of these elements
 pub record IsValid (e : PlayerBoard) (entry : Entry) : Type 0 where
   pub order : entry.x < entry.y
   pub elements : entry.y < element_count e
@@ -28,7 +29,8 @@ pub record IsValid (e : PlayerBoard) (entry : Entry) : Type 0 where
 abbrev pub Connects : Kind → PlayerBoard → ℕ → ℕ → ℕ → ℕ → Type 0
 Connects kind e x y s c = IsSure kind (AreLinked e x y) s c
 
--- with his stones on the board the player is sure of linking the entry's elements inside its carrier
+-- with his stones on the board the player is sure of linking the entry's elements inside its
+-- carrier
 abbrev pub IsTrueEntry : PlayerBoard → Entry → Type 0
 IsTrueEntry e entry = Connects entry.kind e entry.x entry.y (stones_of e.board e.player) entry.carrier
 

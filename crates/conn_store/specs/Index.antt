@@ -1,4 +1,5 @@
--- The index of a store: for each pair and kind the numbers of its entries. Only private clauses cite this.
+-- The index of a store: for each pair and kind the numbers of its entries. Only private clauses
+-- cite this.
 use Rattle.std.specs.Prelude.{◌≡◌, ℕ, ◌+◌, ◌-◌, ◌*◌, ◌/◌, ◌<◌, ◌≤◌, true, List, Some, slice_index, slice_index_or, All, length, sum_by}
 use Rattle.std.specs.List.{slice_get}
 use Rattle.hex_cells.specs.Sets.{has}
@@ -19,7 +20,8 @@ pairs_among n = n * (n - 1) / 2
 abbrev pub number_of_pair : ℕ → ℕ → ℕ
 number_of_pair x y = pairs_among y + x
 
--- the table has at each pair the numbers of its entries of that kind, of which there are at most the full number
+-- the table has at each pair the numbers of its entries of that kind, of which there are at most
+-- the full number
 pub record IsTable (d : StoreData) (kind : Kind) (table : List Held) : Type 0 where
   pub pairs : length table ≡ pairs_among (element_count d.elements)
   pub numbers : (x y : ℕ) (h : Held) → x < y → y < element_count d.elements
@@ -42,7 +44,8 @@ pub record IsSmall (e : PlayerBoard) : Type 0 where
   pub stones : Within e.board.size (stones_of e.board e.player)
   pub count : element_count e ≤ 123
 
--- what a store keeps: the board and the player of its elements, sound entries, the two tables, and room for all entries
+-- what a store keeps: the board and the player of its elements, sound entries, the two tables,
+-- and room for all entries
 pub record IsStored (board : Position) (player : Colour) (d : StoreData) (full semi : List Held) (room : ℕ) : Type 0 where
   pub same_board : d.elements.board ≡ board
   pub same_player : d.elements.player ≡ player

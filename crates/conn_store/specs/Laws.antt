@@ -10,13 +10,15 @@ use Rattle.conn_store.specs.declared.entries.Kind.{Kind}
 abbrev pub IsSubset : ℕ → ℕ → Type 0
 IsSubset a b = (k : ℕ) → has a k ≡ true → has b k ≡ true
 
--- p has the size of the board of the elements, on which the player's stones lie, and his stones or more
+-- p has the size of the board of the elements, on which the player's stones lie, and his stones
+-- or more
 pub record IsLater (e : PlayerBoard) (p : Position) : Type 0 where
   pub on_board : Within e.board.size (stones_of e.board e.player)
   pub size : p.size ≡ e.board.size
   pub stones : IsSubset (stones_of e.board e.player) (stones_of p e.player)
 
--- on the later board p the player is sure of linking the elements of his two edges inside the empty cells c
+-- on the later board p the player is sure of linking the elements of his two edges inside the
+-- empty cells c
 pub record IsSureOfEdges (kind : Kind) (e : PlayerBoard) (p : Position) (c : ℕ) : Type 0 where
   pub later : IsLater e p
   pub empty : AllEmpty p c

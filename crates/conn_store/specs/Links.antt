@@ -4,7 +4,8 @@ use Rattle.hex_cells.specs.Sets.{has}
 use Rattle.hex_board.specs.Elements.{PlayerBoard, HasCell}
 use Rattle.hex_board.specs.Places.{Place, at_cell, at_edge, IsMember, Route, last_place}
 
--- what a path between elements x and y may go through: the cells of s, of x and of y, and the player's edges
+-- what a path between elements x and y may go through: the cells of s, of x and of y, and the
+-- player's edges
 abbrev pub MayPass : PlayerBoard → ℕ → ℕ → ℕ → Place → Type 0
 MayPass e x y s (at_cell k) = (has s k ≡ true) ⊎ (HasCell e x k ⊎ HasCell e y k)
 MayPass e x y s (at_edge second) = Unit {0}

@@ -1,5 +1,5 @@
--- The four rules by which an entry follows from others. An entry of a pair has the lesser element first; the rules speak
--- of the pair without an order.
+-- The four rules by which an entry follows from others. An entry of a pair has the lesser element
+-- first; the rules speak of the pair without an order.
 use Rattle.std.specs.Prelude.{◌≡◌, ◌≢◌, ℕ, ◌⊎◌, Bool, true, false, List, [], ◌∷◌, Some, All, length, map, take, bit_or}
 use Rattle.std.specs.List.{list_all, slice_get}
 use Rattle.hex_cells.specs.Sets.{has, with_cell}
@@ -27,8 +27,8 @@ pub record IsChain (a b : Entry) (x u y : ℕ) : Type 0 where
   pub second : IsBetween b u y
   pub ends : x ≢ y
 
--- what the rules of AND ask of entries a of x and u, and b of u and y: both are full, no cell is in both
--- carriers, and neither carrier holds the other's end
+-- what the rules of AND ask of entries a of x and u, and b of u and y: both are full, no cell is
+-- in both carriers, and neither carrier holds the other's end
 pub record AndRule (e : PlayerBoard) (a b : Entry) (x u y : ℕ) : Type 0 where
   pub first_kind : a.kind ≡ Full
   pub second_kind : b.kind ≡ Full
@@ -56,7 +56,8 @@ adjacent_entry x y = record { kind = Full; x = x; y = y; carrier = 0; cause = Ad
 abbrev pub both_of : Entry → Entry → ℕ
 both_of a b = bit_or a.carrier b.carrier
 
--- what the rules of AND give of a and b: a full entry over a group, and a semi one over an empty cell
+-- what the rules of AND give of a and b: a full entry over a group, and a semi one over an empty
+-- cell
 pub record IsAndOf (e : PlayerBoard) (a b : Entry) (x u y : ℕ) (entry : Entry) : Type 0 where
   pub pair : IsBetween entry x y
   pub group : IsGroup e u → (entry.kind ≡ Full) × (entry.carrier ≡ both_of a b)

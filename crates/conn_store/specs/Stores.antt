@@ -2,7 +2,9 @@
 use Rattle.std.specs.Prelude.{◌≡◌, ℕ, ◌-◌, ◌≤◌, ◌==◌, ◌&&◌, Bool, true, false, suc, List, [], ◌∷◌, ◌++◌, Some, length, take, replicate, if◌then◌else◌}
 use Rattle.std.specs.List.{slice_get}
 use Rattle.hex_cells.specs.Sets.{has}
+use Rattle.hex_cells.specs.declared.colours.Colour.{Colour}
 use Rattle.hex_board.specs.Elements.{PlayerBoard}
+use Rattle.hex_board.specs.Positions.{Position}
 use Rattle.conn_store.specs.Entries.{IsValid, IsTrueEntry}
 use Rattle.conn_store.specs.Rules.{AndRule, AreAt, FollowsFrom, IsAndOf, OrRule}
 use Rattle.conn_store.specs.declared.entries.Entry.{Entry}
@@ -13,10 +15,15 @@ use Rattle.conn_store.specs.declared.entries.TheConstants.{MOST_FULL, MOST_SEMI}
 use Rattle.conn_store.specs.declared.entries.Put.{Put}
 use Rattle.conn_store.specs.declared.entries.Put.TheVariants.{Added, Dominated, PairFull}
 
--- a store without where it lies in memory: the board and the player of whose elements it speaks, and the entries
+-- a store without where it lies in memory: the board and the player of whose elements it speaks,
+-- and the entries
 pub record StoreData : Type 0 where
   pub elements : PlayerBoard
   pub entries : List Entry
+
+-- the store of the player's elements on the board, without entries
+abbrev pub empty_store : Position → Colour → StoreData
+empty_store board player = record { elements = record { board = board; player = player }; entries = [] }
 
 -- the number of entries of one pair that a store takes of a kind
 abbrev pub most_of : Kind → ℕ
@@ -33,7 +40,8 @@ same_kind Semi Semi = true
 abbrev pub is_of : Kind → ℕ → ℕ → Entry → Bool
 is_of kind x y entry = same_kind entry.kind kind && (entry.x == x && entry.y == y)
 
--- the numbers of the entries of that kind and pair, in rising order, where the first entry has the number n
+-- the numbers of the entries of that kind and pair, in rising order, where the first entry has
+-- the number n
 abbrev pub numbers_from : ℕ → Kind → ℕ → ℕ → List Entry → List ℕ
 numbers_from n kind x y [] = []
 numbers_from n kind x y (a ∷ entries) =
@@ -52,6 +60,10 @@ abbrev pub IsCovered : StoreData → Kind → ℕ → ℕ → ℕ → Type 0
 IsCovered d kind x y c =
     (i : ℕ) × (a : Entry) × (slice_get d.entries i ≡ Some a) × (is_of kind x y a ≡ true)
     × ((k : ℕ) → has a.carrier k ≡ true → has c k ≡ true)
+
+-- an entry of the same kind and pair has its carrier inside the entry's
+abbrev pub IsDominated : StoreData → Entry → Type 0
+IsDominated d entry = IsCovered d entry.kind entry.x entry.y entry.carrier
 
 -- the pair has its full number of entries of that kind; no store has more
 abbrev pub IsPairFull : StoreData → Kind → ℕ → ℕ → Type 0

@@ -4,10 +4,12 @@ ghost use Rattle.std.specs.Prelude.{◌≡◌};
 
 use hex_cells::CellSet;
 
-/// The most full entries of a pair that a store takes: with more, derivations grow long and find little.
+/// The most full entries of a pair that a store takes: with more, derivations grow long and find
+/// little.
 pub const MOST_FULL: usize = 4;
 
-/// The most semi entries of a pair that a store takes. Six make 15 pairs and 20 triples for the rule of OR.
+/// The most semi entries of a pair that a store takes. Six make 15 pairs and 20 triples for the
+/// rule of OR.
 pub const MOST_SEMI: usize = 6;
 
 /// The most entries of a store: so many for each of the 7,503 pairs of 123 elements.
@@ -45,7 +47,8 @@ pub enum Cause {
     AndGroup(u32, u32),
     /// Two full entries meet in an empty cell.
     AndEmpty(u32, u32),
-    /// Two or three semi entries of the same elements, and how many: the numbers after these are not read.
+    /// Two or three semi entries of the same elements, and how many: the numbers after these are
+    /// not read.
     Or([u32; 3], u32),
 }
 
@@ -60,7 +63,8 @@ pub enum Put {
     PairFull,
 }
 
-/// The numbers of the entries of a pair and kind: the first `count` of `at`, in rising order. The other places are 0.
+/// The numbers of the entries of a pair and kind: the first `count` of `at`, in rising order. The
+/// other places are 0.
 #[derive(Clone, Copy, Debug, PartialEq, Eq)]
 pub struct Held {
     pub count: u32,

@@ -11,9 +11,9 @@ ghost use Rattle.conn_store.specs.Entries.{Connects};
 ghost use Rattle.conn_store.specs.Laws.{IsSubset, IsSureOfEdges};
 ghost use Rattle.conn_store.specs.declared.entries.Kind.{Kind};
 
-/// The laws of truth. Who is sure where the opponent places first is sure where he does himself. More cells in the
-/// carrier keep truth, and so do more stones. With a stone of his on a cell of the carrier the player is sure inside the
-/// rest of it. It does nothing.
+/// The laws of truth. Who is sure where the opponent places first is sure where he does himself.
+/// More cells in the carrier keep truth, and so do more stones. With a stone of his on a cell of
+/// the carrier the player is sure inside the rest of it. It does nothing.
 pub fn truth_goes_on()
     ensures semi { (e : PlayerBoard) (x y s c : ℕ)
         → Connects Kind.Full e x y s c → Connects Kind.Semi e x y s c }
@@ -25,9 +25,9 @@ pub fn truth_goes_on()
         → Connects Kind.Full e x y s c → Connects Kind.Full e x y (with_cell s k) (without_cell c k) }
 {}
 
-/// The law of the edges. On a board with the player's stones or more, a player who is sure of linking his edges wins:
-/// where he is sure though the opponent places first, with the opponent to move, and where he is sure if he places first,
-/// with himself to move. It does nothing.
+/// The law of the edges. On a board with the player's stones or more, a player who is sure of
+/// linking his edges wins: where he is sure though the opponent places first, with the opponent
+/// to move, and where he is sure if he places first, with himself to move. It does nothing.
 pub fn connected_edges_win()
     ensures full { (e : PlayerBoard) (p : Position) (c : ℕ)
         → IsSureOfEdges Kind.Full e p c → Wins e.player p (other_of e.player) }

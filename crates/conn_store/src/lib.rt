@@ -1,26 +1,29 @@
 //! Connections: what a player can be sure of joining, kept as entries that are true.
 //!
-//! **Nouns.** An [`Entry`] speaks of two elements of a player (his empty cells and groups) and of a *carrier*, a set of
-//! empty cells. A full entry says that the player links the two elements inside the carrier even if the opponent places
-//! first there; a semi entry says that he does if he places first. An entry *follows* from others by one of four rules,
-//! its [`Cause`]. A [`Store`] holds a player's entries on a board, and by pair and kind the numbers of its entries
+//! **Nouns.** An [`Entry`] speaks of two elements of a player (his empty cells and groups) and of
+//! a *carrier*, a set of empty cells. A full entry says that the player links the two elements
+//! inside the carrier even if the opponent places first there; a semi entry says that he does if
+//! he places first. An entry *follows* from others by one of four rules, its [`Cause`]. A
+//! [`Store`] holds a player's entries on a board, and by pair and kind the numbers of its entries
 //! ([`Held`]).
 //!
-//! **A caller** makes a [`Store`], adds entries that follow from those that it holds ([`Store::add`]), looks up those of
-//! a pair ([`Store::held`]), and goes over all ([`Store::entries`]).
+//! **A caller** makes a [`Store`], adds entries that follow from those that it holds
+//! ([`Store::add`]), looks up those of a pair ([`Store::held`]), and goes over all
+//! ([`Store::entries`]).
 //!
-//! **What is proved.** Each entry of a store is valid, follows by the four rules from earlier ones, and is *true*: the
-//! truth of an entry (specs/Truth.antt, specs/Links.antt) speaks of paths of stones and of placing in turn, and of no
-//! rule. `add` refuses exactly where an entry of that pair and kind has its carrier inside the new one, or else the pair
-//! is full. `held` has exactly the numbers of the entries of that pair and kind. Who is sure of linking the elements of
-//! his two edges wins the game ([`connected_edges_win`]); more cells, more stones and the first move keep truth
-//! ([`truth_goes_on`]).
+//! **What is proved.** Each entry of a store is valid, follows by the four rules from earlier
+//! ones, and is *true*: the truth of an entry (specs/Truth.antt, specs/Links.antt) speaks of
+//! paths of stones and of placing in turn, and of no rule. `add` refuses exactly where an entry
+//! of that pair and kind has its carrier inside the new one, or else the pair is full. `held` has
+//! exactly the numbers of the entries of that pair and kind. Who is sure of linking the elements
+//! of his two edges wins the game ([`connected_edges_win`]); more cells, more stones and the
+//! first move keep truth ([`truth_goes_on`]).
 //!
-//! **What is only tested, or not said.** That [`Store::make`] gets its memory; speed; what the derived `Debug` prints.
-//! That a rule is never missed is for the crate above.
+//! **What is only tested, or not said.** That [`Store::make`] gets its memory; speed; what the
+//! derived `Debug` prints. That a rule is never missed is for the crate above.
 //!
-//! **Limits.** At most [`MOST_FULL`] full and [`MOST_SEMI`] semi entries of a pair, and [`MOST_ENTRIES`] in all. Only
-//! [`Store::make`] takes memory.
+//! **Limits.** At most [`MOST_FULL`] full and [`MOST_SEMI`] semi entries of a pair, and
+//! [`MOST_ENTRIES`] in all. Only [`Store::make`] takes memory.
 //!
 //! Source: Anshelevich's virtual and semi connections, with the AND rule, the OR rule and carriers.
 #![tactic(auto)]

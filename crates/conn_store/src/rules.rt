@@ -11,7 +11,8 @@ use super::Store;
 use super::entries::{Cause, Entry, Kind};
 use hex_cells::CellSet;
 
-// Two entries that share the middle `u`: the first is one of `x` and `u`, the second one of `u` and `y`.
+// Two entries that share the middle `u`: the first is one of `x` and `u`, the second one of `u`
+// and `y`.
 #[derive(Clone, Copy)]
 struct Chain {
     x: u8,
@@ -90,8 +91,8 @@ impl Store {
         }
     }
 
-    /// The entry that follows from entries `i` and `j` by a rule of AND: over a group, or over an empty cell; `None`
-    /// exactly where neither applies.
+    /// The entry that follows from entries `i` and `j` by a rule of AND: over a group, or over an
+    /// empty cell; `None` exactly where neither applies.
     pub fn by_and(&self, i: u32, j: u32) -> Option<Entry>
         requires first { i < length self.now.entries }
         requires second { j < length self.now.entries }
@@ -145,7 +146,8 @@ impl Store {
         }
     }
 
-    /// The entry that follows from entries `i` and `j` by the rule of OR; `None` exactly where it does not apply.
+    /// The entry that follows from entries `i` and `j` by the rule of OR; `None` exactly where it
+    /// does not apply.
     pub fn by_or_two(&self, i: u32, j: u32) -> Option<Entry>
         requires first { i < length self.now.entries }
         requires second { j < length self.now.entries }
@@ -162,7 +164,8 @@ impl Store {
         Some(entry_of(Kind::Full, a.x, a.y, carrier, Cause::Or([i, j, 0], 2)))
     }
 
-    /// The entry that follows from entries `i`, `j` and `k` by the rule of OR; `None` exactly where it does not apply.
+    /// The entry that follows from entries `i`, `j` and `k` by the rule of OR; `None` exactly
+    /// where it does not apply.
     pub fn by_or_three(&self, i: u32, j: u32, k: u32) -> Option<Entry>
         requires first { i < length self.now.entries }
         requires second { j < length self.now.entries }

@@ -1,10 +1,10 @@
 //! A store: the entries of a player on a board, with an index by pair and kind.
 
-ghost use Rattle.std.specs.Prelude.{◌≡◌, ℕ, ◌+◌, ◌<◌, ◌≤◌, ◌↔◌, [], IfOk, length};
+ghost use Rattle.std.specs.Prelude.{◌≡◌, ℕ, ◌+◌, ◌<◌, ◌≤◌, ◌↔◌, IfOk, length};
 ghost use Rattle.hex_board.specs.Elements.{element_count};
 ghost use Rattle.conn_store.specs.Entries.{IsValid};
 ghost use Rattle.conn_store.specs.Rules.{FollowsFrom};
-ghost use Rattle.conn_store.specs.Stores.{StoreData, IsCovered, IsPairFull, IsSound, after_put, held_of, most_of, numbers_of, with_entry};
+ghost use Rattle.conn_store.specs.Stores.{IsDominated, IsPairFull, IsSound, after_put, empty_store, held_of, most_of, numbers_of, with_entry};
 
 use super::entries::{Entry, Held, Kind, MOST_ENTRIES, MOST_FULL, MOST_SEMI, Put};
 use super::index::{has_inside, pair_count, pair_number, with_number};
@@ -34,14 +34,17 @@ impl Model for Store {
 
     ghost view = { λ s. record { elements = s.elements; entries = s.entries.items } };
 
-    ghost invariant = { λ s. IsStored s.board s.colour (record { elements = s.elements; entries = s.entries.items }) s.full.items s.semi.items (vec_capacity s.entries) };
+    ghost invariant = { λ s. IsStored s.board s.colour
+        (record { elements = s.elements; entries = s.entries.items })
+        s.full.items s.semi.items (vec_capacity s.entries) };
 }
 
 impl Store {
-    /// A store without entries, for the elements of the player on the board. It takes the room for all entries that may
-    /// come: [`MOST_FULL`] full and [`MOST_SEMI`] semi ones of each pair of elements.
+    /// A store without entries, for the elements of the player on the board. It takes the room
+    /// for all entries that may come: [`MOST_FULL`] full and [`MOST_SEMI`] semi ones of each pair
+    /// of elements.
     pub fn make(alloc: Global, board: &Board, colour: Colour) -> Result<Store, Memory>
-        ensures { IfOk result (λ store. store ≡ record { elements = record { board = board.now; player = colour }; entries = [] }) }
+        ensures { IfOk result (λ store. store ≡ empty_store board.now colour) }
     {
         // A board has 1 to 121 cells, and its stones lie on it.
         let _size = board.size();
@@ -65,14 +68,15 @@ impl Store {
         })
     }
 
-    /// Adds an entry, unless the store has one of that pair and kind with a carrier inside the new one, or the pair has its
-    /// full number of entries of that kind. The entry is valid, and follows from entries of the store by the rule that its
-    /// cause names.
+    /// Adds an entry, unless the store has one of that pair and kind with a carrier inside the
+    /// new one, or the pair has its full number of entries of that kind. The entry is valid, and
+    /// follows from entries of the store by the rule that its cause names.
     pub fn add(&mut self, entry: Entry) -> Put
         requires valid { IsValid self.old.elements entry }
         requires follows { FollowsFrom self.old.elements self.old.entries entry }
-        ensures dominated { (result ≡ Put.Dominated) ↔ IsCovered self.old entry.kind entry.x entry.y entry.carrier }
-        ensures full { (result ≡ Put.PairFull) ↔ (¬ (IsCovered self.old entry.kind entry.x entry.y entry.carrier) × IsPairFull self.old entry.kind entry.x entry.y) }
+        ensures dominated { (result ≡ Put.Dominated) ↔ IsDominated self.old entry }
+        ensures full { (result ≡ Put.PairFull) ↔ (¬ (IsDominated self.old entry)
+            × IsPairFull self.old entry.kind entry.x entry.y) }
         ensures added { (n : ℕ) → result ≡ Put.Added n → n ≡ length self.old.entries }
         ensures after { self.new ≡ after_put self.old entry result }
     {
@@ -86,7 +90,8 @@ impl Store {
         Put::Added(self.append(entry, held))
     }
 
-    // Puts the entry at the end, where its pair has these numbers of its kind, and answers its number.
+    // Puts the entry at the end, where its pair has these numbers of its kind, and answers its
+    // number.
     fn append(&mut self, entry: Entry, held: Held) -> u32
         requires valid { IsValid self.old.elements entry }
         requires follows { FollowsFrom self.old.elements self.old.entries entry }
@@ -120,7 +125,8 @@ impl Store {
         }
     }
 
-    /// The entries, in the order in which they came. Each is valid, follows from earlier ones, and is true.
+    /// The entries, in the order in which they came. Each is valid, follows from earlier ones,
+    /// and is true.
     pub fn entries(&self) -> &[Entry]
         ensures value { result.now ≡ self.now.entries }
         ensures sound { IsSound self.now }

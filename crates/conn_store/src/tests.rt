@@ -7,7 +7,8 @@ use std::alloc::Global;
 use std::process::Abort;
 use std::rt::HostRuntime;
 
-// A store of Black's on the board of this size, with his stones on the first so many cells of its second row.
+// A store of Black's on the board of this size, with his stones on the first so many cells of its
+// second row.
 fn store_of(rt: &impl Abort, alloc: Global, size: u32, stones: u32) -> Store {
     let size = Size::of(size).expect(rt, "a size");
     assert!(rt; stones == 0 || 1 < size.get() && stones <= size.get());
@@ -55,8 +56,8 @@ fn a_second_adjacent_entry_is_dominated(rt: HostRuntime) {
     assert_eq!(rt; store.colour(), Colour::Black);
 }
 
-// Black's stones on a2 to g2 are one group, element 13, and a1 to g1 are elements 2 to 8. Each of these seven cells lies
-// beside the first edge and beside the group.
+// Black's stones on a2 to g2 are one group, element 13, and a1 to g1 are elements 2 to 8. Each of
+// these seven cells lies beside the first edge and beside the group.
 #[test]
 fn a_seventh_semi_entry_finds_the_pair_full(rt: HostRuntime) {
     let mut store = store_of(&rt, rt.alloc(), 11, 7);
