@@ -1,9 +1,14 @@
 -- What was given, over one write after another.
-use Rattle.std.proofs.Common.{ℕ, ◌+◌, ◌-◌, List, [], ◌++◌, length, take, drop, Option, ap, sym, ◌∙◌, subst, append_assoc, append-nil}
+use Rattle.std.proofs.Common.{ℕ, ◌+◌, ◌-◌, ◌<◌, List, [], ◌++◌, length, take, drop, Option, ap, sym, ◌∙◌, subst, append_assoc, append-nil, arith, length-drop}
 use Rattle.std.proofs.Math.Seq.{take-add}
 use Rattle.std.proofs.lemmas.List.{take-append-drop, take_rest}
+<<<<<<< HEAD
 use Rattle.hex_io.specs.Told.{Told, GivesBytes, Same}
 use Rattle.hex_io.specs.Grew.{Gave, GavePart}
+=======
+use Rattle.hex_io.specs.Told.{Told, Gives, Same}
+use Rattle.hex_io.specs.Grew.{Gave, GavePart, GaveProperPart}
+>>>>>>> cac35be7452f9154ea3d805ec61af88d66e72b8a
 use Rattle.hex_io.proofs.BothLaws.{Both-then, Both-weaker, Both-refl}
 
 pub gives_then : (xs ys : List ℕ) (x y z : Told) → GivesBytes x y xs → GivesBytes y z ys → GivesBytes x z (xs ++ ys)
@@ -29,3 +34,10 @@ pub Gave-front : (a b c : Option Told) (bytes : List ℕ) (i : ℕ) → Gave a b
 Gave-front a b c bytes i p same =
     let gave : Gave a c (take i bytes) = rw (← append-nil (take i bytes)) (Gave-then a b c (take i bytes) [] p (Same-gave b c same)) in
     (take i bytes, drop i bytes, sym (take-append-drop i bytes), gave)
+
+-- the same, where the front is not all of the bytes
+pub Gave-proper : (a b c : Option Told) (bytes : List ℕ) (i : ℕ) → i < length bytes → Gave a b (take i bytes) → Same b c → GaveProperPart a c bytes
+Gave-proper a b c bytes i l p same =
+    let gave : Gave a c (take i bytes) = rw (← append-nil (take i bytes)) (Gave-then a b c (take i bytes) [] p (Same-gave b c same)) in
+    let more : 0 < length (drop i bytes) = omega (arith, length-drop i bytes, l) in
+    (take i bytes, drop i bytes, sym (take-append-drop i bytes), more, gave)

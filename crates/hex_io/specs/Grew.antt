@@ -1,5 +1,5 @@
 -- How what a link tells goes on.
-use Rattle.std.specs.Prelude.{◌≡◌, ℕ, List, ◌++◌}
+use Rattle.std.specs.Prelude.{◌≡◌, ℕ, ◌<◌, List, ◌++◌, length}
 use Rattle.std.specs.declared.option.Option.{Option}
 use Rattle.hex_io.specs.Told.{Told, Both, GivesBytes}
 
@@ -11,3 +11,10 @@ Gave old new bytes = Both old new (λ o n. GivesBytes o n bytes)
 abbrev pub GavePart : Option Told → Option Told → List ℕ → Type 0
 GavePart old new bytes =
     (part : List ℕ) × (more : List ℕ) × (bytes ≡ part ++ more) × Gave old new part
+
+-- where the link tells, a front of these bytes was given that is not all of them, and nothing else
+-- changed
+abbrev pub GaveProperPart : Option Told → Option Told → List ℕ → Type 0
+GaveProperPart old new bytes =
+    (part : List ℕ) × (more : List ℕ) × (bytes ≡ part ++ more) × (0 < length more)
+    × Gave old new part

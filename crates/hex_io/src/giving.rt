@@ -2,16 +2,19 @@
 
 ghost use Rattle.std.specs.Prelude.{◌≡◌, OnOk, OnErr};
 ghost use Rattle.hex_io.specs.Causes.{HasCause};
-ghost use Rattle.hex_io.specs.Grew.{Gave, GavePart};
+ghost use Rattle.hex_io.specs.Grew.{Gave, GavePart, GaveProperPart};
 ghost use Rattle.hex_io.specs.Reported.{Reported};
 
 use super::links::Link;
 use super::refusals::LinkFault;
 
-/// Gives all of the bytes. At a fault a front of them was given, and nothing is given after it.
+/// Gives all of the bytes. At a fault a front of them was given that is not all of them, and nothing
+/// is given after it.
 pub fn give<L: Link>(link: &mut L, bytes: &[u8]) -> Result<(), LinkFault>
     ensures all { OnOk result (Gave (L.told link.old) (L.told link.new) bytes.now) }
     ensures part { OnErr result (GavePart (L.told link.old) (L.told link.new) bytes.now) }
+    ensures proper { OnErr result
+        (GaveProperPart (L.told link.old) (L.told link.new) bytes.now) }
     ensures cause { HasCause (L.write_faults link.old) (L.write_faults link.new) result }
     ensures reads { L.read_faults link.new ≡ L.read_faults link.old }
 {

@@ -2,7 +2,7 @@
 //!
 //! **What it is.** A *link* is a pair of streams: bytes are read from it and bytes are given to it.
 //! [`Link`] is the trait; [`MemLink`] is a link in memory, [`StdLink`] is standard input and
-//! output, [`ErrLink`] is standard error. What a link *tells* are the bytes still to come, those
+//! output, [`ErrLink`] is standard error, [`FileLink`] writes a file. What a link *tells* are the bytes still to come, those
 //! taken and those given, and an *ask* for each read that was answered: how much was taken and
 //! given when it began. A *shelf* has files by name: [`Shelf`] is the trait, [`MemShelf`] is a
 //! shelf in memory, and [`DirShelf`] has the files of the system. It tells its files, and of each
@@ -27,7 +27,7 @@
 //! exactly where they were told to.
 //!
 //! **Only tested, or not said.** What a terminal, a file or another program gave or got: `StdLink`,
-//! `ErrLink` and `DirShelf` tell nothing. A read may wait for its device.
+//! `ErrLink`, `FileLink` and `DirShelf` tell nothing. A read may wait for its device.
 //!
 //! **Limits.** A file of [`FILE_LIMIT`] bytes. A count stands still at the greatest value of a
 //! `u64`. `MemLink::make` takes memory for all that it will hold, and a fetch for what it answers;
@@ -35,6 +35,7 @@
 #![tactic(auto)]
 
 mod directory;
+mod file_links;
 mod file_shelves;
 mod files;
 mod giving;
@@ -49,6 +50,7 @@ mod tests;
 mod words;
 
 pub use directory::DirShelf;
+pub use file_links::FileLink;
 pub use file_shelves::MemShelf;
 pub use files::{Bytes, File};
 pub use giving::{give, report};

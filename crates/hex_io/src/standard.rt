@@ -95,7 +95,11 @@ impl Link for ErrLink {
 }
 
 /// Gives bytes from the front of `bytes` to a stream. One that takes none of them is at fault too.
-fn write_once<W: Write>(output: &mut W, faults: &mut u64, bytes: &[u8]) -> Result<usize, LinkFault>
+pub(crate) fn write_once<W: Write>(
+    output: &mut W,
+    faults: &mut u64,
+    bytes: &[u8],
+) -> Result<usize, LinkFault>
     requires { 0 < length bytes.now }
     ensures bound { IfOk result (λ n. (0 < n) × (n ≤ length bytes.now)) }
     ensures cause { HasCause faults.old faults.new result }

@@ -1,8 +1,8 @@
 //! What no clause says: that a call succeeds with ample memory, and that the devices are there.
 
 use super::{
-    Bytes, DirShelf, ErrLink, File, Link, LinkFault, MemLink, MemShelf, Shelf, ShelfError, StdLink,
-    Word, give, report,
+    Bytes, DirShelf, ErrLink, File, FileLink, Link, LinkFault, MemLink, MemShelf, Shelf,
+    ShelfError, StdLink, Word, give, report,
 };
 use std::alloc::{AllocError, Global};
 use std::convert::AsStr;
@@ -155,4 +155,21 @@ fn the_system_has_files(rt: HostRuntime) {
         .fetch(rt.alloc(), "/dev/null")
         .map(|found| found.map(|bytes| bytes.len()));
     assert!(rt; nothing == Ok(Some(0)));
+}
+
+// A file is written from its start, over what stood there, and gives nothing to read.
+#[test]
+fn a_file_holds_what_its_link_was_given(rt: HostRuntime) -> Result<(), Fail> {
+    fs::write(&rt, "written", b"an older text".as_slice())?;
+    let mut link = FileLink::new(&rt, "written");
+    assert!(rt; give(&mut link, b"two ") == Ok(()));
+    assert!(rt; give(&mut link, b"parts") == Ok(()));
+    assert!(rt; link.read(&mut [0u8; 4]) == Ok(0));
+    let mut shelf = DirShelf::new(&rt);
+    let found = shelf.fetch(rt.alloc(), "written")?;
+    assert!(rt; found.as_deref() == Some(b"two parts".as_slice()));
+    fs::remove_file(&rt, "written")?;
+    let mut nowhere = FileLink::new(&rt, "no such directory/written");
+    assert!(rt; give(&mut nowhere, b"x") == Err(LinkFault));
+    Ok(())
 }
