@@ -2,13 +2,8 @@
 use Rattle.std.proofs.Common.{ℕ, ◌+◌, ◌-◌, ◌<◌, List, [], ◌++◌, length, take, drop, Option, ap, sym, ◌∙◌, subst, append_assoc, append-nil, arith, length-drop}
 use Rattle.std.proofs.Math.Seq.{take-add}
 use Rattle.std.proofs.lemmas.List.{take-append-drop, take_rest}
-<<<<<<< HEAD
 use Rattle.hex_io.specs.Told.{Told, GivesBytes, Same}
-use Rattle.hex_io.specs.Grew.{Gave, GavePart}
-=======
-use Rattle.hex_io.specs.Told.{Told, Gives, Same}
 use Rattle.hex_io.specs.Grew.{Gave, GavePart, GaveProperPart}
->>>>>>> cac35be7452f9154ea3d805ec61af88d66e72b8a
 use Rattle.hex_io.proofs.BothLaws.{Both-then, Both-weaker, Both-refl}
 
 pub gives_then : (xs ys : List ℕ) (x y z : Told) → GivesBytes x y xs → GivesBytes y z ys → GivesBytes x z (xs ++ ys)
