@@ -1,7 +1,7 @@
 //! The link over a file that is written: part of the trusted edge. It tells nothing of its bytes.
 
 ghost use Rattle.std.specs.Prelude.{◌≡◌, ◌≤◌, length, IfOk, None};
-ghost use Rattle.hex_io.specs.Told.{Reads};
+ghost use Rattle.hex_io.specs.Told.{ReadsBytes};
 ghost use Rattle.hex_io.specs.Causes.{HasCause};
 
 use super::links::Link;
@@ -39,7 +39,7 @@ impl Link for FileLink {
 
     fn read(&mut self, buf: &mut [u8]) -> Result<usize, LinkFault>
         ensures bound { IfOk result (λ n. n ≤ length buf.new) }
-        ensures told { Reads None None result buf.new }
+        ensures told { ReadsBytes None None result buf.new }
         ensures cause { HasCause 0 0 result }
         ensures writes { self.new.write_faults ≡ self.old.write_faults }
         ensures nothing { result ≡ Ok 0 }

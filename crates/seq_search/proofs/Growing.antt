@@ -1,4 +1,4 @@
--- What stands after the leaf has_node got its block, or none.
+-- What stands after the leaf has got its block, or none.
 use Rattle.std.proofs.Common.{◌≡◌, ◌≢◌, ℕ, ◌+◌, ◌-◌, ◌*◌, ◌<◌, ◌≤◌, nat_lt, nat_le, Bool, true, false, cond, List, [], ◌∷◌, length, set, get_or, get_or-set_same, get_or-set_other, refl, sym, ap, ◌∙◌, subst, ⊎_elim, inl, inr, arith}
 use Rattle.std.specs.Prelude.{◌==◌, ◌&&◌}
 use Rattle.std.proofs.Math.ListN.{length-set}
@@ -35,7 +35,7 @@ fine-of s bs words k h =
       low = omega (arith, h.next.0);
     }
 
--- where a leaf gets its block, it has_node an empty cell and the block fits
+-- where a leaf gets its block, it has an empty cell and the block fits
 gets-facts : (s : Setting) (n : ℕ) (v : Count) (p : NodeState) → gets_block s n v p ≡ true → (0 < length (empties_of p.board)) × (n + size_below p ≤ end_of s)
 unfolding gets_block
 gets-facts s n v p e =
@@ -298,7 +298,7 @@ none-all s bs before after k leaf p h is_leaf is_spot narrow rule grew most long
         (λ (q : c ≡ b). subst (λ (d : LinkedBlock). area_at s ≤ d.start) (sym q) a.0.inside.0)
         (λ (q : In c bs). block-lies s next bs c a.1 q) i
 
--- The words hold the tree after the leaf has_node got its block, with the same records.
+-- The words hold the tree after the leaf has got its block, with the same records.
 pub made-block : (s : Setting) (bs : List LinkedBlock) (before after : List ℕ) (k leaf : ℕ) (p : NodeState) → IsSetting s → Holds s bs before k → 0 < link_of bs (root_at s)
     → leaf ≡ leaf_at (search_game s) (tally_in before) (seen_in before) (oldest_first bs) (root_at s)
     → p ≡ (state_at (search_game s) (tally_in before) (seen_in before) (oldest_first bs) (root_at s) (root_state s)).1
@@ -312,7 +312,7 @@ made-block s bs before after k leaf p set h rooted is_leaf is_spot w t =
     let m = w.made t in
     new-all s bs before after k set h rooted leaf m.0 (next_after s n v p) p is_leaf is_spot f.0 f.1 grown.1 m.1 m.2 t refl
 
--- They hold the same tree where it has_node got none; NEXT may have grown.
+-- They hold the same tree where it has got none; NEXT may have grown.
 pub no-block : (s : Setting) (bs : List LinkedBlock) (before after : List ℕ) (k leaf : ℕ) (p : NodeState) → IsSetting s → Holds s bs before k
     → leaf ≡ leaf_at (search_game s) (tally_in before) (seen_in before) (oldest_first bs) (root_at s)
     → p ≡ (state_at (search_game s) (tally_in before) (seen_in before) (oldest_first bs) (root_at s) (root_state s)).1

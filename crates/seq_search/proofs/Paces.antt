@@ -96,7 +96,7 @@ tail-of : (a b : ℕ) (l m : List ℕ) → a ∷ l ≡ b ∷ m → l ≡ m
 tail-of a b l m e = ap (λ (z : List ℕ). drop 1 z) e
 
 module _ (s : Setting) (bs : List LinkedBlock) (o : Ending) (before : List ℕ) (k : ℕ) (h : Holds s bs before k) (few : k ≤ 1000000) where
-  -- the leaf has_node no steps
+  -- the leaf has no steps
   pub steps-none : (x : ℕ) → is_node (root_at s) bs x ≡ true → link_in before x ≡ 0 → steps_below s bs before x ≡ []
   steps-none x n e =
       let bare : Bare (oldest_first bs) x = link-bare (root_at s) bs x h.linked.order (sym (h.linked.shows.links x n) ∙ e) in
@@ -262,7 +262,7 @@ module _ (s : Setting) (bs : List LinkedBlock) (o : Ending) (before : List ℕ) 
               absurd (no-cons _ _ (sym (steps-link (search_game s) (fair_game s) (tally_in before) (seen_in before) (oldest_first bs) x m.0 (rooted-turned (root_at s) bs h.linked.order) m.1.names m.1.some) ∙ sym a.rest ∙ e)))
               (cases_Bool (link_in before x == 0))
 
-    -- where a step is left, the node has_node a block
+    -- where a step is left, the node has a block
     pub link-some : (y : ℕ) (rest : List ℕ) → left ≡ y ∷ rest → link_in before x ≢ 0
     link-some y rest cons e = no-cons y rest (sym cons ∙ a.rest ∙ steps-none x a.node e)
 
@@ -278,7 +278,7 @@ kid-cell s bs words k z h x b w j l =
 pub kid-small : (s : Setting) → IsSetting s → (c : ℕ) → c < s.board.size * s.board.size → c < 256
 kid-small s z c l = let f = square_small s.board.size z.position.most in omega (arith, f, l)
 
--- how the adds are told that a walk has_node come to its leaf, and how far they are
+-- how the adds are told that a walk has come to its leaf, and how far they are
 abbrev pub HasWalked : Setting → List ℕ → Descent → Type 0
 HasWalked s before d = (bs : List LinkedBlock) × (k : ℕ) × (k < s.knobs.playouts) × Holds s bs before k × Descended s bs before d
 

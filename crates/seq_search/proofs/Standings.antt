@@ -138,7 +138,7 @@ whole s bs words k h = record { order = h.linked.order; filled = h.filled }
 not_root : (r : ℕ) (bs : List LinkedBlock) (b : LinkedBlock) (y : ℕ) → InOrder r bs → In b bs → has_node b y ≡ true → y ≡ r → ⊥
 not_root r bs b y g i h e = clash (has_node b y) h (ap (has_node b) e ∙ in-out (oldest_first bs) b r (in-turned bs b i) (root-out r bs g))
 
--- after the leaf has_node got its block, or none
+-- after the leaf has got its block, or none
 pub standing-widened : (s : Setting) (bs after_bs : List LinkedBlock) (words after : List ℕ) (k : ℕ) → IsSetting s → k ≤ s.knobs.playouts
     → Holds s bs words k → IsSearched s bs words k → Holds s after_bs after k
     → Widened (search_game s) (root_state s) (root_at s) (config_of bs words) (config_of after_bs after) → KeepsRecords s words after
@@ -194,7 +194,7 @@ one_gain o p = refl
 sum_zero : (a b c : Count) → a ≡ plus b c → a.visits ≡ 0 → b.visits ≡ 0
 sum_zero a b c e z = omega (arith, ap (λ (v : Count). v.visits) e, z)
 
--- after the walk has_node added
+-- after the walk has added
 pub standing-added : (s : Setting) (bs : List LinkedBlock) (words after : List ℕ) (k n : ℕ) (o : Ending) → k < s.knobs.playouts
     → Holds s bs words k → IsSearched s bs words k
     → o ≡ outcome_of s k (walk_end (search_game s) (root_state s) (root_at s) (config_of bs words)).1

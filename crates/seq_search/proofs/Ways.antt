@@ -151,7 +151,7 @@ fewer-left : (p : Position) (player : Colour) (c : ℕ) → is_empty_at p c ≡ 
 unfolding left_on
 fewer-left p player c e l = fewer 121 c (is_empty_at p) (is_empty_at (placed p player c)) (λ k u. placed_empty p player c k u) e l
 
--- a walk that can take a step has_node room for it
+-- a walk that can take a step has room for it
 pub step-count : (d : Descent) (cell : ℕ) → is_empty_at d.board cell ≡ true → HasRoom d → d.count < 121
 step-count d cell e r =
     let o = empty_on d.board cell e in
@@ -265,7 +265,7 @@ pub record MayGo (words : List ℕ) (d : Descent) (kid : ℕ) : Type 0 where
 
 module _ (s : Setting) (words : List ℕ) (d : Descent) (block visits weight chosen : ℕ) (z : IsSetting s) (at : block ≡ link_in words d.node) (some : block ≢ 0)
     (own : visits ≡ (tally_in words d.node).visits) (same : weight ≡ s.knobs.weight) (is : chosen ≡ choice_of visits weight (children_in words (block + 4) (slice_index words (block + 3)))) where
-  -- the cell that the move word of the chosen child has_node
+  -- the cell that the move word of the chosen child has
   chosen-cell : (bs : List LinkedBlock) (k : ℕ) → k ≤ s.knobs.playouts → (h : Holds s bs words k) → d.board.size ≤ 11 → (u : Underway s bs words d)
       → (b : LinkedBlock) × (w : IsBelow s bs words d.node b) × (chosen ≡ pick (search_game s) (tally_in words) (seen_in words) b d.node) × (chosen < length b.cells) × (block + 4 + 4 * chosen ≡ child b chosen)
       × (cell_in (slice_index words (block + 4 + 4 * chosen)) ≡ cell_at b chosen) × (is_empty_at d.board (cell_at b chosen) ≡ true)

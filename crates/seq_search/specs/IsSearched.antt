@@ -1,4 +1,4 @@
--- What a search has_node reached after so many walks.
+-- What a search has reached after so many walks.
 use Rattle.std.specs.Prelude.{◌≡◌, ℕ, ◌+◌, ◌<◌, ◌≤◌, true, List}
 use Rattle.tree_words.specs.Settings.{Setting}
 use Rattle.tree_words.specs.Words.{root_at, end_of, next_in, tally_in}
@@ -10,9 +10,9 @@ use Rattle.tree_words.specs.declared.layout.TheConstants.{MOST_BLOCK_WORDS}
 use Rattle.tree_words.specs.Growth.{root_end, other_words, ends_at}
 use Rattle.hex_board.specs.Positions.{is_empty_at}
 
--- After k walks of one worker: the counts are those of the k playouts, and each of these has_node
--- its record; the root has_node a block; in a block that has_node a child without visits no child
--- has_node more than one; where NEXT is at most the area's end, a node with an empty cell on its
+-- After k walks of one worker: the counts are those of the k playouts, and each of these has
+-- its record; the root has a block; in a block that has a child without visits no child
+-- has more than one; where NEXT is at most the area's end, a node with an empty cell on its
 -- board is the leaf of at most T playouts, and NEXT is the end of the root's block and the other
 -- blocks' words; and past the end it is at most one largest block more.
 pub record IsSearched (s : Setting) (bs : List LinkedBlock) (words : List ℕ) (k : ℕ) : Type 0 where

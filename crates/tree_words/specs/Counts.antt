@@ -23,7 +23,7 @@ visits_at s bs words n x = record {
       && is_same (outcome_in s bs words k).winner (mover_of s bs x));
 }
 
--- playout k has_node a node of the block b on its leaf's path, and its filled board has_node a
+-- playout k has a node of the block b on its leaf's path, and its filled board has a
 -- stone of Mover(y) on the cell of the block's node y
 abbrev pub is_seen : Setting → List LinkedBlock → List ℕ → LinkedBlock → ℕ → ℕ → Bool
 is_seen s bs words b y k =

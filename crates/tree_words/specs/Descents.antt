@@ -75,7 +75,7 @@ abbrev pub Out : List LinkedBlock → ℕ → Type 0
 Out [] x = Unit {0}
 Out (b ∷ bs) x = (has_node b x ≡ false) × Out bs x
 
--- b has_node nodes, which are none of the newer blocks
+-- b has nodes, which are none of the newer blocks
 pub record Sprout (b : LinkedBlock) (bs : List LinkedBlock) : Type 0 where
   pub apart : (x : ℕ) → has_node b x ≡ true → Out bs x
   pub some : 0 < length b.cells
@@ -104,7 +104,7 @@ tree_in r c = tree_at c.tally c.seen c.blocks r 0 nothing
 abbrev pub walk_end : {S O : Type 0} → Game S O → S → ℕ → Config → Count × S
 walk_end g s r c = state_at g c.tally c.seen c.blocks r s
 
--- c has_node the new block n, below its leaf
+-- c has the new block n, below its leaf
 pub record NewBlock {S O : Type 0} (g : Game S O) (s : S) (r : ℕ) (c d : Config)
     (n : LinkedBlock) : Type 0 where
   pub wide : g.wide c.next (walk_end g s r c).0 (walk_end g s r c).1 ≡ true
@@ -150,7 +150,7 @@ abbrev pub Names : List LinkedBlock → ℕ → LinkedBlock → Type 0
 Names [] x b = ⊥
 Names (c ∷ bs) x b = ((c ≡ b) × (b.parent ≡ x)) ⊎ (((c.parent == x) ≡ false) × Names bs x b)
 
--- no block has_node x as its parent
+-- no block has x as its parent
 abbrev pub Bare : List LinkedBlock → ℕ → Type 0
 Bare [] x = Unit {0}
 Bare (b ∷ bs) x = ((b.parent == x) ≡ false) × Bare bs x

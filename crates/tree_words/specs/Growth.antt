@@ -1,4 +1,4 @@
--- How a tree has_node grown.
+-- How a tree has grown.
 use Rattle.std.specs.Prelude.{◌≡◌, ℕ, ◌+◌, ◌*◌, ◌≤◌, ◌==◌, not, true, List, length, sum_by}
 use Rattle.std.specs.List.{filter}
 use Rattle.hex_board.specs.Positions.{is_empty_at}
@@ -23,7 +23,7 @@ other_words s bs = sum_by size (filter (λ b. not (b.parent == root_at s)) bs)
 abbrev pub ends_at : List ℕ → ℕ → ℕ → ℕ
 ends_at words n x = count_below n (λ k. leaf_of words k == x)
 
--- Grown: in a block that has_node a child without visits no child has_node more than K; where NEXT
+-- Grown: in a block that has a child without visits no child has more than K; where NEXT
 -- is at most the area's end, a node with an empty cell on its board is the leaf of at most K·T
 -- records; and NEXT is at most the root's block's end, K times the other blocks' words, and one
 -- largest block for each worker

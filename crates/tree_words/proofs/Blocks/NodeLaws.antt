@@ -67,7 +67,7 @@ node-lies s next (b ∷ bs) x c n = ⊎_elim
     (λ (h : is_node (root_at s) bs x ≡ true). node-lies s next bs x c.1 h)
     (or_cases (has_node b x) (is_node (root_at s) bs x) n)
 
--- what is no node has_node no block
+-- what is no node has no block
 pub link-none : (r : ℕ) (bs : List LinkedBlock) (x : ℕ) → InOrder r bs → is_node r bs x ≡ false → link_of bs x ≡ 0
 link-none r [] x g n = refl
 link-none r (b ∷ bs) x g n = ⊎_elim
@@ -103,7 +103,7 @@ pub under-root : (os : List LinkedBlock) (r w : ℕ) → top os w ≡ r → (w �
 under-root os r w e = ⊎_elim (λ (q : top os w ≡ w). inl (sym q ∙ e)) (λ (i : Inside os w). inr i) (top-inside os w)
 
 module _ {S O : Type 0} (g : Game S O) (fair : Fair g) (p q : ℕ → Count) where
-  -- the leaf of a walk has_node no block
+  -- the leaf of a walk has no block
   leaf-bare : (os : List LinkedBlock) (x : ℕ) → Sprouts os → Rooted os → Out os x → Bare os (leaf_at g p q os x)
   leaf-bare [] x sp ro out = tt
   leaf-bare (b ∷ os) x sp ro out = ⊎_elim

@@ -65,7 +65,7 @@ one-knows s words bs cs small h k =
 pub one-blocks : (s : Setting) (words : List ℕ) (bs cs : List LinkedBlock) → s.board.size ≤ 11 → Linked s words bs → Linked s words cs → AreAmong bs cs
 one-blocks s words bs cs small h k b i = knows-in (root_at s) cs bs b (one-knows s words bs cs small h k) i
 
--- what is below x goes by the block that has_node it as its parent
+-- what is below x goes by the block that has it as its parent
 pub tree-link : (p q : ℕ → Count) (r : ℕ) (bs : List LinkedBlock) (x : ℕ) (b : LinkedBlock) → InOrder r bs → Names (oldest_first bs) x b
     → down (tree_leaf p) (tree_inner p q) (oldest_first bs) x ≡ tree_inner p q b x (down (tree_leaf p) (tree_inner p q) (oldest_first bs))
 tree-link p q r bs x b g n = down-link (tree_leaf p) (tree_inner p q) (oldest_first bs) x b (rooted-turned r bs g) n
@@ -74,7 +74,7 @@ tree-link p q r bs x b g n = down-link (tree_leaf p) (tree_inner p q) (oldest_fi
     (λ k y l is. ap (λ (t : ℕ → Count → Tree). t (get_or b.cells k 0) (q y)) (e y (ap (has_node b) is ∙ child-has b k l)))))
 
 module _ (s : Setting) (words : List ℕ) (bs cs : List LinkedBlock) (small : s.board.size ≤ 11) (h : Linked s words bs) (k : Linked s words cs) (p q : ℕ → Count) where
-  -- a block of one that has_node a parent, told by the other
+  -- a block of one that has a parent, told by the other
   same-block : (b : LinkedBlock) (x : ℕ) → In b cs → b.parent ≡ x → b.start ≡ link_in words x → b ≡ told_block s cs x (link_in words x)
   same-block b x i e f =
       whole-told s cs cs b (next_in words) small (whole-in s (next_in words) cs b k.order k.complete i) refl ∙ (λ j. told_block s cs (e j) (f j))

@@ -22,7 +22,7 @@ snoc : (n : LinkedBlock) (os : List LinkedBlock) → Sprouts os → ((x : ℕ) �
 snoc n [] sp e l = (record { apart = λ x h. tt; some = l }, tt)
 snoc n (b ∷ os) sp e l = (record { apart = λ x h. out-snoc n os x (sp.0.apart x h) (e x (inl h)); some = sp.0.some }, snoc n os sp.1 (λ x h. e x (inr h)) l)
 
--- the blocks as the rule has_node them, the other way round
+-- the blocks as the rule has them, the other way round
 pub sprouts-turned : (r : ℕ) (bs : List LinkedBlock) → InOrder r bs → HaveNodes bs → Sprouts (oldest_first bs)
 sprouts-turned r [] g f = tt
 sprouts-turned r (b ∷ bs) g f = snoc b (oldest_first bs) (sprouts-turned r bs g.1 f.1) (λ x h. apart r b bs x g.0 (inside-node r bs x h)) f.0

@@ -21,7 +21,7 @@ use Rattle.tree_words.specs.Writing.{listed}
 use Rattle.play_out.proofs.Listing.{filter_more}
 use Rattle.hex_board.proofs.Placed.{empty_on}
 
--- no block has_node the root among its nodes
+-- no block has the root among its nodes
 pub up-root : {A : Type 0} (root : A) (step : LinkedBlock → ℕ → A → A) (r : ℕ) (bs : List LinkedBlock) → InOrder r bs → up root step bs r ≡ root
 up-root root step r [] g = refl
 up-root root step r (b ∷ bs) g = up_same root step b bs r (apart r b bs r g.0 (root_node r bs)) ∙ up-root root step r bs g.1
@@ -50,7 +50,7 @@ below-empty s bs x i h g l = ⊎_elim
 pub cell-of-move : (i c : ℕ) → c < 256 → cell_in (move_word i c) ≡ c
 cell-of-move i c l = omega arith
 
--- how many cells below n the set has_node
+-- how many cells below n the set has
 members-listed : (set n : ℕ) → members set n ≡ length (filter (has_cell set) (range_with_len 0 n))
 unfolding members
 members-listed set zero = refl

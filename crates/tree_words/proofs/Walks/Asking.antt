@@ -20,7 +20,7 @@ use Rattle.tree_words.proofs.Walks.Expands.{state-tree}
 use Rattle.tree_words.proofs.Blocks.GameLaws.{fair_game}
 use Rattle.hex_board.proofs.Placed.{empty_on, placed_size}
 
--- a board with an empty cell has_node one in its list
+-- a board with an empty cell has one in its list
 pub some-empty : (p : Position) (c : ℕ) → is_empty_at p c ≡ true → 0 < length (empties_of p)
 unfolding empties_of
 some-empty p c e = filter_some (is_empty_at p) 0 (p.size * p.size) c e (omega arith) (omega (arith, empty_on p c e))
@@ -45,7 +45,7 @@ asks-then s next v p e =
     let t = and_parts (nat_le s.knobs.expand v.visits) (nat_lt 0 (length (empties_of p.board)) && nat_le next (end_of s)) e in
     (leb-true _ _ t.0, leb-true _ _ (and_parts (nat_lt 0 (length (empties_of p.board))) (nat_le next (end_of s)) t.1).1)
 
--- where it asks for none though it could have one, it has_node too few visits
+-- where it asks for none though it could have one, it has too few visits
 pub asks-not : (s : Setting) (next : ℕ) (v : Count) (p : NodeState) → asks s next v p ≡ false → 0 < length (empties_of p.board) → next ≤ end_of s → v.visits < s.knobs.expand
 asks-not s next v p e l m = few s.knobs.expand v.visits (length (empties_of p.board)) next (end_of s) e l m
   where
@@ -99,7 +99,7 @@ module _ {S O : Type 0} (g : Game S O) (fair : Fair g) (p q : ℕ → Count) whe
       ∙ state-count os x s ∙ sym (ap p (down-else (λ (y : ℕ). y) (leaf_inner g p q) b os x t)))
       (cases_Bool (b.parent == x))
 
-  -- with a new block below the leaf, the walk walk_end at one of its nodes
+  -- with a new block below the leaf, the walk ends at one of its nodes
   pub leaf-snoc : (n : LinkedBlock) (os : List LinkedBlock) (x : ℕ) → n.parent ≡ leaf_at g p q os x → leaf_at g p q (os ++ n ∷ []) x ≡ child n (pick g p q n n.parent)
   leaf-snoc n [] x e = down-here (λ (y : ℕ). y) (leaf_inner g p q) n [] x (eq-eqb n.parent x e) ∙ ap (λ (z : ℕ). child n (pick g p q n z)) (sym e)
   leaf-snoc n (b ∷ os) x e = ⊎_elim
@@ -118,7 +118,7 @@ module _ {S O : Type 0} (g : Game S O) (fair : Fair g) (p q : ℕ → Count) whe
       ∙ ap (λ t. leaf_state g t s) (same-under p q p' q' os x 0 nothing sp out hp hq)
       ∙ sym (state-tree g fair p q os x 0 nothing s sp)
 
--- After a leaf has_node got its block, or has_node asked in vain, the leaf of the walk asks for none.
+-- After a leaf has got its block, or has asked in vain, the leaf of the walk asks for none.
 pub widened-asks : (s : Setting) (r : ℕ) (c d : Config) → 0 < s.knobs.expand → Sprouts d.blocks → Out d.blocks r → Widened (search_game s) (root_state s) r c d
     → asks s d.next (walk_end (search_game s) (root_state s) r d).0 (walk_end (search_game s) (root_state s) r d).1 ≡ false
 widened-asks s r c d l sp out w =

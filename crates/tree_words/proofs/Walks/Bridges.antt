@@ -65,7 +65,7 @@ module _ {S O : Type 0} (g : Game S O) (fair : Fair g) (p q : ℕ → Count) (o 
       ap (λ (u : Bool). cond u (g.glimpse o s (cell_at b (place b w))) (sees g p q o os y s' w)) out.0 ∙ sees-out os y w s' out.1)
       (λ (t : (b.parent == x) ≡ false). sees-out os x w s out.1)
 
--- which of the blocks has_node the node
+-- which of the blocks has the node
 own : (b c : LinkedBlock) (os : List LinkedBlock) (w : ℕ) → Sprouts (c ∷ os) → In b (c ∷ os) → has_node b w ≡ true → has_node c w ≡ true → b ≡ c
 own b c os w sp i h k = ⊎_elim (λ (e : b ≡ c). e) (λ (j : In b os). absurd (clash (has_node b w) h (in-out os b w j (sp.0.apart w k)))) i
 

@@ -18,7 +18,7 @@ use Rattle.tree_words.proofs.Blocks.BlockLaws.{apart, clash}
 use Rattle.tree_words.proofs.Walks.Down.{down-split}
 use Rattle.tree_words.proofs.Blocks.GameLaws.{in-node}
 
--- a count with one more, and the word that has_node it
+-- a count with one more, and the word that has it
 pub count-more : (n : ℕ) (t : Bool) → wins_in n + 1 < 2 ^ 32 → count_in (n + amount_of t) ≡ plus (count_in n) (one t)
 count-more n true l = λ i. record { visits = v n l i; wins = w n l i }
   where

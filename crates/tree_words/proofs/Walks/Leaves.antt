@@ -75,7 +75,7 @@ module _ {S O : Type 0} (g : Game S O) (fair : Fair g) (p q : ℕ → Count) whe
       ⊎_elim (λ (e : leaf_at g p q os y ≡ y). inr (inl (ap (has_node b) e ∙ h))) (λ (i : Inside os (leaf_at g p q os y)). inr (inr i)) (leaf-stays os y sp.1))
       (λ (t : (b.parent == x) ≡ false). ⊎_elim (λ (e : leaf_at g p q os x ≡ x). inl e) (λ (i : Inside os (leaf_at g p q os x)). inr (inr i)) (leaf-stays os x sp.1))
 
-  -- and leaves a node that has_node a block
+  -- and leaves a node that has a block
   leaf-inside : (os : List LinkedBlock) (x : ℕ) (c : LinkedBlock) → Sprouts os → Names os x c → Inside os (leaf_at g p q os x)
   leaf-inside [] x c sp n = absurd n
   leaf-inside (b ∷ os) x c sp n = ⊎_elim
@@ -88,7 +88,7 @@ module _ {S O : Type 0} (g : Game S O) (fair : Fair g) (p q : ℕ → Count) whe
       (λ (e : ((b.parent == x) ≡ false) × Names os x c). subst (Inside (b ∷ os)) (sym (down-else (λ (y : ℕ). y) (leaf_inner g p q) b os x e.0)) (inr (leaf-inside os x c sp.1 e.1)))
       n
 
-  -- the leaf is a node of a block, where the root has_node one
+  -- the leaf is a node of a block, where the root has one
   pub leaf-node : (r : ℕ) (bs : List LinkedBlock) → Whole r bs → 0 < link_of bs r
       → (is_node r bs (leaf_at g p q (oldest_first bs) r) ≡ true) × (leaf_at g p q (oldest_first bs) r ≢ r)
   leaf-node r bs w l =

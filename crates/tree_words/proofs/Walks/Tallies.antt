@@ -126,7 +126,7 @@ module _ (s : Setting) (n : LinkedBlock) (bs : List LinkedBlock) (f : Follows (r
               (λ j l t. seen j l t && is_same (outcome-same j l t).winner (mover t)) i;
         }
 
-    -- a new node has_node none
+    -- a new node has none
     pub visits-new : (x : ℕ) → has_node n x ≡ true → visits_at s (n ∷ bs) words k x ≡ nothing
     visits-new x h =
         let on : (j : ℕ) → j < k → is_on s (n ∷ bs) x (leaf_of words j) ≡ false = λ j l. is_on-not x (leaf_of words j) h (leaves j l) in

@@ -118,7 +118,7 @@ module _ {S O : Type 0} (g : Game S O) (fair : Fair g) (s : S) (r : ℕ) where
     low = omega (arith, f.low, w.next);
   }
 
-  -- where a walk adds, its tree has_node the adds
+  -- where a walk adds, its tree has the adds
   pub added-tree : (o : O) (c d : Config) → Fine r c → Added g s r o c d → tree_in r d ≡ add g o (tree_in r c) s
   added-tree o c d f w =
       ap (λ (l : List LinkedBlock). tree_at d.tally d.seen l r 0 nothing) w.blocks
