@@ -3,9 +3,7 @@ use Rattle.std.proofs.Common.{◌≡◌, ◌≢◌, ℕ, ◌+◌, ◌*◌, ◌<�
 use Rattle.std.specs.Prelude.{◌==◌, ◌||◌, ◌&&◌}
 use Rattle.std.specs.List.{list_any}
 use Rattle.hex_cells.specs.Sets.{has as has_cell}
-use Rattle.hex_cells.specs.Colours.{other_of}
 use Rattle.hex_cells.specs.declared.colours.Colour.{Colour}
-use Rattle.hex_cells.specs.declared.colours.Colour.TheVariants.{Black, White}
 use Rattle.hex_board.specs.Positions.{stones_of}
 use Rattle.hex_board.specs.Wins.{is_same}
 use Rattle.tree_words.specs.Settings.{Setting}
@@ -23,14 +21,11 @@ use Rattle.arena_rule.specs.Adds.{CountAdd, Gathered, seen_adds, root_adds, node
 use Rattle.arena_rule.specs.Lookups.{adds_in}
 use Rattle.arena_rule.proofs.Amounts.{amount-append, amount-parts, wins_added, wins-less, one-add, miss, hit, seen-none, seen-hit}
 use Rattle.std.proofs.lemmas.Bool.{eqb-true, eq-eqb, cases_Bool, or_cases, false_from_ne_true, or_left}
+use Rattle.tree_words.proofs.Walks.Tallies.{other_again}
 
 -- the seen words of a block lie in it
 seen-covers : (b : LinkedBlock) (j : ℕ) → j < length b.cells → covers (b.start + 4 + 4 * j + SEEN_WORD) b ≡ true
 seen-covers b j l = covers_if (b.start + 4 + 4 * j + SEEN_WORD) b (omega arith) (omega (arith, l))
-
-other_again : (c : Colour) → other_of (other_of c) ≡ c
-other_again Black = refl
-other_again White = refl
 
 module _ (s : Setting) (o : Ending) where
   -- the state that is gathered with the adds is the node's

@@ -19,8 +19,9 @@ use Rattle.arena_rule.specs.Parts.{held_at, full_width, width_of}
 use Rattle.arena_rule.specs.Rule.{IsState}
 use Rattle.arena_rule.proofs.Before.{Before}
 use Rattle.arena_rule.proofs.Totals.{total_at, total_le}
-use Rattle.arena_rule.proofs.Within.{known-linked}
-use Rattle.arena_rule.proofs.Frames.{claimed-low, claimed-one, held-clear, in-cover, in-range, next-area}
+use Rattle.tree_words.proofs.Blocks.OneTree.{knows-in}
+use Rattle.arena_rule.proofs.Frames.{claimed-low, claimed-one, held-clear, in-range, next-area}
+use Rattle.tree_words.proofs.Blocks.NodeLaws.{in-cover}
 
 -- blocks that have no word i
 cover-none : (ks : List LinkedBlock) (i : ℕ) → ((c : LinkedBlock) → In c ks → covers i c ≢ true) → cover i ks ≡ 0
@@ -115,7 +116,7 @@ module _ (s : Setting) (bs : List LinkedBlock) (words : List ℕ) (views : List 
   pub known_shown : (j : ℕ) (u : SeatView) (c : LinkedBlock) → get_elem? views j ≡ some u → In c u.known
       → (link_in words c.parent ≡ c.start) × ((i : ℕ) → i < size c → is_header_or_move i ≡ true → slice_index words (c.start + i) ≡ header_or_move c i)
   known_shown j u c at n =
-      let m : In c bs = known-linked (root_at s) bs u.known c (state.known j u at) n in
+      let m : In c bs = knows-in (root_at s) bs u.known c (state.known j u at) n in
       (linked-in c m, λ i l st. state.linked.blocks.shows.blocks c i m l st)
 
 module _ (bs : List LinkedBlock) (words : List ℕ) (views : List SeatView) (id : ℕ) (v : SeatView) (b : Before bs words views id v) where
@@ -131,7 +132,7 @@ module _ (bs : List LinkedBlock) (words : List ℕ) (views : List SeatView) (id 
         above = w.above;
         inside = w.inside;
         apart = λ i h. cover-none v.known i (λ c k q. link-none v.shape bs words views b.state v.known x c known z k
-            (ap (λ (a : LinkedBlock). a.parent) (one-block r bs c d i b.state.linked.blocks.order (known-linked r bs v.known c known k) m q h)));
+            (ap (λ (a : LinkedBlock). a.parent) (one-block r bs c d i b.state.linked.blocks.order (knows-in r bs v.known c known k) m q h)));
         held = λ i h. false_from_ne_true (is_held v.held i) (λ q. absurd (omega (arith, held-clear bs words views id v b id v i b.at q, in-cover bs d i m h)));
       }
 
@@ -154,5 +155,5 @@ module _ (bs : List LinkedBlock) (words : List ℕ) (views : List SeatView) (id 
       record {
         least = next-area bs words views id v b;
         most = omega (arith, b.state.widths.next, b.state.widths.sum, fewer, b.state.setting.ranges.workers.1);
-        behind = λ c n. (whole v.shape bs words views b.state c (known-linked (root_at v.shape) bs v.known c (b.state.known id v b.at) n)).claimed;
+        behind = λ c n. (whole v.shape bs words views b.state c (knows-in (root_at v.shape) bs v.known c (b.state.known id v b.at) n)).claimed;
       }

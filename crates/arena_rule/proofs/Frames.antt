@@ -11,14 +11,14 @@ use Rattle.hex_board.specs.Positions.{stones_of}
 use Rattle.hex_board.specs.Wins.{is_same}
 use Rattle.tree_words.specs.Settings.{Setting}
 use Rattle.tree_words.specs.Words.{root_at, area_at, end_of, next_in}
-use Rattle.tree_words.specs.Blocks.{LinkedBlock, In, InOrder, one_if, has_node, covers, cover, is_node, link_of, size, is_header_or_move}
+use Rattle.tree_words.specs.Blocks.{LinkedBlock, In, InOrder, one_if, has_node, cover, is_node, link_of, size, is_header_or_move}
 use Rattle.tree_words.specs.Paths.{node_state}
 use Rattle.tree_words.specs.Complete.{AreComplete}
 use Rattle.play_out.specs.declared.playouts.Ending.{Ending}
 use Rattle.tree_words.specs.Sequence.{outcome_of}
 use Rattle.tree_words.specs.declared.steps.Op.{Op}
 use Rattle.tree_words.specs.declared.steps.Op.TheVariants.{Draw, Look, Claim, Write, Publish, Add, Note, Done}
-use Rattle.tree_words.proofs.Blocks.BlockLaws.{cover-cons, covers_if, node-cover, root_node}
+use Rattle.tree_words.proofs.Blocks.BlockLaws.{covers_if, node-cover, root_node}
 use Rattle.tree_words.proofs.Walks.Down.{child-has}
 use Rattle.tree_words.proofs.Blocks.GameLaws.{in-node, whole-in}
 use Rattle.tree_words.proofs.Boards.RootLaws.{find_root}
@@ -34,6 +34,7 @@ use Rattle.arena_rule.proofs.Before.{Before}
 use Rattle.arena_rule.proofs.Totals.{total_at, total_two}
 use Rattle.arena_rule.proofs.Within.{known-node, known-adds, node-more}
 use Rattle.std.proofs.lemmas.Bool.{cases_Bool}
+use Rattle.tree_words.proofs.Blocks.NodeLaws.{in-cover}
 
 -- what holds of each add of a list
 abbrev EachAdd : (ℕ → Type 0) → List CountAdd → Type 0
@@ -98,13 +99,6 @@ claimed-one low next end i = grind (arith, nat_tests)
 
 pub in-range : (a s i : ℕ) → a ≤ i → i < a + s → (nat_le a i && nat_lt i (a + s)) ≡ true
 in-range a s i l h = grind (arith, nat_tests)
-
--- a word of one of the blocks is covered
-pub in-cover : (bs : List LinkedBlock) (c : LinkedBlock) (i : ℕ) → In c bs → covers i c ≡ true → 0 < cover i bs
-in-cover [] c i n h = absurd n
-in-cover (d ∷ bs) c i n h = ⊎_elim
-    (λ (e : c ≡ d). omega (arith, cover-cons i d bs, ap one_if (ap (covers i) (sym e) ∙ h)))
-    (λ (m : In c bs). omega (arith, cover-cons i d bs, in-cover bs c i m h)) n
 
 -- the step is no Publish
 abbrev pub IsNoPublish : Op → Type 0

@@ -3,14 +3,14 @@ use Rattle.std.proofs.Common.{◌≡◌, ℕ, ◌+◌, ◌-◌, ◌<◌, ◌≤�
 use Rattle.std.specs.Prelude.{◌==◌, ◌&&◌, ◌||◌, slice_index, sum_by, Contains}
 use mathlib.Core.Option.{some}
 use lib.ListN.{get_elem?}
-use Rattle.std.proofs.lemmas.Bool.{or_right, false_from_ne_true, ne_eqb, or_cases, eqb-true}
+use Rattle.std.proofs.lemmas.Bool.{or_right, false_from_ne_true, ne_eqb}
 use Rattle.std.proofs.lemmas.Bool.Decides.{nat_tests}
 use Rattle.tree_words.specs.Settings.{Setting, IsSetting}
 use Rattle.tree_words.specs.Words.{root_at, area_at, ticket_in, next_in, leaf_in}
 use Rattle.tree_words.specs.Blocks.{LinkedBlock, has_node, is_node, is_header_or_move, header_or_move, block_size, covers}
 use Rattle.tree_words.specs.Complete.{allowed_cells}
 use Rattle.tree_words.specs.Opening.{opening_words, root_block}
-use Rattle.tree_words.proofs.Blocks.BlockLaws.{covers_of, root_node}
+use Rattle.tree_words.proofs.Blocks.BlockLaws.{covers_of}
 use Rattle.tree_words.proofs.NewBlocks.Openings.{root-fits}
 use Rattle.tree_words.proofs.NewBlocks.OpeningTold.{opening-are}
 use Rattle.arena_rule.specs.Views.{SeatView, Walked, HasDrawnNothing, spent_view}
@@ -22,18 +22,12 @@ use Rattle.arena_rule.proofs.Options.{none-some}
 use Rattle.arena_rule.proofs.Before.{Before, Other, AreFirst, opening_blocks}
 use Rattle.arena_rule.proofs.Totals.{total_two, total_none, total_split, total_join, each-split, each-join}
 use Rattle.arena_rule.proofs.Numbers.{times_walked, value_walked, walked-append, value-append, contains-append, due}
+use Rattle.tree_words.proofs.Blocks.Within.{node-first}
 
 no-walk : (w : Walked) → Contains [] w → ⊥
 no-walk w c = let l = c.1 in omega (arith, l)
 
--- a node of either of two lists of blocks
-pub node-first : (r : ℕ) (ks ls : List LinkedBlock) (x : ℕ) → is_node r ks x ≡ true → is_node r (ks ++ ls) x ≡ true
-node-first r [] ls x n = subst (λ (y : ℕ). is_node r ls y ≡ true) (sym (eqb-true x r n)) (root_node r ls)
-node-first r (k ∷ ks) ls x n = ⊎_elim
-    (λ (h : has_node k x ≡ true). ap (λ (t : Bool). t || is_node r (ks ++ ls) x) h)
-    (λ (h : is_node r ks x ≡ true). or_right (has_node k x) (is_node r (ks ++ ls) x) (node-first r ks ls x h))
-    (or_cases (has_node k x) (is_node r ks x) n)
-
+-- a node of the second of two lists of blocks
 pub node-second : (r : ℕ) (ks ls : List LinkedBlock) (x : ℕ) → is_node r ls x ≡ true → is_node r (ks ++ ls) x ≡ true
 node-second r [] ls x n = n
 node-second r (k ∷ ks) ls x n = or_right (has_node k x) (is_node r (ks ++ ls) x) (node-second r ks ls x n)

@@ -13,7 +13,7 @@ use Rattle.arena_rule.specs.Fits.{CanSplit, CanJoin}
 use Rattle.arena_rule.specs.Afters.{kept_part, given_part, joined}
 use Rattle.arena_rule.specs.IsView.{AreTold, IsJoined, IsView}
 use Rattle.arena_rule.proofs.Options.{none-some, false-true}
-use Rattle.arena_rule.proofs.SeatsNumbers.{node-first}
+use Rattle.tree_words.proofs.Blocks.Within.{node-first}
 use Rattle.std.proofs.lemmas.Bool.{cases_Bool, eqb-true, false_from_ne_true, or_cases}
 
 module _ (v : SeatView) (iv : IsView v) where

@@ -1,11 +1,11 @@
 -- What a view's known blocks tell, the linked blocks tell too: nodes, boards and the adds of walks.
-use Rattle.std.proofs.Common.{◌≡◌, ℕ, Bool, true, false, List, [], ◌∷◌, refl, sym, ap, ◌∙◌, subst, ⊎_elim}
+use Rattle.std.proofs.Common.{◌≡◌, ℕ, Bool, true, false, List, ◌∷◌, refl, sym, ap, ◌∙◌}
 use Rattle.std.specs.Prelude.{◌||◌}
 use mathlib.Core.Option.{some}
 use lib.ListN.{get_elem?}
 use Rattle.tree_words.specs.Settings.{Setting}
 use Rattle.tree_words.specs.Words.{root_at}
-use Rattle.tree_words.specs.Blocks.{LinkedBlock, has_node, In, InOrder, is_node}
+use Rattle.tree_words.specs.Blocks.{LinkedBlock, has_node, InOrder, is_node}
 use Rattle.tree_words.specs.Paths.{NodeState, node_state}
 use Rattle.play_out.specs.declared.playouts.Ending.{Ending}
 use Rattle.tree_words.specs.Sequence.{outcome_of}
@@ -22,11 +22,6 @@ within-adds s bs ks k leaf g kn n =
     let o : Ending = outcome_of s k (node_state s bs leaf) in
     ap (λ (p : NodeState). (adds_up s (outcome_of s k p) ks leaf).adds) (within-state s bs ks leaf g kn n)
     ∙ ap (λ (a : Gathered). a.adds) (within-up (root_adds s o) (node_adds o) (root_at s) bs ks leaf g kn n)
-
--- a known block is a linked one
-pub known-linked : (r : ℕ) (bs ks : List LinkedBlock) (c : LinkedBlock) → Knows r bs ks → In c ks → In c bs
-known-linked r bs [] c k i = absurd i
-known-linked r bs (d ∷ ks) c k i = ⊎_elim (λ (e : c ≡ d). subst (λ (z : LinkedBlock). In z bs) (sym e) k.0) (λ (j : In c ks). known-linked r bs ks c k.2 j) i
 
 -- a node stays one where one more block is known
 pub node-more : (r : ℕ) (d : LinkedBlock) (ks : List LinkedBlock) (x : ℕ) → is_node r ks x ≡ true → is_node r (d ∷ ks) x ≡ true

@@ -38,7 +38,7 @@ not-stays i k j l m e t = let far : i % 4 ≡ j = omega arith in let low : 4 ≤
 pub stays-not : (k j : ℕ) → 1 ≤ j → j < 4 → is_header_or_move (4 + 4 * k + j) ≡ false
 stays-not k j l m = false_from_ne_true (is_header_or_move (4 + 4 * k + j)) (λ t. not-stays (4 + 4 * k + j) k j l m refl t)
 
-in-cover : (bs : List LinkedBlock) (c : LinkedBlock) (i : ℕ) → In c bs → covers i c ≡ true → 0 < cover i bs
+pub in-cover : (bs : List LinkedBlock) (c : LinkedBlock) (i : ℕ) → In c bs → covers i c ≡ true → 0 < cover i bs
 in-cover [] c i n h = absurd n
 in-cover (b ∷ bs) c i n h = ⊎_elim
     (λ (e : c ≡ b). omega (arith, cover-cons i b bs, ap one_if (ap (covers i) (sym e) ∙ h)))

@@ -52,7 +52,7 @@ among s words next (b ∷ bs) cs small g c lk links =
     let t : In (told_block s bs b.parent b.start) cs = told-real s words cs bs b.parent b.start lk rest g.0.parent small (links b (inl refl)) (omega arith) in
     (subst (λ (d : LinkedBlock). In d cs) (sym is) t, g.0.parent, rest)
 
-knows-in : (r : ℕ) (cs ks : List LinkedBlock) (b : LinkedBlock) → Knows r cs ks → In b ks → In b cs
+pub knows-in : (r : ℕ) (cs ks : List LinkedBlock) (b : LinkedBlock) → Knows r cs ks → In b ks → In b cs
 knows-in r cs [] b k i = absurd i
 knows-in r cs (d ∷ ks) b k i = ⊎_elim (λ (e : b ≡ d). subst (λ (z : LinkedBlock). In z cs) (sym e) k.0) (λ (j : In b ks). knows-in r cs ks b k.2 j) i
 

@@ -47,7 +47,7 @@ pub knows-more : (r : ℕ) (b : LinkedBlock) (bs ks : List LinkedBlock) → Know
 knows-more r b bs [] k = tt
 knows-more r b bs (c ∷ ks) k = (inr k.0, k.1, knows-more r b bs ks k.2)
 
-node-first : (r : ℕ) (ks ls : List LinkedBlock) (x : ℕ) → is_node r ks x ≡ true → is_node r (ks ++ ls) x ≡ true
+pub node-first : (r : ℕ) (ks ls : List LinkedBlock) (x : ℕ) → is_node r ks x ≡ true → is_node r (ks ++ ls) x ≡ true
 node-first r [] ls x n = subst (λ (y : ℕ). is_node r ls y ≡ true) (sym (eqb-true x r n)) (root_node r ls)
 node-first r (k ∷ ks) ls x n = ⊎_elim
     (λ (h : has_node k x ≡ true). first (has_node k x) (is_node r (ks ++ ls) x) h)

@@ -166,7 +166,7 @@ more_sights true true u c = refl
 more_sights true false u c = refl
 more_sights false v u c = refl
 
-other_again : (c : Colour) → other_of (other_of c) ≡ c
+pub other_again : (c : Colour) → other_of (other_of c) ≡ c
 other_again Black = refl
 other_again White = refl
 
