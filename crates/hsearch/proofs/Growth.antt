@@ -14,7 +14,7 @@ use Rattle.conn_store.specs.declared.entries.Put.{Put}
 use Rattle.conn_store.specs.declared.entries.Put.TheVariants.{Added, Dominated, PairFull}
 use Rattle.conn_store.proofs.Numbers.{numbers_over}
 use Rattle.conn_store.proofs.Tables.{of_itself}
-use Rattle.hsearch.specs.Closed.{AnswersAnd, AnswersOr, HoldsEdge, IsAnswered}
+use Rattle.hsearch.specs.Closed.{SettlesAnd, SettlesOr, HoldsEdge, IsSettled}
 use Rattle.hsearch.specs.Taken.{Extends, IsChosen, IsCombined, IsJoined, IsJoinedOver, IsJoinedTo}
 
 -- ---- more entries
@@ -72,22 +72,22 @@ full_stays d f kind x y g h =
     ap length e ∙ length-append (numbers_of d kind x y) (numbers_from (0 + length d.entries) kind x y g.entries.0) in
     omega arith
 
-pub answer_stays : (d f : StoreData) (kind : Kind) (x y c : ℕ) → Extends d f → IsAnswered d kind x y c → IsAnswered f kind x y c
+pub answer_stays : (d f : StoreData) (kind : Kind) (x y c : ℕ) → Extends d f → IsSettled d kind x y c → IsSettled f kind x y c
 answer_stays d f kind x y c g (inl h) = inl (covered_stays d f kind (min x y) (max x y) c g h)
 answer_stays d f kind x y c g (inr h) = inr (full_stays d f kind (min x y) (max x y) g h)
 
-pub wider_answer : (d : StoreData) (kind : Kind) (x y b c : ℕ) → ((k : ℕ) → has b k ≡ true → has c k ≡ true) → IsAnswered d kind x y b → IsAnswered d kind x y c
+pub wider_answer : (d : StoreData) (kind : Kind) (x y b c : ℕ) → ((k : ℕ) → has b k ≡ true → has c k ≡ true) → IsSettled d kind x y b → IsSettled d kind x y c
 wider_answer d kind x y b c s (inl (i, a, h, o, t)) = inl (i, a, h, o, λ k g. s k (t k g))
 wider_answer d kind x y b c s (inr h) = inr h
 
-pub and_stays : (d f : StoreData) (a b : Entry) (x u y : ℕ) → Extends d f → AnswersAnd d a b x u y → AnswersAnd f a b x u y
+pub and_stays : (d f : StoreData) (a b : Entry) (x u y : ℕ) → Extends d f → SettlesAnd d a b x u y → SettlesAnd f a b x u y
 and_stays d f a b x u y g h r n =
     let w = h (subst (λ (e : PlayerBoard). AndRule e a b x u y) g.elements r) (λ z. n (subst (λ (e : PlayerBoard). HoldsEdge e u) (sym g.elements) z)) in (
       λ q. answer_stays d f Full x y (both_of a b) g (w.0 (subst (λ (e : PlayerBoard). IsGroup e u) g.elements q)),
       λ k q. answer_stays d f Semi x y (with_cell (both_of a b) k) g (w.1 k (subst (λ (e : PlayerBoard). IsCell e u k) g.elements q)),
     )
 
-pub or_stays : (d f : StoreData) (ways : List Entry) (x y : ℕ) → Extends d f → AnswersOr d ways x y → AnswersOr f ways x y
+pub or_stays : (d f : StoreData) (ways : List Entry) (x y : ℕ) → Extends d f → SettlesOr d ways x y → SettlesOr f ways x y
 or_stays d f ways x y g h r = answer_stays d f Full x y (union_of ways) g (h r)
 
 pub two_were : (d f : StoreData) (i j : ℕ) (a b : Entry) → Extends d f → i < length d.entries → j < length d.entries → AreAt f.entries (i ∷ j ∷ []) (a ∷ b ∷ []) → AreAt d.entries (i ∷ j ∷ []) (a ∷ b ∷ [])
@@ -154,7 +154,7 @@ put_answers d f a Dominated p = inl (subst (λ (v : StoreData). IsCovered v a.ki
 put_answers d f a PairFull p = inr (subst (λ (v : StoreData). IsPairFull v a.kind a.x a.y) (sym p.after) (p.full refl))
 
 -- the entry of x and y is answered
-pub answered : (d f : StoreData) (a : Entry) (put : Put) (kind : Kind) (x y c : ℕ) → IsPut d f a put → IsBetween a x y → a.kind ≡ kind → a.carrier ≡ c → IsAnswered f kind x y c
+pub answered : (d f : StoreData) (a : Entry) (put : Put) (kind : Kind) (x y c : ℕ) → IsPut d f a put → IsBetween a x y → a.kind ≡ kind → a.carrier ≡ c → IsSettled f kind x y c
 answered d f a put kind x y c p b k s = elim (put_answers d f a put p) [
   | inl h ↦ inl (subst (λ v. IsCovered f kind (min x y) (max x y) v) s (subst (λ v. IsCovered f v (min x y) (max x y) a.carrier) k
       (subst (λ v. IsCovered f a.kind v (max x y) a.carrier) b.0 (subst (λ v. IsCovered f a.kind a.x v a.carrier) b.1 h))))

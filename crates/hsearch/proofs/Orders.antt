@@ -1,7 +1,6 @@
 -- The rules without an order of the entries.
-use Rattle.std.proofs.Common.{◌≡◌, ℕ, ◌⊎◌, ◌&&◌, ◌∷◌, [], min, max, bit_or, true, false, Bool, refl, sym, ◌∙◌, ap, subst, inl, inr, arith}
+use Rattle.std.proofs.Common.{◌≡◌, ℕ, ◌⊎◌, ◌∷◌, [], min, max, bit_or, true, refl, sym, ◌∙◌, ap, subst, inl, inr}
 use Rattle.std.proofs.Math.Nat.{min_comm, max_comm}
-use Rattle.std.proofs.lemmas.Bool.{and_parts, false_from_ne_true}
 use Rattle.std.proofs.lemmas.List.Elements.{All-cons, All-head, All-nil}
 use Rattle.std.proofs.lemmas.Nat.{or_comm}
 use Rattle.hex_cells.specs.Sets.{has, with_cell}
@@ -13,9 +12,10 @@ use Rattle.conn_store.specs.Stores.{IsCovered, IsPairFull, StoreData}
 use Rattle.conn_store.specs.declared.entries.Entry.{Entry}
 use Rattle.conn_store.specs.declared.entries.Kind.{Kind}
 use Rattle.conn_store.specs.declared.entries.Kind.TheVariants.{Full, Semi}
+use Rattle.conn_store.proofs.RuleEntries.{all_full, all_not, both_full, both_not}
 use Rattle.conn_store.proofs.RuleTruth.{second_of, third_of}
 use Rattle.conn_store.proofs.Sureness.{in_union, union_left, union_right}
-use Rattle.hsearch.specs.Closed.{AnswersAnd, AnswersOr, IsAnswered}
+use Rattle.hsearch.specs.Closed.{SettlesAnd, SettlesOr, IsSettled}
 use Rattle.hsearch.proofs.Growth.{wider_answer}
 
 -- ---- AND
@@ -33,12 +33,12 @@ turned_rule e a b x u y r = record {
   second_end = r.first_end;
 }
 
-turned_answer : (d : StoreData) (kind : Kind) (x y b c : ℕ) → b ≡ c → IsAnswered d kind y x b → IsAnswered d kind x y c
-turned_answer d kind x y b c q h = subst (λ v. IsAnswered d kind x y v) q
+turned_answer : (d : StoreData) (kind : Kind) (x y b c : ℕ) → b ≡ c → IsSettled d kind y x b → IsSettled d kind x y c
+turned_answer d kind x y b c q h = subst (λ v. IsSettled d kind x y v) q
     (subst (λ v. IsCovered d kind v (max x y) b ⊎ IsPairFull d kind v (max x y)) (min_comm y x)
     (subst (λ v. IsCovered d kind (min y x) v b ⊎ IsPairFull d kind (min y x) v) (max_comm y x) h))
 
-pub turned_and : (d : StoreData) (a b : Entry) (x u y : ℕ) → AnswersAnd d b a y u x → AnswersAnd d a b x u y
+pub turned_and : (d : StoreData) (a b : Entry) (x u y : ℕ) → SettlesAnd d b a y u x → SettlesAnd d a b x u y
 turned_and d a b x u y h r n =
     let w = h (turned_rule d.elements a b x u y r) n in
     let q : both_of b a ≡ both_of a b = or_comm b.carrier a.carrier in (
@@ -65,27 +65,13 @@ pub record AreTwo (a b : Entry) (x y : ℕ) : Type 0 where
   pub second_pair : IsBetween b x y
   pub free : (k : ℕ) → has a.carrier k ≡ true → has b.carrier k ≡ true → ⊥
 
-two_not : (a b : Bool) → (a && (b && true)) ≡ false → a ≡ true → b ≡ true → ⊥
-two_not a b h f g = absurd (grind arith)
-
-three_not : (a b c : Bool) → (a && (b && (c && true))) ≡ false → a ≡ true → b ≡ true → c ≡ true → ⊥
-three_not a b c h f g i = absurd (grind arith)
-
-two_full : (a b : Bool) → (a ≡ true → b ≡ true → ⊥) → (a && (b && true)) ≡ false
-two_full a b f = false_from_ne_true (a && (b && true)) (λ h. let t = and_parts a (b && true) h in f t.0 (and_parts b true t.1).0)
-
-three_full : (a b c : Bool) → (a ≡ true → b ≡ true → c ≡ true → ⊥) → (a && (b && (c && true))) ≡ false
-three_full a b c f = false_from_ne_true (a && (b && (c && true))) (λ h.
-    let t = and_parts a (b && (c && true)) h in
-    let u = and_parts b (c && true) t.1 in f t.0 u.0 (and_parts c true u.1).0)
-
 pub two_of : (a b : Entry) (x y : ℕ) → OrRule (a ∷ b ∷ []) x y → AreTwo a b x y
 two_of a b x y r = record {
   first_kind = All-head (λ (v : Entry). v.kind ≡ Semi) a (b ∷ []) r.kinds;
   second_kind = second_of (λ (v : Entry). v.kind ≡ Semi) a b [] r.kinds;
   first_pair = All-head (λ (v : Entry). IsBetween v x y) a (b ∷ []) r.pairs;
   second_pair = second_of (λ (v : Entry). IsBetween v x y) a b [] r.pairs;
-  free = λ k. two_not (has a.carrier k) (has b.carrier k) (r.free k);
+  free = λ k. both_not (has a.carrier k) (has b.carrier k) (r.free k);
 }
 
 pub three_of : (a b c : Entry) (x y : ℕ) → OrRule (a ∷ b ∷ c ∷ []) x y → AreThree a b c x y
@@ -96,7 +82,7 @@ three_of a b c x y r = record {
   first_pair = All-head (λ (v : Entry). IsBetween v x y) a (b ∷ c ∷ []) r.pairs;
   second_pair = second_of (λ (v : Entry). IsBetween v x y) a b (c ∷ []) r.pairs;
   third_pair = third_of (λ (v : Entry). IsBetween v x y) a b c [] r.pairs;
-  free = λ k. three_not (has a.carrier k) (has b.carrier k) (has c.carrier k) (r.free k);
+  free = λ k. all_not (has a.carrier k) (has b.carrier k) (has c.carrier k) (r.free k);
 }
 
 two_rule : (a b : Entry) (x y : ℕ) → AreTwo a b x y → OrRule (a ∷ b ∷ []) x y
@@ -104,7 +90,7 @@ two_rule a b x y t = record {
   number = inl refl;
   kinds = All-cons (λ (v : Entry). v.kind ≡ Semi) a (b ∷ []) t.first_kind (All-cons (λ (v : Entry). v.kind ≡ Semi) b [] t.second_kind (All-nil (λ (v : Entry). v.kind ≡ Semi)));
   pairs = All-cons (λ (v : Entry). IsBetween v x y) a (b ∷ []) t.first_pair (All-cons (λ (v : Entry). IsBetween v x y) b [] t.second_pair (All-nil (λ (v : Entry). IsBetween v x y)));
-  free = λ k. two_full (has a.carrier k) (has b.carrier k) (t.free k);
+  free = λ k. both_full (has a.carrier k) (has b.carrier k) (t.free k);
 }
 
 three_rule : (a b c : Entry) (x y : ℕ) → AreThree a b c x y → OrRule (a ∷ b ∷ c ∷ []) x y
@@ -114,7 +100,7 @@ three_rule a b c x y t = record {
       (All-cons (λ (v : Entry). v.kind ≡ Semi) c [] t.third_kind (All-nil (λ (v : Entry). v.kind ≡ Semi))));
   pairs = All-cons (λ (v : Entry). IsBetween v x y) a (b ∷ c ∷ []) t.first_pair (All-cons (λ (v : Entry). IsBetween v x y) b (c ∷ []) t.second_pair
       (All-cons (λ (v : Entry). IsBetween v x y) c [] t.third_pair (All-nil (λ (v : Entry). IsBetween v x y))));
-  free = λ k. three_full (has a.carrier k) (has b.carrier k) (has c.carrier k) (t.free k);
+  free = λ k. all_full (has a.carrier k) (has b.carrier k) (has c.carrier k) (t.free k);
 }
 
 -- the cells of three carriers, whatever their order
@@ -130,7 +116,7 @@ second_in a b c k h = union_right a (bit_or b c) k (union_left b c k h)
 third_in : (a b c : ℕ) (k : ℕ) → has c k ≡ true → has (bit_or a (bit_or b c)) k ≡ true
 third_in a b c k h = union_right a (bit_or b c) k (union_right b c k h)
 
-pub swapped_two : (d : StoreData) (a b : Entry) (x y : ℕ) → AnswersOr d (b ∷ a ∷ []) x y → AnswersOr d (a ∷ b ∷ []) x y
+pub swapped_two : (d : StoreData) (a b : Entry) (x y : ℕ) → SettlesOr d (b ∷ a ∷ []) x y → SettlesOr d (a ∷ b ∷ []) x y
 swapped_two d a b x y h r =
     let t = two_of a b x y r in
     wider_answer d Full x y (union_of (b ∷ a ∷ [])) (union_of (a ∷ b ∷ []))
@@ -138,7 +124,7 @@ swapped_two d a b x y h r =
     (h (two_rule b a x y (record { first_kind = t.second_kind; second_kind = t.first_kind; first_pair = t.second_pair; second_pair = t.first_pair; free = λ k f g. t.free k g f })))
 
 -- the last two swapped
-pub swapped_last : (d : StoreData) (a b c : Entry) (x y : ℕ) → AnswersOr d (a ∷ c ∷ b ∷ []) x y → AnswersOr d (a ∷ b ∷ c ∷ []) x y
+pub swapped_last : (d : StoreData) (a b c : Entry) (x y : ℕ) → SettlesOr d (a ∷ c ∷ b ∷ []) x y → SettlesOr d (a ∷ b ∷ c ∷ []) x y
 swapped_last d a b c x y h r =
     let t = three_of a b c x y r in
     wider_answer d Full x y (union_of (a ∷ c ∷ b ∷ [])) (union_of (a ∷ b ∷ c ∷ []))
@@ -157,7 +143,7 @@ swapped_last d a b c x y h r =
     })))
 
 -- the first two swapped
-pub swapped_first : (d : StoreData) (a b c : Entry) (x y : ℕ) → AnswersOr d (b ∷ a ∷ c ∷ []) x y → AnswersOr d (a ∷ b ∷ c ∷ []) x y
+pub swapped_first : (d : StoreData) (a b c : Entry) (x y : ℕ) → SettlesOr d (b ∷ a ∷ c ∷ []) x y → SettlesOr d (a ∷ b ∷ c ∷ []) x y
 swapped_first d a b c x y h r =
     let t = three_of a b c x y r in
     wider_answer d Full x y (union_of (b ∷ a ∷ c ∷ [])) (union_of (a ∷ b ∷ c ∷ []))
@@ -176,11 +162,11 @@ swapped_first d a b c x y h r =
     })))
 
 -- the last brought to the front
-pub last_first : (d : StoreData) (a b c : Entry) (x y : ℕ) → AnswersOr d (c ∷ a ∷ b ∷ []) x y → AnswersOr d (a ∷ b ∷ c ∷ []) x y
+pub last_first : (d : StoreData) (a b c : Entry) (x y : ℕ) → SettlesOr d (c ∷ a ∷ b ∷ []) x y → SettlesOr d (a ∷ b ∷ c ∷ []) x y
 last_first d a b c x y h = swapped_last d a b c x y (swapped_first d a c b x y h)
 
 -- one way twice
-pub way_twice : (d : StoreData) (a b : Entry) (x y : ℕ) → AnswersOr d (a ∷ b ∷ []) x y → AnswersOr d (a ∷ b ∷ b ∷ []) x y
+pub way_twice : (d : StoreData) (a b : Entry) (x y : ℕ) → SettlesOr d (a ∷ b ∷ []) x y → SettlesOr d (a ∷ b ∷ b ∷ []) x y
 way_twice d a b x y h r =
     let t = three_of a b b x y r in
     wider_answer d Full x y (union_of (a ∷ b ∷ [])) (union_of (a ∷ b ∷ b ∷ []))

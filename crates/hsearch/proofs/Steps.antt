@@ -20,9 +20,10 @@ use Rattle.conn_store.specs.declared.entries.Put.{Put}
 use Rattle.conn_store.specs.declared.entries.Put.TheVariants.{Added, Dominated, PairFull}
 use Rattle.conn_store.proofs.Chains.{ends_below}
 use Rattle.conn_store.proofs.Numbers.{numbers_all, numbers_in}
+use Rattle.conn_store.proofs.RuleEntries.{at_three, at_two}
 use Rattle.conn_store.proofs.RuleTruth.{second_of, third_of}
-use Rattle.conn_store.proofs.Tables.{last_or_before, number_at, number_within, of_itself}
-use Rattle.hsearch.specs.Closed.{AnswersOr, HoldsEdge, IsClosed, IsKept}
+use Rattle.conn_store.proofs.Tables.{held_count, last_or_before, number_at, number_within, of_itself}
+use Rattle.hsearch.specs.Closed.{SettlesOr, HoldsEdge, IsRuleClosed, IsKept}
 use Rattle.hsearch.specs.Taken.{AreBare, AreNearBelow, Extends, IsChosen, IsCombined, IsJoined, IsJoinedOver, IsJoinedTo, IsOfPair, IsTaken}
 use Rattle.hsearch.proofs.Growth.{AreWithin, IsPut, answered, covered_stays, entry_stays, entry_was, grown_longer, grown_on, grown_put, put_answers, to_stays, two_were, ways_were}
 use Rattle.hsearch.proofs.Orders.{last_first, swapped_first, swapped_last, swapped_two, three_of, turned_and, two_of, way_twice}
@@ -146,9 +147,6 @@ near_none d f x y n h = record {
 of_from : (kind : Kind) (x y : ℕ) (b : Entry) → b.kind ≡ kind → b.x ≡ x → b.y ≡ y → is_of kind x y b ≡ true
 of_from kind x y b p q r = subst (λ v. is_of v x y b ≡ true) p (subst (λ v. is_of b.kind v y b ≡ true) q (subst (λ v. is_of b.kind b.x v b ≡ true) r (of_itself b)))
 
-pub held_count : (h : Held) (numbers : List ℕ) → h ≡ held_of numbers → h.count ≡ length numbers
-held_count h numbers e = ap (λ (v : Held). v.count) e
-
 pub held_within : (d : StoreData) (kind : Kind) (x y : ℕ) (h : Held) (p : ℕ) → h ≡ held_of (numbers_of d kind x y) → p < h.count → get_or h.at p 0 < length d.entries
 held_within d kind x y h p e l =
     let c : h.count ≡ length (numbers_of d kind x y) = held_count h (numbers_of d kind x y) e in
@@ -222,27 +220,20 @@ over_edge d n u h i a b x y at r m = absurd (m h)
 
 -- ---- all ways of a pair
 
-at_two : (entries : List Entry) (n i : ℕ) (ways : List Entry) → AreAt entries (n ∷ i ∷ []) ways
+of_two : (entries : List Entry) (n i : ℕ) (ways : List Entry) → AreAt entries (n ∷ i ∷ []) ways
     → (a : Entry) × (b : Entry) × (ways ≡ a ∷ b ∷ []) × (slice_get entries n ≡ Some a) × (slice_get entries i ≡ Some b)
-at_two entries n i [] h = absurd (cc)
-at_two entries n i (a ∷ []) h = absurd (cc)
-at_two entries n i (a ∷ b ∷ []) h = (a, b, refl, cc, cc)
-at_two entries n i (a ∷ b ∷ c ∷ ways) h = absurd (cc)
+of_two entries n i [] h = absurd (cc)
+of_two entries n i (a ∷ []) h = absurd (cc)
+of_two entries n i (a ∷ b ∷ []) h = (a, b, refl, cc, cc)
+of_two entries n i (a ∷ b ∷ c ∷ ways) h = absurd (cc)
 
-at_three : (entries : List Entry) (n i j : ℕ) (ways : List Entry) → AreAt entries (n ∷ i ∷ j ∷ []) ways
+of_three : (entries : List Entry) (n i j : ℕ) (ways : List Entry) → AreAt entries (n ∷ i ∷ j ∷ []) ways
     → (a : Entry) × (b : Entry) × (c : Entry) × (ways ≡ a ∷ b ∷ c ∷ []) × (slice_get entries n ≡ Some a) × (slice_get entries i ≡ Some b) × (slice_get entries j ≡ Some c)
-at_three entries n i j [] h = absurd (cc)
-at_three entries n i j (a ∷ []) h = absurd (cc)
-at_three entries n i j (a ∷ b ∷ []) h = absurd (cc)
-at_three entries n i j (a ∷ b ∷ c ∷ []) h = (a, b, c, refl, cc, cc, cc)
-at_three entries n i j (a ∷ b ∷ c ∷ d ∷ ways) h = absurd (cc)
-
-two_at : (entries : List Entry) (n i : ℕ) (a b : Entry) → slice_get entries n ≡ Some a → slice_get entries i ≡ Some b → AreAt entries (n ∷ i ∷ []) (a ∷ b ∷ [])
-two_at entries n i a b h g = cc
-
-three_at : (entries : List Entry) (n i j : ℕ) (a b c : Entry) → slice_get entries n ≡ Some a → slice_get entries i ≡ Some b → slice_get entries j ≡ Some c
-    → AreAt entries (n ∷ i ∷ j ∷ []) (a ∷ b ∷ c ∷ [])
-three_at entries n i j a b c h g f = cc
+of_three entries n i j [] h = absurd (cc)
+of_three entries n i j (a ∷ []) h = absurd (cc)
+of_three entries n i j (a ∷ b ∷ []) h = absurd (cc)
+of_three entries n i j (a ∷ b ∷ c ∷ []) h = (a, b, c, refl, cc, cc, cc)
+of_three entries n i j (a ∷ b ∷ c ∷ d ∷ ways) h = absurd (cc)
 
 like_first : (a b : Entry) (x y v w : ℕ) → IsBetween a v w → IsBetween b v w → a.x ≡ x → a.y ≡ y → (b.x ≡ x) × (b.y ≡ y)
 like_first a b x y v w h g p q = (g.0 ∙ (sym h.0 ∙ p), g.1 ∙ (sym h.1 ∙ q))
@@ -255,7 +246,7 @@ pub record AreChosen (f : StoreData) (n : ℕ) (h : Held) : Type 0 where
 pub chosen_two : (d f : StoreData) (n x y : ℕ) (h : Held) → h ≡ held_of (numbers_of d Semi x y) → Extends d f → n < length d.entries → IsOfPair d n x y → AreChosen f n h
     → (i : ℕ) → i < length d.entries → IsChosen f (n ∷ i ∷ [])
 chosen_two d f n x y h e g l o done i m ways v w at r =
-    let t = at_two f.entries n i ways at in
+    let t = of_two f.entries n i ways at in
     let s : OrRule (t.0 ∷ t.1 ∷ []) v w = subst (λ z. OrRule z v w) t.2 r in
     let u = two_of t.0 t.1 v w s in
     let a = entry_was d f n t.0 g l t.3 in
@@ -268,7 +259,7 @@ chosen_two d f n x y h e g l o done i m ways v w at r =
 pub chosen_three : (d f : StoreData) (n x y : ℕ) (h : Held) → h ≡ held_of (numbers_of d Semi x y) → Extends d f → n < length d.entries → IsOfPair d n x y → AreChosen f n h
     → (i j : ℕ) → i < length d.entries → j < length d.entries → IsChosen f (n ∷ i ∷ j ∷ [])
 chosen_three d f n x y h e g l o done i j m k ways v w at r =
-    let t = at_three f.entries n i j ways at in
+    let t = of_three f.entries n i j ways at in
     let s : OrRule (t.0 ∷ t.1 ∷ t.2 ∷ []) v w = subst (λ z. OrRule z v w) t.3 r in
     let u = three_of t.0 t.1 t.2 v w s in
     let a = entry_was d f n t.0 g l t.4 in
@@ -279,18 +270,18 @@ chosen_three d f n x y h e g l o done i j m k ways v w at r =
     let z = like_first t.0 t.2 x y v w u.first_pair u.third_pair p.0 p.1 in
     let b_at = held_has d Semi x y i h t.1 e b u.second_kind q.0 q.1 in
     let c_at = held_has d Semi x y j h t.2 e c u.third_kind z.0 z.1 in
-    subst (λ (z : List Entry). AnswersOr f z v w) (sym t.3) (elim (cases_order b_at.0 c_at.0) [
+    subst (λ (z : List Entry). SettlesOr f z v w) (sym t.3) (elim (cases_order b_at.0 c_at.0) [
       | inl same ↦
           let ij : i ≡ j = sym b_at.2 ∙ (ap (λ p. get_or h.at p 0) same ∙ c_at.2) in
           let bc : t.1 ≡ t.2 = same_Some t.1 t.2 (sym t.5 ∙ (ap (λ p. slice_get f.entries p) ij ∙ t.6)) in
-          subst (λ (z : Entry). AnswersOr f (t.0 ∷ t.1 ∷ z ∷ []) v w) bc
-          (way_twice f t.0 t.1 v w (subst (λ p. IsChosen f (n ∷ p ∷ [])) b_at.2 (done.twos b_at.0 b_at.1) (t.0 ∷ t.1 ∷ []) v w (two_at f.entries n i t.0 t.1 t.4 t.5)))
+          subst (λ (z : Entry). SettlesOr f (t.0 ∷ t.1 ∷ z ∷ []) v w) bc
+          (way_twice f t.0 t.1 v w (subst (λ p. IsChosen f (n ∷ p ∷ [])) b_at.2 (done.twos b_at.0 b_at.1) (t.0 ∷ t.1 ∷ []) v w (at_two f.entries n i t.0 t.1 t.4 t.5)))
       | inr other ↦ elim other [
         | inl less ↦ swapped_last f t.0 t.1 t.2 v w
             (subst (λ p. IsChosen f (n ∷ p ∷ i ∷ [])) c_at.2 (subst (λ p. IsChosen f (n ∷ get_or h.at c_at.0 0 ∷ p ∷ [])) b_at.2 (done.threes c_at.0 b_at.0 c_at.1 less))
-            (t.0 ∷ t.2 ∷ t.1 ∷ []) v w (three_at f.entries n j i t.0 t.2 t.1 t.4 t.6 t.5))
+            (t.0 ∷ t.2 ∷ t.1 ∷ []) v w (at_three f.entries n j i t.0 t.2 t.1 t.4 t.6 t.5))
         | inr more ↦ subst (λ p. IsChosen f (n ∷ p ∷ j ∷ [])) b_at.2 (subst (λ p. IsChosen f (n ∷ get_or h.at b_at.0 0 ∷ p ∷ [])) c_at.2 (done.threes b_at.0 c_at.0 b_at.1 more))
-            (t.0 ∷ t.1 ∷ t.2 ∷ []) v w (three_at f.entries n i j t.0 t.1 t.2 t.4 t.5 t.6)
+            (t.0 ∷ t.1 ∷ t.2 ∷ []) v w (at_three f.entries n i j t.0 t.1 t.2 t.4 t.5 t.6)
       ]
     ]) r
 
@@ -311,8 +302,8 @@ combined_full d f n a g l h k over_x over_y = record {
         | inl p ↦ subst (λ v. IsJoinedOver f n i v) (sym p) (over_x i (omega arith)) b c x y at r z
         | inr p ↦ subst (λ v. IsJoinedOver f n i v) (sym p) (over_y i (omega arith)) b c x y at r z
       ];
-  twos = λ i m ways x y at r. absurd (no_way (n ∷ i ∷ []) ways x y (at_two f.entries n i ways at).0 (at_two f.entries n i ways at).3 (first_two i ways at) r);
-  threes = λ i j m o ways x y at r. absurd (no_way (n ∷ i ∷ j ∷ []) ways x y (at_three f.entries n i j ways at).0 (at_three f.entries n i j ways at).4 (first_three i j ways at) r);
+  twos = λ i m ways x y at r. absurd (no_way (n ∷ i ∷ []) ways x y (of_two f.entries n i ways at).0 (of_two f.entries n i ways at).3 (first_two i ways at) r);
+  threes = λ i j m o ways x y at r. absurd (no_way (n ∷ i ∷ j ∷ []) ways x y (of_three f.entries n i j ways at).0 (of_three f.entries n i j ways at).4 (first_three i j ways at) r);
 }
   where
     no_way : (numbers : List ℕ) (ways : List Entry) (x y : ℕ) (b : Entry) → slice_get f.entries n ≡ Some b → ((rest : List Entry) × (ways ≡ b ∷ rest)) → OrRule ways x y → ⊥
@@ -320,11 +311,11 @@ combined_full d f n a g l h k over_x over_y = record {
         let q : b ≡ a = same_Some b a (sym s ∙ entry_stays d f n a g h) in
         kinds_apart a.kind k (subst (λ (v : Entry). v.kind ≡ Semi) q (All-head (λ (v : Entry). v.kind ≡ Semi) b w.0 (subst (λ z. All (λ (v : Entry). v.kind ≡ Semi) z) w.1 r.kinds)))
 
-    first_two : (i : ℕ) (ways : List Entry) (at : AreAt f.entries (n ∷ i ∷ []) ways) → (rest : List Entry) × (ways ≡ (at_two f.entries n i ways at).0 ∷ rest)
-    first_two i ways at = let t = at_two f.entries n i ways at in (t.1 ∷ [], t.2)
+    first_two : (i : ℕ) (ways : List Entry) (at : AreAt f.entries (n ∷ i ∷ []) ways) → (rest : List Entry) × (ways ≡ (of_two f.entries n i ways at).0 ∷ rest)
+    first_two i ways at = let t = of_two f.entries n i ways at in (t.1 ∷ [], t.2)
 
-    first_three : (i j : ℕ) (ways : List Entry) (at : AreAt f.entries (n ∷ i ∷ j ∷ []) ways) → (rest : List Entry) × (ways ≡ (at_three f.entries n i j ways at).0 ∷ rest)
-    first_three i j ways at = let t = at_three f.entries n i j ways at in (t.1 ∷ t.2 ∷ [], t.3)
+    first_three : (i j : ℕ) (ways : List Entry) (at : AreAt f.entries (n ∷ i ∷ j ∷ []) ways) → (rest : List Entry) × (ways ≡ (of_three f.entries n i j ways at).0 ∷ rest)
+    first_three i j ways at = let t = of_three f.entries n i j ways at in (t.1 ∷ t.2 ∷ [], t.3)
 
 pub combined_semi : (d f : StoreData) (n : ℕ) (a : Entry) → Extends d f → n < length d.entries → slice_get d.entries n ≡ Some a → a.kind ≡ Semi
     → ((i : ℕ) → i < length d.entries → IsChosen f (n ∷ i ∷ [])) → ((i j : ℕ) → i < length d.entries → j < length d.entries → IsChosen f (n ∷ i ∷ j ∷ [])) → IsCombined f n
@@ -341,12 +332,12 @@ combined_semi d f n a g l h k twos threes = record {
 less_more : (i n : ℕ) → i ≤ n → i < n + 1
 less_more i n l = omega arith
 
-pub all_taken : (d : StoreData) (n : ℕ) → IsTaken d n → length d.entries ≤ n → AreNearBelow d (element_count d.elements) → IsClosed d
+pub all_taken : (d : StoreData) (n : ℕ) → IsTaken d n → length d.entries ≤ n → AreNearBelow d (element_count d.elements) → IsRuleClosed d
 all_taken d n t l near = record {
   near = near;
   ands = λ a b x u y (i, h) (j, g). elim (cases_lt i j) [
-    | inl m ↦ turned_and d a b x u y ((t j (within j b g)).ands i (less_more i j (omega arith)) b a y u x (two_at d.entries j i b a g h))
-    | inr m ↦ (t i (within i a h)).ands j (less_more j i m) a b x u y (two_at d.entries i j a b h g)
+    | inl m ↦ turned_and d a b x u y ((t j (within j b g)).ands i (less_more i j (omega arith)) b a y u x (at_two d.entries j i b a g h))
+    | inr m ↦ (t i (within i a h)).ands j (less_more j i m) a b x u y (at_two d.entries i j a b h g)
   ];
   ors = λ ways x y all r. closed_or ways x y all r r;
 }
@@ -354,25 +345,25 @@ all_taken d n t l near = record {
     within : (i : ℕ) (a : Entry) → slice_get d.entries i ≡ Some a → i < n
     within i a h = omega (arith, slice_get_within d.entries i a h)
 
-    closed_two : (a b : Entry) (x y : ℕ) → IsKept d a → IsKept d b → AnswersOr d (a ∷ b ∷ []) x y
+    closed_two : (a b : Entry) (x y : ℕ) → IsKept d a → IsKept d b → SettlesOr d (a ∷ b ∷ []) x y
     closed_two a b x y (i, h) (j, g) = elim (cases_lt i j) [
-      | inl m ↦ swapped_two d a b x y ((t j (within j b g)).twos i (less_more i j (omega arith)) (b ∷ a ∷ []) x y (two_at d.entries j i b a g h))
-      | inr m ↦ (t i (within i a h)).twos j (less_more j i m) (a ∷ b ∷ []) x y (two_at d.entries i j a b h g)
+      | inl m ↦ swapped_two d a b x y ((t j (within j b g)).twos i (less_more i j (omega arith)) (b ∷ a ∷ []) x y (at_two d.entries j i b a g h))
+      | inr m ↦ (t i (within i a h)).twos j (less_more j i m) (a ∷ b ∷ []) x y (at_two d.entries i j a b h g)
     ]
 
-    closed_three : (a b c : Entry) (x y : ℕ) → IsKept d a → IsKept d b → IsKept d c → AnswersOr d (a ∷ b ∷ c ∷ []) x y
+    closed_three : (a b c : Entry) (x y : ℕ) → IsKept d a → IsKept d b → IsKept d c → SettlesOr d (a ∷ b ∷ c ∷ []) x y
     closed_three a b c x y (i, h) (j, g) (k, f) = elim (cases_lt i j) [
       | inl m ↦ elim (cases_lt j k) [
-        | inl o ↦ last_first d a b c x y ((t k (within k c f)).threes i j (less_more i k (omega arith)) (less_more j k (omega arith)) (c ∷ a ∷ b ∷ []) x y (three_at d.entries k i j c a b f h g))
-        | inr o ↦ swapped_first d a b c x y ((t j (within j b g)).threes i k (less_more i j (omega arith)) (less_more k j o) (b ∷ a ∷ c ∷ []) x y (three_at d.entries j i k b a c g h f))
+        | inl o ↦ last_first d a b c x y ((t k (within k c f)).threes i j (less_more i k (omega arith)) (less_more j k (omega arith)) (c ∷ a ∷ b ∷ []) x y (at_three d.entries k i j c a b f h g))
+        | inr o ↦ swapped_first d a b c x y ((t j (within j b g)).threes i k (less_more i j (omega arith)) (less_more k j o) (b ∷ a ∷ c ∷ []) x y (at_three d.entries j i k b a c g h f))
       ]
       | inr m ↦ elim (cases_lt i k) [
-        | inl o ↦ last_first d a b c x y ((t k (within k c f)).threes i j (less_more i k (omega arith)) (less_more j k (omega arith)) (c ∷ a ∷ b ∷ []) x y (three_at d.entries k i j c a b f h g))
-        | inr o ↦ (t i (within i a h)).threes j k (less_more j i m) (less_more k i o) (a ∷ b ∷ c ∷ []) x y (three_at d.entries i j k a b c h g f)
+        | inl o ↦ last_first d a b c x y ((t k (within k c f)).threes i j (less_more i k (omega arith)) (less_more j k (omega arith)) (c ∷ a ∷ b ∷ []) x y (at_three d.entries k i j c a b f h g))
+        | inr o ↦ (t i (within i a h)).threes j k (less_more j i m) (less_more k i o) (a ∷ b ∷ c ∷ []) x y (at_three d.entries i j k a b c h g f)
       ]
     ]
 
-    closed_or : (ways : List Entry) (x y : ℕ) → All (IsKept d) ways → OrRule ways x y → AnswersOr d ways x y
+    closed_or : (ways : List Entry) (x y : ℕ) → All (IsKept d) ways → OrRule ways x y → SettlesOr d ways x y
     closed_or [] x y all r = elim r.number [ inl h ↦ absurd (omega arith) | inr h ↦ absurd (omega arith) ]
     closed_or (a ∷ []) x y all r = elim r.number [ inl h ↦ absurd (omega arith) | inr h ↦ absurd (omega arith) ]
     closed_or (a ∷ b ∷ []) x y all r = closed_two a b x y (All-head (IsKept d) a (b ∷ []) all) (second_of (IsKept d) a b [] all)

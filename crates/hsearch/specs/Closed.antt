@@ -14,32 +14,35 @@ use Rattle.conn_store.specs.declared.entries.Kind.TheVariants.{Full, Semi}
 abbrev pub IsKept : StoreData → Entry → Type 0
 IsKept d a = (i : ℕ) × (slice_get d.entries i ≡ Some a)
 
--- the pair of x and y has an entry of that kind with a carrier inside c, or its full number of that kind
-abbrev pub IsAnswered : StoreData → Kind → ℕ → ℕ → ℕ → Type 0
-IsAnswered d kind x y c = IsCovered d kind (min x y) (max x y) c ⊎ IsPairFull d kind (min x y) (max x y)
+-- the pair of x and y has an entry of that kind with a carrier inside c, or its full number of
+-- that kind
+abbrev pub IsSettled : StoreData → Kind → ℕ → ℕ → ℕ → Type 0
+IsSettled d kind x y c =
+    IsCovered d kind (min x y) (max x y) c ⊎ IsPairFull d kind (min x y) (max x y)
 
 -- element u holds an edge
 abbrev pub HoldsEdge : PlayerBoard → ℕ → Type 0
 HoldsEdge e u = (second : Bool) × (edge_element e second ≡ u)
 
--- what the rules of AND give of entries a of x and u, and b of u and y, is answered, where u holds no edge
-abbrev pub AnswersAnd : StoreData → Entry → Entry → ℕ → ℕ → ℕ → Type 0
-AnswersAnd d a b x u y = AndRule d.elements a b x u y → ¬ (HoldsEdge d.elements u)
-    → (IsGroup d.elements u → IsAnswered d Full x y (both_of a b))
-    × ((k : ℕ) → IsCell d.elements u k → IsAnswered d Semi x y (with_cell (both_of a b) k))
+-- what the rules of AND give of entries a of x and u, and b of u and y, is settled, where u holds
+-- no edge
+abbrev pub SettlesAnd : StoreData → Entry → Entry → ℕ → ℕ → ℕ → Type 0
+SettlesAnd d a b x u y = AndRule d.elements a b x u y → ¬ (HoldsEdge d.elements u)
+    → (IsGroup d.elements u → IsSettled d Full x y (both_of a b))
+    × ((k : ℕ) → IsCell d.elements u k → IsSettled d Semi x y (with_cell (both_of a b) k))
 
--- what the rule of OR gives of these entries of x and y is answered
-abbrev pub AnswersOr : StoreData → List Entry → ℕ → ℕ → Type 0
-AnswersOr d ways x y = OrRule ways x y → IsAnswered d Full x y (union_of ways)
+-- what the rule of OR gives of these entries of x and y is settled
+abbrev pub SettlesOr : StoreData → List Entry → ℕ → ℕ → Type 0
+SettlesOr d ways x y = OrRule ways x y → IsSettled d Full x y (union_of ways)
 
--- each pair that lies side by side has an entry with the empty carrier, and what the rules of AND and OR give of
--- entries of the store is answered
-pub record IsClosed (d : StoreData) : Type 0 where
+-- each pair that lies side by side has an entry with the empty carrier, and what the rules of AND
+-- and OR give of entries of the store is settled
+pub record IsRuleClosed (d : StoreData) : Type 0 where
   pub near : (x y : ℕ) → x < y → y < element_count d.elements → Near d.elements x y → IsCovered d Full x y 0
-  pub ands : (a b : Entry) (x u y : ℕ) → IsKept d a → IsKept d b → AnswersAnd d a b x u y
-  pub ors : (ways : List Entry) (x y : ℕ) → All (IsKept d) ways → AnswersOr d ways x y
+  pub ands : (a b : Entry) (x u y : ℕ) → IsKept d a → IsKept d b → SettlesAnd d a b x u y
+  pub ors : (ways : List Entry) (x y : ℕ) → All (IsKept d) ways → SettlesOr d ways x y
 
 -- a report: each entry is valid, follows from earlier ones and is true, and the store is closed
 pub record IsReport (d : StoreData) : Type 0 where
   pub sound : IsSound d
-  pub closed : IsClosed d
+  pub closed : IsRuleClosed d

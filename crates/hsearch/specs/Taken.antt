@@ -6,7 +6,7 @@ use Rattle.conn_store.specs.Rules.{AreAt}
 use Rattle.conn_store.specs.Stores.{IsCovered, StoreData}
 use Rattle.conn_store.specs.declared.entries.Entry.{Entry}
 use Rattle.conn_store.specs.declared.entries.Kind.TheVariants.{Full}
-use Rattle.hsearch.specs.Closed.{AnswersAnd, AnswersOr}
+use Rattle.hsearch.specs.Closed.{SettlesAnd, SettlesOr}
 
 -- f is the store d with more entries at its end
 pub record Extends (d f : StoreData) : Type 0 where
@@ -15,19 +15,22 @@ pub record Extends (d f : StoreData) : Type 0 where
 
 -- what the rules of AND give of entries i and j is answered
 abbrev pub IsJoined : StoreData → ℕ → ℕ → Type 0
-IsJoined d i j = (a b : Entry) (x u y : ℕ) → AreAt d.entries (i ∷ j ∷ []) (a ∷ b ∷ []) → AnswersAnd d a b x u y
+IsJoined d i j =
+    (a b : Entry) (x u y : ℕ) → AreAt d.entries (i ∷ j ∷ []) (a ∷ b ∷ []) → SettlesAnd d a b x u y
 
 -- the same where the middle is u
 abbrev pub IsJoinedOver : StoreData → ℕ → ℕ → ℕ → Type 0
-IsJoinedOver d i j u = (a b : Entry) (x y : ℕ) → AreAt d.entries (i ∷ j ∷ []) (a ∷ b ∷ []) → AnswersAnd d a b x u y
+IsJoinedOver d i j u =
+    (a b : Entry) (x y : ℕ) → AreAt d.entries (i ∷ j ∷ []) (a ∷ b ∷ []) → SettlesAnd d a b x u y
 
 -- the same where the middle is u and the second end is y
 abbrev pub IsJoinedTo : StoreData → ℕ → ℕ → ℕ → ℕ → Type 0
-IsJoinedTo d i j u y = (a b : Entry) (x : ℕ) → AreAt d.entries (i ∷ j ∷ []) (a ∷ b ∷ []) → AnswersAnd d a b x u y
+IsJoinedTo d i j u y =
+    (a b : Entry) (x : ℕ) → AreAt d.entries (i ∷ j ∷ []) (a ∷ b ∷ []) → SettlesAnd d a b x u y
 
 -- what the rule of OR gives of the entries with these numbers is answered
 abbrev pub IsChosen : StoreData → List ℕ → Type 0
-IsChosen d numbers = (ways : List Entry) (x y : ℕ) → AreAt d.entries numbers ways → AnswersOr d ways x y
+IsChosen d numbers = (ways : List Entry) (x y : ℕ) → AreAt d.entries numbers ways → SettlesOr d ways x y
 
 -- what the rules give of entry n and of entries up to it is answered
 pub record IsCombined (d : StoreData) (n : ℕ) : Type 0 where

@@ -3,7 +3,8 @@
 ghost use Rattle.std.specs.Prelude.{◌≡◌, ℕ, ◌+◌, ◌<◌, ◌≤◌, ◌∷◌, [], ◌↔◌, IsTrue, length, slice_index};
 ghost use Rattle.hex_board.specs.Elements.{element_count};
 ghost use Rattle.hsearch.specs.Closed.{HoldsEdge};
-ghost use Rattle.hsearch.specs.Taken.{AreBare, AreNearBelow, Extends, IsChosen, IsCombined, IsJoined, IsJoinedOver, IsJoinedTo, IsOfPair};
+ghost use Rattle.hsearch.specs.Taken.{AreBare, AreNearBelow, Extends, IsChosen, IsCombined};
+ghost use Rattle.hsearch.specs.Taken.{IsJoined, IsJoinedOver, IsJoinedTo, IsOfPair};
 
 use conn_store::{Held, Kind, Store};
 use hex_board::Elements;
@@ -63,7 +64,8 @@ fn holds_edge(elements: &Elements, u: u8) -> bool
     u == elements.edge(false) || u == elements.edge(true)
 }
 
-// Adds what follows by AND from entry `number` and others over the middle `u`. An element that holds an edge is no middle.
+// Adds what follows by AND from entry `number` and others over the middle `u`. An element that
+// holds an edge is no middle.
 fn join_over(store: &mut Store, number: u32, u: u8)
     requires number { number < length store.old.entries }
     requires middle { u < element_count store.old.elements }
@@ -110,7 +112,8 @@ fn join(store: &mut Store, i: u32, j: u32)
     }
 }
 
-// Adds what follows by OR from entry `number`, a semi entry of the elements `x` and `y`, and others of theirs.
+// Adds what follows by OR from entry `number`, a semi entry of the elements `x` and `y`, and
+// others of theirs.
 fn choose(store: &mut Store, number: u32, x: u8, y: u8)
     requires number { number < length store.old.entries }
     requires order { x < y }
@@ -118,7 +121,8 @@ fn choose(store: &mut Store, number: u32, x: u8, y: u8)
     requires pair { IsOfPair store.old number x y }
     ensures extends { Extends store.old store.new }
     ensures twos { (i : ℕ) → i < length store.old.entries → IsChosen store.new (number ∷ i ∷ []) }
-    ensures threes { (i j : ℕ) → i < length store.old.entries → j < length store.old.entries → IsChosen store.new (number ∷ i ∷ j ∷ []) }
+    ensures threes { (i j : ℕ) → i < length store.old.entries → j < length store.old.entries
+        → IsChosen store.new (number ∷ i ∷ j ∷ []) }
 {
     let held = store.held(x, y, Kind::Semi);
     'seconds: for place in 0..held.count as usize {
@@ -132,9 +136,11 @@ fn choose_with(store: &mut Store, number: u32, held: &Held, place: usize)
     requires number { number < length store.old.entries }
     requires place { place < held.now.count }
     requires count { held.now.count ≤ 6 }
-    requires held { (p : ℕ) → p < held.now.count → slice_index held.now.at p < length store.old.entries }
+    requires held { (p : ℕ) → p < held.now.count
+        → slice_index held.now.at p < length store.old.entries }
     ensures extends { Extends store.old store.new }
-    ensures chosen { (q : ℕ) → q < place → IsChosen store.new (number ∷ slice_index held.now.at place ∷ slice_index held.now.at q ∷ []) }
+    ensures chosen { (q : ℕ) → q < place
+        → IsChosen store.new (number ∷ slice_index held.now.at place ∷ slice_index held.now.at q ∷ []) }
 {
     'thirds: for other in 0..place {
         choose_three(store, number, held.at[place], held.at[other]);

@@ -1,4 +1,28 @@
-//! H-search: what a player's entries lead to by the four rules.
+//! H-search: the connections that the four rules lead to.
+//!
+//! **Nouns.** A *report* ([`Report`]) is a store of a player's entries on a board that is closed
+//! under the four rules of `conn_store`. What a rule gives is *settled* where the pair has an entry
+//! of that kind with a carrier inside the rule's, or its full number of that kind.
+//!
+//! **A caller** makes a report by [`connect`] and reads its entries by [`Report::store`]:
+//!
+//! ```text
+//! let report = connect(alloc, board, colour)?;
+//! let edges = report.store().held(0, 1, Kind::Semi);
+//! ```
+//!
+//! **What is proved.** A report's store is that of the board and the player. Each entry is valid,
+//! follows from earlier ones and is true. Each pair that lies side by side has an entry with the
+//! empty carrier, and what the rules of AND, over a middle that holds no edge, and of OR give of
+//! its entries is settled (specs/Closed.antt). The definition knows neither rounds nor an order.
+//!
+//! **What is only tested, or not said.** That [`connect`] gets its memory; that it goes by a
+//! worklist, and its speed; which entries a report has beyond what closed says. H-search does not
+//! find every connection.
+//!
+//! **Limits.** Those of `conn_store`. Only [`connect`] takes memory.
+//!
+//! Source: Anshelevich's H-search.
 #![tactic(auto)]
 
 mod combining;

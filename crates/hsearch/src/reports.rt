@@ -1,4 +1,4 @@
-//! Reports.
+//! Reports: stores that are closed under the four rules, and the search that makes them.
 
 ghost use Rattle.std.specs.Prelude.{◌≡◌, IfOk};
 ghost use Rattle.hsearch.specs.Closed.{IsReport};
@@ -11,7 +11,7 @@ use hex_cells::Colour;
 use std::alloc::Global;
 use std::marker::Model;
 
-/// A store that is closed under the four rules.
+/// A player's entries on a board, closed under the four rules.
 #[derive(Drop)]
 pub struct Report {
     store: Store,
@@ -28,7 +28,11 @@ impl Model for Report {
     ghost invariant = { λ r. IsReport r.store };
 }
 
-/// What follows by the four rules for a player on a board: H-search.
+/// The report of a player on a board, by H-search: it begins with the pairs that lie side by side,
+/// takes each entry once, in the order in which they came, and adds what follows from it and those
+/// before it. The entries of the store are themselves the list of what is still to be taken.
+///
+/// It refuses for want of memory alone.
 pub fn connect(alloc: Global, board: &Board, colour: Colour) -> Result<Report, Memory>
     ensures elements { IfOk result (λ r. r.elements ≡ record { board = board.now; player = colour }) }
     ensures report { IfOk result IsReport }

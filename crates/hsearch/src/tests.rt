@@ -32,7 +32,8 @@ fn edge_entries(rt: &impl Abort, store: &Store, kind: Kind) -> u32 {
     store.held(first, second, kind).count
 }
 
-// Two elements of a player on a board of this size: their cells, and whether they hold his first edge and his second.
+// Two elements of a player on a board of this size: their cells, and whether they hold his first
+// edge and his second.
 #[derive(Drop)]
 struct Pair {
     size: Size,
@@ -131,7 +132,8 @@ fn wins(board: &Board, player: Colour, mover: Colour, fuel: u32) -> bool {
     has_room && mover != player
 }
 
-// The board whose cells are the digits of `code` in base 3, the first cell lowest: 0 empty, 1 Black, 2 White.
+// The board whose cells are the digits of `code` in base 3, the first cell lowest: 0 empty, 1
+// Black, 2 White.
 fn board_of(size: Size, code: u32) -> Board {
     let mut board = Board::of(size, CellSet::none(), CellSet::none());
     let mut rest = code;
@@ -221,7 +223,8 @@ fn a_first_stone_joins_the_edges_of_size_two(rt: HostRuntime) {
     assert!(rt; 0 < edge_entries(&rt, report.store(), Kind::Semi));
 }
 
-// Each entry is true, and who has an entry of his two edges wins: on the boards of sizes 1 to 3 that play leads to.
+// Each entry is true, and who has an entry of his two edges wins: on the boards of sizes 1 to 3
+// that play leads to.
 #[test]
 fn small_boards_agree_with_plain_programs(rt: HostRuntime) {
     for (size, codes) in [(1, 3), (2, 81), (3, 19_683)] {
