@@ -1,4 +1,4 @@
--- Where a session stands after a text.
+-- Where a session stands after a text. Only clauses of private calls cite what is here.
 use Rattle.std.specs.Prelude.{◌≡◌, ◌≤◌, ℕ, Bool, true, false, List, ◌++◌, ◌∷◌, [], length}
 use Rattle.std.specs.declared.option.Option.{Option}
 use Rattle.hex_io.specs.Told.{Told}

@@ -1,4 +1,5 @@
--- What a conversation uses things up from.
+-- What a conversation uses things up from. `UsesUp` stands in the contract of `run`; only clauses
+-- of private calls cite the others.
 use Rattle.std.specs.Prelude.{◌≡◌, ℕ, Bool, List, []}
 use Rattle.std.specs.declared.option.Option.{Option}
 use Rattle.hex_io.specs.Shelves.{Shelved}

@@ -23,6 +23,7 @@ pub record TalkState : Type 0 where
   pub left : Supply
   pub ending : Ending
 
+-- the bytes of a reply to a request with this id
 abbrev pub reply_text : Option ℕ → Reply → List ℕ
 reply_text id (Done text) = success id text
 reply_text id Quit = success id []
@@ -33,6 +34,7 @@ abbrev pub ending_if : Bool → Ending
 ending_if true = AfterQuit
 ending_if false = Going
 
+-- whether the reply is that to `quit`
 abbrev pub is_quit : Reply → Bool
 is_quit Quit = true
 is_quit _ = false
@@ -64,10 +66,12 @@ after_line at left None =
     record { text = failure None (codes "line too long"); at = at; left = left; ending = Going }
 after_line at left (Some raw) = after_reading at left (reading raw)
 
+-- what was said so far, and then this
 abbrev pub followed_by : TalkState → TalkState → TalkState
 followed_by so_far next =
     record { text = so_far.text ++ next.text; at = next.at; left = next.left; ending = next.ending }
 
+-- whether a talk goes on
 abbrev pub goes_on : Ending → Bool
 goes_on Going = true
 goes_on AfterQuit = false
@@ -78,6 +82,7 @@ unfoldable pub with_line : TalkState → List ℕ → TalkState
 with_line so_far raw = if goes_on so_far.ending then followed_by so_far
     (after_line so_far.at so_far.left (kept raw)) else so_far
 
+-- before the first line nothing is said
 abbrev pub talk_start : EngineState → Supply → TalkState
 talk_start start left = record { text = []; at = start; left = left; ending = Going }
 

@@ -15,6 +15,7 @@ abbrev pub commands : List Command
 commands = BoardSize ∷ ClearBoard ∷ GenMove ∷ KnownCommand ∷ ListCommands ∷ LoadSgf ∷ Name ∷ Play
     ∷ PrintSgf ∷ ProtocolVersion ∷ Quit ∷ SearchReport ∷ ShowBoard ∷ Undo ∷ Version ∷ Winner ∷ []
 
+-- a command's name, as a user types it
 abbrev pub name_of : Command → List ℕ
 name_of BoardSize = codes "boardsize"
 name_of ClearBoard = codes "clear_board"

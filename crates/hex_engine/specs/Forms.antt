@@ -22,6 +22,7 @@ colour_of word =
     else if spells word (codes "w") || spells word (codes "white") then Some White
     else None
 
+-- the byte is a letter, in either case
 abbrev pub is_letter : ℕ → Bool
 is_letter b = nat_le 97 (to_ascii_lowercase b) && nat_le (to_ascii_lowercase b) 122
 
@@ -41,6 +42,7 @@ abbrev pub is_vertex : List ℕ → Bool
 is_vertex [] = false
 is_vertex (letter ∷ row) = is_letter letter && is_row row
 
+-- what a vertex says, where it lies on the board or not
 abbrev pub on_board : Option ℕ → MoveWord
 on_board None = OffBoard
 on_board (Some cell) = Says (Stone cell)
@@ -59,6 +61,7 @@ IsSaidOf size OffBoard = Unit {0}
 IsSaidOf size (Says (Stone cell)) = cell < size * size
 IsSaidOf size (Says Swap) = Unit {0}
 
+-- two numbers, where both are numbers
 abbrev pub pair_of : Option ℕ → Option ℕ → Option (ℕ × ℕ)
 pair_of None b = None
 pair_of (Some a) None = None

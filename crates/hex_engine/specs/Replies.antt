@@ -42,6 +42,7 @@ pub data Reply : Type 0 where
   Quit : Reply
   Failed : Fail → Reply
 
+-- a reply, and what stands after it
 pub record Reaction : Type 0 where
   pub reply : Reply
   pub after : EngineState
@@ -52,6 +53,7 @@ pub record Turned : Type 0 where
   pub after : EngineState
   pub left : Supply
 
+-- the text of a failure
 abbrev pub message : Fail → List ℕ
 message UnknownCommand = codes "unknown command"
 message Syntax = codes "syntax error"
@@ -80,11 +82,13 @@ if_bare standing (word ∷ words) reaction = unchanged standing (Failed Syntax)
 abbrev pub are_sizes : ℕ → ℕ → Bool
 are_sizes columns rows = (columns == rows) && (nat_le 1 columns && nat_le columns 11)
 
+-- what `boardsize` does with these numbers, if they are numbers
 abbrev pub resized : EngineState → Option (ℕ × ℕ) → Reaction
 resized standing None = unchanged standing (Failed Syntax)
 resized standing (Some sizes) = if are_sizes sizes.0 sizes.1 then moves_on
     (emptied standing sizes.0) else unchanged standing (Failed Size)
 
+-- what `play` does with this word of a move
 abbrev pub played : EngineState → Colour → MoveWord → Reaction
 played standing colour Formless = unchanged standing (Failed Syntax)
 played standing colour OffBoard = unchanged standing (Failed Illegal)
@@ -93,10 +97,12 @@ played standing colour (Says what) =
     (record standing { game = with_step standing.game (step_of colour what) })
     else unchanged standing (Failed Illegal)
 
+-- the same, where the first word is a colour or is not
 abbrev pub played_by : EngineState → Option Colour → MoveWord → Reaction
 played_by standing None what = unchanged standing (Failed Syntax)
 played_by standing (Some colour) what = played standing colour what
 
+-- what `play` does with its arguments
 abbrev pub playing : EngineState → List (List ℕ) → Reaction
 playing standing [] = unchanged standing (Failed Syntax)
 playing standing (colour ∷ []) = unchanged standing (Failed Syntax)
@@ -104,19 +110,23 @@ playing standing (colour ∷ what ∷ []) = played_by standing (colour_of colour
     (move_word_of (board_of standing.game).size what)
 playing standing (colour ∷ what ∷ word ∷ words) = unchanged standing (Failed Syntax)
 
+-- what `undo` does with a history
 abbrev pub undone : EngineState → List Step → Reaction
 undone standing [] = unchanged standing (Failed NoUndo)
 undone standing (step ∷ steps) = moves_on (record standing { game = without_last standing.game })
 
+-- the text of a truth value
 abbrev pub truth : Bool → List ℕ
 truth true = codes "true"
 truth false = codes "false"
 
+-- what `known_command` does with its arguments
 abbrev pub knowing : EngineState → List (List ℕ) → Reaction
 knowing standing [] = unchanged standing (Failed Syntax)
 knowing standing (word ∷ []) = unchanged standing (Done (truth (is_some (command_named word))))
 knowing standing (word ∷ other ∷ words) = unchanged standing (Failed Syntax)
 
+-- the text of `winner`
 abbrev pub winner_text : Option Colour → List ℕ
 winner_text None = codes "none"
 winner_text (Some Black) = codes "black"
@@ -150,13 +160,16 @@ file_named [] = None
 file_named (name ∷ []) = if is_utf8 name then Some name else None
 file_named (name ∷ word ∷ words) = None
 
+-- what `loadsgf` does with a file's name, if there is one
 abbrev pub loading_by : EngineState → Supply → Option (List ℕ) → Result Turned Missing
 loading_by standing left None = unused left (unchanged standing (Failed Syntax))
 loading_by standing left (Some name) = loading_next standing left left.loads name
 
+-- what `loadsgf` does with its arguments
 abbrev pub loading : EngineState → Supply → List (List ℕ) → Result Turned Missing
 loading standing left args = loading_by standing left (file_named args)
 
+-- the two boards are one
 abbrev pub is_board : Position → Position → Bool
 is_board a b = (a.size == b.size) && ((a.black == b.black) && (a.white == b.white))
 
@@ -185,6 +198,7 @@ moving_next standing left (turn ∷ turns) colour =
     if is_next standing colour turn then unused (record left { turns = turns })
     (turned standing colour turn) else Err NoTurn
 
+-- what `genmove` does with a colour, if there is one
 abbrev pub moving_by : EngineState → Supply → Option Colour → Result Turned Missing
 moving_by standing left None = unused left (unchanged standing (Failed Syntax))
 moving_by standing left (Some colour) =
@@ -198,9 +212,11 @@ lone_colour [] = None
 lone_colour (word ∷ []) = colour_of word
 lone_colour (word ∷ other ∷ words) = None
 
+-- what `genmove` does with its arguments
 abbrev pub moving : EngineState → Supply → List (List ℕ) → Result Turned Missing
 moving standing left args = moving_by standing left (lone_colour args)
 
+-- what `search-report` does with the last report, if there is one
 abbrev pub reporting : EngineState → Option (List ℕ) → Reaction
 reporting standing None = unchanged standing (Failed NoSearch)
 reporting standing (Some text) = unchanged standing (Done text)
@@ -236,6 +252,7 @@ obeyed standing left command.Winner args = unused left
     (if_bare standing args
     (unchanged standing (Done (winner_text (winner_of (board_of standing.game))))))
 
+-- what answers a request for this command, if it is built
 abbrev pub reaction_by : EngineState → Supply → Option Command → List (List ℕ)
     → Result Turned Missing
 reaction_by standing left None args = unused left (unchanged standing (Failed UnknownCommand))

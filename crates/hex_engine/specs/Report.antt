@@ -12,6 +12,7 @@ use Rattle.hex_plan.specs.Turns.{Decision}
 abbrev pub row_line : ℕ → Row → List ℕ
 row_line size row = 10 ∷ vertex_of size row.cell ++ 32 ∷ decimal row.visits ++ 32 ∷ decimal row.wins
 
+-- the lines of some rows
 abbrev pub row_lines : ℕ → List Row → List ℕ
 row_lines size rows = flat_map (row_line size) rows
 

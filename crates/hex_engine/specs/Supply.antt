@@ -22,6 +22,7 @@ pub record Supply : Type 0 where
   pub loads : List Load
   pub turns : List Decision
 
+-- nothing is left to be used up
 abbrev pub nothing_left : Supply
 nothing_left = record { loads = []; turns = [] }
 
@@ -33,5 +34,6 @@ and_then a b = record { loads = a.loads ++ b.loads; turns = a.turns ++ b.turns }
 abbrev pub loads_only : List Load → Supply
 loads_only loads = record { loads = loads; turns = [] }
 
+-- turns alone
 abbrev pub turns_only : List Decision → Supply
 turns_only turns = record { loads = []; turns = turns }

@@ -37,6 +37,7 @@ abbrev pub fetched_of : List File → Bool → List ℕ → Fetched
 fetched_of files true name = Failed
 fetched_of files false name = found (content_of files name)
 
+-- whether the fetch was at fault
 abbrev pub is_failed : Fetched → Bool
 is_failed Failed = true
 is_failed _ = false

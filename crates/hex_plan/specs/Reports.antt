@@ -11,6 +11,7 @@ use Rattle.tree_words.specs.declared.roots.Row.{Row}
 abbrev pub row_in : Tree → Row
 row_in (node c v e row) = record { cell = c; visits = v.visits; wins = v.wins }
 
+-- one row for each of these trees
 abbrev pub rows_on : Children → List Row
 rows_on done = []
 rows_on (more t ts) = row_in t ∷ rows_on ts
