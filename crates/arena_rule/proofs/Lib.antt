@@ -20,6 +20,8 @@ pub mod KnownMore
 pub mod InHand
 pub mod Widths
 pub mod Sole
+pub mod Room
+pub mod SeatsRoom
 pub mod SeatsNumbers
 pub mod AnswersNumbers
 pub mod Firsts
