@@ -1,6 +1,6 @@
 -- What a Look at a tally or a seen word answers, and an Add: at most one add of each walk counts
 -- there, and there are at most N walks.
-use Rattle.std.proofs.Common.{◌≡◌, ◌≢◌, ◌⊎◌, ℕ, zero, suc, ◌+◌, ◌*◌, ◌<◌, ◌≤◌, Bool, true, false, cond, List, [], ◌∷◌, length, take, Option, Some, None, refl, sym, ap, ◌∙◌, subst, ⊎_elim, arith}
+use Rattle.std.proofs.Common.{◌≡◌, ◌≢◌, ℕ, zero, suc, ◌+◌, ◌*◌, ◌<◌, ◌≤◌, Bool, true, false, cond, List, [], ◌∷◌, length, take, Option, Some, None, refl, sym, ap, ◌∙◌, subst, ⊎_elim, arith}
 use Rattle.std.specs.Prelude.{◌==◌, ◌&&◌, slice_index, sum_by}
 use Rattle.std.specs.List.{list_any}
 use Rattle.std.proofs.lemmas.List.Sums.{sum_by-cons, sum_by-le-sum_by}
@@ -12,14 +12,13 @@ use Rattle.hex_cells.specs.Sets.{has as has_cell}
 use Rattle.hex_board.specs.Positions.{stones_of}
 use Rattle.tree_words.specs.Settings.{Setting}
 use Rattle.tree_words.specs.Words.{root_at, leaf_in, visits_in, wins_in}
-use Rattle.tree_words.specs.Blocks.{LinkedBlock, has, place, cell_at, is_node, In}
+use Rattle.tree_words.specs.Blocks.{LinkedBlock, has_node, place, cell_at, is_node, In}
 use Rattle.tree_words.specs.Paths.{is_on, enters, node_state, mover_of}
 use Rattle.tree_words.specs.Sequence.{outcome_of}
 use Rattle.tree_words.specs.declared.layout.TheConstants.{TALLY_WORD, SEEN_WORD, VISIT}
 use Rattle.tree_words.specs.declared.settings.TheConstants.{MOST_PLAYOUTS}
-use Rattle.tree_words.proofs.BlockLaws.{same_is}
-use Rattle.tree_words.proofs.Members.{node-in}
-use Rattle.tree_words.proofs.Within.{within-up}
+use Rattle.tree_words.proofs.Blocks.Members.{node-in}
+use Rattle.tree_words.proofs.Blocks.Within.{within-up}
 use Rattle.arena_rule.specs.Views.{SeatView, Flight}
 use Rattle.arena_rule.specs.Adds.{CountAdd, walk_adds, amount_at}
 use Rattle.arena_rule.specs.Lookups.{is_known, recorded_through, adds_made, adds_in}
@@ -35,6 +34,7 @@ use Rattle.arena_rule.proofs.Amounts.{wins_added, amount-parts, wins-less, adds-
 use Rattle.arena_rule.proofs.AddLaws.{tally-adds, seen-adds}
 use Rattle.arena_rule.proofs.SumsLinked.{walks-same, made-same}
 use Rattle.arena_rule.proofs.SumsLaw.{NextAdd, next-add}
+use Rattle.std.proofs.lemmas.Bool.{eq-eqb}
 
 module _ {A : Type 0} where
   -- a sum of words that have visits and wins
@@ -105,7 +105,7 @@ module _ (bs : List LinkedBlock) (words : List ℕ) (views : List SeatView) (id 
   seen-once : (x : ℕ) → is_node (root_at v.shape) bs x ≡ true → x ≢ root_at v.shape → IsOnce v.shape bs (x + SEEN_WORD)
   seen-once x n ne k leaf = ⊎_elim
       (λ (e : x ≡ root_at v.shape). absurd (ne e))
-      (λ (t : (c : LinkedBlock) × In c bs × (has c x ≡ true)).
+      (λ (t : (c : LinkedBlock) × In c bs × (has_node c x ≡ true)).
       omega (
         arith,
         seen-adds v.shape bs b.state.linked.blocks.order k leaf t.0 x t.1 t.2,
@@ -187,7 +187,7 @@ module _ (bs : List LinkedBlock) (words : List ℕ) (views : List SeatView) (id 
         walks-few v.shape bs a.word v h,
         ap (adds_in a.word) before,
         adds-before a.word n.made all a n.next,
-        ap {B = ℕ} (λ (t : Bool). cond t 1 0) (same_is a.word a.word refl),
+        ap {B = ℕ} (λ (t : Bool). cond t 1 0) (eq-eqb a.word a.word refl),
         h k n.leaf,
         ap has_number fits.ticket,
       ) in

@@ -1,15 +1,13 @@
 -- What a Draw answers, and the answers of a view with a copy of the words.
-use Rattle.std.proofs.Common.{◌≡◌, ◌≢◌, ℕ, zero, suc, ◌+◌, ◌*◌, ◌<◌, ◌≤◌, Bool, true, false, List, [], ◌∷◌, length, get_or, Option, Some, None, refl, sym, ap, ◌∙◌, arith}
-use Rattle.std.specs.Prelude.{slice_index, sum_by, Contains}
+use Rattle.std.proofs.Common.{◌≡◌, ℕ, List, length, refl, sym, ap, ◌∙◌, arith}
+use Rattle.std.specs.Prelude.{slice_index}
 use Rattle.std.proofs.lemmas.List.{get_or_past}
-use mathlib.Core.Option.{some}
-use lib.ListN.{get_elem?}
 use Rattle.tree_words.specs.Words.{ticket_in, record_in}
 use Rattle.tree_words.specs.Blocks.{LinkedBlock}
 use Rattle.tree_words.specs.declared.steps.Op.{Op}
 use Rattle.tree_words.specs.declared.steps.Op.TheVariants.{Draw, Look, Claim, Write, Publish, Add, Note, Done}
-use Rattle.arena_rule.specs.Views.{SeatView, Walked}
-use Rattle.arena_rule.specs.Fits.{FitsStep, FitsDraw, FitsWrite, FitsNote}
+use Rattle.arena_rule.specs.Views.{SeatView}
+use Rattle.arena_rule.specs.Fits.{FitsStep, FitsWrite, FitsNote}
 use Rattle.arena_rule.specs.Afters.{word_of, answer_of}
 use Rattle.arena_rule.specs.Answers.{AnswersDraw, AgreesWithWhole}
 use Rattle.arena_rule.specs.Parts.{width_of, ended_of, value_noted}

@@ -1,14 +1,12 @@
 -- What a step leaves of a view, part by part.
-use Rattle.std.proofs.Common.{◌≡◌, ◌⊎◌, ℕ, ◌+◌, ◌<◌, ◌≤◌, Bool, true, false, cond, List, [], ◌∷◌, set, Option, Some, None, refl, sym, ap, ◌∙◌, inl, inr, ltb, leb, arith}
+use Rattle.std.proofs.Common.{◌≡◌, ◌⊎◌, ℕ, ◌+◌, ◌<◌, ◌≤◌, Bool, true, false, cond, [], set, Some, refl, ap, inl, inr, arith}
 use Rattle.std.specs.Prelude.{nat_lt, nat_le, option_map}
 use Rattle.std.proofs.lemmas.Bool.Decides.{nat_tests}
 use Rattle.tree_words.specs.Words.{end_of}
-use Rattle.tree_words.specs.Settings.{Setting}
-use Rattle.tree_words.proofs.BlockLaws.{bool_is}
 use Rattle.tree_words.specs.declared.steps.Op.{Op}
 use Rattle.tree_words.specs.declared.steps.Op.TheVariants.{Draw, Look, Claim, Write, Publish, Add, Note, Done}
-use Rattle.arena_rule.specs.Views.{SeatView, HeldBlock, Walked}
-use Rattle.arena_rule.specs.Afters.{word_of, put, answer_of, drew, looked, claimed_at, wrote, published, added_at, noted, changed, with_word, after}
+use Rattle.arena_rule.specs.Views.{SeatView}
+use Rattle.arena_rule.specs.Afters.{word_of, put, answer_of, drew, looked, claimed_at, wrote, published, added_at, noted, with_word, after}
 
 -- a Draw gives a number below N, or ends the worker
 pub drew_cases : (v : SeatView) (x : ℕ) → ((x < v.shape.knobs.playouts) × (drew v x ≡ record v { ticket = Some x })) ⊎ ((v.shape.knobs.playouts ≤ x) × (drew v x ≡ record v { ended = 1 }))

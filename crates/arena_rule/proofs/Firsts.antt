@@ -1,13 +1,12 @@
 -- The views with which a search begins: the opening view, or K views of width 1.
-use Rattle.std.proofs.Common.{◌≡◌, ◌≢◌, ℕ, zero, suc, ◌+◌, ◌<◌, false, List, [], ◌∷◌, Option, Some, None, refl, sym, ap, ◌∙◌, subst, arith}
+use Rattle.std.proofs.Common.{◌≡◌, ℕ, zero, suc, ◌<◌, false, [], ◌∷◌, None, refl, sym, ap, ◌∙◌, subst, arith}
 use Rattle.std.specs.Prelude.{sum_by, replicate}
 use Rattle.std.proofs.lemmas.List.Sums.{sum_by-cons}
 use mathlib.Core.Option.{some, some-injective, some-ne-none}
 use lib.ListN.{get_elem?}
 use Rattle.tree_words.specs.Settings.{Setting, IsSetting}
-use Rattle.tree_words.specs.Opening.{opening_words}
 use Rattle.arena_rule.specs.Views.{SeatView, HasDrawnNothing, new_view, opening_view}
-use Rattle.arena_rule.specs.Parts.{Each, width_of}
+use Rattle.arena_rule.specs.Parts.{width_of}
 use Rattle.arena_rule.proofs.Options.{none-some, some-eq}
 use Rattle.arena_rule.proofs.Before.{AreFirst}
 

@@ -1,27 +1,25 @@
 -- Each step keeps InHand.
-use Rattle.std.proofs.Common.{◌≡◌, ◌≢◌, ◌⊎◌, ℕ, zero, suc, ◌+◌, ◌<◌, ◌≤◌, Bool, true, false, cond, List, [], ◌∷◌, ◌++◌, length, set, get_or, Option, Some, None, refl, sym, ap, ◌∙◌, subst, ⊎_elim, inl, inr, arith, get_or-set_same, get_or-set_other}
+use Rattle.std.proofs.Common.{◌≡◌, ◌≢◌, ℕ, zero, suc, ◌+◌, ◌<◌, ◌≤◌, Bool, true, cond, List, [], ◌∷◌, length, set, Option, Some, None, refl, sym, ap, ◌∙◌, subst, ⊎_elim, arith, get_or-set_same, get_or-set_other}
 use Rattle.std.specs.Prelude.{slice_index, slice_get, Contains, ◌-◌, ◌==◌}
-use mathlib.Core.Option.{some}
-use lib.ListN.{get_elem?}
 use Rattle.tree_words.specs.Settings.{Setting}
 use Rattle.tree_words.specs.Words.{root_at, ticket_in, leaf_in}
-use Rattle.tree_words.specs.Blocks.{LinkedBlock, is_node, InOrder}
+use Rattle.tree_words.specs.Blocks.{LinkedBlock, is_node}
 use Rattle.tree_words.specs.Paths.{node_state}
 use Rattle.tree_words.specs.Sequence.{outcome_of}
 use Rattle.tree_words.specs.Told.{Knows}
 use Rattle.tree_words.specs.declared.steps.Op.{Op}
 use Rattle.tree_words.specs.declared.steps.Op.TheVariants.{Draw, Look, Claim, Write, Publish, Add, Note, Done}
 use Rattle.arena_rule.specs.Views.{SeatView, HeldBlock, Flight, Walked}
-use Rattle.arena_rule.specs.Adds.{CountAdd, walk_adds}
-use Rattle.arena_rule.specs.Lookups.{is_known, record_word}
+use Rattle.arena_rule.specs.Adds.{walk_adds}
+use Rattle.arena_rule.specs.Lookups.{is_known}
 use Rattle.arena_rule.specs.Fits.{FitsStep, FitsDraw, FitsClaim, FitsWrite, FitsPublish, FitsAdd, FitsNote, IsNext}
-use Rattle.arena_rule.specs.Afters.{word_of, put, answer_of, after, drew, claimed_at, with_word, looked, wrote, published, added_at, noted, flight_after, node_of_link}
-use Rattle.arena_rule.specs.Parts.{Each, IsFlying, HasInHand, InHand}
+use Rattle.arena_rule.specs.Afters.{word_of, answer_of, after, drew, with_word, looked, wrote, published, added_at, noted, flight_after, node_of_link}
+use Rattle.arena_rule.specs.Parts.{IsFlying, HasInHand, InHand}
 use Rattle.arena_rule.specs.Rule.{words_after, views_after}
 use Rattle.arena_rule.proofs.Options.{none-some, some-eq}
 use Rattle.arena_rule.proofs.Before.{Before, blocks_after}
 use Rattle.arena_rule.proofs.Totals.{each-set}
-use Rattle.arena_rule.proofs.Changes.{drew_cases, claimed_cases, drew_same, claimed_same}
+use Rattle.arena_rule.proofs.Changes.{drew_cases, drew_same, claimed_same}
 use Rattle.arena_rule.proofs.Numbers.{contains-cons, leaf-recorded}
 use Rattle.arena_rule.proofs.Reach.{IsHigh, low-same}
 use Rattle.arena_rule.proofs.Within.{within-adds}

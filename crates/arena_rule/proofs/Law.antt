@@ -1,26 +1,23 @@
 -- The law: a step that fits keeps the rule and gives an answer that it may give, a split and a join keep the rule, and it holds
 -- of the opening words.
-use Rattle.std.proofs.Common.{◌≡◌, ◌≢◌, ◌⊎◌, ℕ, zero, suc, ◌+◌, ◌*◌, ◌<◌, ◌≤◌, Bool, true, false, List, [], ◌∷◌, length, set, Option, Some, None, refl, sym, ap, ◌∙◌, subst, arith, length-set}
-use Rattle.std.specs.Prelude.{slice_index, sum_by, replicate}
+use Rattle.std.proofs.Common.{◌≡◌, ◌≢◌, ℕ, ◌<◌, List, [], ◌∷◌, refl, sym, ap, ◌∙◌, subst, length-set}
+use Rattle.std.specs.Prelude.{slice_index, replicate}
 use mathlib.Core.Option.{some}
 use lib.ListN.{get_elem?}
-use Rattle.atomic_table.proofs.Lists.{set_here, set_else}
+use Rattle.atomic_table.proofs.Lists.{set_here}
 use Rattle.tree_words.specs.Settings.{Setting, IsSetting}
-use Rattle.tree_words.specs.Words.{root_at, link_in}
-use Rattle.tree_words.specs.Blocks.{LinkedBlock, In, size, stays, header_or_move, is_node, InOrder}
+use Rattle.tree_words.specs.Words.{root_at}
+use Rattle.tree_words.specs.Blocks.{LinkedBlock, size}
 use Rattle.tree_words.specs.Told.{Knows}
 use Rattle.tree_words.specs.Opening.{opening_words}
-use Rattle.tree_words.specs.declared.layout.TheConstants.{LINK_WORD, TALLY_WORD, SEEN_WORD}
 use Rattle.tree_words.specs.declared.steps.Op.{Op}
 use Rattle.tree_words.specs.declared.steps.Op.TheVariants.{Draw, Look, Claim, Write, Publish, Add, Note, Done}
-use Rattle.tree_words.proofs.OpeningTold.{opening-are}
-use Rattle.arena_rule.specs.Views.{SeatView, new_view, opening_view, spent_view}
-use Rattle.arena_rule.specs.Adds.{CountAdd}
-use Rattle.arena_rule.specs.Lookups.{is_known}
-use Rattle.arena_rule.specs.Fits.{FitsStep, FitsClaim, FitsAdd, FitsPublish, CanSplit, CanJoin}
+use Rattle.tree_words.proofs.NewBlocks.OpeningTold.{opening-are}
+use Rattle.arena_rule.specs.Views.{SeatView, new_view, opening_view}
+use Rattle.arena_rule.specs.Fits.{FitsStep, CanSplit, CanJoin}
 use Rattle.arena_rule.specs.Afters.{word_of, put, answer_of, after}
-use Rattle.arena_rule.specs.Answers.{MayAnswer, AnswersStep, AnswersLink, AnswersClaim, AnswersTally, AnswersSeen, AnswersAdd}
-use Rattle.arena_rule.specs.Parts.{Fresh, AreApart, AreLinked, AreWritten, Known, Sums, width_of, Sole}
+use Rattle.arena_rule.specs.Answers.{MayAnswer, AnswersStep, AnswersLink, AnswersTally, AnswersSeen}
+use Rattle.arena_rule.specs.Parts.{AreLinked}
 use Rattle.arena_rule.specs.Rule.{IsState, Rule, words_after, views_after, views_split, views_joined}
 use Rattle.arena_rule.proofs.Before.{Before, Other, AreFirst, blocks_after, opening_blocks}
 use Rattle.arena_rule.proofs.Totals.{inside}

@@ -1,5 +1,5 @@
 -- Options, and the two truth values.
-use Rattle.std.proofs.Common.{◌≡◌, Bool, true, false, Option, Some, None}
+use Rattle.std.proofs.Common.{◌≡◌, true, false, Some, None}
 
 pub none-some : {A : Type 0} {x : A} → None ≡ Some x → ⊥
 none-some e = cc

@@ -1,8 +1,8 @@
 -- A run keeps the rule.
-use Rattle.std.proofs.Common.{◌≡◌, ℕ, List, [], ◌∷◌, sym, subst}
+use Rattle.std.proofs.Common.{List, [], ◌∷◌, sym, subst}
 use Rattle.tree_words.specs.Settings.{Setting}
 use Rattle.arena_rule.specs.Rule.{Rule}
-use Rattle.arena_rule.specs.Runs.{Arena, Event, acts, splits, joins, Acts, Splits, Joins, Happens, LeadTo, arena_after, arena_split, arena_joined}
+use Rattle.arena_rule.specs.Runs.{Arena, Event, acts, splits, joins, Happens, LeadTo}
 use Rattle.arena_rule.proofs.Law as law
 
 Keeps : Setting → Arena → Type 0

@@ -1,37 +1,37 @@
 -- Each step keeps Tickets.
-use Rattle.std.proofs.Common.{◌≡◌, ◌≢◌, ◌⊎◌, ℕ, ◌+◌, ◌*◌, ◌<◌, ◌≤◌, Bool, true, false, cond, List, [], ◌∷◌, ◌++◌, length, set, get_or, Option, Some, None, refl, sym, ap, ◌∙◌, subst, ⊎_elim, inl, inr, arith, get_or-set_same, get_or-set_other}
-use Rattle.std.specs.Prelude.{◌==◌, ◌&&◌, ◌||◌, nat_lt, slice_index, sum_by, Contains}
+use Rattle.std.proofs.Common.{◌≡◌, ◌≢◌, ◌⊎◌, ℕ, ◌+◌, ◌<◌, ◌≤◌, Bool, true, false, cond, List, ◌∷◌, length, set, Some, None, refl, sym, ap, ◌∙◌, subst, ⊎_elim, inl, inr, arith, get_or-set_same, get_or-set_other}
+use Rattle.std.specs.Prelude.{◌==◌, ◌||◌, slice_index, sum_by, Contains}
 use Rattle.std.proofs.lemmas.Bool.Decides.{nat_tests}
 use mathlib.Core.Option.{some, some-injective}
 use mathlib.Core.Logic.{dite}
 use native.Mathlib.Decide.{ℕ_discrete}
 use lib.ListN.{get_elem?}
-use Rattle.tree_words.specs.Settings.{Setting, IsSetting}
+use Rattle.tree_words.specs.Settings.{Setting}
 use Rattle.tree_words.specs.Words.{root_at, ticket_in, record_in, leaf_in, winner_in}
-use Rattle.tree_words.specs.Blocks.{LinkedBlock, one_if, has, is_node, InOrder, Follows}
+use Rattle.tree_words.specs.Blocks.{LinkedBlock, one_if, has_node, is_node, InOrder, Follows}
 use Rattle.tree_words.specs.Paths.{NodeState, node_state}
 use Rattle.tree_words.specs.Sequence.{outcome_of}
 use Rattle.tree_words.specs.declared.steps.Op.{Op}
 use Rattle.tree_words.specs.declared.steps.Op.TheVariants.{Draw, Look, Claim, Write, Publish, Add, Note, Done}
-use Rattle.tree_words.proofs.BlockLaws.{same_is, other_is, eq_of}
-use Rattle.tree_words.proofs.GameLaws.{spot-same}
-use Rattle.tree_words.proofs.Within.{within-node, within-state}
+use Rattle.tree_words.proofs.Blocks.GameLaws.{spot-same}
+use Rattle.tree_words.proofs.Blocks.Within.{within-node, within-state}
 use Rattle.arena_rule.specs.Views.{SeatView, Walked}
 use Rattle.arena_rule.specs.Fits.{FitsStep, FitsDraw, FitsNote}
-use Rattle.arena_rule.specs.Lookups.{record_word, told_below}
-use Rattle.arena_rule.specs.Afters.{word_of, put, answer_of, after, drew, claimed_at, with_word, looked, wrote, published, added_at, noted, node_of_link}
-use Rattle.arena_rule.specs.Parts.{Each, IsRight, Tickets, in_hand, times_drawn, value_noted}
+use Rattle.arena_rule.specs.Lookups.{told_below}
+use Rattle.arena_rule.specs.Afters.{word_of, answer_of, after, drew, with_word, looked, wrote, published, added_at, noted, node_of_link}
+use Rattle.arena_rule.specs.Parts.{IsRight, Tickets, in_hand, times_drawn, value_noted}
 use Rattle.arena_rule.specs.Rule.{words_after, views_after}
 use Rattle.arena_rule.proofs.Before.{Before, blocks_after}
 use Rattle.arena_rule.proofs.Totals.{total_set, total_at, total_two, total_none, each-set}
 use Rattle.arena_rule.proofs.Changes.{drew_cases, drew_same, claimed_same}
 use Rattle.arena_rule.proofs.Numbers.{times_walked, value_walked, walked-cons, value-cons, value-none, contains-cons, leaf-recorded, winner-recorded, due, due_one}
 use Rattle.arena_rule.proofs.Reach.{IsHigh, low-same}
+use Rattle.std.proofs.lemmas.Bool.{eq-eqb, ne_eqb}
 
 -- a record stays right where a block is linked
 pub right-more : (s : Setting) (c : LinkedBlock) (bs : List LinkedBlock) (w : Walked) → Follows (root_at s) c bs → IsRight s bs w → IsRight s (c ∷ bs) w
 right-more s c bs w f r = record {
-  node = second (has c (leaf_in w.value)) (is_node (root_at s) bs (leaf_in w.value)) r.node;
+  node = second (has_node c (leaf_in w.value)) (is_node (root_at s) bs (leaf_in w.value)) r.node;
   below = r.below;
   result = r.result ∙ sym (ap (λ (p : NodeState). (outcome_of s w.number p).winner) (spot-same s c bs (leaf_in w.value) f r.node));
 }
@@ -111,7 +111,7 @@ module _ (bs : List LinkedBlock) (words : List ℕ) (views : List SeatView) (id 
   -- the number in hand is in no walk
   pub hand-alone : (k : ℕ) → v.ticket ≡ Some k → (j : ℕ) (u : SeatView) → get_elem? views j ≡ some u → times_walked k u.walks ≡ 0
   hand-alone k t j u e =
-      let mine : in_hand k v.ticket ≡ 1 = ap (in_hand k) t ∙ ap one_if (same_is k k refl) in
+      let mine : in_hand k v.ticket ≡ 1 = ap (in_hand k) t ∙ ap one_if (eq-eqb k k refl) in
       let once = b.state.tickets.once k in
       let one = due_one k (ticket_in words) v.shape.knobs.playouts in
       dite (ℕ_discrete j id)
@@ -149,11 +149,11 @@ module _ (bs : List LinkedBlock) (words : List ℕ) (views : List SeatView) (id 
         records = λ j l. dite (ℕ_discrete j k)
             (λ (e : j ≡ k).
             ap (record_in ws) e ∙ get_or-set_same words (2 + k) value 0 long
-            ∙ omega (arith, total_set (value_noted k) views id v u b.at, none, value-cons k w v.walks, ap (λ (t : Bool). cond t value 0) (same_is k k refl))
+            ∙ omega (arith, total_set (value_noted k) views id v u b.at, none, value-cons k w v.walks, ap (λ (t : Bool). cond t value 0) (eq-eqb k k refl))
             ∙ ap (λ (z : ℕ). sum_by (value_noted z) (set views id u)) (sym e))
             (λ (e : j ≢ k).
             get_or-set_other words (2 + k) (2 + j) value 0 (λ q. e (omega (arith, q)))
-            ∙ omega (arith, old.records j l, total_set (value_noted j) views id v u b.at, value-cons j w v.walks, ap (λ (t : Bool). cond t value 0) (other_is k j (λ q. e (sym q)))));
+            ∙ omega (arith, old.records j l, total_set (value_noted j) views id v u b.at, value-cons j w v.walks, ap (λ (t : Bool). cond t value 0) (ne_eqb k j (λ q. e (sym q)))));
         right = each-set (λ y. (q : Walked) → Contains y.walks q → IsRight v.shape bs q) views id u (λ j y _ e. old.right j y e)
             (λ q c. ⊎_elim (λ (e : w ≡ q). subst (IsRight v.shape bs) e (new fits)) (λ (d : Contains v.walks q). old.right id v b.at q d) (contains-cons w q v.walks c));
       }

@@ -1,29 +1,20 @@
 -- A split and a join keep a view in order.
-use Rattle.std.proofs.Common.{◌≡◌, ◌≢◌, ◌⊎◌, ℕ, zero, suc, ◌+◌, ◌-◌, ◌*◌, ◌<◌, ◌≤◌, Bool, true, false, cond, List, [], ◌∷◌, ◌++◌, length, Option, Some, None, refl, sym, ap, ◌∙◌, subst, ⊎_elim, inl, inr, arith}
-use Rattle.std.specs.Prelude.{◌==◌, ◌&&◌, ◌||◌, not, nat_le, nat_lt, option_map}
-use Rattle.std.proofs.lemmas.Bool.Decides.{nat_tests}
-use Rattle.tree_words.specs.Settings.{Setting, IsSetting}
-use Rattle.tree_words.specs.Words.{root_at, area_at, end_of}
-use Rattle.tree_words.specs.Blocks.{LinkedBlock, In, InOrder, Follows, has, up, is_node, link_of, size, covers, cover, one_if, place, cell_at, words_of}
-use Rattle.tree_words.specs.Complete.{cells_below, allowed_cells, set_of}
-use Rattle.tree_words.specs.Paths.{NodeState, node_state, root_state, state_after, board_of}
+use Rattle.std.proofs.Common.{◌≡◌, ℕ, Bool, true, false, cond, List, [], ◌∷◌, ◌++◌, refl, sym, ap, ◌∙◌, subst, ⊎_elim, inl, inr, arith}
+use Rattle.std.specs.Prelude.{◌==◌}
+use Rattle.tree_words.specs.Settings.{Setting}
+use Rattle.tree_words.specs.Words.{root_at}
+use Rattle.tree_words.specs.Blocks.{LinkedBlock, InOrder, has_node, up, is_node, place, cell_at}
+use Rattle.tree_words.specs.Complete.{allowed_cells, set_of}
+use Rattle.tree_words.specs.Paths.{NodeState, node_state, root_state, state_after}
 use Rattle.play_out.specs.Fills.{empties_of}
-use Rattle.tree_words.specs.Told.{told_block}
-use Rattle.tree_words.specs.declared.steps.Op.{Op}
-use Rattle.tree_words.specs.declared.steps.Op.TheVariants.{Draw, Look, Claim, Write, Publish, Add, Note, Done}
-use Rattle.tree_words.proofs.BlockLaws.{bool_is, eq_of, le_of, lt_of, true_both, covers_of, covers_if, cover-cons, has-at, not_both, other_is, same_is, either_true}
-use Rattle.arena_rule.specs.Views.{SeatView, HeldBlock, Flight, HasEnded}
-use Rattle.arena_rule.specs.Lookups.{is_known, known_link, told_below, is_held, empties_at}
-use Rattle.arena_rule.specs.Fits.{FitsStep, FitsDraw, FitsClaim, FitsWrite, FitsPublish, FitsAdd, FitsNote, IsNext, CanSplit, CanJoin}
-use Rattle.arena_rule.specs.Afters.{word_of, put, after, drew, looked, claimed_at, wrote, published, added_at, noted, with_word, known_after, node_of_link, flight_after, written_more, kept_part, given_part, joined}
-use Rattle.arena_rule.specs.Answers.{MayAnswer, AnswersLook, AnswersClaim, AnswersPublish, AnswersLink, MayLieBelow}
-use Rattle.arena_rule.specs.IsView.{IsTold, AreTold, IsJoined, IsView}
-use Rattle.arena_rule.proofs.Changes.{drew_cases, claimed_cases, drew_same, claimed_same}
-use Rattle.tree_words.proofs.Down.{not_both as truth}
-use Rattle.arena_rule.proofs.Options.{none-some, some-eq, false-true}
-use Rattle.arena_rule.proofs.Apart.{told-size}
-use Rattle.arena_rule.proofs.KnownMore.{Grows, known_cases, known-more}
+use Rattle.tree_words.proofs.Blocks.BlockLaws.{has-at, clash}
+use Rattle.arena_rule.specs.Views.{SeatView}
+use Rattle.arena_rule.specs.Fits.{CanSplit, CanJoin}
+use Rattle.arena_rule.specs.Afters.{kept_part, given_part, joined}
+use Rattle.arena_rule.specs.IsView.{AreTold, IsJoined, IsView}
+use Rattle.arena_rule.proofs.Options.{none-some, false-true}
 use Rattle.arena_rule.proofs.SeatsNumbers.{node-first}
+use Rattle.std.proofs.lemmas.Bool.{cases_Bool, eqb-true, false_from_ne_true, or_cases}
 
 module _ (v : SeatView) (iv : IsView v) where
   -- a split keeps both views in order
@@ -58,21 +49,21 @@ module _ (s : Setting) (ls : List LinkedBlock) (told : AreTold s ls) where
   root-out : (ls : List LinkedBlock) → AreTold s ls → {A : Type 0} (root : A) (step : LinkedBlock → ℕ → A → A) → up root step ls (root_at s) ≡ root
   root-out [] t root step = refl
   root-out (b ∷ ls) t root step =
-      let out : has b (root_at s) ≡ false = not_both (has b (root_at s)) (λ h. let q = has-at b (root_at s) h in let low = t.0.inside.0 in omega (arith, q.2, low)) in
+      let out : has_node b (root_at s) ≡ false = false_from_ne_true (has_node b (root_at s)) (λ h. let q = has-at b (root_at s) h in let low = t.0.inside.0 in omega (arith, q.2, low)) in
       ap (λ (c : Bool). cond c (step b (root_at s) (up root step ls b.parent)) (up root step ls (root_at s))) out ∙ root-out ls t.1 root step
 
   behind-up : {A : Type 0} (root : A) (step : LinkedBlock → ℕ → A → A) (ks : List LinkedBlock) (x : ℕ) → AreTold s ks → is_node (root_at s) ks x ≡ true → up root step (ks ++ ls) x ≡ up root step ks x
-  behind-up root step [] x t n = ap (up root step ls) (eq_of x (root_at s) n) ∙ root-out ls told root step
+  behind-up root step [] x t n = ap (up root step ls) (eqb-true x (root_at s) n) ∙ root-out ls told root step
   behind-up root step (b ∷ ks) x t n = ⊎_elim
-      (λ (h : has b x ≡ true).
+      (λ (h : has_node b x ≡ true).
       ap (λ (c : Bool). cond c (step b x (up root step (ks ++ ls) b.parent)) (up root step (ks ++ ls) x)) h
       ∙ ap (step b x) (behind-up root step ks b.parent t.1 t.0.parent)
       ∙ sym (ap (λ (c : Bool). cond c (step b x (up root step ks b.parent)) (up root step ks x)) h))
-      (λ (h : has b x ≡ false).
+      (λ (h : has_node b x ≡ false).
       ap (λ (c : Bool). cond c (step b x (up root step (ks ++ ls) b.parent)) (up root step (ks ++ ls) x)) h
-      ∙ behind-up root step ks x t.1 (⊎_elim (λ (u : has b x ≡ true). absurd (truth (has b x) u h)) (λ (u : is_node (root_at s) ks x ≡ true). u) (either_true (has b x) (is_node (root_at s) ks x) n))
+      ∙ behind-up root step ks x t.1 (⊎_elim (λ (u : has_node b x ≡ true). absurd (clash (has_node b x) u h)) (λ (u : is_node (root_at s) ks x ≡ true). u) (or_cases (has_node b x) (is_node (root_at s) ks x) n))
       ∙ sym (ap (λ (c : Bool). cond c (step b x (up root step ks b.parent)) (up root step ks x)) h))
-      (bool_is (has b x))
+      (cases_Bool (has_node b x))
 
   told-both : (ks : List LinkedBlock) → AreTold s ks → AreTold s (ks ++ ls)
   told-both [] t = told

@@ -1,19 +1,17 @@
 -- Each step keeps Widths.
-use Rattle.std.proofs.Common.{◌≡◌, ◌≢◌, ◌⊎◌, ℕ, ◌+◌, ◌*◌, ◌<◌, ◌≤◌, Bool, true, false, cond, List, [], ◌∷◌, ◌++◌, length, set, get_or, Option, Some, None, refl, sym, ap, ◌∙◌, subst, ⊎_elim, inl, inr, arith, get_or-set_same, get_or-set_other}
+use Rattle.std.proofs.Common.{◌≡◌, ◌⊎◌, ℕ, ◌+◌, ◌<◌, ◌≤◌, Bool, true, false, cond, List, [], set, Some, refl, ap, ◌∙◌, ⊎_elim, inl, inr, arith, get_or-set_same, get_or-set_other}
 use Rattle.std.specs.Prelude.{slice_index, sum_by}
 use mathlib.Core.Option.{some}
 use lib.ListN.{get_elem?}
-use Rattle.tree_words.specs.Settings.{Setting, IsSetting}
-use Rattle.tree_words.specs.Words.{root_at, end_of, next_in, ticket_in}
+use Rattle.tree_words.specs.Words.{end_of, next_in, ticket_in}
 use Rattle.tree_words.specs.Blocks.{LinkedBlock}
 use Rattle.tree_words.specs.Paths.{NodeState, node_state}
-use Rattle.tree_words.specs.declared.layout.TheConstants.{MOST_BLOCK_WORDS}
 use Rattle.tree_words.specs.declared.steps.Op.{Op}
 use Rattle.tree_words.specs.declared.steps.Op.TheVariants.{Draw, Look, Claim, Write, Publish, Add, Note, Done}
-use Rattle.tree_words.proofs.Asking.{size-most, spot-size}
+use Rattle.tree_words.proofs.Walks.Asking.{size-most, spot-size}
 use Rattle.arena_rule.specs.Views.{SeatView}
 use Rattle.arena_rule.specs.Fits.{FitsStep, FitsDraw, FitsClaim}
-use Rattle.arena_rule.specs.Afters.{word_of, put, answer_of, after, drew, claimed_at, with_word, looked, wrote, published, added_at, noted}
+use Rattle.arena_rule.specs.Afters.{word_of, answer_of, after, drew, claimed_at, with_word, looked, wrote, published, added_at, noted}
 use Rattle.arena_rule.specs.Parts.{HasWidth, Widths, width_of, ended_of, full_width}
 use Rattle.arena_rule.specs.Rule.{words_after, views_after}
 use Rattle.arena_rule.proofs.Before.{Before}

@@ -1,9 +1,8 @@
 -- What an answer may be, told from the view before the step. All that is said of an answer holds of
 -- it together.
-use Rattle.std.specs.Prelude.{◌≡◌, ◌≢◌, ◌⊎◌, ℕ, ◌+◌, ◌*◌, ◌<◌, ◌≤◌, true, false, List, Contains, Option, Some, slice_index}
-use Rattle.tree_words.specs.Settings.{Setting}
+use Rattle.std.specs.Prelude.{◌≡◌, ◌≢◌, ◌⊎◌, ℕ, ◌+◌, ◌*◌, ◌<◌, ◌≤◌, true, false, List, Contains, Some, slice_index}
 use Rattle.tree_words.specs.Words.{root_at, area_at, end_of, visits_in, wins_in}
-use Rattle.tree_words.specs.Blocks.{LinkedBlock, In, size, covers, cover, stays, header_or_move}
+use Rattle.tree_words.specs.Blocks.{LinkedBlock, In, size, covers, cover, is_header_or_move, header_or_move}
 use Rattle.tree_words.specs.declared.layout.TheConstants.{LINK_WORD, TALLY_WORD, SEEN_WORD, MOST_BLOCK_WORDS}
 use Rattle.tree_words.specs.declared.settings.TheConstants.{MOST_WORKERS}
 use Rattle.tree_words.specs.declared.steps.Op.{Op}
@@ -53,7 +52,7 @@ pub record AnswersSeen (v : SeatView) (n : ℕ) : Type 0 where
 -- of a known node it answers as said. At another word it may answer any value.
 pub record AnswersLook (v : SeatView) (i n : ℕ) : Type 0 where
   pub link : (x : ℕ) → is_known v x ≡ true → i ≡ x + LINK_WORD → AnswersLink v x n
-  pub block : (b : LinkedBlock) (j : ℕ) → In b v.known → j < size b → stays j ≡ true
+  pub block : (b : LinkedBlock) (j : ℕ) → In b v.known → j < size b → is_header_or_move j ≡ true
       → i ≡ b.start + j → n ≡ header_or_move b j
   pub tally : (x : ℕ) → is_known v x ≡ true → i ≡ x + TALLY_WORD → AnswersTally v x n
   pub seen : (x : ℕ) → is_known v x ≡ true → i ≡ x + SEEN_WORD → AnswersSeen v n

@@ -1,22 +1,20 @@
 -- The parts of the arena rule, over the words, the linked blocks and the views of all seats. A
 -- spent view has nothing, so that it adds nothing to a sum; what is said of each view holds of it
 -- too.
-use Rattle.std.specs.Prelude.{◌≡◌, ◌≢◌, ◌⊎◌, ℕ, ◌+◌, ◌*◌, ◌<◌, ◌≤◌, ◌==◌, ◌&&◌, not, nat_lt, nat_le, if◌then◌else◌, Bool, true, false, List, length, sum_by, count_by, slice_index, Contains, Option, Some, None}
+use Rattle.std.specs.Prelude.{◌≡◌, ◌≢◌, ℕ, ◌+◌, ◌*◌, ◌<◌, ◌≤◌, ◌==◌, ◌&&◌, nat_lt, nat_le, if◌then◌else◌, Bool, true, List, length, sum_by, count_by, slice_index, Contains, Option, Some, None}
 use mathlib.Core.Option.{some}
 use lib.ListN.{get_elem?}
-use Rattle.hex_board.specs.Positions.{is_empty_at}
 use Rattle.tree_words.specs.Settings.{Setting}
-use Rattle.tree_words.specs.Words.{root_at, area_at, end_of, next_in, ticket_in, record_in, leaf_in, winner_in, link_in, tally_in, visits_in}
-use Rattle.tree_words.specs.Blocks.{LinkedBlock, In, one_if, has, is_node, link_of, cover, size}
-use Rattle.tree_words.specs.Paths.{node_state, board_of, is_on}
+use Rattle.tree_words.specs.Words.{root_at, area_at, end_of, next_in, ticket_in, record_in, leaf_in, winner_in, link_in}
+use Rattle.tree_words.specs.Blocks.{LinkedBlock, one_if, is_node, cover}
+use Rattle.tree_words.specs.Paths.{node_state}
 use Rattle.tree_words.specs.Complete.{Linked, HaveNodes}
 use Rattle.tree_words.specs.Sequence.{outcome_of}
-use Rattle.tree_words.specs.Growth.{root_end}
 use Rattle.tree_words.specs.Told.{Knows}
-use Rattle.tree_words.specs.declared.layout.TheConstants.{LINK_WORD, TALLY_WORD, SEEN_WORD, MOST_BLOCK_WORDS}
+use Rattle.tree_words.specs.declared.layout.TheConstants.{TALLY_WORD, SEEN_WORD, MOST_BLOCK_WORDS}
 use Rattle.arena_rule.specs.Views.{SeatView, HeldBlock, Flight, Walked, spent_view}
-use Rattle.arena_rule.specs.Adds.{CountAdd, walk_adds, amount_at}
-use Rattle.arena_rule.specs.Lookups.{is_known, load_of, recorded_through, walks_through, walks_at, adds_made, is_held}
+use Rattle.arena_rule.specs.Adds.{walk_adds, amount_at}
+use Rattle.arena_rule.specs.Lookups.{is_known, adds_made, is_held}
 
 -- P holds of each view
 abbrev pub Each : (SeatView → Type 0) → List SeatView → Type 0
