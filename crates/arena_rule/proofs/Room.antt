@@ -2,6 +2,7 @@
 use Rattle.std.proofs.Common.{◌≡◌, ◌≢◌, ◌⊎◌, ℕ, ◌+◌, ◌*◌, ◌<◌, ◌≤◌, Bool, true, false, cond, List, [], ◌∷◌, ◌++◌, length, set, Option, Some, None, refl, sym, ap, ◌∙◌, subst, ⊎_elim, inl, inr, arith, get_or-set_other}
 use Rattle.std.specs.Prelude.{◌==◌, ◌&&◌, not, slice_index, sum_by, option_map}
 use Rattle.std.proofs.Math.Nat.{mul-le-mul_left}
+use Rattle.std.proofs.lemmas.Bool.{eqb-true, eq-eqb, ne_eqb}
 use Rattle.std.proofs.lemmas.List.Sums.{sum_by-cons, sum_by-le-sum_by}
 use mathlib.Core.Option.{some}
 use lib.ListN.{get_elem?}
@@ -12,9 +13,8 @@ use Rattle.tree_words.specs.Growth.{root_end}
 use Rattle.tree_words.specs.declared.layout.TheConstants.{MOST_BLOCK_WORDS}
 use Rattle.tree_words.specs.declared.steps.Op.{Op}
 use Rattle.tree_words.specs.declared.steps.Op.TheVariants.{Draw, Look, Claim, Write, Publish, Add, Note, Done}
-use Rattle.tree_words.proofs.BlockLaws.{eq_of, same_is, other_is, bool_is}
-use Rattle.tree_words.proofs.Down.{not_both}
-use Rattle.tree_words.proofs.Within.{told-real}
+use Rattle.tree_words.proofs.Blocks.BlockLaws.{clash}
+use Rattle.tree_words.proofs.Blocks.Within.{told-real}
 use Rattle.arena_rule.specs.Views.{SeatView, HeldBlock}
 use Rattle.arena_rule.specs.Lookups.{is_known, known_link, told_below}
 use Rattle.arena_rule.specs.Fits.{FitsStep, FitsClaim, FitsPublish}
@@ -41,7 +41,7 @@ abbrev pub KnowMore : List LinkedBlock → List LinkedBlock → Type 0
 KnowMore ks ls = (x : ℕ) → link_of ls x ≡ 0 → link_of ks x ≡ 0
 
 counted-le : (r : ℕ) (ks ls : List LinkedBlock) → KnowMore ks ls → (b : LinkedBlock) → counted r ks b ≤ counted r ls b
-counted-le r ks ls h b = by (b.parent == r) (link_of ks b.parent == 0) (link_of ls b.parent == 0) (λ e. same_is (link_of ks b.parent) 0 (h b.parent (eq_of (link_of ls b.parent) 0 e))) (size b)
+counted-le r ks ls h b = by (b.parent == r) (link_of ks b.parent == 0) (link_of ls b.parent == 0) (λ e. eq-eqb (link_of ks b.parent) 0 (h b.parent (eqb-true (link_of ls b.parent) 0 e))) (size b)
   where
     by : (t m n : Bool) → (n ≡ true → m ≡ true) → (z : ℕ) → cond (not t && not m) z 0 ≤ cond (not t && not n) z 0
     by true m n h z = omega arith
@@ -59,7 +59,7 @@ known-new : (r : ℕ) (ks ls bs : List LinkedBlock) (c : LinkedBlock) → KnowMo
 known-new r ks ls [] c h i ne z found = absurd i
 known-new r ks ls (b ∷ bs) c h i ne z found = ⊎_elim
     (λ (e : c ≡ b).
-    let before : counted r ks b ≡ 0 = ap (counted r ks) (sym e) ∙ none (not (c.parent == r)) (link_of ks c.parent == 0) (size c) (same_is (link_of ks c.parent) 0 z) in
+    let before : counted r ks b ≡ 0 = ap (counted r ks) (sym e) ∙ none (not (c.parent == r)) (link_of ks c.parent == 0) (size c) (eq-eqb (link_of ks c.parent) 0 z) in
     let now : counted r ls b ≡ size b = (λ j. cond (not (is-other e j) && not (is-some e j)) (size b) 0) in
     omega (arith, sum_by-cons (counted r ks) b bs, sum_by-cons (counted r ls) b bs, before, now, ap size e, known-le r ks ls bs h))
     (λ (j : In c bs).
@@ -72,10 +72,10 @@ known-new r ks ls (b ∷ bs) c h i ne z found = ⊎_elim
     none false u n e = refl
 
     is-other : c ≡ b → (b.parent == r) ≡ false
-    is-other e = ap (λ (d : LinkedBlock). d.parent == r) (sym e) ∙ other_is c.parent r ne
+    is-other e = ap (λ (d : LinkedBlock). d.parent == r) (sym e) ∙ ne_eqb c.parent r ne
 
     is-some : c ≡ b → (link_of ls b.parent == 0) ≡ false
-    is-some e = ap (λ (d : LinkedBlock). link_of ls d.parent == 0) (sym e) ∙ other_is (link_of ls c.parent) 0 found
+    is-some e = ap (λ (d : LinkedBlock). link_of ls d.parent == 0) (sym e) ∙ ne_eqb (link_of ls c.parent) 0 found
 
 -- a link that was known stays known
 pub link-after : (v : SeatView) (x y : ℕ) → KnowMore v.known (known_after v x y)
@@ -92,8 +92,8 @@ link-after v x y z e = ⊎_elim
 told-known : (v : SeatView) (x y : ℕ) → is_known v x ≡ true → known_link v x ≡ 0 → y ≢ 0 → known_after v x y ≡ told_below v x y ∷ v.known
 unfolding known_after
 told-known v x y n z found =
-    let a : (known_link v x == 0) ≡ true = same_is (known_link v x) 0 z in
-    let c : (y == 0) ≡ false = other_is y 0 found in
+    let a : (known_link v x == 0) ≡ true = eq-eqb (known_link v x) 0 z in
+    let c : (y == 0) ≡ false = ne_eqb y 0 found in
     λ i. cond (n i && (a i && not (c i))) (told_below v x y ∷ v.known) v.known
 
 module _ (bs : List LinkedBlock) (words : List ℕ) (views : List SeatView) (id : ℕ) (v : SeatView) (b : Before bs words views id v) (room : Room v.shape bs words views) where
@@ -191,7 +191,7 @@ module _ (bs : List LinkedBlock) (words : List ℕ) (views : List SeatView) (id 
     known-grows : sum_by (counted (root_at v.shape) v.known) bs + fits.block.size ≤ sum_by (counted (root_at v.shape) (known_after v x y)) ls
     known-grows =
         let new = known-new (root_at v.shape) v.known (known_after v x y) ls told (link-after v x y) linked (λ e. fits.may.below (sym at ∙ e)) (ap (known_link v) at ∙ fits.may.vacant)
-        (λ e. some (sym (ap (λ (ks : List LinkedBlock). link_of ks x) known-now ∙ ap (λ (t : Bool). cond t y (link_of v.known x)) (same_is x x refl)) ∙ e)) in
+        (λ e. some (sym (ap (λ (ks : List LinkedBlock). link_of ks x) known-now ∙ ap (λ (t : Bool). cond t y (link_of v.known x)) (eq-eqb x x refl)) ∙ e)) in
         omega (arith, more v.known, new, told-words)
 
     room-told : (u : SeatView) (words' : List ℕ) → u.width ≡ v.width → u.claimed ≡ v.claimed → full_width u ≡ full_width v → u.held ≡ None → u.known ≡ known_after v x y
@@ -239,7 +239,7 @@ module _ (bs : List LinkedBlock) (words : List ℕ) (views : List SeatView) (id 
           (λ ks. omega (arith, sum_by-cons (counted (root_at v.shape) ks) (told_below v x c) bs))
           (with_word l c (record v { known = known_after v x c; held = None })) (words_after words (Publish l c)) refl refl refl refl refl next
       by false e =
-          let ne : slice_index words l ≢ 0 = λ z. not_both (slice_index words l == 0) (same_is (slice_index words l) 0 z) e in
+          let ne : slice_index words l ≢ 0 = λ z. clash (slice_index words l == 0) (eq-eqb (slice_index words l) 0 z) e in
           room-told l c fits bs (slice_index words l) ne (found ne) (λ ks. omega arith)
           (with_word l (slice_index words l) (record v { known = known_after v x (slice_index words l); held = None })) (words_after words (Publish l c)) refl refl refl refl refl next
 

@@ -11,9 +11,9 @@ use Rattle.tree_words.specs.Growth.{root_end}
 use Rattle.tree_words.specs.Opening.{opening_words, AreOpening}
 use Rattle.tree_words.specs.Told.{Knows}
 use Rattle.tree_words.specs.declared.layout.TheConstants.{MOST_BLOCK_WORDS}
-use Rattle.tree_words.proofs.GameLaws.{whole-in}
-use Rattle.tree_words.proofs.OpeningLaws.{next-is}
-use Rattle.tree_words.proofs.OpeningTold.{opening-are}
+use Rattle.tree_words.proofs.Blocks.GameLaws.{whole-in}
+use Rattle.tree_words.proofs.NewBlocks.OpeningLaws.{next-is}
+use Rattle.tree_words.proofs.NewBlocks.OpeningTold.{opening-are}
 use Rattle.arena_rule.specs.Views.{SeatView, HeldBlock, spent_view}
 use Rattle.arena_rule.specs.Fits.{CanSplit}
 use Rattle.arena_rule.specs.Afters.{kept_part, given_part, joined}

@@ -3,7 +3,7 @@ use Rattle.std.specs.Prelude.{◌≡◌, ℕ, ◌+◌, ◌<◌, ◌==◌, not, t
 use Rattle.std.specs.List.{filter, range_with_len}
 use Rattle.tree_words.specs.Settings.{Setting}
 use Rattle.tree_words.specs.Words.{root_at, record_in}
-use Rattle.tree_words.specs.Blocks.{LinkedBlock, In, has, is_node}
+use Rattle.tree_words.specs.Blocks.{LinkedBlock, In, has_node, is_node}
 use Rattle.tree_words.specs.Records.{leaf_of}
 use Rattle.tree_words.specs.declared.layout.TheConstants.{TALLY_WORD, SEEN_WORD}
 use Rattle.arena_rule.specs.Views.{SeatView, HasEnded}
@@ -38,7 +38,7 @@ pub record CountRecords (s : Setting) (bs : List LinkedBlock)
       → slice_index words (x + TALLY_WORD)
       ≡ sum_by (λ k. tally_amount s bs k (leaf_of words k) x) (recorded s words)
       + sum_by (amount_in_flight s bs (x + TALLY_WORD)) views
-  pub seen : (b : LinkedBlock) (y : ℕ) → In b bs → has b y ≡ true
+  pub seen : (b : LinkedBlock) (y : ℕ) → In b bs → has_node b y ≡ true
       → slice_index words (y + SEEN_WORD)
       ≡ sum_by (λ k. seen_amount s bs k (leaf_of words k) b y) (recorded s words)
       + sum_by (amount_in_flight s bs (y + SEEN_WORD)) views
