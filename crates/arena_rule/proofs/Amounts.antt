@@ -6,9 +6,9 @@ use Rattle.std.proofs.lemmas.Option.{slice_get_within, get_or_from_slice_get}
 use Rattle.hex_cells.specs.Sets.{has as has_cell}
 use Rattle.tree_words.specs.Sequence.{amount_of}
 use Rattle.tree_words.specs.declared.layout.TheConstants.{SEEN_WORD, VISIT}
-use Rattle.tree_words.proofs.BlockLaws.{same_is, other_is}
 use Rattle.arena_rule.specs.Adds.{CountAdd, seen_adds, amount_at}
 use Rattle.arena_rule.specs.Lookups.{adds_in}
+use Rattle.std.proofs.lemmas.Bool.{eq-eqb, ne_eqb}
 
 pub amount-append : (w : ℕ) (a b : List CountAdd) → amount_at w (a ++ b) ≡ amount_at w a + amount_at w b
 amount-append w [] b = omega arith
@@ -79,11 +79,11 @@ one-add false u n m e l = omega (arith, e)
 
 -- an add of another word
 pub miss : (a w : ℕ) (won : Bool) → a ≢ w → cond (a == w) (amount_of won) 0 ≡ 0
-miss a w won ne = ap (λ (t : Bool). cond t (amount_of won) 0) (other_is a w ne)
+miss a w won ne = ap (λ (t : Bool). cond t (amount_of won) 0) (ne_eqb a w ne)
 
 -- and of this one
 pub hit : (a w : ℕ) (won : Bool) → a ≡ w → cond (a == w) (amount_of won) 0 ≡ amount_of won
-hit a w won e = ap (λ (t : Bool). cond t (amount_of won) 0) (same_is a w e)
+hit a w won e = ap (λ (t : Bool). cond t (amount_of won) 0) (eq-eqb a w e)
 
 seen-cons : (w set : ℕ) (won : Bool) (y c : ℕ) (cells : List ℕ) → amount_at w (seen_adds set won y (c ∷ cells))
     ≡ cond (has_cell set c) (cond (y + SEEN_WORD == w) (amount_of won) 0) 0 + amount_at w (seen_adds set won (y + 4) cells)

@@ -1,17 +1,16 @@
 -- What is answered at a link, at a header or move word, and to a Claim.
 use Rattle.std.proofs.Common.{◌≡◌, ◌≢◌, ℕ, ◌+◌, ◌<◌, ◌≤◌, Bool, true, false, cond, List, [], ◌∷◌, Option, Some, refl, sym, ap, ◌∙◌, subst, ⊎_elim, inl, inr, arith}
 use Rattle.std.specs.Prelude.{◌==◌, slice_index, sum_by}
-use Rattle.std.proofs.lemmas.Bool.{cases_eq}
+use Rattle.std.proofs.lemmas.Bool.{cases_eq, cases_Bool, eqb-true, ne_eqb, eq-eqb, false_from_ne_true}
 use mathlib.Core.Option.{some}
 use lib.ListN.{get_elem?}
 use Rattle.tree_words.specs.Settings.{Setting}
 use Rattle.tree_words.specs.Words.{root_at, area_at, end_of, next_in, link_in}
-use Rattle.tree_words.specs.Blocks.{LinkedBlock, In, InOrder, one_if, covers, cover, is_node, link_of, size, stays, header_or_move}
+use Rattle.tree_words.specs.Blocks.{LinkedBlock, In, InOrder, one_if, covers, cover, is_node, link_of, size, is_header_or_move, header_or_move}
 use Rattle.tree_words.specs.Told.{Knows}
-use Rattle.tree_words.proofs.BlockLaws.{bool_is, cover-cons, covers_if, eq_of, other_is, same_is}
-use Rattle.tree_words.proofs.Down.{never, not_both}
-use Rattle.tree_words.proofs.GameLaws.{IsWhole, in-parent, whole-in}
-use Rattle.tree_words.proofs.Within.{told-real}
+use Rattle.tree_words.proofs.Blocks.BlockLaws.{cover-cons, covers_if, clash}
+use Rattle.tree_words.proofs.Blocks.GameLaws.{IsWhole, in-parent, whole-in}
+use Rattle.tree_words.proofs.Blocks.Within.{told-real}
 use Rattle.arena_rule.specs.Views.{SeatView, HeldBlock}
 use Rattle.arena_rule.specs.Lookups.{is_held, is_known, known_link, told_below}
 use Rattle.arena_rule.specs.Fits.{FitsClaim}
@@ -26,7 +25,7 @@ use Rattle.arena_rule.proofs.Frames.{claimed-low, claimed-one, held-clear, in-co
 -- blocks that have no word i
 cover-none : (ks : List LinkedBlock) (i : ℕ) → ((c : LinkedBlock) → In c ks → covers i c ≢ true) → cover i ks ≡ 0
 cover-none [] i h = refl
-cover-none (c ∷ ks) i h = omega (arith, cover-cons i c ks, ap one_if (never (covers i c) (h c (inl refl))), cover-none ks i (λ d n. h d (inr n)))
+cover-none (c ∷ ks) i h = omega (arith, cover-cons i c ks, ap one_if (false_from_ne_true (covers i c) (h c (inl refl))), cover-none ks i (λ d n. h d (inr n)))
 
 -- two linked blocks that share a word are one
 one-block : (r : ℕ) (bs : List LinkedBlock) (c d : LinkedBlock) (i : ℕ) → InOrder r bs → In c bs → In d bs → covers i c ≡ true → covers i d ≡ true → c ≡ d
@@ -47,10 +46,10 @@ link-in : (r : ℕ) (bs : List LinkedBlock) (c : LinkedBlock) → InOrder r bs �
 link-in r [] c g n l = absurd n
 link-in r (d ∷ bs) c g n l = ⊎_elim
     (λ (e : c ≡ d).
-    ap (λ (u : Bool). cond u d.start (link_of bs c.parent)) (same_is d.parent c.parent (ap (λ (z : LinkedBlock). z.parent) (sym e))) ∙ ap (λ (z : LinkedBlock). z.start) (sym e))
+    ap (λ (u : Bool). cond u d.start (link_of bs c.parent)) (eq-eqb d.parent c.parent (ap (λ (z : LinkedBlock). z.parent) (sym e))) ∙ ap (λ (z : LinkedBlock). z.start) (sym e))
     (λ (m : In c bs).
     let h : link_of bs c.parent ≡ c.start = link-in r bs c g.1 m l in
-    let other : (d.parent == c.parent) ≡ false = other_is d.parent c.parent (λ z. let none : link_of bs c.parent ≡ 0 = ap (link_of bs) (sym z) ∙ g.0.vacant in omega (arith, h, none, l)) in
+    let other : (d.parent == c.parent) ≡ false = ne_eqb d.parent c.parent (λ z. let none : link_of bs c.parent ≡ 0 = ap (link_of bs) (sym z) ∙ g.0.vacant in omega (arith, h, none, l)) in
     ap (λ (u : Bool). cond u d.start (link_of bs c.parent)) other ∙ h)
     n
 
@@ -65,7 +64,7 @@ link-cover (c ∷ bs) x l = ⊎_elim
     let at : link_of (c ∷ bs) x ≡ link_of bs x = ap (λ (u : Bool). cond u c.start (link_of bs x)) e in
     let rest : 0 < cover (link_of bs x) bs = link-cover bs x (omega (arith, l, at)) in
     omega (arith, rest, ap (λ (z : ℕ). cover z bs) at, cover-cons (link_of (c ∷ bs) x) c bs))
-    (bool_is (c.parent == x))
+    (cases_Bool (c.parent == x))
 
 full-less : (t : Bool) (n : ℕ) → cond t n 0 ≤ n
 full-less true n = omega arith
@@ -85,11 +84,11 @@ module _ (s : Setting) (bs : List LinkedBlock) (words : List ℕ) (views : List 
   known-link : (ks : List LinkedBlock) (x : ℕ) → Knows (root_at s) bs ks → 0 < link_of ks x → link_in words x ≡ link_of ks x
   known-link [] x k l = absurd (omega arith)
   known-link (c ∷ ks) x k l = ⊎_elim
-      (λ (e : (c.parent == x) ≡ true). ap (link_in words) (sym (eq_of c.parent x e)) ∙ linked-in c k.0 ∙ sym (ap (λ (u : Bool). cond u c.start (link_of ks x)) e))
+      (λ (e : (c.parent == x) ≡ true). ap (link_in words) (sym (eqb-true c.parent x e)) ∙ linked-in c k.0 ∙ sym (ap (λ (u : Bool). cond u c.start (link_of ks x)) e))
       (λ (e : (c.parent == x) ≡ false).
       let at : link_of (c ∷ ks) x ≡ link_of ks x = ap (λ (u : Bool). cond u c.start (link_of ks x)) e in
       known-link ks x k.2 (omega (arith, l, at)) ∙ sym at)
-      (bool_is (c.parent == x))
+      (cases_Bool (c.parent == x))
 
   -- where no link is known, no block below is
   link-none : (ks : List LinkedBlock) (x : ℕ) (c : LinkedBlock) → Knows (root_at s) bs ks → link_of ks x ≡ 0 → In c ks → c.parent ≢ x
@@ -97,10 +96,10 @@ module _ (s : Setting) (bs : List LinkedBlock) (words : List ℕ) (views : List 
   link-none (d ∷ ks) x c k z n e = ⊎_elim
       (λ (q : (d.parent == x) ≡ true). absurd (omega (arith, z, ap (λ (u : Bool). cond u d.start (link_of ks x)) q, (whole d k.0).above)))
       (λ (q : (d.parent == x) ≡ false). ⊎_elim
-      (λ (m : c ≡ d). absurd (not_both (d.parent == x) (same_is d.parent x (ap (λ (a : LinkedBlock). a.parent) (sym m) ∙ e)) q))
+      (λ (m : c ≡ d). absurd (clash (d.parent == x) (eq-eqb d.parent x (ap (λ (a : LinkedBlock). a.parent) (sym m) ∙ e)) q))
       (λ (m : In c ks). link-none ks x c k.2 (sym (ap (λ (u : Bool). cond u d.start (link_of ks x)) q) ∙ z) m e)
       n)
-      (bool_is (d.parent == x))
+      (cases_Bool (d.parent == x))
 
   -- No link of a node names a held block.
   pub held_unnamed : (j : ℕ) (u : SeatView) (h : HeldBlock) (x : ℕ) → get_elem? views j ≡ some u → u.held ≡ Some h → is_node (root_at s) bs x ≡ true → link_in words x ≢ h.start
@@ -114,7 +113,7 @@ module _ (s : Setting) (bs : List LinkedBlock) (words : List ℕ) (views : List 
 
   -- A known block is what the words show: its parent's link names it, and its header and moves stand there.
   pub known_shown : (j : ℕ) (u : SeatView) (c : LinkedBlock) → get_elem? views j ≡ some u → In c u.known
-      → (link_in words c.parent ≡ c.start) × ((i : ℕ) → i < size c → stays i ≡ true → slice_index words (c.start + i) ≡ header_or_move c i)
+      → (link_in words c.parent ≡ c.start) × ((i : ℕ) → i < size c → is_header_or_move i ≡ true → slice_index words (c.start + i) ≡ header_or_move c i)
   known_shown j u c at n =
       let m : In c bs = known-linked (root_at s) bs u.known c (state.known j u at) n in
       (linked-in c m, λ i l st. state.linked.blocks.shows.blocks c i m l st)
@@ -133,7 +132,7 @@ module _ (bs : List LinkedBlock) (words : List ℕ) (views : List SeatView) (id 
         inside = w.inside;
         apart = λ i h. cover-none v.known i (λ c k q. link-none v.shape bs words views b.state v.known x c known z k
             (ap (λ (a : LinkedBlock). a.parent) (one-block r bs c d i b.state.linked.blocks.order (known-linked r bs v.known c known k) m q h)));
-        held = λ i h. never (is_held v.held i) (λ q. absurd (omega (arith, held-clear bs words views id v b id v i b.at q, in-cover bs d i m h)));
+        held = λ i h. false_from_ne_true (is_held v.held i) (λ q. absurd (omega (arith, held-clear bs words views id v b id v i b.at q, in-cover bs d i m h)));
       }
 
   pub answers-link : (x : ℕ) → is_known v x ≡ true → AnswersLink v x (link_in words x)
@@ -146,7 +145,7 @@ module _ (bs : List LinkedBlock) (words : List ℕ) (views : List SeatView) (id 
         (cases_eq (link_in words x) 0);
   }
 
-  pub answers-block : (c : LinkedBlock) (j : ℕ) → In c v.known → j < size c → stays j ≡ true → slice_index words (c.start + j) ≡ header_or_move c j
+  pub answers-block : (c : LinkedBlock) (j : ℕ) → In c v.known → j < size c → is_header_or_move j ≡ true → slice_index words (c.start + j) ≡ header_or_move c j
   answers-block c j n l st = (known_shown v.shape bs words views b.state id v c b.at n).1 j l st
 
   pub answers-claim : (many : ℕ) → FitsClaim v many → AnswersClaim v (next_in words)

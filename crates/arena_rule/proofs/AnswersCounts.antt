@@ -12,14 +12,13 @@ use Rattle.hex_cells.specs.Sets.{has as has_cell}
 use Rattle.hex_board.specs.Positions.{stones_of}
 use Rattle.tree_words.specs.Settings.{Setting}
 use Rattle.tree_words.specs.Words.{root_at, leaf_in, visits_in, wins_in}
-use Rattle.tree_words.specs.Blocks.{LinkedBlock, has, place, cell_at, is_node, In}
+use Rattle.tree_words.specs.Blocks.{LinkedBlock, has_node, place, cell_at, is_node, In}
 use Rattle.tree_words.specs.Paths.{is_on, enters, node_state, mover_of}
 use Rattle.tree_words.specs.Sequence.{outcome_of}
 use Rattle.tree_words.specs.declared.layout.TheConstants.{TALLY_WORD, SEEN_WORD, VISIT}
 use Rattle.tree_words.specs.declared.settings.TheConstants.{MOST_PLAYOUTS}
-use Rattle.tree_words.proofs.BlockLaws.{same_is}
-use Rattle.tree_words.proofs.Members.{node-in}
-use Rattle.tree_words.proofs.Within.{within-up}
+use Rattle.tree_words.proofs.Blocks.Members.{node-in}
+use Rattle.tree_words.proofs.Blocks.Within.{within-up}
 use Rattle.arena_rule.specs.Views.{SeatView, Flight}
 use Rattle.arena_rule.specs.Adds.{CountAdd, walk_adds, amount_at}
 use Rattle.arena_rule.specs.Lookups.{is_known, recorded_through, adds_made, adds_in}
@@ -35,6 +34,7 @@ use Rattle.arena_rule.proofs.Amounts.{wins_added, amount-parts, wins-less, adds-
 use Rattle.arena_rule.proofs.AddLaws.{tally-adds, seen-adds}
 use Rattle.arena_rule.proofs.SumsLinked.{walks-same, made-same}
 use Rattle.arena_rule.proofs.SumsLaw.{NextAdd, next-add}
+use Rattle.std.proofs.lemmas.Bool.{eq-eqb}
 
 module _ {A : Type 0} where
   -- a sum of words that have visits and wins
@@ -90,7 +90,7 @@ module _ (s : Setting) (bs : List LinkedBlock) (w : ℕ) where
   walks-few : (u : SeatView) → IsOnce → sum_by (λ q. adds_in w (walk_adds s bs q.number (leaf_in q.value))) u.walks ≤ walks_of u
   walks-few u h = sum-ones (λ q. adds_in w (walk_adds s bs q.number (leaf_in q.value))) u.walks (λ q. h q.number (leaf_in q.value))
 
-  -- then it counts no more of a view than the view has walks and numbers
+  -- then it counts no more of a view than the view has_node walks and numbers
   counted-few : (u : SeatView) → IsOnce → adds_counted u ≤ walks_of u + holds_ticket u
   counted-few u h = omega (arith, walks-few u h, made-few u.ticket u.adds h)
 
@@ -105,7 +105,7 @@ module _ (bs : List LinkedBlock) (words : List ℕ) (views : List SeatView) (id 
   seen-once : (x : ℕ) → is_node (root_at v.shape) bs x ≡ true → x ≢ root_at v.shape → IsOnce v.shape bs (x + SEEN_WORD)
   seen-once x n ne k leaf = ⊎_elim
       (λ (e : x ≡ root_at v.shape). absurd (ne e))
-      (λ (t : (c : LinkedBlock) × In c bs × (has c x ≡ true)).
+      (λ (t : (c : LinkedBlock) × In c bs × (has_node c x ≡ true)).
       omega (
         arith,
         seen-adds v.shape bs b.state.linked.blocks.order k leaf t.0 x t.1 t.2,
@@ -113,7 +113,7 @@ module _ (bs : List LinkedBlock) (words : List ℕ) (views : List SeatView) (id 
       ))
       (node-in (root_at v.shape) bs x n)
 
-  -- a word that counts the amounts of all views has their adds as its visits, and their wins as its
+  -- a word that counts the amounts of all views has_node their adds as its visits, and their wins as its
   -- wins
   word-parts : (w n : ℕ) → IsOnce v.shape bs w → n ≡ sum_by (amount_counted v.shape bs w) views
       → (visits_in n ≡ sum_by (adds_counted v.shape bs w) views) × (visits_in n ≤ v.shape.knobs.playouts) × (wins_in n ≤ v.shape.knobs.playouts)
@@ -135,7 +135,7 @@ module _ (bs : List LinkedBlock) (words : List ℕ) (views : List SeatView) (id 
       divided : (n v w : ℕ) → n ≡ VISIT * v + w → w ≤ v → v ≤ MOST_PLAYOUTS → (visits_in n ≡ v) × (wins_in n ≡ w)
       divided n v w e l m = (omega (arith, e), omega (arith, e))
 
-  -- what the view itself has counted in a tally
+  -- what the view itself has_node counted in a tally
   own-adds : (x : ℕ) → is_known v x ≡ true → recorded_through v x + adds_in (x + TALLY_WORD) (adds_made v.shape v.known v.ticket v.adds) ≡ adds_counted v.shape bs (x + TALLY_WORD) v
   own-adds x n =
       let s : Setting = v.shape in
@@ -174,7 +174,7 @@ module _ (bs : List LinkedBlock) (words : List ℕ) (views : List SeatView) (id 
       let t = word-parts (x + SEEN_WORD) (slice_index words (x + SEEN_WORD)) (seen-once x m ne) (b.state.sums.seen x m ne) in
       record { visits = t.1; wins = t.2 })
 
-  -- the walk of an Add has not counted in its word, so the word's visits are below N
+  -- the walk of an Add has_node not counted in its word, so the word's visits are below N
   add-below : (a : CountAdd) → FitsAdd v a → IsOnce v.shape bs a.word → slice_index words a.word ≡ sum_by (amount_counted v.shape bs a.word) views → AnswersAdd v (slice_index words a.word)
   add-below a fits h e =
       let k : ℕ = fits.number in
@@ -187,7 +187,7 @@ module _ (bs : List LinkedBlock) (words : List ℕ) (views : List SeatView) (id 
         walks-few v.shape bs a.word v h,
         ap (adds_in a.word) before,
         adds-before a.word n.made all a n.next,
-        ap {B = ℕ} (λ (t : Bool). cond t 1 0) (same_is a.word a.word refl),
+        ap {B = ℕ} (λ (t : Bool). cond t 1 0) (eq-eqb a.word a.word refl),
         h k n.leaf,
         ap has_number fits.ticket,
       ) in

@@ -1,19 +1,19 @@
 -- Each step keeps Fresh, Apart and Held.
 use Rattle.std.proofs.Common.{◌≡◌, ◌≢◌, ℕ, zero, suc, ◌+◌, ◌<◌, ◌≤◌, Bool, true, false, cond, List, [], ◌∷◌, ◌++◌, length, set, get_or, Option, Some, None, refl, sym, ap, ◌∙◌, subst, ⊎_elim, arith, length-append, get_or-set_same, get_or-set_other}
 use Rattle.std.specs.Prelude.{◌==◌, slice_index, sum_by, nat_lt, nat_le, ◌&&◌, option_map}
-use Rattle.std.proofs.lemmas.Bool.{cases_eq}
+use Rattle.std.proofs.lemmas.Bool.{cases_eq, ne_eqb}
 use Rattle.std.proofs.lemmas.Bool.Decides.{nat_tests}
 use Rattle.std.proofs.lemmas.List.{set-get_or}
 use Rattle.std.proofs.lemmas.Option.{none-some, same_Some}
 use Rattle.std.proofs.Math.Seq.{get_or-append_seam}
 use Rattle.play_out.specs.Fills.{empties_of}
 use Rattle.tree_words.specs.Words.{root_at, area_at, end_of, next_in}
-use Rattle.tree_words.specs.Blocks.{LinkedBlock, one_if, covers, cover, size, words_of}
-use Rattle.tree_words.specs.Paths.{board_of}
+use Rattle.tree_words.specs.Blocks.{LinkedBlock, one_if, covers, cover, size, block_size}
+use Rattle.tree_words.specs.Paths.{node_board}
 use Rattle.tree_words.specs.Complete.{allowed_cells}
 use Rattle.tree_words.specs.declared.steps.Op.{Op}
 use Rattle.tree_words.specs.declared.steps.Op.TheVariants.{Draw, Look, Claim, Write, Publish, Add, Note, Done}
-use Rattle.tree_words.proofs.BlockLaws.{cover-cons, other_is}
+use Rattle.tree_words.proofs.Blocks.BlockLaws.{cover-cons}
 use Rattle.arena_rule.specs.Views.{SeatView, HeldBlock}
 use Rattle.arena_rule.specs.Lookups.{is_held, told_below, empties_at}
 use Rattle.arena_rule.specs.Fits.{FitsStep, FitsClaim, FitsWrite, FitsPublish}
@@ -26,8 +26,8 @@ use Rattle.arena_rule.proofs.Changes.{drew_same, claimed_cases}
 use Rattle.arena_rule.proofs.Frames.{in-range, write-word, held-claimed, held-stays, note-low, fresh-stays, next-stays, next-claimed, next-grows, next-area}
 
 -- the told block of a node other than the root has the size of a block for its empty cells
-pub told-size : (v : SeatView) (x b : ℕ) → x ≢ root_at v.shape → size (told_below v x b) ≡ words_of (empties_at v x)
-told-size v x b ne = ap (λ (t : Bool). words_of (length (cond t (allowed_cells v.shape) (empties_of (board_of v.shape v.known x))))) (other_is x (root_at v.shape) ne)
+pub told-size : (v : SeatView) (x b : ℕ) → x ≢ root_at v.shape → size (told_below v x b) ≡ block_size (empties_at v x)
+told-size v x b ne = ap (λ (t : Bool). block_size (length (cond t (allowed_cells v.shape) (empties_of (node_board v.shape v.known x))))) (ne_eqb x (root_at v.shape) ne)
 
 -- the words of the area below NEXT, where NEXT grows
 claimed-more : (low x y end i : ℕ) → x ≤ y → one_if (nat_le low i && (nat_lt i x && nat_lt i end)) ≤ one_if (nat_le low i && (nat_lt i y && nat_lt i end))

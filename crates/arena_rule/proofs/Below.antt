@@ -3,7 +3,7 @@ use Rattle.std.proofs.Common.{◌≡◌, ◌≢◌, ℕ, zero, suc, ◌+◌, ◌
 use Rattle.std.specs.Prelude.{◌==◌, sum_by}
 use Rattle.std.proofs.lemmas.List.Sums.{sum_by-cons}
 use Rattle.std.proofs.lemmas.Bool.Decides.{nat_tests}
-use Rattle.tree_words.proofs.BlockLaws.{eq_of, other_is, bool_is}
+use Rattle.std.proofs.lemmas.Bool.{eqb-true, ne_eqb, cases_Bool}
 
 abbrev pub sum_below : ℕ → (ℕ → ℕ) → ℕ
 sum_below zero f = 0
@@ -30,7 +30,7 @@ below_ones zero f h = omega arith
 below_ones (suc n) f h = omega (arith, below_ones n f h, h n)
 
 missed : (a n c : ℕ) → a ≢ n → cond (a == n) c 0 ≡ 0
-missed a n c ne = ap (λ (t : Bool). cond t c 0) (other_is a n ne)
+missed a n c ne = ap (λ (t : Bool). cond t c 0) (ne_eqb a n ne)
 
 pub below_past : (n a c : ℕ) → n ≤ a → sum_below n (λ j. cond (a == j) c 0) ≡ 0
 below_past zero a c h = refl
@@ -40,9 +40,9 @@ below_past (suc n) a c h = omega (arith, below_past n a c (omega arith), missed 
 pub below_hit : (n a c : ℕ) → a < n → sum_below n (λ j. cond (a == j) c 0) ≡ c
 below_hit zero a c h = absurd (omega arith)
 below_hit (suc n) a c h = ⊎_elim
-    (λ (e : (a == n) ≡ true). omega (arith, below_past n a c (let q = eq_of a n e in omega (arith, q)), ap (λ (t : Bool). cond t c 0) e))
+    (λ (e : (a == n) ≡ true). omega (arith, below_past n a c (let q = eqb-true a n e in omega (arith, q)), ap (λ (t : Bool). cond t c 0) e))
     (λ (e : (a == n) ≡ false). omega (arith, below_hit n a c (less a n e h), ap (λ (t : Bool). cond t c 0) e))
-    (bool_is (a == n))
+    (cases_Bool (a == n))
   where
     less : (a n : ℕ) → (a == n) ≡ false → a < suc n → a < n
     less a n e l = grind (arith, nat_tests)

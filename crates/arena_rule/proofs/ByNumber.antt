@@ -2,10 +2,10 @@
 use Rattle.std.proofs.Common.{◌≡◌, ℕ, suc, ◌+◌, ◌<◌, Bool, true, false, cond, List, [], ◌∷◌, refl, sym, ap, ◌∙◌, ⊎_elim, arith}
 use Rattle.std.specs.Prelude.{◌==◌, sum_by, Contains}
 use Rattle.std.proofs.lemmas.List.Sums.{sum_by-cons}
-use Rattle.tree_words.proofs.BlockLaws.{eq_of, bool_is}
 use Rattle.arena_rule.specs.Views.{Walked}
 use Rattle.arena_rule.proofs.Below.{sum_below, below_hit, below_same, below_swap}
 use Rattle.arena_rule.proofs.Numbers.{times_walked, value_walked, walked-cons, value-cons, value-none}
+use Rattle.std.proofs.lemmas.Bool.{eqb-true, cases_Bool}
 
 -- what a walk with the number j counts
 abbrev if_here : ℕ → (ℕ → ℕ) → Walked → ℕ
@@ -50,9 +50,9 @@ by-number n f walks once low =
 
     same-key : (a j x : ℕ) → cond (a == j) (f a x) 0 ≡ cond (a == j) (f j x) 0
     same-key a j x = ⊎_elim
-        (λ (e : (a == j) ≡ true). ap (λ (z : ℕ). cond (a == j) (f z x) 0) (eq_of a j e))
+        (λ (e : (a == j) ≡ true). ap (λ (z : ℕ). cond (a == j) (f z x) 0) (eqb-true a j e))
         (λ (e : (a == j) ≡ false). ap (λ (t : Bool). cond t (f a x) 0) e ∙ sym (ap (λ (t : Bool). cond t (f j x) 0) e))
-        (bool_is (a == j))
+        (cases_Bool (a == j))
 
     keyed : (j : ℕ) (ws : List Walked) → sum_by (λ w. cond (w.number == j) (f w.number w.value) 0) ws ≡ sum_by (if_here j (f j)) ws
     keyed j [] = refl

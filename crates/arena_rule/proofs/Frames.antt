@@ -11,17 +11,18 @@ use Rattle.hex_board.specs.Positions.{stones_of}
 use Rattle.hex_board.specs.Wins.{is_same}
 use Rattle.tree_words.specs.Settings.{Setting}
 use Rattle.tree_words.specs.Words.{root_at, area_at, end_of, next_in}
-use Rattle.tree_words.specs.Blocks.{LinkedBlock, In, InOrder, one_if, has, covers, cover, is_node, link_of, size, stays}
+use Rattle.tree_words.specs.Blocks.{LinkedBlock, In, InOrder, one_if, has_node, covers, cover, is_node, link_of, size, is_header_or_move}
 use Rattle.tree_words.specs.Paths.{node_state}
 use Rattle.tree_words.specs.Complete.{AreComplete}
-use Rattle.tree_words.specs.Sequence.{Outcome, outcome_of}
+use Rattle.play_out.specs.declared.playouts.Ending.{Ending}
+use Rattle.tree_words.specs.Sequence.{outcome_of}
 use Rattle.tree_words.specs.declared.steps.Op.{Op}
 use Rattle.tree_words.specs.declared.steps.Op.TheVariants.{Draw, Look, Claim, Write, Publish, Add, Note, Done}
-use Rattle.tree_words.proofs.BlockLaws.{bool_is, cover-cons, covers_if, node-cover}
-use Rattle.tree_words.proofs.Down.{child-has}
-use Rattle.tree_words.proofs.GameLaws.{root_node, in-node, whole-in}
-use Rattle.tree_words.proofs.RootLaws.{find_root}
-use Rattle.tree_words.proofs.NodeLaws.{node-lies, nodes-apart, stays-clear}
+use Rattle.tree_words.proofs.Blocks.BlockLaws.{cover-cons, covers_if, node-cover, root_node}
+use Rattle.tree_words.proofs.Walks.Down.{child-has}
+use Rattle.tree_words.proofs.Blocks.GameLaws.{in-node, whole-in}
+use Rattle.tree_words.proofs.Boards.RootLaws.{find_root}
+use Rattle.tree_words.proofs.Blocks.NodeLaws.{node-lies, nodes-apart, stays-clear}
 use Rattle.arena_rule.specs.Views.{SeatView, Flight}
 use Rattle.arena_rule.specs.Adds.{CountAdd, Gathered, seen_adds, node_adds, adds_up, walk_adds}
 use Rattle.arena_rule.specs.Lookups.{is_held}
@@ -32,6 +33,7 @@ use Rattle.arena_rule.specs.Rule.{words_after}
 use Rattle.arena_rule.proofs.Before.{Before}
 use Rattle.arena_rule.proofs.Totals.{total_at, total_two}
 use Rattle.arena_rule.proofs.Within.{known-node, known-adds, node-more}
+use Rattle.std.proofs.lemmas.Bool.{cases_Bool}
 
 -- what holds of each add of a list
 abbrev EachAdd : (ℕ → Type 0) → List CountAdd → Type 0
@@ -62,7 +64,7 @@ count-more : (r : ℕ) (d : LinkedBlock) (bs : List LinkedBlock) (w : ℕ) → I
 count-more r d bs w c = (c.0, node-more r d bs c.0 c.1, c.2)
 
 -- so is each word that a walk adds to
-adds-words : (s : Setting) (o : Outcome) (bs : List LinkedBlock) (y : ℕ) → InOrder (root_at s) bs → EachAdd (IsCount (root_at s) bs) (adds_up s o bs y).adds
+adds-words : (s : Setting) (o : Ending) (bs : List LinkedBlock) (y : ℕ) → InOrder (root_at s) bs → EachAdd (IsCount (root_at s) bs) (adds_up s o bs y).adds
 adds-words s o [] y g = each-cons (IsCount (root_at s) []) _ [] (root_at s, root_node (root_at s) [], inl refl) (λ n a e. absurd (none-some a e))
 adds-words s o (b ∷ bs) y g =
     let r : ℕ = root_at s in
@@ -71,17 +73,17 @@ adds-words s o (b ∷ bs) y g =
     let won : Bool = is_same o.winner above.state.player in
     let seen : List CountAdd = seen_adds (stones_of o.full above.state.player) won (b.start + 4) b.cells in
     ⊎_elim
-    (λ (h : has b y ≡ true).
+    (λ (h : has_node b y ≡ true).
     let rest : EachAdd P above.adds = λ n a e. count-more r b bs a.word (adds-words s o bs b.parent g.1 n a e) in
     let mine : EachAdd P seen = each-seen P (stones_of o.full above.state.player) won (b.start + 4) b.cells
     (λ j z l q. let low = g.0.root in
-    let here : has b (b.start + 4 + 4 * j) ≡ true = child-has b j l in
+    let here : has_node b (b.start + 4 + 4 * j) ≡ true = child-has b j l in
     (b.start + 4 + 4 * j, in-node r (b ∷ bs) b (b.start + 4 + 4 * j) (inl refl) here, inr (q, λ e. omega (arith, e)))) in
     subst (λ (t : Bool). EachAdd P (cond t (node_adds o b y above) (adds_up s o bs y)).adds) (sym h)
     (each-cons P (record { word = y + 2; won = won }) (seen ++ above.adds) (y, in-node r (b ∷ bs) b y (inl refl) h, inl refl) (each-append P seen above.adds mine rest)))
-    (λ (h : has b y ≡ false).
+    (λ (h : has_node b y ≡ false).
     subst (λ (t : Bool). EachAdd P (cond t (node_adds o b y above) (adds_up s o bs y)).adds) (sym h) (λ n a e. count-more r b bs a.word (adds-words s o bs y g.1 n a e)))
-    (bool_is (has b y))
+    (cases_Bool (has_node b y))
 
 pub walk-words : (s : Setting) (bs : List LinkedBlock) (k leaf n : ℕ) (a : CountAdd) → InOrder (root_at s) bs → slice_get (walk_adds s bs k leaf) n ≡ Some a → IsCount (root_at s) bs a.word
 unfolding walk_adds
@@ -199,7 +201,7 @@ module _ (bs : List LinkedBlock) (words : List ℕ) (views : List SeatView) (id 
   same-word : (w i : ℕ) → slice_index (set words w (slice_index words w)) i ≡ slice_index words i
   same-word w i = ap (λ (ws : List ℕ). slice_index ws i) (set-get_or words w 0)
 
-  -- A word at or behind the root stays where it is no link, tally or seen word of a node and the view does not hold it.
+  -- A word at or behind the root is_header_or_move where it is no link, tally or seen word of a node and the view does not hold it.
   pub other-stays : (op : Op) (i : ℕ) → FitsStep v op → root_at v.shape ≤ i → ((x j : ℕ) → is_node (root_at v.shape) bs x ≡ true → 1 ≤ j → j < 4 → i ≢ x + j) → is_held v.held i ≢ true
       → slice_index (words_after words op) i ≡ slice_index words i
   other-stays Draw i fits low node held = else-word Draw i (λ e. omega arith)
@@ -219,7 +221,7 @@ module _ (bs : List LinkedBlock) (words : List ℕ) (views : List SeatView) (id 
   other-stays Done i fits low node held = same-word 0 i
 
   -- the headers and moves of the linked blocks stay
-  pub block-stays : (op : Op) (c : LinkedBlock) (j : ℕ) → FitsStep v op → In c bs → j < size c → stays j ≡ true → slice_index (words_after words op) (c.start + j) ≡ slice_index words (c.start + j)
+  pub block-stays : (op : Op) (c : LinkedBlock) (j : ℕ) → FitsStep v op → In c bs → j < size c → is_header_or_move j ≡ true → slice_index (words_after words op) (c.start + j) ≡ slice_index words (c.start + j)
   block-stays op c j fits n l st =
       let g = b.state.linked.blocks.order in
       other-stays op (c.start + j) fits (let low = block-low c n in omega arith)

@@ -1,17 +1,16 @@
 -- What a view knows after a link was found: the told block too, or the same. It only grows.
 use Rattle.std.proofs.Common.{◌≡◌, ◌≢◌, ◌⊎◌, ℕ, Bool, true, false, cond, List, ◌∷◌, refl, sym, ap, subst, ⊎_elim, inl, inr}
 use Rattle.std.specs.Prelude.{not, ◌==◌, ◌&&◌}
-use Rattle.std.proofs.lemmas.Bool.{or_right}
+use Rattle.std.proofs.lemmas.Bool.{or_right, and_parts, eqb-true, eq-eqb}
 use Rattle.tree_words.specs.Words.{root_at}
-use Rattle.tree_words.specs.Blocks.{LinkedBlock, In, has, is_node}
+use Rattle.tree_words.specs.Blocks.{LinkedBlock, In, has_node, is_node}
 use Rattle.tree_words.specs.declared.steps.Op.{Op}
 use Rattle.tree_words.specs.declared.steps.Op.TheVariants.{Draw, Look, Claim, Write, Publish, Add, Note, Done}
-use Rattle.tree_words.proofs.BlockLaws.{true_both, eq_of, same_is}
-use Rattle.tree_words.proofs.Down.{not_both}
 use Rattle.arena_rule.specs.Views.{SeatView}
 use Rattle.arena_rule.specs.Lookups.{is_known, known_link, told_below}
 use Rattle.arena_rule.specs.Afters.{known_after, node_of_link, looked, wrote, published, added_at, noted, with_word, after}
 use Rattle.arena_rule.proofs.Changes.{drew_same, claimed_same}
+use Rattle.tree_words.proofs.Blocks.BlockLaws.{clash}
 
 -- the told block is known too
 pub record Grows (v : SeatView) (x b : ℕ) : Type 0 where
@@ -30,12 +29,12 @@ known_cases v x b = by (is_known v x && (known_link v x == 0 && not (b == 0))) r
 
     by : (t : Bool) → (is_known v x && (known_link v x == 0 && not (b == 0))) ≡ t → Grows v x b ⊎ (known_after v x b ≡ v.known)
     by true e =
-        let p = true_both (is_known v x) (known_link v x == 0 && not (b == 0)) e in
-        let q = true_both (known_link v x == 0) (not (b == 0)) p.1 in
+        let p = and_parts (is_known v x) (known_link v x == 0 && not (b == 0)) e in
+        let q = and_parts (known_link v x == 0) (not (b == 0)) p.1 in
         inl (record {
           known = p.0;
-          vacant = eq_of (known_link v x) 0 q.0;
-          some = λ z. not_both (b == 0) (same_is b 0 z) (not-true (b == 0) q.1);
+          vacant = eqb-true (known_link v x) 0 q.0;
+          some = λ z. clash (b == 0) (eq-eqb b 0 z) (not-true (b == 0) q.1);
           is = ap (λ (t : Bool). cond t (told_below v x b ∷ v.known) v.known) e;
         })
     by false e = inr (ap (λ (t : Bool). cond t (told_below v x b ∷ v.known) v.known) e)
@@ -43,7 +42,7 @@ known_cases v x b = by (is_known v x && (known_link v x == 0 && not (b == 0))) r
 -- a known node stays known
 pub known-more : (v : SeatView) (x b y : ℕ) → is_known v y ≡ true → is_node (root_at v.shape) (known_after v x b) y ≡ true
 known-more v x b y n = ⊎_elim
-    (λ (g : Grows v x b). subst (λ (ks : List LinkedBlock). is_node (root_at v.shape) ks y ≡ true) (sym g.is) (or_right (has (told_below v x b) y) (is_known v y) n))
+    (λ (g : Grows v x b). subst (λ (ks : List LinkedBlock). is_node (root_at v.shape) ks y ≡ true) (sym g.is) (or_right (has_node (told_below v x b) y) (is_known v y) n))
     (λ (e : known_after v x b ≡ v.known). subst (λ (ks : List LinkedBlock). is_node (root_at v.shape) ks y ≡ true) (sym e) n)
     (known_cases v x b)
 

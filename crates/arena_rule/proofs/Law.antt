@@ -12,7 +12,7 @@ use Rattle.tree_words.specs.Told.{Knows}
 use Rattle.tree_words.specs.Opening.{opening_words}
 use Rattle.tree_words.specs.declared.steps.Op.{Op}
 use Rattle.tree_words.specs.declared.steps.Op.TheVariants.{Draw, Look, Claim, Write, Publish, Add, Note, Done}
-use Rattle.tree_words.proofs.OpeningTold.{opening-are}
+use Rattle.tree_words.proofs.NewBlocks.OpeningTold.{opening-are}
 use Rattle.arena_rule.specs.Views.{SeatView, new_view, opening_view}
 use Rattle.arena_rule.specs.Fits.{FitsStep, CanSplit, CanJoin}
 use Rattle.arena_rule.specs.Afters.{word_of, put, answer_of, after}

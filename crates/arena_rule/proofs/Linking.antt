@@ -6,19 +6,17 @@ use Rattle.std.proofs.lemmas.List.{set-get_or}
 use Rattle.std.proofs.lemmas.List.FromFn.{get_or-map-range_with_len}
 use Rattle.play_out.specs.Fills.{empties_of}
 use Rattle.tree_words.specs.Words.{root_at, next_in}
-use Rattle.tree_words.specs.Blocks.{LinkedBlock, In, Follows, Shows, covers, has, is_node, link_of, size, stays, header_or_move}
-use Rattle.tree_words.specs.Paths.{NodeState, node_state, board_of}
-use Rattle.tree_words.specs.Complete.{AreComplete, Complete, HasEmpties, allowed_cells}
+use Rattle.tree_words.specs.Blocks.{LinkedBlock, In, Follows, Shows, covers, has_node, is_node, link_of, size, is_header_or_move, header_or_move}
+use Rattle.tree_words.specs.Paths.{NodeState, node_state, node_board}
+use Rattle.tree_words.specs.Complete.{AreComplete, IsComplete, HasEmpties, allowed_cells}
 use Rattle.tree_words.specs.Told.{Knows}
 use Rattle.tree_words.specs.declared.steps.Op.{Op}
 use Rattle.tree_words.specs.declared.steps.Op.TheVariants.{Draw, Look, Claim, Write, Publish, Add, Note, Done}
-use Rattle.tree_words.proofs.Asking.{spot-size}
-use Rattle.tree_words.proofs.BlockLaws.{apart, bool_is, covers_if, either_true, eq_of, lt_of, has-at, other_is, same_is, true_both}
-use Rattle.tree_words.proofs.Down.{never, not_both}
-use Rattle.tree_words.proofs.GameLaws.{root_node}
-use Rattle.tree_words.proofs.NodeLaws.{complete-more, link-none, stays-clear, stays-not}
-use Rattle.tree_words.proofs.SetNumbers.{set-has_empties}
-use Rattle.tree_words.proofs.Within.{knows-more, told-real}
+use Rattle.tree_words.proofs.Walks.Asking.{spot-size}
+use Rattle.tree_words.proofs.Blocks.BlockLaws.{apart, covers_if, has-at, clash, root_node}
+use Rattle.tree_words.proofs.Blocks.NodeLaws.{complete-more, link-none, stays-clear, stays-not}
+use Rattle.tree_words.proofs.Boards.SetNumbers.{set-has_empties}
+use Rattle.tree_words.proofs.Blocks.Within.{knows-more, told-real}
 use Rattle.arena_rule.specs.Views.{SeatView, HeldBlock}
 use Rattle.arena_rule.specs.Lookups.{is_held, is_known, known_link, told_below}
 use Rattle.arena_rule.specs.Fits.{FitsStep, FitsPublish, block_words}
@@ -31,11 +29,12 @@ use Rattle.arena_rule.proofs.Changes.{drew_same, claimed_same}
 use Rattle.arena_rule.proofs.Within.{known-node, known-state}
 use Rattle.arena_rule.proofs.Frames.{IsNoPublish, block-stays, held-clear, held-claimed, held-node, link-stays, next-grows, node-range, root-stays}
 use Rattle.arena_rule.proofs.Apart.{node-back, told-held}
+use Rattle.std.proofs.lemmas.Bool.{cases_Bool, or_cases, eqb-true, ltb-true, ne_eqb, eq-eqb, and_parts, false_from_ne_true}
 
 -- the words of a block that is not linked yet
-block-word : (d : LinkedBlock) (j : ℕ) → j < size d → slice_index (block_words d) j ≡ cond (stays j) (header_or_move d j) 0
+block-word : (d : LinkedBlock) (j : ℕ) → j < size d → slice_index (block_words d) j ≡ cond (is_header_or_move j) (header_or_move d j) 0
 unfolding block_words
-block-word d j l = get_or-map-range_with_len (λ i. cond (stays i) (header_or_move d i) 0) 0 (size d) j j 0 l (omega arith)
+block-word d j l = get_or-map-range_with_len (λ i. cond (is_header_or_move i) (header_or_move d i) 0) 0 (size d) j j 0 l (omega arith)
 
 module _ (bs : List LinkedBlock) (words : List ℕ) (views : List SeatView) (id : ℕ) (v : SeatView) (b : Before bs words views id v) where
   linked-kept : (op : Op) → FitsStep v op → IsNoPublish op → AreLinked v.shape bs (words_after words op)
@@ -90,7 +89,7 @@ module _ (bs : List LinkedBlock) (words : List ℕ) (views : List SeatView) (id 
     not-mine i h e = held-node bs words views id v b id v x 1 b.at node (omega arith) (ap (is_held v.held) (sym fits.link) ∙ ap (is_held v.held) (sym e) ∙ mine i h)
 
     -- what was written stands there
-    written-word : (i : ℕ) → i < size new → slice_index (set words l c) (c + i) ≡ cond (stays i) (header_or_move new i) 0
+    written-word : (i : ℕ) → i < size new → slice_index (set words l c) (c + i) ≡ cond (is_header_or_move i) (header_or_move new i) 0
     written-word i h =
         let here : covers (c + i) new ≡ true = covered i h in
         let long : i < fits.block.size = inside (c + i) i refl (sym (ap (λ (o : Option HeldBlock). is_held o (c + i)) fits.held) ∙ mine (c + i) here) in
@@ -101,29 +100,29 @@ module _ (bs : List LinkedBlock) (words : List ℕ) (views : List SeatView) (id 
         ∙ block-word new i h
       where
         inside : (w i : ℕ) → w ≡ c + i → is_held (Some fits.block) w ≡ true → i < fits.block.size
-        inside w i e h = let t = true_both (nat_le fits.block.start w) (nat_lt w (fits.block.start + fits.block.size)) h in let low = fits.start in omega (arith, lt_of w (fits.block.start + fits.block.size) t.1)
+        inside w i e h = let t = and_parts (nat_le fits.block.start w) (nat_lt w (fits.block.start + fits.block.size)) h in let low = fits.start in omega (arith, ltb-true w (fits.block.start + fits.block.size) t.1)
 
     old-link : (y : ℕ) → is_node (root_at v.shape) bs y ≡ true → slice_index (set words l c) (y + 1) ≡ link_of (new ∷ bs) y
     old-link y n = ⊎_elim
         (λ (e : (x == y) ≡ true).
-        let at : y + 1 ≡ l = omega (arith, fits.link, eq_of x y e) in
+        let at : y + 1 ≡ l = omega (arith, fits.link, eqb-true x y e) in
         ap (slice_index (set words l c)) at ∙ get_or-set_same words l c 0 (omega (arith, at, b.state.long, (node-range bs words views id v b y 1 n (omega arith)).1))
         ∙ sym (ap (λ (t : Bool). cond t c (link_of bs y)) e))
         (λ (e : (x == y) ≡ false).
-        get_or-set_other words l (y + 1) c 0 (λ q. not_both (x == y) (same_is x y (omega (arith, q, fits.link))) e)
+        get_or-set_other words l (y + 1) c 0 (λ q. clash (x == y) (eq-eqb x y (omega (arith, q, fits.link))) e)
         ∙ b.state.linked.blocks.shows.links y n ∙ sym (ap (λ (t : Bool). cond t c (link_of bs y)) e))
-        (bool_is (x == y))
+        (cases_Bool (x == y))
 
-    new-link : (y : ℕ) → has new y ≡ true → slice_index (set words l c) (y + 1) ≡ link_of (new ∷ bs) y
+    new-link : (y : ℕ) → has_node new y ≡ true → slice_index (set words l c) (y + 1) ≡ link_of (new ∷ bs) y
     new-link y h =
         let t = has-at new y h in
         let k : ℕ = t.0 in
         let above = fits.above in
         let at : y + 1 ≡ c + (4 + 4 * k + 1) = omega (arith, t.2) in
-        let out : is_node (root_at v.shape) bs y ≡ false = never (is_node (root_at v.shape) bs y) (λ n. not_both (has new y) h (apart (root_at v.shape) new bs y follows n)) in
+        let out : is_node (root_at v.shape) bs y ≡ false = false_from_ne_true (is_node (root_at v.shape) bs y) (λ n. clash (has_node new y) h (apart (root_at v.shape) new bs y follows n)) in
         ap (slice_index (set words l c)) at ∙ written-word (4 + 4 * k + 1) (omega (arith, t.1))
         ∙ ap (λ (u : Bool). cond u (header_or_move new (4 + 4 * k + 1)) 0) (stays-not k 1 (omega arith) (omega arith))
-        ∙ sym (ap (λ (u : Bool). cond u c (link_of bs y)) (other_is x y (λ e. omega (arith, e, t.2)))
+        ∙ sym (ap (λ (u : Bool). cond u c (link_of bs y)) (ne_eqb x y (λ e. omega (arith, e, t.2)))
         ∙ link-none (root_at v.shape) bs y b.state.linked.blocks.order out)
 
     shows : Shows (root_at v.shape) (new ∷ bs) (set words l c)
@@ -135,10 +134,10 @@ module _ (bs : List LinkedBlock) (words : List ℕ) (views : List SeatView) (id 
           get_or-set_other words l (d.start + i) c 0 (λ e. stays-clear (root_at v.shape) bs d i x 1 b.state.linked.blocks.order m h st node (omega arith) (omega arith) (e ∙ fits.link))
           ∙ b.state.linked.blocks.shows.blocks d i m h st)
           n;
-      links = λ y n. ⊎_elim (λ (h : has new y ≡ true). new-link y h) (λ (m : is_node (root_at v.shape) bs y ≡ true). old-link y m) (either_true (has new y) (is_node (root_at v.shape) bs y) n);
+      links = λ y n. ⊎_elim (λ (h : has_node new y ≡ true). new-link y h) (λ (m : is_node (root_at v.shape) bs y ≡ true). old-link y m) (or_cases (has_node new y) (is_node (root_at v.shape) bs y) n);
     }
 
-    complete : Complete v.shape (next_in words) bs new
+    complete : IsComplete v.shape (next_in words) bs new
     complete =
         let last : ℕ = size new - 1 in
         let t = held-claimed bs words views id v b id v (c + last) b.at (mine (c + last) (covered last (omega arith))) in
@@ -146,11 +145,11 @@ module _ (bs : List LinkedBlock) (words : List ℕ) (views : List SeatView) (id 
         let under = t.1 in
         let within = t.2 in
         let same : node_state v.shape v.known x ≡ node_state v.shape bs x = known-state bs words views id v b id v x b.at fits.may.known in
-        let few : (board_of v.shape v.known x).size ≤ 11 = omega (arith, b.state.setting.position.most, spot-size v.shape v.known x) in
+        let few : (node_board v.shape v.known x).size ≤ 11 = omega (arith, b.state.setting.position.most, spot-size v.shape v.known x) in
         record {
           claimed = omega arith;
           inside = (omega arith, omega arith);
-          empties = subst (λ (p : NodeState). HasEmpties new.empties p.board) same (set-has_empties (board_of v.shape v.known x) few);
+          empties = subst (λ (p : NodeState). HasEmpties new.empties p.board) same (set-has_empties (node_board v.shape v.known x) few);
           cells = ap (λ (p : NodeState). cond (x == root_at v.shape) (allowed_cells v.shape) (empties_of p.board)) same;
         }
 
@@ -159,12 +158,12 @@ module _ (bs : List LinkedBlock) (words : List ℕ) (views : List SeatView) (id 
         let old : AreLinked v.shape bs words = b.state.linked in
         let r : ℕ = root_at v.shape in
         let next : next_in (set words l c) ≡ next_in words = get_or-set_other words l 0 c 0 (λ e. omega (arith, e, fits.link)) in
-        let some : 0 < length new.cells = omega (arith, ap (λ (t : Bool). length (cond t (allowed_cells v.shape) (empties_of (board_of v.shape v.known x)))) (other_is x r fits.may.below), fits.may.some) in
+        let some : 0 < length new.cells = omega (arith, ap (λ (t : Bool). length (cond t (allowed_cells v.shape) (empties_of (node_board v.shape v.known x)))) (ne_eqb x r fits.may.below), fits.may.some) in
         record {
           blocks = record {
             order = (follows, old.blocks.order);
             shows = shows;
-            complete = subst (λ (n : ℕ). Complete v.shape n bs new × AreComplete v.shape n bs) (sym next) (complete, old.blocks.complete);
+            complete = subst (λ (n : ℕ). IsComplete v.shape n bs new × AreComplete v.shape n bs) (sym next) (complete, old.blocks.complete);
           };
           nodes = (some, old.nodes);
           link = get_or-set_other words l (r + 1) c 0 (λ e. fits.may.below (omega (arith, e, fits.link))) ∙ old.link;
@@ -175,7 +174,7 @@ module _ (bs : List LinkedBlock) (words : List ℕ) (views : List SeatView) (id 
   linked-publish l c fits = by (slice_index words l == 0) refl
     where
       by : (t : Bool) → (slice_index words l == 0) ≡ t → AreLinked v.shape (cond t (told_below v (node_of_link l) c ∷ bs) bs) (set words l (cond t c (slice_index words l)))
-      by true e = subst (λ (z : ℕ). AreLinked v.shape (told_below v z c ∷ bs) (set words l c)) (sym (node-back v l c fits)) (linked l c fits (eq_of (slice_index words l) 0 e))
+      by true e = subst (λ (z : ℕ). AreLinked v.shape (told_below v z c ∷ bs) (set words l c)) (sym (node-back v l c fits)) (linked l c fits (eqb-true (slice_index words l) 0 e))
       by false e = subst (AreLinked v.shape bs) (sym (set-get_or words l 0)) b.state.linked
 
   pub linked-step : (op : Op) → FitsStep v op → AreLinked v.shape (blocks_after bs words v op) (words_after words op)

@@ -9,13 +9,13 @@ use Rattle.hex_cells.specs.declared.colours.Colour.{Colour}
 use Rattle.hex_cells.specs.declared.colours.Colour.TheVariants.{Black, White}
 use Rattle.tree_words.specs.Blocks.{LinkedBlock, one_if}
 use Rattle.tree_words.specs.Words.{leaf_in, winner_in, ticket_in}
-use Rattle.tree_words.proofs.BlockLaws.{same_is}
 use Rattle.arena_rule.specs.Views.{SeatView, Walked}
 use Rattle.arena_rule.specs.Lookups.{record_word}
 use Rattle.arena_rule.specs.Parts.{in_hand, times_drawn}
 use Rattle.arena_rule.proofs.Before.{Before}
 use Rattle.arena_rule.proofs.Totals.{total_add, total_same}
 use Rattle.arena_rule.proofs.Below.{sum_below, below_add, below_hit, below_none, below_ones, below_same, below_swap}
+use Rattle.std.proofs.lemmas.Bool.{eq-eqb}
 
 -- how often the number k stands in walks, and the value that they have for it
 abbrev pub times_walked : ℕ → List Walked → ℕ
@@ -63,7 +63,7 @@ contains-append x (w ∷ a) b c = ⊎_elim
 pub contains-times : (x : Walked) (walks : List Walked) → Contains walks x → 0 < times_walked x.number walks
 contains-times x [] c = absurd (let l = c.1 in omega arith)
 contains-times x (w ∷ walks) c = ⊎_elim
-    (λ (e : w ≡ x). omega (arith, walked-cons x.number w walks, ap one_if (same_is w.number x.number (ap (λ (q : Walked). q.number) e))))
+    (λ (e : w ≡ x). omega (arith, walked-cons x.number w walks, ap one_if (eq-eqb w.number x.number (ap (λ (q : Walked). q.number) e))))
     (λ (d : Contains walks x). omega (arith, walked-cons x.number w walks, contains-times x walks d))
     (contains-cons w x walks c)
 
@@ -76,7 +76,7 @@ pub winner-recorded : (leaf : ℕ) (c : Colour) → winner_in (record_word leaf 
 winner-recorded leaf Black = ap (λ (t : Bool). cond t Black White) (even leaf)
   where
     even : (n : ℕ) → ((2 * n) % 2 == 0) ≡ true
-    even n = same_is ((2 * n) % 2) 0 (omega arith)
+    even n = eq-eqb ((2 * n) % 2) 0 (omega arith)
 winner-recorded leaf White = ap (λ (t : Bool). cond t Black White) (odd leaf)
   where
     odd : (n : ℕ) → ((2 * n + 1) % 2 == 0) ≡ false

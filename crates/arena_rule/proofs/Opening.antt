@@ -11,10 +11,10 @@ use Rattle.tree_words.specs.Complete.{set_of}
 use Rattle.tree_words.specs.Growth.{root_end}
 use Rattle.tree_words.specs.Opening.{root_block, opening_words, AreOpening, ShowRootBlock}
 use Rattle.tree_words.specs.Told.{Knows}
-use Rattle.tree_words.proofs.BlockLaws.{cover-cons}
-use Rattle.tree_words.proofs.Openings.{root-fits}
-use Rattle.tree_words.proofs.OpeningLaws.{clear, link-is, next-is, root-word}
-use Rattle.tree_words.proofs.OpeningTold.{opening-are, opening-root}
+use Rattle.tree_words.proofs.Blocks.BlockLaws.{cover-cons}
+use Rattle.tree_words.proofs.NewBlocks.Openings.{root-fits}
+use Rattle.tree_words.proofs.NewBlocks.OpeningLaws.{clear, link-is, next-is, root-word}
+use Rattle.tree_words.proofs.NewBlocks.OpeningTold.{opening-are, opening-root}
 use Rattle.arena_rule.specs.Views.{SeatView, HeldBlock}
 use Rattle.arena_rule.specs.Lookups.{is_held}
 use Rattle.arena_rule.specs.Parts.{Fresh, AreApart, AreLinked, AreWritten, Known, held_at}

@@ -4,7 +4,7 @@ use Rattle.std.proofs.lemmas.Option.{none-some}
 use Rattle.tree_words.specs.Words.{root_at}
 use Rattle.tree_words.specs.Blocks.{LinkedBlock}
 use Rattle.tree_words.specs.Told.{Knows}
-use Rattle.tree_words.proofs.Within.{knows-both}
+use Rattle.tree_words.proofs.Blocks.Within.{knows-both}
 use Rattle.arena_rule.specs.Views.{SeatView, HeldBlock, spent_view}
 use Rattle.arena_rule.specs.Fits.{CanSplit}
 use Rattle.arena_rule.specs.Afters.{kept_part, given_part, joined}

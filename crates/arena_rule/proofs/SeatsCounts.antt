@@ -4,14 +4,12 @@ use Rattle.std.specs.Prelude.{◌==◌, ◌&&◌, slice_index, sum_by}
 use Rattle.std.proofs.lemmas.List.Sums.{sum_by-append}
 use Rattle.tree_words.specs.Settings.{Setting, IsSetting}
 use Rattle.tree_words.specs.Words.{root_at, leaf_in}
-use Rattle.tree_words.specs.Blocks.{LinkedBlock, size, covers, has, is_node, stays, header_or_move}
+use Rattle.tree_words.specs.Blocks.{LinkedBlock, size, covers, has_node, is_node, is_header_or_move, header_or_move}
 use Rattle.tree_words.specs.Opening.{root_block, opening_words}
-use Rattle.tree_words.proofs.BlockLaws.{eq_of, other_is, either_true, covers_of, has-at}
-use Rattle.tree_words.proofs.Down.{never}
-use Rattle.tree_words.proofs.GameLaws.{root_node}
-use Rattle.tree_words.proofs.NodeLaws.{stays-not}
-use Rattle.tree_words.proofs.Openings.{root-fits}
-use Rattle.tree_words.proofs.OpeningTold.{opening-are}
+use Rattle.tree_words.proofs.Blocks.BlockLaws.{covers_of, has-at, root_node}
+use Rattle.tree_words.proofs.Blocks.NodeLaws.{stays-not}
+use Rattle.tree_words.proofs.NewBlocks.Openings.{root-fits}
+use Rattle.tree_words.proofs.NewBlocks.OpeningTold.{opening-are}
 use Rattle.arena_rule.specs.Views.{SeatView, Walked, spent_view}
 use Rattle.arena_rule.specs.Adds.{walk_adds, amount_at}
 use Rattle.arena_rule.specs.Lookups.{adds_made}
@@ -22,6 +20,7 @@ use Rattle.arena_rule.specs.Rule.{views_split, views_joined}
 use Rattle.arena_rule.proofs.Before.{Before, Other, AreFirst, opening_blocks}
 use Rattle.arena_rule.proofs.Totals.{total_none, total_split, total_join}
 use Rattle.arena_rule.proofs.SeatsNumbers.{ended-idle}
+use Rattle.std.proofs.lemmas.Bool.{eqb-true, ne_eqb, or_cases, false_from_ne_true}
 
 -- sums that are the same at each word
 same-sums : (s : Setting) (bs : List LinkedBlock) (words : List ℕ) (views views' : List SeatView) → ((w : ℕ) → sum_by (amount_counted s bs w) views' ≡ sum_by (amount_counted s bs w) views)
@@ -60,19 +59,19 @@ opening-blank s x i h n low high =
     let a = opening-are s h in
     let c : LinkedBlock = root_block s a.empties in
     ⊎_elim
-    (λ (t : has c x ≡ true).
+    (λ (t : has_node c x ≡ true).
     let p = has-at c x t in
     let is : x + i - c.start ≡ 4 + 4 * p.0 + i = omega (arith, p.2) in
     a.each (x + i) (omega (arith, p.1, p.2, root-fits s h))
-    ∙ blank (x + i == 0) (x + i == root_at s + 1) (covers (x + i) c) (stays (x + i - c.start)) (c.start + size c) c.start (header_or_move c (x + i - c.start))
-    (other_is (x + i) 0 (λ e. omega (arith, e))) (other_is (x + i) (root_at s + 1) (λ e. omega (arith, e, p.2))) (neither (covers (x + i) c) (stays (x + i - c.start)) (ap stays is ∙ stays-not p.0 i (omega arith) high)))
+    ∙ blank (x + i == 0) (x + i == root_at s + 1) (covers (x + i) c) (is_header_or_move (x + i - c.start)) (c.start + size c) c.start (header_or_move c (x + i - c.start))
+    (ne_eqb (x + i) 0 (λ e. omega (arith, e))) (ne_eqb (x + i) (root_at s + 1) (λ e. omega (arith, e, p.2))) (neither (covers (x + i) c) (is_header_or_move (x + i - c.start)) (ap is_header_or_move is ∙ stays-not p.0 i (omega arith) high)))
     (λ (t : (x == root_at s) ≡ true).
-    let e : x ≡ root_at s = eq_of x (root_at s) t in
-    let out : covers (x + i) c ≡ false = never (covers (x + i) c) (λ u. let q = covers_of (x + i) c u in omega (arith, q.0, e)) in
+    let e : x ≡ root_at s = eqb-true x (root_at s) t in
+    let out : covers (x + i) c ≡ false = false_from_ne_true (covers (x + i) c) (λ u. let q = covers_of (x + i) c u in omega (arith, q.0, e)) in
     a.each (x + i) (omega (arith, e))
-    ∙ blank (x + i == 0) (x + i == root_at s + 1) (covers (x + i) c) (stays (x + i - c.start)) (c.start + size c) c.start (header_or_move c (x + i - c.start))
-    (other_is (x + i) 0 (λ q. omega (arith, q))) (other_is (x + i) (root_at s + 1) (λ q. omega (arith, q, e))) (ap (λ (u : Bool). u && stays (x + i - c.start)) out))
-    (either_true (has c x) (x == root_at s) n)
+    ∙ blank (x + i == 0) (x + i == root_at s + 1) (covers (x + i) c) (is_header_or_move (x + i - c.start)) (c.start + size c) c.start (header_or_move c (x + i - c.start))
+    (ne_eqb (x + i) 0 (λ q. omega (arith, q))) (ne_eqb (x + i) (root_at s + 1) (λ q. omega (arith, q, e))) (ap (λ (u : Bool). u && is_header_or_move (x + i - c.start)) out))
+    (or_cases (has_node c x) (x == root_at s) n)
   where
     blank : (p q r t : Bool) (k l m : ℕ) → p ≡ false → q ≡ false → (r && t) ≡ false → cond p k (cond q l (cond (r && t) m 0)) ≡ 0
     blank p q r t k l m e f g = λ i. cond (e i) k (cond (f i) l (cond (g i) m 0))

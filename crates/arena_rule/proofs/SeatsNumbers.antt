@@ -3,17 +3,16 @@ use Rattle.std.proofs.Common.{◌≡◌, ℕ, ◌+◌, ◌-◌, ◌<◌, ◌≤�
 use Rattle.std.specs.Prelude.{◌==◌, ◌&&◌, ◌||◌, slice_index, sum_by, Contains}
 use mathlib.Core.Option.{some}
 use lib.ListN.{get_elem?}
-use Rattle.std.proofs.lemmas.Bool.{or_right}
+use Rattle.std.proofs.lemmas.Bool.{or_right, false_from_ne_true, ne_eqb, or_cases, eqb-true}
 use Rattle.std.proofs.lemmas.Bool.Decides.{nat_tests}
 use Rattle.tree_words.specs.Settings.{Setting, IsSetting}
 use Rattle.tree_words.specs.Words.{root_at, area_at, ticket_in, next_in, leaf_in}
-use Rattle.tree_words.specs.Blocks.{LinkedBlock, has, is_node, stays, header_or_move, words_of, covers}
+use Rattle.tree_words.specs.Blocks.{LinkedBlock, has_node, is_node, is_header_or_move, header_or_move, block_size, covers}
 use Rattle.tree_words.specs.Complete.{allowed_cells}
 use Rattle.tree_words.specs.Opening.{opening_words, root_block}
-use Rattle.tree_words.proofs.BlockLaws.{not_both, other_is, covers_of, either_true, eq_of}
-use Rattle.tree_words.proofs.GameLaws.{root_node}
-use Rattle.tree_words.proofs.Openings.{root-fits}
-use Rattle.tree_words.proofs.OpeningTold.{opening-are}
+use Rattle.tree_words.proofs.Blocks.BlockLaws.{covers_of, root_node}
+use Rattle.tree_words.proofs.NewBlocks.Openings.{root-fits}
+use Rattle.tree_words.proofs.NewBlocks.OpeningTold.{opening-are}
 use Rattle.arena_rule.specs.Views.{SeatView, Walked, HasDrawnNothing, spent_view}
 use Rattle.arena_rule.specs.Fits.{CanSplit}
 use Rattle.arena_rule.specs.Afters.{kept_part, given_part, joined}
@@ -29,15 +28,15 @@ no-walk w c = let l = c.1 in omega (arith, l)
 
 -- a node of either of two lists of blocks
 pub node-first : (r : ℕ) (ks ls : List LinkedBlock) (x : ℕ) → is_node r ks x ≡ true → is_node r (ks ++ ls) x ≡ true
-node-first r [] ls x n = subst (λ (y : ℕ). is_node r ls y ≡ true) (sym (eq_of x r n)) (root_node r ls)
+node-first r [] ls x n = subst (λ (y : ℕ). is_node r ls y ≡ true) (sym (eqb-true x r n)) (root_node r ls)
 node-first r (k ∷ ks) ls x n = ⊎_elim
-    (λ (h : has k x ≡ true). ap (λ (t : Bool). t || is_node r (ks ++ ls) x) h)
-    (λ (h : is_node r ks x ≡ true). or_right (has k x) (is_node r (ks ++ ls) x) (node-first r ks ls x h))
-    (either_true (has k x) (is_node r ks x) n)
+    (λ (h : has_node k x ≡ true). ap (λ (t : Bool). t || is_node r (ks ++ ls) x) h)
+    (λ (h : is_node r ks x ≡ true). or_right (has_node k x) (is_node r (ks ++ ls) x) (node-first r ks ls x h))
+    (or_cases (has_node k x) (is_node r ks x) n)
 
 pub node-second : (r : ℕ) (ks ls : List LinkedBlock) (x : ℕ) → is_node r ls x ≡ true → is_node r (ks ++ ls) x ≡ true
 node-second r [] ls x n = n
-node-second r (k ∷ ks) ls x n = or_right (has k x) (is_node r (ks ++ ls) x) (node-second r ks ls x n)
+node-second r (k ∷ ks) ls x n = or_right (has_node k x) (is_node r (ks ++ ls) x) (node-second r ks ls x n)
 
 module _ (bs : List LinkedBlock) (words : List ℕ) (views : List SeatView) (id : ℕ) (v : SeatView) (b : Before bs words views id v) where
   shape : (j : ℕ) (u : SeatView) → get_elem? views j ≡ some u → u.shape ≡ v.shape
@@ -101,7 +100,7 @@ module _ (bs : List LinkedBlock) (words : List ℕ) (views : List SeatView) (id 
         leaves = λ w c. absurd (no-walk w c);
       }
 
-  -- a view all of whose workers have ended has no number in hand
+  -- a view all of whose workers have ended has_node no number in hand
   pub ended-idle : (j : ℕ) (u : SeatView) → get_elem? views j ≡ some u → 0 < u.width → u.ended ≡ u.width → u.ticket ≡ None
   ended-idle j u e live end = by u.ticket refl
     where
@@ -190,8 +189,8 @@ module _ (bs : List LinkedBlock) (words : List ℕ) (views : List SeatView) (id 
 opening-low : (s : Setting) (i : ℕ) → IsSetting s → 0 < i → i < root_at s → slice_index (opening_words s) i ≡ 0
 opening-low s i h p l =
     let a = opening-are s h in
-    a.each i (omega arith) ∙ by (i == 0) (i == root_at s + 1) (covers i (root_block s a.empties)) (other_is i 0 (λ e. omega (arith, e))) (other_is i (root_at s + 1) (λ e. omega (arith, e)))
-    (not_both (covers i (root_block s a.empties)) (λ t. out t)) (stays (i - area_at s)) (area_at s + words_of (length (allowed_cells s))) (header_or_move (root_block s a.empties) (i - area_at s))
+    a.each i (omega arith) ∙ by (i == 0) (i == root_at s + 1) (covers i (root_block s a.empties)) (ne_eqb i 0 (λ e. omega (arith, e))) (ne_eqb i (root_at s + 1) (λ e. omega (arith, e)))
+    (false_from_ne_true (covers i (root_block s a.empties)) (λ t. out t)) (is_header_or_move (i - area_at s)) (area_at s + block_size (length (allowed_cells s))) (header_or_move (root_block s a.empties) (i - area_at s))
   where
     out : covers i (root_block s (opening-are s h).empties) ≡ true → ⊥
     out t = let c = covers_of i (root_block s (opening-are s h).empties) t in omega (arith, c.0)
@@ -199,7 +198,7 @@ opening-low s i h p l =
     by : (p q r : Bool) → p ≡ false → q ≡ false → r ≡ false → (t : Bool) (x y : ℕ) → cond p x (cond q (area_at s) (cond (r && t) y 0)) ≡ 0
     by p q r e f g t x y = (λ i. cond (e i) x (cond (f i) (area_at s) (cond (g i && t) y 0)))
 
-opening-next : (s : Setting) → IsSetting s → next_in (opening_words s) ≡ area_at s + words_of (length (allowed_cells s))
+opening-next : (s : Setting) → IsSetting s → next_in (opening_words s) ≡ area_at s + block_size (length (allowed_cells s))
 opening-next s h = (opening-are s h).each 0 (omega arith)
 
 module _ (s : Setting) (views : List SeatView) (setting : IsSetting s) (first : AreFirst s views) where

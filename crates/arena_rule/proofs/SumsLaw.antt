@@ -8,17 +8,15 @@ use lib.ListN.{get_elem?}
 use Rattle.play_out.specs.Fills.{empties_of}
 use Rattle.tree_words.specs.Settings.{Setting}
 use Rattle.tree_words.specs.Words.{root_at, next_in, ticket_in, leaf_in}
-use Rattle.tree_words.specs.Blocks.{LinkedBlock, size, has, is_node, InOrder}
-use Rattle.tree_words.specs.Paths.{node_state, board_of}
+use Rattle.tree_words.specs.Blocks.{LinkedBlock, size, has_node, is_node, InOrder}
+use Rattle.tree_words.specs.Paths.{node_state, node_board}
 use Rattle.tree_words.specs.Complete.{allowed_cells}
 use Rattle.tree_words.specs.Sequence.{outcome_of, amount_of}
 use Rattle.tree_words.specs.declared.layout.TheConstants.{TALLY_WORD, SEEN_WORD}
 use Rattle.tree_words.specs.declared.steps.Op.{Op}
 use Rattle.tree_words.specs.declared.steps.Op.TheVariants.{Draw, Look, Claim, Write, Publish, Add, Note, Done}
-use Rattle.tree_words.proofs.BlockLaws.{eq_of, same_is, other_is, bool_is, has-at}
-use Rattle.tree_words.proofs.Down.{not_both}
-use Rattle.tree_words.proofs.GameLaws.{root_node}
-use Rattle.tree_words.proofs.NodeLaws.{stays-not}
+use Rattle.tree_words.proofs.Blocks.BlockLaws.{has-at, clash, root_node}
+use Rattle.tree_words.proofs.Blocks.NodeLaws.{stays-not}
 use Rattle.arena_rule.specs.Views.{SeatView, HeldBlock, Flight, Walked}
 use Rattle.arena_rule.specs.Adds.{CountAdd, walk_adds, amount_at}
 use Rattle.arena_rule.specs.Lookups.{adds_made, adds_in, is_held, told_below, empties_at}
@@ -35,6 +33,7 @@ use Rattle.arena_rule.proofs.Frames.{IsNoAdd, in-range, node-range, held-node, p
 use Rattle.arena_rule.proofs.Amounts.{amount-next, adds-before}
 use Rattle.arena_rule.proofs.AddLaws.{adds-root}
 use Rattle.arena_rule.proofs.SumsLinked.{HasLeaves, sums-linked, blank-word}
+use Rattle.std.proofs.lemmas.Bool.{eqb-true, eq-eqb, ne_eqb, cases_Bool}
 
 -- the walk of an Add over the linked blocks: a is its next add, and these are the adds made before
 -- and after
@@ -123,12 +122,12 @@ module _ (bs : List LinkedBlock) (words : List ℕ) (views : List SeatView) (id 
   word-more : (i j n : ℕ) → j < length words → slice_index (set words i (slice_index words i + n)) j ≡ slice_index words j + cond (i == j) n 0
   word-more i j n l = ⊎_elim
       (λ (t : (i == j) ≡ true).
-      let e : j ≡ i = sym (eq_of i j t) in
+      let e : j ≡ i = sym (eqb-true i j t) in
       ap (slice_index (set words i (slice_index words i + n))) e ∙ get_or-set_same words i (slice_index words i + n) 0 (omega (arith, e))
       ∙ omega (arith, ap (slice_index words) e, ap (λ (u : Bool). cond u n 0) t))
       (λ (t : (i == j) ≡ false).
-      get_or-set_other words i j (slice_index words i + n) 0 (λ e. not_both (i == j) (same_is i j (sym e)) t) ∙ omega (arith, ap (λ (u : Bool). cond u n 0) t))
-      (bool_is (i == j))
+      get_or-set_other words i j (slice_index words i + n) 0 (λ e. clash (i == j) (eq-eqb i j (sym e)) t) ∙ omega (arith, ap (λ (u : Bool). cond u n 0) t))
+      (cases_Bool (i == j))
 
   sums-add : (i : ℕ) (won : Bool) → FitsStep v (Add i won) → Sums v.shape bs (words_after words (Add i won)) (views_after words views id v (Add i won))
   unfolding with_word added_at
@@ -165,15 +164,15 @@ module _ (bs : List LinkedBlock) (words : List ℕ) (views : List SeatView) (id 
   }
 
   -- the tallies and seen words of the told block are 0
-  told-blank : (l c x i : ℕ) (fits : FitsPublish v l c) → has (told_below v (node_of_link l) c) x ≡ true → 2 ≤ i → i < 4 → slice_index (words_after words (Publish l c)) (x + i) ≡ 0
+  told-blank : (l c x i : ℕ) (fits : FitsPublish v l c) → has_node (told_below v (node_of_link l) c) x ≡ true → 2 ≤ i → i < 4 → slice_index (words_after words (Publish l c)) (x + i) ≡ 0
   told-blank l c x i fits h low high =
       let d : LinkedBlock = told_below v fits.node c in
       let at : node_of_link l ≡ fits.node = let q = fits.link in omega (arith, q) in
       let told : told_below v (node_of_link l) c ≡ d = ap (λ (y : ℕ). told_below v y c) at in
-      let p = has-at d x (ap (λ (z : LinkedBlock). has z x) (sym told) ∙ h) in
+      let p = has-at d x (ap (λ (z : LinkedBlock). has_node z x) (sym told) ∙ h) in
       let held = b.state.held id v b.at fits.block fits.held in
       let many : length d.cells ≡ empties_at v fits.node
-      = ap (λ (t : Bool). length (cond t (allowed_cells v.shape) (empties_of (board_of v.shape v.known fits.node)))) (other_is fits.node (root_at v.shape) fits.may.below) in
+      = ap (λ (t : Bool). length (cond t (allowed_cells v.shape) (empties_of (node_board v.shape v.known fits.node)))) (ne_eqb fits.node (root_at v.shape) fits.may.below) in
       let j : ℕ = 4 + 4 * p.0 + i in
       let is : x + i ≡ fits.block.start + j = omega (arith, p.2, fits.start) in
       let inside : j < fits.block.size = omega (arith, p.1, many, fits.may.fits) in

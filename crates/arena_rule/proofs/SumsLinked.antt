@@ -5,8 +5,7 @@ use Rattle.std.proofs.lemmas.List.Sums.{sum_by-cons}
 use Rattle.std.proofs.lemmas.List.FromFn.{get_or-map-range_with_len}
 use Rattle.tree_words.specs.Settings.{Setting}
 use Rattle.tree_words.specs.Words.{root_at, leaf_in}
-use Rattle.tree_words.specs.Blocks.{LinkedBlock, size, has, is_node, InOrder, Follows, stays, header_or_move}
-use Rattle.tree_words.proofs.BlockLaws.{either_true}
+use Rattle.tree_words.specs.Blocks.{LinkedBlock, size, has_node, is_node, InOrder, Follows, is_header_or_move, header_or_move}
 use Rattle.arena_rule.specs.Views.{SeatView, Flight, Walked}
 use Rattle.arena_rule.specs.Adds.{CountAdd, walk_adds, amount_at}
 use Rattle.arena_rule.specs.Lookups.{adds_made}
@@ -15,6 +14,7 @@ use Rattle.arena_rule.specs.Parts.{Each, Sums, amount_recorded, amount_counted}
 use Rattle.arena_rule.proofs.Totals.{total_same, total_none}
 use Rattle.arena_rule.proofs.Amounts.{amount-parts, wins-less, adds-take}
 use Rattle.arena_rule.proofs.AddLaws.{amount-new, adds-linked}
+use Rattle.std.proofs.lemmas.Bool.{or_cases}
 
 -- sums over walks
 pub walks-same : (f g : Walked → ℕ) (walks : List Walked) → ((q : Walked) → Contains walks q → f q ≡ g q) → sum_by f walks ≡ sum_by g walks
@@ -39,7 +39,7 @@ made-same s ks ls None adds h = refl
 made-same s ks ls (Some k) None h = refl
 made-same s ks ls (Some k) (Some f) h = ap (take f.made) (h k f refl refl)
 
--- each walk of the view, recorded or in flight, has a node of the tree as its leaf
+-- each walk of the view, recorded or in flight, has_node a node of the tree as its leaf
 pub record HasLeaves (s : Setting) (bs : List LinkedBlock) (u : SeatView) : Type 0 where
   pub walks : (q : Walked) → Contains u.walks q → is_node (root_at s) bs (leaf_in q.value) ≡ true
   pub flight : (k : ℕ) (f : Flight) → u.ticket ≡ Some k → u.adds ≡ Some f → is_node (root_at s) bs f.leaf ≡ true
@@ -56,7 +56,7 @@ module _ (s : Setting) (bs : List LinkedBlock) (order : InOrder (root_at s) bs) 
       λ i. walks i + amount_at w (made i)
 
   -- and the words of its nodes get nothing
-  counted-new : (x i : ℕ) (u : SeatView) → has c x ≡ true → i < 4 → amount_counted s bs (x + i) u ≡ 0
+  counted-new : (x i : ℕ) (u : SeatView) → has_node c x ≡ true → i < 4 → amount_counted s bs (x + i) u ≡ 0
   counted-new x i u h l =
       omega (
         arith,
@@ -80,25 +80,25 @@ module _ (s : Setting) (bs : List LinkedBlock) (order : InOrder (root_at s) bs) 
 
   -- the sums over the blocks with a new one, in whose nodes nothing is counted
   pub sums-linked : (words : List ℕ) (views : List SeatView) → Sums s bs words views → Each (HasLeaves s bs) views
-      → ((x i : ℕ) → has c x ≡ true → 2 ≤ i → i < 4 → slice_index words (x + i) ≡ 0) → Sums s (c ∷ bs) words views
+      → ((x i : ℕ) → has_node c x ≡ true → 2 ≤ i → i < 4 → slice_index words (x + i) ≡ 0) → Sums s (c ∷ bs) words views
   sums-linked words views old leaves none =
       let same : (w : ℕ) → sum_by (amount_counted s (c ∷ bs) w) views ≡ sum_by (amount_counted s bs w) views
       = λ w. total_same (amount_counted s (c ∷ bs) w) (amount_counted s bs w) views (λ j u e. counted-linked w u (leaves j u e)) in
-      let new : (x i : ℕ) → has c x ≡ true → i < 4 → sum_by (amount_counted s bs (x + i)) views ≡ 0
+      let new : (x i : ℕ) → has_node c x ≡ true → i < 4 → sum_by (amount_counted s bs (x + i)) views ≡ 0
       = λ x i h l. total_none (amount_counted s bs (x + i)) views (λ j u e. counted-new x i u h l) in
       record {
         tallies = λ x n. ⊎_elim
-            (λ (h : has c x ≡ true). none x 2 h (omega arith) (omega arith) ∙ sym (same (x + 2) ∙ new x 2 h (omega arith)))
+            (λ (h : has_node c x ≡ true). none x 2 h (omega arith) (omega arith) ∙ sym (same (x + 2) ∙ new x 2 h (omega arith)))
             (λ (m : is_node (root_at s) bs x ≡ true). old.tallies x m ∙ sym (same (x + 2)))
-            (either_true (has c x) (is_node (root_at s) bs x) n);
+            (or_cases (has_node c x) (is_node (root_at s) bs x) n);
         seen = λ x n ne. ⊎_elim
-            (λ (h : has c x ≡ true). none x 3 h (omega arith) (omega arith) ∙ sym (same (x + 3) ∙ new x 3 h (omega arith)))
+            (λ (h : has_node c x ≡ true). none x 3 h (omega arith) (omega arith) ∙ sym (same (x + 3) ∙ new x 3 h (omega arith)))
             (λ (m : is_node (root_at s) bs x ≡ true). old.seen x m ne ∙ sym (same (x + 3)))
-            (either_true (has c x) (is_node (root_at s) bs x) n);
+            (or_cases (has_node c x) (is_node (root_at s) bs x) n);
         root = old.root;
       }
 
 -- a word of a block that is not linked yet, and neither header nor move, is 0
-pub blank-word : (c : LinkedBlock) (j : ℕ) → j < size c → stays j ≡ false → slice_index (block_words c) j ≡ 0
+pub blank-word : (c : LinkedBlock) (j : ℕ) → j < size c → is_header_or_move j ≡ false → slice_index (block_words c) j ≡ 0
 unfolding block_words
-blank-word c j l e = get_or-map-range_with_len (λ i. cond (stays i) (header_or_move c i) 0) 0 (size c) j j 0 l (omega arith) ∙ ap (λ (t : Bool). cond t (header_or_move c j) 0) e
+blank-word c j l e = get_or-map-range_with_len (λ i. cond (is_header_or_move i) (header_or_move c i) 0) 0 (size c) j j 0 l (omega arith) ∙ ap (λ (t : Bool). cond t (header_or_move c j) 0) e

@@ -8,14 +8,13 @@ use native.Mathlib.Decide.{ℕ_discrete}
 use lib.ListN.{get_elem?}
 use Rattle.tree_words.specs.Settings.{Setting}
 use Rattle.tree_words.specs.Words.{root_at, ticket_in, record_in, leaf_in, winner_in}
-use Rattle.tree_words.specs.Blocks.{LinkedBlock, one_if, has, is_node, InOrder, Follows}
+use Rattle.tree_words.specs.Blocks.{LinkedBlock, one_if, has_node, is_node, InOrder, Follows}
 use Rattle.tree_words.specs.Paths.{NodeState, node_state}
 use Rattle.tree_words.specs.Sequence.{outcome_of}
 use Rattle.tree_words.specs.declared.steps.Op.{Op}
 use Rattle.tree_words.specs.declared.steps.Op.TheVariants.{Draw, Look, Claim, Write, Publish, Add, Note, Done}
-use Rattle.tree_words.proofs.BlockLaws.{same_is, other_is}
-use Rattle.tree_words.proofs.GameLaws.{spot-same}
-use Rattle.tree_words.proofs.Within.{within-node, within-state}
+use Rattle.tree_words.proofs.Blocks.GameLaws.{spot-same}
+use Rattle.tree_words.proofs.Blocks.Within.{within-node, within-state}
 use Rattle.arena_rule.specs.Views.{SeatView, Walked}
 use Rattle.arena_rule.specs.Fits.{FitsStep, FitsDraw, FitsNote}
 use Rattle.arena_rule.specs.Lookups.{told_below}
@@ -27,11 +26,12 @@ use Rattle.arena_rule.proofs.Totals.{total_set, total_at, total_two, total_none,
 use Rattle.arena_rule.proofs.Changes.{drew_cases, drew_same, claimed_same}
 use Rattle.arena_rule.proofs.Numbers.{times_walked, value_walked, walked-cons, value-cons, value-none, contains-cons, leaf-recorded, winner-recorded, due, due_one}
 use Rattle.arena_rule.proofs.Reach.{IsHigh, low-same}
+use Rattle.std.proofs.lemmas.Bool.{eq-eqb, ne_eqb}
 
 -- a record stays right where a block is linked
 pub right-more : (s : Setting) (c : LinkedBlock) (bs : List LinkedBlock) (w : Walked) → Follows (root_at s) c bs → IsRight s bs w → IsRight s (c ∷ bs) w
 right-more s c bs w f r = record {
-  node = second (has c (leaf_in w.value)) (is_node (root_at s) bs (leaf_in w.value)) r.node;
+  node = second (has_node c (leaf_in w.value)) (is_node (root_at s) bs (leaf_in w.value)) r.node;
   below = r.below;
   result = r.result ∙ sym (ap (λ (p : NodeState). (outcome_of s w.number p).winner) (spot-same s c bs (leaf_in w.value) f r.node));
 }
@@ -47,7 +47,7 @@ past-due : (k x n : ℕ) → n ≤ x → due k (x + 1) n ≡ due k x n
 past-due k x n l = grind (arith, nat_tests)
 
 module _ (bs : List LinkedBlock) (words : List ℕ) (views : List SeatView) (id : ℕ) (v : SeatView) (b : Before bs words views id v) where
-  -- where the view has the same numbers, and the words below the root stay
+  -- where the view has_node the same numbers, and the words below the root stay
   pub tickets-frame : (u : SeatView) (words' : List ℕ) → u.ticket ≡ v.ticket → u.walks ≡ v.walks → ticket_in words' ≡ ticket_in words
       → ((k : ℕ) → k < v.shape.knobs.playouts → record_in words' k ≡ record_in words k) → Tickets v.shape bs words' (set views id u)
   tickets-frame u words' t w n r =
@@ -111,7 +111,7 @@ module _ (bs : List LinkedBlock) (words : List ℕ) (views : List SeatView) (id 
   -- the number in hand is in no walk
   pub hand-alone : (k : ℕ) → v.ticket ≡ Some k → (j : ℕ) (u : SeatView) → get_elem? views j ≡ some u → times_walked k u.walks ≡ 0
   hand-alone k t j u e =
-      let mine : in_hand k v.ticket ≡ 1 = ap (in_hand k) t ∙ ap one_if (same_is k k refl) in
+      let mine : in_hand k v.ticket ≡ 1 = ap (in_hand k) t ∙ ap one_if (eq-eqb k k refl) in
       let once = b.state.tickets.once k in
       let one = due_one k (ticket_in words) v.shape.knobs.playouts in
       dite (ℕ_discrete j id)
@@ -149,11 +149,11 @@ module _ (bs : List LinkedBlock) (words : List ℕ) (views : List SeatView) (id 
         records = λ j l. dite (ℕ_discrete j k)
             (λ (e : j ≡ k).
             ap (record_in ws) e ∙ get_or-set_same words (2 + k) value 0 long
-            ∙ omega (arith, total_set (value_noted k) views id v u b.at, none, value-cons k w v.walks, ap (λ (t : Bool). cond t value 0) (same_is k k refl))
+            ∙ omega (arith, total_set (value_noted k) views id v u b.at, none, value-cons k w v.walks, ap (λ (t : Bool). cond t value 0) (eq-eqb k k refl))
             ∙ ap (λ (z : ℕ). sum_by (value_noted z) (set views id u)) (sym e))
             (λ (e : j ≢ k).
             get_or-set_other words (2 + k) (2 + j) value 0 (λ q. e (omega (arith, q)))
-            ∙ omega (arith, old.records j l, total_set (value_noted j) views id v u b.at, value-cons j w v.walks, ap (λ (t : Bool). cond t value 0) (other_is k j (λ q. e (sym q)))));
+            ∙ omega (arith, old.records j l, total_set (value_noted j) views id v u b.at, value-cons j w v.walks, ap (λ (t : Bool). cond t value 0) (ne_eqb k j (λ q. e (sym q)))));
         right = each-set (λ y. (q : Walked) → Contains y.walks q → IsRight v.shape bs q) views id u (λ j y _ e. old.right j y e)
             (λ q c. ⊎_elim (λ (e : w ≡ q). subst (IsRight v.shape bs) e (new fits)) (λ (d : Contains v.walks q). old.right id v b.at q d) (contains-cons w q v.walks c));
       }

@@ -3,18 +3,18 @@ use Rattle.std.proofs.Common.{◌≡◌, ℕ, Bool, true, false, cond, List, [],
 use Rattle.std.specs.Prelude.{◌==◌}
 use Rattle.tree_words.specs.Settings.{Setting}
 use Rattle.tree_words.specs.Words.{root_at}
-use Rattle.tree_words.specs.Blocks.{LinkedBlock, InOrder, has, up, is_node, place, cell_at}
+use Rattle.tree_words.specs.Blocks.{LinkedBlock, InOrder, has_node, up, is_node, place, cell_at}
 use Rattle.tree_words.specs.Complete.{allowed_cells, set_of}
 use Rattle.tree_words.specs.Paths.{NodeState, node_state, root_state, state_after}
 use Rattle.play_out.specs.Fills.{empties_of}
-use Rattle.tree_words.proofs.BlockLaws.{bool_is, eq_of, has-at, not_both, either_true}
+use Rattle.tree_words.proofs.Blocks.BlockLaws.{has-at, clash}
 use Rattle.arena_rule.specs.Views.{SeatView}
 use Rattle.arena_rule.specs.Fits.{CanSplit, CanJoin}
 use Rattle.arena_rule.specs.Afters.{kept_part, given_part, joined}
 use Rattle.arena_rule.specs.IsView.{AreTold, IsJoined, IsView}
-use Rattle.tree_words.proofs.Down.{not_both as truth}
 use Rattle.arena_rule.proofs.Options.{none-some, false-true}
 use Rattle.arena_rule.proofs.SeatsNumbers.{node-first}
+use Rattle.std.proofs.lemmas.Bool.{cases_Bool, eqb-true, false_from_ne_true, or_cases}
 
 module _ (v : SeatView) (iv : IsView v) where
   -- a split keeps both views in order
@@ -45,25 +45,25 @@ module _ (v : SeatView) (iv : IsView v) where
 
 -- what is gathered at a node of some known blocks is gathered there over more blocks behind them
 module _ (s : Setting) (ls : List LinkedBlock) (told : AreTold s ls) where
-  -- no block of told ones has the root
+  -- no block of told ones has_node the root
   root-out : (ls : List LinkedBlock) → AreTold s ls → {A : Type 0} (root : A) (step : LinkedBlock → ℕ → A → A) → up root step ls (root_at s) ≡ root
   root-out [] t root step = refl
   root-out (b ∷ ls) t root step =
-      let out : has b (root_at s) ≡ false = not_both (has b (root_at s)) (λ h. let q = has-at b (root_at s) h in let low = t.0.inside.0 in omega (arith, q.2, low)) in
+      let out : has_node b (root_at s) ≡ false = false_from_ne_true (has_node b (root_at s)) (λ h. let q = has-at b (root_at s) h in let low = t.0.inside.0 in omega (arith, q.2, low)) in
       ap (λ (c : Bool). cond c (step b (root_at s) (up root step ls b.parent)) (up root step ls (root_at s))) out ∙ root-out ls t.1 root step
 
   behind-up : {A : Type 0} (root : A) (step : LinkedBlock → ℕ → A → A) (ks : List LinkedBlock) (x : ℕ) → AreTold s ks → is_node (root_at s) ks x ≡ true → up root step (ks ++ ls) x ≡ up root step ks x
-  behind-up root step [] x t n = ap (up root step ls) (eq_of x (root_at s) n) ∙ root-out ls told root step
+  behind-up root step [] x t n = ap (up root step ls) (eqb-true x (root_at s) n) ∙ root-out ls told root step
   behind-up root step (b ∷ ks) x t n = ⊎_elim
-      (λ (h : has b x ≡ true).
+      (λ (h : has_node b x ≡ true).
       ap (λ (c : Bool). cond c (step b x (up root step (ks ++ ls) b.parent)) (up root step (ks ++ ls) x)) h
       ∙ ap (step b x) (behind-up root step ks b.parent t.1 t.0.parent)
       ∙ sym (ap (λ (c : Bool). cond c (step b x (up root step ks b.parent)) (up root step ks x)) h))
-      (λ (h : has b x ≡ false).
+      (λ (h : has_node b x ≡ false).
       ap (λ (c : Bool). cond c (step b x (up root step (ks ++ ls) b.parent)) (up root step (ks ++ ls) x)) h
-      ∙ behind-up root step ks x t.1 (⊎_elim (λ (u : has b x ≡ true). absurd (truth (has b x) u h)) (λ (u : is_node (root_at s) ks x ≡ true). u) (either_true (has b x) (is_node (root_at s) ks x) n))
+      ∙ behind-up root step ks x t.1 (⊎_elim (λ (u : has_node b x ≡ true). absurd (clash (has_node b x) u h)) (λ (u : is_node (root_at s) ks x ≡ true). u) (or_cases (has_node b x) (is_node (root_at s) ks x) n))
       ∙ sym (ap (λ (c : Bool). cond c (step b x (up root step ks b.parent)) (up root step ks x)) h))
-      (bool_is (has b x))
+      (cases_Bool (has_node b x))
 
   told-both : (ks : List LinkedBlock) → AreTold s ks → AreTold s (ks ++ ls)
   told-both [] t = told

@@ -4,10 +4,10 @@ use Rattle.std.specs.Prelude.{◌==◌, ◌&&◌, nat_le, nat_lt, option_map}
 use Rattle.std.proofs.lemmas.Bool.Decides.{nat_tests}
 use Rattle.tree_words.specs.Settings.{Setting, IsSetting}
 use Rattle.tree_words.specs.Words.{root_at, area_at, end_of}
-use Rattle.tree_words.specs.Blocks.{LinkedBlock, In, InOrder, has, is_node, size, covers, cover, one_if}
+use Rattle.tree_words.specs.Blocks.{LinkedBlock, In, InOrder, has_node, is_node, size, covers, cover, one_if}
 use Rattle.tree_words.specs.declared.steps.Op.{Op}
 use Rattle.tree_words.specs.declared.steps.Op.TheVariants.{Draw, Look, Claim, Write, Publish, Add, Note, Done}
-use Rattle.tree_words.proofs.BlockLaws.{eq_of, le_of, true_both, covers_of, cover-cons, has-at, not_both, same_is, either_true}
+use Rattle.tree_words.proofs.Blocks.BlockLaws.{covers_of, cover-cons, has-at, clash}
 use Rattle.arena_rule.specs.Views.{SeatView, HeldBlock, Flight}
 use Rattle.arena_rule.specs.Lookups.{is_known, known_link, told_below, is_held}
 use Rattle.arena_rule.specs.Fits.{FitsStep, FitsDraw, FitsClaim, FitsWrite, FitsPublish, FitsAdd, FitsNote, IsNext}
@@ -15,18 +15,18 @@ use Rattle.arena_rule.specs.Afters.{after, drew, looked, claimed_at, wrote, publ
 use Rattle.arena_rule.specs.Answers.{MayAnswer, AnswersLook, AnswersClaim, AnswersPublish, AnswersLink, MayLieBelow}
 use Rattle.arena_rule.specs.IsView.{AreTold, IsJoined, IsView}
 use Rattle.arena_rule.proofs.Changes.{drew_cases, claimed_cases, drew_same, claimed_same}
-use Rattle.tree_words.proofs.Down.{not_both as truth}
 use Rattle.arena_rule.proofs.Options.{none-some, some-eq, false-true}
 use Rattle.arena_rule.proofs.Apart.{told-size}
 use Rattle.arena_rule.proofs.KnownMore.{Grows, known_cases, known-more}
+use Rattle.std.proofs.lemmas.Bool.{eqb-true, leb-true, and_parts, false_from_ne_true, eq-eqb, or_cases}
 
 -- no node begins at 0
 zero-no-node : (n : ℕ) (ks : List LinkedBlock) → is_node (n + 2) ks 0 ≡ true → ⊥
-zero-no-node n [] e = let q = eq_of 0 (n + 2) e in omega (arith, q)
+zero-no-node n [] e = let q = eqb-true 0 (n + 2) e in omega (arith, q)
 zero-no-node n (b ∷ ks) e = ⊎_elim
-    (λ (h : has b 0 ≡ true). let q = has-at b 0 h in omega (arith, q.2))
+    (λ (h : has_node b 0 ≡ true). let q = has-at b 0 h in omega (arith, q.2))
     (λ (h : is_node (n + 2) ks 0 ≡ true). zero-no-node n ks h)
-    (either_true (has b 0) (is_node (n + 2) ks 0) e)
+    (or_cases (has_node b 0) (is_node (n + 2) ks 0) e)
 
 -- the block below x that begins at b may be known too
 abbrev MayBeKnown : SeatView → ℕ → ℕ → Type 0
@@ -49,7 +49,7 @@ module _ (v : SeatView) (iv : IsView v) where
       (λ (e : known_after v x b ≡ v.known). subst (KnownStays v) (sym e) (record { told = iv.known; order = iv.order }))
       (known_cases v x b)
 
-  -- a word that no known block has, and that the new one has not
+  -- a word that no known block has_node, and that the new one has_node not
   still-apart : (x b i : ℕ) → (is_known v x ≡ true → known_link v x ≡ 0 → b ≢ 0 → covers i (told_below v x b) ≡ false) → cover i v.known ≡ 0 → cover i (known_after v x b) ≡ 0
   still-apart x b i out z = ⊎_elim
       (λ (g : Grows v x b). ap (cover i) g.is ∙ omega (arith, z, cover-cons i (told_below v x b) v.known, ap one_if (out g.known g.vacant g.some)))
@@ -92,7 +92,7 @@ module _ (v : SeatView) (iv : IsView v) where
       stays (after v (Look i) n) refl refl refl
       (known-stays x n (λ k z ne. link-known x n (link-may x n (link k) z ne)))
       iv.ticket iv.held
-      (λ j h. still-apart x n j (λ k z ne. not_both (covers j (told_below v x n)) (λ c. truth (is_held v.held j) h ((link-may x n (link k) z ne).held j c))) (iv.apart j h))
+      (λ j h. still-apart x n j (λ k z ne. false_from_ne_true (covers j (told_below v x n)) (λ c. clash (is_held v.held j) h ((link-may x n (link k) z ne).held j c))) (iv.apart j h))
       (λ f e. known-more v x n f.leaf (iv.leaf f e))
     where
       at : (i : ℕ) → is_known v (i - 1) ≡ true → i ≡ (i - 1) + 1
@@ -105,7 +105,7 @@ module _ (v : SeatView) (iv : IsView v) where
       let x : ℕ = fits.node in
       let at : node_of_link l ≡ x = omega (arith, fits.link) in
       let link : AnswersLink v x n = a x fits.may.known fits.link in
-      let may : (t : Bool) → (n == 0) ≡ t → MayBeKnown v x (cond t c n) = elim [ true ↦ λ e. own | false ↦ λ e. link-known x n (link-may x n link fits.may.vacant (λ z. truth (n == 0) (same_is n 0 z) e)) ] in
+      let may : (t : Bool) → (n == 0) ≡ t → MayBeKnown v x (cond t c n) = elim [ true ↦ λ e. own | false ↦ λ e. link-known x n (link-may x n link fits.may.vacant (λ z. clash (n == 0) (eq-eqb n 0 z) e)) ] in
       let b : ℕ = cond (n == 0) c n in
       stays (after v (Publish l c) n) refl refl refl
       (subst (λ (y : ℕ). KnownStays v (known_after v y b)) (sym at) (known-stays x b (λ k z ne. may (n == 0) refl)))
@@ -178,7 +178,7 @@ module _ (v : SeatView) (iv : IsView v) where
       (λ i h. ⊎_elim
       (λ (c : (x + s ≤ end_of v.shape) × (u.held ≡ Some block)).
       let in_block : (nat_le x i && nat_lt i (x + s)) ≡ true = sym (ap (λ (o : Option HeldBlock). is_held o i) c.1) ∙ h in
-      ap (cover i) kn ∙ behind i (le_of x i (true_both (nat_le x i) (nat_lt i (x + s)) in_block).0) v.known a.behind)
+      ap (cover i) kn ∙ behind i (leb-true x i (and_parts (nat_le x i) (nat_lt i (x + s)) in_block).0) v.known a.behind)
       (λ (c : u.held ≡ None). absurd (false-true (sym (ap (λ (o : Option HeldBlock). is_held o i) c) ∙ h))) cases)
       (λ f e. ap (λ (ks : List LinkedBlock). is_node (root_at v.shape) ks f.leaf) kn ∙ iv.leaf f (sym ad ∙ e))
     where
@@ -188,7 +188,7 @@ module _ (v : SeatView) (iv : IsView v) where
           omega (
             arith,
             cover-cons i b ks,
-            ap one_if (not_both (covers i b) (λ t. let c = covers_of i b t in let e = h b (inl refl) in omega (arith, c.1, e, l))),
+            ap one_if (false_from_ne_true (covers i b) (λ t. let c = covers_of i b t in let e = h b (inl refl) in omega (arith, c.1, e, l))),
             behind i l ks (λ c n. h c (inr n)),
           )
 

@@ -8,7 +8,7 @@ use Rattle.tree_words.specs.Blocks.{LinkedBlock}
 use Rattle.tree_words.specs.Paths.{NodeState, node_state}
 use Rattle.tree_words.specs.declared.steps.Op.{Op}
 use Rattle.tree_words.specs.declared.steps.Op.TheVariants.{Draw, Look, Claim, Write, Publish, Add, Note, Done}
-use Rattle.tree_words.proofs.Asking.{size-most, spot-size}
+use Rattle.tree_words.proofs.Walks.Asking.{size-most, spot-size}
 use Rattle.arena_rule.specs.Views.{SeatView}
 use Rattle.arena_rule.specs.Fits.{FitsStep, FitsDraw, FitsClaim}
 use Rattle.arena_rule.specs.Afters.{word_of, answer_of, after, drew, claimed_at, with_word, looked, wrote, published, added_at, noted}

@@ -5,11 +5,12 @@ use mathlib.Core.Option.{some}
 use lib.ListN.{get_elem?}
 use Rattle.tree_words.specs.Settings.{Setting}
 use Rattle.tree_words.specs.Words.{root_at}
-use Rattle.tree_words.specs.Blocks.{LinkedBlock, has, In, InOrder, is_node}
+use Rattle.tree_words.specs.Blocks.{LinkedBlock, has_node, In, InOrder, is_node}
 use Rattle.tree_words.specs.Paths.{NodeState, node_state}
-use Rattle.tree_words.specs.Sequence.{Outcome, outcome_of}
+use Rattle.play_out.specs.declared.playouts.Ending.{Ending}
+use Rattle.tree_words.specs.Sequence.{outcome_of}
 use Rattle.tree_words.specs.Told.{Knows}
-use Rattle.tree_words.proofs.Within.{within-node, within-state, within-up}
+use Rattle.tree_words.proofs.Blocks.Within.{within-node, within-state, within-up}
 use Rattle.arena_rule.specs.Views.{SeatView}
 use Rattle.arena_rule.specs.Adds.{root_adds, node_adds, Gathered, adds_up, walk_adds}
 use Rattle.arena_rule.proofs.Before.{Before}
@@ -18,7 +19,7 @@ use Rattle.arena_rule.proofs.Before.{Before}
 pub within-adds : (s : Setting) (bs ks : List LinkedBlock) (k leaf : ℕ) → InOrder (root_at s) bs → Knows (root_at s) bs ks → is_node (root_at s) ks leaf ≡ true → walk_adds s ks k leaf ≡ walk_adds s bs k leaf
 unfolding walk_adds
 within-adds s bs ks k leaf g kn n =
-    let o : Outcome = outcome_of s k (node_state s bs leaf) in
+    let o : Ending = outcome_of s k (node_state s bs leaf) in
     ap (λ (p : NodeState). (adds_up s (outcome_of s k p) ks leaf).adds) (within-state s bs ks leaf g kn n)
     ∙ ap (λ (a : Gathered). a.adds) (within-up (root_adds s o) (node_adds o) (root_at s) bs ks leaf g kn n)
 
@@ -29,7 +30,7 @@ known-linked r bs (d ∷ ks) c k i = ⊎_elim (λ (e : c ≡ d). subst (λ (z : 
 
 -- a node stays one where one more block is known
 pub node-more : (r : ℕ) (d : LinkedBlock) (ks : List LinkedBlock) (x : ℕ) → is_node r ks x ≡ true → is_node r (d ∷ ks) x ≡ true
-node-more r d ks x n = second (has d x) n
+node-more r d ks x n = second (has_node d x) n
   where
     second : (a : Bool) {b : Bool} → b ≡ true → (a || b) ≡ true
     second true e = refl

@@ -2,7 +2,7 @@
 -- it together.
 use Rattle.std.specs.Prelude.{◌≡◌, ◌≢◌, ◌⊎◌, ℕ, ◌+◌, ◌*◌, ◌<◌, ◌≤◌, true, false, List, Contains, Some, slice_index}
 use Rattle.tree_words.specs.Words.{root_at, area_at, end_of, visits_in, wins_in}
-use Rattle.tree_words.specs.Blocks.{LinkedBlock, In, size, covers, cover, stays, header_or_move}
+use Rattle.tree_words.specs.Blocks.{LinkedBlock, In, size, covers, cover, is_header_or_move, header_or_move}
 use Rattle.tree_words.specs.declared.layout.TheConstants.{LINK_WORD, TALLY_WORD, SEEN_WORD, MOST_BLOCK_WORDS}
 use Rattle.tree_words.specs.declared.settings.TheConstants.{MOST_WORKERS}
 use Rattle.tree_words.specs.declared.steps.Op.{Op}
@@ -29,7 +29,7 @@ pub record MayLieBelow (v : SeatView) (x b : ℕ) : Type 0 where
   pub held : (i : ℕ) → covers i (told_below v x b) ≡ true → is_held v.held i ≡ false
 
 -- the link of the known node x is found to be b: the root's names the first block of the area; a
--- known link stays; another is 0 or the first word of a block that may lie below the node
+-- known link is_header_or_move; another is 0 or the first word of a block that may lie below the node
 pub record AnswersLink (v : SeatView) (x b : ℕ) : Type 0 where
   pub root : x ≡ root_at v.shape → b ≡ area_at v.shape
   pub known : 0 < known_link v x → b ≡ known_link v x
@@ -52,7 +52,7 @@ pub record AnswersSeen (v : SeatView) (n : ℕ) : Type 0 where
 -- of a known node it answers as said. At another word it may answer any value.
 pub record AnswersLook (v : SeatView) (i n : ℕ) : Type 0 where
   pub link : (x : ℕ) → is_known v x ≡ true → i ≡ x + LINK_WORD → AnswersLink v x n
-  pub block : (b : LinkedBlock) (j : ℕ) → In b v.known → j < size b → stays j ≡ true
+  pub block : (b : LinkedBlock) (j : ℕ) → In b v.known → j < size b → is_header_or_move j ≡ true
       → i ≡ b.start + j → n ≡ header_or_move b j
   pub tally : (x : ℕ) → is_known v x ≡ true → i ≡ x + TALLY_WORD → AnswersTally v x n
   pub seen : (x : ℕ) → is_known v x ≡ true → i ≡ x + SEEN_WORD → AnswersSeen v n

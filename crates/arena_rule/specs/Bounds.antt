@@ -3,15 +3,15 @@ use Rattle.std.specs.Prelude.{◌≡◌, ◌⊎◌, ℕ, ◌+◌, ◌*◌, ◌�
 use Rattle.hex_board.specs.Positions.{is_empty_at}
 use Rattle.tree_words.specs.Settings.{Setting}
 use Rattle.tree_words.specs.Words.{root_at, end_of, next_in, tally_in, visits_in}
-use Rattle.tree_words.specs.Blocks.{LinkedBlock, In, has, is_node, link_of, size}
-use Rattle.tree_words.specs.Paths.{board_of}
+use Rattle.tree_words.specs.Blocks.{LinkedBlock, In, has_node, is_node, link_of, size}
+use Rattle.tree_words.specs.Paths.{node_board}
 use Rattle.tree_words.specs.Growth.{root_end}
 use Rattle.tree_words.specs.declared.layout.TheConstants.{TALLY_WORD, SEEN_WORD, MOST_BLOCK_WORDS}
 use Rattle.arena_rule.specs.Views.{SeatView, HeldBlock}
 use Rattle.arena_rule.specs.Lookups.{is_known, load_of, recorded_through, walks_through, walks_at}
 use Rattle.arena_rule.specs.Parts.{Each, full_width}
 
--- what a view has loaded: tallies and seen words of known nodes; a tally's visits are now at least
+-- what a view has_node loaded: tallies and seen words of known nodes; a tally's visits are now at least
 -- those loaded, and these are at least the view's recorded walks through the node
 pub record HasLoaded (words : List ℕ) (v : SeatView) : Type 0 where
   pub counts : (w n : ℕ) → load_of v.loads w ≡ Some n
@@ -25,17 +25,17 @@ pub record HasLoaded (words : List ℕ) (v : SeatView) : Type 0 where
 abbrev pub AreLoads : List ℕ → List SeatView → Type 0
 AreLoads words views = Each (HasLoaded words) views
 
--- FirstVisits: in a block that has a child without visits, the walks of a view that go through a
+-- FirstVisits: in a block that has_node a child without visits, the walks of a view that go through a
 -- child are at most its width
 abbrev pub FirstVisits : List LinkedBlock → List ℕ → List SeatView → Type 0
-FirstVisits bs words views = (b : LinkedBlock) (x y : ℕ) → In b bs → has b x ≡ true → has b y ≡ true
+FirstVisits bs words views = (b : LinkedBlock) (x y : ℕ) → In b bs → has_node b x ≡ true → has_node b y ≡ true
     → (tally_in words y).visits ≡ 0 → Each (λ v. walks_through v x ≤ v.width) views
 
 -- LeafBound: while NEXT is at most the area's end, the walks of a view whose leaf is a given node
 -- with an empty cell on its board are at most its width times T
 abbrev pub LeafBound : Setting → List LinkedBlock → List ℕ → List SeatView → Type 0
 LeafBound s bs words views = next_in words ≤ end_of s → (x c : ℕ) → is_node (root_at s) bs x ≡ true
-    → is_empty_at (board_of s bs x) c ≡ true
+    → is_empty_at (node_board s bs x) c ≡ true
     → Each (λ v. walks_at v x ≤ v.width * s.knobs.expand) views
 
 -- the words of the linked blocks whose links the view knows, but the root's, each block counted

@@ -2,9 +2,9 @@
 use Rattle.std.specs.Prelude.{◌≡◌, ◌≢◌, ◌⊎◌, ℕ, ◌+◌, ◌<◌, ◌≤◌, if◌then◌else◌, true, false, List, length, map, Option, Some, None, slice_get}
 use Rattle.std.specs.List.{range_with_len}
 use Rattle.tree_words.specs.Words.{root_at, end_of}
-use Rattle.tree_words.specs.Blocks.{LinkedBlock, In, has, child, size, words_of, stays, header_or_move}
+use Rattle.tree_words.specs.Blocks.{LinkedBlock, In, has_node, child, size, block_size, is_header_or_move, header_or_move}
 use Rattle.tree_words.specs.Paths.{node_state, is_on}
-use Rattle.tree_words.specs.Sequence.{game_of, outcome_of}
+use Rattle.tree_words.specs.Sequence.{search_game, outcome_of}
 use Rattle.tree_words.specs.Descents.{pick}
 use Rattle.tree_words.specs.declared.layout.TheConstants.{LINK_WORD, TALLY_WORD, SEEN_WORD}
 use Rattle.tree_words.specs.declared.steps.Op.{Op}
@@ -13,7 +13,7 @@ use Rattle.arena_rule.specs.Views.{SeatView, HeldBlock, Flight, HasDrawnNothing,
 use Rattle.arena_rule.specs.Adds.{CountAdd, walk_adds}
 use Rattle.arena_rule.specs.Lookups.{is_known, known_link, told_below, empties_at, IsLoaded, tally_loaded, seen_loaded, record_word}
 
--- Draw: the view stands for one worker, who has not ended, has no number in hand and holds nothing
+-- Draw: the view stands for one worker, who has_node not ended, has_node no number in hand and holds nothing
 pub record FitsDraw (v : SeatView) : Type 0 where
   pub width : v.width ≡ 1
   pub ended : v.ended ≡ 0
@@ -34,7 +34,7 @@ pub record MayGetBlock (v : SeatView) (x size : ℕ) : Type 0 where
   pub loaded : IsLoaded v (x + TALLY_WORD)
   pub visits : v.shape.knobs.expand ≤ (tally_loaded v x).visits
   pub some : 0 < empties_at v x
-  pub fits : size ≡ words_of (empties_at v x)
+  pub fits : size ≡ block_size (empties_at v x)
 
 -- Claim: a number is in hand, no adds are begun, nothing is held, no claim went past the area's
 -- end, and some known node may get a block of that size
@@ -57,7 +57,7 @@ pub record FitsWrite (v : SeatView) (i : ℕ) : Type 0 where
 -- the words of a block that is not linked yet: its header and moves, with links, tallies and seen
 -- words 0
 unfoldable pub block_words : LinkedBlock → List ℕ
-block_words b = map (λ i. if stays i then header_or_move b i else 0) (range_with_len 0 (size b))
+block_words b = map (λ i. if is_header_or_move i then header_or_move b i else 0) (range_with_len 0 (size b))
 
 -- Publish: the held block begins at b, and l is the link of a known node before b that may get a
 -- block of its size; what was written is the told block of that node, whole
@@ -81,15 +81,15 @@ pub record IsChosen (v : SeatView) (b : LinkedBlock) (y : ℕ) : Type 0 where
   pub parent : IsLoaded v (b.parent + TALLY_WORD)
   pub tallies : (i : ℕ) → i < length b.cells → IsLoaded v (child b i + TALLY_WORD)
   pub seen : (i : ℕ) → i < length b.cells → IsLoaded v (child b i + SEEN_WORD)
-  pub choice : y ≡ child b (pick (game_of v.shape) (tally_loaded v) (seen_loaded v) b b.parent)
+  pub choice : y ≡ child b (pick (search_game v.shape) (tally_loaded v) (seen_loaded v) b b.parent)
 
 -- the first Add of a walk to a leaf: the leaf is a known node other than the root, each node of its
--- path below the root was chosen, and the leaf was loaded with visits below T, or its board has no
+-- path below the root was chosen, and the leaf was loaded with visits below T, or its board has_node no
 -- empty cell, or a claim went past the area's end
 pub record MayBegin (v : SeatView) (leaf : ℕ) : Type 0 where
   pub known : is_known v leaf ≡ true
   pub below : leaf ≢ root_at v.shape
-  pub chosen : (b : LinkedBlock) (y : ℕ) → In b v.known → has b y ≡ true
+  pub chosen : (b : LinkedBlock) (y : ℕ) → In b v.known → has_node b y ≡ true
       → is_on v.shape v.known y leaf ≡ true → IsChosen v b y
   pub ends : ((tally_loaded v leaf).visits < v.shape.knobs.expand)
       ⊎ ((empties_at v leaf ≡ 0) ⊎ (v.full ≡ true))
@@ -132,7 +132,7 @@ FitsStep v (Add i won) = FitsAdd v (record { word = i; won = won })
 FitsStep v (Note k value) = FitsNote v k value
 FitsStep v Done = HasEnded v
 
--- a split: the view has drawn nothing, and both parts stand for a worker at least
+-- a split: the view has_node drawn nothing, and both parts stand for a worker at least
 pub record CanSplit (v : SeatView) (part : ℕ) : Type 0 where
   pub nothing : HasDrawnNothing v
   pub given : 1 ≤ part

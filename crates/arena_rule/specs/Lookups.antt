@@ -6,7 +6,7 @@ use Rattle.play_out.specs.Fills.{empties_of}
 use Rattle.tree_words.specs.Settings.{Setting}
 use Rattle.tree_words.specs.Words.{Count, root_at, leaf_in, count_in}
 use Rattle.tree_words.specs.Blocks.{LinkedBlock, one_if, is_node, link_of}
-use Rattle.tree_words.specs.Paths.{board_of, is_on}
+use Rattle.tree_words.specs.Paths.{node_board, is_on}
 use Rattle.tree_words.specs.Told.{told_block}
 use Rattle.tree_words.specs.declared.layout.TheConstants.{TALLY_WORD, SEEN_WORD, RECORD_UNIT}
 use Rattle.arena_rule.specs.Views.{SeatView, HeldBlock, Flight, WordLoad}
@@ -26,7 +26,7 @@ told_below v x b = told_block v.shape v.known x b
 
 -- the number of empty cells of the board of a known node
 abbrev pub empties_at : SeatView → ℕ → ℕ
-empties_at v x = length (empties_of (board_of v.shape v.known x))
+empties_at v x = length (empties_of (node_board v.shape v.known x))
 
 -- the value last loaded of a word
 abbrev pub load_of : List WordLoad → ℕ → Option ℕ

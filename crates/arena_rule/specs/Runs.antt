@@ -17,8 +17,8 @@ pub record Arena : Type 0 where
   pub views : List SeatView
 
 -- the arena rule holds of the arena
-abbrev pub Holds : Setting → Arena → Type 0
-Holds s a = Rule s a.words a.views
+abbrev pub RuleHolds : Setting → Arena → Type 0
+RuleHolds s a = Rule s a.words a.views
 
 -- the arena at the beginning: the opening words, with the opening view, or with K views of width 1
 abbrev pub opening_arena : Setting → Arena
@@ -51,7 +51,7 @@ found_by a op = answer_of op (slice_index a.words (word_of op))
 -- a step that fits the view of any seat keeps the rule
 abbrev pub StepsKeep : Setting → Arena → Type 0
 StepsKeep s a = (id : ℕ) (v : SeatView) (op : Op) → IsSeat a.views id v → FitsStep v op
-    → Holds s (arena_after a id v op)
+    → RuleHolds s (arena_after a id v op)
 
 -- and its answer is one that it may give
 abbrev pub StepsMayAnswer : Arena → Type 0
@@ -97,3 +97,13 @@ Happens (joins id other) a after = Joins a id other after
 abbrev pub LeadTo : List Event → Arena → Arena → Type 0
 LeadTo [] a last = last ≡ a
 LeadTo (e ∷ events) a last = (next : Arena) × Happens e a next × LeadTo events next last
+
+-- a split, a join, and a run of events keep the rule
+abbrev pub SplitsKeep : Setting → Arena → Type 0
+SplitsKeep s a = (id part : ℕ) (b : Arena) → Splits a id part b → RuleHolds s b
+
+abbrev pub JoinsKeep : Setting → Arena → Type 0
+JoinsKeep s a = (id other : ℕ) (b : Arena) → Joins a id other b → RuleHolds s b
+
+abbrev pub RunsKeep : Setting → Arena → Type 0
+RunsKeep s a = (events : List Event) (b : Arena) → LeadTo events a b → RuleHolds s b

@@ -1,46 +1,45 @@
 //! The law of the arena rule, as functions that do nothing: their contracts are the law.
 
-ghost use Rattle.std.specs.Prelude.{◌≡◌, ℕ, List};
+ghost use Rattle.std.specs.Prelude.{ℕ, List};
 ghost use Rattle.tree_words.specs.Settings.{Setting, IsSetting};
 ghost use Rattle.tree_words.specs.Words.{root_at};
 ghost use Rattle.tree_words.specs.Blocks.{LinkedBlock, InOrder};
 ghost use Rattle.arena_rule.specs.Views.{SeatView};
 ghost use Rattle.arena_rule.specs.Adds.{AddExactly};
-ghost use Rattle.arena_rule.specs.Fits.{CanSplit, CanJoin};
-ghost use Rattle.arena_rule.specs.Afters.{kept_part, given_part, joined};
 ghost use Rattle.arena_rule.specs.IsView.{IsView};
-ghost use Rattle.arena_rule.specs.Runs.{Arena, Holds, IsSeat, Event, LeadTo, Splits, Joins};
-ghost use Rattle.arena_rule.specs.Runs.{opening_arena, workers_arena, StepsKeep, StepsMayAnswer};
-ghost use Rattle.arena_rule.specs.Shown.{KnowsShown, KeepsKnown, HoldsUnnamed, StepsKeepOrder};
+ghost use Rattle.arena_rule.specs.Runs.{Arena, RuleHolds, opening_arena, workers_arena};
+ghost use Rattle.arena_rule.specs.Runs.{StepsKeep, StepsMayAnswer, SplitsKeep, JoinsKeep, RunsKeep};
+ghost use Rattle.arena_rule.specs.Shown.{KnowsShown, KeepsKnown, HoldsUnnamed};
+ghost use Rattle.arena_rule.specs.Shown.{StepsKeepOrder, SplitsKeepOrder, JoinsKeepOrder};
 
 /// The law of a step: where a seat's view fits a step, the rule holds after it, and the answer is
 /// one that the step may give. It does nothing.
 pub fn steps()
-    ensures rule { (s : Setting) (a : Arena) → Holds s a → StepsKeep s a }
-    ensures answer { (s : Setting) (a : Arena) → Holds s a → StepsMayAnswer a }
+    ensures rule { (s : Setting) (a : Arena) → RuleHolds s a → StepsKeep s a }
+    ensures answer { (s : Setting) (a : Arena) → RuleHolds s a → StepsMayAnswer a }
 {}
 
 /// The law of a split: the rule holds after it. It does nothing.
 pub fn splits()
-    ensures { (s : Setting) (a b : Arena) (id part : ℕ) → Holds s a → Splits a id part b → Holds s b }
+    ensures { (s : Setting) (a : Arena) → RuleHolds s a → SplitsKeep s a }
 {}
 
 /// The law of a join: the rule holds after it. It does nothing.
 pub fn joins()
-    ensures { (s : Setting) (a b : Arena) (id other : ℕ) → Holds s a → Joins a id other b → Holds s b }
+    ensures { (s : Setting) (a : Arena) → RuleHolds s a → JoinsKeep s a }
 {}
 
 /// The law of the beginning: the rule holds of the opening words with the opening view, and with K
 /// views of width 1. It does nothing.
 pub fn begins()
-    ensures one { (s : Setting) → IsSetting s → Holds s (opening_arena s) }
-    ensures many { (s : Setting) → IsSetting s → Holds s (workers_arena s) }
+    ensures one { (s : Setting) → IsSetting s → RuleHolds s (opening_arena s) }
+    ensures many { (s : Setting) → IsSetting s → RuleHolds s (workers_arena s) }
 {}
 
 /// The law of a run: for every list of steps, splits and joins by any seats whose views fit, the
 /// rule holds after it where it holds before, and so between any two of them. It does nothing.
 pub fn runs()
-    ensures { (s : Setting) (events : List Event) (a b : Arena) → Holds s a → LeadTo events a b → Holds s b }
+    ensures { (s : Setting) (a : Arena) → RuleHolds s a → RunsKeep s a }
 {}
 
 /// The law of adds: what the adds of a walk add to each tally and each seen word is what the exact
@@ -54,23 +53,19 @@ pub fn adds_are_exact()
 /// views, and a join the one that is left. It does nothing.
 pub fn views_stay_in_order()
     ensures step { (v : SeatView) → IsView v → StepsKeepOrder v }
-    ensures kept { (v : SeatView) (part : ℕ) → IsView v → CanSplit v part → IsView (kept_part v part) }
-    ensures given { (v : SeatView) (part : ℕ) → IsView v → CanSplit v part → IsView (given_part v part) }
-    ensures join { (v w : SeatView) → IsView v → IsView w → w.shape ≡ v.shape → CanJoin v w
-        → IsView (joined v w) }
+    ensures split { (v : SeatView) → IsView v → SplitsKeepOrder v }
+    ensures join { (v : SeatView) → IsView v → JoinsKeepOrder v }
 {}
 
 /// The law of known blocks: what a seat knows the words show, in every state of the rule, and it
 /// stays known after each of the seat's steps; so it is never false later. It does nothing.
 pub fn known_blocks_stay()
-    ensures shown { (s : Setting) (a : Arena) (id : ℕ) (v : SeatView) → Holds s a → IsSeat a.views id v
-        → KnowsShown a v }
+    ensures shown { (s : Setting) (a : Arena) → RuleHolds s a → KnowsShown a }
     ensures kept { (v : SeatView) → KeepsKnown v }
 {}
 
 /// The law of held blocks: no link of a node of the tree names a block that a seat holds. It does
 /// nothing.
 pub fn held_blocks_are_unnamed()
-    ensures { (s : Setting) (a : Arena) (id : ℕ) (v : SeatView) (rule : Holds s a) → IsSeat a.views id v
-        → HoldsUnnamed s a rule v }
+    ensures { (s : Setting) (a : Arena) (rule : RuleHolds s a) → HoldsUnnamed s a rule }
 {}

@@ -2,28 +2,27 @@
 use Rattle.std.proofs.Common.{if◌then◌else◌, ◌≡◌, ℕ, ◌+◌, ◌-◌, ◌<◌, ◌≤◌, ◌⊎◌, true, false, Bool, cond, Some, refl, sym, ◌∙◌, ap, subst, arith, inl, inr, zero, suc}
 use Rattle.std.specs.List.{count_by, range_with_len}
 use Rattle.std.proofs.lemmas.Bool.{cases_order, cases_Bool, both_ways, false_from_ne_true}
-use Rattle.std.proofs.lemmas.List.Sums.{sum_by-cons}
 use Rattle.hex_board.specs.Positions.{Within, stones_of, is_empty_at}
 use Rattle.hex_board.specs.Elements.{PlayerBoard, are_joined, is_linked, is_tied, is_head, edge_element, edge_elements, head_element, element_of, HasCell}
-use Rattle.hex_board.proofs.Parts.{tied_through, tied_joins, of_first, of_second, of_group, case_of, is_free, is_first, is_second, is_group, is_other, linked_through, linked_back, linked_first, stone_full, empty_head, root_head, edge_below}
+use Rattle.hex_board.proofs.Parts.{tied_through, tied_joins, of_first, of_second, of_group, case_of, is_free, is_first, is_second, is_group, is_other, linked_through, linked_back, linked_first, empty_head, root_head, edge_below, some_same}
+use Rattle.hex_board.proofs.Placed.{stone_full}
+use Rattle.hex_board.proofs.WinLaws.{counted}
+use Rattle.hex_cells.proofs.Counts.{bit_of}
 
 -- ---- counts, with no set of heads
-
-first_counted : (p : ℕ → Bool) (a m : ℕ) → count_by p (range_with_len a (suc m)) ≡ cond (p a) 1 0 + count_by p (range_with_len (a + 1) m)
-first_counted p a m = sum_by-cons (λ x. cond (p x) 1 0) a (range_with_len (a + 1) m)
 
 moved_over : (x y z w : ℕ) → w ≡ y + z → x + w ≡ (x + y) + z
 moved_over x y z w e = omega arith
 
 last_counted : (p : ℕ → Bool) (a m : ℕ) → count_by p (range_with_len a (suc m)) ≡ count_by p (range_with_len a m) + cond (p (a + m)) 1 0
-last_counted p a zero = let e : a + 0 ≡ a = omega arith in first_counted p a zero ∙ (zero_last (cond (p a) 1 0) ∙ ap (λ v. 0 + cond (p v) 1 0) (sym e))
+last_counted p a zero = let e : a + 0 ≡ a = omega arith in counted p a zero ∙ (zero_last (cond (p a) 1 0) ∙ ap (λ v. 0 + cond (p v) 1 0) (sym e))
   where
     zero_last : (x : ℕ) → x + 0 ≡ 0 + x
     zero_last x = omega arith
 last_counted p a (suc m) =
     let e : (a + 1) + m ≡ a + suc m = omega arith in
-    first_counted p a (suc m) ∙ (moved_over (cond (p a) 1 0) (count_by p (range_with_len (a + 1) m)) (cond (p ((a + 1) + m)) 1 0) (count_by p (range_with_len (a + 1) (suc m))) (last_counted p (a + 1) m)
-    ∙ (ap (λ v. (cond (p a) 1 0 + count_by p (range_with_len (a + 1) m)) + cond (p v) 1 0) e ∙ ap (λ v. v + cond (p (a + suc m)) 1 0) (sym (first_counted p a m))))
+    counted p a (suc m) ∙ (moved_over (cond (p a) 1 0) (count_by p (range_with_len (a + 1) m)) (cond (p ((a + 1) + m)) 1 0) (count_by p (range_with_len (a + 1) (suc m))) (last_counted p (a + 1) m)
+    ∙ (ap (λ v. (cond (p a) 1 0 + count_by p (range_with_len (a + 1) m)) + cond (p v) 1 0) e ∙ ap (λ v. v + cond (p (a + suc m)) 1 0) (sym (counted p a m))))
 
 upto : (ℕ → Bool) → ℕ → ℕ
 upto p m = count_by p (range_with_len 0 m)
@@ -40,15 +39,12 @@ upto_rise p a (suc d) =
     let s : upto p (suc (d + a)) ≡ upto p (d + a) + cond (p (d + a)) 1 0 = upto_more p (d + a) in
     subst (λ v. upto p a ≤ upto p v) (sym e) (omega arith)
 
-one_at : (b : Bool) → b ≡ true → cond {A = ℕ} b 1 0 ≡ 1
-one_at b h = rw h refl
-
 upto_apart : (p : ℕ → Bool) (a b : ℕ) → p a ≡ true → a < b → upto p a < upto p b
 upto_apart p a b h l =
     let e : (b - suc a) + suc a ≡ b = omega arith in
     let r : upto p (suc a) ≤ upto p b = subst (λ v. upto p (suc a) ≤ upto p v) e (upto_rise p (suc a) (b - suc a)) in
     let s : upto p (suc a) ≡ upto p a + cond (p a) 1 0 = upto_more p a in
-    let t : cond {A = ℕ} (p a) 1 0 ≡ 1 = one_at (p a) h in
+    let t : cond {A = ℕ} (p a) 1 0 ≡ 1 = bit_of (p a) h in
     omega arith
 
 pub one_head_at : (p : ℕ → Bool) (a b : ℕ) → p a ≡ true → p b ≡ true → count_by p (range_with_len 0 a) ≡ count_by p (range_with_len 0 b) → a ≡ b
@@ -74,9 +70,6 @@ above_edge e second k q = far (edge_elements e) (count_by (is_head e) (range_wit
   where
     far : (b x v : ℕ) → v < b → v ≡ b + x → ⊥
     far b x v h e = absurd (omega arith)
-
-some_same : (x y : ℕ) → Some x ≡ Some y → x ≡ y
-some_same x y e = cc
 
 -- what two cells of one element are: one cell, or stones that are linked, or stones that are tied to edges of one element
 abbrev pub Together : PlayerBoard → ℕ → ℕ → Type 0

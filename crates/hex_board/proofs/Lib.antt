@@ -6,3 +6,4 @@ pub mod Tabled
 pub mod WinLaws
 pub mod GroupLaws
 pub mod Places
+pub mod Placed

@@ -1,40 +1,34 @@
-use Rattle.std.proofs.Common.{◌≡◌, ℕ, ◌+◌, ◌-◌, ◌*◌, ◌<◌, ◌≤◌, ◌==◌, ◌&&◌, ◌||◌, ◌⊎◌, ◌↔◌, IsTrue, not, true, false, Bool, cond, List, [], Option, Some, None, refl, sym, ◌∙◌, ap, subst, arith, inl, inr, zero, suc, nat_lt, IfSome, if◌then◌else◌}
+-- What the numbering of elements says: linked and tied stones, heads, and the cells of each element.
+use Rattle.std.proofs.Common.{◌≡◌, ℕ, ◌+◌, ◌-◌, ◌*◌, ◌<◌, ◌≤◌, ◌==◌, ◌&&◌, ◌||◌, ◌⊎◌, ◌↔◌, IsTrue, not, true, false, Bool, List, [], Option, Some, None, refl, sym, ◌∙◌, ap, subst, arith, inl, inr, zero, suc, nat_lt, IfSome, if◌then◌else◌}
 use Rattle.std.specs.List.{count_by, find, list_any, range_with_len}
 use Rattle.std.specs.Option.{option_map}
-use Rattle.std.proofs.lemmas.Bool.{and_parts, or_cases, or_left, or_right, cases_Bool, cases_eq, cases_order, false≢true, both_ways, false_from_ne_true, not-true}
-use Rattle.std.proofs.lemmas.List.Sums.{sum_by-cons}
-use Rattle.std.proofs.Math.Nat.{mul-le-mul_right}
-use Rattle.std.proofs.lemmas.Bool.Decides.{nat_tests}
+use Rattle.std.proofs.lemmas.Bool.{and_parts, or_cases, or_left, or_right, cases_Bool, cases_eq, cases_order, false≢true, both_ways, false_from_ne_true, not-true, eqb-true, eq-eqb, lt-ltb}
 use Rattle.hex_cells.specs.Sets.{has, members}
 use Rattle.hex_cells.specs.Edges.{on_edge}
 use Rattle.hex_cells.specs.Colours.{other_of}
 use Rattle.hex_cells.specs.declared.colours.Colour.{Colour}
 use Rattle.hex_cells.specs.declared.colours.Colour.TheVariants.{Black, White}
 use Rattle.hex_cells.proofs.Beside.{same_test}
-use Rattle.hex_cells.proofs.Counts.{members_more, members_few, members_apart, members_none}
+use Rattle.hex_cells.proofs.Counts.{members_few, members_apart, members_flat, members_test}
+use Rattle.hex_cells.proofs.Tables.{square_small}
 use Rattle.hex_board.specs.Joined.{Path, last_of, Leads, leads_in, cells_of}
 use Rattle.hex_board.specs.Positions.{Position, Within, Apart, stones_of, is_empty_at}
 use Rattle.hex_board.specs.Groups.{Links, IsRoot}
 use Rattle.hex_board.specs.Elements.{PlayerBoard, is_linked, is_tied, are_joined, is_root, is_head, edge_element, edge_elements, head_element, element_count, element_of}
+use Rattle.hex_board.proofs.Placed.{empty_on, stone_full}
 use Rattle.hex_board.proofs.Roots.{links_through, turned_link, first_in}
 use Rattle.hex_board.proofs.Search.{any_out, any_in, leads_out, leads_found, starts_in, joined_found}
 
 -- ---- what a search says, on a board
 
-same_cell : (a b : ℕ) → (a == b) ≡ true → a ≡ b
-same_cell a b e = grind (arith, nat_tests)
-
-is_cell : (a b : ℕ) → a ≡ b → (a == b) ≡ true
-is_cell a b e = grind (arith, nat_tests)
-
 pub leads_on_board : (n s : ℕ) (test : ℕ → Bool) (x : ℕ) (xs : List ℕ) → Within n s → Path n s x xs → test (last_of x xs) ≡ true → leads_in (n * n) n s test x ≡ true
 leads_on_board n s test x xs on p e = leads_found (n * n) n s test x xs (on x (starts_in n s x xs p)) (members_few s (n * n)) p e
 
 pub link_out : (n s a b : ℕ) → leads_in (n * n) n s (λ k. k == b) a ≡ true → Links n s a b
-link_out n s a b h = let t = leads_out (n * n) n s (λ k. k == b) a h in (t.0, t.1, same_cell _ _ t.2)
+link_out n s a b h = let t = leads_out (n * n) n s (λ k. k == b) a h in (t.0, t.1, eqb-true _ _ t.2)
 
 pub link_in : (n s a b : ℕ) → Within n s → Links n s a b → leads_in (n * n) n s (λ k. k == b) a ≡ true
-link_in n s a b on l = leads_on_board n s (λ k. k == b) a l.0 on l.1 (is_cell _ _ l.2)
+link_in n s a b on l = leads_on_board n s (λ k. k == b) a l.0 on l.1 (eq-eqb _ _ l.2)
 
 pub last_in : (n s a b : ℕ) → Links n s a b → has s b ≡ true
 last_in n s a b l = first_in n s b a (turned_link n s a b l)
@@ -82,24 +76,8 @@ tied_joins e k h i =
     let l : Links n s (last_of k t.0) (last_of k u.0) = links_through n s (last_of k t.0) k (last_of k u.0) back (u.0, u.1, refl) in
     joined_found n e.player s (last_of k t.0, l.0, l.1, t.2, ap (on_edge e.player true n) l.2 ∙ u.2)
 
-full_black : (a b c : Bool) → b ≡ true → (a && not b && not c) ≡ false
-full_black a b c h = grind arith
-
-full_white : (a b c : Bool) → c ≡ true → (a && not b && not c) ≡ false
-full_white a b c h = grind arith
-
-pub stone_full : (p : Position) (c : Colour) (k : ℕ) → has (stones_of p c) k ≡ true → is_empty_at p k ≡ false
-stone_full p Black k h = full_black (nat_lt k (p.size * p.size)) (has p.black k) (has p.white k) h
-stone_full p White k h = full_white (nat_lt k (p.size * p.size)) (has p.black k) (has p.white k) h
-
 pub tied_full : (e : PlayerBoard) (second : Bool) (k : ℕ) → is_tied e second k ≡ true → is_empty_at e.board k ≡ false
 tied_full e second k h = stone_full e.board e.player k (tied_stone e second k h)
-
-pub empty_on : (p : Position) (k : ℕ) → is_empty_at p k ≡ true → k < p.size * p.size
-empty_on p k h = lt_of k (p.size * p.size) (and_parts (nat_lt k (p.size * p.size)) (not (has p.black k)) (and_parts (nat_lt k (p.size * p.size) && not (has p.black k)) (not (has p.white k)) h).0).0
-  where
-    lt_of : (k m : ℕ) → nat_lt k m ≡ true → k < m
-    lt_of k m e = grind (arith, nat_tests)
 
 -- ---- the least cell that is linked to a cell
 
@@ -212,25 +190,6 @@ head_on e k on h = elim (head_cases e k h) [
 
 -- ---- numbers of elements
 
-plus_none : (a : ℕ) → a + 0 ≡ a
-plus_none a = omega arith
-
-swapped : (x y z : ℕ) → (x + y) + z ≡ y + (x + z)
-swapped x y z = omega arith
-
-members_from : (h : ℕ) (p : ℕ → Bool) (a m : ℕ) → ((k : ℕ) → has h k ≡ p k) → members h (a + m) ≡ members h a + count_by p (range_with_len a m)
-members_from h p a zero f = ap (λ v. members h v) (plus_none a) ∙ sym (plus_none (members h a))
-members_from h p a (suc m) f =
-    let e : a + suc m ≡ (a + 1) + m = omega arith in
-    let r : members h ((a + 1) + m) ≡ members h (a + 1) + count_by p (range_with_len (a + 1) m) = members_from h p (a + 1) m f in
-    let s : members h (a + 1) ≡ cond (p a) 1 0 + members h a = members_more h a ∙ ap (λ v. cond v 1 0 + members h a) (f a) in
-    ap (λ v. members h v) e ∙ (r ∙ (ap (λ v. v + count_by p (range_with_len (a + 1) m)) s ∙ (swapped (cond (p a) 1 0) (members h a) (count_by p (range_with_len (a + 1) m))
-    ∙ ap (λ v. members h a + v) (sym (sum_by-cons (λ x. cond (p x) 1 0) a (range_with_len (a + 1) m))))))
-
-pub members_test : (h : ℕ) (p : ℕ → Bool) (m : ℕ) → ((k : ℕ) → has h k ≡ p k) → members h m ≡ count_by p (range_with_len 0 m)
-members_test h p m f = let e : 0 + m ≡ m = omega arith in let r = members_from h p 0 m f in
-    ap (λ v. members h v) (sym e) ∙ (r ∙ ap (λ v. v + count_by p (range_with_len 0 m)) (members_none h) ∙ (omega arith))
-
 -- two heads with one number are one cell
 pub one_head : (h : ℕ) (p : ℕ → Bool) (a b : ℕ) → ((k : ℕ) → has h k ≡ p k) → p a ≡ true → p b ≡ true
     → count_by p (range_with_len 0 a) ≡ count_by p (range_with_len 0 b) → a ≡ b
@@ -251,18 +210,6 @@ head_counts h p a m f i l =
     let x : members h a ≡ count_by p (range_with_len 0 a) = members_test h p a f in
     let y : members h m ≡ count_by p (range_with_len 0 m) = members_test h p m f in
     omega (arith, members_apart h a m (f a ∙ i) l)
-
-square_small : (n : ℕ) → n ≤ 11 → n * n ≤ 121
-square_small n h = let m : n * n ≤ 11 * n = mul-le-mul_right n h in omega arith
-
-members_flat : (s m d : ℕ) → ((k : ℕ) → m ≤ k → has s k ≡ false) → members s (m + d) ≡ members s m
-members_flat s m zero f = ap (λ v. members s v) (plus_none m)
-members_flat s m (suc d) f =
-    let e : m + suc d ≡ (m + d) + 1 = omega arith in
-    ap (λ v. members s v) e ∙ (members_more s (m + d) ∙ (ap (λ v. cond v 1 0 + members s (m + d)) (f (m + d) (omega arith)) ∙ (zero_plus (members s (m + d)) ∙ members_flat s m d f)))
-  where
-    zero_plus : (a : ℕ) → 0 + a ≡ a
-    zero_plus a = omega arith
 
 -- all heads lie on the board
 pub all_heads : (e : PlayerBoard) (h : ℕ) → Within e.board.size (stones_of e.board e.player) → e.board.size ≤ 11 → ((k : ℕ) → has h k ≡ is_head e k)
@@ -302,7 +249,7 @@ head_below e h k on f i = let l = head_counts h (is_head e) k (e.board.size * e.
 none_some : (x : ℕ) → None ≡ Some x → ⊥
 none_some x e = cc
 
-some_same : (x y : ℕ) → Some x ≡ Some y → x ≡ y
+pub some_same : (x y : ℕ) → Some x ≡ Some y → x ≡ y
 some_same x y e = cc
 
 low_below : (x b c : ℕ) → x < b → x < b + c
@@ -329,12 +276,9 @@ rest_stone a b c e h i = grind arith
 rest_other : (a b c : Bool) → (a && not b && not c) ≡ false → a ≡ true → c ≡ false → b ≡ true
 rest_other a b c e h i = grind arith
 
-on_test : (k m : ℕ) → k < m → nat_lt k m ≡ true
-on_test k m h = grind (arith, nat_tests)
-
 other_stone : (p : Position) (c : Colour) (k : ℕ) → k < p.size * p.size → is_empty_at p k ≡ false → has (stones_of p c) k ≡ false → has (stones_of p (other_of c)) k ≡ true
-other_stone p Black k l e h = rest_stone (nat_lt k (p.size * p.size)) (has p.black k) (has p.white k) e (on_test _ _ l) h
-other_stone p White k l e h = rest_other (nat_lt k (p.size * p.size)) (has p.black k) (has p.white k) e (on_test _ _ l) h
+other_stone p Black k l e h = rest_stone (nat_lt k (p.size * p.size)) (has p.black k) (has p.white k) e (lt-ltb _ _ l) h
+other_stone p White k l e h = rest_other (nat_lt k (p.size * p.size)) (has p.black k) (has p.white k) e (lt-ltb _ _ l) h
 
 pub none_other : (e : PlayerBoard) (k : ℕ) → Within e.board.size (stones_of e.board e.player)
     → Apart (stones_of e.board e.player) (stones_of e.board (other_of e.player)) → k < e.board.size * e.board.size
@@ -525,14 +469,14 @@ place_below e h m on s f l b = subst (λ v. m - edge_elements e < v) (sym (all_h
     rest_below b m c l h = omega arith
 
 pub single_out : (w none c k : ℕ) → has w k ≡ (has none k || k == c) → has none k ≡ false → has w k ≡ true → k ≡ c
-single_out w none c k e f h = same_cell k c (or_rest (has none k) (k == c) f (sym e ∙ h))
+single_out w none c k e f h = eqb-true k c (or_rest (has none k) (k == c) f (sym e ∙ h))
   where
     or_rest : (a b : Bool) → a ≡ false → (a || b) ≡ true → b ≡ true
     or_rest true b f h = absurd (false≢true (sym f))
     or_rest false b f h = h
 
 pub single_in : (w none c k : ℕ) → has w k ≡ (has none k || k == c) → k ≡ c → has w k ≡ true
-single_in w none c k e q = e ∙ or_right (has none k) (k == c) (is_cell k c q)
+single_in w none c k e q = e ∙ or_right (has none k) (k == c) (eq-eqb k c q)
 
 pub some_below : (e : PlayerBoard) (h k : ℕ) (r : Option ℕ) → Within e.board.size (stones_of e.board e.player) → ((j : ℕ) → has h j ≡ is_head e j) → r ≡ element_of e k
     → IfSome r (λ x. x < element_count e)

@@ -12,9 +12,11 @@ use Rattle.hex_board.specs.Joined.{cells_of}
 use Rattle.hex_board.specs.Places.{Place, at_cell, at_edge, Beside, IsMember, Near, are_beside, cell_of, is_member, is_near, places_of}
 use Rattle.hex_board.specs.Positions.{Within, stones_of, is_empty_at}
 use Rattle.hex_board.proofs.GroupLaws.{one_element}
-use Rattle.hex_board.proofs.Parts.{empty_on, find_least, find_nothing, linked_first, stone_full, tied_full}
+use Rattle.hex_board.proofs.Parts.{find_least, find_nothing, linked_first, tied_full}
+use Rattle.hex_board.proofs.Placed.{empty_on, stone_full}
 use Rattle.hex_board.proofs.Reach.{back}
-use Rattle.hex_board.proofs.Search.{any_in, any_out, edge_on}
+use Rattle.hex_board.proofs.Search.{any_in, any_out}
+use Rattle.hex_cells.proofs.Tables.{edge_on}
 
 -- ---- beside
 

@@ -1,4 +1,5 @@
-use Rattle.std.proofs.Common.{◌≡◌, ℕ, ◌<◌, ◌^◌, List, [], ◌∷◌, true, false, sym, ◌∙◌, ◌&&◌, ◌||◌, ◌↔◌, IsTrue, inl, inr}
+-- The stones from which a path leads to a set, as a flood finds them.
+use Rattle.std.proofs.Common.{◌≡◌, Bool, ℕ, ◌<◌, ◌^◌, List, [], ◌∷◌, true, false, sym, ◌∙◌, ◌&&◌, ◌||◌, ◌↔◌, IsTrue, inl, inr}
 use Rattle.std.proofs.lemmas.Bool.{and_parts, and_from, or_cases, or_left, or_right}
 use Rattle.hex_cells.specs.Edges.{on_edge}
 use Rattle.hex_cells.specs.declared.colours.Colour.{Colour}
@@ -63,8 +64,7 @@ no_more n s g r a next i f e q d = (
       (λ k h w. q k (e k ∙ or_right (has r k) (has a k && has s k) (and_from (has a k) (has s k) ((f k).1 w) h))) d l.0 l.1 l.2,
 )
 
--- a path's cells are stones
-pub joined_from : (n : ℕ) (p : Colour) (s g e r x : ℕ) → ((k : ℕ) → has g k ≡ on_edge p true n k)
+joined_from : (n : ℕ) (p : Colour) (s g e r x : ℕ) → ((k : ℕ) → has g k ≡ on_edge p true n k)
     → ((k : ℕ) → has e k ≡ on_edge p false n k) → ((d : ℕ) → IsTrue (has r d) ↔ Leads n s g d)
     → (has r x && has e x) ≡ true → Joined n p s
 joined_from n p s g e r x hg he hr h =
@@ -72,10 +72,19 @@ joined_from n p s g e r x hg he hr h =
     let l = (hr x).0 t.0 in
     (x, l.0, l.1, sym (he x) ∙ t.1, sym (hg (last_of x l.0)) ∙ l.2)
 
-pub joined_reaches : (n : ℕ) (p : Colour) (s g e r : ℕ) → ((k : ℕ) → has g k ≡ on_edge p true n k)
+joined_reaches : (n : ℕ) (p : Colour) (s g e r : ℕ) → ((k : ℕ) → has g k ≡ on_edge p true n k)
     → ((k : ℕ) → has e k ≡ on_edge p false n k) → ((d : ℕ) → IsTrue (has r d) ↔ Leads n s g d)
     → (j : Joined n p s) → (has r j.0 && has e j.0) ≡ true
 joined_reaches n p s g e r hg he hr j =
     let l : has g (last_of j.0 j.1) ≡ true = hg (last_of j.0 j.1) ∙ j.4 in
     let f : has e j.0 ≡ true = he j.0 ∙ j.3 in
     and_from (has r j.0) (has e j.0) ((hr j.0).1 (j.1, j.2, l)) f
+
+-- the player is joined where what leads to one edge meets the other
+pub meets_joined : (n : ℕ) (p : Colour) (s g e r : ℕ) (m : Bool) → ((k : ℕ) → has g k ≡ on_edge p true n k)
+    → ((k : ℕ) → has e k ≡ on_edge p false n k) → ((d : ℕ) → IsTrue (has r d) ↔ Leads n s g d)
+    → IsTrue m ↔ ((k : ℕ) × (has r k ≡ true) × (has e k ≡ true)) → IsTrue m ↔ Joined n p s
+meets_joined n p s g e r m hg he hr hm = (
+  (λ h. let w = hm.0 h in joined_from n p s g e r w.0 hg he hr (and_from (has r w.0) (has e w.0) w.1 w.2)),
+  (λ j. let t = and_parts (has r j.0) (has e j.0) (joined_reaches n p s g e r hg he hr j) in hm.1 (j.0, t.0, t.1)),
+)

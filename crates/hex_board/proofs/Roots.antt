@@ -1,6 +1,6 @@
+-- The least cells of groups, found one group after another.
 use Rattle.std.proofs.Common.{◌≡◌, ℕ, ◌<◌, ◌≤◌, List, [], ◌∷◌, ◌++◌, Bool, true, false, refl, sym, ◌∙◌, ap, subst, arith, ◌&&◌, ◌||◌, ◌==◌, not, ◌↔◌, IsTrue, inl, inr}
-use Rattle.std.proofs.lemmas.Bool.{and_parts, and_from, or_cases, or_left, or_right, both_ways, false≢true, not_from_false, not_from_true, false_from_ne_true, not-true, cases_Bool, cases_eq, cases_order, and_right}
-use Rattle.std.proofs.lemmas.Bool.Decides.{nat_tests}
+use Rattle.std.proofs.lemmas.Bool.{and_parts, and_from, or_cases, or_left, or_right, both_ways, false≢true, not_from_false, not_from_true, false_from_ne_true, not-true, cases_Bool, cases_eq, cases_order, and_right, eqb-true, eq-eqb}
 use Rattle.hex_cells.specs.Sets.{has}
 use Rattle.hex_cells.specs.Graph.{Neighbour}
 use Rattle.hex_board.specs.Joined.{Path, last_of, Leads}
@@ -38,17 +38,11 @@ first_in n s a b ([], p, e) = p
 first_in n s a b (y ∷ ys, p, e) = p.0
 
 -- what a flood from the one cell c says
-one_cell : (c k : ℕ) → (k == c) ≡ true → k ≡ c
-one_cell c k e = grind (arith, nat_tests)
-
-is_cell : (c k : ℕ) → k ≡ c → (k == c) ≡ true
-is_cell c k e = grind (arith, nat_tests)
-
 pub links_from : (n s g c k : ℕ) → ((j : ℕ) → has g j ≡ (false || j == c)) → Leads n s g k → Links n s k c
-links_from n s g c k e l = (l.0, l.1, one_cell c _ (sym (e (last_of k l.0)) ∙ l.2))
+links_from n s g c k e l = (l.0, l.1, eqb-true _ c (sym (e (last_of k l.0)) ∙ l.2))
 
 pub leads_from : (n s g c k : ℕ) → ((j : ℕ) → has g j ≡ (false || j == c)) → Links n s k c → Leads n s g k
-leads_from n s g c k e l = (l.0, l.1, e (last_of k l.0) ∙ is_cell c _ l.2)
+leads_from n s g c k e l = (l.0, l.1, e (last_of k l.0) ∙ eq-eqb _ c l.2)
 
 -- the roots found, where the cells of rest, whole groups, are still to come
 pub record Found (n s roots rest : ℕ) : Type 0 where
@@ -83,11 +77,11 @@ next_found n s roots rest c g fl more less i h m eg ef em el = record {
       ((ef a).1 (leads_from n s g c a eg (links_through n s a b c l (links_from n s g c b eg ((ef b).0 w))))))));
   sound = λ k u. elim (or_cases (has roots k) (k == c) (sym (em k) ∙ u)) [
     | inl w ↦ i.sound k w
-    | inr w ↦ subst (λ v. IsRoot n s v) (sym (one_cell c k w)) (least_root n s roots rest c i h m)
+    | inr w ↦ subst (λ v. IsRoot n s v) (sym (eqb-true k c w)) (least_root n s roots rest c i h m)
   ];
   all = λ k r u. em k ∙ elim (cases_Bool (has rest k)) [
     | inr w ↦ or_left (has roots k) (k == c) (i.all k r w)
-    | inl w ↦ or_right (has roots k) (k == c) (is_cell c k (same_root n s rest c k m w r
+    | inl w ↦ or_right (has roots k) (k == c) (eq-eqb k c (same_root n s rest c k m w r
         (links_from n s g c k eg ((ef k).0 (left_over (has rest k) (has fl k) (sym (el k) ∙ u) w)))))
   ];
 }
@@ -108,5 +102,3 @@ fewer rest c fl less h e f l = elim (cases_eq less rest) [
   | inl w ↦ absurd (both_ways (has rest c) (ap (λ v. has v c) (sym w) ∙ (e c ∙ and_right (has rest c) (not (has fl c)) (not_from_true (has fl c) f))) h)
   | inr w ↦ omega arith
 ]
-
--- a group has one root

@@ -1,3 +1,4 @@
+-- The search of paths, cell by cell, finds one where there is one.
 use Rattle.std.proofs.Common.{◌≡◌, ℕ, ◌+◌, ◌*◌, ◌<◌, ◌≤◌, ◌≢◌, ◌==◌, ◌&&◌, ◌||◌, ◌⊎◌, ◌↔◌, IsTrue, not, true, false, Bool, List, [], ◌∷◌, refl, sym, ◌∙◌, ap, subst, arith, inl, inr, zero, suc}
 use Rattle.std.specs.List.{list_any, range_with_len}
 use Rattle.std.proofs.lemmas.Bool.{and_parts, and_from, or_cases, or_left, or_right, cases_eq, false≢true}
@@ -6,8 +7,8 @@ use Rattle.hex_cells.specs.Sets.{has, members, without_cell}
 use Rattle.hex_cells.specs.Graph.{Neighbour, is_neighbour}
 use Rattle.hex_cells.specs.Edges.{on_edge}
 use Rattle.hex_cells.specs.declared.colours.Colour.{Colour}
-use Rattle.hex_cells.specs.declared.colours.Colour.TheVariants.{Black, White}
-use Rattle.hex_cells.proofs.Bits.{has_without}
+use Rattle.hex_cells.proofs.Bits.{has_without, same_out}
+use Rattle.hex_cells.proofs.Tables.{edge_on}
 use Rattle.hex_cells.proofs.Beside.{neighbour_in, neighbour_out, same_test}
 use Rattle.hex_cells.proofs.Counts.{members_less, members_few, members_apart}
 use Rattle.hex_board.specs.Joined.{Path, last_of, Joined, cells_of, leads_in, is_joined}
@@ -84,9 +85,6 @@ pub starts_in : (n s x : ℕ) (xs : List ℕ) → Path n s x xs → has s x ≡ 
 starts_in n s x [] p = p
 starts_in n s x (y ∷ ys) p = p.0
 
-not_itself : (a : Bool) (x : ℕ) → (a && not (x == x)) ≡ false
-not_itself a x = grind (arith, nat_tests)
-
 pub leads_found : (fuel n s : ℕ) (test : ℕ → Bool) (x : ℕ) (xs : List ℕ) → x < n * n → members s (n * n) ≤ fuel
     → Path n s x xs → test (last_of x xs) ≡ true → leads_in fuel n s test x ≡ true
 unfolding leads_in
@@ -97,7 +95,7 @@ leads_found (suc fuel) n s test x xs b m p e =
     let h : has s x ≡ true = starts_in n s x xs p in
     let next : ℕ → Bool = λ y. is_neighbour n x y && leads_in fuel n (without_cell s x) test y in
     let l : members (without_cell s x) (n * n) < members s (n * n) = members_less (without_cell s x) s x (n * n) (less_in s x) h
-    (has_without s x x ∙ not_itself (has s x) x) b in
+    (has_without s x x ∙ same_out (has s x) x) b in
     and_from (has s x) (test x || list_any next (cells_of n)) h (elim (cut n s test x x xs p e) [
       | inr r ↦ absurd (r.0 refl)
       | inl r ↦ elim r [
@@ -107,12 +105,6 @@ leads_found (suc fuel) n s test x xs b m p e =
             (leads_found fuel n (without_cell s x) test t.0 t.1 t.2.to (omega arith) t.3 t.4)))
       ]
     ])
-
-pub edge_on : (p : Colour) (b : Bool) (n k : ℕ) → on_edge p b n k ≡ true → k < n * n
-edge_on Black false n k h = grind (arith, nat_tests)
-edge_on Black true n k h = grind (arith, nat_tests)
-edge_on White false n k h = grind (arith, nat_tests)
-edge_on White true n k h = grind (arith, nat_tests)
 
 pub joined_out : (n : ℕ) (p : Colour) (s : ℕ) → is_joined n p s ≡ true → Joined n p s
 unfolding is_joined

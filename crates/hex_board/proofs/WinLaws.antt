@@ -1,56 +1,20 @@
 -- Who wins, by one stone more.
-use Rattle.std.proofs.Common.{◌≡◌, ℕ, ◌+◌, ◌-◌, ◌*◌, ◌<◌, ◌^◌, ◌≤◌, ◌==◌, ◌&&◌, ◌||◌, not, nat_lt, true, false, Bool, cond, refl, sym, ◌∙◌, ap, subst, arith, inl, inr, ◌⊎◌, zero, suc, lit<}
+use Rattle.std.proofs.Common.{◌≡◌, ℕ, ◌+◌, ◌*◌, ◌<◌, ◌≤◌, ◌==◌, ◌&&◌, not, true, false, Bool, cond, refl, sym, ◌∙◌, ap, subst, arith, inl, inr, ◌⊎◌, zero, suc}
 use Rattle.std.specs.List.{count_by, range_with_len}
-use Rattle.std.proofs.Math.Nat.{one-mul}
 use Rattle.std.proofs.lemmas.Bool.{cases_eq}
 use Rattle.std.proofs.lemmas.Bool.Decides.{nat_tests}
 use Rattle.std.proofs.lemmas.List.Sums.{sum_by-cons}
-use Rattle.hex_cells.specs.Sets.{has, with_cell}
 use Rattle.hex_cells.specs.Colours.{other_of}
 use Rattle.hex_cells.specs.declared.colours.Colour.{Colour}
 use Rattle.hex_cells.specs.declared.colours.Colour.TheVariants.{Black, White}
-use Rattle.hex_cells.proofs.Bits.{has_or, has_shl, has_above}
 use Rattle.hex_board.specs.Joined.{Joined, cells_of}
 use Rattle.hex_board.specs.Positions.{Position, stones_of, is_empty_at, placed}
 use Rattle.hex_board.specs.Wins.{empty_count, WinsIn, Wins}
-
-is_cell : (x k : ℕ) → x ≡ k → (x == k) ≡ true
-is_cell x k e = grind (arith, nat_tests)
-
-no_cell : (x k : ℕ) → (x ≡ k → ⊥) → (x == k) ≡ false
-no_cell x k e = grind (arith, nat_tests)
-
-zeroth : has 1 0 ≡ true
-unfolding has
-zeroth = refl
-
-has_one : (k : ℕ) → has 1 k ≡ (k == 0)
-has_one k = elim (cases_eq k 0) [
-  | inl e ↦ ap (λ v. has 1 v) e ∙ (zeroth ∙ sym (is_cell k 0 e))
-  | inr n ↦ has_above 1 1 k (lit< tt) (omega arith) ∙ sym (no_cell k 0 n)
-]
-
-pub has_with_cell : (s c k : ℕ) → has (with_cell s c) k ≡ (has s k || k == c)
-has_with_cell s c k =
-    let e : has (2 ^ c) k ≡ (not (nat_lt k c) && has 1 (k - c)) = ap (λ v. has v k) (sym (one-mul (2 ^ c))) ∙ has_shl 1 c k in
-    has_or s (2 ^ c) k ∙ ap (λ b. has s k || b) (e ∙ (ap (λ b. not (nat_lt k c) && b) (has_one (k - c)) ∙ same k c))
-  where
-    same : (j i : ℕ) → (not (nat_lt j i) && j - i == 0) ≡ (j == i)
-    same j i = grind (arith, nat_tests)
-
-less_black : (a b w e : Bool) → ((a && not (b || e)) && not w) ≡ (((a && not b) && not w) && not e)
-less_black a b w e = grind arith
-
-less_white : (a b w e : Bool) → ((a && not b) && not (w || e)) ≡ (((a && not b) && not w) && not e)
-less_white a b w e = grind arith
-
-pub placed_leaves : (p : Position) (player : Colour) (c k : ℕ) → is_empty_at (placed p player c) k ≡ (is_empty_at p k && not (k == c))
-placed_leaves p Black c k = ap (λ b. (nat_lt k (p.size * p.size) && not b) && not (has p.white k)) (has_with_cell p.black c k) ∙ less_black (nat_lt k (p.size * p.size)) (has p.black k) (has p.white k) (k == c)
-placed_leaves p White c k = ap (λ b. (nat_lt k (p.size * p.size) && not (has p.black k)) && not b) (has_with_cell p.white c k) ∙ less_white (nat_lt k (p.size * p.size)) (has p.black k) (has p.white k) (k == c)
+use Rattle.hex_board.proofs.Placed.{empty_on, placed_leaves, placed_size}
 
 -- ---- counts
 
-counted : (p : ℕ → Bool) (a m : ℕ) → count_by p (range_with_len a (suc m)) ≡ cond (p a) 1 0 + count_by p (range_with_len (a + 1) m)
+pub counted : (p : ℕ → Bool) (a m : ℕ) → count_by p (range_with_len a (suc m)) ≡ cond (p a) 1 0 + count_by p (range_with_len (a + 1) m)
 counted p a m = sum_by-cons (λ x. cond (p x) 1 0) a (range_with_len (a + 1) m)
 
 same_test : (x y : Bool) (j k : ℕ) → y ≡ (x && not (j == k)) → (j ≡ k → ⊥) → x ≡ y
@@ -82,19 +46,12 @@ one_less p q k a (suc m) l b h f = elim (cases_eq a k) [
       ∙ ap suc (sym (counted q a m)))
 ]
 
-on_board : (k m : ℕ) (b w : Bool) → ((nat_lt k m && not b) && not w) ≡ true → k < m
-on_board k m b w e = grind (arith, nat_tests)
-
-same_size : (p : Position) (player : Colour) (k : ℕ) → (placed p player k).size ≡ p.size
-same_size p Black k = refl
-same_size p White k = refl
-
 -- one stone more leaves one empty cell less
 pub one_empty_less : (p : Position) (player : Colour) (k : ℕ) → is_empty_at p k ≡ true → empty_count p ≡ suc (empty_count (placed p player k))
 one_empty_less p player k h =
-    let l : k < p.size * p.size = on_board k (p.size * p.size) (has p.black k) (has p.white k) h in
+    let l : k < p.size * p.size = empty_on p k h in
     one_less (is_empty_at p) (is_empty_at (placed p player k)) k 0 (p.size * p.size) (omega arith) (omega arith) h (placed_leaves p player k)
-    ∙ ap (λ n. suc (count_by (is_empty_at (placed p player k)) (cells_of n))) (sym (same_size p player k))
+    ∙ ap (λ n. suc (count_by (is_empty_at (placed p player k)) (cells_of n))) (sym (placed_size p player k))
 
 -- ---- wins
 

@@ -1,3 +1,4 @@
+-- Groups of stones, by paths.
 use Rattle.std.specs.Prelude.{◌≡◌, ℕ, ◌<◌, List, true}
 use Rattle.hex_cells.specs.Sets.{has}
 use Rattle.hex_board.specs.Joined.{Path, last_of}

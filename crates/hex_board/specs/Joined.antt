@@ -1,3 +1,4 @@
+-- Paths of stones, and whether they join a player's edges.
 use Rattle.std.specs.Prelude.{◌≡◌, ℕ, ◌*◌, ◌&&◌, ◌||◌, List, [], ◌∷◌, Bool, true, false, zero, suc, Option, Some, None, if◌then◌else◌}
 use Rattle.std.specs.List.{list_any, range_with_len}
 use Rattle.hex_cells.specs.Sets.{has, without_cell}

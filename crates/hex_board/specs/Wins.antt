@@ -1,16 +1,10 @@
-use Rattle.std.specs.Prelude.{◌≡◌, ℕ, ◌⊎◌, Bool, true, false, zero, suc, count_by, MatchBool}
+-- Who wins, where both players place in turn.
+use Rattle.std.specs.Prelude.{◌≡◌, ℕ, ◌⊎◌, true, zero, suc, count_by, MatchBool}
+pub use Rattle.hex_cells.specs.Colours.{is_same}
 use Rattle.hex_cells.specs.Colours.{other_of}
 use Rattle.hex_cells.specs.declared.colours.Colour.{Colour}
-use Rattle.hex_cells.specs.declared.colours.Colour.TheVariants.{Black, White}
 use Rattle.hex_board.specs.Joined.{Joined, cells_of}
 use Rattle.hex_board.specs.Positions.{Position, stones_of, is_empty_at, placed}
-
--- the two players are one
-abbrev pub is_same : Colour → Colour → Bool
-is_same Black Black = true
-is_same Black White = false
-is_same White Black = false
-is_same White White = true
 
 -- how many cells of the board have no stone
 abbrev pub empty_count : Position → ℕ

@@ -41,13 +41,14 @@ impl Numbering {
     {
         let size = board.size();
         let stones = board.stones(colour);
-        let first = flood(edge(colour, false, size), stones, size);
+        let first_edge = edge(colour, false, size);
+        let first = flood(first_edge, stones, size);
         let second = flood(edge(colour, true, size), stones, size);
         let lone = roots_of(stones, size).minus(first).minus(second);
         Numbering {
             board: *board,
             colour,
-            joined: board.joined(colour),
+            joined: second.meets(first_edge),
             first,
             second,
             heads: board.empties().union(lone),

@@ -27,11 +27,7 @@ pub fn joined(stones: CellSet, colour: Colour, size: Size) -> bool
     ensures value { result ≡ is_joined size colour stones }
 {
     let reach = flood(edge(colour, true, size), stones, size);
-    let first = reach.meet(edge(colour, false, size));
-    match first.least() {
-        Some(_) => true,
-        None => false,
-    }
+    reach.meets(edge(colour, false, size))
 }
 
 /// A law, with nothing to run: the test `is_joined`, which searches for a path cell by cell, passes exactly where there

@@ -253,7 +253,7 @@ has_cleared a c k h l = has_minus a (1 * 2 ^ c % 2 ^ 128) k h (pow_below c l) �
 pub cleared_value : (a c : ℕ) → a < 2 ^ 121 → c < 121 → bit_and a (2 ^ 128 - 1 - 1 * 2 ^ c % 2 ^ 128) ≡ without_cell a c
 cleared_value a c h l = same_set (bit_and a (2 ^ 128 - 1 - 1 * 2 ^ c % 2 ^ 128)) (without_cell a c) (λ k. has_cleared a c k h l ∙ sym (has_without a c k))
 
-same_out : (a : Bool) (c : ℕ) → (a && not (c == c)) ≡ false
+pub same_out : (a : Bool) (c : ℕ) → (a && not (c == c)) ≡ false
 same_out a c = grind (arith, nat_tests)
 
 -- a set with a cell less is a lesser number

@@ -1,6 +1,9 @@
+-- How many cells of a set lie below a number.
 use Rattle.std.proofs.Common.{◌≡◌, ℕ, ◌+◌, ◌*◌, ◌/◌, ◌%◌, ◌^◌, ◌<◌, ◌≤◌, ◌==◌, zero, suc, true, false, Bool, cond, refl, sym, ◌∙◌, ap, arith, add-one, inl, inr, zero-add, ◌-◌}
 use Rattle.std.proofs.Math.Nat.{suc-add}
 use Rattle.std.specs.Prelude.{count_ones}
+use Rattle.std.specs.List.{count_by, range_with_len}
+use Rattle.std.proofs.lemmas.List.Sums.{sum_by-cons}
 use Rattle.std.proofs.lemmas.Bool.{cases_eq}
 use Rattle.std.proofs.lemmas.Nat.{ones_cat, mod-pow-add, mod_below}
 use Rattle.std.proofs.lemmas.Nat.Bits.{bit_at-lt}
@@ -49,7 +52,7 @@ unfolding members
 members_rise s i zero = rw zero-add (omega arith)
 members_rise s i (suc d) = rw suc-add (omega (arith, members_rise s i d))
 
-bit_of : (b : Bool) → b ≡ true → cond {A = ℕ} b 1 0 ≡ 1
+pub bit_of : (b : Bool) → b ≡ true → cond {A = ℕ} b 1 0 ≡ 1
 bit_of b e = rw e refl
 
 -- past a cell of the set it rises
@@ -81,3 +84,33 @@ members_less t s x (suc j) f h e l = elim (cases_eq x j) [
   | inl q ↦ omega (arith, members_sub t s j f, bit_of (has s j) (ap (λ v. has s v) (sym q) ∙ h), no_bit (has t j) (ap (λ v. has t v) (sym q) ∙ e))
   | inr n ↦ omega (arith, members_less t s x j f h e (omega arith), bit_mono (has t j) (has s j) (f j))
 ]
+
+-- ---- a set whose cells pass a test
+
+plus_none : (a : ℕ) → a + 0 ≡ a
+plus_none a = omega arith
+
+swapped : (x y z : ℕ) → (x + y) + z ≡ y + (x + z)
+swapped x y z = omega arith
+
+pub members_from : (s : ℕ) (p : ℕ → Bool) (a m : ℕ) → ((k : ℕ) → has s k ≡ p k) → members s (a + m) ≡ members s a + count_by p (range_with_len a m)
+members_from s p a zero f = ap (λ v. members s v) (plus_none a) ∙ sym (plus_none (members s a))
+members_from s p a (suc m) f =
+    let e : a + suc m ≡ (a + 1) + m = omega arith in
+    let r : members s ((a + 1) + m) ≡ members s (a + 1) + count_by p (range_with_len (a + 1) m) = members_from s p (a + 1) m f in
+    let t : members s (a + 1) ≡ cond (p a) 1 0 + members s a = members_more s a ∙ ap (λ v. cond v 1 0 + members s a) (f a) in
+    ap (λ v. members s v) e ∙ (r ∙ (ap (λ v. v + count_by p (range_with_len (a + 1) m)) t ∙ (swapped (cond (p a) 1 0) (members s a) (count_by p (range_with_len (a + 1) m))
+    ∙ ap (λ v. members s a + v) (sym (sum_by-cons (λ x. cond (p x) 1 0) a (range_with_len (a + 1) m))))))
+
+-- its members are those that pass
+pub members_test : (s : ℕ) (p : ℕ → Bool) (m : ℕ) → ((k : ℕ) → has s k ≡ p k) → members s m ≡ count_by p (range_with_len 0 m)
+members_test s p m f = let e : 0 + m ≡ m = omega arith in
+    ap (λ v. members s v) (sym e) ∙ (members_from s p 0 m f ∙ (ap (λ v. v + count_by p (range_with_len 0 m)) (members_none s) ∙ zero-add (count_by p (range_with_len 0 m))))
+
+-- past the last cell of a set the count stays
+pub members_flat : (s m d : ℕ) → ((k : ℕ) → m ≤ k → has s k ≡ false) → members s (m + d) ≡ members s m
+unfolding members
+members_flat s m zero f = ap (members s) (plus_none m)
+members_flat s m (suc d) f =
+    let e : m + suc d ≡ suc (m + d) = omega arith in
+    ap (members s) e ∙ (ap (λ v. v + members s (m + d)) (no_bit (has s (m + d)) (f (m + d) (omega arith))) ∙ (zero-add (members s (m + d)) ∙ members_flat s m d f))

@@ -7,3 +7,5 @@ pub mod Naming
 pub mod Ranks
 pub mod Shared
 pub mod Tables
+pub mod ColourLaws
+pub mod WithCell

@@ -1,12 +1,8 @@
 -- A refusal is told exactly where a step is not legal.
-use Rattle.std.proofs.Common.{◌≡◌, Bool, true, false, cond, not, ◌&&◌, List, Some, None, refl, ap, sym, ◌∙◌, arith}
-use Rattle.std.specs.Prelude.{is_some}
-use Rattle.std.proofs.lemmas.Bool.{false≢true}
+use Rattle.std.proofs.Common.{◌≡◌, Bool, true, false, cond, not, ◌&&◌, List, Some, None, refl, ap, sym, ◌∙◌}
 use Rattle.hex_cells.specs.declared.colours.Colour.{Colour}
-use Rattle.hex_cells.specs.declared.colours.Colour.TheVariants.{Black, White}
-use Rattle.hex_game.specs.Moves.{lone_black_stone}
 use Rattle.hex_board.specs.Positions.{Position, is_empty_at}
-use Rattle.hex_game.specs.Games.{GameData, is_over, may_swap, has_no_stone, is_legal_on, is_legal, refusal_on, refusal, replay, board_of, Fits}
+use Rattle.hex_game.specs.Games.{GameData, is_over, may_swap, is_legal_on, is_legal, refusal_on, refusal, replay, board_of}
 use Rattle.hex_game.specs.declared.moves.Move.{Move}
 use Rattle.hex_game.specs.declared.moves.Move.TheVariants.{Stone, Swap}
 use Rattle.hex_game.specs.declared.moves.Step.{Step}

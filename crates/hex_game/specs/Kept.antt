@@ -1,13 +1,14 @@
 -- What a game keeps beside its start board and its steps.
 use Rattle.std.specs.Prelude.{◌≡◌, ℕ, ◌+◌, ◌≤◌, true, List, [], ◌∷◌, ◌++◌, length}
 use Rattle.hex_cells.specs.Sets.{members}
+use Rattle.hex_cells.specs.declared.board_size.TheConstants.{MOST_CELLS}
 use Rattle.hex_board.specs.Positions.{Position}
 use Rattle.hex_game.specs.Games.{is_legal_on, after_step}
 use Rattle.hex_game.specs.declared.moves.Step.{Step}
 
 -- how many stones stand on the board
 abbrev pub stones_on : Position → ℕ
-stones_on now = members now.black 121 + members now.white 121
+stones_on now = members now.black MOST_CELLS + members now.white MOST_CELLS
 
 -- each step but a swap leaves one stone more
 abbrev pub IsFew : List Step → Position → Type 0

@@ -5,15 +5,12 @@ ghost use Rattle.hex_board.specs.Positions.{Position, empty_board};
 ghost use Rattle.hex_game.specs.Moves.{step_of, lone_black_stone};
 ghost use Rattle.hex_game.specs.Games.{GameData, new_game, board_of, is_legal, is_legal_on, refusal, refusal_on, with_step, without_last, moved, IsOnBoard, AreLegal};
 
-use super::moves::{Memory, Move, NoMove, PlayError, Step};
+use super::moves::{MOST_STEPS, Memory, Move, NoMove, PlayError, Step};
 use super::rule::{board_after, cause_against};
 use hex_board::Board;
 use hex_cells::{Cell, CellSet, Colour, Size};
 use std::alloc::Global;
 use std::marker::Model;
-
-/// The most steps of a game: 121 stones, and the swap, which adds none.
-pub const MOST_STEPS: usize = 122;
 
 /// A game. Contracts see its start board and its steps; the board now is their replay.
 #[derive(Drop)]
@@ -29,12 +26,13 @@ impl Model for Game {
     ghost use Rattle.std.specs.Prelude.{◌≤◌, [], vec_capacity};
     ghost use Rattle.hex_game.specs.Games.{GameData};
     ghost use Rattle.hex_game.specs.Kept.{Leads};
+    ghost use Rattle.hex_game.specs.declared.moves.TheConstants.{MOST_STEPS};
 
     ghost Value = { GameData };
 
     ghost view = { λ g. record { start = g.start; steps = g.steps.items } };
 
-    ghost invariant = { λ g. Leads g.start [] g.start g.steps.items g.before.items g.board × (122 ≤ vec_capacity g.steps) × (122 ≤ vec_capacity g.before) };
+    ghost invariant = { λ g. Leads g.start [] g.start g.steps.items g.before.items g.board × (MOST_STEPS ≤ vec_capacity g.steps) × (MOST_STEPS ≤ vec_capacity g.before) };
 }
 
 impl Game {
@@ -129,7 +127,7 @@ impl Game {
     /// does nothing.
     pub fn steps_are_legal(&self)
         ensures legal { AreLegal self.now.start self.now.steps }
-        ensures few { length self.now.steps ≤ 122 }
+        ensures few { length self.now.steps ≤ MOST_STEPS }
     {
         // That the board's two sets of stones are apart bounds the steps.
         let _stones = self.board.stones(Colour::Black);

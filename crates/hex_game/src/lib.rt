@@ -26,8 +26,8 @@ mod history;
 mod moves;
 mod rule;
 
-pub use history::{Game, MOST_STEPS};
-pub use moves::{Memory, Move, NoMove, PlayError, Step};
+pub use history::Game;
+pub use moves::{MOST_STEPS, Memory, Move, NoMove, PlayError, Step};
 
 /// The law of `play` and `undo`: taking back the step that was just taken gives the game before it.
 pub fn undo_takes_back()

@@ -3,8 +3,11 @@
 use hex_cells::{Cell, Colour};
 use thiserror::Error;
 
+/// The most steps of a game: a stone for each cell of the largest board, and the swap, which adds none.
+pub const MOST_STEPS: usize = 122;
+
 /// What a player does in one step.
-#[derive(Clone, Copy)]
+#[derive(Clone, Copy, Debug, PartialEq, Eq)]
 pub enum Move {
     /// A stone on that cell.
     Stone(Cell),
@@ -13,7 +16,7 @@ pub enum Move {
 }
 
 /// One step of a game's history: who made it, and what he did.
-#[derive(Clone, Copy)]
+#[derive(Clone, Copy, Debug, PartialEq, Eq)]
 pub struct Step {
     pub colour: Colour,
     pub what: Move,

@@ -6,9 +6,9 @@ ghost use Rattle.hex_board.specs.Positions.{placed, empty_board, is_empty_at};
 ghost use Rattle.hex_game.specs.Kept.{IsFew, stones_on};
 ghost use Rattle.hex_game.specs.Games.{IsOnBoard, is_over, has_no_stone, may_swap, is_legal_on, refusal_on, moved, swapped, mirrored, Fits};
 
-use super::moves::{Move, PlayError, Step};
+use super::moves::{MOST_STEPS, Move, PlayError, Step};
 use hex_board::Board;
-use hex_cells::{Cell, CellSet, Colour, Size};
+use hex_cells::{Cell, CellSet, Colour, MOST_CELLS, Size};
 
 /// Why the step is refused on this board, which the history led to from the start board.
 pub fn cause_against(start: &Board, steps: &[Step], now: &Board, step: &Step) -> Option<PlayError>
@@ -75,7 +75,7 @@ pub fn board_after(now: &Board, steps: &[Step], step: &Step) -> Board
     requires fits { Fits now.now steps.now step.now.what }
     requires lone { (cell : ℕ) → lone_black_stone steps.now ≡ Some cell → cell < now.now.size * now.now.size }
     ensures value { result ≡ moved now.now steps.now step.now.colour step.now.what }
-    ensures room { IsFew steps.now now.now → length steps.now < 122 }
+    ensures room { IsFew steps.now now.now → length steps.now < MOST_STEPS }
     ensures few { IsFew steps.now now.now → length steps.now ≤ stones_on result }
 {
     match step.what {
@@ -91,7 +91,7 @@ pub fn board_after(now: &Board, steps: &[Step], step: &Step) -> Board
 fn with_stone(now: &Board, colour: Colour, cell: Cell) -> Board
     requires { is_empty_at now.now cell ≡ true }
     ensures value { result ≡ placed now.now colour cell }
-    ensures room { stones_on now.now < 121 }
+    ensures room { stones_on now.now < MOST_CELLS }
     ensures more { stones_on result ≡ stones_on now.now + 1 }
 {
     // That the board has at most 121 cells and that its two sets are apart leaves room for one more stone.

@@ -6,7 +6,7 @@ use Rattle.tree_words.specs.Settings.{Setting, IsSetting}
 use Rattle.tree_words.specs.Complete.{allowed_cells}
 use Rattle.tree_words.specs.Closing.{IsClosed}
 use Rattle.tree_words.specs.Roots.{IsBest, HasRoot}
-use Rattle.tree_words.proofs.RootLaws.{has_root, filter_at}
+use Rattle.tree_words.proofs.Boards.RootLaws.{has_root, filter_at}
 
 -- each allowed cell is in the set of those
 allowed_at : (s : Setting) (i : ℕ) → i < length (allowed_cells s) → has s.allowed (get_or (allowed_cells s) i 0) ≡ true

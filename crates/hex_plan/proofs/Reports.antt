@@ -4,7 +4,7 @@ use Rattle.std.specs.Prelude.{◌==◌}
 use Rattle.std.specs.List.{range_with_len}
 use Rattle.tree_words.specs.Settings.{Setting, IsSetting}
 use Rattle.tree_words.specs.Words.{Count, root_at, next_in, tally_in, seen_in}
-use Rattle.tree_words.specs.Blocks.{LinkedBlock, has, In, InOrder, link_of}
+use Rattle.tree_words.specs.Blocks.{LinkedBlock, has_node, In, InOrder, link_of}
 use Rattle.tree_words.specs.Complete.{allowed_cells}
 use Rattle.tree_words.specs.Closing.{IsClosed}
 use Rattle.tree_words.specs.Records.{leaf_of}
@@ -13,13 +13,15 @@ use Rattle.tree_words.specs.Trees.{IsTreeOf, oldest_first, down, row_of, tree_le
 use Rattle.tree_words.specs.Descents.{Names}
 use Rattle.tree_words.specs.declared.roots.Row.{Row}
 use Rattle.tree_words.specs.Roots.{HasRoot, root_link, root_count, row_at, rows_of}
-use Rattle.tree_words.proofs.BlockLaws.{same_is}
-use Rattle.tree_words.proofs.Down.{child-has, down-split, row-same}
-use Rattle.tree_words.proofs.GameLaws.{root_node}
-use Rattle.tree_words.proofs.Links.{down-link}
-use Rattle.tree_words.proofs.Orders.{rooted-turned, link-names}
-use Rattle.tree_words.proofs.RootLaws.{has_root, root_of, complete_in}
+use Rattle.std.proofs.lemmas.Bool.{eq-eqb}
+use Rattle.tree_words.proofs.Walks.Down.{child-has, down-split, row-same}
+use Rattle.tree_words.proofs.Blocks.BlockLaws.{root_node}
+use Rattle.tree_words.proofs.Blocks.Links.{down-link}
+use Rattle.tree_words.proofs.Blocks.Orders.{rooted-turned, link-names}
+use Rattle.tree_words.proofs.Boards.RootLaws.{has_root, root_of, complete_in}
 use Rattle.hex_plan.specs.Reports.{row_in, rows_on, rows_in}
+use Rattle.tree_words.proofs.Blocks.Members.{names-in, in-turned}
+use Rattle.tree_words.proofs.Blocks.OneTree.{tree-link}
 
 -- a row of a cell and the counts of a node
 row : ℕ → Count → Row
@@ -40,33 +42,9 @@ unfolding rows_at
 rows-row p q bs a [] = refl
 rows-row p q bs a (c ∷ cs) = λ i. row-tree p q bs a c (q a) i ∷ rows-row p q bs (a + 4) cs i
 
--- what is below x goes by the block that has it as its parent
-tree-link : (p q : ℕ → Count) (r : ℕ) (bs : List LinkedBlock) (b : LinkedBlock) → InOrder r bs → Names (oldest_first bs) r b
-    → down (tree_leaf p) (tree_inner p q) (oldest_first bs) r ≡ tree_inner p q b r (down (tree_leaf p) (tree_inner p q) (oldest_first bs))
-tree-link p q r bs b g n = down-link (tree_leaf p) (tree_inner p q) (oldest_first bs) r b (rooted-turned r bs g) n
-    (λ f h e. ap (λ (z : Children). λ (c : ℕ) (v : Count). node c (p r) v z)
-    (row-same (λ y d. f y d (q y)) (λ y d. h y d (q y)) (b.start + 4) b.cells
-    (λ k y l is. ap (λ (t : ℕ → Count → Tree). t (get_or b.cells k 0) (q y)) (e y (ap (has b) is ∙ child-has b k l)))))
-
 rows-down : (p q : ℕ → Count) (r : ℕ) (bs : List LinkedBlock) (b : LinkedBlock) (c : ℕ) (e : Count) → InOrder r bs → Names (oldest_first bs) r b
     → rows_in (tree_at p q (oldest_first bs) r c e) ≡ rows_at p (b.start + 4) b.cells
-rows-down p q r bs b c e g n = ap (λ (t : ℕ → Count → Tree). rows_in (t c e)) (tree-link p q r bs b g n) ∙ rows-row p q (oldest_first bs) (b.start + 4) b.cells
-
--- a block that is named is one of the blocks, and has its parent
-named : (os : List LinkedBlock) (x : ℕ) (b : LinkedBlock) → Names os x b → In b os × (b.parent ≡ x)
-named [] x b n = absurd n
-named (c ∷ os) x b n = ⊎_elim
-    (λ (u : (c ≡ b) × (b.parent ≡ x)). (inl (sym u.0), u.1))
-    (λ (u : ((c.parent == x) ≡ false) × Names os x b). let t = named os x b u.1 in (inr t.0, t.1)) n
-
-in-snoc : (os : List LinkedBlock) (n b : LinkedBlock) → In b (os ++ n ∷ []) → (b ≡ n) ⊎ In b os
-in-snoc [] n b i = ⊎_elim (λ (e : b ≡ n). inl e) (λ (z : ⊥). absurd z) i
-in-snoc (c ∷ os) n b i = ⊎_elim (λ (e : b ≡ c). inr (inl e))
-    (λ (h : In b (os ++ n ∷ [])). ⊎_elim (λ (e : b ≡ n). inl e) (λ (j : In b os). inr (inr j)) (in-snoc os n b h)) i
-
-in-turned : (bs : List LinkedBlock) (b : LinkedBlock) → In b (oldest_first bs) → In b bs
-in-turned [] b i = i
-in-turned (c ∷ bs) b i = ⊎_elim (λ (e : b ≡ c). inl e) (λ (h : In b (oldest_first bs)). inr (in-turned bs b h)) (in-snoc (oldest_first bs) c b i)
+rows-down p q r bs b c e g n = ap (λ (t : ℕ → Count → Tree). rows_in (t c e)) (tree-link p q r bs r b g n) ∙ rows-row p q (oldest_first bs) (b.start + 4) b.cells
 
 -- rows by their places
 rows-map : (p : ℕ → Count) (g : ℕ → Row) (a k : ℕ) (cs : List ℕ) → ((i j x : ℕ) → i < length cs → j ≡ k + i → x ≡ a + 4 * i → g j ≡ row (get_or cs i 0) (p x)) → map g (range_with_len k (length cs)) ≡ rows_at p a cs
@@ -101,9 +79,9 @@ rows_of_tree s words t h c tree =
     let link : root_link s words ≡ link_of bs r = tree.linked.shows.links r (root_node r bs) in
     let n = link-names r bs r tree.linked.order (omega (arith, link, linked-root s words h c)) in
     let b : LinkedBlock = n.0 in
-    let at = named (oldest_first bs) r b n.1 in
-    let k = complete_in s (next_in words) bs b tree.linked.complete (in-turned bs b at.0) in
-    let cells : b.cells ≡ allowed_cells s = k.1.cells ∙ chosen (b.parent == r) _ _ (same_is b.parent r at.1) in
+    let at = names-in (oldest_first bs) r b n.1 in
+    let k = complete_in s (next_in words) bs b tree.linked.complete (in-turned b bs at.0) in
+    let cells : b.cells ≡ allowed_cells s = k.1.cells ∙ chosen (b.parent == r) _ _ (eq-eqb b.parent r at.1) in
     let root : HasRoot s words = has_root s words h c in
     let count : root_count s words ≡ length b.cells = root.count ∙ sym (ap length cells) in
     let each : (i j x : ℕ) → i < length b.cells → j ≡ 0 + i → x ≡ b.start + 4 + 4 * i → row_at s words j ≡ row (get_or b.cells i 0) (tally_in words x)

@@ -5,13 +5,11 @@ use Rattle.hex_cells.specs.Sets.{has}
 use Rattle.hex_board.specs.Positions.{Position, is_empty_at}
 use Rattle.hex_board.proofs.Search.{any_in, any_out}
 use Rattle.hex_plan.specs.Openings.{has_room}
-
-pub on_board : (p : Position) (k : ℕ) → is_empty_at p k ≡ true → k < p.size * p.size
-on_board p k e = ltb-true k (p.size * p.size) (and_parts _ _ (and_parts _ _ e).0).0
+use Rattle.hex_board.proofs.Placed.{empty_on}
 
 -- an empty cell makes room
 pub room_of : (p : Position) (k : ℕ) → is_empty_at p k ≡ true → has_room p ≡ true
-room_of p k e = any_in (is_empty_at p) 0 (p.size * p.size) k (omega arith) (omega (arith, on_board p k e)) e
+room_of p k e = any_in (is_empty_at p) 0 (p.size * p.size) k (omega arith) (omega (arith, empty_on p k e)) e
 
 -- where there is room, a cell is empty
 pub empty_in : (p : Position) → has_room p ≡ true → (k : ℕ) × (is_empty_at p k ≡ true)

@@ -9,7 +9,7 @@ use Rattle.tree_words.specs.declared.roots.Row.{Row}
 use Rattle.tree_words.specs.Settings.{Setting}
 use Rattle.tree_words.specs.Roots.{IsBest, HasRoot, root_count, row_at, rows_of}
 use Rattle.tree_words.specs.Sequence.{seq_of}
-use Rattle.tree_words.proofs.RootLaws.{has_root}
+use Rattle.tree_words.proofs.Boards.RootLaws.{has_root}
 use Rattle.hex_plan.specs.Good.{IsTurnShape, IsGood}
 use Rattle.hex_plan.specs.Reports.{rows_in}
 use Rattle.hex_plan.specs.Turns.{Decision}

@@ -102,7 +102,7 @@ impl Turn {
     }
 
     /// The cell that was chosen: the least of those of the root's children with most visits, which is empty.
-    #[tactic(auto, using(crate::proofs::Rooms::on_board))]
+    #[tactic(auto, using(hex_board::proofs::Placed::empty_on))]
     pub fn cell(&self) -> Cell
         ensures value { result ≡ self.now.cell }
         ensures on_board { result < self.now.board.size * self.now.board.size }

@@ -2,7 +2,7 @@
 use Rattle.std.proofs.Common.{◌≡◌, ℕ, ◌+◌, ◌*◌, ◌<◌, ◌≤◌, ◌==◌, ◌&&◌, not, nat_lt, true, false, Bool, cond, List, ◌∷◌, refl, sym, ◌∙◌, ap, arith, inl, inr, zero, suc, zero-add}
 use Rattle.std.specs.List.{filter, range_with_len, count_by}
 use Rattle.std.specs.List.Sorted.{IsPermutation}
-use Rattle.std.proofs.lemmas.Bool.{cases_eq, cases_lt}
+use Rattle.std.proofs.lemmas.Bool.{cases_eq, cases_lt, eq-eqb, ne_eqb}
 use Rattle.std.proofs.lemmas.Bool.Decides.{nat_tests}
 use Rattle.std.proofs.lemmas.List.Sums.{sum_by-cons}
 use Rattle.std.proofs.lemmas.List.Sorted.{sum_by-IsPermutation}
@@ -13,17 +13,11 @@ use Rattle.play_out.specs.Fills.{ListsEmpties, empties_of}
 count : (k x : ℕ) (xs : List ℕ) → count_by (λ c. c == k) (x ∷ xs) ≡ cond (x == k) 1 0 + count_by (λ c. c == k) xs
 count k x xs = sum_by-cons (λ c. cond (c == k) 1 0) x xs
 
-pub is_cell : (x k : ℕ) → x ≡ k → (x == k) ≡ true
-is_cell x k e = grind (arith, nat_tests)
-
-pub no_cell : (x k : ℕ) → (x ≡ k → ⊥) → (x == k) ≡ false
-no_cell x k n = grind (arith, nat_tests)
-
 pub counted_here : (k x : ℕ) (xs : List ℕ) → x ≡ k → count_by (λ c. c == k) (x ∷ xs) ≡ 1 + count_by (λ c. c == k) xs
-counted_here k x xs e = count k x xs ∙ ap (λ b. cond b 1 0 + count_by (λ c. c == k) xs) (is_cell x k e)
+counted_here k x xs e = count k x xs ∙ ap (λ b. cond b 1 0 + count_by (λ c. c == k) xs) (eq-eqb x k e)
 
 pub counted_later : (k x : ℕ) (xs : List ℕ) → (x ≡ k → ⊥) → count_by (λ c. c == k) (x ∷ xs) ≡ count_by (λ c. c == k) xs
-counted_later k x xs n = count k x xs ∙ (ap (λ b. cond b 1 0 + count_by (λ c. c == k) xs) (no_cell x k n) ∙ zero-add (count_by (λ c. c == k) xs))
+counted_later k x xs n = count k x xs ∙ (ap (λ b. cond b 1 0 + count_by (λ c. c == k) xs) (ne_eqb x k n) ∙ zero-add (count_by (λ c. c == k) xs))
 
 -- one more cell of a filter, where it is another cell
 skipped : (p : ℕ → Bool) (b : Bool) (k x : ℕ) (xs : List ℕ) → (x ≡ k → ⊥) → count_by (λ c. c == k) (cond b (x ∷ xs) xs) ≡ count_by (λ c. c == k) xs

@@ -1,4 +1,4 @@
-mod Listing
+pub mod Listing
 mod Shuffles
 pub mod Counting
 mod Turns

@@ -1,5 +1,5 @@
 -- The cells of a set, listed one by one.
-use Rattle.std.proofs.Common.{◌≡◌, ℕ, ◌+◌, ◌*◌, ◌<◌, ◌≤◌, true, false, Bool, cond, List, [], ◌∷◌, ◌++◌, length, take, refl, sym, ◌∙◌, ap, arith, zero, suc, add-one, add-zero, append-nil, length-append}
+use Rattle.std.proofs.Common.{◌/◌, ◌^◌, ◌==◌, bit_and, pow-add, subst, inl, inr, ◌≡◌, ℕ, ◌+◌, ◌*◌, ◌<◌, ◌≤◌, true, false, Bool, cond, List, [], ◌∷◌, ◌++◌, length, take, refl, sym, ◌∙◌, ap, arith, zero, suc, add-one, add-zero, append-nil, length-append}
 use Rattle.std.proofs.Math.ListN.{set, length-set}
 use Rattle.std.proofs.Math.Nat.{mul-le-mul}
 use Rattle.std.specs.List.{filter, range_with_len}
@@ -7,7 +7,11 @@ use Rattle.std.proofs.lemmas.List.{take_more_set, take-set}
 use Rattle.std.proofs.lemmas.List.Elements.{filter_agree}
 use Rattle.std.proofs.lemmas.List.Sums.{length-filter, count_by-le-length}
 use Rattle.std.proofs.lemmas.List.FromFn.{length-range_with_len}
+use Rattle.std.proofs.lemmas.Bool.{cases_Bool, eqb-true, eqb-false}
+use Rattle.std.proofs.lemmas.Nat.{and_le_r}
+use Rattle.std.proofs.Math.Nat.{div-div-eq-div-mul}
 use Rattle.hex_cells.specs.Sets.{has}
+use Rattle.hex_cells.proofs.Bits.{has_test}
 use Rattle.hex_board.specs.Joined.{cells_of}
 use Rattle.hex_board.specs.Positions.{Position, is_empty_at}
 use Rattle.play_out.specs.Fills.{empties_of}
@@ -17,7 +21,7 @@ front true x xs ys = refl
 front false x xs ys = refl
 
 -- a filter of one number more
-filter_more : (p : ℕ → Bool) (a n m : ℕ) → a + n ≡ m → filter p (range_with_len a (suc n)) ≡ filter p (range_with_len a n) ++ cond (p m) (m ∷ []) []
+pub filter_more : (p : ℕ → Bool) (a n m : ℕ) → a + n ≡ m → filter p (range_with_len a (suc n)) ≡ filter p (range_with_len a n) ++ cond (p m) (m ∷ []) []
 filter_more p a zero m e = ap (λ v. cond (p v) (v ∷ []) []) (sym (add-zero a) ∙ e)
 filter_more p a (suc n) m e =
     ap (λ xs. cond (p a) (a ∷ xs) xs) (filter_more p (a + 1) n m (omega arith))
@@ -66,6 +70,23 @@ cell_passed s cells count end c l e t =
       many = l.many ∙ ap length (sym same);
       size = length-set cells count c ∙ l.size;
     }
+
+-- a cell more, where the lowest bit of the rest tells whether the set has it
+pub listed_next : (s rest : ℕ) (cells : List ℕ) (count end c : ℕ) → Listed s cells count end → rest ≡ s / 2 ^ end → end < 121 → c ≡ end
+    → Listed s (set cells count c) (count + bit_and rest 1) (end + 1)
+listed_next s rest cells count end c l r h e =
+    let test : (bit_and rest 1 == 1) ≡ has s end = ap (λ v. bit_and v 1 == 1) r ∙ has_test s end in
+    let low : bit_and rest 1 ≤ 1 = and_le_r rest 1 in
+    elim (cases_Bool (has s end)) [
+      | inl t ↦ let one : bit_and rest 1 ≡ 1 = eqb-true (bit_and rest 1) 1 (test ∙ t) in
+          subst (λ n. Listed s (set cells count c) (count + n) (end + 1)) (sym one) (cell_kept s cells count end c l h e (ap (has s) e ∙ t))
+      | inr f ↦ let other = eqb-false (bit_and rest 1) 1 (test ∙ f) in
+          let same : count + bit_and rest 1 ≡ count = omega (arith, low, other) in
+          subst (λ n. Listed s (set cells count c) n (end + 1)) (sym same) (cell_passed s cells count end c l e (ap (has s) e ∙ f))
+    ]
+
+pub rest_next : (s rest k : ℕ) → rest ≡ s / 2 ^ k → rest / 2 ≡ s / 2 ^ (k + 1)
+rest_next s rest k e = ap (λ v. v / 2) e ∙ (div-div-eq-div-mul s (2 ^ k) 2 ∙ ap (λ v. s / v) (sym (pow-add 2 k 1)))
 
 -- all cells are the whole board
 pub all_cells : (p : Position) (s : ℕ) (cells : List ℕ) (count : ℕ) → ((k : ℕ) → has s k ≡ is_empty_at p k)

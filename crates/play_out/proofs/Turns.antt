@@ -4,56 +4,19 @@ use Rattle.std.proofs.Math.Nat.{one-mul}
 use Rattle.std.proofs.Math.Seq.{drop-cons}
 use Rattle.std.proofs.lemmas.List.{drop_all, drop-drop}
 use Rattle.std.specs.List.{count_by}
-use Rattle.std.proofs.lemmas.Bool.{cases_eq, or_left}
+use Rattle.std.proofs.lemmas.Bool.{cases_eq, or_left, eq-eqb, ne_eqb}
 use Rattle.std.proofs.lemmas.Bool.Decides.{nat_tests}
 use Rattle.hex_cells.specs.Sets.{has, with_cell}
-use Rattle.hex_cells.specs.Colours.{other_of}
+use Rattle.hex_cells.specs.Colours.{other_of, is_same}
 use Rattle.hex_cells.specs.declared.colours.Colour.{Colour}
 use Rattle.hex_cells.specs.declared.colours.Colour.TheVariants.{Black, White}
 use Rattle.hex_cells.specs.contracts.colours.Colour.{the_type}
 use denote.Enum.Bare.{sameb}
 use Rattle.hex_cells.proofs.Bits.{has_or, has_shl, has_above}
 use Rattle.hex_board.specs.Positions.{Position, is_empty_at, placed, stones_of}
-use Rattle.hex_board.specs.Wins.{is_same}
 use Rattle.play_out.specs.Fills.{ListsEmpties, filled_by}
-use Rattle.play_out.proofs.Counting.{is_cell, no_cell, counted_here, counted_later}
-
-zeroth : has 1 0 ≡ true
-unfolding has
-zeroth = refl
-
-has_one : (k : ℕ) → has 1 k ≡ (k == 0)
-has_one k = elim (cases_eq k 0) [
-  | inl e ↦ ap (λ v. has 1 v) e ∙ (zeroth ∙ sym (is_cell k 0 e))
-  | inr n ↦ has_above 1 1 k (lit< tt) (omega arith) ∙ sym (no_cell k 0 n)
-]
-
-pub has_with_cell : (s c k : ℕ) → has (with_cell s c) k ≡ (has s k || k == c)
-has_with_cell s c k =
-    let e : has (2 ^ c) k ≡ (not (nat_lt k c) && has 1 (k - c)) = ap (λ v. has v k) (sym (one-mul (2 ^ c))) ∙ has_shl 1 c k in
-    has_or s (2 ^ c) k ∙ ap (λ b. has s k || b) (e ∙ (ap (λ b. not (nat_lt k c) && b) (has_one (k - c)) ∙ same k c))
-  where
-    same : (j i : ℕ) → (not (nat_lt j i) && j - i == 0) ≡ (j == i)
-    same j i = grind (arith, nat_tests)
-
--- a stone more leaves the other cells as they are
-placed_leaves : (p : Position) (player : Colour) (c k : ℕ) → is_empty_at (placed p player c) k ≡ (is_empty_at p k && not (k == c))
-placed_leaves p Black c k = ap (λ b. nat_lt k (p.size * p.size) && not b && not (has p.white k)) (has_with_cell p.black c k) ∙ black (nat_lt k (p.size * p.size)) (has p.black k) (has p.white k) (k == c)
-  where
-    black : (a b w e : Bool) → (a && not (b || e) && not w) ≡ ((a && not b && not w) && not e)
-    black true true w e = refl
-    black true false true true = refl
-    black true false true false = refl
-    black true false false true = refl
-    black true false false false = refl
-    black false b w e = refl
-placed_leaves p White c k = ap (λ b. nat_lt k (p.size * p.size) && not (has p.black k) && not b) (has_with_cell p.white c k) ∙ white (nat_lt k (p.size * p.size)) (has p.black k) (has p.white k) (k == c)
-  where
-    white : (a b w e : Bool) → (a && not b && not (w || e)) ≡ ((a && not b && not w) && not e)
-    white true true w e = refl
-    white true false true e = refl
-    white true false false e = refl
-    white false b w e = refl
+use Rattle.play_out.proofs.Counting.{counted_here, counted_later}
+use Rattle.hex_board.proofs.Placed.{placed_leaves, placed_keeps, placed_size}
 
 one_of : (b : Bool) (n : ℕ) → 1 + n ≡ cond b 1 0 → b ≡ true
 one_of true n e = refl
@@ -69,8 +32,8 @@ first_empty p c left f = one_of (is_empty_at p c) (count_by (λ x. x == c) left)
 pub rest_empty : (p : Position) (player : Colour) (c : ℕ) (left : List ℕ) → ListsEmpties p (c ∷ left) → ListsEmpties (placed p player c) left
 rest_empty p player c left f k = elim (cases_eq c k) [
   | inl e ↦ none_left (is_empty_at p k) (count_by (λ x. x == k) left) (sym (counted_here k c left e) ∙ f k)
-      ∙ sym (ap (λ b. cond b 1 0) (placed_leaves p player c k ∙ (ap (λ b. is_empty_at p k && not b) (is_cell k c (sym e)) ∙ and_no (is_empty_at p k))))
-  | inr n ↦ sym (counted_later k c left n) ∙ (f k ∙ sym (ap (λ b. cond b 1 0) (placed_leaves p player c k ∙ (ap (λ b. is_empty_at p k && not b) (no_cell k c (λ e. n (sym e))) ∙ and_yes (is_empty_at p k)))))
+      ∙ sym (ap (λ b. cond b 1 0) (placed_leaves p player c k ∙ (ap (λ b. is_empty_at p k && not b) (eq-eqb k c (sym e)) ∙ and_no (is_empty_at p k))))
+  | inr n ↦ sym (counted_later k c left n) ∙ (f k ∙ sym (ap (λ b. cond b 1 0) (placed_leaves p player c k ∙ (ap (λ b. is_empty_at p k && not b) (ne_eqb k c (λ e. n (sym e))) ∙ and_yes (is_empty_at p k)))))
 ]
   where
     and_no : (b : Bool) → (b && false) ≡ false
@@ -93,28 +56,18 @@ unfolding filled_by
 full_after p player [] f k = none_empty (is_empty_at p k) (f k)
 full_after p player (c ∷ cells) f k = full_after (placed p player c) (other_of player) cells (rest_empty p player c cells f) k
 
-one_kept : (p : Position) (player : Colour) (c : ℕ) (owner : Colour) (k : ℕ) → has (stones_of p owner) k ≡ true → has (stones_of (placed p player c) owner) k ≡ true
-one_kept p Black c Black k h = has_with_cell p.black c k ∙ or_left (has p.black k) (k == c) h
-one_kept p Black c White k h = h
-one_kept p White c Black k h = h
-one_kept p White c White k h = has_with_cell p.white c k ∙ or_left (has p.white k) (k == c) h
-
 -- each stone stays
 pub kept_after : (p : Position) (player : Colour) (cells : List ℕ) (owner : Colour) (k : ℕ) → has (stones_of p owner) k ≡ true
     → has (stones_of (filled_by p player cells) owner) k ≡ true
 unfolding filled_by
 kept_after p player [] owner k h = h
-kept_after p player (c ∷ cells) owner k h = kept_after (placed p player c) (other_of player) cells owner k (one_kept p player c owner k h)
-
-one_size : (p : Position) (player : Colour) (c : ℕ) → (placed p player c).size ≡ p.size
-one_size p Black c = refl
-one_size p White c = refl
+kept_after p player (c ∷ cells) owner k h = kept_after (placed p player c) (other_of player) cells owner k (placed_keeps p player c owner k h)
 
 -- the size stays
 pub size_after : (p : Position) (player : Colour) (cells : List ℕ) → (filled_by p player cells).size ≡ p.size
 unfolding filled_by
 size_after p player [] = refl
-size_after p player (c ∷ cells) = size_after (placed p player c) (other_of player) cells ∙ one_size p player c
+size_after p player (c ∷ cells) = size_after (placed p player c) (other_of player) cells ∙ placed_size p player c
 
 -- ---- the stones of one player
 
@@ -166,10 +119,3 @@ turns_go_on s cells i c next l q e =
 pub turns_end : (s : ℕ) (cells : List ℕ) (i : ℕ) → length cells ≤ i → s ≡ with_turns true s (drop i cells)
 unfolding with_turns
 turns_end s cells i l = sym (ap (λ v. with_turns true s v) (drop_all i cells l))
-
--- the players that the code compares
-pub same_player : (a b : Colour) → sameb the_type a b ≡ is_same a b
-same_player Black Black = refl
-same_player Black White = refl
-same_player White Black = refl
-same_player White White = refl

@@ -27,11 +27,13 @@ unfoldable pub filled_by : Position → Colour → List ℕ → Position
 filled_by p player [] = p
 filled_by p player (c ∷ cells) = filled_by (placed p player c) (other_of player) cells
 
--- the filled board of playout k of a search with this seed, from a board where the player is to move
+-- the filled board of playout k of a search with this seed, from a board where the player is to
+-- move
 unfoldable pub filled : Position → Colour → ℕ → ℕ → Position
 filled p player seed k = filled_by p player (order_of p seed k)
 
--- who has won on a filled board of this size where these are Black's stones: Black where he is joined, else White
+-- who has won on a filled board of this size where these are Black's stones: Black where he is
+-- joined, else White
 abbrev pub winner_by : ℕ → ℕ → Colour
 winner_by size black = if is_joined size Black black then Black else White
 

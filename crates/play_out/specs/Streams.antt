@@ -10,7 +10,8 @@ use Rattle.rand_xoshiro.specs.Xoshiro256.{of_seed, plus_plus}
 abbrev pub stream_at : List ℕ → Stream
 stream_at state = stream_of (steps_u64_high plus_plus) state
 
--- the state of the generator of playout k of a search with this seed: `seed_from_u64` of seed + k modulo 2^64
+-- the state of the generator of playout k of a search with this seed: `seed_from_u64` of seed + k
+-- modulo 2^64
 abbrev pub state_for : ℕ → ℕ → List ℕ
 state_for seed k = of_seed (splitmix_seed 32 ((seed + k) % 2 ^ 64))
 
@@ -23,9 +24,10 @@ words_of (suc n) stream = (next_u64 stream).0 ∷ words_of n (next_u64 stream).1
 abbrev pub place_of : ℕ → ℕ → ℕ
 place_of word i = word * (i + 1) / 2 ^ 64
 
--- the cells after a shuffle of the places 0 to i: for each place from i down to 1 the next word gives a place, and the
--- cells at both change places
+-- the cells after a shuffle of the places 0 to i: for each place from i down to 1 the next word
+-- gives a place, and the cells at both change places
 unfoldable pub shuffled : ℕ → List ℕ → List ℕ → List ℕ
 shuffled zero words cells = cells
 shuffled (suc i) [] cells = cells
-shuffled (suc i) (word ∷ words) cells = shuffled i words (swap cells (suc i) (place_of word (suc i)))
+shuffled (suc i) (word ∷ words) cells =
+    shuffled i words (swap cells (suc i) (place_of word (suc i)))

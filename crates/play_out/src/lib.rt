@@ -1,25 +1,28 @@
 //! Seeded playouts: a board filled at random, and who is joined on it.
 //!
-//! **What it is.** A *playout* of a board is named by the player to move, a search's seed and a number `k`. Its
-//! *generator* is a Xoshiro256PlusPlus made by `seed_from_u64` of `seed + k` modulo 2^64, and its *words* are that
-//! generator's outputs of 64 bits. They shuffle the empty cells, which begin in rising order: for each place `i` from the
-//! last down to 1 the next word gives the place `word * (i + 1) / 2^64`, rounded down, and the cells at both change
-//! places. The *filled board* has stones on these cells, in turn, the first of the player to move. Its *result* is Black
-//! where Black is joined on it, else White.
+//! **What it is.** A *playout* of a board is named by the player to move, a search's seed and a
+//! number `k`. Its *generator* is a Xoshiro256PlusPlus made by `seed_from_u64` of `seed + k` modulo
+//! 2^64, and its *words* are that generator's outputs of 64 bits. They shuffle the empty cells,
+//! which begin in rising order: for each place `i` from the last down to 1 the next word gives the
+//! place `word * (i + 1) / 2^64`, rounded down, and the cells at both change places. The *filled
+//! board* has stones on these cells, in turn, the first of the player to move. Its *result* is
+//! Black where Black is joined on it, else White.
 //!
-//! **A caller** asks for the result, `playout(&board, Colour::Black, seed, k)`, for the filled board,
-//! `fill(&board, Colour::Black, seed, k)`, or for both, `play(&board, Colour::Black, seed, k)`. [`write_order`] gives the
-//! shuffled empty cells alone.
+//! **A caller** asks for the result, `playout(&board, Colour::Black, seed, k)`, for the filled
+//! board, `fill(&board, Colour::Black, seed, k)`, or for both, `play(&board, Colour::Black, seed,
+//! k)`. [`write_order`] gives the shuffled empty cells alone.
 //!
-//! **What is proved.** `fill` gives the filled board and `playout` its result, for every board, player, seed and `k`,
-//! with the words as `rand_xoshiro` says what that generator answers. No cell of a filled board is empty, each stone of
-//! the board stays, and the size stays. The result is Black exactly where a path of Black's stones leads from his first
-//! edge to his second.
+//! **What is proved.** `fill` gives the filled board and `playout` its result, for every board,
+//! player, seed and `k`, with the words as `rand_xoshiro` says what that generator answers. No cell
+//! of a filled board is empty, each stone of the board stays, and the size stays. The result is
+//! Black exactly where a path of Black's stones leads from his first edge to his second.
 //!
-//! **What is only tested, or not said.** That the words are those of the published generator: tests compare them. That
-//! exactly one player is joined on a filled board is not said, and nor are speed and how even the shuffle is.
+//! **What is only tested, or not said.** That the words are those of the published generator: tests
+//! compare them. That exactly one player is joined on a filled board is not said, and nor are speed
+//! and how even the shuffle is.
 //!
-//! **Limits.** Boards of up to 121 cells. No call takes memory, asks anything of its caller or refuses.
+//! **Limits.** Boards of up to 121 cells. No call takes memory, asks anything of its caller or
+//! refuses.
 #![tactic(auto)]
 
 mod order;

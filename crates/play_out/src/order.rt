@@ -13,26 +13,27 @@ use rand_xoshiro::Xoshiro256PlusPlus;
 /// A board has no more empty cells than the largest board has cells.
 pub const MOST_EMPTIES: usize = MOST_CELLS as usize;
 
-// Writes the empty cells of the board, in rising order, at the front of `cells`, and answers how many they are.
+// Writes the empty cells of the board, in rising order, at the front of `cells`, and answers how
+// many they are.
 fn list_empties(board: &Board, cells: &mut [Cell; MOST_EMPTIES]) -> usize
     ensures list { take result cells.new ≡ empties_of board.now }
     ensures count { result ≡ length (empties_of board.now) }
     ensures range { result ≤ MOST_EMPTIES }
 {
     let empties = board.empties();
+    let mut rest = empties.bits();
     let mut count = 0;
     for k in 0..board.size().cells() {
         // A cell that is not empty is written over by the next; this is faster than to go round it.
-        let cell = Cell::numbered(k);
-        cells[count] = cell;
-        if empties.has(cell) {
-            count += 1;
-        }
+        cells[count] = Cell::numbered(k);
+        count += (rest & 1) as usize;
+        rest >>= 1;
     }
     count
 }
 
-// The place that a word gives among the places 0 to `i`. The high half of the product is its part of `i + 1`.
+// The place that a word gives among the places 0 to `i`. The high half of the product is its part
+// of `i + 1`.
 fn place(word: u64, i: usize) -> usize
     requires { i < MOST_EMPTIES }
     ensures value { result ≡ place_of word i }
@@ -41,10 +42,12 @@ fn place(word: u64, i: usize) -> usize
     (u128::from(word) * (i as u128 + 1) >> u64::BITS) as usize
 }
 
-// Shuffles the cells: from the last place down, each changes places with one that the next word gives.
+// Shuffles the cells: from the last place down, each changes places with one that the next word
+// gives.
 fn shuffle(cells: &mut [Cell], generator: &mut Xoshiro256PlusPlus)
     requires { length cells.old ≤ MOST_EMPTIES }
-    ensures order { let last = length cells.old - 1 in cells.new ≡ shuffled last (words_of last (stream_at generator.old)) cells.old }
+    ensures order { let last = length cells.old - 1 in
+        cells.new ≡ shuffled last (words_of last (stream_at generator.old)) cells.old }
     ensures same { IsPermutation cells.old cells.new }
 {
     let mut i = cells.len();
@@ -55,8 +58,9 @@ fn shuffle(cells: &mut [Cell], generator: &mut Xoshiro256PlusPlus)
     }
 }
 
-/// Writes the empty cells of the board, in the order in which playout `k` of a search with this seed fills them, at the
-/// front of `cells`, and answers how many they are. The cells behind them are left over.
+/// Writes the empty cells of the board, in the order in which playout `k` of a search with this
+/// seed fills them, at the front of `cells`, and answers how many they are. The cells behind them
+/// are left over.
 pub fn write_order(board: &Board, seed: u64, k: u64, cells: &mut [Cell; MOST_EMPTIES]) -> usize
     ensures order { take result cells.new ≡ order_of board.now seed k }
     ensures empties { ListsEmpties board.now (take result cells.new) }

@@ -12,13 +12,14 @@ use super::order::{MOST_EMPTIES, write_order};
 use hex_board::{Board, joined};
 use hex_cells::{Cell, CellSet, Colour, Size};
 
-// The stones of one player after stones on the cells in turn, the first of the player to move. He puts his on every second
-// cell.
+// The stones of one player after stones on the cells in turn, the first of the player to move. He
+// puts his on every second cell.
 fn stones_after(board: &Board, to_move: Colour, owner: Colour, cells: &[Cell]) -> CellSet
     requires { ListsEmpties board.now cells.now }
     ensures value { result ≡ stones_of (filled_by board.now to_move cells.now) owner }
     ensures on_board { Within board.now.size result }
-    ensures apart { Apart result (stones_of (filled_by board.now to_move cells.now) (other_of owner)) }
+    ensures apart { let full = filled_by board.now to_move cells.now in
+        Apart result (stones_of full (other_of owner)) }
 {
     let mut stones = board.stones(owner);
     let mut i = if to_move == owner { 0 } else { 1 };
@@ -29,7 +30,8 @@ fn stones_after(board: &Board, to_move: Colour, owner: Colour, cells: &[Cell]) -
     stones
 }
 
-// Who has won on a filled board of this size where these are Black's stones: Black where he is joined, else White.
+// Who has won on a filled board of this size where these are Black's stones: Black where he is
+// joined, else White.
 fn winner(black: CellSet, size: Size) -> Colour
     ensures { result ≡ winner_by size black }
 {
@@ -50,12 +52,13 @@ pub struct Ending {
     pub winner: Colour,
 }
 
-/// The filled board of playout `k` of a search with this seed: stones on the shuffled empty cells, in turn, the first of
-/// the player to move. A full board is its own filled board.
+/// The filled board of playout `k` of a search with this seed: stones on the shuffled empty cells,
+/// in turn, the first of the player to move. A full board is its own filled board.
 pub fn fill(board: &Board, to_move: Colour, seed: u64, k: u64) -> Board
     ensures value { result ≡ filled board.now to_move seed k }
     ensures full { (c : ℕ) → is_empty_at result c ≡ false }
-    ensures kept { (owner : Colour) (c : ℕ) → has (stones_of board.now owner) c ≡ true → has (stones_of result owner) c ≡ true }
+    ensures kept { (owner : Colour) (c : ℕ) → has (stones_of board.now owner) c ≡ true
+        → has (stones_of result owner) c ≡ true }
     ensures size { result.size ≡ board.now.size }
 {
     let mut cells = [Cell::numbered(0); MOST_EMPTIES];
@@ -65,11 +68,12 @@ pub fn fill(board: &Board, to_move: Colour, seed: u64, k: u64) -> Board
     Board::of(board.size(), black, white)
 }
 
-/// The result of playout `k` of a search with this seed: Black where Black is joined on the filled board, else White. A
-/// player may be joined before the fill.
+/// The result of playout `k` of a search with this seed: Black where Black is joined on the filled
+/// board, else White. A player may be joined before the fill.
 pub fn playout(board: &Board, to_move: Colour, seed: u64, k: u64) -> Colour
     ensures value { result ≡ playout_of board.now to_move seed k }
-    ensures joined { let full = filled board.now to_move seed k in (result ≡ Colour.Black) ↔ Joined full.size Colour.Black full.black }
+    ensures joined { let full = filled board.now to_move seed k in
+        (result ≡ Colour.Black) ↔ Joined full.size Colour.Black full.black }
 {
     let mut cells = [Cell::numbered(0); MOST_EMPTIES];
     let count = write_order(board, seed, k, &mut cells);

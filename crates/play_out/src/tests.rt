@@ -1,15 +1,16 @@
-//! The words of the generator, filled boards and results, against values that other programs computed from the published
-//! algorithms of xoshiro256++ and SplitMix64.
+//! The words of the generator, filled boards and results, against values that other programs
+//! computed from the published algorithms of xoshiro256++ and SplitMix64.
 
-use super::{fill, playout};
+use super::{Ending, MOST_EMPTIES, fill, play, playout, write_order};
 use hex_board::Board;
 use hex_cells::{Cell, CellSet, Colour, Size};
 use rand_core::{Rng, SeedableRng};
 use rand_xoshiro::Xoshiro256PlusPlus;
 use std::test::Fail;
 
-// A board and a playout: the size, Black's stones, the player to move, the seed and the number of the playout; then Black's
-// cells on the filled board, and the result. Cells are the bits of a number, bit c for cell c.
+// A board and a playout: the size, Black's stones, the player to move, the seed and the number of
+// the playout; then Black's cells on the filled board, and the result. Cells are the bits of a
+// number, bit c for cell c.
 type Case = (u32, u128, Colour, u64, u64, u128, Colour);
 
 const CASES: [Case; 24] = [
@@ -77,29 +78,13 @@ const CASES: [Case; 24] = [
 // The board of this size with these stones of Black.
 fn board_of(size: Size, black: u128) -> Board {
     let mut board = Board::of(size, CellSet::none(), CellSet::none());
-    for row in 0..size.get() {
-        for column in 0..size.get() {
-            let cell = Cell::at(size, column, row);
-            if black >> cell.number() & 1 == 1 && board.empties().has(cell) {
-                board.place(Colour::Black, cell);
-            }
+    for k in 0..size.cells() {
+        let cell = Cell::numbered(k);
+        if black >> k & 1 == 1 && board.empties().has(cell) {
+            board.place(Colour::Black, cell);
         }
     }
     board
-}
-
-// The cells of a set on a board of this size, as the bits of a number.
-fn bits_of(size: Size, set: CellSet) -> u128 {
-    let mut bits = 0;
-    for row in 0..size.get() {
-        for column in 0..size.get() {
-            let cell = Cell::at(size, column, row);
-            if set.has(cell) {
-                bits |= 1 << cell.number();
-            }
-        }
-    }
-    bits
 }
 
 #[test]
@@ -122,7 +107,7 @@ fn playouts(rt: HostRuntime) -> Result<(), Fail> {
         let board = board_of(size, stones);
         let full = fill(&board, to_move, seed, k);
         assert_eq!(rt;
-            bits_of(size, full.stones(Colour::Black)),
+            full.stones(Colour::Black).bits(),
             black,
             "size {number}, seed {seed}, {k}"
         );
@@ -132,6 +117,36 @@ fn playouts(rt: HostRuntime) -> Result<(), Fail> {
             result,
             "size {number}, seed {seed}, {k}"
         );
+        let both = play(&board, to_move, seed, k);
+        assert_eq!(rt;
+            both,
+            Ending {
+                full,
+                winner: result
+            },
+            "size {number}, seed {seed}, {k}"
+        );
+    }
+    Ok(())
+}
+
+#[test]
+fn orders(rt: HostRuntime) -> Result<(), Fail> {
+    for (number, stones, seed, count, first) in [
+        (2, 0, 0, 4, [2, 0, 3]),
+        (2, 2, 1, 3, [0, 2, 3]),
+        (3, 0, 5, 9, [3, 5, 1]),
+        (11, 0, 7, 121, [58, 14, 25]),
+    ] {
+        let board = board_of(Size::of(number).ok_or("a size")?, stones);
+        let mut cells = [Cell::numbered(0); MOST_EMPTIES];
+        assert_eq!(rt;
+            write_order(&board, seed, 0, &mut cells),
+            count,
+            "size {number}"
+        );
+        let begins = [cells[0].number(), cells[1].number(), cells[2].number()];
+        assert_eq!(rt; begins, first, "size {number}, seed {seed}");
     }
     Ok(())
 }

@@ -7,21 +7,17 @@ use Rattle.hex_board.specs.Joined.{is_joined}
 use Rattle.hex_board.specs.Positions.{Position}
 use Rattle.play_out.specs.Fills.{filled, playout_of}
 use Rattle.tree_words.specs.Words.{cell_in, root_at, tally_in, seen_in}
-use Rattle.seq_search.specs.Adding.{Sighted, node_of}
+use Rattle.seq_search.specs.Adding.{Sighted, node_at}
 use Rattle.std.specs.Prelude.{◌==◌}
 use Rattle.tree_words.specs.Settings.{Setting}
 use Rattle.tree_words.specs.Blocks.{LinkedBlock, is_node}
 use Rattle.tree_words.specs.Paths.{root_state, node_state}
 use Rattle.tree_words.specs.Walks.{plus}
 use Rattle.tree_words.specs.Trees.{oldest_first}
-use Rattle.tree_words.specs.Sequence.{Outcome, game_of}
+use Rattle.play_out.specs.declared.playouts.Ending.{Ending}
+use Rattle.tree_words.specs.Sequence.{search_game}
 use Rattle.tree_words.specs.Descents.{adds, sees}
 use Rattle.seq_search.specs.Descending.{steps_below}
-
--- who won
-pub won : (p : Position) (player : Colour) (seed k : ℕ) (full : Position) (t : Bool) → full ≡ filled p player seed k → t ≡ is_joined full.size Black full.black → cond t Black White ≡ playout_of p player seed k
-unfolding playout_of
-won p player seed k full t e is = ap (λ (u : Bool). cond u Black White) is ∙ ap (λ (f : Position). cond (is_joined f.size Black f.black) Black White) e
 
 -- the seen words of a block, one by one
 pub sighted-none : (b set amount : ℕ) (words : List ℕ) → Sighted b 0 set amount words words
@@ -29,19 +25,19 @@ sighted-none b set amount words = record { long = refl; seen = λ k l. absurd (o
 
 module _ (b n set amount : ℕ) (before now : List ℕ) (s : Sighted b n set amount before now) where
   -- the move of the next node, and its seen word, are as before
-  pub sighted-move : slice_index now (node_of b n) ≡ slice_index before (node_of b n)
-  sighted-move = s.others (node_of b n) (λ k l e. omega arith)
+  pub sighted-move : slice_index now (node_at b n) ≡ slice_index before (node_at b n)
+  sighted-move = s.others (node_at b n) (λ k l e. omega arith)
 
-  pub sighted-word : slice_index now (node_of b n + 3) ≡ slice_index before (node_of b n + 3)
-  sighted-word = s.others (node_of b n + 3) (λ k l e. omega arith)
+  pub sighted-word : slice_index now (node_at b n + 3) ≡ slice_index before (node_at b n + 3)
+  sighted-word = s.others (node_at b n + 3) (λ k l e. omega arith)
 
   -- the next node is not seen
-  pub sighted-past : has_cell set (cell_in (slice_index before (node_of b n))) ≡ false → Sighted b (n + 1) set amount before now
+  pub sighted-past : has_cell set (cell_in (slice_index before (node_at b n))) ≡ false → Sighted b (n + 1) set amount before now
   sighted-past h = record {
     long = s.long;
     seen = λ k l. ⊎_elim (λ (m : k < n). s.seen k m)
-        (λ (e : k ≡ n). ap (λ (j : ℕ). slice_index now (node_of b j + 3)) e ∙ sighted-word ∙ sym (plain (slice_index before (node_of b n + 3)) (has_cell set (cell_in (slice_index before (node_of b n)))) h)
-        ∙ sym (ap (λ (j : ℕ). slice_index before (node_of b j + 3) + cond (has_cell set (cell_in (slice_index before (node_of b j)))) amount 0) e))
+        (λ (e : k ≡ n). ap (λ (j : ℕ). slice_index now (node_at b j + 3)) e ∙ sighted-word ∙ sym (plain (slice_index before (node_at b n + 3)) (has_cell set (cell_in (slice_index before (node_at b n)))) h)
+        ∙ sym (ap (λ (j : ℕ). slice_index before (node_at b j + 3) + cond (has_cell set (cell_in (slice_index before (node_at b j)))) amount 0) e))
         (last k l);
     others = λ i h'. s.others i (λ k l. h' k (omega (arith, l)));
   }
@@ -53,20 +49,20 @@ module _ (b n set amount : ℕ) (before now : List ℕ) (s : Sighted b n set amo
       plain v t e = ap (λ (u : Bool). v + cond u amount 0) e ∙ (let z : v + 0 ≡ v = omega arith in z)
 
   -- or it is seen
-  pub sighted-next : has_cell set (cell_in (slice_index before (node_of b n))) ≡ true → node_of b n + 3 < length before → (after : List ℕ)
-      → after ≡ set_at now (node_of b n + 3) (slice_index now (node_of b n + 3) + amount) → Sighted b (n + 1) set amount before after
+  pub sighted-next : has_cell set (cell_in (slice_index before (node_at b n))) ≡ true → node_at b n + 3 < length before → (after : List ℕ)
+      → after ≡ set_at now (node_at b n + 3) (slice_index now (node_at b n + 3) + amount) → Sighted b (n + 1) set amount before after
   sighted-next h l after is =
-      let j : ℕ = node_of b n + 3 in
+      let j : ℕ = node_at b n + 3 in
       let v : ℕ = slice_index now j + amount in
       let lj : j < length now = omega (arith, l, s.long) in
       let other : (i : ℕ) → i ≢ j → slice_index after i ≡ slice_index now i = λ i ne. ap (λ (w : List ℕ). slice_index w i) is ∙ get_or-set_other now j i v 0 ne in
       let same : slice_index after j ≡ v = ap (λ (w : List ℕ). slice_index w j) is ∙ get_or-set_same now j v 0 lj in
-      let seen : slice_index after j ≡ slice_index before j + cond (has_cell set (cell_in (slice_index before (node_of b n)))) amount 0
+      let seen : slice_index after j ≡ slice_index before j + cond (has_cell set (cell_in (slice_index before (node_at b n)))) amount 0
       = same ∙ ap (λ (w : ℕ). w + amount) sighted-word ∙ sym (ap (λ (u : Bool). slice_index before j + cond u amount 0) h) in
       record {
         long = ap length is ∙ length-set now j v ∙ s.long;
-        seen = λ k lk. ⊎_elim (λ (m : k < n). other (node_of b k + 3) (λ e. omega (arith, m, e)) ∙ s.seen k m)
-            (λ (e : k ≡ n). subst (λ (m : ℕ). slice_index after (node_of b m + 3) ≡ slice_index before (node_of b m + 3) + cond (has_cell set (cell_in (slice_index before (node_of b m)))) amount 0) (sym e) seen)
+        seen = λ k lk. ⊎_elim (λ (m : k < n). other (node_at b k + 3) (λ e. omega (arith, m, e)) ∙ s.seen k m)
+            (λ (e : k ≡ n). subst (λ (m : ℕ). slice_index after (node_at b m + 3) ≡ slice_index before (node_at b m + 3) + cond (has_cell set (cell_in (slice_index before (node_at b m)))) amount 0) (sym e) seen)
             (last k lk);
         others = λ i h'. other i (h' n (omega arith)) ∙ s.others i (λ k lk. h' k (omega (arith, lk)));
       }
@@ -75,15 +71,15 @@ module _ (b n set amount : ℕ) (before now : List ℕ) (s : Sighted b n set amo
       last k l = grind arith
 
 -- how far the adds have come: the way is gone down to x, the counts of x are still to come, and these are the steps that are left
-pub record Adding (s : Setting) (bs : List LinkedBlock) (o : Outcome) (before now : List ℕ) (x : ℕ) (who : Colour) (left : List ℕ) : Type 0 where
+pub record Adding (s : Setting) (bs : List LinkedBlock) (o : Ending) (before now : List ℕ) (x : ℕ) (who : Colour) (left : List ℕ) : Type 0 where
   pub long : length now ≡ length before
   pub node : is_node (root_at s) bs x ≡ true
   pub player : who ≡ (node_state s bs x).player
   pub tally : (w : ℕ) → is_node (root_at s) bs w ≡ true
-      → plus (tally_in now w) (adds (game_of s) (tally_in before) (seen_in before) o (oldest_first bs) x (node_state s bs x) w)
-      ≡ plus (tally_in before w) (adds (game_of s) (tally_in before) (seen_in before) o (oldest_first bs) (root_at s) (root_state s) w)
+      → plus (tally_in now w) (adds (search_game s) (tally_in before) (seen_in before) o (oldest_first bs) x (node_state s bs x) w)
+      ≡ plus (tally_in before w) (adds (search_game s) (tally_in before) (seen_in before) o (oldest_first bs) (root_at s) (root_state s) w)
   pub seen : (w : ℕ) → is_node (root_at s) bs w ≡ true
-      → plus (seen_in now w) (sees (game_of s) (tally_in before) (seen_in before) o (oldest_first bs) x (node_state s bs x) w)
-      ≡ plus (seen_in before w) (sees (game_of s) (tally_in before) (seen_in before) o (oldest_first bs) (root_at s) (root_state s) w)
+      → plus (seen_in now w) (sees (search_game s) (tally_in before) (seen_in before) o (oldest_first bs) x (node_state s bs x) w)
+      ≡ plus (seen_in before w) (sees (search_game s) (tally_in before) (seen_in before) o (oldest_first bs) (root_at s) (root_state s) w)
   pub others : (i : ℕ) → ((w : ℕ) → is_node (root_at s) bs w ≡ true → (i ≢ w + 2) × (i ≢ w + 3)) → slice_index now i ≡ slice_index before i
   pub rest : left ≡ steps_below s bs before x

@@ -12,16 +12,15 @@ use Rattle.hex_board.specs.Positions.{Position, is_empty_at}
 use Rattle.play_out.specs.Fills.{empties_of}
 use Rattle.tree_words.specs.Settings.{Setting}
 use Rattle.tree_words.specs.Words.{Count, end_of, next_in, tally_in}
-use Rattle.tree_words.specs.Blocks.{LinkedBlock, one_if, size, stays, header_or_move}
+use Rattle.tree_words.specs.Blocks.{LinkedBlock, one_if, size, is_header_or_move, header_or_move}
 use Rattle.tree_words.specs.Paths.{NodeState}
 use Rattle.tree_words.specs.Sequence.{asks, gets_block, next_after, size_below}
-use Rattle.tree_words.proofs.BlockLaws.{not_both, true_both, lt_of}
+use Rattle.std.proofs.lemmas.Bool.{false_from_ne_true, and_parts, ltb-true}
 use Rattle.tree_words.specs.Writing.{listed, WritesBlock}
-use Rattle.seq_search.specs.Writing.{Links, LinksBelow, Grows, block_below}
-use Rattle.tree_words.proofs.Writes.{filter_more, block_of}
-
-on_the_board : (p : Position) (k : ℕ) → is_empty_at p k ≡ true → k < p.size * p.size
-on_the_board p k e = lt_of _ _ (true_both _ _ ((true_both _ _ e).0)).0
+use Rattle.seq_search.specs.Writing.{LinksBlock, LinksBelow, Grows, block_below}
+use Rattle.play_out.proofs.Listing.{filter_more}
+use Rattle.tree_words.proofs.NewBlocks.Writes.{block_of}
+use Rattle.tree_words.proofs.Blocks.BlockLaws.{clash}
 
 -- a leaf with few visits, or without an empty cell, asks for none
 pub few_asks : (s : Setting) (n : ℕ) (v : Count) (p : NodeState) → v.visits < s.knobs.expand → asks s n v p ≡ false
@@ -44,7 +43,7 @@ else_asks s n v p l e = high s.knobs.expand v.visits (length (empties_of p.board
 
 -- the block is written and named by the leaf's link
 pub link-written : (start leaf e : ℕ) (p : NodeState) (cells before words : List ℕ) → WritesBlock (block_of start leaf e cells) before words → cells ≡ empties_of p.board → leaf + 4 ≤ length before
-    → Links (block_below start leaf e p) before (set words (leaf + 1) start)
+    → LinksBlock (block_below start leaf e p) before (set words (leaf + 1) start)
 link-written start leaf e p cells before words w is l =
     let v : WritesBlock (block_below start leaf e p) before words = subst (λ (x : List ℕ). WritesBlock (block_of start leaf e x) before words) is w in
     record {
@@ -76,9 +75,6 @@ gets-past s n v p e l = gets-of s n v p true e ∙ more_than (n + size_below p) 
 pub gets-made : (s : Setting) (n : ℕ) (v : Count) (p : NodeState) → asks s n v p ≡ true → n + size_below p ≤ end_of s → gets_block s n v p ≡ true
 gets-made s n v p e l = gets-of s n v p true e ∙ at_most (n + size_below p) (end_of s) l
 
-clash : (t : Bool) → t ≡ true → t ≡ false → ⊥
-clash t a b = cc
-
 pub grows-none : (s : Setting) (leaf : ℕ) (p : NodeState) (words : List ℕ) → asks s (next_in words) (tally_in words leaf) p ≡ false → Grows s leaf p words words
 grows-none s leaf p words e = record {
   next = sym (next-of s (next_in words) (tally_in words leaf) p false e);
@@ -102,7 +98,7 @@ grows-made s leaf m p words after e l is some low w =
     let all : m ≡ next_after s n (tally_in words leaf) p = is ∙ sym (next-of s n (tally_in words leaf) p true e) in
     record {
       next = w.2.each 0 (λ z. omega arith)
-          ∙ ap (λ (t : Bool). cond (t && stays (0 - n)) (header_or_move b (0 - n)) (get_or (set words 0 m) 0 0)) (before-it n (size b) low)
+          ∙ ap (λ (t : Bool). cond (t && is_header_or_move (0 - n)) (header_or_move b (0 - n)) (get_or (set words 0 m) 0 0)) (before-it n (size b) low)
           ∙ get_or-set_same words 0 m 0 some ∙ all;
       made = λ t. subst (λ (z : ℕ). LinksBelow n leaf p (set words 0 z) after) all w;
       none = λ t. absurd (clash (gets_block s n (tally_in words leaf) p) (gets-made s n (tally_in words leaf) p e l) t);

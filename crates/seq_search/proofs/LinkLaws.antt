@@ -2,20 +2,21 @@
 use Rattle.std.proofs.Common.{◌≡◌, ◌≢◌, ◌⊎◌, ℕ, ◌+◌, ◌*◌, ◌≤◌, ◌<◌, true, false, List, [], ◌∷◌, ◌++◌, length, slice_index, refl, sym, ap, ◌∙◌, subst, ⊎_elim, inl, inr, arith}
 use Rattle.std.specs.Prelude.{◌==◌}
 use Rattle.tree_words.specs.Settings.{Setting}
-use Rattle.tree_words.specs.Words.{root_at, link_in, next_in, move_of, tally_in, seen_in}
-use Rattle.tree_words.specs.Blocks.{LinkedBlock, words_of, child, has, place, cell_at, is_node, In, link_of}
+use Rattle.tree_words.specs.Words.{root_at, link_in, next_in, move_word, tally_in, seen_in}
+use Rattle.tree_words.specs.Blocks.{LinkedBlock, block_size, child, has_node, place, cell_at, is_node, In, link_of}
 use Rattle.tree_words.specs.Paths.{root_state, state_after, node_state}
 use Rattle.tree_words.specs.Trees.{oldest_first}
 use Rattle.tree_words.specs.Complete.{HaveNodes}
 use Rattle.tree_words.specs.Descents.{Names}
-use Rattle.tree_words.proofs.Adds.{is_child}
-use Rattle.tree_words.proofs.BlockLaws.{either_true, eq_of, has-at, move-word, move-stays}
-use Rattle.tree_words.proofs.Down.{child-has}
-use Rattle.tree_words.proofs.GameLaws.{IsWhole, whole-in, in-node, up-in}
-use Rattle.tree_words.proofs.Orders.{link-names}
+use Rattle.tree_words.proofs.Walks.Adds.{is_child}
+use Rattle.std.proofs.lemmas.Bool.{or_cases, eqb-true}
+use Rattle.tree_words.proofs.Blocks.BlockLaws.{has-at, move-word, move-stays}
+use Rattle.tree_words.proofs.Walks.Down.{child-has}
+use Rattle.tree_words.proofs.Blocks.GameLaws.{IsWhole, whole-in, in-node, up-in}
+use Rattle.tree_words.proofs.Blocks.Orders.{link-names}
 use Rattle.tree_words.specs.Walks.{AtMost}
 use Rattle.seq_search.specs.Steps.{Holds}
-use Rattle.tree_words.proofs.Members.{node-in, in-turned, names-in, filled-in}
+use Rattle.tree_words.proofs.Blocks.Members.{node-in, in-turned, names-in, filled-in}
 
 -- b is the block below x
 pub record IsBelow (s : Setting) (bs : List LinkedBlock) (words : List ℕ) (x : ℕ) (b : LinkedBlock) : Type 0 where
@@ -26,14 +27,14 @@ pub record IsBelow (s : Setting) (bs : List LinkedBlock) (words : List ℕ) (x :
   pub whole : IsWhole s (next_in words) bs b
   pub some : 0 < length b.cells
   pub count : slice_index words (b.start + 3) ≡ length b.cells
-  pub fits : b.start + words_of (length b.cells) ≤ length words
+  pub fits : b.start + block_size (length b.cells) ≤ length words
 
 module _ (s : Setting) (bs : List LinkedBlock) (words : List ℕ) (k : ℕ) (h : Holds s bs words k) where
   -- a node's four words are words of the tree
   pub node-fits : (x : ℕ) → is_node (root_at s) bs x ≡ true → x + 4 ≤ length words
   node-fits x n = ⊎_elim
       (λ (e : x ≡ root_at s). omega (arith, e, h.long))
-      (λ (t : (b : LinkedBlock) × In b bs × (has b x ≡ true)).
+      (λ (t : (b : LinkedBlock) × In b bs × (has_node b x ≡ true)).
       let w = whole-in s (next_in words) bs t.0 h.linked.order h.linked.complete t.1 in
       let a = has-at t.0 x t.2 in
       omega (arith, w.inside.1, a.1, a.2, h.long))
@@ -67,7 +68,7 @@ module _ (s : Setting) (bs : List LinkedBlock) (words : List ℕ) (k : ℕ) (h :
   child-node b i inside l = in-node (root_at s) bs b (child b i) inside (child-has b i l)
 
   -- the move word of a child
-  pub child-move : (b : LinkedBlock) (i : ℕ) → In b bs → i < length b.cells → slice_index words (child b i) ≡ move_of i (cell_at b i)
+  pub child-move : (b : LinkedBlock) (i : ℕ) → In b bs → i < length b.cells → slice_index words (child b i) ≡ move_word i (cell_at b i)
   child-move b i inside l =
       let at : b.start + (4 + 4 * i) ≡ child b i = omega arith in
       ap (slice_index words) (sym at) ∙ h.linked.shows.blocks b (4 + 4 * i) inside (omega (arith, l)) (move-stays i) ∙ move-word b i

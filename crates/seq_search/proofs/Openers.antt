@@ -10,11 +10,9 @@ use Rattle.tree_words.specs.Walks.{nothing, fresh, AtMost}
 use Rattle.tree_words.specs.Trees.{tree_at, tree_of, oldest_first}
 use Rattle.tree_words.specs.Descents.{tree_in, config_of}
 use Rattle.seq_search.specs.Steps.{Holds}
-use Rattle.tree_words.proofs.Openings.{root-fits}
-use Rattle.tree_words.proofs.OpeningLaws.{next-is, clear, root-word, no-counts, opening-linked, opening-nodes}
-
-at-most-none : (k : ℕ) (c : Count) → c ≡ nothing → AtMost k c
-at-most-none k c e = (omega (arith, ap (λ (c : Count). c.visits) e), omega (arith, ap (λ (c : Count). c.wins) e))
+use Rattle.tree_words.proofs.NewBlocks.Openings.{root-fits}
+use Rattle.tree_words.proofs.NewBlocks.OpeningLaws.{next-is, clear, root-word, no-counts, opening-linked, opening-nodes}
+use Rattle.seq_search.proofs.Growing.{at-most-none}
 
 -- the words are the opening words, whatever TICKET is
 module _ (s : Setting) (words : List ℕ) (e : ℕ) (set : IsSetting s) (empties : HasEmpties e s.board) (long : length words ≡ end_of s)

@@ -4,36 +4,39 @@ use Rattle.std.specs.Prelude.{◌==◌}
 use Rattle.std.proofs.lemmas.List.{drop_more, get_or-take, length-take-le}
 use Rattle.std.proofs.Math.Seq.{drop-length}
 use Rattle.hex_cells.specs.Sets.{has as has_cell}
-use Rattle.hex_cells.specs.Colours.{other_of}
+use Rattle.hex_cells.specs.Colours.{other_of, is_same}
 use Rattle.hex_cells.specs.declared.colours.Colour.{Colour}
-use Rattle.hex_board.specs.Wins.{is_same}
 use Rattle.hex_board.specs.Positions.{stones_of}
 use Rattle.tree_words.specs.Settings.{Setting, IsSetting}
-use Rattle.tree_words.specs.Words.{Count, root_at, count_in, wins_in, link_in, tally_in, seen_in, cell_in, move_of}
-use Rattle.tree_words.specs.Blocks.{LinkedBlock, words_of, child, has, place, cell_at, is_node, In, InOrder}
-use Rattle.tree_words.specs.Paths.{NodeState, root_state, state_after, mover_at, node_state, board_of}
+use Rattle.tree_words.specs.Words.{Count, root_at, count_in, wins_in, link_in, tally_in, seen_in, cell_in, move_word}
+use Rattle.tree_words.specs.Blocks.{LinkedBlock, block_size, child, has_node, place, cell_at, is_node, In, InOrder}
+use Rattle.tree_words.specs.Paths.{NodeState, root_state, state_after, mover_at, node_state, node_board}
 use Rattle.tree_words.specs.Complete.{cells_below}
 use Rattle.tree_words.specs.Walks.{nothing, plus, AtMost}
 use Rattle.tree_words.specs.Trees.{oldest_first}
-use Rattle.tree_words.specs.Sequence.{Outcome, one, gain_of, glimpse_of, game_of, amount_of}
+use Rattle.play_out.specs.declared.playouts.Ending.{Ending}
+use Rattle.tree_words.specs.Sequence.{one, gain_of, glimpse_of, search_game, amount_of}
 use Rattle.tree_words.specs.Descents.{pick, adds_leaf, adds_inner, adds, sees_leaf, sees_inner, sees, steps_inner, Bare}
-use Rattle.tree_words.proofs.BlockLaws.{eq_of, same_is, bool_is, has-at}
-use Rattle.tree_words.proofs.Down.{plus-nothing, not_both, never, child-has, pick-in}
-use Rattle.tree_words.proofs.GameLaws.{root_node, fair_game}
-use Rattle.tree_words.proofs.Links.{down-bare, adds-link, sees-link, steps-link}
-use Rattle.tree_words.proofs.Orders.{rooted-turned, link-bare}
+use Rattle.std.proofs.lemmas.Bool.{eqb-true, eq-eqb, cases_Bool, false_from_ne_true}
+use Rattle.tree_words.proofs.Blocks.BlockLaws.{has-at, clash, root_node}
+use Rattle.tree_words.proofs.Walks.Down.{plus-nothing, child-has, pick-in}
+use Rattle.tree_words.proofs.Blocks.GameLaws.{fair_game}
+use Rattle.tree_words.proofs.Blocks.Links.{down-bare, adds-link, sees-link, steps-link}
+use Rattle.tree_words.proofs.Blocks.Orders.{rooted-turned, link-bare}
 use Rattle.seq_search.specs.Steps.{Holds}
 use Rattle.seq_search.specs.declared.descending.Descent.{Descent}
 use Rattle.seq_search.specs.Descending.{steps_in, steps_below, Descended}
-use Rattle.seq_search.specs.Adding.{node_of, Sighted, Counted}
-use Rattle.tree_words.proofs.NodeLaws.{nodes-apart, stays-clear}
-use Rattle.tree_words.proofs.Members.{in-turned}
+use Rattle.seq_search.specs.Adding.{node_at, Sighted, Counted}
+use Rattle.tree_words.proofs.Blocks.NodeLaws.{nodes-apart, stays-clear}
+use Rattle.tree_words.proofs.Blocks.Members.{in-turned}
 use Rattle.seq_search.proofs.LinkLaws.{IsBelow, below, node-fits, child-node, child-move, child-spot}
-use Rattle.tree_words.proofs.EmptyLaws.{up-root, cell-of-move, below-empty, on-board, few-cells}
-use Rattle.seq_search.proofs.Ways.{placed-size}
-use Rattle.tree_words.proofs.Adds.{is_child}
+use Rattle.hex_cells.proofs.Tables.{square_small}
+use Rattle.hex_board.proofs.Placed.{empty_on, placed_size}
+use Rattle.tree_words.proofs.Boards.EmptyLaws.{up-root, cell-of-move, below-empty}
+use Rattle.tree_words.proofs.Walks.Adds.{is_child}
 use Rattle.seq_search.proofs.Additions.{Adding}
-use Rattle.tree_words.proofs.Countings.{count-more, adds-one, sees-one, above-turned, adds-before, sees-before, has-one}
+use Rattle.tree_words.proofs.Walks.Countings.{count-more, adds-one, sees-one, above-turned, adds-before, sees-before, has-one}
+use Rattle.tree_words.proofs.Walks.Asking.{spot-size}
 
 -- word i is neither a tally nor a seen word of a node
 abbrev pub NoCount : ℕ → List LinkedBlock → ℕ → Type 0
@@ -74,7 +77,7 @@ word-glimpse : (n : ℕ) (t u : Bool) → wins_in n + 1 < 2 ^ 32 → count_in (n
 word-glimpse n true u l = count-more n u l
 word-glimpse n false u l = ap count_in (let z : n + 0 ≡ n = omega arith in z) ∙ sym (plus-nothing (count_in n))
 
-glimpse-is : (o : Outcome) (p : NodeState) (who : Colour) (c : ℕ) → who ≡ p.player → cond (has_cell (stones_of o.full who) c) (one (is_same o.winner who)) nothing ≡ glimpse_of o p c
+glimpse-is : (o : Ending) (p : NodeState) (who : Colour) (c : ℕ) → who ≡ p.player → cond (has_cell (stones_of o.full who) c) (one (is_same o.winner who)) nothing ≡ glimpse_of o p c
 unfolding glimpse_of
 glimpse-is o p who c e = ap (λ (z : Colour). cond (has_cell (stones_of o.full z) c) (one (is_same o.winner z)) nothing) e
 
@@ -92,12 +95,12 @@ head-of a b l m e = ap (λ (z : List ℕ). get_or z 0 0) e
 tail-of : (a b : ℕ) (l m : List ℕ) → a ∷ l ≡ b ∷ m → l ≡ m
 tail-of a b l m e = ap (λ (z : List ℕ). drop 1 z) e
 
-module _ (s : Setting) (bs : List LinkedBlock) (o : Outcome) (before : List ℕ) (k : ℕ) (h : Holds s bs before k) (few : k ≤ 1000000) where
-  -- the leaf has no steps
+module _ (s : Setting) (bs : List LinkedBlock) (o : Ending) (before : List ℕ) (k : ℕ) (h : Holds s bs before k) (few : k ≤ 1000000) where
+  -- the leaf has_node no steps
   pub steps-none : (x : ℕ) → is_node (root_at s) bs x ≡ true → link_in before x ≡ 0 → steps_below s bs before x ≡ []
   steps-none x n e =
       let bare : Bare (oldest_first bs) x = link-bare (root_at s) bs x h.linked.order (sym (h.linked.shows.links x n) ∙ e) in
-      down-bare (λ (y : ℕ). []) (steps_inner (game_of s) (tally_in before) (seen_in before)) (oldest_first bs) x bare
+      down-bare (λ (y : ℕ). []) (steps_inner (search_game s) (tally_in before) (seen_in before)) (oldest_first bs) x bare
 
   module _ (now : List ℕ) (x : ℕ) (who : Colour) (left : List ℕ) (a : Adding s bs o before now x who left) where
     pub tally-most : (w : ℕ) → is_node (root_at s) bs w ≡ true → AtMost (k + 1) (tally_in now w)
@@ -130,7 +133,7 @@ module _ (s : Setting) (bs : List LinkedBlock) (o : Outcome) (before : List ℕ)
       unfolding gain_of
       gained-tally w n = ⊎_elim
           (λ (t : (x == w) ≡ true).
-          let at : x ≡ w = eq_of x w t in
+          let at : x ≡ w = eqb-true x w t in
           let t' : Bool = is_same o.winner (other_of who) in
           let most = tally-most x a.node in
           let word : slice_index gained (x + 2) ≡ slice_index now (x + 2) + amount_of t' = ap (λ (l : List ℕ). slice_index l (x + 2)) is ∙ get_or-set_same now (x + 2) _ 0 (omega (arith, node-room)) in
@@ -139,9 +142,9 @@ module _ (s : Setting) (bs : List LinkedBlock) (o : Outcome) (before : List ℕ)
           subst (λ (z : ℕ). tally_in gained z ≡ plus (tally_in now z) (one (is_same o.winner (mover_at (node_state s bs x))))) at mine
           ∙ sym (ap (λ (u : Bool). cond u (plus (tally_in now w) (one (is_same o.winner (mover_at (node_state s bs x))))) (tally_in now w)) t))
           (λ (t : (x == w) ≡ false).
-          ap count_in (gained-other (w + 2) (λ e. not_both (x == w) (same_is x w (omega (arith, e))) t))
+          ap count_in (gained-other (w + 2) (λ e. clash (x == w) (eq-eqb x w (omega (arith, e))) t))
           ∙ sym (ap (λ (u : Bool). cond u (plus (tally_in now w) (one (is_same o.winner (mover_at (node_state s bs x))))) (tally_in now w)) t))
-          (bool_is (x == w))
+          (cases_Bool (x == w))
 
       -- the block below the node, by the words after the gain
       module _ (b : LinkedBlock) (w : IsBelow s bs before x b) where
@@ -154,7 +157,7 @@ module _ (s : Setting) (bs : List LinkedBlock) (o : Outcome) (before : List ℕ)
         pub kid-node : (j : ℕ) → j < length b.cells → is_node (root_at s) bs (child b j) ≡ true
         kid-node j l = child-node s bs before k h b j w.inside l
 
-        pub kid-move : (j : ℕ) → j < length b.cells → slice_index gained (child b j) ≡ move_of j (cell_at b j)
+        pub kid-move : (j : ℕ) → j < length b.cells → slice_index gained (child b j) ≡ move_word j (cell_at b j)
         kid-move j l = gained-kept (child b j) (move-no-count (root_at s) bs (child b j) h.linked.order (kid-node j l)) ∙ child-move s bs before k h b j w.inside l
 
         pub kid-room : (j : ℕ) → j < length b.cells → (t : Bool) → slice_index gained (child b j + 3) + amount_of t < 2 ^ 64
@@ -165,8 +168,8 @@ module _ (s : Setting) (bs : List LinkedBlock) (o : Outcome) (before : List ℕ)
           after-tally : (v : ℕ) → is_node (root_at s) bs v ≡ true → tally_in after v ≡ tally_in gained v
           after-tally v n = ap count_in (lit.others (v + 2) (λ j l e. let q = nodes-apart (root_at s) bs v (child b j) 2 3 h.linked.order n (kid-node j l) (omega arith) (omega arith) e in omega arith))
 
-          after-past : (v : ℕ) → is_node (root_at s) bs v ≡ true → has b v ≡ false → seen_in after v ≡ seen_in gained v
-          after-past v n f = ap count_in (lit.others (v + 3) (λ j l e. let at : v ≡ child b j = omega (arith, e) in not_both (has b v) (ap (has b) at ∙ child-has b j l) f))
+          after-past : (v : ℕ) → is_node (root_at s) bs v ≡ true → has_node b v ≡ false → seen_in after v ≡ seen_in gained v
+          after-past v n f = ap count_in (lit.others (v + 3) (λ j l e. let at : v ≡ child b j = omega (arith, e) in clash (has_node b v) (ap (has_node b) at ∙ child-has b j l) f))
 
           after-kid : (j : ℕ) → j < length b.cells → seen_in after (child b j) ≡ plus (seen_in gained (child b j)) (glimpse_of o (node_state s bs x) (cell_at b j))
           after-kid j l =
@@ -176,9 +179,9 @@ module _ (s : Setting) (bs : List LinkedBlock) (o : Outcome) (before : List ℕ)
               ∙ word-glimpse (slice_index gained (child b j + 3)) (has_cell (stones_of o.full who) (cell_at b j)) (is_same o.winner who) (let v = most.1 in omega (arith, v, few))
               ∙ ap (plus (seen_in gained (child b j))) (glimpse-is o (node_state s bs x) who (cell_at b j) a.player)
 
-          after-seen : (v : ℕ) → is_node (root_at s) bs v ≡ true → seen_in after v ≡ cond (has b v) (plus (seen_in now v) (glimpse_of o (node_state s bs x) (cell_at b (place b v)))) (seen_in now v)
+          after-seen : (v : ℕ) → is_node (root_at s) bs v ≡ true → seen_in after v ≡ cond (has_node b v) (plus (seen_in now v) (glimpse_of o (node_state s bs x) (cell_at b (place b v)))) (seen_in now v)
           after-seen v n = ⊎_elim
-              (λ (t : has b v ≡ true).
+              (λ (t : has_node b v ≡ true).
               let p = has-at b v t in
               let j : ℕ = p.0 in
               let at : v ≡ child b j = omega (arith, p.2) in
@@ -186,10 +189,10 @@ module _ (s : Setting) (bs : List LinkedBlock) (o : Outcome) (before : List ℕ)
               = after-kid j p.1 ∙ (λ i. plus (gained-seen (child b j) (kid-node j p.1) i) (glimpse_of o (node_state s bs x) (cell_at b (sym (is_child b.start j) i)))) in
               subst (λ (z : ℕ). seen_in after z ≡ plus (seen_in now z) (glimpse_of o (node_state s bs x) (cell_at b (place b z)))) (sym at) kid
               ∙ sym (ap (λ (u : Bool). cond u (plus (seen_in now v) (glimpse_of o (node_state s bs x) (cell_at b (place b v)))) (seen_in now v)) t))
-              (λ (t : has b v ≡ false).
+              (λ (t : has_node b v ≡ false).
               after-past v n t ∙ gained-seen v n
               ∙ sym (ap (λ (u : Bool). cond u (plus (seen_in now v) (glimpse_of o (node_state s bs x) (cell_at b (place b v)))) (seen_in now v)) t))
-              (bool_is (has b v))
+              (cases_Bool (has_node b v))
 
           after-kept : (i : ℕ) → NoCount (root_at s) bs i → slice_index after i ≡ slice_index before i
           after-kept i c = lit.others i (λ j l e. (c (child b j) (kid-node j l)).1 e) ∙ gained-kept i c
@@ -197,7 +200,7 @@ module _ (s : Setting) (bs : List LinkedBlock) (o : Outcome) (before : List ℕ)
           -- the adds have come to the child
           pub paced : (y : ℕ) (rest : List ℕ) → left ≡ y ∷ rest → Adding s bs o before after y (other_of who) rest
           paced y rest cons =
-              let g = game_of s in let fair = fair_game s in let p = tally_in before in let q = seen_in before in let os = oldest_first bs in
+              let g = search_game s in let fair = fair_game s in let p = tally_in before in let q = seen_in before in let os = oldest_first bs in
               let rooted = rooted-turned (root_at s) bs h.linked.order in
               let above = above-turned (root_at s) bs h.linked.order in
               let i : ℕ = pick g p q b x in
@@ -215,15 +218,15 @@ module _ (s : Setting) (bs : List LinkedBlock) (o : Outcome) (before : List ℕ)
                     let later : Count = adds g p q o os (child b i) (state_after (node_state s bs x) (cell_at b i)) v in
                     let mine : tally_in after v ≡ cond (x == v) (plus (tally_in now v) (gain_of o (node_state s bs x))) (tally_in now v) = after-tally v n ∙ gained-tally v n in
                     (λ e. plus (mine e) (adds g p q o os (at e) (spot e) v))
-                    ∙ join (x == v) (tally_in now v) (gain_of o (node_state s bs x)) later (λ t. adds-before s p q o os (child b i) (state_after (node_state s bs x) (cell_at b i)) v above (let e = eq_of x v t in omega (arith, behind, e)))
+                    ∙ join (x == v) (tally_in now v) (gain_of o (node_state s bs x)) later (λ t. adds-before s p q o os (child b i) (state_after (node_state s bs x) (cell_at b i)) v above (let e = eqb-true x v t in omega (arith, behind, e)))
                     ∙ ap (plus (tally_in now v)) (sym (adds-link g fair p q o os x b (node_state s bs x) v rooted w.names w.some))
                     ∙ a.tally v n;
                 seen = λ v n.
                     let later : Count = sees g p q o os (child b i) (state_after (node_state s bs x) (cell_at b i)) v in
                     (λ e. plus (after-seen v n e) (sees g p q o os (at e) (spot e) v))
-                    ∙ join (has b v) (seen_in now v) (glimpse_of o (node_state s bs x) (cell_at b (place b v))) later
+                    ∙ join (has_node b v) (seen_in now v) (glimpse_of o (node_state s bs x) (cell_at b (place b v))) later
                     (λ t. sees-before s p q o os (child b i) (state_after (node_state s bs x) (cell_at b i)) v above
-                    (λ c m l. never (has c v) (λ u. let e = has-one (root_at s) bs b c v h.linked.order w.inside (in-turned c bs m) t u in let f : b.parent ≡ c.parent = ap (λ (d : LinkedBlock). d.parent) e in omega (arith, f, l, behind, w.parent))))
+                    (λ c m l. false_from_ne_true (has_node c v) (λ u. let e = has-one (root_at s) bs b c v h.linked.order w.inside (in-turned c bs m) t u in let f : b.parent ≡ c.parent = ap (λ (d : LinkedBlock). d.parent) e in omega (arith, f, l, behind, w.parent))))
                     ∙ ap (plus (seen_in now v)) (sym (sees-link g fair p q o os x b (node_state s bs x) v rooted w.names w.some))
                     ∙ a.seen v n;
                 others = after-kept;
@@ -233,7 +236,7 @@ module _ (s : Setting) (bs : List LinkedBlock) (o : Outcome) (before : List ℕ)
       -- the adds have come to the leaf
       pub ended : left ≡ [] → Counted s bs o before gained
       ended none =
-          let g = game_of s in let fair = fair_game s in let p = tally_in before in let q = seen_in before in let os = oldest_first bs in
+          let g = search_game s in let fair = fair_game s in let p = tally_in before in let q = seen_in before in let os = oldest_first bs in
           let bare : Bare os x = link-bare (root_at s) bs x h.linked.order (sym (h.linked.shows.links x a.node) ∙ link-none none) in
           record {
             long = gained-long;
@@ -253,45 +256,33 @@ module _ (s : Setting) (bs : List LinkedBlock) (o : Outcome) (before : List ℕ)
           last false n g = sym (plus-nothing n)
 
           link-none : left ≡ [] → link_in before x ≡ 0
-          link-none e = ⊎_elim (λ (t : (link_in before x == 0) ≡ true). eq_of (link_in before x) 0 t)
+          link-none e = ⊎_elim (λ (t : (link_in before x == 0) ≡ true). eqb-true (link_in before x) 0 t)
               (λ (t : (link_in before x == 0) ≡ false).
-              let m = below s bs before k h x a.node (λ z. not_both (link_in before x == 0) (same_is (link_in before x) 0 z) t) in
-              absurd (no-cons _ _ (sym (steps-link (game_of s) (fair_game s) (tally_in before) (seen_in before) (oldest_first bs) x m.0 (rooted-turned (root_at s) bs h.linked.order) m.1.names m.1.some) ∙ sym a.rest ∙ e)))
-              (bool_is (link_in before x == 0))
+              let m = below s bs before k h x a.node (λ z. clash (link_in before x == 0) (eq-eqb (link_in before x) 0 z) t) in
+              absurd (no-cons _ _ (sym (steps-link (search_game s) (fair_game s) (tally_in before) (seen_in before) (oldest_first bs) x m.0 (rooted-turned (root_at s) bs h.linked.order) m.1.names m.1.some) ∙ sym a.rest ∙ e)))
+              (cases_Bool (link_in before x == 0))
 
-    -- where a step is left, the node has a block
+    -- where a step is left, the node has_node a block
     pub link-some : (y : ℕ) (rest : List ℕ) → left ≡ y ∷ rest → link_in before x ≢ 0
     link-some y rest cons e = no-cons y rest (sym cons ∙ a.rest ∙ steps-none x a.node e)
-
--- every board of the tree has the size of the setting's
-pub spot-size : (s : Setting) (bs : List LinkedBlock) (x : ℕ) → (node_state s bs x).board.size ≡ s.board.size
-spot-size s [] x = refl
-spot-size s (b ∷ bs) x = ⊎_elim
-    (λ (t : has b x ≡ true).
-    let u : NodeState = node_state s bs b.parent in
-    ap (λ (h : Bool). (cond h (state_after u (cell_at b (place b x))) (node_state s bs x)).board.size) t
-    ∙ placed-size u.board u.player (cell_at b (place b x)) ∙ spot-size s bs b.parent)
-    (λ (t : has b x ≡ false).
-    ap (λ (h : Bool). (cond h (state_after (node_state s bs b.parent) (cell_at b (place b x))) (node_state s bs x)).board.size) t ∙ spot-size s bs x)
-    (bool_is (has b x))
 
 -- the cells of a block lie on the board
 pub kid-cell : (s : Setting) (bs : List LinkedBlock) (words : List ℕ) (k : ℕ) → IsSetting s → Holds s bs words k → (x : ℕ) (b : LinkedBlock) → IsBelow s bs words x b → (j : ℕ) → j < length b.cells
     → cell_at b j < s.board.size * s.board.size
 kid-cell s bs words k z h x b w j l =
     let e = below-empty s bs b.parent j z h.linked.order (subst (λ (c : List ℕ). j < length c) w.whole.cells l) in
-    let o = on-board (board_of s bs b.parent) _ e in
+    let o = empty_on (node_board s bs b.parent) _ e in
     let cell : cell_at b j ≡ get_or (cells_below s bs b.parent) j 0 = ap (λ (c : List ℕ). get_or c j 0) w.whole.cells in
     subst (λ (n : ℕ). cell_at b j < n * n) (spot-size s bs b.parent) (omega (arith, o, cell))
 
 pub kid-small : (s : Setting) → IsSetting s → (c : ℕ) → c < s.board.size * s.board.size → c < 256
-kid-small s z c l = let f = few-cells s.board.size z.position.most in omega (arith, f, l)
+kid-small s z c l = let f = square_small s.board.size z.position.most in omega (arith, f, l)
 
--- how the adds are told that a walk has come to its leaf, and how far they are
+-- how the adds are told that a walk has_node come to its leaf, and how far they are
 abbrev pub HasWalked : Setting → List ℕ → Descent → Type 0
 HasWalked s before d = (bs : List LinkedBlock) × (k : ℕ) × (k < s.knobs.playouts) × Holds s bs before k × Descended s bs before d
 
-abbrev pub Adds : Setting → List ℕ → Descent → Outcome → List ℕ → ℕ → Colour → List ℕ → Type 0
+abbrev pub Adds : Setting → List ℕ → Descent → Ending → List ℕ → ℕ → Colour → List ℕ → Type 0
 Adds s before d o now x who left = (bs : List LinkedBlock) (k : ℕ) → k < s.knobs.playouts → Holds s bs before k → Descended s bs before d → Adding s bs o before now x who left
 
 few-walks : (s : Setting) (k : ℕ) → IsSetting s → k < s.knobs.playouts → k ≤ 1000000
@@ -302,14 +293,14 @@ steps-long d l e = length-take-le d.count d.steps (omega (arith, l, e))
 
 -- what `see` asks
 pub record MaySee (size amount : ℕ) (words : List ℕ) (block : ℕ) : Type 0 where
-  pub within : block + words_of (slice_index words (block + 3)) ≤ length words
-  pub cells : (j : ℕ) → j < slice_index words (block + 3) → cell_in (slice_index words (node_of block j)) < size * size
-  pub small : (j : ℕ) → j < slice_index words (block + 3) → slice_index words (node_of block j + 3) + amount < 2 ^ 64
+  pub within : block + block_size (slice_index words (block + 3)) ≤ length words
+  pub cells : (j : ℕ) → j < slice_index words (block + 3) → cell_in (slice_index words (node_at block j)) < size * size
+  pub small : (j : ℕ) → j < slice_index words (block + 3) → slice_index words (node_at block j + 3) + amount < 2 ^ 64
 
 -- where the adds begin
-pub adds-begin : (s : Setting) (before : List ℕ) (d : Descent) (o : Outcome) (x : ℕ) (who : Colour) → x ≡ root_at s → who ≡ s.player → Adds s before d o before x who (drop 0 (steps_in d))
+pub adds-begin : (s : Setting) (before : List ℕ) (d : Descent) (o : Ending) (x : ℕ) (who : Colour) → x ≡ root_at s → who ≡ s.player → Adds s before d o before x who (drop 0 (steps_in d))
 adds-begin s before d o x who at same bs k l h e =
-    let g = game_of s in let p = tally_in before in let q = seen_in before in let os = oldest_first bs in
+    let g = search_game s in let p = tally_in before in let q = seen_in before in let os = oldest_first bs in
     let spot : node_state s bs x ≡ root_state s = ap (node_state s bs) at ∙ up-root (root_state s) (λ c y above. state_after above (cell_at c (place c y))) (root_at s) bs h.linked.order in
     record {
       long = refl;
@@ -321,7 +312,7 @@ adds-begin s before d o x who at same bs k l h e =
       rest = sym e.steps ∙ ap (steps_below s bs before) (sym at);
     }
 
-module _ (s : Setting) (before : List ℕ) (d : Descent) (o : Outcome) (now : List ℕ) (x : ℕ) (who : Colour) (left : List ℕ) (z : IsSetting s) (a : Adds s before d o now x who left) where
+module _ (s : Setting) (before : List ℕ) (d : Descent) (o : Ending) (now : List ℕ) (x : ℕ) (who : Colour) (left : List ℕ) (z : IsSetting s) (a : Adds s before d o now x who left) where
   -- the node's tally can be gained
   pub pace-fits : HasWalked s before d → x + 4 ≤ length now
   pace-fits v = node-room s v.0 o before v.1 v.3 (few-walks s v.1 z v.2) now x who left (a v.0 v.1 v.2 v.3 v.4)

@@ -4,7 +4,7 @@ use Rattle.tree_words.specs.Settings.{Setting, IsSetting}
 use Rattle.tree_words.specs.Words.{Count, count_in, root_at, area_at, end_of, next_in, tally_in, seen_in}
 use Rattle.tree_words.specs.Blocks.{LinkedBlock, link_of}
 use Rattle.tree_words.specs.Paths.{NodeState, root_state}
-use Rattle.tree_words.specs.Sequence.{gets_block, game_of}
+use Rattle.tree_words.specs.Sequence.{gets_block, search_game}
 use Rattle.tree_words.specs.Trees.{oldest_first}
 use Rattle.tree_words.specs.Descents.{leaf_at, state_at, steps_at}
 use Rattle.seq_search.specs.Steps.{Holds}
@@ -12,7 +12,7 @@ use Rattle.seq_search.specs.Writing.{Grows}
 use Rattle.seq_search.specs.Descending.{Descended, spot_in}
 use Rattle.seq_search.specs.Searching.{Reached}
 use Rattle.seq_search.specs.declared.descending.Descent.{Descent}
-use Rattle.tree_words.proofs.NodeLaws.{node-lies}
+use Rattle.tree_words.proofs.Blocks.NodeLaws.{node-lies}
 use Rattle.seq_search.proofs.Growing.{made-block, no-block}
 
 -- a walk that has come to a leaf is there also where only NEXT changes
@@ -23,9 +23,9 @@ descended-same s bs before after d same w =
     record {
       node = w.node;
       spot = w.spot;
-      leaf = (λ i. leaf_at (game_of s) (tally i) (seen i) (oldest_first bs) (root_at s)) ∙ w.leaf;
-      state = (λ i. state_at (game_of s) (tally i) (seen i) (oldest_first bs) (root_at s) (root_state s)) ∙ w.state ∙ (λ i. (sym tally i d.node, spot_in d));
-      steps = (λ i. steps_at (game_of s) (tally i) (seen i) (oldest_first bs) (root_at s)) ∙ w.steps;
+      leaf = (λ i. leaf_at (search_game s) (tally i) (seen i) (oldest_first bs) (root_at s)) ∙ w.leaf;
+      state = (λ i. state_at (search_game s) (tally i) (seen i) (oldest_first bs) (root_at s) (root_state s)) ∙ w.state ∙ (λ i. (sym tally i d.node, spot_in d));
+      steps = (λ i. steps_at (search_game s) (tally i) (seen i) (oldest_first bs) (root_at s)) ∙ w.steps;
       bare = same (d.node + 1) (omega arith) ∙ w.bare;
       few = w.few;
       long = w.long;

@@ -7,17 +7,18 @@ use Rattle.tree_words.specs.Blocks.{LinkedBlock, child, place, cell_at, is_node,
 use Rattle.tree_words.specs.Paths.{NodeState, root_state}
 use Rattle.tree_words.specs.Complete.{AreComplete}
 use Rattle.tree_words.specs.Walks.{nothing, plus, Game, AtMost}
-use Rattle.tree_words.specs.Sequence.{Outcome, game_of}
+use Rattle.play_out.specs.declared.playouts.Ending.{Ending}
+use Rattle.tree_words.specs.Sequence.{search_game}
 use Rattle.tree_words.specs.Trees.{oldest_first}
 use Rattle.tree_words.specs.Descents.{Added, pick, adds, sees_leaf, sees_inner, sees, top, Out, Inside, config_of}
-use Rattle.tree_words.proofs.Down.{down-split}
-use Rattle.tree_words.proofs.GameLaws.{root_node}
-use Rattle.tree_words.proofs.Orders.{inside-node}
+use Rattle.tree_words.proofs.Walks.Down.{down-split}
+use Rattle.tree_words.proofs.Blocks.BlockLaws.{root_node}
+use Rattle.tree_words.proofs.Blocks.Orders.{inside-node}
 use Rattle.seq_search.specs.Steps.{Holds, Records}
 use Rattle.seq_search.specs.Adding.{Counted}
-use Rattle.tree_words.proofs.Leaves.{root-out}
-use Rattle.tree_words.proofs.NodeLaws.{nodes-apart, stays-clear, node-lies, under-root}
-use Rattle.tree_words.proofs.Countings.{adds-one, sees-one}
+use Rattle.tree_words.proofs.Walks.Leaves.{root-out}
+use Rattle.tree_words.proofs.Blocks.NodeLaws.{nodes-apart, stays-clear, node-lies, under-root}
+use Rattle.tree_words.proofs.Walks.Countings.{adds-one, sees-one}
 
 module _ {S O : Type 0} (g : Game S O) (p q : ℕ → Count) (o : O) where
   -- what is a node of no block is not seen
@@ -35,7 +36,7 @@ no-word : (n : ℕ) → count_in n ≡ nothing → n ≡ 0
 no-word n e = let v = ap (λ (c : Count). c.visits) e in let w = ap (λ (c : Count). c.wins) e in omega (arith, v, w)
 
 -- the adds, and then the record of playout k
-module _ (s : Setting) (bs : List LinkedBlock) (before middle : List ℕ) (k n : ℕ) (o : Outcome) (l : k < s.knobs.playouts) (h : Holds s bs before k) (c : Counted s bs o before middle) where
+module _ (s : Setting) (bs : List LinkedBlock) (before middle : List ℕ) (k n : ℕ) (o : Ending) (l : k < s.knobs.playouts) (h : Holds s bs before k) (c : Counted s bs o before middle) where
   lies : (x : ℕ) → is_node (root_at s) bs x ≡ true → (root_at s ≤ x) × (x + 4 ≤ next_in before)
   lies x m = ⊎_elim (λ (q : x ≡ root_at s). (omega (arith, q), omega (arith, q, h.next.0)))
       (λ (q : (area_at s ≤ x) × (x + 4 ≤ next_in before) × (x + 4 ≤ end_of s)). (omega (arith, q.0), q.1))
@@ -48,10 +49,10 @@ module _ (s : Setting) (bs : List LinkedBlock) (before middle : List ℕ) (k n :
   high : (i : ℕ) → root_at s ≤ i → ((w : ℕ) → is_node (root_at s) bs w ≡ true → (i ≢ w + 2) × (i ≢ w + 3)) → get_or (set middle (2 + k) n) i 0 ≡ get_or before i 0
   high i m d = get_or-set_other middle (2 + k) i n 0 (λ z. omega arith) ∙ c.others i d
 
-  tally-is : (w : ℕ) → is_node (root_at s) bs w ≡ true → tally_in (set middle (2 + k) n) w ≡ plus (tally_in before w) (adds (game_of s) (tally_in before) (seen_in before) o (oldest_first bs) (root_at s) (root_state s) w)
+  tally-is : (w : ℕ) → is_node (root_at s) bs w ≡ true → tally_in (set middle (2 + k) n) w ≡ plus (tally_in before w) (adds (search_game s) (tally_in before) (seen_in before) o (oldest_first bs) (root_at s) (root_state s) w)
   tally-is w t = let q = lies w t in ap count_in (get_or-set_other middle (2 + k) (w + 2) n 0 (λ z. omega (arith, q.0))) ∙ c.tally w t
 
-  seen-is : (w : ℕ) → is_node (root_at s) bs w ≡ true → seen_in (set middle (2 + k) n) w ≡ plus (seen_in before w) (sees (game_of s) (tally_in before) (seen_in before) o (oldest_first bs) (root_at s) (root_state s) w)
+  seen-is : (w : ℕ) → is_node (root_at s) bs w ≡ true → seen_in (set middle (2 + k) n) w ≡ plus (seen_in before w) (sees (search_game s) (tally_in before) (seen_in before) o (oldest_first bs) (root_at s) (root_state s) w)
   seen-is w t = let q = lies w t in ap count_in (get_or-set_other middle (2 + k) (w + 3) n 0 (λ z. omega (arith, q.0))) ∙ c.seen w t
 
   next-same : next_in (set middle (2 + k) n) ≡ next_in before
@@ -60,7 +61,7 @@ module _ (s : Setting) (bs : List LinkedBlock) (before middle : List ℕ) (k n :
   pub recorded-holds : Holds s bs (set middle (2 + k) n) (k + 1)
   recorded-holds =
       let after : List ℕ = set middle (2 + k) n in
-      let g : Game NodeState Outcome = game_of s in
+      let g : Game NodeState Ending = search_game s in
       let r : ℕ = root_at s in
       let clear : (x : ℕ) (i : ℕ) → is_node r bs x ≡ true → i < 2 → (w : ℕ) → is_node r bs w ≡ true → (x + i ≢ w + 2) × (x + i ≢ w + 3)
       = λ x i m li w t. (
@@ -98,7 +99,7 @@ module _ (s : Setting) (bs : List LinkedBlock) (before middle : List ℕ) (k n :
           (λ (q : c ≡ b). subst (λ (d : LinkedBlock). area_at s ≤ d.start) (sym q) a.0.inside.0)
           (λ (q : In c bs). block-starts s next bs c a.1 q) i
 
-  pub recorded-added : Added (game_of s) (root_state s) (root_at s) o (config_of bs before) (config_of bs (set middle (2 + k) n))
+  pub recorded-added : Added (search_game s) (root_state s) (root_at s) o (config_of bs before) (config_of bs (set middle (2 + k) n))
   recorded-added =
       let node : (w : ℕ) → top (oldest_first bs) w ≡ root_at s → is_node (root_at s) bs w ≡ true
       = λ w e. ⊎_elim (λ (q : w ≡ root_at s). ap (is_node (root_at s) bs) q ∙ root_node (root_at s) bs)

@@ -3,7 +3,7 @@ use Rattle.std.proofs.Common.{◌≡◌, ℕ, ◌+◌, ◌*◌, ◌<◌, add-one
 use Rattle.std.proofs.Math.ListN.{length-set}
 use Rattle.hex_cells.specs.declared.colours.Colour.{Colour}
 use Rattle.hex_cells.specs.declared.colours.Colour.TheVariants.{White}
-use Rattle.hex_board.specs.Wins.{is_same}
+use Rattle.hex_cells.specs.Colours.{is_same}
 use Rattle.hex_board.specs.Positions.{Position}
 use Rattle.play_out.specs.Fills.{filled, playout_of}
 use Rattle.tree_words.specs.Settings.{Setting, IsSetting}
@@ -13,11 +13,12 @@ use Rattle.tree_words.specs.Paths.{NodeState, root_state}
 use Rattle.tree_words.specs.Opening.{root_block, opening_word, AreOpening}
 use Rattle.tree_words.specs.Closing.{IsClosed}
 use Rattle.tree_words.specs.Walks.{Tree, Game, walk, walks}
-use Rattle.tree_words.specs.Sequence.{Outcome, outcome_of, game_of, first_tree, seq_of}
+use Rattle.play_out.specs.declared.playouts.Ending.{Ending}
+use Rattle.tree_words.specs.Sequence.{outcome_of, search_game, first_tree, seq_of}
 use Rattle.tree_words.specs.Trees.{IsTreeOf}
-use Rattle.tree_words.specs.Descents.{tree_in, ends, Added, config_of}
-use Rattle.tree_words.proofs.GameLaws.{fair_game}
-use Rattle.tree_words.proofs.WalkLaws.{walk-tree}
+use Rattle.tree_words.specs.Descents.{tree_in, walk_end, Added, config_of}
+use Rattle.tree_words.proofs.Blocks.GameLaws.{fair_game}
+use Rattle.tree_words.proofs.Walks.WalkLaws.{walk-tree}
 use Rattle.seq_search.specs.Steps.{Holds, Records}
 use Rattle.seq_search.specs.Descending.{spot_in}
 use Rattle.seq_search.specs.Searching.{Searched, Reached}
@@ -25,7 +26,7 @@ use Rattle.seq_search.specs.declared.descending.Descent.{Descent}
 use Rattle.seq_search.proofs.Standings.{standing-opening, closed-of}
 use Rattle.seq_search.proofs.Turns.{record-reads, standing-walked}
 use Rattle.seq_search.proofs.Growing.{fine-of}
-use Rattle.tree_words.proofs.OpeningLaws.{opening-tree}
+use Rattle.tree_words.proofs.NewBlocks.OpeningLaws.{opening-tree}
 use Rattle.seq_search.proofs.Openers.{opening-holds, tree-is}
 
 -- what a playout gave
@@ -52,14 +53,14 @@ searched-opening s words h o =
     }
 
 -- one walk more
-pub searched-more : (s : Setting) (words middle after : List ℕ) (k : ℕ) (d : Descent) (o : Outcome) → IsSetting s → k < s.knobs.playouts → (w : Searched s words k) → (r : Reached s w.blocks k words middle d)
+pub searched-more : (s : Setting) (words middle after : List ℕ) (k : ℕ) (d : Descent) (o : Ending) → IsSetting s → k < s.knobs.playouts → (w : Searched s words k) → (r : Reached s w.blocks k words middle d)
     → o ≡ outcome_of s k (spot_in d) → Holds s r.blocks after (k + 1)
-    → Added (game_of s) (root_state s) (root_at s) o (config_of r.blocks middle) (config_of r.blocks after)
+    → Added (search_game s) (root_state s) (root_at s) o (config_of r.blocks middle) (config_of r.blocks after)
     → Records s k (2 * d.node + one_if (is_same o.winner White)) middle after → Searched s after (k + 1)
 searched-more s words middle after k d o h l w r played holds added records =
-    let g : Game NodeState Outcome = game_of s in
-    let state : ends g (root_state s) (root_at s) (config_of r.blocks middle) ≡ (tally_in middle d.node, spot_in d) = r.descended.state in
-    let made : o ≡ outcome_of s k (ends g (root_state s) (root_at s) (config_of r.blocks middle)).1 = played ∙ ap (λ (z : Count × NodeState). outcome_of s k z.1) (sym state) in
+    let g : Game NodeState Ending = search_game s in
+    let state : walk_end g (root_state s) (root_at s) (config_of r.blocks middle) ≡ (tally_in middle d.node, spot_in d) = r.descended.state in
+    let made : o ≡ outcome_of s k (walk_end g (root_state s) (root_at s) (config_of r.blocks middle)).1 = played ∙ ap (λ (z : Count × NodeState). outcome_of s k z.1) (sym state) in
     let reads = record-reads d.node (2 * d.node + one_if (is_same o.winner White)) o.winner refl in
     let tree : (tree_in (root_at s) (config_of r.blocks after), next_in after) ≡ walk g (root_state s) k (tree_in (root_at s) (config_of w.blocks words), next_in words)
     = walk-tree g (fair_game s) (root_state s) (root_at s) k o (config_of w.blocks words) (config_of r.blocks middle) (config_of r.blocks after) (fine-of s w.blocks words k w.holds) r.widened added made in

@@ -2,35 +2,35 @@
 use Rattle.std.proofs.Common.{◌≡◌, ℕ, suc, ◌+◌, ◌*◌, ◌<◌, ◌≤◌, Bool, true, false, cond, List, [], ◌∷◌, ◌++◌, length, refl, sym, ap, ◌∙◌, subst, ⊎_elim, arith}
 use Rattle.std.specs.Prelude.{◌==◌, not, sum_by}
 use Rattle.std.specs.List.{filter}
-use Rattle.std.proofs.lemmas.Bool.{cases_lt}
+use Rattle.std.proofs.lemmas.Bool.{cases_lt, eqb-true, eq-eqb, ne_eqb, cases_Bool, or_cases, or_right, or_left}
 use Rattle.std.proofs.lemmas.List.Sums.{sum_by-cons}
 use Rattle.std.proofs.Math.Nat.{mul-le-mul}
 use Rattle.hex_board.specs.Positions.{is_empty_at}
 use Rattle.play_out.specs.Fills.{empties_of}
 use Rattle.tree_words.specs.Settings.{Setting, IsSetting}
 use Rattle.tree_words.specs.Words.{Count, root_at, end_of, next_in, ticket_in, leaf_in, winner_in, tally_in, seen_in}
-use Rattle.tree_words.specs.Blocks.{LinkedBlock, child, has, place, cell_at, size, words_of, is_node, link_of, one_if, In, InOrder, Follows}
-use Rattle.tree_words.specs.Paths.{NodeState, root_state, is_on, enters, node_state, board_of}
+use Rattle.tree_words.specs.Blocks.{LinkedBlock, child, has_node, place, cell_at, size, block_size, is_node, link_of, one_if, In, InOrder, Follows}
+use Rattle.tree_words.specs.Paths.{NodeState, root_state, is_on, enters, node_state, node_board}
 use Rattle.tree_words.specs.Records.{leaf_of, outcome_in, IsRecord}
 use Rattle.tree_words.specs.Counts.{sights_at, ExactTo}
 use Rattle.tree_words.specs.declared.layout.TheConstants.{MOST_BLOCK_WORDS}
 use Rattle.tree_words.specs.Growth.{root_end, other_words, ends_at, Grown}
 use Rattle.tree_words.specs.declared.settings.TheConstants.{MOST_WORKERS}
-use Rattle.tree_words.specs.Closing.{Ends, IsClosed}
+use Rattle.tree_words.specs.Closing.{KeepsEnds, IsClosed}
 use Rattle.tree_words.specs.Walks.{nothing, plus, Game, AtMost}
-use Rattle.tree_words.specs.Sequence.{Outcome, outcome_of, gain_of, glimpse_of, size_below, asks, gets_block, game_of}
+use Rattle.play_out.specs.declared.playouts.Ending.{Ending}
+use Rattle.tree_words.specs.Sequence.{outcome_of, gain_of, glimpse_of, size_below, asks, gets_block, search_game}
 use Rattle.tree_words.specs.Trees.{oldest_first}
-use Rattle.tree_words.specs.Descents.{ends, NewBlock, Widened, Added, pick, leaf_at, config_of}
-use Rattle.tree_words.proofs.BlockLaws.{eq_of, same_is, other_is, bool_is, either_true, has-at}
-use Rattle.tree_words.proofs.Down.{not_both}
-use Rattle.tree_words.proofs.GameLaws.{fair_game, in-node, spot-same}
+use Rattle.tree_words.specs.Descents.{walk_end, NewBlock, Widened, Added, pick, leaf_at, config_of}
+use Rattle.tree_words.proofs.Blocks.BlockLaws.{has-at, clash}
+use Rattle.tree_words.proofs.Blocks.GameLaws.{fair_game, in-node, spot-same}
 use Rattle.seq_search.specs.Steps.{Holds, KeepsRecords, Records}
 use Rattle.seq_search.specs.IsSearched.{IsSearched}
-use Rattle.tree_words.proofs.Climbs.{or_true, or_first, in-out}
-use Rattle.tree_words.proofs.Leaves.{Whole, in-turned, root-out, node-top, leaf-node, leaf-spot, adds-at, sees-at, picked-at, picks-unvisited}
-use Rattle.tree_words.proofs.Tallies.{SameRecords, visits-words, sights-words, ends-words, record-words, visits-block, sights-block, visits-new, sights-new, ends-new, record-block, visits-more, sights-more, ends-visits}
-use Rattle.tree_words.proofs.Asking.{some-empty, size-most, spot-size, asks-not, next-gets, next-vain, next-stays, state-count}
-use Rattle.tree_words.proofs.Turned.{other-root, other-more, turned-same}
+use Rattle.tree_words.proofs.Walks.Climbs.{in-out}
+use Rattle.tree_words.proofs.Walks.Leaves.{Whole, in-turned, root-out, node-top, leaf-node, leaf-spot, adds-at, sees-at, picked-at, picks-unvisited}
+use Rattle.tree_words.proofs.Walks.Tallies.{SameRecords, visits-words, sights-words, ends-words, record-words, visits-block, sights-block, visits-new, sights-new, ends-new, record-block, visits-more, sights-more, ends-visits}
+use Rattle.tree_words.proofs.Walks.Asking.{some-empty, size-most, spot-size, asks-not, next-gets, next-vain, next-stays, state-count}
+use Rattle.tree_words.proofs.Blocks.Turned.{other-root, other-more, turned-same}
 
 no_count : (c : Count) → AtMost 0 c → c ≡ nothing
 no_count c h = let v : c.visits ≡ 0 = omega (arith, h.0) in let w : c.wins ≡ 0 = omega (arith, h.1) in λ i. record { visits = v i; wins = w i }
@@ -42,7 +42,7 @@ standing-opening s b words e n h =
     let bs : List LinkedBlock = b ∷ [] in
     let none : (x : ℕ) → is_node r bs x ≡ true → tally_in words x ≡ nothing = λ x m. no_count (tally_in words x) (h.counts x m).0 in
     let other : other_words s bs ≡ 0 = other-root s b [] e in
-    let link : link_of bs r ≡ b.start = ap (λ (t : Bool). cond t b.start 0) (same_is b.parent r e) in
+    let link : link_of bs r ≡ b.start = ap (λ (t : Bool). cond t b.start 0) (eq-eqb b.parent r e) in
     let above = h.linked.order.0.above in
     let exact : ExactTo s bs words 0 = record {
       tallies = none;
@@ -61,7 +61,7 @@ standing-opening s b words e n h =
 -- where no block is new, and NEXT may have grown
 module _ (s : Setting) (bs : List LinkedBlock) (words after : List ℕ) (k : ℕ) (st : IsSearched s bs words k) (same : SameRecords k words after) where
   standing-kept : ((x : ℕ) → is_node (root_at s) bs x ≡ true → tally_in after x ≡ tally_in words x)
-      → ((b : LinkedBlock) (y : ℕ) → In b bs → has b y ≡ true → seen_in after y ≡ seen_in words y)
+      → ((b : LinkedBlock) (y : ℕ) → In b bs → has_node b y ≡ true → seen_in after y ≡ seen_in words y)
       → next_in words ≤ next_in after → (next_in after ≤ end_of s → next_in after ≡ root_end s + other_words s bs) → next_in after ≤ root_end s + other_words s bs + MOST_BLOCK_WORDS
       → IsSearched s bs after k
   standing-kept tally seen grows within room =
@@ -86,26 +86,26 @@ module _ (s : Setting) (bs : List LinkedBlock) (words after : List ℕ) (k : ℕ
   -- where a block is new
   standing-grown : (n : LinkedBlock) → Follows (root_at s) n bs
       → ((x : ℕ) → is_node (root_at s) (n ∷ bs) x ≡ true → tally_in after x ≡ tally_in words x)
-      → ((b : LinkedBlock) (y : ℕ) → In b (n ∷ bs) → has b y ≡ true → seen_in after y ≡ seen_in words y)
-      → ((y : ℕ) → has n y ≡ true → (tally_in words y ≡ nothing) × (seen_in words y ≡ nothing))
+      → ((b : LinkedBlock) (y : ℕ) → In b (n ∷ bs) → has_node b y ≡ true → seen_in after y ≡ seen_in words y)
+      → ((y : ℕ) → has_node n y ≡ true → (tally_in words y ≡ nothing) × (seen_in words y ≡ nothing))
       → next_in words ≤ end_of s → next_in after ≡ next_in words + size n
       → IsSearched s (n ∷ bs) after k
   standing-grown n f tally seen blank low next =
       let r : ℕ = root_at s in
       let nodes : (j : ℕ) → j < k → is_node r bs (leaf_of words j) ≡ true = λ j l. (st.recorded j l).node in
-      let old : (x : ℕ) → is_node r bs x ≡ true → is_node r (n ∷ bs) x ≡ true = λ x m. or_true (has n x) (is_node r bs x) m in
-      let new : (x : ℕ) → has n x ≡ true → is_node r (n ∷ bs) x ≡ true = λ x h. or_first (has n x) (is_node r bs x) h in
+      let old : (x : ℕ) → is_node r bs x ≡ true → is_node r (n ∷ bs) x ≡ true = λ x m. or_right (has_node n x) (is_node r bs x) m in
+      let new : (x : ℕ) → has_node n x ≡ true → is_node r (n ∷ bs) x ≡ true = λ x h. or_left (has_node n x) (is_node r bs x) h in
       let away : n.parent ≡ r → ⊥ = λ e. let z : link_of bs r ≡ 0 = ap (link_of bs) (sym e) ∙ f.vacant in let l = st.rooted in omega arith in
       let words_more : other_words s (n ∷ bs) ≡ size n + other_words s bs = other-more s n bs away in
       let old_words = st.within low in
       let exact : ExactTo s (n ∷ bs) after k = record {
         tallies = λ x m. tally x m ∙ (⊎_elim
-            (λ (h : has n x ≡ true). (blank x h).0 ∙ sym (visits-new s n bs f words k nodes x h))
+            (λ (h : has_node n x ≡ true). (blank x h).0 ∙ sym (visits-new s n bs f words k nodes x h))
             (λ (h : is_node r bs x ≡ true). st.exact.tallies x h ∙ sym (visits-block s n bs f words k nodes x h))
-            (either_true (has n x) (is_node r bs x) m)
+            (or_cases (has_node n x) (is_node r bs x) m)
             ∙ sym (visits-words s (n ∷ bs) words after k same x));
         seen = λ b y i h. seen b y i h ∙ (⊎_elim
-            (λ (e : b ≡ n). (blank y (ap (λ (d : LinkedBlock). has d y) (sym e) ∙ h)).1 ∙ sym (ap (λ (d : LinkedBlock). sights_at s (n ∷ bs) words k d y) e ∙ sights-new s n bs f words k nodes y))
+            (λ (e : b ≡ n). (blank y (ap (λ (d : LinkedBlock). has_node d y) (sym e) ∙ h)).1 ∙ sym (ap (λ (d : LinkedBlock). sights_at s (n ∷ bs) words k d y) e ∙ sights-new s n bs f words k nodes y))
             (λ (j : In b bs). st.exact.seen b y j h ∙ sym (sights-block s n bs f words k nodes b y (in-node r bs b y j h)))
             i
             ∙ sym (sights-words s (n ∷ bs) words after k same b y));
@@ -113,10 +113,10 @@ module _ (s : Setting) (bs : List LinkedBlock) (words after : List ℕ) (k : ℕ
       record {
         exact = exact;
         recorded = λ j l. record-words s (n ∷ bs) words after k same j l (record-block s n bs f words j (st.recorded j l));
-        rooted = omega (arith, st.rooted, ap (λ (t : Bool). cond t n.start (link_of bs r)) (other_is n.parent r away));
+        rooted = omega (arith, st.rooted, ap (λ (t : Bool). cond t n.start (link_of bs r)) (ne_eqb n.parent r away));
         first = λ b x y i hx hy z. ⊎_elim
             (λ (e : b ≡ n).
-            let h : has n x ≡ true = ap (λ (d : LinkedBlock). has d x) (sym e) ∙ hx in
+            let h : has_node n x ≡ true = ap (λ (d : LinkedBlock). has_node d x) (sym e) ∙ hx in
             omega (arith, ap (λ (c : Count). c.visits) (tally x (new x h) ∙ (blank x h).0)))
             (λ (j : In b bs).
             let nx : is_node r bs x ≡ true = in-node r bs b x j hx in
@@ -124,11 +124,11 @@ module _ (s : Setting) (bs : List LinkedBlock) (words after : List ℕ) (k : ℕ
             omega (arith, st.first b x y j hx hy (sym (ap (λ (c : Count). c.visits) (tally y (old y ny))) ∙ z), ap (λ (c : Count). c.visits) (tally x (old x nx))))
             i;
         leaves = λ l x c m e. ⊎_elim
-            (λ (h : has n x ≡ true). omega (arith, ends-words s bs words after k same x, ends-new s n bs f words k nodes x h))
+            (λ (h : has_node n x ≡ true). omega (arith, ends-words s bs words after k same x, ends-new s n bs f words k nodes x h))
             (λ (h : is_node r bs x ≡ true).
-            let empty : is_empty_at (board_of s bs x) c ≡ true = sym (ap (λ (p : NodeState). is_empty_at p.board c) (spot-same s n bs x f h)) ∙ e in
+            let empty : is_empty_at (node_board s bs x) c ≡ true = sym (ap (λ (p : NodeState). is_empty_at p.board c) (spot-same s n bs x f h)) ∙ e in
             omega (arith, st.leaves low x c h empty, ends-words s bs words after k same x))
-            (either_true (has n x) (is_node r bs x) m);
+            (or_cases (has_node n x) (is_node r bs x) m);
         within = λ l. omega (arith, next, old_words, words_more);
         room = omega (arith, next, old_words, words_more);
       }
@@ -137,23 +137,23 @@ whole : (s : Setting) (bs : List LinkedBlock) (words : List ℕ) (k : ℕ) → H
 whole s bs words k h = record { order = h.linked.order; filled = h.filled }
 
 -- a block's node is not the root
-not_root : (r : ℕ) (bs : List LinkedBlock) (b : LinkedBlock) (y : ℕ) → InOrder r bs → In b bs → has b y ≡ true → y ≡ r → ⊥
-not_root r bs b y g i h e = not_both (has b y) h (ap (has b) e ∙ in-out (oldest_first bs) b r (in-turned bs b i) (root-out r bs g))
+not_root : (r : ℕ) (bs : List LinkedBlock) (b : LinkedBlock) (y : ℕ) → InOrder r bs → In b bs → has_node b y ≡ true → y ≡ r → ⊥
+not_root r bs b y g i h e = clash (has_node b y) h (ap (has_node b) e ∙ in-out (oldest_first bs) b r (in-turned bs b i) (root-out r bs g))
 
--- after the leaf has got its block, or none
+-- after the leaf has_node got its block, or none
 pub standing-widened : (s : Setting) (bs after_bs : List LinkedBlock) (words after : List ℕ) (k : ℕ) → IsSetting s → k ≤ s.knobs.playouts
     → Holds s bs words k → IsSearched s bs words k → Holds s after_bs after k
-    → Widened (game_of s) (root_state s) (root_at s) (config_of bs words) (config_of after_bs after) → KeepsRecords s words after
+    → Widened (search_game s) (root_state s) (root_at s) (config_of bs words) (config_of after_bs after) → KeepsRecords s words after
     → IsSearched s after_bs after k
 standing-widened s bs cs words after k set few h st h' w keeps =
     let r : ℕ = root_at s in
-    let g : Game NodeState Outcome = game_of s in
+    let g : Game NodeState Ending = search_game s in
     let u : NodeState = root_state s in
-    let v : Count = (ends g u r (config_of bs words)).0 in
-    let p : NodeState = (ends g u r (config_of bs words)).1 in
+    let v : Count = (walk_end g u r (config_of bs words)).0 in
+    let p : NodeState = (walk_end g u r (config_of bs words)).1 in
     let same : SameRecords k words after = λ j l. keeps (2 + j) (omega arith) (omega (arith, l, few)) in
     let tally : (x : ℕ) → is_node r cs x ≡ true → tally_in after x ≡ tally_in words x = λ x m. w.tally x (node-top r cs x h'.linked.order m) in
-    let seen : (b : LinkedBlock) (y : ℕ) → In b cs → has b y ≡ true → seen_in after y ≡ seen_in words y
+    let seen : (b : LinkedBlock) (y : ℕ) → In b cs → has_node b y ≡ true → seen_in after y ≡ seen_in words y
     = λ b y i k. w.seen y (node-top r cs y h'.linked.order (in-node r cs b y i k)) (not_root r cs b y h'.linked.order i k) in
     let spot : node_state s bs (leaf_at g (tally_in words) (seen_in words) (oldest_first bs) r) ≡ p = leaf-spot s (tally_in words) (seen_in words) bs (whole s bs words k h) in
     let small : p.board.size ≤ 11 = omega (arith, ap (λ (z : NodeState). z.board.size) spot, spot-size s bs (leaf_at g (tally_in words) (seen_in words) (oldest_first bs) r), set.position.most) in
@@ -163,7 +163,7 @@ standing-widened s bs cs words after k set few h st h' w keeps =
     let b : NewBlock g u r (config_of bs words) (config_of cs after) n = e.1 in
     let is : cs ≡ n ∷ bs = turned-same cs (n ∷ bs) b.blocks in
     let t = next-gets s (next_in words) v p b.wide in
-    let long : size n ≡ size_below p = ap (λ (l : List ℕ). words_of (length l)) b.cells in
+    let long : size n ≡ size_below p = ap (λ (l : List ℕ). block_size (length l)) b.cells in
     let next : next_in after ≡ next_in words + size n = omega (arith, w.next, t.1, long) in
     let order : InOrder r (n ∷ bs) = subst (InOrder r) is h'.linked.order in
     subst (λ (l : List LinkedBlock). IsSearched s l after k) (sym is)
@@ -174,7 +174,7 @@ standing-widened s bs cs words after k set few h st h' w keeps =
     (λ (e : (gets_block s (next_in words) v p ≡ false) × (oldest_first cs ≡ oldest_first bs)).
     let is : cs ≡ bs = turned-same cs bs e.1 in
     let tally' : (x : ℕ) → is_node r bs x ≡ true → tally_in after x ≡ tally_in words x = λ x m. tally x (ap (λ (l : List LinkedBlock). is_node r l x) is ∙ m) in
-    let seen' : (b : LinkedBlock) (y : ℕ) → In b bs → has b y ≡ true → seen_in after y ≡ seen_in words y = λ c y i k. seen c y (subst (In c) (sym is) i) k in
+    let seen' : (b : LinkedBlock) (y : ℕ) → In b bs → has_node b y ≡ true → seen_in after y ≡ seen_in words y = λ c y i k. seen c y (subst (In c) (sym is) i) k in
     subst (λ (l : List LinkedBlock). IsSearched s l after k) (sym is)
     (⊎_elim
     (λ (a : asks s (next_in words) v p ≡ true).
@@ -186,31 +186,31 @@ standing-widened s bs cs words after k set few h st h' w keeps =
     (λ (a : asks s (next_in words) v p ≡ false).
     let next : next_in after ≡ next_in words = w.next ∙ next-stays s (next_in words) v p a in
     standing-kept s bs words after k st same tally' seen' (omega (arith, next)) (λ l. next ∙ st.within (omega (arith, l, next))) (omega (arith, next, st.room)))
-    (bool_is (asks s (next_in words) v p))))
+    (cases_Bool (asks s (next_in words) v p))))
     w.block
 
-one_gain : (o : Outcome) (p : NodeState) → (gain_of o p).visits ≡ 1
+one_gain : (o : Ending) (p : NodeState) → (gain_of o p).visits ≡ 1
 unfolding gain_of
 one_gain o p = refl
 
 sum_zero : (a b c : Count) → a ≡ plus b c → a.visits ≡ 0 → b.visits ≡ 0
 sum_zero a b c e z = omega (arith, ap (λ (v : Count). v.visits) e, z)
 
--- after the walk has added
-pub standing-added : (s : Setting) (bs : List LinkedBlock) (words after : List ℕ) (k n : ℕ) (o : Outcome) → k < s.knobs.playouts
+-- after the walk has_node added
+pub standing-added : (s : Setting) (bs : List LinkedBlock) (words after : List ℕ) (k n : ℕ) (o : Ending) → k < s.knobs.playouts
     → Holds s bs words k → IsSearched s bs words k
-    → o ≡ outcome_of s k (ends (game_of s) (root_state s) (root_at s) (config_of bs words)).1
-    → asks s (next_in words) (ends (game_of s) (root_state s) (root_at s) (config_of bs words)).0 (ends (game_of s) (root_state s) (root_at s) (config_of bs words)).1 ≡ false
-    → Added (game_of s) (root_state s) (root_at s) o (config_of bs words) (config_of bs after)
-    → Records s k n words after → leaf_in n ≡ leaf_at (game_of s) (tally_in words) (seen_in words) (oldest_first bs) (root_at s) → winner_in n ≡ o.winner
+    → o ≡ outcome_of s k (walk_end (search_game s) (root_state s) (root_at s) (config_of bs words)).1
+    → asks s (next_in words) (walk_end (search_game s) (root_state s) (root_at s) (config_of bs words)).0 (walk_end (search_game s) (root_state s) (root_at s) (config_of bs words)).1 ≡ false
+    → Added (search_game s) (root_state s) (root_at s) o (config_of bs words) (config_of bs after)
+    → Records s k n words after → leaf_in n ≡ leaf_at (search_game s) (tally_in words) (seen_in words) (oldest_first bs) (root_at s) → winner_in n ≡ o.winner
     → IsSearched s bs after (k + 1)
 standing-added s bs words after k n o low h st played sated a rec at won =
     let r : ℕ = root_at s in
-    let g : Game NodeState Outcome = game_of s in
+    let g : Game NodeState Ending = search_game s in
     let p : ℕ → Count = tally_in words in
     let q : ℕ → Count = seen_in words in
-    let v : Count = (ends g (root_state s) r (config_of bs words)).0 in
-    let spot : NodeState = (ends g (root_state s) r (config_of bs words)).1 in
+    let v : Count = (walk_end g (root_state s) r (config_of bs words)).0 in
+    let spot : NodeState = (walk_end g (root_state s) r (config_of bs words)).1 in
     let lf : ℕ = leaf_at g p q (oldest_first bs) r in
     let w : Whole r bs = whole s bs words k h in
     let here = leaf-node g (fair_game s) p q r bs w st.rooted in
@@ -231,7 +231,7 @@ standing-added s bs words after k n o low h st played sated a rec at won =
     let now : IsRecord s bs after k = record {
       node = ap (is_node r bs) leaf ∙ here.0;
       below = λ z. here.1 (sym leaf ∙ z);
-      result = ap winner_in rec.is ∙ (won ∙ sym (ap (λ (z : Outcome). z.winner) outcome));
+      result = ap winner_in rec.is ∙ (won ∙ sym (ap (λ (z : Ending). z.winner) outcome));
     } in
     let stands : IsSearched s bs after (suc k) = record {
       exact = exact;
@@ -255,20 +255,20 @@ standing-added s bs words after k n o low h st played sated a rec at won =
           (λ (t : is_on s bs x lf ≡ false).
           let stays : tally_in after x ≡ plus (p x) nothing = tally x nx ∙ ap (λ (u : Bool). plus (p x) (cond u (gain_of o (node_state s bs x)) nothing)) t in
           omega (arith, ap (λ (c : Count). c.visits) stays, st.first b x y i hx hy none))
-          (bool_is (is_on s bs x lf));
+          (cases_Bool (is_on s bs x lf));
       leaves = λ l x c m e.
           let low_next : next_in words ≤ end_of s = omega (arith, l, a.next) in
           let before : ends_at after k x ≡ ends_at words k x = ends-words s bs words after k same x in
           ⊎_elim
           (λ (t : (leaf_of after k == x) ≡ true).
-          let is : lf ≡ x = sym leaf ∙ eq_of (leaf_of after k) x t in
+          let is : lf ≡ x = sym leaf ∙ eqb-true (leaf_of after k) x t in
           let board : node_state s bs x ≡ spot = ap (node_state s bs) (sym is) ∙ at_leaf in
           let some : 0 < length (empties_of spot.board) = some-empty spot.board c (sym (ap (λ (z : NodeState). is_empty_at z.board c) board) ∙ e) in
           let fewer : v.visits < s.knobs.expand = asks-not s (next_in words) v spot sated some low_next in
           let count : v ≡ p x = state-count g (fair_game s) p q (oldest_first bs) r (root_state s) ∙ ap p is in
           omega (arith, before, ap one_if t, ends-visits s bs words k x m, ap (λ (z : Count). z.visits) (st.exact.tallies x m), ap (λ (z : Count). z.visits) count, fewer))
           (λ (t : (leaf_of after k == x) ≡ false). omega (arith, before, ap one_if t, st.leaves low_next x c m e))
-          (bool_is (leaf_of after k == x));
+          (cases_Bool (leaf_of after k == x));
       within = λ l. a.next ∙ st.within (omega (arith, l, a.next));
       room = omega (arith, a.next, st.room);
     } in
@@ -284,7 +284,7 @@ pub closed-of : (s : Setting) (bs : List LinkedBlock) (words : List ℕ) → IsS
 closed-of s bs words set h st from to =
     let K : ℕ = s.knobs.workers in
     let some : 1 ≤ K = set.ranges.workers.0 in
-    let done' : Ends s words = record { next = omega (arith, h.next.1); ticket = (from, to) } in
+    let done' : KeepsEnds s words = record { next = omega (arith, h.next.1); ticket = (from, to) } in
     let grown : Grown s bs words = record {
       first = λ b x y i hx hy z. omega (arith, st.first b x y i hx hy z, some);
       leaves = λ l x c m e. omega (arith, st.leaves l x c m e, times K s.knobs.expand some);

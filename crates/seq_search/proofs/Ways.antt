@@ -12,21 +12,22 @@ use Rattle.hex_board.specs.Positions.{Position, is_empty_at, placed}
 use Rattle.play_out.specs.Fills.{empties_of}
 use Rattle.uct_table.specs.Choice.{choice_of}
 use Rattle.tree_words.specs.Settings.{Setting, IsSetting}
-use Rattle.tree_words.specs.Words.{Count, root_at, link_in, move_of, cell_in, tally_in, seen_in}
-use Rattle.tree_words.specs.Blocks.{LinkedBlock, one_if, words_of, child, has, place, cell_at, is_node, InOrder, up}
-use Rattle.tree_words.specs.Paths.{NodeState, root_state, state_after, node_state, board_of}
+use Rattle.tree_words.specs.Words.{Count, root_at, link_in, move_word, cell_in, tally_in, seen_in}
+use Rattle.tree_words.specs.Blocks.{LinkedBlock, one_if, block_size, child, has_node, place, cell_at, is_node, InOrder, up}
+use Rattle.tree_words.specs.Paths.{NodeState, root_state, state_after, node_state, node_board}
 use Rattle.tree_words.specs.Complete.{allowed_cells, cells_below}
 use Rattle.tree_words.specs.Counts.{count_below}
 use Rattle.tree_words.specs.Trees.{oldest_first}
-use Rattle.tree_words.specs.Sequence.{child_of, chosen_of, game_of, children_in}
+use Rattle.tree_words.specs.Sequence.{child_of, chosen_of, search_game, children_in}
 use Rattle.tree_words.specs.Descents.{pairs_of, pick, leaf_inner, state_leaf, state_inner, steps_inner, Bare}
-use Rattle.tree_words.proofs.Adds.{is_child}
-use Rattle.tree_words.proofs.BlockLaws.{eq_of, same_is, bool_is, apart, up_same, true_both, lt_of}
-use Rattle.tree_words.proofs.Down.{child-has, pick-in, not_both, never}
-use Rattle.tree_words.proofs.GameLaws.{up-in, in-node, root_node, fair_game}
-use Rattle.tree_words.proofs.Links.{down-bare, leaf-link, state-link, steps-link}
-use Rattle.tree_words.proofs.Orders.{rooted-turned, link-bare}
-use Rattle.tree_words.proofs.RootLaws.{filter_at}
+use Rattle.tree_words.proofs.Walks.Adds.{is_child}
+use Rattle.std.proofs.lemmas.Bool.{eqb-true, eq-eqb, cases_Bool, and_parts, ltb-true, false_from_ne_true}
+use Rattle.tree_words.proofs.Blocks.BlockLaws.{apart, up_same, clash, root_node}
+use Rattle.tree_words.proofs.Walks.Down.{child-has, pick-in}
+use Rattle.tree_words.proofs.Blocks.GameLaws.{up-in, in-node, fair_game}
+use Rattle.tree_words.proofs.Blocks.Links.{down-bare, leaf-link, state-link, steps-link}
+use Rattle.tree_words.proofs.Blocks.Orders.{rooted-turned, link-bare}
+use Rattle.tree_words.proofs.Boards.RootLaws.{filter_at}
 use Rattle.tree_words.specs.Walks.{AtMost}
 use Rattle.seq_search.specs.Steps.{Holds}
 use Rattle.uct_table.specs.declared.scoring.TheConstants.{MOST_COUNT}
@@ -34,8 +35,10 @@ use Rattle.seq_search.specs.Choosing.{CanBeScored}
 use Rattle.seq_search.specs.declared.descending.Descent.{Descent}
 use Rattle.seq_search.specs.Descending.{spot_in, steps_in, left_on, HasRoom, leaf_below, state_below, steps_below, Underway, Descended}
 use Rattle.seq_search.proofs.LinkLaws.{IsBelow, below, node-fits, child-move, child-counts}
-use Rattle.tree_words.proofs.EmptyLaws.{below-empty, on-board, few-cells, cell-of-move, up-root}
-use Rattle.tree_words.proofs.ChildLaws.{pairs-children}
+use Rattle.hex_cells.proofs.Tables.{square_small}
+use Rattle.hex_board.proofs.Placed.{empty_on, placed_empty, placed_size}
+use Rattle.tree_words.proofs.Boards.EmptyLaws.{below-empty, cell-of-move, up-root}
+use Rattle.tree_words.proofs.Walks.ChildLaws.{pairs-children}
 
 -- how a call of the way down is told that the words are those of a search
 abbrev pub Searched : Setting → List ℕ → Type 0
@@ -61,7 +64,7 @@ module _ (s : Setting) (bs : List LinkedBlock) (words : List ℕ) (k : ℕ) (few
   pub block-count : slice_index words (block + 3) ≡ length block-below.0.cells
   block-count = ap (λ (z : ℕ). slice_index words (z + 3)) block-start ∙ block-below.1.count
 
-  pub block-fits : block + words_of (slice_index words (block + 3)) ≤ length words
+  pub block-fits : block + block_size (slice_index words (block + 3)) ≤ length words
   block-fits = omega (arith, block-start, block-count, block-below.1.fits)
 
   pub block-scored : CanBeScored words (block + 4) (slice_index words (block + 3))
@@ -77,7 +80,7 @@ module _ (s : Setting) (bs : List LinkedBlock) (words : List ℕ) (k : ℕ) (few
 
   -- the place that is chosen
   module _ (visits weight chosen : ℕ) (own : visits ≡ (tally_in words x).visits) (same : weight ≡ s.knobs.weight) (is : chosen ≡ choice_of visits weight (children_in words (block + 4) (slice_index words (block + 3)))) where
-    pub chosen-pick : chosen ≡ pick (game_of s) (tally_in words) (seen_in words) block-below.0 x
+    pub chosen-pick : chosen ≡ pick (search_game s) (tally_in words) (seen_in words) block-below.0 x
     unfolding chosen_of
     chosen-pick =
         let b : LinkedBlock = block-below.0 in
@@ -85,7 +88,7 @@ module _ (s : Setting) (bs : List LinkedBlock) (words : List ℕ) (k : ℕ) (few
         ∙ sym (ap (choice_of (tally_in words x).visits s.knobs.weight) (pairs-children words (b.start + 4) b.cells))
 
     pub chosen-in : chosen < length block-below.0.cells
-    chosen-in = let b : LinkedBlock = block-below.0 in omega (arith, chosen-pick, pick-in (game_of s) (fair_game s) (tally_in words) (seen_in words) b x block-below.1.some)
+    chosen-in = let b : LinkedBlock = block-below.0 in omega (arith, chosen-pick, pick-in (search_game s) (fair_game s) (tally_in words) (seen_in words) b x block-below.1.some)
 
     pub chosen-at : block + 4 + 4 * chosen ≡ child block-below.0 chosen
     chosen-at = ap (λ (z : ℕ). z + 4 + 4 * chosen) block-start
@@ -96,12 +99,12 @@ module _ (s : Setting) (bs : List LinkedBlock) (words : List ℕ) (k : ℕ) (few
     pub chosen-after : x < block
     chosen-after = omega (arith, block-below.1.whole.above, block-below.1.parent, block-start)
 
-    pub chosen-empty : IsSetting s → is_empty_at (board_of s bs x) (cell_at block-below.0 chosen) ≡ true
+    pub chosen-empty : IsSetting s → is_empty_at (node_board s bs x) (cell_at block-below.0 chosen) ≡ true
     chosen-empty z =
         let b : LinkedBlock = block-below.0 in
         let cells = block-below.1.whole.cells in
         let l : chosen < length (cells_below s bs b.parent) = subst (λ (c : List ℕ). chosen < length c) cells chosen-in in
-        (λ i. is_empty_at (board_of s bs (sym block-below.1.parent i)) (get_or (cells i) chosen 0)) ∙ below-empty s bs b.parent chosen z h.linked.order l
+        (λ i. is_empty_at (node_board s bs (sym block-below.1.parent i)) (get_or (cells i) chosen 0)) ∙ below-empty s bs b.parent chosen z h.linked.order l
 
 -- a stone less to place
 fewer-le : (n : ℕ) (f g : ℕ → Bool) → ((k : ℕ) → g k ≡ true → f k ≡ true) → count_below n g ≤ count_below n f
@@ -111,22 +114,22 @@ fewer-le (suc n) f g h = let r = fewer-le n f g h in one (f n) (g n) (h n) r
     one : {a b : ℕ} (t u : Bool) → (u ≡ true → t ≡ true) → b ≤ a → b + one_if u ≤ a + one_if t
     one true true h l = omega (arith, l)
     one true false h l = omega (arith, l)
-    one false true h l = absurd (not_both false (h refl) refl)
+    one false true h l = absurd (clash false (h refl) refl)
     one false false h l = omega (arith, l)
 
 fewer : (n c : ℕ) (f g : ℕ → Bool) → ((k : ℕ) → g k ≡ true → (f k ≡ true) × (k ≢ c)) → f c ≡ true → c < n → count_below n g < count_below n f
 fewer zero c f g h e l = absurd (omega arith)
 fewer (suc n) c f g h e l = ⊎_elim
     (λ (t : (n == c) ≡ true).
-    let at : n ≡ c = eq_of n c t in
-    let off : g n ≡ false = never (g n) (λ u. (h n u).1 at) in
+    let at : n ≡ c = eqb-true n c t in
+    let off : g n ≡ false = false_from_ne_true (g n) (λ u. (h n u).1 at) in
     let on : f n ≡ true = ap f at ∙ e in
     let r = fewer-le n f g (λ k u. (h k u).0) in
     omega (arith, r, ap one_if off, ap one_if on))
     (λ (t : (n == c) ≡ false).
     let r = fewer n c f g h e (past n c t l) in
     step (f n) (g n) (λ u. (h n u).0) r)
-    (bool_is (n == c))
+    (cases_Bool (n == c))
   where
     past : (n c : ℕ) → (n == c) ≡ false → c < suc n → c < n
     past n c t l = grind (arith, nat_tests)
@@ -134,7 +137,7 @@ fewer (suc n) c f g h e l = ⊎_elim
     step : {a b : ℕ} (t u : Bool) → (u ≡ true → t ≡ true) → b < a → b + one_if u < a + one_if t
     step true true h l = omega (arith, l)
     step true false h l = omega (arith, l)
-    step false true h l = absurd (not_both false (h refl) refl)
+    step false true h l = absurd (clash false (h refl) refl)
     step false false h l = omega (arith, l)
 
 most-below : (n : ℕ) (f : ℕ → Bool) → count_below n f ≤ n
@@ -145,48 +148,19 @@ most-below (suc n) f = let r = most-below n f in one (f n) r
     one true l = omega (arith, l)
     one false l = omega (arith, l)
 
--- on a board with one more stone
-has-with-cell : (set c k : ℕ) → c < 121 → has_cell (with_cell set c) k ≡ (has_cell set k || k == c)
-has-with-cell set c k l = ap (λ (v : ℕ). has_cell v k) (sym (with_value set c l)) ∙ has_with set c k (omega (arith, l))
-
-placed_leaves : (p : Position) (player : Colour) (c k : ℕ) → c < 121 → is_empty_at (placed p player c) k ≡ (is_empty_at p k && not (k == c))
-placed_leaves p Black c k l = ap (λ b. nat_lt k (p.size * p.size) && not b && not (has_cell p.white k)) (has-with-cell p.black c k l) ∙ black (nat_lt k (p.size * p.size)) (has_cell p.black k) (has_cell p.white k) (k == c)
-  where
-    black : (a b w e : Bool) → (a && not (b || e) && not w) ≡ ((a && not b && not w) && not e)
-    black a b w e = grind arith
-placed_leaves p White c k l = ap (λ b. nat_lt k (p.size * p.size) && not (has_cell p.black k) && not b) (has-with-cell p.white c k l) ∙ white (nat_lt k (p.size * p.size)) (has_cell p.black k) (has_cell p.white k) (k == c)
-  where
-    white : (a b w e : Bool) → (a && not b && not (w || e)) ≡ ((a && not b && not w) && not e)
-    white a b w e = grind arith
-
-placed-empty : (p : Position) (player : Colour) (c k : ℕ) → c < 121 → is_empty_at (placed p player c) k ≡ true → (is_empty_at p k ≡ true) × (k ≢ c)
-placed-empty p player c k l e =
-    let t = true_both (is_empty_at p k) (not (k == c)) (sym (placed_leaves p player c k l) ∙ e) in
-    (t.0, apart_of k c t.1)
-  where
-    apart_of : (k c : ℕ) → not (k == c) ≡ true → k ≢ c
-    apart_of k c h e = no (k == c) (same_is k c e) h
-      where
-        no : (u : Bool) → u ≡ true → not u ≡ true → ⊥
-        no u a b = cc
-
-pub placed-size : (p : Position) (player : Colour) (c : ℕ) → (placed p player c).size ≡ p.size
-placed-size p Black c = refl
-placed-size p White c = refl
-
 pub most-left : (p : Position) → left_on p ≤ 121
 unfolding left_on
 most-left p = most-below 121 (is_empty_at p)
 
 fewer-left : (p : Position) (player : Colour) (c : ℕ) → is_empty_at p c ≡ true → c < 121 → left_on (placed p player c) < left_on p
 unfolding left_on
-fewer-left p player c e l = fewer 121 c (is_empty_at p) (is_empty_at (placed p player c)) (λ k u. placed-empty p player c k l u) e l
+fewer-left p player c e l = fewer 121 c (is_empty_at p) (is_empty_at (placed p player c)) (λ k u. placed_empty p player c k u) e l
 
--- a walk that can take a step has room for it
+-- a walk that can take a step has_node room for it
 pub step-count : (d : Descent) (cell : ℕ) → is_empty_at d.board cell ≡ true → HasRoom d → d.count < 121
 step-count d cell e r =
-    let o = on-board d.board cell e in
-    let m = few-cells d.board.size r.size in
+    let o = empty_on d.board cell e in
+    let m = square_small d.board.size r.size in
     let f = fewer-left d.board d.player cell e (omega arith) in
     omega (arith, f, r.cells)
 
@@ -194,14 +168,14 @@ step-count d cell e r =
 module _ (d e : Descent) (cell kid : ℕ) (board : e.board ≡ placed d.board d.player cell) (player : e.player ≡ other_of d.player) (node : e.node ≡ kid)
     (steps : e.steps ≡ set d.steps d.count kid) (count : e.count ≡ d.count + 1) (empty : is_empty_at d.board cell ≡ true) where
   step-cell : d.board.size ≤ 11 → cell < 121
-  step-cell l = let o = on-board d.board cell empty in let m = few-cells d.board.size l in omega arith
+  step-cell l = let o = empty_on d.board cell empty in let m = square_small d.board.size l in omega arith
 
   pub step-room : HasRoom d → HasRoom e
   step-room r =
       let f = fewer-left d.board d.player cell empty (step-cell r.size) in
       let same : left_on e.board ≡ left_on (placed d.board d.player cell) = ap left_on board in
       record {
-        size = subst (λ (n : ℕ). n ≤ 11) (sym (ap (λ (p : Position). p.size) board ∙ placed-size d.board d.player cell)) r.size;
+        size = subst (λ (n : ℕ). n ≤ 11) (sym (ap (λ (p : Position). p.size) board ∙ placed_size d.board d.player cell)) r.size;
         cells = omega (arith, f, r.cells, count, same);
         long = ap length steps ∙ length-set d.steps d.count kid ∙ r.long;
       }
@@ -213,14 +187,14 @@ module _ (d e : Descent) (cell kid : ℕ) (board : e.board ≡ placed d.board d.
   step-spot i = record { board = board i; player = player i }
 
   pub step-way : (s : Setting) (bs : List LinkedBlock) (words : List ℕ) (k : ℕ) → Holds s bs words k → (b : LinkedBlock) → IsBelow s bs words d.node b → (j : ℕ)
-      → j ≡ pick (game_of s) (tally_in words) (seen_in words) b d.node → j < length b.cells → kid ≡ child b j → cell ≡ cell_at b j
+      → j ≡ pick (search_game s) (tally_in words) (seen_in words) b d.node → j < length b.cells → kid ≡ child b j → cell ≡ cell_at b j
       → HasRoom d → Underway s bs words d → Underway s bs words e
   step-way s bs words k h b w j is l at mine r u =
-      let g = game_of s in let fair = fair_game s in let p = tally_in words in let q = seen_in words in let os = oldest_first bs in
+      let g = search_game s in let fair = fair_game s in let p = tally_in words in let q = seen_in words in let os = oldest_first bs in
       let rooted = rooted-turned (root_at s) bs h.linked.order in
       let i : ℕ = pick g p q b d.node in
       let here : e.node ≡ child b i = node ∙ at ∙ ap (child b) is in
-      let inside : has b e.node ≡ true = ap (has b) (node ∙ at) ∙ child-has b j l in
+      let inside : has_node b e.node ≡ true = ap (has_node b) (node ∙ at) ∙ child-has b j l in
       let cell-is : cell ≡ cell_at b i = mine ∙ ap (cell_at b) is in
       let spot : spot_in e ≡ state_after (spot_in d) (cell_at b i) = step-spot ∙ ap (state_after (spot_in d)) cell-is in
       let up : node_state s bs e.node ≡ state_after (node_state s bs b.parent) (cell_at b (place b e.node))
@@ -252,7 +226,7 @@ begin-way s d board player node count bs words k h =
 -- where it ends
 pub end-way : (s : Setting) (bs : List LinkedBlock) (words : List ℕ) (d : Descent) (k : ℕ) → Holds s bs words k → HasRoom d → Underway s bs words d → link_in words d.node ≡ 0 → Descended s bs words d
 end-way s bs words d k h r u e =
-    let g = game_of s in let p = tally_in words in let q = seen_in words in let os = oldest_first bs in
+    let g = search_game s in let p = tally_in words in let q = seen_in words in let os = oldest_first bs in
     let bare : Bare os d.node = link-bare (root_at s) bs d.node h.linked.order (sym (h.linked.shows.links d.node u.node) ∙ e) in
     record {
       node = u.node;
@@ -274,7 +248,7 @@ few-counts s k z l = omega (arith, l, z.ranges.playouts.1)
 
 -- the block of the node can be chosen from
 pub record MayChoose (s : Setting) (words : List ℕ) (d : Descent) (block : ℕ) : Type 0 where
-  pub within : block + words_of (slice_index words (block + 3)) ≤ length words
+  pub within : block + block_size (slice_index words (block + 3)) ≤ length words
   pub parent : (tally_in words d.node).visits ≤ MOST_COUNT
   pub counts : CanBeScored words (block + 4) (slice_index words (block + 3))
 
@@ -296,9 +270,9 @@ pub record MayGo (words : List ℕ) (d : Descent) (kid : ℕ) : Type 0 where
 
 module _ (s : Setting) (words : List ℕ) (d : Descent) (block visits weight chosen : ℕ) (z : IsSetting s) (at : block ≡ link_in words d.node) (some : block ≢ 0)
     (own : visits ≡ (tally_in words d.node).visits) (same : weight ≡ s.knobs.weight) (is : chosen ≡ choice_of visits weight (children_in words (block + 4) (slice_index words (block + 3)))) where
-  -- the cell that the move word of the chosen child has
+  -- the cell that the move word of the chosen child has_node
   chosen-cell : (bs : List LinkedBlock) (k : ℕ) → k ≤ s.knobs.playouts → (h : Holds s bs words k) → d.board.size ≤ 11 → (u : Underway s bs words d)
-      → (b : LinkedBlock) × (w : IsBelow s bs words d.node b) × (chosen ≡ pick (game_of s) (tally_in words) (seen_in words) b d.node) × (chosen < length b.cells) × (block + 4 + 4 * chosen ≡ child b chosen)
+      → (b : LinkedBlock) × (w : IsBelow s bs words d.node b) × (chosen ≡ pick (search_game s) (tally_in words) (seen_in words) b d.node) × (chosen < length b.cells) × (block + 4 + 4 * chosen ≡ child b chosen)
       × (cell_in (slice_index words (block + 4 + 4 * chosen)) ≡ cell_at b chosen) × (is_empty_at d.board (cell_at b chosen) ≡ true)
   chosen-cell bs k l h small u =
       let few = few-counts s k z l in
@@ -309,8 +283,8 @@ module _ (s : Setting) (words : List ℕ) (d : Descent) (block visits weight cho
       let kid-at = chosen-at s bs words k few h d.node block u.node at some visits weight chosen own same is in
       let empty : is_empty_at d.board (cell_at b chosen) ≡ true
       = ap (λ (p : NodeState). is_empty_at p.board (cell_at b chosen)) u.spot ∙ chosen-empty s bs words k few h d.node block u.node at some visits weight chosen own same is z in
-      let on = on-board d.board (cell_at b chosen) empty in
-      let low = few-cells d.board.size small in
+      let on = empty_on d.board (cell_at b chosen) empty in
+      let low = square_small d.board.size small in
       let move : cell_in (slice_index words (block + 4 + 4 * chosen)) ≡ cell_at b chosen
       = ap (λ (y : ℕ). cell_in (slice_index words y)) kid-at ∙ ap cell_in (child-move s bs words k h b chosen t.1.inside within) ∙ cell-of-move chosen (cell_at b chosen) (omega (arith, on, low)) in
       (b, t.1, pick-is, within, kid-at, move, empty)

@@ -7,31 +7,41 @@ use Rattle.tree_words.specs.Blocks.{LinkedBlock, one_if, is_node}
 use Rattle.tree_words.specs.Paths.{root_state}
 use Rattle.tree_words.specs.Walks.{plus}
 use Rattle.tree_words.specs.Trees.{oldest_first}
-use Rattle.tree_words.specs.Sequence.{Outcome, game_of}
-use Rattle.tree_words.specs.Descents.{adds, sees}
-use Rattle.seq_search.specs.declared.adding.Ending.{Ending}
+use Rattle.play_out.specs.declared.playouts.Ending.{Ending}
+use Rattle.tree_words.specs.Sequence.{search_game}
+use Rattle.tree_words.specs.Descents.{adds, sees, Added, config_of}
 use Rattle.tree_words.specs.declared.layout.TheConstants.{HEADER_WORDS, NODE_WORDS, TALLY_WORD, SEEN_WORD}
 
--- what a playout gave
-abbrev pub outcome_in : Ending → Outcome
-outcome_in e = record { winner = e.winner; full = e.full }
-
 -- the first word of the node of place k of the block at b
-abbrev pub node_of : ℕ → ℕ → ℕ
-node_of b k = b + HEADER_WORDS + NODE_WORDS * k
+abbrev pub node_at : ℕ → ℕ → ℕ
+node_at b k = b + HEADER_WORDS + NODE_WORDS * k
 
--- Of the first n nodes of the block at b, the seen word of each whose cell is in the set has so much more, and all else is as before.
+-- Of the first n nodes of the block at b, the seen word of each whose cell is in the set has so
+-- much more, and all else is as before.
 pub record Sighted (b n set amount : ℕ) (before after : List ℕ) : Type 0 where
   pub long : length after ≡ length before
-  pub seen : (k : ℕ) → k < n → slice_index after (node_of b k + SEEN_WORD)
-      ≡ slice_index before (node_of b k + SEEN_WORD) + (if has_cell set (cell_in (slice_index before (node_of b k))) then amount else 0)
-  pub others : (i : ℕ) → ((k : ℕ) → k < n → i ≢ node_of b k + SEEN_WORD) → slice_index after i ≡ slice_index before i
+  pub seen : (k : ℕ) → k < n → slice_index after (node_at b k + SEEN_WORD)
+      ≡ slice_index before (node_at b k + SEEN_WORD)
+      + (if has_cell set (cell_in (slice_index before (node_at b k))) then amount else 0)
+  pub others : (i : ℕ) → ((k : ℕ) → k < n → i ≢ node_at b k + SEEN_WORD)
+      → slice_index after i ≡ slice_index before i
 
--- Each node has the counts that the walk adds where its playout gave o, and all other words are as before.
-pub record Counted (s : Setting) (bs : List LinkedBlock) (o : Outcome) (before after : List ℕ) : Type 0 where
+-- Each node has the counts that the walk adds where its playout gave o, and all other words are as
+-- before.
+pub record Counted (s : Setting) (bs : List LinkedBlock) (o : Ending)
+    (before after : List ℕ) : Type 0 where
   pub long : length after ≡ length before
   pub tally : (w : ℕ) → is_node (root_at s) bs w ≡ true → tally_in after w
-      ≡ plus (tally_in before w) (adds (game_of s) (tally_in before) (seen_in before) o (oldest_first bs) (root_at s) (root_state s) w)
+      ≡ plus (tally_in before w) (adds (search_game s) (tally_in before) (seen_in before) o
+      (oldest_first bs) (root_at s) (root_state s) w)
   pub seen : (w : ℕ) → is_node (root_at s) bs w ≡ true → seen_in after w
-      ≡ plus (seen_in before w) (sees (game_of s) (tally_in before) (seen_in before) o (oldest_first bs) (root_at s) (root_state s) w)
-  pub others : (i : ℕ) → ((w : ℕ) → is_node (root_at s) bs w ≡ true → (i ≢ w + TALLY_WORD) × (i ≢ w + SEEN_WORD)) → slice_index after i ≡ slice_index before i
+      ≡ plus (seen_in before w) (sees (search_game s) (tally_in before) (seen_in before) o
+      (oldest_first bs) (root_at s) (root_state s) w)
+  pub others : (i : ℕ)
+      → ((w : ℕ) → is_node (root_at s) bs w ≡ true → (i ≢ w + TALLY_WORD) × (i ≢ w + SEEN_WORD))
+      → slice_index after i ≡ slice_index before i
+
+-- the words after a walk have what it adds where its playout gave o
+abbrev pub AddsWalk : Setting → List LinkedBlock → Ending → List ℕ → List ℕ → Type 0
+AddsWalk s bs o before after =
+    Added (search_game s) (root_state s) (root_at s) o (config_of bs before) (config_of bs after)

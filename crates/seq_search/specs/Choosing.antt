@@ -9,4 +9,7 @@ use Rattle.uct_table.specs.declared.scoring.TheConstants.{MOST_COUNT}
 
 -- the counts of the n nodes that stand from word y on can be scored
 abbrev pub CanBeScored : List ℕ → ℕ → ℕ → Type 0
-CanBeScored words y n = (k : ℕ) → k < n → AtMost MOST_COUNT (tally_in words (y + NODE_WORDS * k)) × AtMost MOST_COUNT (seen_in words (y + NODE_WORDS * k))
+CanBeScored words y n =
+    (k : ℕ) → k < n
+    → AtMost MOST_COUNT (tally_in words (y + NODE_WORDS * k))
+    × AtMost MOST_COUNT (seen_in words (y + NODE_WORDS * k))

@@ -6,12 +6,12 @@ use Rattle.tree_words.specs.Words.{Count, root_at, link_in, tally_in, seen_in}
 use Rattle.tree_words.specs.Blocks.{LinkedBlock, is_node}
 use Rattle.tree_words.specs.Paths.{NodeState, root_state, node_state}
 use Rattle.tree_words.specs.Trees.{oldest_first}
-use Rattle.tree_words.specs.Sequence.{game_of}
+use Rattle.tree_words.specs.Sequence.{search_game}
 use Rattle.tree_words.specs.Descents.{leaf_at, state_at, steps_at}
 use Rattle.tree_words.specs.Counts.{count_below}
 use Rattle.seq_search.specs.declared.descending.Descent.{Descent}
-use Rattle.tree_words.specs.declared.layout.TheConstants.{MOST_NODES}
 use Rattle.seq_search.specs.declared.descending.TheConstants.{MOST_STEPS}
+use Rattle.hex_cells.specs.declared.board_size.TheConstants.{MOST_CELLS}
 
 -- the board and the player to move
 abbrev pub spot_in : Descent → NodeState
@@ -23,7 +23,7 @@ steps_in d = take d.count d.steps
 
 -- how many cells of the board are empty
 unfoldable pub left_on : Position → ℕ
-left_on p = count_below MOST_NODES (is_empty_at p)
+left_on p = count_below MOST_CELLS (is_empty_at p)
 
 -- There is room for its further steps: each takes an empty cell.
 pub record HasRoom (d : Descent) : Type 0 where
@@ -34,13 +34,13 @@ pub record HasRoom (d : Descent) : Type 0 where
 module _ (s : Setting) (bs : List LinkedBlock) (words : List ℕ) where
   -- the leaf of the walk from x down, its state and its steps, by the words
   abbrev pub leaf_below : ℕ → ℕ
-  leaf_below x = leaf_at (game_of s) (tally_in words) (seen_in words) (oldest_first bs) x
+  leaf_below x = leaf_at (search_game s) (tally_in words) (seen_in words) (oldest_first bs) x
 
   abbrev pub state_below : ℕ → NodeState → Count × NodeState
-  state_below x p = state_at (game_of s) (tally_in words) (seen_in words) (oldest_first bs) x p
+  state_below x p = state_at (search_game s) (tally_in words) (seen_in words) (oldest_first bs) x p
 
   abbrev pub steps_below : ℕ → List ℕ
-  steps_below x = steps_at (game_of s) (tally_in words) (seen_in words) (oldest_first bs) x
+  steps_below x = steps_at (search_game s) (tally_in words) (seen_in words) (oldest_first bs) x
 
   -- The walk stands at a node on its way: its board and its player are those of the node.
   pub record Underway (d : Descent) : Type 0 where

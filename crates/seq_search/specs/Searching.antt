@@ -5,27 +5,31 @@ use Rattle.tree_words.specs.Words.{root_at, next_in, ticket_in}
 use Rattle.tree_words.specs.Blocks.{LinkedBlock}
 use Rattle.tree_words.specs.Paths.{root_state}
 use Rattle.tree_words.specs.Walks.{walks}
-use Rattle.tree_words.specs.Sequence.{game_of, first_tree}
+use Rattle.tree_words.specs.Sequence.{search_game, first_tree}
 use Rattle.tree_words.specs.Descents.{tree_in, Widened, config_of}
 use Rattle.seq_search.specs.Steps.{Holds, KeepsRecords}
 use Rattle.seq_search.specs.IsSearched.{IsSearched}
 use Rattle.seq_search.specs.Descending.{Descended}
 use Rattle.seq_search.specs.declared.descending.Descent.{Descent}
 
--- The words are those of a search after k walks: they hold its tree, which is that of k walks of the sequential search, their
--- counts and records are those of these walks, and all playout numbers are drawn.
+-- The words are those of a search after k walks: they hold its tree, which is that of k walks of
+-- the sequential search, their counts and records are those of these walks, and all playout numbers
+-- are drawn.
 pub record Searched (s : Setting) (words : List ℕ) (k : ℕ) : Type 0 where
   pub blocks : List LinkedBlock
   pub holds : Holds s blocks words k
   pub standing : IsSearched s blocks words k
-  pub tree : (tree_in (root_at s) (config_of blocks words), next_in words) ≡ walks (game_of s) (root_state s) (first_tree s) k
+  pub tree : (tree_in (root_at s) (config_of blocks words), next_in words)
+      ≡ walks (search_game s) (root_state s) (first_tree s) k
   pub ticket : ticket_in words ≡ s.knobs.playouts
 
--- The walk has come to its leaf, which has got its block before where it was to have one: the words hold the widened tree, with
--- the same records.
-pub record Reached (s : Setting) (bs : List LinkedBlock) (k : ℕ) (before after : List ℕ) (d : Descent) : Type 0 where
+-- The walk has come to its leaf, which has got its block before where it was to have one: the words
+-- hold the widened tree, with the same records.
+pub record Reached (s : Setting) (bs : List LinkedBlock) (k : ℕ) (before after : List ℕ)
+    (d : Descent) : Type 0 where
   pub blocks : List LinkedBlock
   pub holds : Holds s blocks after k
-  pub widened : Widened (game_of s) (root_state s) (root_at s) (config_of bs before) (config_of blocks after)
+  pub widened : Widened (search_game s) (root_state s) (root_at s) (config_of bs before)
+      (config_of blocks after)
   pub keeps : KeepsRecords s before after
   pub descended : Descended s blocks after d

@@ -4,8 +4,8 @@ use Rattle.std.specs.List.{filter}
 use Rattle.hex_cells.specs.Sets.{has as has_cell}
 use Rattle.hex_board.specs.Joined.{cells_of}
 use Rattle.tree_words.specs.Settings.{Setting}
-use Rattle.tree_words.specs.Words.{move_of, next_in, tally_in}
-use Rattle.tree_words.specs.Blocks.{LinkedBlock, size, covers, has, place, cell_at, stays, header_or_move}
+use Rattle.tree_words.specs.Words.{move_word, next_in, tally_in}
+use Rattle.tree_words.specs.Blocks.{LinkedBlock, size, covers, has_node, place, cell_at, is_header_or_move, header_or_move}
 use Rattle.tree_words.specs.Complete.{HasEmpties}
 use Rattle.tree_words.specs.Paths.{NodeState}
 use Rattle.tree_words.specs.Sequence.{gets_block, next_after}
@@ -14,20 +14,31 @@ use Rattle.tree_words.specs.declared.layout.TheConstants.{LINK_WORD, NEXT_AT, TI
 
 -- the block below a leaf of this spot: it begins at NEXT
 abbrev pub block_below : ℕ → ℕ → ℕ → NodeState → LinkedBlock
-block_below next leaf empties p = record { start = next; parent = leaf; empties = empties; cells = empties_of p.board }
+block_below next leaf empties p =
+    record { start = next; parent = leaf; empties = empties; cells = empties_of p.board }
 
 -- the block is written, its parent's link names it, and no other word changes
-pub record Links (b : LinkedBlock) (before after : List ℕ) : Type 0 where
+pub record LinksBlock (b : LinkedBlock) (before after : List ℕ) : Type 0 where
   pub long : length after ≡ length before
   pub link : slice_index after (b.parent + LINK_WORD) ≡ b.start
-  pub each : (i : ℕ) → (i ≡ b.parent + LINK_WORD → ⊥) → slice_index after i ≡ (if covers i b && stays (i - b.start) then header_or_move b (i - b.start) else slice_index before i)
+  pub each : (i : ℕ) → (i ≡ b.parent + LINK_WORD → ⊥)
+      → slice_index after i
+      ≡ (if covers i b && is_header_or_move (i - b.start) then header_or_move b (i - b.start)
+      else slice_index before i)
 
 -- a block with the empty cells of this spot is written so
 abbrev pub LinksBelow : ℕ → ℕ → NodeState → List ℕ → List ℕ → Type 0
-LinksBelow start leaf p before after = (empties : ℕ) × HasEmpties empties p.board × Links (block_below start leaf empties p) before after
+LinksBelow start leaf p before after =
+    (empties : ℕ) × HasEmpties empties p.board
+    × LinksBlock (block_below start leaf empties p) before after
 
--- The leaf of this spot gets its block where it is to have one, and NEXT grows where it asks for one; no other word changes.
+-- The leaf of this spot gets its block where it is to have one, and NEXT grows where it asks for
+-- one; no other word changes.
 pub record Grows (s : Setting) (leaf : ℕ) (p : NodeState) (before after : List ℕ) : Type 0 where
   pub next : next_in after ≡ next_after s (next_in before) (tally_in before leaf) p
-  pub made : gets_block s (next_in before) (tally_in before leaf) p ≡ true → LinksBelow (next_in before) leaf p (slice_set before NEXT_AT (next_after s (next_in before) (tally_in before leaf) p)) after
-  pub none : gets_block s (next_in before) (tally_in before leaf) p ≡ false → (length after ≡ length before) × ((i : ℕ) → TICKET_AT ≤ i → slice_index after i ≡ slice_index before i)
+  pub made : gets_block s (next_in before) (tally_in before leaf) p ≡ true
+      → let next = next_after s (next_in before) (tally_in before leaf) p in
+      LinksBelow (next_in before) leaf p (slice_set before NEXT_AT next) after
+  pub none : gets_block s (next_in before) (tally_in before leaf) p ≡ false
+      → (length after ≡ length before)
+      × ((i : ℕ) → TICKET_AT ≤ i → slice_index after i ≡ slice_index before i)

@@ -2,55 +2,22 @@
 
 ghost use Rattle.std.specs.Prelude.{◌≡◌, ℕ, ◌+◌, ◌*◌, ◌^◌, ◌≤◌, ◌<◌, length, set, slice_index, List, true};
 ghost use Rattle.hex_cells.specs.declared.colours.Colour.TheVariants.{White};
-ghost use Rattle.hex_board.specs.Wins.{is_same};
-ghost use Rattle.tree_words.specs.Blocks.{LinkedBlock, one_if, words_of};
-ghost use Rattle.tree_words.specs.Words.{cell_in, root_at};
-ghost use Rattle.tree_words.specs.Paths.{root_state};
-ghost use Rattle.tree_words.specs.Sequence.{game_of, amount_of};
-ghost use Rattle.tree_words.specs.Descents.{Added, config_of};
-ghost use Rattle.play_out.specs.Fills.{filled, playout_of};
+ghost use Rattle.hex_cells.specs.Colours.{is_same};
+ghost use Rattle.tree_words.specs.Blocks.{LinkedBlock, one_if, block_size};
+ghost use Rattle.tree_words.specs.Words.{cell_in, nodes_in};
+ghost use Rattle.tree_words.specs.Sequence.{amount_of};
 ghost use Rattle.seq_search.specs.Steps.{Holds, Records};
 ghost use Rattle.seq_search.specs.Descending.{Descended};
-ghost use Rattle.seq_search.specs.Adding.{Counted, Sighted, node_of, outcome_in};
+ghost use Rattle.seq_search.specs.Adding.{Counted, Sighted, node_at, AddsWalk};
 
 use super::descending::Descent;
-use hex_board::Board;
-use hex_cells::{Cell, CellSet, Colour};
-use play_out::fill;
+use hex_cells::{Cell, CellSet, Colour, MOST_CELLS};
+use play_out::Ending;
 use tree_words::layout::{
-    COUNT_WORD, HEADER_WORDS, LINK_WORD, MOST_NODES, NODE_WORDS, RECORDS_AT, RECORD_UNIT, SEEN_WORD,
+    COUNT_WORD, HEADER_WORDS, LINK_WORD, NODE_WORDS, RECORD_UNIT, RECORDS_AT, SEEN_WORD,
     TALLY_WORD, VISIT,
 };
 use tree_words::{Shape, cell_of};
-
-/// How a playout ended: the filled board, and who won.
-#[derive(Drop)]
-pub(crate) struct Ending {
-    /// The filled board.
-    pub(crate) full: Board,
-    /// Black where Black is joined on it, else White.
-    pub(crate) winner: Colour,
-}
-
-/// Playout `k` of a search with this seed.
-pub(crate) fn play(board: &Board, player: Colour, seed: u64, k: u64) -> Ending
-    ensures full { result.full ≡ filled board.now player seed k }
-    ensures winner { result.winner ≡ playout_of board.now player seed k }
-{
-    let full = fill(board, player, seed, k);
-    let black_won = full.joined(Colour::Black);
-    if black_won {
-        Ending {
-            full,
-            winner: Colour::Black,
-        }
-    } else {
-        Ending {
-            full,
-            winner: Colour::White,
-        }
-    }
-}
 
 // One visit, and one win where the player is the winner.
 fn amount(player: Colour, winner: Colour) -> u64
@@ -63,17 +30,20 @@ fn amount(player: Colour, winner: Colour) -> u64
 fn gain(words: &mut [u64], node: usize, amount: u64)
     requires within { node + NODE_WORDS ≤ length words.old }
     requires small { slice_index words.old (node + TALLY_WORD) + amount < 2 ^ 64 }
-    ensures { words.new ≡ set words.old (node + TALLY_WORD) (slice_index words.old (node + TALLY_WORD) + amount) }
+    ensures { words.new
+        ≡ set words.old (node + TALLY_WORD) (slice_index words.old (node + TALLY_WORD) + amount) }
 {
     words[node + TALLY_WORD] += amount;
 }
 
 // Adds to the seen word of each node of the block whose cell is in the set.
 fn see(words: &mut [u64], block: usize, stones: CellSet, amount: u64)
-    requires within { block + words_of (slice_index words.old (block + COUNT_WORD)) ≤ length words.old }
-    requires cells { (k : ℕ) → k < slice_index words.old (block + COUNT_WORD) → cell_in (slice_index words.old (node_of block k)) < MOST_NODES }
-    requires small { (k : ℕ) → k < slice_index words.old (block + COUNT_WORD) → slice_index words.old (node_of block k + SEEN_WORD) + amount < 2 ^ 64 }
-    ensures { Sighted block (slice_index words.old (block + COUNT_WORD)) stones amount words.old words.new }
+    requires within { block + block_size (nodes_in words.old block) ≤ length words.old }
+    requires cells { (k : ℕ) → k < nodes_in words.old block
+        → cell_in (slice_index words.old (node_at block k)) < MOST_CELLS }
+    requires small { (k : ℕ) → k < nodes_in words.old block
+        → slice_index words.old (node_at block k + SEEN_WORD) + amount < 2 ^ 64 }
+    ensures { Sighted block (nodes_in words.old block) stones amount words.old words.new }
 {
     let count = words[block + COUNT_WORD] as usize;
     'nodes: for place in 0..count {
@@ -84,12 +54,15 @@ fn see(words: &mut [u64], block: usize, stones: CellSet, amount: u64)
     }
 }
 
-// Adds the ending to the counts: each node of the walk's way has one visit more, and one win more where its mover won; and each
-// node of the blocks that it went through is seen where its cell holds a stone of its mover.
+// Adds the ending to the counts: each node of the walk's way has one visit more, and one win more
+// where its mover won; and each node of the blocks that it went through is seen where its cell
+// holds a stone of its mover.
 fn count(words: &mut [u64], shape: &Shape, walk: &Descent, ending: &Ending)
-    requires walked { (bs : List LinkedBlock) × (k : ℕ) × (k < shape.now.knobs.playouts) × Holds shape.now bs words.old k × Descended shape.now bs words.old walk.now }
-    ensures { (bs : List LinkedBlock) (k : ℕ) → k < shape.now.knobs.playouts → Holds shape.now bs words.old k → Descended shape.now bs words.old walk.now
-        → Counted shape.now bs (outcome_in ending.now) words.old words.new }
+    requires walked { (bs : List LinkedBlock) × (k : ℕ) × (k < shape.now.knobs.playouts)
+        × Holds shape.now bs words.old k × Descended shape.now bs words.old walk.now }
+    ensures { (bs : List LinkedBlock) (k : ℕ) → k < shape.now.knobs.playouts
+        → Holds shape.now bs words.old k → Descended shape.now bs words.old walk.now
+        → Counted shape.now bs ending.now words.old words.new }
 {
     // What each shape keeps of itself.
     let _board = shape.board();
@@ -120,11 +93,15 @@ fn mark(winner: Colour) -> u64
 /// Adds the ending of playout `k` to the counts of the walk's nodes, and writes its record.
 pub(crate) fn add(words: &mut [u64], shape: &Shape, walk: &Descent, k: u32, ending: &Ending)
     requires number { k < shape.now.knobs.playouts }
-    requires walked { (bs : List LinkedBlock) × Holds shape.now bs words.old k × Descended shape.now bs words.old walk.now }
-    ensures holds { (bs : List LinkedBlock) → Holds shape.now bs words.old k → Descended shape.now bs words.old walk.now → Holds shape.now bs words.new (k + 1) }
-    ensures added { (bs : List LinkedBlock) → Holds shape.now bs words.old k → Descended shape.now bs words.old walk.now
-        → Added (game_of shape.now) (root_state shape.now) (root_at shape.now) (outcome_in ending.now) (config_of bs words.old) (config_of bs words.new) }
-    ensures record { Records shape.now k (RECORD_UNIT * walk.now.node + one_if (is_same ending.now.winner White)) words.old words.new }
+    requires walked { (bs : List LinkedBlock) × Holds shape.now bs words.old k
+        × Descended shape.now bs words.old walk.now }
+    ensures holds { (bs : List LinkedBlock) → Holds shape.now bs words.old k
+        → Descended shape.now bs words.old walk.now → Holds shape.now bs words.new (k + 1) }
+    ensures added { (bs : List LinkedBlock) → Holds shape.now bs words.old k
+        → Descended shape.now bs words.old walk.now
+        → AddsWalk shape.now bs ending.now words.old words.new }
+    ensures record { let white = one_if (is_same ending.now.winner White) in
+        Records shape.now k (RECORD_UNIT * walk.now.node + white) words.old words.new }
 {
     count(words, shape, walk, ending);
     words[RECORDS_AT + k as usize] = RECORD_UNIT * walk.node as u64 + mark(ending.winner);

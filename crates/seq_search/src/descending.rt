@@ -15,11 +15,12 @@ use hex_cells::{Cell, Colour};
 use tree_words::layout::{HEADER_WORDS, LINK_WORD, MOST_NODES, NODE_WORDS, RECORDS_AT, TALLY_WORD};
 use tree_words::{Shape, cell_of, visits_of};
 
-/// Each step places a stone on an empty cell, of which there are no more than nodes of the largest block.
+/// Each step places a stone on an empty cell, of which there are no more than nodes of the largest
+/// block.
 pub(crate) const MOST_STEPS: usize = MOST_NODES;
 
-/// How far a walk has come: the node that it stands at, the board there with the player to move, and the nodes that it went
-/// through below the root.
+/// How far a walk has come: the node that it stands at, the board there with the player to move,
+/// and the nodes that it went through below the root.
 #[derive(Drop)]
 pub(crate) struct Descent {
     /// The board.
@@ -58,7 +59,8 @@ impl Descent {
         requires within { child < length words.now }
         requires empty { is_empty_at self.old.board (cell_in (slice_index words.now child)) ≡ true }
         requires room { self.old.count < MOST_STEPS }
-        ensures board { self.new.board ≡ placed self.old.board self.old.player (cell_in (slice_index words.now child)) }
+        ensures board { self.new.board
+            ≡ placed self.old.board self.old.player (cell_in (slice_index words.now child)) }
         ensures player { self.new.player ≡ other_of self.old.player }
         ensures node { self.new.node ≡ child }
         ensures steps { self.new.steps ≡ set self.old.steps self.old.count child }
@@ -73,10 +75,13 @@ impl Descent {
     }
 }
 
-/// The walk from the root to its leaf: at each node with a block it goes to the child that Choice takes.
+/// The walk from the root to its leaf: at each node with a block it goes to the child that Choice
+/// takes.
 pub(crate) fn descend(words: &[u64], shape: &Shape) -> Descent
-    requires { (bs : List LinkedBlock) × (k : ℕ) × (k ≤ shape.now.knobs.playouts) × Holds shape.now bs words.now k }
-    ensures leaf { (bs : List LinkedBlock) (k : ℕ) → k ≤ shape.now.knobs.playouts → Holds shape.now bs words.now k → Descended shape.now bs words.now result }
+    requires { (bs : List LinkedBlock) × (k : ℕ) × (k ≤ shape.now.knobs.playouts)
+        × Holds shape.now bs words.now k }
+    ensures leaf { (bs : List LinkedBlock) (k : ℕ) → k ≤ shape.now.knobs.playouts
+        → Holds shape.now bs words.now k → Descended shape.now bs words.now result }
 {
     let weight = shape.knobs().weight;
     let mut walk = Descent::begin(shape);

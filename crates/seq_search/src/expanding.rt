@@ -1,7 +1,7 @@
 //! A leaf's block, where it asks for one.
 
 ghost use Rattle.std.specs.Prelude.{◌≡◌, ◌+◌, ◌<◌, ◌≤◌, length};
-ghost use Rattle.tree_words.specs.Blocks.{words_of};
+ghost use Rattle.tree_words.specs.Blocks.{block_size};
 ghost use Rattle.tree_words.specs.declared.layout.TheConstants.{MOST_BLOCK_WORDS};
 ghost use Rattle.tree_words.specs.Paths.{NodeState};
 ghost use Rattle.tree_words.specs.Sequence.{asks, gets_block};
@@ -25,12 +25,13 @@ fn empty_count(board: &Board) -> usize
     board.empties().count() as usize
 }
 
-// Whether the leaf, whose board this is, asks for a block: it has as many visits as the expand number says, there is an empty
-// cell, and NEXT is at most the area's end.
+// Whether the leaf, whose board this is, asks for a block: it has as many visits as the expand
+// number says, there is an empty cell, and NEXT is at most the area's end.
 fn asks_for_block(words: &[u64], shape: &Shape, leaf: usize, board: &Board) -> bool
     requires long { length words.now ≡ end_of shape.now }
     requires leaf { leaf + NODE_WORDS ≤ length words.now }
-    ensures { (p : NodeState) → p.board ≡ board.now → result ≡ asks shape.now (next_in words.now) (tally_in words.now leaf) p }
+    ensures { (p : NodeState) → p.board ≡ board.now
+        → result ≡ asks shape.now (next_in words.now) (tally_in words.now leaf) p }
 {
     if visits_of(words[leaf + TALLY_WORD]) < shape.knobs().expand {
         return false;
@@ -41,9 +42,10 @@ fn asks_for_block(words: &[u64], shape: &Shape, leaf: usize, board: &Board) -> b
     words[NEXT_AT] as usize <= words.len()
 }
 
-// Writes the block below the leaf, whose board this is, from the word `start` on, and names it by the leaf's link.
+// Writes the block below the leaf, whose board this is, from the word `start` on, and names it by
+// the leaf's link.
 fn link_block(words: &mut [u64], start: usize, leaf: usize, board: &Board)
-    requires within { start + words_of (length (empties_of board.now)) ≤ length words.old }
+    requires within { start + block_size (length (empties_of board.now)) ≤ length words.old }
     requires leaf { leaf + NODE_WORDS ≤ length words.old }
     ensures { (p : NodeState) → p.board ≡ board.now → LinksBelow start leaf p words.old words.new }
 {
@@ -52,14 +54,17 @@ fn link_block(words: &mut [u64], start: usize, leaf: usize, board: &Board)
     words[leaf + LINK_WORD] = start as u64;
 }
 
-/// Gives the leaf, whose board this is, its block where it asks for one and the block fits inside the area, and answers
-/// whether it did. NEXT grows also where it doesn't fit.
+/// Gives the leaf, whose board this is, its block where it asks for one and the block fits inside
+/// the area, and answers whether it did. NEXT grows also where it doesn't fit.
 pub(crate) fn expand(words: &mut [u64], shape: &Shape, leaf: usize, board: &Board) -> bool
     requires long { length words.old ≡ end_of shape.now }
     requires leaf { leaf + NODE_WORDS ≤ length words.old }
-    requires next { (1 ≤ next_in words.old) × (next_in words.old ≤ end_of shape.now + MOST_BLOCK_WORDS) }
-    ensures told { (p : NodeState) → p.board ≡ board.now → result ≡ gets_block shape.now (next_in words.old) (tally_in words.old leaf) p }
-    ensures words { (p : NodeState) → p.board ≡ board.now → Grows shape.now leaf p words.old words.new }
+    requires next { (1 ≤ next_in words.old)
+        × (next_in words.old ≤ end_of shape.now + MOST_BLOCK_WORDS) }
+    ensures told { (p : NodeState) → p.board ≡ board.now
+        → result ≡ gets_block shape.now (next_in words.old) (tally_in words.old leaf) p }
+    ensures words { (p : NodeState) → p.board ≡ board.now
+        → Grows shape.now leaf p words.old words.new }
 {
     if !asks_for_block(words, shape, leaf, board) {
         return false;

@@ -1,22 +1,24 @@
 //! The search of one worker, over a plain vector of words: the definition's plain program.
 //!
-//! **Nouns.** A *walk* goes from the root down to a *leaf*, a node without a block: at each node with a block to the child that
-//! Choice takes. Where the leaf has as many visits as the expand number says, an empty cell on its board and room in the area,
-//! it gets its block first, and the walk goes on to a child. Then comes the *playout* from the leaf's board, and its *adds*: to
-//! the tally of each node on the way, to the seen word of each node of their blocks whose cell holds a stone of its mover, and
-//! the playout's record.
+//! **Nouns.** A *walk* goes from the root down to a *leaf*, a node without a block: at each node
+//! with a block to the child that Choice takes. Where the leaf has as many visits as the expand
+//! number says, an empty cell on its board and room in the area, it gets its block first, and the
+//! walk goes on to a child. Then comes the *playout* from the leaf's board, and its *adds*: to the
+//! tally of each node on the way, to the seen word of each node of their blocks whose cell holds a
+//! stone of its mover, and the playout's record.
 //!
 //! **A caller** makes a `Shape` and calls [`plain_search`]: `plain_search(rt.alloc(), &shape)?`.
 //!
-//! **What is proved.** The answer has this shape, it is a closed tree, as its type keeps, and the tree that its words show is
-//! that of the sequential search: the fold of one walk over all playout numbers, which has no words, links or blocks. The only
-//! refusal is `Memory`.
+//! **What is proved.** The answer has this shape, it is a closed tree, as its type keeps, and the
+//! tree that its words show is that of the sequential search: the fold of one walk over all playout
+//! numbers, which has no words, links or blocks. The only refusal is `Memory`.
 //!
 //! **What is only tested, or not said.** Speed. That the vector gets its memory.
 //!
-//! **How it is proved.** The words are read as a list of linked blocks, and one walk on these blocks is one walk on the tree.
-//! `specs/` says what stands between the steps of a walk: `Holds` that the words hold the tree of their blocks, `IsSearched` that
-//! their counts and records are those of the walks made so far, `Searched` both with the tree.
+//! **How it is proved.** The words are read as a list of linked blocks, and one walk on these
+//! blocks is one walk on the tree. `specs/` says what stands between the steps of a walk: `Holds`
+//! that the words hold the tree of their blocks, `IsSearched` that their counts and records are
+//! those of the walks made so far, `Searched` both with the tree.
 //!
 //! **Limits.** Those of a `Shape`. One allocation of all words; a walk takes no memory.
 #![tactic(auto)]

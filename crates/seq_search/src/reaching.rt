@@ -10,10 +10,13 @@ use super::descending::{Descent, descend};
 use super::expanding::expand;
 use tree_words::Shape;
 
-/// The walk down to its leaf. Where that asks for a block it gets it first, and the walk goes on to a child.
+/// The walk down to its leaf. Where that asks for a block it gets it first, and the walk goes on to
+/// a child.
 pub(crate) fn reach(words: &mut [u64], shape: &Shape) -> Descent
-    requires { (bs : List LinkedBlock) × (k : ℕ) × (k ≤ shape.now.knobs.playouts) × Holds shape.now bs words.old k × (0 < link_of bs (root_at shape.now)) }
-    ensures { (bs : List LinkedBlock) (k : ℕ) → k ≤ shape.now.knobs.playouts → Holds shape.now bs words.old k → 0 < link_of bs (root_at shape.now)
+    requires { (bs : List LinkedBlock) × (k : ℕ) × (k ≤ shape.now.knobs.playouts)
+        × Holds shape.now bs words.old k × (0 < link_of bs (root_at shape.now)) }
+    ensures { (bs : List LinkedBlock) (k : ℕ) → k ≤ shape.now.knobs.playouts
+        → Holds shape.now bs words.old k → 0 < link_of bs (root_at shape.now)
         → Reached shape.now bs k words.old words.new result }
 {
     // What each shape keeps of itself.

@@ -6,9 +6,10 @@ ghost use Rattle.tree_words.specs.Sequence.{seq_of};
 ghost use Rattle.tree_words.specs.Trees.{IsTreeOf};
 ghost use Rattle.seq_search.specs.Searching.{Searched};
 
-use super::adding::{add, play};
+use super::adding::add;
 use super::opening::opening_words;
 use super::reaching::reach;
+use play_out::play;
 use std::alloc::Global;
 use tree_words::layout::TICKET_AT;
 use tree_words::{Closed, Memory, Shape};
@@ -41,8 +42,8 @@ fn make_walks(words: &mut [u64], shape: &Shape)
     }
 }
 
-/// The closed tree that one worker makes: that of the sequential search of the shape. The number of workers among the knobs
-/// changes nothing.
+/// The closed tree that one worker makes: that of the sequential search of the shape. The number of
+/// workers among the knobs changes nothing.
 pub fn plain_search(alloc: Global, shape: &Shape) -> Result<Closed, Memory>
     ensures shape { IfOk result (λ closed. closed.shape ≡ shape.now) }
     ensures tree { IfOk result (λ closed. IsTreeOf shape.now closed.words (seq_of shape.now).0) }

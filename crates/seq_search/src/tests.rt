@@ -10,14 +10,16 @@ use hex_cells::{Cell, CellSet, Colour, Size};
 use std::test::Fail;
 use tree_words::{Closed, Knobs, Shape, best, report};
 
-// What a search is for: the size, Black's and White's stones and the allowed cells, all empty ones where there is none, as the
-// bits of a number, the player to move, and playouts, seed, words, expand number and weight.
+// What a search is for: the size, Black's and White's stones and the allowed cells, all empty ones
+// where there is none, as the bits of a number, the player to move, and playouts, seed, words,
+// expand number and weight.
 type Search = (u32, u32, u32, u32, Colour, [u64; 5]);
 
 // A child's visits and wins, its seen visits and seen wins, and whether a block is below it.
 type Child = (u64, u64, u64, u64, bool);
 
-// Its tree: the root's visits and wins, NEXT, the number of blocks, the cell of the best child, and the root's children.
+// Its tree: the root's visits and wins, NEXT, the number of blocks, the cell of the best child, and
+// the root's children.
 type Tree<'a> = (u64, u64, u64, u32, u32, &'a [Child]);
 
 const B: Colour = Colour::Black;
@@ -102,7 +104,8 @@ fn counts(visits: u64, wins: u64) -> u64 {
     visits.wrapping_mul(1 << 32).wrapping_add(wins)
 }
 
-// Whether the nodes one after another, the first of which begins at this word, have these counts, and blocks where they say so.
+// Whether the nodes one after another, the first of which begins at this word, have these counts,
+// and blocks where they say so.
 fn has_children(closed: &Closed, first: u64, children: &[Child]) -> bool {
     let mut at = first;
     for &(visits, wins, seen, seen_wins, is_parent) in children {
@@ -372,7 +375,8 @@ fn trees(rt: HostRuntime) -> Result<(), Fail> {
     Ok(())
 }
 
-// The sum of the seen visits and of the seen wins of so many nodes, the first of which has its seen word there.
+// The sum of the seen visits and of the seen wins of so many nodes, the first of which has its seen
+// word there.
 fn seen_of(closed: &Closed, first: u64, nodes: u32) -> (u64, u64) {
     let mut sums = (0u64, 0u64);
     let mut at = first;
@@ -387,8 +391,8 @@ fn seen_of(closed: &Closed, first: u64, nodes: u32) -> (u64, u64) {
     sums
 }
 
-// On size 11: playouts, the root's wins, NEXT, the number of blocks, the cell of the best child, the sums of the children's
-// seen visits and seen wins, and some children by their cells.
+// On size 11: playouts, the root's wins, NEXT, the number of blocks, the cell of the best child,
+// the sums of the children's seen visits and seen wins, and some children by their cells.
 type Large = (u64, u64, u64, u32, u32, (u64, u64), [(u64, Child); 4]);
 
 #[test]

@@ -1,7 +1,7 @@
 -- The walk on the linked blocks, oldest first: where it goes, and what it adds to each node.
 use Rattle.std.specs.Prelude.{◌≡◌, ◌⊎◌, ℕ, ◌+◌, ◌-◌, ◌*◌, ◌/◌, ◌<◌, ◌≤◌, ◌==◌, if◌then◌else◌, Bool, true, false, List, [], ◌∷◌, ◌++◌, length}
 use Rattle.tree_words.specs.Words.{Count, next_in, tally_in, seen_in}
-use Rattle.tree_words.specs.Blocks.{LinkedBlock, size, child, has, place, cell_at}
+use Rattle.tree_words.specs.Blocks.{LinkedBlock, size, child, has_node, place, cell_at}
 use Rattle.tree_words.specs.Walks.{nothing, plus, Game, Tree}
 use Rattle.tree_words.specs.Trees.{down, tree_at, oldest_first}
 use Rattle.tree_words.specs.declared.layout.TheConstants.{NODE_WORDS, HEADER_WORDS}
@@ -45,7 +45,9 @@ module _ {S O : Type 0} (g : Game S O) (p q : ℕ → Count) where
     adds_leaf x s w = if x == w then g.gain o s else nothing
 
     abbrev pub adds_inner : LinkedBlock → ℕ → (ℕ → S → ℕ → Count) → S → ℕ → Count
-    adds_inner b x f s w = if x == w then g.gain o s else f (child b (pick g p q b x)) (g.next s (cell_at b (pick g p q b x))) w
+    adds_inner b x f s w =
+        if x == w then g.gain o s
+        else f (child b (pick g p q b x)) (g.next s (cell_at b (pick g p q b x))) w
 
     -- what the walk from x down adds to the visits and wins of w
     abbrev pub adds : List LinkedBlock → ℕ → S → ℕ → Count
@@ -56,7 +58,8 @@ module _ {S O : Type 0} (g : Game S O) (p q : ℕ → Count) where
 
     abbrev pub sees_inner : LinkedBlock → ℕ → (ℕ → S → ℕ → Count) → S → ℕ → Count
     sees_inner b x f s w =
-        if has b w then g.glimpse o s (cell_at b (place b w)) else f (child b (pick g p q b x)) (g.next s (cell_at b (pick g p q b x))) w
+        if has_node b w then g.glimpse o s (cell_at b (place b w))
+        else f (child b (pick g p q b x)) (g.next s (cell_at b (pick g p q b x))) w
 
     -- what it adds to the seen counts of w
     abbrev pub sees : List LinkedBlock → ℕ → S → ℕ → Count
@@ -65,16 +68,16 @@ module _ {S O : Type 0} (g : Game S O) (p q : ℕ → Count) where
 -- the node from which w comes, and that lies in none of the blocks
 abbrev pub top : List LinkedBlock → ℕ → ℕ
 top [] w = w
-top (b ∷ bs) w = if has b (top bs w) then b.parent else top bs w
+top (b ∷ bs) w = if has_node b (top bs w) then b.parent else top bs w
 
 -- x is a node of none of the blocks
 abbrev pub Out : List LinkedBlock → ℕ → Type 0
 Out [] x = Unit {0}
-Out (b ∷ bs) x = (has b x ≡ false) × Out bs x
+Out (b ∷ bs) x = (has_node b x ≡ false) × Out bs x
 
--- b has nodes, which are none of the newer blocks
+-- b has_node nodes, which are none of the newer blocks
 pub record Sprout (b : LinkedBlock) (bs : List LinkedBlock) : Type 0 where
-  pub apart : (x : ℕ) → has b x ≡ true → Out bs x
+  pub apart : (x : ℕ) → has_node b x ≡ true → Out bs x
   pub some : 0 < length b.cells
 
 abbrev pub Sprouts : List LinkedBlock → Type 0
@@ -98,24 +101,26 @@ abbrev pub tree_in : ℕ → Config → Tree
 tree_in r c = tree_at c.tally c.seen c.blocks r 0 nothing
 
 -- the leaf's counts and what it stands for
-abbrev pub ends : {S O : Type 0} → Game S O → S → ℕ → Config → Count × S
-ends g s r c = state_at g c.tally c.seen c.blocks r s
+abbrev pub walk_end : {S O : Type 0} → Game S O → S → ℕ → Config → Count × S
+walk_end g s r c = state_at g c.tally c.seen c.blocks r s
 
--- c has the new block n, below its leaf
-pub record NewBlock {S O : Type 0} (g : Game S O) (s : S) (r : ℕ) (c d : Config) (n : LinkedBlock) : Type 0 where
-  pub wide : g.wide c.next (ends g s r c).0 (ends g s r c).1 ≡ true
+-- c has_node the new block n, below its leaf
+pub record NewBlock {S O : Type 0} (g : Game S O) (s : S) (r : ℕ) (c d : Config)
+    (n : LinkedBlock) : Type 0 where
+  pub wide : g.wide c.next (walk_end g s r c).0 (walk_end g s r c).1 ≡ true
   pub blocks : d.blocks ≡ c.blocks ++ n ∷ []
   pub parent : n.parent ≡ leaf_at g c.tally c.seen c.blocks r
-  pub cells : n.cells ≡ g.cells (ends g s r c).1
+  pub cells : n.cells ≡ g.cells (walk_end g s r c).1
   pub start : n.start ≡ c.next
   pub room : n.start + size n ≤ d.next
   pub some : 0 < length n.cells
-  pub blank : (y : ℕ) → has n y ≡ true → (c.tally y ≡ nothing) × (c.seen y ≡ nothing)
+  pub blank : (y : ℕ) → has_node n y ≡ true → (c.tally y ≡ nothing) × (c.seen y ≡ nothing)
 
 -- the leaf of c gets its block in d, where it is to have one, and no count changes
 pub record Widened {S O : Type 0} (g : Game S O) (s : S) (r : ℕ) (c d : Config) : Type 0 where
-  pub next : d.next ≡ g.grown c.next (ends g s r c).0 (ends g s r c).1
-  pub block : ((n : LinkedBlock) × NewBlock g s r c d n) ⊎ ((g.wide c.next (ends g s r c).0 (ends g s r c).1 ≡ false) × (d.blocks ≡ c.blocks))
+  pub next : d.next ≡ g.grown c.next (walk_end g s r c).0 (walk_end g s r c).1
+  pub block : ((n : LinkedBlock) × NewBlock g s r c d n)
+      ⊎ ((g.wide c.next (walk_end g s r c).0 (walk_end g s r c).1 ≡ false) × (d.blocks ≡ c.blocks))
   pub tally : (w : ℕ) → top d.blocks w ≡ r → d.tally w ≡ c.tally w
   pub seen : (w : ℕ) → top d.blocks w ≡ r → (w ≡ r → ⊥) → d.seen w ≡ c.seen w
 
@@ -123,8 +128,10 @@ pub record Widened {S O : Type 0} (g : Game S O) (s : S) (r : ℕ) (c d : Config
 pub record Added {S O : Type 0} (g : Game S O) (s : S) (r : ℕ) (o : O) (c d : Config) : Type 0 where
   pub next : d.next ≡ c.next
   pub blocks : d.blocks ≡ c.blocks
-  pub tally : (w : ℕ) → top c.blocks w ≡ r → d.tally w ≡ plus (c.tally w) (adds g c.tally c.seen o c.blocks r s w)
-  pub seen : (w : ℕ) → top c.blocks w ≡ r → (w ≡ r → ⊥) → d.seen w ≡ plus (c.seen w) (sees g c.tally c.seen o c.blocks r s w)
+  pub tally : (w : ℕ) → top c.blocks w ≡ r
+      → d.tally w ≡ plus (c.tally w) (adds g c.tally c.seen o c.blocks r s w)
+  pub seen : (w : ℕ) → top c.blocks w ≡ r → (w ≡ r → ⊥)
+      → d.seen w ≡ plus (c.seen w) (sees g c.tally c.seen o c.blocks r s w)
 
 -- what keeps the tree of the blocks whole
 pub record Fine (r : ℕ) (c : Config) : Type 0 where
@@ -136,14 +143,14 @@ pub record Fine (r : ℕ) (c : Config) : Type 0 where
 -- each block's parent is older than the block
 abbrev pub Rooted : List LinkedBlock → Type 0
 Rooted [] = Unit {0}
-Rooted (b ∷ bs) = (has b b.parent ≡ false) × Out bs b.parent × Rooted bs
+Rooted (b ∷ bs) = (has_node b b.parent ≡ false) × Out bs b.parent × Rooted bs
 
 -- b is the block whose parent is x
 abbrev pub Names : List LinkedBlock → ℕ → LinkedBlock → Type 0
 Names [] x b = ⊥
 Names (c ∷ bs) x b = ((c ≡ b) × (b.parent ≡ x)) ⊎ (((c.parent == x) ≡ false) × Names bs x b)
 
--- no block has x as its parent
+-- no block has_node x as its parent
 abbrev pub Bare : List LinkedBlock → ℕ → Type 0
 Bare [] x = Unit {0}
 Bare (b ∷ bs) x = ((b.parent == x) ≡ false) × Bare bs x
@@ -151,8 +158,13 @@ Bare (b ∷ bs) x = ((b.parent == x) ≡ false) × Bare bs x
 -- x is a node of one of the blocks
 abbrev pub Inside : List LinkedBlock → ℕ → Type 0
 Inside [] x = ⊥
-Inside (b ∷ bs) x = (has b x ≡ true) ⊎ Inside bs x
+Inside (b ∷ bs) x = (has_node b x ≡ true) ⊎ Inside bs x
 
 -- the linked blocks, `next` and the counts that the words have, as a walk on blocks reads them
 abbrev pub config_of : List LinkedBlock → List ℕ → Config
-config_of bs words = record { blocks = oldest_first bs; tally = tally_in words; seen = seen_in words; next = next_in words }
+config_of bs words = record {
+  blocks = oldest_first bs;
+  tally = tally_in words;
+  seen = seen_in words;
+  next = next_in words;
+}

@@ -1,11 +1,11 @@
--- How a tree has grown.
+-- How a tree has_node grown.
 use Rattle.std.specs.Prelude.{◌≡◌, ℕ, ◌+◌, ◌*◌, ◌≤◌, ◌==◌, not, Bool, true, List, length, sum_by}
 use Rattle.std.specs.List.{filter}
 use Rattle.hex_board.specs.Positions.{is_empty_at}
 use Rattle.tree_words.specs.Settings.{Setting}
 use Rattle.tree_words.specs.Words.{Count, root_at, area_at, end_of, next_in, tally_in}
-use Rattle.tree_words.specs.Blocks.{LinkedBlock, words_of, size, has, is_node, In}
-use Rattle.tree_words.specs.Paths.{board_of}
+use Rattle.tree_words.specs.Blocks.{LinkedBlock, block_size, size, has_node, is_node, In}
+use Rattle.tree_words.specs.Paths.{node_board}
 use Rattle.tree_words.specs.Complete.{allowed_cells}
 use Rattle.tree_words.specs.Records.{leaf_of}
 use Rattle.tree_words.specs.Counts.{count_below}
@@ -13,7 +13,7 @@ use Rattle.tree_words.specs.declared.layout.TheConstants.{MOST_BLOCK_WORDS}
 
 -- the end of the root's block
 abbrev pub root_end : Setting → ℕ
-root_end s = area_at s + words_of (length (allowed_cells s))
+root_end s = area_at s + block_size (length (allowed_cells s))
 
 -- the sizes of the linked blocks but the root's
 abbrev pub other_words : Setting → List LinkedBlock → ℕ
@@ -23,12 +23,16 @@ other_words s bs = sum_by size (filter (λ b. not (b.parent == root_at s)) bs)
 abbrev pub ends_at : List ℕ → ℕ → ℕ → ℕ
 ends_at words n x = count_below n (λ k. leaf_of words k == x)
 
--- Grown: in a block that has a child without visits no child has more than K; where NEXT is at most the area's end, a node with an
--- empty cell on its board is the leaf of at most K·T records; and NEXT is at most the root's block's end, K times the other
--- blocks' words, and one largest block for each worker
+-- Grown: in a block that has_node a child without visits no child has_node more than K; where NEXT
+-- is at most the area's end, a node with an empty cell on its board is the leaf of at most K·T
+-- records; and NEXT is at most the root's block's end, K times the other blocks' words, and one
+-- largest block for each worker
 pub record Grown (s : Setting) (bs : List LinkedBlock) (words : List ℕ) : Type 0 where
-  pub first : (b : LinkedBlock) (x y : ℕ) → In b bs → has b x ≡ true → has b y ≡ true → (tally_in words y).visits ≡ 0
+  pub first : (b : LinkedBlock) (x y : ℕ) → In b bs → has_node b x ≡ true → has_node b y ≡ true
+      → (tally_in words y).visits ≡ 0
       → (tally_in words x).visits ≤ s.knobs.workers
-  pub leaves : next_in words ≤ end_of s → (x c : ℕ) → is_node (root_at s) bs x ≡ true → is_empty_at (board_of s bs x) c ≡ true
+  pub leaves : next_in words ≤ end_of s → (x c : ℕ) → is_node (root_at s) bs x ≡ true
+      → is_empty_at (node_board s bs x) c ≡ true
       → ends_at words s.knobs.playouts x ≤ s.knobs.workers * s.knobs.expand
-  pub room : next_in words ≤ root_end s + s.knobs.workers * other_words s bs + MOST_BLOCK_WORDS * s.knobs.workers
+  pub room : next_in words ≤ root_end s + s.knobs.workers * other_words s bs
+      + MOST_BLOCK_WORDS * s.knobs.workers

@@ -2,7 +2,7 @@
 use Rattle.std.specs.Prelude.{◌≡◌, ℕ, ◌+◌, ◌-◌, ◌<◌, ◌==◌, ◌&&◌, ◌||◌, if◌then◌else◌, Bool, List, [], ◌∷◌, length, map, slice_index}
 use Rattle.tree_words.specs.Settings.{Setting}
 use Rattle.tree_words.specs.Words.{root_at, area_at, end_of}
-use Rattle.tree_words.specs.Blocks.{LinkedBlock, size, covers, stays, header_or_move}
+use Rattle.tree_words.specs.Blocks.{LinkedBlock, size, covers, is_header_or_move, header_or_move}
 use Rattle.tree_words.specs.Complete.{HasEmpties, HaveNodes, Linked, allowed_cells, set_of}
 use Rattle.tree_words.specs.declared.layout.TheConstants.{NEXT_AT, LINK_WORD}
 use Rattle.std.specs.List.{range_with_len}
@@ -10,15 +10,17 @@ use Rattle.play_out.specs.Fills.{empties_of}
 
 -- the root's block, where the empty cells of the board are this set
 abbrev pub root_block : Setting → ℕ → LinkedBlock
-root_block s empties = record { start = area_at s; parent = root_at s; empties = empties; cells = allowed_cells s }
+root_block s empties =
+    record { start = area_at s; parent = root_at s; empties = empties; cells = allowed_cells s }
 
--- word i: NEXT is the word after the root's block, the root's link names it, its header and moves stand there, and each other word
--- is 0
+-- word i: NEXT is the word after the root's block, the root's link names it, its header and moves
+-- stand there, and each other word is 0
 abbrev pub opening_word : Setting → ℕ → ℕ → ℕ
 opening_word s empties i = let b = root_block s empties in
     if i == NEXT_AT then b.start + size b
     else (if i == root_at s + LINK_WORD then b.start
-    else (if covers i b && stays (i - b.start) then header_or_move b (i - b.start) else 0))
+    else (if covers i b && is_header_or_move (i - b.start) then header_or_move b (i - b.start)
+    else 0))
 
 -- the opening words of a setting
 pub record AreOpening (s : Setting) (words : List ℕ) : Type 0 where

@@ -6,7 +6,7 @@ use Rattle.hex_cells.specs.declared.colours.Colour.{Colour}
 use Rattle.hex_board.specs.Positions.{Position, placed}
 use Rattle.tree_words.specs.Settings.{Setting}
 use Rattle.tree_words.specs.Words.{root_at}
-use Rattle.tree_words.specs.Blocks.{LinkedBlock, has, place, cell_at, up}
+use Rattle.tree_words.specs.Blocks.{LinkedBlock, has_node, place, cell_at, up}
 
 -- a board, and the player to move there
 pub record NodeState : Type 0 where
@@ -35,16 +35,16 @@ is_on s bs x y = list_any (λ z. z == x) (path_of s bs y)
 
 -- a node of the block b stands on the path of the node y
 abbrev pub enters : Setting → List LinkedBlock → LinkedBlock → ℕ → Bool
-enters s bs b y = list_any (λ z. has b z) (path_of s bs y)
+enters s bs b y = list_any (λ z. has_node b z) (path_of s bs y)
 
--- the board of x and the player to move there: from the root down each node of the path below the root places its cell, the
--- setting's player first
+-- the board of x and the player to move there: from the root down each node of the path below the
+-- root places its cell, the setting's player first
 abbrev pub node_state : Setting → List LinkedBlock → ℕ → NodeState
 node_state s bs x = up (root_state s) (λ b y above. state_after above (cell_at b (place b y))) bs x
 
 -- Board(x)
-abbrev pub board_of : Setting → List LinkedBlock → ℕ → Position
-board_of s bs x = (node_state s bs x).board
+abbrev pub node_board : Setting → List LinkedBlock → ℕ → Position
+node_board s bs x = (node_state s bs x).board
 
 -- Mover(x): the player who placed the cell of x; for the root the player not to move
 abbrev pub mover_of : Setting → List LinkedBlock → ℕ → Colour

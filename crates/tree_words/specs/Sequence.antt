@@ -3,24 +3,20 @@ use Rattle.std.specs.Prelude.{ℕ, zero, suc, ◌+◌, ◌*◌, ◌^◌, ◌==�
 use Rattle.hex_cells.specs.Sets.{has}
 use Rattle.hex_cells.specs.declared.colours.Colour.{Colour}
 use Rattle.hex_board.specs.Positions.{Position, stones_of}
-use Rattle.hex_board.specs.Wins.{is_same}
+use Rattle.hex_cells.specs.Colours.{is_same}
 use Rattle.uct_table.specs.Choice.{Child, choice_of}
 use Rattle.play_out.specs.Fills.{empties_of, filled, playout_of}
 use Rattle.tree_words.specs.Settings.{Setting}
 use Rattle.tree_words.specs.Words.{Count, area_at, end_of, tally_in, seen_in}
-use Rattle.tree_words.specs.Blocks.{words_of, one_if}
+use Rattle.tree_words.specs.Blocks.{block_size, one_if}
 use Rattle.tree_words.specs.Paths.{NodeState, root_state, state_after, mover_at}
 use Rattle.tree_words.specs.Complete.{allowed_cells}
 use Rattle.tree_words.specs.Walks.{nothing, Tree, node, Game, fresh, walks}
 use Rattle.tree_words.specs.declared.layout.TheConstants.{NODE_WORDS, VISIT}
-
--- what a playout gives: who won, and the filled board
-pub record Outcome : Type 0 where
-  pub winner : Colour
-  pub full : Position
+use Rattle.play_out.specs.declared.playouts.Ending.{Ending}
 
 -- playout k from a spot
-unfoldable pub outcome_of : Setting → ℕ → NodeState → Outcome
+unfoldable pub outcome_of : Setting → ℕ → NodeState → Ending
 outcome_of s k p = record {
   winner = playout_of p.board p.player s.knobs.seed k;
   full = filled p.board p.player s.knobs.seed k;
@@ -28,12 +24,18 @@ outcome_of s k p = record {
 
 -- the counts of a child, as Choice reads them
 abbrev pub child_of : Count × Count → Child
-child_of c = record { visits = c.0.visits; wins = c.0.wins; seen = c.1.visits; seen_wins = c.1.wins }
+child_of c = record {
+  visits = c.0.visits;
+  wins = c.0.wins;
+  seen = c.1.visits;
+  seen_wins = c.1.wins;
+}
 
 -- the counts of the n nodes that stand from word y on
 abbrev pub children_in : List ℕ → ℕ → ℕ → List Child
 children_in words y zero = []
-children_in words y (suc n) = child_of (tally_in words y, seen_in words y) ∷ children_in words (y + NODE_WORDS) n
+children_in words y (suc n) =
+    child_of (tally_in words y, seen_in words y) ∷ children_in words (y + NODE_WORDS) n
 
 -- one visit, and one win where `wins`
 abbrev pub one : Bool → Count
@@ -44,21 +46,25 @@ abbrev pub amount_of : Bool → ℕ
 amount_of wins = VISIT + one_if wins
 
 -- a node of the path has one visit more, and one win more where its mover won
-unfoldable pub gain_of : Outcome → NodeState → Count
+unfoldable pub gain_of : Ending → NodeState → Count
 gain_of o p = one (is_same o.winner (mover_at p))
 
--- a node of its block, whose parent has this spot, has one seen visit more where its cell holds a stone of its mover on the filled
--- board, and one seen win more where that mover won
-unfoldable pub glimpse_of : Outcome → NodeState → ℕ → Count
-glimpse_of o p cell = if has (stones_of o.full p.player) cell then one (is_same o.winner p.player) else nothing
+-- a node of its block, whose parent has this spot, has one seen visit more where its cell holds a
+-- stone of its mover on the filled board, and one seen win more where that mover won
+unfoldable pub glimpse_of : Ending → NodeState → ℕ → Count
+glimpse_of o p cell =
+    if has (stones_of o.full p.player) cell then one (is_same o.winner p.player) else nothing
 
 -- the number of words of a block below this spot
 abbrev pub size_below : NodeState → ℕ
-size_below p = words_of (length (empties_of p.board))
+size_below p = block_size (length (empties_of p.board))
 
--- a leaf asks for a block where it has T visits, its board has an empty cell, and `next` is at most the area's end
+-- a leaf asks for a block where it has T visits, its board has an empty cell, and `next` is at most
+-- the area's end
 abbrev pub asks : Setting → ℕ → Count → NodeState → Bool
-asks s next v p = nat_le s.knobs.expand v.visits && (nat_lt 0 (length (empties_of p.board)) && nat_le next (end_of s))
+asks s next v p =
+    nat_le s.knobs.expand v.visits
+    && (nat_lt 0 (length (empties_of p.board)) && nat_le next (end_of s))
 
 -- it gets the block where this fits inside the area
 unfoldable pub gets_block : Setting → ℕ → Count → NodeState → Bool
@@ -73,8 +79,8 @@ unfoldable pub chosen_of : Setting → Count → List (Count × Count) → ℕ
 chosen_of s v children = choice_of v.visits s.knobs.weight (map child_of children)
 
 -- the search of Hex
-abbrev pub game_of : Setting → Game NodeState Outcome
-game_of s = record {
+abbrev pub search_game : Setting → Game NodeState Ending
+search_game s = record {
   choose = chosen_of s;
   next = state_after;
   play = outcome_of s;
@@ -85,10 +91,12 @@ game_of s = record {
   cells = λ p. empties_of p.board;
 }
 
--- the first tree: the root without counts, with one child for each allowed cell; and `next`, the end of the root's block
+-- the first tree: the root without counts, with one child for each allowed cell; and `next`, the
+-- end of the root's block
 abbrev pub first_tree : Setting → Tree × ℕ
-first_tree s = (node 0 nothing nothing (fresh (allowed_cells s)), area_at s + words_of (length (allowed_cells s)))
+first_tree s = let cells = allowed_cells s in
+    (node 0 nothing nothing (fresh cells), area_at s + block_size (length cells))
 
 -- Seq: the tree and `next` after all playouts
 abbrev pub seq_of : Setting → Tree × ℕ
-seq_of s = walks (game_of s) (root_state s) (first_tree s) s.knobs.playouts
+seq_of s = walks (search_game s) (root_state s) (first_tree s) s.knobs.playouts

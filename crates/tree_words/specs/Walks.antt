@@ -10,7 +10,8 @@ nothing = record { visits = 0; wins = 0 }
 abbrev pub plus : Count → Count → Count
 plus a b = record { visits = a.visits + b.visits; wins = a.wins + b.wins }
 
--- a node has a cell, its visits and wins, its seen visits and seen wins, and its children, none where it has no block
+-- a node has a cell, its visits and wins, its seen visits and seen wins, and its children, none
+-- where it has no block
 mutual
   pub data Tree : Type 0 where
     node : ℕ → Count → Count → Children → Tree
@@ -19,9 +20,11 @@ mutual
     done : Children
     more : Tree → Children → Children
 
--- What a walk asks. S is what a node of the way down stands for, a board and the player to move; O is what a playout gives.
+-- What a walk asks. S is what a node of the way down stands for, a board and the player to move; O
+-- is what a playout gives.
 pub record Game (S O : Type 0) : Type 0 where
-  -- the place of the child that is chosen, from the node's visits and wins and each child's two counts
+  -- the place of the child that is chosen, from the node's visits and wins and each child's two
+  -- counts
   pub choose : Count → List (Count × Count) → ℕ
   -- after a stone on the cell
   pub next : S → ℕ → S
@@ -38,8 +41,8 @@ pub record Game (S O : Type 0) : Type 0 where
   -- the cells of a new block
   pub cells : S → List ℕ
 
-abbrev pub cell_of : Tree → ℕ
-cell_of (node c v e row) = c
+abbrev pub node_cell : Tree → ℕ
+node_cell (node c v e row) = c
 
 abbrev pub counts_of : Tree → Count × Count
 counts_of (node c v e row) = (v, e)
@@ -64,47 +67,55 @@ fresh (c ∷ cs) = more (node c nothing nothing done) (fresh cs)
 -- the children that the walk does not enter: they may have been seen
 abbrev pub pass : {S O : Type 0} → Game S O → O → S → Children → Children
 pass g o s done = done
-pass g o s (more t ts) = more (lit (g.glimpse o s (cell_of t)) t) (pass g o s ts)
+pass g o s (more t ts) = more (lit (g.glimpse o s (node_cell t)) t) (pass g o s ts)
 
--- the leaf of the walk, its visits and its S: at a node with children the walk goes to the chosen one
+-- the leaf of the walk, its visits and its S: at a node with children the walk goes to the chosen
+-- one
 abbrev mutual
   pub leaf_state : {S O : Type 0} → Game S O → Tree → S → Count × S
   leaf_state g (node c v e row) s = leaf_row g v row (g.choose v (pairs row)) s
 
   pub leaf_row : {S O : Type 0} → Game S O → Count → Children → ℕ → S → Count × S
   leaf_row g v done i s = (v, s)
-  leaf_row g v (more t ts) zero s = leaf_state g t (g.next s (cell_of t))
+  leaf_row g v (more t ts) zero s = leaf_state g t (g.next s (node_cell t))
   leaf_row g v (more t ts) (suc i) s = leaf_row g v ts i s
 
--- what the walk adds where its playout gave o: each node of the path gains, and each node of its block is seen or not
+-- what the walk adds where its playout gave o: each node of the path gains, and each node of its
+-- block is seen or not
 abbrev mutual
   pub add : {S O : Type 0} → Game S O → O → Tree → S → Tree
-  add g o (node c v e row) s = node c (plus v (g.gain o s)) e (add_row g o row (g.choose v (pairs row)) s)
+  add g o (node c v e row) s =
+      node c (plus v (g.gain o s)) e (add_row g o row (g.choose v (pairs row)) s)
 
   pub add_row : {S O : Type 0} → Game S O → O → Children → ℕ → S → Children
   add_row g o done i s = done
-  add_row g o (more t ts) zero s = more (lit (g.glimpse o s (cell_of t)) (add g o t (g.next s (cell_of t)))) (pass g o s ts)
-  add_row g o (more t ts) (suc i) s = more (lit (g.glimpse o s (cell_of t)) t) (add_row g o ts i s)
+  add_row g o (more t ts) zero s =
+      more (lit (g.glimpse o s (node_cell t)) (add g o t (g.next s (node_cell t)))) (pass g o s ts)
+  add_row g o (more t ts) (suc i) s = more (lit (g.glimpse o s (node_cell t)) t) (add_row g o ts i s)
 
 -- the leaf of the walk gets its block, where it is to have one; n is `next`
 abbrev mutual
   pub expand : {S O : Type 0} → Game S O → ℕ → Tree → S → Tree
-  expand g n (node c v e row) s = node c v e (if is_bare row then (if g.wide n v s then fresh (g.cells s) else done) else expand_row g n row (g.choose v (pairs row)) s)
+  expand g n (node c v e row) s =
+      node c v e
+      (if is_bare row then (if g.wide n v s then fresh (g.cells s) else done)
+      else expand_row g n row (g.choose v (pairs row)) s)
 
   pub expand_row : {S O : Type 0} → Game S O → ℕ → Children → ℕ → S → Children
   expand_row g n done i s = done
-  expand_row g n (more t ts) zero s = more (expand g n t (g.next s (cell_of t))) ts
+  expand_row g n (more t ts) zero s = more (expand g n t (g.next s (node_cell t))) ts
   expand_row g n (more t ts) (suc i) s = more t (expand_row g n ts i s)
 
 -- playout k from the leaf, and its adds
 abbrev pub added : {S O : Type 0} → Game S O → S → ℕ → Tree → Tree
 added g s k u = add g (g.play k (leaf_state g u s).1) u s
 
--- One walk, for playout k, of a tree and of `next`: first the leaf gets its block, then the walk adds. It goes on into a new block
--- by itself, since the leaf is looked for again; that is the same walk, as a new block changes no count on the way, and its first
--- child is a leaf, having no visit.
+-- One walk, for playout k, of a tree and of `next`: first the leaf gets its block, then the walk
+-- adds. It goes on into a new block by itself, since the leaf is looked for again; that is the same
+-- walk, as a new block changes no count on the way, and its first child is a leaf, having no visit.
 abbrev pub walk : {S O : Type 0} → Game S O → S → ℕ → Tree × ℕ → Tree × ℕ
-walk g s k t = (added g s k (expand g t.1 t.0 s), g.grown t.1 (leaf_state g t.0 s).0 (leaf_state g t.0 s).1)
+walk g s k t =
+    (added g s k (expand g t.1 t.0 s), g.grown t.1 (leaf_state g t.0 s).0 (leaf_state g t.0 s).1)
 
 -- the walks for playouts 0 to k - 1
 abbrev pub walks : {S O : Type 0} → Game S O → S → Tree × ℕ → ℕ → Tree × ℕ

@@ -39,8 +39,8 @@ abbrev pub winner_in : ℕ → Colour
 winner_in n = if n % RECORD_UNIT == 0 then Black else White
 
 -- a move word is 256 times the place and the cell
-abbrev pub move_of : ℕ → ℕ → ℕ
-move_of place cell = PLACE_UNIT * place + cell
+abbrev pub move_word : ℕ → ℕ → ℕ
+move_word place cell = PLACE_UNIT * place + cell
 
 abbrev pub cell_in : ℕ → ℕ
 cell_in move = move % PLACE_UNIT
@@ -85,11 +85,16 @@ node_in words x = record {
   seen_wins = (seen_in words x).wins;
 }
 
--- the fields of the header of the block at b: the first word of the parent node, the empty cells 0 to 63 and 64 to 120 as
--- bits, and the count
+-- how many nodes the block at b has
+abbrev pub nodes_in : List ℕ → ℕ → ℕ
+nodes_in words b = slice_index words (b + COUNT_WORD)
+
+-- the fields of the header of the block at b: the first word of the parent node, the empty cells 0
+-- to 63 and 64 to 120 as bits, and the count
 abbrev pub block_in : List ℕ → ℕ → Block
 block_in words b = record {
   parent = slice_index words b;
-  empties = slice_index words (b + HIGH_EMPTIES_WORD) * 2 ^ HIGH_EMPTIES_SHIFT + slice_index words (b + LOW_EMPTIES_WORD);
-  count = slice_index words (b + COUNT_WORD);
+  empties = slice_index words (b + HIGH_EMPTIES_WORD) * 2 ^ HIGH_EMPTIES_SHIFT
+      + slice_index words (b + LOW_EMPTIES_WORD);
+  count = nodes_in words b;
 }

@@ -7,8 +7,9 @@ ghost use Rattle.tree_words.specs.Settings.{IsSetting};
 use super::shapes::Shape;
 use std::marker::Model;
 
-/// A closed tree: a shape and its words, of which the type keeps that each playout has its record, that the blocks are
-/// complete and share no word, that all counts are exact, and that the tree is grown.
+/// A closed tree: a shape and its words, of which the type keeps that each playout has its record,
+/// that the blocks are complete and share no word, that all counts are exact, and that the tree is
+/// grown.
 #[derive(Debug, Drop)]
 pub struct Closed {
     shape: Shape,

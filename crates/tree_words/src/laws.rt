@@ -8,27 +8,32 @@ ghost use Rattle.tree_words.specs.Opening.{AreOpening, ShowRootBlock, opening_wo
 ghost use Rattle.tree_words.specs.Trees.{tree_of};
 ghost use Rattle.tree_words.specs.Told.{AreAmong, TellsLinkedBlocks, TellsNodes};
 
-/// The law of the opening words: each setting has its own, no other words are opening words of it, and they link one block,
-/// the root's, which has a node. It does nothing.
+/// The law of the opening words: each setting has its own, no other words are opening words of it,
+/// and they link one block, the root's, which has a node. It does nothing.
 pub fn opening_words_are_told()
     ensures are { (s : Setting) → IsSetting s → AreOpening s (opening_words s) }
-    ensures one { (s : Setting) (words : List ℕ) → IsSetting s → AreOpening s words → words ≡ opening_words s }
-    ensures root { (s : Setting) (words : List ℕ) → IsSetting s → AreOpening s words → ShowRootBlock s words }
+    ensures one { (s : Setting) (words : List ℕ) → IsSetting s → AreOpening s words
+        → words ≡ opening_words s }
+    ensures root { (s : Setting) (words : List ℕ) → IsSetting s → AreOpening s words
+        → ShowRootBlock s words }
 {}
 
-/// The law of told blocks: who knows some of the linked blocks knows the boards of their nodes, and where the link of such a
-/// node is not 0, the block told by the link and the node's board is the linked one. It does nothing.
+/// The law of told blocks: who knows some of the linked blocks knows the boards of their nodes, and
+/// where the link of such a node is not 0, the block told by the link and the node's board is the
+/// linked one. It does nothing.
 pub fn told_blocks_are_linked()
-    ensures nodes { (s : Setting) (words : List ℕ) (blocks : List LinkedBlock) → Linked s words blocks → TellsNodes s blocks }
-    ensures blocks { (s : Setting) (words : List ℕ) (blocks : List LinkedBlock) → IsSetting s → Linked s words blocks
-        → TellsLinkedBlocks s words blocks }
+    ensures nodes { (s : Setting) (words : List ℕ) (blocks : List LinkedBlock)
+        → Linked s words blocks → TellsNodes s blocks }
+    ensures blocks { (s : Setting) (words : List ℕ) (blocks : List LinkedBlock)
+        → IsSetting s → Linked s words blocks → TellsLinkedBlocks s words blocks }
 {}
 
-/// The law that words show one tree: of two lists of blocks that they link, each block of one is in the other, and the trees
-/// that they show are the same. It does nothing.
+/// The law that words show one tree: of two lists of blocks that they link, each block of one is in
+/// the other, and the trees that they show are the same. It does nothing.
 pub fn words_show_one_tree()
-    ensures blocks { (s : Setting) (words : List ℕ) (bs others : List LinkedBlock) → IsSetting s → Linked s words bs
-        → Linked s words others → AreAmong bs others }
-    ensures tree { (s : Setting) (words : List ℕ) (bs others : List LinkedBlock) → IsSetting s → Linked s words bs
-        → Linked s words others → tree_of s bs words ≡ tree_of s others words }
+    ensures blocks { (s : Setting) (words : List ℕ) (bs others : List LinkedBlock)
+        → IsSetting s → Linked s words bs → Linked s words others → AreAmong bs others }
+    ensures tree { (s : Setting) (words : List ℕ) (bs others : List LinkedBlock)
+        → IsSetting s → Linked s words bs → Linked s words others
+        → tree_of s bs words ≡ tree_of s others words }
 {}

@@ -1,4 +1,5 @@
-//! The layout: where each part of a tree stands among its words, and how many words there are at most.
+//! The layout: where each part of a tree stands among its words, and how many words there are at
+//! most.
 //!
 //! ```text
 //! 0                NEXT: the first word that is not claimed yet
@@ -13,6 +14,8 @@
 //! a tally, a seen  2^32 * visits + wins
 //! a record         2 * leaf, and 1 more where White won
 //! ```
+
+use hex_cells::MOST_CELLS;
 
 /// NEXT is the first word.
 pub const NEXT_AT: usize = 0;
@@ -56,7 +59,8 @@ pub const HIGH_EMPTIES_SHIFT: u32 = 64;
 /// A move word is so many times the place, and the cell, whose number is below 256.
 pub const PLACE_UNIT: u64 = 256;
 
-/// The visits stand above the wins, in the upper half of a tally and of a seen word: no count comes near 2^32.
+/// The visits stand above the wins, in the upper half of a tally and of a seen word: no count comes
+/// near 2^32.
 pub const VISITS_SHIFT: u32 = 32;
 
 /// One visit, as a tally and a seen word have it.
@@ -65,8 +69,8 @@ pub const VISIT: u64 = 1 << VISITS_SHIFT;
 /// A record is so many times its leaf's first word, so that its lowest bit tells who won.
 pub const RECORD_UNIT: u64 = 2;
 
-/// A block has a node for each empty cell of a board, of which the largest has 121 cells.
-pub const MOST_NODES: usize = 121;
+/// A block has at most a node for each cell of the largest board.
+pub const MOST_NODES: usize = MOST_CELLS as usize;
 
-/// The words of the largest block: those of its header and of 121 nodes.
-pub const MOST_BLOCK_WORDS: usize = 488;
+/// The words of the largest block: 488.
+pub const MOST_BLOCK_WORDS: usize = HEADER_WORDS + NODE_WORDS * MOST_NODES;

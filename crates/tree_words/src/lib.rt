@@ -1,24 +1,28 @@
-//! The words of a search's tree: their layout, what a closed tree is, and the tree that one worker makes.
+//! The words of a search's tree: their layout, what a closed tree is, and the tree that one worker
+//! makes.
 //!
-//! **Nouns.** [`Knobs`] are the numbers of a search, and a [`Shape`] is what it is for: a board, the player to move, the
-//! cells that he may play, and the knobs. A *word* is a `u64` of the tree's table. A *node* has four words: move, link,
-//! tally and seen. A *block* has the children of a node, behind a header of four words. A *record* has the leaf and the
-//! result of a playout. A [`Closed`] tree is a shape with its words, all playouts made. [`types`] has the fields of a node
+//! **Nouns.** [`Knobs`] are the numbers of a search, and a [`Shape`] is what it is for: a board,
+//! the player to move, the cells that he may play, and the knobs. A *word* is a `u64` of the tree's
+//! table. A *node* has four words: move, link, tally and seen. A *block* has the children of a
+//! node, behind a header of four words. A *record* has the leaf and the result of a playout. A
+//! [`Closed`] tree is a shape with its words, all playouts made. [`types`] has the fields of a node
 //! and of a header.
 //!
-//! **A caller** makes a [`Shape`], searches, and asks of the [`Closed`] tree the [`best`] cell or a [`report`] of all. A
-//! reader of words takes them apart by [`node`] and [`block`]. [`Op`] names the steps of a worker.
+//! **A caller** makes a [`Shape`], searches, and asks of the [`Closed`] tree the [`best`] cell or a
+//! [`report`] of all. A reader of words takes them apart by [`node`] and [`block`]. [`Op`] names
+//! the steps of a worker.
 //!
-//! **What is proved.** A closed tree keeps what its name says: complete blocks that share no word, a right record of each
-//! playout, exact counts, bounds of growth. `best` is the root's child with most visits and of these the least cell, and
-//! `report` has a row for each in rising order of cells. Each reading gives the fields of the layout. The definitions in
-//! `specs/` are what the crates above are proved against: the layout, the tree that words show, and the search of one
+//! **What is proved.** A closed tree keeps what its name says: complete blocks that share no word,
+//! a right record of each playout, exact counts, bounds of growth. `best` is the root's child with
+//! most visits and of these the least cell, and `report` has a row for each in rising order of
+//! cells. Each reading gives the fields of the layout. The definitions in `specs/` are what the
+//! crates above are proved against: the layout, the tree that words show, and the search of one
 //! worker.
 //!
 //! **What is only tested, or not said.** How strong a tree plays; that `report` gets its memory.
 //!
-//! **Limits.** 1 to 64 workers, 1 to 1,000,000 playouts, 1,024 to 16,777,216 words of blocks, blocks of at most 488 words.
-//! Only `report` takes memory.
+//! **Limits.** 1 to 64 workers, 1 to 1,000,000 playouts, 1,024 to 16,777,216 words of blocks,
+//! blocks of at most 488 words. Only `report` takes memory.
 #![tactic(auto)]
 
 mod closed_tree;

@@ -1,6 +1,6 @@
 //! The parts of words, read.
 
-ghost use Rattle.std.specs.Prelude.{◌≡◌, ◌+◌, ◌*◌, ◌/◌, ◌%◌, ◌^◌, ◌<◌, ◌≤◌, length, slice_index};
+ghost use Rattle.std.specs.Prelude.{◌≡◌, ◌+◌, ◌-◌, ◌*◌, ◌/◌, ◌%◌, ◌^◌, ◌<◌, ◌≤◌, length, slice_index};
 ghost use Rattle.tree_words.specs.Words.{block_in, cell_in, link_in, node_in, place_in, visits_in, wins_in};
 
 use super::layout::{
@@ -8,7 +8,7 @@ use super::layout::{
     NODE_WORDS, PLACE_UNIT, SEEN_WORD, TALLY_WORD, VISIT, VISITS_SHIFT,
 };
 use super::types::{Block, Node};
-use hex_cells::CellSet;
+use hex_cells::{CellSet, MOST_CELLS};
 
 /// The number of the cell that a move word has.
 pub fn cell_of(move_word: u64) -> u32
@@ -31,8 +31,8 @@ pub fn wins_of(word: u64) -> u32
     (word % VISIT) as u32
 }
 
-/// The fields of the node whose first word is `at`. Its words lie within the words, and its place and its link are below
-/// 2^32.
+/// The fields of the node whose first word is `at`. Its words lie within the words, and its place
+/// and its link are below 2^32.
 pub fn node(words: &[u64], at: u32) -> Node
     requires within { at + NODE_WORDS ≤ length words.now }
     requires place { place_in (slice_index words.now at) < 2 ^ 32 }
@@ -53,12 +53,14 @@ pub fn node(words: &[u64], at: u32) -> Node
     }
 }
 
-/// The fields of the header of the block whose first word is `at`. The header lies within the words, its parent and its
-/// count are below 2^32, and the upper half of its empty cells is below 2^57.
+/// The fields of the header of the block whose first word is `at`. The header lies within the
+/// words, its parent and its count are below 2^32, and no empty cell is past those of the largest
+/// board.
 pub fn block(words: &[u64], at: u32) -> Block
     requires within { at + HEADER_WORDS ≤ length words.now }
     requires parent { slice_index words.now at < 2 ^ 32 }
-    requires cells { slice_index words.now (at + HIGH_EMPTIES_WORD) < 2 ^ 57 }
+    requires cells { let high = slice_index words.now (at + HIGH_EMPTIES_WORD) in
+        high < 2 ^ (MOST_CELLS - HIGH_EMPTIES_SHIFT) }
     requires count { slice_index words.now (at + COUNT_WORD) < 2 ^ 32 }
     ensures { result ≡ block_in words.now at }
 {
@@ -80,7 +82,8 @@ mod tests {
     use hex_cells::{Cell, CellSet, Size};
     use std::test::Fail;
 
-    // The root's child b1 and the block below it, after five playouts on size 2 with the expand number 1, seed 0.
+    // The root's child b1 and the block below it, after five playouts on size 2 with the expand
+    // number 1, seed 0.
     #[test]
     fn reads_a_node_and_the_block_below_it(rt: HostRuntime) -> Result<(), Fail> {
         let child = [257, 31, 8589934594, 17179869188];

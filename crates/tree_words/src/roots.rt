@@ -63,12 +63,13 @@ impl Closed {
 }
 
 impl Closed {
-    // Whether the child of the first place is to be preferred to that of the second: it has more visits, or as many and a
-    // lower cell.
+    // Whether the child of the first place is to be preferred to that of the second: it has more
+    // visits, or as many and a lower cell.
     fn is_better(&self, first: usize, second: usize) -> bool
         requires first { first < root_count self.now.shape self.now.words }
         requires second { second < root_count self.now.shape self.now.words }
-        ensures { let a = row_at self.now.shape self.now.words first in let b = row_at self.now.shape self.now.words second in IsTrue result ↔ Beats a b }
+        ensures { let a = row_at self.now.shape self.now.words first in
+            let b = row_at self.now.shape self.now.words second in IsTrue result ↔ Beats a b }
     {
         let a = self.row(first);
         let b = self.row(second);

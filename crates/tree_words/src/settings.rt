@@ -3,7 +3,8 @@
 /// The most workers of a search.
 pub const MOST_WORKERS: u32 = 64;
 
-/// The most playouts of a search. A record's leaf stays far below 2^32, and each count below the bound of a score.
+/// The most playouts of a search. A record's leaf stays far below 2^32, and each count below the
+/// bound of a score.
 pub const MOST_PLAYOUTS: u32 = 1_000_000;
 
 /// The fewest words of a block area: the largest block has room behind the root's.
@@ -15,7 +16,8 @@ pub const MOST_WORDS: u32 = 16_777_216;
 /// The greatest expand number.
 pub const MOST_EXPAND: u32 = 1_000;
 
-/// What a search is told besides its board: how many workers and playouts, its seed, and the constants of its tree.
+/// What a search is told besides its board: how many workers and playouts, its seed, and the
+/// constants of its tree.
 #[derive(Clone, Copy, Debug, PartialEq, Eq)]
 pub struct Knobs {
     /// How many workers search: 1 to [`MOST_WORKERS`].

@@ -11,7 +11,8 @@ use hex_board::Board;
 use hex_cells::{CellSet, Colour};
 use std::marker::Model;
 
-/// What a tree is searched for: a board, the player to move there, the cells that he may play, and the knobs.
+/// What a tree is searched for: a board, the player to move there, the cells that he may play, and
+/// the knobs.
 #[derive(Clone, Copy, Debug, PartialEq, Eq)]
 pub struct Shape {
     board: Board,
@@ -25,21 +26,41 @@ impl Model for Shape {
 
     ghost Value = { Setting };
 
-    ghost view = { λ s. record { board = s.board; player = s.colour; allowed = s.allowed; knobs = s.knobs } };
+    ghost view = { λ s. record {
+      board = s.board;
+      player = s.colour;
+      allowed = s.allowed;
+      knobs = s.knobs;
+    } };
 
-    ghost inverse = { λ s. record { board = s.board; colour = s.player; allowed = s.allowed; knobs = s.knobs } };
+    ghost inverse = { λ s. record {
+      board = s.board;
+      colour = s.player;
+      allowed = s.allowed;
+      knobs = s.knobs;
+    } };
 
-    ghost invariant = { λ s. IsSetting (record { board = s.board; player = s.colour; allowed = s.allowed; knobs = s.knobs }) };
+    ghost invariant = { λ s. IsSetting (record {
+      board = s.board;
+      player = s.colour;
+      allowed = s.allowed;
+      knobs = s.knobs;
+    }) };
 }
 
 impl Shape {
-    /// The shape with these parts. Some cell is allowed, the allowed cells lie inside the empty cells of the board, and the
-    /// knobs are in their ranges.
+    /// The shape with these parts. Some cell is allowed, the allowed cells lie inside the empty
+    /// cells of the board, and the knobs are in their ranges.
     pub fn make(board: &Board, colour: Colour, allowed: CellSet, knobs: &Knobs) -> Shape
         requires any { IsAny allowed }
         requires empty { AreEmpty allowed board.now }
         requires ranges { AreInRange knobs.now }
-        ensures { result ≡ record { board = board.now; player = colour; allowed = allowed; knobs = knobs.now } }
+        ensures { result ≡ record {
+          board = board.now;
+          player = colour;
+          allowed = allowed;
+          knobs = knobs.now;
+        } }
     {
         // What each board keeps of itself, so that the shape keeps it too.
         let _size = board.size();
@@ -85,8 +106,8 @@ impl Shape {
         &self.knobs
     }
 
-    /// The number of words of the tree: one for NEXT, one for TICKET, one for each record, four for the root, and the block
-    /// area's.
+    /// The number of words of the tree: one for NEXT, one for TICKET, one for each record, four for
+    /// the root, and the block area's.
     pub fn total(&self) -> u32
         ensures { result ≡ end_of self.now }
     {

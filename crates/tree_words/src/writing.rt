@@ -1,7 +1,7 @@
 //! The writes of a new block: its header and its moves.
 
 ghost use Rattle.std.specs.Prelude.{◌≡◌, ℕ, ◌+◌, ◌*◌, ◌<◌, ◌≤◌, ◌^◌, length};
-ghost use Rattle.tree_words.specs.Blocks.{LinkedBlock, size, words_of};
+ghost use Rattle.tree_words.specs.Blocks.{LinkedBlock, size, block_size};
 ghost use Rattle.tree_words.specs.Writing.{WritesBlock, WritesMoves, listed};
 
 use super::layout::{
@@ -10,11 +10,16 @@ use super::layout::{
 };
 use hex_cells::{Cell, CellSet, Size};
 
-/// Writes the moves of a block that begins at `start` and has these cells of the board, in rising order, and answers how
-/// many they are. No other word changes.
+/// Writes the moves of a block that begins at `start` and has these cells of the board, in rising
+/// order, and answers how many they are. No other word changes.
 pub fn write_moves(words: &mut [u64], start: usize, cells: CellSet, size: Size) -> usize
-    requires within { start + words_of (length (listed size cells)) ≤ length words.old }
-    ensures moves { WritesMoves (record { start = start; parent = 0; empties = 0; cells = listed size cells }) words.old words.new }
+    requires within { start + block_size (length (listed size cells)) ≤ length words.old }
+    ensures moves { WritesMoves (record {
+      start = start;
+      parent = 0;
+      empties = 0;
+      cells = listed size cells;
+    }) words.old words.new }
     ensures count { result ≡ length (listed size cells) }
 {
     let mut place = 0;
@@ -28,9 +33,10 @@ pub fn write_moves(words: &mut [u64], start: usize, cells: CellSet, size: Size) 
     place
 }
 
-/// Writes the header and the moves of the block that begins at `start`, below the node at `parent` whose board has these
-/// empty cells: its nodes have the given cells of the board in rising order. Answers how many they are. No other word
-/// changes: where the words of the block were 0, its links, tallies and seen words are 0.
+/// Writes the header and the moves of the block that begins at `start`, below the node at `parent`
+/// whose board has these empty cells: its nodes have the given cells of the board in rising order.
+/// Answers how many they are. No other word changes: where the words of the block were 0, its
+/// links, tallies and seen words are 0.
 pub fn write_block(
     words: &mut [u64],
     start: usize,
@@ -39,8 +45,13 @@ pub fn write_block(
     cells: CellSet,
     size: Size,
 ) -> usize
-    requires { start + words_of (length (listed size cells)) ≤ length words.old }
-    ensures words { WritesBlock (record { start = start; parent = parent; empties = empties; cells = listed size cells }) words.old words.new }
+    requires { start + block_size (length (listed size cells)) ≤ length words.old }
+    ensures words { WritesBlock (record {
+      start = start;
+      parent = parent;
+      empties = empties;
+      cells = listed size cells;
+    }) words.old words.new }
     ensures count { result ≡ length (listed size cells) }
 {
     let count = write_moves(words, start, cells, size);

@@ -28,17 +28,22 @@ first_of_largest ns = position_or_len (λ n. n == largest ns) ns
 
 -- Choice: the first place without visits, or else the first place of the greatest score
 unfoldable pub choice_of : ℕ → ℕ → List Child → ℕ
-choice_of p c xs = if list_any is_unvisited xs then position_or_len is_unvisited xs else first_of_largest (map (score_in p c) xs)
+choice_of p c xs =
+    if list_any is_unvisited xs then position_or_len is_unvisited xs
+    else first_of_largest (map (score_in p c) xs)
 
--- the second child is strictly preferred: the first has visits, and the second has none or a greater score
+-- the second child is strictly preferred: the first has visits, and the second has none or a
+-- greater score
 unfoldable pub is_better : ℕ → ℕ → Child → Child → Bool
-is_better p c x y = not (is_unvisited x) && (is_unvisited y || nat_lt (score_in p c x) (score_in p c y))
+is_better p c x y =
+    not (is_unvisited x) && (is_unvisited y || nat_lt (score_in p c x) (score_in p c y))
 
 -- The place that is kept when one goes through children from place j on: the child x of place i is
 -- kept so far, and a child that is preferred to it takes its turn.
 abbrev pub kept_from : ℕ → ℕ → ℕ → Child → ℕ → List Child → ℕ
 kept_from p c i x j [] = i
-kept_from p c i x j (y ∷ ys) = if is_better p c x y then kept_from p c j y (j + 1) ys else kept_from p c i x (j + 1) ys
+kept_from p c i x j (y ∷ ys) =
+    if is_better p c x y then kept_from p c j y (j + 1) ys else kept_from p c i x (j + 1) ys
 
 -- going through a list from its first child on
 abbrev pub kept_of : ℕ → ℕ → List Child → ℕ

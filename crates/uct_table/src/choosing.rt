@@ -48,7 +48,8 @@ pub fn better(
 ) -> bool
     requires parent { p ≤ MOST_COUNT }
     requires first { (v1 ≤ MOST_COUNT) × (w1 ≤ MOST_COUNT) × (a1 ≤ MOST_COUNT) × (b1 ≤ MOST_COUNT) }
-    requires second { (v2 ≤ MOST_COUNT) × (w2 ≤ MOST_COUNT) × (a2 ≤ MOST_COUNT) × (b2 ≤ MOST_COUNT) }
+    requires second { (v2 ≤ MOST_COUNT) × (w2 ≤ MOST_COUNT) × (a2 ≤ MOST_COUNT)
+        × (b2 ≤ MOST_COUNT) }
     requires weight { c ≤ MOST_WEIGHT }
     ensures { let first : Child = record { visits = v1; wins = w1; seen = a1; seen_wins = b1 } in
         let second : Child = record { visits = v2; wins = w2; seen = a2; seen_wins = b2 } in

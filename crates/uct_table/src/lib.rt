@@ -1,11 +1,11 @@
 //! Integer scores for a tree search: which child a walk goes to.
 //!
-//! **What it is.** A *child* has counts: visits and wins, and *seen* visits and wins, which are those
-//! of stones on filled boards. Its *score* below a parent's visits is a *mean* of the two shares of
-//! wins, in 65536th parts, plus a *bonus* that falls as its visits grow. *Choice* is the first child
-//! without visits, or else the first of the greatest score. It is UCT (Kocsis and Szepesvári, 2006)
-//! with seen counts in the manner of RAVE (Gelly and Silver, 2007), in whole numbers alone, so that
-//! a score is one exact number.
+//! **What it is.** A *child* has counts: visits and wins, and *seen* visits and wins, which are
+//! those of stones on filled boards. Its *score* below a parent's visits is a *mean* of the two
+//! shares of wins, in 65536th parts, plus a *bonus* that falls as its visits grow. *Choice* is the
+//! first child without visits, or else the first of the greatest score. It is UCT (Kocsis and
+//! Szepesvári, 2006) with seen counts in the manner of RAVE (Gelly and Silver, 2007), in whole
+//! numbers alone, so that a score is one exact number.
 //!
 //! **A caller** goes through children in their order and keeps the one that is preferred:
 //!
@@ -16,15 +16,15 @@
 //! or, faster, keeps the best score as well, and asks [`score_above`] of each later child.
 //!
 //! **What is proved.** [`level`], [`root`] and [`score`] give exactly the numbers of
-//! `specs/Scores.antt`, [`score_above`] is such a score exactly where it is greater, and [`better`] is
-//! exactly its word in `specs/Choice.antt`. The law [`going_through_gives_choice`] says that the
-//! child kept at the end is Choice. Floats are only guesses: a guess is taken where its square shows
-//! that it is right.
+//! `specs/Scores.antt`, [`score_above`] is such a score exactly where it is greater, and [`better`]
+//! is exactly its word in `specs/Choice.antt`. The law [`going_through_gives_choice`] says that the
+//! child kept at the end is Choice. Floats are only guesses: a guess is taken where its square
+//! shows that it is right.
 //!
 //! **Only tested, or not said.** That scores choose well, and how long a call takes.
 //!
-//! **Limits.** Counts are at most [`MOST_COUNT`] and a weight at most [`MOST_WEIGHT`]. No call takes memory, and
-//! none refuses.
+//! **Limits.** Counts are at most [`MOST_COUNT`] and a weight at most [`MOST_WEIGHT`]. No call
+//! takes memory, and none refuses.
 #![tactic(auto)]
 
 mod choosing;

@@ -5,8 +5,8 @@ ghost use Rattle.uct_table.specs.Scores.{isqrt, level_of, share_of, mean_of, bon
 
 use std::num::{nearest_u64_to_f64, saturating_f64_to_u64};
 
-/// The greatest count that a score takes, of visits or of wins: products of two counts and a share's parts stay far below
-/// 2^64.
+/// The greatest count that a score takes, of visits or of wins: products of two counts and a
+/// share's parts stay far below 2^64.
 pub const MOST_COUNT: u32 = 1_048_576;
 
 /// The greatest weight that a score takes.

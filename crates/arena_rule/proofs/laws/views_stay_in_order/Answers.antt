@@ -5,11 +5,8 @@ use Rattle.arena_rule.proofs.laws.views_stay_in_order.Goals as goal
 pub returns-clause-step : goal.returns-clause-step
 returns-clause-step c v iv op x fits a = view-stays v iv op x fits a
 
-pub returns-clause-kept : goal.returns-clause-kept
-returns-clause-kept c v part iv can = kept-stays v iv part can
-
-pub returns-clause-given : goal.returns-clause-given
-returns-clause-given c v part iv can = given-stays v iv part can
+pub returns-clause-split : goal.returns-clause-split
+returns-clause-split c v iv part can = (kept-stays v iv part can, given-stays v iv part can)
 
 pub returns-clause-join : goal.returns-clause-join
-returns-clause-join c v w iv iw same can = join-stays v w iv iw same can
+returns-clause-join c v iv w iw same can = join-stays v w iv iw same can

@@ -1,9 +1,10 @@
 use Rattle.std.proofs.Common.{◌≡◌, sym, ◌∙◌, ap, cond}
 use Rattle.hex_cells.specs.Sets.{has}
-use Rattle.hex_board.specs.Wins.{is_same}
+use Rattle.hex_cells.specs.Colours.{is_same}
 use Rattle.hex_board.specs.Positions.{stones_of}
 use Rattle.play_out.specs.Fills.{filled_by}
-use Rattle.play_out.proofs.Turns.{turns_begin, turns_go_on, turns_end, same_player}
+use Rattle.hex_cells.proofs.ColourLaws.{same_player}
+use Rattle.play_out.proofs.Turns.{turns_begin, turns_go_on, turns_end}
 use Rattle.play_out.proofs.Stones.{stones_within, stones_apart}
 use Rattle.play_out.proofs.playouts.stones_after.Goals as goal
 use Rattle.play_out.proofs.playouts.stones_after.Goals.{then-eq, else-eq}

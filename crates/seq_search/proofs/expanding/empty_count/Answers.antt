@@ -1,5 +1,5 @@
 use Rattle.std.proofs.Common.{◌∙◌, arith}
-use Rattle.tree_words.proofs.EmptyLaws.{count_empties}
+use Rattle.tree_words.proofs.Boards.EmptyLaws.{count_empties}
 use Rattle.seq_search.proofs.expanding.empty_count.Goals as goal
 
 pub returns-clause-value : goal.returns-clause-value

@@ -2,7 +2,7 @@ use Rattle.std.proofs.Common.{◌≡◌, length, ap, sym, ◌∙◌, subst, arit
 use Rattle.tree_words.specs.Complete.{HasEmpties}
 use Rattle.play_out.specs.Fills.{empties_of}
 use Rattle.tree_words.specs.Writing.{listed}
-use Rattle.tree_words.proofs.EmptyLaws.{has-empties, empties-listed}
+use Rattle.tree_words.proofs.Boards.EmptyLaws.{has-empties, empties-listed}
 use Rattle.seq_search.proofs.LeafBlocks.{link-written}
 use Rattle.seq_search.proofs.expanding.link_block.Goals as goal
 

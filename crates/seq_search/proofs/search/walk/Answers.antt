@@ -4,7 +4,6 @@ use Rattle.tree_words.specs.Settings.{Setting}
 use Rattle.tree_words.specs.Sequence.{outcome_of}
 use Rattle.seq_search.specs.Searching.{Searched, Reached}
 use Rattle.seq_search.specs.Descending.{spot_in}
-use Rattle.seq_search.specs.Adding.{outcome_in}
 use Rattle.seq_search.proofs.Searches.{outcome-is, searched-more}
 use Rattle.seq_search.proofs.search.walk.Goals as goal
 
@@ -21,9 +20,9 @@ returns c =
     let w : Searched s c.args.words.now c.args.k = c.requires.searched in
     let r : Reached s w.blocks c.args.k c.args.words.now c.reach-walk.new.words c.reach-walk.result = c.reach-walk.ensures w.blocks c.args.k (omega (arith, c.requires.number)) w.holds w.standing.rooted in
     let seed : c.knobs.result.now.seed ≡ s.knobs.seed = ap (λ k. k.seed) c.knobs.ensures.value in
-    let played : outcome_in c.play-ending.result ≡ outcome_of s c.args.k (spot_in c.reach-walk.result)
+    let played : c.play-ending.result ≡ outcome_of s c.args.k (spot_in c.reach-walk.result)
     = outcome-is s c.args.k (spot_in c.reach-walk.result) c.play-ending.result.winner c.play-ending.result.full
     (c.play-ending.ensures.winner ∙ (λ i. playout_of c.reach-walk.result.board c.reach-walk.result.player (seed i) (c.from.ensures i)))
     (c.play-ending.ensures.full ∙ (λ i. filled c.reach-walk.result.board c.reach-walk.result.player (seed i) (c.from.ensures i))) in
-    searched-more s c.args.words.now c.reach-walk.new.words c.add.new.words c.args.k c.reach-walk.result (outcome_in c.play-ending.result) c.board-board.ensures.setting c.requires.number w r
+    searched-more s c.args.words.now c.reach-walk.new.words c.add.new.words c.args.k c.reach-walk.result c.play-ending.result c.board-board.ensures.setting c.requires.number w r
     played (c.add.ensures.holds r.blocks r.holds r.descended) (c.add.ensures.added r.blocks r.holds r.descended) c.add.ensures.record

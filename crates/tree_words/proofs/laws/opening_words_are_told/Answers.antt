@@ -1,4 +1,4 @@
-use Rattle.tree_words.proofs.OpeningTold.{opening-are, opening-one, opening-root}
+use Rattle.tree_words.proofs.NewBlocks.OpeningTold.{opening-are, opening-one, opening-root}
 use Rattle.tree_words.proofs.laws.opening_words_are_told.Goals as goal
 
 pub returns-clause-are : goal.returns-clause-are

@@ -1,6 +1,6 @@
 use Rattle.std.proofs.Common.{refl}
 use Rattle.tree_words.specs.Words.{link_in}
-use Rattle.tree_words.proofs.Within.{within-state, told-real}
+use Rattle.tree_words.proofs.Blocks.Within.{within-state, told-real}
 use Rattle.tree_words.proofs.laws.told_blocks_are_linked.Goals as goal
 
 pub returns-clause-nodes : goal.returns-clause-nodes

@@ -1,4 +1,4 @@
-use Rattle.tree_words.proofs.OneTree.{one-blocks, one-tree}
+use Rattle.tree_words.proofs.Blocks.OneTree.{one-blocks, one-tree}
 use Rattle.tree_words.proofs.laws.words_show_one_tree.Goals as goal
 
 pub returns-clause-blocks : goal.returns-clause-blocks

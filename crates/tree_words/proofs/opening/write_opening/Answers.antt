@@ -4,9 +4,9 @@ use Rattle.tree_words.specs.Words.{end_of}
 use Rattle.std.proofs.lemmas.List.{length-replicate}
 use Rattle.tree_words.specs.Complete.{HasEmpties, allowed_cells}
 use Rattle.tree_words.specs.Writing.{listed}
-use Rattle.tree_words.proofs.EmptyLaws.{has-empties}
-use Rattle.tree_words.proofs.Openings.{allowed-listed, root-fits, few-allowed, opening-written}
-use Rattle.tree_words.proofs.OpeningTold.{opening-one}
+use Rattle.tree_words.proofs.Boards.EmptyLaws.{has-empties}
+use Rattle.tree_words.proofs.NewBlocks.Openings.{allowed-listed, root-fits, few-allowed, opening-written}
+use Rattle.tree_words.proofs.NewBlocks.OpeningTold.{opening-one}
 use Rattle.tree_words.proofs.opening.write_opening.Goals as goal
 
 pub write_block-count-requires : goal.write_block-count-requires

@@ -1,4 +1,4 @@
-use Rattle.tree_words.proofs.Bests.{Leads}
+use Rattle.tree_words.proofs.Boards.Bests.{Leads}
 use Rattle.tree_words.proofs.roots.best.Given as goal
 
 abbrev pub invariant-loop-place : goal.invariant-loop-place

@@ -1,7 +1,7 @@
 use Rattle.std.proofs.Common.{◌≡◌, map, sym, ap, ◌∙◌, subst, arith}
 use Rattle.std.specs.List.{range_with_len}
 use Rattle.tree_words.specs.Roots.{row_at, rows_of, root_count, Rise}
-use Rattle.tree_words.proofs.Bests.{one_row_more, rows_rise}
+use Rattle.tree_words.proofs.Boards.Bests.{one_row_more, rows_rise}
 use Rattle.tree_words.proofs.roots.report.Goals as goal
 
 pub loop-place-preserved : goal.loop-place-preserved

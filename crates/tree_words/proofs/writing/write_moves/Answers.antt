@@ -1,7 +1,7 @@
 use Rattle.std.proofs.Common.{◌≡◌, ◌+◌, ◌*◌, ap, refl, sym, ◌∙◌, subst, arith}
 use Rattle.std.proofs.Math.ListN.{set as set_word}
 use Rattle.hex_cells.specs.Sets.{has as has_cell}
-use Rattle.tree_words.proofs.Writes.{Moved, moved-none, moved-one, moved-past, few_places, moved-few}
+use Rattle.tree_words.proofs.NewBlocks.Writes.{Moved, moved-none, moved-one, moved-past, few_places, moved-few}
 use Rattle.tree_words.proofs.writing.write_moves.Goals as goal
 use Rattle.tree_words.proofs.writing.write_moves.Goals.{then-has, else-has}
 

@@ -1,4 +1,4 @@
-use Rattle.tree_words.proofs.Writes.{Moved}
+use Rattle.tree_words.proofs.NewBlocks.Writes.{Moved}
 use Rattle.tree_words.proofs.writing.write_moves.Given as goal
 
 abbrev pub invariant-loop-k : goal.invariant-loop-k

@@ -1,7 +1,7 @@
 use Rattle.std.proofs.Common.{◌+◌, ap, ◌∙◌, subst}
 use Rattle.hex_board.specs.Elements.{edge_elements, is_head}
 use Rattle.hex_board.specs.ElementTables.{IsNumbered}
-use Rattle.hex_board.proofs.Parts.{members_test}
+use Rattle.hex_cells.proofs.Counts.{members_test}
 use Rattle.hex_board.proofs.numbering.Numbering.head_element.Goals as goal
 
 pub returns : goal.returns

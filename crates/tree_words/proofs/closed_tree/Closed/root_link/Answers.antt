@@ -2,7 +2,7 @@ use Rattle.std.proofs.Common.{◌≡◌, ◌+◌, ◌*◌, ◌≤◌, List, subs
 use Rattle.tree_words.specs.Closing.{IsClosed}
 use Rattle.tree_words.specs.Settings.{Setting, IsSetting}
 use Rattle.tree_words.specs.Roots.{root_link, root_count}
-use Rattle.tree_words.proofs.RootLaws.{has_root}
+use Rattle.tree_words.proofs.Boards.RootLaws.{has_root}
 use Rattle.tree_words.proofs.closed_tree.Closed.root_link.Goals as goal
 
 pub returns-clause-root : goal.returns-clause-root

@@ -1,0 +1,10 @@
+-- Linked blocks: what a newer block leaves, who is a node, links, what is told, and the one tree that they show.
+pub mod BlockLaws
+pub mod Members
+pub mod NodeLaws
+pub mod Turned
+pub mod Orders
+pub mod Links
+pub mod GameLaws
+pub mod Within
+pub mod OneTree

@@ -1,0 +1,5 @@
+-- Empty cells, and the root's children.
+pub mod EmptyLaws
+pub mod SetNumbers
+pub mod RootLaws
+pub mod Bests
