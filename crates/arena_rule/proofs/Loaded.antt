@@ -16,9 +16,9 @@ use Rattle.tree_words.specs.Sequence.{amount_of}
 use Rattle.tree_words.specs.declared.layout.TheConstants.{TALLY_WORD, SEEN_WORD}
 use Rattle.tree_words.specs.declared.steps.Op.{Op}
 use Rattle.tree_words.specs.declared.steps.Op.TheVariants.{Draw, Look, Claim, Write, Publish, Add, Note, Done}
-use Rattle.tree_words.proofs.BlockLaws.{bool_is, either_true, eq_of}
-use Rattle.tree_words.proofs.NodeLaws.{nodes-apart}
-use Rattle.tree_words.proofs.Within.{within-node, within-up}
+use Rattle.std.proofs.lemmas.Bool.{or_cases, eqb-true}
+use Rattle.tree_words.proofs.Blocks.NodeLaws.{nodes-apart}
+use Rattle.tree_words.proofs.Blocks.Within.{within-node, within-up}
 use Rattle.arena_rule.specs.Views.{SeatView, HeldBlock, Walked, WordLoad}
 use Rattle.arena_rule.specs.Lookups.{is_known, load_of, recorded_through}
 use Rattle.arena_rule.specs.Fits.{FitsStep}
@@ -128,7 +128,7 @@ module _ (bs : List LinkedBlock) (words : List ℕ) (views : List SeatView) (id 
 
       -- where the new load is found, and where an older one is
       found : (t : Bool) (w n : ℕ) → (i == w) ≡ t → cond t (Some (slice_index words i)) (load_of v.loads w) ≡ Some n → ((i ≡ w) × (n ≡ slice_index words w)) ⊎ (load_of v.loads w ≡ Some n)
-      found true w n t e = let q = eq_of i w t in inl (q, sym (some-eq e) ∙ ap (slice_index words) q)
+      found true w n t e = let q = eqb-true i w t in inl (q, sym (some-eq e) ∙ ap (slice_index words) q)
       found false w n t e = inr e
 
       by : (t : Bool) → is_count v i ≡ t → HasLoaded words (record v { loads = cond t (load ∷ v.loads) v.loads })
@@ -137,7 +137,7 @@ module _ (bs : List LinkedBlock) (words : List ℕ) (views : List SeatView) (id 
             (λ (q : (i ≡ w) × (n ≡ slice_index words w)). ⊎_elim
             (λ (k : is_known v (i - TALLY_WORD) ≡ true). (i - TALLY_WORD, k, inl (let l = low (i - 2) k in omega (arith, q.0))))
             (λ (k : is_known v (i - SEEN_WORD) ≡ true). (i - SEEN_WORD, k, inr (let l = low (i - 3) k in omega (arith, q.0))))
-            (either_true (is_known v (i - TALLY_WORD)) (is_known v (i - SEEN_WORD)) t))
+            (or_cases (is_known v (i - TALLY_WORD)) (is_known v (i - SEEN_WORD)) t))
             (λ (q : load_of v.loads w ≡ Some n). h.counts w n q)
             (found (i == w) w n refl e);
         less = λ x n k e. ⊎_elim
