@@ -79,13 +79,13 @@ blocks-cases bs words v (Note k value) d o i = inl i
 blocks-cases bs words v Done d o i = inl i
 
 module _ (bs : List LinkedBlock) (words : List ℕ) (views : List SeatView) (id : ℕ) (v : SeatView) (b : Before bs words views id v) where
-  -- the leaf of the walk in flight is known
-  pub flight-known : (f : Flight) → v.adds ≡ Some f → is_known v f.leaf ≡ true
-  flight-known f e = by v.ticket refl
+  -- the leaf of a walk in flight is known
+  pub flight-known : (j : ℕ) (u : SeatView) (f : Flight) → get_elem? views j ≡ some u → u.adds ≡ Some f → is_known u f.leaf ≡ true
+  flight-known j u f at e = by u.ticket refl
     where
-      by : (o : Option ℕ) → v.ticket ≡ o → is_known v f.leaf ≡ true
-      by None t = absurd (none-some (sym ((b.state.in_hand id v b.at).idle t).0 ∙ e))
-      by (Some k) t = ((b.state.in_hand id v b.at).flight k f t e).known
+      by : (o : Option ℕ) → u.ticket ≡ o → is_known u f.leaf ≡ true
+      by None t = absurd (none-some (sym ((b.state.in_hand j u at).idle t).0 ∙ e))
+      by (Some k) t = ((b.state.in_hand j u at).flight k f t e).known
 
   -- as many walks go through a node where more is known
   through-known : (cs ks : List LinkedBlock) (x : ℕ) → InOrder (root_at v.shape) cs → Knows (root_at v.shape) cs v.known → Knows (root_at v.shape) cs ks
@@ -99,7 +99,7 @@ module _ (bs : List LinkedBlock) (words : List ℕ) (views : List SeatView) (id 
     where
       by : (o : Option Flight) → v.adds ≡ o → flying (λ leaf. is_on v.shape v.known x leaf) o ≡ flying (λ leaf. is_on v.shape ks x leaf) o
       by None e = refl
-      by (Some f) e = let n = flight-known f e in
+      by (Some f) e = let n = flight-known id v f b.at e in
           ap one_if (on-linked v.shape cs v.known x f.leaf order kn n ∙ sym (on-linked v.shape cs ks x f.leaf order ln (more f.leaf n)))
 
   -- the walk that an Add begins goes through x only where no recorded walk of the view does
