@@ -29,6 +29,10 @@ pub mod SumsLinked
 pub mod SumsLaw
 pub mod SeatsCounts
 pub mod AnswersCounts
+pub mod Loaded
+pub mod FirstVisits
+pub mod LeafBound
+pub mod SeatsGrowth
 pub mod ViewStays
 pub mod ViewSeats
 pub mod Law
