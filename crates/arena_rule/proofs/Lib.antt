@@ -22,6 +22,7 @@ pub mod Widths
 pub mod Sole
 pub mod Room
 pub mod SeatsRoom
+pub mod Closing
 pub mod SeatsNumbers
 pub mod AnswersNumbers
 pub mod Firsts
