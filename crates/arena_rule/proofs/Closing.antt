@@ -15,6 +15,7 @@ use Rattle.tree_words.specs.Settings.{Setting}
 use Rattle.tree_words.specs.Words.{Count, root_at, end_of, next_in, ticket_in, record_in, leaf_in, winner_in, count_in, visits_in, wins_in, tally_in, seen_in}
 use Rattle.tree_words.specs.Blocks.{LinkedBlock, In, one_if, has_node, place, cell_at, is_node, link_of, size}
 use Rattle.tree_words.specs.Paths.{node_state, node_board, mover_of, is_on, enters}
+use Rattle.tree_words.specs.Complete.{Linked}
 use Rattle.tree_words.specs.Sequence.{outcome_of, amount_of}
 use Rattle.tree_words.specs.Records.{leaf_of, outcome_in, IsRecord, Recorded}
 use Rattle.tree_words.specs.Counts.{count_below, visits_at, is_seen, sights_at, Exact}
@@ -102,6 +103,13 @@ known-less r ks (b ∷ bs) =
     by true false m rest l = omega (arith, sum_by-cons size b rest)
     by false u m rest l = omega (arith, l)
 
+-- a node of a block is not the root
+pub not-root : (s : Setting) (words : List ℕ) (bs : List LinkedBlock) → Linked s words bs → (c : LinkedBlock) (y : ℕ) → In c bs → has_node c y ≡ true → y ≢ root_at s
+not-root s words bs linked c y i h e =
+    let low = (whole-in s (next_in words) bs c linked.order linked.complete i).inside.0 in
+    let at = has-at c y h in
+    omega (arith, e, at.2)
+
 module _ (bs : List LinkedBlock) (words : List ℕ) (views : List SeatView) (id : ℕ) (v : SeatView) (b : Before bs words views id v) (all : v.width ≡ v.shape.knobs.workers) (ended : HasEnded v) where
   abbrev n : ℕ
   n = v.shape.knobs.playouts
@@ -170,13 +178,6 @@ module _ (bs : List LinkedBlock) (words : List ℕ) (views : List SeatView) (id 
       let few = b.state.setting.ranges.playouts.1 in
       count-is m (count_below n t) (count_below n (λ k. t k && u k)) (e ∙ sum-counts n t u) (omega (arith, few, count-most n (λ k. t k && u k)))
 
-  -- a node of a block is not the root
-  below : (c : LinkedBlock) (y : ℕ) → In c bs → has_node c y ≡ true → y ≢ root_at v.shape
-  below c y i h e =
-      let low = (whole-in v.shape (next_in words) bs c b.state.linked.blocks.order b.state.linked.blocks.complete i).inside.0 in
-      let at = has-at c y h in
-      omega (arith, e, at.2)
-
   exact : Exact v.shape bs words
   exact = record {
     tallies = λ x m. counts (slice_index words (x + TALLY_WORD)) (λ k. is_on v.shape bs x (leaf_of words k)) (λ k. is_same (outcome_in v.shape bs words k).winner (mover_of v.shape bs x))
@@ -184,7 +185,7 @@ module _ (bs : List LinkedBlock) (words : List ℕ) (views : List SeatView) (id 
         ∙ below_same n (λ k. amount_at (x + TALLY_WORD) (walk_adds v.shape bs k (leaf_of words k))) (λ k. tally_amount v.shape bs k (leaf_of words k) x)
         (λ k l. tally-amount v.shape bs b.state.linked.blocks.order k (leaf_of words k) x m));
     seen = λ c y i h. counts (slice_index words (y + SEEN_WORD)) (λ k. is_seen v.shape bs words c y k) (λ k. is_same (outcome_in v.shape bs words k).winner (mover_of v.shape bs y))
-        (b.state.sums.seen y (in-node (root_at v.shape) bs c y i h) (below c y i h) ∙ counted (y + SEEN_WORD)
+        (b.state.sums.seen y (in-node (root_at v.shape) bs c y i h) (not-root v.shape words bs b.state.linked.blocks c y i h) ∙ counted (y + SEEN_WORD)
         ∙ below_same n (λ k. amount_at (y + SEEN_WORD) (walk_adds v.shape bs k (leaf_of words k)))
         (λ k. cond (is_seen v.shape bs words c y k) (amount_of (is_same (outcome_in v.shape bs words k).winner (mover_of v.shape bs y))) 0)
         (λ k l. seen-amount v.shape bs b.state.linked.blocks.order k (leaf_of words k) c y i h

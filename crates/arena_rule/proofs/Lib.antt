@@ -23,6 +23,7 @@ pub mod Sole
 pub mod Room
 pub mod SeatsRoom
 pub mod Closing
+pub mod Recorded
 pub mod SeatsNumbers
 pub mod AnswersNumbers
 pub mod Firsts
