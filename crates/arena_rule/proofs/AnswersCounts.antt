@@ -11,7 +11,7 @@ use lib.ListN.{get_elem?}
 use Rattle.hex_cells.specs.Sets.{has as has_cell}
 use Rattle.hex_board.specs.Positions.{stones_of}
 use Rattle.tree_words.specs.Settings.{Setting}
-use Rattle.tree_words.specs.Words.{root_at, leaf_in, visits_in, wins_in}
+use Rattle.tree_words.specs.Words.{root_at, leaf_in, visits_in, wins_in, tally_in, seen_in}
 use Rattle.tree_words.specs.Blocks.{LinkedBlock, has_node, place, cell_at, is_node, In}
 use Rattle.tree_words.specs.Paths.{is_on, enters, node_state, mover_of}
 use Rattle.tree_words.specs.Sequence.{outcome_of}
@@ -116,7 +116,7 @@ module _ (bs : List LinkedBlock) (words : List ℕ) (views : List SeatView) (id 
   -- a word that counts the amounts of all views has their adds as its visits, and their wins as its
   -- wins
   word-parts : (w n : ℕ) → IsOnce v.shape bs w → n ≡ sum_by (amount_counted v.shape bs w) views
-      → (visits_in n ≡ sum_by (adds_counted v.shape bs w) views) × (visits_in n ≤ v.shape.knobs.playouts) × (wins_in n ≤ v.shape.knobs.playouts)
+      → (visits_in n ≡ sum_by (adds_counted v.shape bs w) views) × (visits_in n ≤ v.shape.knobs.playouts) × (wins_in n ≤ v.shape.knobs.playouts) × (wins_in n ≤ visits_in n)
   word-parts w n h e =
       let visits : ℕ = sum_by (adds_counted v.shape bs w) views in
       let wins : ℕ = sum_by (wins_counted v.shape bs w) views in
@@ -130,7 +130,7 @@ module _ (bs : List LinkedBlock) (words : List ℕ) (views : List SeatView) (id 
         few bs words views id v b,
       ) in
       let t = divided n visits wins parts fewer (omega (arith, most, b.state.setting.ranges.playouts.1)) in
-      (t.0, omega (arith, t.0, most), omega (arith, t.1, fewer, most))
+      (t.0, omega (arith, t.0, most), omega (arith, t.1, fewer, most), omega (arith, t.0, t.1, fewer))
     where
       divided : (n v w : ℕ) → n ≡ VISIT * v + w → w ≤ v → v ≤ MOST_PLAYOUTS → (visits_in n ≡ v) × (wins_in n ≡ w)
       divided n v w e l m = (omega (arith, e), omega (arith, e))
@@ -210,3 +210,16 @@ module _ (bs : List LinkedBlock) (words : List ℕ) (views : List SeatView) (id 
       add-below a fits (subst (IsOnce v.shape bs) (sym e.0) (seen-once t.0 t.1 e.1))
       (ap (slice_index words) e.0 ∙ b.state.sums.seen t.0 t.1 e.1 ∙ ap (λ (w : ℕ). sum_by (amount_counted v.shape bs w) views) (sym e.0)))
       t.2
+
+  -- the wins of a node of the tree are at most its visits, and its seen wins at most its seen visits
+  pub wins-most : (x : ℕ) → is_node (root_at v.shape) bs x ≡ true
+      → ((tally_in words x).wins ≤ (tally_in words x).visits) × ((seen_in words x).wins ≤ (seen_in words x).visits)
+  wins-most x n =
+      let tally = word-parts (x + TALLY_WORD) (slice_index words (x + TALLY_WORD)) (tally-once x n) (b.state.sums.tallies x n) in (
+        tally.3,
+        dite (ℕ_discrete x (root_at v.shape))
+            (λ (e : x ≡ root_at v.shape).
+            let none : slice_index words (x + SEEN_WORD) ≡ 0 = ap (λ (y : ℕ). slice_index words (y + SEEN_WORD)) e ∙ b.state.sums.root in
+            omega (arith, none))
+            (λ (ne : x ≢ root_at v.shape). (word-parts (x + SEEN_WORD) (slice_index words (x + SEEN_WORD)) (seen-once x n ne) (b.state.sums.seen x n ne)).3),
+      )

@@ -57,7 +57,8 @@ pub record FitsWrite (v : SeatView) (i : ℕ) : Type 0 where
 -- the words of a block that is not linked yet: its header and moves, with links, tallies and seen
 -- words 0
 unfoldable pub block_words : LinkedBlock → List ℕ
-block_words b = map (λ i. if is_header_or_move i then header_or_move b i else 0) (range_with_len 0 (size b))
+block_words b =
+    map (λ i. if is_header_or_move i then header_or_move b i else 0) (range_with_len 0 (size b))
 
 -- Publish: the held block begins at b, and l is the link of a known node before b that may get a
 -- block of its size; what was written is the told block of that node, whole
