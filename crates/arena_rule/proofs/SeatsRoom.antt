@@ -74,8 +74,8 @@ module _ (bs : List LinkedBlock) (words : List ℕ) (views : List SeatView) (id 
         next = omega (
           arith,
           room.next,
-          total_join claimed_of views id other v w both (spent_view v.shape) o.else_ b.at o.at,
-          total_join full_width views id other v w both (spent_view v.shape) o.else_ b.at o.at,
+          total_join claimed_of views id other v w both (spent_view v.shape) o.differ b.at o.at,
+          total_join full_width views id other v w both (spent_view v.shape) o.differ b.at o.at,
           fulls v.full w.full v.width w.width,
         );
         claimed = each-join (λ y. y.claimed ≤ y.width * words_known v.shape bs y + words_held y.held) views id other both (spent_view v.shape) room.claimed
