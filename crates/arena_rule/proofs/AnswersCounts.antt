@@ -11,7 +11,7 @@ use lib.ListN.{get_elem?}
 use Rattle.hex_cells.specs.Sets.{has as has_cell}
 use Rattle.hex_board.specs.Positions.{stones_of}
 use Rattle.tree_words.specs.Settings.{Setting}
-use Rattle.tree_words.specs.Words.{root_at, leaf_in, visits_in, wins_in}
+use Rattle.tree_words.specs.Words.{root_at, leaf_in, visits_in, wins_in, tally_in, seen_in}
 use Rattle.tree_words.specs.Blocks.{LinkedBlock, has_node, place, cell_at, is_node, In}
 use Rattle.tree_words.specs.Paths.{is_on, enters, node_state, mover_of}
 use Rattle.tree_words.specs.Sequence.{outcome_of}
@@ -90,7 +90,7 @@ module _ (s : Setting) (bs : List LinkedBlock) (w : ℕ) where
   walks-few : (u : SeatView) → IsOnce → sum_by (λ q. adds_in w (walk_adds s bs q.number (leaf_in q.value))) u.walks ≤ walks_of u
   walks-few u h = sum-ones (λ q. adds_in w (walk_adds s bs q.number (leaf_in q.value))) u.walks (λ q. h q.number (leaf_in q.value))
 
-  -- then it counts no more of a view than the view has_node walks and numbers
+  -- then it counts no more of a view than the view has walks and numbers
   counted-few : (u : SeatView) → IsOnce → adds_counted u ≤ walks_of u + holds_ticket u
   counted-few u h = omega (arith, walks-few u h, made-few u.ticket u.adds h)
 
@@ -113,10 +113,10 @@ module _ (bs : List LinkedBlock) (words : List ℕ) (views : List SeatView) (id 
       ))
       (node-in (root_at v.shape) bs x n)
 
-  -- a word that counts the amounts of all views has_node their adds as its visits, and their wins as its
+  -- a word that counts the amounts of all views has their adds as its visits, and their wins as its
   -- wins
   word-parts : (w n : ℕ) → IsOnce v.shape bs w → n ≡ sum_by (amount_counted v.shape bs w) views
-      → (visits_in n ≡ sum_by (adds_counted v.shape bs w) views) × (visits_in n ≤ v.shape.knobs.playouts) × (wins_in n ≤ v.shape.knobs.playouts)
+      → (visits_in n ≡ sum_by (adds_counted v.shape bs w) views) × (visits_in n ≤ v.shape.knobs.playouts) × (wins_in n ≤ v.shape.knobs.playouts) × (wins_in n ≤ visits_in n)
   word-parts w n h e =
       let visits : ℕ = sum_by (adds_counted v.shape bs w) views in
       let wins : ℕ = sum_by (wins_counted v.shape bs w) views in
@@ -130,12 +130,12 @@ module _ (bs : List LinkedBlock) (words : List ℕ) (views : List SeatView) (id 
         few bs words views id v b,
       ) in
       let t = divided n visits wins parts fewer (omega (arith, most, b.state.setting.ranges.playouts.1)) in
-      (t.0, omega (arith, t.0, most), omega (arith, t.1, fewer, most))
+      (t.0, omega (arith, t.0, most), omega (arith, t.1, fewer, most), omega (arith, t.0, t.1, fewer))
     where
       divided : (n v w : ℕ) → n ≡ VISIT * v + w → w ≤ v → v ≤ MOST_PLAYOUTS → (visits_in n ≡ v) × (wins_in n ≡ w)
       divided n v w e l m = (omega (arith, e), omega (arith, e))
 
-  -- what the view itself has_node counted in a tally
+  -- what the view itself has counted in a tally
   own-adds : (x : ℕ) → is_known v x ≡ true → recorded_through v x + adds_in (x + TALLY_WORD) (adds_made v.shape v.known v.ticket v.adds) ≡ adds_counted v.shape bs (x + TALLY_WORD) v
   own-adds x n =
       let s : Setting = v.shape in
@@ -174,7 +174,7 @@ module _ (bs : List LinkedBlock) (words : List ℕ) (views : List SeatView) (id 
       let t = word-parts (x + SEEN_WORD) (slice_index words (x + SEEN_WORD)) (seen-once x m ne) (b.state.sums.seen x m ne) in
       record { visits = t.1; wins = t.2 })
 
-  -- the walk of an Add has_node not counted in its word, so the word's visits are below N
+  -- the walk of an Add has not counted in its word, so the word's visits are below N
   add-below : (a : CountAdd) → FitsAdd v a → IsOnce v.shape bs a.word → slice_index words a.word ≡ sum_by (amount_counted v.shape bs a.word) views → AnswersAdd v (slice_index words a.word)
   add-below a fits h e =
       let k : ℕ = fits.number in
@@ -210,3 +210,16 @@ module _ (bs : List LinkedBlock) (words : List ℕ) (views : List SeatView) (id 
       add-below a fits (subst (IsOnce v.shape bs) (sym e.0) (seen-once t.0 t.1 e.1))
       (ap (slice_index words) e.0 ∙ b.state.sums.seen t.0 t.1 e.1 ∙ ap (λ (w : ℕ). sum_by (amount_counted v.shape bs w) views) (sym e.0)))
       t.2
+
+  -- the wins of a node of the tree are at most its visits, and its seen wins at most its seen visits
+  pub wins-most : (x : ℕ) → is_node (root_at v.shape) bs x ≡ true
+      → ((tally_in words x).wins ≤ (tally_in words x).visits) × ((seen_in words x).wins ≤ (seen_in words x).visits)
+  wins-most x n =
+      let tally = word-parts (x + TALLY_WORD) (slice_index words (x + TALLY_WORD)) (tally-once x n) (b.state.sums.tallies x n) in (
+        tally.3,
+        dite (ℕ_discrete x (root_at v.shape))
+            (λ (e : x ≡ root_at v.shape).
+            let none : slice_index words (x + SEEN_WORD) ≡ 0 = ap (λ (y : ℕ). slice_index words (y + SEEN_WORD)) e ∙ b.state.sums.root in
+            omega (arith, none))
+            (λ (ne : x ≢ root_at v.shape). (word-parts (x + SEEN_WORD) (slice_index words (x + SEEN_WORD)) (seen-once x n ne) (b.state.sums.seen x n ne)).3),
+      )

@@ -1,6 +1,6 @@
 -- The state before a step, and the forms of the laws of the parts.
 --
--- Each part P of the rule has five laws, over the shape of the view that steps:
+-- Each part P of the rule has four laws, over the shape of the view that steps:
 --   P-step   after a step that fits
 --   P-split  after a split
 --   P-join   after a join
@@ -44,7 +44,7 @@ blocks_after bs words v Done = bs
 -- the other seat of a join
 pub record Other (views : List SeatView) (id : ℕ) (v : SeatView) (other : ℕ) (w : SeatView) : Type 0 where
   pub at : get_elem? views other ≡ some w
-  pub else_ : other ≢ id
+  pub differ : other ≢ id
   pub live : 0 < w.width
   pub can : CanJoin v w
 

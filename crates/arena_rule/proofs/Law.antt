@@ -1,13 +1,16 @@
 -- The law: a step that fits keeps the rule and gives an answer that it may give, a split and a join keep the rule, and it holds
 -- of the opening words.
-use Rattle.std.proofs.Common.{◌≡◌, ◌≢◌, ℕ, ◌<◌, List, [], ◌∷◌, refl, sym, ap, ◌∙◌, subst, length-set}
-use Rattle.std.specs.Prelude.{slice_index, replicate}
+use Rattle.std.proofs.Common.{◌≡◌, ◌≢◌, ℕ, ◌<◌, List, [], ◌∷◌, refl, sym, ap, ◌∙◌, subst, length-set, suc, ◌≤◌, arith, true}
+use Rattle.std.specs.Prelude.{slice_index, replicate, sum_by}
 use mathlib.Core.Option.{some}
+use mathlib.Core.Logic.{dite}
+use native.Mathlib.Decide.{ℕ_discrete}
+use Rattle.std.proofs.lemmas.List.Sums.{sum_by-cons}
 use lib.ListN.{get_elem?}
 use Rattle.atomic_table.proofs.Lists.{set_here}
 use Rattle.tree_words.specs.Settings.{Setting, IsSetting}
-use Rattle.tree_words.specs.Words.{root_at}
-use Rattle.tree_words.specs.Blocks.{LinkedBlock, size}
+use Rattle.tree_words.specs.Words.{root_at, tally_in, seen_in}
+use Rattle.tree_words.specs.Blocks.{LinkedBlock, size, is_node}
 use Rattle.tree_words.specs.Told.{Knows}
 use Rattle.tree_words.specs.Opening.{opening_words}
 use Rattle.tree_words.specs.declared.steps.Op.{Op}
@@ -17,7 +20,7 @@ use Rattle.arena_rule.specs.Views.{SeatView, new_view, opening_view}
 use Rattle.arena_rule.specs.Fits.{FitsStep, CanSplit, CanJoin}
 use Rattle.arena_rule.specs.Afters.{word_of, put, answer_of, after}
 use Rattle.arena_rule.specs.Answers.{MayAnswer, AnswersStep, AnswersLink, AnswersTally, AnswersSeen}
-use Rattle.arena_rule.specs.Parts.{AreLinked}
+use Rattle.arena_rule.specs.Parts.{AreLinked, width_of}
 use Rattle.arena_rule.specs.Rule.{IsState, Rule, words_after, views_after, views_split, views_joined}
 use Rattle.arena_rule.proofs.Before.{Before, Other, AreFirst, blocks_after, opening_blocks}
 use Rattle.arena_rule.proofs.Totals.{inside}
@@ -28,7 +31,7 @@ use Rattle.arena_rule.proofs.Linking.{linked-step, known-step}
 use Rattle.arena_rule.proofs.SeatsBlocks.{apart-split, apart-join, held-split, held-join, known-split, known-join}
 use Rattle.arena_rule.proofs.Opening.{fresh-first, apart-first, linked-first, held-first, known-first}
 use Rattle.arena_rule.proofs.AnswersBlocks.{answers-link, answers-block, answers-claim}
-use Rattle.arena_rule.proofs.AnswersCounts.{answers-tally, answers-seen, answers-add}
+use Rattle.arena_rule.proofs.AnswersCounts.{answers-tally, answers-seen, answers-add, wins-most}
 use Rattle.arena_rule.proofs.Widths.{widths-step}
 use Rattle.arena_rule.proofs.Tickets.{tickets-step}
 use Rattle.arena_rule.proofs.InHand.{in_hand-step}
@@ -150,10 +153,24 @@ module _ (s : Setting) (words : List ℕ) (views : List SeatView) (r : Rule s wo
 
   pub joins : (other : ℕ) (w : SeatView) → get_elem? views other ≡ some w → other ≢ id → 0 < w.width → CanJoin v w → Rule s words (views_joined views id v other w)
   joins other w there ne more can = rule-of s r.blocks words (views_joined views id v other w) v.shape shape
-      (state-join r.blocks words views id v b other w (record { at = there; else_ = ne; live = more; can = can }))
+      (state-join r.blocks words views id v b other w (record { at = there; differ = ne; live = more; can = can }))
 
 pub begins : (s : Setting) → IsSetting s → Rule s (opening_words s) (opening_view s ∷ [])
 begins s h = record { blocks = opening_blocks s; state = state-first s (opening_view s ∷ []) h (opening-first s h) }
 
 pub begins-apart : (s : Setting) → IsSetting s → Rule s (opening_words s) (replicate s.knobs.workers (new_view s 1 []))
 begins-apart s h = record { blocks = opening_blocks s; state = state-first s (replicate s.knobs.workers (new_view s 1 [])) h (ones-first s h) }
+
+-- some seat is not spent, since the widths add up to K
+live : (views : List SeatView) → 0 < sum_by width_of views → (id : ℕ) × (v : SeatView) × (get_elem? views id ≡ some v) × (0 < v.width)
+live [] l = absurd (omega arith)
+live (v ∷ views) l = dite (ℕ_discrete v.width 0)
+    (λ (e : v.width ≡ 0). let t = live views (omega (arith, l, e, sum_by-cons width_of v views)) in (suc t.0, t.1, t.2, t.3))
+    (λ (ne : v.width ≢ 0). (0, v, refl, omega (arith, ne)))
+
+pub wins : (s : Setting) (words : List ℕ) (views : List SeatView) (r : Rule s words views) (x : ℕ) → is_node (root_at s) r.blocks x ≡ true
+    → ((tally_in words x).wins ≤ (tally_in words x).visits) × ((seen_in words x).wins ≤ (seen_in words x).visits)
+wins s words views r x n =
+    let t = live views (omega (arith, r.state.widths.sum, r.state.setting.ranges.workers.0)) in
+    let b : Before r.blocks words views t.0 t.1 = before s r.blocks words views t.0 t.1 r.state t.2 t.3 in
+    wins-most r.blocks words views t.0 t.1 b x (subst (λ (z : Setting). is_node (root_at z) r.blocks x ≡ true) (sym (r.state.widths.each t.0 t.1 t.2).shape) n)

@@ -43,7 +43,7 @@ module _ (bs : List LinkedBlock) (words : List ℕ) (views : List SeatView) (id 
 
   pub apart-join : (other : ℕ) (w : SeatView) → Other views id v other w → AreApart v.shape bs words (views_joined views id v other w)
   unfolding joined
-  apart-join other w o i = omega (arith, total_join (held_at i) views id other v w (joined v w) (spent_view v.shape) o.else_ b.at o.at, b.state.apart i)
+  apart-join other w o i = omega (arith, total_join (held_at i) views id other v w (joined v w) (spent_view v.shape) o.differ b.at o.at, b.state.apart i)
 
   pub linked-join : (other : ℕ) (w : SeatView) → Other views id v other w → AreLinked v.shape bs words
   linked-join other w o = b.state.linked

@@ -46,7 +46,7 @@ module _ (bs : List LinkedBlock) (words : List ℕ) (views : List SeatView) (id 
       (λ w.
       omega (
         arith,
-        total_join (amount_counted v.shape bs w) views id other v u (joined v u) (spent_view v.shape) o.else_ b.at o.at,
+        total_join (amount_counted v.shape bs w) views id other v u (joined v u) (spent_view v.shape) o.differ b.at o.at,
         sum_by-append (λ (q : Walked). amount_at w (walk_adds v.shape bs q.number (leaf_in q.value))) v.walks u.walks,
         ap (λ (t : Option ℕ). amount_at w (adds_made v.shape bs t v.adds)) mine,
         ap (λ (t : Option ℕ). amount_at w (adds_made v.shape bs t u.adds)) theirs,

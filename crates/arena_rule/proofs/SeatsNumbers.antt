@@ -100,7 +100,7 @@ module _ (bs : List LinkedBlock) (words : List ℕ) (views : List SeatView) (id 
         leaves = λ w c. absurd (no-walk w c);
       }
 
-  -- a view all of whose workers have ended has_node no number in hand
+  -- a view all of whose workers have ended has no number in hand
   pub ended-idle : (j : ℕ) (u : SeatView) → get_elem? views j ≡ some u → 0 < u.width → u.ended ≡ u.width → u.ticket ≡ None
   ended-idle j u e live end = by u.ticket refl
     where
@@ -110,15 +110,15 @@ module _ (bs : List LinkedBlock) (words : List ℕ) (views : List SeatView) (id 
 
   -- a sum over the views where a view is joined with another
   joined-sum : (f : SeatView → ℕ) (other : ℕ) (w : SeatView) → Other views id v other w → f (joined v w) ≡ f v + f w → f (spent_view v.shape) ≡ 0 → sum_by f (views_joined views id v other w) ≡ sum_by f views
-  joined-sum f other w o e z = omega (arith, total_join f views id other v w (joined v w) (spent_view v.shape) o.else_ b.at o.at, e, z)
+  joined-sum f other w o e z = omega (arith, total_join f views id other v w (joined v w) (spent_view v.shape) o.differ b.at o.at, e, z)
 
   pub widths-join : (other : ℕ) (w : SeatView) → Other views id v other w → Widths v.shape words (views_joined views id v other w)
   unfolding joined
   widths-join other w o =
       let old : Widths v.shape words views = b.state.widths in
       let ended : sum_by ended_of (views_joined views id v other w) ≡ sum_by ended_of views = joined-sum ended_of other w o refl refl in
-      let total = total_join full_width views id other v w (joined v w) (spent_view v.shape) o.else_ b.at o.at in
-      let two = total_two full_width views id other v w (λ q. o.else_ (sym q)) b.at o.at in
+      let total = total_join full_width views id other v w (joined v w) (spent_view v.shape) o.differ b.at o.at in
+      let two = total_two full_width views id other v w (λ q. o.differ (sym q)) b.at o.at in
       let wide = fulls v.full w.full v.width w.width in
       record {
         each = each-join (HasWidth v.shape) views id other (joined v w) (spent_view v.shape) (λ j x e. old.each j x e)

@@ -39,7 +39,7 @@ made-same s ks ls None adds h = refl
 made-same s ks ls (Some k) None h = refl
 made-same s ks ls (Some k) (Some f) h = ap (take f.made) (h k f refl refl)
 
--- each walk of the view, recorded or in flight, has_node a node of the tree as its leaf
+-- each walk of the view, recorded or in flight, has a node of the tree as its leaf
 pub record HasLeaves (s : Setting) (bs : List LinkedBlock) (u : SeatView) : Type 0 where
   pub walks : (q : Walked) → Contains u.walks q → is_node (root_at s) bs (leaf_in q.value) ≡ true
   pub flight : (k : ℕ) (f : Flight) → u.ticket ≡ Some k → u.adds ≡ Some f → is_node (root_at s) bs f.leaf ≡ true

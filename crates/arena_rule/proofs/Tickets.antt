@@ -47,7 +47,7 @@ past-due : (k x n : ℕ) → n ≤ x → due k (x + 1) n ≡ due k x n
 past-due k x n l = grind (arith, nat_tests)
 
 module _ (bs : List LinkedBlock) (words : List ℕ) (views : List SeatView) (id : ℕ) (v : SeatView) (b : Before bs words views id v) where
-  -- where the view has_node the same numbers, and the words below the root stay
+  -- where the view has the same numbers, and the words below the root stay
   pub tickets-frame : (u : SeatView) (words' : List ℕ) → u.ticket ≡ v.ticket → u.walks ≡ v.walks → ticket_in words' ≡ ticket_in words
       → ((k : ℕ) → k < v.shape.knobs.playouts → record_in words' k ≡ record_in words k) → Tickets v.shape bs words' (set views id u)
   tickets-frame u words' t w n r =

@@ -45,7 +45,7 @@ module _ (v : SeatView) (iv : IsView v) where
 
 -- what is gathered at a node of some known blocks is gathered there over more blocks behind them
 module _ (s : Setting) (ls : List LinkedBlock) (told : AreTold s ls) where
-  -- no block of told ones has_node the root
+  -- no block of told ones has the root
   root-out : (ls : List LinkedBlock) → AreTold s ls → {A : Type 0} (root : A) (step : LinkedBlock → ℕ → A → A) → up root step ls (root_at s) ≡ root
   root-out [] t root step = refl
   root-out (b ∷ ls) t root step =

@@ -49,7 +49,7 @@ module _ (v : SeatView) (iv : IsView v) where
       (λ (e : known_after v x b ≡ v.known). subst (KnownStays v) (sym e) (record { told = iv.known; order = iv.order }))
       (known_cases v x b)
 
-  -- a word that no known block has_node, and that the new one has_node not
+  -- a word that no known block has, and that the new one has not
   still-apart : (x b i : ℕ) → (is_known v x ≡ true → known_link v x ≡ 0 → b ≢ 0 → covers i (told_below v x b) ≡ false) → cover i v.known ≡ 0 → cover i (known_after v x b) ≡ 0
   still-apart x b i out z = ⊎_elim
       (λ (g : Grows v x b). ap (cover i) g.is ∙ omega (arith, z, cover-cons i (told_below v x b) v.known, ap one_if (out g.known g.vacant g.some)))

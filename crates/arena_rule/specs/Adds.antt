@@ -24,7 +24,7 @@ seen_adds set won y (c ∷ cells) =
     let others : List CountAdd = seen_adds set won (y + NODE_WORDS) cells in
     if has_cell set c then record { word = y + SEEN_WORD; won = won } ∷ others else others
 
--- what has_node been gathered on the way up to a node: the node's state, and the adds of its path
+-- what has been gathered on the way up to a node: the node's state, and the adds of its path
 pub record Gathered : Type 0 where
   pub state : NodeState
   pub adds : List CountAdd
@@ -61,12 +61,12 @@ amount_at w [] = 0
 amount_at w (a ∷ others) = (if a.word == w then amount_of a.won else 0) + amount_at w others
 
 -- by the exact counts the walk of playout k to a leaf adds to the tally of a node x a visit where
--- the leaf has_node x on its path, and a win where Mover(x) won
+-- the leaf has x on its path, and a win where Mover(x) won
 abbrev pub tally_amount : Setting → List LinkedBlock → ℕ → ℕ → ℕ → ℕ
 tally_amount s bs k leaf x = let o : Ending = outcome_of s k (node_state s bs leaf) in
     if is_on s bs x leaf then amount_of (is_same o.winner (mover_of s bs x)) else 0
 
--- and to the seen word of a node y of the block b, where the leaf has_node a node of b on its path and
+-- and to the seen word of a node y of the block b, where the leaf has a node of b on its path and
 -- the filled board a stone of Mover(y) on the cell of y, a visit, and a win where Mover(y) won
 abbrev pub seen_amount : Setting → List LinkedBlock → ℕ → ℕ → LinkedBlock → ℕ → ℕ
 seen_amount s bs k leaf b y = let o : Ending = outcome_of s k (node_state s bs leaf) in

@@ -29,7 +29,7 @@ pub record MayLieBelow (v : SeatView) (x b : ℕ) : Type 0 where
   pub held : (i : ℕ) → covers i (told_below v x b) ≡ true → is_held v.held i ≡ false
 
 -- the link of the known node x is found to be b: the root's names the first block of the area; a
--- known link is_header_or_move; another is 0 or the first word of a block that may lie below the node
+-- known link stays; another is 0 or the first word of a block that may lie below the node
 pub record AnswersLink (v : SeatView) (x b : ℕ) : Type 0 where
   pub root : x ≡ root_at v.shape → b ≡ area_at v.shape
   pub known : 0 < known_link v x → b ≡ known_link v x

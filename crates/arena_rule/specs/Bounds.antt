@@ -11,7 +11,7 @@ use Rattle.arena_rule.specs.Views.{SeatView, HeldBlock}
 use Rattle.arena_rule.specs.Lookups.{is_known, load_of, recorded_through, walks_through, walks_at}
 use Rattle.arena_rule.specs.Parts.{Each, full_width}
 
--- what a view has_node loaded: tallies and seen words of known nodes; a tally's visits are now at least
+-- what a view has loaded: tallies and seen words of known nodes; a tally's visits are now at least
 -- those loaded, and these are at least the view's recorded walks through the node
 pub record HasLoaded (words : List ℕ) (v : SeatView) : Type 0 where
   pub counts : (w n : ℕ) → load_of v.loads w ≡ Some n
@@ -25,11 +25,11 @@ pub record HasLoaded (words : List ℕ) (v : SeatView) : Type 0 where
 abbrev pub AreLoads : List ℕ → List SeatView → Type 0
 AreLoads words views = Each (HasLoaded words) views
 
--- FirstVisits: in a block that has_node a child without visits, the walks of a view that go through a
+-- FirstVisits: in a block that has a child without visits, the walks of a view that go through a
 -- child are at most its width
 abbrev pub FirstVisits : List LinkedBlock → List ℕ → List SeatView → Type 0
-FirstVisits bs words views = (b : LinkedBlock) (x y : ℕ) → In b bs → has_node b x ≡ true → has_node b y ≡ true
-    → (tally_in words y).visits ≡ 0 → Each (λ v. walks_through v x ≤ v.width) views
+FirstVisits bs words views = (b : LinkedBlock) (x y : ℕ)
+    → In b bs → has_node b x ≡ true → has_node b y ≡ true → (tally_in words y).visits ≡ 0 → Each (λ v. walks_through v x ≤ v.width) views
 
 -- LeafBound: while NEXT is at most the area's end, the walks of a view whose leaf is a given node
 -- with an empty cell on its board are at most its width times T

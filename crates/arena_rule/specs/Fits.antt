@@ -13,7 +13,7 @@ use Rattle.arena_rule.specs.Views.{SeatView, HeldBlock, Flight, HasDrawnNothing,
 use Rattle.arena_rule.specs.Adds.{CountAdd, walk_adds}
 use Rattle.arena_rule.specs.Lookups.{is_known, known_link, told_below, empties_at, IsLoaded, tally_loaded, seen_loaded, record_word}
 
--- Draw: the view stands for one worker, who has_node not ended, has_node no number in hand and holds nothing
+-- Draw: the view stands for one worker, who has not ended, has no number in hand and holds nothing
 pub record FitsDraw (v : SeatView) : Type 0 where
   pub width : v.width ≡ 1
   pub ended : v.ended ≡ 0
@@ -57,7 +57,8 @@ pub record FitsWrite (v : SeatView) (i : ℕ) : Type 0 where
 -- the words of a block that is not linked yet: its header and moves, with links, tallies and seen
 -- words 0
 unfoldable pub block_words : LinkedBlock → List ℕ
-block_words b = map (λ i. if is_header_or_move i then header_or_move b i else 0) (range_with_len 0 (size b))
+block_words b =
+    map (λ i. if is_header_or_move i then header_or_move b i else 0) (range_with_len 0 (size b))
 
 -- Publish: the held block begins at b, and l is the link of a known node before b that may get a
 -- block of its size; what was written is the told block of that node, whole
@@ -84,7 +85,7 @@ pub record IsChosen (v : SeatView) (b : LinkedBlock) (y : ℕ) : Type 0 where
   pub choice : y ≡ child b (pick (search_game v.shape) (tally_loaded v) (seen_loaded v) b b.parent)
 
 -- the first Add of a walk to a leaf: the leaf is a known node other than the root, each node of its
--- path below the root was chosen, and the leaf was loaded with visits below T, or its board has_node no
+-- path below the root was chosen, and the leaf was loaded with visits below T, or its board has no
 -- empty cell, or a claim went past the area's end
 pub record MayBegin (v : SeatView) (leaf : ℕ) : Type 0 where
   pub known : is_known v leaf ≡ true
@@ -132,7 +133,7 @@ FitsStep v (Add i won) = FitsAdd v (record { word = i; won = won })
 FitsStep v (Note k value) = FitsNote v k value
 FitsStep v Done = HasEnded v
 
--- a split: the view has_node drawn nothing, and both parts stand for a worker at least
+-- a split: the view has drawn nothing, and both parts stand for a worker at least
 pub record CanSplit (v : SeatView) (part : ℕ) : Type 0 where
   pub nothing : HasDrawnNothing v
   pub given : 1 ≤ part

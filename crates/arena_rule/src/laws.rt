@@ -9,7 +9,7 @@ ghost use Rattle.arena_rule.specs.Adds.{AddExactly};
 ghost use Rattle.arena_rule.specs.IsView.{IsView};
 ghost use Rattle.arena_rule.specs.Runs.{Arena, RuleHolds, opening_arena, workers_arena};
 ghost use Rattle.arena_rule.specs.Runs.{StepsKeep, StepsMayAnswer, SplitsKeep, JoinsKeep, RunsKeep};
-ghost use Rattle.arena_rule.specs.Shown.{KnowsShown, KeepsKnown, HoldsUnnamed};
+ghost use Rattle.arena_rule.specs.Shown.{KnowsShown, KeepsKnown, HoldsUnnamed, WinsAmongVisits};
 ghost use Rattle.arena_rule.specs.Shown.{StepsKeepOrder, SplitsKeepOrder, JoinsKeepOrder};
 
 /// The law of a step: where a seat's view fits a step, the rule holds after it, and the answer is
@@ -47,6 +47,12 @@ pub fn runs()
 pub fn adds_are_exact()
     ensures { (s : Setting) (blocks : List LinkedBlock) (k leaf : ℕ) → InOrder (root_at s) blocks
         → AddExactly s blocks k leaf }
+{}
+
+/// The law of wins: the wins of a node of the tree are at most its visits, and its seen wins at
+/// most its seen visits. It does nothing.
+pub fn wins_are_among_visits()
+    ensures { (s : Setting) (a : Arena) (rule : RuleHolds s a) → WinsAmongVisits s a rule }
 {}
 
 /// The law of views in order: a step whose answer it may give keeps a view in order, a split both

@@ -2,8 +2,8 @@
 
 use std::marker::Model;
 
-/// A seat's view: what is known of a seat by its own steps. No value of it is made; contracts see it
-/// as a `SeatView`.
+/// A seat's view: what is known of a seat by its own steps. No value of it is made; contracts see
+/// it as a `SeatView`.
 pub struct View {
     nothing: u8,
 }

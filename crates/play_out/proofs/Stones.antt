@@ -1,14 +1,9 @@
 -- Stones in turn lie on the board and apart.
-use Rattle.std.proofs.Common.{◌≡◌, ℕ, ◌*◌, ◌<◌, ◌==◌, ◌&&◌, not, nat_lt, true, false, Bool, ◌⊎◌, List, [], ◌∷◌, sym, ◌∙◌, ap, subst, arith, inl, inr}
-use Rattle.std.proofs.lemmas.Bool.{and_parts, or_cases, false≢true}
-use Rattle.std.proofs.lemmas.Bool.Decides.{nat_tests}
-use Rattle.hex_cells.specs.Sets.{has, with_cell}
+use Rattle.std.proofs.Common.{◌≡◌, ℕ, List, [], ◌∷◌, sym, subst}
 use Rattle.hex_cells.specs.Colours.{other_of}
 use Rattle.hex_cells.specs.declared.colours.Colour.{Colour}
-use Rattle.hex_cells.specs.declared.colours.Colour.TheVariants.{Black, White}
-use Rattle.hex_board.specs.Positions.{Apart, Within, Position, is_empty_at, placed, stones_of}
+use Rattle.hex_board.specs.Positions.{Apart, Within, Position, placed, stones_of}
 use Rattle.play_out.specs.Fills.{ListsEmpties, filled_by}
-use Rattle.hex_cells.proofs.WithCell.{has_with_cell}
 use Rattle.play_out.proofs.Turns.{first_empty, rest_empty, size_after}
 use Rattle.hex_board.proofs.Placed.{placed_within, placed_apart}
 

@@ -1,18 +1,13 @@
 -- Stones on cells in turn: what stays empty, what stays, and the stones of one player.
-use Rattle.std.proofs.Common.{◌≡◌, ℕ, ◌+◌, ◌-◌, ◌*◌, ◌^◌, ◌<◌, ◌≤◌, ◌==◌, ◌&&◌, ◌||◌, not, nat_lt, true, false, Bool, cond, List, [], ◌∷◌, length, drop, get_or, refl, sym, ◌∙◌, ap, arith, inl, inr, suc, add-one, lit<}
-use Rattle.std.proofs.Math.Nat.{one-mul}
+use Rattle.std.proofs.Common.{◌≡◌, ℕ, ◌+◌, ◌<◌, ◌≤◌, ◌==◌, ◌&&◌, not, true, false, Bool, cond, List, [], ◌∷◌, length, drop, get_or, refl, sym, ◌∙◌, ap, arith, inl, inr, suc, add-one}
 use Rattle.std.proofs.Math.Seq.{drop-cons}
 use Rattle.std.proofs.lemmas.List.{drop_all, drop-drop}
 use Rattle.std.specs.List.{count_by}
-use Rattle.std.proofs.lemmas.Bool.{cases_eq, or_left, eq-eqb, ne_eqb}
-use Rattle.std.proofs.lemmas.Bool.Decides.{nat_tests}
+use Rattle.std.proofs.lemmas.Bool.{cases_eq, eq-eqb, ne_eqb}
 use Rattle.hex_cells.specs.Sets.{has, with_cell}
 use Rattle.hex_cells.specs.Colours.{other_of, is_same}
 use Rattle.hex_cells.specs.declared.colours.Colour.{Colour}
 use Rattle.hex_cells.specs.declared.colours.Colour.TheVariants.{Black, White}
-use Rattle.hex_cells.specs.contracts.colours.Colour.{the_type}
-use denote.Enum.Bare.{sameb}
-use Rattle.hex_cells.proofs.Bits.{has_or, has_shl, has_above}
 use Rattle.hex_board.specs.Positions.{Position, is_empty_at, placed, stones_of}
 use Rattle.play_out.specs.Fills.{ListsEmpties, filled_by}
 use Rattle.play_out.proofs.Counting.{counted_here, counted_later}

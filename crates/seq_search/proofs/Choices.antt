@@ -1,5 +1,5 @@
 -- The children of a block from a place on.
-use Rattle.std.proofs.Common.{◌≡◌, ℕ, suc, ◌+◌, ◌*◌, ◌-◌, ◌<◌, ◌≤◌, ◌==◌, cond, nat_lt, List, [], ◌∷◌, ap, ◌∙◌, arith}
+use Rattle.std.proofs.Common.{◌≡◌, ℕ, suc, ◌+◌, ◌*◌, ◌-◌, ◌<◌, cond, nat_lt, List, ◌∷◌, ap, ◌∙◌, arith}
 use Rattle.tree_words.specs.Sequence.{child_of, children_in}
 use Rattle.tree_words.specs.Words.{tally_in, seen_in}
 use Rattle.uct_table.proofs.Choices.{chosen_from}

@@ -1,24 +1,16 @@
 -- Whether a leaf asks for a block.
-use Rattle.std.proofs.Common.{◌≡◌, ℕ, zero, suc, ◌+◌, ◌-◌, ◌*◌, ◌<◌, ◌≤◌, nat_lt, nat_le, Bool, true, false, cond, List, [], ◌∷◌, length, length-append, set, get_or, get_or-set_same, get_or-set_other, refl, sym, ap, ◌∙◌, subst, arith}
+use Rattle.std.proofs.Common.{◌≡◌, ℕ, ◌+◌, ◌-◌, ◌<◌, ◌≤◌, nat_lt, nat_le, Bool, true, false, cond, List, length, set, get_or, get_or-set_same, get_or-set_other, refl, sym, ap, ◌∙◌, subst, arith}
 use Rattle.std.specs.Prelude.{◌&&◌}
-use Rattle.std.specs.List.{filter, range_with_len}
 use Rattle.std.proofs.Math.ListN.{length-set}
-use Rattle.std.proofs.Math.Nat.{mul-le-mul}
 use Rattle.std.proofs.lemmas.Bool.Decides.{nat_tests}
-use Rattle.std.proofs.lemmas.List.Elements.{filter_agree}
-use Rattle.hex_cells.specs.Sets.{has as has_cell, members}
-use Rattle.hex_board.specs.Joined.{cells_of}
-use Rattle.hex_board.specs.Positions.{Position, is_empty_at}
 use Rattle.play_out.specs.Fills.{empties_of}
 use Rattle.tree_words.specs.Settings.{Setting}
 use Rattle.tree_words.specs.Words.{Count, end_of, next_in, tally_in}
-use Rattle.tree_words.specs.Blocks.{LinkedBlock, one_if, size, is_header_or_move, header_or_move}
+use Rattle.tree_words.specs.Blocks.{LinkedBlock, size, is_header_or_move, header_or_move}
 use Rattle.tree_words.specs.Paths.{NodeState}
 use Rattle.tree_words.specs.Sequence.{asks, gets_block, next_after, size_below}
-use Rattle.std.proofs.lemmas.Bool.{false_from_ne_true, and_parts, ltb-true}
-use Rattle.tree_words.specs.Writing.{listed, WritesBlock}
+use Rattle.tree_words.specs.Writing.{WritesBlock}
 use Rattle.seq_search.specs.Writing.{LinksBlock, LinksBelow, Grows, block_below}
-use Rattle.play_out.proofs.Listing.{filter_more}
 use Rattle.tree_words.proofs.NewBlocks.Writes.{block_of}
 use Rattle.tree_words.proofs.Blocks.BlockLaws.{clash}
 

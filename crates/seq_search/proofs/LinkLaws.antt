@@ -1,15 +1,12 @@
 -- The block that the link of a node names, and what stands in it.
-use Rattle.std.proofs.Common.{◌≡◌, ◌≢◌, ◌⊎◌, ℕ, ◌+◌, ◌*◌, ◌≤◌, ◌<◌, true, false, List, [], ◌∷◌, ◌++◌, length, slice_index, refl, sym, ap, ◌∙◌, subst, ⊎_elim, inl, inr, arith}
-use Rattle.std.specs.Prelude.{◌==◌}
+use Rattle.std.proofs.Common.{◌≡◌, ◌≢◌, ℕ, ◌+◌, ◌*◌, ◌≤◌, ◌<◌, true, List, length, slice_index, refl, sym, ap, ◌∙◌, ⊎_elim, arith}
 use Rattle.tree_words.specs.Settings.{Setting}
 use Rattle.tree_words.specs.Words.{root_at, link_in, next_in, move_word, tally_in, seen_in}
 use Rattle.tree_words.specs.Blocks.{LinkedBlock, block_size, child, has_node, place, cell_at, is_node, In, link_of}
 use Rattle.tree_words.specs.Paths.{root_state, state_after, node_state}
 use Rattle.tree_words.specs.Trees.{oldest_first}
-use Rattle.tree_words.specs.Complete.{HaveNodes}
 use Rattle.tree_words.specs.Descents.{Names}
 use Rattle.tree_words.proofs.Walks.Adds.{is_child}
-use Rattle.std.proofs.lemmas.Bool.{or_cases, eqb-true}
 use Rattle.tree_words.proofs.Blocks.BlockLaws.{has-at, move-word, move-stays}
 use Rattle.tree_words.proofs.Walks.Down.{child-has}
 use Rattle.tree_words.proofs.Blocks.GameLaws.{IsWhole, whole-in, in-node, up-in}

@@ -1,12 +1,10 @@
 -- The opening words hold the first tree.
-use Rattle.std.proofs.Common.{◌≡◌, ◌⊎◌, ℕ, ◌+◌, ◌-◌, ◌*◌, ◌<◌, ◌≤◌, List, [], ◌∷◌, length, get_or, ap, ◌∙◌, inr, arith}
-use Rattle.std.specs.Prelude.{◌==◌, ◌&&◌, ◌||◌}
+use Rattle.std.proofs.Common.{◌≡◌, ℕ, ◌<◌, List, [], ◌∷◌, length, get_or, ap, ◌∙◌, inr, arith}
 use Rattle.tree_words.specs.Settings.{Setting, IsSetting}
-use Rattle.tree_words.specs.Words.{Count, count_in, cell_in, root_at, end_of, tally_in, seen_in}
+use Rattle.tree_words.specs.Words.{count_in, cell_in, root_at, end_of, tally_in, seen_in}
 use Rattle.tree_words.specs.Blocks.{LinkedBlock}
 use Rattle.tree_words.specs.Complete.{HasEmpties}
 use Rattle.tree_words.specs.Opening.{root_block, opening_word}
-use Rattle.tree_words.specs.Walks.{nothing, fresh, AtMost}
 use Rattle.tree_words.specs.Trees.{tree_at, tree_of, oldest_first}
 use Rattle.tree_words.specs.Descents.{tree_in, config_of}
 use Rattle.seq_search.specs.Steps.{Holds}

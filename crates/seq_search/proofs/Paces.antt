@@ -31,7 +31,7 @@ use Rattle.tree_words.proofs.Blocks.NodeLaws.{nodes-apart, stays-clear}
 use Rattle.tree_words.proofs.Blocks.Members.{in-turned}
 use Rattle.seq_search.proofs.LinkLaws.{IsBelow, below, node-fits, child-node, child-move, child-spot}
 use Rattle.hex_cells.proofs.Tables.{square_small}
-use Rattle.hex_board.proofs.Placed.{empty_on, placed_size}
+use Rattle.hex_board.proofs.Placed.{empty_on}
 use Rattle.tree_words.proofs.Boards.EmptyLaws.{up-root, cell-of-move, below-empty}
 use Rattle.tree_words.proofs.Walks.Adds.{is_child}
 use Rattle.seq_search.proofs.Additions.{Adding}

@@ -1,33 +1,28 @@
 -- The way of a walk down to its leaf.
-use Rattle.std.proofs.Common.{◌≡◌, ◌≢◌, ℕ, zero, suc, ◌+◌, ◌*◌, ◌≤◌, ◌<◌, Bool, true, false, cond, not, List, [], ◌∷◌, ◌++◌, length, map, take, set, length-set, get_or, slice_index, refl, sym, ap, ◌∙◌, subst, ⊎_elim, append-nil, arith}
-use Rattle.std.specs.Prelude.{◌==◌, ◌||◌, ◌&&◌, nat_lt}
+use Rattle.std.proofs.Common.{◌≡◌, ◌≢◌, ℕ, zero, suc, ◌+◌, ◌*◌, ◌≤◌, ◌<◌, Bool, true, false, List, [], ◌∷◌, ◌++◌, length, take, set, length-set, get_or, slice_index, refl, sym, ap, ◌∙◌, subst, ⊎_elim, append-nil, arith}
+use Rattle.std.specs.Prelude.{◌==◌}
 use Rattle.std.proofs.lemmas.Bool.Decides.{nat_tests}
 use Rattle.std.proofs.lemmas.List.{take_more_set, append_assoc}
-use Rattle.hex_cells.specs.Sets.{has as has_cell, with_cell}
-use Rattle.hex_cells.proofs.Bits.{has_with, with_value}
 use Rattle.hex_cells.specs.Colours.{other_of}
 use Rattle.hex_cells.specs.declared.colours.Colour.{Colour}
-use Rattle.hex_cells.specs.declared.colours.Colour.TheVariants.{Black, White}
 use Rattle.hex_board.specs.Positions.{Position, is_empty_at, placed}
-use Rattle.play_out.specs.Fills.{empties_of}
 use Rattle.uct_table.specs.Choice.{choice_of}
 use Rattle.tree_words.specs.Settings.{Setting, IsSetting}
-use Rattle.tree_words.specs.Words.{Count, root_at, link_in, move_word, cell_in, tally_in, seen_in}
-use Rattle.tree_words.specs.Blocks.{LinkedBlock, one_if, block_size, child, has_node, place, cell_at, is_node, InOrder, up}
+use Rattle.tree_words.specs.Words.{Count, root_at, link_in, cell_in, tally_in, seen_in}
+use Rattle.tree_words.specs.Blocks.{LinkedBlock, one_if, block_size, child, has_node, place, cell_at, is_node}
 use Rattle.tree_words.specs.Paths.{NodeState, root_state, state_after, node_state, node_board}
-use Rattle.tree_words.specs.Complete.{allowed_cells, cells_below}
+use Rattle.tree_words.specs.Complete.{cells_below}
 use Rattle.tree_words.specs.Counts.{count_below}
 use Rattle.tree_words.specs.Trees.{oldest_first}
-use Rattle.tree_words.specs.Sequence.{child_of, chosen_of, search_game, children_in}
-use Rattle.tree_words.specs.Descents.{pairs_of, pick, leaf_inner, state_leaf, state_inner, steps_inner, Bare}
+use Rattle.tree_words.specs.Sequence.{chosen_of, search_game, children_in}
+use Rattle.tree_words.specs.Descents.{pick, leaf_inner, state_leaf, state_inner, steps_inner, Bare}
 use Rattle.tree_words.proofs.Walks.Adds.{is_child}
-use Rattle.std.proofs.lemmas.Bool.{eqb-true, eq-eqb, cases_Bool, and_parts, ltb-true, false_from_ne_true}
-use Rattle.tree_words.proofs.Blocks.BlockLaws.{apart, up_same, clash, root_node}
+use Rattle.std.proofs.lemmas.Bool.{eqb-true, cases_Bool, false_from_ne_true}
+use Rattle.tree_words.proofs.Blocks.BlockLaws.{clash, root_node}
 use Rattle.tree_words.proofs.Walks.Down.{child-has, pick-in}
 use Rattle.tree_words.proofs.Blocks.GameLaws.{up-in, in-node, fair_game}
 use Rattle.tree_words.proofs.Blocks.Links.{down-bare, leaf-link, state-link, steps-link}
 use Rattle.tree_words.proofs.Blocks.Orders.{rooted-turned, link-bare}
-use Rattle.tree_words.proofs.Boards.RootLaws.{filter_at}
 use Rattle.tree_words.specs.Walks.{AtMost}
 use Rattle.seq_search.specs.Steps.{Holds}
 use Rattle.uct_table.specs.declared.scoring.TheConstants.{MOST_COUNT}

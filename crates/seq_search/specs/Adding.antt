@@ -1,9 +1,9 @@
 -- What a walk adds, word by word.
-use Rattle.std.specs.Prelude.{◌≡◌, ◌≢◌, ℕ, ◌+◌, ◌*◌, ◌^◌, ◌<◌, if◌then◌else◌, Bool, true, List, length, slice_index}
+use Rattle.std.specs.Prelude.{◌≡◌, ◌≢◌, ℕ, ◌+◌, ◌*◌, ◌<◌, if◌then◌else◌, true, List, length, slice_index}
 use Rattle.hex_cells.specs.Sets.{has as has_cell}
 use Rattle.tree_words.specs.Settings.{Setting}
 use Rattle.tree_words.specs.Words.{root_at, cell_in, tally_in, seen_in}
-use Rattle.tree_words.specs.Blocks.{LinkedBlock, one_if, is_node}
+use Rattle.tree_words.specs.Blocks.{LinkedBlock, is_node}
 use Rattle.tree_words.specs.Paths.{root_state}
 use Rattle.tree_words.specs.Walks.{plus}
 use Rattle.tree_words.specs.Trees.{oldest_first}

@@ -1,8 +1,6 @@
 -- The children of a block, as Choice reads them.
-use Rattle.std.specs.Prelude.{ℕ, zero, suc, ◌+◌, ◌*◌, ◌<◌, List, [], ◌∷◌}
-use Rattle.uct_table.specs.Choice.{Child}
+use Rattle.std.specs.Prelude.{ℕ, ◌+◌, ◌*◌, ◌<◌, List}
 use Rattle.tree_words.specs.Words.{tally_in, seen_in}
-use Rattle.tree_words.specs.Sequence.{child_of}
 use Rattle.tree_words.specs.Walks.{AtMost}
 use Rattle.tree_words.specs.declared.layout.TheConstants.{NODE_WORDS}
 use Rattle.uct_table.specs.declared.scoring.TheConstants.{MOST_COUNT}

@@ -1,7 +1,7 @@
 -- What a search over plain words keeps between its steps.
 use Rattle.std.specs.Prelude.{◌≡◌, ℕ, ◌+◌, ◌<◌, ◌≤◌, true, List, length, slice_index}
 use Rattle.tree_words.specs.Settings.{Setting}
-use Rattle.tree_words.specs.Words.{Count, root_at, end_of, next_in, record_in, tally_in, seen_in}
+use Rattle.tree_words.specs.Words.{root_at, end_of, next_in, record_in, tally_in, seen_in}
 use Rattle.tree_words.specs.Blocks.{LinkedBlock, is_node}
 use Rattle.tree_words.specs.Complete.{Linked, HaveNodes}
 use Rattle.tree_words.specs.declared.layout.TheConstants.{MOST_BLOCK_WORDS, TICKET_AT, RECORDS_AT, SEEN_WORD}

@@ -1,11 +1,8 @@
 -- The writes of a new block.
 use Rattle.std.specs.Prelude.{◌≡◌, ℕ, ◌+◌, ◌-◌, ◌≤◌, ◌&&◌, if◌then◌else◌, true, false, List, length, slice_index, slice_set}
-use Rattle.std.specs.List.{filter}
-use Rattle.hex_cells.specs.Sets.{has as has_cell}
-use Rattle.hex_board.specs.Joined.{cells_of}
 use Rattle.tree_words.specs.Settings.{Setting}
-use Rattle.tree_words.specs.Words.{move_word, next_in, tally_in}
-use Rattle.tree_words.specs.Blocks.{LinkedBlock, size, covers, has_node, place, cell_at, is_header_or_move, header_or_move}
+use Rattle.tree_words.specs.Words.{next_in, tally_in}
+use Rattle.tree_words.specs.Blocks.{LinkedBlock, covers, is_header_or_move, header_or_move}
 use Rattle.tree_words.specs.Complete.{HasEmpties}
 use Rattle.tree_words.specs.Paths.{NodeState}
 use Rattle.tree_words.specs.Sequence.{gets_block, next_after}

@@ -1,9 +1,9 @@
 -- How a tree has_node grown.
-use Rattle.std.specs.Prelude.{◌≡◌, ℕ, ◌+◌, ◌*◌, ◌≤◌, ◌==◌, not, Bool, true, List, length, sum_by}
+use Rattle.std.specs.Prelude.{◌≡◌, ℕ, ◌+◌, ◌*◌, ◌≤◌, ◌==◌, not, true, List, length, sum_by}
 use Rattle.std.specs.List.{filter}
 use Rattle.hex_board.specs.Positions.{is_empty_at}
 use Rattle.tree_words.specs.Settings.{Setting}
-use Rattle.tree_words.specs.Words.{Count, root_at, area_at, end_of, next_in, tally_in}
+use Rattle.tree_words.specs.Words.{root_at, area_at, end_of, next_in, tally_in}
 use Rattle.tree_words.specs.Blocks.{LinkedBlock, block_size, size, has_node, is_node, In}
 use Rattle.tree_words.specs.Paths.{node_board}
 use Rattle.tree_words.specs.Complete.{allowed_cells}

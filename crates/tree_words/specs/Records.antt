@@ -1,10 +1,9 @@
 -- The records of the playouts.
 use Rattle.std.specs.Prelude.{◌≡◌, ◌≢◌, ℕ, ◌<◌, true, List}
-use Rattle.play_out.specs.Fills.{playout_of}
 use Rattle.tree_words.specs.Settings.{Setting}
 use Rattle.tree_words.specs.Words.{root_at, record_in, leaf_in, winner_in}
 use Rattle.tree_words.specs.Blocks.{LinkedBlock, is_node}
-use Rattle.tree_words.specs.Paths.{NodeState, node_state}
+use Rattle.tree_words.specs.Paths.{node_state}
 use Rattle.play_out.specs.declared.playouts.Ending.{Ending}
 use Rattle.tree_words.specs.Sequence.{outcome_of}
 

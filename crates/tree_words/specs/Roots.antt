@@ -3,10 +3,10 @@ use Rattle.std.specs.Prelude.{◌≡◌, ℕ, ◌+◌, ◌*◌, ◌<◌, ◌≤�
 use Rattle.std.specs.List.Sorted.{IsStrictlyIncreasing}
 use Rattle.std.specs.List.{range_with_len}
 use Rattle.tree_words.specs.Settings.{Setting}
-use Rattle.tree_words.specs.Words.{root_at, cell_in, link_in, tally_in, Count, nodes_in}
+use Rattle.tree_words.specs.Words.{root_at, cell_in, link_in, tally_in, nodes_in}
 use Rattle.tree_words.specs.Complete.{allowed_cells}
 use Rattle.tree_words.specs.declared.roots.Row.{Row}
-use Rattle.tree_words.specs.declared.layout.TheConstants.{NODE_WORDS, HEADER_WORDS, COUNT_WORD, MOST_NODES}
+use Rattle.tree_words.specs.declared.layout.TheConstants.{NODE_WORDS, HEADER_WORDS, MOST_NODES}
 use Rattle.tree_words.specs.Blocks.{block_size}
 use Rattle.hex_cells.specs.declared.board_size.TheConstants.{MOST_CELLS}
 

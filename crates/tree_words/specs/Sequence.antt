@@ -1,8 +1,7 @@
 -- Seq: the search of one worker, as a fold over its playouts.
-use Rattle.std.specs.Prelude.{ℕ, zero, suc, ◌+◌, ◌*◌, ◌^◌, ◌==◌, ◌≤◌, nat_le, nat_lt, ◌&&◌, not, if◌then◌else◌, Bool, List, [], ◌∷◌, length, map, ◌≡◌, ◌≢◌, ◌<◌}
+use Rattle.std.specs.Prelude.{ℕ, zero, suc, ◌+◌, nat_le, nat_lt, ◌&&◌, if◌then◌else◌, Bool, List, [], ◌∷◌, length, map}
 use Rattle.hex_cells.specs.Sets.{has}
-use Rattle.hex_cells.specs.declared.colours.Colour.{Colour}
-use Rattle.hex_board.specs.Positions.{Position, stones_of}
+use Rattle.hex_board.specs.Positions.{stones_of}
 use Rattle.hex_cells.specs.Colours.{is_same}
 use Rattle.uct_table.specs.Choice.{Child, choice_of}
 use Rattle.play_out.specs.Fills.{empties_of, filled, playout_of}

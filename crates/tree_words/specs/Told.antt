@@ -6,7 +6,7 @@ use Rattle.tree_words.specs.Settings.{Setting}
 use Rattle.tree_words.specs.Words.{root_at, link_in}
 use Rattle.tree_words.specs.Blocks.{LinkedBlock, In, is_node}
 use Rattle.tree_words.specs.Paths.{node_board, node_state}
-use Rattle.tree_words.specs.Complete.{Linked, cells_below, set_of}
+use Rattle.tree_words.specs.Complete.{cells_below, set_of}
 
 -- the told block: the block below the node x of the known blocks, newest first, that begins at b
 abbrev pub told_block : Setting → List LinkedBlock → ℕ → ℕ → LinkedBlock

@@ -1,5 +1,5 @@
 -- The writes of a new block.
-use Rattle.std.specs.Prelude.{◌≡◌, ℕ, ◌+◌, ◌-◌, ◌≤◌, ◌&&◌, if◌then◌else◌, List, length, slice_index}
+use Rattle.std.specs.Prelude.{◌≡◌, ℕ, ◌-◌, ◌&&◌, if◌then◌else◌, List, length, slice_index}
 use Rattle.std.specs.List.{filter}
 use Rattle.hex_cells.specs.Sets.{has as has_cell}
 use Rattle.hex_board.specs.Joined.{cells_of}

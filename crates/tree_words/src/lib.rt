@@ -9,15 +9,23 @@
 //! and of a header.
 //!
 //! **A caller** makes a [`Shape`], searches, and asks of the [`Closed`] tree the [`best`] cell or a
-//! [`report`] of all. A reader of words takes them apart by [`node`] and [`block`]. [`Op`] names
-//! the steps of a worker.
+//! [`report`] of all. A search writes the opening words by [`write_opening`] and a new block by
+//! [`write_block`]. A reader of words takes them apart by [`node`] and [`block`]; [`layout`] says
+//! where each part stands. [`Op`] names the steps of a worker.
 //!
 //! **What is proved.** A closed tree keeps what its name says: complete blocks that share no word,
 //! a right record of each playout, exact counts, bounds of growth. `best` is the root's child with
 //! most visits and of these the least cell, and `report` has a row for each in rising order of
-//! cells. Each reading gives the fields of the layout. The definitions in `specs/` are what the
-//! crates above are proved against: the layout, the tree that words show, and the search of one
-//! worker.
+//! cells. Each reading gives the fields of the layout, and each write the words of its block and no
+//! others. Laws say that the opening words are a function of the setting
+//! ([`opening_words_are_told`]), that a link and its node's board tell the linked block
+//! ([`told_blocks_are_linked`]), and that words show one tree ([`words_show_one_tree`]). The
+//! definitions in `specs/` are what the crates above are proved against: the layout, the tree that
+//! words show, and the search of one worker.
+//!
+//! **Where to look.** specs/ has the layout (Settings, Words, Blocks, Writing, Opening), the closed
+//! tree (Paths, Complete, Records, Counts, Growth, Closing, Roots, Told) and the walk (Trees,
+//! Walks, Sequence, Descents). proofs/ has a folder for each kind of law.
 //!
 //! **What is only tested, or not said.** How strong a tree plays; that `report` gets its memory.
 //!

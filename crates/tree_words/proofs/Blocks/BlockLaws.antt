@@ -1,10 +1,10 @@
 -- What is_header_or_move when a block is put before the others.
-use Rattle.std.proofs.Common.{◌≡◌, ◌≢◌, ◌⊎◌, ℕ, zero, suc, ◌+◌, ◌-◌, ◌*◌, ◌/◌, ◌%◌, ◌≤◌, ◌<◌, Bool, true, false, cond, List, [], ◌∷◌, length, get_or, refl, sym, ap, ◌∙◌, subst, ⊎_elim, inl, inr, arith}
-use Rattle.std.specs.Prelude.{sum_by, ◌==◌, nat_lt, nat_le, ◌&&◌, ◌||◌, if◌then◌else◌}
+use Rattle.std.proofs.Common.{◌≡◌, ◌⊎◌, ℕ, zero, suc, ◌+◌, ◌-◌, ◌*◌, ◌/◌, ◌%◌, ◌≤◌, ◌<◌, Bool, true, false, cond, List, [], ◌∷◌, length, get_or, refl, ap, ⊎_elim, inl, inr, arith}
+use Rattle.std.specs.Prelude.{◌==◌, nat_lt, nat_le, ◌&&◌}
 use Rattle.std.proofs.lemmas.Bool.Decides.{nat_tests}
 use Rattle.std.proofs.lemmas.List.Sums.{sum_by-cons}
 use Rattle.tree_words.specs.Words.{move_word}
-use Rattle.tree_words.specs.Blocks.{LinkedBlock, one_if, size, covers, has_node, up, is_node, link_of, header_or_move, is_header_or_move, cover, Follows, InOrder, In}
+use Rattle.tree_words.specs.Blocks.{LinkedBlock, one_if, size, covers, has_node, up, is_node, header_or_move, is_header_or_move, cover, Follows}
 use Rattle.std.proofs.lemmas.Bool.{eq-eqb, and_parts, leb-true, ltb-true, eqb-true, or_cases, false_from_ne_true, both_ways, or_right}
 
 -- no test is both

@@ -1,20 +1,19 @@
 -- The search of Hex, and what is gathered from a node up.
-use Rattle.std.proofs.Common.{◌≡◌, ◌⊎◌, ℕ, suc, ◌+◌, ◌*◌, ◌<◌, ◌≤◌, Bool, true, false, cond, List, [], ◌∷◌, length, map, refl, sym, ap, ◌∙◌, subst, ⊎_elim, inl, inr, arith}
-use Rattle.std.specs.Prelude.{◌||◌, ◌==◌}
+use Rattle.std.proofs.Common.{◌≡◌, ℕ, ◌+◌, ◌<◌, ◌≤◌, Bool, true, false, cond, List, [], ◌∷◌, length, map, sym, ap, ◌∙◌, subst, ⊎_elim, arith}
+use Rattle.std.specs.Prelude.{◌==◌}
 use Rattle.std.proofs.lemmas.List.{length-map}
 use Rattle.uct_table.specs.Choice.{Child, choice_of}
 use Rattle.uct_table.proofs.ChoiceLaws.{choice_of-lt}
 use Rattle.tree_words.specs.Settings.{Setting}
 use Rattle.tree_words.specs.Words.{Count, root_at, area_at, end_of}
-use Rattle.tree_words.specs.Blocks.{LinkedBlock, block_size, size, has_node, place, cell_at, up, is_node, In, Follows, InOrder}
+use Rattle.tree_words.specs.Blocks.{LinkedBlock, size, has_node, place, cell_at, up, is_node, In, Follows, InOrder}
 use Rattle.tree_words.specs.Paths.{NodeState, root_state, state_after, node_state, node_board}
-use Rattle.tree_words.specs.Complete.{HasEmpties, IsComplete, AreComplete, cells_below, allowed_cells}
+use Rattle.tree_words.specs.Complete.{HasEmpties, AreComplete, cells_below, allowed_cells}
 use Rattle.play_out.specs.Fills.{empties_of}
-use Rattle.play_out.specs.declared.playouts.Ending.{Ending}
 use Rattle.tree_words.specs.Sequence.{child_of, chosen_of, asks, next_after, size_below, search_game}
-use Rattle.tree_words.proofs.Blocks.BlockLaws.{apart, up_same, root_node}
+use Rattle.tree_words.proofs.Blocks.BlockLaws.{apart, up_same}
 use Rattle.tree_words.proofs.Walks.Down.{Fair}
-use Rattle.std.proofs.lemmas.Bool.{or_left, or_right, eq-eqb}
+use Rattle.std.proofs.lemmas.Bool.{or_left, or_right}
 
 choice_below : (p c : ℕ) (xs : List Child) → 0 < length xs → choice_of p c xs < length xs
 choice_below p c [] l = absurd (omega arith)

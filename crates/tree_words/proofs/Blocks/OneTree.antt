@@ -1,12 +1,12 @@
 -- The words show one tree: what two lists of blocks that they link have in common.
-use Rattle.std.proofs.Common.{◌≡◌, ◌⊎◌, ℕ, zero, suc, ◌+◌, ◌*◌, ◌<◌, ◌≤◌, Bool, true, false, cond, List, [], ◌∷◌, length, get_or, refl, sym, ap, ◌∙◌, subst, ⊎_elim, inl, inr, arith}
+use Rattle.std.proofs.Common.{◌≡◌, ℕ, zero, suc, ◌+◌, ◌<◌, ◌≤◌, Bool, true, false, cond, List, [], ◌∷◌, get_or, refl, sym, ap, ◌∙◌, subst, ⊎_elim, inl, inr, arith}
 use Rattle.std.specs.Prelude.{◌==◌, slice_index}
 use Rattle.std.proofs.lemmas.Bool.{cases_eq, eq-eqb, ne_eqb}
 use Rattle.tree_words.specs.Settings.{Setting}
 use Rattle.tree_words.specs.Words.{Count, root_at, area_at, end_of, next_in, link_in, cell_in, tally_in, seen_in}
-use Rattle.tree_words.specs.Blocks.{LinkedBlock, child, has_node, In, InOrder, Follows, is_node, link_of}
+use Rattle.tree_words.specs.Blocks.{LinkedBlock, has_node, In, InOrder, is_node, link_of}
 use Rattle.tree_words.specs.Complete.{AreComplete, Linked}
-use Rattle.tree_words.specs.Walks.{Tree, node, Children, done}
+use Rattle.tree_words.specs.Walks.{Tree, node, Children}
 use Rattle.tree_words.specs.Trees.{oldest_first, down, row_of, tree_leaf, tree_inner, tree_at, tree_of}
 use Rattle.tree_words.specs.Descents.{Names}
 use Rattle.tree_words.specs.Told.{told_block, Knows, AreAmong}

@@ -1,12 +1,12 @@
 -- The blocks oldest first.
 use Rattle.std.proofs.Common.{◌≡◌, ◌⊎◌, ℕ, ◌<◌, Bool, true, false, cond, List, [], ◌∷◌, ◌++◌, length, refl, sym, ap, ◌∙◌, ⊎_elim, inl, inr, arith}
-use Rattle.std.specs.Prelude.{◌==◌, ◌||◌}
+use Rattle.std.specs.Prelude.{◌==◌}
 use Rattle.tree_words.specs.Blocks.{LinkedBlock, has_node, is_node, link_of, Follows, InOrder}
 use Rattle.tree_words.specs.Trees.{oldest_first}
 use Rattle.tree_words.specs.Complete.{HaveNodes}
 use Rattle.tree_words.specs.Descents.{Out, Sprouts, Rooted, Names, Inside, Bare}
 use Rattle.std.proofs.lemmas.Bool.{eqb-true, cases_Bool, or_right, or_left}
-use Rattle.tree_words.proofs.Blocks.BlockLaws.{apart, clash as clash}
+use Rattle.tree_words.proofs.Blocks.BlockLaws.{apart}
 use Rattle.tree_words.proofs.Walks.WalkLaws.{out-snoc}
 
 pub inside-snoc : (n : LinkedBlock) (os : List LinkedBlock) (x : ℕ) → Inside (os ++ n ∷ []) x → (Inside os x) ⊎ (has_node n x ≡ true)

@@ -1,8 +1,8 @@
 -- What is gathered over the known blocks is what is gathered over all, and the told block is the linked one.
-use Rattle.std.proofs.Common.{◌≡◌, ◌⊎◌, ℕ, ◌<◌, ◌≤◌, Bool, true, false, cond, List, [], ◌∷◌, ◌++◌, refl, sym, ap, ◌∙◌, subst, ⊎_elim, inl, inr, arith}
+use Rattle.std.proofs.Common.{◌≡◌, ℕ, ◌<◌, ◌≤◌, Bool, true, false, cond, List, [], ◌∷◌, ◌++◌, refl, sym, ap, ◌∙◌, subst, ⊎_elim, inl, inr, arith}
 use Rattle.std.specs.Prelude.{◌||◌, ◌==◌}
 use Rattle.hex_cells.proofs.Bits.{same_set}
-use Rattle.hex_board.specs.Positions.{Position, is_empty_at}
+use Rattle.hex_board.specs.Positions.{Position}
 use Rattle.play_out.specs.Fills.{empties_of}
 use Rattle.tree_words.specs.Settings.{Setting}
 use Rattle.tree_words.specs.Words.{root_at, next_in, link_in}

@@ -1,16 +1,16 @@
 -- The empty cells of a board: as a set, in a list, and how many they are.
-use Rattle.std.proofs.Common.{◌≡◌, ◌≢◌, ℕ, zero, suc, ◌+◌, ◌*◌, ◌≤◌, ◌<◌, Bool, true, false, cond, not, List, [], ◌∷◌, ◌++◌, length, set, get_or, refl, sym, ap, ◌∙◌, subst, ⊎_elim, arith, ◌-◌, nat_lt, length-append}
-use Rattle.std.specs.Prelude.{◌==◌, ◌||◌, ◌&&◌, nat_lt}
+use Rattle.std.proofs.Common.{◌≡◌, ℕ, zero, suc, ◌+◌, ◌*◌, ◌≤◌, ◌<◌, Bool, true, false, cond, List, [], ◌∷◌, length, set, get_or, refl, sym, ap, ◌∙◌, subst, ⊎_elim, arith, ◌-◌, length-append}
+use Rattle.std.specs.Prelude.{◌==◌}
 use Rattle.hex_cells.specs.Sets.{has as has_cell, members}
 use Rattle.hex_cells.proofs.Bits.{below_from_items}
 use Rattle.hex_board.specs.Positions.{Position, is_empty_at}
 use Rattle.play_out.specs.Fills.{empties_of}
 use Rattle.tree_words.specs.Settings.{Setting, IsSetting}
 use Rattle.tree_words.specs.Words.{root_at, move_word, cell_in}
-use Rattle.tree_words.specs.Blocks.{LinkedBlock, one_if, has_node, place, cell_at, InOrder, up, size}
+use Rattle.tree_words.specs.Blocks.{LinkedBlock, one_if, place, cell_at, InOrder, up}
 use Rattle.tree_words.specs.Paths.{NodeState, root_state, state_after, node_board}
 use Rattle.tree_words.specs.Complete.{allowed_cells, cells_below, HasEmpties}
-use Rattle.std.proofs.lemmas.Bool.{eqb-true, cases_Bool, and_parts, ltb-true, false_from_ne_true}
+use Rattle.std.proofs.lemmas.Bool.{eqb-true, cases_Bool, false_from_ne_true}
 use Rattle.tree_words.proofs.Blocks.BlockLaws.{apart, up_same, root_node}
 use Rattle.tree_words.proofs.Boards.RootLaws.{filter_at}
 use Rattle.std.specs.List.{filter, range_with_len}

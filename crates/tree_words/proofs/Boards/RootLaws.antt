@@ -1,9 +1,9 @@
 -- The root's block of a closed tree.
-use Rattle.std.proofs.Common.{◌≡◌, ◌⊎◌, ℕ, zero, suc, ◌+◌, ◌-◌, ◌*◌, ◌/◌, ◌%◌, ◌<◌, ◌≤◌, Bool, true, false, cond, List, [], ◌∷◌, ◌++◌, length, get_or, take, map, refl, sym, ap, ◌∙◌, subst, ⊎_elim, inl, inr, arith}
-use Rattle.std.specs.Prelude.{◌==◌, ◌||◌}
+use Rattle.std.proofs.Common.{◌≡◌, ℕ, zero, suc, ◌+◌, ◌*◌, ◌%◌, ◌<◌, ◌≤◌, Bool, true, false, cond, List, [], ◌∷◌, length, get_or, refl, sym, ap, ◌∙◌, subst, ⊎_elim, inl, inr, arith}
+use Rattle.std.specs.Prelude.{◌==◌}
 use Rattle.std.specs.List.{filter, range_with_len}
 use Rattle.std.specs.List.Sorted.{IsStrictlyIncreasing}
-use Rattle.std.proofs.lemmas.Bool.{cases_lt, eqb-true, eq-eqb, cases_Bool, ltb-true, and_parts}
+use Rattle.std.proofs.lemmas.Bool.{cases_lt, eqb-true, eq-eqb, cases_Bool}
 use Rattle.std.proofs.lemmas.List.Kept.{IsStrictlyIncreasing-filter}
 use Rattle.std.proofs.lemmas.List.FromFn.{length-range_with_len, get_or-range_with_len}
 use Rattle.std.proofs.lemmas.List.Sums.{length-filter, count_by-le-length}
@@ -11,13 +11,12 @@ use Rattle.std.proofs.Math.Nat.{mul-le-mul}
 use Rattle.std.proofs.lemmas.Bool.Decides.{nat_tests}
 use Rattle.hex_cells.specs.Sets.{has as has_cell}
 use Rattle.hex_board.specs.Joined.{cells_of}
-use Rattle.hex_board.specs.Positions.{Position, is_empty_at}
 use Rattle.play_out.specs.Fills.{empties_of}
 use Rattle.tree_words.specs.Paths.{node_board}
 use Rattle.tree_words.specs.Settings.{Setting, IsSetting}
-use Rattle.tree_words.specs.Words.{root_at, area_at, end_of, next_in, link_in, cell_in, move_word}
-use Rattle.tree_words.specs.Blocks.{LinkedBlock, size, block_size, In, InOrder, Follows, is_node, link_of}
-use Rattle.tree_words.specs.Complete.{IsComplete, AreComplete, Linked, cells_below, allowed_cells}
+use Rattle.tree_words.specs.Words.{root_at, next_in, cell_in, move_word}
+use Rattle.tree_words.specs.Blocks.{LinkedBlock, In, InOrder, is_node, link_of}
+use Rattle.tree_words.specs.Complete.{IsComplete, AreComplete, allowed_cells}
 use Rattle.tree_words.specs.Records.{leaf_of}
 use Rattle.tree_words.specs.Closing.{IsClosed}
 use Rattle.tree_words.specs.Roots.{root_link, root_count, row_at, HasRoot}

@@ -1,16 +1,15 @@
 -- The number of the set of a board's empty cells.
-use Rattle.std.proofs.Common.{◌≡◌, ℕ, suc, ◌+◌, ◌*◌, ◌^◌, ◌<◌, ◌≤◌, ◌==◌, Bool, true, false, cond, List, [], ◌∷◌, length, get_or, count_by, nat_lt, refl, sym, ap, ◌∙◌, ⊎_elim, mul-le-mul, arith}
+use Rattle.std.proofs.Common.{◌≡◌, ℕ, ◌+◌, ◌≤◌, ◌==◌, Bool, true, false, cond, List, [], ◌∷◌, count_by, nat_lt, refl, sym, ap, ◌∙◌, ⊎_elim, arith}
 use Rattle.std.specs.Prelude.{◌||◌}
 use Rattle.std.proofs.lemmas.Bool.Decides.{nat_tests}
-use Rattle.hex_cells.specs.Sets.{has as has_cell, with_cell}
-use Rattle.hex_cells.proofs.Bits.{has_with, with_value, has_none}
+use Rattle.hex_cells.specs.Sets.{has as has_cell}
+use Rattle.hex_cells.proofs.Bits.{has_none}
 use Rattle.hex_board.specs.Positions.{Position, is_empty_at}
 use Rattle.play_out.specs.Fills.{empties_of}
 use Rattle.play_out.proofs.Counting.{empties_listed, counted_here, counted_later}
 use Rattle.tree_words.specs.Complete.{HasEmpties, set_of}
 use Rattle.std.proofs.lemmas.Bool.{eqb-true, eq-eqb, cases_Bool}
 use Rattle.tree_words.proofs.Blocks.BlockLaws.{clash}
-use Rattle.tree_words.proofs.Boards.RootLaws.{filter_at}
 use Rattle.tree_words.proofs.Boards.EmptyLaws.{has-empties}
 use Rattle.hex_cells.proofs.WithCell.{has_with_cell}
 

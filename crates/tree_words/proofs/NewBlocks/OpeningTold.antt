@@ -1,5 +1,5 @@
 -- The opening words are told by the setting.
-use Rattle.std.proofs.Common.{◌≡◌, ℕ, ◌+◌, ◌<◌, ◌≤◌, List, [], ◌∷◌, length, map, get_or, sym, ap, ◌∙◌, subst, arith}
+use Rattle.std.proofs.Common.{◌≡◌, ℕ, ◌<◌, List, [], ◌∷◌, length, get_or, sym, ap, ◌∙◌, subst, arith}
 use Rattle.std.specs.List.{range_with_len}
 use Rattle.std.proofs.lemmas.List.{ext_get_or, length-map}
 use Rattle.std.proofs.lemmas.List.FromFn.{length-range_with_len, get_or-map-range_with_len}
@@ -7,8 +7,7 @@ use Rattle.hex_cells.proofs.Bits.{same_set}
 use Rattle.play_out.specs.Fills.{empties_of}
 use Rattle.tree_words.specs.Settings.{Setting, IsSetting}
 use Rattle.tree_words.specs.Words.{end_of}
-use Rattle.tree_words.specs.Blocks.{LinkedBlock}
-use Rattle.tree_words.specs.Complete.{HasEmpties, HaveNodes, Linked, set_of}
+use Rattle.tree_words.specs.Complete.{HaveNodes, Linked, set_of}
 use Rattle.tree_words.specs.Opening.{root_block, opening_word, opening_words, AreOpening, ShowRootBlock}
 use Rattle.tree_words.proofs.NewBlocks.OpeningLaws.{opening-linked, opening-nodes}
 use Rattle.tree_words.proofs.Boards.SetNumbers.{set-has_empties}

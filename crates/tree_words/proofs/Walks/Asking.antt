@@ -2,9 +2,7 @@
 use Rattle.std.proofs.Common.{◌≡◌, ℕ, ◌+◌, ◌*◌, ◌<◌, ◌≤◌, Bool, true, false, cond, List, [], ◌∷◌, ◌++◌, length, refl, sym, ap, ◌∙◌, ⊎_elim, arith}
 use Rattle.std.specs.Prelude.{◌==◌, ◌&&◌, nat_le, nat_lt}
 use Rattle.std.proofs.lemmas.Bool.Decides.{nat_tests}
-use Rattle.hex_cells.specs.declared.colours.Colour.{Colour}
-use Rattle.hex_cells.specs.declared.colours.Colour.TheVariants.{Black, White}
-use Rattle.hex_board.specs.Positions.{Position, is_empty_at, placed}
+use Rattle.hex_board.specs.Positions.{Position, is_empty_at}
 use Rattle.play_out.specs.Fills.{empties_of}
 use Rattle.tree_words.specs.Settings.{Setting}
 use Rattle.tree_words.specs.Words.{Count, end_of}
@@ -15,7 +13,7 @@ use Rattle.tree_words.specs.Walks.{nothing, Game, leaf_state}
 use Rattle.play_out.specs.declared.playouts.Ending.{Ending}
 use Rattle.tree_words.specs.Sequence.{size_below, asks, gets_block, next_after, search_game}
 use Rattle.tree_words.specs.Descents.{Config, walk_end, NewBlock, Widened, pick, leaf_inner, leaf_at, state_leaf, state_inner, state_at, top, Out, Sprouts}
-use Rattle.std.proofs.lemmas.Bool.{and_parts, leb-true, ltb-true, eq-eqb, cases_Bool}
+use Rattle.std.proofs.lemmas.Bool.{and_parts, leb-true, eq-eqb, cases_Bool}
 use Rattle.tree_words.proofs.Boards.RootLaws.{filter_some, few_cells}
 use Rattle.tree_words.proofs.Walks.Down.{Fair, child-has, pick-in, down-here, down-else, same-under}
 use Rattle.tree_words.proofs.Walks.Expands.{state-tree}

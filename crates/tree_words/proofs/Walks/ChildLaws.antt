@@ -1,6 +1,5 @@
 -- The children of a block, as Choice reads them.
-use Rattle.std.proofs.Common.{◌≡◌, ◌≢◌, ℕ, ◌+◌, ◌*◌, ◌≤◌, ◌<◌, List, [], ◌∷◌, ◌++◌, length, map, refl, ap, ◌∙◌}
-use Rattle.std.specs.Prelude.{◌==◌, ◌||◌, ◌&&◌}
+use Rattle.std.proofs.Common.{◌≡◌, ℕ, ◌+◌, List, [], ◌∷◌, length, map, refl, ap}
 use Rattle.tree_words.specs.Words.{tally_in, seen_in}
 use Rattle.tree_words.specs.Sequence.{child_of, children_in}
 use Rattle.tree_words.specs.Descents.{pairs_of}

@@ -1,14 +1,13 @@
 -- The counts along the way of a walk.
-use Rattle.std.proofs.Common.{◌≡◌, ◌≢◌, ℕ, ◌+◌, ◌≤◌, ◌<◌, ◌^◌, Bool, true, false, cond, List, [], ◌∷◌, ◌++◌, length, slice_index, refl, sym, ap, ◌∙◌, ⊎_elim, inl, inr, arith}
+use Rattle.std.proofs.Common.{◌≡◌, ℕ, ◌+◌, ◌≤◌, ◌<◌, ◌^◌, Bool, true, false, cond, List, [], ◌∷◌, ◌++◌, refl, sym, ap, ◌∙◌, ⊎_elim, inl, inr, arith}
 use Rattle.std.specs.Prelude.{◌==◌}
 use Rattle.hex_cells.specs.Sets.{has as has_cell}
-use Rattle.hex_cells.specs.declared.colours.Colour.{Colour}
 use Rattle.hex_cells.specs.Colours.{is_same}
 use Rattle.hex_board.specs.Positions.{stones_of}
 use Rattle.tree_words.specs.Settings.{Setting}
-use Rattle.tree_words.specs.Words.{Count, root_at, count_in, visits_in, wins_in, tally_in, seen_in}
-use Rattle.tree_words.specs.Blocks.{LinkedBlock, child, has_node, place, cell_at, is_node, In, InOrder}
-use Rattle.tree_words.specs.Paths.{NodeState, root_state, state_after, mover_at, node_state}
+use Rattle.tree_words.specs.Words.{Count, count_in, visits_in, wins_in}
+use Rattle.tree_words.specs.Blocks.{LinkedBlock, child, has_node, place, cell_at, In, InOrder}
+use Rattle.tree_words.specs.Paths.{NodeState, state_after, mover_at}
 use Rattle.tree_words.specs.Walks.{nothing, plus, AtMost}
 use Rattle.tree_words.specs.Trees.{oldest_first}
 use Rattle.play_out.specs.declared.playouts.Ending.{Ending}

@@ -1,13 +1,13 @@
 -- What is found from a node down.
-use Rattle.std.proofs.Common.{◌≡◌, ◌⊎◌, ℕ, zero, suc, ◌+◌, ◌-◌, ◌*◌, ◌/◌, ◌%◌, ◌<◌, ◌≤◌, Bool, true, false, cond, List, [], ◌∷◌, length, get_or, refl, sym, ap, ◌∙◌, ⊎_elim, inl, inr, add-zero, arith}
+use Rattle.std.proofs.Common.{◌≡◌, ℕ, zero, suc, ◌+◌, ◌-◌, ◌*◌, ◌%◌, ◌<◌, ◌≤◌, Bool, true, false, cond, List, [], ◌∷◌, length, get_or, refl, sym, ap, ◌∙◌, ⊎_elim, add-zero, arith}
 use Rattle.std.specs.Prelude.{◌==◌, nat_lt, nat_le, ◌&&◌}
 use Rattle.std.proofs.lemmas.Bool.Decides.{nat_tests}
 use Rattle.tree_words.specs.Words.{Count}
-use Rattle.tree_words.specs.Blocks.{LinkedBlock, child, has_node, place, cell_at}
-use Rattle.tree_words.specs.Walks.{nothing, plus, Tree, node, Children, done, more, Game, node_cell, counts_of, lit, pairs, pass, add, add_row}
+use Rattle.tree_words.specs.Blocks.{LinkedBlock, child, has_node, place}
+use Rattle.tree_words.specs.Walks.{nothing, plus, Tree, node, done, more, Game, node_cell, counts_of, lit, pairs, pass, add, add_row}
 use Rattle.tree_words.specs.Trees.{down, row_of, tree_leaf, tree_inner, tree_at}
 use Rattle.tree_words.specs.Descents.{pairs_of, pick, adds_leaf, adds_inner, adds, sees_leaf, sees_inner, sees, top, Out, Sprouts}
-use Rattle.std.proofs.lemmas.Bool.{false_from_ne_true, eqb-true, eq-eqb, ne_eqb, cases_Bool}
+use Rattle.std.proofs.lemmas.Bool.{false_from_ne_true, eqb-true, ne_eqb, cases_Bool}
 use Rattle.tree_words.proofs.Blocks.BlockLaws.{clash}
 
 -- what a game keeps: the chosen child is one of the children, and `next` false_from_ne_true falls

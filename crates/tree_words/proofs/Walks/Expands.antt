@@ -3,7 +3,7 @@ use Rattle.std.proofs.Common.{◌≡◌, ℕ, zero, suc, ◌+◌, ◌*◌, ◌<�
 use Rattle.std.specs.Prelude.{◌==◌}
 use Rattle.tree_words.specs.Words.{Count}
 use Rattle.tree_words.specs.Blocks.{LinkedBlock, child, has_node, cell_at}
-use Rattle.tree_words.specs.Walks.{nothing, plus, Tree, node, Children, done, more, Game, node_cell, pairs, is_bare, fresh, leaf_state, leaf_row, expand, expand_row}
+use Rattle.tree_words.specs.Walks.{nothing, Tree, node, Children, done, more, Game, node_cell, pairs, is_bare, fresh, leaf_state, leaf_row, expand, expand_row}
 use Rattle.tree_words.specs.Trees.{row_of, tree_leaf, tree_inner, tree_at}
 use Rattle.tree_words.specs.Descents.{pick, leaf_inner, leaf_at, state_leaf, state_inner, state_at, top, Out, Sprouts}
 use Rattle.std.proofs.lemmas.Bool.{eqb-true, eq-eqb, ne_eqb, cases_Bool}

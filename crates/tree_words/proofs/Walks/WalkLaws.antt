@@ -1,12 +1,12 @@
 -- One walk on the blocks is one walk on the tree.
-use Rattle.std.proofs.Common.{◌≡◌, ◌⊎◌, ℕ, zero, suc, ◌+◌, ◌*◌, ◌≤◌, ◌<◌, Bool, true, false, cond, List, [], ◌∷◌, ◌++◌, length, refl, sym, ap, ◌∙◌, subst, ⊎_elim, arith}
+use Rattle.std.proofs.Common.{◌≡◌, ℕ, ◌+◌, ◌*◌, ◌≤◌, ◌<◌, Bool, true, false, cond, List, [], ◌∷◌, ◌++◌, length, refl, sym, ap, ◌∙◌, subst, ⊎_elim, arith}
 use Rattle.std.specs.Prelude.{◌==◌, nat_lt, nat_le, ◌&&◌}
 use Rattle.std.proofs.lemmas.Bool.Decides.{nat_tests}
 use Rattle.tree_words.specs.Words.{Count}
 use Rattle.tree_words.specs.Blocks.{LinkedBlock, child, has_node, size, cell_at}
-use Rattle.tree_words.specs.Walks.{nothing, plus, Tree, node, Children, done, Game, pairs, fresh, leaf_state, add, expand, expand_row, added, walk}
+use Rattle.tree_words.specs.Walks.{nothing, Tree, node, Children, done, Game, pairs, fresh, leaf_state, add, expand, expand_row, added, walk}
 use Rattle.tree_words.specs.Trees.{row_of, tree_leaf, tree_inner, tree_at}
-use Rattle.tree_words.specs.Descents.{Config, tree_in, walk_end, NewBlock, Widened, Added, EndsBy, Fine, pick, state_leaf, state_inner, state_at, top, Out, Sprouts}
+use Rattle.tree_words.specs.Descents.{Config, tree_in, walk_end, NewBlock, Widened, Added, EndsBy, Fine, pick, state_leaf, state_inner, state_at, Out, Sprouts}
 use Rattle.std.proofs.lemmas.Bool.{and_parts, cases_Bool, false_from_ne_true}
 use Rattle.tree_words.proofs.Walks.Down.{Fair, down-here, down-else, cell-tree, pairs-row, same-under}
 use Rattle.tree_words.proofs.Walks.Adds.{add-tree}

@@ -1,7 +1,5 @@
-use Rattle.std.proofs.Common.{◌≡◌, ◌+◌, ◌*◌, length, subst, ap, ◌∙◌, arith}
+use Rattle.std.proofs.Common.{◌≡◌, ◌*◌, subst, ap, ◌∙◌, arith}
 use Rattle.play_out.proofs.Listing.{Listed, listed_next, rest_next, listed_few, all_cells, all_counted}
-use Rattle.hex_cells.specs.Sets.{has}
-use Rattle.hex_board.specs.Positions.{is_empty_at}
 use Rattle.play_out.proofs.order.list_empties.Goals as goal
 
 -- the listed cells are no more than those that were gone over

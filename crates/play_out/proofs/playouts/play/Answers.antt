@@ -1,5 +1,5 @@
-use Rattle.std.proofs.Common.{◌≡◌, ap, ◌∙◌}
-use Rattle.play_out.proofs.Filling.{result_is, filled_size}
+use Rattle.std.proofs.Common.{ap, ◌∙◌}
+use Rattle.play_out.proofs.Filling.{result_is}
 use Rattle.play_out.proofs.playouts.play.Goals as goal
 
 pub returns-clause-winner : goal.returns-clause-winner

@@ -1,7 +1,5 @@
-use Rattle.std.proofs.Common.{◌≡◌, ◌+◌, ◌*◌, ◌<◌, drop, slice_index, sym, ap, subst, ◌∙◌, refl, arith}
+use Rattle.std.proofs.Common.{◌+◌, drop, ap, refl, arith}
 use Rattle.seq_search.specs.Descending.{steps_in}
-use Rattle.tree_words.specs.Words.{cell_in}
-use Rattle.seq_search.specs.Adding.{node_at}
 use Rattle.seq_search.proofs.Paces.{gained-is, pace-short, adds-begin, pace-fits, pace-room, may-see, pace, pace-last, step-left, none-left}
 use Rattle.hex_cells.proofs.Tables.{square_small}
 use Rattle.seq_search.proofs.adding.count.Goals as goal

@@ -1,7 +1,6 @@
-use Rattle.std.proofs.Common.{◌≡◌, ◌+◌, ◌*◌, ◌≤◌, List, subst, ap, ◌∙◌, length, get_or, arith, ℕ}
+use Rattle.std.proofs.Common.{List, subst, ℕ}
 use Rattle.tree_words.specs.Closing.{IsClosed}
 use Rattle.tree_words.specs.Settings.{Setting, IsSetting}
-use Rattle.tree_words.specs.Roots.{root_link, root_count}
 use Rattle.tree_words.proofs.Boards.RootLaws.{has_root}
 use Rattle.tree_words.proofs.closed_tree.Closed.root_link.Goals as goal
 
