@@ -1,7 +1,6 @@
 -- Each step keeps FirstVisits: a walk begins at a child without visits, as long as its block has one.
-use Rattle.std.proofs.Common.{◌≡◌, ◌≢◌, ◌⊎◌, ℕ, ◌+◌, ◌-◌, ◌*◌, ◌≤◌, ◌<◌, Bool, true, false, cond, List, [], ◌∷◌, length, Option, Some, None, refl, sym, ap, ◌∙◌, subst, ⊎_elim, inl, inr, arith}
-use Rattle.std.specs.Prelude.{◌==◌, slice_index, count_by, Contains}
-use Rattle.std.specs.List.{list_any}
+use Rattle.std.proofs.Common.{◌≡◌, ◌⊎◌, ℕ, ◌+◌, ◌-◌, ◌≤◌, Bool, true, false, cond, List, ◌∷◌, Option, Some, None, refl, sym, ap, ◌∙◌, subst, ⊎_elim, inl, inr, arith}
+use Rattle.std.specs.Prelude.{◌==◌, slice_index}
 use Rattle.std.proofs.lemmas.Bool.{cases_Bool, eqb-true, false_from_ne_true}
 use Rattle.std.proofs.lemmas.List.Sums.{sum_by-cons}
 use lib.ListN.{get_elem?}
@@ -26,7 +25,7 @@ use Rattle.arena_rule.specs.Views.{SeatView, Flight, Walked}
 use Rattle.arena_rule.specs.Adds.{CountAdd}
 use Rattle.arena_rule.specs.Lookups.{is_known, load_of, or_zero, tally_loaded, seen_loaded, recorded_through, walks_through, flying, told_below}
 use Rattle.arena_rule.specs.Fits.{FitsStep, FitsAdd, FitsNote, MayBegin, IsNext}
-use Rattle.arena_rule.specs.Afters.{word_of, answer_of, changed, after, drew, claimed_at, looked, wrote, published, added_at, noted, with_word, known_after, node_of_link, flight_after}
+use Rattle.arena_rule.specs.Afters.{word_of, answer_of, changed, after, looked, wrote, published, added_at, noted, with_word, known_after, node_of_link, flight_after}
 use Rattle.arena_rule.specs.Bounds.{AreLoads, HasLoaded, FirstVisits}
 use Rattle.arena_rule.specs.Parts.{Each}
 use Rattle.arena_rule.specs.Rule.{words_after, views_after}

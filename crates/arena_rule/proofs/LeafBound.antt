@@ -1,8 +1,8 @@
 -- Each step keeps LeafBound: a walk begins at a leaf with an empty cell only where it was loaded with visits below T.
-use Rattle.std.proofs.Common.{◌≡◌, ◌≢◌, ◌⊎◌, ℕ, ◌+◌, ◌-◌, ◌*◌, ◌/◌, ◌≤◌, ◌<◌, Bool, true, false, cond, List, [], ◌∷◌, length, Option, Some, None, refl, sym, ap, ◌∙◌, subst, ⊎_elim, inl, inr, arith}
-use Rattle.std.specs.Prelude.{◌==◌, ◌||◌, slice_index, sum_by, count_by, Contains}
+use Rattle.std.proofs.Common.{◌≡◌, ◌⊎◌, ℕ, ◌+◌, ◌-◌, ◌*◌, ◌≤◌, ◌<◌, Bool, true, false, cond, List, [], ◌∷◌, length, Option, Some, None, refl, sym, ap, ◌∙◌, subst, ⊎_elim, arith}
+use Rattle.std.specs.Prelude.{◌==◌, ◌||◌, slice_index}
 use Rattle.std.specs.List.{list_any}
-use Rattle.std.proofs.lemmas.Bool.{cases_Bool, or_cases, eqb-true, eq-eqb, ne_eqb, false_from_ne_true}
+use Rattle.std.proofs.lemmas.Bool.{cases_Bool, eqb-true, eq-eqb, ne_eqb}
 use Rattle.std.proofs.lemmas.List.Sums.{sum_by-cons, sum_by-le-sum_by, count_by-le-length}
 use lib.ListN.{get_elem?}
 use mathlib.Core.Option.{some}
@@ -11,10 +11,9 @@ use Rattle.play_out.specs.Fills.{empties_of}
 use Rattle.play_out.proofs.Counting.{empties_listed}
 use Rattle.tree_words.specs.Settings.{Setting}
 use Rattle.tree_words.specs.Words.{root_at, end_of, next_in, visits_in, leaf_in}
-use Rattle.tree_words.specs.Blocks.{LinkedBlock, In, InOrder, has_node, is_node, child, one_if}
+use Rattle.tree_words.specs.Blocks.{LinkedBlock, In, InOrder, has_node, is_node, one_if}
 use Rattle.tree_words.specs.Paths.{NodeState, is_on, path_of, node_state, node_board}
 use Rattle.tree_words.specs.Sequence.{outcome_of}
-use Rattle.tree_words.specs.Told.{Knows}
 use Rattle.tree_words.specs.declared.layout.TheConstants.{TALLY_WORD}
 use Rattle.tree_words.specs.declared.steps.Op.{Op}
 use Rattle.tree_words.specs.declared.steps.Op.TheVariants.{Draw, Look, Claim, Write, Publish, Add, Note, Done}
@@ -26,7 +25,7 @@ use Rattle.arena_rule.specs.Adds.{CountAdd}
 use Rattle.arena_rule.specs.Lookups.{is_known, load_of, or_zero, tally_loaded, recorded_through, recorded_at, walks_at, flying, told_below, empties_at}
 use Rattle.arena_rule.specs.Fits.{FitsStep, FitsAdd, FitsNote, MayBegin, IsNext}
 use Rattle.arena_rule.specs.Afters.{word_of, answer_of, changed, after, looked, wrote, published, added_at, noted, with_word, node_of_link, flight_after}
-use Rattle.arena_rule.specs.Bounds.{AreLoads, HasLoaded, LeafBound}
+use Rattle.arena_rule.specs.Bounds.{AreLoads, LeafBound}
 use Rattle.arena_rule.specs.Parts.{Each, full_width}
 use Rattle.arena_rule.specs.Rule.{words_after, views_after}
 use Rattle.arena_rule.proofs.Before.{Before, blocks_after}

@@ -1,5 +1,5 @@
 -- Each step keeps Loaded: the visits of a node never fall, and a Look loads no less than the view's own walks.
-use Rattle.std.proofs.Common.{◌≡◌, ◌≢◌, ◌⊎◌, ℕ, ◌+◌, ◌-◌, ◌/◌, ◌≤◌, ◌<◌, Bool, true, false, cond, List, [], ◌∷◌, length, set, Option, Some, None, refl, sym, ap, ◌∙◌, subst, ⊎_elim, inl, inr, arith, get_or-set_same, get_or-set_other}
+use Rattle.std.proofs.Common.{◌≡◌, ◌≢◌, ◌⊎◌, ℕ, ◌+◌, ◌-◌, ◌≤◌, ◌<◌, Bool, true, false, cond, List, [], ◌∷◌, length, set, Option, Some, None, refl, sym, ap, ◌∙◌, subst, ⊎_elim, inl, inr, arith, get_or-set_same, get_or-set_other}
 use Rattle.std.specs.Prelude.{◌==◌, slice_index, count_by, Contains}
 use Rattle.std.specs.List.{list_any}
 use Rattle.std.proofs.lemmas.List.{set-get_or}
@@ -20,7 +20,7 @@ use Rattle.std.proofs.lemmas.Bool.{or_cases, eqb-true}
 use Rattle.tree_words.proofs.Blocks.NodeLaws.{nodes-apart}
 use Rattle.tree_words.proofs.Blocks.Within.{within-node, within-up}
 use Rattle.arena_rule.specs.Views.{SeatView, HeldBlock, Walked, WordLoad}
-use Rattle.arena_rule.specs.Lookups.{is_known, load_of, recorded_through}
+use Rattle.arena_rule.specs.Lookups.{is_known, load_of}
 use Rattle.arena_rule.specs.Fits.{FitsStep}
 use Rattle.arena_rule.specs.Afters.{word_of, answer_of, changed, after, drew, claimed_at, looked, wrote, published, added_at, noted, with_word, is_count, loads_after, known_after, node_of_link}
 use Rattle.arena_rule.specs.Bounds.{HasLoaded, AreLoads}

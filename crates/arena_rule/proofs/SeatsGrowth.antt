@@ -1,9 +1,7 @@
 -- A split and a join keep Loaded, FirstVisits and LeafBound, and the opening words have them.
-use Rattle.std.proofs.Common.{◌≡◌, ℕ, ◌+◌, ◌*◌, ◌≤◌, Bool, true, cond, List, [], ◌++◌, Option, Some, None, refl, sym, ap, ◌∙◌, subst, arith}
+use Rattle.std.proofs.Common.{◌≡◌, ℕ, ◌+◌, ◌*◌, ◌≤◌, true, cond, List, [], ◌++◌, Some, None, refl, sym, ap, ◌∙◌, subst, arith}
 use Rattle.std.specs.Prelude.{◌==◌, count_by, Contains}
 use Rattle.std.proofs.lemmas.List.Sums.{sum_by-append}
-use lib.ListN.{get_elem?}
-use mathlib.Core.Option.{some}
 use Rattle.tree_words.specs.Settings.{Setting, IsSetting}
 use Rattle.tree_words.specs.Words.{root_at, leaf_in}
 use Rattle.tree_words.specs.Blocks.{LinkedBlock, is_node}
@@ -11,8 +9,8 @@ use Rattle.tree_words.specs.Opening.{opening_words}
 use Rattle.tree_words.specs.Paths.{is_on}
 use Rattle.tree_words.specs.Told.{Knows}
 use Rattle.tree_words.proofs.Blocks.Within.{knows-both}
-use Rattle.arena_rule.specs.Views.{SeatView, Flight, Walked, WordLoad, spent_view}
-use Rattle.arena_rule.specs.Lookups.{is_known, load_of, recorded_through, walks_through, walks_at, flying}
+use Rattle.arena_rule.specs.Views.{SeatView, Walked, WordLoad, spent_view}
+use Rattle.arena_rule.specs.Lookups.{load_of, recorded_through, walks_through, walks_at, flying}
 use Rattle.arena_rule.specs.Fits.{CanSplit}
 use Rattle.arena_rule.specs.Afters.{kept_part, given_part, joined}
 use Rattle.arena_rule.specs.Bounds.{HasLoaded, AreLoads, FirstVisits, LeafBound}
