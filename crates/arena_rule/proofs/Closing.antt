@@ -212,43 +212,42 @@ module _ (bs : List LinkedBlock) (words : List ℕ) (views : List SeatView) (id 
         ticket = (drawn, omega (arith, b.state.widths.ticket, only ended_of refl, ended, all, few));
       }
 
-  module _ (first : FirstVisits bs words views) (leaves : LeafBound v.shape bs words views) (room : Room v.shape bs words views) where
-    grown : Grown v.shape bs words
-    grown = record {
-      first = λ c x y i hx hy z.
-          let through = first c x y i hx hy z id v b.at in
-          let mine = count-record (λ m. is_on v.shape bs x (leaf_in m)) in
-          let known = walks-same (λ w. cond (is_on v.shape v.known x (leaf_in w.value)) 1 0) (λ w. cond (is_on v.shape bs x (leaf_in w.value)) 1 0) v.walks
-          (λ w d. ap one_if (on-linked v.shape bs v.known x (leaf_in w.value) b.state.linked.blocks.order (b.state.known id v b.at) ((b.state.in_hand id v b.at).leaves w d))) in
-          omega (arith, ap (λ (t : Count). t.visits) (exact.tallies x (in-node (root_at v.shape) bs c x i hx)), mine, known, through, all);
-      leaves = λ l x c m e.
-          let mine = count-record (λ k. leaf_in k == x) in
-          omega (arith, leaves l x c m e id v b.at, mine, ap (λ (k : ℕ). k * v.shape.knobs.expand) all);
-      room =
-          let known = mul-le-mul_left v.width (known-less (root_at v.shape) v.known bs) in
-          let held : words_held v.held ≡ 0 = ap words_held ((b.state.in_hand id v b.at).idle idle).1 in
-          omega (
-            arith,
-            room.next,
-            only claimed_of refl,
-            only full_width refl,
-            full-less,
-            room.claimed id v b.at,
-            held,
-            known,
-            all,
-            ap (λ (k : ℕ). k * other_words v.shape bs) all,
-          );
-    }
+  grown : Grown v.shape bs words
+  grown = record {
+    first = λ c x y i hx hy z.
+        let through = b.state.first_visits c x y i hx hy z id v b.at in
+        let mine = count-record (λ m. is_on v.shape bs x (leaf_in m)) in
+        let known = walks-same (λ w. cond (is_on v.shape v.known x (leaf_in w.value)) 1 0) (λ w. cond (is_on v.shape bs x (leaf_in w.value)) 1 0) v.walks
+        (λ w d. ap one_if (on-linked v.shape bs v.known x (leaf_in w.value) b.state.linked.blocks.order (b.state.known id v b.at) ((b.state.in_hand id v b.at).leaves w d))) in
+        omega (arith, ap (λ (t : Count). t.visits) (exact.tallies x (in-node (root_at v.shape) bs c x i hx)), mine, known, through, all);
+    leaves = λ l x c m e.
+        let mine = count-record (λ k. leaf_in k == x) in
+        omega (arith, b.state.leaf_bound l x c m e id v b.at, mine, ap (λ (k : ℕ). k * v.shape.knobs.expand) all);
+    room =
+        let known = mul-le-mul_left v.width (known-less (root_at v.shape) v.known bs) in
+        let held : words_held v.held ≡ 0 = ap words_held ((b.state.in_hand id v b.at).idle idle).1 in
+        omega (
+          arith,
+          b.state.room.next,
+          only claimed_of refl,
+          only full_width refl,
+          full-less,
+          b.state.room.claimed id v b.at,
+          held,
+          known,
+          all,
+          ap (λ (k : ℕ). k * other_words v.shape bs) all,
+        );
+  }
 
-    -- the tree is closed
-    pub closed : IsClosed v.shape words
-    closed = record {
-      long = b.state.long;
-      blocks = bs;
-      linked = b.state.linked.blocks;
-      recorded = recorded;
-      exact = exact;
-      ends = ends;
-      grown = grown;
-    }
+  -- the tree is closed
+  pub closed : IsClosed v.shape words
+  closed = record {
+    long = b.state.long;
+    blocks = bs;
+    linked = b.state.linked.blocks;
+    recorded = recorded;
+    exact = exact;
+    ends = ends;
+    grown = grown;
+  }

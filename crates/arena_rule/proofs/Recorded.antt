@@ -146,7 +146,7 @@ module _ (s : Setting) (bs : List LinkedBlock) (words : List ℕ) (views : List 
         each-same ks,
       )
 
-  pub count-records : CountRecords s bs words views
+  pub count-records : CountRecords s bs (record { words = words; views = views })
   count-records = record {
     tallies = λ x m. st.sums.tallies x m
         ∙ counted (x + TALLY_WORD) (λ k leaf. tally_amount s bs k leaf x) (λ k leaf. tally-amount s bs st.linked.blocks.order k leaf x m);

@@ -96,7 +96,10 @@ told-known v x y n z found =
     let c : (y == 0) ≡ false = ne_eqb y 0 found in
     λ i. cond (n i && (a i && not (c i))) (told_below v x y ∷ v.known) v.known
 
-module _ (bs : List LinkedBlock) (words : List ℕ) (views : List SeatView) (id : ℕ) (v : SeatView) (b : Before bs words views id v) (room : Room v.shape bs words views) where
+module _ (bs : List LinkedBlock) (words : List ℕ) (views : List SeatView) (id : ℕ) (v : SeatView) (b : Before bs words views id v) where
+  room : Room v.shape bs words views
+  room = b.state.room
+
   -- where the view claims nothing and knows no less
   frame : (u : SeatView) (words' : List ℕ) → u.width ≡ v.width → u.claimed ≡ v.claimed → full_width u ≡ full_width v → words_held u.held ≡ words_held v.held → KnowMore v.known u.known
       → next_in words' ≡ next_in words → Room v.shape bs words' (set views id u)

@@ -42,7 +42,10 @@ link-second r bs (b ∷ ks) ls k low x e = by (b.parent == x) e (link-second r b
     by true q h = absurd (omega (arith, q, low b k.0))
     by false q h = h q
 
-module _ (bs : List LinkedBlock) (words : List ℕ) (views : List SeatView) (id : ℕ) (v : SeatView) (b : Before bs words views id v) (room : Room v.shape bs words views) where
+module _ (bs : List LinkedBlock) (words : List ℕ) (views : List SeatView) (id : ℕ) (v : SeatView) (b : Before bs words views id v) where
+  room : Room v.shape bs words views
+  room = b.state.room
+
   pub room-split : (part : ℕ) → CanSplit v part → Room v.shape bs words (views_split views id v part)
   unfolding kept_part
   room-split part can =
