@@ -110,16 +110,12 @@ module _ (bs : List LinkedBlock) (words : List ℕ) (views : List SeatView) (id 
       → recorded_through v x + one_if (is_on v.shape v.known x (flight_after a.word v.adds).leaf) ≤ v.width
   through-add a x fits begin old = by v.adds refl fits.next
     where
-      few : (t : Bool) → one_if t ≤ 1
-      few true = omega arith
-      few false = omega arith
-
       by : (o : Option Flight) → v.adds ≡ o → IsNext v fits.number o a → recorded_through v x + one_if (is_on v.shape v.known x (flight_after a.word o).leaf) ≤ v.width
       by None e n =
           let at : a.word - TALLY_WORD ≡ n.0 = let q = n.1 in omega arith in
           let same : is_on v.shape v.known x (a.word - TALLY_WORD) ≡ is_on v.shape v.known x n.0 = ap (is_on v.shape v.known x) at in
           ⊎_elim
-          (λ (t : is_on v.shape v.known x n.0 ≡ true). omega (arith, begin n.0 n.2 t, few (is_on v.shape v.known x (a.word - TALLY_WORD)), b.live))
+          (λ (t : is_on v.shape v.known x n.0 ≡ true). omega (arith, begin n.0 n.2 t, ap one_if (same ∙ t), b.live))
           (λ (t : is_on v.shape v.known x n.0 ≡ false). omega (arith, old, ap one_if (same ∙ t)))
           (cases_Bool (is_on v.shape v.known x n.0))
       by (Some f) e n = omega (arith, old, ap (flying (λ leaf. is_on v.shape v.known x leaf)) e)

@@ -1,18 +1,16 @@
 -- Each step keeps LeafBound: a walk begins at a leaf with an empty cell only where it was loaded with visits below T.
-use Rattle.std.proofs.Common.{◌≡◌, ◌⊎◌, ℕ, ◌+◌, ◌-◌, ◌*◌, ◌≤◌, ◌<◌, Bool, true, false, cond, List, [], ◌∷◌, length, Option, Some, None, refl, sym, ap, ◌∙◌, subst, ⊎_elim, arith}
-use Rattle.std.specs.Prelude.{◌==◌, ◌||◌, slice_index}
-use Rattle.std.specs.List.{list_any}
-use Rattle.std.proofs.lemmas.Bool.{cases_Bool, eqb-true, eq-eqb, ne_eqb}
-use Rattle.std.proofs.lemmas.List.Sums.{sum_by-cons, sum_by-le-sum_by, count_by-le-length}
+use Rattle.std.proofs.Common.{◌≡◌, ◌⊎◌, ℕ, ◌+◌, ◌-◌, ◌*◌, ◌≤◌, ◌<◌, Bool, true, false, cond, List, ◌∷◌, length, Option, Some, None, refl, sym, ap, ◌∙◌, subst, ⊎_elim, arith}
+use Rattle.std.specs.Prelude.{◌==◌, slice_index}
+use Rattle.std.proofs.lemmas.Bool.{cases_Bool, eqb-true, ne_eqb}
+use Rattle.std.proofs.lemmas.List.Sums.{sum_by-cons, sum_by-le-sum_by}
 use lib.ListN.{get_elem?}
 use mathlib.Core.Option.{some}
 use Rattle.hex_board.specs.Positions.{Position, is_empty_at}
 use Rattle.play_out.specs.Fills.{empties_of}
-use Rattle.play_out.proofs.Counting.{empties_listed}
 use Rattle.tree_words.specs.Settings.{Setting}
 use Rattle.tree_words.specs.Words.{root_at, end_of, next_in, visits_in, leaf_in}
 use Rattle.tree_words.specs.Blocks.{LinkedBlock, In, InOrder, has_node, is_node, one_if}
-use Rattle.tree_words.specs.Paths.{NodeState, is_on, path_of, node_state, node_board}
+use Rattle.tree_words.specs.Paths.{NodeState, is_on, node_state, node_board}
 use Rattle.tree_words.specs.Sequence.{outcome_of}
 use Rattle.tree_words.specs.declared.layout.TheConstants.{TALLY_WORD}
 use Rattle.tree_words.specs.declared.steps.Op.{Op}
@@ -20,6 +18,8 @@ use Rattle.tree_words.specs.declared.steps.Op.TheVariants.{Draw, Look, Claim, Wr
 use Rattle.tree_words.proofs.Blocks.BlockLaws.{clash, has-at}
 use Rattle.tree_words.proofs.Blocks.GameLaws.{spot-same}
 use Rattle.tree_words.proofs.Blocks.Members.{node-in}
+use Rattle.tree_words.proofs.Walks.Asking.{some-empty}
+use Rattle.tree_words.proofs.Walks.Tallies.{on-itself}
 use Rattle.arena_rule.specs.Views.{SeatView, Flight, Walked}
 use Rattle.arena_rule.specs.Adds.{CountAdd}
 use Rattle.arena_rule.specs.Lookups.{is_known, load_of, or_zero, tally_loaded, recorded_through, recorded_at, walks_at, flying, told_below, empties_at}
@@ -36,22 +36,6 @@ use Rattle.arena_rule.proofs.Within.{known-node, known-state, shape-of-each}
 use Rattle.arena_rule.proofs.SumsLinked.{walks-same}
 use Rattle.arena_rule.proofs.Frames.{next-grows}
 use Rattle.arena_rule.proofs.FirstVisits.{flight-known}
-
--- a node is on its own path
-on-self : (s : Setting) (bs : List LinkedBlock) (x : ℕ) → is_node (root_at s) bs x ≡ true → is_on s bs x x ≡ true
-on-self s [] x n = ap (λ (t : Bool). t || false) (eq-eqb (root_at s) x (sym (eqb-true x (root_at s) n)))
-on-self s (c ∷ bs) x n = ⊎_elim
-    (λ (h : has_node c x ≡ true).
-    ap (λ (t : Bool). list_any (λ z. z == x) (cond t (x ∷ path_of s bs c.parent) (path_of s bs x))) h
-    ∙ ap (λ (t : Bool). t || is_on s bs x c.parent) (eq-eqb x x refl))
-    (λ (h : has_node c x ≡ false).
-    ap (λ (t : Bool). list_any (λ z. z == x) (cond t (x ∷ path_of s bs c.parent) (path_of s bs x))) h
-    ∙ on-self s bs x (sym (ap (λ (t : Bool). t || is_node (root_at s) bs x) h) ∙ n))
-    (cases_Bool (has_node c x))
-
--- a board with an empty cell has one in its list
-some-empty : (p : Position) (c : ℕ) → is_empty_at p c ≡ true → 0 < length (empties_of p)
-some-empty p c e = omega (arith, count_by-le-length (λ k. k == c) (empties_of p), empties_listed p c, ap one_if e)
 
 -- the board of a node stays
 board-stays : (bs : List LinkedBlock) (words : List ℕ) (v : SeatView) (op : Op) (x : ℕ) → InOrder (root_at v.shape) (blocks_after bs words v op) → is_node (root_at v.shape) bs x ≡ true
@@ -100,10 +84,6 @@ module _ (bs : List LinkedBlock) (words : List ℕ) (views : List SeatView) (id 
       → recorded_at v x + one_if ((flight_after a.word v.adds).leaf == x) ≤ v.width * v.shape.knobs.expand
   at-add a x fits begin old = by v.adds refl fits.next
     where
-      few : (t : Bool) → one_if t ≤ 1
-      few true = omega arith
-      few false = omega arith
-
       one : v.width ≡ 1
       one = ((b.state.in_hand id v b.at).one fits.number fits.ticket).0
 
@@ -113,7 +93,7 @@ module _ (bs : List LinkedBlock) (words : List ℕ) (views : List SeatView) (id 
           ⊎_elim
           (λ (t : (a.word - TALLY_WORD == x) ≡ true).
           let is : n.0 ≡ x = sym at ∙ eqb-true (a.word - TALLY_WORD) x t in
-          omega (arith, begin (subst (MayBegin v) is n.2), few (a.word - TALLY_WORD == x), ap (λ (w : ℕ). w * v.shape.knobs.expand) one))
+          omega (arith, begin (subst (MayBegin v) is n.2), ap one_if t, ap (λ (w : ℕ). w * v.shape.knobs.expand) one))
           (λ (t : (a.word - TALLY_WORD == x) ≡ false). omega (arith, old, ap one_if t))
           (cases_Bool (a.word - TALLY_WORD == x))
       by (Some f) e n = omega (arith, old, ap (flying (λ leaf. leaf == x)) e)
@@ -163,14 +143,14 @@ module _ (bs : List LinkedBlock) (words : List ℕ) (views : List SeatView) (id 
       less false false h = omega arith
 
       by : (leaf : ℕ) → cond (leaf == x) 1 0 ≤ cond (is_on v.shape v.known x leaf) 1 0
-      by leaf = less (leaf == x) (is_on v.shape v.known x leaf) (λ t. ap (is_on v.shape v.known x) (eqb-true leaf x t) ∙ on-self v.shape v.known x n)
+      by leaf = less (leaf == x) (is_on v.shape v.known x leaf) (λ t. ap (is_on v.shape v.known x) (eqb-true leaf x t) ∙ on-itself v.shape v.known x n)
 
   -- a leaf is chosen, so it was loaded, with as many visits as the view's walks through it at least
   loaded-leaf : AreLoads words views → (x : ℕ) → MayBegin v x → recorded_at v x ≤ (tally_loaded v x).visits
   loaded-leaf loads x may = ⊎_elim
       (λ (e : x ≡ root_at v.shape). absurd (may.below e))
       (λ (t : (c : LinkedBlock) × In c v.known × (has_node c x ≡ true)).
-      let chosen = may.chosen t.0 x t.1 t.2 (on-self v.shape v.known x may.known) in
+      let chosen = may.chosen t.0 x t.1 t.2 (on-itself v.shape v.known x may.known) in
       let p = has-at t.0 x t.2 in
       let load = chosen.tallies p.0 p.1 in
       let e : load_of v.loads (x + TALLY_WORD) ≡ Some load.0 = ap (λ (w : ℕ). load_of v.loads (w + TALLY_WORD)) (omega (arith, p.2)) ∙ load.1 in
