@@ -72,13 +72,14 @@ sum-counts (suc n) t u = omega (arith, sum-counts n t u, by (t n) (u n))
     by true false = refl
     by false b = refl
 
-count-most : (n : ℕ) (t : ℕ → Bool) → count_below n t ≤ n
-count-most zero t = omega arith
-count-most (suc n) t = omega (arith, count-most n t, by (t n))
-  where
-    by : (a : Bool) → one_if a ≤ 1
-    by true = omega arith
-    by false = omega arith
+-- a count is a sum of ones
+count-sum : (n : ℕ) (t : ℕ → Bool) → sum_below n (λ k. one_if (t k)) ≡ count_below n t
+count-sum zero t = refl
+count-sum (suc n) t = omega (arith, count-sum n t)
+
+one-most : (t : Bool) → one_if t ≤ 1
+one-most true = omega arith
+one-most false = omega arith
 
 -- a word of visits and wins
 count-is : (n v w : ℕ) → n ≡ VISIT * v + w → w < VISIT → count_in n ≡ record { visits = v; wins = w }
@@ -161,11 +162,7 @@ module _ (bs : List LinkedBlock) (words : List ℕ) (views : List SeatView) (id 
       ∙ below_same n (λ k. f k (value_walked k v.walks)) (λ k. f k (record_in words k)) (λ k l. ap (f k) (sym (value k l)))
 
   count-record : (test : ℕ → Bool) → sum_by (λ w. cond (test w.value) 1 0) v.walks ≡ count_below n (λ k. test (record_in words k))
-  count-record test = by-record (λ k m. one_if (test m)) ∙ same n
-    where
-      same : (m : ℕ) → sum_below m (λ k. one_if (test (record_in words k))) ≡ count_below m (λ k. test (record_in words k))
-      same zero = refl
-      same (suc m) = omega (arith, same m)
+  count-record test = by-record (λ k m. one_if (test m)) ∙ count-sum n (λ k. test (record_in words k))
 
   counted : (w : ℕ) → sum_by (amount_counted v.shape bs w) views ≡ sum_below n (λ k. amount_at w (walk_adds v.shape bs k (leaf_of words k)))
   counted w =
@@ -176,7 +173,8 @@ module _ (bs : List LinkedBlock) (words : List ℕ) (views : List SeatView) (id 
   counts : (m : ℕ) (t u : ℕ → Bool) → m ≡ sum_below n (λ k. cond (t k) (amount_of (u k)) 0) → count_in m ≡ record { visits = count_below n t; wins = count_below n (λ k. t k && u k) }
   counts m t u e =
       let few = b.state.setting.ranges.playouts.1 in
-      count-is m (count_below n t) (count_below n (λ k. t k && u k)) (e ∙ sum-counts n t u) (omega (arith, few, count-most n (λ k. t k && u k)))
+      let most = below_ones n (λ k. one_if (t k && u k)) (λ k. one-most (t k && u k)) in
+      count-is m (count_below n t) (count_below n (λ k. t k && u k)) (e ∙ sum-counts n t u) (omega (arith, few, most, count-sum n (λ k. t k && u k)))
 
   exact : Exact v.shape bs words
   exact = record {
