@@ -1,21 +1,19 @@
 -- In every state the counts are those of the records, and of the adds made in flight.
-use Rattle.std.proofs.Common.{◌≡◌, ◌≢◌, ◌⊎◌, ℕ, zero, suc, ◌+◌, ◌<◌, ◌≤◌, Bool, true, false, cond, List, [], ◌∷◌, ◌++◌, refl, sym, ap, ◌∙◌, subst, ⊎_elim, arith}
-use Rattle.std.specs.Prelude.{◌==◌, ◌&&◌, not, nat_lt, slice_index, sum_by, Contains}
+use Rattle.std.proofs.Common.{◌≡◌, ◌≢◌, ℕ, zero, suc, ◌+◌, ◌<◌, ◌≤◌, Bool, true, false, cond, List, [], ◌∷◌, ◌++◌, refl, sym, ap, ◌∙◌, ⊎_elim, arith}
+use Rattle.std.specs.Prelude.{◌==◌, not, sum_by, Contains}
 use Rattle.std.specs.List.{filter, range_with_len}
-use Rattle.std.proofs.lemmas.Bool.{eqb-true, eq-eqb, ne_eqb}
+use Rattle.std.proofs.lemmas.Bool.{eq-eqb, ne_eqb}
 use Rattle.std.proofs.lemmas.List.Sums.{sum_by-cons, sum_by-append}
-use mathlib.Core.Option.{some}
-use lib.ListN.{get_elem?}
 use Rattle.tree_words.specs.Settings.{Setting}
 use Rattle.tree_words.specs.Words.{root_at, next_in, ticket_in, record_in, leaf_in}
-use Rattle.tree_words.specs.Blocks.{LinkedBlock, In, has_node, is_node}
+use Rattle.tree_words.specs.Blocks.{LinkedBlock}
 use Rattle.tree_words.specs.Records.{leaf_of}
 use Rattle.tree_words.specs.declared.layout.TheConstants.{TALLY_WORD, SEEN_WORD}
 use Rattle.tree_words.proofs.Blocks.GameLaws.{in-node}
 use Rattle.tree_words.proofs.Blocks.NodeLaws.{node-lies}
 use Rattle.arena_rule.specs.Views.{SeatView, Walked}
 use Rattle.arena_rule.specs.Adds.{walk_adds, amount_at, tally_amount, seen_amount}
-use Rattle.arena_rule.specs.Parts.{Each, times_drawn, value_noted, in_hand, amount_recorded, amount_counted, IsRight}
+use Rattle.arena_rule.specs.Parts.{Each, times_drawn, amount_recorded, amount_counted, IsRight}
 use Rattle.arena_rule.specs.Closed.{recorded, amount_in_flight, CountRecords}
 use Rattle.arena_rule.specs.Rule.{IsState}
 use Rattle.arena_rule.proofs.Totals.{total_add, total_le}

@@ -1,16 +1,11 @@
 -- Each step keeps Room.
-use Rattle.std.proofs.Common.{◌≡◌, ◌≢◌, ◌⊎◌, ℕ, ◌+◌, ◌*◌, ◌<◌, ◌≤◌, Bool, true, false, cond, List, [], ◌∷◌, ◌++◌, length, set, Option, Some, None, refl, sym, ap, ◌∙◌, subst, ⊎_elim, inl, inr, arith, get_or-set_other}
+use Rattle.std.proofs.Common.{◌≡◌, ◌≢◌, ◌⊎◌, ℕ, ◌+◌, ◌*◌, ◌<◌, ◌≤◌, Bool, true, false, cond, List, [], ◌∷◌, set, Option, Some, None, refl, sym, ap, ◌∙◌, ⊎_elim, inl, inr, arith}
 use Rattle.std.specs.Prelude.{◌==◌, ◌&&◌, not, slice_index, sum_by, option_map}
 use Rattle.std.proofs.Math.Nat.{mul-le-mul_left}
 use Rattle.std.proofs.lemmas.Bool.{eqb-true, eq-eqb, ne_eqb}
 use Rattle.std.proofs.lemmas.List.Sums.{sum_by-cons, sum_by-le-sum_by}
-use mathlib.Core.Option.{some}
-use lib.ListN.{get_elem?}
-use Rattle.tree_words.specs.Settings.{Setting}
 use Rattle.tree_words.specs.Words.{root_at, end_of, next_in}
 use Rattle.tree_words.specs.Blocks.{LinkedBlock, In, link_of, size}
-use Rattle.tree_words.specs.Growth.{root_end}
-use Rattle.tree_words.specs.declared.layout.TheConstants.{MOST_BLOCK_WORDS}
 use Rattle.tree_words.specs.declared.steps.Op.{Op}
 use Rattle.tree_words.specs.declared.steps.Op.TheVariants.{Draw, Look, Claim, Write, Publish, Add, Note, Done}
 use Rattle.tree_words.proofs.Blocks.BlockLaws.{clash}
@@ -18,16 +13,15 @@ use Rattle.tree_words.proofs.Blocks.Within.{told-real}
 use Rattle.arena_rule.specs.Views.{SeatView, HeldBlock}
 use Rattle.arena_rule.specs.Lookups.{is_known, known_link, told_below}
 use Rattle.arena_rule.specs.Fits.{FitsStep, FitsClaim, FitsPublish}
-use Rattle.arena_rule.specs.Afters.{word_of, put, answer_of, after, node_of_link, known_after, claimed_at, written_more, with_word, looked, wrote, published, added_at, noted}
-use Rattle.arena_rule.specs.Parts.{Each, full_width}
+use Rattle.arena_rule.specs.Afters.{word_of, answer_of, after, node_of_link, known_after, claimed_at, written_more, with_word, looked, wrote, published, added_at, noted}
+use Rattle.arena_rule.specs.Parts.{full_width}
 use Rattle.arena_rule.specs.Bounds.{Room, words_known, words_held, claimed_of}
 use Rattle.arena_rule.specs.Rule.{words_after, views_after}
 use Rattle.arena_rule.proofs.Options.{false-true}
 use Rattle.arena_rule.proofs.Before.{Before, blocks_after}
 use Rattle.arena_rule.proofs.Totals.{total_set, each-set}
-use Rattle.arena_rule.proofs.Changes.{drew_same, claimed_cases, claimed_same, shape-after, width-after}
-use Rattle.arena_rule.proofs.Frames.{IsNoClaim, next-stays, next-claimed, node-range}
-use Rattle.arena_rule.proofs.Within.{known-node}
+use Rattle.arena_rule.proofs.Changes.{drew_same, claimed_cases, claimed_same, width-after}
+use Rattle.arena_rule.proofs.Frames.{IsNoClaim, next-stays, next-claimed}
 use Rattle.arena_rule.proofs.KnownMore.{Grows, known_cases}
 use Rattle.arena_rule.proofs.Apart.{node-back, told-size}
 use Rattle.arena_rule.proofs.Widths.{few-words}

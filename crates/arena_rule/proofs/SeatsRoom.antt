@@ -1,23 +1,19 @@
 -- A split and a join keep Room, and the first views have it.
-use Rattle.std.proofs.Common.{◌≡◌, ◌≢◌, ◌⊎◌, ℕ, ◌+◌, ◌-◌, ◌*◌, ◌<◌, ◌≤◌, Bool, true, false, cond, List, [], ◌∷◌, ◌++◌, Option, Some, None, refl, sym, ap, ◌∙◌, subst, ⊎_elim, arith}
-use Rattle.std.specs.Prelude.{◌==◌, ◌||◌, sum_by}
+use Rattle.std.proofs.Common.{◌≡◌, ℕ, ◌+◌, ◌-◌, ◌*◌, ◌<◌, ◌≤◌, Bool, true, false, cond, List, [], ◌∷◌, ◌++◌, refl, ap, arith}
+use Rattle.std.specs.Prelude.{◌==◌, ◌||◌}
 use Rattle.std.proofs.Math.Nat.{add-mul, mul-le-mul_left}
-use mathlib.Core.Option.{some}
-use lib.ListN.{get_elem?}
 use Rattle.tree_words.specs.Settings.{Setting, IsSetting}
-use Rattle.tree_words.specs.Words.{root_at, area_at, end_of, next_in}
+use Rattle.tree_words.specs.Words.{root_at, next_in}
 use Rattle.tree_words.specs.Blocks.{LinkedBlock, In, link_of}
-use Rattle.tree_words.specs.Growth.{root_end}
 use Rattle.tree_words.specs.Opening.{opening_words, AreOpening}
 use Rattle.tree_words.specs.Told.{Knows}
-use Rattle.tree_words.specs.declared.layout.TheConstants.{MOST_BLOCK_WORDS}
 use Rattle.tree_words.proofs.Blocks.GameLaws.{whole-in}
 use Rattle.tree_words.proofs.NewBlocks.OpeningLaws.{next-is}
 use Rattle.tree_words.proofs.NewBlocks.OpeningTold.{opening-are}
-use Rattle.arena_rule.specs.Views.{SeatView, HeldBlock, spent_view}
+use Rattle.arena_rule.specs.Views.{SeatView, spent_view}
 use Rattle.arena_rule.specs.Fits.{CanSplit}
 use Rattle.arena_rule.specs.Afters.{kept_part, given_part, joined}
-use Rattle.arena_rule.specs.Parts.{Each, full_width}
+use Rattle.arena_rule.specs.Parts.{full_width}
 use Rattle.arena_rule.specs.Bounds.{Room, words_known, words_held, claimed_of}
 use Rattle.arena_rule.specs.Rule.{views_split, views_joined}
 use Rattle.arena_rule.proofs.Before.{Before, Other, AreFirst, opening_blocks}
