@@ -8,10 +8,11 @@ use Rattle.arena_rule.proofs.Numbers.{times_walked, value_walked, walked-cons, v
 use Rattle.std.proofs.lemmas.Bool.{eqb-true, cases_Bool}
 
 -- what a walk with the number j counts
-abbrev if_here : ℕ → (ℕ → ℕ) → Walked → ℕ
+abbrev pub if_here : ℕ → (ℕ → ℕ) → Walked → ℕ
 if_here j g w = cond (w.number == j) (g w.value) 0
 
-none-here : (j : ℕ) (g : ℕ → ℕ) (walks : List Walked) → times_walked j walks ≡ 0 → sum_by (if_here j g) walks ≡ 0
+-- where a number has no walk, nothing counts
+pub none-here : (j : ℕ) (g : ℕ → ℕ) (walks : List Walked) → times_walked j walks ≡ 0 → sum_by (if_here j g) walks ≡ 0
 none-here j g [] e = refl
 none-here j g (w ∷ walks) e = by (w.number == j) (times_walked j walks) (sum_by (if_here j g) walks) (g w.value) (sym (walked-cons j w walks) ∙ e) (none-here j g walks) (sum_by-cons (if_here j g) w walks)
   where
@@ -20,7 +21,7 @@ none-here j g (w ∷ walks) e = by (w.number == j) (times_walked j walks) (sum_b
     by false c s x e h q = omega (arith, q, h (omega arith))
 
 -- where a number has one walk, its value counts
-one-here : (j : ℕ) (g : ℕ → ℕ) (walks : List Walked) → times_walked j walks ≡ 1 → sum_by (if_here j g) walks ≡ g (value_walked j walks)
+pub one-here : (j : ℕ) (g : ℕ → ℕ) (walks : List Walked) → times_walked j walks ≡ 1 → sum_by (if_here j g) walks ≡ g (value_walked j walks)
 one-here j g [] e = absurd (omega arith)
 one-here j g (w ∷ walks) e =
     by (w.number == j) (times_walked j walks) (value_walked j walks) (sum_by (if_here j g) walks) w.value (sym (walked-cons j w walks) ∙ e) (one-here j g walks) (none-here j g walks) (value-none j walks)
@@ -30,12 +31,13 @@ one-here j g (w ∷ walks) e =
     by true c s m x {a} {b} e rec no_m no_s p q = let z : c ≡ 0 = omega arith in let same : x ≡ b = omega (arith, q, no_s z) in omega (arith, p, no_m z, ap g same)
     by false c s m x {a} {b} e rec no_m no_s p q = let same : s ≡ b = omega (arith, q) in omega (arith, p, rec (omega arith), ap g same)
 
-pub by-number : (n : ℕ) (f : ℕ → ℕ → ℕ) (walks : List Walked) → ((j : ℕ) → j < n → times_walked j walks ≡ 1) → ((w : Walked) → Contains walks w → w.number < n)
-    → sum_by (λ w. f w.number w.value) walks ≡ sum_below n (λ j. f j (value_walked j walks))
-by-number n f walks once low =
+-- what walks count is what the numbers below n count in them
+pub numbered : (n : ℕ) (f : ℕ → ℕ → ℕ) (walks : List Walked) → ((w : Walked) → Contains walks w → w.number < n)
+    → sum_by (λ w. f w.number w.value) walks ≡ sum_below n (λ j. sum_by (if_here j (f j)) walks)
+numbered n f walks low =
     spread walks low
     ∙ sym (below_swap n (λ j w. cond (w.number == j) (f w.number w.value) 0) walks)
-    ∙ below_same n (λ j. sum_by (λ w. cond (w.number == j) (f w.number w.value) 0) walks) (λ j. f j (value_walked j walks)) (λ j l. keyed j walks ∙ one-here j (f j) walks (once j l))
+    ∙ below_same n (λ j. sum_by (λ w. cond (w.number == j) (f w.number w.value) 0) walks) (λ j. sum_by (if_here j (f j)) walks) (λ j l. keyed j walks)
   where
     spread : (ws : List Walked) → ((w : Walked) → Contains ws w → w.number < n) → sum_by (λ w. f w.number w.value) ws ≡ sum_by (λ w. sum_below n (λ j. cond (w.number == j) (f w.number w.value) 0)) ws
     spread [] h = refl
@@ -64,3 +66,8 @@ by-number n f walks once low =
           same-key w.number j w.value,
           keyed j ws,
         )
+
+-- where each number below n has one walk, its value counts
+pub by-number : (n : ℕ) (f : ℕ → ℕ → ℕ) (walks : List Walked) → ((j : ℕ) → j < n → times_walked j walks ≡ 1) → ((w : Walked) → Contains walks w → w.number < n)
+    → sum_by (λ w. f w.number w.value) walks ≡ sum_below n (λ j. f j (value_walked j walks))
+by-number n f walks once low = numbered n f walks low ∙ below_same n (λ j. sum_by (if_here j (f j)) walks) (λ j. f j (value_walked j walks)) (λ j l. one-here j (f j) walks (once j l))

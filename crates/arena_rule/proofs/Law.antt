@@ -22,6 +22,8 @@ use Rattle.arena_rule.specs.Afters.{word_of, put, answer_of, after}
 use Rattle.arena_rule.specs.Answers.{MayAnswer, AnswersStep, AnswersLink, AnswersTally, AnswersSeen}
 use Rattle.arena_rule.specs.Parts.{AreLinked, width_of}
 use Rattle.arena_rule.specs.Rule.{IsState, Rule, words_after, views_after, views_split, views_joined}
+use Rattle.tree_words.specs.Closing.{IsClosed}
+use Rattle.arena_rule.specs.Closed.{HasAllWalks, IsLast, CountRecords}
 use Rattle.arena_rule.proofs.Before.{Before, Other, AreFirst, blocks_after, opening_blocks}
 use Rattle.arena_rule.proofs.Totals.{inside}
 use Rattle.arena_rule.proofs.Apart.{fresh-step, apart-step, held-step}
@@ -37,6 +39,14 @@ use Rattle.arena_rule.proofs.Tickets.{tickets-step}
 use Rattle.arena_rule.proofs.InHand.{in_hand-step}
 use Rattle.arena_rule.proofs.Sole.{sole-step, sole-split, sole-join, sole-first}
 use Rattle.arena_rule.proofs.SeatsNumbers.{widths-split, widths-join, widths-first, tickets-split, tickets-join, tickets-first, in_hand-split, in_hand-join, in_hand-first}
+use Rattle.arena_rule.proofs.Loaded.{loaded-step}
+use Rattle.arena_rule.proofs.FirstVisits.{visits-step}
+use Rattle.arena_rule.proofs.LeafBound.{leaf-step}
+use Rattle.arena_rule.proofs.SeatsGrowth.{loaded-split, loaded-join, loaded-first, visits-split, visits-join, visits-first, leaf-split, leaf-join, leaf-first}
+use Rattle.arena_rule.proofs.Room.{room-step}
+use Rattle.arena_rule.proofs.SeatsRoom.{room-split, room-join, room-first}
+use Rattle.arena_rule.proofs.Closing.{all-walks, closed}
+use Rattle.arena_rule.proofs.Recorded.{count-records}
 use Rattle.arena_rule.proofs.Firsts.{opening-first, ones-first}
 use Rattle.arena_rule.proofs.AnswersNumbers.{answers-draw, answers-whole}
 
@@ -63,6 +73,10 @@ module _ (bs : List LinkedBlock) (words : List ℕ) (views : List SeatView) (id 
         tickets = tickets-step bs words views id v b op fits linked.blocks.order;
         in_hand = in_hand-step bs words views id v b op fits (known-after op fits);
         sole = sole-step bs words views id v b op fits;
+        loaded = loaded-step bs words views id v b op fits linked.blocks.order (known-after op fits) b.state.loaded;
+        first_visits = visits-step bs words views id v b op fits linked.blocks.order (known-after op fits) b.state.loaded b.state.first_visits;
+        leaf_bound = leaf-step bs words views id v b op fits linked.blocks.order b.state.loaded b.state.leaf_bound;
+        room = room-step bs words views id v b op fits;
       }
 
   answers-step : (op : Op) → FitsStep v op → AnswersStep v op (answer_of op (slice_index words (word_of op)))
@@ -94,6 +108,10 @@ module _ (bs : List LinkedBlock) (words : List ℕ) (views : List SeatView) (id 
     tickets = tickets-split bs words views id v b part can;
     in_hand = in_hand-split bs words views id v b part can;
     sole = sole-split bs words views id v b part can;
+    loaded = loaded-split bs words views id v b part can b.state.loaded;
+    first_visits = visits-split bs words views id v b part can b.state.first_visits;
+    leaf_bound = leaf-split bs words views id v b part can b.state.leaf_bound;
+    room = room-split bs words views id v b part can;
   }
 
   state-join : (other : ℕ) (w : SeatView) → Other views id v other w → IsState v.shape bs words (views_joined views id v other w)
@@ -110,6 +128,10 @@ module _ (bs : List LinkedBlock) (words : List ℕ) (views : List SeatView) (id 
     tickets = tickets-join bs words views id v b other w o;
     in_hand = in_hand-join bs words views id v b other w o;
     sole = sole-join bs words views id v b other w o;
+    loaded = loaded-join bs words views id v b other w o b.state.loaded;
+    first_visits = visits-join bs words views id v b other w o b.state.first_visits;
+    leaf_bound = leaf-join bs words views id v b other w o b.state.leaf_bound;
+    room = room-join bs words views id v b other w o;
   }
 
 state-first : (s : Setting) (views : List SeatView) → IsSetting s → AreFirst s views → IsState s (opening_blocks s) (opening_words s) views
@@ -126,6 +148,10 @@ state-first s views h f = record {
   tickets = tickets-first s views h f;
   in_hand = in_hand-first s views h f;
   sole = sole-first s views h f;
+  loaded = loaded-first s views h f;
+  first_visits = visits-first s views h f;
+  leaf_bound = leaf-first s views h f;
+  room = room-first s views h f;
 }
 
 -- the state before a step, over the shape of the view that steps
@@ -174,3 +200,25 @@ wins s words views r x n =
     let t = live views (omega (arith, r.state.widths.sum, r.state.setting.ranges.workers.0)) in
     let b : Before r.blocks words views t.0 t.1 = before s r.blocks words views t.0 t.1 r.state t.2 t.3 in
     wins-most r.blocks words views t.0 t.1 b x (subst (λ (z : Setting). is_node (root_at z) r.blocks x ≡ true) (sym (r.state.widths.each t.0 t.1 t.2).shape) n)
+
+module _ (s : Setting) (words : List ℕ) (views : List SeatView) (r : Rule s words views) where
+  -- with one seat left, whose workers have ended, the tree is closed, and the seat has all walks
+  module _ (id : ℕ) (v : SeatView) (last : IsLast s views id v) where
+    end : Before r.blocks words views id v
+    end = before s r.blocks words views id v r.state last.seat.at last.seat.live
+
+    shape-end : v.shape ≡ s
+    shape-end = (r.state.widths.each id v last.seat.at).shape
+
+    full : v.width ≡ v.shape.knobs.workers
+    full = last.width ∙ sym (ap (λ (t : Setting). t.knobs.workers) shape-end)
+
+    pub closes : IsClosed s words
+    closes = subst (λ (t : Setting). IsClosed t words) shape-end (closed r.blocks words views id v end full last.ended)
+
+    pub closes-walks : HasAllWalks s v
+    closes-walks = subst (λ (t : Setting). HasAllWalks t v) shape-end (all-walks r.blocks words views id v end full last.ended)
+
+  -- the counts are those of the records
+  pub counts : CountRecords s r.blocks (record { words = words; views = views })
+  counts = count-records s r.blocks words views r.state

@@ -20,6 +20,10 @@ pub mod KnownMore
 pub mod InHand
 pub mod Widths
 pub mod Sole
+pub mod Room
+pub mod SeatsRoom
+pub mod Closing
+pub mod Recorded
 pub mod SeatsNumbers
 pub mod AnswersNumbers
 pub mod Firsts
@@ -27,6 +31,10 @@ pub mod SumsLinked
 pub mod SumsLaw
 pub mod SeatsCounts
 pub mod AnswersCounts
+pub mod Loaded
+pub mod FirstVisits
+pub mod LeafBound
+pub mod SeatsGrowth
 pub mod ViewStays
 pub mod ViewSeats
 pub mod Law

@@ -9,4 +9,5 @@ pub mod Parts
 pub mod Bounds
 pub mod Rule
 pub mod Runs
+pub mod Closed
 pub mod Shown

@@ -7,6 +7,7 @@ use Rattle.tree_words.specs.declared.steps.Op.{Op}
 use Rattle.arena_rule.specs.Views.{SeatView, spent_view}
 use Rattle.arena_rule.specs.Afters.{word_of, put, answer_of, after, kept_part, given_part, joined}
 use Rattle.arena_rule.specs.Parts.{Widths, Fresh, AreApart, AreLinked, AreWritten, Known, Sums, Tickets, InHand, Sole}
+use Rattle.arena_rule.specs.Bounds.{AreLoads, FirstVisits, LeafBound, Room}
 
 -- the parts of the rule hold, where bs are the linked blocks
 pub record IsState (s : Setting) (bs : List LinkedBlock)
@@ -23,6 +24,10 @@ pub record IsState (s : Setting) (bs : List LinkedBlock)
   pub tickets : Tickets s bs words views
   pub in_hand : InHand s words views
   pub sole : Sole words views
+  pub loaded : AreLoads words views
+  pub first_visits : FirstVisits bs words views
+  pub leaf_bound : LeafBound s bs words views
+  pub room : Room s bs words views
 
 -- the arena rule: between any two steps there are blocks of which all parts hold
 pub record Rule (s : Setting) (words : List ℕ) (views : List SeatView) : Type 0 where

@@ -9,6 +9,7 @@ ghost use Rattle.arena_rule.specs.Adds.{AddExactly};
 ghost use Rattle.arena_rule.specs.IsView.{IsView};
 ghost use Rattle.arena_rule.specs.Runs.{Arena, RuleHolds, opening_arena, workers_arena};
 ghost use Rattle.arena_rule.specs.Runs.{StepsKeep, StepsMayAnswer, SplitsKeep, JoinsKeep, RunsKeep};
+ghost use Rattle.arena_rule.specs.Closed.{EndsClosed, EndsWithAllWalks, CountRecords};
 ghost use Rattle.arena_rule.specs.Shown.{KnowsShown, KeepsKnown, HoldsUnnamed, WinsAmongVisits};
 ghost use Rattle.arena_rule.specs.Shown.{StepsKeepOrder, SplitsKeepOrder, JoinsKeepOrder};
 
@@ -53,6 +54,20 @@ pub fn adds_are_exact()
 /// most its seen visits. It does nothing.
 pub fn wins_are_among_visits()
     ensures { (s : Setting) (a : Arena) (rule : RuleHolds s a) → WinsAmongVisits s a rule }
+{}
+
+/// The law of records: the counts of each node are those of the records, where a record is not 0,
+/// and of the adds made in flight. It does nothing.
+pub fn counts_are_of_records()
+    ensures { (s : Setting) (a : Arena) (rule : RuleHolds s a) → CountRecords s rule.blocks a }
+{}
+
+/// The law of the end: where one seat is left that stands for all workers, and they have ended,
+/// the tree is closed, and the number of each playout stands in the seat's walks once. It does
+/// nothing.
+pub fn closes()
+    ensures closed { (s : Setting) (a : Arena) → RuleHolds s a → EndsClosed s a }
+    ensures walks { (s : Setting) (a : Arena) → RuleHolds s a → EndsWithAllWalks s a }
 {}
 
 /// The law of views in order: a step whose answer it may give keeps a view in order, a split both
