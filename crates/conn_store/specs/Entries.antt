@@ -32,7 +32,8 @@ Connects kind e x y s c = IsSure kind (AreLinked e x y) s c
 -- with his stones on the board the player is sure of linking the entry's elements inside its
 -- carrier
 abbrev pub IsTrueEntry : PlayerBoard → Entry → Type 0
-IsTrueEntry e entry = Connects entry.kind e entry.x entry.y (stones_of e.board e.player) entry.carrier
+IsTrueEntry e entry =
+    Connects entry.kind e entry.x entry.y (stones_of e.board e.player) entry.carrier
 
 -- the entry is one of elements x and y, in either order
 abbrev pub IsBetween : Entry → ℕ → ℕ → Type 0

@@ -46,7 +46,8 @@ pub record IsSmall (e : PlayerBoard) : Type 0 where
 
 -- what a store keeps: the board and the player of its elements, sound entries, the two tables,
 -- and room for all entries
-pub record IsStored (board : Position) (player : Colour) (d : StoreData) (full semi : List Held) (room : ℕ) : Type 0 where
+pub record IsStored
+    (board : Position) (player : Colour) (d : StoreData) (full semi : List Held) (room : ℕ) : Type 0 where
   pub same_board : d.elements.board ≡ board
   pub same_player : d.elements.player ≡ player
   pub small : IsSmall d.elements

@@ -61,7 +61,8 @@ both_of a b = bit_or a.carrier b.carrier
 pub record IsAndOf (e : PlayerBoard) (a b : Entry) (x u y : ℕ) (entry : Entry) : Type 0 where
   pub pair : IsBetween entry x y
   pub group : IsGroup e u → (entry.kind ≡ Full) × (entry.carrier ≡ both_of a b)
-  pub cell : (k : ℕ) → IsCell e u k → (entry.kind ≡ Semi) × (entry.carrier ≡ with_cell (both_of a b) k)
+  pub cell : (k : ℕ) → IsCell e u k
+      → (entry.kind ≡ Semi) × (entry.carrier ≡ with_cell (both_of a b) k)
 
 -- whether cell k is in all the carriers
 abbrev pub is_in_all : List Entry → ℕ → Bool
@@ -86,12 +87,16 @@ AreAt entries numbers ways = map (slice_get entries) numbers ≡ map Some ways
 
 -- the entry follows by the rule that the cause names from the entries whose numbers it has
 abbrev pub FollowsBy : PlayerBoard → List Entry → Entry → Cause → Type 0
-FollowsBy e entries entry Adjacent = Near e entry.x entry.y × (entry.kind ≡ Full) × (entry.carrier ≡ 0)
+FollowsBy e entries entry Adjacent =
+    Near e entry.x entry.y × (entry.kind ≡ Full) × (entry.carrier ≡ 0)
 FollowsBy e entries entry (AndGroup i j) =
-    (a : Entry) × (b : Entry) × (x : ℕ) × (u : ℕ) × (y : ℕ) × AreAt entries (i ∷ j ∷ []) (a ∷ b ∷ [])
-    × AndRule e a b x u y × IsGroup e u × IsBetween entry x y × (entry.kind ≡ Full) × (entry.carrier ≡ both_of a b)
+    (a : Entry) × (b : Entry) × (x : ℕ) × (u : ℕ) × (y : ℕ)
+    × AreAt entries (i ∷ j ∷ []) (a ∷ b ∷ [])
+    × AndRule e a b x u y × IsGroup e u × IsBetween entry x y × (entry.kind ≡ Full)
+    × (entry.carrier ≡ both_of a b)
 FollowsBy e entries entry (AndEmpty i j) =
-    (a : Entry) × (b : Entry) × (x : ℕ) × (u : ℕ) × (y : ℕ) × (k : ℕ) × AreAt entries (i ∷ j ∷ []) (a ∷ b ∷ [])
+    (a : Entry) × (b : Entry) × (x : ℕ) × (u : ℕ) × (y : ℕ) × (k : ℕ)
+    × AreAt entries (i ∷ j ∷ []) (a ∷ b ∷ [])
     × AndRule e a b x u y × IsCell e u k × IsBetween entry x y × (entry.kind ≡ Semi)
     × (entry.carrier ≡ with_cell (both_of a b) k)
 FollowsBy e entries entry (Or numbers count) =

@@ -23,7 +23,8 @@ pub record StoreData : Type 0 where
 
 -- the store of the player's elements on the board, without entries
 abbrev pub empty_store : Position → Colour → StoreData
-empty_store board player = record { elements = record { board = board; player = player }; entries = [] }
+empty_store board player =
+    record { elements = record { board = board; player = player }; entries = [] }
 
 -- the number of entries of one pair that a store takes of a kind
 abbrev pub most_of : Kind → ℕ
@@ -45,7 +46,8 @@ is_of kind x y entry = same_kind entry.kind kind && (entry.x == x && entry.y == 
 abbrev pub numbers_from : ℕ → Kind → ℕ → ℕ → List Entry → List ℕ
 numbers_from n kind x y [] = []
 numbers_from n kind x y (a ∷ entries) =
-    if is_of kind x y a then n ∷ numbers_from (suc n) kind x y entries else numbers_from (suc n) kind x y entries
+    if is_of kind x y a then n ∷ numbers_from (suc n) kind x y entries
+    else numbers_from (suc n) kind x y entries
 
 -- the numbers of the store's entries of that kind and pair, in rising order
 abbrev pub numbers_of : StoreData → Kind → ℕ → ℕ → List ℕ
@@ -53,7 +55,8 @@ numbers_of d kind x y = numbers_from 0 kind x y d.entries
 
 -- these numbers, and zeros in the places that are left
 abbrev pub held_of : List ℕ → Held
-held_of numbers = record { count = length numbers; at = numbers ++ replicate (MOST_SEMI - length numbers) 0 }
+held_of numbers =
+    record { count = length numbers; at = numbers ++ replicate (MOST_SEMI - length numbers) 0 }
 
 -- an entry of that kind and pair has its carrier inside c
 abbrev pub IsCovered : StoreData → Kind → ℕ → ℕ → ℕ → Type 0
@@ -80,14 +83,15 @@ IsNext d entry = IsValid d.elements entry × FollowsFrom d.elements d.entries en
 -- a rule of AND applies to the entries with these numbers
 abbrev pub CanAnd : StoreData → ℕ → ℕ → Type 0
 CanAnd d i j =
-    (a : Entry) × (b : Entry) × (x : ℕ) × (u : ℕ) × (y : ℕ) × AreAt d.entries (i ∷ j ∷ []) (a ∷ b ∷ [])
+    (a : Entry) × (b : Entry) × (x : ℕ) × (u : ℕ) × (y : ℕ)
+    × AreAt d.entries (i ∷ j ∷ []) (a ∷ b ∷ [])
     × AndRule d.elements a b x u y
 
 -- the entry is what the rules of AND give of the entries with these numbers
 abbrev pub GivesAnd : StoreData → ℕ → ℕ → Entry → Type 0
 GivesAnd d i j entry =
-    (a b : Entry) (x u y : ℕ) → AreAt d.entries (i ∷ j ∷ []) (a ∷ b ∷ []) → AndRule d.elements a b x u y
-    → IsAndOf d.elements a b x u y entry
+    (a b : Entry) (x u y : ℕ) → AreAt d.entries (i ∷ j ∷ []) (a ∷ b ∷ [])
+    → AndRule d.elements a b x u y → IsAndOf d.elements a b x u y entry
 
 -- the rule of OR applies to the entries with these numbers
 abbrev pub CanOr : StoreData → List ℕ → Type 0
@@ -103,7 +107,8 @@ after_put d entry PairFull = d
 -- each entry is valid, follows from earlier ones, and is true
 pub record IsSound (d : StoreData) : Type 0 where
   pub valid : (i : ℕ) (a : Entry) → slice_get d.entries i ≡ Some a → IsValid d.elements a
-  pub follows : (i : ℕ) (a : Entry) → slice_get d.entries i ≡ Some a → FollowsFrom d.elements (take i d.entries) a
+  pub follows : (i : ℕ) (a : Entry) → slice_get d.entries i ≡ Some a
+      → FollowsFrom d.elements (take i d.entries) a
   pub true_entries : (i : ℕ) (a : Entry) → slice_get d.entries i ≡ Some a → IsTrueEntry d.elements a
 
 -- each pair has at most its full number of entries

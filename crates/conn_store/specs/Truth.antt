@@ -12,9 +12,11 @@ use Rattle.conn_store.specs.declared.entries.Kind.TheVariants.{Full, Semi}
 abbrev pub IsSureIn : ℕ → Kind → (ℕ → Type 0) → ℕ → ℕ → Type 0
 IsSureIn zero kind goal s c = goal s
 IsSureIn (suc fuel) Full goal s c =
-    goal s ⊎ (((k : ℕ) × (has c k ≡ true)) × ((k : ℕ) → has c k ≡ true → IsSureIn fuel Semi goal s (without_cell c k)))
+    goal s ⊎ (((k : ℕ) × (has c k ≡ true))
+    × ((k : ℕ) → has c k ≡ true → IsSureIn fuel Semi goal s (without_cell c k)))
 IsSureIn (suc fuel) Semi goal s c =
-    goal s ⊎ ((k : ℕ) × (has c k ≡ true) × IsSureIn fuel Full goal (with_cell s k) (without_cell c k))
+    goal s ⊎ ((k : ℕ) × (has c k ≡ true)
+    × IsSureIn fuel Full goal (with_cell s k) (without_cell c k))
 
 -- the same, by recursion on the number of cells in c
 abbrev pub IsSure : Kind → (ℕ → Type 0) → ℕ → ℕ → Type 0

@@ -44,7 +44,8 @@ pub(crate) fn with_number(held: Held, number: u32) -> Held
 /// Whether one of the entries with these numbers has its carrier inside the set.
 pub(crate) fn has_inside(entries: &[Entry], held: &Held, carrier: CellSet) -> bool
     requires count { held.now.count ≤ 6 }
-    requires numbers { (j : ℕ) → j < held.now.count → slice_index held.now.at j < length entries.now }
+    requires numbers { (j : ℕ) → j < held.now.count
+        → slice_index held.now.at j < length entries.now }
     ensures { IsTrue result ↔ AnyInside entries.now held.now carrier }
 {
     for j in 0..held.count as usize {

@@ -22,7 +22,8 @@ pub fn truth_goes_on()
     ensures stones { (kind : Kind) (e : PlayerBoard) (x y s t c : ℕ)
         → IsSubset s t → Connects kind e x y s c → Connects kind e x y t c }
     ensures rest { (e : PlayerBoard) (x y s c k : ℕ) → c < 2 ^ MOST_CELLS → has c k ≡ true
-        → Connects Kind.Full e x y s c → Connects Kind.Full e x y (with_cell s k) (without_cell c k) }
+        → Connects Kind.Full e x y s c
+        → Connects Kind.Full e x y (with_cell s k) (without_cell c k) }
 {}
 
 /// The law of the edges. On a board with the player's stones or more, a player who is sure of

@@ -121,7 +121,8 @@ impl Store {
         requires first { IsValid self.now.elements a.now }
         requires second { IsValid self.now.elements b.now }
         ensures some { IfSome result (λ c. AndRule self.now.elements a.now b.now c.x c.u c.y) }
-        ensures none { IfNone result ((x u y : ℕ) → ¬ (AndRule self.now.elements a.now b.now x u y)) }
+        ensures none { IfNone result ((x u y : ℕ)
+            → ¬ (AndRule self.now.elements a.now b.now x u y)) }
     {
         if a.kind == Kind::Semi || b.kind == Kind::Semi || a.carrier.meets(b.carrier) {
             return None;

@@ -4,7 +4,8 @@ ghost use Rattle.std.specs.Prelude.{◌≡◌, ℕ, ◌+◌, ◌<◌, ◌≤◌,
 ghost use Rattle.hex_board.specs.Elements.{element_count};
 ghost use Rattle.conn_store.specs.Entries.{IsValid};
 ghost use Rattle.conn_store.specs.Rules.{FollowsFrom};
-ghost use Rattle.conn_store.specs.Stores.{IsDominated, IsPairFull, IsSound, after_put, empty_store, held_of, most_of, numbers_of, with_entry};
+ghost use Rattle.conn_store.specs.Stores.{IsDominated, IsPairFull, IsSound, after_put};
+ghost use Rattle.conn_store.specs.Stores.{empty_store, held_of, most_of, numbers_of, with_entry};
 
 use super::entries::{Entry, Held, Kind, MOST_ENTRIES, MOST_FULL, MOST_SEMI, Put};
 use super::index::{has_inside, pair_count, pair_number, with_number};
