@@ -15,7 +15,7 @@ ghost use Rattle.hex_engine.specs.Replies.{IsBrief, replied};
 use hex_engine::{Answer, Engine, EngineError, Fail};
 use hex_io::Shelf;
 use hex_plan::Archive;
-use htp_line::{Parsed, Request, Splitter, What, read_line};
+use htp_line::{LINE_LIMIT, Parsed, Request, Splitter, What, read_line};
 use std::alloc::{AllocError, Global};
 
 /// The most bytes of a brief answer beside its id: the sign, a space, a message of 17 bytes, and
@@ -32,7 +32,7 @@ pub fn respond<F: Shelf, A: Archive>(
     raw: Option<&[u8]>,
     out: &mut Vec<u8>,
 ) -> Result<bool, EngineError>
-    requires short { IfSome raw (λ raw. length raw.now ≤ 4096) }
+    requires short { IfSome raw (λ raw. length raw.now ≤ LINE_LIMIT) }
     ensures responds { IfOk result
         (λ quit. (bytes : List ℕ) × (out.new.items ≡ out.old.items ++ bytes) ×
         Responds (F.told shelf.old, A.told archive.old) (F.told shelf.new, A.told archive.new)
@@ -192,7 +192,7 @@ pub fn line_of(splitter: &Splitter, what: What) -> Option<&[u8]>
     requires what { what ≡ what_of splitter.now }
     requires ended { splitter.now.ended ≡ true }
     ensures line { option_map (λ raw. raw.now) result ≡ splitter.now.line }
-    ensures short { IfSome result (λ raw. length raw.now ≤ 4096) }
+    ensures short { IfSome result (λ raw. length raw.now ≤ LINE_LIMIT) }
 {
     if what == What::Line {
         Some(splitter.text())
