@@ -1,9 +1,9 @@
 -- Two cells of one element.
-use Rattle.std.proofs.Common.{if◌then◌else◌, ◌≡◌, ℕ, ◌+◌, ◌-◌, ◌<◌, ◌≤◌, ◌⊎◌, true, false, Bool, cond, Some, refl, sym, ◌∙◌, ap, subst, arith, inl, inr, zero, suc}
+use Rattle.std.proofs.Common.{if◌then◌else◌, ◌≡◌, ℕ, ◌+◌, ◌-◌, ◌<◌, ◌≤◌, true, false, Bool, cond, Some, refl, sym, ◌∙◌, ap, subst, arith, inl, inr, zero, suc}
 use Rattle.std.specs.List.{count_by, range_with_len}
 use Rattle.std.proofs.lemmas.Bool.{cases_order, cases_Bool, both_ways, false_from_ne_true}
 use Rattle.hex_board.specs.Positions.{Within, stones_of, is_empty_at}
-use Rattle.hex_board.specs.Elements.{PlayerBoard, are_joined, is_linked, is_tied, is_head, edge_element, edge_elements, head_element, element_of, HasCell}
+use Rattle.hex_board.specs.Elements.{PlayerBoard, are_joined, is_linked, is_tied, is_head, edge_element, edge_elements, head_element, element_of, HasCell, Together}
 use Rattle.hex_board.proofs.Parts.{tied_through, tied_joins, of_first, of_second, of_group, case_of, is_free, is_first, is_second, is_group, is_other, linked_through, linked_back, linked_first, empty_head, root_head, edge_below, some_same}
 use Rattle.hex_board.proofs.Placed.{stone_full}
 use Rattle.hex_board.proofs.WinLaws.{counted}
@@ -70,10 +70,6 @@ above_edge e second k q = far (edge_elements e) (count_by (is_head e) (range_wit
   where
     far : (b x v : ℕ) → v < b → v ≡ b + x → ⊥
     far b x v h e = absurd (omega arith)
-
--- what two cells of one element are: one cell, or stones that are linked, or stones that are tied to edges of one element
-abbrev pub Together : PlayerBoard → ℕ → ℕ → Type 0
-Together e a b = (a ≡ b) ⊎ ((is_linked e a b ≡ true) ⊎ ((s : Bool) × (t : Bool) × (is_tied e s a ≡ true) × (is_tied e t b ≡ true) × (edge_element e s ≡ edge_element e t)))
 
 full_head : (e : PlayerBoard) (r a k : ℕ) → r ≡ a → is_linked e r k ≡ true → is_empty_at e.board a ≡ true → ⊥
 full_head e r a k q l h = both_ways (is_empty_at e.board a) (subst (λ v. is_empty_at e.board v ≡ false) q (stone_full e.board e.player r (linked_first e r k l))) h

@@ -10,6 +10,7 @@ use Rattle.hex_cells.specs.declared.colours.Colour.{Colour}
 use Rattle.hex_cells.specs.declared.colours.Colour.TheVariants.{Black, White}
 use Rattle.hex_cells.proofs.Beside.{same_test}
 use Rattle.hex_cells.proofs.Counts.{members_few, members_apart, members_flat, members_test}
+use Rattle.hex_cells.proofs.Ranges.{find_first, find_none}
 use Rattle.hex_cells.proofs.Tables.{square_small}
 use Rattle.hex_board.specs.Joined.{Path, last_of, Leads, leads_in, cells_of}
 use Rattle.hex_board.specs.Positions.{Position, Within, Apart, stones_of, is_empty_at}
@@ -315,29 +316,14 @@ pub of_rest : (e : PlayerBoard) (k : ℕ) → is_empty_at e.board k ≡ false �
     → element_of e k ≡ option_map (head_element e) (find (λ j. is_linked e j k) (cells_of e.board.size))
 of_rest e k f g h = pick_last (is_empty_at e.board k) (is_tied e false k) (is_tied e true k) _ _ _ _ f g h
 
-pub find_least : (p : ℕ → Bool) (m r : ℕ) → r < m → p r ≡ true → ((j : ℕ) → j < r → p j ≡ false) → find p (range_with_len 0 m) ≡ Some r
-find_least p m r l h f = elim (find_case p 0 m) [
-  | inl u ↦ absurd (both_ways (p r) (u.1 r (omega arith) (omega arith)) h)
-  | inr u ↦ u.1 ∙ ap Some (least_one p u.0 r u.3 (λ j b. u.4 j (omega arith) b) h f)
-]
-  where
-    least_one : (p : ℕ → Bool) (a b : ℕ) → p a ≡ true → ((j : ℕ) → j < a → p j ≡ false) → p b ≡ true → ((j : ℕ) → j < b → p j ≡ false) → a ≡ b
-    least_one p a b h f i g = elim (cases_order a b) [
-      | inl q ↦ q
-      | inr o ↦ elim o [ inl l ↦ absurd (both_ways (p a) (g a l) h) | inr l ↦ absurd (both_ways (p b) (f b l) i) ]
-    ]
-
-pub find_nothing : (p : ℕ → Bool) (m : ℕ) → ((j : ℕ) → p j ≡ false) → find p (range_with_len 0 m) ≡ None
-find_nothing p m f = elim (find_case p 0 m) [ inl u ↦ u.0 | inr u ↦ absurd (both_ways (p u.0) (f u.0) u.3) ]
-
 pub of_group : (e : PlayerBoard) (k r : ℕ) → Within e.board.size (stones_of e.board e.player) → is_empty_at e.board k ≡ false → is_tied e false k ≡ false → is_tied e true k ≡ false
     → is_linked e r k ≡ true → ((j : ℕ) → j < r → is_linked e j k ≡ false) → element_of e k ≡ Some (head_element e r)
 of_group e k r on f g h l m = of_rest e k f g h ∙ ap (option_map (head_element e))
-    (find_least (λ j. is_linked e j k) (e.board.size * e.board.size) r (on r (linked_first e r k l)) l m)
+    (find_first (λ j. is_linked e j k) 0 (e.board.size * e.board.size) r (omega arith) (omega (arith, on r (linked_first e r k l))) l (λ j u v. m j v))
 
 pub of_other : (e : PlayerBoard) (k : ℕ) → is_empty_at e.board k ≡ false → is_tied e false k ≡ false → is_tied e true k ≡ false
     → ((j : ℕ) → is_linked e j k ≡ false) → element_of e k ≡ None
-of_other e k f g h m = of_rest e k f g h ∙ ap (option_map (head_element e)) (find_nothing (λ j. is_linked e j k) (e.board.size * e.board.size) m)
+of_other e k f g h m = of_rest e k f g h ∙ ap (option_map (head_element e)) (find_none (λ j. is_linked e j k) 0 (e.board.size * e.board.size) (λ j u v. m j))
 
 -- the flood from one cell finds the stones that are linked to it
 pub flood_linked : (e : PlayerBoard) (g none r c k : ℕ) → Within e.board.size (stones_of e.board e.player) → ((j : ℕ) → has g j ≡ (has none j || j == c)) → ((j : ℕ) → has none j ≡ false)
@@ -368,7 +354,7 @@ head_test e u l r f g em k a b c d x y = a ∙ (ap (λ v. v || has l k) c ∙ ap
 low_head : (b x : ℕ) → 0 < b → 0 ≡ b + x → ⊥
 low_head b x h e = absurd (omega arith)
 
-joined_low : (j : Bool) → ◌≡◌ {A = ℕ} (if j then 0 else 1) 0 → j ≡ true
+pub joined_low : (j : Bool) → ◌≡◌ {A = ℕ} (if j then 0 else 1) 0 → j ≡ true
 joined_low true e = refl
 joined_low false e = absurd (omega arith)
 
@@ -385,10 +371,10 @@ zero_out e k on q = elim (case_of e k on) [
   | is_other i j l m t ↦ absurd (none_some _ (sym t ∙ q))
 ]
 
-low_joined : (j : Bool) → j ≡ true → ◌≡◌ {A = ℕ} (if j then 0 else 1) 0
+pub low_joined : (j : Bool) → j ≡ true → ◌≡◌ {A = ℕ} (if j then 0 else 1) 0
 low_joined j h = rw h refl
 
-high_apart : (j : Bool) → j ≡ false → ◌≡◌ {A = ℕ} (if j then 0 else 1) 1
+pub high_apart : (j : Bool) → j ≡ false → ◌≡◌ {A = ℕ} (if j then 0 else 1) 1
 high_apart j h = rw h refl
 
 pub zero_in : (e : PlayerBoard) (k : ℕ) → are_joined e ≡ true → is_tied e true k ≡ true → element_of e k ≡ Some 0

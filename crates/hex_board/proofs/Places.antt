@@ -5,6 +5,7 @@ use Rattle.std.specs.Option.{option_eq}
 use Rattle.std.proofs.lemmas.Bool.{and_parts, and_from, or_cases, or_left, or_right, both_ways, eqb-true, eq-eqb, ne_eqb, false≢true, false_from_ne_true, not-true, not_from_false}
 use Rattle.hex_cells.specs.Sets.{has}
 use Rattle.hex_cells.specs.declared.colours.Colour.{Colour}
+use Rattle.hex_cells.proofs.Ranges.{find_first, find_none}
 use Rattle.hex_cells.proofs.Beside.{neighbour_in, neighbour_out, same_test}
 use Rattle.hex_board.specs.Elements.{PlayerBoard, HasCell, edge_element, element_of, is_linked}
 use Rattle.hex_board.specs.ElementTables.{Meets}
@@ -12,7 +13,7 @@ use Rattle.hex_board.specs.Joined.{cells_of}
 use Rattle.hex_board.specs.Places.{Place, at_cell, at_edge, Beside, IsMember, Near, are_beside, cell_of, is_member, is_near, places_of}
 use Rattle.hex_board.specs.Positions.{Within, stones_of, is_empty_at}
 use Rattle.hex_board.proofs.GroupLaws.{one_element}
-use Rattle.hex_board.proofs.Parts.{find_least, find_nothing, linked_first, tied_full}
+use Rattle.hex_board.proofs.Parts.{linked_first, tied_full}
 use Rattle.hex_board.proofs.Placed.{empty_on, stone_full}
 use Rattle.hex_board.proofs.Reach.{back}
 use Rattle.hex_board.proofs.Search.{any_in, any_out}
@@ -154,12 +155,12 @@ empty_alone e x a b on f h i = elim (one_element e x a b on h i) [
 pub cell_test : (e : PlayerBoard) (x : ℕ) (r : Option ℕ) → Within e.board.size (stones_of e.board e.player)
     → IfSome r (λ k. (is_empty_at e.board k ≡ true) × HasCell e x k)
     → IfNone r ((k : ℕ) → is_empty_at e.board k ≡ true → ¬ (HasCell e x k)) → r ≡ cell_of e x
-cell_test e x None on some none = sym (find_nothing (λ k. is_empty_at e.board k && is_member e x (at_cell k)) (e.board.size * e.board.size)
-    (λ j. false_from_ne_true (is_empty_at e.board j && is_member e x (at_cell j)) (λ t.
+cell_test e x None on some none = sym (find_none (λ k. is_empty_at e.board k && is_member e x (at_cell k)) 0 (e.board.size * e.board.size)
+    (λ j _ _. false_from_ne_true (is_empty_at e.board j && is_member e x (at_cell j)) (λ t.
     let u = and_parts (is_empty_at e.board j) (is_member e x (at_cell j)) t in none j u.0 (cell_out e x j u.1))))
-cell_test e x (Some k) on some none = sym (find_least (λ j. is_empty_at e.board j && is_member e x (at_cell j)) (e.board.size * e.board.size) k
-    (empty_on e.board k some.0) (and_from (is_empty_at e.board k) (is_member e x (at_cell k)) some.0 (cell_in e x k some.1))
-    (λ j l. false_from_ne_true (is_empty_at e.board j && is_member e x (at_cell j)) (λ t.
+cell_test e x (Some k) on some none = sym (find_first (λ j. is_empty_at e.board j && is_member e x (at_cell j)) 0 (e.board.size * e.board.size) k (omega arith)
+    (omega (arith, empty_on e.board k some.0)) (and_from (is_empty_at e.board k) (is_member e x (at_cell k)) some.0 (cell_in e x k some.1))
+    (λ j _ l. false_from_ne_true (is_empty_at e.board j && is_member e x (at_cell j)) (λ t.
     let u = and_parts (is_empty_at e.board j) (is_member e x (at_cell j)) t in
     let q : j ≡ k = empty_alone e x j k on u.0 (cell_out e x j u.1) some.1 in omega arith)))
 

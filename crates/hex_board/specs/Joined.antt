@@ -1,5 +1,6 @@
 -- Paths of stones, and whether they join a player's edges.
-use Rattle.std.specs.Prelude.{◌≡◌, ℕ, ◌*◌, ◌&&◌, ◌||◌, List, [], ◌∷◌, Bool, true, false, zero, suc, Option, Some, None, if◌then◌else◌}
+use Rattle.std.specs.Prelude.{◌≡◌, ℕ, ◌*◌, ◌&&◌, ◌||◌, List, [], ◌∷◌, Bool, true, false, zero, suc}
+use Rattle.std.specs.Prelude.{Option, Some, None, if◌then◌else◌}
 use Rattle.std.specs.List.{list_any, range_with_len}
 use Rattle.hex_cells.specs.Sets.{has, without_cell}
 use Rattle.hex_cells.specs.Graph.{Neighbour, is_neighbour}
@@ -24,25 +25,32 @@ Leads n s g x = (xs : List ℕ) × Path n s x xs × (has g (last_of x xs) ≡ tr
 
 -- a path of the stones s leads from the player's first edge to his second
 abbrev pub Joined : ℕ → Colour → ℕ → Type 0
-Joined n colour s = (x : ℕ) × (xs : List ℕ) × Path n s x xs × (on_edge colour false n x ≡ true) × (on_edge colour true n (last_of x xs) ≡ true)
+Joined n colour s =
+    (x : ℕ) × (xs : List ℕ) × Path n s x xs × (on_edge colour false n x ≡ true)
+    × (on_edge colour true n (last_of x xs) ≡ true)
 
 -- the cells of the board of size n
 abbrev pub cells_of : ℕ → List ℕ
 cells_of n = range_with_len 0 (n * n)
 
--- whether a path of at most `fuel` cells of s, none twice, leads from x to a cell that passes the test:
--- x is in s, and x passes, or a neighbour has such a path in s without x
+-- whether a path of at most `fuel` cells of s, none twice, leads from x to a cell that passes the
+-- test: x is in s, and x passes, or a neighbour has such a path in s without x
 unfoldable pub leads_in : ℕ → ℕ → ℕ → (ℕ → Bool) → ℕ → Bool
 leads_in zero n s test x = false
 leads_in (suc fuel) n s test x =
-    has s x && (test x || list_any (λ y. is_neighbour n x y && leads_in fuel n (without_cell s x) test y) (cells_of n))
+    has s x &&
+    (test x || list_any (λ y. is_neighbour n x y && leads_in fuel n (without_cell s x) test y)
+    (cells_of n))
 
--- whether the stones s join the player's edges: the test of Joined; no path needs more cells than the board has
+-- whether the stones s join the player's edges: the test of Joined; no path needs more cells than
+-- the board has
 unfoldable pub is_joined : ℕ → Colour → ℕ → Bool
 is_joined n colour s =
-    list_any (λ x. on_edge colour false n x && leads_in (n * n) n s (on_edge colour true n) x) (cells_of n)
+    list_any (λ x. on_edge colour false n x && leads_in (n * n) n s (on_edge colour true n) x)
+    (cells_of n)
 
 -- Black where Black is joined, else White where White is joined
 abbrev pub winner_of : Position → Option Colour
 winner_of p =
-    if is_joined p.size Black p.black then Some Black else (if is_joined p.size White p.white then Some White else None)
+    if is_joined p.size Black p.black then Some Black
+    else (if is_joined p.size White p.white then Some White else None)

@@ -1,6 +1,7 @@
--- Places that a path may go through: the cells of a board and a player's two edges; which of them lie side by side, and
--- which an element has.
-use Rattle.std.specs.Prelude.{◌≡◌, ◌≢◌, ℕ, ◌==◌, ◌&&◌, not, nat_eq, Bool, true, false, List, [], ◌∷◌, Option, Some, map}
+-- Places that a path may go through: the cells of a board and a player's two edges; which of them
+-- lie side by side, and which an element has.
+use Rattle.std.specs.Prelude.{◌≡◌, ◌≢◌, ℕ, ◌==◌, ◌&&◌, not, nat_eq, Bool, true, false, List, []}
+use Rattle.std.specs.Prelude.{◌∷◌, Option, Some, map}
 use Rattle.std.specs.List.{find, list_any}
 use Rattle.std.specs.Option.{option_eq}
 use Rattle.hex_cells.specs.Edges.{on_edge}
@@ -15,7 +16,8 @@ pub data Place : Type 0 where
   at_cell : ℕ → Place
   at_edge : Bool → Place
 
--- two places lie side by side on the board of size n: cells that are neighbours, or an edge of the player and a cell on it
+-- two places lie side by side on the board of size n: cells that are neighbours, or an edge of the
+-- player and a cell on it
 abbrev pub Beside : ℕ → Colour → Place → Place → Type 0
 Beside n player (at_cell a) (at_cell b) = Neighbour n a b
 Beside n player (at_cell a) (at_edge second) = on_edge player second n a ≡ true
@@ -40,7 +42,8 @@ IsMember e x (at_edge second) = edge_element e second ≡ x
 -- x and y differ, and a place of one lies beside a place of the other
 abbrev pub Near : PlayerBoard → ℕ → ℕ → Type 0
 Near e x y =
-    (x ≢ y) × (p : Place) × (q : Place) × IsMember e x p × IsMember e y q × Beside e.board.size e.player p q
+    (x ≢ y) × (p : Place) × (q : Place) × IsMember e x p × IsMember e y q
+    × Beside e.board.size e.player p q
 
 -- the places of the board of size n
 abbrev pub places_of : ℕ → List Place
@@ -61,7 +64,9 @@ is_member e x (at_edge second) = edge_element e second == x
 -- the test of Near
 abbrev pub is_near : PlayerBoard → ℕ → ℕ → Bool
 is_near e x y = not (x == y) && list_any
-    (λ p. is_member e x p && list_any (λ q. is_member e y q && are_beside e.board.size e.player p q) (places_of e.board.size))
+    (λ p. is_member e x p
+    && list_any (λ q. is_member e y q && are_beside e.board.size e.player p q)
+    (places_of e.board.size))
     (places_of e.board.size)
 
 -- the empty cell that element x is, if it is one

@@ -1,5 +1,6 @@
 -- Boards with stones, as plain data.
-use Rattle.std.specs.Prelude.{◌≡◌, ℕ, ◌*◌, ◌<◌, ◌≤◌, ◌&&◌, not, nat_lt, Bool, true, Option, Some, None, if◌then◌else◌}
+use Rattle.std.specs.Prelude.{◌≡◌, ℕ, ◌*◌, ◌<◌, ◌≤◌, ◌&&◌, not, nat_lt, Bool, true, Option, Some}
+use Rattle.std.specs.Prelude.{None, if◌then◌else◌}
 use Rattle.hex_cells.specs.Sets.{has, with_cell}
 use Rattle.hex_cells.specs.declared.colours.Colour.{Colour}
 use Rattle.hex_cells.specs.declared.colours.Colour.TheVariants.{Black, White}
@@ -18,7 +19,8 @@ pub record Position : Type 0 where
   pub black : ℕ
   pub white : ℕ
 
--- what holds of the parts of each board: a size from 1 to 11, and stones on the board that are apart
+-- what holds of the parts of each board: a size from 1 to 11, and stones on the board that are
+-- apart
 pub record IsPosition (size black white : ℕ) : Type 0 where
   pub least : 1 ≤ size
   pub most : size ≤ 11

@@ -10,15 +10,29 @@ use Rattle.hex_board.specs.Positions.{Position, stones_of, is_empty_at, placed}
 abbrev pub empty_count : Position → ℕ
 empty_count p = count_by (is_empty_at p) (cells_of p.size)
 
--- the player wins within `fuel` more stones, where `mover` is to place the next: he is joined, or a cell is empty, and
--- after some stone of his own, or after every stone of the other player, he wins with the other to move
+-- the player wins within `fuel` more stones, where `mover` is to place the next: he is joined, or a
+-- cell is empty, and after some stone of his own, or after every stone of the other player, he wins
+-- with the other to move
 abbrev pub WinsIn : ℕ → Colour → Position → Colour → Type 0
 WinsIn zero player p mover = Joined p.size player (stones_of p player)
-WinsIn (suc fuel) player p mover = Joined p.size player (stones_of p player) ⊎ MatchBool (is_same player mover)
+WinsIn (suc fuel) player p mover =
+    Joined p.size player (stones_of p player) ⊎ MatchBool (is_same player mover)
     ((k : ℕ) × (is_empty_at p k ≡ true) × WinsIn fuel player (placed p mover k) (other_of mover))
-    (((k : ℕ) × (is_empty_at p k ≡ true)) × ((k : ℕ) → is_empty_at p k ≡ true → WinsIn fuel player (placed p mover k) (other_of mover)))
+    (((k : ℕ) × (is_empty_at p k ≡ true))
+    × ((k : ℕ) → is_empty_at p k ≡ true
+    → WinsIn fuel player (placed p mover k) (other_of mover)))
 
--- the player wins the board whatever the other does, where `mover` is to place the next stone: the players place in turn
--- until the board is full, and he has won where he is joined
+-- the player wins the board whatever the other does, where `mover` is to place the next stone: the
+-- players place in turn until the board is full, and he has won where he is joined
 abbrev pub Wins : Colour → Position → Colour → Type 0
 Wins player p mover = WinsIn (empty_count p) player p mover
+
+-- after some stone of his own the player wins
+abbrev pub WinsByOwn : Colour → Position → Type 0
+WinsByOwn player p =
+    (k : ℕ) × (is_empty_at p k ≡ true) × Wins player (placed p player k) (other_of player)
+
+-- a cell is empty, and after each stone of the other player he wins
+abbrev pub WinsAfterEach : Colour → Position → Type 0
+WinsAfterEach player p = ((k : ℕ) × (is_empty_at p k ≡ true))
+    × ((k : ℕ) → is_empty_at p k ≡ true → Wins player (placed p (other_of player) k) player)

@@ -3,7 +3,8 @@
 use hex_cells::{CellSet, Size};
 use std::marker::Model;
 
-/// A board with stones: its size and two sets of stones, which have no cell in common and lie on the board.
+/// A board with stones: its size and two sets of stones, which have no cell in common and lie on
+/// the board.
 #[derive(Clone, Copy, Debug, PartialEq, Eq)]
 pub struct Board {
     pub(crate) size: Size,

@@ -1,17 +1,20 @@
 //! The calls of a board.
 
-ghost use Rattle.std.specs.Prelude.{◌≡◌, ℕ, ◌*◌, ◌<◌, ◌≤◌, ◌↔◌, ◌&&◌, not, nat_lt, true, false, IsTrue, MatchOption};
+ghost use Rattle.std.specs.Prelude.{◌≡◌, ℕ, ◌*◌, ◌<◌, ◌≤◌, ◌↔◌, ◌&&◌, not, nat_lt, true, false};
+ghost use Rattle.std.specs.Prelude.{IsTrue, MatchOption};
 ghost use Rattle.hex_cells.specs.Sets.{has};
 ghost use Rattle.hex_cells.specs.Colours.{other_of};
 ghost use Rattle.hex_board.specs.Joined.{Joined, is_joined, winner_of};
-ghost use Rattle.hex_board.specs.Positions.{Apart, Within, stones_of, is_empty_at, placed, stone_at};
+ghost use Rattle.hex_board.specs.Positions.{Apart, Within, stones_of, is_empty_at, placed};
+ghost use Rattle.hex_board.specs.Positions.{stone_at};
 
 use super::boards::Board;
 use super::joined;
 use hex_cells::{Cell, CellSet, Colour, Size};
 
 impl Board {
-    /// The board of this size with these stones. The sets have no cell in common and lie on the board.
+    /// The board of this size with these stones. The sets have no cell in common and lie on the
+    /// board.
     pub fn of(size: Size, black: CellSet, white: CellSet) -> Board
         requires apart { Apart black white }
         requires black_on { Within size black }
@@ -25,7 +28,7 @@ impl Board {
     /// The size of the board.
     pub fn size(&self) -> Size
         ensures value { result ≡ self.now.size }
-        ensures range { (1 ≤ result) × (result ≤ 11) }
+        ensures range { (1 ≤ result) × (result ≤ Size.MAX) }
     {
         self.size
     }
@@ -53,7 +56,9 @@ impl Board {
     pub fn at(&self, cell: Cell) -> Option<Colour>
         requires { cell < self.now.size * self.now.size }
         ensures value { result ≡ stone_at self.now cell }
-        ensures stone { MatchOption result (is_empty_at self.now cell ≡ true) (λ c. (has (stones_of self.now c) cell ≡ true) × (has (stones_of self.now (other_of c)) cell ≡ false)) }
+        ensures stone { MatchOption result (is_empty_at self.now cell ≡ true)
+            (λ c. (has (stones_of self.now c) cell ≡ true)
+            × (has (stones_of self.now (other_of c)) cell ≡ false)) }
     {
         if self.black.has(cell) {
             Some(Colour::Black)
@@ -90,9 +95,14 @@ impl Board {
     /// Black where Black is joined, else White where White is joined, else `None`.
     pub fn winner(&self) -> Option<Colour>
         ensures value { result ≡ winner_of self.now }
-        ensures black { (result ≡ Some Colour.Black) ↔ Joined self.now.size Colour.Black self.now.black }
-        ensures white { (result ≡ Some Colour.White) ↔ (¬ (Joined self.now.size Colour.Black self.now.black) × Joined self.now.size Colour.White self.now.white) }
-        ensures none { (result ≡ None) ↔ (¬ (Joined self.now.size Colour.Black self.now.black) × ¬ (Joined self.now.size Colour.White self.now.white)) }
+        ensures black { (result ≡ Some Colour.Black)
+            ↔ Joined self.now.size Colour.Black self.now.black }
+        ensures white { (result ≡ Some Colour.White)
+            ↔ (¬ (Joined self.now.size Colour.Black self.now.black)
+            × Joined self.now.size Colour.White self.now.white) }
+        ensures none { (result ≡ None)
+            ↔ (¬ (Joined self.now.size Colour.Black self.now.black)
+            × ¬ (Joined self.now.size Colour.White self.now.white)) }
     {
         if self.joined(Colour::Black) {
             Some(Colour::Black)

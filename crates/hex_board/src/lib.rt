@@ -1,21 +1,23 @@
 //! Boards with stones: who is joined, who has won, and the elements of a player.
 //!
-//! **Nouns.** A [`Board`] is a size and the stones of both players; as plain data it is a `Position`. A player is joined
-//! where a path of his stones leads from his first edge to his second; that is how Hex is won. A group is a connected
-//! part of a player's stones and his two edges, and his elements are his groups and the empty cells, by number
-//! ([`Elements`]).
+//! **Nouns.** A [`Board`] is a size and the stones of both players; as plain data it is a
+//! `Position`. A player is joined where a path of his stones leads from his first edge to his
+//! second; that is how Hex is won. A group is a connected part of a player's stones and his two
+//! edges, and his elements are his groups and the empty cells, by number ([`Elements`]).
 //!
-//! **A caller** makes a board by [`Board::of`], puts stones by [`Board::place`], asks [`Board::joined`] and
-//! [`Board::winner`], and goes over [`Board::elements`]. [`flood`], [`joined`] and [`roots_of`] work on sets of stones
-//! that are on no board yet.
+//! **A caller** makes a board by [`Board::of`], puts stones by [`Board::place`], asks
+//! [`Board::joined`] and [`Board::winner`], and goes over [`Board::elements`]. [`flood`],
+//! [`joined`] and [`roots_of`] work on sets of stones that are on no board yet.
 //!
-//! **What is proved.** `joined` answers yes exactly where there is a path of stones between the edges, and equals
-//! `is_joined`, a plain search of paths that callers may define things by ([`joined_is_decided`]). A board is told apart
-//! by its `Position`. The elements are those of the definitions in specs/Elements.antt, where an element's number is a
-//! count of least cells. `Wins`, who wins where both play on, is a definition alone, for the crates above.
+//! **What is proved.** `joined` answers yes exactly where there is a path of stones between the
+//! edges, and equals `is_joined`, a plain search of paths that callers may define things by
+//! ([`joined_is_decided`]). A board is told apart by its `Position`. The elements are those of the
+//! definitions in specs/Elements.antt, where an element's number is a count of least cells; what
+//! lies near is said in specs/Places.antt, where a place is a cell or an edge. `Wins`, who wins
+//! where both play on, is a definition for the crates above, with its laws ([`wins_go_on`]).
 //!
-//! **What is only tested, or not said.** That a full board has exactly one winner is nowhere used, and tested on all
-//! boards of sizes 1 to 4. Speed, and what the derived `Debug` prints.
+//! **What is only tested, or not said.** That a full board has exactly one winner is nowhere used,
+//! and tested on all boards of sizes 1 to 4. Speed, and what the derived `Debug` prints.
 //!
 //! **Limits.** Boards of 1 by 1 to 11 by 11 cells. No call takes memory.
 #![tactic(auto)]
@@ -33,5 +35,6 @@ mod tests;
 pub use boards::Board;
 pub use groups::roots_of;
 pub use laws::{one_element_is_a_group, wins_go_on};
+pub use numbering::MOST_ELEMENTS;
 pub use paths::{flood, joined, joined_is_decided};
 pub use tables::Elements;

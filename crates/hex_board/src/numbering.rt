@@ -1,9 +1,11 @@
-//! How the elements of a player are numbered: the edges first, then the others by their least cells.
+//! How the elements of a player are numbered: the edges first, then the others by their least
+//! cells.
 
 ghost use Rattle.std.specs.Prelude.{◌≡◌, ℕ, ◌*◌, ◌<◌, ◌≤◌, ◌↔◌, true, IsTrue, IfSome, Some, None};
 ghost use Rattle.hex_cells.specs.Colours.{other_of};
 ghost use Rattle.hex_cells.specs.Sets.{has};
-ghost use Rattle.hex_board.specs.Elements.{HasCell, edge_element, edge_elements, element_count, element_of, head_element, is_head, is_linked};
+ghost use Rattle.hex_board.specs.Elements.{HasCell, edge_element, edge_elements, element_count};
+ghost use Rattle.hex_board.specs.Elements.{element_of, head_element, is_head, is_linked};
 ghost use Rattle.hex_board.specs.ElementTables.{IsOnEdgeOf, Reaches};
 ghost use Rattle.hex_board.specs.Positions.{Within, is_empty_at, stones_of};
 
@@ -11,8 +13,11 @@ use super::{Board, flood, roots_of};
 use hex_cells::{Cell, CellSet, Colour, edge};
 use std::marker::Model;
 
-/// The numbers of a player's elements: whether his edges are joined, the stones tied to each edge, and the least cells of
-/// the other elements.
+/// The most elements of a player: two hold his edges, and each other has a cell of its own.
+pub const MOST_ELEMENTS: usize = 123;
+
+/// The numbers of a player's elements: whether his edges are joined, the stones tied to each edge,
+/// and the least cells of the other elements.
 #[derive(Debug, Drop)]
 pub(crate) struct Numbering {
     board: Board,
@@ -31,7 +36,8 @@ impl Model for Numbering {
 
     ghost view = { λ e. record { board = e.board; player = e.colour } };
 
-    ghost invariant = { λ e. IsNumbered (record { board = e.board; player = e.colour }) e.joined e.first e.second e.heads };
+    ghost invariant = { λ e. IsNumbered
+        (record { board = e.board; player = e.colour }) e.joined e.first e.second e.heads };
 }
 
 impl Numbering {
@@ -70,10 +76,10 @@ impl Numbering {
         (self.edge_elements() + self.heads.rank(cell)) as u8
     }
 
-    // How many elements there are: 1 to 123.
+    // How many elements there are: 1 to [`MOST_ELEMENTS`].
     pub(crate) fn count(&self) -> u32
         ensures value { result ≡ element_count self.now }
-        ensures range { (1 ≤ result) × (result ≤ 123) }
+        ensures range { (1 ≤ result) × (result ≤ MOST_ELEMENTS) }
     {
         self.edge_elements() + self.heads.count()
     }
@@ -126,7 +132,8 @@ impl Numbering {
         requires { cell < self.now.board.size * self.now.board.size }
         ensures value { result ≡ element_of self.now cell }
         ensures range { IfSome result (λ x. x < element_count self.now) }
-        ensures other { (result ≡ None) ↔ (has (stones_of self.now.board (other_of self.now.player)) cell ≡ true) }
+        ensures other { (result ≡ None)
+            ↔ (has (stones_of self.now.board (other_of self.now.player)) cell ≡ true) }
     {
         let _heads = self.heads;
         self.find(cell)
@@ -145,7 +152,8 @@ impl Numbering {
     // The cells of an element without an edge, by its least cell.
     fn headed(&self, head: Cell) -> CellSet
         requires { is_head self.now head ≡ true }
-        ensures { (k : ℕ) → IsTrue (has result k) ↔ HasCell self.now (head_element self.now head) k }
+        ensures { (k : ℕ) → IsTrue (has result k)
+            ↔ HasCell self.now (head_element self.now head) k }
     {
         if self.board.empties().has(head) {
             CellSet::none().with(head)
@@ -190,7 +198,8 @@ impl Numbering {
         first.union(second)
     }
 
-    // The cells beside an element below the count: the neighbours of its cells, and the edges that it holds.
+    // The cells beside an element below the count: the neighbours of its cells, and the edges that
+    // it holds.
     pub(crate) fn beside(&self, element: u8) -> CellSet
         requires { element < element_count self.now }
         ensures { (k : ℕ) → IsTrue (has result k) ↔ Reaches self.now element k }

@@ -21,7 +21,8 @@ pub fn flood(goal: CellSet, stones: CellSet, size: Size) -> CellSet
     }
 }
 
-/// Whether the stones join the player's edges: some path of them leads from his first edge to his second.
+/// Whether the stones join the player's edges: some path of them leads from his first edge to his
+/// second.
 pub fn joined(stones: CellSet, colour: Colour, size: Size) -> bool
     ensures path { IsTrue result ↔ Joined size colour stones }
     ensures value { result ≡ is_joined size colour stones }
@@ -30,8 +31,9 @@ pub fn joined(stones: CellSet, colour: Colour, size: Size) -> bool
     reach.meets(edge(colour, false, size))
 }
 
-/// A law, with nothing to run: the test `is_joined`, which searches for a path cell by cell, passes exactly where there
-/// is a path that joins the edges. So callers may define what is joined as a function.
+/// A law, with nothing to run: the test `is_joined`, which searches for a path cell by cell, passes
+/// exactly where there is a path that joins the edges. So callers may define what is joined as a
+/// function.
 pub fn joined_is_decided()
     ensures { (n : ℕ) (c : Colour) (s : ℕ) → IsTrue (is_joined n c s) ↔ Joined n c s }
 {}

@@ -3,30 +3,30 @@
 ghost use Rattle.std.specs.Prelude.{◌≡◌, ℕ, ◌*◌, ◌<◌, ◌≤◌, ◌↔◌, true, IsTrue, IfNone, IfSome, None};
 ghost use Rattle.hex_cells.specs.Colours.{other_of};
 ghost use Rattle.hex_cells.specs.Sets.{has};
-ghost use Rattle.hex_board.specs.Elements.{HasCell, PlayerBoard, edge_element, element_count, element_of};
+ghost use Rattle.hex_board.specs.Elements.{HasCell, PlayerBoard, edge_element, element_count};
+ghost use Rattle.hex_board.specs.Elements.{element_of};
 ghost use Rattle.hex_board.specs.Places.{Near, cell_of, is_near};
 ghost use Rattle.hex_board.specs.ElementTables.{Meets};
 ghost use Rattle.hex_board.specs.Positions.{is_empty_at, stones_of};
 
 use super::Board;
-use super::numbering::Numbering;
+use super::numbering::{MOST_ELEMENTS, Numbering};
 use hex_cells::{Cell, CellSet, Colour};
 use std::marker::Model;
 
-// Two elements hold the edges, and each of the others has a cell of its own.
-const ELEMENTS: usize = 123;
-
-/// The elements of a player on a board: each empty cell by itself, and the groups. A group is a connected part of the
-/// player's stones and his two edges, where stones are linked as neighbours and a stone on an edge is linked to that
-/// edge. Element 0 holds the first edge, and the second edge is in element 1, or in element 0 where the player is joined.
-/// The others follow in rising order of their least cells. There are at most 123.
+/// The elements of a player on a board: each empty cell by itself, and the groups. A group is a
+/// connected part of the player's stones and his two edges, where stones are linked as neighbours
+/// and a stone on an edge is linked to that edge. Element 0 holds the first edge, and the second
+/// edge is in element 1, or in element 0 where the player is joined. The others follow in rising
+/// order of their least cells. There are at most [`MOST_ELEMENTS`].
 ///
-/// It keeps the cells of each element, and the cells beside it, so that `near` is a few steps on machine words.
+/// It keeps the cells of each element, and the cells beside it, so that `near` is a few steps on
+/// machine words.
 #[derive(Debug, Drop)]
 pub struct Elements {
     numbering: Numbering,
-    parts: [CellSet; ELEMENTS],
-    reaches: [CellSet; ELEMENTS],
+    parts: [CellSet; MOST_ELEMENTS],
+    reaches: [CellSet; MOST_ELEMENTS],
 }
 
 impl Model for Elements {
@@ -46,8 +46,8 @@ impl Board {
         ensures { result ≡ record { board = self.now; player = colour } }
     {
         let numbering = Numbering::of_board(self, colour);
-        let mut parts = [CellSet::none(); ELEMENTS];
-        let mut reaches = [CellSet::none(); ELEMENTS];
+        let mut parts = [CellSet::none(); MOST_ELEMENTS];
+        let mut reaches = [CellSet::none(); MOST_ELEMENTS];
         let count = numbering.count();
         'elements: for x in 0..count {
             parts[x as usize] = numbering.cells(x as u8);
@@ -62,10 +62,10 @@ impl Board {
 }
 
 impl Elements {
-    /// How many elements there are: 1 to 123.
+    /// How many elements there are: 1 to [`MOST_ELEMENTS`].
     pub fn count(&self) -> u32
         ensures value { result ≡ element_count self.now }
-        ensures range { (1 ≤ result) × (result ≤ 123) }
+        ensures range { (1 ≤ result) × (result ≤ MOST_ELEMENTS) }
     {
         self.numbering.count()
     }
@@ -83,7 +83,8 @@ impl Elements {
         requires { cell < self.now.board.size * self.now.board.size }
         ensures value { result ≡ element_of self.now cell }
         ensures range { IfSome result (λ x. x < element_count self.now) }
-        ensures other { (result ≡ None) ↔ (has (stones_of self.now.board (other_of self.now.player)) cell ≡ true) }
+        ensures other { (result ≡ None)
+            ↔ (has (stones_of self.now.board (other_of self.now.player)) cell ≡ true) }
     {
         self.numbering.of(cell)
     }
@@ -92,8 +93,10 @@ impl Elements {
     pub fn cell(&self, element: u8) -> Option<Cell>
         requires { element < element_count self.now }
         ensures value { result ≡ cell_of self.now element }
-        ensures empty { IfSome result (λ k. (is_empty_at self.now.board k ≡ true) × HasCell self.now element k) }
-        ensures group { IfNone result ((k : ℕ) → is_empty_at self.now.board k ≡ true → ¬ (HasCell self.now element k)) }
+        ensures empty { IfSome result
+            (λ k. (is_empty_at self.now.board k ≡ true) × HasCell self.now element k) }
+        ensures group { IfNone result
+            ((k : ℕ) → is_empty_at self.now.board k ≡ true → ¬ (HasCell self.now element k)) }
     {
         let empty = self.cells(element).meet(self.numbering.empties());
         empty.least()
@@ -107,8 +110,9 @@ impl Elements {
         self.parts[element as usize]
     }
 
-    /// Whether two elements below the count lie side by side: they differ, and a cell of one is a neighbour of a cell of
-    /// the other, or one holds an edge and the other has a cell on that edge.
+    /// Whether two elements below the count lie side by side: they differ, and a cell of one is a
+    /// neighbour of a cell of the other, or one holds an edge and the other has a cell on that
+    /// edge.
     pub fn near(&self, x: u8, y: u8) -> bool
         requires x { x < element_count self.now }
         requires y { y < element_count self.now }

@@ -36,7 +36,8 @@ fn empty_board(size: Size) -> Board
     Board::of(size, CellSet::none(), CellSet::none())
 }
 
-// The board whose cells are the digits of `code` in this base, the first cell lowest: 0 Black, 1 White, 2 empty.
+// The board whose cells are the digits of `code` in this base, the first cell lowest: 0 Black, 1
+// White, 2 empty.
 fn decoded(rt: &impl Abort, code: u32, base: u32, size: Size) -> Board
     requires { 2 ≤ base }
 {
@@ -183,7 +184,8 @@ fn elements_of_a_row(rt: HostRuntime) -> Result<(), Fail> {
     Ok(())
 }
 
-// Stones on a board of size 3, the element of each of its cells from a1 to c3, and pairs of elements.
+// Stones on a board of size 3, the element of each of its cells from a1 to c3, and pairs of
+// elements.
 struct Case {
     stones: &'static [(Colour, u32, u32)],
     player: Colour,
@@ -193,8 +195,8 @@ struct Case {
     apart: &'static [(u8, u8)],
 }
 
-// Black is joined by a1, a2 and a3; his group is b3 on the second edge; his one stone is b2; White's group a2 and b2 lies
-// on the first edge, beside Black's c1.
+// Black is joined by a1, a2 and a3; his group is b3 on the second edge; his one stone is b2;
+// White's group a2 and b2 lies on the first edge, beside Black's c1.
 const CASES: [Case; 4] = [
     Case {
         stones: &[
@@ -291,11 +293,12 @@ fn elements_on_size_three(rt: HostRuntime) -> Result<(), Fail> {
             (elements.edge(false), elements.edge(true)),
             (0, case.second_edge)
         );
+        let wanted = case.elements;
         for row in 0..3 {
             for column in 0..3 {
                 let cell = cell_at(&rt, board.size(), column, row);
                 let element = elements.of(cell);
-                assert_eq!(rt; element, case.elements[(3 * row + column) as usize]);
+                assert_eq!(rt; element, wanted[(3 * row + column) as usize]);
                 if let Some(x) = element {
                     let alone = if board.at(cell).is_none() {
                         Some(cell)

@@ -1,11 +1,13 @@
+-- The neighbours of a cell by its number, and a set moved in the six directions.
 use Rattle.std.proofs.Common.{◌≡◌, ℕ, ◌+◌, ◌-◌, ◌*◌, ◌/◌, ◌%◌, ◌<◌, ◌≤◌, ◌==◌, ◌≢◌, ◌&&◌, ◌||◌, not, true, false, Bool, nat_lt, refl, sym, ◌∙◌, ap, arith, inl, inr, IsTrue, ◌⊎◌, ◌↔◌, subst, zero, suc}
-use Rattle.std.proofs.lemmas.Bool.{and_parts, or_cases}
+use Rattle.std.proofs.lemmas.Bool.{and_parts, or_cases, ltb-true, lt-ltb}
 use Rattle.std.proofs.lemmas.Bool.Decides.{nat_tests}
 use Rattle.std.proofs.lemmas.Nat.{div-mul-add, mod-mul-add, div-add-mod', mod_below}
 use Rattle.hex_cells.specs.Sets.{has}
 use Rattle.hex_cells.specs.Graph.{Adjacent, Neighbour, Bordered, east, west, south, north, north_east, south_west}
 
-place : (n q r b : ℕ) → r < n → b ≡ q * n + r → (b % n ≡ r) × (b / n ≡ q)
+-- the column and the row of a number
+pub place : (n q r b : ℕ) → r < n → b ≡ q * n + r → (b % n ≡ r) × (b / n ≡ q)
 place n q r b h e = rw e (mod-mul-add q n r h, div-mul-add q n r h)
 
 pub to_east : (n a b : ℕ) → 0 < n → b ≡ a + 1 → a % n ≢ n - 1 → Adjacent n a b
@@ -71,9 +73,6 @@ some_of : (a b c d e f al : Bool) → al ≡ true
     → ((((a || b) || (c || d)) || (e || f)) && al) ≡ true
 some_of a b c d e f al h o = grind arith
 
-lt_of : (k m : ℕ) → nat_lt k m ≡ true → k < m
-lt_of k m e = grind (arith, nat_tests)
-
 cut_out : (x : Bool) (k m c v : ℕ) → ((x && nat_lt k m) && not (nat_lt k m && c == v)) ≡ true → (x ≡ true) × (k < m) × (c ≢ v)
 cut_out x k m c v h = (grind (arith, nat_tests), grind (arith, nat_tests), λ e. grind (arith, nat_tests))
 
@@ -111,17 +110,17 @@ beside n s c d h l m t = (c, h, record { from = l; to = m; step = t })
 pub around_out : (n s all here left right d : ℕ) → Cuts n s all here left right → moved n all here left right d ≡ true → Bordered n s d
 around_out n s all here left right d k h = any_of _ _ _ _ _ _ _ (Bordered n s d) h
     (λ e a. let u : (1 ≤ d) × (has left (d - 1) ≡ true) = moved_out _ _ d 1 e in let t = cut_out (has s (d - 1)) (d - 1) (n * n) ((d - 1) % n) (n - 1) (sym (k.not_last (d - 1)) ∙ u.1) in
-    beside n s (d - 1) d t.0 t.1 (lt_of _ _ (sym (k.on d) ∙ a)) (to_east n _ d k.low (omega arith) t.2))
+    beside n s (d - 1) d t.0 t.1 (ltb-true _ _ (sym (k.on d) ∙ a)) (to_east n _ d k.low (omega arith) t.2))
     (λ e a. let t = cut_out (has s (d + 1)) (d + 1) (n * n) ((d + 1) % n) 0 (sym (k.not_first (d + 1)) ∙ e) in
-    beside n s (d + 1) d t.0 t.1 (lt_of _ _ (sym (k.on d) ∙ a)) (to_west n _ d k.low refl t.2))
+    beside n s (d + 1) d t.0 t.1 (ltb-true _ _ (sym (k.on d) ∙ a)) (to_west n _ d k.low refl t.2))
     (λ e a. let u : (n ≤ d) × (has here (d - n) ≡ true) = moved_out _ _ d n e in let t = here_out (has s (d - n)) (d - n) (n * n) (sym (k.whole (d - n)) ∙ u.1) in
-    beside n s (d - n) d t.0 t.1 (lt_of _ _ (sym (k.on d) ∙ a)) (to_south n _ d k.low (omega arith)))
+    beside n s (d - n) d t.0 t.1 (ltb-true _ _ (sym (k.on d) ∙ a)) (to_south n _ d k.low (omega arith)))
     (λ e a. let t = here_out (has s (d + n)) (d + n) (n * n) (sym (k.whole (d + n)) ∙ e) in
-    beside n s (d + n) d t.0 t.1 (lt_of _ _ (sym (k.on d) ∙ a)) (to_north n _ d k.low refl))
+    beside n s (d + n) d t.0 t.1 (ltb-true _ _ (sym (k.on d) ∙ a)) (to_north n _ d k.low refl))
     (λ e a. let t = cut_out (has s (d + (n - 1))) (d + (n - 1)) (n * n) ((d + (n - 1)) % n) (n - 1) (sym (k.not_last (d + (n - 1))) ∙ e) in
-    beside n s (d + (n - 1)) d t.0 t.1 (lt_of _ _ (sym (k.on d) ∙ a)) (to_north_east n _ d k.low refl t.2))
+    beside n s (d + (n - 1)) d t.0 t.1 (ltb-true _ _ (sym (k.on d) ∙ a)) (to_north_east n _ d k.low refl t.2))
     (λ e a. let u : (n - 1 ≤ d) × (has right (d - (n - 1)) ≡ true) = moved_out _ _ d (n - 1) e in let t = cut_out (has s (d - (n - 1))) (d - (n - 1)) (n * n) ((d - (n - 1)) % n) 0 (sym (k.not_first (d - (n - 1))) ∙ u.1) in
-    beside n s (d - (n - 1)) d t.0 t.1 (lt_of _ _ (sym (k.on d) ∙ a)) (to_south_west n _ d k.low (omega arith) t.2))
+    beside n s (d - (n - 1)) d t.0 t.1 (ltb-true _ _ (sym (k.on d) ∙ a)) (to_south_west n _ d k.low (omega arith) t.2))
 
 -- ---- and back
 n_east : (n c d : ℕ) → 0 < n → d % n ≡ c % n + 1 → d / n ≡ c / n → (d ≡ c + 1) × (c % n ≢ n - 1)
@@ -158,12 +157,9 @@ right_in n s all here left right x c k e h l m = rw e (k.not_first c ∙ cut_in 
 whole_in : (n s all here left right x c : ℕ) → Cuts n s all here left right → x ≡ c → has s c ≡ true → c < n * n → has here x ≡ true
 whole_in n s all here left right x c k e h l = rw e (k.whole c ∙ here_in (has s c) c (n * n) h l)
 
-is_lt : (k m : ℕ) → k < m → nat_lt k m ≡ true
-is_lt k m h = grind (arith, nat_tests)
-
 pub around_in : (n s all here left right d c : ℕ) → Cuts n s all here left right → has s c ≡ true → Neighbour n c d → moved n all here left right d ≡ true
 around_in n s all here left right d c k h b =
-    let a : has all d ≡ true = k.on d ∙ is_lt d (n * n) b.to in
+    let a : has all d ≡ true = k.on d ∙ lt-ltb d (n * n) b.to in
     let p : 0 < n = k.low in
     let q : c < n * n = b.from in
     some_of _ _ _ _ _ _ _ a (elim b.step [
@@ -211,7 +207,7 @@ gathered_moved n s all here left right d k =
     let p : 0 < n = k.low in
     let u : d - (n - 1) - 1 ≡ d - n = omega arith in
     let v : d + (n - 1) + 1 ≡ d + n = omega arith in
-    let f : has all d ≡ true → has all (d - (n - 1)) ≡ true = λ h. k.on (d - (n - 1)) ∙ is_lt (d - (n - 1)) (n * n) (below d (n - 1) (n * n) (lt_of d (n * n) (sym (k.on d) ∙ h))) in
+    let f : has all d ≡ true → has all (d - (n - 1)) ≡ true = λ h. k.on (d - (n - 1)) ∙ lt-ltb (d - (n - 1)) (n * n) (below d (n - 1) (n * n) (ltb-true d (n * n) (sym (k.on d) ∙ h))) in
     let w : n - 1 + 1 ≡ n = omega arith in
     regroup (has all d && (not (nat_lt d 1) && has left (d - 1))) (has right (d + 1)) (has all d && (not (nat_lt d n) && has here (d - n))) (has here (d + n))
     (has left (d + (n - 1))) (has all d && (not (nat_lt d (n - 1)) && has right (d - (n - 1))))

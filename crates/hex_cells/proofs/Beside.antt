@@ -1,5 +1,6 @@
-use Rattle.std.proofs.Common.{◌≡◌, ℕ, ◌+◌, ◌*◌, ◌/◌, ◌%◌, ◌<◌, ◌==◌, ◌&&◌, ◌||◌, ◌⊎◌, ◌↔◌, IsTrue, true, false, Bool, nat_lt, refl, sym, arith, inl, inr}
-use Rattle.std.proofs.lemmas.Bool.{and_parts, and_from, or_cases}
+-- The test of neighbours passes exactly at neighbours.
+use Rattle.std.proofs.Common.{◌≡◌, ℕ, ◌+◌, ◌*◌, ◌/◌, ◌%◌, ◌==◌, ◌&&◌, ◌||◌, ◌⊎◌, ◌↔◌, IsTrue, true, false, Bool, nat_lt, refl, sym, arith, inl, inr}
+use Rattle.std.proofs.lemmas.Bool.{and_parts, and_from, or_cases, ltb-true, lt-ltb}
 use Rattle.std.proofs.lemmas.Bool.Decides.{nat_tests}
 use Rattle.hex_cells.specs.Graph.{Adjacent, Neighbour, is_adjacent, is_neighbour, east, west, south, north, north_east, south_west}
 
@@ -44,21 +45,15 @@ adjacent_in n a b (north e f) = steps_in (a % n) (a / n) (b % n) (b / n) (inr (i
 adjacent_in n a b (north_east e f) = steps_in (a % n) (a / n) (b % n) (b / n) (inr (inr (inr (inr (inl (pair_in _ _ _ _ e f))))))
 adjacent_in n a b (south_west e f) = steps_in (a % n) (a / n) (b % n) (b / n) (inr (inr (inr (inr (inr (pair_in _ _ _ _ e f))))))
 
-lt_of : (k m : ℕ) → nat_lt k m ≡ true → k < m
-lt_of k m e = grind (arith, nat_tests)
-
-is_lt : (k m : ℕ) → k < m → nat_lt k m ≡ true
-is_lt k m h = grind (arith, nat_tests)
-
 pub neighbour_out : (n a b : ℕ) → is_neighbour n a b ≡ true → Neighbour n a b
 neighbour_out n a b h =
     let t = and_parts (nat_lt a (n * n) && nat_lt b (n * n)) (is_adjacent (a % n) (a / n) (b % n) (b / n)) h in
     let u = and_parts (nat_lt a (n * n)) (nat_lt b (n * n)) t.0 in
-    record { from = lt_of _ _ u.0; to = lt_of _ _ u.1; step = adjacent_out n a b t.1 }
+    record { from = ltb-true _ _ u.0; to = ltb-true _ _ u.1; step = adjacent_out n a b t.1 }
 
 pub neighbour_in : (n a b : ℕ) → Neighbour n a b → is_neighbour n a b ≡ true
 neighbour_in n a b h = and_from (nat_lt a (n * n) && nat_lt b (n * n)) (is_adjacent (a % n) (a / n) (b % n) (b / n))
-    (and_from (nat_lt a (n * n)) (nat_lt b (n * n)) (is_lt _ _ h.from) (is_lt _ _ h.to)) (adjacent_in n a b h.step)
+    (and_from (nat_lt a (n * n)) (nat_lt b (n * n)) (lt-ltb _ _ h.from) (lt-ltb _ _ h.to)) (adjacent_in n a b h.step)
 
 -- two tests that pass together are equal
 pub same_test : (x y : Bool) → (x ≡ true → y ≡ true) → (y ≡ true → x ≡ true) → x ≡ y

@@ -1,15 +1,16 @@
+-- The bits of a set, and what each operation does to them.
 use Rattle.std.proofs.Common.{◌≡◌, ℕ, ◌+◌, ◌-◌, ◌*◌, ◌/◌, ◌%◌, ◌^◌, ◌<◌, ◌≤◌, ◌==◌, ◌&&◌, ◌||◌, not, true, false, Bool, min, max, bit_and, bit_or, bit_xor, refl, sym, ◌∙◌, ap, arith, inl, inr, zero, suc}
 use Rattle.std.specs.Int.{bit_at, trailing_zeros, w128}
 use Rattle.std.proofs.Common.{nat_lt}
 use Rattle.std.proofs.lemmas.Bool.Decides.{nat_tests}
-use Rattle.std.proofs.lemmas.Bool.{cases_lt, cases_eq}
+use Rattle.std.proofs.lemmas.Bool.{cases_lt, cases_eq, both_ways}
 use Rattle.std.proofs.lemmas.Nat.Bits.{bit_at_or, bit_at_and, bit_at-lt, bit_at-zero, bit_at_above, bit_at_not, bit_at_set_same, bit_at_set_other, shr_and_one, bit_at-trailing_zeros, bit_at_cat_low, bit_at_cat_high, bit_at_ones, bit_at_ones_above, same_from_bits, bit_at_xor, bit_at-pow_same, bit_at-pow_other}
 use Rattle.std.proofs.lemmas.Nat.{div-add-mod', shl_whole, mod_below}
 use Rattle.std.proofs.Math.Nat.{div-div-eq-div-mul}
 use Rattle.std.proofs.Common.{pow-add, add-zero}
 use Rattle.std.proofs.Math.Nat.{add_comm}
 use Rattle.std.proofs.Math.Pow.{pow_mono, pow_pos}
-use Rattle.std.proofs.lemmas.Nat.{or_lt, le_or_l}
+use Rattle.std.proofs.lemmas.Nat.{or_lt}
 use Rattle.std.proofs.Math.Pow.{pow-lt}
 use Rattle.hex_cells.specs.Sets.{has, with_cell, without_cell, without_cells}
 
@@ -101,9 +102,6 @@ pub has_mod : (a w k : ℕ) → k < w → has (a % 2 ^ w) k ≡ has a k
 unfolding has
 has_mod a w k h = ap (λ v. v == 1) (sym (bit_at_cat_low (a / 2 ^ w) w (a % 2 ^ w) k h) ∙ ap (λ v. bit_at v k) (div-add-mod' a (2 ^ w)))
 
-off_on : (x : Bool) → x ≡ false → x ≡ true → ⊥
-off_on x e f = cc
-
 past : (x y : Bool) (k j : ℕ) → k < j → x ≡ false → x ≡ (not (nat_lt k j) && y)
 past x y k j h e = grind (arith, nat_tests)
 
@@ -154,9 +152,6 @@ has_ones m k = elim (cases_lt k m) [ inl h ↦ lt_is _ k m h (is_one _ (bit_at_o
 
 pub has_all : (m k : ℕ) → m ≤ 121 → has (1 * 2 ^ m % 2 ^ 128 - 1) k ≡ nat_lt k m
 has_all m k h = let e : 1 * 2 ^ m % 2 ^ 128 ≡ 2 ^ m = one_shl m h in rw e (has_ones m k)
-
-pub or_grows : (a b : ℕ) → a ≤ bit_or a b
-or_grows a b = le_or_l a b
 
 gone : (x y : Bool) → false ≡ (x && not y) → x ≡ true → y ≡ true
 gone x true e f = refl
@@ -239,7 +234,7 @@ has_without_cells s t k = has_and s (bit_xor s t) k ∙ differ_at (bit_at s k) _
 
 -- a cell of a set below 2 ^ w is below w
 pub cell_below : (s w k : ℕ) → s < 2 ^ w → has s k ≡ true → k < w
-cell_below s w k h e = elim (cases_lt k w) [ inl l ↦ l | inr g ↦ absurd (off_on (has s k) (has_above s w k h g) e) ]
+cell_below s w k h e = elim (cases_lt k w) [ inl l ↦ l | inr g ↦ absurd (both_ways (has s k) (has_above s w k h g) e) ]
 
 none_ored : (x y : Bool) → x ≡ false → (x || y) ≡ y
 none_ored x y e = rw e refl
@@ -259,7 +254,7 @@ same_out a c = grind (arith, nat_tests)
 -- a set with a cell less is a lesser number
 pub cleared_less : (a b c : ℕ) → b ≤ a → has b c ≡ (has a c && not (c == c)) → has a c ≡ true → b < a
 cleared_less a b c l e h = elim (cases_eq b a) [
-  | inl q ↦ absurd (off_on (has a c) (ap (λ v. has v c) (sym q) ∙ (e ∙ same_out (has a c) c)) h)
+  | inl q ↦ absurd (both_ways (has a c) (ap (λ v. has v c) (sym q) ∙ (e ∙ same_out (has a c) c)) h)
   | inr n ↦ omega arith
 ]
 

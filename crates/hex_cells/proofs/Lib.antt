@@ -9,3 +9,4 @@ pub mod Shared
 pub mod Tables
 pub mod ColourLaws
 pub mod WithCell
+pub mod Ranges

@@ -1,24 +1,20 @@
+-- A text names one cell of a board at most.
 use Rattle.std.proofs.Common.{◌≡◌, ◌≢◌, ℕ, ◌+◌, ◌-◌, ◌*◌, ◌/◌, ◌%◌, ◌<◌, ◌≤◌, Bool, true, false, List, [], ◌∷◌, Some, None, length, get_or, take, drop, refl, sym, ◌∙◌, ap, subst, arith, inl, inr, zero, suc}
 use Rattle.std.specs.Char.{to_ascii_lowercase}
 use Rattle.std.specs.Fmt.{decimal}
 use Rattle.std.specs.List.{find, range_with_len}
 use Rattle.std.specs.Str.{bytes_eq, str_to_ascii_lowercase}
 use Rattle.std.proofs.Math.Nat.{mul-le-mul_right}
-use Rattle.std.proofs.lemmas.Bool.{cases_lt, cases_eq, cases_Bool}
+use Rattle.std.proofs.lemmas.Bool.{cases_lt, cases_eq, cases_Bool, both_ways, false_from_ne_true}
 use Rattle.std.proofs.lemmas.Fmt.{decimal_digit, decimal_injective}
 use Rattle.std.proofs.lemmas.List.{take_rest}
-use Rattle.std.proofs.lemmas.Nat.{div-mul-add, mod-mul-add, div-add-mod', mod_below}
+use Rattle.std.proofs.lemmas.Nat.{div-add-mod', mod_below}
 use Rattle.std.proofs.lemmas.Slice.Eq.{bytes_eq-Decides}
 use Rattle.std.proofs.lemmas.Str.Ascii.{lowercase_is}
 use Rattle.hex_cells.specs.Vertices.{IsVertex, vertex_cell, vertex_of}
+use Rattle.hex_cells.proofs.Around.{place}
 use Rattle.hex_cells.proofs.Digits.{decimal_two}
-
-apart : (x : Bool) → x ≡ false → x ≡ true → ⊥
-apart x e f = cc
-
-false_if : (x : Bool) → (x ≡ true → ⊥) → x ≡ false
-false_if true f = absurd (f refl)
-false_if false f = refl
+use Rattle.hex_cells.proofs.Ranges.{find_none}
 
 -- ---- digits have one case
 
@@ -89,9 +85,6 @@ is_place xs c m n e l h f =
 
 -- ---- the cell of a vertex
 
-place : (n q r b : ℕ) → r < n → b ≡ q * n + r → (b % n ≡ r) × (b / n ≡ q)
-place n q r b h e = rw e (mod-mul-add q n r h, div-mul-add q n r h)
-
 quotient : (q n k : ℕ) → q * n + k % n ≡ k → k < n * n → q < n
 quotient q n k e h = elim (cases_lt q n) [ inl l ↦ l | inr g ↦ let m : n * n ≤ q * n = mul-le-mul_right n g in absurd (omega arith) ]
 
@@ -115,7 +108,7 @@ one_vertex n j k h a b e =
     sym (div-add-mod' j n) ∙ (ap (λ v. v * n + j % n) t.1 ∙ (ap (λ v. k / n * n + v) t.0 ∙ div-add-mod' k n))
 
 later : (p : ℕ → Bool) (a k : ℕ) → a ≤ k → p k ≡ true → p a ≡ false → a + 1 ≤ k
-later p a k l e t = elim (cases_eq a k) [ inl q ↦ absurd (apart (p a) t (ap p q ∙ e)) | inr q ↦ omega arith ]
+later p a k l e t = elim (cases_eq a k) [ inl q ↦ absurd (both_ways (p a) t (ap p q ∙ e)) | inr q ↦ omega arith ]
 
 find_one : (p : ℕ → Bool) (a m k : ℕ) → a ≤ k → k < a + m → p k ≡ true → ((j : ℕ) → a ≤ j → j < a + m → p j ≡ true → j ≡ k) → find p (range_with_len a m) ≡ Some k
 find_one p a zero k l h e f = absurd (omega arith)
@@ -123,10 +116,6 @@ find_one p a (suc m) k l h e f = elim (cases_Bool (p a)) [
   | inl t ↦ rw t (ap Some (f a (omega arith) (omega arith) t))
   | inr t ↦ rw t (find_one p (a + 1) m k (later p a k l e t) (omega arith) e (λ j u v w. f j (omega arith) (omega arith) w))
 ]
-
-find_none : (p : ℕ → Bool) (a m : ℕ) → ((j : ℕ) → a ≤ j → j < a + m → p j ≡ false) → find p (range_with_len a m) ≡ None
-find_none p a zero f = refl
-find_none p a (suc m) f = rw (f a (omega arith) (omega arith)) (find_none p (a + 1) m (λ j u v. f j (omega arith) (omega arith)))
 
 pub cell_found : (n k : ℕ) (xs : List ℕ) → n ≤ 11 → IsVertex n xs k → vertex_cell n xs ≡ Some k
 unfolding vertex_cell
@@ -137,7 +126,7 @@ cell_found n k xs h v = find_one (λ j. bytes_eq (str_to_ascii_lowercase xs) (ve
 pub no_cell : (n : ℕ) (xs : List ℕ) → ((k : ℕ) → ¬ (IsVertex n xs k)) → vertex_cell n xs ≡ None
 unfolding vertex_cell
 no_cell n xs f = find_none (λ j. bytes_eq (str_to_ascii_lowercase xs) (vertex_of n j)) 0 (n * n)
-    (λ j a b. false_if _ (λ e. f j (omega arith, (bytes_eq-Decides (str_to_ascii_lowercase xs) (vertex_of n j)).0 e)))
+    (λ j a b. false_from_ne_true _ (λ e. f j (omega arith, (bytes_eq-Decides (str_to_ascii_lowercase xs) (vertex_of n j)).0 e)))
 
 pub is_vertex : (n c r k : ℕ) (xs : List ℕ) → c < n → k ≡ r * n + c → k < n * n → str_to_ascii_lowercase xs ≡ (97 + c) ∷ decimal (r + 1) → IsVertex n xs k
 is_vertex n c r k xs h e l f = let t = place n r c k h e in

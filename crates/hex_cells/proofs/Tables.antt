@@ -1,7 +1,8 @@
+-- The tables of the edges, read bit by bit, and the cells of edges and boards.
 use Rattle.std.proofs.Common.{◌≡◌, ℕ, ◌+◌, ◌*◌, ◌^◌, ◌<◌, ◌≤◌, ◌&&◌, not, nat_lt, Bool, true, false, List, [], ◌∷◌, length, get_or, refl, sym, ◌∙◌, ap, arith, inl, inr, zero, suc}
 use Rattle.std.specs.List.{list_all, range_with_len}
 use Rattle.std.proofs.Math.Nat.{mul-le-mul_right}
-use Rattle.std.proofs.lemmas.Bool.{and_parts, cases_lt, cases_eq, false_from_ne_true, false≢true}
+use Rattle.std.proofs.lemmas.Bool.{and_parts, cases_lt, cases_eq, false_from_ne_true, false≢true, ltb-true}
 use Rattle.std.proofs.lemmas.Bool.Decides.{nat_tests}
 use Rattle.hex_cells.specs.declared.colours.Colour.{Colour}
 use Rattle.hex_cells.specs.declared.colours.Colour.TheVariants.{Black, White}
@@ -35,9 +36,6 @@ checked q a (suc m) k h l b =
     let t = and_parts (q a) (list_all q (range_with_len (a + 1) m)) h in
     elim (cases_eq a k) [ inl e ↦ ap q (sym e) ∙ t.0 | inr n ↦ checked q (a + 1) m k t.1 (omega arith) (omega arith) ]
 
-lt_of : (k m : ℕ) → nat_lt k m ≡ true → k < m
-lt_of k m e = grind (arith, nat_tests)
-
 entry : (p : ℕ → ℕ → Bool) (fs : List ℕ) (i : ℕ) → fits p fs ≡ true → i < length fs → right (p i) (get_or fs i 0) ≡ true
 unfolding fits
 entry p [] i h l = absurd (omega arith)
@@ -46,7 +44,7 @@ entry p (f ∷ fs) (suc i) h l = entry (λ n. p (suc n)) fs i (and_parts (right 
 
 right_below : (p : ℕ → Bool) (f : ℕ) → right p f ≡ true → f < 2 ^ 121
 unfolding right
-right_below p f h = lt_of f (2 ^ 121) (and_parts (nat_lt f (2 ^ 121)) (list_all (λ k. same (has f k) (p k)) (range_with_len 0 121)) h).0
+right_below p f h = ltb-true f (2 ^ 121) (and_parts (nat_lt f (2 ^ 121)) (list_all (λ k. same (has f k) (p k)) (range_with_len 0 121)) h).0
 
 right_at : (p : ℕ → Bool) (f k : ℕ) → right p f ≡ true → k < 121 → has f k ≡ p k
 unfolding right
@@ -62,6 +60,10 @@ edge_on White true n k h = grind (arith, nat_tests)
 
 pub square_small : (n : ℕ) → n ≤ 11 → n * n ≤ 121
 square_small n h = let m : n * n ≤ 11 * n = mul-le-mul_right n h in omega arith
+
+-- a cell of a board is one of 121
+pub board_cell : (n k : ℕ) → n ≤ 11 → k < n * n → k < 121
+board_cell n k h l = let s : n * n ≤ 121 = square_small n h in omega arith
 
 table_has : (c : Colour) (b : Bool) (fs : List ℕ) (n k : ℕ) → fits (on_edge c b) fs ≡ true → n < length fs → n ≤ 11 → has (get_or fs n 0) k ≡ on_edge c b n k
 table_has c b fs n k h l m = elim (cases_lt k 121) [

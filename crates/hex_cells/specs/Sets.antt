@@ -1,3 +1,4 @@
+-- Sets of cells as numbers.
 use Rattle.std.specs.Prelude.{ℕ, Bool, ◌==◌, ◌+◌, ◌^◌, zero, suc, cond, bit_and, bit_or, bit_xor}
 use Rattle.std.specs.Int.{bit_at}
 

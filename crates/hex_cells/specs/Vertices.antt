@@ -1,9 +1,11 @@
+-- Vertices: the names of cells in text.
 use Rattle.std.specs.Prelude.{◌≡◌, ℕ, ◌+◌, ◌*◌, ◌/◌, ◌%◌, ◌<◌, List, ◌∷◌, Option}
 use Rattle.std.specs.Fmt.{decimal}
 use Rattle.std.specs.List.{find, range_with_len}
 use Rattle.std.specs.Str.{bytes_eq, str_to_ascii_lowercase}
 
--- the vertex of cell k on the board of size n: its column's letter, `a` (97) for the first, and its row's number, 1 for the first
+-- the vertex of cell k on the board of size n: its column's letter, `a` (97) for the first, and its
+-- row's number, 1 for the first
 abbrev pub vertex_of : ℕ → ℕ → List ℕ
 vertex_of n k = (97 + k % n) ∷ decimal (k / n + 1)
 
@@ -13,4 +15,5 @@ IsVertex n text k = (k < n * n) × (str_to_ascii_lowercase text ≡ vertex_of n 
 
 -- the cell of the board of size n whose vertex the text is, if there is one
 unfoldable pub vertex_cell : ℕ → List ℕ → Option ℕ
-vertex_cell n text = find (λ k. bytes_eq (str_to_ascii_lowercase text) (vertex_of n k)) (range_with_len 0 (n * n))
+vertex_cell n text =
+    find (λ k. bytes_eq (str_to_ascii_lowercase text) (vertex_of n k)) (range_with_len 0 (n * n))

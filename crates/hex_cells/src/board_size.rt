@@ -29,7 +29,8 @@ impl Size {
 
     /// The size `n`; `None` exactly where `n` is not 1 to 11.
     pub fn of(n: u32) -> Option<Size>
-        ensures { MatchOption result (¬ ((1 ≤ n) × (n ≤ 11))) (λ s. (s ≡ n) × ((1 ≤ n) × (n ≤ 11))) }
+        ensures { MatchOption result (¬ ((1 ≤ n) × (n ≤ Size.MAX)))
+            (λ s. (s ≡ n) × ((1 ≤ n) × (n ≤ Size.MAX))) }
     {
         if 1 <= n && n <= Size::MAX {
             Some(Size { n })
@@ -41,7 +42,7 @@ impl Size {
     /// The number of columns, and of rows: 1 to 11.
     pub fn get(self) -> u32
         ensures value { result ≡ self }
-        ensures range { (1 ≤ result) × (result ≤ 11) }
+        ensures range { (1 ≤ result) × (result ≤ Size.MAX) }
     {
         self.n
     }

@@ -5,7 +5,8 @@ ghost use Rattle.std.specs.Prelude.{◌≡◌, ℕ, ◌+◌, ◌*◌, ◌/◌, �
 use super::{MOST_CELLS, Size};
 use std::marker::Model;
 
-/// A cell of a board, by its number `row * size + column`, from 0 to 120. Column and row count from 0, so `a1` is 0.
+/// A cell of a board, by its number `row * size + column`, from 0 to 120. Column and row count from
+/// 0, so `a1` is 0.
 #[derive(Clone, Copy, Debug, PartialEq, Eq)]
 pub struct Cell {
     number: u32,

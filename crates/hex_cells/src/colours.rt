@@ -2,7 +2,8 @@
 
 ghost use Rattle.std.specs.Prelude.{◌≡◌};
 
-/// A player, and the colour of his stones. Black joins the first row to the last, White the first column to the last.
+/// A player, and the colour of his stones. Black joins the first row to the last, White the first
+/// column to the last.
 #[derive(Clone, Copy, Debug, PartialEq, Eq)]
 pub enum Colour {
     /// Joins the first row to the last.

@@ -86,8 +86,8 @@ pub(crate) fn last_column(size: Size) -> CellSet
     CellSet::of_bits(LAST_COLUMNS[size.get() as usize])
 }
 
-/// The cells of a player's first edge, or of his second: Black's are the first and the last row, White's the first and
-/// the last column.
+/// The cells of a player's first edge, or of his second: Black's are the first and the last row,
+/// White's the first and the last column.
 pub fn edge(colour: Colour, second: bool, size: Size) -> CellSet
     ensures { (k : ℕ) → has result k ≡ on_edge colour second size k }
 {

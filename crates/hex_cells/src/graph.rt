@@ -8,8 +8,8 @@ use super::edges::{first_column, last_column};
 use super::{Cell, CellSet, Size};
 
 impl CellSet {
-    /// The cells of the board that have a neighbour in this set. Cells of the set that do not lie on the board count for
-    /// nothing.
+    /// The cells of the board that have a neighbour in this set. Cells of the set that do not lie
+    /// on the board count for nothing.
     pub fn around(self, size: Size) -> CellSet
         ensures { (d : ℕ) → IsTrue (has result d) ↔ Bordered size self d }
     {
@@ -20,15 +20,16 @@ impl CellSet {
         let right = here.minus(first_column(size));
         let east = left.up(1, all);
         let west = right.down(1);
-        // A row is one cell more than `by`: a step of one and then one of `by` leads to the next row.
+        // A row is one cell more than `by`: a step of one and then one of `by` leads to the next
+        // row.
         let south = here.up(1, all).union(right).up(by, all);
         let north = here.down(1).union(left).down(by);
         east.union(west).union(south).union(north).meet(all)
     }
 }
 
-/// The neighbours of a cell of the board: the cells of the board at (c+1, r), (c-1, r), (c, r+1), (c, r-1), (c+1, r-1)
-/// and (c-1, r+1), where (c, r) is its column and row.
+/// The neighbours of a cell of the board: the cells of the board at (c+1, r), (c-1, r), (c, r+1),
+/// (c, r-1), (c+1, r-1) and (c-1, r+1), where (c, r) is its column and row.
 pub fn neighbours(cell: Cell, size: Size) -> CellSet
     requires { cell < size * size }
     ensures graph { (d : ℕ) → IsTrue (has result d) ↔ Neighbour size cell d }

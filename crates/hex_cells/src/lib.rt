@@ -1,14 +1,17 @@
 //! The cells of a Hex board: sizes, cells, sets of cells, the board graph and vertices.
 //!
-//! **Nouns.** A [`Size`] is 1 to 11. A [`Cell`] is the number `row * size + column`, from 0 to 120. A [`CellSet`] is a
-//! set of cells in one `u128`. A [`Colour`] is a player. The board graph is the neighbours of a cell and the two edges
-//! of each player. A vertex is a cell's name in text, as `c2`.
+//! **Nouns.** A [`Size`] is 1 to 11. A [`Cell`] is the number `row * size + column`, from 0 to 120.
+//! A [`CellSet`] is a set of cells in one `u128`. A [`Colour`] is a player. The board graph is the
+//! neighbours of a cell and the two edges of each player. A vertex is a cell's name in text, as
+//! `c2`.
 //!
-//! **A caller** makes a [`Size`] by [`Size::of`], a [`Cell`] by [`Cell::at`] or [`read_vertex`], and goes over a set by
-//! [`CellSet::least`] and [`CellSet::without`], or picks from it by [`CellSet::nth`].
+//! **A caller** makes a [`Size`] by [`Size::of`], a [`Cell`] by [`Cell::at`] or [`read_vertex`],
+//! and goes over a set by [`CellSet::least`] and [`CellSet::without`], or picks from it by
+//! [`CellSet::nth`].
 //!
-//! **What is proved.** Each set operation for every cell, the number of a set where callers compare sets as data, the
-//! neighbours and edges as the rules of the game have them in columns and rows, and vertices both ways.
+//! **What is proved.** Each set operation for every cell, the number of a set where callers compare
+//! sets as data, the neighbours and edges as the rules of the game have them in columns and rows,
+//! and vertices both ways.
 //!
 //! **What is only tested, or not said.** Speed, and what the derived `Debug` prints.
 //!

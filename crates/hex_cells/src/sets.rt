@@ -1,6 +1,7 @@
 //! Sets of cells.
 
-ghost use Rattle.std.specs.Prelude.{◌≡◌, ℕ, ◌+◌, ◌-◌, ◌*◌, ◌^◌, ◌<◌, ◌≤◌, ◌==◌, ◌↔◌, ◌&&◌, ◌||◌, nat_lt, not, true, false, IsTrue, MatchOption, bit_or, bit_and};
+ghost use Rattle.std.specs.Prelude.{◌≡◌, ℕ, ◌+◌, ◌-◌, ◌*◌, ◌^◌, ◌<◌, ◌≤◌, ◌==◌, ◌↔◌, ◌&&◌, ◌||◌};
+ghost use Rattle.std.specs.Prelude.{nat_lt, not, true, false, IsTrue, MatchOption, bit_or, bit_and};
 ghost use Rattle.hex_cells.specs.Sets.{has, members, with_cell, without_cell, without_cells};
 
 use super::{Cell, MOST_CELLS, Size};
@@ -35,7 +36,8 @@ impl CellSet {
         self.bits
     }
 
-    /// The set with this number: cell k is in it exactly where bit k is set. No bit from [`MOST_CELLS`] on may be set.
+    /// The set with this number: cell k is in it exactly where bit k is set. No bit from
+    /// [`MOST_CELLS`] on may be set.
     pub fn of_bits(bits: u128) -> CellSet
         requires { bits < 2 ^ MOST_CELLS }
         ensures value { result ≡ bits }
@@ -95,7 +97,7 @@ impl CellSet {
     }
 
     /// The cells of either set.
-    #[tactic(auto, using(crate::proofs::Bits::has_or, crate::proofs::Bits::or_below, crate::proofs::Bits::or_grows))]
+    #[tactic(auto, using(crate::proofs::Bits::has_or, crate::proofs::Bits::or_below, std::proofs::lemmas::Nat::le_or_l))]
     pub fn union(self, other: CellSet) -> CellSet
         ensures value { result ≡ bit_or self other }
         ensures grows { self ≤ result }
@@ -160,7 +162,8 @@ impl CellSet {
         self.bits.count_ones()
     }
 
-    /// How many cells of the set have a lower number than this cell: where the cell is in the set, the place at which
+    /// How many cells of the set have a lower number than this cell: where the cell is in the set,
+    /// the place at which
     /// `nth` has it.
     pub fn rank(self, cell: Cell) -> u32
         ensures value { result ≡ members self cell }
@@ -171,7 +174,8 @@ impl CellSet {
 
     /// The cell with the least number; `None` exactly for the empty set.
     pub fn least(self) -> Option<Cell>
-        ensures { MatchOption result ((k : ℕ) → has self k ≡ false) (λ c. (has self c ≡ true) × ((k : ℕ) → k < c → has self k ≡ false)) }
+        ensures { MatchOption result ((k : ℕ) → has self k ≡ false)
+            (λ c. (has self c ≡ true) × ((k : ℕ) → k < c → has self k ≡ false)) }
     {
         if self.bits == 0 {
             None

@@ -1,6 +1,7 @@
 //! Vertices: the names of cells in text, as `c2`.
 
-ghost use Rattle.std.specs.Prelude.{◌≡◌, ◌≢◌, ℕ, ◌+◌, ◌*◌, ◌<◌, ◌≤◌, ◌∷◌, drop, take, IfNone, IfSome, MatchOption};
+ghost use Rattle.std.specs.Prelude.{◌≡◌, ◌≢◌, ℕ, ◌+◌, ◌*◌, ◌<◌, ◌≤◌, ◌∷◌, drop, take, IfNone};
+ghost use Rattle.std.specs.Prelude.{IfSome, MatchOption};
 ghost use Rattle.std.specs.Char.{to_ascii_lowercase};
 ghost use Rattle.std.specs.Fmt.{decimal};
 ghost use Rattle.std.specs.Str.{str_to_ascii_lowercase};
@@ -13,7 +14,8 @@ pub const VERTEX_LEN: usize = 3;
 
 // The column that a letter names in either case, from 0.
 fn column_of(letter: u8) -> Option<u32>
-    ensures { MatchOption result ((c : ℕ) → c < 26 → to_ascii_lowercase letter ≢ 97 + c) (λ c. to_ascii_lowercase letter ≡ 97 + c) }
+    ensures { MatchOption result ((c : ℕ) → c < 26 → to_ascii_lowercase letter ≢ 97 + c)
+        (λ c. to_ascii_lowercase letter ≡ 97 + c) }
 {
     let lower = letter.to_ascii_lowercase();
     if b'a' <= lower && lower <= b'z' {
@@ -26,7 +28,8 @@ fn column_of(letter: u8) -> Option<u32>
 // The value of a decimal digit that is at least `least`.
 fn digit_of(byte: u8, least: u8) -> Option<u32>
     requires { least < 10 }
-    ensures { MatchOption result ((d : ℕ) → least ≤ d → d < 10 → byte ≢ 48 + d) (λ d. (least ≤ d) × (d < 10) × (byte ≡ 48 + d)) }
+    ensures { MatchOption result ((d : ℕ) → least ≤ d → d < 10 → byte ≢ 48 + d)
+        (λ d. (least ≤ d) × (d < 10) × (byte ≡ 48 + d)) }
 {
     if b'0' + least <= byte && byte <= b'9' {
         Some(u32::from(byte - b'0'))
@@ -37,7 +40,8 @@ fn digit_of(byte: u8, least: u8) -> Option<u32>
 
 // The number from 1 to 99 with these digits, of which the first is not 0.
 fn number_of(digits: &[u8]) -> Option<u32>
-    ensures { MatchOption result ((m : ℕ) → 1 ≤ m → m ≤ 99 → digits.now ≢ decimal m) (λ m. (1 ≤ m) × (m ≤ 99) × (digits.now ≡ decimal m)) }
+    ensures { MatchOption result ((m : ℕ) → 1 ≤ m → m ≤ 99 → digits.now ≢ decimal m)
+        (λ m. (1 ≤ m) × (m ≤ 99) × (digits.now ≡ decimal m)) }
 {
     if digits.len() == 0 || 2 < digits.len() {
         return None;
@@ -50,8 +54,8 @@ fn number_of(digits: &[u8]) -> Option<u32>
     Some(10 * first + second)
 }
 
-/// Writes the lower-case vertex of a cell of the board at the front of `out`, and answers its length, 2 or 3. The rest
-/// of `out` stays.
+/// Writes the lower-case vertex of a cell of the board at the front of `out`, and answers its
+/// length, 2 or 3. The rest of `out` stays.
 pub fn write_vertex(cell: Cell, size: Size, out: &mut [u8; VERTEX_LEN]) -> usize
     requires { cell < size * size }
     ensures text { take result out.new ≡ vertex_of size cell }
@@ -84,8 +88,8 @@ fn place_of(text: &[u8]) -> Option<(u32, u32)>
     Some((column, number - 1))
 }
 
-/// The cell of the board whose vertex the text is: one column letter in either case, and the row's number without
-/// leading zero. `None` exactly where the text is no vertex of the board.
+/// The cell of the board whose vertex the text is: one column letter in either case, and the row's
+/// number without leading zero. `None` exactly where the text is no vertex of the board.
 pub fn read_vertex(text: &[u8], size: Size) -> Option<Cell>
     ensures value { result ≡ vertex_cell size text.now }
     ensures cell { IfSome result (IsVertex size text.now) }

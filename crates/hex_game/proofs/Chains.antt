@@ -2,26 +2,26 @@
 use Rattle.std.proofs.Common.{◌≡◌, Bool, true, cond, suc, List, [], ◌∷◌, ◌++◌, length, refl, ap, sym, ◌∙◌, subst, append-nil, append_assoc}
 use Rattle.hex_board.specs.Positions.{Position}
 use Rattle.hex_game.specs.Games.{is_legal_on, after_step, replay_on, replay, moved, AreLegal}
-use Rattle.hex_game.specs.Kept.{IsFew, Leads}
+use Rattle.hex_game.specs.Kept.{IsFew, StepsLead}
 use Rattle.hex_game.specs.Moves.{before_last}
 use Rattle.hex_game.specs.declared.moves.Step.{Step}
 
 -- the last board is the replay
 leads_on : (start : Position) (done : List Step) (now : Position) (steps : List Step) (boards : List Position) (last : Position)
-    → Leads start done now steps boards last → last ≡ replay_on start done now steps
+    → StepsLead start done now steps boards last → last ≡ replay_on start done now steps
 leads_on start done now [] [] last h = h.0
 leads_on start done now [] (board ∷ boards) last h = absurd h
 leads_on start done now (step ∷ steps) [] last h = absurd h
 leads_on start done now (step ∷ steps) (board ∷ boards) last h = leads_on start (done ++ step ∷ []) (after_step start done now step) steps boards last h.3
 
-pub leads_to_replay : (start : Position) (steps : List Step) (boards : List Position) (last : Position) → Leads start [] start steps boards last → last ≡ replay start steps
+pub leads_to_replay : (start : Position) (steps : List Step) (boards : List Position) (last : Position) → StepsLead start [] start steps boards last → last ≡ replay start steps
 unfolding replay
 leads_to_replay start steps boards last h = leads_on start [] start steps boards last h
 
 -- one more step at the end
 more_on : (start : Position) (done : List Step) (now : Position) (steps : List Step) (boards : List Position) (last next : Position) (step : Step)
-    → Leads start done now steps boards last → is_legal_on start (done ++ steps) last step ≡ true → next ≡ after_step start (done ++ steps) last step → IsFew (done ++ steps ++ step ∷ []) next
-    → Leads start done now (steps ++ step ∷ []) (boards ++ last ∷ []) next
+    → StepsLead start done now steps boards last → is_legal_on start (done ++ steps) last step ≡ true → next ≡ after_step start (done ++ steps) last step → IsFew (done ++ steps ++ step ∷ []) next
+    → StepsLead start done now (steps ++ step ∷ []) (boards ++ last ∷ []) next
 more_on start done now [] [] last next step h legal is_next few =
     let at_end : done ++ [] ≡ done = append-nil done in
     let is_after : next ≡ after_step start done now step =
@@ -46,7 +46,7 @@ more_on start done now (first ∷ steps) (board ∷ boards) last next step h leg
 
 -- the board before the last step
 less_on : (start : Position) (done : List Step) (now : Position) (steps : List Step) (boards : List Position) (last board : Position) (step : Step)
-    → Leads start done now (steps ++ step ∷ []) (boards ++ board ∷ []) last → Leads start done now steps boards board
+    → StepsLead start done now (steps ++ step ∷ []) (boards ++ board ∷ []) last → StepsLead start done now steps boards board
 less_on start done now [] [] last board step h = (h.0, h.1)
 less_on start done now [] (b ∷ []) last board step h = absurd h.3
 less_on start done now [] (b ∷ c ∷ boards) last board step h = absurd h.3
@@ -56,14 +56,14 @@ less_on start done now (first ∷ steps) (b ∷ boards) last board step h =
     (h.0, h.1, h.2, less_on start (done ++ first ∷ []) (after_step start done now first) steps boards last board step h.3)
 
 pub one_less : (start : Position) (all steps : List Step) (old boards : List Position) (last board : Position) (step : Step)
-    → all ≡ steps ++ step ∷ [] → old ≡ boards ++ board ∷ [] → Leads start [] start all old last → Leads start [] start steps boards board
+    → all ≡ steps ++ step ∷ [] → old ≡ boards ++ board ∷ [] → StepsLead start [] start all old last → StepsLead start [] start steps boards board
 one_less start all steps old boards last board step e f h =
     less_on start [] start steps boards last board step
-    (subst (λ (bs : List Position). Leads start [] start (steps ++ step ∷ []) bs last) f (subst (λ (ss : List Step). Leads start [] start ss old last) e h))
+    (subst (λ (bs : List Position). StepsLead start [] start (steps ++ step ∷ []) bs last) f (subst (λ (ss : List Step). StepsLead start [] start ss old last) e h))
 
 -- a history has as many boards as steps
 pub as_many_on : (start : Position) (done : List Step) (now : Position) (steps : List Step) (boards : List Position) (last : Position)
-    → Leads start done now steps boards last → length boards ≡ length steps
+    → StepsLead start done now steps boards last → length boards ≡ length steps
 as_many_on start done now [] [] last h = refl
 as_many_on start done now [] (board ∷ boards) last h = absurd h
 as_many_on start done now (step ∷ steps) [] last h = absurd h
@@ -71,7 +71,7 @@ as_many_on start done now (step ∷ steps) (board ∷ boards) last h = ap (λ n.
 
 -- so far each step but a swap has left one stone more
 pub few_on : (start : Position) (done : List Step) (now : Position) (steps : List Step) (boards : List Position) (last : Position)
-    → Leads start done now steps boards last → IsFew (done ++ steps) last
+    → StepsLead start done now steps boards last → IsFew (done ++ steps) last
 few_on start done now [] [] last h = subst (λ (d : List Step). IsFew d last) (sym (append-nil done)) (subst (λ (p : Position). IsFew done p) (sym h.0) h.1)
 few_on start done now [] (board ∷ boards) last h = absurd h
 few_on start done now (step ∷ steps) [] last h = absurd h
@@ -82,11 +82,11 @@ after_legal : (b : Bool) (p q r : Position) → b ≡ true → p ≡ q → p ≡
 after_legal b p q r e f = rw e f
 
 pub one_more : (start : Position) (steps all : List Step) (boards old : List Position) (last next : Position) (step : Step)
-    → Leads start [] start steps boards last → is_legal_on start steps last step ≡ true → next ≡ moved last steps step.colour step.what → IsFew all next
-    → all ≡ steps ++ step ∷ [] → old ≡ boards ++ last ∷ [] → Leads start [] start all old next
+    → StepsLead start [] start steps boards last → is_legal_on start steps last step ≡ true → next ≡ moved last steps step.colour step.what → IsFew all next
+    → all ≡ steps ++ step ∷ [] → old ≡ boards ++ last ∷ [] → StepsLead start [] start all old next
 one_more start steps all boards old last next step h legal is_next few e f =
-    subst (λ (bs : List Position). Leads start [] start all bs next) (sym f)
-    (subst (λ (ss : List Step). Leads start [] start ss (boards ++ last ∷ []) next) (sym e)
+    subst (λ (bs : List Position). StepsLead start [] start all bs next) (sym f)
+    (subst (λ (ss : List Step). StepsLead start [] start ss (boards ++ last ∷ []) next) (sym e)
     (more_on start [] start steps boards last next step h legal
     (after_legal (is_legal_on start steps last step) next (moved last steps step.colour step.what) last legal is_next)
     (subst (λ (ss : List Step). IsFew ss next) e few)))
@@ -110,7 +110,7 @@ replay-push start steps step = replay_on-push start [] start steps step
 
 -- each step is legal where it was taken
 legal_on : (start : Position) (before : List Step) (now : Position) (steps : List Step) (boards : List Position) (last : Position)
-    → Leads start before now steps boards last → now ≡ replay start before
+    → StepsLead start before now steps boards last → now ≡ replay start before
     → (done : List Step) (step : Step) (rest : List Step) → done ++ step ∷ rest ≡ steps → is_legal_on start (before ++ done) (replay start (before ++ done)) step ≡ true
 legal_on start before now [] boards last h e [] step rest q = absurd (cc)
 legal_on start before now [] boards last h e (d ∷ done) step rest q = absurd (cc)
@@ -128,6 +128,6 @@ legal_on start before now (s ∷ steps) (board ∷ boards) last h e (d ∷ done)
     subst (λ (l : List Step). is_legal_on start l (replay start l) step ≡ true) regroup
     (legal_on start (before ++ s ∷ []) (after_step start before now s) steps boards last h.3 next done step rest more)
 
-pub legal_steps : (start : Position) (steps : List Step) (boards : List Position) (last : Position) → Leads start [] start steps boards last → AreLegal start steps
+pub legal_steps : (start : Position) (steps : List Step) (boards : List Position) (last : Position) → StepsLead start [] start steps boards last → AreLegal start steps
 unfolding replay
 legal_steps start steps boards last h = λ done step rest q. legal_on start [] start steps boards last h refl done step rest q

@@ -1,8 +1,8 @@
 -- Stones are counted, so that a game has room for each step that may come.
-use Rattle.std.proofs.Common.{◌≡◌, ℕ, ◌+◌, ◌<◌, ◌≤◌, ◌*◌, Bool, true, false, cond, zero, suc, refl, ap, ◌∙◌, arith, inl, inr}
+use Rattle.std.proofs.Common.{◌≡◌, ℕ, ◌+◌, ◌<◌, ◌≤◌, Bool, true, false, cond, zero, suc, refl, ap, ◌∙◌, arith, inl, inr}
 use Rattle.std.proofs.lemmas.Bool.{cases_eq}
 use Rattle.hex_cells.specs.Sets.{has, members, with_cell}
-use Rattle.hex_cells.proofs.Tables.{square_small}
+use Rattle.hex_cells.proofs.Tables.{board_cell}
 use Rattle.hex_cells.proofs.WithCell.{members_with_cell}
 use Rattle.hex_board.proofs.Placed.{empty_bare, empty_on}
 use Rattle.hex_board.specs.Positions.{Position, Apart, is_empty_at, placed}
@@ -48,10 +48,6 @@ one_stone_more b w c h f = rw (members_with_cell b c 121 f h) (omega arith)
 
 pub one_stone_more_white : (b w c : ℕ) → c < 121 → has w c ≡ false → members b 121 + members (with_cell w c) 121 ≡ members b 121 + members w 121 + 1
 one_stone_more_white b w c h f = rw (members_with_cell w c 121 f h) (omega arith)
-
--- a cell of a board is one of 121
-pub board_cell : (n k : ℕ) → n ≤ 11 → k < n * n → k < 121
-board_cell n k h l = let s : n * n ≤ 121 = square_small n h in omega arith
 
 -- an empty cell of the board is one of 121 and in neither set
 pub empty_cell : (p : Position) (k : ℕ) → p.size ≤ 11 → is_empty_at p k ≡ true → (k < 121) × (has p.black k ≡ false) × (has p.white k ≡ false)

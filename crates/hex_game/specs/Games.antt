@@ -1,5 +1,6 @@
 -- Games: the board that a history leads to, and what may be played next.
-use Rattle.std.specs.Prelude.{◌≡◌, ℕ, ◌+◌, ◌*◌, ◌/◌, ◌%◌, ◌<◌, ◌==◌, ◌&&◌, ◌||◌, not, Bool, true, List, [], ◌∷◌, ◌++◌, Option, Some, None, is_some, if◌then◌else◌}
+use Rattle.std.specs.Prelude.{◌≡◌, ℕ, ◌+◌, ◌*◌, ◌/◌, ◌%◌, ◌<◌, ◌==◌, ◌&&◌, ◌||◌, not, Bool, true}
+use Rattle.std.specs.Prelude.{List, [], ◌∷◌, ◌++◌, Option, Some, None, is_some, if◌then◌else◌}
 use Rattle.hex_cells.specs.declared.colours.Colour.{Colour}
 use Rattle.hex_cells.specs.declared.colours.Colour.TheVariants.{Black, White}
 use Rattle.hex_board.specs.Positions.{Position, empty_board, is_empty_at, placed}
@@ -18,9 +19,11 @@ is_over now = is_joined now.size Black now.black || is_joined now.size White now
 abbrev pub has_no_stone : Position → Bool
 has_no_stone start = (start.black == 0) && (start.white == 0)
 
--- a swap is White's alone, where the game began without stones and its history is one stone of Black
+-- a swap is White's alone, where the game began without stones and its history is one stone of
+-- Black
 abbrev pub may_swap : Position → List Step → Colour → Bool
-may_swap start steps colour = is_white colour && (has_no_stone start && is_some (lone_black_stone steps))
+may_swap start steps colour =
+    is_white colour && (has_no_stone start && is_some (lone_black_stone steps))
 
 abbrev pub fits : Position → List Step → Position → Colour → Move → Bool
 fits start steps now colour (Stone cell) = is_empty_at now cell
@@ -46,12 +49,14 @@ moved now steps colour Swap = swapped now (lone_black_stone steps)
 
 -- the board after one more step; a step that isn't legal leaves it as it is
 abbrev pub after_step : Position → List Step → Position → Step → Position
-after_step start steps now step = if is_legal_on start steps now step then moved now steps step.colour step.what else now
+after_step start steps now step =
+    if is_legal_on start steps now step then moved now steps step.colour step.what else now
 
 -- the board after these steps, where the steps before them led from the start to the board now
 abbrev pub replay_on : Position → List Step → Position → List Step → Position
 replay_on start before now [] = now
-replay_on start before now (step ∷ steps) = replay_on start (before ++ step ∷ []) (after_step start before now step) steps
+replay_on start before now (step ∷ steps) =
+    replay_on start (before ++ step ∷ []) (after_step start before now step) steps
 
 -- the board that is got by taking the steps in turn from the start board
 unfoldable pub replay : Position → List Step → Position
@@ -74,7 +79,8 @@ misfit start steps now colour (Stone cell) = if is_empty_at now cell then None e
 misfit start steps now colour Swap = if may_swap start steps colour then None else Some BadSwap
 
 abbrev pub refusal_on : Position → List Step → Position → Step → Option PlayError
-refusal_on start steps now step = if is_over now then Some Over else misfit start steps now step.colour step.what
+refusal_on start steps now step =
+    if is_over now then Some Over else misfit start steps now step.colour step.what
 
 abbrev pub refusal : GameData → Step → Option PlayError
 refusal game step = refusal_on game.start game.steps (board_of game) step
@@ -101,4 +107,5 @@ new_game start = record { start = start; steps = [] }
 -- each step is legal in the game that the steps before it make
 abbrev pub AreLegal : Position → List Step → Type 0
 AreLegal start steps =
-    (done : List Step) (step : Step) (rest : List Step) → done ++ step ∷ rest ≡ steps → is_legal (record { start = start; steps = done }) step ≡ true
+    (done : List Step) (step : Step) (rest : List Step) → done ++ step ∷ rest ≡ steps
+    → is_legal (record { start = start; steps = done }) step ≡ true

@@ -14,12 +14,13 @@ stones_on now = members now.black MOST_CELLS + members now.white MOST_CELLS
 abbrev pub IsFew : List Step → Position → Type 0
 IsFew done now = length done ≤ stones_on now + 1
 
--- the steps lead, each of them legal, from the board now to the last one, and these are the boards before each;
--- the steps done before led from the start to the board now
-abbrev pub Leads : Position → List Step → Position → List Step → List Position → Position → Type 0
-Leads start done now [] [] last = (last ≡ now) × IsFew done now
-Leads start done now [] (board ∷ boards) last = ⊥
-Leads start done now (step ∷ steps) [] last = ⊥
-Leads start done now (step ∷ steps) (board ∷ boards) last =
+-- the steps lead, each of them legal, from the board now to the last one, and these are the boards
+-- before each; the steps done before led from the start to the board now
+abbrev pub StepsLead : Position → List Step → Position → List Step → List Position → Position
+    → Type 0
+StepsLead start done now [] [] last = (last ≡ now) × IsFew done now
+StepsLead start done now [] (board ∷ boards) last = ⊥
+StepsLead start done now (step ∷ steps) [] last = ⊥
+StepsLead start done now (step ∷ steps) (board ∷ boards) last =
     (board ≡ now) × IsFew done now × (is_legal_on start done now step ≡ true)
-    × Leads start (done ++ step ∷ []) (after_step start done now step) steps boards last
+    × StepsLead start (done ++ step ∷ []) (after_step start done now step) steps boards last

@@ -1,9 +1,12 @@
 //! A game: a start board, the steps taken from it, and the board now.
 
-ghost use Rattle.std.specs.Prelude.{◌≡◌, ℕ, ◌<◌, ◌≤◌, ◌++◌, ◌∷◌, [], ◌↔◌, List, true, false, IfOk, OnOk, OnErr, IfErr, IsErr, vec_capacity, length, Some, None};
+ghost use Rattle.std.specs.Prelude.{◌≡◌, ℕ, ◌<◌, ◌≤◌, ◌++◌, ◌∷◌, [], ◌↔◌, List, true, false, IfOk};
+ghost use Rattle.std.specs.Prelude.{OnOk, OnErr, IfErr, IsErr, vec_capacity, length, Some, None};
 ghost use Rattle.hex_board.specs.Positions.{Position, empty_board};
 ghost use Rattle.hex_game.specs.Moves.{step_of, lone_black_stone};
-ghost use Rattle.hex_game.specs.Games.{GameData, new_game, board_of, is_legal, is_legal_on, refusal, refusal_on, with_step, without_last, moved, IsOnBoard, AreLegal};
+ghost use Rattle.hex_game.specs.Games.{GameData, new_game, board_of, is_legal, is_legal_on};
+ghost use Rattle.hex_game.specs.Games.{refusal, refusal_on, with_step, without_last, moved};
+ghost use Rattle.hex_game.specs.Games.{IsOnBoard, AreLegal};
 
 use super::moves::{MOST_STEPS, Memory, Move, NoMove, PlayError, Step};
 use super::rule::{board_after, cause_against};
@@ -25,14 +28,15 @@ pub struct Game {
 impl Model for Game {
     ghost use Rattle.std.specs.Prelude.{◌≤◌, [], vec_capacity};
     ghost use Rattle.hex_game.specs.Games.{GameData};
-    ghost use Rattle.hex_game.specs.Kept.{Leads};
+    ghost use Rattle.hex_game.specs.Kept.{StepsLead};
     ghost use Rattle.hex_game.specs.declared.moves.TheConstants.{MOST_STEPS};
 
     ghost Value = { GameData };
 
     ghost view = { λ g. record { start = g.start; steps = g.steps.items } };
 
-    ghost invariant = { λ g. Leads g.start [] g.start g.steps.items g.before.items g.board × (MOST_STEPS ≤ vec_capacity g.steps) × (MOST_STEPS ≤ vec_capacity g.before) };
+    ghost invariant = { λ g. StepsLead g.start [] g.start g.steps.items g.before.items g.board
+        × (MOST_STEPS ≤ vec_capacity g.steps) × (MOST_STEPS ≤ vec_capacity g.before) };
 }
 
 impl Game {
@@ -62,9 +66,13 @@ impl Game {
     /// stone's cell holds a stone, and `BadSwap` exactly where the swap may not come.
     pub fn play(&mut self, colour: Colour, what: Move) -> Result<(), PlayError>
         requires on_board { IsOnBoard (board_of self.old) what }
-        ensures ok { OnOk result ((is_legal self.old (step_of colour what) ≡ true) × (self.new ≡ with_step self.old (step_of colour what))) }
-        ensures err { OnErr result ((is_legal self.old (step_of colour what) ≡ false) × (self.new ≡ self.old)) }
-        ensures cause { IfErr result (λ cause. refusal self.old (step_of colour what) ≡ Some cause) }
+        ensures ok { OnOk result
+            ((is_legal self.old (step_of colour what) ≡ true)
+            × (self.new ≡ with_step self.old (step_of colour what))) }
+        ensures err { OnErr result
+            ((is_legal self.old (step_of colour what) ≡ false) × (self.new ≡ self.old)) }
+        ensures cause { IfErr result
+            (λ cause. refusal self.old (step_of colour what) ≡ Some cause) }
     {
         let step = Step { colour, what };
         if let Some(cause) = cause_against(&self.start, &self.steps, &self.board, &step) {
@@ -123,8 +131,8 @@ impl Game {
         &self.steps
     }
 
-    /// A law of each game: each of its steps was legal where it was taken, and there are at most [`MOST_STEPS`]. It
-    /// does nothing.
+    /// A law of each game: each of its steps was legal where it was taken, and there are at most
+    /// [`MOST_STEPS`]. It does nothing.
     pub fn steps_are_legal(&self)
         ensures legal { AreLegal self.now.start self.now.steps }
         ensures few { length self.now.steps ≤ MOST_STEPS }

@@ -3,7 +3,8 @@
 use hex_cells::{Cell, Colour};
 use thiserror::Error;
 
-/// The most steps of a game: a stone for each cell of the largest board, and the swap, which adds none.
+/// The most steps of a game: a stone for each cell of the largest board, and the swap, which adds
+/// none.
 pub const MOST_STEPS: usize = 122;
 
 /// What a player does in one step.

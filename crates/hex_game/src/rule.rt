@@ -1,10 +1,12 @@
 //! The rule of one step.
 
-ghost use Rattle.std.specs.Prelude.{◌≡◌, ℕ, true, false, List, Some, None, is_none, ◌+◌, ◌*◌, ◌<◌, ◌≤◌, length};
+ghost use Rattle.std.specs.Prelude.{◌≡◌, ℕ, true, false, List, Some, None, is_none, ◌+◌, ◌*◌, ◌<◌};
+ghost use Rattle.std.specs.Prelude.{◌≤◌, length};
 ghost use Rattle.hex_game.specs.Moves.{lone_black_stone, is_white};
 ghost use Rattle.hex_board.specs.Positions.{placed, empty_board, is_empty_at};
 ghost use Rattle.hex_game.specs.Kept.{IsFew, stones_on};
-ghost use Rattle.hex_game.specs.Games.{IsOnBoard, is_over, has_no_stone, may_swap, is_legal_on, refusal_on, moved, swapped, mirrored, Fits};
+ghost use Rattle.hex_game.specs.Games.{IsOnBoard, is_over, has_no_stone, may_swap, is_legal_on};
+ghost use Rattle.hex_game.specs.Games.{refusal_on, moved, swapped, mirrored, Fits};
 
 use super::moves::{MOST_STEPS, Move, PlayError, Step};
 use hex_board::Board;
@@ -73,7 +75,8 @@ fn lone_stone(steps: &[Step]) -> Option<Cell>
 /// The board after a step that is legal there.
 pub fn board_after(now: &Board, steps: &[Step], step: &Step) -> Board
     requires fits { Fits now.now steps.now step.now.what }
-    requires lone { (cell : ℕ) → lone_black_stone steps.now ≡ Some cell → cell < now.now.size * now.now.size }
+    requires lone { (cell : ℕ) → lone_black_stone steps.now ≡ Some cell
+        → cell < now.now.size * now.now.size }
     ensures value { result ≡ moved now.now steps.now step.now.colour step.now.what }
     ensures room { IsFew steps.now now.now → length steps.now < MOST_STEPS }
     ensures few { IsFew steps.now now.now → length steps.now ≤ stones_on result }
@@ -94,7 +97,8 @@ fn with_stone(now: &Board, colour: Colour, cell: Cell) -> Board
     ensures room { stones_on now.now < MOST_CELLS }
     ensures more { stones_on result ≡ stones_on now.now + 1 }
 {
-    // That the board has at most 121 cells and that its two sets are apart leaves room for one more stone.
+    // That the board has at most 121 cells and that its two sets are apart leaves room for one more
+    // stone.
     let _size = now.size();
     let _stones = now.stones(Colour::Black);
     let mut next = *now;

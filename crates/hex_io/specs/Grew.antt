@@ -9,4 +9,5 @@ Gave old new bytes = Both old new (λ o n. Gives o n bytes)
 
 -- where the link tells, a front of these bytes was given, and nothing else changed
 abbrev pub GavePart : Option Told → Option Told → List ℕ → Type 0
-GavePart old new bytes = (part : List ℕ) × (more : List ℕ) × (bytes ≡ part ++ more) × Gave old new part
+GavePart old new bytes =
+    (part : List ℕ) × (more : List ℕ) × (bytes ≡ part ++ more) × Gave old new part

@@ -1,5 +1,6 @@
 -- A link in memory: what it tells, what it may still do, and which of its calls fail.
-use Rattle.std.specs.Prelude.{ℕ, ◌+◌, ◌-◌, ◌^◌, ◌≤◌, ◌⊎◌, List, min, length, Contains, Result, Ok, Err}
+use Rattle.std.specs.Prelude.{ℕ, ◌+◌, ◌-◌, ◌^◌, ◌≤◌, ◌⊎◌, List, min, length, Contains, Result, Ok}
+use Rattle.std.specs.Prelude.{Err}
 use Rattle.hex_io.specs.Told.{Told}
 use Rattle.hex_io.specs.declared.in_memory.Ask.{Ask}
 

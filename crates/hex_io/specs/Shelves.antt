@@ -1,9 +1,11 @@
 -- What a shelf tells of itself, and what a fetch answers.
-use Rattle.std.specs.Prelude.{◌≡◌, ℕ, Bool, true, false, List, [], ◌∷◌, ◌++◌, length, nat_le, Option, Some, None, option_map, Result, Ok, Err, if◌then◌else◌}
+use Rattle.std.specs.Prelude.{◌≡◌, ℕ, Bool, true, false, List, [], ◌∷◌, ◌++◌, length, nat_le}
+use Rattle.std.specs.Prelude.{Option, Some, None, option_map, Result, Ok, Err, if◌then◌else◌}
 use Rattle.std.specs.List.{find}
 use Rattle.std.specs.Str.{bytes_eq}
 use Rattle.hex_io.specs.Told.{Both}
 use Rattle.hex_io.specs.declared.files.File.{File}
+use Rattle.hex_io.specs.declared.shelves.TheConstants.{FILE_LIMIT}
 use Rattle.hex_io.specs.declared.shelves.ShelfError.{ShelfError}
 use Rattle.hex_io.specs.declared.shelves.ShelfError.TheVariants.{Fault, TooLong, Memory}
 
@@ -13,13 +15,10 @@ pub record Shelved : Type 0 where
   -- for each fetch so far that did not run out of memory, whether it was at fault
   pub tries : List Bool
 
--- the most bytes of a file that is fetched: 1 MiB
-abbrev pub most_bytes : ℕ
-most_bytes = 1048576
-
 -- what the file of that name holds
 abbrev pub content_of : List File → List ℕ → Option (List ℕ)
-content_of files name = option_map (λ file. file.content) (find (λ file. bytes_eq file.name name) files)
+content_of files name =
+    option_map (λ file. file.content) (find (λ file. bytes_eq file.name name) files)
 
 -- what comes of a fetch
 pub data Fetched : Type 0 where
@@ -31,7 +30,7 @@ pub data Fetched : Type 0 where
 -- what a fetch finds, where none is at fault
 abbrev pub found : Option (List ℕ) → Fetched
 found None = Missing
-found (Some bytes) = if nat_le (length bytes) most_bytes then Held bytes else Long
+found (Some bytes) = if nat_le (length bytes) FILE_LIMIT then Held bytes else Long
 
 -- what comes of the fetch of a name from these files, where it is at fault or not
 abbrev pub fetched_of : List File → Bool → List ℕ → Fetched

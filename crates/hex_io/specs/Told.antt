@@ -1,5 +1,6 @@
 -- What a link tells of itself, and how a read and a write change it.
-use Rattle.std.specs.Prelude.{◌≡◌, ℕ, List, [], ◌∷◌, ◌++◌, length, take, None, Some, MatchResult, Result, ⊤}
+use Rattle.std.specs.Prelude.{◌≡◌, ℕ, List, [], ◌∷◌, ◌++◌, length, take, None, Some, MatchResult}
+use Rattle.std.specs.Prelude.{Result, ⊤}
 use Rattle.std.specs.declared.option.Option.{Option}
 
 -- the bytes still to come, those taken and those given
@@ -10,7 +11,8 @@ pub record Told : Type 0 where
   -- for each read so far that answered Ok, how many bytes were taken and given when it began
   pub asks : List (ℕ × ℕ)
 
--- A fact of what is told before and after. Who tells nothing owes nothing, and who tells goes on telling.
+-- A fact of what is told before and after. Who tells nothing owes nothing, and who tells goes on
+-- telling.
 abbrev pub Both : {X : Type 0} → Option X → Option X → (X → X → Type 0) → Type 0
 Both None new R = ⊤
 Both (Some x) None R = ⊥
@@ -41,8 +43,10 @@ Same old new = Both old new (λ o n. n ≡ o)
 
 -- what a read did: at a fault nothing
 abbrev pub Reads : {E : Type 0} → Option Told → Option Told → Result ℕ E → List ℕ → Type 0
-Reads old new result buf = MatchResult result (λ n. Both old new (λ o t. Takes o t n buf)) (λ _. Same old new)
+Reads old new result buf =
+    MatchResult result (λ n. Both old new (λ o t. Takes o t n buf)) (λ _. Same old new)
 
 -- what a write did: it gave the first n bytes, or at a fault nothing
 abbrev pub Writes : {E : Type 0} → Option Told → Option Told → Result ℕ E → List ℕ → Type 0
-Writes old new result bytes = MatchResult result (λ n. Both old new (λ o t. Gives o t (take n bytes))) (λ _. Same old new)
+Writes old new result bytes =
+    MatchResult result (λ n. Both old new (λ o t. Gives o t (take n bytes))) (λ _. Same old new)

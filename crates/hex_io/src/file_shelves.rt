@@ -1,6 +1,7 @@
 //! A shelf in memory, which is at fault where it is told to be.
 
-ghost use Rattle.std.specs.Prelude.{◌≡◌, ◌≢◌, ◌≤◌, IfOk, Contains, IsTrue, ◌↔◌, [], length, Some, option_map};
+ghost use Rattle.std.specs.Prelude.{◌≡◌, ◌≢◌, ◌≤◌, IfOk, Contains, IsTrue, ◌↔◌, [], length, Some};
+ghost use Rattle.std.specs.Prelude.{option_map};
 ghost use Rattle.std.specs.List.{find};
 ghost use Rattle.std.specs.Str.{bytes_eq};
 ghost use Rattle.hex_io.specs.Shelves.{content_of, found, Fetches, says};
@@ -44,11 +45,16 @@ impl Shelf for MemShelf {
     ghost faults = { λ s. s.faults };
 
     fn fetch(&mut self, alloc: Global, name: &str) -> Result<Option<Vec<u8>>, ShelfError>
-        ensures told { Fetches (Some self.old.told) (Some self.new.told) name.now (says (λ file. file.items) result) }
+        ensures told { Fetches (Some self.old.told) (Some self.new.told) name.now
+            (says (λ file. file.items) result) }
         ensures cause { result ≡ Err ShelfError.Fault → Rose self.old.faults self.new.faults }
         ensures later { self.old.faults ≤ self.new.faults }
-        ensures fails { result ≢ Err ShelfError.Memory → (result ≡ Err ShelfError.Fault) ↔ NextIsBad self.old }
-        ensures rest { self.new ≡ record self.old { told = self.new.told; faults = faults_after self.old.faults (says (λ file. file.items) result) } }
+        ensures fails { result ≢ Err ShelfError.Memory → (result ≡ Err ShelfError.Fault)
+            ↔ NextIsBad self.old }
+        ensures rest { self.new ≡ record self.old {
+          told = self.new.told;
+          faults = faults_after self.old.faults (says (λ file. file.items) result);
+        } }
     {
         if self.is_next_bad() {
             let Ok(()) = self.tries.push(true) else {
@@ -72,7 +78,12 @@ impl MemShelf {
     /// A shelf of these files, the first of a name counting, where the fetches whose numbers stand
     /// in `bad` are at fault.
     pub fn make(alloc: Global, files: Vec<File>, bad: Vec<u32>) -> Result<MemShelf, Memory>
-        ensures { IfOk result (λ shelf. shelf ≡ record { told = record { files = files.items; tries = [] }; bad = bad.items; faults = 0 }) }
+        ensures { IfOk result
+            (λ shelf. shelf ≡ record {
+              told = record { files = files.items; tries = [] };
+              bad = bad.items;
+              faults = 0;
+            }) }
     {
         Ok(MemShelf {
             files,
@@ -90,7 +101,9 @@ impl MemShelf {
 
     /// What the file of that name holds.
     fn look_up(&self, alloc: Global, name: &str) -> Result<Option<Vec<u8>>, ShelfError>
-        ensures { result ≢ Err ShelfError.Memory → says (λ file. file.items) result ≡ Some (found (content_of self.now.told.files name.now)) }
+        ensures { result ≢ Err ShelfError.Memory
+            → says (λ file. file.items) result ≡ Some
+            (found (content_of self.now.told.files name.now)) }
     {
         let Some(file) = named(&self.files, name.as_bytes()) else {
             return Ok(None);
@@ -105,7 +118,8 @@ impl MemShelf {
 
 /// The first file of that name.
 fn named<'a>(files: &'a [File], name: &[u8]) -> Option<&'a File>
-    ensures { option_map (λ file. file.now) result ≡ find (λ file. bytes_eq file.name name.now) files.now }
+    ensures { option_map (λ file. file.now) result ≡ find
+        (λ file. bytes_eq file.name name.now) files.now }
 {
     files.iter().find(|file| file.name.as_slice() == name)
 }

@@ -1,6 +1,7 @@
 //! A link in memory, which fails where it is told to.
 
-ghost use Rattle.std.specs.Prelude.{◌≡◌, ◌<◌, ◌≤◌, ◌-◌, length, IfOk, IsErr, Contains, IsTrue, ◌↔◌, []};
+ghost use Rattle.std.specs.Prelude.{◌≡◌, ◌<◌, ◌≤◌, ◌-◌, length, IfOk, IsErr, Contains, IsTrue, ◌↔◌};
+ghost use Rattle.std.specs.Prelude.{[]};
 ghost use Rattle.hex_io.specs.Told.{Reads, Writes};
 ghost use Rattle.hex_io.specs.Causes.{HasCause};
 ghost use Rattle.hex_io.specs.Mem.{ReadFails, WriteFails, one_more, counted, moved_of};
@@ -63,7 +64,9 @@ impl Model for MemLink {
       write_faults = s.write_faults;
     } };
 
-    ghost invariant = { λ s. (0 < s.piece) × (s.reads ≤ vec_capacity s.asks) × (vec_len s.asks ≤ s.next_read) × (s.room ≤ vec_capacity s.given) × (vec_len s.given ≤ s.room) };
+    ghost invariant = { λ s. (0 < s.piece) × (s.reads ≤ vec_capacity s.asks)
+        × (vec_len s.asks ≤ s.next_read) × (s.room ≤ vec_capacity s.given)
+        × (vec_len s.given ≤ s.room) };
 }
 
 impl Link for MemLink {
@@ -82,8 +85,13 @@ impl Link for MemLink {
         ensures cause { HasCause self.old.read_faults self.new.read_faults result }
         ensures writes { self.new.write_faults ≡ self.old.write_faults }
         ensures fails { IsErr result ↔ ReadFails self.old }
-        ensures moves { IfOk result (λ n. n ≡ moved_of (length self.old.told.to_come) self.old.piece (length buf.old)) }
-        ensures rest { self.new ≡ record self.old { told = self.new.told; next_read = one_more self.old.next_read; read_faults = counted self.old.read_faults result } }
+        ensures moves { IfOk result
+            (λ n. n ≡ moved_of (length self.old.told.to_come) self.old.piece (length buf.old)) }
+        ensures rest { self.new ≡ record self.old {
+          told = self.new.told;
+          next_read = one_more self.old.next_read;
+          read_faults = counted self.old.read_faults result;
+        } }
     {
         let number = self.next_read;
         self.next_read = self.next_read.saturating_add(1);
@@ -108,8 +116,14 @@ impl Link for MemLink {
         ensures cause { HasCause self.old.write_faults self.new.write_faults result }
         ensures reads { self.new.read_faults ≡ self.old.read_faults }
         ensures fails { IsErr result ↔ WriteFails self.old }
-        ensures moves { IfOk result (λ n. n ≡ moved_of (self.old.room - length self.old.told.given) self.old.piece (length bytes.now)) }
-        ensures rest { self.new ≡ record self.old { told = self.new.told; next_write = one_more self.old.next_write; write_faults = counted self.old.write_faults result } }
+        ensures moves { IfOk result
+            (λ n. n ≡ moved_of (self.old.room - length self.old.told.given) self.old.piece
+            (length bytes.now)) }
+        ensures rest { self.new ≡ record self.old {
+          told = self.new.told;
+          next_write = one_more self.old.next_write;
+          write_faults = counted self.old.write_faults result;
+        } }
     {
         let number = self.next_write;
         self.next_write = self.next_write.saturating_add(1);

@@ -51,7 +51,8 @@ pub trait Shelf {
     /// A file of more than [`FILE_LIMIT`] bytes is `TooLong`. `Fault` comes only where the count
     /// of faults rose. After want of memory nothing changed.
     fn fetch(&mut self, alloc: Global, name: &str) -> Result<Option<Vec<u8>>, ShelfError>
-        ensures told { Fetches (told self.old) (told self.new) name.now (says (λ file. file.items) result) }
+        ensures told { Fetches (told self.old) (told self.new) name.now
+            (says (λ file. file.items) result) }
         ensures cause { result ≡ Err ShelfError.Fault → Rose (faults self.old) (faults self.new) }
         ensures later { faults self.old ≤ faults self.new };
 }

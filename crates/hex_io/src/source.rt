@@ -29,8 +29,10 @@ impl Source {
     pub fn take(&mut self, count: usize, buf: &mut [u8])
         requires left { count ≤ length (drop self.old.at self.old.bytes.items) }
         requires room { count ≤ length buf.old }
-        ensures ahead { drop self.old.at self.old.bytes.items ≡ take count buf.new ++ drop self.new.at self.new.bytes.items }
-        ensures behind { take self.new.at self.new.bytes.items ≡ take self.old.at self.old.bytes.items ++ take count buf.new }
+        ensures ahead { drop self.old.at self.old.bytes.items ≡ take count buf.new
+            ++ drop self.new.at self.new.bytes.items }
+        ensures behind { take self.new.at self.new.bytes.items
+            ≡ take self.old.at self.old.bytes.items ++ take count buf.new }
         ensures bytes { self.new.bytes ≡ self.old.bytes }
         ensures place { self.new.at ≡ self.old.at + count }
     {

@@ -8,7 +8,7 @@ use Rattle.clap.specs.Kinds.{Kinds, values_kinds}
 use Rattle.clap.specs.Faults.{check_fault, defaults_fault}
 use Rattle.clap.specs.Facts.{explicit_source}
 use Rattle.clap.specs.Takes.{is_given}
-use Rattle.clap.specs.Walk.{Row, Text, default_rows, first_of, has_row, more_values, with_default}
+use Rattle.clap.specs.Walk.{Row, TextBytes, default_rows, first_of, has_row, more_values, with_default}
 use Rattle.clap.specs.declared.builder.value_parser.Reading.TheVariants as reading
 use Rattle.clap.specs.declared.builder.value_parser.ValueParser.TheVariants as vp
 use Rattle.clap.specs.declared.error.kind.ErrorKind.TheVariants as kind
@@ -21,7 +21,7 @@ use Rattle.hexd_words.proofs.Turns.{both_none}
 
 -- ---- no default is at fault
 
-texts_pass : (values : List Text) → values_kinds false vp.String values ≡ []
+texts_pass : (values : List TextBytes) → values_kinds false vp.String values ≡ []
 texts_pass [] = refl
 texts_pass (v ∷ vs) = texts_pass vs
 
@@ -46,7 +46,7 @@ defaults_clear t rows =
 
 -- ---- rows with defaults
 
-abbrev pub row_at : Text → List Row → Option Row
+abbrev pub row_at : TextBytes → List Row → Option Row
 row_at id rows = find (λ r. bytes_eq r.id id) rows
 
 abbrev pub or_option : {X : Type 0} → Option X → Option X → Option X
@@ -61,19 +61,19 @@ pub or_option_none : {X : Type 0} (a : Option X) → or_option a None ≡ a
 or_option_none None = refl
 or_option_none (Some x) = refl
 
-default_row : Text → List Text → Option Row
+default_row : TextBytes → List TextBytes → Option Row
 default_row id [] = None
 default_row id (v ∷ vs) =
     Some (record { id = id; values = v ∷ vs; count = None; source = Some DefaultValue; reading = reading.AsWritten })
 
-abbrev default_of : Text × List Text → Text → Option Row
+abbrev default_of : TextBytes × List TextBytes → TextBytes → Option Row
 default_of o id = cond (bytes_eq o.0 id) (default_row o.0 o.1) None
 
-abbrev default_in : Table → Text → Option Row
+abbrev default_in : Table → TextBytes → Option Row
 default_in [] id = None
 default_in (o ∷ t) id = or_option (default_of o id) (default_in t id)
 
-there : (id : Text) (rows : List Row) → has_row id rows ≡ true → (r : Row) × (row_at id rows ≡ Some r)
+there : (id : TextBytes) (rows : List Row) → has_row id rows ≡ true → (r : Row) × (row_at id rows ≡ Some r)
 there id [] h = absurd (true≢false (sym h))
 there id (r ∷ rs) h = go (bytes_eq r.id id) refl (λ rest. there id rs rest) h
   where
@@ -81,7 +81,7 @@ there id (r ∷ rs) h = go (bytes_eq r.id id) refl (λ rest. there id rs rest) h
     go true e rest f = (r, rw e refl)
     go false e rest f = let x = rest f in (x.0, rw e x.1)
 
-pushed_row : (id : Text) (rows : List Row) (r : Row) → row_at id (rows ++ r ∷ []) ≡ or_option (row_at id rows) (cond (bytes_eq r.id id) (Some r) None)
+pushed_row : (id : TextBytes) (rows : List Row) (r : Row) → row_at id (rows ++ r ∷ []) ≡ or_option (row_at id rows) (cond (bytes_eq r.id id) (Some r) None)
 pushed_row id [] r = refl
 pushed_row id (x ∷ xs) r =
     let rest = pushed_row id xs r in
@@ -94,7 +94,7 @@ no_choice : {X : Type 0} (b : Bool) (x : X) → cond b x x ≡ x
 no_choice true x = refl
 no_choice false x = refl
 
-new_default : (id name : Text) (values : List Text) (rows : List Row) → has_row name rows ≡ false
+new_default : (id name : TextBytes) (values : List TextBytes) (rows : List Row) → has_row name rows ≡ false
     → row_at id (default_rows name reading.AsWritten values rows) ≡ or_option (row_at id rows) (cond (bytes_eq name id) (default_row name values) None)
 unfolding default_row
 new_default id name [] rows h = sym (ap (or_option (row_at id rows)) (no_choice (bytes_eq name id) None) ∙ or_option_none (row_at id rows))
@@ -102,7 +102,7 @@ new_default id name (v ∷ vs) rows h =
     let row : Row = record { id = name; values = v ∷ vs; count = None; source = Some DefaultValue; reading = reading.AsWritten } in
     ap (row_at id) (at_row-absent name (more_values DefaultValue (v ∷ vs)) (row ∷ []) rows h) ∙ pushed_row id rows row
 
-default_step : (id : Text) (o : Text × List Text) (rows : List Row) → row_at id (with_default rows (option_built o)) ≡ or_option (row_at id rows) (default_of o id)
+default_step : (id : TextBytes) (o : TextBytes × List TextBytes) (rows : List Row) → row_at id (with_default rows (option_built o)) ≡ or_option (row_at id rows) (default_of o id)
 default_step id o rows = go (has_row o.0 rows) refl
   where
     kept : has_row o.0 rows ≡ true → (b : Bool) → bytes_eq o.0 id ≡ b → row_at id rows ≡ or_option (row_at id rows) (cond b (default_row o.0 o.1) None)
@@ -115,19 +115,19 @@ default_step id o rows = go (has_row o.0 rows) refl
     go true h = kept h (bytes_eq o.0 id) refl
     go false h = new_default id o.0 o.1 rows h
 
-defaults_rows : (id : Text) (t : Table) (rows : List Row) → row_at id (fold with_default rows (map option_built t)) ≡ or_option (row_at id rows) (default_in t id)
+defaults_rows : (id : TextBytes) (t : Table) (rows : List Row) → row_at id (fold with_default rows (map option_built t)) ≡ or_option (row_at id rows) (default_in t id)
 defaults_rows id [] rows = sym (or_option_none (row_at id rows))
 defaults_rows id (o ∷ t) rows =
     defaults_rows id t (with_default rows (option_built o)) ∙ ap (λ (r : Option Row). or_option r (default_in t id)) (default_step id o rows)
     ∙ or_option_assoc (row_at id rows) (default_of o id) (default_in t id)
 
-rows_at_end : (id : Text) (t : Table) (rows : List Row) → row_at id (fold with_default rows (rules_with t)) ≡ or_option (row_at id rows) (default_in t id)
+rows_at_end : (id : TextBytes) (t : Table) (rows : List Row) → row_at id (fold with_default rows (rules_with t)) ≡ or_option (row_at id rows) (default_in t id)
 rows_at_end id t rows =
     ap (λ (rs : List Row). row_at id (fold with_default rs (map option_built t))) (no_choice (has_row mode_name rows) rows) ∙ defaults_rows id t rows
 
 -- ---- the values
 
-abbrev pub default_sayings : Text → List Text → List Saying
+abbrev pub default_sayings : TextBytes → List TextBytes → List Saying
 default_sayings name [] = []
 default_sayings name (v ∷ vs) = (name, v) ∷ []
 
@@ -135,10 +135,10 @@ abbrev pub defaults_of : Table → List Saying
 defaults_of [] = []
 defaults_of (o ∷ t) = default_sayings o.0 o.1 ++ defaults_of t
 
-abbrev first_text : Row → Option Text
+abbrev first_text : Row → Option TextBytes
 first_text r = slice_get r.values 0
 
-pub value_pushed : (id : Text) (us vs : List Saying) → value_of (us ++ vs) id ≡ or_option (value_of us id) (value_of vs id)
+pub value_pushed : (id : TextBytes) (us vs : List Saying) → value_of (us ++ vs) id ≡ or_option (value_of us id) (value_of vs id)
 value_pushed id [] vs = refl
 value_pushed id (u ∷ us) vs =
     let rest = value_pushed id us vs in
@@ -147,7 +147,7 @@ value_pushed id (u ∷ us) vs =
       | false ↦ rest
     ]
 
-rows_value : (id : Text) (us : List Saying) (d : Option Row) → option_and_then first_text (or_option (row_at id (rows_for us)) d) ≡ or_option (value_of us id) (option_and_then first_text d)
+rows_value : (id : TextBytes) (us : List Saying) (d : Option Row) → option_and_then first_text (or_option (row_at id (rows_for us)) d) ≡ or_option (value_of us id) (option_and_then first_text d)
 rows_value id [] d = refl
 rows_value id (u ∷ us) d =
     let rest = rows_value id us d in
@@ -156,7 +156,7 @@ rows_value id (u ∷ us) d =
       | false ↦ rest
     ]
 
-default_value : (id name : Text) (values : List Text) (d : Option Row) → (e : Option Text) → option_and_then first_text d ≡ e
+default_value : (id name : TextBytes) (values : List TextBytes) (d : Option Row) → (e : Option TextBytes) → option_and_then first_text d ≡ e
     → option_and_then first_text (or_option (cond (bytes_eq name id) (default_row name values) None) d) ≡ or_option (value_of (default_sayings name values) id) e
 unfolding default_row
 default_value id name [] d e is = ap (λ (r : Option Row). option_and_then first_text (or_option r d)) (no_choice (bytes_eq name id) None) ∙ is
@@ -166,13 +166,13 @@ default_value id name (v ∷ vs) d e is =
       | false ↦ is
     ]
 
-defaults_value : (id : Text) (t : Table) → option_and_then first_text (default_in t id) ≡ value_of (defaults_of t) id
+defaults_value : (id : TextBytes) (t : Table) → option_and_then first_text (default_in t id) ≡ value_of (defaults_of t) id
 defaults_value id [] = refl
 defaults_value id (o ∷ t) =
     default_value id o.0 o.1 (default_in t id) (value_of (defaults_of t) id) (defaults_value id t) ∙ sym (value_pushed id (default_sayings o.0 o.1) (defaults_of t))
 
 -- the first value of an id at the end is what was said, and else the default
-pub end_value : (id : Text) (t : Table) (us : List Saying) → first_of id (fold with_default (rows_for us) (rules_with t)) ≡ value_of (us ++ defaults_of t) id
+pub end_value : (id : TextBytes) (t : Table) (us : List Saying) → first_of id (fold with_default (rows_for us) (rules_with t)) ≡ value_of (us ++ defaults_of t) id
 end_value id t us =
     ap (option_and_then first_text) (rows_at_end id t (rows_for us)) ∙ rows_value id us (default_in t id)
     ∙ ap (or_option (value_of us id)) (defaults_value id t) ∙ sym (value_pushed id us (defaults_of t))

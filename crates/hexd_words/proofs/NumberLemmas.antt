@@ -5,7 +5,7 @@ use Rattle.std.specs.Char.{is_ascii_digit}
 use Rattle.std.specs.Str.Parse.{AllDigits}
 use Rattle.std.proofs.lemmas.Bool.Decides.{nat_tests}
 use Rattle.std.proofs.lemmas.Str.Parse.{digit_from_value}
-use Rattle.hexd_words.specs.Values.{AreInRange, AreOptions, IsNumberFrom, Text}
+use Rattle.hexd_words.specs.Values.{OptionsInRange, AreOptions, IsNumberFrom, TextBytes}
 use Rattle.hexd_words.specs.declared.settings.Options.{Options}
 
 is_digit : (c : ℕ) → 48 ≤ c → c ≤ 57 → is_ascii_digit c ≡ true
@@ -16,15 +16,15 @@ digits_pass [] h = refl
 digits_pass (c ∷ cs) h =
     let range = digit_from_value c h.0 in rw (is_digit c range.0 range.1) (digits_pass cs h.1)
 
-pub number_at_most : (least most n : ℕ) (text : Option Text) → IsNumberFrom least most text n → n ≤ most
+pub number_at_most : (least most n : ℕ) (text : Option TextBytes) → IsNumberFrom least most text n → n ≤ most
 number_at_most least most n None h = absurd h
 number_at_most least most n (Some text) h = h.4
 
-pub number_in_range : (least most n : ℕ) (text : Option Text) → IsNumberFrom least most text n → (least ≤ n) × (n ≤ most)
+pub number_in_range : (least most n : ℕ) (text : Option TextBytes) → IsNumberFrom least most text n → (least ≤ n) × (n ≤ most)
 number_in_range least most n None h = absurd h
 number_in_range least most n (Some text) h = (h.3, h.4)
 
-pub in_range : (value : Text → Option Text) (o : Options) → AreOptions value o → AreInRange o
+pub in_range : (value : TextBytes → Option TextBytes) (o : Options) → AreOptions value o → OptionsInRange o
 in_range value o h = record {
   size = number_in_range _ _ _ (value (codes "size")) h.size;
   workers = number_in_range _ _ _ (value (codes "workers")) h.workers;
@@ -36,6 +36,6 @@ in_range value o h = record {
   budget = (number_in_range _ _ _ (value (codes "budget")) h.budget).0;
 }
 
-pub ranges_from : (value : Text → Option Text) (r : Option Options) → ((o : Options) → (r ≡ Some o) ↔ AreOptions value o) → IfSome r AreInRange
+pub ranges_from : (value : TextBytes → Option TextBytes) (r : Option Options) → ((o : Options) → (r ≡ Some o) ↔ AreOptions value o) → IfSome r OptionsInRange
 ranges_from value None h = tt
 ranges_from value (Some o) h = in_range value o ((h o).0 refl)

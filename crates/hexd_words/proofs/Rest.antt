@@ -3,7 +3,7 @@ use Rattle.std.proofs.Common.{◌≡◌, ◌∙◌, ◌&&◌, Bool, cond, true, 
 use Rattle.std.specs.List.{fold}
 use Rattle.clap.specs.Kinds.{Kinds, or_else}
 use Rattle.clap.specs.Faults.{check_fault, defaults_fault, settle_fault, turn_fault, walk_fault}
-use Rattle.clap.specs.Walk.{Held, Row, Text, Walk, finished, is_pending, positional_held, pushed, settled, walked, with_default}
+use Rattle.clap.specs.Walk.{Held, Row, TextBytes, Walk, finished, is_pending, positional_held, pushed, settled, walked, with_default}
 use Rattle.hexd_words.specs.Command.{mode_name}
 use Rattle.hexd_words.specs.Grammar.{Saying}
 use Rattle.hexd_words.proofs.Rules.{Found, KeepsMode, Table, conflict, mode_built, rows_for, rules_with, says, shape_with}
@@ -18,18 +18,18 @@ abbrev pub ends : Table → Held → Kinds
 ends t h = or_else (settle_fault (rules_with t) false h)
     (or_else (defaults_fault (settled (rules_with t) h).rows (rules_with t)) (check_fault (shape_with t) (finished (rules_with t) h) false))
 
-unfoldable pub rest_fault : Table → Walk → List Text → Kinds
+unfoldable pub rest_fault : Table → Walk → List TextBytes → Kinds
 rest_fault t w words =
     or_else (walk_fault (shape_with t) [] w words) (ends t (fold (walked (rules_with t) []) w words).held)
 
-unfoldable pub end_rows : Table → Walk → List Text → List Row
+unfoldable pub end_rows : Table → Walk → List TextBytes → List Row
 end_rows t w words = finished (rules_with t) (fold (walked (rules_with t) []) w words).held
 
 or_else_assoc : (xs ys zs : Kinds) → or_else (or_else xs ys) zs ≡ or_else xs (or_else ys zs)
 or_else_assoc [] ys zs = refl
 or_else_assoc (x ∷ xs) ys zs = refl
 
-rest_more : (t : Table) (w : Walk) (x : Text) (xs : List Text) → rest_fault t w (x ∷ xs) ≡ or_else (turn_fault (shape_with t) [] w x) (rest_fault t (walked (rules_with t) [] w x) xs)
+rest_more : (t : Table) (w : Walk) (x : TextBytes) (xs : List TextBytes) → rest_fault t w (x ∷ xs) ≡ or_else (turn_fault (shape_with t) [] w x) (rest_fault t (walked (rules_with t) [] w x) xs)
 unfolding rest_fault walk_fault
 rest_more t w x xs = or_else_assoc (turn_fault (shape_with t) [] w x) _ _
 
@@ -37,7 +37,7 @@ rest_none : (t : Table) (w : Walk) → rest_fault t w [] ≡ ends t w.held
 unfolding rest_fault walk_fault
 rest_none t w = refl
 
-rows_more : (t : Table) (w : Walk) (x : Text) (xs : List Text) → end_rows t w (x ∷ xs) ≡ end_rows t (walked (rules_with t) [] w x) xs
+rows_more : (t : Table) (w : Walk) (x : TextBytes) (xs : List TextBytes) → end_rows t w (x ∷ xs) ≡ end_rows t (walked (rules_with t) [] w x) xs
 unfolding end_rows
 rows_more t w x xs = refl
 
@@ -47,19 +47,19 @@ rows_none t w = refl
 
 -- ---- where there is no fault
 
-pub no_turn_fault : (t : Table) (w : Walk) (x : Text) (xs : List Text) → rest_fault t w (x ∷ xs) ≡ [] → turn_fault (shape_with t) [] w x ≡ []
+pub no_turn_fault : (t : Table) (w : Walk) (x : TextBytes) (xs : List TextBytes) → rest_fault t w (x ∷ xs) ≡ [] → turn_fault (shape_with t) [] w x ≡ []
 no_turn_fault t w x xs e = (none_both _ _ (sym (rest_more t w x xs) ∙ e)).0
 
-pub no_later_fault : (t : Table) (w next : Walk) (x : Text) (xs : List Text) → rest_fault t w (x ∷ xs) ≡ [] → walked (rules_with t) [] w x ≡ next → rest_fault t next xs ≡ []
+pub no_later_fault : (t : Table) (w next : Walk) (x : TextBytes) (xs : List TextBytes) → rest_fault t w (x ∷ xs) ≡ [] → walked (rules_with t) [] w x ≡ next → rest_fault t next xs ≡ []
 no_later_fault t w next x xs e is =
     subst (λ (v : Walk). rest_fault t v xs ≡ []) is (none_both _ _ (sym (rest_more t w x xs) ∙ e)).1
 
 -- ---- the walk passes, and says U
 
-abbrev pub Done : Table → Walk → List Text → List Saying → Type 0
+abbrev pub Done : Table → Walk → List TextBytes → List Saying → Type 0
 Done t w words U = (rest_fault t w words ≡ []) × (end_rows t w words ≡ fold with_default (rows_for U) (rules_with t))
 
-pub done_more : (t : Table) (w next : Walk) (x : Text) (xs : List Text) (U : List Saying) → turn_fault (shape_with t) [] w x ≡ [] → walked (rules_with t) [] w x ≡ next → Done t next xs U → Done t w (x ∷ xs) U
+pub done_more : (t : Table) (w next : Walk) (x : TextBytes) (xs : List TextBytes) (U : List Saying) → turn_fault (shape_with t) [] w x ≡ [] → walked (rules_with t) [] w x ≡ next → Done t next xs U → Done t w (x ∷ xs) U
 done_more t w next x xs U none is done = (
   rest_more t w x xs ∙ both_none _ _ none (ap (λ (v : Walk). rest_fault t v xs) is ∙ done.0),
   rows_more t w x xs ∙ ap (λ (v : Walk). end_rows t v xs) is ∙ done.1,
@@ -91,7 +91,7 @@ done_end t keeps w S q is pending clear said = (
   rows_none t w ∙ ap (finished (rules_with t)) is ∙ finished_is t S q pending clear,
 )
 
-pub asking_ends : (t : Table) (w : Walk) (S : List Saying) (id : Text) → Found t id → w.held ≡ asking S id → rest_fault t w [] ≡ [] → ⊥
+pub asking_ends : (t : Table) (w : Walk) (S : List Saying) (id : TextBytes) → Found t id → w.held ≡ asking S id → rest_fault t w [] ≡ [] → ⊥
 asking_ends t w S id found is e =
     let at_end : ends t (asking S id) ≡ [] = ap (ends t) (sym is) ∙ sym (rest_none t w) ∙ e in
     let first = (none_both (settle_fault (rules_with t) false (asking S id)) _ at_end).0 in
@@ -103,7 +103,7 @@ kept_or : (b : Bool) (h g : Held) → cond (b && false) h g ≡ g
 kept_or true h g = refl
 kept_or false h g = refl
 
-pub positional_is : (t : Table) (S : List Saying) (q : Option Saying) (word : Text) → Pending t q → clashes q S ≡ false
+pub positional_is : (t : Table) (S : List Saying) (q : Option Saying) (word : TextBytes) → Pending t q → clashes q S ≡ false
     → positional_held (rules_with t) mode_built word (held_with S q) ≡ held_with (base S q) (Some (mode_name, word))
 positional_is t S q word pending clear =
     ap (pushed mode_name word) (kept_or (is_pending mode_built (pend q)) (held_with S q) (settled (rules_with t) (held_with S q)) ∙ settled_is t S q pending clear)

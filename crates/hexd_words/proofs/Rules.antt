@@ -1,4 +1,5 @@
 -- The rules of a command that has a mode and options, as a parse reads them, and one use of a rule.
+use Rattle.std.proofs.lemmas.Bool.{or_parts}
 use Rattle.std.proofs.Common.{◌≡◌, ◌∙◌, ◌&&◌, ◌||◌, ℕ, Bool, cond, true, false, not, refl, sym, ap, subst, List, [], ◌∷◌, ◌++◌, map, Option, Some, None, option_map, append-nil, true≢false, codes, ◌==◌}
 use Rattle.std.specs.List.{find, list_any, list_all}
 use Rattle.std.specs.Option.{option_map_or}
@@ -7,7 +8,7 @@ use Rattle.std.proofs.lemmas.Slice.Eq.{bytes_eq-Decides}
 use Rattle.std.proofs.lemmas.List.{map-append}
 use Rattle.clap.specs.Kinds.{Kinds, or_else}
 use Rattle.clap.specs.Faults.{use_fault}
-use Rattle.clap.specs.Walk.{Row, Rule, Text, arg_by_id, arg_by_index, arg_by_long, arg_by_short, at_row, has_row, more_values, most_values, takes_values, used, with_values, without}
+use Rattle.clap.specs.Walk.{Row, Rule, TextBytes, arg_by_id, arg_by_index, arg_by_long, arg_by_short, at_row, has_row, more_values, most_values, takes_values, used, with_values, without}
 use Rattle.clap.specs.Simple.{Shape, built, new_rule, new_shape}
 use Rattle.clap.proofs.WalkLemmas.{list_any-map, both}
 use Rattle.clap.specs.declared.builder.action.ArgAction.TheVariants.{Set}
@@ -19,7 +20,7 @@ use Rattle.hexd_words.specs.Command.{hexd_app, knob_table, mode_name, other_tabl
 use Rattle.hexd_words.specs.Grammar.{Saying}
 
 abbrev pub Table : Type 0
-Table = List (Text × List Text)
+Table = List (TextBytes × List TextBytes)
 
 abbrev pub mode_built : Rule
 mode_built = record (new_rule mode_name) {
@@ -30,7 +31,7 @@ mode_built = record (new_rule mode_name) {
   range = Some (record { start_inclusive = 1; end_inclusive = 1 });
 }
 
-abbrev pub option_built : Text × List Text → Rule
+abbrev pub option_built : TextBytes × List TextBytes → Rule
 option_built o = record (new_rule o.0) {
   long = Some o.0;
   action = Some Set;
@@ -67,26 +68,18 @@ row_for u = record { id = u.0; values = u.1 ∷ []; count = None; source = Some 
 abbrev pub rows_for : List Saying → List Row
 rows_for = map row_for
 
-abbrev pub says : Text → List Saying → Bool
+abbrev pub says : TextBytes → List Saying → Bool
 says name us = list_any (λ u. bytes_eq u.0 name) us
 
-pub has_row-rows : (name : Text) (us : List Saying) → has_row name (rows_for us) ≡ says name us
+pub has_row-rows : (name : TextBytes) (us : List Saying) → has_row name (rows_for us) ≡ says name us
 has_row-rows name us = sym (list_any-map (λ r. bytes_eq r.id name) row_for us)
 
-pub or_false : (a b : Bool) → (a || b) ≡ false → (a ≡ false) × (b ≡ false)
-or_false true b e = absurd (true≢false e)
-or_false false b e = (refl, e)
-
-pub or_none : (b : Bool) → (b || false) ≡ b
-or_none true = refl
-or_none false = refl
-
-pub at_row-absent : (id : Text) (change : Row → List Row) (missing rows : List Row) → has_row id rows ≡ false → at_row id change missing rows ≡ rows ++ missing
+pub at_row-absent : (id : TextBytes) (change : Row → List Row) (missing rows : List Row) → has_row id rows ≡ false → at_row id change missing rows ≡ rows ++ missing
 at_row-absent id change missing [] h = refl
 at_row-absent id change missing (r ∷ rs) h =
-    let p = or_false (bytes_eq r.id id) (has_row id rs) h in rw p.0 (ap (λ (ys : List Row). r ∷ ys) (at_row-absent id change missing rs p.1))
+    let p = or_parts (bytes_eq r.id id) (has_row id rs) h in rw p.0 (ap (λ (ys : List Row). r ∷ ys) (at_row-absent id change missing rs p.1))
 
-pub used_fresh : (id v : Text) (S : List Saying) → says id S ≡ false → with_values id reading.AsWritten CommandLine (v ∷ []) (without id (rows_for S)) ≡ rows_for (S ++ (id, v) ∷ [])
+pub used_fresh : (id v : TextBytes) (S : List Saying) → says id S ≡ false → with_values id reading.AsWritten CommandLine (v ∷ []) (without id (rows_for S)) ≡ rows_for (S ++ (id, v) ∷ [])
 used_fresh id v S h =
     let none = has_row-rows id S ∙ h in
     let kept : without id (rows_for S) ≡ rows_for S = at_row-absent id (λ _. []) [] (rows_for S) none ∙ append-nil (rows_for S) in
@@ -99,11 +92,11 @@ abbrev pub conflict : Bool → Kinds
 conflict b = cond b (kind.ArgumentConflict ∷ []) []
 
 -- the rule takes one text, once
-pub record IsSet (a : Rule) (id : Text) : Type 0 where
+pub record IsSet (a : Rule) (id : TextBytes) : Type 0 where
   pub id_is : a.id ≡ id
-  pub fault : (v : Text) (rows : List Row) → use_fault false a (v ∷ []) rows ≡ conflict (has_row id rows)
+  pub fault : (v : TextBytes) (rows : List Row) → use_fault false a (v ∷ []) rows ≡ conflict (has_row id rows)
   pub no_value : (rows : List Row) → use_fault false a [] rows ≡ kind.InvalidValue ∷ []
-  pub used_is : (v : Text) (rows : List Row) → used a (v ∷ []) rows ≡ with_values id reading.AsWritten CommandLine (v ∷ []) (without id rows)
+  pub used_is : (v : TextBytes) (rows : List Row) → used a (v ∷ []) rows ≡ with_values id reading.AsWritten CommandLine (v ∷ []) (without id rows)
 
 conflict_or : (b : Bool) → or_else (cond (b && true) (kind.ArgumentConflict ∷ []) []) [] ≡ conflict b
 conflict_or true = refl
@@ -117,7 +110,7 @@ mode_set = record {
   used_is = λ v rows. refl;
 }
 
-pub option_set : (o : Text × List Text) → IsSet (option_built o) o.0
+pub option_set : (o : TextBytes × List TextBytes) → IsSet (option_built o) o.0
 option_set o = record {
   id_is = refl;
   fault = λ v rows. conflict_or (has_row o.0 rows);
@@ -127,10 +120,10 @@ option_set o = record {
 
 -- ---- finding a rule
 
-abbrev pub option_in : Table → Text → Option (Text × List Text)
+abbrev pub option_in : Table → TextBytes → Option (TextBytes × List TextBytes)
 option_in t name = find (λ o. bytes_eq o.0 name) t
 
-pub rule_by_long : (t : Table) (name : Text) → arg_by_long (rules_with t) name ≡ option_map option_built (option_in t name)
+pub rule_by_long : (t : Table) (name : TextBytes) → arg_by_long (rules_with t) name ≡ option_map option_built (option_in t name)
 rule_by_long [] name = refl
 rule_by_long (o ∷ t) name =
     let rest = rule_by_long t name in
@@ -139,7 +132,7 @@ rule_by_long (o ∷ t) name =
       | false ↦ rest
     ]
 
-options_by_id : (t : Table) (name : Text) → find (λ a. bytes_eq a.id name) (map option_built t) ≡ option_map option_built (option_in t name)
+options_by_id : (t : Table) (name : TextBytes) → find (λ a. bytes_eq a.id name) (map option_built t) ≡ option_map option_built (option_in t name)
 options_by_id [] name = refl
 options_by_id (o ∷ t) name =
     let rest = options_by_id t name in
@@ -160,7 +153,7 @@ pub rule_by_index : (t : Table) (i : ℕ) → arg_by_index (rules_with t) i ≡ 
 rule_by_index t i = ap (cond (1 == i) (Some mode_built)) (no_index t i)
 
 -- the rule of an id is there
-pub record Found (t : Table) (id : Text) : Type 0 where
+pub record Found (t : Table) (id : TextBytes) : Type 0 where
   pub rule : Rule
   pub is_rule : arg_by_id (rules_with t) id ≡ Some rule
   pub set : IsSet rule id
@@ -168,10 +161,10 @@ pub record Found (t : Table) (id : Text) : Type 0 where
 pub found_mode : (t : Table) → Found t mode_name
 found_mode t = record { rule = mode_built; is_rule = refl; set = mode_set }
 
-pub same_bytes : (a b : Text) → bytes_eq a b ≡ true → a ≡ b
+pub same_bytes : (a b : TextBytes) → bytes_eq a b ≡ true → a ≡ b
 same_bytes a b = (bytes_eq-Decides a b).0
 
-pub bytes_same : (a b : Text) → a ≡ b → bytes_eq a b ≡ true
+pub bytes_same : (a b : TextBytes) → a ≡ b → bytes_eq a b ≡ true
 bytes_same a b = (bytes_eq-Decides a b).1
 
 pub found_passes : {X : Type 0} (p : X → Bool) (xs : List X) (x : X) → find p xs ≡ Some x → p x ≡ true
@@ -199,7 +192,7 @@ is_false true e = absurd (true≢false (sym e))
 is_false false e = refl
 
 -- the name is an option's
-pub record HasOption (t : Table) (name : Text) : Type 0 where
+pub record HasOption (t : Table) (name : TextBytes) : Type 0 where
   pub found : Found t name
   pub by_long : arg_by_long (rules_with t) name ≡ Some found.rule
   pub takes : takes_values found.rule ≡ true
@@ -207,7 +200,7 @@ pub record HasOption (t : Table) (name : Text) : Type 0 where
   pub is_id : bytes_eq name found.rule.id ≡ true
   pub not_mode : bytes_eq mode_name name ≡ false
 
-pub has_option : (t : Table) → KeepsMode t → (name : Text) (o : Text × List Text) → option_in t name ≡ Some o → HasOption t name
+pub has_option : (t : Table) → KeepsMode t → (name : TextBytes) (o : TextBytes × List TextBytes) → option_in t name ≡ Some o → HasOption t name
 has_option t keeps name o e =
     let same : o.0 ≡ name = same_bytes _ _ (found_passes (λ p. bytes_eq p.0 name) t o e) in
     let other : bytes_eq mode_name name ≡ false = rw (← same) (is_false _ (found_all (λ p. bytes_eq p.0 name) (λ p. not (bytes_eq mode_name p.0)) t o e keeps)) in
@@ -215,7 +208,7 @@ has_option t keeps name o e =
       found = record {
         rule = option_built o;
         is_rule = rw other (options_by_id t name ∙ ap (option_map option_built) e);
-        set = subst (λ (n : Text). IsSet (option_built o) n) same (option_set o);
+        set = subst (λ (n : TextBytes). IsSet (option_built o) n) same (option_set o);
       };
       by_long = rule_by_long t name ∙ ap (option_map option_built) e;
       takes = refl;
@@ -224,7 +217,7 @@ has_option t keeps name o e =
       not_mode = other;
     }
 
-pub differs_back : (a b : Text) → bytes_eq a b ≡ false → bytes_eq b a ≡ false
+pub differs_back : (a b : TextBytes) → bytes_eq a b ≡ false → bytes_eq b a ≡ false
 differs_back a b e = go (bytes_eq b a) refl
   where
     go : (t : Bool) → bytes_eq b a ≡ t → t ≡ false

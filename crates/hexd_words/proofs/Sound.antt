@@ -6,7 +6,7 @@ use Rattle.std.specs.Str.{IsUtf8, bytes_eq}
 use Rattle.clap.specs.Kinds.{Kinds, or_else}
 use Rattle.clap.specs.Faults.{settle_fault, stray_fault, turn_fault}
 use Rattle.clap.specs.Lexer.{long_of}
-use Rattle.clap.specs.Walk.{Held, Text, Waiting, Walk, arg_by_index, idle, next_position, option, settled}
+use Rattle.clap.specs.Walk.{Held, TextBytes, Waiting, Walk, arg_by_index, idle, next_position, option, settled}
 use Rattle.clap.specs.declared.error.kind.ErrorKind.TheVariants as kind
 use Rattle.hexd_words.specs.Command.{mode_name}
 use Rattle.hexd_words.specs.Grammar.{Part, Saying, after_hyphens, apart, begins_with_hyphen, joined, part_words, plain, saying}
@@ -18,13 +18,13 @@ use Rattle.hexd_words.proofs.Rest.{asking_ends, base, ends_need, no_later_fault,
 use Rattle.hexd_words.proofs.Sayings.{Once, once_more}
 
 -- each word is text, and no hyphen alone
-abbrev pub Words : List Text → Type 0
+abbrev pub Words : List TextBytes → Type 0
 Words [] = ⊤
 Words (w ∷ ws) = (IsUtf8 w × (w ≢ 45 ∷ [])) × Words ws
 
 -- the name is in the table
-abbrev pub IsNamed : Table → Text → Type 0
-IsNamed t name = (o : Text × List Text) × (option_in t name ≡ Some o)
+abbrev pub IsNamed : Table → TextBytes → Type 0
+IsNamed t name = (o : TextBytes × List TextBytes) × (option_in t name ≡ Some o)
 
 abbrev pub IsPartOf : Table → Part → Type 0
 IsPartOf t (joined name value) = IsNamed t name
@@ -36,36 +36,36 @@ Parts t [] = ⊤
 Parts t (p ∷ ps) = IsPartOf t p × Parts t ps
 
 -- positional words, as what they say
-abbrev pub modes : List Text → List Saying
+abbrev pub modes : List TextBytes → List Saying
 modes = map (λ word. saying (plain word))
 
-abbrev pub uses : List Part → Option (List Text) → List Saying
+abbrev pub uses : List Part → Option (List TextBytes) → List Saying
 uses parts rest = map saying parts ++ modes (unwrap_or rest [])
 
 abbrev pub Complete : List Saying → Type 0
 Complete U = Once U × (says mode_name U ≡ true)
 
 -- the words are parts, which go on from what was said before
-pub record Spelling (t : Table) (before : List Saying) (words : List Text) : Type 0 where
+pub record Spelling (t : Table) (before : List Saying) (words : List TextBytes) : Type 0 where
   pub parts : List Part
-  pub rest : Option (List Text)
+  pub rest : Option (List TextBytes)
   pub spelled : words ≡ flat_map part_words parts ++ after_hyphens rest
   pub are_parts : Parts t parts
   pub complete : Complete (before ++ uses parts rest)
 
 -- one more part at the front
-spelling_more : (t : Table) (before : List Saying) (p : Part) (words more : List Text) → words ≡ part_words p ++ more → IsPartOf t p → Spelling t (before ++ saying p ∷ []) more → Spelling t before words
+spelling_more : (t : Table) (before : List Saying) (p : Part) (words more : List TextBytes) → words ≡ part_words p ++ more → IsPartOf t p → Spelling t (before ++ saying p ∷ []) more → Spelling t before words
 spelling_more t before p words more is part s = record {
   parts = p ∷ s.parts;
   rest = s.rest;
-  spelled = is ∙ ap (λ (ws : List Text). part_words p ++ ws) s.spelled ∙ sym (append_assoc (part_words p) (flat_map part_words s.parts) (after_hyphens s.rest));
+  spelled = is ∙ ap (λ (ws : List TextBytes). part_words p ++ ws) s.spelled ∙ sym (append_assoc (part_words p) (flat_map part_words s.parts) (after_hyphens s.rest));
   are_parts = (part, s.are_parts);
   complete = subst (λ (us : List Saying). Complete us) (append_assoc before (saying p ∷ []) (uses s.parts s.rest)) s.complete;
 }
 
 -- ---- after `--`
 
-plain_use : (before : List Saying) (word : Text) (ws : List Text) → Complete ((before ++ (mode_name, word) ∷ []) ++ modes ws) → Complete (before ++ modes (word ∷ ws))
+plain_use : (before : List Saying) (word : TextBytes) (ws : List TextBytes) → Complete ((before ++ (mode_name, word) ∷ []) ++ modes ws) → Complete (before ++ modes (word ∷ ws))
 plain_use before word ws h = subst (λ (us : List Saying). Complete us) (append_assoc before ((mode_name, word) ∷ []) (modes ws)) h
 
 stray : (t : Table) (i : ℕ) → (1 == i) ≡ false → arg_by_index (rules_with t) i ≡ None
@@ -86,10 +86,10 @@ settles : (t : Table) (S : List Saying) (q : Option Saying) (fault : Kinds) → 
 settles t S q fault pending is none = no_conflict _ (sym (settle_is t S q pending) ∙ sym is ∙ none)
 
 -- the words after `--` go on so, from each state
-abbrev PastGoesOn : Table → List Text → Type 0
+abbrev PastGoesOn : Table → List TextBytes → Type 0
 PastGoesOn t ws = (S : List Saying) (q : Option Saying) (w : Waiting) (p : ℕ) → Pending t q → Once S → rest_fault t (past (held_with S q) w p) ws ≡ [] → Complete (base S q ++ modes ws)
 
-past_step : (t : Table) (x : Text) (xs : List Text) (S : List Saying) (q : Option Saying) (w : Waiting) (p : ℕ) → Pending t q → Once S → rest_fault t (past (held_with S q) w p) (x ∷ xs) ≡ []
+past_step : (t : Table) (x : TextBytes) (xs : List TextBytes) (S : List Saying) (q : Option Saying) (w : Waiting) (p : ℕ) → Pending t q → Once S → rest_fault t (past (held_with S q) w p) (x ∷ xs) ≡ []
     → PastGoesOn t xs → (b : Bool) → (1 == p) ≡ b → Complete (base S q ++ modes (x ∷ xs))
 past_step t x xs S q w p pending once e more false is =
     absurd (stray_never t _ (no_turn_fault t (past (held_with S q) w p) x xs e) (fault_past_stray (shape_with t) (held_with S q) w p x (stray t p is)))
@@ -99,7 +99,7 @@ past_step t x xs S q w p pending once e more true is =
     plain_use (base S q) x xs (more (base S q) (Some (mode_name, x)) idle (next_position mode_built p) (found_mode t) (once_base S q once clear)
     (no_later_fault t (past (held_with S q) w p) (past (held_with (base S q) (Some (mode_name, x))) idle (next_position mode_built p)) x xs e next))
 
-sound_past : (t : Table) → KeepsMode t → (ws : List Text) → PastGoesOn t ws
+sound_past : (t : Table) → KeepsMode t → (ws : List TextBytes) → PastGoesOn t ws
 sound_past t keeps [] S q w p pending once e =
     let need = ends_need t keeps (past (held_with S q) w p) S q refl pending e in
     subst (λ (us : List Saying). Complete us) (sym (append-nil (base S q))) (once_base S q once need.0, need.1)
@@ -107,7 +107,7 @@ sound_past t keeps (x ∷ xs) S q w p pending once e =
     past_step t x xs S q w p pending once e (sound_past t keeps xs) (1 == p) refl
 
 -- an option that waits for its value never gets it after `--`
-asking_past : (t : Table) (ws : List Text) (S : List Saying) (id : Text) (w : Waiting) (p : ℕ) → Found t id → rest_fault t (past (asking S id) w p) ws ≡ [] → ⊥
+asking_past : (t : Table) (ws : List TextBytes) (S : List Saying) (id : TextBytes) (w : Waiting) (p : ℕ) → Found t id → rest_fault t (past (asking S id) w p) ws ≡ [] → ⊥
 asking_past t [] S id w p found e = asking_ends t (past (asking S id) w p) S id found refl e
 asking_past t (x ∷ xs) S id w p found e = go (1 == p) refl
   where
@@ -124,7 +124,7 @@ asking_past t (x ∷ xs) S id w p found e = go (1 == p) refl
 -- where the walk stands: after S and the pending q, or at an option that waits for its value
 pub data Stand : Type 0 where
   ready : List Saying → Option Saying → Stand
-  asks : List Saying → Text → Stand
+  asks : List Saying → TextBytes → Stand
 
 abbrev stands : Stand → ℕ → Walk
 stands (ready S q) p = at (held_with S q) idle p
@@ -135,11 +135,11 @@ IsStand t (ready S q) = Pending t q × Once S
 IsStand t (asks S id) = HasOption t id × Once S
 
 -- the words are parts from here on; where an option waits, its value comes first
-abbrev Spells : Table → Stand → List Text → Type 0
+abbrev Spells : Table → Stand → List TextBytes → Type 0
 Spells t (ready S q) words = Spelling t (base S q) words
-Spells t (asks S id) words = (value : Text) × (more : List Text) × (words ≡ value ∷ more) × (begins_with_hyphen value ≡ false) × Spelling t (S ++ (id, value) ∷ []) more
+Spells t (asks S id) words = (value : TextBytes) × (more : List TextBytes) × (words ≡ value ∷ more) × (begins_with_hyphen value ≡ false) × Spelling t (S ++ (id, value) ∷ []) more
 
-abbrev GoesOn : Table → List Text → Type 0
+abbrev GoesOn : Table → List TextBytes → Type 0
 GoesOn t ws = (s : Stand) (p : ℕ) → IsStand t s → rest_fault t (stands s p) ws ≡ [] → Spells t s ws
 
 spelling_end : (t : Table) (before : List Saying) → Complete before → Spelling t before []
@@ -158,28 +158,28 @@ sound_end t keeps (ready S q) p stand e =
 sound_end t keeps (asks S id) p stand e =
     absurd (asking_ends t (at (asking S id) (option id) p) S id stand.0.found refl e)
 
-unknown_never : (t : Table) (w : Walk) (x : Text) (xs : List Text) → rest_fault t w (x ∷ xs) ≡ [] → turn_fault (shape_with t) [] w x ≡ kind.UnknownArgument ∷ [] → ⊥
+unknown_never : (t : Table) (w : Walk) (x : TextBytes) (xs : List TextBytes) → rest_fault t w (x ∷ xs) ≡ [] → turn_fault (shape_with t) [] w x ≡ kind.UnknownArgument ∷ [] → ⊥
 unknown_never t w x xs e is =
     let fault : [] ≡ kind.UnknownArgument ∷ [] = sym (no_turn_fault t w x xs e) ∙ is in cc
 
-invalid_never : (t : Table) (w : Walk) (x : Text) (xs : List Text) → rest_fault t w (x ∷ xs) ≡ [] → (more : Kinds) → turn_fault (shape_with t) [] w x ≡ kind.InvalidValue ∷ more → ⊥
+invalid_never : (t : Table) (w : Walk) (x : TextBytes) (xs : List TextBytes) → rest_fault t w (x ∷ xs) ≡ [] → (more : Kinds) → turn_fault (shape_with t) [] w x ≡ kind.InvalidValue ∷ more → ⊥
 invalid_never t w x xs e more is =
     let fault : [] ≡ kind.InvalidValue ∷ more = sym (no_turn_fault t w x xs e) ∙ is in cc
 
 -- `--` itself
-dashes_ready : (t : Table) → KeepsMode t → (x : Text) (xs : List Text) (S : List Saying) (q : Option Saying) (p : ℕ) → Pending t q → Once S → rest_fault t (at (held_with S q) idle p) (x ∷ xs) ≡ []
+dashes_ready : (t : Table) → KeepsMode t → (x : TextBytes) (xs : List TextBytes) (S : List Saying) (q : Option Saying) (p : ℕ) → Pending t q → Once S → rest_fault t (at (held_with S q) idle p) (x ∷ xs) ≡ []
     → x ≡ dashes → bytes_eq x dashes ≡ true → Spelling t (base S q) (x ∷ xs)
 dashes_ready t keeps x xs S q p pending once e same is = record {
   parts = [];
   rest = Some xs;
-  spelled = ap (λ (w : Text). w ∷ xs) same;
+  spelled = ap (λ (w : TextBytes). w ∷ xs) same;
   are_parts = tt;
   complete = sound_past t keeps xs S q idle p pending once (no_later_fault t (at (held_with S q) idle p) (past (held_with S q) idle p) x xs e (walked_dashes (rules_with t) (held_with S q) idle p x refl is));
 }
 
 -- `--name=value`
-joined_ready : (t : Table) → KeepsMode t → (x : Text) (xs : List Text) (S : List Saying) (q : Option Saying) (p : ℕ) → Pending t q → Once S → rest_fault t (at (held_with S q) idle p) (x ∷ xs) ≡ []
-    → (name v : Text) → x ≡ dashes ++ (name ++ (61 ∷ v)) → bytes_eq x dashes ≡ false → long_of x ≡ Some (name, Some v) → GoesOn t xs → (o : Option (Text × List Text)) → option_in t name ≡ o → Spelling t (base S q) (x ∷ xs)
+joined_ready : (t : Table) → KeepsMode t → (x : TextBytes) (xs : List TextBytes) (S : List Saying) (q : Option Saying) (p : ℕ) → Pending t q → Once S → rest_fault t (at (held_with S q) idle p) (x ∷ xs) ≡ []
+    → (name v : TextBytes) → x ≡ dashes ++ (name ++ (61 ∷ v)) → bytes_eq x dashes ≡ false → long_of x ≡ Some (name, Some v) → GoesOn t xs → (o : Option (TextBytes × List TextBytes)) → option_in t name ≡ o → Spelling t (base S q) (x ∷ xs)
 joined_ready t keeps x xs S q p pending once e name v same other long more None absent =
     absurd (unknown_never t _ x xs e (fault_unknown (shape_with t) (held_with S q) idle p x name (Some v) refl other long (rule_by_long t name ∙ ap (option_map option_built) absent)))
 joined_ready t keeps x xs S q p pending once e name v same other long more (Some o) is =
@@ -191,11 +191,11 @@ joined_ready t keeps x xs S q p pending once e name v same other long more (Some
     ∙ ap (λ (h : Held). at h idle p) (reacted_is t S q name v pending f need.0 need.1) in
     let now = base S q ++ (name, v) ∷ [] in
     let rest : Spelling t (now ++ []) xs = more (ready now None) p (tt, once_more (base S q) (name, v) (once_base S q once need.0) need.1) (no_later_fault t (at (held_with S q) idle p) (at (held_with now None) idle p) x xs e next) in
-    spelling_more t (base S q) (joined name v) (x ∷ xs) xs (ap (λ (w : Text). w ∷ xs) same) (o, is) (subst (λ (us : List Saying). Spelling t us xs) (append-nil now) rest)
+    spelling_more t (base S q) (joined name v) (x ∷ xs) xs (ap (λ (w : TextBytes). w ∷ xs) same) (o, is) (subst (λ (us : List Saying). Spelling t us xs) (append-nil now) rest)
 
 -- `--name`, and its value after it
-named_ready : (t : Table) → KeepsMode t → (x : Text) (xs : List Text) (S : List Saying) (q : Option Saying) (p : ℕ) → Pending t q → Once S → rest_fault t (at (held_with S q) idle p) (x ∷ xs) ≡ []
-    → (name : Text) → x ≡ dashes ++ name → bytes_eq x dashes ≡ false → long_of x ≡ Some (name, None) → GoesOn t xs → (o : Option (Text × List Text)) → option_in t name ≡ o → Spelling t (base S q) (x ∷ xs)
+named_ready : (t : Table) → KeepsMode t → (x : TextBytes) (xs : List TextBytes) (S : List Saying) (q : Option Saying) (p : ℕ) → Pending t q → Once S → rest_fault t (at (held_with S q) idle p) (x ∷ xs) ≡ []
+    → (name : TextBytes) → x ≡ dashes ++ name → bytes_eq x dashes ≡ false → long_of x ≡ Some (name, None) → GoesOn t xs → (o : Option (TextBytes × List TextBytes)) → option_in t name ≡ o → Spelling t (base S q) (x ∷ xs)
 named_ready t keeps x xs S q p pending once e name same other long more None absent =
     absurd (unknown_never t _ x xs e (fault_unknown (shape_with t) (held_with S q) idle p x name None refl other long (rule_by_long t name ∙ ap (option_map option_built) absent)))
 named_ready t keeps x xs S q p pending once e name same other long more (Some o) is =
@@ -205,13 +205,13 @@ named_ready t keeps x xs S q p pending once e name same other long more (Some o)
     let clear = settles t S q _ pending (fault ∙ or_nothing _) (no_turn_fault t _ x xs e) in
     let held : Held = record (settled (rules_with t) (held_with S q)) { pending = Some (f.rule.id, []) } in
     let held_is : held ≡ asking (base S q) name =
-    ap (λ (h : Held). record h { pending = Some (f.rule.id, []) }) (settled_is t S q pending clear) ∙ ap (λ (id : Text). record (held_with (base S q) None) { pending = Some (id, []) }) f.set.id_is in
-    let next = walked_named (rules_with t) (held_with S q) p x name f.rule other long has.by_long has.takes ∙ ap₂ (λ (h : Held) (id : Text). at h (option id) p) held_is f.set.id_is in
+    ap (λ (h : Held). record h { pending = Some (f.rule.id, []) }) (settled_is t S q pending clear) ∙ ap (λ (id : TextBytes). record (held_with (base S q) None) { pending = Some (id, []) }) f.set.id_is in
+    let next = walked_named (rules_with t) (held_with S q) p x name f.rule other long has.by_long has.takes ∙ ap₂ (λ (h : Held) (id : TextBytes). at h (option id) p) held_is f.set.id_is in
     let rest = more (asks (base S q) name) p (has, once_base S q once clear) (no_later_fault t (at (held_with S q) idle p) (at (asking (base S q) name) (option name) p) x xs e next) in
-    spelling_more t (base S q) (apart name rest.0) (x ∷ xs) rest.1 (ap₂ (λ (w : Text) (ws : List Text). w ∷ ws) same rest.2) ((o, is), rest.3) rest.4
+    spelling_more t (base S q) (apart name rest.0) (x ∷ xs) rest.1 (ap₂ (λ (w : TextBytes) (ws : List TextBytes). w ∷ ws) same rest.2) ((o, is), rest.3) rest.4
 
 -- a positional word
-plain_ready : (t : Table) (x : Text) (xs : List Text) (S : List Saying) (q : Option Saying) (p : ℕ) → Pending t q → Once S → rest_fault t (at (held_with S q) idle p) (x ∷ xs) ≡ []
+plain_ready : (t : Table) (x : TextBytes) (xs : List TextBytes) (S : List Saying) (q : Option Saying) (p : ℕ) → Pending t q → Once S → rest_fault t (at (held_with S q) idle p) (x ∷ xs) ≡ []
     → begins_with_hyphen x ≡ false → GoesOn t xs → (b : Bool) → (1 == p) ≡ b → Spelling t (base S q) (x ∷ xs)
 plain_ready t x xs S q p pending once e bare more false is =
     let facts = plain_facts x bare in
@@ -225,7 +225,7 @@ plain_ready t x xs S q p pending once e bare more true is =
     (no_later_fault t (at (held_with S q) idle p) (at (held_with (base S q) (Some (mode_name, x))) idle (next_position mode_built p)) x xs e next) in
     spelling_more t (base S q) (plain x) (x ∷ xs) xs refl bare rest
 
-ready_step : (t : Table) → KeepsMode t → (x : Text) (xs : List Text) (S : List Saying) (q : Option Saying) (p : ℕ) → Pending t q → Once S → rest_fault t (at (held_with S q) idle p) (x ∷ xs) ≡ []
+ready_step : (t : Table) → KeepsMode t → (x : TextBytes) (xs : List TextBytes) (S : List Saying) (q : Option Saying) (p : ℕ) → Pending t q → Once S → rest_fault t (at (held_with S q) idle p) (x ∷ xs) ≡ []
     → GoesOn t xs → Class x → Spelling t (base S q) (x ∷ xs)
 ready_step t keeps x xs S q p pending once e more (is_dashes same is) = dashes_ready t keeps x xs S q p pending once e same is
 ready_step t keeps x xs S q p pending once e more (is_joined name v same other long) =
@@ -241,8 +241,8 @@ ready_step t keeps x xs S q p pending once e more (is_plain is) = plain_ready t 
 or_first : (k : Kinds) (xs ys : Kinds) → k ≡ kind.InvalidValue ∷ xs → or_else k ys ≡ kind.InvalidValue ∷ xs
 or_first k xs ys e = rw e refl
 
-long_asks : (t : Table) → KeepsMode t → (x : Text) (xs : List Text) (S : List Saying) (id : Text) (p : ℕ) → Found t id → rest_fault t (at (asking S id) (option id) p) (x ∷ xs) ≡ []
-    → (name : Text) (v : Option Text) → bytes_eq x dashes ≡ false → long_of x ≡ Some (name, v) → (o : Option (Text × List Text)) → option_in t name ≡ o → ⊥
+long_asks : (t : Table) → KeepsMode t → (x : TextBytes) (xs : List TextBytes) (S : List Saying) (id : TextBytes) (p : ℕ) → Found t id → rest_fault t (at (asking S id) (option id) p) (x ∷ xs) ≡ []
+    → (name : TextBytes) (v : Option TextBytes) → bytes_eq x dashes ≡ false → long_of x ≡ Some (name, v) → (o : Option (TextBytes × List TextBytes)) → option_in t name ≡ o → ⊥
 long_asks t keeps x xs S id p found e name v other long None absent =
     unknown_never t _ x xs e (fault_unknown (shape_with t) (asking S id) (option id) p x name v refl other long (rule_by_long t name ∙ ap (option_map option_built) absent))
 long_asks t keeps x xs S id p found e name (Some v) other long (Some o) is =
@@ -254,7 +254,7 @@ long_asks t keeps x xs S id p found e name None other long (Some o) is =
     invalid_never t _ x xs e [] (fault_named (shape_with t) (asking S id) (option id) p x name has.found.rule refl other long has.by_long has.takes
     ∙ or_nothing _ ∙ asking_faults t S id found)
 
-asks_step : (t : Table) → KeepsMode t → (x : Text) (xs : List Text) (S : List Saying) (id : Text) (p : ℕ) → HasOption t id → Once S → rest_fault t (at (asking S id) (option id) p) (x ∷ xs) ≡ []
+asks_step : (t : Table) → KeepsMode t → (x : TextBytes) (xs : List TextBytes) (S : List Saying) (id : TextBytes) (p : ℕ) → HasOption t id → Once S → rest_fault t (at (asking S id) (option id) p) (x ∷ xs) ≡ []
     → GoesOn t xs → Class x → Spells t (asks S id) (x ∷ xs)
 asks_step t keeps x xs S id p has once e more (is_dashes same is) =
     absurd (asking_past t xs S id (option id) p has.found (no_later_fault t (at (asking S id) (option id) p) (past (asking S id) (option id) p) x xs e (walked_dashes (rules_with t) (asking S id) (option id) p x refl is)))
@@ -269,7 +269,7 @@ asks_step t keeps x xs S id p has once e more (is_plain is) =
     let next = walked_value (rules_with t) (asking S id) p x id has.found.rule facts.0 facts.1 facts.2 has.found.is_rule has.most (rw has.is_id refl) in
     (x, xs, refl, is, more (ready S (Some (id, x))) p (has.found, once) (no_later_fault t (at (asking S id) (option id) p) (at (held_with S (Some (id, x))) idle p) x xs e next))
 
-pub sound : (t : Table) → KeepsMode t → (words : List Text) → Words words → GoesOn t words
+pub sound : (t : Table) → KeepsMode t → (words : List TextBytes) → Words words → GoesOn t words
 sound t keeps [] words s p stand e = sound_end t keeps s p stand e
 sound t keeps (x ∷ xs) words (ready S q) p stand e =
     ready_step t keeps x xs S q p stand.0 stand.1 e (sound t keeps xs words.1) (classify x words.0.0 words.0.1)

@@ -3,7 +3,7 @@ use Rattle.std.proofs.Common.{◌≡◌, ◌∙◌, Bool, true, false, refl, sym
 use Rattle.std.specs.Prelude.{⊤}
 use Rattle.clap.specs.Kinds.{Kinds, or_else}
 use Rattle.clap.specs.Faults.{react_fault, settle_fault, use_fault}
-use Rattle.clap.specs.Walk.{Held, Row, Text, reacted, settled, used}
+use Rattle.clap.specs.Walk.{Held, Row, TextBytes, reacted, settled, used}
 use Rattle.clap.specs.declared.error.kind.ErrorKind.TheVariants as kind
 use Rattle.hexd_words.specs.Grammar.{Saying}
 use Rattle.hexd_words.proofs.Rules.{Found, Table, conflict, has_row-rows, rows_for, rules_with, says, used_fresh}
@@ -11,7 +11,7 @@ use Rattle.hexd_words.proofs.Rules.{Found, Table, conflict, has_row-rows, rows_f
 -- ---- what is held
 
 -- what is pending, with its value
-abbrev pub pend : Option Saying → Option (Text × List Text)
+abbrev pub pend : Option Saying → Option (TextBytes × List TextBytes)
 pend None = None
 pend (Some u) = Some (u.0, u.1 ∷ [])
 
@@ -24,7 +24,7 @@ abbrev pub held_with : List Saying → Option Saying → Held
 held_with S q = record { rows = rows_for S; pending = pend q; skip = 0 }
 
 -- rows for S, and the option waits for its value
-abbrev pub asking : List Saying → Text → Held
+abbrev pub asking : List Saying → TextBytes → Held
 asking S id = record { rows = rows_for S; pending = Some (id, []); skip = 0 }
 
 abbrev pub Pending : Table → Option Saying → Type 0
@@ -64,32 +64,32 @@ settled_is t S (Some u) f h =
     let same : used f.rule (u.1 ∷ []) (rows_for S) ≡ rows_for (S ++ u ∷ []) = f.set.used_is u.1 (rows_for S) ∙ used_fresh u.0 u.1 S h in
     rw f.is_rule (ap (λ (rows : List Row). record { rows = rows; pending = None; skip = 0 }) same)
 
-pub asking_faults : (t : Table) (S : List Saying) (id : Text) → Found t id → settle_fault (rules_with t) false (asking S id) ≡ kind.InvalidValue ∷ []
+pub asking_faults : (t : Table) (S : List Saying) (id : TextBytes) → Found t id → settle_fault (rules_with t) false (asking S id) ≡ kind.InvalidValue ∷ []
 asking_faults t S id f = rw f.is_rule (f.set.no_value (rows_for S))
 
 -- ---- `--name=value`
 
 -- the fault of a use of the option o, after the pending q
-use_is : (t : Table) (S : List Saying) (q : Option Saying) (name v : Text) → Pending t q → (f : Found t name) → clashes q S ≡ false
+use_is : (t : Table) (S : List Saying) (q : Option Saying) (name v : TextBytes) → Pending t q → (f : Found t name) → clashes q S ≡ false
     → use_fault false f.rule (v ∷ []) (settled (rules_with t) (held_with S q)).rows ≡ conflict (says name (S ++ as_list q))
 use_is t S q name v pending f h =
     ap (λ (held : Held). use_fault false f.rule (v ∷ []) held.rows) (settled_is t S q pending h)
     ∙ f.set.fault v (rows_for (S ++ as_list q)) ∙ ap conflict (has_row-rows name (S ++ as_list q))
 
-pub react_needs : (t : Table) (S : List Saying) (q : Option Saying) (name v : Text) → Pending t q → (f : Found t name) → react_fault (rules_with t) false f.rule (v ∷ []) (held_with S q) ≡ []
+pub react_needs : (t : Table) (S : List Saying) (q : Option Saying) (name v : TextBytes) → Pending t q → (f : Found t name) → react_fault (rules_with t) false f.rule (v ∷ []) (held_with S q) ≡ []
     → (clashes q S ≡ false) × (says name (S ++ as_list q) ≡ false)
 react_needs t S q name v pending f e =
     let parts = none_both (settle_fault (rules_with t) false (held_with S q)) (use_fault false f.rule (v ∷ []) (settled (rules_with t) (held_with S q)).rows) e in
     let clear = no_conflict _ (sym (settle_is t S q pending) ∙ parts.0) in
     (clear, no_conflict _ (sym (use_is t S q name v pending f clear) ∙ parts.1))
 
-pub react_passes : (t : Table) (S : List Saying) (q : Option Saying) (name v : Text) → Pending t q → (f : Found t name) → clashes q S ≡ false → says name (S ++ as_list q) ≡ false
+pub react_passes : (t : Table) (S : List Saying) (q : Option Saying) (name v : TextBytes) → Pending t q → (f : Found t name) → clashes q S ≡ false → says name (S ++ as_list q) ≡ false
     → react_fault (rules_with t) false f.rule (v ∷ []) (held_with S q) ≡ []
 react_passes t S q name v pending f clear fresh =
     both_none (settle_fault (rules_with t) false (held_with S q)) (use_fault false f.rule (v ∷ []) (settled (rules_with t) (held_with S q)).rows)
     (settle_is t S q pending ∙ ap conflict clear) (use_is t S q name v pending f clear ∙ ap conflict fresh)
 
-pub reacted_is : (t : Table) (S : List Saying) (q : Option Saying) (name v : Text) → Pending t q → (f : Found t name) → clashes q S ≡ false → says name (S ++ as_list q) ≡ false
+pub reacted_is : (t : Table) (S : List Saying) (q : Option Saying) (name v : TextBytes) → Pending t q → (f : Found t name) → clashes q S ≡ false → says name (S ++ as_list q) ≡ false
     → reacted (rules_with t) f.rule (v ∷ []) (held_with S q) ≡ held_with ((S ++ as_list q) ++ (name, v) ∷ []) None
 reacted_is t S q name v pending f clear fresh =
     let rows : used f.rule (v ∷ []) (settled (rules_with t) (held_with S q)).rows ≡ rows_for ((S ++ as_list q) ++ (name, v) ∷ []) =

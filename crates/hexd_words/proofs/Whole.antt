@@ -1,13 +1,14 @@
 -- Where the words are parts that say each thing once, and the mode, a parse finds no fault in them, and its rows are
 -- what they say.
+use Rattle.std.proofs.lemmas.Bool.{or_parts}
 use Rattle.std.proofs.Common.{◌≡◌, ◌∙◌, ◌==◌, ℕ, Bool, not, true, false, refl, sym, ap, ap₂, subst, List, [], ◌∷◌, ◌++◌, Option, Some, None, append-nil, append_assoc, true≢false}
 use Rattle.std.specs.List.{flat_map, list_all}
 use Rattle.std.specs.Str.{bytes_eq}
 use Rattle.clap.specs.Lexer.{has_byte, long_of}
-use Rattle.clap.specs.Walk.{Held, Text, Waiting, idle, next_position, option, settled}
+use Rattle.clap.specs.Walk.{Held, TextBytes, Waiting, idle, next_position, option, settled}
 use Rattle.hexd_words.specs.Command.{mode_name}
 use Rattle.hexd_words.specs.Grammar.{Part, Saying, after_hyphens, apart, joined, part_words, plain}
-use Rattle.hexd_words.proofs.Rules.{KeepsMode, Table, conflict, found_all, found_mode, found_passes, has_option, is_false, mode_built, option_in, or_false, rules_with, same_bytes, says, shape_with}
+use Rattle.hexd_words.proofs.Rules.{KeepsMode, Table, conflict, found_all, found_mode, found_passes, has_option, is_false, mode_built, option_in, rules_with, same_bytes, says, shape_with}
 use Rattle.hexd_words.proofs.Steps.{at, dashes, fault_dashes, fault_joined, fault_named, fault_past, fault_plain, fault_value, past, walked_dashes, walked_joined, walked_named, walked_past, walked_plain, walked_value}
 use Rattle.hexd_words.proofs.Turns.{Pending, asking, clashes, held_with, or_nothing, react_passes, reacted_is, settle_is, settled_is}
 use Rattle.hexd_words.proofs.Lexing.{name_and_value_at, name_and_value_none, plain_facts}
@@ -18,22 +19,22 @@ use Rattle.hexd_words.proofs.Sound.{Complete, IsPartOf, Parts, modes, uses, want
 -- ---- names
 
 -- the name is not empty, and has no `=`
-abbrev pub is_name : Text → Bool
+abbrev pub is_name : TextBytes → Bool
 is_name [] = false
 is_name (b ∷ bs) = not (has_byte 61 (b ∷ bs))
 
 abbrev pub WellNamed : Table → Type 0
 WellNamed t = list_all (λ o. is_name o.0) t ≡ true
 
-named : (t : Table) → WellNamed t → (name : Text) (o : Text × List Text) → option_in t name ≡ Some o → is_name name ≡ true
+named : (t : Table) → WellNamed t → (name : TextBytes) (o : TextBytes × List TextBytes) → option_in t name ≡ Some o → is_name name ≡ true
 named t well name o e =
-    subst (λ (n : Text). is_name n ≡ true) (same_bytes o.0 name (found_passes (λ p. bytes_eq p.0 name) t o e)) (found_all (λ p. bytes_eq p.0 name) (λ p. is_name p.0) t o e well)
+    subst (λ (n : TextBytes). is_name n ≡ true) (same_bytes o.0 name (found_passes (λ p. bytes_eq p.0 name) t o e)) (found_all (λ p. bytes_eq p.0 name) (λ p. is_name p.0) t o e well)
 
-long_joined : (name v : Text) → is_name name ≡ true → (bytes_eq (dashes ++ (name ++ (61 ∷ v))) dashes ≡ false) × (long_of (dashes ++ (name ++ (61 ∷ v))) ≡ Some (name, Some v))
+long_joined : (name v : TextBytes) → is_name name ≡ true → (bytes_eq (dashes ++ (name ++ (61 ∷ v))) dashes ≡ false) × (long_of (dashes ++ (name ++ (61 ∷ v))) ≡ Some (name, Some v))
 long_joined [] v h = absurd (true≢false (sym h))
 long_joined (b ∷ bs) v h = (refl, ap (λ p. Some p) (name_and_value_at (b ∷ bs) v (is_false _ h)))
 
-long_named : (name : Text) → is_name name ≡ true → (bytes_eq (dashes ++ name) dashes ≡ false) × (long_of (dashes ++ name) ≡ Some (name, None))
+long_named : (name : TextBytes) → is_name name ≡ true → (bytes_eq (dashes ++ name) dashes ≡ false) × (long_of (dashes ++ name) ≡ Some (name, None))
 long_named [] h = absurd (true≢false (sym h))
 long_named (b ∷ bs) h = (refl, ap (λ p. Some p) (name_and_value_none (b ∷ bs) (is_false _ h)))
 
@@ -47,13 +48,13 @@ clear_from S (Some u) rest once = fresh_at S u rest (subst Once (append_assoc S 
 abbrev Expects : List Saying → ℕ → Type 0
 Expects us p = says mode_name us ≡ false → 1 ≡ p
 
-expects_after : (us : List Saying) (name v : Text) (p : ℕ) → Expects us p → Expects (us ++ (name, v) ∷ []) p
+expects_after : (us : List Saying) (name v : TextBytes) (p : ℕ) → Expects us p → Expects (us ++ (name, v) ∷ []) p
 expects_after us name v p expects h =
-    expects (or_false (says mode_name us) _ (sym (says_both mode_name us ((name, v) ∷ [])) ∙ h)).0
+    expects (or_parts (says mode_name us) _ (sym (says_both mode_name us ((name, v) ∷ [])) ∙ h)).0
 
-expected_no_more : (us : List Saying) (word : Text) (p : ℕ) → Expects (us ++ (mode_name, word) ∷ []) p
+expected_no_more : (us : List Saying) (word : TextBytes) (p : ℕ) → Expects (us ++ (mode_name, word) ∷ []) p
 expected_no_more us word p h =
-    absurd (true≢false (or_false (says mode_name us) true (sym (says_both mode_name us ((mode_name, word) ∷ [])) ∙ h)).1)
+    absurd (true≢false (or_parts (says mode_name us) true (sym (says_both mode_name us ((mode_name, word) ∷ [])) ∙ h)).1)
 
 -- one more thing at the front of the rest
 regrouped : (before : List Saying) (u : Saying) (rest U : List Saying) → U ≡ before ++ (u ∷ rest) → U ≡ (before ++ u ∷ []) ++ rest
@@ -61,7 +62,7 @@ regrouped before u rest U e = e ∙ sym (append_assoc before (u ∷ []) rest)
 
 -- ---- after `--`
 
-whole_past : (t : Table) → KeepsMode t → (ws : List Text) (S : List Saying) (q : Option Saying) (w : Waiting) (p : ℕ) (U : List Saying) → Pending t q → U ≡ base S q ++ modes ws → Complete U → Expects (base S q) p
+whole_past : (t : Table) → KeepsMode t → (ws : List TextBytes) (S : List Saying) (q : Option Saying) (w : Waiting) (p : ℕ) (U : List Saying) → Pending t q → U ≡ base S q ++ modes ws → Complete U → Expects (base S q) p
     → Done t (past (held_with S q) w p) ws U
 whole_past t keeps [] S q w p U pending is all expects =
     let same : U ≡ base S q = is ∙ append-nil (base S q) in
@@ -79,11 +80,11 @@ whole_past t keeps (x ∷ xs) S q w p U pending is all expects =
 
 -- ---- before `--`
 
-abbrev Whole : Table → List Part → Option (List Text) → Type 0
+abbrev Whole : Table → List Part → Option (List TextBytes) → Type 0
 Whole t parts rest = (S : List Saying) (q : Option Saying) (p : ℕ) (U : List Saying) → Pending t q → U ≡ base S q ++ uses parts rest → Complete U → Expects (base S q) p
     → Done t (at (held_with S q) idle p) (flat_map part_words parts ++ after_hyphens rest) U
 
-whole_end : (t : Table) → KeepsMode t → (rest : Option (List Text)) → Whole t [] rest
+whole_end : (t : Table) → KeepsMode t → (rest : Option (List TextBytes)) → Whole t [] rest
 whole_end t keeps None S q p U pending is all expects =
     let same : U ≡ base S q = is ∙ append-nil (base S q) in
     subst (λ (us : List Saying). Done t (at (held_with S q) idle p) [] us) (sym same)
@@ -93,10 +94,10 @@ whole_end t keeps (Some ws) S q p U pending is all expects =
     (whole_past t keeps ws S q idle p U pending is all expects)
 
 -- the walk from here on, after the words of one part
-abbrev After : Table → Part → List Part → Option (List Text) → Type 0
+abbrev After : Table → Part → List Part → Option (List TextBytes) → Type 0
 After t part parts rest = IsPartOf t part → Whole t parts rest → Whole t (part ∷ parts) rest
 
-whole_joined : (t : Table) → KeepsMode t → WellNamed t → (name v : Text) (parts : List Part) (rest : Option (List Text)) → After t (joined name v) parts rest
+whole_joined : (t : Table) → KeepsMode t → WellNamed t → (name v : TextBytes) (parts : List Part) (rest : Option (List TextBytes)) → After t (joined name v) parts rest
 whole_joined t keeps well name v parts rest part more S q p U pending is all expects =
     let has = has_option t keeps name part.0 part.1 in
     let long = long_joined name v (named t well name part.0 part.1) in
@@ -111,7 +112,7 @@ whole_joined t keeps well name v parts rest part more S q p U pending is all exp
     (more now None p U tt (regrouped (base S q) (name, v) (uses parts rest) U is ∙ ap (λ (us : List Saying). us ++ uses parts rest) (sym (append-nil now))) all
     (subst (λ (us : List Saying). Expects us p) (sym (append-nil now)) (expects_after (base S q) name v p expects)))
 
-whole_apart : (t : Table) → KeepsMode t → WellNamed t → (name v : Text) (parts : List Part) (rest : Option (List Text)) → After t (apart name v) parts rest
+whole_apart : (t : Table) → KeepsMode t → WellNamed t → (name v : TextBytes) (parts : List Part) (rest : Option (List TextBytes)) → After t (apart name v) parts rest
 whole_apart t keeps well name v parts rest part more S q p U pending is all expects =
     let has = has_option t keeps name part.0.0 part.0.1 in
     let long = long_named name (named t well name part.0.0 part.0.1) in
@@ -120,17 +121,17 @@ whole_apart t keeps well name v parts rest part more S q p U pending is all expe
     let once : Once (base S q ++ ((name, v) ∷ uses parts rest)) = subst Once is all.0 in
     let clear = clear_from S q ((name, v) ∷ uses parts rest) once in
     let held_is : record (settled (rules_with t) (held_with S q)) { pending = Some (f.rule.id, []) } ≡ asking (base S q) name =
-    ap (λ (h : Held). record h { pending = Some (f.rule.id, []) }) (settled_is t S q pending clear) ∙ ap (λ (id : Text). record (held_with (base S q) None) { pending = Some (id, []) }) f.set.id_is in
+    ap (λ (h : Held). record h { pending = Some (f.rule.id, []) }) (settled_is t S q pending clear) ∙ ap (λ (id : TextBytes). record (held_with (base S q) None) { pending = Some (id, []) }) f.set.id_is in
     let words = flat_map part_words parts ++ after_hyphens rest in
     done_more t (at (held_with S q) idle p) (at (asking (base S q) name) (option name) p) (dashes ++ name) (v ∷ words) U
     (fault_named (shape_with t) (held_with S q) idle p (dashes ++ name) name f.rule refl long.0 long.1 has.by_long has.takes ∙ or_nothing _ ∙ settle_is t S q pending ∙ ap conflict clear)
-    (walked_named (rules_with t) (held_with S q) p (dashes ++ name) name f.rule long.0 long.1 has.by_long has.takes ∙ ap₂ (λ (h : Held) (id : Text). at h (option id) p) held_is f.set.id_is)
+    (walked_named (rules_with t) (held_with S q) p (dashes ++ name) name f.rule long.0 long.1 has.by_long has.takes ∙ ap₂ (λ (h : Held) (id : TextBytes). at h (option id) p) held_is f.set.id_is)
     (done_more t (at (asking (base S q) name) (option name) p) (at (held_with (base S q) (Some (name, v))) idle p) v words U
     (fault_value (shape_with t) (asking (base S q) name) p v name facts.0 facts.1 facts.2)
     (walked_value (rules_with t) (asking (base S q) name) p v name f.rule facts.0 facts.1 facts.2 f.is_rule has.most (rw has.is_id refl))
     (more (base S q) (Some (name, v)) p U f (regrouped (base S q) (name, v) (uses parts rest) U is) all (expects_after (base S q) name v p expects)))
 
-whole_plain : (t : Table) → (word : Text) (parts : List Part) (rest : Option (List Text)) → After t (plain word) parts rest
+whole_plain : (t : Table) → (word : TextBytes) (parts : List Part) (rest : Option (List TextBytes)) → After t (plain word) parts rest
 whole_plain t word parts rest part more S q p U pending is all expects =
     let facts = plain_facts word part in
     let once : Once (base S q ++ ((mode_name, word) ∷ uses parts rest)) = subst Once is all.0 in
@@ -143,7 +144,7 @@ whole_plain t word parts rest part more S q p U pending is all expects =
     (walked_plain (rules_with t) (held_with S q) p word mode_built facts.0 facts.1 facts.2 known refl refl ∙ ap (λ (h : Held). at h idle (next_position mode_built p)) (positional_is t S q word pending clear))
     (more (base S q) (Some (mode_name, word)) (next_position mode_built p) U (found_mode t) (regrouped (base S q) (mode_name, word) (uses parts rest) U is) all (expected_no_more (base S q) word (next_position mode_built p)))
 
-pub whole : (t : Table) → KeepsMode t → WellNamed t → (parts : List Part) (rest : Option (List Text)) → Parts t parts → Whole t parts rest
+pub whole : (t : Table) → KeepsMode t → WellNamed t → (parts : List Part) (rest : Option (List TextBytes)) → Parts t parts → Whole t parts rest
 whole t keeps well [] rest all = whole_end t keeps rest
 whole t keeps well (joined name v ∷ parts) rest all = whole_joined t keeps well name v parts rest all.0 (whole t keeps well parts rest all.1)
 whole t keeps well (apart name v ∷ parts) rest all = whole_apart t keeps well name v parts rest all.0 (whole t keeps well parts rest all.1)

@@ -1,15 +1,15 @@
 -- The command, as clap reads it: one positional argument, and options with a value each.
 use Rattle.std.specs.Prelude.{true, List, [], ◌∷◌, Some, codes}
-use Rattle.clap.specs.Walk.{Rule, Text}
+use Rattle.clap.specs.Walk.{Rule, TextBytes}
 use Rattle.clap.specs.Simple.{App, new_app, new_rule, with_rule, on_top}
 use Rattle.clap.specs.declared.builder.action.ArgAction.TheVariants.{Set}
 
 -- the name of the positional word
-abbrev pub mode_name : Text
+abbrev pub mode_name : TextBytes
 mode_name = codes "mode"
 
 -- the options, each with the text that stands for it where it is not given, if one does
-abbrev pub knob_table : List (Text × List Text)
+abbrev pub knob_table : List (TextBytes × List TextBytes)
 knob_table = (codes "size", codes "11" ∷ [])
     ∷ (codes "workers", codes "1" ∷ [])
     ∷ (codes "playouts", codes "10000" ∷ [])
@@ -19,7 +19,7 @@ knob_table = (codes "size", codes "11" ∷ [])
     ∷ (codes "weight", codes "180" ∷ [])
     ∷ []
 
-abbrev pub other_table : List (Text × List Text)
+abbrev pub other_table : List (TextBytes × List TextBytes)
 other_table = (codes "hsearch", codes "on" ∷ [])
     ∷ (codes "steps", codes "10000" ∷ [])
     ∷ (codes "budget", codes "1000000" ∷ [])
@@ -27,7 +27,7 @@ other_table = (codes "hsearch", codes "on" ∷ [])
     ∷ []
 
 -- an option as `--name` with one value
-abbrev pub option_rule : Text × List Text → Rule
+abbrev pub option_rule : TextBytes × List TextBytes → Rule
 option_rule o = record (new_rule o.0) { long = Some o.0; action = Some Set; defaults = o.1 }
 
 -- the word that names the mode
@@ -42,7 +42,7 @@ plain_app = on_top (λ s. record s {
   disable_version_flag = true;
 }) (new_app (codes "hexd"))
 
-abbrev pub with_options : App → List (Text × List Text) → App
+abbrev pub with_options : App → List (TextBytes × List TextBytes) → App
 with_options a [] = a
 with_options a (o ∷ os) = with_options (with_rule a (option_rule o)) os
 

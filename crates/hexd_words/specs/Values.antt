@@ -1,30 +1,32 @@
 -- What the texts of the options' values say.
-use Rattle.std.specs.Prelude.{◌≡◌, ◌≢◌, ◌≤◌, ◌^◌, ◌-◌, ℕ, Bool, true, false, List, [], Option, Some, None, length, codes}
+use Rattle.std.specs.Prelude.{◌≡◌, ◌≢◌, ◌≤◌, ◌^◌, ◌-◌, ℕ, Bool, true, false, List, [], Option, Some}
+use Rattle.std.specs.Prelude.{None, length, codes}
 use Rattle.std.specs.Str.Parse.{IsNumeral, digits_value}
 use Rattle.hexd_words.specs.declared.settings.Mode.{Mode}
 use Rattle.hexd_words.specs.declared.settings.Mode.TheVariants.{Htp}
 use Rattle.hexd_words.specs.declared.settings.Options.{Options}
 
-abbrev pub Text : Type 0
-Text = List ℕ
+abbrev pub TextBytes : Type 0
+TextBytes = List ℕ
 
--- There is a text, it is one to twenty decimal digits, they write n, and n is from `least` to `most`.
-abbrev pub IsNumberFrom : ℕ → ℕ → Option Text → ℕ → Type 0
+-- There is a text, it is one to twenty decimal digits, they write n, and n is from `least` to
+-- `most`.
+abbrev pub IsNumberFrom : ℕ → ℕ → Option TextBytes → ℕ → Type 0
 IsNumberFrom least most None n = ⊥
 IsNumberFrom least most (Some text) n =
     IsNumeral 10 text × (length text ≤ 20) × (digits_value 10 text ≡ n) × (least ≤ n) × (n ≤ most)
 
 -- the word that names a mode
-abbrev pub mode_word : Mode → Text
+abbrev pub mode_word : Mode → TextBytes
 mode_word Htp = codes "htp"
 
 -- the word that turns a thing on or off
-abbrev pub switch_word : Bool → Text
+abbrev pub switch_word : Bool → TextBytes
 switch_word true = codes "on"
 switch_word false = codes "off"
 
 -- The options are what these values of the names say.
-pub record AreOptions (value : Text → Option Text) (o : Options) : Type 0 where
+pub record AreOptions (value : TextBytes → Option TextBytes) (o : Options) : Type 0 where
   pub mode : value (codes "mode") ≡ Some (mode_word o.mode)
   pub size : IsNumberFrom 1 11 (value (codes "size")) o.size
   pub workers : IsNumberFrom 1 64 (value (codes "workers")) o.workers
@@ -40,7 +42,7 @@ pub record AreOptions (value : Text → Option Text) (o : Options) : Type 0 wher
   pub trace_is_named : o.trace ≢ Some []
 
 -- The options are in their ranges.
-pub record AreInRange (o : Options) : Type 0 where
+pub record OptionsInRange (o : Options) : Type 0 where
   pub size : (1 ≤ o.size) × (o.size ≤ 11)
   pub workers : (1 ≤ o.workers) × (o.workers ≤ 64)
   pub playouts : (1 ≤ o.playouts) × (o.playouts ≤ 1000000)
@@ -51,5 +53,5 @@ pub record AreInRange (o : Options) : Type 0 where
   pub budget : 1 ≤ o.budget
 
 -- the word that is one hyphen alone
-abbrev pub lone_hyphen : Text
+abbrev pub lone_hyphen : TextBytes
 lone_hyphen = codes "-"

@@ -1,7 +1,8 @@
 //! The command line as `clap` reads it. All values are text here.
 
 ghost use Rattle.std.specs.Prelude.{◌≡◌, ◌≢◌, IfOk, MatchOption, None, [], ◌∷◌};
-ghost use Rattle.clap.specs.Words.{app_of, fault_of, found_of, kind_of, matches_of, rows_of, with_rule};
+ghost use Rattle.clap.specs.Words.{app_of, fault_of, found_of, kind_of, matches_of, rows_of};
+ghost use Rattle.clap.specs.Words.{with_rule};
 ghost use Rattle.hexd_words.specs.Command.{
   hexd_app,
   knob_table,
@@ -85,7 +86,8 @@ fn with_others<'a>(alloc: Global, command: Command<'a>) -> Result<Command<'a>, A
 /// What `clap` finds in the words; none exactly where it finds a fault in them.
 pub fn matched<'a>(alloc: Global, words: &'a [Word]) -> Result<Option<ArgMatches<'a>>, Memory>
     ensures { IfOk result (λ r. MatchOption r (fault_of hexd_app words.now ≢ [])
-        (λ m. (fault_of hexd_app words.now ≡ []) × (rows_of (found_of m) ≡ matches_of hexd_app words.now))) }
+        (λ m. (fault_of hexd_app words.now ≡ [])
+        × (rows_of (found_of m) ≡ matches_of hexd_app words.now))) }
 {
     let command = command(alloc)?;
     match command.try_get_matches_from(words) {

@@ -1,7 +1,8 @@
 //! The values of options as numbers and switches. `clap` has numbers too, but it takes a plus sign
 //! and more than twenty digits.
 
-ghost use Rattle.std.specs.Prelude.{◌≡◌, ◌<◌, ◌≤◌, ◌^◌, ℕ, Some, true, false, length, codes, option_map, Bool, ◌↔◌};
+ghost use Rattle.std.specs.Prelude.{◌≡◌, ◌<◌, ◌≤◌, ◌^◌, ℕ, Some, true, false, length, codes};
+ghost use Rattle.std.specs.Prelude.{option_map, Bool, ◌↔◌};
 ghost use Rattle.std.specs.Option.{SomeIff};
 ghost use Rattle.std.specs.List.{list_all};
 ghost use Rattle.hexd_words.specs.declared.settings.Mode.{Mode};
@@ -14,10 +15,11 @@ use crate::Mode;
 // The digits of 2^64 - 1: no number in its range needs more.
 const MOST_DIGITS: usize = 20;
 
-/// The number that the text writes in one to twenty decimal digits, without a sign, where it is from
-/// `least` to `most`.
+/// The number that the text writes in one to twenty decimal digits, without a sign, where it is
+/// from `least` to `most`.
 pub fn number(text: Option<&str>, least: u64, most: u64) -> Option<u64>
-    ensures { (n : ℕ) → (result ≡ Some n) ↔ IsNumberFrom least most (option_map (λ t. t.now) text.entry) n }
+    ensures { (n : ℕ) → (result ≡ Some n)
+        ↔ IsNumberFrom least most (option_map (λ t. t.now) text.entry) n }
 {
     let n = digits(text?)?;
     if least <= n && n <= most {
@@ -29,7 +31,8 @@ pub fn number(text: Option<&str>, least: u64, most: u64) -> Option<u64>
 
 /// As `number`, of a number that fits 32 bits.
 pub fn small_number(text: Option<&str>, least: u32, most: u32) -> Option<u32>
-    ensures { (n : ℕ) → (result ≡ Some n) ↔ IsNumberFrom least most (option_map (λ t. t.now) text.entry) n }
+    ensures { (n : ℕ) → (result ≡ Some n)
+        ↔ IsNumberFrom least most (option_map (λ t. t.now) text.entry) n }
 {
     let n = number(text, least as u64, most as u64)?;
     Some(n as u32)
@@ -58,7 +61,8 @@ fn are_digits(text: &str) -> bool
 
 /// Whether the text turns a thing on; none where it is neither `on` nor `off`.
 pub fn switch(text: Option<&str>) -> Option<bool>
-    ensures { (b : Bool) → (result ≡ Some b) ↔ (option_map (λ t. t.now) text.entry ≡ Some (switch_word b)) }
+    ensures { (b : Bool) → (result ≡ Some b)
+        ↔ (option_map (λ t. t.now) text.entry ≡ Some (switch_word b)) }
 {
     match text? {
         "on" => Some(true),
@@ -69,7 +73,8 @@ pub fn switch(text: Option<&str>) -> Option<bool>
 
 /// The mode that the word names.
 pub fn mode(word: Option<&str>) -> Option<Mode>
-    ensures { (m : Mode) → (result ≡ Some m) ↔ (option_map (λ t. t.now) word.entry ≡ Some (mode_word m)) }
+    ensures { (m : Mode) → (result ≡ Some m)
+        ↔ (option_map (λ t. t.now) word.entry ≡ Some (mode_word m)) }
 {
     match word? {
         "htp" => Some(Mode::Htp),

@@ -23,7 +23,7 @@ ghost use Rattle.clap.specs.Words.{fault_of, first_of, first_value, found_of, ma
 ghost use Rattle.hexd_words.specs.Command.{hexd_app};
 ghost use Rattle.hexd_words.specs.Grammar.{Saying, defaults, value_of};
 ghost use Rattle.hexd_words.specs.Reading.{IsLine, WellFormed};
-ghost use Rattle.hexd_words.specs.Values.{AreInRange, AreOptions, Text, lone_hyphen};
+ghost use Rattle.hexd_words.specs.Values.{OptionsInRange, AreOptions, TextBytes, lone_hyphen};
 ghost use Rattle.hexd_words.specs.declared.settings.Options.{Options};
 
 use crate::command::matched;
@@ -36,7 +36,7 @@ use std::alloc::Global;
 /// The options that the words ask for; none exactly where the words are not well formed.
 pub fn read_words(alloc: Global, words: &[Word]) -> Result<Option<Options>, Memory>
     ensures exact { IfOk result (λ r. (o : Options) → (r ≡ Some o) ↔ WellFormed words.now o) }
-    ensures ranges { IfOk result (λ r. IfSome r AreInRange) }
+    ensures ranges { IfOk result (λ r. IfSome r OptionsInRange) }
 {
     if has_lone_hyphen(words) {
         return Ok(None);
@@ -54,15 +54,16 @@ pub fn read_words(alloc: Global, words: &[Word]) -> Result<Option<Options>, Memo
 pub fn clap_reads_lines(words: &[Word])
     ensures line { All IsUtf8 words.now → ¬ Contains words.now lone_hyphen
         → fault_of hexd_app words.now ≡ [] → (said : List Saying) × IsLine words.now said }
-    ensures clear { (said : List Saying) → IsLine words.now said → fault_of hexd_app words.now ≡ [] }
-    ensures values { (said : List Saying) → IsLine words.now said → (name : Text)
+    ensures clear { (said : List Saying) → IsLine words.now said
+        → fault_of hexd_app words.now ≡ [] }
+    ensures values { (said : List Saying) → IsLine words.now said → (name : TextBytes)
         → first_of name (matches_of hexd_app words.now) ≡ value_of (said ++ defaults) name }
 {
     let _words = words;
 }
 
-// Whether one of the words is a hyphen alone. No line has one, but `clap` takes it for a value. Each
-// word that was looked at is text.
+// Whether one of the words is a hyphen alone. No line has one, but `clap` takes it for a value.
+// Each word that was looked at is text.
 fn has_lone_hyphen(words: &[Word]) -> bool
     ensures found { IsTrue result ↔ Contains words.now lone_hyphen }
     ensures text { OnFalse result (All IsUtf8 words.now) }
@@ -106,7 +107,8 @@ fn copied(alloc: Global, text: Option<&str>) -> Result<Option<Word>, Memory>
     }
 }
 
-// The options, where the name of the trace is at hand. The ranges are those of the table in `Options`.
+// The options, where the name of the trace is at hand. The ranges are those of the table in
+// `Options`.
 fn with_trace(matches: &ArgMatches<'_>, trace: Option<Word>) -> Option<Options>
     requires as_given { first_value (found_of matches.now) (codes "trace") ≡ trace }
     requires named { trace ≢ Some [] }

@@ -32,7 +32,8 @@ pub struct Options {
     pub weight: u32,
     /// `--hsearch`: whether connections are searched for, `on` or `off`, by default `on`.
     pub hsearch: bool,
-    /// `--steps`: how many steps the schedule of a simulation has, 0 to 1,000,000, by default 10,000.
+    /// `--steps`: how many steps the schedule of a simulation has, 0 to 1,000,000, by default
+    /// 10,000.
     pub steps: u32,
     /// `--budget`: how many steps a solver may take, at least 1, by default 1,000,000.
     pub budget: u64,

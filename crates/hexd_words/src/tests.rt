@@ -6,8 +6,8 @@ use hex_io::Word;
 use std::alloc::{AllocError, Global};
 use std::test::Fail;
 
-// Lines that are well formed. After the bar stand the number that is no default, if there is one, as
-// its place in `numbers` and its value.
+// Lines that are well formed. After the bar stand the number that is no default, if there is one,
+// as its place in `numbers` and its value.
 static TAKEN: &str = "htp|0|11
 --size 5 htp|0|5
 htp --size 5|0|5

@@ -2,7 +2,7 @@
 use Rattle.std.proofs.Common.{◌≡◌, ℕ, Bool, true, false, cond, List, [], ◌∷◌, ◌++◌, refl, ap, sym, ◌∙◌, append_assoc, append-nil}
 use Rattle.std.specs.List.{onto_first, All}
 use Rattle.std.proofs.lemmas.List.Splits.{slice_split_none, slice_split_at}
-use Rattle.htp_line.specs.Lines.{is_feed, parts_of, but_last, last_of, whole, rest}
+use Rattle.htp_line.specs.Lines.{is_feed, parts_of, but_last, last_part, whole, rest}
 
 -- a part with more at its end, and then the other parts
 abbrev pub onto_front : List ℕ → List (List ℕ) → List (List ℕ)
@@ -10,7 +10,7 @@ onto_front l [] = l ∷ []
 onto_front l (q ∷ qs) = (l ++ q) ∷ qs
 
 abbrev pub glued : List (List ℕ) → List (List ℕ) → List (List ℕ)
-glued ps qs = but_last ps ++ onto_front (last_of ps) qs
+glued ps qs = but_last ps ++ onto_front (last_part ps) qs
 
 pub IsSome_part : List (List ℕ) → Type 0
 IsSome_part ps = (p : List ℕ) × (more : List (List ℕ)) × (ps ≡ p ∷ more)
@@ -58,7 +58,7 @@ but_last-append [] x more = refl
 but_last-append (y ∷ []) x more = refl
 but_last-append (y ∷ z ∷ zs) x more = ap (λ l. y ∷ l) (but_last-append (z ∷ zs) x more)
 
-last_of_push : (xs : List (List ℕ)) (x : List ℕ) → last_of (xs ++ x ∷ []) ≡ x
+last_of_push : (xs : List (List ℕ)) (x : List ℕ) → last_part (xs ++ x ∷ []) ≡ x
 last_of_push [] x = refl
 last_of_push (y ∷ []) x = refl
 last_of_push (y ∷ z ∷ zs) x = last_of_push (z ∷ zs) x
@@ -70,21 +70,21 @@ NoFeed q = All (λ b. is_feed b ≡ false) q
 pub whole_more : (s q : List ℕ) → NoFeed q → (whole (s ++ q) ≡ whole s) × (rest (s ++ q) ≡ rest s ++ q)
 unfolding whole rest
 whole_more s q none =
-    let e : parts_of (s ++ q) ≡ but_last (parts_of s) ++ (last_of (parts_of s) ++ q) ∷ [] = parts-append s q ∙ ap (glued (parts_of s)) (slice_split_none is_feed q none) in
-    (rw e (but_last_push (but_last (parts_of s)) (last_of (parts_of s) ++ q)), rw e (last_of_push (but_last (parts_of s)) (last_of (parts_of s) ++ q)))
+    let e : parts_of (s ++ q) ≡ but_last (parts_of s) ++ (last_part (parts_of s) ++ q) ∷ [] = parts-append s q ∙ ap (glued (parts_of s)) (slice_split_none is_feed q none) in
+    (rw e (but_last_push (but_last (parts_of s)) (last_part (parts_of s) ++ q)), rw e (last_of_push (but_last (parts_of s)) (last_part (parts_of s) ++ q)))
 
 -- the line in hand ends
 pub whole_ended : (s q : List ℕ) → NoFeed q → (whole (s ++ (q ++ 10 ∷ [])) ≡ whole s ++ (rest s ++ q) ∷ []) × (rest (s ++ (q ++ 10 ∷ [])) ≡ [])
 unfolding whole rest
 whole_ended s q none =
-    let raw = last_of (parts_of s) ++ q in
+    let raw = last_part (parts_of s) ++ q in
     let e : parts_of (s ++ (q ++ 10 ∷ [])) ≡ (but_last (parts_of s) ++ raw ∷ []) ++ [] ∷ [] =
     parts-append s (q ++ 10 ∷ []) ∙ ap (glued (parts_of s)) (slice_split_at is_feed q 10 [] none refl) ∙ sym (append_assoc (but_last (parts_of s)) (raw ∷ []) ([] ∷ [])) in
     (rw e (but_last_push (but_last (parts_of s) ++ raw ∷ []) []), rw e (last_of_push (but_last (parts_of s) ++ raw ∷ []) []))
 
 glued_front : (ps qs : List (List ℕ)) (q : List ℕ) (more : List (List ℕ)) → qs ≡ q ∷ more → (front : List (List ℕ)) × (but_last (glued ps qs) ≡ but_last ps ++ front)
-glued_front ps qs q [] e = ([], rw e (but_last_push (but_last ps) (last_of ps ++ q) ∙ sym (append-nil (but_last ps))))
-glued_front ps qs q (q' ∷ more) e = (but_last ((last_of ps ++ q) ∷ q' ∷ more), rw e (but_last-append (but_last ps) (last_of ps ++ q) (q' ∷ more)))
+glued_front ps qs q [] e = ([], rw e (but_last_push (but_last ps) (last_part ps ++ q) ∙ sym (append-nil (but_last ps))))
+glued_front ps qs q (q' ∷ more) e = (but_last ((last_part ps ++ q) ∷ q' ∷ more), rw e (but_last-append (but_last ps) (last_part ps ++ q) (q' ∷ more)))
 
 -- the whole lines of a text are the first of those of a longer one
 pub whole-append : (s t : List ℕ) → (more : List (List ℕ)) × (whole (s ++ t) ≡ whole s ++ more)

@@ -17,10 +17,10 @@ but_last (x ∷ []) = []
 but_last (x ∷ y ∷ ys) = x ∷ but_last (y ∷ ys)
 
 -- the last part
-abbrev pub last_of : List (List ℕ) → List ℕ
-last_of [] = []
-last_of (x ∷ []) = x
-last_of (x ∷ y ∷ ys) = last_of (y ∷ ys)
+abbrev pub last_part : List (List ℕ) → List ℕ
+last_part [] = []
+last_part (x ∷ []) = x
+last_part (x ∷ y ∷ ys) = last_part (y ∷ ys)
 
 -- the lines that a line feed ends
 unfoldable pub whole : List ℕ → List (List ℕ)
@@ -28,7 +28,7 @@ whole bytes = but_last (parts_of bytes)
 
 -- what stands after the last line feed
 unfoldable pub rest : List ℕ → List ℕ
-rest bytes = last_of (parts_of bytes)
+rest bytes = last_part (parts_of bytes)
 
 -- a last line without a line feed, where it has a byte
 abbrev pub unless_empty : List ℕ → List (List ℕ)

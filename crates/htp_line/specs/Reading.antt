@@ -1,5 +1,6 @@
 -- What a raw line asks, by filters of the whole line.
-use Rattle.std.specs.Prelude.{ℕ, ◌==◌, ◌&&◌, ◌||◌, not, Bool, List, [], ◌∷◌, length, map, filter, Option, Some, None, nat_le, nat_lt, if◌then◌else◌, take_while}
+use Rattle.std.specs.Prelude.{ℕ, ◌==◌, ◌&&◌, ◌||◌, not, Bool, List, [], ◌∷◌, length, map, filter}
+use Rattle.std.specs.Prelude.{Option, Some, None, nat_le, nat_lt, if◌then◌else◌, take_while}
 use Rattle.std.specs.List.{slice_split, list_all}
 use Rattle.std.specs.Str.Parse.{digits_value}
 use Rattle.htp_line.specs.declared.request.Parsed.{Parsed}
@@ -40,7 +41,10 @@ is_digit b = nat_le 48 b && nat_le b 57
 
 -- an id: one to ten digits with a value of at most 2,147,483,647
 abbrev pub is_number : List ℕ → Bool
-is_number word = nat_le 1 (length word) && (nat_le (length word) 10 && (list_all is_digit word && nat_le (digits_value 10 word) 2147483647))
+is_number word =
+    nat_le 1 (length word)
+    && (nat_le (length word) 10
+    && (list_all is_digit word && nat_le (digits_value 10 word) 2147483647))
 
 -- the id that a word is
 abbrev pub number_of : List ℕ → Option ℕ

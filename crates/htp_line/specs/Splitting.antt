@@ -1,13 +1,15 @@
 -- What a splitter holds of a stream.
-use Rattle.std.specs.Prelude.{◌≡◌, ℕ, Bool, true, false, List, [], ◌∷◌, ◌++◌, length, Option, Some, None, if◌then◌else◌, nat_le, is_some}
+use Rattle.std.specs.Prelude.{◌≡◌, ℕ, Bool, true, false, List, [], ◌∷◌, ◌++◌, length, Option, Some}
+use Rattle.std.specs.Prelude.{None, if◌then◌else◌, nat_le, is_some}
 use Rattle.std.specs.List.{before_first, position}
 use Rattle.htp_line.specs.Lines.{is_feed, whole, rest}
+use Rattle.htp_line.specs.declared.splitter.TheConstants.{LINE_LIMIT}
 use Rattle.htp_line.specs.declared.splitter.What.{What}
 use Rattle.htp_line.specs.declared.splitter.What.TheVariants.{More, Line, Long}
 
--- a line as far as it is kept: all of it, or nothing where it has more than 4,096 bytes
+-- a line as far as it is kept: all of it, or nothing where it has more than LINE_LIMIT bytes
 abbrev pub kept : List ℕ → Option (List ℕ)
-kept raw = if nat_le (length raw) 4096 then Some raw else None
+kept raw = if nat_le (length raw) LINE_LIMIT then Some raw else None
 
 -- what is kept of a line with more bytes at its end
 abbrev pub grown : Option (List ℕ) → List ℕ → Option (List ℕ)
@@ -34,7 +36,12 @@ what_of h = if h.ended then shown h.line else More
 
 -- after a piece, up to and with its first line feed
 abbrev pub after_piece : Held → List ℕ → Held
-after_piece h piece = record { line = grown (so_far h) (before_first is_feed piece); ended = is_some (position is_feed piece) }
+after_piece h piece =
+    record {
+      line = grown (so_far h) (before_first is_feed piece);
+      ended = is_some
+          (position is_feed piece);
+    }
 
 -- a line with a byte in it
 abbrev pub is_some_byte : Option (List ℕ) → Bool

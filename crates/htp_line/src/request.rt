@@ -5,6 +5,7 @@ ghost use Rattle.std.specs.List.{slice_split};
 ghost use Rattle.htp_line.specs.Reading.{reading, seen, cleaned, words, number_of, is_space};
 
 use super::bytes::{Args, Bytes};
+use super::splitter::LINE_LIMIT;
 use super::want::Memory;
 use std::alloc::{AllocError, Global};
 
@@ -32,14 +33,15 @@ pub enum Parsed {
     Request(Request),
 }
 
-/// Reads a raw line of at most 4,096 bytes, by GTP version 2, preprocessing and command structure.
+/// Reads a raw line of at most [`LINE_LIMIT`] bytes, by GTP version 2, preprocessing and command
+/// structure.
 ///
 /// Bytes 0 to 31 and 127 but for the tab are removed; then a hash sign and all that follows it are
 /// dropped; a tab becomes a space; the rest is cut into words at spaces. A first word of one to ten
 /// digits with a value of at most 2,147,483,647 is the id, the next word the name, and the others
 /// are the arguments. The only refusal is [`Memory`].
 pub fn read_line(alloc: Global, raw: &[u8]) -> Result<Parsed, Memory>
-    requires { length raw.now ≤ 4096 }
+    requires { length raw.now ≤ LINE_LIMIT }
     ensures { IfOk result (λ p. seen p ≡ reading raw.now) }
 {
     let text = clean(alloc, raw)?;
@@ -99,8 +101,8 @@ fn words_of(alloc: Global, text: &[u8]) -> Result<Vec<Bytes>, AllocError>
     Ok(found)
 }
 
-/// The number that a word is: one to ten digits with a value of at most 2,147,483,647, the greatest id (GTP version 2,
-/// draft, 2.4). `None` exactly where it is no such number.
+/// The number that a word is: one to ten digits with a value of at most 2,147,483,647, the greatest
+/// id (GTP version 2, draft, 2.4). `None` exactly where it is no such number.
 pub fn read_number(word: &[u8]) -> Option<u32>
     ensures { result ≡ number_of word.now }
 {

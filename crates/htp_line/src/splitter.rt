@@ -1,9 +1,11 @@
 //! A stream in pieces, cut into raw lines.
 
-ghost use Rattle.std.specs.Prelude.{◌≡◌, ◌+◌, ◌≤◌, ◌<◌, min, length, IfOk, Some, [], true, false, List, ℕ, take};
+ghost use Rattle.std.specs.Prelude.{◌≡◌, ◌+◌, ◌≤◌, ◌<◌, min, length, IfOk, Some, [], true, false};
+ghost use Rattle.std.specs.Prelude.{List, ℕ, take};
 ghost use Rattle.std.specs.List.{position, position_or_len};
 ghost use Rattle.htp_line.specs.Lines.{is_feed, whole, lines};
-ghost use Rattle.htp_line.specs.Splitting.{after_piece, after_end, what_of, so_far, grown, StandsAfter, Advances, Ends};
+ghost use Rattle.htp_line.specs.Splitting.{after_piece, after_end, what_of, so_far, grown};
+ghost use Rattle.htp_line.specs.Splitting.{StandsAfter, Advances, Ends};
 
 use super::want::Memory;
 use std::alloc::Global;
@@ -32,8 +34,8 @@ pub struct Fed {
 
 /// Cuts a stream, which comes in pieces of any length, into raw lines.
 ///
-/// It keeps the line in hand as far as it has at most [`LINE_LIMIT`] bytes. A line that ended stands
-/// in it until the next push or finish.
+/// It keeps the line in hand as far as it has at most [`LINE_LIMIT`] bytes. A line that ended
+/// stands in it until the next push or finish.
 #[derive(Drop)]
 pub struct Splitter {
     buffer: Vec<u8>,
@@ -44,12 +46,18 @@ pub struct Splitter {
 impl Model for Splitter {
     ghost use Rattle.std.specs.Prelude.{◌≤◌, vec_len, vec_capacity, None, Some, if◌then◌else◌};
     ghost use Rattle.htp_line.specs.Splitting.{Held};
+    ghost use Rattle.htp_line.specs.declared.splitter.TheConstants.{LINE_LIMIT};
 
     ghost Value = { Held };
 
-    ghost view = { λ s. record { line = if s.is_long then None else Some s.buffer.items; ended = s.ended } };
+    ghost view = { λ s. record {
+      line = if s.is_long then None
+          else Some s.buffer.items;
+      ended = s.ended;
+    } };
 
-    ghost invariant = { λ s. (4096 ≤ vec_capacity s.buffer) × (vec_len s.buffer ≤ 4096) };
+    ghost invariant = { λ s. (LINE_LIMIT ≤ vec_capacity s.buffer)
+        × (vec_len s.buffer ≤ LINE_LIMIT) };
 }
 
 fn first_feed(piece: &[u8]) -> Option<usize>
@@ -74,11 +82,13 @@ impl Splitter {
 
     /// Takes bytes up to and with the first line feed of the piece, or the whole piece.
     pub fn push(&mut self, piece: &[u8]) -> Fed
-        ensures used { result.used ≡ min (position_or_len is_feed piece.now + 1) (length piece.now) }
+        ensures used { result.used ≡ min (position_or_len is_feed piece.now + 1)
+            (length piece.now) }
         ensures line { self.new ≡ after_piece self.old piece.now }
         ensures what { result.what ≡ what_of self.new }
         // However the stream is cut into pieces, the lines are those of the whole text.
-        ensures stream { (seen : List ℕ) → StandsAfter self.old seen → Advances self.new seen (take result.used piece.now) }
+        ensures stream { (seen : List ℕ) → StandsAfter self.old seen
+            → Advances self.new seen (take result.used piece.now) }
     {
         self.begin();
         match first_feed(piece) {
@@ -103,7 +113,8 @@ impl Splitter {
     pub fn finish(&mut self) -> What
         ensures line { self.new ≡ after_end self.old }
         ensures what { result ≡ what_of self.new }
-        ensures stream { (seen : List ℕ) → StandsAfter self.old seen → Ends self.new.ended self.new.line (whole seen) (lines seen) }
+        ensures stream { (seen : List ℕ) → StandsAfter self.old seen
+            → Ends self.new.ended self.new.line (whole seen) (lines seen) }
     {
         self.begin();
         if self.is_long || !self.buffer.is_empty() {
@@ -117,7 +128,7 @@ impl Splitter {
     pub fn text(&self) -> &[u8]
         requires { what_of self.now ≡ What.Line }
         ensures line { self.now.line ≡ Some result.now }
-        ensures short { length result.now ≤ 4096 }
+        ensures short { length result.now ≤ LINE_LIMIT }
     {
         &self.buffer
     }
@@ -133,7 +144,8 @@ impl Splitter {
     }
 
     fn extend(&mut self, front: &[u8])
-        ensures { self.new ≡ record { line = grown self.old.line front.now; ended = self.old.ended } }
+        ensures { self.new
+            ≡ record { line = grown self.old.line front.now; ended = self.old.ended } }
     {
         if self.is_long {
             return;

@@ -9,7 +9,7 @@ use Rattle.hex_game.specs.declared.moves.Step.{Step}
 use Rattle.sgf_tree.specs.declared.lists.Prop.{Prop}
 use Rattle.sgf_tree.specs.Grammar.{is_capital, IsName}
 use Rattle.sgf_tree.specs.Printing.{HaveTexts, NodesHaveTexts, HasText}
-use Rattle.sgf_game.specs.Record.{letter_of, prop_if, vertices, root_of, node_of, record_of}
+use Rattle.sgf_game.specs.Record.{letter_of, prop_if, vertices, root_of, node_of_step, record_of}
 
 both_have : (xs ys : List Prop) → HaveTexts xs → HaveTexts ys → HaveTexts (xs ++ ys)
 both_have [] ys h k = k
@@ -43,7 +43,7 @@ letter_is_name : (colour : Colour) → IsName (letter_of colour)
 letter_is_name Black = (tt, (refl, tt))
 letter_is_name White = (tt, (refl, tt))
 
-nodes_have : (n : ℕ) (steps : List Step) → NodesHaveTexts (map (node_of n) steps)
+nodes_have : (n : ℕ) (steps : List Step) → NodesHaveTexts (map (node_of_step n) steps)
 nodes_have n [] = tt
 nodes_have n (step ∷ steps) = ((letter_is_name step.colour, tt, tt), nodes_have n steps)
 

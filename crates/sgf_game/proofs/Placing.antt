@@ -1,4 +1,5 @@
 -- Stones that are placed one after the other are those of cells that are none of them off the board, and none twice.
+use Rattle.std.proofs.Math.Bool.{or-true}
 use Rattle.std.proofs.Common.{◌≡◌, ℕ, ◌+◌, ◌*◌, ◌<◌, ◌≤◌, ◌==◌, ◌||◌, Bool, true, false, cond, List, [], ◌∷◌, ◌++◌, Some, None, map, length, get_or, drop, add-one, refl, sym, ap, ◌∙◌, subst, arith, inl, inr, zero, suc}
 use Rattle.std.specs.Prelude.{Option, is_none}
 use Rattle.std.specs.List.{list_any, find, range_with_len}
@@ -11,7 +12,8 @@ use Rattle.hex_cells.specs.Sets.{has, with_cell}
 use Rattle.hex_cells.specs.Vertices.{vertex_cell}
 use Rattle.hex_cells.proofs.Bits.{has_none}
 use Rattle.hex_board.specs.Positions.{Apart, Within}
-use Rattle.hex_game.proofs.Room.{has_with_cell, board_cell}
+use Rattle.hex_cells.proofs.WithCell.{has_with_cell}
+use Rattle.hex_cells.proofs.Tables.{board_cell}
 use Rattle.sgf_tree.specs.declared.lists.Prop.{Prop}
 use Rattle.sgf_game.specs.Values.{values_if, trimmed}
 use Rattle.sgf_game.specs.Setup.{is_cell, is_in, has_twice, are_misplaced, with_cells, cells_named}
@@ -77,7 +79,7 @@ has_cells n s j [] h a = or_false (has s j)
 has_cells n s j (None ∷ cells) h a = has_cells n s j cells h a.1
 has_cells n s j (Some k ∷ cells) h a =
     has_cells n (with_cell s k) j cells h a.1
-    ∙ ap (λ b. b || list_any (is_cell j) cells) (has_with_cell s k j (board_cell n k h a.0) ∙ ap (λ b. has s j || b) (same_eq j k))
+    ∙ ap (λ b. b || list_any (is_cell j) cells) (has_with_cell s k j ∙ ap (λ b. has s j || b) (same_eq j k))
     ∙ or_swap (has s j) (k == j) (list_any (is_cell j) cells)
 
 eq_below : (j k m : ℕ) → (k == j) ≡ true → k < m → j < m
@@ -115,7 +117,7 @@ any_either_more : (taken s k : ℕ) (cells : List (Option ℕ)) → k < 121
 any_either_more taken s k [] h = refl
 any_either_more taken s k (None ∷ cells) h = any_either_more taken s k cells h
 any_either_more taken s k (Some j ∷ cells) h =
-    ap (λ b. (has taken j || b) || list_any (in_either taken (with_cell s k)) cells) (has_with_cell s k j h)
+    ap (λ b. (has taken j || b) || list_any (in_either taken (with_cell s k)) cells) (has_with_cell s k j)
     ∙ ap (λ b. (has taken j || (has s j || j == k)) || b) (any_either_more taken s k cells h)
     ∙ shuffle (has taken j) (has s j) (j == k) (list_any (in_either taken s) cells) (list_any (is_cell k) cells)
 
@@ -275,17 +277,13 @@ first_refused n cells others h a e =
     let c : clashes 0 0 cells ≡ true = cond_none (clashes 0 0 cells) (with_cells 0 cells) (e ∙ placed_is n 0 0 cells h a) in
     together n cells others h a ∙ rw c refl
 
-or_true : (b : Bool) → (b || true) ≡ true
-or_true true = refl
-or_true false = refl
-
 pub second_refused : (n b : ℕ) (cells others : List (Option ℕ)) → n ≤ 11 → AreCells n cells → AreCells n others → Some b ≡ placed_on 0 0 cells → None ≡ placed_on b 0 others
     → are_misplaced (cells ++ others) ≡ true
 second_refused n b cells others h a a' e f =
     let first = cond_some (clashes 0 0 cells) (with_cells 0 cells) b (e ∙ placed_is n 0 0 cells h a) in
     let c : clashes b 0 others ≡ true = cond_none (clashes b 0 others) (with_cells 0 others) (f ∙ placed_is n b 0 others h a') in
     let d : clashes (with_cells 0 cells) 0 others ≡ true = subst (λ s. clashes s 0 others ≡ true) first.1 c in
-    together n cells others h a ∙ (ap (λ x. clashes 0 0 cells || x) d ∙ or_true (clashes 0 0 cells))
+    together n cells others h a ∙ (ap (λ x. clashes 0 0 cells || x) d ∙ or-true (clashes 0 0 cells))
 
 -- both players' stones are placed
 pub record ArePlaced (n b w : ℕ) (cells others : List (Option ℕ)) : Type 0 where
@@ -304,7 +302,7 @@ meets_taken b j [] h e = absurd (cc)
 meets_taken b j (None ∷ cells) h e = meets_taken b j cells h e
 meets_taken b j (Some k ∷ cells) h e = elim (cases_Bool (k == j)) [
   | inl t ↦ let same : has b k ≡ true = ap (has b) (eqb-true k j t) ∙ h in rw same refl
-  | inr t ↦ rw (meets_taken b j cells h (rw t at e)) (or_true (has b k || has 0 k))
+  | inr t ↦ rw (meets_taken b j cells h (rw t at e)) (or-true (has b k || has 0 k))
 ]
 
 clash_parts : (m x : Bool) → (m || x) ≡ false → x ≡ true → ⊥

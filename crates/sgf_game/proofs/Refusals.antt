@@ -1,14 +1,14 @@
 -- The turns of a line: none follows one that ends it, each stone lies on the board, and so the first that is refused stands behind few steps.
-use Rattle.std.proofs.Common.{◌≡◌, ℕ, ◌+◌, ◌<◌, ◌≤◌, ◌==◌, ◌||◌, Bool, true, false, not, cond, List, [], ◌∷◌, ◌++◌, Some, None, map, length, take, get_or, refl, sym, ap, ◌∙◌, subst, arith, inl, inr, zero, suc, append-nil, length-append}
+use Rattle.hex_board.proofs.Placed.{placed_size}
+use Rattle.hex_cells.proofs.Ranges.{find_none, find_first}
+use Rattle.std.proofs.Common.{◌≡◌, ℕ, ◌+◌, ◌<◌, ◌==◌, Bool, true, false, not, cond, List, [], ◌∷◌, ◌++◌, Some, None, map, length, take, get_or, refl, sym, ap, ◌∙◌, subst, arith, zero, suc, append-nil, length-append}
 use Rattle.std.specs.Prelude.{Option, slice_get, option_map}
-use Rattle.std.specs.List.{find, range_with_len}
-use Rattle.std.proofs.lemmas.Bool.{cases_lt}
+use Rattle.std.proofs.lemmas.Bool.{or_parts, not-false}
 use Rattle.std.proofs.lemmas.Grind.{flat_map-append}
 use Rattle.std.proofs.lemmas.List.{take_more}
 use Rattle.hex_cells.specs.Vertices.{vertex_cell}
 use Rattle.hex_cells.specs.declared.colours.Colour.{Colour}
-use Rattle.hex_cells.specs.declared.colours.Colour.TheVariants.{Black, White}
-use Rattle.hex_board.specs.Positions.{Position, placed}
+use Rattle.hex_board.specs.Positions.{Position}
 use Rattle.hex_game.specs.Moves.{lone_black_stone}
 use Rattle.hex_game.specs.Games.{GameData, is_legal_on, moved, swapped, after_step, replay_on, replay, IsOnBoard}
 use Rattle.hex_game.specs.declared.moves.Move.{Move}
@@ -24,10 +24,6 @@ use Rattle.sgf_game.specs.Playing.{IsSaidOn, AreSaidOn, EndsLast}
 use Rattle.sgf_game.proofs.Placing.{vertex_on_board, IsCellOf}
 
 -- ---- the board keeps its size
-
-placed_size : (now : Position) (colour : Colour) (k : ℕ) → (placed now colour k).size ≡ now.size
-placed_size now Black k = refl
-placed_size now White k = refl
 
 swapped_size : (now : Position) (cell : Option ℕ) → (swapped now cell).size ≡ now.size
 swapped_size now None = refl
@@ -104,13 +100,9 @@ no_end : (n : ℕ) (alone : Bool) (e : Entry) → ends e.text ≡ false → (tur
 no_end n true e f q = no_end_said _ (ends e.text) (vertex_cell n e.text) f q
 no_end n false e f q = cc
 
-left_false : (a b : Bool) → (a || b) ≡ false → (a ≡ false) × (b ≡ false)
-left_false true b e = absurd (cc)
-left_false false b e = (refl, e)
-
 nowhere : (n : ℕ) (alone : Bool) (es : List Entry) → has_end es ≡ false → EndsNowhere (map (turn_of n alone) es)
 nowhere n alone [] h = tt
-nowhere n alone (e ∷ es) h = let t = left_false (ends e.text) (has_end es) h in (no_end n alone e t.0, nowhere n alone es t.1)
+nowhere n alone (e ∷ es) h = let t = or_parts (ends e.text) (has_end es) h in (no_end n alone e t.0, nowhere n alone es t.1)
 
 nothing_said : (n : ℕ) (es : List Entry) → EndsLast (map (turn_of n false) es)
 nothing_said n [] = tt
@@ -132,23 +124,12 @@ ends_last n (node ∷ nodes) = behind_last n (is_last node) node (up_to_end node
 
 -- ---- the first that is refused
 
-pub first_at : (p : ℕ → Bool) (a m i : ℕ) → a ≤ i → i < a + m → p i ≡ true → ((j : ℕ) → a ≤ j → j < i → p j ≡ false) → find p (range_with_len a m) ≡ Some i
-first_at p a zero i l h e f = absurd (omega arith)
-first_at p a (suc m) i l h e f = elim (cases_lt a i) [
-  | inl t ↦ rw (f a (omega arith) t) (first_at p (a + 1) m i (omega arith) (omega arith) e (λ j u v. f j (omega arith) v))
-  | inr t ↦ let same : i ≡ a = omega arith in let q : p a ≡ true = subst (λ k. p k ≡ true) same e in rw q (ap Some (sym same))
-]
-
-none_at : (p : ℕ → Bool) (a m : ℕ) → ((j : ℕ) → a ≤ j → j < a + m → p j ≡ false) → find p (range_with_len a m) ≡ None
-none_at p a zero f = refl
-none_at p a (suc m) f = rw (f a (omega arith) (omega arith)) (none_at p (a + 1) m (λ j u v. f j (omega arith) (omega arith)))
-
 pub first_is : (start : Position) (turns : List Turn) (i : ℕ) → i < length turns → is_refused start turns i ≡ true → ((j : ℕ) → j < i → is_refused start turns j ≡ false)
     → first_refused start turns ≡ Some i
-first_is start turns i h e f = first_at (is_refused start turns) 0 (length turns) i (omega arith) (omega arith) e (λ j u v. f j v)
+first_is start turns i h e f = find_first (is_refused start turns) 0 (length turns) i (omega arith) (omega arith) e (λ j u v. f j v)
 
 pub first_none : (start : Position) (turns : List Turn) → ((j : ℕ) → j < length turns → is_refused start turns j ≡ false) → first_refused start turns ≡ None
-first_none start turns f = none_at (is_refused start turns) 0 (length turns) (λ j u v. f j (omega arith))
+first_none start turns f = find_none (is_refused start turns) 0 (length turns) (λ j u v. f j (omega arith))
 
 -- ---- each turn before the last makes a step
 
@@ -212,17 +193,13 @@ refusal_at start turns i turn game l e g =
     ap (is_refused_next (game_after start (take i turns))) (turn_at turns i turn l e)
     ∙ ap (λ (h : GameData). is_refused_said h turn.colour turn.said) (sym g)
 
-not_true : (b : Bool) → false ≡ not b → b ≡ true
-not_true true e = refl
-not_true false e = absurd (cc)
-
 not_false : (b : Bool) → true ≡ not b → b ≡ false
 not_false true e = absurd (cc)
 not_false false e = refl
 
 pub refused_at : (start : Position) (turns : List Turn) (i : ℕ) (turn : Turn) (game : GameData) → i < length turns → turn ≡ get_or turns i turn → game ≡ game_after start (take i turns)
     → false ≡ not (is_refused_said game turn.colour turn.said) → is_refused start turns i ≡ true
-refused_at start turns i turn game l e g h = refusal_at start turns i turn game l e g ∙ not_true (is_refused_said game turn.colour turn.said) h
+refused_at start turns i turn game l e g h = refusal_at start turns i turn game l e g ∙ not-false (is_refused_said game turn.colour turn.said) (sym h)
 
 pub taken_at : (start : Position) (turns : List Turn) (i : ℕ) (turn : Turn) (game : GameData) → i < length turns → turn ≡ get_or turns i turn → game ≡ game_after start (take i turns)
     → true ≡ not (is_refused_said game turn.colour turn.said) → is_refused start turns i ≡ false

@@ -1,9 +1,10 @@
 -- The start stones of a record are read back.
+use Rattle.std.proofs.Math.Bool.{or-true}
 use Rattle.std.proofs.Common.{◌≡◌, ℕ, ◌+◌, ◌*◌, ◌<◌, ◌≤◌, ◌==◌, ◌||◌, Bool, true, false, cond, List, [], ◌∷◌, ◌++◌, Some, map, flat_map, refl, sym, ap, ◌∙◌, subst, arith, inl, inr, zero, suc, append-nil}
 use Rattle.std.specs.Prelude.{Option, codes, filter, is_none}
 use Rattle.std.specs.List.{list_any, range_with_len}
 use Rattle.std.specs.Str.{bytes_eq}
-use Rattle.std.proofs.lemmas.Bool.{cases_Bool, cases_eq, eqb-true}
+use Rattle.std.proofs.lemmas.Bool.{cases_Bool, cases_eq, eqb-true, false_from_ne_true, both_ways}
 use Rattle.std.proofs.lemmas.Bool.Decides.{nat_tests}
 use Rattle.hex_cells.specs.Sets.{has}
 use Rattle.hex_cells.specs.Vertices.{vertex_of, vertex_cell}
@@ -67,10 +68,6 @@ in_passes p a (suc m) j e = elim (cases_Bool (p a)) [
   | inr t ↦ let more = in_passes p (a + 1) m j (rw t at e) in (omega (arith, more.0), more.1)
 ]
 
-or_true : (b : Bool) → (b || true) ≡ true
-or_true true = refl
-or_true false = refl
-
 passes_in : (p : ℕ → Bool) (a m j : ℕ) → a ≤ j → j < a + m → p j ≡ true → list_any (is_cell j) (some_cells (filter p (range_with_len a m))) ≡ true
 passes_in p a zero j l h t = absurd (omega arith)
 passes_in p a (suc m) j l h t = elim (cases_eq a j) [
@@ -81,20 +78,13 @@ passes_in p a (suc m) j l h t = elim (cases_eq a j) [
   where
     one : (b : Bool) → list_any (is_cell j) (some_cells (filter p (range_with_len (a + 1) m))) ≡ true
         → list_any (is_cell j) (some_cells (cond b (a ∷ filter p (range_with_len (a + 1) m)) (filter p (range_with_len (a + 1) m)))) ≡ true
-    one true e = ap (λ b. (a == j) || b) e ∙ or_true (a == j)
+    one true e = ap (λ b. (a == j) || b) e ∙ or-true (a == j)
     one false e = e
-
-false_if : (b : Bool) → (b ≡ true → ⊥) → b ≡ false
-false_if true f = absurd (f refl)
-false_if false f = refl
-
-apart : (b : Bool) → b ≡ false → b ≡ true → ⊥
-apart b e f = cc
 
 in_is : (n s j : ℕ) → Within n s → list_any (is_cell j) (some_cells (filter (has s) (cells_of n))) ≡ has s j
 in_is n s j w = elim (cases_Bool (has s j)) [
   | inl t ↦ passes_in (has s) 0 (n * n) j (omega arith) (omega (arith, w j t)) t ∙ sym t
-  | inr t ↦ false_if _ (λ e. apart (has s j) t (in_passes (has s) 0 (n * n) j e).1) ∙ sym t
+  | inr t ↦ false_from_ne_true _ (λ e. both_ways (has s j) t (in_passes (has s) 0 (n * n) j e).1) ∙ sym t
 ]
 
 -- the set of the cells of a set is the set
@@ -112,7 +102,7 @@ once p a (suc m) = one (p a) (once p (a + 1) m)
         → has_twice (some_cells (cond b (a ∷ filter p (range_with_len (a + 1) m)) (filter p (range_with_len (a + 1) m)))) ≡ false
     one true e =
         let past : list_any (is_cell a) (some_cells (filter p (range_with_len (a + 1) m))) ≡ false =
-        false_if _ (λ f. let late = in_passes p (a + 1) m a f in absurd (omega (arith, late.0))) in rw past e
+        false_from_ne_true _ (λ f. let late = in_passes p (a + 1) m a f in absurd (omega (arith, late.0))) in rw past e
     one false e = e
 
 none_shared : (n b w : ℕ) (ks : List ℕ) → Within n b → Apart b w → ((k : ℕ) → list_any (is_cell k) (some_cells ks) ≡ true → has w k ≡ true)
@@ -120,8 +110,8 @@ none_shared : (n b w : ℕ) (ks : List ℕ) → Within n b → Apart b w → ((k
 none_shared n b w [] h a f = refl
 none_shared n b w (k ∷ ks) h a f =
     let here : has w k ≡ true = f k (rw (same k) refl) in
-    let free : list_any (is_cell k) (some_cells (filter (has b) (cells_of n))) ≡ false = in_is n b k h ∙ false_if (has b k) (λ t. a k t here) in
-    rw free (none_shared n b w ks h a (λ j e. f j (ap (λ c. (k == j) || c) e ∙ or_true (k == j))))
+    let free : list_any (is_cell k) (some_cells (filter (has b) (cells_of n))) ≡ false = in_is n b k h ∙ false_from_ne_true (has b k) (λ t. a k t here) in
+    rw free (none_shared n b w ks h a (λ j e. f j (ap (λ c. (k == j) || c) e ∙ or-true (k == j))))
   where
     same : (k : ℕ) → (k == k) ≡ true
     same k = grind (arith, nat_tests)

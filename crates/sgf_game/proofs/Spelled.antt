@@ -1,9 +1,10 @@
 -- The texts that a record is written with, as they are read again.
-use Rattle.std.proofs.Common.{◌≡◌, ◌≢◌, ℕ, ◌+◌, ◌*◌, ◌/◌, ◌%◌, ◌<◌, ◌≤◌, ◌||◌, Bool, true, false, List, [], ◌∷◌, ◌++◌, Some, length, refl, sym, ap, ◌∙◌, subst, arith, inl, inr, zero, suc, length-append}
+use Rattle.hex_cells.proofs.Ranges.{find_first}
+use Rattle.std.proofs.Common.{◌≡◌, ◌≢◌, ℕ, ◌+◌, ◌*◌, ◌/◌, ◌%◌, ◌<◌, ◌≤◌, true, false, List, [], ◌∷◌, ◌++◌, Some, length, refl, sym, ap, ◌∙◌, subst, arith, inl, inr, zero, suc, length-append}
 use Rattle.std.specs.Prelude.{codes, option_map}
 use Rattle.std.specs.Fmt.{decimal}
 use Rattle.std.specs.Str.{bytes_eq, str_to_ascii_lowercase}
-use Rattle.std.proofs.lemmas.Bool.{cases_Bool, cases_lt}
+use Rattle.std.proofs.lemmas.Bool.{cases_Bool, cases_lt, or_from}
 use Rattle.std.proofs.lemmas.Bool.Decides.{nat_tests}
 use Rattle.std.proofs.lemmas.Fmt.{decimal_digit, decimal_injective}
 use Rattle.std.proofs.lemmas.List.{length-map}
@@ -14,7 +15,7 @@ use Rattle.hex_cells.proofs.Digits.{decimal_two}
 use Rattle.hex_cells.proofs.Naming.{read_back}
 use Rattle.hex_game.specs.declared.moves.Move.{Move}
 use Rattle.hex_game.specs.declared.moves.Move.TheVariants.{Stone, Swap}
-use Rattle.sgf_tree.specs.Grammar.{is_space}
+use Rattle.sgf_tree.specs.Grammar.{is_white_space}
 use Rattle.sgf_game.specs.declared.turns.Said.TheVariants.{Plays}
 use Rattle.sgf_game.specs.Values.{trimmed, spells}
 use Rattle.sgf_game.specs.Lines.{ends}
@@ -22,21 +23,20 @@ use Rattle.sgf_game.specs.Setup.{is_size, size_named}
 use Rattle.sgf_game.specs.Turns.{said_by}
 use Rattle.sgf_game.specs.Record.{text_of}
 use Rattle.sgf_game.specs.Playing.{IsMoveOn}
-use Rattle.sgf_game.proofs.Refusals.{first_at}
 
 -- ---- without white space
 
-no_space : (x : ℕ) → 33 ≤ x → is_space x ≡ false
+no_space : (x : ℕ) → 33 ≤ x → is_white_space x ≡ false
 no_space x h = grind (arith, nat_tests)
 
 trim_one : (a : ℕ) → 33 ≤ a → trimmed (a ∷ []) ≡ a ∷ []
-trim_one a h = let e : is_space a ≡ false = no_space a h in rw (e, e) refl
+trim_one a h = let e : is_white_space a ≡ false = no_space a h in rw (e, e) refl
 
 trim_two : (a b : ℕ) → 33 ≤ a → 33 ≤ b → trimmed (a ∷ b ∷ []) ≡ a ∷ b ∷ []
-trim_two a b h k = let e : is_space a ≡ false = no_space a h in let f : is_space b ≡ false = no_space b k in rw (e, f) refl
+trim_two a b h k = let e : is_white_space a ≡ false = no_space a h in let f : is_white_space b ≡ false = no_space b k in rw (e, f) refl
 
 trim_three : (a b d : ℕ) → 33 ≤ a → 33 ≤ d → trimmed (a ∷ b ∷ d ∷ []) ≡ a ∷ b ∷ d ∷ []
-trim_three a b d h k = let e : is_space a ≡ false = no_space a h in let f : is_space d ≡ false = no_space d k in rw (e, f) refl
+trim_three a b d h k = let e : is_white_space a ≡ false = no_space a h in let f : is_white_space d ≡ false = no_space d k in rw (e, f) refl
 
 pub trim_decimal : (m : ℕ) → m < 100 → trimmed (decimal m) ≡ decimal m
 trim_decimal m h = elim (cases_lt m 10) [
@@ -87,14 +87,11 @@ swap_spelled : spells (codes "swap-pieces") (codes "swap-pieces") ≡ true
 unfolding spells
 swap_spelled = refl
 
-both_false : (a b : Bool) → a ≡ false → b ≡ false → (a || b) ≡ false
-both_false a b e f = rw (e, f) refl
-
 pub no_end_text : (n : ℕ) (what : Move) → n ≤ 11 → IsMoveOn n what → ends (text_of n what) ≡ false
 no_end_text n Swap h o =
-    both_false _ _ (not_spelled (codes "swap-pieces") (codes "resign") (λ e. absurd (omega arith))) (not_spelled (codes "swap-pieces") (codes "forfeit") (λ e. absurd (omega arith)))
+    or_from _ _ (not_spelled (codes "swap-pieces") (codes "resign") (λ e. absurd (omega arith))) (not_spelled (codes "swap-pieces") (codes "forfeit") (λ e. absurd (omega arith)))
 no_end_text n (Stone k) h o =
-    both_false _ _ (no_word (vertex_of n k) (codes "resign") (short_vertex n k h o) (omega arith)) (no_word (vertex_of n k) (codes "forfeit") (short_vertex n k h o) (omega arith))
+    or_from _ _ (no_word (vertex_of n k) (codes "resign") (short_vertex n k h o) (omega arith)) (no_word (vertex_of n k) (codes "forfeit") (short_vertex n k h o) (omega arith))
 
 -- what is written of a move says that move
 pub said_text : (n : ℕ) (what : Move) → n ≤ 11 → IsMoveOn n what → said_by n (text_of n what) ≡ Some (Plays what)
@@ -106,7 +103,7 @@ said_text n (Stone k) h o =
 
 -- ---- sizes
 
-same_bytes : (xs : List ℕ) → bytes_eq xs xs ≡ true
+pub same_bytes : (xs : List ℕ) → bytes_eq xs xs ≡ true
 same_bytes xs = (bytes_eq-Decides xs xs).1 refl
 
 other_bytes : (xs ys : List ℕ) → xs ≢ ys → bytes_eq xs ys ≡ false
@@ -125,7 +122,7 @@ other_size : (n j : ℕ) → n < 100 → j < n → is_size (decimal n) j ≡ fal
 other_size n j h l =
     let once : bytes_eq (decimal n) (decimal j) ≡ false = other_bytes (decimal n) (decimal j) (λ e. let same : n ≡ j = decimal_injective n j (omega arith) (omega arith) e in absurd (omega arith)) in
     let twice : bytes_eq (decimal n) (decimal j ++ 58 ∷ decimal j) ≡ false = other_bytes (decimal n) (decimal j ++ 58 ∷ decimal j) (λ e. too_long (decimal n) (decimal j) (length_decimal n h).1 (length_decimal j (omega arith)).0 (ap length e)) in
-    both_false _ _ once twice
+    or_from _ _ once twice
   where
     too_long : (xs ys : List ℕ) → length xs ≤ 2 → 1 ≤ length ys → length xs ≡ length (ys ++ 58 ∷ ys) → ⊥
     too_long xs ys h l e = let f : length xs ≡ length ys + suc (length ys) = e ∙ length-append ys (58 ∷ ys) in omega arith
@@ -134,4 +131,4 @@ pub size_read : (n : ℕ) → 1 ≤ n → n ≤ 11 → size_named (trimmed (deci
 unfolding size_named
 size_read n l h =
     let this : is_size (decimal n) n ≡ true = rw same_bytes refl in
-    ap size_named (trim_decimal n (omega arith)) ∙ first_at (is_size (decimal n)) 1 11 n l (omega arith) this (λ j u v. other_size n j (omega arith) v)
+    ap size_named (trim_decimal n (omega arith)) ∙ find_first (is_size (decimal n)) 1 11 n l (omega arith) this (λ j u v. other_size n j (omega arith) v)

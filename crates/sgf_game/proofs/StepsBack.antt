@@ -19,7 +19,7 @@ use Rattle.sgf_game.specs.Lines.{Entry, entry, entries_if, entries_in, has_end, 
 use Rattle.sgf_game.specs.Turns.{turn_of, turns_in, turns_of, steps_of, is_refused, is_refused_next, first_refused, game_after, game_unless, game_of_turns}
 use Rattle.sgf_game.specs.Setup.{changes, is_bad_setup, start_of}
 use Rattle.sgf_game.specs.GameOf.{game_of, game_of_line, game_of_size}
-use Rattle.sgf_game.specs.Record.{letter_of, text_of, prop_of, node_of, root_of, record_of}
+use Rattle.sgf_game.specs.Record.{letter_of, text_of, prop_of, node_of_step, root_of, record_of}
 use Rattle.sgf_game.specs.Playing.{IsMoveOn}
 use Rattle.sgf_game.proofs.Refusals.{replay_size, first_none}
 use Rattle.sgf_game.proofs.Spelled.{trim_text, no_end_text, said_text, size_read}
@@ -64,19 +64,19 @@ one_entry : (colour : Colour) (text : List ℕ) → flat_map entries_if (prop_of
 one_entry Black text = refl
 one_entry White text = refl
 
-node_entries : (n : ℕ) (step : Step) → n ≤ 11 → IsMoveOn n step.what → entries_in (node_of n step) ≡ record { colour = step.colour; text = text_of n step.what } ∷ []
+node_entries : (n : ℕ) (step : Step) → n ≤ 11 → IsMoveOn n step.what → entries_in (node_of_step n step) ≡ record { colour = step.colour; text = text_of n step.what } ∷ []
 node_entries n step h o =
     one_entry step.colour (text_of n step.what) ∙ ap (λ (text : List ℕ). record { colour = step.colour; text = text } ∷ []) (trim_text n step.what h o)
 
-node_turns : (n : ℕ) (step : Step) → n ≤ 11 → IsMoveOn n step.what → turns_in n (node_of n step) ≡ turn_for step ∷ []
+node_turns : (n : ℕ) (step : Step) → n ≤ 11 → IsMoveOn n step.what → turns_in n (node_of_step n step) ≡ turn_for step ∷ []
 node_turns n step h o =
     ap (λ (es : List Entry). map (turn_of n (length es == 1)) es) (node_entries n step h o)
     ∙ ap (λ said. record { colour = step.colour; said = said } ∷ []) (said_text n step.what h o)
 
-node_goes_on : (n : ℕ) (step : Step) → n ≤ 11 → IsMoveOn n step.what → is_last (node_of n step) ≡ false
+node_goes_on : (n : ℕ) (step : Step) → n ≤ 11 → IsMoveOn n step.what → is_last (node_of_step n step) ≡ false
 node_goes_on n step h o = ap has_end (node_entries n step h o) ∙ rw (no_end_text n step.what h o) refl
 
-node_changes_none : (n : ℕ) (step : Step) → changes (node_of n step) ≡ false
+node_changes_none : (n : ℕ) (step : Step) → changes (node_of_step n step) ≡ false
 node_changes_none n step = none step.colour
   where
     none : (colour : Colour) → changes (record { props = prop_of (letter_of colour) (text_of n step.what ∷ []) ∷ [] }) ≡ false
@@ -85,16 +85,16 @@ node_changes_none n step = none step.colour
 
 -- ---- the nodes of all steps
 
-all_read : (n : ℕ) (steps : List Step) → n ≤ 11 → AreOn n steps → up_to_end (map (node_of n) steps) ≡ map (node_of n) steps
+all_read : (n : ℕ) (steps : List Step) → n ≤ 11 → AreOn n steps → up_to_end (map (node_of_step n) steps) ≡ map (node_of_step n) steps
 all_read n [] h o = refl
-all_read n (step ∷ steps) h o = rw (node_goes_on n step h o.0) (ap (λ nodes. node_of n step ∷ nodes) (all_read n steps h o.1))
+all_read n (step ∷ steps) h o = rw (node_goes_on n step h o.0) (ap (λ nodes. node_of_step n step ∷ nodes) (all_read n steps h o.1))
 
-turns_again : (n : ℕ) (steps : List Step) → n ≤ 11 → AreOn n steps → turns_of n (map (node_of n) steps) ≡ map turn_for steps
+turns_again : (n : ℕ) (steps : List Step) → n ≤ 11 → AreOn n steps → turns_of n (map (node_of_step n) steps) ≡ map turn_for steps
 turns_again n [] h o = refl
 turns_again n (step ∷ steps) h o =
-    ap (λ turns. turns ++ turns_of n (map (node_of n) steps)) (node_turns n step h o.0) ∙ ap (λ turns. turn_for step ∷ turns) (turns_again n steps h o.1)
+    ap (λ turns. turns ++ turns_of n (map (node_of_step n) steps)) (node_turns n step h o.0) ∙ ap (λ turns. turn_for step ∷ turns) (turns_again n steps h o.1)
 
-changes_none : (n : ℕ) (steps : List Step) → list_any changes (map (node_of n) steps) ≡ false
+changes_none : (n : ℕ) (steps : List Step) → list_any changes (map (node_of_step n) steps) ≡ false
 changes_none n [] = refl
 changes_none n (step ∷ steps) = rw (node_changes_none n step) (changes_none n steps)
 
@@ -135,22 +135,22 @@ turns_played start steps h =
 root_goes_on : (start : Position) → is_last (root_of start) ≡ false
 root_goes_on start = ap has_end (root_entries start)
 
-line_again : (game : GameData) → game.start.size ≤ 11 → AreOn game.start.size game.steps → line_of (record_of game) ≡ root_of game.start ∷ map (node_of game.start.size) game.steps
+line_again : (game : GameData) → game.start.size ≤ 11 → AreOn game.start.size game.steps → line_of (record_of game) ≡ root_of game.start ∷ map (node_of_step game.start.size) game.steps
 line_again game h o =
-    let nodes : List Node = map (node_of game.start.size) game.steps in
+    let nodes : List Node = map (node_of_step game.start.size) game.steps in
     ap (λ (more : List Node). up_to_end (root_of game.start ∷ more)) (append-nil nodes)
     ∙ rw (root_goes_on game.start) (ap (λ (more : List Node). root_of game.start ∷ more) (all_read game.start.size game.steps h o))
 
 well_set_up : (start : Position) (steps : List Step) → start.size ≤ 11 → Within start.size start.black → Within start.size start.white → Apart start.black start.white
-    → is_bad_setup start.size (root_of start) (map (node_of start.size) steps) ≡ false
+    → is_bad_setup start.size (root_of start) (map (node_of_step start.size) steps) ≡ false
 well_set_up start steps h b w a = parts _ _ _ (changes_none start.size steps) (root_removes_none start) (root_well_placed start h b w a)
   where
     parts : (x y z : Bool) → x ≡ false → y ≡ false → z ≡ false → ((x || y) || z) ≡ false
     parts x y z e f g = rw (e, f, g) refl
 
-root_turns : (start : Position) (steps : List Step) → start.size ≤ 11 → AreOn start.size steps → turns_of start.size (root_of start ∷ map (node_of start.size) steps) ≡ map turn_for steps
+root_turns : (start : Position) (steps : List Step) → start.size ≤ 11 → AreOn start.size steps → turns_of start.size (root_of start ∷ map (node_of_step start.size) steps) ≡ map turn_for steps
 root_turns start steps h o =
-    ap (λ (es : List Entry). map (turn_of start.size (length es == 1)) es ++ turns_of start.size (map (node_of start.size) steps)) (root_entries start) ∙ turns_again start.size steps h o
+    ap (λ (es : List Entry). map (turn_of start.size (length es == 1)) es ++ turns_of start.size (map (node_of_step start.size) steps)) (root_entries start) ∙ turns_again start.size steps h o
 
 sized : (b : Bool) (r s : Result GameData GameError) → b ≡ false → cond b r s ≡ s
 sized b r s e = rw e refl
@@ -161,7 +161,7 @@ pub game_again : (game : GameData) → 1 ≤ game.start.size → game.start.size
 game_again game l h b w a legal =
     let start = game.start in
     let steps = game.steps in
-    let nodes : List Node = map (node_of start.size) steps in
+    let nodes : List Node = map (node_of_step start.size) steps in
     let o : AreOn start.size steps = legal_on_board start steps legal in
     ap game_of_line (line_again game h o)
     ∙ ap (λ n. game_of_size n (root_of start) nodes) (size_read start.size l h)

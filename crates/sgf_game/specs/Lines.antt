@@ -1,5 +1,6 @@
 -- The main line of a collection, and the moves in its nodes.
-use Rattle.std.specs.Prelude.{ℕ, Bool, ◌||◌, List, [], ◌∷◌, ◌++◌, Option, Some, None, map, flat_map, codes, if◌then◌else◌}
+use Rattle.std.specs.Prelude.{ℕ, Bool, ◌||◌, List, [], ◌∷◌, ◌++◌, Option, Some, None, map, flat_map}
+use Rattle.std.specs.Prelude.{codes, if◌then◌else◌}
 use Rattle.std.specs.Borrow.{Bor}
 use Rattle.std.specs.List.{list_any}
 use Rattle.std.specs.Str.{bytes_eq}
@@ -11,8 +12,8 @@ use Rattle.sgf_tree.specs.Trees.{GameTrees, none, tree}
 use Rattle.sgf_game.specs.Values.{trimmed, spells}
 
 -- the nodes that references lend
-abbrev pub seen : List (Bor Node) → List Node
-seen nodes = map (λ node. node.now) nodes
+abbrev pub nodes_lent : List (Bor Node) → List Node
+nodes_lent nodes = map (λ node. node.now) nodes
 
 -- the nodes of the first tree, then those of the first of its kids, and so on
 abbrev pub main_line : GameTrees → List Node
@@ -29,7 +30,9 @@ entry colour value = record { colour = colour; text = trimmed value }
 
 -- the player whose moves the properties of this name hold
 abbrev pub mover : List ℕ → Option Colour
-mover name = if bytes_eq name (codes "B") then Some Black else (if bytes_eq name (codes "W") then Some White else None)
+mover name =
+    if bytes_eq name (codes "B") then Some Black
+    else (if bytes_eq name (codes "W") then Some White else None)
 
 abbrev pub entries_by : Option Colour → List (List ℕ) → List Entry
 entries_by None values = []

@@ -31,8 +31,10 @@ prop_if name (value ∷ values) = prop_of name (value ∷ values) ∷ []
 abbrev pub root_of : Position → Node
 root_of start = record {
   props =
-      prop_of (codes "FF") (codes "4" ∷ []) ∷ prop_of (codes "GM") (codes "11" ∷ []) ∷ prop_of (codes "SZ") (decimal start.size ∷ [])
-      ∷ (prop_if (codes "AB") (vertices start.size start.black) ++ prop_if (codes "AW") (vertices start.size start.white));
+      prop_of (codes "FF") (codes "4" ∷ []) ∷ prop_of (codes "GM") (codes "11" ∷ [])
+      ∷ prop_of (codes "SZ") (decimal start.size ∷ [])
+      ∷ (prop_if (codes "AB") (vertices start.size start.black)
+      ++ prop_if (codes "AW") (vertices start.size start.white));
 }
 
 abbrev pub letter_of : Colour → List ℕ
@@ -44,9 +46,10 @@ text_of n (Stone cell) = vertex_of n cell
 text_of n Swap = codes "swap-pieces"
 
 -- the node of a step
-abbrev pub node_of : ℕ → Step → Node
-node_of n step = record { props = prop_of (letter_of step.colour) (text_of n step.what ∷ []) ∷ [] }
+abbrev pub node_of_step : ℕ → Step → Node
+node_of_step n step =
+    record { props = prop_of (letter_of step.colour) (text_of n step.what ∷ []) ∷ [] }
 
 -- Record: one tree without kids, of the root and a node for each step
 abbrev pub record_of : GameData → GameTrees
-record_of game = tree (root_of game.start ∷ map (node_of game.start.size) game.steps) none none
+record_of game = tree (root_of game.start ∷ map (node_of_step game.start.size) game.steps) none none

@@ -1,5 +1,6 @@
 -- The size and the start stones that a record's root names.
-use Rattle.std.specs.Prelude.{ℕ, Bool, false, ◌==◌, ◌||◌, List, [], ◌∷◌, ◌++◌, Option, Some, None, is_none, map, find, codes}
+use Rattle.std.specs.Prelude.{ℕ, Bool, false, ◌==◌, ◌||◌, List, [], ◌∷◌, ◌++◌, Option, Some, None}
+use Rattle.std.specs.Prelude.{is_none, map, find, codes}
 use Rattle.std.specs.Fmt.{decimal}
 use Rattle.std.specs.List.{list_any, range_with_len}
 use Rattle.std.specs.Str.{bytes_eq}
@@ -56,7 +57,8 @@ has_twice (cell ∷ cells) = is_in cells cell || has_twice cells
 
 -- the node adds stones or takes them away
 abbrev pub changes : Node → Bool
-changes node = has_named (codes "AB") node || has_named (codes "AW") node || has_named (codes "AE") node
+changes node =
+    has_named (codes "AB") node || has_named (codes "AW") node || has_named (codes "AE") node
 
 -- a node behind the root adds stones or takes them away, or the root takes some away
 abbrev pub is_changed_late : Node → List Node → Bool
@@ -66,8 +68,8 @@ is_changed_late root behind = list_any changes behind || has_named (codes "AE") 
 abbrev pub are_misplaced : List (Option ℕ) → Bool
 are_misplaced cells = list_any is_none cells || has_twice cells
 
--- BadSetup: a node behind the root has AB, AW or AE, or the root has AE; or a value of its AB or AW is no vertex, or two of
--- them name one cell
+-- BadSetup: a node behind the root has AB, AW or AE, or the root has AE; or a value of its AB or AW
+-- is no vertex, or two of them name one cell
 abbrev pub is_bad_setup : ℕ → Node → List Node → Bool
 is_bad_setup n root behind = is_changed_late root behind || are_misplaced (set_up_cells n root)
 

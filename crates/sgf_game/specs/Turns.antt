@@ -1,5 +1,7 @@
 -- The moves of a line as turns of a game, and which of them is refused.
-use Rattle.std.specs.Prelude.{ℕ, Bool, true, false, not, ◌==◌, List, [], ◌∷◌, Option, Some, None, Result, Ok, Err, map, flat_map, take, length, slice_get, find, codes, option_map, if◌then◌else◌}
+use Rattle.std.specs.Prelude.{ℕ, Bool, true, false, not, ◌==◌, List, [], ◌∷◌, Option, Some, None}
+use Rattle.std.specs.Prelude.{Result, Ok, Err, map, flat_map, take, length, slice_get, find, codes}
+use Rattle.std.specs.Prelude.{option_map, if◌then◌else◌}
 use Rattle.std.specs.List.{range_with_len}
 use Rattle.hex_cells.specs.Vertices.{vertex_cell}
 use Rattle.hex_cells.specs.declared.colours.Colour.{Colour}
@@ -17,11 +19,13 @@ use Rattle.sgf_game.specs.declared.error.GameError.TheVariants.{BadMove}
 use Rattle.sgf_game.specs.Values.{spells}
 use Rattle.sgf_game.specs.Lines.{Entry, entries_in, ends}
 
--- what a move's text says on the board of size n: the swap, the end of the line, or a stone on the cell of a vertex
+-- what a move's text says on the board of size n: the swap, the end of the line, or a stone on the
+-- cell of a vertex
 abbrev pub said_by : ℕ → List ℕ → Option Said
 said_by n text =
     if spells text (codes "swap-pieces") then Some (Plays Swap)
-    else (if ends text then Some Ends else option_map (λ cell. Plays (Stone cell)) (vertex_cell n text))
+    else (if ends text then Some Ends
+    else option_map (λ cell. Plays (Stone cell)) (vertex_cell n text))
 
 -- a move as a turn; one that is not alone in its node says nothing
 abbrev pub turn_of : ℕ → Bool → Entry → Turn

@@ -1,15 +1,16 @@
 -- The values of a node's properties.
-use Rattle.std.specs.Prelude.{ℕ, Bool, List, [], ◌∷◌, Option, Some, None, reverse, map, flat_map, if◌then◌else◌}
+use Rattle.std.specs.Prelude.{ℕ, Bool, List, [], ◌∷◌, Option, Some, None, reverse, map, flat_map}
+use Rattle.std.specs.Prelude.{if◌then◌else◌}
 use Rattle.std.specs.List.{list_any}
 use Rattle.std.specs.Str.{bytes_eq, str_to_ascii_lowercase}
 use Rattle.sgf_tree.specs.declared.lists.Prop.{Prop}
 use Rattle.sgf_tree.specs.declared.lists.Node.{Node}
-use Rattle.sgf_tree.specs.Grammar.{is_space}
+use Rattle.sgf_tree.specs.Grammar.{is_white_space}
 
 -- without the white space at its front
 abbrev pub without_front_space : List ℕ → List ℕ
 without_front_space [] = []
-without_front_space (x ∷ text) = if is_space x then without_front_space text else x ∷ text
+without_front_space (x ∷ text) = if is_white_space x then without_front_space text else x ∷ text
 
 -- without the white space at both ends
 abbrev pub trimmed : List ℕ → List ℕ

@@ -14,7 +14,8 @@ pub enum GameError {
     /// `index` is the first move, counted from 0 along the main line, that is refused.
     #[error("move {index} is refused")]
     BadMove { index: u32 },
-    /// Stones are set up behind the root, or removed, or on no cell of the board, or on a cell twice.
+    /// Stones are set up behind the root, or removed, or on no cell of the board, or on a cell
+    /// twice.
     #[error("the start stones are refused")]
     BadSetup,
     /// Memory ran out.

@@ -2,7 +2,7 @@
 
 ghost use Rattle.std.specs.Prelude.{◌≡◌, IfOk, map};
 ghost use Rattle.hex_cells.specs.declared.colours.Colour.{Colour};
-ghost use Rattle.sgf_game.specs.Lines.{seen, mover, ends, entry, has_end, is_last, line_of};
+ghost use Rattle.sgf_game.specs.Lines.{nodes_lent, mover, ends, entry, has_end, is_last, line_of};
 
 use super::values::{is_named, spells, trimmed};
 use hex_cells::Colour;
@@ -57,7 +57,7 @@ fn is_last(node: &Node) -> bool
 /// The nodes of the first tree, then those of the first of its kids, and so on, up to the first
 /// that ends the line, with that one.
 pub fn line_of(alloc: Global, collection: &Collection) -> Result<Vec<&Node>, AllocError>
-    ensures { IfOk result (λ line. seen line.items ≡ line_of collection.now.trees) }
+    ensures { IfOk result (λ line. nodes_lent line.items ≡ line_of collection.now.trees) }
 {
     let mut line = Vec::new(alloc);
     let mut trees = collection.trees.as_slice();

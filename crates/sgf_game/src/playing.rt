@@ -2,7 +2,7 @@
 
 ghost use Rattle.std.specs.Prelude.{◌≡◌, ◌++◌, true, false, not};
 ghost use Rattle.hex_game.specs.Games.{GameData};
-ghost use Rattle.sgf_game.specs.GameOf.{OrMemory};
+ghost use Rattle.sgf_game.specs.GameOf.{GameOrMemory};
 ghost use Rattle.sgf_game.specs.Turns.{is_refused_said, step_said, game_of_turns};
 ghost use Rattle.sgf_game.specs.Playing.{IsSaidOn, AreSaidOn, EndsLast};
 
@@ -31,7 +31,7 @@ fn take_turn(game: &mut Game, turn: &Turn) -> bool
 pub fn game_of_turns(alloc: Global, start: &Board, turns: &[Turn]) -> Result<Game, GameError>
     requires on_board { AreSaidOn start.now.size turns.now }
     requires ends_last { EndsLast turns.now }
-    ensures { OrMemory result (game_of_turns start.now turns.now) }
+    ensures { GameOrMemory result (game_of_turns start.now turns.now) }
 {
     let mut game = match Game::make(alloc, start) {
         Ok(game) => game,

@@ -1,8 +1,8 @@
 //! Reading: the game of a collection.
 
 ghost use Rattle.std.specs.Prelude.{ℕ};
-ghost use Rattle.sgf_game.specs.GameOf.{game_of, game_of_line, OrMemory};
-ghost use Rattle.sgf_game.specs.Lines.{seen};
+ghost use Rattle.sgf_game.specs.GameOf.{game_of, game_of_line, GameOrMemory};
+ghost use Rattle.sgf_game.specs.Lines.{nodes_lent};
 ghost use Rattle.sgf_game.specs.Playing.{EndsLast};
 ghost use Rattle.sgf_game.specs.Turns.{turns_of};
 
@@ -22,23 +22,23 @@ use std::alloc::Global;
 ///
 /// - `NotHex` comes exactly where the root has no GM, or the first value is not `11`. So it does
 ///   where the collection has no node at all.
-/// - Otherwise `BadSize` comes exactly where the root has SZ, and the first value is neither a number
-///   from 1 to 11 without leading zero nor two equal such numbers with `:` between. Without SZ the
-///   size is 11.
-/// - Otherwise `BadSetup` comes exactly where a node of the line behind the root has AB, AW or AE, or
-///   the root has AE; or where a value of the root's AB or AW is no vertex of the board, or two of
-///   them name one cell. They are the start stones.
-/// - Otherwise `BadMove` comes exactly where a move is refused, with the first such. The moves are the
-///   values of B and W along the line, counted from 0, also those in the root. Refused is what is
-///   neither a vertex of the board nor `swap-pieces`, `resign` or `forfeit`, in either case; what
-///   stands in a node with more than one move; and what [`Game::play`] refuses.
-/// - Otherwise the game has the start stones and the steps of the moves; `resign` and `forfeit` make
-///   none.
+/// - Otherwise `BadSize` comes exactly where the root has SZ, and the first value is neither a
+///   number from 1 to 11 without leading zero nor two equal such numbers with `:` between. Without
+///   SZ the size is 11.
+/// - Otherwise `BadSetup` comes exactly where a node of the line behind the root has AB, AW or AE,
+///   or the root has AE; or where a value of the root's AB or AW is no vertex of the board, or two
+///   of them name one cell. They are the start stones.
+/// - Otherwise `BadMove` comes exactly where a move is refused, with the first such. The moves are
+///   the values of B and W along the line, counted from 0, also those in the root. Refused is what
+///   is neither a vertex of the board nor `swap-pieces`, `resign` or `forfeit`, in either case;
+///   what stands in a node with more than one move; and what [`Game::play`] refuses.
+/// - Otherwise the game has the start stones and the steps of the moves; `resign` and `forfeit`
+///   make none.
 ///
 /// `Memory` may come in place of any answer. The properties are those of SGF FF[4], GM[11]; all
 /// others are skipped.
 pub fn to_game(alloc: Global, collection: &Collection) -> Result<Game, GameError>
-    ensures { OrMemory result (game_of collection.now.trees) }
+    ensures { GameOrMemory result (game_of collection.now.trees) }
 {
     match line_of(alloc, collection) {
         Ok(line) => game_of_line(alloc, &line),
@@ -48,8 +48,8 @@ pub fn to_game(alloc: Global, collection: &Collection) -> Result<Game, GameError
 
 /// The game of a line that begins with its root.
 fn game_of_line(alloc: Global, line: &[&Node]) -> Result<Game, GameError>
-    requires { (n : ℕ) → EndsLast (turns_of n (seen line.now)) }
-    ensures { OrMemory result (game_of_line (seen line.now)) }
+    requires { (n : ℕ) → EndsLast (turns_of n (nodes_lent line.now)) }
+    ensures { GameOrMemory result (game_of_line (nodes_lent line.now)) }
 {
     let [root, behind @ ..] = line else {
         return Err(GameError::NotHex);

@@ -2,9 +2,10 @@
 
 ghost use Rattle.std.specs.Prelude.{◌≡◌, true, false, map, MatchOption};
 ghost use Rattle.hex_cells.specs.Vertices.{vertex_cell};
-ghost use Rattle.sgf_game.specs.Lines.{seen};
+ghost use Rattle.sgf_game.specs.Lines.{nodes_lent};
 ghost use Rattle.sgf_game.specs.Values.{trimmed};
-ghost use Rattle.sgf_game.specs.Setup.{changes, is_changed_late, cells_named, is_bad_setup, start_of};
+ghost use Rattle.sgf_game.specs.Setup.{changes, is_changed_late, cells_named, is_bad_setup};
+ghost use Rattle.sgf_game.specs.Setup.{start_of};
 ghost use Rattle.sgf_game.specs.Placing.{placed_on};
 
 use super::values::{has_named, is_named, trimmed};
@@ -21,7 +22,7 @@ fn changes(node: &Node) -> bool
 
 /// Whether a node behind the root adds stones or takes them away, or the root takes some away.
 fn is_changed_late(root: &Node, behind: &[&Node]) -> bool
-    ensures { result ≡ is_changed_late root.now (seen behind.now) }
+    ensures { result ≡ is_changed_late root.now (nodes_lent behind.now) }
 {
     for node in behind {
         if changes(node) {
@@ -31,8 +32,8 @@ fn is_changed_late(root: &Node, behind: &[&Node]) -> bool
     has_named(root, b"AE")
 }
 
-/// The stones with those that the values name, each on a cell that is not in `taken` and has none of
-/// these stones yet.
+/// The stones with those that the values name, each on a cell that is not in `taken` and has none
+/// of these stones yet.
 fn with_values(stones: CellSet, taken: CellSet, values: &[Bytes], size: Size) -> Option<CellSet>
     ensures { result ≡ placed_on taken stones (map (vertex_cell size) (map trimmed values.now)) }
 {
@@ -63,8 +64,9 @@ fn stones_named(root: &Node, name: &[u8], taken: CellSet, size: Size) -> Option<
 
 /// The start board of a line; `None` exactly where its set-up is refused.
 pub fn start_of(root: &Node, behind: &[&Node], size: Size) -> Option<Board>
-    ensures { let bad = is_bad_setup size root.now (seen behind.now) in
-        MatchOption result (bad ≡ true) (λ start. (bad ≡ false) × (start ≡ start_of size root.now)) }
+    ensures { let bad = is_bad_setup size root.now (nodes_lent behind.now) in
+        MatchOption result (bad ≡ true)
+        (λ start. (bad ≡ false) × (start ≡ start_of size root.now)) }
 {
     if is_changed_late(root, behind) {
         return None;

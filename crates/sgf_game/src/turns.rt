@@ -1,7 +1,7 @@
 //! The moves of a record as turns of a game.
 
 ghost use Rattle.std.specs.Prelude.{◌≡◌, ◌==◌, ◌++◌, length, map, IfOk, OnOk};
-ghost use Rattle.sgf_game.specs.Lines.{seen, entry, entries_in};
+ghost use Rattle.sgf_game.specs.Lines.{nodes_lent, entry, entries_in};
 ghost use Rattle.sgf_game.specs.Turns.{said_by, turn_of, turns_in, turns_of};
 
 use super::line::{ends, mover};
@@ -97,7 +97,7 @@ fn push_node(turns: &mut Vec<Turn>, node: &Node, size: Size) -> Result<(), Alloc
 
 /// The turns of a line, one for each move.
 pub fn turns_of(alloc: Global, line: &[&Node], size: Size) -> Result<Vec<Turn>, AllocError>
-    ensures { IfOk result (λ turns. turns.items ≡ turns_of size (seen line.now)) }
+    ensures { IfOk result (λ turns. turns.items ≡ turns_of size (nodes_lent line.now)) }
 {
     let mut turns = Vec::new(alloc);
     for node in line {

@@ -2,17 +2,10 @@
 
 ghost use Rattle.std.specs.Prelude.{◌≡◌, reverse, MatchOption, Some, None};
 ghost use Rattle.std.specs.Str.{bytes_eq};
-ghost use Rattle.sgf_tree.specs.Grammar.{is_space};
-ghost use Rattle.sgf_game.specs.Values.{without_front_space, trimmed, spells, has_named, first_named};
+ghost use Rattle.sgf_game.specs.Values.{without_front_space, trimmed, spells, has_named};
+ghost use Rattle.sgf_game.specs.Values.{first_named};
 
-use sgf_tree::{Bytes, Node, Prop};
-
-/// White space is bytes 9 to 13 and 32.
-fn is_space(byte: u8) -> bool
-    ensures { result ≡ is_space byte }
-{
-    9 <= byte && byte <= 13 || byte == 32
-}
+use sgf_tree::{Bytes, Node, Prop, is_white_space};
 
 /// The text without the white space at its front.
 fn without_front_space(text: &[u8]) -> &[u8]
@@ -20,7 +13,7 @@ fn without_front_space(text: &[u8]) -> &[u8]
 {
     let mut rest = text;
     while let [first, more @ ..] = rest {
-        if !is_space(*first) {
+        if !is_white_space(*first) {
             break;
         }
         rest = more;
@@ -34,7 +27,7 @@ fn without_back_space(text: &[u8]) -> &[u8]
 {
     let mut rest = text;
     while let [more @ .., last] = rest {
-        if !is_space(*last) {
+        if !is_white_space(*last) {
             break;
         }
         rest = more;

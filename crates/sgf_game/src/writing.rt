@@ -5,7 +5,8 @@ ghost use Rattle.hex_board.specs.Positions.{Within};
 ghost use Rattle.sgf_tree.specs.Trees.{depth};
 ghost use Rattle.sgf_tree.specs.Printing.{HasText, max_depth};
 ghost use Rattle.sgf_game.specs.GameOf.{game_of};
-ghost use Rattle.sgf_game.specs.Record.{prop_of, vertices, prop_if, root_of, node_of, record_of};
+ghost use Rattle.sgf_game.specs.Record.{prop_of, vertices, prop_if, root_of, node_of_step};
+ghost use Rattle.sgf_game.specs.Record.{record_of};
 ghost use Rattle.sgf_game.specs.Playing.{IsMoveOn};
 
 use super::sizes::write_number;
@@ -15,10 +16,10 @@ use hex_game::{Game, Move, Step};
 use sgf_tree::{Bytes, Collection, Memory, Node, Nodes, Prop, Props, Tree, Trees, Values};
 use std::alloc::{AllocError, Global};
 
-/// The record of a game: one tree without kids. Its root has `FF[4]`, `GM[11]`, SZ with the size, and
-/// AB and AW with the start stones of Black and of White, cells in rising order, each only where there
-/// are such stones. A node follows for each step, with B or W and the vertex in lower case, or
-/// `swap-pieces`. Want of memory is the only refusal.
+/// The record of a game: one tree without kids. Its root has `FF[4]`, `GM[11]`, SZ with the size,
+/// and AB and AW with the start stones of Black and of White, cells in rising order, each only
+/// where there are such stones. A node follows for each step, with B or W and the vertex in lower
+/// case, or `swap-pieces`. Want of memory is the only refusal.
 pub fn from_game(alloc: Global, game: &Game) -> Result<Collection, Memory>
     ensures record_is { IfOk result (λ c. c.trees ≡ record_of game.now) }
     // Its game is the game.
@@ -89,7 +90,7 @@ fn root_of(alloc: Global, start: &Board) -> Result<Node, AllocError>
 /// The node of a step: B or W with its one move.
 fn node_of(alloc: Global, step: &Step, size: Size) -> Result<Node, AllocError>
     requires { IsMoveOn size step.now.what }
-    ensures { IfOk result (λ node. node ≡ node_of size step.now) }
+    ensures { IfOk result (λ node. node ≡ node_of_step size step.now) }
 {
     let name: &[u8] = match step.colour {
         Colour::Black => b"B",
@@ -131,7 +132,8 @@ fn push_stones(
     size: Size,
 ) -> Result<(), AllocError>
     requires { Within size stones }
-    ensures { OnOk result (props.new.items ≡ props.old.items ++ prop_if name.now (vertices size stones)) }
+    ensures { OnOk result
+        (props.new.items ≡ props.old.items ++ prop_if name.now (vertices size stones)) }
 {
     let values = vertices(alloc, stones, size)?;
     if !values.is_empty() {

@@ -4,7 +4,7 @@ use Rattle.std.proofs.lemmas.Bool.{eqb-true}
 use Rattle.sgf_tree.specs.declared.lists.Prop.{Prop}
 use Rattle.sgf_tree.specs.declared.lists.Node.{Node}
 use Rattle.sgf_tree.specs.Trees.{GameTrees, none, tree}
-use Rattle.sgf_tree.specs.Grammar.{is_space, is_capital, IsFilled, AreCapitals, Gap, ContentText, ValuesText, PropsText, NodesText, TreesText, HasTree, Text}
+use Rattle.sgf_tree.specs.Grammar.{is_white_space, is_capital, IsFilled, AreCapitals, Gap, ContentText, ValuesText, PropsText, NodesText, TreesText, HasTree, Text}
 use Rattle.sgf_tree.specs.Reading.{join, Branch, Open, State, between, opened, in_node, in_name, after_name, in_value, escaped, after_value, open_tree, add_node, close_into, turn, go_on, add_prop, step, run_on, run, begin}
 use Rattle.sgf_tree.proofs.Choices.{by_cond, different, append_nil}
 use Rattle.sgf_tree.proofs.Forward.{join-none, join-join}
@@ -119,7 +119,7 @@ go_on_back c o ps x w =
 -- behind a name: white space, and then the `[` of a value
 bracket_back : (c : GameTrees) (o : Open) (ps : List Prop) (n : List ℕ) (x : ℕ) (w : List ℕ) → Leads c w (step (after_name o ps n) x) → Rest c (after_name o ps n) (x ∷ w)
 bracket_back c o ps n x w =
-    by_cond (λ next. Leads c w next → Rest c (after_name o ps n) (x ∷ w)) (is_space x) (Some (after_name o ps n)) (cond (x == 91) (Some (in_value o ps n [] [])) None)
+    by_cond (λ next. Leads c w next → Rest c (after_name o ps n) (x ∷ w)) (is_white_space x) (Some (after_name o ps n)) (cond (x == 91) (Some (in_value o ps n [] [])) None)
     (λ e found. (found.0, inr (e, found.1), found.2))
     (λ _. by_cond (λ next. Leads c w next → Rest c (after_name o ps n) (x ∷ w)) (x == 91) (Some (in_value o ps n [] [])) None
     (λ e found. (w, inl (ap (λ y. y ∷ w) (eqb-true x 91 e)), found))
@@ -150,21 +150,21 @@ next_value c o ps n vs x w e (v, gap, text, (more, more_vs, rest, g, values, fou
 -- a byte before what is to come from the state that it leads to is what is to come
 pub back : (c : GameTrees) (s : State) (x : ℕ) (w : List ℕ) → Leads c w (step s x) → Rest c s (x ∷ w)
 back c (between o) x w =
-    by_cond (λ next. Leads c w next → Rest c (between o) (x ∷ w)) (is_space x) (Some (between o)) (turn o x)
+    by_cond (λ next. Leads c w next → Rest c (between o) (x ∷ w)) (is_white_space x) (Some (between o)) (turn o x)
     (λ e found. (found.0, inr (e, found.1), found.2))
     (λ _ found. (x ∷ w, inl refl, turn_back c o x w found))
 back c (opened o) x w =
-    by_cond (λ next. Leads c w next → Rest c (opened o) (x ∷ w)) (is_space x) (Some (opened o)) (cond (x == 59) (Some (in_node o [])) None)
+    by_cond (λ next. Leads c w next → Rest c (opened o) (x ∷ w)) (is_white_space x) (Some (opened o)) (cond (x == 59) (Some (in_node o [])) None)
     (λ e found. (found.0, found.1, found.2, inr (e, found.3), found.4, found.5, found.6))
     (λ _. by_cond (λ next. Leads c w next → Rest c (opened o) (x ∷ w)) (x == 59) (Some (in_node o [])) None
     (λ e (more, g, (more_ps, nodes, line, below, props, ns, closes)). (x ∷ w, record { props = more_ps } ∷ nodes, below, inl refl, tt, (line, (w, more, ap (λ y. y ∷ w) (eqb-true x 59 e), g, props), ns), closes))
     (λ _ never. absurd never))
 back c (in_node o ps) x w =
-    by_cond (λ next. Leads c w next → Rest c (in_node o ps) (x ∷ w)) (is_space x) (Some (in_node o ps)) (go_on o ps x)
+    by_cond (λ next. Leads c w next → Rest c (in_node o ps) (x ∷ w)) (is_white_space x) (Some (in_node o ps)) (go_on o ps x)
     (λ e found. (found.0, inr (e, found.1), found.2))
     (λ _ found. (x ∷ w, inl refl, go_on_back c o ps x w found))
 back c (in_name o ps n) x w =
-    let ended = cond (is_space x) (Some (after_name o ps n)) (cond (x == 91) (Some (in_value o ps n [] [])) None) in
+    let ended = cond (is_white_space x) (Some (after_name o ps n)) (cond (x == 91) (Some (in_value o ps n [] [])) None) in
     by_cond (λ next. Leads c w next → Rest c (in_name o ps n) (x ∷ w)) (is_capital x) (Some (in_name o ps (n ++ x ∷ []))) ended
     (λ e (m, gap, content, capitals, is, g, found). (x ∷ m, gap, content, (e, capitals), ap (λ y. x ∷ y) is, g, subst (λ all. ContentRest c o ps all [] [] content) (append_assoc n (x ∷ []) m) found))
     (λ _ found. name_ends c o ps n (x ∷ w) (bracket_back c o ps n x w found))
@@ -179,7 +179,7 @@ back c (in_value o ps n vs a) x w =
 back c (escaped o ps n vs a) x w = λ found. (x, w, refl, found)
 back c (after_value o ps n vs) x w =
     let on = go_on o (add_prop ps n vs) x in
-    by_cond (λ next. Leads c w next → ValueRest c o ps n vs (x ∷ w)) (is_space x) (Some (after_value o ps n vs)) (cond (x == 91) (Some (in_value o ps n vs [])) on)
+    by_cond (λ next. Leads c w next → ValueRest c o ps n vs (x ∷ w)) (is_white_space x) (Some (after_value o ps n vs)) (cond (x == 91) (Some (in_value o ps n vs [])) on)
     (λ e found. (found.0, found.1, found.2, inr (e, found.3), found.4, found.5))
     (λ _. by_cond (λ next. Leads c w next → ValueRest c o ps n vs (x ∷ w)) (x == 91) (Some (in_value o ps n vs [])) on
     (λ e. next_value c o ps n vs x w (eqb-true x 91 e))

@@ -1,7 +1,7 @@
 -- Choices by a test, and what the reader's tests of a byte say of each other.
 use Rattle.std.proofs.Common.{◌≡◌, ◌≢◌, ℕ, Bool, true, false, cond, refl, arith, ◌==◌, List, [], ◌∷◌, ◌++◌, ap}
 use Rattle.std.proofs.lemmas.Bool.Decides.{nat_tests}
-use Rattle.sgf_tree.specs.Grammar.{is_space, is_capital}
+use Rattle.sgf_tree.specs.Grammar.{is_white_space, is_capital}
 
 pub cond_true : {A : Type 0} (b : Bool) (y z : A) → b ≡ true → cond b y z ≡ y
 cond_true b y z e = ap (λ v. cond v y z) e
@@ -17,10 +17,10 @@ by_cond Q false y z f g = g refl
 pub not_equal : (x y : ℕ) → x ≢ y → (x == y) ≡ false
 not_equal x y h = grind (arith, nat_tests)
 
-pub capital_no_space : (x : ℕ) → is_capital x ≡ true → is_space x ≡ false
+pub capital_no_space : (x : ℕ) → is_capital x ≡ true → is_white_space x ≡ false
 capital_no_space x h = grind (arith, nat_tests)
 
-pub space_no_capital : (x : ℕ) → is_space x ≡ true → is_capital x ≡ false
+pub space_no_capital : (x : ℕ) → is_white_space x ≡ true → is_capital x ≡ false
 space_no_capital x h = grind (arith, nat_tests)
 
 pub capital_no_bracket : (x : ℕ) → is_capital x ≡ true → (x == 91) ≡ false

@@ -3,7 +3,7 @@ use Rattle.std.proofs.Common.{◌≡◌, ℕ, ◌≤◌, max, Bool, cond, refl, 
 use Rattle.sgf_tree.specs.declared.lists.Prop.{Prop}
 use Rattle.sgf_tree.specs.declared.lists.Node.{Node}
 use Rattle.sgf_tree.specs.Trees.{GameTrees, none, tree, depth}
-use Rattle.sgf_tree.specs.Grammar.{is_space, is_capital, IsFilled, HasTree}
+use Rattle.sgf_tree.specs.Grammar.{is_white_space, is_capital, IsFilled, HasTree}
 use Rattle.sgf_tree.specs.Reading.{join, Branch, Open, State, between, opened, in_node, in_name, after_name, in_value, escaped, after_value, open_tree, add_node, close_into, turn, go_on, add_prop, step, run_on, run, deepest, deepest_of}
 use Rattle.sgf_tree.proofs.Choices.{by_cond}
 use Rattle.sgf_tree.proofs.Depths.{deepest-join}
@@ -41,22 +41,22 @@ go_on_fine o ps x fine =
     fine_or (is_capital x) (in_name o ps (x ∷ [])) (cond (x == 59) (Some (in_node (add_node o ps) [])) ends) fine (fine_or (x == 59) (in_node (add_node o ps) []) ends fine (turn_fine (add_node o ps) x))
 
 step_fine : (s : State) (x : ℕ) → IsFine s → IsFineIfAny (step s x)
-step_fine (between o) x fine = fine_or (is_space x) (between o) (turn o x) tt (turn_fine o x)
+step_fine (between o) x fine = fine_or (is_white_space x) (between o) (turn o x) tt (turn_fine o x)
 step_fine (opened o) x fine =
-    fine_or (is_space x) (opened o) (cond (x == 59) (Some (in_node o [])) None) fine (fine_or (x == 59) (in_node o []) None fine tt)
-step_fine (in_node o ps) x fine = fine_or (is_space x) (in_node o ps) (go_on o ps x) fine (go_on_fine o ps x fine)
+    fine_or (is_white_space x) (opened o) (cond (x == 59) (Some (in_node o [])) None) fine (fine_or (x == 59) (in_node o []) None fine tt)
+step_fine (in_node o ps) x fine = fine_or (is_white_space x) (in_node o ps) (go_on o ps x) fine (go_on_fine o ps x fine)
 step_fine (in_name o ps n) x fine =
     let value : Option State = cond (x == 91) (Some (in_value o ps n [] [])) None in
-    fine_or (is_capital x) (in_name o ps (n ++ x ∷ [])) (cond (is_space x) (Some (after_name o ps n)) value) fine (fine_or (is_space x) (after_name o ps n) value fine (fine_or (x == 91) (in_value o ps n [] []) None fine tt))
+    fine_or (is_capital x) (in_name o ps (n ++ x ∷ [])) (cond (is_white_space x) (Some (after_name o ps n)) value) fine (fine_or (is_white_space x) (after_name o ps n) value fine (fine_or (x == 91) (in_value o ps n [] []) None fine tt))
 step_fine (after_name o ps n) x fine =
-    fine_or (is_space x) (after_name o ps n) (cond (x == 91) (Some (in_value o ps n [] [])) None) fine (fine_or (x == 91) (in_value o ps n [] []) None fine tt)
+    fine_or (is_white_space x) (after_name o ps n) (cond (x == 91) (Some (in_value o ps n [] [])) None) fine (fine_or (x == 91) (in_value o ps n [] []) None fine tt)
 step_fine (in_value o ps n vs a) x fine =
     let plain : Option State = Some (in_value o ps n vs (a ++ x ∷ [])) in
     fine_or (x == 92) (escaped o ps n vs a) (cond (x == 93) (Some (after_value o ps n (vs ++ a ∷ []))) plain) fine (fine_or (x == 93) (after_value o ps n (vs ++ a ∷ [])) plain fine fine)
 step_fine (escaped o ps n vs a) x fine = fine
 step_fine (after_value o ps n vs) x fine =
     let on = go_on o (add_prop ps n vs) x in
-    fine_or (is_space x) (after_value o ps n vs) (cond (x == 91) (Some (in_value o ps n vs [])) on) fine (fine_or (x == 91) (in_value o ps n vs []) on fine (go_on_fine o (add_prop ps n vs) x fine))
+    fine_or (is_white_space x) (after_value o ps n vs) (cond (x == 91) (Some (in_value o ps n vs [])) on) fine (fine_or (x == 91) (in_value o ps n vs []) on fine (go_on_fine o (add_prop ps n vs) x fine))
 
 pub run_fine : (w : List ℕ) (next : Option State) (t : State) → IsFineIfAny next → run_on next w ≡ Some t → IsFine t
 run_fine [] None t fine e = cc

@@ -3,7 +3,7 @@ use Rattle.std.proofs.Common.{◌≡◌, ℕ, suc, ◌+◌, ◌≤◌, max, Bool
 use Rattle.sgf_tree.specs.declared.lists.Prop.{Prop}
 use Rattle.sgf_tree.specs.declared.lists.Node.{Node}
 use Rattle.sgf_tree.specs.Trees.{GameTrees, none, tree, depth}
-use Rattle.sgf_tree.specs.Grammar.{is_space, is_capital}
+use Rattle.sgf_tree.specs.Grammar.{is_white_space, is_capital}
 use Rattle.sgf_tree.specs.Reading.{join, Branch, Open, State, between, opened, in_node, in_name, after_name, in_value, escaped, after_value, open_tree, add_node, close_into, turn, go_on, add_prop, step, run_on, open_of, deepest, deepest_of}
 use Rattle.sgf_tree.proofs.Choices.{by_cond}
 
@@ -51,19 +51,19 @@ same_or o b s other here there =
     by_cond (Grows o.outer o.kids) b (Some s) other (λ _. here) (λ _. there)
 
 pub grows : (s : State) (x : ℕ) → Grows (open_of s).outer (open_of s).kids (step s x)
-grows (between o) x = same_or o (is_space x) (between o) (turn o x) (same_grows o.outer o.kids) (turn_grows o x)
+grows (between o) x = same_or o (is_white_space x) (between o) (turn o x) (same_grows o.outer o.kids) (turn_grows o x)
 grows (opened o) x =
     let same = same_grows o.outer o.kids in
-    same_or o (is_space x) (opened o) (cond (x == 59) (Some (in_node o [])) None) same (same_or o (x == 59) (in_node o []) None same tt)
+    same_or o (is_white_space x) (opened o) (cond (x == 59) (Some (in_node o [])) None) same (same_or o (x == 59) (in_node o []) None same tt)
 grows (in_node o ps) x =
-    same_or o (is_space x) (in_node o ps) (go_on o ps x) (same_grows o.outer o.kids) (go_on_grows o ps x)
+    same_or o (is_white_space x) (in_node o ps) (go_on o ps x) (same_grows o.outer o.kids) (go_on_grows o ps x)
 grows (in_name o ps n) x =
     let same = same_grows o.outer o.kids in
     let value : Option State = cond (x == 91) (Some (in_value o ps n [] [])) None in
-    same_or o (is_capital x) (in_name o ps (n ++ x ∷ [])) (cond (is_space x) (Some (after_name o ps n)) value) same (same_or o (is_space x) (after_name o ps n) value same (same_or o (x == 91) (in_value o ps n [] []) None same tt))
+    same_or o (is_capital x) (in_name o ps (n ++ x ∷ [])) (cond (is_white_space x) (Some (after_name o ps n)) value) same (same_or o (is_white_space x) (after_name o ps n) value same (same_or o (x == 91) (in_value o ps n [] []) None same tt))
 grows (after_name o ps n) x =
     let same = same_grows o.outer o.kids in
-    same_or o (is_space x) (after_name o ps n) (cond (x == 91) (Some (in_value o ps n [] [])) None) same (same_or o (x == 91) (in_value o ps n [] []) None same tt)
+    same_or o (is_white_space x) (after_name o ps n) (cond (x == 91) (Some (in_value o ps n [] [])) None) same (same_or o (x == 91) (in_value o ps n [] []) None same tt)
 grows (in_value o ps n vs a) x =
     let same = same_grows o.outer o.kids in
     let plain : Option State = Some (in_value o ps n vs (a ++ x ∷ [])) in
@@ -72,7 +72,7 @@ grows (escaped o ps n vs a) x = same_grows o.outer o.kids
 grows (after_value o ps n vs) x =
     let same = same_grows o.outer o.kids in
     let on = go_on o (add_prop ps n vs) x in
-    same_or o (is_space x) (after_value o ps n vs) (cond (x == 91) (Some (in_value o ps n vs [])) on) same (same_or o (x == 91) (in_value o ps n vs []) on same (go_on_grows o (add_prop ps n vs) x))
+    same_or o (is_white_space x) (after_value o ps n vs) (cond (x == 91) (Some (in_value o ps n vs [])) on) same (same_or o (x == 91) (in_value o ps n vs []) on same (go_on_grows o (add_prop ps n vs) x))
 
 -- from no state, or from one that was not deeper
 abbrev pub UpTo : Option State → State → Type 0

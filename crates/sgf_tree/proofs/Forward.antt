@@ -3,15 +3,15 @@ use Rattle.std.proofs.Common.{◌≡◌, ℕ, false, cond, refl, sym, ap, ◌∙
 use Rattle.sgf_tree.specs.declared.lists.Prop.{Prop}
 use Rattle.sgf_tree.specs.declared.lists.Node.{Node}
 use Rattle.sgf_tree.specs.Trees.{GameTrees, none, tree}
-use Rattle.sgf_tree.specs.Grammar.{is_space, is_capital, IsFilled, AreCapitals, IsName, Gap, ContentText, ValuesText, PropsText, NodesText, TreesText, Text}
+use Rattle.sgf_tree.specs.Grammar.{is_white_space, is_capital, IsFilled, AreCapitals, IsName, Gap, ContentText, ValuesText, PropsText, NodesText, TreesText, Text}
 use Rattle.sgf_tree.specs.Reading.{join, Open, State, between, opened, in_node, in_name, after_name, in_value, escaped, after_value, open_tree, add_node, turn, go_on, add_prop, step, run_on, run, begin}
 use Rattle.sgf_tree.proofs.Choices.{cond_true, cond_false, not_equal, capital_no_space, space_no_capital, capital_no_bracket, append_nil}
 
-pub gap_runs : (s : State) (rest : ℕ → Option State) → ((x : ℕ) → step s x ≡ cond (is_space x) (Some s) (rest x)) → (w r : List ℕ) → Gap w r → run s w ≡ run s r
+pub gap_runs : (s : State) (rest : ℕ → Option State) → ((x : ℕ) → step s x ≡ cond (is_white_space x) (Some s) (rest x)) → (w r : List ℕ) → Gap w r → run s w ≡ run s r
 gap_runs s rest goes [] r g = ap (run s) g
 gap_runs s rest goes (x ∷ w) r (inl e) = ap (run s) e
 gap_runs s rest goes (x ∷ w) r (inr p) =
-    ap (λ next. run_on next w) (goes x ∙ cond_true (is_space x) (Some s) (rest x) p.0) ∙ gap_runs s rest goes w r p.1
+    ap (λ next. run_on next w) (goes x ∙ cond_true (is_white_space x) (Some s) (rest x) p.0) ∙ gap_runs s rest goes w r p.1
 
 pub content_runs : (o : Open) (ps : List Prop) (n : List ℕ) (vs : List (List ℕ)) (v w r a : List ℕ) → ContentText v w r → run (in_value o ps n vs a) w ≡ run (after_value o ps n (vs ++ (a ++ v) ∷ [])) r
 content_runs o ps n vs [] w r a e =
@@ -33,7 +33,7 @@ values_runs o ps n vs (v ∷ more_vs) w r (gap, more, value, g, others) =
 pub name_runs : (o : Open) (ps : List Prop) (a m w : List ℕ) → AreCapitals m → run (in_name o ps a) (m ++ w) ≡ run (in_name o ps (a ++ m)) w
 name_runs o ps a [] w h = ap (λ b. run (in_name o ps b) w) (sym (append_nil a))
 name_runs o ps a (x ∷ m) w h =
-    let first = cond_true (is_capital x) (Some (in_name o ps (a ++ x ∷ []))) (cond (is_space x) (Some (after_name o ps a)) (cond (x == 91) (Some (in_value o ps a [] [])) None)) h.0 in
+    let first = cond_true (is_capital x) (Some (in_name o ps (a ++ x ∷ []))) (cond (is_white_space x) (Some (after_name o ps a)) (cond (x == 91) (Some (in_value o ps a [] [])) None)) h.0 in
     ap (λ next. run_on next (m ++ w)) first ∙ name_runs o ps (a ++ x ∷ []) m w h.1 ∙ ap (λ b. run (in_name o ps b) w) (append_assoc a (x ∷ []) m)
 
 -- after a name, a gap and the `[` of a value
@@ -42,21 +42,21 @@ named_runs o ps n [] more content g e = ap (run (in_name o ps n)) (g ∙ e)
 named_runs o ps n (x ∷ w) more content (inl g) e = ap (run (in_name o ps n)) (g ∙ e)
 named_runs o ps n (x ∷ w) more content (inr p) e =
     let value : Option State = cond (x == 91) (Some (in_value o ps n [] [])) None in
-    let first = cond_false (is_capital x) (Some (in_name o ps (n ++ x ∷ []))) (cond (is_space x) (Some (after_name o ps n)) value) (space_no_capital x p.0) in
-    let second = cond_true (is_space x) (Some (after_name o ps n)) value p.0 in
+    let first = cond_false (is_capital x) (Some (in_name o ps (n ++ x ∷ []))) (cond (is_white_space x) (Some (after_name o ps n)) value) (space_no_capital x p.0) in
+    let second = cond_true (is_white_space x) (Some (after_name o ps n)) value p.0 in
     ap (λ next. run_on next w) (first ∙ second) ∙ gap_runs (after_name o ps n) (λ y. cond (y == 91) (Some (in_value o ps n [] [])) None) (λ y. refl) w more p.1 ∙ ap (run (after_name o ps n)) e
 
 -- The state has an open node with these properties: what is neither white space nor `[` goes on from there.
 abbrev pub Sits : State → Open → List Prop → Type 0
-Sits s o ps = (x : ℕ) → is_space x ≡ false → (x == 91) ≡ false → step s x ≡ go_on o ps x
+Sits s o ps = (x : ℕ) → is_white_space x ≡ false → (x == 91) ≡ false → step s x ≡ go_on o ps x
 
 pub sits_in_node : (o : Open) (ps : List Prop) → Sits (in_node o ps) o ps
-sits_in_node o ps x no_space no_bracket = cond_false (is_space x) (Some (in_node o ps)) (go_on o ps x) no_space
+sits_in_node o ps x no_space no_bracket = cond_false (is_white_space x) (Some (in_node o ps)) (go_on o ps x) no_space
 
 pub sits_after_value : (o : Open) (ps : List Prop) (n : List ℕ) (vs : List (List ℕ)) → Sits (after_value o ps n vs) o (add_prop ps n vs)
 sits_after_value o ps n vs x no_space no_bracket =
     let next = go_on o (add_prop ps n vs) x in
-    cond_false (is_space x) (Some (after_value o ps n vs)) (cond (x == 91) (Some (in_value o ps n vs [])) next) no_space ∙ cond_false (x == 91) (Some (in_value o ps n vs [])) next no_bracket
+    cond_false (is_white_space x) (Some (after_value o ps n vs)) (cond (x == 91) (Some (in_value o ps n vs [])) next) no_space ∙ cond_false (x == 91) (Some (in_value o ps n vs [])) next no_bracket
 
 pub prop_runs : (s : State) (o : Open) (ps : List Prop) → Sits s o ps → (n : List ℕ) (vs : List (List ℕ)) (w gap more r : List ℕ) → IsName n → IsFilled vs → w ≡ n ++ gap → Gap gap more → ValuesText vs more r → run s w ≡ run (after_value o ps n vs) r
 prop_runs s o ps sits [] vs w gap more r name filled e g values = absurd name.0

@@ -1,5 +1,6 @@
 -- What is printed is a text of what was printed, and what has a text can be printed.
-use Rattle.std.proofs.Common.{◌≡◌, ℕ, Bool, true, false, refl, sym, ap, ◌∙◌, subst, ◌==◌, ◌||◌, List, [], ◌∷◌, ◌++◌, append_assoc, inl, inr, flat_map}
+use Rattle.std.proofs.lemmas.Bool.{or_parts}
+use Rattle.std.proofs.Common.{◌≡◌, ℕ, refl, sym, ap, ◌∙◌, subst, ◌==◌, ◌||◌, List, [], ◌∷◌, ◌++◌, append_assoc, inl, inr, flat_map}
 use Rattle.sgf_tree.specs.declared.lists.Prop.{Prop}
 use Rattle.sgf_tree.specs.declared.lists.Node.{Node}
 use Rattle.sgf_tree.specs.Trees.{GameTrees, none, tree}
@@ -11,15 +12,11 @@ gap_none : (w : List ℕ) → Gap w w
 gap_none [] = refl
 gap_none (x ∷ w) = inl refl
 
-neither : (a b : Bool) → (a || b) ≡ false → (a ≡ false) × (b ≡ false)
-neither true b e = cc
-neither false b e = (refl, e)
-
 byte_printed : (x : ℕ) (rest : List ℕ) → ByteText x (byte_print x ++ rest) rest
 byte_printed x rest =
     by_cond (λ bytes. ByteText x (bytes ++ rest) rest) ((x == 92) || (x == 93)) (92 ∷ x ∷ []) (x ∷ [])
     (λ _. inr refl)
-    (λ e. let plain = neither (x == 92) (x == 93) e in inl (different x 92 plain.0, different x 93 plain.1, refl))
+    (λ e. let plain = or_parts (x == 92) (x == 93) e in inl (different x 92 plain.0, different x 93 plain.1, refl))
 
 content_printed : (v rest : List ℕ) → ContentText v (flat_map byte_print v ++ 93 ∷ rest) rest
 content_printed [] rest = refl

@@ -7,7 +7,7 @@ use Rattle.sgf_tree.specs.Grammar.{HasTree, Text}
 use Rattle.sgf_tree.specs.Printing.{max_depth}
 use Rattle.sgf_tree.specs.Places.{Begins, IsLongest, IsDeep, IsTooDeep, IsRefusedAt}
 use Rattle.sgf_tree.specs.Reading.{State, between, opened, in_node, in_name, after_name, in_value, escaped, after_value, step, run_on, run, begin, open_of, deepest_of}
-use Rattle.sgf_tree.specs.Verdict.{IsFinal, StopsAt, GoesTo}
+use Rattle.sgf_tree.specs.Verdict.{IsFinal, IsStuckAt, GoesTo}
 use Rattle.sgf_tree.proofs.Choices.{append_nil}
 use Rattle.sgf_tree.proofs.Forward.{text_runs, finished}
 use Rattle.sgf_tree.proofs.Backward.{run_text}
@@ -60,7 +60,7 @@ beyond (y ∷ p) x q (suc m) h =
     let inner = beyond p x q m (omega arith) in
     (inner.0, ap (λ ys. y ∷ ys) inner.1)
 
-pub longest_of : (p q : List ℕ) (s : State) → run begin p ≡ Some s → StopsAt s q → IsLongest (p ++ q) (length p)
+pub longest_of : (p q : List ℕ) (s : State) → run begin p ≡ Some s → IsStuckAt s q → IsLongest (p ++ q) (length p)
 longest_of p [] s e stops =
     let first = begins_shallow p s e in
     let seam : take (length p) (p ++ []) ≡ p = take-append_seam p [] in
@@ -82,13 +82,13 @@ longest_of p (x ∷ q) s e stops =
     }
 
 -- the reader goes on up to a byte that can't stand there, or to the end
-further_by : (x : ℕ) (q : List ℕ) (s : State) (next : Option State) → step s x ≡ next → ((u : State) → (q1 : List ℕ) × (q2 : List ℕ) × (t : State) × (q ≡ q1 ++ q2) × (run u q1 ≡ Some t) × StopsAt t q2) → (q1 : List ℕ) × (q2 : List ℕ) × (t : State) × (x ∷ q ≡ q1 ++ q2) × (run s q1 ≡ Some t) × StopsAt t q2
+further_by : (x : ℕ) (q : List ℕ) (s : State) (next : Option State) → step s x ≡ next → ((u : State) → (q1 : List ℕ) × (q2 : List ℕ) × (t : State) × (q ≡ q1 ++ q2) × (run u q1 ≡ Some t) × IsStuckAt t q2) → (q1 : List ℕ) × (q2 : List ℕ) × (t : State) × (x ∷ q ≡ q1 ++ q2) × (run s q1 ≡ Some t) × IsStuckAt t q2
 further_by x q s None e more = ([], x ∷ q, s, refl, refl, e)
 further_by x q s (Some u) e more =
     let rest = more u in
     (x ∷ rest.0, rest.1, rest.2, ap (λ ys. x ∷ ys) rest.3, ap (λ next. run_on next rest.0) e ∙ rest.4, rest.5)
 
-pub further : (q : List ℕ) (s : State) → (q1 : List ℕ) × (q2 : List ℕ) × (t : State) × (q ≡ q1 ++ q2) × (run s q1 ≡ Some t) × StopsAt t q2
+pub further : (q : List ℕ) (s : State) → (q1 : List ℕ) × (q2 : List ℕ) × (t : State) × (q ≡ q1 ++ q2) × (run s q1 ≡ Some t) × IsStuckAt t q2
 further [] s = ([], [], s, refl, refl, tt)
 further (x ∷ q) s = further_by x q s (step s x) refl (λ u. further q u)
 
@@ -155,7 +155,7 @@ split at bytes P within holds =
     let same : length (take at bytes) ≡ at = simp length-take (omega arith) in
     subst (P bytes) same (subst (λ all. P all (length (take at bytes))) (take-append-drop at bytes) holds)
 
-refused_split : (p q : List ℕ) (s : State) → GoesTo p s → StopsAt s q → ((trees : GameTrees) → Text trees (p ++ q) → ⊥) → IsRefusedAt (p ++ q) (length p)
+refused_split : (p q : List ℕ) (s : State) → GoesTo p s → IsStuckAt s q → ((trees : GameTrees) → Text trees (p ++ q) → ⊥) → IsRefusedAt (p ++ q) (length p)
 refused_split p q s (e, low) stops no_text =
     let seam : take (length p) (p ++ q) ≡ p = take-append_seam p q in
     record {
@@ -164,12 +164,12 @@ refused_split p q s (e, low) stops no_text =
       no_text = no_text;
     }
 
-no_text_behind : (p q : List ℕ) (s : State) → run begin p ≡ Some s → StopsAt s q → 0 < length q → (trees : GameTrees) → Text trees (p ++ q) → ⊥
+no_text_behind : (p q : List ℕ) (s : State) → run begin p ≡ Some s → IsStuckAt s q → 0 < length q → (trees : GameTrees) → Text trees (p ++ q) → ⊥
 no_text_behind p [] s e stops some trees text = omega arith
 no_text_behind p (x ∷ q) s e stops some trees text = refuses p x q s trees e stops text
 
 -- a byte that can't stand there
-pub refused_of : (bytes : List ℕ) (at : ℕ) (s : State) → at < length bytes → GoesTo (take at bytes) s → StopsAt s (drop at bytes) → IsRefusedAt bytes at
+pub refused_of : (bytes : List ℕ) (at : ℕ) (s : State) → at < length bytes → GoesTo (take at bytes) s → IsStuckAt s (drop at bytes) → IsRefusedAt bytes at
 refused_of bytes at s within goes stops =
     let p = take at bytes in
     let q = drop at bytes in

@@ -1,4 +1,5 @@
--- The text that is printed: no white space between tokens, and in a value a backslash before each `]` and each backslash.
+-- The text that is printed: no white space between tokens, and in a value a backslash before each
+-- `]` and each backslash.
 use Rattle.std.specs.Prelude.{ℕ, List, [], ◌∷◌, ◌++◌, ◌==◌, ◌||◌, if◌then◌else◌, flat_map}
 use Rattle.sgf_tree.specs.declared.lists.Prop.{Prop}
 use Rattle.sgf_tree.specs.declared.lists.Node.{Node}
@@ -19,7 +20,8 @@ node_print node = 59 ∷ flat_map prop_print node.props
 
 abbrev pub trees_print : GameTrees → List ℕ
 trees_print none = []
-trees_print (tree nodes kids others) = (40 ∷ (flat_map node_print nodes ++ trees_print kids ++ 41 ∷ [])) ++ trees_print others
+trees_print (tree nodes kids others) =
+    (40 ∷ (flat_map node_print nodes ++ trees_print kids ++ 41 ∷ [])) ++ trees_print others
 
 -- ---- what has a text
 
@@ -33,9 +35,11 @@ NodesHaveTexts (node ∷ nodes) = HaveTexts node.props × NodesHaveTexts nodes
 
 abbrev pub TreesHaveTexts : GameTrees → Type 0
 TreesHaveTexts none = Unit {0}
-TreesHaveTexts (tree nodes kids others) = IsFilled nodes × NodesHaveTexts nodes × TreesHaveTexts kids × TreesHaveTexts others
+TreesHaveTexts (tree nodes kids others) =
+    IsFilled nodes × NodesHaveTexts nodes × TreesHaveTexts kids × TreesHaveTexts others
 
--- A collection has a text: at least one tree, a node in each tree, a name of capital letters and a value in each property.
+-- A collection has a text: at least one tree, a node in each tree, a name of capital letters and a
+-- value in each property.
 abbrev pub HasText : GameTrees → Type 0
 HasText trees = HasTree trees × TreesHaveTexts trees
 

@@ -1,23 +1,29 @@
 -- Where a `Reading` stands, and what a byte makes of it.
-use Rattle.std.specs.Prelude.{◌≡◌, ℕ, ◌<◌, ◌≤◌, List, [], ◌∷◌, length, Option, Some, None, Result, Ok, Err}
+use Rattle.std.specs.Prelude.{◌≡◌, ℕ, ◌<◌, ◌≤◌, List, [], ◌∷◌, length, Option, Some, None, Result}
+use Rattle.std.specs.Prelude.{Ok, Err}
 use Rattle.sgf_tree.specs.declared.lists.Prop.{Prop}
 use Rattle.sgf_tree.specs.declared.reading.Place.{Place}
-use Rattle.sgf_tree.specs.declared.reading.Place.TheVariants.{Between, Opened, InNode, InName, AfterName, InValue, Escaped, AfterValue}
+use Rattle.sgf_tree.specs.declared.reading.Place.TheVariants.{Between, Opened, InNode, InName}
+use Rattle.sgf_tree.specs.declared.reading.Place.TheVariants.{AfterName, InValue, Escaped}
+use Rattle.sgf_tree.specs.declared.reading.Place.TheVariants.{AfterValue}
 use Rattle.sgf_tree.specs.declared.reading.Stop.{Stop}
 use Rattle.sgf_tree.specs.declared.reading.Stop.TheVariants.{Refused, TooDeep, Memory}
 use Rattle.sgf_tree.specs.declared.reading.Parent.{Parent}
 use Rattle.sgf_tree.specs.declared.reading.Reading.{Reading}
 use Rattle.sgf_tree.specs.Rows.{row}
 use Rattle.sgf_tree.specs.Printing.{max_depth}
-use Rattle.sgf_tree.specs.Reading.{Branch, Open, State, between, opened, in_node, in_name, after_name, in_value, escaped, after_value, open_of, step}
+use Rattle.sgf_tree.specs.Reading.{Branch, Open, State, between, opened, in_node, in_name}
+use Rattle.sgf_tree.specs.Reading.{after_name, in_value, escaped, after_value, open_of, step}
 
 -- the parents of a list that begins with the outermost, from the inside, before these
 abbrev pub stack : List Parent → List Branch → List Branch
 stack [] below = below
-stack (p ∷ parents) below = stack parents (record { nodes = p.nodes.items; kids = row p.kids.items } ∷ below)
+stack (p ∷ parents) below =
+    stack parents (record { nodes = p.nodes.items; kids = row p.kids.items } ∷ below)
 
 abbrev pub trees_of : Reading → Open
-trees_of r = record { outer = stack r.outer.items []; nodes = r.nodes.items; kids = row r.kids.items }
+trees_of r =
+    record { outer = stack r.outer.items []; nodes = r.nodes.items; kids = row r.kids.items }
 
 abbrev pub standing : Place → Open → List Prop → List ℕ → List (List ℕ) → List ℕ → State
 standing Between o props name values value = between o

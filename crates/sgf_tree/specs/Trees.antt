@@ -5,7 +5,8 @@ use Rattle.std.specs.Coded.{Coded, code_by, coded×, coded_ℕ, coded_list, code
 use Rattle.sgf_tree.specs.declared.lists.Prop.{Prop}
 use Rattle.sgf_tree.specs.declared.lists.Node.{Node}
 
--- Trees beside each other: none, or a first tree, of some nodes and the kids that go on from them, and the trees after it.
+-- Trees beside each other: none, or a first tree, of some nodes and the kids that go on from them,
+-- and the trees after it.
 pub data GameTrees : Type 0 where
   none : GameTrees
   tree : List Node → GameTrees → GameTrees → GameTrees
@@ -20,7 +21,8 @@ abbrev pub trees_size : GameTrees → ℕ
 trees_size none = 0
 trees_size (tree nodes kids rest) = 2 + trees_size kids + trees_size rest
 
--- ---- how the logic stores trees: each list of nodes before what stands under and after it, None for no tree
+-- ---- how the logic stores trees: each list of nodes before what stands under and after it, None
+-- for no tree
 
 abbrev spread : GameTrees → List (Option (List Node)) → List (Option (List Node))
 spread none after = None ∷ after
@@ -40,10 +42,12 @@ abbrev first_of_all : List GameTrees → GameTrees
 first_of_all [] = none
 first_of_all (trees ∷ more) = trees
 
-pub gathered-spread : (trees : GameTrees) (after : List (Option (List Node))) → gathered (spread trees after) ≡ trees ∷ gathered after
+pub gathered-spread : (trees : GameTrees) (after : List (Option (List Node)))
+    → gathered (spread trees after) ≡ trees ∷ gathered after
 gathered-spread none after = refl
 gathered-spread (tree nodes kids rest) after =
-    ap (joined nodes) (gathered-spread kids (spread rest after)) ∙ ap (λ more. joined nodes (kids ∷ more)) (gathered-spread rest after)
+    ap (joined nodes) (gathered-spread kids (spread rest after))
+    ∙ ap (λ more. joined nodes (kids ∷ more)) (gathered-spread rest after)
 
 abbrev pairs_of : List Prop → List (List ℕ × List (List ℕ))
 pairs_of [] = []
@@ -59,8 +63,13 @@ props_of-pairs_of (p ∷ ps) = ap (λ qs. p ∷ qs) (props_of-pairs_of ps)
 
 abbrev node_code : Coded Node
 node_code =
-    code_by (List (List ℕ × List (List ℕ))) (coded_list (coded× (coded_list coded_ℕ) (coded_list (coded_list coded_ℕ)))) (λ n. pairs_of n.props) (λ ps. record { props = props_of ps }) (λ n. ap (λ ps. record { props = ps }) (props_of-pairs_of n.props))
+    code_by (List (List ℕ × List (List ℕ)))
+    (coded_list (coded× (coded_list coded_ℕ) (coded_list (coded_list coded_ℕ))))
+    (λ n. pairs_of n.props) (λ ps. record { props = props_of ps })
+    (λ n. ap (λ ps. record { props = ps }) (props_of-pairs_of n.props))
 
 abbrev pub trees_code : Coded GameTrees
 trees_code =
-    code_by (List (Option (List Node))) (coded_list (coded_option (coded_list node_code))) (λ trees. spread trees []) (λ marks. first_of_all (gathered marks)) (λ trees. ap first_of_all (gathered-spread trees []))
+    code_by (List (Option (List Node))) (coded_list (coded_option (coded_list node_code)))
+    (λ trees. spread trees []) (λ marks. first_of_all (gathered marks))
+    (λ trees. ap first_of_all (gathered-spread trees []))

@@ -1,12 +1,15 @@
--- What the reader finds of all the bytes, for private clauses; and what an answer is beside want of memory.
-use Rattle.std.specs.Prelude.{◌≡◌, ℕ, ◌<◌, ◌≤◌, List, [], ◌∷◌, length, take, drop, Some, None, Result, Ok, Err, ◌⊎◌}
+-- What the reader finds of all the bytes, for private clauses; and what an answer is beside want of
+-- memory.
+use Rattle.std.specs.Prelude.{◌≡◌, ℕ, ◌<◌, ◌≤◌, List, [], ◌∷◌, length, take, drop, Some, None}
+use Rattle.std.specs.Prelude.{Result, Ok, Err, ◌⊎◌}
 use Rattle.sgf_tree.specs.declared.error.SgfError.{SgfError}
 use Rattle.sgf_tree.specs.declared.error.SgfError.TheVariants.{NotSgf, TooDeep, Memory}
 use Rattle.sgf_tree.specs.declared.reading.Reading.{Reading}
 use Rattle.sgf_tree.specs.Trees.{GameTrees}
 use Rattle.sgf_tree.specs.Grammar.{HasTree}
 use Rattle.sgf_tree.specs.Printing.{max_depth}
-use Rattle.sgf_tree.specs.Reading.{State, between, opened, in_node, in_name, after_name, in_value, escaped, after_value, step, run, begin, open_of, deepest_of}
+use Rattle.sgf_tree.specs.Reading.{State, between, opened, in_node, in_name, after_name, in_value}
+use Rattle.sgf_tree.specs.Reading.{escaped, after_value, step, run, begin, open_of, deepest_of}
 use Rattle.sgf_tree.specs.Standing.{state_of}
 
 -- the answer, unless memory ran out
@@ -25,9 +28,9 @@ IsFinal (escaped o props name values value) trees = ⊥
 IsFinal (after_value o props name values) trees = ⊥
 
 -- no byte follows, or one that can't stand there
-abbrev pub StopsAt : State → List ℕ → Type 0
-StopsAt s [] = Unit {0}
-StopsAt s (x ∷ bytes) = step s x ≡ None
+abbrev pub IsStuckAt : State → List ℕ → Type 0
+IsStuckAt s [] = Unit {0}
+IsStuckAt s (x ∷ bytes) = step s x ≡ None
 
 -- The state after these bytes, in which no more trees are or were open than may be.
 abbrev pub GoesTo : List ℕ → State → Type 0
@@ -36,7 +39,8 @@ GoesTo bytes s = (run begin bytes ≡ Some s) × (deepest_of s ≤ max_depth)
 abbrev pub Finds : List ℕ → Result Reading SgfError → Type 0
 Finds bytes (Ok reading) = GoesTo bytes (state_of reading)
 Finds bytes (Err (NotSgf at)) =
-    (s : State) × (at < length bytes) × GoesTo (take at bytes) s × StopsAt s (drop at bytes)
+    (s : State) × (at < length bytes) × GoesTo (take at bytes) s × IsStuckAt s (drop at bytes)
 Finds bytes (Err TooDeep) =
-    (n : ℕ) × (s : State) × (run begin (take n bytes) ≡ Some s) × (max_depth < length (open_of s).outer)
+    (n : ℕ) × (s : State) × (run begin (take n bytes) ≡ Some s)
+    × (max_depth < length (open_of s).outer)
 Finds bytes (Err Memory) = Unit {0}

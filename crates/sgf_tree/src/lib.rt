@@ -2,8 +2,8 @@
 //!
 //! **What it is.** SGF (smart game format, FF[4]) is text for games. A *collection* is one or more
 //! *trees*. A tree is a line of *nodes* and the *kids* that go on from its end, which are trees
-//! again. A node has *properties*: a name of capital letters, and *values*, which are bytes. Nothing
-//! here knows a game.
+//! again. A node has *properties*: a name of capital letters, and *values*, which are bytes.
+//! Nothing here knows a game.
 //!
 //! **A caller.** [`parse`] makes a [`Collection`] of bytes, whose parts `as_slice` lends. Each part
 //! is made by `of` from a vector, and [`print`] gives the text of a collection.
@@ -21,7 +21,8 @@
 //! **Limits.** Values are kept byte for byte but for the backslashes that the grammar drops; the
 //! conversion of white space and line breaks in text values is not done. Lower-case letters in
 //! names and text before the first parenthesis are refused. The reader holds its open trees in a
-//! list and does not recurse; `print`, and dropping a collection, recurse as deep as its trees nest.
+//! list and does not recurse; `print`, and dropping a collection, recurse as deep as its trees
+//! nest.
 #![tactic(auto)]
 
 mod error;
@@ -40,5 +41,6 @@ pub use laws::grammar_laws;
 pub use lists::{Bytes, Node, Nodes, Prop, Props, Values};
 pub use parsing::parse;
 pub use printing::print;
+pub use reading::is_white_space;
 pub use trees::{Collection, Tree, Trees};
 pub use want::Memory;

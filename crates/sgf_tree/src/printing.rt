@@ -4,7 +4,8 @@ ghost use Rattle.std.specs.Prelude.{◌≡◌, ◌≤◌, ◌++◌, ◌∷◌, [
 ghost use Rattle.sgf_tree.specs.Trees.{depth};
 ghost use Rattle.sgf_tree.specs.Grammar.{Text};
 ghost use Rattle.sgf_tree.specs.Rows.{row};
-ghost use Rattle.sgf_tree.specs.Printing.{byte_print, value_print, prop_print, node_print, trees_print, HasText, max_depth};
+ghost use Rattle.sgf_tree.specs.Printing.{byte_print, value_print, prop_print, node_print};
+ghost use Rattle.sgf_tree.specs.Printing.{trees_print, HasText, max_depth};
 
 use crate::lists::{Bytes, Node, Prop};
 use crate::trees::{Collection, Tree};

@@ -1,8 +1,9 @@
 //! The reader: what has been read so far, and one more byte.
 
 ghost use Rattle.std.specs.Prelude.{◌≡◌, [], ◌∷◌, Some, Err, OnOk, OnErr, IfSome, IfNone};
-ghost use Rattle.sgf_tree.specs.Grammar.{is_space, is_capital};
-ghost use Rattle.sgf_tree.specs.Reading.{begin, turn, go_on, add_node, add_prop, in_value, opened, open_tree, close_into};
+ghost use Rattle.sgf_tree.specs.Grammar.{is_white_space, is_capital};
+ghost use Rattle.sgf_tree.specs.Reading.{begin, turn, go_on, add_node, add_prop, in_value, opened};
+ghost use Rattle.sgf_tree.specs.Reading.{open_tree, close_into};
 ghost use Rattle.sgf_tree.specs.Trees.{GameTrees};
 ghost use Rattle.sgf_tree.specs.Verdict.{IsFinal};
 ghost use Rattle.sgf_tree.specs.Standing.{state_of, trees_of, Comes, Reads};
@@ -72,8 +73,9 @@ pub(crate) struct Reading {
     value: Vec<u8>,
 }
 
-fn is_space(byte: u8) -> bool
-    ensures { result ≡ is_space byte }
+/// Whether a byte is white space of SGF: one from 9 to 13, or a space.
+pub fn is_white_space(byte: u8) -> bool
+    ensures { result ≡ is_white_space byte }
 {
     (9 <= byte && byte <= 13) || byte == b' '
 }
@@ -140,7 +142,7 @@ impl Reading {
         requires { self.old.place ≡ Place.Between }
         ensures { Reads (state_of self.old) byte result (state_of self.new) }
     {
-        if is_space(byte) {
+        if is_white_space(byte) {
             return Ok(());
         }
         self.turn(byte)
@@ -150,7 +152,7 @@ impl Reading {
         requires { self.old.place ≡ Place.Opened }
         ensures { Reads (state_of self.old) byte result (state_of self.new) }
     {
-        if is_space(byte) {
+        if is_white_space(byte) {
             return Ok(());
         }
         if byte == b';' {
@@ -165,7 +167,7 @@ impl Reading {
         requires { self.old.place ≡ Place.InNode }
         ensures { Reads (state_of self.old) byte result (state_of self.new) }
     {
-        if is_space(byte) {
+        if is_white_space(byte) {
             return Ok(());
         }
         self.go_on(byte)
@@ -189,7 +191,7 @@ impl Reading {
         requires { self.old.place ≡ Place.AfterName }
         ensures { Reads (state_of self.old) byte result (state_of self.new) }
     {
-        if is_space(byte) {
+        if is_white_space(byte) {
             return Ok(());
         }
         if byte == b'[' {
@@ -233,7 +235,7 @@ impl Reading {
         requires { self.old.place ≡ Place.AfterValue }
         ensures { Reads (state_of self.old) byte result (state_of self.new) }
     {
-        if is_space(byte) {
+        if is_white_space(byte) {
             return Ok(());
         }
         if byte == b'[' {

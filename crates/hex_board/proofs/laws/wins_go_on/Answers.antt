@@ -5,10 +5,10 @@ pub returns-clause-joined : goal.returns-clause-joined
 returns-clause-joined c = joined_wins
 
 pub returns-clause-own : goal.returns-clause-own
-returns-clause-own c = own_wins
+returns-clause-own c = λ player p w. own_wins player p w.0 w.1 w.2
 
 pub returns-clause-other : goal.returns-clause-other
-returns-clause-other c = other_wins
+returns-clause-other c = λ player p w. other_wins player p w.0.0 w.0.1 w.1
 
 pub returns-clause-own_means : goal.returns-clause-own_means
 returns-clause-own_means c = own_means

@@ -5,7 +5,7 @@ use Rattle.clap.specs.Words.{fault_of, first_of, first_value, found_of, matches_
 use Rattle.clap.specs.declared.parser.matches.ArgMatches.{ArgMatches}
 use Rattle.hexd_words.specs.Command.{hexd_app}
 use Rattle.hexd_words.specs.Reading.{WellFormed}
-use Rattle.hexd_words.specs.Values.{AreOptions, Text, lone_hyphen}
+use Rattle.hexd_words.specs.Values.{AreOptions, TextBytes, lone_hyphen}
 use Rattle.hexd_words.specs.declared.settings.Options.{Options}
 use Rattle.hexd_words.proofs.NumberLemmas.{ranges_from}
 use Rattle.hexd_words.proofs.TextLemmas.{all_other}
@@ -14,7 +14,7 @@ use Rattle.hexd_words.proofs.WellLemmas.{well_clear, well_from, well_more, well_
 use Rattle.hexd_words.proofs.reading.read_words.Goals as goal
 
 -- no options where the words are not well formed
-none_well : (words : List Text) → ((o : Options) → WellFormed words o → ⊥) → (o : Options) → (let r : Option Options = None in r ≡ Some o) ↔ WellFormed words o
+none_well : (words : List TextBytes) → ((o : Options) → WellFormed words o → ⊥) → (o : Options) → (let r : Option Options = None in r ≡ Some o) ↔ WellFormed words o
 none_well words never o = ((λ same. cc), λ well. absurd (never o well))
 
 pub returns-then-has_lone_hyphen-clause-exact : goal.returns-then-has_lone_hyphen-clause-exact
@@ -31,8 +31,8 @@ returns-in-Some-clause-exact c =
     subst (λ (r : Option ArgMatches). MatchOption r (fault_of hexd_app words ≢ []) (λ m. (fault_of hexd_app words ≡ []) × (rows_of (found_of m) ≡ matches_of hexd_app words))) c.in-Some.is c.in_ok-matches.ensures in
     let same : first_value (found_of c.in-Some.matches) ≡ (λ name. first_of name (matches_of hexd_app words)) = values_by_rows (found_of c.in-Some.matches) _ met.1 in
     IfOk-weaker c.options_of.result _ _ (λ r h o. (
-      (λ is. well_from words o (all_other words text alone) met.0 (subst (λ (value : Text → Option Text). AreOptions value o) same ((h o).0 is))),
-      (λ well. (h o).1 (subst (λ (value : Text → Option Text). AreOptions value o) (sym same) (well_values words o well))),
+      (λ is. well_from words o (all_other words text alone) met.0 (subst (λ (value : TextBytes → Option TextBytes). AreOptions value o) same ((h o).0 is))),
+      (λ well. (h o).1 (subst (λ (value : TextBytes → Option TextBytes). AreOptions value o) (sym same) (well_values words o well))),
     )) c.options_of.ensures
 
 pub returns-in-None-clause-exact : goal.returns-in-None-clause-exact

@@ -1,7 +1,7 @@
 use Rattle.std.proofs.Common.{◌≡◌, ℕ, ◌≤◌, ◌||◌, Bool, true, false, List, Some, None, ap, ◌∙◌, arith}
 use Rattle.std.specs.Prelude.{codes}
 use Rattle.sgf_tree.specs.declared.lists.Node.{Node}
-use Rattle.sgf_game.specs.Lines.{seen}
+use Rattle.sgf_game.specs.Lines.{nodes_lent}
 use Rattle.sgf_game.specs.Values.{values_named}
 use Rattle.sgf_game.specs.Setup.{cells_named, with_cells, set_up_cells, are_misplaced, is_changed_late}
 use Rattle.sgf_game.specs.Placing.{placed_on}
@@ -34,13 +34,13 @@ placed n s b w root h z e f =
 pub returns-in_err-black : goal.returns-in_err-black
 returns-in_err-black c =
     let small : c.args.size ≤ 11 = grind arith in
-    let late : is_changed_late c.args.root.now (seen c.args.behind.now) ≡ false = grind arith in
+    let late : is_changed_late c.args.root.now (nodes_lent c.args.behind.now) ≡ false = grind arith in
     rw c.from_residual.ensures (late_or _ _ true late (black_refused c.args.size c.none.result c.args.root.now small c.none.ensures.value c.in_err-black.ensures))
 
 pub returns-in_err-white : goal.returns-in_err-white
 returns-in_err-white c =
     let small : c.args.size ≤ 11 = grind arith in
-    let late : is_changed_late c.args.root.now (seen c.args.behind.now) ≡ false = grind arith in
+    let late : is_changed_late c.args.root.now (nodes_lent c.args.behind.now) ≡ false = grind arith in
     rw c.from_residual-in_err-white.ensures (late_or _ _ true late
     (white_refused c.args.size c.none.result c.in_ok-black.black c.args.root.now small c.none.ensures.value c.in_ok-black.ensures c.in_err-white.ensures))
 
@@ -53,7 +53,7 @@ of-requires c =
 pub returns : goal.returns
 returns c =
     let small : c.args.size ≤ 11 = grind arith in
-    let late : is_changed_late c.args.root.now (seen c.args.behind.now) ≡ false = grind arith in
+    let late : is_changed_late c.args.root.now (nodes_lent c.args.behind.now) ≡ false = grind arith in
     let both = placed c.args.size c.none.result c.in_ok-black.black c.in_ok-white.white c.args.root.now small c.none.ensures.value c.in_ok-black.ensures c.in_ok-white.ensures in (
       late_or _ _ false late both.fine,
       c.of.ensures ∙ ap (λ b. record { size = c.args.size; black = b; white = c.in_ok-white.white }) both.black
