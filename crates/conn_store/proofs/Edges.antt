@@ -9,12 +9,11 @@ use Rattle.hex_board.specs.Groups.{Links}
 use Rattle.hex_board.specs.Joined.{Joined, Path, last_of}
 use Rattle.hex_board.specs.Places.{Place, at_cell, at_edge, Beside, IsMember, Route, last_place}
 use Rattle.hex_board.specs.Positions.{Within, stones_of}
-use Rattle.hex_board.proofs.Parts.{zero_out, one_out, tied_stone}
+use Rattle.hex_board.proofs.Parts.{high_apart, zero_out, one_out, tied_stone}
 use Rattle.hex_board.proofs.Roots.{turned_link, links_through}
 use Rattle.hex_board.proofs.Search.{leads_out, joined_out}
 use Rattle.conn_store.specs.Laws.{IsSubset}
 use Rattle.conn_store.specs.Links.{MayPass, AreLinked}
-use Rattle.conn_store.proofs.Ways.{first_alone}
 
 more_path : (n s t a : ℕ) (xs : List ℕ) → IsSubset s t → Path n s a xs → Path n t a xs
 more_path n s t a [] f p = f a p
@@ -61,7 +60,7 @@ first_cell : (e : PlayerBoard) (k : ℕ) → Within e.board.size (stones_of e.bo
 first_cell e k on j h = elim (zero_out e k on h) [ inl t ↦ t | inr t ↦ absurd (both_ways (are_joined e) j t.0) ]
 
 second_cell : (e : PlayerBoard) (k : ℕ) → Within e.board.size (stones_of e.board e.player) → are_joined e ≡ false → HasCell e (edge_element e true) k → is_tied e true k ≡ true
-second_cell e k on j h = one_out e k on j (h ∙ ap_some (first_alone (are_joined e) j))
+second_cell e k on j h = one_out e k on j (h ∙ ap_some (high_apart (are_joined e) j))
   where
     ap_some : {a b : ℕ} → a ≡ b → Some a ≡ Some b
     ap_some q = ap Some q
@@ -77,7 +76,7 @@ last_ends : (e : PlayerBoard) (t : ℕ) (q : Place) → Within e.board.size (sto
     → IsMember e (edge_element e true) q → Ends e.board.size e.player t q
 last_ends e t (at_cell k) on f j h = inl (tied_path e true t k f (second_cell e k on j h))
 last_ends e t (at_edge true) on f j h = tt
-last_ends e t (at_edge false) on f j h = absurd (apart (h ∙ first_alone (are_joined e) j))
+last_ends e t (at_edge false) on f j h = absurd (apart (h ∙ high_apart (are_joined e) j))
   where
     apart : ◌≡◌ {A = ℕ} 0 1 → ⊥
     apart q = absurd (omega arith)
@@ -96,7 +95,7 @@ first_ends e t (at_cell k) on f j h (inl w) =
     let l = tied_path e false t k f (first_cell e k on j h) in
     meet_there e.board.size e.player t k l.0 l.1 l.2 w
 first_ends e t (at_edge false) on f j h w = w
-first_ends e t (at_edge true) on f j h w = absurd (apart (sym h ∙ first_alone (are_joined e) j))
+first_ends e t (at_edge true) on f j h w = absurd (apart (sym h ∙ high_apart (are_joined e) j))
   where
     apart : ◌≡◌ {A = ℕ} 0 1 → ⊥
     apart q = absurd (omega arith)

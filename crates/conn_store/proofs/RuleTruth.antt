@@ -1,5 +1,5 @@
 -- What the four rules give is true where what it follows from is true.
-use Rattle.std.proofs.Common.{◌≡◌, ℕ, ◌+◌, ◌*◌, ◌<◌, ◌≤◌, ◌&&◌, min, max, mul-le-mul, bit_or, true, Bool, List, [], ◌∷◌, take, Some, All, sym, subst, inl, inr, ◌⊎◌, suc, arith}
+use Rattle.std.proofs.Common.{◌≡◌, ℕ, ◌+◌, ◌<◌, ◌&&◌, min, max, bit_or, true, Bool, List, [], ◌∷◌, take, Some, All, sym, subst, inl, inr, ◌⊎◌, suc, arith}
 use Rattle.std.specs.List.{slice_get}
 use Rattle.std.proofs.lemmas.Bool.{cases_lt, both_ways, false_from_ne_true}
 use Rattle.std.proofs.lemmas.List.Elements.{All-head, All-tail, All-nil, All-cons}
@@ -7,6 +7,7 @@ use Rattle.hex_cells.specs.Sets.{has, members, with_cell}
 use Rattle.hex_board.specs.Elements.{PlayerBoard, HasCell}
 use Rattle.hex_board.specs.Positions.{Apart, stones_of, is_empty_at}
 use Rattle.hex_cells.proofs.WithCell.{with_cell-here, with_cell-keeps}
+use Rattle.hex_cells.proofs.Tables.{board_cell}
 use Rattle.hex_board.proofs.Placed.{empty_on}
 use Rattle.conn_store.specs.Entries.{IsBetween, IsTrueEntry, IsValid, Misses}
 use Rattle.conn_store.specs.Index.{IsSmall}
@@ -46,11 +47,8 @@ between_back e n kind a x y s c h g = elim (least_first x y a.x a.y h.0 h.1) [
 
 -- ---- carriers
 
-pub few_cells : (n k : ℕ) → n ≤ 11 → k < n * n → k < 121
-few_cells n k h l = let m : n * n ≤ 11 * 11 = mul-le-mul h h in omega arith
-
 pub cell_small : (e : PlayerBoard) (k : ℕ) → IsSmall e → is_empty_at e.board k ≡ true → k < 121
-cell_small e k m h = few_cells e.board.size k m.size (empty_on e.board k h)
+cell_small e k m h = board_cell e.board.size k m.size (empty_on e.board k h)
 
 carrier_small : (e : PlayerBoard) (a : Entry) → IsSmall e → IsValid e a → (k : ℕ) → has a.carrier k ≡ true → k < 121
 carrier_small e a m v k h = cell_small e k m (v.empty k h)

@@ -1,5 +1,5 @@
 -- Paths of places: between elements, and inside a group.
-use Rattle.std.proofs.Common.{◌≡◌, ℕ, ◌*◌, ◌+◌, ◌<◌, if◌then◌else◌, true, false, Bool, List, [], ◌∷◌, Some, refl, sym, ◌∙◌, ap, subst, inl, inr, ◌⊎◌, arith}
+use Rattle.std.proofs.Common.{◌≡◌, ℕ, ◌*◌, ◌+◌, ◌<◌, true, false, Bool, List, [], ◌∷◌, Some, refl, sym, ◌∙◌, ap, subst, inl, inr, ◌⊎◌, arith}
 use Rattle.std.proofs.lemmas.Bool.{cases_Bool}
 use Rattle.hex_cells.specs.Sets.{has}
 use Rattle.hex_cells.specs.Edges.{on_edge}
@@ -10,7 +10,7 @@ use Rattle.hex_board.specs.Joined.{Path, last_of}
 use Rattle.hex_board.specs.Places.{Place, at_cell, at_edge, Beside, IsMember, Near, Route, last_place}
 use Rattle.hex_board.specs.Positions.{Within, stones_of, is_empty_at}
 use Rattle.hex_board.proofs.GroupLaws.{one_element}
-use Rattle.hex_board.proofs.Parts.{link_out, zero_out, one_out, case_of, is_free, is_first, is_second, is_group, is_other, linked_last, tied_stone, edge_below, of_free}
+use Rattle.hex_board.proofs.Parts.{high_apart, joined_low, low_joined, link_out, zero_out, one_out, case_of, is_free, is_first, is_second, is_group, is_other, linked_last, tied_stone, edge_below, of_free}
 use Rattle.hex_board.proofs.Places.{beside_back, empty_alone}
 use Rattle.hex_board.proofs.Search.{leads_out, joined_out}
 use Rattle.conn_store.specs.Laws.{IsSubset}
@@ -102,16 +102,6 @@ own_cell e u k on h = elim (case_of e k on) [
   | is_other f g l m t ↦ absurd (cc)
 ]
 
-pub first_alone : (j : Bool) → j ≡ false → ◌≡◌ {A = ℕ} (if j then 0 else 1) 1
-first_alone j h = rw h refl
-
-pub both_first : (j : Bool) → j ≡ true → ◌≡◌ {A = ℕ} (if j then 0 else 1) 0
-both_first j h = rw h refl
-
-same_first : (j : Bool) → ◌≡◌ {A = ℕ} (if j then 0 else 1) 0 → j ≡ true
-same_first true h = refl
-same_first false h = absurd (omega arith)
-
 -- a path of own stones from a cell of the element that holds an edge
 to_edge : (e : PlayerBoard) (u a : ℕ) (second : Bool) → Within e.board.size (stones_of e.board e.player) → HasCell e u a → edge_element e second ≡ u
     → OwnWay e (at_cell a) (at_edge second)
@@ -121,18 +111,18 @@ to_edge e u a false on h q = elim (zero_out e a on (h ∙ ap Some (sym q))) [
       (way_back e.board.size e.player (Own e) (at_edge false) (at_edge true) (edges_way e t.0))
 ]
 to_edge e u a true on h q = elim (cases_Bool (are_joined e)) [
-  | inl j ↦ elim (zero_out e a on (h ∙ ap Some (sym q ∙ both_first (are_joined e) j))) [
+  | inl j ↦ elim (zero_out e a on (h ∙ ap Some (sym q ∙ low_joined (are_joined e) j))) [
     | inl t ↦ way_through e.board.size e.player (Own e) (at_cell a) (at_edge false) (at_edge true) (tied_way e false a t) (edges_way e j)
     | inr t ↦ tied_way e true a t.1
   ]
-  | inr j ↦ tied_way e true a (one_out e a on j (h ∙ ap Some (sym q ∙ first_alone (are_joined e) j)))
+  | inr j ↦ tied_way e true a (one_out e a on j (h ∙ ap Some (sym q ∙ high_apart (are_joined e) j)))
 ]
 
 edge_to_edge : (e : PlayerBoard) (s t : Bool) → edge_element e s ≡ edge_element e t → OwnWay e (at_edge s) (at_edge t)
 edge_to_edge e false false q = way_here e.board.size e.player (Own e) (at_edge false) tt
 edge_to_edge e true true q = way_here e.board.size e.player (Own e) (at_edge true) tt
-edge_to_edge e false true q = edges_way e (same_first (are_joined e) (sym q))
-edge_to_edge e true false q = way_back e.board.size e.player (Own e) (at_edge false) (at_edge true) (edges_way e (same_first (are_joined e) q))
+edge_to_edge e false true q = edges_way e (joined_low (are_joined e) (sym q))
+edge_to_edge e true false q = way_back e.board.size e.player (Own e) (at_edge false) (at_edge true) (edges_way e (joined_low (are_joined e) q))
 
 -- two places of a group hang together through own stones and edges
 pub group_way : (e : PlayerBoard) (u : ℕ) (p q : Place) → Within e.board.size (stones_of e.board e.player)

@@ -5,6 +5,7 @@ use Rattle.std.specs.List.{slice_get}
 use Rattle.hex_cells.specs.Sets.{has}
 use Rattle.hex_cells.specs.declared.colours.Colour.{Colour}
 use Rattle.hex_board.specs.Elements.{PlayerBoard, element_count}
+use Rattle.hex_board.specs.declared.numbering.TheConstants.{MOST_ELEMENTS}
 use Rattle.hex_board.specs.Positions.{Position, Within, stones_of}
 use Rattle.conn_store.specs.Stores.{StoreData, IsSound, AreFew, held_of, most_of, numbers_of}
 use Rattle.conn_store.specs.declared.entries.Entry.{Entry}
@@ -42,7 +43,7 @@ total_of table = sum_by (λ (h : Held). h.count) table
 pub record IsSmall (e : PlayerBoard) : Type 0 where
   pub size : e.board.size ≤ 11
   pub stones : Within e.board.size (stones_of e.board e.player)
-  pub count : element_count e ≤ 123
+  pub count : element_count e ≤ MOST_ELEMENTS
 
 -- what a store keeps: the board and the player of its elements, sound entries, the two tables,
 -- and room for all entries

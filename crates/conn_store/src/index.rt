@@ -4,11 +4,12 @@ ghost use Rattle.std.specs.Prelude.{◌≡◌, ℕ, ◌+◌, ◌<◌, ◌≤◌,
 ghost use Rattle.conn_store.specs.Index.{AnyInside, number_of_pair, pairs_among};
 
 use super::entries::{Entry, Held};
+use hex_board::MOST_ELEMENTS;
 use hex_cells::CellSet;
 
 /// How many pairs so many elements make.
 pub(crate) fn pair_count(elements: u32) -> usize
-    requires { elements ≤ 123 }
+    requires { elements ≤ MOST_ELEMENTS }
     ensures value { result ≡ pairs_among elements }
     ensures range { result ≤ 7503 }
 {

@@ -38,7 +38,8 @@ SettlesOr d ways x y = OrRule ways x y → IsSettled d Full x y (union_of ways)
 -- each pair that lies side by side has an entry with the empty carrier, and what the rules of AND
 -- and OR give of entries of the store is settled
 pub record IsRuleClosed (d : StoreData) : Type 0 where
-  pub near : (x y : ℕ) → x < y → y < element_count d.elements → Near d.elements x y → IsCovered d Full x y 0
+  pub near : (x y : ℕ) → x < y → y < element_count d.elements → Near d.elements x y
+      → IsCovered d Full x y 0
   pub ands : (a b : Entry) (x u y : ℕ) → IsKept d a → IsKept d b → SettlesAnd d a b x u y
   pub ors : (ways : List Entry) (x y : ℕ) → All (IsKept d) ways → SettlesOr d ways x y
 

@@ -30,7 +30,8 @@ IsJoinedTo d i j u y =
 
 -- what the rule of OR gives of the entries with these numbers is answered
 abbrev pub IsChosen : StoreData → List ℕ → Type 0
-IsChosen d numbers = (ways : List Entry) (x y : ℕ) → AreAt d.entries numbers ways → SettlesOr d ways x y
+IsChosen d numbers =
+    (ways : List Entry) (x y : ℕ) → AreAt d.entries numbers ways → SettlesOr d ways x y
 
 -- what the rules give of entry n and of entries up to it is answered
 pub record IsCombined (d : StoreData) (n : ℕ) : Type 0 where

@@ -140,7 +140,8 @@ fn choose_with(store: &mut Store, number: u32, held: &Held, place: usize)
         → slice_index held.now.at p < length store.old.entries }
     ensures extends { Extends store.old store.new }
     ensures chosen { (q : ℕ) → q < place
-        → IsChosen store.new (number ∷ slice_index held.now.at place ∷ slice_index held.now.at q ∷ []) }
+        → IsChosen store.new
+        (number ∷ slice_index held.now.at place ∷ slice_index held.now.at q ∷ []) }
 {
     'thirds: for other in 0..place {
         choose_three(store, number, held.at[place], held.at[other]);
