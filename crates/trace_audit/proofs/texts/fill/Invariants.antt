@@ -1,4 +1,4 @@
-use Rattle.std.proofs.Common.{◌≡◌, ◌*◌, ◌≤◌, length, take, vec_capacity, vec_len}
+use Rattle.std.proofs.Common.{◌≡◌, ◌*◌, ◌≤◌, take, vec_capacity, vec_len}
 use Rattle.trace_audit.specs.Traces.{bytes_of}
 use Rattle.trace_audit.proofs.texts.fill.Given as goal
 
