@@ -16,7 +16,9 @@
 //!
 //! **What is proved.** Where the link tells what it was given, a turn that was taken gave it exactly
 //! its trace more. A fault comes only where the count of the link's writes at fault rose, and then
-//! it was given a front of the trace that is not all of it.
+//! it was given a front of the trace that is not all of it. What is read from the text of a closed
+//! tree is a closed tree again ([`traces_tell_closed_trees`]): the words that are not written count
+//! as 0.
 //!
 //! **What is only tested, or not said.** That the archive gets the memory for its buffer.
 //!
@@ -25,11 +27,13 @@
 #![tactic(auto)]
 
 mod archives;
+mod laws;
 mod refusals;
 #[cfg(test)]
 mod tests;
 mod texts;
 
 pub use archives::TraceArchive;
+pub use laws::traces_tell_closed_trees;
 pub use refusals::Memory;
 pub use texts::BUFFER_BYTES;
