@@ -1,0 +1,5 @@
+pub mod Gives
+pub mod Pieces
+pub mod Parts
+pub mod SameWords
+pub mod Reading

@@ -1,0 +1,5 @@
+use Rattle.trace_audit.proofs.Reading.{tells_closed}
+use Rattle.trace_audit.proofs.laws.traces_tell_closed_trees.Goals as goal
+
+pub returns : goal.returns
+returns c = tells_closed

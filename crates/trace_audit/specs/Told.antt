@@ -1,0 +1,27 @@
+-- What a text tells: the tree that is read from it.
+use Rattle.std.specs.Prelude.{◌≡◌, ℕ, ◌≤◌, ◌<◌, ◌^◌, List, ◌++◌, length, slice_index}
+use Rattle.tree_words.specs.Closing.{ClosedTree, IsClosed}
+use Rattle.tree_words.specs.Settings.{IsSetting}
+use Rattle.tree_words.specs.Words.{area_at, end_of}
+use Rattle.trace_audit.specs.Traces.{text_of, written}
+
+-- each word is a 64-bit number
+abbrev pub AreWords : List ℕ → Type 0
+AreWords words = (i : ℕ) → slice_index words i < 2 ^ 64
+
+-- a tree as a text tells it: the shape is one that can be searched, the words are 64-bit numbers
+-- and as many as the shape has, those in front of the block area are written, and those that are
+-- not written are 0
+pub record IsTold (tree : ClosedTree) : Type 0 where
+  pub shape : IsSetting tree.shape
+  pub words : AreWords tree.words
+  pub long : length tree.words ≡ end_of tree.shape
+  pub front : area_at tree.shape ≤ written tree.words
+  pub rest : (i : ℕ) → written tree.words ≤ i → slice_index tree.words i ≡ 0
+
+-- the bytes are the text of a tree that is told by them and is closed
+pub record TellsClosed (bytes : List ℕ) : Type 0 where
+  pub tree : ClosedTree
+  pub told : IsTold tree
+  pub closed : IsClosed tree.shape tree.words
+  pub text : bytes ≡ text_of tree

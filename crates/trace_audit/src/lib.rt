@@ -1,0 +1,39 @@
+//! Traces of closed trees.
+//!
+//! **Nouns.** The *trace* of a turn are the bytes that its closed tree is written as: a name of
+//! eight bytes, fields that tell the shape, and the words of the tree that are below NEXT. It is
+//! empty where the turn has no closed tree. A [`TraceArchive`] is an archive over a link, to which
+//! it writes the trace of each turn that it takes.
+//!
+//! **A caller** makes the archive over a link of its own, hands it to whoever makes turns, and takes
+//! the link back at the end:
+//!
+//! ```text
+//! let mut archive = TraceArchive::make(alloc, FileLink::new(rt, name))?;
+//! archive.take(turn)?;
+//! let link = archive.into_link();
+//! ```
+//!
+//! **What is proved.** Where the link tells what it was given, a turn that was taken gave it exactly
+//! its trace more. A fault comes only where the count of the link's writes at fault rose, and then
+//! it was given a front of the trace that is not all of it. What is read from the text of a closed
+//! tree is a closed tree again ([`traces_tell_closed_trees`]): the words that are not written count
+//! as 0.
+//!
+//! **What is only tested, or not said.** That the archive gets the memory for its buffer.
+//!
+//! **Limits.** Only `make` takes memory, for a buffer of [`BUFFER_BYTES`] bytes. A trace has at most
+//! 128 bytes and eight for each word of the tree.
+#![tactic(auto)]
+
+mod archives;
+mod laws;
+mod refusals;
+#[cfg(test)]
+mod tests;
+mod texts;
+
+pub use archives::TraceArchive;
+pub use laws::traces_tell_closed_trees;
+pub use refusals::Memory;
+pub use texts::BUFFER_BYTES;

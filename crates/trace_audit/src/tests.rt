@@ -1,0 +1,103 @@
+//! What no clause says: the trace of one playout, and a write that fails.
+
+ghost use Rattle.std.specs.Prelude.{IfSome};
+ghost use Rattle.tree_words.specs.Settings.{AreEmpty, IsAny};
+
+use super::TraceArchive;
+use hex_board::Board;
+use hex_cells::{CellSet, Colour, Size};
+use hex_io::MemLink;
+use hex_plan::{Archive, ArchiveFault, Turn};
+use seq_search::plain_search;
+use std::alloc::Global;
+use std::test::Fail;
+use tree_words::{Knobs, Shape};
+
+// The words of the trace behind its name: the fields, and then the tree of one playout on the empty
+// board of size 2, which went to a1 and which White won. The search of one worker draws one number;
+// the tally of the root is 2^32 + 1.
+const ONE_PLAYOUT: [u64; 42] = [
+    2, 0, 0, 0, 0, 0, 15, 0, 1, 1, 0, 65536, 8, 180, 27, 27, 1, 23, 0, 7, 4294967297, 0, 3, 15, 0,
+    4, 0, 0, 4294967296, 4294967296, 257, 0, 0, 0, 514, 0, 0, 0, 771, 0, 0, 4294967296,
+];
+
+// The empty cells of the board, where it has one.
+fn some_empties(board: &Board) -> Option<CellSet>
+    ensures { IfSome result (λ set. IsAny set × AreEmpty set board.now) }
+{
+    let all = board.empties();
+    all.least()?;
+    Some(all)
+}
+
+// The first turn of Black on the empty board of size 2, after one playout.
+fn one_playout(alloc: Global) -> Result<Turn, Fail> {
+    let size = Size::of(2).ok_or("a size")?;
+    let board = Board::of(size, CellSet::none(), CellSet::none());
+    let allowed = some_empties(&board).ok_or("an empty cell")?;
+    let knobs = Knobs {
+        workers: 1,
+        playouts: 1,
+        seed: 0,
+        words: 65_536,
+        expand: 8,
+        weight: 180,
+    };
+    let shape = Shape::make(&board, Colour::Black, allowed, &knobs);
+    let Ok(closed) = plain_search(alloc, &shape) else {
+        return Err(Fail::from("memory"));
+    };
+    Ok(Turn::of(closed, 0))
+}
+
+// The trace of one playout, byte by byte.
+fn wanted(alloc: Global) -> Result<Vec<u8>, Fail> {
+    let mut bytes = b"HEXTREE1".to_vec(alloc)?;
+    for word in ONE_PLAYOUT {
+        bytes.extend_from_slice(&word.to_le_bytes())?;
+    }
+    Ok(bytes)
+}
+
+// A link that takes at most so many bytes, a hundred at a time.
+fn link(alloc: Global, room: usize) -> Result<MemLink, Fail> {
+    let none = Vec::new(alloc);
+    match MemLink::make(alloc, Vec::new(alloc), 100, room, 0, none, Vec::new(alloc)) {
+        Ok(link) => Ok(link),
+        Err(_) => Err(Fail::from("memory")),
+    }
+}
+
+// Two turns of one playout: both traces stand one behind the other.
+#[test]
+fn writes_the_trace_of_each_turn(rt: HostRuntime) -> Result<(), Fail> {
+    let alloc = rt.alloc();
+    let Ok(mut archive) = TraceArchive::make(alloc, link(alloc, 1_000)?) else {
+        return Err(Fail::from("memory"));
+    };
+    assert!(rt; archive.take(one_playout(alloc)?) == Ok(()));
+    assert!(rt; archive.take(one_playout(alloc)?) == Ok(()));
+    let out = archive.into_link();
+    let trace = wanted(alloc)?;
+    assert_eq!(rt; trace.len(), 344);
+    assert_eq!(rt; out.given().len(), 688);
+    assert!(rt; out.given().get(..344) == Some(trace.as_slice()));
+    assert!(rt; out.given().get(344..) == Some(trace.as_slice()));
+    Ok(())
+}
+
+// There is room for so many bytes: a front of the trace is given, and the archive is at fault.
+#[test]
+fn a_write_that_fails_leaves_a_front(rt: HostRuntime) -> Result<(), Fail> {
+    let alloc = rt.alloc();
+    let trace = wanted(alloc)?;
+    for room in [0, 8, 50, 128, 343] {
+        let Ok(mut archive) = TraceArchive::make(alloc, link(alloc, room)?) else {
+            return Err(Fail::from("memory"));
+        };
+        assert!(rt; archive.take(one_playout(alloc)?) == Err(ArchiveFault));
+        let out = archive.into_link();
+        assert!(rt; Some(out.given()) == trace.get(..room));
+    }
+    Ok(())
+}
