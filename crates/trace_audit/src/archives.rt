@@ -3,7 +3,7 @@
 ghost use Rattle.std.specs.Prelude.{◌≡◌, OnOk, OnErr, IfOk, None};
 ghost use Rattle.hex_io.specs.Causes.{HasCause};
 ghost use Rattle.hex_io.specs.Grew.{Gave, GaveProperPart};
-ghost use Rattle.hex_plan.specs.Archived.{Takes};
+ghost use Rattle.hex_plan.specs.Archived.{Archives};
 ghost use Rattle.trace_audit.specs.Traces.{trace_of};
 
 use super::refusals::Memory;
@@ -58,7 +58,7 @@ impl<W: Link> Archive for TraceArchive<W> {
     ghost faults = { λ a. W.write_faults a };
 
     fn take(&mut self, turn: Turn) -> Result<(), ArchiveFault>
-        ensures told { Takes None None result turn }
+        ensures told { Archives None None result turn }
         ensures cause { HasCause (W.write_faults self.old) (W.write_faults self.new) result }
         ensures all { OnOk result (Gave (W.told self.old) (W.told self.new) (trace_of turn)) }
         ensures proper { OnErr result
