@@ -1,42 +1,32 @@
 -- The closed tree: what holds of a state with one seat left, whose workers have all ended.
-use Rattle.std.proofs.Common.{◌≡◌, ◌≢◌, ℕ, zero, suc, ◌+◌, ◌*◌, ◌<◌, ◌≤◌, Bool, true, false, cond, List, [], ◌∷◌, set, Option, None, refl, sym, ap, ◌∙◌, subst, arith}
-use Rattle.std.specs.Prelude.{◌==◌, ◌&&◌, not, slice_index, sum_by, Contains}
+use Rattle.std.proofs.Common.{◌≡◌, ◌≢◌, ℕ, ◌+◌, ◌*◌, ◌≤◌, Bool, true, false, cond, List, [], ◌∷◌, Option, refl, sym, ap, ◌∙◌, subst, arith}
+use Rattle.std.specs.Prelude.{◌==◌, ◌&&◌, not, slice_index, sum_by}
 use Rattle.std.specs.List.{filter}
 use Rattle.std.proofs.Math.Nat.{mul-le-mul_left}
-use Rattle.std.proofs.lemmas.Bool.Decides.{nat_tests}
 use Rattle.std.proofs.lemmas.List.Sums.{sum_by-cons}
-use mathlib.Core.Option.{some}
-use lib.ListN.{get_elem?}
 use Rattle.hex_cells.specs.Sets.{has as has_cell}
 use Rattle.hex_board.specs.Positions.{stones_of}
 use Rattle.hex_board.specs.Wins.{is_same}
-use Rattle.tree_words.specs.Settings.{Setting}
-use Rattle.tree_words.specs.Words.{Count, root_at, next_in, ticket_in, record_in, leaf_in, winner_in, count_in, visits_in, wins_in}
-use Rattle.tree_words.specs.Blocks.{LinkedBlock, In, one_if, has_node, place, cell_at, is_node, link_of, size}
+use Rattle.tree_words.specs.Words.{Count, root_at, record_in, leaf_in, winner_in, count_in}
+use Rattle.tree_words.specs.Blocks.{LinkedBlock, one_if, place, cell_at, is_node, link_of, size}
 use Rattle.tree_words.specs.Paths.{node_state, mover_of, is_on, enters}
-use Rattle.tree_words.specs.Complete.{Linked}
 use Rattle.tree_words.specs.Sequence.{outcome_of, amount_of}
 use Rattle.tree_words.specs.Records.{leaf_of, outcome_in, Recorded}
 use Rattle.tree_words.specs.Counts.{count_below, is_seen, Exact}
 use Rattle.tree_words.specs.Growth.{other_words, Grown}
 use Rattle.tree_words.specs.Closing.{KeepsEnds, IsClosed}
-use Rattle.tree_words.specs.declared.layout.TheConstants.{TALLY_WORD, SEEN_WORD, VISIT}
-use Rattle.tree_words.proofs.Blocks.GameLaws.{in-node, whole-in}
-use Rattle.tree_words.proofs.Blocks.BlockLaws.{has-at}
-use Rattle.arena_rule.specs.Views.{SeatView, Walked, HasEnded, spent_view}
+use Rattle.tree_words.specs.declared.layout.TheConstants.{TALLY_WORD, SEEN_WORD}
+use Rattle.tree_words.proofs.Blocks.GameLaws.{in-node}
+use Rattle.arena_rule.specs.Views.{SeatView, HasEnded}
 use Rattle.arena_rule.specs.Adds.{walk_adds, amount_at, tally_amount}
 use Rattle.arena_rule.specs.Lookups.{adds_made}
-use Rattle.arena_rule.specs.Parts.{width_of, ended_of, full_width, times_drawn, value_noted, in_hand, amount_counted, IsRight}
+use Rattle.arena_rule.specs.Parts.{ended_of, full_width, amount_counted, IsRight}
 use Rattle.arena_rule.specs.Bounds.{words_held, claimed_of}
-use Rattle.arena_rule.specs.Closed.{HasAllWalks}
 use Rattle.arena_rule.proofs.Before.{Before}
-use Rattle.arena_rule.proofs.Totals.{total_set, total_two, total_none, each-set}
 use Rattle.arena_rule.proofs.Below.{sum_below, below_same, below_ones}
-use Rattle.arena_rule.proofs.Numbers.{times_walked, value_walked, walked-cons, value-cons, value-none, due}
 use Rattle.arena_rule.proofs.ByNumber.{FoundWalk, find-walk}
 use Rattle.arena_rule.proofs.AddLaws.{tally-amount, seen-amount}
 use Rattle.arena_rule.proofs.SumsLinked.{walks-same}
-use Rattle.arena_rule.proofs.SeatsNumbers.{ended-idle}
 use Rattle.arena_rule.proofs.Loaded.{on-linked}
 use Rattle.arena_rule.proofs.CountSums.{sum-counts, count-sum, one-most, count-is}
 use Rattle.arena_rule.proofs.LastSeat.{only, idle, drawn, all-walks, value, by-record, count-record}

@@ -1,43 +1,21 @@
 -- The last seat, whose workers have all ended: its walks are those of all playouts.
-use Rattle.std.proofs.Common.{◌≡◌, ◌≢◌, ℕ, zero, suc, ◌+◌, ◌*◌, ◌<◌, ◌≤◌, Bool, true, false, cond, List, [], ◌∷◌, set, Option, None, refl, sym, ap, ◌∙◌, subst, arith}
-use Rattle.std.specs.Prelude.{◌==◌, ◌&&◌, not, slice_index, sum_by, Contains}
-use Rattle.std.specs.List.{filter}
-use Rattle.std.proofs.Math.Nat.{mul-le-mul_left}
+use Rattle.std.proofs.Common.{◌≡◌, ◌≢◌, ℕ, ◌<◌, ◌≤◌, Bool, cond, List, set, None, refl, sym, ap, ◌∙◌, arith}
+use Rattle.std.specs.Prelude.{sum_by}
 use Rattle.std.proofs.lemmas.Bool.Decides.{nat_tests}
-use Rattle.std.proofs.lemmas.List.Sums.{sum_by-cons}
 use mathlib.Core.Option.{some}
 use lib.ListN.{get_elem?}
-use Rattle.hex_cells.specs.Sets.{has as has_cell}
-use Rattle.hex_board.specs.Positions.{stones_of}
-use Rattle.hex_board.specs.Wins.{is_same}
-use Rattle.tree_words.specs.Settings.{Setting}
-use Rattle.tree_words.specs.Words.{Count, root_at, next_in, ticket_in, record_in, leaf_in, winner_in, count_in, visits_in, wins_in}
-use Rattle.tree_words.specs.Blocks.{LinkedBlock, In, one_if, has_node, place, cell_at, is_node, link_of, size}
-use Rattle.tree_words.specs.Paths.{node_state, mover_of, is_on, enters}
-use Rattle.tree_words.specs.Complete.{Linked}
-use Rattle.tree_words.specs.Sequence.{outcome_of, amount_of}
-use Rattle.tree_words.specs.Records.{leaf_of, outcome_in, Recorded}
-use Rattle.tree_words.specs.Counts.{count_below, is_seen, Exact}
-use Rattle.tree_words.specs.Growth.{other_words, Grown}
-use Rattle.tree_words.specs.Closing.{KeepsEnds, IsClosed}
-use Rattle.tree_words.specs.declared.layout.TheConstants.{TALLY_WORD, SEEN_WORD, VISIT}
-use Rattle.tree_words.proofs.Blocks.GameLaws.{in-node, whole-in}
-use Rattle.tree_words.proofs.Blocks.BlockLaws.{has-at}
-use Rattle.arena_rule.specs.Views.{SeatView, Walked, HasEnded, spent_view}
-use Rattle.arena_rule.specs.Adds.{walk_adds, amount_at, tally_amount}
-use Rattle.arena_rule.specs.Lookups.{adds_made}
-use Rattle.arena_rule.specs.Parts.{width_of, ended_of, full_width, times_drawn, value_noted, in_hand, amount_counted, IsRight}
-use Rattle.arena_rule.specs.Bounds.{words_held, claimed_of}
+use Rattle.tree_words.specs.Words.{ticket_in, record_in}
+use Rattle.tree_words.specs.Blocks.{LinkedBlock, one_if}
+use Rattle.tree_words.specs.Counts.{count_below}
+use Rattle.arena_rule.specs.Views.{SeatView, HasEnded, spent_view}
+use Rattle.arena_rule.specs.Parts.{width_of, ended_of, times_drawn, value_noted, in_hand}
 use Rattle.arena_rule.specs.Closed.{HasAllWalks}
 use Rattle.arena_rule.proofs.Before.{Before}
 use Rattle.arena_rule.proofs.Totals.{total_set, total_two, total_none, each-set}
-use Rattle.arena_rule.proofs.Below.{sum_below, below_same, below_ones}
-use Rattle.arena_rule.proofs.Numbers.{times_walked, value_walked, walked-cons, value-cons, value-none, due}
+use Rattle.arena_rule.proofs.Below.{sum_below, below_same}
+use Rattle.arena_rule.proofs.Numbers.{value_walked, due}
 use Rattle.arena_rule.proofs.ByNumber.{by-number}
-use Rattle.arena_rule.proofs.AddLaws.{tally-amount, seen-amount}
-use Rattle.arena_rule.proofs.SumsLinked.{walks-same}
 use Rattle.arena_rule.proofs.SeatsNumbers.{ended-idle}
-use Rattle.arena_rule.proofs.Loaded.{on-linked}
 use Rattle.arena_rule.proofs.CountSums.{count-sum}
 
 module _ (bs : List LinkedBlock) (words : List ℕ) (views : List SeatView) (id : ℕ) (v : SeatView) (b : Before bs words views id v) (all : v.width ≡ v.shape.knobs.workers) (ended : HasEnded v) where
