@@ -1,4 +1,4 @@
--- A sum over walks is a sum over the numbers.
+-- A sum over walks is a sum over the numbers, and the walk with a number.
 use Rattle.std.proofs.Common.{◌≡◌, ℕ, suc, ◌+◌, ◌<◌, Bool, true, false, cond, List, [], ◌∷◌, refl, sym, ap, ◌∙◌, ⊎_elim, arith}
 use Rattle.std.specs.Prelude.{◌==◌, sum_by, Contains}
 use Rattle.std.proofs.lemmas.List.Sums.{sum_by-cons}
@@ -6,6 +6,7 @@ use Rattle.arena_rule.specs.Views.{Walked}
 use Rattle.arena_rule.proofs.Below.{sum_below, below_hit, below_same, below_swap}
 use Rattle.arena_rule.proofs.Numbers.{times_walked, value_walked, walked-cons, value-cons, value-none}
 use Rattle.std.proofs.lemmas.Bool.{eqb-true, cases_Bool}
+use Rattle.std.proofs.lemmas.Bool.Decides.{nat_tests}
 
 -- what a walk with the number j counts
 abbrev pub if_here : ℕ → (ℕ → ℕ) → Walked → ℕ
@@ -71,3 +72,25 @@ numbered n f walks low =
 pub by-number : (n : ℕ) (f : ℕ → ℕ → ℕ) (walks : List Walked) → ((j : ℕ) → j < n → times_walked j walks ≡ 1) → ((w : Walked) → Contains walks w → w.number < n)
     → sum_by (λ w. f w.number w.value) walks ≡ sum_below n (λ j. f j (value_walked j walks))
 by-number n f walks once low = numbered n f walks low ∙ below_same n (λ j. sum_by (if_here j (f j)) walks) (λ j. f j (value_walked j walks)) (λ j l. one-here j (f j) walks (once j l))
+
+-- a walk with the number j, and the value that all walks have for it
+pub record FoundWalk (j : ℕ) (walks : List Walked) : Type 0 where
+  pub walk : Walked
+  pub found : Contains walks walk
+  pub number : walk.number ≡ j
+  pub value : walk.value ≡ value_walked j walks
+
+-- where a number has one walk, this is found
+pub find-walk : (j : ℕ) (walks : List Walked) → times_walked j walks ≡ 1 → FoundWalk j walks
+find-walk j [] e = absurd (omega arith)
+find-walk j (w ∷ walks) e = by (w.number == j) refl (sym (walked-cons j w walks) ∙ e) (value-cons j w walks) (find-walk j walks)
+  where
+    same : (a b : ℕ) → (a == b) ≡ true → a ≡ b
+    same a b e = grind (arith, nat_tests)
+
+    by : (t : Bool) → (w.number == j) ≡ t → cond t 1 0 + times_walked j walks ≡ 1 → value_walked j (w ∷ walks) ≡ cond t w.value 0 + value_walked j walks
+        → (times_walked j walks ≡ 1 → FoundWalk j walks) → FoundWalk j (w ∷ walks)
+    by true n c q rec = record { walk = w; found = (0, omega arith, refl); number = same w.number j n; value = omega (arith, q, value-none j walks (omega (arith, c))) }
+    by false n c q rec =
+        let f : FoundWalk j walks = rec (omega (arith, c)) in
+        record { walk = f.walk; found = (suc f.found.0, (let l = f.found.1 in omega arith), f.found.2); number = f.number; value = omega (arith, q, f.value) }

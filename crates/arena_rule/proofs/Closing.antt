@@ -1,91 +1,36 @@
 -- The closed tree: what holds of a state with one seat left, whose workers have all ended.
-use Rattle.std.proofs.Common.{◌≡◌, ◌≢◌, ℕ, zero, suc, ◌+◌, ◌*◌, ◌<◌, ◌≤◌, Bool, true, false, cond, List, [], ◌∷◌, set, Option, None, refl, sym, ap, ◌∙◌, subst, arith}
-use Rattle.std.specs.Prelude.{◌==◌, ◌&&◌, not, slice_index, sum_by, Contains}
+use Rattle.std.proofs.Common.{◌≡◌, ◌≢◌, ℕ, ◌+◌, ◌*◌, ◌≤◌, Bool, true, false, cond, List, [], ◌∷◌, Option, refl, sym, ap, ◌∙◌, subst, arith}
+use Rattle.std.specs.Prelude.{◌==◌, ◌&&◌, not, slice_index, sum_by}
 use Rattle.std.specs.List.{filter}
 use Rattle.std.proofs.Math.Nat.{mul-le-mul_left}
-use Rattle.std.proofs.lemmas.Bool.Decides.{nat_tests}
 use Rattle.std.proofs.lemmas.List.Sums.{sum_by-cons}
-use mathlib.Core.Option.{some}
-use lib.ListN.{get_elem?}
 use Rattle.hex_cells.specs.Sets.{has as has_cell}
 use Rattle.hex_board.specs.Positions.{stones_of}
 use Rattle.hex_board.specs.Wins.{is_same}
-use Rattle.tree_words.specs.Settings.{Setting}
-use Rattle.tree_words.specs.Words.{Count, root_at, next_in, ticket_in, record_in, leaf_in, winner_in, count_in, visits_in, wins_in}
-use Rattle.tree_words.specs.Blocks.{LinkedBlock, In, one_if, has_node, place, cell_at, is_node, link_of, size}
+use Rattle.tree_words.specs.Words.{Count, root_at, record_in, leaf_in, winner_in, count_in}
+use Rattle.tree_words.specs.Blocks.{LinkedBlock, one_if, place, cell_at, is_node, link_of, size}
 use Rattle.tree_words.specs.Paths.{node_state, mover_of, is_on, enters}
-use Rattle.tree_words.specs.Complete.{Linked}
 use Rattle.tree_words.specs.Sequence.{outcome_of, amount_of}
 use Rattle.tree_words.specs.Records.{leaf_of, outcome_in, Recorded}
 use Rattle.tree_words.specs.Counts.{count_below, is_seen, Exact}
 use Rattle.tree_words.specs.Growth.{other_words, Grown}
 use Rattle.tree_words.specs.Closing.{KeepsEnds, IsClosed}
-use Rattle.tree_words.specs.declared.layout.TheConstants.{TALLY_WORD, SEEN_WORD, VISIT}
-use Rattle.tree_words.proofs.Blocks.GameLaws.{in-node, whole-in}
-use Rattle.tree_words.proofs.Blocks.BlockLaws.{has-at}
-use Rattle.arena_rule.specs.Views.{SeatView, Walked, HasEnded, spent_view}
+use Rattle.tree_words.specs.declared.layout.TheConstants.{TALLY_WORD, SEEN_WORD}
+use Rattle.tree_words.proofs.Blocks.GameLaws.{in-node}
+use Rattle.arena_rule.specs.Views.{SeatView, HasEnded}
 use Rattle.arena_rule.specs.Adds.{walk_adds, amount_at, tally_amount}
 use Rattle.arena_rule.specs.Lookups.{adds_made}
-use Rattle.arena_rule.specs.Parts.{width_of, ended_of, full_width, times_drawn, value_noted, in_hand, amount_counted, IsRight}
+use Rattle.arena_rule.specs.Parts.{ended_of, full_width, amount_counted, IsRight}
 use Rattle.arena_rule.specs.Bounds.{words_held, claimed_of}
-use Rattle.arena_rule.specs.Closed.{HasAllWalks}
 use Rattle.arena_rule.proofs.Before.{Before}
-use Rattle.arena_rule.proofs.Totals.{total_set, total_two, total_none, each-set}
 use Rattle.arena_rule.proofs.Below.{sum_below, below_same, below_ones}
-use Rattle.arena_rule.proofs.Numbers.{times_walked, value_walked, walked-cons, value-cons, value-none, due}
-use Rattle.arena_rule.proofs.ByNumber.{by-number}
+use Rattle.arena_rule.proofs.ByNumber.{FoundWalk, find-walk}
 use Rattle.arena_rule.proofs.AddLaws.{tally-amount, seen-amount}
 use Rattle.arena_rule.proofs.SumsLinked.{walks-same}
-use Rattle.arena_rule.proofs.SeatsNumbers.{ended-idle}
 use Rattle.arena_rule.proofs.Loaded.{on-linked}
-
--- a walk with the number j, and the value that all walks have for it
-pub record FoundWalk (j : ℕ) (walks : List Walked) : Type 0 where
-  pub walk : Walked
-  pub found : Contains walks walk
-  pub number : walk.number ≡ j
-  pub value : walk.value ≡ value_walked j walks
-
--- where a number has one walk, this is found
-pub find-walk : (j : ℕ) (walks : List Walked) → times_walked j walks ≡ 1 → FoundWalk j walks
-find-walk j [] e = absurd (omega arith)
-find-walk j (w ∷ walks) e = by (w.number == j) refl (sym (walked-cons j w walks) ∙ e) (value-cons j w walks) (find-walk j walks)
-  where
-    same : (a b : ℕ) → (a == b) ≡ true → a ≡ b
-    same a b e = grind (arith, nat_tests)
-
-    by : (t : Bool) → (w.number == j) ≡ t → cond t 1 0 + times_walked j walks ≡ 1 → value_walked j (w ∷ walks) ≡ cond t w.value 0 + value_walked j walks
-        → (times_walked j walks ≡ 1 → FoundWalk j walks) → FoundWalk j (w ∷ walks)
-    by true n c q rec = record { walk = w; found = (0, omega arith, refl); number = same w.number j n; value = omega (arith, q, value-none j walks (omega (arith, c))) }
-    by false n c q rec =
-        let f : FoundWalk j walks = rec (omega (arith, c)) in
-        record { walk = f.walk; found = (suc f.found.0, (let l = f.found.1 in omega arith), f.found.2); number = f.number; value = omega (arith, q, f.value) }
-
--- amounts of visits and wins add up to two counts
-sum-counts : (n : ℕ) (t u : ℕ → Bool) → sum_below n (λ k. cond (t k) (amount_of (u k)) 0) ≡ VISIT * count_below n t + count_below n (λ k. t k && u k)
-sum-counts zero t u = refl
-sum-counts (suc n) t u = omega (arith, sum-counts n t u, by (t n) (u n))
-  where
-    by : (a b : Bool) → cond a (amount_of b) 0 ≡ VISIT * one_if a + one_if (a && b)
-    by true true = refl
-    by true false = refl
-    by false b = refl
-
--- a count is a sum of ones
-count-sum : (n : ℕ) (t : ℕ → Bool) → sum_below n (λ k. one_if (t k)) ≡ count_below n t
-count-sum zero t = refl
-count-sum (suc n) t = omega (arith, count-sum n t)
-
-one-most : (t : Bool) → one_if t ≤ 1
-one-most true = omega arith
-one-most false = omega arith
-
--- a word of visits and wins
-count-is : (n v w : ℕ) → n ≡ VISIT * v + w → w < VISIT → count_in n ≡ record { visits = v; wins = w }
-count-is n v w e l =
-    let visits : visits_in n ≡ v = omega (arith, e) in
-    let wins : wins_in n ≡ w = omega (arith, e) in
-    λ i. record { visits = visits i; wins = wins i }
+use Rattle.arena_rule.proofs.CountSums.{sum-counts, count-sum, one-most, count-is}
+use Rattle.arena_rule.proofs.LastSeat.{only, idle, drawn, all-walks, value, by-record, count-record}
+use Rattle.arena_rule.proofs.Recorded.{not-root}
 
 -- the blocks that a view knows are some of the blocks
 known-less : (r : ℕ) (ks bs : List LinkedBlock) → sum_by (λ b. cond (not (b.parent == r) && not (link_of ks b.parent == 0)) (size b) 0) bs ≤ sum_by size (filter (λ b. not (b.parent == r)) bs)
@@ -103,50 +48,15 @@ known-less r ks (b ∷ bs) =
     by true false m rest l = omega (arith, sum_by-cons size b rest)
     by false u m rest l = omega (arith, l)
 
--- a node of a block is not the root
-pub not-root : (s : Setting) (words : List ℕ) (bs : List LinkedBlock) → Linked s words bs → (c : LinkedBlock) (y : ℕ) → In c bs → has_node c y ≡ true → y ≢ root_at s
-not-root s words bs linked c y i h e =
-    let low = (whole-in s (next_in words) bs c linked.order linked.complete i).inside.0 in
-    let at = has-at c y h in
-    omega (arith, e, at.2)
-
 module _ (bs : List LinkedBlock) (words : List ℕ) (views : List SeatView) (id : ℕ) (v : SeatView) (b : Before bs words views id v) (all : v.width ≡ v.shape.knobs.workers) (ended : HasEnded v) where
   abbrev n : ℕ
   n = v.shape.knobs.playouts
 
-  -- the other views are spent, so that a sum over the views is this view's part
-  others : (j : ℕ) (u : SeatView) → j ≢ id → get_elem? views j ≡ some u → u ≡ spent_view v.shape
-  others j u ne e = (b.state.widths.each j u e).spent (omega (arith, total_two width_of views j id u v ne e b.at, b.state.widths.sum, all))
-
-  only : (f : SeatView → ℕ) → f (spent_view v.shape) ≡ 0 → sum_by f views ≡ f v
-  only f z =
-      let none : sum_by f (set_spent) ≡ 0 = total_none f set_spent (each-set (λ u. f u ≡ 0) views id (spent_view v.shape) (λ j u ne e. ap f (others j u ne e) ∙ z) z) in
-      omega (arith, total_set f views id v (spent_view v.shape) b.at, none, z)
-    where
-      set_spent : List SeatView
-      set_spent = set views id (spent_view v.shape)
-
-  idle : v.ticket ≡ None
-  idle = ended-idle bs words views id v b id v b.at b.live ended
-
-  drawn : n ≤ ticket_in words
-  drawn = b.state.widths.ended (omega (arith, only ended_of refl, ended, b.live))
-
-  -- the number of each playout stands in the view's walks once
-  pub all-walks : HasAllWalks v.shape v
-  all-walks k l = omega (arith, only (times_drawn k) refl, b.state.tickets.once k, ap (in_hand k) idle, is-due k (ticket_in words) n l drawn)
-    where
-      is-due : (k t m : ℕ) → k < m → m ≤ t → due k t m ≡ 1
-      is-due k t m l h = grind (arith, nat_tests)
-
-  value : (k : ℕ) → k < n → record_in words k ≡ value_walked k v.walks
-  value k l = b.state.tickets.records k l ∙ only (value_noted k) refl
-
   recorded : Recorded v.shape bs words
   recorded k l =
-      let f : FoundWalk k v.walks = find-walk k v.walks (all-walks k l) in
+      let f : FoundWalk k v.walks = find-walk k v.walks (all-walks bs words views id v b all ended k l) in
       let r : IsRight v.shape bs f.walk = b.state.tickets.right id v b.at f.walk f.found in
-      let e : f.walk.value ≡ record_in words k = f.value ∙ sym (value k l) in
+      let e : f.walk.value ≡ record_in words k = f.value ∙ sym (value bs words views id v b all ended k l) in
       record {
         node = subst (λ (m : ℕ). is_node (root_at v.shape) bs (leaf_in m) ≡ true) e r.node;
         below = subst (λ (m : ℕ). leaf_in m ≢ root_at v.shape) e r.below;
@@ -154,19 +64,10 @@ module _ (bs : List LinkedBlock) (words : List ℕ) (views : List SeatView) (id 
             (subst (λ (j : ℕ). winner_in f.walk.value ≡ (outcome_of v.shape j (node_state v.shape bs (leaf_in f.walk.value))).winner) f.number r.result);
       }
 
-  -- what the view's walks count is what the records count
-  by-record : (f : ℕ → ℕ → ℕ) → sum_by (λ w. f w.number w.value) v.walks ≡ sum_below n (λ k. f k (record_in words k))
-  by-record f =
-      by-number n f v.walks all-walks (λ w c. ((b.state.in_hand id v b.at).walks w c).1)
-      ∙ below_same n (λ k. f k (value_walked k v.walks)) (λ k. f k (record_in words k)) (λ k l. ap (f k) (sym (value k l)))
-
-  count-record : (test : ℕ → Bool) → sum_by (λ w. cond (test w.value) 1 0) v.walks ≡ count_below n (λ k. test (record_in words k))
-  count-record test = by-record (λ k m. one_if (test m)) ∙ count-sum n (λ k. test (record_in words k))
-
   counted : (w : ℕ) → sum_by (amount_counted v.shape bs w) views ≡ sum_below n (λ k. amount_at w (walk_adds v.shape bs k (leaf_of words k)))
   counted w =
-      only (amount_counted v.shape bs w) refl
-      ∙ omega (arith, ap (λ (o : Option ℕ). amount_at w (adds_made v.shape bs o v.adds)) idle, by-record (λ k m. amount_at w (walk_adds v.shape bs k (leaf_in m))))
+      only bs words views id v b all ended (amount_counted v.shape bs w) refl
+      ∙ omega (arith, ap (λ (o : Option ℕ). amount_at w (adds_made v.shape bs o v.adds)) (idle bs words views id v b all ended), by-record bs words views id v b all ended (λ k m. amount_at w (walk_adds v.shape bs k (leaf_in m))))
 
   -- a word of amounts has their counts
   counts : (m : ℕ) (t u : ℕ → Bool) → m ≡ sum_below n (λ k. cond (t k) (amount_of (u k)) 0) → count_in m ≡ record { visits = count_below n t; wins = count_below n (λ k. t k && u k) }
@@ -205,29 +106,29 @@ module _ (bs : List LinkedBlock) (words : List ℕ) (views : List SeatView) (id 
   ends =
       let few = b.state.setting.ranges.workers.1 in
       record {
-        next = omega (arith, b.state.widths.next, only full_width refl, full-less, all, few);
-        ticket = (drawn, omega (arith, b.state.widths.ticket, only ended_of refl, ended, all, few));
+        next = omega (arith, b.state.widths.next, only bs words views id v b all ended full_width refl, full-less, all, few);
+        ticket = (drawn bs words views id v b all ended, omega (arith, b.state.widths.ticket, only bs words views id v b all ended ended_of refl, ended, all, few));
       }
 
   grown : Grown v.shape bs words
   grown = record {
     first = λ c x y i hx hy z.
         let through = b.state.first_visits c x y i hx hy z id v b.at in
-        let mine = count-record (λ m. is_on v.shape bs x (leaf_in m)) in
+        let mine = count-record bs words views id v b all ended (λ m. is_on v.shape bs x (leaf_in m)) in
         let known = walks-same (λ w. cond (is_on v.shape v.known x (leaf_in w.value)) 1 0) (λ w. cond (is_on v.shape bs x (leaf_in w.value)) 1 0) v.walks
         (λ w d. ap one_if (on-linked v.shape bs v.known x (leaf_in w.value) b.state.linked.blocks.order (b.state.known id v b.at) ((b.state.in_hand id v b.at).leaves w d))) in
         omega (arith, ap (λ (t : Count). t.visits) (exact.tallies x (in-node (root_at v.shape) bs c x i hx)), mine, known, through, all);
     leaves = λ l x c m e.
-        let mine = count-record (λ k. leaf_in k == x) in
+        let mine = count-record bs words views id v b all ended (λ k. leaf_in k == x) in
         omega (arith, b.state.leaf_bound l x c m e id v b.at, mine, ap (λ (k : ℕ). k * v.shape.knobs.expand) all);
     room =
         let known = mul-le-mul_left v.width (known-less (root_at v.shape) v.known bs) in
-        let held : words_held v.held ≡ 0 = ap words_held ((b.state.in_hand id v b.at).idle idle).1 in
+        let held : words_held v.held ≡ 0 = ap words_held ((b.state.in_hand id v b.at).idle (idle bs words views id v b all ended)).1 in
         omega (
           arith,
           b.state.room.next,
-          only claimed_of refl,
-          only full_width refl,
+          only bs words views id v b all ended claimed_of refl,
+          only bs words views id v b all ended full_width refl,
           full-less,
           b.state.room.claimed id v b.at,
           held,

@@ -1,5 +1,5 @@
--- The law: a step that fits keeps the rule and gives an answer that it may give, a split and a join keep the rule, and it holds
--- of the opening words.
+-- The law: a step that fits keeps the rule and gives an answer that it may give, a split and a join keep the rule, it holds of
+-- the opening words, and at the end the tree is closed.
 use Rattle.std.proofs.Common.{◌≡◌, ◌≢◌, ℕ, ◌<◌, List, [], ◌∷◌, refl, sym, ap, ◌∙◌, subst, length-set, suc, ◌≤◌, arith, true}
 use Rattle.std.specs.Prelude.{slice_index, replicate, sum_by}
 use mathlib.Core.Option.{some}
@@ -23,7 +23,7 @@ use Rattle.arena_rule.specs.Answers.{MayAnswer, AnswersStep, AnswersLink, Answer
 use Rattle.arena_rule.specs.Parts.{AreLinked, width_of}
 use Rattle.arena_rule.specs.Rule.{IsState, Rule, words_after, views_after, views_split, views_joined}
 use Rattle.tree_words.specs.Closing.{IsClosed}
-use Rattle.arena_rule.specs.Closed.{HasAllWalks, IsLast, CountRecords}
+use Rattle.arena_rule.specs.Closed.{HasAllWalks, IsLast, CountsRecords}
 use Rattle.arena_rule.proofs.Before.{Before, Other, AreFirst, blocks_after, opening_blocks}
 use Rattle.arena_rule.proofs.Totals.{inside}
 use Rattle.arena_rule.proofs.Apart.{fresh-step, apart-step, held-step}
@@ -45,7 +45,8 @@ use Rattle.arena_rule.proofs.LeafBound.{leaf-step}
 use Rattle.arena_rule.proofs.SeatsGrowth.{loaded-split, loaded-join, loaded-first, visits-split, visits-join, visits-first, leaf-split, leaf-join, leaf-first}
 use Rattle.arena_rule.proofs.Room.{room-step}
 use Rattle.arena_rule.proofs.SeatsRoom.{room-split, room-join, room-first}
-use Rattle.arena_rule.proofs.Closing.{all-walks, closed}
+use Rattle.arena_rule.proofs.LastSeat.{all-walks}
+use Rattle.arena_rule.proofs.Closing.{closed}
 use Rattle.arena_rule.proofs.Recorded.{count-records}
 use Rattle.arena_rule.proofs.Firsts.{opening-first, ones-first}
 use Rattle.arena_rule.proofs.AnswersNumbers.{answers-draw, answers-whole}
@@ -220,5 +221,5 @@ module _ (s : Setting) (words : List ℕ) (views : List SeatView) (r : Rule s wo
     closes-walks = subst (λ (t : Setting). HasAllWalks t v) shape-end (all-walks r.blocks words views id v end full last.ended)
 
   -- the counts are those of the records
-  pub counts : CountRecords s r.blocks (record { words = words; views = views })
+  pub counts : CountsRecords s r.blocks (record { words = words; views = views })
   counts = count-records s r.blocks words views r.state

@@ -22,8 +22,10 @@ pub mod Widths
 pub mod Sole
 pub mod Room
 pub mod SeatsRoom
-pub mod Closing
+pub mod CountSums
 pub mod Recorded
+pub mod LastSeat
+pub mod Closing
 pub mod SeatsNumbers
 pub mod AnswersNumbers
 pub mod Firsts

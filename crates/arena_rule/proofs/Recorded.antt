@@ -6,22 +6,30 @@ use Rattle.std.proofs.lemmas.Bool.{eq-eqb, ne_eqb}
 use Rattle.std.proofs.lemmas.List.Sums.{sum_by-cons, sum_by-append}
 use Rattle.tree_words.specs.Settings.{Setting}
 use Rattle.tree_words.specs.Words.{root_at, next_in, ticket_in, record_in, leaf_in}
-use Rattle.tree_words.specs.Blocks.{LinkedBlock}
+use Rattle.tree_words.specs.Blocks.{LinkedBlock, In, has_node}
+use Rattle.tree_words.specs.Complete.{Linked}
 use Rattle.tree_words.specs.Records.{leaf_of}
 use Rattle.tree_words.specs.declared.layout.TheConstants.{TALLY_WORD, SEEN_WORD}
-use Rattle.tree_words.proofs.Blocks.GameLaws.{in-node}
+use Rattle.tree_words.proofs.Blocks.GameLaws.{in-node, whole-in}
+use Rattle.tree_words.proofs.Blocks.BlockLaws.{has-at}
 use Rattle.tree_words.proofs.Blocks.NodeLaws.{node-lies}
 use Rattle.arena_rule.specs.Views.{SeatView, Walked}
 use Rattle.arena_rule.specs.Adds.{walk_adds, amount_at, tally_amount, seen_amount}
 use Rattle.arena_rule.specs.Parts.{Each, times_drawn, amount_recorded, amount_counted, IsRight}
-use Rattle.arena_rule.specs.Closed.{recorded, amount_in_flight, CountRecords}
+use Rattle.arena_rule.specs.Closed.{recorded, amount_in_flight, CountsRecords}
 use Rattle.arena_rule.specs.Rule.{IsState}
 use Rattle.arena_rule.proofs.Totals.{total_add, total_le}
 use Rattle.arena_rule.proofs.Below.{sum_below, below_same}
 use Rattle.arena_rule.proofs.Numbers.{times_walked, value_walked, value-none, contains-append, due_one}
-use Rattle.arena_rule.proofs.ByNumber.{if_here, none-here, one-here, numbered}
+use Rattle.arena_rule.proofs.ByNumber.{FoundWalk, find-walk, if_here, none-here, one-here, numbered}
 use Rattle.arena_rule.proofs.AddLaws.{tally-amount, seen-amount}
-use Rattle.arena_rule.proofs.Closing.{FoundWalk, find-walk, not-root}
+
+-- a node of a block is not the root
+pub not-root : (s : Setting) (words : List ℕ) (bs : List LinkedBlock) → Linked s words bs → (c : LinkedBlock) (y : ℕ) → In c bs → has_node c y ≡ true → y ≢ root_at s
+not-root s words bs linked c y i h e =
+    let low = (whole-in s (next_in words) bs c linked.order linked.complete i).inside.0 in
+    let at = has-at c y h in
+    omega (arith, e, at.2)
 
 -- the recorded walks of all views
 abbrev all_walks : List SeatView → List Walked
@@ -144,7 +152,7 @@ module _ (s : Setting) (bs : List LinkedBlock) (words : List ℕ) (views : List 
         each-same ks,
       )
 
-  pub count-records : CountRecords s bs (record { words = words; views = views })
+  pub count-records : CountsRecords s bs (record { words = words; views = views })
   count-records = record {
     tallies = λ x m. st.sums.tallies x m
         ∙ counted (x + TALLY_WORD) (λ k leaf. tally_amount s bs k leaf x) (λ k leaf. tally-amount s bs st.linked.blocks.order k leaf x m);

@@ -41,7 +41,7 @@ amount_in_flight s bs w v = amount_at w (adds_made s bs v.ticket v.adds)
 -- The counts are those of the records: a tally of a node is what the exact counts have there of the
 -- recorded playouts, and what the adds made in flight add to it. So is the seen word of each node
 -- of a block.
-pub record CountRecords (s : Setting) (bs : List LinkedBlock) (a : Arena) : Type 0 where
+pub record CountsRecords (s : Setting) (bs : List LinkedBlock) (a : Arena) : Type 0 where
   pub tallies : (x : ℕ) → is_node (root_at s) bs x ≡ true
       → slice_index a.words (x + TALLY_WORD)
       ≡ sum_by (λ k. tally_amount s bs k (leaf_of a.words k) x) (recorded s a.words)

@@ -9,7 +9,7 @@ ghost use Rattle.arena_rule.specs.Adds.{AddExactly};
 ghost use Rattle.arena_rule.specs.IsView.{IsView};
 ghost use Rattle.arena_rule.specs.Runs.{Arena, RuleHolds, opening_arena, workers_arena};
 ghost use Rattle.arena_rule.specs.Runs.{StepsKeep, StepsMayAnswer, SplitsKeep, JoinsKeep, RunsKeep};
-ghost use Rattle.arena_rule.specs.Closed.{EndsClosed, EndsWithAllWalks, CountRecords};
+ghost use Rattle.arena_rule.specs.Closed.{EndsClosed, EndsWithAllWalks, CountsRecords};
 ghost use Rattle.arena_rule.specs.Shown.{KnowsShown, KeepsKnown, HoldsUnnamed, WinsAmongVisits};
 ghost use Rattle.arena_rule.specs.Shown.{StepsKeepOrder, SplitsKeepOrder, JoinsKeepOrder};
 
@@ -59,7 +59,7 @@ pub fn wins_are_among_visits()
 /// The law of records: the counts of each node are those of the records, where a record is not 0,
 /// and of the adds made in flight. It does nothing.
 pub fn counts_are_of_records()
-    ensures { (s : Setting) (a : Arena) (rule : RuleHolds s a) → CountRecords s rule.blocks a }
+    ensures { (s : Setting) (a : Arena) (rule : RuleHolds s a) → CountsRecords s rule.blocks a }
 {}
 
 /// The law of the end: where one seat is left that stands for all workers, and they have ended,
