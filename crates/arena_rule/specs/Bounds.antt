@@ -29,7 +29,8 @@ AreLoads words views = Each (HasLoaded words) views
 -- child are at most its width
 abbrev pub FirstVisits : List LinkedBlock → List ℕ → List SeatView → Type 0
 FirstVisits bs words views = (b : LinkedBlock) (x y : ℕ)
-    → In b bs → has_node b x ≡ true → has_node b y ≡ true → (tally_in words y).visits ≡ 0 → Each (λ v. walks_through v x ≤ v.width) views
+    → In b bs → has_node b x ≡ true → has_node b y ≡ true → (tally_in words y).visits ≡ 0
+    → Each (λ v. walks_through v x ≤ v.width) views
 
 -- LeafBound: while NEXT is at most the area's end, the walks of a view whose leaf is a given node
 -- with an empty cell on its board are at most its width times T

@@ -32,7 +32,8 @@ HoldsUnnamed s a rule = (id : ℕ) (v : SeatView) (h : HeldBlock) (x : ℕ)
     → IsSeat a.views id v → v.held ≡ Some h
     → is_node (root_at s) rule.blocks x ≡ true → link_in a.words x ≢ h.start
 
--- the wins of each node of the tree are at most its visits, and its seen wins at most its seen visits
+-- the wins of each node of the tree are at most its visits, and its seen wins at most its seen
+-- visits
 abbrev pub WinsAmongVisits : (s : Setting) (a : Arena) → RuleHolds s a → Type 0
 WinsAmongVisits s a rule = (x : ℕ) → is_node (root_at s) rule.blocks x ≡ true
     → ((tally_in a.words x).wins ≤ (tally_in a.words x).visits)

@@ -13,7 +13,7 @@ use Rattle.hex_board.proofs.Parts.{high_apart, zero_out, one_out, tied_stone}
 use Rattle.hex_board.proofs.Roots.{turned_link, links_through}
 use Rattle.hex_board.proofs.Search.{leads_out, joined_out}
 use Rattle.conn_store.specs.Laws.{IsSubset}
-use Rattle.conn_store.specs.Links.{MayPass, AreLinked}
+use Rattle.conn_store.specs.Links.{MayPass, StonesLink}
 
 more_path : (n s t a : ℕ) (xs : List ℕ) → IsSubset s t → Path n s a xs → Path n t a xs
 more_path n s t a [] f p = f a p
@@ -104,7 +104,7 @@ more_joined : (n : ℕ) (c : Colour) (s t : ℕ) → IsSubset s t → Joined n c
 more_joined n c s t f j = (j.0, j.1, more_path n s t j.0 j.1 f j.2, j.3, j.4)
 
 pub linked_joins : (e : PlayerBoard) (t : ℕ) → Within e.board.size (stones_of e.board e.player) → IsSubset (stones_of e.board e.player) t
-    → AreLinked e (edge_element e false) (edge_element e true) t → Joined e.board.size e.player t
+    → StonesLink e (edge_element e false) (edge_element e true) t → Joined e.board.size e.player t
 linked_joins e t on f l = elim (cases_Bool (are_joined e)) [
   | inl j ↦ more_joined e.board.size e.player (stones_of e.board e.player) t f (joined_out e.board.size e.player (stones_of e.board e.player) j)
   | inr j ↦ first_ends e t l.0 on f j l.2

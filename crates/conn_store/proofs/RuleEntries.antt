@@ -10,7 +10,7 @@ use Rattle.hex_board.specs.Positions.{Within, stones_of, is_empty_at}
 use Rattle.hex_board.proofs.Places.{empty_alone}
 use Rattle.conn_store.specs.Entries.{AllEmpty, IsBetween, IsValid, Misses}
 use Rattle.conn_store.specs.Rules.{AndRule, AreAt, AreWays, FollowsBy, IsCell, IsAndOf, IsChain, IsEntry, IsGroup, OrRule, both_of}
-use Rattle.conn_store.specs.Stores.{CanAnd, CanOr, GivesAnd, IsNext, IsSound, StoreData}
+use Rattle.conn_store.specs.Stores.{CanAnd, CanOr, GivesAnd, MayBeAdded, IsSound, StoreData}
 use Rattle.conn_store.specs.declared.entries.Cause.{Cause}
 use Rattle.conn_store.specs.declared.entries.Cause.TheVariants.{AndGroup, AndEmpty, Or}
 use Rattle.conn_store.specs.declared.entries.Entry.{Entry}
@@ -46,14 +46,14 @@ two_at : (entries : List Entry) (i j : ℕ) (a b : Entry) → AreAt entries (i �
 two_at entries i j a b h = (cc, cc)
 
 pub group_next : (d : StoreData) (i j : ℕ) (a b entry : Entry) (x u y : ℕ) → IsSound d → slice_get d.entries i ≡ Some a → slice_get d.entries j ≡ Some b
-    → AndRule d.elements a b x u y → IsGroup d.elements u → IsEntry entry Full x y (both_of a b) (AndGroup i j) → IsNext d entry
+    → AndRule d.elements a b x u y → IsGroup d.elements u → IsEntry entry Full x y (both_of a b) (AndGroup i j) → MayBeAdded d entry
 group_next d i j a b entry x u y s h g r f n = (
   group_valid d.elements a b entry x u y (s.valid i a h) (s.valid j b g) r n.pair n.carrier_is,
   subst (λ v. FollowsBy d.elements d.entries entry v) (sym n.cause_is) (a, b, x, u, y, at_two d.entries i j a b h g, r, f, n.pair, n.kind_is, n.carrier_is),
 )
 
 pub cell_next : (d : StoreData) (i j : ℕ) (a b entry : Entry) (x u y k : ℕ) → IsSound d → slice_get d.entries i ≡ Some a → slice_get d.entries j ≡ Some b
-    → AndRule d.elements a b x u y → IsCell d.elements u k → IsEntry entry Semi x y (with_cell (both_of a b) k) (AndEmpty i j) → IsNext d entry
+    → AndRule d.elements a b x u y → IsCell d.elements u k → IsEntry entry Semi x y (with_cell (both_of a b) k) (AndEmpty i j) → MayBeAdded d entry
 cell_next d i j a b entry x u y k s h g r f n = (
   cell_valid d.elements a b entry x u y k (s.valid i a h) (s.valid j b g) r f n.pair n.carrier_is,
   subst (λ v. FollowsBy d.elements d.entries entry v) (sym n.cause_is) (a, b, x, u, y, k, at_two d.entries i j a b h g, r, f, n.pair, n.kind_is, n.carrier_is),
@@ -189,7 +189,7 @@ or_rule : (ways : List Entry) (a entry : Entry) → a.x < a.y → IsBetween entr
 or_rule ways a entry l h r = let p = pair_is a entry l h in subst (λ v. OrRule ways v entry.y) p.0 (subst (λ v. OrRule ways a.x v) p.1 r)
 
 pub two_next : (d : StoreData) (i j : ℕ) (a b entry : Entry) → IsSound d → slice_get d.entries i ≡ Some a → slice_get d.entries j ≡ Some b
-    → OrRule (a ∷ b ∷ []) a.x a.y → IsEntry entry Full a.x a.y (bit_or a.carrier b.carrier) (Or (i ∷ j ∷ 0 ∷ []) 2) → IsNext d entry
+    → OrRule (a ∷ b ∷ []) a.x a.y → IsEntry entry Full a.x a.y (bit_or a.carrier b.carrier) (Or (i ∷ j ∷ 0 ∷ []) 2) → MayBeAdded d entry
 two_next d i j a b entry s h g r n =
     let e = d.elements in
     let v = s.valid i a h in
@@ -206,7 +206,7 @@ pub at_three : (entries : List Entry) (i j k : ℕ) (a b c : Entry) → slice_ge
 at_three entries i j k a b c h g f = cc
 
 pub three_next : (d : StoreData) (i j k : ℕ) (a b c entry : Entry) → IsSound d → slice_get d.entries i ≡ Some a → slice_get d.entries j ≡ Some b → slice_get d.entries k ≡ Some c
-    → OrRule (a ∷ b ∷ c ∷ []) a.x a.y → IsEntry entry Full a.x a.y (bit_or a.carrier (bit_or b.carrier c.carrier)) (Or (i ∷ j ∷ k ∷ []) 3) → IsNext d entry
+    → OrRule (a ∷ b ∷ c ∷ []) a.x a.y → IsEntry entry Full a.x a.y (bit_or a.carrier (bit_or b.carrier c.carrier)) (Or (i ∷ j ∷ k ∷ []) 3) → MayBeAdded d entry
 three_next d i j k a b c entry s h g f r n =
     let e = d.elements in
     let v = s.valid i a h in

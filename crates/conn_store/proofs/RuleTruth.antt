@@ -11,7 +11,7 @@ use Rattle.hex_cells.proofs.Tables.{board_cell}
 use Rattle.hex_board.proofs.Placed.{empty_on}
 use Rattle.conn_store.specs.Entries.{IsBetween, IsTrueEntry, IsValid, Misses}
 use Rattle.conn_store.specs.Index.{IsSmall}
-use Rattle.conn_store.specs.Links.{AreLinked}
+use Rattle.conn_store.specs.Links.{StonesLink}
 use Rattle.conn_store.specs.Rules.{AndRule, AreAt, FollowsBy, IsCell, IsGroup, OrRule, both_of, is_in_all, union_of}
 use Rattle.conn_store.specs.Truth.{IsSureIn, IsSure}
 use Rattle.conn_store.specs.declared.entries.Cause.{Cause}
@@ -27,22 +27,22 @@ use Rattle.conn_store.proofs.Ways.{linked_kept, linked_back, near_linked, linked
 pub least_first : (x y a b : ℕ) → a ≡ min x y → b ≡ max x y → ((a ≡ x) × (b ≡ y)) ⊎ ((a ≡ y) × (b ≡ x))
 least_first x y a b h i = elim (cases_lt x y) [ inl l ↦ inl (omega arith, omega arith) | inr l ↦ inr (omega arith, omega arith) ]
 
-turned : (e : PlayerBoard) (n : ℕ) (kind : Kind) (x y s c : ℕ) → IsSureIn n kind (AreLinked e x y) s c → IsSureIn n kind (AreLinked e y x) s c
-turned e n kind x y s c g = sure_more n n kind (AreLinked e x y) (AreLinked e y x) s s c c (omega arith) (same s) (same c)
+turned : (e : PlayerBoard) (n : ℕ) (kind : Kind) (x y s c : ℕ) → IsSureIn n kind (StonesLink e x y) s c → IsSureIn n kind (StonesLink e y x) s c
+turned e n kind x y s c g = sure_more n n kind (StonesLink e x y) (StonesLink e y x) s s c c (omega arith) (same s) (same c)
     (λ a b p q l. linked_kept e y x a b q (linked_back e x y a l)) g
 
 -- an entry of x and y says that these are linked
-between : (e : PlayerBoard) (n : ℕ) (kind : Kind) (a : Entry) (x y s c : ℕ) → IsBetween a x y → IsSureIn n kind (AreLinked e a.x a.y) s c → IsSureIn n kind (AreLinked e x y) s c
+between : (e : PlayerBoard) (n : ℕ) (kind : Kind) (a : Entry) (x y s c : ℕ) → IsBetween a x y → IsSureIn n kind (StonesLink e a.x a.y) s c → IsSureIn n kind (StonesLink e x y) s c
 between e n kind a x y s c h g = elim (least_first x y a.x a.y h.0 h.1) [
-  | inl p ↦ subst (λ v. IsSureIn n kind (AreLinked e x v) s c) p.1 (subst (λ v. IsSureIn n kind (AreLinked e v a.y) s c) p.0 g)
-  | inr p ↦ turned e n kind y x s c (subst (λ v. IsSureIn n kind (AreLinked e y v) s c) p.1 (subst (λ v. IsSureIn n kind (AreLinked e v a.y) s c) p.0 g))
+  | inl p ↦ subst (λ v. IsSureIn n kind (StonesLink e x v) s c) p.1 (subst (λ v. IsSureIn n kind (StonesLink e v a.y) s c) p.0 g)
+  | inr p ↦ turned e n kind y x s c (subst (λ v. IsSureIn n kind (StonesLink e y v) s c) p.1 (subst (λ v. IsSureIn n kind (StonesLink e v a.y) s c) p.0 g))
 ]
 
 -- and the other way round
-between_back : (e : PlayerBoard) (n : ℕ) (kind : Kind) (a : Entry) (x y s c : ℕ) → IsBetween a x y → IsSureIn n kind (AreLinked e x y) s c → IsSureIn n kind (AreLinked e a.x a.y) s c
+between_back : (e : PlayerBoard) (n : ℕ) (kind : Kind) (a : Entry) (x y s c : ℕ) → IsBetween a x y → IsSureIn n kind (StonesLink e x y) s c → IsSureIn n kind (StonesLink e a.x a.y) s c
 between_back e n kind a x y s c h g = elim (least_first x y a.x a.y h.0 h.1) [
-  | inl p ↦ subst (λ v. IsSureIn n kind (AreLinked e a.x v) s c) (sym p.1) (subst (λ v. IsSureIn n kind (AreLinked e v y) s c) (sym p.0) g)
-  | inr p ↦ subst (λ v. IsSureIn n kind (AreLinked e a.x v) s c) (sym p.1) (subst (λ v. IsSureIn n kind (AreLinked e v x) s c) (sym p.0) (turned e n kind x y s c g))
+  | inl p ↦ subst (λ v. IsSureIn n kind (StonesLink e a.x v) s c) (sym p.1) (subst (λ v. IsSureIn n kind (StonesLink e v y) s c) (sym p.0) g)
+  | inr p ↦ subst (λ v. IsSureIn n kind (StonesLink e a.x v) s c) (sym p.1) (subst (λ v. IsSureIn n kind (StonesLink e v x) s c) (sym p.0) (turned e n kind x y s c g))
 ]
 
 -- ---- carriers
@@ -55,15 +55,15 @@ carrier_small e a m v k h = cell_small e k m (v.empty k h)
 
 -- what is proved of an entry with some number of stones
 concludes : (e : PlayerBoard) (a : Entry) (n : ℕ) (kind : Kind) → IsSmall e → IsValid e a → a.kind ≡ kind
-    → IsSureIn n kind (AreLinked e a.x a.y) (stones_of e.board e.player) a.carrier → IsTrueEntry e a
-concludes e a n kind m v q g = subst (λ w. IsSure w (AreLinked e a.x a.y) (stones_of e.board e.player) a.carrier) (sym q)
-    (sure_trimmed n (members a.carrier 121) kind (AreLinked e a.x a.y) (stones_of e.board e.player) a.carrier (carrier_small e a m v) (omega arith) g)
+    → IsSureIn n kind (StonesLink e a.x a.y) (stones_of e.board e.player) a.carrier → IsTrueEntry e a
+concludes e a n kind m v q g = subst (λ w. IsSure w (StonesLink e a.x a.y) (stones_of e.board e.player) a.carrier) (sym q)
+    (sure_trimmed n (members a.carrier 121) kind (StonesLink e a.x a.y) (stones_of e.board e.player) a.carrier (carrier_small e a m v) (omega arith) g)
 
 -- what an entry says
 says : (e : PlayerBoard) (a : Entry) (kind : Kind) (x y : ℕ) → IsTrueEntry e a → a.kind ≡ kind → IsBetween a x y
-    → IsSureIn (members a.carrier 121) kind (AreLinked e x y) (stones_of e.board e.player) a.carrier
+    → IsSureIn (members a.carrier 121) kind (StonesLink e x y) (stones_of e.board e.player) a.carrier
 says e a kind x y t q h = between e (members a.carrier 121) kind a x y (stones_of e.board e.player) a.carrier h
-    (subst (λ w. IsSure w (AreLinked e a.x a.y) (stones_of e.board e.player) a.carrier) q t)
+    (subst (λ w. IsSure w (StonesLink e a.x a.y) (stones_of e.board e.player) a.carrier) q t)
 
 disjoint : (a b : ℕ) → Apart a b → Disjoint a b
 disjoint a b d k h = false_from_ne_true (has b k) (d k h)
@@ -84,9 +84,9 @@ group_true e a b entry x u y m v ta tb r g h q c =
     let n = members a.carrier 121 in
     let p = members b.carrier 121 in
     concludes e entry (n + p) Full m v q
-    (subst (λ w. IsSureIn (n + p) Full (AreLinked e entry.x entry.y) s w) (sym c)
+    (subst (λ w. IsSureIn (n + p) Full (StonesLink e entry.x entry.y) s w) (sym c)
     (between_back e (n + p) Full entry x y s (both_of a b) h
-    (sure_both (n + p) n p Full (AreLinked e x u) (AreLinked e u y) (AreLinked e x y) s a.carrier b.carrier (both_of a b) (omega arith)
+    (sure_both (n + p) n p Full (StonesLink e x u) (StonesLink e u y) (StonesLink e x y) s a.carrier b.carrier (both_of a b) (omega arith)
     (linked_kept e x u) (linked_kept e u y) (linked_kept e x y)
     (λ t i j k. linked_group e x u y t m.stones i (λ w f z. g w (f, z)) j k)
     (disjoint a.carrier b.carrier r.apart) (union_left a.carrier b.carrier) (union_right a.carrier b.carrier)
@@ -100,9 +100,9 @@ cell_true e a b entry x u y k m v va vb ta tb r g h q c =
     let p = members b.carrier 121 in
     let w = with_cell (both_of a b) k in
     concludes e entry (suc (n + p)) Semi m v q
-    (subst (λ z. IsSureIn (suc (n + p)) Semi (AreLinked e entry.x entry.y) s z) (sym c)
+    (subst (λ z. IsSureIn (suc (n + p)) Semi (StonesLink e entry.x entry.y) s z) (sym c)
     (between_back e (suc (n + p)) Semi entry x y s w h
-    (sure_over (n + p) n p k (AreLinked e x u) (AreLinked e u y) (AreLinked e x y) s a.carrier b.carrier w (omega arith)
+    (sure_over (n + p) n p k (StonesLink e x u) (StonesLink e u y) (StonesLink e x y) s a.carrier b.carrier w (omega arith)
     (linked_kept e x u) (linked_kept e u y) (linked_kept e x y)
     (λ t i j l. linked_cell e x u y k t m.stones g.0 g.1 (i k (with_cell-here s k)) j l)
     (disjoint a.carrier b.carrier r.apart)
@@ -142,8 +142,8 @@ or_true e entry (a ∷ b ∷ []) m v t r q c =
     let u = bit_or a.carrier b.carrier in
     let y = says e b Semi entry.x entry.y (second_of (λ w. IsTrueEntry e w) a b [] t) (second_of (λ (w : Entry). w.kind ≡ Semi) a b [] r.kinds) (second_of (λ (w : Entry). IsBetween w entry.x entry.y) a b [] r.pairs) in
     concludes e entry (suc (max n p)) Full m v q
-    (subst (λ w. IsSureIn (suc (max n p)) Full (AreLinked e entry.x entry.y) s w) (sym c)
-    (sure_by_one (max n p) n p p (AreLinked e entry.x entry.y) s a.carrier b.carrier b.carrier u (omega arith) (omega arith) (omega arith) (linked_kept e entry.x entry.y)
+    (subst (λ w. IsSureIn (suc (max n p)) Full (StonesLink e entry.x entry.y) s w) (sym c)
+    (sure_by_one (max n p) n p p (StonesLink e entry.x entry.y) s a.carrier b.carrier b.carrier u (omega arith) (omega arith) (omega arith) (linked_kept e entry.x entry.y)
     (λ k f g h. both_ways (is_in_all (a ∷ b ∷ []) k) (r.free k) (two (has a.carrier k) (has b.carrier k) f g))
     (union_left a.carrier b.carrier) (union_right a.carrier b.carrier) (union_right a.carrier b.carrier)
     (says e a Semi entry.x entry.y (All-head (λ w. IsTrueEntry e w) a (b ∷ []) t) (All-head (λ (w : Entry). w.kind ≡ Semi) a (b ∷ []) r.kinds) (All-head (λ (w : Entry). IsBetween w entry.x entry.y) a (b ∷ []) r.pairs)) y y))
@@ -155,8 +155,8 @@ or_true e entry (a ∷ b ∷ d ∷ []) m v t r q c =
     let w = bit_or b.carrier d.carrier in
     let u = bit_or a.carrier w in
     concludes e entry (suc (max n (max p o))) Full m v q
-    (subst (λ z. IsSureIn (suc (max n (max p o))) Full (AreLinked e entry.x entry.y) s z) (sym c)
-    (sure_by_one (max n (max p o)) n p o (AreLinked e entry.x entry.y) s a.carrier b.carrier d.carrier u (omega arith) (omega arith) (omega arith) (linked_kept e entry.x entry.y)
+    (subst (λ z. IsSureIn (suc (max n (max p o))) Full (StonesLink e entry.x entry.y) s z) (sym c)
+    (sure_by_one (max n (max p o)) n p o (StonesLink e entry.x entry.y) s a.carrier b.carrier d.carrier u (omega arith) (omega arith) (omega arith) (linked_kept e entry.x entry.y)
     (λ k f g h. both_ways (is_in_all (a ∷ b ∷ d ∷ []) k) (r.free k) (three (has a.carrier k) (has b.carrier k) (has d.carrier k) f g h))
     (union_left a.carrier w) (λ k f. union_right a.carrier w k (union_left b.carrier d.carrier k f)) (λ k f. union_right a.carrier w k (union_right b.carrier d.carrier k f))
     (says e a Semi entry.x entry.y (All-head (λ w. IsTrueEntry e w) a (b ∷ d ∷ []) t) (All-head (λ (w : Entry). w.kind ≡ Semi) a (b ∷ d ∷ []) r.kinds) (All-head (λ (w : Entry). IsBetween w entry.x entry.y) a (b ∷ d ∷ []) r.pairs))

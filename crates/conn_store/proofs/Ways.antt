@@ -14,7 +14,7 @@ use Rattle.hex_board.proofs.Parts.{high_apart, joined_low, low_joined, link_out,
 use Rattle.hex_board.proofs.Places.{beside_back, empty_alone}
 use Rattle.hex_board.proofs.Search.{leads_out, joined_out}
 use Rattle.conn_store.specs.Laws.{IsSubset}
-use Rattle.conn_store.specs.Links.{MayPass, AreLinked}
+use Rattle.conn_store.specs.Links.{MayPass, StonesLink}
 use Rattle.conn_store.proofs.Sureness.{IsKept}
 
 -- a path from p to q
@@ -145,11 +145,11 @@ group_way e u (at_edge s) (at_edge t) on f h i = edge_to_edge e s t (h ∙ sym i
 
 -- ---- linked elements
 
--- the path of AreLinked
+-- the path of StonesLink
 abbrev pub Passage : PlayerBoard → ℕ → ℕ → ℕ → Place → Place → Type 0
 Passage e x y s p q = Way e.board.size e.player (MayPass e x y s) p q
 
-linked_from : (e : PlayerBoard) (x y s : ℕ) (p q : Place) → IsMember e x p → IsMember e y q → Passage e x y s p q → AreLinked e x y s
+linked_from : (e : PlayerBoard) (x y s : ℕ) (p q : Place) → IsMember e x p → IsMember e y q → Passage e x y s p q → StonesLink e x y s
 linked_from e x y s p q h i w = (p, w.0, h, subst (λ v. IsMember e y v) (sym w.2) i, w.1)
 
 kept_pass : (e : PlayerBoard) (x y s t : ℕ) (r : Place) → IsSubset s t → MayPass e x y s r → MayPass e x y t r
@@ -157,7 +157,7 @@ kept_pass e x y s t (at_cell k) f (inl h) = inl (f k h)
 kept_pass e x y s t (at_cell k) f (inr h) = inr h
 kept_pass e x y s t (at_edge second) f h = tt
 
-pub linked_kept : (e : PlayerBoard) (x y : ℕ) → IsKept (AreLinked e x y)
+pub linked_kept : (e : PlayerBoard) (x y : ℕ) → IsKept (StonesLink e x y)
 linked_kept e x y s t f l = (l.0, l.1, l.2, l.3, route_as e.board.size e.player (MayPass e x y s) (MayPass e x y t) l.0 l.1 (λ r h. kept_pass e x y s t r f h) l.4)
 
 pass_back : (e : PlayerBoard) (x y s : ℕ) (r : Place) → MayPass e x y s r → MayPass e y x s r
@@ -166,7 +166,7 @@ pass_back e x y s (at_cell k) (inr (inl h)) = inr (inr h)
 pass_back e x y s (at_cell k) (inr (inr h)) = inr (inl h)
 pass_back e x y s (at_edge second) h = tt
 
-pub linked_back : (e : PlayerBoard) (x y s : ℕ) → AreLinked e x y s → AreLinked e y x s
+pub linked_back : (e : PlayerBoard) (x y s : ℕ) → StonesLink e x y s → StonesLink e y x s
 linked_back e x y s l =
     let w : Passage e x y s l.0 (last_place l.0 l.1) = (l.1, l.4, refl) in
     linked_from e y x s (last_place l.0 l.1) l.0 l.3 l.2
@@ -181,7 +181,7 @@ second_member : (e : PlayerBoard) (x y s : ℕ) (p : Place) → IsMember e y p �
 second_member e x y s (at_cell k) h = inr (inr h)
 second_member e x y s (at_edge second) h = tt
 
-pub near_linked : (e : PlayerBoard) (x y s : ℕ) → Near e x y → AreLinked e x y s
+pub near_linked : (e : PlayerBoard) (x y s : ℕ) → Near e x y → StonesLink e x y s
 near_linked e x y s h = linked_from e x y s h.1 h.2 h.3 h.4
     (way_on e.board.size e.player (MayPass e x y s) h.1 h.2 h.2 (first_member e x y s h.1 h.3) h.5
     (way_here e.board.size e.player (MayPass e x y s) h.2 (second_member e x y s h.2 h.4)))
@@ -204,7 +204,7 @@ second_pass e x u y s (at_edge second) f h = tt
 
 -- over a middle whose places hang together
 pub linked_over : (e : PlayerBoard) (x u y s : ℕ) → IsFilled e u s → ((p q : Place) → IsMember e u p → IsMember e u q → Passage e x y s p q)
-    → AreLinked e x u s → AreLinked e u y s → AreLinked e x y s
+    → StonesLink e x u s → StonesLink e u y s → StonesLink e x y s
 linked_over e x u y s f g l m =
     let v : Passage e x u s l.0 (last_place l.0 l.1) = (l.1, l.4, refl) in
     let w : Passage e u y s m.0 (last_place m.0 m.1) = (m.1, m.4, refl) in
@@ -220,7 +220,7 @@ own_pass e x y s (at_edge second) f h = tt
 
 -- the middle is a group
 pub linked_group : (e : PlayerBoard) (x u y s : ℕ) → Within e.board.size (stones_of e.board e.player) → IsSubset (stones_of e.board e.player) s
-    → ((k : ℕ) → is_empty_at e.board k ≡ true → HasCell e u k → ⊥) → AreLinked e x u s → AreLinked e u y s → AreLinked e x y s
+    → ((k : ℕ) → is_empty_at e.board k ≡ true → HasCell e u k → ⊥) → StonesLink e x u s → StonesLink e u y s → StonesLink e x y s
 linked_group e x u y s on i f l m = linked_over e x u y s
     (λ k h. elim (own_cell e u k on h) [ inl o ↦ absurd (f k o h) | inr o ↦ i k o ])
     (λ p q h j. way_as e.board.size e.player (Own e) (MayPass e x y s) p q (λ r t. own_pass e x y s r i t) (group_way e u p q on f h j)) l m
@@ -246,7 +246,7 @@ cell_way e x u y k s (at_edge second) q on t f c h i = absurd (no_edge e u k sec
 
 -- the middle is an empty cell, which is filled
 pub linked_cell : (e : PlayerBoard) (x u y k s : ℕ) → Within e.board.size (stones_of e.board e.player) → is_empty_at e.board k ≡ true → HasCell e u k
-    → has s k ≡ true → AreLinked e x u s → AreLinked e u y s → AreLinked e x y s
+    → has s k ≡ true → StonesLink e x u s → StonesLink e u y s → StonesLink e x y s
 linked_cell e x u y k s on f c t l m = linked_over e x u y s
     (λ j h. subst (λ v. has s v ≡ true) (empty_alone e u k j on f c h) t)
     (λ p q h i. cell_way e x u y k s p q on t f c h i) l m

@@ -3,7 +3,7 @@ use Rattle.std.specs.Prelude.{◌≡◌, ℕ, ◌<◌, true, min, max}
 use Rattle.hex_cells.specs.Sets.{has}
 use Rattle.hex_board.specs.Elements.{PlayerBoard, HasCell, element_count}
 use Rattle.hex_board.specs.Positions.{Position, stones_of, is_empty_at}
-use Rattle.conn_store.specs.Links.{AreLinked}
+use Rattle.conn_store.specs.Links.{StonesLink}
 use Rattle.conn_store.specs.Truth.{IsSure}
 use Rattle.conn_store.specs.declared.entries.Entry.{Entry}
 use Rattle.conn_store.specs.declared.entries.Kind.{Kind}
@@ -27,7 +27,7 @@ pub record IsValid (e : PlayerBoard) (entry : Entry) : Type 0 where
 
 -- with the stones s the player is sure of linking elements x and y inside the carrier c
 abbrev pub Connects : Kind → PlayerBoard → ℕ → ℕ → ℕ → ℕ → Type 0
-Connects kind e x y s c = IsSure kind (AreLinked e x y) s c
+Connects kind e x y s c = IsSure kind (StonesLink e x y) s c
 
 -- with his stones on the board the player is sure of linking the entry's elements inside its
 -- carrier

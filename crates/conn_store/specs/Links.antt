@@ -11,7 +11,7 @@ MayPass e x y s (at_cell k) = (has s k ≡ true) ⊎ (HasCell e x k ⊎ HasCell 
 MayPass e x y s (at_edge second) = Unit {0}
 
 -- a path leads from a place of element x to one of element y through the stones s
-abbrev pub AreLinked : PlayerBoard → ℕ → ℕ → ℕ → Type 0
-AreLinked e x y s =
+abbrev pub StonesLink : PlayerBoard → ℕ → ℕ → ℕ → Type 0
+StonesLink e x y s =
     (p : Place) × (ps : List Place) × IsMember e x p × IsMember e y (last_place p ps)
     × Route e.board.size e.player (MayPass e x y s) p ps

@@ -77,8 +77,8 @@ abbrev pub with_entry : StoreData → Entry → StoreData
 with_entry d entry = record d { entries = d.entries ++ entry ∷ [] }
 
 -- the entry may be added: it is valid, and it follows from entries of the store
-abbrev pub IsNext : StoreData → Entry → Type 0
-IsNext d entry = IsValid d.elements entry × FollowsFrom d.elements d.entries entry
+abbrev pub MayBeAdded : StoreData → Entry → Type 0
+MayBeAdded d entry = IsValid d.elements entry × FollowsFrom d.elements d.entries entry
 
 -- a rule of AND applies to the entries with these numbers
 abbrev pub CanAnd : StoreData → ℕ → ℕ → Type 0

@@ -5,7 +5,7 @@ ghost use Rattle.hex_board.specs.Elements.{element_count};
 ghost use Rattle.hex_board.specs.Places.{Near};
 ghost use Rattle.conn_store.specs.Entries.{AllEmpty, IsValid, Misses};
 ghost use Rattle.conn_store.specs.Rules.{AndRule, AreWays, IsChain, IsEntry, OrRule, adjacent_entry};
-ghost use Rattle.conn_store.specs.Stores.{CanAnd, CanOr, GivesAnd, IsNext};
+ghost use Rattle.conn_store.specs.Stores.{CanAnd, CanOr, GivesAnd, MayBeAdded};
 
 use super::Store;
 use super::entries::{Cause, Entry, Kind};
@@ -74,7 +74,7 @@ impl Store {
     pub fn by_adjacent(&self, x: u8, y: u8) -> Option<Entry>
         requires order { x < y }
         requires elements { y < element_count self.now.elements }
-        ensures next { IfSome result (IsNext self.now) }
+        ensures next { IfSome result (MayBeAdded self.now) }
         ensures entry { IfSome result (λ a. a ≡ adjacent_entry x y) }
         ensures none { IfNone result (¬ (Near self.now.elements x y)) }
     {
@@ -96,7 +96,7 @@ impl Store {
     pub fn by_and(&self, i: u32, j: u32) -> Option<Entry>
         requires first { i < length self.now.entries }
         requires second { j < length self.now.entries }
-        ensures next { IfSome result (IsNext self.now) }
+        ensures next { IfSome result (MayBeAdded self.now) }
         ensures gives { IfSome result (GivesAnd self.now i j) }
         ensures none { IfNone result (¬ (CanAnd self.now i j)) }
     {
@@ -152,7 +152,7 @@ impl Store {
     pub fn by_or_two(&self, i: u32, j: u32) -> Option<Entry>
         requires first { i < length self.now.entries }
         requires second { j < length self.now.entries }
-        ensures next { IfSome result (IsNext self.now) }
+        ensures next { IfSome result (MayBeAdded self.now) }
         ensures cause { IfSome result (λ a. a.cause ≡ Cause.Or (i ∷ j ∷ 0 ∷ []) 2) }
         ensures none { IfNone result (¬ (CanOr self.now (i ∷ j ∷ []))) }
     {
@@ -171,7 +171,7 @@ impl Store {
         requires first { i < length self.now.entries }
         requires second { j < length self.now.entries }
         requires third { k < length self.now.entries }
-        ensures next { IfSome result (IsNext self.now) }
+        ensures next { IfSome result (MayBeAdded self.now) }
         ensures cause { IfSome result (λ a. a.cause ≡ Cause.Or (i ∷ j ∷ k ∷ []) 3) }
         ensures none { IfNone result (¬ (CanOr self.now (i ∷ j ∷ k ∷ []))) }
     {

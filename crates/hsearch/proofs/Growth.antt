@@ -15,7 +15,7 @@ use Rattle.conn_store.specs.declared.entries.Put.TheVariants.{Added, Dominated, 
 use Rattle.conn_store.proofs.Numbers.{numbers_over}
 use Rattle.conn_store.proofs.Tables.{of_itself}
 use Rattle.hsearch.specs.Closed.{SettlesAnd, SettlesOr, HoldsEdge, IsSettled}
-use Rattle.hsearch.specs.Taken.{Extends, IsChosen, IsCombined, IsJoined, IsJoinedOver, IsJoinedTo}
+use Rattle.hsearch.specs.Taken.{Extends, IsOrSettled, IsCombined, IsAndSettled, IsAndSettledOver, IsAndSettledTo}
 
 -- ---- more entries
 
@@ -97,13 +97,13 @@ two_were d f i j a b g l m h =
     let r : slice_get d.entries i ≡ Some a = entry_was d f i a g l p in
     let s : slice_get d.entries j ≡ Some b = entry_was d f j b g m q in cc
 
-pub joined_stays : (d f : StoreData) (i j : ℕ) → Extends d f → i < length d.entries → j < length d.entries → IsJoined d i j → IsJoined f i j
+pub joined_stays : (d f : StoreData) (i j : ℕ) → Extends d f → i < length d.entries → j < length d.entries → IsAndSettled d i j → IsAndSettled f i j
 joined_stays d f i j g l m h a b x u y at = and_stays d f a b x u y g (h a b x u y (two_were d f i j a b g l m at))
 
-pub over_stays : (d f : StoreData) (i j u : ℕ) → Extends d f → i < length d.entries → j < length d.entries → IsJoinedOver d i j u → IsJoinedOver f i j u
+pub over_stays : (d f : StoreData) (i j u : ℕ) → Extends d f → i < length d.entries → j < length d.entries → IsAndSettledOver d i j u → IsAndSettledOver f i j u
 over_stays d f i j u g l m h a b x y at = and_stays d f a b x u y g (h a b x y (two_were d f i j a b g l m at))
 
-pub to_stays : (d f : StoreData) (i j u y : ℕ) → Extends d f → i < length d.entries → j < length d.entries → IsJoinedTo d i j u y → IsJoinedTo f i j u y
+pub to_stays : (d f : StoreData) (i j u y : ℕ) → Extends d f → i < length d.entries → j < length d.entries → IsAndSettledTo d i j u y → IsAndSettledTo f i j u y
 to_stays d f i j u y g l m h a b x at = and_stays d f a b x u y g (h a b x (two_were d f i j a b g l m at))
 
 -- the numbers are those of entries
@@ -120,7 +120,7 @@ ways_were d f (i ∷ numbers) (a ∷ ways) g l h =
     let r : slice_get d.entries i ≡ Some a = entry_was d f i a g l.0 p in
     let s : AreAt d.entries numbers ways = ways_were d f numbers ways g l.1 q in cc
 
-pub chosen_stays : (d f : StoreData) (numbers : List ℕ) → Extends d f → AreWithin (length d.entries) numbers → IsChosen d numbers → IsChosen f numbers
+pub chosen_stays : (d f : StoreData) (numbers : List ℕ) → Extends d f → AreWithin (length d.entries) numbers → IsOrSettled d numbers → IsOrSettled f numbers
 chosen_stays d f numbers g l h ways x y at = or_stays d f ways x y g (h ways x y (ways_were d f numbers ways g l at))
 
 pub combined_stays : (d f : StoreData) (n : ℕ) → Extends d f → n < length d.entries → IsCombined d n → IsCombined f n

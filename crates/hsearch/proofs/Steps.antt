@@ -10,7 +10,7 @@ use Rattle.hex_board.specs.Elements.{PlayerBoard, element_count}
 use Rattle.hex_board.specs.Places.{Near}
 use Rattle.conn_store.specs.Entries.{IsBetween}
 use Rattle.conn_store.specs.Rules.{AndRule, AreAt, FollowsBy, IsCell, IsGroup, OrRule, adjacent_entry, both_of, union_of}
-use Rattle.conn_store.specs.Stores.{GivesAnd, IsCovered, IsNext, IsPairFull, IsSound, StoreData, after_put, held_of, is_of, numbers_of}
+use Rattle.conn_store.specs.Stores.{GivesAnd, IsCovered, MayBeAdded, IsPairFull, IsSound, StoreData, after_put, held_of, is_of, numbers_of}
 use Rattle.conn_store.specs.declared.entries.Cause.TheVariants.{Or}
 use Rattle.conn_store.specs.declared.entries.Entry.{Entry}
 use Rattle.conn_store.specs.declared.entries.Held.{Held}
@@ -24,13 +24,13 @@ use Rattle.conn_store.proofs.RuleEntries.{at_three, at_two}
 use Rattle.conn_store.proofs.RuleTruth.{second_of, third_of}
 use Rattle.conn_store.proofs.Tables.{held_count, last_or_before, number_at, number_within, of_itself}
 use Rattle.hsearch.specs.Closed.{SettlesOr, HoldsEdge, IsRuleClosed, IsKept}
-use Rattle.hsearch.specs.Taken.{AreBare, AreNearBelow, Extends, IsChosen, IsCombined, IsJoined, IsJoinedOver, IsJoinedTo, IsOfPair, IsTaken}
+use Rattle.hsearch.specs.Taken.{AreBare, AreNearBelow, Extends, IsOrSettled, IsCombined, IsAndSettled, IsAndSettledOver, IsAndSettledTo, IsOfPair, IsTaken}
 use Rattle.hsearch.proofs.Growth.{AreWithin, IsPut, answered, covered_stays, entry_stays, entry_was, grown_longer, grown_on, grown_put, put_answers, to_stays, two_were, ways_were}
 use Rattle.hsearch.proofs.Orders.{last_first, swapped_first, swapped_last, swapped_two, three_of, turned_and, two_of, way_twice}
 
 -- ---- two entries by AND
 
-pub joined_put : (d f : StoreData) (i j : ℕ) (entry : Entry) (put : Put) → i < length d.entries → j < length d.entries → GivesAnd d i j entry → IsPut d f entry put → IsJoined f i j
+pub joined_put : (d f : StoreData) (i j : ℕ) (entry : Entry) (put : Put) → i < length d.entries → j < length d.entries → GivesAnd d i j entry → IsPut d f entry put → IsAndSettled f i j
 joined_put d f i j entry put l m g p a b x u y at r n =
     let e : Extends d f = grown_put d entry put f p.after in
     let o = g a b x u y (two_were d f i j a b e l m at) (subst (λ (v : PlayerBoard). AndRule v a b x u y) e.elements r) in (
@@ -59,8 +59,8 @@ one_of_ways (a ∷ ways) x y v w l r s =
     pair_is : (v w m n p q : ℕ) → v < w → p ≡ min v w → q ≡ max v w → p ≡ m → q ≡ n → (v ≡ m) × (w ≡ n)
     pair_is v w m n p q l h g i o = (omega arith, omega arith)
 
-pub chosen_put : (d f : StoreData) (numbers all : List ℕ) (count : ℕ) (entry : Entry) (put : Put) → AreWithin (length d.entries) numbers → IsNext d entry
-    → entry.cause ≡ Or all count → take count all ≡ numbers → IsPut d f entry put → IsChosen f numbers
+pub chosen_put : (d f : StoreData) (numbers all : List ℕ) (count : ℕ) (entry : Entry) (put : Put) → AreWithin (length d.entries) numbers → MayBeAdded d entry
+    → entry.cause ≡ Or all count → take count all ≡ numbers → IsPut d f entry put → IsOrSettled f numbers
 chosen_put d f numbers all count entry put l n c t p ways x y at r =
     let e : Extends d f = grown_put d entry put f p.after in
     let here : AreAt d.entries numbers ways = ways_were d f numbers ways e l at in
@@ -170,14 +170,14 @@ at_first entries i j a b h = cc
 
 -- all the held entries of u and y were joined
 pub joined_to : (d f : StoreData) (n u y : ℕ) (h : Held) → h ≡ held_of (numbers_of d Full (min u y) (max u y)) → Extends d f
-    → ((p : ℕ) → p < h.count → IsJoined f n (get_or h.at p 0)) → (i : ℕ) → i < length d.entries → IsJoinedTo f n i u y
+    → ((p : ℕ) → p < h.count → IsAndSettled f n (get_or h.at p 0)) → (i : ℕ) → i < length d.entries → IsAndSettledTo f n i u y
 joined_to d f n u y h e g done i l a b x at r m =
     let s = entry_was d f i b g l (at_second f.entries n i a b at) in
     let w = held_has d Full (min u y) (max u y) i h b e s r.second_kind r.chain.second.0 r.chain.second.1 in
-    subst (λ v. IsJoined f n v) w.2 (done w.0 w.1) a b x u y at r m
+    subst (λ v. IsAndSettled f n v) w.2 (done w.0 w.1) a b x u y at r m
 
 -- no entry is of an element and itself
-pub joined_itself : (d f : StoreData) (n u : ℕ) → IsSound d → Extends d f → (i : ℕ) → i < length d.entries → IsJoinedTo f n i u u
+pub joined_itself : (d f : StoreData) (n u : ℕ) → IsSound d → Extends d f → (i : ℕ) → i < length d.entries → IsAndSettledTo f n i u u
 joined_itself d f n u s g i l a b x at r m =
     let v = s.valid i b (entry_was d f i b g l (at_second f.entries n i a b at)) in
     absurd ((ends_below d.elements b u u v r.chain.second).2 refl)
@@ -185,9 +185,9 @@ joined_itself d f n u s g i l a b x at r m =
 -- what is known when the second ends below y were gone through
 pub record IsTried (d f : StoreData) (n u y : ℕ) : Type 0 where
   pub grown : Extends d f
-  pub done : (z : ℕ) → z < y → (i : ℕ) → i < length d.entries → IsJoinedTo f n i u z
+  pub done : (z : ℕ) → z < y → (i : ℕ) → i < length d.entries → IsAndSettledTo f n i u z
 
-pub tried_more : (d f g : StoreData) (n u y : ℕ) → IsTried d f n u y → n < length d.entries → Extends f g → ((i : ℕ) → i < length f.entries → IsJoinedTo g n i u y)
+pub tried_more : (d f g : StoreData) (n u y : ℕ) → IsTried d f n u y → n < length d.entries → Extends f g → ((i : ℕ) → i < length f.entries → IsAndSettledTo g n i u y)
     → IsTried d g n u (y + 1)
 tried_more d f g n u y t l e h =
     let m : length d.entries ≤ length f.entries = grown_longer d f t.grown in
@@ -195,7 +195,7 @@ tried_more d f g n u y t l e h =
       grown = grown_on d f g t.grown e;
       done = λ z k i b. elim (cases_lt z y) [
         | inl o ↦ to_stays f g n i u z e (omega arith) (omega arith) (t.done z o i b)
-        | inr o ↦ let same : y ≡ z = omega arith in subst (λ v. IsJoinedTo g n i u v) same (h i (omega arith))
+        | inr o ↦ let same : y ≡ z = omega arith in subst (λ v. IsAndSettledTo g n i u v) same (h i (omega arith))
       ];
     }
 
@@ -204,18 +204,18 @@ tried_itself d f n u y t s q = record {
   grown = t.grown;
   done = λ z k i b. elim (cases_lt z y) [
     | inl o ↦ t.done z o i b
-    | inr o ↦ let same : u ≡ z = omega arith in subst (λ v. IsJoinedTo f n i u v) same (joined_itself d f n u s t.grown i b)
+    | inr o ↦ let same : u ≡ z = omega arith in subst (λ v. IsAndSettledTo f n i u v) same (joined_itself d f n u s t.grown i b)
   ];
 }
 
 -- all second ends were gone through
 pub joined_over : (d f : StoreData) (n u : ℕ) → IsSound d → Extends d f
-    → ((y : ℕ) → y < element_count d.elements → (i : ℕ) → i < length d.entries → IsJoinedTo f n i u y) → (i : ℕ) → i < length d.entries → IsJoinedOver f n i u
+    → ((y : ℕ) → y < element_count d.elements → (i : ℕ) → i < length d.entries → IsAndSettledTo f n i u y) → (i : ℕ) → i < length d.entries → IsAndSettledOver f n i u
 joined_over d f n u s g done i l a b x y at r m =
     let v = s.valid i b (entry_was d f i b g l (at_second f.entries n i a b at)) in
     done y (ends_below d.elements b u y v r.chain.second).1 i l a b x at r m
 
-pub over_edge : (d : StoreData) (n u : ℕ) → HoldsEdge d.elements u → (i : ℕ) → IsJoinedOver d n i u
+pub over_edge : (d : StoreData) (n u : ℕ) → HoldsEdge d.elements u → (i : ℕ) → IsAndSettledOver d n i u
 over_edge d n u h i a b x y at r m = absurd (m h)
 
 -- ---- all ways of a pair
@@ -240,11 +240,11 @@ like_first a b x y v w h g p q = (g.0 ∙ (sym h.0 ∙ p), g.1 ∙ (sym h.1 ∙ 
 
 -- what the loops over the ways leave
 pub record AreChosen (f : StoreData) (n : ℕ) (h : Held) : Type 0 where
-  pub twos : (p : ℕ) → p < h.count → IsChosen f (n ∷ get_or h.at p 0 ∷ [])
-  pub threes : (p q : ℕ) → p < h.count → q < p → IsChosen f (n ∷ get_or h.at p 0 ∷ get_or h.at q 0 ∷ [])
+  pub twos : (p : ℕ) → p < h.count → IsOrSettled f (n ∷ get_or h.at p 0 ∷ [])
+  pub threes : (p q : ℕ) → p < h.count → q < p → IsOrSettled f (n ∷ get_or h.at p 0 ∷ get_or h.at q 0 ∷ [])
 
 pub chosen_two : (d f : StoreData) (n x y : ℕ) (h : Held) → h ≡ held_of (numbers_of d Semi x y) → Extends d f → n < length d.entries → IsOfPair d n x y → AreChosen f n h
-    → (i : ℕ) → i < length d.entries → IsChosen f (n ∷ i ∷ [])
+    → (i : ℕ) → i < length d.entries → IsOrSettled f (n ∷ i ∷ [])
 chosen_two d f n x y h e g l o done i m ways v w at r =
     let t = of_two f.entries n i ways at in
     let s : OrRule (t.0 ∷ t.1 ∷ []) v w = subst (λ z. OrRule z v w) t.2 r in
@@ -254,10 +254,10 @@ chosen_two d f n x y h e g l o done i m ways v w at r =
     let p = o t.0 a in
     let q = like_first t.0 t.1 x y v w u.first_pair u.second_pair p.0 p.1 in
     let z = held_has d Semi x y i h t.1 e b u.second_kind q.0 q.1 in
-    subst (λ k. IsChosen f (n ∷ k ∷ [])) z.2 (done.twos z.0 z.1) ways v w at r
+    subst (λ k. IsOrSettled f (n ∷ k ∷ [])) z.2 (done.twos z.0 z.1) ways v w at r
 
 pub chosen_three : (d f : StoreData) (n x y : ℕ) (h : Held) → h ≡ held_of (numbers_of d Semi x y) → Extends d f → n < length d.entries → IsOfPair d n x y → AreChosen f n h
-    → (i j : ℕ) → i < length d.entries → j < length d.entries → IsChosen f (n ∷ i ∷ j ∷ [])
+    → (i j : ℕ) → i < length d.entries → j < length d.entries → IsOrSettled f (n ∷ i ∷ j ∷ [])
 chosen_three d f n x y h e g l o done i j m k ways v w at r =
     let t = of_three f.entries n i j ways at in
     let s : OrRule (t.0 ∷ t.1 ∷ t.2 ∷ []) v w = subst (λ z. OrRule z v w) t.3 r in
@@ -275,12 +275,12 @@ chosen_three d f n x y h e g l o done i j m k ways v w at r =
           let ij : i ≡ j = sym b_at.2 ∙ (ap (λ p. get_or h.at p 0) same ∙ c_at.2) in
           let bc : t.1 ≡ t.2 = same_Some t.1 t.2 (sym t.5 ∙ (ap (λ p. slice_get f.entries p) ij ∙ t.6)) in
           subst (λ (z : Entry). SettlesOr f (t.0 ∷ t.1 ∷ z ∷ []) v w) bc
-          (way_twice f t.0 t.1 v w (subst (λ p. IsChosen f (n ∷ p ∷ [])) b_at.2 (done.twos b_at.0 b_at.1) (t.0 ∷ t.1 ∷ []) v w (at_two f.entries n i t.0 t.1 t.4 t.5)))
+          (way_twice f t.0 t.1 v w (subst (λ p. IsOrSettled f (n ∷ p ∷ [])) b_at.2 (done.twos b_at.0 b_at.1) (t.0 ∷ t.1 ∷ []) v w (at_two f.entries n i t.0 t.1 t.4 t.5)))
       | inr other ↦ elim other [
         | inl less ↦ swapped_last f t.0 t.1 t.2 v w
-            (subst (λ p. IsChosen f (n ∷ p ∷ i ∷ [])) c_at.2 (subst (λ p. IsChosen f (n ∷ get_or h.at c_at.0 0 ∷ p ∷ [])) b_at.2 (done.threes c_at.0 b_at.0 c_at.1 less))
+            (subst (λ p. IsOrSettled f (n ∷ p ∷ i ∷ [])) c_at.2 (subst (λ p. IsOrSettled f (n ∷ get_or h.at c_at.0 0 ∷ p ∷ [])) b_at.2 (done.threes c_at.0 b_at.0 c_at.1 less))
             (t.0 ∷ t.2 ∷ t.1 ∷ []) v w (at_three f.entries n j i t.0 t.2 t.1 t.4 t.6 t.5))
-        | inr more ↦ subst (λ p. IsChosen f (n ∷ p ∷ j ∷ [])) b_at.2 (subst (λ p. IsChosen f (n ∷ get_or h.at b_at.0 0 ∷ p ∷ [])) c_at.2 (done.threes b_at.0 c_at.0 b_at.1 more))
+        | inr more ↦ subst (λ p. IsOrSettled f (n ∷ p ∷ j ∷ [])) b_at.2 (subst (λ p. IsOrSettled f (n ∷ get_or h.at b_at.0 0 ∷ p ∷ [])) c_at.2 (done.threes b_at.0 c_at.0 b_at.1 more))
             (t.0 ∷ t.1 ∷ t.2 ∷ []) v w (at_three f.entries n i j t.0 t.1 t.2 t.4 t.5 t.6)
       ]
     ]) r
@@ -294,13 +294,13 @@ middle_of : (a : Entry) (x u : ℕ) → IsBetween a x u → (u ≡ a.x) ⊎ (u �
 middle_of a x u h = elim (cases_lt x u) [ inl l ↦ inr (omega (arith, h.1)) | inr l ↦ inl (omega (arith, h.0)) ]
 
 pub combined_full : (d f : StoreData) (n : ℕ) (a : Entry) → Extends d f → n < length d.entries → slice_get d.entries n ≡ Some a → a.kind ≡ Full
-    → ((i : ℕ) → i < length d.entries → IsJoinedOver f n i a.x) → ((i : ℕ) → i < length d.entries → IsJoinedOver f n i a.y) → IsCombined f n
+    → ((i : ℕ) → i < length d.entries → IsAndSettledOver f n i a.x) → ((i : ℕ) → i < length d.entries → IsAndSettledOver f n i a.y) → IsCombined f n
 combined_full d f n a g l h k over_x over_y = record {
   ands = λ i m b c x u y at r z.
       let q : b ≡ a = same_Some b a (sym (at_first f.entries n i b c at) ∙ entry_stays d f n a g h) in
       elim (middle_of a x u (subst (λ (v : Entry). IsBetween v x u) q r.chain.first)) [
-        | inl p ↦ subst (λ v. IsJoinedOver f n i v) (sym p) (over_x i (omega arith)) b c x y at r z
-        | inr p ↦ subst (λ v. IsJoinedOver f n i v) (sym p) (over_y i (omega arith)) b c x y at r z
+        | inl p ↦ subst (λ v. IsAndSettledOver f n i v) (sym p) (over_x i (omega arith)) b c x y at r z
+        | inr p ↦ subst (λ v. IsAndSettledOver f n i v) (sym p) (over_y i (omega arith)) b c x y at r z
       ];
   twos = λ i m ways x y at r. absurd (no_way (n ∷ i ∷ []) ways x y (of_two f.entries n i ways at).0 (of_two f.entries n i ways at).3 (first_two i ways at) r);
   threes = λ i j m o ways x y at r. absurd (no_way (n ∷ i ∷ j ∷ []) ways x y (of_three f.entries n i j ways at).0 (of_three f.entries n i j ways at).4 (first_three i j ways at) r);
@@ -318,7 +318,7 @@ combined_full d f n a g l h k over_x over_y = record {
     first_three i j ways at = let t = of_three f.entries n i j ways at in (t.1 ∷ t.2 ∷ [], t.3)
 
 pub combined_semi : (d f : StoreData) (n : ℕ) (a : Entry) → Extends d f → n < length d.entries → slice_get d.entries n ≡ Some a → a.kind ≡ Semi
-    → ((i : ℕ) → i < length d.entries → IsChosen f (n ∷ i ∷ [])) → ((i j : ℕ) → i < length d.entries → j < length d.entries → IsChosen f (n ∷ i ∷ j ∷ [])) → IsCombined f n
+    → ((i : ℕ) → i < length d.entries → IsOrSettled f (n ∷ i ∷ [])) → ((i j : ℕ) → i < length d.entries → j < length d.entries → IsOrSettled f (n ∷ i ∷ j ∷ [])) → IsCombined f n
 combined_semi d f n a g l h k twos threes = record {
   ands = λ i m b c x u y at r z.
       let q : b ≡ a = same_Some b a (sym (at_first f.entries n i b c at) ∙ entry_stays d f n a g h) in

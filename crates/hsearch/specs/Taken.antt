@@ -14,30 +14,30 @@ pub record Extends (d f : StoreData) : Type 0 where
   pub entries : (more : List Entry) × (f.entries ≡ d.entries ++ more)
 
 -- what the rules of AND give of entries i and j is answered
-abbrev pub IsJoined : StoreData → ℕ → ℕ → Type 0
-IsJoined d i j =
+abbrev pub IsAndSettled : StoreData → ℕ → ℕ → Type 0
+IsAndSettled d i j =
     (a b : Entry) (x u y : ℕ) → AreAt d.entries (i ∷ j ∷ []) (a ∷ b ∷ []) → SettlesAnd d a b x u y
 
 -- the same where the middle is u
-abbrev pub IsJoinedOver : StoreData → ℕ → ℕ → ℕ → Type 0
-IsJoinedOver d i j u =
+abbrev pub IsAndSettledOver : StoreData → ℕ → ℕ → ℕ → Type 0
+IsAndSettledOver d i j u =
     (a b : Entry) (x y : ℕ) → AreAt d.entries (i ∷ j ∷ []) (a ∷ b ∷ []) → SettlesAnd d a b x u y
 
 -- the same where the middle is u and the second end is y
-abbrev pub IsJoinedTo : StoreData → ℕ → ℕ → ℕ → ℕ → Type 0
-IsJoinedTo d i j u y =
+abbrev pub IsAndSettledTo : StoreData → ℕ → ℕ → ℕ → ℕ → Type 0
+IsAndSettledTo d i j u y =
     (a b : Entry) (x : ℕ) → AreAt d.entries (i ∷ j ∷ []) (a ∷ b ∷ []) → SettlesAnd d a b x u y
 
 -- what the rule of OR gives of the entries with these numbers is answered
-abbrev pub IsChosen : StoreData → List ℕ → Type 0
-IsChosen d numbers =
+abbrev pub IsOrSettled : StoreData → List ℕ → Type 0
+IsOrSettled d numbers =
     (ways : List Entry) (x y : ℕ) → AreAt d.entries numbers ways → SettlesOr d ways x y
 
 -- what the rules give of entry n and of entries up to it is answered
 pub record IsCombined (d : StoreData) (n : ℕ) : Type 0 where
-  pub ands : (i : ℕ) → i < n + 1 → IsJoined d n i
-  pub twos : (i : ℕ) → i < n + 1 → IsChosen d (n ∷ i ∷ [])
-  pub threes : (i j : ℕ) → i < n + 1 → j < n + 1 → IsChosen d (n ∷ i ∷ j ∷ [])
+  pub ands : (i : ℕ) → i < n + 1 → IsAndSettled d n i
+  pub twos : (i : ℕ) → i < n + 1 → IsOrSettled d (n ∷ i ∷ [])
+  pub threes : (i j : ℕ) → i < n + 1 → j < n + 1 → IsOrSettled d (n ∷ i ∷ j ∷ [])
 
 -- what the rules give of the first n entries is answered
 abbrev pub IsTaken : StoreData → ℕ → Type 0

@@ -3,8 +3,8 @@
 ghost use Rattle.std.specs.Prelude.{◌≡◌, ℕ, ◌+◌, ◌<◌, ◌≤◌, ◌∷◌, [], ◌↔◌, IsTrue, length, slice_index};
 ghost use Rattle.hex_board.specs.Elements.{element_count};
 ghost use Rattle.hsearch.specs.Closed.{HoldsEdge};
-ghost use Rattle.hsearch.specs.Taken.{AreBare, AreNearBelow, Extends, IsChosen, IsCombined};
-ghost use Rattle.hsearch.specs.Taken.{IsJoined, IsJoinedOver, IsJoinedTo, IsOfPair};
+ghost use Rattle.hsearch.specs.Taken.{AreBare, AreNearBelow, Extends, IsOrSettled, IsCombined};
+ghost use Rattle.hsearch.specs.Taken.{IsAndSettled, IsAndSettledOver, IsAndSettledTo, IsOfPair};
 
 use conn_store::{Held, Kind, Store};
 use hex_board::Elements;
@@ -70,7 +70,7 @@ fn join_over(store: &mut Store, number: u32, u: u8)
     requires number { number < length store.old.entries }
     requires middle { u < element_count store.old.elements }
     ensures extends { Extends store.old store.new }
-    ensures joined { (i : ℕ) → i < length store.old.entries → IsJoinedOver store.new number i u }
+    ensures joined { (i : ℕ) → i < length store.old.entries → IsAndSettledOver store.new number i u }
 {
     if holds_edge(store.elements(), u) {
         return;
@@ -92,7 +92,7 @@ fn join_to(store: &mut Store, number: u32, u: u8, y: u8)
     requires end { y < element_count store.old.elements }
     requires apart { ¬ (u ≡ y) }
     ensures extends { Extends store.old store.new }
-    ensures joined { (i : ℕ) → i < length store.old.entries → IsJoinedTo store.new number i u y }
+    ensures joined { (i : ℕ) → i < length store.old.entries → IsAndSettledTo store.new number i u y }
 {
     let held = store.held(u.min(y), u.max(y), Kind::Full);
     'others: for place in 0..held.count as usize {
@@ -105,7 +105,7 @@ fn join(store: &mut Store, i: u32, j: u32)
     requires first { i < length store.old.entries }
     requires second { j < length store.old.entries }
     ensures extends { Extends store.old store.new }
-    ensures joined { IsJoined store.new i j }
+    ensures joined { IsAndSettled store.new i j }
 {
     if let Some(entry) = store.by_and(i, j) {
         let _ = store.add(entry);
@@ -120,9 +120,9 @@ fn choose(store: &mut Store, number: u32, x: u8, y: u8)
     requires elements { y < element_count store.old.elements }
     requires pair { IsOfPair store.old number x y }
     ensures extends { Extends store.old store.new }
-    ensures twos { (i : ℕ) → i < length store.old.entries → IsChosen store.new (number ∷ i ∷ []) }
+    ensures twos { (i : ℕ) → i < length store.old.entries → IsOrSettled store.new (number ∷ i ∷ []) }
     ensures threes { (i j : ℕ) → i < length store.old.entries → j < length store.old.entries
-        → IsChosen store.new (number ∷ i ∷ j ∷ []) }
+        → IsOrSettled store.new (number ∷ i ∷ j ∷ []) }
 {
     let held = store.held(x, y, Kind::Semi);
     'seconds: for place in 0..held.count as usize {
@@ -140,7 +140,7 @@ fn choose_with(store: &mut Store, number: u32, held: &Held, place: usize)
         → slice_index held.now.at p < length store.old.entries }
     ensures extends { Extends store.old store.new }
     ensures chosen { (q : ℕ) → q < place
-        → IsChosen store.new
+        → IsOrSettled store.new
         (number ∷ slice_index held.now.at place ∷ slice_index held.now.at q ∷ []) }
 {
     'thirds: for other in 0..place {
@@ -153,7 +153,7 @@ fn choose_two(store: &mut Store, i: u32, j: u32)
     requires first { i < length store.old.entries }
     requires second { j < length store.old.entries }
     ensures extends { Extends store.old store.new }
-    ensures chosen { IsChosen store.new (i ∷ j ∷ []) }
+    ensures chosen { IsOrSettled store.new (i ∷ j ∷ []) }
 {
     if let Some(entry) = store.by_or_two(i, j) {
         let _ = store.add(entry);
@@ -166,7 +166,7 @@ fn choose_three(store: &mut Store, i: u32, j: u32, k: u32)
     requires second { j < length store.old.entries }
     requires third { k < length store.old.entries }
     ensures extends { Extends store.old store.new }
-    ensures chosen { IsChosen store.new (i ∷ j ∷ k ∷ []) }
+    ensures chosen { IsOrSettled store.new (i ∷ j ∷ k ∷ []) }
 {
     if let Some(entry) = store.by_or_three(i, j, k) {
         let _ = store.add(entry);
