@@ -3,13 +3,13 @@ use Rattle.std.proofs.Common.{◌≡◌, ℕ, zero, suc, ◌+◌, ◌-◌, ◌�
 use Rattle.std.specs.Prelude.{slice_index, min, codes}
 use Rattle.std.proofs.lemmas.Bool.{cases_lt}
 use Rattle.std.proofs.lemmas.Grind.{common_steps}
-use Rattle.std.proofs.lemmas.List.{get_or-take, get_or-append_right, get_or_past, take-append-le}
+use Rattle.std.proofs.lemmas.List.{length-take-le, get_or-take, get_or-append_right, get_or_past, take-append-le}
 use Rattle.std.proofs.Math.ListN.{get_or-append}
 use Rattle.std.proofs.Math.Seq.{take-length}
 use Rattle.tree_words.specs.Closing.{ClosedTree, IsClosed}
 use Rattle.tree_words.specs.Settings.{IsSetting}
 use Rattle.tree_words.specs.Words.{next_in, area_at}
-use Rattle.trace_audit.specs.Traces.{bytes_of, fields_of, text_of, written}
+use Rattle.trace_audit.specs.Traces.{bytes_of, fields_of, trace_text, written}
 use Rattle.trace_audit.specs.Told.{AreWords, IsTold, TellsClosed}
 use Rattle.trace_audit.proofs.SameWords.{closed_same, front_below}
 
@@ -22,27 +22,24 @@ zeros zero i = refl
 zeros (suc n) zero = refl
 zeros (suc n) (suc i) = zeros n i
 
-short : (words : List ℕ) (q : ℕ) → q ≤ length words → length (take q words) ≡ q
-short words q l = grind (arith, common_steps)
-
 read_long : (words : List ℕ) (q : ℕ) → q ≤ length words → length (read_back words q) ≡ length words
 read_long words q l =
-    let front : length (take q words) ≡ q = short words q l in
+    let front : length (take q words) ≡ q = length-take-le q words l in
     let zeros_behind : List ℕ = replicate (length words - q) 0 in
     let rest : length zeros_behind ≡ length words - q = grind (arith, common_steps) in
     omega (arith, length-append (take q words) zeros_behind, front, rest, l)
 
 read_below : (words : List ℕ) (q i : ℕ) → q ≤ length words → i < q → slice_index (read_back words q) i ≡ slice_index words i
 read_below words q i l m =
-    let front : length (take q words) ≡ q = short words q l in
+    let front : length (take q words) ≡ q = length-take-le q words l in
     get_or-append (take q words) (replicate (length words - q) 0) 0 i (omega (arith, front, m)) ∙ get_or-take q words i 0 m
 
 read_rest : (words : List ℕ) (q i : ℕ) → q ≤ length words → q ≤ i → slice_index (read_back words q) i ≡ 0
-read_rest words q i l m = get_or-append_right (take q words) (replicate (length words - q) 0) q i 0 (short words q l) m ∙ zeros (length words - q) (i - q)
+read_rest words q i l m = get_or-append_right (take q words) (replicate (length words - q) 0) q i 0 (length-take-le q words l) m ∙ zeros (length words - q) (i - q)
 
 read_front : (words : List ℕ) (q : ℕ) → q ≤ length words → take q (read_back words q) ≡ take q words
 read_front words q l =
-    let front : length (take q words) ≡ q = short words q l in
+    let front : length (take q words) ≡ q = length-take-le q words l in
     take-append-le q (take q words) (replicate (length words - q) 0) (omega (arith, front)) ∙ ap (λ k. take k (take q words)) (sym front) ∙ take-length (take q words)
 
 -- a word below NEXT is read as it was: where it was not written, there is none
@@ -60,7 +57,7 @@ read_words words q l h i = ⊎_elim
     (cases_lt i q)
 
 -- the text of a closed tree tells a closed tree
-pub tells_closed : (t : ClosedTree) → IsSetting t.shape → IsClosed t.shape t.words → AreWords t.words → TellsClosed (text_of t)
+pub tells_closed : (t : ClosedTree) → IsSetting t.shape → IsClosed t.shape t.words → AreWords t.words → TellsClosed (trace_text t)
 tells_closed t h c range =
     let words : List ℕ = t.words in
     let q : ℕ = written words in

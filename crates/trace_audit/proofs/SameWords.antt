@@ -17,16 +17,9 @@ use Rattle.hex_cells.specs.Sets.{has as has_cell}
 use Rattle.hex_board.specs.Positions.{stones_of}
 use Rattle.tree_words.specs.Closing.{IsClosed, KeepsEnds}
 use Rattle.tree_words.proofs.Boards.RootLaws.{root_of, complete_in}
+use Rattle.tree_words.proofs.Walks.Tallies.{count-same}
 use Rattle.tree_words.proofs.Blocks.BlockLaws.{has-at}
 use Rattle.tree_words.proofs.Blocks.GameLaws.{in-node}
-
--- a count of numbers is the same where the tests are
-count_same : (n : ℕ) (f g : ℕ → Bool) → ((k : ℕ) → k < n → f k ≡ g k) → count_below n f ≡ count_below n g
-count_same zero f g e = refl
-count_same (suc n) f g e =
-    let before : count_below n f ≡ count_below n g = count_same n f g (λ k l. e k (omega (arith, l))) in
-    let last : f n ≡ g n = e n (omega arith) in
-    λ i. before i + one_if (last i)
 
 -- a node lies below NEXT
 node_below : (s : Setting) (next : ℕ) (bs : List LinkedBlock) (x : ℕ) → area_at s ≤ next → AreComplete s next bs → is_node (root_at s) bs x ≡ true → x + 3 < next
@@ -56,21 +49,21 @@ module _ (s : Setting) (bs : List LinkedBlock) (a b : List ℕ) (n : ℕ) (same 
   visits_same : (x : ℕ) → visits_at s bs b n x ≡ visits_at s bs a n x
   visits_same x =
       let visits : (visits_at s bs b n x).visits ≡ (visits_at s bs a n x).visits
-      = count_same n _ _ (λ k l. ap (λ (m : ℕ). is_on s bs x (leaf_in m)) (same k l)) in
+      = count-same n _ _ (λ k l. ap (λ (m : ℕ). is_on s bs x (leaf_in m)) (same k l)) in
       let wins : (visits_at s bs b n x).wins ≡ (visits_at s bs a n x).wins
-      = count_same n _ _ (λ k l. ap (λ (m : ℕ). is_on s bs x (leaf_in m) && is_same (outcome_of s k (node_state s bs (leaf_in m))).winner (mover_of s bs x)) (same k l)) in
+      = count-same n _ _ (λ k l. ap (λ (m : ℕ). is_on s bs x (leaf_in m) && is_same (outcome_of s k (node_state s bs (leaf_in m))).winner (mover_of s bs x)) (same k l)) in
       λ i. record { visits = visits i; wins = wins i }
 
   sights_same : (c : LinkedBlock) (y : ℕ) → sights_at s bs b n c y ≡ sights_at s bs a n c y
   sights_same c y =
       let visits : (sights_at s bs b n c y).visits ≡ (sights_at s bs a n c y).visits
-      = count_same n _ _ (λ k l. ap (λ (m : ℕ). sees_of s bs c y k m) (same k l)) in
+      = count-same n _ _ (λ k l. ap (λ (m : ℕ). sees_of s bs c y k m) (same k l)) in
       let wins : (sights_at s bs b n c y).wins ≡ (sights_at s bs a n c y).wins
-      = count_same n _ _ (λ k l. ap (λ (m : ℕ). sees_of s bs c y k m && is_same (outcome_of s k (node_state s bs (leaf_in m))).winner (mover_of s bs y)) (same k l)) in
+      = count-same n _ _ (λ k l. ap (λ (m : ℕ). sees_of s bs c y k m && is_same (outcome_of s k (node_state s bs (leaf_in m))).winner (mover_of s bs y)) (same k l)) in
       λ i. record { visits = visits i; wins = wins i }
 
   ends_same : (x : ℕ) → ends_at b n x ≡ ends_at a n x
-  ends_same x = count_same n _ _ (λ k l. ap (λ (m : ℕ). leaf_in m == x) (same k l))
+  ends_same x = count-same n _ _ (λ k l. ap (λ (m : ℕ). leaf_in m == x) (same k l))
 
 -- words that are the same below NEXT are closed where the others are
 pub closed_same : (s : Setting) (a b : List ℕ) → IsSetting s → IsClosed s a → length b ≡ length a → ((i : ℕ) → i < next_in a → slice_index b i ≡ slice_index a i) → IsClosed s b

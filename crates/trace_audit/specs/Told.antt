@@ -3,7 +3,7 @@ use Rattle.std.specs.Prelude.{◌≡◌, ℕ, ◌≤◌, ◌<◌, ◌^◌, List,
 use Rattle.tree_words.specs.Closing.{ClosedTree, IsClosed}
 use Rattle.tree_words.specs.Settings.{IsSetting}
 use Rattle.tree_words.specs.Words.{area_at, end_of}
-use Rattle.trace_audit.specs.Traces.{text_of, written}
+use Rattle.trace_audit.specs.Traces.{trace_text, written}
 
 -- each word is a 64-bit number
 abbrev pub AreWords : List ℕ → Type 0
@@ -24,4 +24,4 @@ pub record TellsClosed (bytes : List ℕ) : Type 0 where
   pub tree : ClosedTree
   pub told : IsTold tree
   pub closed : IsClosed tree.shape tree.words
-  pub text : bytes ≡ text_of tree
+  pub text : bytes ≡ trace_text tree

@@ -45,8 +45,8 @@ fields_of s q =
     ∷ q ∷ []
 
 -- the text of a tree: a name of eight bytes, the fields, and the written words
-abbrev pub text_of : ClosedTree → List ℕ
-text_of tree =
+abbrev pub trace_text : ClosedTree → List ℕ
+trace_text tree =
     codes "HEXTREE1"
     ++ (bytes_of (fields_of tree.shape (written tree.words))
     ++ bytes_of (take (written tree.words) tree.words))
@@ -54,7 +54,7 @@ text_of tree =
 -- the text of the tree, if there is one
 abbrev pub text_if : Option ClosedTree → List ℕ
 text_if None = []
-text_if (Some tree) = text_of tree
+text_if (Some tree) = trace_text tree
 
 -- Trace: of a turn without a closed tree it is empty, else it is the tree's text
 abbrev pub trace_of : Decision → List ℕ

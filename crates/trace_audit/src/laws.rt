@@ -4,11 +4,11 @@ ghost use Rattle.std.specs.Prelude.{◌≡◌};
 ghost use Rattle.tree_words.specs.Closing.{ClosedTree, IsClosed};
 ghost use Rattle.tree_words.specs.Settings.{IsSetting};
 ghost use Rattle.trace_audit.specs.Told.{AreWords, TellsClosed};
-ghost use Rattle.trace_audit.specs.Traces.{text_of};
+ghost use Rattle.trace_audit.specs.Traces.{trace_text};
 
 /// The law of traces: the text of a closed tree tells a closed tree. Its shape is that of the tree,
 /// and its words are those below NEXT, the others being 0. It does nothing.
 pub fn traces_tell_closed_trees()
     ensures { (tree : ClosedTree) → IsSetting tree.shape → IsClosed tree.shape tree.words
-        → AreWords tree.words → TellsClosed (text_of tree) }
+        → AreWords tree.words → TellsClosed (trace_text tree) }
 {}

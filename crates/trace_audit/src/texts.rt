@@ -4,7 +4,7 @@ ghost use Rattle.std.specs.Prelude.{◌≡◌, ◌*◌, ◌≤◌, OnOk, OnErr, 
 ghost use Rattle.hex_io.specs.Causes.{HasCause};
 ghost use Rattle.hex_io.specs.Grew.{Gave, GaveProperPart};
 ghost use Rattle.trace_audit.specs.Traces.{bytes_of, colour_word, fields_of, high_word, low_word};
-ghost use Rattle.trace_audit.specs.Traces.{text_of, written};
+ghost use Rattle.trace_audit.specs.Traces.{trace_text, written};
 
 use hex_cells::{CellSet, Colour};
 use hex_io::{Link, LinkFault, give};
@@ -31,9 +31,9 @@ pub fn give_text<W: Link>(
 ) -> Result<(), LinkFault>
     requires { BUFFER_BYTES ≤ vec_capacity buffer.old }
     ensures room { BUFFER_BYTES ≤ vec_capacity buffer.new }
-    ensures all { OnOk result (Gave (W.told link.old) (W.told link.new) (text_of closed.now)) }
+    ensures all { OnOk result (Gave (W.told link.old) (W.told link.new) (trace_text closed.now)) }
     ensures proper { OnErr result
-        (GaveProperPart (W.told link.old) (W.told link.new) (text_of closed.now)) }
+        (GaveProperPart (W.told link.old) (W.told link.new) (trace_text closed.now)) }
     ensures cause { HasCause (W.write_faults link.old) (W.write_faults link.new) result }
     ensures reads { W.read_faults link.new ≡ W.read_faults link.old }
 {
