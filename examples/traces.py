@@ -1,5 +1,5 @@
 #!/usr/bin/env python3
-"""Reads the traces that `hexd --trace NAME` wrote: prints the root's children and the main line.
+"""Reads the traces that a TraceArchive wrote: prints the root's children and the main line.
 
     examples/traces.py NAME
 
