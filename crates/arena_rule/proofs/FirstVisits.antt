@@ -34,7 +34,8 @@ use Rattle.arena_rule.proofs.Before.{Before, blocks_after}
 use Rattle.arena_rule.proofs.Totals.{each-set, total_none}
 use Rattle.arena_rule.proofs.Changes.{drew_same, claimed_same}
 use Rattle.arena_rule.proofs.Numbers.{leaf-recorded}
-use Rattle.arena_rule.proofs.Within.{known-linked, known-node, shape-of-each}
+use Rattle.arena_rule.proofs.Within.{known-node, shape-of-each}
+use Rattle.tree_words.proofs.Blocks.OneTree.{knows-in}
 use Rattle.arena_rule.proofs.KnownMore.{known-more}
 use Rattle.arena_rule.proofs.Loaded.{on-linked, through-same, known-behind, visits-grow}
 
@@ -171,7 +172,7 @@ module _ (bs : List LinkedBlock) (words : List ℕ) (views : List SeatView) (id 
       let low = (whole-in v.shape (next_in words) bs d order b.state.linked.blocks.complete i).inside.0 in
       let at = has-at d x hx in absurd (omega (arith, e, at.2)))
       (λ (t : (c : LinkedBlock) × In c v.known × (has_node c x ≡ true)).
-      let same : d ≡ t.0 = has-one r bs d t.0 x order i (known-linked r bs v.known t.0 (b.state.known id v b.at) t.1) hx t.2 in
+      let same : d ≡ t.0 = has-one r bs d t.0 x order i (knows-in r bs v.known t.0 (b.state.known id v b.at) t.1) hx t.2 in
       chosen-first loads t.0 x y t.1 t.2 (ap (λ (c : LinkedBlock). has_node c y) (sym same) ∙ hy) z leaf may on)
       (node-in r v.known x known)
     where

@@ -19,7 +19,8 @@ use Rattle.arena_rule.proofs.Options.{none-some}
 use Rattle.arena_rule.proofs.Before.{Before, Other, AreFirst, opening_blocks}
 use Rattle.arena_rule.proofs.Totals.{each-split, each-join}
 use Rattle.arena_rule.proofs.Within.{shape-of-each}
-use Rattle.arena_rule.proofs.SeatsNumbers.{node-first, node-second}
+use Rattle.arena_rule.proofs.SeatsNumbers.{node-second}
+use Rattle.tree_words.proofs.Blocks.Within.{node-first}
 use Rattle.arena_rule.proofs.Loaded.{through-same}
 
 -- a view without walks
