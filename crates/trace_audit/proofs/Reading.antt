@@ -10,7 +10,7 @@ use Rattle.tree_words.specs.Closing.{ClosedTree, IsClosed}
 use Rattle.tree_words.specs.Settings.{IsSetting}
 use Rattle.tree_words.specs.Words.{next_in, area_at}
 use Rattle.trace_audit.specs.Traces.{bytes_of, fields_of, trace_text, written}
-use Rattle.trace_audit.specs.Told.{AreWords, IsTold, TellsClosed}
+use Rattle.trace_audit.specs.Told.{AreWords, TellsClosed}
 use Rattle.trace_audit.proofs.SameWords.{closed_same, front_below}
 
 -- the first q words, and 0 in place of the others
@@ -57,7 +57,7 @@ read_words words q l h i = ⊎_elim
     (cases_lt i q)
 
 -- the text of a closed tree tells a closed tree
-pub tells_closed : (t : ClosedTree) → IsSetting t.shape → IsClosed t.shape t.words → AreWords t.words → TellsClosed (trace_text t)
+pub tells_closed : (t : ClosedTree) → IsSetting t.shape → IsClosed t.shape t.words → AreWords t.words → TellsClosed t (trace_text t)
 tells_closed t h c range =
     let words : List ℕ = t.words in
     let q : ℕ = written words in
@@ -78,6 +78,8 @@ tells_closed t h c range =
         front = omega (arith, count, area);
         rest = λ i l. read_rest words q i within (omega (arith, count, l));
       };
+      shape = refl;
+      words = λ i l. read_below words q i within l;
       closed = closed_same t.shape words read h c long (read_same words);
       text = λ i. codes "HEXTREE1" ++ (bytes_of (fields_of t.shape (sym count i)) ++ bytes_of (sym part i));
     }

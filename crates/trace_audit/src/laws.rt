@@ -10,5 +10,5 @@ ghost use Rattle.trace_audit.specs.Traces.{trace_text};
 /// and its words are those below NEXT, the others being 0. It does nothing.
 pub fn traces_tell_closed_trees()
     ensures { (tree : ClosedTree) → IsSetting tree.shape → IsClosed tree.shape tree.words
-        → AreWords tree.words → TellsClosed (trace_text tree) }
+        → AreWords tree.words → TellsClosed tree (trace_text tree) }
 {}
