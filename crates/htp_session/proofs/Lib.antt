@@ -1,0 +1,15 @@
+pub mod TalkLaws
+pub mod Pieces
+pub mod Given
+pub mod Keeping
+pub mod EndLaws
+pub mod Reactions
+pub mod SupplyLaws
+pub mod StockLaws
+pub mod Advances
+pub mod Feeding
+pub mod Conversations
+pub mod OneWorkerLoads
+pub mod OneWorkerMoves
+pub mod OneWorker
+pub mod LegalMoves

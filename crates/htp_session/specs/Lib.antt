@@ -1,0 +1,5 @@
+pub mod Talk
+pub mod Supply
+pub mod Stocks
+pub mod Sessions
+pub mod Endings
