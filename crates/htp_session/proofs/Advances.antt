@@ -1,5 +1,5 @@
 -- What a line does: how its answer, or the want of one, moves a session.
-use Rattle.std.proofs.Common.{◌≡◌, ℕ, Bool, true, false, List, [], ◌++◌, ap, ◌∙◌, subst, Result, Ok, Err, take, drop, arith}
+use Rattle.std.proofs.Common.{refl, ◌≡◌, ℕ, Bool, true, false, List, [], ◌++◌, ap, ◌∙◌, subst, Result, Ok, Err, take, drop, arith}
 use Rattle.std.specs.Prelude.{IfOk, OnOk}
 use Rattle.std.proofs.lemmas.List.{take-append-drop}
 use Rattle.htp_line.specs.Lines.{whole, lines}
@@ -9,6 +9,10 @@ use Rattle.hex_engine.specs.EngineState.{EngineState}
 use Rattle.hex_engine.specs.Supply.{Supply, nothing_left, and_then}
 use Rattle.htp_session.specs.Talk.{TalkState, Going, ending_if}
 use Rattle.htp_session.specs.Stocks.{ShelfAndArchive, UsesUp, UsesUpNothing, AnswersWith, Responds, Lacks}
+use Rattle.htp_session.specs.Devices.{DevicesState, stock}
+use Rattle.htp_session.specs.Calls.Answering.{Writes}
+use Rattle.htp_session.specs.declared.stops.Stop.{Stop}
+use Rattle.htp_session.specs.declared.stops.Stop.TheVariants.{ReadFault, WriteFault, Memory, TooLong, ArchiveFault}
 use Rattle.htp_session.specs.Sessions.{Stands, Does, DoesSome, Advanced, EndsLine, StopsBefore, AnswersShort, AnswersLast, StopsBeforeLast, LastIsShort}
 use Rattle.htp_session.proofs.SupplyLaws.{stands_options}
 use Rattle.htp_session.proofs.StockLaws.{After, uses_nothing, does_nothing}
@@ -20,16 +24,20 @@ pub says_nothing_used : (options : Options) (a : ShelfAndArchive) (says : Supply
     → ((later : Supply) → says later ≡ record { text = text; at = at; left = later; ending = ending_if quit }) → AnswersWith options a a says text at quit
 says_nothing_used options a says text at quit is = record { used = nothing_left; uses = uses_nothing options a; is = is }
 
--- a refusal was written, and nothing was used up
-pub refused : {E : Type 0} (options : Options) (a : ShelfAndArchive) (says : Supply → TalkState) (text : List ℕ) (at : EngineState) (old out : List ℕ) (result : Result Bool E)
-    → ((later : Supply) → says later ≡ record { text = text; at = at; left = later; ending = Going })
-    → OnOk result (out ≡ old ++ text) → IfOk result (λ quit. quit ≡ false)
-    → IfOk result (λ quit. (bytes : List ℕ) × (out ≡ old ++ bytes) × AnswersWith options a a says bytes at quit)
-refused options a says text at old out (Ok quit) is wrote none = (text, wrote, rw none (says_nothing_used options a says text at false is))
-refused options a says text at old out (Err e) is wrote none = tt
-
 pub nothing_used : (options : Options) (a : ShelfAndArchive) → UsesUpNothing options a a
 nothing_used options a = record { in_vain = []; few = omega arith; uses = uses_nothing options a }
+
+-- a refusal was written, and nothing was used up
+pub refused : (d : DevicesState) (engine : EngineState) (says : Supply → TalkState) (text old out : List ℕ) (result : Result Bool Stop)
+    → ((later : Supply) → says later ≡ record { text = text; at = engine; left = later; ending = Going })
+    → OnOk result (out ≡ old ++ text) → IfOk result (λ quit. quit ≡ false) → ((s : Stop) → result ≡ Err s → s ≡ Memory)
+    → Writes d d engine engine says old out result
+refused d engine says text old out (Ok quit) is wrote none only = (text, wrote, rw none (says_nothing_used engine.options (stock d) says text engine false is))
+refused d engine says text old out (Err Memory) is wrote none only = nothing_used engine.options (stock d)
+refused d engine says text old out (Err ReadFault) is wrote none only = let e = only ReadFault refl in absurd (cc)
+refused d engine says text old out (Err WriteFault) is wrote none only = let e = only WriteFault refl in absurd (cc)
+refused d engine says text old out (Err TooLong) is wrote none only = let e = only TooLong refl in absurd (cc)
+refused d engine says text old out (Err ArchiveFault) is wrote none only = let e = only ArchiveFault refl in absurd (cc)
 
 -- ---- a line
 

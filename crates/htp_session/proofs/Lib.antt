@@ -8,7 +8,9 @@ pub mod SupplyLaws
 pub mod StockLaws
 pub mod Advances
 pub mod Feeding
+pub mod Calling
 pub mod Conversations
+pub mod Outcomes
 pub mod OneWorkerLoads
 pub mod OneWorkerMoves
 pub mod OneWorker

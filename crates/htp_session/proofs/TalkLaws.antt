@@ -4,9 +4,7 @@ use Rattle.std.proofs.lemmas.List.Sums.{fold_push, fold-append}
 use Rattle.std.proofs.lemmas.List.Folds.{fold_stays}
 use Rattle.htp_line.proofs.LinesLaws.{whole-append}
 use Rattle.htp_line.specs.Lines.{whole, lines}
-use Rattle.htp_line.specs.Splitting.{Held, kept, shown, what_of, Ends, Advances, StandsAfter}
-use Rattle.htp_line.specs.declared.splitter.What.{What}
-use Rattle.htp_line.specs.declared.splitter.What.TheVariants.{More}
+use Rattle.htp_line.specs.Splitting.{Held, kept, Ends, Advances, StandsAfter}
 use Rattle.hex_engine.specs.EngineState.{EngineState}
 use Rattle.hex_engine.specs.Supply.{Supply, nothing_left}
 use Rattle.hex_engine.specs.Replies.{NoTurn}
@@ -155,10 +153,3 @@ last_short start all later engine held new seen stands ends e says none =
 
 pub last_ends : (new : Held) (seen : List ℕ) → Ends new.ended new.line (whole seen) (lines seen) → new.ended ≡ true → HasLast seen
 last_ends new seen ends e = let ended : Ends true new.line (whole seen) (lines seen) = subst (λ b. Ends b new.line (whole seen) (lines seen)) e ends in (ended.0, ended.1)
-
-ended_if : (b : Bool) (line : Option (List ℕ)) (w : What) → w ≡ cond b (shown line) More → (w ≡ More → ⊥) → b ≡ true
-ended_if true line w e not_more = refl
-ended_if false line w e not_more = absurd (not_more e)
-
-pub ended_unless_more : (h : Held) (w : What) → w ≡ what_of h → (w ≡ More → ⊥) → h.ended ≡ true
-ended_unless_more h w e not_more = ended_if h.ended h.line w e not_more

@@ -9,8 +9,7 @@ use Rattle.hex_engine.specs.EngineState.{EngineState}
 use Rattle.hex_engine.specs.Supply.{Supply, nothing_left, and_then}
 use Rattle.hex_engine.specs.Uses.{Uses, UsesNothing}
 use Rattle.hex_engine.specs.Replies.{NoTurn}
-use Rattle.htp_line.specs.Reading.{Asked, Ask}
-use Rattle.htp_session.specs.Talk.{TalkState, Short, ending_if, after_line, after_reading}
+use Rattle.htp_session.specs.Talk.{TalkState, Short, ending_if, after_line}
 
 -- what the shelf and the archive tell, where they do
 abbrev pub ShelfAndArchive : Type 0
@@ -47,18 +46,7 @@ abbrev pub Responds : ShelfAndArchive → ShelfAndArchive → EngineState → Op
 Responds old new engine line text after quit = AnswersWith engine.options old new
     (λ left. after_line engine left line) text after quit
 
--- a request was answered so
-abbrev pub RespondsTo : ShelfAndArchive → ShelfAndArchive → EngineState → Asked → List ℕ
-    → EngineState → Bool → Type 0
-RespondsTo old new engine asked text after quit = AnswersWith engine.options old new
-    (λ left. after_reading engine left (Ask asked)) text after quit
-
 -- a line wants a turn
 abbrev pub Lacks : ShelfAndArchive → ShelfAndArchive → EngineState → Option (List ℕ) → Type 0
 Lacks old new engine line = Wants engine.options old new engine
     (λ left. after_line engine left line)
-
--- a request wants a turn
-abbrev pub LacksFor : ShelfAndArchive → ShelfAndArchive → EngineState → Asked → Type 0
-LacksFor old new engine asked = Wants engine.options old new engine
-    (λ left. after_reading engine left (Ask asked))

@@ -7,11 +7,11 @@
 //! stands at then, what is left to be used up, and whether it goes on, ended with an answered
 //! `quit`, or fell short of a file or a turn. Nothing of pieces, buffers or searches is in it.
 //!
-//! **A caller** makes the link, the shelf and the archive, says the engine's options, the size of
-//! the first board and the most bytes that are answered, and learns how it ended:
+//! **A caller** makes the [`Devices`], a link, a shelf and an archive, says the engine's options, the
+//! size of the first board and the most bytes that are answered, and learns how it ended:
 //!
 //! ```text
-//! let outcome = converse(alloc, &mut link, &mut shelf, &mut archive, &options, size, limit);
+//! let outcome = converse(alloc, &mut devices, &options, size, limit);
 //! ```
 //!
 //! **What is proved**, in the words of `specs/Endings.antt`: where the link tells it, what was
@@ -33,6 +33,7 @@
 
 mod answering;
 mod conversation;
+mod devices;
 mod laws;
 mod session;
 mod stops;
@@ -40,6 +41,7 @@ mod stops;
 mod tests;
 
 pub use conversation::converse;
+pub use devices::Devices;
 pub use laws::{
     more_left_is_not_used, one_worker_and_one_shelf_determine, one_worker_is_determined,
     searched_moves_are_legal,

@@ -1,30 +1,20 @@
 //! A session: what comes in piece by piece, and what is owed for it.
 
-ghost use Rattle.std.specs.Prelude.{◌≡◌, ◌<◌, ◌≤◌, ◌++◌, length, IfOk, true, List, ℕ, [], take};
-ghost use Rattle.htp_line.specs.Splitting.{what_of};
-ghost use Rattle.hex_io.specs.Causes.{CountsFault};
-ghost use Rattle.hex_io.specs.Told.{Same};
+ghost use Rattle.std.specs.Prelude.{◌≡◌, ◌<◌, ◌≤◌, length, IfOk, true, List, ℕ, []};
 ghost use Rattle.tree_words.specs.Settings.{AreInRange};
 ghost use Rattle.hex_engine.specs.EngineState.{opening};
 ghost use Rattle.hex_engine.specs.Supply.{Supply};
-ghost use Rattle.htp_session.specs.Stocks.{Responds, Lacks, UsesUpNothing};
-ghost use Rattle.htp_session.specs.Sessions.{Does, DoesSome};
+ghost use Rattle.htp_session.specs.Devices.{CountsFaults, stock};
 
-use crate::answering::{line_of, respond};
+use crate::answering::respond;
+use crate::devices::Devices;
+use crate::stops::Stop;
 use hex_cells::Size;
-use hex_engine::{Engine, EngineError, Memory, Options};
-use hex_io::{Link, Shelf, give};
+use hex_engine::{Engine, Memory, Options};
+use hex_io::{Link, Shelf};
 use hex_plan::Archive;
-use htp_line::{Splitter, What};
+use htp_line::Splitter;
 use std::alloc::Global;
-
-/// Why a session stops.
-#[derive(Clone, Copy, Debug)]
-pub enum Stop {
-    WriteFault,
-    Memory,
-    Archive,
-}
 
 /// How far one line went.
 #[derive(Clone, Copy, Debug)]
@@ -42,8 +32,9 @@ pub struct Session {
 }
 
 impl Session {
-    ghost use Rattle.htp_session.specs.Sessions.{Stands, Advanced, StopsBefore, AnswersShort};
-    ghost use Rattle.htp_session.specs.Sessions.{AnswersLast, StopsBeforeLast, LastIsShort};
+    ghost use Rattle.htp_session.specs.Sessions.{Stands};
+    ghost use Rattle.htp_session.specs.Calls.Answering.{WritesAnswer};
+    ghost use Rattle.htp_session.specs.Calls.Session.{AdvancesBy, AnswersEnd};
 
     /// A session before its first byte.
     pub fn make(alloc: Global, options: &Options, size: Size) -> Result<Session, Memory>
@@ -64,70 +55,45 @@ impl Session {
     }
 
     /// Answers the line that ended, at the end of `out`, and says whether quit was answered.
-    fn answer<F: Shelf, A: Archive>(
+    fn answer<L: Link, F: Shelf, A: Archive>(
         &mut self,
         alloc: Global,
-        shelf: &mut F,
-        archive: &mut A,
-        what: What,
-    ) -> Result<bool, EngineError>
-        requires what { what ≡ what_of self.old.splitter }
+        devices: &mut Devices<'_, '_, '_, L, F, A>,
+    ) -> Result<bool, Stop>
         requires ended { self.old.splitter.ended ≡ true }
-        ensures responds { IfOk result
-            (λ quit. (bytes : List ℕ) × (self.new.out.items ≡ self.old.out.items ++ bytes) ×
-            Responds (F.told shelf.old, A.told archive.old)
-            (F.told shelf.new, A.told archive.new) self.old.engine self.old.splitter.line bytes
-            self.new.engine quit) }
+        ensures writes { WritesAnswer devices.old devices.new self.old.engine self.new.engine
+            self.old.splitter.line self.old.out.items self.new.out.items result }
         ensures splitter { self.new.splitter ≡ self.old.splitter }
-        ensures in_vain { result ≡ Err EngineError.Memory →
-            UsesUpNothing self.old.engine.options (F.told shelf.old, A.told archive.old)
-            (F.told shelf.new, A.told archive.new) }
-        ensures lacks { result ≡ Err EngineError.Archive →
-            Lacks (F.told shelf.old, A.told archive.old)
-            (F.told shelf.new, A.told archive.new) self.old.engine self.old.splitter.line }
-        ensures archive_fault { CountsFault (A.faults archive.old) (A.faults archive.new)
-            (result ≡ Err EngineError.Archive) }
+        ensures link { devices.new.link ≡ devices.old.link }
+        ensures counts { CountsFaults devices.old devices.new result }
     {
-        let raw = line_of(&self.splitter, what);
-        respond(alloc, &mut self.engine, shelf, archive, raw, &mut self.out)
+        let raw = self.splitter.line();
+        respond(alloc, &mut self.engine, devices, raw, &mut self.out)
     }
 
     /// Takes up to one line off the front of the piece. `out` is the answer to it then.
-    fn advance<F: Shelf, A: Archive>(
+    fn advance<L: Link, F: Shelf, A: Archive>(
         &mut self,
         alloc: Global,
-        shelf: &mut F,
-        archive: &mut A,
+        devices: &mut Devices<'_, '_, '_, L, F, A>,
         piece: &[u8],
-    ) -> Result<Moved, EngineError>
+    ) -> Result<Moved, Stop>
         requires some { 0 < length piece.now }
         ensures used { IfOk result (λ m. (0 < m.used) × (m.used ≤ length piece.now)) }
-        ensures advanced { IfOk result
-            (λ m. Does (F.told shelf.old, A.told archive.old)
-            (F.told shelf.new, A.told archive.new) [] self.old.engine self.old.splitter
-            (λ start all later seen. Advanced m.quit start all later self.new.engine
-            self.new.splitter self.new.out.items seen (take m.used piece.now))) }
-        ensures gave_up { result ≡ Err EngineError.Memory →
-            DoesSome (F.told shelf.old, A.told archive.old)
-            (F.told shelf.new, A.told archive.new) self.old.engine self.old.splitter
-            (λ start all later seen. StopsBefore start all later seen piece.now) }
-        ensures held_back { result ≡ Err EngineError.Archive →
-            Does (F.told shelf.old, A.told archive.old)
-            (F.told shelf.new, A.told archive.new) [] self.old.engine self.old.splitter
-            (λ start all later seen. AnswersShort start all later [] seen piece.now) }
-        ensures archive_fault { CountsFault (A.faults archive.old) (A.faults archive.new)
-            (result ≡ Err EngineError.Archive) }
+        ensures advances { AdvancesBy devices.old devices.new self.old self.new piece.now result }
+        ensures link { devices.new.link ≡ devices.old.link }
+        ensures counts { CountsFaults devices.old devices.new result }
     {
         self.out.clear();
         let fed = self.splitter.push(piece);
-        if fed.what == What::More {
+        if !fed.ended {
             return Ok(Moved {
                 used: fed.used,
                 quit: false,
             });
         }
-        match self.answer(alloc, shelf, archive, fed.what) {
-            Err(error) => Err(error),
+        match self.answer(alloc, devices) {
+            Err(stop) => Err(stop),
             Ok(quit) => Ok(Moved {
                 used: fed.used,
                 quit,
@@ -136,88 +102,48 @@ impl Session {
     }
 
     /// Takes the last line, where no line feed ends it. `out` is the answer to it then.
-    fn last<F: Shelf, A: Archive>(
+    fn last<L: Link, F: Shelf, A: Archive>(
         &mut self,
         alloc: Global,
-        shelf: &mut F,
-        archive: &mut A,
-    ) -> Result<(), EngineError>
-        ensures answers { IfOk result
-            (λ _. Does (F.told shelf.old, A.told archive.old)
-            (F.told shelf.new, A.told archive.new) [] self.old.engine self.old.splitter
-            (λ start all later seen. AnswersLast start all later self.new.out.items seen)) }
-        ensures gave_up { result ≡ Err EngineError.Memory →
-            DoesSome (F.told shelf.old, A.told archive.old)
-            (F.told shelf.new, A.told archive.new) self.old.engine self.old.splitter
-            (λ start all later seen. StopsBeforeLast start all later seen) }
-        ensures held_back { result ≡ Err EngineError.Archive →
-            Does (F.told shelf.old, A.told archive.old)
-            (F.told shelf.new, A.told archive.new) [] self.old.engine self.old.splitter
-            (λ start all later seen. LastIsShort start all later seen) }
-        ensures archive_fault { CountsFault (A.faults archive.old) (A.faults archive.new)
-            (result ≡ Err EngineError.Archive) }
+        devices: &mut Devices<'_, '_, '_, L, F, A>,
+    ) -> Result<(), Stop>
+        ensures answers { AnswersEnd devices.old devices.new self.old self.new result }
+        ensures link { devices.new.link ≡ devices.old.link }
+        ensures counts { CountsFaults devices.old devices.new result }
     {
         self.out.clear();
-        let what = self.splitter.finish();
-        if what == What::More {
+        if !self.splitter.finish() {
             return Ok(());
         }
-        match self.answer(alloc, shelf, archive, what) {
-            Err(error) => Err(error),
+        match self.answer(alloc, devices) {
+            Err(stop) => Err(stop),
             Ok(_) => Ok(()),
         }
     }
 }
 
 impl Session {
-    ghost use Rattle.htp_session.specs.Sessions.{Fed, BrokeOff, GaveUp, HeldBack, AnsweredLast};
-    ghost use Rattle.htp_session.specs.Sessions.{BrokeOffLast, StopsBeforeLast, LastIsShort};
+    ghost use Rattle.htp_session.specs.Calls.Session.{Feeds, Finishes};
 
     /// Takes a piece and answers each line that ends in it, each before the next is looked at. It
     /// says whether quit was answered.
     pub fn feed<L: Link, F: Shelf, A: Archive>(
         &mut self,
         alloc: Global,
-        link: &mut L,
-        shelf: &mut F,
-        archive: &mut A,
+        devices: &mut Devices<'_, '_, '_, L, F, A>,
         piece: &[u8],
     ) -> Result<bool, Stop>
-        ensures fed { IfOk result
-            (λ quit. Does (F.told shelf.old, A.told archive.old)
-            (F.told shelf.new, A.told archive.new) [] self.old.engine self.old.splitter
-            (λ start all later seen. Fed quit (L.told link.old)
-            (L.told link.new) start all later self.new.engine self.new.splitter seen piece.now)) }
-        ensures broke_off { result ≡ Err Stop.WriteFault →
-            Does (F.told shelf.old, A.told archive.old)
-            (F.told shelf.new, A.told archive.new) [] self.old.engine self.old.splitter
-            (λ start all later seen. BrokeOff (L.told link.old)
-            (L.told link.new) start all seen piece.now) }
-        ensures gave_up { result ≡ Err Stop.Memory →
-            DoesSome (F.told shelf.old, A.told archive.old)
-            (F.told shelf.new, A.told archive.new) self.old.engine self.old.splitter
-            (λ start all later seen. GaveUp (L.told link.old)
-            (L.told link.new) start all later seen piece.now) }
-        ensures held_back { result ≡ Err Stop.Archive →
-            Does (F.told shelf.old, A.told archive.old)
-            (F.told shelf.new, A.told archive.new) [] self.old.engine self.old.splitter
-            (λ start all later seen. HeldBack (L.told link.old)
-            (L.told link.new) start all later seen piece.now) }
-        ensures write_fault { CountsFault (L.write_faults link.old) (L.write_faults link.new)
-            (result ≡ Err Stop.WriteFault) }
-        ensures archive_fault { CountsFault (A.faults archive.old) (A.faults archive.new)
-            (result ≡ Err Stop.Archive) }
-        ensures reads { L.read_faults link.new ≡ L.read_faults link.old }
+        ensures feeds { Feeds devices.old devices.new self.old self.new piece.now result }
+        ensures counts { CountsFaults devices.old devices.new result }
     {
         let mut at = 0;
         'lines: while at < piece.len() {
-            let moved = match self.advance(alloc, shelf, archive, &piece[at..]) {
-                Err(EngineError::Memory) => return Err(Stop::Memory),
-                Err(EngineError::Archive) => return Err(Stop::Archive),
+            let moved = match self.advance(alloc, devices, &piece[at..]) {
+                Err(stop) => return Err(stop),
                 Ok(moved) => moved,
             };
-            match give(link, &self.out) {
-                Err(_) => return Err(Stop::WriteFault),
+            match devices.give(&self.out) {
+                Err(stop) => return Err(stop),
                 Ok(()) => {}
             }
             if moved.quit {
@@ -232,45 +158,14 @@ impl Session {
     pub fn finish<L: Link, F: Shelf, A: Archive>(
         &mut self,
         alloc: Global,
-        link: &mut L,
-        shelf: &mut F,
-        archive: &mut A,
+        devices: &mut Devices<'_, '_, '_, L, F, A>,
     ) -> Result<(), Stop>
-        ensures answered { IfOk result
-            (λ _. Does (F.told shelf.old, A.told archive.old)
-            (F.told shelf.new, A.told archive.new) [] self.old.engine self.old.splitter
-            (λ start all later seen. AnsweredLast (L.told link.old)
-            (L.told link.new) start all later seen)) }
-        ensures broke_off { result ≡ Err Stop.WriteFault →
-            Does (F.told shelf.old, A.told archive.old)
-            (F.told shelf.new, A.told archive.new) [] self.old.engine self.old.splitter
-            (λ start all later seen. BrokeOffLast (L.told link.old)
-            (L.told link.new) start all later seen) }
-        ensures gave_up { result ≡ Err Stop.Memory →
-            DoesSome (F.told shelf.old, A.told archive.old)
-            (F.told shelf.new, A.told archive.new) self.old.engine self.old.splitter
-            (λ start all later seen. StopsBeforeLast start all later seen) }
-        ensures held_back { result ≡ Err Stop.Archive →
-            Does (F.told shelf.old, A.told archive.old)
-            (F.told shelf.new, A.told archive.new) [] self.old.engine self.old.splitter
-            (λ start all later seen. LastIsShort start all later seen) }
-        ensures silent { result ≡ Err Stop.Memory → Same (L.told link.old) (L.told link.new) }
-        ensures silent_held_back { result ≡ Err Stop.Archive →
-            Same (L.told link.old) (L.told link.new) }
-        ensures write_fault { CountsFault (L.write_faults link.old) (L.write_faults link.new)
-            (result ≡ Err Stop.WriteFault) }
-        ensures archive_fault { CountsFault (A.faults archive.old) (A.faults archive.new)
-            (result ≡ Err Stop.Archive) }
-        ensures reads { L.read_faults link.new ≡ L.read_faults link.old }
+        ensures finishes { Finishes devices.old devices.new self.old result }
+        ensures counts { CountsFaults devices.old devices.new result }
     {
-        match self.last(alloc, shelf, archive) {
-            Err(EngineError::Memory) => return Err(Stop::Memory),
-            Err(EngineError::Archive) => return Err(Stop::Archive),
-            Ok(()) => {}
-        }
-        match give(link, &self.out) {
-            Err(_) => Err(Stop::WriteFault),
-            Ok(()) => Ok(()),
+        match self.last(alloc, devices) {
+            Err(stop) => Err(stop),
+            Ok(()) => devices.give(&self.out),
         }
     }
 }

@@ -2,7 +2,7 @@
 
 ghost use Rattle.tree_words.specs.Settings.{AreInRange};
 
-use crate::{Stop, converse};
+use crate::{Devices, Stop, converse};
 use hex_cells::Size;
 use hex_engine::Options;
 use hex_io::{MemLink, MemShelf};
@@ -44,15 +44,12 @@ fn end_within(
     let input = input.to_vec(alloc)?;
     let mut link = MemLink::make(alloc, input, piece.max(1), 100_000, 20_000, reads, writes)?;
     let mut shelf = MemShelf::make(alloc, Vec::new(alloc), Vec::new(alloc))?;
-    let end = converse(
-        alloc,
-        &mut link,
-        &mut shelf,
-        &mut NoArchive,
-        &options(),
-        size,
-        limit,
-    );
+    let mut devices = Devices {
+        link: &mut link,
+        shelf: &mut shelf,
+        archive: &mut NoArchive,
+    };
+    let end = converse(alloc, &mut devices, &options(), size, limit);
     assert_eq!(rt; link.given(), given);
     Ok(end)
 }
