@@ -8,18 +8,20 @@ ghost use Rattle.hexd_words.specs.Reading.{WellFormed};
 ghost use Rattle.hexd_words.specs.Values as value;
 ghost use Rattle.hexd_words.specs.declared.settings.Options.{Options};
 ghost use Rattle.hex_io.specs.Reported.{Reported};
-ghost use Rattle.hex_cli.specs.Endings.{Conversed, since, status_of, error_line};
+ghost use Rattle.htp_session.specs.Endings.{since};
+ghost use Rattle.htp_session.specs.declared.stops.Stop.{Stop};
+ghost use Rattle.hex_cli.specs.Statuses.{PlayedTo, status_of, error_line};
 ghost use Rattle.hex_cli.specs.Determined.{IsDetermined};
 ghost use Rattle.hex_cli.specs.Headline.{Headline};
 ghost use Rattle.hex_cli.specs.Runs.{AreRefused, Untouched, Unused, engine_options};
 ghost use Rattle.hex_cli.specs.declared.ends.End.{End};
 
-use crate::conversation::converse;
 use crate::ends::End;
 use hex_cells::Size;
 use hex_io::{Link, Shelf, Word, report};
 use hex_plan::Archive;
 use hexd_words::{Options, read_words};
+use htp_session::{Stop, converse};
 use std::alloc::Global;
 use tree_words::Knobs;
 
@@ -58,10 +60,10 @@ pub fn run<L: Link, E: Link, F: Shelf, A: Archive>(
 
     // The words. Want of memory may come in place of a refusal.
     ensures usage { result ≡ status_of End.Usage → AreRefused words.now }
-    ensures well_formed { result ≢ status_of End.Usage → result ≢ status_of End.Memory →
+    ensures well_formed { result ≢ status_of End.Usage → result ≢ status_of (End.Stopped Stop.Memory) →
         (options : Options) × WellFormed words.now options }
     ensures refused { AreRefused words.now →
-        (result ≡ status_of End.Usage) ⊎ (result ≡ status_of End.Memory) }
+        (result ≡ status_of End.Usage) ⊎ (result ≡ status_of (End.Stopped Stop.Memory)) }
     ensures untouched { AreRefused words.now →
         Untouched (L.told link.old) (L.told link.new) (L.read_faults link.old)
         (L.read_faults link.new) (L.write_faults link.old) (L.write_faults link.new) }
@@ -73,7 +75,7 @@ pub fn run<L: Link, E: Link, F: Shelf, A: Archive>(
     // shelf and for the archive.
     ensures conversed { (options : Options) → WellFormed words.now options → (end : End) →
         result ≡ status_of end →
-        Conversed end (engine_options options) options.size INPUT_LIMIT
+        PlayedTo end (engine_options options) options.size INPUT_LIMIT
         (F.told shelf.old, A.told archive.old)
         (F.told shelf.new, A.told archive.new) (L.told link.old) (L.told link.new) }
 
@@ -94,20 +96,20 @@ pub fn run<L: Link, E: Link, F: Shelf, A: Archive>(
     // The causes. What fails first ends the run: a count rose with its own status, and is as before
     // with every other.
     ensures read_fault { CountsFault (L.read_faults link.old) (L.read_faults link.new)
-        (result ≡ status_of End.ReadFault) }
+        (result ≡ status_of (End.Stopped Stop.ReadFault)) }
     ensures write_fault { CountsFault (L.write_faults link.old) (L.write_faults link.new)
-        (result ≡ status_of End.WriteFault) }
+        (result ≡ status_of (End.Stopped Stop.WriteFault)) }
     ensures archive_fault { CountsFault (A.faults archive.old) (A.faults archive.new)
-        (result ≡ status_of End.ArchiveFault) }
+        (result ≡ status_of (End.Stopped Stop.ArchiveFault)) }
     ensures too_long { (options : Options) → WellFormed words.now options →
         Both (L.told link.old) (L.told link.new) (λ old new.
-        (result ≡ status_of End.TooLong) ↔ (length (since old new) ≡ INPUT_LIMIT + 1)) }
+        (result ≡ status_of (End.Stopped Stop.TooLong)) ↔ (length (since old new) ≡ INPUT_LIMIT + 1)) }
     ensures complete { (options : Options) → WellFormed words.now options →
         ¬ Rose (L.read_faults link.old) (L.read_faults link.new) →
         ¬ Rose (L.write_faults link.old) (L.write_faults link.new) →
         ¬ Rose (A.faults archive.old) (A.faults archive.new) →
         Both (L.told link.old) (L.told link.new) (λ old new. length (since old new) ≤ INPUT_LIMIT →
-        (result ≡ status_of End.Done) ⊎ (result ≡ status_of End.Memory)) }
+        (result ≡ status_of End.Done) ⊎ (result ≡ status_of (End.Stopped Stop.Memory))) }
 
     // The line for the errors.
     ensures errors { (end : End) → result ≡ status_of end →
@@ -128,9 +130,9 @@ fn serve<L: Link, F: Shelf, A: Archive>(
     archive: &mut A,
 ) -> End
     ensures usage { result ≡ End.Usage → AreRefused words.now }
-    ensures well_formed { result ≢ End.Usage → result ≢ End.Memory →
+    ensures well_formed { result ≢ End.Usage → result ≢ End.Stopped Stop.Memory →
         (options : Options) × WellFormed words.now options }
-    ensures refused { AreRefused words.now → (result ≡ End.Usage) ⊎ (result ≡ End.Memory) }
+    ensures refused { AreRefused words.now → (result ≡ End.Usage) ⊎ (result ≡ End.Stopped Stop.Memory) }
     ensures untouched { AreRefused words.now →
         Untouched (L.told link.old) (L.told link.new) (L.read_faults link.old)
         (L.read_faults link.new) (L.write_faults link.old) (L.write_faults link.new) }
@@ -138,22 +140,22 @@ fn serve<L: Link, F: Shelf, A: Archive>(
         Unused (F.told shelf.old) (F.told shelf.new) (F.faults shelf.old) (F.faults shelf.new)
         (A.told archive.old) (A.told archive.new) (A.faults archive.old) (A.faults archive.new) }
     ensures conversed { (options : Options) → WellFormed words.now options →
-        Conversed result (engine_options options) options.size INPUT_LIMIT
+        PlayedTo result (engine_options options) options.size INPUT_LIMIT
         (F.told shelf.old, A.told archive.old)
         (F.told shelf.new, A.told archive.new) (L.told link.old) (L.told link.new) }
     ensures read_fault { CountsFault (L.read_faults link.old) (L.read_faults link.new)
-        (result ≡ End.ReadFault) }
+        (result ≡ End.Stopped Stop.ReadFault) }
     ensures write_fault { CountsFault (L.write_faults link.old) (L.write_faults link.new)
-        (result ≡ End.WriteFault) }
+        (result ≡ End.Stopped Stop.WriteFault) }
     ensures archive_fault { CountsFault (A.faults archive.old) (A.faults archive.new)
-        (result ≡ End.ArchiveFault) }
+        (result ≡ End.Stopped Stop.ArchiveFault) }
 {
     let options = match read_words(alloc, words) {
-        Err(_) => return End::Memory,
+        Err(_) => return End::Stopped(Stop::Memory),
         Ok(None) => return End::Usage,
         Ok(Some(options)) => options,
     };
-    converse(
+    let outcome = converse(
         alloc,
         link,
         shelf,
@@ -161,7 +163,8 @@ fn serve<L: Link, F: Shelf, A: Archive>(
         &engine_options(&options),
         board_size(options.size),
         INPUT_LIMIT,
-    )
+    );
+    End::of(outcome)
 }
 
 /// The engine's options. No connections are looked for yet, whatever the words say.

@@ -1,0 +1,7 @@
+pub mod Talk
+pub mod Supply
+pub mod Stocks
+pub mod Devices
+pub mod Sessions
+pub mod Endings
+pub mod Calls
