@@ -1,15 +1,21 @@
 -- The statuses, and what follows of them.
-use Rattle.std.proofs.Common.{Ok, Err, Result, ◌≡◌, ◌≢◌, ℕ, ◌+◌, ◌≤◌, ◌⊎◌, ◌==◌, if◌then◌else◌, length, Option, refl, ap, sym, ◌∙◌, inl, inr, arith}
+use Rattle.std.proofs.Common.{Ok, Err, Result, List, Some, None, ◌≡◌, ◌≢◌, ℕ, ◌+◌, ◌≤◌, ◌⊎◌, ◌==◌, if◌then◌else◌, length, Option, refl, ap, sym, ◌∙◌, inl, inr, arith}
 use Rattle.std.specs.Prelude.{◌↔◌}
 use Rattle.hex_io.specs.Causes.{CountsFault}
 use Rattle.hex_io.specs.Told.{Told, Both}
+use Rattle.hex_io.specs.Shelves.{Shelved}
+use Rattle.hex_plan.specs.Turns.{Decision}
 use Rattle.hex_io.proofs.BothLaws.{Both-weaker}
 use Rattle.hex_engine.specs.declared.options.Options.{Options}
 use Rattle.htp_session.specs.Stocks.{ShelfAndArchive}
 use Rattle.htp_session.specs.Endings.{Outcome, Conversed, since}
 use Rattle.htp_session.specs.declared.stops.Stop.{Stop}
 use Rattle.htp_session.specs.declared.stops.Stop.TheVariants.{ReadFault, WriteFault, Memory, TooLong, ArchiveFault}
-use Rattle.hex_cli.specs.Statuses.{end_of, status_of, PlayedTo}
+use Rattle.hex_cli.specs.Statuses.{end_for, status_of}
+use Rattle.hex_cli.specs.Modes.{PlayedTo}
+use Rattle.htp_session.specs.Devices.{stop_of}
+use Rattle.hexd_words.specs.declared.settings.Mode.{Mode}
+use Rattle.hexd_words.specs.declared.settings.Mode.TheVariants.{Htp}
 use Rattle.hex_cli.specs.declared.ends.End.{End}
 use Rattle.hex_cli.specs.declared.ends.End.TheVariants.{Done, Usage, Stopped}
 
@@ -60,33 +66,47 @@ too_long_exactly (Stopped ArchiveFault) options size limit a b x y told = Both-w
 too_long_exactly (Stopped TooLong) options size limit a b x y told = Both-weaker x y _ _ (λ o n p. (λ e. p.ends.many, λ e. refl)) told.outcome
 
 -- what stands at the end of a session's outcome
-pub played : (outcome : Outcome) (options : Options) (size limit : ℕ) (a b : ShelfAndArchive) (x y : Option Told) → Conversed outcome options size limit a b x y → PlayedTo (end_of outcome) options size limit a b x y
+pub played : (outcome : Outcome) (options : Options) (size limit : ℕ) (a b : ShelfAndArchive) (x y : Option Told) → Conversed outcome options size limit a b x y → PlayedTo (end_for outcome) options size limit a b x y
 played (Ok done) options size limit a b x y p = p
 played (Err stop) options size limit a b x y p = p
 
-outcome_of : End → Outcome
-outcome_of Done = Ok tt
-outcome_of Usage = Ok tt
-outcome_of (Stopped stop) = Err stop
-
-outcome_of_end : (outcome : Outcome) → outcome_of (end_of outcome) ≡ outcome
-unfolding outcome_of
-outcome_of_end (Ok done) = refl
-outcome_of_end (Err stop) = refl
-
-same_outcome : (outcome : Outcome) (stop : Stop) → end_of outcome ≡ Stopped stop → outcome ≡ Err stop
-unfolding outcome_of
-same_outcome outcome stop e = sym (outcome_of_end outcome) ∙ ap outcome_of e
-
 -- a session never ends with a usage
-pub no_usage : (outcome : Outcome) → end_of outcome ≢ Usage
-no_usage (Ok done) e = absurd (cc)
-no_usage (Err stop) e = absurd (cc)
+pub no_usage : (end : End) (options : Options) (size limit : ℕ) (a b : ShelfAndArchive) (x y : Option Told) → PlayedTo end options size limit a b x y → end ≢ Usage
+no_usage Done options size limit a b x y p e = absurd (cc)
+no_usage Usage options size limit a b x y p e = absurd p
+no_usage (Stopped stop) options size limit a b x y p e = absurd (cc)
+
+stop_in : End → Option Stop
+stop_in Done = None
+stop_in Usage = None
+stop_in (Stopped stop) = Some stop
+
+stop_in_end : (outcome : Outcome) → stop_in (end_for outcome) ≡ stop_of outcome
+unfolding stop_in
+stop_in_end (Ok done) = refl
+stop_in_end (Err stop) = refl
+
+end_of_stop : (outcome : Outcome) (stop : Stop) → stop_of outcome ≡ Some stop → end_for outcome ≡ Stopped stop
+end_of_stop (Ok done) stop e = absurd (cc)
+end_of_stop (Err other) stop e = cc
+
+stopped_so : (outcome : Outcome) (stop : Stop) → end_for outcome ≡ Stopped stop → stop_of outcome ≡ Some stop
+unfolding stop_in
+stopped_so outcome stop e = sym (stop_in_end outcome) ∙ ap stop_in e
 
 -- a count that rises with one outcome rises with its end
-pub end_counts : (before now : ℕ) (outcome : Outcome) (stop : Stop) (end : End) → end ≡ end_of outcome → CountsFault before now (outcome ≡ Err stop) → CountsFault before now (end ≡ Stopped stop)
+pub end_counts : (before now : ℕ) (outcome : Outcome) (stop : Stop) (end : End) → end ≡ end_for outcome → CountsFault before now (stop_of outcome ≡ Some stop) → CountsFault before now (end ≡ Stopped stop)
 end_counts before now outcome stop end e c = record {
   later = c.later;
-  rose = λ s. c.rose (same_outcome outcome stop (sym e ∙ s));
-  kept = λ n. c.kept (λ s. n (e ∙ ap end_of s));
+  rose = λ s. c.rose (stopped_so outcome stop (sym e ∙ s));
+  kept = λ n. c.kept (λ s. n (e ∙ end_of_stop outcome stop s));
 }
+
+-- what a conversation left, told of what its link, shelf and archive tell now
+pub left_so : (outcome : Outcome) (options : Options) (size limit : ℕ) (a : ShelfAndArchive) (x : Option Told) (link link' : Option Told) (shelf shelf' : Option Shelved) (turns turns' : Option (List Decision))
+    → link ≡ link' → shelf ≡ shelf' → turns ≡ turns' → Conversed outcome options size limit a (shelf, turns) x link → Conversed outcome options size limit a (shelf', turns') x link'
+left_so outcome options size limit a x link link' shelf shelf' turns turns' e f h c = rw (← e, ← f, ← h) c
+
+-- htp is the only mode
+pub only_htp : (mode : Mode) → mode ≡ Htp
+only_htp Htp = refl

@@ -1,4 +1,5 @@
 pub mod Statuses
-pub mod Runs
+pub mod Modes
 pub mod Determined
 pub mod Headline
+pub mod Runs

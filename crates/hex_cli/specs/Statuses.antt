@@ -1,19 +1,15 @@
--- How a run ends: its status, the line that it gives to the errors, and what stands then.
-use Rattle.std.specs.Prelude.{ℕ, List, [], Ok, Err, codes}
-use Rattle.std.specs.declared.option.Option.{Option}
-use Rattle.hex_io.specs.Told.{Told}
-use Rattle.hex_engine.specs.declared.options.Options.{Options}
-use Rattle.htp_session.specs.Stocks.{ShelfAndArchive}
-use Rattle.htp_session.specs.Endings.{Outcome, Conversed}
+-- How a run ends: its status, and the line that it gives to the errors.
+use Rattle.std.specs.Prelude.{◌≡◌, ◌≢◌, ◌⊎◌, ℕ, List, [], Ok, Err, codes}
+use Rattle.htp_session.specs.Endings.{Outcome}
 use Rattle.htp_session.specs.declared.stops.Stop.TheVariants.{ReadFault, WriteFault, Memory}
 use Rattle.htp_session.specs.declared.stops.Stop.TheVariants.{TooLong, ArchiveFault}
 use Rattle.hex_cli.specs.declared.ends.End.{End}
 use Rattle.hex_cli.specs.declared.ends.End.TheVariants.{Done, Usage, Stopped}
 
 -- how a run ends whose session ended so
-abbrev pub end_of : Outcome → End
-end_of (Ok done) = Done
-end_of (Err stop) = Stopped stop
+abbrev pub end_for : Outcome → End
+end_for (Ok done) = Done
+end_for (Err stop) = Stopped stop
 
 -- the status of a run that ends so
 abbrev pub status_of : End → ℕ
@@ -34,12 +30,3 @@ error_line (Stopped WriteFault) = []
 error_line (Stopped Memory) = codes "hexd: out of memory\n"
 error_line (Stopped TooLong) = codes "hexd: input too long\n"
 error_line (Stopped ArchiveFault) = codes "hexd: archive fault\n"
-
--- what stands at the end of a session: it never ends with a usage
-abbrev pub PlayedTo : End → Options → ℕ → ℕ → ShelfAndArchive → ShelfAndArchive → Option Told
-    → Option Told → Type 0
-PlayedTo Done options size limit old new link link_now =
-    Conversed (Ok tt) options size limit old new link link_now
-PlayedTo Usage options size limit old new link link_now = ⊥
-PlayedTo (Stopped stop) options size limit old new link link_now =
-    Conversed (Err stop) options size limit old new link link_now

@@ -1,7 +1,7 @@
 //! How a run ends: its status, and the line that it gives to the errors.
 
 ghost use Rattle.std.specs.Prelude.{◌≡◌};
-ghost use Rattle.hex_cli.specs.Statuses.{end_of, status_of, error_line};
+ghost use Rattle.hex_cli.specs.Statuses.{end_for, status_of, error_line};
 
 use htp_session::Stop;
 
@@ -19,7 +19,7 @@ pub enum End {
 impl End {
     /// How a run ends whose session ended so.
     pub fn of(outcome: Result<(), Stop>) -> End
-        ensures { result ≡ end_of outcome }
+        ensures { result ≡ end_for outcome }
     {
         match outcome {
             Ok(()) => End::Done,

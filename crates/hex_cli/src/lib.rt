@@ -36,9 +36,12 @@
 #![tactic(auto)]
 
 mod ends;
+mod limits;
+mod playing;
 #[cfg(test)]
 mod tests;
 mod top;
 
 pub use ends::End;
-pub use top::{INPUT_LIMIT, run};
+pub use limits::INPUT_LIMIT;
+pub use top::run;

@@ -2,7 +2,8 @@
 
 ghost use Rattle.std.specs.Prelude.{None};
 
-use crate::top::{INPUT_LIMIT, run};
+use crate::limits::INPUT_LIMIT;
+use crate::top::run;
 use hex_cells::{Size, read_vertex};
 use hex_io::{Bytes, File, Link, LinkFault, MemLink, MemShelf, Word};
 use hex_plan::{MemArchive, NoArchive};

@@ -9,7 +9,7 @@ use Rattle.hex_engine.specs.EngineState.{EngineState}
 use Rattle.htp_session.specs.Stocks.{ShelfAndArchive}
 use Rattle.htp_session.specs.Sessions.{Does, DoesSome, Advanced, GaveUp, HeldBack, StopsBeforeLast, LastIsShort}
 use Rattle.htp_session.specs.Devices.{DevicesState, stock, CountsStop}
-use Rattle.htp_session.specs.Calls.Devices.{Gives}
+use Rattle.htp_session.specs.Calls.Devices.{GivesAll}
 use Rattle.htp_session.specs.Calls.Answering.{WritesAnswer}
 use Rattle.htp_session.specs.Calls.Session.{AdvancesBy, AnswersEnd, Feeds, Finishes}
 use Rattle.htp_session.specs.declared.session.Session.{Session}
@@ -85,7 +85,7 @@ fed_stopped old mid new before session after piece at ArchiveFault fed a link =
 pub fed_unwritten : (old mid asked new : DevicesState) (before session after : Session) (piece : List ℕ) (at n : ℕ) (quit : Bool) (stop : Stop)
     → Does (stock old) (stock mid) [] before.engine before.splitter (FedTo old.link mid.link session.engine session.splitter (take at piece))
     → Does (stock mid) (stock asked) [] session.engine session.splitter (λ start all later seen. Advanced quit start all later after.engine after.splitter after.out.items seen (take n (rest_of piece at)))
-    → asked.link ≡ mid.link → stock new ≡ stock asked → Gives asked new after.out.items (Err stop) → Feeds old new before after piece (Err stop)
+    → asked.link ≡ mid.link → stock new ≡ stock asked → GivesAll asked new after.out.items (Err stop) → Feeds old new before after piece (Err stop)
 fed_unwritten old mid asked new before session after piece at n quit ReadFault fed a link same g = absurd g
 fed_unwritten old mid asked new before session after piece at n quit WriteFault fed a link same g =
     rw same (fed_broke_off old.link mid.link new.link (stock old) (stock mid) (stock asked) before.engine session.engine after.engine before.splitter session.splitter after.splitter after.out.items piece at n quit fed a (rw (← link) g))
@@ -106,7 +106,7 @@ end_stopped old new before after TooLong a link = absurd a
 end_stopped old new before after ArchiveFault a link = (rw link (same_link old), a)
 
 pub end_given : (old mid new : DevicesState) (before after : Session) (result : Result (Unit {0}) Stop)
-    → AnswersEnd old mid before after (Ok tt) → mid.link ≡ old.link → stock new ≡ stock mid → Gives mid new after.out.items result → Finishes old new before result
+    → AnswersEnd old mid before after (Ok tt) → mid.link ≡ old.link → stock new ≡ stock mid → GivesAll mid new after.out.items result → Finishes old new before result
 end_given old mid new before after (Ok done) a link same g = rw same (last_given old.link new.link (stock old) (stock mid) before.engine before.splitter after.out.items a (rw (← link) g))
 end_given old mid new before after (Err ReadFault) a link same g = absurd g
 end_given old mid new before after (Err WriteFault) a link same g = rw same (last_broke_off old.link new.link (stock old) (stock mid) before.engine before.splitter after.out.items a (rw (← link) g))

@@ -6,7 +6,7 @@ use Rattle.hex_engine.specs.EngineState.{opening}
 use Rattle.htp_session.specs.Stocks.{ShelfAndArchive}
 use Rattle.htp_session.specs.Devices.{DevicesState, stock}
 use Rattle.htp_session.specs.Endings.{Outcome, Conversed}
-use Rattle.htp_session.specs.Calls.Devices.{Reads}
+use Rattle.htp_session.specs.Calls.Devices.{ReadsSome}
 use Rattle.htp_session.specs.Calls.Session.{Feeds, Finishes}
 use Rattle.htp_session.specs.Calls.Conversation.{Converses}
 use Rattle.htp_session.specs.declared.session.Session.{Session}
@@ -19,7 +19,7 @@ abbrev pub GoesOn : Options → ℕ → DevicesState → ShelfAndArchive → Opt
 GoesOn options size old now link session seen = Goes (opening options size) (stock old) now old.link link session.engine session.splitter seen
 
 pub by_read : (options : Options) (size limit : ℕ) (old mid new : DevicesState) (session : Session) (seen buf : List ℕ) (stop : Stop) → length seen ≤ limit
-    → GoesOn options size old (stock new) mid.link session seen → Reads mid new buf (Err stop) → Converses options size limit old new (Err stop)
+    → GoesOn options size old (stock new) mid.link session seen → ReadsSome mid new buf (Err stop) → Converses options size limit old new (Err stop)
 by_read options size limit old mid new session seen buf ReadFault few g r = ends_unread options size limit (stock old) (stock new) old.link mid.link new.link session.engine session.splitter seen few g r
 by_read options size limit old mid new session seen buf WriteFault few g r = absurd r
 by_read options size limit old mid new session seen buf Memory few g r = absurd r

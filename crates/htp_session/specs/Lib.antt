@@ -5,3 +5,4 @@ pub mod Devices
 pub mod Sessions
 pub mod Endings
 pub mod Calls
+pub mod Laws

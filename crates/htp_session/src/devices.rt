@@ -3,7 +3,7 @@
 ghost use Rattle.std.specs.Prelude.{◌≡◌, ◌<◌, ◌≤◌, length, IfOk};
 ghost use Rattle.htp_line.specs.Reading.{asked_of};
 ghost use Rattle.htp_session.specs.Devices.{CountsFaults, stock};
-ghost use Rattle.htp_session.specs.Calls.Devices.{Reads, Gives, Asks};
+ghost use Rattle.htp_session.specs.Calls.Devices.{ReadsSome, GivesAll, Asks};
 
 use crate::stops::Stop;
 use hex_engine::{Answer, Engine, EngineError};
@@ -48,7 +48,7 @@ impl<L: Link, F: Shelf, A: Archive> Devices<'_, '_, '_, L, F, A> {
         requires some { 0 < room }
         requires fits { room ≤ length buffer.old }
         ensures bound { IfOk result (λ n. n ≤ room) }
-        ensures reads { Reads self.old self.new buffer.new result }
+        ensures reads { ReadsSome self.old self.new buffer.new result }
         ensures stock { stock self.new ≡ stock self.old }
         ensures counts { CountsFaults self.old self.new result }
     {
@@ -60,7 +60,7 @@ impl<L: Link, F: Shelf, A: Archive> Devices<'_, '_, '_, L, F, A> {
 
     /// Gives all of the bytes. At a fault a front of them was given.
     pub fn give(&mut self, bytes: &[u8]) -> Result<(), Stop>
-        ensures gives { Gives self.old self.new bytes.now result }
+        ensures gives { GivesAll self.old self.new bytes.now result }
         ensures stock { stock self.new ≡ stock self.old }
         ensures counts { CountsFaults self.old self.new result }
     {

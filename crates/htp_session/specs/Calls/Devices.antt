@@ -15,22 +15,22 @@ use Rattle.htp_session.specs.declared.stops.Stop.TheVariants.{ReadFault, WriteFa
 use Rattle.htp_session.specs.declared.stops.Stop.TheVariants.{TooLong, ArchiveFault}
 
 -- what a read did: at a fault nothing
-abbrev pub Reads : DevicesState → DevicesState → List ℕ → Result ℕ Stop → Type 0
-Reads old new buffer (Ok count) = Both old.link new.link (λ o n. TakesBytes o n count buffer)
-Reads old new buffer (Err ReadFault) = Same old.link new.link
-Reads old new buffer (Err WriteFault) = ⊥
-Reads old new buffer (Err Memory) = ⊥
-Reads old new buffer (Err TooLong) = ⊥
-Reads old new buffer (Err ArchiveFault) = ⊥
+abbrev pub ReadsSome : DevicesState → DevicesState → List ℕ → Result ℕ Stop → Type 0
+ReadsSome old new buffer (Ok count) = Both old.link new.link (λ o n. TakesBytes o n count buffer)
+ReadsSome old new buffer (Err ReadFault) = Same old.link new.link
+ReadsSome old new buffer (Err WriteFault) = ⊥
+ReadsSome old new buffer (Err Memory) = ⊥
+ReadsSome old new buffer (Err TooLong) = ⊥
+ReadsSome old new buffer (Err ArchiveFault) = ⊥
 
 -- all of the bytes were given, or at a fault a front of them
-abbrev pub Gives : DevicesState → DevicesState → List ℕ → Result (Unit {0}) Stop → Type 0
-Gives old new bytes (Ok done) = Gave old.link new.link bytes
-Gives old new bytes (Err ReadFault) = ⊥
-Gives old new bytes (Err WriteFault) = GavePart old.link new.link bytes
-Gives old new bytes (Err Memory) = ⊥
-Gives old new bytes (Err TooLong) = ⊥
-Gives old new bytes (Err ArchiveFault) = ⊥
+abbrev pub GivesAll : DevicesState → DevicesState → List ℕ → Result (Unit {0}) Stop → Type 0
+GivesAll old new bytes (Ok done) = Gave old.link new.link bytes
+GivesAll old new bytes (Err ReadFault) = ⊥
+GivesAll old new bytes (Err WriteFault) = GavePart old.link new.link bytes
+GivesAll old new bytes (Err Memory) = ⊥
+GivesAll old new bytes (Err TooLong) = ⊥
+GivesAll old new bytes (Err ArchiveFault) = ⊥
 
 -- the engine answered a request, or wanted memory or a turn, and then it stands as before
 abbrev pub Asks : DevicesState → DevicesState → EngineState → EngineState → Asked

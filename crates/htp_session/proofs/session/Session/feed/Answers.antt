@@ -1,7 +1,7 @@
 -- What stands after one line more.
 use Rattle.std.proofs.Common.{◌≡◌, Err, None, take, refl, ◌∙◌, subst, arith}
 use Rattle.std.proofs.lemmas.Grind.{common_steps}
-use Rattle.htp_session.specs.Calls.Devices.{Gives}
+use Rattle.htp_session.specs.Calls.Devices.{GivesAll}
 use Rattle.htp_session.proofs.Feeding.{fed_nothing, fed_all, fed_on, fed_quit}
 use Rattle.htp_session.proofs.Calling.{counts_nothing, counts_then, fed_stopped, fed_unwritten}
 use Rattle.htp_session.proofs.session.Session.feed.Goals as goal
@@ -23,7 +23,7 @@ returns-in-Err-clause-counts g c = counts_then c.args.devices.now c.lines.device
 pub returns-in-Err-give-clause-feeds : goal.returns-in-Err-give-clause-feeds
 returns-in-Err-give-clause-feeds g c =
     fed_unwritten c.args.devices.now c.lines.devices c.advance.new.devices c.give.new.self c.args.self.now c.lines.self c.advance.new.self c.args.piece.now c.lines.at c.in-Ok.moved.used c.in-Ok.moved.quit c.in-Err-give.stop
-    c.lines.invariant.fed c.in-Ok.ensures.advances c.in-Ok.ensures.link c.in-Err-give.ensures.stock (subst (λ l. Gives c.advance.new.devices c.give.new.self l (Err c.in-Err-give.stop)) c.deref.ensures.value c.in-Err-give.ensures.gives)
+    c.lines.invariant.fed c.in-Ok.ensures.advances c.in-Ok.ensures.link c.in-Err-give.ensures.stock (subst (λ l. GivesAll c.advance.new.devices c.give.new.self l (Err c.in-Err-give.stop)) c.deref.ensures.value c.in-Err-give.ensures.gives)
 
 pub returns-in-Err-give-clause-counts : goal.returns-in-Err-give-clause-counts
 returns-in-Err-give-clause-counts g c = counts_then c.args.devices.now c.lines.devices _ _ c.lines.invariant.counts (counts_then c.lines.devices c.advance.new.devices _ _ c.in-Ok.ensures.counts c.in-Err-give.ensures.counts)
