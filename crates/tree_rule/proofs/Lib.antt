@@ -1,0 +1,4 @@
+pub mod Within
+pub mod Moves
+pub mod Ends
+pub mod Copies

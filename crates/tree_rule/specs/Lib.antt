@@ -1,0 +1,4 @@
+pub mod Tables
+pub mod Plays
+pub mod Seats
+pub mod Ends
