@@ -2,3 +2,4 @@ pub mod Tables
 pub mod Plays
 pub mod Seats
 pub mod Ends
+pub mod Scripts
