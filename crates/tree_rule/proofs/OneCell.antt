@@ -1,19 +1,17 @@
 -- The script of two workers on a board of one cell: each step fits.
-use Rattle.std.proofs.Common.{◌≡◌, ◌≢◌, ◌⊎◌, ℕ, ◌+◌, ◌-◌, ◌%◌, ◌<◌, ◌≤◌, Bool, true, false, List, [], ◌∷◌, ◌++◌, length, Option, Some, None, refl, sym, ap, ◌∙◌, subst, ⊎_elim, inl, inr, arith}
-use Rattle.std.specs.Prelude.{◌==◌, slice_get}
-use Rattle.hex_cells.specs.declared.colours.Colour.TheVariants.{Black, White}
+use Rattle.std.proofs.Common.{◌≡◌, ℕ, ◌+◌, ◌<◌, true, false, List, [], ◌∷◌, length, Option, Some, None, refl, sym, ap, ◌∙◌, subst, ⊎_elim, inl, arith}
+use Rattle.std.specs.Prelude.{slice_get}
+use Rattle.hex_cells.specs.declared.colours.Colour.TheVariants.{Black}
 use Rattle.hex_cells.specs.Sets.{has as has_cell}
 use Rattle.hex_board.specs.Joined.{is_joined, leads_in}
 use Rattle.play_out.specs.Fills.{empties_of, order_of, filled_by, filled, playout_of}
 use Rattle.play_out.specs.Streams.{words_of, shuffled}
-use Rattle.tree_words.specs.Settings.{Setting}
-use Rattle.tree_words.specs.Blocks.{LinkedBlock, In, has_node, child}
-use Rattle.tree_words.specs.Paths.{node_state, is_on}
+use Rattle.tree_words.specs.Blocks.{LinkedBlock, has_node, child}
+use Rattle.tree_words.specs.Paths.{node_state}
 use Rattle.tree_words.specs.Complete.{allowed_cells}
 use Rattle.tree_words.specs.Sequence.{outcome_of, chosen_of}
 use Rattle.tree_words.specs.Told.{told_block}
-use Rattle.tree_words.specs.declared.steps.Op.{Op}
-use Rattle.tree_words.specs.declared.steps.Op.TheVariants.{Draw, Look, Add, Note, Done}
+use Rattle.tree_words.specs.declared.steps.Op.TheVariants.{Draw, Look, Add, Note}
 use Rattle.arena_rule.specs.Views.{SeatView, Flight, HasEnded, new_view, opening_view}
 use Rattle.arena_rule.specs.Fits.{FitsDraw, FitsAdd, FitsNote, IsNext, MayBegin, IsChosen}
 use Rattle.arena_rule.specs.Lookups.{IsLoaded, record_word}

@@ -113,6 +113,16 @@ fn walk(tree: &Tree, first: &mut TreeSeat, second: &mut TreeSeat) -> bool
     follow(tree, first, second, &script)
 }
 
+// Joins the two seats, and closes the tree.
+fn finish(tree: Tree, mut first: TreeSeat, second: TreeSeat) -> Closed
+    requires own { IsOf tree first × IsOf tree second }
+    requires shape { tree.shape ≡ one_cell }
+    requires ended { HaveEnded first.view second.view }
+{
+    first.join(&tree, second);
+    tree.close(first)
+}
+
 // How many words are not 0.
 fn marked(closed: &Closed) -> usize {
     closed.words().iter().filter(|w| **w != 0).count()
@@ -124,8 +134,7 @@ fn two_workers_on_one_cell(rt: HostRuntime) -> Result<(), Fail> {
     let (tree, mut first) = Tree::make(rt.alloc(), &shape)?;
     let mut second = first.split(&tree, 1);
     assert!(rt; walk(&tree, &mut first, &mut second));
-    first.join(&tree, second);
-    let closed = tree.close(first);
+    let closed = finish(tree, first, second);
     let wanted = [
         (0usize, 16),
         (1, 4),

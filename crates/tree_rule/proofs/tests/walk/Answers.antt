@@ -1,6 +1,5 @@
 -- Each step of the script fits, and at its end both workers have ended.
 use Rattle.std.proofs.Common.{◌≡◌, sym, subst, ◌∙◌}
-use Rattle.arena_rule.specs.Views.{SeatView}
 use Rattle.tree_rule.specs.Scripts.{TwoViews, AllFit, HaveEnded, views_of, after_lines}
 use Rattle.tree_rule.proofs.OneCell.{two_seats, script, all-fit, ended}
 use Rattle.tree_rule.proofs.tests.walk.Goals as goal
