@@ -1,5 +1,5 @@
 -- The script of two workers on a board of one cell: each step fits.
-use Rattle.std.proofs.Common.{◌≡◌, ℕ, ◌+◌, ◌<◌, true, false, List, [], ◌∷◌, length, Option, Some, None, refl, sym, ap, ◌∙◌, subst, ⊎_elim, inl, arith}
+use Rattle.std.proofs.Common.{◌≡◌, ℕ, ◌+◌, ◌<◌, true, false, List, [], ◌∷◌, Some, refl, sym, ap, subst, ⊎_elim, inl, arith}
 use Rattle.std.specs.Prelude.{slice_get}
 use Rattle.hex_cells.specs.declared.colours.Colour.TheVariants.{Black}
 use Rattle.hex_cells.specs.Sets.{has as has_cell}
@@ -12,10 +12,11 @@ use Rattle.tree_words.specs.Complete.{allowed_cells}
 use Rattle.tree_words.specs.Sequence.{outcome_of, chosen_of}
 use Rattle.tree_words.specs.Told.{told_block}
 use Rattle.tree_words.specs.declared.steps.Op.TheVariants.{Draw, Look, Add, Note}
-use Rattle.arena_rule.specs.Views.{SeatView, Flight, HasEnded, new_view, opening_view}
-use Rattle.arena_rule.specs.Fits.{FitsDraw, FitsAdd, FitsNote, IsNext, MayBegin, IsChosen}
+use Rattle.arena_rule.specs.Views.{SeatView, HasEnded, new_view, opening_view}
+use Rattle.arena_rule.specs.Fits.{FitsAdd, MayBegin, IsChosen}
 use Rattle.arena_rule.specs.Lookups.{IsLoaded, record_word}
 use Rattle.arena_rule.specs.Afters.{drew, known_after, loads_after, looked, added_at, noted, with_word, kept_part, given_part, joined}
+use Rattle.tree_rule.proofs.ScriptLaws.{draw-fits, next-add, note-fits}
 use Rattle.tree_rule.specs.Scripts.{one_cell, ScriptLine, TwoViews, AllFit, HaveEnded, after_lines}
 use Rattle.uct_table.specs.Choice.{choice_of}
 use Rattle.tree_words.proofs.Blocks.BlockLaws.{has-at}
@@ -72,36 +73,46 @@ two_seats = record { first = kept_part (opening_view one_cell) 1; second = given
 
 -- the script: what each seat looks at before its first draw, and both walks
 abbrev pub script : List ScriptLine
-script = (false, Look 5, 8) ∷ ((false, Look 8, 4) ∷ ((false, Look 9, 1) ∷ ((false, Look 10, 0) ∷ ((false, Look 11, 1) ∷ ((false, Look 12, 0) ∷ ((false, Look 6, 0) ∷ ((false, Look 14, 0) ∷ ((false, Look 15, 0) ∷ ((true, Look 5, 8) ∷ ((true, Look 8, 4) ∷ ((true, Look 9, 1) ∷ ((true, Look 10, 0) ∷ ((true, Look 11, 1) ∷ ((true, Look 12, 0) ∷ ((true, Look 6, 0) ∷ ((true, Look 14, 0) ∷ ((true, Look 15, 0) ∷ ((false, Draw, 0) ∷ ((true, Draw, 1) ∷ ((false, Add 14 true, 0) ∷ ((true, Add 14 true, 4294967297) ∷ ((false, Add 15 true, 0) ∷ ((false, Add 6 false, 0) ∷ ((false, Note 0 24, 0) ∷ ((true, Add 15 true, 4294967297) ∷ ((true, Add 6 false, 4294967296) ∷ ((true, Note 1 24, 0) ∷ ((false, Draw, 2) ∷ ((true, Draw, 3) ∷ [])))))))))))))))))))))))))))))
+script =
+    (false, Look 5, 8)
+    ∷ (false, Look 8, 4)
+    ∷ (false, Look 9, 1)
+    ∷ (false, Look 10, 0)
+    ∷ (false, Look 11, 1)
+    ∷ (false, Look 12, 0)
+    ∷ (false, Look 6, 0)
+    ∷ (false, Look 14, 0)
+    ∷ (false, Look 15, 0)
+    ∷ (true, Look 5, 8)
+    ∷ (true, Look 8, 4)
+    ∷ (true, Look 9, 1)
+    ∷ (true, Look 10, 0)
+    ∷ (true, Look 11, 1)
+    ∷ (true, Look 12, 0)
+    ∷ (true, Look 6, 0)
+    ∷ (true, Look 14, 0)
+    ∷ (true, Look 15, 0)
+    ∷ (false, Draw, 0)
+    ∷ (true, Draw, 1)
+    ∷ (false, Add 14 true, 0)
+    ∷ (true, Add 14 true, 4294967297)
+    ∷ (false, Add 15 true, 0)
+    ∷ (false, Add 6 false, 0)
+    ∷ (false, Note 0 24, 0)
+    ∷ (true, Add 15 true, 4294967297)
+    ∷ (true, Add 6 false, 4294967296)
+    ∷ (true, Note 1 24, 0)
+    ∷ (false, Draw, 2)
+    ∷ (true, Draw, 3)
+    ∷ []
 
-draw-fits : (v : SeatView) → v.width ≡ 1 → v.ended ≡ 0 → v.ticket ≡ None → v.held ≡ None → FitsDraw v
-draw-fits v w e t h = record { width = w; ended = e; ticket = t; held = h }
-
--- the adds of the walk of playout k, and its note
+-- the adds of the walk of playout k
 first-add : (k : ℕ) → FitsAdd (ready k) (record { word = 14; won = true })
 first-add k = record { number = k; ticket = refl; held = refl; next = (12, refl, may-begin k, ap (λ (l : List CountAdd). slice_get l 0) (adds k)) }
 
-next-add : (v : SeatView) (k n : ℕ) (a : CountAdd) → v.shape ≡ one_cell → v.known ≡ root_child ∷ [] → v.ticket ≡ Some k → v.held ≡ None → v.adds ≡ Some (record { leaf = 12; made = n })
-    → slice_get (walk_adds one_cell (root_child ∷ []) k 12) n ≡ Some a → FitsAdd v a
-next-add v k n a s b t h f e = record {
-  number = k;
-  ticket = t;
-  held = h;
-  next = subst (λ (o : Option Flight). IsNext v k o a) (sym f) ((λ i. slice_get (walk_adds (s i) (b i) k 12) n) ∙ e);
-}
-
-note-fits : (v : SeatView) (k : ℕ) → v.shape ≡ one_cell → v.known ≡ root_child ∷ [] → v.ticket ≡ Some k → v.adds ≡ Some (record { leaf = 12; made = 3 }) → FitsNote v k 24
-note-fits v k s b t f = record {
-  ticket = t;
-  flight = record { leaf = 12; made = 3 };
-  adds = f;
-  all = sym ((λ i. length (walk_adds (s i) (b i) k 12)) ∙ ap length (adds k));
-  value = sym ((λ i. record_word 12 (outcome_of (s i) k (node_state (s i) (b i) 12)).winner) ∙ ap (record_word 12) (won k));
-}
-
 pub all-fit : AllFit two_seats script
 unfolding allowed_cells has_cell drew known_after loads_after looked added_at noted with_word kept_part
-all-fit = (omega arith, (λ e. cc), (omega arith, (λ e. cc), (omega arith, (λ e. cc), (omega arith, (λ e. cc), (omega arith, (λ e. cc), (omega arith, (λ e. cc), (omega arith, (λ e. cc), (omega arith, (λ e. cc), (omega arith, (λ e. cc), (omega arith, (λ e. cc), (omega arith, (λ e. cc), (omega arith, (λ e. cc), (omega arith, (λ e. cc), (omega arith, (λ e. cc), (omega arith, (λ e. cc), (omega arith, (λ e. cc), (omega arith, (λ e. cc), (omega arith, (λ e. cc), (draw-fits _ refl refl refl refl, (λ e. cc), (draw-fits _ refl refl refl refl, (λ e. cc), (first-add 0, (λ e. cc), (first-add 1, (λ e. cc), (next-add _ 0 1 _ refl refl refl refl refl (ap (λ (l : List CountAdd). slice_get l 1) (adds 0)), (λ e. cc), (next-add _ 0 2 _ refl refl refl refl refl (ap (λ (l : List CountAdd). slice_get l 2) (adds 0)), (λ e. cc), (note-fits _ 0 refl refl refl refl, (λ e. cc), (next-add _ 1 1 _ refl refl refl refl refl (ap (λ (l : List CountAdd). slice_get l 1) (adds 1)), (λ e. cc), (next-add _ 1 2 _ refl refl refl refl refl (ap (λ (l : List CountAdd). slice_get l 2) (adds 1)), (λ e. cc), (note-fits _ 1 refl refl refl refl, (λ e. cc), (draw-fits _ refl refl refl refl, (λ e. cc), (draw-fits _ refl refl refl refl, (λ e. cc), tt))))))))))))))))))))))))))))))
+all-fit = (omega arith, (λ e. cc), (omega arith, (λ e. cc), (omega arith, (λ e. cc), (omega arith, (λ e. cc), (omega arith, (λ e. cc), (omega arith, (λ e. cc), (omega arith, (λ e. cc), (omega arith, (λ e. cc), (omega arith, (λ e. cc), (omega arith, (λ e. cc), (omega arith, (λ e. cc), (omega arith, (λ e. cc), (omega arith, (λ e. cc), (omega arith, (λ e. cc), (omega arith, (λ e. cc), (omega arith, (λ e. cc), (omega arith, (λ e. cc), (omega arith, (λ e. cc), (draw-fits _ refl refl refl refl, (λ e. cc), (draw-fits _ refl refl refl refl, (λ e. cc), (first-add 0, (λ e. cc), (first-add 1, (λ e. cc), (next-add _ one_cell (root_child ∷ []) 0 12 1 _ _ refl refl refl refl refl (adds 0) refl, (λ e. cc), (next-add _ one_cell (root_child ∷ []) 0 12 2 _ _ refl refl refl refl refl (adds 0) refl, (λ e. cc), (note-fits _ one_cell (root_child ∷ []) 0 12 24 _ refl refl refl refl (adds 0) (ap (record_word 12) (won 0)), (λ e. cc), (next-add _ one_cell (root_child ∷ []) 1 12 1 _ _ refl refl refl refl refl (adds 1) refl, (λ e. cc), (next-add _ one_cell (root_child ∷ []) 1 12 2 _ _ refl refl refl refl refl (adds 1) refl, (λ e. cc), (note-fits _ one_cell (root_child ∷ []) 1 12 24 _ refl refl refl refl (adds 1) (ap (record_word 12) (won 1)), (λ e. cc), (draw-fits _ refl refl refl refl, (λ e. cc), (draw-fits _ refl refl refl refl, (λ e. cc), tt))))))))))))))))))))))))))))))
 
 pub ended : HaveEnded (after_lines two_seats script).first (after_lines two_seats script).second
 unfolding allowed_cells has_cell drew known_after loads_after looked added_at noted with_word kept_part

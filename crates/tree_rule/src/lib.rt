@@ -30,6 +30,8 @@
 
 mod opening;
 mod plays;
+#[cfg(test)]
+mod race_tests;
 mod rule;
 mod seats;
 mod steps;

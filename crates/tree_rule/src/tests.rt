@@ -16,7 +16,7 @@ use std::test::Fail;
 use tree_words::{Closed, Knobs, Op, Shape};
 
 // A line of a script: whether the second seat makes the step, the step, and its answer.
-type Line = (bool, Op, u64);
+pub(crate) type Line = (bool, Op, u64);
 
 // Two workers with two playouts on one cell.
 fn shape_of_one_cell() -> Option<Shape>
@@ -53,7 +53,7 @@ fn make(tree: &Tree, a: &mut TreeSeat, b: &mut TreeSeat, line: &Line) -> bool
 }
 
 // Makes the steps of a script, and tells whether each was answered as it says.
-fn follow(tree: &Tree, a: &mut TreeSeat, b: &mut TreeSeat, lines: &[Line]) -> bool
+pub(crate) fn follow(tree: &Tree, a: &mut TreeSeat, b: &mut TreeSeat, lines: &[Line]) -> bool
     requires own { IsOf tree.now a.old × IsOf tree.now b.old }
     requires fits { AllFit (views_of a.old b.old) lines.now }
     ensures own { IsOf tree.now a.new × IsOf tree.now b.new }
