@@ -6,7 +6,7 @@ ghost use Rattle.arena_rule.specs.Afters.{kept_part, given_part};
 ghost use Rattle.tree_rule.specs.Seats.{IsOf};
 ghost use Rattle.tree_rule.specs.Scripts.{two_by_two, FillsForWhite, RaceEnds};
 
-use super::tests::follow;
+use super::scripts::follow;
 use super::{Tree, TreeSeat};
 use hex_board::Board;
 use hex_cells::{Cell, CellSet, Colour, Size};

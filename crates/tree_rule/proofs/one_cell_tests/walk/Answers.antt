@@ -2,7 +2,7 @@
 use Rattle.std.proofs.Common.{◌≡◌, sym, subst, ◌∙◌}
 use Rattle.tree_rule.specs.Scripts.{TwoViews, AllFit, HaveEnded, views_of, after_lines}
 use Rattle.tree_rule.proofs.OneCell.{two_seats, script, all-fit, ended}
-use Rattle.tree_rule.proofs.tests.walk.Goals as goal
+use Rattle.tree_rule.proofs.one_cell_tests.walk.Goals as goal
 
 pub follow-requires-clause-fits : goal.follow-requires-clause-fits
 follow-requires-clause-fits c =

@@ -3,7 +3,7 @@ use Rattle.std.proofs.Common.{false, subst}
 use Rattle.std.proofs.lemmas.List.{drop_more}
 use Rattle.tree_words.specs.declared.steps.Op.TheVariants.{Draw}
 use Rattle.tree_rule.specs.Scripts.{views_of, AllFit}
-use Rattle.tree_rule.proofs.tests.follow.Goals as goal
+use Rattle.tree_rule.proofs.scripts.follow.Goals as goal
 
 pub make-requires-clause-fits : goal.make-requires-clause-fits
 make-requires-clause-fits c =

@@ -1,22 +1,18 @@
 //! Two workers on a board of one cell, step by step.
 
-ghost use Rattle.std.specs.Prelude.{◌≡◌, ◌≢◌, IfSome, true};
-ghost use Rattle.tree_words.specs.declared.steps.Op.TheVariants.{Done};
+ghost use Rattle.std.specs.Prelude.{◌≡◌, IfSome, true};
 ghost use Rattle.arena_rule.specs.Views.{opening_view};
-ghost use Rattle.arena_rule.specs.Fits.{FitsStep};
 ghost use Rattle.arena_rule.specs.Afters.{kept_part, given_part};
 ghost use Rattle.tree_rule.specs.Seats.{IsOf};
-ghost use Rattle.tree_rule.specs.Scripts.{one_cell, stepping, after_line, after_lines};
-ghost use Rattle.tree_rule.specs.Scripts.{views_of, AllFit, HaveEnded};
+ghost use Rattle.tree_rule.specs.Scripts.{one_cell, HaveEnded};
 
+use super::scripts::follow;
 use super::{Tree, TreeSeat};
 use hex_board::Board;
 use hex_cells::{CellSet, Colour, Size};
 use std::test::Fail;
+use std::thread::{Threads, join};
 use tree_words::{Closed, Knobs, Op, Shape};
-
-// A line of a script: whether the second seat makes the step, the step, and its answer.
-pub(crate) type Line = (bool, Op, u64);
 
 // Two workers with two playouts on one cell.
 fn shape_of_one_cell() -> Option<Shape>
@@ -33,39 +29,6 @@ fn shape_of_one_cell() -> Option<Shape>
         weight: 180,
     };
     Some(Shape::make(&board, Colour::Black, CellSet::all(size), &knobs))
-}
-
-// Makes the step of a line, and tells whether it was answered as the line says.
-fn make(tree: &Tree, a: &mut TreeSeat, b: &mut TreeSeat, line: &Line) -> bool
-    requires own { IsOf tree.now a.old × IsOf tree.now b.old }
-    requires fits { FitsStep (stepping (views_of a.old b.old) line.now) line.now.1 }
-    requires step { line.now.1 ≢ Done }
-    ensures own { IsOf tree.now a.new × IsOf tree.now b.new }
-    ensures views { result ≡ true
-        → views_of a.new b.new ≡ after_line (views_of a.old b.old) line.now }
-{
-    let &(second, op, answer) = line;
-    if second {
-        b.act(tree, op) == answer
-    } else {
-        a.act(tree, op) == answer
-    }
-}
-
-// Makes the steps of a script, and tells whether each was answered as it says.
-pub(crate) fn follow(tree: &Tree, a: &mut TreeSeat, b: &mut TreeSeat, lines: &[Line]) -> bool
-    requires own { IsOf tree.now a.old × IsOf tree.now b.old }
-    requires fits { AllFit (views_of a.old b.old) lines.now }
-    ensures own { IsOf tree.now a.new × IsOf tree.now b.new }
-    ensures views { result ≡ true
-        → views_of a.new b.new ≡ after_lines (views_of a.old b.old) lines.now }
-{
-    for line in lines {
-        if !make(tree, a, b, line) {
-            return false;
-        }
-    }
-    true
 }
 
 // Makes two walks of two workers, and tells whether each step was answered as it should be.
@@ -152,5 +115,43 @@ fn two_workers_on_one_cell(rt: HostRuntime) -> Result<(), Fail> {
         assert_eq!(rt; closed.words().get(at).copied(), Some(value));
     }
     assert_eq!(rt; marked(&closed), wanted.len());
+    Ok(())
+}
+
+// A seat's look at the link of the root.
+fn look(tree: &Tree, mut seat: TreeSeat) -> u64
+    requires own { IsOf tree.now seat }
+    requires shape { tree.now.shape ≡ one_cell }
+{
+    seat.act(tree, Op::Look(5))
+}
+
+// Lets two seats look in two threads.
+fn look_together<R: Threads + Sync>(
+    rt: &R,
+    tree: &Tree,
+    first: TreeSeat,
+    second: TreeSeat,
+) -> (u64, u64)
+    requires own { IsOf tree.now first × IsOf tree.now second }
+    requires shape { tree.now.shape ≡ one_cell }
+{
+    join(
+        rt,
+        move || -> u64
+            requires { IsOf tree.now first × (tree.now.shape ≡ one_cell) }
+        { look(tree, first) },
+        move || -> u64
+            requires { IsOf tree.now second × (tree.now.shape ≡ one_cell) }
+        { look(tree, second) },
+    )
+}
+
+#[test]
+fn two_threads_look(rt: HostRuntime) -> Result<(), Fail> {
+    let shape = shape_of_one_cell().ok_or("a shape")?;
+    let (tree, mut first) = Tree::make(rt.alloc(), &shape)?;
+    let second = first.split(&tree, 1);
+    assert_eq!(rt; look_together(&rt, &tree, first, second), (8, 8));
     Ok(())
 }

@@ -2,7 +2,7 @@
 use Rattle.std.proofs.Common.{◌≡◌, drop}
 use Rattle.tree_rule.specs.Seats.{IsOf}
 use Rattle.tree_rule.specs.Scripts.{views_of, after_lines, AllFit}
-use Rattle.tree_rule.proofs.tests.follow.Given as goal
+use Rattle.tree_rule.proofs.scripts.follow.Given as goal
 
 abbrev pub invariant-loop-line : goal.invariant-loop-line
 invariant-loop-line l = record {

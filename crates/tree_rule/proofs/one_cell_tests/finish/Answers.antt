@@ -2,7 +2,7 @@
 use Rattle.std.proofs.Common.{ap, sym, ◌∙◌, subst}
 use Rattle.arena_rule.specs.Views.{HasEnded}
 use Rattle.tree_rule.proofs.OneCell.{all-ended}
-use Rattle.tree_rule.proofs.tests.finish.Goals as goal
+use Rattle.tree_rule.proofs.one_cell_tests.finish.Goals as goal
 
 pub close-requires-clause-all : goal.close-requires-clause-all
 close-requires-clause-all c =
