@@ -1,5 +1,5 @@
 -- The laws of the steps, as the table asks for them.
-use Rattle.std.proofs.Common.{◌≡◌, ◌≢◌, ℕ, ◌+◌, ◌-◌, ◌/◌, ◌%◌, ◌^◌, ◌<◌, Bool, true, false, cond, [], set, get_or, refl, sym, ap, ◌∙◌, subst, ⊎_elim, inr, arith}
+use Rattle.std.proofs.Common.{◌≡◌, ◌≢◌, ℕ, ◌+◌, ◌-◌, ◌/◌, ◌%◌, ◌^◌, ◌<◌, ◌≤◌, Bool, true, false, cond, [], set, get_or, refl, sym, ap, ◌∙◌, subst, ⊎_elim, inr, arith}
 use Rattle.std.specs.Prelude.{◌==◌}
 use Rattle.std.proofs.Math.Nat.{mod-eq_of_lt}
 use mathlib.Core.Option.{none, some}
@@ -11,11 +11,12 @@ use Rattle.atomic_table.proofs.Lists.{at_set}
 use Rattle.atomic_table.specs.declared.shared.Seat.{Seat}
 use Rattle.atomic_table.specs.Seated.{TableId}
 use Rattle.tree_words.specs.Settings.{Setting, IsSetting}
-use Rattle.tree_words.specs.Words.{end_of}
+use Rattle.tree_words.specs.Words.{end_of, visits_in}
 use Rattle.tree_words.specs.Sequence.{amount_of}
 use Rattle.tree_words.specs.declared.steps.Op.{Op}
-use Rattle.tree_words.specs.declared.steps.Op.TheVariants.{Draw, Claim, Publish, Add, Note}
+use Rattle.tree_words.specs.declared.steps.Op.TheVariants.{Draw, Look, Claim, Publish, Add, Note}
 use Rattle.arena_rule.specs.Views.{SeatView, spent_view, opening_view}
+use Rattle.arena_rule.specs.Lookups.{is_known}
 use Rattle.arena_rule.specs.Fits.{FitsStep, CanSplit, CanJoin}
 use Rattle.arena_rule.specs.Afters.{word_of, put, answer_of, after, kept_part, given_part, joined}
 use Rattle.arena_rule.specs.Answers.{MayAnswer}
@@ -29,6 +30,7 @@ use Rattle.arena_rule.proofs.ViewSeats.{kept-stays, given-stays, join-stays}
 use Rattle.tree_rule.specs.Tables.{holds}
 use Rattle.tree_rule.specs.Plays.{Told, add_tells, note_tells}
 use Rattle.tree_rule.specs.Seats.{Sits}
+use Rattle.tree_rule.specs.Visits.{own_visits}
 
 -- an operation that puts into the word what the step puts there, where the answer is one that it may give
 module _ (s : Setting) (slots id : ℕ) (m : Me ℕ SeatView) (op : Op) (iv : IsView m.0) (fits : FitsStep m.0 op) where
@@ -81,6 +83,12 @@ won-added n false e = omega (arith, e)
 pub won-told : (won : Bool) → (amount_of won == amount_of true) ≡ won
 won-told true = refl
 won-told false = refl
+
+-- a look at a tally answers at least the seat's own visits
+pub own-visits : (v : SeatView) (op : Op) (n x : ℕ) → MayAnswer v op n → is_known v x ≡ true → op ≡ Look (x + 2) → own_visits v x ≤ visits_in n
+own-visits v op n x may known e =
+    let look : MayAnswer v (Look (x + 2)) n = subst (λ (o : Op). MayAnswer v o n) e may in
+    (look.step.tally x known refl).own
 
 -- a step leaves the seat at its table, with a view in order
 pub sits-after : (table : TableId) (old new : Seat ℕ SeatView) (op : Op) (x : ℕ) → Sits table old → FitsStep old.me.0 op → new.table_id ≡ old.table_id → Told old.me op x new.me → Sits table new

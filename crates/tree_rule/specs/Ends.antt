@@ -1,5 +1,5 @@
 -- What a closed tree has of its last seat.
-use Rattle.std.specs.Prelude.{◌≡◌, ℕ, ◌<◌, ◌≤◌, List, length, slice_index}
+use Rattle.std.specs.Prelude.{◌≡◌, ℕ, ◌<◌, ◌≤◌, List, length, slice_index, Some}
 use mathlib.Core.Option.{some}
 use lib.ListN.{get_elem?}
 use Rattle.tree_words.specs.Settings.{Setting}
@@ -18,6 +18,10 @@ AreShown words blocks = (b : LinkedBlock) → In b blocks → IsShown words b
 -- the record of each playout is the value that the view's walks have for its number
 abbrev pub AreRecords : Setting → List ℕ → SeatView → Type 0
 AreRecords s words v = (k : ℕ) → k < s.knobs.playouts → record_in words k ≡ value_noted k v
+
+-- where the view has a copy of all words, the words are that copy
+abbrev pub AreCopied : List ℕ → SeatView → Type 0
+AreCopied words v = (copy : List ℕ) → v.whole ≡ Some copy → words ≡ copy
 
 -- from NEXT on the words are those of the room
 abbrev pub IsSameBehind : List ℕ → List ℕ → Type 0

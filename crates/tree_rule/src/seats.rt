@@ -1,15 +1,15 @@
 //! The seats of a shared tree.
 
-ghost use Rattle.std.specs.Prelude.{◌≡◌, ◌≢◌, ◌+◌, [], ℕ};
+ghost use Rattle.std.specs.Prelude.{◌≡◌, ◌≢◌};
 ghost use Rattle.tree_words.specs.Told.{AreAmong};
 ghost use Rattle.tree_words.specs.declared.steps.Op.TheVariants.{Done};
-ghost use Rattle.arena_rule.specs.Views.{SeatView, spent_view};
+ghost use Rattle.arena_rule.specs.Views.{spent_view};
 ghost use Rattle.arena_rule.specs.Fits.{FitsStep, CanSplit, CanJoin};
 ghost use Rattle.arena_rule.specs.Afters.{after, kept_part, given_part, joined};
 ghost use Rattle.arena_rule.specs.Answers.{MayAnswer};
 ghost use Rattle.arena_rule.specs.IsView.{IsView};
-ghost use Rattle.tree_rule.specs.Plays.{Told};
 ghost use Rattle.tree_rule.specs.Seats.{Sits, IsOf};
+ghost use Rattle.tree_rule.specs.Visits.{AnswersOwnVisits};
 
 use super::plays::{Joins, Part, Spent, Splits};
 use super::rule::SharedWords;
@@ -92,7 +92,8 @@ impl TreeSeat {
 
     /// One atomic step on one word of the tree. The seat is of this tree and its view fits the
     /// step, which is not `Done`. It answers the old value of the word, and 0 to a write and a
-    /// note.
+    /// note. What the seat knows stays known, and a look at a node's tally answers at least the
+    /// visits that this seat itself made there.
     #[inline(always)]
     pub fn act(&mut self, tree: &Tree, op: Op) -> u64
         requires own { IsOf tree.now self.old }
@@ -103,6 +104,7 @@ impl TreeSeat {
         ensures view { self.new.view ≡ after self.old.view op result }
         ensures order { IsView self.new.view }
         ensures known { AreAmong self.old.view.known self.new.view.known }
+        ensures visits { AnswersOwnVisits self.old.view op result }
     {
         step(&tree.table.shared, &mut self.seat, op)
     }

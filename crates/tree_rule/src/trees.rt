@@ -1,12 +1,13 @@
 //! The shared tree.
 
-ghost use Rattle.std.specs.Prelude.{◌≡◌, ◌<◌, ℕ, List, IfOk, Some, length};
+ghost use Rattle.std.specs.Prelude.{◌≡◌, ◌<◌, IfOk, length};
 ghost use Rattle.std.specs.Mem.Slots.{slots_items, slots_len, IsFull};
 ghost use Rattle.arena_rule.specs.Views.{opening_view, HasEnded};
 ghost use Rattle.arena_rule.specs.Closed.{HasAllWalks};
 ghost use Rattle.arena_rule.specs.IsView.{IsView};
 ghost use Rattle.tree_rule.specs.Seats.{IsOf, Stands};
-ghost use Rattle.tree_rule.specs.Ends.{AreShown, AreRecords, IsSameBehind, EndsWith};
+ghost use Rattle.tree_rule.specs.Ends.{AreShown, AreRecords, AreCopied};
+ghost use Rattle.tree_rule.specs.Ends.{IsSameBehind, EndsWith};
 
 use super::opening::open;
 use super::rule::ArenaRule;
@@ -105,7 +106,7 @@ impl Tree {
         ensures known { AreShown result.words seat.view.known }
         ensures walks { HasAllWalks self.shape seat.view }
         ensures records { AreRecords self.shape result.words seat.view }
-        ensures whole { (copy : List ℕ) → seat.view.whole ≡ Some copy → result.words ≡ copy }
+        ensures whole { AreCopied result.words seat.view }
     {
         let Tree { table, shape, room } = self;
         let TreeSeat { seat } = seat;

@@ -3,10 +3,11 @@ use Rattle.std.proofs.Common.{ap, sym, ◌∙◌, subst}
 use Rattle.tree_words.specs.Blocks.{In}
 use Rattle.arena_rule.specs.Views.{SeatView}
 use Rattle.arena_rule.specs.Fits.{FitsStep}
+use Rattle.arena_rule.specs.Answers.{MayAnswer}
 use Rattle.arena_rule.proofs.Changes.{shape-after}
 use Rattle.arena_rule.proofs.KnownMore.{known-kept}
 use Rattle.tree_rule.specs.Seats.{Sits}
-use Rattle.tree_rule.proofs.Moves.{sits-after}
+use Rattle.tree_rule.proofs.Moves.{own-visits, sits-after}
 use Rattle.tree_rule.proofs.seats.TreeSeat.act.Goals as goal
 
 -- the seat after the step
@@ -29,3 +30,8 @@ pub returns-clause-known : goal.returns-clause-known
 returns-clause-known c b n =
     subst (λ (v : SeatView). In b v.known) (sym c.step.ensures.told.view)
     (known-kept c.self.inside.seat.me.0 c.args.op c.step.result b (subst (λ (v : SeatView). In b v.known) (sym (ap (λ s. s.view) c.self.view_is)) n))
+
+pub returns-clause-visits : goal.returns-clause-visits
+returns-clause-visits c x known e =
+    let view = ap (λ s. s.view) c.self.view_is in
+    own-visits c.args.self.now.view c.args.op c.step.result x (subst (λ (v : SeatView). MayAnswer v c.args.op c.step.result) view c.step.ensures.told.answer) known e
