@@ -1,5 +1,5 @@
-use Rattle.hex_engine.proofs.Rows.{row_on, lines_step, lines_end}
-use Rattle.hex_engine.proofs.texts.push_rows.Goals as goal
+use Rattle.hex_plan.proofs.Rows.{row_on, lines_step, lines_end}
+use Rattle.hex_plan.proofs.texts.push_rows.Goals as goal
 
 pub push_row-requires : goal.push_row-requires
 push_row-requires c = row_on c.args.size c.args.rows.now c.loop-row.row-index c.row-item.result c.requires c.loop-row-test.true c.row-item.is
