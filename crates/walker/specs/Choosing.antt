@@ -1,7 +1,7 @@
 -- When a walker may go on with a look at a child, and to the child that it keeps.
-use Rattle.std.specs.Prelude.{◌≡◌, ℕ, ◌<◌, ◌≤◌, true, length, slice_index}
+use Rattle.std.specs.Prelude.{◌≡◌, ℕ, ◌+◌, ◌*◌, ◌<◌, ◌≤◌, true, length, slice_index}
 use Rattle.hex_board.specs.Positions.{is_empty_at}
-use Rattle.tree_words.specs.declared.layout.TheConstants.{MOST_NODES}
+use Rattle.tree_words.specs.declared.layout.TheConstants.{HEADER_WORDS, NODE_WORDS, MOST_NODES}
 use Rattle.walker.specs.Scans.{CanScan, scan_next}
 use Rattle.walker.specs.Machine.{cells_in}
 use Rattle.walker.specs.declared.TheConstants.{PAST_WORDS}
@@ -10,9 +10,9 @@ use Rattle.walker.specs.declared.machine.Walker.{Walker}
 -- there is room for one more level, and the child that is kept is one of the block's, whose cell is
 -- empty
 pub record MayChoose (w : Walker) : Type 0 where
-  pub start : w.start < PAST_WORDS
+  pub child : w.start + HEADER_WORDS + NODE_WORDS * w.scan.best < PAST_WORDS
   pub room : length w.way < MOST_NODES
-  pub board : (w.shape.board.size ≡ w.board.size) × (w.board.size ≤ 11)
+  pub size : w.board.size ≡ w.shape.board.size
   pub best : w.scan.best < length (cells_in w)
   pub empty : is_empty_at w.board (slice_index (cells_in w) w.scan.best) ≡ true
 

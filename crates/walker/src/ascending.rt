@@ -34,6 +34,7 @@ impl Walker {
     }
 
     /// After the add to a seen word.
+    #[tactic(auto, unfolding(crate::specs::Machine::seen_on))]
     #[inline(always)]
     pub(crate) fn see(&mut self)
         requires { self.old.node < PAST_WORDS }

@@ -57,6 +57,8 @@ impl Climb {
         requires { block < PAST_WORDS }
         ensures { result ≡ seen_adds stones won (block + HEADER_WORDS) (listed size cells) }
     {
+        // The size bounds the cells.
+        let _size = size.get();
         Climb {
             first: block + (HEADER_WORDS + SEEN_WORD) as u32,
             won,
@@ -81,6 +83,8 @@ impl Climb {
         ensures { self.new ≡ adds_after self.old }
     {
         if let Some(place) = self.left.least() {
+            // A place is below the most cells.
+            let _number = place.number();
             self.left = self.left.without(place);
         }
     }
@@ -90,6 +94,8 @@ impl Climb {
     pub fn is_done(&self) -> bool
         ensures { IsTrue result ↔ (self.now ≡ []) }
     {
+        // A place is below the most cells.
+        let _bits = self.left.bits();
         self.left.is_empty()
     }
 }

@@ -1,10 +1,9 @@
 //! The way down: from the root to a node, by its link, its block's header and its children.
 
-ghost use Rattle.std.specs.Prelude.{◌≡◌, ◌<◌, ◌≤◌, ◌^◌, length, slice_index, true};
-ghost use Rattle.hex_board.specs.Positions.{is_empty_at};
-ghost use Rattle.walker.specs.Machine.{at_node, at_block, at_leaf, cells_in, chosen, drawn, headed};
+ghost use Rattle.std.specs.Prelude.{◌≡◌, ◌<◌, ◌≤◌};
+ghost use Rattle.hex_board.specs.Positions.{Within};
+ghost use Rattle.walker.specs.Machine.{at_block, at_leaf, at_node, chosen, drawn, headed};
 ghost use Rattle.walker.specs.Machine.{linked, rooted, scanned, set_in};
-ghost use Rattle.walker.specs.Scans.{CanScan, scan_next};
 ghost use Rattle.walker.specs.Choosing.{MayChoose, MayScan};
 
 use super::PAST_WORDS;
@@ -12,7 +11,7 @@ use super::machine::Walker;
 use super::scans::Scan;
 use super::stages::Stage;
 use super::ways::Level;
-use hex_cells::CellSet;
+use hex_cells::{CellSet, Size};
 use play_out::play;
 use tree_words::layout::{HEADER_WORDS, LINK_WORD, NODE_WORDS, RECORDS_AT, TALLY_WORD};
 use tree_words::visits_of;
@@ -20,6 +19,7 @@ use uct_table::MOST_COUNT;
 
 impl Walker {
     /// After a Draw: a number below N begins a walk, any other ends the worker.
+    #[tactic(auto, unfolding(crate::specs::Machine::drawn))]
     pub(crate) fn draw(&mut self, answer: u64)
         ensures { self.new ≡ drawn self.old answer }
     {
@@ -34,6 +34,7 @@ impl Walker {
     }
 
     /// After the look at the root's tally: the walk stands at the root.
+    #[tactic(auto, unfolding(crate::specs::Machine::rooted))]
     pub(crate) fn stand_at_root(&mut self, answer: u64)
         ensures { self.new ≡ rooted self.old answer }
     {
@@ -55,6 +56,7 @@ impl Walker {
     }
 
     /// After the look at the node's link.
+    #[tactic(auto, unfolding(crate::specs::Machine::linked))]
     pub(crate) fn link(&mut self, answer: u64)
         requires node { self.old.node < PAST_WORDS }
         requires answer { answer < PAST_WORDS }
@@ -79,11 +81,13 @@ impl Walker {
     }
 
     /// After a look at a header word.
+    #[tactic(auto, unfolding(crate::specs::Machine::headed))]
     pub(crate) fn head(&mut self)
         requires node { self.old.node < PAST_WORDS }
         requires start { self.old.start < PAST_WORDS }
         requires at { self.old.at < PAST_WORDS }
         requires visits { self.old.visits ≤ MOST_COUNT }
+        requires size { self.old.board.size ≡ self.old.shape.board.size }
         ensures { self.new ≡ headed self.old }
     {
         if self.at + 1 < self.start + HEADER_WORDS as u32 {
@@ -101,8 +105,13 @@ impl Walker {
 
     // The cells of the block below the node.
     fn cells(&self) -> CellSet
-        ensures { result ≡ set_in self.now }
+        ensures value { result ≡ set_in self.now }
+        ensures within { self.now.board.size ≡ self.now.shape.board.size
+            → Within self.now.shape.board.size result }
+        ensures size { self.now.shape.board.size ≤ Size.MAX }
     {
+        // The board bounds its cells.
+        let _size = self.shape.board().size();
         if self.way.is_none() {
             self.shape.allowed()
         } else {
@@ -111,6 +120,7 @@ impl Walker {
     }
 
     /// After a look at a child.
+    #[tactic(auto, unfolding(crate::specs::Machine::scanned))]
     #[inline(always)]
     pub(crate) fn look(&mut self, answer: u64)
         requires { MayScan self.old answer }
@@ -123,6 +133,7 @@ impl Walker {
     }
 
     // The walk goes to the child that was kept.
+    #[tactic(auto, unfolding(crate::specs::Machine::chosen))]
     #[inline(never)]
     fn choose(&mut self)
         requires { MayChoose self.old }
@@ -144,6 +155,7 @@ impl Walker {
     }
 
     /// The node is the leaf: the playout is made, and the leaf's tally is next.
+    #[tactic(auto, unfolding(crate::specs::Machine::at_leaf, tree_words::specs::Sequence::outcome_of))]
     #[inline(never)]
     pub(crate) fn play_out(&mut self)
         requires { self.old.node < PAST_WORDS }

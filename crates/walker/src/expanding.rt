@@ -43,6 +43,7 @@ impl Walker {
 
     /// After a Claim: inside the area the block is held and is written next, else the node is the
     /// leaf.
+    #[tactic(auto, unfolding(crate::specs::Machine::claimed))]
     pub(crate) fn claim(&mut self, answer: u64)
         requires node { self.old.node < PAST_WORDS }
         requires answer { answer < PAST_WORDS }
@@ -91,6 +92,8 @@ impl Walker {
         ensures value { result ≡ slice_index (empties_of self.now.board) place }
         ensures range { result < 2 ^ 8 }
     {
+        // The size bounds the board's cells.
+        let _size = self.board.size();
         if place < self.empty_count() {
             self.board.empties().nth(place).number()
         } else {
@@ -99,6 +102,7 @@ impl Walker {
     }
 
     /// After a Write: the next word, or the link.
+    #[tactic(auto, unfolding(crate::specs::Machine::written))]
     pub(crate) fn write(&mut self)
         requires node { self.old.node < PAST_WORDS }
         requires start { self.old.start < PAST_WORDS }

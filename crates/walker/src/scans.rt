@@ -63,7 +63,12 @@ impl Model for Scan {
 impl Scan {
     /// The scan of the block that begins at `block` and has `count` nodes, below a node with these
     /// visits, for this weight.
-    pub(crate) fn of(block: u32, count: u32, visits: u32, weight: u32) -> Scan {
+    pub(crate) fn of(block: u32, count: u32, visits: u32, weight: u32) -> Scan
+        requires block { block < PAST_WORDS }
+        requires visits { visits ≤ MOST_COUNT }
+        requires weight { weight ≤ MOST_WEIGHT }
+        ensures { result ≡ scan_of block count visits weight }
+    {
         Scan {
             parent: Parent::of(visits, weight),
             count,
@@ -106,7 +111,10 @@ impl Scan {
 
     /// Takes the answer of the look.
     #[inline(always)]
-    pub fn got(&mut self, answer: u64) {
+    pub fn got(&mut self, answer: u64)
+        requires { CanScan self.old answer }
+        ensures { self.new ≡ scan_next self.old answer }
+    {
         match self.phase {
             Phase::Move => {
                 self.at += TALLY_WORD as u32;
@@ -127,7 +135,12 @@ impl Scan {
     }
 
     // Keeps the child in hand, whose seen word this is, where Choice prefers it.
-    fn keep(&mut self, seen: u64) {
+    #[tactic(auto, unfolding(crate::specs::Scans::kept))]
+    fn keep(&mut self, seen: u64)
+        requires tally { AtMost MOST_COUNT (count_in self.old.tally) }
+        requires seen { AtMost MOST_COUNT (count_in seen) }
+        ensures { self.new ≡ kept self.old (child_in self.old seen) }
+    {
         if self.fresh {
             return;
         }
@@ -153,7 +166,9 @@ impl Scan {
 
     /// Whether all children were looked at.
     #[inline(always)]
-    pub fn is_done(&self) -> bool {
+    pub fn is_done(&self) -> bool
+        ensures { IsTrue result ↔ (self.now.count ≤ self.now.place) }
+    {
         self.count <= self.place
     }
 

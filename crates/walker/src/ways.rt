@@ -26,7 +26,7 @@ pub struct Way {
 }
 
 impl Model for Way {
-    ghost use Rattle.std.specs.Prelude.{List, ◌≤◌};
+    ghost use Rattle.std.specs.Prelude.{List, length, ◌≡◌, ◌≤◌};
     ghost use Rattle.walker.specs.declared.ways.Level.{Level};
     ghost use Rattle.walker.specs.Ways.{levels_to};
     ghost use Rattle.tree_words.specs.declared.layout.TheConstants.{MOST_NODES};
@@ -35,7 +35,7 @@ impl Model for Way {
 
     ghost view = { λ w. levels_to w.levels w.depth };
 
-    ghost invariant = { λ w. w.depth ≤ MOST_NODES };
+    ghost invariant = { λ w. (w.depth ≤ MOST_NODES) × (length w.levels ≡ MOST_NODES) };
 }
 
 impl Way {
