@@ -4,3 +4,6 @@ pub mod PlaceLaws
 pub mod Keeping
 pub mod CellLaws
 pub mod Cases
+pub mod KnownLaws
+pub mod AddWay
+pub mod Fitting

@@ -12,7 +12,6 @@ use Rattle.arena_rule.specs.Adds.{CountAdd, seen_adds}
 use Rattle.walker.specs.Climbs.{adds_at, adds_after, add_op}
 use Rattle.walker.specs.Places.{ArePlaces}
 
-
 -- none passes
 none-filter : (p : ℕ → Bool) (a n : ℕ) → ((i : ℕ) → a ≤ i → p i ≡ false) → filter p (range_with_len a n) ≡ []
 none-filter p a zero h = refl
@@ -79,7 +78,6 @@ adds-next first won places c l t below =
 
 -- the adds of a block's seen words, from the place a on
 module _ (set places y : ℕ) (won : Bool) where
-
   join : (t u : Bool) → u ≡ t → (x : CountAdd) (xs : List CountAdd) (i : ℕ) (is : List ℕ)
       → x ≡ record { word = y + 3 + 4 * i; won = won } → xs ≡ map (λ j. record { word = y + 3 + 4 * j; won = won }) is
       → cond t (x ∷ xs) xs ≡ map (λ j. record { word = y + 3 + 4 * j; won = won }) (cond u (i ∷ is) is)
@@ -97,8 +95,8 @@ module _ (set places y : ℕ) (won : Bool) where
   seen-range a (c ∷ cs) (suc n) le here past =
       let rest : seen_adds set won (y + 4 * a + 4) cs ≡ map (λ j. record { word = y + 3 + 4 * j; won = won }) (filter (has_cell places) (range_with_len (a + 1) n))
       = ap (λ (z : ℕ). seen_adds set won z cs) (omega arith) ∙ seen-range (a + 1) cs n (omega arith)
-          (λ i l. ap (has_cell places) (shift a i) ∙ here (suc i) (omega arith))
-          (λ i l. past i (omega arith)) in
+      (λ i l. ap (has_cell places) (shift a i) ∙ here (suc i) (omega arith))
+      (λ i l. past i (omega arith)) in
       join (has_cell set c) (has_cell places a) (ap (has_cell places) (sym (add-none a)) ∙ here 0 (omega arith))
       (record { word = y + 4 * a + 3; won = won }) (seen_adds set won (y + 4 * a + 4) cs) a (filter (has_cell places) (range_with_len (a + 1) n))
       (let w : y + 4 * a + 3 ≡ y + 3 + 4 * a = omega arith in λ i. record { word = w i; won = won }) rest
@@ -115,8 +113,8 @@ unfolding adds_at
 adds-seen set places block first won cells few are is =
     ap (λ (z : ℕ). map (λ i. record { word = z + 4 * i; won = won }) (filter (has_cell places) (range_with_len 0 121))) (is ∙ at block)
     ∙ sym (seen-range set places (block + 4) won 0 cells 121 few
-        (λ i l. ap (has_cell places) (zero-plus i) ∙ (are i ∙ ap (λ (t : Bool). t && has_cell set (get_or cells i 0)) (less i (length cells) l)))
-        (λ i l. are i ∙ ap (λ (t : Bool). t && has_cell set (get_or cells i 0)) (not-less i (length cells) (omega arith))))
+    (λ i l. ap (has_cell places) (zero-plus i) ∙ (are i ∙ ap (λ (t : Bool). t && has_cell set (get_or cells i 0)) (less i (length cells) l)))
+    (λ i l. are i ∙ ap (λ (t : Bool). t && has_cell set (get_or cells i 0)) (not-less i (length cells) (omega arith))))
     ∙ ap (λ (z : ℕ). seen_adds set won z cells) (back block)
   where
     at : (b : ℕ) → b + 7 ≡ b + 4 + 3

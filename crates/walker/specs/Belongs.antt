@@ -119,10 +119,10 @@ pub record IsScan (w : Walker) (v : SeatView) (b : LinkedBlock) : Type 0 where
   pub keeps : Keeps w.scan (children_loaded v b w.scan.place)
 
 -- the walk has its leaf and goes up: these adds are left, of those that its playout gives; before
--- the first the walk may begin
+-- the first the walk stands at its leaf and may begin
 abbrev pub Leaves : Walker → SeatView → Option Flight → List CountAdd → Type 0
 Leaves w v None left =
-    MayBegin v w.leaf × (left ≡ walk_adds v.shape v.known w.number w.leaf)
+    MayBegin v w.leaf × (w.leaf ≡ w.node) × (left ≡ walk_adds v.shape v.known w.number w.leaf)
 Leaves w v (Some f) left =
     (f.leaf ≡ w.leaf) × (left ≡ drop f.made (walk_adds v.shape v.known w.number w.leaf))
     × (f.made + length left ≡ length (walk_adds v.shape v.known w.number w.leaf))

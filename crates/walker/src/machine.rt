@@ -52,6 +52,7 @@ impl Walker {
     ghost use Rattle.arena_rule.specs.Answers.{MayAnswer};
     ghost use Rattle.walker.specs.Machine.{next, op_of};
     ghost use Rattle.walker.specs.Belongs.{Belongs, MayGet};
+    ghost use Rattle.walker.specs.Choosing.{CanGo};
 
     /// A worker of the shape that has drawn nothing.
     pub fn new(shape: &Shape) -> Walker
@@ -87,6 +88,27 @@ impl Walker {
         ensures is { result ≡ op_of self.now }
         ensures fits { (v : SeatView) → Belongs self.now v → FitsStep v result }
     {
+        self.step()
+    }
+
+    /// Takes the answer of the step.
+    #[inline(always)]
+    pub fn got(&mut self, answer: u64)
+        requires { MayGet self.old answer }
+        ensures is { self.new ≡ next self.old answer }
+        ensures belongs { (v : SeatView) → Belongs self.old v → MayAnswer v (op_of self.old) answer
+            → Belongs self.new (after v (op_of self.old) answer) }
+        ensures ended { (op_of self.new ≡ Op.Done) ↔ ((op_of self.old ≡ Op.Done)
+            ⊎ ((op_of self.old ≡ Op.Draw) × (self.old.shape.knobs.playouts ≤ answer))) }
+    {
+        self.go_on(answer);
+    }
+
+    // The step of each stage.
+    #[inline(always)]
+    fn step(&self) -> Op
+        ensures { result ≡ op_of self.now }
+    {
         match self.stage {
             Stage::Drawing => Op::Draw,
             Stage::Rooting | Stage::Linking | Stage::Heading => Op::Look(self.at),
@@ -101,15 +123,11 @@ impl Walker {
         }
     }
 
-    /// Takes the answer of the step.
+    // What each stage does with its answer.
     #[inline(always)]
-    pub fn got(&mut self, answer: u64)
-        requires { MayGet self.old answer }
-        ensures is { self.new ≡ next self.old answer }
-        ensures belongs { (v : SeatView) → Belongs self.old v → MayAnswer v (op_of self.old) answer
-            → Belongs self.new (after v (op_of self.old) answer) }
-        ensures ended { (op_of self.new ≡ Op.Done) ↔ ((op_of self.old ≡ Op.Done)
-            ⊎ ((op_of self.old ≡ Op.Draw) × (self.old.shape.knobs.playouts ≤ answer))) }
+    fn go_on(&mut self, answer: u64)
+        requires { CanGo self.old answer }
+        ensures { self.new ≡ next self.old answer }
     {
         match self.stage {
             Stage::Drawing => self.draw(answer),

@@ -43,4 +43,3 @@ cells-preserved c =
           (subst (λ (s : ℕ). Placed stones cells s place (k + 1)) (sym w.places-is)
           (placed-past stones cells old place k c.cells.invariant (in_set ∙ w.if-has.false)))
     ]
-
