@@ -53,13 +53,13 @@ tally-first w v g c = by w.way c.way
 module _ (w : Walker) (v : SeatView) (b : Belongs w v) where
   may-get : MayClaim w v → MayGetBlock v w.node (size_below (state_in w))
   may-get m =
-      let same : length (empties_of w.board) ≡ empties_at v w.node = ap (λ (p : NodeState). length (empties_of p.board)) m.down.state in
+      let same : length (empties_of w.board) ≡ empties_at v w.node = ap (λ (p : NodeState). length (empties_of p.board)) m.down.is in
       record {
-        known = m.down.node;
+        known = m.down.known;
         below = m.below;
         vacant = m.vacant;
         loaded = m.down.loaded;
-        visits = omega (arith, m.visits, m.down.visits);
+        visits = omega (arith, m.visits, m.down.counted);
         some = omega (arith, m.some, same);
         fits = ap block_size same;
       }
@@ -67,7 +67,7 @@ module _ (w : Walker) (v : SeatView) (b : Belongs w v) where
   -- the block that it holds is the told block
   pub own-told : MayClaim w v → own_block w ≡ told_below v w.node w.start
   own-told m =
-      let board : w.board ≡ node_board v.shape v.known w.node = ap (λ (p : NodeState). p.board) m.down.state in
+      let board : w.board ≡ node_board v.shape v.known w.node = ap (λ (p : NodeState). p.board) m.down.is in
       (λ i. record { start = w.start; parent = w.node; empties = set_of (empties_of (board i)); cells = empties_of (board i) })
       ∙ ap (λ (t : Bool). record { start = w.start; parent = w.node; empties = set_of (empties_of (node_board v.shape v.known w.node)); cells = cond t (allowed_cells v.shape) (empties_of (node_board v.shape v.known w.node)) })
       (sym (ne_eqb w.node (root_at v.shape) m.below))
@@ -79,7 +79,7 @@ module _ (w : Walker) (v : SeatView) (b : Belongs w v) where
   fits-root a = omega (arith, a.at, b.view.setting.ranges.words)
 
   fits-link : AtLink w v → FitsLook v w.at
-  fits-link a = let q = node-inside v.shape v.known w.node b.view.known a.down.node in omega (arith, a.at, q)
+  fits-link a = let q = node-inside v.shape v.known w.node b.view.known a.down.known in omega (arith, a.at, q)
 
   fits-header : AtHeader w v → FitsLook v w.at
   fits-header a =
@@ -95,7 +95,7 @@ module _ (w : Walker) (v : SeatView) (b : Belongs w v) where
   fits-claim : AtClaim w v → FitsClaim v (size_below (state_in w))
   fits-claim a = record {
     number = w.number;
-    ticket = a.may.down.hand.ticket;
+    ticket = a.may.down.ticket;
     adds = a.may.down.adds;
     held = a.held;
     room = a.may.room;

@@ -7,3 +7,4 @@ pub mod Cases
 pub mod KnownLaws
 pub mod AddWay
 pub mod Fitting
+pub mod Going

@@ -46,18 +46,23 @@ pub record InHand (w : Walker) (v : SeatView) : Type 0 where
   pub ended : v.ended ≡ 0
   pub ticket : v.ticket ≡ Some w.number
 
--- the walk goes down and stands at a known node: its way, its board and its loaded visits are those
--- of the node, and there is room on the way for each empty cell
-pub record Down (w : Walker) (v : SeatView) : Type 0 where
-  pub hand : InHand w v
+-- a walk with this number goes down and stands at a known node: its way, its state and its loaded
+-- visits are those of the node, and there is room on the way for each empty cell
+pub record IsDown (number node visits : ℕ) (state : NodeState) (way : List Level)
+    (v : SeatView) : Type 0 where
+  pub ended : v.ended ≡ 0
+  pub ticket : v.ticket ≡ Some number
   pub adds : v.adds ≡ None
-  pub node : is_known v w.node ≡ true
-  pub state : state_in w ≡ node_state v.shape v.known w.node
-  pub way : OnWay v w.way w.node
-  pub loaded : IsLoaded v (w.node + TALLY_WORD)
-  pub visits : (tally_loaded v w.node).visits ≡ w.visits
-  pub few : w.visits ≤ v.shape.knobs.playouts
-  pub room : length w.way + length (empties_of w.board) ≤ MOST_NODES
+  pub known : is_known v node ≡ true
+  pub is : state ≡ node_state v.shape v.known node
+  pub on_way : OnWay v way node
+  pub loaded : IsLoaded v (node + TALLY_WORD)
+  pub counted : (tally_loaded v node).visits ≡ visits
+  pub few : visits ≤ v.shape.knobs.playouts
+  pub room : length way + length (empties_of state.board) ≤ MOST_NODES
+
+abbrev pub Down : Walker → SeatView → Type 0
+Down w v = IsDown w.number w.node w.visits (state_in w) w.way v
 
 -- the block below the node is known, and the walker knows where it begins
 pub record IsBelow (w : Walker) (v : SeatView) (b : LinkedBlock) : Type 0 where

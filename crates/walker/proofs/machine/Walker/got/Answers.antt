@@ -1,0 +1,11 @@
+use Rattle.walker.proofs.Going.{no-count}
+use Rattle.walker.proofs.machine.Walker.got.Goals as goal
+
+pub go_on-requires : goal.go_on-requires
+go_on-requires c = ?
+
+pub returns-clause-belongs : goal.returns-clause-belongs
+returns-clause-belongs c = ?
+
+pub returns-clause-ended : goal.returns-clause-ended
+returns-clause-ended c = ?
