@@ -8,3 +8,5 @@ pub mod KnownLaws
 pub mod AddWay
 pub mod Fitting
 pub mod Going
+pub mod KeepLaws
+pub mod ChildLaws

@@ -94,7 +94,7 @@ pub record HasKept (d : ScanData) (xs : List Child) : Type 0 where
       ≡ kept_from d.parent d.weight d.best child d.place ys
 
 abbrev pub Keeps : ScanData → List Child → Type 0
-Keeps d [] = (d.place ≡ 0) × (d.most ≡ 0) × (d.fresh ≡ false)
+Keeps d [] = (d.place ≡ 0) × (d.best ≡ 0) × (d.most ≡ 0) × (d.fresh ≡ false)
 Keeps d (x ∷ xs) = HasKept d (x ∷ xs)
 
 -- the counts of the first n children of a block, as they were loaded

@@ -1,4 +1,6 @@
 use Rattle.walker.proofs.Going.{no-count}
+use Rattle.walker.proofs.KeepLaws.{keeps-more}
+use Rattle.walker.proofs.ChildLaws.{children-at}
 use Rattle.walker.proofs.machine.Walker.got.Goals as goal
 
 pub go_on-requires : goal.go_on-requires
