@@ -10,3 +10,6 @@ pub mod Fitting
 pub mod Going
 pub mod KeepLaws
 pub mod ChildLaws
+pub mod LeafLaws
+pub mod KeepsDown
+pub mod KeepsScan

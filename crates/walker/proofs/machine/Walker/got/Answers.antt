@@ -1,4 +1,5 @@
-use Rattle.walker.proofs.Going.{no-count}
+use Rattle.walker.proofs.KeepsDown.{keeps-link}
+use Rattle.walker.proofs.KeepsScan.{fewer-empties}
 use Rattle.walker.proofs.KeepLaws.{keeps-more}
 use Rattle.walker.proofs.ChildLaws.{children-at}
 use Rattle.walker.proofs.machine.Walker.got.Goals as goal
