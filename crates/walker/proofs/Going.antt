@@ -38,8 +38,8 @@ pub record Untouched (c : LinkedBlock) (at : ℕ) : Type 0 where
   pub seen : (k : ℕ) → k < length c.cells → at ≢ child c k + 3
 
 -- a node's state where blocks may have become known
-state-after : (v : SeatView) (z b x : ℕ) → InOrder (root_at v.shape) (known_after v z b) → is_known v x ≡ true → node_state v.shape (known_after v z b) x ≡ node_state v.shape v.known x
-state-after v z b x g n = ⊎_elim
+pub state-known : (v : SeatView) (z b x : ℕ) → InOrder (root_at v.shape) (known_after v z b) → is_known v x ≡ true → node_state v.shape (known_after v z b) x ≡ node_state v.shape v.known x
+state-known v z b x g n = ⊎_elim
     (λ (q : Grows v z b). ap (λ (ks : List LinkedBlock). node_state v.shape ks x) q.is ∙ spot-same v.shape (told_below v z b) v.known x (subst (InOrder (root_at v.shape)) q.is g).0 n)
     (λ (e : known_after v z b ≡ v.known). ap (λ (ks : List LinkedBlock). node_state v.shape ks x) e)
     (known_cases v z b)
@@ -54,7 +54,7 @@ look-goes v at x one iu = record {
   shape = refl;
   known = known-kept v (Look at) x;
   node = known-more v (node_of_link at) x;
-  state = λ y n. state-after v (node_of_link at) x y (one-order (after v (Look at) x) iu one) n;
+  state = λ y n. state-known v (node_of_link at) x y (one-order (after v (Look at) x) iu one) n;
   loads = λ i ne. load-else (is_count v at) at x i v.loads ne;
 }
 

@@ -78,16 +78,16 @@ fewer-empties p player c small e =
         by false t e = refl
 
 -- what a scan keeps does not hang on where it looks
-keeps-look : (d : ScanData) (xs : List Child) (at t : ℕ) (p : Phase) → Keeps d xs → Keeps (record d { at = at; phase = p; tally = t }) xs
+pub keeps-look : (d : ScanData) (xs : List Child) (at t : ℕ) (p : Phase) → Keeps d xs → Keeps (record d { at = at; phase = p; tally = t }) xs
 keeps-look d [] at t p h = h
 keeps-look d (x ∷ xs) at t p h = record { place = h.place; child = h.child; is = h.is; visits = h.visits; fresh = h.fresh; score = h.score; goes = h.goes }
 
-keeps-has : (d : ScanData) (xs : List Child) → 0 < length xs → Keeps d xs → HasKept d xs
+pub keeps-has : (d : ScanData) (xs : List Child) → 0 < length xs → Keeps d xs → HasKept d xs
 keeps-has d [] l h = absurd (omega arith)
 keeps-has d (x ∷ xs) l h = h
 
 -- the pick of the children that were looked at
-pick-is : (s : Setting) (v : SeatView) (c : LinkedBlock) (p n : ℕ) → (tally_loaded v c.parent).visits ≡ p → s.knobs.weight ≡ n
+pub pick-is : (s : Setting) (v : SeatView) (c : LinkedBlock) (p n : ℕ) → (tally_loaded v c.parent).visits ≡ p → s.knobs.weight ≡ n
     → pick (search_game s) (tally_loaded v) (seen_loaded v) c c.parent ≡ kept_of p n (children_loaded v c (length c.cells))
 unfolding chosen_of
 pick-is s v c p n e f =
@@ -96,19 +96,19 @@ pick-is s v c p n e f =
     ∙ ap (kept_of p n) (sym (children-all v c))
 
 module _ (w : Walker) (v : SeatView) (b : Belongs w v) (x : ℕ) (a : AtChild w v) where
-  order : InOrder (root_at v.shape) v.known
+  pub order : InOrder (root_at v.shape) v.known
   order = one-order v b.view b.width
 
-  lies : (d : LinkedBlock) → In d v.known → LiesIn v.shape d
+  pub lies : (d : LinkedBlock) → In d v.known → LiesIn v.shape d
   lies d i = known-lies v.shape v.known d order b.view.known i
 
-  above : (d : LinkedBlock) → In d v.known → d.parent < d.start
+  pub above : (d : LinkedBlock) → In d v.known → d.parent < d.start
   above d i = (lies d i).above
 
-  here : w.scan.place < length a.block.cells
+  pub here : w.scan.place < length a.block.cells
   here = omega (arith, a.scan.place, a.scan.count)
 
-  kid : (i : ℕ) → i < length a.block.cells → is_known v (child a.block i) ≡ true
+  pub kid : (i : ℕ) → i < length a.block.cells → is_known v (child a.block i) ≡ true
   kid i l = in-node (root_at v.shape) v.known a.block (child a.block i) a.below.known (child-node a.block i l)
 
   -- a look at a count of the child in hand
@@ -119,7 +119,7 @@ module _ (w : Walker) (v : SeatView) (b : Belongs w v) (x : ℕ) (a : AtChild w 
     behind : w.node < child a.block w.scan.place
     behind = let q = above a.block a.below.known in omega (arith, q, a.below.parent)
 
-    not-node : w.scan.at ≢ w.node + 2
+    pub not-node : w.scan.at ≢ w.node + 2
     not-node e = let q = other-node w.node 2 a.down.known (omega arith) e in omega (arith, q, behind)
 
     not-child : (d : LinkedBlock) (i : In d v.known) (m : d.start < w.node) (k n : ℕ) → k < length d.cells → n < 4 → w.scan.at ≢ child d k + n
@@ -132,7 +132,7 @@ module _ (w : Walker) (v : SeatView) (b : Belongs w v) (x : ℕ) (a : AtChild w 
         let s : a.block.start ≡ d.start = ap (λ (z : LinkedBlock). z.start) one in
         omega (arith, up, a.below.parent, m, s)
 
-    untouched : (d : LinkedBlock) → In d v.known → d.start < w.node → Untouched d w.scan.at
+    pub untouched : (d : LinkedBlock) → In d v.known → d.start < w.node → Untouched d w.scan.at
     untouched d i m = record {
       parent = λ e.
           let q = other-node d.parent 2 (in-parent (root_at v.shape) v.known d order i) (omega arith) e in
@@ -141,27 +141,27 @@ module _ (w : Walker) (v : SeatView) (b : Belongs w v) (x : ℕ) (a : AtChild w 
       seen = λ k l. not-child d i m k 3 l (omega arith);
     }
 
-    count-down : IsView (after v (Look w.scan.at) x) → Down w (after v (Look w.scan.at) x)
+    pub count-down : IsView (after v (Look w.scan.at) x) → Down w (after v (Look w.scan.at) x)
     unfolding with_word looked
     count-down iu = down-goes v (after v (Look w.scan.at) x) w.scan.at (look-goes v w.scan.at x b.width iu) w.number w.node w.visits (state_in w) w.way a.down not-node untouched above refl refl refl
 
-    count-else : (i k : ℕ) → i < w.scan.place → 2 ≤ k → k < 4 → w.scan.at ≢ child a.block i + k
+    pub count-else : (i k : ℕ) → i < w.scan.place → 2 ≤ k → k < 4 → w.scan.at ≢ child a.block i + k
     count-else i k l m n e = omega (arith, at, e, l, low, high)
 
   -- a look at the move of the child in hand
-  move-clear : w.scan.at ≡ child a.block w.scan.place → (y j : ℕ) → is_known v y ≡ true → 2 ≤ j → j < 4 → w.scan.at ≢ y + j
+  pub move-clear : w.scan.at ≡ child a.block w.scan.place → (y j : ℕ) → is_known v y ≡ true → 2 ≤ j → j < 4 → w.scan.at ≢ y + j
   move-clear at y j n l m e = stays-clear (root_at v.shape) v.known a.block (4 + 4 * w.scan.place) y j order a.below.known
       (let h = here in omega (arith, h)) (move-stays w.scan.place) n (omega arith) m (omega (arith, at, e))
 
   module _ (iu : IsView (after v (Look w.scan.at) x)) where
-    goes : Goes v (after v (Look w.scan.at) x) w.scan.at
+    pub goes : Goes v (after v (Look w.scan.at) x) w.scan.at
     goes = look-goes v w.scan.at x b.width iu
 
-    below-after : (scan : ScanData) → IsBelow (record w { scan = scan }) (after v (Look w.scan.at) x) a.block
+    pub below-after : (scan : ScanData) → IsBelow (record w { scan = scan }) (after v (Look w.scan.at) x) a.block
     below-after scan = record { known = goes.known a.block a.below.known; start = a.below.start; parent = a.below.parent; cells = a.below.cells }
 
     -- the scan goes on in its child
-    in-its-child : (at t : ℕ) (p : Phase) → ((i k : ℕ) → i < w.scan.place → 2 ≤ k → k < 4 → w.scan.at ≢ child a.block i + k)
+    pub in-its-child : (at t : ℕ) (p : Phase) → ((i k : ℕ) → i < w.scan.place → 2 ≤ k → k < 4 → w.scan.at ≢ child a.block i + k)
         → InChild p (after v (Look w.scan.at) x) (record w.scan { at = at; phase = p; tally = t }) (child a.block w.scan.place)
         → IsScan (record w { scan = record w.scan { at = at; phase = p; tally = t } }) (after v (Look w.scan.at) x) a.block
     unfolding with_word looked

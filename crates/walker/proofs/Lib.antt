@@ -13,3 +13,6 @@ pub mod ChildLaws
 pub mod LeafLaws
 pub mod KeepsDown
 pub mod KeepsScan
+pub mod KeepsChoice
+pub mod KeepsChild
+pub mod KeepsBlock

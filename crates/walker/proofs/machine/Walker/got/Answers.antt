@@ -1,5 +1,6 @@
 use Rattle.walker.proofs.KeepsDown.{keeps-link}
-use Rattle.walker.proofs.KeepsScan.{fewer-empties}
+use Rattle.walker.proofs.KeepsChild.{keeps-child}
+use Rattle.walker.proofs.KeepsBlock.{keeps-claim}
 use Rattle.walker.proofs.KeepLaws.{keeps-more}
 use Rattle.walker.proofs.ChildLaws.{children-at}
 use Rattle.walker.proofs.machine.Walker.got.Goals as goal
