@@ -169,7 +169,7 @@ module _ (w : Walker) (v : SeatView) (b : Belongs w v) where
             ∙ ap (λ (x : ℕ). record_word x (outcome_of v.shape w.number (node_state v.shape v.known x)).winner) leaf;
       }
 
-  fits-at : (t : Stage) → Stands t w v → FitsStep v (op_at t w)
+  pub fits-at : (t : Stage) → Stands t w v → FitsStep v (op_at t w)
   fits-at Drawing a = record { width = b.width; ended = a.ended; ticket = a.ticket; held = a.held }
   fits-at Rooting a = fits-root a
   fits-at Linking a = fits-link a

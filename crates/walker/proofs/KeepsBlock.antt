@@ -47,7 +47,7 @@ steps-go v u s k l = record {
   loads = λ i ne. ap (λ (ls : List WordLoad). load_of ls i) l;
 }
 
-no-touch : (c : LinkedBlock) → Untouched c 0
+pub no-touch : (c : LinkedBlock) → Untouched c 0
 no-touch c = record { parent = λ e. omega arith; tally = λ k l e. omega arith; seen = λ k l e. omega arith }
 
 -- a walk that goes down stays where loads stay

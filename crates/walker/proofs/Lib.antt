@@ -16,3 +16,6 @@ pub mod KeepsScan
 pub mod KeepsChoice
 pub mod KeepsChild
 pub mod KeepsBlock
+pub mod KeepsUp
+pub mod KeepsAdds
+pub mod Keeps
