@@ -52,7 +52,7 @@ module _ (w : Walker) (v : SeatView) (b : Belongs w v) (x : ℕ) where
           width = b.width;
           full = b.full;
           stands = record {
-            up = record { hand = a.climbs.up.hand; held = a.climbs.up.held; leaf = a.climbs.up.leaf; ending = a.climbs.up.ending };
+            up = record { hand = record { ended = a.climbs.up.hand.ended; ticket = a.climbs.up.hand.ticket }; held = a.climbs.up.held; leaf = a.climbs.up.leaf; ending = a.climbs.up.ending };
             flight = flight_after w.at v.adds;
             adds = refl;
             left = first-left w v b x v.adds w.at (record { word = w.node + 2; won = is_same w.ending.winner (other_of w.player) }) [] a.at (subst (Leaves w v v.adds) only a.left);
@@ -80,7 +80,7 @@ module _ (w : Walker) (v : SeatView) (b : Belongs w v) (x : ℕ) where
         = ap other_of (a.climbs.player ∙ ap (λ (p : NodeState). p.player) up) ∙ (twice (node_state v.shape v.known c.parent).player ∙ ap (λ (y : ℕ). (node_state v.shape v.known y).player) o.0.parent) in
         up-belongs w1 u seen b.shape iu b.width b.full refl
         (record {
-          up = record { hand = a.climbs.up.hand; held = a.climbs.up.held; leaf = a.climbs.up.leaf; ending = a.climbs.up.ending };
+          up = record { hand = record { ended = a.climbs.up.hand.ended; ticket = a.climbs.up.hand.ticket }; held = a.climbs.up.held; leaf = a.climbs.up.leaf; ending = a.climbs.up.ending };
           player = player;
           way = way-stays u (steps-go v u refl refl refl) way l.parent o.1;
         })
@@ -104,7 +104,7 @@ module _ (w : Walker) (v : SeatView) (b : Belongs w v) (x : ℕ) where
       let u : SeatView = after v (add_op (a ∷ climb)) x in
       up-belongs (record w { climb = climb }) u climb b.shape iu b.width b.full refl
       (record {
-        up = record { hand = c.up.hand; held = c.up.held; leaf = c.up.leaf; ending = c.up.ending };
+        up = record { hand = record { ended = c.up.hand.ended; ticket = c.up.hand.ticket }; held = c.up.held; leaf = c.up.leaf; ending = c.up.ending };
         player = c.player;
         way = way-stays u (steps-go v u refl refl refl) w.way w.node c.way;
       })

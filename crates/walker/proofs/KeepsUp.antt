@@ -39,10 +39,13 @@ use Rattle.walker.proofs.AddWay.{twice, adds-root, adds-level}
 use Rattle.walker.proofs.Cases.{drawn-begins, drawn-ends}
 
 -- after one more drop
+drop-suc : (xs : List CountAdd) (n : ℕ) (a : CountAdd) (rest : List CountAdd) → a ∷ rest ≡ drop n xs → rest ≡ drop (suc n) xs
+drop-suc xs zero a rest e = ap (drop 1) e
+drop-suc [] (suc n) a rest e = absurd (cc)
+drop-suc (x ∷ xs) (suc n) a rest e = drop-suc xs n a rest e
+
 drop-next : (xs : List CountAdd) (n : ℕ) (a : CountAdd) (rest : List CountAdd) → a ∷ rest ≡ drop n xs → rest ≡ drop (n + 1) xs
-drop-next xs zero a rest e = ap (drop 1) e
-drop-next [] (suc n) a rest e = absurd (cc)
-drop-next (x ∷ xs) (suc n) a rest e = drop-next xs n a rest e
+drop-next xs n a rest e = let k : suc n ≡ n + 1 = omega arith in drop-suc xs n a rest e ∙ ap (λ (m : ℕ). drop m xs) k
 
 few-empties : (p : Position) → p.size ≤ 11 → length (empties_of p) ≤ 121
 unfolding empties_of
@@ -149,7 +152,7 @@ up-belongs w u [] s iv one full e c f k l = record {
   width = one;
   full = full;
   stands = record {
-    climbs = record { up = record { hand = c.up.hand; held = c.up.held; leaf = c.up.leaf; ending = c.up.ending }; player = c.player; way = c.way };
+    climbs = record { up = record { hand = record { ended = c.up.hand.ended; ticket = c.up.hand.ticket }; held = c.up.held; leaf = c.up.leaf; ending = c.up.ending }; player = c.player; way = c.way };
     at = refl;
     left = subst (λ (o : Option Flight). Leaves (record w { stage = Tallying; at = w.node + 2 }) u o (adds_above w u)) (sym k) l;
   };
@@ -160,7 +163,7 @@ up-belongs w u (a ∷ climb) s iv one full e c f k l = record {
   width = one;
   full = full;
   stands = record {
-    climbs = record { up = record { hand = c.up.hand; held = c.up.held; leaf = c.up.leaf; ending = c.up.ending }; player = c.player; way = c.way };
+    climbs = record { up = record { hand = record { ended = c.up.hand.ended; ticket = c.up.hand.ticket }; held = c.up.held; leaf = c.up.leaf; ending = c.up.ending }; player = c.player; way = c.way };
     some = λ z. cons-none a climb (sym e ∙ z);
     flight = f;
     adds = k;
