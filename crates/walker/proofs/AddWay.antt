@@ -1,5 +1,5 @@
 -- The adds of a walk, level by level of its way.
-use Rattle.std.proofs.Common.{◌≡◌, ◌≢◌, ◌⊎◌, ℕ, ◌+◌, ◌*◌, ◌<◌, ◌≤◌, Bool, true, false, cond, List, [], ◌∷◌, ◌++◌, length, drop, get_or, Option, Some, None, refl, sym, ap, ◌∙◌, subst, arith, ⊎_elim, length-drop}
+use Rattle.std.proofs.Common.{◌≡◌, ℕ, ◌+◌, ◌<◌, Bool, true, false, cond, List, [], ◌∷◌, ◌++◌, length, drop, get_or, Some, refl, sym, ap, ◌∙◌, arith, length-drop}
 use Rattle.std.specs.Prelude.{slice_get}
 use Rattle.std.proofs.lemmas.Option.{slice_get-get_or}
 use Rattle.std.proofs.lemmas.List.{get_or-drop}
@@ -10,14 +10,11 @@ use Rattle.hex_board.specs.Positions.{stones_of}
 use Rattle.play_out.specs.declared.playouts.Ending.{Ending}
 use Rattle.tree_words.specs.Settings.{Setting}
 use Rattle.tree_words.specs.Words.{root_at}
-use Rattle.tree_words.specs.Blocks.{LinkedBlock, In, InOrder, has_node, place, cell_at, up}
-use Rattle.tree_words.specs.Paths.{NodeState, root_state, state_after, node_state, mover_at}
-use Rattle.tree_words.specs.Writing.{listed}
-use Rattle.tree_words.specs.Sequence.{outcome_of}
+use Rattle.tree_words.specs.Blocks.{LinkedBlock, In, InOrder, has_node, place, cell_at}
+use Rattle.tree_words.specs.Paths.{NodeState, root_state, state_after, node_state}
 use Rattle.tree_words.proofs.Blocks.GameLaws.{up-in}
 use Rattle.tree_words.proofs.Boards.EmptyLaws.{up-root}
-use Rattle.arena_rule.specs.Views.{SeatView}
-use Rattle.arena_rule.specs.Adds.{CountAdd, Gathered, seen_adds, root_adds, node_adds, adds_up, walk_adds}
+use Rattle.arena_rule.specs.Adds.{CountAdd, Gathered, seen_adds, root_adds, node_adds, adds_up}
 
 pub twice : (p : Colour) → other_of (other_of p) ≡ p
 twice Black = refl

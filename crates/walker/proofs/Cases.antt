@@ -1,9 +1,8 @@
 -- What the walker is after an answer, case by case.
-use Rattle.std.proofs.Common.{◌≡◌, ◌⊎◌, ℕ, ◌+◌, ◌<◌, ◌≤◌, Bool, true, false, cond, List, [], ◌∷◌, length, refl, sym, ap, ◌∙◌, inl, inr, arith, ⊎_elim}
-use Rattle.std.specs.Prelude.{◌==◌, ◌&&◌, not, nat_lt, nat_le}
-use Rattle.std.proofs.lemmas.Bool.{cases_lt, cases_eq, eq-eqb, ne_eqb}
+use Rattle.std.proofs.Common.{◌≡◌, ℕ, ◌+◌, ◌<◌, ◌≤◌, true, false, length, arith}
+use Rattle.std.specs.Prelude.{◌==◌, nat_lt, nat_le}
+use Rattle.std.proofs.lemmas.Bool.{eq-eqb, ne_eqb}
 use Rattle.std.proofs.lemmas.Bool.Decides.{nat_tests}
-use Rattle.play_out.specs.Fills.{empties_of}
 use Rattle.tree_words.specs.Words.{root_at, end_of}
 use Rattle.tree_words.specs.Sequence.{size_below}
 use Rattle.walker.specs.declared.stages.Stage.TheVariants.{Rooting, Scanning, Claiming, Writing, Publishing, Ended}

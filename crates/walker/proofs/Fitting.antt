@@ -1,24 +1,20 @@
 -- Where a view belongs to a walker it fits the walker's next step.
-use Rattle.std.proofs.Common.{◌≡◌, ◌≢◌, ◌⊎◌, ℕ, ◌+◌, ◌-◌, ◌*◌, ◌<◌, ◌≤◌, Bool, true, false, cond, List, [], ◌∷◌, ◌++◌, length, take, drop, Option, Some, None, refl, sym, ap, ◌∙◌, subst, arith, ⊎_elim}
-use Rattle.std.specs.Prelude.{◌==◌}
+use Rattle.std.proofs.Common.{◌≡◌, ◌≢◌, ℕ, ◌+◌, ◌-◌, ◌<◌, Bool, cond, List, [], ◌∷◌, ◌++◌, length, take, Option, Some, None, refl, sym, ap, ◌∙◌, subst, arith}
 use Rattle.std.proofs.lemmas.Bool.{ne_eqb}
 use Rattle.std.proofs.lemmas.List.{length-take-le, take_all}
 use Rattle.std.proofs.lemmas.List.FromFn.{length-map-range_with_len}
 use Rattle.hex_cells.specs.Colours.{other_of, is_same}
 use Rattle.play_out.specs.Fills.{empties_of}
 use Rattle.play_out.specs.declared.playouts.Ending.{Ending}
-use Rattle.tree_words.specs.Settings.{Setting}
-use Rattle.tree_words.specs.Words.{Count, root_at, end_of}
-use Rattle.tree_words.specs.Blocks.{LinkedBlock, In, InOrder, is_node, size, block_size, child}
+use Rattle.tree_words.specs.Words.{root_at}
+use Rattle.tree_words.specs.Blocks.{LinkedBlock, InOrder, size, block_size, child}
 use Rattle.tree_words.specs.Paths.{NodeState, node_state, node_board}
 use Rattle.tree_words.specs.Complete.{set_of, allowed_cells}
-use Rattle.tree_words.specs.Told.{told_block}
 use Rattle.tree_words.specs.Sequence.{outcome_of, size_below}
-use Rattle.tree_words.specs.declared.steps.Op.{Op}
-use Rattle.arena_rule.specs.Views.{SeatView, HeldBlock, Flight}
+use Rattle.arena_rule.specs.Views.{SeatView, Flight}
 use Rattle.arena_rule.specs.Adds.{CountAdd, walk_adds}
-use Rattle.arena_rule.specs.Lookups.{is_known, told_below, empties_at, record_word}
-use Rattle.arena_rule.specs.Fits.{FitsStep, FitsDraw, FitsLook, FitsClaim, FitsWrite, FitsPublish, FitsAdd, FitsNote, MayGetBlock, IsNext, block_words}
+use Rattle.arena_rule.specs.Lookups.{told_below, empties_at, record_word}
+use Rattle.arena_rule.specs.Fits.{FitsStep, FitsLook, FitsClaim, FitsWrite, FitsPublish, FitsAdd, FitsNote, MayGetBlock, IsNext, block_words}
 use Rattle.walker.specs.declared.scans.Phase.{Phase}
 use Rattle.walker.specs.declared.scans.Phase.TheVariants.{Move, Tally, Seen}
 use Rattle.walker.specs.declared.ways.Level.{Level}
@@ -28,7 +24,7 @@ use Rattle.walker.specs.declared.machine.Walker.{Walker}
 use Rattle.walker.specs.Scans.{ScanData}
 use Rattle.walker.specs.Climbs.{add_op}
 use Rattle.walker.specs.Machine.{state_in, own_block, op_at, op_of}
-use Rattle.walker.specs.Belongs.{Belongs, Stands, OnWay, IsLevel, InHand, Down, MayClaim, Climbs, Leaves, Up, InChild, adds_above, AtDraw, AtRoot, AtLink, AtHeader, AtChild, AtClaim, AtWrite, AtPublish, AtTally, AtSeen, AtNote, AtEnd}
+use Rattle.walker.specs.Belongs.{Belongs, Stands, OnWay, MayClaim, Climbs, Leaves, InChild, adds_above, AtRoot, AtLink, AtHeader, AtChild, AtClaim, AtWrite, AtPublish, AtTally, AtNote}
 use Rattle.walker.proofs.KnownLaws.{one-order, known-lies, node-inside}
 use Rattle.walker.proofs.AddWay.{adds-root, adds-level, next-add}
 
@@ -36,7 +32,7 @@ pub block_words-long : (b : LinkedBlock) → length (block_words b) ≡ size b
 unfolding block_words
 block_words-long b = length-map-range_with_len _ 0 (size b)
 
-in-child : (p : Phase) (v : SeatView) (d : ScanData) (y : ℕ) → InChild p v d y → d.at < y + 4
+pub in-child : (p : Phase) (v : SeatView) (d : ScanData) (y : ℕ) → InChild p v d y → d.at < y + 4
 in-child Move v d y h = omega (arith, h)
 in-child Tally v d y h = omega (arith, h)
 in-child Seen v d y h = omega (arith, h.0)

@@ -1,15 +1,13 @@
 -- What a look leaves of a view.
-use Rattle.std.proofs.Common.{◌≡◌, ◌≢◌, ◌⊎◌, ℕ, zero, suc, ◌+◌, ◌-◌, ◌*◌, ◌<◌, ◌≤◌, Bool, true, false, cond, List, [], ◌∷◌, length, Option, Some, None, refl, sym, ap, ◌∙◌, subst, arith, ⊎_elim, inl, inr}
-use Rattle.std.specs.Prelude.{◌==◌, ◌||◌, if◌then◌else◌}
+use Rattle.std.proofs.Common.{◌≡◌, ◌≢◌, ℕ, suc, ◌+◌, ◌-◌, ◌*◌, ◌<◌, ◌≤◌, Bool, true, false, cond, List, [], ◌∷◌, length, Option, Some, refl, sym, ap, ◌∙◌, subst, arith, ⊎_elim}
 use Rattle.std.proofs.lemmas.Bool.{ne_eqb, eq-eqb, or_left, or_right}
 use Rattle.tree_words.specs.Settings.{Setting}
 use Rattle.tree_words.specs.Words.{Count, root_at, count_in}
-use Rattle.tree_words.specs.Blocks.{LinkedBlock, In, InOrder, has_node, is_node, child}
+use Rattle.tree_words.specs.Blocks.{LinkedBlock, In, InOrder, child}
 use Rattle.tree_words.specs.Paths.{NodeState, node_state}
 use Rattle.tree_words.specs.Writing.{listed}
 use Rattle.tree_words.specs.Sequence.{search_game}
-use Rattle.tree_words.specs.Descents.{pairs_of, pick}
-use Rattle.tree_words.specs.declared.steps.Op.{Op}
+use Rattle.tree_words.specs.Descents.{pairs_of}
 use Rattle.tree_words.specs.declared.steps.Op.TheVariants.{Look}
 use Rattle.tree_words.proofs.Blocks.GameLaws.{spot-same, in-node, in-parent}
 use Rattle.arena_rule.specs.Views.{SeatView, WordLoad}
@@ -19,8 +17,8 @@ use Rattle.arena_rule.specs.Afters.{after, looked, with_word, known_after, loads
 use Rattle.arena_rule.specs.IsView.{IsView}
 use Rattle.arena_rule.proofs.KnownMore.{Grows, known_cases, known-more, known-kept}
 use Rattle.walker.specs.declared.ways.Level.{Level}
-use Rattle.walker.specs.Belongs.{IsLevel, OnWay, IsDown}
-use Rattle.walker.proofs.KnownLaws.{one-order, known-lies, node-behind, child-node}
+use Rattle.walker.specs.Belongs.{OnWay, IsDown}
+use Rattle.walker.proofs.KnownLaws.{one-order, node-behind, child-node}
 
 -- What goes on from the view v to the view u: known blocks and nodes stay, a node's state stays,
 -- and all loads but of the word `at`.
@@ -84,8 +82,8 @@ pairs-same p q p' q' y (c ∷ cs) hp hq =
     let fst : p y ≡ p' y = ap p (sym at) ∙ (hp 0 (omega arith) ∙ ap p' at) in
     let snd : q y ≡ q' y = ap q (sym at) ∙ (hq 0 (omega arith) ∙ ap q' at) in
     λ i. (fst i, snd i) ∷ pairs-same p q p' q' (y + 4) cs
-        (λ k l. ap p (on y k) ∙ (hp (suc k) (omega arith) ∙ ap p' (sym (on y k))))
-        (λ k l. ap q (on y k) ∙ (hq (suc k) (omega arith) ∙ ap q' (sym (on y k)))) i
+    (λ k l. ap p (on y k) ∙ (hp (suc k) (omega arith) ∙ ap p' (sym (on y k))))
+    (λ k l. ap q (on y k) ∙ (hq (suc k) (omega arith) ∙ ap q' (sym (on y k)))) i
   where
     on : (y k : ℕ) → y + 4 + 4 * k ≡ y + 4 * suc k
     on y k = omega arith
@@ -104,7 +102,7 @@ module _ (v u : SeatView) (at : ℕ) (g : Goes v u at) where
   chosen-goes c y t h =
       let pairs : pairs_of (tally_loaded u) (seen_loaded u) (c.start + 4) c.cells ≡ pairs_of (tally_loaded v) (seen_loaded v) (c.start + 4) c.cells
       = pairs-same (tally_loaded u) (seen_loaded u) (tally_loaded v) (seen_loaded v) (c.start + 4) c.cells
-          (λ k l. tally-goes (child c k) (t.tally k l)) (λ k l. seen-goes (child c k) (t.seen k l)) in
+      (λ k l. tally-goes (child c k) (t.tally k l)) (λ k l. seen-goes (child c k) (t.seen k l)) in
       record {
         parent = loaded-goes (c.parent + 2) t.parent h.parent;
         tallies = λ i l. loaded-goes (child c i + 2) (t.tally i l) (h.tallies i l);
@@ -119,16 +117,18 @@ module _ (v u : SeatView) (at : ℕ) (g : Goes v u at) where
   way-goes (l ∷ way) x t h above =
       let b : LinkedBlock = h.0.block in
       let behind = node-behind b x h.0.node in
-      let up = above b h.0.known in
-      (record {
-        block = b;
-        known = g.known b h.0.known;
-        start = h.0.start;
-        parent = h.0.parent;
-        cells = h.0.cells ∙ ap (λ (s : Setting). listed s.board.size l.cells) (sym g.shape);
-        node = h.0.node;
-        chosen = chosen-goes b x (t b h.0.known (omega (arith, behind))) h.0.chosen;
-      }, way-goes way l.parent (λ c i s. t c i (omega (arith, s, behind, up, h.0.parent))) h.1 above)
+      let up = above b h.0.known in (
+        record {
+          block = b;
+          known = g.known b h.0.known;
+          start = h.0.start;
+          parent = h.0.parent;
+          cells = h.0.cells ∙ ap (λ (s : Setting). listed s.board.size l.cells) (sym g.shape);
+          node = h.0.node;
+          chosen = chosen-goes b x (t b h.0.known (omega (arith, behind))) h.0.chosen;
+        },
+        way-goes way l.parent (λ c i s. t c i (omega (arith, s, behind, up, h.0.parent))) h.1 above,
+      )
 
   -- and so does a walk that goes down
   pub down-goes : (number node visits : ℕ) (state : NodeState) (way : List Level) → IsDown number node visits state way v

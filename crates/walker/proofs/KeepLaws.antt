@@ -1,16 +1,15 @@
 -- A scan keeps the child that Choice takes of those that it has looked at.
-use Rattle.std.proofs.Common.{◌≡◌, ◌≢◌, ◌⊎◌, ℕ, zero, suc, ◌+◌, ◌<◌, ◌≤◌, Bool, true, false, cond, List, [], ◌∷◌, ◌++◌, length, get_or, Option, Some, None, refl, sym, ap, ◌∙◌, subst, arith, ⊎_elim, inl, inr, append_assoc}
+use Rattle.std.proofs.Common.{◌≡◌, ◌≢◌, ◌⊎◌, ℕ, zero, suc, ◌+◌, ◌<◌, ◌≤◌, Bool, true, false, cond, List, [], ◌∷◌, ◌++◌, length, get_or, Some, refl, sym, ap, ◌∙◌, subst, arith, ⊎_elim, inl, inr, append_assoc}
 use Rattle.std.specs.Prelude.{◌==◌, nat_lt, slice_get}
-use Rattle.std.proofs.lemmas.Bool.{cases_Bool, cases_lt, cases_eq, eq-eqb, ne_eqb}
+use Rattle.std.proofs.lemmas.Bool.{cases_Bool, cases_lt, eq-eqb, ne_eqb}
 use Rattle.std.proofs.lemmas.Bool.Decides.{nat_tests}
 use Rattle.std.proofs.lemmas.Option.{slice_get_within, get_or_from_slice_get, slice_get-get_or}
 use Rattle.std.proofs.lemmas.List.{get_or_append_left}
-use Rattle.uct_table.specs.Choice.{Child, is_unvisited, score_in, is_better, kept_of, kept_from}
+use Rattle.uct_table.specs.Choice.{Child, score_in, is_better, kept_of, kept_from}
 use Rattle.uct_table.proofs.ChoiceLaws.{is_better-visited, is_better-first_unvisited, is_better-second_unvisited}
 use Rattle.walker.specs.declared.scans.Phase.{Phase}
 use Rattle.walker.specs.Scans.{ScanData, kept}
 use Rattle.walker.specs.Belongs.{HasKept, Keeps}
-use Rattle.walker.proofs.Keeping.{kept-same}
 
 lt-yes : (a b : ℕ) → a < b → nat_lt a b ≡ true
 lt-yes a b l = grind (arith, nat_tests)

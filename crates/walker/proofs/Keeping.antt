@@ -1,8 +1,7 @@
 -- What a scan keeps of its children.
-use Rattle.std.proofs.Common.{◌≡◌, ℕ, ◌+◌, Bool, true, false, cond, refl, ap, ◌∙◌}
+use Rattle.std.proofs.Common.{◌≡◌, ℕ, Bool, true, false, cond, refl}
 use Rattle.std.specs.Prelude.{◌==◌, nat_lt}
 use Rattle.uct_table.specs.Choice.{Child, score_in}
-use Rattle.walker.specs.declared.scans.Phase.{Phase}
 use Rattle.walker.specs.Scans.{ScanData, kept}
 
 -- a part that keeping a child does not change

@@ -1,28 +1,26 @@
 -- The adds and the record keep Belongs.
-use Rattle.std.proofs.Common.{◌≡◌, ◌≢◌, ℕ, ◌+◌, ◌*◌, ◌<◌, ◌≤◌, Bool, true, List, [], ◌∷◌, ◌++◌, length, drop, Option, Some, None, refl, sym, ap, ◌∙◌, subst, arith}
+use Rattle.std.proofs.Common.{◌≡◌, ◌≢◌, ℕ, ◌+◌, List, [], ◌∷◌, ◌++◌, Option, Some, refl, ap, ◌∙◌, subst}
 use Rattle.hex_cells.specs.Colours.{other_of, is_same}
 use Rattle.hex_cells.specs.declared.colours.Colour.{Colour}
 use Rattle.hex_board.specs.Positions.{stones_of}
 use Rattle.tree_words.specs.Settings.{Setting}
 use Rattle.tree_words.specs.Words.{root_at}
-use Rattle.tree_words.specs.Blocks.{LinkedBlock, In, InOrder, place, cell_at}
+use Rattle.tree_words.specs.Blocks.{LinkedBlock, InOrder, place, cell_at}
 use Rattle.tree_words.specs.Paths.{NodeState, root_state, node_state, state_after}
 use Rattle.tree_words.specs.Writing.{listed}
-use Rattle.tree_words.specs.declared.steps.Op.{Op}
 use Rattle.tree_words.specs.declared.steps.Op.TheVariants.{Add, Note}
 use Rattle.tree_words.proofs.Blocks.GameLaws.{up-in}
 use Rattle.arena_rule.specs.Views.{SeatView, Flight}
-use Rattle.arena_rule.specs.Adds.{CountAdd, seen_adds, adds_up, walk_adds}
+use Rattle.arena_rule.specs.Adds.{CountAdd, seen_adds, adds_up}
 use Rattle.arena_rule.specs.Lookups.{record_word}
 use Rattle.arena_rule.specs.Afters.{after, added_at, noted, with_word, flight_after}
 use Rattle.arena_rule.specs.IsView.{IsView}
 use Rattle.walker.specs.declared.ways.Level.{Level}
-use Rattle.walker.specs.declared.stages.Stage.{Stage}
-use Rattle.walker.specs.declared.stages.Stage.TheVariants.{Drawing, Tallying, Seeing, Noting}
+use Rattle.walker.specs.declared.stages.Stage.TheVariants.{Drawing, Noting}
 use Rattle.walker.specs.declared.machine.Walker.{Walker}
 use Rattle.walker.specs.Climbs.{add_op, adds_after}
 use Rattle.walker.specs.Machine.{on_way_up, risen, seen_on}
-use Rattle.walker.specs.Belongs.{Belongs, OnWay, Up, Climbs, Leaves, adds_above, AtTally, AtSeen, AtNote}
+use Rattle.walker.specs.Belongs.{Belongs, OnWay, Climbs, Leaves, adds_above, AtTally, AtSeen, AtNote}
 use Rattle.walker.proofs.KnownLaws.{one-order, known-lies}
 use Rattle.walker.proofs.Going.{Goes, way-goes}
 use Rattle.walker.proofs.KeepsBlock.{steps-go, no-touch}
@@ -38,7 +36,6 @@ module _ (w : Walker) (v : SeatView) (b : Belongs w v) (x : ℕ) where
   way-stays u g way y o = way-goes v u 0 g way y (λ c i l. no-touch c) o (λ c i. (known-lies v.shape v.known c order b.view.known i).above)
 
   module _ (a : AtTally w v) where
-
     -- at the root the record is next
     tally-root : w.node ≡ root_at v.shape → IsView (after v (Add w.at (is_same w.ending.winner (other_of w.player))) x)
         → Belongs (record w { stage = Noting }) (after v (Add w.at (is_same w.ending.winner (other_of w.player))) x)

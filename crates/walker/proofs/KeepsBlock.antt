@@ -1,35 +1,31 @@
 -- The claim, the writes and the link of a new block keep Belongs.
-use Rattle.std.proofs.Common.{◌≡◌, ◌≢◌, ◌⊎◌, ℕ, zero, suc, ◌+◌, ◌-◌, ◌*◌, ◌<◌, ◌≤◌, Bool, true, false, cond, List, [], ◌∷◌, ◌++◌, length, map, take, get_or, Option, Some, None, refl, sym, ap, ◌∙◌, subst, arith, ⊎_elim, inl, inr}
+use Rattle.std.proofs.Common.{◌≡◌, ◌≢◌, ℕ, ◌+◌, ◌-◌, ◌<◌, ◌≤◌, Bool, true, cond, List, [], ◌∷◌, ◌++◌, length, take, get_or, Some, refl, sym, ap, ◌∙◌, subst, arith, ⊎_elim, inl, inr}
 use Rattle.std.specs.Prelude.{◌==◌, option_map}
-use Rattle.std.specs.List.{range_with_len}
 use Rattle.std.proofs.lemmas.Bool.{cases_lt, cases_eq, eq-eqb, ne_eqb}
 use Rattle.std.proofs.lemmas.List.{take_more}
 use Rattle.std.proofs.lemmas.List.FromFn.{get_or-map-range_with_len}
-use Rattle.play_out.specs.Fills.{empties_of}
 use Rattle.tree_words.specs.Settings.{Setting}
 use Rattle.tree_words.specs.Words.{root_at, end_of}
 use Rattle.tree_words.specs.Blocks.{LinkedBlock, In, InOrder, size, has_node, is_node, link_of, is_header_or_move, header_or_move}
 use Rattle.tree_words.specs.Paths.{NodeState, node_state}
-use Rattle.tree_words.specs.Complete.{cells_below}
 use Rattle.tree_words.specs.Sequence.{size_below}
-use Rattle.tree_words.specs.declared.steps.Op.{Op}
 use Rattle.tree_words.specs.declared.steps.Op.TheVariants.{Claim, Write, Publish}
 use Rattle.tree_words.proofs.Blocks.BlockLaws.{has-at}
 use Rattle.tree_words.proofs.Blocks.Members.{node-in}
-use Rattle.arena_rule.specs.Views.{SeatView, HeldBlock, WordLoad}
-use Rattle.arena_rule.specs.Lookups.{is_known, known_link, told_below, load_of}
+use Rattle.arena_rule.specs.Views.{SeatView, WordLoad}
+use Rattle.arena_rule.specs.Lookups.{is_known, told_below, load_of}
 use Rattle.arena_rule.specs.Fits.{block_words}
-use Rattle.arena_rule.specs.Answers.{MayAnswer, AnswersLink}
+use Rattle.arena_rule.specs.Answers.{MayAnswer}
 use Rattle.arena_rule.specs.Afters.{after, claimed_at, wrote, published, with_word, written_more, known_after, node_of_link}
 use Rattle.arena_rule.specs.IsView.{IsView}
 use Rattle.arena_rule.proofs.Changes.{claimed_cases}
 use Rattle.arena_rule.proofs.KnownMore.{known-kept, known-more}
 use Rattle.walker.specs.declared.ways.Level.{Level}
 use Rattle.walker.specs.declared.stages.Stage.{Stage}
-use Rattle.walker.specs.declared.stages.Stage.TheVariants.{Heading, Claiming, Writing, Publishing, Tallying}
+use Rattle.walker.specs.declared.stages.Stage.TheVariants.{Writing}
 use Rattle.walker.specs.declared.machine.Walker.{Walker}
-use Rattle.walker.specs.Machine.{state_in, cells_in, own_block, word_of_block, at_block, at_leaf, claimed, written, linked_now}
-use Rattle.walker.specs.Belongs.{Belongs, Stands, Down, IsDown, OnWay, MayClaim, Holds, AtClaim, AtWrite, AtPublish, AtHeader, AtTally}
+use Rattle.walker.specs.Machine.{state_in, own_block, word_of_block, at_leaf, claimed, written, linked_now}
+use Rattle.walker.specs.Belongs.{Belongs, Stands, Down, IsDown, MayClaim, Holds, AtClaim, AtWrite, AtPublish}
 use Rattle.walker.proofs.KnownLaws.{one-order, known-lies, known-cells}
 use Rattle.walker.proofs.Going.{Goes, Untouched, state-known, down-goes}
 use Rattle.walker.proofs.LeafLaws.{cells-is, leaf-stands, leaf-belongs}

@@ -1,7 +1,6 @@
 -- Each look at a child keeps Belongs.
-use Rattle.std.proofs.Common.{◌≡◌, ◌≢◌, ◌⊎◌, ℕ, ◌+◌, ◌*◌, ◌<◌, ◌≤◌, true, refl, sym, ap, ◌∙◌, subst, arith, ⊎_elim}
+use Rattle.std.proofs.Common.{◌≡◌, ℕ, ◌+◌, ◌<◌, ◌≤◌, true, refl, sym, ap, ◌∙◌, subst, arith, ⊎_elim}
 use Rattle.std.proofs.lemmas.Bool.{cases_lt}
-use Rattle.tree_words.specs.Words.{root_at, count_in}
 use Rattle.tree_words.specs.Blocks.{child}
 use Rattle.tree_words.specs.declared.steps.Op.TheVariants.{Look}
 use Rattle.arena_rule.specs.Views.{SeatView}
@@ -10,7 +9,7 @@ use Rattle.arena_rule.specs.Answers.{MayAnswer}
 use Rattle.arena_rule.specs.Afters.{after, looked, with_word}
 use Rattle.arena_rule.specs.IsView.{IsView}
 use Rattle.walker.specs.declared.stages.Stage.{Stage}
-use Rattle.walker.specs.declared.stages.Stage.TheVariants.{Linking, Scanning}
+use Rattle.walker.specs.declared.stages.Stage.TheVariants.{Scanning}
 use Rattle.walker.specs.declared.scans.Phase.{Phase}
 use Rattle.walker.specs.declared.scans.Phase.TheVariants.{Move, Tally, Seen}
 use Rattle.walker.specs.declared.machine.Walker.{Walker}

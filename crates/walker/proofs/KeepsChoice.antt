@@ -1,63 +1,40 @@
 -- The look at a child's seen word, and the choice after the last.
-use Rattle.std.proofs.Common.{◌≡◌, ◌≢◌, ◌⊎◌, ℕ, zero, suc, ◌+◌, ◌-◌, ◌*◌, ◌%◌, ◌<◌, ◌≤◌, Bool, true, false, cond, List, [], ◌∷◌, ◌++◌, length, map, get_or, Option, Some, None, refl, sym, ap, ◌∙◌, subst, arith, ⊎_elim, inl, inr}
-use Rattle.std.specs.Prelude.{◌==◌, ◌&&◌, not, slice_get}
-use Rattle.std.proofs.lemmas.Bool.{cases_lt, cases_eq, eq-eqb}
-use Rattle.std.proofs.Math.Nat.{mul-le-mul}
-use Rattle.hex_cells.specs.Sets.{has as has_cell, members}
-use Rattle.hex_cells.specs.Colours.{other_of}
-use Rattle.hex_cells.specs.declared.colours.Colour.{Colour}
-use Rattle.hex_cells.proofs.Counts.{members_less}
-use Rattle.hex_board.specs.Positions.{Position, is_empty_at, placed}
-use Rattle.hex_board.proofs.Placed.{placed_size, placed_empty, placed_leaves, empty_on}
-use Rattle.uct_table.specs.Choice.{Child, choice_of, kept_of}
-use Rattle.uct_table.proofs.Keeping.{kept_of_is}
-use Rattle.play_out.specs.Fills.{empties_of}
+use Rattle.std.proofs.Common.{◌≡◌, ◌≢◌, ◌⊎◌, ℕ, ◌+◌, ◌*◌, ◌<◌, ◌≤◌, true, List, [], ◌∷◌, ◌++◌, length, get_or, Option, Some, None, refl, sym, ap, ◌∙◌, subst, arith, ⊎_elim, inl, inr}
+use Rattle.std.proofs.lemmas.Bool.{cases_lt}
+use Rattle.hex_board.specs.Positions.{is_empty_at}
+use Rattle.uct_table.specs.Choice.{Child, kept_of}
 use Rattle.tree_words.specs.Settings.{Setting}
-use Rattle.tree_words.specs.Words.{Count, root_at, count_in}
-use Rattle.tree_words.specs.Blocks.{LinkedBlock, In, InOrder, size, child, has_node, place, cell_at}
-use Rattle.tree_words.specs.Paths.{NodeState, root_state, node_state, state_after}
-use Rattle.tree_words.specs.Complete.{set_of}
+use Rattle.tree_words.specs.Words.{root_at, count_in}
+use Rattle.tree_words.specs.Blocks.{LinkedBlock, InOrder, child, place, cell_at}
+use Rattle.tree_words.specs.Paths.{root_state, node_state, state_after}
 use Rattle.tree_words.specs.Writing.{listed}
-use Rattle.tree_words.specs.Walks.{AtMost}
-use Rattle.tree_words.specs.Sequence.{search_game, child_of, chosen_of}
-use Rattle.tree_words.specs.Descents.{pairs_of, pick}
-use Rattle.tree_words.specs.declared.steps.Op.{Op}
+use Rattle.tree_words.specs.Sequence.{search_game, child_of}
+use Rattle.tree_words.specs.Descents.{pick}
 use Rattle.tree_words.specs.declared.steps.Op.TheVariants.{Look}
-use Rattle.tree_words.proofs.Blocks.BlockLaws.{move-stays}
-use Rattle.tree_words.proofs.Blocks.NodeLaws.{nodes-apart, stays-clear}
-use Rattle.tree_words.proofs.Blocks.GameLaws.{in-node, in-parent, up-in}
-use Rattle.tree_words.proofs.Boards.EmptyLaws.{count_empties}
-use Rattle.tree_words.proofs.Boards.SetNumbers.{set_empties}
+use Rattle.tree_words.proofs.Blocks.GameLaws.{in-node, up-in}
 use Rattle.tree_words.proofs.Walks.Adds.{is_child}
-use Rattle.tree_words.proofs.Walks.Countings.{has-one}
 use Rattle.arena_rule.specs.Views.{SeatView}
-use Rattle.arena_rule.specs.Lookups.{is_known, IsLoaded, load_of, or_zero, tally_loaded, seen_loaded}
+use Rattle.arena_rule.specs.Lookups.{IsLoaded, or_zero, tally_loaded, seen_loaded}
 use Rattle.arena_rule.specs.Fits.{IsChosen}
-use Rattle.arena_rule.specs.Answers.{MayAnswer, AnswersLook, AnswersTally, AnswersSeen}
+use Rattle.arena_rule.specs.Answers.{MayAnswer}
 use Rattle.arena_rule.specs.Afters.{after, looked, with_word}
 use Rattle.arena_rule.specs.IsView.{IsView}
-use Rattle.walker.specs.declared.ways.Level.{Level}
-use Rattle.walker.specs.declared.stages.Stage.{Stage}
-use Rattle.walker.specs.declared.stages.Stage.TheVariants.{Linking, Scanning}
 use Rattle.walker.specs.declared.scans.Phase.{Phase}
-use Rattle.walker.specs.declared.scans.Phase.TheVariants.{Move, Tally, Seen}
+use Rattle.walker.specs.declared.scans.Phase.TheVariants.{Move, Seen}
 use Rattle.walker.specs.declared.machine.Walker.{Walker}
-use Rattle.walker.specs.Scans.{ScanData, child_in, kept, scan_on, scan_next}
-use Rattle.walker.specs.Machine.{state_in, set_in, cells_in, chosen, scanned}
-use Rattle.walker.specs.Belongs.{Belongs, Stands, Down, IsDown, IsBelow, IsScan, InChild, HasKept, Keeps, IsLevel, OnWay, children_loaded, AtChild, AtLink}
-use Rattle.walker.proofs.KnownLaws.{one-order, LiesIn, known-lies, node-behind, child-node}
-use Rattle.walker.proofs.Going.{Goes, Untouched, look-goes, look-tally, look-seen, down-goes, loaded-goes, tally-goes, seen-goes, no-count}
+use Rattle.walker.specs.Scans.{ScanData, child_in, scan_on}
+use Rattle.walker.specs.Machine.{state_in, set_in, cells_in, chosen}
+use Rattle.walker.specs.Belongs.{Belongs, Down, IsDown, IsBelow, InChild, HasKept, Keeps, IsLevel, children_loaded, AtChild, AtLink}
+use Rattle.walker.proofs.KnownLaws.{one-order, child-node}
+use Rattle.walker.proofs.Going.{look-seen, loaded-goes, tally-goes, seen-goes}
 use Rattle.walker.proofs.Keeping.{kept-same}
 use Rattle.walker.proofs.KeepLaws.{keeps-more, kept-few, kept-all}
-use Rattle.walker.proofs.ChildLaws.{children-long, children-push, children-all, children-same, children-at}
-use Rattle.walker.proofs.KeepsDown.{look-down}
-use Rattle.walker.proofs.Cases.{scanned-next, scanned-last}
-
+use Rattle.walker.proofs.ChildLaws.{children-long, children-push, children-same, children-at}
 use Rattle.tree_words.specs.Complete.{cells_below}
 use Rattle.tree_words.proofs.Boards.EmptyLaws.{below-empty}
 use Rattle.arena_rule.proofs.Options.{some-eq}
 use Rattle.walker.proofs.LeafLaws.{cells-is, size-is}
-use Rattle.walker.proofs.KeepsScan.{order, lies, above, here, kid, count-down, count-else, goes, below-after, keeps-has, pick-is, fewer-empties}
+use Rattle.walker.proofs.KeepsScan.{here, kid, count-down, goes, keeps-has, pick-is, fewer-empties}
 
 -- What stands after the look at the seen word of the child in hand: d is the scan then, and the
 -- children before its place were looked at.
@@ -118,8 +95,8 @@ module _ (w : Walker) (v : SeatView) (b : Belongs w v) (x : ℕ) (a : AtChild w 
       let few : w.scan.place ≤ length a.block.cells = (let h = here w v b x a in omega (arith, h)) in
       let same : children_loaded u a.block w.scan.place ≡ children_loaded v a.block w.scan.place
       = children-same v u a.block w.scan.place few
-          (λ k l. tally-goes v u w.scan.at (goes w v b x a iu) (child a.block k) (tally-kept k (omega arith)))
-          (λ k l. seen-goes v u w.scan.at (goes w v b x a iu) (child a.block k) (λ e. let s = stands.0 in omega (arith, s, e, l))) in
+      (λ k l. tally-goes v u w.scan.at (goes w v b x a iu) (child a.block k) (tally-kept k (omega arith)))
+      (λ k l. seen-goes v u w.scan.at (goes w v b x a iu) (child a.block k) (λ e. let s = stands.0 in omega (arith, s, e, l))) in
       let more : children_loaded u a.block (w.scan.place + 1) ≡ children_loaded v a.block w.scan.place ++ child_in w.scan x ∷ []
       = children-push u a.block w.scan.place (here w v b x a) ∙ (λ i. same i ++ child-is i ∷ []) in
       subst (Keeps then) (sym more)

@@ -1,32 +1,30 @@
 -- The looks at a link and at a header keep Belongs.
-use Rattle.std.proofs.Common.{◌≡◌, ◌≢◌, ◌⊎◌, ℕ, zero, suc, ◌+◌, ◌-◌, ◌*◌, ◌%◌, ◌<◌, ◌≤◌, Bool, true, false, cond, List, [], ◌∷◌, length, Option, Some, None, refl, sym, ap, ◌∙◌, subst, arith, ⊎_elim, inl, inr}
+use Rattle.std.proofs.Common.{◌≡◌, ◌≢◌, ◌⊎◌, ℕ, zero, suc, ◌+◌, ◌-◌, ◌%◌, ◌<◌, ◌≤◌, Bool, true, false, cond, List, ◌∷◌, length, refl, sym, ap, ◌∙◌, subst, arith, ⊎_elim, inl, inr}
 use Rattle.std.specs.Prelude.{◌==◌, ◌&&◌, not, ◌||◌, nat_lt, nat_le}
-use Rattle.std.proofs.lemmas.Bool.{eq-eqb, ne_eqb, eqb-true, cases_Bool, cases_lt, cases_eq, and_parts}
+use Rattle.std.proofs.lemmas.Bool.{eq-eqb, ne_eqb, cases_Bool, cases_lt, cases_eq, and_parts}
 use Rattle.std.proofs.lemmas.Bool.Decides.{nat_tests}
 use Rattle.play_out.specs.Fills.{empties_of}
-use Rattle.tree_words.specs.Settings.{Setting, IsSetting}
-use Rattle.tree_words.specs.Words.{root_at, area_at}
-use Rattle.tree_words.specs.Blocks.{LinkedBlock, In, InOrder, size, child, link_of, is_header_or_move}
-use Rattle.tree_words.specs.Paths.{NodeState, node_state, node_board}
+use Rattle.tree_words.specs.Settings.{Setting}
+use Rattle.tree_words.specs.Words.{root_at}
+use Rattle.tree_words.specs.Blocks.{LinkedBlock, In, InOrder, link_of, is_header_or_move}
+use Rattle.tree_words.specs.Paths.{NodeState, node_board}
 use Rattle.tree_words.specs.Complete.{allowed_cells, cells_below}
-use Rattle.tree_words.specs.declared.steps.Op.{Op}
 use Rattle.tree_words.specs.declared.steps.Op.TheVariants.{Look}
 use Rattle.tree_words.proofs.Blocks.NodeLaws.{nodes-apart, stays-clear}
 use Rattle.tree_words.proofs.NewBlocks.OpeningLaws.{some-allowed}
 use Rattle.arena_rule.specs.Views.{SeatView}
-use Rattle.arena_rule.specs.Lookups.{is_known, known_link, told_below, empties_at, tally_loaded}
-use Rattle.arena_rule.specs.Answers.{MayAnswer, AnswersLook, AnswersLink}
+use Rattle.arena_rule.specs.Lookups.{is_known, known_link, told_below, empties_at}
+use Rattle.arena_rule.specs.Answers.{MayAnswer, AnswersLink}
 use Rattle.arena_rule.specs.Afters.{after, looked, with_word, known_after, node_of_link}
-use Rattle.arena_rule.specs.IsView.{IsView, AreTold}
+use Rattle.arena_rule.specs.IsView.{IsView}
 use Rattle.walker.specs.declared.stages.Stage.{Stage}
-use Rattle.walker.specs.declared.stages.Stage.TheVariants.{Linking, Heading, Scanning, Claiming, Tallying}
-use Rattle.walker.specs.declared.scans.Phase.TheVariants.{Move}
+use Rattle.walker.specs.declared.stages.Stage.TheVariants.{Heading, Scanning, Claiming}
 use Rattle.walker.specs.declared.machine.Walker.{Walker}
 use Rattle.walker.specs.Scans.{scan_of}
 use Rattle.walker.specs.Machine.{state_in, cells_in, asks_block, at_block, at_leaf, linked, headed}
-use Rattle.walker.specs.Belongs.{Belongs, Stands, Down, IsDown, IsBelow, MayClaim, IsScan, AtLink, AtHeader, AtChild, AtClaim, AtTally}
+use Rattle.walker.specs.Belongs.{Belongs, Stands, Down, MayClaim, AtLink, AtHeader, AtChild, AtTally}
 use Rattle.walker.proofs.KnownLaws.{one-order, known-lies, known-cells, link-block}
-use Rattle.walker.proofs.Going.{Goes, Untouched, look-goes, down-goes, no-count}
+use Rattle.walker.proofs.Going.{look-goes, down-goes, no-count}
 use Rattle.walker.proofs.LeafLaws.{cells-is, leaf-stands, leaf-belongs}
 use Rattle.walker.proofs.Cases.{linked-block, linked-claim, linked-leaf, headed-next, headed-leaf, headed-scan}
 

@@ -1,10 +1,9 @@
 -- The looks at a child keep Belongs.
-use Rattle.std.proofs.Common.{◌≡◌, ◌≢◌, ◌⊎◌, ℕ, zero, suc, ◌+◌, ◌-◌, ◌*◌, ◌%◌, ◌<◌, ◌≤◌, Bool, true, false, cond, List, [], ◌∷◌, ◌++◌, length, map, get_or, Option, Some, None, refl, sym, ap, ◌∙◌, subst, arith, ⊎_elim, inl, inr}
-use Rattle.std.specs.Prelude.{◌==◌, ◌&&◌, not, slice_get}
-use Rattle.std.proofs.lemmas.Bool.{cases_lt, cases_eq, eq-eqb}
+use Rattle.std.proofs.Common.{◌≡◌, ◌≢◌, ℕ, ◌+◌, ◌*◌, ◌<◌, ◌≤◌, Bool, true, false, List, [], ◌∷◌, length, map, refl, sym, ap, ◌∙◌, subst, arith}
+use Rattle.std.specs.Prelude.{◌==◌, ◌&&◌, not}
+use Rattle.std.proofs.lemmas.Bool.{eq-eqb}
 use Rattle.std.proofs.Math.Nat.{mul-le-mul}
-use Rattle.hex_cells.specs.Sets.{has as has_cell, members}
-use Rattle.hex_cells.specs.Colours.{other_of}
+use Rattle.hex_cells.specs.Sets.{members}
 use Rattle.hex_cells.specs.declared.colours.Colour.{Colour}
 use Rattle.hex_cells.proofs.Counts.{members_less}
 use Rattle.hex_board.specs.Positions.{Position, is_empty_at, placed}
@@ -13,45 +12,30 @@ use Rattle.uct_table.specs.Choice.{Child, choice_of, kept_of}
 use Rattle.uct_table.proofs.Keeping.{kept_of_is}
 use Rattle.play_out.specs.Fills.{empties_of}
 use Rattle.tree_words.specs.Settings.{Setting}
-use Rattle.tree_words.specs.Words.{Count, root_at, count_in}
-use Rattle.tree_words.specs.Blocks.{LinkedBlock, In, InOrder, size, child, has_node, place, cell_at}
-use Rattle.tree_words.specs.Paths.{NodeState, root_state, node_state, state_after}
+use Rattle.tree_words.specs.Words.{root_at}
+use Rattle.tree_words.specs.Blocks.{LinkedBlock, In, InOrder, child, has_node}
 use Rattle.tree_words.specs.Complete.{set_of}
-use Rattle.tree_words.specs.Writing.{listed}
-use Rattle.tree_words.specs.Walks.{AtMost}
 use Rattle.tree_words.specs.Sequence.{search_game, child_of, chosen_of}
 use Rattle.tree_words.specs.Descents.{pairs_of, pick}
-use Rattle.tree_words.specs.declared.steps.Op.{Op}
 use Rattle.tree_words.specs.declared.steps.Op.TheVariants.{Look}
 use Rattle.tree_words.proofs.Blocks.BlockLaws.{move-stays}
 use Rattle.tree_words.proofs.Blocks.NodeLaws.{nodes-apart, stays-clear}
-use Rattle.tree_words.proofs.Blocks.GameLaws.{in-node, in-parent, up-in}
+use Rattle.tree_words.proofs.Blocks.GameLaws.{in-node, in-parent}
 use Rattle.tree_words.proofs.Boards.EmptyLaws.{count_empties}
 use Rattle.tree_words.proofs.Boards.SetNumbers.{set_empties}
-use Rattle.tree_words.proofs.Walks.Adds.{is_child}
 use Rattle.tree_words.proofs.Walks.Countings.{has-one}
 use Rattle.arena_rule.specs.Views.{SeatView}
-use Rattle.arena_rule.specs.Lookups.{is_known, IsLoaded, load_of, or_zero, tally_loaded, seen_loaded}
-use Rattle.arena_rule.specs.Fits.{IsChosen}
-use Rattle.arena_rule.specs.Answers.{MayAnswer, AnswersLook, AnswersTally, AnswersSeen}
+use Rattle.arena_rule.specs.Lookups.{is_known, tally_loaded, seen_loaded}
 use Rattle.arena_rule.specs.Afters.{after, looked, with_word}
 use Rattle.arena_rule.specs.IsView.{IsView}
-use Rattle.walker.specs.declared.ways.Level.{Level}
-use Rattle.walker.specs.declared.stages.Stage.{Stage}
-use Rattle.walker.specs.declared.stages.Stage.TheVariants.{Linking, Scanning}
 use Rattle.walker.specs.declared.scans.Phase.{Phase}
-use Rattle.walker.specs.declared.scans.Phase.TheVariants.{Move, Tally, Seen}
 use Rattle.walker.specs.declared.machine.Walker.{Walker}
-use Rattle.walker.specs.Scans.{ScanData, child_in, kept, scan_on, scan_next}
-use Rattle.walker.specs.Machine.{state_in, set_in, cells_in, chosen, scanned}
-use Rattle.walker.specs.Belongs.{Belongs, Stands, Down, IsDown, IsBelow, IsScan, InChild, HasKept, Keeps, IsLevel, OnWay, children_loaded, AtChild, AtLink}
-use Rattle.walker.proofs.KnownLaws.{one-order, LiesIn, known-lies, node-behind, child-node}
-use Rattle.walker.proofs.Going.{Goes, Untouched, look-goes, look-tally, look-seen, down-goes, loaded-goes, tally-goes, seen-goes, no-count}
-use Rattle.walker.proofs.Keeping.{kept-same}
-use Rattle.walker.proofs.KeepLaws.{keeps-more, kept-few, kept-all}
-use Rattle.walker.proofs.ChildLaws.{children-long, children-push, children-all, children-same, children-at}
-use Rattle.walker.proofs.KeepsDown.{look-down}
-use Rattle.walker.proofs.Cases.{scanned-next, scanned-last}
+use Rattle.walker.specs.Scans.{ScanData}
+use Rattle.walker.specs.Machine.{state_in}
+use Rattle.walker.specs.Belongs.{Belongs, Down, IsBelow, IsScan, InChild, HasKept, Keeps, children_loaded, AtChild}
+use Rattle.walker.proofs.KnownLaws.{one-order, LiesIn, known-lies, child-node}
+use Rattle.walker.proofs.Going.{Goes, Untouched, look-goes, down-goes, loaded-goes, tally-goes, seen-goes}
+use Rattle.walker.proofs.ChildLaws.{children-all, children-same}
 
 -- a stone takes one of the empty cells
 pub fewer-empties : (p : Position) (player : Colour) (c : ℕ) → p.size ≤ 11 → is_empty_at p c ≡ true → length (empties_of (placed p player c)) < length (empties_of p)
@@ -169,8 +153,8 @@ module _ (w : Walker) (v : SeatView) (b : Belongs w v) (x : ℕ) (a : AtChild w 
         let u : SeatView = after v (Look w.scan.at) x in
         let same : children_loaded u a.block w.scan.place ≡ children_loaded v a.block w.scan.place
         = children-same v u a.block w.scan.place (let h = here in omega (arith, h))
-            (λ k l. tally-goes v u w.scan.at goes (child a.block k) (ne k 2 l (omega arith) (omega arith)))
-            (λ k l. seen-goes v u w.scan.at goes (child a.block k) (ne k 3 l (omega arith) (omega arith))) in
+        (λ k l. tally-goes v u w.scan.at goes (child a.block k) (ne k 2 l (omega arith) (omega arith)))
+        (λ k l. seen-goes v u w.scan.at goes (child a.block k) (ne k 3 l (omega arith) (omega arith))) in
         record {
           parent = a.scan.parent;
           weight = a.scan.weight;

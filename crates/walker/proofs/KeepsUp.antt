@@ -1,41 +1,28 @@
 -- The draw, the root's tally, the adds and the record keep Belongs.
-use Rattle.std.proofs.Common.{◌≡◌, ◌≢◌, ◌⊎◌, ℕ, zero, suc, ◌+◌, ◌-◌, ◌*◌, ◌<◌, ◌≤◌, Bool, true, false, cond, List, [], ◌∷◌, ◌++◌, length, drop, Option, Some, None, refl, sym, ap, ◌∙◌, subst, arith, ⊎_elim, inl, inr}
-use Rattle.std.specs.List.{filter, range_with_len}
-use Rattle.std.proofs.lemmas.Bool.{cases_lt}
-use Rattle.hex_cells.specs.Colours.{other_of, is_same}
-use Rattle.hex_cells.specs.declared.colours.Colour.{Colour}
-use Rattle.hex_board.specs.Positions.{Position, stones_of, is_empty_at}
+use Rattle.std.proofs.Common.{◌≡◌, ℕ, zero, suc, ◌+◌, ◌<◌, ◌≤◌, true, List, [], ◌∷◌, ◌++◌, length, drop, Option, Some, None, refl, sym, ap, ◌∙◌, subst, arith, ⊎_elim}
+use Rattle.hex_board.specs.Positions.{Position, is_empty_at}
 use Rattle.play_out.specs.Fills.{empties_of}
-use Rattle.play_out.specs.declared.playouts.Ending.{Ending}
 use Rattle.tree_words.specs.Settings.{Setting}
 use Rattle.tree_words.specs.Words.{root_at, visits_in}
-use Rattle.tree_words.specs.Blocks.{LinkedBlock, In, InOrder, place, cell_at}
-use Rattle.tree_words.specs.Paths.{NodeState, root_state, node_state, state_after}
-use Rattle.tree_words.specs.Writing.{listed}
-use Rattle.tree_words.specs.declared.steps.Op.{Op}
-use Rattle.tree_words.specs.declared.steps.Op.TheVariants.{Draw, Look, Add, Note, Done}
+use Rattle.tree_words.specs.Blocks.{InOrder, place, cell_at}
+use Rattle.tree_words.specs.Paths.{root_state, state_after}
+use Rattle.tree_words.specs.declared.steps.Op.TheVariants.{Draw, Look}
 use Rattle.tree_words.proofs.Blocks.BlockLaws.{root_node}
-use Rattle.tree_words.proofs.Blocks.GameLaws.{up-in}
 use Rattle.tree_words.proofs.Boards.EmptyLaws.{up-root}
 use Rattle.tree_words.proofs.Boards.RootLaws.{few_cells}
 use Rattle.arena_rule.specs.Views.{SeatView, Flight}
-use Rattle.arena_rule.specs.Adds.{CountAdd, seen_adds, adds_up, walk_adds}
-use Rattle.arena_rule.specs.Lookups.{is_known, load_of, or_zero, tally_loaded, record_word}
+use Rattle.arena_rule.specs.Adds.{CountAdd, walk_adds}
+use Rattle.arena_rule.specs.Lookups.{is_known, load_of, or_zero}
 use Rattle.arena_rule.specs.Answers.{MayAnswer}
-use Rattle.arena_rule.specs.Afters.{after, drew, looked, added_at, noted, with_word, flight_after}
+use Rattle.arena_rule.specs.Afters.{after, drew, looked, with_word, flight_after}
 use Rattle.arena_rule.specs.IsView.{IsView}
 use Rattle.arena_rule.proofs.Changes.{drew_cases}
-use Rattle.walker.specs.declared.ways.Level.{Level}
-use Rattle.walker.specs.declared.stages.Stage.{Stage}
-use Rattle.walker.specs.declared.stages.Stage.TheVariants.{Drawing, Rooting, Linking, Tallying, Seeing, Noting, Ended}
+use Rattle.walker.specs.declared.stages.Stage.TheVariants.{Rooting, Tallying, Seeing, Ended}
 use Rattle.walker.specs.declared.machine.Walker.{Walker}
-use Rattle.walker.specs.Climbs.{add_op, adds_after}
-use Rattle.walker.specs.Machine.{drawn, rooted, on_way_up, risen, seen_on}
-use Rattle.walker.specs.Belongs.{Belongs, Stands, OnWay, IsLevel, InHand, IsDown, Up, Climbs, Leaves, adds_above, AtDraw, AtRoot, AtLink, AtTally, AtSeen, AtNote, AtEnd}
-use Rattle.walker.proofs.KnownLaws.{one-order, known-lies}
-use Rattle.walker.proofs.Going.{Goes, Untouched, look-tally, way-goes}
-use Rattle.walker.proofs.KeepsBlock.{steps-go, no-touch}
-use Rattle.walker.proofs.AddWay.{twice, adds-root, adds-level}
+use Rattle.walker.specs.Machine.{drawn, rooted, on_way_up}
+use Rattle.walker.specs.Belongs.{Belongs, IsDown, Climbs, Leaves, adds_above, AtDraw, AtRoot}
+use Rattle.walker.proofs.KnownLaws.{one-order}
+use Rattle.walker.proofs.Going.{look-tally}
 use Rattle.walker.proofs.Cases.{drawn-begins, drawn-ends}
 
 -- after one more drop

@@ -1,14 +1,13 @@
 -- A walk that stands at its leaf may begin its adds.
-use Rattle.std.proofs.Common.{◌≡◌, ◌≢◌, ◌⊎◌, ℕ, ◌+◌, ◌<◌, ◌≤◌, Bool, true, false, cond, List, [], ◌∷◌, length, Option, Some, None, refl, sym, ap, ◌∙◌, subst, arith, ⊎_elim, inl, inr}
+use Rattle.std.proofs.Common.{◌≡◌, ◌≢◌, ◌⊎◌, ℕ, ◌<◌, Bool, true, false, cond, List, [], ◌∷◌, Option, None, refl, sym, ap, ◌∙◌, subst, ⊎_elim}
 use Rattle.std.specs.Prelude.{◌==◌, ◌||◌}
 use Rattle.std.specs.List.{list_any}
 use Rattle.std.proofs.lemmas.Bool.{or_cases, eqb-true, eq-eqb, ne_eqb}
-use Rattle.hex_board.specs.Positions.{Position}
 use Rattle.play_out.specs.Fills.{empties_of}
 use Rattle.play_out.specs.declared.playouts.Ending.{Ending}
 use Rattle.tree_words.specs.Settings.{Setting}
 use Rattle.tree_words.specs.Words.{root_at}
-use Rattle.tree_words.specs.Blocks.{LinkedBlock, In, InOrder, has_node, up}
+use Rattle.tree_words.specs.Blocks.{LinkedBlock, In, InOrder, has_node}
 use Rattle.tree_words.specs.Paths.{NodeState, path_of, is_on, node_state, node_board}
 use Rattle.tree_words.specs.Complete.{set_of, allowed_cells, cells_below}
 use Rattle.tree_words.specs.Writing.{listed}
@@ -20,14 +19,14 @@ use Rattle.tree_words.proofs.NewBlocks.Openings.{allowed-listed}
 use Rattle.tree_words.proofs.Walks.Asking.{spot-size}
 use Rattle.tree_words.proofs.Walks.Countings.{has-one}
 use Rattle.arena_rule.specs.Views.{SeatView, Flight}
-use Rattle.arena_rule.specs.Adds.{CountAdd, adds_up, walk_adds}
-use Rattle.arena_rule.specs.Lookups.{is_known, empties_at, tally_loaded}
+use Rattle.arena_rule.specs.Adds.{adds_up, walk_adds}
+use Rattle.arena_rule.specs.Lookups.{empties_at, tally_loaded}
 use Rattle.arena_rule.specs.Fits.{IsChosen, MayBegin}
 use Rattle.arena_rule.specs.IsView.{AreTold, IsView}
 use Rattle.walker.specs.declared.ways.Level.{Level}
 use Rattle.walker.specs.declared.machine.Walker.{Walker}
 use Rattle.walker.specs.Machine.{state_in, set_below, cells_in, at_leaf}
-use Rattle.walker.specs.Belongs.{Belongs, IsLevel, OnWay, IsDown, Down, Leaves, AtTally}
+use Rattle.walker.specs.Belongs.{Belongs, OnWay, Down, Leaves, AtTally}
 use Rattle.walker.proofs.KnownLaws.{node-not-root}
 
 -- each node of a way's path was chosen
@@ -77,7 +76,7 @@ module _ (w : Walker) (v : SeatView) (shape : v.shape ≡ w.shape) (g : InOrder 
           ∙ empties-listed (set_of (empties_of w.board)) w.board (set_empties w.board)
           ∙ ap (λ (p : NodeState). empties_of p.board) d.is
           ∙ sym (ap (λ (q : Bool). cond q (allowed_cells v.shape) (empties_of (node_board v.shape v.known w.node)))
-              (ne_eqb w.node (root_at v.shape) (node-not-root v.shape v.known e.0.block w.node g t e.0.known e.0.node)))
+          (ne_eqb w.node (root_at v.shape) (node-not-root v.shape v.known e.0.block w.node g t e.0.known e.0.node)))
 
   -- the adds of the walk are those from its leaf up
   adds-are : outcome_of w.shape w.number (state_in w) ≡ outcome_of v.shape w.number (node_state v.shape v.known w.node)

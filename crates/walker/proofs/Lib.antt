@@ -19,3 +19,5 @@ pub mod KeepsBlock
 pub mod KeepsUp
 pub mod KeepsAdds
 pub mod Keeps
+pub mod GoingOn
+pub mod Endings

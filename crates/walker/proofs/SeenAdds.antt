@@ -2,14 +2,14 @@
 use Rattle.std.proofs.Common.{◌≡◌, ℕ, zero, suc, ◌+◌, ◌*◌, ◌<◌, ◌≤◌, Bool, true, false, cond, List, [], ◌∷◌, length, map, get_or, refl, sym, ap, ◌∙◌, arith, ⊎_elim}
 use Rattle.std.specs.Prelude.{◌&&◌, ◌==◌, not, nat_lt}
 use Rattle.std.specs.List.{filter, range_with_len}
-use Rattle.std.proofs.lemmas.Bool.{cases_Bool, eqb-true, eq-eqb}
+use Rattle.std.proofs.lemmas.Bool.{cases_Bool, eqb-true}
 use Rattle.std.proofs.lemmas.Bool.Decides.{nat_tests}
 use Rattle.hex_cells.specs.Sets.{has as has_cell, without_cell}
-use Rattle.hex_cells.proofs.Bits.{has_without, has_none, has_above}
+use Rattle.hex_cells.proofs.Bits.{has_without}
 use Rattle.tree_words.proofs.Blocks.BlockLaws.{clash}
 use Rattle.tree_words.proofs.Boards.RootLaws.{filter_some}
 use Rattle.arena_rule.specs.Adds.{CountAdd, seen_adds}
-use Rattle.walker.specs.Climbs.{adds_at, adds_after, add_op}
+use Rattle.walker.specs.Climbs.{adds_at}
 use Rattle.walker.specs.Places.{ArePlaces}
 
 -- none passes

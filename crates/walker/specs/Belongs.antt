@@ -1,5 +1,5 @@
 -- Which views belong to a walker.
-use Rattle.std.specs.Prelude.{◌≡◌, ◌≢◌, ◌⊎◌, ℕ, ◌+◌, ◌-◌, ◌<◌, ◌≤◌, Bool, true, false, List, [], ◌∷◌, ◌++◌, length, map, take, drop, Option, Some, None, slice_get}
+use Rattle.std.specs.Prelude.{◌≡◌, ◌≢◌, ℕ, ◌+◌, ◌-◌, ◌<◌, ◌≤◌, true, false, List, [], ◌∷◌, ◌++◌, length, map, take, drop, Option, Some, None, slice_get}
 use Rattle.uct_table.specs.Choice.{Child, score_in, kept_of, kept_from}
 use Rattle.play_out.specs.Fills.{empties_of}
 use Rattle.tree_words.specs.Words.{root_at, count_in}
@@ -10,7 +10,7 @@ use Rattle.tree_words.specs.Sequence.{outcome_of, child_of, size_below}
 use Rattle.tree_words.specs.Descents.{pairs_of}
 use Rattle.tree_words.specs.Walks.{AtMost}
 use Rattle.tree_words.specs.declared.layout.TheConstants.{HEADER_WORDS, LINK_WORD, TALLY_WORD, SEEN_WORD, MOST_NODES}
-use Rattle.arena_rule.specs.Views.{SeatView, HeldBlock, Flight}
+use Rattle.arena_rule.specs.Views.{SeatView, Flight}
 use Rattle.arena_rule.specs.Adds.{CountAdd, adds_up, walk_adds}
 use Rattle.arena_rule.specs.Lookups.{is_known, known_link, IsLoaded, load_of, tally_loaded, seen_loaded}
 use Rattle.arena_rule.specs.Fits.{IsChosen, MayBegin, block_words}

@@ -5,7 +5,7 @@ use Rattle.hex_board.specs.Positions.{Position, stones_of, placed}
 use Rattle.play_out.specs.Fills.{empties_of}
 use Rattle.tree_words.specs.Settings.{Setting}
 use Rattle.tree_words.specs.Words.{root_at, end_of, visits_in}
-use Rattle.tree_words.specs.Blocks.{LinkedBlock, size, is_header_or_move, header_or_move}
+use Rattle.tree_words.specs.Blocks.{LinkedBlock, is_header_or_move, header_or_move}
 use Rattle.tree_words.specs.Paths.{NodeState}
 use Rattle.tree_words.specs.Complete.{set_of}
 use Rattle.tree_words.specs.Writing.{listed}
@@ -15,7 +15,7 @@ use Rattle.tree_words.specs.declared.steps.Op.{Op}
 use Rattle.tree_words.specs.declared.steps.Op.TheVariants.{Draw, Look, Claim, Write, Publish, Add, Note, Done}
 use Rattle.arena_rule.specs.Adds.{CountAdd, seen_adds}
 use Rattle.arena_rule.specs.Lookups.{record_word}
-use Rattle.walker.specs.Scans.{ScanData, scan_of, scan_next}
+use Rattle.walker.specs.Scans.{scan_of, scan_next}
 use Rattle.walker.specs.Climbs.{add_op, adds_after}
 use Rattle.walker.specs.declared.ways.Level.{Level}
 use Rattle.walker.specs.declared.stages.Stage.{Stage}

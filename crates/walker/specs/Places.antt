@@ -1,5 +1,5 @@
 -- The places of cells in a list.
-use Rattle.std.specs.Prelude.{◌≡◌, ℕ, ◌<◌, ◌&&◌, nat_lt, Bool, List, length, slice_index}
+use Rattle.std.specs.Prelude.{◌≡◌, ℕ, ◌&&◌, nat_lt, List, length, slice_index}
 use Rattle.hex_cells.specs.Sets.{has as has_cell}
 
 -- the set has the places at which the list has a cell of the other set, and no others

@@ -1,5 +1,5 @@
 -- The scan of a block's children: three looks for each.
-use Rattle.std.specs.Prelude.{◌≡◌, ℕ, ◌+◌, ◌-◌, ◌==◌, ◌<◌, ◌≤◌, ◌^◌, nat_lt, if◌then◌else◌, Bool, true, false}
+use Rattle.std.specs.Prelude.{◌≡◌, ℕ, ◌+◌, ◌-◌, ◌==◌, ◌<◌, nat_lt, if◌then◌else◌, Bool, true, false}
 use Rattle.uct_table.specs.Choice.{Child, score_in}
 use Rattle.uct_table.specs.declared.scoring.TheConstants.{MOST_COUNT}
 use Rattle.tree_words.specs.Words.{count_in}

@@ -1,4 +1,4 @@
-use Rattle.std.proofs.Common.{◌≡◌, ℕ, ◌+◌, Bool, true, false, cond, refl, sym, ap, ◌∙◌, subst, arith}
+use Rattle.std.proofs.Common.{◌≡◌, ℕ, ◌+◌, Bool, cond, sym, ap, ◌∙◌, subst, arith}
 use Rattle.std.specs.Prelude.{◌||◌, ◌==◌}
 use Rattle.hex_cells.specs.Sets.{has as has_cell}
 use Rattle.walker.proofs.PlaceLaws.{Placed, placed-none, placed-past, placed-one, placed-few}

@@ -1,5 +1,4 @@
 use Rattle.walker.proofs.SeenAdds.{adds-none}
-use Rattle.std.proofs.Common.{true, ap, ◌∙◌}
 use Rattle.walker.proofs.climbs.Climb.none.Goals as goal
 
 pub returns : goal.returns

@@ -1,5 +1,4 @@
-use Rattle.std.proofs.Common.{◌+◌, ◌*◌, sym, ap, ◌∙◌, ◌∷◌}
-use Rattle.tree_words.specs.declared.steps.Op.{Op}
+use Rattle.std.proofs.Common.{◌+◌, ◌*◌, sym, ap, ◌∙◌}
 use Rattle.tree_words.specs.declared.steps.Op.TheVariants.{Add}
 use Rattle.walker.specs.Climbs.{add_op}
 use Rattle.walker.proofs.SeenAdds.{adds-none, adds-next}

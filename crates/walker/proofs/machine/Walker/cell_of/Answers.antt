@@ -1,5 +1,4 @@
-use Rattle.std.proofs.Common.{◌≡◌, ℕ, sym, ap, ◌∙◌, get_or, arith}
-use Rattle.tree_words.specs.Writing.{listed}
+use Rattle.std.proofs.Common.{sym, ap, ◌∙◌, get_or, arith}
 use Rattle.hex_board.proofs.Placed.{empty_on}
 use Rattle.tree_words.proofs.Boards.EmptyLaws.{count_empties, empties-listed}
 use Rattle.walker.proofs.CellLaws.{nth-cell}

@@ -1,13 +1,12 @@
-use Rattle.std.proofs.Common.{◌≡◌, ℕ, List, [], ◌∷◌, refl, sym, ap, ◌∙◌, subst, arith}
-use Rattle.hex_board.specs.Positions.{Position, Within}
-use Rattle.hex_board.proofs.Placed.{empty_on}
+use Rattle.std.proofs.Common.{◌≡◌, List, [], ◌∷◌, refl, ◌∙◌}
+use Rattle.hex_board.specs.Positions.{Position}
 use Rattle.play_out.specs.Fills.{empties_of}
 use Rattle.tree_words.specs.Settings.{Setting}
 use Rattle.tree_words.proofs.Blocks.BlockLaws.{clash}
 use Rattle.tree_words.specs.Complete.{set_of}
 use Rattle.walker.specs.declared.ways.Level.{Level}
 use Rattle.walker.specs.Machine.{set_below}
-use Rattle.walker.proofs.CellLaws.{empties-number, empties-within}
+use Rattle.walker.proofs.CellLaws.{empties-number}
 use Rattle.walker.proofs.machine.Walker.cells.Goals as goal
 
 -- below the root's block the empty cells

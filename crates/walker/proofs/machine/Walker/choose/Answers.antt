@@ -1,9 +1,7 @@
-use Rattle.std.proofs.Common.{◌≡◌, ℕ, ◌+◌, ◌*◌, ◌<◌, List, ◌∷◌, true, length, get_or, sym, ap, ◌∙◌, subst, arith}
+use Rattle.std.proofs.Common.{◌≡◌, ◌+◌, ◌*◌, ◌∷◌, length, get_or, sym, ap, ◌∙◌, arith}
 use Rattle.hex_cells.specs.Sets.{members}
-use Rattle.hex_cells.specs.declared.colours.Colour.{Colour}
-use Rattle.hex_board.specs.Positions.{Position, is_empty_at, placed}
+use Rattle.hex_board.specs.Positions.{is_empty_at, placed}
 use Rattle.tree_words.specs.Writing.{listed}
-use Rattle.walker.specs.declared.ways.Level.{Level}
 use Rattle.walker.specs.declared.machine.Walker.{Walker}
 use Rattle.walker.specs.Machine.{cells_in, set_in, at_node, chosen}
 use Rattle.walker.proofs.CellLaws.{count-listed, nth-cell}

@@ -1,10 +1,10 @@
-use Rattle.std.proofs.Common.{◌≡◌, ℕ, ◌<◌, ◌≤◌, length, sym, ap, ◌∙◌, arith}
+use Rattle.std.proofs.Common.{◌≡◌, length, sym, ap, ◌∙◌, arith}
 use Rattle.tree_words.specs.Writing.{listed}
 use Rattle.hex_cells.specs.Sets.{members}
 use Rattle.walker.specs.declared.stages.Stage.TheVariants.{Scanning}
 use Rattle.walker.specs.declared.machine.Walker.{Walker}
 use Rattle.walker.specs.Scans.{ScanData, scan_of}
-use Rattle.walker.specs.Machine.{cells_in, set_in}
+use Rattle.walker.specs.Machine.{cells_in}
 use Rattle.walker.proofs.CellLaws.{count-listed}
 use Rattle.walker.proofs.Cases.{headed-leaf, headed-scan}
 use Rattle.walker.proofs.machine.Walker.head.Goals as goal

@@ -1,6 +1,4 @@
-use Rattle.std.proofs.Common.{◌≡◌, ℕ, ◌-◌, ◌/◌, ◌%◌, ◌^◌, sym, ap, ◌∙◌, arith}
-use Rattle.tree_words.specs.Complete.{set_of}
-use Rattle.play_out.specs.Fills.{empties_of}
+use Rattle.std.proofs.Common.{◌/◌, ◌%◌, ◌^◌, sym, ap, ◌∙◌}
 use Rattle.walker.specs.Machine.{word_of_block, own_block}
 use Rattle.walker.proofs.CellLaws.{empties-number}
 use Rattle.walker.proofs.machine.Walker.word_to_write.Goals as goal

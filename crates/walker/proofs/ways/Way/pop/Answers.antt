@@ -1,6 +1,4 @@
-use Rattle.std.proofs.Common.{◌-◌, sym, ap, ◌∙◌, List, ◌∷◌, arith}
-use Rattle.walker.specs.declared.ways.Level.{Level}
-use Rattle.walker.specs.Ways.{levels_to}
+use Rattle.std.proofs.Common.{sym, ◌∙◌, arith}
 use Rattle.walker.proofs.Levels.{levels-at, levels-last}
 use Rattle.walker.proofs.ways.Way.pop.Goals as goal
 

@@ -1,6 +1,5 @@
-use Rattle.std.proofs.Common.{◌≡◌, ◌+◌, ◌<◌, ap, sym, ◌∙◌, ◌∷◌, length, arith}
+use Rattle.std.proofs.Common.{ap, ◌∙◌, ◌∷◌, length, arith}
 use Rattle.std.proofs.Math.ListN.{length-set}
-use Rattle.walker.specs.declared.ways.Level.{Level}
 use Rattle.walker.proofs.Levels.{levels-long, levels-set}
 use Rattle.walker.proofs.ways.Way.push.Goals as goal
 
