@@ -173,7 +173,6 @@ module _ (w : Walker) (v : SeatView) (b : Belongs w v) (x : ℕ) where
   root-left = omega arith
 
   seen-left : w.climb ≢ [] → steps_left (seen_on w) < left_at Seeing w
-  unfolding seen_on
   seen-left ne = falls-seen w.climb refl ne
 
   fewer-at : (t : Stage) → w.stage ≡ t → Stands t w v → MayAnswer v (op_at t w) x → IsView (after v (op_at t w) x) → op_at t w ≢ Draw → op_at t w ≢ Done → steps_left (next_at t w x) < left_at t w
