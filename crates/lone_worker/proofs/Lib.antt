@@ -1,0 +1,10 @@
+pub mod States
+pub mod Ways
+pub mod Counts
+pub mod Chosen
+pub mod Courses
+pub mod Leaves
+pub mod Walked
+pub mod Steps
+pub mod Grows
+pub mod Publishes
