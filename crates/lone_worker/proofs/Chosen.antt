@@ -1,15 +1,15 @@
 -- A node at which the walk may stand is the leaf of the walk by the counts of the recorded walks.
-use Rattle.std.proofs.Common.{◌≡◌, ◌≢◌, ◌⊎◌, ℕ, ◌+◌, ◌*◌, ◌<◌, ◌≤◌, true, List, [], ◌∷◌, length, Some, refl, sym, ap, ◌∙◌, subst, ⊎_elim, arith}
+use Rattle.std.proofs.Common.{◌≡◌, ◌≢◌, ◌⊎◌, ℕ, ◌+◌, ◌≤◌, true, List, [], ◌∷◌, sym, ap, ◌∙◌, subst, ⊎_elim, arith}
 use Rattle.std.proofs.lemmas.Bool.{eqb-true}
 use Rattle.tree_words.specs.Settings.{Setting}
 use Rattle.tree_words.specs.Words.{Count, root_at, area_at, end_of, next_in}
-use Rattle.tree_words.specs.Blocks.{LinkedBlock, child, has_node, is_node, link_of, In}
+use Rattle.tree_words.specs.Blocks.{LinkedBlock, child, is_node, link_of, In}
 use Rattle.tree_words.specs.Paths.{NodeState, root_state, node_state, is_on}
 use Rattle.tree_words.specs.Walks.{Game}
 use Rattle.play_out.specs.declared.playouts.Ending.{Ending}
 use Rattle.tree_words.specs.Sequence.{search_game}
 use Rattle.tree_words.specs.Trees.{oldest_first}
-use Rattle.tree_words.specs.Descents.{pick, leaf_at, state_at, walk_end}
+use Rattle.tree_words.specs.Descents.{leaf_at, walk_end}
 use Rattle.tree_words.specs.declared.layout.TheConstants.{TALLY_WORD, SEEN_WORD}
 use Rattle.tree_words.proofs.Blocks.GameLaws.{fair_game, whole-in, in-parent}
 use Rattle.tree_words.proofs.Blocks.NodeLaws.{node-lies}

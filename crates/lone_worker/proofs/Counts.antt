@@ -1,13 +1,13 @@
 -- The counts as a function of the linked blocks and of the recorded walks.
-use Rattle.std.proofs.Common.{◌≡◌, ◌≢◌, ℕ, zero, suc, ◌+◌, ◌*◌, ◌<◌, ◌≤◌, Bool, true, false, cond, List, [], ◌∷◌, length, Option, Some, None, refl, sym, ap, ◌∙◌, arith}
+use Rattle.std.proofs.Common.{◌≡◌, ◌≢◌, ℕ, suc, ◌+◌, ◌*◌, ◌<◌, true, List, [], ◌∷◌, length, Option, Some, None, refl, sym, ap, ◌∙◌, arith}
 use Rattle.std.specs.Prelude.{sum_by, slice_index, Contains}
 use Rattle.std.proofs.lemmas.List.Sums.{sum_by-cons}
 use Rattle.tree_words.specs.Settings.{Setting}
-use Rattle.tree_words.specs.Words.{Count, root_at, leaf_in, count_in, next_in, tally_in, seen_in}
-use Rattle.tree_words.specs.Blocks.{LinkedBlock, child, has_node, is_node, In, InOrder, Follows}
-use Rattle.tree_words.specs.Walks.{nothing, Game}
+use Rattle.tree_words.specs.Words.{Count, root_at, leaf_in, count_in}
+use Rattle.tree_words.specs.Blocks.{LinkedBlock, child, has_node, is_node, InOrder, Follows}
+use Rattle.tree_words.specs.Walks.{Game}
 use Rattle.tree_words.specs.Trees.{oldest_first}
-use Rattle.tree_words.specs.Descents.{Config, pairs_of, pick, config_of}
+use Rattle.tree_words.specs.Descents.{Config, pairs_of, pick}
 use Rattle.tree_words.specs.declared.layout.TheConstants.{TALLY_WORD, SEEN_WORD}
 use Rattle.arena_rule.specs.Views.{SeatView, Flight, Walked, WordLoad}
 use Rattle.arena_rule.specs.Adds.{walk_adds, amount_at}

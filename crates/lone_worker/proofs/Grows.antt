@@ -1,41 +1,35 @@
 -- The steps of one worker at the leaf of its walk: Claim, Publish and the first Add; and Note.
-use Rattle.std.proofs.Common.{◌≡◌, ◌≢◌, ◌⊎◌, ℕ, suc, ◌+◌, ◌-◌, ◌*◌, ◌<◌, ◌≤◌, Bool, true, false, cond, List, [], ◌∷◌, length, set, Option, Some, None, refl, sym, ap, ◌∙◌, subst, ⊎_elim, inl, inr, arith, get_or-set_same, get_or-set_other}
-use Rattle.std.specs.Prelude.{◌==◌, ◌&&◌, not, sum_by, slice_index, Contains}
-use Rattle.std.proofs.lemmas.Bool.{eq-eqb, ne_eqb, eqb-true}
+use Rattle.std.proofs.Common.{◌≡◌, ◌⊎◌, ℕ, suc, ◌+◌, ◌-◌, ◌<◌, ◌≤◌, Bool, true, false, cond, List, [], ◌∷◌, length, set, Option, Some, None, refl, sym, ap, ◌∙◌, subst, ⊎_elim, inl, inr, arith, get_or-set_same, get_or-set_other}
 use Rattle.std.proofs.lemmas.List.Sums.{sum_by-cons}
 use Rattle.play_out.specs.Fills.{empties_of}
-use Rattle.tree_words.specs.Settings.{Setting}
 use Rattle.tree_words.specs.Words.{Count, root_at, end_of, next_in, ticket_in, leaf_in}
-use Rattle.tree_words.specs.Blocks.{LinkedBlock, size, is_node, link_of, Follows}
+use Rattle.tree_words.specs.Blocks.{LinkedBlock}
 use Rattle.tree_words.specs.Paths.{NodeState, root_state, node_state, node_board}
-use Rattle.tree_words.specs.Complete.{allowed_cells}
 use Rattle.tree_words.specs.Sequence.{asks, size_below, outcome_of, search_game}
 use Rattle.tree_words.specs.Descents.{walk_end}
-use Rattle.tree_words.specs.declared.layout.TheConstants.{TALLY_WORD, LINK_WORD}
-use Rattle.tree_words.specs.declared.steps.Op.{Op}
-use Rattle.tree_words.specs.declared.steps.Op.TheVariants.{Draw, Look, Claim, Write, Publish, Add, Note, Done}
+use Rattle.tree_words.specs.declared.layout.TheConstants.{TALLY_WORD}
+use Rattle.tree_words.specs.declared.steps.Op.TheVariants.{Claim, Add, Note}
 use Rattle.tree_words.proofs.Blocks.BlockLaws.{clash}
 use Rattle.tree_words.proofs.Walks.Asking.{widened-asks}
 use Rattle.tree_words.proofs.Walks.Leaves.{sprouts-of, root-out}
 use Rattle.arena_rule.specs.Views.{SeatView, HeldBlock, Flight, Walked}
-use Rattle.arena_rule.specs.Fits.{FitsStep, FitsClaim, FitsPublish, FitsAdd, FitsNote, MayBegin, IsNext, MayGetBlock}
-use Rattle.arena_rule.specs.Lookups.{is_known, known_link, told_below, tally_loaded, empties_at, load_of}
-use Rattle.arena_rule.specs.Afters.{word_of, answer_of, after, claimed_at, known_after, node_of_link, flight_after, published, added_at, noted, with_word}
+use Rattle.arena_rule.specs.Fits.{FitsStep, MayBegin, IsNext, MayGetBlock}
+use Rattle.arena_rule.specs.Lookups.{tally_loaded, empties_at}
+use Rattle.arena_rule.specs.Afters.{claimed_at, flight_after, added_at, noted, with_word}
 use Rattle.arena_rule.specs.Parts.{full_width}
-use Rattle.arena_rule.specs.Rule.{IsState, words_after}
-use Rattle.arena_rule.proofs.Before.{Before, blocks_after, opening_blocks}
+use Rattle.arena_rule.specs.Rule.{words_after}
+use Rattle.arena_rule.proofs.Before.{Before}
 use Rattle.arena_rule.proofs.Changes.{claimed_cases}
-use Rattle.arena_rule.proofs.Frames.{node-range}
-use Rattle.arena_rule.proofs.Numbers.{leaf-recorded, walks_of, holds_ticket, few}
-use Rattle.arena_rule.proofs.Options.{none-some, some-eq}
+use Rattle.arena_rule.proofs.Numbers.{leaf-recorded, walks_of, few}
+use Rattle.arena_rule.proofs.Options.{none-some}
 use Rattle.lone_worker.specs.Alone.{IsAtLeaf, StepsAtLeaf}
-use Rattle.lone_worker.proofs.States.{later, state-later}
-use Rattle.lone_worker.proofs.Counts.{tally_by, config_by, LoadsAgree, recorded-linked}
-use Rattle.lone_worker.proofs.Chosen.{KnowsAll, whole, leaf, all-known, at-leaf, leaf-end}
-use Rattle.lone_worker.proofs.Courses.{Between, AtEnd, Holding, Adding, InWalk, Idle, Walking, Stands, Course, Lone}
-use Rattle.lone_worker.proofs.Leaves.{asks-then, asks-none, rests, asks-vain, gets}
+use Rattle.lone_worker.proofs.States.{later}
+use Rattle.lone_worker.proofs.Counts.{tally_by, config_by}
+use Rattle.lone_worker.proofs.Chosen.{whole, leaf, at-leaf, leaf-end}
+use Rattle.lone_worker.proofs.Courses.{Between, AtEnd, Adding, InWalk, Walking, Stands, Course, Lone}
+use Rattle.lone_worker.proofs.Leaves.{asks-then, asks-none, rests, asks-vain}
 use Rattle.lone_worker.proofs.Walked.{walked}
-use Rattle.lone_worker.proofs.Steps.{ground, kept, node-of, idle, leaf-tally, leaf-empties}
+use Rattle.lone_worker.proofs.Steps.{ground, kept, leaf-tally, leaf-empties}
 
 module _ (bs : List LinkedBlock) (words : List ℕ) (v : SeatView) (k : ℕ) (l : Lone v.shape bs words v k) where
   abbrev next : ℕ

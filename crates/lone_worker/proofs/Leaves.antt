@@ -1,18 +1,16 @@
 -- What the leaf of a walk comes to: it asks for no block, asks in vain, or gets its block.
-use Rattle.std.proofs.Common.{◌≡◌, ◌⊎◌, ℕ, ◌+◌, ◌<◌, ◌≤◌, Bool, true, false, cond, List, [], ◌∷◌, length, refl, sym, ap, ◌∙◌, ⊎_elim, inl, inr, arith}
+use Rattle.std.proofs.Common.{◌≡◌, ◌⊎◌, ℕ, ◌+◌, ◌<◌, ◌≤◌, Bool, true, false, cond, List, ◌∷◌, length, refl, sym, ap, ◌∙◌, ⊎_elim, inl, inr, arith}
 use Rattle.std.specs.Prelude.{◌&&◌, nat_le, nat_lt, Contains}
 use Rattle.std.proofs.lemmas.Bool.Decides.{nat_tests}
 use Rattle.play_out.specs.Fills.{empties_of}
 use Rattle.tree_words.specs.Settings.{Setting}
 use Rattle.tree_words.specs.Words.{Count, root_at, end_of, leaf_in, count_in}
-use Rattle.tree_words.specs.Blocks.{LinkedBlock, size, has_node, is_node, Follows}
+use Rattle.tree_words.specs.Blocks.{LinkedBlock, size, is_node, Follows}
 use Rattle.tree_words.specs.Paths.{NodeState, root_state, node_state, node_board}
-use Rattle.tree_words.specs.Walks.{nothing, Game}
-use Rattle.play_out.specs.declared.playouts.Ending.{Ending}
 use Rattle.tree_words.specs.Sequence.{asks, gets_block, next_after, size_below, search_game}
 use Rattle.tree_words.specs.Trees.{oldest_first}
-use Rattle.tree_words.specs.Descents.{NewBlock, Widened, leaf_at, walk_end}
-use Rattle.tree_words.proofs.Walks.Asking.{next-gets, next-stays}
+use Rattle.tree_words.specs.Descents.{NewBlock, leaf_at, walk_end}
+use Rattle.tree_words.proofs.Walks.Asking.{next-stays}
 use Rattle.tree_words.proofs.Walks.Leaves.{Whole}
 use Rattle.arena_rule.specs.Views.{HeldBlock, Walked}
 use Rattle.arena_rule.specs.Parts.{amount_recorded}

@@ -8,3 +8,4 @@ pub mod Walked
 pub mod Steps
 pub mod Grows
 pub mod Publishes
+pub mod Ends

@@ -1,30 +1,26 @@
 -- A Publish of one worker finds 0, and links the block that was claimed below the leaf of the walk.
-use Rattle.std.proofs.Common.{◌≡◌, ◌≢◌, ◌⊎◌, ℕ, suc, ◌+◌, ◌-◌, ◌*◌, ◌<◌, ◌≤◌, Bool, true, false, cond, List, [], ◌∷◌, length, Option, Some, None, refl, sym, ap, ◌∙◌, subst, inl, inr, arith}
+use Rattle.std.proofs.Common.{◌≡◌, ◌≢◌, ℕ, ◌+◌, ◌<◌, ◌≤◌, Bool, true, cond, List, [], ◌∷◌, length, Option, Some, None, refl, sym, ap, ◌∙◌, subst, inl, inr, arith}
 use Rattle.std.specs.Prelude.{◌==◌, ◌&&◌, not, slice_index, Contains}
 use Rattle.std.proofs.lemmas.Bool.{eq-eqb, ne_eqb}
 use Rattle.play_out.specs.Fills.{empties_of}
-use Rattle.tree_words.specs.Settings.{Setting}
 use Rattle.tree_words.specs.Words.{Count, root_at, next_in, ticket_in, leaf_in}
-use Rattle.tree_words.specs.Blocks.{LinkedBlock, size, is_node, link_of, Follows, InOrder}
-use Rattle.tree_words.specs.Paths.{NodeState, root_state, node_state, node_board}
+use Rattle.tree_words.specs.Blocks.{LinkedBlock, is_node, link_of, Follows}
+use Rattle.tree_words.specs.Paths.{node_board}
 use Rattle.tree_words.specs.Complete.{allowed_cells}
-use Rattle.tree_words.specs.Sequence.{search_game}
-use Rattle.tree_words.specs.Descents.{walk_end}
-use Rattle.tree_words.specs.declared.layout.TheConstants.{TALLY_WORD, LINK_WORD}
-use Rattle.tree_words.specs.declared.steps.Op.{Op}
+use Rattle.tree_words.specs.declared.layout.TheConstants.{LINK_WORD}
 use Rattle.tree_words.specs.declared.steps.Op.TheVariants.{Publish}
 use Rattle.arena_rule.specs.Views.{SeatView, HeldBlock, Flight, Walked}
-use Rattle.arena_rule.specs.Fits.{FitsStep, FitsPublish, MayGetBlock}
-use Rattle.arena_rule.specs.Lookups.{is_known, known_link, told_below, tally_loaded, empties_at}
-use Rattle.arena_rule.specs.Afters.{word_of, answer_of, after, known_after, node_of_link, published, with_word}
+use Rattle.arena_rule.specs.Fits.{FitsPublish, MayGetBlock}
+use Rattle.arena_rule.specs.Lookups.{is_known, known_link, told_below}
+use Rattle.arena_rule.specs.Afters.{known_after, node_of_link, published, with_word}
 use Rattle.arena_rule.specs.Rule.{IsState, words_after}
 use Rattle.arena_rule.proofs.Before.{Before, blocks_after}
 use Rattle.arena_rule.proofs.Options.{none-some}
 use Rattle.lone_worker.specs.Alone.{IsAtLeaf, StepsAtLeaf}
 use Rattle.lone_worker.proofs.States.{later, state-later}
-use Rattle.lone_worker.proofs.Counts.{tally_by, config_by, LoadsAgree, recorded-linked}
-use Rattle.lone_worker.proofs.Chosen.{KnowsAll, whole, leaf, all-known, at-leaf, leaf-end}
-use Rattle.lone_worker.proofs.Courses.{AtEnd, Holding, InWalk, Idle, Walking, Stands, Course, Lone}
+use Rattle.lone_worker.proofs.Counts.{recorded-linked}
+use Rattle.lone_worker.proofs.Chosen.{whole, leaf, all-known, at-leaf, leaf-end}
+use Rattle.lone_worker.proofs.Courses.{AtEnd, Holding, InWalk, Stands, Course, Lone}
 use Rattle.lone_worker.proofs.Leaves.{gets}
 use Rattle.lone_worker.proofs.Steps.{ground, kept, node-of, leaf-tally, leaf-empties}
 
@@ -45,10 +41,10 @@ module _ (bs : List LinkedBlock) (words : List ℕ) (v : SeatView) (k : ℕ) (l 
   b = ground bs words v k l
 
   -- the node, and its block
-  abbrev x : ℕ
+  abbrev pub x : ℕ
   x = node_of_link w
 
-  abbrev n : LinkedBlock
+  abbrev pub n : LinkedBlock
   n = told_below v x c
 
   here : at.0 ≡ x

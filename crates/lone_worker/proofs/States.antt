@@ -1,5 +1,5 @@
 -- The rule over given blocks: after a step of the one seat, and at the beginning.
-use Rattle.std.proofs.Common.{◌≡◌, ℕ, ◌<◌, List, [], ◌∷◌, refl, ◌∙◌, length-set}
+use Rattle.std.proofs.Common.{ℕ, List, [], ◌∷◌, refl, ◌∙◌, length-set}
 use Rattle.std.specs.Prelude.{slice_index}
 use Rattle.tree_words.specs.Settings.{Setting, IsSetting}
 use Rattle.tree_words.specs.Words.{root_at}
@@ -12,7 +12,7 @@ use Rattle.arena_rule.specs.Views.{SeatView, opening_view}
 use Rattle.arena_rule.specs.Fits.{FitsStep}
 use Rattle.arena_rule.specs.Afters.{word_of, put, answer_of, after}
 use Rattle.arena_rule.specs.Parts.{AreLinked}
-use Rattle.arena_rule.specs.Rule.{IsState, words_after, views_after}
+use Rattle.arena_rule.specs.Rule.{IsState, words_after}
 use Rattle.arena_rule.proofs.Before.{Before, AreFirst, blocks_after, opening_blocks}
 use Rattle.arena_rule.proofs.Apart.{fresh-step, apart-step, held-step}
 use Rattle.arena_rule.proofs.SumsLaw.{sums-step}

@@ -1,43 +1,40 @@
 -- The steps of one worker that leave the recorded walks, the linked blocks and NEXT: Look, Draw, Write and Add.
-use Rattle.std.proofs.Common.{◌≡◌, ◌≢◌, ◌⊎◌, ℕ, ◌+◌, ◌-◌, ◌*◌, ◌<◌, ◌≤◌, Bool, true, false, cond, List, [], ◌∷◌, length, set, Option, Some, None, refl, sym, ap, ◌∙◌, subst, ⊎_elim, inl, inr, arith, get_or-set_same, get_or-set_other}
-use Rattle.std.specs.Prelude.{◌==◌, ◌||◌, sum_by, slice_index, option_map}
-use Rattle.std.proofs.lemmas.Bool.{eqb-true, cases_Bool, or_cases}
+use Rattle.std.proofs.Common.{◌≡◌, ◌≢◌, ℕ, ◌+◌, ◌-◌, ◌*◌, ◌<◌, ◌≤◌, Bool, true, false, cond, List, [], ◌∷◌, length, set, Option, Some, None, refl, sym, ap, ◌∙◌, subst, ⊎_elim, inl, arith, get_or-set_same, get_or-set_other}
+use Rattle.std.specs.Prelude.{◌==◌, slice_index, option_map}
+use Rattle.std.proofs.lemmas.Bool.{eqb-true, or_cases}
 use Rattle.std.proofs.lemmas.List.Sums.{sum_by-cons}
 use Rattle.play_out.specs.Fills.{empties_of}
-use Rattle.tree_words.specs.Settings.{Setting}
-use Rattle.tree_words.specs.Words.{Count, root_at, area_at, end_of, next_in, ticket_in}
+use Rattle.tree_words.specs.Words.{root_at, area_at, end_of, next_in, ticket_in}
 use Rattle.tree_words.specs.Blocks.{LinkedBlock, has_node, is_node, link_of, In}
-use Rattle.tree_words.specs.Paths.{NodeState, node_state, node_board}
+use Rattle.tree_words.specs.Paths.{node_board}
 use Rattle.tree_words.specs.Complete.{set_of}
 use Rattle.tree_words.specs.Opening.{root_block}
 use Rattle.tree_words.specs.Told.{Knows}
-use Rattle.tree_words.specs.Sequence.{asks}
-use Rattle.tree_words.specs.declared.layout.TheConstants.{TALLY_WORD, SEEN_WORD, LINK_WORD}
+use Rattle.tree_words.specs.declared.layout.TheConstants.{TALLY_WORD, SEEN_WORD}
 use Rattle.tree_words.specs.declared.steps.Op.{Op}
-use Rattle.tree_words.specs.declared.steps.Op.TheVariants.{Draw, Look, Claim, Write, Publish, Add, Note, Done}
+use Rattle.tree_words.specs.declared.steps.Op.TheVariants.{Draw, Look, Write, Done}
 use Rattle.tree_words.proofs.Blocks.BlockLaws.{has-at}
 use Rattle.tree_words.proofs.Blocks.Members.{node-in}
 use Rattle.tree_words.proofs.Blocks.NodeLaws.{node-lies}
 use Rattle.tree_words.proofs.Walks.Tallies.{on-itself}
 use Rattle.arena_rule.specs.Views.{SeatView, HeldBlock, Flight, WordLoad}
-use Rattle.arena_rule.specs.Fits.{FitsStep, FitsDraw, FitsWrite, FitsAdd, MayBegin, IsNext}
-use Rattle.arena_rule.specs.Lookups.{is_known, known_link, told_below, load_of, or_zero, tally_loaded, empties_at}
-use Rattle.arena_rule.specs.Afters.{word_of, answer_of, after, known_after, loads_after, is_count, drew, node_of_link, flight_after, written_more, looked, wrote, added_at, with_word}
+use Rattle.arena_rule.specs.Fits.{FitsStep}
+use Rattle.arena_rule.specs.Lookups.{is_known, told_below, load_of, tally_loaded, empties_at}
+use Rattle.arena_rule.specs.Afters.{known_after, loads_after, is_count, drew, node_of_link, written_more, looked, wrote, with_word}
 use Rattle.arena_rule.specs.Parts.{ended_of, amount_recorded}
 use Rattle.arena_rule.specs.Rule.{words_after}
 use Rattle.arena_rule.proofs.Before.{Before, opening_blocks}
 use Rattle.arena_rule.proofs.Changes.{drew_cases}
 use Rattle.arena_rule.proofs.Frames.{node-range}
 use Rattle.arena_rule.proofs.KnownMore.{Grows, known_cases}
-use Rattle.arena_rule.proofs.Options.{none-some, some-eq}
+use Rattle.arena_rule.proofs.Options.{some-eq}
 use Rattle.arena_rule.proofs.Reach.{IsHigh, low-same}
 use Rattle.arena_rule.proofs.Within.{known-node}
-use Rattle.lone_worker.specs.Alone.{IsAtLeaf, StepsAtLeaf}
+use Rattle.lone_worker.specs.Alone.{IsAtLeaf}
 use Rattle.lone_worker.proofs.States.{later, known-later}
 use Rattle.lone_worker.proofs.Counts.{tally_by, LoadsAgree, load-count, tally-word, seen-word}
-use Rattle.lone_worker.proofs.Chosen.{KnowsAll, all-known, at-leaf, leaf-end}
-use Rattle.lone_worker.proofs.Courses.{Between, AtEnd, Holding, Adding, InWalk, Idle, Walking, Stands, Course, Lone}
-use Rattle.lone_worker.proofs.Leaves.{asks-none, rests}
+use Rattle.lone_worker.proofs.Chosen.{KnowsAll, all-known}
+use Rattle.lone_worker.proofs.Courses.{Between, InWalk, Idle, Stands, Course, Lone}
 
 module _ (bs : List LinkedBlock) (words : List ℕ) (v : SeatView) (k : ℕ) (l : Lone v.shape bs words v k) where
   pub ground : Before bs words (v ∷ []) 0 v
