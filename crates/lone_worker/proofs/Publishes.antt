@@ -70,7 +70,7 @@ module _ (bs : List LinkedBlock) (words : List ℕ) (v : SeatView) (k : ℕ) (l 
   vacant =
       let m : is_node (root_at v.shape) bs x ≡ true = node-of bs words v k l x stand.known in
       let link : x + LINK_WORD ≡ w = let q = fits.link in omega (arith, q, its) in
-      ap (slice_index words) (sym link) ∙ l.state.linked.blocks.shows.links x m ∙ ap (λ (ks : List LinkedBlock). link_of ks x) (sym all) ∙ stand.vacant
+      ap (slice_index words) (sym link) ∙ l.state.linked.blocks.shows.links x m ∙ ap (λ (ks : List LinkedBlock). link_of ks x) (sym all) ∙ may.vacant
 
   found : (slice_index words w == 0) ≡ true
   found = eq-eqb (slice_index words w) 0 vacant
@@ -88,7 +88,7 @@ module _ (bs : List LinkedBlock) (words : List ℕ) (v : SeatView) (k : ℕ) (l 
   -- and known
   knows : known_after v x (cond (slice_index words w == 0) c (slice_index words w)) ≡ n ∷ bs
   knows = ap (λ (t : Bool). known_after v x (cond t c (slice_index words w))) found
-      ∙ known-told v x c stand.known stand.vacant (λ e. omega (arith, above, e)) ∙ ap (λ (ks : List LinkedBlock). n ∷ ks) all
+      ∙ known-told v x c stand.known may.vacant (λ e. omega (arith, above, e)) ∙ ap (λ (ks : List LinkedBlock). n ∷ ks) all
 
   -- no adds are begun
   none : v.adds ≡ None

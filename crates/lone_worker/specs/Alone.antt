@@ -1,5 +1,5 @@
 -- One worker alone: the steps of a seat whose view has a copy of all words.
-use Rattle.std.specs.Prelude.{◌≡◌, ◌≢◌, ℕ, ◌+◌, true, List, [], ◌∷◌, None, slice_index}
+use Rattle.std.specs.Prelude.{◌≡◌, ◌≢◌, ◌⊎◌, ℕ, ◌+◌, true, List, [], ◌∷◌, None, slice_index}
 use Rattle.tree_words.specs.Settings.{Setting}
 use Rattle.tree_words.specs.Words.{root_at}
 use Rattle.tree_words.specs.Blocks.{LinkedBlock, In, has_node}
@@ -11,17 +11,18 @@ use Rattle.tree_words.specs.declared.layout.TheConstants.{LINK_WORD, TALLY_WORD}
 use Rattle.tree_words.specs.declared.steps.Op.{Op}
 use Rattle.tree_words.specs.declared.steps.Op.TheVariants.{Draw, Look, Claim, Write, Publish, Add, Note, Done}
 use Rattle.arena_rule.specs.Views.{SeatView, opening_view, HasEnded}
-use Rattle.arena_rule.specs.Lookups.{is_known, known_link}
+use Rattle.arena_rule.specs.Lookups.{is_known, known_link, empties_at}
 use Rattle.arena_rule.specs.Fits.{FitsStep, IsChosen, MayGetBlock}
 use Rattle.arena_rule.specs.Afters.{word_of, answer_of, after}
 use Rattle.arena_rule.specs.Rule.{words_after}
 
--- The walk may stand at x: x is a known node other than the root, no block is known below it, and
--- each node of its path below the root was chosen by the counts that were loaded.
+-- The node x can be the leaf of the walk in hand: x is a known node other than the root, no block is
+-- known below it or its board is full, and each node of its path below the root was chosen by the
+-- counts that were loaded.
 pub record IsAtLeaf (v : SeatView) (x : ℕ) : Type 0 where
   pub known : is_known v x ≡ true
   pub below : x ≢ root_at v.shape
-  pub vacant : known_link v x ≡ 0
+  pub bare : (known_link v x ≡ 0) ⊎ (empties_at v x ≡ 0)
   pub chosen : (b : LinkedBlock) (y : ℕ) → In b v.known → has_node b y ≡ true
       → is_on v.shape v.known y x ≡ true → IsChosen v b y
 
