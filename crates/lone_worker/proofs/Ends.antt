@@ -32,12 +32,16 @@ use Rattle.arena_rule.specs.Parts.{times_drawn}
 use Rattle.arena_rule.specs.Rule.{IsState, words_after}
 use Rattle.arena_rule.proofs.Before.{Before, opening_blocks}
 use Rattle.arena_rule.proofs.Options.{none-some}
-use Rattle.lone_worker.specs.Alone.{StepsAtLeaf, StepsTo, LeadsAlone, EndsAsSequence}
+use Rattle.lone_worker.proofs.Leading.{StepsAtLeaf, StepsTo, LeadsAlone, HasLedAlone}
 use Rattle.lone_worker.proofs.States.{later, state-later, state-opening}
 use Rattle.lone_worker.proofs.Counts.{tally_by, seen_by, config_by, tally-word, seen-word}
 use Rattle.lone_worker.proofs.Courses.{Stands, Lone}
-use Rattle.lone_worker.proofs.Steps.{ground, look, done, write, draw}
-use Rattle.lone_worker.proofs.Grows.{add, claim, note}
+use Rattle.lone_worker.proofs.Ground.{ground}
+use Rattle.lone_worker.proofs.Looks.{look, done, write}
+use Rattle.lone_worker.proofs.Draws.{draw}
+use Rattle.lone_worker.proofs.Adds.{add}
+use Rattle.lone_worker.proofs.Claims.{claim}
+use Rattle.lone_worker.proofs.Notes.{note}
 use Rattle.lone_worker.proofs.Publishes as publishing
 
 -- a step leads from a search to a search
@@ -163,7 +167,7 @@ lone-runs s h one (op ∷ ops) words v r =
     (m.0, m.1, subst (λ (z : Setting). Lone z m.0 words v m.1) shape is)
 
 -- so it ends with the tree of the sequential search
-pub ends-as-sequence : (s : Setting) → IsSetting s → s.knobs.workers ≡ 1 → EndsAsSequence s
-ends-as-sequence s h one words v run e =
+pub leads-to-sequence : (s : Setting) → IsSetting s → s.knobs.workers ≡ 1 → (words : List ℕ) (v : SeatView) → HasLedAlone s words v → HasEnded v → IsTreeOf s words (seq_of s).0
+leads-to-sequence s h one words v run e =
     let t = lone-runs s h one run.0 words v run.1 in
     lone-ends s t.0 words v t.1 t.2 e

@@ -1,3 +1,4 @@
+pub mod Leading
 pub mod States
 pub mod Ways
 pub mod Counts
@@ -5,7 +6,15 @@ pub mod Chosen
 pub mod Courses
 pub mod Leaves
 pub mod Walked
-pub mod Steps
-pub mod Grows
+pub mod Ground
+pub mod Looks
+pub mod Draws
+pub mod LeafCounts
+pub mod Standing
+pub mod Adds
+pub mod Claims
+pub mod Notes
 pub mod Publishes
 pub mod Ends
+pub mod AtLeaves
+pub mod Machines

@@ -16,13 +16,14 @@ use Rattle.arena_rule.specs.Afters.{known_after, node_of_link, published, with_w
 use Rattle.arena_rule.specs.Rule.{IsState, words_after}
 use Rattle.arena_rule.proofs.Before.{Before, blocks_after}
 use Rattle.arena_rule.proofs.Options.{none-some}
-use Rattle.lone_worker.specs.Alone.{IsAtLeaf, StepsAtLeaf}
+use Rattle.lone_worker.proofs.Leading.{IsAtLeaf, StepsAtLeaf}
 use Rattle.lone_worker.proofs.States.{later, state-later}
 use Rattle.lone_worker.proofs.Counts.{recorded-linked}
 use Rattle.lone_worker.proofs.Chosen.{whole, leaf, all-known, at-leaf, leaf-end}
 use Rattle.lone_worker.proofs.Courses.{AtEnd, Holding, InWalk, Stands, Course, Lone}
 use Rattle.lone_worker.proofs.Leaves.{gets}
-use Rattle.lone_worker.proofs.Steps.{ground, kept, node-of, leaf-tally, leaf-empties}
+use Rattle.lone_worker.proofs.Ground.{ground, kept, node-of}
+use Rattle.lone_worker.proofs.LeafCounts.{leaf-tally, leaf-empties}
 
 -- the block below a vacant known node gets known
 known-told : (v : SeatView) (x c : ℕ) → is_known v x ≡ true → known_link v x ≡ 0 → c ≢ 0 → known_after v x c ≡ told_below v x c ∷ v.known

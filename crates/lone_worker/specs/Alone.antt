@@ -1,62 +1,35 @@
--- One worker alone: the steps of a seat whose view has a copy of all words.
-use Rattle.std.specs.Prelude.{◌≡◌, ◌≢◌, ◌⊎◌, ℕ, ◌+◌, true, List, [], ◌∷◌, None, slice_index}
+-- A walker that runs alone, over a view that has a copy of all words.
+use Rattle.std.specs.Prelude.{◌≡◌, ℕ, zero, suc, List, Some}
 use Rattle.tree_words.specs.Settings.{Setting}
-use Rattle.tree_words.specs.Words.{root_at}
-use Rattle.tree_words.specs.Blocks.{LinkedBlock, In, has_node}
-use Rattle.tree_words.specs.Paths.{is_on}
-use Rattle.tree_words.specs.Opening.{opening_words}
 use Rattle.tree_words.specs.Sequence.{seq_of}
 use Rattle.tree_words.specs.Trees.{IsTreeOf}
-use Rattle.tree_words.specs.declared.layout.TheConstants.{LINK_WORD, TALLY_WORD}
-use Rattle.tree_words.specs.declared.steps.Op.{Op}
-use Rattle.tree_words.specs.declared.steps.Op.TheVariants.{Draw, Look, Claim, Write, Publish, Add, Note, Done}
-use Rattle.arena_rule.specs.Views.{SeatView, opening_view, HasEnded}
-use Rattle.arena_rule.specs.Lookups.{is_known, known_link, empties_at}
-use Rattle.arena_rule.specs.Fits.{FitsStep, IsChosen, MayGetBlock}
-use Rattle.arena_rule.specs.Afters.{word_of, answer_of, after}
-use Rattle.arena_rule.specs.Rule.{words_after}
+use Rattle.tree_words.specs.declared.steps.Op.TheVariants.{Done}
+use Rattle.arena_rule.specs.Views.{SeatView, opening_view}
+use Rattle.arena_rule.specs.Afters.{after}
+use Rattle.arena_rule.specs.Answers.{MayAnswer}
+use Rattle.walker.specs.Machine.{op_of, next}
+use Rattle.walker.specs.Belongs.{Belongs}
+use Rattle.walker.specs.declared.machine.Walker.{Walker}
 
--- The node x can be the leaf of the walk in hand: x is a known node other than the root, no block is
--- known below it or its board is full, and each node of its path below the root was chosen by the
--- counts that were loaded.
-pub record IsAtLeaf (v : SeatView) (x : ℕ) : Type 0 where
-  pub known : is_known v x ≡ true
-  pub below : x ≢ root_at v.shape
-  pub bare : (known_link v x ≡ 0) ⊎ (empties_at v x ≡ 0)
-  pub chosen : (b : LinkedBlock) (y : ℕ) → In b v.known → has_node b y ≡ true
-      → is_on v.shape v.known y x ≡ true → IsChosen v b y
+-- The walker w with its view v makes its next step. The answer is one that the step may give, and
+-- so the word that stands in the view's copy.
+pub record MakesStep (w : Walker) (v : SeatView) (later : Walker) (view : SeatView) : Type 0 where
+  pub answer : ℕ
+  pub may : MayAnswer v (op_of w) answer
+  pub walker_is : later ≡ next w answer
+  pub view_is : view ≡ after v (op_of w) answer
 
--- The step is made at the leaf of the walk in hand: a Claim is for its block, a Publish links that
--- block below it, and the first Add of a walk is the leaf's. Of other steps nothing is asked.
-abbrev pub StepsAtLeaf : SeatView → Op → Type 0
-StepsAtLeaf v Draw = Unit {0}
-StepsAtLeaf v (Look i) = Unit {0}
-StepsAtLeaf v (Claim size) = (x : ℕ) × IsAtLeaf v x × MayGetBlock v x size
-StepsAtLeaf v (Write i value) = Unit {0}
-StepsAtLeaf v (Publish l b) = (x : ℕ) × (l ≡ x + LINK_WORD) × IsAtLeaf v x
-StepsAtLeaf v (Add i won) = v.adds ≡ None → (x : ℕ) × (i ≡ x + TALLY_WORD) × IsAtLeaf v x
-StepsAtLeaf v (Note k value) = Unit {0}
-StepsAtLeaf v Done = Unit {0}
+-- after n steps the walker is w and its view v, where it began with the opening view
+abbrev pub RunsAlone : Setting → ℕ → Walker → SeatView → Type 0
+RunsAlone s zero w v = Belongs w v × (v ≡ opening_view s)
+RunsAlone s (suc n) w v = (u : Walker) × (before : SeatView) × RunsAlone s n u before
+    × MakesStep u before w v
 
--- the seat with the view u makes a step that it fits, at its leaf, and finds the word as it stands
-pub record StepsTo (before : List ℕ) (u : SeatView) (op : Op)
-    (words : List ℕ) (v : SeatView) : Type 0 where
-  pub fits : FitsStep u op
-  pub leaf : StepsAtLeaf u op
-  pub words_are : words ≡ words_after before op
-  pub view_is : v ≡ after u op (answer_of op (slice_index before (word_of op)))
+-- the walker has run alone to this view
+abbrev pub HasRunAlone : Setting → Walker → SeatView → Type 0
+HasRunAlone s w v = (n : ℕ) × RunsAlone s n w v
 
--- from the opening words and the opening view the steps, the newest first, lead to these
-abbrev pub LeadsAlone : Setting → List Op → List ℕ → SeatView → Type 0
-LeadsAlone s [] words v = (words ≡ opening_words s) × (v ≡ opening_view s)
-LeadsAlone s (op ∷ ops) words v = (before : List ℕ) × (u : SeatView)
-    × LeadsAlone s ops before u × StepsTo before u op words v
-
--- the seat has come alone to these words and this view
-abbrev pub HasRunAlone : Setting → List ℕ → SeatView → Type 0
-HasRunAlone s words v = (ops : List Op) × LeadsAlone s ops words v
-
--- where it has ended, the words show the tree of the sequential search
+-- where it is done, the copy of the words shows the tree of the sequential search
 abbrev pub EndsAsSequence : Setting → Type 0
-EndsAsSequence s = (words : List ℕ) (v : SeatView) → HasRunAlone s words v → HasEnded v
-    → IsTreeOf s words (seq_of s).0
+EndsAsSequence s = (w : Walker) (v : SeatView) (words : List ℕ) → HasRunAlone s w v
+    → op_of w ≡ Done → v.whole ≡ Some words → IsTreeOf s words (seq_of s).0

@@ -1,12 +1,11 @@
 //! The law of one worker, as a function that does nothing: its contract is the law.
 
-ghost use Rattle.std.specs.Prelude.{◌≡◌};
-ghost use Rattle.tree_words.specs.Settings.{Setting, IsSetting};
+ghost use Rattle.tree_words.specs.Settings.{Setting};
 ghost use Rattle.lone_worker.specs.Alone.{EndsAsSequence};
 
-/// The law of one worker: where the one worker of a shape runs alone, from the opening words and
-/// the opening view on, each of its steps fits, and it claims, publishes and adds at the leaf that
-/// it chose, it ends with words that show the tree of the sequential search. It does nothing.
+/// The law of one worker: a walker that runs alone, from the opening view of its shape on, and is
+/// answered with the words that stand in the view's copy, ends with a copy that shows the tree of
+/// the sequential search. It does nothing.
 pub fn one_worker_is_sequential()
-    ensures { (s : Setting) → IsSetting s → s.knobs.workers ≡ 1 → EndsAsSequence s }
+    ensures { (s : Setting) → EndsAsSequence s }
 {}
