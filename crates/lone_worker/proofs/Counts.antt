@@ -1,5 +1,5 @@
 -- The counts as a function of the linked blocks and of the recorded walks.
-use Rattle.std.proofs.Common.{◌≡◌, ◌≢◌, ℕ, suc, ◌+◌, ◌*◌, ◌<◌, true, List, [], ◌∷◌, length, Option, Some, None, refl, sym, ap, ◌∙◌, arith}
+use Rattle.std.proofs.Common.{◌≡◌, ◌≢◌, ℕ, ◌+◌, ◌<◌, true, List, [], ◌∷◌, length, Option, Some, None, refl, ap, ◌∙◌, arith}
 use Rattle.std.specs.Prelude.{sum_by, slice_index, Contains}
 use Rattle.std.proofs.lemmas.List.Sums.{sum_by-cons}
 use Rattle.tree_words.specs.Settings.{Setting}
@@ -15,6 +15,7 @@ use Rattle.arena_rule.specs.Lookups.{adds_made, load_of, or_zero}
 use Rattle.arena_rule.specs.Parts.{Sums, amount_recorded, amount_counted}
 use Rattle.arena_rule.proofs.AddLaws.{amount-new, adds-linked}
 use Rattle.arena_rule.proofs.SumsLinked.{walks-same}
+use Rattle.walker.proofs.Going.{pairs-same}
 
 -- the counts of a node by the recorded walks
 abbrev pub tally_by : Setting → List LinkedBlock → List Walked → ℕ → Count
@@ -61,18 +62,11 @@ pub load-count : (s : Setting) (bs : List LinkedBlock) (walks : List Walked) (lo
 load-count s bs walks loads a w n e ne = ap (λ (o : Option ℕ). count_in (or_zero o)) e ∙ ap count_in (a w n e ne)
 
 -- Choice reads the counts of the node and of its block's nodes alone
-pairs-same : (p q p' q' : ℕ → Count) (a : ℕ) (cells : List ℕ) → ((k y : ℕ) → k < length cells → y ≡ a + 4 * k → (p y ≡ p' y) × (q y ≡ q' y)) → pairs_of p q a cells ≡ pairs_of p' q' a cells
-pairs-same p q p' q' a [] h = refl
-pairs-same p q p' q' a (c ∷ cells) h =
-    let here = h 0 a (omega arith) (omega arith) in
-    let rest = pairs-same p q p' q' (a + 4) cells (λ k y l e. h (suc k) y (omega arith) (omega (arith, e))) in
-    λ i. (here.0 i, here.1 i) ∷ rest i
-
 pub pick-same : {S O : Type 0} (g : Game S O) (p q p' q' : ℕ → Count) (b : LinkedBlock) (x : ℕ) → p x ≡ p' x → ((k : ℕ) → k < length b.cells → (p (child b k) ≡ p' (child b k)) × (q (child b k) ≡ q' (child b k)))
     → pick g p q b x ≡ pick g p' q' b x
 pick-same g p q p' q' b x e h =
     let pairs : pairs_of p q (b.start + 4) b.cells ≡ pairs_of p' q' (b.start + 4) b.cells
-    = pairs-same p q p' q' (b.start + 4) b.cells (λ k y l is. let c = h k l in (ap p is ∙ c.0 ∙ sym (ap p' is), ap q is ∙ c.1 ∙ sym (ap q' is))) in
+    = pairs-same p q p' q' (b.start + 4) b.cells (λ k l. (h k l).0) (λ k l. (h k l).1) in
     λ i. g.choose (e i) (pairs i)
 
 walks-none : (f : Walked → ℕ) (walks : List Walked) → ((q : Walked) → f q ≡ 0) → sum_by f walks ≡ 0

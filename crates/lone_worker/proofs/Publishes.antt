@@ -1,6 +1,6 @@
 -- A Publish of one worker finds 0, and links the block that was claimed below the leaf of the walk.
-use Rattle.std.proofs.Common.{◌≡◌, ◌≢◌, ℕ, ◌+◌, ◌<◌, ◌≤◌, Bool, true, cond, List, [], ◌∷◌, length, Option, Some, None, refl, sym, ap, ◌∙◌, subst, inl, inr, arith}
-use Rattle.std.specs.Prelude.{◌==◌, ◌&&◌, not, slice_index, Contains}
+use Rattle.std.proofs.Common.{◌≡◌, ℕ, ◌+◌, ◌<◌, ◌≤◌, Bool, true, cond, List, [], ◌∷◌, length, Option, Some, None, refl, sym, ap, ◌∙◌, subst, inl, inr, arith}
+use Rattle.std.specs.Prelude.{◌==◌, slice_index, Contains}
 use Rattle.std.proofs.lemmas.Bool.{eq-eqb, ne_eqb}
 use Rattle.play_out.specs.Fills.{empties_of}
 use Rattle.tree_words.specs.Words.{Count, root_at, next_in, ticket_in, leaf_in}
@@ -11,11 +11,12 @@ use Rattle.tree_words.specs.declared.layout.TheConstants.{LINK_WORD}
 use Rattle.tree_words.specs.declared.steps.Op.TheVariants.{Publish}
 use Rattle.arena_rule.specs.Views.{SeatView, HeldBlock, Flight, Walked}
 use Rattle.arena_rule.specs.Fits.{FitsPublish, MayGetBlock}
-use Rattle.arena_rule.specs.Lookups.{is_known, known_link, told_below}
+use Rattle.arena_rule.specs.Lookups.{told_below}
 use Rattle.arena_rule.specs.Afters.{known_after, node_of_link, published, with_word}
 use Rattle.arena_rule.specs.Rule.{IsState, words_after}
 use Rattle.arena_rule.proofs.Before.{Before, blocks_after}
 use Rattle.arena_rule.proofs.Options.{none-some}
+use Rattle.walker.proofs.KeepsDown.{known-grows}
 use Rattle.lone_worker.proofs.Leading.{IsAtLeaf, StepsAtLeaf}
 use Rattle.lone_worker.proofs.States.{later, state-later}
 use Rattle.lone_worker.proofs.Counts.{recorded-linked}
@@ -24,14 +25,6 @@ use Rattle.lone_worker.proofs.Courses.{AtEnd, Holding, InWalk, Stands, Course, L
 use Rattle.lone_worker.proofs.Leaves.{gets}
 use Rattle.lone_worker.proofs.Ground.{ground, kept, node-of}
 use Rattle.lone_worker.proofs.LeafCounts.{leaf-tally, leaf-empties}
-
--- the block below a vacant known node gets known
-known-told : (v : SeatView) (x c : ℕ) → is_known v x ≡ true → known_link v x ≡ 0 → c ≢ 0 → known_after v x c ≡ told_below v x c ∷ v.known
-unfolding known_after
-known-told v x c n e ne =
-    ap (λ (t : Bool). cond (t && (known_link v x == 0 && not (c == 0))) (told_below v x c ∷ v.known) v.known) n
-    ∙ ap (λ (t : Bool). cond (t && not (c == 0)) (told_below v x c ∷ v.known) v.known) (eq-eqb (known_link v x) 0 e)
-    ∙ ap (λ (t : Bool). cond (not t) (told_below v x c ∷ v.known) v.known) (ne_eqb c 0 ne)
 
 module _ (bs : List LinkedBlock) (words : List ℕ) (v : SeatView) (k : ℕ) (l : Lone v.shape bs words v k)
     (w c : ℕ) (fits : FitsPublish v w c) (at : StepsAtLeaf v (Publish w c)) where
@@ -89,7 +82,7 @@ module _ (bs : List LinkedBlock) (words : List ℕ) (v : SeatView) (k : ℕ) (l 
   -- and known
   knows : known_after v x (cond (slice_index words w == 0) c (slice_index words w)) ≡ n ∷ bs
   knows = ap (λ (t : Bool). known_after v x (cond t c (slice_index words w))) found
-      ∙ known-told v x c stand.known may.vacant (λ e. omega (arith, above, e)) ∙ ap (λ (ks : List LinkedBlock). n ∷ ks) all
+      ∙ known-grows v x c stand.known may.vacant (λ e. omega (arith, above, e)) ∙ ap (λ (ks : List LinkedBlock). n ∷ ks) all
 
   -- no adds are begun
   none : v.adds ≡ None
