@@ -3,8 +3,6 @@ use Rattle.std.proofs.Common.{◌≡◌, ℕ, zero, suc, List, [], ◌∷◌, So
 use Rattle.std.specs.Prelude.{slice_index, option_map}
 use Rattle.tree_words.specs.Settings.{Setting, IsSetting}
 use Rattle.tree_words.specs.Opening.{opening_words}
-use Rattle.tree_words.specs.Sequence.{seq_of}
-use Rattle.tree_words.specs.Trees.{IsTreeOf}
 use Rattle.tree_words.specs.declared.steps.Op.{Op}
 use Rattle.tree_words.specs.declared.steps.Op.TheVariants.{Draw, Look, Claim, Write, Publish, Add, Note, Done}
 use Rattle.arena_rule.specs.Views.{SeatView}
@@ -13,7 +11,6 @@ use Rattle.arena_rule.specs.Afters.{word_of, put, answer_of, after}
 use Rattle.arena_rule.specs.Answers.{MayAnswer, AnswersStep}
 use Rattle.arena_rule.specs.Rule.{words_after}
 use Rattle.arena_rule.proofs.Changes.{whole-after, put-answered}
-use Rattle.arena_rule.proofs.Options.{some-eq}
 use Rattle.walker.specs.Machine.{op_of, next}
 use Rattle.walker.specs.Belongs.{Belongs}
 use Rattle.walker.specs.declared.machine.Walker.{Walker}
@@ -84,7 +81,10 @@ alone s (suc n) w v r =
     }
 
 pub ends-as-sequence : (s : Setting) → EndsAsSequence s
-ends-as-sequence s w v words r done whole =
+ends-as-sequence s w v r done =
     let a : Alone s w v = alone s r.0 w v r.1 in
-    let same : a.words ≡ words = some-eq (sym a.whole ∙ whole) in
-    subst (λ (ws : List ℕ). IsTreeOf s ws (seq_of s).0) same (leads-to-sequence s a.setting a.one a.words v a.run (subst (FitsStep v) done (fits w v a.belongs)))
+    record {
+      words = a.words;
+      whole = a.whole;
+      tree = leads-to-sequence s a.setting a.one a.words v a.run (subst (FitsStep v) done (fits w v a.belongs));
+    }

@@ -29,7 +29,13 @@ RunsAlone s (suc n) w v = (u : Walker) × (before : SeatView) × RunsAlone s n u
 abbrev pub HasRunAlone : Setting → Walker → SeatView → Type 0
 HasRunAlone s w v = (n : ℕ) × RunsAlone s n w v
 
--- where it is done, the copy of the words shows the tree of the sequential search
+-- the view has a copy of the words, and this shows the tree of the sequential search
+pub record ShowsSequence (s : Setting) (v : SeatView) : Type 0 where
+  pub words : List ℕ
+  pub whole : v.whole ≡ Some words
+  pub tree : IsTreeOf s words (seq_of s).0
+
+-- where it has run alone and is done, the view's copy shows that tree
 abbrev pub EndsAsSequence : Setting → Type 0
-EndsAsSequence s = (w : Walker) (v : SeatView) (words : List ℕ) → HasRunAlone s w v
-    → op_of w ≡ Done → v.whole ≡ Some words → IsTreeOf s words (seq_of s).0
+EndsAsSequence s = (w : Walker) (v : SeatView) → HasRunAlone s w v → op_of w ≡ Done
+    → ShowsSequence s v
