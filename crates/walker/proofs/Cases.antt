@@ -8,7 +8,7 @@ use Rattle.tree_words.specs.Sequence.{size_below}
 use Rattle.walker.specs.declared.stages.Stage.TheVariants.{Rooting, Scanning, Claiming, Writing, Publishing, Ended}
 use Rattle.walker.specs.declared.machine.Walker.{Walker}
 use Rattle.walker.specs.Scans.{scan_of, scan_next}
-use Rattle.walker.specs.Machine.{state_in, cells_in, asks_block, at_leaf, at_block, drawn, linked, headed, scanned, chosen, claimed, written}
+use Rattle.walker.specs.Machine.{state_in, cells_in, asks_block, at_leaf, at_block, drawn, linked, headed, with_scan, scanned, chosen, claimed, written}
 
 lt-yes : (a b : ℕ) → a < b → nat_lt a b ≡ true
 lt-yes a b l = grind (arith, nat_tests)
@@ -61,11 +61,11 @@ module _ (w : Walker) where
       let q : (length (cells_in w) == 0) ≡ false = ne_eqb (length (cells_in w)) 0 (λ z. omega arith) in rw (p, q)
 
   pub scanned-next : (x : ℕ) → (scan_next w.scan x).place < (scan_next w.scan x).count → scanned w x ≡ record w { scan = scan_next w.scan x }
-  unfolding scanned
+  unfolding with_scan
   scanned-next x l = let p : nat_lt (scan_next w.scan x).place (scan_next w.scan x).count ≡ true = lt-yes _ _ l in rw p
 
   pub scanned-last : (x : ℕ) → (scan_next w.scan x).count ≤ (scan_next w.scan x).place → scanned w x ≡ chosen (record w { scan = scan_next w.scan x })
-  unfolding scanned
+  unfolding with_scan
   scanned-last x l = let p : nat_lt (scan_next w.scan x).place (scan_next w.scan x).count ≡ false = lt-no _ _ l in rw p
 
   pub claimed-inside : (x : ℕ) → x + size_below (state_in w) ≤ end_of w.shape → claimed w x ≡ record w { stage = Writing; start = x; at = x }

@@ -41,7 +41,7 @@ done-at w v Noting a e = absurd (cc)
 done-at w v Ended a e = refl
 
 -- only at a draw it is Draw
-draw-at : (w : Walker) (t : Stage) → op_at t w ≡ Draw → t ≡ Drawing
+pub draw-at : (w : Walker) (t : Stage) → op_at t w ≡ Draw → t ≡ Drawing
 draw-at w Drawing e = refl
 draw-at w Rooting e = absurd (cc)
 draw-at w Linking e = absurd (cc)

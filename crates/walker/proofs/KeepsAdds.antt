@@ -110,7 +110,6 @@ module _ (w : Walker) (v : SeatView) (b : Belongs w v) (x : ℕ) where
       (next-left w v b x f a (climb ++ adds_above w v) l)
 
   pub keeps-seen : (a : AtSeen w v) → IsView (after v (add_op w.climb) x) → Belongs (seen_on w) (after v (add_op w.climb) x)
-  unfolding seen_on
   keeps-seen a iu = seen-next w.climb refl a.some a.flight a.adds a.climbs a.left iu
 
   -- the record

@@ -34,7 +34,7 @@ drop-suc (x ∷ xs) (suc n) a rest e = drop-suc xs n a rest e
 drop-next : (xs : List CountAdd) (n : ℕ) (a : CountAdd) (rest : List CountAdd) → a ∷ rest ≡ drop n xs → rest ≡ drop (n + 1) xs
 drop-next xs n a rest e = let k : suc n ≡ n + 1 = omega arith in drop-suc xs n a rest e ∙ ap (λ (m : ℕ). drop m xs) k
 
-few-empties : (p : Position) → p.size ≤ 11 → length (empties_of p) ≤ 121
+pub few-empties : (p : Position) → p.size ≤ 11 → length (empties_of p) ≤ 121
 unfolding empties_of
 few-empties p l = few_cells p.size (is_empty_at p) l
 

@@ -21,3 +21,4 @@ pub mod KeepsAdds
 pub mod Keeps
 pub mod GoingOn
 pub mod Endings
+pub mod Falling

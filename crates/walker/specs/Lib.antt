@@ -5,3 +5,4 @@ pub mod Climbs
 pub mod Machine
 pub mod Choosing
 pub mod Belongs
+pub mod Measure

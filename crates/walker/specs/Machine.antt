@@ -15,7 +15,7 @@ use Rattle.tree_words.specs.declared.steps.Op.{Op}
 use Rattle.tree_words.specs.declared.steps.Op.TheVariants.{Draw, Look, Claim, Write, Publish, Add, Note, Done}
 use Rattle.arena_rule.specs.Adds.{CountAdd, seen_adds}
 use Rattle.arena_rule.specs.Lookups.{record_word}
-use Rattle.walker.specs.Scans.{scan_of, scan_next}
+use Rattle.walker.specs.Scans.{ScanData, scan_of, scan_next}
 use Rattle.walker.specs.Climbs.{add_op, adds_after}
 use Rattle.walker.specs.declared.ways.Level.{Level}
 use Rattle.walker.specs.declared.stages.Stage.{Stage}
@@ -141,11 +141,19 @@ chosen w = at_node (record w {
   visits = w.scan.visits;
 })
 
--- after a look at a child
-unfoldable pub scanned : Walker → ℕ → Walker
-scanned w x = let scan = scan_next w.scan x in
+-- the scan has come so far: after its last look the walk goes to the child that was kept
+unfoldable pub with_scan : Walker → ScanData → Walker
+with_scan w scan =
     if nat_lt scan.place scan.count then record w { scan = scan }
     else chosen (record w { scan = scan })
+
+-- after a look at a child
+abbrev pub scanned : Walker → ℕ → Walker
+scanned w x = with_scan w (scan_next w.scan x)
+
+-- the adds to seen words have come so far
+abbrev pub with_climb : Walker → List CountAdd → Walker
+with_climb w left = on_way_up left (record w { climb = left })
 
 -- after a Claim: inside the area the block is held, else the node is the leaf
 unfoldable pub claimed : Walker → ℕ → Walker
@@ -175,8 +183,8 @@ risen (l ∷ way) w = let mover = other_of w.player in
     on_way_up seen (record w { way = way; node = l.parent; player = mover; climb = seen })
 
 -- after the add to a seen word
-unfoldable pub seen_on : Walker → Walker
-seen_on w = let left = adds_after w.climb in on_way_up left (record w { climb = left })
+abbrev pub seen_on : Walker → Walker
+seen_on w = with_climb w (adds_after w.climb)
 
 -- what the walker is after the answer x
 abbrev pub next_at : Stage → Walker → ℕ → Walker

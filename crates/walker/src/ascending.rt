@@ -1,7 +1,7 @@
 //! The way up: the adds of a walk, from its leaf to the root.
 
-ghost use Rattle.std.specs.Prelude.{◌≡◌, ◌<◌};
-ghost use Rattle.walker.specs.Machine.{on_way_up, risen, seen_on};
+ghost use Rattle.std.specs.Prelude.{◌≡◌, ◌≢◌, ◌<◌, MatchOption};
+ghost use Rattle.walker.specs.Machine.{on_way_up, risen, seen_on, with_climb};
 ghost use Rattle.walker.specs.Ways.{HasWords};
 
 use super::PAST_WORDS;
@@ -34,13 +34,33 @@ impl Walker {
     }
 
     /// After the add to a seen word.
-    #[tactic(auto, unfolding(crate::specs::Machine::seen_on))]
     #[inline(always)]
     pub(crate) fn see(&mut self)
         requires { self.old.node < PAST_WORDS }
         ensures { self.new ≡ seen_on self.old }
     {
         self.climb.got();
+        self.go_up();
+    }
+
+    /// The adds to the seen words of a block that are still to be made, where the walker is at them.
+    pub fn climb(&self) -> Option<Climb>
+        ensures { MatchOption result (self.now.stage ≢ Stage.Seeing)
+            (λ climb. (self.now.stage ≡ Stage.Seeing) × (climb ≡ self.now.climb)) }
+    {
+        match self.stage {
+            Stage::Seeing => Some(self.climb.again()),
+            _ => None,
+        }
+    }
+
+    /// Goes on with the adds that are left now, after some that were made by themselves. After the
+    /// last the tally of the level above is next.
+    pub fn put_climb(&mut self, climb: Climb)
+        requires { self.old.node < PAST_WORDS }
+        ensures { self.new ≡ with_climb self.old climb }
+    {
+        self.climb = climb;
         self.go_up();
     }
 

@@ -66,6 +66,17 @@ impl Climb {
         }
     }
 
+    /// The same adds.
+    pub fn again(&self) -> Climb
+        ensures { result ≡ self.now }
+    {
+        Climb {
+            first: self.first,
+            won: self.won,
+            left: self.left,
+        }
+    }
+
     /// The next add; Done where none is left.
     #[inline(always)]
     pub fn op(&self) -> Op

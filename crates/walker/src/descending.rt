@@ -1,9 +1,9 @@
 //! The way down: from the root to a node, by its link, its block's header and its children.
 
-ghost use Rattle.std.specs.Prelude.{◌≡◌, ◌<◌, ◌≤◌};
+ghost use Rattle.std.specs.Prelude.{◌≡◌, ◌≢◌, ◌<◌, ◌≤◌, MatchOption};
 ghost use Rattle.hex_board.specs.Positions.{Within};
 ghost use Rattle.walker.specs.Machine.{at_block, at_leaf, at_node, chosen, drawn, headed};
-ghost use Rattle.walker.specs.Machine.{linked, rooted, scanned, set_in};
+ghost use Rattle.walker.specs.Machine.{linked, rooted, scanned, set_in, with_scan};
 ghost use Rattle.walker.specs.Choosing.{MayChoose, MayScan};
 
 use super::PAST_WORDS;
@@ -120,7 +120,7 @@ impl Walker {
     }
 
     /// After a look at a child.
-    #[tactic(auto, unfolding(crate::specs::Machine::scanned))]
+    #[tactic(auto, unfolding(crate::specs::Machine::with_scan))]
     #[inline(always)]
     pub(crate) fn look(&mut self, answer: u64)
         requires { MayScan self.old answer }
@@ -128,6 +128,31 @@ impl Walker {
     {
         self.scan.got(answer);
         if self.scan.is_done() {
+            self.choose();
+        }
+    }
+
+    /// The scan of the block below the node, where the walker is in one.
+    pub fn scan(&self) -> Option<Scan>
+        ensures { MatchOption result (self.now.stage ≢ Stage.Scanning)
+            (λ scan. (self.now.stage ≡ Stage.Scanning) × (scan ≡ self.now.scan)) }
+    {
+        match self.stage {
+            Stage::Scanning => Some(self.scan.again()),
+            _ => None,
+        }
+    }
+
+    /// Goes on with the scan as it is now, after looks that it made by itself. After its last look
+    /// the walk goes to the child that was kept.
+    #[tactic(auto, unfolding(crate::specs::Machine::with_scan))]
+    pub fn put_scan(&mut self, scan: Scan)
+        requires { scan.count ≤ scan.place → MayChoose (record self.old { scan = scan }) }
+        ensures { self.new ≡ with_scan self.old scan }
+    {
+        let done = scan.is_done();
+        self.scan = scan;
+        if done {
             self.choose();
         }
     }

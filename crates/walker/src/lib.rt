@@ -11,7 +11,7 @@ mod stages;
 mod ways;
 
 pub use climbs::Climb;
-pub use machine::Walker;
+pub use machine::{WALK_STEPS, Walker};
 pub use scans::{Phase, Scan};
 pub use stages::Stage;
 pub use ways::{Level, Way};

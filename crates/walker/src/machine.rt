@@ -10,8 +10,32 @@ use super::ways::Way;
 use hex_board::Board;
 use hex_cells::Colour;
 use play_out::Ending;
-use tree_words::layout::{RECORD_UNIT, RECORDS_AT};
+use tree_words::layout::{HEADER_WORDS, MOST_BLOCK_WORDS, MOST_NODES, RECORD_UNIT, RECORDS_AT};
 use tree_words::{Op, Shape};
+
+/// The looks at a child: its move, its tally and its seen word.
+pub(crate) const CHILD_LOOKS: usize = 3;
+
+/// The looks at a block: its header and each of its children.
+pub(crate) const HEAD_STEPS: usize = HEADER_WORDS + CHILD_LOOKS * MOST_NODES;
+
+/// The steps of a level on the way down at most: the look at the link, a claim, the writes of a
+/// block, its link, and the looks at it.
+pub(crate) const LEVEL_STEPS: usize = 3 + MOST_BLOCK_WORDS + HEAD_STEPS;
+
+/// The steps of a level on the way up at most: the add to a tally, and those to the seen words of
+/// a block.
+pub(crate) const UP_STEPS: usize = 1 + MOST_NODES;
+
+/// The steps after the way up: the add to the root's tally and the record.
+pub(crate) const LAST_STEPS: usize = 2;
+
+/// No walk has more steps than this, its draw left out: the root's tally, a level for the root and
+/// for each cell, and the way up again.
+pub const WALK_STEPS: usize = 1
+    + LEVEL_STEPS * (1 + MOST_NODES)
+    + UP_STEPS * MOST_NODES
+    + LAST_STEPS;
 
 /// One worker of a search as a machine. It knows no table: it tells its next step, and is told the
 /// answer.
@@ -43,7 +67,7 @@ pub struct Walker {
 }
 
 impl Walker {
-    ghost use Rattle.std.specs.Prelude.{◌≡◌, ℕ, ◌≤◌, ◌↔◌, ◌⊎◌};
+    ghost use Rattle.std.specs.Prelude.{◌≡◌, ◌≢◌, ◌<◌, ◌≤◌, ◌↔◌, ◌⊎◌};
     ghost use Rattle.tree_words.specs.declared.steps.Op.{Op};
     ghost use Rattle.arena_rule.specs.Views.{SeatView, HasDrawnNothing};
     ghost use Rattle.arena_rule.specs.IsView.{IsView};
@@ -53,6 +77,7 @@ impl Walker {
     ghost use Rattle.walker.specs.Machine.{next, op_of};
     ghost use Rattle.walker.specs.Belongs.{Belongs, MayGet};
     ghost use Rattle.walker.specs.Choosing.{CanGo};
+    ghost use Rattle.walker.specs.Measure.{steps_left};
 
     /// A worker of the shape that has drawn nothing.
     pub fn new(shape: &Shape) -> Walker
@@ -98,6 +123,9 @@ impl Walker {
         ensures is { self.new ≡ next self.old answer }
         ensures belongs { (v : SeatView) → Belongs self.old v → MayAnswer v (op_of self.old) answer
             → Belongs self.new (after v (op_of self.old) answer) }
+        ensures fewer { op_of self.old ≢ Op.Draw → op_of self.old ≢ Op.Done
+            → steps_left self.new < steps_left self.old }
+        ensures bound { op_of self.old ≡ Op.Draw → steps_left self.new ≤ WALK_STEPS }
         ensures ended { (op_of self.new ≡ Op.Done) ↔ ((op_of self.old ≡ Op.Done)
             ⊎ ((op_of self.old ≡ Op.Draw) × (self.old.shape.knobs.playouts ≤ answer))) }
     {
