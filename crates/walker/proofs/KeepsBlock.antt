@@ -118,7 +118,8 @@ module _ (w : Walker) (v : SeatView) (b : Belongs w v) (x : ℕ) where
         (ap (λ (z : SeatView). z.ended) e) (ap (λ (z : SeatView). z.ticket) e) (ap (λ (z : SeatView). z.adds) e) in
         leaf-belongs (record w { full = true }) u (shape ∙ b.shape) iu one full
         (leaf-stands (record w { full = true }) u (shape ∙ b.shape) (one-order u iu one) iu.known down
-        (ap (λ (z : SeatView). z.held) e ∙ a.held) (λ z. a.may.below (z ∙ ap root_at shape)) (inr (inr full)))
+        (ap (λ (z : SeatView). z.held) e ∙ a.held) (λ z. a.may.below (z ∙ ap root_at shape))
+        (inl (ap (λ (z : SeatView). link_of z.known w.node) e ∙ a.may.vacant)) (inr (inr full)))
 
     pub keeps-claim : Belongs (claimed w x) (after v (Claim (size_below (state_in w))) x)
     keeps-claim =

@@ -169,7 +169,7 @@ module _ (w : Walker) (v : SeatView) (b : Belongs w v) (x : ℕ) where
     link-leaf e t =
         let u : SeatView = after v (Look w.at) x in
         let empties : length (empties_of w.board) ≡ empties_at u w.node = ap (λ (p : NodeState). length (empties_of p.board)) link-down.is in
-        leaf-stands w u b.shape uorder iu.known link-down a.held (link-below e)
+        leaf-stands w u b.shape uorder iu.known link-down a.held (link-below e) (inl (ap (λ (ks : List LinkedBlock). link_of ks w.node) (link-known e) ∙ link-vacant e))
         (⊎_elim
         (λ (f : nat_le w.shape.knobs.expand w.visits ≡ false). let l = not-less w.shape.knobs.expand w.visits f in
         inl (omega (arith, l, link-down.counted, ap (λ (s : Setting). s.knobs.expand) b.shape)))
@@ -241,7 +241,7 @@ module _ (w : Walker) (v : SeatView) (b : Belongs w v) (x : ℕ) where
         let ne = head-below e in
         let empties : cells_in w ≡ empties_of (node_board v.shape (after v (Look w.at) x).known w.node)
         = head-cells ∙ ap (λ (t : Bool). cond t (allowed_cells v.shape) (empties_of (node_board v.shape (after v (Look w.at) x).known w.node))) (ne_eqb w.node (root_at v.shape) ne) in
-        leaf-stands w (after v (Look w.at) x) b.shape horder iu.known head-down a.held ne (inr (inl (sym (ap length empties) ∙ e)))
+        leaf-stands w (after v (Look w.at) x) b.shape horder iu.known head-down a.held ne (inr (sym (ap length empties) ∙ e)) (inr (inl (sym (ap length empties) ∙ e)))
 
     head-scan : 0 < length (cells_in w) → AtChild (record w { stage = Scanning; scan = scan_of w.start (length (cells_in w)) w.visits w.shape.knobs.weight }) (after v (Look w.at) x)
     unfolding with_word looked

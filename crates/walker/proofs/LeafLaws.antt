@@ -26,7 +26,7 @@ use Rattle.arena_rule.specs.IsView.{AreTold, IsView}
 use Rattle.walker.specs.declared.ways.Level.{Level}
 use Rattle.walker.specs.declared.machine.Walker.{Walker}
 use Rattle.walker.specs.Machine.{state_in, set_below, cells_in, at_leaf}
-use Rattle.walker.specs.Belongs.{Belongs, OnWay, Down, Leaves, AtTally}
+use Rattle.walker.specs.Belongs.{Belongs, OnWay, Down, Leaves, AtTally, IsBare}
 use Rattle.walker.proofs.KnownLaws.{node-not-root}
 
 -- each node of a way's path was chosen
@@ -85,10 +85,10 @@ module _ (w : Walker) (v : SeatView) (shape : v.shape ≡ w.shape) (g : InOrder 
   adds-are e = ap (λ (o : Ending). (adds_up v.shape o v.known w.node).adds) e
 
   -- the node is the leaf
-  pub leaf-stands : Down w v → v.held ≡ None → w.node ≢ root_at v.shape
+  pub leaf-stands : Down w v → v.held ≡ None → w.node ≢ root_at v.shape → IsBare v w.node
       → (((tally_loaded v w.node).visits < v.shape.knobs.expand) ⊎ ((empties_at v w.node ≡ 0) ⊎ (v.full ≡ true))) → AtTally (at_leaf w) v
   unfolding at_leaf
-  leaf-stands d held ne ends =
+  leaf-stands d held ne bare ends =
       let ending : outcome_of w.shape w.number (state_in w) ≡ outcome_of v.shape w.number (node_state v.shape v.known w.node)
       = λ i. outcome_of (sym shape i) w.number (d.is i) in
       let may : MayBegin v w.node = record {
@@ -105,7 +105,7 @@ module _ (w : Walker) (v : SeatView) (shape : v.shape ≡ w.shape) (g : InOrder 
           way = d.on_way;
         };
         at = refl;
-        left = subst (λ (o : Option Flight). Leaves (at_leaf w) v o (adds_up v.shape (outcome_of w.shape w.number (state_in w)) v.known w.node).adds) (sym d.adds) (may, refl, left);
+        left = subst (λ (o : Option Flight). Leaves (at_leaf w) v o (adds_up v.shape (outcome_of w.shape w.number (state_in w)) v.known w.node).adds) (sym d.adds) (may, refl, left, bare);
       }
 
 -- and the view belongs to the walker there

@@ -1,5 +1,5 @@
 -- Which views belong to a walker.
-use Rattle.std.specs.Prelude.{◌≡◌, ◌≢◌, ℕ, ◌+◌, ◌-◌, ◌<◌, ◌≤◌, true, false, List, [], ◌∷◌, ◌++◌, length, map, take, drop, Option, Some, None, slice_get}
+use Rattle.std.specs.Prelude.{◌≡◌, ◌≢◌, ℕ, ◌+◌, ◌-◌, ◌<◌, ◌≤◌, true, false, List, [], ◌∷◌, ◌++◌, length, map, take, drop, Option, Some, None, slice_get, ◌⊎◌}
 use Rattle.uct_table.specs.Choice.{Child, score_in, kept_of, kept_from}
 use Rattle.play_out.specs.Fills.{empties_of}
 use Rattle.tree_words.specs.Words.{root_at, count_in}
@@ -12,7 +12,7 @@ use Rattle.tree_words.specs.Walks.{AtMost}
 use Rattle.tree_words.specs.declared.layout.TheConstants.{HEADER_WORDS, LINK_WORD, TALLY_WORD, SEEN_WORD, MOST_NODES}
 use Rattle.arena_rule.specs.Views.{SeatView, Flight}
 use Rattle.arena_rule.specs.Adds.{CountAdd, adds_up, walk_adds}
-use Rattle.arena_rule.specs.Lookups.{is_known, known_link, IsLoaded, load_of, tally_loaded, seen_loaded}
+use Rattle.arena_rule.specs.Lookups.{is_known, known_link, IsLoaded, load_of, tally_loaded, seen_loaded, empties_at}
 use Rattle.arena_rule.specs.Fits.{IsChosen, MayBegin, block_words}
 use Rattle.arena_rule.specs.Answers.{MayAnswer}
 use Rattle.arena_rule.specs.IsView.{IsView}
@@ -123,11 +123,16 @@ pub record IsScan (w : Walker) (v : SeatView) (b : LinkedBlock) : Type 0 where
   pub few : w.scan.visits ≤ v.shape.knobs.playouts
   pub keeps : Keeps w.scan (children_loaded v b w.scan.place)
 
+-- no block is known below x, or its board is full
+abbrev pub IsBare : SeatView → ℕ → Type 0
+IsBare v x = (known_link v x ≡ 0) ⊎ (empties_at v x ≡ 0)
+
 -- the walk has its leaf and goes up: these adds are left, of those that its playout gives; before
 -- the first the walk stands at its leaf and may begin
 abbrev pub Leaves : Walker → SeatView → Option Flight → List CountAdd → Type 0
 Leaves w v None left =
     MayBegin v w.leaf × (w.leaf ≡ w.node) × (left ≡ walk_adds v.shape v.known w.number w.leaf)
+    × IsBare v w.leaf
 Leaves w v (Some f) left =
     (f.leaf ≡ w.leaf) × (left ≡ drop f.made (walk_adds v.shape v.known w.number w.leaf))
     × (f.made + length left ≡ length (walk_adds v.shape v.known w.number w.leaf))
