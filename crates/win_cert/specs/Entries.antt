@@ -1,5 +1,5 @@
 -- Entries in scopes: what each line gives.
-use Rattle.std.specs.Prelude.{◌≡◌, ℕ, ◌==◌, ◌&&◌, ◌||◌, Bool, true, false, List, [], ◌∷◌, ◌++◌, Option, Some, None, zero, suc, max, min, bit_or, if◌then◌else◌}
+use Rattle.std.specs.Prelude.{ℕ, ◌==◌, ◌||◌, Bool, true, false, List, [], ◌∷◌, ◌++◌, Option, Some, None, zero, suc, max, min, bit_or, if◌then◌else◌}
 use Rattle.std.specs.List.{filter_map, slice_get}
 use Rattle.std.specs.Option.{option_and_then, option_flatten, option_map}
 use Rattle.hex_cells.specs.Sets.{with_cell}
@@ -50,8 +50,8 @@ entry_between c kind x y carrier =
 
 -- the entry of the player's edges in the line's scope
 abbrev pub edge_entry : Context → Kind → ℕ → ScopedEntry
-edge_entry c kind carrier =
-    entry_between c kind (edge_element (elements_at c) false) (edge_element (elements_at c) true) carrier
+edge_entry c kind carrier = entry_between c kind
+    (edge_element (elements_at c) false) (edge_element (elements_at c) true) carrier
 
 -- the element that an end of a connection names: none for a stone of the opponent
 abbrev pub end_element : PlayerBoard → End → Option ℕ
@@ -123,17 +123,20 @@ gives c Done = Some (edge_entry c Full 0)
 gives c (Move k i) = move_entry c k (entries_at c (i ∷ []))
 gives c (Cases numbers) = Some (edge_entry c Full (carriers_of (entries_at c numbers)))
 
--- what each of the first k lines gives, each read over those before it
+-- line k, read over what the lines before it give
+abbrev pub context_over : Cert → ℕ → List (Option ScopedEntry) → Context
+context_over cert k earlier =
+    record { base = player_board cert; scope = scope_at cert k; earlier = earlier }
+
+-- what each of the first k lines gives, where each is read over those before it
 abbrev pub entries_below : Cert → ℕ → List (Option ScopedEntry)
 entries_below cert zero = []
 entries_below cert (suc k) = entries_below cert k ++ option_and_then
-    (gives (record { base = player_board cert; scope = scope_at cert k; earlier = entries_below cert k }))
-    (slice_get cert.lines k) ∷ []
+    (gives (context_over cert k (entries_below cert k))) (slice_get cert.lines k) ∷ []
 
--- what line k is read over
+-- what line k, or the claim, is read over
 abbrev pub context_at : Cert → ℕ → Context
-context_at cert k = record
-    { base = player_board cert; scope = scope_at cert k; earlier = entries_below cert k }
+context_at cert k = context_over cert k (entries_below cert k)
 
 -- with his stones on the board of the entry's scope the player is sure of linking the entry's
 -- elements inside its carrier

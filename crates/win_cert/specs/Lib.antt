@@ -6,3 +6,5 @@ pub mod Entries
 pub mod Statements
 pub mod Reasons
 pub mod Verdicts
+pub mod Cuts
+pub mod Laws

@@ -1,5 +1,5 @@
 -- The thirteen reasons against a derivation line or the claim, and their order.
-use Rattle.std.specs.Prelude.{◌≡◌, ℕ, ◌==◌, ◌&&◌, ◌||◌, not, Bool, true, false, List, [], ◌∷◌, Option}
+use Rattle.std.specs.Prelude.{ℕ, ◌==◌, ◌&&◌, ◌||◌, not, Bool, true, false, List, [], ◌∷◌, Option}
 use Rattle.std.specs.List.{find, list_all, list_any}
 use Rattle.std.specs.Option.{is_none, is_some, option_map_or}
 use Rattle.hex_cells.specs.Sets.{has}
@@ -124,5 +124,5 @@ applies c s wrong_scope = is_wrong_scope c s
 applies c s not_joined = is_not_joined c s
 
 -- the first reason, in that order, that applies to a statement
-abbrev pub reason_against : Context → Statement → Option Reason
+unfoldable pub reason_against : Context → Statement → Option Reason
 reason_against c s = find (applies c s) order

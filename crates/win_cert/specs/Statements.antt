@@ -67,7 +67,8 @@ takes_edges (claim kind i) = true
 -- the kind of entry that a statement takes
 abbrev pub kind_taken : Statement → Kind
 kind_taken (claim kind i) = kind
-kind_taken (derivation line) = if is_or (derivation line) || is_cases (derivation line) then Semi else Full
+kind_taken (derivation line) =
+    if is_or (derivation line) || is_cases (derivation line) then Semi else Full
 
 -- the scope in which a statement takes entries: for `move` its own with the cell too, for the claim
 -- the empty one, else its own

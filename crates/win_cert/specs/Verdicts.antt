@@ -1,5 +1,5 @@
 -- Which certificates are accepted, and what a checker answers.
-use Rattle.std.specs.Prelude.{◌≡◌, ℕ, ◌<◌, List, [], ◌∷◌, ◌++◌, Option, Some, None, length, map}
+use Rattle.std.specs.Prelude.{◌≡◌, ℕ, ◌<◌, ◌↔◌, List, [], ◌∷◌, ◌++◌, Option, Some, None, length, map}
 use Rattle.std.specs.List.{slice_get}
 use Rattle.std.specs.Option.{option_and_then}
 use Rattle.conn_store.specs.declared.entries.Kind.{Kind}
@@ -7,6 +7,7 @@ use Rattle.win_cert.specs.Entries.{ScopedEntry, context_at, entry_at}
 use Rattle.win_cert.specs.Reasons.{Reason, reason_against}
 use Rattle.win_cert.specs.Statements.{Statement, claim, derivation}
 use Rattle.win_cert.specs.declared.certs.Cert.{Cert}
+use Rattle.win_cert.specs.declared.certs.TheConstants.{LATEST_VERSION}
 
 -- the derivation lines, and then the claim
 abbrev pub statements_of : Cert → List Statement
@@ -15,7 +16,8 @@ statements_of cert = map derivation cert.lines ++ claim cert.claim cert.entry �
 -- the first reason against statement k, if there is one; the claim has the number after the last
 -- line
 abbrev pub reason_at : Cert → ℕ → Option Reason
-reason_at cert k = option_and_then (reason_against (context_at cert k)) (slice_get (statements_of cert) k)
+reason_at cert k =
+    option_and_then (reason_against (context_at cert k)) (slice_get (statements_of cert) k)
 
 -- there is no reason against a line or the claim
 abbrev pub Accepted : Cert → Type 0
@@ -39,3 +41,11 @@ IsVerdict cert (yes kind carrier) =
     × (a : ScopedEntry) × (claimed_entry cert ≡ Some a) × (carrier ≡ a.carrier)
 IsVerdict cert (no k reason) =
     (reason_at cert k ≡ Some reason) × ((j : ℕ) → j < k → reason_at cert j ≡ None)
+
+-- the certificate with the latest version, and all else as it was
+abbrev pub raised : Cert → Cert
+raised cert = record cert { version = LATEST_VERSION }
+
+-- there are the same verdicts on the two certificates
+abbrev pub HaveSameVerdict : Cert → Cert → Type 0
+HaveSameVerdict a b = (v : Verdict) → IsVerdict a v ↔ IsVerdict b v

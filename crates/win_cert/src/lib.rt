@@ -7,9 +7,13 @@
 #![tactic(auto)]
 
 mod certs;
+mod cutting;
+mod laws;
 mod lines;
 mod lists;
+mod raising;
 mod refusals;
+mod texts;
 
 pub use certs::{Cert, FIRST_VERSION, LATEST_VERSION, MOST_LINES};
 pub use lines::{End, LEAST_CASES, Line, Lines, MOST_CASES, MOST_NUMBER};
