@@ -1,1 +1,4 @@
 mod Vectors
+pub mod ScopeBoards
+pub mod GoodEntries
+pub mod EdgeEntries
