@@ -2,3 +2,6 @@ mod Vectors
 pub mod ScopeBoards
 pub mod GoodEntries
 pub mod EdgeEntries
+pub mod NamedEntries
+pub mod ChainLines
+pub mod CaseLines
