@@ -5,3 +5,4 @@ pub mod EdgeEntries
 pub mod NamedEntries
 pub mod ChainLines
 pub mod CaseLines
+pub mod LineTruth

@@ -105,7 +105,7 @@ named_all c s (i ∷ numbers) h =
     let t = and_parts (may_take s (entry_at c i)) (list_all (λ j. may_take s (entry_at c j)) numbers) h in
     named_one c s i (entry_at c i) (filter_map (entry_at c) numbers) refl t.0 (named_all c s numbers t.1)
 
-not_false : (b : Bool) → not b ≡ false → b ≡ true
+pub not_false : (b : Bool) → not b ≡ false → b ≡ true
 not_false true h = refl
 not_false false h = absurd (false≢true (sym h))
 
