@@ -6,3 +6,6 @@ pub mod NamedEntries
 pub mod ChainLines
 pub mod CaseLines
 pub mod LineTruth
+pub mod LineScopes
+pub mod AcceptedLaw
+pub mod ScopedTruth
