@@ -1,5 +1,5 @@
 -- An accepted certificate gives good entries, and its player wins as it claims.
-use Rattle.std.proofs.Common.{◌≡◌, ℕ, ◌+◌, ◌<◌, ◌≤◌, ◌==◌, ◌&&◌, not, true, false, Bool, List, [], ◌∷◌, ◌++◌, Option, Some, None, length, map, take, option_map, option_and_then, refl, sym, ◌∙◌, ap, subst, zero, suc, inl, inr, ◌⊎◌, arith}
+use Rattle.std.proofs.Common.{◌≡◌, ℕ, ◌<◌, ◌==◌, ◌&&◌, not, true, false, List, [], ◌∷◌, ◌++◌, Option, Some, None, length, map, take, option_map, option_and_then, refl, sym, ◌∙◌, ap, subst, zero, suc, inl, inr, ◌⊎◌, arith}
 use Rattle.std.specs.List.{cons_option, list_all, list_any, slice_get}
 use Rattle.std.specs.Option.{option_flatten}
 use Rattle.std.proofs.lemmas.Bool.{and_from, and_parts, both_ways, false≢true, true_from_ne_false, not_from_false}
@@ -26,8 +26,8 @@ use Rattle.win_cert.specs.Laws.{WinsAsClaimed, first_mover}
 use Rattle.win_cert.specs.Reasons.{bad_reference, bad_stone, not_edges, reason_against}
 use Rattle.win_cert.specs.Scopes.{elements_in, player_board, scope_after, scope_at}
 use Rattle.hex_cells.proofs.Bits.{has_none}
-use Rattle.win_cert.specs.Statements.{Statement, cell_numbers, claim, derivation, entries_named, is_edge_entry, may_take}
-use Rattle.win_cert.specs.Verdicts.{Accepted, statements_of}
+use Rattle.win_cert.specs.Statements.{Statement, cell_numbers, claim, derivation, is_edge_entry, may_take}
+use Rattle.win_cert.specs.Verdicts.{Accepted}
 use Rattle.win_cert.specs.Writable.{HasBoard}
 use Rattle.win_cert.specs.declared.certs.Cert.{Cert}
 use Rattle.win_cert.specs.declared.lines.Line.{Line}
@@ -36,8 +36,8 @@ use Rattle.win_cert.proofs.CaseLines.{edges_good}
 use Rattle.win_cert.proofs.EdgeEntries.{IsGoodOfEdges}
 use Rattle.win_cert.proofs.GoodEntries.{IsGood}
 use Rattle.win_cert.proofs.LineScopes.{given_scope}
-use Rattle.win_cert.proofs.LineTruth.{IsRead, read_good}
-use Rattle.win_cert.proofs.NamedEntries.{Each, GaveGood, IsGoodEntry, IsTaken, none_applies, not_false, taken}
+use Rattle.win_cert.proofs.LineTruth.{read_good}
+use Rattle.win_cert.proofs.NamedEntries.{Each, GaveGood, IsTaken, none_applies, not_false, taken}
 use Rattle.win_cert.proofs.ScopeBoards.{IsSmallBoard, no_scope, no_scope_stones, scope_empty, scope_size, scope_small}
 
 -- ---- the certificate's board
@@ -168,9 +168,11 @@ claim_good c kind i g h =
     let a = w.0 in
     let e = elements_in c.base 0 in
     let good : IsGood e kind a.x a.y a.carrier = subst (λ v. IsGood e v a.x a.y a.carrier) all.0.named.kind_is
-    (subst (λ v. IsGood (elements_in c.base v) a.kind a.x a.y a.carrier) all.0.scope_is all.0.good) in
-    (a, edges_good e kind a (subst (λ v. (a.x == edge_element (elements_in c.base v) false && a.y == edge_element (elements_in c.base v) true) ≡ true) all.0.scope_is
-    (and_parts (is_edge_entry c.base a) true edges).0) good)
+    (subst (λ v. IsGood (elements_in c.base v) a.kind a.x a.y a.carrier) all.0.scope_is all.0.good) in (
+      a,
+      edges_good e kind a (subst (λ v. (a.x == edge_element (elements_in c.base v) false && a.y == edge_element (elements_in c.base v) true) ≡ true) all.0.scope_is
+          (and_parts (is_edge_entry c.base a) true edges).0) good,
+    )
 
 pub accepted_wins : (cert : Cert) → HasBoard cert → Accepted cert → WinsAsClaimed cert
 accepted_wins cert b h =

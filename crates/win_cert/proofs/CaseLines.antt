@@ -1,6 +1,6 @@
 -- The lines `or` and `cases`: semi entries of one pair of elements give a full one, where no cell
 -- is in all their carriers.
-use Rattle.std.proofs.Common.{◌≡◌, ℕ, ◌+◌, ◌<◌, ◌≤◌, ◌==◌, ◌&&◌, true, false, Bool, List, [], ◌∷◌, Some, bit_or, refl, sym, ◌∙◌, ap, subst, inl, inr, suc, arith}
+use Rattle.std.proofs.Common.{◌≡◌, ℕ, ◌<◌, ◌==◌, ◌&&◌, true, false, List, [], ◌∷◌, Some, sym, ◌∙◌, subst, inl, inr, suc, arith}
 use Rattle.std.specs.List.{list_all}
 use Rattle.std.proofs.lemmas.Bool.{and_cases, and_parts, both_ways, eqb-true, false_from_ne_true, false≢true}
 use Rattle.hex_cells.specs.Sets.{has, members}
@@ -20,7 +20,7 @@ use Rattle.win_cert.specs.Scopes.{elements_in}
 use Rattle.win_cert.specs.Statements.{Statement, have_same_ends, is_edge_entry, kind_taken, same_ends, scope_taken, share_cell}
 use Rattle.win_cert.proofs.ChainLines.{given_is, taken_good}
 use Rattle.win_cert.proofs.EdgeEntries.{IsGoodOfEdges}
-use Rattle.win_cert.proofs.GoodEntries.{IsGood, Leaves, concluded, good_between, none_empty, none_missed, sure_by_cases}
+use Rattle.win_cert.proofs.GoodEntries.{IsGood, concluded, good_between, none_empty, none_missed, sure_by_cases}
 use Rattle.win_cert.proofs.NamedEntries.{Each, IsGoodEntry, IsTaken, each_both, each_passes}
 use Rattle.win_cert.proofs.ScopeBoards.{IsSmallBoard, empty_small}
 

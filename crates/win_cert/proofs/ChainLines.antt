@@ -1,11 +1,11 @@
 -- The lines `and` and `key`: what they give of good entries that share an element is good.
-use Rattle.std.proofs.Common.{◌≡◌, ℕ, ◌+◌, ◌<◌, ◌≤◌, ◌==◌, ◌&&◌, ◌||◌, not, true, false, Bool, List, [], ◌∷◌, Option, Some, None, bit_or, if◌then◌else◌, cond, option_and_then, option_map, refl, sym, ◌∙◌, ap, subst, inl, inr, ◌⊎◌, arith}
+use Rattle.std.proofs.Common.{◌≡◌, ℕ, ◌<◌, ◌==◌, ◌&&◌, ◌||◌, true, false, Bool, List, [], ◌∷◌, Option, Some, None, bit_or, if◌then◌else◌, cond, option_and_then, option_map, refl, sym, ◌∙◌, ap, subst, inl, inr, ◌⊎◌, arith}
 use Rattle.std.specs.Int.Bits.{or_zero_r}
 use Rattle.std.specs.List.{find, list_all}
 use Rattle.std.specs.Option.{is_some, option_map_or}
 use Rattle.std.proofs.lemmas.Bool.{and_from, and_parts, both_ways, cases_eq, eq-eqb, eqb-true, false_from_ne_true, false≢true, ne_eqb, or_cases, or_parts}
 use Rattle.hex_cells.specs.Sets.{has, with_cell}
-use Rattle.hex_board.specs.Elements.{PlayerBoard, HasCell}
+use Rattle.hex_board.specs.Elements.{PlayerBoard}
 use Rattle.hex_board.specs.Joined.{cells_of}
 use Rattle.hex_board.specs.Places.{at_cell, cell_of, is_member}
 use Rattle.hex_board.specs.Positions.{is_empty_at}

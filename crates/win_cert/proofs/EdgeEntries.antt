@@ -1,11 +1,11 @@
 -- Entries of the player's edges: where he is joined, and after a stone of his.
-use Rattle.std.proofs.Common.{◌≡◌, ℕ, ◌+◌, ◌<◌, true, false, Bool, List, [], ◌∷◌, Some, refl, sym, ◌∙◌, ap, subst, inl, inr, suc, arith}
+use Rattle.std.proofs.Common.{◌≡◌, ℕ, ◌+◌, ◌<◌, true, false, Bool, List, [], ◌∷◌, refl, sym, ◌∙◌, subst, inl, inr, suc, arith}
 use Rattle.std.specs.List.{count_by, range_with_len}
 use Rattle.hex_cells.specs.Sets.{has, members, with_cell, without_cell}
 use Rattle.hex_cells.specs.Edges.{on_edge}
 use Rattle.hex_cells.specs.declared.colours.Colour.{Colour}
 use Rattle.hex_cells.proofs.WithCell.{with_cell-here, with_cell-keeps}
-use Rattle.hex_board.specs.Elements.{PlayerBoard, HasCell, are_joined, edge_element, edge_elements, head_element, is_head}
+use Rattle.hex_board.specs.Elements.{PlayerBoard, are_joined, edge_element, edge_elements, head_element, is_head}
 use Rattle.hex_board.specs.Joined.{Joined, Path, last_of}
 use Rattle.hex_board.specs.Places.{Place, at_cell, at_edge, IsMember, Route, last_place}
 use Rattle.hex_board.specs.Positions.{is_empty_at, stones_of}
@@ -21,7 +21,7 @@ use Rattle.conn_store.proofs.Sureness.{sure_more, without_keeps}
 use Rattle.conn_store.proofs.Ways.{linked_kept}
 use Rattle.win_cert.specs.Scopes.{elements_in}
 use Rattle.win_cert.proofs.GoodEntries.{IsGood, concluded, empty_more, good_linked}
-use Rattle.win_cert.proofs.ScopeBoards.{IsSmallBoard, scope_fewer, scope_more, scope_size, scope_stones}
+use Rattle.win_cert.proofs.ScopeBoards.{IsSmallBoard, scope_fewer, scope_more, scope_size}
 
 -- the entry of the player's edges
 abbrev pub IsGoodOfEdges : PlayerBoard → Kind → ℕ → Type 0

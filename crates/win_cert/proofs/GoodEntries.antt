@@ -1,6 +1,6 @@
 -- Entries that are true and whose carriers are empty cells outside their elements: what the rules
 -- of adjacent elements, of chains and of cases give of them.
-use Rattle.std.proofs.Common.{◌≡◌, ℕ, ◌+◌, ◌<◌, ◌≤◌, min, max, bit_or, true, false, Bool, List, [], ◌∷◌, refl, sym, ◌∙◌, ap, subst, inl, inr, ◌⊎◌, zero, suc, arith}
+use Rattle.std.proofs.Common.{◌≡◌, ℕ, ◌+◌, min, max, bit_or, true, false, sym, ◌∙◌, subst, inl, inr, ◌⊎◌, zero, suc, arith}
 use Rattle.std.proofs.lemmas.Bool.{cases_lt, both_ways, false_from_ne_true}
 use Rattle.hex_cells.specs.Sets.{has, members, with_cell, without_cell}
 use Rattle.hex_cells.proofs.Bits.{has_none}

@@ -1,6 +1,6 @@
 -- What a line gives stands in the line's scope.
 use Rattle.std.proofs.Common.{◌≡◌, ℕ, List, [], ◌∷◌, Option, Some, None, option_map, option_and_then, refl, subst}
-use Rattle.win_cert.specs.Entries.{Context, ScopedEntry, adj_entry, and_entry, edge_entry, elements_at, end_element, entries_at, entry_between, gives, key_entry, middle_of, move_entry, or_entry}
+use Rattle.win_cert.specs.Entries.{Context, ScopedEntry, adj_entry, and_entry, elements_at, end_element, entries_at, gives, key_entry, middle_of, move_entry, or_entry}
 use Rattle.win_cert.specs.declared.lines.Line.{Line}
 use Rattle.win_cert.specs.declared.lines.Line.TheVariants.{Adj, And, Key, Or2, Or3, Put, Done, Move, Cases}
 use Rattle.hex_board.specs.Places.{cell_of}

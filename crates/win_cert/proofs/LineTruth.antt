@@ -1,28 +1,27 @@
 -- What a line gives is good, where the lines before it give good entries and no reason is against
 -- it.
-use Rattle.std.proofs.Common.{◌≡◌, ℕ, ◌*◌, ◌<◌, ◌==◌, ◌&&◌, not, true, false, Bool, List, [], ◌∷◌, Option, Some, None, refl, sym, ◌∙◌, ap, subst}
+use Rattle.std.proofs.Common.{◌≡◌, ℕ, ◌==◌, ◌&&◌, not, true, false, Bool, List, [], ◌∷◌, Option, Some, None, refl, sym, subst}
 use Rattle.std.specs.List.{list_all, list_any}
-use Rattle.std.specs.Option.{is_some}
 use Rattle.std.proofs.lemmas.Bool.{and_parts, both_ways, eq-eqb, false≢true, not-true}
-use Rattle.hex_cells.specs.Sets.{has, with_cell}
+use Rattle.hex_cells.specs.Sets.{with_cell}
 use Rattle.hex_board.specs.Elements.{PlayerBoard, are_joined, edge_element}
-use Rattle.hex_board.specs.Places.{Place, Near, are_beside, cell_of, is_member, is_near, places_of}
+use Rattle.hex_board.specs.Places.{Place, Near, are_beside, is_member, is_near, places_of}
 use Rattle.hex_board.specs.Positions.{Within, is_empty_at}
 use Rattle.hex_board.proofs.Placed.{empty_on}
 use Rattle.hex_board.proofs.Places.{beside_out, member_out, place_out}
 use Rattle.conn_store.specs.Entries.{AllEmpty}
 use Rattle.conn_store.specs.declared.entries.Kind.TheVariants.{Full, Semi}
 use Rattle.win_cert.specs.Entries.{Context, ScopedEntry, adj_entry, carriers_of, edge_entry, elements_at, end_element, entries_at, entry_between, gives, move_entry}
-use Rattle.win_cert.specs.Reasons.{Reason, applies, bad_stone, carriers_meet, common_cell, end_in_carrier, ends_differ, middle_kind, not_edges, not_joined, not_neighbours, reason_against}
+use Rattle.win_cert.specs.Reasons.{Reason, applies, bad_stone, carriers_meet, common_cell, end_in_carrier, ends_differ, middle_kind, not_edges, not_joined, not_neighbours}
 use Rattle.win_cert.specs.Scopes.{elements_in}
-use Rattle.win_cert.specs.Statements.{Statement, derivation, are_near, have_same_ends, is_edge_entry, numbers_in, scope_taken}
+use Rattle.win_cert.specs.Statements.{derivation, are_near, have_same_ends, is_edge_entry, numbers_in, scope_taken}
 use Rattle.win_cert.specs.declared.lines.Line.{Line}
 use Rattle.win_cert.specs.declared.lines.Line.TheVariants.{Adj, And, Key, Or2, Or3, Put, Done, Move, Cases}
 use Rattle.win_cert.proofs.CaseLines.{cases_good, edges_good, or_good}
 use Rattle.win_cert.proofs.ChainLines.{and_good, given_is, key_good}
 use Rattle.win_cert.proofs.EdgeEntries.{IsGoodOfEdges, good_done, good_move}
 use Rattle.win_cert.proofs.GoodEntries.{IsGood, good_between, good_near}
-use Rattle.win_cert.proofs.NamedEntries.{Each, GaveGood, IsGoodEntry, IsTaken, none_applies, not_false, taken}
+use Rattle.win_cert.proofs.NamedEntries.{Each, GaveGood, IsGoodEntry, IsTaken, not_false, taken}
 use Rattle.win_cert.proofs.ScopeBoards.{IsSmallBoard, scope_grown, scope_small}
 
 -- ---- `adj`

@@ -1,6 +1,6 @@
 -- What a statement names, where no reason is against it: good entries of the kind and in the scope
 -- that it takes.
-use Rattle.std.proofs.Common.{◌≡◌, ℕ, ◌+◌, ◌<◌, ◌≤◌, ◌==◌, ◌&&◌, ◌||◌, not, true, false, Bool, List, [], ◌∷◌, Option, Some, None, cond, refl, sym, ◌∙◌, ap, subst, zero, suc}
+use Rattle.std.proofs.Common.{◌≡◌, ℕ, ◌==◌, ◌&&◌, ◌||◌, not, true, false, Bool, List, [], ◌∷◌, Option, Some, None, cond, refl, sym, ◌∙◌, ap, subst, zero, suc}
 use Rattle.std.specs.List.{cons_option, filter_map, find, list_all, slice_get}
 use Rattle.std.proofs.lemmas.Bool.{and_from, and_parts, both_ways, eqb-true, eq-eqb, false≢true, not-true}
 use Rattle.hex_board.specs.Elements.{PlayerBoard}
