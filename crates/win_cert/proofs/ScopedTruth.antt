@@ -14,7 +14,7 @@ use Rattle.win_cert.specs.Writable.{HasBoard, IsLineOf, IsWritable}
 use Rattle.win_cert.specs.declared.certs.Cert.{Cert}
 use Rattle.win_cert.specs.declared.lines.Line.{Line}
 use Rattle.win_cert.specs.declared.lines.Line.TheVariants.{Put}
-use Rattle.win_cert.proofs.AcceptedLaw.{each_scope, gave_good, given_by}
+use Rattle.win_cert.proofs.GivenEntries.{each_scope, gave_good, given_by}
 use Rattle.win_cert.proofs.LineScopes.{given_scope}
 
 line_of : (P : Line → Type 0) (lines : List Line) (i : ℕ) (line : Line) → All P lines → slice_get lines i ≡ Some line → P line
