@@ -1,4 +1,5 @@
 mod Vectors
+pub mod StonesOn
 pub mod ScopeBoards
 pub mod GoodEntries
 pub mod EdgeEntries
