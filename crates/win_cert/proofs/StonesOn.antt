@@ -1,7 +1,7 @@
 -- Stones off the board change no element: a board and the same one without them have the same ones.
-use Rattle.std.proofs.Common.{◌≡◌, ℕ, ◌+◌, ◌-◌, ◌*◌, ◌%◌, ◌^◌, ◌<◌, ◌≤◌, ◌==◌, ◌&&◌, ◌||◌, not, nat_lt, true, false, Bool, List, [], ◌∷◌, Option, Some, None, cond, if◌then◌else◌, option_map, bit_and, refl, sym, ◌∙◌, ap, subst, zero, suc, inl, inr, ◌⊎◌, arith}
+use Rattle.std.proofs.Common.{◌≡◌, ℕ, ◌+◌, ◌*◌, ◌%◌, ◌^◌, ◌<◌, ◌≤◌, ◌==◌, ◌&&◌, ◌||◌, not, nat_lt, true, false, Bool, List, [], ◌∷◌, Option, Some, None, cond, if◌then◌else◌, option_map, refl, sym, ◌∙◌, ap, subst, zero, suc, inl, inr, ◌⊎◌, arith}
 use Rattle.std.specs.List.{count_by, find, list_any, range_with_len}
-use Rattle.std.proofs.lemmas.Bool.{and_from, and_parts, cases_lt, both_ways, false_from_ne_true, lt-ltb, ltb-true}
+use Rattle.std.proofs.lemmas.Bool.{cases_lt, both_ways, false_from_ne_true, ltb-true}
 use Rattle.std.proofs.lemmas.Nat.{mod_below}
 use Rattle.std.proofs.Math.Pow.{pow_pos}
 use Rattle.hex_cells.specs.Sets.{has, without_cell}
@@ -47,7 +47,7 @@ any_same p q a zero f = refl
 any_same p q a (suc m) f =
     ap (λ b. b || list_any p (range_with_len (a + 1) m)) (f a (omega arith)) ∙ ap (λ b. q a || b) (any_same p q (a + 1) m (λ k l. f k (omega arith)))
 
-find_same : (p q : ℕ → Bool) (a m : ℕ) → ((k : ℕ) → k < a + m → p k ≡ q k) → find p (range_with_len a m) ≡ find q (range_with_len a m)
+pub find_same : (p q : ℕ → Bool) (a m : ℕ) → ((k : ℕ) → k < a + m → p k ≡ q k) → find p (range_with_len a m) ≡ find q (range_with_len a m)
 find_same p q a zero f = refl
 find_same p q a (suc m) f =
     ap (λ b. cond b (Some a) (find p (range_with_len (a + 1) m))) (f a (omega arith)) ∙ ap (λ o. cond (q a) (Some a) o) (find_same p q (a + 1) m (λ k l. f k (omega arith)))
