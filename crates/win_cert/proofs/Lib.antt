@@ -1,4 +1,5 @@
 mod Vectors
+pub mod SameTests
 pub mod StonesOn
 pub mod LinksOn
 pub mod ScopeBoards

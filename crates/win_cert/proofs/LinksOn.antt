@@ -13,7 +13,8 @@ use Rattle.conn_store.specs.Links.{MayPass, StonesLink}
 use Rattle.conn_store.specs.Rules.{IsCell, IsGroup}
 use Rattle.conn_store.proofs.Edges.{linked_joins}
 use Rattle.conn_store.proofs.Ways.{linked_cell, linked_group}
-use Rattle.win_cert.proofs.StonesOn.{edge_same, element_same, empty_same, find_same, on_board, own_inside, own_within}
+use Rattle.win_cert.proofs.SameTests.{find_same}
+use Rattle.win_cert.proofs.StonesOn.{edge_same, element_same, empty_same, on_board, own_inside, own_within}
 
 -- ---- to the board without stones off it, and back
 
