@@ -61,7 +61,8 @@ edge_misses e second c f k h i = far (edge_elements e) (count_by (is_head e) (ra
 -- ---- after a stone of his
 
 -- with a stone on the cell the player is sure of his edges, so without it he is if he places first
-pub good_move : (base : PlayerBoard) (s k c : ℕ) → IsSmallBoard (elements_in base s) → is_empty_at (elements_in base s).board k ≡ true → IsGoodOfEdges (elements_in base (with_cell s k)) Full c → IsGoodOfEdges (elements_in base s) Semi (with_cell c k)
+pub good_move : (base : PlayerBoard) (s k c : ℕ) → IsSmallBoard (elements_in base s) → is_empty_at (elements_in base s).board k ≡ true
+    → IsGoodOfEdges (elements_in base (with_cell s k)) Full c → IsGoodOfEdges (elements_in base s) Semi (with_cell c k)
 good_move base s k c m h g =
     let e = elements_in base s in
     let w = elements_in base (with_cell s k) in

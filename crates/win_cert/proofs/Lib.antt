@@ -12,3 +12,4 @@ pub mod CaseLines
 pub mod LineTruth
 pub mod GivenEntries
 pub mod AcceptedLaw
+mod LawVectors

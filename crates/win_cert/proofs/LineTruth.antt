@@ -50,7 +50,8 @@ adj_good c None p r m h e = absurd (false≢true h)
 
 -- ---- `move`
 
-move_good : (c : Context) (k i : ℕ) (entries : List ScopedEntry) (r : ScopedEntry) → IsSmallBoard (elements_at c) → is_empty_at (elements_at c).board k ≡ true → Each (IsTaken c (derivation (Move k i))) entries → list_all (is_edge_entry c.base) entries ≡ true → move_entry c k entries ≡ Some r
+move_good : (c : Context) (k i : ℕ) (entries : List ScopedEntry) (r : ScopedEntry) → IsSmallBoard (elements_at c) → is_empty_at (elements_at c).board k ≡ true
+    → Each (IsTaken c (derivation (Move k i))) entries → list_all (is_edge_entry c.base) entries ≡ true → move_entry c k entries ≡ Some r
     → IsGoodEntry c.base r
 move_good c k i [] r m h g f e = absurd (cc)
 move_good c k i (a ∷ entries) r m h g f e =
