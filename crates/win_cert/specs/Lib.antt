@@ -1,0 +1,10 @@
+pub mod Texts
+pub mod Writable
+pub mod Readings
+pub mod Scopes
+pub mod Entries
+pub mod Statements
+pub mod Reasons
+pub mod Verdicts
+pub mod Cuts
+pub mod Laws
