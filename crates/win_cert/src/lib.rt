@@ -13,9 +13,14 @@ mod lines;
 mod lists;
 mod raising;
 mod refusals;
-mod texts;
+mod steps;
+mod values;
+mod words;
+mod writing;
 
 pub use certs::{Cert, FIRST_VERSION, LATEST_VERSION, MOST_LINES};
 pub use lines::{End, LEAST_CASES, Line, Lines, MOST_CASES, MOST_NUMBER};
 pub use lists::{Bytes, Numbers};
+pub use raising::raise;
 pub use refusals::{CertError, Memory};
+pub use writing::write;
