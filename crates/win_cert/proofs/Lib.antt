@@ -1,1 +1,6 @@
 mod Vectors
+pub mod Options
+pub mod Splitting
+pub mod NumberWords
+pub mod CellWords
+pub mod Joining

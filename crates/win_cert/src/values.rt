@@ -5,7 +5,7 @@ ghost use Rattle.std.specs.Str.Parse.{AllDigits, digits_value};
 ghost use Rattle.win_cert.specs.Named.{cell_named, end_named, number_named};
 
 use super::{End, MOST_NUMBER};
-use hex_cells::{Cell, Size, read_vertex};
+use hex_cells::{Cell, Size, VERTEX_LEN, read_vertex, write_vertex};
 
 // The most digits of a number that a certificate names.
 const MOST_DIGITS: usize = 6;
@@ -31,10 +31,16 @@ fn value_of(word: &[u8]) -> Option<u32>
 pub(crate) fn read_number(word: &[u8]) -> Option<u32>
     ensures { result ≡ number_named word.now }
 {
-    if word.len() == 0 || MOST_DIGITS < word.len() {
+    if word.len() == 0 {
         return None;
     }
-    if word[0] == b'0' && word.len() != 1 {
+    if MOST_DIGITS < word.len() {
+        return None;
+    }
+    if word[0] == b'0' {
+        if word.len() == 1 {
+            return Some(0);
+        }
         return None;
     }
     value_of(word)
@@ -45,8 +51,10 @@ pub(crate) fn read_cell(word: &[u8], size: Size) -> Option<Cell>
     ensures { result ≡ cell_named size word.now }
 {
     let cell = read_vertex(word, size)?;
-    // A vertex is read in either case.
-    if word[0].is_ascii_lowercase() {
+    // A vertex is read in either case, so what was read is compared.
+    let mut vertex = [0; VERTEX_LEN];
+    let length = write_vertex(cell, size, &mut vertex);
+    if word == &vertex[..length] {
         Some(cell)
     } else {
         None

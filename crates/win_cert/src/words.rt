@@ -15,6 +15,7 @@ use std::marker::Model;
 
 /// The words of a line that are left to be read: what stands between its spaces. A space at an end
 /// of the line, or two of them side by side, make a word without bytes, which is never good.
+#[derive(Drop)]
 pub(crate) struct Words<'a> {
     rest: &'a [u8],
     more: bool,

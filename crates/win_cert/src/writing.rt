@@ -1,8 +1,9 @@
 //! The text of a certificate.
 
-ghost use Rattle.std.specs.Prelude.{◌≡◌, ℕ, ◌*◌, ◌<◌, ◌++◌, ◌∷◌, map, All, IfOk, OnOk};
+ghost use Rattle.std.specs.Prelude.{◌≡◌, ℕ, ◌*◌, ◌<◌, ◌++◌, [], ◌∷◌, map, All, IfOk, OnOk};
 ghost use Rattle.std.specs.Fmt.{decimal};
-ghost use Rattle.std.specs.List.{flat_map, join_with_byte};
+ghost use Rattle.std.specs.List.{filter, flat_map, join_with_byte};
+ghost use Rattle.hex_cells.specs.Sets.{has};
 ghost use Rattle.hex_cells.specs.Vertices.{vertex_of};
 ghost use Rattle.hex_board.specs.Positions.{Within};
 ghost use Rattle.win_cert.specs.Texts.{cert_text, claim_words, colour_word, end_word, ended, head_words};
@@ -32,18 +33,11 @@ fn push_head(alloc: Global, text: &mut Vec<u8>, cert: &Cert) -> Result<(), Alloc
     ensures { OnOk result (text.new.items ≡ text.old.items ++ flat_map ended (head_words cert.now)) }
 {
     let size = cert.board.size();
-    text.extend_from_slice(b"hexcert")?;
-    push_number(alloc, text, cert.version)?;
-    text.extend_from_slice(b"\nsize")?;
-    push_number(alloc, text, size.get())?;
-    text.extend_from_slice(b"\nplayer")?;
-    push_word(text, colour_name(cert.player))?;
-    text.extend_from_slice(b"\nblack")?;
-    push_cells(text, cert.board.stones(Colour::Black), size)?;
-    text.extend_from_slice(b"\nwhite")?;
-    push_cells(text, cert.board.stones(Colour::White), size)?;
-    text.push(b'\n')?;
-    Ok(())
+    push_number_line(alloc, text, b"hexcert", cert.version)?;
+    push_number_line(alloc, text, b"size", size.get())?;
+    push_name_line(text, b"player", colour_name(cert.player))?;
+    push_stones_line(text, b"black", cert.board.stones(Colour::Black), size)?;
+    push_stones_line(text, b"white", cert.board.stones(Colour::White), size)
 }
 
 // The lines of the derivation.
@@ -68,10 +62,7 @@ fn push_lines(
 fn push_claim(alloc: Global, text: &mut Vec<u8>, cert: &Cert) -> Result<(), AllocError>
     ensures { OnOk result (text.new.items ≡ text.old.items ++ ended (claim_words cert.now)) }
 {
-    text.extend_from_slice(kind_name(cert.claim))?;
-    push_number(alloc, text, cert.entry)?;
-    text.push(b'\n')?;
-    Ok(())
+    push_number_line(alloc, text, kind_name(cert.claim), cert.entry)
 }
 
 // A derivation line, without its line feed.
@@ -90,10 +81,7 @@ fn push_line(alloc: Global, text: &mut Vec<u8>, line: &Line, size: Size) -> Resu
         Line::Key(i, j) => push_numbers(alloc, text, b"key", &[*i, *j]),
         Line::Or2(i, j) => push_numbers(alloc, text, b"or", &[*i, *j]),
         Line::Or3(i, j, k) => push_numbers(alloc, text, b"or", &[*i, *j, *k]),
-        Line::Put(cells) => {
-            text.extend_from_slice(b"put")?;
-            push_cells(text, *cells, size)
-        }
+        Line::Put(cells) => push_cells(text, b"put", *cells, size),
         Line::Done => text.extend_from_slice(b"done"),
         Line::Move(cell, i) => {
             text.extend_from_slice(b"move")?;
@@ -137,7 +125,7 @@ fn push_number(alloc: Global, text: &mut Vec<u8>, number: u32) -> Result<(), All
     push_word(text, number.to_string(alloc)?.as_bytes())
 }
 
-// A word, and numbers each after a space.
+// A line of a word and numbers, without its line feed.
 fn push_numbers(
     alloc: Global,
     text: &mut Vec<u8>,
@@ -145,12 +133,53 @@ fn push_numbers(
     numbers: &[u32],
 ) -> Result<(), AllocError>
     ensures { OnOk result (text.new.items
-        ≡ text.old.items ++ word.now ++ after_spaces (map decimal numbers.now)) }
+        ≡ text.old.items ++ join_with_byte space (word.now ∷ map decimal numbers.now)) }
 {
     text.extend_from_slice(word)?;
     for number in numbers {
         push_number(alloc, text, *number)?;
     }
+    Ok(())
+}
+
+// A line of a word and a number.
+fn push_number_line(
+    alloc: Global,
+    text: &mut Vec<u8>,
+    word: &[u8],
+    number: u32,
+) -> Result<(), AllocError>
+    ensures { OnOk result
+        (text.new.items ≡ text.old.items ++ ended (word.now ∷ decimal number ∷ [])) }
+{
+    text.extend_from_slice(word)?;
+    push_number(alloc, text, number)?;
+    text.push(b'\n')?;
+    Ok(())
+}
+
+// A line of two words.
+fn push_name_line(text: &mut Vec<u8>, word: &[u8], name: &[u8]) -> Result<(), AllocError>
+    ensures { OnOk result (text.new.items ≡ text.old.items ++ ended (word.now ∷ name.now ∷ [])) }
+{
+    text.extend_from_slice(word)?;
+    push_word(text, name)?;
+    text.push(b'\n')?;
+    Ok(())
+}
+
+// A line of a word and the vertices of the set's cells.
+fn push_stones_line(
+    text: &mut Vec<u8>,
+    word: &[u8],
+    set: CellSet,
+    size: Size,
+) -> Result<(), AllocError>
+    ensures { OnOk result
+        (text.new.items ≡ text.old.items ++ ended (word.now ∷ vertices_of size set)) }
+{
+    push_cells(text, word, set, size)?;
+    text.push(b'\n')?;
     Ok(())
 }
 
@@ -176,16 +205,27 @@ fn push_end(text: &mut Vec<u8>, end: End, size: Size) -> Result<(), AllocError>
     }
 }
 
-// The vertices of the set's cells on the board, in rising order of cells, each after a space.
-fn push_cells(text: &mut Vec<u8>, set: CellSet, size: Size) -> Result<(), AllocError>
-    ensures { OnOk result
-        (text.new.items ≡ text.old.items ++ after_spaces (vertices_of size set)) }
+// A line of a word and the vertices of the set's cells on the board, in rising order of cells,
+// without its line feed.
+fn push_cells(text: &mut Vec<u8>, word: &[u8], set: CellSet, size: Size) -> Result<(), AllocError>
+    ensures { OnOk result (text.new.items
+        ≡ text.old.items ++ join_with_byte space (word.now ∷ vertices_of size set)) }
 {
+    text.extend_from_slice(word)?;
     for k in 0..size.cells() {
-        let cell = Cell::numbered(k);
-        if set.has(cell) {
-            push_vertex(text, cell, size)?;
-        }
+        push_member(text, Cell::numbered(k), set, size)?;
+    }
+    Ok(())
+}
+
+// The vertex of a cell of the board after a space, where the cell is in the set.
+fn push_member(text: &mut Vec<u8>, cell: Cell, set: CellSet, size: Size) -> Result<(), AllocError>
+    requires { cell < size * size }
+    ensures { OnOk result (text.new.items
+        ≡ text.old.items ++ after_spaces (map (vertex_of size) (filter (has set) (cell ∷ [])))) }
+{
+    if set.has(cell) {
+        push_vertex(text, cell, size)?;
     }
     Ok(())
 }
