@@ -1,5 +1,5 @@
 -- How a text is read, line by line: its head, and then the steps. Only private clauses cite this.
-use Rattle.std.specs.Prelude.{◌≡◌, MatchOption, ℕ, ◌+◌, ◌==◌, ◌&&◌, nat_le, Bool, true, false, List, [], ◌∷◌, ◌++◌, Option, Some, None, Result, Ok, Err, suc, length, map, codes, bit_and, if◌then◌else◌}
+use Rattle.std.specs.Prelude.{◌≡◌, MatchOption, MatchResult, ℕ, ◌+◌, ◌==◌, ◌&&◌, nat_le, Bool, false, List, [], ◌∷◌, ◌++◌, Option, Some, None, Result, Ok, Err, suc, length, map, codes, bit_and, if◌then◌else◌}
 use Rattle.std.specs.List.{slice_split}
 use Rattle.std.specs.Option.{ok_or, option_and_then, option_map}
 use Rattle.std.specs.Str.{bytes_eq}
@@ -140,3 +140,15 @@ certs_of head lines =
 -- what a text of these lines is read as
 abbrev pub cert_in : List (List (List ℕ)) → Result Cert CertError
 cert_in lines = head_in lines >>= λ h. certs_of h.0 h.1
+
+-- after the head and these lines, the next of the lines left was taken: it was added, or it is the
+-- claim, or it is refused
+abbrev pub IsStepTaken : ℕ → ℕ → List Line → List (List (List ℕ)) → Result (Option (Kind × ℕ)) CertError
+    → List Line → List (List (List ℕ)) → Type 0
+IsStepTaken version n old lines result new rest = MatchResult result
+    (λ taken. MatchOption taken
+    (with_lines old (steps_in version n (length old) lines)
+    ≡ with_lines new (steps_in version n (length new) rest))
+    (λ claim. (new ≡ old) × (steps_in version n (length old) lines
+    ≡ (if is_nothing rest then Ok ([], claim) else Err (NotCert (length old + 7))))))
+    (λ e. steps_in version n (length old) lines ≡ Err e)

@@ -1,5 +1,5 @@
 -- What words name, and what the words of a line say. Only private clauses cite this.
-use Rattle.std.specs.Prelude.{ℕ, ◌≤◌, ◌==◌, ◌&&◌, nat_le, Bool, true, List, [], ◌∷◌, Option, Some, None, suc, length, codes, if◌then◌else◌}
+use Rattle.std.specs.Prelude.{ℕ, ◌*◌, ◌≤◌, ◌==◌, ◌&&◌, nat_le, nat_lt, Bool, true, List, [], ◌∷◌, Option, Some, None, suc, length, codes, if◌then◌else◌}
 use Rattle.std.specs.Fmt.{decimal}
 use Rattle.std.specs.Option.{option_and_then, option_map}
 use Rattle.std.specs.Str.{bytes_eq}
@@ -30,7 +30,8 @@ number_named word =
 -- the cell of the board of size n whose vertex in lower case the word is
 unfoldable pub cell_named : ℕ → List ℕ → Option ℕ
 cell_named n word = option_and_then
-    (λ k. if bytes_eq word (vertex_of n k) then Some k else None) (vertex_cell n word)
+    (λ k. if nat_lt k (n * n) && bytes_eq word (vertex_of n k) then Some k else None)
+    (vertex_cell n word)
 
 -- the end that a word names
 abbrev pub end_named : ℕ → List ℕ → Option End

@@ -1,6 +1,7 @@
 //! The head of a text: the five lines that tell version, size, player and stones.
 
-ghost use Rattle.std.specs.Prelude.{◌≡◌, ◌+◌, ◌<◌, OnOk};
+ghost use Rattle.std.specs.Prelude.{◌≡◌, ◌+◌, ◌<◌, IfSome, OnOk};
+ghost use Rattle.hex_board.specs.Positions.{Apart, Within};
 ghost use Rattle.win_cert.specs.Lines.{IsTaken, head_in, lines_of, number_after, player_in};
 ghost use Rattle.win_cert.specs.Lines.{stones_in, with_rest};
 
@@ -52,7 +53,9 @@ fn player_of(words: &mut Words<'_>) -> Option<Colour>
 
 // A line of stones, none of them on a cell of `taken`.
 fn stones_of(words: &mut Words<'_>, name: &[u8], size: Size, taken: CellSet) -> Option<CellSet>
-    ensures { result ≡ stones_in name.now size taken words.old }
+    ensures value { result ≡ stones_in name.now size taken words.old }
+    ensures on_board { IfSome result (Within size) }
+    ensures apart { IfSome result (λ s. Apart s taken) }
 {
     words.word(name)?;
     let stones = words.cells(size)?;
@@ -91,6 +94,8 @@ impl Reader<'_> {
         ensures count { self.new.line ≡ self.old.line + 1 }
         ensures value { IsTaken (stones_in name.now size taken) self.old.rest.now result
             self.new.rest.now }
+        ensures on_board { IfSome result (Within size) }
+        ensures apart { IfSome result (λ s. Apart s taken) }
     {
         let mut words = self.next()?;
         stones_of(&mut words, name, size, taken)

@@ -47,9 +47,13 @@ impl<'a> Reader<'a> {
     {
         self.line += 1;
         let rest = self.rest;
-        let end = first_line_feed(rest)?;
-        self.rest = &rest[end + 1..];
-        Some(Words::of(&rest[..end]))
+        match first_line_feed(rest) {
+            None => None,
+            Some(end) => {
+                self.rest = &rest[end + 1..];
+                Some(Words::of(&rest[..end]))
+            }
+        }
     }
 
     /// Whether the whole text was read.

@@ -10,11 +10,11 @@ returns-in_err-cell c =
 pub returns-then-eq : goal.returns-then-eq
 returns-then-eq c =
     let word = c.args.word.now in
-    sym (cell_found c.args.size word c.in_ok-cell.cell true (sym c.in_ok-cell.ensures.value)
+    sym (cell_found c.args.size word c.in_ok-cell.cell true (sym c.in_ok-cell.ensures.value) c.in_ok-cell.ensures.cell.0
     (sym (ap (bytes_eq word) c.write_vertex-length.ensures.text) ∙ sym c.eq.ensures ∙ c.if-eq.true))
 
 pub returns-else-eq : goal.returns-else-eq
 returns-else-eq c =
     let word = c.args.word.now in
-    sym (cell_found c.args.size word c.in_ok-cell.cell false (sym c.in_ok-cell.ensures.value)
+    sym (cell_found c.args.size word c.in_ok-cell.cell false (sym c.in_ok-cell.ensures.value) c.in_ok-cell.ensures.cell.0
     (sym (ap (bytes_eq word) c.write_vertex-length.ensures.text) ∙ sym c.eq.ensures ∙ c.if-eq.false))

@@ -1,4 +1,4 @@
-use Rattle.std.proofs.Common.{◌≡◌, length, ◌++◌, Option, Some}
+use Rattle.std.proofs.Common.{◌≡◌, length, ◌++◌}
 use Rattle.std.specs.Option.{option_map}
 use Rattle.win_cert.specs.Named.{numbers_named}
 use Rattle.win_cert.proofs.words.Words.numbers.Given as goal
