@@ -13,3 +13,12 @@ pub mod LineTruth
 pub mod GivenEntries
 pub mod AcceptedLaw
 mod LawVectors
+pub mod Options
+pub mod Splitting
+pub mod NumberWords
+pub mod CellWords
+pub mod CellLists
+pub mod Joining
+pub mod LineParts
+pub mod StepLines
+pub mod SameVerdict

@@ -1,5 +1,8 @@
 pub mod Texts
+pub mod Words
 pub mod Writable
+pub mod Named
+pub mod Lines
 pub mod Readings
 pub mod Scopes
 pub mod Entries

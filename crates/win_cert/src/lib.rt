@@ -8,15 +8,24 @@
 
 mod certs;
 mod cutting;
+mod heads;
 mod laws;
 mod lines;
 mod lists;
 mod raising;
+mod reader;
+mod reading;
 mod refusals;
-mod texts;
+mod steps;
+mod values;
+mod words;
+mod writing;
 
 pub use certs::{Cert, FIRST_VERSION, LATEST_VERSION, MOST_LINES};
 pub use laws::accepted_certificates_win;
 pub use lines::{End, LEAST_CASES, Line, Lines, MOST_CASES, MOST_NUMBER};
 pub use lists::{Bytes, Numbers};
+pub use raising::raise;
+pub use reading::read;
 pub use refusals::{CertError, Memory};
+pub use writing::write;
