@@ -132,7 +132,7 @@ impl Walker {
         }
     }
 
-    /// The scan of the block below the node, where the walker is in one.
+    /// The scan of the block below the node, where the walker is in one; `None` exactly elsewhere.
     pub fn scan(&self) -> Option<Scan>
         ensures { MatchOption result (self.now.stage ≢ Stage.Scanning)
             (λ scan. (self.now.stage ≡ Stage.Scanning) × (scan ≡ self.now.scan)) }

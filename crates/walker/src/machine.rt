@@ -81,6 +81,7 @@ impl Walker {
 
     /// A worker of the shape that has drawn nothing.
     pub fn new(shape: &Shape) -> Walker
+        ensures op { op_of result ≡ Op.Draw }
         ensures belongs { (v : SeatView) → v.shape ≡ shape.now → v.width ≡ 1 → HasDrawnNothing v
             → IsView v → Belongs result v }
     {
