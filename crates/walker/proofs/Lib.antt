@@ -21,4 +21,6 @@ pub mod Keeps
 pub mod GoingOn
 pub mod Endings
 pub mod Falling
+pub mod MemberLaws
+pub mod BitLaws
 pub mod HoleLaws
