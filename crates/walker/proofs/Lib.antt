@@ -11,10 +11,13 @@ pub mod KeepLaws
 pub mod ChildLaws
 pub mod LeafLaws
 pub mod KeepsDown
+pub mod KeepsHeader
 pub mod KeepsScan
 pub mod KeepsChoice
+pub mod KeepsLast
 pub mod KeepsChild
 pub mod KeepsBlock
+pub mod KeepsPublish
 pub mod KeepsUp
 pub mod KeepsAdds
 pub mod Keeps
