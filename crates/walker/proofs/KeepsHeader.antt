@@ -81,7 +81,7 @@ module _ (w : Walker) (v : SeatView) (b : Belongs w v) (x : ℕ) where
         let ne = head-below e in
         let empties : cells_in w ≡ empties_of (node_board v.shape (after v (Look w.at) x).known w.node)
         = head-cells ∙ ap (λ (t : Bool). cond t (allowed_cells v.shape) (empties_of (node_board v.shape (after v (Look w.at) x).known w.node))) (ne_eqb w.node (root_at v.shape) ne) in
-        leaf-stands w (after v (Look w.at) x) b.shape horder iu.known head-down a.held ne (inr (inl (sym (ap length empties) ∙ e)))
+        leaf-stands w (after v (Look w.at) x) b.shape horder iu.known head-down a.held ne (inr (sym (ap length empties) ∙ e)) (inr (inl (sym (ap length empties) ∙ e)))
 
     head-scan : 0 < length (cells_in w) → AtChild (record w { stage = Scanning; scan = scan_of w.start (length (cells_in w)) w.visits w.shape.knobs.weight }) (after v (Look w.at) x)
     unfolding with_word looked

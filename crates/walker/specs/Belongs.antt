@@ -1,7 +1,7 @@
 -- Which views belong to a walker.
 pub use Rattle.walker.specs.Underway.{IsLevel, OnWay, InHand, IsDown, Down, IsBelow, MayClaim}
 pub use Rattle.walker.specs.Looking.{HasKept, Keeps, children_loaded, InChild, IsScan}
-use Rattle.std.specs.Prelude.{◌≡◌, ◌≢◌, ℕ, ◌+◌, ◌-◌, ◌<◌, ◌≤◌, true, List, [], ◌++◌, length, take, drop, Option, Some, None}
+use Rattle.std.specs.Prelude.{◌≡◌, ◌≢◌, ℕ, ◌+◌, ◌-◌, ◌<◌, ◌≤◌, true, List, [], ◌++◌, length, take, drop, Option, Some, None, ◌⊎◌}
 use Rattle.tree_words.specs.Words.{root_at}
 use Rattle.tree_words.specs.Blocks.{LinkedBlock}
 use Rattle.tree_words.specs.Paths.{node_state}
@@ -9,7 +9,7 @@ use Rattle.tree_words.specs.Sequence.{outcome_of, size_below}
 use Rattle.tree_words.specs.declared.layout.TheConstants.{HEADER_WORDS, LINK_WORD, TALLY_WORD}
 use Rattle.arena_rule.specs.Views.{SeatView, Flight}
 use Rattle.arena_rule.specs.Adds.{CountAdd, adds_up, walk_adds}
-use Rattle.arena_rule.specs.Lookups.{is_known}
+use Rattle.arena_rule.specs.Lookups.{is_known, known_link, empties_at}
 use Rattle.arena_rule.specs.Fits.{MayBegin, block_words}
 use Rattle.arena_rule.specs.Answers.{MayAnswer}
 use Rattle.arena_rule.specs.IsView.{IsView}
@@ -17,6 +17,10 @@ use Rattle.walker.specs.Machine.{op_of, state_in, own_block}
 use Rattle.walker.specs.declared.stages.Stage.{Stage}
 use Rattle.walker.specs.declared.stages.Stage.TheVariants.{Drawing, Rooting, Linking, Heading, Scanning, Claiming, Writing, Publishing, Tallying, Seeing, Noting, Ended}
 use Rattle.walker.specs.declared.machine.Walker.{Walker}
+
+-- no block is known below x, or its board is full
+abbrev pub IsBare : SeatView → ℕ → Type 0
+IsBare v x = (known_link v x ≡ 0) ⊎ (empties_at v x ≡ 0)
 
 -- the walk has its leaf and goes up: these adds are left, of those that its playout gives; before
 -- the first the walk stands at its leaf and may begin
