@@ -15,5 +15,8 @@ pub mod HeadMeans
 pub mod StepsMean
 pub mod PlainWords
 pub mod ReadMeans
+pub mod ReadBack
+pub mod BadLines
+pub mod Parsed
 pub mod StepLines
 pub mod SameVerdict

@@ -60,7 +60,7 @@ joined_parts [] = refl
 joined_parts (part ∷ parts) = ap (λ p. p ∷ map (join_with_byte space) (map (slice_split is_space) parts)) (join_with_byte-slice_split space part)
     ∙ ap (λ ps. part ∷ ps) (joined_parts parts)
 
-text_from : (text : List ℕ) → join_with_byte line_feed (map (join_with_byte space) (lines_of text)) ≡ text
+pub text_from : (text : List ℕ) → join_with_byte line_feed (map (join_with_byte space) (lines_of text)) ≡ text
 text_from text = ap (join_with_byte line_feed) (joined_parts (slice_split is_line_feed text)) ∙ join_with_byte-slice_split line_feed text
 
 -- a text is told by its lines
