@@ -27,13 +27,22 @@
 #![tactic(auto)]
 
 mod archives;
+mod auditing;
+mod blocks;
+mod fields;
 mod laws;
+mod linking;
+mod points;
+mod reading;
+mod recording;
 mod refusals;
 #[cfg(test)]
 mod tests;
 mod texts;
+pub mod types;
 
 pub use archives::TraceArchive;
+pub use auditing::{MOST_BYTES, audit};
 pub use laws::traces_tell_closed_trees;
 pub use refusals::Memory;
 pub use texts::BUFFER_BYTES;

@@ -1,0 +1,150 @@
+//! The blocks that the links show, from the root on.
+
+use super::blocks::block_end;
+use super::refusals::Memory;
+use hex_board::Board;
+use hex_cells::{Cell, Colour};
+use std::alloc::Global;
+use tree_words::layout::{FRONT_WORDS, HEADER_WORDS, LINK_WORD, NODE_WORDS, RECORDS_AT};
+use tree_words::{Shape, cell_of};
+
+/// A linked block: its first word, the board of its parent, and the player to move there.
+#[derive(Clone, Copy, Debug)]
+pub(crate) struct Spot {
+    pub(crate) start: usize,
+    pub(crate) board: Board,
+    pub(crate) player: Colour,
+}
+
+impl Spot {
+    /// The board and the player to move after a stone on the cell.
+    pub(crate) fn after(&self, cell: Cell) -> Spot {
+        let mut board = self.board;
+        board.place(self.player, cell);
+        Spot {
+            start: self.start,
+            board,
+            player: self.player.other(),
+        }
+    }
+}
+
+/// The linked blocks: each one's spot, and for the first word of each block the number of its spot,
+/// from 1, for other words 0; and how many words the blocks have but for the root's.
+#[derive(Drop)]
+pub(crate) struct Table {
+    pub(crate) index: Vec<usize>,
+    pub(crate) spots: Vec<Spot>,
+    pub(crate) others: usize,
+}
+
+// Enters the block that the link of the node at `x` names, if it names one. It begins at `free` or
+// behind it, and says that its parent is the node. Answers whether all is so.
+fn enter(
+    words: &[u64],
+    table: &mut Table,
+    x: usize,
+    free: usize,
+    spot: Spot,
+) -> Result<bool, Memory> {
+    let link = words[x + LINK_WORD];
+    if link == 0 {
+        return Ok(true);
+    }
+    let start = link as usize;
+    if start < free || words.len() <= start || words[start] != x as u64 {
+        return Ok(false);
+    }
+    let Ok(()) = table.spots.push(Spot { start, ..spot }) else {
+        return Err(Memory);
+    };
+    table.index[start] = table.spots.len();
+    Ok(true)
+}
+
+// Whether a block was entered between these words.
+fn has_entry(index: &[usize], from: usize, to: usize) -> bool {
+    'words: for i in from..to {
+        if index[i] != 0 {
+            return true;
+        }
+    }
+    false
+}
+
+// Enters the blocks below the nodes of the block at `at`.
+fn enter_all(words: &[u64], table: &mut Table, at: usize, end: usize) -> Result<bool, Memory> {
+    let spot = table.spots[table.index[at] - 1];
+    let mut x = at + HEADER_WORDS;
+    'nodes: while x < end {
+        let after = spot.after(Cell::numbered(cell_of(words[x])));
+        if !enter(words, table, x, end, after)? {
+            return Ok(false);
+        }
+        x += NODE_WORDS;
+    }
+    Ok(true)
+}
+
+// The word after the block at `at`, where one was entered there; else the next word.
+fn pass(
+    words: &[u64],
+    shape: &Shape,
+    table: &mut Table,
+    at: usize,
+) -> Result<Option<usize>, Memory> {
+    if table.index[at] == 0 {
+        return Ok(Some(at + 1));
+    }
+    let spot = table.spots[table.index[at] - 1];
+    let parent = words[at] as usize;
+    let Some(end) = block_end(words, shape, at, parent, &spot.board) else {
+        return Ok(None);
+    };
+    if has_entry(&table.index, at + 1, end) {
+        return Ok(None);
+    }
+    if !enter_all(words, table, at, end)? {
+        return Ok(None);
+    }
+    if parent != shape.knobs().playouts as usize + RECORDS_AT {
+        table.others += end - at;
+    }
+    Ok(Some(end))
+}
+
+// The table of the root's link alone.
+fn begin(alloc: Global, shape: &Shape, words: &[u64]) -> Result<Option<Table>, Memory> {
+    let mut table = Table {
+        index: vec![in alloc; 0; words.len()]?,
+        spots: Vec::new(alloc),
+        others: 0,
+    };
+    let root = shape.knobs().playouts as usize + RECORDS_AT;
+    let area = shape.knobs().playouts as usize + FRONT_WORDS;
+    let spot = Spot {
+        start: 0,
+        board: *shape.board(),
+        player: shape.colour(),
+    };
+    if enter(words, &mut table, root, area, spot)? {
+        Ok(Some(table))
+    } else {
+        Ok(None)
+    }
+}
+
+/// The linked blocks, where there are such.
+pub(crate) fn link(alloc: Global, shape: &Shape, words: &[u64]) -> Result<Option<Table>, Memory> {
+    let Some(mut table) = begin(alloc, shape, words)? else {
+        return Ok(None);
+    };
+    let mut at = shape.knobs().playouts as usize + FRONT_WORDS;
+    'words: while at < words.len() {
+        let Some(next) = pass(words, shape, &mut table, at)? else {
+            return Ok(None);
+        };
+        at = next;
+    }
+    Ok(Some(table))
+}
