@@ -3,3 +3,9 @@ pub mod Pieces
 pub mod Parts
 pub mod SameWords
 pub mod Reading
+pub mod FieldLaws
+pub mod WordBytes
+pub mod TextForm
+pub mod TextTree
+pub mod TextWords
+pub mod Standing

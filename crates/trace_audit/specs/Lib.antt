@@ -1,3 +1,6 @@
 pub mod Traces
 pub mod Told
 pub mod Verdicts
+pub mod Fields
+pub mod Texts
+pub mod Tables

@@ -1,8 +1,8 @@
 //! The audit of bytes.
 
 use super::linking::link;
+use super::parsing::read_text;
 use super::points::{is_exact, is_grown, keeps_ends};
-use super::reading::read_text;
 use super::recording::sum;
 use super::refusals::Memory;
 use super::types::{Audit, Flaw};

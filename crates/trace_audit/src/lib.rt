@@ -32,14 +32,15 @@ mod blocks;
 mod fields;
 mod laws;
 mod linking;
+mod parsing;
 mod points;
-mod reading;
 mod recording;
 mod refusals;
 #[cfg(test)]
 mod tests;
 mod texts;
 pub mod types;
+mod zeros;
 
 pub use archives::TraceArchive;
 pub use auditing::{MOST_BYTES, audit};

@@ -1,5 +1,13 @@
 //! The blocks that the links show, from the root on.
 
+ghost use Rattle.std.specs.Prelude.{◌≡◌, ℕ, ◌+◌, ◌-◌, ◌*◌, ◌<◌, ◌≤◌, ◌↔◌, IfOk, IsTrue, List, MatchBool, MatchOption, length, slice_index, slice_index_or, true};
+ghost use Rattle.hex_board.specs.Positions.{is_empty_at};
+ghost use Rattle.tree_words.specs.Blocks.{LinkedBlock, In, is_node, size};
+ghost use Rattle.tree_words.specs.Paths.{node_state, root_state, state_after};
+ghost use Rattle.tree_words.specs.Settings.{Setting, IsSetting};
+ghost use Rattle.tree_words.specs.Words.{area_at, end_of, root_at};
+ghost use Rattle.trace_audit.specs.Tables.{AreUnlinked, IsLinked, Scanned, state_in};
+
 use super::blocks::block_end;
 use super::refusals::Memory;
 use hex_board::Board;
@@ -18,7 +26,10 @@ pub(crate) struct Spot {
 
 impl Spot {
     /// The board and the player to move after a stone on the cell.
-    pub(crate) fn after(&self, cell: Cell) -> Spot {
+    pub(crate) fn after(&self, cell: Cell) -> Spot
+        requires { is_empty_at self.now.board cell ≡ true }
+        ensures { state_in result ≡ state_after (state_in self.now) cell }
+    {
         let mut board = self.board;
         board.place(self.player, cell);
         Spot {
@@ -46,7 +57,15 @@ fn enter(
     x: usize,
     free: usize,
     spot: Spot,
-) -> Result<bool, Memory> {
+) -> Result<bool, Memory>
+    requires { (s : Setting) × (bs : List LinkedBlock) × Scanned s words.now table.old x free bs
+        × (length words.now ≡ end_of s) × (is_node (root_at s) bs x ≡ true) }
+    ensures { IfOk result (λ ok. (s : Setting) (bs : List LinkedBlock) → IsSetting s
+        → length words.now ≡ end_of s → Scanned s words.now table.old x free bs
+        → is_node (root_at s) bs x ≡ true → state_in spot ≡ node_state s bs x
+        → MatchBool ok (Scanned s words.now table.new (x + 1) free bs)
+        (AreUnlinked s words.now)) }
+{
     let link = words[x + LINK_WORD];
     if link == 0 {
         return Ok(true);
@@ -63,7 +82,12 @@ fn enter(
 }
 
 // Whether a block was entered between these words.
-fn has_entry(index: &[usize], from: usize, to: usize) -> bool {
+fn has_entry(index: &[usize], from: usize, to: usize) -> bool
+    requires { to ≤ length index.now }
+    ensures { MatchBool result
+        ((i : ℕ) × (from ≤ i) × (i < to) × (0 < slice_index index.now i))
+        ((i : ℕ) → from ≤ i → i < to → slice_index index.now i ≡ 0) }
+{
     'words: for i in from..to {
         if index[i] != 0 {
             return true;
