@@ -9,3 +9,6 @@ pub mod TextForm
 pub mod TextTree
 pub mod TextWords
 pub mod Standing
+pub mod Scanning
+pub mod Entering
+pub mod Passing

@@ -36,17 +36,19 @@ cells_root s p x set e a t = allowed-listed s p.size set e a ∙ sym (ap (λ (u 
 pub cells_inner : (s : Setting) (p : Position) (x set : ℕ) → ((k : ℕ) → has set k ≡ is_empty_at p k) → (x == root_at s) ≡ false → listed p.size set ≡ (block_at s p x 0).cells
 cells_inner s p x set e t = empties-listed set p e ∙ sym (ap (λ (u : Bool). cond u (allowed_cells s) (empties_of p)) t)
 
-module _ (s : Setting) (p : Position) (x at e c : ℕ) (before block : List ℕ) (empties : (k : ℕ) → has e k ≡ is_empty_at p k) (cells : listed p.size c ≡ (block_at s p x 0).cells)
-    (w : WritesBlock (record { start = 0; parent = x; empties = e; cells = listed p.size c }) before block) where
+module _ (s : Setting) (p : Position) (x at e : ℕ) (cs before block : List ℕ) (empties : (k : ℕ) → has e k ≡ is_empty_at p k) (cells : cs ≡ (block_at s p x at).cells)
+    (w : WritesBlock (record { start = 0; parent = x; empties = e; cells = cs }) before block) where
   -- what was written is the block's
   written_is : (i : ℕ) → i < size (block_at s p x at) → is_header_or_move i ≡ true → slice_index block i ≡ header_or_move (block_at s p x at) i
   written_is i l h =
-      let made : LinkedBlock = record { start = 0; parent = x; empties = e; cells = listed p.size c } in
-      let long : length (listed p.size c) ≡ length (block_at s p x at).cells = ap length cells in
+      let made : LinkedBlock = record { start = 0; parent = x; empties = e; cells = cs } in
+      let long : length cs ≡ length (block_at s p x at).cells = ap length cells in
       let in-block : covers i made ≡ true = covers_if i made (omega arith) (omega (arith, l, long)) in
-      let both : (covers i made && is_header_or_move (i - 0)) ≡ true = λ j. in-block j && h j in
       let same : e ≡ set_of (empties_of p) = same_set e (set_of (empties_of p)) (λ k. empties k ∙ sym (set_empties p k)) in
-      w.each i ∙ ap (λ (t : Bool). cond t (header_or_move made (i - 0)) (slice_index before i)) both
+      let none : i - 0 ≡ i = omega arith in
+      w.each i
+      ∙ (λ j. cond (in-block j && is_header_or_move (none j)) (header_or_move made (none j)) (slice_index before i))
+      ∙ ap (λ (t : Bool). cond t (header_or_move made i) (slice_index before i)) h
       ∙ head_same made (block_at s p x at) i refl same cells
 
   pub stands_is : (words : List ℕ) → ((i : ℕ) → i < size (block_at s p x at) → is_header_or_move i ≡ true → slice_index words (at + i) ≡ slice_index block i) → ShowBlock words (block_at s p x at)

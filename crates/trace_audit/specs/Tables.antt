@@ -4,7 +4,7 @@ use Rattle.hex_board.specs.Positions.{Position}
 use Rattle.play_out.specs.Fills.{empties_of}
 use Rattle.tree_words.specs.Settings.{Setting}
 use Rattle.tree_words.specs.Words.{root_at, area_at, end_of, next_in, link_in}
-use Rattle.tree_words.specs.Blocks.{LinkedBlock, size, is_node, In, link_of, InOrder, header_or_move, is_header_or_move}
+use Rattle.tree_words.specs.Blocks.{LinkedBlock, size, has_node, is_node, In, link_of, InOrder, header_or_move, is_header_or_move}
 use Rattle.tree_words.specs.Paths.{NodeState, node_state}
 use Rattle.tree_words.specs.Complete.{Linked, AreComplete, allowed_cells, set_of}
 use Rattle.tree_words.specs.Growth.{other_words}
@@ -66,8 +66,9 @@ IsFollowed words t passed bs x = let b = link_in words x in
     ⊎ ((link_of bs x ≡ 0) × (passed ≤ b) × (0 < slice_index t.index.items b)
     × (slice_index words b ≡ x))
 
--- So far: the words below `passed` have these blocks, the links of their nodes below `done` are
--- followed, and wherever the words are linked, these blocks are among the linked ones.
+-- So far: the words below `passed` have these blocks, each of which is entered, the links of their
+-- nodes below `done` are followed and the other nodes have no block, and wherever the words are
+-- linked, these blocks are among the linked ones.
 pub record Scanned (s : Setting) (words : List ℕ) (t : Table) (done passed : ℕ)
     (bs : List LinkedBlock) : Type 0 where
   pub order : InOrder (root_at s) bs
@@ -78,8 +79,17 @@ pub record Scanned (s : Setting) (words : List ℕ) (t : Table) (done passed : �
   pub table : IsTable s words bs t
   pub links : (x : ℕ) → is_node (root_at s) bs x ≡ true → x < done
       → IsFollowed words t passed bs x
+  pub vacant : (x : ℕ) → is_node (root_at s) bs x ≡ true → done ≤ x → link_of bs x ≡ 0
+  pub entered : (b : LinkedBlock) → In b bs → 0 < slice_index t.index.items b.start
   pub others : t.others ≡ other_words s bs
   pub known : (cs : List LinkedBlock) → Linked s words cs → Knows (root_at s) cs bs
+
+-- the node x is the root, and no block is passed, or it is a node of the block that ends where the
+-- words are passed
+abbrev pub IsLast : Setting → ℕ → List LinkedBlock → ℕ → Type 0
+IsLast s passed bs x =
+    ((x ≡ root_at s) × (passed ≡ area_at s))
+    ⊎ ((b : LinkedBlock) × In b bs × (has_node b x ≡ true) × (passed ≡ b.start + size b))
 
 -- The blocks are linked, and the table has the spot of each.
 pub record IsLinked (s : Setting) (words : List ℕ) (t : Table) (bs : List LinkedBlock)

@@ -57,6 +57,8 @@ pub(crate) fn block_end(
         MatchOption result (¬ (Stands shape.now words.now b))
         (λ end. Stands shape.now words.now b × (end ≡ at + size b)) }
 {
+    // What each shape keeps of itself.
+    let _board = shape.board();
     let empties = board.empties();
     let cells = cells_below(shape, parent, board);
     let mut block = [0; MOST_BLOCK_WORDS];

@@ -6,7 +6,7 @@ ghost use Rattle.tree_words.specs.Blocks.{LinkedBlock, In, is_node, size};
 ghost use Rattle.tree_words.specs.Paths.{node_state, root_state, state_after};
 ghost use Rattle.tree_words.specs.Settings.{Setting, IsSetting};
 ghost use Rattle.tree_words.specs.Words.{area_at, end_of, root_at};
-ghost use Rattle.trace_audit.specs.Tables.{AreUnlinked, IsLinked, Scanned, state_in};
+ghost use Rattle.trace_audit.specs.Tables.{AreUnlinked, IsLast, IsLinked, Scanned, state_in};
 
 use super::blocks::block_end;
 use super::refusals::Memory;
@@ -58,11 +58,13 @@ fn enter(
     free: usize,
     spot: Spot,
 ) -> Result<bool, Memory>
-    requires { (s : Setting) × (bs : List LinkedBlock) × Scanned s words.now table.old x free bs
-        × (length words.now ≡ end_of s) × (is_node (root_at s) bs x ≡ true) }
+    requires { (s : Setting) × (bs : List LinkedBlock) × IsSetting s
+        × (length words.now ≡ end_of s) × Scanned s words.now table.old x free bs
+        × (is_node (root_at s) bs x ≡ true) }
     ensures { IfOk result (λ ok. (s : Setting) (bs : List LinkedBlock) → IsSetting s
         → length words.now ≡ end_of s → Scanned s words.now table.old x free bs
-        → is_node (root_at s) bs x ≡ true → state_in spot ≡ node_state s bs x
+        → is_node (root_at s) bs x ≡ true → IsLast s free bs x
+        → state_in spot ≡ node_state s bs x
         → MatchBool ok (Scanned s words.now table.new (x + 1) free bs)
         (AreUnlinked s words.now)) }
 {
@@ -71,7 +73,13 @@ fn enter(
         return Ok(true);
     }
     let start = link as usize;
-    if start < free || words.len() <= start || words[start] != x as u64 {
+    if start < free {
+        return Ok(false);
+    }
+    if words.len() <= start {
+        return Ok(false);
+    }
+    if words[start] != x as u64 {
         return Ok(false);
     }
     let Ok(()) = table.spots.push(Spot { start, ..spot }) else {

@@ -1,0 +1,110 @@
+-- The blocks that are found one by one: what stands at first, and with one more.
+use Rattle.std.proofs.Common.{◌≡◌, ◌⊎◌, ℕ, zero, suc, ◌+◌, ◌-◌, ◌*◌, ◌<◌, ◌≤◌, Bool, true, false, cond, List, [], ◌∷◌, length, refl, sym, ap, ◌∙◌, subst, ⊎_elim, inl, inr, arith}
+use Rattle.std.specs.Prelude.{◌==◌, slice_index, slice_index_or}
+use Rattle.std.proofs.lemmas.Bool.{cases_eq, cases_lt, cases_Bool, eqb-true, false_from_ne_true, eq-eqb, ne_eqb, or_cases, or_left, or_right}
+use Rattle.play_out.specs.Fills.{empties_of}
+use Rattle.tree_words.specs.Settings.{Setting, IsSetting}
+use Rattle.tree_words.specs.Words.{root_at, area_at, end_of, next_in, link_in}
+use Rattle.tree_words.specs.Blocks.{LinkedBlock, size, covers, has_node, is_node, In, link_of, cover, InOrder, Follows, header_or_move, is_header_or_move}
+use Rattle.tree_words.specs.Paths.{NodeState, root_state, node_state, node_board}
+use Rattle.tree_words.specs.Complete.{Linked, AreComplete, IsComplete, HasEmpties, set_of}
+use Rattle.tree_words.specs.Growth.{other_words}
+use Rattle.tree_words.specs.Told.{told_block, Knows}
+use Rattle.tree_words.proofs.Blocks.BlockLaws.{covers_of, covers_if, has-at, root_node, clash}
+use Rattle.tree_words.proofs.Blocks.GameLaws.{IsWhole, whole-in, in-node, spot-same}
+use Rattle.tree_words.proofs.Blocks.NodeLaws.{nodes-apart, node-lies, cover-none, complete-more, in-cover}
+use Rattle.tree_words.proofs.Blocks.Turned.{other-root, other-more}
+use Rattle.tree_words.proofs.Blocks.OneTree.{knows-in}
+use Rattle.tree_words.proofs.Blocks.Within.{told-real, within-node}
+use Rattle.tree_words.proofs.Boards.SetNumbers.{set-has_empties}
+use Rattle.tree_words.proofs.Boards.EmptyLaws.{up-root}
+use Rattle.tree_words.proofs.Walks.Asking.{spot-size}
+use Rattle.trace_audit.specs.declared.linking.Spot.{Spot}
+use Rattle.trace_audit.specs.declared.linking.Table.{Table}
+use Rattle.trace_audit.specs.Tables.{AreUnlinked, block_at, ShowBlock, Stands, state_in, IsSpot, IsTable, IsFollowed, IsLast, Scanned, IsLinked}
+
+module _ (s : Setting) (words : List ℕ) (h : IsSetting s) where
+  -- where a node links a block, that block is among the linked ones, wherever blocks are linked
+  pub link_real : (bs cs : List LinkedBlock) (x : ℕ) → Linked s words cs → Knows (root_at s) cs bs → is_node (root_at s) bs x ≡ true → 0 < link_in words x
+      → In (told_block s bs x (link_in words x)) cs
+  link_real bs cs x lk k n l = told-real s words cs bs x (link_in words x) lk k n h.position.most refl l
+
+  -- and so it is whole
+  pub link_whole : (bs cs : List LinkedBlock) (x : ℕ) → Linked s words cs → Knows (root_at s) cs bs → is_node (root_at s) bs x ≡ true → 0 < link_in words x
+      → IsWhole s (next_in words) cs (told_block s bs x (link_in words x))
+  link_whole bs cs x lk k n l = whole-in s (next_in words) cs (told_block s bs x (link_in words x)) lk.order lk.complete (link_real bs cs x lk k n l)
+
+  -- two blocks that are linked share no word
+  pub apart_blocks : (r : ℕ) (cs : List LinkedBlock) (b c : LinkedBlock) (i : ℕ) → InOrder r cs → In b cs → In c cs → covers i b ≡ true → covers i c ≡ true → b ≡ c
+  apart_blocks r [] b c i g p q u v = absurd p
+  apart_blocks r (d ∷ cs) b c i g p q u v = ⊎_elim
+      (λ (e : b ≡ d). ⊎_elim
+      (λ (f : c ≡ d). e ∙ sym f)
+      (λ (j : In c cs). let none = g.0.clear i (sym (ap (covers i) e) ∙ u) in let some = in-cover cs c i j v in absurd (omega (arith, none, some)))
+      q)
+      (λ (j : In b cs). ⊎_elim
+      (λ (f : c ≡ d). let none = g.0.clear i (sym (ap (covers i) f) ∙ v) in let some = in-cover cs b i j u in absurd (omega (arith, none, some)))
+      (λ (k : In c cs). apart_blocks r cs b c i g.1 j k u v)
+      q)
+      p
+
+  -- the first word of a linked block names its parent
+  pub first_word : (cs : List LinkedBlock) (c : LinkedBlock) → Linked s words cs → In c cs → slice_index words c.start ≡ c.parent
+  first_word cs c lk i =
+      let none : c.start ≡ c.start + 0 = omega arith in
+      ap (slice_index words) none ∙ lk.shows.blocks c 0 i (omega arith) refl
+
+  -- where a node lies, of those found so far
+  pub node_below : (p : ℕ) (bs : List LinkedBlock) (y : ℕ) → area_at s ≤ p → AreComplete s p bs → is_node (root_at s) bs y ≡ true → y + 4 ≤ p
+  node_below p bs y a c n = ⊎_elim
+      (λ (e : y ≡ root_at s). omega (arith, e, a))
+      (λ (e : (area_at s ≤ y) × (y + 4 ≤ p) × (y + 4 ≤ end_of s)). omega (arith, e.1))
+      (node-lies s p bs y c n)
+
+  -- a node without link is followed
+  pub enter_zero : (t : Table) (x p : ℕ) (bs : List LinkedBlock) → Scanned s words t x p bs → is_node (root_at s) bs x ≡ true → link_in words x ≡ 0 → Scanned s words t (x + 1) p bs
+  enter_zero t x p bs sc n e = record {
+    order = sc.order;
+    shown = sc.shown;
+    complete = sc.complete;
+    ended = sc.ended;
+    area = sc.area;
+    table = sc.table;
+    links = λ y m l. ⊎_elim
+        (λ (k : y < x). sc.links y m k)
+        (λ (k : x ≤ y).
+        let at : x ≡ y = omega (arith, k, l) in
+        let here : IsFollowed words t p bs x = inl (e ∙ sym (sc.vacant x n (omega arith))) in
+        subst (IsFollowed words t p bs) at here)
+        (cases_lt y x);
+    vacant = λ y m l. sc.vacant y m (omega (arith, l));
+    entered = sc.entered;
+    others = sc.others;
+    known = sc.known;
+  }
+
+  -- a node whose link names no block that may stand there
+  pub enter_none : (t : Table) (x p : ℕ) (bs : List LinkedBlock) → Scanned s words t x p bs → is_node (root_at s) bs x ≡ true → IsLast s p bs x → length words ≡ end_of s → 0 < link_in words x
+      → ((p ≤ link_in words x) × (link_in words x < length words) × (slice_index words (link_in words x) ≡ x) → ⊥) → AreUnlinked s words
+  enter_none t x p bs sc n last long l not-so cs lk =
+      let b : ℕ = link_in words x in
+      let c : LinkedBlock = told_block s bs x b in
+      let k = sc.known cs lk in
+      let i : In c cs = link_real bs cs x lk k n l in
+      let w = link_whole bs cs x lk k n l in
+      let inside = w.inside in
+      let above = w.above in
+      let free : p ≤ b = ⊎_elim
+      (λ (e : (x ≡ root_at s) × (p ≡ area_at s)). omega (arith, e.1, inside.0))
+      (λ (e : (d : LinkedBlock) × In d bs × (has_node d x ≡ true) × (p ≡ d.start + size d)).
+      let d : LinkedBlock = e.0 in
+      let at = has-at d x e.2 in
+      ⊎_elim
+      (λ (f : b < p).
+      let both : d ≡ c = apart_blocks (root_at s) cs d c b lk.order (knows-in (root_at s) cs bs d k e.1) i (covers_if b d (omega (arith, at.2, above)) (omega (arith, e.3, f))) (covers_if b c (omega arith) (omega arith)) in
+      let start : d.start ≡ b = ap (λ (z : LinkedBlock). z.start) both in
+      absurd (omega (arith, start, at.2, above)))
+      (λ (f : p ≤ b). f)
+      (cases_lt b p))
+      last in
+      not-so (free, omega (arith, inside.1, long), first_word cs c lk i)
