@@ -102,5 +102,6 @@ module _ (s : Setting) (words : List ℕ) (t u : Table) (x p : ℕ) (bs : List L
     vacant = λ y m l. sc.vacant y m (omega (arith, l));
     entered = λ b i. more_index b.start (sc.entered b i);
     others = others ∙ sc.others;
+    few = let few = sc.few in omega (arith, few, others);
     known = sc.known;
   }

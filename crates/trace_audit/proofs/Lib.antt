@@ -12,3 +12,5 @@ pub mod Standing
 pub mod Scanning
 pub mod Entering
 pub mod Passing
+pub mod Cells
+pub mod Matches

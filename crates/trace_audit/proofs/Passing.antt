@@ -47,6 +47,7 @@ skip s words h t p bs sc none = record {
   vacant = λ y n l. sc.vacant y n (omega (arith, l));
   entered = sc.entered;
   others = sc.others;
+  few = let few = sc.few in omega (arith, few);
   known = sc.known;
 }
 
@@ -127,7 +128,7 @@ module _ (s : Setting) (words : List ℕ) (h : IsSetting s) (t : Table) (p : ℕ
   own_link : link_of (block ∷ bs) x ≡ p
   own_link = ap (λ (u : Bool). cond u p (link_of bs x)) (eq-eqb x x refl)
 
-  module _ (u : Table) (index : u.index.items ≡ t.index.items) (spots : u.spots.items ≡ t.spots.items) (others : u.others ≡ other_words s (block ∷ bs)) (mark : 0 < slice_index t.index.items p)
+  module _ (u : Table) (index : u.index.items ≡ t.index.items) (spots : u.spots.items ≡ t.spots.items) (others : u.others ≡ other_words s (block ∷ bs)) (few : u.others ≤ p + size block) (mark : 0 < slice_index t.index.items p)
       (st : Stands s words block) (free : (i : ℕ) → p + 1 ≤ i → i < p + size block → slice_index t.index.items i ≡ 0) where
     same_index : (b : ℕ) → slice_index u.index.items b ≡ slice_index t.index.items b
     same_index b = ap (λ l. slice_index l b) index
@@ -197,5 +198,6 @@ module _ (s : Setting) (words : List ℕ) (h : IsSetting s) (t : Table) (p : ℕ
               (λ (e : b ≡ block). omega (arith, ap (λ z. slice_index u.index.items z.start) e, same_index p, mark))
               (λ (e : In b bs). omega (arith, same_index b.start, sc.entered b e)) i;
           others = others;
+          few = few;
           known = λ cs lk. (block_real cs lk, n, sc.known cs lk);
         }

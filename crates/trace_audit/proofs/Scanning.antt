@@ -1,6 +1,7 @@
 -- The blocks that are found one by one: what stands at first, and with one more.
 use Rattle.std.proofs.Common.{◌≡◌, ◌⊎◌, ℕ, zero, suc, ◌+◌, ◌-◌, ◌*◌, ◌<◌, ◌≤◌, Bool, true, false, cond, List, [], ◌∷◌, length, refl, sym, ap, ◌∙◌, subst, ⊎_elim, inl, inr, arith}
 use Rattle.std.specs.Prelude.{◌==◌, slice_index, slice_index_or}
+use Rattle.std.proofs.lemmas.List.{get_or_past}
 use Rattle.std.proofs.lemmas.Bool.{cases_eq, cases_lt, cases_Bool, eqb-true, false_from_ne_true, eq-eqb, ne_eqb, or_cases, or_left, or_right}
 use Rattle.play_out.specs.Fills.{empties_of}
 use Rattle.tree_words.specs.Settings.{Setting, IsSetting}
@@ -80,6 +81,7 @@ module _ (s : Setting) (words : List ℕ) (h : IsSetting s) where
     vacant = λ y m l. sc.vacant y m (omega (arith, l));
     entered = sc.entered;
     others = sc.others;
+    few = sc.few;
     known = sc.known;
   }
 
@@ -108,3 +110,69 @@ module _ (s : Setting) (words : List ℕ) (h : IsSetting s) where
       (cases_lt b p))
       last in
       not-so (free, omega (arith, inside.1, long), first_word cs c lk i)
+
+  -- between the words of a node no other node begins
+  pub advance : (t : Table) (x p : ℕ) (bs : List LinkedBlock) → Scanned s words t (x + 1) p bs → is_node (root_at s) bs x ≡ true → Scanned s words t (x + 4) p bs
+  advance t x p bs sc n = record {
+    order = sc.order;
+    shown = sc.shown;
+    complete = sc.complete;
+    ended = sc.ended;
+    area = sc.area;
+    table = sc.table;
+    links = λ y m l. ⊎_elim
+        (λ (k : y < x + 1). sc.links y m k)
+        (λ (k : x + 1 ≤ y).
+        let same : y ≡ x = nodes-apart (root_at s) bs y x 0 (y - x) sc.order m n (omega arith) (omega (arith, l, k)) (omega (arith, k)) in
+        absurd (omega (arith, same, k)))
+        (cases_lt y (x + 1));
+    vacant = λ y m l. sc.vacant y m (omega (arith, l));
+    entered = sc.entered;
+    others = sc.others;
+    few = sc.few;
+    known = sc.known;
+  }
+
+  -- before any block is found
+  pub scan_none : (t : Table) → length t.index.items ≡ end_of s → ((i : ℕ) → slice_index t.index.items i ≡ 0) → t.spots.items ≡ [] → t.others ≡ 0 → Scanned s words t (root_at s) (area_at s) []
+  scan_none t long none spots others = record {
+    order = tt;
+    shown = λ b i. absurd i;
+    complete = tt;
+    ended = tt;
+    area = omega arith;
+    table = record {
+      long = long;
+      spots = λ k d l. absurd (omega (arith, l, ap length spots));
+      index = λ b d l. absurd (omega (arith, l, none b));
+    };
+    links = λ y n l. absurd (omega (arith, eqb-true y (root_at s) n, l));
+    vacant = λ y n l. refl;
+    entered = λ b i. absurd i;
+    others = others;
+    few = omega (arith, others);
+    known = λ cs lk. tt;
+  }
+
+  -- all words are passed
+  pub all_passed : (t : Table) (p : ℕ) (bs : List LinkedBlock) → Scanned s words t p p bs → end_of s ≤ p → p ≤ end_of s → IsLinked s words t bs
+  all_passed t p bs sc l m = record {
+    linked = record {
+      order = sc.order;
+      shows = record {
+        blocks = λ b i k. sc.shown b k i;
+        links = λ y n.
+            let below = node_below p bs y sc.area sc.ended n in
+            ⊎_elim
+            (λ (e : link_in words y ≡ link_of bs y). e)
+            (λ (e : (link_of bs y ≡ 0) × (p ≤ link_in words y) × (0 < slice_index t.index.items (link_in words y)) × (slice_index words (link_in words y) ≡ y)).
+            absurd (omega (arith, sc.table.long, e.1, l, e.2, get_or_past t.index.items (link_in words y) 0 (omega (arith, sc.table.long, e.1, l)))))
+            (sc.links y n (omega (arith, below)));
+      };
+      complete = sc.complete;
+    };
+    table = sc.table;
+    entered = sc.entered;
+    others = sc.others;
+    few = let few = sc.few in omega (arith, few, m);
+  }

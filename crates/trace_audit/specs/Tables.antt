@@ -1,8 +1,8 @@
 -- The linked blocks, as they are found one by one.
-use Rattle.std.specs.Prelude.{◌≡◌, ◌⊎◌, ℕ, ◌+◌, ◌-◌, ◌<◌, ◌≤◌, ◌==◌, if◌then◌else◌, true, List, length, slice_index, slice_index_or}
+use Rattle.std.specs.Prelude.{◌≡◌, ◌⊎◌, ℕ, ◌+◌, ◌-◌, ◌<◌, ◌≤◌, ◌==◌, if◌then◌else◌, true, List, ◌∷◌, length, slice_index, slice_index_or}
 use Rattle.hex_board.specs.Positions.{Position}
 use Rattle.play_out.specs.Fills.{empties_of}
-use Rattle.tree_words.specs.Settings.{Setting}
+use Rattle.tree_words.specs.Settings.{Setting, IsSetting}
 use Rattle.tree_words.specs.Words.{root_at, area_at, end_of, next_in, link_in}
 use Rattle.tree_words.specs.Blocks.{LinkedBlock, size, has_node, is_node, In, link_of, InOrder, header_or_move, is_header_or_move}
 use Rattle.tree_words.specs.Paths.{NodeState, node_state}
@@ -82,7 +82,18 @@ pub record Scanned (s : Setting) (words : List ℕ) (t : Table) (done passed : �
   pub vacant : (x : ℕ) → is_node (root_at s) bs x ≡ true → done ≤ x → link_of bs x ≡ 0
   pub entered : (b : LinkedBlock) → In b bs → 0 < slice_index t.index.items b.start
   pub others : t.others ≡ other_words s bs
+  pub few : t.others ≤ passed
   pub known : (cs : List LinkedBlock) → Linked s words cs → Knows (root_at s) cs bs
+
+-- The block b, which begins at `at` and ends at `end`, was found last: the links of its nodes below
+-- `done` are followed.
+pub record IsEntered (s : Setting) (words : List ℕ) (t : Table) (done at end : ℕ) (b : LinkedBlock)
+    (bs : List LinkedBlock) : Type 0 where
+  pub setting : IsSetting s
+  pub long : length words ≡ end_of s
+  pub start : b.start ≡ at
+  pub ends : end ≡ at + size b
+  pub scanned : Scanned s words t done end (b ∷ bs)
 
 -- the node x is the root, and no block is passed, or it is a node of the block that ends where the
 -- words are passed
@@ -98,3 +109,4 @@ pub record IsLinked (s : Setting) (words : List ℕ) (t : Table) (bs : List Link
   pub table : IsTable s words bs t
   pub entered : (b : LinkedBlock) → In b bs → 0 < slice_index t.index.items b.start
   pub others : t.others ≡ other_words s bs
+  pub few : t.others ≤ end_of s

@@ -1,12 +1,12 @@
 //! The blocks that the links show, from the root on.
 
-ghost use Rattle.std.specs.Prelude.{◌≡◌, ℕ, ◌+◌, ◌-◌, ◌*◌, ◌<◌, ◌≤◌, ◌↔◌, IfOk, IsTrue, List, MatchBool, MatchOption, length, slice_index, slice_index_or, true};
+ghost use Rattle.std.specs.Prelude.{◌≡◌, ℕ, ◌+◌, ◌-◌, ◌*◌, ◌<◌, ◌≤◌, ◌↔◌, IfOk, IsTrue, List, [], MatchBool, MatchOption, length, replicate, slice_index, slice_index_or, true};
 ghost use Rattle.hex_board.specs.Positions.{is_empty_at};
 ghost use Rattle.tree_words.specs.Blocks.{LinkedBlock, In, is_node, size};
 ghost use Rattle.tree_words.specs.Paths.{node_state, root_state, state_after};
 ghost use Rattle.tree_words.specs.Settings.{Setting, IsSetting};
 ghost use Rattle.tree_words.specs.Words.{area_at, end_of, root_at};
-ghost use Rattle.trace_audit.specs.Tables.{AreUnlinked, IsLast, IsLinked, Scanned, state_in};
+ghost use Rattle.trace_audit.specs.Tables.{AreUnlinked, IsEntered, IsLast, IsLinked, Scanned, state_in};
 
 use super::blocks::block_end;
 use super::refusals::Memory;
@@ -104,8 +104,15 @@ fn has_entry(index: &[usize], from: usize, to: usize) -> bool
     false
 }
 
-// Enters the blocks below the nodes of the block at `at`.
-fn enter_all(words: &[u64], table: &mut Table, at: usize, end: usize) -> Result<bool, Memory> {
+// Enters the blocks below the nodes of the block at `at`, which ends at `end`.
+fn enter_all(words: &[u64], table: &mut Table, at: usize, end: usize) -> Result<bool, Memory>
+    requires { (s : Setting) × (b : LinkedBlock) × (bs : List LinkedBlock)
+        × IsEntered s words.now table.old (at + 4) at end b bs }
+    ensures { IfOk result (λ ok. (s : Setting) (b : LinkedBlock) (bs : List LinkedBlock)
+        → IsEntered s words.now table.old (at + 4) at end b bs
+        → MatchBool ok (IsEntered s words.now table.new end at end b bs)
+        (AreUnlinked s words.now)) }
+{
     let spot = table.spots[table.index[at] - 1];
     let mut x = at + HEADER_WORDS;
     'nodes: while x < end {
@@ -118,16 +125,26 @@ fn enter_all(words: &[u64], table: &mut Table, at: usize, end: usize) -> Result<
     Ok(true)
 }
 
-// The word after the block at `at`, where one was entered there; else the next word.
-fn pass(
+// Passes the block that was entered at `at`: the word after it, where it stands there alone.
+fn pass_block(
     words: &[u64],
     shape: &Shape,
     table: &mut Table,
     at: usize,
-) -> Result<Option<usize>, Memory> {
-    if table.index[at] == 0 {
-        return Ok(Some(at + 1));
-    }
+) -> Result<Option<usize>, Memory>
+    requires long { length words.now ≡ end_of shape.now }
+    requires at { at < length words.now }
+    requires entry { 0 < slice_index table.old.index.items at }
+    requires scanned { (bs : List LinkedBlock)
+        × Scanned shape.now words.now table.old at at bs }
+    ensures { IfOk result (λ end. (bs : List LinkedBlock)
+        → Scanned shape.now words.now table.old at at bs
+        → MatchOption end (AreUnlinked shape.now words.now)
+        (λ to. (at < to) × (to ≤ end_of shape.now)
+        × ((cs : List LinkedBlock) × Scanned shape.now words.now table.new to to cs))) }
+{
+    // What each shape keeps of itself.
+    let _board = shape.board();
     let spot = table.spots[table.index[at] - 1];
     let parent = words[at] as usize;
     let Some(end) = block_end(words, shape, at, parent, &spot.board) else {
@@ -136,47 +153,71 @@ fn pass(
     if has_entry(&table.index, at + 1, end) {
         return Ok(None);
     }
-    if !enter_all(words, table, at, end)? {
-        return Ok(None);
-    }
     if parent != shape.knobs().playouts as usize + RECORDS_AT {
         table.others += end - at;
     }
-    Ok(Some(end))
+    if enter_all(words, table, at, end)? {
+        Ok(Some(end))
+    } else {
+        Ok(None)
+    }
 }
 
 // The table of the root's link alone.
-fn begin(alloc: Global, shape: &Shape, words: &[u64]) -> Result<Option<Table>, Memory> {
+fn begin(alloc: Global, shape: &Shape, words: &[u64]) -> Result<Option<Table>, Memory>
+    requires { length words.now ≡ end_of shape.now }
+    ensures { IfOk result (λ table. MatchOption table (AreUnlinked shape.now words.now)
+        (λ t. Scanned shape.now words.now t (area_at shape.now) (area_at shape.now) [])) }
+{
+    // What each shape keeps of itself.
+    let _board = shape.board();
     let mut table = Table {
-        index: vec![in alloc; 0; words.len()]?,
+        index: no_entries(alloc, words.len())?,
         spots: Vec::new(alloc),
         others: 0,
     };
     let root = shape.knobs().playouts as usize + RECORDS_AT;
-    let area = shape.knobs().playouts as usize + FRONT_WORDS;
     let spot = Spot {
         start: 0,
         board: *shape.board(),
         player: shape.colour(),
     };
-    if enter(words, &mut table, root, area, spot)? {
+    if enter(words, &mut table, root, root + NODE_WORDS, spot)? {
         Ok(Some(table))
     } else {
         Ok(None)
     }
 }
 
+// An index without entries.
+fn no_entries(alloc: Global, count: usize) -> Result<Vec<usize>, Memory>
+    ensures { IfOk result (λ index. index.items ≡ replicate count 0) }
+{
+    let index = vec![in alloc; 0; count]?;
+    Ok(index)
+}
+
 /// The linked blocks, where there are such.
-pub(crate) fn link(alloc: Global, shape: &Shape, words: &[u64]) -> Result<Option<Table>, Memory> {
+pub(crate) fn link(alloc: Global, shape: &Shape, words: &[u64]) -> Result<Option<Table>, Memory>
+    requires { length words.now ≡ end_of shape.now }
+    ensures { IfOk result (λ table. MatchOption table (AreUnlinked shape.now words.now)
+        (λ t. (bs : List LinkedBlock) × IsLinked shape.now words.now t bs)) }
+{
+    // What each shape keeps of itself.
+    let _board = shape.board();
     let Some(mut table) = begin(alloc, shape, words)? else {
         return Ok(None);
     };
     let mut at = shape.knobs().playouts as usize + FRONT_WORDS;
     'words: while at < words.len() {
-        let Some(next) = pass(words, shape, &mut table, at)? else {
-            return Ok(None);
-        };
-        at = next;
+        if table.index[at] == 0 {
+            at += 1;
+        } else {
+            let Some(end) = pass_block(words, shape, &mut table, at)? else {
+                return Ok(None);
+            };
+            at = end;
+        }
     }
     Ok(Some(table))
 }

@@ -1,6 +1,7 @@
-use Rattle.std.proofs.Common.{◌≡◌, ℕ, ◌+◌, ◌*◌, ◌≤◌, length, arith, ap, sym, ◌∙◌}
+use Rattle.std.proofs.Common.{false, refl, ◌≡◌, ℕ, ◌+◌, ◌*◌, ◌≤◌, length, arith, ap, sym, ◌∙◌}
 use Rattle.tree_words.specs.Blocks.{block_size, size}
 use Rattle.tree_words.specs.Writing.{listed}
+use Rattle.tree_words.proofs.Blocks.BlockLaws.{clash}
 use Rattle.trace_audit.specs.Tables.{block_at, Stands}
 use Rattle.trace_audit.proofs.Standing.{few_listed, stands_is, stands_not}
 use Rattle.trace_audit.proofs.blocks.block_end.Goals as goal
@@ -32,7 +33,7 @@ returns-then-same_block c =
       record {
         inside = omega (arith, long, count, c.if-words-end.false, c.requires.long);
         claimed = omega (arith, long, count, c.if-words-end-2.false);
-        shown = all c.args.words.now (λ i l t. c.if-same_block.ensures.0 tt i (omega (arith, l, long, count)) t);
+        shown = all c.args.words.now (λ i l t. c.if-same_block.ensures.0 refl i (omega (arith, l, long, count)) t);
       },
       omega (arith, long, count),
     )
@@ -44,4 +45,4 @@ returns-else-same_block c = λ h.
     let long : length (listed c.size.result c.cells_below-cells.result) ≡ length (block_at c.args.shape.now c.args.board.now c.args.parent c.args.at).cells = ap length cells in
     let count = c.write_block-count.ensures.count in
     let all = stands_not c.args.shape.now c.args.board.now c.args.parent c.args.at c.empties-empties.result (listed c.size.result c.cells_below-cells.result) _ c.write_block-count.new.words c.empties-empties.ensures cells c.write_block-count.ensures.words in
-    c.if-same_block.ensures.1 (λ i l t. all c.args.words.now h.shown i (omega (arith, l, long, count)) t)
+    clash false (c.if-same_block.ensures.1 (λ i l t. all c.args.words.now h.shown i (omega (arith, l, long, count)) t)) refl
