@@ -14,3 +14,5 @@ pub mod Entering
 pub mod Passing
 pub mod Cells
 pub mod Matches
+pub mod EnterAll
+pub mod Beginning
