@@ -16,3 +16,4 @@ pub mod Cells
 pub mod Matches
 pub mod EnterAll
 pub mod Beginning
+pub mod PassBlock

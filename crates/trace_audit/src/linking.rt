@@ -125,6 +125,19 @@ fn enter_all(words: &[u64], table: &mut Table, at: usize, end: usize) -> Result<
     Ok(true)
 }
 
+// The words of a block below this parent, where it is not the root's.
+fn other_words(shape: &Shape, parent: usize, size: usize) -> usize
+    ensures root { parent ≡ root_at shape.now → result ≡ 0 }
+    ensures other { (parent ≡ root_at shape.now → ⊥) → result ≡ size }
+    ensures range { result ≤ size }
+{
+    if parent == shape.knobs().playouts as usize + RECORDS_AT {
+        0
+    } else {
+        size
+    }
+}
+
 // Passes the block that was entered at `at`: the word after it, where it stands there alone.
 fn pass_block(
     words: &[u64],
@@ -153,9 +166,7 @@ fn pass_block(
     if has_entry(&table.index, at + 1, end) {
         return Ok(None);
     }
-    if parent != shape.knobs().playouts as usize + RECORDS_AT {
-        table.others += end - at;
-    }
+    table.others += other_words(shape, parent, end - at);
     if enter_all(words, table, at, end)? {
         Ok(Some(end))
     } else {
