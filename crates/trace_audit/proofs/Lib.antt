@@ -17,3 +17,4 @@ pub mod Matches
 pub mod EnterAll
 pub mod Beginning
 pub mod PassBlock
+pub mod LinkedLaws

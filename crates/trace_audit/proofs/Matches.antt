@@ -1,6 +1,6 @@
 -- What an answer of yes or no tells.
-use Rattle.std.proofs.Common.{◌≡◌, Bool, true, false, refl}
-use Rattle.std.specs.Prelude.{MatchBool}
+use Rattle.std.proofs.Common.{◌≡◌, Bool, true, false, Option, Some, refl, subst}
+use Rattle.std.specs.Prelude.{MatchBool, MatchOption}
 use Rattle.tree_words.proofs.Blocks.BlockLaws.{clash}
 
 pub if_yes : (b : Bool) (P Q : Type 0) → MatchBool b P Q → b ≡ true → P
@@ -10,3 +10,6 @@ if_yes false P Q m e = absurd (clash false e refl)
 pub if_no : (b : Bool) (P Q : Type 0) → MatchBool b P Q → b ≡ false → Q
 if_no true P Q m e = absurd (clash true refl e)
 if_no false P Q m e = m
+
+pub if_some : {T : Type 0} (r : Option T) (x : T) (P : Type 0) (Q : T → Type 0) → MatchOption r P Q → r ≡ Some x → Q x
+if_some r x P Q m e = subst (λ z. MatchOption z P Q) e m

@@ -4,3 +4,4 @@ pub mod Verdicts
 pub mod Fields
 pub mod Texts
 pub mod Tables
+pub mod Sums
