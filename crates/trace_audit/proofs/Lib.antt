@@ -18,3 +18,6 @@ pub mod EnterAll
 pub mod Beginning
 pub mod PassBlock
 pub mod LinkedLaws
+pub mod Seeing
+pub mod Climbing
+pub mod Ways
