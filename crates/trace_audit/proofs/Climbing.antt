@@ -21,7 +21,7 @@ use Rattle.tree_words.proofs.Blocks.NodeLaws.{nodes-apart}
 use Rattle.tree_words.proofs.Boards.EmptyLaws.{up-root}
 use Rattle.tree_words.proofs.Walks.Countings.{count-more}
 use Rattle.tree_words.proofs.Walks.Tallies.{other_again}
-use Rattle.trace_audit.specs.Sums.{SeesSome, Climbed}
+use Rattle.trace_audit.specs.Sums.{AreSmall, SeesSome, Climbed}
 use Rattle.trace_audit.proofs.Scanning.{apart_blocks}
 
 plus_none : (c : Count) → plus c nothing ≡ c
@@ -180,3 +180,74 @@ module _ (s : Setting) (words : List ℕ) (h : IsSetting s) (bs : List LinkedBlo
               (cases_Bool (has_node d y));
           moves = λ w m. c.moves w m ∙ later_move w m;
         }
+
+    one_most : (t : Bool) → AtMost 1 (one t)
+    one_most true = (omega arith, omega arith)
+    one_most false = (omega arith, omega arith)
+
+    none_most : AtMost 1 nothing
+    none_most = (omega arith, omega arith)
+
+    sum_most : (m : ℕ) (c d e : Count) → c ≡ plus d e → AtMost m d → AtMost 1 e → AtMost (m + 1) c
+    sum_most m c d e is p q = (omega (arith, ap (λ (n : Count). n.visits) is, p.0, q.0), omega (arith, ap (λ (n : Count). n.wins) is, p.1, q.1))
+
+    gain_most : AtMost 1 (gain_of o (node_state s bs y))
+    gain_most = subst (AtMost 1) gained (one_most (is_same o.winner who))
+
+    glimpse_most : (c : ℕ) → AtMost 1 (glimpse_of o (node_state s bs b.parent) c)
+    unfolding glimpse_of
+    glimpse_most c = by (has_cell (stones_of o.full (node_state s bs b.parent).player) c)
+      where
+        by : (t : Bool) → AtMost 1 (cond t (one (is_same o.winner (node_state s bs b.parent).player)) nothing)
+        by true = one_most (is_same o.winner (node_state s bs b.parent).player)
+        by false = none_most
+
+    more_most : (m : ℕ) (c : Count) → AtMost m c → AtMost (m + 1) c
+    more_most m c p = (omega (arith, p.0), omega (arith, p.1))
+
+    -- no count has grown by more than one
+    pub later_small : (m : ℕ) → AreSmall s bs now m → AreSmall s bs later (m + 1)
+    later_small m a = record {
+      tallies = λ w q. ⊎_elim
+          (λ (e : w ≡ y). subst (λ (v : ℕ). AtMost (m + 1) (tally_in later v)) (sym e) (sum_most m (tally_in later y) (tally_in now y) _ later_own (a.tallies y node_y) gain_most))
+          (λ (e : w ≡ y → ⊥). subst (AtMost (m + 1)) (sym (later_tally w q e)) (more_most m (tally_in now w) (a.tallies w q)))
+          (cases_eq w y);
+      seen = λ d z j q. ⊎_elim
+          (λ (e : has_node d y ≡ true).
+          let is : b ≡ d = own_block b d y i j n e in
+          sum_most m (seen_in later z) (seen_in now z) _ (later_seen z (ap (λ (p : LinkedBlock). has_node p z) is ∙ q)) (a.seen d z j q) (glimpse_most (cell_at b (place b z))))
+          (λ (e : has_node d y ≡ false). subst (AtMost (m + 1)) (sym (later_unseen d z j q e)) (more_most m (seen_in now z) (a.seen d z j q)))
+          (cases_Bool (has_node d y));
+    }
+
+  -- at the root
+  pub climb_root : (o : Ending) (now : List ℕ) (amount : ℕ) (who : Colour) → who ≡ mover_at (node_state s bs r) → amount ≡ amount_of (is_same o.winner who) → r + 2 < length now → wins_in (slice_index now (r + 2)) + 1 < 2 ^ 32
+      → Climbed s bs o r now (set now (r + 2) (slice_index now (r + 2) + amount))
+  unfolding gain_of
+  climb_root o now amount who mover amounts inside fits =
+      let v : ℕ = slice_index now (r + 2) + amount in
+      let root : is_node r bs r ≡ true = root_node r bs in
+      let path : path_of s bs r ≡ r ∷ [] = up-root (r ∷ []) (λ c z rest. z ∷ rest) r bs lk.order in
+      let gained : one (is_same o.winner who) ≡ gain_of o (node_state s bs r) = ap (λ (c : Colour). one (is_same o.winner c)) mover in
+      let other : (w j : ℕ) → is_node r bs w ≡ true → j < 4 → (j ≡ 2 → ⊥) → slice_index (set now (r + 2) v) (w + j) ≡ slice_index now (w + j)
+      = λ w j m l d. get_or-set_other now (r + 2) (w + j) v 0 (λ e. let same = nodes-apart r bs w r j 2 lk.order m root l (omega arith) e in d (omega (arith, same, e))) in
+      record {
+        long = length-set now (r + 2) v;
+        tally = λ w m. ⊎_elim
+            (λ (e : w ≡ r).
+            let on : is_on s bs w r ≡ true = ap (list_any (λ z. z == w)) path ∙ or_left (r == w) false (eq-eqb r w (sym e)) in
+            ap (tally_in (set now (r + 2) v)) e ∙ ap count_in (get_or-set_same now (r + 2) v 0 inside ∙ ap (λ (a : ℕ). slice_index now (r + 2) + a) amounts)
+            ∙ count-more (slice_index now (r + 2)) (is_same o.winner who) fits ∙ (λ j. plus (tally_in now (sym e j)) (gained j)) ∙ (λ j. plus (tally_in now w) (gain_of o (node_state s bs (sym e j))))
+            ∙ sym (ap (λ (u : Bool). plus (tally_in now w) (cond u (gain_of o (node_state s bs w)) nothing)) on))
+            (λ (e : w ≡ r → ⊥).
+            let off : is_on s bs w r ≡ false = ap (list_any (λ z. z == w)) path ∙ or_from (r == w) false (ne_eqb r w (λ q. e (sym q))) refl in
+            ap count_in (get_or-set_other now (r + 2) (w + 2) v 0 (λ q. e (omega (arith, q)))) ∙ sym (plus_none (tally_in now w))
+            ∙ sym (ap (λ (u : Bool). plus (tally_in now w) (cond u (gain_of o (node_state s bs w)) nothing)) off))
+            (cases_eq w r);
+        seen = λ d z j m.
+            let low = parent_low r bs d lk.order j in
+            let off : enters s bs d r ≡ false = ap (list_any (has_node d)) path ∙ or_from (has_node d r) false (false_from_ne_true (has_node d r) (λ q. let f = has-at d r q in omega (arith, f.2, low.1))) refl in
+            ap count_in (other z 3 (in-node r bs d z j m) (omega arith) (λ q. omega (arith, q))) ∙ sym (plus_none (seen_in now z))
+            ∙ sym (ap (λ (u : Bool). plus (seen_in now z) (cond u (glimpse_of o (node_state s bs d.parent) (cell_at d (place d z))) nothing)) off);
+        moves = λ w m. let none : w ≡ w + 0 = omega arith in ap (slice_index (set now (r + 2) v)) none ∙ other w 0 m (omega arith) (λ q. omega (arith, q)) ∙ sym (ap (slice_index now) none);
+      }

@@ -21,3 +21,5 @@ pub mod LinkedLaws
 pub mod Seeing
 pub mod Climbing
 pub mod Ways
+pub mod Placed
+pub mod AddNode

@@ -14,34 +14,27 @@ use Rattle.tree_words.proofs.Boards.RootLaws.{complete_in}
 use Rattle.trace_audit.specs.declared.linking.Spot.{Spot}
 use Rattle.trace_audit.specs.declared.linking.Table.{Table}
 use Rattle.trace_audit.specs.Tables.{state_in, IsSpot, IsLinked}
-use Rattle.trace_audit.proofs.Cells.{IsMove, move_is}
+use Rattle.trace_audit.proofs.Cells.{IsMove}
+use Rattle.trace_audit.proofs.Placed.{count_is, lies, most_of, move_of, parent_is, place_of}
 
 module _ (s : Setting) (words : List ℕ) (t : Table) (bs : List LinkedBlock) (h : IsSetting s) (lk : IsLinked s words t bs) where
   pub lies_in : (b : LinkedBlock) → In b bs → (area_at s ≤ b.start) × (b.start + size b ≤ end_of s)
-  lies_in b i = (complete_in s (next_in words) bs b lk.linked.complete i).1.inside
+  lies_in b i = lies s words bs h lk.linked b i
 
   pub parent_word : (b : LinkedBlock) → In b bs → slice_index words b.start ≡ b.parent
-  parent_word b i =
-      let none : b.start ≡ b.start + 0 = omega arith in
-      ap (slice_index words) none ∙ lk.linked.shows.blocks b 0 i (omega arith) refl
+  parent_word b i = parent_is s words bs h lk.linked b i
 
   pub count_word : (b : LinkedBlock) → In b bs → slice_index words (b.start + 3) ≡ length b.cells
-  count_word b i = lk.linked.shows.blocks b 3 i (omega arith) refl
+  count_word b i = count_is s words bs h lk.linked b i
 
-  -- the place of a node in its block, and what its move says
   pub node_move : (b : LinkedBlock) (x : ℕ) → In b bs → has_node b x ≡ true → (k : ℕ) × (k < length b.cells) × (x ≡ b.start + 4 + 4 * k) × IsMove s words bs b k
-  node_move b x i n =
-      let at = has-at b x n in
-      (at.0, at.1, omega (arith, at.2), move_is s words (next_in words) bs b at.0 h lk.linked.order lk.linked.complete i (λ j l m. lk.linked.shows.blocks b j i l m) at.1)
+  node_move b x i n = move_of s words bs h lk.linked b x i n
 
   pub place_word : (b : LinkedBlock) (x : ℕ) → In b bs → has_node b x ≡ true → (x ≡ b.start + 4 + 4 * (slice_index words x / 256)) × (slice_index words x / 256 < length b.cells)
-  place_word b x i n =
-      let m = node_move b x i n in
-      let place : slice_index words x / 256 ≡ m.0 = ap (λ (y : ℕ). slice_index words y / 256) m.2 ∙ m.3.place in
-      (omega (arith, m.2, place), omega (arith, m.1, place))
+  place_word b x i n = place_of s words bs h lk.linked b x i n
 
   pub node_most : (b : LinkedBlock) (x : ℕ) → In b bs → has_node b x ≡ true → (area_at s ≤ x) × (x + 4 ≤ end_of s)
-  node_most b x i n = let m = node_move b x i n in let l = lies_in b i in (omega (arith, m.2, l.0), omega (arith, m.1, m.2, l.1))
+  node_most b x i n = most_of s words bs h lk.linked b x i n
 
   -- the block of a node is entered
   pub block_entry : (b : LinkedBlock) → In b bs → 0 < slice_index t.index.items b.start

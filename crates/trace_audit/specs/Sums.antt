@@ -1,5 +1,5 @@
 -- The sums of what playouts add, in a second list of words.
-use Rattle.std.specs.Prelude.{◌≡◌, ◌≢◌, ℕ, ◌+◌, ◌*◌, ◌<◌, ◌≤◌, if◌then◌else◌, true, List, length, slice_index}
+use Rattle.std.specs.Prelude.{◌≡◌, ◌≢◌, ℕ, ◌+◌, ◌*◌, ◌^◌, ◌<◌, ◌≤◌, if◌then◌else◌, true, List, length, slice_index}
 use Rattle.hex_cells.specs.Sets.{has as has_cell}
 use Rattle.play_out.specs.declared.playouts.Ending.{Ending}
 use Rattle.tree_words.specs.Settings.{Setting, IsSetting}
@@ -67,3 +67,23 @@ pub record CanClimb (s : Setting) (bs : List LinkedBlock) (words sums : List ℕ
   pub top : root ≡ root_at s
   pub node : is_node (root_at s) bs x ≡ true
   pub small : AreSmall s bs sums s.knobs.playouts
+
+-- an ending can be added to the node y of the block b, whose counts do not pass m
+pub record CanAdd (s : Setting) (bs : List LinkedBlock) (words sums : List ℕ) (b : LinkedBlock)
+    (y m : ℕ) : Type 0 where
+  pub setting : IsSetting s
+  pub linked : Linked s words bs
+  pub whole : length words ≡ end_of s
+  pub long : length sums ≡ end_of s
+  pub inside : In b bs
+  pub node : has_node b y ≡ true
+  pub small : AreSmall s bs sums m
+  pub few : m < 2 ^ 31
+
+-- it is added: with what is added from the parent on, it is added from the node on
+pub record IsAdded (s : Setting) (bs : List LinkedBlock) (o : Ending) (b : LinkedBlock) (y m : ℕ)
+    (before after : List ℕ) (parent : ℕ) : Type 0 where
+  pub up : parent ≡ b.parent
+  pub long : length after ≡ length before
+  pub small : AreSmall s bs after (m + 1)
+  pub go : (last : List ℕ) → Climbed s bs o b.parent after last → Climbed s bs o y before last

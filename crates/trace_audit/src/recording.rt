@@ -9,7 +9,7 @@ ghost use Rattle.tree_words.specs.Records.{IsRecord, Recorded};
 ghost use Rattle.tree_words.specs.Sequence.{amount_of};
 ghost use Rattle.tree_words.specs.Settings.{IsSetting, Setting};
 ghost use Rattle.tree_words.specs.Words.{cell_in, end_of, nodes_in, root_at, winner_in};
-ghost use Rattle.trace_audit.specs.Sums.{AreSums, CanClimb, Climbed, SeesSome};
+ghost use Rattle.trace_audit.specs.Sums.{AreSums, CanAdd, CanClimb, Climbed, IsAdded, SeesSome};
 ghost use Rattle.trace_audit.specs.Tables.{IsLinked, state_in};
 
 use super::linking::{Spot, Table};
@@ -89,6 +89,22 @@ fn see(words: &[u64], sums: &mut [u64], block: usize, stones: CellSet, amount: u
     }
 }
 
+// Adds the ending to a node below the root, which this player chose, and to the nodes of its block
+// that it sees. Answers the node's parent.
+fn add_node(words: &[u64], sums: &mut [u64], node: usize, player: Colour, ending: &Ending) -> usize
+    requires { (s : Setting) × (bs : List LinkedBlock) × (b : LinkedBlock) × (m : ℕ)
+        × CanAdd s bs words.now sums.old b node m }
+    ensures { (s : Setting) (bs : List LinkedBlock) (b : LinkedBlock) (m : ℕ)
+        → CanAdd s bs words.now sums.old b node m → player ≡ (node_state s bs b.parent).player
+        → IsAdded s bs ending.now b node m sums.old sums.new result }
+{
+    let amount = amount(player, ending.winner);
+    gain(sums, node + TALLY_WORD, amount);
+    let block = node - HEADER_WORDS - NODE_WORDS * (words[node] / PLACE_UNIT) as usize;
+    see(words, sums, block, ending.full.stones(player), amount);
+    words[block] as usize
+}
+
 // Adds the ending on the way from a node, where this player is to move, up to the root.
 fn climb(
     words: &[u64],
@@ -108,11 +124,7 @@ fn climb(
     let mut player = to_move;
     'up: while node != root {
         player = player.other();
-        let amount = amount(player, ending.winner);
-        gain(sums, node + TALLY_WORD, amount);
-        let block = node - HEADER_WORDS - NODE_WORDS * (words[node] / PLACE_UNIT) as usize;
-        see(words, sums, block, ending.full.stones(player), amount);
-        node = words[block] as usize;
+        node = add_node(words, sums, node, player, ending);
     }
     gain(
         sums,

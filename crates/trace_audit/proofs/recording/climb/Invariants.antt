@@ -8,7 +8,7 @@ use Rattle.trace_audit.proofs.recording.climb.Given as goal
 
 abbrev pub invariant-up : goal.invariant-up
 invariant-up l = (length l.sums ≡ length l.initial.sums)
-    × ((s : Setting) (bs : List LinkedBlock) → CanClimb s bs l.words l.initial.sums l.root l.leaf → l.to_move ≡ (node_state s bs l.leaf).player
+    × ((s : Setting) (bs : List LinkedBlock) → CanClimb s bs l.words l.initial.sums l.root l.leaf → l.fn.to_move ≡ (node_state s bs l.leaf).player
     → Upward s bs l.words l.ending l.root l.leaf l.initial.sums l.sums l.node l.player)
 
 abbrev pub decreases-up : goal.decreases-up
