@@ -17,7 +17,7 @@ use Rattle.trace_audit.proofs.Cells.{IsMove, move_is}
 use Rattle.trace_audit.proofs.Climbing.{climb_step, later_small}
 use Rattle.trace_audit.proofs.Placed.{count_is, lies, most_of, move_of, parent_is, place_of}
 
-word_fits : (w m a : ℕ) → visits_in w ≤ m → wins_in w ≤ m → m < 2 ^ 31 → a ≤ 2 ^ 32 + 1 → w + a < 2 ^ 64
+pub word_fits : (w m a : ℕ) → visits_in w ≤ m → wins_in w ≤ m → m < 2 ^ 31 → a ≤ 2 ^ 32 + 1 → w + a < 2 ^ 64
 word_fits w m a v u l k = omega (arith, v, u, l, k)
 
 module _ (s : Setting) (bs : List LinkedBlock) (words sums : List ℕ) (b : LinkedBlock) (y m : ℕ) (k : CanAdd s bs words sums b y m) where

@@ -23,3 +23,5 @@ pub mod Climbing
 pub mod Ways
 pub mod Placed
 pub mod AddNode
+pub mod WayUp
+pub mod Adding

@@ -115,7 +115,8 @@ fn climb(
     ending: &Ending,
 )
     requires { (s : Setting) × (bs : List LinkedBlock)
-        × CanClimb s bs words.now sums.old root leaf }
+        × CanClimb s bs words.now sums.old root leaf
+        × (to_move ≡ (node_state s bs leaf).player) }
     ensures { (s : Setting) (bs : List LinkedBlock)
         → CanClimb s bs words.now sums.old root leaf → to_move ≡ (node_state s bs leaf).player
         → Climbed s bs ending.now leaf sums.old sums.new }
