@@ -35,12 +35,14 @@ count_few (suc n) f = omega (arith, count_few n f, one_few (f n))
 -- no sum passes the number of playouts
 pub sums_small : (s : Setting) (bs : List LinkedBlock) (words sums : List ℕ) (k m : ℕ) → k ≤ m → AreSums s bs words sums k → AreSmall s bs sums m
 sums_small s bs words sums k m l a = record {
-  tallies = λ x n.
-      (omega (arith, ap (λ (c : Count). c.visits) (a.tallies x n), count_few k (λ j. is_on s bs x (leaf_of words j)), l),
-      omega (arith, ap (λ (c : Count). c.wins) (a.tallies x n), count_few k (λ j. is_on s bs x (leaf_of words j) && is_same (outcome_in s bs words j).winner (mover_of s bs x)), l));
-  seen = λ b y i n.
-      (omega (arith, ap (λ (c : Count). c.visits) (a.seen b y i n), count_few k (λ j. is_seen s bs words b y j), l),
-      omega (arith, ap (λ (c : Count). c.wins) (a.seen b y i n), count_few k (λ j. is_seen s bs words b y j && is_same (outcome_in s bs words j).winner (mover_of s bs y)), l));
+  tallies = λ x n. (
+    omega (arith, ap (λ (c : Count). c.visits) (a.tallies x n), count_few k (λ j. is_on s bs x (leaf_of words j)), l),
+    omega (arith, ap (λ (c : Count). c.wins) (a.tallies x n), count_few k (λ j. is_on s bs x (leaf_of words j) && is_same (outcome_in s bs words j).winner (mover_of s bs x)), l),
+  );
+  seen = λ b y i n. (
+    omega (arith, ap (λ (c : Count). c.visits) (a.seen b y i n), count_few k (λ j. is_seen s bs words b y j), l),
+    omega (arith, ap (λ (c : Count). c.wins) (a.seen b y i n), count_few k (λ j. is_seen s bs words b y j && is_same (outcome_in s bs words j).winner (mover_of s bs y)), l),
+  );
 }
 
 -- no playout

@@ -25,3 +25,4 @@ pub mod Placed
 pub mod AddNode
 pub mod WayUp
 pub mod Adding
+pub mod AddPlayout

@@ -5,3 +5,4 @@ pub mod Fields
 pub mod Texts
 pub mod Tables
 pub mod Sums
+pub mod Points

@@ -145,6 +145,13 @@ fn winner_of(word: u64) -> Colour
     }
 }
 
+// Whether this player won by a record.
+fn is_winner(player: Colour, word: u64) -> bool
+    ensures { MatchBool result (player ≡ winner_in word) (player ≡ winner_in word → ⊥) }
+{
+    player == winner_of(word)
+}
+
 // The board and the player to move at a node of the block at `block`.
 fn spot_of(words: &[u64], table: &Table, block: usize, node: usize) -> Spot
     requires { (s : Setting) × (bs : List LinkedBlock) × (b : LinkedBlock) × IsSetting s
@@ -178,7 +185,7 @@ fn add(words: &[u64], shape: &Shape, table: &Table, sums: &mut [u64], k: u32) ->
     let leaf = (word / RECORD_UNIT) as usize;
     let spot = spot_of(words, table, block, leaf);
     let ending = play(&spot.board, spot.player, shape.knobs().seed, u64::from(k));
-    if ending.winner != winner_of(word) {
+    if !is_winner(ending.winner, word) {
         return false;
     }
     let root = shape.knobs().playouts as usize + RECORDS_AT;
