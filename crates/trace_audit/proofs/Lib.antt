@@ -26,3 +26,4 @@ pub mod AddNode
 pub mod WayUp
 pub mod Adding
 pub mod AddPlayout
+pub mod InBlock

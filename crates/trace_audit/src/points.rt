@@ -1,44 +1,50 @@
 //! The counts, the ends and the growth of a tree whose blocks are linked and whose records are
 //! right.
 
-ghost use Rattle.std.specs.Prelude.{◌≡◌, ℕ, ◌+◌, ◌*◌, ◌<◌, ◌≤◌, ◌^◌, List, MatchBool, length, slice_index, true};
-ghost use Rattle.hex_board.specs.Positions.{is_empty_at};
-ghost use Rattle.tree_words.specs.Blocks.{In, LinkedBlock, has_node};
+ghost use Rattle.std.specs.Prelude.{◌≡◌, ℕ, ◌+◌, ◌*◌, ◌<◌, ◌≤◌, ◌^◌, List, MatchBool, length, slice_index, true, false};
+ghost use Rattle.hex_board.specs.Positions.{is_empty_at, placed};
+ghost use Rattle.hex_cells.specs.declared.board_size.TheConstants.{MOST_CELLS};
+ghost use Rattle.tree_words.specs.Blocks.{LinkedBlock, block_size};
 ghost use Rattle.tree_words.specs.Closing.{KeepsEnds};
+ghost use Rattle.tree_words.specs.Complete.{allowed_cells};
 ghost use Rattle.tree_words.specs.Counts.{Exact};
 ghost use Rattle.tree_words.specs.Growth.{Grown};
-ghost use Rattle.tree_words.specs.Paths.{node_board, node_state};
-ghost use Rattle.tree_words.specs.Settings.{IsSetting, Setting};
-ghost use Rattle.tree_words.specs.Words.{end_of, next_in, root_at, seen_in, tally_in};
-ghost use Rattle.trace_audit.specs.Points.{HasRoom, IsFirst, IsFrugal, IsInBlock, SameCounts};
+ghost use Rattle.tree_words.specs.Words.{cell_in, end_of, nodes_in};
+ghost use Rattle.trace_audit.specs.Points.{AreSame, HasRoom, IsFrugal, node_at, visits_at};
 ghost use Rattle.trace_audit.specs.Sums.{AreSums};
-ghost use Rattle.trace_audit.specs.Tables.{IsLinked, state_in};
+ghost use Rattle.trace_audit.specs.Tables.{IsLinked};
 
 use super::linking::{Spot, Table};
 use hex_cells::Cell;
 use tree_words::layout::{
-    COUNT_WORD, FRONT_WORDS, HEADER_WORDS, MOST_BLOCK_WORDS, NEXT_AT, NODE_WORDS, RECORDS_AT,
-    SEEN_WORD, TALLY_WORD, TICKET_AT,
+    COUNT_WORD, FRONT_WORDS, HEADER_WORDS, MOST_BLOCK_WORDS, MOST_NODES, NEXT_AT, NODE_WORDS,
+    RECORDS_AT, SEEN_WORD, TALLY_WORD, TICKET_AT,
 };
-use tree_words::{MOST_WORKERS, Shape, cell_of, visits_of};
+use tree_words::{MOST_WORKERS, Shape, cell_of, visits_of, write_moves};
+
+// Whether the tally and the seen word of the node at `x` are the sums.
+fn has_same(words: &[u64], sums: &[u64], x: usize) -> bool
+    requires words { x + NODE_WORDS ≤ length words.now }
+    requires sums { x + NODE_WORDS ≤ length sums.now }
+    ensures { MatchBool result (AreSame words.now sums.now x) (¬ (AreSame words.now sums.now x)) }
+{
+    words[x + TALLY_WORD] == sums[x + TALLY_WORD] && words[x + SEEN_WORD] == sums[x + SEEN_WORD]
+}
 
 // Whether the counts of the nodes of the block are the sums.
 fn has_sums(words: &[u64], sums: &[u64], block: usize) -> bool
-    requires { (s : Setting) × (bs : List LinkedBlock) × (b : LinkedBlock)
-        × IsInBlock s words.now bs b block × (length sums.now ≡ length words.now) }
-    ensures { (s : Setting) (bs : List LinkedBlock) (b : LinkedBlock)
-        → IsInBlock s words.now bs b block → MatchBool result (SameCounts words.now sums.now b)
-        (¬ (SameCounts words.now sums.now b)) }
+    requires within { block + block_size (nodes_in words.now block) ≤ length words.now }
+    requires long { length sums.now ≡ length words.now }
+    ensures { MatchBool result
+        ((k : ℕ) → k < nodes_in words.now block → AreSame words.now sums.now (node_at block k))
+        ((k : ℕ) × (k < nodes_in words.now block)
+        × ¬ (AreSame words.now sums.now (node_at block k))) }
 {
-    let end = block + HEADER_WORDS + NODE_WORDS * words[block + COUNT_WORD] as usize;
-    let mut x = block + HEADER_WORDS;
-    'nodes: while x < end {
-        if words[x + TALLY_WORD] != sums[x + TALLY_WORD]
-            || words[x + SEEN_WORD] != sums[x + SEEN_WORD]
-        {
+    let count = words[block + COUNT_WORD] as usize;
+    'nodes: for place in 0..count {
+        if !has_same(words, sums, block + HEADER_WORDS + NODE_WORDS * place) {
             return false;
         }
-        x += NODE_WORDS;
     }
     true
 }
@@ -77,50 +83,83 @@ pub(crate) fn keeps_ends(words: &[u64], shape: &Shape) -> bool
         && ticket <= playouts + u64::from(MOST_WORKERS)
 }
 
-// Whether no node of the block has more than so many visits, or each has some.
-fn has_first_visits(words: &[u64], block: usize, workers: u32) -> bool
-    requires { (s : Setting) × (bs : List LinkedBlock) × (b : LinkedBlock)
-        × IsInBlock s words.now bs b block }
-    ensures { (s : Setting) (bs : List LinkedBlock) (b : LinkedBlock)
-        → IsInBlock s words.now bs b block → MatchBool result (IsFirst words.now b workers)
-        (¬ (IsFirst words.now b workers)) }
+// Whether a node of the block has no visits.
+fn has_unvisited(words: &[u64], block: usize) -> bool
+    requires { block + block_size (nodes_in words.now block) ≤ length words.now }
+    ensures { MatchBool result
+        ((k : ℕ) × (k < nodes_in words.now block) × (visits_at words.now block k ≡ 0))
+        ((k : ℕ) → k < nodes_in words.now block → 0 < visits_at words.now block k) }
 {
-    let end = block + HEADER_WORDS + NODE_WORDS * words[block + COUNT_WORD] as usize;
-    let mut none = false;
-    let mut many = false;
-    let mut x = block + HEADER_WORDS;
-    'nodes: while x < end {
-        let visits = visits_of(words[x + TALLY_WORD]);
-        none = none || visits == 0;
-        many = many || workers < visits;
-        x += NODE_WORDS;
+    let count = words[block + COUNT_WORD] as usize;
+    'nodes: for place in 0..count {
+        let x = block + HEADER_WORDS + NODE_WORDS * place;
+        if visits_of(words[x + TALLY_WORD]) == 0 {
+            return true;
+        }
     }
-    !(none && many)
+    false
+}
+
+// Whether a node of the block has more visits than so many.
+fn has_more(words: &[u64], block: usize, most: u32) -> bool
+    requires { block + block_size (nodes_in words.now block) ≤ length words.now }
+    ensures { MatchBool result
+        ((k : ℕ) × (k < nodes_in words.now block) × (most < visits_at words.now block k))
+        ((k : ℕ) → k < nodes_in words.now block → visits_at words.now block k ≤ most) }
+{
+    let count = words[block + COUNT_WORD] as usize;
+    'nodes: for place in 0..count {
+        let x = block + HEADER_WORDS + NODE_WORDS * place;
+        if most < visits_of(words[x + TALLY_WORD]) {
+            return true;
+        }
+    }
+    false
+}
+
+// Whether the board after a stone on the cell has an empty cell.
+fn is_open(spot: &Spot, cell: Cell) -> bool
+    requires { is_empty_at spot.now.board cell ≡ true }
+    ensures { MatchBool result
+        ((c : ℕ) × (is_empty_at (placed spot.now.board spot.now.player cell) c ≡ true))
+        ((c : ℕ) → is_empty_at (placed spot.now.board spot.now.player cell) c ≡ false) }
+{
+    let after = spot.after(cell);
+    after.board.empties().least().is_some()
 }
 
 // Whether each node of the block with an empty cell on its board is the leaf of at most so many
 // records.
 fn has_few_leaves(words: &[u64], sums: &[u64], spot: &Spot, most: u64) -> bool
-    requires { (s : Setting) × (bs : List LinkedBlock) × (b : LinkedBlock)
-        × IsInBlock s words.now bs b spot.now.start × (length sums.now ≡ length words.now)
-        × (state_in spot.now ≡ node_state s bs b.parent) }
-    ensures { (s : Setting) (bs : List LinkedBlock) (b : LinkedBlock)
-        → IsInBlock s words.now bs b spot.now.start → state_in spot.now ≡ node_state s bs b.parent
-        → MatchBool result (IsFrugal s bs sums.now b most) (¬ (IsFrugal s bs sums.now b most)) }
+    requires within { let b = spot.now.start in
+        b + block_size (nodes_in words.now b) ≤ length words.now }
+    requires long { length sums.now ≡ length words.now }
+    requires cells { (k : ℕ) → k < nodes_in words.now spot.now.start
+        → let cell = cell_in (slice_index words.now (node_at spot.now.start k)) in
+        (cell < MOST_CELLS) × (is_empty_at spot.now.board cell ≡ true) }
+    ensures { MatchBool result
+        ((k : ℕ) → k < nodes_in words.now spot.now.start → IsFrugal words.now sums.now spot.now most k)
+        ((k : ℕ) × (k < nodes_in words.now spot.now.start)
+        × ¬ (IsFrugal words.now sums.now spot.now most k)) }
 {
-    let block = spot.start;
-    let end = block + HEADER_WORDS + NODE_WORDS * words[block + COUNT_WORD] as usize;
-    let mut x = block + HEADER_WORDS;
-    'nodes: while x < end {
-        if most < sums[x] {
-            let after = spot.after(Cell::numbered(cell_of(words[x])));
-            if !after.board.empties().is_empty() {
-                return false;
-            }
+    let count = words[spot.start + COUNT_WORD] as usize;
+    'nodes: for place in 0..count {
+        let x = spot.start + HEADER_WORDS + NODE_WORDS * place;
+        if most < sums[x] && is_open(spot, Cell::numbered(cell_of(words[x]))) {
+            return false;
         }
-        x += NODE_WORDS;
     }
     true
+}
+
+// How many cells are allowed.
+fn allowed_count(shape: &Shape) -> usize
+    ensures value { result ≡ length (allowed_cells shape.now) }
+    ensures range { result ≤ MOST_NODES }
+{
+    let size = shape.board().size();
+    let mut block = [0; MOST_BLOCK_WORDS];
+    write_moves(&mut block, 0, shape.allowed(), size)
 }
 
 // Whether NEXT is at most the end of the root's block, so many times the other blocks' words, and
@@ -132,7 +171,7 @@ fn has_room(words: &[u64], shape: &Shape, others: usize) -> bool
         (¬ (HasRoom shape.now words.now others)) }
 {
     let area = shape.knobs().playouts as usize + FRONT_WORDS;
-    let root_end = area + HEADER_WORDS + NODE_WORDS * shape.allowed().count() as usize;
+    let root_end = area + HEADER_WORDS + NODE_WORDS * allowed_count(shape);
     let workers = shape.knobs().workers as usize;
     words[NEXT_AT] <= (root_end + workers * others + MOST_BLOCK_WORDS * workers) as u64
 }
@@ -150,7 +189,7 @@ pub(crate) fn is_grown(words: &[u64], shape: &Shape, table: &Table, sums: &[u64]
     let most = u64::from(workers) * u64::from(shape.knobs().expand);
     let is_bound = words[NEXT_AT] <= words.len() as u64;
     'blocks: for spot in &table.spots {
-        if !has_first_visits(words, spot.start, workers) {
+        if has_unvisited(words, spot.start) && has_more(words, spot.start, workers) {
             return false;
         }
         if is_bound && !has_few_leaves(words, sums, spot, most) {
