@@ -27,3 +27,4 @@ pub mod WayUp
 pub mod Adding
 pub mod AddPlayout
 pub mod InBlock
+pub mod Verifying

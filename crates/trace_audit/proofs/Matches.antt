@@ -13,3 +13,7 @@ if_no false P Q m e = m
 
 pub if_some : {T : Type 0} (r : Option T) (x : T) (P : Type 0) (Q : T → Type 0) → MatchOption r P Q → r ≡ Some x → Q x
 if_some r x P Q m e = subst (λ z. MatchOption z P Q) e m
+
+pub match_on : (b : Bool) (P Q R S : Type 0) → (P → R) → (Q → S) → MatchBool b P Q → MatchBool b R S
+match_on true P Q R S f g m = f m
+match_on false P Q R S f g m = g m

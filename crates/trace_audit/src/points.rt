@@ -10,7 +10,9 @@ ghost use Rattle.tree_words.specs.Complete.{allowed_cells};
 ghost use Rattle.tree_words.specs.Counts.{Exact};
 ghost use Rattle.tree_words.specs.Growth.{Grown};
 ghost use Rattle.tree_words.specs.Words.{cell_in, end_of, nodes_in};
-ghost use Rattle.trace_audit.specs.Points.{AreSame, HasRoom, IsFrugal, node_at, visits_at};
+ghost use Rattle.tree_words.specs.Records.{Recorded};
+ghost use Rattle.trace_audit.specs.Points.{AreFrugal, AreSame, EachSpot, HasCells, HasRoom, HasSums};
+ghost use Rattle.trace_audit.specs.Points.{IsFirst, IsFrugal, LiesWithin, SomeSpot, node_at, visits_at};
 ghost use Rattle.trace_audit.specs.Sums.{AreSums};
 ghost use Rattle.trace_audit.specs.Tables.{IsLinked};
 
@@ -49,6 +51,22 @@ fn has_sums(words: &[u64], sums: &[u64], block: usize) -> bool
     true
 }
 
+// Whether the counts of the nodes of all blocks are the sums.
+fn each_same(words: &[u64], sums: &[u64], table: &Table) -> bool
+    requires within { EachSpot table.now (LiesWithin words.now) }
+    requires long { length sums.now ≡ length words.now }
+    ensures { MatchBool result (EachSpot table.now (HasSums words.now sums.now))
+        (SomeSpot table.now (λ p. ¬ (HasSums words.now sums.now p))) }
+{
+    'spots: for i in 0..table.spots.len() {
+        let spot = table.spots[i];
+        if !has_sums(words, sums, spot.start) {
+            return false;
+        }
+    }
+    true
+}
+
 /// Whether the counts of all nodes are the sums.
 pub(crate) fn is_exact(words: &[u64], shape: &Shape, table: &Table, sums: &[u64]) -> bool
     requires long { length words.now ≡ end_of shape.now }
@@ -58,16 +76,13 @@ pub(crate) fn is_exact(words: &[u64], shape: &Shape, table: &Table, sums: &[u64]
         → AreSums shape.now bs words.now sums.now shape.now.knobs.playouts
         → MatchBool result (Exact shape.now bs words.now) (¬ (Exact shape.now bs words.now)) }
 {
+    // What each shape keeps of itself.
+    let _board = shape.board();
     let root = shape.knobs().playouts as usize + RECORDS_AT;
     if words[root + TALLY_WORD] != sums[root + TALLY_WORD] {
         return false;
     }
-    'blocks: for spot in &table.spots {
-        if !has_sums(words, sums, spot.start) {
-            return false;
-        }
-    }
-    true
+    each_same(words, sums, table)
 }
 
 /// Whether NEXT and TICKET are in their ranges.
@@ -176,25 +191,57 @@ fn has_room(words: &[u64], shape: &Shape, others: usize) -> bool
     words[NEXT_AT] <= (root_end + workers * others + MOST_BLOCK_WORDS * workers) as u64
 }
 
+// Whether in each block that has a node without visits no node has more than so many.
+fn each_first(words: &[u64], table: &Table, most: u32) -> bool
+    requires { EachSpot table.now (LiesWithin words.now) }
+    ensures { MatchBool result (EachSpot table.now (λ p. IsFirst words.now most p.start))
+        (SomeSpot table.now (λ p. ¬ (IsFirst words.now most p.start))) }
+{
+    'spots: for i in 0..table.spots.len() {
+        let spot = table.spots[i];
+        if has_unvisited(words, spot.start) && has_more(words, spot.start, most) {
+            return false;
+        }
+    }
+    true
+}
+
+// Whether each node with an empty cell on its board is the leaf of at most so many records.
+fn each_frugal(words: &[u64], sums: &[u64], table: &Table, most: u64) -> bool
+    requires within { EachSpot table.now (LiesWithin words.now) }
+    requires cells { EachSpot table.now (HasCells words.now) }
+    requires long { length sums.now ≡ length words.now }
+    ensures { MatchBool result (EachSpot table.now (AreFrugal words.now sums.now most))
+        (SomeSpot table.now (λ p. ¬ (AreFrugal words.now sums.now most p))) }
+{
+    'spots: for i in 0..table.spots.len() {
+        let spot = table.spots[i];
+        if !has_few_leaves(words, sums, &spot, most) {
+            return false;
+        }
+    }
+    true
+}
+
 /// Whether the tree has grown as the knobs say.
 pub(crate) fn is_grown(words: &[u64], shape: &Shape, table: &Table, sums: &[u64]) -> bool
     requires long { length words.now ≡ end_of shape.now }
     requires sums { (bs : List LinkedBlock) × IsLinked shape.now words.now table.now bs
         × AreSums shape.now bs words.now sums.now shape.now.knobs.playouts }
     ensures { (bs : List LinkedBlock) → IsLinked shape.now words.now table.now bs
+        → Recorded shape.now bs words.now
         → AreSums shape.now bs words.now sums.now shape.now.knobs.playouts
         → MatchBool result (Grown shape.now bs words.now) (¬ (Grown shape.now bs words.now)) }
 {
-    let workers = shape.knobs().workers;
-    let most = u64::from(workers) * u64::from(shape.knobs().expand);
-    let is_bound = words[NEXT_AT] <= words.len() as u64;
-    'blocks: for spot in &table.spots {
-        if has_unvisited(words, spot.start) && has_more(words, spot.start, workers) {
-            return false;
-        }
-        if is_bound && !has_few_leaves(words, sums, spot, most) {
-            return false;
-        }
+    // What each shape keeps of itself.
+    let _board = shape.board();
+    let knobs = shape.knobs();
+    if !each_first(words, table, knobs.workers) {
+        return false;
+    }
+    let most = u64::from(knobs.workers) * u64::from(knobs.expand);
+    if words[NEXT_AT] <= words.len() as u64 && !each_frugal(words, sums, table, most) {
+        return false;
     }
     has_room(words, shape, table.others)
 }
