@@ -28,3 +28,5 @@ pub mod Adding
 pub mod AddPlayout
 pub mod InBlock
 pub mod Verifying
+pub mod TextLists
+pub mod OneList

@@ -6,3 +6,4 @@ pub mod Texts
 pub mod Tables
 pub mod Sums
 pub mod Points
+pub mod Numbers

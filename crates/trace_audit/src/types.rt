@@ -1,5 +1,8 @@
 //! What an audit answers.
 
+ghost use Rattle.std.specs.Prelude.{◌≡◌};
+ghost use Rattle.trace_audit.specs.Numbers.{number_of};
+
 /// What an audit finds in bytes.
 #[derive(Clone, Copy, Debug, PartialEq, Eq)]
 pub enum Audit {
@@ -39,7 +42,9 @@ pub enum Flaw {
 
 impl Flaw {
     /// The number of the flaw, from 1 to 6.
-    pub fn number(self) -> u8 {
+    pub fn number(self) -> u8
+        ensures { result ≡ number_of self }
+    {
         self as u8
     }
 }
