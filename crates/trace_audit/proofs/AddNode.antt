@@ -1,21 +1,20 @@
 -- One node of the way up: what is added there fits, and is added.
-use Rattle.std.proofs.Common.{◌≡◌, ℕ, ◌+◌, ◌-◌, ◌*◌, ◌/◌, ◌<◌, ◌≤◌, ◌^◌, true, List, length, length-set, set, get_or-set_other, slice_index, refl, sym, ap, ◌∙◌, subst, arith}
+use Rattle.std.proofs.Common.{◌≡◌, ℕ, ◌+◌, ◌-◌, ◌*◌, ◌/◌, ◌<◌, ◌≤◌, ◌^◌, List, length, length-set, set, get_or-set_other, slice_index, ap, ◌∙◌, subst, arith}
 use Rattle.hex_cells.specs.Colours.{is_same}
 use Rattle.hex_cells.specs.declared.colours.Colour.{Colour}
 use Rattle.hex_board.specs.Positions.{stones_of}
 use Rattle.play_out.specs.declared.playouts.Ending.{Ending}
-use Rattle.tree_words.specs.Settings.{Setting, IsSetting}
-use Rattle.tree_words.specs.Words.{root_at, area_at, end_of, cell_in, nodes_in, visits_in, wins_in}
-use Rattle.tree_words.specs.Blocks.{LinkedBlock, size, block_size, has_node, cell_at, is_node, In}
+use Rattle.tree_words.specs.Settings.{Setting}
+use Rattle.tree_words.specs.Words.{root_at, end_of, cell_in, nodes_in, visits_in, wins_in}
+use Rattle.tree_words.specs.Blocks.{LinkedBlock, block_size, cell_at}
 use Rattle.tree_words.specs.Paths.{node_state}
 use Rattle.tree_words.specs.Sequence.{amount_of}
-use Rattle.tree_words.proofs.Blocks.BlockLaws.{has-here}
 use Rattle.tree_words.proofs.Blocks.GameLaws.{in-node}
 use Rattle.tree_words.proofs.Blocks.NodeLaws.{nodes-apart}
-use Rattle.trace_audit.specs.Sums.{CanAdd, IsAdded, SeesSome, Climbed}
+use Rattle.trace_audit.specs.Sums.{CanAdd, IsAdded, SeesSome}
 use Rattle.trace_audit.proofs.Cells.{IsMove, move_is}
 use Rattle.trace_audit.proofs.Climbing.{climb_step, later_small}
-use Rattle.trace_audit.proofs.Placed.{count_is, lies, most_of, move_of, parent_is, place_of}
+use Rattle.trace_audit.proofs.Placed.{count_is, lies, most_of, parent_is, place_of}
 
 pub word_fits : (w m a : ℕ) → visits_in w ≤ m → wins_in w ≤ m → m < 2 ^ 31 → a ≤ 2 ^ 32 + 1 → w + a < 2 ^ 64
 word_fits w m a v u l k = omega (arith, v, u, l, k)

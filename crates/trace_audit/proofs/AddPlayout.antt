@@ -1,15 +1,13 @@
 -- A playout whose record is right, and one whose record is not.
-use Rattle.std.proofs.Common.{◌≡◌, ◌⊎◌, ℕ, ◌+◌, ◌/◌, ◌<◌, ◌≤◌, ◌^◌, true, List, length, set, slice_index, refl, sym, ap, ◌∙◌, subst, ⊎_elim, arith}
+use Rattle.std.proofs.Common.{◌≡◌, ℕ, ◌+◌, ◌<◌, ◌^◌, true, List, length, set, slice_index, refl, sym, ap, ◌∙◌, ⊎_elim, arith}
 use Rattle.std.specs.Prelude.{◌==◌}
-use Rattle.hex_cells.specs.declared.colours.Colour.{Colour}
 use Rattle.play_out.specs.declared.playouts.Ending.{Ending}
 use Rattle.play_out.specs.Fills.{filled, playout_of}
 use Rattle.tree_words.specs.Settings.{Setting, IsSetting}
-use Rattle.tree_words.specs.Words.{root_at, end_of, record_in, leaf_in, winner_in}
+use Rattle.tree_words.specs.Words.{root_at, end_of, record_in, winner_in}
 use Rattle.tree_words.specs.Blocks.{LinkedBlock, has_node, is_node, In}
 use Rattle.tree_words.specs.Paths.{NodeState, node_state}
 use Rattle.tree_words.specs.Records.{leaf_of, outcome_in, IsRecord}
-use Rattle.tree_words.specs.Growth.{ends_at}
 use Rattle.tree_words.proofs.Blocks.GameLaws.{in-node}
 use Rattle.tree_words.proofs.Blocks.Members.{node-in}
 use Rattle.trace_audit.specs.declared.linking.Spot.{Spot}

@@ -1,28 +1,26 @@
 -- One playout more in the sums.
-use Rattle.std.proofs.Common.{◌≡◌, ◌⊎◌, ℕ, zero, suc, ◌+◌, ◌-◌, ◌*◌, ◌<◌, ◌≤◌, ◌^◌, Bool, true, false, cond, List, length, length-set, set, get_or-set_same, get_or-set_other, slice_index, replicate, refl, sym, ap, ◌∙◌, subst, ⊎_elim, arith}
+use Rattle.std.proofs.Common.{◌≡◌, ℕ, zero, suc, ◌+◌, ◌<◌, ◌≤◌, Bool, true, false, cond, List, length, length-set, set, get_or-set_same, get_or-set_other, slice_index, replicate, sym, ap, ◌∙◌, ⊎_elim, arith}
 use Rattle.std.specs.Prelude.{◌==◌, ◌&&◌}
-use Rattle.std.proofs.lemmas.Bool.{cases_eq, eqb-true, eq-eqb, ne_eqb}
+use Rattle.std.proofs.lemmas.Bool.{cases_eq, eq-eqb, ne_eqb}
 use Rattle.std.proofs.lemmas.List.{length-replicate}
 use Rattle.hex_cells.specs.Colours.{is_same}
-use Rattle.hex_cells.specs.declared.colours.Colour.{Colour}
 use Rattle.play_out.specs.declared.playouts.Ending.{Ending}
 use Rattle.play_out.specs.Fills.{filled, playout_of}
 use Rattle.tree_words.specs.Settings.{Setting, IsSetting}
-use Rattle.tree_words.specs.Words.{Count, count_in, root_at, end_of, tally_in, seen_in, record_in, leaf_in, winner_in}
-use Rattle.tree_words.specs.Blocks.{LinkedBlock, one_if, has_node, is_node, In, place, cell_at}
+use Rattle.tree_words.specs.Words.{Count, count_in, root_at, end_of}
+use Rattle.tree_words.specs.Blocks.{LinkedBlock, one_if, is_node, place, cell_at}
 use Rattle.tree_words.specs.Paths.{NodeState, node_state, is_on, enters, mover_of}
 use Rattle.tree_words.specs.Complete.{Linked}
-use Rattle.tree_words.specs.Walks.{nothing, plus, AtMost}
+use Rattle.tree_words.specs.Walks.{nothing, plus}
 use Rattle.tree_words.specs.Sequence.{outcome_of, gain_of, glimpse_of}
-use Rattle.tree_words.specs.Records.{leaf_of, outcome_in, IsRecord, Recorded}
+use Rattle.tree_words.specs.Records.{leaf_of, outcome_in}
 use Rattle.tree_words.specs.Counts.{count_below, visits_at, sights_at, is_seen}
 use Rattle.tree_words.specs.Growth.{ends_at}
 use Rattle.tree_words.proofs.Blocks.GameLaws.{in-node}
 use Rattle.tree_words.proofs.Blocks.NodeLaws.{nodes-apart}
 use Rattle.tree_words.proofs.Walks.Tallies.{visits-more, sights-more}
-use Rattle.trace_audit.specs.Sums.{AreSums, AreSmall, CanClimb, Climbed}
+use Rattle.trace_audit.specs.Sums.{AreSums, AreSmall, Climbed}
 use Rattle.trace_audit.proofs.WordBytes.{none_left}
-use Rattle.trace_audit.proofs.Placed.{most_of}
 
 one_few : (t : Bool) → one_if t ≤ 1
 one_few true = omega arith

@@ -1,15 +1,13 @@
 -- The table of the root's link alone, and the words that are passed one by one.
-use Rattle.std.proofs.Common.{◌≡◌, ℕ, ◌+◌, ◌<◌, ◌≤◌, true, List, [], ◌∷◌, length, replicate, refl, sym, ap, ◌∙◌, subst, inl, arith}
+use Rattle.std.proofs.Common.{◌≡◌, ℕ, ◌+◌, true, List, [], length, replicate, sym, ap, ◌∙◌, subst, inl, arith}
 use Rattle.std.proofs.lemmas.List.{length-replicate}
 use Rattle.std.specs.Prelude.{slice_index}
 use Rattle.tree_words.specs.Settings.{Setting, IsSetting}
 use Rattle.tree_words.specs.Words.{root_at, area_at, end_of}
-use Rattle.tree_words.specs.Blocks.{LinkedBlock, is_node}
-use Rattle.tree_words.specs.Paths.{root_state, node_state}
+use Rattle.tree_words.specs.Blocks.{is_node}
 use Rattle.tree_words.proofs.Blocks.BlockLaws.{root_node}
-use Rattle.trace_audit.specs.declared.linking.Spot.{Spot}
 use Rattle.trace_audit.specs.declared.linking.Table.{Table}
-use Rattle.trace_audit.specs.Tables.{state_in, IsLast, Scanned}
+use Rattle.trace_audit.specs.Tables.{IsLast, Scanned}
 use Rattle.trace_audit.proofs.Scanning.{advance, scan_none}
 use Rattle.trace_audit.proofs.WordBytes.{none_left}
 

@@ -1,16 +1,16 @@
 -- The nodes of a linked block: their cells, and where they lead.
-use Rattle.std.proofs.Common.{◌≡◌, ℕ, ◌+◌, ◌-◌, ◌*◌, ◌/◌, ◌%◌, ◌<◌, ◌≤◌, true, List, length, refl, sym, ap, ◌∙◌, subst, arith}
+use Rattle.std.proofs.Common.{◌≡◌, ℕ, ◌+◌, ◌*◌, ◌<◌, ◌≤◌, true, List, length, ap, ◌∙◌, arith}
 use Rattle.std.specs.Prelude.{slice_index}
 use Rattle.std.proofs.Math.Nat.{mul-le-mul}
-use Rattle.hex_board.specs.Positions.{Position, is_empty_at}
+use Rattle.hex_board.specs.Positions.{is_empty_at}
 use Rattle.hex_board.proofs.Placed.{empty_on}
 use Rattle.tree_words.specs.Settings.{Setting, IsSetting}
 use Rattle.tree_words.specs.Words.{root_at, cell_in, place_in, move_word}
-use Rattle.tree_words.specs.Blocks.{LinkedBlock, size, child, has_node, place, cell_at, is_node, In, InOrder}
-use Rattle.tree_words.specs.Paths.{NodeState, root_state, state_after, node_state, node_board}
+use Rattle.tree_words.specs.Blocks.{LinkedBlock, has_node, place, cell_at, In, InOrder}
+use Rattle.tree_words.specs.Paths.{root_state, state_after, node_state, node_board}
 use Rattle.tree_words.specs.Complete.{AreComplete, cells_below}
-use Rattle.tree_words.proofs.Blocks.BlockLaws.{has-here, has-at, move-stays, move-word}
-use Rattle.tree_words.proofs.Blocks.GameLaws.{IsWhole, whole-in, up-in}
+use Rattle.tree_words.proofs.Blocks.BlockLaws.{has-here, move-stays, move-word}
+use Rattle.tree_words.proofs.Blocks.GameLaws.{whole-in, up-in}
 use Rattle.tree_words.proofs.Boards.EmptyLaws.{below-empty, cell-of-move}
 use Rattle.tree_words.proofs.Walks.Asking.{spot-size}
 use Rattle.trace_audit.specs.Tables.{ShowBlock}

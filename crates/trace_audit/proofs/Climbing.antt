@@ -1,22 +1,22 @@
 -- The way up from a node: what is added there, node by node.
-use Rattle.std.proofs.Common.{◌≡◌, ◌≢◌, ◌⊎◌, ℕ, zero, suc, ◌+◌, ◌-◌, ◌*◌, ◌/◌, ◌<◌, ◌≤◌, ◌^◌, Bool, true, false, cond, List, [], ◌∷◌, length, set, length-set, get_or-set_same, get_or-set_other, slice_index, refl, sym, ap, ◌∙◌, subst, ⊎_elim, inl, inr, arith}
+use Rattle.std.proofs.Common.{◌≡◌, ℕ, ◌+◌, ◌*◌, ◌<◌, ◌≤◌, ◌^◌, Bool, true, false, cond, List, [], ◌∷◌, length, set, length-set, get_or-set_same, get_or-set_other, slice_index, refl, sym, ap, ◌∙◌, subst, ⊎_elim, arith}
 use Rattle.std.specs.Prelude.{◌==◌, ◌||◌}
 use Rattle.std.specs.List.{list_any}
-use Rattle.std.proofs.lemmas.Bool.{cases_eq, cases_Bool, eqb-true, eq-eqb, ne_eqb, false_from_ne_true, or_left, or_right, or_from, or_cases}
+use Rattle.std.proofs.lemmas.Bool.{cases_eq, cases_Bool, eq-eqb, ne_eqb, false_from_ne_true, or_left, or_from}
 use Rattle.hex_cells.specs.Sets.{has as has_cell}
-use Rattle.hex_cells.specs.Colours.{is_same, other_of}
+use Rattle.hex_cells.specs.Colours.{is_same}
 use Rattle.hex_cells.specs.declared.colours.Colour.{Colour}
 use Rattle.hex_board.specs.Positions.{stones_of}
 use Rattle.play_out.specs.declared.playouts.Ending.{Ending}
 use Rattle.tree_words.specs.Settings.{Setting, IsSetting}
-use Rattle.tree_words.specs.Words.{Count, count_in, root_at, end_of, tally_in, seen_in, wins_in, cell_in}
+use Rattle.tree_words.specs.Words.{Count, count_in, root_at, tally_in, seen_in, wins_in, cell_in}
 use Rattle.tree_words.specs.Blocks.{LinkedBlock, has_node, place, cell_at, is_node, In, InOrder, up}
-use Rattle.tree_words.specs.Paths.{NodeState, root_state, state_after, mover_at, node_state, path_of, is_on, enters}
+use Rattle.tree_words.specs.Paths.{root_state, state_after, mover_at, node_state, path_of, is_on, enters}
 use Rattle.tree_words.specs.Complete.{Linked}
 use Rattle.tree_words.specs.Walks.{nothing, plus, AtMost}
 use Rattle.tree_words.specs.Sequence.{amount_of, one, gain_of, glimpse_of}
 use Rattle.tree_words.proofs.Blocks.BlockLaws.{clash, has-at, has-here, has-covers, root_node}
-use Rattle.tree_words.proofs.Blocks.GameLaws.{in-node, in-parent, up-in}
+use Rattle.tree_words.proofs.Blocks.GameLaws.{in-node, up-in}
 use Rattle.tree_words.proofs.Blocks.NodeLaws.{nodes-apart}
 use Rattle.tree_words.proofs.Boards.EmptyLaws.{up-root}
 use Rattle.tree_words.proofs.Walks.Countings.{count-more}

@@ -1,12 +1,12 @@
 -- The nodes of the block that was found last, one by one.
-use Rattle.std.proofs.Common.{◌≡◌, ℕ, zero, suc, ◌+◌, ◌-◌, ◌*◌, ◌<◌, ◌≤◌, true, List, [], ◌∷◌, length, refl, sym, ap, ◌∙◌, subst, inl, inr, arith}
+use Rattle.std.proofs.Common.{◌≡◌, ℕ, ◌+◌, ◌-◌, ◌*◌, ◌<◌, true, List, ◌∷◌, length, refl, sym, ap, ◌∙◌, inl, inr, arith}
 use Rattle.std.specs.Prelude.{slice_index, slice_index_or}
 use Rattle.std.proofs.lemmas.Grind.{get_or_default_zero}
 use Rattle.hex_board.specs.Positions.{is_empty_at}
-use Rattle.tree_words.specs.Settings.{Setting, IsSetting}
-use Rattle.tree_words.specs.Words.{root_at, end_of, next_in, cell_in}
-use Rattle.tree_words.specs.Blocks.{LinkedBlock, size, has_node, is_node, In, cell_at}
-use Rattle.tree_words.specs.Paths.{NodeState, state_after, node_state}
+use Rattle.tree_words.specs.Settings.{Setting}
+use Rattle.tree_words.specs.Words.{root_at, next_in, cell_in}
+use Rattle.tree_words.specs.Blocks.{LinkedBlock, size, has_node, is_node, cell_at}
+use Rattle.tree_words.specs.Paths.{state_after, node_state}
 use Rattle.tree_words.proofs.Blocks.GameLaws.{in-node}
 use Rattle.trace_audit.specs.declared.linking.Spot.{Spot}
 use Rattle.trace_audit.specs.declared.linking.Table.{Table}

@@ -1,12 +1,12 @@
 -- A block that is entered in the table.
-use Rattle.std.proofs.Common.{◌≡◌, ◌⊎◌, ℕ, zero, suc, ◌+◌, ◌-◌, ◌*◌, ◌<◌, ◌≤◌, ◌^◌, Bool, true, false, List, [], ◌∷◌, ◌++◌, length, set, refl, sym, ap, ◌∙◌, subst, ⊎_elim, inl, inr, arith, length-append, get_or-set_same, get_or-set_other}
+use Rattle.std.proofs.Common.{◌≡◌, ℕ, ◌+◌, ◌-◌, ◌<◌, ◌≤◌, ◌^◌, true, List, [], ◌∷◌, ◌++◌, length, set, sym, ap, ◌∙◌, subst, ⊎_elim, inl, inr, arith, length-append, get_or-set_same, get_or-set_other}
 use Rattle.std.specs.Prelude.{slice_index, slice_index_or}
 use Rattle.std.proofs.lemmas.Bool.{cases_eq, cases_lt}
 use Rattle.std.proofs.Math.ListN.{length-set, get_or-append}
 use Rattle.std.proofs.Math.Seq.{get_or-append_seam}
 use Rattle.tree_words.specs.Settings.{Setting, IsSetting}
 use Rattle.tree_words.specs.Words.{root_at, area_at, end_of, link_in}
-use Rattle.tree_words.specs.Blocks.{LinkedBlock, is_node, In, link_of}
+use Rattle.tree_words.specs.Blocks.{LinkedBlock, is_node, link_of}
 use Rattle.tree_words.specs.Paths.{node_state}
 use Rattle.tree_words.proofs.Blocks.NodeLaws.{node-lies}
 use Rattle.trace_audit.specs.declared.linking.Spot.{Spot}

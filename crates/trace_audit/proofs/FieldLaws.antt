@@ -1,7 +1,6 @@
 -- Sets on a board, and the words that tell them.
-use Rattle.std.proofs.Common.{◌≡◌, ℕ, ◌*◌, ◌<◌, ◌≤◌, ◌^◌, true, arith}
+use Rattle.std.proofs.Common.{ℕ, ◌*◌, ◌<◌, ◌≤◌, ◌^◌, arith}
 use Rattle.std.proofs.Math.Nat.{mul-le-mul}
-use Rattle.hex_cells.specs.Sets.{has}
 use Rattle.hex_cells.proofs.Bits.{below_from_items}
 use Rattle.hex_board.specs.Positions.{Within}
 use Rattle.hex_board.proofs.Placed.{empty_on}

@@ -1,16 +1,15 @@
 -- The linked blocks and their table: where a node's block is found, and its board.
-use Rattle.std.proofs.Common.{◌≡◌, ℕ, zero, suc, ◌+◌, ◌-◌, ◌*◌, ◌/◌, ◌<◌, ◌≤◌, ◌^◌, true, List, length, refl, sym, ap, ◌∙◌, subst, ⊎_elim, arith}
+use Rattle.std.proofs.Common.{◌≡◌, ℕ, ◌+◌, ◌-◌, ◌*◌, ◌/◌, ◌<◌, ◌≤◌, true, List, length, sym, ap, ◌∙◌, arith}
 use Rattle.std.specs.Prelude.{slice_index, slice_index_or}
 use Rattle.std.proofs.lemmas.Grind.{get_or_default_zero}
 use Rattle.hex_board.specs.Positions.{is_empty_at}
 use Rattle.tree_words.specs.Settings.{Setting, IsSetting}
-use Rattle.tree_words.specs.Words.{root_at, area_at, end_of, next_in, link_in, cell_in, nodes_in}
-use Rattle.tree_words.specs.Blocks.{LinkedBlock, size, has_node, is_node, In, link_of, cell_at}
-use Rattle.tree_words.specs.Paths.{NodeState, state_after, node_state}
-use Rattle.tree_words.proofs.Blocks.BlockLaws.{has-at, has-here}
+use Rattle.tree_words.specs.Words.{root_at, area_at, end_of, cell_in}
+use Rattle.tree_words.specs.Blocks.{LinkedBlock, size, has_node, In, link_of, cell_at}
+use Rattle.tree_words.specs.Paths.{state_after, node_state}
+use Rattle.tree_words.proofs.Blocks.BlockLaws.{has-here}
 use Rattle.tree_words.proofs.Blocks.Members.{in-turned, names-in}
 use Rattle.tree_words.proofs.Blocks.Orders.{link-names}
-use Rattle.tree_words.proofs.Boards.RootLaws.{complete_in}
 use Rattle.trace_audit.specs.declared.linking.Spot.{Spot}
 use Rattle.trace_audit.specs.declared.linking.Table.{Table}
 use Rattle.trace_audit.specs.Tables.{state_in, IsSpot, IsLinked}

@@ -1,20 +1,19 @@
 -- Two lists of blocks that the words link: what holds of one holds of the other.
-use Rattle.std.proofs.Common.{◌≡◌, ◌⊎◌, ℕ, ◌+◌, ◌*◌, ◌<◌, ◌≤◌, Bool, true, false, cond, List, [], ◌∷◌, refl, sym, ap, ◌∙◌, subst, ⊎_elim, inl, inr, arith}
+use Rattle.std.proofs.Common.{◌≡◌, ℕ, Bool, true, false, cond, List, [], ◌∷◌, refl, sym, ap, ◌∙◌, ⊎_elim}
 use Rattle.std.specs.Prelude.{◌||◌, ◌&&◌, ◌==◌}
 use Rattle.std.specs.List.{list_any}
-use Rattle.std.proofs.lemmas.Bool.{cases_Bool, or_left, or_right}
+use Rattle.std.proofs.lemmas.Bool.{cases_Bool, or_left}
 use Rattle.hex_cells.specs.Colours.{is_same}
 use Rattle.hex_cells.specs.Sets.{has as has_cell}
-use Rattle.hex_board.specs.Positions.{Position, is_empty_at, stones_of}
+use Rattle.hex_board.specs.Positions.{stones_of}
 use Rattle.tree_words.specs.Settings.{Setting, IsSetting}
-use Rattle.tree_words.specs.Words.{root_at, end_of, next_in, tally_in, seen_in, winner_in, record_in}
-use Rattle.tree_words.specs.Blocks.{LinkedBlock, has_node, is_node, In, InOrder, up, place, cell_at}
+use Rattle.tree_words.specs.Words.{root_at}
+use Rattle.tree_words.specs.Blocks.{LinkedBlock, has_node, is_node, up, place, cell_at}
 use Rattle.tree_words.specs.Paths.{NodeState, root_state, state_after, mover_at, node_state, path_of}
 use Rattle.tree_words.specs.Complete.{Linked}
-use Rattle.tree_words.specs.Records.{Recorded, IsRecord, leaf_of}
-use Rattle.tree_words.specs.Counts.{Exact, ExactTo, count_below, visits_at, sights_at}
+use Rattle.tree_words.specs.Records.{Recorded, leaf_of}
+use Rattle.tree_words.specs.Counts.{Exact, count_below}
 use Rattle.tree_words.specs.Sequence.{outcome_of}
-use Rattle.tree_words.specs.Told.{Knows}
 use Rattle.tree_words.proofs.Blocks.BlockLaws.{clash}
 use Rattle.tree_words.proofs.Blocks.OneTree.{one-knows, one-blocks}
 use Rattle.tree_words.proofs.Blocks.Within.{within-node, within-up}

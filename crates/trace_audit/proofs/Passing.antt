@@ -1,28 +1,26 @@
 -- A block that is passed: it is put before those found so far.
-use Rattle.std.proofs.Common.{◌≡◌, ◌⊎◌, ℕ, zero, suc, ◌+◌, ◌-◌, ◌*◌, ◌<◌, ◌≤◌, Bool, true, false, cond, List, [], ◌∷◌, length, refl, sym, ap, ◌∙◌, subst, ⊎_elim, inl, inr, arith}
-use Rattle.std.specs.Prelude.{◌==◌, slice_index, slice_index_or}
-use Rattle.std.proofs.lemmas.Bool.{cases_eq, cases_lt, cases_Bool, eqb-true, eq-eqb, ne_eqb, false_from_ne_true, or_cases, or_left, or_right}
+use Rattle.std.proofs.Common.{◌≡◌, ℕ, ◌+◌, ◌-◌, ◌<◌, ◌≤◌, Bool, true, false, cond, List, ◌∷◌, length, refl, sym, ap, ◌∙◌, subst, ⊎_elim, inl, inr, arith}
+use Rattle.std.specs.Prelude.{slice_index, slice_index_or}
+use Rattle.std.proofs.lemmas.Bool.{cases_eq, cases_lt, eq-eqb, ne_eqb, false_from_ne_true, or_cases, or_right}
 use Rattle.play_out.specs.Fills.{empties_of}
-use Rattle.hex_board.specs.Positions.{Position}
 use Rattle.tree_words.specs.Settings.{Setting, IsSetting}
-use Rattle.tree_words.specs.Words.{root_at, area_at, end_of, next_in, link_in}
-use Rattle.tree_words.specs.Blocks.{LinkedBlock, size, covers, has_node, is_node, In, link_of, cover, InOrder, Follows, header_or_move, is_header_or_move}
-use Rattle.tree_words.specs.Paths.{NodeState, node_state, node_board}
-use Rattle.tree_words.specs.Complete.{Linked, AreComplete, IsComplete, HasEmpties, set_of}
+use Rattle.tree_words.specs.Words.{root_at, next_in, link_in}
+use Rattle.tree_words.specs.Blocks.{LinkedBlock, size, has_node, is_node, In, link_of, Follows}
+use Rattle.tree_words.specs.Paths.{node_board}
+use Rattle.tree_words.specs.Complete.{Linked, HasEmpties, set_of}
 use Rattle.tree_words.specs.Growth.{other_words}
-use Rattle.tree_words.specs.Told.{told_block, Knows}
+use Rattle.tree_words.specs.Told.{told_block}
 use Rattle.tree_words.proofs.Blocks.BlockLaws.{covers_of, covers_if, has-at, clash}
 use Rattle.tree_words.proofs.Blocks.GameLaws.{IsWhole, spot-same}
 use Rattle.tree_words.proofs.Blocks.Members.{in-turned, names-in}
-use Rattle.tree_words.proofs.Blocks.NodeLaws.{nodes-apart, cover-none, complete-more, link-none}
+use Rattle.tree_words.proofs.Blocks.NodeLaws.{cover-none, complete-more, link-none}
 use Rattle.tree_words.proofs.Blocks.Orders.{link-names}
-use Rattle.tree_words.proofs.Blocks.Turned.{other-root, other-more}
 use Rattle.tree_words.proofs.Boards.RootLaws.{complete_in}
 use Rattle.tree_words.proofs.Boards.SetNumbers.{set-has_empties}
 use Rattle.tree_words.proofs.Walks.Asking.{spot-size}
 use Rattle.trace_audit.specs.declared.linking.Spot.{Spot}
 use Rattle.trace_audit.specs.declared.linking.Table.{Table}
-use Rattle.trace_audit.specs.Tables.{AreUnlinked, block_at, ShowBlock, Stands, state_in, IsSpot, IsTable, IsFollowed, Scanned}
+use Rattle.trace_audit.specs.Tables.{AreUnlinked, ShowBlock, Stands, IsSpot, IsTable, IsFollowed, Scanned}
 use Rattle.trace_audit.proofs.Scanning.{link_real, link_whole, apart_blocks, node_below}
 
 -- where no block begins

@@ -2,7 +2,7 @@
 use Rattle.std.proofs.Common.{◌≡◌, ℕ, ◌+◌, ◌*◌, ◌/◌, ◌<◌, ◌≤◌, true, List, length, refl, ap, ◌∙◌, arith}
 use Rattle.std.specs.Prelude.{slice_index}
 use Rattle.tree_words.specs.Settings.{Setting, IsSetting}
-use Rattle.tree_words.specs.Words.{root_at, area_at, end_of, next_in}
+use Rattle.tree_words.specs.Words.{area_at, end_of, next_in}
 use Rattle.tree_words.specs.Blocks.{LinkedBlock, size, has_node, In}
 use Rattle.tree_words.specs.Complete.{Linked}
 use Rattle.tree_words.proofs.Blocks.BlockLaws.{has-at}

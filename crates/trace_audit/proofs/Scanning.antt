@@ -1,28 +1,20 @@
 -- The blocks that are found one by one: what stands at first, and with one more.
-use Rattle.std.proofs.Common.{◌≡◌, ◌⊎◌, ℕ, zero, suc, ◌+◌, ◌-◌, ◌*◌, ◌<◌, ◌≤◌, Bool, true, false, cond, List, [], ◌∷◌, length, refl, sym, ap, ◌∙◌, subst, ⊎_elim, inl, inr, arith}
-use Rattle.std.specs.Prelude.{◌==◌, slice_index, slice_index_or}
+use Rattle.std.proofs.Common.{◌≡◌, ℕ, ◌+◌, ◌-◌, ◌<◌, ◌≤◌, true, List, [], ◌∷◌, length, refl, sym, ap, ◌∙◌, subst, ⊎_elim, inl, arith}
+use Rattle.std.specs.Prelude.{slice_index}
 use Rattle.std.proofs.lemmas.List.{get_or_past}
-use Rattle.std.proofs.lemmas.Bool.{cases_eq, cases_lt, cases_Bool, eqb-true, false_from_ne_true, eq-eqb, ne_eqb, or_cases, or_left, or_right}
-use Rattle.play_out.specs.Fills.{empties_of}
+use Rattle.std.proofs.lemmas.Bool.{cases_lt, eqb-true}
 use Rattle.tree_words.specs.Settings.{Setting, IsSetting}
 use Rattle.tree_words.specs.Words.{root_at, area_at, end_of, next_in, link_in}
-use Rattle.tree_words.specs.Blocks.{LinkedBlock, size, covers, has_node, is_node, In, link_of, cover, InOrder, Follows, header_or_move, is_header_or_move}
-use Rattle.tree_words.specs.Paths.{NodeState, root_state, node_state, node_board}
-use Rattle.tree_words.specs.Complete.{Linked, AreComplete, IsComplete, HasEmpties, set_of}
-use Rattle.tree_words.specs.Growth.{other_words}
+use Rattle.tree_words.specs.Blocks.{LinkedBlock, size, covers, has_node, is_node, In, link_of, InOrder}
+use Rattle.tree_words.specs.Complete.{Linked, AreComplete}
 use Rattle.tree_words.specs.Told.{told_block, Knows}
-use Rattle.tree_words.proofs.Blocks.BlockLaws.{covers_of, covers_if, has-at, root_node, clash}
-use Rattle.tree_words.proofs.Blocks.GameLaws.{IsWhole, whole-in, in-node, spot-same}
-use Rattle.tree_words.proofs.Blocks.NodeLaws.{nodes-apart, node-lies, cover-none, complete-more, in-cover}
-use Rattle.tree_words.proofs.Blocks.Turned.{other-root, other-more}
+use Rattle.tree_words.proofs.Blocks.BlockLaws.{covers_if, has-at}
+use Rattle.tree_words.proofs.Blocks.GameLaws.{IsWhole, whole-in}
+use Rattle.tree_words.proofs.Blocks.NodeLaws.{nodes-apart, node-lies, in-cover}
 use Rattle.tree_words.proofs.Blocks.OneTree.{knows-in}
-use Rattle.tree_words.proofs.Blocks.Within.{told-real, within-node}
-use Rattle.tree_words.proofs.Boards.SetNumbers.{set-has_empties}
-use Rattle.tree_words.proofs.Boards.EmptyLaws.{up-root}
-use Rattle.tree_words.proofs.Walks.Asking.{spot-size}
-use Rattle.trace_audit.specs.declared.linking.Spot.{Spot}
+use Rattle.tree_words.proofs.Blocks.Within.{told-real}
 use Rattle.trace_audit.specs.declared.linking.Table.{Table}
-use Rattle.trace_audit.specs.Tables.{AreUnlinked, block_at, ShowBlock, Stands, state_in, IsSpot, IsTable, IsFollowed, IsLast, Scanned, IsLinked}
+use Rattle.trace_audit.specs.Tables.{AreUnlinked, IsFollowed, IsLast, Scanned, IsLinked}
 
 module _ (s : Setting) (words : List ℕ) (h : IsSetting s) where
   -- where a node links a block, that block is among the linked ones, wherever blocks are linked

@@ -1,5 +1,5 @@
 -- The seen words of a block in the sums, one by one.
-use Rattle.std.proofs.Common.{◌≡◌, ◌≢◌, ◌⊎◌, ℕ, ◌+◌, ◌*◌, ◌<◌, Bool, true, false, cond, List, length, set, length-set, get_or-set_same, get_or-set_other, slice_index, refl, sym, ap, ◌∙◌, subst, ⊎_elim, arith}
+use Rattle.std.proofs.Common.{◌≡◌, ℕ, ◌+◌, ◌*◌, ◌<◌, Bool, true, false, cond, List, length, set, length-set, get_or-set_same, get_or-set_other, slice_index, sym, ap, ◌∙◌, subst, ⊎_elim, arith}
 use Rattle.hex_cells.specs.Sets.{has as has_cell}
 use Rattle.tree_words.specs.Words.{cell_in}
 use Rattle.std.proofs.lemmas.Bool.{cases_eq}

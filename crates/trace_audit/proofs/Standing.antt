@@ -1,12 +1,12 @@
 -- A block in the words, and the one that is written for comparison.
-use Rattle.std.proofs.Common.{◌≡◌, ℕ, zero, suc, ◌+◌, ◌-◌, ◌*◌, ◌/◌, ◌%◌, ◌^◌, ◌<◌, ◌≤◌, Bool, true, false, cond, List, length, replicate, refl, sym, ap, ◌∙◌, subst, arith}
+use Rattle.std.proofs.Common.{◌≡◌, ℕ, zero, suc, ◌+◌, ◌-◌, ◌*◌, ◌/◌, ◌%◌, ◌^◌, ◌<◌, ◌≤◌, Bool, true, false, cond, List, length, refl, sym, ap, ◌∙◌, arith}
 use Rattle.std.specs.Prelude.{slice_index, ◌&&◌, ◌==◌}
 use Rattle.hex_cells.specs.Sets.{has}
 use Rattle.hex_cells.proofs.Bits.{same_set}
 use Rattle.hex_board.specs.Positions.{Position, is_empty_at}
 use Rattle.play_out.specs.Fills.{empties_of}
-use Rattle.tree_words.specs.Settings.{Setting, IsSetting}
-use Rattle.tree_words.specs.Words.{root_at, end_of, next_in}
+use Rattle.tree_words.specs.Settings.{Setting}
+use Rattle.tree_words.specs.Words.{root_at}
 use Rattle.tree_words.specs.Blocks.{LinkedBlock, size, block_size, covers, header_or_move, is_header_or_move}
 use Rattle.tree_words.specs.Complete.{allowed_cells, set_of}
 use Rattle.tree_words.specs.Writing.{WritesBlock, listed}
@@ -15,7 +15,7 @@ use Rattle.tree_words.proofs.Boards.RootLaws.{few_cells}
 use Rattle.tree_words.proofs.Boards.EmptyLaws.{empties-listed}
 use Rattle.tree_words.proofs.Boards.SetNumbers.{set_empties}
 use Rattle.tree_words.proofs.NewBlocks.Openings.{allowed-listed}
-use Rattle.trace_audit.specs.Tables.{block_at, ShowBlock, Stands}
+use Rattle.trace_audit.specs.Tables.{block_at, ShowBlock}
 
 -- header and moves go by the parent, the empty cells and the cells
 pub head_same : (a b : LinkedBlock) (i : ℕ) → a.parent ≡ b.parent → a.empties ≡ b.empties → a.cells ≡ b.cells → header_or_move a i ≡ header_or_move b i

@@ -1,18 +1,17 @@
 -- What the front of a text tells, and that it tells one shape.
-use Rattle.std.proofs.Common.{◌≡◌, ℕ, zero, suc, ◌+◌, ◌*◌, ◌/◌, ◌%◌, ◌<◌, ◌≤◌, ◌^◌, List, [], ◌∷◌, ◌++◌, length, take, drop, refl, sym, ap, ◌∙◌, subst, arith, append_assoc, length-append, get_or}
+use Rattle.std.proofs.Common.{◌≡◌, ℕ, zero, suc, ◌<◌, ◌^◌, List, [], ◌∷◌, ◌++◌, length, take, refl, sym, ap, ◌∙◌, arith, append_assoc, get_or}
 use Rattle.std.specs.Prelude.{slice_index, codes}
 use Rattle.std.proofs.lemmas.List.{append_cancel_left}
 use Rattle.hex_cells.specs.declared.colours.Colour.{Colour}
 use Rattle.hex_cells.specs.declared.colours.Colour.TheVariants.{Black, White}
-use Rattle.hex_board.specs.Positions.{Position}
 use Rattle.tree_words.specs.Settings.{Setting, IsSetting}
 use Rattle.tree_words.specs.Closing.{ClosedTree}
-use Rattle.trace_audit.specs.Traces.{bytes_of, fields_of, trace_text, written, low_word, high_word, colour_word}
+use Rattle.trace_audit.specs.Traces.{bytes_of, fields_of, written, low_word, high_word, colour_word}
 use Rattle.trace_audit.specs.Told.{AreWords}
-use Rattle.trace_audit.specs.Fields.{AreOfSet, TellBoard, TellKnobs, TellShape}
+use Rattle.trace_audit.specs.Fields.{AreOfSet, TellShape}
 use Rattle.trace_audit.specs.Texts.{BeginWith}
 use Rattle.trace_audit.specs.Verdicts.{Begins}
-use Rattle.trace_audit.proofs.WordBytes.{words_same, rest_same}
+use Rattle.trace_audit.proofs.WordBytes.{words_same}
 use Rattle.trace_audit.proofs.FieldLaws.{on_small, allowed_small}
 
 -- the front of a text

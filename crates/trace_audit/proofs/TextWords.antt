@@ -1,9 +1,9 @@
 -- The words of a text: the tree that is read, and that there is no other.
-use Rattle.std.proofs.Common.{◌≡◌, ℕ, zero, suc, ◌+◌, ◌-◌, ◌*◌, ◌<◌, ◌≤◌, ◌^◌, List, [], ◌∷◌, ◌++◌, length, take, drop, refl, sym, ap, ◌∙◌, subst, arith, append_assoc, length-append, length-take}
+use Rattle.std.proofs.Common.{◌≡◌, ℕ, ◌+◌, ◌-◌, ◌*◌, ◌<◌, ◌≤◌, ◌^◌, List, ◌++◌, length, take, drop, refl, sym, ap, ◌∙◌, subst, arith, append_assoc, length-append, length-take}
 use Rattle.std.specs.Prelude.{slice_index, codes, min}
 use Rattle.std.proofs.lemmas.Bool.{cases_lt}
 use Rattle.std.proofs.Common.{⊎_elim}
-use Rattle.std.proofs.lemmas.List.{append_cancel_left, take-append-drop, drop-drop, drop_at, length-take-le, get_or-take, get_or_past}
+use Rattle.std.proofs.lemmas.List.{take-append-drop, drop-drop, drop_at, length-take-le, get_or-take, get_or_past}
 use Rattle.tree_words.specs.Settings.{Setting, IsSetting}
 use Rattle.tree_words.specs.Words.{area_at, end_of, next_in}
 use Rattle.tree_words.specs.Closing.{ClosedTree}

@@ -1,25 +1,24 @@
 -- What the tests of all spots say of the blocks.
-use Rattle.std.proofs.Common.{◌≡◌, ℕ, zero, suc, ◌+◌, ◌-◌, ◌*◌, ◌/◌, ◌<◌, ◌≤◌, ◌^◌, Bool, true, false, List, length, slice_index, refl, sym, ap, ◌∙◌, subst, ⊎_elim, arith}
+use Rattle.std.proofs.Common.{◌≡◌, ℕ, ◌+◌, ◌-◌, ◌*◌, ◌<◌, ◌≤◌, true, List, length, slice_index, sym, ap, ◌∙◌, subst, ⊎_elim, arith}
 use Rattle.std.specs.Prelude.{slice_index_or, ◌==◌}
-use Rattle.std.proofs.lemmas.Bool.{cases_lt, ne_eqb}
+use Rattle.std.proofs.lemmas.Bool.{ne_eqb}
 use Rattle.hex_board.specs.Positions.{Position, is_empty_at, placed}
 use Rattle.tree_words.specs.Settings.{Setting, IsSetting}
-use Rattle.tree_words.specs.Words.{Count, count_in, root_at, area_at, end_of, next_in, nodes_in, tally_in, seen_in, cell_in}
-use Rattle.tree_words.specs.Blocks.{LinkedBlock, size, block_size, has_node, is_node, In, cell_at}
-use Rattle.tree_words.specs.Paths.{NodeState, state_after, node_state, node_board}
+use Rattle.tree_words.specs.Words.{count_in, root_at, end_of, next_in, nodes_in, tally_in, cell_in}
+use Rattle.tree_words.specs.Blocks.{LinkedBlock, has_node, In, cell_at}
+use Rattle.tree_words.specs.Paths.{NodeState, state_after, node_board}
 use Rattle.tree_words.specs.Records.{Recorded, leaf_of}
-use Rattle.tree_words.specs.Counts.{Exact, visits_at}
+use Rattle.tree_words.specs.Counts.{Exact}
 use Rattle.tree_words.specs.Growth.{Grown, ends_at, other_words, root_end}
-use Rattle.tree_words.proofs.Blocks.BlockLaws.{has-here, root_node}
+use Rattle.tree_words.proofs.Blocks.BlockLaws.{root_node}
 use Rattle.tree_words.proofs.Blocks.GameLaws.{in-node}
 use Rattle.tree_words.proofs.Blocks.Members.{node-in}
 use Rattle.tree_words.proofs.Walks.Tallies.{count-none}
 use Rattle.trace_audit.specs.declared.linking.Spot.{Spot}
 use Rattle.trace_audit.specs.declared.linking.Table.{Table}
-use Rattle.trace_audit.specs.Tables.{state_in, IsLinked}
+use Rattle.trace_audit.specs.Tables.{IsLinked}
 use Rattle.trace_audit.specs.Sums.{AreSums}
-use Rattle.trace_audit.specs.Points.{AreFrugal, AreSame, EachSpot, HasCells, HasRoom, HasSums, IsFirst, IsFrugal, LiesWithin, SomeSpot, node_at}
-use Rattle.trace_audit.specs.Points.{visits_at as visits_of_place}
+use Rattle.trace_audit.specs.Points.{AreFrugal, AreSame, EachSpot, HasCells, HasRoom, HasSums, IsFirst, LiesWithin, SomeSpot, node_at}
 use Rattle.trace_audit.proofs.Cells.{IsMove, move_is}
 use Rattle.trace_audit.proofs.InBlock.{count_one}
 use Rattle.trace_audit.proofs.LinkedLaws.{count_word, lies_in, node_move, spot_block}

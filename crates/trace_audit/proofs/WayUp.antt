@@ -1,14 +1,13 @@
 -- The way up, node by node, to the root.
-use Rattle.std.proofs.Common.{◌≡◌, ◌⊎◌, ℕ, ◌+◌, ◌-◌, ◌*◌, ◌<◌, ◌≤◌, ◌^◌, true, List, length, set, slice_index, refl, sym, ap, ◌∙◌, subst, ⊎_elim, arith}
+use Rattle.std.proofs.Common.{◌≡◌, ℕ, ◌+◌, ◌-◌, ◌<◌, ◌≤◌, ◌^◌, true, List, length, set, slice_index, sym, ap, ◌∙◌, subst, ⊎_elim, arith}
 use Rattle.hex_cells.specs.Colours.{is_same, other_of}
 use Rattle.hex_cells.specs.declared.colours.Colour.{Colour}
 use Rattle.play_out.specs.declared.playouts.Ending.{Ending}
-use Rattle.tree_words.specs.Settings.{Setting, IsSetting}
-use Rattle.tree_words.specs.Words.{Count, root_at, area_at, end_of, wins_in}
+use Rattle.tree_words.specs.Settings.{Setting}
+use Rattle.tree_words.specs.Words.{root_at}
 use Rattle.tree_words.specs.Blocks.{LinkedBlock, has_node, is_node, In, place, cell_at}
-use Rattle.tree_words.specs.Paths.{NodeState, root_state, state_after, mover_at, node_state}
+use Rattle.tree_words.specs.Paths.{root_state, state_after, mover_at, node_state}
 use Rattle.tree_words.specs.Sequence.{amount_of}
-use Rattle.tree_words.specs.Walks.{AtMost}
 use Rattle.tree_words.proofs.Blocks.BlockLaws.{has-at, root_node}
 use Rattle.tree_words.proofs.Blocks.GameLaws.{in-parent, up-in}
 use Rattle.tree_words.proofs.Blocks.Members.{node-in}

@@ -1,9 +1,8 @@
 -- How far a way up has come.
-use Rattle.std.proofs.Common.{◌≡◌, ℕ, ◌+◌, ◌-◌, ◌≤◌, true, List}
+use Rattle.std.proofs.Common.{◌≡◌, ℕ, ◌+◌, ◌-◌, ◌≤◌, List}
 use Rattle.hex_cells.specs.declared.colours.Colour.{Colour}
 use Rattle.play_out.specs.declared.playouts.Ending.{Ending}
 use Rattle.tree_words.specs.Settings.{Setting}
-use Rattle.tree_words.specs.Words.{root_at}
 use Rattle.tree_words.specs.Blocks.{LinkedBlock}
 use Rattle.tree_words.specs.Paths.{node_state}
 use Rattle.trace_audit.specs.Sums.{CanClimb, AreSmall, Climbed}

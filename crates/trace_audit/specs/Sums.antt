@@ -1,5 +1,5 @@
 -- The sums of what playouts add, in a second list of words.
-use Rattle.std.specs.Prelude.{◌≡◌, ◌≢◌, ℕ, ◌+◌, ◌*◌, ◌^◌, ◌<◌, ◌≤◌, if◌then◌else◌, true, List, length, slice_index}
+use Rattle.std.specs.Prelude.{◌≡◌, ◌≢◌, ℕ, ◌+◌, ◌*◌, ◌^◌, ◌<◌, if◌then◌else◌, true, List, length, slice_index}
 use Rattle.hex_cells.specs.Sets.{has as has_cell}
 use Rattle.play_out.specs.declared.playouts.Ending.{Ending}
 use Rattle.tree_words.specs.Settings.{Setting, IsSetting}
@@ -11,7 +11,7 @@ use Rattle.tree_words.specs.Walks.{nothing, plus, AtMost}
 use Rattle.tree_words.specs.Sequence.{gain_of, glimpse_of}
 use Rattle.tree_words.specs.Counts.{visits_at, sights_at}
 use Rattle.tree_words.specs.Growth.{ends_at}
-use Rattle.tree_words.specs.declared.layout.TheConstants.{HEADER_WORDS, NODE_WORDS, TALLY_WORD, SEEN_WORD}
+use Rattle.tree_words.specs.declared.layout.TheConstants.{HEADER_WORDS, NODE_WORDS, SEEN_WORD}
 
 -- the sums of the first n playouts: at each node its visits and wins, at each node of a block its
 -- seen visits and seen wins, and where a node has its move the number of records whose leaf it is

@@ -1,5 +1,5 @@
 -- Verdicts: what an audit says of bytes.
-use Rattle.std.specs.Prelude.{◌≡◌, ◌≢◌, ℕ, ◌+◌, List, [], ◌∷◌, ◌++◌, length}
+use Rattle.std.specs.Prelude.{◌≡◌, ◌≢◌, ℕ, List, [], ◌∷◌, ◌++◌, length}
 use Rattle.std.specs.List.{flat_map}
 use Rattle.tree_words.specs.Settings.{Setting}
 use Rattle.tree_words.specs.Blocks.{LinkedBlock}

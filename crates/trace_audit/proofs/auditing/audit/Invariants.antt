@@ -1,4 +1,4 @@
-use Rattle.std.proofs.Common.{◌≡◌, ℕ, ◌*◌, ◌-◌, ◌≤◌, List, length, drop}
+use Rattle.std.proofs.Common.{◌*◌, ◌-◌, ◌≤◌, length, drop}
 use Rattle.trace_audit.specs.Verdicts.{AreTexts}
 use Rattle.trace_audit.proofs.auditing.audit.Given as goal
 

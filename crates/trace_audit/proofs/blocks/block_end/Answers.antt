@@ -1,8 +1,7 @@
-use Rattle.std.proofs.Common.{false, refl, ◌≡◌, ℕ, ◌+◌, ◌*◌, ◌≤◌, length, arith, ap, sym, ◌∙◌}
-use Rattle.tree_words.specs.Blocks.{block_size, size}
+use Rattle.std.proofs.Common.{false, refl, ◌≡◌, ℕ, length, arith, ap, ◌∙◌}
 use Rattle.tree_words.specs.Writing.{listed}
 use Rattle.tree_words.proofs.Blocks.BlockLaws.{clash}
-use Rattle.trace_audit.specs.Tables.{block_at, Stands}
+use Rattle.trace_audit.specs.Tables.{block_at}
 use Rattle.trace_audit.proofs.Standing.{few_listed, stands_is, stands_not}
 use Rattle.trace_audit.proofs.blocks.block_end.Goals as goal
 

@@ -1,7 +1,5 @@
-use Rattle.std.proofs.Common.{◌≡◌, ℕ, ◌+◌, List, [], refl, sym, ap}
+use Rattle.std.proofs.Common.{◌≡◌, ℕ, ◌+◌, [], refl, ap}
 use Rattle.tree_words.specs.Words.{root_at}
-use Rattle.tree_words.specs.Paths.{root_state}
-use Rattle.trace_audit.specs.Tables.{state_in}
 use Rattle.trace_audit.proofs.Matches.{if_yes, if_no}
 use Rattle.trace_audit.proofs.Beginning.{first_scan, first_node, first_last, first_done}
 use Rattle.trace_audit.proofs.linking.begin.Goals as goal

@@ -1,9 +1,5 @@
-use Rattle.std.proofs.Common.{◌≡◌, ℕ, ◌+◌, ◌-◌, ◌*◌, ◌<◌, ◌≤◌, true, List, ◌∷◌, length, refl, sym, ap, ◌∙◌, subst, arith}
-use Rattle.std.specs.Prelude.{slice_index_or}
-use Rattle.tree_words.specs.Settings.{Setting}
-use Rattle.tree_words.specs.Blocks.{LinkedBlock}
-use Rattle.tree_words.specs.Paths.{node_state}
-use Rattle.trace_audit.specs.Tables.{IsEntered, state_in}
+use Rattle.std.proofs.Common.{◌≡◌, ℕ, ◌+◌, ◌∷◌, ◌∙◌, subst, arith}
+use Rattle.trace_audit.specs.Tables.{IsEntered}
 use Rattle.trace_audit.proofs.Matches.{if_yes, if_no}
 use Rattle.trace_audit.proofs.EnterAll.{cell_empty, cell_small, cell_state, entered_more, entry_least, node_in, node_last, spot_is}
 use Rattle.trace_audit.proofs.linking.enter_all.Goals as goal

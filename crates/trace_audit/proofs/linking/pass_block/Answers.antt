@@ -1,8 +1,8 @@
-use Rattle.std.proofs.Common.{◌≡◌, ℕ, ◌+◌, ◌-◌, ◌<◌, ◌≤◌, List, ◌∷◌, length, refl, sym, ap, ◌∙◌, subst, arith}
+use Rattle.std.proofs.Common.{◌+◌, List, ◌∷◌, refl, sym, ap, ◌∙◌, arith}
 use Rattle.std.specs.Prelude.{slice_index}
 use Rattle.tree_words.specs.Blocks.{LinkedBlock}
 use Rattle.tree_words.specs.Told.{told_block}
-use Rattle.trace_audit.specs.Tables.{IsEntered, Scanned}
+use Rattle.trace_audit.specs.Tables.{Scanned}
 use Rattle.trace_audit.proofs.Matches.{if_yes, if_no}
 use Rattle.trace_audit.proofs.PassBlock.{board_size, is_passed, must_be_alone, must_stand, number_least}
 use Rattle.trace_audit.proofs.linking.pass_block.Goals as goal

@@ -1,7 +1,6 @@
-use Rattle.std.proofs.Common.{◌≡◌, ℕ, ◌≤◌, List, replicate, length, sym, ap, ◌∙◌, subst, arith}
+use Rattle.std.proofs.Common.{◌≡◌, ℕ, List, replicate, length, sym, ap, ◌∙◌, subst, arith}
 use Rattle.std.specs.Prelude.{slice_index}
 use Rattle.std.proofs.lemmas.List.{length-replicate, with_items_is}
-use Rattle.tree_words.specs.Words.{end_of}
 use Rattle.trace_audit.specs.Traces.{written}
 use Rattle.trace_audit.specs.Told.{AreWords}
 use Rattle.trace_audit.proofs.WordBytes.{no_words, none_left}

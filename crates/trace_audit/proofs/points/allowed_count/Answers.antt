@@ -1,5 +1,4 @@
-use Rattle.std.proofs.Common.{◌≡◌, ℕ, length, ap, ◌∙◌, arith}
-use Rattle.tree_words.specs.Complete.{allowed_cells}
+use Rattle.std.proofs.Common.{length, ap, ◌∙◌, arith}
 use Rattle.tree_words.proofs.NewBlocks.Openings.{allowed-listed}
 use Rattle.trace_audit.proofs.Standing.{few_listed}
 use Rattle.trace_audit.proofs.points.allowed_count.Goals as goal

@@ -1,4 +1,4 @@
-use Rattle.std.proofs.Common.{◌≡◌, ℕ, ◌<◌, sym, subst, arith}
+use Rattle.std.proofs.Common.{sym, subst, arith}
 use Rattle.trace_audit.specs.declared.linking.Spot.{Spot}
 use Rattle.trace_audit.specs.Points.{AreFrugal}
 use Rattle.trace_audit.proofs.Matches.{if_no}

@@ -1,4 +1,4 @@
-use Rattle.std.proofs.Common.{◌≡◌, ℕ, ◌<◌, ◌≤◌}
+use Rattle.std.proofs.Common.{ℕ, ◌<◌}
 use Rattle.trace_audit.specs.Points.{IsFrugal}
 use Rattle.trace_audit.proofs.points.has_few_leaves.Given as goal
 

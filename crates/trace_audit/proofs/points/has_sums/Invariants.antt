@@ -1,4 +1,4 @@
-use Rattle.std.proofs.Common.{◌≡◌, ℕ, ◌<◌, ◌≤◌}
+use Rattle.std.proofs.Common.{ℕ, ◌<◌}
 use Rattle.trace_audit.specs.Points.{AreSame, node_at}
 use Rattle.trace_audit.proofs.points.has_sums.Given as goal
 

@@ -1,5 +1,4 @@
-use Rattle.std.proofs.Common.{◌≡◌, ℕ, ◌+◌, Bool, true, false, slice_index, sym, ap, ◌∙◌, arith}
-use Rattle.std.specs.Prelude.{MatchBool}
+use Rattle.std.proofs.Common.{◌≡◌, ℕ, ◌+◌, slice_index, sym, ap, ◌∙◌}
 use Rattle.tree_words.specs.Words.{root_at}
 use Rattle.trace_audit.proofs.Matches.{match_on}
 use Rattle.trace_audit.proofs.Verifying.{exact_of, not_exact, spots_within, top_of}

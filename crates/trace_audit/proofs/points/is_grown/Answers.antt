@@ -1,6 +1,5 @@
-use Rattle.std.proofs.Common.{◌≡◌, ℕ, ◌+◌, ◌*◌, ◌≤◌, sym, ap, ◌∙◌, subst, arith}
+use Rattle.std.proofs.Common.{◌≡◌, ℕ, ◌*◌, ◌≤◌, ap, ◌∙◌, subst, arith}
 use Rattle.tree_words.specs.Words.{end_of, next_in}
-use Rattle.trace_audit.specs.declared.linking.Spot.{Spot}
 use Rattle.trace_audit.specs.Points.{AreFrugal, EachSpot, IsFirst, SomeSpot}
 use Rattle.trace_audit.proofs.Matches.{if_yes, if_no, match_on}
 use Rattle.trace_audit.proofs.Verifying.{grown_of, not_first, not_frugal, room_of, spots_cells, spots_within}

@@ -1,8 +1,6 @@
-use Rattle.std.proofs.Common.{◌≡◌, ℕ, ◌+◌, ◌/◌, ◌<◌, List, set, slice_index, refl, sym, ap, ◌∙◌, subst, arith}
+use Rattle.std.proofs.Common.{ℕ, ◌+◌, List, sym, ap, subst}
 use Rattle.tree_words.specs.Blocks.{LinkedBlock}
-use Rattle.tree_words.specs.Records.{leaf_of}
-use Rattle.tree_words.specs.Words.{root_at}
-use Rattle.trace_audit.specs.Sums.{AreSums, Climbed}
+use Rattle.trace_audit.specs.Sums.{AreSums}
 use Rattle.trace_audit.proofs.AddPlayout.{can_climb, leaf_inside, leaf_small, no_record, player_is, playout_added, right_record, wrong_record}
 use Rattle.trace_audit.proofs.Matches.{if_no, if_yes}
 use Rattle.trace_audit.proofs.recording.add.Goals as goal

@@ -1,4 +1,4 @@
-use Rattle.std.proofs.Common.{◌≡◌, ℕ, ◌+◌, refl, arith}
+use Rattle.std.proofs.Common.{arith}
 use Rattle.trace_audit.proofs.AddNode.{block_fits, cells_small, is_added, node_fits, place_fits, seen_fits, tally_fits}
 use Rattle.trace_audit.proofs.recording.add_node.Goals as goal
 

@@ -1,6 +1,6 @@
-use Rattle.std.proofs.Common.{◌≡◌, ℕ, ◌+◌, ◌-◌, ◌<◌, List, refl, sym, ap, ◌∙◌, subst, arith}
+use Rattle.std.proofs.Common.{ℕ, List, refl, sym, ◌∙◌, subst, arith}
 use Rattle.trace_audit.specs.Sums.{Climbed}
-use Rattle.trace_audit.proofs.WayUp.{can_add, leaf_most, mover_is, parent_below, root_fits, up_begin, up_end, up_more}
+use Rattle.trace_audit.proofs.WayUp.{can_add, mover_is, parent_below, root_fits, up_begin, up_end, up_more}
 use Rattle.trace_audit.proofs.recording.climb.Goals as goal
 
 pub up-init : goal.up-init

@@ -1,10 +1,9 @@
-use Rattle.std.proofs.Common.{◌≡◌, ℕ, ◌+◌, ◌<◌, List, length, refl, sym, ap, ◌∙◌, subst, ⊎_elim, arith}
+use Rattle.std.proofs.Common.{◌≡◌, ℕ, ◌+◌, List, sym, subst, ⊎_elim, arith}
 use Rattle.std.proofs.lemmas.Bool.{cases_eq}
 use Rattle.std.proofs.lemmas.List.{with_items_is}
 use Rattle.tree_words.specs.Records.{IsRecord}
 use Rattle.trace_audit.specs.Sums.{AreSums}
-use Rattle.trace_audit.proofs.Adding.{sums_none}
-use Rattle.trace_audit.proofs.Matches.{if_yes, if_no}
+use Rattle.trace_audit.proofs.Matches.{if_yes}
 use Rattle.trace_audit.proofs.recording.sum.Goals as goal
 
 pub records-preserved : goal.records-preserved
