@@ -16,6 +16,7 @@ mod refusals;
 mod texts;
 
 pub use certs::{Cert, FIRST_VERSION, LATEST_VERSION, MOST_LINES};
+pub use laws::accepted_certificates_win;
 pub use lines::{End, LEAST_CASES, Line, Lines, MOST_CASES, MOST_NUMBER};
 pub use lists::{Bytes, Numbers};
 pub use refusals::{CertError, Memory};
