@@ -36,7 +36,7 @@ and_over c a b r (Some u) m g h q f n t e =
     given_is c (entry_between c Full x y (carriers_of (a ∷ b ∷ []))) r e
     (good_between (elements_at c) Full x y (bit_or a.carrier (bit_or b.carrier 0))
     (subst (λ v. IsGood (elements_at c) Full x y (bit_or a.carrier v)) (sym (or_zero_r b.carrier))
-    (good_group (elements_at c) x u y a.carrier b.carrier m w.first w.second w.apart w.first_end w.second_end (is_group (elements_at c) u m t))))
+    (good_group (elements_at c) x u y a.carrier b.carrier m w.first w.second w.apart w.first_end w.second_end (is_group (elements_at c) u t))))
 
 pub and_good : (c : Context) (s : Statement) (entries : List ScopedEntry) (r : ScopedEntry) → kind_taken s ≡ Full → scope_taken c s ≡ c.scope → IsSmallBoard (elements_at c)
     → Each (IsTaken c s) entries → share_cell entries ≡ false → holds_of_chain (ends_meet (elements_at c)) entries ≡ false

@@ -16,9 +16,9 @@ use Rattle.conn_store.specs.Laws.{IsSubset}
 use Rattle.conn_store.specs.Links.{MayPass, StonesLink}
 use Rattle.conn_store.specs.declared.entries.Kind.{Kind}
 use Rattle.conn_store.specs.declared.entries.Kind.TheVariants.{Full, Semi}
-use Rattle.conn_store.proofs.Edges.{linked_joins}
 use Rattle.conn_store.proofs.Sureness.{sure_more, without_keeps}
 use Rattle.conn_store.proofs.Ways.{linked_kept}
+use Rattle.win_cert.proofs.LinksOn.{links_join}
 use Rattle.win_cert.specs.Scopes.{elements_in}
 use Rattle.win_cert.proofs.GoodEntries.{IsGood, concluded, empty_more, good_linked}
 use Rattle.win_cert.proofs.ScopeBoards.{IsSmallBoard, scope_fewer, scope_more, scope_size}
@@ -61,9 +61,9 @@ edge_misses e second c f k h i = far (edge_elements e) (count_by (is_head e) (ra
 -- ---- after a stone of his
 
 -- with a stone on the cell the player is sure of his edges, so without it he is if he places first
-pub good_move : (base : PlayerBoard) (s k c : ℕ) → IsSmallBoard (elements_in base s) → IsSmallBoard (elements_in base (with_cell s k))
-    → is_empty_at (elements_in base s).board k ≡ true → IsGoodOfEdges (elements_in base (with_cell s k)) Full c → IsGoodOfEdges (elements_in base s) Semi (with_cell c k)
-good_move base s k c m n h g =
+pub good_move : (base : PlayerBoard) (s k c : ℕ) → IsSmallBoard (elements_in base s) → is_empty_at (elements_in base s).board k ≡ true
+    → IsGoodOfEdges (elements_in base (with_cell s k)) Full c → IsGoodOfEdges (elements_in base s) Semi (with_cell c k)
+good_move base s k c m h g =
     let e = elements_in base s in
     let w = elements_in base (with_cell s k) in
     let own = stones_of e.board base.player in
@@ -79,7 +79,7 @@ good_move base s k c m n h g =
         sure_more (members c 121) (members c 121) Full (StonesLink w (edge_element w false) (edge_element w true)) (StonesLink e (edge_element e false) (edge_element e true))
             (stones_of w.board base.player) (with_cell own k) c (without_cell (with_cell c k) k) (omega arith) (scope_more base.board base.player s k) kept
             (λ a b i j l. joined_links e b (subst (λ z. Joined z base.player b) (scope_size base.board base.player (with_cell s k) ∙ sym (scope_size base.board base.player s))
-            (linked_joins w b n.stones (λ q r. i q (scope_more base.board base.player s k q r)) (linked_kept w (edge_element w false) (edge_element w true) a b j l))))
+            (links_join w b (λ q r. i q (scope_more base.board base.player s k q r)) (linked_kept w (edge_element w false) (edge_element w true) a b j l))))
             g.holds,
       ));
     }

@@ -19,7 +19,8 @@ use Rattle.conn_store.specs.declared.entries.Kind.{Kind}
 use Rattle.conn_store.specs.declared.entries.Kind.TheVariants.{Full, Semi}
 use Rattle.conn_store.proofs.Chains.{empty_both, misses_both}
 use Rattle.conn_store.proofs.Sureness.{Disjoint, IsKept, same, sure_both, sure_more, sure_over, sure_trimmed, sure_wider, union_left, union_right, without_keeps}
-use Rattle.conn_store.proofs.Ways.{linked_back, linked_cell, linked_group, linked_kept, near_linked}
+use Rattle.conn_store.proofs.Ways.{linked_back, linked_kept, near_linked}
+use Rattle.win_cert.proofs.LinksOn.{cell_links, group_links}
 use Rattle.win_cert.proofs.ScopeBoards.{IsSmallBoard, empty_small}
 
 -- an entry of x and y that is true, with a carrier of empty cells outside x and y
@@ -85,7 +86,7 @@ good_group e x u y a b m g h d mx my r = record {
   second = misses_both e y a b my h.second;
   holds = concluded e (members a 121 + members b 121) Full x y (bit_or a b) m (empty_both e a b g.empty h.empty)
       (sure_both (members a 121 + members b 121) (members a 121) (members b 121) Full (StonesLink e x u) (StonesLink e u y) (StonesLink e x y) (stones_of e.board e.player) a b (bit_or a b)
-      (omega arith) (linked_kept e x u) (linked_kept e u y) (linked_kept e x y) (λ t i j k. linked_group e x u y t m.stones i (λ w f z. r w (f, z)) j k) d (union_left a b) (union_right a b)
+      (omega arith) (linked_kept e x u) (linked_kept e u y) (linked_kept e x y) (λ t i j k. group_links e x u y t i r j k) d (union_left a b) (union_right a b)
       g.holds h.holds);
 }
 
@@ -110,7 +111,7 @@ good_cell e x u y a b k m g h d mx my r nx ny =
       holds = concluded e (suc (members a 121 + members b 121)) Semi x y (with_cell (bit_or a b) k) m both
           (sure_over (members a 121 + members b 121) (members a 121) (members b 121) k (StonesLink e x u) (StonesLink e u y) (StonesLink e x y) (stones_of e.board e.player) a b
           (with_cell (bit_or a b) k) (omega arith) (linked_kept e x u) (linked_kept e u y) (linked_kept e x y)
-          (λ t i j l. linked_cell e x u y k t m.stones r.0 r.1 (i k (with_cell-here (stones_of e.board e.player) k)) j l) d
+          (λ t i j l. cell_links e x u y k t r (i k (with_cell-here (stones_of e.board e.player) k)) j l) d
           (λ z i. with_cell-keeps (bit_or a b) k z (union_left a b z i)) (λ z i. with_cell-keeps (bit_or a b) k z (union_right a b z i))
           (false_from_ne_true (has a k) (g.second k r.1)) (false_from_ne_true (has b k) (h.first k r.1)) (with_cell-here (bit_or a b) k) g.holds h.holds);
     }

@@ -1,5 +1,7 @@
 mod Vectors
+pub mod SameTests
 pub mod StonesOn
+pub mod LinksOn
 pub mod ScopeBoards
 pub mod GoodEntries
 pub mod EdgeEntries
@@ -8,7 +10,6 @@ pub mod Middles
 pub mod ChainLines
 pub mod CaseLines
 pub mod LineTruth
-pub mod LineScopes
 pub mod GivenEntries
 pub mod AcceptedLaw
-pub mod ScopedTruth
+mod LawVectors

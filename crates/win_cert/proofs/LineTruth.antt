@@ -1,20 +1,18 @@
 -- What a line gives is good, where the lines before it give good entries and no reason is against
 -- it.
-use Rattle.std.proofs.Common.{◌≡◌, ℕ, ◌==◌, ◌&&◌, not, true, false, Bool, List, [], ◌∷◌, Option, Some, None, refl, sym, subst}
+use Rattle.std.proofs.Common.{◌≡◌, ℕ, ◌==◌, ◌&&◌, not, true, false, Bool, List, [], ◌∷◌, Option, Some, None, refl, subst}
 use Rattle.std.specs.List.{list_all, list_any}
 use Rattle.std.proofs.lemmas.Bool.{and_parts, both_ways, eq-eqb, false≢true, not-true}
 use Rattle.hex_cells.specs.Sets.{with_cell}
 use Rattle.hex_board.specs.Elements.{PlayerBoard, are_joined, edge_element}
 use Rattle.hex_board.specs.Places.{Place, Near, are_beside, is_member, is_near, places_of}
-use Rattle.hex_board.specs.Positions.{Within, is_empty_at}
-use Rattle.hex_board.proofs.Placed.{empty_on}
+use Rattle.hex_board.specs.Positions.{is_empty_at}
 use Rattle.hex_board.proofs.Places.{beside_out, member_out, place_out}
-use Rattle.conn_store.specs.Entries.{AllEmpty}
 use Rattle.conn_store.specs.declared.entries.Kind.TheVariants.{Full, Semi}
 use Rattle.win_cert.specs.Entries.{Context, ScopedEntry, adj_entry, carriers_of, edge_entry, elements_at, end_element, entries_at, entry_between, gives, move_entry}
 use Rattle.win_cert.specs.Reasons.{Reason, applies, bad_stone, carriers_meet, common_cell, end_in_carrier, ends_differ, middle_kind, not_edges, not_joined, not_neighbours}
 use Rattle.win_cert.specs.Scopes.{elements_in}
-use Rattle.win_cert.specs.Statements.{derivation, are_near, have_same_ends, is_edge_entry, numbers_in, scope_taken}
+use Rattle.win_cert.specs.Statements.{derivation, are_near, have_same_ends, is_edge_entry, numbers_in}
 use Rattle.win_cert.specs.declared.lines.Line.{Line}
 use Rattle.win_cert.specs.declared.lines.Line.TheVariants.{Adj, And, Key, Or2, Or3, Put, Done, Move, Cases}
 use Rattle.win_cert.proofs.CaseLines.{cases_good, edges_good, or_good}
@@ -22,7 +20,7 @@ use Rattle.win_cert.proofs.ChainLines.{and_good, given_is, key_good}
 use Rattle.win_cert.proofs.EdgeEntries.{IsGoodOfEdges, good_done, good_move}
 use Rattle.win_cert.proofs.GoodEntries.{IsGood, good_between, good_near}
 use Rattle.win_cert.proofs.NamedEntries.{Each, GaveGood, IsGoodEntry, IsTaken, not_false, taken}
-use Rattle.win_cert.proofs.ScopeBoards.{IsSmallBoard, scope_grown, scope_small}
+use Rattle.win_cert.proofs.ScopeBoards.{IsSmallBoard, scope_small}
 
 -- ---- `adj`
 
@@ -52,11 +50,11 @@ adj_good c None p r m h e = absurd (false≢true h)
 
 -- ---- `move`
 
-move_good : (c : Context) (k i : ℕ) (entries : List ScopedEntry) (r : ScopedEntry) → IsSmallBoard (elements_at c) → IsSmallBoard (elements_in c.base (with_cell c.scope k))
-    → is_empty_at (elements_at c).board k ≡ true → Each (IsTaken c (derivation (Move k i))) entries → list_all (is_edge_entry c.base) entries ≡ true → move_entry c k entries ≡ Some r
+move_good : (c : Context) (k i : ℕ) (entries : List ScopedEntry) (r : ScopedEntry) → IsSmallBoard (elements_at c) → is_empty_at (elements_at c).board k ≡ true
+    → Each (IsTaken c (derivation (Move k i))) entries → list_all (is_edge_entry c.base) entries ≡ true → move_entry c k entries ≡ Some r
     → IsGoodEntry c.base r
-move_good c k i [] r m n h g f e = absurd (cc)
-move_good c k i (a ∷ entries) r m n h g f e =
+move_good c k i [] r m h g f e = absurd (cc)
+move_good c k i (a ∷ entries) r m h g f e =
     let w = elements_in c.base (with_cell c.scope k) in
     let t = and_parts (is_edge_entry c.base a) (list_all (is_edge_entry c.base) entries) f in
     let good : IsGood w Full a.x a.y a.carrier = subst (λ v. IsGood w v a.x a.y a.carrier) g.0.named.kind_is
@@ -65,7 +63,7 @@ move_good c k i (a ∷ entries) r m n h g f e =
     subst (λ v. (a.x == edge_element (elements_in c.base v) false && a.y == edge_element (elements_in c.base v) true) ≡ true) g.0.scope_is t.0 in
     given_is c (edge_entry c Semi (with_cell a.carrier k)) r e
     (good_between (elements_at c) Semi (edge_element (elements_at c) false) (edge_element (elements_at c) true) (with_cell a.carrier k)
-    (good_move c.base c.scope k a.carrier m n h (edges_good w Full a edges good)))
+    (good_move c.base c.scope k a.carrier m h (edges_good w Full a edges good)))
 
 -- ---- each line
 
@@ -73,41 +71,32 @@ edge_good : (c : Context) (carrier : ℕ) (r : ScopedEntry) → IsGoodOfEdges (e
 edge_good c carrier r g e = given_is c (edge_entry c Full carrier) r e
     (good_between (elements_at c) Full (edge_element (elements_at c) false) (edge_element (elements_at c) true) carrier g)
 
-no_scope_off : (e : PlayerBoard) (s : ℕ) → AllEmpty e.board s → Within e.board.size s
-no_scope_off e s f k h = empty_on e.board k (f k h)
-
--- what the lines read in scopes of empty cells are given, where no reason is against the line
+-- the line is read over lines that gave good entries, and no reason is against it
 pub record IsRead (c : Context) (line : Line) : Type 0 where
   pub small : IsSmallBoard c.base
-  pub scope : AllEmpty c.base.board c.scope
   pub earlier : GaveGood c
   pub clear : (r : Reason) → applies c (derivation line) r ≡ false
 
-named : (c : Context) (line : Line) → IsRead c line → scope_taken c (derivation line) ≡ c.scope
-    → Each (IsTaken c (derivation line)) (entries_at c (numbers_in (derivation line)))
-named c line h q = taken c (derivation line) h.earlier (subst (λ v. Within c.base.board.size v) (sym q) (no_scope_off c.base c.scope h.scope)) h.clear
+named : (c : Context) (line : Line) → IsRead c line → Each (IsTaken c (derivation line)) (entries_at c (numbers_in (derivation line)))
+named c line h = taken c (derivation line) h.earlier h.clear
 
 line_good : (c : Context) (line : Line) (r : ScopedEntry) → IsRead c line → IsSmallBoard (elements_at c) → gives c line ≡ Some r → IsGoodEntry c.base r
 line_good c (Adj x y) r h m e = adj_good c (end_element (elements_at c) x) (end_element (elements_at c) y) r m
     (not_false (are_near (elements_at c) (end_element (elements_at c) x) (end_element (elements_at c) y)) (h.clear not_neighbours)) e
-line_good c (And i j) r h m e = and_good c (derivation (And i j)) (entries_at c (i ∷ j ∷ [])) r refl refl m (named c (And i j) h refl) (h.clear carriers_meet) (h.clear end_in_carrier) (h.clear middle_kind) e
-line_good c (Key i j) r h m e = key_good c (derivation (Key i j)) (entries_at c (i ∷ j ∷ [])) r refl refl refl m (named c (Key i j) h refl) (h.clear carriers_meet) (h.clear end_in_carrier) e
-line_good c (Or2 i j) r h m e = or_good c (derivation (Or2 i j)) (entries_at c (i ∷ j ∷ [])) r refl refl m (named c (Or2 i j) h refl) (h.clear common_cell)
+line_good c (And i j) r h m e = and_good c (derivation (And i j)) (entries_at c (i ∷ j ∷ [])) r refl refl m (named c (And i j) h) (h.clear carriers_meet) (h.clear end_in_carrier) (h.clear middle_kind) e
+line_good c (Key i j) r h m e = key_good c (derivation (Key i j)) (entries_at c (i ∷ j ∷ [])) r refl refl refl m (named c (Key i j) h) (h.clear carriers_meet) (h.clear end_in_carrier) e
+line_good c (Or2 i j) r h m e = or_good c (derivation (Or2 i j)) (entries_at c (i ∷ j ∷ [])) r refl refl m (named c (Or2 i j) h) (h.clear common_cell)
     (not_false (have_same_ends (entries_at c (i ∷ j ∷ []))) (h.clear ends_differ)) e
-line_good c (Or3 i j k) r h m e = or_good c (derivation (Or3 i j k)) (entries_at c (i ∷ j ∷ k ∷ [])) r refl refl m (named c (Or3 i j k) h refl) (h.clear common_cell)
+line_good c (Or3 i j k) r h m e = or_good c (derivation (Or3 i j k)) (entries_at c (i ∷ j ∷ k ∷ [])) r refl refl m (named c (Or3 i j k) h) (h.clear common_cell)
     (not_false (have_same_ends (entries_at c (i ∷ j ∷ k ∷ []))) (h.clear ends_differ)) e
 line_good c (Put cells) r h m e = absurd (cc)
 line_good c Done r h m e = edge_good c 0 r (good_done (elements_at c) m (not_false (are_joined (elements_at c)) (h.clear not_joined))) e
-line_good c (Move k i) r h m e =
-    let free : is_empty_at (elements_at c).board k ≡ true = not_false (is_empty_at (elements_at c).board k) (h.clear bad_stone) in
-    let more : AllEmpty c.base.board (with_cell c.scope k) = scope_grown c.base.board c.base.player c.scope k h.scope free in
-    move_good c k i (entries_at c (i ∷ [])) r m (scope_small c.base (with_cell c.scope k) h.small more) free
-    (taken c (derivation (Move k i)) h.earlier (no_scope_off c.base (with_cell c.scope k) more) h.clear)
+line_good c (Move k i) r h m e = move_good c k i (entries_at c (i ∷ [])) r m (not_false (is_empty_at (elements_at c).board k) (h.clear bad_stone)) (named c (Move k i) h)
     (not_false (list_all (is_edge_entry c.base) (entries_at c (i ∷ []))) (h.clear not_edges)) e
 line_good c (Cases numbers) r h m e = edge_good c (carriers_of (entries_at c numbers)) r
-    (cases_good c (derivation (Cases numbers)) (entries_at c numbers) refl refl m (named c (Cases numbers) h refl) (h.clear common_cell)
+    (cases_good c (derivation (Cases numbers)) (entries_at c numbers) refl refl m (named c (Cases numbers) h) (h.clear common_cell)
     (not_false (list_all (is_edge_entry c.base) (entries_at c numbers)) (h.clear not_edges))) e
 
 -- a line against which there is no reason gives a good entry
 pub read_good : (c : Context) (line : Line) (r : ScopedEntry) → IsRead c line → gives c line ≡ Some r → IsGoodEntry c.base r
-read_good c line r h e = line_good c line r h (scope_small c.base c.scope h.small h.scope) e
+read_good c line r h e = line_good c line r h (scope_small c.base c.scope h.small) e

@@ -8,7 +8,7 @@ use Rattle.hex_board.specs.Elements.{PlayerBoard}
 use Rattle.hex_board.specs.Joined.{cells_of}
 use Rattle.hex_board.specs.Places.{at_cell, cell_of, is_member}
 use Rattle.hex_board.specs.Positions.{is_empty_at}
-use Rattle.hex_board.proofs.Places.{cell_out, cell_test}
+use Rattle.hex_board.proofs.Places.{cell_out}
 use Rattle.hex_board.proofs.Search.{any_in}
 use Rattle.conn_store.specs.Entries.{AllEmpty, Misses}
 use Rattle.conn_store.specs.Rules.{IsCell, IsGroup}
@@ -19,6 +19,7 @@ use Rattle.win_cert.specs.Entries.{Context, ScopedEntry, elements_at, is_end, mi
 use Rattle.win_cert.specs.Scopes.{elements_in}
 use Rattle.win_cert.specs.Statements.{Statement, is_cell_in, kind_taken, scope_taken, share_cell}
 use Rattle.win_cert.proofs.GoodEntries.{IsGood, good_turned}
+use Rattle.win_cert.proofs.LinksOn.{cell_is}
 use Rattle.win_cert.proofs.NamedEntries.{IsTaken}
 use Rattle.win_cert.proofs.ScopeBoards.{IsSmallBoard, empty_small}
 
@@ -89,15 +90,12 @@ is_cell e u k h =
     let t = and_parts (is_empty_at e.board k) (is_member e u (at_cell k)) (found (λ j. is_empty_at e.board j && is_member e u (at_cell j)) (cells_of e.board.size) k h) in
     (t.0, cell_out e u k t.1)
 
-pub cell_is : (e : PlayerBoard) (u k : ℕ) → IsSmallBoard e → IsCell e u k → cell_of e u ≡ Some k
-cell_is e u k m h = sym (cell_test e u (Some k) m.stones h tt)
-
-pub is_group : (e : PlayerBoard) (u : ℕ) → IsSmallBoard e → is_some (cell_of e u) ≡ false → IsGroup e u
-is_group e u m f k h = both_ways (is_some (cell_of e u)) f (ap is_some (cell_is e u k m h))
+pub is_group : (e : PlayerBoard) (u : ℕ) → is_some (cell_of e u) ≡ false → IsGroup e u
+is_group e u f k h = both_ways (is_some (cell_of e u)) f (ap is_some (cell_is e u k h))
 
 -- a set of empty cells without the element's
-misses_by : (e : PlayerBoard) (x c : ℕ) → IsSmallBoard e → AllEmpty e.board c → is_cell_in e x c ≡ false → Misses e x c
-misses_by e x c m f n k h i = both_ways (is_cell_in e x c) n (ap (λ o. option_map_or (has c) o false) (cell_is e x k m (f k i, h)) ∙ i)
+misses_by : (e : PlayerBoard) (x c : ℕ) → AllEmpty e.board c → is_cell_in e x c ≡ false → Misses e x c
+misses_by e x c f n k h i = both_ways (is_cell_in e x c) n (ap (λ o. option_map_or (has c) o false) (cell_is e x k (f k i, h)) ∙ i)
 
 -- ---- what both lines ask
 
@@ -123,8 +121,8 @@ chain_over e a b u m g h q f n =
       first = good_other e Full a u a.carrier t.0 g;
       second = good_turned e Full (other_end b u) u b.carrier (good_other e Full b u b.carrier t.1 h);
       apart = apart_by a b (empty_small e a.carrier m g.empty) f;
-      first_end = misses_by e (other_end a u) b.carrier m h.empty v.0;
-      second_end = misses_by e (other_end b u) a.carrier m g.empty v.1;
+      first_end = misses_by e (other_end a u) b.carrier h.empty v.0;
+      second_end = misses_by e (other_end b u) a.carrier g.empty v.1;
     }
 
 -- a named entry on the board of the line's scope

@@ -1,10 +1,9 @@
 -- What a statement names, where no reason is against it: good entries of the kind and in the scope
 -- that it takes.
-use Rattle.std.proofs.Common.{◌≡◌, ℕ, ◌==◌, ◌&&◌, ◌||◌, not, true, false, Bool, List, [], ◌∷◌, Option, Some, None, cond, refl, sym, ◌∙◌, ap, subst, zero, suc}
+use Rattle.std.proofs.Common.{◌≡◌, ℕ, ◌==◌, ◌&&◌, ◌||◌, not, true, false, Bool, List, [], ◌∷◌, Option, Some, None, cond, refl, sym, ◌∙◌, ap, zero, suc}
 use Rattle.std.specs.List.{cons_option, filter_map, find, list_all, slice_get}
 use Rattle.std.proofs.lemmas.Bool.{and_from, and_parts, both_ways, eqb-true, eq-eqb, false≢true, not-true}
 use Rattle.hex_board.specs.Elements.{PlayerBoard}
-use Rattle.hex_board.specs.Positions.{Within}
 use Rattle.conn_store.specs.Stores.{same_kind}
 use Rattle.conn_store.specs.declared.entries.Kind.{Kind}
 use Rattle.conn_store.specs.declared.entries.Kind.TheVariants.{Full, Semi}
@@ -63,9 +62,9 @@ each_both P Q R (a ∷ entries) f p q = (f a p.0 q.0, each_both P Q R entries f 
 abbrev pub IsGoodEntry : PlayerBoard → ScopedEntry → Type 0
 IsGoodEntry base a = IsGood (elements_in base a.scope) a.kind a.x a.y a.carrier
 
--- earlier lines give good entries in scopes on the board
+-- earlier lines give good entries
 abbrev pub GaveGood : Context → Type 0
-GaveGood c = (i : ℕ) (a : ScopedEntry) → entry_at c i ≡ Some a → Within c.base.board.size a.scope → IsGoodEntry c.base a
+GaveGood c = (i : ℕ) (a : ScopedEntry) → entry_at c i ≡ Some a → IsGoodEntry c.base a
 
 -- the statement may take the entry, which an earlier line gave
 pub record IsNamed (c : Context) (s : Statement) (a : ScopedEntry) : Type 0 where
@@ -110,12 +109,8 @@ not_false true h = refl
 not_false false h = absurd (false≢true (sym h))
 
 -- the entries that a statement names, where no reason is against it
-pub taken : (c : Context) (s : Statement) → GaveGood c → Within c.base.board.size (scope_taken c s) → ((r : Reason) → applies c s r ≡ false) → Each (IsTaken c s) (entries_named c s)
-taken c s g on h = each_both (IsNamed c s) (λ a. (a.scope == scope_taken c s) ≡ true) (IsTaken c s) (entries_named c s)
-    (λ a p q. let e : a.scope ≡ scope_taken c s = eqb-true a.scope (scope_taken c s) q in record {
-      named = p;
-      scope_is = e;
-      good = g p.given.0 a p.given.1 (subst (λ v. Within c.base.board.size v) (sym e) on);
-    })
+pub taken : (c : Context) (s : Statement) → GaveGood c → ((r : Reason) → applies c s r ≡ false) → Each (IsTaken c s) (entries_named c s)
+taken c s g h = each_both (IsNamed c s) (λ a. (a.scope == scope_taken c s) ≡ true) (IsTaken c s) (entries_named c s)
+    (λ a p q. record { named = p; scope_is = eqb-true a.scope (scope_taken c s) q; good = g p.given.0 a p.given.1 })
     (named_all c s (numbers_in s) (not_false (list_all (λ i. may_take s (entry_at c i)) (numbers_in s)) (h bad_reference)))
     (each_passes (λ a. a.scope == scope_taken c s) (entries_named c s) (not_false (list_all (λ a. a.scope == scope_taken c s) (entries_named c s)) (h wrong_scope)))

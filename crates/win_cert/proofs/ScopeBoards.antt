@@ -8,19 +8,18 @@ use Rattle.hex_cells.proofs.Bits.{has_none, has_or}
 use Rattle.hex_cells.proofs.Tables.{board_cell}
 use Rattle.hex_cells.proofs.WithCell.{with_cell-cases, with_cell-here, with_cell-keeps}
 use Rattle.hex_board.specs.Elements.{PlayerBoard}
-use Rattle.hex_board.specs.Positions.{Position, Within, is_empty_at, stones_of}
+use Rattle.hex_board.specs.Positions.{Position, is_empty_at, stones_of}
 use Rattle.hex_board.proofs.Placed.{empty_on}
 use Rattle.conn_store.specs.Entries.{AllEmpty}
 use Rattle.conn_store.specs.Laws.{IsSubset}
 use Rattle.win_cert.specs.Scopes.{elements_in, with_stones}
 
--- a player's board of at most 121 cells, with his stones on it
-pub record IsSmallBoard (e : PlayerBoard) : Type 0 where
-  pub size : e.board.size ≤ 11
-  pub stones : Within e.board.size (stones_of e.board e.player)
+-- a player's board of at most 121 cells
+abbrev pub IsSmallBoard : PlayerBoard → Type 0
+IsSmallBoard e = e.board.size ≤ 11
 
 pub empty_small : (e : PlayerBoard) (c : ℕ) → IsSmallBoard e → AllEmpty e.board c → (k : ℕ) → has c k ≡ true → k < 121
-empty_small e c m f k h = board_cell e.board.size k m.size (empty_on e.board k (f k h))
+empty_small e c m f k h = board_cell e.board.size k m (empty_on e.board k (f k h))
 
 -- ---- the board of a scope
 
@@ -50,18 +49,8 @@ scope_leaves p White s k = ap (λ b. (nat_lt k (p.size * p.size) && not (has p.b
 pub scope_empty : (p : Position) (c : Colour) (s k : ℕ) → is_empty_at (with_stones p c s) k ≡ true → is_empty_at p k ≡ true
 scope_empty p c s k h = (and_parts (is_empty_at p k) (not (has s k)) (sym (scope_leaves p c s k) ∙ h)).0
 
-scope_within : (p : Position) (c : Colour) (s : ℕ) → Within p.size (stones_of p c) → AllEmpty p s → (k : ℕ) → has (stones_of (with_stones p c s) c) k ≡ true → k < p.size * p.size
-scope_within p c s on f k h = elim (or_cases (has (stones_of p c) k) (has s k) (sym (scope_own p c s k) ∙ h)) [
-  | inl o ↦ on k o
-  | inr o ↦ empty_on p k (f k o)
-]
-
-pub scope_small : (base : PlayerBoard) (s : ℕ) → IsSmallBoard base → AllEmpty base.board s → IsSmallBoard (elements_in base s)
-scope_small base s m f = record {
-  size = subst (λ n. n ≤ 11) (sym (scope_size base.board base.player s)) m.size;
-  stones = subst (λ n. Within n (stones_of (with_stones base.board base.player s) base.player)) (sym (scope_size base.board base.player s))
-      (scope_within base.board base.player s m.stones f);
-}
+pub scope_small : (base : PlayerBoard) (s : ℕ) → IsSmallBoard base → IsSmallBoard (elements_in base s)
+scope_small base s m = subst (λ n. n ≤ 11) (sym (scope_size base.board base.player s)) m
 
 -- ---- a scope with one cell more
 
@@ -100,17 +89,7 @@ scope_fewer p c s k j h =
           (subst (λ v. has (with_cell s k) v ≡ true) (sym e) (with_cell-here s k)),
     )
 
--- a cell of the scope's board that is empty is none of the scope
-pub scope_grown : (p : Position) (c : Colour) (s k : ℕ) → AllEmpty p s → is_empty_at (with_stones p c s) k ≡ true → AllEmpty p (with_cell s k)
-scope_grown p c s k f h j i = elim (with_cell-cases s k j i) [
-  | inl o ↦ f j o
-  | inr e ↦ subst (λ v. is_empty_at p v ≡ true) (sym e) (scope_empty p c s k h)
-]
-
 -- ---- the empty scope
-
-pub no_scope : (p : Position) → AllEmpty p 0
-no_scope p k h = absurd (both_ways (has 0 k) (has_none k) h)
 
 none_stones : (p : Position) (c : Colour) → IsSubset (stones_of (with_stones p c 0) c) (stones_of p c)
 none_stones p c k h = elim (or_cases (has (stones_of p c) k) (has 0 k) (sym (scope_own p c 0 k) ∙ h)) [

@@ -1,7 +1,7 @@
 -- Stones off the board change no element: a board and the same one without them have the same ones.
-use Rattle.std.proofs.Common.{◌≡◌, ℕ, ◌+◌, ◌-◌, ◌*◌, ◌%◌, ◌^◌, ◌<◌, ◌≤◌, ◌==◌, ◌&&◌, ◌||◌, not, nat_lt, true, false, Bool, List, [], ◌∷◌, Option, Some, None, cond, if◌then◌else◌, option_map, bit_and, refl, sym, ◌∙◌, ap, subst, zero, suc, inl, inr, ◌⊎◌, arith}
+use Rattle.std.proofs.Common.{◌≡◌, ℕ, ◌+◌, ◌*◌, ◌%◌, ◌^◌, ◌<◌, ◌≤◌, ◌==◌, ◌&&◌, ◌||◌, not, nat_lt, true, false, Bool, List, [], ◌∷◌, Option, Some, None, if◌then◌else◌, option_map, refl, sym, ◌∙◌, ap, zero, suc, inl, inr, arith}
 use Rattle.std.specs.List.{count_by, find, list_any, range_with_len}
-use Rattle.std.proofs.lemmas.Bool.{and_from, and_parts, cases_lt, both_ways, false_from_ne_true, lt-ltb, ltb-true}
+use Rattle.std.proofs.lemmas.Bool.{cases_lt, both_ways, false_from_ne_true, ltb-true}
 use Rattle.std.proofs.lemmas.Nat.{mod_below}
 use Rattle.std.proofs.Math.Pow.{pow_pos}
 use Rattle.hex_cells.specs.Sets.{has, without_cell}
@@ -16,8 +16,8 @@ use Rattle.hex_board.specs.Joined.{Path, cells_of, is_joined, last_of, leads_in}
 use Rattle.hex_board.specs.Positions.{Position, Within, is_empty_at, stones_of}
 use Rattle.hex_board.proofs.Placed.{empty_on}
 use Rattle.hex_board.proofs.Search.{leads_out}
-use Rattle.hex_board.proofs.WinLaws.{counted}
 use Rattle.conn_store.specs.Laws.{IsSubset}
+use Rattle.win_cert.proofs.SameTests.{any_same, count_same, find_same, found_below}
 
 -- ---- a set without the cells off the board
 
@@ -39,35 +39,6 @@ trim_agrees n s k l = sym (has_mod s (n * n) k l)
 
 agree_less : (n s t x : ℕ) → Agree n s t → Agree n (without_cell s x) (without_cell t x)
 agree_less n s t x f k l = has_without s x k ∙ (ap (λ b. b && not (k == x)) (f k l) ∙ sym (has_without t x k))
-
--- ---- tests that agree on a range
-
-any_same : (p q : ℕ → Bool) (a m : ℕ) → ((k : ℕ) → k < a + m → p k ≡ q k) → list_any p (range_with_len a m) ≡ list_any q (range_with_len a m)
-any_same p q a zero f = refl
-any_same p q a (suc m) f =
-    ap (λ b. b || list_any p (range_with_len (a + 1) m)) (f a (omega arith)) ∙ ap (λ b. q a || b) (any_same p q (a + 1) m (λ k l. f k (omega arith)))
-
-find_same : (p q : ℕ → Bool) (a m : ℕ) → ((k : ℕ) → k < a + m → p k ≡ q k) → find p (range_with_len a m) ≡ find q (range_with_len a m)
-find_same p q a zero f = refl
-find_same p q a (suc m) f =
-    ap (λ b. cond b (Some a) (find p (range_with_len (a + 1) m))) (f a (omega arith)) ∙ ap (λ o. cond (q a) (Some a) o) (find_same p q (a + 1) m (λ k l. f k (omega arith)))
-
-count_same : (p q : ℕ → Bool) (a m : ℕ) → ((k : ℕ) → k < a + m → p k ≡ q k) → count_by p (range_with_len a m) ≡ count_by q (range_with_len a m)
-count_same p q a zero f = refl
-count_same p q a (suc m) f =
-    counted p a m ∙ (ap (λ b. cond b 1 0 + count_by p (range_with_len (a + 1) m)) (f a (omega arith))
-    ∙ (ap (λ v. cond (q a) 1 0 + v) (count_same p q (a + 1) m (λ k l. f k (omega arith))) ∙ sym (counted q a m)))
-
-found_one : (x k n : ℕ) (b : Bool) (o : Option ℕ) → cond b (Some x) o ≡ Some k → x < n → (k < n) ⊎ (o ≡ Some k)
-found_one x k n true o h l = let q : x ≡ k = cc in inl (subst (λ v. v < n) q l)
-found_one x k n false o h l = inr h
-
-found_below : (p : ℕ → Bool) (a m k : ℕ) → find p (range_with_len a m) ≡ Some k → k < a + m
-found_below p a zero k h = absurd (cc)
-found_below p a (suc m) k h = elim (found_one a k (a + suc m) (p a) (find p (range_with_len (a + 1) m)) h (omega arith)) [
-  | inl l ↦ l
-  | inr f ↦ omega (arith, found_below p (a + 1) m k f)
-]
 
 -- ---- paths
 
@@ -169,10 +140,10 @@ map_same : (f g : ℕ → ℕ) (o : Option ℕ) → ((k : ℕ) → o ≡ Some k 
 map_same f g None h = refl
 map_same f g (Some k) h = ap Some (h k refl)
 
-picked : (a b c : Bool) (x y z v w : Option ℕ) → (a ≡ true → x ≡ y) → v ≡ w → z ≡ z
+picked : (a b c : Bool) (x y z v w : Option ℕ) → (a ≡ true → x ≡ y) → v ≡ w
     → (if a then x else (if b then Some 0 else (if c then z else v))) ≡ (if a then y else (if b then Some 0 else (if c then z else w)))
-picked true b c x y z v w p q r = p refl
-picked false b c x y z v w p q r = ap (λ o. if b then Some 0 else (if c then z else o)) q
+picked true b c x y z v w p q = p refl
+picked false b c x y z v w p q = ap (λ o. if b then Some 0 else (if c then z else o)) q
 
 -- the same cells are in the same elements
 pub element_same : (e : PlayerBoard) (k : ℕ) → element_of e k ≡ element_of (on_board e) k
@@ -185,7 +156,7 @@ element_same e k =
     let rest : option_map (head_element e) v ≡ option_map (head_element d) w =
     map_same (head_element e) (head_element d) v (λ j h. number_same e j (omega (arith, found_below (λ i. is_linked e i k) 0 (n * n) j h))) ∙ ap (option_map (head_element d)) same in
     picked (is_empty_at e.board k) (is_tied e false k) (is_tied e true k) (Some (head_element e k)) (Some (head_element d k)) (Some (edge_element e true))
-    (option_map (head_element e) v) (option_map (head_element d) w) (λ h. ap Some (number_same e k (empty_on e.board k h))) rest refl
+    (option_map (head_element e) v) (option_map (head_element d) w) (λ h. ap Some (number_same e k (empty_on e.board k h))) rest
     ∙ (ap (λ (b : Bool). if b then Some (head_element d k) else (if is_tied e false k then Some 0 else (if is_tied e true k then Some (edge_element e true) else option_map (head_element d) w))) (empty_same e.board k)
     ∙ (ap (λ (b : Bool). if is_empty_at d.board k then Some (head_element d k) else (if b then Some 0 else (if is_tied e true k then Some (edge_element e true) else option_map (head_element d) w))) (tied_same e false k)
     ∙ (ap (λ (b : Bool). if is_empty_at d.board k then Some (head_element d k) else (if is_tied d false k then Some 0 else (if b then Some (edge_element e true) else option_map (head_element d) w))) (tied_same e true k)
