@@ -43,3 +43,8 @@ number_of_why NotJoined = 13
 abbrev pub verdict_of : Verdict → win_cert.Verdict
 verdict_of (Yes claim carrier) = win_cert.yes claim carrier
 verdict_of (No line why) = win_cert.no line (reason_of why)
+
+-- the verdict is yes
+abbrev pub IsYes : Verdict → Type 0
+IsYes (Yes claim carrier) = Unit {0}
+IsYes (No line why) = ⊥

@@ -3,6 +3,7 @@ use Rattle.std.specs.Prelude.{◌≡◌, ℕ, ◌<◌, ◌||◌, ◌++◌, ◌�
 use Rattle.std.specs.Prelude.{List, Option, Some, None, Result, Ok, Err, All, map}
 use Rattle.std.specs.Option.{option_map}
 use Rattle.hex_cells.specs.declared.board_size.TheConstants.{MOST_CELLS}
+use Rattle.hex_cells.specs.declared.colours.Colour.{Colour}
 use Rattle.conn_store.specs.declared.entries.Kind.{Kind}
 use Rattle.hex_board.specs.Elements.{PlayerBoard, element_count}
 use Rattle.hex_board.specs.Positions.{Position}
@@ -100,4 +101,12 @@ context_after c line = record {
   base = c.base;
   scope = scope_after c.scope (line ∷ []);
   earlier = c.earlier ++ gives c line ∷ [];
+}
+
+-- what the first line is read over
+abbrev pub first_context : Position → Colour → Context
+first_context board player = record {
+  base = record { board = board; player = player };
+  scope = 0;
+  earlier = [];
 }

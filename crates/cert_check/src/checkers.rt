@@ -1,20 +1,26 @@
 //! The checker between two lines: what the lines before gave, and the scope.
 
-ghost use Rattle.std.specs.Prelude.{◌≡◌, ℕ, ◌==◌, ◌&&◌, [], nat_lt, IfSome};
+ghost use Rattle.std.specs.Prelude.{◌≡◌, ℕ, ◌==◌, ◌&&◌, [], nat_lt, true, IfOk, IfSome, Ok};
 ghost use Rattle.std.specs.List.{list_all};
 ghost use Rattle.std.specs.Option.{option_map};
 ghost use Rattle.hex_cells.specs.Sets.{has};
 ghost use Rattle.hex_cells.specs.declared.board_size.TheConstants.{MOST_CELLS};
+ghost use Rattle.hex_board.specs.Positions.{is_empty_at};
 ghost use Rattle.win_cert.specs.Entries.{carriers_of, entries_at, entry_at};
-ghost use Rattle.win_cert.specs.Statements.{Statement, have_same_ends, is_edge_entry, may_take, share_cell};
-ghost use Rattle.cert_check.specs.Keeping.{IsGivenOn, Takes, entry_of};
+ghost use Rattle.win_cert.specs.Scopes.{with_stones};
+ghost use Rattle.win_cert.specs.Statements.{Statement, is_edge_entry, may_take};
+ghost use Rattle.win_cert.specs.Statements.{same_ends, share_cell};
+ghost use Rattle.cert_check.specs.Keeping.{IsGivenOn, ReadsLine, Takes, context_after, entry_of};
+ghost use Rattle.cert_check.specs.Keeping.{first_context};
 
 use super::given::Given;
+use super::refusals::Memory;
 use conn_store::Kind;
 use hex_board::{Board, Elements};
 use hex_cells::{CellSet, Colour, MOST_CELLS};
 use std::alloc::Global;
 use std::marker::Model;
+use win_cert::Line;
 
 /// What a line is read over: the board and the player, the scope with its board and its elements,
 /// and what each earlier line gave.
@@ -48,20 +54,35 @@ impl Model for Checker {
 }
 
 impl Checker {
-    /// A checker of a player's certificate on a board, before its first line.
-    pub fn new(alloc: Global, base: &Board, player: Colour) -> Checker
-        ensures base { result.base ≡ record { board = base.now; player = player } }
-        ensures scope { result.scope ≡ 0 }
-        ensures earlier { result.earlier ≡ [] }
+    /// A checker of a player's certificate on a board, before its first line, with room for what
+    /// so many lines give.
+    pub fn new(alloc: Global, base: &Board, player: Colour, room: usize) -> Result<Checker, Memory>
+        ensures { IfOk result (λ k. k ≡ first_context base.now player) }
     {
-        Checker {
+        Ok(Checker {
             base: *base,
             player,
             scope: CellSet::none(),
             board: *base,
             elements: base.elements(player),
-            given: Vec::new(alloc),
+            given: Vec::with_capacity(alloc, room)?,
+        })
+    }
+
+    /// Keeps what a line gave against which there is no reason, and sets the scope at `put`.
+    pub fn keep(&mut self, line: &Line, given: Option<Given>) -> Result<(), Memory>
+        requires { ReadsLine self.old line.now (Ok given) }
+        ensures { IfOk result (λ done. self.new ≡ context_after self.old line.now) }
+    {
+        if self.given.push(given).is_err() {
+            return Err(Memory);
         }
+        if let Line::Put(cells) = line {
+            self.scope = *cells;
+            self.board = with_stones(&self.base, self.player, *cells);
+            self.elements = self.board.elements(self.player);
+        }
+        Ok(())
     }
 
     /// The entry with this number, where it is that of an earlier line that gave one.
@@ -162,23 +183,29 @@ impl Checker {
         cells
     }
 
-    /// Whether the entries with these numbers have all the same elements.
-    pub fn have_same_ends(&self, numbers: &[u32]) -> bool
-        ensures { result ≡ have_same_ends (entries_at self.now numbers.now) }
+    /// Whether the entries with these numbers have all the elements of this one.
+    pub fn have_ends_of(&self, first: &Given, numbers: &[u32]) -> bool
+        ensures { result ≡ list_all (same_ends (entry_of first.now)) (entries_at self.now numbers.now) }
     {
-        let mut first: Option<Given> = None;
         'numbers: for &number in numbers {
             if let Some(given) = self.entry(number) {
-                match first {
-                    Some(known) => {
-                        if !known.has_ends_of(&given) {
-                            return false;
-                        }
-                    }
-                    None => first = Some(given),
+                if !first.has_ends_of(&given) {
+                    return false;
                 }
             }
         }
         true
+    }
+}
+
+// The board with the player's stones on these empty cells too.
+fn with_stones(base: &Board, player: Colour, cells: CellSet) -> Board
+    requires { (k : ℕ) → has cells k ≡ true → is_empty_at base.now k ≡ true }
+    ensures { result ≡ with_stones base.now player cells }
+{
+    let (black, white) = (base.stones(Colour::Black), base.stones(Colour::White));
+    match player {
+        Colour::Black => Board::of(base.size(), black.union(cells), white),
+        Colour::White => Board::of(base.size(), black, white.union(cells)),
     }
 }

@@ -23,10 +23,12 @@
 #![tactic(auto)]
 
 mod checkers;
+mod checking;
 mod given;
 mod reading;
 mod refusals;
 mod verdicts;
 
+pub use checking::check;
 pub use refusals::Memory;
 pub use verdicts::{Verdict, Why};

@@ -136,16 +136,16 @@ impl Checker {
         if !self.are_in_scope(numbers, self.scope) {
             return Err(Why::WrongScope);
         }
-        if !self.have_same_ends(numbers) {
+        let Some(a) = self.entry(numbers[0]) else {
+            return Err(Why::BadReference);
+        };
+        if !self.have_ends_of(&a, numbers) {
             return Err(Why::EndsDiffer);
         }
         if self.shares_cell(numbers) {
             return Err(Why::CommonCell);
         }
-        match self.entry(numbers[0]) {
-            Some(a) => Ok(self.between(Kind::Full, a.x, a.y, self.carriers(numbers))),
-            None => Err(Why::BadReference),
-        }
+        Ok(self.between(Kind::Full, a.x, a.y, self.carriers(numbers)))
     }
 
     // `and` or `key` of two full entries of the scope, each of two elements.
