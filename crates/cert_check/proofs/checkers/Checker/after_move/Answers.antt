@@ -63,13 +63,13 @@ returns-in-Some c =
     let scope = c.with.ensures.value ∙ ap (λ n. with_cell n.scope c.args.cell) c.self.view_is in
     let named = sym c.entry.ensures.value ∙ ap (option_map entry_of) c.in-Some.is in (
       move_reasons now c.args.cell c.args.i
-      ∙ told_next _ _ _ _ (ap not (sym (c.takes_all.ensures s (refl, refl)) ∙ c.if-not-takes_all.false))
-      (told_next _ _ _ _ (ap not (sym stone ∙ c.if-not-has.false))
-      (told_next _ _ _ _ (ap (λ t. not (list_all (λ a. a.scope == t) (entries_at now (c.args.i ∷ [])))) (sym scope)
-      ∙ ap not (sym c.are_in_scope.ensures ∙ c.if-not-are_in_scope.false))
-      (told_next _ _ _ _ (ap not (sym c.are_of_edges.ensures ∙ c.if-not-are_of_edges.false)) refl))),
+          ∙ told_next _ _ _ _ (ap not (sym (c.takes_all.ensures s (refl, refl)) ∙ c.if-not-takes_all.false))
+          (told_next _ _ _ _ (ap not (sym stone ∙ c.if-not-has.false))
+          (told_next _ _ _ _ (ap (λ t. not (list_all (λ a. a.scope == t) (entries_at now (c.args.i ∷ [])))) (sym scope)
+          ∙ ap not (sym c.are_in_scope.ensures ∙ c.if-not-are_in_scope.false))
+          (told_next _ _ _ _ (ap not (sym c.are_of_edges.ensures ∙ c.if-not-are_of_edges.false)) refl))),
       ap (λ o. move_entry now c.args.cell (cons_option o [])) named
-      ∙ ap Some (sym (c.of_edges.ensures.value ∙ ap (edge_entry now Semi) c.with-in-Some.ensures.value)),
+          ∙ ap Some (sym (c.of_edges.ensures.value ∙ ap (edge_entry now Semi) c.with-in-Some.ensures.value)),
       c.of_edges.ensures.given,
     )
 

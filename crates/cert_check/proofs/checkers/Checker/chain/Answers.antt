@@ -47,14 +47,16 @@ join-requires c =
     let first = sym c.entry.ensures.value ∙ ap (option_map entry_of) c.in-Some.is in
     let second = sym c.entry-2.ensures.value ∙ ap (option_map entry_of) c.in-Some-entry.is in
     let scopes = two_scopes (entry_of c.in-Some.a) (entry_of c.in-Some-entry.b) now.scope
-        (ap (list_all (λ a. a.scope == now.scope)) (sym (two_named now c.args.i c.args.j _ _ first second)) ∙ sym scope ∙ c.if-not-are_in_scope.false) in
+    (ap (list_all (λ a. a.scope == now.scope)) (sym (two_named now c.args.i c.args.j _ _ first second)) ∙ sym scope ∙ c.if-not-are_in_scope.false) in
     record {
-      first = first;
-      second = second;
-      references = chain_bad now o c.args.i c.args.j c.takes_all.result (c.takes_all.ensures s (chain_takes o c.args.i c.args.j)) ∙ ap not c.if-not-takes_all.false;
-      scopes = chain_scopes now o c.args.i c.args.j c.are_in_scope.result scope ∙ ap not c.if-not-are_in_scope.false;
-      first_scope = scopes.0;
-      second_scope = scopes.1;
-      first_given = subst (λ o. IfSome o (IsGivenOn now.base)) c.in-Some.is c.entry.ensures.given;
-      second_given = subst (λ o. IfSome o (IsGivenOn now.base)) c.in-Some-entry.is c.entry-2.ensures.given;
+      named = record {
+        first = first;
+        second = second;
+        references = chain_bad now o c.args.i c.args.j c.takes_all.result (c.takes_all.ensures s (chain_takes o c.args.i c.args.j)) ∙ ap not c.if-not-takes_all.false;
+        scopes = chain_scopes now o c.args.i c.args.j c.are_in_scope.result scope ∙ ap not c.if-not-are_in_scope.false;
+        first_scope = scopes.0;
+        second_scope = scopes.1;
+        first_given = subst (λ o. IfSome o (IsGivenOn now.base)) c.in-Some.is c.entry.ensures.given;
+        second_given = subst (λ o. IfSome o (IsGivenOn now.base)) c.in-Some-entry.is c.entry-2.ensures.given;
+      };
     }
