@@ -1,9 +1,7 @@
-use Rattle.std.proofs.Common.{◌↔◌, IfOk, ◌≡◌, ℕ, ◌+◌, ◌-◌, ◌*◌, ◌<◌, ◌≤◌, length}
-use Rattle.win_cert.specs.Laws.{WinsAsClaimed}
-use Rattle.win_cert.specs.Verdicts.{Accepted, IsVerdict}
-use Rattle.win_cert.specs.Writable.{IsWritable}
-use Rattle.cert_check.specs.Answers.{IsYes, verdict_of}
+use Rattle.std.proofs.Common.{◌≡◌, ℕ}
+use Rattle.win_cert.specs.Entries.{context_at}
+use Rattle.cert_check.proofs.Stepping.{AreClear}
 use Rattle.cert_check.proofs.checking.check.Given as goal
 
 abbrev pub invariant-lines : goal.invariant-lines
-invariant-lines l = ?
+invariant-lines l = (l.checker ≡ context_at l.cert l.line-index) × (l.number ≡ l.line-index) × AreClear l.cert l.line-index
