@@ -8,7 +8,7 @@ use Rattle.win_cert.specs.Entries.{Context, ScopedEntry, context_at, entries_bel
 use Rattle.win_cert.specs.Reasons.{reason_against}
 use Rattle.win_cert.specs.Scopes.{player_board, scope_after}
 use Rattle.win_cert.specs.Statements.{Statement, claim, derivation}
-use Rattle.win_cert.specs.Verdicts.{Accepted, reason_at, statements_of}
+use Rattle.win_cert.specs.Verdicts.{Accepted, reason_at}
 use Rattle.win_cert.specs.declared.certs.Cert.{Cert}
 use Rattle.win_cert.specs.declared.lines.Line.{Line}
 use Rattle.win_cert.specs.declared.lines.Line.TheVariants.{Adj, And, Key, Or2, Or3, Put, Done, Move, Cases}

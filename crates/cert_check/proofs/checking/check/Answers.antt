@@ -1,5 +1,4 @@
-use Rattle.std.proofs.Common.{◌≡◌, ℕ, ◌+◌, ◌<◌, ◌≤◌, length, get_or, Some, None, refl, sym, ◌∙◌, ap, subst, arith, suc}
-use Rattle.hex_board.specs.Elements.{PlayerBoard}
+use Rattle.std.proofs.Common.{◌≡◌, ◌+◌, ◌<◌, length, get_or, refl, sym, ◌∙◌, ap, subst, arith, suc}
 use Rattle.win_cert.specs.Entries.{Context, context_at, entry_at}
 use Rattle.win_cert.specs.Reasons.{reason_against}
 use Rattle.win_cert.specs.Statements.{claim, derivation}
@@ -7,7 +6,6 @@ use Rattle.win_cert.specs.Verdicts.{Accepted, IsVerdict, reason_at}
 use Rattle.win_cert.specs.Writable.{IsLineOf}
 use Rattle.cert_check.specs.Answers.{IsYes, verdict_of}
 use Rattle.cert_check.specs.Keeping.{context_after}
-use Rattle.cert_check.specs.declared.verdicts.Verdict.{Verdict}
 use Rattle.cert_check.proofs.Stepping.{AreClear, all_clear, at_index, claim_reason, clear_more, context_step, line_reason}
 use Rattle.cert_check.proofs.checking.check.Goals as goal
 use Rattle.cert_check.proofs.checking.check.Goals.{in-Ok-claimed, in-Err-claimed}

@@ -1,4 +1,4 @@
-use Rattle.std.proofs.Common.{◌≡◌, ℕ}
+use Rattle.std.proofs.Common.{◌≡◌}
 use Rattle.win_cert.specs.Entries.{context_at}
 use Rattle.cert_check.proofs.Stepping.{AreClear}
 use Rattle.cert_check.proofs.checking.check.Given as goal

@@ -1,10 +1,10 @@
-use Rattle.std.proofs.Common.{◌≡◌, ℕ, ◌==◌, [], ◌∷◌, not, Some, None, refl, ap, sym, ◌∙◌}
+use Rattle.std.proofs.Common.{◌==◌, [], ◌∷◌, not, Some, refl, ap, sym, ◌∙◌}
 use Rattle.std.specs.List.{cons_option, list_all}
 use Rattle.std.specs.Option.{option_map}
 use Rattle.hex_cells.specs.Sets.{with_cell}
 use Rattle.hex_board.specs.Positions.{is_empty_at}
 use Rattle.conn_store.specs.declared.entries.Kind.TheVariants.{Semi}
-use Rattle.win_cert.specs.Entries.{edge_entry, elements_at, entries_at, entry_at, move_entry}
+use Rattle.win_cert.specs.Entries.{edge_entry, elements_at, entries_at, move_entry}
 use Rattle.win_cert.specs.Statements.{derivation}
 use Rattle.win_cert.specs.declared.lines.Line.TheVariants.{Move}
 use Rattle.cert_check.specs.Keeping.{entry_of}

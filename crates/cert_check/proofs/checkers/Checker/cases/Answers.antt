@@ -1,4 +1,4 @@
-use Rattle.std.proofs.Common.{◌≡◌, ℕ, ◌==◌, not, Some, refl, ap, sym, ◌∙◌}
+use Rattle.std.proofs.Common.{◌==◌, not, Some, refl, ap, sym, ◌∙◌}
 use Rattle.std.specs.List.{list_all}
 use Rattle.conn_store.specs.declared.entries.Kind.TheVariants.{Full}
 use Rattle.win_cert.specs.Entries.{edge_entry, entries_at}

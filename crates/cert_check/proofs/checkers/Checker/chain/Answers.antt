@@ -1,8 +1,8 @@
-use Rattle.std.proofs.Common.{◌≡◌, ℕ, ◌==◌, [], ◌∷◌, not, Some, None, refl, ap, sym, ◌∙◌, subst, true}
+use Rattle.std.proofs.Common.{◌==◌, [], ◌∷◌, not, ap, sym, ◌∙◌, subst}
 use Rattle.std.specs.List.{list_all}
 use Rattle.std.specs.Option.{option_map}
 use Rattle.std.specs.Option.{IfSome}
-use Rattle.win_cert.specs.Entries.{Context, entries_at}
+use Rattle.win_cert.specs.Entries.{entries_at}
 use Rattle.win_cert.specs.Statements.{derivation}
 use Rattle.cert_check.specs.Keeping.{IsGivenOn, chain_line, entry_of}
 use Rattle.cert_check.proofs.ChainReasons.{chain_bad, chain_scopes, chain_takes, two_named, two_scopes}

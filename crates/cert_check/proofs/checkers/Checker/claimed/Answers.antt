@@ -1,4 +1,4 @@
-use Rattle.std.proofs.Common.{◌≡◌, ℕ, ◌==◌, [], ◌∷◌, not, Some, None, refl, ap, sym, ◌∙◌}
+use Rattle.std.proofs.Common.{◌==◌, [], ◌∷◌, not, refl, ap, sym, ◌∙◌}
 use Rattle.std.specs.List.{list_all}
 use Rattle.std.specs.Option.{option_map}
 use Rattle.win_cert.specs.Entries.{entries_at}

@@ -1,10 +1,10 @@
-use Rattle.std.proofs.Common.{◌≡◌, ℕ, ◌<◌, ◌==◌, ◌&&◌, List, ◌∷◌, not, Some, None, Bool, true, refl, ap, sym, ◌∙◌, subst}
+use Rattle.std.proofs.Common.{◌≡◌, ◌<◌, ◌==◌, ◌&&◌, List, ◌∷◌, not, Some, true, refl, ap, sym, ◌∙◌, subst}
 use Rattle.std.specs.List.{cons_option, list_all}
 use Rattle.std.specs.Option.{IfSome, option_map}
 use Rattle.std.proofs.lemmas.Bool.{and_from, and_parts, eq-eqb, eqb-true}
 use Rattle.hex_board.specs.Elements.{element_count}
 use Rattle.conn_store.specs.declared.entries.Kind.TheVariants.{Full}
-use Rattle.win_cert.specs.Entries.{ScopedEntry, carriers_of, elements_at, entries_at, entry_at, entry_between, or_entry}
+use Rattle.win_cert.specs.Entries.{ScopedEntry, carriers_of, entries_at, entry_at, entry_between, or_entry}
 use Rattle.win_cert.specs.Scopes.{elements_in}
 use Rattle.win_cert.specs.Statements.{derivation, have_same_ends, may_take, same_ends}
 use Rattle.cert_check.specs.Keeping.{IsGivenOn, entry_of}

@@ -1,4 +1,4 @@
-use Rattle.std.proofs.Common.{◌≡◌, ℕ, ◌<◌, ◌||◌, Some, None, true, false, refl, ap, sym, ◌∙◌, subst, bit_or}
+use Rattle.std.proofs.Common.{◌≡◌, ◌<◌, ◌||◌, Some, None, true, false, refl, ap, sym, ◌∙◌, subst}
 use Rattle.hex_cells.specs.Sets.{with_cell}
 use Rattle.hex_board.specs.Elements.{PlayerBoard, element_count}
 use Rattle.hex_board.specs.Places.{cell_of}

@@ -1,4 +1,4 @@
-use Rattle.std.proofs.Common.{◌≡◌, ℕ, All, ◌++◌, ◌∷◌, [], Some, None, refl, ap, sym, ◌∙◌, subst, true, arith}
+use Rattle.std.proofs.Common.{All, ap, sym, ◌∙◌, subst}
 use Rattle.std.proofs.lemmas.List.Elements.{All-push}
 use Rattle.hex_board.specs.Elements.{PlayerBoard}
 use Rattle.hex_board.specs.Positions.{is_empty_at}
