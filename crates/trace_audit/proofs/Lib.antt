@@ -30,4 +30,7 @@ pub mod InBlock
 pub mod Verifying
 pub mod TextLists
 pub mod OneList
+pub mod OneGrown
+pub mod OneFlaw
+pub mod OneVerdict
 pub mod TracesTold

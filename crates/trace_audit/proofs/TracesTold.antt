@@ -1,5 +1,5 @@
 -- The law of traces: the texts of closed trees, one after another, are those of closed trees.
-use Rattle.std.proofs.Common.{◌≡◌, ℕ, suc, ◌+◌, List, [], ◌∷◌, ◌++◌, length, refl, sym, ap, ◌∙◌}
+use Rattle.std.proofs.Common.{◌≡◌, suc, List, [], ◌∷◌, ◌++◌, length, refl, sym, ap, ◌∙◌}
 use Rattle.std.proofs.lemmas.List.{append-nil}
 use Rattle.tree_words.specs.Closing.{ClosedTree}
 use Rattle.trace_audit.specs.Told.{TellsClosed}

@@ -29,7 +29,8 @@ pub bytes_long : (ws : List ℕ) → length (bytes_of ws) ≡ 8 * length ws
 bytes_long [] = refl
 bytes_long (w ∷ ws) = length-append (to_le_bytes w64 w) (bytes_of ws) ∙ omega (arith, bytes_long ws, word_long w)
 
-take_front : (xs ys : List ℕ) → take (length xs) (xs ++ ys) ≡ xs
+-- the front of two lists
+pub take_front : (xs ys : List ℕ) → take (length xs) (xs ++ ys) ≡ xs
 take_front [] ys = refl
 take_front (x ∷ xs) ys = ap (λ l. x ∷ l) (take_front xs ys)
 

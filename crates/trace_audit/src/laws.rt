@@ -1,11 +1,12 @@
 //! The law of traces: what is read from the text of a closed tree is a closed tree.
 
-ghost use Rattle.std.specs.Prelude.{List, [], length};
+ghost use Rattle.std.specs.Prelude.{◌≡◌, ℕ, List, [], length};
 ghost use Rattle.tree_words.specs.Closing.{ClosedTree, IsClosed};
 ghost use Rattle.tree_words.specs.Settings.{IsSetting};
 ghost use Rattle.trace_audit.specs.Told.{AreWords, TellsClosed};
 ghost use Rattle.trace_audit.specs.Traces.{trace_text};
-ghost use Rattle.trace_audit.specs.Verdicts.{AreTexts, AreTrees, texts_of};
+ghost use Rattle.trace_audit.specs.Verdicts.{AreTexts, AreTrees, IsVerdict, texts_of};
+ghost use Rattle.trace_audit.specs.declared.types.Audit.{Audit};
 
 /// The law of traces: the text of a closed tree tells a closed tree. Its shape is that of the tree,
 /// and its words are those below NEXT, the others being 0. It does nothing.
@@ -19,4 +20,10 @@ pub fn traces_tell_closed_trees()
 pub fn traces_are_texts_of_closed_trees()
     ensures { (trees : List ClosedTree) → AreTrees trees
         → AreTexts (length trees) [] (texts_of trees) }
+{}
+
+/// The law that bytes have one verdict: they are the texts of closed trees where an audit answers
+/// `Yes`, and nowhere else, and a `No` names their one first flaw. It does nothing.
+pub fn bytes_have_one_verdict()
+    ensures { (bytes : List ℕ) (v w : Audit) → IsVerdict bytes v → IsVerdict bytes w → v ≡ w }
 {}
