@@ -40,7 +40,12 @@ mod playing;
 #[cfg(test)]
 mod tests;
 mod top;
+#[cfg(test)]
+mod trace_name_tests;
+mod trace_names;
 
 pub use ends::End;
+pub use hexd_words::Memory;
 pub use limits::INPUT_LIMIT;
 pub use top::run;
+pub use trace_names::trace_name;

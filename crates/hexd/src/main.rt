@@ -1,47 +1,77 @@
 //! The program `hexd`: [`hex_cli::run`] over the standard streams of the process.
 //!
 //! **What it is.** The words of the command line, standard input and output as the link, standard
-//! error for the one line of a failure, the files of the system as the shelf, an archive that drops
-//! its turns, and the status as the exit code.
+//! error for the one line of a failure, the files of the system as the shelf, and the status as the
+//! exit code. The archive writes the traces of its turns to the file that `--trace` names, or drops
+//! its turns where there is no such option.
 //!
 //! **A caller** is the shell: `printf 'boardsize 3\nshowboard\n' | hexd htp`.
 //!
 //! **What is proved.** That it is safe and ends whenever its streams do. What it answers is
-//! proved of [`hex_cli::run`].
+//! proved of [`hex_cli::run`], the name of the file of [`hex_cli::trace_name`], and what is written
+//! to it of [`trace_audit::TraceArchive`].
 //!
-//! **Only tested, or not said.** What the terminal or another program gave or got.
+//! **Only tested, or not said.** What the terminal or another program gave or got, and what a file
+//! holds.
 //!
 //! **Limits.** An argument that is no text is a wrong word.
 #![tactic(auto)]
 
-use hex_cli::{End, run};
-use hex_io::{DirShelf, ErrLink, StdLink, Word, report};
-use hex_plan::NoArchive;
+use hex_cli::{End, run, trace_name};
+use hex_io::{DirShelf, ErrLink, FileLink, StdLink, Word, report};
+use hex_plan::{Archive, NoArchive};
 use htp_session::Stop;
 use std::process::ExitCode;
 use std::{env, io};
+use trace_audit::TraceArchive;
 
 fn main(rt: HostRuntime) -> ExitCode {
     let mut errors = ErrLink::new(&rt);
-    let status = match words_of(&rt) {
-        Ok(words) => {
-            let mut link = StdLink::new(&rt);
-            let mut shelf = DirShelf::new(&rt);
-            run(
-                rt.alloc(),
-                &words,
-                &mut link,
-                &mut errors,
-                &mut shelf,
-                &mut NoArchive,
-            )
-        }
+    let status = match status_of(&rt, &mut errors) {
+        Ok(status) => status,
         Err(end) => {
             report(&mut errors, end.line());
             end.status()
         }
     };
     ExitCode::from(status)
+}
+
+/// The status of a run over the archive that its words ask for, or how the program ends that can't
+/// begin one.
+fn status_of(rt: &HostRuntime, errors: &mut ErrLink) -> Result<u8, End> {
+    let words = words_of(rt)?;
+    match archive_of(rt, &words)? {
+        Some(mut archive) => Ok(run_with(rt, &words, errors, &mut archive)),
+        None => Ok(run_with(rt, &words, errors, &mut NoArchive)),
+    }
+}
+
+/// A run over the standard streams and the files of the system, with this archive.
+fn run_with<A: Archive>(
+    rt: &HostRuntime,
+    words: &[Word],
+    errors: &mut ErrLink,
+    archive: &mut A,
+) -> u8 {
+    let mut link = StdLink::new(rt);
+    let mut shelf = DirShelf::new(rt);
+    run(rt.alloc(), words, &mut link, errors, &mut shelf, archive)
+}
+
+/// The archive over the file that the words name for traces, or none where they name none.
+fn archive_of(rt: &HostRuntime, words: &[Word]) -> Result<Option<TraceArchive<FileLink>>, End> {
+    let Ok(asked) = trace_name(rt.alloc(), words) else {
+        return Err(End::Stopped(Stop::Memory));
+    };
+    let Some(name) = asked else {
+        return Ok(None);
+    };
+    let link = FileLink::new(rt, name.as_str());
+    match TraceArchive::make(rt.alloc(), link) {
+        Ok(archive) => Ok(Some(archive)),
+        Err(_) => Err(End::Stopped(Stop::Memory)),
+    }
 }
 
 /// The words after the program's name, or how a run ends that can't have them.
