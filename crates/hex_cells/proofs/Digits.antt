@@ -1,11 +1,13 @@
 -- Numbers of one and two digits in decimal.
-use Rattle.std.proofs.Common.{◌≡◌, ℕ, ◌+◌, ◌*◌, ◌/◌, ◌%◌, ◌<◌, ◌≤◌, ◌⊎◌, List, [], ◌∷◌, ◌++◌, length, get_or, set, take, map, refl, sym, ◌∙◌, ap, arith, inl, inr}
+use Rattle.std.proofs.Common.{◌≡◌, ℕ, ◌+◌, ◌*◌, ◌/◌, ◌%◌, ◌<◌, ◌≤◌, ◌⊎◌, List, [], ◌∷◌, ◌++◌, length, get_or, set, take, drop, map, refl, sym, ◌∙◌, ap, arith, inl, inr, suc}
 use Rattle.std.specs.Fmt.{decimal}
 use Rattle.std.specs.Int.Digits.{digits_of}
 use Rattle.std.proofs.lemmas.Bool.{cases_lt}
-use Rattle.hex_cells.specs.Vertices.{vertex_of}
 use Rattle.std.proofs.lemmas.Fmt.{decimal_digit, decimal-digits_of}
 use Rattle.std.proofs.lemmas.Int.Digits.{digits_of_step}
+use Rattle.std.proofs.lemmas.List.{take-append-le}
+use borrow.Rule.Slice.PartMut.{put_mid}
+use Rattle.hex_cells.specs.Vertices.{vertex_of}
 
 no_digits : (n : ℕ) → n ≡ 0 → digits_of 10 n ≡ []
 no_digits n e = rw e refl
@@ -70,20 +72,23 @@ some_two d q r e n l h f g =
           ∙ sym (decimal_two (10 * q + r) (omega arith) (omega arith) ∙ (ap (λ v. (48 + v) ∷ (48 + (10 * q + r) % 10) ∷ []) a ∙ ap (λ v. (48 + q) ∷ (48 + v) ∷ []) b)))),
     )
 
--- what stands at the front of three bytes after two or three are written
-pub front_two : (o : List ℕ) (x y : ℕ) → length o ≡ 3 → take 2 (set (set o 0 x) 1 y) ≡ x ∷ y ∷ []
+-- what stands at the front of two bytes or more after one or two are written
+pub front_one : (o : List ℕ) (x : ℕ) → 2 ≤ length o → take 1 (set o 0 x) ≡ x ∷ []
+front_one [] x e = absurd (omega arith)
+front_one (a ∷ o) x e = refl
+
+pub front_two : (o : List ℕ) (x y : ℕ) → 2 ≤ length o → take 2 (set (set o 0 x) 1 y) ≡ x ∷ y ∷ []
 front_two [] x y e = absurd (omega arith)
 front_two (a ∷ []) x y e = absurd (omega arith)
 front_two (a ∷ b ∷ o) x y e = refl
 
-pub front_three : (o : List ℕ) (x y z : ℕ) → length o ≡ 3 → take 3 (set (set (set o 0 x) 1 y) 2 z) ≡ x ∷ y ∷ z ∷ []
-front_three [] x y z e = absurd (omega arith)
-front_three (a ∷ []) x y z e = absurd (omega arith)
-front_three (a ∷ b ∷ []) x y z e = absurd (omega arith)
-front_three (a ∷ b ∷ c ∷ o) x y z e = refl
+-- what stands at the front of bytes after one is written, and after it others
+pub front_then : (o d : List ℕ) (x w : ℕ) → 1 ≤ length o → w ≤ length d → take (1 + w) (put_mid 1 2 (set o 0 x) d) ≡ x ∷ take w d
+front_then [] d x w h l = absurd (omega arith)
+front_then (a ∷ o) d x w h l = ap (λ n. take n (x ∷ d ++ drop 2 o)) (one_more w) ∙ ap (λ v. x ∷ v) (take-append-le w d (drop 2 o) l)
+  where
+    one_more : (w : ℕ) → 1 + w ≡ suc w
+    one_more w = omega arith
 
-pub vertex_short : (n k c r : ℕ) → c ≡ k % n → r ≡ k / n → r + 1 < 10 → (97 + c) ∷ (48 + (r + 1)) ∷ [] ≡ vertex_of n k
-vertex_short n k c r e f h = ap (λ v. (97 + c) ∷ v) (sym (decimal_digit (r + 1) h)) ∙ (ap (λ v. (97 + v) ∷ decimal (r + 1)) e ∙ ap (λ v. (97 + k % n) ∷ decimal (v + 1)) f)
-
-pub vertex_long : (n k c r : ℕ) → c ≡ k % n → r ≡ k / n → 10 ≤ r + 1 → r + 1 < 100 → (97 + c) ∷ (48 + (r + 1) / 10) ∷ (48 + (r + 1) % 10) ∷ [] ≡ vertex_of n k
-vertex_long n k c r e f l h = ap (λ v. (97 + c) ∷ v) (sym (decimal_two (r + 1) l h)) ∙ (ap (λ v. (97 + v) ∷ decimal (r + 1)) e ∙ ap (λ v. (97 + k % n) ∷ decimal (v + 1)) f)
+pub vertex_is : (n k c r : ℕ) (d : List ℕ) → c ≡ k % n → r ≡ k / n → d ≡ decimal (r + 1) → (97 + c) ∷ d ≡ vertex_of n k
+vertex_is n k c r d e f g = ap (λ v. (97 + c) ∷ v) g ∙ (ap (λ v. (97 + v) ∷ decimal (r + 1)) e ∙ ap (λ v. (97 + k % n) ∷ decimal (v + 1)) f)

@@ -19,6 +19,10 @@ has_pow c k = elim (cases_eq k c) [
 pub has_with_cell : (s c k : ℕ) → has (with_cell s c) k ≡ (has s k || k == c)
 has_with_cell s c k = has_or s (2 ^ c) k ∙ ap (λ b. has s k || b) (has_pow c k)
 
+-- two numbers are compared in either order
+pub same_eq : (j k : ℕ) → (j == k) ≡ (k == j)
+same_eq j k = grind (arith, nat_tests)
+
 pub with_cell-here : (s c : ℕ) → has (with_cell s c) c ≡ true
 with_cell-here s c = has_with_cell s c c ∙ or_right (has s c) (c == c) (eq-eqb c c refl)
 

@@ -3,7 +3,7 @@
 //! **Nouns.** A [`Size`] is 1 to 11. A [`Cell`] is the number `row * size + column`, from 0 to 120.
 //! A [`CellSet`] is a set of cells in one `u128`. A [`Colour`] is a player. The board graph is the
 //! neighbours of a cell and the two edges of each player. A vertex is a cell's name in text, as
-//! `c2`.
+//! `c2`, and a decimal is a number's text.
 //!
 //! **A caller** makes a [`Size`] by [`Size::of`], a [`Cell`] by [`Cell::at`] or [`read_vertex`],
 //! and goes over a set by [`CellSet::least`] and [`CellSet::without`], or picks from it by
@@ -11,7 +11,7 @@
 //!
 //! **What is proved.** Each set operation for every cell, the number of a set where callers compare
 //! sets as data, the neighbours and edges as the rules of the game have them in columns and rows,
-//! and vertices both ways.
+//! vertices both ways, and the decimal of a number below 100.
 //!
 //! **What is only tested, or not said.** Speed, and what the derived `Debug` prints.
 //!
@@ -21,6 +21,7 @@
 mod board_size;
 mod cell_number;
 mod colours;
+mod decimals;
 mod edges;
 mod graph;
 mod sets;
@@ -31,6 +32,7 @@ mod vertices;
 pub use board_size::{MOST_CELLS, Size};
 pub use cell_number::Cell;
 pub use colours::Colour;
+pub use decimals::{DECIMAL_LEN, write_decimal};
 pub use edges::edge;
 pub use graph::neighbours;
 pub use sets::CellSet;

@@ -1,8 +1,8 @@
 //! What no clause says of itself: vectors from outside, and each public call once.
 
 use super::{
-    Cell, CellSet, Colour, MOST_CELLS, Size, VERTEX_LEN, edge, neighbours, read_vertex,
-    write_vertex,
+    Cell, CellSet, Colour, DECIMAL_LEN, MOST_CELLS, Size, VERTEX_LEN, edge, neighbours,
+    read_vertex, write_decimal, write_vertex,
 };
 use std::rt::HostRuntime;
 use std::test::Fail;
@@ -42,6 +42,18 @@ fn writes_vertices(rt: HostRuntime) -> Result<(), Fail> {
         let mut out = [0; VERTEX_LEN];
         assert!(rt; number < MOST_CELLS);
         let len = write_vertex(Cell::at(size, number % 11, number / 11), size, &mut out);
+        assert_eq!(rt; &out[..len], want);
+    }
+    Ok(())
+}
+
+#[test]
+fn writes_decimals(rt: HostRuntime) -> Result<(), Fail> {
+    let table: [(u32, &[u8]); 4] = [(0, b"0"), (9, b"9"), (10, b"10"), (99, b"99")];
+    for (number, want) in table {
+        let mut out = [0; DECIMAL_LEN];
+        assert!(rt; number < 100);
+        let len = write_decimal(number, &mut out);
         assert_eq!(rt; &out[..len], want);
     }
     Ok(())

@@ -7,10 +7,11 @@ ghost use Rattle.std.specs.Fmt.{decimal};
 ghost use Rattle.std.specs.Str.{str_to_ascii_lowercase};
 ghost use Rattle.hex_cells.specs.Vertices.{IsVertex, vertex_cell, vertex_of};
 
+use super::decimals::{DECIMAL_LEN, write_decimal};
 use super::{Cell, Size};
 
 /// The longest vertex has a letter and two digits.
-pub const VERTEX_LEN: usize = 3;
+pub const VERTEX_LEN: usize = 1 + DECIMAL_LEN;
 
 // The column that a letter names in either case, from 0.
 fn column_of(letter: u8) -> Option<u32>
@@ -62,16 +63,8 @@ pub fn write_vertex(cell: Cell, size: Size, out: &mut [u8; VERTEX_LEN]) -> usize
     ensures length { (2 ≤ result) × (result ≤ 3) }
     ensures rest { drop result out.new ≡ drop result out.old }
 {
-    let number = cell.row(size) + 1;
     out[0] = b'a' + cell.column(size) as u8;
-    if number < 10 {
-        out[1] = b'0' + number as u8;
-        2
-    } else {
-        out[1] = b'0' + (number / 10) as u8;
-        out[2] = b'0' + (number % 10) as u8;
-        3
-    }
+    1 + write_decimal(cell.row(size) + 1, &mut out[1..])
 }
 
 // The column and the row, from 0, that a text names on a board of any size.

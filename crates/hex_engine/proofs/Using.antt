@@ -23,8 +23,8 @@ use Rattle.hex_board.specs.Joined.{winner_of}
 use Rattle.hex_game.specs.Games.{board_of}
 use Rattle.hex_plan.specs.Openings.{may_move}
 use Rattle.hex_plan.proofs.Rooms.{empty_in}
-use Rattle.std.specs.Prelude.{IfOk, OnErr, bytes_eq, Result, Err, not, is_some}
-use Rattle.hex_engine.proofs.Spelling.{same_text}
+use Rattle.std.specs.Prelude.{IfOk, Result, Err, not, is_some}
+use Rattle.std.proofs.lemmas.Slice.Eq.{bytes_eq-Decides}
 
 pub unfetched : (t : Option Shelved) → Loading t t nothing_left []
 unfetched t = Both-refl t (λ o n. FetchesLoads o n [] []) (λ x. record { tries = []; tried = ap (λ l. record x { tries = l }) (sym (append-nil x.tries)); came = tt })
@@ -66,13 +66,6 @@ if_ok_both (Err e) P Q R go p q = tt
 pub no_fault_counted : (before : ℕ) (Fault : Type 0) → (Fault → ⊥) → CountsFault before before Fault
 no_fault_counted before Fault never = record { later = omega arith; rose = λ f. absurd (never f); kept = λ f. refl }
 
-pub on_err : {T E : Type 0} (r : Result T E) (P : Type 0) → P → OnErr r P
-on_err (Ok x) P h = tt
-on_err (Err e) P h = h
-
-same_name : (name : List ℕ) → bytes_eq name name ≡ true
-same_name name = sym (same_text true name name (λ t. refl, λ e. refl))
-
 pub uses_nothing : (options : Options) (shelf : Option Shelved) (archive : Option (List Decision)) → Uses options shelf shelf archive archive nothing_left []
 uses_nothing options shelf archive = record { loading = unfetched shelf; moving = nothing_moved options archive }
 
@@ -81,7 +74,7 @@ pub loads_reply : (s : EngineState) (name : List ℕ) (what : Loaded) (args : Li
     → (later : Supply) → loading s (and_then (loads_only (record { name = name; what = what } ∷ [])) later) args ≡ unused later (loaded s what)
 loads_reply s name what args e later =
     ap (loading_by s (and_then (loads_only (record { name = name; what = what } ∷ [])) later)) e
-    ∙ ap (λ b. cond b (unused later (loaded s what)) (Err NoLoad)) (same_name name)
+    ∙ ap (λ b. cond b (unused later (loaded s what)) (Err NoLoad)) ((bytes_eq-Decides name name).1 refl)
 
 pub over_reply : (s : EngineState) (colour : Colour) (args : List (List ℕ)) → lone_colour args ≡ Some colour → may_move (board_of s.game) ≡ false
     → (later : Supply) → moving s later args ≡ unused later (unchanged s (FailedReply Over))

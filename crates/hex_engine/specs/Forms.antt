@@ -1,7 +1,7 @@
 -- How arguments are spelled.
 use Rattle.std.specs.Prelude.{ℕ, ◌*◌, ◌<◌, ◌==◌, ◌&&◌, ◌||◌, not, Bool, false, List, [], ◌∷◌}
-use Rattle.std.specs.Prelude.{Option, Some, None, codes, map, nat_le, if◌then◌else◌}
-use Rattle.std.specs.Str.{bytes_eq}
+use Rattle.std.specs.Prelude.{Option, Some, None, codes, nat_le, if◌then◌else◌}
+use Rattle.std.specs.Str.{str_eq_ignore_ascii_case}
 use Rattle.std.specs.Char.{to_ascii_lowercase}
 use Rattle.htp_line.specs.Reading.{number_of, is_digit}
 use Rattle.hex_cells.specs.Vertices.{vertex_cell}
@@ -11,16 +11,20 @@ use Rattle.hex_game.specs.declared.moves.Move.TheVariants.{Stone, Swap}
 use Rattle.hex_engine.specs.declared.forms.MoveWord.{MoveWord}
 use Rattle.hex_engine.specs.declared.forms.MoveWord.TheVariants.{Formless, OffBoard, Says}
 
--- the word is this text, each letter in either case
-unfoldable pub spells : List ℕ → List ℕ → Bool
-spells word text = bytes_eq (map to_ascii_lowercase word) (map to_ascii_lowercase text)
+-- `b` or `black`, each letter in either case
+abbrev pub names_black : List ℕ → Bool
+names_black word =
+    str_eq_ignore_ascii_case word (codes "b") || str_eq_ignore_ascii_case word (codes "black")
 
--- `b`, `black`, `w` or `white`
+-- `w` or `white`, each letter in either case
+abbrev pub names_white : List ℕ → Bool
+names_white word =
+    str_eq_ignore_ascii_case word (codes "w") || str_eq_ignore_ascii_case word (codes "white")
+
+-- the player that the word names
 abbrev pub colour_of : List ℕ → Option Colour
 colour_of word =
-    if spells word (codes "b") || spells word (codes "black") then Some Black
-    else if spells word (codes "w") || spells word (codes "white") then Some White
-    else None
+    if names_black word then Some Black else if names_white word then Some White else None
 
 -- the byte is a letter, in either case
 abbrev pub is_letter : ℕ → Bool
@@ -50,7 +54,7 @@ on_board (Some cell) = Says (Stone cell)
 -- what a move's word says on a board of that size
 abbrev pub move_word_of : ℕ → List ℕ → MoveWord
 move_word_of size word =
-    if spells word (codes "swap-pieces") then Says Swap
+    if str_eq_ignore_ascii_case word (codes "swap-pieces") then Says Swap
     else if is_vertex word then on_board (vertex_cell size word)
     else Formless
 

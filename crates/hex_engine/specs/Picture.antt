@@ -1,6 +1,7 @@
 -- The board as `showboard` draws it.
-use Rattle.std.specs.Prelude.{ℕ, ◌+◌, ◌*◌, ◌/◌, ◌%◌, List, [], ◌∷◌, ◌++◌, replicate, nat_lt}
+use Rattle.std.specs.Prelude.{ℕ, ◌+◌, ◌-◌, ◌*◌, List, [], ◌∷◌, ◌++◌, length, replicate}
 use Rattle.std.specs.Prelude.{if◌then◌else◌}
+use Rattle.std.specs.Fmt.{decimal}
 use Rattle.std.specs.List.{flat_map, range_with_len}
 use Rattle.hex_cells.specs.Sets.{has}
 use Rattle.hex_board.specs.Positions.{Position}
@@ -15,7 +16,7 @@ header size = 32 ∷ 32 ∷ flat_map (λ column. 32 ∷ (97 + column) ∷ []) (r
 
 -- a number below 100, right in two places
 abbrev pub in_two_places : ℕ → List ℕ
-in_two_places n = (if nat_lt n 10 then 32 else 48 + n / 10) ∷ (48 + n % 10) ∷ []
+in_two_places n = replicate (2 - length (decimal n)) 32 ++ decimal n
 
 -- the marks of row r, each after a space
 unfoldable pub marks : Position → ℕ → List ℕ

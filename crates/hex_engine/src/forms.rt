@@ -1,8 +1,9 @@
 //! How arguments are spelled.
 
 ghost use Rattle.std.specs.Prelude.{◌≡◌, option_map};
+ghost use Rattle.std.specs.Str.{str_eq_ignore_ascii_case};
 ghost use Rattle.hex_engine.specs.Replies.{file_named, lone_colour};
-ghost use Rattle.hex_engine.specs.Forms.{spells, colour_of, is_first_digit_of, is_vertex};
+ghost use Rattle.hex_engine.specs.Forms.{colour_of, is_first_digit_of, is_vertex};
 ghost use Rattle.hex_engine.specs.Forms.{move_word_of, sizes_of, IsSaidOf};
 
 use hex_cells::{Colour, Size, read_vertex};
@@ -20,9 +21,9 @@ pub enum MoveWord {
 }
 
 /// Whether the word is this text, each letter in either case.
-#[tactic(auto, using(crate::proofs::Spelling::same_text), unfolding(crate::specs::Forms::spells))]
+#[tactic(auto, using(crate::proofs::Spelling::same_text))]
 fn is_spelled(word: &[u8], text: &[u8]) -> bool
-    ensures { result ≡ spells word.now text.now }
+    ensures { result ≡ str_eq_ignore_ascii_case word.now text.now }
 {
     word.eq_ignore_ascii_case(text)
 }

@@ -4,7 +4,7 @@ ghost use Rattle.std.specs.Prelude.{◌≡◌, ◌+◌, ◌*◌, ◌<◌, ◌++�
 ghost use Rattle.hex_engine.specs.Picture.{mark, header, in_two_places, marks, row_line, picture};
 
 use hex_board::Board;
-use hex_cells::{Cell, Colour};
+use hex_cells::{Cell, Colour, DECIMAL_LEN, write_decimal};
 use std::alloc::{AllocError, Global};
 
 /// The text of `showboard`: the header and the rows, a line feed before each.
@@ -59,12 +59,10 @@ fn push_in_two_places(text: &mut Vec<u8>, number: u32) -> Result<(), AllocError>
     requires { number < 100 }
     ensures { OnOk result (text.new.items ≡ text.old.items ++ in_two_places number) }
 {
-    let tens = if number < 10 {
-        b' '
-    } else {
-        b'0' + (number / 10) as u8
-    };
-    text.extend_from_slice(&[tens, b'0' + (number % 10) as u8])
+    let mut digits = [0; DECIMAL_LEN];
+    let length = write_decimal(number, &mut digits);
+    push_spaces(text, (DECIMAL_LEN - length) as u32)?;
+    text.extend_from_slice(&digits[..length])
 }
 
 /// The marks of a row, each after a space.

@@ -24,13 +24,11 @@ Same-gave a b p = Both-weaker a b _ _ (λ x y e. e ∙ ap (λ l. record x { give
 pub Gave-nothing : (a : Option Told) → Gave a a []
 Gave-nothing a = Both-refl a (λ o n. GivesBytes o n []) (λ x. ap (λ l. record x { given = l }) (sym (append-nil x.given)))
 
--- a front was given, and then nothing
-pub Gave-front : (a b c : Option Told) (bytes : List ℕ) (i : ℕ) → Gave a b (take i bytes) → Same b c → GavePart a c bytes
-Gave-front a b c bytes i p same =
-    let gave : Gave a c (take i bytes) = rw (← append-nil (take i bytes)) (Gave-then a b c (take i bytes) [] p (Same-gave b c same)) in
-    (take i bytes, drop i bytes, sym (take-append-drop i bytes), gave)
+-- a front that is not all of the bytes is a front of them
+pub proper_part : (a b : Option Told) (bytes : List ℕ) → GaveProperPart a b bytes → GavePart a b bytes
+proper_part a b bytes p = (p.0, p.1, p.2, p.4)
 
--- the same, where the front is not all of the bytes
+-- a front was given that is not all of the bytes, and then nothing
 pub Gave-proper : (a b c : Option Told) (bytes : List ℕ) (i : ℕ) → i < length bytes → Gave a b (take i bytes) → Same b c → GaveProperPart a c bytes
 Gave-proper a b c bytes i l p same =
     let gave : Gave a c (take i bytes) = rw (← append-nil (take i bytes)) (Gave-then a b c (take i bytes) [] p (Same-gave b c same)) in

@@ -1,3 +1,4 @@
 pub mod BothLaws
 pub mod GaveLaws
 pub mod Parts
+pub mod ResultLaws

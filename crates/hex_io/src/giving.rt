@@ -2,7 +2,7 @@
 
 ghost use Rattle.std.specs.Prelude.{◌≡◌, OnOk, OnErr};
 ghost use Rattle.hex_io.specs.Causes.{HasCause};
-ghost use Rattle.hex_io.specs.Grew.{Gave, GavePart, GaveProperPart};
+ghost use Rattle.hex_io.specs.Grew.{Gave, GaveProperPart};
 ghost use Rattle.hex_io.specs.Reported.{Reported};
 
 use super::links::Link;
@@ -12,7 +12,6 @@ use super::refusals::LinkFault;
 /// is given after it.
 pub fn give<L: Link>(link: &mut L, bytes: &[u8]) -> Result<(), LinkFault>
     ensures all { OnOk result (Gave (L.told link.old) (L.told link.new) bytes.now) }
-    ensures part { OnErr result (GavePart (L.told link.old) (L.told link.new) bytes.now) }
     ensures proper { OnErr result
         (GaveProperPart (L.told link.old) (L.told link.new) bytes.now) }
     ensures cause { HasCause (L.write_faults link.old) (L.write_faults link.new) result }
@@ -29,6 +28,7 @@ pub fn give<L: Link>(link: &mut L, bytes: &[u8]) -> Result<(), LinkFault>
 }
 
 /// Gives a line of failure. A fault changes nothing but how much of the line is given.
+#[tactic(auto, using(crate::proofs::GaveLaws::proper_part))]
 pub fn report<L: Link>(errors: &mut L, line: &[u8])
     ensures { Reported (L.told errors.old) (L.told errors.new)
         (L.write_faults errors.old) (L.write_faults errors.new) line.now }

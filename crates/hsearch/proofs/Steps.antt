@@ -382,6 +382,3 @@ within_grown d f kind x y h p e g l =
 
 pub number_grown : (d f : StoreData) (n : ℕ) → Extends d f → n < length d.entries → n < length f.entries
 number_grown d f n g l = let b : length d.entries ≤ length f.entries = grown_longer d f g in omega arith
-
-pub up_to : (P : ℕ → Type 0) (i : ℕ) → ((k : ℕ) → k < i → P k) → P i → (k : ℕ) → k < i + 1 → P k
-up_to P i f h k l = elim (cases_lt k i) [ inl b ↦ f k b | inr b ↦ let q : i ≡ k = omega arith in subst P q h ]

@@ -12,7 +12,7 @@ use Rattle.hex_cells.specs.Sets.{has, with_cell}
 use Rattle.hex_cells.specs.Vertices.{vertex_cell}
 use Rattle.hex_cells.proofs.Bits.{has_none}
 use Rattle.hex_board.specs.Positions.{Apart, Within}
-use Rattle.hex_cells.proofs.WithCell.{has_with_cell}
+use Rattle.hex_cells.proofs.WithCell.{has_with_cell, same_eq}
 use Rattle.hex_cells.proofs.Tables.{board_cell}
 use Rattle.sgf_tree.specs.declared.lists.Prop.{Prop}
 use Rattle.sgf_game.specs.Values.{values_if, trimmed}
@@ -62,9 +62,6 @@ vertices_on_board n [] = tt
 vertices_on_board n (text ∷ texts) = (vertex_on_board n text, vertices_on_board n texts)
 
 -- ---- what is in a set of cells
-
-same_eq : (j k : ℕ) → (j == k) ≡ (k == j)
-same_eq j k = grind (arith, nat_tests)
 
 or_swap : (a b c : Bool) → ((a || b) || c) ≡ (a || (b || c))
 or_swap true b c = refl

@@ -3,7 +3,7 @@ use Rattle.hex_cells.proofs.Ranges.{find_first}
 use Rattle.std.proofs.Common.{◌≡◌, ◌≢◌, ℕ, ◌+◌, ◌*◌, ◌/◌, ◌%◌, ◌<◌, ◌≤◌, true, false, List, [], ◌∷◌, ◌++◌, Some, length, refl, sym, ap, ◌∙◌, subst, arith, inl, inr, zero, suc, length-append}
 use Rattle.std.specs.Prelude.{codes, option_map}
 use Rattle.std.specs.Fmt.{decimal}
-use Rattle.std.specs.Str.{bytes_eq, str_to_ascii_lowercase}
+use Rattle.std.specs.Str.{bytes_eq, str_eq_ignore_ascii_case, str_to_ascii_lowercase}
 use Rattle.std.proofs.lemmas.Bool.{cases_Bool, cases_lt, or_from}
 use Rattle.std.proofs.lemmas.Bool.Decides.{nat_tests}
 use Rattle.std.proofs.lemmas.Fmt.{decimal_digit, decimal_injective}
@@ -17,7 +17,7 @@ use Rattle.hex_game.specs.declared.moves.Move.{Move}
 use Rattle.hex_game.specs.declared.moves.Move.TheVariants.{Stone, Swap}
 use Rattle.sgf_tree.specs.Grammar.{is_white_space}
 use Rattle.sgf_game.specs.declared.turns.Said.TheVariants.{Plays}
-use Rattle.sgf_game.specs.Values.{trimmed, spells}
+use Rattle.sgf_game.specs.Values.{trimmed}
 use Rattle.sgf_game.specs.Lines.{ends}
 use Rattle.sgf_game.specs.Setup.{is_size, size_named}
 use Rattle.sgf_game.specs.Turns.{said_by}
@@ -63,8 +63,7 @@ trim_text n (Stone k) h o = trim_vertex n k h o
 
 -- ---- words
 
-not_spelled : (text word : List ℕ) → length text ≢ length word → spells text word ≡ false
-unfolding spells
+not_spelled : (text word : List ℕ) → length text ≢ length word → str_eq_ignore_ascii_case text word ≡ false
 not_spelled text word n = elim (cases_Bool (bytes_eq (str_to_ascii_lowercase text) (str_to_ascii_lowercase word))) [
   | inl t ↦ let e : length (str_to_ascii_lowercase text) ≡ length (str_to_ascii_lowercase word) = ap length ((bytes_eq-Decides _ _).0 t) in
       absurd (n (sym (length-map text _) ∙ e ∙ length-map word _))
@@ -80,12 +79,8 @@ length_lettered a m h = elim (cases_lt m 10) [
 short_vertex : (n k : ℕ) → n ≤ 11 → k < n * n → length (vertex_of n k) ≤ 3
 short_vertex n k h l = length_lettered (97 + k % n) (k / n + 1) (row_below n k h l)
 
-no_word : (text word : List ℕ) → length text ≤ 3 → 3 < length word → spells text word ≡ false
+no_word : (text word : List ℕ) → length text ≤ 3 → 3 < length word → str_eq_ignore_ascii_case text word ≡ false
 no_word text word h l = not_spelled text word (λ e. absurd (omega arith))
-
-swap_spelled : spells (codes "swap-pieces") (codes "swap-pieces") ≡ true
-unfolding spells
-swap_spelled = refl
 
 pub no_end_text : (n : ℕ) (what : Move) → n ≤ 11 → IsMoveOn n what → ends (text_of n what) ≡ false
 no_end_text n Swap h o =
@@ -95,15 +90,15 @@ no_end_text n (Stone k) h o =
 
 -- what is written of a move says that move
 pub said_text : (n : ℕ) (what : Move) → n ≤ 11 → IsMoveOn n what → said_by n (text_of n what) ≡ Some (Plays what)
-said_text n Swap h o = rw swap_spelled refl
+said_text n Swap h o = refl
 said_text n (Stone k) h o =
-    let swap : spells (vertex_of n k) (codes "swap-pieces") ≡ false = no_word (vertex_of n k) (codes "swap-pieces") (short_vertex n k h o) (omega arith) in
+    let swap : str_eq_ignore_ascii_case (vertex_of n k) (codes "swap-pieces") ≡ false = no_word (vertex_of n k) (codes "swap-pieces") (short_vertex n k h o) (omega arith) in
     let end : ends (vertex_of n k) ≡ false = no_end_text n (Stone k) h o in
     rw (swap, end) (ap (option_map (λ c. Plays (Stone c))) (read_back n k h o))
 
 -- ---- sizes
 
-pub same_bytes : (xs : List ℕ) → bytes_eq xs xs ≡ true
+same_bytes : (xs : List ℕ) → bytes_eq xs xs ≡ true
 same_bytes xs = (bytes_eq-Decides xs xs).1 refl
 
 other_bytes : (xs ys : List ℕ) → xs ≢ ys → bytes_eq xs ys ≡ false

@@ -3,13 +3,13 @@ use Rattle.std.specs.Prelude.{ℕ, Bool, ◌||◌, List, [], ◌∷◌, ◌++◌
 use Rattle.std.specs.Prelude.{codes, if◌then◌else◌}
 use Rattle.std.specs.Borrow.{Bor}
 use Rattle.std.specs.List.{list_any}
-use Rattle.std.specs.Str.{bytes_eq}
+use Rattle.std.specs.Str.{bytes_eq, str_eq_ignore_ascii_case}
 use Rattle.hex_cells.specs.declared.colours.Colour.{Colour}
 use Rattle.hex_cells.specs.declared.colours.Colour.TheVariants.{Black, White}
 use Rattle.sgf_tree.specs.declared.lists.Prop.{Prop}
 use Rattle.sgf_tree.specs.declared.lists.Node.{Node}
 use Rattle.sgf_tree.specs.Trees.{GameTrees, none, tree}
-use Rattle.sgf_game.specs.Values.{trimmed, spells}
+use Rattle.sgf_game.specs.Values.{trimmed}
 
 -- the nodes that references lend
 abbrev pub nodes_lent : List (Bor Node) → List Node
@@ -45,9 +45,11 @@ entries_if p = entries_by (mover p.name) p.values
 abbrev pub entries_in : Node → List Entry
 entries_in node = flat_map entries_if node.props
 
--- the words that end a game without a step
+-- the words that end a game without a step, each letter in either case
 abbrev pub ends : List ℕ → Bool
-ends text = spells text (codes "resign") || spells text (codes "forfeit")
+ends text =
+    str_eq_ignore_ascii_case text (codes "resign")
+    || str_eq_ignore_ascii_case text (codes "forfeit")
 
 abbrev pub has_end : List Entry → Bool
 has_end entries = list_any (λ e. ends e.text) entries

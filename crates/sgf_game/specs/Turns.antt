@@ -3,6 +3,7 @@ use Rattle.std.specs.Prelude.{ℕ, Bool, true, false, not, ◌==◌, List, [], �
 use Rattle.std.specs.Prelude.{Result, Ok, Err, map, flat_map, take, length, slice_get, find, codes}
 use Rattle.std.specs.Prelude.{option_map, if◌then◌else◌}
 use Rattle.std.specs.List.{range_with_len}
+use Rattle.std.specs.Str.{str_eq_ignore_ascii_case}
 use Rattle.hex_cells.specs.Vertices.{vertex_cell}
 use Rattle.hex_cells.specs.declared.colours.Colour.{Colour}
 use Rattle.hex_board.specs.Positions.{Position}
@@ -16,14 +17,13 @@ use Rattle.sgf_game.specs.declared.turns.Said.TheVariants.{Plays, Ends}
 use Rattle.sgf_game.specs.declared.turns.Turn.{Turn}
 use Rattle.sgf_game.specs.declared.error.GameError.{GameError}
 use Rattle.sgf_game.specs.declared.error.GameError.TheVariants.{BadMove}
-use Rattle.sgf_game.specs.Values.{spells}
 use Rattle.sgf_game.specs.Lines.{Entry, entries_in, ends}
 
 -- what a move's text says on the board of size n: the swap, the end of the line, or a stone on the
 -- cell of a vertex
 abbrev pub said_by : ℕ → List ℕ → Option Said
 said_by n text =
-    if spells text (codes "swap-pieces") then Some (Plays Swap)
+    if str_eq_ignore_ascii_case text (codes "swap-pieces") then Some (Plays Swap)
     else (if ends text then Some Ends
     else option_map (λ cell. Plays (Stone cell)) (vertex_cell n text))
 

@@ -2,7 +2,7 @@
 use Rattle.std.specs.Prelude.{ℕ, Bool, List, [], ◌∷◌, Option, Some, None, reverse, map, flat_map}
 use Rattle.std.specs.Prelude.{if◌then◌else◌}
 use Rattle.std.specs.List.{list_any}
-use Rattle.std.specs.Str.{bytes_eq, str_to_ascii_lowercase}
+use Rattle.std.specs.Str.{bytes_eq}
 use Rattle.sgf_tree.specs.declared.lists.Prop.{Prop}
 use Rattle.sgf_tree.specs.declared.lists.Node.{Node}
 use Rattle.sgf_tree.specs.Grammar.{is_white_space}
@@ -15,10 +15,6 @@ without_front_space (x ∷ text) = if is_white_space x then without_front_space 
 -- without the white space at both ends
 abbrev pub trimmed : List ℕ → List ℕ
 trimmed text = reverse (without_front_space (reverse (without_front_space text)))
-
--- the text is this word, each letter in either case
-unfoldable pub spells : List ℕ → List ℕ → Bool
-spells text word = bytes_eq (str_to_ascii_lowercase text) (str_to_ascii_lowercase word)
 
 -- the node has a property of this name
 abbrev pub has_named : List ℕ → Node → Bool

@@ -1,11 +1,10 @@
 //! The number of a game and the size of its board, as the root names them.
 
-ghost use Rattle.std.specs.Prelude.{◌≡◌, ◌<◌, ◌≤◌, take};
-ghost use Rattle.std.specs.Fmt.{decimal};
+ghost use Rattle.std.specs.Prelude.{◌≡◌, ◌<◌};
 ghost use Rattle.sgf_game.specs.Setup.{is_hex, is_size, size_named, size_of};
 
 use super::values::first_named;
-use hex_cells::Size;
+use hex_cells::{DECIMAL_LEN, Size, write_decimal};
 use sgf_tree::Node;
 
 /// Whether the root's first GM is 11, the number of Hex among the games of SGF.
@@ -19,29 +18,13 @@ pub fn is_hex(root: &Node) -> bool
     }
 }
 
-/// Writes a number below 100 in decimal at the front of `out`, and answers its length.
-pub fn write_number(number: u32, out: &mut [u8; 2]) -> usize
-    requires { number < 100 }
-    ensures text { take result out.new ≡ decimal number }
-    ensures length { (1 ≤ result) × (result ≤ 2) }
-{
-    if number < 10 {
-        out[0] = b'0' + number as u8;
-        1
-    } else {
-        out[0] = b'0' + (number / 10) as u8;
-        out[1] = b'0' + (number % 10) as u8;
-        2
-    }
-}
-
 /// Whether the text is the number, or twice the number with `:` between.
 fn is_size(text: &[u8], number: u32) -> bool
     requires { number < 100 }
     ensures { result ≡ is_size text.now number }
 {
-    let mut digits = [0; 2];
-    let length = write_number(number, &mut digits);
+    let mut digits = [0; DECIMAL_LEN];
+    let length = write_decimal(number, &mut digits);
     let written = &digits[..length];
     match text.strip_prefix(written) {
         Some([]) => true,

@@ -1,8 +1,8 @@
 //! The values of a node's properties, without the white space at their ends.
 
 ghost use Rattle.std.specs.Prelude.{◌≡◌, reverse, MatchOption, Some, None};
-ghost use Rattle.std.specs.Str.{bytes_eq};
-ghost use Rattle.sgf_game.specs.Values.{without_front_space, trimmed, spells, has_named};
+ghost use Rattle.std.specs.Str.{bytes_eq, str_eq_ignore_ascii_case};
+ghost use Rattle.sgf_game.specs.Values.{without_front_space, trimmed, has_named};
 ghost use Rattle.sgf_game.specs.Values.{first_named};
 
 use sgf_tree::{Bytes, Node, Prop, is_white_space};
@@ -51,9 +51,9 @@ pub fn is_named(prop: &Prop, name: &[u8]) -> bool
 }
 
 /// Whether the text is this word, each letter in either case.
-#[tactic(auto, using(crate::proofs::Texts::same_text), unfolding(crate::specs::Values::spells))]
+#[tactic(auto, using(crate::proofs::Texts::same_text))]
 pub fn spells(text: &[u8], word: &[u8]) -> bool
-    ensures { result ≡ spells text.now word.now }
+    ensures { result ≡ str_eq_ignore_ascii_case text.now word.now }
 {
     text.eq_ignore_ascii_case(word)
 }

@@ -9,9 +9,8 @@ ghost use Rattle.sgf_game.specs.Record.{prop_of, vertices, prop_if, root_of, nod
 ghost use Rattle.sgf_game.specs.Record.{record_of};
 ghost use Rattle.sgf_game.specs.Playing.{IsMoveOn};
 
-use super::sizes::write_number;
 use hex_board::Board;
-use hex_cells::{CellSet, Colour, Size, VERTEX_LEN, write_vertex};
+use hex_cells::{CellSet, Colour, DECIMAL_LEN, Size, VERTEX_LEN, write_decimal, write_vertex};
 use hex_game::{Game, Move, Step};
 use sgf_tree::{Bytes, Collection, Memory, Node, Nodes, Prop, Props, Tree, Trees, Values};
 use std::alloc::{AllocError, Global};
@@ -74,8 +73,8 @@ fn root_of(alloc: Global, start: &Board) -> Result<Node, AllocError>
     ensures { IfOk result (λ node. node ≡ root_of start.now) }
 {
     let size = start.size();
-    let mut digits = [0; 2];
-    let length = write_number(size.get(), &mut digits);
+    let mut digits = [0; DECIMAL_LEN];
+    let length = write_decimal(size.get(), &mut digits);
     let mut props = Vec::new(alloc);
     props.push(prop_of(alloc, b"FF", b"4")?)?;
     props.push(prop_of(alloc, b"GM", b"11")?)?;

@@ -13,11 +13,6 @@ front_first a b xs ys p = (p.0, p.1 ++ ys, ap (λ l. l ++ ys) p.2 ∙ append_ass
 pub front_second : (a b c : Option Told) (xs ys : List ℕ) → Gave a b xs → GaveProperPart b c ys → GaveProperPart a c (xs ++ ys)
 front_second a b c xs ys g p = (xs ++ p.0, p.1, ap (λ l. xs ++ l) p.2 ∙ sym (append_assoc xs p.0 p.1), p.3, Gave-then a b c xs p.0 g p.4)
 
--- what holds whatever the answer is
-pub on_err : {T E : Type 0} (r : Result T E) (P : Type 0) → P → OnErr r P
-on_err (Ok x) P p = tt
-on_err (Err e) P p = p
-
 -- what follows from what holds of an answer
 pub ok_then : {T E : Type 0} (r : Result T E) (P Q : Type 0) → (P → Q) → OnOk r P → OnOk r Q
 ok_then (Ok x) P Q go p = go p

@@ -9,9 +9,8 @@ use super::scoring::{
 };
 use std::marker::Model;
 
-/// A factor and a reciprocal root have 2^12th and 2^20th parts, and the weight 2^8th parts more
-/// than a bonus; so their product has 2^28 parts of a bonus' one, the root's 2^12 being the
-/// bonus' own parts.
+/// A reciprocal root has 2^20th parts and a weight 2^8th, so the product of a factor and a
+/// reciprocal root has 2^28 parts of a bonus.
 const BOUND_SHIFT: u32 = 28;
 
 /// The parent of a block's children: what their scores have in common.

@@ -11,10 +11,7 @@ use Rattle.tree_words.specs.Complete.{HasEmpties, set_of}
 use Rattle.std.proofs.lemmas.Bool.{eqb-true, eq-eqb, cases_Bool}
 use Rattle.tree_words.proofs.Blocks.BlockLaws.{clash}
 use Rattle.tree_words.proofs.Boards.EmptyLaws.{has-empties}
-use Rattle.hex_cells.proofs.WithCell.{has_with_cell}
-
-turn : (a b : ℕ) → (a == b) ≡ (b == a)
-turn a b = grind (arith, nat_tests)
+use Rattle.hex_cells.proofs.WithCell.{has_with_cell, same_eq}
 
 -- the set of the cells of a list has a cell where the list does
 set_items : (cs : List ℕ) (k : ℕ) → has_cell (set_of cs) k ≡ nat_lt 0 (count_by (λ c. c == k) cs)
@@ -23,7 +20,7 @@ set_items [] k = has_none k
 set_items (c ∷ cs) k =
     has_with_cell (set_of cs) c k
     ∙ ap (λ (t : Bool). t || k == c) (set_items cs k)
-    ∙ ap (λ (t : Bool). nat_lt 0 (count_by (λ d. d == k) cs) || t) (turn k c)
+    ∙ ap (λ (t : Bool). nat_lt 0 (count_by (λ d. d == k) cs) || t) (same_eq k c)
     ∙ ⊎_elim
     (λ (t : (c == k) ≡ true). ap (λ (u : Bool). nat_lt 0 (count_by (λ d. d == k) cs) || u) t ∙ here (count_by (λ d. d == k) cs) (count_by (λ d. d == k) (c ∷ cs)) (counted_here k c cs (eqb-true c k t)))
     (λ (t : (c == k) ≡ false). ap (λ (u : Bool). nat_lt 0 (count_by (λ d. d == k) cs) || u) t ∙ later (nat_lt 0 (count_by (λ d. d == k) cs)) ∙ sym (ap (nat_lt 0) (counted_later k c cs (λ e. clash (c == k) (eq-eqb c k e) t))))

@@ -1,7 +1,7 @@
-use Rattle.std.proofs.Common.{ℕ, ◌<◌, ◌≤◌, ◌∷◌, [], get_or, length, arith}
+use Rattle.std.proofs.Common.{ℕ, ◌<◌, ◌≤◌, ◌∷◌, [], get_or, length, arith, below_more}
 use Rattle.hsearch.specs.Taken.{Extends, IsOrSettled}
 use Rattle.hsearch.proofs.Growth.{chosen_stays, grown_on}
-use Rattle.hsearch.proofs.Steps.{AreChosen, chosen_three, chosen_two, number_grown, up_to, within_grown}
+use Rattle.hsearch.proofs.Steps.{AreChosen, chosen_three, chosen_two, number_grown, within_grown}
 use Rattle.hsearch.proofs.combining.choose.Goals as goal
 
 pub choose_two-requires-clause-second : goal.choose_two-requires-clause-second
@@ -17,7 +17,7 @@ seconds-preserved c =
     let n : c.args.number < length c.seconds.store.entries = number_grown _ _ _ c.seconds.invariant.grown c.requires.number in
     record {
       grown = grown_on _ _ _ c.seconds.invariant.grown g;
-      twos = up_to (λ p. IsOrSettled c.choose_with.new.store (c.args.number ∷ get_or c.held-held.result.at p 0 ∷ [])) c.seconds.place
+      twos = below_more (λ p. IsOrSettled c.choose_with.new.store (c.args.number ∷ get_or c.held-held.result.at p 0 ∷ [])) c.seconds.place
           (λ p l. chosen_stays c.seconds.store c.choose_with.new.store (c.args.number ∷ get_or c.held-held.result.at p 0 ∷ []) g
           (n, (within_grown _ _ _ _ _ c.held-held.result p c.held-held.ensures.numbers c.seconds.invariant.grown (omega arith), tt)) (c.seconds.invariant.twos p l))
           (chosen_stays c.choose_two.new.store c.choose_with.new.store (c.args.number ∷ get_or c.held-held.result.at c.seconds.place 0 ∷ []) c.choose_with.ensures.extends (
@@ -25,7 +25,7 @@ seconds-preserved c =
             (within_grown _ _ _ _ _ c.held-held.result c.seconds.place c.held-held.ensures.numbers (grown_on _ _ _ c.seconds.invariant.grown c.choose_two.ensures.extends) (omega arith), tt),
           )
           c.choose_two.ensures.chosen);
-      threes = λ p q l m. up_to (λ z. z ≤ c.seconds.place → (v : ℕ) → v < z → IsOrSettled c.choose_with.new.store (c.args.number ∷ get_or c.held-held.result.at z 0 ∷ get_or c.held-held.result.at v 0 ∷ [])) c.seconds.place
+      threes = λ p q l m. below_more (λ z. z ≤ c.seconds.place → (v : ℕ) → v < z → IsOrSettled c.choose_with.new.store (c.args.number ∷ get_or c.held-held.result.at z 0 ∷ get_or c.held-held.result.at v 0 ∷ [])) c.seconds.place
           (λ z b o v k. chosen_stays c.seconds.store c.choose_with.new.store (c.args.number ∷ get_or c.held-held.result.at z 0 ∷ get_or c.held-held.result.at v 0 ∷ []) g (
             n,
             (

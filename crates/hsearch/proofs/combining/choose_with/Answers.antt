@@ -1,13 +1,13 @@
-use Rattle.std.proofs.Common.{◌∷◌, [], get_or, arith}
+use Rattle.std.proofs.Common.{◌∷◌, [], get_or, arith, below_more}
 use Rattle.hsearch.specs.Taken.{IsOrSettled}
 use Rattle.hsearch.proofs.Growth.{chosen_stays, grown_on}
-use Rattle.hsearch.proofs.Steps.{number_grown, up_to}
+use Rattle.hsearch.proofs.Steps.{number_grown}
 use Rattle.hsearch.proofs.combining.choose_with.Goals as goal
 
 pub thirds-preserved : goal.thirds-preserved
 thirds-preserved c = record {
   grown = grown_on _ _ _ c.thirds.invariant.grown c.choose_three.ensures.extends;
-  done = up_to (λ q. IsOrSettled c.choose_three.new.store (c.args.number ∷ get_or c.args.held.now.at c.args.place 0 ∷ get_or c.args.held.now.at q 0 ∷ [])) c.thirds.other
+  done = below_more (λ q. IsOrSettled c.choose_three.new.store (c.args.number ∷ get_or c.args.held.now.at c.args.place 0 ∷ get_or c.args.held.now.at q 0 ∷ [])) c.thirds.other
       (λ q l. chosen_stays c.thirds.store c.choose_three.new.store (c.args.number ∷ get_or c.args.held.now.at c.args.place 0 ∷ get_or c.args.held.now.at q 0 ∷ []) c.choose_three.ensures.extends (
         number_grown _ _ _ c.thirds.invariant.grown c.requires.number,
         (

@@ -1,9 +1,9 @@
-use Rattle.std.proofs.Common.{◌≡◌, get_or, min, max, arith}
+use Rattle.std.proofs.Common.{◌≡◌, get_or, min, max, arith, below_more}
 use Rattle.conn_store.specs.Stores.{held_of, numbers_of}
 use Rattle.conn_store.specs.declared.entries.Kind.TheVariants.{Full}
 use Rattle.hsearch.specs.Taken.{IsAndSettled}
 use Rattle.hsearch.proofs.Growth.{grown_on, joined_stays}
-use Rattle.hsearch.proofs.Steps.{held_is, joined_to, number_grown, up_to, within_grown}
+use Rattle.hsearch.proofs.Steps.{held_is, joined_to, number_grown, within_grown}
 use Rattle.hsearch.proofs.combining.join_to.Goals as goal
 
 pub join-requires-clause-second : goal.join-requires-clause-second
@@ -12,7 +12,7 @@ join-requires-clause-second c = within_grown _ _ _ _ _ c.held-held.result c.othe
 pub others-preserved : goal.others-preserved
 others-preserved c = record {
   grown = grown_on _ _ _ c.others.invariant.grown c.join.ensures.extends;
-  done = up_to (λ p. IsAndSettled c.join.new.store c.args.number (get_or c.held-held.result.at p 0)) c.others.place
+  done = below_more (λ p. IsAndSettled c.join.new.store c.args.number (get_or c.held-held.result.at p 0)) c.others.place
       (λ p l. joined_stays c.others.store c.join.new.store c.args.number (get_or c.held-held.result.at p 0) c.join.ensures.extends
       (number_grown _ _ _ c.others.invariant.grown c.requires.number)
       (within_grown _ _ _ _ _ c.held-held.result p c.held-held.ensures.numbers c.others.invariant.grown (omega arith)) (c.others.invariant.done p l))

@@ -1,9 +1,9 @@
-use Rattle.std.proofs.Common.{◌≤◌, ◌<◌, length, arith, ap, sym, ◌∙◌, subst}
+use Rattle.std.proofs.Common.{◌≤◌, ◌<◌, length, arith, ap, sym, ◌∙◌, subst, below_more}
 use Rattle.hex_board.specs.Elements.{PlayerBoard, element_count}
 use Rattle.conn_store.specs.Stores.{StoreData}
 use Rattle.hsearch.specs.Taken.{AreNearBelow, IsCombined}
 use Rattle.hsearch.proofs.Growth.{combined_stays, grown_longer}
-use Rattle.hsearch.proofs.Steps.{all_taken, near_stays, up_to}
+use Rattle.hsearch.proofs.Steps.{all_taken, near_stays}
 use Rattle.hsearch.proofs.reports.connect.Goals as goal
 
 pub entries-init : goal.entries-init
@@ -22,7 +22,7 @@ entries-preserved c =
     record {
       elements = e.elements ∙ c.entries.invariant.elements;
       near = subst (λ (v : PlayerBoard). AreNearBelow c.combine.new.store (element_count v)) (sym e.elements) (near_stays c.entries.store c.combine.new.store _ e c.entries.invariant.near);
-      taken = up_to (λ i. IsCombined c.combine.new.store i) c.entries.taken
+      taken = below_more (λ i. IsCombined c.combine.new.store i) c.entries.taken
           (λ i k. combined_stays c.entries.store c.combine.new.store i e (omega arith) (c.entries.invariant.taken i k)) c.combine.ensures.combined;
       within = omega arith;
     }

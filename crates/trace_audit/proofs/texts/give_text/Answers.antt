@@ -1,6 +1,7 @@
 use Rattle.std.proofs.Common.{◌≡◌, take, ap, ◌∙◌}
 use Rattle.trace_audit.specs.Traces.{fields_of, written}
-use Rattle.trace_audit.proofs.Gives.{front_first, on_err, ok_then, err_then}
+use Rattle.hex_io.proofs.ResultLaws.{on_err}
+use Rattle.trace_audit.proofs.Gives.{front_first, ok_then, err_then}
 use Rattle.trace_audit.proofs.Parts.{text_all, text_fields, text_words}
 use Rattle.trace_audit.proofs.texts.give_text.Goals as goal
 

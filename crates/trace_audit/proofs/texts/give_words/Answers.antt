@@ -1,5 +1,5 @@
 use Rattle.std.proofs.Common.{◌∙◌, arith}
-use Rattle.trace_audit.proofs.Gives.{on_err}
+use Rattle.hex_io.proofs.ResultLaws.{on_err}
 use Rattle.trace_audit.proofs.Pieces.{piece_all, piece_proper}
 use Rattle.trace_audit.proofs.texts.give_words.Goals as goal
 

@@ -1,6 +1,7 @@
 -- What stands after one line more.
 use Rattle.std.proofs.Common.{◌≡◌, take, refl, ◌∙◌, arith}
 use Rattle.std.proofs.lemmas.Grind.{common_steps}
+use Rattle.hex_io.proofs.GaveLaws.{proper_part}
 use Rattle.hex_cli.proofs.Feeding.{fed_nothing, fed_all, fed_on, fed_quit, fed_broke_off, fed_gave_up, fed_held_back}
 use Rattle.hex_cli.proofs.session.Session.feed.Goals as goal
 
@@ -24,7 +25,7 @@ returns-in-Err-Archive-clause-held_back g c = λ e.
 pub returns-in-Err-clause-broke_off : goal.returns-in-Err-clause-broke_off
 returns-in-Err-clause-broke_off g c = λ e.
     fed_broke_off _ (g.L.Link.told c.lines.link) _ _ _ _ _ c.lines.self.engine _ _ c.lines.self.splitter _ _ c.args.piece.now c.lines.at c.in-Ok.moved.used c.in-Ok.moved.quit
-    c.lines.invariant.fed c.in-Ok.ensures.advanced (rw (← c.deref.ensures.value) c.in-Err.ensures.part)
+    c.lines.invariant.fed c.in-Ok.ensures.advanced (rw (← c.deref.ensures.value) (proper_part _ _ _ c.in-Err.ensures.proper))
 
 pub returns-then-moved-clause-fed : goal.returns-then-moved-clause-fed
 returns-then-moved-clause-fed g c =

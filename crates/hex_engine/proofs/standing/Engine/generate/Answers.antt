@@ -13,7 +13,7 @@ pub returns-then-not-may_move-clause-reply : goal.returns-then-not-may_move-clau
 returns-then-not-may_move-clause-reply g c =
     let over : may_move (board_of c.args.self.now.game) ≡ false =
     sym (c.may_move.ensures.value ∙ ap may_move (c.board.ensures ∙ ap (λ (s : EngineState). board_of s.game) c.self.view_is)) ∙ c.if-not-may_move.true in
-    ([], nothing_moved _ _, λ later. over_reply c.args.self.now c.in-Some.colour _ (sym c.lone_colour.ensures ∙ c.in-Some.is) over later)
+    ([], nothing_moved _ _, λ later. over_reply c.args.self.now c.in-Some.colour c.args.args.now (sym c.lone_colour.ensures ∙ c.in-Some.is) over later)
 
 pub returns-clause-reply : goal.returns-clause-reply
 returns-clause-reply g c =
@@ -23,6 +23,6 @@ returns-clause-reply g c =
     (λ answer h. (
       h.0 ∷ [],
       record { took = h.3; good = (h.1, tt) },
-      λ later. moved_reply c.args.self.now c.in-Some.colour h.0 _ (sym c.lone_colour.ensures ∙ c.in-Some.is) open_game h.2 later ∙ reacts_reply _ answer _ later h.4,
+      λ later. moved_reply c.args.self.now c.in-Some.colour h.0 c.args.args.now (sym c.lone_colour.ensures ∙ c.in-Some.is) open_game h.2 later ∙ reacts_reply _ answer _ later h.4,
     ))
     c.take_turn.ensures.reply

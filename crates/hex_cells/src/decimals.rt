@@ -1,0 +1,26 @@
+//! Small numbers in decimal: the rows of vertices, of pictures and of records.
+
+ghost use Rattle.std.specs.Prelude.{◌≡◌, ◌<◌, ◌≤◌, drop, length, take};
+ghost use Rattle.std.specs.Fmt.{decimal};
+
+/// Bytes that are room for the decimal of any number below 100.
+pub const DECIMAL_LEN: usize = 2;
+
+/// Writes a number below 100 in decimal, without leading zero, at the front of `out`, and answers
+/// its length, 1 or 2. The rest of `out` stays.
+pub fn write_decimal(number: u32, out: &mut [u8]) -> usize
+    requires number { number < 100 }
+    requires room { DECIMAL_LEN ≤ length out.old }
+    ensures text { take result out.new ≡ decimal number }
+    ensures length { (1 ≤ result) × (result ≤ DECIMAL_LEN) }
+    ensures rest { drop result out.new ≡ drop result out.old }
+{
+    if number < 10 {
+        out[0] = b'0' + number as u8;
+        1
+    } else {
+        out[0] = b'0' + (number / 10) as u8;
+        out[1] = b'0' + (number % 10) as u8;
+        2
+    }
+}
