@@ -1,32 +1,40 @@
 -- The statuses, and what follows of them.
-use Rattle.std.proofs.Common.{◌≡◌, ◌≢◌, ℕ, ◌+◌, ◌≤◌, ◌⊎◌, ◌==◌, if◌then◌else◌, [], length, drop, Option, refl, ap, sym, ◌∙◌, inl, inr, arith, append-nil}
+use Rattle.std.proofs.Common.{Ok, Err, Result, List, Some, None, ◌≡◌, ◌≢◌, ℕ, ◌+◌, ◌≤◌, ◌⊎◌, ◌==◌, if◌then◌else◌, length, Option, refl, ap, sym, ◌∙◌, inl, inr, arith}
 use Rattle.std.specs.Prelude.{◌↔◌}
-use Rattle.std.proofs.Math.Seq.{drop-append_seam}
 use Rattle.hex_io.specs.Causes.{CountsFault}
 use Rattle.hex_io.specs.Told.{Told, Both}
+use Rattle.hex_io.specs.Shelves.{Shelved}
+use Rattle.hex_plan.specs.Turns.{Decision}
 use Rattle.hex_io.proofs.BothLaws.{Both-weaker}
-use Rattle.hex_engine.specs.EngineState.{EngineState}
-use Rattle.hex_engine.specs.Supply.{Supply}
-use Rattle.hex_cli.specs.Endings.{Ended, since, status_of}
+use Rattle.hex_engine.specs.declared.options.Options.{Options}
+use Rattle.htp_session.specs.Stocks.{ShelfAndArchive}
+use Rattle.htp_session.specs.Endings.{Outcome, Conversed, since}
+use Rattle.htp_session.specs.declared.stops.Stop.{Stop}
+use Rattle.htp_session.specs.declared.stops.Stop.TheVariants.{ReadFault, WriteFault, Memory, TooLong, ArchiveFault}
+use Rattle.hex_cli.specs.Statuses.{end_for, status_of}
+use Rattle.hex_cli.specs.Modes.{PlayedTo}
+use Rattle.htp_session.specs.Devices.{stop_of}
+use Rattle.hexd_words.specs.declared.settings.Mode.{Mode}
+use Rattle.hexd_words.specs.declared.settings.Mode.TheVariants.{Htp}
 use Rattle.hex_cli.specs.declared.ends.End.{End}
-use Rattle.hex_cli.specs.declared.ends.End.TheVariants.{Done, Usage, ReadFault, WriteFault, Memory, TooLong, ArchiveFault}
+use Rattle.hex_cli.specs.declared.ends.End.TheVariants.{Done, Usage, Stopped}
 
-end_of : ℕ → End
-end_of n = if n == 0 then Done else if n == 2 then Usage else if n == 3 then ReadFault else if n == 4 then WriteFault else if n == 5 then Memory else if n == 6 then TooLong else ArchiveFault
+end_numbered : ℕ → End
+end_numbered n = if n == 0 then Done else if n == 2 then Usage else if n == 3 then Stopped ReadFault else if n == 4 then Stopped WriteFault else if n == 5 then Stopped Memory else if n == 6 then Stopped TooLong else Stopped ArchiveFault
 
-end_of_status : (end : End) → end_of (status_of end) ≡ end
-unfolding end_of
+end_of_status : (end : End) → end_numbered (status_of end) ≡ end
+unfolding end_numbered
 end_of_status Done = refl
 end_of_status Usage = refl
-end_of_status ReadFault = refl
-end_of_status WriteFault = refl
-end_of_status Memory = refl
-end_of_status TooLong = refl
-end_of_status ArchiveFault = refl
+end_of_status (Stopped ReadFault) = refl
+end_of_status (Stopped WriteFault) = refl
+end_of_status (Stopped Memory) = refl
+end_of_status (Stopped TooLong) = refl
+end_of_status (Stopped ArchiveFault) = refl
 
 -- each status is that of one end
 pub same_end : (a b : End) → status_of a ≡ status_of b → a ≡ b
-same_end a b e = sym (end_of_status a) ∙ ap end_of e ∙ end_of_status b
+same_end a b e = sym (end_of_status a) ∙ ap end_numbered e ∙ end_of_status b
 
 -- a count that rises with one end rises with its status
 pub status_counts : (before now : ℕ) (end other : End) (status : ℕ) → status ≡ status_of end → CountsFault before now (end ≡ other) → CountsFault before now (status ≡ status_of other)
@@ -36,32 +44,69 @@ status_counts before now end other status e c = record {
   kept = λ n. c.kept (λ s. n (e ∙ ap status_of s));
 }
 
--- without a fault and within the limit a run of well-formed words is done, or memory ran out
-pub complete_at : (end : End) (start : EngineState) (all : Supply) (limit : ℕ) (a b : Option Told) → Both a b (Ended end start all limit) → end ≢ Usage → end ≢ ReadFault → end ≢ WriteFault → end ≢ ArchiveFault
-    → Both a b (λ o n. length (since o n) ≤ limit → (status_of end ≡ 0) ⊎ (status_of end ≡ 5))
-complete_at Done start all limit a b told u r w v = Both-weaker a b _ _ (λ o n p few. inl refl) told
-complete_at Usage start all limit a b told u r w v = absurd (u refl)
-complete_at ReadFault start all limit a b told u r w v = absurd (r refl)
-complete_at WriteFault start all limit a b told u r w v = absurd (w refl)
-complete_at Memory start all limit a b told u r w v = Both-weaker a b _ _ (λ o n p few. inr refl) told
-complete_at ArchiveFault start all limit a b told u r w v = absurd (v refl)
-complete_at TooLong start all limit a b told u r w v = Both-weaker a b _ _ (λ o n p few. absurd (omega (arith, p.ends.many, few))) told
-
--- nothing was taken where nothing changed
-since-refl : (o : Told) → since o o ≡ []
-since-refl o = ap (drop (length o.taken)) (sym (append-nil o.taken)) ∙ drop-append_seam o.taken []
+-- without a fault and within the limit a session is done, or memory ran out
+pub complete_at : (end : End) (options : Options) (size limit : ℕ) (a b : ShelfAndArchive) (x y : Option Told) → PlayedTo end options size limit a b x y → end ≢ Stopped ReadFault → end ≢ Stopped WriteFault → end ≢ Stopped ArchiveFault
+    → Both x y (λ o n. length (since o n) ≤ limit → (status_of end ≡ 0) ⊎ (status_of end ≡ 5))
+complete_at Done options size limit a b x y told r w v = Both-weaker x y _ _ (λ o n p few. inl refl) told.outcome
+complete_at Usage options size limit a b x y told r w v = absurd told
+complete_at (Stopped ReadFault) options size limit a b x y told r w v = absurd (r refl)
+complete_at (Stopped WriteFault) options size limit a b x y told r w v = absurd (w refl)
+complete_at (Stopped Memory) options size limit a b x y told r w v = Both-weaker x y _ _ (λ o n p few. inr refl) told.outcome
+complete_at (Stopped ArchiveFault) options size limit a b x y told r w v = absurd (v refl)
+complete_at (Stopped TooLong) options size limit a b x y told r w v = Both-weaker x y _ _ (λ o n p few. absurd (omega (arith, p.ends.many, few))) told.outcome
 
 -- too long is the end exactly where one byte more than the limit was taken
-too_long_at : (end : End) (start : EngineState) (all : Supply) (limit : ℕ) (o n : Told) → Ended end start all limit o n → (status_of end ≡ 6) ↔ (length (since o n) ≡ limit + 1)
-too_long_at Done start all limit o n p = (λ e. absurd (omega (arith, e)), λ e. absurd (omega (arith, p.ends.in_limit, e)))
-too_long_at Usage start all limit o n p =
-    let same : length (since o n) ≡ 0 = ap (λ x. length (since o x)) p.ends ∙ ap length (since-refl o) in
-    (λ e. absurd (omega (arith, e)), λ e. absurd (omega (arith, same, e)))
-too_long_at ReadFault start all limit o n p = (λ e. absurd (omega (arith, e)), λ e. absurd (omega (arith, p.ends.in_limit, e)))
-too_long_at WriteFault start all limit o n p = (λ e. absurd (omega (arith, e)), λ e. absurd (omega (arith, p.ends.in_limit, e)))
-too_long_at Memory start all limit o n p = (λ e. absurd (omega (arith, e)), λ e. absurd (omega (arith, p.ends.in_limit, e)))
-too_long_at ArchiveFault start all limit o n p = (λ e. absurd (omega (arith, e)), λ e. absurd (omega (arith, p.ends.in_limit, e)))
-too_long_at TooLong start all limit o n p = (λ e. p.ends.many, λ e. refl)
+pub too_long_exactly : (end : End) (options : Options) (size limit : ℕ) (a b : ShelfAndArchive) (x y : Option Told) → PlayedTo end options size limit a b x y → Both x y (λ o n. (status_of end ≡ 6) ↔ (length (since o n) ≡ limit + 1))
+too_long_exactly Done options size limit a b x y told = Both-weaker x y _ _ (λ o n p. (λ e. absurd (omega (arith, e)), λ e. absurd (omega (arith, p.ends.in_limit, e)))) told.outcome
+too_long_exactly Usage options size limit a b x y told = absurd told
+too_long_exactly (Stopped ReadFault) options size limit a b x y told = Both-weaker x y _ _ (λ o n p. (λ e. absurd (omega (arith, e)), λ e. absurd (omega (arith, p.ends.in_limit, e)))) told.outcome
+too_long_exactly (Stopped WriteFault) options size limit a b x y told = Both-weaker x y _ _ (λ o n p. (λ e. absurd (omega (arith, e)), λ e. absurd (omega (arith, p.ends.in_limit, e)))) told.outcome
+too_long_exactly (Stopped Memory) options size limit a b x y told = Both-weaker x y _ _ (λ o n p. (λ e. absurd (omega (arith, e)), λ e. absurd (omega (arith, p.ends.in_limit, e)))) told.outcome
+too_long_exactly (Stopped ArchiveFault) options size limit a b x y told = Both-weaker x y _ _ (λ o n p. (λ e. absurd (omega (arith, e)), λ e. absurd (omega (arith, p.ends.in_limit, e)))) told.outcome
+too_long_exactly (Stopped TooLong) options size limit a b x y told = Both-weaker x y _ _ (λ o n p. (λ e. p.ends.many, λ e. refl)) told.outcome
 
-pub too_long_exactly : (end : End) (start : EngineState) (all : Supply) (limit : ℕ) (a b : Option Told) → Both a b (Ended end start all limit) → Both a b (λ o n. (status_of end ≡ 6) ↔ (length (since o n) ≡ limit + 1))
-too_long_exactly end start all limit a b told = Both-weaker a b _ _ (λ o n p. too_long_at end start all limit o n p) told
+-- what stands at the end of a session's outcome
+pub played : (outcome : Outcome) (options : Options) (size limit : ℕ) (a b : ShelfAndArchive) (x y : Option Told) → Conversed outcome options size limit a b x y → PlayedTo (end_for outcome) options size limit a b x y
+played (Ok done) options size limit a b x y p = p
+played (Err stop) options size limit a b x y p = p
+
+-- a session never ends with a usage
+pub no_usage : (end : End) (options : Options) (size limit : ℕ) (a b : ShelfAndArchive) (x y : Option Told) → PlayedTo end options size limit a b x y → end ≢ Usage
+no_usage Done options size limit a b x y p e = absurd (cc)
+no_usage Usage options size limit a b x y p e = absurd p
+no_usage (Stopped stop) options size limit a b x y p e = absurd (cc)
+
+stop_in : End → Option Stop
+stop_in Done = None
+stop_in Usage = None
+stop_in (Stopped stop) = Some stop
+
+stop_in_end : (outcome : Outcome) → stop_in (end_for outcome) ≡ stop_of outcome
+unfolding stop_in
+stop_in_end (Ok done) = refl
+stop_in_end (Err stop) = refl
+
+end_of_stop : (outcome : Outcome) (stop : Stop) → stop_of outcome ≡ Some stop → end_for outcome ≡ Stopped stop
+end_of_stop (Ok done) stop e = absurd (cc)
+end_of_stop (Err other) stop e = cc
+
+stopped_so : (outcome : Outcome) (stop : Stop) → end_for outcome ≡ Stopped stop → stop_of outcome ≡ Some stop
+unfolding stop_in
+stopped_so outcome stop e = sym (stop_in_end outcome) ∙ ap stop_in e
+
+-- a count that rises with one outcome rises with its end
+pub end_counts : (before now : ℕ) (outcome : Outcome) (stop : Stop) (end : End) → end ≡ end_for outcome → CountsFault before now (stop_of outcome ≡ Some stop) → CountsFault before now (end ≡ Stopped stop)
+end_counts before now outcome stop end e c = record {
+  later = c.later;
+  rose = λ s. c.rose (stopped_so outcome stop (sym e ∙ s));
+  kept = λ n. c.kept (λ s. n (e ∙ end_of_stop outcome stop s));
+}
+
+-- what a conversation left, told of what its link, shelf and archive tell now
+pub left_so : (outcome : Outcome) (options : Options) (size limit : ℕ) (a : ShelfAndArchive) (x : Option Told) (link link' : Option Told) (shelf shelf' : Option Shelved) (turns turns' : Option (List Decision))
+    → link ≡ link' → shelf ≡ shelf' → turns ≡ turns' → Conversed outcome options size limit a (shelf, turns) x link → Conversed outcome options size limit a (shelf', turns') x link'
+left_so outcome options size limit a x link link' shelf shelf' turns turns' e f h c = rw (← e, ← f, ← h) c
+
+-- htp is the only mode
+pub only_htp : (mode : Mode) → mode ≡ Htp
+only_htp Htp = refl

@@ -17,13 +17,12 @@ use Rattle.hex_engine.specs.EngineState.{EngineState, opening}
 use Rattle.hex_engine.specs.Supply.{Supply}
 use Rattle.hex_engine.specs.Uses.{AreGood, IsGoodFor}
 use Rattle.hex_engine.specs.Replies.{Turned, Missing, Reply, is_next, turned, reaction}
-use Rattle.hex_cli.specs.Talk.{TalkState, goes_on, reply_text, after_reaction, after_reading, after_line, followed_by, with_line, talk_start, talk}
-use Rattle.hex_cli.specs.Endings.{Conversed}
+use Rattle.htp_session.specs.Talk.{TalkState, goes_on, reply_text, after_reaction, after_reading, after_line, followed_by, with_line, talk_start, talk}
+use Rattle.htp_session.specs.Endings.{Conversed}
 use Rattle.hex_cli.specs.Headline.{IsSearchedMove, AreSearchedMoves, Headline}
-use Rattle.hex_cli.specs.declared.ends.End.TheVariants as ending
-use Rattle.hex_cli.proofs.LegalMoves.{next_is_legal}
-use Rattle.hex_cli.proofs.Reactions.{TakesTurn, MayTakeTurn, reaction_takes}
-use Rattle.hex_cli.proofs.SupplyLaws.{step_keeps}
+use Rattle.htp_session.proofs.LegalMoves.{next_is_legal}
+use Rattle.htp_session.proofs.Reactions.{TakesTurn, MayTakeTurn, reaction_takes}
+use Rattle.htp_session.proofs.SupplyLaws.{step_keeps}
 
 -- ---- a line
 
@@ -137,7 +136,7 @@ are_searched start all lines good none before raw others split moved =
     let goes = step_goes start.options all.turns here raw holds (step_keeps here raw) in
     subst (IsSearchedMove start.options all.turns here) (sym more) (goes.searched (subst (λ (s : TalkState). s.at.turns ≢ here.at.turns) more moved))
 
-pub headline_at : (options : Options) (size limit : ℕ) (a b : Option Shelved) (c d : Option (List Decision)) (x y : Option Told) → Conversed ending.Done options size limit (a, c) (b, d) x y
+pub headline_at : (options : Options) (size limit : ℕ) (a b : Option Shelved) (c d : Option (List Decision)) (x y : Option Told) → Conversed (Ok tt) options size limit (a, c) (b, d) x y
     → Both c d (λ s t. Both x y (λ o n. Headline options size s t o n))
 headline_at options size limit a b c d x y k =
     Both-weaker c d _ _ (λ s t took. Both-weaker x y _ _ (λ o n p. record {

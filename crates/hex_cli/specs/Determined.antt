@@ -8,8 +8,8 @@ use Rattle.hex_engine.specs.declared.options.Options.{Options}
 use Rattle.hex_engine.specs.EngineState.{opening}
 use Rattle.hex_engine.specs.Supply.{Supply}
 use Rattle.hex_engine.specs.Uses.{AreGood, CameOf, HasOneWorker}
-use Rattle.hex_cli.specs.Talk.{IsThrough, talk}
-use Rattle.hex_cli.specs.Endings.{since}
+use Rattle.htp_session.specs.Talk.{IsThrough, talk}
+use Rattle.htp_session.specs.Endings.{since}
 
 -- With one worker, what was given is the text of every talk over the lines taken that is through,
 -- whose loads came of these fetches and whose turns are good: there is one such text.

@@ -13,8 +13,8 @@ use Rattle.hex_engine.specs.declared.options.Options.{Options}
 use Rattle.hex_engine.specs.EngineState.{EngineState, opening}
 use Rattle.hex_engine.specs.Supply.{Supply}
 use Rattle.hex_engine.specs.Uses.{IsGoodFor}
-use Rattle.hex_cli.specs.Talk.{TalkState, talk}
-use Rattle.hex_cli.specs.Endings.{since}
+use Rattle.htp_session.specs.Talk.{TalkState, talk}
+use Rattle.htp_session.specs.Endings.{since}
 
 -- A line was answered by a searched move: its turn is good and stands, among these turns, at the
 -- place that the number of turns before says; a stone of this colour on the turn's cell is legal in

@@ -1,8 +1,5 @@
-pub mod Talk
-pub mod Supply
-pub mod Stocks
-pub mod Sessions
-pub mod Endings
-pub mod Runs
+pub mod Statuses
+pub mod Modes
 pub mod Determined
 pub mod Headline
+pub mod Runs

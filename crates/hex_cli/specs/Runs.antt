@@ -1,43 +1,127 @@
--- What a run does with its words.
-use Rattle.std.specs.Prelude.{◌≡◌, ℕ, List, false}
-use Rattle.std.specs.declared.option.Option.{Option}
-use Rattle.hex_io.specs.Told.{Told, Same}
-use Rattle.hex_io.specs.Shelves.{Shelved}
-use Rattle.hex_plan.specs.Turns.{Decision}
+-- What a run does, told of its words, its status, and its link, shelf and archive before and after.
+use Rattle.std.specs.Prelude.{◌≡◌, ◌≢◌, ◌+◌, ◌≤◌, ◌⊎◌, ◌↔◌, ℕ, List, length}
+use Rattle.hex_io.specs.Told.{Both, Same}
+use Rattle.hex_io.specs.Causes.{CountsFault, Rose}
+use Rattle.hex_io.specs.Reported.{Reported}
+use Rattle.hex_io.specs.declared.links.Link as links
+use Rattle.hex_io.specs.declared.shelves.Shelf as shelves
+use Rattle.hex_plan.specs.declared.archives.Archive as archives
 use Rattle.hexd_words.specs.Reading.{WellFormed}
 use Rattle.hexd_words.specs.declared.settings.Options.{Options}
-use Rattle.hex_engine.specs.declared.options.Options as engine
+use Rattle.hexd_words.specs.declared.settings.Mode.{Mode}
+use Rattle.hexd_words.specs.declared.settings.Mode.TheVariants.{Htp}
+use Rattle.htp_session.specs.Endings.{since}
+use Rattle.htp_session.specs.declared.stops.Stop.TheVariants.{Memory, TooLong}
+use Rattle.hex_cli.specs.Determined.{IsDetermined}
+use Rattle.hex_cli.specs.Headline.{Headline}
+use Rattle.hex_cli.specs.Modes.{PlaysTo, engine_options}
+use Rattle.hex_cli.specs.Statuses.{status_of, error_line}
+use Rattle.hex_cli.specs.declared.ends.End.{End}
+use Rattle.hex_cli.specs.declared.ends.End.TheVariants.{Done, Usage, Stopped}
+use Rattle.hex_cli.specs.declared.limits.TheConstants.{INPUT_LIMIT}
+
+-- ---- the words
+
+-- some options make these words well formed
+abbrev pub AreWellFormed : List (List ℕ) → Type 0
+AreWellFormed words = (options : Options) × WellFormed words options
 
 -- no options make these words well formed
 abbrev pub AreRefused : List (List ℕ) → Type 0
 AreRefused words = (options : Options) → ¬ WellFormed words options
 
--- the engine's options; no connections are looked for yet, whatever the words say
-abbrev pub engine_options : Options → engine.Options
-engine_options o = record {
-  knobs = record {
-    workers = o.workers;
-    playouts = o.playouts;
-    seed = o.seed;
-    words = o.words;
-    expand = o.expand;
-    weight = o.weight;
-  };
-  hsearch = false;
-}
+-- whatever options make the words well formed in this mode, this holds
+abbrev pub InMode : Mode → List (List ℕ) → (Options → Type 0) → Type 0
+InMode mode words Holds =
+    (options : Options) → WellFormed words options → options.mode ≡ mode → Holds options
 
--- a link was not read or written: it tells the same and has counted no fault
-pub record Untouched (old new : Option Told)
-    (old_reads new_reads old_writes new_writes : ℕ) : Type 0 where
-  pub told : Same old new
-  pub reads : new_reads ≡ old_reads
-  pub writes : new_writes ≡ old_writes
+-- the link was not read or written: it tells the same and has counted no fault
+pub record Untouched {L : Type 0} (l : links.Ghosts L) (old new : L) : Type 0 where
+  pub told : Same (l.told old) (l.told new)
+  pub reads : l.read_faults new ≡ l.read_faults old
+  pub writes : l.write_faults new ≡ l.write_faults old
 
--- nothing was fetched from a shelf and nothing handed to an archive: they tell the same and have
+-- nothing was fetched from the shelf and nothing handed to the archive: they tell the same and have
 -- counted no fault
-pub record Unused (old new : Option Shelved) (old_faults new_faults : ℕ)
-    (turns turns_now : Option (List Decision)) (old_refusals new_refusals : ℕ) : Type 0 where
-  pub shelf : Same old new
-  pub faults : new_faults ≡ old_faults
-  pub archive : Same turns turns_now
-  pub refusals : new_refusals ≡ old_refusals
+pub record Unused {F A : Type 0} (f : shelves.Ghosts F) (a : archives.Ghosts A)
+    (files files_now : F) (turns turns_now : A) : Type 0 where
+  pub shelf : Same (f.told files) (f.told files_now)
+  pub faults : f.faults files_now ≡ f.faults files
+  pub archive : Same (a.told turns) (a.told turns_now)
+  pub refusals : a.faults turns_now ≡ a.faults turns
+
+-- no usage, and no want of memory
+abbrev pub IsServed : ℕ → Type 0
+IsServed status = (status ≢ status_of Usage) × (status ≢ status_of (Stopped Memory))
+
+-- a usage, or want of memory
+abbrev pub IsRefusal : ℕ → Type 0
+IsRefusal status = (status ≡ status_of Usage) ⊎ (status ≡ status_of (Stopped Memory))
+
+-- ---- the modes
+
+-- Mode htp: the session came to this end.
+abbrev pub PlaysInMode : {L F A : Type 0} → links.Ghosts L → shelves.Ghosts F → archives.Ghosts A
+    → List (List ℕ) → End → L × F × A → L × F × A → Type 0
+PlaysInMode l f a words end old new = InMode Htp words
+    (λ options. PlaysTo l f a options end old new)
+
+-- the same for every end of this status
+abbrev pub PlaysBy : {L F A : Type 0} → links.Ghosts L → shelves.Ghosts F → archives.Ghosts A
+    → List (List ℕ) → ℕ → L × F × A → L × F × A → Type 0
+PlaysBy l f a words status old new =
+    (end : End) → status ≡ status_of end → PlaysInMode l f a words end old new
+
+-- Mode htp, where the run is done: each searched move.
+abbrev pub HasHeadline : {L A : Type 0} → links.Ghosts L → archives.Ghosts A → List (List ℕ) → ℕ
+    → L → L → A → A → Type 0
+HasHeadline l a words status link link_now archive archive_now = InMode Htp words
+    (λ options. status ≡ status_of Done → Both (a.told archive) (a.told archive_now)
+    (λ turns turns_now. Both (l.told link) (l.told link_now)
+    (Headline (engine_options options) options.size turns turns_now)))
+
+-- Mode htp, where the run is done: with one worker the words, the bytes taken and the shelf
+-- determine what was given.
+abbrev pub Determines : {L F : Type 0} → links.Ghosts L → shelves.Ghosts F → List (List ℕ) → ℕ
+    → L → L → F → F → Type 0
+Determines l f words status link link_now shelf shelf_now = InMode Htp words
+    (λ options. status ≡ status_of Done → Both (f.told shelf) (f.told shelf_now)
+    (λ files files_now. Both (l.told link) (l.told link_now)
+    (IsDetermined (engine_options options) options.size files files_now)))
+
+-- ---- the causes
+
+-- the link's count of read faults rose where this holds, and is as before where it doesn't
+abbrev pub CountsReads : {L : Type 0} → links.Ghosts L → L → L → Type 0 → Type 0
+CountsReads l old new Fault = CountsFault (l.read_faults old) (l.read_faults new) Fault
+
+-- the same of its count of write faults
+abbrev pub CountsWrites : {L : Type 0} → links.Ghosts L → L → L → Type 0 → Type 0
+CountsWrites l old new Fault = CountsFault (l.write_faults old) (l.write_faults new) Fault
+
+-- the same of the archive's count of faults
+abbrev pub CountsTurns : {A : Type 0} → archives.Ghosts A → A → A → Type 0 → Type 0
+CountsTurns a old new Fault = CountsFault (a.faults old) (a.faults new) Fault
+
+-- with well-formed words the input is too long exactly where one byte more than the limit was taken
+abbrev pub IsTooLong : {L : Type 0} → links.Ghosts L → List (List ℕ) → ℕ → L → L → Type 0
+IsTooLong l words status link link_now = (options : Options) → WellFormed words options
+    → Both (l.told link) (l.told link_now) (λ old new.
+    (status ≡ status_of (Stopped TooLong)) ↔ (length (since old new) ≡ INPUT_LIMIT + 1))
+
+-- with well-formed words, where no count of faults rose and at most the limit was taken, the run is
+-- done, or memory ran out
+abbrev pub Completes : {L A : Type 0} → links.Ghosts L → archives.Ghosts A → List (List ℕ) → ℕ
+    → L → L → A → A → Type 0
+Completes l a words status link link_now archive archive_now =
+    (options : Options) → WellFormed words options
+    → ¬ Rose (l.read_faults link) (l.read_faults link_now)
+    → ¬ Rose (l.write_faults link) (l.write_faults link_now)
+    → ¬ Rose (a.faults archive) (a.faults archive_now)
+    → Both (l.told link) (l.told link_now) (λ old new. length (since old new) ≤ INPUT_LIMIT
+    → (status ≡ status_of Done) ⊎ (status ≡ status_of (Stopped Memory)))
+
+-- the errors were given the line of the status, or a front of it where a write failed
+abbrev pub Reports : {E : Type 0} → links.Ghosts E → ℕ → E → E → Type 0
+Reports e status old new = (end : End) → status ≡ status_of end
+    → Reported (e.told old) (e.told new) (e.write_faults old) (e.write_faults new) (error_line end)

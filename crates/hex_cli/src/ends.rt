@@ -1,33 +1,45 @@
 //! How a run ends: its status, and the line that it gives to the errors.
 
 ghost use Rattle.std.specs.Prelude.{◌≡◌};
-ghost use Rattle.hex_cli.specs.Endings.{status_of, error_line};
+ghost use Rattle.hex_cli.specs.Statuses.{end_for, status_of, error_line};
 
-/// How a run ended. The numbers are the statuses.
+use htp_session::Stop;
+
+/// How a run ended.
 #[derive(Clone, Copy, Debug, PartialEq, Eq)]
 pub enum End {
-    /// The input was answered to its end, or to an answered quit.
-    Done = 0,
+    /// It did what its words ask for.
+    Done,
     /// The words are not well formed.
-    Usage = 2,
-    /// A read failed.
-    ReadFault = 3,
-    /// A write failed.
-    WriteFault = 4,
-    /// Memory ran out.
-    Memory = 5,
-    /// The input is longer than the limit.
-    TooLong = 6,
-    /// The archive failed.
-    ArchiveFault = 7,
+    Usage,
+    /// It stopped before its end.
+    Stopped(Stop),
 }
 
 impl End {
+    /// How a run ends whose session ended so.
+    pub fn of(outcome: Result<(), Stop>) -> End
+        ensures { result ≡ end_for outcome }
+    {
+        match outcome {
+            Ok(()) => End::Done,
+            Err(stop) => End::Stopped(stop),
+        }
+    }
+
     /// The status of a run that ended so.
     pub fn status(self) -> u8
         ensures { result ≡ status_of self }
     {
-        self as u8
+        match self {
+            End::Done => 0,
+            End::Usage => 2,
+            End::Stopped(Stop::ReadFault) => 3,
+            End::Stopped(Stop::WriteFault) => 4,
+            End::Stopped(Stop::Memory) => 5,
+            End::Stopped(Stop::TooLong) => 6,
+            End::Stopped(Stop::ArchiveFault) => 7,
+        }
     }
 
     /// The line for the errors, or nothing.
@@ -35,12 +47,12 @@ impl End {
         ensures { result.now ≡ error_line self }
     {
         match self {
-            End::Done | End::WriteFault => b"",
+            End::Done | End::Stopped(Stop::WriteFault) => b"",
             End::Usage => b"hexd: usage\n",
-            End::ReadFault => b"hexd: read fault\n",
-            End::Memory => b"hexd: out of memory\n",
-            End::TooLong => b"hexd: input too long\n",
-            End::ArchiveFault => b"hexd: archive fault\n",
+            End::Stopped(Stop::ReadFault) => b"hexd: read fault\n",
+            End::Stopped(Stop::Memory) => b"hexd: out of memory\n",
+            End::Stopped(Stop::TooLong) => b"hexd: input too long\n",
+            End::Stopped(Stop::ArchiveFault) => b"hexd: archive fault\n",
         }
     }
 }

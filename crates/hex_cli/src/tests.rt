@@ -1,19 +1,16 @@
 //! Whole runs over links in memory.
 
 ghost use Rattle.std.specs.Prelude.{None};
-ghost use Rattle.tree_words.specs.Settings.{AreInRange};
 
-use crate::conversation::converse;
-use crate::ends::End;
-use crate::top::{INPUT_LIMIT, run};
+use crate::limits::INPUT_LIMIT;
+use crate::top::run;
 use hex_cells::{Size, read_vertex};
-use hex_engine::Options;
 use hex_io::{Bytes, File, Link, LinkFault, MemLink, MemShelf, Word};
 use hex_plan::{MemArchive, NoArchive};
 use std::alloc::Global;
 use std::process::Abort;
 use std::test::Fail;
-use tree_words::{Knobs, report};
+use tree_words::report;
 
 /// A run, and what it has to give.
 #[derive(Clone, Copy)]
@@ -630,64 +627,6 @@ fn line_length(rt: HostRuntime) -> Result<(), Fail> {
             link.given(),
             b"= hexd\n\n? line too long\n\n= hexd\n\n".as_slice()
         );
-    }
-    Ok(())
-}
-
-/// The options of a command line that says nothing.
-fn options() -> Options
-    ensures { AreInRange result.knobs }
-{
-    let knobs = Knobs {
-        workers: 1,
-        playouts: 10_000,
-        seed: 0,
-        words: 4_194_304,
-        expand: 8,
-        weight: 180,
-    };
-    Options {
-        knobs,
-        hsearch: false,
-    }
-}
-
-/// The end of a conversation that takes at most this many bytes.
-fn end_within(
-    rt: &(impl Abort + Alloc<A = Global>),
-    input: &[u8],
-    piece: usize,
-    limit: usize,
-    given: &[u8],
-) -> Result<End, Fail> {
-    let alloc = rt.alloc();
-    let size = Size::of(11).ok_or("no size")?;
-    let mut link = link_over(alloc, input, piece, None, None)?;
-    let mut shelf = shelf_of(alloc, None, None)?;
-    let end = converse(
-        alloc,
-        &mut link,
-        &mut shelf,
-        &mut NoArchive,
-        &options(),
-        size,
-        limit,
-    );
-    assert_eq!(rt; link.given(), given);
-    Ok(end)
-}
-
-#[test]
-fn limits(rt: HostRuntime) -> Result<(), Fail> {
-    for piece in [1, 3, 100] {
-        let over = end_within(&rt, b"name\nname\n", piece, 5, b"= hexd\n\n")?;
-        assert_eq!(rt; over, End::TooLong);
-        let within_a_line = end_within(&rt, b"name\nname\n", piece, 7, b"= hexd\n\n")?;
-        assert_eq!(rt; within_a_line, End::TooLong);
-        let exact = end_within(&rt, b"name\nname", piece, 9, b"= hexd\n\n= hexd\n\n")?;
-        assert_eq!(rt; exact, End::Done);
-        let quit = end_within(&rt, b"quit\nname\n", piece, 5, b"= \n\n")?;
-        assert_eq!(rt; quit, End::Done);
     }
     Ok(())
 }

@@ -17,6 +17,7 @@
 use hex_cli::{End, run};
 use hex_io::{DirShelf, ErrLink, StdLink, Word, report};
 use hex_plan::NoArchive;
+use htp_session::Stop;
 use std::process::ExitCode;
 use std::{env, io};
 
@@ -46,12 +47,14 @@ fn main(rt: HostRuntime) -> ExitCode {
 /// The words after the program's name, or how a run ends that can't have them.
 fn words_of(rt: &HostRuntime) -> Result<Vec<Word>, End> {
     let arguments = match env::args(rt) {
-        Err(error) if error.kind() == io::ErrorKind::OutOfMemory => return Err(End::Memory),
+        Err(error) if error.kind() == io::ErrorKind::OutOfMemory => return Err(End::Stopped(
+            Stop::Memory,
+        )),
         Err(_) => return Err(End::Usage),
         Ok(arguments) => arguments,
     };
     match arguments.skip(1).map(Word::of).collect(rt.alloc()) {
-        Err(_) => Err(End::Memory),
+        Err(_) => Err(End::Stopped(Stop::Memory)),
         Ok(words) => Ok(words),
     }
 }

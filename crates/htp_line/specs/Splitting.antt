@@ -4,8 +4,6 @@ use Rattle.std.specs.Prelude.{None, if◌then◌else◌, nat_le, is_some}
 use Rattle.std.specs.List.{before_first, position}
 use Rattle.htp_line.specs.Lines.{is_feed, whole, rest}
 use Rattle.htp_line.specs.declared.splitter.TheConstants.{LINE_LIMIT}
-use Rattle.htp_line.specs.declared.splitter.What.{What}
-use Rattle.htp_line.specs.declared.splitter.What.TheVariants.{More, Line, Long}
 
 -- a line as far as it is kept: all of it, or nothing where it has more than LINE_LIMIT bytes
 abbrev pub kept : List ℕ → Option (List ℕ)
@@ -24,15 +22,6 @@ pub record Held : Type 0 where
 -- what is kept of the line in hand
 abbrev pub so_far : Held → Option (List ℕ)
 so_far h = if h.ended then Some [] else h.line
-
--- a line that ended is kept or was too long
-abbrev pub shown : Option (List ℕ) → What
-shown None = Long
-shown (Some raw) = Line
-
--- whether a line ended, and which
-abbrev pub what_of : Held → What
-what_of h = if h.ended then shown h.line else More
 
 -- after a piece, up to and with its first line feed
 abbrev pub after_piece : Held → List ℕ → Held

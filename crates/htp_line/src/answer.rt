@@ -1,48 +1,70 @@
 //! The bytes of an answer.
 
-ghost use Rattle.std.specs.Prelude.{◌≡◌, ◌++◌, IfOk, OnOk};
-ghost use Rattle.htp_line.specs.Answering.{answer, success, failure, id_text};
+ghost use Rattle.std.specs.Prelude.{◌≡◌, ◌+◌, ◌≤◌, ◌++◌, ◌∷◌, ℕ, [], length, IfOk, IsOk, OnOk};
+ghost use Rattle.std.specs.Prelude.{OnErr, vec_len, vec_capacity};
+ghost use Rattle.std.specs.declared.option.Option.{Option};
+ghost use Rattle.htp_line.specs.Answering.{success, failure, id_text};
 
-use super::bytes::Bytes;
 use super::want::Memory;
-use std::alloc::{AllocError, Global};
+use std::alloc::Global;
 
-/// The most bytes round a text: the sign, an id of ten digits, a space and two line feeds.
-const FRAME: usize = 14;
+/// The most bytes of an id: the decimal digits of a `u32`.
+pub const ID_LIMIT: usize = 10;
 
-/// A success: `=`, the id in its shortest form if there is one, a space, the text and two line
-/// feeds. GTP version 2, responses.
-pub fn write_ok(alloc: Global, id: Option<u32>, text: &[u8]) -> Result<Bytes, Memory>
-    ensures { IfOk result (λ b. b ≡ success id text.now) }
+/// The bytes round an id and a text: the sign, a space and two line feeds.
+pub const FRAME: usize = 4;
+
+/// An id in its shortest form; nothing where there is none.
+pub fn id_text(alloc: Global, id: Option<u32>) -> Result<Vec<u8>, Memory>
+    ensures text { IfOk result (λ text. text.items ≡ id_text id) }
+    ensures short { IfOk result (λ text. vec_len text ≤ ID_LIMIT) }
 {
-    Ok(written(alloc, b'=', id, text)?)
-}
-
-/// A failure: `?`, the id in its shortest form if there is one, a space, the message and two line
-/// feeds. GTP version 2, responses.
-pub fn write_fail(alloc: Global, id: Option<u32>, text: &[u8]) -> Result<Bytes, Memory>
-    ensures { IfOk result (λ b. b ≡ failure id text.now) }
-{
-    Ok(written(alloc, b'?', id, text)?)
-}
-
-fn written(alloc: Global, sign: u8, id: Option<u32>, text: &[u8]) -> Result<Bytes, AllocError>
-    ensures { IfOk result (λ b. b ≡ answer sign id text.now) }
-{
-    let mut out = Vec::with_capacity(alloc, text.len() + FRAME)?;
-    out.push(sign)?;
-    push_id(alloc, &mut out, id)?;
-    out.push(b' ')?;
-    out.extend_from_slice(text)?;
-    out.extend_from_slice(b"\n\n")?;
-    Ok(Bytes::of(out))
-}
-
-fn push_id(alloc: Global, out: &mut Vec<u8>, id: Option<u32>) -> Result<(), AllocError>
-    ensures { OnOk result (out.new.items ≡ out.old.items ++ id_text id) }
-{
-    if let Some(id) = id {
-        out.extend_from_slice(id.to_string(alloc)?.as_bytes())?;
+    match id {
+        None => Ok(Vec::new(alloc)),
+        Some(id) => Ok(id.to_string(alloc)?.as_bytes().to_vec(alloc)?),
     }
+}
+
+/// Writes a success at the end of `out`: `=`, the id in its shortest form if there is one, a space,
+/// the text and two line feeds. It can't fail where there is room for it. GTP version 2, responses.
+pub fn push_success(out: &mut Vec<u8>, id: &[u8], text: &[u8]) -> Result<(), Memory>
+    requires short { length id.now ≤ ID_LIMIT }
+    ensures text { (n : Option ℕ) → id.now ≡ id_text n →
+        OnOk result (out.new.items ≡ out.old.items ++ success n text.now) }
+    ensures err { OnErr result (out.new.items ≡ out.old.items) }
+    ensures room { vec_len out.old + (length id.now + length text.now + FRAME)
+        ≤ vec_capacity out.old → IsOk result }
+{
+    push_signed(out, b'=', id, text)
+}
+
+/// Writes a failure at the end of `out`: `?`, the id in its shortest form if there is one, a space,
+/// the message and two line feeds. It can't fail where there is room for it. GTP version 2,
+/// responses.
+pub fn push_failure(out: &mut Vec<u8>, id: &[u8], text: &[u8]) -> Result<(), Memory>
+    requires short { length id.now ≤ ID_LIMIT }
+    ensures text { (n : Option ℕ) → id.now ≡ id_text n →
+        OnOk result (out.new.items ≡ out.old.items ++ failure n text.now) }
+    ensures err { OnErr result (out.new.items ≡ out.old.items) }
+    ensures room { vec_len out.old + (length id.now + length text.now + FRAME)
+        ≤ vec_capacity out.old → IsOk result }
+{
+    push_signed(out, b'?', id, text)
+}
+
+fn push_signed(out: &mut Vec<u8>, sign: u8, id: &[u8], text: &[u8]) -> Result<(), Memory>
+    requires short { length id.now ≤ ID_LIMIT }
+    ensures text { OnOk result
+        (out.new.items ≡ out.old.items ++ sign ∷ id.now ++ 32 ∷ text.now ++ 10 ∷ 10 ∷ []) }
+    ensures err { OnErr result (out.new.items ≡ out.old.items) }
+    ensures room { vec_len out.old + (length id.now + length text.now + FRAME)
+        ≤ vec_capacity out.old → IsOk result }
+{
+    out.reserve(id.len() + text.len() + FRAME)?;
+    out.push(sign).unwrap();
+    out.extend_from_slice(id).unwrap();
+    out.push(b' ').unwrap();
+    out.extend_from_slice(text).unwrap();
+    out.extend_from_slice(b"\n\n").unwrap();
     Ok(())
 }

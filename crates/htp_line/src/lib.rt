@@ -3,15 +3,15 @@
 //! **What it is.** A *raw line* is what stands between line feeds. A [`Splitter`] takes a stream in
 //! pieces of any length and keeps the raw line in hand. [`read_line`] reads a raw line as a
 //! [`Parsed`]: blank, a bare id, or a [`Request`] with an optional id, a name and arguments.
-//! [`write_ok`] and [`write_fail`] make the bytes of an answer. The rules are those of GTP version
+//! [`push_success`] and [`push_failure`] write the bytes of an answer. The rules are those of GTP version
 //! 2 (draft), preprocessing and command structure, with a limit of [`LINE_LIMIT`] bytes a line.
 //!
 //! **A caller** feeds each piece that it read until all of it is used, and then the end:
 //!
 //! ```text
 //! let fed = splitter.push(piece);           // used: up to and with the first line feed
-//! if fed.what == What::Line {
-//!     let parsed = read_line(alloc, splitter.text())?;
+//! if fed.ended && let Some(raw) = splitter.line() {
+//!     let parsed = read_line(alloc, raw)?;
 //! }
 //! ```
 //!
@@ -20,10 +20,10 @@
 //! where it has more than [`LINE_LIMIT`] bytes. A raw line is read exactly as the filters of
 //! `specs/Reading.antt` say, and an answer has exactly the bytes of `specs/Answering.antt`.
 //!
-//! **Only tested, or not said.** That memory suffices: `make`, `read_line` and the two writers may
-//! answer [`Memory`], which no clause ties to anything.
+//! **Only tested, or not said.** That memory suffices: `make`, `read_line`, `id_text` and, where no
+//! room is left, the two writers may answer [`Memory`], which no clause ties to anything.
 //!
-//! **Limits.** A line that is too long is not kept. `push`, `finish` and `text` take no memory.
+//! **Limits.** A line that is too long is not kept. `push`, `finish` and `line` take no memory.
 #![tactic(auto)]
 
 mod answer;
@@ -34,8 +34,8 @@ mod splitter;
 mod tests;
 mod want;
 
-pub use answer::{write_fail, write_ok};
+pub use answer::{FRAME, ID_LIMIT, id_text, push_failure, push_success};
 pub use bytes::{Args, Bytes};
 pub use request::{Parsed, Request, read_line, read_number};
-pub use splitter::{Fed, LINE_LIMIT, Splitter, What};
+pub use splitter::{Fed, LINE_LIMIT, Splitter};
 pub use want::Memory;

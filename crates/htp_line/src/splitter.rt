@@ -1,10 +1,10 @@
 //! A stream in pieces, cut into raw lines.
 
 ghost use Rattle.std.specs.Prelude.{◌≡◌, ◌+◌, ◌≤◌, ◌<◌, min, length, IfOk, Some, [], true, false};
-ghost use Rattle.std.specs.Prelude.{List, ℕ, take};
+ghost use Rattle.std.specs.Prelude.{List, ℕ, take, IfSome, option_map};
 ghost use Rattle.std.specs.List.{position, position_or_len};
 ghost use Rattle.htp_line.specs.Lines.{is_feed, whole, lines};
-ghost use Rattle.htp_line.specs.Splitting.{after_piece, after_end, what_of, so_far, grown};
+ghost use Rattle.htp_line.specs.Splitting.{after_piece, after_end, so_far, grown};
 ghost use Rattle.htp_line.specs.Splitting.{StandsAfter, Advances, Ends};
 
 use super::want::Memory;
@@ -14,28 +14,17 @@ use std::marker::Model;
 /// The most bytes of a raw line that is kept; a longer one is answered `line too long`.
 pub const LINE_LIMIT: usize = 4096;
 
-/// What became of the line in hand.
-#[derive(Clone, Copy, Debug, PartialEq, Eq)]
-pub enum What {
-    /// No line ended.
-    More,
-    /// A raw line of at most [`LINE_LIMIT`] bytes ended. The line feed is not counted.
-    Line,
-    /// A raw line of more than [`LINE_LIMIT`] bytes ended.
-    Long,
-}
-
 /// What a push did: how many bytes it used, and whether a line ended with the last of them.
 #[derive(Clone, Copy, Debug)]
 pub struct Fed {
     pub used: usize,
-    pub what: What,
+    pub ended: bool,
 }
 
 /// Cuts a stream, which comes in pieces of any length, into raw lines.
 ///
 /// It keeps the line in hand as far as it has at most [`LINE_LIMIT`] bytes. A line that ended
-/// stands in it until the next push or finish.
+/// stands in it until the next push or finish, and [`Splitter::line`] lends it.
 #[derive(Drop)]
 pub struct Splitter {
     buffer: Vec<u8>,
@@ -85,7 +74,7 @@ impl Splitter {
         ensures used { result.used ≡ min (position_or_len is_feed piece.now + 1)
             (length piece.now) }
         ensures line { self.new ≡ after_piece self.old piece.now }
-        ensures what { result.what ≡ what_of self.new }
+        ensures ended { result.ended ≡ self.new.ended }
         // However the stream is cut into pieces, the lines are those of the whole text.
         ensures stream { (seen : List ℕ) → StandsAfter self.old seen
             → Advances self.new seen (take result.used piece.now) }
@@ -96,41 +85,45 @@ impl Splitter {
                 self.extend(piece);
                 Fed {
                     used: piece.len(),
-                    what: What::More,
+                    ended: false,
                 }
             }
             Some(end) => {
                 self.extend(&piece[..end]);
+                self.close();
                 Fed {
                     used: end + 1,
-                    what: self.end(),
+                    ended: true,
                 }
             }
         }
     }
 
-    /// Ends the last line, as a line feed would, where bytes stand after the last line feed.
-    pub fn finish(&mut self) -> What
+    /// Ends the last line, as a line feed would, where bytes stand after the last line feed. It
+    /// says whether one did.
+    pub fn finish(&mut self) -> bool
         ensures line { self.new ≡ after_end self.old }
-        ensures what { result ≡ what_of self.new }
+        ensures ended { result ≡ self.new.ended }
         ensures stream { (seen : List ℕ) → StandsAfter self.old seen
             → Ends self.new.ended self.new.line (whole seen) (lines seen) }
     {
         self.begin();
-        if self.is_long || !self.buffer.is_empty() {
-            self.end()
-        } else {
-            What::More
-        }
+        self.ended = self.is_long || !self.buffer.is_empty();
+        self.ended
     }
 
-    /// Lends the raw line. The last push or finish answered [`What::Line`].
-    pub fn text(&self) -> &[u8]
-        requires { what_of self.now ≡ What.Line }
-        ensures line { self.now.line ≡ Some result.now }
-        ensures short { length result.now ≤ LINE_LIMIT }
+    /// Lends the raw line that ended; none where it has more than [`LINE_LIMIT`] bytes. The line
+    /// feed is not counted.
+    pub fn line(&self) -> Option<&[u8]>
+        requires ended { self.now.ended ≡ true }
+        ensures line { option_map (λ raw. raw.now) result ≡ self.now.line }
+        ensures short { IfSome result (λ raw. length raw.now ≤ LINE_LIMIT) }
     {
-        &self.buffer
+        if self.is_long {
+            None
+        } else {
+            Some(&self.buffer)
+        }
     }
 
     fn begin(&mut self)
@@ -157,11 +150,9 @@ impl Splitter {
         }
     }
 
-    fn end(&mut self) -> What
-        ensures line { self.new ≡ record self.old { ended = true } }
-        ensures what { result ≡ what_of self.new }
+    fn close(&mut self)
+        ensures { self.new ≡ record self.old { ended = true } }
     {
         self.ended = true;
-        if self.is_long { What::Long } else { What::Line }
     }
 }

@@ -1,6 +1,6 @@
 //! Lines and answers with values from the protocol's rules, and calls with ample memory.
 
-use super::{Parsed, Splitter, What, read_line, write_fail, write_ok};
+use super::{Parsed, Splitter, id_text, push_failure, push_success, read_line};
 use std::alloc::{AllocError, Global};
 
 /// An id or `-`, and the words, with one space between them; blank is `blank`.
@@ -67,6 +67,13 @@ fn reads_lines(rt: HostRuntime) -> Result<(), AllocError> {
     Ok(())
 }
 
+/// A raw line and a bar; `long` where it is too long.
+fn push_line(out: &mut Vec<u8>, line: Option<&[u8]>) -> Result<(), AllocError> {
+    out.extend_from_slice(line.unwrap_or(b"long"))?;
+    out.push(b'|')?;
+    Ok(())
+}
+
 /// The raw lines of a stream that comes in pieces of this length, each with a bar behind it; a line
 /// that is too long is `long`.
 fn cut(alloc: Global, stream: &[u8], length: usize) -> Result<Vec<u8>, AllocError> {
@@ -78,26 +85,16 @@ fn cut(alloc: Global, stream: &[u8], length: usize) -> Result<Vec<u8>, AllocErro
     for _ in 0..u64::MAX {
         let piece = &rest[..length.min(rest.len())];
         let fed = splitter.push(piece);
-        match fed.what {
-            What::More => {}
-            What::Line => {
-                out.extend_from_slice(splitter.text())?;
-                out.push(b'|')?;
-            }
-            What::Long => out.extend_from_slice(b"long|")?,
+        if fed.ended {
+            push_line(&mut out, splitter.line())?;
         }
         rest = &rest[fed.used..];
         if rest.is_empty() {
             break;
         }
     }
-    match splitter.finish() {
-        What::More => {}
-        What::Line => {
-            out.extend_from_slice(splitter.text())?;
-            out.push(b'|')?;
-        }
-        What::Long => out.extend_from_slice(b"long|")?,
+    if splitter.finish() {
+        push_line(&mut out, splitter.line())?;
     }
     Ok(out)
 }
@@ -155,9 +152,11 @@ fn writes_answers(rt: HostRuntime) -> Result<(), AllocError> {
         (Some(0), b"".as_slice(), b"=0 \n\n".as_slice()),
     ];
     for (id, text, want) in successes {
-        let Ok(got) = write_ok(alloc, id, text) else {
+        let mut got = Vec::new(alloc);
+        let Ok(id) = id_text(alloc, id) else {
             return Err(AllocError);
         };
+        assert!(rt; push_success(&mut got, &id, text).is_ok());
         assert!(rt; got.as_slice() == want);
     }
     let failures: [(Option<u32>, &[u8], &[u8]); 2] = [
@@ -173,9 +172,11 @@ fn writes_answers(rt: HostRuntime) -> Result<(), AllocError> {
         ),
     ];
     for (id, text, want) in failures {
-        let Ok(got) = write_fail(alloc, id, text) else {
+        let mut got = Vec::new(alloc);
+        let Ok(id) = id_text(alloc, id) else {
             return Err(AllocError);
         };
+        assert!(rt; push_failure(&mut got, &id, text).is_ok());
         assert!(rt; got.as_slice() == want);
     }
     Ok(())

@@ -1,15 +1,15 @@
 -- What the status tells of the end.
 use Rattle.std.proofs.Common.{sym, ap, ◌∙◌}
 use Rattle.hex_io.specs.Reported.{Reported}
-use Rattle.hex_engine.specs.EngineState.{opening}
-use Rattle.hex_cli.specs.Runs.{engine_options}
-use Rattle.hex_cli.specs.declared.ends.End.TheVariants.{Usage, Done, ReadFault, WriteFault, ArchiveFault}
-use Rattle.hex_cli.specs.declared.top.TheConstants.{INPUT_LIMIT}
-use Rattle.hex_cli.proofs.RunLaws.{same_end, status_counts, complete_at, too_long_exactly}
+use Rattle.hex_cli.specs.Modes.{engine_options}
+use Rattle.htp_session.specs.declared.stops.Stop.TheVariants.{ReadFault, WriteFault, ArchiveFault}
+use Rattle.hex_cli.specs.declared.ends.End.TheVariants.{Usage, Done, Stopped}
+use Rattle.hex_cli.specs.declared.limits.TheConstants.{INPUT_LIMIT}
+use Rattle.hex_cli.proofs.RunLaws.{only_htp, same_end, status_counts, complete_at, too_long_exactly}
 use Rattle.hex_cli.proofs.DeterminedLaws.{determined_at}
 use Rattle.hex_cli.proofs.SearchedMoves.{headline_at}
 use Rattle.std.proofs.Common.{subst}
-use Rattle.hex_cli.specs.Endings.{Conversed, error_line, status_of}
+use Rattle.hex_cli.specs.Statuses.{error_line, status_of}
 use Rattle.hex_cli.proofs.top.run.Goals as goal
 
 pub returns-clause-usage : goal.returns-clause-usage
@@ -17,14 +17,12 @@ returns-clause-usage g c = λ e. c.serve-end.ensures.usage (same_end c.serve-end
 
 pub returns-clause-too_long : goal.returns-clause-too_long
 returns-clause-too_long g c = λ options well_formed.
-    let all = c.serve-end.ensures.conversed options well_formed in
-    rw c.status.ensures (too_long_exactly c.serve-end.result (opening (engine_options options) options.size) all.used INPUT_LIMIT _ _ all.outcome)
+    rw c.status.ensures (too_long_exactly c.serve-end.result (engine_options options) options.size INPUT_LIMIT _ _ _ _ (c.serve-end.ensures.plays options well_formed (only_htp options.mode)))
 
 pub returns-clause-complete : goal.returns-clause-complete
 returns-clause-complete g c = λ options well_formed read write archive.
-    let all = c.serve-end.ensures.conversed options well_formed in
-    rw c.status.ensures (complete_at c.serve-end.result (opening (engine_options options) options.size) all.used INPUT_LIMIT _ _ all.outcome
-    (λ e. c.serve-end.ensures.usage e options well_formed) (λ e. read (c.serve-end.ensures.read_fault.rose e)) (λ e. write (c.serve-end.ensures.write_fault.rose e)) (λ e. archive (c.serve-end.ensures.archive_fault.rose e)))
+    rw c.status.ensures (complete_at c.serve-end.result (engine_options options) options.size INPUT_LIMIT _ _ _ _ (c.serve-end.ensures.plays options well_formed (only_htp options.mode))
+    (λ e. read (c.serve-end.ensures.read_fault.rose e)) (λ e. write (c.serve-end.ensures.write_fault.rose e)) (λ e. archive (c.serve-end.ensures.archive_fault.rose e)))
 
 pub returns-clause-errors : goal.returns-clause-errors
 returns-clause-errors g c = λ end e.
@@ -32,23 +30,23 @@ returns-clause-errors g c = λ end e.
     (c.line.ensures ∙ ap error_line (same_end c.serve-end.result end (sym c.status.ensures ∙ e))) c.report.ensures
 
 pub returns-clause-determined : goal.returns-clause-determined
-returns-clause-determined g c = λ options well_formed e.
+returns-clause-determined g c = λ options well_formed mode e.
     let done = same_end c.serve-end.result Done (sym c.status.ensures ∙ e) in
-    determined_at (engine_options options) options.size INPUT_LIMIT _ _ _ _ _ _ (rw done at c.serve-end.ensures.conversed options well_formed)
+    determined_at (engine_options options) options.size INPUT_LIMIT _ _ _ _ _ _ (rw done at c.serve-end.ensures.plays options well_formed (only_htp options.mode))
 
 pub returns-clause-well_formed : goal.returns-clause-well_formed
-returns-clause-well_formed g c = λ used ample. c.serve-end.ensures.well_formed (λ e. used (c.status.ensures ∙ ap status_of e)) (λ e. ample (c.status.ensures ∙ ap status_of e))
+returns-clause-well_formed g c = λ served. c.serve-end.ensures.well_formed (λ e. served.0 (c.status.ensures ∙ ap status_of e)) (λ e. served.1 (c.status.ensures ∙ ap status_of e))
 
 pub returns-clause-read_fault : goal.returns-clause-read_fault
-returns-clause-read_fault g c = status_counts _ _ c.serve-end.result ReadFault c.status.result c.status.ensures c.serve-end.ensures.read_fault
+returns-clause-read_fault g c = status_counts _ _ c.serve-end.result (Stopped ReadFault) c.status.result c.status.ensures c.serve-end.ensures.read_fault
 
 pub returns-clause-write_fault : goal.returns-clause-write_fault
-returns-clause-write_fault g c = status_counts _ _ c.serve-end.result WriteFault c.status.result c.status.ensures c.serve-end.ensures.write_fault
+returns-clause-write_fault g c = status_counts _ _ c.serve-end.result (Stopped WriteFault) c.status.result c.status.ensures c.serve-end.ensures.write_fault
 
 pub returns-clause-archive_fault : goal.returns-clause-archive_fault
-returns-clause-archive_fault g c = status_counts _ _ c.serve-end.result ArchiveFault c.status.result c.status.ensures c.serve-end.ensures.archive_fault
+returns-clause-archive_fault g c = status_counts _ _ c.serve-end.result (Stopped ArchiveFault) c.status.result c.status.ensures c.serve-end.ensures.archive_fault
 
 pub returns-clause-headline : goal.returns-clause-headline
-returns-clause-headline g c = λ options well_formed e.
+returns-clause-headline g c = λ options well_formed mode e.
     let done = same_end c.serve-end.result Done (sym c.status.ensures ∙ e) in
-    headline_at (engine_options options) options.size INPUT_LIMIT _ _ _ _ _ _ (rw done at c.serve-end.ensures.conversed options well_formed)
+    headline_at (engine_options options) options.size INPUT_LIMIT _ _ _ _ _ _ (rw done at c.serve-end.ensures.plays options well_formed (only_htp options.mode))

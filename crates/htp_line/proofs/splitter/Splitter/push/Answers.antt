@@ -14,5 +14,5 @@ pub returns-in-Some-clause-stream : goal.returns-in-Some-clause-stream
 returns-in-Some-clause-stream c = λ seen stands.
     let piece = c.args.piece.now in
     let at = feed_at piece c.in-Some.end (sym c.in-Some.ensures) in
-    let new : c.end.new.self ≡ record { line = grown (so_far c.args.self.now) (take c.in-Some.end piece); ended = true } = search rules in
-    subst (Advances c.end.new.self seen) (sym at.1) (goes_past c.args.self.now c.end.new.self seen (take c.in-Some.end piece) stands new at.0)
+    let new : c.close.new.self ≡ record { line = grown (so_far c.args.self.now) (take c.in-Some.end piece); ended = true } = search rules in
+    subst (Advances c.close.new.self seen) (sym at.1) (goes_past c.args.self.now c.close.new.self seen (take c.in-Some.end piece) stands new at.0)

@@ -1,0 +1,32 @@
+-- How a run ends: its status, and the line that it gives to the errors.
+use Rattle.std.specs.Prelude.{◌≡◌, ◌≢◌, ◌⊎◌, ℕ, List, [], Ok, Err, codes}
+use Rattle.htp_session.specs.Endings.{Outcome}
+use Rattle.htp_session.specs.declared.stops.Stop.TheVariants.{ReadFault, WriteFault, Memory}
+use Rattle.htp_session.specs.declared.stops.Stop.TheVariants.{TooLong, ArchiveFault}
+use Rattle.hex_cli.specs.declared.ends.End.{End}
+use Rattle.hex_cli.specs.declared.ends.End.TheVariants.{Done, Usage, Stopped}
+
+-- how a run ends whose session ended so
+abbrev pub end_for : Outcome → End
+end_for (Ok done) = Done
+end_for (Err stop) = Stopped stop
+
+-- the status of a run that ends so
+abbrev pub status_of : End → ℕ
+status_of Done = 0
+status_of Usage = 2
+status_of (Stopped ReadFault) = 3
+status_of (Stopped WriteFault) = 4
+status_of (Stopped Memory) = 5
+status_of (Stopped TooLong) = 6
+status_of (Stopped ArchiveFault) = 7
+
+-- the one line that an end gives to the errors
+abbrev pub error_line : End → List ℕ
+error_line Done = []
+error_line Usage = codes "hexd: usage\n"
+error_line (Stopped ReadFault) = codes "hexd: read fault\n"
+error_line (Stopped WriteFault) = []
+error_line (Stopped Memory) = codes "hexd: out of memory\n"
+error_line (Stopped TooLong) = codes "hexd: input too long\n"
+error_line (Stopped ArchiveFault) = codes "hexd: archive fault\n"

@@ -1,0 +1,149 @@
+-- What a line does: how its answer, or the want of one, moves a session.
+use Rattle.std.proofs.Common.{refl, ◌≡◌, ℕ, Bool, true, false, List, [], ◌++◌, ap, ◌∙◌, subst, Result, Ok, Err, take, drop, arith}
+use Rattle.std.specs.Prelude.{IfOk, OnOk}
+use Rattle.std.proofs.lemmas.List.{take-append-drop}
+use Rattle.htp_line.specs.Lines.{whole, lines}
+use Rattle.htp_line.specs.Splitting.{Held, Ends, Advances, StandsAfter}
+use Rattle.hex_engine.specs.declared.options.Options.{Options}
+use Rattle.hex_engine.specs.EngineState.{EngineState}
+use Rattle.hex_engine.specs.Supply.{Supply, nothing_left, and_then}
+use Rattle.htp_session.specs.Talk.{TalkState, Going, ending_if}
+use Rattle.htp_session.specs.Stocks.{ShelfAndArchive, UsesUp, UsesUpNothing, AnswersWith, Responds, Lacks}
+use Rattle.htp_session.specs.Devices.{DevicesState, stock}
+use Rattle.htp_session.specs.Calls.Answering.{Writes}
+use Rattle.htp_session.specs.declared.stops.Stop.{Stop}
+use Rattle.htp_session.specs.declared.stops.Stop.TheVariants.{ReadFault, WriteFault, Memory, TooLong, ArchiveFault}
+use Rattle.htp_session.specs.Sessions.{Stands, Does, DoesSome, Advanced, EndsLine, StopsBefore, AnswersShort, AnswersLast, StopsBeforeLast, LastIsShort}
+use Rattle.htp_session.proofs.SupplyLaws.{stands_options}
+use Rattle.htp_session.proofs.StockLaws.{After, uses_nothing, does_nothing}
+use Rattle.htp_session.proofs.TalkLaws.{line_advanced, none_advanced, line_short, line_ends, last_answers, last_none, last_short, last_ends}
+
+-- ---- answers that use nothing up
+
+pub says_nothing_used : (options : Options) (a : ShelfAndArchive) (says : Supply → TalkState) (text : List ℕ) (at : EngineState) (quit : Bool)
+    → ((later : Supply) → says later ≡ record { text = text; at = at; left = later; ending = ending_if quit }) → AnswersWith options a a says text at quit
+says_nothing_used options a says text at quit is = record { used = nothing_left; uses = uses_nothing options a; is = is }
+
+pub nothing_used : (options : Options) (a : ShelfAndArchive) → UsesUpNothing options a a
+nothing_used options a = record { in_vain = []; few = omega arith; uses = uses_nothing options a }
+
+-- a refusal was written, and nothing was used up
+pub refused : (d : DevicesState) (engine : EngineState) (says : Supply → TalkState) (text old out : List ℕ) (result : Result Bool Stop)
+    → ((later : Supply) → says later ≡ record { text = text; at = engine; left = later; ending = Going })
+    → OnOk result (out ≡ old ++ text) → IfOk result (λ quit. quit ≡ false) → ((s : Stop) → result ≡ Err s → s ≡ Memory)
+    → Writes d d engine engine says old out result
+refused d engine says text old out (Ok quit) is wrote none only = (text, wrote, rw none (says_nothing_used engine.options (stock d) says text engine false is))
+refused d engine says text old out (Err Memory) is wrote none only = nothing_used engine.options (stock d)
+refused d engine says text old out (Err ReadFault) is wrote none only = let e = only ReadFault refl in absurd (cc)
+refused d engine says text old out (Err WriteFault) is wrote none only = let e = only WriteFault refl in absurd (cc)
+refused d engine says text old out (Err TooLong) is wrote none only = let e = only TooLong refl in absurd (cc)
+refused d engine says text old out (Err ArchiveFault) is wrote none only = let e = only ArchiveFault refl in absurd (cc)
+
+-- ---- a line
+
+-- the engine's options are those of the conversation
+uses_of_start : (a b : ShelfAndArchive) (used : Supply) (in_vain : List Bool) (start : EngineState) (all later : Supply) (engine : EngineState) (held : Held) (seen : List ℕ)
+    → Stands start all later engine held seen → UsesUp engine.options a b used in_vain → UsesUp start.options a b used in_vain
+uses_of_start a b used in_vain start all later engine held seen stands uses = subst (λ o. UsesUp o a b used in_vain) (stands_options start all later engine held seen stands) uses
+
+-- what was written where nothing stood before
+pub written : (old out bytes : List ℕ) → old ≡ [] → out ≡ old ++ bytes → out ≡ bytes
+written old out bytes none grew = grew ∙ ap (λ l. l ++ bytes) none
+
+pub answered_line : (a b : ShelfAndArchive) (engine after : EngineState) (held new now : Held) (front old_out out : List ℕ) (quit : Bool)
+    → ((seen : List ℕ) → StandsAfter held seen → Advances new seen front) → new.ended ≡ true → now ≡ new → old_out ≡ []
+    → (bytes : List ℕ) × (out ≡ old_out ++ bytes) × Responds a b engine new.line bytes after quit
+    → Does a b [] engine held (λ start all later seen. Advanced quit start all later after now out seen front)
+answered_line a b engine after held new now front old_out out quit stream ended same none r =
+    let text : out ≡ r.0 = written old_out out r.0 none r.1 in
+    record {
+      used = r.2.used;
+      stood = λ start all later seen here. (
+        uses_of_start a b r.2.used [] start all (and_then r.2.used later) engine held seen here r.2.uses,
+        rw (same, text) (line_advanced start all (and_then r.2.used later) later engine after held new seen front r.0 quit here (stream seen here.in_hand) ended (r.2.is later)),
+      );
+    }
+
+pub open_line : (a : ShelfAndArchive) (engine : EngineState) (held new : Held) (front out : List ℕ)
+    → ((seen : List ℕ) → StandsAfter held seen → Advances new seen front) → new.ended ≡ false → out ≡ []
+    → Does a a [] engine held (λ start all later seen. Advanced false start all later engine new out seen front)
+open_line a engine held new front out stream ended none =
+    does_nothing a engine held (λ start all later seen. Advanced false start all later engine new out seen front)
+    (λ start all later seen here. none_advanced start all later engine held new seen front out here (stream seen here.in_hand) ended none)
+
+-- memory ran out, and nothing was used up
+pub stopped : (a b : ShelfAndArchive) (engine : EngineState) (held : Held) (Now : After) → ((start : EngineState) (all later : Supply) (seen : List ℕ) → Stands start all later engine held seen → Now start all later seen)
+    → UsesUpNothing engine.options a b → DoesSome a b engine held Now
+stopped a b engine held Now go s = (
+  s.in_vain,
+  s.few,
+  record {
+    used = nothing_left;
+    stood = λ start all later seen here. (
+      uses_of_start a b nothing_left s.in_vain start all later engine held seen here s.uses,
+      go start all later seen here,
+    );
+  },
+)
+
+pub stopped_line : (a b : ShelfAndArchive) (engine : EngineState) (held new : Held) (piece : List ℕ) (n : ℕ)
+    → ((seen : List ℕ) → StandsAfter held seen → Advances new seen (take n piece)) → new.ended ≡ true
+    → UsesUpNothing engine.options a b → DoesSome a b engine held (λ start all later seen. StopsBefore start all later seen piece)
+stopped_line a b engine held new piece n stream ended s =
+    stopped a b engine held (λ start all later seen. StopsBefore start all later seen piece)
+    (λ start all later seen here. record {
+      left = here.left;
+      line = subst (EndsLine seen) (take-append-drop n piece) (line_ends new seen (take n piece) (drop n piece) (stream seen here.in_hand) ended);
+    }) s
+
+pub short_line : (a b : ShelfAndArchive) (engine : EngineState) (held new : Held) (piece : List ℕ) (n : ℕ)
+    → ((seen : List ℕ) → StandsAfter held seen → Advances new seen (take n piece)) → new.ended ≡ true
+    → Lacks a b engine new.line → Does a b [] engine held (λ start all later seen. AnswersShort start all later [] seen piece)
+short_line a b engine held new piece n stream ended s = record {
+  used = nothing_left;
+  stood = λ start all later seen here. (
+    uses_of_start a b nothing_left [] start all later engine held seen here s.uses,
+    subst (AnswersShort start all later [] seen) (take-append-drop n piece) (line_short start all later engine held new seen (take n piece) (drop n piece) here (stream seen here.in_hand) ended s.is),
+  );
+}
+
+-- ---- the last line
+
+pub answered_last : (a b : ShelfAndArchive) (engine after : EngineState) (held new : Held) (old_out out : List ℕ) (quit : Bool)
+    → ((seen : List ℕ) → StandsAfter held seen → Ends new.ended new.line (whole seen) (lines seen)) → new.ended ≡ true → old_out ≡ []
+    → (bytes : List ℕ) × (out ≡ old_out ++ bytes) × Responds a b engine new.line bytes after quit
+    → Does a b [] engine held (λ start all later seen. AnswersLast start all later out seen)
+answered_last a b engine after held new old_out out quit stream ended none r =
+    let text : out ≡ r.0 = written old_out out r.0 none r.1 in
+    record {
+      used = r.2.used;
+      stood = λ start all later seen here. (
+        uses_of_start a b r.2.used [] start all (and_then r.2.used later) engine held seen here r.2.uses,
+        rw text (last_answers start all (and_then r.2.used later) later engine after held new seen r.0 quit here (stream seen here.in_hand) ended (r.2.is later)),
+      );
+    }
+
+pub no_last : (a : ShelfAndArchive) (engine : EngineState) (held new : Held) (out : List ℕ)
+    → ((seen : List ℕ) → StandsAfter held seen → Ends new.ended new.line (whole seen) (lines seen)) → new.ended ≡ false → out ≡ []
+    → Does a a [] engine held (λ start all later seen. AnswersLast start all later out seen)
+no_last a engine held new out stream ended none =
+    does_nothing a engine held (λ start all later seen. AnswersLast start all later out seen)
+    (λ start all later seen here. last_none start all later engine held new seen out here (stream seen here.in_hand) ended none)
+
+pub stopped_last : (a b : ShelfAndArchive) (engine : EngineState) (held new : Held)
+    → ((seen : List ℕ) → StandsAfter held seen → Ends new.ended new.line (whole seen) (lines seen)) → new.ended ≡ true
+    → UsesUpNothing engine.options a b → DoesSome a b engine held (λ start all later seen. StopsBeforeLast start all later seen)
+stopped_last a b engine held new stream ended s =
+    stopped a b engine held (λ start all later seen. StopsBeforeLast start all later seen)
+    (λ start all later seen here. record { left = here.left; line = last_ends new seen (stream seen here.in_hand) ended }) s
+
+pub lacking_last : (a b : ShelfAndArchive) (engine : EngineState) (held new : Held)
+    → ((seen : List ℕ) → StandsAfter held seen → Ends new.ended new.line (whole seen) (lines seen)) → new.ended ≡ true
+    → Lacks a b engine new.line → Does a b [] engine held (λ start all later seen. LastIsShort start all later seen)
+lacking_last a b engine held new stream ended s = record {
+  used = nothing_left;
+  stood = λ start all later seen here. (
+    uses_of_start a b nothing_left [] start all later engine held seen here s.uses,
+    last_short start all later engine held new seen here (stream seen here.in_hand) ended s.is,
+  );
+}

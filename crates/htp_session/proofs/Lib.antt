@@ -1,0 +1,17 @@
+pub mod TalkLaws
+pub mod Pieces
+pub mod Given
+pub mod Keeping
+pub mod EndLaws
+pub mod Reactions
+pub mod SupplyLaws
+pub mod StockLaws
+pub mod Advances
+pub mod Feeding
+pub mod Calling
+pub mod Conversations
+pub mod Outcomes
+pub mod OneWorkerLoads
+pub mod OneWorkerMoves
+pub mod OneWorker
+pub mod LegalMoves

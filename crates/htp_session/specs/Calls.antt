@@ -1,0 +1,6 @@
+-- What each call does with the devices, and by its result what stands then: a file of relations
+-- beside each file of calls. `old` and `new` are the devices as the call begins and ends.
+pub mod Devices
+pub mod Answering
+pub mod Session
+pub mod Conversation

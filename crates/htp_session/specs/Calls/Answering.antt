@@ -1,0 +1,39 @@
+-- What an answer to a line does.
+use Rattle.std.specs.Prelude.{◌≡◌, ℕ, Bool, List, ◌++◌, Result, Ok, Err}
+use Rattle.std.specs.declared.option.Option.{Option}
+use Rattle.htp_line.specs.Reading.{Asked, Ask}
+use Rattle.hex_engine.specs.EngineState.{EngineState}
+use Rattle.hex_engine.specs.Supply.{Supply}
+use Rattle.htp_session.specs.Talk.{TalkState, after_line, after_reading}
+use Rattle.htp_session.specs.Stocks.{AnswersWith, Wants, UsesUpNothing}
+use Rattle.htp_session.specs.Devices.{DevicesState, stock}
+use Rattle.htp_session.specs.declared.stops.Stop.{Stop}
+use Rattle.htp_session.specs.declared.stops.Stop.TheVariants.{ReadFault, WriteFault, Memory}
+use Rattle.htp_session.specs.declared.stops.Stop.TheVariants.{TooLong, ArchiveFault}
+
+-- what is to be written grew by what this says, after which the engine stands so; or nothing was
+-- used up, and memory or a turn was wanted
+abbrev pub Writes : DevicesState → DevicesState → EngineState → EngineState → (Supply → TalkState)
+    → List ℕ → List ℕ → Result Bool Stop → Type 0
+Writes old new before after says out out_now (Ok quit) =
+    (bytes : List ℕ) × (out_now ≡ out ++ bytes)
+    × AnswersWith before.options (stock old) (stock new) says bytes after quit
+Writes old new before after says out out_now (Err ReadFault) = ⊥
+Writes old new before after says out out_now (Err WriteFault) = ⊥
+Writes old new before after says out out_now (Err Memory) =
+    UsesUpNothing before.options (stock old) (stock new)
+Writes old new before after says out out_now (Err TooLong) = ⊥
+Writes old new before after says out out_now (Err ArchiveFault) =
+    Wants before.options (stock old) (stock new) before says
+
+-- the same of a line, as far as it is kept
+abbrev pub WritesAnswer : DevicesState → DevicesState → EngineState → EngineState
+    → Option (List ℕ) → List ℕ → List ℕ → Result Bool Stop → Type 0
+WritesAnswer old new before after line =
+    Writes old new before after (λ left. after_line before left line)
+
+-- the same of a request
+abbrev pub WritesReply : DevicesState → DevicesState → EngineState → EngineState
+    → Asked → List ℕ → List ℕ → Result Bool Stop → Type 0
+WritesReply old new before after asked =
+    Writes old new before after (λ left. after_reading before left (Ask asked))

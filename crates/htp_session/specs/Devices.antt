@@ -1,0 +1,41 @@
+-- What the devices of a conversation tell, and what a call did to their counts of faults.
+use Rattle.std.specs.Prelude.{◌≡◌, ℕ, List, Option, Some, None, Result, Ok, Err}
+use Rattle.hex_io.specs.Told.{Told}
+use Rattle.hex_io.specs.Shelves.{Shelved}
+use Rattle.hex_io.specs.Causes.{CountsFault}
+use Rattle.hex_plan.specs.Turns.{Decision}
+use Rattle.htp_session.specs.Stocks.{ShelfAndArchive}
+use Rattle.htp_session.specs.declared.stops.Stop.{Stop}
+use Rattle.htp_session.specs.declared.stops.Stop.TheVariants.{ReadFault, WriteFault, ArchiveFault}
+
+-- What a link, a shelf and an archive tell, where they do, and their counts of faults. The names
+-- are those of the three references, and stand still.
+pub record DevicesState : Type 0 where
+  pub link : Option Told
+  pub read_faults : ℕ
+  pub write_faults : ℕ
+  pub shelf : Option Shelved
+  pub fetch_faults : ℕ
+  pub turns : Option (List Decision)
+  pub archive_faults : ℕ
+  pub names : ℕ × ℕ × ℕ
+
+-- what the shelf and the archive tell
+abbrev pub stock : DevicesState → ShelfAndArchive
+stock devices = (devices.shelf, devices.turns)
+
+-- why a call stopped, if it did
+abbrev pub stop_of : {T : Type 0} → Result T Stop → Option Stop
+stop_of (Ok value) = None
+stop_of (Err stop) = Some stop
+
+-- each count of faults rose with its own stop, and is as before with every other answer
+pub record CountsStop (old new : DevicesState) (stop : Option Stop) : Type 0 where
+  pub reads : CountsFault old.read_faults new.read_faults (stop ≡ Some ReadFault)
+  pub writes : CountsFault old.write_faults new.write_faults (stop ≡ Some WriteFault)
+  pub archives : CountsFault old.archive_faults new.archive_faults (stop ≡ Some ArchiveFault)
+  pub names : new.names ≡ old.names
+
+-- the same of a call that answers so
+abbrev pub CountsFaults : {T : Type 0} → DevicesState → DevicesState → Result T Stop → Type 0
+CountsFaults old new result = CountsStop old new (stop_of result)

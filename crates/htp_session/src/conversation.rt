@@ -1,0 +1,60 @@
+//! A conversation from its first byte to its end.
+
+ghost use Rattle.std.specs.Prelude.{◌≡◌};
+ghost use Rattle.tree_words.specs.Settings.{AreInRange};
+ghost use Rattle.htp_session.specs.Devices.{CountsFaults};
+ghost use Rattle.htp_session.specs.Calls.Conversation.{Converses};
+
+use crate::devices::Devices;
+use crate::session::Session;
+use crate::stops::Stop;
+use hex_cells::Size;
+use hex_engine::Options;
+use hex_io::{Link, Shelf};
+use hex_plan::Archive;
+use std::alloc::Global;
+
+/// The most bytes of one read.
+const PIECE: usize = 16_384;
+
+/// Answers what the link has, up to `limit` bytes. All whole lines are answered before the next
+/// read, also before the one byte after the limit is asked for. What fails first ends it: nothing
+/// is read, written or handed over after a fault.
+///
+/// The knobs of the options are in their ranges. It refuses nothing else.
+pub fn converse<L: Link, F: Shelf, A: Archive>(
+    alloc: Global,
+    devices: &mut Devices<'_, '_, '_, L, F, A>,
+    options: &Options,
+    size: Size,
+    limit: usize,
+) -> Result<(), Stop>
+    requires { AreInRange options.now.knobs }
+    ensures converses { Converses options.now size limit devices.old devices.new result }
+    ensures counts { CountsFaults devices.old devices.new result }
+{
+    let Ok(mut session) = Session::make(alloc, options, size) else {
+        return Err(Stop::Memory);
+    };
+    let mut buffer = [0u8; PIECE];
+    let mut total = 0;
+    'pieces: loop {
+        let room = buffer.len().min((limit - total).max(1));
+        let count = match devices.read(&mut buffer, room) {
+            Err(stop) => return Err(stop),
+            Ok(count) => count,
+        };
+        if count == 0 {
+            return session.finish(alloc, devices);
+        }
+        if total == limit {
+            return Err(Stop::TooLong);
+        }
+        match session.feed(alloc, devices, &buffer[..count]) {
+            Err(stop) => return Err(stop),
+            Ok(true) => return Ok(()),
+            Ok(false) => {}
+        }
+        total += count;
+    }
+}

@@ -1,0 +1,85 @@
+//! The devices of a conversation: a link, a shelf and an archive.
+
+ghost use Rattle.std.specs.Prelude.{◌≡◌, ◌<◌, ◌≤◌, length, IfOk};
+ghost use Rattle.htp_line.specs.Reading.{asked_of};
+ghost use Rattle.htp_session.specs.Devices.{CountsFaults, stock};
+ghost use Rattle.htp_session.specs.Calls.Devices.{ReadsSome, GivesAll, Asks};
+
+use crate::stops::Stop;
+use hex_engine::{Answer, Engine, EngineError};
+use hex_io::{Link, Shelf, give};
+use hex_plan::Archive;
+use htp_line::Request;
+use std::marker::Model;
+
+/// What a conversation is held over.
+///
+/// Contracts see what the three tell, where they do, and their counts of faults.
+#[derive(Drop)]
+pub struct Devices<'a, 'b, 'c, L: Link, F: Shelf, A: Archive> {
+    /// Requests come from it, and answers go to it.
+    pub link: &'a mut L,
+    /// It has the files that are fetched.
+    pub shelf: &'b mut F,
+    /// It takes the searched turns.
+    pub archive: &'c mut A,
+}
+
+impl<'a, 'b, 'c, L: Link, F: Shelf, A: Archive> Model for Devices<'a, 'b, 'c, L, F, A> {
+    ghost use Rattle.htp_session.specs.Devices.{DevicesState};
+
+    ghost Value = { DevicesState };
+
+    ghost view = { λ d. record {
+      link = L.told d.link.now;
+      read_faults = L.read_faults d.link.now;
+      write_faults = L.write_faults d.link.now;
+      shelf = F.told d.shelf.now;
+      fetch_faults = F.faults d.shelf.now;
+      turns = A.told d.archive.now;
+      archive_faults = A.faults d.archive.now;
+      names = (d.link.ghost_name, d.shelf.ghost_name, d.archive.ghost_name);
+    } };
+}
+
+impl<L: Link, F: Shelf, A: Archive> Devices<'_, '_, '_, L, F, A> {
+    /// Reads at most `room` bytes to the front of the buffer.
+    pub fn read(&mut self, buffer: &mut [u8], room: usize) -> Result<usize, Stop>
+        requires some { 0 < room }
+        requires fits { room ≤ length buffer.old }
+        ensures bound { IfOk result (λ n. n ≤ room) }
+        ensures reads { ReadsSome self.old self.new buffer.new result }
+        ensures stock { stock self.new ≡ stock self.old }
+        ensures counts { CountsFaults self.old self.new result }
+    {
+        match self.link.read(&mut buffer[..room]) {
+            Err(_) => Err(Stop::ReadFault),
+            Ok(count) => Ok(count),
+        }
+    }
+
+    /// Gives all of the bytes. At a fault a front of them was given.
+    pub fn give(&mut self, bytes: &[u8]) -> Result<(), Stop>
+        ensures gives { GivesAll self.old self.new bytes.now result }
+        ensures stock { stock self.new ≡ stock self.old }
+        ensures counts { CountsFaults self.old self.new result }
+    {
+        match give(&mut *self.link, bytes) {
+            Err(_) => Err(Stop::WriteFault),
+            Ok(()) => Ok(()),
+        }
+    }
+
+    /// Asks the engine for its answer to a request.
+    pub fn ask(&mut self, engine: &mut Engine, request: &Request) -> Result<Answer, Stop>
+        ensures asks { Asks self.old self.new engine.old engine.new (asked_of request.now) result }
+        ensures link { self.new.link ≡ self.old.link }
+        ensures counts { CountsFaults self.old self.new result }
+    {
+        match engine.line(request, &mut *self.shelf, &mut *self.archive) {
+            Err(EngineError::Memory) => Err(Stop::Memory),
+            Err(EngineError::Archive) => Err(Stop::ArchiveFault),
+            Ok(answer) => Ok(answer),
+        }
+    }
+}

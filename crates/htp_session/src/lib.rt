@@ -1,0 +1,49 @@
+//! A session of the protocol: the conversation over a link, from its first byte to its end.
+//!
+//! **What it is.** A *conversation* takes the input piece by piece, cuts it into raw lines and
+//! answers each. What it *uses up* are the files that it fetches from its shelf and the turns that
+//! it hands to its archive, each in turn. The *talk* over a list of raw lines, with some files and
+//! turns to use up, is what answers the lines, by definition: its text, what the conversation
+//! stands at then, what is left to be used up, and whether it goes on, ended with an answered
+//! `quit`, or fell short of a file or a turn. Nothing of pieces, buffers or searches is in it.
+//!
+//! **A caller** makes the [`Devices`], a link, a shelf and an archive, says the engine's options, the
+//! size of the first board and the most bytes that are answered, and learns how it ended:
+//!
+//! ```text
+//! let outcome = converse(alloc, &mut devices, &options, size, limit);
+//! ```
+//!
+//! **What is proved**, in the words of `specs/Endings.antt`: where the link tells it, what was
+//! given is the talk over the lines of what was taken, as far as each outcome says, with the files
+//! that came of the shelf's fetches and the turns that the archive took, each of which is good. All
+//! whole lines taken were answered before the next read, and no read that was answered follows an
+//! answered `quit`. What fails first ends it: a count of faults rose with its own [`Stop`] and is
+//! as before with every other outcome. More at the end of what a talk has to use up changes nothing
+//! of it ([`more_left_is_not_used`]); with one worker it is determined
+//! ([`one_worker_is_determined`], [`one_worker_and_one_shelf_determine`]); and a searched move is
+//! legal where it is played ([`searched_moves_are_legal`]).
+//!
+//! **Only tested, or not said.** That memory suffices: it may always stop for want of memory, which
+//! no clause ties to a refused growth. That after a fault nothing is read or written.
+//!
+//! **Limits.** Each answer is given before the next line is looked at, so no memory grows with the
+//! input but the game's own.
+#![tactic(auto)]
+
+mod answering;
+mod conversation;
+mod devices;
+mod laws;
+mod session;
+mod stops;
+#[cfg(test)]
+mod tests;
+
+pub use conversation::converse;
+pub use devices::Devices;
+pub use laws::{
+    more_left_is_not_used, one_worker_and_one_shelf_determine, one_worker_is_determined,
+    searched_moves_are_legal,
+};
+pub use stops::Stop;

@@ -1,0 +1,171 @@
+//! A session: what comes in piece by piece, and what is owed for it.
+
+ghost use Rattle.std.specs.Prelude.{◌≡◌, ◌<◌, ◌≤◌, length, IfOk, true, List, ℕ, []};
+ghost use Rattle.tree_words.specs.Settings.{AreInRange};
+ghost use Rattle.hex_engine.specs.EngineState.{opening};
+ghost use Rattle.hex_engine.specs.Supply.{Supply};
+ghost use Rattle.htp_session.specs.Devices.{CountsFaults, stock};
+
+use crate::answering::respond;
+use crate::devices::Devices;
+use crate::stops::Stop;
+use hex_cells::Size;
+use hex_engine::{Engine, Memory, Options};
+use hex_io::{Link, Shelf};
+use hex_plan::Archive;
+use htp_line::Splitter;
+use std::alloc::Global;
+
+/// How far one line went.
+#[derive(Clone, Copy, Debug)]
+struct Moved {
+    used: usize,
+    quit: bool,
+}
+
+/// The engine, the line in hand, and the answer to the last line.
+#[derive(Drop)]
+pub struct Session {
+    engine: Engine,
+    splitter: Splitter,
+    out: Vec<u8>,
+}
+
+impl Session {
+    ghost use Rattle.htp_session.specs.Sessions.{Stands};
+    ghost use Rattle.htp_session.specs.Calls.Answering.{WritesAnswer};
+    ghost use Rattle.htp_session.specs.Calls.Session.{AdvancesBy, AnswersEnd};
+
+    /// A session before its first byte.
+    pub fn make(alloc: Global, options: &Options, size: Size) -> Result<Session, Memory>
+        requires { AreInRange options.now.knobs }
+        ensures stands { IfOk result
+            (λ s. (later : Supply) →
+            Stands (opening options.now size) later later s.engine s.splitter []) }
+    {
+        let engine = Engine::make(alloc, options, size)?;
+        let Ok(splitter) = Splitter::make(alloc) else {
+            return Err(Memory);
+        };
+        Ok(Session {
+            engine,
+            splitter,
+            out: Vec::new(alloc),
+        })
+    }
+
+    /// Answers the line that ended, at the end of `out`, and says whether quit was answered.
+    fn answer<L: Link, F: Shelf, A: Archive>(
+        &mut self,
+        alloc: Global,
+        devices: &mut Devices<'_, '_, '_, L, F, A>,
+    ) -> Result<bool, Stop>
+        requires ended { self.old.splitter.ended ≡ true }
+        ensures writes { WritesAnswer devices.old devices.new self.old.engine self.new.engine
+            self.old.splitter.line self.old.out.items self.new.out.items result }
+        ensures splitter { self.new.splitter ≡ self.old.splitter }
+        ensures link { devices.new.link ≡ devices.old.link }
+        ensures counts { CountsFaults devices.old devices.new result }
+    {
+        let raw = self.splitter.line();
+        respond(alloc, &mut self.engine, devices, raw, &mut self.out)
+    }
+
+    /// Takes up to one line off the front of the piece. `out` is the answer to it then.
+    fn advance<L: Link, F: Shelf, A: Archive>(
+        &mut self,
+        alloc: Global,
+        devices: &mut Devices<'_, '_, '_, L, F, A>,
+        piece: &[u8],
+    ) -> Result<Moved, Stop>
+        requires some { 0 < length piece.now }
+        ensures used { IfOk result (λ m. (0 < m.used) × (m.used ≤ length piece.now)) }
+        ensures advances { AdvancesBy devices.old devices.new self.old self.new piece.now result }
+        ensures link { devices.new.link ≡ devices.old.link }
+        ensures counts { CountsFaults devices.old devices.new result }
+    {
+        self.out.clear();
+        let fed = self.splitter.push(piece);
+        if !fed.ended {
+            return Ok(Moved {
+                used: fed.used,
+                quit: false,
+            });
+        }
+        match self.answer(alloc, devices) {
+            Err(stop) => Err(stop),
+            Ok(quit) => Ok(Moved {
+                used: fed.used,
+                quit,
+            }),
+        }
+    }
+
+    /// Takes the last line, where no line feed ends it. `out` is the answer to it then.
+    fn last<L: Link, F: Shelf, A: Archive>(
+        &mut self,
+        alloc: Global,
+        devices: &mut Devices<'_, '_, '_, L, F, A>,
+    ) -> Result<(), Stop>
+        ensures answers { AnswersEnd devices.old devices.new self.old self.new result }
+        ensures link { devices.new.link ≡ devices.old.link }
+        ensures counts { CountsFaults devices.old devices.new result }
+    {
+        self.out.clear();
+        if !self.splitter.finish() {
+            return Ok(());
+        }
+        match self.answer(alloc, devices) {
+            Err(stop) => Err(stop),
+            Ok(_) => Ok(()),
+        }
+    }
+}
+
+impl Session {
+    ghost use Rattle.htp_session.specs.Calls.Session.{Feeds, Finishes};
+
+    /// Takes a piece and answers each line that ends in it, each before the next is looked at. It
+    /// says whether quit was answered.
+    pub fn feed<L: Link, F: Shelf, A: Archive>(
+        &mut self,
+        alloc: Global,
+        devices: &mut Devices<'_, '_, '_, L, F, A>,
+        piece: &[u8],
+    ) -> Result<bool, Stop>
+        ensures feeds { Feeds devices.old devices.new self.old self.new piece.now result }
+        ensures counts { CountsFaults devices.old devices.new result }
+    {
+        let mut at = 0;
+        'lines: while at < piece.len() {
+            let moved = match self.advance(alloc, devices, &piece[at..]) {
+                Err(stop) => return Err(stop),
+                Ok(moved) => moved,
+            };
+            match devices.give(&self.out) {
+                Err(stop) => return Err(stop),
+                Ok(()) => {}
+            }
+            if moved.quit {
+                return Ok(true);
+            }
+            at += moved.used;
+        }
+        Ok(false)
+    }
+
+    /// Answers the last line, where no line feed ends it.
+    pub fn finish<L: Link, F: Shelf, A: Archive>(
+        &mut self,
+        alloc: Global,
+        devices: &mut Devices<'_, '_, '_, L, F, A>,
+    ) -> Result<(), Stop>
+        ensures finishes { Finishes devices.old devices.new self.old result }
+        ensures counts { CountsFaults devices.old devices.new result }
+    {
+        match self.last(alloc, devices) {
+            Err(stop) => Err(stop),
+            Ok(()) => devices.give(&self.out),
+        }
+    }
+}

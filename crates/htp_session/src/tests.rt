@@ -1,0 +1,70 @@
+//! Sessions over links in memory that take at most so many bytes.
+
+ghost use Rattle.tree_words.specs.Settings.{AreInRange};
+
+use crate::{Devices, Stop, converse};
+use hex_cells::Size;
+use hex_engine::Options;
+use hex_io::{MemLink, MemShelf};
+use hex_plan::NoArchive;
+use std::alloc::Global;
+use std::process::Abort;
+use std::test::Fail;
+use tree_words::Knobs;
+
+/// The options of a command line that says nothing.
+fn options() -> Options
+    ensures { AreInRange result.knobs }
+{
+    let knobs = Knobs {
+        workers: 1,
+        playouts: 10_000,
+        seed: 0,
+        words: 4_194_304,
+        expand: 8,
+        weight: 180,
+    };
+    Options {
+        knobs,
+        hsearch: false,
+    }
+}
+
+/// The outcome of a conversation that takes at most this many bytes.
+fn end_within(
+    rt: &(impl Abort + Alloc<A = Global>),
+    input: &[u8],
+    piece: usize,
+    limit: usize,
+    given: &[u8],
+) -> Result<Result<(), Stop>, Fail> {
+    let alloc = rt.alloc();
+    let size = Size::of(11).ok_or("no size")?;
+    let (reads, writes) = (Vec::new(alloc), Vec::new(alloc));
+    let input = input.to_vec(alloc)?;
+    let mut link = MemLink::make(alloc, input, piece.max(1), 100_000, 20_000, reads, writes)?;
+    let mut shelf = MemShelf::make(alloc, Vec::new(alloc), Vec::new(alloc))?;
+    let mut devices = Devices {
+        link: &mut link,
+        shelf: &mut shelf,
+        archive: &mut NoArchive,
+    };
+    let end = converse(alloc, &mut devices, &options(), size, limit);
+    assert_eq!(rt; link.given(), given);
+    Ok(end)
+}
+
+#[test]
+fn limits(rt: HostRuntime) -> Result<(), Fail> {
+    for piece in [1, 3, 100] {
+        let over = end_within(&rt, b"name\nname\n", piece, 5, b"= hexd\n\n")?;
+        assert_eq!(rt; over, Err(Stop::TooLong));
+        let within_a_line = end_within(&rt, b"name\nname\n", piece, 7, b"= hexd\n\n")?;
+        assert_eq!(rt; within_a_line, Err(Stop::TooLong));
+        let exact = end_within(&rt, b"name\nname", piece, 9, b"= hexd\n\n= hexd\n\n")?;
+        assert_eq!(rt; exact, Ok(()));
+        let quit = end_within(&rt, b"quit\nname\n", piece, 5, b"= \n\n")?;
+        assert_eq!(rt; quit, Ok(()));
+    }
+    Ok(())
+}
