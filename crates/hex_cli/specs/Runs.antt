@@ -43,7 +43,7 @@ pub record Untouched {L : Type 0} (l : links.Ghosts L) (old new : L) : Type 0 wh
 
 -- nothing was fetched from the shelf and nothing handed to the archive: they tell the same and have
 -- counted no fault
-pub record Unused {F A : Type 0} (f : shelves.Ghosts F) (a : archives.Ghosts A)
+pub record Idle {F A : Type 0} (f : shelves.Ghosts F) (a : archives.Ghosts A)
     (files files_now : F) (turns turns_now : A) : Type 0 where
   pub shelf : Same (f.told files) (f.told files_now)
   pub faults : f.faults files_now ≡ f.faults files

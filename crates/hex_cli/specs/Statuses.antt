@@ -1,6 +1,7 @@
 -- How a run ends: its status, and the line that it gives to the errors.
-use Rattle.std.specs.Prelude.{◌≡◌, ◌≢◌, ◌⊎◌, ℕ, List, [], Ok, Err, codes}
+use Rattle.std.specs.Prelude.{◌≡◌, ℕ, List, [], Ok, Err, codes}
 use Rattle.htp_session.specs.Endings.{Outcome}
+use Rattle.htp_session.specs.declared.stops.Stop.{Stop}
 use Rattle.htp_session.specs.declared.stops.Stop.TheVariants.{ReadFault, WriteFault, Memory}
 use Rattle.htp_session.specs.declared.stops.Stop.TheVariants.{TooLong, ArchiveFault}
 use Rattle.hex_cli.specs.declared.ends.End.{End}
@@ -20,6 +21,10 @@ status_of (Stopped WriteFault) = 4
 status_of (Stopped Memory) = 5
 status_of (Stopped TooLong) = 6
 status_of (Stopped ArchiveFault) = 7
+
+-- the status of a run that stopped for this
+abbrev pub HasStopped : ℕ → Stop → Type 0
+HasStopped status stop = status ≡ status_of (Stopped stop)
 
 -- the one line that an end gives to the errors
 abbrev pub error_line : End → List ℕ

@@ -3,7 +3,9 @@
 ghost use Rattle.std.specs.Prelude.{◌≡◌, ◌^◌, ◌<◌, ◌≤◌};
 ghost use Rattle.tree_words.specs.Settings.{AreInRange};
 ghost use Rattle.hexd_words.specs.Values as value;
-ghost use Rattle.htp_session.specs.declared.stops.Stop.{Stop};
+ghost use Rattle.htp_session.specs.declared.stops.Stop.TheVariants.{ReadFault, WriteFault};
+ghost use Rattle.htp_session.specs.declared.stops.Stop.TheVariants.{ArchiveFault};
+ghost use Rattle.hex_cli.specs.declared.ends.End.TheVariants.{Stopped};
 ghost use Rattle.hex_cli.specs.Modes.{PlaysTo, engine_options};
 ghost use Rattle.hex_cli.specs.Runs.{CountsReads, CountsWrites, CountsTurns};
 
@@ -30,11 +32,11 @@ pub fn play<L: Link, F: Shelf, A: Archive>(
     ensures plays { PlaysTo L.Link F.Shelf A.Archive options.now result
         (link.old, shelf.old, archive.old) (link.new, shelf.new, archive.new) }
     ensures read_fault { CountsReads L.Link link.old link.new
-        (result ≡ End.Stopped Stop.ReadFault) }
+        (result ≡ Stopped ReadFault) }
     ensures write_fault { CountsWrites L.Link link.old link.new
-        (result ≡ End.Stopped Stop.WriteFault) }
+        (result ≡ Stopped WriteFault) }
     ensures archive_fault { CountsTurns A.Archive archive.old archive.new
-        (result ≡ End.Stopped Stop.ArchiveFault) }
+        (result ≡ Stopped ArchiveFault) }
 {
     let mut devices = Devices {
         link,

@@ -2,11 +2,14 @@
 
 ghost use Rattle.std.specs.Prelude.{◌≡◌, ◌≢◌, ◌⊎◌};
 ghost use Rattle.htp_session.specs.declared.stops.Stop.{Stop};
+ghost use Rattle.htp_session.specs.declared.stops.Stop.TheVariants.{ReadFault, WriteFault};
+ghost use Rattle.htp_session.specs.declared.stops.Stop.TheVariants.{Memory, ArchiveFault};
+ghost use Rattle.hex_cli.specs.declared.ends.End.TheVariants.{Stopped};
 ghost use Rattle.hex_cli.specs.Runs.{AreWellFormed, AreRefused, IsServed, IsRefusal, Untouched};
-ghost use Rattle.hex_cli.specs.Runs.{Unused, PlaysInMode, PlaysBy, HasHeadline, Determines};
+ghost use Rattle.hex_cli.specs.Runs.{Idle, PlaysInMode, PlaysBy, HasHeadline, Determines};
 ghost use Rattle.hex_cli.specs.Runs.{CountsReads, CountsWrites, CountsTurns, IsTooLong};
 ghost use Rattle.hex_cli.specs.Runs.{Completes, Reports};
-ghost use Rattle.hex_cli.specs.Statuses.{status_of};
+ghost use Rattle.hex_cli.specs.Statuses.{status_of, HasStopped};
 ghost use Rattle.hex_cli.specs.declared.ends.End.{End};
 
 use crate::ends::End;
@@ -52,7 +55,7 @@ pub fn run<L: Link, E: Link, F: Shelf, A: Archive>(
     ensures refused { AreRefused words.now → IsRefusal result }
     ensures untouched { AreRefused words.now → Untouched L.Link link.old link.new }
     ensures unused { AreRefused words.now
-        → Unused F.Shelf A.Archive shelf.old shelf.new archive.old archive.new }
+        → Idle F.Shelf A.Archive shelf.old shelf.new archive.old archive.new }
 
     // Mode htp: what was taken and given, and when, where the link tells it; and what was used up
     // from the shelf and for the archive. Then each searched move; and that with one worker all is
@@ -67,11 +70,11 @@ pub fn run<L: Link, E: Link, F: Shelf, A: Archive>(
     // The causes. What fails first ends the run: a count rose with its own status, and is as before
     // with every other.
     ensures read_fault { CountsReads L.Link link.old link.new
-        (result ≡ status_of (End.Stopped Stop.ReadFault)) }
+        (HasStopped result ReadFault) }
     ensures write_fault { CountsWrites L.Link link.old link.new
-        (result ≡ status_of (End.Stopped Stop.WriteFault)) }
+        (HasStopped result WriteFault) }
     ensures archive_fault { CountsTurns A.Archive archive.old archive.new
-        (result ≡ status_of (End.Stopped Stop.ArchiveFault)) }
+        (HasStopped result ArchiveFault) }
     ensures too_long { IsTooLong L.Link words.now result link.old link.new }
     ensures complete { Completes L.Link A.Archive words.now result
         link.old link.new archive.old archive.new }
@@ -93,21 +96,21 @@ fn serve<L: Link, F: Shelf, A: Archive>(
     archive: &mut A,
 ) -> End
     ensures usage { result ≡ End.Usage → AreRefused words.now }
-    ensures well_formed { result ≢ End.Usage → result ≢ End.Stopped Stop.Memory
+    ensures well_formed { result ≢ End.Usage → result ≢ Stopped Memory
         → AreWellFormed words.now }
     ensures refused { AreRefused words.now
-        → (result ≡ End.Usage) ⊎ (result ≡ End.Stopped Stop.Memory) }
+        → (result ≡ End.Usage) ⊎ (result ≡ Stopped Memory) }
     ensures untouched { AreRefused words.now → Untouched L.Link link.old link.new }
     ensures unused { AreRefused words.now
-        → Unused F.Shelf A.Archive shelf.old shelf.new archive.old archive.new }
+        → Idle F.Shelf A.Archive shelf.old shelf.new archive.old archive.new }
     ensures plays { PlaysInMode L.Link F.Shelf A.Archive words.now result
         (link.old, shelf.old, archive.old) (link.new, shelf.new, archive.new) }
     ensures read_fault { CountsReads L.Link link.old link.new
-        (result ≡ End.Stopped Stop.ReadFault) }
+        (result ≡ Stopped ReadFault) }
     ensures write_fault { CountsWrites L.Link link.old link.new
-        (result ≡ End.Stopped Stop.WriteFault) }
+        (result ≡ Stopped WriteFault) }
     ensures archive_fault { CountsTurns A.Archive archive.old archive.new
-        (result ≡ End.Stopped Stop.ArchiveFault) }
+        (result ≡ Stopped ArchiveFault) }
 {
     let options = match read_words(alloc, words) {
         Err(_) => return End::Stopped(Stop::Memory),

@@ -1,6 +1,5 @@
 pub mod Ranges
 pub mod Spelling
-pub mod Rows
 pub mod Using
 pub mod Names
 pub mod Calm

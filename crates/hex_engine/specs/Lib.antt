@@ -4,6 +4,5 @@ pub mod Picture
 pub mod EngineState
 pub mod Supply
 pub mod Uses
-pub mod Report
 pub mod Replies
 pub mod Files

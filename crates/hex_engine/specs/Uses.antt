@@ -1,16 +1,12 @@
 -- Where what a conversation used up came from: its shelf, and the searches whose turns its archive
 -- took.
 use Rattle.std.specs.Prelude.{◌≡◌, ◌≤◌, ◌⊎◌, ℕ, Bool, false, List, [], ◌∷◌, ◌++◌, length, Option}
-use Rattle.std.specs.Prelude.{Ok}
 use Rattle.htp_line.specs.Reading.{Asked}
 use Rattle.hex_io.specs.Told.{Both}
 use Rattle.hex_io.specs.declared.files.File.{File}
 use Rattle.hex_io.specs.Shelves.{Shelved, Fetched, Failed, Missing, Long, Contents, fetched_of}
 use Rattle.hex_game.specs.Games.{GameData}
-use Rattle.sgf_tree.specs.Trees.{GameTrees, depth}
-use Rattle.sgf_tree.specs.Grammar.{Text}
-use Rattle.sgf_tree.specs.Printing.{max_depth}
-use Rattle.sgf_game.specs.GameOf.{game_of}
+use Rattle.sgf_game.specs.RecordOf.{IsRecordOf}
 use Rattle.hex_plan.specs.Turns.{Decision}
 use Rattle.hex_plan.specs.Good.{IsGood}
 use Rattle.hex_engine.specs.Supply.{Loaded, Unread, Refused, Loads, Load, Supply, nothing_left}
@@ -18,14 +14,6 @@ use Rattle.hex_engine.specs.EngineState.{EngineState}
 use Rattle.hex_engine.specs.Replies.{ReactsWith, IsBrief, reaction}
 use Rattle.hex_engine.specs.declared.answers.Answer.{Answer}
 use Rattle.hex_engine.specs.declared.options.Options.{Options}
-
--- the bytes are a record of the game: a text of trees that nest no deeper than is read, whose game
--- it is
-pub record IsRecordOf (bytes : List ℕ) (game : GameData) : Type 0 where
-  pub trees : GameTrees
-  pub text : Text trees bytes
-  pub shallow : depth trees ≤ max_depth
-  pub is : game_of trees ≡ Ok game
 
 -- what comes of bytes: the game of which they are a record, or, where there is none, a refusal
 abbrev pub IsReadAs : List ℕ → Loaded → Type 0

@@ -13,8 +13,8 @@ use super::answers::Memory;
 use hex_game::Game;
 use hex_io::{Shelf, ShelfError};
 use htp_line::Bytes;
-use sgf_game::{GameError, from_game, to_game};
-use sgf_tree::{SgfError, parse, print};
+use sgf_game::{from_game, read_game};
+use sgf_tree::print;
 use std::alloc::Global;
 
 /// What comes of a file that is asked for.
@@ -38,7 +38,7 @@ pub fn load_game<F: Shelf>(alloc: Global, shelf: &mut F, name: &str) -> Result<F
         (result ≡ Ok File.Unread) }
 {
     match shelf.fetch(alloc, name) {
-        Ok(Some(bytes)) => read_game(alloc, &bytes),
+        Ok(Some(bytes)) => read_file(alloc, &bytes),
         Ok(None) => Ok(File::Refused),
         Err(ShelfError::TooLong) => Ok(File::Refused),
         Err(ShelfError::Fault) => Ok(File::Unread),
@@ -46,19 +46,13 @@ pub fn load_game<F: Shelf>(alloc: Global, shelf: &mut F, name: &str) -> Result<F
     }
 }
 
-/// Reads the game of a record.
-fn read_game(alloc: Global, bytes: &[u8]) -> Result<File, Memory>
+/// What comes of a file's bytes.
+fn read_file(alloc: Global, bytes: &[u8]) -> Result<File, Memory>
     ensures { IfOk result (λ file. IsReadAs bytes.now (came_to file)) }
 {
-    let collection = match parse(alloc, bytes) {
-        Ok(collection) => collection,
-        Err(SgfError::Memory) => return Err(Memory),
-        Err(_) => return Ok(File::Refused),
-    };
-    match to_game(alloc, &collection) {
-        Ok(game) => Ok(File::Loads(game)),
-        Err(GameError::Memory) => Err(Memory),
-        Err(_) => Ok(File::Refused),
+    match read_game(alloc, bytes)? {
+        Some(game) => Ok(File::Loads(game)),
+        None => Ok(File::Refused),
     }
 }
 

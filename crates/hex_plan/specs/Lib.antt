@@ -4,3 +4,4 @@ pub mod Seeds
 pub mod Good
 pub mod Archived
 pub mod Reports
+pub mod ReportTexts

@@ -1,5 +1,7 @@
 -- The bytes of an answer.
-use Rattle.std.specs.Prelude.{ℕ, List, [], ◌∷◌, ◌++◌, Option, Some, None}
+use Rattle.std.specs.Prelude.{◌≡◌, ◌+◌, ◌≤◌, ℕ, List, [], ◌∷◌, ◌++◌, Option, Some, None, Result}
+use Rattle.std.specs.Prelude.{OnOk, Vec, vec_len, vec_capacity}
+use Rattle.std.specs.declared.alloc.Global.{Global}
 use Rattle.std.specs.Fmt.{decimal}
 
 -- an id, in its shortest form
@@ -18,3 +20,14 @@ success = answer 61
 -- a failure begins with `?`
 abbrev pub failure : Option ℕ → List ℕ → List ℕ
 failure = answer 63
+
+-- what is written where these bytes are an id's: the text of that id stands at the end, but for a
+-- want of memory
+abbrev pub WritesFor : {T E : Type 0} → List ℕ → (Option ℕ → List ℕ) → List ℕ → List ℕ
+    → Result T E → Type 0
+WritesFor bytes text old new result =
+    (id : Option ℕ) → bytes ≡ id_text id → OnOk result (new ≡ old ++ text id)
+
+-- so many bytes more fit in a vector without memory
+abbrev pub HasRoom : Vec ℕ Global → ℕ → Type 0
+HasRoom out more = vec_len out + more ≤ vec_capacity out

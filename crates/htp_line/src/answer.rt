@@ -1,9 +1,8 @@
 //! The bytes of an answer.
 
-ghost use Rattle.std.specs.Prelude.{◌≡◌, ◌+◌, ◌≤◌, ◌++◌, ◌∷◌, ℕ, [], length, IfOk, IsOk, OnOk};
-ghost use Rattle.std.specs.Prelude.{OnErr, vec_len, vec_capacity};
-ghost use Rattle.std.specs.declared.option.Option.{Option};
-ghost use Rattle.htp_line.specs.Answering.{success, failure, id_text};
+ghost use Rattle.std.specs.Prelude.{◌≡◌, ◌+◌, ◌≤◌, ◌++◌, ◌∷◌, [], length, IfOk, IsOk, OnOk};
+ghost use Rattle.std.specs.Prelude.{OnErr, vec_len};
+ghost use Rattle.htp_line.specs.Answering.{success, failure, id_text, WritesFor, HasRoom};
 
 use super::want::Memory;
 use std::alloc::Global;
@@ -29,11 +28,9 @@ pub fn id_text(alloc: Global, id: Option<u32>) -> Result<Vec<u8>, Memory>
 /// the text and two line feeds. It can't fail where there is room for it. GTP version 2, responses.
 pub fn push_success(out: &mut Vec<u8>, id: &[u8], text: &[u8]) -> Result<(), Memory>
     requires short { length id.now ≤ ID_LIMIT }
-    ensures text { (n : Option ℕ) → id.now ≡ id_text n →
-        OnOk result (out.new.items ≡ out.old.items ++ success n text.now) }
+    ensures text { WritesFor id.now (λ n. success n text.now) out.old.items out.new.items result }
     ensures err { OnErr result (out.new.items ≡ out.old.items) }
-    ensures room { vec_len out.old + (length id.now + length text.now + FRAME)
-        ≤ vec_capacity out.old → IsOk result }
+    ensures room { HasRoom out.old (length id.now + length text.now + FRAME) → IsOk result }
 {
     push_signed(out, b'=', id, text)
 }
@@ -43,11 +40,9 @@ pub fn push_success(out: &mut Vec<u8>, id: &[u8], text: &[u8]) -> Result<(), Mem
 /// responses.
 pub fn push_failure(out: &mut Vec<u8>, id: &[u8], text: &[u8]) -> Result<(), Memory>
     requires short { length id.now ≤ ID_LIMIT }
-    ensures text { (n : Option ℕ) → id.now ≡ id_text n →
-        OnOk result (out.new.items ≡ out.old.items ++ failure n text.now) }
+    ensures text { WritesFor id.now (λ n. failure n text.now) out.old.items out.new.items result }
     ensures err { OnErr result (out.new.items ≡ out.old.items) }
-    ensures room { vec_len out.old + (length id.now + length text.now + FRAME)
-        ≤ vec_capacity out.old → IsOk result }
+    ensures room { HasRoom out.old (length id.now + length text.now + FRAME) → IsOk result }
 {
     push_signed(out, b'?', id, text)
 }
@@ -57,8 +52,7 @@ fn push_signed(out: &mut Vec<u8>, sign: u8, id: &[u8], text: &[u8]) -> Result<()
     ensures text { OnOk result
         (out.new.items ≡ out.old.items ++ sign ∷ id.now ++ 32 ∷ text.now ++ 10 ∷ 10 ∷ []) }
     ensures err { OnErr result (out.new.items ≡ out.old.items) }
-    ensures room { vec_len out.old + (length id.now + length text.now + FRAME)
-        ≤ vec_capacity out.old → IsOk result }
+    ensures room { HasRoom out.old (length id.now + length text.now + FRAME) → IsOk result }
 {
     out.reserve(id.len() + text.len() + FRAME)?;
     out.push(sign).unwrap();

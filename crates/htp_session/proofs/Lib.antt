@@ -9,6 +9,7 @@ pub mod StockLaws
 pub mod Advances
 pub mod Feeding
 pub mod Calling
+pub mod InputLaws
 pub mod Conversations
 pub mod Outcomes
 pub mod OneWorkerLoads

@@ -5,7 +5,8 @@ use Rattle.hex_io.specs.Shelves.{Fetched, Failed, Missing, Long, Contents, fetch
 use Rattle.hex_game.specs.Games.{GameData}
 use Rattle.sgf_tree.proofs.Verdicts.{one_collection}
 use Rattle.hex_engine.specs.Supply.{Loaded, Unread, Refused, Loads, Load}
-use Rattle.hex_engine.specs.Uses.{IsRecordOf, IsReadAs, IsLoadOf, CameOf}
+use Rattle.sgf_game.specs.RecordOf.{IsRecordOf}
+use Rattle.hex_engine.specs.Uses.{IsReadAs, IsLoadOf, CameOf}
 
 -- as far as both go, the same came of one name
 abbrev pub SameLoads : List Load → List Load → Type 0

@@ -6,3 +6,4 @@ pub mod Sessions
 pub mod Endings
 pub mod Calls
 pub mod Laws
+pub mod Inputs

@@ -1,10 +1,9 @@
 //! Answers one raw line.
 
-ghost use Rattle.std.specs.Prelude.{◌≡◌, ◌+◌, ◌≤◌, ◌++◌, ℕ, length, codes, IfOk, IfSome, IsOk};
-ghost use Rattle.std.specs.Prelude.{OnOk, OnErr, option_map, vec_len, vec_capacity, false, Some};
-ghost use Rattle.std.specs.declared.option.Option.{Option};
+ghost use Rattle.std.specs.Prelude.{◌≡◌, ◌+◌, ◌≤◌, ◌++◌, length, codes, IfOk, IfSome, IsOk};
+ghost use Rattle.std.specs.Prelude.{OnOk, OnErr, option_map, false, Some};
 ghost use Rattle.htp_line.specs.Reading.{asked_of};
-ghost use Rattle.htp_line.specs.Answering.{failure, id_text};
+ghost use Rattle.htp_line.specs.Answering.{failure, WritesFor, HasRoom};
 ghost use Rattle.hex_engine.specs.Replies.{IsBrief, replied};
 ghost use Rattle.htp_session.specs.Talk.{reply_text, is_quit};
 ghost use Rattle.htp_session.specs.Devices.{CountsFaults};
@@ -88,12 +87,11 @@ fn respond_to<L: Link, F: Shelf, A: Archive>(
 /// Writes an answer at the end of `out`, and says whether it is that to quit.
 fn push_answer(out: &mut Vec<u8>, id: &[u8], answer: &Answer) -> Result<bool, Memory>
     requires id { length id.now ≤ ID_LIMIT }
-    ensures text { (n : Option ℕ) → id.now ≡ id_text n →
-        OnOk result (out.new.items ≡ out.old.items ++ reply_text n (replied answer.now)) }
+    ensures text { WritesFor id.now (λ n. reply_text n (replied answer.now))
+        out.old.items out.new.items result }
     ensures quit { IfOk result (λ quit. quit ≡ is_quit (replied answer.now)) }
     ensures err { OnErr result (out.new.items ≡ out.old.items) }
-    ensures room { IsBrief answer.now →
-        vec_len out.old + (length id.now + BRIEF) ≤ vec_capacity out.old → IsOk result }
+    ensures room { IsBrief answer.now → HasRoom out.old (length id.now + BRIEF) → IsOk result }
 {
     match answer {
         Answer::Done(text) => {
@@ -114,8 +112,8 @@ fn push_answer(out: &mut Vec<u8>, id: &[u8], answer: &Answer) -> Result<bool, Me
 /// Writes a failure at the end of `out`. It is no answer to quit.
 fn refuse(out: &mut Vec<u8>, id: &[u8], message: &[u8]) -> Result<bool, Stop>
     requires id { length id.now ≤ ID_LIMIT }
-    ensures text { (n : Option ℕ) → id.now ≡ id_text n →
-        OnOk result (out.new.items ≡ out.old.items ++ failure n message.now) }
+    ensures text { WritesFor id.now (λ n. failure n message.now)
+        out.old.items out.new.items result }
     ensures quit { IfOk result (λ quit. quit ≡ false) }
     ensures err { OnErr result (out.new.items ≡ out.old.items) }
     ensures memory { (s : Stop) → result ≡ Err s → s ≡ Stop.Memory }

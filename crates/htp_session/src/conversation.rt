@@ -6,6 +6,7 @@ ghost use Rattle.htp_session.specs.Devices.{CountsFaults};
 ghost use Rattle.htp_session.specs.Calls.Conversation.{Converses};
 
 use crate::devices::Devices;
+use crate::inputs::PIECE;
 use crate::session::Session;
 use crate::stops::Stop;
 use hex_cells::Size;
@@ -13,9 +14,6 @@ use hex_engine::Options;
 use hex_io::{Link, Shelf};
 use hex_plan::Archive;
 use std::alloc::Global;
-
-/// The most bytes of one read.
-const PIECE: usize = 16_384;
 
 /// Answers what the link has, up to `limit` bytes. All whole lines are answered before the next
 /// read, also before the one byte after the limit is asked for. What fails first ends it: nothing

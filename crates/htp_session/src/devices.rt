@@ -5,6 +5,7 @@ ghost use Rattle.htp_line.specs.Reading.{asked_of};
 ghost use Rattle.htp_session.specs.Devices.{CountsFaults, stock};
 ghost use Rattle.htp_session.specs.Calls.Devices.{ReadsSome, GivesAll, Asks};
 
+use crate::inputs::read_some;
 use crate::stops::Stop;
 use hex_engine::{Answer, Engine, EngineError};
 use hex_io::{Link, Shelf, give};
@@ -52,7 +53,7 @@ impl<L: Link, F: Shelf, A: Archive> Devices<'_, '_, '_, L, F, A> {
         ensures stock { stock self.new ≡ stock self.old }
         ensures counts { CountsFaults self.old self.new result }
     {
-        match self.link.read(&mut buffer[..room]) {
+        match read_some(&mut *self.link, buffer, room) {
             Err(_) => Err(Stop::ReadFault),
             Ok(count) => Ok(count),
         }

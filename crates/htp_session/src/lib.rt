@@ -34,6 +34,7 @@
 mod answering;
 mod conversation;
 mod devices;
+mod inputs;
 mod laws;
 mod session;
 mod stops;
@@ -42,6 +43,7 @@ mod tests;
 
 pub use conversation::converse;
 pub use devices::Devices;
+pub use inputs::take_all;
 pub use laws::{
     more_left_is_not_used, one_worker_and_one_shelf_determine, one_worker_is_determined,
     searched_moves_are_legal,

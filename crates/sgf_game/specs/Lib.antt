@@ -6,3 +6,4 @@ pub mod Setup
 pub mod Placing
 pub mod GameOf
 pub mod Record
+pub mod RecordOf

@@ -1,6 +1,6 @@
 //! Records that show the rules of reading, with ample memory.
 
-use super::{GameError, from_game, to_game};
+use super::{GameError, from_game, read_game, to_game};
 use hex_game::Game;
 use sgf_tree::{parse, print};
 use std::alloc::Global;
@@ -27,6 +27,20 @@ fn reprinted(alloc: Global, text: &[u8]) -> Result<Vec<u8>, GameError> {
         .as_slice()
         .to_vec(alloc)
         .map_err(|_| GameError::Memory)
+}
+
+// A record of a game, a text that is cut off, and a record of no game.
+#[test]
+fn bytes_are_read(rt: HostRuntime) -> Result<(), Fail> {
+    let rows: [(&[u8], bool); 3] = [
+        (b"(;GM[11]SZ[3];B[a1])", true),
+        (b"(;GM[11]SZ[3];B[a1]", false),
+        (b"(;GM[1])", false),
+    ];
+    for (bytes, is_game) in rows {
+        assert_eq!(rt; read_game(rt.alloc(), bytes)?.is_some(), is_game);
+    }
+    Ok(())
 }
 
 #[test]

@@ -13,13 +13,13 @@ use Rattle.hex_engine.proofs.files.load_game.Goals as goal
 pub returns-in-Ok-Some-clause-came : goal.returns-in-Ok-Some-clause-came
 returns-in-Ok-Some-clause-came g c =
     let e : c.fetch.result ≡ Ok (Some c.in-Ok-Some.bytes) = cc in
-    if_ok c.read_game.result _ _
-    (λ file h. fetched_one _ _ _ _ (Contents c.in-Ok-Some.bytes.items) (came_to file) c.fetch.ensures.told (ap (says (λ f. f.items)) e) (subst (λ l. IsReadAs l (came_to file)) c.deref.ensures.value h)) c.read_game.ensures
+    if_ok c.read_file.result _ _
+    (λ file h. fetched_one _ _ _ _ (Contents c.in-Ok-Some.bytes.items) (came_to file) c.fetch.ensures.told (ap (says (λ f. f.items)) e) (subst (λ l. IsReadAs l (came_to file)) c.deref.ensures.value h)) c.read_file.ensures
 
 pub returns-in-Ok-Some-clause-vain : goal.returns-in-Ok-Some-clause-vain
 returns-in-Ok-Some-clause-vain g c =
     let e : c.fetch.result ≡ Ok (Some c.in-Ok-Some.bytes) = cc in
-    on_err c.read_game.result _ (fetched_in_vain _ _ _ _ (Contents c.in-Ok-Some.bytes.items) c.fetch.ensures.told (ap (says (λ f. f.items)) e))
+    on_err c.read_file.result _ (fetched_in_vain _ _ _ _ (Contents c.in-Ok-Some.bytes.items) c.fetch.ensures.told (ap (says (λ f. f.items)) e))
 
 pub returns-in-Err-Fault-clause-came : goal.returns-in-Err-Fault-clause-came
 returns-in-Err-Fault-clause-came g c =

@@ -1,0 +1,41 @@
+-- A walker that runs alone, over a view that has a copy of all words.
+use Rattle.std.specs.Prelude.{◌≡◌, ℕ, zero, suc, List, Some}
+use Rattle.tree_words.specs.Settings.{Setting}
+use Rattle.tree_words.specs.Sequence.{seq_of}
+use Rattle.tree_words.specs.Trees.{IsTreeOf}
+use Rattle.tree_words.specs.declared.steps.Op.TheVariants.{Done}
+use Rattle.arena_rule.specs.Views.{SeatView, opening_view}
+use Rattle.arena_rule.specs.Afters.{after}
+use Rattle.arena_rule.specs.Answers.{MayAnswer}
+use Rattle.walker.specs.Machine.{op_of, next}
+use Rattle.walker.specs.Belongs.{Belongs}
+use Rattle.walker.specs.declared.machine.Walker.{Walker}
+
+-- The walker w with its view v makes its next step. The answer is one that the step may give, and
+-- so the word that stands in the view's copy.
+pub record MakesStep (w : Walker) (v : SeatView) (later : Walker) (view : SeatView) : Type 0 where
+  pub answer : ℕ
+  pub may : MayAnswer v (op_of w) answer
+  pub walker_is : later ≡ next w answer
+  pub view_is : view ≡ after v (op_of w) answer
+
+-- after n steps the walker is w and its view v, where it began with the opening view
+abbrev pub RunsAlone : Setting → ℕ → Walker → SeatView → Type 0
+RunsAlone s zero w v = Belongs w v × (v ≡ opening_view s)
+RunsAlone s (suc n) w v = (u : Walker) × (before : SeatView) × RunsAlone s n u before
+    × MakesStep u before w v
+
+-- the walker has run alone to this view
+abbrev pub HasRunAlone : Setting → Walker → SeatView → Type 0
+HasRunAlone s w v = (n : ℕ) × RunsAlone s n w v
+
+-- the view has a copy of the words, and this shows the tree of the sequential search
+pub record ShowsSequence (s : Setting) (v : SeatView) : Type 0 where
+  pub words : List ℕ
+  pub whole : v.whole ≡ Some words
+  pub tree : IsTreeOf s words (seq_of s).0
+
+-- where it has run alone and is done, the view's copy shows that tree
+abbrev pub EndsAsSequence : Setting → Type 0
+EndsAsSequence s = (w : Walker) (v : SeatView) → HasRunAlone s w v → op_of w ≡ Done
+    → ShowsSequence s v

@@ -1,0 +1,30 @@
+//! The law of one worker: a walker that runs alone makes the tree of the sequential search.
+//!
+//! **Nouns.** A walker *runs alone* where it began with the opening view of its shape, which has a
+//! copy of all words, and each of its steps was answered as the step may be, and so with the word
+//! that stands in the copy (specs/Alone.antt). It *is done* where its next step is Done.
+//!
+//! **A caller** makes no value here: it cites the law, and keeps in its loop that its walker has
+//! run alone. One step more is one number more.
+//!
+//! **What is proved.** Where a walker has run alone and is done, the copy of the words shows the
+//! tree of the sequential search ([`one_worker_is_sequential`]).
+//!
+//! **What is not said.** How many steps it takes; the words that no tree shows, as NEXT, TICKET and
+//! the records, are bound by the arena rule alone.
+//!
+//! **How it is proved.** Steps are not played after one by one. By the rule all counts are a
+//! function of the linked blocks and the recorded walks, so between two steps a search is the
+//! blocks, the walks and NEXT, and most steps leave all three: a Claim changes NEXT, a Publish adds
+//! a block, a Note adds a walk (proofs/Courses.antt). As the loads agree with these counts, the
+//! choices that a walk made lead to the leaf of the sequential walk (proofs/Ways.antt,
+//! proofs/Chosen.antt); there alone it claims and publishes (proofs/AtLeaves.antt), once a walk
+//! (proofs/Leaves.antt); and what its Note adds is what the sequential walk adds
+//! (proofs/Walked.antt).
+//!
+//! **Limits.** None of its own. It takes no memory and no handle.
+#![tactic(auto)]
+
+mod laws;
+
+pub use laws::one_worker_is_sequential;

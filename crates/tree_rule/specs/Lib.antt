@@ -1,0 +1,6 @@
+pub mod Tables
+pub mod Plays
+pub mod Seats
+pub mod Visits
+pub mod Ends
+pub mod Scripts

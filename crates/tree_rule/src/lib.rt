@@ -1,0 +1,45 @@
+//! The shared tree: the words of a search on one table of atomic words, and the seats that step on
+//! them.
+//!
+//! **Nouns.** A [`Tree`] is the words of a search and the shape that it is for; threads share it. A
+//! [`TreeSeat`] stands for one or more workers of one tree, and may be moved to another thread. A
+//! *step* is one atomic operation on one word: a draw, a look, a claim, a write, a publish, an add
+//! or a note. A seat's *view* is what is known of it by its own steps alone, and tells which steps
+//! fit it, what they may answer and what they leave (arena_rule).
+//!
+//! **A caller** makes a tree with [`Tree::make`], splits its one seat into one for each worker with
+//! [`TreeSeat::split`], lets each worker make its steps with [`TreeSeat::act`] until its draw
+//! answers that no playout is left, puts the seats together again with [`TreeSeat::join`], and
+//! takes the closed tree out with [`Tree::close`].
+//!
+//! **What is proved.** The arena rule holds between any two steps, whichever seats make them. A
+//! step that fits has an answer that it may give, and the view afterwards is the one of that
+//! answer: what a seat knows only grows, and a look at a node's tally answers at least the visits
+//! that this seat itself made there. A split and a join give the views that the rule says. The
+//! words at the end are a closed tree; they show what the last seat knew, their records are those
+//! of its walks, which are the walks of all playouts, and where its view has a copy of all words
+//! they are that copy. `make` takes all memory, of which its only refusal speaks; no other call
+//! takes any, and none waits.
+//!
+//! **What is not said.** Which worker draws which number, that two workers ran at the same time,
+//! that a publish wins its race, and progress.
+//!
+//! **Limits.** Those of a shape: 1 to 64 workers, 1 to 1,000,000 playouts, 1,024 to 16,777,216
+//! words of blocks. Two allocations of all words stand from `make` to `close`.
+#![tactic(auto)]
+
+#[cfg(test)]
+mod one_cell_tests;
+mod opening;
+mod plays;
+#[cfg(test)]
+mod race_tests;
+mod rule;
+#[cfg(test)]
+mod scripts;
+mod seats;
+mod steps;
+mod trees;
+
+pub use seats::TreeSeat;
+pub use trees::Tree;

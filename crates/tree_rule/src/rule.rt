@@ -1,0 +1,19 @@
+//! The rule of the table.
+
+use arena_rule::View;
+use atomic_table::{Shared, TableRule};
+use tree_words::Shape;
+
+/// The arena rule, of the table's words and of the views of its seats. The table has no slots.
+pub struct ArenaRule;
+
+impl TableRule<u8, View, Shape> for ArenaRule {
+    ghost use Rattle.tree_rule.specs.Tables.{holds, first};
+
+    ghost holds = { holds };
+
+    ghost first = { first };
+}
+
+/// The table, as the seats of a tree share it.
+pub(crate) type SharedWords = Shared<u8, View, Shape, ArenaRule>;

@@ -1,0 +1,111 @@
+//! The seats of a shared tree.
+
+ghost use Rattle.std.specs.Prelude.{◌≡◌, ◌≢◌};
+ghost use Rattle.tree_words.specs.Told.{AreAmong};
+ghost use Rattle.tree_words.specs.declared.steps.Op.TheVariants.{Done};
+ghost use Rattle.arena_rule.specs.Views.{spent_view};
+ghost use Rattle.arena_rule.specs.Fits.{FitsStep, CanSplit, CanJoin};
+ghost use Rattle.arena_rule.specs.Afters.{after, kept_part, given_part, joined};
+ghost use Rattle.arena_rule.specs.Answers.{MayAnswer};
+ghost use Rattle.arena_rule.specs.IsView.{IsView};
+ghost use Rattle.tree_rule.specs.Seats.{Sits, IsOf};
+ghost use Rattle.tree_rule.specs.Visits.{AnswersOwnVisits};
+
+use super::plays::{Joins, Part, Spent, Splits};
+use super::rule::SharedWords;
+use super::steps::step;
+use super::trees::Tree;
+use arena_rule::View;
+use atomic_table::Seat;
+use std::marker::{Brand, Model};
+use tree_words::Op;
+
+/// A seat of a shared tree: it stands for one or more workers, and steps on the tree's words.
+/// Contracts see its tree's table and its view, which is in order.
+#[derive(Drop)]
+pub struct TreeSeat {
+    pub(crate) seat: Seat<u8, View>,
+}
+
+impl Model for TreeSeat {
+    ghost use Rattle.tree_rule.specs.Seats.{SeatData, Sits};
+
+    ghost Value = { SeatData };
+
+    ghost view = { λ s. record { table = s.seat.table_id; view = s.seat.me.0 } };
+
+    ghost invariant = { λ s. Sits s.seat.table_id s.seat };
+}
+
+// Splits off a part that the caller picks.
+fn cut<B: Part>(shared: &SharedWords, seat: &mut Seat<u8, View>, part: u32) -> Seat<u8, View>
+    requires picked { part ≡ B.part }
+    requires sits { Sits shared.now.table_id seat.old }
+    requires can { CanSplit seat.old.me.0 part }
+    ensures sits { Sits shared.now.table_id seat.new × Sits shared.now.table_id result }
+    ensures kept { seat.new.me.0 ≡ kept_part seat.old.me.0 part }
+    ensures given { result.me.0 ≡ given_part seat.old.me.0 part }
+{
+    shared.split_seat::<Splits<B>>(seat)
+}
+
+// Joins the other seat, whose spent view the caller picks.
+fn merge<B: Spent>(shared: &SharedWords, seat: &mut Seat<u8, View>, other: Seat<u8, View>)
+    requires picked { B.spent ≡ spent_view seat.old.me.0.shape }
+    requires sits { Sits shared.now.table_id seat.old × Sits shared.now.table_id other }
+    requires shape { other.me.0.shape ≡ seat.old.me.0.shape }
+    requires can { CanJoin seat.old.me.0 other.me.0 }
+    ensures sits { Sits shared.now.table_id seat.new }
+    ensures both { seat.new.me.0 ≡ joined seat.old.me.0 other.me.0 }
+{
+    shared.join_seat::<Joins<B>>(seat, other);
+}
+
+impl TreeSeat {
+    /// Splits off a seat for `part` of the workers: the seat keeps the others, and both know what
+    /// it knew. The seat is of this tree and has drawn nothing, and both parts have a worker.
+    pub fn split(&mut self, tree: &Tree, part: u32) -> TreeSeat
+        requires own { IsOf tree.now self.old }
+        requires can { CanSplit self.old.view part }
+        ensures own { IsOf tree.now self.new × IsOf tree.now result }
+        ensures kept { self.new.view ≡ kept_part self.old.view part }
+        ensures given { result.view ≡ given_part self.old.view part }
+        ensures order { IsView self.new.view × IsView result.view }
+    {
+        TreeSeat {
+            seat: cut::<Brand>(&tree.table.shared, &mut self.seat, part),
+        }
+    }
+
+    /// Joins the other seat: the seat stands for the workers of both, and knows what both knew.
+    /// Both are of this tree, and all their workers have ended.
+    pub fn join(&mut self, tree: &Tree, other: TreeSeat)
+        requires own { IsOf tree.now self.old × IsOf tree.now other }
+        requires can { CanJoin self.old.view other.view }
+        ensures own { IsOf tree.now self.new }
+        ensures both { self.new.view ≡ joined self.old.view other.view }
+        ensures order { IsView self.new.view }
+    {
+        let TreeSeat { seat } = other;
+        merge::<Brand>(&tree.table.shared, &mut self.seat, seat);
+    }
+
+    /// One atomic step on one word of the tree. The seat is of this tree and its view fits the
+    /// step, which is not `Done`. It answers the old value of the word, and 0 to a write and a
+    /// note. What the seat knows stays known, and a look at a node's tally answers at least the
+    /// visits that this seat itself made there.
+    #[inline(always)]
+    pub fn act(&mut self, tree: &Tree, op: Op) -> u64
+        requires own { IsOf tree.now self.old }
+        requires fits { FitsStep self.old.view op }
+        requires step { op ≢ Done }
+        ensures own { IsOf tree.now self.new }
+        ensures answer { MayAnswer self.old.view op result }
+        ensures view { self.new.view ≡ after self.old.view op result }
+        ensures order { IsView self.new.view }
+        ensures known { AreAmong self.old.view.known self.new.view.known }
+        ensures visits { AnswersOwnVisits self.old.view op result }
+    {
+        step(&tree.table.shared, &mut self.seat, op)
+    }
+}

@@ -1,0 +1,279 @@
+-- The looks at a link and at a header keep Belongs.
+use Rattle.std.proofs.Common.{◌≡◌, ◌≢◌, ◌⊎◌, ℕ, zero, suc, ◌+◌, ◌-◌, ◌%◌, ◌<◌, ◌≤◌, Bool, true, false, cond, List, ◌∷◌, length, refl, sym, ap, ◌∙◌, subst, arith, ⊎_elim, inl, inr}
+use Rattle.std.specs.Prelude.{◌==◌, ◌&&◌, not, ◌||◌, nat_lt, nat_le}
+use Rattle.std.proofs.lemmas.Bool.{eq-eqb, ne_eqb, cases_Bool, cases_lt, cases_eq, and_parts}
+use Rattle.std.proofs.lemmas.Bool.Decides.{nat_tests}
+use Rattle.play_out.specs.Fills.{empties_of}
+use Rattle.tree_words.specs.Settings.{Setting}
+use Rattle.tree_words.specs.Words.{root_at}
+use Rattle.tree_words.specs.Blocks.{LinkedBlock, In, InOrder, link_of, is_header_or_move}
+use Rattle.tree_words.specs.Paths.{NodeState, node_board}
+use Rattle.tree_words.specs.Complete.{allowed_cells, cells_below}
+use Rattle.tree_words.specs.declared.steps.Op.TheVariants.{Look}
+use Rattle.tree_words.proofs.Blocks.NodeLaws.{nodes-apart, stays-clear}
+use Rattle.tree_words.proofs.NewBlocks.OpeningLaws.{some-allowed}
+use Rattle.arena_rule.specs.Views.{SeatView}
+use Rattle.arena_rule.specs.Lookups.{is_known, known_link, told_below, empties_at}
+use Rattle.arena_rule.specs.Answers.{MayAnswer, AnswersLink}
+use Rattle.arena_rule.specs.Afters.{after, looked, with_word, known_after, node_of_link}
+use Rattle.arena_rule.specs.IsView.{IsView}
+use Rattle.walker.specs.declared.stages.Stage.{Stage}
+use Rattle.walker.specs.declared.stages.Stage.TheVariants.{Heading, Scanning, Claiming}
+use Rattle.walker.specs.declared.machine.Walker.{Walker}
+use Rattle.walker.specs.Scans.{scan_of}
+use Rattle.walker.specs.Machine.{state_in, cells_in, asks_block, at_block, at_leaf, linked, headed}
+use Rattle.walker.specs.Belongs.{Belongs, Stands, Down, MayClaim, AtLink, AtHeader, AtChild, AtTally}
+use Rattle.walker.proofs.KnownLaws.{one-order, known-lies, known-cells, link-block}
+use Rattle.walker.proofs.Going.{look-goes, down-goes, no-count}
+use Rattle.walker.proofs.LeafLaws.{cells-is, leaf-stands, leaf-belongs}
+use Rattle.walker.proofs.Cases.{linked-block, linked-claim, linked-leaf, headed-next, headed-leaf, headed-scan}
+
+-- what is known after a link of a known node was found
+pub known-grows : (v : SeatView) (z b : ℕ) → is_known v z ≡ true → known_link v z ≡ 0 → b ≢ 0 → known_after v z b ≡ told_below v z b ∷ v.known
+unfolding known_after
+known-grows v z b n l ne =
+    let p : (known_link v z == 0) ≡ true = eq-eqb (known_link v z) 0 l in
+    let q : (b == 0) ≡ false = ne_eqb b 0 ne in
+    rw (n, p, q)
+
+pub known-none : (v : SeatView) (z : ℕ) → known_after v z 0 ≡ v.known
+unfolding known_after
+known-none v z = by (is_known v z) (known_link v z == 0)
+  where
+    by : (p q : Bool) → cond (p && (q && false)) (told_below v z 0 ∷ v.known) v.known ≡ v.known
+    by true true = refl
+    by true false = refl
+    by false q = refl
+
+-- A block below the node is known where its link was found.
+pub found-below : (v : SeatView) (z b : ℕ) → is_known v z ≡ true → AnswersLink v z b → b ≢ 0 → ((c : LinkedBlock) → In c v.known → In c (known_after v z b))
+    → (c : LinkedBlock) × In c (known_after v z b) × (c.start ≡ b) × (c.parent ≡ z)
+found-below v z b n a ne stays = ⊎_elim
+    (λ (e : known_link v z ≡ 0). (told_below v z b, subst (In (told_below v z b)) (sym (known-grows v z b n e ne)) (inl refl), refl, refl))
+    (λ (l : 0 < known_link v z).
+    let q = link-block v.known z l in
+    (q.0, stays q.0 q.1, q.3 ∙ sym (a.known l), q.2))
+    (none-or-some (known_link v z))
+  where
+    none-or-some : (n : ℕ) → (n ≡ 0) ⊎ (0 < n)
+    none-or-some zero = inl refl
+    none-or-some (suc n) = inr (omega arith)
+
+not-false : (t : Bool) → not t ≡ false → t ≡ true
+not-false true e = refl
+not-false false e = sym e
+
+-- a node that asks for no block is a leaf
+asks-not : (full t u : Bool) → (not full && (t && u)) ≡ false → (t ≡ false) ⊎ ((u ≡ false) ⊎ (full ≡ true))
+asks-not true t u e = inr (inr refl)
+asks-not false true true e = absurd (cc)
+asks-not false true false e = inr (inl refl)
+asks-not false false u e = inl refl
+
+not-less : (a b : ℕ) → nat_le a b ≡ false → b < a
+not-less a b e = grind (arith, nat_tests)
+
+none-less : (n : ℕ) → nat_lt 0 n ≡ false → n ≡ 0
+none-less n e = grind (arith, nat_tests)
+
+less : (a b : ℕ) → nat_le a b ≡ true → a ≤ b
+less a b e = grind (arith, nat_tests)
+
+some-less : (n : ℕ) → nat_lt 0 n ≡ true → 0 < n
+some-less n e = grind (arith, nat_tests)
+
+not-true : (t : Bool) → not t ≡ true → t ≡ false
+not-true true e = sym e
+not-true false e = refl
+
+module _ (w : Walker) (v : SeatView) (b : Belongs w v) (x : ℕ) where
+  order : InOrder (root_at v.shape) v.known
+  order = one-order v b.view b.width
+
+  above : (c : LinkedBlock) → In c v.known → c.parent < c.start
+  above c i = (known-lies v.shape v.known c order b.view.known i).above
+
+  -- after a look at a word that is no count the walk stands as before
+  pub look-down : (at : ℕ) → Down w v → IsView (after v (Look at) x) → ((y j : ℕ) → is_known v y ≡ true → 2 ≤ j → j < 4 → at ≢ y + j) → Down w (after v (Look at) x)
+  unfolding with_word looked
+  look-down at d iu clear =
+      down-goes v (after v (Look at) x) at (look-goes v at x b.width iu) w.number w.node w.visits (state_in w) w.way d
+      (clear w.node 2 d.known (omega arith) (omega arith)) (λ c i l. no-count v at order clear c i) above refl refl refl
+
+  -- the link of the node where the walk stands
+  module _ (a : AtLink w v) (may : MayAnswer v (Look w.at) x) (iu : IsView (after v (Look w.at) x)) where
+    link-clear : (y j : ℕ) → is_known v y ≡ true → 2 ≤ j → j < 4 → w.at ≢ y + j
+    link-clear y j n l m e = let is = nodes-apart (root_at v.shape) v.known w.node y 1 j order a.down.known n (omega arith) m (sym a.at ∙ e) in omega (arith, is, a.at, e)
+
+    link-down : Down w (after v (Look w.at) x)
+    link-down = look-down w.at a.down iu link-clear
+
+    link-answer : AnswersLink v w.node x
+    link-answer = may.step.link w.node a.down.known a.at
+
+    back : node_of_link w.at ≡ w.node
+    back = omega (arith, a.at)
+
+    uorder : InOrder (root_at (after v (Look w.at) x).shape) (after v (Look w.at) x).known
+    unfolding with_word looked
+    uorder = one-order (after v (Look w.at) x) iu b.width
+
+    -- it names a block
+    link-found : x ≢ 0 → AtHeader (at_block w x) (after v (Look w.at) x)
+    unfolding with_word looked
+    link-found ne =
+        let found = found-below v w.node x a.down.known link-answer ne (λ c i. subst (λ (z : ℕ). In c (known_after v z x)) back ((look-goes v w.at x b.width iu).known c i)) in
+        let known : In found.0 (known_after v (node_of_link w.at) x) = subst (λ (z : ℕ). In found.0 (known_after v z x)) (sym back) found.1 in
+        let cells : found.0.cells ≡ cells_in w = known-cells v.shape (known_after v (node_of_link w.at) x) found.0 uorder iu.known known
+        ∙ ap (cells_below v.shape (known_after v (node_of_link w.at) x)) found.3
+        ∙ sym (cells-is w (after v (Look w.at) x) b.shape uorder iu.known link-down) in
+        record {
+          down = link-down;
+          held = a.held;
+          block = found.0;
+          below = record { known = known; start = found.2; parent = found.3; cells = cells };
+          at = (omega arith, omega arith);
+        }
+
+    -- it is 0
+    link-known : x ≡ 0 → (after v (Look w.at) x).known ≡ v.known
+    unfolding with_word looked
+    link-known e = ap (known_after v (node_of_link w.at)) e ∙ known-none v (node_of_link w.at)
+
+    link-below : x ≡ 0 → w.node ≢ root_at v.shape
+    link-below e r = let q = link-answer.root r in omega (arith, q, e)
+
+    link-vacant : x ≡ 0 → known_link v w.node ≡ 0
+    link-vacant e = none (known_link v w.node) link-answer.known
+      where
+        none : (n : ℕ) → (0 < n → x ≡ n) → n ≡ 0
+        none zero h = refl
+        none (suc n) h = absurd (let q = h (omega arith) in omega (arith, q, e))
+
+    link-claim : x ≡ 0 → asks_block w ≡ true → MayClaim (record w { stage = Claiming }) (after v (Look w.at) x)
+    unfolding with_word looked
+    link-claim e t =
+        let p = and_parts (not w.full) (nat_le w.shape.knobs.expand w.visits && nat_lt 0 (length (empties_of w.board))) t in
+        let q = and_parts (nat_le w.shape.knobs.expand w.visits) (nat_lt 0 (length (empties_of w.board))) p.1 in
+        record {
+          down = link-down;
+          below = link-below e;
+          vacant = ap (λ (ks : List LinkedBlock). link_of ks w.node) (link-known e) ∙ link-vacant e;
+          visits = let l = less w.shape.knobs.expand w.visits q.0 in subst (λ (s : Setting). s.knobs.expand ≤ w.visits) (sym b.shape) l;
+          some = some-less (length (empties_of w.board)) q.1;
+          room = b.full ∙ not-true w.full p.0;
+        }
+
+    link-leaf : x ≡ 0 → asks_block w ≡ false → AtTally (at_leaf w) (after v (Look w.at) x)
+    unfolding with_word looked
+    link-leaf e t =
+        let u : SeatView = after v (Look w.at) x in
+        let empties : length (empties_of w.board) ≡ empties_at u w.node = ap (λ (p : NodeState). length (empties_of p.board)) link-down.is in
+        leaf-stands w u b.shape uorder iu.known link-down a.held (link-below e) (inl (ap (λ (ks : List LinkedBlock). link_of ks w.node) (link-known e) ∙ link-vacant e))
+        (⊎_elim
+        (λ (f : nat_le w.shape.knobs.expand w.visits ≡ false). let l = not-less w.shape.knobs.expand w.visits f in
+        inl (omega (arith, l, link-down.counted, ap (λ (s : Setting). s.knobs.expand) b.shape)))
+        (λ (f : (nat_lt 0 (length (empties_of w.board)) ≡ false) ⊎ (w.full ≡ true)). inr (⊎_elim
+        (λ (z : nat_lt 0 (length (empties_of w.board)) ≡ false). inl (sym empties ∙ none-less (length (empties_of w.board)) z))
+        (λ (z : w.full ≡ true). inr (b.full ∙ z)) f))
+        (asks-not w.full (nat_le w.shape.knobs.expand w.visits) (nat_lt 0 (length (empties_of w.board))) t))
+
+    pub keeps-link : Belongs (linked w x) (after v (Look w.at) x)
+    unfolding with_word looked
+    keeps-link =
+        let u : SeatView = after v (Look w.at) x in
+        let goal : Walker → Type 0 = λ z. Belongs z u in
+        ⊎_elim
+        (λ (e : x ≡ 0). ⊎_elim
+        (λ (t : asks_block w ≡ true). subst goal (sym (linked-claim w x e t))
+        (record { shape = b.shape; view = iu; width = b.width; full = b.full; stands = record { may = link-claim e t; held = a.held } }))
+        (λ (t : asks_block w ≡ false). subst goal (sym (linked-leaf w x e t)) (leaf-belongs w u b.shape iu b.width b.full (link-leaf e t)))
+        (cases_Bool (asks_block w)))
+        (λ (ne : x ≢ 0). subst goal (sym (linked-block w x ne))
+        (record { shape = b.shape; view = iu; width = b.width; full = b.full; stands = link-found ne }))
+        (cases_eq x 0)
+
+  -- a header word of the block below
+  module _ (a : AtHeader w v) (may : MayAnswer v (Look w.at) x) (iu : IsView (after v (Look w.at) x)) where
+    header-stays : (i : ℕ) → i < 4 → is_header_or_move i ≡ true
+    header-stays i l = ap (λ (t : Bool). t || (i % 4 == 0)) (yes i l)
+      where
+        yes : (i : ℕ) → i < 4 → nat_lt i 4 ≡ true
+        yes i l = grind (arith, nat_tests)
+
+    head-clear : (y j : ℕ) → is_known v y ≡ true → 2 ≤ j → j < 4 → w.at ≢ y + j
+    head-clear y j n l m e = stays-clear (root_at v.shape) v.known a.block (w.at - w.start) y j order a.below.known
+        (omega (arith, a.at)) (header-stays (w.at - w.start) (omega (arith, a.at))) n (omega arith) m (omega (arith, a.below.start, a.at, e))
+
+    head-down : Down w (after v (Look w.at) x)
+    head-down = look-down w.at a.down iu head-clear
+
+    head-known : In a.block (after v (Look w.at) x).known
+    head-known = (look-goes v w.at x b.width iu).known a.block a.below.known
+
+    horder : InOrder (root_at (after v (Look w.at) x).shape) (after v (Look w.at) x).known
+    unfolding with_word looked
+    horder = one-order (after v (Look w.at) x) iu b.width
+
+    head-cells : cells_in w ≡ cells_below v.shape (after v (Look w.at) x).known w.node
+    unfolding with_word looked
+    head-cells = cells-is w (after v (Look w.at) x) b.shape horder iu.known head-down
+
+    head-next : w.at + 1 < w.start + 4 → AtHeader (record w { at = w.at + 1 }) (after v (Look w.at) x)
+    unfolding with_word looked
+    head-next l = record {
+      down = head-down;
+      held = a.held;
+      block = a.block;
+      below = record { known = head-known; start = a.below.start; parent = a.below.parent; cells = a.below.cells };
+      at = (omega (arith, a.at), l);
+    }
+
+    head-below : length (cells_in w) ≡ 0 → w.node ≢ root_at v.shape
+    head-below e r =
+        let some = some-allowed v.shape b.view.setting in
+        let all : cells_in w ≡ allowed_cells v.shape = head-cells ∙ ap (λ (t : Bool). cond t (allowed_cells v.shape) (empties_of (node_board v.shape (after v (Look w.at) x).known w.node))) (eq-eqb w.node (root_at v.shape) r) in
+        omega (arith, some, ap length all, e)
+
+    head-leaf : length (cells_in w) ≡ 0 → AtTally (at_leaf w) (after v (Look w.at) x)
+    unfolding with_word looked
+    head-leaf e =
+        let ne = head-below e in
+        let empties : cells_in w ≡ empties_of (node_board v.shape (after v (Look w.at) x).known w.node)
+        = head-cells ∙ ap (λ (t : Bool). cond t (allowed_cells v.shape) (empties_of (node_board v.shape (after v (Look w.at) x).known w.node))) (ne_eqb w.node (root_at v.shape) ne) in
+        leaf-stands w (after v (Look w.at) x) b.shape horder iu.known head-down a.held ne (inr (sym (ap length empties) ∙ e)) (inr (inl (sym (ap length empties) ∙ e)))
+
+    head-scan : 0 < length (cells_in w) → AtChild (record w { stage = Scanning; scan = scan_of w.start (length (cells_in w)) w.visits w.shape.knobs.weight }) (after v (Look w.at) x)
+    unfolding with_word looked
+    head-scan l = record {
+      down = head-down;
+      held = a.held;
+      block = a.block;
+      below = record { known = head-known; start = a.below.start; parent = a.below.parent; cells = a.below.cells };
+      scan = record {
+        parent = refl;
+        weight = ap (λ (s : Setting). s.knobs.weight) (sym b.shape);
+        count = ap length (sym a.below.cells);
+        place = l;
+        stands = omega (arith, a.below.start);
+        tallies = λ i m. absurd (omega arith);
+        seen = λ i m. absurd (omega arith);
+        few = omega arith;
+        keeps = (refl, refl, refl, refl);
+      };
+    }
+
+    pub keeps-header : w.stage ≡ Heading → Belongs (headed w) (after v (Look w.at) x)
+    unfolding with_word looked
+    keeps-header stage =
+        let u : SeatView = after v (Look w.at) x in
+        let goal : Walker → Type 0 = λ z. Belongs z u in
+        ⊎_elim
+        (λ (l : w.at + 1 < w.start + 4). subst goal (sym (headed-next w l))
+        (record { shape = b.shape; view = iu; width = b.width; full = b.full; stands = subst (λ (t : Stage). Stands t (record w { at = w.at + 1 }) u) (sym stage) (head-next l) }))
+        (λ (l : w.start + 4 ≤ w.at + 1). ⊎_elim
+        (λ (e : length (cells_in w) ≡ 0). subst goal (sym (headed-leaf w l e)) (leaf-belongs w u b.shape iu b.width b.full (head-leaf e)))
+        (λ (ne : length (cells_in w) ≢ 0). let m : 0 < length (cells_in w) = omega arith in subst goal (sym (headed-scan w l m))
+        (record { shape = b.shape; view = iu; width = b.width; full = b.full; stands = head-scan m }))
+        (cases_eq (length (cells_in w)) 0))
+        (cases_lt (w.at + 1) (w.start + 4))

@@ -1,0 +1,5 @@
+use Rattle.walker.proofs.Levels.{levels-none}
+use Rattle.walker.proofs.ways.Way.none.Goals as goal
+
+pub returns : goal.returns
+returns c = levels-none _

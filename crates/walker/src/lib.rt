@@ -1,0 +1,58 @@
+//! One worker of a search as a machine.
+//!
+//! **Nouns.** A [`Walker`] makes one *walk* after another: it draws a number, goes down from the
+//! root to a *leaf*, plays out from there, and goes up again with its *adds*. Its *stage* is the
+//! kind of step that is next ([`Stage`]), and its *way* are the *levels* between the root and the
+//! node where it stands. A [`Scan`] goes over the children of a block and keeps the one that Choice
+//! takes, and a [`Climb`] over the adds to a block's seen words: both are small machines inside it.
+//!
+//! **A caller** steps it until it is done, and makes each step on the words of a shared tree:
+//!
+//! ```text
+//! loop {
+//!     let op = walker.op();
+//!     if op == Op::Done { return; }
+//!     let answer = seat.act(tree, op);
+//!     walker.got(answer);
+//! }
+//! ```
+//!
+//! A faster loop takes a [`Scan`] or a [`Climb`] out ([`Walker::scan`], [`Walker::climb`]), makes
+//! its steps, and puts it back ([`Walker::put_scan`], [`Walker::put_climb`]): the steps are the
+//! same.
+//!
+//! **What is proved.** `op` and `got` are the machine of specs/Machine.antt. Where a view belongs
+//! to the walker (specs/Belongs.antt), it fits `op`; and after an answer that the step may give,
+//! the view afterwards belongs to the walker again. Each view of its shape that is in order, stands for
+//! one worker and has drawn nothing belongs to a new walker. At each node of a walk's way the walk
+//! went to the child that Choice gives for the counts that it loaded there. `Done` comes exactly
+//! after a Draw that gave at least N. Each step but a draw leaves the walk fewer steps, and a walk
+//! has at most [`WALK_STEPS`].
+//!
+//! **What is only tested, or not said.** How fast a walker is, and the trees that walkers make: of
+//! those speak the crates that run them.
+//!
+//! **Limits.** Those of `tree_words`. A walker has a fixed size, of some 4 kB. No call takes memory
+//! or a handle.
+#![tactic(auto)]
+
+mod ascending;
+mod climbs;
+mod descending;
+mod expanding;
+mod machine;
+mod scans;
+mod stages;
+#[cfg(test)]
+mod tests;
+mod ways;
+
+pub use climbs::Climb;
+pub use machine::{WALK_STEPS, Walker};
+pub use scans::{Phase, Scan};
+pub use stages::Stage;
+pub use ways::{Level, Way};
+
+/// No word that a walker names is past this one: the largest table has 17,777,222 words, and NEXT
+/// is at most 64 of the largest blocks past its end.
+pub const PAST_WORDS: u32 = 1 << 25;

@@ -1,0 +1,188 @@
+//! The scan of a block's children.
+
+ghost use Rattle.std.specs.Prelude.{◌≡◌, ◌+◌, ◌<◌, ◌≤◌, ◌^◌, IsTrue, ◌↔◌};
+ghost use Rattle.tree_words.specs.Words.{count_in};
+ghost use Rattle.tree_words.specs.Walks.{AtMost};
+ghost use Rattle.walker.specs.Scans.{ScanData, CanScan, child_in, kept, scan_next, scan_of};
+
+use super::PAST_WORDS;
+use std::marker::Model;
+use tree_words::layout::{HEADER_WORDS, NODE_WORDS, SEEN_WORD, TALLY_WORD};
+use tree_words::{Op, visits_of, wins_of};
+use uct_table::{MOST_COUNT, MOST_WEIGHT, Parent};
+
+/// Which word of a child is looked at next.
+#[derive(Clone, Copy, Debug, PartialEq, Eq)]
+pub enum Phase {
+    /// Its move.
+    Move,
+    /// Its tally.
+    Tally,
+    /// Its seen word.
+    Seen,
+}
+
+/// The looks at a block's children, three for each: the move, the tally and the seen word. The
+/// child that Choice takes of those that were looked at is kept as they come.
+///
+/// It is small and stands alone, so that a loop over it can keep it in a local.
+#[derive(Drop)]
+pub struct Scan {
+    parent: Parent,
+    count: u32,
+    at: u32,
+    phase: Phase,
+    place: u32,
+    tally: u64,
+    best: u32,
+    visits: u32,
+    most: u64,
+    fresh: bool,
+}
+
+impl Model for Scan {
+    ghost use Rattle.walker.specs.Scans.{ScanData};
+
+    ghost Value = { ScanData };
+
+    ghost view = { λ s. record {
+      parent = s.parent.visits;
+      weight = s.parent.weight;
+      count = s.count;
+      at = s.at;
+      phase = s.phase;
+      place = s.place;
+      tally = s.tally;
+      best = s.best;
+      visits = s.visits;
+      most = s.most;
+      fresh = s.fresh;
+    } };
+}
+
+impl Scan {
+    /// The scan of the block that begins at `block` and has `count` nodes, below a node with these
+    /// visits, for this weight.
+    pub(crate) fn of(block: u32, count: u32, visits: u32, weight: u32) -> Scan
+        requires block { block < PAST_WORDS }
+        requires visits { visits ≤ MOST_COUNT }
+        requires weight { weight ≤ MOST_WEIGHT }
+        ensures { result ≡ scan_of block count visits weight }
+    {
+        Scan {
+            parent: Parent::of(visits, weight),
+            count,
+            at: block + HEADER_WORDS as u32,
+            phase: Phase::Move,
+            place: 0,
+            tally: 0,
+            best: 0,
+            visits: 0,
+            most: 0,
+            fresh: false,
+        }
+    }
+
+    /// A scan at the same point.
+    pub fn again(&self) -> Scan
+        ensures { result ≡ self.now }
+    {
+        Scan {
+            parent: self.parent,
+            count: self.count,
+            at: self.at,
+            phase: self.phase,
+            place: self.place,
+            tally: self.tally,
+            best: self.best,
+            visits: self.visits,
+            most: self.most,
+            fresh: self.fresh,
+        }
+    }
+
+    /// The next look.
+    #[inline(always)]
+    pub fn op(&self) -> Op
+        ensures { result ≡ Op.Look self.now.at }
+    {
+        Op::Look(self.at)
+    }
+
+    /// Takes the answer of the look.
+    #[inline(always)]
+    pub fn got(&mut self, answer: u64)
+        requires { CanScan self.old answer }
+        ensures { self.new ≡ scan_next self.old answer }
+    {
+        match self.phase {
+            Phase::Move => {
+                self.at += TALLY_WORD as u32;
+                self.phase = Phase::Tally;
+            }
+            Phase::Tally => {
+                self.at += (SEEN_WORD - TALLY_WORD) as u32;
+                self.phase = Phase::Seen;
+                self.tally = answer;
+            }
+            Phase::Seen => {
+                self.keep(answer);
+                self.at += (NODE_WORDS - SEEN_WORD) as u32;
+                self.phase = Phase::Move;
+                self.place += 1;
+            }
+        }
+    }
+
+    // Keeps the child in hand, whose seen word this is, where Choice prefers it.
+    #[tactic(auto, unfolding(crate::specs::Scans::kept))]
+    fn keep(&mut self, seen: u64)
+        requires tally { AtMost MOST_COUNT (count_in self.old.tally) }
+        requires seen { AtMost MOST_COUNT (count_in seen) }
+        ensures { self.new ≡ kept self.old (child_in self.old seen) }
+    {
+        if self.fresh {
+            return;
+        }
+        let visits = visits_of(self.tally);
+        if visits == 0 {
+            self.best = self.place;
+            self.visits = 0;
+            self.fresh = true;
+            return;
+        }
+        let wins = wins_of(self.tally);
+        let above = self
+            .parent
+            .score_above(self.most, visits, wins, visits_of(seen), wins_of(seen));
+        if let Some(score) = above {
+            self.most = score;
+            self.best = self.place;
+            self.visits = visits;
+        } else if self.place == 0 {
+            self.visits = visits;
+        }
+    }
+
+    /// Whether all children were looked at.
+    #[inline(always)]
+    pub fn is_done(&self) -> bool
+        ensures { IsTrue result ↔ (self.now.count ≤ self.now.place) }
+    {
+        self.count <= self.place
+    }
+
+    /// The place of the child that is kept.
+    pub(crate) fn best(&self) -> u32
+        ensures { result ≡ self.now.best }
+    {
+        self.best
+    }
+
+    /// The visits of the child that is kept.
+    pub(crate) fn visits(&self) -> u32
+        ensures { result ≡ self.now.visits }
+    {
+        self.visits
+    }
+}

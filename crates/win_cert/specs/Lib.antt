@@ -1,0 +1,13 @@
+pub mod Texts
+pub mod Words
+pub mod Writable
+pub mod Named
+pub mod Lines
+pub mod Readings
+pub mod Scopes
+pub mod Entries
+pub mod Statements
+pub mod Reasons
+pub mod Verdicts
+pub mod Cuts
+pub mod Laws

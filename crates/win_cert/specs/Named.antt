@@ -1,0 +1,166 @@
+-- What words name, and what the words of a line say. Only private clauses cite this.
+use Rattle.std.specs.Prelude.{ℕ, ◌*◌, ◌≤◌, ◌==◌, ◌&&◌, nat_le, nat_lt, Bool, true, List, [], ◌∷◌, Option, Some, None, suc, length, codes, if◌then◌else◌}
+use Rattle.std.specs.Fmt.{decimal}
+use Rattle.std.specs.Option.{option_and_then, option_map}
+use Rattle.std.specs.Str.{bytes_eq}
+use Rattle.std.specs.Str.Parse.{digits_value}
+use Rattle.hex_cells.specs.Sets.{with_cell}
+use Rattle.hex_cells.specs.Vertices.{vertex_cell, vertex_of}
+use Rattle.conn_store.specs.declared.entries.Kind.{Kind}
+use Rattle.conn_store.specs.declared.entries.Kind.TheVariants.{Full, Semi}
+use Rattle.win_cert.specs.Texts.{kind_word, line_words}
+use Rattle.win_cert.specs.Writable.{IsLineOf}
+use Rattle.win_cert.specs.declared.certs.TheConstants.{LATEST_VERSION}
+use Rattle.win_cert.specs.declared.lines.End.{End}
+use Rattle.win_cert.specs.declared.lines.End.TheVariants.{At, First, Second}
+use Rattle.win_cert.specs.declared.lines.Line.{Line}
+use Rattle.win_cert.specs.declared.lines.Line.TheVariants.{Adj, And, Key, Or2, Or3, Put, Done, Move, Cases}
+use Rattle.win_cert.specs.declared.lines.TheConstants.{LEAST_CASES, MOST_CASES, MOST_NUMBER}
+use Rattle.win_cert.specs.declared.steps.Keyword.{Keyword}
+use Rattle.win_cert.specs.declared.steps.Keyword.TheVariants as keyword
+use Rattle.win_cert.specs.declared.steps.Step.{Step}
+use Rattle.win_cert.specs.declared.steps.Step.TheVariants as step
+
+-- the number that a word is, without leading zero and with at most six digits
+unfoldable pub number_named : List ℕ → Option ℕ
+number_named word =
+    if bytes_eq word (decimal (digits_value 10 word)) && nat_le (digits_value 10 word) MOST_NUMBER
+    then Some (digits_value 10 word) else None
+
+-- the cell of the board of size n whose vertex in lower case the word is
+unfoldable pub cell_named : ℕ → List ℕ → Option ℕ
+cell_named n word = option_and_then
+    (λ k. if nat_lt k (n * n) && bytes_eq word (vertex_of n k) then Some k else None)
+    (vertex_cell n word)
+
+-- the end that a word names
+abbrev pub end_named : ℕ → List ℕ → Option End
+end_named n word =
+    if bytes_eq word (codes "edge1") then Some First
+    else if bytes_eq word (codes "edge2") then Some Second
+    else option_map At (cell_named n word)
+
+-- the first of the words as a number, and the words after it
+abbrev pub first_number : List (List ℕ) → Option (ℕ × List (List ℕ))
+first_number [] = None
+first_number (word ∷ words) = option_map (λ i. (i, words)) (number_named word)
+
+abbrev pub first_cell : ℕ → List (List ℕ) → Option (ℕ × List (List ℕ))
+first_cell n [] = None
+first_cell n (word ∷ words) = option_map (λ k. (k, words)) (cell_named n word)
+
+abbrev pub first_end : ℕ → List (List ℕ) → Option (End × List (List ℕ))
+first_end n [] = None
+first_end n (word ∷ words) = option_map (λ end. (end, words)) (end_named n word)
+
+-- the words after a first word that is this one
+abbrev pub after_word : List ℕ → List (List ℕ) → Option (List (List ℕ))
+after_word name [] = None
+after_word name (word ∷ words) = if bytes_eq word name then Some words else None
+
+-- this, where no word is left
+abbrev pub alone : {A : Type 0} → A → List (List ℕ) → Option A
+alone a [] = Some a
+alone a (word ∷ words) = None
+
+-- the numbers that all words are
+abbrev pub numbers_named : List (List ℕ) → Option (List ℕ)
+numbers_named [] = Some []
+numbers_named (word ∷ words) = option_and_then
+    (λ i. option_map (λ numbers. i ∷ numbers) (numbers_named words)) (number_named word)
+
+-- the set s with the cells that all words name: they rise, and none is below `least`
+abbrev pub cells_named : ℕ → ℕ → ℕ → List (List ℕ) → Option ℕ
+cells_named n s least [] = Some s
+cells_named n s least (word ∷ words) = option_and_then
+    (λ k. if nat_le least k then cells_named n (with_cell s k) (suc k) words else None)
+    (cell_named n word)
+
+-- the keyword that a word is
+unfoldable pub keyword_named : List ℕ → Option Keyword
+keyword_named word =
+    if bytes_eq word (codes "adj") then Some keyword.Adj
+    else if bytes_eq word (codes "and") then Some keyword.And
+    else if bytes_eq word (codes "key") then Some keyword.Key
+    else if bytes_eq word (codes "or") then Some keyword.Or
+    else if bytes_eq word (codes "put") then Some keyword.Put
+    else if bytes_eq word (codes "done") then Some keyword.Done
+    else if bytes_eq word (codes "move") then Some keyword.Move
+    else if bytes_eq word (codes "cases") then Some keyword.Cases
+    else if bytes_eq word (codes "full") then Some keyword.Full
+    else if bytes_eq word (codes "semi") then Some keyword.Semi
+    else None
+
+-- whether lines with that keyword stand in certificates of the version
+abbrev pub is_in_version : ℕ → Keyword → Bool
+is_in_version version keyword.Put = version == LATEST_VERSION
+is_in_version version keyword.Done = version == LATEST_VERSION
+is_in_version version keyword.Move = version == LATEST_VERSION
+is_in_version version keyword.Cases = version == LATEST_VERSION
+is_in_version version k = true
+
+-- what the words after each keyword say, on the board of size n
+abbrev pub adj_in : ℕ → List (List ℕ) → Option Step
+adj_in n words = option_and_then
+    (λ x. option_and_then (λ y. alone (step.Line (Adj x.0 y.0)) y.1) (first_end n x.1))
+    (first_end n words)
+
+abbrev pub pair_in : (ℕ → ℕ → Line) → List (List ℕ) → Option Step
+pair_in line words = option_and_then
+    (λ i. option_and_then (λ j. alone (step.Line (line i.0 j.0)) j.1) (first_number i.1))
+    (first_number words)
+
+abbrev pub or_after : ℕ → ℕ → List (List ℕ) → Option Step
+or_after i j [] = Some (step.Line (Or2 i j))
+or_after i j (word ∷ words) = option_and_then
+    (λ k. alone (step.Line (Or3 i j k.0)) k.1) (first_number (word ∷ words))
+
+abbrev pub or_in : List (List ℕ) → Option Step
+or_in words = option_and_then
+    (λ i. option_and_then (λ j. or_after i.0 j.0 j.1) (first_number i.1)) (first_number words)
+
+abbrev pub put_in : ℕ → List (List ℕ) → Option Step
+put_in n words = option_map (λ s. step.Line (Put s)) (cells_named n 0 0 words)
+
+abbrev pub move_in : ℕ → List (List ℕ) → Option Step
+move_in n words = option_and_then
+    (λ k. option_and_then (λ i. alone (step.Line (Move k.0 i.0)) i.1) (first_number k.1))
+    (first_cell n words)
+
+abbrev pub cases_in : List (List ℕ) → Option Step
+cases_in words = option_and_then
+    (λ numbers. if nat_le LEAST_CASES (length numbers) && nat_le (length numbers) MOST_CASES
+    then Some (step.Line (Cases numbers)) else None)
+    (numbers_named words)
+
+abbrev pub claim_in : Kind → List (List ℕ) → Option Step
+claim_in kind words =
+    option_and_then (λ i. alone (step.Claim kind i.0) i.1) (first_number words)
+
+abbrev pub args_named : ℕ → Keyword → List (List ℕ) → Option Step
+args_named n keyword.Adj words = adj_in n words
+args_named n keyword.And words = pair_in And words
+args_named n keyword.Key words = pair_in Key words
+args_named n keyword.Or words = or_in words
+args_named n keyword.Put words = put_in n words
+args_named n keyword.Done words = alone (step.Line Done) words
+args_named n keyword.Move words = move_in n words
+args_named n keyword.Cases words = cases_in words
+args_named n keyword.Full words = claim_in Full words
+args_named n keyword.Semi words = claim_in Semi words
+
+-- what the words of a line say, in a certificate of that version on a board of that size
+abbrev pub step_named : ℕ → ℕ → List (List ℕ) → Option Step
+step_named version n [] = None
+step_named version n (word ∷ words) = option_and_then
+    (λ k. if is_in_version version k then args_named n k words else None) (keyword_named word)
+
+-- the words of a line that says this
+abbrev pub step_words : ℕ → Step → List (List ℕ)
+step_words n (step.Line line) = line_words n line
+step_words n (step.Claim kind i) = kind_word kind ∷ decimal i ∷ []
+
+-- it is one of that version on the board of size n
+abbrev pub IsStepOf : ℕ → ℕ → Step → Type 0
+IsStepOf version n (step.Line line) = IsLineOf version n line
+IsStepOf version n (step.Claim kind i) = i ≤ MOST_NUMBER

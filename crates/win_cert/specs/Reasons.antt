@@ -1,0 +1,128 @@
+-- The thirteen reasons against a derivation line or the claim, and their order.
+use Rattle.std.specs.Prelude.{ℕ, ◌==◌, ◌&&◌, ◌||◌, not, Bool, true, false, List, [], ◌∷◌, Option}
+use Rattle.std.specs.List.{find, list_all, list_any}
+use Rattle.std.specs.Option.{is_none, is_some, option_map_or}
+use Rattle.hex_cells.specs.Sets.{has}
+use Rattle.hex_board.specs.Elements.{are_joined}
+use Rattle.hex_board.specs.Places.{cell_of}
+use Rattle.hex_board.specs.Positions.{is_empty_at}
+use Rattle.win_cert.specs.Entries.{Context, ScopedEntry, elements_at, end_element, entry_at, middle_of, other_end}
+use Rattle.win_cert.specs.Statements.{Statement, derivation, cell_numbers, entries_named, have_same_ends, is_cases, is_cell_in, is_chain, is_edge_entry, is_or, is_other_stone, are_near, may_take, numbers_in, scope_taken, share_cell, takes_edges}
+use Rattle.win_cert.specs.declared.lines.Line.TheVariants.{Adj, And, Key, Put, Done, Move}
+
+-- the reasons, with their numbers
+pub data Reason : Type 0 where
+  bad_reference : Reason  -- 1
+  wrong_colour : Reason  -- 2
+  not_neighbours : Reason  -- 3
+  no_common_middle : Reason  -- 4
+  carriers_meet : Reason  -- 5
+  end_in_carrier : Reason  -- 6
+  middle_kind : Reason  -- 7
+  ends_differ : Reason  -- 8
+  common_cell : Reason  -- 9
+  not_edges : Reason  -- 10
+  bad_stone : Reason  -- 11
+  wrong_scope : Reason  -- 12
+  not_joined : Reason  -- 13
+
+-- the order in which they are told
+abbrev pub order : List Reason
+order =
+    bad_reference ∷ bad_stone ∷ wrong_scope ∷ wrong_colour ∷ not_neighbours ∷ no_common_middle
+    ∷ carriers_meet ∷ end_in_carrier ∷ middle_kind ∷ ends_differ ∷ common_cell ∷ not_edges
+    ∷ not_joined ∷ []
+
+-- a number that is named is not that of an earlier line that gives an entry of the kind taken
+abbrev pub is_bad_reference : Context → Statement → Bool
+is_bad_reference c s = not (list_all (λ i. may_take s (entry_at c i)) (numbers_in s))
+
+-- a cell of `put` is not empty on the board, or that of `move` on the board of the scope
+abbrev pub is_bad_stone : Context → Statement → Bool
+is_bad_stone c (derivation (Put cells)) =
+    list_any (λ k. has cells k && not (is_empty_at c.base.board k)) cell_numbers
+is_bad_stone c (derivation (Move k i)) = not (is_empty_at (elements_at c).board k)
+is_bad_stone c s = false
+
+-- an entry's scope is not the one in which the statement takes entries
+abbrev pub is_wrong_scope : Context → Statement → Bool
+is_wrong_scope c s = not (list_all (λ a. a.scope == scope_taken c s) (entries_named c s))
+
+-- an end of `adj` is a stone of the opponent
+abbrev pub is_wrong_colour : Context → Statement → Bool
+is_wrong_colour c (derivation (Adj x y)) =
+    is_other_stone (elements_at c) x || is_other_stone (elements_at c) y
+is_wrong_colour c s = false
+
+-- the elements of `adj` are not near
+abbrev pub are_not_neighbours : Context → Statement → Bool
+are_not_neighbours c (derivation (Adj x y)) =
+    not (are_near (elements_at c) (end_element (elements_at c) x) (end_element (elements_at c) y))
+are_not_neighbours c s = false
+
+-- whether something holds of the two entries that `and` or `key` names, and of their middle
+abbrev pub holds_of_chain : (ScopedEntry → ScopedEntry → ℕ → Bool) → List ScopedEntry → Bool
+holds_of_chain test (a ∷ b ∷ []) = option_map_or (test a b) (middle_of a b) false
+holds_of_chain test entries = false
+
+-- the entries of `and` or `key` do not share exactly one element
+abbrev pub has_no_middle : Context → Statement → Bool
+has_no_middle c s =
+    is_chain s && not (holds_of_chain (λ a b u. true) (entries_named c s))
+
+-- a cell is in both carriers of `and` or `key`
+abbrev pub do_carriers_meet : Context → Statement → Bool
+do_carriers_meet c s = is_chain s && share_cell (entries_named c s)
+
+-- an end other than the middle is a cell of the other entry's carrier
+abbrev pub is_end_in_carrier : Context → Statement → Bool
+is_end_in_carrier c s = is_chain s && holds_of_chain
+    (λ a b u. is_cell_in (elements_at c) (other_end a u) b.carrier
+    || is_cell_in (elements_at c) (other_end b u) a.carrier)
+    (entries_named c s)
+
+-- the middle of `and` is an empty cell, or that of `key` is a group
+abbrev pub is_middle_wrong : Context → Statement → Bool
+is_middle_wrong c (derivation (And i j)) = holds_of_chain
+    (λ a b u. is_some (cell_of (elements_at c) u)) (entries_named c (derivation (And i j)))
+is_middle_wrong c (derivation (Key i j)) = holds_of_chain
+    (λ a b u. is_none (cell_of (elements_at c) u)) (entries_named c (derivation (Key i j)))
+is_middle_wrong c s = false
+
+-- the entries of `or` have not all the same elements
+abbrev pub do_ends_differ : Context → Statement → Bool
+do_ends_differ c s = is_or s && not (have_same_ends (entries_named c s))
+
+-- a cell is in all the carriers of `or` or `cases`
+abbrev pub is_cell_common : Context → Statement → Bool
+is_cell_common c s = (is_or s || is_cases s) && share_cell (entries_named c s)
+
+-- an entry of `move`, `cases` or the claim is not one of the player's edges in its scope
+abbrev pub is_no_edge_entry : Context → Statement → Bool
+is_no_edge_entry c s =
+    takes_edges s && not (list_all (is_edge_entry c.base) (entries_named c s))
+
+-- the player is not joined on the board of the scope of `done`
+abbrev pub is_not_joined : Context → Statement → Bool
+is_not_joined c (derivation Done) = not (are_joined (elements_at c))
+is_not_joined c s = false
+
+-- whether a reason applies to a statement
+abbrev pub applies : Context → Statement → Reason → Bool
+applies c s bad_reference = is_bad_reference c s
+applies c s wrong_colour = is_wrong_colour c s
+applies c s not_neighbours = are_not_neighbours c s
+applies c s no_common_middle = has_no_middle c s
+applies c s carriers_meet = do_carriers_meet c s
+applies c s end_in_carrier = is_end_in_carrier c s
+applies c s middle_kind = is_middle_wrong c s
+applies c s ends_differ = do_ends_differ c s
+applies c s common_cell = is_cell_common c s
+applies c s not_edges = is_no_edge_entry c s
+applies c s bad_stone = is_bad_stone c s
+applies c s wrong_scope = is_wrong_scope c s
+applies c s not_joined = is_not_joined c s
+
+-- the first reason, in that order, that applies to a statement
+unfoldable pub reason_against : Context → Statement → Option Reason
+reason_against c s = find (applies c s) order

@@ -1,0 +1,51 @@
+-- Which certificates are accepted, and what a checker answers.
+use Rattle.std.specs.Prelude.{◌≡◌, ℕ, ◌<◌, ◌↔◌, List, [], ◌∷◌, ◌++◌, Option, Some, None, length, map}
+use Rattle.std.specs.List.{slice_get}
+use Rattle.std.specs.Option.{option_and_then}
+use Rattle.conn_store.specs.declared.entries.Kind.{Kind}
+use Rattle.win_cert.specs.Entries.{ScopedEntry, context_at, entry_at}
+use Rattle.win_cert.specs.Reasons.{Reason, reason_against}
+use Rattle.win_cert.specs.Statements.{Statement, claim, derivation}
+use Rattle.win_cert.specs.declared.certs.Cert.{Cert}
+use Rattle.win_cert.specs.declared.certs.TheConstants.{LATEST_VERSION}
+
+-- the derivation lines, and then the claim
+abbrev pub statements_of : Cert → List Statement
+statements_of cert = map derivation cert.lines ++ claim cert.claim cert.entry ∷ []
+
+-- the first reason against statement k, if there is one; the claim has the number after the last
+-- line
+abbrev pub reason_at : Cert → ℕ → Option Reason
+reason_at cert k =
+    option_and_then (reason_against (context_at cert k)) (slice_get (statements_of cert) k)
+
+-- there is no reason against a line or the claim
+abbrev pub Accepted : Cert → Type 0
+Accepted cert = (k : ℕ) → reason_at cert k ≡ None
+
+-- the entry that the claim names
+abbrev pub claimed_entry : Cert → Option ScopedEntry
+claimed_entry cert = entry_at (context_at cert (length cert.lines)) cert.entry
+
+-- what a checker answers: yes, with the claim and the carrier of its entry, or no, with the number
+-- of a statement and a reason against it
+pub data Verdict : Type 0 where
+  yes : Kind → ℕ → Verdict
+  no : ℕ → Reason → Verdict
+
+-- the verdict on a certificate: yes where it is accepted, and else the first statement against
+-- which there is a reason, and the first reason against it
+abbrev pub IsVerdict : Cert → Verdict → Type 0
+IsVerdict cert (yes kind carrier) =
+    Accepted cert × (kind ≡ cert.claim)
+    × (a : ScopedEntry) × (claimed_entry cert ≡ Some a) × (carrier ≡ a.carrier)
+IsVerdict cert (no k reason) =
+    (reason_at cert k ≡ Some reason) × ((j : ℕ) → j < k → reason_at cert j ≡ None)
+
+-- the certificate with the latest version, and all else as it was
+abbrev pub raised : Cert → Cert
+raised cert = record cert { version = LATEST_VERSION }
+
+-- there are the same verdicts on the two certificates
+abbrev pub HaveSameVerdict : Cert → Cert → Type 0
+HaveSameVerdict a b = (v : Verdict) → IsVerdict a v ↔ IsVerdict b v

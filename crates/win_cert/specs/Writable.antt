@@ -1,0 +1,50 @@
+-- Which certificates can be written.
+use Rattle.std.specs.Prelude.{◌≡◌, ℕ, ◌*◌, ◌<◌, ◌≤◌, ◌⊎◌, List, [], ◌∷◌, length, All}
+use Rattle.hex_board.specs.Positions.{IsPosition, Within}
+use Rattle.win_cert.specs.declared.certs.Cert.{Cert}
+use Rattle.win_cert.specs.declared.certs.TheConstants.{FIRST_VERSION, LATEST_VERSION, MOST_LINES}
+use Rattle.win_cert.specs.declared.lines.End.{End}
+use Rattle.win_cert.specs.declared.lines.End.TheVariants.{At, First, Second}
+use Rattle.win_cert.specs.declared.lines.Line.{Line}
+use Rattle.win_cert.specs.declared.lines.Line.TheVariants.{Adj, And, Key, Or2, Or3, Put, Done, Move, Cases}
+use Rattle.win_cert.specs.declared.lines.TheConstants.{LEAST_CASES, MOST_CASES, MOST_NUMBER}
+
+-- each number has at most six digits
+abbrev pub AreNumbers : List ℕ → Type 0
+AreNumbers numbers = All (λ i. i ≤ MOST_NUMBER) numbers
+
+-- the end is an edge, or a cell of the board of size n
+abbrev pub IsEndOn : ℕ → End → Type 0
+IsEndOn n (At k) = k < n * n
+IsEndOn n First = Unit {0}
+IsEndOn n Second = Unit {0}
+
+-- the line is one of that version on the board of size n: its cells lie on the board, and its
+-- numbers are not too great
+abbrev pub IsLineOf : ℕ → ℕ → Line → Type 0
+IsLineOf version n (Adj x y) = IsEndOn n x × IsEndOn n y
+IsLineOf version n (And i j) = AreNumbers (i ∷ j ∷ [])
+IsLineOf version n (Key i j) = AreNumbers (i ∷ j ∷ [])
+IsLineOf version n (Or2 i j) = AreNumbers (i ∷ j ∷ [])
+IsLineOf version n (Or3 i j k) = AreNumbers (i ∷ j ∷ k ∷ [])
+IsLineOf version n (Put cells) = (version ≡ LATEST_VERSION) × Within n cells
+IsLineOf version n Done = version ≡ LATEST_VERSION
+IsLineOf version n (Move k i) =
+    (version ≡ LATEST_VERSION) × (k < n * n) × AreNumbers (i ∷ [])
+IsLineOf version n (Cases numbers) =
+    (version ≡ LATEST_VERSION) × (LEAST_CASES ≤ length numbers) × (length numbers ≤ MOST_CASES)
+    × AreNumbers numbers
+
+-- each part of the certificate can be spelled
+pub record HasSpelling (cert : Cert) : Type 0 where
+  pub version : (cert.version ≡ FIRST_VERSION) ⊎ (cert.version ≡ LATEST_VERSION)
+  pub lines : All (IsLineOf cert.version cert.board.size) cert.lines
+  pub entry : cert.entry ≤ MOST_NUMBER
+
+-- the certificate can be written: each part can be spelled, and its lines are not too many
+abbrev pub IsWritable : Cert → Type 0
+IsWritable cert = HasSpelling cert × (length cert.lines ≤ MOST_LINES)
+
+-- the certificate's board is one, as that of each certificate in memory is
+abbrev pub HasBoard : Cert → Type 0
+HasBoard cert = IsPosition cert.board.size cert.board.black cert.board.white

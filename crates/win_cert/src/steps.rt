@@ -1,0 +1,207 @@
+//! What a line after the head says: a step of the derivation, or the claim.
+
+ghost use Rattle.std.specs.Prelude.{◌≡◌, IfOk};
+ghost use Rattle.win_cert.specs.Named.{adj_in, args_named, cases_in, claim_in, is_in_version};
+ghost use Rattle.win_cert.specs.Named.{keyword_named, move_in, numbers_named, or_in, pair_in, put_in};
+ghost use Rattle.win_cert.specs.Named.{alone, step_named};
+
+use super::words::Words;
+use super::{LATEST_VERSION, LEAST_CASES, Line, MOST_CASES, Numbers};
+use conn_store::Kind;
+use hex_cells::Size;
+use std::alloc::{AllocError, Global};
+
+/// The first word of a line.
+#[derive(Clone, Copy)]
+pub(crate) enum Keyword {
+    Adj,
+    And,
+    Key,
+    Or,
+    Put,
+    Done,
+    Move,
+    Cases,
+    Full,
+    Semi,
+}
+
+/// A derivation line, or the claim with the number of its entry.
+#[derive(Drop)]
+pub(crate) enum Step {
+    Line(Line),
+    Claim(Kind, u32),
+}
+
+// The keyword that a word is.
+#[tactic(auto, unfolding(crate::specs::Named::keyword_named))]
+fn keyword_of(word: &[u8]) -> Option<Keyword>
+    ensures { result ≡ keyword_named word.now }
+{
+    if word == b"adj".as_slice() {
+        Some(Keyword::Adj)
+    } else if word == b"and".as_slice() {
+        Some(Keyword::And)
+    } else if word == b"key".as_slice() {
+        Some(Keyword::Key)
+    } else if word == b"or".as_slice() {
+        Some(Keyword::Or)
+    } else if word == b"put".as_slice() {
+        Some(Keyword::Put)
+    } else if word == b"done".as_slice() {
+        Some(Keyword::Done)
+    } else if word == b"move".as_slice() {
+        Some(Keyword::Move)
+    } else if word == b"cases".as_slice() {
+        Some(Keyword::Cases)
+    } else if word == b"full".as_slice() {
+        Some(Keyword::Full)
+    } else if word == b"semi".as_slice() {
+        Some(Keyword::Semi)
+    } else {
+        None
+    }
+}
+
+// Whether lines with that keyword stand in certificates of the version.
+fn is_in_version(version: u32, keyword: Keyword) -> bool
+    ensures { result ≡ is_in_version version keyword }
+{
+    match keyword {
+        Keyword::Put => version == LATEST_VERSION,
+        Keyword::Done => version == LATEST_VERSION,
+        Keyword::Move => version == LATEST_VERSION,
+        Keyword::Cases => version == LATEST_VERSION,
+        _ => true,
+    }
+}
+
+/// What the words of a line say, in a certificate of that version on a board of that size; `None`
+/// exactly where they say nothing.
+pub(crate) fn read_step(
+    alloc: Global,
+    words: &mut Words<'_>,
+    version: u32,
+    size: Size,
+) -> Result<Option<Step>, AllocError>
+    ensures { IfOk result (λ step. step ≡ step_named version size words.old) }
+{
+    let Some(word) = words.next() else {
+        return Ok(None);
+    };
+    let Some(keyword) = keyword_of(word) else {
+        return Ok(None);
+    };
+    if is_in_version(version, keyword) {
+        read_args(alloc, words, keyword, size)
+    } else {
+        Ok(None)
+    }
+}
+
+// What the words after the keyword say.
+fn read_args(
+    alloc: Global,
+    words: &mut Words<'_>,
+    keyword: Keyword,
+    size: Size,
+) -> Result<Option<Step>, AllocError>
+    ensures { IfOk result (λ step. step ≡ args_named size keyword words.old) }
+{
+    match keyword {
+        Keyword::Adj => Ok(read_adj(words, size)),
+        Keyword::And => Ok(read_and(words)),
+        Keyword::Key => Ok(read_key(words)),
+        Keyword::Or => Ok(read_or(words)),
+        Keyword::Put => Ok(read_put(words, size)),
+        Keyword::Done => Ok(read_done(words)),
+        Keyword::Move => Ok(read_move(words, size)),
+        Keyword::Cases => read_cases(alloc, words),
+        Keyword::Full => Ok(read_claim(words, Kind::Full)),
+        Keyword::Semi => Ok(read_claim(words, Kind::Semi)),
+    }
+}
+
+fn read_adj(words: &mut Words<'_>, size: Size) -> Option<Step>
+    ensures { result ≡ adj_in size words.old }
+{
+    let x = words.end(size)?;
+    let y = words.end(size)?;
+    words.nothing()?;
+    Some(Step::Line(Line::Adj(x, y)))
+}
+
+fn read_and(words: &mut Words<'_>) -> Option<Step>
+    ensures { result ≡ pair_in Line.And words.old }
+{
+    let i = words.number()?;
+    let j = words.number()?;
+    words.nothing()?;
+    Some(Step::Line(Line::And(i, j)))
+}
+
+fn read_key(words: &mut Words<'_>) -> Option<Step>
+    ensures { result ≡ pair_in Line.Key words.old }
+{
+    let i = words.number()?;
+    let j = words.number()?;
+    words.nothing()?;
+    Some(Step::Line(Line::Key(i, j)))
+}
+
+fn read_or(words: &mut Words<'_>) -> Option<Step>
+    ensures { result ≡ or_in words.old }
+{
+    let i = words.number()?;
+    let j = words.number()?;
+    if words.are_done() {
+        return Some(Step::Line(Line::Or2(i, j)));
+    }
+    let k = words.number()?;
+    words.nothing()?;
+    Some(Step::Line(Line::Or3(i, j, k)))
+}
+
+fn read_put(words: &mut Words<'_>, size: Size) -> Option<Step>
+    ensures { result ≡ put_in size words.old }
+{
+    let cells = words.cells(size)?;
+    Some(Step::Line(Line::Put(cells)))
+}
+
+fn read_done(words: &mut Words<'_>) -> Option<Step>
+    ensures { result ≡ alone (Step.Line Line.Done) words.old }
+{
+    words.nothing()?;
+    Some(Step::Line(Line::Done))
+}
+
+fn read_move(words: &mut Words<'_>, size: Size) -> Option<Step>
+    ensures { result ≡ move_in size words.old }
+{
+    let cell = words.cell(size)?;
+    let i = words.number()?;
+    words.nothing()?;
+    Some(Step::Line(Line::Move(cell, i)))
+}
+
+fn read_cases(alloc: Global, words: &mut Words<'_>) -> Result<Option<Step>, AllocError>
+    ensures { IfOk result (λ step. step ≡ cases_in words.old) }
+{
+    let Some(numbers) = words.numbers(alloc)? else {
+        return Ok(None);
+    };
+    if LEAST_CASES <= numbers.len() && numbers.len() <= MOST_CASES {
+        Ok(Some(Step::Line(Line::Cases(Numbers::of(numbers)))))
+    } else {
+        Ok(None)
+    }
+}
+
+fn read_claim(words: &mut Words<'_>, kind: Kind) -> Option<Step>
+    ensures { result ≡ claim_in kind words.old }
+{
+    let i = words.number()?;
+    words.nothing()?;
+    Some(Step::Claim(kind, i))
+}
