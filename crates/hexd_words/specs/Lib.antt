@@ -2,3 +2,4 @@ pub mod Command
 pub mod Grammar
 pub mod Values
 pub mod Reading
+pub mod Finding

@@ -1,17 +1,10 @@
 //! The command line as `clap` reads it. All values are text here.
 
-ghost use Rattle.std.specs.Prelude.{◌≡◌, ◌≢◌, IfOk, MatchOption, None, [], ◌∷◌};
-ghost use Rattle.clap.specs.Words.{app_of, fault_of, found_of, kind_of, matches_of, rows_of};
-ghost use Rattle.clap.specs.Words.{with_rule};
-ghost use Rattle.hexd_words.specs.Command.{
-  hexd_app,
-  knob_table,
-  mode_rule,
-  option_rule,
-  other_table,
-  plain_app,
-  with_options,
-};
+ghost use Rattle.std.specs.Prelude.{◌≡◌, ◌≢◌, IfOk, None};
+ghost use Rattle.clap.specs.Words.{app_of, kind_of, with_rule};
+ghost use Rattle.hexd_words.specs.Command.{hexd_app, knob_table, mode_rule, other_table, plain_app};
+ghost use Rattle.hexd_words.specs.Command.{with_options};
+ghost use Rattle.hexd_words.specs.Finding.{FindsMatches, with_default};
 
 use crate::Memory;
 use clap::error::ErrorKind;
@@ -49,8 +42,8 @@ fn with_option<'a>(
     name: &'a str,
     default: &'a str,
 ) -> Result<Command<'a>, AllocError>
-    ensures { IfOk result (λ c. app_of c
-        ≡ with_rule (app_of command.entry) (option_rule (name.entry.now, default.entry.now ∷ []))) }
+    ensures { IfOk result
+        (λ c. app_of c ≡ with_default (app_of command.entry) name.entry.now default.entry.now) }
 {
     let option = Arg::new(alloc, name)
         .long(name)
@@ -85,9 +78,7 @@ fn with_others<'a>(alloc: Global, command: Command<'a>) -> Result<Command<'a>, A
 
 /// What `clap` finds in the words; none exactly where it finds a fault in them.
 pub fn matched<'a>(alloc: Global, words: &'a [Word]) -> Result<Option<ArgMatches<'a>>, Memory>
-    ensures { IfOk result (λ r. MatchOption r (fault_of hexd_app words.now ≢ [])
-        (λ m. (fault_of hexd_app words.now ≡ [])
-        × (rows_of (found_of m) ≡ matches_of hexd_app words.now))) }
+    ensures { IfOk result (FindsMatches words.now) }
 {
     let command = command(alloc)?;
     match command.try_get_matches_from(words) {

@@ -8,6 +8,7 @@ ghost use Rattle.std.specs.List.{list_all};
 ghost use Rattle.hexd_words.specs.declared.settings.Mode.{Mode};
 ghost use Rattle.std.specs.Str.Parse.{IsNumeral, digits_value};
 ghost use Rattle.std.specs.Char.{is_ascii_digit};
+ghost use Rattle.hexd_words.specs.Finding.{IsShortNumeral};
 ghost use Rattle.hexd_words.specs.Values.{IsNumberFrom, switch_word, mode_word};
 
 use crate::Mode;
@@ -40,9 +41,7 @@ pub fn small_number(text: Option<&str>, least: u32, most: u32) -> Option<u32>
 
 // The number that the text writes in one to twenty decimal digits, where it fits 64 bits.
 fn digits(text: &str) -> Option<u64>
-    ensures { SomeIff result
-        (IsNumeral 10 text.now × (length text.now ≤ 20) × (digits_value 10 text.now < 2 ^ 64))
-        (digits_value 10 text.now) }
+    ensures { SomeIff result (IsShortNumeral text.now) (digits_value 10 text.now) }
 {
     if text.len() > MOST_DIGITS {
         return None;

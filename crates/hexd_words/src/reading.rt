@@ -1,29 +1,14 @@
 //! From the words of a command line to its options.
 
-ghost use Rattle.std.specs.Prelude.{
-  ◌≡◌,
-  ◌≢◌,
-  ◌↔◌,
-  ◌++◌,
-  ℕ,
-  All,
-  Contains,
-  IfOk,
-  IfSome,
-  IsTrue,
-  List,
-  Some,
-  [],
-  codes,
-  option_map,
-};
+ghost use Rattle.std.specs.Prelude.{◌≡◌, ◌≢◌, ◌↔◌, All, Contains, IfOk, IfSome, IsTrue, List};
+ghost use Rattle.std.specs.Prelude.{Some, [], codes, option_map};
 ghost use Rattle.std.specs.Bool.{OnFalse};
 ghost use Rattle.std.specs.Str.{IsUtf8};
-ghost use Rattle.clap.specs.Words.{fault_of, first_of, first_value, found_of, matches_of};
-ghost use Rattle.hexd_words.specs.Command.{hexd_app};
-ghost use Rattle.hexd_words.specs.Grammar.{Saying, defaults, value_of};
+ghost use Rattle.clap.specs.Words.{first_value, found_of};
+ghost use Rattle.hexd_words.specs.Finding.{ArePlain, HasNoFault, FindsWhatIsSaid};
+ghost use Rattle.hexd_words.specs.Grammar.{Saying};
 ghost use Rattle.hexd_words.specs.Reading.{IsLine, WellFormed};
-ghost use Rattle.hexd_words.specs.Values.{OptionsInRange, AreOptions, TextBytes, lone_hyphen};
+ghost use Rattle.hexd_words.specs.Values.{OptionsInRange, AreOptions, lone_hyphen};
 ghost use Rattle.hexd_words.specs.declared.settings.Options.{Options};
 
 use crate::command::matched;
@@ -52,12 +37,10 @@ pub fn read_words(alloc: Global, words: &[Word]) -> Result<Option<Options>, Memo
 /// Of words that are text, none of them a hyphen alone, `clap` finds no fault exactly in those that
 /// are a line, and the value that it then finds of a name is what the line says, or the default.
 pub fn clap_reads_lines(words: &[Word])
-    ensures line { All IsUtf8 words.now → ¬ Contains words.now lone_hyphen
-        → fault_of hexd_app words.now ≡ [] → (said : List Saying) × IsLine words.now said }
-    ensures clear { (said : List Saying) → IsLine words.now said
-        → fault_of hexd_app words.now ≡ [] }
-    ensures values { (said : List Saying) → IsLine words.now said → (name : TextBytes)
-        → first_of name (matches_of hexd_app words.now) ≡ value_of (said ++ defaults) name }
+    ensures line { ArePlain words.now → HasNoFault words.now
+        → (said : List Saying) × IsLine words.now said }
+    ensures clear { (said : List Saying) → IsLine words.now said → HasNoFault words.now }
+    ensures values { FindsWhatIsSaid words.now }
 {
     let _words = words;
 }

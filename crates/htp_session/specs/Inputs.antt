@@ -1,5 +1,5 @@
 -- The whole input of a link, up to a limit.
-use Rattle.std.specs.Prelude.{◌≡◌, ◌+◌, ◌≤◌, ℕ, List, [], ◌++◌, length, Result, Ok, Err, Vec}
+use Rattle.std.specs.Prelude.{◌≡◌, ◌+◌, ◌≤◌, ℕ, Bool, List, [], ◌++◌, length, Result, Ok, Err, Vec}
 use Rattle.std.specs.declared.alloc.Global.{Global}
 use Rattle.std.specs.declared.option.Option.{Option}
 use Rattle.hex_io.specs.Told.{Told, Both}
@@ -33,3 +33,37 @@ TakesAll old new limit (Err WriteFault) = ⊥
 TakesAll old new limit (Err Memory) = Both old new (TookAtMost limit)
 TakesAll old new limit (Err TooLong) = Both old new (TookTooMany limit)
 TakesAll old new limit (Err ArchiveFault) = ⊥
+
+-- which text answers which bytes, and whether they are accepted
+abbrev pub TextOf : Type 1
+TextOf = List ℕ → List ℕ → Bool → Type 0
+
+-- All bytes to come were taken, at most so many. This text answers them, and these bytes were given.
+pub record IsAnswer (Answers : TextOf) (accepted : Bool) (limit : ℕ) (old new : Told)
+    (text given : List ℕ) : Type 0 where
+  pub in_limit : length old.to_come ≤ limit
+  pub says : Answers old.to_come text accepted
+  pub taken : new.taken ≡ old.taken ++ old.to_come
+  pub ended : new.to_come ≡ []
+  pub gives : new.given ≡ old.given ++ given
+
+-- the text was given
+abbrev pub AnsweredAll : TextOf → Bool → ℕ → Told → Told → Type 0
+AnsweredAll Answers accepted limit old new =
+    (text : List ℕ) × IsAnswer Answers accepted limit old new text text
+
+-- a front of the text was given
+abbrev pub AnsweredPart : TextOf → ℕ → Told → Told → Type 0
+AnsweredPart Answers limit old new = (accepted : Bool) × (front : List ℕ) × (others : List ℕ)
+    × IsAnswer Answers accepted limit old new (front ++ others) front
+
+-- The whole input was answered by its text, or a front of it where a write failed. Where it was not
+-- taken whole, or memory ran out, nothing was given.
+abbrev pub AnswersInput : TextOf → Option Told → Option Told → ℕ → Result Bool Stop → Type 0
+AnswersInput Answers old new limit (Ok accepted) =
+    Both old new (AnsweredAll Answers accepted limit)
+AnswersInput Answers old new limit (Err ReadFault) = Both old new (TookAtMost limit)
+AnswersInput Answers old new limit (Err WriteFault) = Both old new (AnsweredPart Answers limit)
+AnswersInput Answers old new limit (Err Memory) = Both old new (TookAtMost limit)
+AnswersInput Answers old new limit (Err TooLong) = Both old new (TookTooMany limit)
+AnswersInput Answers old new limit (Err ArchiveFault) = ⊥

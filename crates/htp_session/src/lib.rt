@@ -14,6 +14,9 @@
 //! let outcome = converse(alloc, &mut devices, &options, size, limit);
 //! ```
 //!
+//! Beside it stand [`take_all`], the whole input of a link up to a limit, and [`answer_input`], which
+//! answers it by one text of an [`InputReader`].
+//!
 //! **What is proved**, in the words of `specs/Endings.antt`: where the link tells it, what was
 //! given is the talk over the lines of what was taken, as far as each outcome says, with the files
 //! that came of the shelf's fetches and the turns that the archive took, each of which is good. All
@@ -40,6 +43,7 @@ mod session;
 mod stops;
 #[cfg(test)]
 mod tests;
+mod texts;
 
 pub use conversation::converse;
 pub use devices::Devices;
@@ -49,3 +53,4 @@ pub use laws::{
     searched_moves_are_legal,
 };
 pub use stops::Stop;
+pub use texts::{InputAnswer, InputReader, answer_input};

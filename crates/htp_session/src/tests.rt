@@ -1,13 +1,14 @@
 //! Sessions over links in memory that take at most so many bytes.
 
+ghost use Rattle.std.specs.Prelude.{◌≡◌};
 ghost use Rattle.tree_words.specs.Settings.{AreInRange};
 
-use crate::{Devices, Stop, converse};
+use crate::{Devices, InputAnswer, InputReader, Stop, answer_input, converse};
 use hex_cells::Size;
 use hex_engine::Options;
 use hex_io::{MemLink, MemShelf};
 use hex_plan::NoArchive;
-use std::alloc::Global;
+use std::alloc::{AllocError, Global};
 use std::process::Abort;
 use std::test::Fail;
 use tree_words::Knobs;
@@ -65,6 +66,38 @@ fn limits(rt: HostRuntime) -> Result<(), Fail> {
         assert_eq!(rt; exact, Ok(()));
         let quit = end_within(&rt, b"quit\nname\n", piece, 5, b"= \n\n")?;
         assert_eq!(rt; quit, Ok(()));
+    }
+    Ok(())
+}
+
+/// Answers an input by itself.
+struct Echo;
+
+impl InputReader for Echo {
+    ghost answers = { λ _ bytes text accepted. text ≡ bytes };
+
+    fn answer(&self, alloc: Global, input: &[u8]) -> Result<InputAnswer, AllocError> {
+        let text = input.to_vec(alloc)?;
+        Ok(InputAnswer {
+            text,
+            accepted: true,
+        })
+    }
+}
+
+#[test]
+fn whole_inputs(rt: HostRuntime) -> Result<(), Fail> {
+    let alloc = rt.alloc();
+    let rows: [(usize, Result<bool, Stop>, &[u8]); 2] = [
+        (4, Ok(true), b"name"),
+        (3, Err(Stop::TooLong), b""),
+    ];
+    for (limit, outcome, given) in rows {
+        let (reads, writes) = (Vec::new(alloc), Vec::new(alloc));
+        let input = b"name".to_vec(alloc)?;
+        let mut link = MemLink::make(alloc, input, 3, 100, 100, reads, writes)?;
+        assert_eq!(rt; answer_input(alloc, &mut link, &Echo, limit), outcome);
+        assert_eq!(rt; link.given(), given);
     }
     Ok(())
 }

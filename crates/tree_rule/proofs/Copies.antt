@@ -19,9 +19,7 @@ found [] i a e = absurd (some-ne-none a (sym e))
 found (x ∷ xs) zero a e = some-injective x a e
 found (x ∷ xs) (suc i) a e = found xs i a e
 
-pub copied-none : (words room : List ℕ) (next : ℕ) → length room ≡ length words → ((j : ℕ) → next ≤ j → j < length room → slice_index words j ≡ slice_index room j) → Copied words next 0 room
-copied-none words room next l h = record { long = l; each = λ j m o. ⊎_elim (λ (t : j < 0). absurd (omega (arith, t))) (λ (t : next ≤ j). sym (h j t m)) o }
-
+-- one word more, and all of them
 pub copied-more : (words room : List ℕ) (next i a : ℕ) → Copied words next i room → get_elem? words i ≡ some a → i < length room → Copied words next (i + 1) (set room i a)
 copied-more words room next i a c e l = record {
   long = length-set room i a ∙ c.long;

@@ -63,14 +63,14 @@ module _ (s : Setting) (words : List ℕ) (views : List SeatView) (r : Rule s wo
     whole-is copy e = (r.state.sole id v copy last.seat.at e).0
 
 -- all that is said of the words at the end, of the shape t and of the view u of the last seat
-pub record Told (t : Setting) (u : SeatView) (words : List ℕ) : Type 0 where
+pub record EndsSo (t : Setting) (u : SeatView) (words : List ℕ) : Type 0 where
   pub closed : IsClosed t words
   pub known : AreShown words u.known
   pub walks : HasAllWalks t u
   pub records : AreRecords t words u
   pub whole : (copy : List ℕ) → u.whole ≡ Some copy → words ≡ copy
 
-pub end-told : (s t : Setting) (id : ℕ) (v u : SeatView) (words : List ℕ) → EndsWith s id v words → s ≡ t → v ≡ u → u.width ≡ t.knobs.workers → HasEnded u → Told t u words
+pub end-told : (s t : Setting) (id : ℕ) (v u : SeatView) (words : List ℕ) → EndsWith s id v words → s ≡ t → v ≡ u → u.width ≡ t.knobs.workers → HasEnded u → EndsSo t u words
 end-told s t id v u words e st vu width ended =
     let rule : Rule t words e.views = subst (λ (z : Setting). Rule z words e.views) st e.rule in
     let at : get_elem? e.views id ≡ some u = e.at ∙ ap some vu in

@@ -27,21 +27,21 @@ use Rattle.arena_rule.proofs.Law.{steps, answers, splits, joins}
 use Rattle.arena_rule.proofs.Changes.{shape-after}
 use Rattle.arena_rule.proofs.ViewStays.{view-stays}
 use Rattle.arena_rule.proofs.ViewSeats.{kept-stays, given-stays, join-stays}
-use Rattle.tree_rule.specs.Tables.{holds}
-use Rattle.tree_rule.specs.Plays.{Told, add_tells, note_tells}
-use Rattle.tree_rule.specs.Seats.{Sits}
+use Rattle.tree_rule.specs.Tables.{HoldsArenaRule}
+use Rattle.tree_rule.specs.Plays.{IsStep, add_tells, note_tells}
+use Rattle.tree_rule.specs.Seats.{IsSeatOf}
 use Rattle.tree_rule.specs.Visits.{own_visits}
 
 -- an operation that puts into the word what the step puts there, where the answer is one that it may give
 module _ (s : Setting) (slots id : ℕ) (m : Me ℕ SeatView) (op : Op) (iv : IsView m.0) (fits : FitsStep m.0 op) where
-  pub acts : (f : ℕ → ℕ) → ((x : ℕ) → x < 2 ^ 64 → MayAnswer m.0 op (answer_of op x) → f x ≡ put op x) → Allows (holds s) slots id m (word_of op) f (λ x n. Told m op (answer_of op x) n)
+  pub acts : (f : ℕ → ℕ) → ((x : ℕ) → x < 2 ^ 64 → MayAnswer m.0 op (answer_of op x) → f x ≡ put op x) → Allows (HoldsArenaRule s) slots id m (word_of op) f (λ x n. IsStep m op (answer_of op x) n)
   acts f same t h _ at low =
       let x : ℕ = get_or t.words (word_of op) 0 in
       let w : SeatView = after m.0 op (answer_of op x) in
       let live : 0 < m.0.width = omega (arith, iv.width) in
       let may : MayAnswer m.0 op (answer_of op x) = answers s t.words t.views h id m.0 at live op fits in
-      let rule : holds s (stepped t (word_of op) (put op x) id m.1 w keeps) = steps s t.words t.views h id m.0 at live op fits in
-      (w, keeps, tt, subst (λ (n : ℕ). holds s (stepped t (word_of op) n id m.1 w keeps)) (sym (same x low may)) rule, record { answer = may; view = refl; slots = refl })
+      let rule : HoldsArenaRule s (stepped t (word_of op) (put op x) id m.1 w keeps) = steps s t.words t.views h id m.0 at live op fits in
+      (w, keeps, tt, subst (λ (n : ℕ). HoldsArenaRule s (stepped t (word_of op) n id m.1 w keeps)) (sym (same x low may)) rule, record { answer = may; view = refl; slots = refl })
 
 -- the sums of draws, claims and adds are below 2^64
 module _ (v : SeatView) (iv : IsView v) where
@@ -91,7 +91,7 @@ own-visits v op n x may known e =
     (look.step.tally x known refl).own
 
 -- a step leaves the seat at its table, with a view in order
-pub sits-after : (table : TableId) (old new : Seat ℕ SeatView) (op : Op) (x : ℕ) → Sits table old → FitsStep old.me.0 op → new.table_id ≡ old.table_id → Told old.me op x new.me → Sits table new
+pub sits-after : (table : TableId) (old new : Seat ℕ SeatView) (op : Op) (x : ℕ) → IsSeatOf table old → FitsStep old.me.0 op → new.table_id ≡ old.table_id → IsStep old.me op x new.me → IsSeatOf table new
 sits-after table old new op x sits fits same told = record {
   table = same ∙ sits.table;
   slots = told.slots ∙ sits.slots;
@@ -101,24 +101,24 @@ sits-after table old new op x sits fits same told = record {
 
 -- an Add is told by what it adds, and a Note by its word
 pub add-allowed : (s : Setting) (slots id : ℕ) (m : Me ℕ SeatView) (i n : ℕ) (won : Bool) → n ≡ amount_of won → IsView m.0 → FitsStep m.0 (Add i won)
-    → Allows (holds s) slots id m i (λ x. (x + n) % 2 ^ 64) (add_tells (step slots i n 0 none) m)
+    → Allows (HoldsArenaRule s) slots id m i (λ x. (x + n) % 2 ^ 64) (add_tells (step slots i n 0 none) m)
 add-allowed s slots id m i n won is iv fits =
-    subst (λ (t : Bool). Allows (holds s) slots id m i (λ x. (x + n) % 2 ^ 64) (λ x new. Told m (Add i t) x new)) (sym (ap (λ (k : ℕ). k == amount_of true) is ∙ won-told won))
+    subst (λ (t : Bool). Allows (HoldsArenaRule s) slots id m i (λ x. (x + n) % 2 ^ 64) (λ x new. IsStep m (Add i t) x new)) (sym (ap (λ (k : ℕ). k == amount_of true) is ∙ won-told won))
     (acts s slots id m (Add i won) iv fits (λ x. (x + n) % 2 ^ 64) (λ x low may. ap (λ (k : ℕ). (x + k) % 2 ^ 64) is ∙ add-same m.0 iv i won x may))
 
 pub note-allowed : (s : Setting) (slots id : ℕ) (m : Me ℕ SeatView) (k value : ℕ) → IsView m.0 → FitsStep m.0 (Note k value)
-    → Allows (holds s) slots id m (2 + k) (λ _. value) (λ _. note_tells (step slots (2 + k) value 0 none) m value)
+    → Allows (HoldsArenaRule s) slots id m (2 + k) (λ _. value) (λ _. note_tells (step slots (2 + k) value 0 none) m value)
 note-allowed s slots id m k value iv fits =
     let back : (2 + k) - 2 ≡ k = omega arith in
-    subst (λ (j : ℕ). Allows (holds s) slots id m (2 + k) (λ _. value) (λ _ n. Told m (Note j value) 0 n)) (sym back)
+    subst (λ (j : ℕ). Allows (HoldsArenaRule s) slots id m (2 + k) (λ _. value) (λ _ n. IsStep m (Note j value) 0 n)) (sym back)
     (acts s slots id m (Note k value) iv fits (λ _. value) (λ x low may. refl))
 
 -- a split and a join, as the table asks for them, where the part and the spent view are picked
-pub cuts : (s : Setting) (id part p : ℕ) (v : SeatView) → part ≡ p → IsView v → CanSplit v part → Splits (holds s) id v (kept_part v p) (given_part v p)
+pub cuts : (s : Setting) (id part p : ℕ) (v : SeatView) → part ≡ p → IsView v → CanSplit v part → Splits (HoldsArenaRule s) id v (kept_part v p) (given_part v p)
 cuts s id part p v is iv can t h at =
     subst (λ (q : ℕ). Rule s t.words (views_split t.views id v q)) is (splits s t.words t.views h id v at (omega (arith, iv.width)) part can)
 
-pub merges : (s : Setting) (id : ℕ) (v : SeatView) (other : ℕ) (w spent : SeatView) → spent ≡ spent_view v.shape → IsView v → IsView w → CanJoin v w → Joins (holds s) id v other w (joined v w) spent
+pub merges : (s : Setting) (id : ℕ) (v : SeatView) (other : ℕ) (w spent : SeatView) → spent ≡ spent_view v.shape → IsView v → IsView w → CanJoin v w → Joins (HoldsArenaRule s) id v other w (joined v w) spent
 merges s id v other w spent is iv iw can t h at apart there =
     let here : get_elem? t.views other ≡ some w = ⊎_elim (λ (q : (other ≡ id) × (joined v w ≡ w)). absurd (apart q.0)) (λ (q : (other ≢ id) × (get_elem? t.views other ≡ some w)). q.1) (at_set t.views id other (joined v w) w there) in
     subst (λ (u : SeatView). Rule s t.words (set (set t.views id (joined v w)) other u)) (sym is)
@@ -146,7 +146,7 @@ opening-order s h = record {
 }
 
 module _ (table : TableId) (old new : Seat ℕ SeatView) where
-  pub sits-kept : (part p : ℕ) → Sits table old → CanSplit old.me.0 part → part ≡ p → new.table_id ≡ old.table_id → new.me ≡ (kept_part old.me.0 p, old.me.1) → Sits table new
+  pub sits-kept : (part p : ℕ) → IsSeatOf table old → CanSplit old.me.0 part → part ≡ p → new.table_id ≡ old.table_id → new.me ≡ (kept_part old.me.0 p, old.me.1) → IsSeatOf table new
   sits-kept part p sits can is same me = record {
     table = same ∙ sits.table;
     slots = ap (λ (m : Me ℕ SeatView). m.1) me ∙ sits.slots;
@@ -154,7 +154,7 @@ module _ (table : TableId) (old new : Seat ℕ SeatView) where
     view = subst IsView (ap (kept_part old.me.0) is ∙ sym (ap (λ (m : Me ℕ SeatView). m.0) me)) (kept-stays old.me.0 sits.view part can);
   }
 
-  pub sits-given : (part p : ℕ) → Sits table old → CanSplit old.me.0 part → part ≡ p → new.table_id ≡ old.table_id → new.me ≡ (given_part old.me.0 p, []) → Sits table new
+  pub sits-given : (part p : ℕ) → IsSeatOf table old → CanSplit old.me.0 part → part ≡ p → new.table_id ≡ old.table_id → new.me ≡ (given_part old.me.0 p, []) → IsSeatOf table new
   sits-given part p sits can is same me = record {
     table = same ∙ sits.table;
     slots = ap (λ (m : Me ℕ SeatView). m.1) me;
@@ -162,8 +162,8 @@ module _ (table : TableId) (old new : Seat ℕ SeatView) where
     view = subst IsView (ap (given_part old.me.0) is ∙ sym (ap (λ (m : Me ℕ SeatView). m.0) me)) (given-stays old.me.0 sits.view part can);
   }
 
-pub sits-joined : (table : TableId) (old other new : Seat ℕ SeatView) → Sits table old → Sits table other → other.me.0.shape ≡ old.me.0.shape → CanJoin old.me.0 other.me.0
-    → new.table_id ≡ old.table_id → new.me ≡ (joined old.me.0 other.me.0, old.me.1) → Sits table new
+pub sits-joined : (table : TableId) (old other new : Seat ℕ SeatView) → IsSeatOf table old → IsSeatOf table other → other.me.0.shape ≡ old.me.0.shape → CanJoin old.me.0 other.me.0
+    → new.table_id ≡ old.table_id → new.me ≡ (joined old.me.0 other.me.0, old.me.1) → IsSeatOf table new
 sits-joined table old other new sits others shape can same me = record {
   table = same ∙ sits.table;
   slots = ap (λ (m : Me ℕ SeatView). m.1) me ∙ sits.slots;

@@ -17,7 +17,7 @@ use Rattle.arena_rule.specs.Fits.{FitsAdd, MayBegin, IsChosen}
 use Rattle.arena_rule.specs.Lookups.{IsLoaded, record_word}
 use Rattle.arena_rule.specs.Afters.{drew, known_after, loads_after, looked, added_at, noted, with_word, kept_part, given_part, joined}
 use Rattle.tree_rule.proofs.ScriptLaws.{draw-fits, next-add, note-fits}
-use Rattle.tree_rule.specs.Scripts.{one_cell, ScriptLine, TwoViews, AllFit, HaveEnded, after_lines}
+use Rattle.tree_rule.specs.Scripts.{one_cell, ScriptLine, TwoViews, AllFit, HaveEnded, after_script}
 use Rattle.uct_table.specs.Choice.{choice_of}
 use Rattle.tree_words.proofs.Blocks.BlockLaws.{has-at}
 use Rattle.arena_rule.specs.Adds.{CountAdd, walk_adds}
@@ -114,7 +114,7 @@ pub all-fit : AllFit two_seats script
 unfolding allowed_cells has_cell drew known_after loads_after looked added_at noted with_word kept_part
 all-fit = (omega arith, (λ e. cc), (omega arith, (λ e. cc), (omega arith, (λ e. cc), (omega arith, (λ e. cc), (omega arith, (λ e. cc), (omega arith, (λ e. cc), (omega arith, (λ e. cc), (omega arith, (λ e. cc), (omega arith, (λ e. cc), (omega arith, (λ e. cc), (omega arith, (λ e. cc), (omega arith, (λ e. cc), (omega arith, (λ e. cc), (omega arith, (λ e. cc), (omega arith, (λ e. cc), (omega arith, (λ e. cc), (omega arith, (λ e. cc), (omega arith, (λ e. cc), (draw-fits _ refl refl refl refl, (λ e. cc), (draw-fits _ refl refl refl refl, (λ e. cc), (first-add 0, (λ e. cc), (first-add 1, (λ e. cc), (next-add _ one_cell (root_child ∷ []) 0 12 1 _ _ refl refl refl refl refl (adds 0) refl, (λ e. cc), (next-add _ one_cell (root_child ∷ []) 0 12 2 _ _ refl refl refl refl refl (adds 0) refl, (λ e. cc), (note-fits _ one_cell (root_child ∷ []) 0 12 24 _ refl refl refl refl (adds 0) (ap (record_word 12) (won 0)), (λ e. cc), (next-add _ one_cell (root_child ∷ []) 1 12 1 _ _ refl refl refl refl refl (adds 1) refl, (λ e. cc), (next-add _ one_cell (root_child ∷ []) 1 12 2 _ _ refl refl refl refl refl (adds 1) refl, (λ e. cc), (note-fits _ one_cell (root_child ∷ []) 1 12 24 _ refl refl refl refl (adds 1) (ap (record_word 12) (won 1)), (λ e. cc), (draw-fits _ refl refl refl refl, (λ e. cc), (draw-fits _ refl refl refl refl, (λ e. cc), tt))))))))))))))))))))))))))))))
 
-pub ended : HaveEnded (after_lines two_seats script).first (after_lines two_seats script).second
+pub ended : HaveEnded (after_script two_seats script).first (after_script two_seats script).second
 unfolding allowed_cells has_cell drew known_after loads_after looked added_at noted with_word kept_part
 ended = (record { left = refl; right = refl }, refl, refl)
 

@@ -22,7 +22,7 @@ use Rattle.arena_rule.specs.Lookups.{IsLoaded, load_of, or_zero, record_word}
 use Rattle.arena_rule.specs.Fits.{FitsAdd, FitsClaim, MayBegin, IsChosen, MayGetBlock, block_words}
 use Rattle.arena_rule.specs.Afters.{drew, known_after, loads_after, looked, claimed_at, wrote, published, added_at, noted, with_word, kept_part, given_part}
 use Rattle.tree_rule.proofs.ScriptLaws.{draw-fits, next-add, note-fits}
-use Rattle.tree_rule.specs.Scripts.{two_by_two, FillsForWhite, ScriptLine, TwoViews, AllFit, RaceEnds, after_lines}
+use Rattle.tree_rule.specs.Scripts.{two_by_two, FillsForWhite, ScriptLine, TwoViews, AllFit, RaceEnds, after_script}
 
 -- the root's block
 abbrev pub root_child : LinkedBlock
@@ -209,6 +209,6 @@ pub all-fit : FillsForWhite → AllFit two_seats script
 unfolding allowed_cells has_cell empties_of set_of block_words drew known_after loads_after looked claimed_at wrote published added_at noted with_word kept_part
 all-fit ends = (omega arith, (λ e. cc), (omega arith, (λ e. cc), (omega arith, (λ e. cc), (omega arith, (λ e. cc), (omega arith, (λ e. cc), (omega arith, (λ e. cc), (omega arith, (λ e. cc), (omega arith, (λ e. cc), (omega arith, (λ e. cc), (draw-fits _ refl refl refl refl, (λ e. cc), (omega arith, (λ e. cc), (omega arith, (λ e. cc), (omega arith, (λ e. cc), (omega arith, (λ e. cc), (omega arith, (λ e. cc), (omega arith, (λ e. cc), (omega arith, (λ e. cc), (omega arith, (λ e. cc), (omega arith, (λ e. cc), (omega arith, (λ e. cc), (omega arith, (λ e. cc), (omega arith, (λ e. cc), (omega arith, (λ e. cc), (omega arith, (λ e. cc), (omega arith, (λ e. cc), (omega arith, (λ e. cc), (omega arith, (λ e. cc), (omega arith, (λ e. cc), (omega arith, (λ e. cc), (first-add ends, (λ e. cc), (next-add _ two_by_two (root_child ∷ []) 0 14 1 _ _ refl refl refl refl refl (adds ends) refl, (λ e. cc), (next-add _ two_by_two (root_child ∷ []) 0 14 2 _ _ refl refl refl refl refl (adds ends) refl, (λ e. cc), (next-add _ two_by_two (root_child ∷ []) 0 14 3 _ _ refl refl refl refl refl (adds ends) refl, (λ e. cc), (note-fits _ two_by_two (root_child ∷ []) 0 14 29 _ refl refl refl refl (adds ends) (note-value ends), (λ e. cc), (draw-fits _ refl refl refl refl, (λ e. cc), (draw-fits _ refl refl refl refl, (λ e. cc), (omega arith, (λ e. cc), (omega arith, (λ e. cc), (claim-fits _ 1 refl refl refl refl refl refl refl, (λ e. cc), (claim-fits _ 2 refl refl refl refl refl refl refl, (λ e. cc), (record { block = record { start = 30; size = 16; written = [] }; held = refl; left = omega arith; next = refl }, (λ e. cc), (record { block = record { start = 30; size = 16; written = 14 ∷ [] }; held = refl; left = omega arith; next = refl }, (λ e. cc), (record { block = record { start = 30; size = 16; written = 14 ∷ 14 ∷ [] }; held = refl; left = omega arith; next = refl }, (λ e. cc), (record { block = record { start = 30; size = 16; written = 14 ∷ 14 ∷ 0 ∷ [] }; held = refl; left = omega arith; next = refl }, (λ e. cc), (record { block = record { start = 30; size = 16; written = 14 ∷ 14 ∷ 0 ∷ 3 ∷ [] }; held = refl; left = omega arith; next = refl }, (λ e. cc), (record { block = record { start = 30; size = 16; written = 14 ∷ 14 ∷ 0 ∷ 3 ∷ 1 ∷ [] }; held = refl; left = omega arith; next = refl }, (λ e. cc), (record { block = record { start = 30; size = 16; written = 14 ∷ 14 ∷ 0 ∷ 3 ∷ 1 ∷ 0 ∷ [] }; held = refl; left = omega arith; next = refl }, (λ e. cc), (record { block = record { start = 30; size = 16; written = 14 ∷ 14 ∷ 0 ∷ 3 ∷ 1 ∷ 0 ∷ 0 ∷ [] }; held = refl; left = omega arith; next = refl }, (λ e. cc), (record { block = record { start = 30; size = 16; written = 14 ∷ 14 ∷ 0 ∷ 3 ∷ 1 ∷ 0 ∷ 0 ∷ 0 ∷ [] }; held = refl; left = omega arith; next = refl }, (λ e. cc), (record { block = record { start = 30; size = 16; written = 14 ∷ 14 ∷ 0 ∷ 3 ∷ 1 ∷ 0 ∷ 0 ∷ 0 ∷ 258 ∷ [] }; held = refl; left = omega arith; next = refl }, (λ e. cc), (record { block = record { start = 30; size = 16; written = 14 ∷ 14 ∷ 0 ∷ 3 ∷ 1 ∷ 0 ∷ 0 ∷ 0 ∷ 258 ∷ 0 ∷ [] }; held = refl; left = omega arith; next = refl }, (λ e. cc), (record { block = record { start = 30; size = 16; written = 14 ∷ 14 ∷ 0 ∷ 3 ∷ 1 ∷ 0 ∷ 0 ∷ 0 ∷ 258 ∷ 0 ∷ 0 ∷ [] }; held = refl; left = omega arith; next = refl }, (λ e. cc), (record { block = record { start = 30; size = 16; written = 14 ∷ 14 ∷ 0 ∷ 3 ∷ 1 ∷ 0 ∷ 0 ∷ 0 ∷ 258 ∷ 0 ∷ 0 ∷ 0 ∷ [] }; held = refl; left = omega arith; next = refl }, (λ e. cc), (record { block = record { start = 30; size = 16; written = 14 ∷ 14 ∷ 0 ∷ 3 ∷ 1 ∷ 0 ∷ 0 ∷ 0 ∷ 258 ∷ 0 ∷ 0 ∷ 0 ∷ 515 ∷ [] }; held = refl; left = omega arith; next = refl }, (λ e. cc), (record { block = record { start = 30; size = 16; written = 14 ∷ 14 ∷ 0 ∷ 3 ∷ 1 ∷ 0 ∷ 0 ∷ 0 ∷ 258 ∷ 0 ∷ 0 ∷ 0 ∷ 515 ∷ 0 ∷ [] }; held = refl; left = omega arith; next = refl }, (λ e. cc), (record { block = record { start = 30; size = 16; written = 14 ∷ 14 ∷ 0 ∷ 3 ∷ 1 ∷ 0 ∷ 0 ∷ 0 ∷ 258 ∷ 0 ∷ 0 ∷ 0 ∷ 515 ∷ 0 ∷ 0 ∷ [] }; held = refl; left = omega arith; next = refl }, (λ e. cc), (record { block = record { start = 46; size = 16; written = [] }; held = refl; left = omega arith; next = refl }, (λ e. cc), (record { block = record { start = 46; size = 16; written = 14 ∷ [] }; held = refl; left = omega arith; next = refl }, (λ e. cc), (record { block = record { start = 46; size = 16; written = 14 ∷ 14 ∷ [] }; held = refl; left = omega arith; next = refl }, (λ e. cc), (record { block = record { start = 46; size = 16; written = 14 ∷ 14 ∷ 0 ∷ [] }; held = refl; left = omega arith; next = refl }, (λ e. cc), (record { block = record { start = 46; size = 16; written = 14 ∷ 14 ∷ 0 ∷ 3 ∷ [] }; held = refl; left = omega arith; next = refl }, (λ e. cc), (record { block = record { start = 46; size = 16; written = 14 ∷ 14 ∷ 0 ∷ 3 ∷ 1 ∷ [] }; held = refl; left = omega arith; next = refl }, (λ e. cc), (record { block = record { start = 46; size = 16; written = 14 ∷ 14 ∷ 0 ∷ 3 ∷ 1 ∷ 0 ∷ [] }; held = refl; left = omega arith; next = refl }, (λ e. cc), (record { block = record { start = 46; size = 16; written = 14 ∷ 14 ∷ 0 ∷ 3 ∷ 1 ∷ 0 ∷ 0 ∷ [] }; held = refl; left = omega arith; next = refl }, (λ e. cc), (record { block = record { start = 46; size = 16; written = 14 ∷ 14 ∷ 0 ∷ 3 ∷ 1 ∷ 0 ∷ 0 ∷ 0 ∷ [] }; held = refl; left = omega arith; next = refl }, (λ e. cc), (record { block = record { start = 46; size = 16; written = 14 ∷ 14 ∷ 0 ∷ 3 ∷ 1 ∷ 0 ∷ 0 ∷ 0 ∷ 258 ∷ [] }; held = refl; left = omega arith; next = refl }, (λ e. cc), (record { block = record { start = 46; size = 16; written = 14 ∷ 14 ∷ 0 ∷ 3 ∷ 1 ∷ 0 ∷ 0 ∷ 0 ∷ 258 ∷ 0 ∷ [] }; held = refl; left = omega arith; next = refl }, (λ e. cc), (record { block = record { start = 46; size = 16; written = 14 ∷ 14 ∷ 0 ∷ 3 ∷ 1 ∷ 0 ∷ 0 ∷ 0 ∷ 258 ∷ 0 ∷ 0 ∷ [] }; held = refl; left = omega arith; next = refl }, (λ e. cc), (record { block = record { start = 46; size = 16; written = 14 ∷ 14 ∷ 0 ∷ 3 ∷ 1 ∷ 0 ∷ 0 ∷ 0 ∷ 258 ∷ 0 ∷ 0 ∷ 0 ∷ [] }; held = refl; left = omega arith; next = refl }, (λ e. cc), (record { block = record { start = 46; size = 16; written = 14 ∷ 14 ∷ 0 ∷ 3 ∷ 1 ∷ 0 ∷ 0 ∷ 0 ∷ 258 ∷ 0 ∷ 0 ∷ 0 ∷ 515 ∷ [] }; held = refl; left = omega arith; next = refl }, (λ e. cc), (record { block = record { start = 46; size = 16; written = 14 ∷ 14 ∷ 0 ∷ 3 ∷ 1 ∷ 0 ∷ 0 ∷ 0 ∷ 258 ∷ 0 ∷ 0 ∷ 0 ∷ 515 ∷ 0 ∷ [] }; held = refl; left = omega arith; next = refl }, (λ e. cc), (record { block = record { start = 46; size = 16; written = 14 ∷ 14 ∷ 0 ∷ 3 ∷ 1 ∷ 0 ∷ 0 ∷ 0 ∷ 258 ∷ 0 ∷ 0 ∷ 0 ∷ 515 ∷ 0 ∷ 0 ∷ [] }; held = refl; left = omega arith; next = refl }, (λ e. cc), (record { block = record { start = 30; size = 16; written = written }; held = refl; start = refl; node = 14; link = refl; above = omega arith; may = may-get _ refl refl refl; written = refl }, (λ e. cc), (record { block = record { start = 46; size = 16; written = written }; held = refl; start = refl; node = 14; link = refl; above = omega arith; may = may-get _ refl refl refl; written = refl }, (λ e. cc), (omega arith, (λ e. cc), (omega arith, (λ e. cc), (omega arith, (λ e. cc), tt)))))))))))))))))))))))))))))))))))))))))))))))))))))))))))))))))))))))))))))
 
-pub ended : RaceEnds (after_lines two_seats script).first (after_lines two_seats script).second
+pub ended : RaceEnds (after_script two_seats script).first (after_script two_seats script).second
 unfolding allowed_cells has_cell empties_of set_of drew known_after loads_after looked claimed_at wrote published added_at noted with_word kept_part
 ended = record { claimed = (refl, refl); held = (refl, refl); link = refl }

@@ -10,31 +10,31 @@ use Rattle.arena_rule.specs.Afters.{after}
 use Rattle.arena_rule.specs.Answers.{MayAnswer}
 
 -- the step may give this answer, the view is the one after it, and no slot is taken or given back
-pub record Told (old : Me ℕ SeatView) (op : Op) (x : ℕ) (new : Me ℕ SeatView) : Type 0 where
+pub record IsStep (old : Me ℕ SeatView) (op : Op) (x : ℕ) (new : Me ℕ SeatView) : Type 0 where
   pub answer : MayAnswer old.0 op x
   pub view : new.0 ≡ after old.0 op x
   pub slots : new.1 ≡ old.1
 
 -- what each kind of step tells: of its word, its operands, and the value that was found there
 abbrev pub draw_tells : Step ℕ → Me ℕ SeatView → ℕ → Me ℕ SeatView → Type 0
-draw_tells st old x new = Told old Draw x new
+draw_tells st old x new = IsStep old Draw x new
 
 abbrev pub look_tells : Step ℕ → Me ℕ SeatView → ℕ → Me ℕ SeatView → Type 0
-look_tells st old x new = Told old (Look st.word) x new
+look_tells st old x new = IsStep old (Look st.word) x new
 
 abbrev pub claim_tells : Step ℕ → Me ℕ SeatView → ℕ → Me ℕ SeatView → Type 0
-claim_tells st old x new = Told old (Claim st.first) x new
+claim_tells st old x new = IsStep old (Claim st.first) x new
 
 abbrev pub publish_tells : Step ℕ → Me ℕ SeatView → ℕ → Me ℕ SeatView → Type 0
-publish_tells st old x new = Told old (Publish st.word st.second) x new
+publish_tells st old x new = IsStep old (Publish st.word st.second) x new
 
 -- an add of a visit with a win tells of a win
 abbrev pub add_tells : Step ℕ → Me ℕ SeatView → ℕ → Me ℕ SeatView → Type 0
-add_tells st old x new = Told old (Add st.word (st.first == amount_of true)) x new
+add_tells st old x new = IsStep old (Add st.word (st.first == amount_of true)) x new
 
 -- a store finds nothing, so a write and a note are answered 0
 abbrev pub write_tells : Step ℕ → Me ℕ SeatView → ℕ → Me ℕ SeatView → Type 0
-write_tells st old x new = Told old (Write st.word st.first) 0 new
+write_tells st old x new = IsStep old (Write st.word st.first) 0 new
 
 abbrev pub note_tells : Step ℕ → Me ℕ SeatView → ℕ → Me ℕ SeatView → Type 0
-note_tells st old x new = Told old (Note (st.word - RECORDS_AT) st.first) 0 new
+note_tells st old x new = IsStep old (Note (st.word - RECORDS_AT) st.first) 0 new

@@ -74,19 +74,19 @@ abbrev pub stepping : TwoViews → ScriptLine → SeatView
 stepping t l = if l.0 then t.second else t.first
 
 -- the views after a line, and after all lines
-abbrev pub after_line : TwoViews → ScriptLine → TwoViews
-after_line t l = if l.0 then record t { second = after t.second l.1 l.2 }
+abbrev pub after_script_line : TwoViews → ScriptLine → TwoViews
+after_script_line t l = if l.0 then record t { second = after t.second l.1 l.2 }
     else record t { first = after t.first l.1 l.2 }
 
-abbrev pub after_lines : TwoViews → List ScriptLine → TwoViews
-after_lines t [] = t
-after_lines t (l ∷ lines) = after_lines (after_line t l) lines
+abbrev pub after_script : TwoViews → List ScriptLine → TwoViews
+after_script t [] = t
+after_script t (l ∷ lines) = after_script (after_script_line t l) lines
 
 -- the step of each line fits the view that stands after those before it
 abbrev pub AllFit : TwoViews → List ScriptLine → Type 0
 AllFit t [] = Unit {0}
 AllFit t (l ∷ lines) =
-    FitsStep (stepping t l) l.1 × (l.1 ≢ Done) × AllFit (after_line t l) lines
+    FitsStep (stepping t l) l.1 × (l.1 ≢ Done) × AllFit (after_script_line t l) lines
 
 -- two seats, each of one worker, who has ended
 abbrev pub HaveEnded : SeatView → SeatView → Type 0

@@ -25,14 +25,14 @@ pub record IsOf (tree : TreeData) (seat : SeatData) : Type 0 where
 
 -- the seat is of the table and holds no slot of it; its view is in order, and the table has the
 -- words of the view's shape
-pub record Sits (id : TableId) (seat : Seat ℕ SeatView) : Type 0 where
+pub record IsSeatOf (id : TableId) (seat : Seat ℕ SeatView) : Type 0 where
   pub table : seat.table_id ≡ id
   pub slots : seat.me.1 ≡ []
   pub words : id.words ≡ end_of seat.me.0.shape
   pub view : IsView seat.me.0
 
 -- the table has the words of the shape and no slots, and the room has the opening words
-pub record Stands (s : Setting) (id : TableId) (room : List ℕ) : Type 0 where
+pub record IsTableFor (s : Setting) (id : TableId) (room : List ℕ) : Type 0 where
   pub setting : IsSetting s
   pub words : id.words ≡ end_of s
   pub slots : id.slots ≡ 0

@@ -6,9 +6,9 @@ use Rattle.arena_rule.specs.Views.{SeatView, opening_view}
 use Rattle.arena_rule.specs.Rule.{Rule}
 
 -- the arena rule holds of the table's words and of the views of its seats; it has no slots
-abbrev pub holds : Setting → State ℕ SeatView → Type 0
-holds s t = Rule s t.words t.views
+abbrev pub HoldsArenaRule : Setting → State ℕ SeatView → Type 0
+HoldsArenaRule s t = Rule s t.words t.views
 
 -- the first seat has the opening view
-abbrev pub first : Setting → SeatView
-first s = opening_view s
+abbrev pub first_view : Setting → SeatView
+first_view s = opening_view s

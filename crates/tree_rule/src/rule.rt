@@ -8,11 +8,11 @@ use tree_words::Shape;
 pub struct ArenaRule;
 
 impl TableRule<u8, View, Shape> for ArenaRule {
-    ghost use Rattle.tree_rule.specs.Tables.{holds, first};
+    ghost use Rattle.tree_rule.specs.Tables.{HoldsArenaRule, first_view};
 
-    ghost holds = { holds };
+    ghost holds = { HoldsArenaRule };
 
-    ghost first = { first };
+    ghost first = { first_view };
 }
 
 /// The table, as the seats of a tree share it.

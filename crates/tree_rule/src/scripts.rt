@@ -4,7 +4,8 @@ ghost use Rattle.std.specs.Prelude.{◌≡◌, ◌≢◌, true};
 ghost use Rattle.tree_words.specs.declared.steps.Op.TheVariants.{Done};
 ghost use Rattle.arena_rule.specs.Fits.{FitsStep};
 ghost use Rattle.tree_rule.specs.Seats.{IsOf};
-ghost use Rattle.tree_rule.specs.Scripts.{stepping, after_line, after_lines, views_of, AllFit};
+ghost use Rattle.tree_rule.specs.Scripts.{stepping, after_script_line, after_script};
+ghost use Rattle.tree_rule.specs.Scripts.{views_of, AllFit};
 
 use super::{Tree, TreeSeat};
 use tree_words::Op;
@@ -19,7 +20,7 @@ fn make(tree: &Tree, a: &mut TreeSeat, b: &mut TreeSeat, line: &Line) -> bool
     requires step { line.now.1 ≢ Done }
     ensures own { IsOf tree.now a.new × IsOf tree.now b.new }
     ensures views { result ≡ true
-        → views_of a.new b.new ≡ after_line (views_of a.old b.old) line.now }
+        → views_of a.new b.new ≡ after_script_line (views_of a.old b.old) line.now }
 {
     let &(second, op, answer) = line;
     if second {
@@ -35,7 +36,7 @@ pub(crate) fn follow(tree: &Tree, a: &mut TreeSeat, b: &mut TreeSeat, lines: &[L
     requires fits { AllFit (views_of a.old b.old) lines.now }
     ensures own { IsOf tree.now a.new × IsOf tree.now b.new }
     ensures views { result ≡ true
-        → views_of a.new b.new ≡ after_lines (views_of a.old b.old) lines.now }
+        → views_of a.new b.new ≡ after_script (views_of a.old b.old) lines.now }
 {
     for line in lines {
         if !make(tree, a, b, line) {

@@ -8,7 +8,7 @@ ghost use Rattle.arena_rule.specs.Fits.{FitsStep, CanSplit, CanJoin};
 ghost use Rattle.arena_rule.specs.Afters.{after, kept_part, given_part, joined};
 ghost use Rattle.arena_rule.specs.Answers.{MayAnswer};
 ghost use Rattle.arena_rule.specs.IsView.{IsView};
-ghost use Rattle.tree_rule.specs.Seats.{Sits, IsOf};
+ghost use Rattle.tree_rule.specs.Seats.{IsSeatOf, IsOf};
 ghost use Rattle.tree_rule.specs.Visits.{AnswersOwnVisits};
 
 use super::plays::{Joins, Part, Spent, Splits};
@@ -28,21 +28,21 @@ pub struct TreeSeat {
 }
 
 impl Model for TreeSeat {
-    ghost use Rattle.tree_rule.specs.Seats.{SeatData, Sits};
+    ghost use Rattle.tree_rule.specs.Seats.{SeatData, IsSeatOf};
 
     ghost Value = { SeatData };
 
     ghost view = { λ s. record { table = s.seat.table_id; view = s.seat.me.0 } };
 
-    ghost invariant = { λ s. Sits s.seat.table_id s.seat };
+    ghost invariant = { λ s. IsSeatOf s.seat.table_id s.seat };
 }
 
 // Splits off a part that the caller picks.
 fn cut<B: Part>(shared: &SharedWords, seat: &mut Seat<u8, View>, part: u32) -> Seat<u8, View>
     requires picked { part ≡ B.part }
-    requires sits { Sits shared.now.table_id seat.old }
+    requires own { IsSeatOf shared.now.table_id seat.old }
     requires can { CanSplit seat.old.me.0 part }
-    ensures sits { Sits shared.now.table_id seat.new × Sits shared.now.table_id result }
+    ensures own { IsSeatOf shared.now.table_id seat.new × IsSeatOf shared.now.table_id result }
     ensures kept { seat.new.me.0 ≡ kept_part seat.old.me.0 part }
     ensures given { result.me.0 ≡ given_part seat.old.me.0 part }
 {
@@ -52,10 +52,10 @@ fn cut<B: Part>(shared: &SharedWords, seat: &mut Seat<u8, View>, part: u32) -> S
 // Joins the other seat, whose spent view the caller picks.
 fn merge<B: Spent>(shared: &SharedWords, seat: &mut Seat<u8, View>, other: Seat<u8, View>)
     requires picked { B.spent ≡ spent_view seat.old.me.0.shape }
-    requires sits { Sits shared.now.table_id seat.old × Sits shared.now.table_id other }
+    requires own { IsSeatOf shared.now.table_id seat.old × IsSeatOf shared.now.table_id other }
     requires shape { other.me.0.shape ≡ seat.old.me.0.shape }
     requires can { CanJoin seat.old.me.0 other.me.0 }
-    ensures sits { Sits shared.now.table_id seat.new }
+    ensures own { IsSeatOf shared.now.table_id seat.new }
     ensures both { seat.new.me.0 ≡ joined seat.old.me.0 other.me.0 }
 {
     shared.join_seat::<Joins<B>>(seat, other);

@@ -2,8 +2,8 @@
 
 ghost use Rattle.std.specs.Prelude.{◌≡◌, ◌≢◌};
 ghost use Rattle.arena_rule.specs.Fits.{FitsStep};
-ghost use Rattle.tree_rule.specs.Plays.{Told};
-ghost use Rattle.tree_rule.specs.Seats.{Sits};
+ghost use Rattle.tree_rule.specs.Plays.{IsStep};
+ghost use Rattle.tree_rule.specs.Seats.{IsSeatOf};
 ghost use Rattle.tree_words.specs.declared.steps.Op.TheVariants.{Draw, Look, Claim, Write};
 ghost use Rattle.tree_words.specs.declared.steps.Op.TheVariants.{Publish, Add, Note, Done};
 
@@ -17,10 +17,10 @@ use tree_words::layout::{NEXT_AT, RECORDS_AT, TICKET_AT, VISIT};
 // Adds 1 to TICKET.
 #[inline(always)]
 fn draw(shared: &SharedWords, seat: &mut Seat<u8, View>) -> u64
-    requires sits { Sits shared.now.table_id seat.old }
+    requires own { IsSeatOf shared.now.table_id seat.old }
     requires fits { FitsStep seat.old.me.0 Draw }
     ensures table { seat.new.table_id ≡ seat.old.table_id }
-    ensures told { Told seat.old.me Draw result seat.new.me }
+    ensures told { IsStep seat.old.me Draw result seat.new.me }
 {
     shared.fetch_add::<Draws>(seat, TICKET_AT, 1)
 }
@@ -28,10 +28,10 @@ fn draw(shared: &SharedWords, seat: &mut Seat<u8, View>) -> u64
 // Reads a word.
 #[inline(always)]
 fn look(shared: &SharedWords, seat: &mut Seat<u8, View>, i: u32) -> u64
-    requires sits { Sits shared.now.table_id seat.old }
+    requires own { IsSeatOf shared.now.table_id seat.old }
     requires fits { FitsStep seat.old.me.0 (Look i) }
     ensures table { seat.new.table_id ≡ seat.old.table_id }
-    ensures told { Told seat.old.me (Look i) result seat.new.me }
+    ensures told { IsStep seat.old.me (Look i) result seat.new.me }
 {
     shared.load::<Looks>(seat, i as usize)
 }
@@ -39,10 +39,10 @@ fn look(shared: &SharedWords, seat: &mut Seat<u8, View>, i: u32) -> u64
 // Adds a block's size to NEXT.
 #[inline(always)]
 fn claim(shared: &SharedWords, seat: &mut Seat<u8, View>, size: u32) -> u64
-    requires sits { Sits shared.now.table_id seat.old }
+    requires own { IsSeatOf shared.now.table_id seat.old }
     requires fits { FitsStep seat.old.me.0 (Claim size) }
     ensures table { seat.new.table_id ≡ seat.old.table_id }
-    ensures told { Told seat.old.me (Claim size) result seat.new.me }
+    ensures told { IsStep seat.old.me (Claim size) result seat.new.me }
 {
     shared.fetch_add::<Claims>(seat, NEXT_AT, size as u64)
 }
@@ -50,10 +50,10 @@ fn claim(shared: &SharedWords, seat: &mut Seat<u8, View>, size: u32) -> u64
 // Stores a word of the held block. It answers 0.
 #[inline(always)]
 fn write(shared: &SharedWords, seat: &mut Seat<u8, View>, i: u32, value: u64) -> u64
-    requires sits { Sits shared.now.table_id seat.old }
+    requires own { IsSeatOf shared.now.table_id seat.old }
     requires fits { FitsStep seat.old.me.0 (Write i value) }
     ensures table { seat.new.table_id ≡ seat.old.table_id }
-    ensures told { Told seat.old.me (Write i value) result seat.new.me }
+    ensures told { IsStep seat.old.me (Write i value) result seat.new.me }
 {
     shared.store::<Writes>(seat, i as usize, value);
     0
@@ -62,10 +62,10 @@ fn write(shared: &SharedWords, seat: &mut Seat<u8, View>, i: u32, value: u64) ->
 // Puts the held block into a link that is 0.
 #[inline(always)]
 fn publish(shared: &SharedWords, seat: &mut Seat<u8, View>, link: u32, block: u32) -> u64
-    requires sits { Sits shared.now.table_id seat.old }
+    requires own { IsSeatOf shared.now.table_id seat.old }
     requires fits { FitsStep seat.old.me.0 (Publish link block) }
     ensures table { seat.new.table_id ≡ seat.old.table_id }
-    ensures told { Told seat.old.me (Publish link block) result seat.new.me }
+    ensures told { IsStep seat.old.me (Publish link block) result seat.new.me }
 {
     shared.compare_exchange::<Publishes>(seat, link as usize, 0, block as u64)
 }
@@ -73,10 +73,10 @@ fn publish(shared: &SharedWords, seat: &mut Seat<u8, View>, link: u32, block: u3
 // Adds a visit to a count, and a win where the flag says so.
 #[inline(always)]
 fn add(shared: &SharedWords, seat: &mut Seat<u8, View>, i: u32, won: bool) -> u64
-    requires sits { Sits shared.now.table_id seat.old }
+    requires own { IsSeatOf shared.now.table_id seat.old }
     requires fits { FitsStep seat.old.me.0 (Add i won) }
     ensures table { seat.new.table_id ≡ seat.old.table_id }
-    ensures told { Told seat.old.me (Add i won) result seat.new.me }
+    ensures told { IsStep seat.old.me (Add i won) result seat.new.me }
 {
     shared.fetch_add::<Adds>(seat, i as usize, VISIT + u64::from(won))
 }
@@ -84,10 +84,10 @@ fn add(shared: &SharedWords, seat: &mut Seat<u8, View>, i: u32, won: bool) -> u6
 // Stores a record. It answers 0.
 #[inline(always)]
 fn note(shared: &SharedWords, seat: &mut Seat<u8, View>, k: u32, value: u64) -> u64
-    requires sits { Sits shared.now.table_id seat.old }
+    requires own { IsSeatOf shared.now.table_id seat.old }
     requires fits { FitsStep seat.old.me.0 (Note k value) }
     ensures table { seat.new.table_id ≡ seat.old.table_id }
-    ensures told { Told seat.old.me (Note k value) result seat.new.me }
+    ensures told { IsStep seat.old.me (Note k value) result seat.new.me }
 {
     shared.store::<Notes>(seat, RECORDS_AT + k as usize, value);
     0
@@ -96,11 +96,11 @@ fn note(shared: &SharedWords, seat: &mut Seat<u8, View>, k: u32, value: u64) -> 
 /// One step, by its kind.
 #[inline(always)]
 pub(crate) fn step(shared: &SharedWords, seat: &mut Seat<u8, View>, op: Op) -> u64
-    requires sits { Sits shared.now.table_id seat.old }
+    requires own { IsSeatOf shared.now.table_id seat.old }
     requires fits { FitsStep seat.old.me.0 op }
     requires step { op ≢ Done }
     ensures table { seat.new.table_id ≡ seat.old.table_id }
-    ensures told { Told seat.old.me op result seat.new.me }
+    ensures told { IsStep seat.old.me op result seat.new.me }
 {
     match op {
         Op::Draw => draw(shared, seat),

@@ -5,7 +5,7 @@ ghost use Rattle.std.specs.Mem.Slots.{slots_items, slots_len, IsFull};
 ghost use Rattle.arena_rule.specs.Views.{opening_view, HasEnded};
 ghost use Rattle.arena_rule.specs.Closed.{HasAllWalks};
 ghost use Rattle.arena_rule.specs.IsView.{IsView};
-ghost use Rattle.tree_rule.specs.Seats.{IsOf, Stands};
+ghost use Rattle.tree_rule.specs.Seats.{IsOf, IsTableFor};
 ghost use Rattle.tree_rule.specs.Ends.{AreShown, AreRecords, AreCopied};
 ghost use Rattle.tree_rule.specs.Ends.{IsSameBehind, EndsWith};
 
@@ -36,14 +36,14 @@ pub struct Tree {
 
 impl Model for Tree {
     ghost use Rattle.std.specs.Prelude.{◌≡◌};
-    ghost use Rattle.tree_rule.specs.Seats.{TreeData, Stands};
+    ghost use Rattle.tree_rule.specs.Seats.{TreeData, IsTableFor};
 
     ghost Value = { TreeData };
 
     ghost view = { λ t. record { table = t.table.shared.table_id; shape = t.shape } };
 
     ghost invariant = { λ t. (t.table.shared.key ≡ t.shape)
-        × Stands t.table.shared.key t.table.shared.table_id t.room.items };
+        × IsTableFor t.table.shared.key t.table.shared.table_id t.room.items };
 }
 
 // Copies the words below NEXT, where the others are the same already.
@@ -63,7 +63,7 @@ fn copy_claimed(table: &ClosedTable, room: &mut [u64])
 // The words at the end, in the room where the opening words stand.
 fn end(table: OpenTable, seat: Seat<u8, View>, mut room: Vec<u64>) -> Vec<u64>
     requires own { seat.table_id ≡ table.shared.table_id }
-    requires stands { Stands table.shared.key table.shared.table_id room.items }
+    requires stands { IsTableFor table.shared.key table.shared.table_id room.items }
     ensures { EndsWith table.shared.key seat.id seat.me.0 result.items }
 {
     let closed = table.close_with(seat);

@@ -4,7 +4,7 @@ use Rattle.hexd_words.proofs.reading.clap_reads_lines.Goals as goal
 
 pub returns : goal.returns
 returns c = record {
-  line = λ text none clear. line_from c.args.words.now (all_other c.args.words.now text none) clear;
+  line = λ plain clear. line_from c.args.words.now (all_other c.args.words.now plain.0 plain.1) clear;
   clear = line_clear c.args.words.now;
   values = line_values c.args.words.now;
 }

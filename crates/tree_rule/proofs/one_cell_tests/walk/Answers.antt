@@ -1,6 +1,6 @@
 -- Each step of the script fits, and at its end both workers have ended.
 use Rattle.std.proofs.Common.{◌≡◌, sym, subst, ◌∙◌}
-use Rattle.tree_rule.specs.Scripts.{TwoViews, AllFit, HaveEnded, views_of, after_lines}
+use Rattle.tree_rule.specs.Scripts.{TwoViews, AllFit, HaveEnded, views_of, after_script}
 use Rattle.tree_rule.proofs.OneCell.{two_seats, script, all-fit, ended}
 use Rattle.tree_rule.proofs.one_cell_tests.walk.Goals as goal
 
@@ -12,5 +12,5 @@ follow-requires-clause-fits c =
 pub returns-clause-ended : goal.returns-clause-ended
 returns-clause-ended c e =
     let same : views_of c.args.first.now c.args.second.now ≡ two_seats = λ i. record { first = c.requires.first i; second = c.requires.second i } in
-    let last : views_of c.follow.new.a c.follow.new.b ≡ after_lines two_seats script = c.follow.ensures.views e ∙ (λ i. after_lines (same i) script) in
+    let last : views_of c.follow.new.a c.follow.new.b ≡ after_script two_seats script = c.follow.ensures.views e ∙ (λ i. after_script (same i) script) in
     subst (λ (t : TwoViews). HaveEnded t.first t.second) (sym last) ended

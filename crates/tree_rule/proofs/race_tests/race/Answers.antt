@@ -1,6 +1,6 @@
 -- Each step of the script fits, and what stands at its end.
 use Rattle.std.proofs.Common.{◌≡◌, sym, subst, ◌∙◌}
-use Rattle.tree_rule.specs.Scripts.{TwoViews, AllFit, RaceEnds, views_of, after_lines}
+use Rattle.tree_rule.specs.Scripts.{TwoViews, AllFit, RaceEnds, views_of, after_script}
 use Rattle.tree_rule.proofs.TwoByTwo.{two_seats, script, all-fit, ended}
 use Rattle.tree_rule.proofs.race_tests.race.Goals as goal
 
@@ -14,6 +14,6 @@ returns c =
     let same : views_of c.args.first.now c.args.second.now ≡ two_seats = λ i. record { first = c.requires.first i; second = c.requires.second i } in
     record {
       ended = λ e.
-          let last : views_of c.follow.new.a c.follow.new.b ≡ after_lines two_seats script = c.follow.ensures.views e ∙ (λ i. after_lines (same i) script) in
+          let last : views_of c.follow.new.a c.follow.new.b ≡ after_script two_seats script = c.follow.ensures.views e ∙ (λ i. after_script (same i) script) in
           subst (λ (t : TwoViews). RaceEnds t.first t.second) (sym last) ended;
     }

@@ -7,7 +7,7 @@ use Rattle.tree_rule.proofs.steps.draw.Goals as goal
 
 pub fetch_add-requires : goal.fetch_add-requires
 fetch_add-requires c =
-    let sits = c.requires.sits in
+    let sits = c.requires.own in
     let v = c.args.seat.now.me.0 in (
       sits.table,
       omega (arith, word-within v sits.view Draw c.requires.fits, sits.words),

@@ -7,7 +7,7 @@ use Rattle.tree_rule.proofs.steps.look.Goals as goal
 
 pub load-requires : goal.load-requires
 load-requires c =
-    let sits = c.requires.sits in
+    let sits = c.requires.own in
     let v = c.args.seat.now.me.0 in (
       sits.table,
       omega (arith, word-within v sits.view (Look c.args.i) c.requires.fits, sits.words),

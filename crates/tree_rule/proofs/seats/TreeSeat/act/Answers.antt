@@ -6,16 +6,16 @@ use Rattle.arena_rule.specs.Fits.{FitsStep}
 use Rattle.arena_rule.specs.Answers.{MayAnswer}
 use Rattle.arena_rule.proofs.Changes.{shape-after}
 use Rattle.arena_rule.proofs.KnownMore.{known-kept}
-use Rattle.tree_rule.specs.Seats.{Sits}
+use Rattle.tree_rule.specs.Seats.{IsSeatOf}
 use Rattle.tree_rule.proofs.Moves.{own-visits, sits-after}
 use Rattle.tree_rule.proofs.seats.TreeSeat.act.Goals as goal
 
 -- the seat after the step
-sits : (c : goal.After-step) → Sits c.self.inside.seat.table_id c.step.new.seat
+sits : (c : goal.After-step) → IsSeatOf c.self.inside.seat.table_id c.step.new.seat
 sits c = sits-after c.self.inside.seat.table_id c.self.inside.seat c.step.new.seat c.args.op c.step.result c.self.invariant (subst (λ (v : SeatView). FitsStep v c.args.op) (sym (ap (λ s. s.view) c.self.view_is)) c.requires.fits) c.step.ensures.table c.step.ensures.told
 
 pub invariant_of-self : goal.invariant_of-self
-invariant_of-self c = subst (λ id. Sits id c.step.new.seat) (sym c.step.ensures.table) (sits c)
+invariant_of-self c = subst (λ id. IsSeatOf id c.step.new.seat) (sym c.step.ensures.table) (sits c)
 
 pub returns-clause-own : goal.returns-clause-own
 returns-clause-own c = record {

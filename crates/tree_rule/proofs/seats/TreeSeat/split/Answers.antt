@@ -7,6 +7,6 @@ pub returns-clause-own : goal.returns-clause-own
 returns-clause-own c =
     let table = ap (λ t. t.table) c.tree.view_is in
     let old = ap (λ s. s.view.shape) c.self.view_is ∙ c.requires.own.shape in (
-      record { table = c.cut.ensures.sits.0.table ∙ table; shape = ap (λ v. v.shape) c.cut.ensures.kept ∙ kept-shape _ _ ∙ old },
-      record { table = c.cut.ensures.sits.1.table ∙ table; shape = ap (λ v. v.shape) c.cut.ensures.given ∙ old },
+      record { table = c.cut.ensures.own.0.table ∙ table; shape = ap (λ v. v.shape) c.cut.ensures.kept ∙ kept-shape _ _ ∙ old },
+      record { table = c.cut.ensures.own.1.table ∙ table; shape = ap (λ v. v.shape) c.cut.ensures.given ∙ old },
     )

@@ -1,10 +1,10 @@
 -- The tree is closed, and has what the last seat's view tells.
 use Rattle.std.proofs.Common.{ap, sym, ◌∙◌, subst}
 use Rattle.tree_words.specs.Closing.{IsClosed}
-use Rattle.tree_rule.proofs.Ends.{Told, end-told}
+use Rattle.tree_rule.proofs.Ends.{EndsSo, end-told}
 use Rattle.tree_rule.proofs.trees.Tree.close.Goals as goal
 
-told : (c : goal.After-end) → Told c.args.self.shape c.args.seat.view c.end.result.items
+told : (c : goal.After-end) → EndsSo c.args.self.shape c.args.seat.view c.end.result.items
 told c =
     let shape = ap (λ t. t.shape) c.self.view_is in
     let view = ap (λ s. s.view) c.seat.view_is in
@@ -14,8 +14,8 @@ pub of-requires : goal.of-requires
 of-requires c = subst (λ s. IsClosed s c.end.result.items) (sym (ap (λ t. t.shape) c.self.view_is)) (told c).closed
 
 -- of the words of the answer
-told-of : (c : goal.After-of) → Told c.args.self.shape c.args.seat.view c.of.result.words
-told-of c = subst (λ words. Told c.args.self.shape c.args.seat.view words) (sym (ap (λ t. t.words) c.of.ensures)) (told c.before)
+told-of : (c : goal.After-of) → EndsSo c.args.self.shape c.args.seat.view c.of.result.words
+told-of c = subst (λ words. EndsSo c.args.self.shape c.args.seat.view words) (sym (ap (λ t. t.words) c.of.ensures)) (told c.before)
 
 pub returns-clause-known : goal.returns-clause-known
 returns-clause-known c = (told-of c).known

@@ -1,0 +1,59 @@
+//! Answers the whole input of a link by one text.
+
+ghost use Rattle.std.specs.Prelude.{◌≡◌, ℕ, Bool, List, IfOk, Some};
+ghost use Rattle.hex_io.specs.Causes.{CountsFault};
+ghost use Rattle.htp_session.specs.Devices.{stop_of};
+ghost use Rattle.htp_session.specs.Inputs.{AnswersInput};
+
+use crate::inputs::take_all;
+use crate::stops::Stop;
+use hex_io::{Link, give};
+use std::alloc::{AllocError, Global};
+
+/// What is answered to an input: a text, and whether the input was accepted.
+#[derive(Drop)]
+pub struct InputAnswer {
+    pub text: Vec<u8>,
+    pub accepted: bool,
+}
+
+/// What answers each input by a text.
+pub trait InputReader {
+    /// That the bytes are answered by this text, accepted or not.
+    ghost answers: { Self → List ℕ → List ℕ → Bool → Type 0 };
+
+    /// The answer to an input. The only refusal is want of memory.
+    fn answer(&self, alloc: Global, input: &[u8]) -> Result<InputAnswer, AllocError>
+        ensures { IfOk result (λ a. answers self.now input.now a.text.items a.accepted) };
+}
+
+/// Takes all that is to come, where it has at most `limit` bytes, and gives the text that answers
+/// it. It says whether the input was accepted.
+///
+/// `ReadFault` and `WriteFault` come only where the link counted that fault, `TooLong` exactly where
+/// `limit + 1` bytes were taken. It refuses nothing else but for want of memory.
+pub fn answer_input<L: Link, R: InputReader>(
+    alloc: Global,
+    link: &mut L,
+    reader: &R,
+    limit: usize,
+) -> Result<bool, Stop>
+    ensures answers { AnswersInput (R.answers reader.now) (L.told link.old) (L.told link.new) limit
+        result }
+    ensures read_fault { CountsFault (L.read_faults link.old) (L.read_faults link.new)
+        (stop_of result ≡ Some Stop.ReadFault) }
+    ensures write_fault { CountsFault (L.write_faults link.old) (L.write_faults link.new)
+        (stop_of result ≡ Some Stop.WriteFault) }
+{
+    let input = match take_all(alloc, link, limit) {
+        Err(stop) => return Err(stop),
+        Ok(input) => input,
+    };
+    let Ok(answer) = reader.answer(alloc, &input) else {
+        return Err(Stop::Memory);
+    };
+    match give(link, &answer.text) {
+        Err(_) => Err(Stop::WriteFault),
+        Ok(()) => Ok(answer.accepted),
+    }
+}
