@@ -1,6 +1,5 @@
 pub mod Levels
 pub mod SeenAdds
-pub mod PlaceLaws
 pub mod Keeping
 pub mod CellLaws
 pub mod Cases
@@ -22,3 +21,4 @@ pub mod Keeps
 pub mod GoingOn
 pub mod Endings
 pub mod Falling
+pub mod HoleLaws
