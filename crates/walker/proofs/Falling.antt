@@ -35,7 +35,8 @@ use Rattle.walker.proofs.KnownLaws.{one-order}
 use Rattle.walker.proofs.LeafLaws.{size-is}
 use Rattle.walker.proofs.Keeping.{kept-count}
 use Rattle.walker.proofs.KeepsScan.{below-after, fewer-empties}
-use Rattle.walker.proofs.KeepsChoice.{Looked, seen-looked, cell-empty}
+use Rattle.walker.proofs.KeepsChoice.{Looked, seen-looked}
+use Rattle.walker.proofs.KeepsLast.{cell-empty}
 use Rattle.walker.proofs.KeepsUp.{few-empties}
 use Rattle.walker.proofs.Keeps.{view-after}
 use Rattle.walker.proofs.Endings.{draw-at}

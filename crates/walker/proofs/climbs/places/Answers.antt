@@ -1,3 +1,4 @@
+-- The bits that are none of the cells are taken out one by one, from the lowest on.
 use Rattle.std.proofs.Common.{◌≡◌, ℕ, ◌+◌, ◌-◌, ◌*◌, ◌<◌, ◌≤◌, Bool, true, false, cond, refl, ap, ◌∙◌, subst, List, arith}
 use Rattle.std.specs.Prelude.{◌&&◌, not, nat_lt}
 use Rattle.std.proofs.lemmas.Bool.Decides.{nat_tests}

@@ -1,3 +1,4 @@
+-- What the loop over the holes keeps.
 use Rattle.std.proofs.Common.{◌≡◌, ℕ, ◌*◌, ◌<◌}
 use Rattle.hex_cells.specs.Sets.{has as has_cell}
 use Rattle.walker.proofs.HoleLaws.{AreParts, Taken}
