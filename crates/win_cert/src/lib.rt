@@ -17,11 +17,14 @@ mod reader;
 mod reading;
 mod refusals;
 mod steps;
+#[cfg(test)]
+mod tests;
 mod values;
 mod words;
 mod writing;
 
 pub use certs::{Cert, FIRST_VERSION, LATEST_VERSION, MOST_LINES};
+pub use cutting::cut;
 pub use laws::accepted_certificates_win;
 pub use lines::{End, LEAST_CASES, Line, Lines, MOST_CASES, MOST_NUMBER};
 pub use lists::{Bytes, Numbers};
