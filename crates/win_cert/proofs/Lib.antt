@@ -38,3 +38,11 @@ pub mod BadHeads
 pub mod Parsed
 pub mod StepLines
 pub mod SameVerdict
+pub mod CutChains
+pub mod CutSteps
+pub mod CutLines
+pub mod CutVerdicts
+pub mod CutEnds
+pub mod CutMarks
+pub mod CutDerivations
+pub mod CutCertificates

@@ -10,4 +10,5 @@ pub mod Statements
 pub mod Reasons
 pub mod Verdicts
 pub mod Cuts
+pub mod Cutting
 pub mod Laws

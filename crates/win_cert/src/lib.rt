@@ -45,6 +45,7 @@ mod words;
 mod writing;
 
 pub use certs::{Cert, FIRST_VERSION, LATEST_VERSION, MOST_LINES};
+pub use cutting::cut;
 pub use laws::accepted_certificates_win;
 pub use lines::{End, LEAST_CASES, Line, Lines, MOST_CASES, MOST_NUMBER};
 pub use lists::{Bytes, Numbers};

@@ -1,0 +1,47 @@
+-- The end by which a line names an element.
+use Rattle.std.proofs.Common.{◌≡◌, ℕ, ◌*◌, ◌<◌, ◌≤◌, nat_lt, ◌&&◌, not, true, false, Bool, Option, Some, None, refl, sym, ◌∙◌, subst, arith}
+use Rattle.std.specs.Option.{MatchOption}
+use Rattle.std.proofs.lemmas.Bool.{and_parts, false_from_ne_true, ltb-true}
+use Rattle.hex_cells.specs.Sets.{has}
+use Rattle.hex_cells.specs.Colours.{other_of}
+use Rattle.hex_board.specs.Elements.{PlayerBoard, HasCell, edge_element}
+use Rattle.hex_board.specs.Places.{IsMember, Place, at_cell, at_edge}
+use Rattle.hex_board.specs.Positions.{is_empty_at, stones_of}
+use Rattle.hex_board.proofs.Parts.{case_of, is_free, is_first, is_second, is_group, is_other, linked_last, none_other, tied_stone}
+use Rattle.win_cert.specs.Cutting.{AreStonesOn, IsEndFor}
+use Rattle.win_cert.specs.declared.lines.End.TheVariants.{At}
+
+none_is_some : (x : ℕ) → None ≡ Some x → ⊥
+none_is_some x e = cc
+
+cell_below : (e : PlayerBoard) (k x : ℕ) → AreStonesOn e → HasCell e x k → k < e.board.size * e.board.size
+cell_below e k x s h = elim (case_of e k s.own) [
+  | is_free i t ↦ ltb-true k (e.board.size * e.board.size)
+      (and_parts (nat_lt k (e.board.size * e.board.size)) (not (has e.board.black k))
+      (and_parts (nat_lt k (e.board.size * e.board.size) && not (has e.board.black k)) (not (has e.board.white k)) i).0).0
+  | is_first i t ↦ s.own k (tied_stone e false k i)
+  | is_second i j t ↦ s.own k (tied_stone e true k j)
+  | is_group r i j l m t ↦ s.own k (linked_last e r k l)
+  | is_other i j l m t ↦ absurd (none_is_some x (sym t ∙ h))
+]
+
+-- a cell of the element names it
+pub cell_end : (e : PlayerBoard) (x k : ℕ) → AreStonesOn e → HasCell e x k → IsEndFor e x (At k)
+cell_end e x k s h =
+    let l = cell_below e k x s h in
+    record {
+      element = h;
+      place = l;
+      other = false_from_ne_true (has (stones_of e.board (other_of e.player)) k) (λ t. none_is_some x (sym ((none_other e k s.own s.apart l).1 t) ∙ h));
+    }
+
+-- an element that holds no edge has a cell
+pub has_some : (e : PlayerBoard) (x : ℕ) (p : Place) → IsMember e x p → (edge_element e false ≡ x → ⊥) → (edge_element e true ≡ x → ⊥) → (k : ℕ) × HasCell e x k
+has_some e x (at_cell k) h m n = (k, h)
+has_some e x (at_edge false) h m n = absurd (m h)
+has_some e x (at_edge true) h m n = absurd (n h)
+
+-- what is said of the item of an option that has one
+pub some_case : (P : Type 0) (Q : ℕ → Type 0) (o : Option ℕ) (k : ℕ) → MatchOption o P Q → o ≡ Some k → Q k
+some_case P Q None k m h = absurd (cc)
+some_case P Q (Some v) k m h = let e : v ≡ k = cc in subst Q e m

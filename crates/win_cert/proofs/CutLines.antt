@@ -1,0 +1,190 @@
+-- The line for an entry that follows from earlier ones is right, and is one of the first version.
+use Rattle.std.proofs.Common.{◌≡◌, ℕ, ◌<◌, ◌≤◌, ◌==◌, ◌&&◌, true, false, Bool, List, [], ◌∷◌, Option, Some, None, All, length, map, take, get_or, bit_or, refl, sym, ◌∙◌, ap, subst, inl, inr, ◌⊎◌, zero, suc, if◌then◌else◌, arith}
+use Rattle.std.specs.List.{list_all, slice_get}
+use Rattle.std.proofs.lemmas.Bool.{ne_eqb, true≢false}
+use Rattle.std.proofs.lemmas.List.{length-map}
+use Rattle.std.proofs.lemmas.List.Elements.{All-cons, All-head, All-nil, All-tail}
+use Rattle.hex_cells.specs.Sets.{has}
+use Rattle.hex_board.specs.Elements.{PlayerBoard}
+use Rattle.conn_store.specs.Rules.{AndRule, AreAt, FollowsBy, FollowsFrom, OrRule, union_of}
+use Rattle.conn_store.specs.Entries.{IsBetween}
+use Rattle.conn_store.specs.declared.entries.Cause.{Cause}
+use Rattle.conn_store.specs.declared.entries.Cause.TheVariants.{Adjacent, AndGroup, AndEmpty, Or}
+use Rattle.conn_store.specs.declared.entries.Entry.{Entry}
+use Rattle.conn_store.specs.declared.entries.Kind.TheVariants.{Full, Semi}
+use Rattle.hsearch.proofs.Orders.{three_of, two_of}
+use Rattle.win_cert.specs.Cutting.{IsLineFor, named, over, unscoped}
+use Rattle.win_cert.specs.Entries.{Context, ScopedEntry, entry_at}
+use Rattle.win_cert.specs.Scopes.{elements_in}
+use Rattle.win_cert.specs.Writable.{AreNumbers, IsLineOf}
+use Rattle.win_cert.specs.declared.certs.TheConstants.{FIRST_VERSION}
+use Rattle.win_cert.specs.declared.lines.Line.{Line}
+use Rattle.win_cert.specs.declared.lines.Line.TheVariants.{Adj, And, Key, Or2, Or3}
+use Rattle.win_cert.specs.declared.lines.TheConstants.{MOST_NUMBER}
+use Rattle.win_cert.proofs.CutChains.{entry_over}
+use Rattle.win_cert.proofs.CutSteps.{IsChainAt, IsRight, IsWayAt, adj_right, and_right, key_right, three_right, two_right, unscoped_board}
+
+-- the entry with number i was given by the line with its new number
+abbrev pub IsPlaced : List ScopedEntry → List ℕ → List Entry → ℕ → Type 0
+IsPlaced given renamed from i = (b : Entry) → slice_get from i ≡ Some b → slice_get given (get_or renamed i 0) ≡ Some (unscoped b)
+
+first_at : (from : List Entry) (i : ℕ) (numbers : List ℕ) (a : Entry) (ways : List Entry) → AreAt from (i ∷ numbers) (a ∷ ways) → (slice_get from i ≡ Some a) × AreAt from numbers ways
+first_at from i numbers a ways h = (cc, cc)
+
+pub second_in : (P : ℕ → Type 0) (i j : ℕ) (rest : List ℕ) → All P (i ∷ j ∷ rest) → P j
+second_in P i j rest h = All-head P j rest (All-tail P i (j ∷ rest) h)
+
+pub third_in : (P : ℕ → Type 0) (i j k : ℕ) (rest : List ℕ) → All P (i ∷ j ∷ k ∷ rest) → P k
+third_in P i j k rest h = second_in P j k rest (All-tail P i (j ∷ k ∷ rest) h)
+
+-- the entries that are named, the lesser element of each first
+abbrev AreOrdered : List Entry → Type 0
+AreOrdered from = (i : ℕ) (b : Entry) → slice_get from i ≡ Some b → b.x < b.y
+
+-- ---- `or`
+
+way_at : (e : PlayerBoard) (given : List ScopedEntry) (renamed : List ℕ) (from : List Entry) (a b : Entry) (i : ℕ) → a.x < a.y → slice_get from i ≡ Some b → IsPlaced given renamed from i
+    → b.kind ≡ Semi → IsBetween b a.x a.y → IsWayAt (over e given) (get_or renamed i 0) b a
+way_at e given renamed from a b i l h p k q = record { at = entry_over e given (get_or renamed i 0) (unscoped b) (p b h); kind_is = k; order = l; pair = q }
+
+both_ways_no : (p q : Bool) → (p ≡ true → q ≡ true → ⊥) → (p && (q && true)) ≡ false
+both_ways_no true true h = absurd (h refl refl)
+both_ways_no true false h = refl
+both_ways_no false q h = refl
+
+all_ways_no : (p q r : Bool) → (p ≡ true → q ≡ true → r ≡ true → ⊥) → (p && (q && (r && true))) ≡ false
+all_ways_no true true true h = absurd (h refl refl refl)
+all_ways_no true true false h = refl
+all_ways_no true false r h = refl
+all_ways_no false q r h = refl
+
+over_two : (e : PlayerBoard) (given : List ScopedEntry) (renamed : List ℕ) (from : List Entry) (a : Entry) (i j : ℕ) (ways : List Entry) → a.x < a.y
+    → AreAt from (i ∷ j ∷ []) ways → OrRule ways a.x a.y → a.kind ≡ Full → a.carrier ≡ union_of ways → IsPlaced given renamed from i → IsPlaced given renamed from j
+    → IsRight (over e given) (Or2 (get_or renamed i 0) (get_or renamed j 0)) a
+over_two e given renamed from a i j [] l t r k c p q = absurd (cc)
+over_two e given renamed from a i j (b ∷ []) l t r k c p q = absurd (cc)
+over_two e given renamed from a i j (b ∷ d ∷ []) l t r k c p q =
+    let u = first_at from i (j ∷ []) b (d ∷ []) t in
+    let v = first_at from j [] d [] u.1 in
+    let w = two_of b d a.x a.y r in
+    two_right (over e given) (get_or renamed i 0) (get_or renamed j 0) b d a refl (way_at e given renamed from a b i l u.0 p w.first_kind w.first_pair)
+    (way_at e given renamed from a d j l v.0 q w.second_kind w.second_pair) (λ z. both_ways_no (has b.carrier z) (has d.carrier z) (w.free z)) k c
+over_two e given renamed from a i j (b ∷ d ∷ f ∷ ways) l t r k c p q = absurd (cc)
+
+over_three : (e : PlayerBoard) (given : List ScopedEntry) (renamed : List ℕ) (from : List Entry) (a : Entry) (i j m : ℕ) (ways : List Entry) → a.x < a.y
+    → AreAt from (i ∷ j ∷ m ∷ []) ways → OrRule ways a.x a.y → a.kind ≡ Full → a.carrier ≡ union_of ways → IsPlaced given renamed from i → IsPlaced given renamed from j → IsPlaced given renamed from m
+    → IsRight (over e given) (Or3 (get_or renamed i 0) (get_or renamed j 0) (get_or renamed m 0)) a
+over_three e given renamed from a i j m [] l t r k c p q s = absurd (cc)
+over_three e given renamed from a i j m (b ∷ []) l t r k c p q s = absurd (cc)
+over_three e given renamed from a i j m (b ∷ d ∷ []) l t r k c p q s = absurd (cc)
+over_three e given renamed from a i j m (b ∷ d ∷ f ∷ []) l t r k c p q s =
+    let u = first_at from i (j ∷ m ∷ []) b (d ∷ f ∷ []) t in
+    let v = first_at from j (m ∷ []) d (f ∷ []) u.1 in
+    let x = first_at from m [] f [] v.1 in
+    let w = three_of b d f a.x a.y r in
+    three_right (over e given) (get_or renamed i 0) (get_or renamed j 0) (get_or renamed m 0) b d f a refl (way_at e given renamed from a b i l u.0 p w.first_kind w.first_pair)
+    (way_at e given renamed from a d j l v.0 q w.second_kind w.second_pair) (way_at e given renamed from a f m l x.0 s w.third_kind w.third_pair)
+    (λ z. all_ways_no (has b.carrier z) (has d.carrier z) (has f.carrier z) (w.free z)) k c
+over_three e given renamed from a i j m (b ∷ d ∷ f ∷ g ∷ ways) l t r k c p q s = absurd (cc)
+
+few_ways : (e : PlayerBoard) (ways : List Entry) (x y n : ℕ) → OrRule ways x y → length ways ≡ n → n < 2 → ⊥
+few_ways e ways x y n r h l = few r.number
+  where
+    few : (length ways ≡ 2) ⊎ (length ways ≡ 3) → ⊥
+    few (inl q) = absurd (omega arith)
+    few (inr q) = absurd (omega arith)
+
+-- ways that two or three of the numbers name
+number_of_ways : (from : List Entry) (numbers : List ℕ) (ways : List Entry) → AreAt from numbers ways → length ways ≡ length numbers
+number_of_ways from numbers ways h = sym (length-map ways Some) ∙ sym (ap length h) ∙ length-map numbers (slice_get from)
+
+or_right : (e : PlayerBoard) (given : List ScopedEntry) (renamed : List ℕ) (from : List Entry) (a : Entry) (line : Line) (numbers : List ℕ) (count : ℕ) (ways : List Entry)
+    → a.x < a.y → length numbers ≡ 3 → AreAt from (take count numbers) ways → OrRule ways a.x a.y → a.kind ≡ Full → a.carrier ≡ union_of ways
+    → All (IsPlaced given renamed from) (named (Or numbers count)) → IsLineFor e renamed a (Or numbers count) line → IsRight (over e given) line a
+or_right e given renamed from a line [] count ways l n t r k c p h = absurd (cc)
+or_right e given renamed from a line (i ∷ []) count ways l n t r k c p h = absurd (cc)
+or_right e given renamed from a line (i ∷ j ∷ []) count ways l n t r k c p h = absurd (cc)
+or_right e given renamed from a line (i ∷ j ∷ m ∷ u ∷ numbers) count ways l n t r k c p h = absurd (cc)
+or_right e given renamed from a line (i ∷ j ∷ m ∷ []) zero ways l n t r k c p h = absurd (few_ways e ways a.x a.y 0 r (number_of_ways from [] ways t) (omega arith))
+or_right e given renamed from a line (i ∷ j ∷ m ∷ []) (suc zero) ways l n t r k c p h = absurd (few_ways e ways a.x a.y 1 r (number_of_ways from (i ∷ []) ways t) (omega arith))
+or_right e given renamed from a line (i ∷ j ∷ m ∷ []) (suc (suc zero)) ways l n t r k c p h = subst (λ v. IsRight (over e given) v a) (sym h.1)
+    (over_two e given renamed from a i j ways l t r k c (All-head (IsPlaced given renamed from) i (j ∷ []) p) (second_in (IsPlaced given renamed from) i j [] p))
+or_right e given renamed from a line (i ∷ j ∷ m ∷ []) (suc (suc (suc zero))) ways l n t r k c p h = subst (λ v. IsRight (over e given) v a) (sym h.1)
+    (over_three e given renamed from a i j m ways l t r k c (All-head (IsPlaced given renamed from) i (j ∷ m ∷ []) p) (second_in (IsPlaced given renamed from) i j (m ∷ []) p) (third_in (IsPlaced given renamed from) i j m [] p))
+or_right e given renamed from a line (i ∷ j ∷ m ∷ []) (suc (suc (suc (suc count)))) ways l n t r k c p h =
+    let P = IsPlaced given renamed from in
+    let no : (suc (suc (suc (suc count))) == 2) ≡ false = ne_eqb (suc (suc (suc (suc count)))) 2 (λ q. absurd (omega arith)) in
+    let all : All P (i ∷ j ∷ m ∷ []) = subst (λ v. All P (i ∷ j ∷ (if v then [] else m ∷ []))) no p in
+    let two = Or2 (get_or renamed i 0) (get_or renamed j 0) in
+    let three = Or3 (get_or renamed i 0) (get_or renamed j 0) (get_or renamed m 0) in
+    subst (λ v. IsRight (over e given) v a) (sym (h.1 ∙ ap (λ v. if v then two else three) no))
+    (over_three e given renamed from a i j m ways l t r k c (All-head P i (j ∷ m ∷ []) all) (second_in P i j (m ∷ []) all) (third_in P i j m [] all))
+
+-- ---- each rule
+
+chain_at : (e : PlayerBoard) (given : List ScopedEntry) (renamed : List ℕ) (from : List Entry) (a b : Entry) (x u y i j : ℕ) → AreOrdered from → AreAt from (i ∷ j ∷ []) (a ∷ b ∷ [])
+    → AndRule (elements_in e 0) a b x u y → IsPlaced given renamed from i → IsPlaced given renamed from j → IsChainAt (over e given) (get_or renamed i 0) (get_or renamed j 0) a b x u y
+chain_at e given renamed from a b x u y i j o t r p q =
+    let v = first_at from i (j ∷ []) a (b ∷ []) t in
+    let w = first_at from j [] b [] v.1 in
+    record {
+      first = entry_over e given (get_or renamed i 0) (unscoped a) (p a v.0);
+      second = entry_over e given (get_or renamed j 0) (unscoped b) (q b w.0);
+      first_order = o i a v.0;
+      second_order = o j b w.0;
+      rule = r;
+    }
+
+rule_right : (e : PlayerBoard) (given : List ScopedEntry) (renamed : List ℕ) (from : List Entry) (a : Entry) (line : Line) (cause : Cause) → AreOrdered from → a.x < a.y
+    → FollowsBy (elements_in e 0) from a cause → IsLineFor (elements_in e 0) renamed a cause line → All (IsPlaced given renamed from) (named cause) → IsRight (over e given) line a
+rule_right e given renamed from a line Adjacent o l f h p =
+    let (x, y, q, v, w) = h in
+    subst (λ z. IsRight (over e given) z a) (sym q) (adj_right e given a x y l f.0 f.1 f.2 v.element w.element v.other w.other)
+rule_right e given renamed from a line (AndGroup i j) o l (b, d, x, u, y, t, r, g, w, k, c) h p =
+    subst (λ z. IsRight (over e given) z a) (sym h)
+    (and_right (over e given) (get_or renamed i 0) (get_or renamed j 0) b d a x u y refl
+    (chain_at e given renamed from b d x u y i j o t r (All-head (IsPlaced given renamed from) i (j ∷ []) p) (second_in (IsPlaced given renamed from) i j [] p)) g w k c)
+rule_right e given renamed from a line (AndEmpty i j) o l (b, d, x, u, y, z, t, r, g, w, k, c) h p =
+    subst (λ v. IsRight (over e given) v a) (sym h)
+    (key_right (over e given) (get_or renamed i 0) (get_or renamed j 0) b d a x u y z refl
+    (chain_at e given renamed from b d x u y i j o t r (All-head (IsPlaced given renamed from) i (j ∷ []) p) (second_in (IsPlaced given renamed from) i j [] p)) g w k c)
+rule_right e given renamed from a line (Or numbers count) o l (ways, t, r, k, c) h p = or_right e given renamed from a line numbers count ways l h.0 t r k c p h
+
+-- the line for an entry that follows from earlier ones is right
+pub line_right : (e : PlayerBoard) (given : List ScopedEntry) (renamed : List ℕ) (from : List Entry) (a : Entry) (line : Line) → AreOrdered from → a.x < a.y
+    → FollowsFrom e from a → IsLineFor e renamed a a.cause line → All (IsPlaced given renamed from) (named a.cause) → IsRight (over e given) line a
+line_right e given renamed from a line o l f h p = rule_right e given renamed from a line a.cause o l
+    (subst (λ v. FollowsBy v from a a.cause) (sym (unscoped_board e)) f) (subst (λ v. IsLineFor v renamed a a.cause line) (sym (unscoped_board e)) h) p
+
+-- ---- the form of the line
+
+two_numbers : (i j : ℕ) → i ≤ MOST_NUMBER → j ≤ MOST_NUMBER → AreNumbers (i ∷ j ∷ [])
+two_numbers i j h k = All-cons (λ v. v ≤ MOST_NUMBER) i (j ∷ []) h (All-cons (λ v. v ≤ MOST_NUMBER) j [] k (All-nil (λ v. v ≤ MOST_NUMBER)))
+
+-- the new number of entry i can be written
+abbrev pub IsSmallAt : List ℕ → ℕ → Type 0
+IsSmallAt renamed i = get_or renamed i 0 ≤ MOST_NUMBER
+
+or_form : (e : PlayerBoard) (renamed : List ℕ) (n : ℕ) (line : Line) (p q r : ℕ) (two : Bool) → line ≡ (if two then Or2 p q else Or3 p q r) → p ≤ MOST_NUMBER → q ≤ MOST_NUMBER
+    → (two ≡ false → r ≤ MOST_NUMBER) → IsLineOf FIRST_VERSION n line
+or_form e renamed n line p q r true h i j k = subst (IsLineOf FIRST_VERSION n) (sym h) (two_numbers p q i j)
+or_form e renamed n line p q r false h i j k = subst (IsLineOf FIRST_VERSION n) (sym h) (All-cons (λ v. v ≤ MOST_NUMBER) p (q ∷ r ∷ []) i (two_numbers q r j (k refl)))
+
+third_small : (renamed : List ℕ) (i j k : ℕ) (two : Bool) → All (IsSmallAt renamed) (i ∷ j ∷ (if two then [] else k ∷ [])) → two ≡ false → IsSmallAt renamed k
+third_small renamed i j k true h e = absurd (true≢false e)
+third_small renamed i j k false h e = third_in (IsSmallAt renamed) i j k [] h
+
+pub line_form : (e : PlayerBoard) (renamed : List ℕ) (a : Entry) (line : Line) (cause : Cause) → IsLineFor e renamed a cause line → All (IsSmallAt renamed) (named cause)
+    → IsLineOf FIRST_VERSION e.board.size line
+line_form e renamed a line Adjacent (x, y, q, v, w) s = subst (IsLineOf FIRST_VERSION e.board.size) (sym q) (v.place, w.place)
+line_form e renamed a line (AndGroup i j) h s = subst (IsLineOf FIRST_VERSION e.board.size) (sym h)
+    (two_numbers (get_or renamed i 0) (get_or renamed j 0) (All-head (IsSmallAt renamed) i (j ∷ []) s) (second_in (IsSmallAt renamed) i j [] s))
+line_form e renamed a line (AndEmpty i j) h s = subst (IsLineOf FIRST_VERSION e.board.size) (sym h)
+    (two_numbers (get_or renamed i 0) (get_or renamed j 0) (All-head (IsSmallAt renamed) i (j ∷ []) s) (second_in (IsSmallAt renamed) i j [] s))
+line_form e renamed a line (Or numbers count) h s =
+    let i = get_or numbers 0 0 in
+    let j = get_or numbers 1 0 in
+    let k = get_or numbers 2 0 in
+    let rest = if count == 2 then [] else k ∷ [] in
+    or_form e renamed e.board.size line (get_or renamed i 0) (get_or renamed j 0) (get_or renamed k 0) (count == 2) h.1
+    (All-head (IsSmallAt renamed) i (j ∷ rest) s) (second_in (IsSmallAt renamed) i j rest s) (third_small renamed i j k (count == 2) s)

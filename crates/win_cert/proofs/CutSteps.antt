@@ -1,0 +1,314 @@
+-- A line of a cut gives the store's entry in the empty scope, and there is no reason against it.
+use Rattle.std.proofs.Common.{◌≡◌, ℕ, ◌<◌, ◌==◌, ◌&&◌, ◌||◌, not, true, false, Bool, List, [], ◌∷◌, Option, Some, None, min, max, bit_or, option_map, option_and_then, if◌then◌else◌, refl, sym, ◌∙◌, ap, subst, arith}
+use Rattle.std.specs.List.{list_all}
+use Rattle.std.specs.Int.Bits.{or_zero_r}
+use Rattle.std.specs.Option.{is_none, is_some, option_map_or}
+use Rattle.std.proofs.lemmas.Bool.{and_from, eq-eqb, false_from_ne_true, false≢true, ne_eqb, true≢false}
+use Rattle.hex_cells.specs.Sets.{has, with_cell}
+use Rattle.hex_cells.specs.declared.colours.Colour.{Colour}
+use Rattle.hex_cells.specs.declared.colours.Colour.TheVariants.{Black, White}
+use Rattle.hex_board.specs.Elements.{PlayerBoard}
+use Rattle.hex_board.specs.Places.{Near, cell_of, is_near}
+use Rattle.hex_board.specs.Positions.{Position}
+use Rattle.hex_board.proofs.Places.{near_test}
+use Rattle.conn_store.specs.Entries.{IsBetween, IsValid}
+use Rattle.conn_store.specs.Rules.{AndRule, IsCell, IsGroup, both_of}
+use Rattle.conn_store.specs.Stores.{same_kind}
+use Rattle.conn_store.specs.declared.entries.Entry.{Entry}
+use Rattle.conn_store.specs.declared.entries.Kind.{Kind}
+use Rattle.conn_store.specs.declared.entries.Kind.TheVariants.{Full, Semi}
+use Rattle.win_cert.specs.Cutting.{over, unscoped}
+use Rattle.win_cert.specs.Entries.{Context, ScopedEntry, adj_entry, and_entry, carriers_of, elements_at, end_element, entries_at, entry_at, entry_between, gives, key_entry, middle_of, or_entry, other_end}
+use Rattle.win_cert.specs.Reasons.{Reason, reason_against, is_bad_reference, is_wrong_scope, is_wrong_colour, are_not_neighbours, has_no_middle, do_carriers_meet, is_end_in_carrier, is_middle_wrong, do_ends_differ, is_cell_common, holds_of_chain, bad_reference, wrong_colour, not_neighbours, no_common_middle, carriers_meet, end_in_carrier, middle_kind, ends_differ, common_cell, wrong_scope}
+use Rattle.win_cert.specs.Scopes.{elements_in, with_stones}
+use Rattle.win_cert.specs.Statements.{Statement, derivation, are_near, is_chain, is_or, have_same_ends, is_cell_in, is_other_stone, kind_taken, may_take, share_cell}
+use Rattle.win_cert.specs.declared.lines.End.{End}
+use Rattle.win_cert.specs.declared.lines.Line.{Line}
+use Rattle.win_cert.specs.declared.lines.Line.TheVariants.{Adj, And, Key, Or2, Or3}
+use Rattle.win_cert.proofs.CutChains.{ends_are, group_none, middle_is, missed, none_shared, other_is, two_at, three_at}
+use Rattle.win_cert.proofs.LinksOn.{cell_is}
+
+-- ---- the board of the empty scope
+
+with_none : (p : Position) (c : Colour) → with_stones p c 0 ≡ p
+with_none p Black = ap (λ s. record { size = p.size; black = s; white = p.white }) (or_zero_r p.black)
+with_none p White = ap (λ s. record { size = p.size; black = p.black; white = s }) (or_zero_r p.white)
+
+pub unscoped_board : (e : PlayerBoard) → elements_in e 0 ≡ e
+unscoped_board e = ap (λ p. record { board = p; player = e.player }) (with_none e.board e.player)
+
+-- ---- reasons that are told in turn
+
+abbrev pub told : Bool → Reason → Option Reason → Option Reason
+told test reason other = if test then Some reason else other
+
+pub told_next : (b : Bool) (r : Reason) (o : Option Reason) → b ≡ false → o ≡ None → told b r o ≡ None
+told_next true r o h e = absurd (true≢false h)
+told_next false r o h e = e
+
+and_no : (p q : Bool) → q ≡ false → (p && q) ≡ false
+and_no true q h = h
+and_no false q h = refl
+
+or_no : (p q : Bool) → p ≡ false → q ≡ false → (p || q) ≡ false
+or_no false q h k = k
+or_no true q h k = absurd (true≢false h)
+
+not_both : (p q : Bool) → (p ≡ true → q ≡ true → ⊥) → (p && (q && true)) ≡ false
+not_both true true h = absurd (h refl refl)
+not_both true false h = refl
+not_both false q h = refl
+
+chain_clear : (p q r s t u : Bool) → p ≡ false → q ≡ false → r ≡ false → s ≡ false → t ≡ false → u ≡ false
+    → told p bad_reference (told q wrong_scope (told r no_common_middle (told s carriers_meet (told t end_in_carrier (told u middle_kind None))))) ≡ None
+chain_clear p q r s t u a b c d e f = told_next p bad_reference _ a (told_next q wrong_scope _ b (told_next r no_common_middle _ c (told_next s carriers_meet _ d (told_next t end_in_carrier _ e (told_next u middle_kind _ f refl)))))
+
+-- ---- the entry that is given
+
+abbrev pub made : Kind → ℕ → ℕ → ℕ → ℕ → ScopedEntry
+made kind x y c s = record { kind = kind; x = x; y = y; carrier = c; scope = s }
+
+pub same_entry : (a : Entry) (kind : Kind) (x y c s : ℕ) → kind ≡ a.kind → x ≡ a.x → y ≡ a.y → c ≡ a.carrier → s ≡ 0 → made kind x y c s ≡ unscoped a
+same_entry a kind x y c s h i j k m = ap (λ v. made v x y c s) h ∙ ap (λ v. made a.kind v y c s) i ∙ ap (λ v. made a.kind a.x v c s) j ∙ ap (λ v. made a.kind a.x a.y v s) k
+    ∙ ap (λ v. made a.kind a.x a.y a.carrier v) m
+
+-- a line gives the entry, and there is no reason against it
+abbrev pub IsRight : Context → Line → Entry → Type 0
+IsRight c line a = (gives c line ≡ Some (unscoped a)) × (reason_against c (derivation line) ≡ None)
+
+-- ---- `adj`
+
+adj_reasons : (c : Context) (x y : End)
+    → reason_against c (derivation (Adj x y)) ≡ told (is_wrong_colour c (derivation (Adj x y))) wrong_colour (told (are_not_neighbours c (derivation (Adj x y))) not_neighbours None)
+unfolding reason_against
+adj_reasons c x y = refl
+
+near_yes : (e : PlayerBoard) (x y : ℕ) → Near e x y → not (is_near e x y) ≡ false
+near_yes e x y n = ap not (sym (near_test e x y true ((λ t. n), (λ t. refl))))
+
+pub adj_right : (e : PlayerBoard) (given : List ScopedEntry) (a : Entry) (x y : End) → a.x < a.y → Near (elements_in e 0) a.x a.y → a.kind ≡ Full → a.carrier ≡ 0
+    → end_element (elements_in e 0) x ≡ Some a.x → end_element (elements_in e 0) y ≡ Some a.y
+    → is_other_stone (elements_in e 0) x ≡ false → is_other_stone (elements_in e 0) y ≡ false → IsRight (over e given) (Adj x y) a
+adj_right e given a x y l n k z h i p q =
+    let c = over e given in
+    let d = elements_in e 0 in
+    let lx : min a.x a.y ≡ a.x = omega arith in
+    let ly : max a.x a.y ≡ a.y = omega arith in (
+      ap (λ o. adj_entry c o (end_element d y)) h ∙ ap (λ o. adj_entry c (Some a.x) o) i ∙ ap Some (same_entry a Full (min a.x a.y) (max a.x a.y) 0 0 (sym k) lx ly (sym z) refl),
+      adj_reasons c x y ∙ told_next (is_wrong_colour c (derivation (Adj x y))) wrong_colour (told (are_not_neighbours c (derivation (Adj x y))) not_neighbours None)
+          (or_no (is_other_stone d x) (is_other_stone d y) p q)
+          (told_next (are_not_neighbours c (derivation (Adj x y))) not_neighbours None
+          (ap (λ o. not (are_near d o (end_element d y))) h ∙ ap (λ o. not (are_near d (Some a.x) o)) i ∙ near_yes d a.x a.y n) refl),
+    )
+
+-- ---- `and` and `key`
+
+-- the reason against an `and` or a `key`
+abbrev chain_reason : Context → Statement → Option Reason
+chain_reason c s = told (is_bad_reference c s) bad_reference (told (is_wrong_scope c s) wrong_scope (told (has_no_middle c s) no_common_middle
+    (told (do_carriers_meet c s) carriers_meet (told (is_end_in_carrier c s) end_in_carrier (told (is_middle_wrong c s) middle_kind None)))))
+
+and_reasons : (c : Context) (i j : ℕ) → reason_against c (derivation (And i j)) ≡ chain_reason c (derivation (And i j))
+unfolding reason_against
+and_reasons c i j = refl
+
+key_reasons : (c : Context) (i j : ℕ) → reason_against c (derivation (Key i j)) ≡ chain_reason c (derivation (Key i j))
+unfolding reason_against
+key_reasons c i j = refl
+
+-- what a rule of AND over u asks, of the entries that two numbers name
+pub record IsChainAt (c : Context) (i j : ℕ) (a b : Entry) (x u y : ℕ) : Type 0 where
+  pub first : entry_at c i ≡ Some (unscoped a)
+  pub second : entry_at c j ≡ Some (unscoped b)
+  pub first_order : a.x < a.y
+  pub second_order : b.x < b.y
+  pub rule : AndRule (elements_at c) a b x u y
+
+between_differ : (a : Entry) (x y : ℕ) → IsBetween a x y → a.x < a.y → x ≡ y → ⊥
+between_differ a x y h l e = let p : a.x ≡ min x y = h.0 in let q : a.y ≡ max x y = h.1 in absurd (omega arith)
+
+turned_pair : (a : Entry) (x y : ℕ) → IsBetween a x y → IsBetween a y x
+turned_pair a x y h = let p : a.x ≡ min x y = h.0 in let q : a.y ≡ max x y = h.1 in (omega arith, omega arith)
+
+chain_middle : (c : Context) (i j : ℕ) (a b : Entry) (x u y : ℕ) → IsChainAt c i j a b x u y → middle_of (unscoped a) (unscoped b) ≡ Some u
+chain_middle c i j a b x u y w =
+    let r = w.rule.chain in
+    let t = turned_pair b u y r.second in
+    middle_is (unscoped a) (unscoped b) x u y (ends_are (unscoped a) x u r.first.0 r.first.1) (ends_are (unscoped b) y u t.0 t.1) (between_differ a x u r.first w.first_order) r.ends
+
+chain_first : (c : Context) (i j : ℕ) (a b : Entry) (x u y : ℕ) → IsChainAt c i j a b x u y → other_end (unscoped a) u ≡ x
+chain_first c i j a b x u y w =
+    let r = w.rule.chain in
+    other_is (unscoped a) x u (ends_are (unscoped a) x u r.first.0 r.first.1) (between_differ a x u r.first w.first_order)
+
+chain_second : (c : Context) (i j : ℕ) (a b : Entry) (x u y : ℕ) → IsChainAt c i j a b x u y → other_end (unscoped b) u ≡ y
+chain_second c i j a b x u y w =
+    let r = w.rule.chain in
+    let t = turned_pair b u y r.second in
+    other_is (unscoped b) y u (ends_are (unscoped b) y u t.0 t.1) (between_differ b y u t w.second_order)
+
+chain_pair : (c : Context) (i j : ℕ) (a b : Entry) (x u y : ℕ) → IsChainAt c i j a b x u y → entries_at c (i ∷ j ∷ []) ≡ unscoped a ∷ unscoped b ∷ []
+chain_pair c i j a b x u y w = two_at c i j (unscoped a) (unscoped b) w.first w.second
+
+-- whether something holds of two entries and their middle
+holds_is : (test : ScopedEntry → ScopedEntry → ℕ → Bool) (c : Context) (i j : ℕ) (a b : Entry) (x u y : ℕ) → IsChainAt c i j a b x u y
+    → holds_of_chain test (entries_at c (i ∷ j ∷ [])) ≡ test (unscoped a) (unscoped b) u
+holds_is test c i j a b x u y w = ap (holds_of_chain test) (chain_pair c i j a b x u y w)
+    ∙ ap (λ o. option_map_or (test (unscoped a) (unscoped b)) o false) (chain_middle c i j a b x u y w)
+
+full_taken : (s : Statement) (a : Entry) (b : Bool) → kind_taken s ≡ Full → a.kind ≡ Full → a.x < a.y → (same_kind a.kind (kind_taken s) && not (b && a.x == a.y)) ≡ true
+full_taken s a b h k l = ap (λ v. same_kind v (kind_taken s) && not (b && a.x == a.y)) k ∙ ap (λ v. same_kind Full v && not (b && a.x == a.y)) h
+    ∙ ap not (and_no b (a.x == a.y) (ne_eqb a.x a.y (λ q. absurd (omega arith))))
+
+bad_two : (p q : Bool) → p ≡ true → q ≡ true → not (p && (q && true)) ≡ false
+bad_two true true h k = refl
+bad_two true false h k = absurd (false≢true k)
+bad_two false q h k = absurd (false≢true h)
+
+chain_taken : (c : Context) (i j : ℕ) (a b : Entry) (x u y : ℕ) (s : Statement) → kind_taken s ≡ Full → IsChainAt c i j a b x u y
+    → not (may_take s (entry_at c i) && (may_take s (entry_at c j) && true)) ≡ false
+chain_taken c i j a b x u y s h w = bad_two (may_take s (entry_at c i)) (may_take s (entry_at c j))
+    (ap (may_take s) w.first ∙ full_taken s a (is_chain s || is_or s) h w.rule.first_kind w.first_order)
+    (ap (may_take s) w.second ∙ full_taken s b (is_chain s || is_or s) h w.rule.second_kind w.second_order)
+
+chain_apart : (c : Context) (i j : ℕ) (a b : Entry) (x u y : ℕ) → IsChainAt c i j a b x u y → share_cell (entries_at c (i ∷ j ∷ [])) ≡ false
+chain_apart c i j a b x u y w = ap share_cell (chain_pair c i j a b x u y w)
+    ∙ none_shared (unscoped a ∷ unscoped b ∷ []) (λ k. not_both (has a.carrier k) (has b.carrier k) (w.rule.apart k))
+
+chain_ends : (c : Context) (i j : ℕ) (a b : Entry) (x u y : ℕ) → IsChainAt c i j a b x u y
+    → holds_of_chain (λ v w z. is_cell_in (elements_at c) (other_end v z) w.carrier || is_cell_in (elements_at c) (other_end w z) v.carrier) (entries_at c (i ∷ j ∷ [])) ≡ false
+chain_ends c i j a b x u y w = holds_is (λ v w z. is_cell_in (elements_at c) (other_end v z) w.carrier || is_cell_in (elements_at c) (other_end w z) v.carrier) c i j a b x u y w
+    ∙ or_no (is_cell_in (elements_at c) (other_end (unscoped a) u) b.carrier) (is_cell_in (elements_at c) (other_end (unscoped b) u) a.carrier)
+    (ap (λ v. is_cell_in (elements_at c) v b.carrier) (chain_first c i j a b x u y w) ∙ missed (elements_at c) x b.carrier w.rule.first_end)
+    (ap (λ v. is_cell_in (elements_at c) v a.carrier) (chain_second c i j a b x u y w) ∙ missed (elements_at c) y a.carrier w.rule.second_end)
+
+chain_scope : (c : Context) (i j : ℕ) (a b : Entry) (x u y : ℕ) → c.scope ≡ 0 → IsChainAt c i j a b x u y
+    → not (list_all (λ v. v.scope == c.scope) (entries_at c (i ∷ j ∷ []))) ≡ false
+chain_scope c i j a b x u y z w = ap (λ v. not (list_all (λ v. v.scope == c.scope) v)) (chain_pair c i j a b x u y w) ∙ ap (λ v. not (0 == v && (0 == v && true))) z
+
+pub and_right : (c : Context) (i j : ℕ) (a b r : Entry) (x u y : ℕ) → c.scope ≡ 0 → IsChainAt c i j a b x u y → IsGroup (elements_at c) u → IsBetween r x y → r.kind ≡ Full → r.carrier ≡ both_of a b
+    → IsRight c (And i j) r
+and_right c i j a b r x u y z w g h k m =
+    let s = derivation (And i j) in
+    let d = elements_at c in (
+      ap (and_entry c) (chain_pair c i j a b x u y w)
+          ∙ ap (option_map (λ v. entry_between c Full (other_end (unscoped a) v) (other_end (unscoped b) v) (carriers_of (unscoped a ∷ unscoped b ∷ [])))) (chain_middle c i j a b x u y w)
+          ∙ ap (λ v. Some (entry_between c Full v (other_end (unscoped b) u) (carriers_of (unscoped a ∷ unscoped b ∷ [])))) (chain_first c i j a b x u y w)
+          ∙ ap (λ v. Some (entry_between c Full x v (carriers_of (unscoped a ∷ unscoped b ∷ [])))) (chain_second c i j a b x u y w)
+          ∙ ap Some (same_entry r Full (min x y) (max x y) (bit_or a.carrier (bit_or b.carrier 0)) c.scope (sym k) (sym h.0) (sym h.1) (ap (bit_or a.carrier) (or_zero_r b.carrier) ∙ sym m) z),
+      and_reasons c i j ∙ chain_clear (is_bad_reference c s) (is_wrong_scope c s) (has_no_middle c s) (do_carriers_meet c s) (is_end_in_carrier c s) (is_middle_wrong c s)
+          (chain_taken c i j a b x u y s refl w) (chain_scope c i j a b x u y z w) (ap not (holds_is (λ v w z. true) c i j a b x u y w)) (chain_apart c i j a b x u y w) (chain_ends c i j a b x u y w)
+          (holds_is (λ v w z. is_some (cell_of d z)) c i j a b x u y w ∙ group_none d u g),
+    )
+
+pub key_right : (c : Context) (i j : ℕ) (a b r : Entry) (x u y k : ℕ) → c.scope ≡ 0 → IsChainAt c i j a b x u y → IsCell (elements_at c) u k → IsBetween r x y → r.kind ≡ Semi → r.carrier ≡ with_cell (both_of a b) k
+    → IsRight c (Key i j) r
+key_right c i j a b r x u y k z w g h n m =
+    let s = derivation (Key i j) in
+    let d = elements_at c in
+    let all = carriers_of (unscoped a ∷ unscoped b ∷ []) in
+    let f : ℕ → ℕ → ScopedEntry = λ v q. entry_between c Semi (other_end (unscoped a) v) (other_end (unscoped b) v) (with_cell all q) in (
+      ap (key_entry c) (chain_pair c i j a b x u y w)
+          ∙ ap (option_and_then (λ v. option_map (f v) (cell_of d v))) (chain_middle c i j a b x u y w)
+          ∙ ap (option_map (f u)) (cell_is d u k g)
+          ∙ ap (λ v. Some (entry_between c Semi v (other_end (unscoped b) u) (with_cell all k))) (chain_first c i j a b x u y w)
+          ∙ ap (λ v. Some (entry_between c Semi x v (with_cell all k))) (chain_second c i j a b x u y w)
+          ∙ ap Some (same_entry r Semi (min x y) (max x y) (with_cell all k) c.scope (sym n) (sym h.0) (sym h.1) (ap (λ v. with_cell (bit_or a.carrier v) k) (or_zero_r b.carrier) ∙ sym m) z),
+      key_reasons c i j ∙ chain_clear (is_bad_reference c s) (is_wrong_scope c s) (has_no_middle c s) (do_carriers_meet c s) (is_end_in_carrier c s) (is_middle_wrong c s)
+          (chain_taken c i j a b x u y s refl w) (chain_scope c i j a b x u y z w) (ap not (holds_is (λ v w z. true) c i j a b x u y w)) (chain_apart c i j a b x u y w) (chain_ends c i j a b x u y w)
+          (holds_is (λ v w z. is_none (cell_of d z)) c i j a b x u y w ∙ ap is_none (cell_is d u k g)),
+    )
+
+-- ---- `or`
+
+-- the reason against an `or` of these numbers
+abbrev pub or_reason : Context → Statement → List ℕ → Option Reason
+or_reason c s numbers =
+    told (not (list_all (λ i. may_take s (entry_at c i)) numbers)) bad_reference
+    (told (not (list_all (λ a. a.scope == c.scope) (entries_at c numbers))) wrong_scope
+    (told (not (have_same_ends (entries_at c numbers))) ends_differ
+    (told (share_cell (entries_at c numbers)) common_cell None)))
+
+two_reasons : (c : Context) (i j : ℕ) → reason_against c (derivation (Or2 i j)) ≡ or_reason c (derivation (Or2 i j)) (i ∷ j ∷ [])
+unfolding reason_against
+two_reasons c i j = refl
+
+three_reasons : (c : Context) (i j k : ℕ) → reason_against c (derivation (Or3 i j k)) ≡ or_reason c (derivation (Or3 i j k)) (i ∷ j ∷ k ∷ [])
+unfolding reason_against
+three_reasons c i j k = refl
+
+or_clear : (p q r s : Bool) → p ≡ false → q ≡ false → r ≡ false → s ≡ false → told p bad_reference (told q wrong_scope (told r ends_differ (told s common_cell None))) ≡ None
+or_clear p q r s a b c d = told_next p bad_reference _ a (told_next q wrong_scope _ b (told_next r ends_differ _ c (told_next s common_cell _ d refl)))
+
+-- the numbers name semi entries of the elements of r
+pub record IsWayAt (c : Context) (i : ℕ) (a r : Entry) : Type 0 where
+  pub at : entry_at c i ≡ Some (unscoped a)
+  pub kind_is : a.kind ≡ Semi
+  pub order : r.x < r.y
+  pub pair : IsBetween a r.x r.y
+
+way_first : (c : Context) (i : ℕ) (a r : Entry) → IsWayAt c i a r → a.x ≡ r.x
+way_first c i a r w = let p : a.x ≡ min r.x r.y = w.pair.0 in let l : r.x < r.y = w.order in omega arith
+
+way_second : (c : Context) (i : ℕ) (a r : Entry) → IsWayAt c i a r → a.y ≡ r.y
+way_second c i a r w = let p : a.y ≡ max r.x r.y = w.pair.1 in let l : r.x < r.y = w.order in omega arith
+
+way_differ : (c : Context) (i : ℕ) (a r : Entry) → IsWayAt c i a r → a.x ≡ a.y → ⊥
+way_differ c i a r w q = let l : r.x < r.y = w.order in let e : a.x ≡ r.x = way_first c i a r w in let f : a.y ≡ r.y = way_second c i a r w in absurd (omega arith)
+
+way_taken : (c : Context) (i : ℕ) (a r : Entry) (s : Statement) → kind_taken s ≡ Semi → IsWayAt c i a r → may_take s (entry_at c i) ≡ true
+way_taken c i a r s h w = ap (may_take s) w.at
+    ∙ ap (λ v. same_kind v (kind_taken s) && not ((is_chain s || is_or s) && a.x == a.y)) w.kind_is ∙ ap (λ v. same_kind Semi v && not ((is_chain s || is_or s) && a.x == a.y)) h
+    ∙ ap not (and_no (is_chain s || is_or s) (a.x == a.y) (ne_eqb a.x a.y (way_differ c i a r w)))
+
+ways_alike : (c : Context) (i j : ℕ) (a b r : Entry) → IsWayAt c i a r → IsWayAt c j b r → (a.x == b.x && a.y == b.y) ≡ true
+ways_alike c i j a b r v w = and_from (a.x == b.x) (a.y == b.y) (eq-eqb a.x b.x (way_first c i a r v ∙ sym (way_first c j b r w))) (eq-eqb a.y b.y (way_second c i a r v ∙ sym (way_second c j b r w)))
+
+bad_three : (p q t : Bool) → p ≡ true → q ≡ true → t ≡ true → not (p && (q && (t && true))) ≡ false
+bad_three true true true h k m = refl
+bad_three true true false h k m = absurd (false≢true m)
+bad_three true false t h k m = absurd (false≢true k)
+bad_three false q t h k m = absurd (false≢true h)
+
+bad_one : (p : Bool) → p ≡ true → not (p && true) ≡ false
+bad_one true h = refl
+bad_one false h = absurd (false≢true h)
+
+way_min : (c : Context) (i : ℕ) (a r : Entry) → IsWayAt c i a r → min a.x a.y ≡ r.x
+way_min c i a r w = let l : r.x < r.y = w.order in let e : a.x ≡ r.x = way_first c i a r w in let f : a.y ≡ r.y = way_second c i a r w in omega arith
+
+way_max : (c : Context) (i : ℕ) (a r : Entry) → IsWayAt c i a r → max a.x a.y ≡ r.y
+way_max c i a r w = let l : r.x < r.y = w.order in let e : a.x ≡ r.x = way_first c i a r w in let f : a.y ≡ r.y = way_second c i a r w in omega arith
+
+pub two_right : (c : Context) (i j : ℕ) (a b r : Entry) → c.scope ≡ 0 → IsWayAt c i a r → IsWayAt c j b r → ((k : ℕ) → (has a.carrier k && (has b.carrier k && true)) ≡ false)
+    → r.kind ≡ Full → r.carrier ≡ bit_or a.carrier b.carrier → IsRight c (Or2 i j) r
+two_right c i j a b r z v w f k m =
+    let s = derivation (Or2 i j) in
+    let numbers = i ∷ j ∷ [] in
+    let e = two_at c i j (unscoped a) (unscoped b) v.at w.at in (
+      ap (or_entry c) e ∙ ap Some (same_entry r Full (min a.x a.y) (max a.x a.y) (bit_or a.carrier (bit_or b.carrier 0)) c.scope (sym k) (way_min c i a r v) (way_max c i a r v)
+          (ap (bit_or a.carrier) (or_zero_r b.carrier) ∙ sym m) z),
+      two_reasons c i j ∙ or_clear (not (list_all (λ i. may_take s (entry_at c i)) numbers)) (not (list_all (λ a. a.scope == c.scope) (entries_at c numbers)))
+          (not (have_same_ends (entries_at c numbers))) (share_cell (entries_at c numbers))
+          (bad_two (may_take s (entry_at c i)) (may_take s (entry_at c j)) (way_taken c i a r s refl v) (way_taken c j b r s refl w))
+          (ap (λ v. not (list_all (λ a. a.scope == c.scope) v)) e ∙ ap (λ v. not (0 == v && (0 == v && true))) z)
+          (ap (λ v. not (have_same_ends v)) e ∙ bad_one (a.x == b.x && a.y == b.y) (ways_alike c i j a b r v w))
+          (ap share_cell e ∙ none_shared (unscoped a ∷ unscoped b ∷ []) f),
+    )
+
+pub three_right : (c : Context) (i j l : ℕ) (a b d r : Entry) → c.scope ≡ 0 → IsWayAt c i a r → IsWayAt c j b r → IsWayAt c l d r
+    → ((k : ℕ) → (has a.carrier k && (has b.carrier k && (has d.carrier k && true))) ≡ false)
+    → r.kind ≡ Full → r.carrier ≡ bit_or a.carrier (bit_or b.carrier d.carrier) → IsRight c (Or3 i j l) r
+three_right c i j l a b d r z v w u f k m =
+    let s = derivation (Or3 i j l) in
+    let numbers = i ∷ j ∷ l ∷ [] in
+    let e = three_at c i j l (unscoped a) (unscoped b) (unscoped d) v.at w.at u.at in (
+      ap (or_entry c) e ∙ ap Some (same_entry r Full (min a.x a.y) (max a.x a.y) (bit_or a.carrier (bit_or b.carrier (bit_or d.carrier 0))) c.scope (sym k) (way_min c i a r v) (way_max c i a r v)
+          (ap (λ v. bit_or a.carrier (bit_or b.carrier v)) (or_zero_r d.carrier) ∙ sym m) z),
+      three_reasons c i j l ∙ or_clear (not (list_all (λ i. may_take s (entry_at c i)) numbers)) (not (list_all (λ a. a.scope == c.scope) (entries_at c numbers)))
+          (not (have_same_ends (entries_at c numbers))) (share_cell (entries_at c numbers))
+          (bad_three (may_take s (entry_at c i)) (may_take s (entry_at c j)) (may_take s (entry_at c l)) (way_taken c i a r s refl v) (way_taken c j b r s refl w) (way_taken c l d r s refl u))
+          (ap (λ v. not (list_all (λ a. a.scope == c.scope) v)) e ∙ ap (λ v. not (0 == v && (0 == v && (0 == v && true)))) z)
+          (ap (λ v. not (have_same_ends v)) e ∙ bad_two (a.x == b.x && a.y == b.y) (a.x == d.x && a.y == d.y) (ways_alike c i j a b r v w) (ways_alike c i l a d r v u))
+          (ap share_cell e ∙ none_shared (unscoped a ∷ unscoped b ∷ unscoped d ∷ []) f),
+    )

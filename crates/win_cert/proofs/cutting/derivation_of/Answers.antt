@@ -1,0 +1,70 @@
+-- One entry more: its line, where it is marked.
+use Rattle.std.proofs.Common.{◌≡◌, ℕ, ◌+◌, ◌<◌, ◌≤◌, All, [], ◌∷◌, ◌++◌, length, take, vec_len, refl, sym, ◌∙◌, ap, subst, arith}
+use Rattle.std.proofs.lemmas.Grind.{get_or_default_zero}
+use Rattle.std.proofs.lemmas.List.Elements.{All-weaker}
+use Rattle.conn_store.specs.Entries.{IsValid}
+use Rattle.conn_store.specs.Rules.{FollowsFrom}
+use Rattle.conn_store.proofs.RuleEntries.{stands}
+use Rattle.win_cert.specs.Cutting.{AreLinesTo, Derives, IsLineFor, named}
+use Rattle.conn_store.specs.declared.entries.TheConstants.{MOST_ENTRIES}
+use Rattle.win_cert.proofs.CutDerivations.{lines_end, lines_more, lines_on, longer, name_earlier}
+use Rattle.win_cert.proofs.cutting.derivation_of.Goals as goal
+use Rattle.win_cert.proofs.cutting.derivation_of.Goals.{then-marks-number+in_ok-push-2, else-marks-number}
+
+pub line_of-requires-clause-valid : goal.line_of-requires-clause-valid
+line_of-requires-clause-valid c =
+    let a = c.index-entries-number.result in
+    let at = stands c.args.store.now _ c.entries.number a c.entries-entries.ensures.value (omega arith) c.index-entries-number.is in
+    subst (λ e. IsValid e a) (sym c.elements.ensures) (c.entries-entries.ensures.sound.valid c.entries.number a at)
+
+pub line_of-requires-clause-follows : goal.line_of-requires-clause-follows
+line_of-requires-clause-follows c =
+    let a = c.index-entries-number.result in
+    let at = stands c.args.store.now _ c.entries.number a c.entries-entries.ensures.value (omega arith) c.index-entries-number.is in (
+      take c.entries.number c.args.store.now.entries,
+      subst (λ e. FollowsFrom e (take c.entries.number c.args.store.now.entries) a) (sym c.elements.ensures) (c.entries-entries.ensures.sound.follows c.entries.number a at),
+    )
+
+pub line_of-requires-clause-named : goal.line_of-requires-clause-named
+line_of-requires-clause-named c =
+    let a = c.index-entries-number.result in
+    let n : ℕ = c.entries.number in
+    let at = stands c.args.store.now _ n a c.entries-entries.ensures.value (omega arith) c.index-entries-number.is in
+    let number : length c.entries.renamed.items ≡ n = c.entries.invariant.lines.number in
+    let long : length c.deref.result.now ≡ length c.entries.renamed.items + 1 = ap length (c.deref.ensures.value ∙ c.in_ok-push.ensures.items) ∙ longer c.entries.renamed.items _ in
+    All-weaker (λ j. j < n) (λ j. j < length c.deref.result.now) (λ j l. omega arith) (named a.cause) (name_earlier c.args.store.now c.entries-entries.ensures.sound n a at)
+
+pub returns : goal.returns
+returns c = subst (λ i. Derives c.args.store.now c.args.entry c.entries.lines.items i) (sym (c.index.ensures ∙ get_or_default_zero c.entries.renamed.items c.args.entry c.index.result.now (let m : length c.entries.renamed.items ≡ c.entries.number = c.entries.invariant.lines.number in omega arith)))
+    (lines_end c.args.store.now c.args.marks.now c.args.entry c.entries.number c.entries.lines.items c.entries.renamed.items c.entries.invariant.lines (omega arith) c.requires.below
+    (subst (λ es. length es ≤ MOST_ENTRIES) c.entries-entries.ensures.value c.entries-entries.ensures.few) c.requires.marks)
+
+pub entries-preserved : goal.entries-preserved
+entries-preserved c =
+    let d = c.args.store.now in
+    let n : ℕ = c.entries.number in
+    let marks = c.args.marks.now in
+    let lines = c.entries.lines.items in
+    let renamed = c.entries.renamed.items in
+    let long : vec_len c.entries.lines ≡ length lines = omega (arith, c.entries.lines.ok) in
+    let more : c.push.new.self.items ≡ renamed ++ length lines ∷ [] = c.in_ok-push.ensures.items ∙ ap (λ v. renamed ++ v ∷ []) (c.len.ensures ∙ long) in
+    elim c.if-marks-number.branch [
+      | then-marks-number+in_ok-push-2 w ↦
+          let a = w.index-entries-number.result in
+          let line = w.line_of.result in
+          let at = stands d _ n a c.entries-entries.ensures.value (omega arith) w.index-entries-number.is in
+          let few = subst (λ es. length es ≤ MOST_ENTRIES) c.entries-entries.ensures.value c.entries-entries.ensures.few in
+          let form = subst (λ r. IsLineFor d.elements r a a.cause line) (w.deref.ensures.value ∙ more) (subst (λ e. IsLineFor e w.deref.result.now a a.cause line) w.elements.ensures w.line_of.ensures) in
+          record {
+            within = omega arith;
+            lines = subst (λ v. AreLinesTo d marks (n + 1) v.items c.push.new.self.items) (sym w.lines-is)
+                (subst (λ v. AreLinesTo d marks (n + 1) v c.push.new.self.items) (sym w.in_ok-push-2.ensures.items)
+                (subst (λ v. AreLinesTo d marks (n + 1) (lines ++ line ∷ []) v) (sym more)
+                (lines_more d marks c.args.entry n lines renamed a line c.entries.invariant.lines c.entries-entries.ensures.sound few c.requires.marks at w.if-marks-number.true form)));
+          }
+      | else-marks-number w ↦ record {
+        within = omega arith;
+        lines = subst (λ v. AreLinesTo d marks (n + 1) v.items c.push.new.self.items) (sym w.lines-is)
+            (subst (λ v. AreLinesTo d marks (n + 1) lines v) (sym more) (lines_on d marks n lines renamed (length lines) c.entries.invariant.lines w.if-marks-number.false));
+      }
+    ]

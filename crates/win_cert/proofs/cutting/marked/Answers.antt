@@ -1,0 +1,24 @@
+-- The entries that a marked one names are marked with it.
+use Rattle.std.proofs.Common.{◌≡◌, ℕ, ◌+◌, ◌-◌, ◌≤◌, length, true, sym, ◌∙◌, subst, arith}
+use Rattle.std.specs.List.{slice_get}
+use Rattle.conn_store.proofs.RuleEntries.{stands}
+use Rattle.win_cert.specs.Cutting.{IsClosedFrom, IsMarkedBy, named}
+use Rattle.conn_store.specs.declared.entries.Entry.{Entry}
+use Rattle.win_cert.proofs.CutMarks.{closed_more, read_at}
+use Rattle.win_cert.proofs.cutting.marked.Goals as goal
+
+pub entries-preserved-then-index : goal.entries-preserved-then-index
+entries-preserved-then-index c =
+    let n : ℕ = c.entries.left - 1 in
+    let entries = c.args.entries.now in
+    let a = c.index-entries-left.result in
+    let up : c.entries.left ≡ n + 1 = omega arith in
+    let l : c.entries.left ≤ length entries = c.entries.invariant.left in
+    record {
+      number = c.mark.ensures.number ∙ c.entries.invariant.number;
+      left = omega arith;
+      whole = c.mark.ensures.kept c.args.entry c.entries.invariant.whole;
+      closed = closed_more entries c.entries.marks.items c.mark.new.marks.items n a c.requires.earlier (subst (IsClosedFrom entries c.entries.marks.items) up c.entries.invariant.closed)
+          (read_at entries n a (omega arith) c.index-entries-left.is)
+          (subst (λ (v : Entry). IsMarkedBy c.entries.marks.items (named v.cause) c.mark.new.marks.items) (sym c.index-entries-left.is) c.mark.ensures);
+    }

@@ -1,0 +1,15 @@
+-- The entries from `left` on that are marked have those that they name marked.
+use Rattle.std.proofs.Common.{◌≡◌, ◌≤◌, length, true}
+use Rattle.win_cert.specs.Cutting.{IsClosedFrom, is_marked}
+use Rattle.win_cert.proofs.cutting.marked.Given as goal
+
+abbrev pub invariant-entries : goal.invariant-entries
+invariant-entries l = record {
+  number : length l.marks.items ≡ length l.entries;
+  left : l.left ≤ length l.entries;
+  whole : is_marked l.marks.items l.entry ≡ true;
+  closed : IsClosedFrom l.entries l.marks.items l.left;
+}
+
+abbrev pub decreases-entries : goal.decreases-entries
+decreases-entries l = l.left
