@@ -1,0 +1,4 @@
+pub mod Boards
+pub mod Passing
+pub mod Sharing
+pub mod ReasonLaws

@@ -1,0 +1,42 @@
+//! The check of a certificate, line by line.
+
+ghost use Rattle.std.specs.Prelude.{◌↔◌, IfOk};
+ghost use Rattle.win_cert.specs.Laws.{WinsAsClaimed};
+ghost use Rattle.win_cert.specs.Verdicts.{Accepted, IsVerdict};
+ghost use Rattle.win_cert.specs.Writable.{IsWritable};
+ghost use Rattle.cert_check.specs.Answers.{IsYes, verdict_of};
+
+use super::checkers::Checker;
+use super::refusals::Memory;
+use super::verdicts::Verdict;
+use std::alloc::Global;
+use win_cert::{Cert, accepted_certificates_win};
+
+/// Checks a certificate that can be written: whether it is accepted. Where it is, the player wins
+/// as it claims; else the verdict names the first line against which there is a reason, the claim
+/// being the last, and the first reason in the order 1, 11, 12, 2 to 10, 13. The only refusal is
+/// want of memory, which may come at any certificate.
+pub fn check(alloc: Global, cert: &Cert) -> Result<Verdict, Memory>
+    requires { IsWritable cert.now }
+    ensures verdict { IfOk result (λ v. IsVerdict cert.now (verdict_of v)) }
+    ensures accepted { IfOk result (λ v. IsYes v ↔ Accepted cert.now) }
+    ensures wins { IfOk result (λ v. IsYes v → WinsAsClaimed cert.now) }
+{
+    accepted_certificates_win();
+    let mut checker = Checker::new(alloc, &cert.board, cert.player, cert.lines.as_slice().len())?;
+    let mut number = 0;
+    'lines: for line in cert.lines.as_slice() {
+        match checker.read(line) {
+            Ok(given) => checker.keep(line, given)?,
+            Err(why) => return Ok(Verdict::No { line: number, why }),
+        }
+        number += 1;
+    }
+    Ok(match checker.claimed(cert.claim, cert.entry) {
+        Ok(given) => Verdict::Yes {
+            claim: cert.claim,
+            carrier: given.carrier,
+        },
+        Err(why) => Verdict::No { line: number, why },
+    })
+}

@@ -1,0 +1,34 @@
+//! The checker of certificates.
+//!
+//! **Nouns.** Those of `win_cert`. A *verdict* ([`Verdict`]) is what the checker answers: yes with
+//! the claim and the carrier of its entry, or no with the number of a line and why ([`Why`]).
+//!
+//! **A caller** checks a certificate by [`check`]:
+//!
+//! ```text
+//! match check(alloc, &cert)? {
+//!     Verdict::Yes { claim, carrier } => ..
+//!     Verdict::No { line, why } => ..
+//! }
+//! ```
+//!
+//! **What is proved.** The verdict is the one of `win_cert`'s definition (specs/Verdicts.antt
+//! there): yes exactly where the certificate is accepted, else no with the first line or claim
+//! against which there is a reason, and the first reason. Where it is yes, the player wins.
+//!
+//! **What is only tested, or not said.** That [`check`] gets its memory, and its speed.
+//!
+//! **Limits.** Those of `win_cert`. [`check`] takes room for an entry a line, and for the elements
+//! of one scope.
+#![tactic(auto)]
+
+mod checkers;
+mod checking;
+mod given;
+mod reading;
+mod refusals;
+mod verdicts;
+
+pub use checking::check;
+pub use refusals::Memory;
+pub use verdicts::{Verdict, Why};
