@@ -1,8 +1,8 @@
 //! The top call of `hexd`: from the words of a command line and a link to a status.
 //!
 //! **What it is.** A *run* reads its words and does what they ask for; [`End`] is how it ends, and
-//! its *status* is a number. In mode `htp` it plays a session of htp_session: a conversation from an
-//! empty board, of which the *talk* over the lines taken is what is given.
+//! its *status* is a number. In mode `htp` it plays a session of htp_session: a conversation from
+//! an empty board, of which the *talk* over the lines taken is what is given.
 //!
 //! **A caller** makes the link, the errors, the shelf and the archive, and ends with the status:
 //!
@@ -10,10 +10,9 @@
 //! let status = run(alloc, &words, &mut link, &mut errors, &mut shelf, &mut archive);
 //! ```
 //!
-//! **What is proved**, in the words of `specs/Statuses.antt`, `specs/Runs.antt` and
-//! htp_session's `specs/Endings.antt`: where the link
-//! tells it, what was given is the talk over the lines of what was taken, as far as each status
-//! says, with the files that came of the shelf's fetches and the turns that the archive took. Each
+//! **What is proved**, in the words of `specs/Runs.antt`, `specs/Modes.antt` and htp_session's
+//! `specs/Endings.antt`: where the link tells it, what was given is the talk over the lines of
+//! what was taken, as far as each status says, with the files that came of the shelf's fetches and the turns that the archive took. Each
 //! of these turns is good, in the words of hex_plan: a closed tree, and a cell of most visits among
 //! its root's children. With status 0 each line was answered, up to an answered `quit`, and all was
 //! used up. All whole lines taken were answered before the next read, and no read that was answered

@@ -6,27 +6,27 @@ use Rattle.tree_words.specs.Closing.{IsClosed}
 use Rattle.tree_words.proofs.Boards.RootLaws.{has_root}
 use Rattle.tree_words.specs.Roots.{HasRoot, root_count, row_at, rows_of}
 use Rattle.tree_words.specs.declared.roots.Row.{Row}
-use Rattle.hex_plan.specs.ReportTexts.{row_line, row_lines, AreOn}
+use Rattle.hex_plan.specs.ReportTexts.{report_line, report_lines, AreOn}
 
 pub row_on : (size : ℕ) (rows : List Row) (i : ℕ) (row : Row) → AreOn size rows → i < length rows → row ≡ get_or rows i row → row.cell < size * size
 row_on size [] i row h l e = absurd (omega arith)
 row_on size (r ∷ rows) zero row h l e = subst (λ (u : Row). u.cell < size * size) (sym e) h.0
 row_on size (r ∷ rows) (suc i) row h l e = row_on size rows i row h.1 (omega arith) e
 
-lines_at : (size : ℕ) (rows : List Row) (i : ℕ) (row : Row) → i < length rows → row ≡ get_or rows i row → row_lines size (drop i rows) ≡ row_line size row ++ row_lines size (drop (i + 1) rows)
+lines_at : (size : ℕ) (rows : List Row) (i : ℕ) (row : Row) → i < length rows → row ≡ get_or rows i row → report_lines size (drop i rows) ≡ report_line size row ++ report_lines size (drop (i + 1) rows)
 lines_at size [] i row l e = absurd (omega arith)
-lines_at size (r ∷ rows) zero row l e = ap (λ u. row_line size u ++ row_lines size rows) (sym e)
+lines_at size (r ∷ rows) zero row l e = ap (λ u. report_line size u ++ report_lines size rows) (sym e)
 lines_at size (r ∷ rows) (suc i) row l e =
-    lines_at size rows i row (omega arith) e ∙ ap (λ k. row_line size row ++ row_lines size (drop k (r ∷ rows))) (next i)
+    lines_at size rows i row (omega arith) e ∙ ap (λ k. report_line size row ++ report_lines size (drop k (r ∷ rows))) (next i)
   where
     next : (i : ℕ) → suc (i + 1) ≡ suc i + 1
     next i = omega arith
 
 -- a loop that writes the line of one row more
-pub lines_step : (size : ℕ) (rows : List Row) (i : ℕ) (row : Row) (old now new : List ℕ) → i < length rows → row ≡ get_or rows i row → now ++ row_lines size (drop i rows) ≡ old
-    → new ≡ now ++ row_line size row → new ++ row_lines size (drop (i + 1) rows) ≡ old
+pub lines_step : (size : ℕ) (rows : List Row) (i : ℕ) (row : Row) (old now new : List ℕ) → i < length rows → row ≡ get_or rows i row → now ++ report_lines size (drop i rows) ≡ old
+    → new ≡ now ++ report_line size row → new ++ report_lines size (drop (i + 1) rows) ≡ old
 lines_step size rows i row old now new l e h w =
-    ap (λ t. t ++ row_lines size (drop (i + 1) rows)) w ∙ append_assoc now (row_line size row) (row_lines size (drop (i + 1) rows))
+    ap (λ t. t ++ report_lines size (drop (i + 1) rows)) w ∙ append_assoc now (report_line size row) (report_lines size (drop (i + 1) rows))
     ∙ ap (λ t. now ++ t) (sym (lines_at size rows i row l e)) ∙ h
 
 rows_end : (rows : List Row) (i : ℕ) → length rows ≤ i → drop i rows ≡ []
@@ -36,8 +36,8 @@ rows_end (r ∷ rows) zero l = absurd (omega arith)
 rows_end (r ∷ rows) (suc i) l = rows_end rows i (omega arith)
 
 -- at the end of such a loop
-pub lines_end : (size : ℕ) (rows : List Row) (i : ℕ) (now old : List ℕ) → length rows ≤ i → now ++ row_lines size (drop i rows) ≡ old → now ≡ old
-lines_end size rows i now old l h = sym (append-nil now) ∙ ap (λ t. now ++ row_lines size t) (sym (rows_end rows i l)) ∙ h
+pub lines_end : (size : ℕ) (rows : List Row) (i : ℕ) (now old : List ℕ) → length rows ≤ i → now ++ report_lines size (drop i rows) ≡ old → now ≡ old
+lines_end size rows i now old l h = sym (append-nil now) ∙ ap (λ t. now ++ report_lines size t) (sym (rows_end rows i l)) ∙ h
 
 all_on : (size : ℕ) (row : ℕ → Row) (a n : ℕ) → ((i : ℕ) → i < a + n → (row i).cell < size * size) → AreOn size (map row (range_with_len a n))
 all_on size row a zero h = tt

@@ -18,10 +18,10 @@
 //! **What is proved.** The shape of a turn has the board, the player, all empty cells as allowed,
 //! and the options' knobs with the seed `S + number·2^32` modulo 2^64. The turn of such a shape's
 //! tree is good. With one worker, where no connections are looked for, the cell and the report of a
-//! good turn are those of the sequential search ([`one_worker_decides`]). The text of a turn's report
-//! is that of specs/ReportTexts.antt ([`report_text`]). An archive that tells its
-//! turns has exactly this turn more at the end; a fault comes only where its count rose, and then
-//! no turn changed. A [`MemArchive`] is at fault exactly where it is full, [`NoArchive`] never.
+//! good turn are those of the sequential search ([`one_worker_decides`]). The text of a turn's
+//! report is that of specs/ReportTexts.antt ([`report_text`]). An archive that tells its turns has
+//! exactly this turn more at the end; a fault comes only where its count rose, and then no turn
+//! changed. A [`MemArchive`] is at fault exactly where it is full, [`NoArchive`] never.
 //!
 //! **What is only tested, or not said.** That `MemArchive::make` gets its memory; what becomes of
 //! turns in [`NoArchive`].

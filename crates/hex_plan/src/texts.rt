@@ -5,7 +5,8 @@ ghost use Rattle.std.specs.List.{flat_map};
 ghost use Rattle.hex_cells.specs.Vertices.{vertex_of};
 ghost use Rattle.tree_words.specs.Roots.{rows_of};
 ghost use Rattle.hex_plan.specs.Turns.{IsDecided};
-ghost use Rattle.hex_plan.specs.ReportTexts.{AreOn, report_of, report_on, row_line, row_lines};
+ghost use Rattle.hex_plan.specs.ReportTexts.{AreOn, report_of, report_on, report_line};
+ghost use Rattle.hex_plan.specs.ReportTexts.{report_lines};
 ghost use Rattle.std.specs.Fmt.{decimal};
 
 use super::turns::Turn;
@@ -32,7 +33,7 @@ fn push_number(alloc: Global, text: &mut Vec<u8>, number: u32) -> Result<(), All
 /// A line feed, and a row's vertex, visits and wins.
 fn push_row(alloc: Global, text: &mut Vec<u8>, row: &Row, size: Size) -> Result<(), AllocError>
     requires { row.now.cell < size * size }
-    ensures { OnOk result (text.new.items ≡ text.old.items ++ row_line size row.now) }
+    ensures { OnOk result (text.new.items ≡ text.old.items ++ report_line size row.now) }
 {
     text.push(b'\n')?;
     push_vertex(text, row.cell, size)?;
@@ -45,7 +46,7 @@ fn push_row(alloc: Global, text: &mut Vec<u8>, row: &Row, size: Size) -> Result<
 /// The line of each row.
 fn push_rows(alloc: Global, text: &mut Vec<u8>, rows: &[Row], size: Size) -> Result<(), AllocError>
     requires { AreOn size rows.now }
-    ensures { OnOk result (text.new.items ≡ text.old.items ++ row_lines size rows.now) }
+    ensures { OnOk result (text.new.items ≡ text.old.items ++ report_lines size rows.now) }
 {
     for row in rows {
         push_row(alloc, text, row, size)?;

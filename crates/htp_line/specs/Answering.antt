@@ -29,5 +29,5 @@ WritesFor bytes text old new result =
     (id : Option ℕ) → bytes ≡ id_text id → OnOk result (new ≡ old ++ text id)
 
 -- so many bytes more fit in a vector without memory
-abbrev pub HasRoom : Vec ℕ Global → ℕ → Type 0
-HasRoom out more = vec_len out + more ≤ vec_capacity out
+abbrev pub HasSpareRoom : Vec ℕ Global → ℕ → Type 0
+HasSpareRoom out more = vec_len out + more ≤ vec_capacity out

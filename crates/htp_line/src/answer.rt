@@ -2,7 +2,7 @@
 
 ghost use Rattle.std.specs.Prelude.{◌≡◌, ◌+◌, ◌≤◌, ◌++◌, ◌∷◌, [], length, IfOk, IsOk, OnOk};
 ghost use Rattle.std.specs.Prelude.{OnErr, vec_len};
-ghost use Rattle.htp_line.specs.Answering.{success, failure, id_text, WritesFor, HasRoom};
+ghost use Rattle.htp_line.specs.Answering.{success, failure, id_text, WritesFor, HasSpareRoom};
 
 use super::want::Memory;
 use std::alloc::Global;
@@ -30,7 +30,7 @@ pub fn push_success(out: &mut Vec<u8>, id: &[u8], text: &[u8]) -> Result<(), Mem
     requires short { length id.now ≤ ID_LIMIT }
     ensures text { WritesFor id.now (λ n. success n text.now) out.old.items out.new.items result }
     ensures err { OnErr result (out.new.items ≡ out.old.items) }
-    ensures room { HasRoom out.old (length id.now + length text.now + FRAME) → IsOk result }
+    ensures room { HasSpareRoom out.old (length id.now + length text.now + FRAME) → IsOk result }
 {
     push_signed(out, b'=', id, text)
 }
@@ -42,7 +42,7 @@ pub fn push_failure(out: &mut Vec<u8>, id: &[u8], text: &[u8]) -> Result<(), Mem
     requires short { length id.now ≤ ID_LIMIT }
     ensures text { WritesFor id.now (λ n. failure n text.now) out.old.items out.new.items result }
     ensures err { OnErr result (out.new.items ≡ out.old.items) }
-    ensures room { HasRoom out.old (length id.now + length text.now + FRAME) → IsOk result }
+    ensures room { HasSpareRoom out.old (length id.now + length text.now + FRAME) → IsOk result }
 {
     push_signed(out, b'?', id, text)
 }
@@ -52,7 +52,7 @@ fn push_signed(out: &mut Vec<u8>, sign: u8, id: &[u8], text: &[u8]) -> Result<()
     ensures text { OnOk result
         (out.new.items ≡ out.old.items ++ sign ∷ id.now ++ 32 ∷ text.now ++ 10 ∷ 10 ∷ []) }
     ensures err { OnErr result (out.new.items ≡ out.old.items) }
-    ensures room { HasRoom out.old (length id.now + length text.now + FRAME) → IsOk result }
+    ensures room { HasSpareRoom out.old (length id.now + length text.now + FRAME) → IsOk result }
 {
     out.reserve(id.len() + text.len() + FRAME)?;
     out.push(sign).unwrap();

@@ -3,8 +3,9 @@
 //! **What it is.** A *raw line* is what stands between line feeds. A [`Splitter`] takes a stream in
 //! pieces of any length and keeps the raw line in hand. [`read_line`] reads a raw line as a
 //! [`Parsed`]: blank, a bare id, or a [`Request`] with an optional id, a name and arguments.
-//! [`push_success`] and [`push_failure`] write the bytes of an answer. The rules are those of GTP version
-//! 2 (draft), preprocessing and command structure, with a limit of [`LINE_LIMIT`] bytes a line.
+//! [`push_success`] and [`push_failure`] write the bytes of an answer. The rules are those of GTP
+//! version 2 (draft), preprocessing and command structure, with a limit of [`LINE_LIMIT`] bytes a
+//! line.
 //!
 //! **A caller** feeds each piece that it read until all of it is used, and then the end:
 //!

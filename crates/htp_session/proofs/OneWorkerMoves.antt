@@ -25,7 +25,7 @@ use Rattle.hex_plan.specs.Turns.{Decision}
 use Rattle.hex_plan.proofs.Same.{same_turn, same_searches}
 use Rattle.hex_engine.specs.Commands.{command_named}
 use Rattle.hex_engine.specs.Supply.{Supply, Load, Loaded}
-use Rattle.hex_plan.specs.ReportTexts.{report_of, report_on, row_lines}
+use Rattle.hex_plan.specs.ReportTexts.{report_of, report_on, report_lines}
 use Rattle.hex_engine.specs.EngineState.{EngineState}
 use Rattle.hex_engine.specs.Uses.{AreGood, HasOneWorker, IsGoodFor}
 use Rattle.hex_engine.specs.Replies.{Reaction, Turned, Missing, Done, NoLoad, NoTurn, unused, loaded, file_named, loading_next, loading_by, is_board, is_next, turned, moving_next, moving_by, lone_colour, unchanged, Failed, obeyed, reaction_by, reaction}
@@ -62,8 +62,8 @@ same_report size (Some c) None k r = absurd (cc)
 same_report size (Some c) (Some d) k r =
     let knobs : c.shape.knobs ≡ d.shape.knobs = cc in
     let rows : rows_of c.shape c.words ≡ rows_of d.shape d.words = cc in
-    ap Some (ap (λ (z : Knobs). codes "playouts " ++ decimal z.playouts ++ row_lines size (rows_of c.shape c.words)) knobs
-    ∙ ap (λ (rows : List Row). codes "playouts " ++ decimal d.shape.knobs.playouts ++ row_lines size rows) rows)
+    ap Some (ap (λ (z : Knobs). codes "playouts " ++ decimal z.playouts ++ report_lines size (rows_of c.shape c.words)) knobs
+    ∙ ap (λ (rows : List Row). codes "playouts " ++ decimal d.shape.knobs.playouts ++ report_lines size rows) rows)
 
 -- the option of connections is off
 without : (options : Options) (t : Decision) → HasOneWorker options → IsGoodFor options t → IsGood options.knobs false t

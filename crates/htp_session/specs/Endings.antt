@@ -117,8 +117,8 @@ IsInVain _ in_vain = in_vain ≡ []
 -- A conversation with these options, from an empty board of that size to this end: what it used up
 -- from its shelf and for its archive, each turn of which is good, and what stands where the link
 -- tells it.
-pub record Conversed (end : Outcome) (options : Options) (size limit : ℕ) (old new : ShelfAndArchive)
-    (link link_now : Option Told) : Type 0 where
+pub record Conversed (end : Outcome) (options : Options) (size limit : ℕ)
+    (old new : ShelfAndArchive) (link link_now : Option Told) : Type 0 where
   pub used : Supply
   pub in_vain : List Bool
   pub uses : UsesUp options old new used in_vain

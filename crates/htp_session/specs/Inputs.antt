@@ -38,7 +38,8 @@ TakesAll old new limit (Err ArchiveFault) = ⊥
 abbrev pub TextOf : Type 1
 TextOf = List ℕ → List ℕ → Bool → Type 0
 
--- All bytes to come were taken, at most so many. This text answers them, and these bytes were given.
+-- All bytes to come were taken, at most so many. This text answers them, and these bytes were
+-- given.
 pub record IsAnswer (Answers : TextOf) (accepted : Bool) (limit : ℕ) (old new : Told)
     (text given : List ℕ) : Type 0 where
   pub in_limit : length old.to_come ≤ limit

@@ -3,7 +3,7 @@
 ghost use Rattle.std.specs.Prelude.{◌≡◌, ◌+◌, ◌≤◌, ◌++◌, length, codes, IfOk, IfSome, IsOk};
 ghost use Rattle.std.specs.Prelude.{OnOk, OnErr, option_map, false, Some};
 ghost use Rattle.htp_line.specs.Reading.{asked_of};
-ghost use Rattle.htp_line.specs.Answering.{failure, WritesFor, HasRoom};
+ghost use Rattle.htp_line.specs.Answering.{failure, WritesFor, HasSpareRoom};
 ghost use Rattle.hex_engine.specs.Replies.{IsBrief, replied};
 ghost use Rattle.htp_session.specs.Talk.{reply_text, is_quit};
 ghost use Rattle.htp_session.specs.Devices.{CountsFaults};
@@ -91,7 +91,7 @@ fn push_answer(out: &mut Vec<u8>, id: &[u8], answer: &Answer) -> Result<bool, Me
         out.old.items out.new.items result }
     ensures quit { IfOk result (λ quit. quit ≡ is_quit (replied answer.now)) }
     ensures err { OnErr result (out.new.items ≡ out.old.items) }
-    ensures room { IsBrief answer.now → HasRoom out.old (length id.now + BRIEF) → IsOk result }
+    ensures room { IsBrief answer.now → HasSpareRoom out.old (length id.now + BRIEF) → IsOk result }
 {
     match answer {
         Answer::Done(text) => {

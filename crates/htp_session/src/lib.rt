@@ -7,15 +7,15 @@
 //! stands at then, what is left to be used up, and whether it goes on, ended with an answered
 //! `quit`, or fell short of a file or a turn. Nothing of pieces, buffers or searches is in it.
 //!
-//! **A caller** makes the [`Devices`], a link, a shelf and an archive, says the engine's options, the
-//! size of the first board and the most bytes that are answered, and learns how it ended:
+//! **A caller** makes the [`Devices`], a link, a shelf and an archive, says the engine's options,
+//! the size of the first board and the most bytes that are answered, and learns how it ended:
 //!
 //! ```text
 //! let outcome = converse(alloc, &mut devices, &options, size, limit);
 //! ```
 //!
-//! Beside it stand [`take_all`], the whole input of a link up to a limit, and [`answer_input`], which
-//! answers it by one text of an [`InputReader`].
+//! Beside it stand [`take_all`], the whole input of a link up to a limit, and [`answer_input`],
+//! which answers it by one text of an [`InputReader`].
 //!
 //! **What is proved**, in the words of `specs/Endings.antt`: where the link tells it, what was
 //! given is the talk over the lines of what was taken, as far as each outcome says, with the files

@@ -30,8 +30,8 @@ pub trait InputReader {
 /// Takes all that is to come, where it has at most `limit` bytes, and gives the text that answers
 /// it. It says whether the input was accepted.
 ///
-/// `ReadFault` and `WriteFault` come only where the link counted that fault, `TooLong` exactly where
-/// `limit + 1` bytes were taken. It refuses nothing else but for want of memory.
+/// `ReadFault` and `WriteFault` come only where the link counted that fault, `TooLong` exactly
+/// where `limit + 1` bytes were taken. It refuses nothing else but for want of memory.
 pub fn answer_input<L: Link, R: InputReader>(
     alloc: Global,
     link: &mut L,

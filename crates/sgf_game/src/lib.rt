@@ -6,8 +6,8 @@
 //! the start stones. A *move* is a value of B or W along the line, and a *turn* is a move as it is
 //! read: a step of a game (crate hex_game), the end of the line (`resign`, `forfeit`), or nothing.
 //!
-//! **A caller.** [`to_game`] makes a game of a collection, as `parse` reads it, [`read_game`] one of
-//! a record's bytes, and [`from_game`] the record of a game, which `print` prints.
+//! **A caller.** [`to_game`] makes a game of a collection, as `parse` reads it, [`read_game`] one
+//! of a record's bytes, and [`from_game`] the record of a game, which `print` prints.
 //!
 //! **What is proved.** `to_game` answers exactly the game of the collection, or exactly its
 //! refusal, by one definition on lists (`specs/GameOf.antt`): the main line cut behind the node
