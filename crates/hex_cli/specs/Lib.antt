@@ -1,5 +1,7 @@
 pub mod Statuses
 pub mod Modes
+pub mod CertTexts
+pub mod Inputs
 pub mod Determined
 pub mod Headline
 pub mod Runs

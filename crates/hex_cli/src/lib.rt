@@ -34,7 +34,9 @@
 //! looked at, so no memory grows with the input but the game's own.
 #![tactic(auto)]
 
+mod certificates;
 mod ends;
+mod inputs;
 mod limits;
 mod playing;
 #[cfg(test)]

@@ -5,18 +5,21 @@ ghost use Rattle.htp_session.specs.declared.stops.Stop.{Stop};
 ghost use Rattle.htp_session.specs.declared.stops.Stop.TheVariants.{ReadFault, WriteFault};
 ghost use Rattle.htp_session.specs.declared.stops.Stop.TheVariants.{Memory, ArchiveFault};
 ghost use Rattle.hex_cli.specs.declared.ends.End.TheVariants.{Stopped};
+ghost use Rattle.hex_cli.specs.Runs.{AnswersBy, AnswersInMode, IsIdleInMode};
 ghost use Rattle.hex_cli.specs.Runs.{AreWellFormed, AreRefused, IsServed, IsRefusal, Untouched};
 ghost use Rattle.hex_cli.specs.Runs.{Idle, PlaysInMode, PlaysBy, HasHeadline, Determines};
 ghost use Rattle.hex_cli.specs.Runs.{CountsReads, CountsWrites, CountsTurns, IsTooLong};
 ghost use Rattle.hex_cli.specs.Runs.{Completes, Reports};
 ghost use Rattle.hex_cli.specs.Statuses.{status_of, HasStopped};
 ghost use Rattle.hex_cli.specs.declared.ends.End.{End};
+ghost use Rattle.hex_cli.specs.declared.inputs.InputMode.{InputMode};
 
 use crate::ends::End;
+use crate::inputs::{InputMode, answer};
 use crate::playing::play;
 use hex_io::{Link, Shelf, Word, report};
 use hex_plan::Archive;
-use hexd_words::{Mode, read_words};
+use hexd_words::read_words;
 use htp_session::Stop;
 use std::alloc::Global;
 
@@ -67,6 +70,13 @@ pub fn run<L: Link, E: Link, F: Shelf, A: Archive>(
     ensures determined { Determines L.Link F.Shelf words.now result
         link.old link.new shelf.old shelf.new }
 
+    // Modes check and migrate: the whole input was taken, and its text given; the status says
+    // whether it was accepted. Shelf and archive stand idle.
+    ensures checked { AnswersBy L.Link InputMode.Check words.now result link.old link.new }
+    ensures migrated { AnswersBy L.Link InputMode.Migrate words.now result link.old link.new }
+    ensures idle { IsIdleInMode F.Shelf A.Archive words.now
+        shelf.old shelf.new archive.old archive.new }
+
     // The causes. What fails first ends the run: a count rose with its own status, and is as before
     // with every other.
     ensures read_fault { CountsReads L.Link link.old link.new
@@ -105,6 +115,9 @@ fn serve<L: Link, F: Shelf, A: Archive>(
         → Idle F.Shelf A.Archive shelf.old shelf.new archive.old archive.new }
     ensures plays { PlaysInMode L.Link F.Shelf A.Archive words.now result
         (link.old, shelf.old, archive.old) (link.new, shelf.new, archive.new) }
+    ensures answers { AnswersInMode L.Link words.now result link.old link.new }
+    ensures idle { IsIdleInMode F.Shelf A.Archive words.now
+        shelf.old shelf.new archive.old archive.new }
     ensures read_fault { CountsReads L.Link link.old link.new
         (result ≡ Stopped ReadFault) }
     ensures write_fault { CountsWrites L.Link link.old link.new
@@ -117,7 +130,8 @@ fn serve<L: Link, F: Shelf, A: Archive>(
         Ok(None) => return End::Usage,
         Ok(Some(options)) => options,
     };
-    match options.mode {
-        Mode::Htp => play(alloc, &options, link, shelf, archive),
+    match InputMode::of(options.mode) {
+        None => play(alloc, &options, link, shelf, archive),
+        Some(mode) => answer(alloc, mode, link),
     }
 }

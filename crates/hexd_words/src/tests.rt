@@ -191,9 +191,8 @@ fn takes_lines(rt: HostRuntime) -> Result<(), Fail> {
 #[test]
 fn takes_modes(rt: HostRuntime) -> Result<(), Fail> {
     let table = [
-        ("check", Mode::Check),
         ("--seed 1 migrate", Mode::Migrate),
-        ("-- audit", Mode::Audit),
+        ("-- check", Mode::Check),
     ];
     for (line, mode) in table {
         let options = read(rt.alloc(), line)?.ok_or("refused")?;
