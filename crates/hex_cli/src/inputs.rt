@@ -7,6 +7,7 @@ ghost use Rattle.hex_cli.specs.Modes.{AnswersTo};
 ghost use Rattle.hex_cli.specs.Inputs.{mode_of, IsTextOf};
 ghost use Rattle.hex_cli.specs.Runs.{CountsReads, CountsWrites};
 ghost use Rattle.hex_cli.specs.declared.ends.End.{End};
+ghost use Rattle.hex_cli.specs.declared.limits.TheConstants.{INPUT_LIMIT};
 
 use crate::certificates::{check_answer, migrate_answer};
 use crate::ends::End;
@@ -39,7 +40,9 @@ impl InputMode {
 }
 
 impl InputReader for InputMode {
-    ghost answers: { λ mode. IsTextOf mode };
+    ghost answers = { λ mode. IsTextOf mode };
+
+    ghost most = { λ mode. INPUT_LIMIT };
 
     fn answer(&self, alloc: Global, input: &[u8]) -> Result<InputAnswer, AllocError> {
         match self {

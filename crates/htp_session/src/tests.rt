@@ -76,6 +76,8 @@ struct Echo;
 impl InputReader for Echo {
     ghost answers = { λ _ bytes text accepted. text ≡ bytes };
 
+    ghost most = { λ _. 100 };
+
     fn answer(&self, alloc: Global, input: &[u8]) -> Result<InputAnswer, AllocError> {
         let text = input.to_vec(alloc)?;
         Ok(InputAnswer {
