@@ -1,5 +1,5 @@
 -- What follows of how a mode ends that takes its whole input.
-use Rattle.std.proofs.Common.{Ok, Err, Result, Bool, true, false, List, Some, None, ◌≡◌, ◌≢◌, ℕ, ◌+◌, ◌≤◌, ◌<◌, ◌⊎◌, ◌++◌, length, drop, Option, refl, ap, sym, ◌∙◌, inl, inr, arith, subst}
+use Rattle.std.proofs.Common.{Ok, Err, Result, Bool, true, false, List, [], Some, None, ◌≡◌, ◌≢◌, ℕ, ◌+◌, ◌≤◌, ◌<◌, ◌⊎◌, ◌++◌, length, drop, Option, refl, ap, sym, ◌∙◌, inl, inr, arith, subst}
 use Rattle.std.specs.Prelude.{◌↔◌}
 use Rattle.std.proofs.Math.Seq.{drop-append_seam}
 use Rattle.hex_io.specs.Causes.{CountsFault}
@@ -10,6 +10,11 @@ use Rattle.htp_session.specs.Endings.{since}
 use Rattle.htp_session.specs.Inputs.{TextOf, TookBytes, TookAtMost, TookTooMany, AnsweredAll, AnsweredPart, AnswersInput}
 use Rattle.htp_session.specs.declared.stops.Stop.{Stop}
 use Rattle.htp_session.specs.declared.stops.Stop.TheVariants.{ReadFault, WriteFault, Memory, TooLong, ArchiveFault}
+use Rattle.htp_session.proofs.InputLaws.{took_at_most, took_nothing}
+use Rattle.hexd_words.specs.declared.settings.Mode.TheVariants as modes
+use Rattle.hex_cli.specs.Inputs.{mode_of}
+use Rattle.hex_cli.specs.declared.inputs.InputMode.{InputMode}
+use Rattle.hex_cli.specs.declared.inputs.InputMode.TheVariants.{Check, Migrate}
 use Rattle.hex_cli.specs.Statuses.{end_of_answer, status_of}
 use Rattle.hex_cli.specs.declared.ends.End.{End}
 use Rattle.hex_cli.specs.declared.ends.End.TheVariants.{Done, Rejected, Usage, Stopped}
@@ -95,3 +100,18 @@ answer_counts before now answer stop end e c = record {
   rose = λ s. c.rose (stopped_so answer stop (sym e ∙ s));
   kept = λ n. c.kept (λ s. n (e ∙ end_of_stop answer stop s));
 }
+
+-- no such mode is htp, and each has its own
+pub not_htp : (mode : InputMode) → mode_of mode ≢ modes.Htp
+not_htp Check e = absurd (cc)
+not_htp Migrate e = absurd (cc)
+
+pub same_mode : (a b : InputMode) → mode_of a ≡ mode_of b → a ≡ b
+same_mode Check Check e = refl
+same_mode Check Migrate e = absurd (cc)
+same_mode Migrate Check e = absurd (cc)
+same_mode Migrate Migrate e = refl
+
+-- before the first read nothing was taken
+pub input_nothing : (Answers : TextOf) (limit : ℕ) (x : Option Told) → AnswersInput Answers x x limit (Err Memory)
+input_nothing Answers limit x = took_at_most x x [] limit (omega arith) (took_nothing x [] refl)
