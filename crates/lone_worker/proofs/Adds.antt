@@ -13,7 +13,7 @@ use Rattle.arena_rule.specs.Afters.{flight_after, added_at, with_word}
 use Rattle.arena_rule.specs.Rule.{words_after}
 use Rattle.arena_rule.proofs.Before.{Before}
 use Rattle.arena_rule.proofs.Options.{none-some}
-use Rattle.lone_worker.proofs.Leading.{IsAtLeaf, StepsAtLeaf}
+use Rattle.lone_worker.proofs.AtLeaf.{IsAtLeaf, StepsAtLeaf}
 use Rattle.lone_worker.proofs.States.{later}
 use Rattle.lone_worker.proofs.Counts.{tally_by}
 use Rattle.lone_worker.proofs.Courses.{Between, AtEnd, Adding, InWalk, Walking, Stands, Course, Lone}

@@ -23,7 +23,7 @@ use Rattle.arena_rule.specs.Views.{SeatView}
 use Rattle.arena_rule.specs.Fits.{IsChosen}
 use Rattle.arena_rule.specs.Lookups.{known_link, empties_at, tally_loaded, seen_loaded}
 use Rattle.arena_rule.proofs.Before.{Before, opening_blocks}
-use Rattle.lone_worker.proofs.Leading.{IsAtLeaf}
+use Rattle.lone_worker.proofs.AtLeaf.{IsAtLeaf}
 use Rattle.lone_worker.proofs.Counts.{tally_by, seen_by, config_by, LoadsAgree, load-count, pick-same}
 use Rattle.lone_worker.proofs.Ways.{Picked, leaf-is}
 

@@ -15,7 +15,7 @@ use Rattle.arena_rule.specs.Afters.{claimed_at, with_word}
 use Rattle.arena_rule.specs.Rule.{words_after}
 use Rattle.arena_rule.proofs.Before.{Before}
 use Rattle.arena_rule.proofs.Changes.{claimed_cases}
-use Rattle.lone_worker.proofs.Leading.{IsAtLeaf, StepsAtLeaf}
+use Rattle.lone_worker.proofs.AtLeaf.{IsAtLeaf, StepsAtLeaf}
 use Rattle.lone_worker.proofs.States.{later}
 use Rattle.lone_worker.proofs.Counts.{tally_by, config_by}
 use Rattle.lone_worker.proofs.Chosen.{whole}

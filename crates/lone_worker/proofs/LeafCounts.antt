@@ -12,7 +12,7 @@ use Rattle.tree_words.proofs.Walks.Tallies.{on-itself}
 use Rattle.arena_rule.specs.Views.{SeatView}
 use Rattle.arena_rule.specs.Lookups.{load_of, tally_loaded, empties_at}
 use Rattle.arena_rule.proofs.Before.{Before}
-use Rattle.lone_worker.proofs.Leading.{IsAtLeaf}
+use Rattle.lone_worker.proofs.AtLeaf.{IsAtLeaf}
 use Rattle.lone_worker.proofs.Counts.{tally_by, LoadsAgree, load-count}
 use Rattle.lone_worker.proofs.Chosen.{all-known}
 use Rattle.lone_worker.proofs.Courses.{Lone}

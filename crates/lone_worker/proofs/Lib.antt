@@ -1,4 +1,4 @@
-pub mod Leading
+pub mod AtLeaf
 pub mod States
 pub mod Ways
 pub mod Counts
@@ -15,6 +15,8 @@ pub mod Adds
 pub mod Claims
 pub mod Notes
 pub mod Publishes
+pub mod Steps
 pub mod Ends
-pub mod AtLeaves
+pub mod Begins
+pub mod Walkers
 pub mod Machines

@@ -1,15 +1,17 @@
 -- A walker that runs alone makes the steps of a seat that is alone, each at its leaf.
-use Rattle.std.proofs.Common.{◌≡◌, ℕ, zero, suc, List, [], ◌∷◌, Some, set, refl, sym, ap, ◌∙◌, subst}
+use Rattle.std.proofs.Common.{◌≡◌, ℕ, zero, suc, List, Some, set, refl, sym, ap, ◌∙◌, subst}
 use Rattle.std.specs.Prelude.{slice_index, option_map}
-use Rattle.tree_words.specs.Settings.{Setting, IsSetting}
+use Rattle.tree_words.specs.Settings.{Setting}
+use Rattle.tree_words.specs.Blocks.{LinkedBlock}
 use Rattle.tree_words.specs.Opening.{opening_words}
 use Rattle.tree_words.specs.declared.steps.Op.{Op}
 use Rattle.tree_words.specs.declared.steps.Op.TheVariants.{Draw, Look, Claim, Write, Publish, Add, Note, Done}
-use Rattle.arena_rule.specs.Views.{SeatView}
+use Rattle.arena_rule.specs.Views.{SeatView, opening_view}
 use Rattle.arena_rule.specs.Fits.{FitsStep}
 use Rattle.arena_rule.specs.Afters.{word_of, put, answer_of, after}
 use Rattle.arena_rule.specs.Answers.{MayAnswer, AnswersStep}
 use Rattle.arena_rule.specs.Rule.{words_after}
+use Rattle.arena_rule.proofs.Before.{opening_blocks}
 use Rattle.arena_rule.proofs.Changes.{whole-after, put-answered}
 use Rattle.walker.specs.Machine.{op_of, next}
 use Rattle.walker.specs.Belongs.{Belongs}
@@ -17,9 +19,11 @@ use Rattle.walker.specs.declared.machine.Walker.{Walker}
 use Rattle.walker.proofs.Fitting.{fits}
 use Rattle.walker.proofs.Keeps.{keeps}
 use Rattle.lone_worker.specs.Alone.{MakesStep, RunsAlone, EndsAsSequence}
-use Rattle.lone_worker.proofs.Leading.{StepsTo, HasLedAlone}
-use Rattle.lone_worker.proofs.AtLeaves.{steps-at-leaf}
-use Rattle.lone_worker.proofs.Ends.{leads-to-sequence}
+use Rattle.lone_worker.proofs.Walkers.{steps-at-leaf}
+use Rattle.lone_worker.proofs.Courses.{Lone}
+use Rattle.lone_worker.proofs.Begins.{lone-begins}
+use Rattle.lone_worker.proofs.Ends.{lone-ends}
+use Rattle.lone_worker.proofs.Steps.{step, shape-of}
 
 -- the answer is that of the word that stands in the view's copy
 answer-is : (v : SeatView) (op : Op) (x : ℕ) (words : List ℕ) → v.whole ≡ Some words → MayAnswer v op x → x ≡ answer_of op (slice_index words (word_of op))
@@ -41,44 +45,49 @@ whole-later v op x words e is =
     whole-after v op x ∙ ap (option_map (λ ws. set ws (word_of op) (put op x))) e
     ∙ ap (λ (n : ℕ). Some (set words (word_of op) n)) (ap (put op) is ∙ put-answered op (slice_index words (word_of op)))
 
--- a walker that has come so far: its view, the copy of the words, and how these came
+-- a walker that has come so far: its view, the copy of the words, and the search that they are
 record Alone (s : Setting) (w : Walker) (v : SeatView) : Type 0 where
-  setting : IsSetting s
-  one : s.knobs.workers ≡ 1
   belongs : Belongs w v
   words : List ℕ
   whole : v.whole ≡ Some words
-  run : HasLedAlone s words v
+  blocks : List LinkedBlock
+  count : ℕ
+  lone : Lone s blocks words v count
+
+alone-begins : (s : Setting) (w : Walker) → Belongs w (opening_view s) → Alone s w (opening_view s)
+alone-begins s w b = record {
+  belongs = b;
+  words = opening_words s;
+  whole = refl;
+  blocks = opening_blocks s;
+  count = 0;
+  lone = lone-begins s b.view.setting b.width;
+}
+
+alone-goes : (s : Setting) (w : Walker) (v : SeatView) (x : ℕ) → Alone s w v → MayAnswer v (op_of w) x → Alone s (next w x) (after v (op_of w) x)
+alone-goes s w v x a may =
+    let op : Op = op_of w in
+    let shape : v.shape ≡ s = shape-of s a.blocks a.words v a.count a.lone in
+    let here : Lone v.shape a.blocks a.words v a.count = subst (λ (z : Setting). Lone z a.blocks a.words v a.count) (sym shape) a.lone in
+    let is : x ≡ answer_of op (slice_index a.words (word_of op)) = answer-is v op x a.words a.whole may in
+    let m = step a.blocks a.words v a.count here op (fits w v a.belongs) (steps-at-leaf w v a.belongs) in
+    record {
+      belongs = keeps w v a.belongs x may;
+      words = words_after a.words op;
+      whole = whole-later v op x a.words a.whole is;
+      blocks = m.0;
+      count = m.1;
+      lone = subst (λ (z : Setting). Lone z m.0 (words_after a.words op) (after v op x) m.1) shape
+          (subst (λ (y : ℕ). Lone v.shape m.0 (words_after a.words op) (after v op y) m.1) (sym is) m.2);
+    }
 
 alone : (s : Setting) (n : ℕ) (w : Walker) (v : SeatView) → RunsAlone s n w v → Alone s w v
-alone s zero w v r = record {
-  setting = subst (λ (u : SeatView). IsSetting u.shape) r.1 r.0.view.setting;
-  one = sym (ap (λ (u : SeatView). u.width) r.1) ∙ r.0.width;
-  belongs = r.0;
-  words = opening_words s;
-  whole = ap (λ (u : SeatView). u.whole) r.1;
-  run = ([], (refl, r.1));
-}
+alone s zero w v r = subst (Alone s w) (sym r.1) (alone-begins s w (subst (Belongs w) r.1 r.0))
 alone s (suc n) w v r =
     let u : Walker = r.0 in
     let y : SeatView = r.1 in
-    let a : Alone s u y = alone s n u y r.2 in
     let m : MakesStep u y w v = r.3 in
-    let is : m.answer ≡ answer_of (op_of u) (slice_index a.words (word_of (op_of u))) = answer-is y (op_of u) m.answer a.words a.whole m.may in
-    let to : StepsTo a.words y (op_of u) (words_after a.words (op_of u)) v = record {
-      fits = fits u y a.belongs;
-      leaf = steps-at-leaf u y a.belongs;
-      words_are = refl;
-      view_is = m.view_is ∙ ap (after y (op_of u)) is;
-    } in
-    record {
-      setting = a.setting;
-      one = a.one;
-      belongs = subst (λ (z : Walker). Belongs z v) (sym m.walker_is) (subst (Belongs (next u m.answer)) (sym m.view_is) (keeps u y a.belongs m.answer m.may));
-      words = words_after a.words (op_of u);
-      whole = ap (λ (z : SeatView). z.whole) m.view_is ∙ whole-later y (op_of u) m.answer a.words a.whole is;
-      run = (op_of u ∷ a.run.0, (a.words, y, a.run.1, to));
-    }
+    subst (λ (z : Walker). Alone s z v) (sym m.walker_is) (subst (Alone s (next u m.answer)) (sym m.view_is) (alone-goes s u y m.answer (alone s n u y r.2) m.may))
 
 pub ends-as-sequence : (s : Setting) → EndsAsSequence s
 ends-as-sequence s w v r done =
@@ -86,5 +95,5 @@ ends-as-sequence s w v r done =
     record {
       words = a.words;
       whole = a.whole;
-      tree = leads-to-sequence s a.setting a.one a.words v a.run (subst (FitsStep v) done (fits w v a.belongs));
+      tree = lone-ends s a.blocks a.words v a.count a.lone (subst (FitsStep v) done (fits w v a.belongs));
     }

@@ -17,7 +17,7 @@ use Rattle.arena_rule.specs.Rule.{IsState, words_after}
 use Rattle.arena_rule.proofs.Before.{Before, blocks_after}
 use Rattle.arena_rule.proofs.Options.{none-some}
 use Rattle.walker.proofs.KeepsDown.{known-grows}
-use Rattle.lone_worker.proofs.Leading.{IsAtLeaf, StepsAtLeaf}
+use Rattle.lone_worker.proofs.AtLeaf.{IsAtLeaf, StepsAtLeaf}
 use Rattle.lone_worker.proofs.States.{later, state-later}
 use Rattle.lone_worker.proofs.Counts.{recorded-linked}
 use Rattle.lone_worker.proofs.Chosen.{whole, leaf, all-known, at-leaf, leaf-end}

@@ -9,7 +9,7 @@ use Rattle.tree_words.specs.Descents.{walk_end}
 use Rattle.arena_rule.specs.Views.{SeatView}
 use Rattle.arena_rule.specs.Parts.{full_width}
 use Rattle.arena_rule.proofs.Before.{Before}
-use Rattle.lone_worker.proofs.Leading.{IsAtLeaf}
+use Rattle.lone_worker.proofs.AtLeaf.{IsAtLeaf}
 use Rattle.lone_worker.proofs.Counts.{tally_by, config_by}
 use Rattle.lone_worker.proofs.Chosen.{leaf, at-leaf, leaf-end}
 use Rattle.lone_worker.proofs.Courses.{Lone}

@@ -18,7 +18,7 @@
 //! blocks, the walks and NEXT, and most steps leave all three: a Claim changes NEXT, a Publish adds
 //! a block, a Note adds a walk (proofs/Courses.antt). As the loads agree with these counts, the
 //! choices that a walk made lead to the leaf of the sequential walk (proofs/Ways.antt,
-//! proofs/Chosen.antt); there alone it claims and publishes (proofs/AtLeaves.antt), once a walk
+//! proofs/Chosen.antt); there alone it claims and publishes (proofs/Walkers.antt), once a walk
 //! (proofs/Leaves.antt); and what its Note adds is what the sequential walk adds
 //! (proofs/Walked.antt).
 //!

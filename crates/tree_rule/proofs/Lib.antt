@@ -5,3 +5,4 @@ pub mod Copies
 pub mod ScriptLaws
 pub mod OneCell
 pub mod TwoByTwo
+pub mod RaceScript

@@ -16,7 +16,7 @@ use Rattle.tree_words.specs.Complete.{set_of}
 use Rattle.tree_words.specs.Writing.{listed}
 use Rattle.tree_words.proofs.Boards.SetNumbers.{set_empties}
 
-members-long : (set n : ℕ) → members set n ≡ length (filter (has_cell set) (range_with_len 0 n))
+pub members-long : (set n : ℕ) → members set n ≡ length (filter (has_cell set) (range_with_len 0 n))
 members-long set n = members_test set (has_cell set) n (λ k. refl) ∙ sym (length-filter (has_cell set) (range_with_len 0 n))
 
 push-last : (l : List ℕ) (c : ℕ) → get_or (l ++ c ∷ []) (length l) 0 ≡ c

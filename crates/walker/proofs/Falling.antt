@@ -1,7 +1,6 @@
 -- Each step but a draw leaves a walk fewer steps.
-use Rattle.std.proofs.Common.{◌≡◌, ◌≢◌, ◌⊎◌, ℕ, ◌+◌, ◌-◌, ◌*◌, ◌<◌, ◌≤◌, Bool, true, false, cond, List, [], ◌∷◌, suc, length, get_or, inl, inr, refl, sym, ap, ◌∙◌, subst, arith, ⊎_elim}
-use Rattle.std.specs.Prelude.{◌==◌}
-use Rattle.std.proofs.lemmas.Bool.{cases_Bool, cases_lt, cases_eq, eq-eqb, ne_eqb}
+use Rattle.std.proofs.Common.{◌≡◌, ◌≢◌, ◌⊎◌, ℕ, ◌+◌, ◌-◌, ◌*◌, ◌<◌, ◌≤◌, Bool, true, false, cond, List, [], ◌∷◌, suc, length, get_or, inl, inr, refl, ap, ◌∙◌, arith, ⊎_elim}
+use Rattle.std.proofs.lemmas.Bool.{cases_Bool, cases_lt, cases_eq}
 use Rattle.hex_cells.specs.Sets.{has as has_cell}
 use Rattle.hex_cells.specs.Colours.{other_of, is_same}
 use Rattle.hex_cells.specs.declared.colours.Colour.{Colour}
@@ -9,10 +8,8 @@ use Rattle.hex_board.specs.Positions.{stones_of, placed}
 use Rattle.play_out.specs.Fills.{empties_of}
 use Rattle.tree_words.specs.Settings.{Setting}
 use Rattle.tree_words.specs.Words.{end_of}
-use Rattle.tree_words.specs.Paths.{NodeState}
 use Rattle.tree_words.specs.Writing.{listed}
 use Rattle.tree_words.specs.Sequence.{size_below}
-use Rattle.tree_words.specs.declared.steps.Op.{Op}
 use Rattle.tree_words.specs.declared.steps.Op.TheVariants.{Draw, Done, Look}
 use Rattle.tree_words.proofs.Boards.RootLaws.{few_cells}
 use Rattle.tree_words.proofs.Walks.Asking.{size-most}
@@ -30,7 +27,7 @@ use Rattle.walker.specs.declared.machine.Walker.{Walker}
 use Rattle.walker.specs.declared.machine.TheConstants.{WALK_STEPS}
 use Rattle.walker.specs.Scans.{ScanData, child_in, scan_on, scan_next}
 use Rattle.walker.specs.Climbs.{adds_after}
-use Rattle.walker.specs.Machine.{state_in, set_in, cells_in, asks_block, at_leaf, at_block, on_way_up, drawn, rooted, linked, headed, chosen, scanned, claimed, written, linked_now, risen, seen_on, op_at, op_of, next_at, next}
+use Rattle.walker.specs.Machine.{state_in, set_in, cells_in, asks_block, at_leaf, on_way_up, drawn, rooted, linked, headed, chosen, scanned, claimed, written, risen, seen_on, op_at, op_of, next_at, next}
 use Rattle.walker.specs.Measure.{looks_made, up_left, level_left, left_at, steps_left, looks_left}
 use Rattle.walker.specs.Belongs.{Belongs, Stands, Down, AtHeader, AtChild, AtWrite}
 use Rattle.walker.proofs.Cases.{drawn-begins, drawn-ends, linked-block, linked-claim, linked-leaf, headed-next, headed-leaf, headed-scan, scanned-next, scanned-last, claimed-inside, claimed-past, written-next, written-last}
@@ -38,7 +35,8 @@ use Rattle.walker.proofs.KnownLaws.{one-order}
 use Rattle.walker.proofs.LeafLaws.{size-is}
 use Rattle.walker.proofs.Keeping.{kept-count}
 use Rattle.walker.proofs.KeepsScan.{below-after, fewer-empties}
-use Rattle.walker.proofs.KeepsChoice.{Looked, seen-looked, cell-empty, small}
+use Rattle.walker.proofs.KeepsChoice.{Looked, seen-looked}
+use Rattle.walker.proofs.KeepsLast.{cell-empty}
 use Rattle.walker.proofs.KeepsUp.{few-empties}
 use Rattle.walker.proofs.Keeps.{view-after}
 use Rattle.walker.proofs.Endings.{draw-at}

@@ -32,7 +32,8 @@ use Rattle.walker.proofs.KnownLaws.{one-order, known-lies, node-inside, link-blo
 use Rattle.walker.proofs.LeafLaws.{size-is}
 use Rattle.walker.proofs.Fitting.{in-child}
 use Rattle.walker.proofs.KeepsScan.{here, kid, below-after}
-use Rattle.walker.proofs.KeepsChoice.{Looked, seen-looked, best-in, cell-empty, room-left}
+use Rattle.walker.proofs.KeepsChoice.{Looked, seen-looked}
+use Rattle.walker.proofs.KeepsLast.{best-in, cell-empty, room-left}
 use Rattle.walker.proofs.Keeps.{view-after}
 
 module _ (w : Walker) (v : SeatView) (b : Belongs w v) (x : ℕ) where

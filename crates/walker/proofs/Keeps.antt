@@ -12,9 +12,11 @@ use Rattle.walker.specs.declared.machine.Walker.{Walker}
 use Rattle.walker.specs.Machine.{op_at, op_of, next_at, next}
 use Rattle.walker.specs.Belongs.{Belongs, Stands, AtEnd}
 use Rattle.walker.proofs.Fitting.{fits-at}
-use Rattle.walker.proofs.KeepsDown.{keeps-link, keeps-header}
+use Rattle.walker.proofs.KeepsDown.{keeps-link}
+use Rattle.walker.proofs.KeepsHeader.{keeps-header}
 use Rattle.walker.proofs.KeepsChild.{keeps-child}
-use Rattle.walker.proofs.KeepsBlock.{keeps-claim, keeps-write, keeps-publish}
+use Rattle.walker.proofs.KeepsBlock.{keeps-claim, keeps-write}
+use Rattle.walker.proofs.KeepsPublish.{keeps-publish}
 use Rattle.walker.proofs.KeepsUp.{keeps-draw, keeps-root}
 use Rattle.walker.proofs.KeepsAdds.{keeps-tally, keeps-seen, keeps-note}
 

@@ -1,35 +1,33 @@
--- The claim, the writes and the link of a new block keep Belongs.
-use Rattle.std.proofs.Common.{◌≡◌, ◌≢◌, ℕ, ◌+◌, ◌-◌, ◌<◌, ◌≤◌, Bool, true, cond, List, [], ◌∷◌, ◌++◌, length, take, get_or, Some, refl, sym, ap, ◌∙◌, subst, arith, ⊎_elim, inl, inr}
-use Rattle.std.specs.Prelude.{◌==◌, option_map}
-use Rattle.std.proofs.lemmas.Bool.{cases_lt, cases_eq, eq-eqb, ne_eqb}
+-- The claim and the writes of a new block keep Belongs.
+use Rattle.std.proofs.Common.{◌≡◌, ◌≢◌, ℕ, ◌+◌, ◌-◌, ◌<◌, ◌≤◌, true, cond, List, [], ◌∷◌, ◌++◌, length, take, get_or, Some, refl, sym, ap, ◌∙◌, subst, arith, ⊎_elim, inr, inl}
+use Rattle.std.specs.Prelude.{option_map}
+use Rattle.std.proofs.lemmas.Bool.{cases_lt}
 use Rattle.std.proofs.lemmas.List.{take_more}
 use Rattle.std.proofs.lemmas.List.FromFn.{get_or-map-range_with_len}
 use Rattle.tree_words.specs.Settings.{Setting}
 use Rattle.tree_words.specs.Words.{root_at, end_of}
-use Rattle.tree_words.specs.Blocks.{LinkedBlock, In, InOrder, size, has_node, is_node, link_of, is_header_or_move, header_or_move}
+use Rattle.tree_words.specs.Blocks.{LinkedBlock, In, size, has_node, is_node, link_of, is_header_or_move, header_or_move}
 use Rattle.tree_words.specs.Paths.{NodeState, node_state}
 use Rattle.tree_words.specs.Sequence.{size_below}
-use Rattle.tree_words.specs.declared.steps.Op.TheVariants.{Claim, Write, Publish}
+use Rattle.tree_words.specs.declared.steps.Op.TheVariants.{Claim, Write}
 use Rattle.tree_words.proofs.Blocks.BlockLaws.{has-at}
 use Rattle.tree_words.proofs.Blocks.Members.{node-in}
 use Rattle.arena_rule.specs.Views.{SeatView, WordLoad}
-use Rattle.arena_rule.specs.Lookups.{is_known, told_below, load_of}
+use Rattle.arena_rule.specs.Lookups.{is_known, load_of}
 use Rattle.arena_rule.specs.Fits.{block_words}
 use Rattle.arena_rule.specs.Answers.{MayAnswer}
-use Rattle.arena_rule.specs.Afters.{after, claimed_at, wrote, published, with_word, written_more, known_after, node_of_link}
+use Rattle.arena_rule.specs.Afters.{after, claimed_at, wrote, with_word, written_more}
 use Rattle.arena_rule.specs.IsView.{IsView}
 use Rattle.arena_rule.proofs.Changes.{claimed_cases}
-use Rattle.arena_rule.proofs.KnownMore.{known-kept, known-more}
 use Rattle.walker.specs.declared.ways.Level.{Level}
 use Rattle.walker.specs.declared.stages.Stage.{Stage}
 use Rattle.walker.specs.declared.stages.Stage.TheVariants.{Writing}
 use Rattle.walker.specs.declared.machine.Walker.{Walker}
-use Rattle.walker.specs.Machine.{state_in, own_block, word_of_block, at_leaf, claimed, written, linked_now}
-use Rattle.walker.specs.Belongs.{Belongs, Stands, Down, IsDown, MayClaim, Holds, AtClaim, AtWrite, AtPublish}
-use Rattle.walker.proofs.KnownLaws.{one-order, known-lies, known-cells}
-use Rattle.walker.proofs.Going.{Goes, Untouched, state-known, down-goes}
-use Rattle.walker.proofs.LeafLaws.{cells-is, leaf-stands, leaf-belongs}
-use Rattle.walker.proofs.KeepsDown.{known-grows}
+use Rattle.walker.specs.Machine.{state_in, own_block, word_of_block, at_leaf, claimed, written}
+use Rattle.walker.specs.Belongs.{Belongs, Stands, Down, IsDown, MayClaim, Holds, AtClaim, AtWrite}
+use Rattle.walker.proofs.KnownLaws.{one-order, known-lies}
+use Rattle.walker.proofs.Going.{Goes, Untouched, down-goes}
+use Rattle.walker.proofs.LeafLaws.{leaf-stands, leaf-belongs}
 use Rattle.walker.proofs.Fitting.{block_words-long}
 use Rattle.walker.proofs.Cases.{claimed-inside, claimed-past, written-next, written-last}
 
@@ -189,56 +187,3 @@ module _ (w : Walker) (v : SeatView) (b : Belongs w v) (x : ℕ) where
           };
         }))
         (cases_lt (w.at + 1) (w.start + size_below (state_in w)))
-
-  module _ (a : AtPublish w v) (may : MayAnswer v (Publish w.at w.start) x) (iu : IsView (after v (Publish w.at w.start) x)) where
-    -- the link that now holds
-    link-some : cond (x == 0) w.start x ≢ 0
-    link-some = ⊎_elim
-        (λ (e : x ≡ 0). λ z. let q : cond (x == 0) w.start x ≡ w.start = ap (λ (t : Bool). cond t w.start x) (eq-eqb x 0 e) in omega (arith, q, z, a.above))
-        (λ (ne : x ≢ 0). λ z. ne (sym (ap (λ (t : Bool). cond t w.start x) (ne_eqb x 0 ne)) ∙ z))
-        (cases_eq x 0)
-
-    back : node_of_link w.at ≡ w.node
-    back = omega (arith, a.at)
-
-    published-known : (after v (Publish w.at w.start) x).known ≡ told_below v w.node (cond (x == 0) w.start x) ∷ v.known
-    unfolding with_word published
-    published-known = ap (λ (z : ℕ). known_after v z (cond (x == 0) w.start x)) back ∙ known-grows v w.node (cond (x == 0) w.start x) a.may.down.known a.may.vacant link-some
-
-    publish-goes : Goes v (after v (Publish w.at w.start) x) 0
-    unfolding with_word published
-    publish-goes = record {
-      shape = refl;
-      known = known-kept v (Publish w.at w.start) x;
-      node = known-more v (node_of_link w.at) (cond (x == 0) w.start x);
-      state = λ y n. state-known v (node_of_link w.at) (cond (x == 0) w.start x) y (one-order (after v (Publish w.at w.start) x) iu b.width) n;
-      loads = λ i ne. refl;
-    }
-
-    pub keeps-publish : Belongs (linked_now w x) (after v (Publish w.at w.start) x)
-    unfolding with_word published
-    keeps-publish =
-        let u : SeatView = after v (Publish w.at w.start) x in
-        let link : ℕ = cond (x == 0) w.start x in
-        let down : Down w u = still-down v u w.number w.node w.visits (state_in w) w.way b.view b.width publish-goes a.may.down refl refl refl in
-        let c : LinkedBlock = told_below v w.node link in
-        let known : In c u.known = subst (In c) (sym published-known) (inl refl) in
-        let order : InOrder (root_at u.shape) u.known = one-order u iu b.width in
-        record {
-          shape = b.shape;
-          view = iu;
-          width = b.width;
-          full = b.full;
-          stands = record {
-            down = down;
-            held = refl;
-            block = c;
-            below = record {
-              known = known;
-              start = refl;
-              parent = refl;
-              cells = known-cells u.shape u.known c order iu.known known ∙ sym (cells-is w u b.shape order iu.known down);
-            };
-            at = (omega arith, omega arith);
-          };
-        }

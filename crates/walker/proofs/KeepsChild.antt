@@ -19,7 +19,8 @@ use Rattle.walker.specs.Belongs.{Belongs, Stands, InChild, AtChild, AtLink}
 use Rattle.walker.proofs.Going.{look-tally}
 use Rattle.walker.proofs.KeepsDown.{look-down}
 use Rattle.walker.proofs.KeepsScan.{here, kid, move-clear, count-down, count-else, below-after, in-its-child}
-use Rattle.walker.proofs.KeepsChoice.{Looked, seen-looked, looked-next, looked-last}
+use Rattle.walker.proofs.KeepsChoice.{Looked, seen-looked}
+use Rattle.walker.proofs.KeepsLast.{looked-next, looked-last}
 use Rattle.walker.proofs.Cases.{scanned-next, scanned-last}
 
 -- where the walker is at its node's link after the choice

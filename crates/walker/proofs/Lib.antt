@@ -1,6 +1,5 @@
 pub mod Levels
 pub mod SeenAdds
-pub mod PlaceLaws
 pub mod Keeping
 pub mod CellLaws
 pub mod Cases
@@ -12,13 +11,19 @@ pub mod KeepLaws
 pub mod ChildLaws
 pub mod LeafLaws
 pub mod KeepsDown
+pub mod KeepsHeader
 pub mod KeepsScan
 pub mod KeepsChoice
+pub mod KeepsLast
 pub mod KeepsChild
 pub mod KeepsBlock
+pub mod KeepsPublish
 pub mod KeepsUp
 pub mod KeepsAdds
 pub mod Keeps
 pub mod GoingOn
 pub mod Endings
 pub mod Falling
+pub mod MemberLaws
+pub mod BitLaws
+pub mod HoleLaws

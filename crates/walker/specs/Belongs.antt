@@ -1,127 +1,22 @@
 -- Which views belong to a walker.
-use Rattle.std.specs.Prelude.{◌≡◌, ◌≢◌, ℕ, ◌+◌, ◌-◌, ◌<◌, ◌≤◌, true, false, List, [], ◌∷◌, ◌++◌, length, map, take, drop, Option, Some, None, slice_get, ◌⊎◌}
-use Rattle.uct_table.specs.Choice.{Child, score_in, kept_of, kept_from}
-use Rattle.play_out.specs.Fills.{empties_of}
-use Rattle.tree_words.specs.Words.{root_at, count_in}
-use Rattle.tree_words.specs.Blocks.{LinkedBlock, In, child, has_node}
-use Rattle.tree_words.specs.Paths.{NodeState, node_state}
-use Rattle.tree_words.specs.Writing.{listed}
-use Rattle.tree_words.specs.Sequence.{outcome_of, child_of, size_below}
-use Rattle.tree_words.specs.Descents.{pairs_of}
-use Rattle.tree_words.specs.Walks.{AtMost}
-use Rattle.tree_words.specs.declared.layout.TheConstants.{HEADER_WORDS, LINK_WORD, TALLY_WORD, SEEN_WORD, MOST_NODES}
+pub use Rattle.walker.specs.Underway.{IsLevel, OnWay, InHand, IsDown, Down, IsBelow, MayClaim}
+pub use Rattle.walker.specs.Looking.{HasKept, Keeps, children_loaded, InChild, IsScan}
+use Rattle.std.specs.Prelude.{◌≡◌, ◌≢◌, ℕ, ◌+◌, ◌-◌, ◌<◌, ◌≤◌, true, List, [], ◌++◌, length, take, drop, Option, Some, None, ◌⊎◌}
+use Rattle.tree_words.specs.Words.{root_at}
+use Rattle.tree_words.specs.Blocks.{LinkedBlock}
+use Rattle.tree_words.specs.Paths.{node_state}
+use Rattle.tree_words.specs.Sequence.{outcome_of, size_below}
+use Rattle.tree_words.specs.declared.layout.TheConstants.{HEADER_WORDS, LINK_WORD, TALLY_WORD}
 use Rattle.arena_rule.specs.Views.{SeatView, Flight}
 use Rattle.arena_rule.specs.Adds.{CountAdd, adds_up, walk_adds}
-use Rattle.arena_rule.specs.Lookups.{is_known, known_link, IsLoaded, load_of, tally_loaded, seen_loaded, empties_at}
-use Rattle.arena_rule.specs.Fits.{IsChosen, MayBegin, block_words}
+use Rattle.arena_rule.specs.Lookups.{is_known, known_link, empties_at}
+use Rattle.arena_rule.specs.Fits.{MayBegin, block_words}
 use Rattle.arena_rule.specs.Answers.{MayAnswer}
 use Rattle.arena_rule.specs.IsView.{IsView}
-use Rattle.walker.specs.Scans.{ScanData}
-use Rattle.walker.specs.Machine.{op_of, state_in, cells_in, own_block}
-use Rattle.walker.specs.declared.scans.Phase.{Phase}
-use Rattle.walker.specs.declared.scans.Phase.TheVariants.{Move, Tally, Seen}
-use Rattle.walker.specs.declared.ways.Level.{Level}
+use Rattle.walker.specs.Machine.{op_of, state_in, own_block}
 use Rattle.walker.specs.declared.stages.Stage.{Stage}
 use Rattle.walker.specs.declared.stages.Stage.TheVariants.{Drawing, Rooting, Linking, Heading, Scanning, Claiming, Writing, Publishing, Tallying, Seeing, Noting, Ended}
 use Rattle.walker.specs.declared.machine.Walker.{Walker}
-
--- the level is a known block of which x is a node, and x was chosen
-pub record IsLevel (v : SeatView) (l : Level) (x : ℕ) : Type 0 where
-  pub block : LinkedBlock
-  pub known : In block v.known
-  pub start : block.start ≡ l.block
-  pub parent : block.parent ≡ l.parent
-  pub cells : block.cells ≡ listed v.shape.board.size l.cells
-  pub node : has_node block x ≡ true
-  pub chosen : IsChosen v block x
-
--- the levels are those of the path of the known node x: each one's node was chosen, and the first
--- parent is the root
-abbrev pub OnWay : SeatView → List Level → ℕ → Type 0
-OnWay v [] x = x ≡ root_at v.shape
-OnWay v (l ∷ way) x = IsLevel v l x × OnWay v way l.parent
-
--- the worker has not ended and has its number in hand
-pub record InHand (w : Walker) (v : SeatView) : Type 0 where
-  pub ended : v.ended ≡ 0
-  pub ticket : v.ticket ≡ Some w.number
-
--- a walk with this number goes down and stands at a known node: its way, its state and its loaded
--- visits are those of the node, and there is room on the way for each empty cell
-pub record IsDown (number node visits : ℕ) (state : NodeState) (way : List Level)
-    (v : SeatView) : Type 0 where
-  pub ended : v.ended ≡ 0
-  pub ticket : v.ticket ≡ Some number
-  pub adds : v.adds ≡ None
-  pub known : is_known v node ≡ true
-  pub is : state ≡ node_state v.shape v.known node
-  pub on_way : OnWay v way node
-  pub loaded : IsLoaded v (node + TALLY_WORD)
-  pub counted : (tally_loaded v node).visits ≡ visits
-  pub few : visits ≤ v.shape.knobs.playouts
-  pub room : length way + length (empties_of state.board) ≤ MOST_NODES
-
-abbrev pub Down : Walker → SeatView → Type 0
-Down w v = IsDown w.number w.node w.visits (state_in w) w.way v
-
--- the block below the node is known, and the walker knows where it begins
-pub record IsBelow (w : Walker) (v : SeatView) (b : LinkedBlock) : Type 0 where
-  pub known : In b v.known
-  pub start : b.start ≡ w.start
-  pub parent : b.parent ≡ w.node
-  pub cells : b.cells ≡ cells_in w
-
--- the node may get a block: it is not the root, no block is known below it, and it was loaded with
--- visits of at least T
-pub record MayClaim (w : Walker) (v : SeatView) : Type 0 where
-  pub down : Down w v
-  pub below : w.node ≢ root_at v.shape
-  pub vacant : known_link v w.node ≡ 0
-  pub visits : v.shape.knobs.expand ≤ w.visits
-  pub some : 0 < length (empties_of w.board)
-  pub room : v.full ≡ false
-
--- the child of this place, the best of the children xs, is the one that is kept: going on through
--- any further children is going on from it
-pub record HasKept (d : ScanData) (xs : List Child) : Type 0 where
-  pub place : d.best < d.place
-  pub child : Child
-  pub is : slice_get xs d.best ≡ Some child
-  pub visits : child.visits ≡ d.visits
-  pub fresh : d.fresh ≡ true → d.visits ≡ 0
-  pub score : d.fresh ≡ false → (0 < d.visits) × (score_in d.parent d.weight child ≡ d.most)
-  pub goes : (ys : List Child) → kept_of d.parent d.weight (xs ++ ys)
-      ≡ kept_from d.parent d.weight d.best child d.place ys
-
-abbrev pub Keeps : ScanData → List Child → Type 0
-Keeps d [] = (d.place ≡ 0) × (d.best ≡ 0) × (d.most ≡ 0) × (d.fresh ≡ false)
-Keeps d (x ∷ xs) = HasKept d (x ∷ xs)
-
--- the counts of the first n children of a block, as they were loaded
-abbrev pub children_loaded : SeatView → LinkedBlock → ℕ → List Child
-children_loaded v b n =
-    map child_of (pairs_of (tally_loaded v) (seen_loaded v) (b.start + HEADER_WORDS)
-    (take n b.cells))
-
--- where the scan stands in its child, which begins at y: a tally that it has is loaded
-abbrev pub InChild : Phase → SeatView → ScanData → ℕ → Type 0
-InChild Move v d y = d.at ≡ y
-InChild Tally v d y = d.at ≡ y + TALLY_WORD
-InChild Seen v d y =
-    (d.at ≡ y + SEEN_WORD) × (load_of v.loads (y + TALLY_WORD) ≡ Some d.tally)
-    × AtMost v.shape.knobs.playouts (count_in d.tally)
-
--- the scan has looked at the children before its place, and keeps the one that Choice takes of them
-pub record IsScan (w : Walker) (v : SeatView) (b : LinkedBlock) : Type 0 where
-  pub parent : w.scan.parent ≡ w.visits
-  pub weight : w.scan.weight ≡ v.shape.knobs.weight
-  pub count : w.scan.count ≡ length b.cells
-  pub place : w.scan.place < w.scan.count
-  pub stands : InChild w.scan.phase v w.scan (child b w.scan.place)
-  pub tallies : (i : ℕ) → i < w.scan.place → IsLoaded v (child b i + TALLY_WORD)
-  pub seen : (i : ℕ) → i < w.scan.place → IsLoaded v (child b i + SEEN_WORD)
-  pub few : w.scan.visits ≤ v.shape.knobs.playouts
-  pub keeps : Keeps w.scan (children_loaded v b w.scan.place)
 
 -- no block is known below x, or its board is full
 abbrev pub IsBare : SeatView → ℕ → Type 0

@@ -2,7 +2,10 @@ pub mod Ways
 pub mod Scans
 pub mod Places
 pub mod Climbs
+pub mod Steps
 pub mod Machine
 pub mod Choosing
+pub mod Underway
+pub mod Looking
 pub mod Belongs
 pub mod Measure

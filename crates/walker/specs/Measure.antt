@@ -2,7 +2,7 @@
 use Rattle.std.specs.Prelude.{ℕ, ◌+◌, ◌-◌, ◌*◌, length}
 use Rattle.play_out.specs.Fills.{empties_of}
 use Rattle.tree_words.specs.Sequence.{size_below}
-use Rattle.tree_words.specs.declared.layout.TheConstants.{HEADER_WORDS, MOST_BLOCK_WORDS}
+use Rattle.tree_words.specs.declared.layout.TheConstants.{MOST_BLOCK_WORDS}
 use Rattle.walker.specs.declared.machine.TheConstants.{CHILD_LOOKS, HEAD_STEPS, LEVEL_STEPS, UP_STEPS, LAST_STEPS}
 use Rattle.walker.specs.declared.scans.Phase.{Phase}
 use Rattle.walker.specs.declared.scans.Phase.TheVariants.{Move, Tally, Seen}

@@ -1,13 +1,14 @@
 //! The climb over a block's seen adds.
 
-ghost use Rattle.std.specs.Prelude.{◌≡◌, ◌+◌, ◌<◌, [], IsTrue, ◌↔◌};
+ghost use Rattle.std.specs.Prelude.{◌≡◌, ℕ, ◌+◌, ◌<◌, nat_lt, if◌then◌else◌, [], IsTrue, ◌↔◌};
+ghost use Rattle.hex_cells.specs.Sets.{has};
 ghost use Rattle.tree_words.specs.Writing.{listed};
 ghost use Rattle.arena_rule.specs.Adds.{seen_adds};
 ghost use Rattle.walker.specs.Climbs.{add_op, adds_after};
 ghost use Rattle.walker.specs.Places.{ArePlaces};
 
 use super::PAST_WORDS;
-use hex_cells::{Cell, CellSet, Size};
+use hex_cells::{CellSet, MOST_CELLS, Size};
 use std::marker::Model;
 use tree_words::Op;
 use tree_words::layout::{HEADER_WORDS, NODE_WORDS, SEEN_WORD};
@@ -111,20 +112,33 @@ impl Climb {
     }
 }
 
-// The places of those of the cells, in rising order, that have one of the stones.
+// The places of those of the cells, in rising order, that have one of the stones: their bits, where
+// each bit that is none of the cells is taken out.
 fn places(cells: CellSet, stones: CellSet, size: Size) -> CellSet
     ensures { ArePlaces stones (listed size cells) result }
 {
-    let mut places = CellSet::none();
-    let mut place = 0;
-    'cells: for k in 0..size.cells() {
-        let cell = Cell::numbered(k);
-        if cells.has(cell) {
-            if stones.has(cell) {
-                places = places.with(Cell::numbered(place));
-            }
-            place += 1;
-        }
+    let all = CellSet::all(size);
+    let cells = cells.meet(all);
+    let mut places = cells.meet(stones);
+    let mut holes = all.minus(cells);
+    let mut gone = 0;
+    'holes: while let Some(hole) = holes.least() {
+        places = without_place(places, hole.number() - gone);
+        holes = holes.without(hole);
+        gone += 1;
     }
     places
+}
+
+// The set without this place: those above it fall by one.
+#[tactic(auto, using(crate::proofs::BitLaws::without_bit, crate::proofs::BitLaws::without_bit_small))]
+fn without_place(places: CellSet, at: u32) -> CellSet
+    requires { at < MOST_CELLS }
+    ensures { (k : ℕ) → has result k
+        ≡ (if nat_lt k at then has places k else has places (k + 1)) }
+{
+    let bits = places.bits();
+    let low = bits & ((1u128 << at) - 1);
+    let high = bits >> (at + 1) << at;
+    CellSet::of_bits(low | high)
 }

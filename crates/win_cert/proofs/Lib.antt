@@ -20,5 +20,17 @@ pub mod CellWords
 pub mod CellLists
 pub mod Joining
 pub mod LineParts
+pub mod WordParts
+pub mod CellSets
+pub mod StepWords
+pub mod StepMeans
+pub mod TextLines
+pub mod HeadMeans
+pub mod StepsMean
+pub mod PlainWords
+pub mod ReadMeans
+pub mod ReadBack
+pub mod BadLines
+pub mod Parsed
 pub mod StepLines
 pub mod SameVerdict

@@ -10,7 +10,7 @@ use Rattle.win_cert.proofs.Splitting.{split_first, split_some, split_whole}
 pub last_line : (text : List ℕ) → position is_line_feed text ≡ None → first_line (lines_of text) ≡ None
 last_line text e = ap (λ parts. first_line (map (slice_split is_space) parts)) (split_whole is_line_feed text e)
 
-first_of_more : (words : List (List ℕ)) (lines : List (List (List ℕ))) → lines ≢ [] → first_line (words ∷ lines) ≡ Some (words, lines)
+pub first_of_more : (words : List (List ℕ)) (lines : List (List (List ℕ))) → lines ≢ [] → first_line (words ∷ lines) ≡ Some (words, lines)
 first_of_more words [] some = absurd (some refl)
 first_of_more words (next ∷ lines) some = refl
 

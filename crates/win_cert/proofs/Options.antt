@@ -1,5 +1,6 @@
 -- Answers that may be missing.
-use Rattle.std.proofs.Common.{◌≡◌, ◌&&◌, Bool, true, false, cond, Option, Some, None, refl}
+use Rattle.std.proofs.Common.{arith, ℕ, ◌≡◌, ◌≤◌, ◌&&◌, leb, Bool, true, false, cond, Option, Some, None, refl}
+use Rattle.std.proofs.lemmas.Bool.Decides.{nat_tests}
 use Rattle.std.specs.Option.{option_and_then, option_map}
 
 pub some_of_if : {A : Type 0} (b : Bool) (x y : A) → cond b (Some x) None ≡ Some y → (b ≡ true) × (x ≡ y)
@@ -23,3 +24,10 @@ pub some_of_map : {A B : Type 0} (f : A → B) (o : Option A) (y : B) → option
     → (x : A) × (o ≡ Some x) × (f x ≡ y)
 some_of_map f (Some x) y e = (x, refl, cc)
 some_of_map f None y e = cc
+
+-- the test of `at most`
+pub leb_says : (a b : ℕ) → leb a b ≡ true → a ≤ b
+leb_says a b e = grind (arith, nat_tests)
+
+pub leb_holds : (a b : ℕ) → a ≤ b → leb a b ≡ true
+leb_holds a b h = grind (arith, nat_tests)

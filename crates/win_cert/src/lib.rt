@@ -17,6 +17,8 @@ mod reader;
 mod reading;
 mod refusals;
 mod steps;
+#[cfg(test)]
+mod tests;
 mod values;
 mod words;
 mod writing;

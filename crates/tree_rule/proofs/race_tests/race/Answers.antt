@@ -1,7 +1,7 @@
 -- Each step of the script fits, and what stands at its end.
 use Rattle.std.proofs.Common.{◌≡◌, sym, subst, ◌∙◌}
 use Rattle.tree_rule.specs.Scripts.{TwoViews, AllFit, RaceEnds, views_of, after_script}
-use Rattle.tree_rule.proofs.TwoByTwo.{two_seats, script, all-fit, ended}
+use Rattle.tree_rule.proofs.RaceScript.{two_seats, script, all-fit, ended}
 use Rattle.tree_rule.proofs.race_tests.race.Goals as goal
 
 pub follow-requires-clause-fits : goal.follow-requires-clause-fits

@@ -1,3 +1,4 @@
+-- The least place is that of the next add.
 use Rattle.std.proofs.Common.{sym, ap, ◌∙◌}
 use Rattle.walker.specs.Climbs.{adds_at, adds_after}
 use Rattle.walker.proofs.SeenAdds.{adds-none, adds-next}

@@ -1,3 +1,4 @@
+-- No place is left where no add is.
 use Rattle.std.proofs.Common.{sym, ◌∙◌, arith}
 use Rattle.std.proofs.lemmas.Bool.{false_from_ne_true}
 use Rattle.hex_cells.specs.Sets.{has as has_cell}

@@ -1,3 +1,4 @@
+-- No place, no add.
 use Rattle.walker.proofs.SeenAdds.{adds-none}
 use Rattle.walker.proofs.climbs.Climb.none.Goals as goal
 

@@ -1,3 +1,4 @@
+-- The adds of the places are the adds of the cells.
 use Rattle.std.proofs.Common.{refl, arith}
 use Rattle.hex_cells.specs.Sets.{has as has_cell}
 use Rattle.tree_words.specs.Writing.{listed}

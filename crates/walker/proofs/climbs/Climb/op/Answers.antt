@@ -1,3 +1,4 @@
+-- The least place is that of the next add.
 use Rattle.std.proofs.Common.{◌+◌, ◌*◌, sym, ap, ◌∙◌}
 use Rattle.tree_words.specs.declared.steps.Op.TheVariants.{Add}
 use Rattle.walker.specs.Climbs.{add_op}

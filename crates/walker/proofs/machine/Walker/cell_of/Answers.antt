@@ -1,3 +1,4 @@
+-- The cell of a rank stands at that place of the list.
 use Rattle.std.proofs.Common.{sym, ap, ◌∙◌, get_or, arith}
 use Rattle.hex_board.proofs.Placed.{empty_on}
 use Rattle.tree_words.proofs.Boards.EmptyLaws.{count_empties, empties-listed}

@@ -1,3 +1,4 @@
+-- The root's cells are the allowed ones, those of other nodes the empty ones.
 use Rattle.std.proofs.Common.{◌≡◌, List, [], ◌∷◌, refl, ◌∙◌}
 use Rattle.hex_board.specs.Positions.{Position}
 use Rattle.play_out.specs.Fills.{empties_of}

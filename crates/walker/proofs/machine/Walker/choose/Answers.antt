@@ -1,3 +1,4 @@
+-- The child that was kept is a node of the block, and its cell is empty.
 use Rattle.std.proofs.Common.{◌≡◌, ◌+◌, ◌*◌, ◌∷◌, length, get_or, sym, ap, ◌∙◌, arith}
 use Rattle.hex_cells.specs.Sets.{members}
 use Rattle.hex_board.specs.Positions.{is_empty_at, placed}

@@ -1,5 +1,5 @@
 -- What the laws of the machine say of the answer that is taken.
-use Rattle.std.proofs.Common.{◌≡◌, ◌<◌, ◌≤◌, ℕ, sym, ap, ◌∙◌, subst}
+use Rattle.std.proofs.Common.{◌<◌, ◌≤◌, sym, ap, ◌∙◌, subst}
 use Rattle.arena_rule.specs.Afters.{after}
 use Rattle.walker.specs.declared.machine.Walker.{Walker}
 use Rattle.walker.specs.declared.machine.TheConstants.{WALK_STEPS}

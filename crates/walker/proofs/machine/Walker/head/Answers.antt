@@ -1,3 +1,4 @@
+-- The block has as many nodes as the set has cells.
 use Rattle.std.proofs.Common.{◌≡◌, length, sym, ap, ◌∙◌, arith}
 use Rattle.tree_words.specs.Writing.{listed}
 use Rattle.hex_cells.specs.Sets.{members}

@@ -1,3 +1,4 @@
+-- A view that belongs to the walker fits its step.
 use Rattle.std.proofs.Common.{sym, subst}
 use Rattle.arena_rule.specs.Fits.{FitsStep}
 use Rattle.walker.proofs.Fitting.{fits}

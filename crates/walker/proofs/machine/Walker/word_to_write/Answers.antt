@@ -1,3 +1,4 @@
+-- The halves of the set of the empty cells.
 use Rattle.std.proofs.Common.{◌/◌, ◌%◌, ◌^◌, sym, ap, ◌∙◌}
 use Rattle.walker.specs.Machine.{word_of_block, own_block}
 use Rattle.walker.proofs.CellLaws.{empties-number}

@@ -1,3 +1,4 @@
+-- What keeping a child leaves as it was.
 use Rattle.std.proofs.Common.{◌≡◌, ◌+◌, sym, ap, ◌∙◌, arith}
 use Rattle.walker.specs.declared.scans.Phase.{Phase}
 use Rattle.walker.specs.declared.scans.Phase.TheVariants.{Move, Seen}

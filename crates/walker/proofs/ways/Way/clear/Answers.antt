@@ -1,3 +1,4 @@
+-- No level.
 use Rattle.walker.proofs.Levels.{levels-none}
 use Rattle.walker.proofs.ways.Way.clear.Goals as goal
 

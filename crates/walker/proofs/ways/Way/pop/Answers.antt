@@ -1,3 +1,4 @@
+-- The last level of the array is the first of the list.
 use Rattle.std.proofs.Common.{sym, ◌∙◌, arith}
 use Rattle.walker.proofs.Levels.{levels-at, levels-last}
 use Rattle.walker.proofs.ways.Way.pop.Goals as goal

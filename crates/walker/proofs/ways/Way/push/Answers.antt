@@ -1,3 +1,4 @@
+-- One level more at the end of the array is the first of the list.
 use Rattle.std.proofs.Common.{ap, ◌∙◌, ◌∷◌, length, arith}
 use Rattle.std.proofs.Math.ListN.{length-set}
 use Rattle.walker.proofs.Levels.{levels-long, levels-set}

@@ -19,7 +19,7 @@ use Rattle.walker.specs.declared.stages.Stage.TheVariants.{Drawing, Rooting, Lin
 use Rattle.walker.specs.declared.machine.Walker.{Walker}
 use Rattle.walker.proofs.KnownLaws.{one-order}
 use Rattle.walker.proofs.LeafLaws.{way-chosen}
-use Rattle.lone_worker.proofs.Leading.{IsAtLeaf, StepsAtLeaf}
+use Rattle.lone_worker.proofs.AtLeaf.{IsAtLeaf, StepsAtLeaf}
 
 module _ (w : Walker) (v : SeatView) (h : Belongs w v) where
   order : InOrder (root_at v.shape) v.known

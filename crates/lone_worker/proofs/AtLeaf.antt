@@ -1,18 +1,14 @@
--- The steps of a seat that is alone, and makes its claims, publishes and first adds at its leaf.
-use Rattle.std.specs.Prelude.{◌≡◌, ◌≢◌, ◌⊎◌, ℕ, ◌+◌, true, List, [], ◌∷◌, None, slice_index}
-use Rattle.tree_words.specs.Settings.{Setting}
+-- The leaf of the walk in hand, and the steps that are made at it.
+use Rattle.std.specs.Prelude.{◌≡◌, ◌≢◌, ◌⊎◌, ℕ, ◌+◌, true, None}
 use Rattle.tree_words.specs.Words.{root_at}
 use Rattle.tree_words.specs.Blocks.{LinkedBlock, In, has_node}
 use Rattle.tree_words.specs.Paths.{is_on}
-use Rattle.tree_words.specs.Opening.{opening_words}
 use Rattle.tree_words.specs.declared.layout.TheConstants.{LINK_WORD, TALLY_WORD}
 use Rattle.tree_words.specs.declared.steps.Op.{Op}
 use Rattle.tree_words.specs.declared.steps.Op.TheVariants.{Draw, Look, Claim, Write, Publish, Add, Note, Done}
-use Rattle.arena_rule.specs.Views.{SeatView, opening_view}
+use Rattle.arena_rule.specs.Views.{SeatView}
 use Rattle.arena_rule.specs.Lookups.{is_known, known_link, empties_at}
-use Rattle.arena_rule.specs.Fits.{FitsStep, IsChosen, MayGetBlock}
-use Rattle.arena_rule.specs.Afters.{word_of, answer_of, after}
-use Rattle.arena_rule.specs.Rule.{words_after}
+use Rattle.arena_rule.specs.Fits.{IsChosen, MayGetBlock}
 
 -- The node x can be the leaf of the walk in hand: x is a known node other than the root, no block is
 -- known below it or its board is full, and each node of its path below the root was chosen by the
@@ -35,21 +31,3 @@ StepsAtLeaf v (Publish l b) = (x : ℕ) × (l ≡ x + LINK_WORD) × IsAtLeaf v x
 StepsAtLeaf v (Add i won) = v.adds ≡ None → (x : ℕ) × (i ≡ x + TALLY_WORD) × IsAtLeaf v x
 StepsAtLeaf v (Note k value) = Unit {0}
 StepsAtLeaf v Done = Unit {0}
-
--- the seat with the view u makes a step that it fits, at its leaf, and finds the word as it stands
-pub record StepsTo (before : List ℕ) (u : SeatView) (op : Op)
-    (words : List ℕ) (v : SeatView) : Type 0 where
-  pub fits : FitsStep u op
-  pub leaf : StepsAtLeaf u op
-  pub words_are : words ≡ words_after before op
-  pub view_is : v ≡ after u op (answer_of op (slice_index before (word_of op)))
-
--- from the opening words and the opening view the steps, the newest first, lead to these
-abbrev pub LeadsAlone : Setting → List Op → List ℕ → SeatView → Type 0
-LeadsAlone s [] words v = (words ≡ opening_words s) × (v ≡ opening_view s)
-LeadsAlone s (op ∷ ops) words v = (before : List ℕ) × (u : SeatView)
-    × LeadsAlone s ops before u × StepsTo before u op words v
-
--- the seat has come alone to these words and this view
-abbrev pub HasLedAlone : Setting → List ℕ → SeatView → Type 0
-HasLedAlone s words v = (ops : List Op) × LeadsAlone s ops words v
