@@ -4,7 +4,7 @@ ghost use Rattle.std.specs.Prelude.{IfSome};
 ghost use Rattle.tree_words.specs.Settings.{AreEmpty, IsAny};
 
 use super::types::{Audit, Flaw};
-use super::{TraceArchive, audit};
+use super::{MOST_BYTES, TraceArchive, audit};
 use hex_board::Board;
 use hex_cells::{CellSet, Colour, Size};
 use hex_io::MemLink;
@@ -118,7 +118,11 @@ fn changed(alloc: Global, at: usize, word: u64) -> Result<Audit, Fail> {
     if let Some(place) = words.get_mut(at) {
         *place = word;
     }
-    match audit(alloc, &text(alloc, &words)?) {
+    let bytes = text(alloc, &words)?;
+    if MOST_BYTES < bytes.len() {
+        return Err(Fail::from("too long"));
+    }
+    match audit(alloc, &bytes) {
         Ok(answer) => Ok(answer),
         Err(_) => Err(Fail::from("memory")),
     }
