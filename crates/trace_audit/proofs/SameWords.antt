@@ -1,21 +1,21 @@
 -- Words that are the same below NEXT: where one list is closed, the other is.
-use Rattle.std.proofs.Common.{◌≡◌, ◌⊎◌, ℕ, zero, suc, ◌+◌, ◌*◌, ◌<◌, ◌≤◌, Bool, true, false, List, [], ◌∷◌, length, refl, sym, ap, ◌∙◌, subst, ⊎_elim, inl, inr, arith}
+use Rattle.std.proofs.Common.{◌≡◌, ℕ, ◌+◌, ◌*◌, ◌<◌, ◌≤◌, Bool, true, List, [], ◌∷◌, length, sym, ap, ◌∙◌, subst, ⊎_elim, arith}
 use Rattle.std.specs.Prelude.{slice_index, ◌&&◌, ◌==◌, ◌≢◌}
-use Rattle.std.proofs.lemmas.Bool.{eqb-true, or_cases, and_parts, ltb-true}
+use Rattle.std.proofs.lemmas.Bool.{eqb-true, or_cases}
 use Rattle.hex_cells.specs.Colours.{is_same}
 use Rattle.tree_words.specs.Settings.{Setting, IsSetting}
-use Rattle.tree_words.specs.Words.{Count, count_in, root_at, area_at, end_of, next_in, record_in, leaf_in, winner_in, tally_in, seen_in, link_in, ticket_in}
-use Rattle.tree_words.specs.Blocks.{LinkedBlock, one_if, size, has_node, is_node, In, Shows, cell_at, place}
-use Rattle.tree_words.specs.Complete.{Linked, AreComplete}
-use Rattle.tree_words.specs.Records.{IsRecord, leaf_of, outcome_in}
+use Rattle.tree_words.specs.Words.{Count, count_in, root_at, area_at, next_in, record_in, leaf_in, winner_in, tally_in, seen_in, ticket_in}
+use Rattle.tree_words.specs.Blocks.{LinkedBlock, size, has_node, is_node, cell_at, place}
+use Rattle.tree_words.specs.Complete.{AreComplete}
+use Rattle.tree_words.specs.Records.{leaf_of}
 use Rattle.tree_words.specs.Paths.{node_state, is_on, enters, mover_of}
 use Rattle.tree_words.specs.Sequence.{outcome_of}
-use Rattle.tree_words.specs.Counts.{Exact, count_below, visits_at, sights_at}
-use Rattle.tree_words.specs.Growth.{Grown, ends_at, root_end, other_words}
+use Rattle.tree_words.specs.Counts.{visits_at, sights_at}
+use Rattle.tree_words.specs.Growth.{ends_at, root_end, other_words}
 use Rattle.tree_words.specs.declared.layout.TheConstants.{MOST_BLOCK_WORDS}
 use Rattle.hex_cells.specs.Sets.{has as has_cell}
 use Rattle.hex_board.specs.Positions.{stones_of}
-use Rattle.tree_words.specs.Closing.{IsClosed, KeepsEnds}
+use Rattle.tree_words.specs.Closing.{IsClosed}
 use Rattle.tree_words.proofs.Boards.RootLaws.{root_of, complete_in}
 use Rattle.tree_words.proofs.Walks.Tallies.{count-same}
 use Rattle.tree_words.proofs.Blocks.BlockLaws.{has-at}

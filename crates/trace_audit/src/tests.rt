@@ -3,7 +3,8 @@
 ghost use Rattle.std.specs.Prelude.{IfSome};
 ghost use Rattle.tree_words.specs.Settings.{AreEmpty, IsAny};
 
-use super::TraceArchive;
+use super::types::{Audit, Flaw};
+use super::{MOST_BYTES, TraceArchive, audit};
 use hex_board::Board;
 use hex_cells::{CellSet, Colour, Size};
 use hex_io::MemLink;
@@ -98,6 +99,83 @@ fn a_write_that_fails_leaves_a_front(rt: HostRuntime) -> Result<(), Fail> {
         assert!(rt; archive.take(one_playout(alloc)?) == Err(ArchiveFault));
         let out = archive.into_link();
         assert!(rt; Some(out.given()) == trace.get(..room));
+    }
+    Ok(())
+}
+
+// The bytes of these words behind the name.
+fn text(alloc: Global, words: &[u64]) -> Result<Vec<u8>, Fail> {
+    let mut bytes = b"HEXTREE1".to_vec(alloc)?;
+    for word in words {
+        bytes.extend_from_slice(&word.to_le_bytes())?;
+    }
+    Ok(bytes)
+}
+
+// The audit of the trace of one playout with one word changed.
+fn changed(alloc: Global, at: usize, word: u64) -> Result<Audit, Fail> {
+    let mut words = ONE_PLAYOUT;
+    if let Some(place) = words.get_mut(at) {
+        *place = word;
+    }
+    let bytes = text(alloc, &words)?;
+    if MOST_BYTES < bytes.len() {
+        return Err(Fail::from("too long"));
+    }
+    match audit(alloc, &bytes) {
+        Ok(answer) => Ok(answer),
+        Err(_) => Err(Fail::from("memory")),
+    }
+}
+
+#[test]
+fn each_flaw_is_found(rt: HostRuntime) -> Result<(), Fail> {
+    let alloc = rt.alloc();
+    assert_eq!(rt; changed(alloc, 0, 2)?, Audit::Yes { trees: 1 });
+    let cases = [
+        (0, 12, Flaw::BadForm),
+        (0, 0, Flaw::BadForm),
+        (1, 16, Flaw::BadForm),
+        (2, 1, Flaw::BadForm),
+        (5, 2, Flaw::BadForm),
+        (6, 0, Flaw::BadForm),
+        (6, 31, Flaw::BadForm),
+        (8, 0, Flaw::BadForm),
+        (8, 65, Flaw::BadForm),
+        (9, 0, Flaw::BadForm),
+        (11, 1_023, Flaw::BadForm),
+        (12, 0, Flaw::BadForm),
+        (13, 1_025, Flaw::BadForm),
+        (14, 28, Flaw::BadForm),
+        (15, 28, Flaw::BadForm),
+        (14, 6, Flaw::BadForm),
+        (19, 8, Flaw::Block),
+        (22, 4, Flaw::Block),
+        (23, 7, Flaw::Block),
+        (24, 1, Flaw::Block),
+        (25, 3, Flaw::Block),
+        (26, 1, Flaw::Block),
+        (27, 7, Flaw::Block),
+        (27, 19, Flaw::Block),
+        (27, 1 << 40, Flaw::Block),
+        (27, 18446744073709551615, Flaw::Block),
+        (17, 22, Flaw::Record),
+        (17, 0, Flaw::Record),
+        (17, 7, Flaw::Record),
+        (17, 25, Flaw::Record),
+        (19, 0, Flaw::Record),
+        (17, 18446744073709551615, Flaw::Record),
+        (20, 4294967296, Flaw::Count),
+        (20, 4294967298, Flaw::Count),
+        (29, 0, Flaw::Count),
+        (41, 0, Flaw::Count),
+        (33, 1, Flaw::Count),
+        (16, 0, Flaw::End),
+        (16, 66, Flaw::End),
+        (16, 1 << 63, Flaw::End),
+    ];
+    for (at, word, why) in cases {
+        assert_eq!(rt; changed(alloc, at, word)?, Audit::No { tree: 0, why });
     }
     Ok(())
 }

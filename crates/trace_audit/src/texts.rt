@@ -15,13 +15,13 @@ use tree_words::layout::{HIGH_EMPTIES_SHIFT, NEXT_AT};
 pub const BUFFER_BYTES: usize = 4_096;
 
 /// A word has eight bytes.
-const WORD_BYTES: usize = 8;
+pub(crate) const WORD_BYTES: usize = 8;
 
 /// So many words fill the buffer.
 const BUFFER_WORDS: usize = BUFFER_BYTES / WORD_BYTES;
 
 /// So many words stand between the name of a text and the words of the tree.
-const FIELDS: usize = 15;
+pub(crate) const FIELDS: usize = 15;
 
 /// Gives the text of the tree. At a fault a front of it was given that is not all of it.
 pub fn give_text<W: Link>(
@@ -45,7 +45,7 @@ pub fn give_text<W: Link>(
 }
 
 /// How many of the words are written: all below NEXT.
-fn written(words: &[u64]) -> usize
+pub(crate) fn written(words: &[u64]) -> usize
     requires { 1 ≤ length words.now }
     ensures value { result ≡ written words.now }
     ensures range { result ≤ length words.now }

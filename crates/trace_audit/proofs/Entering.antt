@@ -1,0 +1,107 @@
+-- A block that is entered in the table.
+use Rattle.std.proofs.Common.{◌≡◌, ℕ, ◌+◌, ◌-◌, ◌<◌, ◌≤◌, ◌^◌, true, List, [], ◌∷◌, ◌++◌, length, set, sym, ap, ◌∙◌, subst, ⊎_elim, inl, inr, arith, length-append, get_or-set_same, get_or-set_other}
+use Rattle.std.specs.Prelude.{slice_index, slice_index_or}
+use Rattle.std.proofs.lemmas.Bool.{cases_eq, cases_lt}
+use Rattle.std.proofs.Math.ListN.{length-set, get_or-append}
+use Rattle.std.proofs.Math.Seq.{get_or-append_seam}
+use Rattle.tree_words.specs.Settings.{Setting, IsSetting}
+use Rattle.tree_words.specs.Words.{root_at, area_at, end_of, link_in}
+use Rattle.tree_words.specs.Blocks.{LinkedBlock, is_node, link_of}
+use Rattle.tree_words.specs.Paths.{node_state}
+use Rattle.tree_words.proofs.Blocks.NodeLaws.{node-lies}
+use Rattle.trace_audit.specs.declared.linking.Spot.{Spot}
+use Rattle.trace_audit.specs.declared.linking.Table.{Table}
+use Rattle.trace_audit.specs.Tables.{state_in, IsSpot, IsTable, IsFollowed, Scanned}
+
+-- where a node lies among all words
+pub node_inside : (s : Setting) (words : List ℕ) (t : Table) (done p : ℕ) (bs : List LinkedBlock) (x : ℕ) → IsSetting s → Scanned s words t done p bs → is_node (root_at s) bs x ≡ true
+    → (x + 4 ≤ end_of s) × (end_of s < 2 ^ 32)
+node_inside s words t done p bs x h sc n = (
+  ⊎_elim
+      (λ (e : x ≡ root_at s). omega (arith, e))
+      (λ (e : (area_at s ≤ x) × (x + 4 ≤ p) × (x + 4 ≤ end_of s)). e.2)
+      (node-lies s p bs x sc.ended n),
+  omega (arith, h.ranges.playouts, h.ranges.words),
+)
+
+module _ (s : Setting) (words : List ℕ) (t u : Table) (x p : ℕ) (bs : List LinkedBlock) (sc : Scanned s words t x p bs) (n : is_node (root_at s) bs x ≡ true) (spot : Spot) (start : ℕ)
+    (first : spot.start ≡ start) (state : state_in spot ≡ node_state s bs x) (link : link_in words x ≡ start) (free : p ≤ start) (inside : start < end_of s) (parent : slice_index words start ≡ x)
+    (index : u.index.items ≡ set t.index.items start (length t.spots.items + 1)) (spots : u.spots.items ≡ t.spots.items ++ spot ∷ []) (others : u.others ≡ t.others) where
+  new_index : slice_index u.index.items start ≡ length t.spots.items + 1
+  new_index = let long = sc.table.long in ap (λ l. slice_index l start) index ∙ get_or-set_same t.index.items start (length t.spots.items + 1) 0 (omega (arith, inside, long))
+
+  old_index : (b : ℕ) → (b ≡ start → ⊥) → slice_index u.index.items b ≡ slice_index t.index.items b
+  old_index b d = ap (λ l. slice_index l b) index ∙ get_or-set_other t.index.items start b (length t.spots.items + 1) 0 d
+
+  more_index : (b : ℕ) → 0 < slice_index t.index.items b → 0 < slice_index u.index.items b
+  more_index b l = ⊎_elim
+      (λ (e : b ≡ start). omega (arith, ap (slice_index u.index.items) e, new_index))
+      (λ (e : b ≡ start → ⊥). omega (arith, old_index b e, l))
+      (cases_eq b start)
+
+  old_spot : (k : ℕ) (d : Spot) → k < length t.spots.items → slice_index_or u.spots.items k d ≡ slice_index_or t.spots.items k d
+  old_spot k d l = ap (λ z. slice_index_or z k d) spots ∙ get_or-append t.spots.items (spot ∷ []) d k l
+
+  new_spot : (k : ℕ) (d : Spot) → k ≡ length t.spots.items → slice_index_or u.spots.items k d ≡ spot
+  new_spot k d e = (λ i. slice_index_or (spots i) (e i) d) ∙ get_or-append_seam t.spots.items spot [] d
+
+  spots_long : length u.spots.items ≡ length t.spots.items + 1
+  spots_long = ap length spots ∙ length-append t.spots.items (spot ∷ [])
+
+  is_spot : IsSpot s words bs spot
+  is_spot =
+      let named : slice_index words spot.start ≡ x = ap (slice_index words) first ∙ parent in
+      let area = sc.area in
+      record {
+        node = ap (is_node (root_at s) bs) named ∙ n;
+        link = ap (link_in words) named ∙ link ∙ sym first;
+        inside = (omega (arith, first, area, free), omega (arith, first, inside));
+        state = state ∙ ap (node_state s bs) (sym named);
+      }
+
+  table_more : IsTable s words bs u
+  table_more = record {
+    long = ap length index ∙ length-set t.index.items start (length t.spots.items + 1) ∙ sc.table.long;
+    spots = λ k d l. ⊎_elim
+        (λ (m : k < length t.spots.items). subst (IsSpot s words bs) (sym (old_spot k d m)) (sc.table.spots k d m))
+        (λ (m : length t.spots.items ≤ k). subst (IsSpot s words bs) (sym (new_spot k d (omega (arith, m, l, spots_long)))) is_spot)
+        (cases_lt k (length t.spots.items));
+    index = λ b d l. ⊎_elim
+        (λ (e : b ≡ start).
+        let k : slice_index u.index.items b ≡ length t.spots.items + 1 = ap (slice_index u.index.items) e ∙ new_index in
+        (omega (arith, k, spots_long), ap (λ z. z.start) (new_spot (slice_index u.index.items b - 1) d (omega (arith, k))) ∙ first ∙ sym e))
+        (λ (e : b ≡ start → ⊥).
+        let k : slice_index u.index.items b ≡ slice_index t.index.items b = old_index b e in
+        let old = sc.table.index b d (omega (arith, k, l)) in
+        let at : slice_index_or u.spots.items (slice_index u.index.items b - 1) d ≡ slice_index_or t.spots.items (slice_index t.index.items b - 1) d
+        = ap (λ j. slice_index_or u.spots.items (j - 1) d) k ∙ old_spot (slice_index t.index.items b - 1) d (omega (arith, old.0, k, l)) in
+        (omega (arith, k, old.0, spots_long), ap (λ z. z.start) at ∙ old.1))
+        (cases_eq b start);
+  }
+
+  -- the node's link is followed
+  pub enter_some : Scanned s words u (x + 1) p bs
+  enter_some = record {
+    order = sc.order;
+    shown = sc.shown;
+    complete = sc.complete;
+    ended = sc.ended;
+    area = sc.area;
+    table = table_more;
+    links = λ y m l. ⊎_elim
+        (λ (k : y < x). ⊎_elim
+        (λ (e : link_in words y ≡ link_of bs y). inl e)
+        (λ (e : (link_of bs y ≡ 0) × (p ≤ link_in words y) × (0 < slice_index t.index.items (link_in words y)) × (slice_index words (link_in words y) ≡ y)).
+        inr (e.0, e.1, more_index (link_in words y) e.2, e.3))
+        (sc.links y m k))
+        (λ (k : x ≤ y).
+        let at : x ≡ y = omega (arith, k, l) in
+        let here : IsFollowed words u p bs x = inr (sc.vacant x n (omega arith), omega (arith, link, free), omega (arith, ap (slice_index u.index.items) link, new_index), ap (slice_index words) link ∙ parent) in
+        subst (IsFollowed words u p bs) at here)
+        (cases_lt y x);
+    vacant = λ y m l. sc.vacant y m (omega (arith, l));
+    entered = λ b i. more_index b.start (sc.entered b i);
+    others = others ∙ sc.others;
+    few = let few = sc.few in omega (arith, few, others);
+    known = sc.known;
+  }

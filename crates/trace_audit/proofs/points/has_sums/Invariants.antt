@@ -1,0 +1,6 @@
+use Rattle.std.proofs.Common.{ℕ, ◌<◌}
+use Rattle.trace_audit.specs.Points.{AreSame, node_at}
+use Rattle.trace_audit.proofs.points.has_sums.Given as goal
+
+abbrev pub invariant-nodes : goal.invariant-nodes
+invariant-nodes l = (k : ℕ) → k < l.place → AreSame l.words l.sums (node_at l.block k)

@@ -1,0 +1,43 @@
+use Rattle.std.proofs.Common.{◌∙◌, arith}
+use Rattle.trace_audit.proofs.LinkedLaws.{cell_empty, cell_small, cell_state, entry_least, lies_in, node_most}
+use Rattle.trace_audit.proofs.recording.spot_of.Goals as goal
+
+pub index-requires : goal.index-requires
+index-requires c =
+    let r = c.requires in
+    let l = lies_in r.0 c.args.words.now c.args.table.now r.1 r.3 r.5 r.2 r.6 in
+    let long = r.5.table.long in
+    omega (arith, l, long, r.7, c.args.table.now.index.ok.0)
+
+pub index-requires-2 : goal.index-requires-2
+index-requires-2 c =
+    let r = c.requires in
+    let k = entry_least r.0 c.args.words.now c.args.table.now r.1 r.3 r.5 r.2 r.6 c.args.block c.index.result.now r.7 c.index.ensures in
+    omega (arith, k.1, c.args.table.now.spots.ok.0)
+
+pub offset_bounds-words-node : goal.offset_bounds-words-node
+offset_bounds-words-node c =
+    let r = c.requires in
+    let m = node_most r.0 c.args.words.now c.args.table.now r.1 r.3 r.5 r.2 c.args.node r.6 r.8 in
+    let k = r.3.ranges in
+    omega (arith, m, k.playouts, k.words)
+
+pub bounds-words-node : goal.bounds-words-node
+bounds-words-node c =
+    let r = c.requires in
+    let m = node_most r.0 c.args.words.now c.args.table.now r.1 r.3 r.5 r.2 c.args.node r.6 r.8 in
+    omega (arith, m, r.4)
+
+pub numbered-requires : goal.numbered-requires
+numbered-requires c =
+    let r = c.requires in
+    cell_small r.0 c.args.words.now c.args.table.now r.1 r.3 r.5 r.2 r.6 c.args.block c.index.result.now r.7 c.index.ensures c.args.node c.cell_of.result r.8 c.cell_of.ensures c.index-2.result.now c.index-2.ensures
+
+pub after-requires : goal.after-requires
+after-requires c =
+    let r = c.requires in
+    cell_empty r.0 c.args.words.now c.args.table.now r.1 r.3 r.5 r.2 r.6 c.args.block c.index.result.now r.7 c.index.ensures c.args.node c.numbered.result r.8 (c.numbered.ensures ∙ c.cell_of.ensures) c.index-2.result.now c.index-2.ensures
+
+pub returns : goal.returns
+returns c = λ s bs b h long lk i at n.
+    cell_state s c.args.words.now c.args.table.now bs h lk b i c.args.block c.index.result.now at c.index.ensures c.args.node c.numbered.result n (c.numbered.ensures ∙ c.cell_of.ensures) c.index-2.result.now c.index-2.ensures c.after.result c.after.ensures

@@ -1,0 +1,71 @@
+-- The points of a closed tree, block by block.
+use Rattle.std.specs.Prelude.{◌≡◌, ℕ, ◌+◌, ◌*◌, ◌<◌, ◌≤◌, true, List, length, slice_index, slice_index_or}
+use Rattle.hex_board.specs.Positions.{is_empty_at, placed}
+use Rattle.tree_words.specs.Settings.{Setting}
+use Rattle.tree_words.specs.Words.{next_in, nodes_in, tally_in, seen_in, cell_in}
+use Rattle.tree_words.specs.Blocks.{block_size}
+use Rattle.tree_words.specs.Growth.{root_end}
+use Rattle.tree_words.specs.declared.layout.TheConstants.{HEADER_WORDS, NODE_WORDS, MOST_BLOCK_WORDS}
+use Rattle.hex_cells.specs.declared.board_size.TheConstants.{MOST_CELLS}
+use Rattle.trace_audit.specs.declared.linking.Spot.{Spot}
+use Rattle.trace_audit.specs.declared.linking.Table.{Table}
+
+-- the node of place k of the block at b
+abbrev pub node_at : ℕ → ℕ → ℕ
+node_at b k = b + HEADER_WORDS + NODE_WORDS * k
+
+-- the node at x has the same counts in both
+abbrev pub AreSame : List ℕ → List ℕ → ℕ → Type 0
+AreSame words sums x = (tally_in words x ≡ tally_in sums x) × (seen_in words x ≡ seen_in sums x)
+
+-- the visits of the node of place k of the block at b
+abbrev pub visits_at : List ℕ → ℕ → ℕ → ℕ
+visits_at words b k = (tally_in words (node_at b k)).visits
+
+-- the node of place k of the spot's block is the leaf of at most so many records, where its board
+-- has an empty cell
+abbrev pub IsFrugal : List ℕ → List ℕ → Spot → ℕ → ℕ → Type 0
+IsFrugal words sums p most k = let x = node_at p.start k in
+    (c : ℕ) → is_empty_at (placed p.board p.player (cell_in (slice_index words x))) c ≡ true
+    → slice_index sums x ≤ most
+
+-- NEXT is at most the end of the root's block, for each worker so many words, and for each worker
+-- a largest block
+abbrev pub HasRoom : Setting → List ℕ → ℕ → Type 0
+HasRoom s words others = next_in words ≤ root_end s + s.knobs.workers * others
+    + MOST_BLOCK_WORDS * s.knobs.workers
+
+-- where a node of the block at b has no visits, none has more than so many
+abbrev pub IsFirst : List ℕ → ℕ → ℕ → Type 0
+IsFirst words most b = (i j : ℕ) → i < nodes_in words b → j < nodes_in words b
+    → visits_at words b j ≡ 0 → visits_at words b i ≤ most
+
+-- each spot of the table is so
+abbrev pub EachSpot : Table → (Spot → Type 0) → Type 0
+EachSpot t P = (k : ℕ) (d : Spot) → k < length t.spots.items
+    → P (slice_index_or t.spots.items k d)
+
+-- a spot of the table is so
+abbrev pub SomeSpot : Table → (Spot → Type 0) → Type 0
+SomeSpot t P = (k : ℕ) × (d : Spot) × (k < length t.spots.items)
+    × P (slice_index_or t.spots.items k d)
+
+-- the spot's block lies within the words
+abbrev pub LiesWithin : List ℕ → Spot → Type 0
+LiesWithin words p = p.start + block_size (nodes_in words p.start) ≤ length words
+
+-- the cells of the nodes of the spot's block are empty on its board
+abbrev pub HasCells : List ℕ → Spot → Type 0
+HasCells words p = (k : ℕ) → k < nodes_in words p.start
+    → let cell = cell_in (slice_index words (node_at p.start k)) in
+    (cell < MOST_CELLS) × (is_empty_at p.board cell ≡ true)
+
+-- all nodes of the spot's block have the same counts
+abbrev pub HasSums : List ℕ → List ℕ → Spot → Type 0
+HasSums words sums p =
+    (k : ℕ) → k < nodes_in words p.start → AreSame words sums (node_at p.start k)
+
+-- each node of the spot's block is the leaf of few records
+abbrev pub AreFrugal : List ℕ → List ℕ → ℕ → Spot → Type 0
+AreFrugal words sums most p =
+    (k : ℕ) → k < nodes_in words p.start → IsFrugal words sums p most k

@@ -1,0 +1,46 @@
+-- Words and texts in bytes.
+use Rattle.std.specs.Prelude.{◌≡◌, ℕ, ◌+◌, ◌*◌, ◌≤◌, List, ◌++◌, length, take, drop, codes}
+use Rattle.tree_words.specs.Closing.{ClosedTree}
+use Rattle.tree_words.specs.Settings.{Setting, IsSetting}
+use Rattle.tree_words.specs.Words.{area_at, end_of}
+use Rattle.trace_audit.specs.Traces.{bytes_of, fields_of, trace_text}
+use Rattle.trace_audit.specs.Told.{AreWords, IsReadTree}
+use Rattle.trace_audit.specs.declared.parsing.Text.{Text}
+use Rattle.trace_audit.specs.declared.parsing.TheConstants.{FRONT_BYTES}
+use Rattle.trace_audit.specs.declared.texts.TheConstants.{FIELDS}
+
+-- the words stand in the bytes from byte `at` on
+abbrev pub StandAt : List ℕ → ℕ → List ℕ → Type 0
+StandAt bytes at words = bytes_of words ≡ take (8 * length words) (drop at bytes)
+
+-- the bytes begin with the name of a text and these fields
+abbrev pub BeginWith : List ℕ → List ℕ → Type 0
+BeginWith bytes fields =
+    (rest : List ℕ) × (bytes ≡ codes "HEXTREE1" ++ (bytes_of fields ++ rest))
+
+-- the fields are 64-bit numbers, and the bytes begin with the name of a text and them
+pub record AreFields (bytes fields : List ℕ) : Type 0 where
+  pub count : length fields ≡ FIELDS
+  pub words : AreWords fields
+  pub front : BeginWith bytes fields
+  pub long : FRONT_BYTES ≤ length bytes
+
+-- the bytes begin with the front of a text of this shape and so many words, and have as many: from
+-- all in front of the block area to all of the tree
+pub record IsFront (bytes : List ℕ) (s : Setting) (count : ℕ) : Type 0 where
+  pub setting : IsSetting s
+  pub front : BeginWith bytes (fields_of s count)
+  pub least : area_at s ≤ count
+  pub most : count ≤ end_of s
+  pub long : FRONT_BYTES + 8 * count ≤ length bytes
+
+-- the tree of what was read
+abbrev pub tree_of : Text → ClosedTree
+tree_of text = record { shape = text.shape; words = text.words.items }
+
+-- what was read is a tree as it is read, and the bytes begin with its text, of so many bytes
+pub record IsText (bytes : List ℕ) (text : Text) : Type 0 where
+  pub read : IsReadTree (tree_of text)
+  pub most : text.bytes ≤ length bytes
+  pub least : FRONT_BYTES ≤ text.bytes
+  pub begins : bytes ≡ trace_text (tree_of text) ++ drop text.bytes bytes

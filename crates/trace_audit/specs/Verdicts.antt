@@ -1,0 +1,68 @@
+-- Verdicts: what an audit says of bytes.
+use Rattle.std.specs.Prelude.{◌≡◌, ◌≢◌, ℕ, List, [], ◌∷◌, ◌++◌, length}
+use Rattle.std.specs.List.{flat_map}
+use Rattle.tree_words.specs.Settings.{Setting}
+use Rattle.tree_words.specs.Blocks.{LinkedBlock}
+use Rattle.tree_words.specs.Complete.{Linked}
+use Rattle.tree_words.specs.Records.{Recorded}
+use Rattle.tree_words.specs.Counts.{Exact}
+use Rattle.tree_words.specs.Growth.{Grown}
+use Rattle.tree_words.specs.Closing.{ClosedTree, IsClosed, KeepsEnds}
+use Rattle.trace_audit.specs.Traces.{trace_text}
+use Rattle.trace_audit.specs.Told.{IsReadTree}
+use Rattle.trace_audit.specs.declared.types.Audit.{Audit}
+use Rattle.trace_audit.specs.declared.types.Audit.TheVariants.{Yes, No}
+use Rattle.trace_audit.specs.declared.types.Flaw.{Flaw}
+use Rattle.trace_audit.specs.declared.types.Flaw.TheVariants.{BadForm, Block, Record, Count, End, Growth}
+
+-- the bytes begin with the text of this tree, as it is read
+pub record Begins (tree : ClosedTree) (bytes : List ℕ) : Type 0 where
+  pub read : IsReadTree tree
+  pub rest : List ℕ
+  pub text : bytes ≡ trace_text tree ++ rest
+
+-- the first point of the closed tree that fails: no list of blocks is linked, or such a list is
+-- and of the other points this is the first that fails
+abbrev pub FailsFirst : Setting → List ℕ → Flaw → Type 0
+FailsFirst s words BadForm = ⊥
+FailsFirst s words Block = (bs : List LinkedBlock) → ¬ (Linked s words bs)
+FailsFirst s words Record =
+    (bs : List LinkedBlock) × Linked s words bs × ¬ (Recorded s bs words)
+FailsFirst s words Count =
+    (bs : List LinkedBlock) × Linked s words bs × Recorded s bs words × ¬ (Exact s bs words)
+FailsFirst s words End =
+    (bs : List LinkedBlock) × Linked s words bs × Recorded s bs words × Exact s bs words
+    × ¬ (KeepsEnds s words)
+FailsFirst s words Growth =
+    (bs : List LinkedBlock) × Linked s words bs × Recorded s bs words × Exact s bs words
+    × KeepsEnds s words × ¬ (Grown s bs words)
+
+-- the first flaw of the bytes' first text: no text of a tree stands there, or the tree that is read
+-- there fails so
+abbrev pub HasFlaw : List ℕ → Flaw → Type 0
+HasFlaw bytes BadForm = (bytes ≢ []) × ((tree : ClosedTree) → ¬ (Begins tree bytes))
+HasFlaw bytes why =
+    (tree : ClosedTree) × Begins tree bytes × FailsFirst tree.shape tree.words why
+
+-- each of the trees is as it is read, and closed
+abbrev pub AreClosed : List ClosedTree → Type 0
+AreClosed [] = Unit {0}
+AreClosed (t ∷ ts) = IsReadTree t × IsClosed t.shape t.words × AreClosed ts
+
+-- the texts of the trees, one after another
+abbrev pub texts_of : List ClosedTree → List ℕ
+texts_of trees = flat_map trace_text trees
+
+-- the bytes are the texts of n closed trees, and then the rest
+pub record AreTexts (n : ℕ) (rest bytes : List ℕ) : Type 0 where
+  pub trees : List ClosedTree
+  pub count : length trees ≡ n
+  pub closed : AreClosed trees
+  pub text : bytes ≡ texts_of trees ++ rest
+
+-- the verdict on bytes: they are the texts of so many closed trees; or behind those of so many
+-- stands a text with this first flaw
+abbrev pub IsVerdict : List ℕ → Audit → Type 0
+IsVerdict bytes (Yes trees) = AreTexts trees [] bytes
+IsVerdict bytes (No tree why) =
+    (rest : List ℕ) × AreTexts tree rest bytes × HasFlaw rest why

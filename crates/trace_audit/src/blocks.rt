@@ -1,0 +1,79 @@
+//! A block of the words, compared with the one that its parent's board tells.
+
+ghost use Rattle.std.specs.Prelude.{◌≡◌, ℕ, ◌+◌, ◌<◌, ◌≤◌, ◌↔◌, IsTrue, MatchOption, length, slice_index, true};
+ghost use Rattle.tree_words.specs.Blocks.{is_header_or_move, size};
+ghost use Rattle.tree_words.specs.Words.{end_of};
+ghost use Rattle.tree_words.specs.Writing.{listed};
+ghost use Rattle.tree_words.specs.declared.layout.TheConstants.{MOST_BLOCK_WORDS};
+ghost use Rattle.trace_audit.specs.Tables.{Stands, block_at};
+
+use hex_board::Board;
+use hex_cells::CellSet;
+use tree_words::layout::{HEADER_WORDS, MOST_BLOCK_WORDS, NEXT_AT, NODE_WORDS, RECORDS_AT};
+use tree_words::{Shape, write_block};
+
+// Whether the words from `at` on are a block's: its header words and its moves.
+fn same_block(words: &[u64], at: usize, block: &[u64; MOST_BLOCK_WORDS], size: usize) -> bool
+    requires within { at + size ≤ length words.now }
+    requires few { size ≤ MOST_BLOCK_WORDS }
+    ensures { IsTrue result ↔ ((i : ℕ) → i < size → is_header_or_move i ≡ true
+        → slice_index words.now (at + i) ≡ slice_index block.now i) }
+{
+    'words: for i in 0..size {
+        if (i < HEADER_WORDS || i % NODE_WORDS == 0) && words[at + i] != block[i] {
+            return false;
+        }
+    }
+    true
+}
+
+// The cells of a block below a node with this board.
+fn cells_below(shape: &Shape, parent: usize, board: &Board) -> CellSet
+    requires { board.now.size ≡ shape.now.board.size }
+    ensures { listed board.now.size result
+        ≡ (block_at shape.now board.now parent 0).cells }
+{
+    let root = shape.knobs().playouts as usize + RECORDS_AT;
+    if parent == root {
+        shape.allowed()
+    } else {
+        board.empties()
+    }
+}
+
+/// The word after the block at `at` below a node with this board, where it stands there; `None`
+/// where it does not.
+pub(crate) fn block_end(
+    words: &[u64],
+    shape: &Shape,
+    at: usize,
+    parent: usize,
+    board: &Board,
+) -> Option<usize>
+    requires long { length words.now ≡ end_of shape.now }
+    requires at { at < length words.now }
+    requires size { board.now.size ≡ shape.now.board.size }
+    ensures { let b = block_at shape.now board.now parent at in
+        MatchOption result (¬ (Stands shape.now words.now b))
+        (λ end. Stands shape.now words.now b × (end ≡ at + size b)) }
+{
+    // What each shape keeps of itself.
+    let _board = shape.board();
+    let empties = board.empties();
+    let cells = cells_below(shape, parent, board);
+    let mut block = [0; MOST_BLOCK_WORDS];
+    let count = write_block(&mut block, 0, parent, empties, cells, board.size());
+    let size = HEADER_WORDS + NODE_WORDS * count;
+    let end = at + size;
+    if words.len() < end {
+        return None;
+    }
+    if words[NEXT_AT] < end as u64 {
+        return None;
+    }
+    if same_block(words, at, &block, size) {
+        Some(end)
+    } else {
+        None
+    }
+}

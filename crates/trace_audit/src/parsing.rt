@@ -1,0 +1,146 @@
+//! A text, read from bytes.
+
+ghost use Rattle.std.specs.Prelude.{◌≡◌, ℕ, ◌+◌, ◌*◌, ◌<◌, ◌≤◌, ◌^◌, List, MatchOption, IfOk, length, slice_index, take, drop};
+ghost use Rattle.std.specs.Int.{w64, to_le_bytes};
+ghost use Rattle.tree_words.specs.Closing.{ClosedTree};
+ghost use Rattle.tree_words.specs.Words.{area_at, end_of};
+ghost use Rattle.trace_audit.specs.Texts.{AreFields, BeginWith, IsFront, IsText, StandAt};
+ghost use Rattle.trace_audit.specs.Told.{AreWords};
+ghost use Rattle.trace_audit.specs.Verdicts.{Begins};
+
+use super::fields::shape_of;
+use super::refusals::Memory;
+use super::texts::{FIELDS, WORD_BYTES, written};
+use super::zeros::zeros;
+use std::alloc::Global;
+use tree_words::Shape;
+use tree_words::layout::FRONT_WORDS;
+
+/// The name of a text and its fields have so many bytes.
+const FRONT_BYTES: usize = WORD_BYTES + WORD_BYTES * FIELDS;
+
+/// The number of the words that follow is the last field.
+const COUNT_FIELD: usize = FIELDS - 1;
+
+/// What is read from a text: a shape, its words, and how many bytes the text has.
+#[derive(Drop)]
+pub(crate) struct Text {
+    pub(crate) shape: Shape,
+    pub(crate) words: Vec<u64>,
+    pub(crate) bytes: usize,
+}
+
+// The word that stands at this byte.
+fn word_at(bytes: &[u8], at: usize) -> u64
+    requires { at + 8 ≤ length bytes.now }
+    ensures bytes { to_le_bytes w64 result ≡ take 8 (drop at bytes.now) }
+    ensures range { result < 2 ^ 64 }
+{
+    u64::from_le_bytes([
+        bytes[at],
+        bytes[at + 1],
+        bytes[at + 2],
+        bytes[at + 3],
+        bytes[at + 4],
+        bytes[at + 5],
+        bytes[at + 6],
+        bytes[at + 7],
+    ])
+}
+
+// Reads so many words that stand from this byte on.
+fn read_words(bytes: &[u8], at: usize, words: &mut [u64], count: usize)
+    requires bytes { at + 8 * count ≤ length bytes.now }
+    requires room { count ≤ length words.old }
+    ensures long { length words.new ≡ length words.old }
+    ensures read { StandAt bytes.now at (take count words.new) }
+    ensures range { AreWords words.old → AreWords words.new }
+    ensures rest { (i : ℕ) → count ≤ i → slice_index words.new i ≡ slice_index words.old i }
+{
+    'words: for i in 0..count {
+        words[i] = word_at(bytes, at + WORD_BYTES * i);
+    }
+}
+
+// The fields of a text that begins so.
+fn fields_in(bytes: &[u8]) -> Option<[u64; FIELDS]>
+    ensures { MatchOption result
+        ((fields : List ℕ) → length fields ≡ FIELDS → ¬ (BeginWith bytes.now fields))
+        (λ fields. AreFields bytes.now fields) }
+{
+    if bytes.len() < FRONT_BYTES {
+        return None;
+    }
+    if !bytes.starts_with(b"HEXTREE1") {
+        return None;
+    }
+    let mut fields = [0; FIELDS];
+    read_words(bytes, WORD_BYTES, &mut fields, FIELDS);
+    Some(fields)
+}
+
+// How many words a text has whose shape and last field these are: from all in front of the block
+// area to all of the tree, and no more than the bytes behind the fields have.
+fn count_in(shape: &Shape, field: u64, bytes: usize) -> Option<usize>
+    ensures { MatchOption result
+        (¬ ((area_at shape.now ≤ field) × (field ≤ end_of shape.now) × (8 * field ≤ bytes)))
+        (λ count. (count ≡ field)
+        × ((area_at shape.now ≤ count) × (count ≤ end_of shape.now) × (8 * count ≤ bytes))) }
+{
+    let front = u64::from(shape.knobs().playouts) + FRONT_WORDS as u64;
+    if field < front || u64::from(shape.total()) < field {
+        return None;
+    }
+    let count = field as usize;
+    if bytes < WORD_BYTES * count {
+        return None;
+    }
+    Some(count)
+}
+
+// What the name and the fields of a text tell: its shape, and how many words follow.
+#[derive(Clone, Copy, Debug)]
+struct Front {
+    shape: Shape,
+    count: usize,
+}
+
+// The front of the text that the bytes begin with; `None` where they begin with none.
+fn read_front(bytes: &[u8]) -> Option<Front>
+    ensures { MatchOption result ((tree : ClosedTree) → ¬ (Begins tree bytes.now))
+        (λ front. IsFront bytes.now front.shape front.count) }
+{
+    let Some(fields) = fields_in(bytes) else {
+        return None;
+    };
+    let Some(shape) = shape_of(&fields) else {
+        return None;
+    };
+    // What each shape keeps of itself.
+    let _board = shape.board();
+    let Some(count) = count_in(&shape, fields[COUNT_FIELD], bytes.len() - FRONT_BYTES) else {
+        return None;
+    };
+    Some(Front { shape, count })
+}
+
+/// The text that the bytes begin with; `None` where they begin with none.
+pub(crate) fn read_text(alloc: Global, bytes: &[u8]) -> Result<Option<Text>, Memory>
+    ensures { IfOk result (λ read. MatchOption read
+        ((tree : ClosedTree) → ¬ (Begins tree bytes.now))
+        (λ text. IsText bytes.now text)) }
+{
+    let Some(front) = read_front(bytes) else {
+        return Ok(None);
+    };
+    let mut words = zeros(alloc, front.shape.total() as usize)?;
+    read_words(bytes, FRONT_BYTES, &mut words, front.count);
+    if written(&words) != front.count {
+        return Ok(None);
+    }
+    Ok(Some(Text {
+        shape: front.shape,
+        words,
+        bytes: FRONT_BYTES + WORD_BYTES * front.count,
+    }))
+}
