@@ -1,15 +1,33 @@
 -- Which reasons may stand against each form of line, in their order.
-use Rattle.std.proofs.Common.{◌≡◌, ℕ, List, Option, Some, None, Bool, true, false, refl, if◌then◌else◌}
+use Rattle.std.proofs.Common.{◌≡◌, ℕ, List, [], ◌∷◌, ◌==◌, ◌&&◌, ◌||◌, not, Option, Some, None, Bool, true, false, refl, sym, ◌∙◌, ap, if◌then◌else◌}
+use Rattle.std.specs.List.{list_all}
+use Rattle.std.proofs.lemmas.Bool.{and_parts, false≢true, true≢false}
 use Rattle.conn_store.specs.declared.entries.Kind.{Kind}
-use Rattle.win_cert.specs.Entries.{Context}
+use Rattle.conn_store.specs.declared.entries.Kind.TheVariants.{Full, Semi}
+use Rattle.win_cert.specs.Entries.{Context, entries_at, entry_at, gives, or_entry}
 use Rattle.win_cert.specs.Reasons.{Reason, reason_against, is_bad_reference, is_bad_stone, is_wrong_scope, is_wrong_colour, are_not_neighbours, has_no_middle, do_carriers_meet, is_end_in_carrier, is_middle_wrong, do_ends_differ, is_cell_common, is_no_edge_entry, is_not_joined, bad_reference, wrong_colour, not_neighbours, no_common_middle, carriers_meet, end_in_carrier, middle_kind, ends_differ, common_cell, not_edges, bad_stone, wrong_scope, not_joined}
-use Rattle.win_cert.specs.Statements.{Statement, claim, derivation}
+use Rattle.win_cert.specs.Statements.{Statement, claim, derivation, have_same_ends, may_take, share_cell}
 use Rattle.win_cert.specs.declared.lines.End.{End}
+use Rattle.win_cert.specs.declared.lines.Line.{Line}
 use Rattle.win_cert.specs.declared.lines.Line.TheVariants.{Adj, And, Key, Or2, Or3, Put, Done, Move, Cases}
+use Rattle.cert_check.specs.Keeping.{IsOrOf, Takes, chain_line}
 
 -- the reason, where the test holds, and else another
 abbrev pub told : Bool → Reason → Option Reason → Option Reason
 told test reason other = if test then Some reason else other
+
+pub told_first : (b : Bool) (r : Reason) (o : Option Reason) → b ≡ true → told b r o ≡ Some r
+told_first true r o h = refl
+told_first false r o h = absurd (false≢true h)
+
+pub told_next : (b : Bool) (r : Reason) (o p : Option Reason) → b ≡ false → o ≡ p → told b r o ≡ p
+told_next true r o p h e = absurd (true≢false h)
+told_next false r o p h e = e
+
+-- no reason is told where the test fails
+pub told_none : (b : Bool) (r : Reason) (o : Option Reason) → told b r o ≡ None → b ≡ false
+told_none true r o h = absurd (cc)
+told_none false r o h = refl
 
 pub put_reasons : (c : Context) (cells : ℕ)
     → reason_against c (derivation (Put cells)) ≡ told (is_bad_stone c (derivation (Put cells))) bad_stone None
@@ -25,3 +43,80 @@ pub adj_reasons : (c : Context) (x y : End)
     → reason_against c (derivation (Adj x y)) ≡ told (is_wrong_colour c (derivation (Adj x y))) wrong_colour (told (are_not_neighbours c (derivation (Adj x y))) not_neighbours None)
 unfolding reason_against
 adj_reasons c x y = refl
+
+pub move_reasons : (c : Context) (k i : ℕ)
+    → reason_against c (derivation (Move k i)) ≡ told (is_bad_reference c (derivation (Move k i))) bad_reference (told (is_bad_stone c (derivation (Move k i))) bad_stone (told (is_wrong_scope c (derivation (Move k i))) wrong_scope (told (is_no_edge_entry c (derivation (Move k i))) not_edges None)))
+unfolding reason_against
+move_reasons c k i = refl
+
+pub cases_reasons : (c : Context) (numbers : List ℕ)
+    → reason_against c (derivation (Cases numbers)) ≡ told (is_bad_reference c (derivation (Cases numbers))) bad_reference (told (is_wrong_scope c (derivation (Cases numbers))) wrong_scope (told (is_cell_common c (derivation (Cases numbers))) common_cell (told (is_no_edge_entry c (derivation (Cases numbers))) not_edges None)))
+unfolding reason_against
+cases_reasons c numbers = refl
+
+pub claim_reasons : (c : Context) (kind : Kind) (i : ℕ)
+    → reason_against c (claim kind i) ≡ told (is_bad_reference c (claim kind i)) bad_reference (told (is_wrong_scope c (claim kind i)) wrong_scope (told (is_no_edge_entry c (claim kind i)) not_edges None))
+unfolding reason_against
+claim_reasons c kind i = refl
+
+pub chain_reasons : (c : Context) (over_cell : Bool) (i j : ℕ)
+    → reason_against c (derivation (chain_line over_cell i j)) ≡ told (is_bad_reference c (derivation (chain_line over_cell i j))) bad_reference (told (is_wrong_scope c (derivation (chain_line over_cell i j))) wrong_scope (told (has_no_middle c (derivation (chain_line over_cell i j))) no_common_middle (told (do_carriers_meet c (derivation (chain_line over_cell i j))) carriers_meet (told (is_end_in_carrier c (derivation (chain_line over_cell i j))) end_in_carrier (told (is_middle_wrong c (derivation (chain_line over_cell i j))) middle_kind None)))))
+unfolding reason_against
+chain_reasons c true i j = refl
+chain_reasons c false i j = refl
+
+-- the reason against an `or` of these numbers
+abbrev pub or_reason : Context → Statement → List ℕ → Option Reason
+or_reason c s numbers =
+    told (not (list_all (λ i. may_take s (entry_at c i)) numbers)) bad_reference
+    (told (not (list_all (λ a. a.scope == c.scope) (entries_at c numbers))) wrong_scope
+    (told (not (have_same_ends (entries_at c numbers))) ends_differ
+    (told (share_cell (entries_at c numbers)) common_cell None)))
+
+or_two : (c : Context) (i j : ℕ) → reason_against c (derivation (Or2 i j)) ≡ or_reason c (derivation (Or2 i j)) (i ∷ j ∷ [])
+unfolding reason_against
+or_two c i j = refl
+
+or_three : (c : Context) (i j k : ℕ) → reason_against c (derivation (Or3 i j k)) ≡ or_reason c (derivation (Or3 i j k)) (i ∷ j ∷ k ∷ [])
+unfolding reason_against
+or_three c i j k = refl
+
+pub or_reasons : (c : Context) (line : Line) (numbers : List ℕ) → IsOrOf line numbers → reason_against c (derivation line) ≡ or_reason c (derivation line) numbers
+or_reasons c (Or2 i j) numbers h = or_two c i j ∙ ap (or_reason c (derivation (Or2 i j))) h.1
+or_reasons c (Or3 i j k) numbers h = or_three c i j k ∙ ap (or_reason c (derivation (Or3 i j k))) h.1
+or_reasons c (Adj x y) numbers h = absurd (false≢true h.0)
+or_reasons c (And i j) numbers h = absurd (false≢true h.0)
+or_reasons c (Key i j) numbers h = absurd (false≢true h.0)
+or_reasons c (Put cells) numbers h = absurd (false≢true h.0)
+or_reasons c Done numbers h = absurd (false≢true h.0)
+or_reasons c (Move k i) numbers h = absurd (false≢true h.0)
+or_reasons c (Cases ns) numbers h = absurd (false≢true h.0)
+
+pub or_takes : (line : Line) (numbers : List ℕ) → IsOrOf line numbers → Takes (derivation line) Semi true
+or_takes (Or2 i j) numbers h = (refl, refl)
+or_takes (Or3 i j k) numbers h = (refl, refl)
+or_takes (Adj x y) numbers h = absurd (false≢true h.0)
+or_takes (And i j) numbers h = absurd (false≢true h.0)
+or_takes (Key i j) numbers h = absurd (false≢true h.0)
+or_takes (Put cells) numbers h = absurd (false≢true h.0)
+or_takes Done numbers h = absurd (false≢true h.0)
+or_takes (Move k i) numbers h = absurd (false≢true h.0)
+or_takes (Cases ns) numbers h = absurd (false≢true h.0)
+
+pub or_gives : (c : Context) (line : Line) (numbers : List ℕ) → IsOrOf line numbers → gives c line ≡ or_entry c (entries_at c numbers)
+or_gives c (Or2 i j) numbers h = ap (λ l. or_entry c (entries_at c l)) h.1
+or_gives c (Or3 i j k) numbers h = ap (λ l. or_entry c (entries_at c l)) h.1
+or_gives c (Adj x y) numbers h = absurd (false≢true h.0)
+or_gives c (And i j) numbers h = absurd (false≢true h.0)
+or_gives c (Key i j) numbers h = absurd (false≢true h.0)
+or_gives c (Put cells) numbers h = absurd (false≢true h.0)
+or_gives c Done numbers h = absurd (false≢true h.0)
+or_gives c (Move k i) numbers h = absurd (false≢true h.0)
+or_gives c (Cases ns) numbers h = absurd (false≢true h.0)
+
+-- an entry that a statement may take is there
+pub missing : (c : Context) (s : Statement) (i : ℕ) (rest : List ℕ) → list_all (λ k. may_take s (entry_at c k)) (i ∷ rest) ≡ true → entry_at c i ≡ None → ⊥
+missing c s i rest h e = false≢true (sym (ap (λ o. may_take s o && list_all (λ k. may_take s (entry_at c k)) rest) e) ∙ h)
+
+pub missing_next : (c : Context) (s : Statement) (i j : ℕ) (rest : List ℕ) → list_all (λ k. may_take s (entry_at c k)) (i ∷ j ∷ rest) ≡ true → entry_at c j ≡ None → ⊥
+missing_next c s i j rest h e = missing c s j rest (and_parts (may_take s (entry_at c i)) (list_all (λ k. may_take s (entry_at c k)) (j ∷ rest)) h).1 e

@@ -1,8 +1,7 @@
 -- What the checker keeps between two lines.
-use Rattle.std.specs.Prelude.{◌≡◌, ℕ, ◌<◌, ◌||◌, ◌++◌, ◌∷◌, ◌^◌, [], Bool, true, false}
+use Rattle.std.specs.Prelude.{◌≡◌, ℕ, ◌<◌, ◌||◌, ◌++◌, ◌∷◌, [], Bool, true, false}
 use Rattle.std.specs.Prelude.{List, Option, Some, None, Result, Ok, Err, All, map}
 use Rattle.std.specs.Option.{option_map}
-use Rattle.hex_cells.specs.declared.board_size.TheConstants.{MOST_CELLS}
 use Rattle.hex_cells.specs.declared.colours.Colour.{Colour}
 use Rattle.conn_store.specs.declared.entries.Kind.{Kind}
 use Rattle.hex_board.specs.Elements.{PlayerBoard, element_count}
@@ -12,7 +11,7 @@ use Rattle.win_cert.specs.Reasons.{is_bad_reference, is_wrong_scope, reason_agai
 use Rattle.win_cert.specs.Scopes.{elements_in, scope_after}
 use Rattle.win_cert.specs.Statements.{Statement, claim, derivation, is_chain, is_edge_entry, is_or, kind_taken, numbers_in}
 use Rattle.win_cert.specs.declared.lines.Line.{Line}
-use Rattle.win_cert.specs.declared.lines.Line.TheVariants.{And, Cases, Key}
+use Rattle.win_cert.specs.declared.lines.Line.TheVariants.{And, Key}
 use Rattle.cert_check.specs.Answers.{reason_of}
 use Rattle.cert_check.specs.declared.given.Given.{Given}
 use Rattle.cert_check.specs.declared.verdicts.Why.{Why}
@@ -72,10 +71,6 @@ chain_line false i j = And i j
 abbrev pub IsOrOf : Line → List ℕ → Type 0
 IsOrOf line numbers = (is_or (derivation line) ≡ true) × (numbers_in (derivation line) ≡ numbers)
 
--- the line is a `cases` of these numbers
-abbrev pub IsCasesOf : Line → List ℕ → Type 0
-IsCasesOf line numbers = line ≡ Cases numbers
-
 -- a and b are the entries that `and` or `key` names: there are such, and they stand in the scope
 pub record AreNamed (c : Context) (over_cell : Bool) (i j : ℕ) (a b : Given) : Type 0 where
   pub first : entry_at c i ≡ Some (entry_of a)
@@ -92,7 +87,6 @@ pub record IsChecker (base : PlayerBoard) (scope : ℕ) (board : Position) (elem
     (given : List (Option Given)) : Type 0 where
   pub is_board : board ≡ (elements_in base scope).board
   pub are_elements : elements ≡ elements_in base scope
-  pub small : scope < 2 ^ MOST_CELLS
   pub are_given : All (IsGivenOnIf base) given
 
 -- what the next line is read over

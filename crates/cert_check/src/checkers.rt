@@ -78,6 +78,7 @@ impl Checker {
             return Err(Memory);
         }
         if let Line::Put(cells) = line {
+            let _bits = cells.bits();
             self.scope = *cells;
             self.board = with_stones(&self.base, self.player, *cells);
             self.elements = self.board.elements(self.player);

@@ -1,11 +1,12 @@
 //! What each line gives, and the first reason against it.
 
-ghost use Rattle.std.specs.Prelude.{◌≡◌, ℕ, ◌<◌, ◌↔◌, true, None, IfSome};
+ghost use Rattle.std.specs.Prelude.{◌≡◌, ℕ, ◌<◌, ◌↔◌, ◌||◌, ◌∷◌, true, None, List, IfSome};
 ghost use Rattle.hex_board.specs.Elements.{element_count};
 ghost use Rattle.win_cert.specs.Entries.{elements_at, edge_entry, end_element, entry_between};
 ghost use Rattle.win_cert.specs.Statements.{is_cell_in, is_other_stone};
 ghost use Rattle.win_cert.specs.Writable.{IsEndOn, IsLineOf};
-ghost use Rattle.cert_check.specs.Keeping.{AllowsLine, AreNamed, DerivesLine, IsCasesOf, IsGivenOn};
+ghost use Rattle.win_cert.specs.declared.lines.Line.{Line};
+ghost use Rattle.cert_check.specs.Keeping.{AllowsLine, AreNamed, DerivesLine, IsGivenOn};
 ghost use Rattle.cert_check.specs.Keeping.{IsOrOf, ReadsClaim, ReadsLine, chain_line, entry_of};
 
 use super::checkers::Checker;
@@ -25,15 +26,15 @@ impl Checker {
             Line::Adj(x, y) => self.adj(*x, *y)?,
             Line::And(i, j) => self.chain(*i, *j, false)?,
             Line::Key(i, j) => self.chain(*i, *j, true)?,
-            Line::Or2(i, j) => self.either(line, &[*i, *j])?,
-            Line::Or3(i, j, k) => self.either(line, &[*i, *j, *k])?,
+            Line::Or2(i, j) => self.either(*i, &[*i, *j])?,
+            Line::Or3(i, j, k) => self.either(*i, &[*i, *j, *k])?,
             Line::Put(cells) => {
                 self.put(*cells)?;
                 return Ok(None);
             }
             Line::Done => self.done()?,
             Line::Move(cell, i) => self.after_move(*cell, *i)?,
-            Line::Cases(numbers) => self.cases(line, numbers.as_slice())?,
+            Line::Cases(numbers) => self.cases(numbers.as_slice())?,
         };
         Ok(Some(given))
     }
@@ -85,16 +86,16 @@ impl Checker {
         requires y { IsEndOn self.now.base.board.size y }
         ensures { DerivesLine self.now (Line.Adj x y) result }
     {
-        match (self.element(x), self.element(y)) {
-            (Some(a), Some(b)) => {
-                if self.elements.near(a, b) {
-                    Ok(self.between(Kind::Full, a, b, CellSet::none()))
-                } else {
-                    Err(Why::NotNeighbours)
-                }
-            }
-            _ => Err(Why::WrongColour),
+        let Some(a) = self.element(x) else {
+            return Err(Why::WrongColour);
+        };
+        let Some(b) = self.element(y) else {
+            return Err(Why::WrongColour);
+        };
+        if !self.elements.near(a, b) {
+            return Err(Why::NotNeighbours);
         }
+        Ok(self.between(Kind::Full, a, b, CellSet::none()))
     }
 
     // Whether an element is an empty cell in the set.
@@ -119,16 +120,63 @@ impl Checker {
         if !self.are_in_scope(&numbers, self.scope) {
             return Err(Why::WrongScope);
         }
-        match (self.entry(i), self.entry(j)) {
-            (Some(a), Some(b)) => self.join(i, j, over_cell, &a, &b),
-            _ => Err(Why::BadReference),
+        let Some(a) = self.entry(i) else {
+            return Err(Why::BadReference);
+        };
+        let Some(b) = self.entry(j) else {
+            return Err(Why::BadReference);
+        };
+        self.join(i, j, over_cell, &a, &b)
+    }
+
+    // `and` or `key` of two full entries of the scope, each of two elements.
+    fn join(&self, i: u32, j: u32, over_cell: bool, a: &Given, b: &Given) -> Result<Given, Why>
+        requires named { AreNamed self.now over_cell i j a.now b.now }
+        ensures { DerivesLine self.now (chain_line over_cell i j) result }
+    {
+        let Some(middle) = a.middle(b) else {
+            return Err(Why::NoCommonMiddle);
+        };
+        if self.shares_cell(&[i, j]) {
+            return Err(Why::CarriersMeet);
+        }
+        let (x, y) = (a.other_end(middle), b.other_end(middle));
+        if self.is_either_in(x, b.carrier, y, a.carrier) {
+            return Err(Why::EndInCarrier);
+        }
+        let cells = a.carrier.union(b.carrier);
+        match self.elements.cell(middle) {
+            Some(cell) => {
+                if over_cell {
+                    Ok(self.between(Kind::Semi, x, y, cells.with(cell)))
+                } else {
+                    Err(Why::MiddleKind)
+                }
+            }
+            None => {
+                if over_cell {
+                    Err(Why::MiddleKind)
+                } else {
+                    Ok(self.between(Kind::Full, x, y, cells))
+                }
+            }
         }
     }
 
-    // `either`: two or three semi entries of the same elements.
-    fn either(&self, line: &Line, numbers: &[u32]) -> Result<Given, Why>
-        requires { IsOrOf line.now numbers.now }
-        ensures { DerivesLine self.now line.now result }
+    // Whether element x is an empty cell in a, or y one in b.
+    fn is_either_in(&self, x: u8, a: CellSet, y: u8, b: CellSet) -> bool
+        requires x { x < element_count (elements_at self.now) }
+        requires y { y < element_count (elements_at self.now) }
+        ensures { result ≡ (is_cell_in (elements_at self.now) x a
+            || is_cell_in (elements_at self.now) y b) }
+    {
+        self.is_cell_in(x, a) || self.is_cell_in(y, b)
+    }
+
+    // `or`: two or three semi entries of the same elements.
+    fn either(&self, first: u32, numbers: &[u32]) -> Result<Given, Why>
+        requires { (rest : List ℕ) × (numbers.now ≡ first ∷ rest) }
+        ensures { (line : Line) → IsOrOf line numbers.now → DerivesLine self.now line result }
     {
         if !self.takes_all(numbers, Kind::Semi, true) {
             return Err(Why::BadReference);
@@ -136,7 +184,7 @@ impl Checker {
         if !self.are_in_scope(numbers, self.scope) {
             return Err(Why::WrongScope);
         }
-        let Some(a) = self.entry(numbers[0]) else {
+        let Some(a) = self.entry(first) else {
             return Err(Why::BadReference);
         };
         if !self.have_ends_of(&a, numbers) {
@@ -148,33 +196,11 @@ impl Checker {
         Ok(self.between(Kind::Full, a.x, a.y, self.carriers(numbers)))
     }
 
-    // `and` or `key` of two full entries of the scope, each of two elements.
-    fn join(&self, i: u32, j: u32, over_cell: bool, a: &Given, b: &Given) -> Result<Given, Why>
-        requires named { AreNamed self.now over_cell i j a.now b.now }
-        ensures { DerivesLine self.now (chain_line over_cell i j) result }
-    {
-        let Some(middle) = a.middle(b) else {
-            return Err(Why::NoCommonMiddle);
-        };
-        if a.carrier.meets(b.carrier) {
-            return Err(Why::CarriersMeet);
-        }
-        let (x, y) = (a.other_end(middle), b.other_end(middle));
-        if self.is_cell_in(x, b.carrier) || self.is_cell_in(y, a.carrier) {
-            return Err(Why::EndInCarrier);
-        }
-        let cells = a.carrier.union(b.carrier);
-        match (self.elements.cell(middle), over_cell) {
-            (Some(cell), true) => Ok(self.between(Kind::Semi, x, y, cells.with(cell))),
-            (None, false) => Ok(self.between(Kind::Full, x, y, cells)),
-            _ => Err(Why::MiddleKind),
-        }
-    }
-
     // `put`.
     fn put(&self, cells: CellSet) -> Result<(), Why>
         ensures { AllowsLine self.now (Line.Put cells) result }
     {
+        let _bits = cells.bits();
         if cells.inside(self.base.empties()) {
             Ok(())
         } else {
@@ -211,13 +237,15 @@ impl Checker {
         if !self.are_of_edges(&numbers) {
             return Err(Why::NotEdges);
         }
-        Ok(self.of_edges(Kind::Semi, self.carriers(&numbers).with(cell)))
+        match self.entry(i) {
+            Some(given) => Ok(self.of_edges(Kind::Semi, given.carrier.with(cell))),
+            None => Err(Why::BadReference),
+        }
     }
 
     // `cases`.
-    fn cases(&self, line: &Line, numbers: &[u32]) -> Result<Given, Why>
-        requires { IsCasesOf line.now numbers.now }
-        ensures { DerivesLine self.now line.now result }
+    fn cases(&self, numbers: &[u32]) -> Result<Given, Why>
+        ensures { DerivesLine self.now (Line.Cases numbers.now) result }
     {
         if !self.takes_all(numbers, Kind::Semi, false) {
             return Err(Why::BadReference);

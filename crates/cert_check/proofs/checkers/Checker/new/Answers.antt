@@ -1,6 +1,6 @@
-use Rattle.std.proofs.Common.{◌≡◌, refl, sym, ◌∙◌, ap, ℕ, ◌^◌, ◌<◌, arith, subst}
-use Rattle.hex_board.specs.Elements.{PlayerBoard}
-use Rattle.win_cert.specs.Scopes.{elements_in, with_stones}
+use Rattle.std.proofs.Common.{◌≡◌, All, sym, ◌∙◌, ap, subst, arith}
+use Rattle.win_cert.specs.Scopes.{with_stones}
+use Rattle.cert_check.specs.Keeping.{IsGivenOnIf}
 use Rattle.cert_check.proofs.Boards.{with_none}
 use Rattle.cert_check.proofs.checkers.Checker.new.Goals as goal
 
@@ -12,6 +12,5 @@ invariant_of-result c =
     record {
       is_board = e;
       are_elements = c.elements.ensures ∙ ap (λ (q : _). record { board = q; player = p }) e;
-      small = c.none.type_inv;
-      are_given = ?;
+      are_given = subst (All (IsGivenOnIf (record { board = b; player = p }))) (sym c.in_ok-with_capacity.ensures.items) (λ k d l. absurd (omega (arith, l)));
     }

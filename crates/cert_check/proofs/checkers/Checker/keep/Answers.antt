@@ -1,0 +1,36 @@
+use Rattle.std.proofs.Common.{◌≡◌, ℕ, All, ◌++◌, ◌∷◌, [], Some, None, refl, ap, sym, ◌∙◌, subst, true, arith}
+use Rattle.std.proofs.lemmas.List.Elements.{All-append}
+use Rattle.hex_board.specs.Elements.{PlayerBoard}
+use Rattle.hex_board.specs.Positions.{is_empty_at}
+use Rattle.win_cert.specs.Reasons.{reason_against}
+use Rattle.win_cert.specs.Statements.{derivation}
+use Rattle.cert_check.specs.Keeping.{IsGivenOnIf}
+use Rattle.cert_check.proofs.BadStones.{none_in, small_set}
+use Rattle.cert_check.proofs.ReasonLaws.{put_reasons, told_none}
+use Rattle.cert_check.proofs.checkers.Checker.keep.Goals as goal
+
+pub with_stones-self-inside-requires : goal.with_stones-self-inside-requires
+with_stones-self-inside-requires c k t =
+    let now = c.args.self.now in
+    let clear = told_none _ _ _ (sym (put_reasons now c.in-Put.cells) ∙ ap (λ l. reason_against now (derivation l)) (sym c.in-Put.is) ∙ c.requires.0) in
+    ap (λ n. is_empty_at n.base.board k) c.self.view_is
+    ∙ none_in now.base.board c.in-Put.cells k (small_set c.in-Put.cells c.bits-bits.result c.bits-bits.ensures.value c.bits-bits.ensures.range k) clear t
+
+pub invariant_of-self-in-Put : goal.invariant_of-self-in-Put
+invariant_of-self-in-Put c =
+    let base : PlayerBoard = record { board = c.self.inside.base; player = c.self.inside.player } in
+    let given : All (IsGivenOnIf base) (c.self.inside.given.items ++ c.args.given ∷ []) = All-append (IsGivenOnIf base) c.self.inside.given.items (c.args.given ∷ []) c.self.invariant.are_given ? in
+    record {
+      is_board = c.with_stones-self-inside.ensures;
+      are_elements = c.elements-self-inside.ensures ∙ ap (λ (p : _). record { board = p; player = c.self.inside.player }) c.with_stones-self-inside.ensures;
+      are_given = ?;
+    }
+
+pub invariant_of-self-in_default : goal.invariant_of-self-in_default
+invariant_of-self-in_default c =
+    let base : PlayerBoard = record { board = c.self.inside.base; player = c.self.inside.player } in
+    record {
+      is_board = c.self.invariant.is_board;
+      are_elements = c.self.invariant.are_elements;
+      are_given = ?;
+    }
