@@ -14,7 +14,7 @@ use Rattle.htp_session.proofs.InputLaws.{took_at_most, took_nothing}
 use Rattle.hexd_words.specs.declared.settings.Mode.TheVariants as modes
 use Rattle.hex_cli.specs.Inputs.{mode_of}
 use Rattle.hex_cli.specs.declared.inputs.InputMode.{InputMode}
-use Rattle.hex_cli.specs.declared.inputs.InputMode.TheVariants.{Check, Migrate}
+use Rattle.hex_cli.specs.declared.inputs.InputMode.TheVariants.{Check, Migrate, Audit}
 use Rattle.hex_cli.specs.Statuses.{end_of_answer, status_of}
 use Rattle.hex_cli.specs.declared.ends.End.{End}
 use Rattle.hex_cli.specs.declared.ends.End.TheVariants.{Done, Rejected, Usage, Stopped}
@@ -105,12 +105,18 @@ answer_counts before now answer stop end e c = record {
 pub not_htp : (mode : InputMode) → mode_of mode ≢ modes.Htp
 not_htp Check e = absurd (cc)
 not_htp Migrate e = absurd (cc)
+not_htp Audit e = absurd (cc)
 
 pub same_mode : (a b : InputMode) → mode_of a ≡ mode_of b → a ≡ b
 same_mode Check Check e = refl
 same_mode Check Migrate e = absurd (cc)
+same_mode Check Audit e = absurd (cc)
 same_mode Migrate Check e = absurd (cc)
 same_mode Migrate Migrate e = refl
+same_mode Migrate Audit e = absurd (cc)
+same_mode Audit Check e = absurd (cc)
+same_mode Audit Migrate e = absurd (cc)
+same_mode Audit Audit e = refl
 
 -- before the first read nothing was taken
 pub input_nothing : (Answers : TextOf) (limit : ℕ) (x : Option Told) → AnswersInput Answers x x limit (Err Memory)

@@ -19,7 +19,7 @@ use Rattle.hexd_words.specs.declared.settings.Mode.TheVariants.{Htp}
 use Rattle.hexd_words.specs.declared.settings.Mode.TheVariants as modes
 use Rattle.hex_cli.specs.Inputs.{mode_of}
 use Rattle.hex_cli.specs.declared.inputs.InputMode.{InputMode}
-use Rattle.hex_cli.specs.declared.inputs.InputMode.TheVariants.{Check, Migrate}
+use Rattle.hex_cli.specs.declared.inputs.InputMode.TheVariants.{Check, Migrate, Audit}
 use Rattle.hex_cli.specs.declared.ends.End.{End}
 use Rattle.hex_cli.specs.declared.ends.End.TheVariants.{Done, Rejected, Usage, Stopped}
 
@@ -121,3 +121,4 @@ pub by_mode : (mode : Mode) → (mode ≡ Htp) ⊎ ((input : InputMode) × (mode
 by_mode Htp = inl refl
 by_mode modes.Check = inr (Check, refl)
 by_mode modes.Migrate = inr (Migrate, refl)
+by_mode modes.Audit = inr (Audit, refl)

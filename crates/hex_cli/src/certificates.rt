@@ -1,13 +1,13 @@
 //! Modes `check` and `migrate`: what they answer to the bytes of a certificate.
 
-ghost use Rattle.std.specs.Prelude.{◌≡◌, ◌≢◌, ◌++◌, true, false, IfOk, OnOk};
-ghost use Rattle.std.specs.Fmt.{decimal};
+ghost use Rattle.std.specs.Prelude.{◌≡◌, ◌≢◌, true, false, IfOk};
 ghost use Rattle.win_cert.specs.Texts.{cert_text};
 ghost use Rattle.win_cert.specs.Verdicts.{raised};
 ghost use Rattle.win_cert.specs.Writable.{IsWritable};
 ghost use Rattle.hex_cli.specs.CertTexts.{IsCheckText, IsMigrateText, is_yes, refusal_text};
 ghost use Rattle.hex_cli.specs.CertTexts.{verdict_text};
 
+use crate::numbers::push_number;
 use cert_check::{Verdict, check};
 use conn_store::Kind;
 use htp_session::InputAnswer;
@@ -116,10 +116,4 @@ fn answer_of(alloc: Global, text: &[u8], accepted: bool) -> Result<InputAnswer, 
         text: text.to_vec(alloc)?,
         accepted,
     })
-}
-
-fn push_number(alloc: Global, text: &mut Vec<u8>, number: u32) -> Result<(), AllocError>
-    ensures { OnOk result (text.new.items ≡ text.old.items ++ decimal number) }
-{
-    text.extend_from_slice(number.to_string(alloc)?.as_bytes())
 }

@@ -9,6 +9,7 @@ ghost use Rattle.hex_cli.specs.Runs.{CountsReads, CountsWrites};
 ghost use Rattle.hex_cli.specs.declared.ends.End.{End};
 ghost use Rattle.hex_cli.specs.declared.limits.TheConstants.{INPUT_LIMIT};
 
+use crate::audits::audit_answer;
 use crate::certificates::{check_answer, migrate_answer};
 use crate::ends::End;
 use crate::limits::INPUT_LIMIT;
@@ -24,6 +25,8 @@ pub enum InputMode {
     Check,
     /// It is written as a certificate of the latest version.
     Migrate,
+    /// It is audited as traces of closed trees.
+    Audit,
 }
 
 impl InputMode {
@@ -35,6 +38,7 @@ impl InputMode {
             Mode::Htp => None,
             Mode::Check => Some(InputMode::Check),
             Mode::Migrate => Some(InputMode::Migrate),
+            Mode::Audit => Some(InputMode::Audit),
         }
     }
 }
@@ -48,6 +52,7 @@ impl InputReader for InputMode {
         match self {
             InputMode::Check => check_answer(alloc, input),
             InputMode::Migrate => migrate_answer(alloc, input),
+            InputMode::Audit => audit_answer(alloc, input),
         }
     }
 }

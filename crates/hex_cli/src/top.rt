@@ -70,10 +70,11 @@ pub fn run<L: Link, E: Link, F: Shelf, A: Archive>(
     ensures determined { Determines L.Link F.Shelf words.now result
         link.old link.new shelf.old shelf.new }
 
-    // Modes check and migrate: the whole input was taken, and its text given; the status says
+    // Modes check, migrate and audit: the whole input was taken, and its text given; the status says
     // whether it was accepted. Shelf and archive stand idle.
     ensures checked { AnswersBy L.Link InputMode.Check words.now result link.old link.new }
     ensures migrated { AnswersBy L.Link InputMode.Migrate words.now result link.old link.new }
+    ensures audited { AnswersBy L.Link InputMode.Audit words.now result link.old link.new }
     ensures idle { IsIdleInMode F.Shelf A.Archive words.now
         shelf.old shelf.new archive.old archive.new }
 

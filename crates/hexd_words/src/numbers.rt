@@ -79,6 +79,7 @@ pub fn mode(word: Option<&str>) -> Option<Mode>
         "htp" => Some(Mode::Htp),
         "check" => Some(Mode::Check),
         "migrate" => Some(Mode::Migrate),
+        "audit" => Some(Mode::Audit),
         _ => None,
     }
 }

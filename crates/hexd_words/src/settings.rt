@@ -11,6 +11,8 @@ pub enum Mode {
     Check,
     /// It writes a certificate in the latest version. Its word is `migrate`.
     Migrate,
+    /// It audits traces of closed trees. Its word is `audit`.
+    Audit,
 }
 
 /// The mode, and the value of each option, given or default.

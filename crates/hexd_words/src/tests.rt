@@ -192,7 +192,8 @@ fn takes_lines(rt: HostRuntime) -> Result<(), Fail> {
 fn takes_modes(rt: HostRuntime) -> Result<(), Fail> {
     let table = [
         ("--seed 1 migrate", Mode::Migrate),
-        ("-- check", Mode::Check),
+        ("check", Mode::Check),
+        ("-- audit", Mode::Audit),
     ];
     for (line, mode) in table {
         let options = read(rt.alloc(), line)?.ok_or("refused")?;

@@ -4,7 +4,7 @@ use Rattle.hex_io.specs.Reported.{Reported}
 use Rattle.hex_cli.specs.Inputs.{IsTextOf}
 use Rattle.hex_cli.specs.Modes.{AnswersTo, engine_options}
 use Rattle.hex_cli.specs.declared.ends.End.{End}
-use Rattle.hex_cli.specs.declared.inputs.InputMode.TheVariants.{Check, Migrate}
+use Rattle.hex_cli.specs.declared.inputs.InputMode.TheVariants.{Check, Migrate, Audit}
 use Rattle.hex_cli.proofs.InputEnds.{input_complete, input_too_long}
 use Rattle.htp_session.specs.declared.stops.Stop.TheVariants.{ReadFault, WriteFault, ArchiveFault}
 use Rattle.hex_cli.specs.declared.ends.End.TheVariants.{Usage, Done, Stopped}
@@ -44,6 +44,10 @@ returns-clause-checked g c = λ end e options well_formed is.
 pub returns-clause-migrated : goal.returns-clause-migrated
 returns-clause-migrated g c = λ end e options well_formed is.
     subst (λ (x : End). AnswersTo g.L.Link (IsTextOf Migrate) x c.args.link.now c.serve-end.new.link) (same_end c.serve-end.result end (sym c.status.ensures ∙ e)) (c.serve-end.ensures.answers Migrate options well_formed is)
+
+pub returns-clause-audited : goal.returns-clause-audited
+returns-clause-audited g c = λ end e options well_formed is.
+    subst (λ (x : End). AnswersTo g.L.Link (IsTextOf Audit) x c.args.link.now c.serve-end.new.link) (same_end c.serve-end.result end (sym c.status.ensures ∙ e)) (c.serve-end.ensures.answers Audit options well_formed is)
 
 pub returns-clause-errors : goal.returns-clause-errors
 returns-clause-errors g c = λ end e.
