@@ -30,3 +30,4 @@ pub mod InBlock
 pub mod Verifying
 pub mod TextLists
 pub mod OneList
+pub mod TracesTold

@@ -1,7 +1,7 @@
 -- Verdicts: what an audit says of bytes.
 use Rattle.std.specs.Prelude.{◌≡◌, ◌≢◌, ℕ, List, [], ◌∷◌, ◌++◌, length}
 use Rattle.std.specs.List.{flat_map}
-use Rattle.tree_words.specs.Settings.{Setting}
+use Rattle.tree_words.specs.Settings.{Setting, IsSetting}
 use Rattle.tree_words.specs.Blocks.{LinkedBlock}
 use Rattle.tree_words.specs.Complete.{Linked}
 use Rattle.tree_words.specs.Records.{Recorded}
@@ -9,7 +9,7 @@ use Rattle.tree_words.specs.Counts.{Exact}
 use Rattle.tree_words.specs.Growth.{Grown}
 use Rattle.tree_words.specs.Closing.{ClosedTree, IsClosed, KeepsEnds}
 use Rattle.trace_audit.specs.Traces.{trace_text}
-use Rattle.trace_audit.specs.Told.{IsReadTree}
+use Rattle.trace_audit.specs.Told.{AreWords, IsReadTree}
 use Rattle.trace_audit.specs.declared.types.Audit.{Audit}
 use Rattle.trace_audit.specs.declared.types.Audit.TheVariants.{Yes, No}
 use Rattle.trace_audit.specs.declared.types.Flaw.{Flaw}
@@ -48,6 +48,11 @@ HasFlaw bytes why =
 abbrev pub AreClosed : List ClosedTree → Type 0
 AreClosed [] = Unit {0}
 AreClosed (t ∷ ts) = IsReadTree t × IsClosed t.shape t.words × AreClosed ts
+
+-- each of the trees is a closed tree of a shape that can be searched
+abbrev pub AreTrees : List ClosedTree → Type 0
+AreTrees [] = Unit {0}
+AreTrees (t ∷ ts) = IsSetting t.shape × IsClosed t.shape t.words × AreWords t.words × AreTrees ts
 
 -- the texts of the trees, one after another
 abbrev pub texts_of : List ClosedTree → List ℕ

@@ -52,6 +52,6 @@ mod zeros;
 
 pub use archives::TraceArchive;
 pub use auditing::{MOST_BYTES, audit};
-pub use laws::traces_tell_closed_trees;
+pub use laws::{traces_are_texts_of_closed_trees, traces_tell_closed_trees};
 pub use refusals::Memory;
 pub use texts::BUFFER_BYTES;

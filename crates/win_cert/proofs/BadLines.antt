@@ -1,14 +1,12 @@
 -- Where a text is refused, and with which line.
-use Rattle.std.proofs.Common.{◌≡◌, ◌≢◌, ◌⊎◌, ℕ, ◌+◌, ◌-◌, ◌<◌, ◌≤◌, ◌==◌, eqb, zero, suc, inl, inr, Bool, true, false, cond, List, [], ◌∷◌, ◌++◌, length, map, take, Option, Some, None, Result, Ok, Err, refl, ap, sym, ◌∙◌, subst, codes, arith}
+use Rattle.std.proofs.Common.{◌≡◌, ◌≢◌, ℕ, ◌+◌, ◌≤◌, eqb, zero, suc, Bool, true, false, cond, List, [], ◌∷◌, ◌++◌, length, map, take, Option, Some, None, Result, Ok, Err, refl, ap, sym, ◌∙◌, arith}
 use Rattle.std.specs.Fmt.{decimal}
 use Rattle.std.specs.List.{All, flat_map, join_with_byte}
-use Rattle.std.proofs.lemmas.Bool.{cases_Bool}
 use Rattle.std.proofs.lemmas.Bool.Decides.{Decides-eqb, not_from_Decides}
 use Rattle.std.proofs.lemmas.List.{append-nil, append_assoc}
 use Rattle.std.proofs.lemmas.List.Elements.{All-cons, All-nil, All-tail}
-use Rattle.conn_store.specs.declared.entries.Kind.{Kind}
 use Rattle.conn_store.specs.declared.entries.Kind.TheVariants.{Full}
-use Rattle.win_cert.specs.Lines.{◌>>=◌, Steps, after_step, is_nothing, lines_of, steps_in, with_lines}
+use Rattle.win_cert.specs.Lines.{Steps, after_step, is_nothing, lines_of, steps_in, with_lines}
 use Rattle.win_cert.specs.Named.{step_named}
 use Rattle.win_cert.specs.Texts.{ended, kind_word, line_feed, line_words, space}
 use Rattle.win_cert.specs.Writable.{IsLineOf}
@@ -16,11 +14,11 @@ use Rattle.win_cert.specs.declared.certs.TheConstants.{MOST_LINES}
 use Rattle.win_cert.specs.declared.lines.Line.{Line}
 use Rattle.win_cert.specs.declared.lines.TheConstants.{MOST_NUMBER}
 use Rattle.win_cert.specs.declared.refusals.CertError.{CertError}
-use Rattle.win_cert.specs.declared.refusals.CertError.TheVariants.{Memory, NotCert, TooManyLines}
+use Rattle.win_cert.specs.declared.refusals.CertError.TheVariants.{NotCert, TooManyLines}
 use Rattle.win_cert.specs.declared.steps.Step.{Step}
 use Rattle.win_cert.specs.declared.steps.Step.TheVariants as step
 use Rattle.win_cert.proofs.HeadMeans.{TextLines}
-use Rattle.win_cert.proofs.ReadBack.{append_some, steps_more}
+use Rattle.win_cert.proofs.ReadBack.{steps_more}
 use Rattle.win_cert.proofs.StepMeans.{step_means}
 use Rattle.win_cert.proofs.StepWords.{step_back}
 use Rattle.win_cert.proofs.TextLines.{text_from}
@@ -52,7 +50,7 @@ cut_at bytes lines rest some e = (
 
 -- ---- what follows k lines
 
-later_some : (lines rest : TextLines) → rest ≢ [] → lines ++ rest ≢ []
+pub later_some : (lines rest : TextLines) → rest ≢ [] → lines ++ rest ≢ []
 later_some [] rest some e = some e
 later_some (line ∷ lines) rest some e = cc
 
@@ -161,7 +159,7 @@ bad_here v n k m lines some e = record {
   count = omega (arith, e);
 }
 
-line_of_err : (m l : ℕ) → ◌≡◌ {A = Result Steps CertError} (Err (NotCert m)) (Err (NotCert l)) → m ≡ l
+pub line_of_err : (m l : ℕ) → ◌≡◌ {A = Result Steps CertError} (Err (NotCert m)) (Err (NotCert l)) → m ≡ l
 line_of_err m l e = cc
 
 no_limit : (b : Bool) (r : Result Steps CertError) (m : ℕ) → cond b (Err TooManyLines) r ≡ Err (NotCert m) → r ≡ Err (NotCert m)

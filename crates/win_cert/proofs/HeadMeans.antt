@@ -31,7 +31,7 @@ bind_ok (Err d) f y e = cc
 pub same_ok : {A : Type 0} (x y : A) → ◌≡◌ {A = Result A CertError} (Ok x) (Ok y) → x ≡ y
 same_ok x y e = cc
 
-at_line_ok : {A : Type 0} (m : ℕ) (o : Option A) (x : A) → at_line m o ≡ Ok x → o ≡ Some x
+pub at_line_ok : {A : Type 0} (m : ℕ) (o : Option A) (x : A) → at_line m o ≡ Ok x → o ≡ Some x
 at_line_ok m (Some a) x e = cc
 at_line_ok m None x e = cc
 
@@ -135,7 +135,7 @@ pub record IsHead (head : Head) : Type 0 where
   pub version : (head.version ≡ FIRST_VERSION) ⊎ (head.version ≡ LATEST_VERSION)
   pub board : IsPosition head.board.size head.board.black head.board.white
 
-one_or_two : (v : ℕ) → FIRST_VERSION ≤ v → v ≤ LATEST_VERSION → (v ≡ FIRST_VERSION) ⊎ (v ≡ LATEST_VERSION)
+pub one_or_two : (v : ℕ) → FIRST_VERSION ≤ v → v ≤ LATEST_VERSION → (v ≡ FIRST_VERSION) ⊎ (v ≡ LATEST_VERSION)
 one_or_two v low high = elim (cases_eq v FIRST_VERSION) [ inl same ↦ inl same | inr other ↦ inr (omega (arith, other)) ]
 
 -- a head that is read is good, and the lines are its own

@@ -1,10 +1,9 @@
 -- The text of a certificate is read as the certificate.
-use Rattle.std.proofs.Common.{◌≡◌, ◌≢◌, ◌⊎◌, ℕ, ◌+◌, ◌<◌, ◌≤◌, ◌==◌, ◌&&◌, leb, eqb, suc, bit_and, inl, inr, Bool, true, false, cond, List, [], ◌∷◌, ◌++◌, length, map, Option, Some, None, Result, Ok, Err, refl, ap, sym, ◌∙◌, subst, codes, arith}
+use Rattle.std.proofs.Common.{◌≡◌, ◌≢◌, ◌⊎◌, ℕ, ◌+◌, ◌≤◌, ◌&&◌, leb, eqb, suc, bit_and, inl, inr, Bool, true, false, cond, List, [], ◌∷◌, ◌++◌, length, map, Option, Some, None, Result, Ok, Err, refl, ap, sym, ◌∙◌, codes, arith}
 use Rattle.std.specs.Fmt.{decimal}
 use Rattle.std.specs.List.{All}
-use Rattle.std.specs.Option.{ok_or, option_and_then, option_map}
-use Rattle.std.specs.Str.{bytes_eq}
-use Rattle.std.proofs.lemmas.Bool.{cases_Bool, ne_eqb}
+use Rattle.std.specs.Option.{option_and_then, option_map}
+use Rattle.std.proofs.lemmas.Bool.{ne_eqb}
 use Rattle.std.proofs.lemmas.Bool.Decides.{Decides-eqb}
 use Rattle.std.proofs.lemmas.List.{append-nil, append_assoc}
 use Rattle.std.proofs.lemmas.List.Elements.{All-tail}
@@ -14,18 +13,17 @@ use Rattle.hex_cells.specs.declared.colours.Colour.TheVariants.{Black, White}
 use Rattle.hex_cells.proofs.Bits.{has_and, has_none, same_set}
 use Rattle.hex_board.specs.Positions.{Apart, Within}
 use Rattle.conn_store.specs.declared.entries.Kind.{Kind}
-use Rattle.win_cert.specs.Lines.{◌>>=◌, Steps, after_step, at_line, cert_in, cert_of, certs_of, first_colour, first_line, head_in, is_nothing, line_in, lines_of, number_after, player_in, size_in, steps_in, stones_in, version_in, with_lines}
-use Rattle.win_cert.specs.Named.{IsStepOf, after_word, alone, cells_named, first_number, step_named, step_words}
+use Rattle.win_cert.specs.Lines.{◌>>=◌, after_step, at_line, cert_in, cert_of, certs_of, head_in, line_in, lines_of, number_after, player_in, size_in, steps_in, stones_in, version_in, with_lines}
+use Rattle.win_cert.specs.Named.{alone, cells_named, first_number, step_named}
 use Rattle.win_cert.specs.Texts.{cert_text, cert_words, claim_words, colour_word, kind_word, line_words, vertices_of}
-use Rattle.win_cert.specs.Writable.{HasBoard, HasSpelling, IsLineOf, IsWritable}
+use Rattle.win_cert.specs.Writable.{HasBoard, IsLineOf, IsWritable}
 use Rattle.win_cert.specs.declared.certs.Cert.{Cert}
 use Rattle.win_cert.specs.declared.certs.TheConstants.{FIRST_VERSION, LATEST_VERSION, MOST_LINES}
 use Rattle.win_cert.specs.declared.heads.Head.{Head}
 use Rattle.win_cert.specs.declared.lines.Line.{Line}
 use Rattle.win_cert.specs.declared.lines.TheConstants.{MOST_NUMBER}
 use Rattle.win_cert.specs.declared.refusals.CertError.{CertError}
-use Rattle.win_cert.specs.declared.refusals.CertError.TheVariants.{NotCert, TooManyLines}
-use Rattle.win_cert.specs.declared.steps.Step.{Step}
+use Rattle.win_cert.specs.declared.refusals.CertError.TheVariants.{TooManyLines}
 use Rattle.win_cert.specs.declared.steps.Step.TheVariants as step
 use Rattle.win_cert.proofs.CellSets.{cells_back}
 use Rattle.win_cert.proofs.HeadMeans.{IsHead, TextLines, head_lines}

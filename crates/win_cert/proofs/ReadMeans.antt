@@ -1,5 +1,5 @@
 -- A certificate that is read is good, and the bytes are its text.
-use Rattle.std.proofs.Common.{◌≡◌, ℕ, ◌≤◌, List, [], ◌∷◌, ◌++◌, length, map, Result, Ok, Err, IfOk, ◌≢◌, ap, sym, ◌∙◌, subst, arith}
+use Rattle.std.proofs.Common.{◌≡◌, ℕ, ◌≤◌, List, [], ◌∷◌, ◌++◌, length, map, Ok, ap, sym, ◌∙◌, subst, arith}
 use Rattle.std.proofs.lemmas.List.{append-nil, append_assoc}
 use Rattle.win_cert.specs.Lines.{cert_in, cert_of, certs_of, head_in, lines_of, steps_in}
 use Rattle.win_cert.specs.Texts.{cert_text, cert_words, claim_words, line_words}
@@ -7,8 +7,6 @@ use Rattle.win_cert.specs.Writable.{HasBoard, HasSpelling, IsWritable}
 use Rattle.win_cert.specs.declared.certs.Cert.{Cert}
 use Rattle.win_cert.specs.declared.certs.TheConstants.{MOST_LINES}
 use Rattle.win_cert.specs.declared.heads.Head.{Head}
-use Rattle.win_cert.specs.declared.refusals.CertError.{CertError}
-use Rattle.win_cert.specs.declared.refusals.CertError.TheVariants.{Memory}
 use Rattle.win_cert.proofs.HeadMeans.{TextLines, bind_ok, head_lines, head_means}
 use Rattle.win_cert.proofs.PlainWords.{plain_cert}
 use Rattle.win_cert.proofs.StepsMean.{nothing, steps_mean}
@@ -34,8 +32,3 @@ read_means bytes cert e =
     good.1 ∙ ap (λ rest. head_lines head ++ rest) (steps.lines_are ∙ sym (append_assoc lines (claim_words whole ∷ []) nothing)) in
     let text = begins_with (cert_words whole) bytes [] (plain_cert whole good.0.board spelled) cut in
     subst (IsTextOf bytes) is (good.0.board, (spelled, few), text ∙ append-nil (cert_text whole))
-
--- the same of what is read, but for want of memory
-pub ok_means : (bytes : List ℕ) (r : Result Cert CertError) → (r ≢ Err Memory → r ≡ cert_in (lines_of bytes)) → IfOk r (IsTextOf bytes)
-ok_means bytes (Ok cert) h = read_means bytes cert (sym (h (λ e. cc)))
-ok_means bytes (Err e) h = tt

@@ -16,6 +16,7 @@ mod raising;
 mod reader;
 mod reading;
 mod refusals;
+mod spelling;
 mod steps;
 #[cfg(test)]
 mod tests;
@@ -30,4 +31,5 @@ pub use lists::{Bytes, Numbers};
 pub use raising::raise;
 pub use reading::read;
 pub use refusals::{CertError, Memory};
+pub use spelling::written_text_is_read_back;
 pub use writing::write;

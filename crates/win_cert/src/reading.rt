@@ -1,11 +1,10 @@
 //! A certificate from its text.
 
-ghost use Rattle.std.specs.Prelude.{◌≡◌, ◌≢◌, ◌+◌, ◌<◌, ◌≤◌, ◌⊎◌, length, [], ◌∷◌, ◌++◌, IfOk, Ok, Err, Some, None, OnOk, if◌then◌else◌};
+ghost use Rattle.std.specs.Prelude.{◌≡◌, ◌≢◌, ◌+◌, ◌<◌, ◌≤◌, ◌⊎◌, length, [], ◌∷◌, ◌++◌, Ok, Err, Some, None, OnOk, if◌then◌else◌};
 ghost use Rattle.win_cert.specs.Lines.{IsStepTaken, at_line, cert_in, cert_of, certs_of, is_nothing, line_in, lines_of, with_rest};
 ghost use Rattle.win_cert.specs.Named.{step_named};
 ghost use Rattle.win_cert.specs.declared.refusals.CertError.{CertError};
-ghost use Rattle.win_cert.specs.Texts.{cert_text};
-ghost use Rattle.win_cert.specs.Writable.{HasBoard, IsWritable};
+ghost use Rattle.win_cert.specs.Readings.{IsParsedAs};
 
 use super::heads::Head;
 use super::reader::Reader;
@@ -18,9 +17,7 @@ use std::alloc::Global;
 /// The certificate that the bytes are the text of. `NotCert` names the first line that is not as it
 /// should be, and `TooManyLines` comes exactly where 200,001 good derivation lines follow the head.
 pub fn read(alloc: Global, bytes: &[u8]) -> Result<Cert, CertError>
-    ensures value { result ≢ Err CertError.Memory → result ≡ cert_in (lines_of bytes.now) }
-    ensures ok { IfOk result (λ cert. HasBoard cert × IsWritable cert
-        × (bytes.now ≡ cert_text cert)) }
+    ensures { IsParsedAs bytes.now result }
 {
     read_text(alloc, bytes)
 }

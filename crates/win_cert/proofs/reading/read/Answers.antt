@@ -1,5 +1,5 @@
-use Rattle.win_cert.proofs.ReadMeans.{ok_means}
+use Rattle.win_cert.proofs.Parsed.{parsed}
 use Rattle.win_cert.proofs.reading.read.Goals as goal
 
-pub returns-clause-ok : goal.returns-clause-ok
-returns-clause-ok c = ok_means c.args.bytes.now c.read_text.result c.read_text.ensures
+pub returns : goal.returns
+returns c = parsed c.args.bytes.now c.read_text.result c.read_text.ensures
