@@ -1,7 +1,7 @@
 -- Whether all cells of a `put` are empty.
-use Rattle.std.proofs.Common.{◌≡◌, ℕ, ◌<◌, ◌^◌, ◌&&◌, ◌↔◌, not, IsTrue, true, false, Bool, refl, sym, ◌∙◌, ap, arith, inl, inr, subst, ◌≤◌, ◌⊎◌}
+use Rattle.std.proofs.Common.{◌≡◌, ℕ, ◌<◌, ◌^◌, ◌&&◌, ◌↔◌, not, IsTrue, true, false, Bool, refl, sym, ◌∙◌, ap, arith, nat_lt, subst}
 use Rattle.std.specs.List.{list_any}
-use Rattle.std.proofs.lemmas.Bool.{and_parts, and_from, cases_Bool, false_from_ne_true, true_from_ne_false, false≢true, true≢false}
+use Rattle.std.proofs.lemmas.Bool.{ltb-true, ltb-false, and_parts, and_from, false_from_ne_true, true_from_ne_false, false≢true, true≢false}
 use Rattle.hex_cells.specs.Sets.{has}
 use Rattle.hex_cells.proofs.Bits.{has_above}
 use Rattle.hex_cells.specs.declared.board_size.TheConstants.{MOST_CELLS}
@@ -32,11 +32,6 @@ pub inside_of : (p : Position) (cells empties : ℕ) (inside : Bool) → ((k : �
     → (IsTrue inside ↔ ((k : ℕ) → has cells k ≡ true → is_empty_at p k ≡ true))
 inside_of p cells empties inside e h = (λ t k q. sym (e k) ∙ h.0 t k q, λ f. h.1 (λ k q. e k ∙ f k q))
 
-lt_or_ge : (k n : ℕ) → (k < n) ⊎ (n ≤ k)
-lt_or_ge k n = omega arith
-
 pub small_set : (cells bits : ℕ) → bits ≡ cells → bits < 2 ^ MOST_CELLS → (k : ℕ) → has cells k ≡ true → k < MOST_CELLS
-small_set cells bits e l k h = elim (lt_or_ge k MOST_CELLS) [
-  | inl q ↦ q
-  | inr q ↦ absurd (false≢true (sym (has_above cells MOST_CELLS k (subst (λ v. v < 2 ^ MOST_CELLS) e l) q) ∙ h))
-]
+small_set cells bits e l k h = ltb-true k MOST_CELLS (true_from_ne_false (nat_lt k MOST_CELLS) (λ f.
+    false≢true (sym (has_above cells MOST_CELLS k (subst (λ v. v < 2 ^ MOST_CELLS) e l) (ltb-false k MOST_CELLS f)) ∙ h)))

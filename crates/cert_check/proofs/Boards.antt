@@ -1,5 +1,5 @@
 -- The board of the empty scope.
-use Rattle.std.proofs.Common.{◌≡◌, ap, bit_or, ℕ}
+use Rattle.std.proofs.Common.{◌≡◌, ap}
 use Rattle.hex_cells.specs.declared.colours.Colour.{Colour}
 use Rattle.hex_cells.specs.declared.colours.Colour.TheVariants.{Black, White}
 use Rattle.hex_board.specs.Positions.{Position}

@@ -1,11 +1,11 @@
 -- The reasons against `and` and `key`, where both entries are there and stand in the scope.
-use Rattle.std.proofs.Common.{◌≡◌, ℕ, ◌<◌, ◌==◌, List, [], ◌∷◌, ◌&&◌, ◌||◌, not, Option, Some, None, Bool, true, false, refl, sym, ◌∙◌, ap, subst, bit_or, if◌then◌else◌}
+use Rattle.std.proofs.Common.{◌≡◌, ℕ, ◌<◌, ◌==◌, List, [], ◌∷◌, ◌||◌, not, Option, Some, None, Bool, true, false, refl, sym, ◌∙◌, ap, subst, bit_or, if◌then◌else◌}
 use Rattle.std.specs.List.{cons_option, list_all}
 use Rattle.std.specs.Option.{is_none, is_some, option_and_then, option_map, option_map_or}
 use Rattle.std.specs.Int.Bits.{or_zero_r}
 use Rattle.std.proofs.lemmas.Bool.{and_parts, eqb-true, false≢true, true≢false}
 use Rattle.hex_cells.specs.Sets.{with_cell}
-use Rattle.hex_board.specs.Elements.{PlayerBoard, element_count}
+use Rattle.hex_board.specs.Elements.{element_count}
 use Rattle.hex_board.specs.Places.{cell_of}
 use Rattle.conn_store.specs.declared.entries.Kind.TheVariants.{Full, Semi}
 use Rattle.win_cert.specs.Entries.{Context, ScopedEntry, and_entry, carriers_of, elements_at, entries_at, entry_at, entry_between, gives, is_end, key_entry, middle_of, other_end}

@@ -4,3 +4,4 @@ pub mod ChainReasons
 pub mod Passing
 pub mod Sharing
 pub mod ReasonLaws
+pub mod Stepping

@@ -2,9 +2,9 @@
 use Rattle.std.proofs.Common.{◌≡◌, ℕ, ◌+◌, ◌<◌, List, ◌∷◌, ap, sym, ◌∙◌, drop, length, get_or}
 use Rattle.std.proofs.Common.{Option, Some, None}
 use Rattle.std.proofs.lemmas.List.{drop_more}
-use Rattle.std.specs.List.{cons_option, filter_map}
+use Rattle.std.specs.List.{cons_option}
 use Rattle.std.specs.Option.{option_map}
-use Rattle.win_cert.specs.Entries.{Context, ScopedEntry, entries_at, entry_at}
+use Rattle.win_cert.specs.Entries.{Context, entries_at, entry_at}
 use Rattle.cert_check.specs.Keeping.{entry_of}
 use Rattle.cert_check.specs.declared.given.Given.{Given}
 

@@ -1,11 +1,11 @@
 -- Which reasons may stand against each form of line, in their order.
-use Rattle.std.proofs.Common.{◌≡◌, ℕ, List, [], ◌∷◌, ◌==◌, ◌&&◌, ◌||◌, not, Option, Some, None, Bool, true, false, refl, sym, ◌∙◌, ap, if◌then◌else◌}
+use Rattle.std.proofs.Common.{◌≡◌, ℕ, List, [], ◌∷◌, ◌==◌, ◌&&◌, not, Option, Some, None, Bool, true, false, refl, sym, ◌∙◌, ap, if◌then◌else◌}
 use Rattle.std.specs.List.{list_all}
 use Rattle.std.proofs.lemmas.Bool.{and_parts, false≢true, true≢false}
 use Rattle.conn_store.specs.declared.entries.Kind.{Kind}
-use Rattle.conn_store.specs.declared.entries.Kind.TheVariants.{Full, Semi}
+use Rattle.conn_store.specs.declared.entries.Kind.TheVariants.{Semi}
 use Rattle.win_cert.specs.Entries.{Context, entries_at, entry_at, gives, or_entry}
-use Rattle.win_cert.specs.Reasons.{Reason, reason_against, is_bad_reference, is_bad_stone, is_wrong_scope, is_wrong_colour, are_not_neighbours, has_no_middle, do_carriers_meet, is_end_in_carrier, is_middle_wrong, do_ends_differ, is_cell_common, is_no_edge_entry, is_not_joined, bad_reference, wrong_colour, not_neighbours, no_common_middle, carriers_meet, end_in_carrier, middle_kind, ends_differ, common_cell, not_edges, bad_stone, wrong_scope, not_joined}
+use Rattle.win_cert.specs.Reasons.{Reason, reason_against, is_bad_reference, is_bad_stone, is_wrong_scope, is_wrong_colour, are_not_neighbours, has_no_middle, do_carriers_meet, is_end_in_carrier, is_middle_wrong, is_cell_common, is_no_edge_entry, is_not_joined, bad_reference, wrong_colour, not_neighbours, no_common_middle, carriers_meet, end_in_carrier, middle_kind, ends_differ, common_cell, not_edges, bad_stone, wrong_scope, not_joined}
 use Rattle.win_cert.specs.Statements.{Statement, claim, derivation, have_same_ends, may_take, share_cell}
 use Rattle.win_cert.specs.declared.lines.End.{End}
 use Rattle.win_cert.specs.declared.lines.Line.{Line}

@@ -1,7 +1,7 @@
 -- Cells that all carriers have, and those that one of them has.
-use Rattle.std.proofs.Common.{◌≡◌, ℕ, ◌+◌, ◌<◌, ◌&&◌, ◌||◌, ◌↔◌, not, IsTrue, true, false, Bool, List, ◌∷◌, [], refl, sym, ◌∙◌, ap, arith, inl, inr, nat_lt, bit_or}
+use Rattle.std.proofs.Common.{◌≡◌, ℕ, ◌&&◌, ◌||◌, ◌↔◌, not, IsTrue, true, false, Bool, List, ◌∷◌, sym, ◌∙◌, ap, arith, inl, inr, nat_lt}
 use Rattle.std.specs.List.{list_all}
-use Rattle.std.proofs.lemmas.Bool.{and_parts, and_from, cases_Bool, false_from_ne_true, true_from_ne_false, false≢true, true≢false, lt-ltb, ltb-true}
+use Rattle.std.proofs.lemmas.Bool.{and_parts, and_from, cases_Bool, false_from_ne_true, true≢false, lt-ltb, ltb-true}
 use Rattle.hex_cells.specs.Sets.{has}
 use Rattle.hex_cells.specs.declared.board_size.TheConstants.{MOST_CELLS}
 use Rattle.hex_cells.proofs.Bits.{has_or}

@@ -1,6 +1,6 @@
 -- What the checker keeps between two lines.
 use Rattle.std.specs.Prelude.{◌≡◌, ℕ, ◌<◌, ◌||◌, ◌++◌, ◌∷◌, [], Bool, true, false}
-use Rattle.std.specs.Prelude.{List, Option, Some, None, Result, Ok, Err, All, map}
+use Rattle.std.specs.Prelude.{List, Option, Some, None, Result, Ok, Err, All}
 use Rattle.std.specs.Option.{option_map}
 use Rattle.hex_cells.specs.declared.colours.Colour.{Colour}
 use Rattle.conn_store.specs.declared.entries.Kind.{Kind}

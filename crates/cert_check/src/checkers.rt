@@ -74,8 +74,9 @@ impl Checker {
         requires { ReadsLine self.old line.now (Ok given) }
         ensures { IfOk result (λ done. self.new ≡ context_after self.old line.now) }
     {
-        if self.given.push(given).is_err() {
-            return Err(Memory);
+        match self.given.push(given) {
+            Ok(()) => (),
+            Err(_refused) => return Err(Memory),
         }
         if let Line::Put(cells) = line {
             let _bits = cells.bits();

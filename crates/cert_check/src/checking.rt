@@ -1,6 +1,7 @@
 //! The check of a certificate, line by line.
 
 ghost use Rattle.std.specs.Prelude.{◌↔◌, IfOk};
+ghost use Rattle.hex_board.specs.Positions.{IsPosition};
 ghost use Rattle.win_cert.specs.Laws.{WinsAsClaimed};
 ghost use Rattle.win_cert.specs.Verdicts.{Accepted, IsVerdict};
 ghost use Rattle.win_cert.specs.Writable.{IsWritable};
@@ -9,6 +10,8 @@ ghost use Rattle.cert_check.specs.Answers.{IsYes, verdict_of};
 use super::checkers::Checker;
 use super::refusals::Memory;
 use super::verdicts::Verdict;
+use hex_board::Board;
+use hex_cells::Colour;
 use std::alloc::Global;
 use win_cert::{Cert, accepted_certificates_win};
 
@@ -23,6 +26,7 @@ pub fn check(alloc: Global, cert: &Cert) -> Result<Verdict, Memory>
     ensures wins { IfOk result (λ v. IsYes v → WinsAsClaimed cert.now) }
 {
     accepted_certificates_win();
+    boards_are_positions(&cert.board);
     let mut checker = Checker::new(alloc, &cert.board, cert.player, cert.lines.as_slice().len())?;
     let mut number = 0;
     'lines: for line in cert.lines.as_slice() {
@@ -39,4 +43,13 @@ pub fn check(alloc: Global, cert: &Cert) -> Result<Verdict, Memory>
         },
         Err(why) => Verdict::No { line: number, why },
     })
+}
+
+// The board has 1 to 11 rows, and its stones lie on it and have no cell in common.
+fn boards_are_positions(board: &Board)
+    ensures { IsPosition board.now.size board.now.black board.now.white }
+{
+    let _size = board.size();
+    let _black = board.stones(Colour::Black);
+    let _white = board.stones(Colour::White);
 }

@@ -31,6 +31,10 @@ pub mod PlainWords
 pub mod ReadMeans
 pub mod ReadBack
 pub mod BadLines
+pub mod HeadStages
+pub mod GoodFronts
+pub mod LongTexts
+pub mod BadHeads
 pub mod Parsed
 pub mod StepLines
 pub mod SameVerdict

@@ -1,9 +1,29 @@
 //! Certificates: texts that show that a player wins.
 //!
 //! **Nouns.** A certificate ([`Cert`]) is a board, a player, *derivation lines* ([`Line`]) and a
-//! claim. Each line gives an entry in its *scope*, a set of cells on which the player is taken to
+//! claim. Each line gives an *entry* in its *scope*, a set of cells on which the player is taken to
 //! have stones too, or sets the scope of the lines after it. A certificate is *accepted* where none
-//! of thirteen reasons against a line applies.
+//! of thirteen reasons against a line or the claim applies; the *verdict* on it is yes, with the
+//! claim and the carrier of its entry, or the first line with a reason against it and that reason.
+//!
+//! **A caller** reads a text ([`read`]), writes one ([`write`]) and raises a certificate to the
+//! latest version ([`raise`]).
+//!
+//! **What is proved.** The text is a whole list of lines of words (specs/Texts.antt). `write` gives
+//! it. `read` answers the certificate whose text the bytes are, or exactly the first line that is
+//! not as it should be, or that there is a line too many: specs/Readings.antt tells these from the
+//! texts of certificates alone. What is written is read back ([`written_text_is_read_back`]), so a
+//! certificate has one text. `raise` changes the version alone and keeps the verdict. What each line
+//! gives, the reasons in their order, accepted and the verdict are in specs/Entries.antt,
+//! Reasons.antt and Verdicts.antt; proofs/Vectors.antt computes them on certificates.
+//!
+//! **What is only tested, or not said.** That calls get their memory; the time, which is linear in
+//! the length of the text. What the derived texts of [`CertError`] are.
+//!
+//! **Limits.** [`MOST_LINES`] lines before the claim, numbers up to [`MOST_NUMBER`], and
+//! [`MOST_CASES`] cases in a line.
+//!
+//! Source: the rules are those of `conn_store`; scopes and cases are this project's own.
 #![tactic(auto)]
 
 mod certs;

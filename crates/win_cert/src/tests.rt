@@ -45,8 +45,9 @@ fn read_and_written(rt: HostRuntime) -> Result<(), Fail> {
         assert_eq!(rt; rewritten(rt.alloc(), text, false)?.as_slice(), text);
     }
     let raised = rewritten(rt.alloc(), V1, true)?;
-    assert_eq!(rt; &raised[..10], b"hexcert 2\n".as_slice());
-    assert_eq!(rt; &raised[10..], &V1[10..]);
+    assert_eq!(rt; raised.len(), V1.len());
+    assert!(rt; raised.as_slice().starts_with(b"hexcert 2\n"));
+    assert!(rt; raised.as_slice().ends_with(&V1[10..]));
     assert_eq!(rt; LATEST_VERSION, 2);
     Ok(())
 }
@@ -57,7 +58,7 @@ fn each_prefix_is_refused_after_its_lines(rt: HostRuntime) -> Result<(), Fail> {
     for end in 0..V1.len() {
         assert_eq!(rt; refused_at(rt.alloc(), &V1[..end]), Some(line));
         if V1[end] == b'\n' {
-            line += 1;
+            line = line.saturating_add(1);
         }
     }
     Ok(())

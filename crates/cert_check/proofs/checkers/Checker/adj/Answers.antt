@@ -50,14 +50,14 @@ returns c =
     let x = sym c.element.ensures.value ∙ c.in-Some.is in
     let y = sym c.element-2.ensures.value ∙ c.in-Some-element.is in (
       adj_reasons now c.args.x c.args.y
-      ∙ told_next _ _ _ _ (or_none (is_other_stone (elements_at now) c.args.x) (is_other_stone (elements_at now) c.args.y)
-      (own c.element.result c.in-Some.a _ c.in-Some.is c.element.ensures.other)
-      (own c.element-2.result c.in-Some-element.b _ c.in-Some-element.is c.element-2.ensures.other))
-      (told_next _ _ _ _ (ap (λ o. not (are_near (elements_at now) o (end_element (elements_at now) c.args.y))) x
-      ∙ ap (λ o. not (are_near (elements_at now) (Some c.in-Some.a) o)) y
-      ∙ ap not (ap (λ e. is_near e c.in-Some.a c.in-Some-element.b) (sym at) ∙ sym c.near.ensures.value ∙ c.if-not-near.false)) refl),
+          ∙ told_next _ _ _ _ (or_none (is_other_stone (elements_at now) c.args.x) (is_other_stone (elements_at now) c.args.y)
+          (own c.element.result c.in-Some.a _ c.in-Some.is c.element.ensures.other)
+          (own c.element-2.result c.in-Some-element.b _ c.in-Some-element.is c.element-2.ensures.other))
+          (told_next _ _ _ _ (ap (λ o. not (are_near (elements_at now) o (end_element (elements_at now) c.args.y))) x
+          ∙ ap (λ o. not (are_near (elements_at now) (Some c.in-Some.a) o)) y
+          ∙ ap not (ap (λ e. is_near e c.in-Some.a c.in-Some-element.b) (sym at) ∙ sym c.near.ensures.value ∙ c.if-not-near.false)) refl),
       ap (λ o. adj_entry now o (end_element (elements_at now) c.args.y)) x
-      ∙ ap (λ o. adj_entry now (Some c.in-Some.a) o) y
-      ∙ ap Some (sym (c.between.ensures.value ∙ ap (entry_between now Full c.in-Some.a c.in-Some-element.b) c.none.ensures.value)),
+          ∙ ap (λ o. adj_entry now (Some c.in-Some.a) o) y
+          ∙ ap Some (sym (c.between.ensures.value ∙ ap (entry_between now Full c.in-Some.a c.in-Some-element.b) c.none.ensures.value)),
       c.between.ensures.given,
     )

@@ -1,4 +1,4 @@
-use Rattle.std.proofs.Common.{◌≡◌, ℕ, ◌+◌, ◌||◌, ◌∷◌, false, sym, ◌∙◌, ap, drop, arith}
+use Rattle.std.proofs.Common.{◌+◌, ◌||◌, sym, ◌∙◌, ap, drop}
 use Rattle.std.proofs.Math.Bool.{or_assoc, or-false}
 use Rattle.std.proofs.lemmas.List.{drop_all}
 use Rattle.hex_cells.specs.Sets.{has}

@@ -1,4 +1,4 @@
-use Rattle.std.proofs.Common.{◌≡◌, ℕ, ◌==◌, not, Some, refl, ap, sym, ◌∙◌}
+use Rattle.std.proofs.Common.{◌==◌, not, Some, refl, ap, sym, ◌∙◌}
 use Rattle.std.specs.List.{list_all}
 use Rattle.conn_store.specs.declared.entries.Kind.TheVariants.{Full}
 use Rattle.win_cert.specs.Entries.{edge_entry, entries_at}
@@ -48,11 +48,11 @@ returns c =
     let now = c.args.self.now in
     let s = derivation (Cases c.args.numbers.now) in (
       cases_reasons now c.args.numbers.now
-      ∙ told_next _ _ _ _ (ap not (sym (c.takes_all.ensures s (refl, refl)) ∙ c.if-not-takes_all.false))
-      (told_next _ _ _ _ (ap (λ n. not (list_all (λ a. a.scope == n.scope) (entries_at now c.args.numbers.now))) (sym c.self.view_is)
-      ∙ ap not (sym c.are_in_scope.ensures ∙ c.if-not-are_in_scope.false))
-      (told_next _ _ _ _ (sym c.shares_cell.ensures ∙ c.if-shares_cell.false)
-      (told_next _ _ _ _ (ap not (sym c.are_of_edges.ensures ∙ c.if-not-are_of_edges.false)) refl))),
+          ∙ told_next _ _ _ _ (ap not (sym (c.takes_all.ensures s (refl, refl)) ∙ c.if-not-takes_all.false))
+          (told_next _ _ _ _ (ap (λ n. not (list_all (λ a. a.scope == n.scope) (entries_at now c.args.numbers.now))) (sym c.self.view_is)
+          ∙ ap not (sym c.are_in_scope.ensures ∙ c.if-not-are_in_scope.false))
+          (told_next _ _ _ _ (sym c.shares_cell.ensures ∙ c.if-shares_cell.false)
+          (told_next _ _ _ _ (ap not (sym c.are_of_edges.ensures ∙ c.if-not-are_of_edges.false)) refl))),
       ap Some (sym (c.of_edges.ensures.value ∙ ap (edge_entry now Full) c.carriers.ensures)),
       c.of_edges.ensures.given,
     )

@@ -1,8 +1,8 @@
-use Rattle.std.proofs.Common.{◌≡◌, ℕ, ◌==◌, [], ◌∷◌, not, Some, None, refl, ap, sym, ◌∙◌, subst, true}
+use Rattle.std.proofs.Common.{◌==◌, [], ◌∷◌, not, ap, sym, ◌∙◌, subst}
 use Rattle.std.specs.List.{list_all}
 use Rattle.std.specs.Option.{option_map}
 use Rattle.std.specs.Option.{IfSome}
-use Rattle.win_cert.specs.Entries.{Context, entries_at}
+use Rattle.win_cert.specs.Entries.{entries_at}
 use Rattle.win_cert.specs.Statements.{derivation}
 use Rattle.cert_check.specs.Keeping.{IsGivenOn, chain_line, entry_of}
 use Rattle.cert_check.proofs.ChainReasons.{chain_bad, chain_scopes, chain_takes, two_named, two_scopes}
@@ -47,14 +47,16 @@ join-requires c =
     let first = sym c.entry.ensures.value ∙ ap (option_map entry_of) c.in-Some.is in
     let second = sym c.entry-2.ensures.value ∙ ap (option_map entry_of) c.in-Some-entry.is in
     let scopes = two_scopes (entry_of c.in-Some.a) (entry_of c.in-Some-entry.b) now.scope
-        (ap (list_all (λ a. a.scope == now.scope)) (sym (two_named now c.args.i c.args.j _ _ first second)) ∙ sym scope ∙ c.if-not-are_in_scope.false) in
+    (ap (list_all (λ a. a.scope == now.scope)) (sym (two_named now c.args.i c.args.j _ _ first second)) ∙ sym scope ∙ c.if-not-are_in_scope.false) in
     record {
-      first = first;
-      second = second;
-      references = chain_bad now o c.args.i c.args.j c.takes_all.result (c.takes_all.ensures s (chain_takes o c.args.i c.args.j)) ∙ ap not c.if-not-takes_all.false;
-      scopes = chain_scopes now o c.args.i c.args.j c.are_in_scope.result scope ∙ ap not c.if-not-are_in_scope.false;
-      first_scope = scopes.0;
-      second_scope = scopes.1;
-      first_given = subst (λ o. IfSome o (IsGivenOn now.base)) c.in-Some.is c.entry.ensures.given;
-      second_given = subst (λ o. IfSome o (IsGivenOn now.base)) c.in-Some-entry.is c.entry-2.ensures.given;
+      named = record {
+        first = first;
+        second = second;
+        references = chain_bad now o c.args.i c.args.j c.takes_all.result (c.takes_all.ensures s (chain_takes o c.args.i c.args.j)) ∙ ap not c.if-not-takes_all.false;
+        scopes = chain_scopes now o c.args.i c.args.j c.are_in_scope.result scope ∙ ap not c.if-not-are_in_scope.false;
+        first_scope = scopes.0;
+        second_scope = scopes.1;
+        first_given = subst (λ o. IfSome o (IsGivenOn now.base)) c.in-Some.is c.entry.ensures.given;
+        second_given = subst (λ o. IfSome o (IsGivenOn now.base)) c.in-Some-entry.is c.entry-2.ensures.given;
+      };
     }

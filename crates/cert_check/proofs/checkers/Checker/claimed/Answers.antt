@@ -1,4 +1,4 @@
-use Rattle.std.proofs.Common.{◌≡◌, ℕ, ◌==◌, [], ◌∷◌, not, Some, None, refl, ap, sym, ◌∙◌}
+use Rattle.std.proofs.Common.{◌==◌, [], ◌∷◌, not, refl, ap, sym, ◌∙◌}
 use Rattle.std.specs.List.{list_all}
 use Rattle.std.specs.Option.{option_map}
 use Rattle.win_cert.specs.Entries.{entries_at}
@@ -37,10 +37,10 @@ returns-in-Some c =
     let now = c.args.self.now in
     let s = claim c.args.kind c.args.i in (
       claim_reasons now c.args.kind c.args.i
-      ∙ told_next _ _ _ _ (ap not (sym (c.takes_all.ensures s (refl, refl)) ∙ c.if-not-takes_all.false))
-      (told_next _ _ _ _ (ap (λ t. not (list_all (λ a. a.scope == t) (entries_at now (c.args.i ∷ [])))) (sym c.none.ensures.value)
-      ∙ ap not (sym c.are_in_scope.ensures ∙ c.if-not-are_in_scope.false))
-      (told_next _ _ _ _ (ap not (sym c.are_of_edges.ensures ∙ c.if-not-are_of_edges.false)) refl)),
+          ∙ told_next _ _ _ _ (ap not (sym (c.takes_all.ensures s (refl, refl)) ∙ c.if-not-takes_all.false))
+          (told_next _ _ _ _ (ap (λ t. not (list_all (λ a. a.scope == t) (entries_at now (c.args.i ∷ [])))) (sym c.none.ensures.value)
+          ∙ ap not (sym c.are_in_scope.ensures ∙ c.if-not-are_in_scope.false))
+          (told_next _ _ _ _ (ap not (sym c.are_of_edges.ensures ∙ c.if-not-are_of_edges.false)) refl)),
       sym c.entry.ensures.value ∙ ap (option_map entry_of) c.in-Some.is,
     )
 

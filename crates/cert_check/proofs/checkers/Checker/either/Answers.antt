@@ -1,10 +1,10 @@
-use Rattle.std.proofs.Common.{◌≡◌, ℕ, ◌<◌, ◌==◌, ◌&&◌, List, ◌∷◌, not, Some, None, Bool, true, refl, ap, sym, ◌∙◌, subst}
+use Rattle.std.proofs.Common.{◌≡◌, ◌<◌, ◌==◌, ◌&&◌, List, ◌∷◌, not, Some, true, refl, ap, sym, ◌∙◌, subst}
 use Rattle.std.specs.List.{cons_option, list_all}
 use Rattle.std.specs.Option.{IfSome, option_map}
 use Rattle.std.proofs.lemmas.Bool.{and_from, and_parts, eq-eqb, eqb-true}
 use Rattle.hex_board.specs.Elements.{element_count}
 use Rattle.conn_store.specs.declared.entries.Kind.TheVariants.{Full}
-use Rattle.win_cert.specs.Entries.{ScopedEntry, carriers_of, elements_at, entries_at, entry_at, entry_between, or_entry}
+use Rattle.win_cert.specs.Entries.{ScopedEntry, carriers_of, entries_at, entry_at, entry_between, or_entry}
 use Rattle.win_cert.specs.Scopes.{elements_in}
 use Rattle.win_cert.specs.Statements.{derivation, have_same_ends, may_take, same_ends}
 use Rattle.cert_check.specs.Keeping.{IsGivenOn, entry_of}
@@ -80,7 +80,7 @@ between-requires-clause-a c =
     let now = c.args.self.now in
     let named = ap (entries_at now) c.requires.1 ∙ ap (λ o. cons_option o (entries_at now c.requires.0)) first in
     let in_scope = eqb-true c.in-Some.a.scope c.self.inside.scope
-        (and_parts (c.in-Some.a.scope == c.self.inside.scope) _ (ap (list_all (λ a. a.scope == c.self.inside.scope)) (sym named) ∙ scope)).0 ∙ ap (λ n. n.scope) c.self.view_is in
+    (and_parts (c.in-Some.a.scope == c.self.inside.scope) _ (ap (list_all (λ a. a.scope == c.self.inside.scope)) (sym named) ∙ scope)).0 ∙ ap (λ n. n.scope) c.self.view_is in
     let given : IsGivenOn now.base c.in-Some.a = subst (λ o. IfSome o (IsGivenOn now.base)) c.in-Some.is c.entry.ensures.given in
     subst (λ t. c.in-Some.a.x < element_count (elements_in now.base t)) in_scope given.x
 
@@ -91,7 +91,7 @@ between-requires-clause-b c =
     let now = c.args.self.now in
     let named = ap (entries_at now) c.requires.1 ∙ ap (λ o. cons_option o (entries_at now c.requires.0)) first in
     let in_scope = eqb-true c.in-Some.a.scope c.self.inside.scope
-        (and_parts (c.in-Some.a.scope == c.self.inside.scope) _ (ap (list_all (λ a. a.scope == c.self.inside.scope)) (sym named) ∙ scope)).0 ∙ ap (λ n. n.scope) c.self.view_is in
+    (and_parts (c.in-Some.a.scope == c.self.inside.scope) _ (ap (list_all (λ a. a.scope == c.self.inside.scope)) (sym named) ∙ scope)).0 ∙ ap (λ n. n.scope) c.self.view_is in
     let given : IsGivenOn now.base c.in-Some.a = subst (λ o. IfSome o (IsGivenOn now.base)) c.in-Some.is c.entry.ensures.given in
     subst (λ t. c.in-Some.a.y < element_count (elements_in now.base t)) in_scope given.y
 
@@ -104,14 +104,13 @@ returns c line h =
     let scope = ap not (sym (c.are_in_scope.ensures ∙ ap (λ n. list_all (λ a. a.scope == n.scope) (entries_at now numbers)) c.self.view_is)) in
     let first = sym c.entry.ensures.value ∙ ap (option_map entry_of) c.in-Some.is in
     let named = ap (entries_at now) c.requires.1 ∙ ap (λ o. cons_option o (entries_at now c.requires.0)) first in
-    let ends = ap not (same_as_first (entry_of c.in-Some.a) (entries_at now c.requires.0) (entries_at now numbers) named ∙ sym c.have_ends_of.ensures) in
-    (
+    let ends = ap not (same_as_first (entry_of c.in-Some.a) (entries_at now c.requires.0) (entries_at now numbers) named ∙ sym c.have_ends_of.ensures) in (
       or_reasons now line numbers h ∙ told_next _ _ _ _ (bad ∙ ap not c.if-not-takes_all.false)
-      (told_next _ _ _ _ (scope ∙ ap not c.if-not-are_in_scope.false)
-      (told_next _ _ _ _ (ends ∙ ap not c.if-not-have_ends_of.false)
-      (told_next _ _ _ _ (sym c.shares_cell.ensures ∙ c.if-shares_cell.false) refl))),
+          (told_next _ _ _ _ (scope ∙ ap not c.if-not-are_in_scope.false)
+          (told_next _ _ _ _ (ends ∙ ap not c.if-not-have_ends_of.false)
+          (told_next _ _ _ _ (sym c.shares_cell.ensures ∙ c.if-shares_cell.false) refl))),
       or_gives now line numbers h ∙ ap (or_entry now) named
-      ∙ ap (λ l. Some (entry_between now Full c.in-Some.a.x c.in-Some.a.y (carriers_of l))) (sym named)
-      ∙ ap Some (sym (c.between.ensures.value ∙ ap (entry_between now Full c.in-Some.a.x c.in-Some.a.y) c.carriers.ensures)),
+          ∙ ap (λ l. Some (entry_between now Full c.in-Some.a.x c.in-Some.a.y (carriers_of l))) (sym named)
+          ∙ ap Some (sym (c.between.ensures.value ∙ ap (entry_between now Full c.in-Some.a.x c.in-Some.a.y) c.carriers.ensures)),
       c.between.ensures.given,
     )

@@ -1,4 +1,4 @@
-use Rattle.std.proofs.Common.{◌≡◌, ℕ, ◌<◌, ◌||◌, Some, None, true, false, refl, ap, sym, ◌∙◌, subst, bit_or}
+use Rattle.std.proofs.Common.{◌≡◌, ◌<◌, ◌||◌, Some, None, true, false, refl, ap, sym, ◌∙◌, subst}
 use Rattle.hex_cells.specs.Sets.{with_cell}
 use Rattle.hex_board.specs.Elements.{PlayerBoard, element_count}
 use Rattle.hex_board.specs.Places.{cell_of}
@@ -64,7 +64,7 @@ returns-then-is_either_in c =
     let share = ap share_cell (sym two) ∙ sym c.shares_cell.ensures in
     let e = elements_at now in
     let ends = ap (λ v. is_cell_in e v b.carrier || is_cell_in e (other_end b c.in-Some.middle) a.carrier) (sym c.other_end-x.ensures)
-        ∙ ap (λ v. is_cell_in e c.other_end-x.result b.carrier || is_cell_in e v a.carrier) (sym c.other_end-y.ensures) ∙ sym c.is_either_in.ensures in
+    ∙ ap (λ v. is_cell_in e c.other_end-x.result b.carrier || is_cell_in e v a.carrier) (sym c.other_end-y.ensures) ∙ sym c.is_either_in.ensures in
     reason ∙ told_next _ _ _ _ (share ∙ c.if-shares_cell.false) (told_first _ _ _ (ends ∙ c.if-is_either_in.true))
 
 pub cell-requires : goal.cell-requires
@@ -87,18 +87,18 @@ returns-then-over_cell c =
     let share = ap share_cell (sym two) ∙ sym c.shares_cell.ensures in
     let e = elements_at now in
     let ends = ap (λ v. is_cell_in e v b.carrier || is_cell_in e (other_end b c.in-Some.middle) a.carrier) (sym c.other_end-x.ensures)
-        ∙ ap (λ v. is_cell_in e c.other_end-x.result b.carrier || is_cell_in e v a.carrier) (sym c.other_end-y.ensures) ∙ sym c.is_either_in.ensures in
+    ∙ ap (λ v. is_cell_in e c.other_end-x.result b.carrier || is_cell_in e v a.carrier) (sym c.other_end-y.ensures) ∙ sym c.is_either_in.ensures in
     let at : c.self.inside.elements ≡ e = c.self.invariant.are_elements ∙ ap elements_at c.self.view_is in
     let cell = ap (λ e. cell_of e c.in-Some.middle) (sym at) ∙ sym c.cell.ensures.value ∙ c.in-Some-cell.is in
     let x = c.other_end-x.ensures in
     let y = c.other_end-y.ensures in (
       reason ∙ told_next _ _ _ _ (share ∙ c.if-shares_cell.false) (told_next _ _ _ _ (ends ∙ c.if-is_either_in.false)
-      (told_next _ _ _ _ (ap (λ t. is_wrong_middle t (cell_of e c.in-Some.middle)) c.if-over_cell.true ∙ ap (is_wrong_middle true) cell) refl)),
+          (told_next _ _ _ _ (ap (λ t. is_wrong_middle t (cell_of e c.in-Some.middle)) c.if-over_cell.true ∙ ap (is_wrong_middle true) cell) refl)),
       key_gives now o c.args.i c.args.j a b c.in-Some.middle c.in-Some-cell.cell c.if-over_cell.true two middle cell
-      ∙ ap Some (sym (c.between.ensures.value
-      ∙ ap (λ v. entry_between now Semi v c.other_end-y.result c.with.result) x
-      ∙ ap (λ v. entry_between now Semi (other_end a c.in-Some.middle) v c.with.result) y
-      ∙ ap (entry_between now Semi (other_end a c.in-Some.middle) (other_end b c.in-Some.middle)) (c.with.ensures.value ∙ ap (λ s. with_cell s c.in-Some-cell.cell) c.union-cells.ensures.value))),
+          ∙ ap Some (sym (c.between.ensures.value
+          ∙ ap (λ v. entry_between now Semi v c.other_end-y.result c.with.result) x
+          ∙ ap (λ v. entry_between now Semi (other_end a c.in-Some.middle) v c.with.result) y
+          ∙ ap (entry_between now Semi (other_end a c.in-Some.middle) (other_end b c.in-Some.middle)) (c.with.ensures.value ∙ ap (λ s. with_cell s c.in-Some-cell.cell) c.union-cells.ensures.value))),
       c.between.ensures.given,
     )
 
@@ -115,7 +115,7 @@ returns-else-over_cell c =
     let share = ap share_cell (sym two) ∙ sym c.shares_cell.ensures in
     let e = elements_at now in
     let ends = ap (λ v. is_cell_in e v b.carrier || is_cell_in e (other_end b c.in-Some.middle) a.carrier) (sym c.other_end-x.ensures)
-        ∙ ap (λ v. is_cell_in e c.other_end-x.result b.carrier || is_cell_in e v a.carrier) (sym c.other_end-y.ensures) ∙ sym c.is_either_in.ensures in
+    ∙ ap (λ v. is_cell_in e c.other_end-x.result b.carrier || is_cell_in e v a.carrier) (sym c.other_end-y.ensures) ∙ sym c.is_either_in.ensures in
     let at : c.self.inside.elements ≡ e = c.self.invariant.are_elements ∙ ap elements_at c.self.view_is in
     let cell = ap (λ e. cell_of e c.in-Some.middle) (sym at) ∙ sym c.cell.ensures.value ∙ c.in-Some-cell.is in
     reason ∙ told_next _ _ _ _ (share ∙ c.if-shares_cell.false) (told_next _ _ _ _ (ends ∙ c.if-is_either_in.false)
@@ -134,7 +134,7 @@ returns-then-over_cell-2 c =
     let share = ap share_cell (sym two) ∙ sym c.shares_cell.ensures in
     let e = elements_at now in
     let ends = ap (λ v. is_cell_in e v b.carrier || is_cell_in e (other_end b c.in-Some.middle) a.carrier) (sym c.other_end-x.ensures)
-        ∙ ap (λ v. is_cell_in e c.other_end-x.result b.carrier || is_cell_in e v a.carrier) (sym c.other_end-y.ensures) ∙ sym c.is_either_in.ensures in
+    ∙ ap (λ v. is_cell_in e c.other_end-x.result b.carrier || is_cell_in e v a.carrier) (sym c.other_end-y.ensures) ∙ sym c.is_either_in.ensures in
     let at : c.self.inside.elements ≡ e = c.self.invariant.are_elements ∙ ap elements_at c.self.view_is in
     let cell = ap (λ e. cell_of e c.in-Some.middle) (sym at) ∙ sym c.cell.ensures.value ∙ c.in-None.is in
     reason ∙ told_next _ _ _ _ (share ∙ c.if-shares_cell.false) (told_next _ _ _ _ (ends ∙ c.if-is_either_in.false)
@@ -153,17 +153,17 @@ returns-else-over_cell-2 c =
     let share = ap share_cell (sym two) ∙ sym c.shares_cell.ensures in
     let e = elements_at now in
     let ends = ap (λ v. is_cell_in e v b.carrier || is_cell_in e (other_end b c.in-Some.middle) a.carrier) (sym c.other_end-x.ensures)
-        ∙ ap (λ v. is_cell_in e c.other_end-x.result b.carrier || is_cell_in e v a.carrier) (sym c.other_end-y.ensures) ∙ sym c.is_either_in.ensures in
+    ∙ ap (λ v. is_cell_in e c.other_end-x.result b.carrier || is_cell_in e v a.carrier) (sym c.other_end-y.ensures) ∙ sym c.is_either_in.ensures in
     let at : c.self.inside.elements ≡ e = c.self.invariant.are_elements ∙ ap elements_at c.self.view_is in
     let cell = ap (λ e. cell_of e c.in-Some.middle) (sym at) ∙ sym c.cell.ensures.value ∙ c.in-None.is in
     let x = c.other_end-x.ensures in
     let y = c.other_end-y.ensures in (
       reason ∙ told_next _ _ _ _ (share ∙ c.if-shares_cell.false) (told_next _ _ _ _ (ends ∙ c.if-is_either_in.false)
-      (told_next _ _ _ _ (ap (λ t. is_wrong_middle t (cell_of e c.in-Some.middle)) c.if-over_cell-2.false ∙ ap (is_wrong_middle false) cell) refl)),
+          (told_next _ _ _ _ (ap (λ t. is_wrong_middle t (cell_of e c.in-Some.middle)) c.if-over_cell-2.false ∙ ap (is_wrong_middle false) cell) refl)),
       and_gives now o c.args.i c.args.j a b c.in-Some.middle c.if-over_cell-2.false two middle
-      ∙ ap Some (sym (c.between-else-over_cell-2.ensures.value
-      ∙ ap (λ v. entry_between now Full v c.other_end-y.result c.union-cells.result) x
-      ∙ ap (λ v. entry_between now Full (other_end a c.in-Some.middle) v c.union-cells.result) y
-      ∙ ap (entry_between now Full (other_end a c.in-Some.middle) (other_end b c.in-Some.middle)) c.union-cells.ensures.value)),
+          ∙ ap Some (sym (c.between-else-over_cell-2.ensures.value
+          ∙ ap (λ v. entry_between now Full v c.other_end-y.result c.union-cells.result) x
+          ∙ ap (λ v. entry_between now Full (other_end a c.in-Some.middle) v c.union-cells.result) y
+          ∙ ap (entry_between now Full (other_end a c.in-Some.middle) (other_end b c.in-Some.middle)) c.union-cells.ensures.value)),
       c.between-else-over_cell-2.ensures.given,
     )

@@ -1,7 +1,8 @@
-use Rattle.std.proofs.Common.{◌≡◌, ℕ, All, ◌++◌, ◌∷◌, [], Some, None, refl, ap, sym, ◌∙◌, subst, true, arith}
-use Rattle.std.proofs.lemmas.List.Elements.{All-append}
+use Rattle.std.proofs.Common.{All, ap, sym, ◌∙◌, subst}
+use Rattle.std.proofs.lemmas.List.Elements.{All-push}
 use Rattle.hex_board.specs.Elements.{PlayerBoard}
 use Rattle.hex_board.specs.Positions.{is_empty_at}
+use Rattle.win_cert.specs.Entries.{Context}
 use Rattle.win_cert.specs.Reasons.{reason_against}
 use Rattle.win_cert.specs.Statements.{derivation}
 use Rattle.cert_check.specs.Keeping.{IsGivenOnIf}
@@ -19,18 +20,19 @@ with_stones-self-inside-requires c k t =
 pub invariant_of-self-in-Put : goal.invariant_of-self-in-Put
 invariant_of-self-in-Put c =
     let base : PlayerBoard = record { board = c.self.inside.base; player = c.self.inside.player } in
-    let given : All (IsGivenOnIf base) (c.self.inside.given.items ++ c.args.given ∷ []) = All-append (IsGivenOnIf base) c.self.inside.given.items (c.args.given ∷ []) c.self.invariant.are_given ? in
+    let mine : IsGivenOnIf base c.args.given = subst (λ (n : Context). IsGivenOnIf n.base c.args.given) (sym c.self.view_is) c.requires.2 in
     record {
       is_board = c.with_stones-self-inside.ensures;
       are_elements = c.elements-self-inside.ensures ∙ ap (λ (p : _). record { board = p; player = c.self.inside.player }) c.with_stones-self-inside.ensures;
-      are_given = ?;
+      are_given = subst (All (IsGivenOnIf base)) (sym c.in-Ok.ensures.items) (All-push (IsGivenOnIf base) c.self.inside.given.items c.args.given c.self.invariant.are_given mine);
     }
 
 pub invariant_of-self-in_default : goal.invariant_of-self-in_default
 invariant_of-self-in_default c =
     let base : PlayerBoard = record { board = c.self.inside.base; player = c.self.inside.player } in
+    let mine : IsGivenOnIf base c.args.given = subst (λ (n : Context). IsGivenOnIf n.base c.args.given) (sym c.self.view_is) c.requires.2 in
     record {
       is_board = c.self.invariant.is_board;
       are_elements = c.self.invariant.are_elements;
-      are_given = ?;
+      are_given = subst (All (IsGivenOnIf base)) (sym c.in-Ok.ensures.items) (All-push (IsGivenOnIf base) c.self.inside.given.items c.args.given c.self.invariant.are_given mine);
     }

@@ -1,4 +1,4 @@
-use Rattle.std.proofs.Common.{◌≡◌, ap, ◌∙◌, refl, not, sym}
+use Rattle.std.proofs.Common.{ap, ◌∙◌, refl, not}
 use Rattle.hex_board.specs.Positions.{is_empty_at}
 use Rattle.cert_check.proofs.BadStones.{bad_stone_is, inside_of, small_set}
 use Rattle.cert_check.proofs.ReasonLaws.{put_reasons, told_first, told_next}
