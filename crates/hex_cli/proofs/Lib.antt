@@ -1,3 +1,4 @@
+pub mod InputEnds
 pub mod RunLaws
 pub mod DeterminedLaws
 pub mod SearchedMoves

@@ -16,15 +16,20 @@ use Rattle.hex_cli.specs.Modes.{PlayedTo}
 use Rattle.htp_session.specs.Devices.{stop_of}
 use Rattle.hexd_words.specs.declared.settings.Mode.{Mode}
 use Rattle.hexd_words.specs.declared.settings.Mode.TheVariants.{Htp}
+use Rattle.hexd_words.specs.declared.settings.Mode.TheVariants as modes
+use Rattle.hex_cli.specs.Inputs.{mode_of}
+use Rattle.hex_cli.specs.declared.inputs.InputMode.{InputMode}
+use Rattle.hex_cli.specs.declared.inputs.InputMode.TheVariants.{Check, Migrate, Audit}
 use Rattle.hex_cli.specs.declared.ends.End.{End}
-use Rattle.hex_cli.specs.declared.ends.End.TheVariants.{Done, Usage, Stopped}
+use Rattle.hex_cli.specs.declared.ends.End.TheVariants.{Done, Rejected, Usage, Stopped}
 
 end_numbered : ℕ → End
-end_numbered n = if n == 0 then Done else if n == 2 then Usage else if n == 3 then Stopped ReadFault else if n == 4 then Stopped WriteFault else if n == 5 then Stopped Memory else if n == 6 then Stopped TooLong else Stopped ArchiveFault
+end_numbered n = if n == 0 then Done else if n == 1 then Rejected else if n == 2 then Usage else if n == 3 then Stopped ReadFault else if n == 4 then Stopped WriteFault else if n == 5 then Stopped Memory else if n == 6 then Stopped TooLong else Stopped ArchiveFault
 
 end_of_status : (end : End) → end_numbered (status_of end) ≡ end
 unfolding end_numbered
 end_of_status Done = refl
+end_of_status Rejected = refl
 end_of_status Usage = refl
 end_of_status (Stopped ReadFault) = refl
 end_of_status (Stopped WriteFault) = refl
@@ -46,18 +51,20 @@ status_counts before now end other status e c = record {
 
 -- without a fault and within the limit a session is done, or memory ran out
 pub complete_at : (end : End) (options : Options) (size limit : ℕ) (a b : ShelfAndArchive) (x y : Option Told) → PlayedTo end options size limit a b x y → end ≢ Stopped ReadFault → end ≢ Stopped WriteFault → end ≢ Stopped ArchiveFault
-    → Both x y (λ o n. length (since o n) ≤ limit → (status_of end ≡ 0) ⊎ (status_of end ≡ 5))
+    → Both x y (λ o n. length (since o n) ≤ limit → (status_of end ≡ 0) ⊎ (status_of end ≡ 1) ⊎ (status_of end ≡ 5))
 complete_at Done options size limit a b x y told r w v = Both-weaker x y _ _ (λ o n p few. inl refl) told.outcome
+complete_at Rejected options size limit a b x y told r w v = absurd told
 complete_at Usage options size limit a b x y told r w v = absurd told
 complete_at (Stopped ReadFault) options size limit a b x y told r w v = absurd (r refl)
 complete_at (Stopped WriteFault) options size limit a b x y told r w v = absurd (w refl)
-complete_at (Stopped Memory) options size limit a b x y told r w v = Both-weaker x y _ _ (λ o n p few. inr refl) told.outcome
+complete_at (Stopped Memory) options size limit a b x y told r w v = Both-weaker x y _ _ (λ o n p few. inr (inr refl)) told.outcome
 complete_at (Stopped ArchiveFault) options size limit a b x y told r w v = absurd (v refl)
 complete_at (Stopped TooLong) options size limit a b x y told r w v = Both-weaker x y _ _ (λ o n p few. absurd (omega (arith, p.ends.many, few))) told.outcome
 
 -- too long is the end exactly where one byte more than the limit was taken
 pub too_long_exactly : (end : End) (options : Options) (size limit : ℕ) (a b : ShelfAndArchive) (x y : Option Told) → PlayedTo end options size limit a b x y → Both x y (λ o n. (status_of end ≡ 6) ↔ (length (since o n) ≡ limit + 1))
 too_long_exactly Done options size limit a b x y told = Both-weaker x y _ _ (λ o n p. (λ e. absurd (omega (arith, e)), λ e. absurd (omega (arith, p.ends.in_limit, e)))) told.outcome
+too_long_exactly Rejected options size limit a b x y told = absurd told
 too_long_exactly Usage options size limit a b x y told = absurd told
 too_long_exactly (Stopped ReadFault) options size limit a b x y told = Both-weaker x y _ _ (λ o n p. (λ e. absurd (omega (arith, e)), λ e. absurd (omega (arith, p.ends.in_limit, e)))) told.outcome
 too_long_exactly (Stopped WriteFault) options size limit a b x y told = Both-weaker x y _ _ (λ o n p. (λ e. absurd (omega (arith, e)), λ e. absurd (omega (arith, p.ends.in_limit, e)))) told.outcome
@@ -73,11 +80,13 @@ played (Err stop) options size limit a b x y p = p
 -- a session never ends with a usage
 pub no_usage : (end : End) (options : Options) (size limit : ℕ) (a b : ShelfAndArchive) (x y : Option Told) → PlayedTo end options size limit a b x y → end ≢ Usage
 no_usage Done options size limit a b x y p e = absurd (cc)
+no_usage Rejected options size limit a b x y p e = absurd p
 no_usage Usage options size limit a b x y p e = absurd p
 no_usage (Stopped stop) options size limit a b x y p e = absurd (cc)
 
 stop_in : End → Option Stop
 stop_in Done = None
+stop_in Rejected = None
 stop_in Usage = None
 stop_in (Stopped stop) = Some stop
 
@@ -107,6 +116,9 @@ pub left_so : (outcome : Outcome) (options : Options) (size limit : ℕ) (a : Sh
     → link ≡ link' → shelf ≡ shelf' → turns ≡ turns' → Conversed outcome options size limit a (shelf, turns) x link → Conversed outcome options size limit a (shelf', turns') x link'
 left_so outcome options size limit a x link link' shelf shelf' turns turns' e f h c = rw (← e, ← f, ← h) c
 
--- htp is the only mode
-pub only_htp : (mode : Mode) → mode ≡ Htp
-only_htp Htp = refl
+-- each mode is htp, or one that takes its whole input
+pub by_mode : (mode : Mode) → (mode ≡ Htp) ⊎ ((input : InputMode) × (mode ≡ mode_of input))
+by_mode Htp = inl refl
+by_mode modes.Check = inr (Check, refl)
+by_mode modes.Migrate = inr (Migrate, refl)
+by_mode modes.Audit = inr (Audit, refl)

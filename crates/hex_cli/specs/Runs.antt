@@ -14,10 +14,12 @@ use Rattle.htp_session.specs.Endings.{since}
 use Rattle.htp_session.specs.declared.stops.Stop.TheVariants.{Memory, TooLong}
 use Rattle.hex_cli.specs.Determined.{IsDetermined}
 use Rattle.hex_cli.specs.Headline.{Headline}
-use Rattle.hex_cli.specs.Modes.{PlaysTo, engine_options}
+use Rattle.hex_cli.specs.Modes.{AnswersTo, PlaysTo, engine_options}
+use Rattle.hex_cli.specs.Inputs.{IsTextOf, mode_of}
+use Rattle.hex_cli.specs.declared.inputs.InputMode.{InputMode}
 use Rattle.hex_cli.specs.Statuses.{status_of, error_line}
 use Rattle.hex_cli.specs.declared.ends.End.{End}
-use Rattle.hex_cli.specs.declared.ends.End.TheVariants.{Done, Usage, Stopped}
+use Rattle.hex_cli.specs.declared.ends.End.TheVariants.{Done, Rejected, Usage, Stopped}
 use Rattle.hex_cli.specs.declared.limits.TheConstants.{INPUT_LIMIT}
 
 -- ---- the words
@@ -72,6 +74,23 @@ abbrev pub PlaysBy : {L F A : Type 0} → links.Ghosts L → shelves.Ghosts F �
 PlaysBy l f a words status old new =
     (end : End) → status ≡ status_of end → PlaysInMode l f a words end old new
 
+-- A mode that takes its whole input came to this end.
+abbrev pub AnswersInMode : {L : Type 0} → links.Ghosts L → List (List ℕ) → End → L → L → Type 0
+AnswersInMode l words end link link_now = (mode : InputMode) → InMode (mode_of mode) words
+    (λ options. AnswersTo l (IsTextOf mode) end link link_now)
+
+-- this mode did, for every end of this status
+abbrev pub AnswersBy : {L : Type 0} → links.Ghosts L → InputMode → List (List ℕ) → ℕ
+    → L → L → Type 0
+AnswersBy l mode words status link link_now = (end : End) → status ≡ status_of end
+    → InMode (mode_of mode) words (λ options. AnswersTo l (IsTextOf mode) end link link_now)
+
+-- in a mode that takes its whole input shelf and archive stand idle
+abbrev pub IsIdleInMode : {F A : Type 0} → shelves.Ghosts F → archives.Ghosts A → List (List ℕ)
+    → F → F → A → A → Type 0
+IsIdleInMode f a words files files_now turns turns_now = (mode : InputMode)
+    → InMode (mode_of mode) words (λ options. Idle f a files files_now turns turns_now)
+
 -- Mode htp, where the run is done: each searched move.
 abbrev pub HasHeadline : {L A : Type 0} → links.Ghosts L → archives.Ghosts A → List (List ℕ) → ℕ
     → L → L → A → A → Type 0
@@ -110,7 +129,7 @@ IsTooLong l words status link link_now = (options : Options) → WellFormed word
     (status ≡ status_of (Stopped TooLong)) ↔ (length (since old new) ≡ INPUT_LIMIT + 1))
 
 -- with well-formed words, where no count of faults rose and at most the limit was taken, the run is
--- done, or memory ran out
+-- done, its input is rejected, or memory ran out
 abbrev pub Completes : {L A : Type 0} → links.Ghosts L → archives.Ghosts A → List (List ℕ) → ℕ
     → L → L → A → A → Type 0
 Completes l a words status link link_now archive archive_now =
@@ -119,7 +138,8 @@ Completes l a words status link link_now archive archive_now =
     → ¬ Rose (l.write_faults link) (l.write_faults link_now)
     → ¬ Rose (a.faults archive) (a.faults archive_now)
     → Both (l.told link) (l.told link_now) (λ old new. length (since old new) ≤ INPUT_LIMIT
-    → (status ≡ status_of Done) ⊎ (status ≡ status_of (Stopped Memory)))
+    → (status ≡ status_of Done) ⊎ (status ≡ status_of Rejected)
+    ⊎ (status ≡ status_of (Stopped Memory)))
 
 -- the errors were given the line of the status, or a front of it where a write failed
 abbrev pub Reports : {E : Type 0} → links.Ghosts E → ℕ → E → E → Type 0

@@ -1,20 +1,27 @@
 -- How a run ends: its status, and the line that it gives to the errors.
-use Rattle.std.specs.Prelude.{◌≡◌, ℕ, List, [], Ok, Err, codes}
+use Rattle.std.specs.Prelude.{◌≡◌, Bool, true, false, ℕ, List, [], Result, Ok, Err, codes}
 use Rattle.htp_session.specs.Endings.{Outcome}
 use Rattle.htp_session.specs.declared.stops.Stop.{Stop}
 use Rattle.htp_session.specs.declared.stops.Stop.TheVariants.{ReadFault, WriteFault, Memory}
 use Rattle.htp_session.specs.declared.stops.Stop.TheVariants.{TooLong, ArchiveFault}
 use Rattle.hex_cli.specs.declared.ends.End.{End}
-use Rattle.hex_cli.specs.declared.ends.End.TheVariants.{Done, Usage, Stopped}
+use Rattle.hex_cli.specs.declared.ends.End.TheVariants.{Done, Rejected, Usage, Stopped}
 
 -- how a run ends whose session ended so
 abbrev pub end_for : Outcome → End
 end_for (Ok done) = Done
 end_for (Err stop) = Stopped stop
 
+-- how a run ends that answered its whole input, accepted or not, or stopped before
+abbrev pub end_of_answer : Result Bool Stop → End
+end_of_answer (Ok true) = Done
+end_of_answer (Ok false) = Rejected
+end_of_answer (Err stop) = Stopped stop
+
 -- the status of a run that ends so
 abbrev pub status_of : End → ℕ
 status_of Done = 0
+status_of Rejected = 1
 status_of Usage = 2
 status_of (Stopped ReadFault) = 3
 status_of (Stopped WriteFault) = 4
@@ -29,6 +36,7 @@ HasStopped status stop = status ≡ status_of (Stopped stop)
 -- the one line that an end gives to the errors
 abbrev pub error_line : End → List ℕ
 error_line Done = []
+error_line Rejected = []
 error_line Usage = codes "hexd: usage\n"
 error_line (Stopped ReadFault) = codes "hexd: read fault\n"
 error_line (Stopped WriteFault) = []

@@ -1,7 +1,7 @@
 //! How a run ends: its status, and the line that it gives to the errors.
 
 ghost use Rattle.std.specs.Prelude.{◌≡◌};
-ghost use Rattle.hex_cli.specs.Statuses.{end_for, status_of, error_line};
+ghost use Rattle.hex_cli.specs.Statuses.{end_for, end_of_answer, status_of, error_line};
 
 use htp_session::Stop;
 
@@ -10,6 +10,8 @@ use htp_session::Stop;
 pub enum End {
     /// It did what its words ask for.
     Done,
+    /// It read its whole input, and answered that this is not accepted.
+    Rejected,
     /// The words are not well formed.
     Usage,
     /// It stopped before its end.
@@ -27,12 +29,24 @@ impl End {
         }
     }
 
+    /// How a run ends that answered its whole input, accepted or not, or stopped before.
+    pub fn of_answer(answer: Result<bool, Stop>) -> End
+        ensures { result ≡ end_of_answer answer }
+    {
+        match answer {
+            Ok(true) => End::Done,
+            Ok(false) => End::Rejected,
+            Err(stop) => End::Stopped(stop),
+        }
+    }
+
     /// The status of a run that ended so.
     pub fn status(self) -> u8
         ensures { result ≡ status_of self }
     {
         match self {
             End::Done => 0,
+            End::Rejected => 1,
             End::Usage => 2,
             End::Stopped(Stop::ReadFault) => 3,
             End::Stopped(Stop::WriteFault) => 4,
@@ -47,7 +61,7 @@ impl End {
         ensures { result.now ≡ error_line self }
     {
         match self {
-            End::Done | End::Stopped(Stop::WriteFault) => b"",
+            End::Done | End::Rejected | End::Stopped(Stop::WriteFault) => b"",
             End::Usage => b"hexd: usage\n",
             End::Stopped(Stop::ReadFault) => b"hexd: read fault\n",
             End::Stopped(Stop::Memory) => b"hexd: out of memory\n",

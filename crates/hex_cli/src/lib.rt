@@ -34,8 +34,12 @@
 //! looked at, so no memory grows with the input but the game's own.
 #![tactic(auto)]
 
+mod audits;
+mod certificates;
 mod ends;
+mod inputs;
 mod limits;
+mod numbers;
 mod playing;
 #[cfg(test)]
 mod tests;

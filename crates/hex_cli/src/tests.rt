@@ -677,3 +677,70 @@ fn input_too_long(rt: HostRuntime) -> Result<(), Fail> {
     assert_eq!(rt; errors.given(), b"hexd: input too long\n".as_slice());
     Ok(())
 }
+
+/// A certificate of the empty board of size 2, for Black.
+const CERTIFICATE: &[u8] = b"hexcert 1\n\
+size 2\n\
+player black\n\
+black\n\
+white\n\
+adj a2 a1\n\
+adj a1 edge1\n\
+adj a2 b1\n\
+adj b1 edge1\n\
+key 0 1\n\
+key 2 3\n\
+or 4 5\n\
+adj a2 edge2\n\
+key 6 7\n\
+semi 8\n";
+
+/// The same in the latest version.
+const LATEST: &[u8] = b"hexcert 2\n\
+size 2\n\
+player black\n\
+black\n\
+white\n\
+adj a2 a1\n\
+adj a1 edge1\n\
+adj a2 b1\n\
+adj b1 edge1\n\
+key 0 1\n\
+key 2 3\n\
+or 4 5\n\
+adj a2 edge2\n\
+key 6 7\n\
+semi 8\n";
+
+/// The answer to bytes that are no certificate.
+const NO_CERTIFICATE: &[u8] = b"not a certificate at line 1\n";
+
+#[test]
+fn whole_inputs(rt: HostRuntime) -> Result<(), Fail> {
+    let rows: [(
+        &str,
+        &'static [&'static str],
+        &'static [u8],
+        &'static [u8],
+        u8,
+    ); 6] = [
+        ("check-v1", &["check"], CERTIFICATE, b"yes semi\n", 0),
+        ("check-nothing", &["check"], b"", NO_CERTIFICATE, 1),
+        ("migrate-v1", &["migrate"], CERTIFICATE, LATEST, 0),
+        ("migrate-nothing", &["migrate"], b"", NO_CERTIFICATE, 1),
+        ("audit-yes", &["audit"], b"", b"yes 0\n", 0),
+        ("audit-no-trace", &["audit"], b"HEXTREE2", b"no 0 1\n", 1),
+    ];
+    for (name, words, input, given, status) in rows {
+        let row = Row {
+            words,
+            stock: STOCK,
+            input,
+            given,
+            status,
+            line: b"",
+        };
+        check(&rt, name, &row, pieces_of(7))?;
+    }
+    Ok(())
+}

@@ -3,7 +3,7 @@ use Rattle.std.specs.Prelude.{◌≡◌, ◌≢◌, ◌≤◌, ◌^◌, ◌-◌,
 use Rattle.std.specs.Prelude.{None, length, codes}
 use Rattle.std.specs.Str.Parse.{IsNumeral, digits_value}
 use Rattle.hexd_words.specs.declared.settings.Mode.{Mode}
-use Rattle.hexd_words.specs.declared.settings.Mode.TheVariants.{Htp}
+use Rattle.hexd_words.specs.declared.settings.Mode.TheVariants.{Htp, Check, Migrate, Audit}
 use Rattle.hexd_words.specs.declared.settings.Options.{Options}
 
 abbrev pub TextBytes : Type 0
@@ -19,6 +19,9 @@ IsNumberFrom least most (Some text) n =
 -- the word that names a mode
 abbrev pub mode_word : Mode → TextBytes
 mode_word Htp = codes "htp"
+mode_word Check = codes "check"
+mode_word Migrate = codes "migrate"
+mode_word Audit = codes "audit"
 
 -- the word that turns a thing on or off
 abbrev pub switch_word : Bool → TextBytes

@@ -77,6 +77,9 @@ pub fn mode(word: Option<&str>) -> Option<Mode>
 {
     match word? {
         "htp" => Some(Mode::Htp),
+        "check" => Some(Mode::Check),
+        "migrate" => Some(Mode::Migrate),
+        "audit" => Some(Mode::Audit),
         _ => None,
     }
 }

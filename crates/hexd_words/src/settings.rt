@@ -7,6 +7,12 @@ use hex_io::Word;
 pub enum Mode {
     /// It plays a session over standard input and output. Its word is `htp`.
     Htp,
+    /// It checks a certificate. Its word is `check`.
+    Check,
+    /// It writes a certificate in the latest version. Its word is `migrate`.
+    Migrate,
+    /// It audits traces of closed trees. Its word is `audit`.
+    Audit,
 }
 
 /// The mode, and the value of each option, given or default.

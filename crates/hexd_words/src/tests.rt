@@ -54,7 +54,7 @@ htp\u{20}
 htp htp
 play
 help
-check
+checks
 bench
 --size=5
 htp htp --size=5
@@ -184,6 +184,20 @@ fn takes_lines(rt: HostRuntime) -> Result<(), Fail> {
             "{line}"
         );
         assert!(rt; options.trace.is_none(), "{line}");
+    }
+    Ok(())
+}
+
+#[test]
+fn takes_modes(rt: HostRuntime) -> Result<(), Fail> {
+    let table = [
+        ("--seed 1 migrate", Mode::Migrate),
+        ("check", Mode::Check),
+        ("-- audit", Mode::Audit),
+    ];
+    for (line, mode) in table {
+        let options = read(rt.alloc(), line)?.ok_or("refused")?;
+        assert_eq!(rt; options.mode, mode, "{line}");
     }
     Ok(())
 }

@@ -1,6 +1,6 @@
 //! Sessions over links in memory that take at most so many bytes.
 
-ghost use Rattle.std.specs.Prelude.{◌≡◌};
+ghost use Rattle.std.specs.Prelude.{◌≡◌, ◌^◌};
 ghost use Rattle.tree_words.specs.Settings.{AreInRange};
 
 use crate::{Devices, InputAnswer, InputReader, Stop, answer_input, converse};
@@ -75,6 +75,8 @@ struct Echo;
 
 impl InputReader for Echo {
     ghost answers = { λ _ bytes text accepted. text ≡ bytes };
+
+    ghost most = { λ _. 2 ^ 64 };
 
     fn answer(&self, alloc: Global, input: &[u8]) -> Result<InputAnswer, AllocError> {
         let text = input.to_vec(alloc)?;

@@ -1,6 +1,6 @@
 //! Answers the whole input of a link by one text.
 
-ghost use Rattle.std.specs.Prelude.{◌≡◌, ℕ, Bool, List, IfOk, Some};
+ghost use Rattle.std.specs.Prelude.{◌≡◌, ◌≤◌, ℕ, Bool, List, IfOk, Some, length};
 ghost use Rattle.hex_io.specs.Causes.{CountsFault};
 ghost use Rattle.htp_session.specs.Devices.{stop_of};
 ghost use Rattle.htp_session.specs.Inputs.{AnswersInput};
@@ -22,13 +22,17 @@ pub trait InputReader {
     /// That the bytes are answered by this text, accepted or not.
     ghost answers: { Self → List ℕ → List ℕ → Bool → Type 0 };
 
+    /// The most bytes that it answers.
+    ghost most: { Self → ℕ };
+
     /// The answer to an input. The only refusal is want of memory.
     fn answer(&self, alloc: Global, input: &[u8]) -> Result<InputAnswer, AllocError>
+        requires { length input.now ≤ most self.now }
         ensures { IfOk result (λ a. answers self.now input.now a.text.items a.accepted) };
 }
 
 /// Takes all that is to come, where it has at most `limit` bytes, and gives the text that answers
-/// it. It says whether the input was accepted.
+/// it. It says whether the input was accepted. The reader answers so many bytes.
 ///
 /// `ReadFault` and `WriteFault` come only where the link counted that fault, `TooLong` exactly
 /// where `limit + 1` bytes were taken. It refuses nothing else but for want of memory.
@@ -38,6 +42,7 @@ pub fn answer_input<L: Link, R: InputReader>(
     reader: &R,
     limit: usize,
 ) -> Result<bool, Stop>
+    requires { limit ≤ R.most reader.now }
     ensures answers { AnswersInput (R.answers reader.now) (L.told link.old) (L.told link.new) limit
         result }
     ensures read_fault { CountsFault (L.read_faults link.old) (L.read_faults link.new)

@@ -1,0 +1,123 @@
+-- What follows of how a mode ends that takes its whole input.
+use Rattle.std.proofs.Common.{Ok, Err, Result, Bool, true, false, List, [], Some, None, ◌≡◌, ◌≢◌, ℕ, ◌+◌, ◌≤◌, ◌<◌, ◌⊎◌, ◌++◌, length, drop, Option, refl, ap, sym, ◌∙◌, inl, inr, arith, subst}
+use Rattle.std.specs.Prelude.{◌↔◌}
+use Rattle.std.proofs.Math.Seq.{drop-append_seam}
+use Rattle.hex_io.specs.Causes.{CountsFault}
+use Rattle.hex_io.specs.Told.{Told, Both}
+use Rattle.hex_io.proofs.BothLaws.{Both-weaker}
+use Rattle.htp_session.specs.Devices.{stop_of}
+use Rattle.htp_session.specs.Endings.{since}
+use Rattle.htp_session.specs.Inputs.{TextOf, TookBytes, TookAtMost, TookTooMany, AnsweredAll, AnsweredPart, AnswersInput}
+use Rattle.htp_session.specs.declared.stops.Stop.{Stop}
+use Rattle.htp_session.specs.declared.stops.Stop.TheVariants.{ReadFault, WriteFault, Memory, TooLong, ArchiveFault}
+use Rattle.htp_session.proofs.InputLaws.{took_at_most, took_nothing}
+use Rattle.hexd_words.specs.declared.settings.Mode.TheVariants as modes
+use Rattle.hex_cli.specs.Inputs.{mode_of}
+use Rattle.hex_cli.specs.declared.inputs.InputMode.{InputMode}
+use Rattle.hex_cli.specs.declared.inputs.InputMode.TheVariants.{Check, Migrate, Audit}
+use Rattle.hex_cli.specs.Statuses.{end_of_answer, status_of}
+use Rattle.hex_cli.specs.declared.ends.End.{End}
+use Rattle.hex_cli.specs.declared.ends.End.TheVariants.{Done, Rejected, Usage, Stopped}
+
+taken_since : (o n : Told) (bytes : List ℕ) → n.taken ≡ o.taken ++ bytes → since o n ≡ bytes
+taken_since o n bytes e = ap (drop (length o.taken)) e ∙ drop-append_seam o.taken bytes
+
+few_since : (limit : ℕ) (o n : Told) → TookAtMost limit o n → length (since o n) ≤ limit
+few_since limit o n p = subst (λ (l : List ℕ). length l ≤ limit) (sym (taken_since o n p.0 p.2.taken)) p.1
+
+all_since : (Answers : TextOf) (accepted : Bool) (limit : ℕ) (o n : Told) → AnsweredAll Answers accepted limit o n → length (since o n) ≤ limit
+all_since Answers accepted limit o n p = subst (λ (l : List ℕ). length l ≤ limit) (sym (taken_since o n o.to_come p.1.taken)) p.1.in_limit
+
+part_since : (Answers : TextOf) (limit : ℕ) (o n : Told) → AnsweredPart Answers limit o n → length (since o n) ≤ limit
+part_since Answers limit o n p = subst (λ (l : List ℕ). length l ≤ limit) (sym (taken_since o n o.to_come p.3.taken)) p.3.in_limit
+
+not_too_long : (limit k s : ℕ) → k ≤ limit → s ≢ 6 → (s ≡ 6) ↔ (k ≡ limit + 1)
+not_too_long limit k s few other = (λ e. absurd (other e), λ e. absurd (omega (arith, e, few)))
+
+-- too long is the end exactly where one byte more than the limit was taken
+pub input_too_long : (Answers : TextOf) (limit : ℕ) (x y : Option Told) (answer : Result Bool Stop) → AnswersInput Answers x y limit answer
+    → Both x y (λ o n. (status_of (end_of_answer answer) ≡ 6) ↔ (length (since o n) ≡ limit + 1))
+input_too_long Answers limit x y (Ok true) told = Both-weaker x y _ _ (λ o n p. not_too_long limit _ 0 (all_since Answers true limit o n p) (λ e. omega (arith, e))) told
+input_too_long Answers limit x y (Ok false) told = Both-weaker x y _ _ (λ o n p. not_too_long limit _ 1 (all_since Answers false limit o n p) (λ e. omega (arith, e))) told
+input_too_long Answers limit x y (Err ReadFault) told = Both-weaker x y _ _ (λ o n p. not_too_long limit _ 3 (few_since limit o n p) (λ e. omega (arith, e))) told
+input_too_long Answers limit x y (Err WriteFault) told = Both-weaker x y _ _ (λ o n p. not_too_long limit _ 4 (part_since Answers limit o n p) (λ e. omega (arith, e))) told
+input_too_long Answers limit x y (Err Memory) told = Both-weaker x y _ _ (λ o n p. not_too_long limit _ 5 (few_since limit o n p) (λ e. omega (arith, e))) told
+input_too_long Answers limit x y (Err TooLong) told = Both-weaker x y _ _ (λ o n p. (λ e. subst (λ (l : List ℕ). length l ≡ limit + 1) (sym (taken_since o n p.0 p.2.taken)) p.1, λ e. refl)) told
+input_too_long Answers limit x y (Err ArchiveFault) told = absurd told
+
+-- without a fault and within the limit the mode is done, its input is rejected, or memory ran out
+pub input_complete : (Answers : TextOf) (limit : ℕ) (x y : Option Told) (answer : Result Bool Stop) → AnswersInput Answers x y limit answer
+    → end_of_answer answer ≢ Stopped ReadFault → end_of_answer answer ≢ Stopped WriteFault
+    → Both x y (λ o n. length (since o n) ≤ limit → (status_of (end_of_answer answer) ≡ 0) ⊎ (status_of (end_of_answer answer) ≡ 1) ⊎ (status_of (end_of_answer answer) ≡ 5))
+input_complete Answers limit x y (Ok true) told r w = Both-weaker x y _ _ (λ o n p few. inl refl) told
+input_complete Answers limit x y (Ok false) told r w = Both-weaker x y _ _ (λ o n p few. inr (inl refl)) told
+input_complete Answers limit x y (Err ReadFault) told r w = absurd (r refl)
+input_complete Answers limit x y (Err WriteFault) told r w = absurd (w refl)
+input_complete Answers limit x y (Err Memory) told r w = Both-weaker x y _ _ (λ o n p few. inr (inr refl)) told
+input_complete Answers limit x y (Err TooLong) told r w = Both-weaker x y _ _ (λ o n p few. absurd (omega (arith, subst (λ (l : List ℕ). length l ≤ limit) (taken_since o n p.0 p.2.taken) few, p.1))) told
+input_complete Answers limit x y (Err ArchiveFault) told r w = absurd told
+
+-- such a mode never ends with a usage, or by the archive
+pub input_no_usage : (Answers : TextOf) (limit : ℕ) (x y : Option Told) (answer : Result Bool Stop) → AnswersInput Answers x y limit answer → end_of_answer answer ≢ Usage
+input_no_usage Answers limit x y (Ok true) told e = absurd (cc)
+input_no_usage Answers limit x y (Ok false) told e = absurd (cc)
+input_no_usage Answers limit x y (Err stop) told e = absurd (cc)
+
+pub input_no_archive : (Answers : TextOf) (limit : ℕ) (x y : Option Told) (answer : Result Bool Stop) → AnswersInput Answers x y limit answer → end_of_answer answer ≢ Stopped ArchiveFault
+input_no_archive Answers limit x y (Ok true) told e = absurd (cc)
+input_no_archive Answers limit x y (Ok false) told e = absurd (cc)
+input_no_archive Answers limit x y (Err ReadFault) told e = absurd (cc)
+input_no_archive Answers limit x y (Err WriteFault) told e = absurd (cc)
+input_no_archive Answers limit x y (Err Memory) told e = absurd (cc)
+input_no_archive Answers limit x y (Err TooLong) told e = absurd (cc)
+input_no_archive Answers limit x y (Err ArchiveFault) told e = absurd told
+
+stop_in : End → Option Stop
+stop_in Done = None
+stop_in Rejected = None
+stop_in Usage = None
+stop_in (Stopped stop) = Some stop
+
+stop_in_answer : (answer : Result Bool Stop) → stop_in (end_of_answer answer) ≡ stop_of answer
+unfolding stop_in
+stop_in_answer (Ok true) = refl
+stop_in_answer (Ok false) = refl
+stop_in_answer (Err stop) = refl
+
+end_of_stop : (answer : Result Bool Stop) (stop : Stop) → stop_of answer ≡ Some stop → end_of_answer answer ≡ Stopped stop
+end_of_stop (Ok true) stop e = absurd (cc)
+end_of_stop (Ok false) stop e = absurd (cc)
+end_of_stop (Err other) stop e = cc
+
+stopped_so : (answer : Result Bool Stop) (stop : Stop) → end_of_answer answer ≡ Stopped stop → stop_of answer ≡ Some stop
+unfolding stop_in
+stopped_so answer stop e = sym (stop_in_answer answer) ∙ ap stop_in e
+
+-- a count that rises with one answer rises with its end
+pub answer_counts : (before now : ℕ) (answer : Result Bool Stop) (stop : Stop) (end : End) → end ≡ end_of_answer answer → CountsFault before now (stop_of answer ≡ Some stop) → CountsFault before now (end ≡ Stopped stop)
+answer_counts before now answer stop end e c = record {
+  later = c.later;
+  rose = λ s. c.rose (stopped_so answer stop (sym e ∙ s));
+  kept = λ n. c.kept (λ s. n (e ∙ end_of_stop answer stop s));
+}
+
+-- no such mode is htp, and each has its own
+pub not_htp : (mode : InputMode) → mode_of mode ≢ modes.Htp
+not_htp Check e = absurd (cc)
+not_htp Migrate e = absurd (cc)
+not_htp Audit e = absurd (cc)
+
+pub same_mode : (a b : InputMode) → mode_of a ≡ mode_of b → a ≡ b
+same_mode Check Check e = refl
+same_mode Check Migrate e = absurd (cc)
+same_mode Check Audit e = absurd (cc)
+same_mode Migrate Check e = absurd (cc)
+same_mode Migrate Migrate e = refl
+same_mode Migrate Audit e = absurd (cc)
+same_mode Audit Check e = absurd (cc)
+same_mode Audit Migrate e = absurd (cc)
+same_mode Audit Audit e = refl
+
+-- before the first read nothing was taken
+pub input_nothing : (Answers : TextOf) (limit : ℕ) (x : Option Told) → AnswersInput Answers x x limit (Err Memory)
+input_nothing Answers limit x = took_at_most x x [] limit (omega arith) (took_nothing x [] refl)
