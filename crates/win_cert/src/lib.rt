@@ -17,8 +17,6 @@ mod reader;
 mod reading;
 mod refusals;
 mod steps;
-#[cfg(test)]
-mod tests;
 mod values;
 mod words;
 mod writing;
