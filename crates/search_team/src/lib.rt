@@ -2,7 +2,9 @@
 #![tactic(auto)]
 
 mod gates;
+mod searching;
 mod working;
 
 pub use gates::{Gate, OpenGate};
+pub use searching::search;
 pub use working::work;
