@@ -6,9 +6,9 @@ use Rattle.search_team.proofs.searching.+fn-team-join+arg2+fn-team-join+arg3+tea
 pub join-left-requires-after_bounds : goal.join-left-requires-after_bounds
 join-left-requires-after_bounds g t c =
     let kept = kept-fresh c.args.tree.now c.args.seat c.split-other.new.self c.args.workers (c.args.workers / 2)
-        c.requires.fresh c.split-other.ensures.own.0 c.split-other.ensures.kept c.split-other.ensures.order.0 in
+    c.requires.fresh c.split-other.ensures.own.0 c.split-other.ensures.kept c.split-other.ensures.order.0 in
     let given = given-fresh c.args.tree.now c.args.seat c.split-other.result (c.args.workers / 2)
-        c.split-other.ensures.own.1 c.split-other.ensures.given c.split-other.ensures.order.1 in
+    c.split-other.ensures.own.1 c.split-other.ensures.given c.split-other.ensures.order.1 in
     λ κs lives. (
       (
         search rules,
