@@ -1,0 +1,25 @@
+-- A new walker begins; each step is one more of its run; where none is left the law tells the end.
+use Rattle.std.proofs.Common.{rules, ◌≡◌, suc, sym, ◌∙◌}
+use Rattle.tree_words.specs.declared.steps.Op.TheVariants.{Done}
+use Rattle.walker.specs.Belongs.{Belongs}
+use Rattle.lone_worker.proofs.Machines.{ends-as-sequence}
+use Rattle.search_team.proofs.working.work.Goals as goal
+
+pub steps-init : goal.steps-init
+steps-init g c =
+    let fresh = c.requires.fresh in
+    let belongs : Belongs c.new-walker.result c.args.seat.now.view
+    = c.new-walker.ensures.belongs c.args.seat.now.view (fresh.own.shape ∙ c.requires.shape) fresh.width fresh.nothing fresh.order in
+    record { own = fresh.own; belongs = belongs; alone = λ e. (0, (belongs, e)) }
+
+pub steps-preserved : goal.steps-preserved
+steps-preserved g c = record {
+  own = c.step.ensures.own;
+  belongs = c.step.ensures.belongs;
+  alone = λ e. let run = c.steps.invariant.alone e in (suc run.0, (c.steps.walker, c.steps.seat.view, run.1, c.step.ensures.step));
+}
+
+pub returns-then-eq-clause-sequence : goal.returns-then-eq-clause-sequence
+returns-then-eq-clause-sequence g c = λ e one.
+    let done : c.op-op.result ≡ Done = search rules in
+    ends-as-sequence c.args.shape.now c.steps.walker c.steps.seat.view (c.steps.invariant.alone e) (sym c.op-op.ensures.is ∙ done)

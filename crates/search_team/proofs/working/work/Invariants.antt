@@ -1,0 +1,18 @@
+-- The seat's view belongs to the walker; from the opening view on it has run alone.
+use Rattle.std.proofs.Common.{◌≡◌}
+use Rattle.arena_rule.specs.Views.{opening_view}
+use Rattle.walker.specs.Belongs.{Belongs}
+use Rattle.lone_worker.specs.Alone.{HasRunAlone}
+use Rattle.tree_rule.specs.Seats.{IsOf}
+use Rattle.search_team.specs.Left.{work_left}
+use Rattle.search_team.proofs.working.work.Given as goal
+
+abbrev pub invariant-steps : goal.invariant-steps
+invariant-steps g l = record {
+  own : IsOf l.tree l.seat;
+  belongs : Belongs l.walker l.seat.view;
+  alone : l.fn.seat.view ≡ opening_view l.shape → HasRunAlone l.shape l.walker l.seat.view;
+}
+
+abbrev pub decreases-steps : goal.decreases-steps
+decreases-steps g l = work_left l.walker l.seat.view

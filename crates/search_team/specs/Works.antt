@@ -1,0 +1,26 @@
+-- A seat before and after its worker has worked.
+use Rattle.std.specs.Prelude.{◌≡◌, ℕ}
+use Rattle.tree_words.specs.Settings.{Setting}
+use Rattle.arena_rule.specs.Views.{SeatView, HasDrawnNothing, HasEnded, opening_view}
+use Rattle.arena_rule.specs.IsView.{IsView}
+use Rattle.lone_worker.specs.Alone.{ShowsSequence}
+use Rattle.tree_rule.specs.Seats.{TreeData, SeatData, IsOf}
+
+-- the seat is of the tree, stands for this many workers, and has drawn nothing
+pub record IsFresh (tree : TreeData) (seat : SeatData) (workers : ℕ) : Type 0 where
+  pub own : IsOf tree seat
+  pub width : seat.view.width ≡ workers
+  pub nothing : HasDrawnNothing seat.view
+  pub order : IsView seat.view
+
+-- the seat is of the tree, stands for this many workers, and they have ended
+pub record IsDone (tree : TreeData) (seat : SeatData) (workers : ℕ) : Type 0 where
+  pub own : IsOf tree seat
+  pub width : seat.view.width ≡ workers
+  pub ended : HasEnded seat.view
+  pub order : IsView seat.view
+
+-- from the opening view of one worker on, the view's copy of the words shows the sequential tree
+abbrev pub WorksAsSequence : Setting → SeatView → SeatView → Type 0
+WorksAsSequence s before after =
+    before ≡ opening_view s → before.width ≡ 1 → ShowsSequence s after

@@ -1,0 +1,30 @@
+//! A team of threads over one shared tree.
+//!
+//! **Nouns.** A *worker* is a walker with a seat of its own, stepped until its draw answers that no
+//! playout is left ([`work`]). A *team* is the workers of one shape, each in a thread. A [`Gate`]
+//! is what a worker passes once, between its first looks and its first add; a test can hold workers
+//! there, and [`OpenGate`] holds none.
+//!
+//! **A caller** calls [`search`]. It makes the tree, splits its seat by halves until each part
+//! stands for one worker, lets each work in a thread, joins the seats and closes the tree.
+//!
+//! **What is proved.** `work` ends: each draw gives a number that its worker hasn't drawn, and a
+//! walk has a bounded number of steps. It takes no memory and never waits. `search` gives a closed
+//! tree of its shape for every number of workers, and with one the tree of the sequential search.
+//! Its only refusal is for want of memory, which is taken before any worker begins.
+//!
+//! **What is only tested, or not said.** That workers run side by side, which worker draws which
+//! number, how often and when the gate is passed, and speed.
+//!
+//! **Limits.** Those of a shape: 1 to 64 workers. The threads take their stacks from the system.
+#![tactic(auto)]
+
+mod gates;
+mod searching;
+#[cfg(test)]
+mod tests;
+mod working;
+
+pub use gates::{Gate, OpenGate};
+pub use searching::search;
+pub use working::work;

@@ -1,0 +1,62 @@
+//! One worker's loop.
+
+ghost use Rattle.std.specs.Prelude.{◌≡◌, ◌≢◌, ◌<◌};
+ghost use Rattle.tree_words.specs.declared.steps.Op.TheVariants.{Done};
+ghost use Rattle.walker.specs.Machine.{op_of};
+ghost use Rattle.walker.specs.Belongs.{Belongs};
+ghost use Rattle.lone_worker.specs.Alone.{MakesStep};
+ghost use Rattle.tree_rule.specs.Seats.{IsOf};
+ghost use Rattle.search_team.specs.Left.{work_left};
+ghost use Rattle.search_team.specs.Works.{IsFresh, IsDone, WorksAsSequence};
+
+use super::gates::Gate;
+use tree_rule::{Tree, TreeSeat};
+use tree_words::{Op, Shape};
+use walker::Walker;
+
+// Makes the walker's next step on the words of the tree.
+#[inline(always)]
+fn step(tree: &Tree, seat: &mut TreeSeat, walker: &mut Walker, op: Op)
+    requires own { IsOf tree.now seat.old }
+    requires belongs { Belongs walker.old seat.old.view }
+    requires next { op ≡ op_of walker.old }
+    requires some { op ≢ Done }
+    ensures own { IsOf tree.now seat.new }
+    ensures belongs { Belongs walker.new seat.new.view }
+    ensures step { MakesStep walker.old seat.old.view walker.new seat.new.view }
+    ensures fewer { work_left walker.new seat.new.view < work_left walker.old seat.old.view }
+{
+    let answer = seat.act(tree, op);
+    walker.got(answer);
+}
+
+/// Lets one worker work until its draw answers that no playout is left. The seat is of this tree
+/// of this shape, stands for one worker and has drawn nothing. Where its view was the opening one,
+/// its copy of the words then shows the tree of the sequential search.
+///
+/// It takes no memory and never waits. The gate is passed as its trait says.
+pub fn work<G: Gate>(tree: &Tree, seat: &mut TreeSeat, shape: &Shape, worker: u32, gate: &G)
+    requires shape { tree.now.shape ≡ shape.now }
+    requires fresh { IsFresh tree.now seat.old 1 }
+    ensures done { IsDone tree.now seat.new 1 }
+    ensures sequence { WorksAsSequence shape.now seat.old.view seat.new.view }
+{
+    let mut walker = Walker::new(shape);
+    let mut passed = false;
+    'steps: loop {
+        let op = walker.op();
+        if op == Op::Done {
+            return;
+        }
+        if !passed && is_add(op) {
+            gate.pass(worker);
+            passed = true;
+        }
+        step(tree, seat, &mut walker, op);
+    }
+}
+
+// Whether the step is an add to a count.
+fn is_add(op: Op) -> bool {
+    matches!(op, Op::Add(_, _))
+}
