@@ -38,6 +38,8 @@ mod reading;
 mod refusals;
 mod spelling;
 mod steps;
+#[cfg(test)]
+mod tests;
 mod values;
 mod words;
 mod writing;
