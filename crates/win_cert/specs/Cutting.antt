@@ -114,5 +114,7 @@ pub record AreLinesTo (d : StoreData) (marks : List Bool) (n : ℕ) (lines : Lis
   pub derived : AreDerived d.elements lines given
   pub few : length lines ≤ n
   pub number : length renamed ≡ n
-  pub places : (i : ℕ) (a : Entry) → i < n → is_marked marks i ≡ true → slice_get d.entries i ≡ Some a
-      → (get_or renamed i 0 < length lines) × (slice_get given (get_or renamed i 0) ≡ Some (unscoped a))
+  pub places : (i : ℕ) (a : Entry) → i < n → is_marked marks i ≡ true
+      → slice_get d.entries i ≡ Some a
+      → (get_or renamed i 0 < length lines)
+      × (slice_get given (get_or renamed i 0) ≡ Some (unscoped a))

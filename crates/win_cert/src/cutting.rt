@@ -7,7 +7,8 @@ ghost use Rattle.conn_store.specs.Rules.{FollowsFrom};
 ghost use Rattle.hex_board.specs.Elements.{element_count};
 ghost use Rattle.hex_board.specs.Places.{IsMember, Place};
 ghost use Rattle.win_cert.specs.Cuts.{CertifiesEntryAt, HasEdgeEntryAt};
-ghost use Rattle.win_cert.specs.Cutting.{AreMarks, AreStonesOn, Derives, IsEndFor, IsLineFor, IsMarkedBy};
+ghost use Rattle.win_cert.specs.Cutting.{AreMarks, AreStonesOn, Derives, IsEndFor};
+ghost use Rattle.win_cert.specs.Cutting.{IsLineFor, IsMarkedBy};
 ghost use Rattle.win_cert.specs.Cutting.{NameEarlier, named};
 ghost use Rattle.conn_store.specs.declared.entries.Entry.{Entry};
 
