@@ -1,0 +1,98 @@
+#!/usr/bin/env python3
+"""Plays sessions with `--trace`, compares the trees of their traces with what is worked out by hand,
+and has the traces, and changed ones, audited by `bin/hexd audit`.
+
+    examples/audit_rows.py
+
+It says nothing where all is as it has to be; else it names what differs, and ends with status 1.
+"""
+
+import os
+import struct
+import subprocess
+import sys
+import tempfile
+
+HEXD = os.path.join(os.path.dirname(os.path.abspath(__file__)), "..", "bin", "hexd")
+FRONT = 128  # bytes before the words of a tree: a name of 8, and 15 fields
+RECORD_AT, TALLY_AT = 144, 168  # in the trace of one playout on size 2
+wrong = []
+
+
+def expect(name, got, want):
+    """Notes what differs."""
+    if got != want:
+        wrong.append("%s: %r in place of %r" % (name, got, want))
+
+
+def session(words, lines):
+    """The trace of a session."""
+    with tempfile.TemporaryDirectory() as folder:
+        trace = os.path.join(folder, "trace")
+        command = [HEXD, "htp", *words, "--trace", trace]
+        done = subprocess.run(command, input=lines, capture_output=True)
+        expect("status of " + " ".join(words), done.returncode, 0)
+        with open(trace, "rb") as file:
+            return file.read()
+
+
+def audit(name, trace, line):
+    """What the audit has to say."""
+    done = subprocess.run([HEXD, "audit"], input=trace, capture_output=True)
+    expect(name, (done.stdout, done.returncode), (line, 0 if line.startswith(b"yes") else 1))
+
+
+def root_children(trace):
+    """The visits, wins, seen visits and seen wins of each child of the root of the first tree."""
+    playouts, count = struct.unpack_from("<Q", trace, 80)[0], struct.unpack_from("<Q", trace, 120)[0]
+    words = struct.unpack_from("<%dQ" % count, trace, FRONT)
+    block = words[playouts + 3]
+    nodes = [block + 4 + 4 * place for place in range(words[block + 3])]
+    return [(words[n + 2] >> 32, words[n + 2] % 2**32, words[n + 3] >> 32, words[n + 3] % 2**32) for n in nodes]
+
+
+def changed(trace, at, byte):
+    return trace[:at] + bytes([byte]) + trace[at + 1 :]
+
+
+def two_walks_on_one_cell(workers):
+    """A tree of two playouts on size 2, both from a1: neither worker had added when the other chose."""
+    tree = [0] * 28
+    tree[0], tree[1] = 28, 4
+    tree[2], tree[3] = 2 * 12 + 1, 2 * 12
+    tree[5], tree[6] = 8, 2 << 32 | 1
+    tree[8], tree[9], tree[11] = 4, 15, 4
+    tree[14], tree[15] = 2 << 32 | 1, 2 << 32 | 1
+    tree[16], tree[20], tree[24] = 257, 514, 771
+    tree[23], tree[27] = 1 << 32 | 1, 1 << 32
+    fields = [2, 0, 0, 0, 0, 0, 15, 0, workers, 2, 0, 1024, 8, 180, len(tree)]
+    return b"HEXTREE1" + struct.pack("<%dQ" % (len(fields) + len(tree)), *fields, *tree)
+
+
+def main():
+    one = session(["--playouts", "1", "--seed", "0"], b"boardsize 2\ngenmove b\n")
+    expect("one playout", root_children(one), [(1, 0, 1, 0), (0, 0, 0, 0), (0, 0, 0, 0), (0, 0, 1, 0)])
+    expect("length of one playout", len(one), 344)
+    four = session(["--playouts", "4"], b"boardsize 2\ngenmove b\n")
+    expect("four playouts", [child[0] for child in root_children(four)], [1, 1, 1, 1])
+    forced = session(["--playouts", "4"], b"boardsize 2\nplay b a2\nplay w b2\ngenmove b\n")
+    expect("a forced win", root_children(forced), [(2, 2, 2, 2), (2, 2, 2, 2)])
+
+    audit("no bytes", b"", b"yes 0\n")
+    audit("three trees", one + four + forced, b"yes 3\n")
+    audit("one tree twice", one + one, b"yes 2\n")
+    audit("another result", changed(one, RECORD_AT, 22), b"no 0 3\n")
+    audit("no record", changed(one, RECORD_AT, 0), b"no 0 3\n")
+    audit("a win less", changed(one, TALLY_AT, one[TALLY_AT] - 1), b"no 0 4\n")
+    audit("a win more", changed(one, TALLY_AT, one[TALLY_AT] + 1), b"no 0 4\n")
+    audit("a tree that is cut", one + one[:-1], b"no 1 1\n")
+    audit("a bad tree before a good one", changed(one, TALLY_AT, 7) + one, b"no 0 4\n")
+    audit("two workers on one cell", two_walks_on_one_cell(2), b"yes 1\n")
+    audit("two visits beside none, by one worker", two_walks_on_one_cell(1), b"no 0 6\n")
+    for line in wrong:
+        print("examples/audit_rows.py:", line)
+    return 1 if wrong else 0
+
+
+if __name__ == "__main__":
+    sys.exit(main())
