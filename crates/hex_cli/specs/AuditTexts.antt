@@ -2,7 +2,7 @@
 use Rattle.std.specs.Prelude.{◌≡◌, ℕ, Bool, true, false, List, ◌++◌, codes}
 use Rattle.std.specs.Fmt.{decimal}
 use Rattle.trace_audit.specs.Numbers.{number_of}
-use Rattle.trace_audit.specs.Verdicts as audits
+use Rattle.trace_audit.specs.Verdicts.{IsVerdictOn}
 use Rattle.trace_audit.specs.declared.types.Audit.{Audit}
 use Rattle.trace_audit.specs.declared.types.Audit.TheVariants.{Yes, No}
 
@@ -19,5 +19,5 @@ is_clean (No tree why) = false
 
 -- Mode audit: the text is the line of the verdict on the bytes.
 abbrev pub IsAuditText : List ℕ → List ℕ → Bool → Type 0
-IsAuditText bytes text accepted = (audit : Audit) × audits.IsVerdict bytes audit
+IsAuditText bytes text accepted = (audit : Audit) × IsVerdictOn bytes audit
     × (accepted ≡ is_clean audit) × (text ≡ audit_text audit)

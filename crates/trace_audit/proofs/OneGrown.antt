@@ -77,8 +77,8 @@ words_least s r (b ∷ bs) cs g a =
     let w : Without s b cs = without s b cs (a b (inl refl)) in
     let rest : other_words s bs ≤ other_words s w.others
     = words_least s r bs w.others g.1 (λ d i. w.kept d (a d (inr i)) (λ (e : d ≡ b).
-        let vacant = g.0.vacant in
-        omega (arith, vacant, ap (λ (z : LinkedBlock). link_of bs z.parent) e, has_link r bs d g.1 i))) in
+    let vacant = g.0.vacant in
+    omega (arith, vacant, ap (λ (z : LinkedBlock). link_of bs z.parent) e, has_link r bs d g.1 i))) in
     let one = weight s b in
     omega (arith, rest, w.words, one.1.more bs, one.1.more w.others)
 

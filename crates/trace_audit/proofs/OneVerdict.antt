@@ -7,7 +7,7 @@ use Rattle.tree_words.specs.Words.{end_of}
 use Rattle.tree_words.specs.Closing.{ClosedTree, IsClosed}
 use Rattle.trace_audit.specs.Traces.{bytes_of, trace_text, written}
 use Rattle.trace_audit.specs.Texts.{StandAt, IsFront}
-use Rattle.trace_audit.specs.Verdicts.{AreClosed, AreTexts, Begins, FailsFirst, HasFlaw, IsVerdict, texts_of}
+use Rattle.trace_audit.specs.Verdicts.{AreClosed, AreTexts, Begins, FailsFirst, HasFlaw, IsVerdictOn, texts_of}
 use Rattle.trace_audit.specs.declared.types.Audit.{Audit}
 use Rattle.trace_audit.specs.declared.types.Audit.TheVariants.{Yes, No}
 use Rattle.trace_audit.specs.declared.types.Flaw.{Flaw}
@@ -40,9 +40,9 @@ tree_one bytes t u a b =
     let same = text_words bytes t.words t.shape q u (front_is t bytes a) a.read.long a.read.words (stands t bytes a) b in
     let long : length t.words ≡ length u.words = a.read.long ∙ ap end_of same.0 ∙ sym b.read.long in
     let words : t.words ≡ u.words = ext_get_or 0 t.words u.words long (λ i l. ⊎_elim
-        (λ (m : i < q). sym (get_or-take q t.words i 0 m) ∙ ap (λ z. slice_index z i) same.2 ∙ get_or-take q u.words i 0 m)
-        (λ (m : q ≤ i). a.read.rest i m ∙ sym (b.read.rest i (omega (arith, m, same.1))))
-        (cases_lt i q)) in
+    (λ (m : i < q). sym (get_or-take q t.words i 0 m) ∙ ap (λ z. slice_index z i) same.2 ∙ get_or-take q u.words i 0 m)
+    (λ (m : q ≤ i). a.read.rest i m ∙ sym (b.read.rest i (omega (arith, m, same.1))))
+    (cases_lt i q)) in
     λ i. record { shape = same.0 i; words = words i }
 
 -- and so one text follows it
@@ -129,7 +129,7 @@ none_end : IsEnd []
 none_end t b c = begins_some t b
 
 -- bytes have one verdict
-pub verdict_one : (bytes : List ℕ) (v w : Audit) → IsVerdict bytes v → IsVerdict bytes w → v ≡ w
+pub verdict_one : (bytes : List ℕ) (v w : Audit) → IsVerdictOn bytes v → IsVerdictOn bytes w → v ≡ w
 verdict_one bytes (Yes n) (Yes m) a b = ap (λ k. Yes k) (both bytes [] [] n m a b none_end none_end).0
 verdict_one bytes (Yes n) (No m w) a b =
     absurd (flaw_some w (subst (λ l. HasFlaw l w) (sym (both bytes [] b.0 n m a b.1 none_end (flaw_end b.0 w b.2)).1) b.2))

@@ -1,7 +1,8 @@
 -- The numbers of the flaws.
 use Rattle.std.specs.Prelude.{ℕ}
 use Rattle.trace_audit.specs.declared.types.Flaw.{Flaw}
-use Rattle.trace_audit.specs.declared.types.Flaw.TheVariants.{BadForm, Block, Record, Count, End, Growth}
+use Rattle.trace_audit.specs.declared.types.Flaw.TheVariants.{BadForm, Block, Record, Count, End}
+use Rattle.trace_audit.specs.declared.types.Flaw.TheVariants.{Growth}
 
 -- the number of a flaw, in the order in which flaws are looked for
 abbrev pub number_of : Flaw → ℕ

@@ -1,10 +1,12 @@
 -- The linked blocks, as they are found one by one.
-use Rattle.std.specs.Prelude.{◌≡◌, ◌⊎◌, ℕ, ◌+◌, ◌-◌, ◌<◌, ◌≤◌, ◌==◌, if◌then◌else◌, true, List, ◌∷◌, length, slice_index, slice_index_or}
+use Rattle.std.specs.Prelude.{◌≡◌, ◌⊎◌, ℕ, ◌+◌, ◌-◌, ◌<◌, ◌≤◌, ◌==◌, if◌then◌else◌, true, List, ◌∷◌}
+use Rattle.std.specs.Prelude.{length, slice_index, slice_index_or}
 use Rattle.hex_board.specs.Positions.{Position}
 use Rattle.play_out.specs.Fills.{empties_of}
 use Rattle.tree_words.specs.Settings.{Setting, IsSetting}
 use Rattle.tree_words.specs.Words.{root_at, area_at, end_of, next_in, link_in}
-use Rattle.tree_words.specs.Blocks.{LinkedBlock, size, has_node, is_node, In, link_of, InOrder, header_or_move, is_header_or_move}
+use Rattle.tree_words.specs.Blocks.{LinkedBlock, size, has_node, is_node, In, link_of, InOrder}
+use Rattle.tree_words.specs.Blocks.{header_or_move, is_header_or_move}
 use Rattle.tree_words.specs.Paths.{NodeState, node_state}
 use Rattle.tree_words.specs.Complete.{Linked, AreComplete, allowed_cells, set_of}
 use Rattle.tree_words.specs.Growth.{other_words}

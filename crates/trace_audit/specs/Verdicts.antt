@@ -13,7 +13,8 @@ use Rattle.trace_audit.specs.Told.{AreWords, IsReadTree}
 use Rattle.trace_audit.specs.declared.types.Audit.{Audit}
 use Rattle.trace_audit.specs.declared.types.Audit.TheVariants.{Yes, No}
 use Rattle.trace_audit.specs.declared.types.Flaw.{Flaw}
-use Rattle.trace_audit.specs.declared.types.Flaw.TheVariants.{BadForm, Block, Record, Count, End, Growth}
+use Rattle.trace_audit.specs.declared.types.Flaw.TheVariants.{BadForm, Block, Record, Count, End}
+use Rattle.trace_audit.specs.declared.types.Flaw.TheVariants.{Growth}
 
 -- the bytes begin with the text of this tree, as it is read
 pub record Begins (tree : ClosedTree) (bytes : List ℕ) : Type 0 where
@@ -67,7 +68,7 @@ pub record AreTexts (n : ℕ) (rest bytes : List ℕ) : Type 0 where
 
 -- the verdict on bytes: they are the texts of so many closed trees; or behind those of so many
 -- stands a text with this first flaw
-abbrev pub IsVerdict : List ℕ → Audit → Type 0
-IsVerdict bytes (Yes trees) = AreTexts trees [] bytes
-IsVerdict bytes (No tree why) =
+abbrev pub IsVerdictOn : List ℕ → Audit → Type 0
+IsVerdictOn bytes (Yes trees) = AreTexts trees [] bytes
+IsVerdictOn bytes (No tree why) =
     (rest : List ℕ) × AreTexts tree rest bytes × HasFlaw rest why

@@ -3,7 +3,7 @@
 ghost use Rattle.std.specs.Prelude.{◌≡◌, ◌≤◌, IfOk, MatchOption, length};
 ghost use Rattle.tree_words.specs.Closing.{IsClosed};
 ghost use Rattle.tree_words.specs.Words.{end_of};
-ghost use Rattle.trace_audit.specs.Verdicts.{FailsFirst, IsVerdict};
+ghost use Rattle.trace_audit.specs.Verdicts.{FailsFirst, IsVerdictOn};
 ghost use Rattle.trace_audit.specs.declared.types.Audit.{Audit};
 
 use super::linking::link;
@@ -48,7 +48,7 @@ fn first_failure(alloc: Global, shape: &Shape, words: &[u64]) -> Result<Option<F
 /// is not, and its first flaw.
 pub fn audit(alloc: Global, bytes: &[u8]) -> Result<Audit, Memory>
     requires { length bytes.now ≤ MOST_BYTES }
-    ensures { IfOk result (λ answer. IsVerdict bytes.now answer) }
+    ensures { IfOk result (λ answer. IsVerdictOn bytes.now answer) }
 {
     let mut at = 0;
     let mut tree = 0;

@@ -1,6 +1,7 @@
 //! A block of the words, compared with the one that its parent's board tells.
 
-ghost use Rattle.std.specs.Prelude.{◌≡◌, ℕ, ◌+◌, ◌<◌, ◌≤◌, ◌↔◌, IsTrue, MatchOption, length, slice_index, true};
+ghost use Rattle.std.specs.Prelude.{◌≡◌, ℕ, ◌+◌, ◌<◌, ◌≤◌, ◌↔◌, IsTrue, MatchOption, length};
+ghost use Rattle.std.specs.Prelude.{slice_index, true};
 ghost use Rattle.tree_words.specs.Blocks.{is_header_or_move, size};
 ghost use Rattle.tree_words.specs.Words.{end_of};
 ghost use Rattle.tree_words.specs.Writing.{listed};

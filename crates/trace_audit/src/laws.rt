@@ -5,7 +5,7 @@ ghost use Rattle.tree_words.specs.Closing.{ClosedTree, IsClosed};
 ghost use Rattle.tree_words.specs.Settings.{IsSetting};
 ghost use Rattle.trace_audit.specs.Told.{AreWords, TellsClosed};
 ghost use Rattle.trace_audit.specs.Traces.{trace_text};
-ghost use Rattle.trace_audit.specs.Verdicts.{AreTexts, AreTrees, IsVerdict, texts_of};
+ghost use Rattle.trace_audit.specs.Verdicts.{AreTexts, AreTrees, IsVerdictOn, texts_of};
 ghost use Rattle.trace_audit.specs.declared.types.Audit.{Audit};
 
 /// The law of traces: the text of a closed tree tells a closed tree. Its shape is that of the tree,
@@ -25,5 +25,5 @@ pub fn traces_are_texts_of_closed_trees()
 /// The law that bytes have one verdict: they are the texts of closed trees where an audit answers
 /// `Yes`, and nowhere else, and a `No` names their one first flaw. It does nothing.
 pub fn bytes_have_one_verdict()
-    ensures { (bytes : List ℕ) (v w : Audit) → IsVerdict bytes v → IsVerdict bytes w → v ≡ w }
+    ensures { (bytes : List ℕ) (v w : Audit) → IsVerdictOn bytes v → IsVerdictOn bytes w → v ≡ w }
 {}

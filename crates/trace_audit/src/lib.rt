@@ -5,8 +5,8 @@
 //! empty where the turn has no closed tree. A [`TraceArchive`] is an archive over a link, to which
 //! it writes the trace of each turn that it takes.
 //!
-//! **A caller** makes the archive over a link of its own, hands it to whoever makes turns, and takes
-//! the link back at the end:
+//! **A caller** makes the archive over a link of its own, hands it to whoever makes turns, and
+//! takes the link back at the end:
 //!
 //! ```text
 //! let mut archive = TraceArchive::make(alloc, FileLink::new(rt, name))?;
@@ -15,23 +15,25 @@
 //! ```
 //!
 //! Who has such bytes asks [`audit`]: `Yes` with how many trees they tell, or `No` with the first
-//! text that is not that of a closed tree and its first [`types::Flaw`]. It makes each playout again and
-//! needs no search.
+//! text that is not that of a closed tree and its first [`types::Flaw`]. It makes each playout
+//! again and needs no search.
 //!
-//! **What is proved.** Where the link tells what it was given, a turn that was taken gave it exactly
-//! its trace more. A fault comes only where the count of the link's writes at fault rose, and then
-//! it was given a front of the trace that is not all of it. What is read from the text of a closed
-//! tree is a closed tree again ([`traces_tell_closed_trees`]): the words that are not written count
-//! as 0. `audit` answers `Yes` only where the bytes are the texts of so many closed trees, one after
-//! another; and `No` only where behind the texts of so many closed trees stands a text that has the
-//! flaw and none before it: it is no text of a tree, no list of blocks is linked by its words, or
-//! such a list is and the point of the closed tree fails.
+//! **What is proved.** Where the link tells what it was given, a turn that was taken gave it
+//! exactly its trace more. A fault comes only where the count of the link's writes at fault rose,
+//! and then it was given a front of the trace that is not all of it. What is read from the text of
+//! a closed tree is a closed tree again ([`traces_tell_closed_trees`]): the words that are not
+//! written count as 0. `audit` answers `Yes` only where the bytes are the texts of so many closed
+//! trees, one after another; and `No` only where behind the texts of so many closed trees stands a
+//! text that has the flaw and none before it: it is no text of a tree, no list of blocks is linked
+//! by its words, or such a list is and the point of the closed tree fails. Bytes have one verdict
+//! ([`bytes_have_one_verdict`]), so that `audit` answers `Yes` just where the bytes are the texts
+//! of closed trees.
 //!
 //! **What is only tested, or not said.** That the archive gets the memory for its buffer.
 //!
 //! **Limits.** `make` takes memory for a buffer of [`BUFFER_BYTES`] bytes, and `audit` for four
-//! vectors of the size of one tree. An audit takes at most [`MOST_BYTES`] bytes. A trace has at most
-//! 128 bytes and eight for each word of the tree.
+//! vectors of the size of one tree. An audit takes at most [`MOST_BYTES`] bytes. A trace has at
+//! most 128 bytes and eight for each word of the tree.
 #![tactic(auto)]
 
 mod archives;

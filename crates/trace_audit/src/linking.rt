@@ -1,12 +1,15 @@
 //! The blocks that the links show, from the root on.
 
-ghost use Rattle.std.specs.Prelude.{◌≡◌, ℕ, ◌+◌, ◌-◌, ◌*◌, ◌<◌, ◌≤◌, ◌↔◌, IfOk, IsTrue, List, [], MatchBool, MatchOption, length, replicate, slice_index, slice_index_or, true};
+ghost use Rattle.std.specs.Prelude.{◌≡◌, ℕ, ◌+◌, ◌-◌, ◌*◌, ◌<◌, ◌≤◌, ◌↔◌, IfOk, IsTrue, List, []};
+ghost use Rattle.std.specs.Prelude.{MatchBool, MatchOption, length, replicate, slice_index};
+ghost use Rattle.std.specs.Prelude.{slice_index_or, true};
 ghost use Rattle.hex_board.specs.Positions.{is_empty_at};
 ghost use Rattle.tree_words.specs.Blocks.{LinkedBlock, In, is_node, size};
 ghost use Rattle.tree_words.specs.Paths.{node_state, root_state, state_after};
 ghost use Rattle.tree_words.specs.Settings.{Setting, IsSetting};
 ghost use Rattle.tree_words.specs.Words.{area_at, end_of, root_at};
-ghost use Rattle.trace_audit.specs.Tables.{AreUnlinked, IsEntered, IsLast, IsLinked, Scanned, state_in};
+ghost use Rattle.trace_audit.specs.Tables.{AreUnlinked, IsEntered, IsLast, IsLinked, Scanned};
+ghost use Rattle.trace_audit.specs.Tables.{state_in};
 
 use super::blocks::block_end;
 use super::refusals::Memory;
@@ -107,9 +110,9 @@ fn has_entry(index: &[usize], from: usize, to: usize) -> bool
 // Enters the blocks below the nodes of the block at `at`, which ends at `end`.
 fn enter_all(words: &[u64], table: &mut Table, at: usize, end: usize) -> Result<bool, Memory>
     requires { (s : Setting) × (b : LinkedBlock) × (bs : List LinkedBlock)
-        × IsEntered s words.now table.old (at + 4) at end b bs }
+        × IsEntered s words.now table.old (at + HEADER_WORDS) at end b bs }
     ensures { IfOk result (λ ok. (s : Setting) (b : LinkedBlock) (bs : List LinkedBlock)
-        → IsEntered s words.now table.old (at + 4) at end b bs
+        → IsEntered s words.now table.old (at + HEADER_WORDS) at end b bs
         → MatchBool ok (IsEntered s words.now table.new end at end b bs)
         (AreUnlinked s words.now)) }
 {

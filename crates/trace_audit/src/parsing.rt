@@ -1,6 +1,7 @@
 //! A text, read from bytes.
 
-ghost use Rattle.std.specs.Prelude.{◌≡◌, ℕ, ◌+◌, ◌*◌, ◌<◌, ◌≤◌, ◌^◌, List, MatchOption, IfOk, length, slice_index, take, drop};
+ghost use Rattle.std.specs.Prelude.{◌≡◌, ℕ, ◌+◌, ◌*◌, ◌<◌, ◌≤◌, ◌^◌, List, MatchOption, IfOk};
+ghost use Rattle.std.specs.Prelude.{length, slice_index, take, drop};
 ghost use Rattle.std.specs.Int.{w64, to_le_bytes};
 ghost use Rattle.tree_words.specs.Closing.{ClosedTree};
 ghost use Rattle.tree_words.specs.Words.{area_at, end_of};

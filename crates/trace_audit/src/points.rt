@@ -1,7 +1,8 @@
 //! The counts, the ends and the growth of a tree whose blocks are linked and whose records are
 //! right.
 
-ghost use Rattle.std.specs.Prelude.{◌≡◌, ℕ, ◌+◌, ◌*◌, ◌<◌, ◌≤◌, ◌^◌, List, MatchBool, length, slice_index, true, false};
+ghost use Rattle.std.specs.Prelude.{◌≡◌, ℕ, ◌+◌, ◌*◌, ◌<◌, ◌≤◌, ◌^◌, List, MatchBool, length};
+ghost use Rattle.std.specs.Prelude.{slice_index, true, false};
 ghost use Rattle.hex_board.specs.Positions.{is_empty_at, placed};
 ghost use Rattle.hex_cells.specs.declared.board_size.TheConstants.{MOST_CELLS};
 ghost use Rattle.tree_words.specs.Blocks.{LinkedBlock, block_size};
@@ -11,8 +12,10 @@ ghost use Rattle.tree_words.specs.Counts.{Exact};
 ghost use Rattle.tree_words.specs.Growth.{Grown};
 ghost use Rattle.tree_words.specs.Words.{cell_in, end_of, nodes_in};
 ghost use Rattle.tree_words.specs.Records.{Recorded};
-ghost use Rattle.trace_audit.specs.Points.{AreFrugal, AreSame, EachSpot, HasCells, HasRoom, HasSums};
-ghost use Rattle.trace_audit.specs.Points.{IsFirst, IsFrugal, LiesWithin, SomeSpot, node_at, visits_at};
+ghost use Rattle.trace_audit.specs.Points.{AreFrugal, AreSame, EachSpot, HasCells, HasRoom};
+ghost use Rattle.trace_audit.specs.Points.{HasSums};
+ghost use Rattle.trace_audit.specs.Points.{IsFirst, IsFrugal, LiesWithin, SomeSpot, node_at};
+ghost use Rattle.trace_audit.specs.Points.{visits_at};
 ghost use Rattle.trace_audit.specs.Sums.{AreSums};
 ghost use Rattle.trace_audit.specs.Tables.{IsLinked};
 
@@ -153,7 +156,8 @@ fn has_few_leaves(words: &[u64], sums: &[u64], spot: &Spot, most: u64) -> bool
         → let cell = cell_in (slice_index words.now (node_at spot.now.start k)) in
         (cell < MOST_CELLS) × (is_empty_at spot.now.board cell ≡ true) }
     ensures { MatchBool result
-        ((k : ℕ) → k < nodes_in words.now spot.now.start → IsFrugal words.now sums.now spot.now most k)
+        ((k : ℕ) → k < nodes_in words.now spot.now.start
+        → IsFrugal words.now sums.now spot.now most k)
         ((k : ℕ) × (k < nodes_in words.now spot.now.start)
         × ¬ (IsFrugal words.now sums.now spot.now most k)) }
 {

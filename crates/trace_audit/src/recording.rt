@@ -1,6 +1,7 @@
 //! The records: each one's leaf and playout, and the sums of what the playouts add.
 
-ghost use Rattle.std.specs.Prelude.{◌≡◌, ◌≢◌, ℕ, ◌+◌, ◌*◌, ◌<◌, ◌≤◌, ◌^◌, IfOk, List, MatchBool, MatchOption, length, set, slice_index, true};
+ghost use Rattle.std.specs.Prelude.{◌≡◌, ◌≢◌, ℕ, ◌+◌, ◌*◌, ◌<◌, ◌≤◌, ◌^◌, IfOk, List, MatchBool};
+ghost use Rattle.std.specs.Prelude.{MatchOption, length, set, slice_index, true};
 ghost use Rattle.hex_cells.specs.Colours.{is_same};
 ghost use Rattle.hex_cells.specs.declared.board_size.TheConstants.{MOST_CELLS};
 ghost use Rattle.tree_words.specs.Blocks.{In, LinkedBlock, block_size, has_node, is_node};
@@ -74,9 +75,10 @@ fn see(words: &[u64], sums: &mut [u64], block: usize, stones: CellSet, amount: u
     requires within { block + block_size (nodes_in words.now block) ≤ length words.now }
     requires long { length sums.old ≡ length words.now }
     requires cells { (k : ℕ) → k < nodes_in words.now block
-        → cell_in (slice_index words.now (block + 4 + 4 * k)) < MOST_CELLS }
+        → cell_in (slice_index words.now (block + HEADER_WORDS + NODE_WORDS * k)) < MOST_CELLS }
     requires small { (k : ℕ) → k < nodes_in words.now block
-        → slice_index sums.old (block + 4 + 4 * k + SEEN_WORD) + amount < 2 ^ 64 }
+        → slice_index sums.old (block + HEADER_WORDS + NODE_WORDS * k + SEEN_WORD) + amount
+        < 2 ^ 64 }
     ensures { SeesSome words.now block (nodes_in words.now block) stones amount
         sums.old sums.new }
 {

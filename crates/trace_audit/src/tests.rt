@@ -112,6 +112,17 @@ fn text(alloc: Global, words: &[u64]) -> Result<Vec<u8>, Fail> {
     Ok(bytes)
 }
 
+// What an audit says of the bytes.
+fn audited(alloc: Global, bytes: &[u8]) -> Result<Audit, Fail> {
+    if MOST_BYTES < bytes.len() {
+        return Err(Fail::from("too long"));
+    }
+    match audit(alloc, bytes) {
+        Ok(answer) => Ok(answer),
+        Err(_) => Err(Fail::from("memory")),
+    }
+}
+
 // The audit of the trace of one playout with one word changed.
 fn changed(alloc: Global, at: usize, word: u64) -> Result<Audit, Fail> {
     let mut words = ONE_PLAYOUT;
@@ -119,13 +130,7 @@ fn changed(alloc: Global, at: usize, word: u64) -> Result<Audit, Fail> {
         *place = word;
     }
     let bytes = text(alloc, &words)?;
-    if MOST_BYTES < bytes.len() {
-        return Err(Fail::from("too long"));
-    }
-    match audit(alloc, &bytes) {
-        Ok(answer) => Ok(answer),
-        Err(_) => Err(Fail::from("memory")),
-    }
+    audited(alloc, &bytes)
 }
 
 #[test]
@@ -177,5 +182,68 @@ fn each_flaw_is_found(rt: HostRuntime) -> Result<(), Fail> {
     for (at, word, why) in cases {
         assert_eq!(rt; changed(alloc, at, word)?, Audit::No { tree: 0, why });
     }
+    Ok(())
+}
+
+// The words behind the name of a tree of two playouts on the empty board of size 2, where Black may
+// play a1 alone: both went to a1; White won the first, and Black the second.
+const TWO_PLAYOUTS: [u64; 31] = [
+    2, 0, 0, 0, 0, 0, 1, 0, 1, 2, 0, 65536, 8, 180, 16, 16, 2, 25, 24, 0, 8, 8589934593, 0, 4, 15,
+    0, 1, 0, 0, 8589934593, 8589934593,
+];
+
+// The audit of the trace of two playouts with this expand number.
+fn expanded(alloc: Global, expand: u64) -> Result<Audit, Fail> {
+    let mut words = TWO_PLAYOUTS;
+    words[12] = expand;
+    let bytes = text(alloc, &words)?;
+    audited(alloc, &bytes)
+}
+
+// A leaf has two records: with two as the expand number it may, with one it should have a block.
+#[test]
+fn a_leaf_with_too_many_records_is_found(rt: HostRuntime) -> Result<(), Fail> {
+    let alloc = rt.alloc();
+    let why = Flaw::Growth;
+    assert_eq!(rt; expanded(alloc, 2)?, Audit::Yes { trees: 1 });
+    assert_eq!(rt; expanded(alloc, 1)?, Audit::No { tree: 0, why });
+    Ok(())
+}
+
+// The audit of the trace of one playout with this NEXT, the words that are no block's being 0.
+fn claimed(alloc: Global, next: u64) -> Result<Audit, Fail> {
+    let mut words = ONE_PLAYOUT;
+    words[14] = next;
+    words[15] = next;
+    let mut bytes = text(alloc, &words)?;
+    for _ in 27..next {
+        bytes.extend_from_slice(&0_u64.to_le_bytes())?;
+    }
+    audited(alloc, &bytes)
+}
+
+// One worker may claim a largest block of 488 words that is not linked, and no word more.
+#[test]
+fn too_many_claimed_words_are_found(rt: HostRuntime) -> Result<(), Fail> {
+    let alloc = rt.alloc();
+    let why = Flaw::Growth;
+    assert_eq!(rt; claimed(alloc, 27 + 488)?, Audit::Yes { trees: 1 });
+    assert_eq!(rt; claimed(alloc, 28 + 488)?, Audit::No { tree: 0, why });
+    Ok(())
+}
+
+// No bytes, a text twice, and a text behind which a text is cut short.
+#[test]
+fn texts_are_counted(rt: HostRuntime) -> Result<(), Fail> {
+    let alloc = rt.alloc();
+    let trace = wanted(alloc)?;
+    let mut bytes = Vec::new(alloc);
+    assert_eq!(rt; audited(alloc, &bytes)?, Audit::Yes { trees: 0 });
+    bytes.extend_from_slice(&trace)?;
+    bytes.extend_from_slice(&trace)?;
+    assert_eq!(rt; audited(alloc, &bytes)?, Audit::Yes { trees: 2 });
+    bytes.truncate(500);
+    let why = Flaw::BadForm;
+    assert_eq!(rt; audited(alloc, &bytes)?, Audit::No { tree: 1, why });
     Ok(())
 }
