@@ -12,10 +12,14 @@
 //! to it of [`trace_audit::TraceArchive`].
 //!
 //! **Only tested, or not said.** What the terminal or another program gave or got, and what a file
-//! holds.
+//! holds. The tests here are not of the program: they take a connection from H-search through
+//! `cut`, `write` and `check`, since this crate stands above all of these.
 //!
 //! **Limits.** An argument that is no text is a wrong word.
 #![tactic(auto)]
+
+#[cfg(test)]
+mod tests;
 
 use hex_cli::{End, run, trace_name};
 use hex_io::{DirShelf, ErrLink, FileLink, StdLink, Word, report};
