@@ -19,7 +19,9 @@
 //! **Limits.** Those of a shape: 1 to 64 workers. The threads take their stacks from the system.
 #![tactic(auto)]
 
+mod climbing;
 mod gates;
+mod scanning;
 mod searching;
 #[cfg(test)]
 mod tests;
