@@ -46,3 +46,11 @@ run-steps first w later begun v view run b step less = record {
   alone = λ s was. let r = run.alone s was in (suc r.0, (w, v, r.1, step));
   left = let l = run.left in omega (arith, l, less);
 }
+
+-- and a run more
+pub run-runs : (first w later : Walker) (begun v view : SeatView) → HasRun first begun w v → HasRun w v later view → HasRun first begun later view
+run-runs first w later begun v view run more = record {
+  belongs = more.belongs;
+  alone = λ s was. more.alone s (run.alone s was);
+  left = let l = run.left in let m = more.left in omega (arith, l, m);
+}

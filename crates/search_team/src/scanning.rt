@@ -33,6 +33,25 @@ fn look(tree: &Tree, seat: &mut TreeSeat, walker: &Walker, scan: &mut Scan)
     scan.got(answer);
 }
 
+// Makes the next look, if one is left.
+#[inline(always)]
+fn look_on(tree: &Tree, seat: &mut TreeSeat, walker: &Walker, scan: &mut Scan)
+    requires own { IsOf tree.now seat.old }
+    requires stage { walker.now.stage ≡ Scanning }
+    requires belongs { Belongs (with_scan walker.now scan.old) seat.old.view }
+    requires last { scan.old.count ≤ scan.old.place
+        → MayChoose (record walker.now { scan = scan.old }) }
+    ensures own { IsOf tree.now seat.new }
+    ensures run { HasRun (with_scan walker.now scan.old) seat.old.view
+        (with_scan walker.now scan.new) seat.new.view }
+    ensures last { scan.new.count ≤ scan.new.place
+        → MayChoose (record walker.now { scan = scan.new }) }
+{
+    if !scan.is_done() {
+        look(tree, seat, walker, scan);
+    }
+}
+
 /// Where the walker looks at a block's children, makes all its looks there.
 #[inline(always)]
 pub(crate) fn look_at_children(tree: &Tree, seat: &mut TreeSeat, walker: &mut Walker)
@@ -45,7 +64,10 @@ pub(crate) fn look_at_children(tree: &Tree, seat: &mut TreeSeat, walker: &mut Wa
         return;
     };
     'looks: while !scan.is_done() {
+        // A child has three looks: with three a turn the loop knows which one is next.
         look(tree, seat, walker, &mut scan);
+        look_on(tree, seat, walker, &mut scan);
+        look_on(tree, seat, walker, &mut scan);
     }
     walker.put_scan(scan);
 }
