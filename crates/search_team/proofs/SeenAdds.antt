@@ -1,7 +1,7 @@
 -- An add of a climb that a walker lent is a step of the walker with the climb put back.
 use Rattle.std.proofs.Common.{◌≡◌, ◌≢◌, ℕ, ◌<◌, List, [], ◌∷◌, refl, sym, ap, ◌∙◌, subst, arith}
 use Rattle.tree_words.specs.declared.steps.Op.{Op}
-use Rattle.tree_words.specs.declared.steps.Op.TheVariants.{Add, Done}
+use Rattle.tree_words.specs.declared.steps.Op.TheVariants.{Add}
 use Rattle.arena_rule.specs.Views.{SeatView}
 use Rattle.arena_rule.specs.Adds.{CountAdd}
 use Rattle.arena_rule.specs.Fits.{FitsStep}
@@ -12,7 +12,7 @@ use Rattle.walker.specs.declared.machine.Walker.{Walker}
 use Rattle.walker.specs.declared.stages.Stage.{Stage}
 use Rattle.walker.specs.declared.stages.Stage.TheVariants.{Seeing}
 use Rattle.walker.specs.Climbs.{add_op, adds_after}
-use Rattle.walker.specs.Machine.{op_of, next, with_climb}
+use Rattle.walker.specs.Machine.{next, with_climb}
 use Rattle.walker.specs.Belongs.{Belongs, Stands, AtSeen}
 use Rattle.walker.proofs.Fitting.{fits}
 use Rattle.walker.proofs.Keeps.{keeps}

@@ -1,5 +1,5 @@
 -- A climb that is lent begins where the walker stands, and each add is one step more.
-use Rattle.std.proofs.Common.{◌≡◌, sym, ap, ◌∙◌}
+use Rattle.std.proofs.Common.{sym, ◌∙◌}
 use Rattle.walker.specs.Machine.{with_climb}
 use Rattle.search_team.proofs.Going.{run-steps}
 use Rattle.search_team.proofs.SeenAdds.{climb-begins, more-adds}

@@ -1,5 +1,5 @@
 -- A scan that is lent begins where the walker stands, and each look is one step more.
-use Rattle.std.proofs.Common.{◌<◌, arith}
+use Rattle.std.proofs.Common.{arith}
 use Rattle.walker.specs.declared.machine.Walker.{Walker}
 use Rattle.walker.specs.Scans.{ScanData}
 use Rattle.walker.specs.Machine.{with_scan}
