@@ -1,16 +1,15 @@
 -- Each step leaves a worker less to do.
-use Rattle.std.proofs.Common.{◌≡◌, ◌≢◌, ◌⊎◌, ℕ, ◌+◌, ◌-◌, ◌*◌, ◌<◌, ◌≤◌, Bool, true, false, inl, inr, refl, sym, ap, ◌∙◌, subst, arith, ⊎_elim, Some, None, Option, List}
+use Rattle.std.proofs.Common.{◌≡◌, ◌≢◌, ℕ, ◌+◌, ◌-◌, ◌<◌, ◌≤◌, refl, sym, ap, arith, ⊎_elim, Some, None, Option}
 use Rattle.std.specs.Prelude.{◌||◌}
 use Rattle.tree_words.specs.declared.steps.Op.{Op}
 use Rattle.tree_words.specs.declared.steps.Op.TheVariants.{Draw, Look, Claim, Write, Publish, Add, Note, Done}
-use Rattle.arena_rule.specs.Views.{SeatView, Walked}
+use Rattle.arena_rule.specs.Views.{SeatView}
 use Rattle.arena_rule.specs.Fits.{FitsStep}
 use Rattle.arena_rule.specs.Answers.{MayAnswer}
 use Rattle.arena_rule.specs.Afters.{after, drew, looked, wrote, published, added_at, noted, with_word}
 use Rattle.arena_rule.proofs.Changes.{drew_cases, claimed_same}
 use Rattle.walker.specs.declared.machine.Walker.{Walker}
 use Rattle.walker.specs.declared.machine.TheConstants.{WALK_STEPS}
-use Rattle.walker.specs.Machine.{op_of}
 use Rattle.walker.specs.Measure.{steps_left}
 use Rattle.search_team.specs.Left.{has_walk, is_in_hand, has_drawn, count_left, draws_left, work_left}
 use Rattle.search_team.proofs.Numbers.{and_number, left-less, walk-none}

@@ -1,3 +1,6 @@
 pub mod Numbers
 pub mod Falls
+pub mod Going
+pub mod Looks
+pub mod SeenAdds
 pub mod Halves

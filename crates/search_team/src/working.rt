@@ -9,7 +9,9 @@ ghost use Rattle.tree_rule.specs.Seats.{IsOf};
 ghost use Rattle.search_team.specs.Left.{work_left};
 ghost use Rattle.search_team.specs.Works.{IsFresh, IsDone, WorksAsSequence};
 
+use super::climbing::make_seen_adds;
 use super::gates::Gate;
+use super::scanning::look_at_children;
 use tree_rule::{Tree, TreeSeat};
 use tree_words::{Op, Shape};
 use walker::Walker;
@@ -53,6 +55,10 @@ pub fn work<G: Gate>(tree: &Tree, seat: &mut TreeSeat, shape: &Shape, worker: u3
             passed = true;
         }
         step(tree, seat, &mut walker, op);
+        // Most of a walk's steps are these: each kind has a loop of its own. A walk's first add is
+        // no seen add.
+        look_at_children(tree, seat, &mut walker);
+        make_seen_adds(tree, seat, &mut walker);
     }
 }
 

@@ -1,5 +1,5 @@
 -- Each half is fresh before its thread, and what the two leave is done.
-use Rattle.std.proofs.Common.{rules, arith, ◌≡◌, ◌/◌, ◌-◌}
+use Rattle.std.proofs.Common.{rules, arith, ◌/◌, ◌-◌}
 use Rattle.search_team.proofs.Halves.{kept-fresh, given-fresh, joined-done}
 use Rattle.search_team.proofs.searching.+fn-team-join+arg2+fn-team-join+arg3+team.Goals as goal
 

@@ -1,6 +1,5 @@
 -- The step fits, and leaves the worker less to do.
-use Rattle.std.proofs.Common.{◌≡◌, ◌≢◌, ◌<◌, ◌≤◌, sym, ap, ◌∙◌, subst}
-use Rattle.tree_words.specs.declared.steps.Op.{Op}
+use Rattle.std.proofs.Common.{◌<◌, sym, ◌∙◌, subst}
 use Rattle.arena_rule.specs.Views.{SeatView}
 use Rattle.arena_rule.specs.Fits.{FitsStep}
 use Rattle.walker.proofs.Fitting.{fits}

@@ -2,6 +2,7 @@
 use Rattle.std.proofs.Common.{rules, ◌≡◌, suc, sym, ◌∙◌}
 use Rattle.tree_words.specs.declared.steps.Op.TheVariants.{Done}
 use Rattle.walker.specs.Belongs.{Belongs}
+use Rattle.lone_worker.specs.Alone.{HasRunAlone}
 use Rattle.lone_worker.proofs.Machines.{ends-as-sequence}
 use Rattle.search_team.proofs.working.work.Goals as goal
 
@@ -14,9 +15,12 @@ steps-init g c =
 
 pub steps-preserved : goal.steps-preserved
 steps-preserved g c = record {
-  own = c.step.ensures.own;
-  belongs = c.step.ensures.belongs;
-  alone = λ e. let run = c.steps.invariant.alone e in (suc run.0, (c.steps.walker, c.steps.seat.view, run.1, c.step.ensures.step));
+  own = c.make_seen_adds.ensures.own;
+  belongs = c.make_seen_adds.ensures.run.belongs;
+  alone = λ e.
+      let run = c.steps.invariant.alone e in
+      let one_more : HasRunAlone c.args.shape.now c.step.new.walker c.step.new.seat.view = (suc run.0, (c.steps.walker, c.steps.seat.view, run.1, c.step.ensures.step)) in
+      c.make_seen_adds.ensures.run.alone c.args.shape.now (c.look_at_children.ensures.run.alone c.args.shape.now one_more);
 }
 
 pub returns-then-eq-clause-sequence : goal.returns-then-eq-clause-sequence

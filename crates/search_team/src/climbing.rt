@@ -1,0 +1,48 @@
+//! The adds to a block's seen words, in a loop of their own.
+
+ghost use Rattle.std.specs.Prelude.{◌≡◌, ◌≢◌, ◌<◌, []};
+ghost use Rattle.walker.specs.Machine.{with_climb};
+ghost use Rattle.walker.specs.Belongs.{Belongs};
+ghost use Rattle.walker.specs.declared.TheConstants.{PAST_WORDS};
+ghost use Rattle.lone_worker.specs.Alone.{MakesStep};
+ghost use Rattle.tree_rule.specs.Seats.{IsOf};
+ghost use Rattle.search_team.specs.Left.{work_left};
+ghost use Rattle.search_team.specs.Runs.{HasRun};
+
+use tree_rule::{Tree, TreeSeat};
+use walker::{Climb, Walker};
+
+// Makes the next add of the climb, which the walker lent.
+#[inline(always)]
+fn add(tree: &Tree, seat: &mut TreeSeat, walker: &Walker, climb: &mut Climb)
+    requires own { IsOf tree.now seat.old }
+    requires belongs { Belongs (with_climb walker.now climb.old) seat.old.view }
+    requires more { climb.old ≢ [] }
+    ensures own { IsOf tree.now seat.new }
+    ensures belongs { Belongs (with_climb walker.now climb.new) seat.new.view }
+    ensures step { MakesStep (with_climb walker.now climb.old) seat.old.view
+        (with_climb walker.now climb.new) seat.new.view }
+    ensures fewer { work_left (with_climb walker.now climb.new) seat.new.view
+        < work_left (with_climb walker.now climb.old) seat.old.view }
+    ensures node { walker.now.node < PAST_WORDS }
+{
+    let _answer = seat.act(tree, climb.op());
+    climb.got();
+}
+
+/// Where the walker adds to a block's seen words, makes all its adds there.
+#[inline(always)]
+pub(crate) fn make_seen_adds(tree: &Tree, seat: &mut TreeSeat, walker: &mut Walker)
+    requires own { IsOf tree.now seat.old }
+    requires belongs { Belongs walker.old seat.old.view }
+    ensures own { IsOf tree.now seat.new }
+    ensures run { HasRun walker.old seat.old.view walker.new seat.new.view }
+{
+    let Some(mut climb) = walker.climb() else {
+        return;
+    };
+    'adds: while !climb.is_done() {
+        add(tree, seat, walker, &mut climb);
+    }
+    walker.put_climb(climb);
+}
