@@ -21,7 +21,7 @@ use Rattle.hex_game.specs.declared.moves.Step.{Step}
 use Rattle.hex_engine.specs.Commands.{command_named, all_names}
 use Rattle.hex_engine.specs.Forms.{colour_of, move_word_of, sizes_of}
 use Rattle.hex_engine.specs.Picture.{picture}
-use Rattle.hex_plan.specs.ReportTexts.{report_of}
+use Rattle.hex_plan.specs.TurnTexts.{report_of}
 use Rattle.hex_engine.specs.EngineState.{EngineState, emptied}
 use Rattle.hex_engine.specs.Supply.{Loaded, Unread, Refused, Loads, Load, Supply, and_then}
 use Rattle.hex_engine.specs.declared.commands.Command.{Command}

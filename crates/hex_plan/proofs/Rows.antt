@@ -6,7 +6,7 @@ use Rattle.tree_words.specs.Closing.{IsClosed}
 use Rattle.tree_words.proofs.Boards.RootLaws.{has_root}
 use Rattle.tree_words.specs.Roots.{HasRoot, root_count, row_at, rows_of}
 use Rattle.tree_words.specs.declared.roots.Row.{Row}
-use Rattle.hex_plan.specs.ReportTexts.{report_line, report_lines, AreOn}
+use Rattle.hex_plan.specs.TurnTexts.{report_line, report_lines, AreOn}
 
 pub row_on : (size : ℕ) (rows : List Row) (i : ℕ) (row : Row) → AreOn size rows → i < length rows → row ≡ get_or rows i row → row.cell < size * size
 row_on size [] i row h l e = absurd (omega arith)

@@ -1,7 +1,9 @@
+pub mod Plans
 pub mod Turns
 pub mod Openings
 pub mod Seeds
 pub mod Good
+pub mod Laws
 pub mod Archived
 pub mod Reports
-pub mod ReportTexts
+pub mod TurnTexts

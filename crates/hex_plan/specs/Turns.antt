@@ -1,28 +1,40 @@
 -- Turns as plain data.
-use Rattle.std.specs.Prelude.{◌≡◌, ℕ, true}
+use Rattle.std.specs.Prelude.{◌≡◌, ℕ, Bool, true, None}
 use Rattle.std.specs.Option.{ForSome}
 use Rattle.std.specs.declared.option.Option.{Option}
 use Rattle.hex_cells.specs.declared.colours.Colour.{Colour}
 use Rattle.hex_board.specs.Positions.{Position, is_empty_at}
 use Rattle.tree_words.specs.Closing.{ClosedTree}
 use Rattle.tree_words.specs.Roots.{IsBest}
+use Rattle.win_cert.specs.Writable.{IsWritable}
+use Rattle.hex_plan.specs.declared.types.Plan.{Plan}
+use Rattle.hex_plan.specs.declared.types.Plan.TheVariants.{Win, Search}
+use Rattle.hex_plan.specs.declared.plans.Planned.{Planned}
 
 -- a turn without where it lies in memory: the board, the player to move there, the turn's number,
--- the tree that was searched for it, if one was, and the cell that was chosen
+-- what was planned, the tree that was searched for it, if one was, and the cell that was chosen
 pub record Decision : Type 0 where
   pub board : Position
   pub player : Colour
   pub number : ℕ
+  pub planned : Planned
   pub closed : Option ClosedTree
   pub cell : ℕ
 
--- the tree is one of the turn's board and player, and its best cell is the turn's
-pub record Decides (t : Decision) (closed : ClosedTree) : Type 0 where
+-- the tree is one of the turn's board, player and allowed cells, and its best cell is the turn's
+pub record Decides (t : Decision) (allowed : ℕ) (closed : ClosedTree) : Type 0 where
   pub board : closed.shape.board ≡ t.board
   pub player : closed.shape.player ≡ t.player
+  pub allowed : closed.shape.allowed ≡ allowed
   pub best : IsBest closed.shape closed.words t.cell
 
--- what holds of each turn: its cell is empty, and its tree, if there is one, decides it
+-- the plan decides the turn: a win by its cell, and its certificate can be written; a search by its
+-- tree
+abbrev pub DecidesBy : Decision → Plan → Type 0
+DecidesBy t (Win cert cell) = (t.closed ≡ None) × (t.cell ≡ cell) × IsWritable cert
+DecidesBy t (Search threats allowed lost) = ForSome t.closed (Decides t allowed)
+
+-- what holds of each turn: its cell is empty, and its plan decides it
 pub record IsDecided (t : Decision) : Type 0 where
   pub empty : is_empty_at t.board t.cell ≡ true
-  pub tree : ForSome t.closed (Decides t)
+  pub decided : DecidesBy t t.planned.plan

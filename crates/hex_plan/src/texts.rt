@@ -5,8 +5,8 @@ ghost use Rattle.std.specs.List.{flat_map};
 ghost use Rattle.hex_cells.specs.Vertices.{vertex_of};
 ghost use Rattle.tree_words.specs.Roots.{rows_of};
 ghost use Rattle.hex_plan.specs.Turns.{IsDecided};
-ghost use Rattle.hex_plan.specs.ReportTexts.{AreOn, report_of, report_on, report_line};
-ghost use Rattle.hex_plan.specs.ReportTexts.{report_lines};
+ghost use Rattle.hex_plan.specs.TurnTexts.{AreOn, report_of, report_on, report_line};
+ghost use Rattle.hex_plan.specs.TurnTexts.{report_lines};
 ghost use Rattle.std.specs.Fmt.{decimal};
 
 use super::turns::Turn;

@@ -25,7 +25,7 @@ use Rattle.hex_plan.specs.Turns.{Decision}
 use Rattle.hex_plan.proofs.Same.{same_turn, same_searches}
 use Rattle.hex_engine.specs.Commands.{command_named}
 use Rattle.hex_engine.specs.Supply.{Supply, Load, Loaded}
-use Rattle.hex_plan.specs.ReportTexts.{report_of, report_on, report_lines}
+use Rattle.hex_plan.specs.TurnTexts.{report_of, report_on, report_lines}
 use Rattle.hex_engine.specs.EngineState.{EngineState}
 use Rattle.hex_engine.specs.Uses.{AreGood, HasOneWorker, IsGoodFor}
 use Rattle.hex_engine.specs.Replies.{Reaction, Turned, Missing, Done, NoLoad, NoTurn, unused, loaded, file_named, loading_next, loading_by, is_board, is_next, turned, moving_next, moving_by, lone_colour, unchanged, Failed, obeyed, reaction_by, reaction}

@@ -1,5 +1,5 @@
 use Rattle.std.proofs.Common.{◌≡◌, ◌++◌, drop}
-use Rattle.hex_plan.specs.ReportTexts.{report_lines}
+use Rattle.hex_plan.specs.TurnTexts.{report_lines}
 use Rattle.hex_plan.proofs.texts.push_rows.Given as goal
 
 abbrev pub invariant-loop-row : goal.invariant-loop-row

@@ -1,0 +1,145 @@
+-- What is planned before a search: a certified win, or the cells among which is searched.
+use Rattle.std.specs.Prelude.{◌≡◌, ◌<◌, ◌↔◌, ℕ, Bool, true, false, List, [], ◌∷◌, Option, Some, None, All}
+use Rattle.std.specs.List.{slice_get}
+use Rattle.hex_cells.specs.Colours.{other_of}
+use Rattle.hex_cells.specs.Sets.{has}
+use Rattle.hex_cells.specs.declared.colours.Colour.{Colour}
+use Rattle.hex_board.specs.Positions.{Position, is_empty_at}
+use Rattle.conn_store.specs.Entries.{IsBetween}
+use Rattle.conn_store.specs.Rules.{AreAt, IsCell, IsChain}
+use Rattle.conn_store.specs.Stores.{StoreData}
+use Rattle.conn_store.specs.declared.entries.Cause.TheVariants.{AndEmpty}
+use Rattle.conn_store.specs.declared.entries.Entry.{Entry}
+use Rattle.conn_store.specs.declared.entries.Kind.{Kind}
+use Rattle.conn_store.specs.declared.entries.Kind.TheVariants.{Full, Semi}
+use Rattle.hsearch.specs.Closed.{IsReport}
+use Rattle.tree_words.specs.Complete.{HasEmpties}
+use Rattle.win_cert.specs.Cuts.{CertifiesEntry, IsEdgeEntryAt}
+use Rattle.win_cert.specs.declared.certs.Cert.{Cert}
+use Rattle.hex_plan.specs.declared.types.Plan.{Plan}
+use Rattle.hex_plan.specs.declared.types.Plan.TheVariants.{Win, Search}
+use Rattle.hex_plan.specs.declared.plans.Planned.{Planned}
+use Rattle.hex_plan.specs.declared.threats.Threat.{Threat}
+
+-- ---- reports
+
+-- the store is a report of the player on the board: sound and closed
+pub record IsReportOf (board : Position) (player : Colour) (d : StoreData) : Type 0 where
+  pub elements : d.elements ≡ record { board = board; player = player }
+  pub report : IsReport d
+
+-- the entry is one of the store, between the player's two edges
+abbrev pub IsEdgeEntry : StoreData → Entry → Type 0
+IsEdgeEntry d a = (n : ℕ) × IsEdgeEntryAt d n a
+
+-- ---- a win
+
+-- the entry follows by a rule of AND over the empty cell k
+pub record IsMiddle (d : StoreData) (a : Entry) (k : ℕ) : Type 0 where
+  pub numbers : ℕ × ℕ
+  pub cause : a.cause ≡ AndEmpty numbers.0 numbers.1
+  pub parts : Entry × Entry
+  pub at : AreAt d.entries (numbers.0 ∷ numbers.1 ∷ []) (parts.0 ∷ parts.1 ∷ [])
+  pub ends : ℕ × ℕ
+  pub middle : ℕ
+  pub chain : IsChain parts.0 parts.1 ends.0 middle ends.1
+  pub pair : IsBetween a ends.0 ends.1
+  pub cell : IsCell d.elements middle k
+
+-- cell k is in the set, and none below it is
+pub record IsLeastIn (set k : ℕ) : Type 0 where
+  pub in_set : has set k ≡ true
+  pub least : (j : ℕ) → j < k → has set j ≡ false
+
+-- the cell by which an entry of that kind wins: the middle of a semi one, and the least cell of the
+-- carrier of a full one
+abbrev pub IsWinningCellBy : StoreData → Entry → Kind → ℕ → Type 0
+IsWinningCellBy d a Semi k = IsMiddle d a k
+IsWinningCellBy d a Full k = IsLeastIn a.carrier k
+
+abbrev pub IsWinningCell : StoreData → Entry → ℕ → Type 0
+IsWinningCell d a k = IsWinningCellBy d a a.kind k
+
+-- the certificate was cut from an entry between the player's two edges of his report on the board,
+-- and the cell is the one by which this entry wins
+pub record IsCertifiedWin (board : Position) (player : Colour) (cert : Cert) (cell : ℕ)
+    (own : StoreData) : Type 0 where
+  pub report : IsReportOf board player own
+  pub entry : Entry
+  pub edges : IsEdgeEntry own entry
+  pub cut : CertifiesEntry own entry cert
+  pub winning : IsWinningCell own entry cell
+
+-- ---- threats, and the mustplay region
+
+-- the threat was cut from a semi entry between the two edges, and has its carrier
+pub record IsThreat (d : StoreData) (t : Threat) : Type 0 where
+  pub entry : Entry
+  pub edges : IsEdgeEntry d entry
+  pub semi : entry.kind ≡ Semi
+  pub carrier : t.carrier ≡ entry.carrier
+  pub cut : CertifiesEntry d entry t.cert
+
+-- the carriers rise, as numbers
+abbrev pub AreRising : List Threat → Type 0
+AreRising [] = Unit {0}
+AreRising (t ∷ ts) = All (λ u. t.carrier < u.carrier) ts × AreRising ts
+
+-- these are the threats of the store: one for each semi entry between the two edges, by rising
+-- carriers
+pub record AreThreats (d : StoreData) (threats : List Threat) : Type 0 where
+  pub cut : All (IsThreat d) threats
+  pub all : (a : Entry) → IsEdgeEntry d a → a.kind ≡ Semi
+      → (i : ℕ) × (t : Threat) × (slice_get threats i ≡ Some t) × (t.carrier ≡ a.carrier)
+  pub rising : AreRising threats
+
+-- the empty cell k lies in the carrier of each threat
+abbrev pub IsInEach : Position → List Threat → ℕ → Type 0
+IsInEach board threats k =
+    (is_empty_at board k ≡ true) × All (λ t. has t.carrier k ≡ true) threats
+
+-- the mustplay region: the empty cells that lie in each threat's carrier; where there is none, the
+-- board is lost, and all empty cells are allowed
+pub record IsMustplay (board : Position) (threats : List Threat) (allowed : ℕ)
+    (lost : Bool) : Type 0 where
+  pub lost : (lost ≡ true) ↔ ((k : ℕ) → ¬ IsInEach board threats k)
+  pub narrowed : lost ≡ false → (k : ℕ) → (has allowed k ≡ true) ↔ IsInEach board threats k
+  pub free : lost ≡ true → HasEmpties allowed board
+
+-- the player's own report has no entry between his two edges, and the threats are those of the
+-- other's report
+pub record IsNarrowed (board : Position) (player : Colour) (threats : List Threat) (allowed : ℕ)
+    (lost : Bool) (own other : StoreData) : Type 0 where
+  pub own_report : IsReportOf board player own
+  pub unjoined : (a : Entry) → ¬ IsEdgeEntry own a
+  pub other_report : IsReportOf board (other_of player) other
+  pub threats : AreThreats other threats
+  pub mustplay : IsMustplay board threats allowed lost
+
+-- ---- plans
+
+-- no connections were looked for: there is no threat, and all empty cells are allowed
+pub record IsFree (board : Position) (p : Planned) : Type 0 where
+  pub allowed : ℕ
+  pub plan : p.plan ≡ Search [] allowed false
+  pub empties : HasEmpties allowed board
+  pub own : p.own ≡ None
+  pub other : p.other ≡ None
+
+-- connections were looked for: a win by the own report, or a search by the reports of both
+abbrev pub IsPlannedBy : Position → Colour → Plan → Option StoreData → Option StoreData → Type 0
+IsPlannedBy board player (Win cert cell) own other =
+    (d : StoreData) × (own ≡ Some d) × (other ≡ None) × IsCertifiedWin board player cert cell d
+IsPlannedBy board player (Search threats allowed lost) own other =
+    (d : StoreData) × (e : StoreData) × (own ≡ Some d) × (other ≡ Some e)
+    × IsNarrowed board player threats allowed lost d e
+
+-- what is planned on the board for the player to move, with connections or without
+abbrev pub IsPlanned : Position → Colour → Bool → Planned → Type 0
+IsPlanned board player true p = IsPlannedBy board player p.plan p.own p.other
+IsPlanned board player false p = IsFree board p
+
+-- the plan is a win
+abbrev pub IsWin : Plan → Type 0
+IsWin (Win cert cell) = Unit {0}
+IsWin (Search threats allowed lost) = ⊥

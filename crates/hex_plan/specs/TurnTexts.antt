@@ -1,0 +1,81 @@
+-- What `search-report`, `mustplay` and `wincert` say of a turn.
+use Rattle.std.specs.Prelude.{ℕ, ◌-◌, ◌*◌, ◌<◌, Bool, true, false, List, [], ◌∷◌, ◌++◌, codes, length, take}
+use Rattle.std.specs.Prelude.{Option, Some, None, option_map}
+use Rattle.tree_words.specs.Closing.{ClosedTree}
+use Rattle.std.specs.List.{filter, flat_map}
+use Rattle.std.specs.Fmt.{decimal}
+use Rattle.hex_cells.specs.Sets.{has}
+use Rattle.hex_cells.specs.Vertices.{vertex_of}
+use Rattle.hex_board.specs.Joined.{cells_of}
+use Rattle.tree_words.specs.Roots.{rows_of}
+use Rattle.tree_words.specs.declared.roots.Row.{Row}
+use Rattle.win_cert.specs.Texts.{cert_text}
+use Rattle.hex_plan.specs.Turns.{Decision}
+use Rattle.hex_plan.specs.declared.threats.Threat.{Threat}
+use Rattle.hex_plan.specs.declared.types.Plan.{Plan}
+use Rattle.hex_plan.specs.declared.types.Plan.TheVariants.{Win, Search}
+
+-- a line feed, and a row's vertex, visits and wins
+abbrev pub report_line : ℕ → Row → List ℕ
+report_line size row =
+    10 ∷ vertex_of size row.cell ++ 32 ∷ decimal row.visits ++ 32 ∷ decimal row.wins
+
+-- the lines of some rows
+abbrev pub report_lines : ℕ → List Row → List ℕ
+report_lines size rows = flat_map (report_line size) rows
+
+-- the cells of the rows lie on the board
+abbrev pub AreOn : ℕ → List Row → Type 0
+AreOn size [] = Unit {0}
+AreOn size (row ∷ rows) = (row.cell < size * size) × AreOn size rows
+
+-- the number of a tree's playouts, and a line for each child of its root, in rising order of cells
+abbrev pub report_on : ℕ → ClosedTree → List ℕ
+report_on size closed = codes "playouts " ++ decimal closed.shape.knobs.playouts
+    ++ report_lines size (rows_of closed.shape closed.words)
+
+-- the report of a turn's tree, if it has one
+unfoldable pub report_of : Decision → Option (List ℕ)
+report_of turn = option_map (report_on turn.board.size) turn.closed
+
+-- the vertices of the cells of a set, in rising order, a space before each
+abbrev pub vertices_of : ℕ → ℕ → List ℕ
+vertices_of size set = flat_map (λ k. 32 ∷ vertex_of size k) (filter (has set) (cells_of size))
+
+-- `yes` or `no`
+abbrev pub answer_word : Bool → List ℕ
+answer_word true = codes "yes"
+answer_word false = codes "no"
+
+-- a line feed, `threat`, and the vertices of the threat's carrier
+abbrev pub threat_line : ℕ → Threat → List ℕ
+threat_line size t = codes "\nthreat" ++ vertices_of size t.carrier
+
+-- of a win its cell; of a search whether the board is lost, the allowed cells, and each threat
+abbrev pub mustplay_of : ℕ → Plan → List ℕ
+mustplay_of size (Win cert cell) = codes "win " ++ vertex_of size cell
+mustplay_of size (Search threats allowed lost) = codes "lost " ++ answer_word lost
+    ++ codes "\nallowed" ++ vertices_of size allowed ++ flat_map (threat_line size) threats
+
+-- a text without its last byte
+abbrev pub without_last_byte : List ℕ → List ℕ
+without_last_byte text = take (length text - 1) text
+
+-- the certificate of a win, without its last line feed
+abbrev pub wincert_of : Plan → Option (List ℕ)
+wincert_of (Win cert cell) = Some (without_last_byte (cert_text cert))
+wincert_of (Search threats allowed lost) = None
+
+-- what the three commands say of a turn; of a win there is no report, and of a search no
+-- certificate
+pub record TurnTextsData : Type 0 where
+  pub report : Option (List ℕ)
+  pub mustplay : List ℕ
+  pub wincert : Option (List ℕ)
+
+abbrev pub texts_of : Decision → TurnTextsData
+texts_of t = record {
+  report = report_of t;
+  mustplay = mustplay_of t.board.size t.planned.plan;
+  wincert = wincert_of t.planned.plan;
+}
