@@ -1,6 +1,12 @@
+pub mod Allowing
+pub mod Collected
 pub mod Decides
+pub mod EdgeNumbers
+pub mod MiddleOf
+pub mod Middles
 pub mod PlanLaws
 pub mod Reports
 pub mod Rows
 pub mod Rooms
 pub mod Same
+pub mod WinningCells

@@ -31,12 +31,15 @@
 #![tactic(auto)]
 
 mod archives;
+mod collecting;
+mod edges;
 mod in_memory;
 mod laws;
 mod openings;
 mod planning;
 mod plans;
 mod refusals;
+mod regions;
 mod shapes;
 #[cfg(test)]
 mod tests;
@@ -44,6 +47,7 @@ mod texts;
 mod threats;
 mod turns;
 pub mod types;
+mod winning;
 
 pub use archives::{Archive, NoArchive};
 pub use in_memory::MemArchive;
