@@ -15,7 +15,8 @@
 //! ```
 //!
 //! Beside it stand [`take_all`], the whole input of a link up to a limit, and [`answer_input`],
-//! which answers it by one text of an [`InputReader`].
+//! which answers it by one text of an [`InputReader`]; and [`hand_over`], which hands a turn to an
+//! archive and gives its text, for what reads no input.
 //!
 //! **What is proved**, in the words of `specs/Endings.antt`: where the link tells it, what was
 //! given is the talk over the lines of what was taken, as far as each outcome says, with the files
@@ -37,6 +38,7 @@
 mod answering;
 mod conversation;
 mod devices;
+mod handing;
 mod inputs;
 mod laws;
 mod session;
@@ -47,6 +49,7 @@ mod texts;
 
 pub use conversation::converse;
 pub use devices::Devices;
+pub use handing::hand_over;
 pub use inputs::take_all;
 pub use laws::{
     more_left_is_not_used, one_worker_and_one_shelf_determine, one_worker_is_determined,
