@@ -8,9 +8,11 @@ use hex_cells::Size;
 use hex_engine::Options;
 use hex_io::{MemLink, MemShelf};
 use hex_plan::NoArchive;
+use search_team::OpenGate;
 use std::alloc::{AllocError, Global};
 use std::process::Abort;
 use std::test::Fail;
+use std::thread::Threads;
 use tree_words::Knobs;
 
 /// The options of a command line that says nothing.
@@ -33,7 +35,7 @@ fn options() -> Options
 
 /// The outcome of a conversation that takes at most this many bytes.
 fn end_within(
-    rt: &(impl Abort + Alloc<A = Global>),
+    rt: &(impl Abort + Alloc<A = Global> + Threads + Sync),
     input: &[u8],
     piece: usize,
     limit: usize,
@@ -49,6 +51,8 @@ fn end_within(
         link: &mut link,
         shelf: &mut shelf,
         archive: &mut NoArchive,
+        rt,
+        gate: &OpenGate,
     };
     let end = converse(alloc, &mut devices, &options(), size, limit);
     assert_eq!(rt; link.given(), given);
