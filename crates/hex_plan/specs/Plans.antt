@@ -14,6 +14,7 @@ use Rattle.conn_store.specs.declared.entries.Kind.{Kind}
 use Rattle.conn_store.specs.declared.entries.Kind.TheVariants.{Full, Semi}
 use Rattle.hsearch.specs.Closed.{IsReport}
 use Rattle.tree_words.specs.Complete.{HasEmpties}
+use Rattle.tree_words.specs.Settings.{AreEmpty, IsAny}
 use Rattle.win_cert.specs.Cuts.{CertifiesEntry, IsEdgeEntryAt}
 use Rattle.win_cert.specs.declared.certs.Cert.{Cert}
 use Rattle.hex_plan.specs.declared.types.Plan.{Plan}
@@ -143,3 +144,18 @@ IsPlanned board player false p = IsFree board p
 abbrev pub IsWin : Plan → Type 0
 IsWin (Win cert cell) = Unit {0}
 IsWin (Search threats allowed lost) = ⊥
+
+-- the plan is a win by cell k
+abbrev pub IsWinBy : Plan → ℕ → Type 0
+IsWinBy (Win cert cell) k = cell ≡ k
+IsWinBy (Search threats allowed lost) k = ⊥
+
+-- the plan is a search among these cells
+abbrev pub IsSearchAmong : Plan → ℕ → Type 0
+IsSearchAmong (Win cert cell) set = ⊥
+IsSearchAmong (Search threats allowed lost) set = allowed ≡ set
+
+-- a search of the plan is among empty cells of the board, and there is one
+abbrev pub AllowsEmpties : Position → Plan → Type 0
+AllowsEmpties board (Win cert cell) = Unit {0}
+AllowsEmpties board (Search threats allowed lost) = IsAny allowed × AreEmpty allowed board
