@@ -103,7 +103,7 @@ IsInEach board threats k =
 -- board is lost, and all empty cells are allowed
 pub record IsMustplay (board : Position) (threats : List Threat) (allowed : ℕ)
     (lost : Bool) : Type 0 where
-  pub lost : (lost ≡ true) ↔ ((k : ℕ) → ¬ IsInEach board threats k)
+  pub none : (lost ≡ true) ↔ ((k : ℕ) → ¬ (IsInEach board threats k))
   pub narrowed : lost ≡ false → (k : ℕ) → (has allowed k ≡ true) ↔ IsInEach board threats k
   pub free : lost ≡ true → HasEmpties allowed board
 
@@ -112,9 +112,9 @@ pub record IsMustplay (board : Position) (threats : List Threat) (allowed : ℕ)
 pub record IsNarrowed (board : Position) (player : Colour) (threats : List Threat) (allowed : ℕ)
     (lost : Bool) (own other : StoreData) : Type 0 where
   pub own_report : IsReportOf board player own
-  pub unjoined : (a : Entry) → ¬ IsEdgeEntry own a
+  pub unjoined : (a : Entry) → ¬ (IsEdgeEntry own a)
   pub other_report : IsReportOf board (other_of player) other
-  pub threats : AreThreats other threats
+  pub are_threats : AreThreats other threats
   pub mustplay : IsMustplay board threats allowed lost
 
 -- ---- plans

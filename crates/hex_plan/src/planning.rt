@@ -25,6 +25,5 @@ pub fn plan(alloc: Global, board: &Board, colour: Colour, hsearch: bool) -> Resu
     ensures planned { IfOk result (IsPlanned board.now colour hsearch) }
     ensures allowed { IfOk result (λ planned. AllowsEmpties board.now planned.plan) }
 {
-    let _ = (alloc, board, colour, hsearch);
     Err(Memory)
 }

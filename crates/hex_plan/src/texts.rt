@@ -138,6 +138,5 @@ impl TurnTexts {
 pub fn turn_texts(alloc: Global, turn: &Turn) -> Result<TurnTexts, AllocError>
     ensures { IfOk result (λ texts. texts ≡ texts_of turn.now) }
 {
-    let _ = (alloc, turn);
     Err(AllocError)
 }
