@@ -2,9 +2,8 @@
 
 ghost use Rattle.std.specs.Prelude.{◌≡◌, ◌+◌, ◌≤◌, ◌++◌, length, codes, IfOk, IfSome, IsOk};
 ghost use Rattle.std.specs.Prelude.{OnOk, OnErr, option_map, false, Some};
-ghost use Rattle.htp_line.specs.Reading.{asked_of};
 ghost use Rattle.htp_line.specs.Answering.{failure, WritesFor, HasSpareRoom};
-ghost use Rattle.hex_engine.specs.Replies.{IsBrief, replied};
+ghost use Rattle.hex_engine.specs.Requests.{IsBrief, replied};
 ghost use Rattle.htp_session.specs.Talk.{reply_text, is_quit};
 ghost use Rattle.htp_session.specs.Devices.{CountsFaults};
 ghost use Rattle.htp_session.specs.Calls.Answering.{WritesAnswer, WritesReply};
@@ -65,7 +64,7 @@ fn respond_to<L: Link, F: Shelf, A: Archive, R: Threads + Sync, G: Gate + Sync>(
     out: &mut Vec<u8>,
 ) -> Result<bool, Stop>
     ensures writes { WritesReply devices.old devices.new engine.old engine.new
-        (asked_of request.now) out.old.items out.new.items result }
+        request.now out.old.items out.new.items result }
     ensures err { OnErr result (out.new.items ≡ out.old.items) }
     ensures link { devices.new.link ≡ devices.old.link }
     ensures counts { CountsFaults devices.old devices.new result }

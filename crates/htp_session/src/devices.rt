@@ -1,7 +1,6 @@
 //! The devices of a conversation: a link, a shelf and an archive, a runtime and a gate.
 
 ghost use Rattle.std.specs.Prelude.{◌≡◌, ◌<◌, ◌≤◌, length, IfOk};
-ghost use Rattle.htp_line.specs.Reading.{asked_of};
 ghost use Rattle.htp_session.specs.Devices.{CountsFaults, stock};
 ghost use Rattle.htp_session.specs.Calls.Devices.{ReadsSome, GivesAll, Asks};
 
@@ -101,11 +100,17 @@ impl<L: Link, F: Shelf, A: Archive, R: Threads + Sync, G: Gate + Sync> Devices<
 
     /// Asks the engine for its answer to a request.
     pub fn ask(&mut self, engine: &mut Engine, request: &Request) -> Result<Answer, Stop>
-        ensures asks { Asks self.old self.new engine.old engine.new (asked_of request.now) result }
+        ensures asks { Asks self.old self.new engine.old engine.new request.now result }
         ensures link { self.new.link ≡ self.old.link }
         ensures counts { CountsFaults self.old self.new result }
     {
-        match engine.line(request, &mut *self.shelf, &mut *self.archive) {
+        match engine.line(
+            self.rt,
+            request,
+            &mut *self.shelf,
+            &mut *self.archive,
+            self.gate,
+        ) {
             Err(EngineError::Memory) => Err(Stop::Memory),
             Err(EngineError::Archive) => Err(Stop::ArchiveFault),
             Ok(answer) => Ok(answer),

@@ -1,8 +1,7 @@
 //! Hands a turn to an archive, and gives its text to a link.
 
-ghost use Rattle.std.specs.Prelude.{◌≡◌, Some};
-ghost use Rattle.hex_io.specs.Causes.{CountsFault};
-ghost use Rattle.htp_session.specs.Devices.{stop_of};
+ghost use Rattle.std.specs.Prelude.{◌≡◌};
+ghost use Rattle.htp_session.specs.Devices.{RisesWith};
 ghost use Rattle.htp_session.specs.Handing.{HandsOver};
 
 use crate::stops::Stop;
@@ -22,10 +21,10 @@ pub fn hand_over<L: Link, A: Archive>(
 ) -> Result<(), Stop>
     ensures hands { HandsOver (L.told link.old, A.told archive.old)
         (L.told link.new, A.told archive.new) turn text.now result }
-    ensures write_fault { CountsFault (L.write_faults link.old) (L.write_faults link.new)
-        (stop_of result ≡ Some Stop.WriteFault) }
-    ensures archive_fault { CountsFault (A.faults archive.old) (A.faults archive.new)
-        (stop_of result ≡ Some Stop.ArchiveFault) }
+    ensures write_fault { RisesWith Stop.WriteFault
+        (L.write_faults link.old) (L.write_faults link.new) result }
+    ensures archive_fault { RisesWith Stop.ArchiveFault
+        (A.faults archive.old) (A.faults archive.new) result }
     ensures reads { L.read_faults link.new ≡ L.read_faults link.old }
 {
     let Ok(()) = archive.take(turn) else {

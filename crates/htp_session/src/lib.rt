@@ -7,8 +7,9 @@
 //! stands at then, what is left to be used up, and whether it goes on, ended with an answered
 //! `quit`, or fell short of a file or a turn. Nothing of pieces, buffers or searches is in it.
 //!
-//! **A caller** makes the [`Devices`], a link, a shelf and an archive, says the engine's options,
-//! the size of the first board and the most bytes that are answered, and learns how it ended:
+//! **A caller** makes the [`Devices`], a link, a shelf and an archive with the runtime and the gate
+//! of the searches, says the engine's options, the size of the first board and the most bytes that
+//! are answered, and learns how it ended:
 //!
 //! ```text
 //! let outcome = converse(alloc, &mut devices, &options, size, limit);
@@ -29,7 +30,8 @@
 //! legal where it is played ([`searched_moves_are_legal`]).
 //!
 //! **Only tested, or not said.** That memory suffices: it may always stop for want of memory, which
-//! no clause ties to a refused growth. That after a fault nothing is read or written.
+//! no clause ties to a refused growth. That after a fault nothing is read or written. That searches
+//! run in the threads of the runtime, and pass the gate.
 //!
 //! **Limits.** Each answer is given before the next line is looked at, so no memory grows with the
 //! input but the game's own.
