@@ -1,21 +1,20 @@
 //! Turns: the command `genmove`.
 
-ghost use Rattle.std.specs.Prelude.{◌≡◌, ◌≤◌, ◌∷◌, ◌++◌, length, List, [], true, IfOk, OnErr, Err};
-ghost use Rattle.std.specs.Prelude.{Some};
+ghost use Rattle.std.specs.Prelude.{◌≡◌, ◌≤◌, length, true, IfOk, OnErr, Err, Some};
 ghost use Rattle.hex_cells.specs.Vertices.{vertex_of};
 ghost use Rattle.hex_io.specs.Causes.{CountsFault};
-ghost use Rattle.hex_io.specs.Told.{Both, Same};
+ghost use Rattle.hex_io.specs.Told.{Same};
 ghost use Rattle.hex_game.specs.Games.{IsOnBoard, board_of, is_legal, with_step};
 ghost use Rattle.hex_game.specs.Moves.{step_of};
 ghost use Rattle.hex_game.specs.declared.moves.Move.TheVariants.{Stone};
 ghost use Rattle.hex_plan.specs.Openings.{may_move};
 ghost use Rattle.hex_plan.specs.TurnTexts.{texts_of};
-ghost use Rattle.hex_plan.specs.Turns.{Decision};
-ghost use Rattle.hex_engine.specs.MoveReplies.{is_next, moving, turned};
+ghost use Rattle.hex_engine.specs.Calls.{AnswersMove, TakesNext};
+ghost use Rattle.hex_engine.specs.MoveReplies.{is_next, moving};
 ghost use Rattle.hex_engine.specs.Replies.{NoTurn};
-ghost use Rattle.hex_engine.specs.Requests.{IsBrief, Reacts, ReactsWith, TellsNoFault};
-ghost use Rattle.hex_engine.specs.Supply.{nothing_left, turns_only};
-ghost use Rattle.hex_engine.specs.Uses.{IsGoodFor, Moving};
+ghost use Rattle.hex_engine.specs.Requests.{IsBrief, TellsNoFault};
+ghost use Rattle.hex_engine.specs.Supply.{nothing_left};
+ghost use Rattle.hex_engine.specs.Uses.{IsGoodFor};
 
 use super::answers::{Answer, EngineError, Fail, Memory};
 use super::forms::lone_colour;
@@ -49,9 +48,8 @@ impl Engine {
         archive: &mut A,
         gate: &G,
     ) -> Result<Answer, EngineError>
-        ensures reply { IfOk result (λ answer. (turns : List Decision)
-            × Moving self.old.options (A.told archive.old) (A.told archive.new) (turns_only turns)
-            × ReactsWith (λ left. moving self.old left args.now) (turns_only turns) answer self.new) }
+        ensures reply { IfOk result (λ answer. AnswersMove
+            self.old args.now (A.told archive.old) (A.told archive.new) answer self.new) }
         ensures brief { IfOk result IsBrief }
         ensures calm { IfOk result TellsNoFault }
         ensures err { OnErr result (self.new ≡ self.old) }
@@ -80,10 +78,8 @@ impl Engine {
         gate: &G,
     ) -> Result<Answer, EngineError>
         requires { may_move (board_of self.old.game) ≡ true }
-        ensures reply { IfOk result (λ answer. (turn : Decision)
-            × IsGoodFor self.old.options turn × (is_next self.old colour turn ≡ true)
-            × Both (A.told archive.old) (A.told archive.new) (λ o n. n ≡ o ++ turn ∷ [])
-            × Reacts (turned self.old colour turn) answer self.new) }
+        ensures reply { IfOk result (λ answer. TakesNext
+            self.old colour (A.told archive.old) (A.told archive.new) answer self.new) }
         ensures brief { IfOk result IsBrief }
         ensures calm { IfOk result TellsNoFault }
         ensures err { OnErr result (self.new ≡ self.old) }

@@ -29,5 +29,5 @@ returns-in-Loads-clause-reply g c = (
   subst (λ f. Loading (g.F.Shelf.told c.args.shelf.now) (g.F.Shelf.told c.load_game.new.shelf) (loads_only (record { name = c.in-Some.name.now; what = f } ∷ [])) []) c.in-Loads.is c.in_ok-load_game.ensures.came,
   λ later.
       loads_reply c.args.self.now _ (Loads c.in-Loads.game) _ (sym c.in-Some.ensures) later
-      ∙ (λ i. Ok (record { reply = sym c.empty_answer.ensures.reply i; after = record (sym c.self.view_is i) { game = c.in-Loads.game }; left = later })),
+      ∙ (λ i. Ok (record { reply = sym c.empty_answer.ensures.tells.0 i; after = record (sym c.self.view_is i) { game = c.in-Loads.game }; left = later })),
 )
