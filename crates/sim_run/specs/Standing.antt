@@ -1,5 +1,5 @@
 -- What stands between two steps of a simulation.
-use Rattle.std.specs.Prelude.{◌≡◌, ℕ, ◌+◌, ◌-◌, ◌*◌, List, ◌++◌, length, sum_by}
+use Rattle.std.specs.Prelude.{◌≡◌, ℕ, ◌+◌, ◌-◌, ◌*◌, ◌<◌, List, ◌++◌, length, sum_by}
 use Rattle.std.specs.List.{All, AllZip}
 use Rattle.tree_words.specs.Settings.{Setting}
 use Rattle.tree_words.specs.Words.{ticket_in}
@@ -13,7 +13,7 @@ use Rattle.walker.specs.declared.machine.TheConstants.{WALK_STEPS}
 use Rattle.walker.specs.declared.machine.Walker.{Walker}
 use Rattle.lone_worker.specs.Alone.{HasRunAlone}
 use Rattle.sim_run.specs.declared.simulation.Simulation.{Simulation}
-use Rattle.sim_run.specs.Steps.{SimulationData, IsFinished, StepsAlong, rounds}
+use Rattle.sim_run.specs.Steps.{SimulationData, data_of, IsFinished, StepsAlong, rounds}
 
 -- The words and the walkers are those of a simulation: there is a view for each walker, which
 -- belongs to it, and the arena rule holds of the words with these views. A walker that is the only
@@ -49,6 +49,11 @@ abbrev pub steps_to_come : Setting → SimulationData → ℕ
 steps_to_come s r =
     (1 + WALK_STEPS) * (s.knobs.playouts + s.knobs.workers - ticket_in r.words)
     + sum_by steps_left r.walkers
+
+-- there is less to come in the new simulation, which is of the shape of the old one
+abbrev pub HasFewer : Simulation → Simulation → Type 0
+HasFewer old new =
+    steps_to_come old.shape (data_of new) < steps_to_come old.shape (data_of old)
 
 -- The words are those at the end of the schedule: from the opening words and new walkers on, its
 -- entries are one step each, and then come so many rounds that no walker has a step left.

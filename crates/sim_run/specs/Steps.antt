@@ -1,5 +1,5 @@
 -- Steps of a simulation.
-use Rattle.std.specs.Prelude.{◌≡◌, ◌≢◌, ℕ, zero, suc, List, [], ◌∷◌, ◌++◌, Option, Some, None, slice_index, slice_set}
+use Rattle.std.specs.Prelude.{◌≡◌, ◌≢◌, ℕ, zero, suc, List, [], ◌∷◌, ◌++◌, length, Option, Some, None, slice_index, slice_set}
 use Rattle.std.specs.List.{range_with_len}
 use mathlib.Core.Option.{some}
 use lib.ListN.{get_elem?}
@@ -58,3 +58,10 @@ StepsAlong old (id ∷ ids) new =
 abbrev pub rounds : ℕ → ℕ → List ℕ
 rounds workers zero = []
 rounds workers (suc n) = rounds workers n ++ range_with_len 0 workers
+
+-- one round, and some rounds, of the walkers
+abbrev pub StepsRound : SimulationData → SimulationData → Type 0
+StepsRound old new = StepsAlong old (range_with_len 0 (length old.walkers)) new
+
+abbrev pub StepsRounds : SimulationData → SimulationData → Type 0
+StepsRounds old new = (turns : ℕ) × StepsAlong old (rounds (length old.walkers) turns) new

@@ -15,13 +15,13 @@ pub(crate) struct Simulation {
 }
 
 impl Simulation {
-    ghost use Rattle.std.specs.Prelude.{◌≡◌, ℕ, ◌<◌, IfOk, IfSome, false, length, true};
-    ghost use Rattle.std.specs.List.{All, range_with_len};
+    ghost use Rattle.std.specs.Prelude.{◌≡◌, ◌<◌, IfOk, IfSome, false, length, true};
+    ghost use Rattle.std.specs.List.{All};
     ghost use Rattle.tree_words.specs.Opening.{opening_words};
     ghost use Rattle.tree_words.specs.Sequence.{seq_of};
     ghost use Rattle.tree_words.specs.Trees.{IsTreeOf};
-    ghost use Rattle.sim_run.specs.Standing.{IsUnderway, AreNew, AreFinished, steps_to_come};
-    ghost use Rattle.sim_run.specs.Steps.{StepsAlong, StepsOnce, data_of, rounds};
+    ghost use Rattle.sim_run.specs.Standing.{IsUnderway, AreNew, AreFinished, HasFewer};
+    ghost use Rattle.sim_run.specs.Steps.{StepsAlong, StepsOnce, StepsRound, StepsRounds, data_of};
 
     /// The simulation at its beginning: the opening words, and new walkers. It takes all memory.
     pub(crate) fn make(alloc: Global, shape: &Shape) -> Result<Simulation, AllocError>
@@ -49,8 +49,7 @@ impl Simulation {
         ensures shape { self.new.shape ≡ self.old.shape }
         ensures count { length self.new.walkers.items ≡ length self.old.walkers.items }
         ensures step { StepsOnce (data_of self.old) id result (data_of self.new) }
-        ensures fewer { IfSome result (λ _. steps_to_come self.old.shape (data_of self.new)
-            < steps_to_come self.old.shape (data_of self.old)) }
+        ensures fewer { IfSome result (λ _. HasFewer self.old self.new) }
     {
         let op = self.walkers[id].op();
         if op == Op::Done {
@@ -81,10 +80,8 @@ impl Simulation {
         ensures underway { IsUnderway self.new }
         ensures shape { self.new.shape ≡ self.old.shape }
         ensures count { length self.new.walkers.items ≡ length self.old.walkers.items }
-        ensures along { StepsAlong (data_of self.old)
-            (range_with_len 0 (length self.old.walkers.items)) (data_of self.new) }
-        ensures some { result ≡ true → steps_to_come self.old.shape (data_of self.new)
-            < steps_to_come self.old.shape (data_of self.old) }
+        ensures round { StepsRound (data_of self.old) (data_of self.new) }
+        ensures some { result ≡ true → HasFewer self.old self.new }
         ensures none { result ≡ false → AreFinished self.new.walkers.items }
     {
         let mut stepped = false;
@@ -101,8 +98,7 @@ impl Simulation {
         requires underway { IsUnderway self.old }
         ensures underway { IsUnderway self.new }
         ensures shape { self.new.shape ≡ self.old.shape }
-        ensures along { (turns : ℕ) × StepsAlong (data_of self.old)
-            (rounds (length self.old.walkers.items) turns) (data_of self.new) }
+        ensures rounds { StepsRounds (data_of self.old) (data_of self.new) }
         ensures finished { AreFinished self.new.walkers.items }
     {
         'rounds: loop {

@@ -25,10 +25,10 @@ returns-clause-schedule c =
     let s = c.args.shape.now in
     let ids : List ℕ = c.args.schedule.now in
     let run = c.in_ok-run.run' in
-    let turns : ℕ = c.finish.ensures.along.0 in
+    let turns : ℕ = c.finish.ensures.rounds.0 in
     let ended = c.finish.new.self.walkers.items in
     let workers : length c.follow.new.self.walkers.items ≡ s.knobs.workers = c.follow.ensures.count ∙ c.in_ok-run.ensures.walkers.count in
-    let all = along-both (data_of run) (data_of c.follow.new.self) (data_of c.finish.new.self) ids (rounds (length c.follow.new.self.walkers.items) turns) c.follow.ensures.along c.finish.ensures.along.1 in
+    let all = along-both (data_of run) (data_of c.follow.new.self) (data_of c.finish.new.self) ids (rounds (length c.follow.new.self.walkers.items) turns) c.follow.ensures.along c.finish.ensures.rounds.1 in
     record {
       begun = run.walkers.items;
       new = c.in_ok-run.ensures.walkers;

@@ -16,7 +16,7 @@ rounds-preserved c =
       along = (
         suc was.along.0,
         along-round (data_of c.args.self.now) (data_of c.rounds.self) (data_of c.round.new.self)
-            (length c.args.self.now.walkers.items) (length c.rounds.self.walkers.items) was.along.0 was.count was.along.1 c.round.ensures.along,
+            (length c.args.self.now.walkers.items) (length c.rounds.self.walkers.items) was.along.0 was.count was.along.1 c.round.ensures.round,
       );
     }
 
@@ -25,12 +25,12 @@ rounds-smaller c =
     let some : c.round.result ≡ true = search rules in
     subst (λ (s : Setting). steps_to_come s (data_of c.round.new.self) < steps_to_come s (data_of c.rounds.self)) c.rounds.invariant.shape (c.round.ensures.some some)
 
-pub returns-then-not-round-clause-along : goal.returns-then-not-round-clause-along
-returns-then-not-round-clause-along c =
+pub returns-then-not-round-clause-rounds : goal.returns-then-not-round-clause-rounds
+returns-then-not-round-clause-rounds c =
     let was = c.rounds.invariant in (
       suc was.along.0,
       along-round (data_of c.args.self.now) (data_of c.rounds.self) (data_of c.round.new.self)
-          (length c.args.self.now.walkers.items) (length c.rounds.self.walkers.items) was.along.0 was.count was.along.1 c.round.ensures.along,
+          (length c.args.self.now.walkers.items) (length c.rounds.self.walkers.items) was.along.0 was.count was.along.1 c.round.ensures.round,
     )
 
 pub returns-then-not-round-clause-finished : goal.returns-then-not-round-clause-finished
