@@ -1,0 +1,4 @@
+mod Placing
+mod Orders
+mod Words
+mod Recorded
