@@ -1,3 +1,6 @@
 pub mod Positions
 pub mod Schedules
 pub mod Records
+pub mod Rows
+pub mod ModeTexts
+pub mod OneTurn

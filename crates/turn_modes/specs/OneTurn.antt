@@ -1,0 +1,121 @@
+-- What the modes that hand in one turn do.
+use Rattle.std.specs.Prelude.{◌≡◌, ℕ, false, List, Result, Ok, Err}
+use Rattle.std.specs.Option.{ForSome}
+use Rattle.hex_cells.specs.declared.colours.Colour.{Colour}
+use Rattle.hex_cells.specs.declared.colours.Colour.TheVariants.{Black}
+use Rattle.hex_board.specs.Positions.{Position, empty_board}
+use Rattle.hex_io.specs.Told.{Same}
+use Rattle.play_out.specs.Fills.{empties_of}
+use Rattle.tree_words.specs.Complete.{set_of}
+use Rattle.tree_words.specs.Roots.{rows_of}
+use Rattle.tree_words.specs.Sequence.{seq_of}
+use Rattle.tree_words.specs.Settings.{Setting}
+use Rattle.tree_words.specs.declared.roots.Row.{Row}
+use Rattle.tree_words.specs.declared.settings.Knobs.{Knobs}
+use Rattle.hex_plan.specs.Good.{IsGood}
+use Rattle.hex_plan.specs.Reports.{rows_in}
+use Rattle.hex_plan.specs.Seeds.{turn_knobs}
+use Rattle.hex_plan.specs.TurnTexts.{report_of}
+use Rattle.hex_plan.specs.Turns.{Decision}
+use Rattle.htp_session.specs.Handing.{LinkAndArchive, HandsOver}
+use Rattle.htp_session.specs.declared.stops.Stop.{Stop}
+use Rattle.htp_session.specs.declared.stops.Stop.TheVariants.{ReadFault, WriteFault, Memory}
+use Rattle.htp_session.specs.declared.stops.Stop.TheVariants.{TooLong, ArchiveFault}
+use Rattle.turn_modes.specs.ModeTexts.{sim_text, report_by, bench_text}
+use Rattle.turn_modes.specs.Positions.{board_on, mover_after, shuffled_cells, stones_on}
+use Rattle.turn_modes.specs.Records.{records_in}
+use Rattle.turn_modes.specs.Rows.{best_cell}
+use Rattle.turn_modes.specs.declared.options.ModeOptions.{ModeOptions}
+
+-- ---- the turn
+
+-- a good turn of a session that looks for no connections, with number 0, on this board with this
+-- player to move
+pub record IsFirstTurn (knobs : Knobs) (board : Position) (player : Colour)
+    (turn : Decision) : Type 0 where
+  pub good : IsGood knobs false turn
+  pub number : turn.number ≡ 0
+  pub board : turn.board ≡ board
+  pub player : turn.player ≡ player
+
+-- the rows of the sequential search of that turn, in which all empty cells are allowed
+abbrev pub first_rows : Knobs → Position → Colour → List Row
+first_rows knobs board player = rows_in (seq_of (record {
+  board = board;
+  player = player;
+  allowed = set_of (empties_of board);
+  knobs = turn_knobs knobs 0;
+})).0
+
+-- ---- mode sim
+
+-- the turn of mode sim: that of the board without stones, with Black to move
+abbrev pub IsSimTurn : ModeOptions → Decision → Type 0
+IsSimTurn o = IsFirstTurn o.knobs (empty_board o.size) Black
+
+-- the text that mode sim gives with one worker
+abbrev pub sequential_sim_text : ModeOptions → List ℕ
+sequential_sim_text o = let rows = first_rows o.knobs (empty_board o.size) Black in
+    sim_text o.size (best_cell rows) (report_by o.size o.knobs.playouts rows)
+
+-- the text is that of the turn of mode sim; with one worker the options determine it
+pub record IsSimulation (o : ModeOptions) (turn : Decision) (text : List ℕ) : Type 0 where
+  pub turn : IsSimTurn o turn
+  pub says : ForSome (report_of turn) (λ report. text ≡ sim_text o.size turn.cell report)
+  pub one : o.knobs.workers ≡ 1 → text ≡ sequential_sim_text o
+
+-- ---- mode bench
+
+-- how many stones the position of mode bench has, its board, and the player to move
+abbrev pub bench_stones : ModeOptions → ℕ
+bench_stones o = stones_on o.size (shuffled_cells o.size o.knobs.seed)
+
+abbrev pub bench_board : ModeOptions → Position
+bench_board o = board_on o.size (shuffled_cells o.size o.knobs.seed) (bench_stones o)
+
+abbrev pub bench_player : ModeOptions → Colour
+bench_player o = mover_after (bench_stones o)
+
+-- the turn of mode bench: that of its position
+abbrev pub IsBenchTurn : ModeOptions → Decision → Type 0
+IsBenchTurn o = IsFirstTurn o.knobs (bench_board o) (bench_player o)
+
+-- the text that mode bench gives
+abbrev pub determined_bench_text : ModeOptions → List ℕ
+determined_bench_text o = let rows = first_rows o.knobs (bench_board o) (bench_player o) in
+    bench_text o.size (bench_stones o) o.knobs o.knobs.playouts rows (best_cell rows)
+
+-- the text is that of the turn of mode bench, and the options determine it
+pub record IsBenchmark (o : ModeOptions) (turn : Decision) (text : List ℕ) : Type 0 where
+  pub turn : IsBenchTurn o turn
+  pub says : ForSome turn.closed (λ tree. text
+      ≡ bench_text o.size (bench_stones o) o.knobs (records_in tree)
+      (rows_of tree.shape tree.words) turn.cell)
+  pub determined : text ≡ determined_bench_text o
+
+-- ---- what is done with it
+
+-- A turn with its text was handed over: the archive took the turn, and then the text was given, or
+-- at a write fault a front of it. At an archive fault or for want of memory the archive has the
+-- same turns and nothing was given. Nothing was read.
+abbrev pub HandsIn : (Decision → List ℕ → Type 0) → LinkAndArchive → LinkAndArchive
+    → Result (Unit {0}) Stop → Type 0
+HandsIn IsAnswer old new (Ok done) =
+    (turn : Decision) × (text : List ℕ) × IsAnswer turn text × HandsOver old new turn text (Ok done)
+HandsIn IsAnswer old new (Err ReadFault) = ⊥
+HandsIn IsAnswer old new (Err WriteFault) =
+    (turn : Decision) × (text : List ℕ) × IsAnswer turn text
+    × HandsOver old new turn text (Err WriteFault)
+HandsIn IsAnswer old new (Err Memory) = Same old.0 new.0 × Same old.1 new.1
+HandsIn IsAnswer old new (Err TooLong) = ⊥
+HandsIn IsAnswer old new (Err ArchiveFault) = Same old.0 new.0 × Same old.1 new.1
+
+-- what mode sim did
+abbrev pub IsSimulated : ModeOptions → LinkAndArchive → LinkAndArchive
+    → Result (Unit {0}) Stop → Type 0
+IsSimulated o = HandsIn (IsSimulation o)
+
+-- what mode bench did
+abbrev pub IsBenchmarked : ModeOptions → LinkAndArchive → LinkAndArchive
+    → Result (Unit {0}) Stop → Type 0
+IsBenchmarked o = HandsIn (IsBenchmark o)
