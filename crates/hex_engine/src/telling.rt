@@ -150,7 +150,7 @@ impl Engine {
         requires { TellsNoFault (Answer.Fail fail) }
         ensures { IfOk result
             (λ answer. ReactsQuietly
-            (text_or self.now.game args.now fail (option_map (λ text. text.now) text))
+            (text_or self.now.game args.now fail (option_map (λ t. t.now) text.old))
             answer self.now.game) }
     {
         match text {
