@@ -48,7 +48,7 @@ fn visits_of(rows: &[Row], cell: Cell) -> u32
     ensures { result ≡ visits_of rows.now cell }
 {
     for row in rows {
-        if row.cell == cell {
+        if row.cell.number() == cell.number() {
             return row.visits;
         }
     }
