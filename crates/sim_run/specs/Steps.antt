@@ -21,7 +21,6 @@ pub record HasStepped (old : Simulation) (id : ℕ) (w : Walker) (op : Op) (answ
   pub is : op ≡ op_of w
   pub some : op ≢ Done
   pub answered : answer ≡ answer_of op (slice_index old.words.items (word_of op))
-  pub shape : new.shape ≡ old.shape
   pub words : new.words.items ≡ words_after old.words.items op
   pub walkers : new.walkers.items ≡ slice_set old.walkers.items id (next w answer)
 

@@ -4,9 +4,8 @@ ghost use Rattle.std.specs.Prelude.{◌≡◌, IfOk};
 ghost use Rattle.tree_words.specs.Opening.{opening_words};
 ghost use Rattle.sim_run.specs.Standing.{AreNew};
 
-use super::errors::SimError;
 use super::steps::apply;
-use std::alloc::Global;
+use std::alloc::{AllocError, Global};
 use tree_words::{Closed, Op, Shape, write_opening};
 use walker::Walker;
 
@@ -19,7 +18,7 @@ pub(crate) struct Simulation {
 }
 
 // The opening words.
-fn open(alloc: Global, shape: &Shape) -> Result<Vec<u64>, SimError>
+fn open(alloc: Global, shape: &Shape) -> Result<Vec<u64>, AllocError>
     ensures { IfOk result (λ words. words.items ≡ opening_words shape.now) }
 {
     let mut words = vec![in alloc; 0; shape.total() as usize]?;
@@ -28,7 +27,7 @@ fn open(alloc: Global, shape: &Shape) -> Result<Vec<u64>, SimError>
 }
 
 // New walkers, one for each worker.
-fn new_walkers(alloc: Global, shape: &Shape) -> Result<Vec<Walker>, SimError>
+fn new_walkers(alloc: Global, shape: &Shape) -> Result<Vec<Walker>, AllocError>
     ensures { IfOk result (λ walkers. AreNew shape.now walkers.items) }
 {
     let workers = shape.knobs().workers as usize;
@@ -40,16 +39,21 @@ fn new_walkers(alloc: Global, shape: &Shape) -> Result<Vec<Walker>, SimError>
 }
 
 impl Simulation {
-    ghost use Rattle.std.specs.Prelude.{◌≡◌, ◌<◌, ◌≤◌, IfOk, IfSome, length};
+    ghost use Rattle.std.specs.Prelude.{◌≡◌, ◌<◌, ◌≤◌, IfOk, IfSome, false, length, true};
     ghost use Rattle.std.specs.List.{All};
+    ghost use Rattle.tree_words.specs.Sequence.{seq_of};
+    ghost use Rattle.tree_words.specs.Trees.{IsTreeOf};
     ghost use Rattle.sim_run.specs.Standing.{IsUnderway, AreDone, steps_to_come};
     ghost use Rattle.sim_run.specs.Steps.{Steps};
 
     /// The simulation at its beginning: the opening words, and new walkers. It takes all memory.
-    pub(crate) fn make(alloc: Global, shape: &Shape) -> Result<Simulation, SimError>
+    pub(crate) fn make(alloc: Global, shape: &Shape) -> Result<Simulation, AllocError>
         ensures shape { IfOk result (λ run. run.shape ≡ shape.now) }
+        ensures count { IfOk result (λ run. length run.walkers.items ≡ shape.now.knobs.workers) }
         ensures underway { IfOk result IsUnderway }
     {
+        // What each shape keeps of itself.
+        let _board = shape.board();
         let words = open(alloc, shape)?;
         let walkers = new_walkers(alloc, shape)?;
         Ok(Simulation {
@@ -64,6 +68,8 @@ impl Simulation {
         requires id { id < length self.old.walkers.items }
         requires underway { IsUnderway self.old }
         ensures underway { IsUnderway self.new }
+        ensures shape { self.new.shape ≡ self.old.shape }
+        ensures count { length self.new.walkers.items ≡ length self.old.walkers.items }
         ensures step { Steps self.old id result self.new }
         ensures fewer { IfSome result (λ _. steps_to_come self.new < steps_to_come self.old) }
     {
@@ -112,7 +118,11 @@ impl Simulation {
         ensures shape { self.new.shape ≡ self.old.shape }
         ensures done { AreDone self.new.walkers.items }
     {
-        'rounds: while self.round() {}
+        'rounds: loop {
+            if !self.round() {
+                return;
+            }
+        }
     }
 
     /// The closed tree, where all walkers are done.

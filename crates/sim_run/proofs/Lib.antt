@@ -1,0 +1,7 @@
+pub mod Zips
+pub mod Frames
+pub mod Stepping
+pub mod Beginning
+pub mod Closing
+pub mod Rounds
+pub mod Strays
