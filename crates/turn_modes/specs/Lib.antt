@@ -4,3 +4,4 @@ pub mod Records
 pub mod Rows
 pub mod ModeTexts
 pub mod OneTurn
+pub mod HandingIn

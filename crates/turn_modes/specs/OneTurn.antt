@@ -1,10 +1,9 @@
--- What the modes that hand in one turn do.
-use Rattle.std.specs.Prelude.{◌≡◌, ℕ, false, List, Result, Ok, Err}
+-- The turns and texts of modes sim and bench.
+use Rattle.std.specs.Prelude.{◌≡◌, ℕ, false, List}
 use Rattle.std.specs.Option.{ForSome}
 use Rattle.hex_cells.specs.declared.colours.Colour.{Colour}
 use Rattle.hex_cells.specs.declared.colours.Colour.TheVariants.{Black}
 use Rattle.hex_board.specs.Positions.{Position, empty_board}
-use Rattle.hex_io.specs.Told.{Same}
 use Rattle.play_out.specs.Fills.{empties_of}
 use Rattle.tree_words.specs.Complete.{set_of}
 use Rattle.tree_words.specs.Roots.{rows_of}
@@ -17,10 +16,6 @@ use Rattle.hex_plan.specs.Reports.{rows_in}
 use Rattle.hex_plan.specs.Seeds.{turn_knobs}
 use Rattle.hex_plan.specs.TurnTexts.{report_of}
 use Rattle.hex_plan.specs.Turns.{Decision}
-use Rattle.htp_session.specs.Handing.{LinkAndArchive, HandsOver}
-use Rattle.htp_session.specs.declared.stops.Stop.{Stop}
-use Rattle.htp_session.specs.declared.stops.Stop.TheVariants.{ReadFault, WriteFault, Memory}
-use Rattle.htp_session.specs.declared.stops.Stop.TheVariants.{TooLong, ArchiveFault}
 use Rattle.turn_modes.specs.ModeTexts.{sim_text, report_by, bench_text}
 use Rattle.turn_modes.specs.Positions.{board_on, mover_after, shuffled_cells, stones_on}
 use Rattle.turn_modes.specs.Records.{records_in}
@@ -31,12 +26,12 @@ use Rattle.turn_modes.specs.declared.options.ModeOptions.{ModeOptions}
 
 -- a good turn of a session that looks for no connections, with number 0, on this board with this
 -- player to move
-pub record IsFirstTurn (knobs : Knobs) (board : Position) (player : Colour)
-    (turn : Decision) : Type 0 where
-  pub good : IsGood knobs false turn
-  pub number : turn.number ≡ 0
-  pub board : turn.board ≡ board
-  pub player : turn.player ≡ player
+pub record IsFirstTurn (knobs : Knobs) (now : Position) (mover : Colour)
+    (t : Decision) : Type 0 where
+  pub good : IsGood knobs false t
+  pub number : t.number ≡ 0
+  pub board : t.board ≡ now
+  pub player : t.player ≡ mover
 
 -- the rows of the sequential search of that turn, in which all empty cells are allowed
 abbrev pub first_rows : Knobs → Position → Colour → List Row
@@ -59,9 +54,9 @@ sequential_sim_text o = let rows = first_rows o.knobs (empty_board o.size) Black
     sim_text o.size (best_cell rows) (report_by o.size o.knobs.playouts rows)
 
 -- the text is that of the turn of mode sim; with one worker the options determine it
-pub record IsSimulation (o : ModeOptions) (turn : Decision) (text : List ℕ) : Type 0 where
-  pub turn : IsSimTurn o turn
-  pub says : ForSome (report_of turn) (λ report. text ≡ sim_text o.size turn.cell report)
+pub record IsSimulation (o : ModeOptions) (t : Decision) (text : List ℕ) : Type 0 where
+  pub turn : IsSimTurn o t
+  pub says : ForSome (report_of t) (λ report. text ≡ sim_text o.size t.cell report)
   pub one : o.knobs.workers ≡ 1 → text ≡ sequential_sim_text o
 
 -- ---- mode bench
@@ -86,36 +81,9 @@ determined_bench_text o = let rows = first_rows o.knobs (bench_board o) (bench_p
     bench_text o.size (bench_stones o) o.knobs o.knobs.playouts rows (best_cell rows)
 
 -- the text is that of the turn of mode bench, and the options determine it
-pub record IsBenchmark (o : ModeOptions) (turn : Decision) (text : List ℕ) : Type 0 where
-  pub turn : IsBenchTurn o turn
-  pub says : ForSome turn.closed (λ tree. text
+pub record IsBenchmark (o : ModeOptions) (t : Decision) (text : List ℕ) : Type 0 where
+  pub turn : IsBenchTurn o t
+  pub says : ForSome t.closed (λ tree. text
       ≡ bench_text o.size (bench_stones o) o.knobs (records_in tree)
-      (rows_of tree.shape tree.words) turn.cell)
+      (rows_of tree.shape tree.words) t.cell)
   pub determined : text ≡ determined_bench_text o
-
--- ---- what is done with it
-
--- A turn with its text was handed over: the archive took the turn, and then the text was given, or
--- at a write fault a front of it. At an archive fault or for want of memory the archive has the
--- same turns and nothing was given. Nothing was read.
-abbrev pub HandsIn : (Decision → List ℕ → Type 0) → LinkAndArchive → LinkAndArchive
-    → Result (Unit {0}) Stop → Type 0
-HandsIn IsAnswer old new (Ok done) =
-    (turn : Decision) × (text : List ℕ) × IsAnswer turn text × HandsOver old new turn text (Ok done)
-HandsIn IsAnswer old new (Err ReadFault) = ⊥
-HandsIn IsAnswer old new (Err WriteFault) =
-    (turn : Decision) × (text : List ℕ) × IsAnswer turn text
-    × HandsOver old new turn text (Err WriteFault)
-HandsIn IsAnswer old new (Err Memory) = Same old.0 new.0 × Same old.1 new.1
-HandsIn IsAnswer old new (Err TooLong) = ⊥
-HandsIn IsAnswer old new (Err ArchiveFault) = Same old.0 new.0 × Same old.1 new.1
-
--- what mode sim did
-abbrev pub IsSimulated : ModeOptions → LinkAndArchive → LinkAndArchive
-    → Result (Unit {0}) Stop → Type 0
-IsSimulated o = HandsIn (IsSimulation o)
-
--- what mode bench did
-abbrev pub IsBenchmarked : ModeOptions → LinkAndArchive → LinkAndArchive
-    → Result (Unit {0}) Stop → Type 0
-IsBenchmarked o = HandsIn (IsBenchmark o)

@@ -4,7 +4,7 @@ ghost use Rattle.std.specs.Prelude.{◌≡◌, Some};
 ghost use Rattle.hex_io.specs.Causes.{CountsFault};
 ghost use Rattle.tree_words.specs.Settings.{AreInRange};
 ghost use Rattle.htp_session.specs.Devices.{stop_of};
-ghost use Rattle.turn_modes.specs.OneTurn.{IsBenchmarked, IsSimulated};
+ghost use Rattle.turn_modes.specs.HandingIn.{IsBenchmarked, IsSimulated};
 
 use super::options::ModeOptions;
 use super::positions::bench_position;
