@@ -2,3 +2,6 @@ mod Placing
 mod Orders
 mod Words
 mod Recorded
+mod Preferred
+mod Decided
+mod Said

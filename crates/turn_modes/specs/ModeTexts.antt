@@ -24,10 +24,13 @@ report_by size playouts rows = codes "playouts " ++ decimal playouts ++ report_l
 abbrev pub best_line : ℕ → ℕ → ℕ → List ℕ
 best_line size cell visits = codes "best " ++ vertex_of size cell ++ number_line (32 ∷ []) visits
 
--- mode bench: the size, the stones placed, the playouts and the records, and with one worker the
--- best cell
-abbrev pub bench_text : ℕ → ℕ → Knobs → ℕ → List Row → ℕ → List ℕ
-bench_text size stones knobs records rows cell =
+-- mode bench: the size, the stones placed, the playouts and the records
+abbrev pub bench_lines : ℕ → ℕ → ℕ → ℕ → List ℕ
+bench_lines size stones playouts records =
     number_line (codes "size ") size ++ number_line (codes "stones ") stones
-    ++ number_line (codes "playouts ") knobs.playouts ++ number_line (codes "records ") records
+    ++ number_line (codes "playouts ") playouts ++ number_line (codes "records ") records
+
+-- these lines, and with one worker the best cell
+abbrev pub bench_text : ℕ → ℕ → Knobs → ℕ → List Row → ℕ → List ℕ
+bench_text size stones knobs records rows cell = bench_lines size stones knobs.playouts records
     ++ (if knobs.workers == 1 then best_line size cell (visits_of rows cell) else [])

@@ -1,10 +1,10 @@
 -- The turns and texts of modes sim and bench.
-use Rattle.std.specs.Prelude.{◌≡◌, ℕ, false, List}
-use Rattle.std.specs.Option.{ForSome}
+use Rattle.std.specs.Prelude.{◌≡◌, ℕ, false, List, Some}
 use Rattle.hex_cells.specs.declared.colours.Colour.{Colour}
 use Rattle.hex_cells.specs.declared.colours.Colour.TheVariants.{Black}
 use Rattle.hex_board.specs.Positions.{Position, empty_board}
 use Rattle.play_out.specs.Fills.{empties_of}
+use Rattle.tree_words.specs.Closing.{ClosedTree}
 use Rattle.tree_words.specs.Complete.{set_of}
 use Rattle.tree_words.specs.Roots.{rows_of}
 use Rattle.tree_words.specs.Sequence.{seq_of}
@@ -33,14 +33,18 @@ pub record IsFirstTurn (knobs : Knobs) (now : Position) (mover : Colour)
   pub board : t.board ≡ now
   pub player : t.player ≡ mover
 
--- the rows of the sequential search of that turn, in which all empty cells are allowed
-abbrev pub first_rows : Knobs → Position → Colour → List Row
-first_rows knobs board player = rows_in (seq_of (record {
-  board = board;
-  player = player;
-  allowed = set_of (empties_of board);
+-- what is searched for that turn: all empty cells are allowed
+abbrev pub first_setting : Knobs → Position → Colour → Setting
+first_setting knobs now mover = record {
+  board = now;
+  player = mover;
+  allowed = set_of (empties_of now);
   knobs = turn_knobs knobs 0;
-})).0
+}
+
+-- the rows of its sequential search
+abbrev pub first_rows : Knobs → Position → Colour → List Row
+first_rows knobs now mover = rows_in (seq_of (first_setting knobs now mover)).0
 
 -- ---- mode sim
 
@@ -56,7 +60,8 @@ sequential_sim_text o = let rows = first_rows o.knobs (empty_board o.size) Black
 -- the text is that of the turn of mode sim; with one worker the options determine it
 pub record IsSimulation (o : ModeOptions) (t : Decision) (text : List ℕ) : Type 0 where
   pub turn : IsSimTurn o t
-  pub says : ForSome (report_of t) (λ report. text ≡ sim_text o.size t.cell report)
+  pub says : (report : List ℕ) × (report_of t ≡ Some report)
+      × (text ≡ sim_text o.size t.cell report)
   pub one : o.knobs.workers ≡ 1 → text ≡ sequential_sim_text o
 
 -- ---- mode bench
@@ -83,7 +88,7 @@ determined_bench_text o = let rows = first_rows o.knobs (bench_board o) (bench_p
 -- the text is that of the turn of mode bench, and the options determine it
 pub record IsBenchmark (o : ModeOptions) (t : Decision) (text : List ℕ) : Type 0 where
   pub turn : IsBenchTurn o t
-  pub says : ForSome t.closed (λ tree. text
-      ≡ bench_text o.size (bench_stones o) o.knobs (records_in tree)
+  pub says : (tree : ClosedTree) × (t.closed ≡ Some tree)
+      × (text ≡ bench_text o.size (bench_stones o) o.knobs (records_in tree)
       (rows_of tree.shape tree.words) t.cell)
   pub determined : text ≡ determined_bench_text o

@@ -43,6 +43,7 @@ fn place_stones(size: Size, cells: &[Cell]) -> BenchPosition
     requires many { length cells.now ≡ size * size }
     ensures placed { IsPlacedOn size cells.now result }
     ensures few { result.stones ≤ most_stones size }
+    ensures size { result.board.size ≡ size }
     ensures nobody { winner_of result.board ≡ None }
     ensures room { (k : ℕ) × (is_empty_at result.board k ≡ true) }
 {
@@ -73,6 +74,7 @@ fn place_stones(size: Size, cells: &[Cell]) -> BenchPosition
 pub fn bench_position(size: Size, seed: u64) -> BenchPosition
     ensures is { IsBenchPosition size seed result }
     ensures few { result.stones ≤ most_stones size }
+    ensures size { result.board.size ≡ size }
     ensures nobody { winner_of result.board ≡ None }
     ensures room { (k : ℕ) × (is_empty_at result.board k ≡ true) }
 {

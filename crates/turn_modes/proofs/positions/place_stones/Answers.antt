@@ -1,5 +1,5 @@
 use Rattle.std.proofs.Common.{◌≡◌, ℕ, ◌+◌, ◌*◌, ◌/◌, ◌<◌, true, false, get_or, refl, sym, ap, ◌∙◌, arith}
-use Rattle.hex_board.specs.Joined.{winner_of}
+use Rattle.hex_board.proofs.Placed.{placed_size}
 use Rattle.turn_modes.specs.Positions.{board_on, is_open}
 use Rattle.turn_modes.proofs.Orders.{first_board, next_empty, next_board, next_mover, none_joined, open_so_far, all_placed}
 use Rattle.turn_modes.proofs.positions.place_stones.Goals as goal
@@ -8,6 +8,7 @@ use Rattle.turn_modes.proofs.positions.place_stones.Goals.{else-stones-test, the
 pub stones-init : goal.stones-init
 stones-init c = record {
   within = omega arith;
+  size = ap (λ p. p.size) c.bare_board-board.ensures.value;
   board = first_board c.args.size c.args.cells.now c.bare_board-board.result c.bare_board-board.ensures.value;
   colour = refl;
   nobody = c.bare_board-board.ensures.nobody;
@@ -31,6 +32,7 @@ stones-preserved c =
     let here : is_open c.place.new.self ≡ true = sym c.is_open.ensures ∙ c.if-not-is_open.false in
     record {
       within = omega arith;
+      size = ap (λ p. p.size) c.place.ensures ∙ placed_size c.stones.board c.stones.colour c.index-cells-stones.result ∙ c.stones.invariant.size;
       board = board;
       colour = next_mover c.stones.stones c.stones.colour c.other-colour.result c.stones.invariant.colour c.other-colour.ensures;
       nobody = none_joined c.place.new.self here;

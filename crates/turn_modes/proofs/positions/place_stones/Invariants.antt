@@ -6,6 +6,7 @@ use Rattle.turn_modes.proofs.positions.place_stones.Given as goal
 abbrev pub invariant-stones : goal.invariant-stones
 invariant-stones l = record {
   within : l.stones ≤ l.most;
+  size : l.board.size ≡ l.fn.size;
   board : l.board ≡ board_on l.fn.size l.cells l.stones;
   colour : l.colour ≡ mover_after l.stones;
   nobody : winner_of l.board ≡ None;
