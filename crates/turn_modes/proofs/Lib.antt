@@ -5,3 +5,4 @@ mod Recorded
 mod Preferred
 mod Decided
 mod Said
+mod Handed

@@ -15,10 +15,12 @@ use Rattle.tree_words.specs.declared.settings.Knobs.{Knobs}
 use Rattle.hex_plan.specs.TurnTexts.{report_of, report_on}
 use Rattle.hex_plan.specs.Turns.{Decision}
 use Rattle.turn_modes.specs.ModeTexts.{bench_lines, bench_text, best_line, report_by, sim_text}
-use Rattle.turn_modes.specs.OneTurn.{IsBenchTurn, IsBenchmark, IsSimTurn, IsSimulation, bench_board, bench_player, bench_stones, first_rows}
+use Rattle.turn_modes.specs.OneTurn.{IsBenchTurn, IsBenchmark, IsFirstTurn, IsSimTurn, IsSimulation, bench_board, bench_player, bench_stones, first_rows}
+use Rattle.turn_modes.specs.Positions.{IsBenchPosition, board_on, mover_after, shuffled_cells}
 use Rattle.turn_modes.specs.Records.{records_in}
 use Rattle.turn_modes.specs.Rows.{best_cell, visits_of}
 use Rattle.turn_modes.specs.declared.options.ModeOptions.{ModeOptions}
+use Rattle.turn_modes.specs.declared.positions.BenchPosition.{BenchPosition}
 use Rattle.turn_modes.proofs.Decided.{searched_tree, sequential_rows_of, tree_setting}
 use Rattle.turn_modes.proofs.Preferred.{best_in}
 use Rattle.turn_modes.proofs.Recorded.{all_recorded}
@@ -61,6 +63,15 @@ by_rows size stones records cell knobs rows others e h = elim (cases_eq knobs.wo
       ap (λ b. lines ++ cond b (best_line size cell (visits_of rows cell)) []) several
       ∙ sym (ap (λ b. lines ++ cond b (best_line size (best_cell others) (visits_of others (best_cell others))) []) several)
 ]
+
+-- the position's board is that of the options
+pub position_board : (o : ModeOptions) (p : BenchPosition) → IsBenchPosition o.size o.knobs.seed p → p.board ≡ bench_board o
+position_board o p h = h.board ∙ ap (board_on o.size (shuffled_cells o.size o.knobs.seed)) h.stones
+
+pub bench_turn : (o : ModeOptions) (p : BenchPosition) (t : Decision) → IsBenchPosition o.size o.knobs.seed p → IsFirstTurn o.knobs p.board p.colour t → IsBenchTurn o t
+bench_turn o p t h f =
+    subst (λ (b : Position). IsFirstTurn o.knobs b (bench_player o) t) (position_board o p h)
+    (subst (λ (k : Colour). IsFirstTurn o.knobs p.board k t) (h.colour ∙ ap mover_after h.stones) f)
 
 pub benchmark_says : (o : ModeOptions) (t : Decision) (stones : ℕ) (text : List ℕ) → IsBenchTurn o t → stones ≡ bench_stones o → (bench_board o).size ≡ o.size
     → ForSome t.closed (λ tree. text ≡ bench_text t.board.size stones o.knobs (records_in tree) (rows_of tree.shape tree.words) t.cell) → IsBenchmark o t text

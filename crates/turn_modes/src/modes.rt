@@ -1,9 +1,8 @@
 //! Modes sim and bench.
 
-ghost use Rattle.std.specs.Prelude.{◌≡◌, Some};
-ghost use Rattle.hex_io.specs.Causes.{CountsFault};
+ghost use Rattle.std.specs.Prelude.{◌≡◌};
 ghost use Rattle.tree_words.specs.Settings.{AreInRange};
-ghost use Rattle.htp_session.specs.Devices.{stop_of};
+ghost use Rattle.htp_session.specs.Devices.{RisesWith};
 ghost use Rattle.turn_modes.specs.HandingIn.{IsBenchmarked, IsSimulated};
 
 use super::options::ModeOptions;
@@ -31,10 +30,10 @@ pub fn simulation<L: Link, A: Archive>(
     requires { AreInRange options.now.knobs }
     ensures simulated { IsSimulated options.now (L.told link.old, A.told archive.old)
         (L.told link.new, A.told archive.new) result }
-    ensures write_fault { CountsFault (L.write_faults link.old) (L.write_faults link.new)
-        (stop_of result ≡ Some Stop.WriteFault) }
-    ensures archive_fault { CountsFault (A.faults archive.old) (A.faults archive.new)
-        (stop_of result ≡ Some Stop.ArchiveFault) }
+    ensures write_fault { RisesWith Stop.WriteFault
+        (L.write_faults link.old) (L.write_faults link.new) result }
+    ensures archive_fault { RisesWith Stop.ArchiveFault
+        (A.faults archive.old) (A.faults archive.new) result }
     ensures reads { L.read_faults link.new ≡ L.read_faults link.old }
 {
     let Ok(turn) = simulated_turn(alloc, options) else {
@@ -62,10 +61,10 @@ pub fn benchmark<R: Threads + Sync, L: Link, A: Archive, G: Gate + Sync>(
     requires { AreInRange options.now.knobs }
     ensures benchmarked { IsBenchmarked options.now (L.told link.old, A.told archive.old)
         (L.told link.new, A.told archive.new) result }
-    ensures write_fault { CountsFault (L.write_faults link.old) (L.write_faults link.new)
-        (stop_of result ≡ Some Stop.WriteFault) }
-    ensures archive_fault { CountsFault (A.faults archive.old) (A.faults archive.new)
-        (stop_of result ≡ Some Stop.ArchiveFault) }
+    ensures write_fault { RisesWith Stop.WriteFault
+        (L.write_faults link.old) (L.write_faults link.new) result }
+    ensures archive_fault { RisesWith Stop.ArchiveFault
+        (A.faults archive.old) (A.faults archive.new) result }
     ensures reads { L.read_faults link.new ≡ L.read_faults link.old }
 {
     let position = bench_position(options.size, options.knobs.seed);
