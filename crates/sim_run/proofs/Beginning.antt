@@ -1,5 +1,5 @@
 -- A simulation at its beginning: the rule holds of the opening words with a view of width 1 for each worker.
-use Rattle.std.proofs.Common.{◌≡◌, ◌≢◌, ℕ, ◌<◌, ◌≤◌, List, [], length, replicate, refl, sym, ap, ◌∙◌, subst, ⊎_elim, inr, arith}
+use Rattle.std.proofs.Common.{◌≡◌, ◌≢◌, ℕ, List, [], replicate, refl, sym, subst, inr, arith}
 use Rattle.std.specs.List.{AllZip}
 use mathlib.Core.Option.{some}
 use mathlib.Core.Logic.{dite}

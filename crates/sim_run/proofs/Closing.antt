@@ -1,5 +1,5 @@
 -- The end of a simulation: the views of walkers that are done are joined to one, which closes the tree.
-use Rattle.std.proofs.Common.{◌≡◌, ◌≢◌, ℕ, zero, suc, ◌+◌, ◌<◌, ◌≤◌, List, [], ◌∷◌, ◌++◌, length, set, refl, sym, ap, ◌∙◌, subst, append_assoc, append-nil, arith}
+use Rattle.std.proofs.Common.{◌≡◌, ℕ, suc, ◌+◌, ◌<◌, List, [], ◌∷◌, ◌++◌, length, set, refl, sym, ap, ◌∙◌, subst, append_assoc, append-nil, arith}
 use Rattle.std.specs.Prelude.{sum_by}
 use Rattle.std.specs.List.{AllZip}
 use Rattle.std.proofs.lemmas.List.Sums.{sum_by-cons, sum_by_push}
@@ -9,8 +9,6 @@ use Rattle.tree_words.specs.Settings.{Setting}
 use Rattle.tree_words.specs.Sequence.{seq_of}
 use Rattle.tree_words.specs.Trees.{IsTreeOf}
 use Rattle.tree_words.specs.Closing.{IsClosed}
-use Rattle.tree_words.specs.declared.steps.Op.{Op}
-use Rattle.tree_words.specs.declared.steps.Op.TheVariants.{Done}
 use Rattle.arena_rule.specs.Views.{SeatView, HasEnded, spent_view}
 use Rattle.arena_rule.specs.Fits.{FitsStep}
 use Rattle.arena_rule.specs.Afters.{joined}
@@ -18,12 +16,12 @@ use Rattle.arena_rule.specs.Parts.{width_of}
 use Rattle.arena_rule.specs.Rule.{Rule}
 use Rattle.arena_rule.proofs.Law.{joins, closes}
 use Rattle.walker.specs.declared.machine.Walker.{Walker}
-use Rattle.walker.specs.Machine.{op_of}
 use Rattle.walker.specs.Belongs.{Belongs}
 use Rattle.walker.proofs.Fitting.{fits}
 use Rattle.lone_worker.specs.Alone.{HasRunAlone, ShowsSequence}
 use Rattle.lone_worker.proofs.Machines.{ends-as-sequence}
-use Rattle.sim_run.specs.Standing.{AreSimulated, IsDone, AreDone}
+use Rattle.sim_run.specs.Steps.{IsFinished}
+use Rattle.sim_run.specs.Standing.{AreSimulated, AreFinished}
 use Rattle.sim_run.proofs.Zips.{all-at, at-middle, set-middle}
 
 -- the view stands for a worker, and its workers have ended
@@ -65,7 +63,7 @@ module _ (s : Setting) (words : List ℕ) where
       (omega (arith, none, sum_by_push width_of spent z))
 
   -- the views of walkers that are done are over
-  are-over : (walkers : List Walker) (views : List SeatView) → AllZip Belongs walkers views → ((i : ℕ) (w : Walker) → get_elem? walkers i ≡ some w → IsDone w) → AreOver views
+  are-over : (walkers : List Walker) (views : List SeatView) → AllZip Belongs walkers views → ((i : ℕ) (w : Walker) → get_elem? walkers i ≡ some w → IsFinished w) → AreOver views
   unfolding AreOver
   are-over [] [] z done = tt
   are-over [] (v ∷ views) z done = absurd z
@@ -80,12 +78,12 @@ module _ (s : Setting) (words : List ℕ) where
   end-closes [] r over = absurd (omega (arith, r.state.widths.sum, r.state.setting.ranges.workers.0))
   end-closes (v ∷ views) r over = all-joined v [] views r over.0 over.1 refl
 
-  module _ (walkers : List Walker) (u : AreSimulated s words walkers) (done : AreDone walkers) where
+  module _ (walkers : List Walker) (u : AreSimulated s words walkers) (done : AreFinished walkers) where
     pub ends-closed : IsClosed s words
-    ends-closed = end-closes u.views u.rule (are-over walkers u.views u.belong (all-at IsDone walkers done))
+    ends-closed = end-closes u.views u.rule (are-over walkers u.views u.belong (all-at IsFinished walkers done))
 
     -- the words are the copy of the walker that has run alone
-    shown : (ws : List Walker) (views : List SeatView) → Rule s words views → AllZip (HasRunAlone s) ws views → ((i : ℕ) (w : Walker) → get_elem? ws i ≡ some w → IsDone w) → IsTreeOf s words (seq_of s).0
+    shown : (ws : List Walker) (views : List SeatView) → Rule s words views → AllZip (HasRunAlone s) ws views → ((i : ℕ) (w : Walker) → get_elem? ws i ≡ some w → IsFinished w) → IsTreeOf s words (seq_of s).0
     shown [] [] r z each = absurd (omega (arith, r.state.widths.sum, r.state.setting.ranges.workers.0))
     shown [] (v ∷ views) r z each = absurd z
     shown (w ∷ ws) [] r z each = absurd z
@@ -94,4 +92,4 @@ module _ (s : Setting) (words : List ℕ) where
         subst (λ (l : List ℕ). IsTreeOf s l (seq_of s).0) (sym (r.state.sole 0 v t.words refl t.whole).0) t.tree
 
     pub ends-shown : s.knobs.workers ≡ 1 → IsTreeOf s words (seq_of s).0
-    ends-shown one = shown walkers u.views u.rule (u.alone one) (all-at IsDone walkers done)
+    ends-shown one = shown walkers u.views u.rule (u.alone one) (all-at IsFinished walkers done)

@@ -1,10 +1,10 @@
 -- What a step that fits does to a plain vector of words: its word lies within, and has room.
-use Rattle.std.proofs.Common.{◌≡◌, ◌≢◌, ℕ, ◌+◌, ◌*◌, ◌/◌, ◌^◌, ◌<◌, ◌≤◌, Bool, true, false, List, length, refl, sym, ap, ◌∙◌, subst, ⊎_elim, arith, get_or-set_same, get_or-set_other}
+use Rattle.std.proofs.Common.{◌≡◌, ◌≢◌, ℕ, ◌+◌, ◌/◌, ◌^◌, ◌<◌, Bool, true, false, List, length, refl, sym, subst, ⊎_elim, arith, get_or-set_same, get_or-set_other}
 use Rattle.std.specs.Prelude.{slice_index}
 use mathlib.Core.Option.{some}
 use lib.ListN.{get_elem?}
 use Rattle.tree_words.specs.Settings.{Setting}
-use Rattle.tree_words.specs.Words.{end_of, ticket_in}
+use Rattle.tree_words.specs.Words.{ticket_in}
 use Rattle.tree_words.specs.Blocks.{LinkedBlock}
 use Rattle.tree_words.specs.Sequence.{amount_of}
 use Rattle.tree_words.specs.declared.steps.Op.{Op}
@@ -18,7 +18,7 @@ use Rattle.arena_rule.proofs.Before.{Before}
 use Rattle.arena_rule.proofs.Frames.{node-range, write-word, publish-word, add-word, note-low}
 use Rattle.arena_rule.proofs.Reach.{low-same}
 use Rattle.arena_rule.proofs.Widths.{few-words}
-use Rattle.sim_run.specs.Plain.{HasRoom}
+use Rattle.sim_run.specs.Plain.{FitsWord}
 
 -- the state before a step of a seat
 pub before : (s : Setting) (words : List ℕ) (views : List SeatView) (r : Rule s words views) (id : ℕ) (v : SeatView) → get_elem? views id ≡ some v → 0 < v.width → Before r.blocks words views id v
@@ -46,27 +46,27 @@ module _ (bs : List LinkedBlock) (words : List ℕ) (views : List SeatView) (id 
   within (Note k value) fits = omega (arith, b.state.long, note-low bs words views id v b k value fits)
   within Done fits = omega (arith, b.state.long)
 
-  pub has-room : (op : Op) → FitsStep v op → MayAnswer v op (answer_of op (slice_index words (word_of op))) → HasRoom op (slice_index words (word_of op))
-  has-room Draw fits may =
+  pub fits-word : (op : Op) → FitsStep v op → MayAnswer v op (answer_of op (slice_index words (word_of op))) → FitsWord op (slice_index words (word_of op))
+  fits-word Draw fits may =
       let few = b.state.setting.ranges.playouts.1 in
       let most = b.state.setting.ranges.workers.1 in
       omega (arith, may.step.most, few, most)
-  has-room (Look i) fits may = tt
-  has-room (Claim size) fits may =
+  fits-word (Look i) fits may = tt
+  fits-word (Claim size) fits may =
       let few = b.state.setting.ranges.playouts.1 in
       let most = b.state.setting.ranges.words.1 in
       omega (arith, may.step.most, few, most, few-words v size b.state.setting.position.most fits)
-  has-room (Write i value) fits may = tt
-  has-room (Publish l c) fits may = tt
-  has-room (Add i won) fits may =
+  fits-word (Write i value) fits may = tt
+  fits-word (Publish l c) fits may = tt
+  fits-word (Add i won) fits may =
       let few = b.state.setting.ranges.playouts.1 in
       by won (omega (arith, may.step, few))
     where
       by : (t : Bool) → slice_index words i / 4294967296 < 1000000 → slice_index words i + amount_of t < 2 ^ 64
       by true l = omega (arith, l)
       by false l = omega (arith, l)
-  has-room (Note k value) fits may = tt
-  has-room Done fits may = tt
+  fits-word (Note k value) fits may = tt
+  fits-word Done fits may = tt
 
   -- TICKET grows at a Draw alone
   pub ticket-drawn : ticket_in (words_after words Draw) ≡ ticket_in words + 1

@@ -1,55 +1,56 @@
--- A round of a simulation: one step of each walker that is not done.
+-- A round of a simulation: one step of each walker that is not finished.
 use Rattle.std.proofs.Common.{◌≡◌, ℕ, ◌+◌, ◌<◌, ◌≤◌, Bool, true, false, List, [], ◌∷◌, length, get_or, Option, Some, None, IfSome, is_some, refl, sym, ap, ◌∙◌, subst, ⊎_elim, zero, suc, arith}
 use Rattle.std.proofs.lemmas.Bool.{cases_lt}
 use mathlib.Core.Option.{some, some-injective}
 use lib.ListN.{get_elem?}
+use Rattle.tree_words.specs.Settings.{Setting}
 use Rattle.tree_words.specs.declared.steps.Op.{Op}
 use Rattle.arena_rule.proofs.Options.{false-true}
 use Rattle.walker.specs.declared.machine.Walker.{Walker}
-use Rattle.sim_run.specs.declared.simulation.Simulation.{Simulation}
-use Rattle.sim_run.specs.Standing.{IsDone, AreDone, steps_to_come}
-use Rattle.sim_run.specs.Steps.{IsWalker, Steps}
+use Rattle.sim_run.specs.Steps.{SimulationData, IsFinished, StepsOnce}
+use Rattle.sim_run.specs.Standing.{AreFinished, steps_to_come}
 
--- from `start` on the walkers below i had their turn: some made a step, or each of them is done and nothing changed
-pub record HaveStepped (start now : Simulation) (stepped : Bool) (i : ℕ) : Type 0 where
-  pub some : stepped ≡ true → steps_to_come now < steps_to_come start
-  pub none : stepped ≡ false → (now ≡ start) × ((j : ℕ) (w : Walker) → j < i → IsWalker now j w → IsDone w)
+-- from `start` on the walkers below i had their turn: some made a step, or each of them is finished and nothing changed
+pub record HaveStepped (s : Setting) (start now : SimulationData) (stepped : Bool) (i : ℕ) : Type 0 where
+  pub more : stepped ≡ true → steps_to_come s now < steps_to_come s start
+  pub all : stepped ≡ false → (now ≡ start) × ((j : ℕ) (w : Walker) → j < i → get_elem? now.walkers j ≡ some w → IsFinished w)
 
-pub rounds-begin : (r : Simulation) → HaveStepped r r false 0
-rounds-begin r = record { some = λ e. absurd (false-true e); none = λ _. (refl, λ j w l. absurd (omega (arith, l))) }
+module _ (s : Setting) (start old new : SimulationData) (b : Bool) (id : ℕ) (made : Option (Op × ℕ)) (h : HaveStepped s start old b id) (step : StepsOnce old id made new)
+    (fewer : IfSome made (λ _. steps_to_come s new < steps_to_come s old)) where
+  at-most : (c : Bool) → b ≡ c → steps_to_come s old ≤ steps_to_come s start
+  at-most true e = let l = h.more e in omega (arith, l)
+  at-most false e = omega (arith, ap (steps_to_come s) (h.all e).0)
 
-module _ (start old new : Simulation) (b : Bool) (id : ℕ) (made : Option (Op × ℕ)) (h : HaveStepped start old b id) (step : Steps old id made new)
-    (fewer : IfSome made (λ _. steps_to_come new < steps_to_come old)) where
-  at-most : (c : Bool) → b ≡ c → steps_to_come old ≤ steps_to_come start
-  at-most true e = let l = h.some e in omega (arith, l)
-  at-most false e = omega (arith, ap steps_to_come (h.none e).0)
-
-  pub round-stepped : is_some made ≡ true → HaveStepped start new true (id + 1)
+  pub round-stepped : is_some made ≡ true → HaveStepped s start new true (id + 1)
   round-stepped e = by made e fewer
     where
-      by : (o : Option (Op × ℕ)) → is_some o ≡ true → IfSome o (λ _. steps_to_come new < steps_to_come old) → HaveStepped start new true (id + 1)
+      by : (o : Option (Op × ℕ)) → is_some o ≡ true → IfSome o (λ _. steps_to_come s new < steps_to_come s old) → HaveStepped s start new true (id + 1)
       by None q l = absurd (false-true q)
       by (Some m) q l = record {
-        some = λ _. omega (arith, l, at-most b refl);
-        none = λ z. absurd (false-true (sym z));
+        more = λ _. omega (arith, l, at-most b refl);
+        all = λ z. absurd (false-true (sym z));
       }
 
-  pub round-passed : is_some made ≡ false → HaveStepped start new b (id + 1)
+  pub round-passed : is_some made ≡ false → HaveStepped s start new b (id + 1)
   round-passed e = by made e step
     where
-      by : (o : Option (Op × ℕ)) → is_some o ≡ false → Steps old id o new → HaveStepped start new b (id + 1)
+      by : (o : Option (Op × ℕ)) → is_some o ≡ false → StepsOnce old id o new → HaveStepped s start new b (id + 1)
       by (Some m) q t = absurd (false-true (sym q))
-      by None q t = record {
-        some = λ z. let l = h.some z in omega (arith, l, ap steps_to_come t.3);
-        none = λ z. (
-          t.3 ∙ (h.none z).0,
-          λ j w l at. ⊎_elim
-              (λ (m : j < id). (h.none z).1 j w m (subst (λ (r : Simulation). IsWalker r j w) t.3 at))
-              (λ (m : id ≤ j). let j_is : j ≡ id = omega (arith, m, l) in
-              subst IsDone (some-injective t.0 w (sym t.1 ∙ sym (ap (get_elem? old.walkers.items) j_is) ∙ subst (λ (r : Simulation). IsWalker r j w) t.3 at)) t.2)
-              (cases_lt j id),
-        );
-      }
+      by None q t =
+          let same = t.1.same in
+          record {
+            more = λ z. let l = h.more z in omega (arith, l, ap (steps_to_come s) same);
+            all = λ z. (
+              same ∙ (h.all z).0,
+              λ j w l at.
+                  let was : get_elem? old.walkers j ≡ some w = subst (λ (r : SimulationData). get_elem? r.walkers j ≡ some w) same at in
+                  ⊎_elim
+                  (λ (m : j < id). (h.all z).1 j w m was)
+                  (λ (m : id ≤ j). let j_is : j ≡ id = omega (arith, m, l) in
+                  subst IsFinished (some-injective t.0 w (sym t.1.at ∙ sym (ap (get_elem? old.walkers) j_is) ∙ was)) t.1.finished)
+                  (cases_lt j id),
+            );
+          }
 
 pub at-get : {A : Type 0} (l : List A) (i : ℕ) (d : A) → i < length l → get_elem? l i ≡ some (get_or l i d)
 at-get [] i d h = absurd (omega (arith, h))
@@ -57,5 +58,5 @@ at-get (x ∷ xs) zero d h = refl
 at-get (x ∷ xs) (suc i) d h = at-get xs i d (omega (arith, h))
 
 -- after all of them
-pub round-over : (start now : Simulation) (b : Bool) (i : ℕ) → HaveStepped start now b i → length now.walkers.items ≤ i → b ≡ false → AreDone now.walkers.items
-round-over start now b i h l e k d m = (h.none e).1 k (get_or now.walkers.items k d) (omega (arith, l, m)) (at-get now.walkers.items k d m)
+pub round-over : (s : Setting) (start now : SimulationData) (b : Bool) (i : ℕ) → HaveStepped s start now b i → length now.walkers ≤ i → b ≡ false → AreFinished now.walkers
+round-over s start now b i h l e k d m = (h.all e).1 k (get_or now.walkers k d) (omega (arith, l, m)) (at-get now.walkers k d m)

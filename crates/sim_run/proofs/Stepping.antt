@@ -1,8 +1,7 @@
 -- A step of a walker of a simulation.
 use Rattle.std.proofs.Common.{◌≡◌, ◌≢◌, ℕ, suc, ◌+◌, ◌-◌, ◌*◌, ◌<◌, ◌≤◌, List, length, set, refl, sym, ap, ◌∙◌, subst, ◌⊎◌, ⊎_elim, inl, inr, arith}
 use Rattle.std.specs.Prelude.{slice_index, sum_by}
-use Rattle.std.specs.List.{AllZip}
-use mathlib.Core.Option.{some, some-injective}
+use mathlib.Core.Option.{some}
 use lib.ListN.{get_elem?}
 use Rattle.tree_words.specs.Settings.{Setting}
 use Rattle.tree_words.specs.Words.{ticket_in}
@@ -25,11 +24,11 @@ use Rattle.walker.specs.Measure.{steps_left}
 use Rattle.walker.proofs.Fitting.{fits}
 use Rattle.walker.proofs.Keeps.{keeps}
 use Rattle.walker.proofs.Falling.{fewer, bound}
-use Rattle.lone_worker.specs.Alone.{HasRunAlone, MakesStep}
-use Rattle.sim_run.specs.Plain.{HasRoom}
+use Rattle.lone_worker.specs.Alone.{HasRunAlone}
+use Rattle.sim_run.specs.Plain.{FitsWord}
 use Rattle.sim_run.specs.Standing.{AreSimulated}
 use Rattle.sim_run.proofs.Zips.{zip-at, zip-set}
-use Rattle.sim_run.proofs.Frames.{before, within, has-room, ticket-drawn, ticket-stays}
+use Rattle.sim_run.proofs.Frames.{before, within, fits-word, ticket-drawn, ticket-stays}
 
 -- TICKET is at most the sum of N and K
 pub ticket-most : (s : Setting) (words : List ℕ) (views : List SeatView) → Rule s words views → ticket_in words ≤ s.knobs.playouts + s.knobs.workers
@@ -79,8 +78,8 @@ module _ (s : Setting) (words : List ℕ) (walkers : List Walker) (u : AreSimula
   pub word-within : word_of op < length words
   word-within = within u.rule.blocks words u.views id v b op fit
 
-  pub word-room : HasRoom op (slice_index words (word_of op))
-  word-room = has-room u.rule.blocks words u.views id v b op fit may
+  pub word-room : FitsWord op (slice_index words (word_of op))
+  word-room = fits-word u.rule.blocks words u.views id v b op fit may
 
   pub may-get : MayGet w found
   may-get = (v, own, may)
@@ -123,9 +122,9 @@ module _ (s : Setting) (words : List ℕ) (walkers : List Walker) (u : AreSimula
 
   -- the same of equal steps, words and answers, as a call names them
   module _ (o : Op) (is : o ≡ op) (ws : List ℕ) (same : ws ≡ words) where
-    pub can-apply : (word_of o < length ws) × HasRoom o (slice_index ws (word_of o))
-    can-apply = subst (λ (p : Op). (word_of p < length ws) × HasRoom p (slice_index ws (word_of p))) (sym is)
-        (subst (λ (l : List ℕ). (word_of op < length l) × HasRoom op (slice_index l (word_of op))) (sym same) (word-within, word-room))
+    pub can-apply : (word_of o < length ws) × FitsWord o (slice_index ws (word_of o))
+    can-apply = subst (λ (p : Op). (word_of p < length ws) × FitsWord p (slice_index ws (word_of p))) (sym is)
+        (subst (λ (l : List ℕ). (word_of op < length l) × FitsWord op (slice_index l (word_of op))) (sym same) (word-within, word-room))
 
     module _ (x : ℕ) (gives : x ≡ answer_of o (slice_index ws (word_of o))) where
       pub is-found : x ≡ found

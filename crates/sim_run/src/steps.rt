@@ -4,7 +4,7 @@ ghost use Rattle.std.specs.Prelude.{◌≡◌, ◌≢◌, ◌<◌, ◌+◌, ◌^
 ghost use Rattle.tree_words.specs.declared.steps.Op.TheVariants.{Done, Publish};
 ghost use Rattle.arena_rule.specs.Afters.{answer_of, put, word_of};
 ghost use Rattle.arena_rule.specs.Rule.{words_after};
-ghost use Rattle.sim_run.specs.Plain.{HasRoom};
+ghost use Rattle.sim_run.specs.Plain.{FitsWord};
 
 use tree_words::Op;
 use tree_words::layout::{NEXT_AT, RECORDS_AT, TICKET_AT, VISIT};
@@ -40,7 +40,7 @@ fn link(words: &mut [u64], at: usize, block: u64) -> u64
 pub(crate) fn apply(words: &mut [u64], op: Op) -> u64
     requires step { op ≢ Done }
     requires within { word_of op < length words.old }
-    requires room { HasRoom op (slice_index words.old (word_of op)) }
+    requires room { FitsWord op (slice_index words.old (word_of op)) }
     ensures words { words.new ≡ words_after words.old op }
     ensures answer { result ≡ answer_of op (slice_index words.old (word_of op)) }
 {

@@ -1,5 +1,5 @@
 -- A step of one walker, on the words of the vector.
-use Rattle.std.proofs.Common.{rules, ◌≡◌, ◌≢◌, ◌<◌, List, ℕ, get_or, length, take, ◌++◌, drop, set, refl, sym, ap, ◌∙◌, subst, length-set}
+use Rattle.std.proofs.Common.{rules, ◌≡◌, ◌≢◌, ◌<◌, List, ℕ, get_or, length, take, ◌++◌, drop, set, refl, sym, ap, ◌∙◌, length-set}
 use Rattle.std.proofs.Math.Seq.{take-append_seam}
 use mathlib.Core.Option.{some, some-injective}
 use lib.ListN.{get_elem?}
@@ -9,15 +9,21 @@ use Rattle.tree_words.specs.declared.steps.Op.TheVariants.{Done}
 use Rattle.std.specs.Prelude.{slice_index}
 use Rattle.arena_rule.specs.Afters.{answer_of, word_of}
 use Rattle.arena_rule.specs.Rule.{words_after}
-use Rattle.walker.specs.Machine.{op_of, next}
+use Rattle.walker.specs.Machine.{op_of}
 use Rattle.walker.specs.declared.machine.Walker.{Walker}
 use Rattle.sim_run.proofs.Stepping.{can-apply, may-take, goes-on, goes-down}
 use Rattle.sim_run.proofs.simulation.Simulation.step.Goals as goal
 
 pub returns-then-eq-clause-step : goal.returns-then-eq-clause-step
 returns-then-eq-clause-step c =
-    let done : c.op-op.result ≡ Done = search rules in
-    (c.index.result.now, at_index c.args.self.now.walkers.items c.args.id c.index.result.now c.requires.id c.index.ensures, sym c.op-op.ensures.is ∙ done, refl)
+    let done : c.op-op.result ≡ Done = search rules in (
+      c.index.result.now,
+      record {
+        at = at_index c.args.self.now.walkers.items c.args.id c.index.result.now c.requires.id c.index.ensures;
+        finished = sym c.op-op.ensures.is ∙ done;
+        same = refl;
+      },
+    )
 
 pub apply-answer-requires-clause-within : goal.apply-answer-requires-clause-within
 apply-answer-requires-clause-within c =
@@ -68,10 +74,10 @@ pub returns-clause-step : goal.returns-clause-step
 returns-clause-step c =
     let o = c.op-op.result in (
       c.index_mut.result.now,
-      at c,
       record {
+        at = at c;
         is = is c;
-        some = search rules;
+        more = search rules;
         answered = c.apply-answer.ensures.answer ∙ ap (λ (l : List ℕ). answer_of o (slice_index l (word_of o))) c.deref_mut.ensures.value;
         words = now-is c ∙ ap (λ (l : List ℕ). words_after l o) c.deref_mut.ensures.value;
         walkers = ap (set c.args.self.now.walkers.items c.args.id) c.got.ensures.is;
