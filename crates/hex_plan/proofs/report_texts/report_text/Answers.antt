@@ -3,7 +3,7 @@ use Rattle.std.proofs.Common.{◌≡◌, Option, Some, None, sym, ap, ◌∙◌}
 use Rattle.std.specs.Prelude.{option_map}
 use Rattle.tree_words.specs.Closing.{ClosedTree}
 use Rattle.hex_plan.specs.TurnTexts.{report_of, report_on}
-use Rattle.hex_plan.proofs.texts.report_text.Goals as goal
+use Rattle.hex_plan.proofs.report_texts.report_text.Goals as goal
 
 pub returns-in-None : goal.returns-in-None
 unfolding report_of

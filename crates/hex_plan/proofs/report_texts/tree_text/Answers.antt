@@ -2,7 +2,7 @@ use Rattle.std.proofs.Common.{◌≡◌, ◌∙◌, subst}
 use Rattle.tree_words.specs.Settings.{IsSetting}
 use Rattle.tree_words.specs.Closing.{IsClosed}
 use Rattle.hex_plan.proofs.Rows.{turn_rows_on}
-use Rattle.hex_plan.proofs.texts.tree_text.Goals as goal
+use Rattle.hex_plan.proofs.report_texts.tree_text.Goals as goal
 
 -- the rows are those of a closed tree on a board of this size
 pub push_rows-requires : goal.push_rows-requires
