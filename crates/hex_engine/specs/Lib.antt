@@ -9,3 +9,4 @@ pub mod LoadReplies
 pub mod MoveReplies
 pub mod Requests
 pub mod Uses
+pub mod Calls

@@ -53,14 +53,15 @@ abbrev pub if_bare : GameData → List (List ℕ) → QuietReaction → QuietRea
 if_bare game [] quiet = quiet
 if_bare game (word ∷ words) quiet = reply_alone game (Failed Syntax)
 
--- for one that takes no argument and answers a text
-abbrev pub text_alone : GameData → List (List ℕ) → List ℕ → QuietReaction
-text_alone game args text = if_bare game args (reply_alone game (Done text))
+-- the same, for one that leaves the game as it is
+abbrev pub bare_reply : List (List ℕ) → Reply → Reply
+bare_reply [] reply = reply
+bare_reply (word ∷ words) reply = Failed Syntax
 
--- for one that takes no argument and answers a text where there is one, and else with this failure
-abbrev pub text_or : GameData → List (List ℕ) → Fail → Option (List ℕ) → QuietReaction
-text_or game args fail None = if_bare game args (reply_alone game (Failed fail))
-text_or game args fail (Some text) = text_alone game args text
+-- a text where there is one, and else this failure
+abbrev pub text_or : Fail → Option (List ℕ) → Reply
+text_or fail None = Failed fail
+text_or fail (Some text) = Done text
 
 -- a board has 1 to 11 columns, and as many rows
 abbrev pub are_sizes : ℕ → ℕ → Bool
@@ -107,11 +108,11 @@ abbrev pub truth : Bool → List ℕ
 truth true = codes "true"
 truth false = codes "false"
 
--- what `known_command` does with its arguments
-abbrev pub knowing : GameData → List (List ℕ) → QuietReaction
-knowing game [] = reply_alone game (Failed Syntax)
-knowing game (word ∷ []) = reply_alone game (Done (truth (is_some (command_named word))))
-knowing game (word ∷ other ∷ words) = reply_alone game (Failed Syntax)
+-- what `known_command` answers
+abbrev pub knowing : List (List ℕ) → Reply
+knowing [] = Failed Syntax
+knowing (word ∷ []) = Done (truth (is_some (command_named word)))
+knowing (word ∷ other ∷ words) = Failed Syntax
 
 -- the text of `winner`
 abbrev pub winner_text : Option Colour → List ℕ
@@ -132,28 +133,40 @@ abbrev pub last_wincert : Option TurnTextsData → Option (List ℕ)
 last_wincert None = None
 last_wincert (Some texts) = texts.wincert
 
+-- what the three commands answer that ask for the last turn, if there is one
+abbrev pub reporting : Option TurnTextsData → List (List ℕ) → Reply
+reporting last args = bare_reply args (text_or NoSearch (last_report last))
+
+abbrev pub planning : Option TurnTextsData → List (List ℕ) → Reply
+planning last args = bare_reply args (text_or NoSearch (last_mustplay last))
+
+abbrev pub certifying : Option TurnTextsData → List (List ℕ) → Reply
+certifying last args = bare_reply args (text_or NoCert (last_wincert last))
+
 -- what a command with these arguments does that uses nothing up
 unfoldable pub quiet_reaction : EngineState → Quiet → List (List ℕ) → QuietReaction
 quiet_reaction standing BoardSize args = resized standing.game (sizes_of args)
 quiet_reaction standing ClearBoard args =
     if_bare standing.game args (emptied (board_of standing.game).size)
-quiet_reaction standing KnownCommand args = knowing standing.game args
-quiet_reaction standing ListCommands args = text_alone standing.game args all_names
-quiet_reaction standing MustPlay args =
-    text_or standing.game args NoSearch (last_mustplay standing.last)
-quiet_reaction standing Name args = text_alone standing.game args (codes "hexd")
+quiet_reaction standing KnownCommand args = reply_alone standing.game (knowing args)
+quiet_reaction standing ListCommands args =
+    reply_alone standing.game (bare_reply args (Done all_names))
+quiet_reaction standing MustPlay args = reply_alone standing.game (planning standing.last args)
+quiet_reaction standing Name args =
+    reply_alone standing.game (bare_reply args (Done (codes "hexd")))
 quiet_reaction standing Play args = playing standing.game args
 quiet_reaction standing PrintSgf args =
-    text_alone standing.game args (trees_print (record_of standing.game))
-quiet_reaction standing ProtocolVersion args = text_alone standing.game args (codes "2")
-quiet_reaction standing Quit args = if_bare standing.game args (reply_alone standing.game reply.Quit)
-quiet_reaction standing SearchReport args =
-    text_or standing.game args NoSearch (last_report standing.last)
+    reply_alone standing.game (bare_reply args (Done (trees_print (record_of standing.game))))
+quiet_reaction standing ProtocolVersion args =
+    reply_alone standing.game (bare_reply args (Done (codes "2")))
+quiet_reaction standing Quit args = reply_alone standing.game (bare_reply args reply.Quit)
+quiet_reaction standing SearchReport args = reply_alone standing.game (reporting standing.last args)
 quiet_reaction standing ShowBoard args =
-    text_alone standing.game args (picture (board_of standing.game))
-quiet_reaction standing Undo args = if_bare standing.game args (undone standing.game standing.game.steps)
-quiet_reaction standing Version args = text_alone standing.game args (codes "1.0")
-quiet_reaction standing WinCert args =
-    text_or standing.game args NoCert (last_wincert standing.last)
-quiet_reaction standing Winner args =
-    text_alone standing.game args (winner_text (winner_of (board_of standing.game)))
+    reply_alone standing.game (bare_reply args (Done (picture (board_of standing.game))))
+quiet_reaction standing Undo args =
+    if_bare standing.game args (undone standing.game standing.game.steps)
+quiet_reaction standing Version args =
+    reply_alone standing.game (bare_reply args (Done (codes "1.0")))
+quiet_reaction standing WinCert args = reply_alone standing.game (certifying standing.last args)
+quiet_reaction standing Winner args = reply_alone standing.game
+    (bare_reply args (Done (winner_text (winner_of (board_of standing.game)))))

@@ -49,11 +49,13 @@ abbrev pub TellsNoFault : Answer → Type 0
 TellsNoFault (answer.Fail ReadFault) = ⊥
 TellsNoFault _ = Unit {0}
 
--- this answer, and the game after it, are the reaction of a command that uses nothing up; it tells
--- no fault of the shelf
+-- the answer is this reply, and tells no fault of the shelf
+abbrev pub Tells : Reply → Answer → Type 0
+Tells reply answer = (replied answer ≡ reply) × TellsNoFault answer
+
+-- this answer, and the game after it, are the reaction of a command that uses nothing up
 abbrev pub ReactsQuietly : QuietReaction → Answer → GameData → Type 0
-ReactsQuietly reaction answer after =
-    (record { reply = replied answer; game = after } ≡ reaction) × TellsNoFault answer
+ReactsQuietly quiet answer after = Tells quiet.reply answer × (after ≡ quiet.game)
 
 -- This answer, and what stands after it, are the reaction where this is used up, whatever is left
 -- then.

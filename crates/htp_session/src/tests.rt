@@ -37,6 +37,7 @@ fn options() -> Options
 
 /// A conversation: its input, of which each read gives a piece, the most bytes that it takes, and
 /// what is to be given.
+#[derive(Clone, Copy)]
 struct Row<'a> {
     input: &'a [u8],
     piece: usize,
