@@ -16,12 +16,12 @@ use Rattle.hex_plan.specs.declared.types.Plan.{Plan}
 use Rattle.hex_plan.specs.declared.types.Plan.TheVariants.{Win, Search}
 
 -- the shape is that of the search of the turn with this number, where the mover is to place a stone
--- on an allowed cell of the board now: these, and the options' knobs with the turn's seed
-pub record IsTurnShape (options : Knobs) (now : Position) (mover : Colour) (number allowed : ℕ)
+-- on one of these cells of the board now: these, and the options' knobs with the turn's seed
+pub record IsTurnShape (options : Knobs) (now : Position) (mover : Colour) (number cells : ℕ)
     (shape : Setting) : Type 0 where
   pub board : shape.board ≡ now
   pub player : shape.player ≡ mover
-  pub allowed : shape.allowed ≡ allowed
+  pub allowed : shape.allowed ≡ cells
   pub knobs : shape.knobs ≡ turn_knobs options number
 
 -- the tree is that of Seq, where there is one worker

@@ -1,4 +1,4 @@
-//! The text of a turn's report.
+//! What the commands `search-report`, `mustplay` and `wincert` say of a turn.
 
 ghost use Rattle.std.specs.Prelude.{◌≡◌, ◌*◌, ◌<◌, ◌++◌, IfOk, OnOk, option_map};
 ghost use Rattle.std.specs.List.{flat_map};
@@ -6,12 +6,13 @@ ghost use Rattle.hex_cells.specs.Vertices.{vertex_of};
 ghost use Rattle.tree_words.specs.Roots.{rows_of};
 ghost use Rattle.hex_plan.specs.Turns.{IsDecided};
 ghost use Rattle.hex_plan.specs.TurnTexts.{AreOn, report_of, report_on, report_line};
-ghost use Rattle.hex_plan.specs.TurnTexts.{report_lines};
+ghost use Rattle.hex_plan.specs.TurnTexts.{report_lines, texts_of};
 ghost use Rattle.std.specs.Fmt.{decimal};
 
 use super::turns::Turn;
 use hex_cells::{Cell, Size, VERTEX_LEN, write_vertex};
 use std::alloc::{AllocError, Global};
+use std::marker::Model;
 use tree_words::{Closed, Row, report};
 
 /// Writes the vertex of a cell of the board at the end of the text.
@@ -79,4 +80,63 @@ fn tree_text(alloc: Global, closed: &Closed, size: Size) -> Result<Vec<u8>, Allo
     push_number(alloc, &mut text, closed.shape().knobs().playouts)?;
     push_rows(alloc, &mut text, &rows, size)?;
     Ok(text)
+}
+
+/// What `search-report`, `mustplay` and `wincert` say of a turn.
+#[derive(Debug, Drop)]
+pub struct TurnTexts {
+    report: Option<Vec<u8>>,
+    mustplay: Vec<u8>,
+    wincert: Option<Vec<u8>>,
+}
+
+impl Model for TurnTexts {
+    ghost use Rattle.std.specs.Prelude.{option_map};
+    ghost use Rattle.hex_plan.specs.TurnTexts.{TurnTextsData};
+
+    ghost Value = { TurnTextsData };
+
+    ghost view = { λ t. record {
+      report = option_map (λ text. text.items) t.report;
+      mustplay = t.mustplay.items;
+      wincert = option_map (λ text. text.items) t.wincert;
+    } };
+}
+
+impl TurnTexts {
+    /// The report of the turn's tree; `None` exactly where it has no tree.
+    pub fn report(&self) -> Option<&[u8]>
+        ensures { option_map (λ text. text.now) result ≡ self.now.report }
+    {
+        match &self.report {
+            Some(text) => Some(text.as_slice()),
+            None => None,
+        }
+    }
+
+    /// Of a win its cell; of a search whether the board is lost, the allowed cells, and the
+    /// carrier of each threat.
+    pub fn mustplay(&self) -> &[u8]
+        ensures { result.now ≡ self.now.mustplay }
+    {
+        &self.mustplay
+    }
+
+    /// The certificate of a win, without its last line feed; `None` exactly where the plan is a
+    /// search.
+    pub fn wincert(&self) -> Option<&[u8]>
+        ensures { option_map (λ text. text.now) result ≡ self.now.wincert }
+    {
+        match &self.wincert {
+            Some(text) => Some(text.as_slice()),
+            None => None,
+        }
+    }
+}
+
+/// The texts of a turn. It refuses for want of memory alone.
+pub fn turn_texts(alloc: Global, turn: &Turn) -> Result<TurnTexts, AllocError>
+    ensures { IfOk result (λ texts. texts ≡ texts_of turn.now) }
+{
+    Err(AllocError)
 }

@@ -1,4 +1,5 @@
-//! Sessions over links in memory that take at most so many bytes.
+//! Sessions over links in memory that take at most so many bytes, and one whose search passes a
+//! gate.
 
 ghost use Rattle.std.specs.Prelude.{◌≡◌, ◌^◌};
 ghost use Rattle.tree_words.specs.Settings.{AreInRange};
@@ -8,20 +9,23 @@ use hex_cells::Size;
 use hex_engine::Options;
 use hex_io::{MemLink, MemShelf};
 use hex_plan::NoArchive;
+use search_team::{Gate, OpenGate};
 use std::alloc::{AllocError, Global};
 use std::process::Abort;
+use std::sync::atomic::{AtomicBool, Ordering};
 use std::test::Fail;
+use std::thread::Threads;
 use tree_words::Knobs;
 
-/// The options of a command line that says nothing.
+/// One worker, who makes one playout.
 fn options() -> Options
     ensures { AreInRange result.knobs }
 {
     let knobs = Knobs {
         workers: 1,
-        playouts: 10_000,
+        playouts: 1,
         seed: 0,
-        words: 4_194_304,
+        words: 1_024,
         expand: 8,
         weight: 180,
     };
@@ -31,13 +35,15 @@ fn options() -> Options
     }
 }
 
-/// The outcome of a conversation that takes at most this many bytes.
-fn end_within(
-    rt: &(impl Abort + Alloc<A = Global>),
+/// The outcome of a conversation that takes at most this many bytes, and whose searches pass the
+/// gate.
+fn end_at<G: Gate + Sync>(
+    rt: &(impl Abort + Alloc<A = Global> + Threads + Sync),
     input: &[u8],
     piece: usize,
     limit: usize,
     given: &[u8],
+    gate: &G,
 ) -> Result<Result<(), Stop>, Fail> {
     let alloc = rt.alloc();
     let size = Size::of(11).ok_or("no size")?;
@@ -49,10 +55,23 @@ fn end_within(
         link: &mut link,
         shelf: &mut shelf,
         archive: &mut NoArchive,
+        rt,
+        gate,
     };
     let end = converse(alloc, &mut devices, &options(), size, limit);
     assert_eq!(rt; link.given(), given);
     Ok(end)
+}
+
+/// The same, with a gate that is open.
+fn end_within(
+    rt: &(impl Abort + Alloc<A = Global> + Threads + Sync),
+    input: &[u8],
+    piece: usize,
+    limit: usize,
+    given: &[u8],
+) -> Result<Result<(), Stop>, Fail> {
+    end_at(rt, input, piece, limit, given, &OpenGate)
 }
 
 #[test]
@@ -67,6 +86,36 @@ fn limits(rt: HostRuntime) -> Result<(), Fail> {
         let quit = end_within(&rt, b"quit\nname\n", piece, 5, b"= \n\n")?;
         assert_eq!(rt; quit, Ok(()));
     }
+    Ok(())
+}
+
+/// A gate that knows whether it was passed.
+#[derive(Drop)]
+struct Noted {
+    passed: AtomicBool,
+}
+
+impl Gate for Noted {
+    fn pass(&self, _worker: u32) {
+        self.passed.store(true, Ordering::SeqCst);
+    }
+}
+
+#[test]
+fn searches_pass_the_gate(rt: HostRuntime) -> Result<(), Fail> {
+    let gate = Noted {
+        passed: AtomicBool::new(false),
+    };
+    let end = end_at(
+        &rt,
+        b"boardsize 1\ngenmove b\n",
+        100,
+        100,
+        b"= \n\n= a1\n\n",
+        &gate,
+    )?;
+    assert_eq!(rt; end, Ok(()));
+    assert!(rt; gate.passed.load(Ordering::SeqCst));
     Ok(())
 }
 
