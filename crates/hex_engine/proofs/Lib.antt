@@ -2,4 +2,3 @@ pub mod Ranges
 pub mod Spelling
 pub mod Using
 pub mod Names
-pub mod Calm

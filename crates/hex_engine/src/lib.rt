@@ -28,16 +28,20 @@
 #![tactic(auto)]
 
 mod answers;
+mod boards;
 mod commands;
 mod files;
 mod forms;
+mod moving;
+mod obeying;
 mod options;
 mod picture;
 mod standing;
+mod telling;
 mod texts;
 
 pub use answers::{Answer, EngineError, Fail, Memory};
-pub use commands::{COMMANDS, Command};
+pub use commands::{COMMANDS, Command, Quiet};
 pub use options::Options;
 pub use standing::Engine;
 
