@@ -1,4 +1,5 @@
 pub mod Decides
+pub mod PlanLaws
 pub mod Reports
 pub mod Rows
 pub mod Rooms

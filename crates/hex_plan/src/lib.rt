@@ -47,8 +47,7 @@ pub mod types;
 
 pub use archives::{Archive, NoArchive};
 pub use in_memory::MemArchive;
-pub use laws::{certified_moves_win, lost_boards_lose, moves_outside_a_threat_lose};
-pub use laws::{one_worker_decides};
+pub use laws::one_worker_decides;
 pub use openings::may_move;
 pub use planning::plan;
 pub use plans::Planned;

@@ -133,7 +133,7 @@ impl Turn {
         ensures good { (options : Knobs) (hsearch : Bool) → winner_of closed.shape.board ≡ None →
             IsPlanned closed.shape.board closed.shape.player hsearch planned →
             IsTurnShape options closed.shape.board closed.shape.player number
-                closed.shape.allowed closed.shape →
+            closed.shape.allowed closed.shape →
             IsSequential options closed → IsGood options hsearch result }
     {
         let cell = decided(&closed);

@@ -8,7 +8,10 @@ use win_cert::Cert;
 #[derive(Debug, Drop)]
 pub enum Plan {
     /// The player wins by this cell, and the certificate shows it.
-    Win { cert: Cert, cell: Cell },
+    Win {
+        cert: Cert,
+        cell: Cell,
+    },
     /// A search among the allowed cells. Each move outside the carrier of a threat loses. Where
     /// the board is lost, no cell lies in all carriers, and all empty cells are allowed.
     Search {
