@@ -2,3 +2,5 @@ pub mod Ranges
 pub mod Spelling
 pub mod Using
 pub mod Names
+pub mod Legal
+pub mod Plans

@@ -14,7 +14,7 @@ use Rattle.std.proofs.lemmas.Bool.{and_parts, true≢false}
 use Rattle.hex_engine.specs.EngineState.{EngineState}
 use Rattle.hex_engine.specs.Supply.{Supply, nothing_left, loads_only, turns_only, and_then}
 use Rattle.hex_engine.specs.declared.files.Loaded.{Loaded}
-use Rattle.hex_engine.specs.Uses.{IsLoadOf, FetchesLoads, Loading, Moving, Uses}
+use Rattle.hex_engine.specs.Uses.{IsLoadOf, FetchesLoads, Loading, Moving, Uses, UsesNothing}
 use Rattle.hex_engine.specs.Replies.{Failed as FailedReply, Reaction, Turned, Missing, NoLoad, NoTurn, unchanged, unused}
 use Rattle.hex_engine.specs.LoadReplies.{loaded, loading, loading_by, file_named}
 use Rattle.hex_engine.specs.MoveReplies.{lone_colour, is_next, turned, moving, moving_by, moving_next}
@@ -71,6 +71,9 @@ no_fault_counted before Fault never = record { later = omega arith; rose = λ f.
 
 pub uses_nothing : (options : Options) (shelf : Option Shelved) (archive : Option (List Decision)) → Uses options shelf shelf archive archive nothing_left []
 uses_nothing options shelf archive = record { loading = unfetched shelf; moving = nothing_moved options archive }
+
+pub nothing_used : (options : Options) (shelf : Option Shelved) (archive : Option (List Decision)) → UsesNothing options shelf shelf archive archive
+nothing_used options shelf archive = record { in_vain = []; few = omega arith; uses = uses_nothing options shelf archive }
 
 -- a file of this name came to this
 pub loads_reply : (s : EngineState) (name : List ℕ) (what : Loaded) (args : List (List ℕ)) → file_named args ≡ Some name

@@ -1,5 +1,5 @@
 -- The commands and their names.
-use Rattle.std.specs.Prelude.{ℕ, List, [], ◌∷◌, Option, codes, map, option_map}
+use Rattle.std.specs.Prelude.{ℕ, List, [], ◌∷◌, Option, codes, map}
 use Rattle.std.specs.List.{find, join_with_byte}
 use Rattle.std.specs.Str.{bytes_eq}
 use Rattle.hex_engine.specs.declared.commands.Command.{Command}
@@ -11,33 +11,38 @@ use Rattle.hex_engine.specs.declared.commands.Quiet.TheVariants.{ProtocolVersion
 use Rattle.hex_engine.specs.declared.commands.Quiet.TheVariants.{SearchReport, ShowBoard, Undo}
 use Rattle.hex_engine.specs.declared.commands.Quiet.TheVariants.{Version, WinCert, Winner}
 
--- each command behind its name, as a user types it, in the order in which `list_commands` has them
-abbrev pub commands : List (List ℕ × Command)
-commands = (codes "boardsize", Quiet BoardSize)
-    ∷ (codes "clear_board", Quiet ClearBoard)
-    ∷ (codes "genmove", GenMove)
-    ∷ (codes "known_command", Quiet KnownCommand)
-    ∷ (codes "list_commands", Quiet ListCommands)
-    ∷ (codes "loadsgf", LoadSgf)
-    ∷ (codes "mustplay", Quiet MustPlay)
-    ∷ (codes "name", Quiet Name)
-    ∷ (codes "play", Quiet Play)
-    ∷ (codes "printsgf", Quiet PrintSgf)
-    ∷ (codes "protocol_version", Quiet ProtocolVersion)
-    ∷ (codes "quit", Quiet Quit)
-    ∷ (codes "search-report", Quiet SearchReport)
-    ∷ (codes "showboard", Quiet ShowBoard)
-    ∷ (codes "undo", Quiet Undo)
-    ∷ (codes "version", Quiet Version)
-    ∷ (codes "wincert", Quiet WinCert)
-    ∷ (codes "winner", Quiet Winner)
-    ∷ []
+-- all of them, in the order in which `list_commands` names them
+abbrev pub commands : List Command
+commands = Quiet BoardSize ∷ Quiet ClearBoard ∷ GenMove ∷ Quiet KnownCommand ∷ Quiet ListCommands
+    ∷ LoadSgf ∷ Quiet MustPlay ∷ Quiet Name ∷ Quiet Play ∷ Quiet PrintSgf ∷ Quiet ProtocolVersion
+    ∷ Quiet Quit ∷ Quiet SearchReport ∷ Quiet ShowBoard ∷ Quiet Undo ∷ Quiet Version
+    ∷ Quiet WinCert ∷ Quiet Winner ∷ []
+
+-- a command's name, as a user types it
+abbrev pub name_of : Command → List ℕ
+name_of (Quiet BoardSize) = codes "boardsize"
+name_of (Quiet ClearBoard) = codes "clear_board"
+name_of GenMove = codes "genmove"
+name_of (Quiet KnownCommand) = codes "known_command"
+name_of (Quiet ListCommands) = codes "list_commands"
+name_of LoadSgf = codes "loadsgf"
+name_of (Quiet MustPlay) = codes "mustplay"
+name_of (Quiet Name) = codes "name"
+name_of (Quiet Play) = codes "play"
+name_of (Quiet PrintSgf) = codes "printsgf"
+name_of (Quiet ProtocolVersion) = codes "protocol_version"
+name_of (Quiet Quit) = codes "quit"
+name_of (Quiet SearchReport) = codes "search-report"
+name_of (Quiet ShowBoard) = codes "showboard"
+name_of (Quiet Undo) = codes "undo"
+name_of (Quiet Version) = codes "version"
+name_of (Quiet WinCert) = codes "wincert"
+name_of (Quiet Winner) = codes "winner"
 
 -- the command of that name, compared byte by byte
 unfoldable pub command_named : List ℕ → Option Command
-command_named word =
-    option_map (λ (e : List ℕ × Command). e.1) (find (λ e. bytes_eq e.0 word) commands)
+command_named word = find (λ command. bytes_eq (name_of command) word) commands
 
 -- their names, each on a line
 unfoldable pub all_names : List ℕ
-all_names = join_with_byte 10 (map (λ (e : List ℕ × Command). e.0) commands)
+all_names = join_with_byte 10 (map name_of commands)

@@ -4,8 +4,10 @@ pub mod Picture
 pub mod EngineState
 pub mod Supply
 pub mod Replies
+pub mod BoardReplies
 pub mod QuietReplies
 pub mod LoadReplies
 pub mod MoveReplies
 pub mod Requests
 pub mod Uses
+pub mod Calls

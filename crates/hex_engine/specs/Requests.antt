@@ -6,7 +6,8 @@ use Rattle.hex_engine.specs.Commands.{command_named}
 use Rattle.hex_engine.specs.EngineState.{EngineState}
 use Rattle.hex_engine.specs.LoadReplies.{loading}
 use Rattle.hex_engine.specs.MoveReplies.{moving}
-use Rattle.hex_engine.specs.QuietReplies.{QuietReaction, in_conversation, quiet_reaction}
+use Rattle.hex_engine.specs.BoardReplies.{QuietReaction, in_conversation}
+use Rattle.hex_engine.specs.QuietReplies.{quiet_reaction}
 use Rattle.hex_engine.specs.Replies.{Reply, Done, Quit, Failed, Reaction, Turned, Missing}
 use Rattle.hex_engine.specs.Replies.{unchanged, unused}
 use Rattle.hex_engine.specs.Supply.{Supply, and_then}
@@ -49,11 +50,13 @@ abbrev pub TellsNoFault : Answer → Type 0
 TellsNoFault (answer.Fail ReadFault) = ⊥
 TellsNoFault _ = Unit {0}
 
--- this answer, and the game after it, are the reaction of a command that uses nothing up; it tells
--- no fault of the shelf
+-- the answer is this reply, and tells no fault of the shelf
+abbrev pub Tells : Reply → Answer → Type 0
+Tells reply answer = (replied answer ≡ reply) × TellsNoFault answer
+
+-- this answer, and the game after it, are the reaction of a command that uses nothing up
 abbrev pub ReactsQuietly : QuietReaction → Answer → GameData → Type 0
-ReactsQuietly reaction answer after =
-    (record { reply = replied answer; game = after } ≡ reaction) × TellsNoFault answer
+ReactsQuietly quiet answer after = Tells quiet.reply answer × (after ≡ quiet.game)
 
 -- This answer, and what stands after it, are the reaction where this is used up, whatever is left
 -- then.

@@ -1,7 +1,7 @@
 //! The commands and their names.
 
 ghost use Rattle.std.specs.Prelude.{◌≡◌, IfOk};
-ghost use Rattle.hex_engine.specs.Commands.{command_named, all_names};
+ghost use Rattle.hex_engine.specs.Commands.{command_named, name_of, all_names};
 
 use std::alloc::{AllocError, Global};
 
@@ -53,27 +53,26 @@ pub enum Quiet {
     Winner,
 }
 
-/// Each command behind its name, as a user types it, in the order in which `list_commands` has
-/// them.
-pub const COMMANDS: [(&str, Command); 18] = [
-    ("boardsize", Command::Quiet(Quiet::BoardSize)),
-    ("clear_board", Command::Quiet(Quiet::ClearBoard)),
-    ("genmove", Command::GenMove),
-    ("known_command", Command::Quiet(Quiet::KnownCommand)),
-    ("list_commands", Command::Quiet(Quiet::ListCommands)),
-    ("loadsgf", Command::LoadSgf),
-    ("mustplay", Command::Quiet(Quiet::MustPlay)),
-    ("name", Command::Quiet(Quiet::Name)),
-    ("play", Command::Quiet(Quiet::Play)),
-    ("printsgf", Command::Quiet(Quiet::PrintSgf)),
-    ("protocol_version", Command::Quiet(Quiet::ProtocolVersion)),
-    ("quit", Command::Quiet(Quiet::Quit)),
-    ("search-report", Command::Quiet(Quiet::SearchReport)),
-    ("showboard", Command::Quiet(Quiet::ShowBoard)),
-    ("undo", Command::Quiet(Quiet::Undo)),
-    ("version", Command::Quiet(Quiet::Version)),
-    ("wincert", Command::Quiet(Quiet::WinCert)),
-    ("winner", Command::Quiet(Quiet::Winner)),
+/// All commands, in the order in which `list_commands` names them.
+pub const COMMANDS: [Command; 18] = [
+    Command::Quiet(Quiet::BoardSize),
+    Command::Quiet(Quiet::ClearBoard),
+    Command::GenMove,
+    Command::Quiet(Quiet::KnownCommand),
+    Command::Quiet(Quiet::ListCommands),
+    Command::LoadSgf,
+    Command::Quiet(Quiet::MustPlay),
+    Command::Quiet(Quiet::Name),
+    Command::Quiet(Quiet::Play),
+    Command::Quiet(Quiet::PrintSgf),
+    Command::Quiet(Quiet::ProtocolVersion),
+    Command::Quiet(Quiet::Quit),
+    Command::Quiet(Quiet::SearchReport),
+    Command::Quiet(Quiet::ShowBoard),
+    Command::Quiet(Quiet::Undo),
+    Command::Quiet(Quiet::Version),
+    Command::Quiet(Quiet::WinCert),
+    Command::Quiet(Quiet::Winner),
 ];
 
 impl Command {
@@ -84,8 +83,34 @@ impl Command {
     {
         COMMANDS
             .iter()
-            .find(|named| named.0.as_bytes() == word)
-            .map(|named| named.1)
+            .copied()
+            .find(|command| command.name().as_bytes() == word)
+    }
+
+    /// The name, as a user types it.
+    pub fn name(self) -> &'static str
+        ensures { result.now ≡ name_of self }
+    {
+        match self {
+            Command::Quiet(Quiet::BoardSize) => "boardsize",
+            Command::Quiet(Quiet::ClearBoard) => "clear_board",
+            Command::GenMove => "genmove",
+            Command::Quiet(Quiet::KnownCommand) => "known_command",
+            Command::Quiet(Quiet::ListCommands) => "list_commands",
+            Command::LoadSgf => "loadsgf",
+            Command::Quiet(Quiet::MustPlay) => "mustplay",
+            Command::Quiet(Quiet::Name) => "name",
+            Command::Quiet(Quiet::Play) => "play",
+            Command::Quiet(Quiet::PrintSgf) => "printsgf",
+            Command::Quiet(Quiet::ProtocolVersion) => "protocol_version",
+            Command::Quiet(Quiet::Quit) => "quit",
+            Command::Quiet(Quiet::SearchReport) => "search-report",
+            Command::Quiet(Quiet::ShowBoard) => "showboard",
+            Command::Quiet(Quiet::Undo) => "undo",
+            Command::Quiet(Quiet::Version) => "version",
+            Command::Quiet(Quiet::WinCert) => "wincert",
+            Command::Quiet(Quiet::Winner) => "winner",
+        }
     }
 }
 

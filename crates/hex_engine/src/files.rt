@@ -1,10 +1,10 @@
 //! Games from files: the command `loadsgf`.
 
-ghost use Rattle.std.specs.Prelude.{◌≡◌, ◌≤◌, length, ℕ, Bool, List, [], ◌∷◌, IfOk, OnErr, Some};
+ghost use Rattle.std.specs.Prelude.{◌≡◌, List, [], ◌∷◌, IfOk, OnErr};
 ghost use Rattle.hex_io.specs.Causes.{CountsFault};
-ghost use Rattle.hex_engine.specs.LoadReplies.{loading};
-ghost use Rattle.hex_engine.specs.Requests.{IsBrief, ReactsWith};
-ghost use Rattle.hex_engine.specs.Supply.{Load, nothing_left, loads_only};
+ghost use Rattle.hex_engine.specs.Calls.{AnswersLoad, FetchesInVain};
+ghost use Rattle.hex_engine.specs.Requests.{IsBrief};
+ghost use Rattle.hex_engine.specs.Supply.{loads_only};
 ghost use Rattle.hex_engine.specs.Uses.{IsReadAs, Loading};
 
 use super::answers::{Answer, Fail, Memory};
@@ -32,14 +32,11 @@ impl Engine {
     /// Fails, in order: `syntax error`; `read fault`; `cannot load file`.
     /// Answers nothing; the game is the record's.
     pub(super) fn load<F: Shelf>(&mut self, args: &[Bytes], shelf: &mut F) -> Result<Answer, Memory>
-        ensures reply { IfOk result (λ answer. (loads : List Load)
-            × Loading (F.told shelf.old) (F.told shelf.new) (loads_only loads) []
-            × ReactsWith
-            (λ left. loading self.old left args.now) (loads_only loads) answer self.new) }
+        ensures reply { IfOk result (λ answer. AnswersLoad
+            self.old args.now (F.told shelf.old) (F.told shelf.new) answer self.new) }
         ensures brief { IfOk result IsBrief }
         ensures err { OnErr result (self.new ≡ self.old) }
-        ensures in_vain { OnErr result ((tries : List Bool) × (length tries ≤ 1)
-            × Loading (F.told shelf.old) (F.told shelf.new) nothing_left tries) }
+        ensures in_vain { OnErr result (FetchesInVain (F.told shelf.old) (F.told shelf.new)) }
         ensures read_fault { CountsFault (F.faults shelf.old) (F.faults shelf.new)
             (result ≡ Ok (Answer.Fail Fail.ReadFault)) }
     {
@@ -62,8 +59,7 @@ fn load_game<F: Shelf>(alloc: Global, shelf: &mut F, name: &str) -> Result<Loade
     ensures came { IfOk result
         (λ loaded. Loading (F.told shelf.old) (F.told shelf.new)
         (loads_only (record { name = name.now; what = loaded } ∷ [])) []) }
-    ensures vain { OnErr result ((tries : List Bool) × (length tries ≤ 1)
-        × Loading (F.told shelf.old) (F.told shelf.new) nothing_left tries) }
+    ensures vain { OnErr result (FetchesInVain (F.told shelf.old) (F.told shelf.new)) }
     ensures read_fault { CountsFault (F.faults shelf.old) (F.faults shelf.new)
         (result ≡ Ok Loaded.Unread) }
 {
@@ -85,4 +81,3 @@ fn read_file(alloc: Global, bytes: &[u8]) -> Result<Loaded, Memory>
         None => Ok(Loaded::Refused),
     }
 }
-

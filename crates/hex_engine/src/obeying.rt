@@ -1,14 +1,16 @@
 //! What a quiet command does: one match over them.
 
 ghost use Rattle.std.specs.Prelude.{◌≡◌, IfOk, OnErr};
-ghost use Rattle.hex_engine.specs.QuietReplies.{in_conversation, quiet_reaction};
+ghost use Rattle.hex_engine.specs.BoardReplies.{in_conversation};
+ghost use Rattle.hex_engine.specs.QuietReplies.{quiet_reaction};
 ghost use Rattle.hex_engine.specs.Requests.{Reacts, TellsNoFault};
 
 use super::answers::{Answer, Memory};
 use super::boards::{clear, play, resize, undo};
 use super::commands::Quiet;
+use super::recalling::{tell_certificate, tell_plan, tell_report};
 use super::standing::Engine;
-use super::telling::name_of_winner;
+use super::telling::{know, list, name_of_winner, print_game, quit, show, tell};
 use htp_line::Bytes;
 
 impl Engine {
@@ -21,23 +23,24 @@ impl Engine {
         ensures calm { IfOk result TellsNoFault }
         ensures err { OnErr result (self.new ≡ self.old) }
     {
+        let alloc = self.alloc;
         match command {
-            Quiet::BoardSize => Ok(resize(self.alloc, &mut self.game, args)),
-            Quiet::ClearBoard => Ok(clear(self.alloc, &mut self.game, args)),
-            Quiet::KnownCommand => self.know(args),
-            Quiet::ListCommands => self.list(args),
-            Quiet::MustPlay => self.tell_plan(args),
-            Quiet::Name => self.tell(args, b"hexd"),
-            Quiet::Play => Ok(play(self.alloc, &mut self.game, args)),
-            Quiet::PrintSgf => self.print(args),
-            Quiet::ProtocolVersion => self.tell(args, b"2"),
-            Quiet::Quit => Ok(self.quit(args)),
-            Quiet::SearchReport => self.tell_report(args),
-            Quiet::ShowBoard => self.show(args),
-            Quiet::Undo => Ok(undo(self.alloc, &mut self.game, args)),
-            Quiet::Version => self.tell(args, b"1.0"),
-            Quiet::WinCert => self.tell_certificate(args),
-            Quiet::Winner => self.tell(args, name_of_winner(self.game.board())),
+            Quiet::BoardSize => Ok(resize(alloc, &mut self.game, args)),
+            Quiet::ClearBoard => Ok(clear(alloc, &mut self.game, args)),
+            Quiet::KnownCommand => know(alloc, args),
+            Quiet::ListCommands => list(alloc, args),
+            Quiet::MustPlay => tell_plan(alloc, args, &self.last),
+            Quiet::Name => tell(alloc, args, b"hexd"),
+            Quiet::Play => Ok(play(alloc, &mut self.game, args)),
+            Quiet::PrintSgf => print_game(alloc, args, &self.game),
+            Quiet::ProtocolVersion => tell(alloc, args, b"2"),
+            Quiet::Quit => Ok(quit(args)),
+            Quiet::SearchReport => tell_report(alloc, args, &self.last),
+            Quiet::ShowBoard => show(alloc, args, self.game.board()),
+            Quiet::Undo => Ok(undo(alloc, &mut self.game, args)),
+            Quiet::Version => tell(alloc, args, b"1.0"),
+            Quiet::WinCert => tell_certificate(alloc, args, &self.last),
+            Quiet::Winner => tell(alloc, args, name_of_winner(self.game.board())),
         }
     }
 }

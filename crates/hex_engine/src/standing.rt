@@ -104,8 +104,8 @@ impl Engine {
         gate: &G,
     ) -> Result<Answer, EngineError>
         ensures reply { IfOk result
-            (λ answer. Answered self.old (F.told shelf.old) (F.told shelf.new)
-            (A.told archive.old) (A.told archive.new) request.now answer self.new) }
+            (λ a. Answered self.old (F.told shelf.old) (F.told shelf.new)
+            (A.told archive.old) (A.told archive.new) request.now a self.new) }
 
         // After an error.
         ensures err { OnErr result (self.new ≡ self.old) }

@@ -1,10 +1,10 @@
 -- What plans say.
-use Rattle.std.proofs.Common.{◌≡◌, ℕ, Bool, true, false, Option, Some, None, refl, sym, ap, ◌∙◌, subst}
+use Rattle.std.proofs.Common.{◌≡◌, ◌≤◌, ℕ, Bool, true, false, Option, Some, None, refl, sym, ap, ◌∙◌, subst, arith}
 use Rattle.std.specs.Option.{ForSome}
 use Rattle.hex_cells.specs.declared.colours.Colour.{Colour}
 use Rattle.hex_board.specs.Elements.{PlayerBoard}
 use Rattle.hex_board.specs.Joined.{winner_of}
-use Rattle.hex_board.specs.Positions.{Position, is_empty_at}
+use Rattle.hex_board.specs.Positions.{Apart, IsPosition, Position, Within, is_empty_at}
 use Rattle.conn_store.specs.Entries.{IsValid}
 use Rattle.conn_store.specs.Stores.{StoreData}
 use Rattle.conn_store.specs.declared.entries.Entry.{Entry}
@@ -60,11 +60,12 @@ decided_by_win t hsearch h w e =
       decided = subst (λ (v : Plan). DecidesBy t v) (sym is) (e, refl, won.cut.writable);
     }
 
-pub good_win : (options : Knobs) (t : Decision) (hsearch : Bool) → winner_of t.board ≡ None → IsPlanned t.board t.player hsearch t.planned → IsWinBy t.planned.plan t.cell → t.closed ≡ None
+pub good_win : (options : Knobs) (t : Decision) (hsearch : Bool) → IsPosition t.board.size t.board.black t.board.white → winner_of t.board ≡ None → IsPlanned t.board t.player hsearch t.planned → IsWinBy t.planned.plan t.cell → t.closed ≡ None
     → IsGood options hsearch t
-good_win options t hsearch n h w e =
+good_win options t hsearch on n h w e =
     let (cert, d, is, won) = planned_win t.board t.player hsearch t.planned t.cell h w in
     record {
+      position = on;
       nobody = n;
       empty = won_empty t.board t.player cert t.cell d won;
       planned = h;
@@ -75,3 +76,14 @@ good_win options t hsearch n h w e =
 pub tree_of_turn : (t : Decision) (plan : Plan) → DecidesBy t plan → ForSome t.closed (λ (tree : ClosedTree). (tree.shape.board ≡ t.board) × (tree.shape.player ≡ t.player))
 tree_of_turn t (Win cert cell) h tree e = absurd (cc)
 tree_of_turn t (Search threats allowed lost) h tree e = ((h tree e).board, (h tree e).player)
+
+-- a board that keeps what each board keeps
+pub is_position : (p : Position) (size black white : ℕ) → size ≡ p.size → black ≡ p.black → white ≡ p.white → 1 ≤ size → size ≤ 11 → Within p.size black → Apart black p.white → Within p.size white
+    → IsPosition p.size p.black p.white
+is_position p size black white n b w least most black_on apart white_on = record {
+  least = omega (arith, n, least);
+  most = omega (arith, n, most);
+  apart = subst (λ v. Apart v p.white) b apart;
+  black_on = subst (Within p.size) b black_on;
+  white_on = subst (Within p.size) w white_on;
+}

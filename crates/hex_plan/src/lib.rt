@@ -31,12 +31,17 @@
 #![tactic(auto)]
 
 mod archives;
+mod collecting;
+mod edges;
 mod in_memory;
 mod laws;
+mod mustplay_texts;
 mod openings;
 mod planning;
 mod plans;
 mod refusals;
+mod regions;
+mod report_texts;
 mod shapes;
 #[cfg(test)]
 mod tests;
@@ -44,10 +49,13 @@ mod texts;
 mod threats;
 mod turns;
 pub mod types;
+mod winning;
 
 pub use archives::{Archive, NoArchive};
 pub use in_memory::MemArchive;
-pub use laws::one_worker_decides;
+pub use laws::{
+    certified_moves_win, lost_boards_lose, moves_outside_a_threat_lose, one_worker_decides,
+};
 pub use openings::may_move;
 pub use planning::plan;
 pub use plans::Planned;

@@ -101,6 +101,10 @@ impl Turn {
         ensures good { (options : Knobs) (hsearch : Bool) → winner_of board.now ≡ None →
             IsPlanned board.now colour hsearch planned → IsGood options hsearch result }
     {
+        // What each board keeps of itself.
+        let _size = board.size();
+        let _black = board.stones(Colour::Black);
+        let _white = board.stones(Colour::White);
         let cell = won_cell(&planned.plan);
         Turn {
             board: *board,

@@ -53,7 +53,7 @@ same_move options at colour t u one g h e f =
     let same = same_turn options.knobs t u one.workers mine other board player number in
     sym (λ i. record {
       reply = Done (vertex_of (board_of at.game).size (same.0 i));
-      after = record at { game = with_step at.game (step_of colour (Stone (same.0 i))); turns = at.turns + 1; last = Some (same.1 i) };
+      after = record at { game = with_step at.game (step_of colour (Stone (same.0 i))); turns = at.turns + 1; last = Some (same.2 i) };
     })
 
 -- ---- one request

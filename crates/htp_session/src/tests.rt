@@ -35,21 +35,28 @@ fn options() -> Options
     }
 }
 
-/// The outcome of a conversation that takes at most this many bytes, and whose searches pass the
-/// gate.
-fn end_at<G: Gate + Sync>(
-    rt: &(impl Abort + Alloc<A = Global> + Threads + Sync),
-    input: &[u8],
+/// A conversation: its input, of which each read gives a piece, the most bytes that it takes, and
+/// what is to be given.
+#[derive(Clone, Copy)]
+struct Row<'a> {
+    input: &'a [u8],
     piece: usize,
     limit: usize,
-    given: &[u8],
+    given: &'a [u8],
+}
+
+/// The outcome of a conversation whose searches pass the gate.
+fn end_of<G: Gate + Sync>(
+    rt: &(impl Abort + Alloc<A = Global> + Threads + Sync),
+    row: &Row<'_>,
     gate: &G,
 ) -> Result<Result<(), Stop>, Fail> {
     let alloc = rt.alloc();
     let size = Size::of(11).ok_or("no size")?;
     let (reads, writes) = (Vec::new(alloc), Vec::new(alloc));
-    let input = input.to_vec(alloc)?;
-    let mut link = MemLink::make(alloc, input, piece.max(1), 100_000, 20_000, reads, writes)?;
+    let input = row.input.to_vec(alloc)?;
+    let piece = row.piece.max(1);
+    let mut link = MemLink::make(alloc, input, piece, 100_000, 20_000, reads, writes)?;
     let mut shelf = MemShelf::make(alloc, Vec::new(alloc), Vec::new(alloc))?;
     let mut devices = Devices {
         link: &mut link,
@@ -58,33 +65,29 @@ fn end_at<G: Gate + Sync>(
         rt,
         gate,
     };
-    let end = converse(alloc, &mut devices, &options(), size, limit);
-    assert_eq!(rt; link.given(), given);
+    let end = converse(alloc, &mut devices, &options(), size, row.limit);
+    assert_eq!(rt; link.given(), row.given);
     Ok(end)
-}
-
-/// The same, with a gate that is open.
-fn end_within(
-    rt: &(impl Abort + Alloc<A = Global> + Threads + Sync),
-    input: &[u8],
-    piece: usize,
-    limit: usize,
-    given: &[u8],
-) -> Result<Result<(), Stop>, Fail> {
-    end_at(rt, input, piece, limit, given, &OpenGate)
 }
 
 #[test]
 fn limits(rt: HostRuntime) -> Result<(), Fail> {
-    for piece in [1, 3, 100] {
-        let over = end_within(&rt, b"name\nname\n", piece, 5, b"= hexd\n\n")?;
-        assert_eq!(rt; over, Err(Stop::TooLong));
-        let within_a_line = end_within(&rt, b"name\nname\n", piece, 7, b"= hexd\n\n")?;
-        assert_eq!(rt; within_a_line, Err(Stop::TooLong));
-        let exact = end_within(&rt, b"name\nname", piece, 9, b"= hexd\n\n= hexd\n\n")?;
-        assert_eq!(rt; exact, Ok(()));
-        let quit = end_within(&rt, b"quit\nname\n", piece, 5, b"= \n\n")?;
-        assert_eq!(rt; quit, Ok(()));
+    let rows: [(&[u8], usize, &[u8], Result<(), Stop>); 4] = [
+        (b"name\nname\n", 5, b"= hexd\n\n", Err(Stop::TooLong)),
+        (b"name\nname\n", 7, b"= hexd\n\n", Err(Stop::TooLong)),
+        (b"name\nname", 9, b"= hexd\n\n= hexd\n\n", Ok(())),
+        (b"quit\nname\n", 5, b"= \n\n", Ok(())),
+    ];
+    for (input, limit, given, outcome) in rows {
+        for piece in [1, 3, 100] {
+            let row = Row {
+                input,
+                piece,
+                limit,
+                given,
+            };
+            assert_eq!(rt; end_of(&rt, &row, &OpenGate)?, outcome);
+        }
     }
     Ok(())
 }
@@ -106,15 +109,13 @@ fn searches_pass_the_gate(rt: HostRuntime) -> Result<(), Fail> {
     let gate = Noted {
         passed: AtomicBool::new(false),
     };
-    let end = end_at(
-        &rt,
-        b"boardsize 1\ngenmove b\n",
-        100,
-        100,
-        b"= \n\n= a1\n\n",
-        &gate,
-    )?;
-    assert_eq!(rt; end, Ok(()));
+    let row = Row {
+        input: b"boardsize 1\ngenmove b\n",
+        piece: 100,
+        limit: 100,
+        given: b"= \n\n= a1\n\n",
+    };
+    assert_eq!(rt; end_of(&rt, &row, &gate)?, Ok(()));
     assert!(rt; gate.passed.load(Ordering::SeqCst));
     Ok(())
 }

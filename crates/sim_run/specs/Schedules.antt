@@ -1,5 +1,5 @@
 -- Schedules: lists of numbers of workers.
-use Rattle.std.specs.Prelude.{ℕ, nat_le, Bool, Option}
+use Rattle.std.specs.Prelude.{ℕ, nat_le, Bool, List, Option}
 use Rattle.std.specs.List.{position}
 use Rattle.tree_words.specs.Settings.{Setting}
 

@@ -15,6 +15,7 @@ pub enum SimError {
 }
 
 impl From<AllocError> for SimError {
+    ghost use Rattle.std.specs.Prelude.{◌≡◌};
     ghost use Rattle.sim_run.specs.declared.errors.SimError.{SimError};
 
     ghost from_gives = { λ _ error. error ≡ SimError.Memory };

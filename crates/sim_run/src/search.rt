@@ -4,6 +4,7 @@ ghost use Rattle.std.specs.Prelude.{◌≡◌, ◌↔◌, ℕ, IfOk, Err, Some};
 ghost use Rattle.tree_words.specs.Sequence.{seq_of};
 ghost use Rattle.tree_words.specs.Trees.{IsTreeOf};
 ghost use Rattle.sim_run.specs.Schedules.{first_stray};
+ghost use Rattle.sim_run.specs.Standing.{EndsSchedule};
 ghost use Rattle.sim_run.specs.declared.errors.SimError.{SimError};
 
 use super::errors::SimError;
@@ -30,6 +31,7 @@ pub fn simulate(alloc: Global, shape: &Shape, schedule: &[u8]) -> Result<Closed,
     ensures shape { IfOk result (λ closed. closed.shape ≡ shape.now) }
     ensures one { shape.now.knobs.workers ≡ 1
         → IfOk result (λ closed. IsTreeOf shape.now closed.words (seq_of shape.now).0) }
+    ensures schedule { IfOk result (λ closed. EndsSchedule shape.now schedule.now closed.words) }
     ensures no_walker { (at : ℕ) → (result ≡ Err (SimError.NoSuchWalker at))
         ↔ (first_stray shape.now schedule.now ≡ Some at) }
 {

@@ -1,13 +1,9 @@
 //! A simulation: the words of a tree, and a walker for each worker.
 
-ghost use Rattle.std.specs.Prelude.{◌≡◌, IfOk};
-ghost use Rattle.tree_words.specs.Opening.{opening_words};
-ghost use Rattle.sim_run.specs.Standing.{AreNew};
-
-use super::errors::SimError;
+use super::opening::{new_walkers, open};
 use super::steps::apply;
-use std::alloc::Global;
-use tree_words::{Closed, Op, Shape, write_opening};
+use std::alloc::{AllocError, Global};
+use tree_words::{Closed, Op, Shape};
 use walker::Walker;
 
 /// The words of a tree, and a walker for each worker of its shape.
@@ -18,38 +14,24 @@ pub(crate) struct Simulation {
     pub(crate) walkers: Vec<Walker>,
 }
 
-// The opening words.
-fn open(alloc: Global, shape: &Shape) -> Result<Vec<u64>, SimError>
-    ensures { IfOk result (λ words. words.items ≡ opening_words shape.now) }
-{
-    let mut words = vec![in alloc; 0; shape.total() as usize]?;
-    write_opening(&mut words, shape);
-    Ok(words)
-}
-
-// New walkers, one for each worker.
-fn new_walkers(alloc: Global, shape: &Shape) -> Result<Vec<Walker>, SimError>
-    ensures { IfOk result (λ walkers. AreNew shape.now walkers.items) }
-{
-    let workers = shape.knobs().workers as usize;
-    let mut walkers = Vec::with_capacity(alloc, workers)?;
-    'workers: for _ in 0..workers {
-        walkers.push_reserved(Walker::new(shape));
-    }
-    Ok(walkers)
-}
-
 impl Simulation {
-    ghost use Rattle.std.specs.Prelude.{◌≡◌, ◌<◌, ◌≤◌, IfOk, IfSome, length};
+    ghost use Rattle.std.specs.Prelude.{◌≡◌, ◌<◌, IfOk, IfSome, false, length, true};
     ghost use Rattle.std.specs.List.{All};
-    ghost use Rattle.sim_run.specs.Standing.{IsUnderway, AreDone, steps_to_come};
-    ghost use Rattle.sim_run.specs.Steps.{Steps};
+    ghost use Rattle.tree_words.specs.Opening.{opening_words};
+    ghost use Rattle.tree_words.specs.Sequence.{seq_of};
+    ghost use Rattle.tree_words.specs.Trees.{IsTreeOf};
+    ghost use Rattle.sim_run.specs.Standing.{IsUnderway, AreNew, AreFinished, HasFewer};
+    ghost use Rattle.sim_run.specs.Steps.{StepsAlong, StepsOnce, StepsRound, StepsRounds, data_of};
 
     /// The simulation at its beginning: the opening words, and new walkers. It takes all memory.
-    pub(crate) fn make(alloc: Global, shape: &Shape) -> Result<Simulation, SimError>
+    pub(crate) fn make(alloc: Global, shape: &Shape) -> Result<Simulation, AllocError>
         ensures shape { IfOk result (λ run. run.shape ≡ shape.now) }
+        ensures words { IfOk result (λ run. run.words.items ≡ opening_words shape.now) }
+        ensures walkers { IfOk result (λ run. AreNew shape.now run.walkers.items) }
         ensures underway { IfOk result IsUnderway }
     {
+        // What each shape keeps of itself.
+        let _board = shape.board();
         let words = open(alloc, shape)?;
         let walkers = new_walkers(alloc, shape)?;
         Ok(Simulation {
@@ -64,8 +46,10 @@ impl Simulation {
         requires id { id < length self.old.walkers.items }
         requires underway { IsUnderway self.old }
         ensures underway { IsUnderway self.new }
-        ensures step { Steps self.old id result self.new }
-        ensures fewer { IfSome result (λ _. steps_to_come self.new < steps_to_come self.old) }
+        ensures shape { self.new.shape ≡ self.old.shape }
+        ensures count { length self.new.walkers.items ≡ length self.old.walkers.items }
+        ensures step { StepsOnce (data_of self.old) id result (data_of self.new) }
+        ensures fewer { IfSome result (λ _. HasFewer self.old self.new) }
     {
         let op = self.walkers[id].op();
         if op == Op::Done {
@@ -82,6 +66,8 @@ impl Simulation {
         requires underway { IsUnderway self.old }
         ensures underway { IsUnderway self.new }
         ensures shape { self.new.shape ≡ self.old.shape }
+        ensures count { length self.new.walkers.items ≡ length self.old.walkers.items }
+        ensures along { StepsAlong (data_of self.old) schedule.now (data_of self.new) }
     {
         'entries: for &id in schedule {
             self.step(usize::from(id));
@@ -93,8 +79,10 @@ impl Simulation {
         requires underway { IsUnderway self.old }
         ensures underway { IsUnderway self.new }
         ensures shape { self.new.shape ≡ self.old.shape }
-        ensures some { result ≡ true → steps_to_come self.new < steps_to_come self.old }
-        ensures none { result ≡ false → AreDone self.new.walkers.items }
+        ensures count { length self.new.walkers.items ≡ length self.old.walkers.items }
+        ensures round { StepsRound (data_of self.old) (data_of self.new) }
+        ensures some { result ≡ true → HasFewer self.old self.new }
+        ensures none { result ≡ false → AreFinished self.new.walkers.items }
     {
         let mut stepped = false;
         'walkers: for id in 0..self.walkers.len() {
@@ -110,16 +98,22 @@ impl Simulation {
         requires underway { IsUnderway self.old }
         ensures underway { IsUnderway self.new }
         ensures shape { self.new.shape ≡ self.old.shape }
-        ensures done { AreDone self.new.walkers.items }
+        ensures rounds { StepsRounds (data_of self.old) (data_of self.new) }
+        ensures finished { AreFinished self.new.walkers.items }
     {
-        'rounds: while self.round() {}
+        'rounds: loop {
+            if !self.round() {
+                return;
+            }
+        }
     }
 
     /// The closed tree, where all walkers are done.
     pub(crate) fn close(self) -> Closed
         requires underway { IsUnderway self }
-        requires done { AreDone self.walkers.items }
+        requires finished { AreFinished self.walkers.items }
         ensures shape { result.shape ≡ self.shape }
+        ensures words { result.words ≡ self.words.items }
         ensures one { self.shape.knobs.workers ≡ 1
             → IsTreeOf self.shape result.words (seq_of self.shape).0 }
     {

@@ -1,10 +1,10 @@
 //! The steps of a worker on the words of a plain vector, by their kinds.
 
-ghost use Rattle.std.specs.Prelude.{◌≡◌, ◌≢◌, ◌<◌, ◌+◌, length, slice_index, slice_set};
-ghost use Rattle.tree_words.specs.declared.steps.Op.TheVariants.{Done};
-ghost use Rattle.arena_rule.specs.Afters.{answer_of, word_of};
+ghost use Rattle.std.specs.Prelude.{◌≡◌, ◌≢◌, ◌<◌, ◌+◌, ◌^◌, length, slice_index, slice_set};
+ghost use Rattle.tree_words.specs.declared.steps.Op.TheVariants.{Done, Publish};
+ghost use Rattle.arena_rule.specs.Afters.{answer_of, put, word_of};
 ghost use Rattle.arena_rule.specs.Rule.{words_after};
-ghost use Rattle.sim_run.specs.Plain.{HasRoom};
+ghost use Rattle.sim_run.specs.Plain.{FitsWord};
 
 use tree_words::Op;
 use tree_words::layout::{NEXT_AT, RECORDS_AT, TICKET_AT, VISIT};
@@ -21,12 +21,12 @@ fn raise(words: &mut [u64], at: usize, by: u64) -> u64
     found
 }
 
-// Puts a block into a link that is 0, and answers what it was.
+// Puts a block into a link that is 0, and answers what the link was.
 fn link(words: &mut [u64], at: usize, block: u64) -> u64
     requires { at < length words.old }
+    ensures words { words.new
+        ≡ slice_set words.old at (put (Publish at block) (slice_index words.old at)) }
     ensures answer { result ≡ slice_index words.old at }
-    ensures words { words.new ≡ (if result == 0 then slice_set words.old at block
-        else words.old) }
 {
     let found = words[at];
     if found == 0 {
@@ -40,7 +40,7 @@ fn link(words: &mut [u64], at: usize, block: u64) -> u64
 pub(crate) fn apply(words: &mut [u64], op: Op) -> u64
     requires step { op ≢ Done }
     requires within { word_of op < length words.old }
-    requires room { HasRoom op (slice_index words.old (word_of op)) }
+    requires room { FitsWord op (slice_index words.old (word_of op)) }
     ensures words { words.new ≡ words_after words.old op }
     ensures answer { result ≡ answer_of op (slice_index words.old (word_of op)) }
 {
