@@ -42,9 +42,11 @@ mod audits;
 mod certificates;
 mod ends;
 mod inputs;
+mod knobs;
 mod limits;
 mod numbers;
 mod playing;
+mod single_turns;
 #[cfg(test)]
 mod tests;
 mod top;
