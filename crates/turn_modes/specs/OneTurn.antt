@@ -16,10 +16,12 @@ use Rattle.hex_plan.specs.Reports.{rows_in}
 use Rattle.hex_plan.specs.Seeds.{turn_knobs}
 use Rattle.hex_plan.specs.TurnTexts.{report_of}
 use Rattle.hex_plan.specs.Turns.{Decision}
+use Rattle.sim_run.specs.Standing.{EndsSchedule}
 use Rattle.turn_modes.specs.ModeTexts.{sim_text, report_by, bench_text}
 use Rattle.turn_modes.specs.Positions.{board_on, mover_after, shuffled_cells, stones_on}
 use Rattle.turn_modes.specs.Records.{records_in}
 use Rattle.turn_modes.specs.Rows.{best_cell}
+use Rattle.turn_modes.specs.Schedules.{schedule_of}
 use Rattle.turn_modes.specs.declared.options.ModeOptions.{ModeOptions}
 
 -- ---- the turn
@@ -52,14 +54,21 @@ first_rows knobs now mover = rows_in (seq_of (first_setting knobs now mover)).0
 abbrev pub IsSimTurn : ModeOptions → Decision → Type 0
 IsSimTurn o = IsFirstTurn o.knobs (empty_board o.size) Black
 
+-- its tree is that of the schedule
+abbrev pub FollowsSchedule : ModeOptions → Decision → Type 0
+FollowsSchedule o t = (tree : ClosedTree) × (t.closed ≡ Some tree) × EndsSchedule tree.shape
+    (schedule_of o.knobs.workers o.knobs.seed o.steps) tree.words
+
 -- the text that mode sim gives with one worker
 abbrev pub sequential_sim_text : ModeOptions → List ℕ
 sequential_sim_text o = let rows = first_rows o.knobs (empty_board o.size) Black in
     sim_text o.size (best_cell rows) (report_by o.size o.knobs.playouts rows)
 
--- the text is that of the turn of mode sim; with one worker the options determine it
+-- the turn is that of mode sim and its schedule, and the text is that of the turn; with one worker
+-- the options determine it
 pub record IsSimulation (o : ModeOptions) (t : Decision) (text : List ℕ) : Type 0 where
   pub turn : IsSimTurn o t
+  pub scheduled : FollowsSchedule o t
   pub says : (report : List ℕ) × (report_of t ≡ Some report)
       × (text ≡ sim_text o.size t.cell report)
   pub one : o.knobs.workers ≡ 1 → text ≡ sequential_sim_text o

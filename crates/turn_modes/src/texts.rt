@@ -84,7 +84,7 @@ pub fn bench_text(
     requires { IsSome turn.now.closed }
     ensures { IfOk result (λ text. ForSome turn.now.closed (λ tree. text.items
         ≡ bench_text turn.now.board.size stones knobs.now (records_in tree)
-            (rows_of tree.shape tree.words) turn.now.cell)) }
+        (rows_of tree.shape tree.words) turn.now.cell)) }
 {
     let Some(closed) = turn.closed() else {
         unreachable!();
