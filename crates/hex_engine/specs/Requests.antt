@@ -6,7 +6,8 @@ use Rattle.hex_engine.specs.Commands.{command_named}
 use Rattle.hex_engine.specs.EngineState.{EngineState}
 use Rattle.hex_engine.specs.LoadReplies.{loading}
 use Rattle.hex_engine.specs.MoveReplies.{moving}
-use Rattle.hex_engine.specs.QuietReplies.{QuietReaction, in_conversation, quiet_reaction}
+use Rattle.hex_engine.specs.BoardReplies.{QuietReaction, in_conversation}
+use Rattle.hex_engine.specs.QuietReplies.{quiet_reaction}
 use Rattle.hex_engine.specs.Replies.{Reply, Done, Quit, Failed, Reaction, Turned, Missing}
 use Rattle.hex_engine.specs.Replies.{unchanged, unused}
 use Rattle.hex_engine.specs.Supply.{Supply, and_then}

@@ -3,7 +3,7 @@
 ghost use Rattle.std.specs.Prelude.{Some};
 ghost use Rattle.hex_game.specs.Games.{board_of};
 ghost use Rattle.hex_engine.specs.Forms.{sizes_of, IsSaidOf};
-ghost use Rattle.hex_engine.specs.QuietReplies.{emptied, if_bare, played, playing, resized, undone};
+ghost use Rattle.hex_engine.specs.BoardReplies.{emptied, if_bare, played, playing, resized, undone};
 ghost use Rattle.hex_engine.specs.Requests.{ReactsQuietly};
 
 use super::answers::{Answer, Fail};

@@ -40,6 +40,7 @@ mod moving;
 mod obeying;
 mod options;
 mod picture;
+mod recalling;
 mod standing;
 mod telling;
 mod texts;

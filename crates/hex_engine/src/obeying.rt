@@ -1,17 +1,16 @@
 //! What a quiet command does: one match over them.
 
 ghost use Rattle.std.specs.Prelude.{◌≡◌, IfOk, OnErr};
-ghost use Rattle.hex_engine.specs.QuietReplies.{in_conversation, quiet_reaction};
+ghost use Rattle.hex_engine.specs.BoardReplies.{in_conversation};
+ghost use Rattle.hex_engine.specs.QuietReplies.{quiet_reaction};
 ghost use Rattle.hex_engine.specs.Requests.{Reacts, TellsNoFault};
 
 use super::answers::{Answer, Memory};
 use super::boards::{clear, play, resize, undo};
 use super::commands::Quiet;
+use super::recalling::{tell_certificate, tell_plan, tell_report};
 use super::standing::Engine;
-use super::telling::{
-    know, list, name_of_winner, print_game, quit, show, tell, tell_certificate, tell_plan,
-    tell_report,
-};
+use super::telling::{know, list, name_of_winner, print_game, quit, show, tell};
 use htp_line::Bytes;
 
 impl Engine {

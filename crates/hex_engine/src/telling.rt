@@ -7,8 +7,7 @@ ghost use Rattle.sgf_game.specs.Record.{record_of};
 ghost use Rattle.sgf_tree.specs.Printing.{trees_print};
 ghost use Rattle.hex_engine.specs.Commands.{all_names};
 ghost use Rattle.hex_engine.specs.Picture.{picture};
-ghost use Rattle.hex_engine.specs.QuietReplies.{bare_reply, certifying, knowing, planning};
-ghost use Rattle.hex_engine.specs.QuietReplies.{reporting, winner_text};
+ghost use Rattle.hex_engine.specs.QuietReplies.{bare_reply, knowing, winner_text};
 ghost use Rattle.hex_engine.specs.Replies.{Done, Quit};
 ghost use Rattle.hex_engine.specs.Requests.{IsBrief, Tells};
 
@@ -18,7 +17,6 @@ use super::picture::board_text;
 use hex_board::Board;
 use hex_cells::Colour;
 use hex_game::Game;
-use hex_plan::TurnTexts;
 use htp_line::Bytes;
 use sgf_game::from_game;
 use sgf_tree::print;
@@ -32,7 +30,8 @@ pub fn empty_answer(alloc: Global) -> Answer
     Answer::Done(Bytes::of(Vec::new(alloc)))
 }
 
-fn text_answer(alloc: Global, text: &[u8]) -> Result<Answer, AllocError>
+/// A success with this text.
+pub fn text_answer(alloc: Global, text: &[u8]) -> Result<Answer, AllocError>
     ensures { IfOk result (Tells (Done text.now)) }
 {
     Ok(Answer::Done(Bytes::of(text.to_vec(alloc)?)))
@@ -116,66 +115,6 @@ pub fn show(alloc: Global, args: &[Bytes], board: &Board) -> Result<Answer, Memo
         return Ok(Answer::Fail(Fail::Syntax));
     }
     Ok(Answer::Done(Bytes::of(board_text(alloc, board)?)))
-}
-
-/// `search-report`.
-/// Fails, in order: `syntax error`; `no search`.
-/// Answers the playouts of the last turn's search, and each child of its root with visits and wins.
-pub fn tell_report(
-    alloc: Global,
-    args: &[Bytes],
-    last: &Option<TurnTexts>,
-) -> Result<Answer, Memory>
-    ensures { IfOk result (Tells (reporting last.now args.now)) }
-{
-    if !args.is_empty() {
-        return Ok(Answer::Fail(Fail::Syntax));
-    }
-    let Some(texts) = last else {
-        return Ok(Answer::Fail(Fail::NoSearch));
-    };
-    match texts.report() {
-        Some(text) => Ok(text_answer(alloc, text)?),
-        None => Ok(Answer::Fail(Fail::NoSearch)),
-    }
-}
-
-/// `mustplay`.
-/// Fails, in order: `syntax error`; `no search`.
-/// Answers the last turn's plan: of a win its cell; of a search whether the board was lost, the
-/// allowed cells, and the carrier of each threat.
-pub fn tell_plan(alloc: Global, args: &[Bytes], last: &Option<TurnTexts>) -> Result<Answer, Memory>
-    ensures { IfOk result (Tells (planning last.now args.now)) }
-{
-    if !args.is_empty() {
-        return Ok(Answer::Fail(Fail::Syntax));
-    }
-    match last {
-        Some(texts) => Ok(text_answer(alloc, texts.mustplay())?),
-        None => Ok(Answer::Fail(Fail::NoSearch)),
-    }
-}
-
-/// `wincert`.
-/// Fails, in order: `syntax error`; `no certificate`.
-/// Answers the certificate of the last turn's win, without its last line feed.
-pub fn tell_certificate(
-    alloc: Global,
-    args: &[Bytes],
-    last: &Option<TurnTexts>,
-) -> Result<Answer, Memory>
-    ensures { IfOk result (Tells (certifying last.now args.now)) }
-{
-    if !args.is_empty() {
-        return Ok(Answer::Fail(Fail::Syntax));
-    }
-    let Some(texts) = last else {
-        return Ok(Answer::Fail(Fail::NoCert));
-    };
-    match texts.wincert() {
-        Some(text) => Ok(text_answer(alloc, text)?),
-        None => Ok(Answer::Fail(Fail::NoCert)),
-    }
 }
 
 /// `quit`.

@@ -16,4 +16,5 @@ returns-in_default-clause-all g c =
 pub returns-in-Ok-clause-all : goal.returns-in-Ok-clause-all
 returns-in-Ok-clause-all g c =
     let some : c.args.turn.closed ≡ Some c.in-Some.closed.now = sym c.closed.ensures.value ∙ ap (option_map (λ tree. tree.now)) c.in-Some.is in
-    subst (λ (o : Option ClosedTree). Gave (g.W.Link.told c.args.self.now) (g.W.Link.told c.give_text.new.link) (text_if o)) (sym some) c.in-Ok.ensures.all
+    let here = subst (λ (o : Option ClosedTree). Gave (g.W.Link.told c.self.inside.link) (g.W.Link.told c.give_text.new.link) (text_if o)) (sym some) c.in-Ok.ensures.all in
+    subst (λ l. Gave (g.W.Link.told l) (g.W.Link.told c.give_text.new.link) (text_if c.args.turn.closed)) c.self.view_is here

@@ -1,11 +1,13 @@
--- Each line that takes a turn is answered by a searched move.
+-- Each line that takes a turn is answered by a generated move.
 use Rattle.std.proofs.Common.{◌≡◌, ◌≢◌, ℕ, zero, suc, ◌+◌, Bool, true, false, cond, List, [], ◌∷◌, ◌++◌, Option, Some, None, Result, Ok, Err, ◌⊎◌, ⊎_elim, inl, inr, fold, drop, refl, sym, ap, ◌∙◌, subst, add-one}
 use Rattle.std.specs.Prelude.{slice_get}
 use Rattle.std.proofs.lemmas.List.Sums.{fold_push}
 use Rattle.hex_io.specs.Told.{Told, Both}
 use Rattle.hex_io.proofs.BothLaws.{Both-weaker}
 use Rattle.htp_line.specs.Answering.{success}
-use Rattle.htp_line.specs.Reading.{Reading, Blank, Bare, Ask, reading}
+use Rattle.htp_line.specs.Reading.{reading}
+use Rattle.htp_line.specs.declared.request.Parsed.{Parsed}
+use Rattle.htp_line.specs.declared.request.Parsed.TheVariants.{Blank, Bare, Request}
 use Rattle.htp_line.specs.Splitting.{kept}
 use Rattle.hex_cells.specs.declared.colours.Colour.{Colour}
 use Rattle.hex_cells.specs.Vertices.{vertex_of}
@@ -16,10 +18,12 @@ use Rattle.hex_engine.specs.declared.options.Options.{Options}
 use Rattle.hex_engine.specs.EngineState.{EngineState, opening}
 use Rattle.hex_engine.specs.Supply.{Supply}
 use Rattle.hex_engine.specs.Uses.{AreGood, IsGoodFor}
-use Rattle.hex_engine.specs.Replies.{Turned, Missing, Reply, is_next, turned, reaction}
+use Rattle.hex_engine.specs.MoveReplies.{is_next, turned}
+use Rattle.hex_engine.specs.Replies.{Turned, Missing}
+use Rattle.hex_engine.specs.Requests.{reaction}
 use Rattle.htp_session.specs.Talk.{TalkState, goes_on, reply_text, after_reaction, after_reading, after_line, followed_by, with_line, talk_start, talk}
 use Rattle.htp_session.specs.Endings.{Conversed}
-use Rattle.hex_cli.specs.Headline.{IsSearchedMove, AreSearchedMoves, Headline}
+use Rattle.hex_cli.specs.Headline.{IsGeneratedMove, AreGeneratedMoves, Headline}
 use Rattle.htp_session.proofs.LegalMoves.{next_is_legal}
 use Rattle.htp_session.proofs.Reactions.{TakesTurn, MayTakeTurn, reaction_takes}
 use Rattle.htp_session.proofs.SupplyLaws.{step_keeps}
@@ -51,10 +55,10 @@ turned_says at left id (Ok t) h = ⊎_elim
       written = (id, ap (reply_text id) took.reply);
     })) h
 
-reading_says : (at : EngineState) (left : Supply) (line : Reading) → MaySayTurn at left (after_reading at left line)
+reading_says : (at : EngineState) (left : Supply) (line : Parsed) → MaySayTurn at left (after_reading at left line)
 reading_says at left Blank = inl (refl, refl)
 reading_says at left (Bare id) = inl (refl, refl)
-reading_says at left (Ask asked) = turned_says at left asked.id (reaction at left asked) (reaction_takes at left asked)
+reading_says at left (Request asked) = turned_says at left asked.id (reaction at left asked) (reaction_takes at left asked)
 
 said_says : (at : EngineState) (left : Supply) (line : Option (List ℕ)) → MaySayTurn at left (after_line at left line)
 said_says at left None = inl (refl, refl)
@@ -78,7 +82,7 @@ record Holds (options : Options) (turns : List Decision) (s : TalkState) : Type 
 -- one line more
 record Goes (options : Options) (turns : List Decision) (before after : TalkState) : Type 0 where
   holds : Holds options turns after
-  searched : after.at.turns ≢ before.at.turns → IsSearchedMove options turns before after
+  generated : after.at.turns ≢ before.at.turns → IsGeneratedMove options turns before after
 
 stands_still : (options : Options) (turns : List Decision) (before after : TalkState) → Holds options turns before → after.at.options ≡ before.at.options → after.left.turns ≡ before.left.turns → after.at.turns ≡ before.at.turns
     → Goes options turns before after
@@ -88,7 +92,7 @@ stands_still options turns before after h o l t = record {
     place = ap (λ n. drop n turns) t ∙ h.place ∙ sym l;
     same = o ∙ h.same;
   };
-  searched = λ moved. absurd (moved t);
+  generated = λ moved. absurd (moved t);
 }
 
 takes_turn : (options : Options) (turns : List Decision) (before : TalkState) (s : TalkState) → Holds options turns before → s.at.options ≡ before.at.options → SaysTurn before.at before.left s → Goes options turns before (followed_by before s)
@@ -98,10 +102,11 @@ takes_turn options turns before s h o took =
     let count : s.at.turns ≡ suc before.at.turns = ap (λ (e : EngineState). e.turns) took.after ∙ add-one before.at.turns in
     record {
       holds = record { good = good.1; place = ap (λ n. drop n turns) count ∙ at.1; same = o ∙ h.same };
-      searched = λ moved. record {
+      generated = λ moved. record {
         turn = took.turn;
         colour = took.colour;
         good = good.0;
+        certified = ?;
         placed = at.0;
         legal = next_is_legal before.at took.colour took.turn (subst (λ p. IsGoodFor p took.turn) (sym h.same) good.0) took.next;
         played = ap (λ (e : EngineState). e.game) took.after;
@@ -127,14 +132,14 @@ fold_holds : (options : Options) (turns : List Decision) (a : TalkState) (lines 
 fold_holds options turns a [] h = h
 fold_holds options turns a (raw ∷ lines) h = fold_holds options turns (with_line a raw) lines (step_goes options turns a raw h (step_keeps a raw)).holds
 
-are_searched : (start : EngineState) (all : Supply) (lines : List (List ℕ)) → AreGood start.options all.turns → start.turns ≡ 0 → AreSearchedMoves start all lines
-are_searched start all lines good none before raw others split moved =
+are_generated : (start : EngineState) (all : Supply) (lines : List (List ℕ)) → AreGood start.options all.turns → start.turns ≡ 0 → AreGeneratedMoves start all lines
+are_generated start all lines good none before raw others split moved =
     let first : Holds start.options all.turns (talk_start start all) = record { good = good; place = ap (λ n. drop n all.turns) none; same = refl } in
     let here : TalkState = talk start all before in
     let holds : Holds start.options all.turns here = fold_holds start.options all.turns (talk_start start all) before first in
     let more : talk start all (before ++ raw ∷ []) ≡ with_line here raw = fold_push with_line (talk_start start all) before raw in
     let goes = step_goes start.options all.turns here raw holds (step_keeps here raw) in
-    subst (IsSearchedMove start.options all.turns here) (sym more) (goes.searched (subst (λ (s : TalkState). s.at.turns ≢ here.at.turns) more moved))
+    subst (IsGeneratedMove start.options all.turns here) (sym more) (goes.generated (subst (λ (s : TalkState). s.at.turns ≢ here.at.turns) more moved))
 
 pub headline_at : (options : Options) (size limit : ℕ) (a b : Option Shelved) (c d : Option (List Decision)) (x y : Option Told) → Conversed (Ok tt) options size limit (a, c) (b, d) x y
     → Both c d (λ s t. Both x y (λ o n. Headline options size s t o n))
@@ -143,5 +148,5 @@ headline_at options size limit a b c d x y k =
       all = k.used;
       archived = took;
       given = p.ends.given;
-      searched = are_searched (opening options size) k.used _ k.uses.moving.good refl;
+      generated = are_generated (opening options size) k.used _ k.uses.moving.good refl;
     }) k.outcome) k.uses.moving.took
