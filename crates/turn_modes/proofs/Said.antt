@@ -1,7 +1,6 @@
 -- What the texts of modes sim and bench say of their turns, and that the options determine them.
 use Rattle.std.proofs.Common.{◌≡◌, ℕ, ◌==◌, Bool, true, false, cond, List, [], ◌++◌, codes, Some, refl, sym, ap, ◌∙◌, subst, inl, inr}
 use Rattle.std.specs.Prelude.{option_map}
-use Rattle.std.specs.Option.{ForSome}
 use Rattle.std.proofs.lemmas.Bool.{cases_eq, ne_eqb}
 use Rattle.hex_board.specs.Positions.{Position}
 use Rattle.hex_cells.specs.declared.colours.Colour.{Colour}
@@ -19,6 +18,7 @@ use Rattle.turn_modes.specs.OneTurn.{FollowsSchedule, IsBenchTurn, IsBenchmark, 
 use Rattle.turn_modes.specs.Positions.{IsBenchPosition, board_on, mover_after, shuffled_cells}
 use Rattle.turn_modes.specs.Records.{records_in}
 use Rattle.turn_modes.specs.Rows.{best_cell, visits_of}
+use Rattle.turn_modes.specs.Telling.{TellsBench, TellsSim}
 use Rattle.turn_modes.specs.declared.options.ModeOptions.{ModeOptions}
 use Rattle.turn_modes.specs.declared.positions.BenchPosition.{BenchPosition}
 use Rattle.turn_modes.proofs.Decided.{searched_tree, sequential_rows_of, tree_setting}
@@ -27,7 +27,7 @@ use Rattle.turn_modes.proofs.Recorded.{all_recorded}
 
 -- ---- mode sim
 
-pub simulation_says : (o : ModeOptions) (t : Decision) (text items : List ℕ) → IsSimTurn o t → FollowsSchedule o t → text ≡ items → ForSome (report_of t) (λ report. items ≡ sim_text t.board.size t.cell report) → IsSimulation o t text
+pub simulation_says : (o : ModeOptions) (t : Decision) (text items : List ℕ) → IsSimTurn o t → FollowsSchedule o t → text ≡ items → TellsSim t items → IsSimulation o t text
 unfolding report_of
 simulation_says o t text items f along same says =
     let start : Position = empty_board o.size in
@@ -78,7 +78,7 @@ bench_turn o p t h f =
     (subst (λ (k : Colour). IsFirstTurn o.knobs p.board k t) (h.colour ∙ ap mover_after h.stones) f)
 
 pub benchmark_says : (o : ModeOptions) (t : Decision) (stones : ℕ) (text items : List ℕ) → IsBenchTurn o t → stones ≡ bench_stones o → (bench_board o).size ≡ o.size → text ≡ items
-    → ForSome t.closed (λ tree. items ≡ bench_text t.board.size stones o.knobs (records_in tree) (rows_of tree.shape tree.words) t.cell) → IsBenchmark o t text
+    → TellsBench o.knobs stones t items → IsBenchmark o t text
 benchmark_says o t stones text items f m n same says =
     let now : Position = bench_board o in
     let mover : Colour = bench_player o in

@@ -1,14 +1,12 @@
 //! The turn of a search: its plan, its shape, and what its tree decides.
 
 ghost use Rattle.std.specs.Prelude.{◌≡◌, ℕ, None, Some, false, true, IfOk};
-ghost use Rattle.hex_cells.specs.declared.colours.Colour.{Colour};
 ghost use Rattle.hex_board.specs.Joined.{winner_of};
-ghost use Rattle.hex_board.specs.Positions.{Position, is_empty_at};
+ghost use Rattle.hex_board.specs.Positions.{is_empty_at};
 ghost use Rattle.tree_words.specs.Settings.{AreInRange};
-ghost use Rattle.tree_words.specs.declared.settings.Knobs.{Knobs};
-ghost use Rattle.hex_plan.specs.Good.{IsSequential, IsTurnShape};
+ghost use Rattle.hex_plan.specs.Good.{IsTurnShape};
 ghost use Rattle.hex_plan.specs.Plans.{IsPlanned, IsSearchAmong};
-ghost use Rattle.turn_modes.specs.OneTurn.{FollowsSchedule, IsFirstTurn, IsSimTurn};
+ghost use Rattle.turn_modes.specs.OneTurn.{FollowsSchedule, IsFirstTurn, IsSimTurn, MakesFirstTurn};
 
 use super::options::ModeOptions;
 use super::positions::{BenchPosition, bare_board};
@@ -51,10 +49,7 @@ fn prepare(alloc: Global, board: &Board, colour: Colour, knobs: &Knobs) -> Resul
 fn decide(planned: Planned, closed: Closed) -> Turn
     requires { IsSearchAmong planned.plan closed.shape.allowed }
     ensures closed { result.closed ≡ Some closed }
-    ensures first { (knobs : Knobs) (board : Position) (player : Colour) → winner_of board ≡ None
-        → IsPlanned board player false planned
-        → IsTurnShape knobs board player 0 closed.shape.allowed closed.shape
-        → IsSequential knobs closed → IsFirstTurn knobs board player result }
+    ensures first { MakesFirstTurn planned closed result }
 {
     Turn::searched(closed, 0, planned)
 }
