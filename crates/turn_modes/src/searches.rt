@@ -1,14 +1,12 @@
 //! The turn of a search: its plan, its shape, and what its tree decides.
 
-ghost use Rattle.std.specs.Prelude.{◌≡◌, ℕ, None, false, true, IfOk};
-ghost use Rattle.hex_cells.specs.declared.colours.Colour.{Colour};
+ghost use Rattle.std.specs.Prelude.{◌≡◌, ℕ, None, Some, false, true, IfOk};
 ghost use Rattle.hex_board.specs.Joined.{winner_of};
-ghost use Rattle.hex_board.specs.Positions.{Position, is_empty_at};
+ghost use Rattle.hex_board.specs.Positions.{is_empty_at};
 ghost use Rattle.tree_words.specs.Settings.{AreInRange};
-ghost use Rattle.tree_words.specs.declared.settings.Knobs.{Knobs};
-ghost use Rattle.hex_plan.specs.Good.{IsSequential, IsTurnShape};
+ghost use Rattle.hex_plan.specs.Good.{IsTurnShape};
 ghost use Rattle.hex_plan.specs.Plans.{IsPlanned, IsSearchAmong};
-ghost use Rattle.turn_modes.specs.OneTurn.{IsFirstTurn, IsSimTurn};
+ghost use Rattle.turn_modes.specs.OneTurn.{FollowsSchedule, IsFirstTurn, IsSimTurn, MakesFirstTurn};
 
 use super::options::ModeOptions;
 use super::positions::{BenchPosition, bare_board};
@@ -50,10 +48,8 @@ fn prepare(alloc: Global, board: &Board, colour: Colour, knobs: &Knobs) -> Resul
 // The turn of this tree, which was searched as prepared.
 fn decide(planned: Planned, closed: Closed) -> Turn
     requires { IsSearchAmong planned.plan closed.shape.allowed }
-    ensures { (knobs : Knobs) (board : Position) (player : Colour) → winner_of board ≡ None
-        → IsPlanned board player false planned
-        → IsTurnShape knobs board player 0 closed.shape.allowed closed.shape
-        → IsSequential knobs closed → IsFirstTurn knobs board player result }
+    ensures closed { result.closed ≡ Some closed }
+    ensures first { MakesFirstTurn planned closed result }
 {
     Turn::searched(closed, 0, planned)
 }
@@ -61,7 +57,8 @@ fn decide(planned: Planned, closed: Closed) -> Turn
 /// The turn of mode sim: that of the board without stones, with Black to move, by a schedule.
 pub fn simulated_turn(alloc: Global, options: &ModeOptions) -> Result<Turn, Memory>
     requires { AreInRange options.now.knobs }
-    ensures { IfOk result (IsSimTurn options.now) }
+    ensures turn { IfOk result (IsSimTurn options.now) }
+    ensures scheduled { IfOk result (FollowsSchedule options.now) }
 {
     let knobs = &options.knobs;
     let board = bare_board(options.size);
