@@ -50,8 +50,6 @@ mod single_turns;
 #[cfg(test)]
 mod tests;
 mod top;
-#[cfg(test)]
-mod trace_name_tests;
 mod trace_names;
 
 pub use ends::End;
