@@ -1,4 +1,5 @@
 pub mod InputEnds
+pub mod Doings
 pub mod RunLaws
 pub mod DeterminedLaws
-pub mod SearchedMoves
+pub mod GeneratedMoves

@@ -2,7 +2,7 @@
 use Rattle.std.specs.Prelude.{◌≡◌, ℕ, Bool, true, None, Some}
 use Rattle.hex_cells.specs.declared.colours.Colour.{Colour}
 use Rattle.hex_board.specs.Joined.{winner_of}
-use Rattle.hex_board.specs.Positions.{Position, is_empty_at}
+use Rattle.hex_board.specs.Positions.{IsPosition, Position, is_empty_at}
 use Rattle.tree_words.specs.declared.settings.Knobs.{Knobs}
 use Rattle.tree_words.specs.Settings.{Setting, IsSetting}
 use Rattle.tree_words.specs.Closing.{ClosedTree, IsClosed}
@@ -16,12 +16,12 @@ use Rattle.hex_plan.specs.declared.types.Plan.{Plan}
 use Rattle.hex_plan.specs.declared.types.Plan.TheVariants.{Win, Search}
 
 -- the shape is that of the search of the turn with this number, where the mover is to place a stone
--- on an allowed cell of the board now: these, and the options' knobs with the turn's seed
-pub record IsTurnShape (options : Knobs) (now : Position) (mover : Colour) (number allowed : ℕ)
+-- on one of these cells of the board now: these, and the options' knobs with the turn's seed
+pub record IsTurnShape (options : Knobs) (now : Position) (mover : Colour) (number cells : ℕ)
     (shape : Setting) : Type 0 where
   pub board : shape.board ≡ now
   pub player : shape.player ≡ mover
-  pub allowed : shape.allowed ≡ allowed
+  pub allowed : shape.allowed ≡ cells
   pub knobs : shape.knobs ≡ turn_knobs options number
 
 -- the tree is that of Seq, where there is one worker
@@ -51,7 +51,8 @@ FollowsPlan options t (Search threats allowed lost) =
 -- Good: what is promised of each turn of a session with these options, which looks for connections
 -- or doesn't
 pub record IsGood (options : Knobs) (hsearch : Bool) (t : Decision) : Type 0 where
-  -- no player is joined on the turn's board, and the turn's cell is empty there
+  -- the turn's board is one, no player is joined there, and the turn's cell is empty
+  pub position : IsPosition t.board.size t.board.black t.board.white
   pub nobody : winner_of t.board ≡ None
   pub empty : is_empty_at t.board t.cell ≡ true
   -- it was planned for its board and player, and decided as planned

@@ -38,9 +38,13 @@ report_on size closed = codes "playouts " ++ decimal closed.shape.knobs.playouts
 unfoldable pub report_of : Decision → Option (List ℕ)
 report_of turn = option_map (report_on turn.board.size) turn.closed
 
+-- a cell's vertex after a space
+abbrev pub spaced_vertex : ℕ → ℕ → List ℕ
+spaced_vertex size k = 32 ∷ vertex_of size k
+
 -- the vertices of the cells of a set, in rising order, a space before each
 abbrev pub vertices_of : ℕ → ℕ → List ℕ
-vertices_of size set = flat_map (λ k. 32 ∷ vertex_of size k) (filter (has set) (cells_of size))
+vertices_of size set = flat_map (spaced_vertex size) (filter (has set) (cells_of size))
 
 -- `yes` or `no`
 abbrev pub answer_word : Bool → List ℕ

@@ -30,38 +30,37 @@
 //! takes memory for all that it will hold; no other call takes any.
 #![tactic(auto)]
 
-ghost use Rattle.std.specs.Prelude.{◌≡◌, false};
-ghost use Rattle.tree_words.specs.declared.settings.Knobs.{Knobs};
-ghost use Rattle.hex_plan.specs.Good.{IsGood};
-ghost use Rattle.hex_plan.specs.Reports.{reported_rows, sequential_rows};
-ghost use Rattle.hex_plan.specs.Turns.{Decision};
-
 mod archives;
+mod collecting;
+mod edges;
 mod in_memory;
+mod laws;
+mod mustplay_texts;
 mod openings;
+mod planning;
+mod plans;
 mod refusals;
+mod regions;
+mod report_texts;
 mod shapes;
 #[cfg(test)]
 mod tests;
 mod texts;
+mod threats;
 mod turns;
+pub mod types;
+mod winning;
 
 pub use archives::{Archive, NoArchive};
 pub use in_memory::MemArchive;
+pub use laws::{
+    certified_moves_win, lost_boards_lose, moves_outside_a_threat_lose, one_worker_decides,
+};
 pub use openings::may_move;
+pub use planning::plan;
+pub use plans::Planned;
 pub use refusals::{ArchiveFault, Memory};
 pub use shapes::turn_shape;
-pub use texts::report_text;
+pub use texts::{TurnTexts, turn_texts};
+pub use threats::{Threat, Threats};
 pub use turns::Turn;
-
-/// A law, with nothing to run: with one worker, where no connections are looked for, the report of
-/// a good turn is that of the sequential search, and the options, the board, the player and the
-/// number determine the turn's cell and report.
-pub fn one_worker_decides()
-    ensures report { (options : Knobs) (t : Decision) → options.workers ≡ 1 →
-        IsGood options false t → reported_rows t ≡ sequential_rows t }
-    ensures same { (options : Knobs) (t u : Decision) → options.workers ≡ 1 →
-        IsGood options false t → IsGood options false u →
-        t.board ≡ u.board → t.player ≡ u.player → t.number ≡ u.number →
-        (t.cell ≡ u.cell) × (reported_rows t ≡ reported_rows u) }
-{}

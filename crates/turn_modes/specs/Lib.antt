@@ -1,0 +1,7 @@
+pub mod Positions
+pub mod Schedules
+pub mod Records
+pub mod Rows
+pub mod ModeTexts
+pub mod OneTurn
+pub mod HandingIn
