@@ -21,7 +21,8 @@ pub record Decision : Type 0 where
   pub closed : Option ClosedTree
   pub cell : ℕ
 
--- the tree is one of the turn's board, player and these allowed cells, and its best cell is the turn's
+-- the tree is one of the turn's board and player and of these allowed cells, and its best cell is
+-- the turn's
 pub record Decides (t : Decision) (cells : ℕ) (closed : ClosedTree) : Type 0 where
   pub board : closed.shape.board ≡ t.board
   pub player : closed.shape.player ≡ t.player
