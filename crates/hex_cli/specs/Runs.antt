@@ -5,17 +5,19 @@ use Rattle.hex_io.specs.Causes.{CountsFault, Rose}
 use Rattle.hex_io.specs.Reported.{Reported}
 use Rattle.hex_io.specs.declared.links.Link as links
 use Rattle.hex_io.specs.declared.shelves.Shelf as shelves
+use Rattle.hex_plan.specs.Turns.{Decision}
 use Rattle.hex_plan.specs.declared.archives.Archive as archives
+use Rattle.turn_modes.specs.declared.options.ModeOptions.{ModeOptions}
 use Rattle.hexd_words.specs.Reading.{WellFormed}
 use Rattle.hexd_words.specs.declared.settings.Options.{Options}
 use Rattle.hexd_words.specs.declared.settings.Mode.{Mode}
-use Rattle.hexd_words.specs.declared.settings.Mode.TheVariants.{Htp, Check, Migrate, Audit, Sim, Bench}
+use Rattle.hexd_words.specs.declared.settings.Mode.TheVariants.{Htp, Check, Migrate, Audit}
 use Rattle.htp_session.specs.Endings.{since}
 use Rattle.htp_session.specs.Inputs.{TextOf}
 use Rattle.htp_session.specs.declared.stops.Stop.TheVariants.{Memory, TooLong}
 use Rattle.hex_cli.specs.Determined.{IsDetermined}
 use Rattle.hex_cli.specs.Headline.{Headline}
-use Rattle.hex_cli.specs.Modes.{AnsweredTo, PlayedTo, engine_options}
+use Rattle.hex_cli.specs.Modes.{AnsweredTo, HandedInTo, PlayedTo, engine_options, mode_options}
 use Rattle.hex_cli.specs.Statuses.{status_of, error_line}
 use Rattle.hex_cli.specs.declared.ends.End.{End}
 use Rattle.hex_cli.specs.declared.ends.End.TheVariants.{Done, Rejected, Usage, Stopped}
@@ -31,14 +33,17 @@ AreWellFormed words = (options : Options) × WellFormed words options
 abbrev pub AreRefused : List (List ℕ) → Type 0
 AreRefused words = (options : Options) → ¬ WellFormed words options
 
--- a mode that answers its whole input by one text
-abbrev pub takes_input : Mode → Bool
-takes_input Htp = false
-takes_input Check = true
-takes_input Migrate = true
-takes_input Audit = true
-takes_input Sim = false
-takes_input Bench = false
+-- the modes that may fetch files
+abbrev pub may_fetch : Mode → Bool
+may_fetch Htp = true
+may_fetch _ = false
+
+-- the modes that may hand over turns
+abbrev pub may_archive : Mode → Bool
+may_archive Check = false
+may_archive Migrate = false
+may_archive Audit = false
+may_archive _ = true
 
 -- whatever options make the words well formed in this mode, this holds
 abbrev pub InMode : Mode → List (List ℕ) → (Options → Type 0) → Type 0
@@ -85,12 +90,22 @@ abbrev pub AnswersBy : {L : Type 0} → links.Ghosts L → Mode → TextOf → L
 AnswersBy l mode Answers words status link link_now = (end : End) → status ≡ status_of end
     → InMode mode words (λ options. AnsweredTo Answers end (l.told link) (l.told link_now))
 
--- in a mode that takes its whole input shelf and archive stand idle
-abbrev pub IsIdleInMode : {F A : Type 0} → shelves.Ghosts F → archives.Ghosts A → List (List ℕ)
-    → F × A → F × A → Type 0
-IsIdleInMode f a words old new = (options : Options) → WellFormed words options
-    → takes_input options.mode ≡ true
-    → Unfetched f old.0 new.0 × Unarchived a old.1 new.1
+-- Modes sim and bench: a turn with its text was handed in, to every end of this status.
+abbrev pub HandsInBy : {L A : Type 0} → links.Ghosts L → archives.Ghosts A → Mode
+    → (ModeOptions → Decision → List ℕ → Type 0) → List (List ℕ) → ℕ → L × A → L × A → Type 0
+HandsInBy l a mode IsAnswer words status old new = (end : End) → status ≡ status_of end
+    → InMode mode words (λ options. HandedInTo (IsAnswer (mode_options options)) end
+    (l.told old.0, a.told old.1) (l.told new.0, a.told new.1))
+
+-- the shelf stands idle in each mode but htp
+abbrev pub IsUnfetchedInMode : {F : Type 0} → shelves.Ghosts F → List (List ℕ) → F → F → Type 0
+IsUnfetchedInMode f words old new = (options : Options) → WellFormed words options
+    → may_fetch options.mode ≡ false → Unfetched f old new
+
+-- the archive stands idle in each mode that takes its whole input
+abbrev pub IsUnarchivedInMode : {A : Type 0} → archives.Ghosts A → List (List ℕ) → A → A → Type 0
+IsUnarchivedInMode a words old new = (options : Options) → WellFormed words options
+    → may_archive options.mode ≡ false → Unarchived a old new
 
 -- Mode htp, where the run is done: each searched move.
 abbrev pub HasHeadline : {L A : Type 0} → links.Ghosts L → archives.Ghosts A → List (List ℕ) → ℕ

@@ -1,29 +1,33 @@
 //! The top call: from the words of the command line to a status.
 
-ghost use Rattle.std.specs.Prelude.{◌≡◌, ◌≢◌, ◌⊎◌};
+ghost use Rattle.std.specs.Prelude.{◌≡◌, ◌≢◌, ◌⊎◌, ◌^◌, ◌<◌};
+ghost use Rattle.hexd_words.specs.Values as value;
 ghost use Rattle.htp_session.specs.declared.stops.Stop.{Stop};
 ghost use Rattle.htp_session.specs.declared.stops.Stop.TheVariants.{ReadFault, WriteFault};
 ghost use Rattle.htp_session.specs.declared.stops.Stop.TheVariants.{Memory, ArchiveFault};
 ghost use Rattle.hex_cli.specs.declared.ends.End.TheVariants.{Stopped};
-ghost use Rattle.hexd_words.specs.declared.settings.Mode.TheVariants.{Check, Migrate, Audit};
+ghost use Rattle.hexd_words.specs.declared.settings.Mode.TheVariants.{Check, Migrate, Audit, Sim, Bench};
 ghost use Rattle.htp_session.specs.Devices.{CountsStop};
 ghost use Rattle.hex_cli.specs.AuditTexts.{IsAuditText};
 ghost use Rattle.hex_cli.specs.CertTexts.{IsCheckText, IsMigrateText};
 ghost use Rattle.hex_cli.specs.Runs.{AreWellFormed, AreRefused, IsServed, IsRefusal, Untouched};
-ghost use Rattle.hex_cli.specs.Runs.{Unfetched, Unarchived, IsIdleInMode};
-ghost use Rattle.hex_cli.specs.Runs.{AnswersBy, PlaysBy, HasHeadline, Determines};
+ghost use Rattle.turn_modes.specs.OneTurn.{IsSimulation, IsBenchmark};
+ghost use Rattle.hex_cli.specs.Runs.{Unfetched, Unarchived};
+ghost use Rattle.hex_cli.specs.Runs.{IsUnfetchedInMode, IsUnarchivedInMode};
+ghost use Rattle.hex_cli.specs.Runs.{AnswersBy, HandsInBy, PlaysBy, HasHeadline, Determines};
 ghost use Rattle.hex_cli.specs.Runs.{CountsReads, CountsWrites, CountsTurns, IsTooLong};
 ghost use Rattle.hex_cli.specs.Runs.{Completes, Reports};
-ghost use Rattle.hex_cli.specs.Served.{Does};
+ghost use Rattle.hex_cli.specs.Served.{Does, DoesIn};
 ghost use Rattle.hex_cli.specs.Statuses.{status_of, stop_in, HasStopped};
 ghost use Rattle.hex_cli.specs.declared.ends.End.{End};
 
 use crate::ends::End;
 use crate::inputs::{InputMode, answer};
 use crate::playing::play;
+use crate::single_turns::{bench, simulate};
 use hex_io::{Link, Shelf, Word, report};
 use hex_plan::Archive;
-use hexd_words::{Mode, read_words};
+use hexd_words::{Mode, Options, read_words};
 use htp_session::{Devices, Stop};
 use search_team::Gate;
 use std::alloc::Global;
@@ -83,12 +87,20 @@ pub fn run<R: Threads + Sync, L: Link, E: Link, F: Shelf, A: Archive, G: Gate + 
         link.old link.new shelf.old shelf.new }
 
     // Modes check, migrate and audit: the whole input was taken, and its text given; the status says
-    // whether it was accepted. Shelf and archive stand idle.
+    // whether it was accepted.
     ensures checked { AnswersBy L.Link Check IsCheckText words.now result link.old link.new }
     ensures migrated { AnswersBy L.Link Migrate IsMigrateText words.now result link.old link.new }
     ensures audited { AnswersBy L.Link Audit IsAuditText words.now result link.old link.new }
-    ensures idle { IsIdleInMode F.Shelf A.Archive words.now
-        (shelf.old, archive.old) (shelf.new, archive.new) }
+
+    // Modes sim and bench: one turn was handed to the archive, and then its text given.
+    ensures simulated { HandsInBy L.Link A.Archive Sim IsSimulation words.now result
+        (link.old, archive.old) (link.new, archive.new) }
+    ensures benchmarked { HandsInBy L.Link A.Archive Bench IsBenchmark words.now result
+        (link.old, archive.old) (link.new, archive.new) }
+
+    // What stands idle: the shelf in each mode but htp, the archive in check, migrate and audit.
+    ensures idle_shelf { IsUnfetchedInMode F.Shelf words.now shelf.old shelf.new }
+    ensures idle_archive { IsUnarchivedInMode A.Archive words.now archive.old archive.new }
 
     // The causes. What fails first ends the run: a count rose with its own status, and is as before
     // with every other.
@@ -147,12 +159,26 @@ fn serve<L: Link, F: Shelf, A: Archive, R: Threads + Sync, G: Gate + Sync>(
         Ok(None) => return End::Usage,
         Ok(Some(options)) => options,
     };
+    in_mode(alloc, &options, devices)
+}
+
+/// Does over the devices what the options ask for, in the mode that they say.
+fn in_mode<L: Link, F: Shelf, A: Archive, R: Threads + Sync, G: Gate + Sync>(
+    alloc: Global,
+    options: &Options,
+    devices: &mut Devices<'_, '_, '_, '_, L, F, A, R, G>,
+) -> End
+    requires ranges { value.OptionsInRange options.now }
+    requires seed { options.now.seed < 2 ^ 64 }
+    ensures does { DoesIn options.now.mode options.now result devices.old devices.new }
+    ensures counts { CountsStop devices.old devices.new (stop_in result) }
+{
     match options.mode {
-        Mode::Htp => play(alloc, &options, devices),
+        Mode::Htp => play(alloc, options, devices),
         Mode::Check => answer(alloc, InputMode::Check, devices),
         Mode::Migrate => answer(alloc, InputMode::Migrate, devices),
         Mode::Audit => answer(alloc, InputMode::Audit, devices),
-        Mode::Sim => End::Stopped(Stop::Memory),
-        Mode::Bench => End::Stopped(Stop::Memory),
+        Mode::Sim => simulate(alloc, options, devices),
+        Mode::Bench => bench(alloc, options, devices),
     }
 }
