@@ -1,5 +1,5 @@
 -- Turns as plain data.
-use Rattle.std.specs.Prelude.{◌≡◌, ℕ, Bool, true, None}
+use Rattle.std.specs.Prelude.{◌≡◌, ℕ, true, None}
 use Rattle.std.specs.Option.{ForSome}
 use Rattle.std.specs.declared.option.Option.{Option}
 use Rattle.hex_cells.specs.declared.colours.Colour.{Colour}
