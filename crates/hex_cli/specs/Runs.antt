@@ -1,24 +1,23 @@
 -- What a run does, told of its words, its status, and its link, shelf and archive before and after.
-use Rattle.std.specs.Prelude.{◌≡◌, ◌≢◌, ◌+◌, ◌≤◌, ◌⊎◌, ◌↔◌, ℕ, Bool, true, false, List, length}
+use Rattle.std.specs.Prelude.{◌≡◌, ◌≢◌, ◌⊎◌, ℕ, Bool, true, false, List}
 use Rattle.hex_io.specs.Told.{Both}
-use Rattle.hex_io.specs.Causes.{CountsFault, Rose}
-use Rattle.hex_io.specs.Reported.{Reported}
 use Rattle.hex_io.specs.declared.links.Link as links
 use Rattle.hex_io.specs.declared.shelves.Shelf as shelves
+use Rattle.hex_plan.specs.Turns.{Decision}
 use Rattle.hex_plan.specs.declared.archives.Archive as archives
+use Rattle.turn_modes.specs.declared.options.ModeOptions.{ModeOptions}
 use Rattle.hexd_words.specs.Reading.{WellFormed}
 use Rattle.hexd_words.specs.declared.settings.Options.{Options}
 use Rattle.hexd_words.specs.declared.settings.Mode.{Mode}
-use Rattle.hexd_words.specs.declared.settings.Mode.TheVariants.{Htp, Check, Migrate, Audit, Sim, Bench}
-use Rattle.htp_session.specs.Endings.{since}
+use Rattle.hexd_words.specs.declared.settings.Mode.TheVariants.{Htp, Check, Migrate, Audit}
 use Rattle.htp_session.specs.Inputs.{TextOf}
-use Rattle.htp_session.specs.declared.stops.Stop.TheVariants.{Memory, TooLong}
+use Rattle.htp_session.specs.declared.stops.Stop.TheVariants.{Memory}
 use Rattle.hex_cli.specs.Determined.{IsDetermined}
 use Rattle.hex_cli.specs.Headline.{Headline}
-use Rattle.hex_cli.specs.Modes.{AnsweredTo, PlayedTo, engine_options}
-use Rattle.hex_cli.specs.Statuses.{status_of, error_line}
+use Rattle.hex_cli.specs.Modes.{AnsweredTo, HandedInTo, PlayedTo, engine_options, mode_options}
+use Rattle.hex_cli.specs.Statuses.{status_of}
 use Rattle.hex_cli.specs.declared.ends.End.{End}
-use Rattle.hex_cli.specs.declared.ends.End.TheVariants.{Done, Rejected, Usage, Stopped}
+use Rattle.hex_cli.specs.declared.ends.End.TheVariants.{Done, Usage, Stopped}
 use Rattle.hex_cli.specs.declared.limits.TheConstants.{INPUT_LIMIT}
 
 -- ---- the words
@@ -31,14 +30,17 @@ AreWellFormed words = (options : Options) × WellFormed words options
 abbrev pub AreRefused : List (List ℕ) → Type 0
 AreRefused words = (options : Options) → ¬ WellFormed words options
 
--- a mode that answers its whole input by one text
-abbrev pub takes_input : Mode → Bool
-takes_input Htp = false
-takes_input Check = true
-takes_input Migrate = true
-takes_input Audit = true
-takes_input Sim = false
-takes_input Bench = false
+-- the modes that may fetch files
+abbrev pub may_fetch : Mode → Bool
+may_fetch Htp = true
+may_fetch _ = false
+
+-- the modes that may hand over turns
+abbrev pub may_archive : Mode → Bool
+may_archive Check = false
+may_archive Migrate = false
+may_archive Audit = false
+may_archive _ = true
 
 -- whatever options make the words well formed in this mode, this holds
 abbrev pub InMode : Mode → List (List ℕ) → (Options → Type 0) → Type 0
@@ -52,12 +54,12 @@ pub record Untouched {L : Type 0} (l : links.Ghosts L) (old new : L) : Type 0 wh
   pub writes : l.write_faults new ≡ l.write_faults old
 
 -- nothing was fetched from the shelf: it tells the same and has counted no fault
-pub record Unfetched {F : Type 0} (f : shelves.Ghosts F) (old new : F) : Type 0 where
+pub record IsIdleShelf {F : Type 0} (f : shelves.Ghosts F) (old new : F) : Type 0 where
   pub told : f.told new ≡ f.told old
   pub faults : f.faults new ≡ f.faults old
 
 -- nothing was handed to the archive: it tells the same and has counted no fault
-pub record Unarchived {A : Type 0} (a : archives.Ghosts A) (old new : A) : Type 0 where
+pub record IsIdleArchive {A : Type 0} (a : archives.Ghosts A) (old new : A) : Type 0 where
   pub told : a.told new ≡ a.told old
   pub faults : a.faults new ≡ a.faults old
 
@@ -85,14 +87,24 @@ abbrev pub AnswersBy : {L : Type 0} → links.Ghosts L → Mode → TextOf → L
 AnswersBy l mode Answers words status link link_now = (end : End) → status ≡ status_of end
     → InMode mode words (λ options. AnsweredTo Answers end (l.told link) (l.told link_now))
 
--- in a mode that takes its whole input shelf and archive stand idle
-abbrev pub IsIdleInMode : {F A : Type 0} → shelves.Ghosts F → archives.Ghosts A → List (List ℕ)
-    → F × A → F × A → Type 0
-IsIdleInMode f a words old new = (options : Options) → WellFormed words options
-    → takes_input options.mode ≡ true
-    → Unfetched f old.0 new.0 × Unarchived a old.1 new.1
+-- Modes sim and bench: a turn with its text was handed in, to every end of this status.
+abbrev pub HandsInBy : {L A : Type 0} → links.Ghosts L → archives.Ghosts A → Mode
+    → (ModeOptions → Decision → List ℕ → Type 0) → List (List ℕ) → ℕ → L × A → L × A → Type 0
+HandsInBy l a mode IsAnswer words status old new = (end : End) → status ≡ status_of end
+    → InMode mode words (λ options. HandedInTo (IsAnswer (mode_options options)) end
+    (l.told old.0, a.told old.1) (l.told new.0, a.told new.1))
 
--- Mode htp, where the run is done: each searched move.
+-- the shelf stands idle in each mode but htp
+abbrev pub HasIdleShelf : {F : Type 0} → shelves.Ghosts F → List (List ℕ) → F → F → Type 0
+HasIdleShelf f words old new = (options : Options) → WellFormed words options
+    → may_fetch options.mode ≡ false → IsIdleShelf f old new
+
+-- the archive stands idle in each mode that takes its whole input
+abbrev pub HasIdleArchive : {A : Type 0} → archives.Ghosts A → List (List ℕ) → A → A → Type 0
+HasIdleArchive a words old new = (options : Options) → WellFormed words options
+    → may_archive options.mode ≡ false → IsIdleArchive a old new
+
+-- Mode htp, where the run is done: each generated move.
 abbrev pub HasHeadline : {L A : Type 0} → links.Ghosts L → archives.Ghosts A → List (List ℕ) → ℕ
     → L → L → A → A → Type 0
 HasHeadline l a words status link link_now archive archive_now = InMode Htp words
@@ -108,41 +120,3 @@ Determines l f words status link link_now shelf shelf_now = InMode Htp words
     (λ options. status ≡ status_of Done → Both (f.told shelf) (f.told shelf_now)
     (λ files files_now. Both (l.told link) (l.told link_now)
     (IsDetermined (engine_options options) options.size files files_now)))
-
--- ---- the causes
-
--- the link's count of read faults rose where this holds, and is as before where it doesn't
-abbrev pub CountsReads : {L : Type 0} → links.Ghosts L → L → L → Type 0 → Type 0
-CountsReads l old new Fault = CountsFault (l.read_faults old) (l.read_faults new) Fault
-
--- the same of its count of write faults
-abbrev pub CountsWrites : {L : Type 0} → links.Ghosts L → L → L → Type 0 → Type 0
-CountsWrites l old new Fault = CountsFault (l.write_faults old) (l.write_faults new) Fault
-
--- the same of the archive's count of faults
-abbrev pub CountsTurns : {A : Type 0} → archives.Ghosts A → A → A → Type 0 → Type 0
-CountsTurns a old new Fault = CountsFault (a.faults old) (a.faults new) Fault
-
--- with well-formed words the input is too long exactly where one byte more than the limit was taken
-abbrev pub IsTooLong : {L : Type 0} → links.Ghosts L → List (List ℕ) → ℕ → L → L → Type 0
-IsTooLong l words status link link_now = (options : Options) → WellFormed words options
-    → Both (l.told link) (l.told link_now) (λ old new.
-    (status ≡ status_of (Stopped TooLong)) ↔ (length (since old new) ≡ INPUT_LIMIT + 1))
-
--- with well-formed words, where no count of faults rose and at most the limit was taken, the run is
--- done, its input is rejected, or memory ran out
-abbrev pub Completes : {L A : Type 0} → links.Ghosts L → archives.Ghosts A → List (List ℕ) → ℕ
-    → L → L → A → A → Type 0
-Completes l a words status link link_now archive archive_now =
-    (options : Options) → WellFormed words options
-    → ¬ Rose (l.read_faults link) (l.read_faults link_now)
-    → ¬ Rose (l.write_faults link) (l.write_faults link_now)
-    → ¬ Rose (a.faults archive) (a.faults archive_now)
-    → Both (l.told link) (l.told link_now) (λ old new. length (since old new) ≤ INPUT_LIMIT
-    → (status ≡ status_of Done) ⊎ (status ≡ status_of Rejected)
-    ⊎ (status ≡ status_of (Stopped Memory)))
-
--- the errors were given the line of the status, or a front of it where a write failed
-abbrev pub Reports : {E : Type 0} → links.Ghosts E → ℕ → E → E → Type 0
-Reports e status old new = (end : End) → status ≡ status_of end
-    → Reported (e.told old) (e.told new) (e.write_faults old) (e.write_faults new) (error_line end)

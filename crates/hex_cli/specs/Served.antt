@@ -5,14 +5,14 @@ use Rattle.hexd_words.specs.Reading.{WellFormed}
 use Rattle.hexd_words.specs.declared.settings.Options.{Options}
 use Rattle.hexd_words.specs.declared.settings.Mode.{Mode}
 use Rattle.hexd_words.specs.declared.settings.Mode.TheVariants.{Htp, Check, Migrate, Audit, Sim, Bench}
+use Rattle.hex_plan.specs.Turns.{Decision}
+use Rattle.turn_modes.specs.OneTurn.{IsBenchmark, IsSimulation}
 use Rattle.htp_session.specs.Devices.{DevicesState, stock}
 use Rattle.htp_session.specs.Inputs.{TextOf}
 use Rattle.hex_cli.specs.AuditTexts.{IsAuditText}
 use Rattle.hex_cli.specs.CertTexts.{IsCheckText, IsMigrateText}
-use Rattle.hex_cli.specs.Modes.{AnsweredTo, PlayedTo, engine_options}
+use Rattle.hex_cli.specs.Modes.{AnsweredTo, HandedInTo, PlayedTo, engine_options, mode_options}
 use Rattle.hex_cli.specs.declared.ends.End.{End}
-use Rattle.hex_cli.specs.declared.ends.End.TheVariants.{Stopped}
-use Rattle.htp_session.specs.declared.stops.Stop.TheVariants.{Memory}
 use Rattle.hex_cli.specs.declared.limits.TheConstants.{INPUT_LIMIT}
 
 -- a session came to this end
@@ -32,19 +32,23 @@ pub record AnswersTo (Answers : TextOf) (end : End) (old new : DevicesState) : T
   pub answered : AnsweredTo Answers end old.link new.link
   pub idle : StandIdle old new
 
-abbrev pub StubTo : End → DevicesState → DevicesState → Type 0
-StubTo end old new = (end ≡ Stopped Memory) × (new ≡ old)
+-- a turn with its text was handed in, to this end
+pub record HandsInTo (IsAnswer : Decision → List ℕ → Type 0) (end : End)
+    (old new : DevicesState) : Type 0 where
+  pub handed : HandedInTo IsAnswer end (old.link, old.turns) (new.link, new.turns)
+  pub shelf : new.shelf ≡ old.shelf
+  pub fetches : new.fetch_faults ≡ old.fetch_faults
 
 -- what was done in this mode, to this end
-abbrev pub DoesIn : Mode → Options → End → DevicesState → DevicesState → Type 0
-DoesIn Htp options = PlaysTo options
-DoesIn Check options = AnswersTo IsCheckText
-DoesIn Migrate options = AnswersTo IsMigrateText
-DoesIn Audit options = AnswersTo IsAuditText
-DoesIn Sim options = StubTo
-DoesIn Bench options = StubTo
+abbrev pub ServesIn : Mode → Options → End → DevicesState → DevicesState → Type 0
+ServesIn Htp options = PlaysTo options
+ServesIn Check options = AnswersTo IsCheckText
+ServesIn Migrate options = AnswersTo IsMigrateText
+ServesIn Audit options = AnswersTo IsAuditText
+ServesIn Sim options = HandsInTo (IsSimulation (mode_options options))
+ServesIn Bench options = HandsInTo (IsBenchmark (mode_options options))
 
 -- what was done for the words, in the mode that they say
-abbrev pub Does : List (List ℕ) → End → DevicesState → DevicesState → Type 0
-Does words end old new = (options : Options) → WellFormed words options
-    → DoesIn options.mode options end old new
+abbrev pub Serves : List (List ℕ) → End → DevicesState → DevicesState → Type 0
+Serves words end old new = (options : Options) → WellFormed words options
+    → ServesIn options.mode options end old new

@@ -9,8 +9,8 @@ ghost use Rattle.hex_cli.specs.Served.{PlaysTo};
 ghost use Rattle.hex_cli.specs.Statuses.{stop_in};
 
 use crate::ends::End;
+use crate::knobs::{board_size, knobs_of};
 use crate::limits::INPUT_LIMIT;
-use hex_cells::Size;
 use hex_io::{Link, Shelf};
 use hex_plan::Archive;
 use hexd_words::Options;
@@ -18,7 +18,6 @@ use htp_session::{Devices, converse};
 use search_team::Gate;
 use std::alloc::Global;
 use std::thread::Threads;
-use tree_words::Knobs;
 
 /// Plays a session over the devices, from an empty board of the size that the options say.
 pub fn play<L: Link, F: Shelf, A: Archive, R: Threads + Sync, G: Gate + Sync>(
@@ -49,22 +48,7 @@ fn engine_options(options: &Options) -> hex_engine::Options
     ensures ranges { AreInRange result.knobs }
 {
     hex_engine::Options {
-        knobs: Knobs {
-            workers: options.workers,
-            playouts: options.playouts,
-            seed: options.seed,
-            words: options.words,
-            expand: options.expand,
-            weight: options.weight,
-        },
+        knobs: knobs_of(options),
         hsearch: options.hsearch,
     }
-}
-
-/// The board size of this side.
-fn board_size(side: u32) -> Size
-    requires { (1 ≤ side) × (side ≤ 11) }
-    ensures { result ≡ side }
-{
-    Size::of(side).unwrap()
 }

@@ -1,7 +1,7 @@
 -- What good turns say of winning: certified moves win, and moves outside a threat lose.
-use Rattle.std.proofs.Common.{◌≡◌, ℕ, ◌∷◌, [], Bool, true, false, List, Option, Some, None, All, zero, suc, refl, sym, ◌∙◌, ap, subst, inl, inr}
+use Rattle.std.proofs.Common.{◌≡◌, ℕ, [], ◌∷◌, Bool, true, false, List, Option, Some, All, suc, refl, sym, ◌∙◌, subst, inl, inr}
 use Rattle.std.specs.List.{slice_get}
-use Rattle.std.proofs.lemmas.Bool.{both_ways, cases_Bool}
+use Rattle.std.proofs.lemmas.Bool.{cases_Bool}
 use Rattle.std.proofs.lemmas.List.Elements.{All-cons, All-nil}
 use Rattle.std.proofs.lemmas.Option.{get_or_from_slice_get, slice_get_within}
 use Rattle.hex_cells.specs.Sets.{has, members}
@@ -11,7 +11,7 @@ use Rattle.hex_cells.specs.declared.colours.Colour.TheVariants.{Black, White}
 use Rattle.hex_board.specs.Elements.{PlayerBoard}
 use Rattle.hex_board.specs.Positions.{IsPosition, Position, Within, is_empty_at, placed, stones_of}
 use Rattle.hex_board.specs.Wins.{Wins}
-use Rattle.conn_store.specs.Rules.{AreAt, IsCell, IsChain}
+use Rattle.conn_store.specs.Rules.{IsCell, IsChain}
 use Rattle.conn_store.specs.Stores.{IsSound, StoreData}
 use Rattle.conn_store.specs.Truth.{IsSureIn}
 use Rattle.conn_store.specs.declared.entries.Entry.{Entry}
@@ -22,14 +22,14 @@ use Rattle.tree_words.specs.declared.settings.Knobs.{Knobs}
 use Rattle.win_cert.specs.Cuts.{IsEdgeEntryAt}
 use Rattle.win_cert.specs.declared.certs.Cert.{Cert}
 use Rattle.hex_plan.specs.Good.{FollowsPlan, IsGood}
-use Rattle.hex_plan.specs.Laws.{IsCertified, LosesBy, LosesOutsideThreats, LosesWhereLost}
-use Rattle.hex_plan.specs.Plans.{AreThreats, IsCertifiedWin, IsInEach, IsMiddle, IsNarrowed, IsPlanned, IsPlannedBy, IsReportOf, IsThreat, IsWin, IsWinBy, IsWinningCellBy}
+use Rattle.hex_plan.specs.Laws.{IsCertified, LosesOutsideThreats, LosesWhereLost}
+use Rattle.hex_plan.specs.Plans.{IsCertifiedWin, IsInEach, IsMiddle, IsNarrowed, IsPlanned, IsPlannedBy, IsReportOf, IsThreat, IsWin, IsWinBy, IsWinningCellBy}
 use Rattle.hex_plan.specs.Turns.{Decision}
 use Rattle.hex_plan.specs.declared.plans.Planned.{Planned}
 use Rattle.hex_plan.specs.declared.threats.Threat.{Threat}
 use Rattle.hex_plan.specs.declared.types.Plan.{Plan}
 use Rattle.hex_plan.specs.declared.types.Plan.TheVariants.{Win, Search}
-use Rattle.hex_plan.proofs.Middles.{IsOverCell, over_cell}
+use Rattle.hex_plan.proofs.Middles.{IsOverCell, first_of, over_cell, second_of}
 use Rattle.hex_plan.proofs.PlanLaws.{planned_win}
 use Rattle.hex_plan.proofs.SureWins.{EdgesLink, entry_says, full_wins, middle_wins, wins_after_other}
 
@@ -42,19 +42,13 @@ stones_on p White h = h.white_on
 same_entry : (a b : Entry) → Some a ≡ Some b → a ≡ b
 same_entry a b e = cc
 
-first_at : (entries : List Entry) (i j : ℕ) (a b : Entry) → AreAt entries (i ∷ j ∷ []) (a ∷ b ∷ []) → slice_get entries i ≡ Some a
-first_at entries i j a b h = cc
-
-second_at : (entries : List Entry) (i j : ℕ) (a b : Entry) → AreAt entries (i ∷ j ∷ []) (a ∷ b ∷ []) → slice_get entries j ≡ Some b
-second_at entries i j a b h = cc
-
 -- the element over which the entry follows is that of its middle
 the_middle : (d : StoreData) (a : Entry) (k : ℕ) (m : IsMiddle d a k) (o : IsOverCell d a m.numbers.0 m.numbers.1) → IsSound d → m.middle ≡ o.u
 the_middle d a k m o s =
     let i = m.numbers.0 in
     let j = m.numbers.1 in
-    let one : m.parts.0 ≡ o.first = same_entry m.parts.0 o.first (sym (first_at d.entries i j m.parts.0 m.parts.1 m.at) ∙ o.first_at) in
-    let two : m.parts.1 ≡ o.second = same_entry m.parts.1 o.second (sym (second_at d.entries i j m.parts.0 m.parts.1 m.at) ∙ o.second_at) in
+    let one : m.parts.0 ≡ o.first = same_entry m.parts.0 o.first (sym (first_of d.entries i j m.parts.0 m.parts.1 m.at) ∙ o.first_at) in
+    let two : m.parts.1 ≡ o.second = same_entry m.parts.1 o.second (sym (second_of d.entries i j m.parts.0 m.parts.1 m.at) ∙ o.second_at) in
     let chain : IsChain o.first o.second m.ends.0 m.middle m.ends.1
     = subst (λ (v : Entry). IsChain o.first v m.ends.0 m.middle m.ends.1) two (subst (λ (v : Entry). IsChain v m.parts.1 m.ends.0 m.middle m.ends.1) one m.chain) in
     (one_chain o.first o.second m.ends.0 m.middle m.ends.1 o.x o.u o.y (s.valid i o.first o.first_at).order (s.valid j o.second o.second_at).order chain o.rule.chain).1

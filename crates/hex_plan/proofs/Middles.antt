@@ -1,17 +1,17 @@
 -- Semi entries, which follow over an empty cell, and full ones, whose carriers have a cell.
-use Rattle.std.proofs.Common.{◌≡◌, ℕ, ◌<◌, ◌∷◌, [], List, Bool, true, false, Some, get_or, take, length, zero, suc, refl, sym, ◌∙◌, ap, subst, inl, inr}
+use Rattle.std.proofs.Common.{◌≡◌, ℕ, ◌∷◌, [], List, true, false, Some, get_or, take, zero, suc, refl, sym, ◌∙◌, ap, subst, inl, inr}
 use Rattle.std.specs.List.{slice_get}
 use Rattle.std.proofs.lemmas.Bool.{both_ways}
 use Rattle.std.proofs.lemmas.Option.{get_or_from_slice_get}
-use Rattle.hex_cells.specs.Sets.{has, members, with_cell, without_cell}
+use Rattle.hex_cells.specs.Sets.{has, members}
 use Rattle.hex_cells.specs.declared.colours.Colour.{Colour}
 use Rattle.hex_board.specs.Elements.{PlayerBoard, are_joined, edge_element}
 use Rattle.hex_board.specs.Positions.{Position, Within, stones_of}
 use Rattle.hex_board.proofs.Parts.{high_apart}
 use Rattle.hex_board.proofs.Search.{joined_found}
-use Rattle.conn_store.specs.Entries.{IsBetween, IsTrueEntry}
+use Rattle.conn_store.specs.Entries.{IsBetween}
 use Rattle.conn_store.specs.Links.{StonesLink}
-use Rattle.conn_store.specs.Rules.{AndRule, AreAt, FollowsBy, IsCell, both_of}
+use Rattle.conn_store.specs.Rules.{AndRule, AreAt, FollowsBy, IsCell}
 use Rattle.conn_store.specs.Stores.{IsSound, StoreData}
 use Rattle.conn_store.specs.Truth.{IsSure, IsSureIn}
 use Rattle.conn_store.specs.declared.entries.Cause.{Cause}
@@ -20,6 +20,7 @@ use Rattle.conn_store.specs.declared.entries.Entry.{Entry}
 use Rattle.conn_store.specs.declared.entries.Kind.{Kind}
 use Rattle.conn_store.specs.declared.entries.Kind.TheVariants.{Full, Semi}
 use Rattle.conn_store.proofs.Edges.{linked_joins}
+use Rattle.conn_store.proofs.RuleEntries.{at_two}
 use Rattle.conn_store.proofs.Sureness.{same}
 use Rattle.win_cert.specs.Cuts.{IsEdgeEntryAt}
 use Rattle.hex_plan.specs.Plans.{IsMiddle}
@@ -56,10 +57,10 @@ semi_cause e entries a (AndGroup i j) (v, w, x, u, y, at, r, g, h, q, c) s = abs
 semi_cause e entries a (AndEmpty i j) f s = (i, j, refl)
 semi_cause e entries a (Or numbers count) (ways, at, r, q, c) s = absurd (is_semi a.kind q s)
 
-first_of : (entries : List Entry) (i j : ℕ) (a b : Entry) → AreAt entries (i ∷ j ∷ []) (a ∷ b ∷ []) → slice_get entries i ≡ Some a
+pub first_of : (entries : List Entry) (i j : ℕ) (a b : Entry) → AreAt entries (i ∷ j ∷ []) (a ∷ b ∷ []) → slice_get entries i ≡ Some a
 first_of entries i j a b h = cc
 
-second_of : (entries : List Entry) (i j : ℕ) (a b : Entry) → AreAt entries (i ∷ j ∷ []) (a ∷ b ∷ []) → slice_get entries j ≡ Some b
+pub second_of : (entries : List Entry) (i j : ℕ) (a b : Entry) → AreAt entries (i ∷ j ∷ []) (a ∷ b ∷ []) → slice_get entries j ≡ Some b
 second_of entries i j a b h = cc
 
 over_by : (d : StoreData) (n : ℕ) (a : Entry) (i j : ℕ) → FollowsBy d.elements (take n d.entries) a (AndEmpty i j) → IsOverCell d a i j
@@ -86,16 +87,13 @@ never_else d entries n a r s q at k h =
     let w = semi_cause d.elements (take n d.entries) a a.cause (s.follows n a at) k in
     h w.0 w.1 (ap (λ (v : List Entry). (get_or v n r).cause) q ∙ (ap (λ (v : Entry). v.cause) (get_or_from_slice_get d.entries n a r at) ∙ w.2))
 
-are_at : (entries : List Entry) (i j : ℕ) (a b : Entry) → slice_get entries i ≡ Some a → slice_get entries j ≡ Some b → AreAt entries (i ∷ j ∷ []) (a ∷ b ∷ [])
-are_at entries i j a b h k = cc
-
 -- the cell that its middle is
 pub is_middle : (d : StoreData) (a : Entry) (i j m k : ℕ) (o : IsOverCell d a i j) → a.cause ≡ AndEmpty i j → m ≡ o.u → IsCell d.elements m k → IsMiddle d a k
 is_middle d a i j m k o e q g = record {
   numbers = (i, j);
   cause = e;
   parts = (o.first, o.second);
-  at = are_at d.entries i j o.first o.second o.first_at o.second_at;
+  at = at_two d.entries i j o.first o.second o.first_at o.second_at;
   ends = (o.x, o.y);
   middle = o.u;
   chain = o.rule.chain;

@@ -12,6 +12,7 @@ use Rattle.tree_words.specs.Trees.{IsTreeOf}
 use Rattle.hex_plan.specs.Plans.{IsPlanned}
 use Rattle.hex_plan.specs.Seeds.{turn_knobs}
 use Rattle.hex_plan.specs.Turns.{Decision}
+use Rattle.hex_plan.specs.declared.plans.Planned.{Planned}
 use Rattle.hex_plan.specs.declared.types.Plan.{Plan}
 use Rattle.hex_plan.specs.declared.types.Plan.TheVariants.{Win, Search}
 
@@ -58,3 +59,19 @@ pub record IsGood (options : Knobs) (hsearch : Bool) (t : Decision) : Type 0 whe
   -- it was planned for its board and player, and decided as planned
   pub planned : IsPlanned t.board t.player hsearch t.planned
   pub follows : FollowsPlan options t t.planned.plan
+
+-- the turn, which was planned so for the player on the board, is good where no player is joined
+-- there
+abbrev pub IsGoodAsPlanned : Decision → Position → Colour → Planned → Type 0
+IsGoodAsPlanned t board player planned = (options : Knobs) (hsearch : Bool)
+    → winner_of board ≡ None → IsPlanned board player hsearch planned → IsGood options hsearch t
+
+-- the turn with this number, which was planned so and which the tree decides, is good where no
+-- player is joined on the tree's board, the plan is one for this board and player, and the tree's
+-- shape is that of the turn; for one worker the tree has to be that of Seq
+abbrev pub IsGoodAsSearched : Decision → ℕ → Planned → ClosedTree → Type 0
+IsGoodAsSearched t number planned tree = (options : Knobs) (hsearch : Bool)
+    → winner_of tree.shape.board ≡ None
+    → IsPlanned tree.shape.board tree.shape.player hsearch planned
+    → IsTurnShape options tree.shape.board tree.shape.player number tree.shape.allowed tree.shape
+    → IsSequential options tree → IsGood options hsearch t

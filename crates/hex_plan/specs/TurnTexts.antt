@@ -1,5 +1,6 @@
 -- What `search-report`, `mustplay` and `wincert` say of a turn.
-use Rattle.std.specs.Prelude.{ℕ, ◌-◌, ◌*◌, ◌<◌, Bool, true, false, List, [], ◌∷◌, ◌++◌, codes, length, take}
+use Rattle.std.specs.Prelude.{ℕ, ◌-◌, ◌*◌, ◌<◌, Bool, true, false}
+use Rattle.std.specs.Prelude.{List, [], ◌∷◌, ◌++◌, codes, length, take}
 use Rattle.std.specs.Prelude.{Option, Some, None, option_map}
 use Rattle.tree_words.specs.Closing.{ClosedTree}
 use Rattle.std.specs.List.{filter, flat_map}
@@ -43,8 +44,8 @@ abbrev pub spaced_vertex : ℕ → ℕ → List ℕ
 spaced_vertex size k = 32 ∷ vertex_of size k
 
 -- the vertices of the cells of a set, in rising order, a space before each
-abbrev pub vertices_of : ℕ → ℕ → List ℕ
-vertices_of size set = flat_map (spaced_vertex size) (filter (has set) (cells_of size))
+abbrev pub spaced_vertices : ℕ → ℕ → List ℕ
+spaced_vertices size set = flat_map (spaced_vertex size) (filter (has set) (cells_of size))
 
 -- `yes` or `no`
 abbrev pub answer_word : Bool → List ℕ
@@ -53,13 +54,13 @@ answer_word false = codes "no"
 
 -- a line feed, `threat`, and the vertices of the threat's carrier
 abbrev pub threat_line : ℕ → Threat → List ℕ
-threat_line size t = codes "\nthreat" ++ vertices_of size t.carrier
+threat_line size t = codes "\nthreat" ++ spaced_vertices size t.carrier
 
 -- of a win its cell; of a search whether the board is lost, the allowed cells, and each threat
 abbrev pub mustplay_of : ℕ → Plan → List ℕ
 mustplay_of size (Win cert cell) = codes "win " ++ vertex_of size cell
 mustplay_of size (Search threats allowed lost) = codes "lost " ++ answer_word lost
-    ++ codes "\nallowed" ++ vertices_of size allowed ++ flat_map (threat_line size) threats
+    ++ codes "\nallowed" ++ spaced_vertices size allowed ++ flat_map (threat_line size) threats
 
 -- a text without its last byte
 abbrev pub without_last_byte : List ℕ → List ℕ

@@ -3,9 +3,9 @@
 ghost use Rattle.std.specs.Prelude.{◌≡◌, Bool, false};
 ghost use Rattle.tree_words.specs.declared.settings.Knobs.{Knobs};
 ghost use Rattle.hex_plan.specs.Good.{IsGood};
-ghost use Rattle.hex_plan.specs.Laws.{IsCertified, LosesOutsideThreats, LosesWhereLost};
+ghost use Rattle.hex_plan.specs.Laws.{AreDetermined, IsCertified, LosesOutsideThreats};
+ghost use Rattle.hex_plan.specs.Laws.{LosesWhereLost};
 ghost use Rattle.hex_plan.specs.Reports.{reported_rows, sequential_rows};
-ghost use Rattle.hex_plan.specs.TurnTexts.{texts_of};
 ghost use Rattle.hex_plan.specs.Turns.{Decision};
 
 /// A law, with nothing to run: where the plan of a good turn is a win, its player wins after its
@@ -35,8 +35,5 @@ pub fn lost_boards_lose()
 pub fn one_worker_decides()
     ensures report { (options : Knobs) (t : Decision) → options.workers ≡ 1 →
         IsGood options false t → reported_rows t ≡ sequential_rows t }
-    ensures same { (options : Knobs) (t u : Decision) → options.workers ≡ 1 →
-        IsGood options false t → IsGood options false u →
-        t.board ≡ u.board → t.player ≡ u.player → t.number ≡ u.number →
-        (t.cell ≡ u.cell) × (reported_rows t ≡ reported_rows u) × (texts_of t ≡ texts_of u) }
+    ensures same { (options : Knobs) → options.workers ≡ 1 → AreDetermined options }
 {}

@@ -5,7 +5,7 @@ ghost use Rattle.std.specs.List.{filter, flat_map};
 ghost use Rattle.hex_cells.specs.Sets.{has};
 ghost use Rattle.hex_cells.specs.Vertices.{vertex_of};
 ghost use Rattle.hex_plan.specs.TurnTexts.{answer_word, mustplay_of, spaced_vertex, threat_line};
-ghost use Rattle.hex_plan.specs.TurnTexts.{vertices_of};
+ghost use Rattle.hex_plan.specs.TurnTexts.{spaced_vertices};
 ghost use Rattle.hex_plan.specs.declared.types.Plan.{Plan};
 
 use super::report_texts::push_vertex;
@@ -74,7 +74,7 @@ fn push_threat(text: &mut Vec<u8>, threat: &Threat, size: Size) -> Result<(), Al
 
 // The vertices of the set's cells on the board, in rising order of cells, a space before each.
 fn push_cells(text: &mut Vec<u8>, set: CellSet, size: Size) -> Result<(), AllocError>
-    ensures { OnOk result (text.new.items ≡ text.old.items ++ vertices_of size set) }
+    ensures { OnOk result (text.new.items ≡ text.old.items ++ spaced_vertices size set) }
 {
     'cells: for k in 0..size.cells() {
         push_member(text, Cell::numbered(k), set, size)?;

@@ -2,13 +2,11 @@
 
 ghost use Rattle.std.specs.Prelude.{◌≡◌, ◌*◌, ◌<◌, Bool, None, Some, true, IfSome, option_map};
 ghost use Rattle.std.specs.Option.{ForSome};
-ghost use Rattle.hex_board.specs.Joined.{winner_of};
 ghost use Rattle.hex_board.specs.Positions.{is_empty_at};
-ghost use Rattle.tree_words.specs.declared.settings.Knobs.{Knobs};
 ghost use Rattle.tree_words.specs.Closing.{IsClosed};
 ghost use Rattle.tree_words.specs.Roots.{IsBest};
 ghost use Rattle.tree_words.specs.Settings.{IsSetting};
-ghost use Rattle.hex_plan.specs.Good.{IsGood, IsSequential, IsTurnShape};
+ghost use Rattle.hex_plan.specs.Good.{IsGoodAsPlanned, IsGoodAsSearched};
 ghost use Rattle.hex_plan.specs.Plans.{IsPlanned, IsSearchAmong, IsWin, IsWinBy};
 ghost use Rattle.hex_plan.specs.Turns.{DecidesBy};
 
@@ -97,9 +95,7 @@ impl Turn {
         } }
         ensures cell { IsWinBy planned.plan result.cell }
         ensures empty { is_empty_at board.now result.cell ≡ true }
-        // Where no player is joined, the turn is good.
-        ensures good { (options : Knobs) (hsearch : Bool) → winner_of board.now ≡ None →
-            IsPlanned board.now colour hsearch planned → IsGood options hsearch result }
+        ensures good { IsGoodAsPlanned result board.now colour planned }
     {
         // What each board keeps of itself.
         let _size = board.size();
@@ -131,14 +127,7 @@ impl Turn {
         } }
         ensures best { IsBest closed.shape closed.words result.cell }
         ensures empty { is_empty_at closed.shape.board result.cell ≡ true }
-        // Where no player is joined, the plan is one for this board and player, and the tree's
-        // shape is that of this turn, the turn is good; for one worker the tree has to be that of
-        // Seq.
-        ensures good { (options : Knobs) (hsearch : Bool) → winner_of closed.shape.board ≡ None →
-            IsPlanned closed.shape.board closed.shape.player hsearch planned →
-            IsTurnShape options closed.shape.board closed.shape.player number
-            closed.shape.allowed closed.shape →
-            IsSequential options closed → IsGood options hsearch result }
+        ensures good { IsGoodAsSearched result number planned closed }
     {
         let cell = decided(&closed);
         let shape = closed.shape();

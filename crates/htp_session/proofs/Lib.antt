@@ -2,6 +2,7 @@ pub mod TalkLaws
 pub mod Pieces
 pub mod Given
 pub mod Keeping
+pub mod Ends
 pub mod EndLaws
 pub mod Reactions
 pub mod SupplyLaws
@@ -15,4 +16,3 @@ pub mod Outcomes
 pub mod OneWorkerLoads
 pub mod OneWorkerMoves
 pub mod OneWorker
-pub mod LegalMoves

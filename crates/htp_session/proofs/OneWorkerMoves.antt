@@ -1,12 +1,11 @@
 -- With one worker a request is answered the same whatever good turns are left: those that are next are played and reported alike.
-use Rattle.std.proofs.Common.{◌≡◌, ℕ, ◌+◌, Bool, true, false, cond, List, [], ◌∷◌, ◌++◌, Option, Some, None, Result, Ok, Err, codes, refl, sym, ap, ◌∙◌, subst}
+use Rattle.std.proofs.Common.{◌≡◌, ℕ, ◌+◌, Bool, true, false, cond, List, [], ◌∷◌, Option, Some, None, Result, Ok, Err, refl, sym, ap, ◌∙◌, subst}
 use Rattle.std.specs.Str.{bytes_eq}
-use Rattle.std.proofs.lemmas.Bool.{and_parts, eqb-true, true≢false}
+use Rattle.std.proofs.lemmas.Bool.{and_parts, eqb-true}
 use Rattle.std.proofs.lemmas.Slice.Eq.{bytes_eq-Decides}
 use Rattle.htp_line.specs.declared.request.Request.{Request}
 use Rattle.hex_cells.specs.declared.colours.Colour.{Colour}
 use Rattle.hex_cells.specs.Vertices.{vertex_of}
-use Rattle.hex_board.specs.Positions.{Position}
 use Rattle.hex_cells.proofs.ColourLaws.{same_colour}
 use Rattle.hex_game.specs.Games.{board_of, with_step}
 use Rattle.hex_game.specs.Moves.{step_of}
@@ -23,12 +22,12 @@ use Rattle.hex_engine.specs.EngineState.{EngineState}
 use Rattle.hex_engine.specs.Uses.{AreGood, HasOneWorker, IsGoodFor}
 use Rattle.hex_engine.specs.Replies.{Reaction, Turned, Missing, Done, NoLoad, NoTurn, Failed, unused, unchanged}
 use Rattle.hex_engine.specs.LoadReplies.{loaded, file_named, loading_next, loading_by}
-use Rattle.hex_engine.specs.MoveReplies.{is_board, is_next, turned, moving_next, moving_by, lone_colour}
+use Rattle.hex_engine.specs.MoveReplies.{is_next, turned, moving_next, moving_by, lone_colour}
 use Rattle.hex_engine.specs.Requests.{obeyed, reaction_by, reaction}
 use Rattle.hex_engine.specs.declared.answers.Fail.TheVariants.{Over}
 use Rattle.hex_engine.specs.declared.commands.Command.{Command}
 use Rattle.hex_engine.specs.declared.commands.Command.TheVariants as command
-use Rattle.htp_session.proofs.LegalMoves.{same_board}
+use Rattle.hex_engine.proofs.Legal.{next_board}
 use Rattle.htp_session.proofs.OneWorkerLoads.{SameLoads}
 
 -- ---- one turn
@@ -45,7 +44,7 @@ same_move options at colour t u one g h e f =
     let q = and_parts _ _ f in
     let p' = and_parts _ _ p.1 in
     let q' = and_parts _ _ q.1 in
-    let board : t.board ≡ u.board = same_board t.board (board_of at.game) p.0 ∙ sym (same_board u.board (board_of at.game) q.0) in
+    let board : t.board ≡ u.board = next_board at colour t e ∙ sym (next_board at colour u f) in
     let player : t.player ≡ u.player = same_colour t.player colour p'.0 ∙ sym (same_colour u.player colour q'.0) in
     let number : t.number ≡ u.number = eqb-true t.number at.turns p'.1 ∙ sym (eqb-true u.number at.turns q'.1) in
     let mine = without options t one g in

@@ -26,8 +26,9 @@
 //! answered `quit`. What fails first ends it: a count of faults rose with its own [`Stop`] and is
 //! as before with every other outcome. More at the end of what a talk has to use up changes nothing
 //! of it ([`more_left_is_not_used`]); with one worker it is determined
-//! ([`one_worker_is_determined`], [`one_worker_and_one_shelf_determine`]); and a searched move is
-//! legal where it is played ([`searched_moves_are_legal`]).
+//! ([`one_worker_is_determined`], [`one_worker_and_one_shelf_determine`]); and the move of a good
+//! turn is legal where it is played ([`searched_moves_are_legal`]). A turn that is handed over was
+//! taken before the first byte of its text was given ([`hand_over`]).
 //!
 //! **Only tested, or not said.** That memory suffices: it may always stop for want of memory, which
 //! no clause ties to a refused growth. That after a fault nothing is read or written. That searches

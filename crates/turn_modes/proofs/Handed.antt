@@ -1,5 +1,5 @@
 -- A turn and its text that were handed over, or were not made.
-use Rattle.std.proofs.Common.{◌≡◌, ℕ, List, Option, Some, Ok, Err, Result, refl}
+use Rattle.std.proofs.Common.{◌≡◌, ℕ, List, Ok, Err, Result, refl}
 use Rattle.hex_io.specs.Told.{Same}
 use Rattle.hex_io.proofs.BothLaws.{Both-refl}
 use Rattle.hex_plan.specs.Turns.{Decision}
@@ -8,13 +8,13 @@ use Rattle.htp_session.specs.declared.stops.Stop.{Stop}
 use Rattle.htp_session.specs.declared.stops.Stop.TheVariants.{ReadFault, WriteFault, Memory, TooLong, ArchiveFault}
 use Rattle.turn_modes.specs.HandingIn.{HandsIn}
 
-pub handed : (IsAnswer : Decision → List ℕ → Type 0) (old new : LinkAndArchive) (turn : Decision) (text : List ℕ) (result : Result (Unit {0}) Stop) → IsAnswer turn text → HandsOver old new turn text result → HandsIn IsAnswer old new result
-handed IsAnswer old new turn text (Ok done) a h = (turn, text, a, h)
-handed IsAnswer old new turn text (Err ReadFault) a h = h
-handed IsAnswer old new turn text (Err WriteFault) a h = (turn, text, a, h)
-handed IsAnswer old new turn text (Err Memory) a h = absurd h
-handed IsAnswer old new turn text (Err TooLong) a h = h
-handed IsAnswer old new turn text (Err ArchiveFault) a h = h
+pub handed : (Says : Decision → List ℕ → Type 0) (old new : LinkAndArchive) (turn : Decision) (text : List ℕ) (result : Result (Unit {0}) Stop) → Says turn text → HandsOver old new turn text result → HandsIn Says old new result
+handed Says old new turn text (Ok done) a h = (turn, text, a, h)
+handed Says old new turn text (Err ReadFault) a h = h
+handed Says old new turn text (Err WriteFault) a h = (turn, text, a, h)
+handed Says old new turn text (Err Memory) a h = absurd h
+handed Says old new turn text (Err TooLong) a h = h
+handed Says old new turn text (Err ArchiveFault) a h = h
 
 -- nothing was done
 pub nothing_done : (both : LinkAndArchive) → Same both.0 both.0 × Same both.1 both.1

@@ -14,15 +14,15 @@ use Rattle.turn_modes.specs.declared.options.ModeOptions.{ModeOptions}
 -- same turns and nothing was given. Nothing was read.
 abbrev pub HandsIn : (Decision → List ℕ → Type 0) → LinkAndArchive → LinkAndArchive
     → Result (Unit {0}) Stop → Type 0
-HandsIn IsAnswer old new (Ok done) =
-    (turn : Decision) × (text : List ℕ) × IsAnswer turn text × HandsOver old new turn text (Ok done)
-HandsIn IsAnswer old new (Err ReadFault) = ⊥
-HandsIn IsAnswer old new (Err WriteFault) =
-    (turn : Decision) × (text : List ℕ) × IsAnswer turn text
+HandsIn Says old new (Ok done) =
+    (turn : Decision) × (text : List ℕ) × Says turn text × HandsOver old new turn text (Ok done)
+HandsIn Says old new (Err ReadFault) = ⊥
+HandsIn Says old new (Err WriteFault) =
+    (turn : Decision) × (text : List ℕ) × Says turn text
     × HandsOver old new turn text (Err WriteFault)
-HandsIn IsAnswer old new (Err Memory) = Same old.0 new.0 × Same old.1 new.1
-HandsIn IsAnswer old new (Err TooLong) = ⊥
-HandsIn IsAnswer old new (Err ArchiveFault) = Same old.0 new.0 × Same old.1 new.1
+HandsIn Says old new (Err Memory) = Same old.0 new.0 × Same old.1 new.1
+HandsIn Says old new (Err TooLong) = ⊥
+HandsIn Says old new (Err ArchiveFault) = Same old.0 new.0 × Same old.1 new.1
 
 -- what mode sim did
 abbrev pub IsSimulated : ModeOptions → LinkAndArchive → LinkAndArchive

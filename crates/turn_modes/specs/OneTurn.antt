@@ -1,7 +1,8 @@
 -- The turns and texts of modes sim and bench.
-use Rattle.std.specs.Prelude.{◌≡◌, ℕ, false, List, Some}
+use Rattle.std.specs.Prelude.{◌≡◌, ℕ, false, List, Some, None}
 use Rattle.hex_cells.specs.declared.colours.Colour.{Colour}
 use Rattle.hex_cells.specs.declared.colours.Colour.TheVariants.{Black}
+use Rattle.hex_board.specs.Joined.{winner_of}
 use Rattle.hex_board.specs.Positions.{Position, empty_board}
 use Rattle.play_out.specs.Fills.{empties_of}
 use Rattle.tree_words.specs.Closing.{ClosedTree}
@@ -11,15 +12,19 @@ use Rattle.tree_words.specs.Sequence.{seq_of}
 use Rattle.tree_words.specs.Settings.{Setting}
 use Rattle.tree_words.specs.declared.roots.Row.{Row}
 use Rattle.tree_words.specs.declared.settings.Knobs.{Knobs}
-use Rattle.hex_plan.specs.Good.{IsGood}
+use Rattle.hex_plan.specs.Good.{IsGood, IsSequential, IsTurnShape}
+use Rattle.hex_plan.specs.Plans.{IsPlanned}
 use Rattle.hex_plan.specs.Reports.{rows_in}
 use Rattle.hex_plan.specs.Seeds.{turn_knobs}
 use Rattle.hex_plan.specs.TurnTexts.{report_of}
 use Rattle.hex_plan.specs.Turns.{Decision}
+use Rattle.hex_plan.specs.declared.plans.Planned.{Planned}
+use Rattle.sim_run.specs.Standing.{EndsSchedule}
 use Rattle.turn_modes.specs.ModeTexts.{sim_text, report_by, bench_text}
-use Rattle.turn_modes.specs.Positions.{board_on, mover_after, shuffled_cells, stones_on}
+use Rattle.turn_modes.specs.Positions.{board_on, mover_after, shuffled_cells, placed_count}
 use Rattle.turn_modes.specs.Records.{records_in}
 use Rattle.turn_modes.specs.Rows.{best_cell}
+use Rattle.turn_modes.specs.Schedules.{schedule_of}
 use Rattle.turn_modes.specs.declared.options.ModeOptions.{ModeOptions}
 
 -- ---- the turn
@@ -32,6 +37,13 @@ pub record IsFirstTurn (knobs : Knobs) (now : Position) (mover : Colour)
   pub number : t.number ≡ 0
   pub board : t.board ≡ now
   pub player : t.player ≡ mover
+
+-- the turn is a first turn wherever its plan and tree are those of one
+abbrev pub MakesFirstTurn : Planned → ClosedTree → Decision → Type 0
+MakesFirstTurn planned tree t = (knobs : Knobs) (now : Position) (mover : Colour)
+    → winner_of now ≡ None → IsPlanned now mover false planned
+    → IsTurnShape knobs now mover 0 tree.shape.allowed tree.shape → IsSequential knobs tree
+    → IsFirstTurn knobs now mover t
 
 -- what is searched for that turn: all empty cells are allowed
 abbrev pub first_setting : Knobs → Position → Colour → Setting
@@ -52,14 +64,21 @@ first_rows knobs now mover = rows_in (seq_of (first_setting knobs now mover)).0
 abbrev pub IsSimTurn : ModeOptions → Decision → Type 0
 IsSimTurn o = IsFirstTurn o.knobs (empty_board o.size) Black
 
+-- its tree is that of the schedule
+abbrev pub FollowsSchedule : ModeOptions → Decision → Type 0
+FollowsSchedule o t = (tree : ClosedTree) × (t.closed ≡ Some tree) × EndsSchedule tree.shape
+    (schedule_of o.knobs.workers o.knobs.seed o.steps) tree.words
+
 -- the text that mode sim gives with one worker
 abbrev pub sequential_sim_text : ModeOptions → List ℕ
 sequential_sim_text o = let rows = first_rows o.knobs (empty_board o.size) Black in
     sim_text o.size (best_cell rows) (report_by o.size o.knobs.playouts rows)
 
--- the text is that of the turn of mode sim; with one worker the options determine it
+-- the turn is that of mode sim and its schedule, and the text is that of the turn; with one worker
+-- the options determine it
 pub record IsSimulation (o : ModeOptions) (t : Decision) (text : List ℕ) : Type 0 where
   pub turn : IsSimTurn o t
+  pub scheduled : FollowsSchedule o t
   pub says : (report : List ℕ) × (report_of t ≡ Some report)
       × (text ≡ sim_text o.size t.cell report)
   pub one : o.knobs.workers ≡ 1 → text ≡ sequential_sim_text o
@@ -68,7 +87,7 @@ pub record IsSimulation (o : ModeOptions) (t : Decision) (text : List ℕ) : Typ
 
 -- how many stones the position of mode bench has, its board, and the player to move
 abbrev pub bench_stones : ModeOptions → ℕ
-bench_stones o = stones_on o.size (shuffled_cells o.size o.knobs.seed)
+bench_stones o = placed_count o.size (shuffled_cells o.size o.knobs.seed)
 
 abbrev pub bench_board : ModeOptions → Position
 bench_board o = board_on o.size (shuffled_cells o.size o.knobs.seed) (bench_stones o)

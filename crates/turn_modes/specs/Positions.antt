@@ -31,13 +31,13 @@ abbrev pub most_stones : ℕ → ℕ
 most_stones size = size * size / 3
 
 -- how many stones are placed, of the most: all before the first that joins its player
-unfoldable pub stones_on : ℕ → List ℕ → ℕ
-stones_on size cells = prefix_len (λ m. is_open (board_on size cells (m + 1)))
+unfoldable pub placed_count : ℕ → List ℕ → ℕ
+placed_count size cells = prefix_len (λ m. is_open (board_on size cells (m + 1)))
     (range_with_len 0 (most_stones size))
 
 -- the position after stones on the longest such front of these cells
 pub record IsPlacedOn (size : ℕ) (cells : List ℕ) (p : BenchPosition) : Type 0 where
-  pub stones : p.stones ≡ stones_on size cells
+  pub stones : p.stones ≡ placed_count size cells
   pub board : p.board ≡ board_on size cells p.stones
   pub colour : p.colour ≡ mover_after p.stones
 

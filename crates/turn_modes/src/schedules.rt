@@ -20,12 +20,7 @@ fn worker_of(word: u64, workers: u32) -> u8
 
 /// A schedule of so many steps for so many workers: a worker for each of the first words of the
 /// generator that is made from the seed.
-pub fn schedule(
-    alloc: Global,
-    workers: u32,
-    seed: u64,
-    steps: u32,
-) -> Result<Vec<u8>, AllocError>
+pub fn schedule(alloc: Global, workers: u32, seed: u64, steps: u32) -> Result<Vec<u8>, AllocError>
     requires some { 0 < workers }
     requires few { workers ≤ MOST_WORKERS }
     ensures value { IfOk result (λ list. list.items ≡ schedule_of workers seed steps) }

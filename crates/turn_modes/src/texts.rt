@@ -2,13 +2,11 @@
 
 ghost use Rattle.std.specs.Prelude.{◌≡◌, ◌*◌, ◌<◌, ◌++◌, IfOk, OnOk, IsSome, codes};
 ghost use Rattle.std.specs.Fmt.{decimal};
-ghost use Rattle.std.specs.Option.{ForSome};
 ghost use Rattle.hex_cells.specs.Vertices.{vertex_of};
 ghost use Rattle.tree_words.specs.Roots.{rows_of};
-ghost use Rattle.hex_plan.specs.TurnTexts.{report_of};
-ghost use Rattle.turn_modes.specs.ModeTexts.{bench_text, best_line, number_line, sim_text};
-ghost use Rattle.turn_modes.specs.Records.{records_in};
+ghost use Rattle.turn_modes.specs.ModeTexts.{best_line, number_line};
 ghost use Rattle.turn_modes.specs.Rows.{visits_of};
+ghost use Rattle.turn_modes.specs.Telling.{TellsBench, TellsSim};
 
 use super::records::count_records;
 use hex_cells::{Cell, Size, VERTEX_LEN, write_vertex};
@@ -58,8 +56,7 @@ fn visits_of(rows: &[Row], cell: Cell) -> u32
 /// The text of mode sim for a turn with a tree: its cell, and the report of its tree.
 pub fn sim_text(alloc: Global, turn: &Turn) -> Result<Vec<u8>, AllocError>
     requires { IsSome turn.now.closed }
-    ensures { IfOk result (λ text. ForSome (report_of turn.now)
-        (λ report. text.items ≡ sim_text turn.now.board.size turn.now.cell report)) }
+    ensures { IfOk result (λ text. TellsSim turn.now text.items) }
 {
     let texts = turn_texts(alloc, turn)?;
     let Some(report) = texts.report() else {
@@ -82,9 +79,7 @@ pub fn bench_text(
     turn: &Turn,
 ) -> Result<Vec<u8>, AllocError>
     requires { IsSome turn.now.closed }
-    ensures { IfOk result (λ text. ForSome turn.now.closed (λ tree. text.items
-        ≡ bench_text turn.now.board.size stones knobs.now (records_in tree)
-            (rows_of tree.shape tree.words) turn.now.cell)) }
+    ensures { IfOk result (λ text. TellsBench knobs.now stones turn.now text.items) }
 {
     let Some(closed) = turn.closed() else {
         unreachable!();

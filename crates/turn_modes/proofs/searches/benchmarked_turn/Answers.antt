@@ -9,6 +9,6 @@ returns g c =
     let player = c.args.position.now.colour in
     let s = c.in_ok-prepared.prepared.shape in
     let same : c.in-Ok.closed.shape ≡ s = c.in-Ok.ensures.shape in
-    c.decide.ensures knobs board player c.requires.nobody c.in_ok-prepared.ensures.planned
+    c.decide.ensures.first knobs board player c.requires.nobody c.in_ok-prepared.ensures.planned
     (shape_of_tree knobs board player s c.in-Ok.closed same c.in_ok-prepared.ensures.shape)
     (sequential_tree knobs board player s c.in-Ok.closed same c.in_ok-prepared.ensures.shape c.in-Ok.ensures.one)

@@ -1,13 +1,14 @@
 //! A table of command lines, with the name that each says for the traces. In a line one space
 //! stands between two words.
 
+use super::runs::words_of;
 use crate::trace_name;
-use hex_io::Word;
-use std::alloc::{AllocError, Global};
 use std::test::Fail;
 
 /// Lines that ask for traces, and those that do not or are refused, with an empty name.
-const LINES: [(&str, &str); 7] = [
+const LINES: [(&str, &str); 9] = [
+    ("bench --trace t", "t"),
+    ("bench", ""),
     ("htp --trace t", "t"),
     ("--trace=a=b htp --size 5", "a=b"),
     ("htp", ""),
@@ -16,14 +17,6 @@ const LINES: [(&str, &str); 7] = [
     ("--trace t", ""),
     ("htp --trace t --trace t", ""),
 ];
-
-fn words_of(alloc: Global, line: &str) -> Result<Vec<Word>, AllocError> {
-    let mut words = Vec::new(alloc);
-    for word in line.split(' ') {
-        words.push(Word::of(String::from_str(alloc, word)?))?;
-    }
-    Ok(words)
-}
 
 #[test]
 fn trace_names(rt: HostRuntime) -> Result<(), Fail> {
