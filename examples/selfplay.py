@@ -43,7 +43,7 @@ def stones_of(picture):
 
 
 def fault_of(certificate, size, stones, colour):
-    """What is wrong with a certificate, or None: it has to be of this board and player, and a second process accepts it."""
+    """What is wrong with a certificate, if anything: its board or player, or that a second process refuses it."""
     head = ["hexcert 1", f"size {size}", f"player {colour}"]
     head += [" ".join([name, *cells]) for name, cells in zip(COLOURS, stones)]
     if certificate.splitlines()[: len(head)] != head:
