@@ -4,12 +4,12 @@ ghost use Rattle.std.specs.Prelude.{None};
 
 use super::shelves::{FILE_LIMIT, Shelf, ShelfError};
 use std::alloc::Global;
-use std::fs::File;
-use std::io::{self, Read};
+use std::fs::{self, File};
+use std::io::{self, ErrorKind, Read};
 use std::rt::HostRuntime;
 
-/// The files of the system, by path: one that doesn't exist is missing, and any other failure to
-/// open or read is a counted fault.
+/// The files of the system, by path: one that doesn't exist is missing. What is no regular file is a
+/// counted fault, and so is any other failure to open or read.
 #[derive(Drop)]
 pub struct DirShelf<'a> {
     rt: &'a HostRuntime,
@@ -38,17 +38,38 @@ impl<'a> Shelf for DirShelf<'a> {
 }
 
 /// Reads the file of that path, no further than one byte past the limit.
+///
+/// It opens regular files alone: a pipe or a terminal could keep the call waiting for good, or lend
+/// it the very commands that are to come.
 fn read_file(rt: &HostRuntime, alloc: Global, path: &str) -> Result<Option<Vec<u8>>, ShelfError> {
-    let file = match File::open(rt, path) {
-        Err(error) if error.kind() == io::ErrorKind::NotFound => return Ok(None),
-        Err(_) => return Err(ShelfError::Fault),
-        Ok(file) => file,
+    let file = match regular_file(rt, path) {
+        Err(error) if is_missing(error.kind()) => return Ok(None),
+        Err(_) | Ok(None) => return Err(ShelfError::Fault),
+        Ok(Some(file)) => file,
     };
     let mut content = Vec::new(alloc);
     match file.take(FILE_LIMIT as u64 + 1).read_to_end(&mut content) {
-        Err(error) if error.kind() == io::ErrorKind::OutOfMemory => Err(ShelfError::Memory),
+        Err(error) if error.kind() == ErrorKind::OutOfMemory => Err(ShelfError::Memory),
         Err(_) => Err(ShelfError::Fault),
         Ok(_) if content.len() > FILE_LIMIT => Err(ShelfError::TooLong),
         Ok(_) => Ok(Some(content)),
     }
+}
+
+/// Opens the file of that path; `None` where it is there, and no regular file.
+fn regular_file(rt: &HostRuntime, path: &str) -> io::Result<Option<File>> {
+    if fs::metadata(rt, path)?.is_file() {
+        Ok(Some(File::open(rt, path)?))
+    } else {
+        Ok(None)
+    }
+}
+
+/// Whether a path that failed so names nothing: nothing is there, a part before its end is no
+/// directory, or it is longer than a name may be.
+fn is_missing(kind: ErrorKind) -> bool {
+    matches!(
+        kind,
+        ErrorKind::NotFound | ErrorKind::NotADirectory | ErrorKind::InvalidFilename
+    )
 }

@@ -143,18 +143,17 @@ fn a_written_file_is_fetched(rt: HostRuntime) -> Result<(), Fail> {
     Ok(())
 }
 
-// A path without a file, a directory, a device that never ends, and one that is empty.
+// Paths without a file, and what is there and no regular file: a directory, a device that never
+// ends, one that is empty, and one that keeps its reader waiting.
 #[test]
 fn the_system_has_files(rt: HostRuntime) {
     let mut shelf = DirShelf::new(&rt);
-    assert!(rt; shelf.fetch(rt.alloc(), "no such file") == Ok(None));
-    assert!(rt; shelf.fetch(rt.alloc(), "/") == Err(ShelfError::Fault));
-    let zeros = shelf.fetch(rt.alloc(), "/dev/zero").map(|_| ());
-    assert!(rt; zeros == Err(ShelfError::TooLong));
-    let nothing = shelf
-        .fetch(rt.alloc(), "/dev/null")
-        .map(|found| found.map(|bytes| bytes.len()));
-    assert!(rt; nothing == Ok(Some(0)));
+    for name in ["no such file", "/dev/null/file", "no such folder/file"] {
+        assert!(rt; shelf.fetch(rt.alloc(), name) == Ok(None));
+    }
+    for name in ["/", "/dev/zero", "/dev/null", "/dev/ptmx"] {
+        assert!(rt; shelf.fetch(rt.alloc(), name) == Err(ShelfError::Fault));
+    }
 }
 
 // A file is written from its start, over what stood there, and gives nothing to read.
