@@ -28,7 +28,7 @@ TOP = Path(__file__).resolve().parent.parent
 PROGRAM = TOP / "examples" / "refused_memory" / "program.txt"
 NAME = "refused_memory"
 # The number of the allocation that is refused. The program's MOST is above it.
-REFUSED = 20000
+REFUSED = 2000
 
 RECORD = r"(;FF[4]GM[11]SZ[3]AP[Editor:0.9]C[a\]b];B[a2];W[swap-pieces];B[c3])"
 V1 = (TOP / "examples" / "certificates" / "v1.cert").read_text()

@@ -11,11 +11,7 @@ use Rattle.htp_session.specs.Inputs.{TextOf, TookBytes, TookAtMost, TookTooMany,
 use Rattle.htp_session.specs.declared.stops.Stop.{Stop}
 use Rattle.htp_session.specs.declared.stops.Stop.TheVariants.{ReadFault, WriteFault, Memory, TooLong, ArchiveFault}
 use Rattle.htp_session.proofs.InputLaws.{took_at_most, took_nothing}
-use Rattle.hexd_words.specs.declared.settings.Mode.TheVariants as modes
-use Rattle.hex_cli.specs.Inputs.{mode_of}
-use Rattle.hex_cli.specs.declared.inputs.InputMode.{InputMode}
-use Rattle.hex_cli.specs.declared.inputs.InputMode.TheVariants.{Check, Migrate, Audit}
-use Rattle.hex_cli.specs.Statuses.{end_of_answer, status_of}
+use Rattle.hex_cli.specs.Statuses.{end_of_answer, status_of, stop_in}
 use Rattle.hex_cli.specs.declared.ends.End.{End}
 use Rattle.hex_cli.specs.declared.ends.End.TheVariants.{Done, Rejected, Usage, Stopped}
 
@@ -57,66 +53,17 @@ input_complete Answers limit x y (Err Memory) told r w = Both-weaker x y _ _ (λ
 input_complete Answers limit x y (Err TooLong) told r w = Both-weaker x y _ _ (λ o n p few. absurd (omega (arith, subst (λ (l : List ℕ). length l ≤ limit) (taken_since o n p.0 p.2.taken) few, p.1))) told
 input_complete Answers limit x y (Err ArchiveFault) told r w = absurd told
 
--- such a mode never ends with a usage, or by the archive
-pub input_no_usage : (Answers : TextOf) (limit : ℕ) (x y : Option Told) (answer : Result Bool Stop) → AnswersInput Answers x y limit answer → end_of_answer answer ≢ Usage
-input_no_usage Answers limit x y (Ok true) told e = absurd (cc)
-input_no_usage Answers limit x y (Ok false) told e = absurd (cc)
-input_no_usage Answers limit x y (Err stop) told e = absurd (cc)
+-- such a mode never ends with a usage
+pub input_no_usage : (answer : Result Bool Stop) → end_of_answer answer ≢ Usage
+input_no_usage (Ok true) e = absurd (cc)
+input_no_usage (Ok false) e = absurd (cc)
+input_no_usage (Err stop) e = absurd (cc)
 
-pub input_no_archive : (Answers : TextOf) (limit : ℕ) (x y : Option Told) (answer : Result Bool Stop) → AnswersInput Answers x y limit answer → end_of_answer answer ≢ Stopped ArchiveFault
-input_no_archive Answers limit x y (Ok true) told e = absurd (cc)
-input_no_archive Answers limit x y (Ok false) told e = absurd (cc)
-input_no_archive Answers limit x y (Err ReadFault) told e = absurd (cc)
-input_no_archive Answers limit x y (Err WriteFault) told e = absurd (cc)
-input_no_archive Answers limit x y (Err Memory) told e = absurd (cc)
-input_no_archive Answers limit x y (Err TooLong) told e = absurd (cc)
-input_no_archive Answers limit x y (Err ArchiveFault) told e = absurd told
-
-stop_in : End → Option Stop
-stop_in Done = None
-stop_in Rejected = None
-stop_in Usage = None
-stop_in (Stopped stop) = Some stop
-
-stop_in_answer : (answer : Result Bool Stop) → stop_in (end_of_answer answer) ≡ stop_of answer
-unfolding stop_in
+-- why its answer stopped is why its run did
+pub stop_in_answer : (answer : Result Bool Stop) → stop_in (end_of_answer answer) ≡ stop_of answer
 stop_in_answer (Ok true) = refl
 stop_in_answer (Ok false) = refl
 stop_in_answer (Err stop) = refl
-
-end_of_stop : (answer : Result Bool Stop) (stop : Stop) → stop_of answer ≡ Some stop → end_of_answer answer ≡ Stopped stop
-end_of_stop (Ok true) stop e = absurd (cc)
-end_of_stop (Ok false) stop e = absurd (cc)
-end_of_stop (Err other) stop e = cc
-
-stopped_so : (answer : Result Bool Stop) (stop : Stop) → end_of_answer answer ≡ Stopped stop → stop_of answer ≡ Some stop
-unfolding stop_in
-stopped_so answer stop e = sym (stop_in_answer answer) ∙ ap stop_in e
-
--- a count that rises with one answer rises with its end
-pub answer_counts : (before now : ℕ) (answer : Result Bool Stop) (stop : Stop) (end : End) → end ≡ end_of_answer answer → CountsFault before now (stop_of answer ≡ Some stop) → CountsFault before now (end ≡ Stopped stop)
-answer_counts before now answer stop end e c = record {
-  later = c.later;
-  rose = λ s. c.rose (stopped_so answer stop (sym e ∙ s));
-  kept = λ n. c.kept (λ s. n (e ∙ end_of_stop answer stop s));
-}
-
--- no such mode is htp, and each has its own
-pub not_htp : (mode : InputMode) → mode_of mode ≢ modes.Htp
-not_htp Check e = absurd (cc)
-not_htp Migrate e = absurd (cc)
-not_htp Audit e = absurd (cc)
-
-pub same_mode : (a b : InputMode) → mode_of a ≡ mode_of b → a ≡ b
-same_mode Check Check e = refl
-same_mode Check Migrate e = absurd (cc)
-same_mode Check Audit e = absurd (cc)
-same_mode Migrate Check e = absurd (cc)
-same_mode Migrate Migrate e = refl
-same_mode Migrate Audit e = absurd (cc)
-same_mode Audit Check e = absurd (cc)
-same_mode Audit Migrate e = absurd (cc)
-same_mode Audit Audit e = refl
 
 -- before the first read nothing was taken
 pub input_nothing : (Answers : TextOf) (limit : ℕ) (x : Option Told) → AnswersInput Answers x x limit (Err Memory)

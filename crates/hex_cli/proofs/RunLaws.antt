@@ -11,15 +11,9 @@ use Rattle.htp_session.specs.Stocks.{ShelfAndArchive}
 use Rattle.htp_session.specs.Endings.{Outcome, Conversed, since}
 use Rattle.htp_session.specs.declared.stops.Stop.{Stop}
 use Rattle.htp_session.specs.declared.stops.Stop.TheVariants.{ReadFault, WriteFault, Memory, TooLong, ArchiveFault}
-use Rattle.hex_cli.specs.Statuses.{end_for, status_of}
+use Rattle.hex_cli.specs.Statuses.{HasStopped, end_for, status_of, stop_in}
 use Rattle.hex_cli.specs.Modes.{PlayedTo}
 use Rattle.htp_session.specs.Devices.{stop_of}
-use Rattle.hexd_words.specs.declared.settings.Mode.{Mode}
-use Rattle.hexd_words.specs.declared.settings.Mode.TheVariants.{Htp}
-use Rattle.hexd_words.specs.declared.settings.Mode.TheVariants as modes
-use Rattle.hex_cli.specs.Inputs.{mode_of}
-use Rattle.hex_cli.specs.declared.inputs.InputMode.{InputMode}
-use Rattle.hex_cli.specs.declared.inputs.InputMode.TheVariants.{Check, Migrate, Audit}
 use Rattle.hex_cli.specs.declared.ends.End.{End}
 use Rattle.hex_cli.specs.declared.ends.End.TheVariants.{Done, Rejected, Usage, Stopped}
 
@@ -41,12 +35,18 @@ end_of_status (Stopped ArchiveFault) = refl
 pub same_end : (a b : End) → status_of a ≡ status_of b → a ≡ b
 same_end a b e = sym (end_of_status a) ∙ ap end_numbered e ∙ end_of_status b
 
--- a count that rises with one end rises with its status
-pub status_counts : (before now : ℕ) (end other : End) (status : ℕ) → status ≡ status_of end → CountsFault before now (end ≡ other) → CountsFault before now (status ≡ status_of other)
-status_counts before now end other status e c = record {
+stopped_by : (end : End) (stop : Stop) → stop_in end ≡ Some stop → end ≡ Stopped stop
+stopped_by Done stop e = absurd (cc)
+stopped_by Rejected stop e = absurd (cc)
+stopped_by Usage stop e = absurd (cc)
+stopped_by (Stopped other) stop e = cc
+
+-- a count that rises with one stop rises with its status
+pub status_counts : (before now : ℕ) (end : End) (stop : Stop) (status : ℕ) → status ≡ status_of end → CountsFault before now (stop_in end ≡ Some stop) → CountsFault before now (HasStopped status stop)
+status_counts before now end stop status e c = record {
   later = c.later;
-  rose = λ s. c.rose (same_end end other (sym e ∙ s));
-  kept = λ n. c.kept (λ s. n (e ∙ ap status_of s));
+  rose = λ s. c.rose (ap stop_in (same_end end (Stopped stop) (sym e ∙ s)));
+  kept = λ n. c.kept (λ s. n (e ∙ ap status_of (stopped_by end stop s)));
 }
 
 -- without a fault and within the limit a session is done, or memory ran out
@@ -84,41 +84,7 @@ no_usage Rejected options size limit a b x y p e = absurd p
 no_usage Usage options size limit a b x y p e = absurd p
 no_usage (Stopped stop) options size limit a b x y p e = absurd (cc)
 
-stop_in : End → Option Stop
-stop_in Done = None
-stop_in Rejected = None
-stop_in Usage = None
-stop_in (Stopped stop) = Some stop
-
-stop_in_end : (outcome : Outcome) → stop_in (end_for outcome) ≡ stop_of outcome
-unfolding stop_in
+-- why a session stopped is why its run did
+pub stop_in_end : (outcome : Outcome) → stop_in (end_for outcome) ≡ stop_of outcome
 stop_in_end (Ok done) = refl
 stop_in_end (Err stop) = refl
-
-end_of_stop : (outcome : Outcome) (stop : Stop) → stop_of outcome ≡ Some stop → end_for outcome ≡ Stopped stop
-end_of_stop (Ok done) stop e = absurd (cc)
-end_of_stop (Err other) stop e = cc
-
-stopped_so : (outcome : Outcome) (stop : Stop) → end_for outcome ≡ Stopped stop → stop_of outcome ≡ Some stop
-unfolding stop_in
-stopped_so outcome stop e = sym (stop_in_end outcome) ∙ ap stop_in e
-
--- a count that rises with one outcome rises with its end
-pub end_counts : (before now : ℕ) (outcome : Outcome) (stop : Stop) (end : End) → end ≡ end_for outcome → CountsFault before now (stop_of outcome ≡ Some stop) → CountsFault before now (end ≡ Stopped stop)
-end_counts before now outcome stop end e c = record {
-  later = c.later;
-  rose = λ s. c.rose (stopped_so outcome stop (sym e ∙ s));
-  kept = λ n. c.kept (λ s. n (e ∙ end_of_stop outcome stop s));
-}
-
--- what a conversation left, told of what its link, shelf and archive tell now
-pub left_so : (outcome : Outcome) (options : Options) (size limit : ℕ) (a : ShelfAndArchive) (x : Option Told) (link link' : Option Told) (shelf shelf' : Option Shelved) (turns turns' : Option (List Decision))
-    → link ≡ link' → shelf ≡ shelf' → turns ≡ turns' → Conversed outcome options size limit a (shelf, turns) x link → Conversed outcome options size limit a (shelf', turns') x link'
-left_so outcome options size limit a x link link' shelf shelf' turns turns' e f h c = rw (← e, ← f, ← h) c
-
--- each mode is htp, or one that takes its whole input
-pub by_mode : (mode : Mode) → (mode ≡ Htp) ⊎ ((input : InputMode) × (mode ≡ mode_of input))
-by_mode Htp = inl refl
-by_mode modes.Check = inr (Check, refl)
-by_mode modes.Migrate = inr (Migrate, refl)
-by_mode modes.Audit = inr (Audit, refl)

@@ -1,36 +1,44 @@
 -- What a run does in each of its modes, by its end.
-use Rattle.std.specs.Prelude.{◌≡◌, ℕ, Bool, false, Result, Ok, Err}
+use Rattle.std.specs.Prelude.{◌≡◌, ℕ, Bool, List, Result, Ok, Err}
 use Rattle.std.specs.declared.option.Option.{Option}
 use Rattle.hex_io.specs.Told.{Told}
-use Rattle.hex_io.specs.declared.links.Link as links
-use Rattle.hex_io.specs.declared.shelves.Shelf as shelves
-use Rattle.hex_plan.specs.declared.archives.Archive as archives
+use Rattle.tree_words.specs.declared.settings.Knobs.{Knobs}
 use Rattle.hexd_words.specs.declared.settings.Options.{Options}
 use Rattle.hex_engine.specs.declared.options.Options as engine
 use Rattle.htp_session.specs.Stocks.{ShelfAndArchive}
-use Rattle.htp_session.specs.Endings.{Conversed}
+use Rattle.hex_plan.specs.Turns.{Decision}
+use Rattle.htp_session.specs.Endings.{Conversed, Outcome}
+use Rattle.htp_session.specs.Handing.{LinkAndArchive}
 use Rattle.htp_session.specs.Inputs.{AnswersInput, TextOf}
 use Rattle.htp_session.specs.declared.stops.Stop.{Stop}
-use Rattle.hex_cli.specs.Statuses.{end_of_answer}
+use Rattle.turn_modes.specs.HandingIn.{HandsIn}
+use Rattle.turn_modes.specs.declared.options.ModeOptions.{ModeOptions}
+use Rattle.hex_cli.specs.Statuses.{end_for, end_of_answer}
 use Rattle.hex_cli.specs.declared.ends.End.{End}
 use Rattle.hex_cli.specs.declared.ends.End.TheVariants.{Done, Rejected, Usage, Stopped}
 use Rattle.hex_cli.specs.declared.limits.TheConstants.{INPUT_LIMIT}
 
--- the engine's options; no connections are looked for yet, whatever the words say
-abbrev pub engine_options : Options → engine.Options
-engine_options o = record {
-  knobs = record {
-    workers = o.workers;
-    playouts = o.playouts;
-    seed = o.seed;
-    words = o.words;
-    expand = o.expand;
-    weight = o.weight;
-  };
-  hsearch = false;
+-- the knobs of a search
+abbrev pub knobs_of : Options → Knobs
+knobs_of o = record {
+  workers = o.workers;
+  playouts = o.playouts;
+  seed = o.seed;
+  words = o.words;
+  expand = o.expand;
+  weight = o.weight;
 }
 
--- what stands where a session ends a run so: it is never rejected, and never ends with a usage
+-- the engine's options
+abbrev pub engine_options : Options → engine.Options
+engine_options o = record { knobs = knobs_of o; hsearch = o.hsearch }
+
+-- what the modes sim and bench are told
+abbrev pub mode_options : Options → ModeOptions
+mode_options o = record { size = o.size; knobs = knobs_of o; steps = o.steps }
+
+-- What stands where a session of these options, of at most so many bytes, ends a run so: it is
+-- never rejected, and never ends with a usage.
 abbrev pub PlayedTo : End → engine.Options → ℕ → ℕ → ShelfAndArchive → ShelfAndArchive
     → Option Told → Option Told → Type 0
 PlayedTo Done options size limit old new link link_now =
@@ -40,15 +48,13 @@ PlayedTo Usage options size limit old new link link_now = ⊥
 PlayedTo (Stopped stop) options size limit old new link link_now =
     Conversed (Err stop) options size limit old new link link_now
 
--- Mode htp. The session of these options, of at most INPUT_LIMIT bytes, came to this end; it was
--- held over a link, a shelf and an archive.
-abbrev pub PlaysTo : {L F A : Type 0} → links.Ghosts L → shelves.Ghosts F → archives.Ghosts A
-    → Options → End → L × F × A → L × F × A → Type 0
-PlaysTo l f a options end old new =
-    PlayedTo end (engine_options options) options.size INPUT_LIMIT
-    (f.told old.1, a.told old.2) (f.told new.1, a.told new.2) (l.told old.0) (l.told new.0)
+-- The whole input, of at most INPUT_LIMIT bytes, was answered by such texts, to this end.
+abbrev pub AnsweredTo : TextOf → End → Option Told → Option Told → Type 0
+AnsweredTo Answers end old new = (answer : Result Bool Stop) × (end ≡ end_of_answer answer)
+    × AnswersInput Answers old new INPUT_LIMIT answer
 
--- A mode that answers its whole input, of at most INPUT_LIMIT bytes, by such texts came to this end.
-abbrev pub AnswersTo : {L : Type 0} → links.Ghosts L → TextOf → End → L → L → Type 0
-AnswersTo l Answers end old new = (answer : Result Bool Stop) × (end ≡ end_of_answer answer)
-    × AnswersInput Answers (l.told old) (l.told new) INPUT_LIMIT answer
+-- A turn with its text was handed in, to this end: the archive took the turn, and then the text was
+-- given.
+abbrev pub HandedInTo : (Decision → List ℕ → Type 0) → End → LinkAndArchive → LinkAndArchive → Type 0
+HandedInTo IsAnswer end old new = (outcome : Outcome) × (end ≡ end_for outcome)
+    × HandsIn IsAnswer old new outcome

@@ -1,22 +1,23 @@
 -- What a run does, told of its words, its status, and its link, shelf and archive before and after.
-use Rattle.std.specs.Prelude.{◌≡◌, ◌≢◌, ◌+◌, ◌≤◌, ◌⊎◌, ◌↔◌, ℕ, List, length}
-use Rattle.hex_io.specs.Told.{Both, Same}
+use Rattle.std.specs.Prelude.{◌≡◌, ◌≢◌, ◌+◌, ◌≤◌, ◌⊎◌, ◌↔◌, ℕ, Bool, true, false, List, length}
+use Rattle.hex_io.specs.Told.{Both}
 use Rattle.hex_io.specs.Causes.{CountsFault, Rose}
 use Rattle.hex_io.specs.Reported.{Reported}
 use Rattle.hex_io.specs.declared.links.Link as links
 use Rattle.hex_io.specs.declared.shelves.Shelf as shelves
+use Rattle.hex_plan.specs.Turns.{Decision}
 use Rattle.hex_plan.specs.declared.archives.Archive as archives
+use Rattle.turn_modes.specs.declared.options.ModeOptions.{ModeOptions}
 use Rattle.hexd_words.specs.Reading.{WellFormed}
 use Rattle.hexd_words.specs.declared.settings.Options.{Options}
 use Rattle.hexd_words.specs.declared.settings.Mode.{Mode}
-use Rattle.hexd_words.specs.declared.settings.Mode.TheVariants.{Htp}
+use Rattle.hexd_words.specs.declared.settings.Mode.TheVariants.{Htp, Check, Migrate, Audit}
 use Rattle.htp_session.specs.Endings.{since}
+use Rattle.htp_session.specs.Inputs.{TextOf}
 use Rattle.htp_session.specs.declared.stops.Stop.TheVariants.{Memory, TooLong}
 use Rattle.hex_cli.specs.Determined.{IsDetermined}
 use Rattle.hex_cli.specs.Headline.{Headline}
-use Rattle.hex_cli.specs.Modes.{AnswersTo, PlaysTo, engine_options}
-use Rattle.hex_cli.specs.Inputs.{IsTextOf, mode_of}
-use Rattle.hex_cli.specs.declared.inputs.InputMode.{InputMode}
+use Rattle.hex_cli.specs.Modes.{AnsweredTo, HandedInTo, PlayedTo, engine_options, mode_options}
 use Rattle.hex_cli.specs.Statuses.{status_of, error_line}
 use Rattle.hex_cli.specs.declared.ends.End.{End}
 use Rattle.hex_cli.specs.declared.ends.End.TheVariants.{Done, Rejected, Usage, Stopped}
@@ -32,6 +33,18 @@ AreWellFormed words = (options : Options) × WellFormed words options
 abbrev pub AreRefused : List (List ℕ) → Type 0
 AreRefused words = (options : Options) → ¬ WellFormed words options
 
+-- the modes that may fetch files
+abbrev pub may_fetch : Mode → Bool
+may_fetch Htp = true
+may_fetch _ = false
+
+-- the modes that may hand over turns
+abbrev pub may_archive : Mode → Bool
+may_archive Check = false
+may_archive Migrate = false
+may_archive Audit = false
+may_archive _ = true
+
 -- whatever options make the words well formed in this mode, this holds
 abbrev pub InMode : Mode → List (List ℕ) → (Options → Type 0) → Type 0
 InMode mode words Holds =
@@ -39,18 +52,19 @@ InMode mode words Holds =
 
 -- the link was not read or written: it tells the same and has counted no fault
 pub record Untouched {L : Type 0} (l : links.Ghosts L) (old new : L) : Type 0 where
-  pub told : Same (l.told old) (l.told new)
+  pub told : l.told new ≡ l.told old
   pub reads : l.read_faults new ≡ l.read_faults old
   pub writes : l.write_faults new ≡ l.write_faults old
 
--- nothing was fetched from the shelf and nothing handed to the archive: they tell the same and have
--- counted no fault
-pub record Idle {F A : Type 0} (f : shelves.Ghosts F) (a : archives.Ghosts A)
-    (files files_now : F) (turns turns_now : A) : Type 0 where
-  pub shelf : Same (f.told files) (f.told files_now)
-  pub faults : f.faults files_now ≡ f.faults files
-  pub archive : Same (a.told turns) (a.told turns_now)
-  pub refusals : a.faults turns_now ≡ a.faults turns
+-- nothing was fetched from the shelf: it tells the same and has counted no fault
+pub record Unfetched {F : Type 0} (f : shelves.Ghosts F) (old new : F) : Type 0 where
+  pub told : f.told new ≡ f.told old
+  pub faults : f.faults new ≡ f.faults old
+
+-- nothing was handed to the archive: it tells the same and has counted no fault
+pub record Unarchived {A : Type 0} (a : archives.Ghosts A) (old new : A) : Type 0 where
+  pub told : a.told new ≡ a.told old
+  pub faults : a.faults new ≡ a.faults old
 
 -- no usage, and no want of memory
 abbrev pub IsServed : ℕ → Type 0
@@ -62,34 +76,36 @@ IsRefusal status = (status ≡ status_of Usage) ⊎ (status ≡ status_of (Stopp
 
 -- ---- the modes
 
--- Mode htp: the session came to this end.
-abbrev pub PlaysInMode : {L F A : Type 0} → links.Ghosts L → shelves.Ghosts F → archives.Ghosts A
-    → List (List ℕ) → End → L × F × A → L × F × A → Type 0
-PlaysInMode l f a words end old new = InMode Htp words
-    (λ options. PlaysTo l f a options end old new)
-
--- the same for every end of this status
+-- Mode htp: the session, held over a link, a shelf and an archive, came to every end of this
+-- status.
 abbrev pub PlaysBy : {L F A : Type 0} → links.Ghosts L → shelves.Ghosts F → archives.Ghosts A
     → List (List ℕ) → ℕ → L × F × A → L × F × A → Type 0
-PlaysBy l f a words status old new =
-    (end : End) → status ≡ status_of end → PlaysInMode l f a words end old new
+PlaysBy l f a words status old new = (end : End) → status ≡ status_of end → InMode Htp words
+    (λ options. PlayedTo end (engine_options options) options.size INPUT_LIMIT
+    (f.told old.1, a.told old.2) (f.told new.1, a.told new.2) (l.told old.0) (l.told new.0))
 
--- A mode that takes its whole input came to this end.
-abbrev pub AnswersInMode : {L : Type 0} → links.Ghosts L → List (List ℕ) → End → L → L → Type 0
-AnswersInMode l words end link link_now = (mode : InputMode) → InMode (mode_of mode) words
-    (λ options. AnswersTo l (IsTextOf mode) end link link_now)
-
--- this mode did, for every end of this status
-abbrev pub AnswersBy : {L : Type 0} → links.Ghosts L → InputMode → List (List ℕ) → ℕ
+-- A mode that takes its whole input answered it by such texts, to every end of this status.
+abbrev pub AnswersBy : {L : Type 0} → links.Ghosts L → Mode → TextOf → List (List ℕ) → ℕ
     → L → L → Type 0
-AnswersBy l mode words status link link_now = (end : End) → status ≡ status_of end
-    → InMode (mode_of mode) words (λ options. AnswersTo l (IsTextOf mode) end link link_now)
+AnswersBy l mode Answers words status link link_now = (end : End) → status ≡ status_of end
+    → InMode mode words (λ options. AnsweredTo Answers end (l.told link) (l.told link_now))
 
--- in a mode that takes its whole input shelf and archive stand idle
-abbrev pub IsIdleInMode : {F A : Type 0} → shelves.Ghosts F → archives.Ghosts A → List (List ℕ)
-    → F → F → A → A → Type 0
-IsIdleInMode f a words files files_now turns turns_now = (mode : InputMode)
-    → InMode (mode_of mode) words (λ options. Idle f a files files_now turns turns_now)
+-- Modes sim and bench: a turn with its text was handed in, to every end of this status.
+abbrev pub HandsInBy : {L A : Type 0} → links.Ghosts L → archives.Ghosts A → Mode
+    → (ModeOptions → Decision → List ℕ → Type 0) → List (List ℕ) → ℕ → L × A → L × A → Type 0
+HandsInBy l a mode IsAnswer words status old new = (end : End) → status ≡ status_of end
+    → InMode mode words (λ options. HandedInTo (IsAnswer (mode_options options)) end
+    (l.told old.0, a.told old.1) (l.told new.0, a.told new.1))
+
+-- the shelf stands idle in each mode but htp
+abbrev pub IsUnfetchedInMode : {F : Type 0} → shelves.Ghosts F → List (List ℕ) → F → F → Type 0
+IsUnfetchedInMode f words old new = (options : Options) → WellFormed words options
+    → may_fetch options.mode ≡ false → Unfetched f old new
+
+-- the archive stands idle in each mode that takes its whole input
+abbrev pub IsUnarchivedInMode : {A : Type 0} → archives.Ghosts A → List (List ℕ) → A → A → Type 0
+IsUnarchivedInMode a words old new = (options : Options) → WellFormed words options
+    → may_archive options.mode ≡ false → Unarchived a old new
 
 -- Mode htp, where the run is done: each searched move.
 abbrev pub HasHeadline : {L A : Type 0} → links.Ghosts L → archives.Ghosts A → List (List ℕ) → ℕ

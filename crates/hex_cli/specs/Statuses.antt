@@ -1,5 +1,6 @@
 -- How a run ends: its status, and the line that it gives to the errors.
 use Rattle.std.specs.Prelude.{◌≡◌, Bool, true, false, ℕ, List, [], Result, Ok, Err, codes}
+use Rattle.std.specs.Prelude.{Option, Some, None}
 use Rattle.htp_session.specs.Endings.{Outcome}
 use Rattle.htp_session.specs.declared.stops.Stop.{Stop}
 use Rattle.htp_session.specs.declared.stops.Stop.TheVariants.{ReadFault, WriteFault, Memory}
@@ -17,6 +18,13 @@ abbrev pub end_of_answer : Result Bool Stop → End
 end_of_answer (Ok true) = Done
 end_of_answer (Ok false) = Rejected
 end_of_answer (Err stop) = Stopped stop
+
+-- why a run stopped before its end, if it did
+abbrev pub stop_in : End → Option Stop
+stop_in Done = None
+stop_in Rejected = None
+stop_in Usage = None
+stop_in (Stopped stop) = Some stop
 
 -- the status of a run that ends so
 abbrev pub status_of : End → ℕ

@@ -1,22 +1,21 @@
 //! The modes that answer their whole input by one text.
 
-ghost use Rattle.std.specs.Prelude.{◌≡◌, ◌≢◌, MatchOption};
-ghost use Rattle.hexd_words.specs.declared.settings.Mode.{Mode};
-ghost use Rattle.htp_session.specs.declared.stops.Stop.{Stop};
-ghost use Rattle.hex_cli.specs.Modes.{AnswersTo};
-ghost use Rattle.hex_cli.specs.Inputs.{mode_of, IsTextOf};
-ghost use Rattle.hex_cli.specs.Runs.{CountsReads, CountsWrites};
-ghost use Rattle.hex_cli.specs.declared.ends.End.{End};
+ghost use Rattle.htp_session.specs.Devices.{CountsStop};
+ghost use Rattle.hex_cli.specs.Inputs.{IsTextOf};
+ghost use Rattle.hex_cli.specs.Served.{AnswersTo};
+ghost use Rattle.hex_cli.specs.Statuses.{stop_in};
 ghost use Rattle.hex_cli.specs.declared.limits.TheConstants.{INPUT_LIMIT};
 
 use crate::audits::audit_answer;
 use crate::certificates::{check_answer, migrate_answer};
 use crate::ends::End;
 use crate::limits::INPUT_LIMIT;
-use hex_io::Link;
-use hexd_words::Mode;
-use htp_session::{InputAnswer, InputReader, answer_input};
+use hex_io::{Link, Shelf};
+use hex_plan::Archive;
+use htp_session::{Devices, InputAnswer, InputReader, answer_input};
+use search_team::Gate;
 use std::alloc::{AllocError, Global};
+use std::thread::Threads;
 
 /// What is done with the whole input.
 #[derive(Clone, Copy, Debug, PartialEq, Eq)]
@@ -27,20 +26,6 @@ pub enum InputMode {
     Migrate,
     /// It is audited as traces of closed trees.
     Audit,
-}
-
-impl InputMode {
-    /// What the mode does with its whole input; `None` exactly for `htp`, which is a session.
-    pub fn of(mode: Mode) -> Option<InputMode>
-        ensures { MatchOption result (mode ≡ Mode.Htp) (λ i. mode ≡ mode_of i) }
-    {
-        match mode {
-            Mode::Htp => None,
-            Mode::Check => Some(InputMode::Check),
-            Mode::Migrate => Some(InputMode::Migrate),
-            Mode::Audit => Some(InputMode::Audit),
-        }
-    }
 }
 
 impl InputReader for InputMode {
@@ -58,12 +43,14 @@ impl InputReader for InputMode {
 }
 
 /// Takes the whole input of the link, and gives the text that answers it.
-pub fn answer<L: Link>(alloc: Global, mode: InputMode, link: &mut L) -> End
-    ensures answers { AnswersTo L.Link (IsTextOf mode) result link.old link.new }
-    ensures read_fault { CountsReads L.Link link.old link.new
-        (result ≡ End.Stopped Stop.ReadFault) }
-    ensures write_fault { CountsWrites L.Link link.old link.new
-        (result ≡ End.Stopped Stop.WriteFault) }
+pub fn answer<L: Link, F: Shelf, A: Archive, R: Threads + Sync, G: Gate + Sync>(
+    alloc: Global,
+    mode: InputMode,
+    devices: &mut Devices<'_, '_, '_, '_, L, F, A, R, G>,
+) -> End
+    ensures answers { AnswersTo (IsTextOf mode) result devices.old devices.new }
+    ensures counts { CountsStop devices.old devices.new (stop_in result) }
 {
-    End::of_answer(answer_input(alloc, link, &mode, INPUT_LIMIT))
+    let answer = answer_input(alloc, &mut *devices.link, &mode, INPUT_LIMIT);
+    End::of_answer(answer)
 }

@@ -42,14 +42,14 @@ mod audits;
 mod certificates;
 mod ends;
 mod inputs;
+mod knobs;
 mod limits;
 mod numbers;
 mod playing;
+mod single_turns;
 #[cfg(test)]
 mod tests;
 mod top;
-#[cfg(test)]
-mod trace_name_tests;
 mod trace_names;
 
 pub use ends::End;

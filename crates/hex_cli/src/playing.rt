@@ -3,66 +3,44 @@
 ghost use Rattle.std.specs.Prelude.{◌≡◌, ◌^◌, ◌<◌, ◌≤◌};
 ghost use Rattle.tree_words.specs.Settings.{AreInRange};
 ghost use Rattle.hexd_words.specs.Values as value;
-ghost use Rattle.htp_session.specs.declared.stops.Stop.TheVariants.{ReadFault, WriteFault};
-ghost use Rattle.htp_session.specs.declared.stops.Stop.TheVariants.{ArchiveFault};
-ghost use Rattle.hex_cli.specs.declared.ends.End.TheVariants.{Stopped};
-ghost use Rattle.hex_cli.specs.Modes.{PlaysTo, engine_options};
-ghost use Rattle.hex_cli.specs.Runs.{CountsReads, CountsWrites, CountsTurns};
+ghost use Rattle.htp_session.specs.Devices.{CountsStop};
+ghost use Rattle.hex_cli.specs.Modes.{engine_options};
+ghost use Rattle.hex_cli.specs.Served.{PlaysTo};
+ghost use Rattle.hex_cli.specs.Statuses.{stop_in};
 
 use crate::ends::End;
+use crate::knobs::{board_size, knobs_of};
 use crate::limits::INPUT_LIMIT;
-use hex_cells::Size;
 use hex_io::{Link, Shelf};
 use hex_plan::Archive;
 use hexd_words::Options;
 use htp_session::{Devices, converse};
+use search_team::Gate;
 use std::alloc::Global;
-use tree_words::Knobs;
+use std::thread::Threads;
 
-/// Plays a session over the link, from an empty board of the size that the options say.
-pub fn play<L: Link, F: Shelf, A: Archive>(
+/// Plays a session over the devices, from an empty board of the size that the options say.
+pub fn play<L: Link, F: Shelf, A: Archive, R: Threads + Sync, G: Gate + Sync>(
     alloc: Global,
     options: &Options,
-    link: &mut L,
-    shelf: &mut F,
-    archive: &mut A,
+    devices: &mut Devices<'_, '_, '_, '_, L, F, A, R, G>,
 ) -> End
     requires ranges { value.OptionsInRange options.now }
     requires seed { options.now.seed < 2 ^ 64 }
-    ensures plays { PlaysTo L.Link F.Shelf A.Archive options.now result
-        (link.old, shelf.old, archive.old) (link.new, shelf.new, archive.new) }
-    ensures read_fault { CountsReads L.Link link.old link.new
-        (result ≡ Stopped ReadFault) }
-    ensures write_fault { CountsWrites L.Link link.old link.new
-        (result ≡ Stopped WriteFault) }
-    ensures archive_fault { CountsTurns A.Archive archive.old archive.new
-        (result ≡ Stopped ArchiveFault) }
+    ensures plays { PlaysTo options.now result devices.old devices.new }
+    ensures counts { CountsStop devices.old devices.new (stop_in result) }
 {
-    let mut devices = Devices {
-        link,
-        shelf,
-        archive,
-    };
     let outcome = converse(
         alloc,
-        &mut devices,
+        devices,
         &engine_options(options),
         board_size(options.size),
         INPUT_LIMIT,
     );
-    let Devices {
-        link,
-        shelf,
-        archive,
-    } = devices;
-    // What the three tell now is what the conversation left.
-    let _link: &L = link;
-    let _shelf: &F = shelf;
-    let _archive: &A = archive;
     End::of(outcome)
 }
 
-/// The engine's options. No connections are looked for yet, whatever the words say.
+/// The engine's options.
 fn engine_options(options: &Options) -> hex_engine::Options
     requires ranges { value.OptionsInRange options.now }
     requires seed { options.now.seed < 2 ^ 64 }
@@ -70,22 +48,7 @@ fn engine_options(options: &Options) -> hex_engine::Options
     ensures ranges { AreInRange result.knobs }
 {
     hex_engine::Options {
-        knobs: Knobs {
-            workers: options.workers,
-            playouts: options.playouts,
-            seed: options.seed,
-            words: options.words,
-            expand: options.expand,
-            weight: options.weight,
-        },
-        hsearch: false,
+        knobs: knobs_of(options),
+        hsearch: options.hsearch,
     }
-}
-
-/// The board size of this side.
-fn board_size(side: u32) -> Size
-    requires { (1 ≤ side) × (side ≤ 11) }
-    ensures { result ≡ side }
-{
-    Size::of(side).unwrap()
 }

@@ -1,27 +1,37 @@
 //! The top call: from the words of the command line to a status.
 
-ghost use Rattle.std.specs.Prelude.{◌≡◌, ◌≢◌, ◌⊎◌};
+ghost use Rattle.std.specs.Prelude.{◌≡◌, ◌≢◌, ◌⊎◌, ◌^◌, ◌<◌};
+ghost use Rattle.hexd_words.specs.Values as value;
 ghost use Rattle.htp_session.specs.declared.stops.Stop.{Stop};
 ghost use Rattle.htp_session.specs.declared.stops.Stop.TheVariants.{ReadFault, WriteFault};
 ghost use Rattle.htp_session.specs.declared.stops.Stop.TheVariants.{Memory, ArchiveFault};
 ghost use Rattle.hex_cli.specs.declared.ends.End.TheVariants.{Stopped};
-ghost use Rattle.hex_cli.specs.Runs.{AnswersBy, AnswersInMode, IsIdleInMode};
+ghost use Rattle.hexd_words.specs.declared.settings.Mode.TheVariants.{Check, Migrate, Audit, Sim, Bench};
+ghost use Rattle.htp_session.specs.Devices.{CountsStop};
+ghost use Rattle.hex_cli.specs.AuditTexts.{IsAuditText};
+ghost use Rattle.hex_cli.specs.CertTexts.{IsCheckText, IsMigrateText};
 ghost use Rattle.hex_cli.specs.Runs.{AreWellFormed, AreRefused, IsServed, IsRefusal, Untouched};
-ghost use Rattle.hex_cli.specs.Runs.{Idle, PlaysInMode, PlaysBy, HasHeadline, Determines};
+ghost use Rattle.turn_modes.specs.OneTurn.{IsSimulation, IsBenchmark};
+ghost use Rattle.hex_cli.specs.Runs.{Unfetched, Unarchived};
+ghost use Rattle.hex_cli.specs.Runs.{IsUnfetchedInMode, IsUnarchivedInMode};
+ghost use Rattle.hex_cli.specs.Runs.{AnswersBy, HandsInBy, PlaysBy, HasHeadline, Determines};
 ghost use Rattle.hex_cli.specs.Runs.{CountsReads, CountsWrites, CountsTurns, IsTooLong};
 ghost use Rattle.hex_cli.specs.Runs.{Completes, Reports};
-ghost use Rattle.hex_cli.specs.Statuses.{status_of, HasStopped};
+ghost use Rattle.hex_cli.specs.Served.{Does, DoesIn};
+ghost use Rattle.hex_cli.specs.Statuses.{status_of, stop_in, HasStopped};
 ghost use Rattle.hex_cli.specs.declared.ends.End.{End};
-ghost use Rattle.hex_cli.specs.declared.inputs.InputMode.{InputMode};
 
 use crate::ends::End;
 use crate::inputs::{InputMode, answer};
 use crate::playing::play;
+use crate::single_turns::{bench, simulate};
 use hex_io::{Link, Shelf, Word, report};
 use hex_plan::Archive;
-use hexd_words::read_words;
-use htp_session::Stop;
+use hexd_words::{Mode, Options, read_words};
+use htp_session::{Devices, Stop};
+use search_team::Gate;
 use std::alloc::Global;
+use std::thread::Threads;
 
 /// Runs the program that the words ask for over a link, and answers its status.
 ///
@@ -46,13 +56,15 @@ use std::alloc::Global;
 /// before, with every one but 4 its count of write faults, with every one but 7 the archive's. A
 /// fault of the errors changes nothing of the status. Status 5 may come in place of any other. In
 /// the modes that take the whole input nothing is given with statuses 3, 5 and 6.
-pub fn run<L: Link, E: Link, F: Shelf, A: Archive>(
+pub fn run<R: Threads + Sync, L: Link, E: Link, F: Shelf, A: Archive, G: Gate + Sync>(
+    rt: &R,
     alloc: Global,
     words: &[Word],
     link: &mut L,
     errors: &mut E,
     shelf: &mut F,
     archive: &mut A,
+    gate: &G,
 ) -> u8
     ensures status { (end : End) × (result ≡ status_of end) }
 
@@ -61,8 +73,8 @@ pub fn run<L: Link, E: Link, F: Shelf, A: Archive>(
     ensures well_formed { IsServed result → AreWellFormed words.now }
     ensures refused { AreRefused words.now → IsRefusal result }
     ensures untouched { AreRefused words.now → Untouched L.Link link.old link.new }
-    ensures unused { AreRefused words.now
-        → Idle F.Shelf A.Archive shelf.old shelf.new archive.old archive.new }
+    ensures unfetched { AreRefused words.now → Unfetched F.Shelf shelf.old shelf.new }
+    ensures unarchived { AreRefused words.now → Unarchived A.Archive archive.old archive.new }
 
     // Mode htp: what was taken and given, and when, where the link tells it; and what was used up
     // from the shelf and for the archive. Then each searched move; and that with one worker all is
@@ -75,12 +87,20 @@ pub fn run<L: Link, E: Link, F: Shelf, A: Archive>(
         link.old link.new shelf.old shelf.new }
 
     // Modes check, migrate and audit: the whole input was taken, and its text given; the status says
-    // whether it was accepted. Shelf and archive stand idle.
-    ensures checked { AnswersBy L.Link InputMode.Check words.now result link.old link.new }
-    ensures migrated { AnswersBy L.Link InputMode.Migrate words.now result link.old link.new }
-    ensures audited { AnswersBy L.Link InputMode.Audit words.now result link.old link.new }
-    ensures idle { IsIdleInMode F.Shelf A.Archive words.now
-        shelf.old shelf.new archive.old archive.new }
+    // whether it was accepted.
+    ensures checked { AnswersBy L.Link Check IsCheckText words.now result link.old link.new }
+    ensures migrated { AnswersBy L.Link Migrate IsMigrateText words.now result link.old link.new }
+    ensures audited { AnswersBy L.Link Audit IsAuditText words.now result link.old link.new }
+
+    // Modes sim and bench: one turn was handed to the archive, and then its text given.
+    ensures simulated { HandsInBy L.Link A.Archive Sim IsSimulation words.now result
+        (link.old, archive.old) (link.new, archive.new) }
+    ensures benchmarked { HandsInBy L.Link A.Archive Bench IsBenchmark words.now result
+        (link.old, archive.old) (link.new, archive.new) }
+
+    // What stands idle: the shelf in each mode but htp, the archive in check, migrate and audit.
+    ensures idle_shelf { IsUnfetchedInMode F.Shelf words.now shelf.old shelf.new }
+    ensures idle_archive { IsUnarchivedInMode A.Archive words.now archive.old archive.new }
 
     // The causes. What fails first ends the run: a count rose with its own status, and is as before
     // with every other.
@@ -97,46 +117,68 @@ pub fn run<L: Link, E: Link, F: Shelf, A: Archive>(
     // The line for the errors.
     ensures errors { Reports E.Link result errors.old errors.new }
 {
-    let end = serve(alloc, words, link, shelf, archive);
+    let mut devices = Devices {
+        link,
+        shelf,
+        archive,
+        rt,
+        gate,
+    };
+    let end = serve(alloc, words, &mut devices);
+    let Devices {
+        link,
+        shelf,
+        archive,
+        ..
+    } = devices;
+    // What the three tell now is what was left of them.
+    let _link: &L = link;
+    let _shelf: &F = shelf;
+    let _archive: &A = archive;
     report(errors, end.line());
     end.status()
 }
 
 /// Reads the words, and does over the link what they ask for, in the mode that they say.
-fn serve<L: Link, F: Shelf, A: Archive>(
+fn serve<L: Link, F: Shelf, A: Archive, R: Threads + Sync, G: Gate + Sync>(
     alloc: Global,
     words: &[Word],
-    link: &mut L,
-    shelf: &mut F,
-    archive: &mut A,
+    devices: &mut Devices<'_, '_, '_, '_, L, F, A, R, G>,
 ) -> End
     ensures usage { result ≡ End.Usage → AreRefused words.now }
     ensures well_formed { result ≢ End.Usage → result ≢ Stopped Memory
         → AreWellFormed words.now }
     ensures refused { AreRefused words.now
         → (result ≡ End.Usage) ⊎ (result ≡ Stopped Memory) }
-    ensures untouched { AreRefused words.now → Untouched L.Link link.old link.new }
-    ensures unused { AreRefused words.now
-        → Idle F.Shelf A.Archive shelf.old shelf.new archive.old archive.new }
-    ensures plays { PlaysInMode L.Link F.Shelf A.Archive words.now result
-        (link.old, shelf.old, archive.old) (link.new, shelf.new, archive.new) }
-    ensures answers { AnswersInMode L.Link words.now result link.old link.new }
-    ensures idle { IsIdleInMode F.Shelf A.Archive words.now
-        shelf.old shelf.new archive.old archive.new }
-    ensures read_fault { CountsReads L.Link link.old link.new
-        (result ≡ Stopped ReadFault) }
-    ensures write_fault { CountsWrites L.Link link.old link.new
-        (result ≡ Stopped WriteFault) }
-    ensures archive_fault { CountsTurns A.Archive archive.old archive.new
-        (result ≡ Stopped ArchiveFault) }
+    ensures untouched { AreRefused words.now → devices.new ≡ devices.old }
+    ensures does { Does words.now result devices.old devices.new }
+    ensures counts { CountsStop devices.old devices.new (stop_in result) }
 {
     let options = match read_words(alloc, words) {
         Err(_) => return End::Stopped(Stop::Memory),
         Ok(None) => return End::Usage,
         Ok(Some(options)) => options,
     };
-    match InputMode::of(options.mode) {
-        None => play(alloc, &options, link, shelf, archive),
-        Some(mode) => answer(alloc, mode, link),
+    in_mode(alloc, &options, devices)
+}
+
+/// Does over the devices what the options ask for, in the mode that they say.
+fn in_mode<L: Link, F: Shelf, A: Archive, R: Threads + Sync, G: Gate + Sync>(
+    alloc: Global,
+    options: &Options,
+    devices: &mut Devices<'_, '_, '_, '_, L, F, A, R, G>,
+) -> End
+    requires ranges { value.OptionsInRange options.now }
+    requires seed { options.now.seed < 2 ^ 64 }
+    ensures does { DoesIn options.now.mode options.now result devices.old devices.new }
+    ensures counts { CountsStop devices.old devices.new (stop_in result) }
+{
+    match options.mode {
+        Mode::Htp => play(alloc, options, devices),
+        Mode::Check => answer(alloc, InputMode::Check, devices),
+        Mode::Migrate => answer(alloc, InputMode::Migrate, devices),
+        Mode::Audit => answer(alloc, InputMode::Audit, devices),
+        Mode::Sim => simulate(alloc, options, devices),
+        Mode::Bench => bench(alloc, options, devices),
     }
 }

@@ -2,4 +2,5 @@ pub mod Ranges
 pub mod Spelling
 pub mod Using
 pub mod Names
-pub mod Calm
+pub mod Legal
+pub mod Plans

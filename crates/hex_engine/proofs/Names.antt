@@ -3,7 +3,7 @@ use Rattle.std.proofs.Common.{◌≡◌, ℕ, Bool, true, false, List, [], ◌�
 use Rattle.std.specs.Prelude.{IsUtf8}
 use Rattle.std.specs.Str.{is_utf8}
 use Rattle.std.proofs.lemmas.Str.{IsUtf8-from_is_utf8, is_utf8-from_IsUtf8}
-use Rattle.hex_engine.specs.Replies.{file_named}
+use Rattle.hex_engine.specs.LoadReplies.{file_named}
 
 named_by : (b : Bool) (word : List ℕ) → b ≡ true → cond b (Some word) None ≡ Some word
 named_by true word e = refl

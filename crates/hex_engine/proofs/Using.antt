@@ -8,14 +8,17 @@ use Rattle.hex_plan.specs.Turns.{Decision}
 use Rattle.hex_engine.specs.declared.options.Options.{Options}
 use Rattle.hex_engine.specs.declared.answers.Fail.TheVariants.{Over, UnknownCommand}
 use Rattle.hex_engine.specs.declared.commands.Command.{Command}
-use Rattle.hex_engine.specs.declared.commands.Command.TheVariants.{BoardSize, ClearBoard, GenMove, KnownCommand, ListCommands, LoadSgf, Name, Play, PrintSgf, ProtocolVersion, Quit, SearchReport, ShowBoard, Undo, Version, Winner}
 use Rattle.hex_engine.specs.Commands.{command_named}
-use Rattle.htp_line.specs.Reading.{Asked}
+use Rattle.htp_line.specs.declared.request.Request.{Request}
 use Rattle.std.proofs.lemmas.Bool.{and_parts, true≢false}
 use Rattle.hex_engine.specs.EngineState.{EngineState}
-use Rattle.hex_engine.specs.Supply.{Supply, Loaded, nothing_left, loads_only, turns_only, and_then}
-use Rattle.hex_engine.specs.Uses.{IsLoadOf, FetchesLoads, Loading, Moving, Uses}
-use Rattle.hex_engine.specs.Replies.{Failed as FailedReply, Reaction, Reacts, NoLoad, NoTurn, replied, unchanged, unused, loaded, loading, loading_by, file_named, lone_colour, Turned, Missing, reaction, reaction_by, obeyed, uses_up, is_next, turned, moving, moving_by, moving_next}
+use Rattle.hex_engine.specs.Supply.{Supply, nothing_left, loads_only, turns_only, and_then}
+use Rattle.hex_engine.specs.declared.files.Loaded.{Loaded}
+use Rattle.hex_engine.specs.Uses.{IsLoadOf, FetchesLoads, Loading, Moving, Uses, UsesNothing}
+use Rattle.hex_engine.specs.Replies.{Failed as FailedReply, Reaction, Turned, Missing, NoLoad, NoTurn, unchanged, unused}
+use Rattle.hex_engine.specs.LoadReplies.{loaded, loading, loading_by, file_named}
+use Rattle.hex_engine.specs.MoveReplies.{lone_colour, is_next, turned, moving, moving_by, moving_next}
+use Rattle.hex_engine.specs.Requests.{Reacts, replied, reaction, reaction_by, obeyed}
 use Rattle.hex_engine.specs.declared.answers.Answer.{Answer}
 use Rattle.hex_cells.specs.declared.colours.Colour.{Colour}
 use Rattle.hex_board.specs.Positions.{Position, is_empty_at}
@@ -69,6 +72,9 @@ no_fault_counted before Fault never = record { later = omega arith; rose = λ f.
 pub uses_nothing : (options : Options) (shelf : Option Shelved) (archive : Option (List Decision)) → Uses options shelf shelf archive archive nothing_left []
 uses_nothing options shelf archive = record { loading = unfetched shelf; moving = nothing_moved options archive }
 
+pub nothing_used : (options : Options) (shelf : Option Shelved) (archive : Option (List Decision)) → UsesNothing options shelf shelf archive archive
+nothing_used options shelf archive = record { in_vain = []; few = omega arith; uses = uses_nothing options shelf archive }
+
 -- a file of this name came to this
 pub loads_reply : (s : EngineState) (name : List ℕ) (what : Loaded) (args : List (List ℕ)) → file_named args ≡ Some name
     → (later : Supply) → loading s (and_then (loads_only (record { name = name; what = what } ∷ [])) later) args ≡ unused later (loaded s what)
@@ -106,39 +112,16 @@ nobody_joined p e = nobody (winner_of p) (and_parts _ _ e).0
 pub has_empty : (p : Position) → may_move p ≡ true → (k : ℕ) × (is_empty_at p k ≡ true)
 has_empty p e = empty_in p (and_parts _ _ e).1
 
-pub unknown_reply : (s : EngineState) (left : Supply) (asked : Asked) (name : List ℕ) → name ≡ asked.name → command_named name ≡ None → reaction s left asked ≡ unused left (unchanged s (FailedReply UnknownCommand))
+pub unknown_reply : (s : EngineState) (left : Supply) (request : Request) (name : List ℕ) → name ≡ request.name → command_named name ≡ None → reaction s left request ≡ unused left (unchanged s (FailedReply UnknownCommand))
 unfolding reaction
-unknown_reply s left asked name is e = ap (λ n. reaction_by s left (command_named n) asked.args) (sym is) ∙ ap (λ k. reaction_by s left k asked.args) e
+unknown_reply s left request name is e = ap (λ n. reaction_by s left (command_named n) request.args) (sym is) ∙ ap (λ k. reaction_by s left k request.args) e
 
 -- a request for this command is answered as the command says
-pub known_reply : (s : EngineState) (left : Supply) (asked : Asked) (name : List ℕ) (args : List (List ℕ)) (command : Command) (t : Result Turned Missing)
-    → name ≡ asked.name → args ≡ asked.args → command_named name ≡ Some command → obeyed s left command args ≡ t → reaction s left asked ≡ t
+pub known_reply : (s : EngineState) (left : Supply) (request : Request) (name : List ℕ) (args : List (List ℕ)) (command : Command) (t : Result Turned Missing)
+    → name ≡ request.name → args ≡ request.args → command_named name ≡ Some command → obeyed s left command args ≡ t → reaction s left request ≡ t
 unfolding reaction
-known_reply s left asked name args command t is are e h =
-    ap (λ n. reaction_by s left (command_named n) asked.args) (sym is) ∙ ap (λ k. reaction_by s left k asked.args) e ∙ ap (obeyed s left command) (sym are) ∙ h
-
-pub obeyed_load : (s : EngineState) (left : Supply) (command : Command) (args : List (List ℕ)) → command ≡ LoadSgf → obeyed s left command args ≡ loading s left args
-unfolding obeyed
-obeyed_load s left command args e = ap (λ k. obeyed s left k args) e
-
-pub obeyed_move : (s : EngineState) (left : Supply) (command : Command) (args : List (List ℕ)) → uses_up command ≡ true → (command ≡ LoadSgf → ⊥) → obeyed s left command args ≡ moving s left args
-unfolding obeyed
-obeyed_move s left GenMove args e never = refl
-obeyed_move s left LoadSgf args e never = absurd (never refl)
-obeyed_move s left BoardSize args e never = absurd (true≢false (sym e))
-obeyed_move s left ClearBoard args e never = absurd (true≢false (sym e))
-obeyed_move s left KnownCommand args e never = absurd (true≢false (sym e))
-obeyed_move s left ListCommands args e never = absurd (true≢false (sym e))
-obeyed_move s left Name args e never = absurd (true≢false (sym e))
-obeyed_move s left Play args e never = absurd (true≢false (sym e))
-obeyed_move s left PrintSgf args e never = absurd (true≢false (sym e))
-obeyed_move s left ProtocolVersion args e never = absurd (true≢false (sym e))
-obeyed_move s left Quit args e never = absurd (true≢false (sym e))
-obeyed_move s left SearchReport args e never = absurd (true≢false (sym e))
-obeyed_move s left ShowBoard args e never = absurd (true≢false (sym e))
-obeyed_move s left Undo args e never = absurd (true≢false (sym e))
-obeyed_move s left Version args e never = absurd (true≢false (sym e))
-obeyed_move s left Winner args e never = absurd (true≢false (sym e))
+known_reply s left request name args command t is are e h =
+    ap (λ n. reaction_by s left (command_named n) request.args) (sym is) ∙ ap (λ k. reaction_by s left k request.args) e ∙ ap (obeyed s left command) (sym are) ∙ h
 
 pub if_is_ok : {T E : Type 0} (r : Result T E) (x : T) (P : T → Type 0) → r ≡ Ok x → IfOk r P → P x
 if_is_ok r x P e h = subst (λ q. IfOk q P) e h

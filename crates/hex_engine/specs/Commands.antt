@@ -1,38 +1,43 @@
--- The commands that are built.
+-- The commands and their names.
 use Rattle.std.specs.Prelude.{ℕ, List, [], ◌∷◌, Option, codes, map}
 use Rattle.std.specs.List.{find, join_with_byte}
 use Rattle.std.specs.Str.{bytes_eq}
 use Rattle.hex_engine.specs.declared.commands.Command.{Command}
-use Rattle.hex_engine.specs.declared.commands.Command.TheVariants.{BoardSize, ClearBoard, GenMove}
-use Rattle.hex_engine.specs.declared.commands.Command.TheVariants.{KnownCommand, ListCommands}
-use Rattle.hex_engine.specs.declared.commands.Command.TheVariants.{LoadSgf, Name, Play, PrintSgf}
-use Rattle.hex_engine.specs.declared.commands.Command.TheVariants.{ProtocolVersion, Quit}
-use Rattle.hex_engine.specs.declared.commands.Command.TheVariants.{SearchReport, ShowBoard, Undo}
-use Rattle.hex_engine.specs.declared.commands.Command.TheVariants.{Version, Winner}
+use Rattle.hex_engine.specs.declared.commands.Command.TheVariants.{Quiet, GenMove, LoadSgf}
+use Rattle.hex_engine.specs.declared.commands.Quiet.TheVariants.{BoardSize, ClearBoard}
+use Rattle.hex_engine.specs.declared.commands.Quiet.TheVariants.{KnownCommand, ListCommands}
+use Rattle.hex_engine.specs.declared.commands.Quiet.TheVariants.{MustPlay, Name, Play, PrintSgf}
+use Rattle.hex_engine.specs.declared.commands.Quiet.TheVariants.{ProtocolVersion, Quit}
+use Rattle.hex_engine.specs.declared.commands.Quiet.TheVariants.{SearchReport, ShowBoard, Undo}
+use Rattle.hex_engine.specs.declared.commands.Quiet.TheVariants.{Version, WinCert, Winner}
 
 -- all of them, in the order in which `list_commands` names them
 abbrev pub commands : List Command
-commands = BoardSize ∷ ClearBoard ∷ GenMove ∷ KnownCommand ∷ ListCommands ∷ LoadSgf ∷ Name ∷ Play
-    ∷ PrintSgf ∷ ProtocolVersion ∷ Quit ∷ SearchReport ∷ ShowBoard ∷ Undo ∷ Version ∷ Winner ∷ []
+commands = Quiet BoardSize ∷ Quiet ClearBoard ∷ GenMove ∷ Quiet KnownCommand ∷ Quiet ListCommands
+    ∷ LoadSgf ∷ Quiet MustPlay ∷ Quiet Name ∷ Quiet Play ∷ Quiet PrintSgf ∷ Quiet ProtocolVersion
+    ∷ Quiet Quit ∷ Quiet SearchReport ∷ Quiet ShowBoard ∷ Quiet Undo ∷ Quiet Version
+    ∷ Quiet WinCert ∷ Quiet Winner ∷ []
 
 -- a command's name, as a user types it
 abbrev pub name_of : Command → List ℕ
-name_of BoardSize = codes "boardsize"
-name_of ClearBoard = codes "clear_board"
+name_of (Quiet BoardSize) = codes "boardsize"
+name_of (Quiet ClearBoard) = codes "clear_board"
 name_of GenMove = codes "genmove"
-name_of KnownCommand = codes "known_command"
-name_of ListCommands = codes "list_commands"
+name_of (Quiet KnownCommand) = codes "known_command"
+name_of (Quiet ListCommands) = codes "list_commands"
 name_of LoadSgf = codes "loadsgf"
-name_of Name = codes "name"
-name_of Play = codes "play"
-name_of PrintSgf = codes "printsgf"
-name_of ProtocolVersion = codes "protocol_version"
-name_of Quit = codes "quit"
-name_of SearchReport = codes "search-report"
-name_of ShowBoard = codes "showboard"
-name_of Undo = codes "undo"
-name_of Version = codes "version"
-name_of Winner = codes "winner"
+name_of (Quiet MustPlay) = codes "mustplay"
+name_of (Quiet Name) = codes "name"
+name_of (Quiet Play) = codes "play"
+name_of (Quiet PrintSgf) = codes "printsgf"
+name_of (Quiet ProtocolVersion) = codes "protocol_version"
+name_of (Quiet Quit) = codes "quit"
+name_of (Quiet SearchReport) = codes "search-report"
+name_of (Quiet ShowBoard) = codes "showboard"
+name_of (Quiet Undo) = codes "undo"
+name_of (Quiet Version) = codes "version"
+name_of (Quiet WinCert) = codes "wincert"
+name_of (Quiet Winner) = codes "winner"
 
 -- the command of that name, compared byte by byte
 unfoldable pub command_named : List ℕ → Option Command

@@ -3,6 +3,11 @@ pub mod Forms
 pub mod Picture
 pub mod EngineState
 pub mod Supply
-pub mod Uses
 pub mod Replies
-pub mod Files
+pub mod BoardReplies
+pub mod QuietReplies
+pub mod LoadReplies
+pub mod MoveReplies
+pub mod Requests
+pub mod Uses
+pub mod Calls

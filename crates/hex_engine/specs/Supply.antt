@@ -1,16 +1,8 @@
 -- What a conversation uses up: what comes of the files that it asks for, and the turns that its
 -- moves are searched in.
 use Rattle.std.specs.Prelude.{ℕ, List, [], ◌++◌}
-use Rattle.hex_game.specs.Games.{GameData}
 use Rattle.hex_plan.specs.Turns.{Decision}
-
--- what comes of a file that is asked for
-pub data Loaded : Type 0 where
-  -- its fetch was at fault
-  Unread : Loaded
-  -- there is no such file, or it is too long, or no record of a game
-  Refused : Loaded
-  Loads : GameData → Loaded
+use Rattle.hex_engine.specs.declared.files.Loaded.{Loaded}
 
 -- the name that was asked for, and what came of it
 pub record Load : Type 0 where

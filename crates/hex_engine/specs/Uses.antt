@@ -1,7 +1,7 @@
 -- Where what a conversation used up came from: its shelf, and the searches whose turns its archive
 -- took.
 use Rattle.std.specs.Prelude.{◌≡◌, ◌≤◌, ◌⊎◌, ℕ, Bool, false, List, [], ◌∷◌, ◌++◌, length, Option}
-use Rattle.htp_line.specs.Reading.{Asked}
+use Rattle.htp_line.specs.declared.request.Request.{Request}
 use Rattle.hex_io.specs.Told.{Both}
 use Rattle.hex_io.specs.declared.files.File.{File}
 use Rattle.hex_io.specs.Shelves.{Shelved, Fetched, Failed, Missing, Long, Contents, fetched_of}
@@ -9,9 +9,11 @@ use Rattle.hex_game.specs.Games.{GameData}
 use Rattle.sgf_game.specs.RecordOf.{IsRecordOf}
 use Rattle.hex_plan.specs.Turns.{Decision}
 use Rattle.hex_plan.specs.Good.{IsGood}
-use Rattle.hex_engine.specs.Supply.{Loaded, Unread, Refused, Loads, Load, Supply, nothing_left}
+use Rattle.hex_engine.specs.Supply.{Load, Supply, nothing_left}
+use Rattle.hex_engine.specs.declared.files.Loaded.{Loaded}
+use Rattle.hex_engine.specs.declared.files.Loaded.TheVariants.{Unread, Refused, Loads}
 use Rattle.hex_engine.specs.EngineState.{EngineState}
-use Rattle.hex_engine.specs.Replies.{ReactsWith, IsBrief, reaction}
+use Rattle.hex_engine.specs.Requests.{ReactsWith, IsBrief, reaction}
 use Rattle.hex_engine.specs.declared.answers.Answer.{Answer}
 use Rattle.hex_engine.specs.declared.options.Options.{Options}
 
@@ -87,9 +89,9 @@ pub record UsesNothing (options : Options) (shelf shelf_now : Option Shelved)
 -- the reaction to the request with that to use up. An answer for which something was used up is
 -- brief.
 pub record Answered (engine : EngineState) (shelf shelf_now : Option Shelved)
-    (archive archive_now : Option (List Decision)) (asked : Asked) (answer : Answer)
+    (archive archive_now : Option (List Decision)) (request : Request) (answer : Answer)
     (after : EngineState) : Type 0 where
   pub used : Supply
   pub uses : Uses engine.options shelf shelf_now archive archive_now used []
-  pub reacts : ReactsWith (λ supply. reaction engine supply asked) used answer after
+  pub reacts : ReactsWith (λ supply. reaction engine supply request) used answer after
   pub brief : (used ≡ nothing_left) ⊎ IsBrief answer

@@ -27,8 +27,10 @@ pub enum Fail {
     NoLoad = 7,
     /// The shelf was at fault.
     ReadFault = 8,
-    /// No move was searched yet.
+    /// No turn was made yet, or the report is asked for of a turn that was not searched.
     NoSearch = 9,
+    /// No turn was made yet, or the last turn's plan is no win.
+    NoCert = 10,
 }
 
 impl Fail {
@@ -46,6 +48,7 @@ impl Fail {
             Fail::NoLoad => "cannot load file",
             Fail::ReadFault => "read fault",
             Fail::NoSearch => "no search",
+            Fail::NoCert => "no certificate",
         }
     }
 }

@@ -1,25 +1,34 @@
 //! The commands and their names.
 
-ghost use Rattle.std.specs.Prelude.{◌≡◌, IfOk, map};
-ghost use Rattle.hex_engine.specs.Commands.{commands, name_of, command_named, all_names};
+ghost use Rattle.std.specs.Prelude.{◌≡◌, IfOk};
+ghost use Rattle.hex_engine.specs.Commands.{command_named, name_of, all_names};
 
 use std::alloc::{AllocError, Global};
 
 /// A command of the protocol (GTP version 2, draft, with the vertices of Hex).
 #[derive(Clone, Copy, Debug, PartialEq, Eq)]
 pub enum Command {
+    /// One that uses nothing up.
+    Quiet(Quiet),
+    /// Asks for a move of the engine, which is played. It uses up a turn.
+    GenMove,
+    /// Fetches the record of a game. It uses up a file.
+    LoadSgf,
+}
+
+/// A command that uses nothing up.
+#[derive(Clone, Copy, Debug, PartialEq, Eq)]
+pub enum Quiet {
     /// Empties the board, and gives it a size.
     BoardSize,
     /// Empties the board.
     ClearBoard,
-    /// Asks for a searched move, which is played.
-    GenMove,
     /// Asks whether a command is built.
     KnownCommand,
     /// Asks for the names of all commands.
     ListCommands,
-    /// Fetches the record of a game.
-    LoadSgf,
+    /// Asks for what was known before the last turn was searched.
+    MustPlay,
     /// Asks for the engine's name.
     Name,
     /// Makes a move.
@@ -30,7 +39,7 @@ pub enum Command {
     ProtocolVersion,
     /// Ends the session.
     Quit,
-    /// Asks for the report of the last search.
+    /// Asks for the report of the last turn's search.
     SearchReport,
     /// Asks for the board as text.
     ShowBoard,
@@ -38,28 +47,32 @@ pub enum Command {
     Undo,
     /// Asks for the engine's version.
     Version,
+    /// Asks for the certificate of the last turn's win.
+    WinCert,
     /// Asks who is joined.
     Winner,
 }
 
 /// All commands, in the order in which `list_commands` names them.
-pub const COMMANDS: [Command; 16] = [
-    Command::BoardSize,
-    Command::ClearBoard,
+pub const COMMANDS: [Command; 18] = [
+    Command::Quiet(Quiet::BoardSize),
+    Command::Quiet(Quiet::ClearBoard),
     Command::GenMove,
-    Command::KnownCommand,
-    Command::ListCommands,
+    Command::Quiet(Quiet::KnownCommand),
+    Command::Quiet(Quiet::ListCommands),
     Command::LoadSgf,
-    Command::Name,
-    Command::Play,
-    Command::PrintSgf,
-    Command::ProtocolVersion,
-    Command::Quit,
-    Command::SearchReport,
-    Command::ShowBoard,
-    Command::Undo,
-    Command::Version,
-    Command::Winner,
+    Command::Quiet(Quiet::MustPlay),
+    Command::Quiet(Quiet::Name),
+    Command::Quiet(Quiet::Play),
+    Command::Quiet(Quiet::PrintSgf),
+    Command::Quiet(Quiet::ProtocolVersion),
+    Command::Quiet(Quiet::Quit),
+    Command::Quiet(Quiet::SearchReport),
+    Command::Quiet(Quiet::ShowBoard),
+    Command::Quiet(Quiet::Undo),
+    Command::Quiet(Quiet::Version),
+    Command::Quiet(Quiet::WinCert),
+    Command::Quiet(Quiet::Winner),
 ];
 
 impl Command {
@@ -79,22 +92,24 @@ impl Command {
         ensures { result.now ≡ name_of self }
     {
         match self {
-            Command::BoardSize => "boardsize",
-            Command::ClearBoard => "clear_board",
+            Command::Quiet(Quiet::BoardSize) => "boardsize",
+            Command::Quiet(Quiet::ClearBoard) => "clear_board",
             Command::GenMove => "genmove",
-            Command::KnownCommand => "known_command",
-            Command::ListCommands => "list_commands",
+            Command::Quiet(Quiet::KnownCommand) => "known_command",
+            Command::Quiet(Quiet::ListCommands) => "list_commands",
             Command::LoadSgf => "loadsgf",
-            Command::Name => "name",
-            Command::Play => "play",
-            Command::PrintSgf => "printsgf",
-            Command::ProtocolVersion => "protocol_version",
-            Command::Quit => "quit",
-            Command::SearchReport => "search-report",
-            Command::ShowBoard => "showboard",
-            Command::Undo => "undo",
-            Command::Version => "version",
-            Command::Winner => "winner",
+            Command::Quiet(Quiet::MustPlay) => "mustplay",
+            Command::Quiet(Quiet::Name) => "name",
+            Command::Quiet(Quiet::Play) => "play",
+            Command::Quiet(Quiet::PrintSgf) => "printsgf",
+            Command::Quiet(Quiet::ProtocolVersion) => "protocol_version",
+            Command::Quiet(Quiet::Quit) => "quit",
+            Command::Quiet(Quiet::SearchReport) => "search-report",
+            Command::Quiet(Quiet::ShowBoard) => "showboard",
+            Command::Quiet(Quiet::Undo) => "undo",
+            Command::Quiet(Quiet::Version) => "version",
+            Command::Quiet(Quiet::WinCert) => "wincert",
+            Command::Quiet(Quiet::Winner) => "winner",
         }
     }
 }
@@ -104,7 +119,7 @@ impl Command {
 pub fn command_list(alloc: Global) -> Result<Vec<u8>, AllocError>
     ensures { IfOk result (λ text. text.items ≡ all_names) }
 {
-    b"boardsize\nclear_board\ngenmove\nknown_command\nlist_commands\nloadsgf\nname\nplay\nprintsgf\nprotocol_version\nquit\nsearch-report\nshowboard\nundo\nversion\nwinner".to_vec(
+    b"boardsize\nclear_board\ngenmove\nknown_command\nlist_commands\nloadsgf\nmustplay\nname\nplay\nprintsgf\nprotocol_version\nquit\nsearch-report\nshowboard\nundo\nversion\nwincert\nwinner".to_vec(
         alloc,
     )
 }

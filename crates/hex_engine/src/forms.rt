@@ -2,7 +2,8 @@
 
 ghost use Rattle.std.specs.Prelude.{◌≡◌, option_map};
 ghost use Rattle.std.specs.Str.{str_eq_ignore_ascii_case};
-ghost use Rattle.hex_engine.specs.Replies.{file_named, lone_colour};
+ghost use Rattle.hex_engine.specs.LoadReplies.{file_named};
+ghost use Rattle.hex_engine.specs.MoveReplies.{lone_colour};
 ghost use Rattle.hex_engine.specs.Forms.{colour_of, is_first_digit_of, is_vertex};
 ghost use Rattle.hex_engine.specs.Forms.{move_word_of, sizes_of, IsSaidOf};
 

@@ -5,9 +5,8 @@ use tree_words::Knobs;
 /// How an engine chooses its moves.
 #[derive(Clone, Copy, Debug, PartialEq, Eq)]
 pub struct Options {
-    /// The knobs of its searches. The seed is that of the first one.
+    /// The knobs of its searches. The seed is that of the first turn's.
     pub knobs: Knobs,
-    /// Whether it looks for virtual connections before it searches. It has no effect yet: none are
-    /// looked for.
+    /// Whether it looks for virtual connections before it searches.
     pub hsearch: bool,
 }

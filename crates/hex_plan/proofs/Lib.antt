@@ -1,5 +1,15 @@
+pub mod Allowing
+pub mod CertifiedMoves
+pub mod Collected
 pub mod Decides
+pub mod EdgeNumbers
+pub mod Lines
+pub mod MiddleOf
+pub mod Middles
+pub mod PlanLaws
 pub mod Reports
 pub mod Rows
 pub mod Rooms
 pub mod Same
+pub mod SureWins
+pub mod WinningCells

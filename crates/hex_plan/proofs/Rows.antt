@@ -1,4 +1,4 @@
--- The lines of rows, one by one.
+-- Rows on a board.
 use Rattle.std.proofs.Common.{◌≡◌, ℕ, zero, suc, ◌+◌, ◌*◌, ◌<◌, ◌≤◌, List, [], ◌∷◌, ◌++◌, length, drop, map, get_or, refl, sym, ap, ◌∙◌, subst, append-nil, append_assoc, arith}
 use Rattle.std.specs.List.{range_with_len}
 use Rattle.tree_words.specs.Settings.{Setting, IsSetting}
@@ -12,32 +12,6 @@ pub row_on : (size : ℕ) (rows : List Row) (i : ℕ) (row : Row) → AreOn size
 row_on size [] i row h l e = absurd (omega arith)
 row_on size (r ∷ rows) zero row h l e = subst (λ (u : Row). u.cell < size * size) (sym e) h.0
 row_on size (r ∷ rows) (suc i) row h l e = row_on size rows i row h.1 (omega arith) e
-
-lines_at : (size : ℕ) (rows : List Row) (i : ℕ) (row : Row) → i < length rows → row ≡ get_or rows i row → report_lines size (drop i rows) ≡ report_line size row ++ report_lines size (drop (i + 1) rows)
-lines_at size [] i row l e = absurd (omega arith)
-lines_at size (r ∷ rows) zero row l e = ap (λ u. report_line size u ++ report_lines size rows) (sym e)
-lines_at size (r ∷ rows) (suc i) row l e =
-    lines_at size rows i row (omega arith) e ∙ ap (λ k. report_line size row ++ report_lines size (drop k (r ∷ rows))) (next i)
-  where
-    next : (i : ℕ) → suc (i + 1) ≡ suc i + 1
-    next i = omega arith
-
--- a loop that writes the line of one row more
-pub lines_step : (size : ℕ) (rows : List Row) (i : ℕ) (row : Row) (old now new : List ℕ) → i < length rows → row ≡ get_or rows i row → now ++ report_lines size (drop i rows) ≡ old
-    → new ≡ now ++ report_line size row → new ++ report_lines size (drop (i + 1) rows) ≡ old
-lines_step size rows i row old now new l e h w =
-    ap (λ t. t ++ report_lines size (drop (i + 1) rows)) w ∙ append_assoc now (report_line size row) (report_lines size (drop (i + 1) rows))
-    ∙ ap (λ t. now ++ t) (sym (lines_at size rows i row l e)) ∙ h
-
-rows_end : (rows : List Row) (i : ℕ) → length rows ≤ i → drop i rows ≡ []
-rows_end [] zero l = refl
-rows_end [] (suc i) l = refl
-rows_end (r ∷ rows) zero l = absurd (omega arith)
-rows_end (r ∷ rows) (suc i) l = rows_end rows i (omega arith)
-
--- at the end of such a loop
-pub lines_end : (size : ℕ) (rows : List Row) (i : ℕ) (now old : List ℕ) → length rows ≤ i → now ++ report_lines size (drop i rows) ≡ old → now ≡ old
-lines_end size rows i now old l h = sym (append-nil now) ∙ ap (λ t. now ++ report_lines size t) (sym (rows_end rows i l)) ∙ h
 
 all_on : (size : ℕ) (row : ℕ → Row) (a n : ℕ) → ((i : ℕ) → i < a + n → (row i).cell < size * size) → AreOn size (map row (range_with_len a n))
 all_on size row a zero h = tt

@@ -2,7 +2,7 @@
 use Rattle.std.specs.Prelude.{◌≡◌, ℕ, Bool, true, None, Some}
 use Rattle.hex_cells.specs.declared.colours.Colour.{Colour}
 use Rattle.hex_board.specs.Joined.{winner_of}
-use Rattle.hex_board.specs.Positions.{Position, is_empty_at}
+use Rattle.hex_board.specs.Positions.{IsPosition, Position, is_empty_at}
 use Rattle.tree_words.specs.declared.settings.Knobs.{Knobs}
 use Rattle.tree_words.specs.Settings.{Setting, IsSetting}
 use Rattle.tree_words.specs.Closing.{ClosedTree, IsClosed}
@@ -12,16 +12,17 @@ use Rattle.tree_words.specs.Trees.{IsTreeOf}
 use Rattle.hex_plan.specs.Plans.{IsPlanned}
 use Rattle.hex_plan.specs.Seeds.{turn_knobs}
 use Rattle.hex_plan.specs.Turns.{Decision}
+use Rattle.hex_plan.specs.declared.plans.Planned.{Planned}
 use Rattle.hex_plan.specs.declared.types.Plan.{Plan}
 use Rattle.hex_plan.specs.declared.types.Plan.TheVariants.{Win, Search}
 
 -- the shape is that of the search of the turn with this number, where the mover is to place a stone
--- on an allowed cell of the board now: these, and the options' knobs with the turn's seed
-pub record IsTurnShape (options : Knobs) (now : Position) (mover : Colour) (number allowed : ℕ)
+-- on one of these cells of the board now: these, and the options' knobs with the turn's seed
+pub record IsTurnShape (options : Knobs) (now : Position) (mover : Colour) (number cells : ℕ)
     (shape : Setting) : Type 0 where
   pub board : shape.board ≡ now
   pub player : shape.player ≡ mover
-  pub allowed : shape.allowed ≡ allowed
+  pub allowed : shape.allowed ≡ cells
   pub knobs : shape.knobs ≡ turn_knobs options number
 
 -- the tree is that of Seq, where there is one worker
@@ -51,9 +52,26 @@ FollowsPlan options t (Search threats allowed lost) =
 -- Good: what is promised of each turn of a session with these options, which looks for connections
 -- or doesn't
 pub record IsGood (options : Knobs) (hsearch : Bool) (t : Decision) : Type 0 where
-  -- no player is joined on the turn's board, and the turn's cell is empty there
+  -- the turn's board is one, no player is joined there, and the turn's cell is empty
+  pub position : IsPosition t.board.size t.board.black t.board.white
   pub nobody : winner_of t.board ≡ None
   pub empty : is_empty_at t.board t.cell ≡ true
   -- it was planned for its board and player, and decided as planned
   pub planned : IsPlanned t.board t.player hsearch t.planned
   pub follows : FollowsPlan options t t.planned.plan
+
+-- the turn, which was planned so for the player on the board, is good where no player is joined
+-- there
+abbrev pub IsGoodAsPlanned : Decision → Position → Colour → Planned → Type 0
+IsGoodAsPlanned t board player planned = (options : Knobs) (hsearch : Bool)
+    → winner_of board ≡ None → IsPlanned board player hsearch planned → IsGood options hsearch t
+
+-- the turn with this number, which was planned so and which the tree decides, is good where no
+-- player is joined on the tree's board, the plan is one for this board and player, and the tree's
+-- shape is that of the turn; for one worker the tree has to be that of Seq
+abbrev pub IsGoodAsSearched : Decision → ℕ → Planned → ClosedTree → Type 0
+IsGoodAsSearched t number planned tree = (options : Knobs) (hsearch : Bool)
+    → winner_of tree.shape.board ≡ None
+    → IsPlanned tree.shape.board tree.shape.player hsearch planned
+    → IsTurnShape options tree.shape.board tree.shape.player number tree.shape.allowed tree.shape
+    → IsSequential options tree → IsGood options hsearch t

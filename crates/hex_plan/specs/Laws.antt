@@ -1,11 +1,16 @@
--- What the laws of good turns say: certified moves win, and moves outside a threat lose.
+-- What the laws of good turns say: certified moves win, moves outside a threat lose, and one
+-- worker decides.
 use Rattle.std.specs.Prelude.{◌≡◌, ℕ, Bool, true, false, List, Some}
 use Rattle.std.specs.List.{slice_get}
 use Rattle.hex_cells.specs.Colours.{other_of}
 use Rattle.hex_cells.specs.Sets.{has}
 use Rattle.hex_board.specs.Positions.{is_empty_at, placed}
 use Rattle.hex_board.specs.Wins.{Wins}
+use Rattle.tree_words.specs.declared.settings.Knobs.{Knobs}
+use Rattle.hex_plan.specs.Good.{IsGood}
 use Rattle.hex_plan.specs.Plans.{IsWin}
+use Rattle.hex_plan.specs.Reports.{reported_rows}
+use Rattle.hex_plan.specs.TurnTexts.{texts_of}
 use Rattle.hex_plan.specs.Turns.{Decision}
 use Rattle.hex_plan.specs.declared.threats.Threat.{Threat}
 use Rattle.hex_plan.specs.declared.types.Plan.TheVariants.{Search}
@@ -34,3 +39,10 @@ abbrev pub LosesWhereLost : Decision → Type 0
 LosesWhereLost t = (threats : List Threat) (allowed : ℕ)
     → t.planned.plan ≡ Search threats allowed true
     → (k : ℕ) → is_empty_at t.board k ≡ true → LosesBy t k
+
+-- of good turns without a look for connections the board, the player and the number determine the
+-- cell, the report and the texts
+abbrev pub AreDetermined : Knobs → Type 0
+AreDetermined options = (t u : Decision) → IsGood options false t → IsGood options false u
+    → t.board ≡ u.board → t.player ≡ u.player → t.number ≡ u.number
+    → (t.cell ≡ u.cell) × (reported_rows t ≡ reported_rows u) × (texts_of t ≡ texts_of u)

@@ -14,6 +14,7 @@ use Rattle.conn_store.specs.declared.entries.Kind.{Kind}
 use Rattle.conn_store.specs.declared.entries.Kind.TheVariants.{Full, Semi}
 use Rattle.hsearch.specs.Closed.{IsReport}
 use Rattle.tree_words.specs.Complete.{HasEmpties}
+use Rattle.tree_words.specs.Settings.{AreEmpty, IsAny}
 use Rattle.win_cert.specs.Cuts.{CertifiesEntry, IsEdgeEntryAt}
 use Rattle.win_cert.specs.declared.certs.Cert.{Cert}
 use Rattle.hex_plan.specs.declared.types.Plan.{Plan}
@@ -102,7 +103,7 @@ IsInEach board threats k =
 -- board is lost, and all empty cells are allowed
 pub record IsMustplay (board : Position) (threats : List Threat) (allowed : ℕ)
     (lost : Bool) : Type 0 where
-  pub lost : (lost ≡ true) ↔ ((k : ℕ) → ¬ IsInEach board threats k)
+  pub none : (lost ≡ true) ↔ ((k : ℕ) → ¬ (IsInEach board threats k))
   pub narrowed : lost ≡ false → (k : ℕ) → (has allowed k ≡ true) ↔ IsInEach board threats k
   pub free : lost ≡ true → HasEmpties allowed board
 
@@ -111,9 +112,9 @@ pub record IsMustplay (board : Position) (threats : List Threat) (allowed : ℕ)
 pub record IsNarrowed (board : Position) (player : Colour) (threats : List Threat) (allowed : ℕ)
     (lost : Bool) (own other : StoreData) : Type 0 where
   pub own_report : IsReportOf board player own
-  pub unjoined : (a : Entry) → ¬ IsEdgeEntry own a
+  pub unjoined : (a : Entry) → ¬ (IsEdgeEntry own a)
   pub other_report : IsReportOf board (other_of player) other
-  pub threats : AreThreats other threats
+  pub are_threats : AreThreats other threats
   pub mustplay : IsMustplay board threats allowed lost
 
 -- ---- plans
@@ -143,3 +144,18 @@ IsPlanned board player false p = IsFree board p
 abbrev pub IsWin : Plan → Type 0
 IsWin (Win cert cell) = Unit {0}
 IsWin (Search threats allowed lost) = ⊥
+
+-- the plan is a win by cell k
+abbrev pub IsWinBy : Plan → ℕ → Type 0
+IsWinBy (Win cert cell) k = cell ≡ k
+IsWinBy (Search threats allowed lost) k = ⊥
+
+-- the plan is a search among these cells
+abbrev pub IsSearchAmong : Plan → ℕ → Type 0
+IsSearchAmong (Win cert cell) set = ⊥
+IsSearchAmong (Search threats allowed lost) set = allowed ≡ set
+
+-- a search of the plan is among empty cells of the board, and there is one
+abbrev pub AllowsEmpties : Position → Plan → Type 0
+AllowsEmpties board (Win cert cell) = Unit {0}
+AllowsEmpties board (Search threats allowed lost) = IsAny allowed × AreEmpty allowed board

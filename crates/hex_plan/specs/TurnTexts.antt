@@ -38,9 +38,13 @@ report_on size closed = codes "playouts " ++ decimal closed.shape.knobs.playouts
 unfoldable pub report_of : Decision → Option (List ℕ)
 report_of turn = option_map (report_on turn.board.size) turn.closed
 
+-- a cell's vertex after a space
+abbrev pub spaced_vertex : ℕ → ℕ → List ℕ
+spaced_vertex size k = 32 ∷ vertex_of size k
+
 -- the vertices of the cells of a set, in rising order, a space before each
-abbrev pub vertices_of : ℕ → ℕ → List ℕ
-vertices_of size set = flat_map (λ k. 32 ∷ vertex_of size k) (filter (has set) (cells_of size))
+abbrev pub spaced_vertices : ℕ → ℕ → List ℕ
+spaced_vertices size set = flat_map (spaced_vertex size) (filter (has set) (cells_of size))
 
 -- `yes` or `no`
 abbrev pub answer_word : Bool → List ℕ
@@ -49,13 +53,13 @@ answer_word false = codes "no"
 
 -- a line feed, `threat`, and the vertices of the threat's carrier
 abbrev pub threat_line : ℕ → Threat → List ℕ
-threat_line size t = codes "\nthreat" ++ vertices_of size t.carrier
+threat_line size t = codes "\nthreat" ++ spaced_vertices size t.carrier
 
 -- of a win its cell; of a search whether the board is lost, the allowed cells, and each threat
 abbrev pub mustplay_of : ℕ → Plan → List ℕ
 mustplay_of size (Win cert cell) = codes "win " ++ vertex_of size cell
 mustplay_of size (Search threats allowed lost) = codes "lost " ++ answer_word lost
-    ++ codes "\nallowed" ++ vertices_of size allowed ++ flat_map (threat_line size) threats
+    ++ codes "\nallowed" ++ spaced_vertices size allowed ++ flat_map (threat_line size) threats
 
 -- a text without its last byte
 abbrev pub without_last_byte : List ℕ → List ℕ

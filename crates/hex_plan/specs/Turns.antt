@@ -21,11 +21,11 @@ pub record Decision : Type 0 where
   pub closed : Option ClosedTree
   pub cell : ℕ
 
--- the tree is one of the turn's board, player and allowed cells, and its best cell is the turn's
-pub record Decides (t : Decision) (allowed : ℕ) (closed : ClosedTree) : Type 0 where
+-- the tree is one of the turn's board, player and these allowed cells, and its best cell is the turn's
+pub record Decides (t : Decision) (cells : ℕ) (closed : ClosedTree) : Type 0 where
   pub board : closed.shape.board ≡ t.board
   pub player : closed.shape.player ≡ t.player
-  pub allowed : closed.shape.allowed ≡ allowed
+  pub allowed : closed.shape.allowed ≡ cells
   pub best : IsBest closed.shape closed.words t.cell
 
 -- the plan decides the turn: a win by its cell, and its certificate can be written; a search by its

@@ -12,7 +12,7 @@ use std::alloc::Global;
 use std::marker::Model;
 
 /// An archive in memory. It tells all its turns, and is at fault exactly where it is full.
-#[derive(Debug, Drop)]
+#[derive(Drop)]
 pub struct MemArchive {
     turns: Vec<Turn>,
     room: usize,

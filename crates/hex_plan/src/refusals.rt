@@ -15,3 +15,15 @@ impl From<AllocError> for Memory {
         Memory
     }
 }
+
+impl From<hsearch::Memory> for Memory {
+    fn from(_refused: hsearch::Memory) -> Memory {
+        Memory
+    }
+}
+
+impl From<win_cert::Memory> for Memory {
+    fn from(_refused: win_cert::Memory) -> Memory {
+        Memory
+    }
+}

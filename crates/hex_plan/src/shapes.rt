@@ -1,14 +1,12 @@
 //! The shape of the search of a turn.
 
-ghost use Rattle.std.specs.Prelude.{◌≡◌, ℕ, true};
-ghost use Rattle.hex_board.specs.Positions.{is_empty_at};
-ghost use Rattle.tree_words.specs.Settings.{AreInRange};
+ghost use Rattle.std.specs.Prelude.{◌≡◌};
+ghost use Rattle.tree_words.specs.Settings.{AreEmpty, AreInRange, IsAny};
 ghost use Rattle.hex_plan.specs.Good.{IsTurnShape};
-ghost use Rattle.hex_plan.specs.Openings.{may_move};
 ghost use Rattle.hex_plan.specs.Seeds.{seed_of, turn_knobs};
 
 use hex_board::Board;
-use hex_cells::Colour;
+use hex_cells::{CellSet, Colour};
 use tree_words::{Knobs, Shape};
 
 /// The seeds of two turns that follow one another are this far apart. The playouts of one search
@@ -34,14 +32,21 @@ fn turn_knobs(options: &Knobs, number: u64) -> Knobs
     }
 }
 
-/// The shape of the search of the turn with this number, where `colour` is to move: all empty cells
-/// of the board are allowed, and the seed is `S + number·2^32` modulo 2^64, S being that of the
-/// options. A cell of the board is empty, and the options are in their ranges.
-pub fn turn_shape(board: &Board, colour: Colour, options: &Knobs, number: u64) -> Shape
-    requires room { (k : ℕ) × (is_empty_at board.now k ≡ true) }
+/// The shape of the search of the turn with this number, where `colour` is to move and to place a
+/// stone on an allowed cell: the seed is `S + number·2^32` modulo 2^64, S being that of the options.
+/// A cell is allowed, the allowed cells are empty, and the options are in their ranges.
+pub fn turn_shape(
+    board: &Board,
+    colour: Colour,
+    allowed: CellSet,
+    options: &Knobs,
+    number: u64,
+) -> Shape
+    requires any { IsAny allowed }
+    requires empty { AreEmpty allowed board.now }
     requires ranges { AreInRange options.now }
-    ensures { IsTurnShape options.now board.now colour number result }
+    ensures { IsTurnShape options.now board.now colour number allowed result }
 {
     let knobs = turn_knobs(options, number);
-    Shape::make(board, colour, board.empties(), &knobs)
+    Shape::make(board, colour, allowed, &knobs)
 }

@@ -1,82 +1,119 @@
-//! The text of a turn's report.
+//! What the commands `search-report`, `mustplay` and `wincert` say of a turn.
 
-ghost use Rattle.std.specs.Prelude.{◌≡◌, ◌*◌, ◌<◌, ◌++◌, IfOk, OnOk, option_map};
-ghost use Rattle.std.specs.List.{flat_map};
-ghost use Rattle.hex_cells.specs.Vertices.{vertex_of};
-ghost use Rattle.tree_words.specs.Roots.{rows_of};
-ghost use Rattle.hex_plan.specs.Turns.{IsDecided};
-ghost use Rattle.hex_plan.specs.TurnTexts.{AreOn, report_of, report_on, report_line};
-ghost use Rattle.hex_plan.specs.TurnTexts.{report_lines};
-ghost use Rattle.std.specs.Fmt.{decimal};
+ghost use Rattle.std.specs.Prelude.{◌≡◌, IfOk, option_map};
+ghost use Rattle.hex_plan.specs.TurnTexts.{mustplay_of, texts_of, wincert_of, without_last_byte};
+ghost use Rattle.win_cert.specs.Texts.{cert_text};
+ghost use Rattle.win_cert.specs.Writable.{IsWritable};
 
+use super::mustplay_texts::{search_text, win_text};
+use super::report_texts::report_text;
 use super::turns::Turn;
-use hex_cells::{Cell, Size, VERTEX_LEN, write_vertex};
+use super::types::Plan;
 use std::alloc::{AllocError, Global};
-use tree_words::{Closed, Row, report};
+use std::marker::Model;
+use win_cert::{Cert, write};
 
-/// Writes the vertex of a cell of the board at the end of the text.
-fn push_vertex(text: &mut Vec<u8>, cell: Cell, size: Size) -> Result<(), AllocError>
-    requires { cell < size * size }
-    ensures { OnOk result (text.new.items ≡ text.old.items ++ vertex_of size cell) }
-{
-    let mut vertex = [0; VERTEX_LEN];
-    let length = write_vertex(cell, size, &mut vertex);
-    text.extend_from_slice(&vertex[..length])
+/// What `search-report`, `mustplay` and `wincert` say of a turn.
+#[derive(Debug, Drop)]
+pub struct TurnTexts {
+    report: Option<Vec<u8>>,
+    mustplay: Vec<u8>,
+    wincert: Option<Vec<u8>>,
 }
 
-fn push_number(alloc: Global, text: &mut Vec<u8>, number: u32) -> Result<(), AllocError>
-    ensures { OnOk result (text.new.items ≡ text.old.items ++ decimal number) }
-{
-    text.extend_from_slice(number.to_string(alloc)?.as_bytes())
+impl Model for TurnTexts {
+    ghost use Rattle.std.specs.Prelude.{option_map};
+    ghost use Rattle.hex_plan.specs.TurnTexts.{TurnTextsData};
+
+    ghost Value = { TurnTextsData };
+
+    ghost view = { λ t. record {
+      report = option_map (λ text. text.items) t.report;
+      mustplay = t.mustplay.items;
+      wincert = option_map (λ text. text.items) t.wincert;
+    } };
 }
 
-/// A line feed, and a row's vertex, visits and wins.
-fn push_row(alloc: Global, text: &mut Vec<u8>, row: &Row, size: Size) -> Result<(), AllocError>
-    requires { row.now.cell < size * size }
-    ensures { OnOk result (text.new.items ≡ text.old.items ++ report_line size row.now) }
-{
-    text.push(b'\n')?;
-    push_vertex(text, row.cell, size)?;
-    text.push(b' ')?;
-    push_number(alloc, text, row.visits)?;
-    text.push(b' ')?;
-    push_number(alloc, text, row.wins)
-}
-
-/// The line of each row.
-fn push_rows(alloc: Global, text: &mut Vec<u8>, rows: &[Row], size: Size) -> Result<(), AllocError>
-    requires { AreOn size rows.now }
-    ensures { OnOk result (text.new.items ≡ text.old.items ++ report_lines size rows.now) }
-{
-    for row in rows {
-        push_row(alloc, text, row, size)?;
+impl TurnTexts {
+    /// The report of the turn's tree; `None` exactly where it has no tree.
+    pub fn report(&self) -> Option<&[u8]>
+        ensures { option_map (λ text. text.now) result ≡ self.now.report }
+    {
+        match &self.report {
+            Some(text) => Some(text.as_slice()),
+            None => None,
+        }
     }
-    Ok(())
-}
 
-/// The text of a turn's report: none where it has no tree. It is `playouts` and their number, and
-/// then a line for each child of the root, in rising order of cells: its vertex, visits and wins.
-pub fn report_text(alloc: Global, turn: &Turn) -> Result<Option<Vec<u8>>, AllocError>
-    ensures { IfOk result (λ report. option_map (λ text. text.items) report ≡ report_of turn.now) }
-{
-    match turn.closed() {
-        None => Ok(None),
-        Some(closed) => Ok(Some(tree_text(alloc, closed, turn.board().size())?)),
+    /// Of a win its cell; of a search whether the board is lost, the allowed cells, and the
+    /// carrier of each threat.
+    pub fn mustplay(&self) -> &[u8]
+        ensures { result.now ≡ self.now.mustplay }
+    {
+        &self.mustplay
+    }
+
+    /// The certificate of a win, without its last line feed; `None` exactly where the plan is a
+    /// search.
+    pub fn wincert(&self) -> Option<&[u8]>
+        ensures { option_map (λ text. text.now) result ≡ self.now.wincert }
+    {
+        match &self.wincert {
+            Some(text) => Some(text.as_slice()),
+            None => None,
+        }
     }
 }
 
-/// The number of a tree's playouts, and a line for each child of its root.
-fn tree_text(alloc: Global, closed: &Closed, size: Size) -> Result<Vec<u8>, AllocError>
-    requires { closed.now.shape.board.size ≡ size }
-    ensures { IfOk result (λ text. text.items ≡ report_on size closed.now) }
+/// The texts of a turn. It refuses for want of memory alone.
+pub fn turn_texts(alloc: Global, turn: &Turn) -> Result<TurnTexts, AllocError>
+    ensures { IfOk result (λ texts. texts ≡ texts_of turn.now) }
 {
-    // That the tree is closed says that the cells of its root's children lie on the board.
-    let _words = closed.words();
-    let Ok(rows) = report(alloc, closed) else {
+    let report = report_text(alloc, turn)?;
+    let mustplay = mustplay_text(alloc, turn)?;
+    let wincert = wincert_text(alloc, turn)?;
+    Ok(TurnTexts {
+        report,
+        mustplay,
+        wincert,
+    })
+}
+
+// Of a win its cell, of a search whether the board is lost, the allowed cells and the threats.
+fn mustplay_text(alloc: Global, turn: &Turn) -> Result<Vec<u8>, AllocError>
+    ensures { IfOk result
+        (λ text. text.items ≡ mustplay_of turn.now.board.size turn.now.planned.plan) }
+{
+    let size = turn.board().size();
+    match &turn.planned().plan {
+        Plan::Win { .. } => win_text(alloc, turn.cell(), size),
+        Plan::Search {
+            threats,
+            allowed,
+            lost,
+        } => search_text(alloc, threats.as_slice(), *allowed, *lost, size),
+    }
+}
+
+// The certificate of a win, without its last line feed.
+fn wincert_text(alloc: Global, turn: &Turn) -> Result<Option<Vec<u8>>, AllocError>
+    ensures { IfOk result
+        (λ text. option_map (λ t. t.items) text ≡ wincert_of turn.now.planned.plan) }
+{
+    match &turn.planned().plan {
+        Plan::Win { cert, .. } => Ok(Some(cert_body(alloc, cert)?)),
+        Plan::Search { .. } => Ok(None),
+    }
+}
+
+// The text of a certificate, without its last line feed.
+fn cert_body(alloc: Global, cert: &Cert) -> Result<Vec<u8>, AllocError>
+    requires { IsWritable cert.now }
+    ensures { IfOk result (λ text. text.items ≡ without_last_byte (cert_text cert.now)) }
+{
+    let Ok(text) = write(alloc, cert) else {
         return Err(AllocError);
     };
-    let mut text = b"playouts ".to_vec(alloc)?;
-    push_number(alloc, &mut text, closed.shape().knobs().playouts)?;
-    push_rows(alloc, &mut text, &rows, size)?;
-    Ok(text)
+    let bytes = text.as_slice();
+    bytes[..bytes.len().saturating_sub(1)].to_vec(alloc)
 }

@@ -2,27 +2,31 @@
 
 ghost use Rattle.std.specs.Prelude.{◌≡◌, ◌*◌, ◌<◌, Bool, None, Some, true, IfSome, option_map};
 ghost use Rattle.std.specs.Option.{ForSome};
-ghost use Rattle.hex_board.specs.Joined.{winner_of};
 ghost use Rattle.hex_board.specs.Positions.{is_empty_at};
-ghost use Rattle.tree_words.specs.declared.settings.Knobs.{Knobs};
 ghost use Rattle.tree_words.specs.Closing.{IsClosed};
 ghost use Rattle.tree_words.specs.Roots.{IsBest};
 ghost use Rattle.tree_words.specs.Settings.{IsSetting};
-ghost use Rattle.hex_plan.specs.Good.{IsGood, IsSequential, IsTurnShape};
+ghost use Rattle.hex_plan.specs.Good.{IsGoodAsPlanned, IsGoodAsSearched};
+ghost use Rattle.hex_plan.specs.Plans.{IsPlanned, IsSearchAmong, IsWin, IsWinBy};
+ghost use Rattle.hex_plan.specs.Turns.{DecidesBy};
 
+use super::plans::Planned;
+use super::types::Plan;
 use hex_board::Board;
 use hex_cells::{Cell, Colour};
 use std::marker::Model;
 use tree_words::{Closed, best};
 
-/// A turn: the board, the player to move there, the turn's number, the closed tree that was
-/// searched for it, if one was, and the cell that was chosen. It keeps that the cell is empty, and
-/// that the tree is one of its board and player whose best cell this is.
-#[derive(Debug, Drop)]
+/// A turn: the board, the player to move there, the turn's number, what was planned, the closed
+/// tree that was searched for it, if one was, and the cell that was chosen. It keeps that the cell
+/// is empty, and that the plan decides it: the cell is that of a win, or the best one of a tree of
+/// the turn's board, player and allowed cells.
+#[derive(Drop)]
 pub struct Turn {
     board: Board,
     colour: Colour,
     number: u64,
+    planned: Planned,
     closed: Option<Closed>,
     cell: Cell,
 }
@@ -32,17 +36,23 @@ impl Model for Turn {
 
     ghost Value = { Decision };
 
-    ghost view = { λ t. record
-        { board = t.board; player = t.colour; number = t.number; closed = t.closed; cell = t.cell } };
+    ghost view = { λ t. record {
+      board = t.board;
+      player = t.colour;
+      number = t.number;
+      planned = t.planned;
+      closed = t.closed;
+      cell = t.cell;
+    } };
 
     ghost invariant = { λ t. IsDecided
         (record {
           board = t.board;
           player = t.colour;
           number = t.number;
+          planned = t.planned;
           closed = t.closed;
-          cell =
-              t.cell;
+          cell = t.cell;
         }) };
 }
 
@@ -58,24 +68,66 @@ fn decided(closed: &Closed) -> Cell
     best(closed)
 }
 
+// The cell of a win.
+fn won_cell(plan: &Plan) -> Cell
+    requires { IsWin plan.now }
+    ensures { IsWinBy plan.now result }
+{
+    match plan {
+        Plan::Win { cell, .. } => *cell,
+        Plan::Search { .. } => unreachable!(),
+    }
+}
+
 impl Turn {
-    /// The turn with this number that the tree decides: its board and player are those of the tree,
-    /// and its cell is the tree's best.
-    pub fn of(closed: Closed, number: u64) -> Turn
+    /// The turn with this number on the board, where the plan is a win: its cell is that of the
+    /// win, and it has no tree.
+    pub fn won(board: &Board, colour: Colour, number: u64, planned: Planned) -> Turn
+        requires win { IsWin planned.plan }
+        requires planned { (hsearch : Bool) × IsPlanned board.now colour hsearch planned }
+        ensures parts { result ≡ record {
+          board = board.now;
+          player = colour;
+          number = number;
+          planned = planned;
+          closed = None;
+          cell = result.cell;
+        } }
+        ensures cell { IsWinBy planned.plan result.cell }
+        ensures empty { is_empty_at board.now result.cell ≡ true }
+        ensures good { IsGoodAsPlanned result board.now colour planned }
+    {
+        // What each board keeps of itself.
+        let _size = board.size();
+        let _black = board.stones(Colour::Black);
+        let _white = board.stones(Colour::White);
+        let cell = won_cell(&planned.plan);
+        Turn {
+            board: *board,
+            colour,
+            number,
+            planned,
+            closed: None,
+            cell,
+        }
+    }
+
+    /// The turn with this number that the tree decides, where the plan is a search among the
+    /// allowed cells of the tree: its board and player are those of the tree, and its cell is the
+    /// tree's best.
+    pub fn searched(closed: Closed, number: u64, planned: Planned) -> Turn
+        requires { IsSearchAmong planned.plan closed.shape.allowed }
         ensures parts { result ≡ record {
           board = closed.shape.board;
           player = closed.shape.player;
           number = number;
+          planned = planned;
           closed = Some closed;
           cell = result.cell;
         } }
         ensures best { IsBest closed.shape closed.words result.cell }
         ensures empty { is_empty_at closed.shape.board result.cell ≡ true }
-        // Where the tree's shape is that of this turn and no player is joined, the turn is good;
-        // for one worker the tree has to be that of Seq.
-        ensures good { (options : Knobs) (hsearch : Bool) → winner_of closed.shape.board ≡ None →
-            IsTurnShape options closed.shape.board closed.shape.player number closed.shape →
-            IsSequential options closed → IsGood options hsearch result }
+        ensures good { IsGoodAsSearched result number planned closed }
     {
         let cell = decided(&closed);
         let shape = closed.shape();
@@ -85,6 +137,7 @@ impl Turn {
             board,
             colour,
             number,
+            planned,
             closed: Some(closed),
             cell,
         }
@@ -109,6 +162,14 @@ impl Turn {
         ensures { result ≡ self.now.number }
     {
         self.number
+    }
+
+    /// What was planned.
+    pub fn planned(&self) -> &Planned
+        ensures value { result.now ≡ self.now.planned }
+        ensures decided { DecidesBy self.now self.now.planned.plan }
+    {
+        &self.planned
     }
 
     /// The tree that was searched for the turn, if one was: one of its board and player.

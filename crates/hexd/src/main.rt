@@ -25,6 +25,7 @@ use hex_cli::{End, run, trace_name};
 use hex_io::{DirShelf, ErrLink, FileLink, StdLink, Word, report};
 use hex_plan::{Archive, NoArchive};
 use htp_session::Stop;
+use search_team::OpenGate;
 use std::process::ExitCode;
 use std::{env, io};
 use trace_audit::TraceArchive;
@@ -60,7 +61,16 @@ fn run_with<A: Archive>(
 ) -> u8 {
     let mut link = StdLink::new(rt);
     let mut shelf = DirShelf::new(rt);
-    run(rt.alloc(), words, &mut link, errors, &mut shelf, archive)
+    run(
+        rt,
+        rt.alloc(),
+        words,
+        &mut link,
+        errors,
+        &mut shelf,
+        archive,
+        &OpenGate,
+    )
 }
 
 /// The archive over the file that the words name for traces, or none where they name none.

@@ -13,7 +13,7 @@ use Rattle.hexd_words.specs.Grammar.{IsPart, Part, Saying, after_hyphens, apart,
 use Rattle.hexd_words.specs.Reading.{IsLine, WellFormed}
 use Rattle.hexd_words.specs.Values.{AreOptions, TextBytes, lone_hyphen, mode_word}
 use Rattle.hexd_words.specs.declared.settings.Mode.{Mode}
-use Rattle.hexd_words.specs.declared.settings.Mode.TheVariants.{Htp, Check, Migrate, Audit}
+use Rattle.hexd_words.specs.declared.settings.Mode.TheVariants.{Htp, Check, Migrate, Audit, Sim, Bench}
 use Rattle.hexd_words.specs.declared.settings.Options.{Options}
 use Rattle.hexd_words.proofs.Ends.{or_option_none, value_pushed}
 use Rattle.hexd_words.proofs.LineLaw.{line_clear, line_from, line_values}
@@ -93,6 +93,8 @@ mode_more Htp = λ same. cc
 mode_more Check = λ same. cc
 mode_more Migrate = λ same. cc
 mode_more Audit = λ same. cc
+mode_more Sim = λ same. cc
+mode_more Bench = λ same. cc
 
 rest_more : (front : List Saying) (ws : List TextBytes) (m : Mode) → Once (front ++ modes ws) → value_of (front ++ modes ws) mode_name ≡ Some (mode_word m) → All IsMore ws
 rest_more front [] m once said = All-nil IsMore

@@ -3,7 +3,7 @@ use Rattle.std.specs.Prelude.{◌≡◌, ◌≢◌, ◌≤◌, ◌^◌, ◌-◌,
 use Rattle.std.specs.Prelude.{None, length, codes}
 use Rattle.std.specs.Str.Parse.{IsNumeral, digits_value}
 use Rattle.hexd_words.specs.declared.settings.Mode.{Mode}
-use Rattle.hexd_words.specs.declared.settings.Mode.TheVariants.{Htp, Check, Migrate, Audit}
+use Rattle.hexd_words.specs.declared.settings.Mode.TheVariants.{Htp, Check, Migrate, Audit, Sim, Bench}
 use Rattle.hexd_words.specs.declared.settings.Options.{Options}
 
 abbrev pub TextBytes : Type 0
@@ -22,6 +22,8 @@ mode_word Htp = codes "htp"
 mode_word Check = codes "check"
 mode_word Migrate = codes "migrate"
 mode_word Audit = codes "audit"
+mode_word Sim = codes "sim"
+mode_word Bench = codes "bench"
 
 -- the word that turns a thing on or off
 abbrev pub switch_word : Bool → TextBytes

@@ -23,7 +23,7 @@
 //! **Only tested, or not said.** That memory suffices: a call may always answer [`Memory`]. The
 //! tests have a table of lines, each with its answer by the rules above.
 //!
-//! **Limits.** Of the modes only `htp` is known yet; each other name is refused. There are no short
+//! **Limits.** The modes are those of [`Mode`]; each other name is refused. There are no short
 //! options, no shortened names, no `--help` and no `--version`. Every word has to be text.
 #![tactic(auto)]
 

@@ -80,6 +80,8 @@ pub fn mode(word: Option<&str>) -> Option<Mode>
         "check" => Some(Mode::Check),
         "migrate" => Some(Mode::Migrate),
         "audit" => Some(Mode::Audit),
+        "sim" => Some(Mode::Sim),
+        "bench" => Some(Mode::Bench),
         _ => None,
     }
 }

@@ -13,6 +13,10 @@ pub enum Mode {
     Migrate,
     /// It audits traces of closed trees. Its word is `audit`.
     Audit,
+    /// It simulates a schedule of a search's workers. Its word is `sim`.
+    Sim,
+    /// It searches a large position of its own. Its word is `bench`.
+    Bench,
 }
 
 /// The mode, and the value of each option, given or default.

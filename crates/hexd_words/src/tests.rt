@@ -55,7 +55,7 @@ htp htp
 play
 help
 checks
-bench
+solve
 --size=5
 htp htp --size=5
 --size=0 htp
@@ -194,6 +194,8 @@ fn takes_modes(rt: HostRuntime) -> Result<(), Fail> {
         ("--seed 1 migrate", Mode::Migrate),
         ("check", Mode::Check),
         ("-- audit", Mode::Audit),
+        ("sim --steps 3", Mode::Sim),
+        ("--workers=2 -- bench", Mode::Bench),
     ];
     for (line, mode) in table {
         let options = read(rt.alloc(), line)?.ok_or("refused")?;

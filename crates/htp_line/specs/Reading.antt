@@ -4,8 +4,7 @@ use Rattle.std.specs.Prelude.{Option, Some, None, nat_le, nat_lt, if◌then◌el
 use Rattle.std.specs.List.{slice_split, list_all}
 use Rattle.std.specs.Str.Parse.{digits_value}
 use Rattle.htp_line.specs.declared.request.Parsed.{Parsed}
-use Rattle.htp_line.specs.declared.request.Request.{Request}
-use Rattle.htp_line.specs.declared.request.Parsed.TheVariants as parsed
+use Rattle.htp_line.specs.declared.request.Parsed.TheVariants.{Blank, Bare, Request}
 
 -- a byte that stays: no control byte (0 to 31, 127) but the tab
 abbrev pub is_kept : ℕ → Bool
@@ -50,43 +49,21 @@ is_number word =
 abbrev pub number_of : List ℕ → Option ℕ
 number_of word = if is_number word then Some (digits_value 10 word) else None
 
--- a request as plain data: an id or none, the name and the arguments
-pub record Asked : Type 0 where
-  pub id : Option ℕ
-  pub name : List ℕ
-  pub args : List (List ℕ)
-
--- a line is discarded, an id stands alone, or it is a request
-pub data Reading : Type 0 where
-  Blank : Reading
-  Bare : ℕ → Reading
-  Ask : Asked → Reading
-
 -- the words behind an id
-abbrev pub with_id : ℕ → List (List ℕ) → Reading
+abbrev pub with_id : ℕ → List (List ℕ) → Parsed
 with_id id [] = Bare id
-with_id id (name ∷ args) = Ask (record { id = Some id; name = name; args = args })
+with_id id (name ∷ args) = Request (record { id = Some id; name = name; args = args })
 
 -- the words, of which the first may be an id
-abbrev pub reading_by : Option ℕ → List ℕ → List (List ℕ) → Reading
-reading_by None first others = Ask (record { id = None; name = first; args = others })
+abbrev pub reading_by : Option ℕ → List ℕ → List (List ℕ) → Parsed
+reading_by None first others = Request (record { id = None; name = first; args = others })
 reading_by (Some id) first others = with_id id others
 
 -- what the words of a line ask
-abbrev pub reading_of_words : List (List ℕ) → Reading
+abbrev pub reading_of_words : List (List ℕ) → Parsed
 reading_of_words [] = Blank
 reading_of_words (first ∷ others) = reading_by (number_of first) first others
 
 -- what a raw line asks
-abbrev pub reading : List ℕ → Reading
+abbrev pub reading : List ℕ → Parsed
 reading raw = reading_of_words (words (cleaned raw))
-
--- a request, as it was asked
-abbrev pub asked_of : Request → Asked
-asked_of request = record { id = request.id; name = request.name; args = request.args }
-
--- what was parsed, as a reading
-abbrev pub seen : Parsed → Reading
-seen parsed.Blank = Blank
-seen (parsed.Bare id) = Bare id
-seen (parsed.Request request) = Ask (asked_of request)

@@ -2,7 +2,7 @@
 
 ghost use Rattle.std.specs.Prelude.{◌≡◌, ◌≤◌, length, IfOk, map};
 ghost use Rattle.std.specs.List.{slice_split};
-ghost use Rattle.htp_line.specs.Reading.{reading, seen, cleaned, words, number_of, is_space};
+ghost use Rattle.htp_line.specs.Reading.{reading, cleaned, words, number_of, is_space};
 
 use super::bytes::{Args, Bytes};
 use super::splitter::LINE_LIMIT;
@@ -42,7 +42,7 @@ pub enum Parsed {
 /// are the arguments. The only refusal is [`Memory`].
 pub fn read_line(alloc: Global, raw: &[u8]) -> Result<Parsed, Memory>
     requires { length raw.now ≤ LINE_LIMIT }
-    ensures { IfOk result (λ p. seen p ≡ reading raw.now) }
+    ensures { IfOk result (λ parsed. parsed ≡ reading raw.now) }
 {
     let text = clean(alloc, raw)?;
     let mut words = words_of(alloc, &text)?;

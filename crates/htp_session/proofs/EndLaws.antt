@@ -10,7 +10,8 @@ use Rattle.htp_session.specs.Talk.{TalkState, Going, talk}
 use Rattle.htp_session.specs.Sessions.{talk_to, Quits, AnswersAll, BrokeOff, GaveUp, HeldBack, AnsweredLast, BrokeOffLast, StopsBeforeLast, LastIsShort}
 use Rattle.htp_session.specs.Endings.{Outcome, Ended}
 use Rattle.htp_session.specs.declared.stops.Stop.TheVariants as stop
-use Rattle.htp_session.proofs.Keeping.{Keeps, keeps_taking, keeps_giving, keeps_nothing, end_complete, end_quit, end_unread, end_unwritten, end_unwritten_last, end_unfinished, end_unfinished_last, end_unbegun, end_overlong, end_unarchived, wants_lines}
+use Rattle.htp_session.proofs.Keeping.{Keeps, keeps_taking, keeps_giving, keeps_nothing}
+use Rattle.htp_session.proofs.Ends.{end_complete, end_quit, end_unread, end_unwritten, end_unwritten_last, end_unfinished, end_unfinished_last, end_unbegun, end_overlong, end_unarchived, wants_lines}
 use Rattle.htp_session.proofs.TalkLaws.{talk_to-nil}
 
 abbrev pub Kept : EngineState → Supply → Option Told → Option Told → List ℕ → List ℕ → Type 0

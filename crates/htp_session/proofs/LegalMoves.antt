@@ -12,9 +12,10 @@ use Rattle.hex_game.specs.declared.moves.Move.TheVariants.{Stone}
 use Rattle.hex_engine.specs.Uses.{IsGoodFor}
 use Rattle.hex_plan.specs.Turns.{Decision}
 use Rattle.hex_engine.specs.EngineState.{EngineState}
-use Rattle.hex_engine.specs.Replies.{is_board, is_next}
+use Rattle.hex_engine.specs.MoveReplies.{is_board, is_next}
 
-same_board : (x z : Position) → is_board x z ≡ true → x ≡ z
+-- boards of which one is the other
+pub same_board : (x z : Position) → is_board x z ≡ true → x ≡ z
 same_board x z h =
     let p = and_parts _ _ h in
     let q = and_parts _ _ p.1 in

@@ -2,6 +2,7 @@ pub mod TalkLaws
 pub mod Pieces
 pub mod Given
 pub mod Keeping
+pub mod Ends
 pub mod EndLaws
 pub mod Reactions
 pub mod SupplyLaws

@@ -1,13 +1,16 @@
 -- With one worker a talk is determined: any good turns with which it is answered give the same talk.
 use Rattle.std.proofs.Common.{◌≡◌, ℕ, Bool, true, false, cond, List, [], ◌∷◌, Option, Some, None, Result, Ok, Err, fold, refl, sym, ap, ◌∙◌, subst}
 use Rattle.hex_io.specs.declared.files.File.{File}
-use Rattle.htp_line.specs.Reading.{Reading, Blank, Bare, Ask, reading}
+use Rattle.htp_line.specs.Reading.{reading}
+use Rattle.htp_line.specs.declared.request.Parsed.{Parsed}
+use Rattle.htp_line.specs.declared.request.Parsed.TheVariants.{Blank, Bare, Request}
 use Rattle.htp_line.specs.Splitting.{kept}
 use Rattle.hex_engine.specs.declared.options.Options.{Options}
 use Rattle.hex_engine.specs.Supply.{Supply}
 use Rattle.hex_engine.specs.EngineState.{EngineState}
 use Rattle.hex_engine.specs.Uses.{AreGood, CameOf, HasOneWorker}
-use Rattle.hex_engine.specs.Replies.{Turned, Missing, reaction}
+use Rattle.hex_engine.specs.Replies.{Turned, Missing}
+use Rattle.hex_engine.specs.Requests.{reaction}
 use Rattle.htp_session.specs.Talk.{TalkState, IsAnswered, IsThrough, goes_on, after_reaction, after_reading, after_line, followed_by, with_line, talk_start, talk}
 use Rattle.htp_session.proofs.OneWorkerLoads.{SameLoads, equal_loads, told_loads}
 use Rattle.htp_session.proofs.OneWorkerMoves.{Alike, Agree, reactions_agree}
@@ -24,11 +27,11 @@ turned_same options at a b id (Err missing) s h p q = absurd (p missing refl)
 turned_same options at a b id (Ok t) (Err missing) h p q = absurd (q missing refl)
 turned_same options at a b id (Ok t) (Ok u) h p q = record { is = ap (λ (v : Turned). after_reaction at b id (Ok v)) h.0; left = h.1 }
 
-reading_same : (options : Options) (at : EngineState) (a b : Supply) (line : Reading) → HasOneWorker options → Alike options a b → IsAnswered (after_reading at a line) → IsAnswered (after_reading at b line)
+reading_same : (options : Options) (at : EngineState) (a b : Supply) (line : Parsed) → HasOneWorker options → Alike options a b → IsAnswered (after_reading at a line) → IsAnswered (after_reading at b line)
     → SaysSame options (after_reading at a line) (after_reading at b line)
 reading_same options at a b Blank one h p q = record { is = refl; left = h }
 reading_same options at a b (Bare id) one h p q = record { is = refl; left = h }
-reading_same options at a b (Ask asked) one h p q = turned_same options at a b asked.id (reaction at a asked) (reaction at b asked) (reactions_agree options at a b asked one h) p q
+reading_same options at a b (Request asked) one h p q = turned_same options at a b asked.id (reaction at a asked) (reaction at b asked) (reactions_agree options at a b asked one h) p q
 
 said_same : (options : Options) (at : EngineState) (a b : Supply) (line : Option (List ℕ)) → HasOneWorker options → Alike options a b → IsAnswered (after_line at a line) → IsAnswered (after_line at b line)
     → SaysSame options (after_line at a line) (after_line at b line)

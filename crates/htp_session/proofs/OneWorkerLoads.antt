@@ -4,7 +4,9 @@ use Rattle.hex_io.specs.declared.files.File.{File}
 use Rattle.hex_io.specs.Shelves.{Fetched, Failed, Missing, Long, Contents, fetched_of}
 use Rattle.hex_game.specs.Games.{GameData}
 use Rattle.sgf_tree.proofs.Verdicts.{one_collection}
-use Rattle.hex_engine.specs.Supply.{Loaded, Unread, Refused, Loads, Load}
+use Rattle.hex_engine.specs.Supply.{Load}
+use Rattle.hex_engine.specs.declared.files.Loaded.{Loaded}
+use Rattle.hex_engine.specs.declared.files.Loaded.TheVariants.{Unread, Refused, Loads}
 use Rattle.sgf_game.specs.RecordOf.{IsRecordOf}
 use Rattle.hex_engine.specs.Uses.{IsReadAs, IsLoadOf, CameOf}
 

@@ -1,69 +1,37 @@
 -- With one worker a request is answered the same whatever good turns are left: those that are next are played and reported alike.
 use Rattle.std.proofs.Common.{◌≡◌, ℕ, ◌+◌, Bool, true, false, cond, List, [], ◌∷◌, ◌++◌, Option, Some, None, Result, Ok, Err, codes, refl, sym, ap, ◌∙◌, subst}
 use Rattle.std.specs.Str.{bytes_eq}
-use Rattle.std.specs.Fmt.{decimal}
 use Rattle.std.proofs.lemmas.Bool.{and_parts, eqb-true, true≢false}
 use Rattle.std.proofs.lemmas.Slice.Eq.{bytes_eq-Decides}
-use Rattle.htp_line.specs.Reading.{Asked}
+use Rattle.htp_line.specs.declared.request.Request.{Request}
 use Rattle.hex_cells.specs.declared.colours.Colour.{Colour}
-use Rattle.hex_cells.specs.declared.colours.Colour.TheVariants.{Black, White}
 use Rattle.hex_cells.specs.Vertices.{vertex_of}
 use Rattle.hex_board.specs.Positions.{Position}
-use Rattle.hex_board.specs.Wins.{is_same}
+use Rattle.hex_cells.proofs.ColourLaws.{same_colour}
 use Rattle.hex_game.specs.Games.{board_of, with_step}
 use Rattle.hex_game.specs.Moves.{step_of}
 use Rattle.hex_game.specs.declared.moves.Move.TheVariants.{Stone}
-use Rattle.tree_words.specs.declared.roots.Row.{Row}
 use Rattle.hex_engine.specs.declared.options.Options.{Options}
-use Rattle.tree_words.specs.declared.settings.Knobs.{Knobs}
-use Rattle.tree_words.specs.Closing.{ClosedTree}
-use Rattle.std.specs.Prelude.{option_map}
-use Rattle.tree_words.specs.Roots.{rows_of}
 use Rattle.hex_plan.specs.Good.{IsGood}
 use Rattle.hex_plan.specs.Openings.{may_move}
 use Rattle.hex_plan.specs.Turns.{Decision}
-use Rattle.hex_plan.proofs.Same.{same_turn, same_searches}
+use Rattle.hex_plan.proofs.Same.{same_turn}
 use Rattle.hex_engine.specs.Commands.{command_named}
-use Rattle.hex_engine.specs.Supply.{Supply, Load, Loaded}
-use Rattle.hex_plan.specs.TurnTexts.{report_of, report_on, report_lines}
+use Rattle.hex_engine.specs.Supply.{Supply, Load}
+use Rattle.hex_engine.specs.declared.files.Loaded.{Loaded}
 use Rattle.hex_engine.specs.EngineState.{EngineState}
 use Rattle.hex_engine.specs.Uses.{AreGood, HasOneWorker, IsGoodFor}
-use Rattle.hex_engine.specs.Replies.{Reaction, Turned, Missing, Done, NoLoad, NoTurn, unused, loaded, file_named, loading_next, loading_by, is_board, is_next, turned, moving_next, moving_by, lone_colour, unchanged, Failed, obeyed, reaction_by, reaction}
+use Rattle.hex_engine.specs.Replies.{Reaction, Turned, Missing, Done, NoLoad, NoTurn, Failed, unused, unchanged}
+use Rattle.hex_engine.specs.LoadReplies.{loaded, file_named, loading_next, loading_by}
+use Rattle.hex_engine.specs.MoveReplies.{is_board, is_next, turned, moving_next, moving_by, lone_colour}
+use Rattle.hex_engine.specs.Requests.{obeyed, reaction_by, reaction}
 use Rattle.hex_engine.specs.declared.answers.Fail.TheVariants.{Over}
 use Rattle.hex_engine.specs.declared.commands.Command.{Command}
 use Rattle.hex_engine.specs.declared.commands.Command.TheVariants as command
+use Rattle.htp_session.proofs.LegalMoves.{same_board}
 use Rattle.htp_session.proofs.OneWorkerLoads.{SameLoads}
 
 -- ---- one turn
-
--- two boards of which each is the same are the same
-one_board : (a b c : Position) → is_board a c ≡ true → is_board b c ≡ true → a ≡ b
-one_board a b c e f = same a c e ∙ sym (same b c f)
-  where
-    same : (x z : Position) → is_board x z ≡ true → x ≡ z
-    same x z h =
-        let p = and_parts _ _ h in
-        let q = and_parts _ _ p.1 in
-        λ i. record { size = eqb-true x.size z.size p.0 i; black = eqb-true x.black z.black q.0 i; white = eqb-true x.white z.white q.1 i }
-
-same_colour : (a b : Colour) → is_same a b ≡ true → a ≡ b
-same_colour Black Black e = refl
-same_colour Black White e = absurd (true≢false (sym e))
-same_colour White Black e = absurd (true≢false (sym e))
-same_colour White White e = refl
-
--- equal knobs, sizes and rows make equal reports
-same_report : (size : ℕ) (a b : Option ClosedTree) → option_map (λ (z : ClosedTree). z.shape.knobs) a ≡ option_map (λ (z : ClosedTree). z.shape.knobs) b
-    → option_map (λ (z : ClosedTree). rows_of z.shape z.words) a ≡ option_map (λ (z : ClosedTree). rows_of z.shape z.words) b
-    → option_map (report_on size) a ≡ option_map (report_on size) b
-same_report size None None k r = refl
-same_report size None (Some d) k r = absurd (cc)
-same_report size (Some c) None k r = absurd (cc)
-same_report size (Some c) (Some d) k r =
-    let knobs : c.shape.knobs ≡ d.shape.knobs = cc in
-    let rows : rows_of c.shape c.words ≡ rows_of d.shape d.words = cc in
-    ap Some (ap (λ (z : Knobs). codes "playouts " ++ decimal z.playouts ++ report_lines size (rows_of c.shape c.words)) knobs
-    ∙ ap (λ (rows : List Row). codes "playouts " ++ decimal d.shape.knobs.playouts ++ report_lines size rows) rows)
 
 -- the option of connections is off
 without : (options : Options) (t : Decision) → HasOneWorker options → IsGoodFor options t → IsGood options.knobs false t
@@ -72,24 +40,20 @@ without options t one g = subst (λ h. IsGood options.knobs h t) one.no_connecti
 -- two good turns that are a conversation's next are played and reported alike
 same_move : (options : Options) (at : EngineState) (colour : Colour) (t u : Decision) → HasOneWorker options → IsGoodFor options t → IsGoodFor options u → is_next at colour t ≡ true → is_next at colour u ≡ true
     → turned at colour u ≡ turned at colour t
-unfolding report_of
 same_move options at colour t u one g h e f =
     let p = and_parts _ _ e in
     let q = and_parts _ _ f in
     let p' = and_parts _ _ p.1 in
     let q' = and_parts _ _ q.1 in
-    let board : t.board ≡ u.board = one_board t.board u.board (board_of at.game) p.0 q.0 in
+    let board : t.board ≡ u.board = same_board t.board (board_of at.game) p.0 ∙ sym (same_board u.board (board_of at.game) q.0) in
     let player : t.player ≡ u.player = same_colour t.player colour p'.0 ∙ sym (same_colour u.player colour q'.0) in
     let number : t.number ≡ u.number = eqb-true t.number at.turns p'.1 ∙ sym (eqb-true u.number at.turns q'.1) in
     let mine = without options t one g in
     let other = without options u one h in
     let same = same_turn options.knobs t u one.workers mine other board player number in
-    let knobs = same_searches options.knobs t u mine other board player number in
-    let report : report_of t ≡ report_of u =
-    ap (λ (z : Position). option_map (report_on z.size) t.closed) board ∙ same_report u.board.size t.closed u.closed knobs same.1 in
     sym (λ i. record {
       reply = Done (vertex_of (board_of at.game).size (same.0 i));
-      after = record at { game = with_step at.game (step_of colour (Stone (same.0 i))); turns = at.turns + 1; report = report i };
+      after = record at { game = with_step at.game (step_of colour (Stone (same.0 i))); turns = at.turns + 1; last = Some (same.2 i) };
     })
 
 -- ---- one request
@@ -158,16 +122,15 @@ moving_agree options at a b (Some colour) one h = by (may_move (board_of at.game
     by false = (refl, h)
 
 obeyed_agree : (options : Options) (at : EngineState) (a b : Supply) (what : Command) (args : List (List ℕ)) → HasOneWorker options → Alike options a b → Agree options (obeyed at a what args) (obeyed at b what args)
-unfolding obeyed
 obeyed_agree options at a b command.GenMove args one h = moving_agree options at a b (lone_colour args) one h
 obeyed_agree options at a b command.LoadSgf args one h = loading_agree options at a b (file_named args) h
-obeyed_agree options at a b what args one h = (refl, h)
+obeyed_agree options at a b (command.Quiet quiet) args one h = (refl, h)
 
 by_agree : (options : Options) (at : EngineState) (a b : Supply) (what : Option Command) (args : List (List ℕ)) → HasOneWorker options → Alike options a b → Agree options (reaction_by at a what args) (reaction_by at b what args)
 by_agree options at a b None args one h = (refl, h)
 by_agree options at a b (Some what) args one h = obeyed_agree options at a b what args one h
 
 -- a request is answered the same by both
-pub reactions_agree : (options : Options) (at : EngineState) (a b : Supply) (asked : Asked) → HasOneWorker options → Alike options a b → Agree options (reaction at a asked) (reaction at b asked)
+pub reactions_agree : (options : Options) (at : EngineState) (a b : Supply) (asked : Request) → HasOneWorker options → Alike options a b → Agree options (reaction at a asked) (reaction at b asked)
 unfolding reaction
 reactions_agree options at a b asked one h = by_agree options at a b (command_named asked.name) asked.args one h

@@ -1,18 +1,22 @@
 -- What an answered request keeps, that it does not depend on what is left after it, and whether it takes a turn.
 use Rattle.std.proofs.Common.{◌≡◌, ℕ, Bool, true, false, cond, List, [], ◌∷◌, ◌++◌, Option, Some, None, Result, Ok, Err, ◌⊎◌, inl, inr, refl, sym, subst}
 use Rattle.std.specs.Str.{bytes_eq}
-use Rattle.htp_line.specs.Reading.{Asked}
+use Rattle.htp_line.specs.declared.request.Request.{Request}
 use Rattle.hex_cells.specs.declared.colours.Colour.{Colour}
 use Rattle.hex_game.specs.Games.{board_of}
 use Rattle.hex_plan.specs.Turns.{Decision}
 use Rattle.hex_plan.specs.Openings.{may_move}
 use Rattle.hex_engine.specs.Commands.{command_named}
 use Rattle.hex_engine.specs.EngineState.{EngineState}
-use Rattle.hex_engine.specs.Supply.{Supply, Load, Loaded, Unread, Refused, Loads, and_then}
-use Rattle.hex_engine.specs.Replies.{Turned, Missing, turned, loaded, file_named, loading_next, loading_by, is_next, moving_next, moving_by, lone_colour, obeyed, reaction_by, reaction}
+use Rattle.hex_engine.specs.Supply.{Supply, Load, and_then}
+use Rattle.hex_engine.specs.declared.files.Loaded.{Loaded}
+use Rattle.hex_engine.specs.declared.files.Loaded.TheVariants.{Unread, Refused, Loads}
+use Rattle.hex_engine.specs.Replies.{Turned, Missing}
+use Rattle.hex_engine.specs.LoadReplies.{loaded, file_named, loading_next, loading_by}
+use Rattle.hex_engine.specs.MoveReplies.{is_next, turned, moving_next, moving_by, lone_colour}
+use Rattle.hex_engine.specs.Requests.{obeyed, reaction_by, reaction}
 use Rattle.hex_engine.specs.declared.commands.Command.{Command}
 use Rattle.hex_engine.specs.declared.commands.Command.TheVariants as command
-use Rattle.hex_engine.proofs.Calm.{QuietReaction, obeyed_quietly}
 
 -- ---- the options
 
@@ -47,20 +51,16 @@ moving_by_keeps : (at : EngineState) (left : Supply) (colour : Option Colour) �
 moving_by_keeps at left None = refl
 moving_by_keeps at left (Some colour) = either_keeps (may_move (board_of at.game)) at _ _ (moving_next_keeps at left left.turns colour) refl
 
-quiet_keeps : (at : EngineState) (left : Supply) (r : Result Turned Missing) → QuietReaction at left r → KeepsOptions at r
-quiet_keeps at left r q = subst (KeepsOptions at) (sym q.is) q.calm.options
-
 obeyed_keeps : (at : EngineState) (left : Supply) (what : Command) (args : List (List ℕ)) → KeepsOptions at (obeyed at left what args)
-unfolding obeyed
 obeyed_keeps at left command.GenMove args = moving_by_keeps at left (lone_colour args)
 obeyed_keeps at left command.LoadSgf args = loading_keeps at left (file_named args)
-obeyed_keeps at left what args = quiet_keeps at left _ (obeyed_quietly at left what args refl)
+obeyed_keeps at left (command.Quiet quiet) args = refl
 
 by_keeps : (at : EngineState) (left : Supply) (what : Option Command) (args : List (List ℕ)) → KeepsOptions at (reaction_by at left what args)
 by_keeps at left None args = refl
 by_keeps at left (Some what) args = obeyed_keeps at left what args
 
-pub reaction_keeps : (at : EngineState) (left : Supply) (asked : Asked) → KeepsOptions at (reaction at left asked)
+pub reaction_keeps : (at : EngineState) (left : Supply) (asked : Request) → KeepsOptions at (reaction at left asked)
 unfolding reaction
 reaction_keeps at left asked = by_keeps at left (command_named asked.name) asked.args
 
@@ -100,17 +100,16 @@ moving_by_more at left more None all = refl
 moving_by_more at left more (Some colour) all = either_more (may_move (board_of at.game)) more _ _ _ _ (moving_next_more at left more left.turns colour) (λ _. refl) all
 
 obeyed_more : (at : EngineState) (left more : Supply) (what : Command) (args : List (List ℕ)) → HasAll (obeyed at left what args) → obeyed at (and_then left more) what args ≡ leaving_more more (obeyed at left what args)
-unfolding obeyed
 obeyed_more at left more command.GenMove args all = moving_by_more at left more (lone_colour args) all
 obeyed_more at left more command.LoadSgf args all = loading_more at left more (file_named args) all
-obeyed_more at left more what args all = refl
+obeyed_more at left more (command.Quiet quiet) args all = refl
 
 by_more : (at : EngineState) (left more : Supply) (what : Option Command) (args : List (List ℕ)) → HasAll (reaction_by at left what args) → reaction_by at (and_then left more) what args ≡ leaving_more more (reaction_by at left what args)
 by_more at left more None args all = refl
 by_more at left more (Some what) args all = obeyed_more at left more what args all
 
 -- an answered request is answered the same, and leaves the same and the more
-pub reaction_more : (at : EngineState) (left more : Supply) (asked : Asked) → HasAll (reaction at left asked) → reaction at (and_then left more) asked ≡ leaving_more more (reaction at left asked)
+pub reaction_more : (at : EngineState) (left more : Supply) (asked : Request) → HasAll (reaction at left asked) → reaction at (and_then left more) asked ≡ leaving_more more (reaction at left asked)
 unfolding reaction
 reaction_more at left more asked all = by_more at left more (command_named asked.name) asked.args all
 
@@ -156,19 +155,15 @@ moving_by_takes : (at : EngineState) (left : Supply) (colour : Option Colour) �
 moving_by_takes at left None = inl (refl, refl)
 moving_by_takes at left (Some colour) = either_takes (may_move (board_of at.game)) at left _ _ (λ e. moving_next_takes at left left.turns colour refl) (inl (refl, refl))
 
-quiet_takes : (at : EngineState) (left : Supply) (r : Result Turned Missing) → QuietReaction at left r → MayTakeTurn at left r
-quiet_takes at left r q = subst (MayTakeTurn at left) (sym q.is) (inl (refl, q.calm.turns))
-
 obeyed_takes : (at : EngineState) (left : Supply) (what : Command) (args : List (List ℕ)) → MayTakeTurn at left (obeyed at left what args)
-unfolding obeyed
 obeyed_takes at left command.GenMove args = moving_by_takes at left (lone_colour args)
 obeyed_takes at left command.LoadSgf args = loading_takes at left (file_named args)
-obeyed_takes at left what args = quiet_takes at left _ (obeyed_quietly at left what args refl)
+obeyed_takes at left (command.Quiet quiet) args = inl (refl, refl)
 
 by_takes : (at : EngineState) (left : Supply) (what : Option Command) (args : List (List ℕ)) → MayTakeTurn at left (reaction_by at left what args)
 by_takes at left None args = inl (refl, refl)
 by_takes at left (Some what) args = obeyed_takes at left what args
 
-pub reaction_takes : (at : EngineState) (left : Supply) (asked : Asked) → MayTakeTurn at left (reaction at left asked)
+pub reaction_takes : (at : EngineState) (left : Supply) (asked : Request) → MayTakeTurn at left (reaction at left asked)
 unfolding reaction
 reaction_takes at left asked = by_takes at left (command_named asked.name) asked.args

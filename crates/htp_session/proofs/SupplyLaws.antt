@@ -1,13 +1,16 @@
 -- What a talk keeps, and that more at the end of what is left changes nothing of it where it is not short.
 use Rattle.std.proofs.Common.{◌≡◌, ℕ, Bool, true, false, cond, List, [], ◌∷◌, Option, Some, None, Result, Ok, Err, fold, refl, ap, ◌∙◌}
 use Rattle.std.proofs.lemmas.List.Folds.{fold_stays}
-use Rattle.htp_line.specs.Reading.{Reading, Blank, Bare, Ask, reading}
+use Rattle.htp_line.specs.Reading.{reading}
+use Rattle.htp_line.specs.declared.request.Parsed.{Parsed}
+use Rattle.htp_line.specs.declared.request.Parsed.TheVariants.{Blank, Bare, Request}
 use Rattle.htp_line.specs.Splitting.{kept}
 use Rattle.htp_line.specs.Lines.{whole}
 use Rattle.htp_line.specs.Splitting.{Held}
 use Rattle.hex_engine.specs.EngineState.{EngineState}
 use Rattle.hex_engine.specs.Supply.{Supply, and_then}
-use Rattle.hex_engine.specs.Replies.{Turned, Missing, reaction}
+use Rattle.hex_engine.specs.Replies.{Turned, Missing}
+use Rattle.hex_engine.specs.Requests.{reaction}
 use Rattle.htp_session.specs.Talk.{TalkState, Short, IsAnswered, goes_on, after_reaction, after_reading, after_line, followed_by, with_line, talk_start, talk}
 use Rattle.htp_session.specs.Supply.{with_more_left}
 use Rattle.htp_session.specs.Sessions.{Stands}
@@ -20,10 +23,10 @@ turned_keeps : (at : EngineState) (left : Supply) (id : Option ℕ) (r : Result 
 turned_keeps at left id (Ok t) keeps = keeps
 turned_keeps at left id (Err missing) keeps = refl
 
-reading_keeps : (at : EngineState) (left : Supply) (line : Reading) → (after_reading at left line).at.options ≡ at.options
+reading_keeps : (at : EngineState) (left : Supply) (line : Parsed) → (after_reading at left line).at.options ≡ at.options
 reading_keeps at left Blank = refl
 reading_keeps at left (Bare id) = refl
-reading_keeps at left (Ask asked) = turned_keeps at left asked.id (reaction at left asked) (reaction_keeps at left asked)
+reading_keeps at left (Request asked) = turned_keeps at left asked.id (reaction at left asked) (reaction_keeps at left asked)
 
 said_keeps : (at : EngineState) (left : Supply) (line : Option (List ℕ)) → (after_line at left line).at.options ≡ at.options
 said_keeps at left None = refl
@@ -52,10 +55,10 @@ turned_more : (at : EngineState) (left more : Supply) (id : Option ℕ) (now lat
 turned_more at left more id (Err missing) later same answered = absurd (answered missing refl)
 turned_more at left more id (Ok t) later same answered = rw (same tt) refl
 
-reading_more : (at : EngineState) (left more : Supply) (line : Reading) → IsAnswered (after_reading at left line) → after_reading at (and_then left more) line ≡ with_more_left (after_reading at left line) more
+reading_more : (at : EngineState) (left more : Supply) (line : Parsed) → IsAnswered (after_reading at left line) → after_reading at (and_then left more) line ≡ with_more_left (after_reading at left line) more
 reading_more at left more Blank answered = refl
 reading_more at left more (Bare id) answered = refl
-reading_more at left more (Ask asked) answered = turned_more at left more asked.id (reaction at left asked) (reaction at (and_then left more) asked) (reaction_more at left more asked) answered
+reading_more at left more (Request asked) answered = turned_more at left more asked.id (reaction at left asked) (reaction at (and_then left more) asked) (reaction_more at left more asked) answered
 
 said_more : (at : EngineState) (left more : Supply) (line : Option (List ℕ)) → IsAnswered (after_line at left line) → after_line at (and_then left more) line ≡ with_more_left (after_line at left line) more
 said_more at left more None answered = refl

@@ -29,6 +29,10 @@ abbrev pub stop_of : {T : Type 0} → Result T Stop → Option Stop
 stop_of (Ok value) = None
 stop_of (Err stop) = Some stop
 
+-- the count rose with this stop, and is as before with every other result
+abbrev pub RisesWith : {T : Type 0} → Stop → ℕ → ℕ → Result T Stop → Type 0
+RisesWith stop before now result = CountsFault before now (stop_of result ≡ Some stop)
+
 -- each count of faults rose with its own stop, and is as before with every other answer
 pub record CountsStop (old new : DevicesState) (stop : Option Stop) : Type 0 where
   pub reads : CountsFault old.read_faults new.read_faults (stop ≡ Some ReadFault)

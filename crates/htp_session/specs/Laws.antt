@@ -9,7 +9,7 @@ use Rattle.hex_plan.specs.Turns.{Decision}
 use Rattle.hex_engine.specs.EngineState.{EngineState}
 use Rattle.hex_engine.specs.Supply.{Supply, and_then}
 use Rattle.hex_engine.specs.Uses.{AreGood, CameOf, HasOneWorker, IsGoodFor}
-use Rattle.hex_engine.specs.Replies.{is_next}
+use Rattle.hex_engine.specs.MoveReplies.{is_next}
 use Rattle.htp_session.specs.Talk.{TalkState, IsAnswered, IsThrough, talk}
 use Rattle.htp_session.specs.Supply.{with_more_left}
 

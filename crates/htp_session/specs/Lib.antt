@@ -7,3 +7,4 @@ pub mod Endings
 pub mod Calls
 pub mod Laws
 pub mod Inputs
+pub mod Handing

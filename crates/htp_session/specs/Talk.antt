@@ -1,12 +1,15 @@
 -- The bytes that answer a list of raw lines.
 use Rattle.std.specs.Prelude.{◌≡◌, ◌≢◌, ℕ, Bool, true, false, List, [], ◌++◌, Option, Some, None}
 use Rattle.std.specs.Prelude.{Result, Ok, Err, codes, fold, if◌then◌else◌}
-use Rattle.htp_line.specs.Reading.{Reading, Blank, Bare, Ask, reading}
+use Rattle.htp_line.specs.Reading.{reading}
+use Rattle.htp_line.specs.declared.request.Parsed.{Parsed}
+use Rattle.htp_line.specs.declared.request.Parsed.TheVariants.{Blank, Bare, Request}
 use Rattle.htp_line.specs.Splitting.{kept}
 use Rattle.htp_line.specs.Answering.{success, failure}
 use Rattle.hex_engine.specs.EngineState.{EngineState}
 use Rattle.hex_engine.specs.Supply.{Supply, nothing_left}
-use Rattle.hex_engine.specs.Replies.{Reply, Done, Quit, Failed, Turned, Missing, reaction, message}
+use Rattle.hex_engine.specs.Replies.{Reply, Done, Quit, Failed, Turned, Missing, message}
+use Rattle.hex_engine.specs.Requests.{reaction}
 
 -- whether a talk goes on, or how it ended
 pub data Ending : Type 0 where
@@ -53,12 +56,13 @@ after_reaction at left id
     }
 
 -- what is said to a line: nothing to a blank one, and a refusal to an id that stands alone
-abbrev pub after_reading : EngineState → Supply → Reading → TalkState
+abbrev pub after_reading : EngineState → Supply → Parsed → TalkState
 after_reading at left Blank = record { text = []; at = at; left = left; ending = Going }
 after_reading at left
     (Bare id) =
     record { text = failure (Some id) (codes "syntax error"); at = at; left = left; ending = Going }
-after_reading at left (Ask asked) = after_reaction at left asked.id (reaction at left asked)
+after_reading at left (Request request) =
+    after_reaction at left request.id (reaction at left request)
 
 -- what is said to a line as far as it is kept, which is nothing where the line is too long
 abbrev pub after_line : EngineState → Supply → Option (List ℕ) → TalkState

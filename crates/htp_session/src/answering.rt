@@ -2,9 +2,8 @@
 
 ghost use Rattle.std.specs.Prelude.{◌≡◌, ◌+◌, ◌≤◌, ◌++◌, length, codes, IfOk, IfSome, IsOk};
 ghost use Rattle.std.specs.Prelude.{OnOk, OnErr, option_map, false, Some};
-ghost use Rattle.htp_line.specs.Reading.{asked_of};
 ghost use Rattle.htp_line.specs.Answering.{failure, WritesFor, HasSpareRoom};
-ghost use Rattle.hex_engine.specs.Replies.{IsBrief, replied};
+ghost use Rattle.hex_engine.specs.Requests.{IsBrief, replied};
 ghost use Rattle.htp_session.specs.Talk.{reply_text, is_quit};
 ghost use Rattle.htp_session.specs.Devices.{CountsFaults};
 ghost use Rattle.htp_session.specs.Calls.Answering.{WritesAnswer, WritesReply};
@@ -18,17 +17,19 @@ use htp_line::{
     FRAME, ID_LIMIT, LINE_LIMIT, Memory, Parsed, Request, id_text, push_failure, push_success,
     read_line,
 };
+use search_team::Gate;
 use std::alloc::Global;
+use std::thread::Threads;
 
 /// The most bytes of a brief answer beside its id: those round it, and a message of 17 bytes.
 const BRIEF: usize = FRAME + 17;
 
 /// Answers a raw line, or one that is too long, at the end of `out`, and says whether quit was
 /// answered.
-pub fn respond<L: Link, F: Shelf, A: Archive>(
+pub fn respond<L: Link, F: Shelf, A: Archive, R: Threads + Sync, G: Gate + Sync>(
     alloc: Global,
     engine: &mut Engine,
-    devices: &mut Devices<'_, '_, '_, L, F, A>,
+    devices: &mut Devices<'_, '_, '_, '_, L, F, A, R, G>,
     raw: Option<&[u8]>,
     out: &mut Vec<u8>,
 ) -> Result<bool, Stop>
@@ -55,15 +56,15 @@ pub fn respond<L: Link, F: Shelf, A: Archive>(
 /// Answers a request at the end of `out`, and says whether quit was answered. There is room for a
 /// brief answer before the engine is asked, so the answer of each turn that the archive took is
 /// written.
-fn respond_to<L: Link, F: Shelf, A: Archive>(
+fn respond_to<L: Link, F: Shelf, A: Archive, R: Threads + Sync, G: Gate + Sync>(
     alloc: Global,
     engine: &mut Engine,
-    devices: &mut Devices<'_, '_, '_, L, F, A>,
+    devices: &mut Devices<'_, '_, '_, '_, L, F, A, R, G>,
     request: &Request,
     out: &mut Vec<u8>,
 ) -> Result<bool, Stop>
     ensures writes { WritesReply devices.old devices.new engine.old engine.new
-        (asked_of request.now) out.old.items out.new.items result }
+        request.now out.old.items out.new.items result }
     ensures err { OnErr result (out.new.items ≡ out.old.items) }
     ensures link { devices.new.link ≡ devices.old.link }
     ensures counts { CountsFaults devices.old devices.new result }

@@ -13,16 +13,18 @@ use hex_cells::Size;
 use hex_engine::Options;
 use hex_io::{Link, Shelf};
 use hex_plan::Archive;
+use search_team::Gate;
 use std::alloc::Global;
+use std::thread::Threads;
 
 /// Answers what the link has, up to `limit` bytes. All whole lines are answered before the next
 /// read, also before the one byte after the limit is asked for. What fails first ends it: nothing
 /// is read, written or handed over after a fault.
 ///
 /// The knobs of the options are in their ranges. It refuses nothing else.
-pub fn converse<L: Link, F: Shelf, A: Archive>(
+pub fn converse<L: Link, F: Shelf, A: Archive, R: Threads + Sync, G: Gate + Sync>(
     alloc: Global,
-    devices: &mut Devices<'_, '_, '_, L, F, A>,
+    devices: &mut Devices<'_, '_, '_, '_, L, F, A, R, G>,
     options: &Options,
     size: Size,
     limit: usize,

@@ -1,7 +1,6 @@
-//! The devices of a conversation: a link, a shelf and an archive.
+//! The devices of a conversation: a link, a shelf and an archive, a runtime and a gate.
 
 ghost use Rattle.std.specs.Prelude.{◌≡◌, ◌<◌, ◌≤◌, length, IfOk};
-ghost use Rattle.htp_line.specs.Reading.{asked_of};
 ghost use Rattle.htp_session.specs.Devices.{CountsFaults, stock};
 ghost use Rattle.htp_session.specs.Calls.Devices.{ReadsSome, GivesAll, Asks};
 
@@ -11,22 +10,40 @@ use hex_engine::{Answer, Engine, EngineError};
 use hex_io::{Link, Shelf, give};
 use hex_plan::Archive;
 use htp_line::Request;
+use search_team::Gate;
 use std::marker::Model;
+use std::thread::Threads;
 
 /// What a conversation is held over.
 ///
-/// Contracts see what the three tell, where they do, and their counts of faults.
+/// Contracts see what the first three tell, where they do, and their counts of faults. No clause
+/// depends on the runtime or the gate.
 #[derive(Drop)]
-pub struct Devices<'a, 'b, 'c, L: Link, F: Shelf, A: Archive> {
+pub struct Devices<
+    'a,
+    'b,
+    'c,
+    'd,
+    L: Link,
+    F: Shelf,
+    A: Archive,
+    R: Threads + Sync,
+    G: Gate + Sync,
+> {
     /// Requests come from it, and answers go to it.
     pub link: &'a mut L,
     /// It has the files that are fetched.
     pub shelf: &'b mut F,
     /// It takes the searched turns.
     pub archive: &'c mut A,
+    /// Searches run in its threads.
+    pub rt: &'d R,
+    /// The workers of a search pass it.
+    pub gate: &'d G,
 }
 
-impl<'a, 'b, 'c, L: Link, F: Shelf, A: Archive> Model for Devices<'a, 'b, 'c, L, F, A> {
+impl<'a, 'b, 'c, 'd, L: Link, F: Shelf, A: Archive, R: Threads + Sync, G: Gate + Sync> Model
+    for Devices<'a, 'b, 'c, 'd, L, F, A, R, G> {
     ghost use Rattle.htp_session.specs.Devices.{DevicesState};
 
     ghost Value = { DevicesState };
@@ -43,7 +60,17 @@ impl<'a, 'b, 'c, L: Link, F: Shelf, A: Archive> Model for Devices<'a, 'b, 'c, L,
     } };
 }
 
-impl<L: Link, F: Shelf, A: Archive> Devices<'_, '_, '_, L, F, A> {
+impl<L: Link, F: Shelf, A: Archive, R: Threads + Sync, G: Gate + Sync> Devices<
+    '_,
+    '_,
+    '_,
+    '_,
+    L,
+    F,
+    A,
+    R,
+    G,
+> {
     /// Reads at most `room` bytes to the front of the buffer.
     pub fn read(&mut self, buffer: &mut [u8], room: usize) -> Result<usize, Stop>
         requires some { 0 < room }
@@ -73,11 +100,17 @@ impl<L: Link, F: Shelf, A: Archive> Devices<'_, '_, '_, L, F, A> {
 
     /// Asks the engine for its answer to a request.
     pub fn ask(&mut self, engine: &mut Engine, request: &Request) -> Result<Answer, Stop>
-        ensures asks { Asks self.old self.new engine.old engine.new (asked_of request.now) result }
+        ensures asks { Asks self.old self.new engine.old engine.new request.now result }
         ensures link { self.new.link ≡ self.old.link }
         ensures counts { CountsFaults self.old self.new result }
     {
-        match engine.line(request, &mut *self.shelf, &mut *self.archive) {
+        match engine.line(
+            self.rt,
+            request,
+            &mut *self.shelf,
+            &mut *self.archive,
+            self.gate,
+        ) {
             Err(EngineError::Memory) => Err(Stop::Memory),
             Err(EngineError::Archive) => Err(Stop::ArchiveFault),
             Ok(answer) => Ok(answer),

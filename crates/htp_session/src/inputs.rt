@@ -1,9 +1,9 @@
 //! Takes the input of a link: some of it, or all up to a limit.
 
-ghost use Rattle.std.specs.Prelude.{◌≡◌, ◌<◌, ◌≤◌, length, IfOk, Some};
+ghost use Rattle.std.specs.Prelude.{◌≡◌, ◌<◌, ◌≤◌, length, IfOk};
 ghost use Rattle.hex_io.specs.Told.{ReadsBytes};
-ghost use Rattle.hex_io.specs.Causes.{CountsFault, HasCause};
-ghost use Rattle.htp_session.specs.Devices.{stop_of};
+ghost use Rattle.hex_io.specs.Causes.{HasCause};
+ghost use Rattle.htp_session.specs.Devices.{RisesWith};
 ghost use Rattle.htp_session.specs.Inputs.{TakesAll};
 
 use crate::stops::Stop;
@@ -32,8 +32,8 @@ pub fn read_some<L: Link>(link: &mut L, buffer: &mut [u8], room: usize) -> Resul
 /// were taken. It refuses nothing else but for want of memory.
 pub fn take_all<L: Link>(alloc: Global, link: &mut L, limit: usize) -> Result<Vec<u8>, Stop>
     ensures takes { TakesAll (L.told link.old) (L.told link.new) limit result }
-    ensures read_fault { CountsFault (L.read_faults link.old) (L.read_faults link.new)
-        (stop_of result ≡ Some Stop.ReadFault) }
+    ensures read_fault { RisesWith Stop.ReadFault
+        (L.read_faults link.old) (L.read_faults link.new) result }
     ensures writes { L.write_faults link.new ≡ L.write_faults link.old }
 {
     let mut input = Vec::new(alloc);

@@ -13,7 +13,7 @@ pub fn more_left_is_not_used()
 
 /// With one worker a talk is determined by the lines, the options and what came of the files,
 /// whatever good turns its moves used up: two talks that were answered say the same and stand at
-/// the same then, and two that are through are the same in all.
+/// the same then, the last turn's texts too, and two that are through are the same in all.
 pub fn one_worker_is_determined()
     ensures answered { AnsweredAlike ServesAlike }
     ensures through { ThroughAlike ServesAlike }
@@ -31,8 +31,8 @@ pub fn one_worker_and_one_shelf_determine()
         ThroughAlike (ServesAlikeFrom files tries) }
 {}
 
-/// Each searched move is legal where a talk plays it: where a good turn is a conversation's next, a
-/// stone of the colour asked on the turn's cell is a legal step of its game.
+/// Each move of a good turn, searched or certified, is legal where a talk plays it: where the turn
+/// is a conversation's next, a stone of the colour asked on its cell is a legal step of its game.
 pub fn searched_moves_are_legal()
     ensures { SearchedMovesAreLegal }
 {}

@@ -14,7 +14,9 @@ use hex_engine::{Engine, Memory, Options};
 use hex_io::{Link, Shelf};
 use hex_plan::Archive;
 use htp_line::Splitter;
+use search_team::Gate;
 use std::alloc::Global;
+use std::thread::Threads;
 
 /// How far one line went.
 #[derive(Clone, Copy, Debug)]
@@ -55,10 +57,10 @@ impl Session {
     }
 
     /// Answers the line that ended, at the end of `out`, and says whether quit was answered.
-    fn answer<L: Link, F: Shelf, A: Archive>(
+    fn answer<L: Link, F: Shelf, A: Archive, R: Threads + Sync, G: Gate + Sync>(
         &mut self,
         alloc: Global,
-        devices: &mut Devices<'_, '_, '_, L, F, A>,
+        devices: &mut Devices<'_, '_, '_, '_, L, F, A, R, G>,
     ) -> Result<bool, Stop>
         requires ended { self.old.splitter.ended ≡ true }
         ensures writes { WritesAnswer devices.old devices.new self.old.engine self.new.engine
@@ -72,10 +74,10 @@ impl Session {
     }
 
     /// Takes up to one line off the front of the piece. `out` is the answer to it then.
-    fn advance<L: Link, F: Shelf, A: Archive>(
+    fn advance<L: Link, F: Shelf, A: Archive, R: Threads + Sync, G: Gate + Sync>(
         &mut self,
         alloc: Global,
-        devices: &mut Devices<'_, '_, '_, L, F, A>,
+        devices: &mut Devices<'_, '_, '_, '_, L, F, A, R, G>,
         piece: &[u8],
     ) -> Result<Moved, Stop>
         requires some { 0 < length piece.now }
@@ -102,10 +104,10 @@ impl Session {
     }
 
     /// Takes the last line, where no line feed ends it. `out` is the answer to it then.
-    fn last<L: Link, F: Shelf, A: Archive>(
+    fn last<L: Link, F: Shelf, A: Archive, R: Threads + Sync, G: Gate + Sync>(
         &mut self,
         alloc: Global,
-        devices: &mut Devices<'_, '_, '_, L, F, A>,
+        devices: &mut Devices<'_, '_, '_, '_, L, F, A, R, G>,
     ) -> Result<(), Stop>
         ensures answers { AnswersEnd devices.old devices.new self.old self.new result }
         ensures link { devices.new.link ≡ devices.old.link }
@@ -127,10 +129,10 @@ impl Session {
 
     /// Takes a piece and answers each line that ends in it, each before the next is looked at. It
     /// says whether quit was answered.
-    pub fn feed<L: Link, F: Shelf, A: Archive>(
+    pub fn feed<L: Link, F: Shelf, A: Archive, R: Threads + Sync, G: Gate + Sync>(
         &mut self,
         alloc: Global,
-        devices: &mut Devices<'_, '_, '_, L, F, A>,
+        devices: &mut Devices<'_, '_, '_, '_, L, F, A, R, G>,
         piece: &[u8],
     ) -> Result<bool, Stop>
         ensures feeds { Feeds devices.old devices.new self.old self.new piece.now result }
@@ -155,10 +157,10 @@ impl Session {
     }
 
     /// Answers the last line, where no line feed ends it.
-    pub fn finish<L: Link, F: Shelf, A: Archive>(
+    pub fn finish<L: Link, F: Shelf, A: Archive, R: Threads + Sync, G: Gate + Sync>(
         &mut self,
         alloc: Global,
-        devices: &mut Devices<'_, '_, '_, L, F, A>,
+        devices: &mut Devices<'_, '_, '_, '_, L, F, A, R, G>,
     ) -> Result<(), Stop>
         ensures finishes { Finishes devices.old devices.new self.old result }
         ensures counts { CountsFaults devices.old devices.new result }

@@ -1,4 +1,5 @@
-//! Sessions over links in memory that take at most so many bytes.
+//! Sessions over links in memory that take at most so many bytes, and one whose search passes a
+//! gate.
 
 ghost use Rattle.std.specs.Prelude.{◌≡◌, ◌^◌};
 ghost use Rattle.tree_words.specs.Settings.{AreInRange};
@@ -8,20 +9,23 @@ use hex_cells::Size;
 use hex_engine::Options;
 use hex_io::{MemLink, MemShelf};
 use hex_plan::NoArchive;
+use search_team::{Gate, OpenGate};
 use std::alloc::{AllocError, Global};
 use std::process::Abort;
+use std::sync::atomic::{AtomicBool, Ordering};
 use std::test::Fail;
+use std::thread::Threads;
 use tree_words::Knobs;
 
-/// The options of a command line that says nothing.
+/// One worker, who makes one playout.
 fn options() -> Options
     ensures { AreInRange result.knobs }
 {
     let knobs = Knobs {
         workers: 1,
-        playouts: 10_000,
+        playouts: 1,
         seed: 0,
-        words: 4_194_304,
+        words: 1_024,
         expand: 8,
         weight: 180,
     };
@@ -31,42 +35,88 @@ fn options() -> Options
     }
 }
 
-/// The outcome of a conversation that takes at most this many bytes.
-fn end_within(
-    rt: &(impl Abort + Alloc<A = Global>),
-    input: &[u8],
+/// A conversation: its input, of which each read gives a piece, the most bytes that it takes, and
+/// what is to be given.
+#[derive(Clone, Copy)]
+struct Row<'a> {
+    input: &'a [u8],
     piece: usize,
     limit: usize,
-    given: &[u8],
+    given: &'a [u8],
+}
+
+/// The outcome of a conversation whose searches pass the gate.
+fn end_of<G: Gate + Sync>(
+    rt: &(impl Abort + Alloc<A = Global> + Threads + Sync),
+    row: &Row<'_>,
+    gate: &G,
 ) -> Result<Result<(), Stop>, Fail> {
     let alloc = rt.alloc();
     let size = Size::of(11).ok_or("no size")?;
     let (reads, writes) = (Vec::new(alloc), Vec::new(alloc));
-    let input = input.to_vec(alloc)?;
-    let mut link = MemLink::make(alloc, input, piece.max(1), 100_000, 20_000, reads, writes)?;
+    let input = row.input.to_vec(alloc)?;
+    let piece = row.piece.max(1);
+    let mut link = MemLink::make(alloc, input, piece, 100_000, 20_000, reads, writes)?;
     let mut shelf = MemShelf::make(alloc, Vec::new(alloc), Vec::new(alloc))?;
     let mut devices = Devices {
         link: &mut link,
         shelf: &mut shelf,
         archive: &mut NoArchive,
+        rt,
+        gate,
     };
-    let end = converse(alloc, &mut devices, &options(), size, limit);
-    assert_eq!(rt; link.given(), given);
+    let end = converse(alloc, &mut devices, &options(), size, row.limit);
+    assert_eq!(rt; link.given(), row.given);
     Ok(end)
 }
 
 #[test]
 fn limits(rt: HostRuntime) -> Result<(), Fail> {
-    for piece in [1, 3, 100] {
-        let over = end_within(&rt, b"name\nname\n", piece, 5, b"= hexd\n\n")?;
-        assert_eq!(rt; over, Err(Stop::TooLong));
-        let within_a_line = end_within(&rt, b"name\nname\n", piece, 7, b"= hexd\n\n")?;
-        assert_eq!(rt; within_a_line, Err(Stop::TooLong));
-        let exact = end_within(&rt, b"name\nname", piece, 9, b"= hexd\n\n= hexd\n\n")?;
-        assert_eq!(rt; exact, Ok(()));
-        let quit = end_within(&rt, b"quit\nname\n", piece, 5, b"= \n\n")?;
-        assert_eq!(rt; quit, Ok(()));
+    let rows: [(&[u8], usize, &[u8], Result<(), Stop>); 4] = [
+        (b"name\nname\n", 5, b"= hexd\n\n", Err(Stop::TooLong)),
+        (b"name\nname\n", 7, b"= hexd\n\n", Err(Stop::TooLong)),
+        (b"name\nname", 9, b"= hexd\n\n= hexd\n\n", Ok(())),
+        (b"quit\nname\n", 5, b"= \n\n", Ok(())),
+    ];
+    for (input, limit, given, outcome) in rows {
+        for piece in [1, 3, 100] {
+            let row = Row {
+                input,
+                piece,
+                limit,
+                given,
+            };
+            assert_eq!(rt; end_of(&rt, &row, &OpenGate)?, outcome);
+        }
     }
+    Ok(())
+}
+
+/// A gate that knows whether it was passed.
+#[derive(Drop)]
+struct Noted {
+    passed: AtomicBool,
+}
+
+impl Gate for Noted {
+    fn pass(&self, _worker: u32) {
+        self.passed.store(true, Ordering::SeqCst);
+    }
+}
+
+#[test]
+fn searches_pass_the_gate(rt: HostRuntime) -> Result<(), Fail> {
+    let gate = Noted {
+        passed: AtomicBool::new(false),
+    };
+    let row = Row {
+        input: b"boardsize 1\ngenmove b\n",
+        piece: 100,
+        limit: 100,
+        given: b"= \n\n= a1\n\n",
+    };
+    assert_eq!(rt; end_of(&rt, &row, &gate)?, Ok(()));
+    assert!(rt; gate.passed.load(Ordering::SeqCst));
     Ok(())
 }
 

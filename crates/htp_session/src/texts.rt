@@ -1,8 +1,7 @@
 //! Answers the whole input of a link by one text.
 
-ghost use Rattle.std.specs.Prelude.{◌≡◌, ◌≤◌, ℕ, Bool, List, IfOk, Some, length};
-ghost use Rattle.hex_io.specs.Causes.{CountsFault};
-ghost use Rattle.htp_session.specs.Devices.{stop_of};
+ghost use Rattle.std.specs.Prelude.{◌≤◌, ℕ, Bool, List, IfOk, length};
+ghost use Rattle.htp_session.specs.Devices.{RisesWith};
 ghost use Rattle.htp_session.specs.Inputs.{AnswersInput};
 
 use crate::inputs::take_all;
@@ -45,10 +44,10 @@ pub fn answer_input<L: Link, R: InputReader>(
     requires { limit ≤ R.most reader.now }
     ensures answers { AnswersInput (R.answers reader.now) (L.told link.old) (L.told link.new) limit
         result }
-    ensures read_fault { CountsFault (L.read_faults link.old) (L.read_faults link.new)
-        (stop_of result ≡ Some Stop.ReadFault) }
-    ensures write_fault { CountsFault (L.write_faults link.old) (L.write_faults link.new)
-        (stop_of result ≡ Some Stop.WriteFault) }
+    ensures read_fault { RisesWith Stop.ReadFault
+        (L.read_faults link.old) (L.read_faults link.new) result }
+    ensures write_fault { RisesWith Stop.WriteFault
+        (L.write_faults link.old) (L.write_faults link.new) result }
 {
     let input = match take_all(alloc, link, limit) {
         Err(stop) => return Err(stop),

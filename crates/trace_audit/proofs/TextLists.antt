@@ -7,7 +7,7 @@ use Rattle.tree_words.specs.Closing.{ClosedTree, IsClosed}
 use Rattle.trace_audit.specs.Traces.{trace_text}
 use Rattle.trace_audit.specs.Told.{IsReadTree}
 use Rattle.trace_audit.specs.Texts.{IsText, tree_of}
-use Rattle.trace_audit.specs.Verdicts.{AreClosed, AreTexts, Begins, FailsFirst, HasFlaw, texts_of}
+use Rattle.trace_audit.specs.Verdicts.{AreClosed, AreTexts, Begins, FailsFirst, HasFlaw, trace_texts}
 use Rattle.trace_audit.specs.declared.parsing.Text.{Text}
 use Rattle.trace_audit.specs.declared.types.Flaw.{Flaw}
 use Rattle.trace_audit.specs.declared.types.Flaw.TheVariants.{BadForm, Block, Record, Count, End, Growth}
@@ -27,13 +27,13 @@ texts_more n at m bytes text a t c e =
     let tree : ClosedTree = tree_of text in
     let rest : drop text.bytes (drop at bytes) ≡ drop m bytes = drop-drop text.bytes at bytes ∙ ap (λ k. drop k bytes) (sym e) in
     let one : trace_text tree ++ [] ≡ trace_text tree = append-nil (trace_text tree) in
-    let texts : texts_of (a.trees ++ tree ∷ []) ≡ texts_of a.trees ++ trace_text tree = flat_map-append trace_text a.trees (tree ∷ []) ∙ ap (λ l. texts_of a.trees ++ l) one in
+    let texts : trace_texts (a.trees ++ tree ∷ []) ≡ trace_texts a.trees ++ trace_text tree = flat_map-append trace_text a.trees (tree ∷ []) ∙ ap (λ l. trace_texts a.trees ++ l) one in
     record {
       trees = a.trees ++ tree ∷ [];
       count = length-append a.trees (tree ∷ []) ∙ ap (λ k. k + 1) a.count;
       closed = closed_more a.trees tree a.closed t.read c;
-      text = a.text ∙ ap (λ l. texts_of a.trees ++ l) (t.begins ∙ ap (λ l. trace_text tree ++ l) rest)
-          ∙ sym (append_assoc (texts_of a.trees) (trace_text tree) (drop m bytes)) ∙ ap (λ l. l ++ drop m bytes) (sym texts);
+      text = a.text ∙ ap (λ l. trace_texts a.trees ++ l) (t.begins ∙ ap (λ l. trace_text tree ++ l) rest)
+          ∙ sym (append_assoc (trace_texts a.trees) (trace_text tree) (drop m bytes)) ∙ ap (λ l. l ++ drop m bytes) (sym texts);
     }
 
 -- all texts

@@ -4,18 +4,18 @@ use Rattle.std.proofs.lemmas.List.{append-nil}
 use Rattle.tree_words.specs.Closing.{ClosedTree}
 use Rattle.trace_audit.specs.Told.{TellsClosed}
 use Rattle.trace_audit.specs.Traces.{trace_text}
-use Rattle.trace_audit.specs.Verdicts.{AreClosed, AreTexts, AreTrees, texts_of}
+use Rattle.trace_audit.specs.Verdicts.{AreClosed, AreTexts, AreTrees, trace_texts}
 use Rattle.trace_audit.proofs.Reading.{tells_closed}
 
 -- what is read from the texts
-read_all : (ts : List ClosedTree) → AreTrees ts → (us : List ClosedTree) × (length us ≡ length ts) × AreClosed us × (texts_of ts ≡ texts_of us)
+read_all : (ts : List ClosedTree) → AreTrees ts → (us : List ClosedTree) × (length us ≡ length ts) × AreClosed us × (trace_texts ts ≡ trace_texts us)
 read_all [] a = ([], refl, tt, refl)
 read_all (t ∷ ts) a =
     let rest = read_all ts a.3 in
     let one : TellsClosed t (trace_text t) = tells_closed t a.0 a.1 a.2 in
     (one.tree ∷ rest.0, ap (λ n. suc n) rest.1, (one.told, one.closed, rest.2), λ i. one.text i ++ rest.3 i)
 
-pub texts_tell : (ts : List ClosedTree) → AreTrees ts → AreTexts (length ts) [] (texts_of ts)
+pub texts_tell : (ts : List ClosedTree) → AreTrees ts → AreTexts (length ts) [] (trace_texts ts)
 texts_tell ts a =
     let r = read_all ts a in
-    record { trees = r.0; count = r.1; closed = r.2; text = r.3 ∙ sym (append-nil (texts_of r.0)) }
+    record { trees = r.0; count = r.1; closed = r.2; text = r.3 ∙ sym (append-nil (trace_texts r.0)) }

@@ -56,15 +56,15 @@ AreTrees [] = Unit {0}
 AreTrees (t ∷ ts) = IsSetting t.shape × IsClosed t.shape t.words × AreWords t.words × AreTrees ts
 
 -- the texts of the trees, one after another
-abbrev pub texts_of : List ClosedTree → List ℕ
-texts_of trees = flat_map trace_text trees
+abbrev pub trace_texts : List ClosedTree → List ℕ
+trace_texts trees = flat_map trace_text trees
 
 -- the bytes are the texts of n closed trees, and then the rest
 pub record AreTexts (n : ℕ) (rest bytes : List ℕ) : Type 0 where
   pub trees : List ClosedTree
   pub count : length trees ≡ n
   pub closed : AreClosed trees
-  pub text : bytes ≡ texts_of trees ++ rest
+  pub text : bytes ≡ trace_texts trees ++ rest
 
 -- the verdict on bytes: they are the texts of so many closed trees; or behind those of so many
 -- stands a text with this first flaw

@@ -5,7 +5,7 @@ ghost use Rattle.tree_words.specs.Closing.{ClosedTree, IsClosed};
 ghost use Rattle.tree_words.specs.Settings.{IsSetting};
 ghost use Rattle.trace_audit.specs.Told.{AreWords, TellsClosed};
 ghost use Rattle.trace_audit.specs.Traces.{trace_text};
-ghost use Rattle.trace_audit.specs.Verdicts.{AreTexts, AreTrees, IsVerdictOn, texts_of};
+ghost use Rattle.trace_audit.specs.Verdicts.{AreTexts, AreTrees, IsVerdictOn, trace_texts};
 ghost use Rattle.trace_audit.specs.declared.types.Audit.{Audit};
 
 /// The law of traces: the text of a closed tree tells a closed tree. Its shape is that of the tree,
@@ -19,7 +19,7 @@ pub fn traces_tell_closed_trees()
 /// `Yes`, with their number. It does nothing.
 pub fn traces_are_texts_of_closed_trees()
     ensures { (trees : List ClosedTree) → AreTrees trees
-        → AreTexts (length trees) [] (texts_of trees) }
+        → AreTexts (length trees) [] (trace_texts trees) }
 {}
 
 /// The law that bytes have one verdict: they are the texts of closed trees where an audit answers

@@ -8,7 +8,8 @@ use super::{MOST_BYTES, TraceArchive, audit};
 use hex_board::Board;
 use hex_cells::{CellSet, Colour, Size};
 use hex_io::MemLink;
-use hex_plan::{Archive, ArchiveFault, Turn};
+use hex_plan::types::Plan;
+use hex_plan::{Archive, ArchiveFault, Planned, Threats, Turn};
 use seq_search::plain_search;
 use std::alloc::Global;
 use std::test::Fail;
@@ -48,7 +49,16 @@ fn one_playout(alloc: Global) -> Result<Turn, Fail> {
     let Ok(closed) = plain_search(alloc, &shape) else {
         return Err(Fail::from("memory"));
     };
-    Ok(Turn::of(closed, 0))
+    let planned = Planned {
+        plan: Plan::Search {
+            threats: Threats::of(Vec::new(alloc)),
+            allowed,
+            lost: false,
+        },
+        own: None,
+        other: None,
+    };
+    Ok(Turn::searched(closed, 0, planned))
 }
 
 // The trace of one playout, byte by byte.

@@ -1,7 +1,8 @@
 -- What an answer to a line does.
 use Rattle.std.specs.Prelude.{◌≡◌, ℕ, Bool, List, ◌++◌, Result, Ok, Err}
 use Rattle.std.specs.declared.option.Option.{Option}
-use Rattle.htp_line.specs.Reading.{Asked, Ask}
+use Rattle.htp_line.specs.declared.request.Request.{Request}
+use Rattle.htp_line.specs.declared.request.Parsed.TheVariants as parsed
 use Rattle.hex_engine.specs.EngineState.{EngineState}
 use Rattle.hex_engine.specs.Supply.{Supply}
 use Rattle.htp_session.specs.Talk.{TalkState, after_line, after_reading}
@@ -34,6 +35,6 @@ WritesAnswer old new before after line =
 
 -- the same of a request
 abbrev pub WritesReply : DevicesState → DevicesState → EngineState → EngineState
-    → Asked → List ℕ → List ℕ → Result Bool Stop → Type 0
-WritesReply old new before after asked =
-    Writes old new before after (λ left. after_reading before left (Ask asked))
+    → Request → List ℕ → List ℕ → Result Bool Stop → Type 0
+WritesReply old new before after request =
+    Writes old new before after (λ left. after_reading before left (parsed.Request request))

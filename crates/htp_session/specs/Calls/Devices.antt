@@ -2,11 +2,12 @@
 use Rattle.std.specs.Prelude.{◌≡◌, ℕ, List, [], Result, Ok, Err}
 use Rattle.hex_io.specs.Told.{Both, TakesBytes, Same}
 use Rattle.hex_io.specs.Grew.{Gave, GavePart}
-use Rattle.htp_line.specs.Reading.{Asked}
+use Rattle.htp_line.specs.declared.request.Request.{Request}
 use Rattle.hex_engine.specs.EngineState.{EngineState}
 use Rattle.hex_engine.specs.Supply.{nothing_left}
 use Rattle.hex_engine.specs.Uses.{Answered}
-use Rattle.hex_engine.specs.Replies.{NoTurn, reaction}
+use Rattle.hex_engine.specs.Replies.{NoTurn}
+use Rattle.hex_engine.specs.Requests.{reaction}
 use Rattle.hex_engine.specs.declared.answers.Answer.{Answer}
 use Rattle.htp_session.specs.Stocks.{UsesUp, UsesUpNothing}
 use Rattle.htp_session.specs.Devices.{DevicesState, stock}
@@ -33,15 +34,15 @@ GivesAll old new bytes (Err TooLong) = ⊥
 GivesAll old new bytes (Err ArchiveFault) = ⊥
 
 -- the engine answered a request, or wanted memory or a turn, and then it stands as before
-abbrev pub Asks : DevicesState → DevicesState → EngineState → EngineState → Asked
+abbrev pub Asks : DevicesState → DevicesState → EngineState → EngineState → Request
     → Result Answer Stop → Type 0
-Asks old new before after asked (Ok answer) =
-    Answered before old.shelf new.shelf old.turns new.turns asked answer after
-Asks old new before after asked (Err ReadFault) = ⊥
-Asks old new before after asked (Err WriteFault) = ⊥
-Asks old new before after asked (Err Memory) =
+Asks old new before after request (Ok answer) =
+    Answered before old.shelf new.shelf old.turns new.turns request answer after
+Asks old new before after request (Err ReadFault) = ⊥
+Asks old new before after request (Err WriteFault) = ⊥
+Asks old new before after request (Err Memory) =
     UsesUpNothing before.options (stock old) (stock new)
-Asks old new before after asked (Err TooLong) = ⊥
-Asks old new before after asked (Err ArchiveFault) =
+Asks old new before after request (Err TooLong) = ⊥
+Asks old new before after request (Err ArchiveFault) =
     UsesUp before.options (stock old) (stock new) nothing_left []
-    × (reaction before nothing_left asked ≡ Err NoTurn)
+    × (reaction before nothing_left request ≡ Err NoTurn)

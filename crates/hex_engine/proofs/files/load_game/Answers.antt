@@ -3,9 +3,8 @@ use Rattle.std.proofs.Common.{◌≡◌, Some, None, Ok, refl, subst, ap}
 use Rattle.std.specs.Prelude.{Err}
 use Rattle.hex_io.specs.Shelves.{Failed, Missing, Long, Contents, says}
 use Rattle.hex_io.specs.declared.shelves.ShelfError.TheVariants.{Fault, TooLong}
-use Rattle.hex_engine.specs.Supply.{Unread, Refused}
+use Rattle.hex_engine.specs.declared.files.Loaded.TheVariants.{Unread, Refused}
 use Rattle.hex_engine.specs.Uses.{IsReadAs}
-use Rattle.hex_engine.specs.Files.{came_to}
 use Rattle.hex_io.proofs.ResultLaws.{on_err}
 use Rattle.hex_engine.proofs.Using.{fetched_one, fetched_in_vain, if_ok}
 use Rattle.hex_engine.proofs.files.load_game.Goals as goal
@@ -14,7 +13,7 @@ pub returns-in-Ok-Some-clause-came : goal.returns-in-Ok-Some-clause-came
 returns-in-Ok-Some-clause-came g c =
     let e : c.fetch.result ≡ Ok (Some c.in-Ok-Some.bytes) = cc in
     if_ok c.read_file.result _ _
-    (λ file h. fetched_one _ _ _ _ (Contents c.in-Ok-Some.bytes.items) (came_to file) c.fetch.ensures.told (ap (says (λ f. f.items)) e) (subst (λ l. IsReadAs l (came_to file)) c.deref.ensures.value h)) c.read_file.ensures
+    (λ file h. fetched_one _ _ _ _ (Contents c.in-Ok-Some.bytes.items) file c.fetch.ensures.told (ap (says (λ f. f.items)) e) (subst (λ l. IsReadAs l file) c.deref.ensures.value h)) c.read_file.ensures
 
 pub returns-in-Ok-Some-clause-vain : goal.returns-in-Ok-Some-clause-vain
 returns-in-Ok-Some-clause-vain g c =

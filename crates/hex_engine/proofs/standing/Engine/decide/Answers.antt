@@ -5,6 +5,6 @@ use Rattle.hex_engine.specs.EngineState.{EngineState}
 use Rattle.hex_engine.proofs.Using.{has_empty}
 use Rattle.hex_engine.proofs.standing.Engine.decide.Goals as goal
 
-pub turn_shape-shape-requires-clause-room : goal.turn_shape-shape-requires-clause-room
-turn_shape-shape-requires-clause-room c =
-    has_empty c.board.result.now (subst (λ p. may_move p ≡ true) (sym (c.board.ensures ∙ ap (λ (s : EngineState). board_of s.game) c.self.view_is)) c.requires)
+pub plan-requires-clause-room : goal.plan-requires-clause-room
+plan-requires-clause-room g c =
+    has_empty c.board-board.result.now (subst (λ p. may_move p ≡ true) (sym (c.board-board.ensures ∙ ap (λ (s : EngineState). board_of s.game) c.self.view_is)) c.requires)

@@ -2,7 +2,7 @@ use Rattle.std.proofs.Common.{◌≡◌, [], ◌∷◌, true, false, sym, ap, �
 use Rattle.hex_game.specs.Games.{board_of}
 use Rattle.hex_plan.specs.Openings.{may_move}
 use Rattle.hex_engine.specs.EngineState.{EngineState}
-use Rattle.hex_engine.specs.Replies.{moving_by}
+use Rattle.hex_engine.specs.MoveReplies.{moving_by}
 use Rattle.hex_engine.proofs.Using.{nothing_moved, over_reply, moved_reply, reacts_reply, if_ok}
 use Rattle.hex_engine.proofs.standing.Engine.generate.Goals as goal
 

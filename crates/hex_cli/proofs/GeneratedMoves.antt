@@ -1,0 +1,153 @@
+-- Each line that takes a turn is answered by a generated move.
+use Rattle.std.proofs.Common.{◌≡◌, ◌≢◌, ℕ, zero, suc, ◌+◌, Bool, true, false, cond, List, [], ◌∷◌, ◌++◌, Option, Some, None, Result, Ok, Err, ◌⊎◌, ⊎_elim, inl, inr, fold, drop, refl, sym, ap, ◌∙◌, subst, add-one}
+use Rattle.std.specs.Prelude.{slice_get}
+use Rattle.std.proofs.lemmas.List.Sums.{fold_push}
+use Rattle.hex_io.specs.Told.{Told, Both}
+use Rattle.hex_io.proofs.BothLaws.{Both-weaker}
+use Rattle.htp_line.specs.Answering.{success}
+use Rattle.htp_line.specs.Reading.{reading}
+use Rattle.htp_line.specs.declared.request.Parsed.{Parsed}
+use Rattle.htp_line.specs.declared.request.Parsed.TheVariants.{Blank, Bare, Request}
+use Rattle.htp_line.specs.Splitting.{kept}
+use Rattle.hex_cells.specs.declared.colours.Colour.{Colour}
+use Rattle.hex_cells.specs.Vertices.{vertex_of}
+use Rattle.hex_game.specs.Games.{board_of}
+use Rattle.hex_io.specs.Shelves.{Shelved}
+use Rattle.hex_plan.specs.Turns.{Decision}
+use Rattle.hex_engine.specs.declared.options.Options.{Options}
+use Rattle.hex_engine.specs.EngineState.{EngineState, opening}
+use Rattle.hex_engine.specs.Supply.{Supply}
+use Rattle.hex_engine.specs.Uses.{AreGood, IsGoodFor}
+use Rattle.hex_engine.specs.MoveReplies.{is_next, turned}
+use Rattle.hex_engine.specs.Replies.{Turned, Missing}
+use Rattle.hex_engine.specs.Requests.{reaction}
+use Rattle.htp_session.specs.Talk.{TalkState, goes_on, reply_text, after_reaction, after_reading, after_line, followed_by, with_line, talk_start, talk}
+use Rattle.htp_session.specs.Endings.{Conversed}
+use Rattle.hex_cli.specs.Headline.{IsGeneratedMove, AreGeneratedMoves, Headline}
+use Rattle.hex_plan.proofs.CertifiedMoves.{is_certified}
+use Rattle.htp_session.proofs.LegalMoves.{next_is_legal}
+use Rattle.htp_session.proofs.Reactions.{TakesTurn, MayTakeTurn, reaction_takes}
+use Rattle.htp_session.proofs.SupplyLaws.{step_keeps}
+
+-- ---- a line
+
+-- what was said to a line that took the next turn
+record SaysTurn (at : EngineState) (left : Supply) (s : TalkState) : Type 0 where
+  turn : Decision
+  colour : Colour
+  was : left.turns ≡ turn ∷ s.left.turns
+  next : is_next at colour turn ≡ true
+  after : s.at ≡ (turned at colour turn).after
+  written : (id : Option ℕ) × (s.text ≡ success id (vertex_of (board_of at.game).size turn.cell))
+
+abbrev MaySayTurn : EngineState → Supply → TalkState → Type 0
+MaySayTurn at left s = ((s.left.turns ≡ left.turns) × (s.at.turns ≡ at.turns)) ⊎ SaysTurn at left s
+
+turned_says : (at : EngineState) (left : Supply) (id : Option ℕ) (r : Result Turned Missing) → MayTakeTurn at left r → MaySayTurn at left (after_reaction at left id r)
+turned_says at left id (Err missing) h = inl (refl, refl)
+turned_says at left id (Ok t) h = ⊎_elim
+    (λ (same : (t.left.turns ≡ left.turns) × (t.after.turns ≡ at.turns)). inl same)
+    (λ (took : TakesTurn at left t). inr (record {
+      turn = took.turn;
+      colour = took.colour;
+      was = took.was;
+      next = took.next;
+      after = took.after;
+      written = (id, ap (reply_text id) took.reply);
+    })) h
+
+reading_says : (at : EngineState) (left : Supply) (line : Parsed) → MaySayTurn at left (after_reading at left line)
+reading_says at left Blank = inl (refl, refl)
+reading_says at left (Bare id) = inl (refl, refl)
+reading_says at left (Request asked) = turned_says at left asked.id (reaction at left asked) (reaction_takes at left asked)
+
+said_says : (at : EngineState) (left : Supply) (line : Option (List ℕ)) → MaySayTurn at left (after_line at left line)
+said_says at left None = inl (refl, refl)
+said_says at left (Some raw) = reading_says at left (reading raw)
+
+-- ---- the turns that are left
+
+-- what begins with x from place n on has x there, and goes on with what follows
+dropped : (xs : List Decision) (n : ℕ) (x : Decision) (others : List Decision) → drop n xs ≡ x ∷ others → (slice_get xs n ≡ Some x) × (drop (suc n) xs ≡ others)
+dropped [] zero x others e = absurd (cc)
+dropped [] (suc n) x others e = absurd (cc)
+dropped (y ∷ ys) zero x others e = (cc, cc)
+dropped (y ∷ ys) (suc n) x others e = dropped ys n x others e
+
+-- the turns that are left are those after the turns that were taken, and they are good for the options
+record Holds (options : Options) (turns : List Decision) (s : TalkState) : Type 0 where
+  good : AreGood options s.left.turns
+  place : drop s.at.turns turns ≡ s.left.turns
+  same : s.at.options ≡ options
+
+-- one line more
+record Goes (options : Options) (turns : List Decision) (before after : TalkState) : Type 0 where
+  holds : Holds options turns after
+  generated : after.at.turns ≢ before.at.turns → IsGeneratedMove options turns before after
+
+stands_still : (options : Options) (turns : List Decision) (before after : TalkState) → Holds options turns before → after.at.options ≡ before.at.options → after.left.turns ≡ before.left.turns → after.at.turns ≡ before.at.turns
+    → Goes options turns before after
+stands_still options turns before after h o l t = record {
+  holds = record {
+    good = subst (AreGood options) (sym l) h.good;
+    place = ap (λ n. drop n turns) t ∙ h.place ∙ sym l;
+    same = o ∙ h.same;
+  };
+  generated = λ moved. absurd (moved t);
+}
+
+takes_turn : (options : Options) (turns : List Decision) (before : TalkState) (s : TalkState) → Holds options turns before → s.at.options ≡ before.at.options → SaysTurn before.at before.left s → Goes options turns before (followed_by before s)
+takes_turn options turns before s h o took =
+    let good : AreGood options (took.turn ∷ s.left.turns) = subst (AreGood options) took.was h.good in
+    let at = dropped turns before.at.turns took.turn s.left.turns (h.place ∙ took.was) in
+    let count : s.at.turns ≡ suc before.at.turns = ap (λ (e : EngineState). e.turns) took.after ∙ add-one before.at.turns in
+    record {
+      holds = record { good = good.1; place = ap (λ n. drop n turns) count ∙ at.1; same = o ∙ h.same };
+      generated = λ moved. record {
+        turn = took.turn;
+        colour = took.colour;
+        good = good.0;
+        certified = is_certified options.knobs options.hsearch took.turn good.0;
+        placed = at.0;
+        legal = next_is_legal before.at took.colour took.turn (subst (λ p. IsGoodFor p took.turn) (sym h.same) good.0) took.next;
+        played = ap (λ (e : EngineState). e.game) took.after;
+        written = (took.written.0, ap (λ l. before.text ++ l) took.written.1);
+      };
+    }
+
+step_goes_if : (b : Bool) (options : Options) (turns : List Decision) (a : TalkState) (line : Option (List ℕ)) → Holds options turns a → (cond b (followed_by a (after_line a.at a.left line)) a).at.options ≡ a.at.options
+    → Goes options turns a (cond b (followed_by a (after_line a.at a.left line)) a)
+step_goes_if false options turns a line h o = stands_still options turns a a h refl refl refl
+step_goes_if true options turns a line h o = ⊎_elim
+    (λ (same : ((after_line a.at a.left line).left.turns ≡ a.left.turns) × ((after_line a.at a.left line).at.turns ≡ a.at.turns)). stands_still options turns a (followed_by a (after_line a.at a.left line)) h o same.0 same.1)
+    (λ (took : SaysTurn a.at a.left (after_line a.at a.left line)). takes_turn options turns a (after_line a.at a.left line) h o took)
+    (said_says a.at a.left line)
+
+step_goes : (options : Options) (turns : List Decision) (a : TalkState) (raw : List ℕ) → Holds options turns a → (with_line a raw).at.options ≡ a.at.options → Goes options turns a (with_line a raw)
+unfolding with_line
+step_goes options turns a raw h o = step_goes_if (goes_on a.ending) options turns a (kept raw) h o
+
+-- ---- a talk
+
+fold_holds : (options : Options) (turns : List Decision) (a : TalkState) (lines : List (List ℕ)) → Holds options turns a → Holds options turns (fold with_line a lines)
+fold_holds options turns a [] h = h
+fold_holds options turns a (raw ∷ lines) h = fold_holds options turns (with_line a raw) lines (step_goes options turns a raw h (step_keeps a raw)).holds
+
+are_generated : (start : EngineState) (all : Supply) (lines : List (List ℕ)) → AreGood start.options all.turns → start.turns ≡ 0 → AreGeneratedMoves start all lines
+are_generated start all lines good none before raw others split moved =
+    let first : Holds start.options all.turns (talk_start start all) = record { good = good; place = ap (λ n. drop n all.turns) none; same = refl } in
+    let here : TalkState = talk start all before in
+    let holds : Holds start.options all.turns here = fold_holds start.options all.turns (talk_start start all) before first in
+    let more : talk start all (before ++ raw ∷ []) ≡ with_line here raw = fold_push with_line (talk_start start all) before raw in
+    let goes = step_goes start.options all.turns here raw holds (step_keeps here raw) in
+    subst (IsGeneratedMove start.options all.turns here) (sym more) (goes.generated (subst (λ (s : TalkState). s.at.turns ≢ here.at.turns) more moved))
+
+pub headline_at : (options : Options) (size limit : ℕ) (a b : Option Shelved) (c d : Option (List Decision)) (x y : Option Told) → Conversed (Ok tt) options size limit (a, c) (b, d) x y
+    → Both c d (λ s t. Both x y (λ o n. Headline options size s t o n))
+headline_at options size limit a b c d x y k =
+    Both-weaker c d _ _ (λ s t took. Both-weaker x y _ _ (λ o n p. record {
+      all = k.used;
+      archived = took;
+      given = p.ends.given;
+      generated = are_generated (opening options size) k.used _ k.uses.moving.good refl;
+    }) k.outcome) k.uses.moving.took

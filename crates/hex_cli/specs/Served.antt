@@ -1,0 +1,54 @@
+-- What is done for the words of a run, told of its devices. Only clauses of private calls cite
+-- these.
+use Rattle.std.specs.Prelude.{◌≡◌, ℕ, List}
+use Rattle.hexd_words.specs.Reading.{WellFormed}
+use Rattle.hexd_words.specs.declared.settings.Options.{Options}
+use Rattle.hexd_words.specs.declared.settings.Mode.{Mode}
+use Rattle.hexd_words.specs.declared.settings.Mode.TheVariants.{Htp, Check, Migrate, Audit, Sim, Bench}
+use Rattle.hex_plan.specs.Turns.{Decision}
+use Rattle.turn_modes.specs.OneTurn.{IsBenchmark, IsSimulation}
+use Rattle.htp_session.specs.Devices.{DevicesState, stock}
+use Rattle.htp_session.specs.Inputs.{TextOf}
+use Rattle.hex_cli.specs.AuditTexts.{IsAuditText}
+use Rattle.hex_cli.specs.CertTexts.{IsCheckText, IsMigrateText}
+use Rattle.hex_cli.specs.Modes.{AnsweredTo, HandedInTo, PlayedTo, engine_options, mode_options}
+use Rattle.hex_cli.specs.declared.ends.End.{End}
+use Rattle.hex_cli.specs.declared.limits.TheConstants.{INPUT_LIMIT}
+
+-- a session came to this end
+abbrev pub PlaysTo : Options → End → DevicesState → DevicesState → Type 0
+PlaysTo options end old new =
+    PlayedTo end (engine_options options) options.size INPUT_LIMIT
+    (stock old) (stock new) old.link new.link
+
+-- nothing was fetched from the shelf and nothing handed to the archive
+pub record StandIdle (old new : DevicesState) : Type 0 where
+  pub stock : stock new ≡ stock old
+  pub fetches : new.fetch_faults ≡ old.fetch_faults
+  pub archives : new.archive_faults ≡ old.archive_faults
+
+-- the whole input was answered by such texts, to this end
+pub record AnswersTo (Answers : TextOf) (end : End) (old new : DevicesState) : Type 0 where
+  pub answered : AnsweredTo Answers end old.link new.link
+  pub idle : StandIdle old new
+
+-- a turn with its text was handed in, to this end
+pub record HandsInTo (IsAnswer : Decision → List ℕ → Type 0) (end : End)
+    (old new : DevicesState) : Type 0 where
+  pub handed : HandedInTo IsAnswer end (old.link, old.turns) (new.link, new.turns)
+  pub shelf : new.shelf ≡ old.shelf
+  pub fetches : new.fetch_faults ≡ old.fetch_faults
+
+-- what was done in this mode, to this end
+abbrev pub DoesIn : Mode → Options → End → DevicesState → DevicesState → Type 0
+DoesIn Htp options = PlaysTo options
+DoesIn Check options = AnswersTo IsCheckText
+DoesIn Migrate options = AnswersTo IsMigrateText
+DoesIn Audit options = AnswersTo IsAuditText
+DoesIn Sim options = HandsInTo (IsSimulation (mode_options options))
+DoesIn Bench options = HandsInTo (IsBenchmark (mode_options options))
+
+-- what was done for the words, in the mode that they say
+abbrev pub Does : List (List ℕ) → End → DevicesState → DevicesState → Type 0
+Does words end old new = (options : Options) → WellFormed words options
+    → DoesIn options.mode options end old new

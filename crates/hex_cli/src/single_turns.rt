@@ -1,0 +1,76 @@
+//! Modes `sim` and `bench`: one turn, and the text that says it.
+
+ghost use Rattle.std.specs.Prelude.{◌≡◌, ◌^◌, ◌<◌};
+ghost use Rattle.tree_words.specs.Settings.{AreInRange};
+ghost use Rattle.hexd_words.specs.Values as value;
+ghost use Rattle.htp_session.specs.Devices.{CountsStop};
+ghost use Rattle.turn_modes.specs.OneTurn.{IsBenchmark, IsSimulation};
+ghost use Rattle.hex_cli.specs.Modes.{mode_options};
+ghost use Rattle.hex_cli.specs.Served.{HandsInTo};
+ghost use Rattle.hex_cli.specs.Statuses.{stop_in};
+
+use crate::ends::End;
+use crate::knobs::{board_size, knobs_of};
+use hex_io::{Link, Shelf};
+use hex_plan::Archive;
+use hexd_words::Options;
+use htp_session::Devices;
+use search_team::Gate;
+use std::alloc::Global;
+use std::thread::Threads;
+use turn_modes::{ModeOptions, benchmark, simulation};
+
+/// Mode `sim`: hands in the turn of a simulated search, and its text.
+pub fn simulate<L: Link, F: Shelf, A: Archive, R: Threads + Sync, G: Gate + Sync>(
+    alloc: Global,
+    options: &Options,
+    devices: &mut Devices<'_, '_, '_, '_, L, F, A, R, G>,
+) -> End
+    requires ranges { value.OptionsInRange options.now }
+    requires seed { options.now.seed < 2 ^ 64 }
+    ensures hands { HandsInTo (IsSimulation (mode_options options.now)) result
+        devices.old devices.new }
+    ensures counts { CountsStop devices.old devices.new (stop_in result) }
+{
+    let told = mode_options(options);
+    let outcome = simulation(alloc, &told, &mut *devices.link, &mut *devices.archive);
+    End::of(outcome)
+}
+
+/// Mode `bench`: hands in the turn of a search of a large position, and its text.
+pub fn bench<L: Link, F: Shelf, A: Archive, R: Threads + Sync, G: Gate + Sync>(
+    alloc: Global,
+    options: &Options,
+    devices: &mut Devices<'_, '_, '_, '_, L, F, A, R, G>,
+) -> End
+    requires ranges { value.OptionsInRange options.now }
+    requires seed { options.now.seed < 2 ^ 64 }
+    ensures hands { HandsInTo (IsBenchmark (mode_options options.now)) result
+        devices.old devices.new }
+    ensures counts { CountsStop devices.old devices.new (stop_in result) }
+{
+    let told = mode_options(options);
+    let outcome = benchmark(
+        devices.rt,
+        alloc,
+        &told,
+        &mut *devices.link,
+        &mut *devices.archive,
+        devices.gate,
+    );
+    End::of(outcome)
+}
+
+/// What the modes are told.
+fn mode_options(options: &Options) -> ModeOptions
+    requires ranges { value.OptionsInRange options.now }
+    requires seed { options.now.seed < 2 ^ 64 }
+    ensures value { result ≡ mode_options options.now }
+    ensures ranges { AreInRange result.knobs }
+{
+    ModeOptions {
+        size: board_size(options.size),
+        knobs: knobs_of(options),
+        steps: options.steps,
+    }
+}

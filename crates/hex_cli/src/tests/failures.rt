@@ -1,0 +1,126 @@
+//! Devices that fail: each read, each write, and archives without room.
+
+use super::certificates::V1;
+use super::runs::{Case, ample, bytes_of, check, run_of};
+use std::test::Fail;
+
+/// Words and inputs of runs whose reads and writes fail in turn: a session over a small board, one
+/// that loads, searches and certifies, and the other modes.
+static FAILING: &str = "\
+htp|boardsize 3~play b a2~undo~name~
+htp --playouts 2 --words 1024|loadsgf g.sgf~printsgf~boardsize 2~play b a2~genmove w~mustplay~\
+    clear_board~genmove b~wincert~
+migrate|hexcert 1~
+sim --size 2 --playouts 3 --words 1024|
+bench --size 2 --playouts 3 --words 1024|";
+
+/// The front of a text that has so many answers, each of which ends with two line feeds.
+fn front_of(text: &[u8], answers: usize) -> &[u8] {
+    let mut left = answers;
+    let mut end = 0;
+    'pairs: for (at, pair) in text.windows(2).enumerate() {
+        if left == 0 {
+            break 'pairs;
+        }
+        if pair == b"\n\n" {
+            left -= 1;
+            end = at.saturating_add(2);
+        }
+    }
+    &text[..end.min(text.len())]
+}
+
+/// Each read fails in turn, in pieces of one byte. In a session the whole lines that were taken were
+/// answered, and in another mode nothing was given.
+fn check_reads(rt: &HostRuntime, words: &str, input: &[u8], given: &[u8]) -> Result<(), Fail> {
+    for length in 0..input.len().saturating_add(1) {
+        let taken = &input[..length];
+        let lines = if words.starts_with("htp") {
+            taken.iter().filter(|byte| **byte == b'\n').count()
+        } else {
+            0
+        };
+        let case = Case {
+            piece: 1,
+            bad_read: Some(u32::try_from(length).unwrap_or(0)),
+            ..ample(words, input)
+        };
+        check(rt, "read-faults-each", &case, front_of(given, lines), 3)?;
+    }
+    Ok(())
+}
+
+/// Each write fails in turn, in pieces of one byte: the bytes before it were given.
+fn check_writes(rt: &HostRuntime, words: &str, input: &[u8], given: &[u8]) -> Result<(), Fail> {
+    for length in 0..given.len() {
+        let case = Case {
+            piece: 1,
+            bad_write: Some(u32::try_from(length).unwrap_or(0)),
+            ..ample(words, input)
+        };
+        check(rt, "write-faults-each", &case, &given[..length], 4)?;
+    }
+    Ok(())
+}
+
+#[test]
+fn faults_each(rt: HostRuntime) -> Result<(), Fail> {
+    let alloc = rt.alloc();
+    for line in FAILING.lines() {
+        let (words, field) = line.split_once('|').ok_or("a bar")?;
+        let input = bytes_of(alloc, field)?;
+        let left = run_of(&rt, &ample(words, &input))?;
+        assert!(rt; left.status <= 1, "{words}");
+        if !input.is_empty() {
+            check_reads(&rt, words, &input, left.link.given())?;
+        }
+        check_writes(&rt, words, &input, left.link.given())?;
+    }
+    let input = bytes_of(alloc, V1)?;
+    check_reads(&rt, "check", &input, b"")?;
+    check_writes(&rt, "check", &input, b"yes semi\n")
+}
+
+/// Rooms of an archive, words, inputs, statuses and outputs.
+static ROOMS: &str = "\
+0|htp --hsearch off --playouts 1|name~genmove b~name~|7|= hexd~~
+0|htp --hsearch off --playouts 1 --seed 0|boardsize 2~genmove b~genmove w~|7|= ~~
+1|htp --hsearch off --playouts 1 --seed 0|boardsize 2~genmove b~genmove w~|7|= ~~= a1~~
+2|htp --hsearch off --playouts 1 --seed 0|boardsize 2~genmove b~genmove w~|0|= ~~= a1~~= b1~~
+0|htp|boardsize 1~genmove b~name~|7|= ~~
+0|sim --size 1 --playouts 1||7|
+0|bench --size 1 --playouts 1||7|";
+
+#[test]
+fn archive_rooms(rt: HostRuntime) -> Result<(), Fail> {
+    let alloc = rt.alloc();
+    for line in ROOMS.lines() {
+        let mut fields = line.split('|');
+        let room = fields.next().ok_or("a room")?.parse::<usize>()?;
+        let words = fields.next().ok_or("words")?;
+        let input = bytes_of(alloc, fields.next().ok_or("an input")?)?;
+        let status = fields.next().ok_or("a status")?.parse::<u8>()?;
+        let given = bytes_of(alloc, fields.next().ok_or("an output")?)?;
+        let case = Case {
+            room,
+            ..ample(words, &input)
+        };
+        check(&rt, "archive-rooms", &case, &given, status)?;
+    }
+    Ok(())
+}
+
+#[test]
+fn single_faults(rt: HostRuntime) -> Result<(), Fail> {
+    let unread = Case {
+        piece: 5,
+        bad_read: Some(2),
+        ..ample("htp", b"name\nname\nname\n")
+    };
+    check(&rt, "read-fault", &unread, b"= hexd\n\n= hexd\n\n", 3)?;
+    let unwritten = Case {
+        bad_write: Some(0),
+        ..ample("htp", b"name\n")
+    };
+    check(&rt, "write-fault", &unwritten, b"", 4)
+}

@@ -1,0 +1,191 @@
+//! A run over devices in memory, and tables of runs.
+
+use crate::top::run;
+use hex_io::{Bytes, File, MemLink, MemShelf, Word};
+use hex_plan::MemArchive;
+use search_team::{Gate, OpenGate};
+use std::alloc::Global;
+use std::test::Fail;
+
+/// A record of a game, which the shelf of each run has under the name `g.sgf`. Under `h.sgf` it has
+/// the record without its last byte.
+pub const RECORD: &[u8] = b"(;FF[4]GM[11]SZ[3]AP[Editor:0.9]C[a\\]b];B[a2];W[swap-pieces];B[c3])";
+
+/// What a run is made over: words with one space between two, an input, the content of the file
+/// `f`, the most bytes of a read or a write, the numbers of the calls that fail, and how many turns
+/// the archive holds.
+#[derive(Clone, Copy)]
+pub struct Case<'a> {
+    pub words: &'a str,
+    pub input: &'a [u8],
+    pub file: &'a [u8],
+    pub piece: usize,
+    pub bad_read: Option<u32>,
+    pub bad_write: Option<u32>,
+    pub bad_error: Option<u32>,
+    pub bad_fetch: Option<u32>,
+    pub room: usize,
+}
+
+/// A run in which nothing fails.
+pub const fn ample<'a>(words: &'a str, input: &'a [u8]) -> Case<'a> {
+    Case {
+        words,
+        input,
+        file: b"",
+        piece: 1_000,
+        bad_read: None,
+        bad_write: None,
+        bad_error: None,
+        bad_fetch: None,
+        room: 4,
+    }
+}
+
+/// What a run left.
+#[derive(Drop)]
+pub struct Left {
+    pub status: u8,
+    pub link: MemLink,
+    pub errors: MemLink,
+    pub archive: MemArchive,
+}
+
+/// The words of a line, with one space between two; an empty line has none.
+pub fn words_of(alloc: Global, line: &str) -> Result<Vec<Word>, Fail> {
+    let mut words = Vec::new(alloc);
+    if line.is_empty() {
+        return Ok(words);
+    }
+    for word in line.split(' ') {
+        words.push(Word::of(String::from_str(alloc, word)?))?;
+    }
+    Ok(words)
+}
+
+fn number_list(alloc: Global, number: Option<u32>) -> Result<Vec<u32>, Fail> {
+    let mut numbers = Vec::new(alloc);
+    if let Some(number) = number {
+        numbers.push(number)?;
+    }
+    Ok(numbers)
+}
+
+/// A link over this input.
+pub fn link_over(
+    alloc: Global,
+    input: &[u8],
+    piece: usize,
+    bad_read: Option<u32>,
+    bad_write: Option<u32>,
+) -> Result<MemLink, Fail> {
+    let input = input.to_vec(alloc)?;
+    let reads = number_list(alloc, bad_read)?;
+    let writes = number_list(alloc, bad_write)?;
+    Ok(MemLink::make(alloc, input, piece.max(1), 100_000, 200_000, reads, writes)?)
+}
+
+fn file_of(alloc: Global, name: &[u8], content: &[u8]) -> Result<File, Fail> {
+    Ok(File {
+        name: Bytes::of(name.to_vec(alloc)?),
+        content: Bytes::of(content.to_vec(alloc)?),
+    })
+}
+
+/// The shelf, with this content of the file `f`.
+pub fn shelf_with(alloc: Global, file: &[u8], bad_fetch: Option<u32>) -> Result<MemShelf, Fail> {
+    let mut files = Vec::new(alloc);
+    files.push(file_of(alloc, b"g.sgf", RECORD)?)?;
+    files.push(file_of(alloc, b"h.sgf", RECORD.split_at(66).0)?)?;
+    files.push(file_of(alloc, b"f", file)?)?;
+    Ok(MemShelf::make(alloc, files, number_list(alloc, bad_fetch)?)?)
+}
+
+/// The run of a case, with this gate.
+pub fn run_at<G: Gate + Sync>(rt: &HostRuntime, case: &Case, gate: &G) -> Result<Left, Fail> {
+    let alloc = rt.alloc();
+    let words = words_of(alloc, case.words)?;
+    let mut link = link_over(alloc, case.input, case.piece, case.bad_read, case.bad_write)?;
+    let mut errors = link_over(alloc, b"", 3, None, case.bad_error)?;
+    let mut shelf = shelf_with(alloc, case.file, case.bad_fetch)?;
+    let mut archive = MemArchive::make(alloc, case.room)?;
+    let status = run(
+        rt,
+        alloc,
+        &words,
+        &mut link,
+        &mut errors,
+        &mut shelf,
+        &mut archive,
+        gate,
+    );
+    Ok(Left {
+        status,
+        link,
+        errors,
+        archive,
+    })
+}
+
+/// The run of a case.
+pub fn run_of(rt: &HostRuntime, case: &Case) -> Result<Left, Fail> {
+    run_at(rt, case, &OpenGate)
+}
+
+/// The line that a status gives to the errors.
+fn line_of(status: u8) -> &'static [u8] {
+    match status {
+        2 => b"hexd: usage\n",
+        3 => b"hexd: read fault\n",
+        5 => b"hexd: out of memory\n",
+        6 => b"hexd: input too long\n",
+        7 => b"hexd: archive fault\n",
+        _ => b"",
+    }
+}
+
+/// The run of the case ends with this status and its line, and has given these bytes.
+pub fn check(
+    rt: &HostRuntime,
+    name: &str,
+    case: &Case,
+    given: &[u8],
+    status: u8,
+) -> Result<(), Fail> {
+    let left = run_of(rt, case)?;
+    assert_eq!(rt; left.status, status, "{name}");
+    assert_eq!(rt; left.link.given(), given, "{name}");
+    assert_eq!(rt; left.errors.given(), line_of(status), "{name}");
+    Ok(())
+}
+
+/// The bytes that a field of a table stands for: `~` is a line feed.
+pub fn bytes_of(alloc: Global, field: &str) -> Result<Vec<u8>, Fail> {
+    let mut bytes = Vec::new(alloc);
+    for &byte in field.as_bytes() {
+        bytes.push(if byte == b'~' { b'\n' } else { byte })?;
+    }
+    Ok(bytes)
+}
+
+/// Each row of the table is a run in pieces of several lengths. Between the bars of a line stand its
+/// name, its words, its input, its status and what it gives.
+pub fn check_rows(rt: &HostRuntime, table: &str) -> Result<(), Fail> {
+    let alloc = rt.alloc();
+    for line in table.lines() {
+        let mut fields = line.split('|');
+        let name = fields.next().ok_or("a name")?;
+        let words = fields.next().ok_or("words")?;
+        let input = bytes_of(alloc, fields.next().ok_or("an input")?)?;
+        let status = fields.next().ok_or("a status")?.parse::<u8>()?;
+        let given = bytes_of(alloc, fields.next().ok_or("an output")?)?;
+        for piece in [1, 7, 1_000] {
+            let case = Case {
+                piece,
+                ..ample(words, &input)
+            };
+            check(rt, name, &case, &given, status)?;
+        }
+    }
+    Ok(())
+}

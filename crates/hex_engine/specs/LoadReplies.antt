@@ -1,0 +1,40 @@
+-- What `loadsgf` does.
+use Rattle.std.specs.Prelude.{ℕ, List, [], ◌∷◌, Option, Some, None, Result, Err, if◌then◌else◌}
+use Rattle.std.specs.Str.{bytes_eq, is_utf8}
+use Rattle.hex_engine.specs.EngineState.{EngineState}
+use Rattle.hex_engine.specs.Replies.{Done, Failed, Reaction, Turned, Missing, NoLoad}
+use Rattle.hex_engine.specs.Replies.{unchanged, unused}
+use Rattle.hex_engine.specs.Supply.{Load, Supply}
+use Rattle.hex_engine.specs.declared.answers.Fail.TheVariants.{Syntax, ReadFault}
+use Rattle.hex_engine.specs.declared.answers.Fail.TheVariants as fail
+use Rattle.hex_engine.specs.declared.files.Loaded.{Loaded}
+use Rattle.hex_engine.specs.declared.files.Loaded.TheVariants.{Unread, Refused, Loads}
+
+-- what stands after a file came to this
+abbrev pub loaded : EngineState → Loaded → Reaction
+loaded standing Unread = unchanged standing (Failed ReadFault)
+loaded standing Refused = unchanged standing (Failed fail.NoLoad)
+loaded standing (Loads game) =
+    record { reply = Done []; after = record standing { game = game } }
+
+-- the next load is used up, which has to be of this name
+abbrev pub loading_next : EngineState → Supply → List Load → List ℕ → Result Turned Missing
+loading_next standing left [] name = Err NoLoad
+loading_next standing left (load ∷ loads) name =
+    if bytes_eq load.name name then
+    unused (record left { loads = loads }) (loaded standing load.what) else Err NoLoad
+
+-- the file's name, where it is the only argument and valid UTF-8
+abbrev pub file_named : List (List ℕ) → Option (List ℕ)
+file_named [] = None
+file_named (name ∷ []) = if is_utf8 name then Some name else None
+file_named (name ∷ word ∷ words) = None
+
+-- what `loadsgf` does with a file's name, if there is one
+abbrev pub loading_by : EngineState → Supply → Option (List ℕ) → Result Turned Missing
+loading_by standing left None = unused left (unchanged standing (Failed Syntax))
+loading_by standing left (Some name) = loading_next standing left left.loads name
+
+-- what `loadsgf` does with its arguments
+abbrev pub loading : EngineState → Supply → List (List ℕ) → Result Turned Missing
+loading standing left args = loading_by standing left (file_named args)

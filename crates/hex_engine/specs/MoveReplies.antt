@@ -1,0 +1,65 @@
+-- What `genmove` does.
+use Rattle.std.specs.Prelude.{ℕ, ◌+◌, ◌==◌, ◌&&◌, Bool, List, [], ◌∷◌, Option, Some, None}
+use Rattle.std.specs.Prelude.{Result, Err, if◌then◌else◌}
+use Rattle.hex_cells.specs.Vertices.{vertex_of}
+use Rattle.hex_cells.specs.declared.colours.Colour.{Colour}
+use Rattle.hex_board.specs.Positions.{Position}
+use Rattle.hex_board.specs.Wins.{is_same}
+use Rattle.hex_game.specs.Games.{board_of, with_step}
+use Rattle.hex_game.specs.Moves.{step_of}
+use Rattle.hex_game.specs.declared.moves.Move.TheVariants.{Stone}
+use Rattle.hex_plan.specs.Openings.{may_move}
+use Rattle.hex_plan.specs.TurnTexts.{texts_of}
+use Rattle.hex_plan.specs.Turns.{Decision}
+use Rattle.hex_engine.specs.EngineState.{EngineState}
+use Rattle.hex_engine.specs.Forms.{colour_of}
+use Rattle.hex_engine.specs.Replies.{Done, Failed, Reaction, Turned, Missing, NoTurn}
+use Rattle.hex_engine.specs.Replies.{unchanged, unused}
+use Rattle.hex_engine.specs.Supply.{Supply}
+use Rattle.hex_engine.specs.declared.answers.Fail.TheVariants.{Syntax, Over}
+
+-- the two boards are one
+abbrev pub is_board : Position → Position → Bool
+is_board a b = (a.size == b.size) && ((a.black == b.black) && (a.white == b.white))
+
+-- the turn is this conversation's next: it has the board of the game, this colour, and the number
+-- of turns before it
+abbrev pub is_next : EngineState → Colour → Decision → Bool
+is_next standing colour turn =
+    is_board turn.board (board_of standing.game) &&
+    (is_same turn.player colour && (turn.number == standing.turns))
+
+-- the turn's cell is played and answered, and its texts are those of the last turn
+abbrev pub turned : EngineState → Colour → Decision → Reaction
+turned standing colour turn = record {
+  reply = Done (vertex_of (board_of standing.game).size turn.cell);
+  after = record standing {
+    game = with_step standing.game (step_of colour (Stone turn.cell));
+    turns = standing.turns + 1;
+    last = Some (texts_of turn);
+  };
+}
+
+-- the next turn is used up
+abbrev pub moving_next : EngineState → Supply → List Decision → Colour → Result Turned Missing
+moving_next standing left [] colour = Err NoTurn
+moving_next standing left (turn ∷ turns) colour =
+    if is_next standing colour turn then
+    unused (record left { turns = turns }) (turned standing colour turn) else Err NoTurn
+
+-- what `genmove` does with a colour, if there is one
+abbrev pub moving_by : EngineState → Supply → Option Colour → Result Turned Missing
+moving_by standing left None = unused left (unchanged standing (Failed Syntax))
+moving_by standing left (Some colour) =
+    if may_move (board_of standing.game) then moving_next standing left left.turns colour
+    else unused left (unchanged standing (Failed Over))
+
+-- the colour, where it is the only argument
+abbrev pub lone_colour : List (List ℕ) → Option Colour
+lone_colour [] = None
+lone_colour (word ∷ []) = colour_of word
+lone_colour (word ∷ other ∷ words) = None
+
+-- what `genmove` does with its arguments
+abbrev pub moving : EngineState → Supply → List (List ℕ) → Result Turned Missing
+moving standing left args = moving_by standing left (lone_colour args)

@@ -1,0 +1,105 @@
+-- What the commands do that use nothing up.
+use Rattle.std.specs.Prelude.{ℕ, Bool, true, false, List, [], ◌∷◌, Option, Some, None}
+use Rattle.std.specs.Prelude.{codes, is_some}
+use Rattle.hex_cells.specs.declared.colours.Colour.{Colour}
+use Rattle.hex_cells.specs.declared.colours.Colour.TheVariants.{Black, White}
+use Rattle.hex_board.specs.Joined.{winner_of}
+use Rattle.hex_game.specs.Games.{board_of}
+use Rattle.hex_plan.specs.TurnTexts.{TurnTextsData}
+use Rattle.sgf_game.specs.Record.{record_of}
+use Rattle.sgf_tree.specs.Printing.{trees_print}
+use Rattle.hex_engine.specs.BoardReplies.{QuietReaction, reply_alone, if_bare}
+use Rattle.hex_engine.specs.BoardReplies.{emptied, resized, playing, undone}
+use Rattle.hex_engine.specs.Commands.{command_named, all_names}
+use Rattle.hex_engine.specs.EngineState.{EngineState}
+use Rattle.hex_engine.specs.Forms.{sizes_of}
+use Rattle.hex_engine.specs.Picture.{picture}
+use Rattle.hex_engine.specs.Replies.{Reply, Done, Failed}
+use Rattle.hex_engine.specs.Replies as reply
+use Rattle.hex_engine.specs.declared.answers.Fail.{Fail}
+use Rattle.hex_engine.specs.declared.answers.Fail.TheVariants.{Syntax, NoSearch, NoCert}
+use Rattle.hex_engine.specs.declared.commands.Quiet.{Quiet}
+use Rattle.hex_engine.specs.declared.commands.Quiet.TheVariants.{BoardSize, ClearBoard}
+use Rattle.hex_engine.specs.declared.commands.Quiet.TheVariants.{KnownCommand, ListCommands}
+use Rattle.hex_engine.specs.declared.commands.Quiet.TheVariants.{MustPlay, Name, Play, PrintSgf}
+use Rattle.hex_engine.specs.declared.commands.Quiet.TheVariants.{ProtocolVersion, Quit}
+use Rattle.hex_engine.specs.declared.commands.Quiet.TheVariants.{SearchReport, ShowBoard, Undo}
+use Rattle.hex_engine.specs.declared.commands.Quiet.TheVariants.{Version, WinCert, Winner}
+
+-- for a command that takes no argument and leaves the game as it is
+abbrev pub bare_reply : List (List ℕ) → Reply → Reply
+bare_reply [] reply = reply
+bare_reply (word ∷ words) reply = Failed Syntax
+
+-- a text where there is one, and else this failure
+abbrev pub text_or : Fail → Option (List ℕ) → Reply
+text_or fail None = Failed fail
+text_or fail (Some text) = Done text
+
+-- the text of a truth value
+abbrev pub truth : Bool → List ℕ
+truth true = codes "true"
+truth false = codes "false"
+
+-- what `known_command` answers
+abbrev pub knowing : List (List ℕ) → Reply
+knowing [] = Failed Syntax
+knowing (word ∷ []) = Done (truth (is_some (command_named word)))
+knowing (word ∷ other ∷ words) = Failed Syntax
+
+-- the text of `winner`
+abbrev pub winner_text : Option Colour → List ℕ
+winner_text None = codes "none"
+winner_text (Some Black) = codes "black"
+winner_text (Some White) = codes "white"
+
+-- the report of the last turn, what `mustplay` says of it, and its certificate
+abbrev pub last_report : Option TurnTextsData → Option (List ℕ)
+last_report None = None
+last_report (Some texts) = texts.report
+
+abbrev pub last_mustplay : Option TurnTextsData → Option (List ℕ)
+last_mustplay None = None
+last_mustplay (Some texts) = Some texts.mustplay
+
+abbrev pub last_wincert : Option TurnTextsData → Option (List ℕ)
+last_wincert None = None
+last_wincert (Some texts) = texts.wincert
+
+-- what the three commands answer that ask for the last turn, if there is one
+abbrev pub reporting : Option TurnTextsData → List (List ℕ) → Reply
+reporting last args = bare_reply args (text_or NoSearch (last_report last))
+
+abbrev pub planning : Option TurnTextsData → List (List ℕ) → Reply
+planning last args = bare_reply args (text_or NoSearch (last_mustplay last))
+
+abbrev pub certifying : Option TurnTextsData → List (List ℕ) → Reply
+certifying last args = bare_reply args (text_or NoCert (last_wincert last))
+
+-- what a command with these arguments does that uses nothing up
+unfoldable pub quiet_reaction : EngineState → Quiet → List (List ℕ) → QuietReaction
+quiet_reaction standing BoardSize args = resized standing.game (sizes_of args)
+quiet_reaction standing ClearBoard args =
+    if_bare standing.game args (emptied (board_of standing.game).size)
+quiet_reaction standing KnownCommand args = reply_alone standing.game (knowing args)
+quiet_reaction standing ListCommands args =
+    reply_alone standing.game (bare_reply args (Done all_names))
+quiet_reaction standing MustPlay args = reply_alone standing.game (planning standing.last args)
+quiet_reaction standing Name args =
+    reply_alone standing.game (bare_reply args (Done (codes "hexd")))
+quiet_reaction standing Play args = playing standing.game args
+quiet_reaction standing PrintSgf args =
+    reply_alone standing.game (bare_reply args (Done (trees_print (record_of standing.game))))
+quiet_reaction standing ProtocolVersion args =
+    reply_alone standing.game (bare_reply args (Done (codes "2")))
+quiet_reaction standing Quit args = reply_alone standing.game (bare_reply args reply.Quit)
+quiet_reaction standing SearchReport args = reply_alone standing.game (reporting standing.last args)
+quiet_reaction standing ShowBoard args =
+    reply_alone standing.game (bare_reply args (Done (picture (board_of standing.game))))
+quiet_reaction standing Undo args =
+    if_bare standing.game args (undone standing.game standing.game.steps)
+quiet_reaction standing Version args =
+    reply_alone standing.game (bare_reply args (Done (codes "1.0")))
+quiet_reaction standing WinCert args = reply_alone standing.game (certifying standing.last args)
+quiet_reaction standing Winner args = reply_alone standing.game
+    (bare_reply args (Done (winner_text (winner_of (board_of standing.game)))))

@@ -1,0 +1,142 @@
+-- What good turns say of winning: certified moves win, and moves outside a threat lose.
+use Rattle.std.proofs.Common.{◌≡◌, ℕ, [], ◌∷◌, Bool, true, false, List, Option, Some, None, All, zero, suc, refl, sym, ◌∙◌, ap, subst, inl, inr}
+use Rattle.std.specs.List.{slice_get}
+use Rattle.std.proofs.lemmas.Bool.{both_ways, cases_Bool}
+use Rattle.std.proofs.lemmas.List.Elements.{All-cons, All-nil}
+use Rattle.std.proofs.lemmas.Option.{get_or_from_slice_get, slice_get_within}
+use Rattle.hex_cells.specs.Sets.{has, members}
+use Rattle.hex_cells.specs.Colours.{other_of}
+use Rattle.hex_cells.specs.declared.colours.Colour.{Colour}
+use Rattle.hex_cells.specs.declared.colours.Colour.TheVariants.{Black, White}
+use Rattle.hex_board.specs.Elements.{PlayerBoard}
+use Rattle.hex_board.specs.Positions.{IsPosition, Position, Within, is_empty_at, placed, stones_of}
+use Rattle.hex_board.specs.Wins.{Wins}
+use Rattle.conn_store.specs.Rules.{IsCell, IsChain}
+use Rattle.conn_store.specs.Stores.{IsSound, StoreData}
+use Rattle.conn_store.specs.Truth.{IsSureIn}
+use Rattle.conn_store.specs.declared.entries.Entry.{Entry}
+use Rattle.conn_store.specs.declared.entries.Kind.{Kind}
+use Rattle.conn_store.specs.declared.entries.Kind.TheVariants.{Full, Semi}
+use Rattle.conn_store.proofs.Chains.{one_chain}
+use Rattle.tree_words.specs.declared.settings.Knobs.{Knobs}
+use Rattle.win_cert.specs.Cuts.{IsEdgeEntryAt}
+use Rattle.win_cert.specs.declared.certs.Cert.{Cert}
+use Rattle.hex_plan.specs.Good.{FollowsPlan, IsGood}
+use Rattle.hex_plan.specs.Laws.{IsCertified, LosesBy, LosesOutsideThreats, LosesWhereLost}
+use Rattle.hex_plan.specs.Plans.{AreThreats, IsCertifiedWin, IsInEach, IsMiddle, IsNarrowed, IsPlanned, IsPlannedBy, IsReportOf, IsThreat, IsWin, IsWinBy, IsWinningCellBy}
+use Rattle.hex_plan.specs.Turns.{Decision}
+use Rattle.hex_plan.specs.declared.plans.Planned.{Planned}
+use Rattle.hex_plan.specs.declared.threats.Threat.{Threat}
+use Rattle.hex_plan.specs.declared.types.Plan.{Plan}
+use Rattle.hex_plan.specs.declared.types.Plan.TheVariants.{Win, Search}
+use Rattle.hex_plan.proofs.Middles.{IsOverCell, first_of, over_cell, second_of}
+use Rattle.hex_plan.proofs.PlanLaws.{planned_win}
+use Rattle.hex_plan.proofs.SureWins.{EdgesLink, entry_says, full_wins, middle_wins, wins_after_other}
+
+stones_on : (p : Position) (player : Colour) → IsPosition p.size p.black p.white → Within p.size (stones_of p player)
+stones_on p Black h = h.black_on
+stones_on p White h = h.white_on
+
+-- ---- certified moves
+
+same_entry : (a b : Entry) → Some a ≡ Some b → a ≡ b
+same_entry a b e = cc
+
+-- the element over which the entry follows is that of its middle
+the_middle : (d : StoreData) (a : Entry) (k : ℕ) (m : IsMiddle d a k) (o : IsOverCell d a m.numbers.0 m.numbers.1) → IsSound d → m.middle ≡ o.u
+the_middle d a k m o s =
+    let i = m.numbers.0 in
+    let j = m.numbers.1 in
+    let one : m.parts.0 ≡ o.first = same_entry m.parts.0 o.first (sym (first_of d.entries i j m.parts.0 m.parts.1 m.at) ∙ o.first_at) in
+    let two : m.parts.1 ≡ o.second = same_entry m.parts.1 o.second (sym (second_of d.entries i j m.parts.0 m.parts.1 m.at) ∙ o.second_at) in
+    let chain : IsChain o.first o.second m.ends.0 m.middle m.ends.1
+    = subst (λ (v : Entry). IsChain o.first v m.ends.0 m.middle m.ends.1) two (subst (λ (v : Entry). IsChain v m.parts.1 m.ends.0 m.middle m.ends.1) one m.chain) in
+    (one_chain o.first o.second m.ends.0 m.middle m.ends.1 o.x o.u o.y (s.valid i o.first o.first_at).order (s.valid j o.second o.second_at).order chain o.rule.chain).1
+
+cell_wins : (d : StoreData) (n : ℕ) (a : Entry) (kind : Kind) (k : ℕ) → IsSound d → Within d.elements.board.size (stones_of d.elements.board d.elements.player) → IsEdgeEntryAt d n a → a.kind ≡ kind
+    → IsWinningCellBy d a kind k → Wins d.elements.player (placed d.elements.board d.elements.player k) (other_of d.elements.player)
+cell_wins d n a Full k s on at q w = full_wins d.elements a k on at.1 (s.valid n a at.0) (s.true_entries n a at.0) q w.in_set
+cell_wins d n a Semi k s on at q w =
+    let o : IsOverCell d a w.numbers.0 w.numbers.1 = over_cell d n a w.numbers.0 w.numbers.1 s at.0 w.cause in
+    middle_wins d.elements a o.first o.second o.x o.u o.y k on at.1 o.pair (s.valid _ o.first o.first_at) (s.valid _ o.second o.second_at) (s.true_entries _ o.first o.first_at)
+    (s.true_entries _ o.second o.second_at) o.rule (subst (λ v. IsCell d.elements v k) (the_middle d a k w o s) w.cell)
+
+won_wins : (board : Position) (player : Colour) (cert : Cert) (k : ℕ) (d : StoreData) → IsPosition board.size board.black board.white → IsCertifiedWin board player cert k d
+    → Wins player (placed board player k) (other_of player)
+won_wins board player cert k d on h =
+    let e = h.report.elements in
+    subst (λ (v : PlayerBoard). Wins v.player (placed v.board v.player k) (other_of v.player)) e
+    (cell_wins d h.edges.0 h.entry h.entry.kind k h.report.report.sound
+    (subst (λ (v : PlayerBoard). Within v.board.size (stones_of v.board v.player)) (sym e) (stones_on board player on)) h.edges.1 refl h.winning)
+
+win_by : (options : Knobs) (t : Decision) (plan : Plan) → FollowsPlan options t plan → IsWin plan → IsWinBy plan t.cell
+win_by options t (Win cert cell) f w = sym f.1
+win_by options t (Search threats allowed lost) f w = absurd w
+
+pub is_certified : (options : Knobs) (hsearch : Bool) (t : Decision) → IsGood options hsearch t → IsCertified t
+is_certified options hsearch t g w =
+    let (cert, d, is, won) = planned_win t.board t.player hsearch t.planned t.cell g.planned (win_by options t t.planned.plan g.follows w) in
+    won_wins t.board t.player cert t.cell d g.position won
+
+-- ---- threats
+
+-- what a semi entry of a player says of his edges
+abbrev pub SaysOf : PlayerBoard → Entry → Type 0
+SaysOf e a = IsSureIn (members a.carrier 121) Semi (EdgesLink e) (stones_of e.board e.player) a.carrier
+
+threat_wins : (board : Position) (player : Colour) (d : StoreData) (threat : Threat) (k : ℕ) → IsPosition board.size board.black board.white → IsReportOf board (other_of player) d → IsThreat d threat
+    → has threat.carrier k ≡ false → Wins (other_of player) (placed board player k) (other_of player)
+threat_wins board player d threat k on r h out =
+    let a = h.entry in
+    let n = h.edges.0 in
+    let at = h.edges.1 in
+    let s = r.report.sound in
+    let free = subst (λ (v : PlayerBoard). (j : ℕ) → has a.carrier j ≡ true → is_empty_at v.board j ≡ true) r.elements (s.valid n a at.0).empty in
+    wins_after_other board player _ k a.carrier (stones_on board (other_of player) on) free (subst (λ c. has c k ≡ false) h.carrier out)
+    (subst (λ (v : PlayerBoard). SaysOf v a) r.elements (entry_says d.elements a Semi at.1 (s.true_entries n a at.0) h.semi))
+
+narrowed_by : (board : Position) (player : Colour) (plan : Plan) (own other : Option StoreData) (threats : List Threat) (allowed : ℕ) (lost : Bool) → IsPlannedBy board player plan own other
+    → plan ≡ Search threats allowed lost → (d : StoreData) × (e : StoreData) × IsNarrowed board player threats allowed lost d e
+narrowed_by board player plan own other threats allowed lost h q =
+    let (d, e, p, r, n) = subst (λ (v : Plan). IsPlannedBy board player v own other) q h in (d, e, n)
+
+-- what a search with a threat, or on a lost board, rests on
+with_threat : (board : Position) (player : Colour) (hsearch : Bool) (p : Planned) (threats : List Threat) (allowed : ℕ) (lost : Bool) (i : ℕ) (threat : Threat) → IsPlanned board player hsearch p
+    → p.plan ≡ Search threats allowed lost → slice_get threats i ≡ Some threat → (d : StoreData) × (e : StoreData) × IsNarrowed board player threats allowed lost d e
+with_threat board player true p threats allowed lost i threat h q s = narrowed_by board player p.plan p.own p.other threats allowed lost h q
+with_threat board player false p threats allowed lost i threat h q s = absurd (no_threat threats allowed h.allowed lost (sym h.plan ∙ q) s)
+  where
+    no_threat : (threats : List Threat) (a b : ℕ) (lost : Bool) → Search [] b false ≡ Search threats a lost → slice_get threats i ≡ Some threat → ⊥
+    no_threat threats a b lost e s = absurd (cc)
+
+at_one : (P : Threat → Type 0) (threats : List Threat) (i : ℕ) (threat : Threat) → All P threats → slice_get threats i ≡ Some threat → P threat
+at_one P threats i threat h s = subst P (get_or_from_slice_get threats i threat threat s) (h i threat (slice_get_within threats i threat s))
+
+pub outside_loses : (options : Knobs) (hsearch : Bool) (t : Decision) → IsGood options hsearch t → LosesOutsideThreats t
+outside_loses options hsearch t g threats allowed lost q i threat s k empty out =
+    let (d, e, n) = with_threat t.board t.player hsearch t.planned threats allowed lost i threat g.planned q s in
+    threat_wins t.board t.player e threat k g.position n.other_report (at_one (IsThreat e) threats i threat n.are_threats.cut s) out
+
+-- ---- lost boards
+
+-- one of the threats has not the cell in its carrier
+some_misses : (threats : List Threat) (k : ℕ) → (All (λ (t : Threat). has t.carrier k ≡ true) threats → ⊥) → (i : ℕ) × (t : Threat) × (slice_get threats i ≡ Some t) × (has t.carrier k ≡ false)
+some_misses [] k h = absurd (h (All-nil (λ (t : Threat). has t.carrier k ≡ true)))
+some_misses (t ∷ threats) k h = elim (cases_Bool (has t.carrier k)) [
+  | inl e ↦ let w = some_misses threats k (λ a. h (All-cons (λ (v : Threat). has v.carrier k ≡ true) t threats e a)) in (suc w.0, w.1, w.2, w.3)
+  | inr e ↦ (0, t, refl, e)
+]
+
+lost_region : (board : Position) (player : Colour) (hsearch : Bool) (p : Planned) (threats : List Threat) (allowed : ℕ) → IsPlanned board player hsearch p → p.plan ≡ Search threats allowed true
+    → (k : ℕ) → IsInEach board threats k → ⊥
+lost_region board player true p threats allowed h q =
+    let (d, e, n) = narrowed_by board player p.plan p.own p.other threats allowed true h q in n.mustplay.none.0 refl
+lost_region board player false p threats allowed h q = absurd (not_lost threats allowed h.allowed (sym h.plan ∙ q))
+  where
+    not_lost : (threats : List Threat) (a b : ℕ) → Search [] b false ≡ Search threats a true → ⊥
+    not_lost threats a b e = absurd (cc)
+
+pub lost_loses : (options : Knobs) (hsearch : Bool) (t : Decision) → IsGood options hsearch t → LosesWhereLost t
+lost_loses options hsearch t g threats allowed q k empty =
+    let w = some_misses threats k (λ a. lost_region t.board t.player hsearch t.planned threats allowed g.planned q k (empty, a)) in
+    outside_loses options hsearch t g threats allowed true q w.0 w.1 w.2 k empty w.3

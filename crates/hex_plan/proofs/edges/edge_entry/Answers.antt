@@ -1,0 +1,13 @@
+use Rattle.std.proofs.Common.{subst, arith}
+use Rattle.conn_store.specs.Stores.{StoreData}
+use Rattle.conn_store.specs.declared.entries.Kind.TheVariants.{Full, Semi}
+use Rattle.hex_plan.specs.Planning.{AreEdgeNumbers}
+use Rattle.hex_plan.proofs.EdgeNumbers.{no_edge_entry}
+use Rattle.hex_plan.proofs.edges.edge_entry.Goals as goal
+
+pub returns-clause-none : goal.returns-clause-none
+returns-clause-none c =
+    no_edge_entry c.args.report.now c.edge_numbers-semi.result c.edge_numbers-full.result
+    (subst (λ (d : StoreData). AreEdgeNumbers d Semi c.edge_numbers-semi.result) c.store-store.ensures.value c.edge_numbers-semi.ensures.numbers)
+    (subst (λ (d : StoreData). AreEdgeNumbers d Full c.edge_numbers-full.result) c.store-store.ensures.value c.edge_numbers-full.ensures.numbers)
+    (omega (arith, c.if-semi-gt0.false)) (omega (arith, c.if-full-gt0.false))

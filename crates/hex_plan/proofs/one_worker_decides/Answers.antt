@@ -1,5 +1,0 @@
-use Rattle.hex_plan.proofs.Same.{report_is_seq, same_turn}
-use Rattle.hex_plan.proofs.one_worker_decides.Goals as goal
-
-pub returns : goal.returns
-returns c = record { report = report_is_seq; same = same_turn }

@@ -1,0 +1,16 @@
+use Rattle.std.proofs.Common.{refl}
+use Rattle.hex_plan.proofs.planning.win_plan.Goals as goal
+
+pub returns : goal.returns
+returns c = (
+  c.args.own,
+  refl,
+  refl,
+  record {
+    report = record { elements = refl; report = c.store-store.ensures.report };
+    entry = c.requires.entry.0;
+    edges = (c.args.number, c.requires.entry.1);
+    cut = c.in_ok-cert.ensures c.requires.entry.0 c.requires.entry.1;
+    winning = c.winning_cell-cell.ensures c.requires.entry.0 c.requires.entry.1;
+  },
+)

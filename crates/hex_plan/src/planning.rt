@@ -1,0 +1,100 @@
+//! What is planned on a board.
+
+ghost use Rattle.std.specs.Prelude.{◌≡◌, ℕ, IfOk, None, true, false};
+ghost use Rattle.hex_board.specs.Joined.{winner_of};
+ghost use Rattle.hex_board.specs.Positions.{is_empty_at};
+ghost use Rattle.hex_plan.specs.Plans.{AllowsEmpties, IsEdgeEntry, IsFree, IsPlanned, IsReportOf};
+ghost use Rattle.hex_board.specs.Elements.{are_joined};
+ghost use Rattle.win_cert.specs.Cuts.{HasEdgeEntryAt};
+ghost use Rattle.conn_store.specs.declared.entries.Entry.{Entry};
+
+use super::collecting::threats_of;
+use super::edges::edge_entry;
+use super::plans::Planned;
+use super::refusals::Memory;
+use super::regions::{empties_of, mustplay_region};
+use super::threats::Threats;
+use super::types::Plan;
+use super::winning::winning_cell;
+use hex_board::Board;
+use hex_cells::Colour;
+use hsearch::{Report, connect};
+use std::alloc::Global;
+use win_cert::cut;
+
+/// What is planned on the board for the player to move, with a look for connections or without.
+/// No player is joined there, and a cell is empty.
+///
+/// Without it, the plan is a search among all empty cells. With it, the plan is a win where the
+/// player's report has an entry between his two edges; else it is a search among the empty cells
+/// that lie in the carrier of each threat of the other player.
+///
+/// It refuses for want of memory alone.
+pub fn plan(alloc: Global, board: &Board, colour: Colour, hsearch: bool) -> Result<Planned, Memory>
+    requires nobody { winner_of board.now ≡ None }
+    requires room { (k : ℕ) × (is_empty_at board.now k ≡ true) }
+    ensures planned { IfOk result (IsPlanned board.now colour hsearch) }
+    ensures allowed { IfOk result (λ planned. AllowsEmpties board.now planned.plan) }
+{
+    if !hsearch {
+        return Ok(free_plan(alloc, board));
+    }
+    let own = connect(alloc, board, colour)?;
+    match edge_entry(&own) {
+        Some(number) => win_plan(alloc, own, number),
+        None => search_plan(alloc, board, colour, own),
+    }
+}
+
+// The plan without a look for connections.
+fn free_plan(alloc: Global, board: &Board) -> Planned
+    ensures { IsFree board.now result }
+{
+    Planned {
+        plan: Plan::Search {
+            threats: Threats::of(Vec::new(alloc)),
+            allowed: empties_of(board),
+            lost: false,
+        },
+        own: None,
+        other: None,
+    }
+}
+
+// The plan to win by the entry with this number of the report of the player, who is not joined.
+fn win_plan(alloc: Global, own: Report, number: u32) -> Result<Planned, Memory>
+    requires apart { are_joined own.elements ≡ false }
+    requires entry { HasEdgeEntryAt own number }
+    ensures { IfOk result (IsPlanned own.elements.board own.elements.player true) }
+{
+    let cert = cut(alloc, &own, number)?;
+    let cell = winning_cell(&own, number);
+    // What the report keeps of itself.
+    let _store = own.store();
+    Ok(Planned {
+        plan: Plan::Win { cert, cell },
+        own: Some(own),
+        other: None,
+    })
+}
+
+// The plan to search, where the player's own report has no entry between his two edges.
+fn search_plan(alloc: Global, board: &Board, colour: Colour, own: Report) -> Result<Planned, Memory>
+    requires nobody { winner_of board.now ≡ None }
+    requires own { IsReportOf board.now colour own }
+    requires unjoined { (a : Entry) → ¬ (IsEdgeEntry own a) }
+    ensures { IfOk result (IsPlanned board.now colour true) }
+{
+    let other = connect(alloc, board, colour.other())?;
+    let threats = threats_of(alloc, &other)?;
+    let region = mustplay_region(board, threats.as_slice());
+    Ok(Planned {
+        plan: Plan::Search {
+            threats,
+            allowed: region.allowed,
+            lost: region.lost,
+        },
+        own: Some(own),
+        other: Some(other),
+    })
+}

@@ -1,0 +1,4 @@
+pub mod Plain
+pub mod Schedules
+pub mod Steps
+pub mod Standing

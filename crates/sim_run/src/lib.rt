@@ -1,0 +1,39 @@
+//! A team of workers in one thread: their steps on one tree, in the order that a list says.
+//!
+//! **Nouns.** A *schedule* is a list of numbers of workers, which are numbered from 0: each entry
+//! is one step of that worker. A *simulation* ([`simulate`]) has the words of a tree in a plain
+//! vector and a walker for each worker.
+//!
+//! **A caller** makes a shape and a schedule and calls `simulate(alloc, &shape, &schedule)?`. The
+//! same two give the same words each time.
+//!
+//! **What is proved.** The tree is closed and of this shape, for every schedule, and with one
+//! worker it is the tree of the sequential search. It is the tree of this very schedule: from the
+//! opening words and new walkers on, each entry is one step of the walker with its number, and then
+//! come rounds, in each a step of each walker by rising number, until none has a step left
+//! (specs/Steps.antt, specs/Standing.antt). A number that no worker has is refused with its first
+//! place, before anything is simulated, and nothing else is refused but for want of memory.
+//! `simulate` returns, takes all its memory before the first step, and waits for nobody.
+//!
+//! **What is only tested, or not said.** That it gets its memory.
+//!
+//! **How it is proved.** Between two steps there is a list of views, one of width 1 for each
+//! worker, each belongs to its walker, and the arena rule holds of the words with these views. The
+//! views stand in proofs alone, so what is left to do is told from the words and the walkers: TICKET
+//! says how many draws are left at most.
+//!
+//! **Limits.** Those of a shape.
+#![tactic(auto)]
+
+mod errors;
+mod opening;
+mod search;
+mod simulation;
+mod steps;
+#[cfg(test)]
+mod tree_tests;
+#[cfg(test)]
+mod walk_tests;
+
+pub use errors::SimError;
+pub use search::simulate;

@@ -1,0 +1,8 @@
+mod Placing
+mod Orders
+mod Words
+mod Recorded
+mod Preferred
+mod Decided
+mod Said
+mod Handed

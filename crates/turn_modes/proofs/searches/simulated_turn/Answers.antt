@@ -1,0 +1,30 @@
+use Rattle.std.proofs.Common.{◌≡◌, ℕ, List, subst, sym, ◌∙◌}
+use Rattle.hex_cells.specs.declared.colours.Colour.TheVariants.{Black}
+use Rattle.tree_words.specs.Settings.{Setting}
+use Rattle.sim_run.specs.Standing.{EndsSchedule}
+use Rattle.turn_modes.specs.OneTurn.{IsFirstTurn}
+use Rattle.turn_modes.specs.Schedules.{schedule_of}
+use Rattle.turn_modes.proofs.Decided.{shape_of_tree, sequential_tree}
+use Rattle.turn_modes.proofs.searches.simulated_turn.Goals as goal
+
+pub returns-clause-turn : goal.returns-clause-turn
+returns-clause-turn c =
+    let knobs = c.args.options.now.knobs in
+    let board = c.bare_board-board.result in
+    let s = c.in_ok-prepared.prepared.shape in
+    let same : c.in-Ok.closed.shape ≡ s = c.in-Ok.ensures.shape in
+    subst (λ p. IsFirstTurn knobs p Black c.decide.result) c.bare_board-board.ensures.value
+    (c.decide.ensures.first knobs board Black c.bare_board-board.ensures.nobody c.in_ok-prepared.ensures.planned
+    (shape_of_tree knobs board Black s c.in-Ok.closed same c.in_ok-prepared.ensures.shape)
+    (sequential_tree knobs board Black s c.in-Ok.closed same c.in_ok-prepared.ensures.shape c.in-Ok.ensures.one))
+
+pub returns-clause-scheduled : goal.returns-clause-scheduled
+returns-clause-scheduled c =
+    let knobs = c.args.options.now.knobs in
+    let list : c.deref.result.now ≡ schedule_of knobs.workers knobs.seed c.args.options.now.steps = c.deref.ensures.value ∙ c.in_ok-list.ensures.value in
+    let tree = c.in-Ok.closed in (
+      tree,
+      c.decide.ensures.closed,
+      subst (λ (z : Setting). EndsSchedule z (schedule_of knobs.workers knobs.seed c.args.options.now.steps) tree.words) (sym c.in-Ok.ensures.shape)
+          (subst (λ (xs : List ℕ). EndsSchedule c.in_ok-prepared.prepared.shape xs tree.words) list c.in-Ok.ensures.schedule),
+    )

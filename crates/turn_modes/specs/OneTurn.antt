@@ -1,0 +1,113 @@
+-- The turns and texts of modes sim and bench.
+use Rattle.std.specs.Prelude.{◌≡◌, ℕ, false, List, Some, None}
+use Rattle.hex_cells.specs.declared.colours.Colour.{Colour}
+use Rattle.hex_cells.specs.declared.colours.Colour.TheVariants.{Black}
+use Rattle.hex_board.specs.Joined.{winner_of}
+use Rattle.hex_board.specs.Positions.{Position, empty_board}
+use Rattle.play_out.specs.Fills.{empties_of}
+use Rattle.tree_words.specs.Closing.{ClosedTree}
+use Rattle.tree_words.specs.Complete.{set_of}
+use Rattle.tree_words.specs.Roots.{rows_of}
+use Rattle.tree_words.specs.Sequence.{seq_of}
+use Rattle.tree_words.specs.Settings.{Setting}
+use Rattle.tree_words.specs.declared.roots.Row.{Row}
+use Rattle.tree_words.specs.declared.settings.Knobs.{Knobs}
+use Rattle.hex_plan.specs.Good.{IsGood, IsSequential, IsTurnShape}
+use Rattle.hex_plan.specs.Plans.{IsPlanned}
+use Rattle.hex_plan.specs.Reports.{rows_in}
+use Rattle.hex_plan.specs.Seeds.{turn_knobs}
+use Rattle.hex_plan.specs.TurnTexts.{report_of}
+use Rattle.hex_plan.specs.Turns.{Decision}
+use Rattle.hex_plan.specs.declared.plans.Planned.{Planned}
+use Rattle.sim_run.specs.Standing.{EndsSchedule}
+use Rattle.turn_modes.specs.ModeTexts.{sim_text, report_by, bench_text}
+use Rattle.turn_modes.specs.Positions.{board_on, mover_after, shuffled_cells, placed_count}
+use Rattle.turn_modes.specs.Records.{records_in}
+use Rattle.turn_modes.specs.Rows.{best_cell}
+use Rattle.turn_modes.specs.Schedules.{schedule_of}
+use Rattle.turn_modes.specs.declared.options.ModeOptions.{ModeOptions}
+
+-- ---- the turn
+
+-- a good turn of a session that looks for no connections, with number 0, on this board with this
+-- player to move
+pub record IsFirstTurn (knobs : Knobs) (now : Position) (mover : Colour)
+    (t : Decision) : Type 0 where
+  pub good : IsGood knobs false t
+  pub number : t.number ≡ 0
+  pub board : t.board ≡ now
+  pub player : t.player ≡ mover
+
+-- the turn is a first turn wherever its plan and tree are those of one
+abbrev pub MakesFirstTurn : Planned → ClosedTree → Decision → Type 0
+MakesFirstTurn planned tree t = (knobs : Knobs) (now : Position) (mover : Colour)
+    → winner_of now ≡ None → IsPlanned now mover false planned
+    → IsTurnShape knobs now mover 0 tree.shape.allowed tree.shape → IsSequential knobs tree
+    → IsFirstTurn knobs now mover t
+
+-- what is searched for that turn: all empty cells are allowed
+abbrev pub first_setting : Knobs → Position → Colour → Setting
+first_setting knobs now mover = record {
+  board = now;
+  player = mover;
+  allowed = set_of (empties_of now);
+  knobs = turn_knobs knobs 0;
+}
+
+-- the rows of its sequential search
+abbrev pub first_rows : Knobs → Position → Colour → List Row
+first_rows knobs now mover = rows_in (seq_of (first_setting knobs now mover)).0
+
+-- ---- mode sim
+
+-- the turn of mode sim: that of the board without stones, with Black to move
+abbrev pub IsSimTurn : ModeOptions → Decision → Type 0
+IsSimTurn o = IsFirstTurn o.knobs (empty_board o.size) Black
+
+-- its tree is that of the schedule
+abbrev pub FollowsSchedule : ModeOptions → Decision → Type 0
+FollowsSchedule o t = (tree : ClosedTree) × (t.closed ≡ Some tree) × EndsSchedule tree.shape
+    (schedule_of o.knobs.workers o.knobs.seed o.steps) tree.words
+
+-- the text that mode sim gives with one worker
+abbrev pub sequential_sim_text : ModeOptions → List ℕ
+sequential_sim_text o = let rows = first_rows o.knobs (empty_board o.size) Black in
+    sim_text o.size (best_cell rows) (report_by o.size o.knobs.playouts rows)
+
+-- the turn is that of mode sim and its schedule, and the text is that of the turn; with one worker
+-- the options determine it
+pub record IsSimulation (o : ModeOptions) (t : Decision) (text : List ℕ) : Type 0 where
+  pub turn : IsSimTurn o t
+  pub scheduled : FollowsSchedule o t
+  pub says : (report : List ℕ) × (report_of t ≡ Some report)
+      × (text ≡ sim_text o.size t.cell report)
+  pub one : o.knobs.workers ≡ 1 → text ≡ sequential_sim_text o
+
+-- ---- mode bench
+
+-- how many stones the position of mode bench has, its board, and the player to move
+abbrev pub bench_stones : ModeOptions → ℕ
+bench_stones o = placed_count o.size (shuffled_cells o.size o.knobs.seed)
+
+abbrev pub bench_board : ModeOptions → Position
+bench_board o = board_on o.size (shuffled_cells o.size o.knobs.seed) (bench_stones o)
+
+abbrev pub bench_player : ModeOptions → Colour
+bench_player o = mover_after (bench_stones o)
+
+-- the turn of mode bench: that of its position
+abbrev pub IsBenchTurn : ModeOptions → Decision → Type 0
+IsBenchTurn o = IsFirstTurn o.knobs (bench_board o) (bench_player o)
+
+-- the text that mode bench gives
+abbrev pub determined_bench_text : ModeOptions → List ℕ
+determined_bench_text o = let rows = first_rows o.knobs (bench_board o) (bench_player o) in
+    bench_text o.size (bench_stones o) o.knobs o.knobs.playouts rows (best_cell rows)
+
+-- the text is that of the turn of mode bench, and the options determine it
+pub record IsBenchmark (o : ModeOptions) (t : Decision) (text : List ℕ) : Type 0 where
+  pub turn : IsBenchTurn o t
+  pub says : (tree : ClosedTree) × (t.closed ≡ Some tree)
+      × (text ≡ bench_text o.size (bench_stones o) o.knobs (records_in tree)
+      (rows_of tree.shape tree.words) t.cell)
+  pub determined : text ≡ determined_bench_text o

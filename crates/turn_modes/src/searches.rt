@@ -1,0 +1,91 @@
+//! The turn of a search: its plan, its shape, and what its tree decides.
+
+ghost use Rattle.std.specs.Prelude.{◌≡◌, ℕ, None, Some, false, true, IfOk};
+ghost use Rattle.hex_board.specs.Joined.{winner_of};
+ghost use Rattle.hex_board.specs.Positions.{is_empty_at};
+ghost use Rattle.tree_words.specs.Settings.{AreInRange};
+ghost use Rattle.hex_plan.specs.Good.{IsTurnShape};
+ghost use Rattle.hex_plan.specs.Plans.{IsPlanned, IsSearchAmong};
+ghost use Rattle.turn_modes.specs.OneTurn.{FollowsSchedule, IsFirstTurn, IsSimTurn, MakesFirstTurn};
+
+use super::options::ModeOptions;
+use super::positions::{BenchPosition, bare_board};
+use super::schedules::schedule;
+use hex_board::Board;
+use hex_cells::Colour;
+use hex_plan::{Memory, Planned, Turn, plan, turn_shape};
+use search_team::{Gate, search};
+use sim_run::simulate;
+use std::alloc::Global;
+use std::thread::Threads;
+use tree_words::{Closed, Knobs, Shape};
+
+// The plan of a turn, and the shape of its search.
+#[derive(Drop)]
+struct Prepared {
+    planned: Planned,
+    shape: Shape,
+}
+
+// Prepares the search of the turn with number 0 on the board, where no connections are looked for.
+fn prepare(alloc: Global, board: &Board, colour: Colour, knobs: &Knobs) -> Result<Prepared, Memory>
+    requires nobody { winner_of board.now ≡ None }
+    requires room { (k : ℕ) × (is_empty_at board.now k ≡ true) }
+    requires ranges { AreInRange knobs.now }
+    ensures planned { IfOk result (λ p. IsPlanned board.now colour false p.planned) }
+    ensures among { IfOk result (λ p. IsSearchAmong p.planned.plan p.shape.allowed) }
+    ensures shape { IfOk result
+        (λ p. IsTurnShape knobs.now board.now colour 0 p.shape.allowed p.shape) }
+{
+    let planned = plan(alloc, board, colour, false)?;
+    let Some(allowed) = planned.allowed() else {
+        unreachable!();
+    };
+    let shape = turn_shape(board, colour, allowed, knobs, 0);
+    Ok(Prepared { planned, shape })
+}
+
+// The turn of this tree, which was searched as prepared.
+fn decide(planned: Planned, closed: Closed) -> Turn
+    requires { IsSearchAmong planned.plan closed.shape.allowed }
+    ensures closed { result.closed ≡ Some closed }
+    ensures first { MakesFirstTurn planned closed result }
+{
+    Turn::searched(closed, 0, planned)
+}
+
+/// The turn of mode sim: that of the board without stones, with Black to move, by a schedule.
+pub fn simulated_turn(alloc: Global, options: &ModeOptions) -> Result<Turn, Memory>
+    requires { AreInRange options.now.knobs }
+    ensures turn { IfOk result (IsSimTurn options.now) }
+    ensures scheduled { IfOk result (FollowsSchedule options.now) }
+{
+    let knobs = &options.knobs;
+    let board = bare_board(options.size);
+    let prepared = prepare(alloc, &board, Colour::Black, knobs)?;
+    let list = schedule(alloc, knobs.workers, knobs.seed, options.steps)?;
+    let Ok(closed) = simulate(alloc, &prepared.shape, &list) else {
+        return Err(Memory);
+    };
+    Ok(decide(prepared.planned, closed))
+}
+
+/// The turn of mode bench on its position, by a team.
+pub fn benchmarked_turn<R: Threads + Sync, G: Gate + Sync>(
+    rt: &R,
+    alloc: Global,
+    position: &BenchPosition,
+    knobs: &Knobs,
+    gate: &G,
+) -> Result<Turn, Memory>
+    requires nobody { winner_of position.now.board ≡ None }
+    requires room { (k : ℕ) × (is_empty_at position.now.board k ≡ true) }
+    requires ranges { AreInRange knobs.now }
+    ensures { IfOk result (IsFirstTurn knobs.now position.now.board position.now.colour) }
+{
+    let prepared = prepare(alloc, &position.board, position.colour, knobs)?;
+    let Ok(closed) = search(rt, alloc, &prepared.shape, gate) else {
+        return Err(Memory);
+    };
+    Ok(decide(prepared.planned, closed))
+}
