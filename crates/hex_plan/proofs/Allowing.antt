@@ -1,8 +1,8 @@
 -- The allowed cells of a plan are empty, and there is one.
-use Rattle.std.proofs.Common.{◌≡◌, ◌*◌, ◌+◌, ◌<◌, ℕ, Bool, true, false, List, refl, sym, ◌∙◌, subst, arith}
+use Rattle.std.proofs.Common.{◌≡◌, ◌*◌, ℕ, Bool, true, false, List, refl, sym, ◌∙◌, subst, arith}
 use Rattle.std.specs.Prelude.{IfOk, Ok, Err, Result}
 use Rattle.std.specs.List.{list_any}
-use Rattle.std.proofs.lemmas.Bool.{both_ways, false_from_ne_true}
+use Rattle.std.proofs.lemmas.Bool.{both_ways}
 use Rattle.hex_cells.specs.Sets.{has}
 use Rattle.hex_cells.specs.declared.colours.Colour.{Colour}
 use Rattle.hex_board.specs.Joined.{cells_of}
@@ -12,7 +12,7 @@ use Rattle.hex_board.proofs.Search.{any_in, any_out}
 use Rattle.tree_words.specs.Complete.{HasEmpties}
 use Rattle.tree_words.specs.Settings.{AreEmpty, IsAny}
 use Rattle.conn_store.specs.Stores.{StoreData}
-use Rattle.hex_plan.specs.Plans.{AllowsEmpties, IsInEach, IsMustplay, IsPlanned, IsPlannedBy}
+use Rattle.hex_plan.specs.Plans.{AllowsEmpties, IsMustplay, IsPlanned, IsPlannedBy}
 use Rattle.hex_plan.specs.declared.plans.Planned.{Planned}
 use Rattle.hex_plan.specs.declared.threats.Threat.{Threat}
 use Rattle.hex_plan.specs.declared.types.Plan.{Plan}

@@ -1,7 +1,7 @@
 -- What good turns say of winning: certified moves win, and moves outside a threat lose.
-use Rattle.std.proofs.Common.{◌≡◌, ℕ, [], ◌∷◌, Bool, true, false, List, Option, Some, None, All, zero, suc, refl, sym, ◌∙◌, ap, subst, inl, inr}
+use Rattle.std.proofs.Common.{◌≡◌, ℕ, [], ◌∷◌, Bool, true, false, List, Option, Some, All, suc, refl, sym, ◌∙◌, subst, inl, inr}
 use Rattle.std.specs.List.{slice_get}
-use Rattle.std.proofs.lemmas.Bool.{both_ways, cases_Bool}
+use Rattle.std.proofs.lemmas.Bool.{cases_Bool}
 use Rattle.std.proofs.lemmas.List.Elements.{All-cons, All-nil}
 use Rattle.std.proofs.lemmas.Option.{get_or_from_slice_get, slice_get_within}
 use Rattle.hex_cells.specs.Sets.{has, members}
@@ -22,8 +22,8 @@ use Rattle.tree_words.specs.declared.settings.Knobs.{Knobs}
 use Rattle.win_cert.specs.Cuts.{IsEdgeEntryAt}
 use Rattle.win_cert.specs.declared.certs.Cert.{Cert}
 use Rattle.hex_plan.specs.Good.{FollowsPlan, IsGood}
-use Rattle.hex_plan.specs.Laws.{IsCertified, LosesBy, LosesOutsideThreats, LosesWhereLost}
-use Rattle.hex_plan.specs.Plans.{AreThreats, IsCertifiedWin, IsInEach, IsMiddle, IsNarrowed, IsPlanned, IsPlannedBy, IsReportOf, IsThreat, IsWin, IsWinBy, IsWinningCellBy}
+use Rattle.hex_plan.specs.Laws.{IsCertified, LosesOutsideThreats, LosesWhereLost}
+use Rattle.hex_plan.specs.Plans.{IsCertifiedWin, IsInEach, IsMiddle, IsNarrowed, IsPlanned, IsPlannedBy, IsReportOf, IsThreat, IsWin, IsWinBy, IsWinningCellBy}
 use Rattle.hex_plan.specs.Turns.{Decision}
 use Rattle.hex_plan.specs.declared.plans.Planned.{Planned}
 use Rattle.hex_plan.specs.declared.threats.Threat.{Threat}

@@ -1,10 +1,10 @@
 -- The numbers of the entries between the player's two edges.
-use Rattle.std.proofs.Common.{◌≡◌, ℕ, ◌+◌, ◌<◌, ◌≤◌, true, false, Bool, Some, get_or, length, min, max, refl, sym, ◌∙◌, ap, subst, arith}
+use Rattle.std.proofs.Common.{◌≡◌, ℕ, ◌+◌, ◌<◌, ◌≤◌, true, false, Some, get_or, length, refl, sym, ◌∙◌, ap, subst, arith}
 use Rattle.std.specs.List.{slice_get}
 use Rattle.hex_board.specs.Elements.{PlayerBoard, are_joined, edge_element}
 use Rattle.hex_board.proofs.Parts.{high_apart}
 use Rattle.conn_store.specs.Entries.{IsBetween}
-use Rattle.conn_store.specs.Stores.{StoreData, held_of, is_of, numbers_of}
+use Rattle.conn_store.specs.Stores.{StoreData, held_of, numbers_of}
 use Rattle.conn_store.specs.declared.entries.Entry.{Entry}
 use Rattle.conn_store.specs.declared.entries.Held.{Held}
 use Rattle.conn_store.specs.declared.entries.Kind.{Kind}

@@ -1,17 +1,17 @@
 -- Semi entries, which follow over an empty cell, and full ones, whose carriers have a cell.
-use Rattle.std.proofs.Common.{◌≡◌, ℕ, ◌<◌, ◌∷◌, [], List, Bool, true, false, Some, get_or, take, length, zero, suc, refl, sym, ◌∙◌, ap, subst, inl, inr}
+use Rattle.std.proofs.Common.{◌≡◌, ℕ, ◌∷◌, [], List, true, false, Some, get_or, take, zero, suc, refl, sym, ◌∙◌, ap, subst, inl, inr}
 use Rattle.std.specs.List.{slice_get}
 use Rattle.std.proofs.lemmas.Bool.{both_ways}
 use Rattle.std.proofs.lemmas.Option.{get_or_from_slice_get}
-use Rattle.hex_cells.specs.Sets.{has, members, with_cell, without_cell}
+use Rattle.hex_cells.specs.Sets.{has, members}
 use Rattle.hex_cells.specs.declared.colours.Colour.{Colour}
 use Rattle.hex_board.specs.Elements.{PlayerBoard, are_joined, edge_element}
 use Rattle.hex_board.specs.Positions.{Position, Within, stones_of}
 use Rattle.hex_board.proofs.Parts.{high_apart}
 use Rattle.hex_board.proofs.Search.{joined_found}
-use Rattle.conn_store.specs.Entries.{IsBetween, IsTrueEntry}
+use Rattle.conn_store.specs.Entries.{IsBetween}
 use Rattle.conn_store.specs.Links.{StonesLink}
-use Rattle.conn_store.specs.Rules.{AndRule, AreAt, FollowsBy, IsCell, both_of}
+use Rattle.conn_store.specs.Rules.{AndRule, AreAt, FollowsBy, IsCell}
 use Rattle.conn_store.specs.Stores.{IsSound, StoreData}
 use Rattle.conn_store.specs.Truth.{IsSure, IsSureIn}
 use Rattle.conn_store.specs.declared.entries.Cause.{Cause}

@@ -1,5 +1,5 @@
 -- What plans say.
-use Rattle.std.proofs.Common.{◌≡◌, ◌≤◌, ℕ, Bool, true, false, Option, Some, None, refl, sym, ap, ◌∙◌, subst, arith}
+use Rattle.std.proofs.Common.{◌≡◌, ◌≤◌, ℕ, Bool, true, false, Option, None, refl, sym, subst, arith}
 use Rattle.std.specs.Option.{ForSome}
 use Rattle.hex_cells.specs.declared.colours.Colour.{Colour}
 use Rattle.hex_board.specs.Elements.{PlayerBoard}

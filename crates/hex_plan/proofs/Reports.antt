@@ -1,23 +1,22 @@
 -- The root's rows in a closed tree's words are those of its tree.
-use Rattle.std.proofs.Common.{◌≡◌, ◌⊎◌, ℕ, suc, ◌+◌, ◌*◌, ◌<◌, Bool, true, false, cond, List, [], ◌∷◌, ◌++◌, length, get_or, map, refl, sym, ap, ◌∙◌, ⊎_elim, inl, inr, arith}
+use Rattle.std.proofs.Common.{◌≡◌, ℕ, suc, ◌+◌, ◌*◌, ◌<◌, Bool, true, cond, List, [], ◌∷◌, length, get_or, map, refl, sym, ap, ◌∙◌, arith}
 use Rattle.std.specs.Prelude.{◌==◌}
 use Rattle.std.specs.List.{range_with_len}
 use Rattle.tree_words.specs.Settings.{Setting, IsSetting}
 use Rattle.tree_words.specs.Words.{Count, root_at, next_in, tally_in, seen_in}
-use Rattle.tree_words.specs.Blocks.{LinkedBlock, has_node, In, InOrder, link_of}
+use Rattle.tree_words.specs.Blocks.{LinkedBlock, InOrder, link_of}
 use Rattle.tree_words.specs.Complete.{allowed_cells}
 use Rattle.tree_words.specs.Closing.{IsClosed}
 use Rattle.tree_words.specs.Records.{leaf_of}
-use Rattle.tree_words.specs.Walks.{Tree, node, Children}
-use Rattle.tree_words.specs.Trees.{IsTreeOf, oldest_first, down, row_of, tree_leaf, tree_inner, tree_at}
+use Rattle.tree_words.specs.Walks.{Tree}
+use Rattle.tree_words.specs.Trees.{IsTreeOf, oldest_first, row_of, tree_leaf, tree_inner, tree_at}
 use Rattle.tree_words.specs.Descents.{Names}
 use Rattle.tree_words.specs.declared.roots.Row.{Row}
 use Rattle.tree_words.specs.Roots.{HasRoot, root_link, root_count, row_at, rows_of}
 use Rattle.std.proofs.lemmas.Bool.{eq-eqb}
-use Rattle.tree_words.proofs.Walks.Down.{child-has, down-split, row-same}
+use Rattle.tree_words.proofs.Walks.Down.{down-split}
 use Rattle.tree_words.proofs.Blocks.BlockLaws.{root_node}
-use Rattle.tree_words.proofs.Blocks.Links.{down-link}
-use Rattle.tree_words.proofs.Blocks.Orders.{rooted-turned, link-names}
+use Rattle.tree_words.proofs.Blocks.Orders.{link-names}
 use Rattle.tree_words.proofs.Boards.RootLaws.{has_root, root_of, complete_in}
 use Rattle.hex_plan.specs.Reports.{row_in, rows_on, rows_in}
 use Rattle.tree_words.proofs.Blocks.Members.{names-in, in-turned}

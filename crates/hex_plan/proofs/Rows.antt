@@ -1,12 +1,12 @@
 -- Rows on a board.
-use Rattle.std.proofs.Common.{◌≡◌, ℕ, zero, suc, ◌+◌, ◌*◌, ◌<◌, ◌≤◌, List, [], ◌∷◌, ◌++◌, length, drop, map, get_or, refl, sym, ap, ◌∙◌, subst, append-nil, append_assoc, arith}
+use Rattle.std.proofs.Common.{◌≡◌, ℕ, zero, suc, ◌+◌, ◌*◌, ◌<◌, List, [], ◌∷◌, length, map, get_or, sym, subst, arith}
 use Rattle.std.specs.List.{range_with_len}
 use Rattle.tree_words.specs.Settings.{Setting, IsSetting}
 use Rattle.tree_words.specs.Closing.{IsClosed}
 use Rattle.tree_words.proofs.Boards.RootLaws.{has_root}
 use Rattle.tree_words.specs.Roots.{HasRoot, root_count, row_at, rows_of}
 use Rattle.tree_words.specs.declared.roots.Row.{Row}
-use Rattle.hex_plan.specs.TurnTexts.{report_line, report_lines, AreOn}
+use Rattle.hex_plan.specs.TurnTexts.{AreOn}
 
 pub row_on : (size : ℕ) (rows : List Row) (i : ℕ) (row : Row) → AreOn size rows → i < length rows → row ≡ get_or rows i row → row.cell < size * size
 row_on size [] i row h l e = absurd (omega arith)

@@ -1,5 +1,5 @@
 -- Who is sure of joining his edges on a later board wins it.
-use Rattle.std.proofs.Common.{◌≡◌, ◌==◌, ◌&&◌, not, ℕ, ◌+◌, ◌<◌, Bool, true, false, bit_or, min, max, refl, sym, ◌∙◌, ap, subst, inl, inr, arith}
+use Rattle.std.proofs.Common.{◌≡◌, ◌==◌, ◌&&◌, not, ℕ, ◌+◌, Bool, true, false, min, max, sym, subst, inl, inr, arith}
 use Rattle.std.proofs.lemmas.Bool.{both_ways, false_from_ne_true}
 use Rattle.std.proofs.lemmas.Bool.Decides.{nat_tests}
 use Rattle.hex_cells.specs.Sets.{has, members, with_cell, without_cell}
@@ -24,7 +24,7 @@ use Rattle.conn_store.proofs.Edges.{linked_joins}
 use Rattle.conn_store.proofs.RuleTruth.{least_first}
 use Rattle.conn_store.proofs.Sureness.{in_union, in_without, more_stones, same, sure_both, sure_less, sure_more, sure_wider, union_left, union_right}
 use Rattle.conn_store.proofs.Ways.{linked_back, linked_cell, linked_kept}
-use Rattle.conn_store.proofs.Winning.{Joins, mover_of, sure_wins}
+use Rattle.conn_store.proofs.Winning.{Joins, sure_wins}
 
 -- the player's two edges
 abbrev pub EdgesLink : PlayerBoard → ℕ → Type 0

@@ -1,5 +1,6 @@
 -- What is planned before a search: a certified win, or the cells among which is searched.
-use Rattle.std.specs.Prelude.{◌≡◌, ◌<◌, ◌↔◌, ℕ, Bool, true, false, List, [], ◌∷◌, Option, Some, None, All}
+use Rattle.std.specs.Prelude.{◌≡◌, ◌<◌, ◌↔◌, ℕ, Bool, true, false}
+use Rattle.std.specs.Prelude.{List, [], ◌∷◌, Option, Some, None, All}
 use Rattle.std.specs.List.{slice_get}
 use Rattle.hex_cells.specs.Colours.{other_of}
 use Rattle.hex_cells.specs.Sets.{has}

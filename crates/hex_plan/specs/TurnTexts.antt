@@ -1,5 +1,6 @@
 -- What `search-report`, `mustplay` and `wincert` say of a turn.
-use Rattle.std.specs.Prelude.{ℕ, ◌-◌, ◌*◌, ◌<◌, Bool, true, false, List, [], ◌∷◌, ◌++◌, codes, length, take}
+use Rattle.std.specs.Prelude.{ℕ, ◌-◌, ◌*◌, ◌<◌, Bool, true, false}
+use Rattle.std.specs.Prelude.{List, [], ◌∷◌, ◌++◌, codes, length, take}
 use Rattle.std.specs.Prelude.{Option, Some, None, option_map}
 use Rattle.tree_words.specs.Closing.{ClosedTree}
 use Rattle.std.specs.List.{filter, flat_map}

@@ -1,5 +1,5 @@
 -- Turns as plain data.
-use Rattle.std.specs.Prelude.{◌≡◌, ℕ, Bool, true, None}
+use Rattle.std.specs.Prelude.{◌≡◌, ℕ, true, None}
 use Rattle.std.specs.Option.{ForSome}
 use Rattle.std.specs.declared.option.Option.{Option}
 use Rattle.hex_cells.specs.declared.colours.Colour.{Colour}
@@ -21,7 +21,8 @@ pub record Decision : Type 0 where
   pub closed : Option ClosedTree
   pub cell : ℕ
 
--- the tree is one of the turn's board, player and these allowed cells, and its best cell is the turn's
+-- the tree is one of the turn's board and player and of these allowed cells, and its best cell is
+-- the turn's
 pub record Decides (t : Decision) (cells : ℕ) (closed : ClosedTree) : Type 0 where
   pub board : closed.shape.board ≡ t.board
   pub player : closed.shape.player ≡ t.player

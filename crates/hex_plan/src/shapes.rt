@@ -33,8 +33,8 @@ fn turn_knobs(options: &Knobs, number: u64) -> Knobs
 }
 
 /// The shape of the search of the turn with this number, where `colour` is to move and to place a
-/// stone on an allowed cell: the seed is `S + number·2^32` modulo 2^64, S being that of the options.
-/// A cell is allowed, the allowed cells are empty, and the options are in their ranges.
+/// stone on an allowed cell: the seed is `S + number·2^32` modulo 2^64, S being that of the
+/// options. A cell is allowed, the allowed cells are empty, and the options are in their ranges.
 pub fn turn_shape(
     board: &Board,
     colour: Colour,

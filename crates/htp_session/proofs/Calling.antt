@@ -1,13 +1,12 @@
 -- What the calls of a session do, by their results.
-use Rattle.std.proofs.Common.{◌≡◌, ℕ, Bool, true, false, List, [], ◌++◌, take, Result, Ok, Err, refl, sym, ◌∙◌, subst, arith}
+use Rattle.std.proofs.Common.{◌≡◌, ℕ, Bool, true, List, [], take, Result, Ok, Err, refl, sym, ◌∙◌, subst, arith}
 use Rattle.hex_io.specs.Causes.{CountsFault}
 use Rattle.hex_io.specs.Told.{Same}
 use Rattle.hex_io.proofs.BothLaws.{Both-refl}
 use Rattle.htp_line.specs.Lines.{whole, lines}
 use Rattle.htp_line.specs.Splitting.{Held, Advances, Ends, StandsAfter}
 use Rattle.hex_engine.specs.EngineState.{EngineState}
-use Rattle.htp_session.specs.Stocks.{ShelfAndArchive}
-use Rattle.htp_session.specs.Sessions.{Does, DoesSome, Advanced, GaveUp, HeldBack, StopsBeforeLast, LastIsShort}
+use Rattle.htp_session.specs.Sessions.{Does, DoesSome, Advanced, GaveUp, HeldBack}
 use Rattle.htp_session.specs.Devices.{DevicesState, stock, CountsStop}
 use Rattle.htp_session.specs.Calls.Devices.{GivesAll}
 use Rattle.htp_session.specs.Calls.Answering.{WritesAnswer}

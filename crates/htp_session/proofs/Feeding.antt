@@ -1,14 +1,12 @@
 -- What one line after another does.
-use Rattle.std.proofs.Common.{◌≡◌, ℕ, ◌+◌, ◌-◌, Bool, true, false, List, [], ◌++◌, Option, ap, sym, ◌∙◌, subst, append-nil, length, take, drop}
-use Rattle.std.proofs.lemmas.List.{take-append-drop, take_rest}
+use Rattle.std.proofs.Common.{◌≡◌, ℕ, ◌+◌, ◌-◌, Bool, true, false, List, [], ◌++◌, Option, sym, subst, append-nil, length, take, drop}
+use Rattle.std.proofs.lemmas.List.{take-append-drop}
 use Rattle.hex_io.specs.Told.{Told}
 use Rattle.hex_io.specs.Grew.{Gave, GavePart}
-use Rattle.hex_io.proofs.GaveLaws.{Gave-nothing}
 use Rattle.htp_line.specs.Splitting.{Held}
 use Rattle.hex_engine.specs.EngineState.{EngineState}
-use Rattle.hex_engine.specs.Supply.{Supply}
 use Rattle.htp_session.specs.Stocks.{ShelfAndArchive}
-use Rattle.htp_session.specs.Sessions.{Stands, Quits, Does, DoesSome, StopsBefore, AnswersLines, AnswersShort, Advanced, AnswersAll, Fed, BrokeOff, GaveUp, HeldBack, AnswersLast, AnsweredLast, BrokeOffLast, talk_to}
+use Rattle.htp_session.specs.Sessions.{Stands, Quits, Does, DoesSome, StopsBefore, AnswersShort, Advanced, AnswersAll, Fed, BrokeOff, GaveUp, HeldBack, AnswersLast, AnsweredLast, BrokeOffLast}
 use Rattle.htp_session.proofs.Pieces.{next_part, next_seen, parts_make}
 use Rattle.htp_session.proofs.StockLaws.{After, does_then, does_weaker, does_nothing}
 use Rattle.htp_session.proofs.Given.{AnswersAll-then, BrokeOff-then, GaveUp-then, HeldBack-then, AnswersAll-quit, AnswersAll-nothing, quits_stay, line_broke_off, gave_up_at_once, held_back_at_once}

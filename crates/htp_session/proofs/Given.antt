@@ -1,8 +1,8 @@
 -- What is given for one piece after another.
-use Rattle.std.proofs.Common.{◌≡◌, ℕ, List, [], ◌++◌, Option, refl, ap, sym, ◌∙◌, subst, append-nil, append_assoc, take, drop}
+use Rattle.std.proofs.Common.{◌≡◌, ℕ, List, [], ◌++◌, Option, refl, ap, sym, ◌∙◌, append-nil, append_assoc, take, drop}
 use Rattle.std.proofs.lemmas.List.{take-append-drop}
 use Rattle.hex_io.specs.Told.{Told}
-use Rattle.hex_io.specs.Grew.{Gave, GavePart}
+use Rattle.hex_io.specs.Grew.{GavePart}
 use Rattle.hex_io.proofs.GaveLaws.{Gave-then, Gave-nothing}
 use Rattle.hex_engine.specs.EngineState.{EngineState}
 use Rattle.hex_engine.specs.Supply.{Supply}

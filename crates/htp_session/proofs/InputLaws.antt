@@ -1,8 +1,8 @@
 -- What was taken, over one read after another.
-use Rattle.std.proofs.Common.{◌≡◌, ◌≤◌, ◌+◌, ℕ, List, [], ◌++◌, length, take, Option, refl, ap, sym, ◌∙◌, subst, append-nil, append_assoc, length-append, arith}
+use Rattle.std.proofs.Common.{◌≡◌, ◌≤◌, ◌+◌, ℕ, List, [], ◌++◌, length, take, Option, refl, ap, sym, ◌∙◌, subst, append-nil, append_assoc}
 use Rattle.hex_io.specs.Told.{Told, Both, TakesBytes, Same}
 use Rattle.hex_io.proofs.BothLaws.{Both-then, Both-weaker, Both-refl}
-use Rattle.std.specs.Prelude.{Bool, Result, Ok, Err, Vec}
+use Rattle.std.specs.Prelude.{Bool, Ok, Err, Vec}
 use Rattle.std.specs.declared.alloc.Global.{Global}
 use Rattle.hex_io.specs.Grew.{Gave, GavePart}
 use Rattle.htp_session.specs.Inputs.{TookBytes, TookAtMost, TookTooMany, TakesAll, TextOf, IsAnswer, AnsweredAll, AnsweredPart, AnswersInput}

@@ -1,12 +1,11 @@
 -- With one worker a request is answered the same whatever good turns are left: those that are next are played and reported alike.
-use Rattle.std.proofs.Common.{◌≡◌, ℕ, ◌+◌, Bool, true, false, cond, List, [], ◌∷◌, ◌++◌, Option, Some, None, Result, Ok, Err, codes, refl, sym, ap, ◌∙◌, subst}
+use Rattle.std.proofs.Common.{◌≡◌, ℕ, ◌+◌, Bool, true, false, cond, List, [], ◌∷◌, Option, Some, None, Result, Ok, Err, refl, sym, ap, ◌∙◌, subst}
 use Rattle.std.specs.Str.{bytes_eq}
-use Rattle.std.proofs.lemmas.Bool.{and_parts, eqb-true, true≢false}
+use Rattle.std.proofs.lemmas.Bool.{and_parts, eqb-true}
 use Rattle.std.proofs.lemmas.Slice.Eq.{bytes_eq-Decides}
 use Rattle.htp_line.specs.declared.request.Request.{Request}
 use Rattle.hex_cells.specs.declared.colours.Colour.{Colour}
 use Rattle.hex_cells.specs.Vertices.{vertex_of}
-use Rattle.hex_board.specs.Positions.{Position}
 use Rattle.hex_cells.proofs.ColourLaws.{same_colour}
 use Rattle.hex_game.specs.Games.{board_of, with_step}
 use Rattle.hex_game.specs.Moves.{step_of}
@@ -23,7 +22,7 @@ use Rattle.hex_engine.specs.EngineState.{EngineState}
 use Rattle.hex_engine.specs.Uses.{AreGood, HasOneWorker, IsGoodFor}
 use Rattle.hex_engine.specs.Replies.{Reaction, Turned, Missing, Done, NoLoad, NoTurn, Failed, unused, unchanged}
 use Rattle.hex_engine.specs.LoadReplies.{loaded, file_named, loading_next, loading_by}
-use Rattle.hex_engine.specs.MoveReplies.{is_board, is_next, turned, moving_next, moving_by, lone_colour}
+use Rattle.hex_engine.specs.MoveReplies.{is_next, turned, moving_next, moving_by, lone_colour}
 use Rattle.hex_engine.specs.Requests.{obeyed, reaction_by, reaction}
 use Rattle.hex_engine.specs.declared.answers.Fail.TheVariants.{Over}
 use Rattle.hex_engine.specs.declared.commands.Command.{Command}

@@ -1,11 +1,11 @@
 -- The outcomes of a conversation, by the results of its calls.
-use Rattle.std.proofs.Common.{◌≡◌, ◌≤◌, ℕ, List, [], ◌++◌, length, Option, Result, Ok, Err, sym, subst}
+use Rattle.std.proofs.Common.{◌≤◌, ℕ, List, ◌++◌, length, Option, Ok, Err}
 use Rattle.hex_io.specs.Told.{Told, Both, TakesBytes}
 use Rattle.hex_engine.specs.declared.options.Options.{Options}
 use Rattle.hex_engine.specs.EngineState.{opening}
 use Rattle.htp_session.specs.Stocks.{ShelfAndArchive}
 use Rattle.htp_session.specs.Devices.{DevicesState, stock}
-use Rattle.htp_session.specs.Endings.{Outcome, Conversed}
+use Rattle.htp_session.specs.Endings.{Outcome}
 use Rattle.htp_session.specs.Calls.Devices.{ReadsSome}
 use Rattle.htp_session.specs.Calls.Session.{Feeds, Finishes}
 use Rattle.htp_session.specs.Calls.Conversation.{Converses}

@@ -1,5 +1,5 @@
 -- What an answered request keeps, that it does not depend on what is left after it, and whether it takes a turn.
-use Rattle.std.proofs.Common.{◌≡◌, ℕ, Bool, true, false, cond, List, [], ◌∷◌, ◌++◌, Option, Some, None, Result, Ok, Err, ◌⊎◌, inl, inr, refl, sym, subst}
+use Rattle.std.proofs.Common.{◌≡◌, ℕ, Bool, true, false, cond, List, [], ◌∷◌, ◌++◌, Option, Some, None, Result, Ok, Err, ◌⊎◌, inl, inr, refl}
 use Rattle.std.specs.Str.{bytes_eq}
 use Rattle.htp_line.specs.declared.request.Request.{Request}
 use Rattle.hex_cells.specs.declared.colours.Colour.{Colour}

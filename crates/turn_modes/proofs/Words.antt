@@ -1,9 +1,14 @@
 -- The workers that the words of a generator give, one by one.
-use Rattle.std.proofs.Common.{◌≡◌, ℕ, zero, suc, ◌+◌, ◌-◌, ◌*◌, ◌%◌, ◌^◌, ◌<◌, ◌≤◌, List, [], ◌∷◌, ◌++◌, length, map, refl, sym, ap, ◌∙◌, subst, append_assoc, append-nil, length-append, arith}
+use Rattle.std.proofs.Common.{◌≡◌, ℕ, zero, suc, ◌+◌, ◌-◌, ◌*◌, ◌%◌, ◌^◌, ◌<◌, ◌≤◌, List, [], ◌∷◌, ◌++◌, length, map, get_or, All, Some, true, refl, sym, ap, ◌∙◌, subst, append_assoc, append-nil, length-append, arith}
+use Rattle.std.specs.Prelude.{nat_le}
+use Rattle.std.proofs.lemmas.Bool.Decides.{nat_tests}
+use Rattle.std.proofs.lemmas.List.Quantifiers.{position-Some}
 use Rattle.rand_core.specs.Stream.{Stream, next_u64}
 use Rattle.rand_xoshiro.specs.SplitMix64.{splitmix_seed}
 use Rattle.rand_xoshiro.specs.Xoshiro256.{of_seed}
 use Rattle.play_out.specs.Streams.{state_for, stream_at, words_of}
+use Rattle.tree_words.specs.Settings.{Setting}
+use Rattle.sim_run.specs.Schedules.{first_stray, is_stray}
 use Rattle.turn_modes.specs.Schedules.{schedule_of, worker_of}
 
 -- the workers of the words that are left of so many
@@ -46,3 +51,12 @@ unfolding words_of
 last_step workers steps seed list state l h =
     let none : steps - length list ≡ 0 = omega arith in
     sym (append-nil list) ∙ ap (λ n. list ++ map (worker_of workers) (words_of n (stream_at state))) (sym none) ∙ h
+
+-- where each number is a worker's, none is a stray one
+pub no_stray : (s : Setting) (schedule : List ℕ) (at : ℕ) → All (λ worker. worker < s.knobs.workers) schedule → first_stray s schedule ≡ Some at → ⊥
+no_stray s schedule at below e =
+    let p = position-Some (is_stray s) schedule at 0 e in
+    clash s.knobs.workers (get_or schedule at 0) (below at 0 p.0) p.1
+  where
+    clash : (k x : ℕ) → x < k → nat_le k x ≡ true → ⊥
+    clash k x l e = grind (arith, nat_tests)

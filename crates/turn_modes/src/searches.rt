@@ -1,9 +1,12 @@
 //! The turn of a search: its plan, its shape, and what its tree decides.
 
-ghost use Rattle.std.specs.Prelude.{◌≡◌, ℕ, None, Some, false, true, IfOk};
+ghost use Rattle.std.specs.Prelude.{◌≡◌, ◌<◌, ℕ, None, Some, false, true, IfOk, All};
 ghost use Rattle.hex_board.specs.Joined.{winner_of};
 ghost use Rattle.hex_board.specs.Positions.{is_empty_at};
+ghost use Rattle.tree_words.specs.Sequence.{seq_of};
 ghost use Rattle.tree_words.specs.Settings.{AreInRange};
+ghost use Rattle.tree_words.specs.Trees.{IsTreeOf};
+ghost use Rattle.sim_run.specs.Standing.{EndsSchedule};
 ghost use Rattle.hex_plan.specs.Good.{IsTurnShape};
 ghost use Rattle.hex_plan.specs.Plans.{IsPlanned, IsSearchAmong};
 ghost use Rattle.turn_modes.specs.OneTurn.{FollowsSchedule, IsFirstTurn, IsSimTurn, MakesFirstTurn};
@@ -15,7 +18,7 @@ use hex_board::Board;
 use hex_cells::Colour;
 use hex_plan::{Memory, Planned, Turn, plan, turn_shape};
 use search_team::{Gate, search};
-use sim_run::simulate;
+use sim_run::{SimError, simulate};
 use std::alloc::Global;
 use std::thread::Threads;
 use tree_words::{Closed, Knobs, Shape};
@@ -54,6 +57,21 @@ fn decide(planned: Planned, closed: Closed) -> Turn
     Turn::searched(closed, 0, planned)
 }
 
+// The tree that the workers of the shape make along a schedule of their numbers.
+fn follow(alloc: Global, shape: &Shape, list: &[u8]) -> Result<Closed, Memory>
+    requires { All (λ worker. worker < shape.now.knobs.workers) list.now }
+    ensures shape { IfOk result (λ closed. closed.shape ≡ shape.now) }
+    ensures one { shape.now.knobs.workers ≡ 1
+        → IfOk result (λ closed. IsTreeOf shape.now closed.words (seq_of shape.now).0) }
+    ensures schedule { IfOk result (λ closed. EndsSchedule shape.now list.now closed.words) }
+{
+    match simulate(alloc, shape, list) {
+        Ok(closed) => Ok(closed),
+        Err(SimError::Memory) => Err(Memory),
+        Err(SimError::NoSuchWalker { .. }) => unreachable!(),
+    }
+}
+
 /// The turn of mode sim: that of the board without stones, with Black to move, by a schedule.
 pub fn simulated_turn(alloc: Global, options: &ModeOptions) -> Result<Turn, Memory>
     requires { AreInRange options.now.knobs }
@@ -64,7 +82,7 @@ pub fn simulated_turn(alloc: Global, options: &ModeOptions) -> Result<Turn, Memo
     let board = bare_board(options.size);
     let prepared = prepare(alloc, &board, Colour::Black, knobs)?;
     let list = schedule(alloc, knobs.workers, knobs.seed, options.steps)?;
-    let Ok(closed) = simulate(alloc, &prepared.shape, &list) else {
+    let Ok(closed) = follow(alloc, &prepared.shape, &list) else {
         return Err(Memory);
     };
     Ok(decide(prepared.planned, closed))

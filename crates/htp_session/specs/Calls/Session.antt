@@ -1,5 +1,5 @@
 -- What the calls of a session do, told of each text after which it stood.
-use Rattle.std.specs.Prelude.{◌≡◌, ◌<◌, ◌≤◌, ℕ, Bool, List, [], ◌++◌, length, take, Result, Ok, Err}
+use Rattle.std.specs.Prelude.{ℕ, Bool, List, [], take, Result, Ok, Err}
 use Rattle.hex_io.specs.Told.{Same}
 use Rattle.htp_session.specs.Sessions.{Does, DoesSome, Advanced, StopsBefore, AnswersShort, Fed}
 use Rattle.htp_session.specs.Sessions.{BrokeOff, GaveUp, HeldBack, AnswersLast, StopsBeforeLast}

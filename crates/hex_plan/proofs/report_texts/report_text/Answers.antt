@@ -1,5 +1,5 @@
 -- The report is that of the turn's tree, if it has one.
-use Rattle.std.proofs.Common.{◌≡◌, Option, Some, None, sym, ap, ◌∙◌}
+use Rattle.std.proofs.Common.{◌≡◌, Some, None, sym, ap, ◌∙◌}
 use Rattle.std.specs.Prelude.{option_map}
 use Rattle.tree_words.specs.Closing.{ClosedTree}
 use Rattle.hex_plan.specs.TurnTexts.{report_of, report_on}

@@ -1,4 +1,4 @@
-use Rattle.std.proofs.Common.{◌≡◌, ◌∙◌, subst}
+use Rattle.std.proofs.Common.{◌∙◌, subst}
 use Rattle.tree_words.specs.Settings.{IsSetting}
 use Rattle.tree_words.specs.Closing.{IsClosed}
 use Rattle.hex_plan.proofs.Rows.{turn_rows_on}

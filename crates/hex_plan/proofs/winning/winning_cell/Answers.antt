@@ -1,5 +1,4 @@
 -- The middle of a semi entry, and the least cell of the carrier of a full one.
-use Rattle.std.proofs.Common.{◌≡◌, ℕ, false, Some, get_or, sym, ap, ◌∙◌, subst}
 use Rattle.hex_plan.proofs.WinningCells.{full_some, least_wins, middle_wins, semi_there}
 use Rattle.hex_plan.proofs.Middles.{within_of}
 use Rattle.hex_plan.proofs.winning.winning_cell.Goals as goal

@@ -1,5 +1,5 @@
 -- What stands at each end, and after one piece more.
-use Rattle.std.proofs.Common.{◌≡◌, ◌≤◌, ◌+◌, ◌++◌, [], ℕ, List, Err, take, length, refl, arith, subst, sym, ◌∙◌}
+use Rattle.std.proofs.Common.{◌≡◌, ◌≤◌, ◌+◌, ◌++◌, [], ℕ, List, take, length, refl, arith, subst, sym, ◌∙◌}
 use Rattle.hex_io.specs.Told.{Both, TakesBytes}
 use Rattle.hex_engine.specs.EngineState.{opening}
 use Rattle.htp_session.specs.Devices.{stock}

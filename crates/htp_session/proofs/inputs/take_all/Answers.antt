@@ -1,9 +1,7 @@
 -- What was taken, and at what it ended.
-use Rattle.std.proofs.Common.{◌≡◌, ◌≤◌, ◌+◌, ◌++◌, ℕ, List, take, length, refl, arith, rules, subst, ◌∙◌}
+use Rattle.std.proofs.Common.{ℕ, List, refl, arith, rules, subst}
 use Rattle.hex_io.specs.Told.{Both, TakesBytes}
-use Rattle.htp_session.specs.Inputs.{TookBytes}
-use Rattle.htp_session.proofs.Pieces.{length-taken}
-use Rattle.htp_session.proofs.InputLaws.{took_nothing, took_more, took_all, took_before, took_at_most, took_too_many}
+use Rattle.htp_session.proofs.InputLaws.{took_nothing, took_all, took_before}
 use Rattle.htp_session.proofs.inputs.take_all.Goals as goal
 
 pub pieces-init : goal.pieces-init

@@ -1,6 +1,5 @@
 -- What was taken, and what was given for it.
-use Rattle.std.proofs.Common.{◌≡◌, subst}
-use Rattle.htp_session.proofs.InputLaws.{not_taken, no_answer, answer_given, answer_broken}
+use Rattle.htp_session.proofs.InputLaws.{not_taken}
 use Rattle.htp_session.proofs.texts.answer_input.Goals as goal
 
 pub returns-in-Err-clause-answers : goal.returns-in-Err-clause-answers

@@ -1,6 +1,7 @@
-use Rattle.std.proofs.Common.{◌≡◌, ℕ, List, subst, sym, ◌∙◌}
+use Rattle.std.proofs.Common.{◌≡◌, ℕ, ◌<◌, List, All, ap, subst, sym, ◌∙◌}
 use Rattle.hex_cells.specs.declared.colours.Colour.TheVariants.{Black}
 use Rattle.tree_words.specs.Settings.{Setting}
+use Rattle.tree_words.specs.declared.settings.Knobs.{Knobs}
 use Rattle.sim_run.specs.Standing.{EndsSchedule}
 use Rattle.turn_modes.specs.OneTurn.{IsFirstTurn}
 use Rattle.turn_modes.specs.Schedules.{schedule_of}
@@ -28,3 +29,9 @@ returns-clause-scheduled c =
       subst (λ (z : Setting). EndsSchedule z (schedule_of knobs.workers knobs.seed c.args.options.now.steps) tree.words) (sym c.in-Ok.ensures.shape)
           (subst (λ (xs : List ℕ). EndsSchedule c.in_ok-prepared.prepared.shape xs tree.words) list c.in-Ok.ensures.schedule),
     )
+
+pub follow-requires : goal.follow-requires
+follow-requires c =
+    let workers : c.in_ok-prepared.prepared.shape.knobs.workers ≡ c.args.options.now.knobs.workers = ap (λ (k : Knobs). k.workers) c.in_ok-prepared.ensures.shape.knobs in
+    subst (λ (xs : List ℕ). All (λ worker. worker < c.in_ok-prepared.prepared.shape.knobs.workers) xs) (sym c.deref.ensures.value)
+    (subst (λ n. All (λ worker. worker < n) c.in_ok-list.list.items) (sym workers) c.in_ok-list.ensures.below)

@@ -1,5 +1,5 @@
 -- What stands after one line more.
-use Rattle.std.proofs.Common.{◌≡◌, Err, None, take, refl, ◌∙◌, subst, arith}
+use Rattle.std.proofs.Common.{◌≡◌, Err, take, subst, arith}
 use Rattle.std.proofs.lemmas.Grind.{common_steps}
 use Rattle.htp_session.specs.Calls.Devices.{GivesAll}
 use Rattle.htp_session.proofs.Feeding.{fed_nothing, fed_all, fed_on, fed_quit}

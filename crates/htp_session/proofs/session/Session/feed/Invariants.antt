@@ -1,4 +1,4 @@
-use Rattle.std.proofs.Common.{◌≡◌, ◌≤◌, ◌-◌, [], None, length, take}
+use Rattle.std.proofs.Common.{◌≤◌, ◌-◌, [], None, length, take}
 use Rattle.htp_session.specs.Sessions.{Does}
 use Rattle.htp_session.specs.Devices.{stock, CountsStop}
 use Rattle.htp_session.proofs.Feeding.{FedTo}
