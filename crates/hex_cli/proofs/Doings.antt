@@ -17,7 +17,7 @@ use Rattle.hex_cli.specs.AuditTexts.{IsAuditText}
 use Rattle.hex_cli.specs.CertTexts.{IsCheckText, IsMigrateText}
 use Rattle.hex_cli.specs.Modes.{engine_options, mode_options}
 use Rattle.hex_cli.specs.Runs.{may_archive, may_fetch}
-use Rattle.hex_cli.specs.Served.{AnswersTo, DoesIn, HandsInTo}
+use Rattle.hex_cli.specs.Served.{AnswersTo, ServesIn, HandsInTo}
 use Rattle.hex_cli.specs.Statuses.{status_of}
 use Rattle.hex_cli.specs.declared.ends.End.{End}
 use Rattle.hex_cli.specs.declared.ends.End.TheVariants.{Usage, Done, Rejected, Stopped}
@@ -37,7 +37,7 @@ answers_no_usage Answers end old new d e = input_no_usage d.answered.0 (sym d.an
 hands_no_usage : {IsAnswer : Answer} (end : End) (old new : DevicesState) → HandsInTo IsAnswer end old new → end ≢ Usage
 hands_no_usage end old new d e = outcome_no_usage d.handed.0 (sym d.handed.1 ∙ e)
 
-pub does_no_usage : (mode : Mode) (options : Options) (end : End) (old new : DevicesState) → DoesIn mode options end old new → end ≢ Usage
+pub does_no_usage : (mode : Mode) (options : Options) (end : End) (old new : DevicesState) → ServesIn mode options end old new → end ≢ Usage
 does_no_usage Htp options end old new d = no_usage end (engine_options options) options.size INPUT_LIMIT _ _ _ _ d
 does_no_usage Check options end old new d = answers_no_usage IsCheckText end old new d
 does_no_usage Migrate options end old new d = answers_no_usage IsMigrateText end old new d
@@ -56,7 +56,7 @@ answers_too_long Answers end old new d = subst (λ (x : End). Both old.link new.
 hands_too_long : (IsAnswer : Answer) (end : End) (old new : DevicesState) → HandsInTo IsAnswer end old new → Both old.link new.link (IsLong end)
 hands_too_long IsAnswer end old new d = subst (λ (x : End). Both old.link new.link (IsLong x)) (sym d.handed.1) (handed_too_long IsAnswer INPUT_LIMIT (old.link, old.turns) (new.link, new.turns) d.handed.0 d.handed.2)
 
-pub does_too_long : (mode : Mode) (options : Options) (end : End) (old new : DevicesState) → DoesIn mode options end old new → Both old.link new.link (IsLong end)
+pub does_too_long : (mode : Mode) (options : Options) (end : End) (old new : DevicesState) → ServesIn mode options end old new → Both old.link new.link (IsLong end)
 does_too_long Htp options end old new d = too_long_exactly end (engine_options options) options.size INPUT_LIMIT _ _ _ _ d
 does_too_long Check options end old new d = answers_too_long IsCheckText end old new d
 does_too_long Migrate options end old new d = answers_too_long IsMigrateText end old new d
@@ -82,7 +82,7 @@ hands_complete : (IsAnswer : Answer) (end : End) (old new : DevicesState) → Ha
 hands_complete IsAnswer end old new d f = subst (λ (x : End). Both old.link new.link (IsComplete x)) (sym d.handed.1)
     (handed_complete IsAnswer INPUT_LIMIT (old.link, old.turns) (new.link, new.turns) d.handed.0 d.handed.2 (λ e. f.write (d.handed.1 ∙ e)) (λ e. f.archive (d.handed.1 ∙ e)))
 
-pub does_complete : (mode : Mode) (options : Options) (end : End) (old new : DevicesState) → DoesIn mode options end old new → IsFaultless end → Both old.link new.link (IsComplete end)
+pub does_complete : (mode : Mode) (options : Options) (end : End) (old new : DevicesState) → ServesIn mode options end old new → IsFaultless end → Both old.link new.link (IsComplete end)
 does_complete Htp options end old new d f = complete_at end (engine_options options) options.size INPUT_LIMIT _ _ _ _ d f.read f.write f.archive
 does_complete Check options end old new d f = answers_complete IsCheckText end old new d f
 does_complete Migrate options end old new d f = answers_complete IsMigrateText end old new d f
@@ -109,7 +109,7 @@ hands_nothing IsAnswer at = record {
   fetches = refl;
 }
 
-pub does_nothing : (mode : Mode) (options : Options) (at : DevicesState) → DoesIn mode options (Stopped Memory) at at
+pub does_nothing : (mode : Mode) (options : Options) (at : DevicesState) → ServesIn mode options (Stopped Memory) at at
 does_nothing Htp options at = conversed_nothing (engine_options options) options.size INPUT_LIMIT _ _
 does_nothing Check options at = answers_nothing IsCheckText at
 does_nothing Migrate options at = answers_nothing IsMigrateText at
@@ -119,7 +119,7 @@ does_nothing Bench options at = hands_nothing (IsBenchmark (mode_options options
 
 -- ---- what stands idle
 
-pub does_unfetched : (mode : Mode) (options : Options) (end : End) (old new : DevicesState) → DoesIn mode options end old new → may_fetch mode ≡ false → (new.shelf ≡ old.shelf) × (new.fetch_faults ≡ old.fetch_faults)
+pub does_unfetched : (mode : Mode) (options : Options) (end : End) (old new : DevicesState) → ServesIn mode options end old new → may_fetch mode ≡ false → (new.shelf ≡ old.shelf) × (new.fetch_faults ≡ old.fetch_faults)
 does_unfetched Htp options end old new d idle = absurd (cc)
 does_unfetched Check options end old new d idle = (ap (λ (s : ShelfAndArchive). s.0) d.idle.stock, d.idle.fetches)
 does_unfetched Migrate options end old new d idle = (ap (λ (s : ShelfAndArchive). s.0) d.idle.stock, d.idle.fetches)
@@ -127,7 +127,7 @@ does_unfetched Audit options end old new d idle = (ap (λ (s : ShelfAndArchive).
 does_unfetched Sim options end old new d idle = (d.shelf, d.fetches)
 does_unfetched Bench options end old new d idle = (d.shelf, d.fetches)
 
-pub does_unarchived : (mode : Mode) (options : Options) (end : End) (old new : DevicesState) → DoesIn mode options end old new → may_archive mode ≡ false → (new.turns ≡ old.turns) × (new.archive_faults ≡ old.archive_faults)
+pub does_unarchived : (mode : Mode) (options : Options) (end : End) (old new : DevicesState) → ServesIn mode options end old new → may_archive mode ≡ false → (new.turns ≡ old.turns) × (new.archive_faults ≡ old.archive_faults)
 does_unarchived Htp options end old new d idle = absurd (cc)
 does_unarchived Check options end old new d idle = (ap (λ (s : ShelfAndArchive). s.1) d.idle.stock, d.idle.archives)
 does_unarchived Migrate options end old new d idle = (ap (λ (s : ShelfAndArchive). s.1) d.idle.stock, d.idle.archives)

@@ -7,3 +7,4 @@ pub mod Inputs
 pub mod Determined
 pub mod Headline
 pub mod Runs
+pub mod Causes

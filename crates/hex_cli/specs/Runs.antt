@@ -1,8 +1,6 @@
 -- What a run does, told of its words, its status, and its link, shelf and archive before and after.
-use Rattle.std.specs.Prelude.{◌≡◌, ◌≢◌, ◌+◌, ◌≤◌, ◌⊎◌, ◌↔◌, ℕ, Bool, true, false, List, length}
+use Rattle.std.specs.Prelude.{◌≡◌, ◌≢◌, ◌⊎◌, ℕ, Bool, true, false, List}
 use Rattle.hex_io.specs.Told.{Both}
-use Rattle.hex_io.specs.Causes.{CountsFault, Rose}
-use Rattle.hex_io.specs.Reported.{Reported}
 use Rattle.hex_io.specs.declared.links.Link as links
 use Rattle.hex_io.specs.declared.shelves.Shelf as shelves
 use Rattle.hex_plan.specs.Turns.{Decision}
@@ -12,15 +10,14 @@ use Rattle.hexd_words.specs.Reading.{WellFormed}
 use Rattle.hexd_words.specs.declared.settings.Options.{Options}
 use Rattle.hexd_words.specs.declared.settings.Mode.{Mode}
 use Rattle.hexd_words.specs.declared.settings.Mode.TheVariants.{Htp, Check, Migrate, Audit}
-use Rattle.htp_session.specs.Endings.{since}
 use Rattle.htp_session.specs.Inputs.{TextOf}
-use Rattle.htp_session.specs.declared.stops.Stop.TheVariants.{Memory, TooLong}
+use Rattle.htp_session.specs.declared.stops.Stop.TheVariants.{Memory}
 use Rattle.hex_cli.specs.Determined.{IsDetermined}
 use Rattle.hex_cli.specs.Headline.{Headline}
 use Rattle.hex_cli.specs.Modes.{AnsweredTo, HandedInTo, PlayedTo, engine_options, mode_options}
-use Rattle.hex_cli.specs.Statuses.{status_of, error_line}
+use Rattle.hex_cli.specs.Statuses.{status_of}
 use Rattle.hex_cli.specs.declared.ends.End.{End}
-use Rattle.hex_cli.specs.declared.ends.End.TheVariants.{Done, Rejected, Usage, Stopped}
+use Rattle.hex_cli.specs.declared.ends.End.TheVariants.{Done, Usage, Stopped}
 use Rattle.hex_cli.specs.declared.limits.TheConstants.{INPUT_LIMIT}
 
 -- ---- the words
@@ -57,12 +54,12 @@ pub record Untouched {L : Type 0} (l : links.Ghosts L) (old new : L) : Type 0 wh
   pub writes : l.write_faults new ≡ l.write_faults old
 
 -- nothing was fetched from the shelf: it tells the same and has counted no fault
-pub record Unfetched {F : Type 0} (f : shelves.Ghosts F) (old new : F) : Type 0 where
+pub record IsIdleShelf {F : Type 0} (f : shelves.Ghosts F) (old new : F) : Type 0 where
   pub told : f.told new ≡ f.told old
   pub faults : f.faults new ≡ f.faults old
 
 -- nothing was handed to the archive: it tells the same and has counted no fault
-pub record Unarchived {A : Type 0} (a : archives.Ghosts A) (old new : A) : Type 0 where
+pub record IsIdleArchive {A : Type 0} (a : archives.Ghosts A) (old new : A) : Type 0 where
   pub told : a.told new ≡ a.told old
   pub faults : a.faults new ≡ a.faults old
 
@@ -98,14 +95,14 @@ HandsInBy l a mode IsAnswer words status old new = (end : End) → status ≡ st
     (l.told old.0, a.told old.1) (l.told new.0, a.told new.1))
 
 -- the shelf stands idle in each mode but htp
-abbrev pub IsUnfetchedInMode : {F : Type 0} → shelves.Ghosts F → List (List ℕ) → F → F → Type 0
-IsUnfetchedInMode f words old new = (options : Options) → WellFormed words options
-    → may_fetch options.mode ≡ false → Unfetched f old new
+abbrev pub HasIdleShelf : {F : Type 0} → shelves.Ghosts F → List (List ℕ) → F → F → Type 0
+HasIdleShelf f words old new = (options : Options) → WellFormed words options
+    → may_fetch options.mode ≡ false → IsIdleShelf f old new
 
 -- the archive stands idle in each mode that takes its whole input
-abbrev pub IsUnarchivedInMode : {A : Type 0} → archives.Ghosts A → List (List ℕ) → A → A → Type 0
-IsUnarchivedInMode a words old new = (options : Options) → WellFormed words options
-    → may_archive options.mode ≡ false → Unarchived a old new
+abbrev pub HasIdleArchive : {A : Type 0} → archives.Ghosts A → List (List ℕ) → A → A → Type 0
+HasIdleArchive a words old new = (options : Options) → WellFormed words options
+    → may_archive options.mode ≡ false → IsIdleArchive a old new
 
 -- Mode htp, where the run is done: each searched move.
 abbrev pub HasHeadline : {L A : Type 0} → links.Ghosts L → archives.Ghosts A → List (List ℕ) → ℕ
@@ -123,41 +120,3 @@ Determines l f words status link link_now shelf shelf_now = InMode Htp words
     (λ options. status ≡ status_of Done → Both (f.told shelf) (f.told shelf_now)
     (λ files files_now. Both (l.told link) (l.told link_now)
     (IsDetermined (engine_options options) options.size files files_now)))
-
--- ---- the causes
-
--- the link's count of read faults rose where this holds, and is as before where it doesn't
-abbrev pub CountsReads : {L : Type 0} → links.Ghosts L → L → L → Type 0 → Type 0
-CountsReads l old new Fault = CountsFault (l.read_faults old) (l.read_faults new) Fault
-
--- the same of its count of write faults
-abbrev pub CountsWrites : {L : Type 0} → links.Ghosts L → L → L → Type 0 → Type 0
-CountsWrites l old new Fault = CountsFault (l.write_faults old) (l.write_faults new) Fault
-
--- the same of the archive's count of faults
-abbrev pub CountsTurns : {A : Type 0} → archives.Ghosts A → A → A → Type 0 → Type 0
-CountsTurns a old new Fault = CountsFault (a.faults old) (a.faults new) Fault
-
--- with well-formed words the input is too long exactly where one byte more than the limit was taken
-abbrev pub IsTooLong : {L : Type 0} → links.Ghosts L → List (List ℕ) → ℕ → L → L → Type 0
-IsTooLong l words status link link_now = (options : Options) → WellFormed words options
-    → Both (l.told link) (l.told link_now) (λ old new.
-    (status ≡ status_of (Stopped TooLong)) ↔ (length (since old new) ≡ INPUT_LIMIT + 1))
-
--- with well-formed words, where no count of faults rose and at most the limit was taken, the run is
--- done, its input is rejected, or memory ran out
-abbrev pub Completes : {L A : Type 0} → links.Ghosts L → archives.Ghosts A → List (List ℕ) → ℕ
-    → L → L → A → A → Type 0
-Completes l a words status link link_now archive archive_now =
-    (options : Options) → WellFormed words options
-    → ¬ Rose (l.read_faults link) (l.read_faults link_now)
-    → ¬ Rose (l.write_faults link) (l.write_faults link_now)
-    → ¬ Rose (a.faults archive) (a.faults archive_now)
-    → Both (l.told link) (l.told link_now) (λ old new. length (since old new) ≤ INPUT_LIMIT
-    → (status ≡ status_of Done) ⊎ (status ≡ status_of Rejected)
-    ⊎ (status ≡ status_of (Stopped Memory)))
-
--- the errors were given the line of the status, or a front of it where a write failed
-abbrev pub Reports : {E : Type 0} → links.Ghosts E → ℕ → E → E → Type 0
-Reports e status old new = (end : End) → status ≡ status_of end
-    → Reported (e.told old) (e.told new) (e.write_faults old) (e.write_faults new) (error_line end)

@@ -40,15 +40,15 @@ pub record HandsInTo (IsAnswer : Decision → List ℕ → Type 0) (end : End)
   pub fetches : new.fetch_faults ≡ old.fetch_faults
 
 -- what was done in this mode, to this end
-abbrev pub DoesIn : Mode → Options → End → DevicesState → DevicesState → Type 0
-DoesIn Htp options = PlaysTo options
-DoesIn Check options = AnswersTo IsCheckText
-DoesIn Migrate options = AnswersTo IsMigrateText
-DoesIn Audit options = AnswersTo IsAuditText
-DoesIn Sim options = HandsInTo (IsSimulation (mode_options options))
-DoesIn Bench options = HandsInTo (IsBenchmark (mode_options options))
+abbrev pub ServesIn : Mode → Options → End → DevicesState → DevicesState → Type 0
+ServesIn Htp options = PlaysTo options
+ServesIn Check options = AnswersTo IsCheckText
+ServesIn Migrate options = AnswersTo IsMigrateText
+ServesIn Audit options = AnswersTo IsAuditText
+ServesIn Sim options = HandsInTo (IsSimulation (mode_options options))
+ServesIn Bench options = HandsInTo (IsBenchmark (mode_options options))
 
 -- what was done for the words, in the mode that they say
-abbrev pub Does : List (List ℕ) → End → DevicesState → DevicesState → Type 0
-Does words end old new = (options : Options) → WellFormed words options
-    → DoesIn options.mode options end old new
+abbrev pub Serves : List (List ℕ) → End → DevicesState → DevicesState → Type 0
+Serves words end old new = (options : Options) → WellFormed words options
+    → ServesIn options.mode options end old new

@@ -3,39 +3,45 @@
 //! **What it is.** A *run* reads its words and does what they ask for; [`End`] is how it ends, and
 //! its *status* is a number. In mode `htp` it plays a session of htp_session: a conversation from
 //! an empty board, of which the *talk* over the lines taken is what is given. Modes `check`,
-//! `migrate` and `audit` take their whole input and give one text for it.
+//! `migrate` and `audit` take their whole input and give one text for it. Modes `sim` and `bench`
+//! of turn_modes read nothing, and hand in one turn with its text.
 //!
 //! **A caller** makes the link, the errors, the shelf and the archive, and ends with the status:
 //!
 //! ```text
-//! let status = run(alloc, &words, &mut link, &mut errors, &mut shelf, &mut archive);
+//! let status =
+//!     run(rt, alloc, &words, &mut link, &mut errors, &mut shelf, &mut archive, &OpenGate);
 //! ```
 //!
-//! **What is proved**, in the words of `specs/Runs.antt`, `specs/Modes.antt` and htp_session's
-//! `specs/Endings.antt`: where the link tells it, what was given is the talk over the lines of
-//! what was taken, as far as each status says, with the files that came of the shelf's fetches and
-//! the turns that the archive took. Each of these turns is good, in the words of hex_plan: a closed tree, and a cell of most visits among
-//! its root's children. With status 0 each line was answered, up to an answered `quit`, and all was
-//! used up. All whole lines taken were answered before the next read, and no read that was answered
-//! follows an answered `quit`. What fails first ends the run: a count of faults rose with its own
-//! status (3, 4 or 7) and is as before with every other. Status 2 comes only where the words are
-//! not well formed, 6 exactly where one byte more than [`INPUT_LIMIT`] was taken, 7 before a
-//! `genmove` that is not refused. With status 5 the lines that were answered used up all that was
-//! used up, so no turn is thrown away. The errors get the one line of the status. Each searched
-//! move of a run that is done is legal and good, and its turn stands at its place of the archive
-//! (specs/Headline.antt). With one worker the words, the bytes read and the files determine what is
-//! given (specs/Determined.antt). In the other modes the text is that of the bytes taken
-//! (specs/CertTexts.antt, specs/AuditTexts.antt), with status 1 exactly where it does not accept
-//! them, and the shelf and the archive stand idle. [`trace_name`] is the name that `--trace` says.
+//! **What is proved**, in the words of `specs/Runs.antt`, `specs/Causes.antt`, `specs/Modes.antt`
+//! and htp_session's `specs/Endings.antt`: where the link tells it, what was given is the talk over
+//! the lines of what was taken, as far as each status says, with the files that came of the shelf's
+//! fetches and the turns that the archive took. Each of these turns is good, in the words of
+//! hex_plan. With status 0 each line was answered, up to an answered `quit`, and all was used up.
+//! All whole lines taken were answered before the next read, and no read that was answered follows
+//! an answered `quit`. What fails first ends the run: a count of faults rose with its own status (3,
+//! 4 or 7) and is as before with every other. Status 2 comes only where the words are not well
+//! formed, 6 exactly where one byte more than [`INPUT_LIMIT`] was taken, 7 before a `genmove` that
+//! is not refused. With status 5 the lines that were answered used up all that was used up, so no
+//! turn is thrown away. The errors get the one line of the status. Each generated move of a run that
+//! is done is legal and good, its turn stands at its place of the archive, and where it is certified
+//! it wins against every reply (specs/Headline.antt). With one worker and without connections the
+//! words, the bytes read and the files determine what is given (specs/Determined.antt). In the modes
+//! that take their whole input the text is that of the bytes taken (specs/CertTexts.antt,
+//! specs/AuditTexts.antt), with status 1 exactly where it does not accept them. In modes `sim` and
+//! `bench` the archive took one turn, and the text is that of this turn, in the words of turn_modes.
+//! The shelf stands idle in each mode but `htp`, and the archive where the input is taken whole.
+//! [`trace_name`] is the name that `--trace` says.
 //!
 //! **Only tested, or not said.** That memory suffices: a run may always end with status 5, which no
 //! clause ties to a refused growth; and a quiet answer that is dropped then can't be told from
 //! memory that ran out earlier. That a run which met a fault reads and writes no more, where it
-//! answers that fault's status all the same. How fast it is.
+//! answers that fault's status all the same. That workers run side by side, which two gates show.
+//! How fast it is.
 //!
 //! **Limits.** An input of [`INPUT_LIMIT`] bytes. In mode `htp` each answer is given before the next
-//! line is looked at, so no memory grows with the input but the game's own; the other modes keep
-//! the whole input.
+//! line is looked at, so no memory grows with the input but the game's own; the modes that take
+//! their whole input keep it.
 #![tactic(auto)]
 
 mod audits;
@@ -46,6 +52,7 @@ mod knobs;
 mod limits;
 mod numbers;
 mod playing;
+mod serving;
 mod single_turns;
 #[cfg(test)]
 mod tests;

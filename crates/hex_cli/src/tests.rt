@@ -8,4 +8,5 @@ mod records;
 mod runs;
 mod searches;
 mod sessions;
+mod tables;
 mod trace_names;

@@ -1,34 +1,25 @@
 //! The top call: from the words of the command line to a status.
 
-ghost use Rattle.std.specs.Prelude.{◌≡◌, ◌≢◌, ◌⊎◌, ◌^◌, ◌<◌};
-ghost use Rattle.hexd_words.specs.Values as value;
-ghost use Rattle.htp_session.specs.declared.stops.Stop.{Stop};
+ghost use Rattle.std.specs.Prelude.{◌≡◌};
+ghost use Rattle.hexd_words.specs.declared.settings.Mode.TheVariants.{Check, Migrate, Audit};
+ghost use Rattle.hexd_words.specs.declared.settings.Mode.TheVariants.{Sim, Bench};
 ghost use Rattle.htp_session.specs.declared.stops.Stop.TheVariants.{ReadFault, WriteFault};
-ghost use Rattle.htp_session.specs.declared.stops.Stop.TheVariants.{Memory, ArchiveFault};
-ghost use Rattle.hex_cli.specs.declared.ends.End.TheVariants.{Stopped};
-ghost use Rattle.hexd_words.specs.declared.settings.Mode.TheVariants.{Check, Migrate, Audit, Sim, Bench};
-ghost use Rattle.htp_session.specs.Devices.{CountsStop};
+ghost use Rattle.htp_session.specs.declared.stops.Stop.TheVariants.{ArchiveFault};
+ghost use Rattle.turn_modes.specs.OneTurn.{IsSimulation, IsBenchmark};
 ghost use Rattle.hex_cli.specs.AuditTexts.{IsAuditText};
+ghost use Rattle.hex_cli.specs.Causes.{CountsReads, CountsWrites, CountsTurns, IsTooLong};
+ghost use Rattle.hex_cli.specs.Causes.{Completes, Reports};
 ghost use Rattle.hex_cli.specs.CertTexts.{IsCheckText, IsMigrateText};
 ghost use Rattle.hex_cli.specs.Runs.{AreWellFormed, AreRefused, IsServed, IsRefusal, Untouched};
-ghost use Rattle.turn_modes.specs.OneTurn.{IsSimulation, IsBenchmark};
-ghost use Rattle.hex_cli.specs.Runs.{Unfetched, Unarchived};
-ghost use Rattle.hex_cli.specs.Runs.{IsUnfetchedInMode, IsUnarchivedInMode};
 ghost use Rattle.hex_cli.specs.Runs.{AnswersBy, HandsInBy, PlaysBy, HasHeadline, Determines};
-ghost use Rattle.hex_cli.specs.Runs.{CountsReads, CountsWrites, CountsTurns, IsTooLong};
-ghost use Rattle.hex_cli.specs.Runs.{Completes, Reports};
-ghost use Rattle.hex_cli.specs.Served.{Does, DoesIn};
-ghost use Rattle.hex_cli.specs.Statuses.{status_of, stop_in, HasStopped};
+ghost use Rattle.hex_cli.specs.Runs.{IsIdleShelf, IsIdleArchive, HasIdleShelf, HasIdleArchive};
+ghost use Rattle.hex_cli.specs.Statuses.{status_of, HasStopped};
 ghost use Rattle.hex_cli.specs.declared.ends.End.{End};
 
-use crate::ends::End;
-use crate::inputs::{InputMode, answer};
-use crate::playing::play;
-use crate::single_turns::{bench, simulate};
+use crate::serving::serve;
 use hex_io::{Link, Shelf, Word, report};
 use hex_plan::Archive;
-use hexd_words::{Mode, Options, read_words};
-use htp_session::{Devices, Stop};
+use htp_session::Devices;
 use search_team::Gate;
 use std::alloc::Global;
 use std::thread::Threads;
@@ -40,22 +31,31 @@ use std::thread::Threads;
 /// shelf has the files of `loadsgf`, and the archive takes the turn of each `genmove`. Modes
 /// `check`, `migrate` and `audit` take the whole input and give one text for it: the verdict on a
 /// certificate, the certificate in its latest version, or the verdict on traces of closed trees.
+/// Modes `sim` and `bench` read nothing: they search one position, hand the turn to the archive, and
+/// give one text that says it.
+///
+/// Searches run in threads of `rt`, and their workers pass the gate; no clause speaks of these.
 ///
 /// | status | comes | line for the errors |
 /// |---|---|---|
-/// | 0 | the input was answered to its end, or to an answered `quit` | |
-/// | 1 | the whole input was answered, and it is not accepted; never in mode `htp` | |
+/// | 0 | what the mode does was done; in `htp` to the input's end, or to an answered `quit` | |
+/// | 1 | the whole input was answered, and it is not accepted; only in modes that take it whole | |
 /// | 2 | exactly where the words are not well formed | `hexd: usage` |
-/// | 3 | only where a read failed; in `htp` all whole lines taken were answered | `hexd: read fault` |
-/// | 4 | only where a write failed; a front of the answers was given | |
-/// | 5 | memory ran out; in `htp` the first lines were answered, and these used up all that was used up | `hexd: out of memory` |
-/// | 6 | exactly where one byte more than [`INPUT_LIMIT`](crate::INPUT_LIMIT) was taken; in `htp` the whole lines before it were answered | `hexd: input too long` |
-/// | 7 | only where the archive failed; all lines before the `genmove` that met it were answered | `hexd: archive fault` |
+/// | 3 | only where a read failed | `hexd: read fault` |
+/// | 4 | only where a write failed | |
+/// | 5 | memory ran out | `hexd: out of memory` |
+/// | 6 | exactly where one byte more than the limit was taken | `hexd: input too long` |
+/// | 7 | only where the archive failed | `hexd: archive fault` |
+///
+/// The limit is [`INPUT_LIMIT`](crate::INPUT_LIMIT). What was given then, in `htp`: with 3 the
+/// answers to all whole lines taken, with 4 a front of the answers, with 5 those to the first lines,
+/// which used up all that was used up, with 6 those to the whole lines up to the limit, and with 7
+/// those to all lines before the `genmove` that met it. In each other mode nothing with 3, 5, 6 and
+/// 7, and a front of its text with 4.
 ///
 /// What fails first ends the run: with every status but 3 the link's count of read faults is as
 /// before, with every one but 4 its count of write faults, with every one but 7 the archive's. A
-/// fault of the errors changes nothing of the status. Status 5 may come in place of any other. In
-/// the modes that take the whole input nothing is given with statuses 3, 5 and 6.
+/// fault of the errors changes nothing of the status. Status 5 may come in place of any other.
 pub fn run<R: Threads + Sync, L: Link, E: Link, F: Shelf, A: Archive, G: Gate + Sync>(
     rt: &R,
     alloc: Global,
@@ -73,12 +73,12 @@ pub fn run<R: Threads + Sync, L: Link, E: Link, F: Shelf, A: Archive, G: Gate + 
     ensures well_formed { IsServed result → AreWellFormed words.now }
     ensures refused { AreRefused words.now → IsRefusal result }
     ensures untouched { AreRefused words.now → Untouched L.Link link.old link.new }
-    ensures unfetched { AreRefused words.now → Unfetched F.Shelf shelf.old shelf.new }
-    ensures unarchived { AreRefused words.now → Unarchived A.Archive archive.old archive.new }
+    ensures unfetched { AreRefused words.now → IsIdleShelf F.Shelf shelf.old shelf.new }
+    ensures unarchived { AreRefused words.now → IsIdleArchive A.Archive archive.old archive.new }
 
     // Mode htp: what was taken and given, and when, where the link tells it; and what was used up
-    // from the shelf and for the archive. Then each searched move; and that with one worker all is
-    // determined.
+    // from the shelf and for the archive. Then each generated move; and that with one worker and
+    // without connections all is determined.
     ensures conversed { PlaysBy L.Link F.Shelf A.Archive words.now result
         (link.old, shelf.old, archive.old) (link.new, shelf.new, archive.new) }
     ensures headline { HasHeadline L.Link A.Archive words.now result
@@ -86,8 +86,8 @@ pub fn run<R: Threads + Sync, L: Link, E: Link, F: Shelf, A: Archive, G: Gate + 
     ensures determined { Determines L.Link F.Shelf words.now result
         link.old link.new shelf.old shelf.new }
 
-    // Modes check, migrate and audit: the whole input was taken, and its text given; the status says
-    // whether it was accepted.
+    // Modes check, migrate and audit: the whole input was taken, and its text given; the status
+    // says whether it was accepted.
     ensures checked { AnswersBy L.Link Check IsCheckText words.now result link.old link.new }
     ensures migrated { AnswersBy L.Link Migrate IsMigrateText words.now result link.old link.new }
     ensures audited { AnswersBy L.Link Audit IsAuditText words.now result link.old link.new }
@@ -99,8 +99,8 @@ pub fn run<R: Threads + Sync, L: Link, E: Link, F: Shelf, A: Archive, G: Gate + 
         (link.old, archive.old) (link.new, archive.new) }
 
     // What stands idle: the shelf in each mode but htp, the archive in check, migrate and audit.
-    ensures idle_shelf { IsUnfetchedInMode F.Shelf words.now shelf.old shelf.new }
-    ensures idle_archive { IsUnarchivedInMode A.Archive words.now archive.old archive.new }
+    ensures idle_shelf { HasIdleShelf F.Shelf words.now shelf.old shelf.new }
+    ensures idle_archive { HasIdleArchive A.Archive words.now archive.old archive.new }
 
     // The causes. What fails first ends the run: a count rose with its own status, and is as before
     // with every other.
@@ -137,48 +137,4 @@ pub fn run<R: Threads + Sync, L: Link, E: Link, F: Shelf, A: Archive, G: Gate + 
     let _archive: &A = archive;
     report(errors, end.line());
     end.status()
-}
-
-/// Reads the words, and does over the link what they ask for, in the mode that they say.
-fn serve<L: Link, F: Shelf, A: Archive, R: Threads + Sync, G: Gate + Sync>(
-    alloc: Global,
-    words: &[Word],
-    devices: &mut Devices<'_, '_, '_, '_, L, F, A, R, G>,
-) -> End
-    ensures usage { result ≡ End.Usage → AreRefused words.now }
-    ensures well_formed { result ≢ End.Usage → result ≢ Stopped Memory
-        → AreWellFormed words.now }
-    ensures refused { AreRefused words.now
-        → (result ≡ End.Usage) ⊎ (result ≡ Stopped Memory) }
-    ensures untouched { AreRefused words.now → devices.new ≡ devices.old }
-    ensures does { Does words.now result devices.old devices.new }
-    ensures counts { CountsStop devices.old devices.new (stop_in result) }
-{
-    let options = match read_words(alloc, words) {
-        Err(_) => return End::Stopped(Stop::Memory),
-        Ok(None) => return End::Usage,
-        Ok(Some(options)) => options,
-    };
-    in_mode(alloc, &options, devices)
-}
-
-/// Does over the devices what the options ask for, in the mode that they say.
-fn in_mode<L: Link, F: Shelf, A: Archive, R: Threads + Sync, G: Gate + Sync>(
-    alloc: Global,
-    options: &Options,
-    devices: &mut Devices<'_, '_, '_, '_, L, F, A, R, G>,
-) -> End
-    requires ranges { value.OptionsInRange options.now }
-    requires seed { options.now.seed < 2 ^ 64 }
-    ensures does { DoesIn options.now.mode options.now result devices.old devices.new }
-    ensures counts { CountsStop devices.old devices.new (stop_in result) }
-{
-    match options.mode {
-        Mode::Htp => play(alloc, options, devices),
-        Mode::Check => answer(alloc, InputMode::Check, devices),
-        Mode::Migrate => answer(alloc, InputMode::Migrate, devices),
-        Mode::Audit => answer(alloc, InputMode::Audit, devices),
-        Mode::Sim => simulate(alloc, options, devices),
-        Mode::Bench => bench(alloc, options, devices),
-    }
 }

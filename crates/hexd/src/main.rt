@@ -12,7 +12,7 @@
 //! to it of [`trace_audit::TraceArchive`].
 //!
 //! **Only tested, or not said.** What the terminal or another program gave or got, and what a file
-//! holds. The tests here are not of the program: they take a connection from H-search through
+//! holds. The test here is not of the program: it takes a connection from H-search through
 //! `cut`, `write` and `check`, since this crate stands above all of these.
 //!
 //! **Limits.** An argument that is no text is a wrong word.
@@ -27,12 +27,13 @@ use hex_plan::{Archive, NoArchive};
 use htp_session::Stop;
 use search_team::OpenGate;
 use std::process::ExitCode;
+use std::thread::Threads;
 use std::{env, io};
 use trace_audit::TraceArchive;
 
 fn main(rt: HostRuntime) -> ExitCode {
     let mut errors = ErrLink::new(&rt);
-    let status = match status_of(&rt, &mut errors) {
+    let status = match status_of(&rt, &rt, &mut errors) {
         Ok(status) => status,
         Err(end) => {
             report(&mut errors, end.line());
@@ -43,18 +44,24 @@ fn main(rt: HostRuntime) -> ExitCode {
 }
 
 /// The status of a run over the archive that its words ask for, or how the program ends that can't
-/// begin one.
-fn status_of(rt: &HostRuntime, errors: &mut ErrLink) -> Result<u8, End> {
+/// begin one. Searches run in threads of `threads`, which is the runtime again: it starts threads
+/// only for who takes it as such.
+fn status_of<R: Threads + Sync>(
+    rt: &HostRuntime,
+    threads: &R,
+    errors: &mut ErrLink,
+) -> Result<u8, End> {
     let words = words_of(rt)?;
     match archive_of(rt, &words)? {
-        Some(mut archive) => Ok(run_with(rt, &words, errors, &mut archive)),
-        None => Ok(run_with(rt, &words, errors, &mut NoArchive)),
+        Some(mut archive) => Ok(run_with(rt, threads, &words, errors, &mut archive)),
+        None => Ok(run_with(rt, threads, &words, errors, &mut NoArchive)),
     }
 }
 
 /// A run over the standard streams and the files of the system, with this archive.
-fn run_with<A: Archive>(
+fn run_with<R: Threads + Sync, A: Archive>(
     rt: &HostRuntime,
+    threads: &R,
     words: &[Word],
     errors: &mut ErrLink,
     archive: &mut A,
@@ -62,7 +69,7 @@ fn run_with<A: Archive>(
     let mut link = StdLink::new(rt);
     let mut shelf = DirShelf::new(rt);
     run(
-        rt,
+        threads,
         rt.alloc(),
         words,
         &mut link,

@@ -69,12 +69,3 @@ fn edge_entry_of_one_cell(rt: HostRuntime) {
         adj edge1 a1\nadj edge2 a1\nkey 0 1\nsemi 2\n";
     certify(&rt, rt.alloc(), 1, text, CellSet::of_bits(0b1));
 }
-
-// The lines are those on which the entry rests, and no others; the carrier is {a1, b1, a2}.
-#[test]
-fn edge_entry_of_four_cells(rt: HostRuntime) {
-    let text = b"hexcert 1\nsize 2\nplayer black\nblack\nwhite\n\
-        adj edge1 a1\nadj edge1 b1\nadj edge2 a2\nadj a1 a2\nadj b1 a2\n\
-        key 0 3\nkey 1 4\nor 5 6\nkey 7 2\nsemi 8\n";
-    certify(&rt, rt.alloc(), 2, text, CellSet::of_bits(0b111));
-}

@@ -1,6 +1,7 @@
 //! Certificates and traces: the modes that take their whole input, and a session's certificate.
 
-use super::runs::{ample, bytes_of, check, check_rows, run_of};
+use super::runs::{ample, check, run_of};
+use super::tables::{bytes_of, check_rows};
 use std::alloc::Global;
 use std::test::Fail;
 

@@ -1,8 +1,12 @@
 //! Devices that fail: each read, each write, and archives without room.
 
 use super::certificates::V1;
-use super::runs::{Case, ample, bytes_of, check, run_of};
+use super::runs::{Case, ample, check, run_of};
+use super::tables::bytes_of;
+use std::alloc::Global;
+use std::process::Abort;
 use std::test::Fail;
+use std::thread::Threads;
 
 /// Words and inputs of runs whose reads and writes fail in turn: a session over a small board, one
 /// that loads, searches and certifies, and the other modes.
@@ -22,7 +26,7 @@ fn front_of(text: &[u8], answers: usize) -> &[u8] {
         if left == 0 {
             break 'pairs;
         }
-        if pair == b"\n\n" {
+        if pair == b"\n\n".as_slice() {
             left -= 1;
             end = at.saturating_add(2);
         }
@@ -30,9 +34,14 @@ fn front_of(text: &[u8], answers: usize) -> &[u8] {
     &text[..end.min(text.len())]
 }
 
-/// Each read fails in turn, in pieces of one byte. In a session the whole lines that were taken were
-/// answered, and in another mode nothing was given.
-fn check_reads(rt: &HostRuntime, words: &str, input: &[u8], given: &[u8]) -> Result<(), Fail> {
+/// Each read fails in turn, in pieces of one byte. In a session the whole lines that were taken
+/// were answered, and in another mode nothing was given.
+fn check_reads<R: Abort + Threads + Sync + Alloc<A = Global>>(
+    rt: &R,
+    words: &str,
+    input: &[u8],
+    given: &[u8],
+) -> Result<(), Fail> {
     for length in 0..input.len().saturating_add(1) {
         let taken = &input[..length];
         let lines = if words.starts_with("htp") {
@@ -51,7 +60,12 @@ fn check_reads(rt: &HostRuntime, words: &str, input: &[u8], given: &[u8]) -> Res
 }
 
 /// Each write fails in turn, in pieces of one byte: the bytes before it were given.
-fn check_writes(rt: &HostRuntime, words: &str, input: &[u8], given: &[u8]) -> Result<(), Fail> {
+fn check_writes<R: Abort + Threads + Sync + Alloc<A = Global>>(
+    rt: &R,
+    words: &str,
+    input: &[u8],
+    given: &[u8],
+) -> Result<(), Fail> {
     for length in 0..given.len() {
         let case = Case {
             piece: 1,

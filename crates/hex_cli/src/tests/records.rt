@@ -1,6 +1,7 @@
 //! Sessions that load records.
 
-use super::runs::{Case, RECORD, ample, check, check_rows};
+use super::runs::{Case, RECORD, ample, check};
+use super::tables::check_rows;
 use std::alloc::Global;
 use std::test::Fail;
 

@@ -5,7 +5,9 @@ use hex_io::{Bytes, File, MemLink, MemShelf, Word};
 use hex_plan::MemArchive;
 use search_team::{Gate, OpenGate};
 use std::alloc::Global;
+use std::process::Abort;
 use std::test::Fail;
+use std::thread::Threads;
 
 /// A record of a game, which the shelf of each run has under the name `g.sgf`. Under `h.sgf` it has
 /// the record without its last byte.
@@ -102,7 +104,11 @@ pub fn shelf_with(alloc: Global, file: &[u8], bad_fetch: Option<u32>) -> Result<
 }
 
 /// The run of a case, with this gate.
-pub fn run_at<G: Gate + Sync>(rt: &HostRuntime, case: &Case, gate: &G) -> Result<Left, Fail> {
+pub fn run_at<R: Threads + Sync + Alloc<A = Global>, G: Gate + Sync>(
+    rt: &R,
+    case: &Case,
+    gate: &G,
+) -> Result<Left, Fail> {
     let alloc = rt.alloc();
     let words = words_of(alloc, case.words)?;
     let mut link = link_over(alloc, case.input, case.piece, case.bad_read, case.bad_write)?;
@@ -128,7 +134,7 @@ pub fn run_at<G: Gate + Sync>(rt: &HostRuntime, case: &Case, gate: &G) -> Result
 }
 
 /// The run of a case.
-pub fn run_of(rt: &HostRuntime, case: &Case) -> Result<Left, Fail> {
+pub fn run_of<R: Threads + Sync + Alloc<A = Global>>(rt: &R, case: &Case) -> Result<Left, Fail> {
     run_at(rt, case, &OpenGate)
 }
 
@@ -145,8 +151,8 @@ fn line_of(status: u8) -> &'static [u8] {
 }
 
 /// The run of the case ends with this status and its line, and has given these bytes.
-pub fn check(
-    rt: &HostRuntime,
+pub fn check<R: Abort + Threads + Sync + Alloc<A = Global>>(
+    rt: &R,
     name: &str,
     case: &Case,
     given: &[u8],
@@ -156,36 +162,5 @@ pub fn check(
     assert_eq!(rt; left.status, status, "{name}");
     assert_eq!(rt; left.link.given(), given, "{name}");
     assert_eq!(rt; left.errors.given(), line_of(status), "{name}");
-    Ok(())
-}
-
-/// The bytes that a field of a table stands for: `~` is a line feed.
-pub fn bytes_of(alloc: Global, field: &str) -> Result<Vec<u8>, Fail> {
-    let mut bytes = Vec::new(alloc);
-    for &byte in field.as_bytes() {
-        bytes.push(if byte == b'~' { b'\n' } else { byte })?;
-    }
-    Ok(bytes)
-}
-
-/// Each row of the table is a run in pieces of several lengths. Between the bars of a line stand its
-/// name, its words, its input, its status and what it gives.
-pub fn check_rows(rt: &HostRuntime, table: &str) -> Result<(), Fail> {
-    let alloc = rt.alloc();
-    for line in table.lines() {
-        let mut fields = line.split('|');
-        let name = fields.next().ok_or("a name")?;
-        let words = fields.next().ok_or("words")?;
-        let input = bytes_of(alloc, fields.next().ok_or("an input")?)?;
-        let status = fields.next().ok_or("a status")?.parse::<u8>()?;
-        let given = bytes_of(alloc, fields.next().ok_or("an output")?)?;
-        for piece in [1, 7, 1_000] {
-            let case = Case {
-                piece,
-                ..ample(words, &input)
-            };
-            check(rt, name, &case, &given, status)?;
-        }
-    }
     Ok(())
 }

@@ -1,6 +1,7 @@
 //! Runs that search: sessions, simulated schedules, and the large position.
 
-use super::runs::{Case, ample, bytes_of, check, check_rows, run_of};
+use super::runs::{Case, ample, check, run_of};
+use super::tables::{bytes_of, check_rows};
 use hex_cells::{Size, read_vertex};
 use std::test::Fail;
 use tree_words::layout::{

@@ -1,6 +1,7 @@
 //! Sessions without searches, and words that are refused.
 
-use super::runs::{Case, ample, bytes_of, check, check_rows, run_of};
+use super::runs::{Case, ample, check, run_of};
+use super::tables::{bytes_of, check_rows};
 use hex_cells::{Size, read_vertex};
 use std::test::Fail;
 

@@ -1,5 +1,5 @@
 -- What each mode does.
-use Rattle.hex_cli.proofs.top.in_mode.Goals as goal
+use Rattle.hex_cli.proofs.serving.in_mode.Goals as goal
 
 pub returns-in-Htp-clause-does : goal.returns-in-Htp-clause-does
 returns-in-Htp-clause-does g c = rw c.in-Htp.is c.play.ensures.plays

@@ -1,9 +1,9 @@
 -- Words that made options are well formed, and what was done for these options was done for them.
 use Rattle.std.proofs.Common.{◌≡◌, Some, subst}
 use Rattle.hexd_words.specs.declared.settings.Options.{Options}
-use Rattle.hex_cli.specs.Served.{DoesIn}
+use Rattle.hex_cli.specs.Served.{ServesIn}
 use Rattle.hex_cli.proofs.Doings.{does_no_usage, does_nothing}
-use Rattle.hex_cli.proofs.top.serve.Goals as goal
+use Rattle.hex_cli.proofs.serving.serve.Goals as goal
 
 pub returns-in-Err-clause-does : goal.returns-in-Err-clause-does
 returns-in-Err-clause-does g c = λ options well_formed. does_nothing options.mode options c.args.devices.now
@@ -34,4 +34,4 @@ pub returns-clause-does : goal.returns-clause-does
 returns-clause-does g c = λ options well_formed.
     let made : c.in-Ok-Some.field-0 ≡ Some options = (c.in-Ok-Some.ensures.exact options).1 well_formed in
     let same : c.in-Ok-Some.options ≡ options = cc in
-    subst (λ (o : Options). DoesIn o.mode o c.in_mode.result c.args.devices.now c.in_mode.new.devices) same c.in_mode.ensures.does
+    subst (λ (o : Options). ServesIn o.mode o c.in_mode.result c.args.devices.now c.in_mode.new.devices) same c.in_mode.ensures.does

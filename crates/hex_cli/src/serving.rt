@@ -1,0 +1,66 @@
+//! What is done for the words of a run, in the mode that they say.
+
+ghost use Rattle.std.specs.Prelude.{◌≡◌, ◌≢◌, ◌⊎◌, ◌^◌, ◌<◌};
+ghost use Rattle.hexd_words.specs.Values as value;
+ghost use Rattle.htp_session.specs.declared.stops.Stop.TheVariants.{Memory};
+ghost use Rattle.htp_session.specs.Devices.{CountsStop};
+ghost use Rattle.hex_cli.specs.Runs.{AreWellFormed, AreRefused};
+ghost use Rattle.hex_cli.specs.Served.{Serves, ServesIn};
+ghost use Rattle.hex_cli.specs.Statuses.{stop_in};
+ghost use Rattle.hex_cli.specs.declared.ends.End.TheVariants.{Stopped};
+
+use crate::ends::End;
+use crate::inputs::{InputMode, answer};
+use crate::playing::play;
+use crate::single_turns::{bench, simulate};
+use hex_io::{Link, Shelf, Word};
+use hex_plan::Archive;
+use hexd_words::{Mode, Options, read_words};
+use htp_session::{Devices, Stop};
+use search_team::Gate;
+use std::alloc::Global;
+use std::thread::Threads;
+
+/// Reads the words, and does over the link what they ask for, in the mode that they say.
+pub fn serve<L: Link, F: Shelf, A: Archive, R: Threads + Sync, G: Gate + Sync>(
+    alloc: Global,
+    words: &[Word],
+    devices: &mut Devices<'_, '_, '_, '_, L, F, A, R, G>,
+) -> End
+    ensures usage { result ≡ End.Usage → AreRefused words.now }
+    ensures well_formed { result ≢ End.Usage → result ≢ Stopped Memory
+        → AreWellFormed words.now }
+    ensures refused { AreRefused words.now
+        → (result ≡ End.Usage) ⊎ (result ≡ Stopped Memory) }
+    ensures untouched { AreRefused words.now → devices.new ≡ devices.old }
+    ensures does { Serves words.now result devices.old devices.new }
+    ensures counts { CountsStop devices.old devices.new (stop_in result) }
+{
+    let options = match read_words(alloc, words) {
+        Err(_) => return End::Stopped(Stop::Memory),
+        Ok(None) => return End::Usage,
+        Ok(Some(options)) => options,
+    };
+    in_mode(alloc, &options, devices)
+}
+
+/// Serves over the devices what the options ask for, in the mode that they say.
+fn in_mode<L: Link, F: Shelf, A: Archive, R: Threads + Sync, G: Gate + Sync>(
+    alloc: Global,
+    options: &Options,
+    devices: &mut Devices<'_, '_, '_, '_, L, F, A, R, G>,
+) -> End
+    requires ranges { value.OptionsInRange options.now }
+    requires seed { options.now.seed < 2 ^ 64 }
+    ensures does { ServesIn options.now.mode options.now result devices.old devices.new }
+    ensures counts { CountsStop devices.old devices.new (stop_in result) }
+{
+    match options.mode {
+        Mode::Htp => play(alloc, options, devices),
+        Mode::Check => answer(alloc, InputMode::Check, devices),
+        Mode::Migrate => answer(alloc, InputMode::Migrate, devices),
+        Mode::Audit => answer(alloc, InputMode::Audit, devices),
+        Mode::Sim => simulate(alloc, options, devices),
+        Mode::Bench => bench(alloc, options, devices),
+    }
+}
