@@ -16,4 +16,3 @@ pub mod Outcomes
 pub mod OneWorkerLoads
 pub mod OneWorkerMoves
 pub mod OneWorker
-pub mod LegalMoves

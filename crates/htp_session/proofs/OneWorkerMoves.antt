@@ -27,7 +27,7 @@ use Rattle.hex_engine.specs.Requests.{obeyed, reaction_by, reaction}
 use Rattle.hex_engine.specs.declared.answers.Fail.TheVariants.{Over}
 use Rattle.hex_engine.specs.declared.commands.Command.{Command}
 use Rattle.hex_engine.specs.declared.commands.Command.TheVariants as command
-use Rattle.htp_session.proofs.LegalMoves.{same_board}
+use Rattle.hex_engine.proofs.Legal.{next_board}
 use Rattle.htp_session.proofs.OneWorkerLoads.{SameLoads}
 
 -- ---- one turn
@@ -44,7 +44,7 @@ same_move options at colour t u one g h e f =
     let q = and_parts _ _ f in
     let p' = and_parts _ _ p.1 in
     let q' = and_parts _ _ q.1 in
-    let board : t.board ≡ u.board = same_board t.board (board_of at.game) p.0 ∙ sym (same_board u.board (board_of at.game) q.0) in
+    let board : t.board ≡ u.board = next_board at colour t e ∙ sym (next_board at colour u f) in
     let player : t.player ≡ u.player = same_colour t.player colour p'.0 ∙ sym (same_colour u.player colour q'.0) in
     let number : t.number ≡ u.number = eqb-true t.number at.turns p'.1 ∙ sym (eqb-true u.number at.turns q'.1) in
     let mine = without options t one g in

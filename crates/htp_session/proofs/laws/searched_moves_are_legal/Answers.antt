@@ -1,4 +1,4 @@
-use Rattle.htp_session.proofs.LegalMoves.{next_is_legal}
+use Rattle.hex_engine.proofs.Legal.{next_is_legal}
 use Rattle.htp_session.proofs.laws.searched_moves_are_legal.Goals as goal
 
 pub returns : goal.returns
