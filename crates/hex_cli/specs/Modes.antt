@@ -55,6 +55,7 @@ AnsweredTo Answers end old new = (answer : Result Bool Stop) × (end ≡ end_of_
 
 -- A turn with its text was handed in, to this end: the archive took the turn, and then the text was
 -- given.
-abbrev pub HandedInTo : (Decision → List ℕ → Type 0) → End → LinkAndArchive → LinkAndArchive → Type 0
+abbrev pub HandedInTo : (Decision → List ℕ → Type 0) → End
+    → LinkAndArchive → LinkAndArchive → Type 0
 HandedInTo IsAnswer end old new = (outcome : Outcome) × (end ≡ end_for outcome)
     × HandsIn IsAnswer old new outcome

@@ -104,7 +104,7 @@ abbrev pub HasIdleArchive : {A : Type 0} → archives.Ghosts A → List (List �
 HasIdleArchive a words old new = (options : Options) → WellFormed words options
     → may_archive options.mode ≡ false → IsIdleArchive a old new
 
--- Mode htp, where the run is done: each searched move.
+-- Mode htp, where the run is done: each generated move.
 abbrev pub HasHeadline : {L A : Type 0} → links.Ghosts L → archives.Ghosts A → List (List ℕ) → ℕ
     → L → L → A → A → Type 0
 HasHeadline l a words status link link_now archive archive_now = InMode Htp words

@@ -1,8 +1,7 @@
 -- What a first turn was searched for, and its rows.
-use Rattle.std.proofs.Common.{◌≡◌, ℕ, List, Some, refl, sym, ap, ◌∙◌, subst}
-use Rattle.std.specs.Prelude.{IsSome, false}
+use Rattle.std.proofs.Common.{◌≡◌, Some, refl, sym, ap, ◌∙◌, subst}
+use Rattle.std.specs.Prelude.{IsSome}
 use Rattle.hex_cells.proofs.Bits.{same_set}
-use Rattle.hex_cells.specs.Sets.{has}
 use Rattle.hex_cells.specs.declared.colours.Colour.{Colour}
 use Rattle.hex_board.specs.Positions.{Position, is_empty_at}
 use Rattle.play_out.specs.Fills.{empties_of}
@@ -12,10 +11,9 @@ use Rattle.tree_words.specs.Roots.{rows_of}
 use Rattle.tree_words.specs.Sequence.{seq_of}
 use Rattle.tree_words.specs.Settings.{Setting}
 use Rattle.tree_words.specs.Trees.{IsTreeOf}
-use Rattle.tree_words.specs.declared.roots.Row.{Row}
 use Rattle.tree_words.specs.declared.settings.Knobs.{Knobs}
 use Rattle.tree_words.proofs.Boards.SetNumbers.{set_empties}
-use Rattle.hex_plan.specs.Good.{FollowsPlan, IsGood, IsSearchedFor, IsSequential, IsTurnShape}
+use Rattle.hex_plan.specs.Good.{FollowsPlan, IsSearchedFor, IsSequential, IsTurnShape}
 use Rattle.hex_plan.specs.Reports.{rows_in}
 use Rattle.hex_plan.specs.Seeds.{turn_knobs}
 use Rattle.hex_plan.specs.Turns.{Decision}

@@ -1,5 +1,5 @@
 -- A turn and its text that were handed over, or were not made.
-use Rattle.std.proofs.Common.{◌≡◌, ℕ, List, Option, Some, Ok, Err, Result, refl}
+use Rattle.std.proofs.Common.{◌≡◌, ℕ, List, Ok, Err, Result, refl}
 use Rattle.hex_io.specs.Told.{Same}
 use Rattle.hex_io.proofs.BothLaws.{Both-refl}
 use Rattle.hex_plan.specs.Turns.{Decision}

@@ -1,7 +1,7 @@
 -- The shuffled cells of a board without stones, and the boards after stones on them.
 use Rattle.std.proofs.Common.{◌≡◌, ℕ, zero, suc, ◌+◌, ◌-◌, ◌*◌, ◌<◌, ◌≤◌, ◌&&◌, not, nat_lt, Bool, true, false, cond, List, [], ◌∷◌, ◌++◌, length, take, get_or, Option, Some, None, refl, sym, ap, ◌∙◌, inl, inr, zero-add, add-one, arith}
 use Rattle.std.specs.Prelude.{is_some}
-use Rattle.std.specs.List.{filter, prefix_len, range_with_len, swap}
+use Rattle.std.specs.List.{filter, range_with_len, swap}
 use Rattle.std.proofs.lemmas.Bool.{cases_lt, lt-ltb}
 use Rattle.std.proofs.lemmas.List.{take_more, length-take-le}
 use Rattle.std.proofs.lemmas.List.FromFn.{length-range_with_len, get_or-range_with_len}

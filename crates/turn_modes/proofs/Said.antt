@@ -1,5 +1,5 @@
 -- What the texts of modes sim and bench say of their turns, and that the options determine them.
-use Rattle.std.proofs.Common.{◌≡◌, ℕ, ◌==◌, Bool, true, false, cond, List, [], ◌++◌, codes, Some, refl, sym, ap, ◌∙◌, subst, inl, inr}
+use Rattle.std.proofs.Common.{◌≡◌, ℕ, cond, List, [], ◌++◌, Some, sym, ap, ◌∙◌, subst, inl, inr}
 use Rattle.std.specs.Prelude.{option_map}
 use Rattle.std.proofs.lemmas.Bool.{cases_eq, ne_eqb}
 use Rattle.hex_board.specs.Positions.{Position}

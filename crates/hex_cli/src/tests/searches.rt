@@ -66,15 +66,18 @@ fn four_playouts(rt: HostRuntime) -> Result<(), Fail> {
     Ok(())
 }
 
-/// How many of the words at `first`, a node behind another, `count` times, are not 0.
+/// How many of `count` words are not 0, of which the first is at `first` and each next one is
+/// `apart` words behind the one before.
 fn count_words(words: &[u64], first: usize, apart: usize, count: usize) -> usize {
-    words
-        .iter()
-        .skip(first)
-        .step_by(apart.max(1))
-        .take(count)
-        .filter(|word| **word != 0)
-        .count()
+    let mut at = first;
+    let mut found: usize = 0;
+    for _ in 0..count {
+        if words.get(at).is_some_and(|word| *word != 0) {
+            found = found.saturating_add(1);
+        }
+        at = at.saturating_add(apart);
+    }
+    found
 }
 
 /// How many blocks are linked to the nodes of the block at this word.

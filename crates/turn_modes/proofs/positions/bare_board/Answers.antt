@@ -1,4 +1,4 @@
-use Rattle.std.proofs.Common.{◌≡◌, ap, ◌∙◌}
+use Rattle.std.proofs.Common.{ap, ◌∙◌}
 use Rattle.hex_board.specs.Joined.{winner_of}
 use Rattle.turn_modes.proofs.Orders.{bare_open}
 use Rattle.turn_modes.proofs.positions.bare_board.Goals as goal

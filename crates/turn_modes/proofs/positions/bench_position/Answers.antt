@@ -1,5 +1,4 @@
 use Rattle.std.proofs.Common.{◌≡◌, take, length, subst, ap, ◌∙◌}
-use Rattle.hex_board.specs.Positions.{empty_board}
 use Rattle.play_out.specs.Fills.{ListsEmpties, order_of}
 use Rattle.turn_modes.specs.Positions.{IsPlacedOn, shuffled_cells}
 use Rattle.turn_modes.proofs.Orders.{all_cells}

@@ -1,4 +1,4 @@
-use Rattle.std.proofs.Common.{◌≡◌, ℕ, ◌++◌, ◌-◌, ◌<◌, ◌≤◌, map, length, All}
+use Rattle.std.proofs.Common.{◌≡◌, ◌++◌, ◌-◌, ◌<◌, ◌≤◌, map, length, All}
 use Rattle.play_out.specs.Streams.{stream_at, words_of}
 use Rattle.turn_modes.specs.Schedules.{schedule_of, worker_of}
 use Rattle.turn_modes.proofs.schedules.schedule.Given as goal

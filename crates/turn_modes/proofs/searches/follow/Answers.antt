@@ -1,4 +1,4 @@
-use Rattle.std.proofs.Common.{◌≡◌, Err, ap, ◌∙◌}
+use Rattle.std.proofs.Common.{Err, ap, ◌∙◌}
 use Rattle.turn_modes.proofs.Words.{no_stray}
 use Rattle.turn_modes.proofs.searches.follow.Goals as goal
 

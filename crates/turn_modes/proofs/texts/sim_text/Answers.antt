@@ -1,4 +1,4 @@
-use Rattle.std.proofs.Common.{◌≡◌, List, ℕ, Option, Some, None, sym, ap, ◌∙◌, rules}
+use Rattle.std.proofs.Common.{◌≡◌, Option, Some, None, sym, ap, ◌∙◌, rules}
 use Rattle.std.specs.Prelude.{IsSome, option_map}
 use Rattle.tree_words.specs.Closing.{ClosedTree}
 use Rattle.hex_plan.specs.TurnTexts.{report_of, report_on}
