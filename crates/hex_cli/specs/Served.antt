@@ -4,7 +4,8 @@ use Rattle.std.specs.Prelude.{◌≡◌, ℕ, List}
 use Rattle.hexd_words.specs.Reading.{WellFormed}
 use Rattle.hexd_words.specs.declared.settings.Options.{Options}
 use Rattle.hexd_words.specs.declared.settings.Mode.{Mode}
-use Rattle.hexd_words.specs.declared.settings.Mode.TheVariants.{Htp, Check, Migrate, Audit, Sim, Bench}
+use Rattle.hexd_words.specs.declared.settings.Mode.TheVariants.{Htp, Check, Migrate, Audit}
+use Rattle.hexd_words.specs.declared.settings.Mode.TheVariants.{Sim, Bench}
 use Rattle.hex_plan.specs.Turns.{Decision}
 use Rattle.turn_modes.specs.OneTurn.{IsBenchmark, IsSimulation}
 use Rattle.htp_session.specs.Devices.{DevicesState, stock}

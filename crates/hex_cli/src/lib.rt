@@ -19,19 +19,19 @@
 //! fetches and the turns that the archive took. Each of these turns is good, in the words of
 //! hex_plan. With status 0 each line was answered, up to an answered `quit`, and all was used up.
 //! All whole lines taken were answered before the next read, and no read that was answered follows
-//! an answered `quit`. What fails first ends the run: a count of faults rose with its own status (3,
-//! 4 or 7) and is as before with every other. Status 2 comes only where the words are not well
+//! an answered `quit`. What fails first ends the run: a count of faults rose with its own status
+//! (3, 4 or 7) and is as before with every other. Status 2 comes only where the words are not well
 //! formed, 6 exactly where one byte more than [`INPUT_LIMIT`] was taken, 7 before a `genmove` that
 //! is not refused. With status 5 the lines that were answered used up all that was used up, so no
-//! turn is thrown away. The errors get the one line of the status. Each generated move of a run that
-//! is done is legal and good, its turn stands at its place of the archive, and where it is certified
-//! it wins against every reply (specs/Headline.antt). With one worker and without connections the
-//! words, the bytes read and the files determine what is given (specs/Determined.antt). In the modes
-//! that take their whole input the text is that of the bytes taken (specs/CertTexts.antt,
-//! specs/AuditTexts.antt), with status 1 exactly where it does not accept them. In modes `sim` and
-//! `bench` the archive took one turn, and the text is that of this turn, in the words of turn_modes.
-//! The shelf stands idle in each mode but `htp`, and the archive where the input is taken whole.
-//! [`trace_name`] is the name that `--trace` says.
+//! turn is thrown away. The errors get the one line of the status. Each generated move of a run
+//! that is done is legal and good, its turn stands at its place of the archive, and where it is
+//! certified it wins against every reply (specs/Headline.antt). With one worker and without
+//! connections the words, the bytes read and the files determine what is given
+//! (specs/Determined.antt). In the modes that take their whole input the text is that of the bytes
+//! taken (specs/CertTexts.antt, specs/AuditTexts.antt), with status 1 exactly where it does not
+//! accept them. In modes `sim` and `bench` the archive took one turn, and the text is that of this
+//! turn, in the words of turn_modes. The shelf stands idle in each mode but `htp`, and the archive
+//! where the input is taken whole. [`trace_name`] is the name that `--trace` says.
 //!
 //! **Only tested, or not said.** That memory suffices: a run may always end with status 5, which no
 //! clause ties to a refused growth; and a quiet answer that is dropped then can't be told from
@@ -39,9 +39,9 @@
 //! answers that fault's status all the same. That workers run side by side, which two gates show.
 //! How fast it is.
 //!
-//! **Limits.** An input of [`INPUT_LIMIT`] bytes. In mode `htp` each answer is given before the next
-//! line is looked at, so no memory grows with the input but the game's own; the modes that take
-//! their whole input keep it.
+//! **Limits.** An input of [`INPUT_LIMIT`] bytes. In mode `htp` each answer is given before the
+//! next line is looked at, so no memory grows with the input but the game's own; the modes that
+//! take their whole input keep it.
 #![tactic(auto)]
 
 mod audits;

@@ -31,8 +31,8 @@ use std::thread::Threads;
 /// shelf has the files of `loadsgf`, and the archive takes the turn of each `genmove`. Modes
 /// `check`, `migrate` and `audit` take the whole input and give one text for it: the verdict on a
 /// certificate, the certificate in its latest version, or the verdict on traces of closed trees.
-/// Modes `sim` and `bench` read nothing: they search one position, hand the turn to the archive, and
-/// give one text that says it.
+/// Modes `sim` and `bench` read nothing: they search one position, hand the turn to the archive,
+/// and give one text that says it.
 ///
 /// Searches run in threads of `rt`, and their workers pass the gate; no clause speaks of these.
 ///
@@ -48,10 +48,10 @@ use std::thread::Threads;
 /// | 7 | only where the archive failed | `hexd: archive fault` |
 ///
 /// The limit is [`INPUT_LIMIT`](crate::INPUT_LIMIT). What was given then, in `htp`: with 3 the
-/// answers to all whole lines taken, with 4 a front of the answers, with 5 those to the first lines,
-/// which used up all that was used up, with 6 those to the whole lines up to the limit, and with 7
-/// those to all lines before the `genmove` that met it. In each other mode nothing with 3, 5, 6 and
-/// 7, and a front of its text with 4.
+/// answers to all whole lines taken, with 4 a front of the answers, with 5 those to the first
+/// lines, which used up all that was used up, with 6 those to the whole lines up to the limit, and
+/// with 7 those to all lines before the `genmove` that met it. In each other mode nothing with 3,
+/// 5, 6 and 7, and a front of its text with 4.
 ///
 /// What fails first ends the run: with every status but 3 the link's count of read faults is as
 /// before, with every one but 4 its count of write faults, with every one but 7 the archive's. A

@@ -3,4 +3,3 @@ pub mod Spelling
 pub mod Using
 pub mod Names
 pub mod Legal
-pub mod Plans

@@ -1,7 +1,5 @@
 -- What a fetch uses up, and what uses nothing up.
 use Rattle.std.proofs.Common.{◌≡◌, ◌≤◌, ℕ, length, arith, Bool, true, false, cond, List, [], ◌∷◌, ◌++◌, Option, None, Some, Ok, refl, sym, ap, ◌∙◌, subst, append-nil}
-use Rattle.hex_io.specs.Causes.{CountsFault}
-use Rattle.hex_io.specs.Told.{Same}
 use Rattle.hex_io.specs.Shelves.{Shelved, Fetched, is_failed, Tries, Fetches as FetchesOne}
 use Rattle.hex_io.proofs.BothLaws.{Both-weaker, Both-refl}
 use Rattle.hex_plan.specs.Turns.{Decision}
@@ -10,7 +8,7 @@ use Rattle.hex_engine.specs.declared.answers.Fail.TheVariants.{Over, UnknownComm
 use Rattle.hex_engine.specs.declared.commands.Command.{Command}
 use Rattle.hex_engine.specs.Commands.{command_named}
 use Rattle.htp_line.specs.declared.request.Request.{Request}
-use Rattle.std.proofs.lemmas.Bool.{and_parts, true≢false}
+use Rattle.std.proofs.lemmas.Bool.{and_parts}
 use Rattle.hex_engine.specs.EngineState.{EngineState}
 use Rattle.hex_engine.specs.Supply.{Supply, nothing_left, loads_only, turns_only, and_then}
 use Rattle.hex_engine.specs.declared.files.Loaded.{Loaded}
@@ -22,11 +20,10 @@ use Rattle.hex_engine.specs.Requests.{Reacts, replied, reaction, reaction_by, ob
 use Rattle.hex_engine.specs.declared.answers.Answer.{Answer}
 use Rattle.hex_cells.specs.declared.colours.Colour.{Colour}
 use Rattle.hex_board.specs.Positions.{Position, is_empty_at}
-use Rattle.hex_board.specs.Joined.{winner_of}
 use Rattle.hex_game.specs.Games.{board_of}
 use Rattle.hex_plan.specs.Openings.{may_move}
 use Rattle.hex_plan.proofs.Rooms.{empty_in}
-use Rattle.std.specs.Prelude.{IfOk, Result, Err, not, is_some}
+use Rattle.std.specs.Prelude.{IfOk, Result, Err}
 use Rattle.std.proofs.lemmas.Slice.Eq.{bytes_eq-Decides}
 
 pub unfetched : (t : Option Shelved) → Loading t t nothing_left []
@@ -34,9 +31,6 @@ unfetched t = Both-refl t (λ o n. FetchesLoads o n [] []) (λ x. record { tries
 
 pub nothing_moved : (options : Options) (t : Option (List Decision)) → Moving options t t nothing_left
 nothing_moved options t = record { took = Both-refl t (λ o n. n ≡ o ++ []) (λ x. sym (append-nil x)); good = tt }
-
-pub unmoved : (options : Options) (old new : Option (List Decision)) → Same old new → Moving options old new nothing_left
-unmoved options old new same = record { took = Both-weaker old new (λ o n. n ≡ o) (λ o n. n ≡ o ++ []) (λ o n e. e ∙ sym (append-nil o)) same; good = tt }
 
 fetched_as : (o n : Shelved) (name : List ℕ) (f : Fetched) (what : Loaded) → IsLoadOf f what → Tries o n name f → FetchesLoads o n (loads_only (record { name = name; what = what } ∷ [])).loads []
 fetched_as o n name f what load t = record { tries = is_failed f ∷ []; tried = t.tried; came = (subst (λ u. IsLoadOf u what) t.is load, tt) }
@@ -59,15 +53,6 @@ fetched_in_vain old new name said f h e =
 pub if_ok : {T E : Type 0} (r : Result T E) (P Q : T → Type 0) → ((x : T) → P x → Q x) → IfOk r P → IfOk r Q
 if_ok (Ok x) P Q go h = go x h
 if_ok (Err e) P Q go h = tt
-
--- two facts of a success give a third
-pub if_ok_both : {T E : Type 0} (result : Result T E) (P Q R : T → Type 0) → ((x : T) → P x → Q x → R x) → IfOk result P → IfOk result Q → IfOk result R
-if_ok_both (Ok x) P Q R go p q = go x p q
-if_ok_both (Err e) P Q R go p q = tt
-
--- where there was no fault and the count is as before
-pub no_fault_counted : (before : ℕ) (Fault : Type 0) → (Fault → ⊥) → CountsFault before before Fault
-no_fault_counted before Fault never = record { later = omega arith; rose = λ f. absurd (never f); kept = λ f. refl }
 
 pub uses_nothing : (options : Options) (shelf : Option Shelved) (archive : Option (List Decision)) → Uses options shelf shelf archive archive nothing_left []
 uses_nothing options shelf archive = record { loading = unfetched shelf; moving = nothing_moved options archive }
@@ -94,20 +79,9 @@ moved_reply s colour turn args e f n later =
     ap (moving_by s left) e ∙ ap (λ b. cond b (moving_next s left left.turns colour) (unused left (unchanged s (FailedReply Over)))) f
     ∙ ap (λ b. cond b (unused later (turned s colour turn)) (Err NoTurn)) n
 
-pub wants_reply : (s : EngineState) (colour : Colour) (args : List (List ℕ)) → lone_colour args ≡ Some colour → may_move (board_of s.game) ≡ true → moving s nothing_left args ≡ Err NoTurn
-wants_reply s colour args e f =
-    ap (moving_by s nothing_left) e ∙ ap (λ b. cond b (moving_next s nothing_left [] colour) (unused nothing_left (unchanged s (FailedReply Over)))) f
-
 -- the reaction that this answer gives
 pub reacts_reply : (r : Reaction) (answer : Answer) (after : EngineState) (later : Supply) → Reacts r answer after → unused later r ≡ Ok (record { reply = replied answer; after = after; left = later })
 reacts_reply r answer after later e = ap (unused later) (sym e)
-
-pub nobody_joined : (p : Position) → may_move p ≡ true → winner_of p ≡ None
-nobody_joined p e = nobody (winner_of p) (and_parts _ _ e).0
-  where
-    nobody : (w : Option Colour) → not (is_some w) ≡ true → w ≡ None
-    nobody None e = refl
-    nobody (Some c) e = absurd (cc)
 
 pub has_empty : (p : Position) → may_move p ≡ true → (k : ℕ) × (is_empty_at p k ≡ true)
 has_empty p e = empty_in p (and_parts _ _ e).1
@@ -122,6 +96,3 @@ pub known_reply : (s : EngineState) (left : Supply) (request : Request) (name : 
 unfolding reaction
 known_reply s left request name args command t is are e h =
     ap (λ n. reaction_by s left (command_named n) request.args) (sym is) ∙ ap (λ k. reaction_by s left k request.args) e ∙ ap (obeyed s left command) (sym are) ∙ h
-
-pub if_is_ok : {T E : Type 0} (r : Result T E) (x : T) (P : T → Type 0) → r ≡ Ok x → IfOk r P → P x
-if_is_ok r x P e h = subst (λ q. IfOk q P) e h

@@ -27,8 +27,8 @@ use htp_line::Bytes;
 use search_team::{Gate, search};
 use std::thread::Threads;
 
-/// A turn, with what is told of it: the texts of the commands that ask for it, and the vertex of its
-/// cell.
+/// A turn, with what is told of it: the texts of the commands that ask for it, and the vertex of
+/// its cell.
 #[derive(Drop)]
 struct Prepared {
     turn: Turn,

@@ -1,4 +1,4 @@
-use Rattle.std.proofs.Common.{◌≡◌, refl, inl, sym, ap, ◌∙◌}
+use Rattle.std.proofs.Common.{refl, inl, sym, ap, ◌∙◌}
 use Rattle.hex_engine.specs.Supply.{nothing_left}
 use Rattle.hex_engine.specs.Requests.{obeyed}
 use Rattle.hex_io.proofs.ResultLaws.{on_err}
