@@ -98,10 +98,13 @@ class Games:
     def report(self):
         """Says on standard error what the games took."""
         moves = len(self.seconds)
-        say = lambda line: print(line, file=sys.stderr)
-        say(f"{moves} moves, {sum(self.seconds) / moves:.3f} s each, {max(self.seconds):.3f} s the slowest")
-        say(f"{self.certified} of them certified, with a certificate that a second process accepts")
-        say(f"memory: {self.memory[0]:.1f} MiB after the first move, {self.memory[-1]:.1f} MiB after the last")
+        print(
+            f"{moves} moves, {sum(self.seconds) / moves:.3f} s each, {max(self.seconds):.3f} s the slowest",
+            f"{self.certified} of them certified, with a certificate that a second process accepts",
+            f"memory: {self.memory[0]:.1f} MiB after the first move, {self.memory[-1]:.1f} MiB after the last",
+            sep="\n",
+            file=sys.stderr,
+        )
 
 
 def main():
