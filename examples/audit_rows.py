@@ -29,7 +29,7 @@ def session(words, lines):
     """The trace of a session."""
     with tempfile.TemporaryDirectory() as folder:
         trace = os.path.join(folder, "trace")
-        command = [HEXD, "htp", *words, "--trace", trace]
+        command = [HEXD, "htp", "--hsearch", "off", *words, "--trace", trace]
         done = subprocess.run(command, input=lines, capture_output=True)
         expect("status of " + " ".join(words), done.returncode, 0)
         with open(trace, "rb") as file:

@@ -1,27 +1,122 @@
 #!/usr/bin/env python3
-"""hexd plays a game against itself: `selfplay.py [SIZE [PLAYOUTS]]`, 11 and 10,000 where they aren't said."""
+"""hexd plays games against itself, and a second process checks each certificate of a win.
 
+    examples/selfplay.py [SIZE [PLAYOUTS [MOVES [FOLDER [WORD..]]]]]
+
+The size is 11 and the playouts are 10,000 where they aren't said. It plays to the end of the first game, or game after
+game in one session until so many MOVES were made. After each `genmove` it asks `wincert`: where the move was certified,
+the certificate is kept in FOLDER, or in one that is thrown away, and `bin/hexd check` has to say yes of it, for this
+board and this player. Further words go to hexd, as `--hsearch off`.
+
+It prints each move, and then on standard error how many moves and certificates there were, how long a move took, and the
+memory that the session held after its first move and after its last. It ends with 1 where a certificate is refused.
+"""
+
+import subprocess
 import sys
+import tempfile
 import time
+from pathlib import Path
 
-from referee import Engine
+from referee import PROGRAM, Engine
+
+COLOURS = ("black", "white")
+
+
+def memory_of(process):
+    """The memory that a process holds, in MiB."""
+    for line in Path(f"/proc/{process.pid}/status").read_text().splitlines():
+        if line.startswith("VmRSS:"):
+            return int(line.split()[1]) / 1024
+    return 0.0
+
+
+def stones_of(picture):
+    """The vertices of the stones in an answer of `showboard`, in rising order of cells, for each colour."""
+    found = {"B": [], "W": []}
+    for line in picture.splitlines()[2:]:
+        row, *cells = line.split()
+        for column, cell in enumerate(cells):
+            if cell in found:
+                found[cell].append("abcdefghijk"[column] + row)
+    return found["B"], found["W"]
+
+
+def fault_of(certificate, size, stones, colour):
+    """What is wrong with a certificate, if anything: its board or player, or that a second process refuses it."""
+    head = ["hexcert 1", f"size {size}", f"player {colour}"]
+    head += [" ".join([name, *cells]) for name, cells in zip(COLOURS, stones)]
+    if certificate.splitlines()[: len(head)] != head:
+        return "it is of another board or player"
+    done = subprocess.run([str(PROGRAM), "check"], input=certificate, capture_output=True, text=True)
+    if (done.returncode, done.stdout) not in [(0, "yes full\n"), (0, "yes semi\n")]:
+        return f"status {done.returncode}, {done.stdout.rstrip()!r}"
+    return None
+
+
+class Games:
+    """Games in one session, with what came of them."""
+
+    def __init__(self, size, playouts, folder, words):
+        self.size, self.folder = size, Path(folder)
+        self.engine = Engine("--size", size, "--playouts", playouts, *words)
+        self.seconds, self.certified, self.memory = [], 0, []
+
+    def move(self, colour):
+        """Makes a move; False where its certificate is refused."""
+        stones = stones_of(self.engine.ask("showboard")[1])
+        begun = time.monotonic()
+        done, vertex = self.engine.ask(f"genmove {colour}")
+        self.seconds.append(time.monotonic() - begun)
+        self.memory.append(memory_of(self.engine.process))
+        if not done:
+            print(f"{colour}: {vertex}")
+            return False
+        certified, text = self.engine.ask("wincert")
+        print(f"{colour} {vertex}{', certified' if certified else ''}")
+        if not certified:
+            return True
+        self.certified += 1
+        # An answer ends with one line feed less than the certificate has.
+        (self.folder / f"{len(self.seconds)}.cert").write_text(text + "\n")
+        fault = fault_of(text + "\n", self.size, stones, colour)
+        if fault:
+            print(f"the certificate of move {len(self.seconds)} is refused: {fault}")
+        return fault is None
+
+    def play(self):
+        """Plays a game to its end; False where a move fails."""
+        self.engine.ask("clear_board")
+        turn = 0
+        while self.engine.ask("winner")[1] == "none":
+            if not self.move(COLOURS[turn % 2]):
+                return False
+            turn += 1
+        print(f"winner: {self.engine.ask('winner')[1]}")
+        return True
+
+    def report(self):
+        """Says on standard error what the games took."""
+        moves = len(self.seconds)
+        print(
+            f"{moves} moves, {sum(self.seconds) / moves:.3f} s each, {max(self.seconds):.3f} s the slowest",
+            f"{self.certified} of them certified, with a certificate that a second process accepts",
+            f"memory: {self.memory[0]:.1f} MiB after the first move, {self.memory[-1]:.1f} MiB after the last",
+            sep="\n",
+            file=sys.stderr,
+        )
 
 
 def main():
-    size, playouts = (sys.argv[1:] + ["11", "10000"][len(sys.argv) - 1:])[:2]
-    engine = Engine("--size", size, "--playouts", playouts)
-    moves, begun = 0, time.monotonic()
-    while engine.ask("winner")[1] == "none":
-        colour = ["black", "white"][moves % 2]
-        done, vertex = engine.ask(f"genmove {colour}")
-        if not done:
-            print(f"{colour}: {vertex}")
-            return 1
-        print(f"{colour} {vertex}")
-        moves += 1
-    print(f"winner: {engine.ask('winner')[1]}")
-    print(f"{moves} moves, {(time.monotonic() - begun) / moves:.3f} s each", file=sys.stderr)
-    return engine.close()
+    given = sys.argv[1:]
+    size, playouts, moves = (given + ["11", "10000", "1"][len(given) :])[:3]
+    with tempfile.TemporaryDirectory() as spare:
+        games = Games(size, playouts, given[3] if len(given) > 3 else spare, given[4:])
+        while len(games.seconds) < int(moves):
+            if not games.play():
+                return 1
+    games.report()
+    return games.engine.close()
 
 
 if __name__ == "__main__":
