@@ -51,6 +51,19 @@ def root_children(trace):
     return [(words[n + 2] >> 32, words[n + 2] % 2**32, words[n + 3] >> 32, words[n + 3] % 2**32) for n in nodes]
 
 
+def counts(trace):
+    """How many records the first tree has, the visits of its root, and its linked blocks beside the root's."""
+    playouts, count = struct.unpack_from("<Q", trace, 80)[0], struct.unpack_from("<Q", trace, 120)[0]
+    words = struct.unpack_from("<%dQ" % count, trace, FRONT)
+    blocks, nodes = 0, [playouts + 2]
+    while nodes:
+        block = words[nodes.pop() + 1]
+        if block:
+            blocks += 1
+            nodes += [block + 4 + 4 * place for place in range(words[block + 3])]
+    return sum(word != 0 for word in words[2 : playouts + 2]), words[playouts + 4] >> 32, blocks - 1
+
+
 def changed(trace, at, byte):
     return trace[:at] + bytes([byte]) + trace[at + 1 :]
 
@@ -78,7 +91,12 @@ def main():
     forced = session(["--playouts", "4"], b"boardsize 2\nplay b a2\nplay w b2\ngenmove b\n")
     expect("a forced win", root_children(forced), [(2, 2, 2, 2), (2, 2, 2, 2)])
 
+    # An area of 1,024 words has room for the root's block, of 488, and one more, of 484.
+    full = session(["--words", "1024", "--workers", "8"], b"genmove b\n")
+    expect("a full area", counts(full), (10_000, 10_000, 1))
+
     audit("no bytes", b"", b"yes 0\n")
+    audit("a full area", full, b"yes 1\n")
     audit("three trees", one + four + forced, b"yes 3\n")
     audit("one tree twice", one + one, b"yes 2\n")
     audit("another result", changed(one, RECORD_AT, 22), b"no 0 3\n")
