@@ -3,7 +3,9 @@ use Rattle.std.specs.Prelude.{ℕ, ◌+◌, ◌*◌, ◌/◌, ◌%◌, ◌^◌, 
 use Rattle.hex_cells.specs.declared.colours.Colour.{Colour}
 use Rattle.hex_cells.specs.declared.colours.Colour.TheVariants.{Black, White}
 use Rattle.tree_words.specs.Settings.{Setting}
-use Rattle.tree_words.specs.declared.layout.TheConstants.{NEXT_AT, TICKET_AT, RECORDS_AT, FRONT_WORDS, LINK_WORD, TALLY_WORD, SEEN_WORD, LOW_EMPTIES_WORD, HIGH_EMPTIES_WORD, COUNT_WORD, HIGH_EMPTIES_SHIFT, PLACE_UNIT, VISITS_SHIFT, RECORD_UNIT}
+use Rattle.tree_words.specs.declared.layout.TheConstants.{
+  NEXT_AT, TICKET_AT, RECORDS_AT, FRONT_WORDS, LINK_WORD, TALLY_WORD, SEEN_WORD, LOW_EMPTIES_WORD,
+  HIGH_EMPTIES_WORD, COUNT_WORD, HIGH_EMPTIES_SHIFT, PLACE_UNIT, VISITS_SHIFT, RECORD_UNIT}
 use Rattle.tree_words.specs.declared.types.Node.{Node}
 use Rattle.tree_words.specs.declared.types.Block.{Block}
 
