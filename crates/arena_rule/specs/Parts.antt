@@ -2,13 +2,44 @@
 -- spent view has nothing, so that it adds nothing to a sum; what is said of each view holds of it
 -- too.
 use Rattle.std.specs.Prelude.{
-  ◌≡◌, ◌≢◌, ℕ, ◌+◌, ◌*◌, ◌<◌, ◌≤◌, ◌==◌, ◌&&◌, nat_lt, nat_le, if◌then◌else◌, Bool, true, List,
-  length, sum_by, count_by, slice_index, Contains, Option, Some, None}
+  ◌≡◌,
+  ◌≢◌,
+  ℕ,
+  ◌+◌,
+  ◌*◌,
+  ◌<◌,
+  ◌≤◌,
+  ◌==◌,
+  ◌&&◌,
+  nat_lt,
+  nat_le,
+  if◌then◌else◌,
+  Bool,
+  true,
+  List,
+  length,
+  sum_by,
+  count_by,
+  slice_index,
+  Contains,
+  Option,
+  Some,
+  None,
+}
 use mathlib.Core.Option.{some}
 use lib.ListN.{get_elem?}
 use Rattle.tree_words.specs.Settings.{Setting}
 use Rattle.tree_words.specs.Words.{
-  root_at, area_at, end_of, next_in, ticket_in, record_in, leaf_in, winner_in, link_in}
+  root_at,
+  area_at,
+  end_of,
+  next_in,
+  ticket_in,
+  record_in,
+  leaf_in,
+  winner_in,
+  link_in,
+}
 use Rattle.tree_words.specs.Blocks.{LinkedBlock, one_if, is_node, cover}
 use Rattle.tree_words.specs.Paths.{node_state}
 use Rattle.tree_words.specs.Complete.{Linked, HaveNodes}

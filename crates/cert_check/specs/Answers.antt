@@ -1,14 +1,38 @@
 -- What the checker's answers mean: reasons and verdicts.
 use Rattle.std.specs.Prelude.{ℕ}
 use Rattle.win_cert.specs.Reasons.{
-  Reason, bad_reference, wrong_colour, not_neighbours, no_common_middle, carriers_meet,
-  end_in_carrier, middle_kind, ends_differ, common_cell, not_edges, bad_stone, wrong_scope,
-  not_joined}
+  Reason,
+  bad_reference,
+  wrong_colour,
+  not_neighbours,
+  no_common_middle,
+  carriers_meet,
+  end_in_carrier,
+  middle_kind,
+  ends_differ,
+  common_cell,
+  not_edges,
+  bad_stone,
+  wrong_scope,
+  not_joined,
+}
 use Rattle.win_cert.specs.Verdicts as win_cert
 use Rattle.cert_check.specs.declared.verdicts.Why.{Why}
 use Rattle.cert_check.specs.declared.verdicts.Why.TheVariants.{
-  BadReference, WrongColour, NotNeighbours, NoCommonMiddle, CarriersMeet, EndInCarrier, MiddleKind,
-  EndsDiffer, CommonCell, NotEdges, BadStone, WrongScope, NotJoined}
+  BadReference,
+  WrongColour,
+  NotNeighbours,
+  NoCommonMiddle,
+  CarriersMeet,
+  EndInCarrier,
+  MiddleKind,
+  EndsDiffer,
+  CommonCell,
+  NotEdges,
+  BadStone,
+  WrongScope,
+  NotJoined,
+}
 use Rattle.cert_check.specs.declared.verdicts.Verdict.{Verdict}
 use Rattle.cert_check.specs.declared.verdicts.Verdict.TheVariants.{Yes, No}
 

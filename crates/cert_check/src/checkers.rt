@@ -139,7 +139,8 @@ impl Checker {
 
     /// Whether the entries with these numbers are entries of the player's edges.
     pub fn are_of_edges(&self, numbers: &[u32]) -> bool
-        ensures { result ≡ list_all (is_edge_entry self.now.base) (entries_at self.now numbers.now) }
+        ensures { result
+            ≡ list_all (is_edge_entry self.now.base) (entries_at self.now numbers.now) }
     {
         'numbers: for &number in numbers {
             if let Some(given) = self.entry(number) {
@@ -174,7 +175,8 @@ impl Checker {
     // The cells that are in all these carriers.
     fn common(&self, numbers: &[u32]) -> CellSet
         ensures { (k : ℕ) → has result k
-            ≡ (nat_lt k MOST_CELLS && list_all (λ a. has a.carrier k) (entries_at self.now numbers.now)) }
+            ≡ (nat_lt k MOST_CELLS
+            && list_all (λ a. has a.carrier k) (entries_at self.now numbers.now)) }
     {
         let mut cells = CellSet::of_bits((1u128 << MOST_CELLS) - 1);
         'numbers: for &number in numbers {
@@ -187,7 +189,8 @@ impl Checker {
 
     /// Whether the entries with these numbers have all the elements of this one.
     pub fn have_ends_of(&self, first: &Given, numbers: &[u32]) -> bool
-        ensures { result ≡ list_all (same_ends (entry_of first.now)) (entries_at self.now numbers.now) }
+        ensures { result
+            ≡ list_all (same_ends (entry_of first.now)) (entries_at self.now numbers.now) }
     {
         'numbers: for &number in numbers {
             if let Some(given) = self.entry(number) {

@@ -1,8 +1,23 @@
 -- The index of a store: for each pair and kind the numbers of its entries. Only private clauses
 -- cite this.
 use Rattle.std.specs.Prelude.{
-  ◌≡◌, ℕ, ◌+◌, ◌-◌, ◌*◌, ◌/◌, ◌<◌, ◌≤◌, true, List, Some, slice_index, slice_index_or, All, length,
-  sum_by}
+  ◌≡◌,
+  ℕ,
+  ◌+◌,
+  ◌-◌,
+  ◌*◌,
+  ◌/◌,
+  ◌<◌,
+  ◌≤◌,
+  true,
+  List,
+  Some,
+  slice_index,
+  slice_index_or,
+  All,
+  length,
+  sum_by,
+}
 use Rattle.std.specs.List.{slice_get}
 use Rattle.hex_cells.specs.Sets.{has}
 use Rattle.hex_cells.specs.declared.colours.Colour.{Colour}
@@ -50,7 +65,8 @@ pub record IsSmall (e : PlayerBoard) : Type 0 where
 -- what a store keeps: the board and the player of its elements, sound entries, the two tables,
 -- and room for all entries
 pub record IsStored
-    (board : Position) (player : Colour) (d : StoreData) (full semi : List Held) (room : ℕ) : Type 0 where
+    (board : Position) (player : Colour) (d : StoreData) (full semi : List Held) (room : ℕ)
+    : Type 0 where
   pub same_board : d.elements.board ≡ board
   pub same_player : d.elements.player ≡ player
   pub small : IsSmall d.elements

@@ -5,7 +5,12 @@ ghost use Rattle.hex_board.specs.Elements.{element_count};
 ghost use Rattle.hex_board.specs.Places.{Near};
 ghost use Rattle.conn_store.specs.Entries.{AllEmpty, IsValid, Misses};
 ghost use Rattle.conn_store.specs.Rules.{
-    AndRule, AreWays, IsChain, IsEntry, OrRule, adjacent_entry,
+  AndRule,
+  AreWays,
+  IsChain,
+  IsEntry,
+  OrRule,
+  adjacent_entry,
 };
 ghost use Rattle.conn_store.specs.Stores.{CanAnd, CanOr, GivesAnd, MayBeAdded};
 

@@ -8,7 +8,7 @@ use Rattle.htp_line.specs.Answering.{success}
 use Rattle.htp_line.specs.Reading.{reading}
 use Rattle.htp_line.specs.declared.request.Parsed.{Parsed}
 use Rattle.htp_line.specs.declared.request.Parsed.TheVariants.{Blank, Bare, Request}
-use Rattle.htp_line.specs.Splitting.{kept}
+use Rattle.htp_line.specs.Splitting.{kept_line}
 use Rattle.hex_cells.specs.declared.colours.Colour.{Colour}
 use Rattle.hex_cells.specs.Vertices.{vertex_of}
 use Rattle.hex_game.specs.Games.{board_of}
@@ -125,7 +125,7 @@ step_goes_if true options turns a line h o = ⊎_elim
 
 step_goes : (options : Options) (turns : List Decision) (a : TalkState) (raw : List ℕ) → Holds options turns a → (with_line a raw).at.options ≡ a.at.options → Goes options turns a (with_line a raw)
 unfolding with_line
-step_goes options turns a raw h o = step_goes_if (goes_on a.ending) options turns a (kept raw) h o
+step_goes options turns a raw h o = step_goes_if (goes_on a.ending) options turns a (kept_line raw) h o
 
 -- ---- a talk
 

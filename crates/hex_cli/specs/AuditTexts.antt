@@ -1,7 +1,7 @@
 -- What mode audit answers.
 use Rattle.std.specs.Prelude.{◌≡◌, ℕ, Bool, true, false, List, ◌++◌, codes}
 use Rattle.std.specs.Fmt.{decimal}
-use Rattle.trace_audit.specs.Numbers.{number_of}
+use Rattle.trace_audit.specs.Numbers.{flaw_number}
 use Rattle.trace_audit.specs.Verdicts.{IsVerdictOn}
 use Rattle.trace_audit.specs.declared.types.Audit.{Audit}
 use Rattle.trace_audit.specs.declared.types.Audit.TheVariants.{Yes, No}
@@ -10,7 +10,7 @@ use Rattle.trace_audit.specs.declared.types.Audit.TheVariants.{Yes, No}
 abbrev pub audit_text : Audit → List ℕ
 audit_text (Yes trees) = codes "yes " ++ (decimal trees ++ codes "\n")
 audit_text (No tree why) = codes "no "
-    ++ (decimal tree ++ (codes " " ++ (decimal (number_of why) ++ codes "\n")))
+    ++ (decimal tree ++ (codes " " ++ (decimal (flaw_number why) ++ codes "\n")))
 
 -- whether an audit is yes
 abbrev pub is_clean : Audit → Bool

@@ -119,7 +119,8 @@ impl Command {
 pub fn command_list(alloc: Global) -> Result<Vec<u8>, AllocError>
     ensures { IfOk result (λ text. text.items ≡ all_names) }
 {
-    b"boardsize\nclear_board\ngenmove\nknown_command\nlist_commands\nloadsgf\nmustplay\nname\nplay\nprintsgf\nprotocol_version\nquit\nsearch-report\nshowboard\nundo\nversion\nwincert\nwinner".to_vec(
-        alloc,
-    )
+    b"boardsize\nclear_board\ngenmove\nknown_command\nlist_commands\nloadsgf\nmustplay\nname\n\
+    play\nprintsgf\nprotocol_version\nquit\nsearch-report\nshowboard\nundo\nversion\n\
+    wincert\nwinner"
+        .to_vec(alloc)
 }

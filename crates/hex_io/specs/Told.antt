@@ -49,4 +49,5 @@ ReadsBytes old new result buf =
 -- what a write did: it gave the first n bytes, or at a fault nothing
 abbrev pub WritesBytes : {E : Type 0} → Option Told → Option Told → Result ℕ E → List ℕ → Type 0
 WritesBytes old new result bytes =
-    MatchResult result (λ n. Both old new (λ o t. GivesBytes o t (take n bytes))) (λ _. Same old new)
+    MatchResult result (λ n. Both old new (λ o t. GivesBytes o t (take n bytes)))
+    (λ _. Same old new)

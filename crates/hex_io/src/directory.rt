@@ -8,8 +8,8 @@ use std::fs::{self, File};
 use std::io::{self, ErrorKind, Read};
 use std::rt::HostRuntime;
 
-/// The files of the system, by path: one that doesn't exist is missing. What is no regular file is a
-/// counted fault, and so is any other failure to open or read.
+/// The files of the system, by path: one that doesn't exist is missing. What is no regular file is
+/// a counted fault, and so is any other failure to open or read.
 #[derive(Drop)]
 pub struct DirShelf<'a> {
     rt: &'a HostRuntime,

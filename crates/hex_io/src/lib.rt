@@ -2,12 +2,12 @@
 //!
 //! **What it is.** A *link* is a pair of streams: bytes are read from it and bytes are given to it.
 //! [`Link`] is the trait; [`MemLink`] is a link in memory, [`StdLink`] is standard input and
-//! output, [`ErrLink`] is standard error, [`FileLink`] writes a file. What a link *tells* are the bytes still to come, those
-//! taken and those given, and an *ask* for each read that was answered: how much was taken and
-//! given when it began. A *shelf* has files by name: [`Shelf`] is the trait, [`MemShelf`] is a
-//! shelf in memory, and [`DirShelf`] has the files of the system. It tells its files, and of each
-//! fetch whether it was at fault. A *count* of faults is known of every link and shelf, whether it
-//! tells or not. A [`Word`] is one word of a command line.
+//! output, [`ErrLink`] is standard error, [`FileLink`] writes a file. What a link *tells* are the
+//! bytes still to come, those taken and those given, and an *ask* for each read that was answered:
+//! how much was taken and given when it began. A *shelf* has files by name: [`Shelf`] is the trait,
+//! [`MemShelf`] is a shelf in memory, and [`DirShelf`] has the files of the system. It tells its
+//! files, and of each fetch whether it was at fault. A *count* of faults is known of every link and
+//! shelf, whether it tells or not. A [`Word`] is one word of a command line.
 //!
 //! **A caller** is generic over `L: Link`, reads pieces into a buffer of its own and gives each
 //! answer whole:

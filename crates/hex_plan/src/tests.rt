@@ -80,7 +80,9 @@ fn black_wins_the_board_of_one_cell(rt: HostRuntime) -> Result<(), Fail> {
     assert_eq!(rt; mustplay.as_slice(), b"win a1".as_slice());
     assert_eq!(rt;
         wincert.as_slice(),
-        b"hexcert 1\nsize 1\nplayer black\nblack\nwhite\nadj edge1 a1\nadj edge2 a1\nkey 0 1\nsemi 2".as_slice()
+        b"hexcert 1\nsize 1\nplayer black\nblack\nwhite\nadj edge1 a1\nadj edge2 a1\n\
+        key 0 1\nsemi 2"
+            .as_slice()
     );
     Ok(())
 }

@@ -4,7 +4,13 @@ use Rattle.std.specs.Prelude.{None, length, codes}
 use Rattle.std.specs.Str.Parse.{IsNumeral, digits_value}
 use Rattle.hexd_words.specs.declared.settings.Mode.{Mode}
 use Rattle.hexd_words.specs.declared.settings.Mode.TheVariants.{
-  Htp, Check, Migrate, Audit, Sim, Bench}
+  Htp,
+  Check,
+  Migrate,
+  Audit,
+  Sim,
+  Bench,
+}
 use Rattle.hexd_words.specs.declared.settings.Options.{Options}
 
 abbrev pub TextBytes : Type 0

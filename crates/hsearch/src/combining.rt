@@ -1,7 +1,17 @@
 //! What follows from one entry and those before it.
 
 ghost use Rattle.std.specs.Prelude.{
-    ◌≡◌, ℕ, ◌+◌, ◌<◌, ◌≤◌, ◌∷◌, [], ◌↔◌, IsTrue, length, slice_index,
+  ◌≡◌,
+  ℕ,
+  ◌+◌,
+  ◌<◌,
+  ◌≤◌,
+  ◌∷◌,
+  [],
+  ◌↔◌,
+  IsTrue,
+  length,
+  slice_index,
 };
 ghost use Rattle.hex_board.specs.Elements.{element_count};
 ghost use Rattle.hsearch.specs.Closed.{HoldsEdge};
@@ -72,7 +82,8 @@ fn join_over(store: &mut Store, number: u32, u: u8)
     requires number { number < length store.old.entries }
     requires middle { u < element_count store.old.elements }
     ensures extends { Extends store.old store.new }
-    ensures joined { (i : ℕ) → i < length store.old.entries → IsAndSettledOver store.new number i u }
+    ensures joined { (i : ℕ) → i < length store.old.entries
+        → IsAndSettledOver store.new number i u }
 {
     if holds_edge(store.elements(), u) {
         return;
@@ -94,7 +105,8 @@ fn join_to(store: &mut Store, number: u32, u: u8, y: u8)
     requires end { y < element_count store.old.elements }
     requires apart { ¬ (u ≡ y) }
     ensures extends { Extends store.old store.new }
-    ensures joined { (i : ℕ) → i < length store.old.entries → IsAndSettledTo store.new number i u y }
+    ensures joined { (i : ℕ) → i < length store.old.entries
+        → IsAndSettledTo store.new number i u y }
 {
     let held = store.held(u.min(y), u.max(y), Kind::Full);
     'others: for place in 0..held.count as usize {
@@ -122,7 +134,8 @@ fn choose(store: &mut Store, number: u32, x: u8, y: u8)
     requires elements { y < element_count store.old.elements }
     requires pair { IsOfPair store.old number x y }
     ensures extends { Extends store.old store.new }
-    ensures twos { (i : ℕ) → i < length store.old.entries → IsOrSettled store.new (number ∷ i ∷ []) }
+    ensures twos { (i : ℕ) → i < length store.old.entries
+        → IsOrSettled store.new (number ∷ i ∷ []) }
     ensures threes { (i j : ℕ) → i < length store.old.entries → j < length store.old.entries
         → IsOrSettled store.new (number ∷ i ∷ j ∷ []) }
 {

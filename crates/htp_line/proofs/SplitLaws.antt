@@ -6,15 +6,15 @@ use Rattle.std.proofs.lemmas.Bool.Decides.{nat_tests}
 use Rattle.std.proofs.lemmas.List.{take_more, take_all, get_or-take}
 use Rattle.std.proofs.lemmas.List.Sums.{fails_before_first, passes_at_first}
 use Rattle.htp_line.specs.Lines.{is_feed, rest}
-use Rattle.htp_line.specs.Splitting.{Held, kept, grown, so_far, StandsAfter, Advances}
+use Rattle.htp_line.specs.Splitting.{Held, kept_line, grown, so_far, StandsAfter, Advances}
 use Rattle.htp_line.proofs.LinesLaws.{NoFeed, whole_more, whole_ended}
 
-grown-kept_if : (b : Bool) (raw more : List ℕ) → leb (length raw) 4096 ≡ b → grown (cond b (Some raw) None) more ≡ kept (raw ++ more)
+grown-kept_if : (b : Bool) (raw more : List ℕ) → leb (length raw) 4096 ≡ b → grown (cond b (Some raw) None) more ≡ kept_line (raw ++ more)
 grown-kept_if true raw more e = refl
 grown-kept_if false raw more e = let len = length-append raw more in grind (arith, nat_tests)
 
 -- what is kept of more is more of what is kept
-pub grown-kept : (raw more : List ℕ) → grown (kept raw) more ≡ kept (raw ++ more)
+pub grown-kept : (raw more : List ℕ) → grown (kept_line raw) more ≡ kept_line (raw ++ more)
 grown-kept raw more = grown-kept_if (leb (length raw) 4096) raw more refl
 
 -- more of the line came
@@ -22,7 +22,7 @@ pub goes_on : (h new : Held) (seen q : List ℕ) → StandsAfter h seen → new 
 goes_on h new seen q stands e none =
     let more = whole_more seen q none in
     rw e (record {
-      stands = ap (λ o. grown o q) stands ∙ grown-kept (rest seen) q ∙ ap kept (sym more.1);
+      stands = ap (λ o. grown o q) stands ∙ grown-kept (rest seen) q ∙ ap kept_line (sym more.1);
       ended = more.0;
     })
 
@@ -31,7 +31,7 @@ pub goes_past : (h new : Held) (seen q : List ℕ) → StandsAfter h seen → ne
 goes_past h new seen q stands e none =
     let more = whole_ended seen q none in
     rw e (record {
-      stands = ap kept (sym more.1);
+      stands = ap kept_line (sym more.1);
       ended = (rest seen ++ q, more.0, ap (λ o. grown o q) stands ∙ grown-kept (rest seen) q);
     })
 

@@ -6,13 +6,13 @@ use Rattle.htp_line.specs.Lines.{is_feed, whole, rest}
 use Rattle.htp_line.specs.declared.splitter.TheConstants.{LINE_LIMIT}
 
 -- a line as far as it is kept: all of it, or nothing where it has more than LINE_LIMIT bytes
-abbrev pub kept : List ℕ → Option (List ℕ)
-kept raw = if nat_le (length raw) LINE_LIMIT then Some raw else None
+abbrev pub kept_line : List ℕ → Option (List ℕ)
+kept_line raw = if nat_le (length raw) LINE_LIMIT then Some raw else None
 
 -- what is kept of a line with more bytes at its end
 abbrev pub grown : Option (List ℕ) → List ℕ → Option (List ℕ)
 grown None more = None
-grown (Some raw) more = kept (raw ++ more)
+grown (Some raw) more = kept_line (raw ++ more)
 
 -- the line in hand as far as it is kept, and whether it ended
 pub record Held : Type 0 where
@@ -44,12 +44,12 @@ after_end h = record { line = so_far h; ended = is_some_byte (so_far h) }
 
 -- the splitter holds what stands after the last line feed of this text
 abbrev pub StandsAfter : Held → List ℕ → Type 0
-StandsAfter h text = so_far h ≡ kept (rest text)
+StandsAfter h text = so_far h ≡ kept_line (rest text)
 
 -- where a line ended, it is the one more
 abbrev pub Ends : Bool → Option (List ℕ) → List (List ℕ) → List (List ℕ) → Type 0
 Ends false line old new = new ≡ old
-Ends true line old new = (raw : List ℕ) × (new ≡ old ++ raw ∷ []) × (line ≡ kept raw)
+Ends true line old new = (raw : List ℕ) × (new ≡ old ++ raw ∷ []) × (line ≡ kept_line raw)
 
 -- from a text on to the same with these bytes at its end
 pub record Advances (h : Held) (seen front : List ℕ) : Type 0 where

@@ -6,7 +6,7 @@ use Rattle.hex_engine.specs.declared.options.Options.{Options}
 use Rattle.hex_engine.specs.EngineState.{EngineState, opening}
 use Rattle.hex_engine.specs.Supply.{Supply, nothing_left, and_then}
 use Rattle.htp_session.specs.Stocks.{ShelfAndArchive, UsesUp}
-use Rattle.htp_session.specs.Sessions.{Stands, Does, DoesSome, talk_to, Fed, BrokeOff, GaveUp, HeldBack, AnsweredLast, BrokeOffLast, StopsBeforeLast, LastIsShort}
+use Rattle.htp_session.specs.Sessions.{IsAfter, Does, DoesSome, talk_to, Fed, BrokeOff, GaveUp, HeldBack, AnsweredLast, BrokeOffLast, StopsBeforeLast, LastIsShort}
 use Rattle.htp_session.specs.Endings.{Outcome, Conversed, IsInVain}
 use Rattle.htp_session.specs.declared.stops.Stop.TheVariants as stop
 use Rattle.htp_session.proofs.StockLaws.{and_then_nothing, and_then_assoc, uses_then, uses_nothing}
@@ -17,17 +17,17 @@ use Rattle.htp_session.proofs.EndLaws.{Kept, EndsBy, kept_taking, kept_nothing, 
 pub record Goes (start : EngineState) (a b : ShelfAndArchive) (x y : Option Told) (engine : EngineState) (held : Held) (seen : List ℕ) : Type 0 where
   pub used : Supply
   pub uses : UsesUp start.options a b used []
-  pub stands : (later : Supply) → Stands start (and_then used later) later engine held seen
+  pub stands : (later : Supply) → IsAfter start (and_then used later) later engine held seen
   pub kept : (later : Supply) → Kept start (and_then used later) x y seen (talk_to start (and_then used later) seen).text
 
 -- the same, where a read took this piece more, which is not answered yet
 pub record Took (start : EngineState) (a b : ShelfAndArchive) (x y : Option Told) (engine : EngineState) (held : Held) (seen piece : List ℕ) : Type 0 where
   pub used : Supply
   pub uses : UsesUp start.options a b used []
-  pub stands : (later : Supply) → Stands start (and_then used later) later engine held seen
+  pub stands : (later : Supply) → IsAfter start (and_then used later) later engine held seen
   pub kept : (later : Supply) → Kept start (and_then used later) x y (seen ++ piece) (talk_to start (and_then used later) seen).text
 
-pub goes_nothing : (start : EngineState) (a : ShelfAndArchive) (x : Option Told) (engine : EngineState) (held : Held) → ((later : Supply) → Stands start later later engine held []) → Goes start a a x x engine held []
+pub goes_nothing : (start : EngineState) (a : ShelfAndArchive) (x : Option Told) (engine : EngineState) (held : Held) → ((later : Supply) → IsAfter start later later engine held []) → Goes start a a x x engine held []
 goes_nothing start a x engine held stands = record {
   used = nothing_left;
   uses = uses_nothing start.options a;
@@ -56,7 +56,7 @@ goes_on_feeding start a b c x y z engine after held then seen piece g d =
     record {
       used = and_then g.used d.used;
       uses = uses_then start.options a b c g.used d.used [] g.uses (at nothing_left).0;
-      stands = λ later. subst (λ l. Stands start l later after then (seen ++ piece)) (sym (and_then_assoc g.used d.used later)) (at later).1.moved;
+      stands = λ later. subst (λ l. IsAfter start l later after then (seen ++ piece)) (sym (and_then_assoc g.used d.used later)) (at later).1.moved;
       kept = λ later. subst (λ l. Kept start l x z (seen ++ piece) (talk_to start l (seen ++ piece)).text) (sym (and_then_assoc g.used d.used later))
           (feed_on start (all_of g.used d.used later) x y z seen piece (g.kept (and_then d.used later)) (at later).1.answered);
     }

@@ -3,7 +3,7 @@ use Rattle.std.proofs.Common.{Ok, Err, ◌≡◌, ◌≢◌, ℕ, ◌+◌, ◌�
 use Rattle.std.proofs.Math.Seq.{take-append_seam}
 use Rattle.hex_io.specs.Told.{Told}
 use Rattle.htp_line.specs.Lines.{whole, rest, lines, unless_empty}
-use Rattle.htp_line.specs.Splitting.{kept}
+use Rattle.htp_line.specs.Splitting.{kept_line}
 use Rattle.hex_engine.specs.EngineState.{EngineState}
 use Rattle.hex_engine.specs.Supply.{Supply, nothing_left}
 use Rattle.hex_engine.specs.Replies.{Missing}

@@ -6,7 +6,7 @@ use Rattle.std.proofs.lemmas.List.{take-append-le}
 use Rattle.std.proofs.lemmas.List.Sums.{fold-append}
 use Rattle.hex_io.specs.Told.{Told, TakesBytes, GivesBytes}
 use Rattle.htp_line.specs.Lines.{whole, rest, lines, unless_empty}
-use Rattle.htp_line.specs.Splitting.{kept}
+use Rattle.htp_line.specs.Splitting.{kept_line}
 use Rattle.htp_line.proofs.LinesLaws.{whole-append}
 use Rattle.hex_engine.specs.EngineState.{EngineState}
 use Rattle.hex_engine.specs.Supply.{Supply}
@@ -95,7 +95,7 @@ step_if false a c = ([], sym (append-nil a.text))
 
 step_text : (a : TalkState) (raw : List ℕ) → (more : List ℕ) × ((with_line a raw).text ≡ a.text ++ more)
 unfolding with_line
-step_text a raw = step_if (goes_on a.ending) a (after_line a.at a.left (kept raw))
+step_text a raw = step_if (goes_on a.ending) a (after_line a.at a.left (kept_line raw))
 
 fold_text : (a : TalkState) (ls : List (List ℕ)) → (more : List ℕ) × ((fold with_line a ls).text ≡ a.text ++ more)
 fold_text a [] = ([], sym (append-nil a.text))

@@ -4,7 +4,7 @@ use Rattle.hex_io.specs.declared.files.File.{File}
 use Rattle.htp_line.specs.Reading.{reading}
 use Rattle.htp_line.specs.declared.request.Parsed.{Parsed}
 use Rattle.htp_line.specs.declared.request.Parsed.TheVariants.{Blank, Bare, Request}
-use Rattle.htp_line.specs.Splitting.{kept}
+use Rattle.htp_line.specs.Splitting.{kept_line}
 use Rattle.hex_engine.specs.declared.options.Options.{Options}
 use Rattle.hex_engine.specs.Supply.{Supply}
 use Rattle.hex_engine.specs.EngineState.{EngineState}
@@ -45,7 +45,7 @@ with_left s left = record s { left = left }
 step_same : (options : Options) (s : TalkState) (b : Supply) (raw : List ℕ) → HasOneWorker options → Alike options s.left b → IsAnswered (with_line s raw) → IsAnswered (with_line (with_left s b) raw)
     → SaysSame options (with_line s raw) (with_line (with_left s b) raw)
 unfolding with_line
-step_same options s b raw one h = by (goes_on s.ending) (kept raw)
+step_same options s b raw one h = by (goes_on s.ending) (kept_line raw)
   where
     by : (x : Bool) (line : Option (List ℕ)) → IsAnswered (cond x (followed_by s (after_line s.at s.left line)) s) → IsAnswered (cond x (followed_by (with_left s b) (after_line s.at b line)) (with_left s b))
         → SaysSame options (cond x (followed_by s (after_line s.at s.left line)) s) (cond x (followed_by (with_left s b) (after_line s.at b line)) (with_left s b))

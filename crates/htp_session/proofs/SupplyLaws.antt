@@ -4,7 +4,7 @@ use Rattle.std.proofs.lemmas.List.Folds.{fold_stays}
 use Rattle.htp_line.specs.Reading.{reading}
 use Rattle.htp_line.specs.declared.request.Parsed.{Parsed}
 use Rattle.htp_line.specs.declared.request.Parsed.TheVariants.{Blank, Bare, Request}
-use Rattle.htp_line.specs.Splitting.{kept}
+use Rattle.htp_line.specs.Splitting.{kept_line}
 use Rattle.htp_line.specs.Lines.{whole}
 use Rattle.htp_line.specs.Splitting.{Held}
 use Rattle.hex_engine.specs.EngineState.{EngineState}
@@ -13,7 +13,7 @@ use Rattle.hex_engine.specs.Replies.{Turned, Missing}
 use Rattle.hex_engine.specs.Requests.{reaction}
 use Rattle.htp_session.specs.Talk.{TalkState, Short, IsAnswered, goes_on, after_reaction, after_reading, after_line, followed_by, with_line, talk_start, talk}
 use Rattle.htp_session.specs.Supply.{with_more_left}
-use Rattle.htp_session.specs.Sessions.{Stands}
+use Rattle.htp_session.specs.Sessions.{IsAfter}
 use Rattle.htp_session.proofs.TalkLaws.{step-stays}
 use Rattle.htp_session.proofs.Reactions.{KeepsOptions, reaction_keeps, HasAll, leaving_more, reaction_more}
 
@@ -38,14 +38,14 @@ step_keeps_if false a line = refl
 
 pub step_keeps : (a : TalkState) (raw : List ℕ) → (with_line a raw).at.options ≡ a.at.options
 unfolding with_line
-step_keeps a raw = step_keeps_if (goes_on a.ending) a (kept raw)
+step_keeps a raw = step_keeps_if (goes_on a.ending) a (kept_line raw)
 
 fold_keeps : (a : TalkState) (lines : List (List ℕ)) → (fold with_line a lines).at.options ≡ a.at.options
 fold_keeps a [] = refl
 fold_keeps a (raw ∷ lines) = fold_keeps (with_line a raw) lines ∙ step_keeps a raw
 
 -- the engine of a conversation has the options of its start
-pub stands_options : (start : EngineState) (all later : Supply) (engine : EngineState) (held : Held) (seen : List ℕ) → Stands start all later engine held seen → engine.options ≡ start.options
+pub stands_options : (start : EngineState) (all later : Supply) (engine : EngineState) (held : Held) (seen : List ℕ) → IsAfter start all later engine held seen → engine.options ≡ start.options
 stands_options start all later engine held seen stands = ap (λ (s : EngineState). s.options) stands.at ∙ fold_keeps (talk_start start all) (whole seen)
 
 -- ---- more at the end of what is left
@@ -71,7 +71,7 @@ step_if false a more line answered = refl
 
 step_more : (a : TalkState) (more : Supply) (raw : List ℕ) → IsAnswered (with_line a raw) → with_line (with_more_left a more) raw ≡ with_more_left (with_line a raw) more
 unfolding with_line
-step_more a more raw answered = step_if (goes_on a.ending) a more (kept raw) answered
+step_more a more raw answered = step_if (goes_on a.ending) a more (kept_line raw) answered
 
 -- a talk that was short stays so
 pub fold_short : (a : TalkState) (lines : List (List ℕ)) (missing : Missing) → a.ending ≡ Short missing → (fold with_line a lines).ending ≡ Short missing

@@ -4,14 +4,14 @@ use Rattle.std.proofs.lemmas.List.Sums.{fold_push, fold-append}
 use Rattle.std.proofs.lemmas.List.Folds.{fold_stays}
 use Rattle.htp_line.proofs.LinesLaws.{whole-append}
 use Rattle.htp_line.specs.Lines.{whole, lines}
-use Rattle.htp_line.specs.Splitting.{Held, kept, Ends, Advances, StandsAfter}
+use Rattle.htp_line.specs.Splitting.{Held, kept_line, Ends, Advances, StandsAfter}
 use Rattle.hex_engine.specs.EngineState.{EngineState}
 use Rattle.hex_engine.specs.Supply.{Supply, nothing_left}
 use Rattle.hex_engine.specs.Replies.{NoTurn}
 use Rattle.htp_session.specs.Talk.{TalkState, Going, AfterQuit, Short, ending_if, goes_on, after_line, followed_by, with_line, talk_start, talk}
-use Rattle.htp_session.specs.Sessions.{talk_to, Stands, Moves, EndsLine, Advanced, AnswersShort, AnswersLast, HasLast, LastIsShort}
+use Rattle.htp_session.specs.Sessions.{talk_to, IsAfter, Moves, EndsLine, Advanced, AnswersShort, AnswersLast, HasLast, LastIsShort}
 
-step-going : (so_far : TalkState) (raw : List ℕ) → so_far.ending ≡ Going → with_line so_far raw ≡ followed_by so_far (after_line so_far.at so_far.left (kept raw))
+step-going : (so_far : TalkState) (raw : List ℕ) → so_far.ending ≡ Going → with_line so_far raw ≡ followed_by so_far (after_line so_far.at so_far.left (kept_line raw))
 unfolding with_line
 step-going so_far raw e = rw e refl
 
@@ -21,7 +21,7 @@ step-stays so_far raw e = rw e refl
 
 -- one more line while the talk goes on
 pub talk_more : (start : EngineState) (all : Supply) (ls : List (List ℕ)) (raw : List ℕ) → (talk start all ls).ending ≡ Going
-    → talk start all (ls ++ raw ∷ []) ≡ followed_by (talk start all ls) (after_line (talk start all ls).at (talk start all ls).left (kept raw))
+    → talk start all (ls ++ raw ∷ []) ≡ followed_by (talk start all ls) (after_line (talk start all ls).at (talk start all ls).left (kept_line raw))
 talk_more start all ls raw e = fold_push with_line (talk_start start all) ls raw ∙ step-going (talk start all ls) raw e
 
 -- lines after the end of a talk change nothing
@@ -46,12 +46,12 @@ talk_to-nil start all = refl
 said_last : (start : EngineState) (all left : Supply) (engine : EngineState) (ls seen : List (List ℕ)) (line : Option (List ℕ)) → engine ≡ (talk start all seen).at → left ≡ (talk start all seen).left → (talk start all seen).ending ≡ Going
     → Ends true line seen ls → talk start all ls ≡ followed_by (talk start all seen) (after_line engine left line)
 said_last start all left engine ls seen line at same_left going ended =
-    let same : after_line (talk start all seen).at (talk start all seen).left (kept ended.0) ≡ after_line engine left line =
-    ap (λ a. after_line a (talk start all seen).left (kept ended.0)) (sym at) ∙ ap (λ l. after_line engine l (kept ended.0)) (sym same_left) ∙ ap (after_line engine left) (sym ended.2) in
+    let same : after_line (talk start all seen).at (talk start all seen).left (kept_line ended.0) ≡ after_line engine left line =
+    ap (λ a. after_line a (talk start all seen).left (kept_line ended.0)) (sym at) ∙ ap (λ l. after_line engine l (kept_line ended.0)) (sym same_left) ∙ ap (after_line engine left) (sym ended.2) in
     ap (talk start all) ended.1 ∙ talk_more start all seen ended.0 going ∙ ap (followed_by (talk start all seen)) same
 
 -- one line ended, and this answers it
-pub line_said : (start : EngineState) (all left : Supply) (engine : EngineState) (held new : Held) (seen front : List ℕ) → Stands start all left engine held seen → Advances new seen front → new.ended ≡ true
+pub line_said : (start : EngineState) (all left : Supply) (engine : EngineState) (held new : Held) (seen front : List ℕ) → IsAfter start all left engine held seen → Advances new seen front → new.ended ≡ true
     → talk_to start all (seen ++ front) ≡ followed_by (talk_to start all seen) (after_line engine left new.line)
 line_said start all left engine held new seen front stands adv e =
     said_last start all left engine (whole (seen ++ front)) (whole seen) new.line stands.at stands.left stands.going (subst (λ b. Ends b new.line (whole seen) (whole (seen ++ front))) e adv.ended)
@@ -68,7 +68,7 @@ moves_by true start all later engine new seen at left ending stands = record { e
 moves_by false start all later engine new seen at left ending stands = record { at = at; left = left; going = ending; in_hand = stands }
 
 -- what a line that ended answers
-pub line_advanced : (start : EngineState) (all left later : Supply) (engine after : EngineState) (held new : Held) (seen front out : List ℕ) (quit : Bool) → Stands start all left engine held seen → Advances new seen front → new.ended ≡ true
+pub line_advanced : (start : EngineState) (all left later : Supply) (engine after : EngineState) (held new : Held) (seen front out : List ℕ) (quit : Bool) → IsAfter start all left engine held seen → Advances new seen front → new.ended ≡ true
     → after_line engine left new.line ≡ record { text = out; at = after; left = later; ending = ending_if quit } → Advanced quit start all later after new out seen front
 line_advanced start all left later engine after held new seen front out quit stands adv e says =
     let eq : talk_to start all (seen ++ front) ≡ followed_by (talk_to start all seen) (record { text = out; at = after; left = later; ending = ending_if quit }) =
@@ -79,7 +79,7 @@ line_advanced start all left later engine after held new seen front out quit sta
     }
 
 -- where no line ended nothing is said
-pub none_advanced : (start : EngineState) (all later : Supply) (engine : EngineState) (held new : Held) (seen front out : List ℕ) → Stands start all later engine held seen → Advances new seen front → new.ended ≡ false → out ≡ []
+pub none_advanced : (start : EngineState) (all later : Supply) (engine : EngineState) (held new : Held) (seen front out : List ℕ) → IsAfter start all later engine held seen → Advances new seen front → new.ended ≡ false → out ≡ []
     → Advanced false start all later engine new out seen front
 none_advanced start all later engine held new seen front out stands adv e none =
     let eq = no_line start all new seen front adv e in
@@ -94,7 +94,7 @@ none_advanced start all later engine held new seen front out stands adv e none =
     }
 
 -- a line that ended wants a turn
-pub line_short : (start : EngineState) (all later : Supply) (engine : EngineState) (held new : Held) (seen front others : List ℕ) → Stands start all later engine held seen → Advances new seen front → new.ended ≡ true
+pub line_short : (start : EngineState) (all later : Supply) (engine : EngineState) (held new : Held) (seen front others : List ℕ) → IsAfter start all later engine held seen → Advances new seen front → new.ended ≡ true
     → after_line engine nothing_left new.line ≡ record { text = []; at = engine; left = nothing_left; ending = Short NoTurn } → AnswersShort start all later [] seen (front ++ others)
 line_short start all later engine held new seen front others stands adv e says none =
     let here : after_line engine later new.line ≡ record { text = []; at = engine; left = nothing_left; ending = Short NoTurn } = ap (λ l. after_line engine l new.line) none ∙ says in
@@ -117,12 +117,12 @@ line_ends new seen front others adv e =
     )
 
 -- the last line, which no line feed ends
-pub last_said : (start : EngineState) (all left : Supply) (engine : EngineState) (held new : Held) (seen : List ℕ) → Stands start all left engine held seen → Ends new.ended new.line (whole seen) (lines seen) → new.ended ≡ true
+pub last_said : (start : EngineState) (all left : Supply) (engine : EngineState) (held new : Held) (seen : List ℕ) → IsAfter start all left engine held seen → Ends new.ended new.line (whole seen) (lines seen) → new.ended ≡ true
     → talk start all (lines seen) ≡ followed_by (talk_to start all seen) (after_line engine left new.line)
 last_said start all left engine held new seen stands ends e =
     said_last start all left engine (lines seen) (whole seen) new.line stands.at stands.left stands.going (subst (λ b. Ends b new.line (whole seen) (lines seen)) e ends)
 
-pub last_answers : (start : EngineState) (all left later : Supply) (engine after : EngineState) (held new : Held) (seen out : List ℕ) (quit : Bool) → Stands start all left engine held seen → Ends new.ended new.line (whole seen) (lines seen) → new.ended ≡ true
+pub last_answers : (start : EngineState) (all left later : Supply) (engine after : EngineState) (held new : Held) (seen out : List ℕ) (quit : Bool) → IsAfter start all left engine held seen → Ends new.ended new.line (whole seen) (lines seen) → new.ended ≡ true
     → after_line engine left new.line ≡ record { text = out; at = after; left = later; ending = ending_if quit } → AnswersLast start all later out seen
 last_answers start all left later engine after held new seen out quit stands ends e says =
     let eq : talk start all (lines seen) ≡ followed_by (talk_to start all seen) (record { text = out; at = after; left = later; ending = ending_if quit }) =
@@ -130,7 +130,7 @@ last_answers start all left later engine after held new seen out quit stands end
     record { answers = ap (λ (s : TalkState). s.text) eq; ended = (quit, ap (λ (s : TalkState). s.ending) eq); left = sym (ap (λ (s : TalkState). s.left) eq) }
 
 -- there is no last line
-pub last_none : (start : EngineState) (all later : Supply) (engine : EngineState) (held new : Held) (seen out : List ℕ) → Stands start all later engine held seen → Ends new.ended new.line (whole seen) (lines seen) → new.ended ≡ false → out ≡ []
+pub last_none : (start : EngineState) (all later : Supply) (engine : EngineState) (held new : Held) (seen out : List ℕ) → IsAfter start all later engine held seen → Ends new.ended new.line (whole seen) (lines seen) → new.ended ≡ false → out ≡ []
     → AnswersLast start all later out seen
 last_none start all later engine held new seen out stands ends e none =
     let ended : Ends false new.line (whole seen) (lines seen) = subst (λ b. Ends b new.line (whole seen) (lines seen)) e ends in
@@ -141,7 +141,7 @@ last_none start all later engine held new seen out stands ends e none =
       left = stands.left ∙ sym (ap (λ (s : TalkState). s.left) eq);
     }
 
-pub last_short : (start : EngineState) (all later : Supply) (engine : EngineState) (held new : Held) (seen : List ℕ) → Stands start all later engine held seen → Ends new.ended new.line (whole seen) (lines seen) → new.ended ≡ true
+pub last_short : (start : EngineState) (all later : Supply) (engine : EngineState) (held new : Held) (seen : List ℕ) → IsAfter start all later engine held seen → Ends new.ended new.line (whole seen) (lines seen) → new.ended ≡ true
     → after_line engine nothing_left new.line ≡ record { text = []; at = engine; left = nothing_left; ending = Short NoTurn } → LastIsShort start all later seen
 last_short start all later engine held new seen stands ends e says none =
     let here : after_line engine later new.line ≡ record { text = []; at = engine; left = nothing_left; ending = Short NoTurn } = ap (λ l. after_line engine l new.line) none ∙ says in

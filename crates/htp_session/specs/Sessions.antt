@@ -16,7 +16,7 @@ abbrev pub talk_to : EngineState → Supply → List ℕ → TalkState
 talk_to start all seen = talk start all (whole seen)
 
 -- engine and splitter stand after this text, the talk goes on, and this is left to be used up later
-pub record Stands (start : EngineState) (all later : Supply) (engine : EngineState) (held : Held)
+pub record IsAfter (start : EngineState) (all later : Supply) (engine : EngineState) (held : Held)
     (seen : List ℕ) : Type 0 where
   pub at : engine ≡ (talk_to start all seen).at
   pub left : later ≡ (talk_to start all seen).left
@@ -29,7 +29,7 @@ pub record Does (old new : ShelfAndArchive) (in_vain : List Bool) (engine : Engi
     (held : Held) (Now : EngineState → Supply → Supply → List ℕ → Type 0) : Type 0 where
   pub used : Supply
   pub stood : (start : EngineState) → (all later : Supply) → (seen : List ℕ)
-      → Stands start all (and_then used later) engine held seen →
+      → IsAfter start all (and_then used later) engine held seen →
       UsesUp start.options old new used in_vain × Now start all later seen
 
 -- the same, where one fetch at most came to nothing at the end
@@ -46,7 +46,7 @@ pub record Quits (start : EngineState) (all later : Supply) (seen : List ℕ) : 
 -- what stands after up to one line more
 abbrev pub Moves : Bool → EngineState → Supply → Supply → EngineState → Held → List ℕ → Type 0
 Moves true start all later engine held seen = Quits start all later seen
-Moves false start all later engine held seen = Stands start all later engine held seen
+Moves false start all later engine held seen = IsAfter start all later engine held seen
 
 -- more bytes end at least one line more
 abbrev pub EndsLine : List ℕ → List ℕ → Type 0

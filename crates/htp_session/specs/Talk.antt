@@ -4,7 +4,7 @@ use Rattle.std.specs.Prelude.{Result, Ok, Err, codes, fold, if◌then◌else◌}
 use Rattle.htp_line.specs.Reading.{reading}
 use Rattle.htp_line.specs.declared.request.Parsed.{Parsed}
 use Rattle.htp_line.specs.declared.request.Parsed.TheVariants.{Blank, Bare, Request}
-use Rattle.htp_line.specs.Splitting.{kept}
+use Rattle.htp_line.specs.Splitting.{kept_line}
 use Rattle.htp_line.specs.Answering.{success, failure}
 use Rattle.hex_engine.specs.EngineState.{EngineState}
 use Rattle.hex_engine.specs.Supply.{Supply, nothing_left}
@@ -84,7 +84,7 @@ goes_on (Short missing) = false
 -- one more line: where the talk has ended it changes nothing
 unfoldable pub with_line : TalkState → List ℕ → TalkState
 with_line so_far raw = if goes_on so_far.ending then followed_by so_far
-    (after_line so_far.at so_far.left (kept raw)) else so_far
+    (after_line so_far.at so_far.left (kept_line raw)) else so_far
 
 -- before the first line nothing is said
 abbrev pub talk_start : EngineState → Supply → TalkState

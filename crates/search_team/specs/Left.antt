@@ -1,7 +1,23 @@
 -- What a worker has left to do.
 use Rattle.std.specs.Prelude.{
-  ℕ, ◌+◌, ◌-◌, ◌*◌, ◌==◌, ◌||◌, if◌then◌else◌, zero, suc, Bool, false, List, [], ◌∷◌, Option, Some,
-  None}
+  ℕ,
+  ◌+◌,
+  ◌-◌,
+  ◌*◌,
+  ◌==◌,
+  ◌||◌,
+  if◌then◌else◌,
+  zero,
+  suc,
+  Bool,
+  false,
+  List,
+  [],
+  ◌∷◌,
+  Option,
+  Some,
+  None,
+}
 use Rattle.arena_rule.specs.Views.{SeatView, Walked}
 use Rattle.walker.specs.Measure.{steps_left}
 use Rattle.walker.specs.declared.machine.TheConstants.{WALK_STEPS}

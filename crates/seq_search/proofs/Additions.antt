@@ -2,8 +2,8 @@
 use Rattle.std.proofs.Common.{◌≡◌, ◌≢◌, ◌⊎◌, ℕ, ◌+◌, ◌<◌, Bool, true, false, cond, List, length, set as set_at, length-set, get_or-set_same, get_or-set_other, slice_index, refl, sym, ap, ◌∙◌, subst, ⊎_elim, arith}
 use Rattle.hex_cells.specs.Sets.{has as has_cell}
 use Rattle.hex_cells.specs.declared.colours.Colour.{Colour}
-use Rattle.tree_words.specs.Words.{cell_in, root_at, tally_in, seen_in}
-use Rattle.seq_search.specs.Adding.{Sighted, node_at}
+use Rattle.tree_words.specs.Words.{cell_in, root_at, tally_in, seen_in, node_at}
+use Rattle.seq_search.specs.Adding.{Sighted}
 use Rattle.tree_words.specs.Settings.{Setting}
 use Rattle.tree_words.specs.Blocks.{LinkedBlock, is_node}
 use Rattle.tree_words.specs.Paths.{root_state, node_state}

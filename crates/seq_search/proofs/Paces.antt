@@ -8,7 +8,7 @@ use Rattle.hex_cells.specs.Colours.{other_of, is_same}
 use Rattle.hex_cells.specs.declared.colours.Colour.{Colour}
 use Rattle.hex_board.specs.Positions.{stones_of}
 use Rattle.tree_words.specs.Settings.{Setting, IsSetting}
-use Rattle.tree_words.specs.Words.{Count, root_at, count_in, wins_in, link_in, tally_in, seen_in, cell_in, move_word}
+use Rattle.tree_words.specs.Words.{Count, root_at, count_in, wins_in, link_in, tally_in, seen_in, cell_in, move_word, node_at}
 use Rattle.tree_words.specs.Blocks.{LinkedBlock, block_size, child, has_node, place, cell_at, is_node, In, InOrder}
 use Rattle.tree_words.specs.Paths.{NodeState, root_state, state_after, mover_at, node_state, node_board}
 use Rattle.tree_words.specs.Complete.{cells_below}
@@ -25,8 +25,8 @@ use Rattle.tree_words.proofs.Blocks.Links.{down-bare, adds-link, sees-link, step
 use Rattle.tree_words.proofs.Blocks.Orders.{rooted-turned, link-bare}
 use Rattle.seq_search.specs.Steps.{Holds}
 use Rattle.seq_search.specs.declared.descending.Descent.{Descent}
-use Rattle.seq_search.specs.Descending.{steps_in, steps_below, Descended}
-use Rattle.seq_search.specs.Adding.{node_at, Sighted, Counted}
+use Rattle.seq_search.specs.Descending.{nodes_down, steps_below, Descended}
+use Rattle.seq_search.specs.Adding.{Sighted, Counted}
 use Rattle.tree_words.proofs.Blocks.NodeLaws.{nodes-apart, stays-clear}
 use Rattle.tree_words.proofs.Blocks.Members.{in-turned}
 use Rattle.seq_search.proofs.LinkLaws.{IsBelow, below, node-fits, child-node, child-move, child-spot}
@@ -288,7 +288,7 @@ Adds s before d o now x who left = (bs : List LinkedBlock) (k : ℕ) → k < s.k
 few-walks : (s : Setting) (k : ℕ) → IsSetting s → k < s.knobs.playouts → k ≤ 1000000
 few-walks s k z l = omega (arith, l, z.ranges.playouts.1)
 
-steps-long : (d : Descent) → d.count ≤ 121 → length d.steps ≡ 121 → length (steps_in d) ≡ d.count
+steps-long : (d : Descent) → d.count ≤ 121 → length d.steps ≡ 121 → length (nodes_down d) ≡ d.count
 steps-long d l e = length-take-le d.count d.steps (omega (arith, l, e))
 
 -- what `see` asks
@@ -298,7 +298,7 @@ pub record MaySee (size amount : ℕ) (words : List ℕ) (block : ℕ) : Type 0 
   pub small : (j : ℕ) → j < slice_index words (block + 3) → slice_index words (node_at block j + 3) + amount < 2 ^ 64
 
 -- where the adds begin
-pub adds-begin : (s : Setting) (before : List ℕ) (d : Descent) (o : Ending) (x : ℕ) (who : Colour) → x ≡ root_at s → who ≡ s.player → Adds s before d o before x who (drop 0 (steps_in d))
+pub adds-begin : (s : Setting) (before : List ℕ) (d : Descent) (o : Ending) (x : ℕ) (who : Colour) → x ≡ root_at s → who ≡ s.player → Adds s before d o before x who (drop 0 (nodes_down d))
 adds-begin s before d o x who at same bs k l h e =
     let g = search_game s in let p = tally_in before in let q = seen_in before in let os = oldest_first bs in
     let spot : node_state s bs x ≡ root_state s = ap (node_state s bs) at ∙ up-root (root_state s) (λ c y above. state_after above (cell_at c (place c y))) (root_at s) bs h.linked.order in
@@ -366,15 +366,15 @@ module _ (s : Setting) (before : List ℕ) (d : Descent) (o : Ending) (now : Lis
   pace-last none gained is bs k l h e = ended s bs o before k h (few-walks s k z l) now x who left (a bs k l h e) gained is none
 
 -- the steps that are left
-pub step-left : (s : Setting) (before : List ℕ) (d : Descent) → HasWalked s before d → (i : ℕ) → i < d.count → drop i (steps_in d) ≡ get_or d.steps i 0 ∷ drop (i + 1) (steps_in d)
+pub step-left : (s : Setting) (before : List ℕ) (d : Descent) → HasWalked s before d → (i : ℕ) → i < d.count → drop i (nodes_down d) ≡ get_or d.steps i 0 ∷ drop (i + 1) (nodes_down d)
 step-left s before d v i l =
-    let long : length (steps_in d) ≡ d.count = steps-long d v.4.few v.4.long in
-    drop_more (steps_in d) i 0 (omega (arith, l, long)) ∙ ap (λ (y : ℕ). y ∷ drop (i + 1) (steps_in d)) (get_or-take d.count d.steps i 0 l)
+    let long : length (nodes_down d) ≡ d.count = steps-long d v.4.few v.4.long in
+    drop_more (nodes_down d) i 0 (omega (arith, l, long)) ∙ ap (λ (y : ℕ). y ∷ drop (i + 1) (nodes_down d)) (get_or-take d.count d.steps i 0 l)
 
-pub none-left : (s : Setting) (before : List ℕ) (d : Descent) → HasWalked s before d → (i : ℕ) → i ≡ d.count → drop i (steps_in d) ≡ []
+pub none-left : (s : Setting) (before : List ℕ) (d : Descent) → HasWalked s before d → (i : ℕ) → i ≡ d.count → drop i (nodes_down d) ≡ []
 none-left s before d v i e =
-    let long : length (steps_in d) ≡ d.count = steps-long d v.4.few v.4.long in
-    ap (λ (n : ℕ). drop n (steps_in d)) (e ∙ sym long) ∙ drop-length (steps_in d)
+    let long : length (nodes_down d) ≡ d.count = steps-long d v.4.few v.4.long in
+    ap (λ (n : ℕ). drop n (nodes_down d)) (e ∙ sym long) ∙ drop-length (nodes_down d)
 
 pub gained-is : (now gained : List ℕ) (x m : ℕ) (winner who other : Colour) → gained ≡ set_at now (x + 2) (slice_index now (x + 2) + m) → m ≡ amount_of (is_same winner other) → other ≡ other_of who
     → gained ≡ set_at now (x + 2) (slice_index now (x + 2) + amount_of (is_same winner (other_of who)))

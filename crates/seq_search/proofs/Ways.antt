@@ -28,7 +28,7 @@ use Rattle.seq_search.specs.Steps.{Holds}
 use Rattle.uct_table.specs.declared.scoring.TheConstants.{MOST_COUNT}
 use Rattle.seq_search.specs.Choosing.{CanBeScored}
 use Rattle.seq_search.specs.declared.descending.Descent.{Descent}
-use Rattle.seq_search.specs.Descending.{spot_in, steps_in, left_on, HasRoom, leaf_below, state_below, steps_below, Underway, Descended}
+use Rattle.seq_search.specs.Descending.{spot_in, nodes_down, left_on, HasRoom, leaf_below, state_below, steps_below, Underway, Descended}
 use Rattle.seq_search.proofs.LinkLaws.{IsBelow, below, node-fits, child-move, child-counts}
 use Rattle.hex_cells.proofs.Tables.{square_small}
 use Rattle.hex_board.proofs.Placed.{empty_on, placed_empty, placed_size}
@@ -175,7 +175,7 @@ module _ (d e : Descent) (cell kid : ℕ) (board : e.board ≡ placed d.board d.
         long = ap length steps ∙ length-set d.steps d.count kid ∙ r.long;
       }
 
-  step-steps : HasRoom d → steps_in e ≡ steps_in d ++ kid ∷ []
+  step-steps : HasRoom d → nodes_down e ≡ nodes_down d ++ kid ∷ []
   step-steps r = (λ i. take (count i) (steps i)) ∙ take_more_set d.steps d.count kid (omega (arith, r.long, step-count d cell empty r))
 
   step-spot : spot_in e ≡ state_after (spot_in d) cell
@@ -200,9 +200,9 @@ module _ (d e : Descent) (cell kid : ℕ) (board : e.board ≡ placed d.board d.
         spot = spot ∙ (λ t. state_after (u.spot t) (cell_at b i)) ∙ sym (up ∙ (λ t. state_after (node_state s bs (w.parent t)) (cell_at b (at-place t))));
         leaf = u.leaf ∙ leaf-link g fair p q os d.node b rooted w.names w.some ∙ ap (leaf_below s bs words) (sym here);
         state = u.state ∙ state-link g fair p q os d.node b (spot_in d) rooted w.names w.some ∙ sym (λ t. state_below s bs words (here t) (spot t));
-        steps = u.steps ∙ ap (λ (l : List ℕ). steps_in d ++ l) (steps-link g fair p q os d.node b rooted w.names w.some ∙ sym (λ t. here t ∷ steps_below s bs words (here t)))
-            ∙ sym (append_assoc (steps_in d) (e.node ∷ []) (steps_below s bs words e.node))
-            ∙ ap (λ (l : List ℕ). l ++ steps_below s bs words e.node) (sym (step-steps r ∙ ap (λ (x : ℕ). steps_in d ++ x ∷ []) (sym node)));
+        steps = u.steps ∙ ap (λ (l : List ℕ). nodes_down d ++ l) (steps-link g fair p q os d.node b rooted w.names w.some ∙ sym (λ t. here t ∷ steps_below s bs words (here t)))
+            ∙ sym (append_assoc (nodes_down d) (e.node ∷ []) (steps_below s bs words e.node))
+            ∙ ap (λ (l : List ℕ). l ++ steps_below s bs words e.node) (sym (step-steps r ∙ ap (λ (x : ℕ). nodes_down d ++ x ∷ []) (sym node)));
       }
 
 -- where the walk begins
@@ -228,7 +228,7 @@ end-way s bs words d k h r u e =
       spot = u.spot;
       leaf = u.leaf ∙ down-bare (λ (y : ℕ). y) (leaf_inner g p q) os d.node bare;
       state = u.state ∙ ap (λ (f : NodeState → Count × NodeState). f (spot_in d)) (down-bare (state_leaf g p q) (state_inner g p q) os d.node bare);
-      steps = u.steps ∙ ap (λ (l : List ℕ). steps_in d ++ l) (down-bare (λ (y : ℕ). []) (steps_inner g p q) os d.node bare) ∙ append-nil (steps_in d);
+      steps = u.steps ∙ ap (λ (l : List ℕ). nodes_down d ++ l) (down-bare (λ (y : ℕ). []) (steps_inner g p q) os d.node bare) ∙ append-nil (nodes_down d);
       bare = e;
       few = omega (arith, r.cells);
       long = r.long;

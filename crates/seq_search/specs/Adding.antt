@@ -1,9 +1,20 @@
 -- What a walk adds, word by word.
 use Rattle.std.specs.Prelude.{
-  ◌≡◌, ◌≢◌, ℕ, ◌+◌, ◌*◌, ◌<◌, if◌then◌else◌, true, List, length, slice_index}
+  ◌≡◌,
+  ◌≢◌,
+  ℕ,
+  ◌+◌,
+  ◌*◌,
+  ◌<◌,
+  if◌then◌else◌,
+  true,
+  List,
+  length,
+  slice_index,
+}
 use Rattle.hex_cells.specs.Sets.{has as has_cell}
 use Rattle.tree_words.specs.Settings.{Setting}
-use Rattle.tree_words.specs.Words.{root_at, cell_in, tally_in, seen_in}
+use Rattle.tree_words.specs.Words.{root_at, cell_in, tally_in, seen_in, node_at}
 use Rattle.tree_words.specs.Blocks.{LinkedBlock, is_node}
 use Rattle.tree_words.specs.Paths.{root_state}
 use Rattle.tree_words.specs.Walks.{plus}
@@ -11,12 +22,7 @@ use Rattle.tree_words.specs.Trees.{oldest_first}
 use Rattle.play_out.specs.declared.playouts.Ending.{Ending}
 use Rattle.tree_words.specs.Sequence.{search_game}
 use Rattle.tree_words.specs.Descents.{adds, sees, Added, config_of}
-use Rattle.tree_words.specs.declared.layout.TheConstants.{
-  HEADER_WORDS, NODE_WORDS, TALLY_WORD, SEEN_WORD}
-
--- the first word of the node of place k of the block at b
-abbrev pub node_at : ℕ → ℕ → ℕ
-node_at b k = b + HEADER_WORDS + NODE_WORDS * k
+use Rattle.tree_words.specs.declared.layout.TheConstants.{TALLY_WORD, SEEN_WORD}
 
 -- Of the first n nodes of the block at b, the seen word of each whose cell is in the set has so
 -- much more, and all else is as before.

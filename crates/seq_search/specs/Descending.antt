@@ -18,8 +18,8 @@ abbrev pub spot_in : Descent → NodeState
 spot_in d = record { board = d.board; player = d.player }
 
 -- the nodes below the root, down to where it stands
-abbrev pub steps_in : Descent → List ℕ
-steps_in d = take d.count d.steps
+abbrev pub nodes_down : Descent → List ℕ
+nodes_down d = take d.count d.steps
 
 -- how many cells of the board are empty
 unfoldable pub left_on : Position → ℕ
@@ -48,7 +48,7 @@ module _ (s : Setting) (bs : List LinkedBlock) (words : List ℕ) where
     pub spot : spot_in d ≡ node_state s bs d.node
     pub leaf : leaf_below (root_at s) ≡ leaf_below d.node
     pub state : state_below (root_at s) (root_state s) ≡ state_below d.node (spot_in d)
-    pub steps : steps_below (root_at s) ≡ steps_in d ++ steps_below d.node
+    pub steps : steps_below (root_at s) ≡ nodes_down d ++ steps_below d.node
 
   -- The walk has come to its leaf.
   pub record Descended (d : Descent) : Type 0 where
@@ -56,7 +56,7 @@ module _ (s : Setting) (bs : List LinkedBlock) (words : List ℕ) where
     pub spot : spot_in d ≡ node_state s bs d.node
     pub leaf : leaf_below (root_at s) ≡ d.node
     pub state : state_below (root_at s) (root_state s) ≡ (tally_in words d.node, spot_in d)
-    pub steps : steps_below (root_at s) ≡ steps_in d
+    pub steps : steps_below (root_at s) ≡ nodes_down d
     pub bare : link_in words d.node ≡ 0
     pub few : d.count ≤ MOST_STEPS
     pub long : length d.steps ≡ MOST_STEPS

@@ -1,16 +1,27 @@
 //! What a walk adds: its playout's result to the counts and to the records.
 
 ghost use Rattle.std.specs.Prelude.{
-    ◌≡◌, ℕ, ◌+◌, ◌*◌, ◌^◌, ◌≤◌, ◌<◌, length, set, slice_index, List, true,
+  ◌≡◌,
+  ℕ,
+  ◌+◌,
+  ◌*◌,
+  ◌^◌,
+  ◌≤◌,
+  ◌<◌,
+  length,
+  set,
+  slice_index,
+  List,
+  true,
 };
 ghost use Rattle.hex_cells.specs.declared.colours.Colour.TheVariants.{White};
 ghost use Rattle.hex_cells.specs.Colours.{is_same};
 ghost use Rattle.tree_words.specs.Blocks.{LinkedBlock, one_if, block_size};
-ghost use Rattle.tree_words.specs.Words.{cell_in, nodes_in};
+ghost use Rattle.tree_words.specs.Words.{cell_in, nodes_in, node_at};
 ghost use Rattle.tree_words.specs.Sequence.{amount_of};
 ghost use Rattle.seq_search.specs.Steps.{Holds, Records};
 ghost use Rattle.seq_search.specs.Descending.{Descended};
-ghost use Rattle.seq_search.specs.Adding.{Counted, Sighted, node_at, AddsWalk};
+ghost use Rattle.seq_search.specs.Adding.{Counted, Sighted, AddsWalk};
 
 use super::descending::Descent;
 use hex_cells::{Cell, CellSet, Colour, MOST_CELLS};

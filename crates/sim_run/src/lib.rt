@@ -19,8 +19,8 @@
 //!
 //! **How it is proved.** Between two steps there is a list of views, one of width 1 for each
 //! worker, each belongs to its walker, and the arena rule holds of the words with these views. The
-//! views stand in proofs alone, so what is left to do is told from the words and the walkers: TICKET
-//! says how many draws are left at most.
+//! views stand in proofs alone, so what is left to do is told from the words and the walkers:
+//! TICKET says how many draws are left at most.
 //!
 //! **Limits.** Those of a shape.
 #![tactic(auto)]

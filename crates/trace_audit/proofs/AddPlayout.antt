@@ -12,7 +12,7 @@ use Rattle.tree_words.proofs.Blocks.GameLaws.{in-node}
 use Rattle.tree_words.proofs.Blocks.Members.{node-in}
 use Rattle.trace_audit.specs.declared.linking.Spot.{Spot}
 use Rattle.trace_audit.specs.declared.linking.Table.{Table}
-use Rattle.trace_audit.specs.Tables.{state_in, IsLinked}
+use Rattle.trace_audit.specs.Tables.{spot_state, IsLinked}
 use Rattle.trace_audit.specs.Sums.{AreSums, CanClimb, Climbed}
 use Rattle.trace_audit.proofs.Adding.{count_few, leaf_word, outcome_is, sums_more, sums_small}
 use Rattle.trace_audit.proofs.Climbing.{parent_low}
@@ -27,7 +27,7 @@ no_record s bs words k none is = ⊎_elim
     (node-in (root_at s) bs (leaf_of words k) is.node)
 
 module _ (s : Setting) (bs : List LinkedBlock) (words sums : List ℕ) (t : Table) (k : ℕ) (h : IsSetting s) (long : length words ≡ end_of s) (lk : IsLinked s words t bs) (a : AreSums s bs words sums k) (number : k < s.knobs.playouts)
-    (b : LinkedBlock) (i : In b bs) (n : has_node b (leaf_of words k) ≡ true) (spot : Spot) (state : state_in spot ≡ node_state s bs (leaf_of words k)) where
+    (b : LinkedBlock) (i : In b bs) (n : has_node b (leaf_of words k) ≡ true) (spot : Spot) (state : spot_state spot ≡ node_state s bs (leaf_of words k)) where
   node : is_node (root_at s) bs (leaf_of words k) ≡ true
   node = in-node (root_at s) bs b (leaf_of words k) i n
 
@@ -50,7 +50,7 @@ module _ (s : Setting) (bs : List LinkedBlock) (words sums : List ℕ) (t : Tabl
 
   module _ (o : Ending) (seed j : ℕ) (seeds : seed ≡ s.knobs.seed) (numbers : j ≡ k) (full : o.full ≡ filled spot.board spot.player seed j) (winner : o.winner ≡ playout_of spot.board spot.player seed j) where
     same : o ≡ outcome_in s bs words k
-    same = outcome_is s bs words sums k h lk.linked a (leaf_of words k) refl node o (state_in spot) state
+    same = outcome_is s bs words sums k h lk.linked a (leaf_of words k) refl node o (spot_state spot) state
         (full ∙ (λ q. filled spot.board spot.player (seeds q) (numbers q))) (winner ∙ (λ q. playout_of spot.board spot.player (seeds q) (numbers q)))
 
     pub wrong_record : (o.winner ≡ winner_in (record_in words k) → ⊥) → IsRecord s bs words k → ⊥

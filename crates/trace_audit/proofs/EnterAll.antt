@@ -10,7 +10,7 @@ use Rattle.tree_words.specs.Paths.{state_after, node_state}
 use Rattle.tree_words.proofs.Blocks.GameLaws.{in-node}
 use Rattle.trace_audit.specs.declared.linking.Spot.{Spot}
 use Rattle.trace_audit.specs.declared.linking.Table.{Table}
-use Rattle.trace_audit.specs.Tables.{state_in, IsSpot, IsEntered, IsLast, Scanned}
+use Rattle.trace_audit.specs.Tables.{spot_state, IsSpot, IsEntered, IsLastNode, Scanned}
 use Rattle.trace_audit.proofs.Cells.{IsMove, move_is}
 use Rattle.trace_audit.proofs.Scanning.{advance}
 
@@ -39,14 +39,14 @@ module _ (s : Setting) (words : List ℕ) (t : Table) (done at end : ℕ) (b : L
       d (record { start = 0; board = s.board; player = s.player })
 
   -- the spot of the block
-  pub spot_is : (n : ℕ) (spot : Spot) → n ≡ slice_index_or t.index.items at n → spot ≡ slice_index_or t.spots.items (n - 1) spot → state_in spot ≡ node_state s (b ∷ bs) b.parent
+  pub spot_is : (n : ℕ) (spot : Spot) → n ≡ slice_index_or t.index.items at n → spot ≡ slice_index_or t.spots.items (n - 1) spot → spot_state spot ≡ node_state s (b ∷ bs) b.parent
   spot_is n spot h g =
       let same = entry_is n h in
       let k = e.scanned.table.index at spot is_entry in
       let found : Spot = slice_index_or t.spots.items (slice_index t.index.items at - 1) spot in
       let is : IsSpot s words (b ∷ bs) found = e.scanned.table.spots (slice_index t.index.items at - 1) spot (omega (arith, k.0, is_entry)) in
       let all : spot ≡ found = g ∙ ap (λ m. slice_index_or t.spots.items (m - 1) spot) same in
-      ap state_in all ∙ is.state ∙ ap (node_state s (b ∷ bs)) (ap (slice_index words) k.1 ∙ names_parent)
+      ap spot_state all ∙ is.state ∙ ap (node_state s (b ∷ bs)) (ap (slice_index words) k.1 ∙ names_parent)
 
   -- the node of place k
   pub node_is : (k x : ℕ) → x ≡ at + 4 + 4 * k → x < end → IsMove s words (b ∷ bs) b k × (x ≡ b.start + 4 + 4 * k)
@@ -58,10 +58,10 @@ module _ (s : Setting) (words : List ℕ) (t : Table) (done at end : ℕ) (b : L
   pub node_in : (k x : ℕ) → x ≡ at + 4 + 4 * k → x < end → is_node (root_at s) (b ∷ bs) x ≡ true
   node_in k x h l = let m = node_is k x h l in in-node (root_at s) (b ∷ bs) b x (inl refl) (ap (has_node b) m.1 ∙ m.0.node)
 
-  pub node_last : (k x : ℕ) → x ≡ at + 4 + 4 * k → x < end → IsLast s end (b ∷ bs) x
+  pub node_last : (k x : ℕ) → x ≡ at + 4 + 4 * k → x < end → IsLastNode s end (b ∷ bs) x
   node_last k x h l = let m = node_is k x h l in inr (b, inl refl, ap (has_node b) m.1 ∙ m.0.node, e.ends ∙ ap (λ n. n + size b) (sym e.start))
 
-  module _ (k x n : ℕ) (spot : Spot) (hx : x ≡ at + 4 + 4 * k) (l : x < end) (board : state_in spot ≡ node_state s (b ∷ bs) b.parent) (cell : n ≡ cell_in (slice_index words x)) where
+  module _ (k x n : ℕ) (spot : Spot) (hx : x ≡ at + 4 + 4 * k) (l : x < end) (board : spot_state spot ≡ node_state s (b ∷ bs) b.parent) (cell : n ≡ cell_in (slice_index words x)) where
     cell_is : n ≡ cell_at b k
     cell_is = let m = node_is k x hx l in cell ∙ ap (λ y. cell_in (slice_index words y)) m.1 ∙ m.0.cell
 
@@ -71,7 +71,7 @@ module _ (s : Setting) (words : List ℕ) (t : Table) (done at end : ℕ) (b : L
     pub cell_empty : is_empty_at spot.board n ≡ true
     cell_empty = let m = node_is k x hx l in (λ i. is_empty_at (board i).board (cell_is i)) ∙ m.0.empty
 
-    pub cell_state : (after : Spot) → state_in after ≡ state_after (state_in spot) n → state_in after ≡ node_state s (b ∷ bs) x
+    pub cell_state : (after : Spot) → spot_state after ≡ state_after (spot_state spot) n → spot_state after ≡ node_state s (b ∷ bs) x
     cell_state after h =
         let m = node_is k x hx l in
         h ∙ (λ i. state_after (board i) (cell_is i)) ∙ sym m.0.state ∙ ap (node_state s (b ∷ bs)) (sym m.1)

@@ -11,7 +11,7 @@ use Rattle.tree_words.specs.Paths.{node_state}
 use Rattle.tree_words.proofs.Blocks.NodeLaws.{node-lies}
 use Rattle.trace_audit.specs.declared.linking.Spot.{Spot}
 use Rattle.trace_audit.specs.declared.linking.Table.{Table}
-use Rattle.trace_audit.specs.Tables.{state_in, IsSpot, IsTable, IsFollowed, Scanned}
+use Rattle.trace_audit.specs.Tables.{spot_state, IsSpot, IsSpotTable, IsFollowed, Scanned}
 
 -- where a node lies among all words
 pub node_inside : (s : Setting) (words : List ℕ) (t : Table) (done p : ℕ) (bs : List LinkedBlock) (x : ℕ) → IsSetting s → Scanned s words t done p bs → is_node (root_at s) bs x ≡ true
@@ -25,7 +25,7 @@ node_inside s words t done p bs x h sc n = (
 )
 
 module _ (s : Setting) (words : List ℕ) (t u : Table) (x p : ℕ) (bs : List LinkedBlock) (sc : Scanned s words t x p bs) (n : is_node (root_at s) bs x ≡ true) (spot : Spot) (start : ℕ)
-    (first : spot.start ≡ start) (state : state_in spot ≡ node_state s bs x) (link : link_in words x ≡ start) (free : p ≤ start) (inside : start < end_of s) (parent : slice_index words start ≡ x)
+    (first : spot.start ≡ start) (state : spot_state spot ≡ node_state s bs x) (link : link_in words x ≡ start) (free : p ≤ start) (inside : start < end_of s) (parent : slice_index words start ≡ x)
     (index : u.index.items ≡ set t.index.items start (length t.spots.items + 1)) (spots : u.spots.items ≡ t.spots.items ++ spot ∷ []) (others : u.others ≡ t.others) where
   new_index : slice_index u.index.items start ≡ length t.spots.items + 1
   new_index = let long = sc.table.long in ap (λ l. slice_index l start) index ∙ get_or-set_same t.index.items start (length t.spots.items + 1) 0 (omega (arith, inside, long))
@@ -59,7 +59,7 @@ module _ (s : Setting) (words : List ℕ) (t u : Table) (x p : ℕ) (bs : List L
         state = state ∙ ap (node_state s bs) (sym named);
       }
 
-  table_more : IsTable s words bs u
+  table_more : IsSpotTable s words bs u
   table_more = record {
     long = ap length index ∙ length-set t.index.items start (length t.spots.items + 1) ∙ sc.table.long;
     spots = λ k d l. ⊎_elim

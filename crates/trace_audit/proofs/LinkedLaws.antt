@@ -12,7 +12,7 @@ use Rattle.tree_words.proofs.Blocks.Members.{in-turned, names-in}
 use Rattle.tree_words.proofs.Blocks.Orders.{link-names}
 use Rattle.trace_audit.specs.declared.linking.Spot.{Spot}
 use Rattle.trace_audit.specs.declared.linking.Table.{Table}
-use Rattle.trace_audit.specs.Tables.{state_in, IsSpot, IsLinked}
+use Rattle.trace_audit.specs.Tables.{spot_state, IsSpot, IsLinked}
 use Rattle.trace_audit.proofs.Cells.{IsMove}
 use Rattle.trace_audit.proofs.Placed.{count_is, lies, most_of, move_of, parent_is, place_of}
 
@@ -40,7 +40,7 @@ module _ (s : Setting) (words : List ℕ) (t : Table) (bs : List LinkedBlock) (h
   block_entry b i = lk.entered b i
 
   -- a spot of the table is that of a linked block
-  pub spot_block : (k : ℕ) (d : Spot) → k < length t.spots.items → (b : LinkedBlock) × In b bs × (b.start ≡ (slice_index_or t.spots.items k d).start) × (state_in (slice_index_or t.spots.items k d) ≡ node_state s bs b.parent)
+  pub spot_block : (k : ℕ) (d : Spot) → k < length t.spots.items → (b : LinkedBlock) × In b bs × (b.start ≡ (slice_index_or t.spots.items k d).start) × (spot_state (slice_index_or t.spots.items k d) ≡ node_state s bs b.parent)
   spot_block k d l =
       let spot : Spot = slice_index_or t.spots.items k d in
       let is : IsSpot s words bs spot = lk.table.spots k d l in
@@ -81,13 +81,13 @@ module _ (s : Setting) (words : List ℕ) (t : Table) (bs : List LinkedBlock) (h
         let k = lk.table.index a (record { start = 0; board = s.board; player = s.player }) some in
         (omega (arith, entry_is, some), omega (arith, k.0, entry_is, some), entry_inside)
 
-    pub entry_state : (spot : Spot) → spot ≡ slice_index_or t.spots.items (n - 1) spot → state_in spot ≡ node_state s bs b.parent
+    pub entry_state : (spot : Spot) → spot ≡ slice_index_or t.spots.items (n - 1) spot → spot_state spot ≡ node_state s bs b.parent
     entry_state spot found =
         let some : 0 < slice_index t.index.items a = omega (arith, ap (slice_index t.index.items) at, lk.entered b i) in
         let k = lk.table.index a spot some in
         let is : IsSpot s words bs (slice_index_or t.spots.items (n - 1) spot) = lk.table.spots (n - 1) spot entry_least.1 in
         let start : (slice_index_or t.spots.items (n - 1) spot).start ≡ b.start = ap (λ (m : ℕ). (slice_index_or t.spots.items (m - 1) spot).start) entry_is ∙ k.1 ∙ sym at in
-        ap state_in found ∙ is.state ∙ ap (node_state s bs) (ap (slice_index words) start ∙ parent_word b i)
+        ap spot_state found ∙ is.state ∙ ap (node_state s bs) (ap (slice_index words) start ∙ parent_word b i)
 
     module _ (x c : ℕ) (nd : has_node b x ≡ true) (cell : c ≡ cell_in (slice_index words x)) (spot : Spot) (found : spot ≡ slice_index_or t.spots.items (n - 1) spot) where
       cell_is : c ≡ cell_at b (node_move b x i nd).0
@@ -99,7 +99,7 @@ module _ (s : Setting) (words : List ℕ) (t : Table) (bs : List LinkedBlock) (h
       pub cell_empty : is_empty_at spot.board c ≡ true
       cell_empty = let m = node_move b x i nd in (λ j. is_empty_at (entry_state spot found j).board (cell_is j)) ∙ m.3.empty
 
-      pub cell_state : (after : Spot) → state_in after ≡ state_after (state_in spot) c → state_in after ≡ node_state s bs x
+      pub cell_state : (after : Spot) → spot_state after ≡ state_after (spot_state spot) c → spot_state after ≡ node_state s bs x
       cell_state after e =
           let m = node_move b x i nd in
           e ∙ (λ j. state_after (entry_state spot found j) (cell_is j)) ∙ sym m.3.state ∙ ap (node_state s bs) (sym m.2)

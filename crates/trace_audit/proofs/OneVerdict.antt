@@ -5,9 +5,9 @@ use Rattle.std.proofs.lemmas.Bool.{cases_lt}
 use Rattle.std.proofs.lemmas.List.{append_cancel_left, ext_get_or, get_or-take}
 use Rattle.tree_words.specs.Words.{end_of}
 use Rattle.tree_words.specs.Closing.{ClosedTree, IsClosed}
-use Rattle.trace_audit.specs.Traces.{bytes_of, trace_text, written}
+use Rattle.trace_audit.specs.Traces.{bytes_of, trace_text, written_count}
 use Rattle.trace_audit.specs.Texts.{StandAt, IsFront}
-use Rattle.trace_audit.specs.Verdicts.{AreClosed, AreTexts, Begins, FailsFirst, HasFlaw, IsVerdictOn, trace_texts}
+use Rattle.trace_audit.specs.Verdicts.{AreClosed, AreTexts, BeginsWithTree, FailsFirst, HasFlaw, IsVerdictOn, trace_texts}
 use Rattle.trace_audit.specs.declared.types.Audit.{Audit}
 use Rattle.trace_audit.specs.declared.types.Audit.TheVariants.{Yes, No}
 use Rattle.trace_audit.specs.declared.types.Flaw.{Flaw}
@@ -18,13 +18,13 @@ use Rattle.trace_audit.proofs.TextWords.{begins_long, behind, text_words, writte
 use Rattle.trace_audit.proofs.OneFlaw.{closed_holds, fails_one}
 
 -- the written words stand behind the front
-stands : (t : ClosedTree) (bytes : List ℕ) (b : Begins t bytes) → StandAt bytes 128 (take (written t.words) t.words)
+stands : (t : ClosedTree) (bytes : List ℕ) (b : BeginsWithTree t bytes) → StandAt bytes 128 (take (written_count t.words) t.words)
 stands t bytes b =
-    let ws : List ℕ = take (written t.words) t.words in
-    let at : drop 128 bytes ≡ bytes_of ws ++ b.rest = behind bytes t.shape (written t.words) (begins_front t bytes b) in
+    let ws : List ℕ = take (written_count t.words) t.words in
+    let at : drop 128 bytes ≡ bytes_of ws ++ b.rest = behind bytes t.shape (written_count t.words) (begins_front t bytes b) in
     sym (ap (take (8 * length ws)) at ∙ ap (λ n. take n (bytes_of ws ++ b.rest)) (sym (bytes_long ws)) ∙ take_front (bytes_of ws) b.rest)
 
-front_is : (t : ClosedTree) (bytes : List ℕ) (b : Begins t bytes) → IsFront bytes t.shape (written t.words)
+front_is : (t : ClosedTree) (bytes : List ℕ) (b : BeginsWithTree t bytes) → IsFront bytes t.shape (written_count t.words)
 front_is t bytes b = record {
   setting = b.read.shape;
   front = begins_front t bytes b;
@@ -34,9 +34,9 @@ front_is t bytes b = record {
 }
 
 -- bytes begin with the text of one tree
-tree_one : (bytes : List ℕ) (t u : ClosedTree) → Begins t bytes → Begins u bytes → t ≡ u
+tree_one : (bytes : List ℕ) (t u : ClosedTree) → BeginsWithTree t bytes → BeginsWithTree u bytes → t ≡ u
 tree_one bytes t u a b =
-    let q : ℕ = written t.words in
+    let q : ℕ = written_count t.words in
     let same = text_words bytes t.words t.shape q u (front_is t bytes a) a.read.long a.read.words (stands t bytes a) b in
     let long : length t.words ≡ length u.words = a.read.long ∙ ap end_of same.0 ∙ sym b.read.long in
     let words : t.words ≡ u.words = ext_get_or 0 t.words u.words long (λ i l. ⊎_elim
@@ -49,18 +49,18 @@ tree_one bytes t u a b =
 rest_one : (bytes : List ℕ) (t u : ClosedTree) (r z : List ℕ) → t ≡ u → bytes ≡ trace_text t ++ r → bytes ≡ trace_text u ++ z → r ≡ z
 rest_one bytes t u r z e a b = append_cancel_left (trace_text u) r z (ap (λ (w : ClosedTree). trace_text w ++ r) (sym e) ∙ sym a ∙ b)
 
-begins_some : (t : ClosedTree) → Begins t [] → ⊥
+begins_some : (t : ClosedTree) → BeginsWithTree t [] → ⊥
 begins_some t b = omega (arith, begins_long t [] b.read b)
 
 -- no closed tree's text begins there
 abbrev IsEnd : List ℕ → Type 0
-IsEnd bytes = (t : ClosedTree) → Begins t bytes → IsClosed t.shape t.words → ⊥
+IsEnd bytes = (t : ClosedTree) → BeginsWithTree t bytes → IsClosed t.shape t.words → ⊥
 
 -- the tree that fails there is the tree whose text begins there
-fails_of : (bytes : List ℕ) (why : Flaw) (t u : ClosedTree) → Begins t bytes → Begins u bytes → FailsFirst u.shape u.words why → FailsFirst t.shape t.words why
+fails_of : (bytes : List ℕ) (why : Flaw) (t u : ClosedTree) → BeginsWithTree t bytes → BeginsWithTree u bytes → FailsFirst u.shape u.words why → FailsFirst t.shape t.words why
 fails_of bytes why t u a b f = subst (λ (w : ClosedTree). FailsFirst w.shape w.words why) (tree_one bytes u t b a) f
 
-fails_end : (bytes : List ℕ) (why : Flaw) (u : ClosedTree) → Begins u bytes → FailsFirst u.shape u.words why → IsEnd bytes
+fails_end : (bytes : List ℕ) (why : Flaw) (u : ClosedTree) → BeginsWithTree u bytes → FailsFirst u.shape u.words why → IsEnd bytes
 fails_end bytes why u b f t a c = closed_holds t.shape t.words a.read.shape why c (fails_of bytes why t u a b f)
 
 flaw_end : (bytes : List ℕ) (why : Flaw) → HasFlaw bytes why → IsEnd bytes
@@ -80,7 +80,7 @@ flaw_some End f = begins_some f.0 f.1
 flaw_some Growth f = begins_some f.0 f.1
 
 -- the tree that fails, where a text of a tree stands there
-flaw_fails : (bytes : List ℕ) (why : Flaw) (t : ClosedTree) → Begins t bytes → HasFlaw bytes why → FailsFirst t.shape t.words why
+flaw_fails : (bytes : List ℕ) (why : Flaw) (t : ClosedTree) → BeginsWithTree t bytes → HasFlaw bytes why → FailsFirst t.shape t.words why
 flaw_fails bytes BadForm t b f = absurd (f.1 t b)
 flaw_fails bytes Block t b f = fails_of bytes Block t f.0 b f.1 f.2
 flaw_fails bytes Record t b f = fails_of bytes Record t f.0 b f.1 f.2
@@ -88,7 +88,7 @@ flaw_fails bytes Count t b f = fails_of bytes Count t f.0 b f.1 f.2
 flaw_fails bytes End t b f = fails_of bytes End t f.0 b f.1 f.2
 flaw_fails bytes Growth t b f = fails_of bytes Growth t f.0 b f.1 f.2
 
-flaw_beside : (bytes : List ℕ) (v w : Flaw) (t : ClosedTree) → Begins t bytes → FailsFirst t.shape t.words v → HasFlaw bytes w → v ≡ w
+flaw_beside : (bytes : List ℕ) (v w : Flaw) (t : ClosedTree) → BeginsWithTree t bytes → FailsFirst t.shape t.words v → HasFlaw bytes w → v ≡ w
 flaw_beside bytes v w t b f g = fails_one t.shape t.words b.read.shape v w f (flaw_fails bytes w t b g)
 
 -- a text has one first flaw

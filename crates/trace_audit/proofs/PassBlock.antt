@@ -14,7 +14,7 @@ use Rattle.tree_words.proofs.Blocks.Turned.{other-root, other-more}
 use Rattle.tree_words.proofs.Walks.Asking.{spot-size}
 use Rattle.trace_audit.specs.declared.linking.Spot.{Spot}
 use Rattle.trace_audit.specs.declared.linking.Table.{Table}
-use Rattle.trace_audit.specs.Tables.{AreUnlinked, block_at, Stands, state_in, IsSpot, IsEntered, Scanned}
+use Rattle.trace_audit.specs.Tables.{AreUnlinked, block_at, StandsInArea, spot_state, IsSpot, IsEntered, Scanned}
 use Rattle.trace_audit.proofs.Passing.{block_alone, block_stands, put}
 
 module _ (s : Setting) (words : List ℕ) (h : IsSetting s) (t : Table) (p : ℕ) (bs : List LinkedBlock) (sc : Scanned s words t p p bs) (n : ℕ) (inside : p < length t.index.items) (entry : 0 < slice_index t.index.items p)
@@ -48,7 +48,7 @@ module _ (s : Setting) (words : List ℕ) (h : IsSetting s) (t : Table) (p : ℕ
     link : link_in words x ≡ p
     link = sym (ap (link_in words) is_x) ∙ spot_of.link ∙ at_start
 
-    state : state_in spot ≡ node_state s bs x
+    state : spot_state spot ≡ node_state s bs x
     state = spot_of.state ∙ ap (node_state s bs) is_x
 
     board : spot.board ≡ node_board s bs x
@@ -61,8 +61,8 @@ module _ (s : Setting) (words : List ℕ) (h : IsSetting s) (t : Table) (p : ℕ
     is_block = ap (λ (q : Position). block_at s q x p) board
 
     -- it stands wherever blocks are linked
-    pub must_stand : (Stands s words (block_at s spot.board x p) → ⊥) → AreUnlinked s words
-    must_stand not-so cs lk = not-so (subst (Stands s words) (sym is_block) (block_stands s words h t p bs sc x node refl link cs lk))
+    pub must_stand : (StandsInArea s words (block_at s spot.board x p) → ⊥) → AreUnlinked s words
+    must_stand not-so cs lk = not-so (subst (StandsInArea s words) (sym is_block) (block_stands s words h t p bs sc x node refl link cs lk))
 
     -- and no other block is entered within it
     pub must_be_alone : (end : ℕ) → end ≡ p + size (block_at s spot.board x p) → (i : ℕ) → p + 1 ≤ i → i < end → 0 < slice_index t.index.items i → AreUnlinked s words
@@ -70,7 +70,7 @@ module _ (s : Setting) (words : List ℕ) (h : IsSetting s) (t : Table) (p : ℕ
 
     -- so it is passed
     pub is_passed : (u : Table) (end more : ℕ) → length words ≡ end_of s → u.index.items ≡ t.index.items → u.spots.items ≡ t.spots.items → u.others ≡ t.others + more
-        → Stands s words (block_at s spot.board x p) → end ≡ p + size (block_at s spot.board x p) → ((i : ℕ) → p + 1 ≤ i → i < end → slice_index t.index.items i ≡ 0)
+        → StandsInArea s words (block_at s spot.board x p) → end ≡ p + size (block_at s spot.board x p) → ((i : ℕ) → p + 1 ≤ i → i < end → slice_index t.index.items i ≡ 0)
         → (x ≡ root_at s → more ≡ 0) → ((x ≡ root_at s → ⊥) → more ≡ end - p) → IsEntered s words u (p + 4) p end (told_block s bs x p) bs
     is_passed u end more long index' spots' others' st e free root other =
         let b : LinkedBlock = told_block s bs x p in
@@ -81,7 +81,7 @@ module _ (s : Setting) (words : List ℕ) (h : IsSetting s) (t : Table) (p : ℕ
         (cases_eq x (root_at s)) in
         let few = sc.few in
         let most : more ≤ end - p = ⊎_elim (λ (r : x ≡ root_at s). omega (arith, root r)) (λ (r : x ≡ root_at s → ⊥). omega (arith, other r)) (cases_eq x (root_at s)) in
-        let all : Scanned s words u (p + 4) (p + size b) (b ∷ bs) = put s words h t p bs sc x node refl link u index' spots' sum (omega (arith, others', few, most, ends)) entry (subst (Stands s words) is_block st)
+        let all : Scanned s words u (p + 4) (p + size b) (b ∷ bs) = put s words h t p bs sc x node refl link u index' spots' sum (omega (arith, others', few, most, ends)) entry (subst (StandsInArea s words) is_block st)
         (λ i l m. free i l (omega (arith, m, ends))) in
         record {
           setting = h;

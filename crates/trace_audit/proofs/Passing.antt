@@ -20,7 +20,7 @@ use Rattle.tree_words.proofs.Boards.SetNumbers.{set-has_empties}
 use Rattle.tree_words.proofs.Walks.Asking.{spot-size}
 use Rattle.trace_audit.specs.declared.linking.Spot.{Spot}
 use Rattle.trace_audit.specs.declared.linking.Table.{Table}
-use Rattle.trace_audit.specs.Tables.{AreUnlinked, ShowBlock, Stands, IsSpot, IsTable, IsFollowed, Scanned}
+use Rattle.trace_audit.specs.Tables.{AreUnlinked, ShowBlock, StandsInArea, IsSpot, IsSpotTable, IsFollowed, Scanned}
 use Rattle.trace_audit.proofs.Scanning.{link_real, link_whole, apart_blocks, node_below}
 
 -- where no block begins
@@ -69,7 +69,7 @@ module _ (s : Setting) (words : List ℕ) (h : IsSetting s) (t : Table) (p : ℕ
   block_whole cs lk = subst (λ z. IsWhole s (next_in words) cs (told_block s bs x z)) link (link_whole s words h bs cs x lk (sc.known cs lk) n (omega (arith, link, some)))
 
   -- so it stands there
-  pub block_stands : (cs : List LinkedBlock) → Linked s words cs → Stands s words block
+  pub block_stands : (cs : List LinkedBlock) → Linked s words cs → StandsInArea s words block
   block_stands cs lk =
       let w = block_whole cs lk in
       record { inside = w.inside.1; claimed = w.claimed; shown = λ i l m. lk.shows.blocks block i (block_real cs lk) l m }
@@ -127,11 +127,11 @@ module _ (s : Setting) (words : List ℕ) (h : IsSetting s) (t : Table) (p : ℕ
   own_link = ap (λ (u : Bool). cond u p (link_of bs x)) (eq-eqb x x refl)
 
   module _ (u : Table) (index : u.index.items ≡ t.index.items) (spots : u.spots.items ≡ t.spots.items) (others : u.others ≡ other_words s (block ∷ bs)) (few : u.others ≤ p + size block) (mark : 0 < slice_index t.index.items p)
-      (st : Stands s words block) (free : (i : ℕ) → p + 1 ≤ i → i < p + size block → slice_index t.index.items i ≡ 0) where
+      (st : StandsInArea s words block) (free : (i : ℕ) → p + 1 ≤ i → i < p + size block → slice_index t.index.items i ≡ 0) where
     same_index : (b : ℕ) → slice_index u.index.items b ≡ slice_index t.index.items b
     same_index b = ap (λ l. slice_index l b) index
 
-    put_table : IsTable s words (block ∷ bs) u
+    put_table : IsSpotTable s words (block ∷ bs) u
     put_table = record {
       long = ap length index ∙ sc.table.long;
       spots = λ k d l.

@@ -9,7 +9,7 @@ use Rattle.std.proofs.Math.Seq.{take-length}
 use Rattle.tree_words.specs.Closing.{ClosedTree, IsClosed}
 use Rattle.tree_words.specs.Settings.{IsSetting}
 use Rattle.tree_words.specs.Words.{next_in, area_at}
-use Rattle.trace_audit.specs.Traces.{bytes_of, fields_of, trace_text, written}
+use Rattle.trace_audit.specs.Traces.{bytes_of, fields_of, trace_text, written_count}
 use Rattle.trace_audit.specs.Told.{AreWords, TellsClosed}
 use Rattle.trace_audit.proofs.SameWords.{closed_same, front_below}
 
@@ -43,11 +43,11 @@ read_front words q l =
     take-append-le q (take q words) (replicate (length words - q) 0) (omega (arith, front)) ∙ ap (λ k. take k (take q words)) (sym front) ∙ take-length (take q words)
 
 -- a word below NEXT is read as it was: where it was not written, there is none
-read_same : (words : List ℕ) (i : ℕ) → i < next_in words → slice_index (read_back words (written words)) i ≡ slice_index words i
+read_same : (words : List ℕ) (i : ℕ) → i < next_in words → slice_index (read_back words (written_count words)) i ≡ slice_index words i
 read_same words i m = ⊎_elim
-    (λ (h : i < written words). read_below words (written words) i (omega arith) h)
-    (λ (h : written words ≤ i). read_rest words (written words) i (omega arith) h ∙ sym (get_or_past words i 0 (omega (arith, h, m))))
-    (cases_lt i (written words))
+    (λ (h : i < written_count words). read_below words (written_count words) i (omega arith) h)
+    (λ (h : written_count words ≤ i). read_rest words (written_count words) i (omega arith) h ∙ sym (get_or_past words i 0 (omega (arith, h, m))))
+    (cases_lt i (written_count words))
 
 -- each word that is read is a 64-bit number
 read_words : (words : List ℕ) (q : ℕ) → q ≤ length words → AreWords words → AreWords (read_back words q)
@@ -60,15 +60,15 @@ read_words words q l h i = ⊎_elim
 pub tells_closed : (t : ClosedTree) → IsSetting t.shape → IsClosed t.shape t.words → AreWords t.words → TellsClosed t (trace_text t)
 tells_closed t h c range =
     let words : List ℕ = t.words in
-    let q : ℕ = written words in
+    let q : ℕ = written_count words in
     let read : List ℕ = read_back words q in
     let within : q ≤ length words = omega arith in
     let front : area_at t.shape ≤ next_in words = front_below t.shape words h c in
     let area : area_at t.shape ≤ q = omega (arith, front, c.long) in
     let long : length read ≡ length words = read_long words q within in
     let next : next_in read ≡ next_in words = read_below words q 0 within (omega (arith, area)) in
-    let count : written read ≡ q = λ i. min (next i) (long i) in
-    let part : take (written read) read ≡ take q words = ap (λ k. take k read) count ∙ read_front words q within in
+    let count : written_count read ≡ q = λ i. min (next i) (long i) in
+    let part : take (written_count read) read ≡ take q words = ap (λ k. take k read) count ∙ read_front words q within in
     record {
       tree = record { shape = t.shape; words = read };
       told = record {

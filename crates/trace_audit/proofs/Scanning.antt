@@ -14,7 +14,7 @@ use Rattle.tree_words.proofs.Blocks.NodeLaws.{nodes-apart, node-lies, in-cover}
 use Rattle.tree_words.proofs.Blocks.OneTree.{knows-in}
 use Rattle.tree_words.proofs.Blocks.Within.{told-real}
 use Rattle.trace_audit.specs.declared.linking.Table.{Table}
-use Rattle.trace_audit.specs.Tables.{AreUnlinked, IsFollowed, IsLast, Scanned, IsLinked}
+use Rattle.trace_audit.specs.Tables.{AreUnlinked, IsFollowed, IsLastNode, Scanned, IsLinked}
 
 module _ (s : Setting) (words : List ℕ) (h : IsSetting s) where
   -- where a node links a block, that block is among the linked ones, wherever blocks are linked
@@ -78,7 +78,7 @@ module _ (s : Setting) (words : List ℕ) (h : IsSetting s) where
   }
 
   -- a node whose link names no block that may stand there
-  pub enter_none : (t : Table) (x p : ℕ) (bs : List LinkedBlock) → Scanned s words t x p bs → is_node (root_at s) bs x ≡ true → IsLast s p bs x → length words ≡ end_of s → 0 < link_in words x
+  pub enter_none : (t : Table) (x p : ℕ) (bs : List LinkedBlock) → Scanned s words t x p bs → is_node (root_at s) bs x ≡ true → IsLastNode s p bs x → length words ≡ end_of s → 0 < link_in words x
       → ((p ≤ link_in words x) × (link_in words x < length words) × (slice_index words (link_in words x) ≡ x) → ⊥) → AreUnlinked s words
   enter_none t x p bs sc n last long l not-so cs lk =
       let b : ℕ = link_in words x in

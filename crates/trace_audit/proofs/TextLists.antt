@@ -6,8 +6,8 @@ use Rattle.std.proofs.Math.Seq.{drop-length, take-length}
 use Rattle.tree_words.specs.Closing.{ClosedTree, IsClosed}
 use Rattle.trace_audit.specs.Traces.{trace_text}
 use Rattle.trace_audit.specs.Told.{IsReadTree}
-use Rattle.trace_audit.specs.Texts.{IsText, tree_of}
-use Rattle.trace_audit.specs.Verdicts.{AreClosed, AreTexts, Begins, FailsFirst, HasFlaw, trace_texts}
+use Rattle.trace_audit.specs.Texts.{IsText, closed_tree_of}
+use Rattle.trace_audit.specs.Verdicts.{AreClosed, AreTexts, BeginsWithTree, FailsFirst, HasFlaw, trace_texts}
 use Rattle.trace_audit.specs.declared.parsing.Text.{Text}
 use Rattle.trace_audit.specs.declared.types.Flaw.{Flaw}
 use Rattle.trace_audit.specs.declared.types.Flaw.TheVariants.{BadForm, Block, Record, Count, End, Growth}
@@ -24,7 +24,7 @@ closed_more (u ∷ ts) t a r c = (a.0, a.1, closed_more ts t a.2 r c)
 pub texts_more : (n at m : ℕ) (bytes : List ℕ) (text : Text) → AreTexts n (drop at bytes) bytes → IsText (drop at bytes) text → IsClosed text.shape text.words.items → m ≡ at + text.bytes
     → AreTexts (n + 1) (drop m bytes) bytes
 texts_more n at m bytes text a t c e =
-    let tree : ClosedTree = tree_of text in
+    let tree : ClosedTree = closed_tree_of text in
     let rest : drop text.bytes (drop at bytes) ≡ drop m bytes = drop-drop text.bytes at bytes ∙ ap (λ k. drop k bytes) (sym e) in
     let one : trace_text tree ++ [] ≡ trace_text tree = append-nil (trace_text tree) in
     let texts : trace_texts (a.trees ++ tree ∷ []) ≡ trace_texts a.trees ++ trace_text tree = flat_map-append trace_text a.trees (tree ∷ []) ∙ ap (λ l. trace_texts a.trees ++ l) one in
@@ -41,11 +41,11 @@ pub texts_all : (n at : ℕ) (bytes : List ℕ) → AreTexts n (drop at bytes) b
 texts_all n at bytes a e = subst (λ l. AreTexts n l bytes) (ap (λ k. drop k bytes) e ∙ drop-length bytes) a
 
 -- the text that was read begins there
-pub text_stands : (bytes : List ℕ) (text : Text) → IsText bytes text → Begins (tree_of text) bytes
+pub text_stands : (bytes : List ℕ) (text : Text) → IsText bytes text → BeginsWithTree (closed_tree_of text) bytes
 text_stands bytes text t = record { read = t.read; rest = drop text.bytes bytes; text = t.begins }
 
 -- a point that fails is the text's flaw
-pub flaw_is : (bytes : List ℕ) (why : Flaw) (t : ClosedTree) → Begins t bytes → FailsFirst t.shape t.words why → HasFlaw bytes why
+pub flaw_is : (bytes : List ℕ) (why : Flaw) (t : ClosedTree) → BeginsWithTree t bytes → FailsFirst t.shape t.words why → HasFlaw bytes why
 flaw_is bytes BadForm t b f = absurd f
 flaw_is bytes Block t b f = (t, b, f)
 flaw_is bytes Record t b f = (t, b, f)
@@ -54,7 +54,7 @@ flaw_is bytes End t b f = (t, b, f)
 flaw_is bytes Growth t b f = (t, b, f)
 
 -- no text stands there
-pub bad_form : (bytes : List ℕ) (at : ℕ) → at < length bytes → ((t : ClosedTree) → Begins t (drop at bytes) → ⊥) → HasFlaw (drop at bytes) BadForm
+pub bad_form : (bytes : List ℕ) (at : ℕ) → at < length bytes → ((t : ClosedTree) → BeginsWithTree t (drop at bytes) → ⊥) → HasFlaw (drop at bytes) BadForm
 bad_form bytes at l n = (λ e. omega (arith, ap length e, length-drop at bytes, l), n)
 
 -- the bytes from `at` on, as they are handed over

@@ -6,18 +6,18 @@ use Rattle.hex_cells.specs.declared.colours.Colour.{Colour}
 use Rattle.hex_cells.specs.declared.colours.Colour.TheVariants.{Black, White}
 use Rattle.tree_words.specs.Settings.{Setting, IsSetting}
 use Rattle.tree_words.specs.Closing.{ClosedTree}
-use Rattle.trace_audit.specs.Traces.{bytes_of, fields_of, written, low_word, high_word, colour_word}
+use Rattle.trace_audit.specs.Traces.{bytes_of, fields_of, written_count, low_word, high_word, colour_number}
 use Rattle.trace_audit.specs.Told.{AreWords}
 use Rattle.trace_audit.specs.Fields.{AreOfSet, TellShape}
 use Rattle.trace_audit.specs.Texts.{BeginWith}
-use Rattle.trace_audit.specs.Verdicts.{Begins}
+use Rattle.trace_audit.specs.Verdicts.{BeginsWithTree}
 use Rattle.trace_audit.proofs.WordBytes.{words_same}
 use Rattle.trace_audit.proofs.FieldLaws.{on_small, allowed_small}
 
 -- the front of a text
-abbrev pub begins_front : (t : ClosedTree) (bytes : List ℕ) → Begins t bytes → BeginWith bytes (fields_of t.shape (written t.words))
+abbrev pub begins_front : (t : ClosedTree) (bytes : List ℕ) → BeginsWithTree t bytes → BeginWith bytes (fields_of t.shape (written_count t.words))
 begins_front t bytes b =
-    let q : ℕ = written t.words in
+    let q : ℕ = written_count t.words in
     let fs : List ℕ = bytes_of (fields_of t.shape q) in
     let ws : List ℕ = bytes_of (take q t.words) in
     (ws ++ b.rest, b.text ∙ append_assoc (codes "HEXTREE1") (fs ++ ws) b.rest ∙ ap (λ l. codes "HEXTREE1" ++ l) (append_assoc fs ws b.rest))
@@ -32,7 +32,7 @@ low_fits set = omega arith
 high_fits : (set : ℕ) → set < 2 ^ 121 → high_word set < 2 ^ 64
 high_fits set l = omega (arith, l)
 
-colour_fits : (c : Colour) → colour_word c < 2 ^ 64
+colour_fits : (c : Colour) → colour_number c < 2 ^ 64
 colour_fits Black = omega arith
 colour_fits White = omega arith
 
@@ -67,7 +67,7 @@ fields_tell s q = record {
 set_same : (a b low high : ℕ) → AreOfSet low high a → AreOfSet low high b → a ≡ b
 set_same a b low high x y = omega (arith, x.0, x.1, y.0, y.1)
 
-colour_same : (a b : Colour) (n : ℕ) → n ≡ colour_word a → n ≡ colour_word b → a ≡ b
+colour_same : (a b : Colour) (n : ℕ) → n ≡ colour_number a → n ≡ colour_number b → a ≡ b
 colour_same Black Black n e f = refl
 colour_same Black White n e f = absurd (omega (arith, e, f))
 colour_same White Black n e f = absurd (omega (arith, e, f))

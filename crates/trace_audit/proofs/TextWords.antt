@@ -7,33 +7,33 @@ use Rattle.std.proofs.lemmas.List.{take-append-drop, drop-drop, drop_at, length-
 use Rattle.tree_words.specs.Settings.{Setting, IsSetting}
 use Rattle.tree_words.specs.Words.{area_at, end_of, next_in}
 use Rattle.tree_words.specs.Closing.{ClosedTree}
-use Rattle.trace_audit.specs.Traces.{bytes_of, fields_of, trace_text, written}
+use Rattle.trace_audit.specs.Traces.{bytes_of, fields_of, trace_text, written_count}
 use Rattle.trace_audit.specs.Told.{AreWords, IsReadTree}
 use Rattle.trace_audit.specs.Fields.{TellShape}
 use Rattle.trace_audit.specs.Texts.{BeginWith, StandAt, AreFields, IsFront}
-use Rattle.trace_audit.specs.Verdicts.{Begins}
+use Rattle.trace_audit.specs.Verdicts.{BeginsWithTree}
 use Rattle.trace_audit.proofs.WordBytes.{bytes_long, words_same}
 use Rattle.trace_audit.proofs.TextTree.{begins_front, front_one, fields_words, fields_tell, shape_one, told_fields}
 
 end_small : (s : Setting) → IsSetting s → end_of s < 2 ^ 64
 end_small s h = omega (arith, h.ranges.playouts, h.ranges.words)
 
-pub written_most : (t : ClosedTree) → IsReadTree t → written t.words ≤ end_of t.shape
+pub written_most : (t : ClosedTree) → IsReadTree t → written_count t.words ≤ end_of t.shape
 written_most t r = omega (arith, r.long)
 
 -- the fields that a text begins with are those of its tree
-pub tree_fields : (bytes fields : List ℕ) (t : ClosedTree) → AreFields bytes fields → Begins t bytes → fields ≡ fields_of t.shape (written t.words)
+pub tree_fields : (bytes fields : List ℕ) (t : ClosedTree) → AreFields bytes fields → BeginsWithTree t bytes → fields ≡ fields_of t.shape (written_count t.words)
 tree_fields bytes fields t f b =
-    let q : ℕ = written t.words in
+    let q : ℕ = written_count t.words in
     front_one bytes fields (fields_of t.shape q) f.words (fields_words t.shape q b.read.shape (omega (arith, written_most t b.read, end_small t.shape b.read.shape))) f.count f.front (begins_front t bytes b)
 
-pub tree_told : (bytes fields : List ℕ) (t : ClosedTree) → AreFields bytes fields → Begins t bytes → TellShape fields t.shape
-tree_told bytes fields t f b = subst (λ l. TellShape l t.shape) (sym (tree_fields bytes fields t f b)) (fields_tell t.shape (written t.words))
+pub tree_told : (bytes fields : List ℕ) (t : ClosedTree) → AreFields bytes fields → BeginsWithTree t bytes → TellShape fields t.shape
+tree_told bytes fields t f b = subst (λ l. TellShape l t.shape) (sym (tree_fields bytes fields t f b)) (fields_tell t.shape (written_count t.words))
 
 -- how many bytes a text has at least
-pub begins_long : (t : ClosedTree) (bytes : List ℕ) → IsReadTree t → Begins t bytes → 128 + 8 * written t.words ≤ length bytes
+pub begins_long : (t : ClosedTree) (bytes : List ℕ) → IsReadTree t → BeginsWithTree t bytes → 128 + 8 * written_count t.words ≤ length bytes
 begins_long t bytes r b =
-    let q : ℕ = written t.words in
+    let q : ℕ = written_count t.words in
     let fs : List ℕ = bytes_of (fields_of t.shape q) in
     let ws : List ℕ = bytes_of (take q t.words) in
     let front : length (take q t.words) ≡ q = length-take-le q t.words (omega arith) in
@@ -42,11 +42,11 @@ begins_long t bytes r b =
     omega (arith, all, name, length-append fs ws, bytes_long (fields_of t.shape q), bytes_long (take q t.words), front)
 
 -- the count of a text is in its range
-pub count_fits : (bytes fields : List ℕ) (s : Setting) (t : ClosedTree) → AreFields bytes fields → TellShape fields s → Begins t bytes
+pub count_fits : (bytes fields : List ℕ) (s : Setting) (t : ClosedTree) → AreFields bytes fields → TellShape fields s → BeginsWithTree t bytes
     → (area_at s ≤ slice_index fields 14) × (slice_index fields 14 ≤ end_of s) × (8 * slice_index fields 14 ≤ length bytes - 128)
 count_fits bytes fields s t f h b =
     let same : t.shape ≡ s = shape_one fields t.shape s (tree_told bytes fields t f b) h in
-    let count : slice_index fields 14 ≡ written t.words = ap (λ l. slice_index l 14) (tree_fields bytes fields t f b) in
+    let count : slice_index fields 14 ≡ written_count t.words = ap (λ l. slice_index l 14) (tree_fields bytes fields t f b) in
     let area : area_at t.shape ≡ area_at s = ap area_at same in
     let end : end_of t.shape ≡ end_of s = ap end_of same in
     (omega (arith, count, area, b.read.front), omega (arith, count, end, written_most t b.read), omega (arith, count, begins_long t bytes b.read b))
@@ -82,7 +82,7 @@ stand_split bytes ws h =
     sym (take-append-drop (8 * length ws) rest) ∙ (λ i. sym h i ++ drop (8 * length ws) rest) ∙ ap (λ l. bytes_of ws ++ l) (drop-drop (8 * length ws) 128 bytes)
 
 -- the tree of the words that were read
-pub text_begins : (bytes words : List ℕ) (s : Setting) (q : ℕ) → IsFront bytes s q → length words ≡ end_of s → StandAt bytes 128 (take q words) → written words ≡ q
+pub text_begins : (bytes words : List ℕ) (s : Setting) (q : ℕ) → IsFront bytes s q → length words ≡ end_of s → StandAt bytes 128 (take q words) → written_count words ≡ q
     → bytes ≡ trace_text (record { shape = s; words = words }) ++ drop (128 + 8 * q) bytes
 text_begins bytes words s q f l h e =
     let front : length (take q words) ≡ q = length-take-le q words (omega (arith, l, f.most)) in
@@ -94,7 +94,7 @@ text_begins bytes words s q f l h e =
     whole ∙ ap (λ z. codes "HEXTREE1" ++ z) (sym (append_assoc fs ws rest)) ∙ sym (append_assoc (codes "HEXTREE1") (fs ++ ws) rest)
     ∙ ap (λ n. (codes "HEXTREE1" ++ (bytes_of (fields_of s n) ++ bytes_of (take n words))) ++ rest) (sym e)
 
-pub text_tree : (bytes words : List ℕ) (s : Setting) (q : ℕ) → IsFront bytes s q → length words ≡ end_of s → AreWords words → ((i : ℕ) → q ≤ i → slice_index words i ≡ 0) → written words ≡ q
+pub text_tree : (bytes words : List ℕ) (s : Setting) (q : ℕ) → IsFront bytes s q → length words ≡ end_of s → AreWords words → ((i : ℕ) → q ≤ i → slice_index words i ≡ 0) → written_count words ≡ q
     → IsReadTree (record { shape = s; words = words })
 text_tree bytes words s q f l a z e = record {
   shape = f.setting;
@@ -105,10 +105,10 @@ text_tree bytes words s q f l a z e = record {
 }
 
 -- a text that the bytes begin with has the words that were read
-pub text_words : (bytes words : List ℕ) (s : Setting) (q : ℕ) (t : ClosedTree) → IsFront bytes s q → length words ≡ end_of s → AreWords words → StandAt bytes 128 (take q words) → Begins t bytes
-    → (s ≡ t.shape) × (q ≡ written t.words) × (take q words ≡ take q t.words)
+pub text_words : (bytes words : List ℕ) (s : Setting) (q : ℕ) (t : ClosedTree) → IsFront bytes s q → length words ≡ end_of s → AreWords words → StandAt bytes 128 (take q words) → BeginsWithTree t bytes
+    → (s ≡ t.shape) × (q ≡ written_count t.words) × (take q words ≡ take q t.words)
 text_words bytes words s q t f l a h b =
-    let p : ℕ = written t.words in
+    let p : ℕ = written_count t.words in
     let mine : BeginWith bytes (fields_of t.shape p) = begins_front t bytes b in
     let same : fields_of s q ≡ fields_of t.shape p = front_one bytes (fields_of s q) (fields_of t.shape p) (fields_words s q f.setting (omega (arith, f.most, end_small s f.setting)))
     (fields_words t.shape p b.read.shape (omega (arith, written_most t b.read, end_small t.shape b.read.shape))) refl f.front mine in
@@ -121,8 +121,8 @@ text_words bytes words s q t f l a h b =
     (shape, count, words_same (take q words) (take q t.words) _ _ (take_words words q a) (take_words t.words q b.read.words) (long ∙ sym long') split)
 
 -- so none begins them where the count is another one
-pub text_none : (bytes words : List ℕ) (s : Setting) (q : ℕ) → IsFront bytes s q → length words ≡ end_of s → AreWords words → StandAt bytes 128 (take q words) → (written words ≡ q → ⊥)
-    → (t : ClosedTree) → Begins t bytes → ⊥
+pub text_none : (bytes words : List ℕ) (s : Setting) (q : ℕ) → IsFront bytes s q → length words ≡ end_of s → AreWords words → StandAt bytes 128 (take q words) → (written_count words ≡ q → ⊥)
+    → (t : ClosedTree) → BeginsWithTree t bytes → ⊥
 text_none bytes words s q f l a h n t b =
     let w = text_words bytes words s q t f l a h b in
     let least = f.least in
@@ -133,7 +133,7 @@ text_none bytes words s q f l a h n t b =
 
 -- all that was read, where the words stand in a vector
 pub text_is : (bytes items words : List ℕ) (s : Setting) (q : ℕ) → items ≡ words → IsFront bytes s q → length words ≡ end_of s → AreWords words → StandAt bytes 128 (take q words)
-    → ((i : ℕ) → q ≤ i → slice_index words i ≡ 0) → written words ≡ q
+    → ((i : ℕ) → q ≤ i → slice_index words i ≡ 0) → written_count words ≡ q
     → IsReadTree (record { shape = s; words = items }) × (bytes ≡ trace_text (record { shape = s; words = items }) ++ drop (128 + 8 * q) bytes)
 text_is bytes items words s q same f l a h z e = subst (λ (ws : List ℕ). IsReadTree (record { shape = s; words = ws }) × (bytes ≡ trace_text (record { shape = s; words = ws }) ++ drop (128 + 8 * q) bytes)) (sym same)
     (text_tree bytes words s q f l a z e, text_begins bytes words s q f l h e)

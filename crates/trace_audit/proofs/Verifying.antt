@@ -4,7 +4,7 @@ use Rattle.std.specs.Prelude.{slice_index_or, ◌==◌}
 use Rattle.std.proofs.lemmas.Bool.{ne_eqb}
 use Rattle.hex_board.specs.Positions.{Position, is_empty_at, placed}
 use Rattle.tree_words.specs.Settings.{Setting, IsSetting}
-use Rattle.tree_words.specs.Words.{count_in, root_at, end_of, next_in, nodes_in, tally_in, cell_in}
+use Rattle.tree_words.specs.Words.{count_in, root_at, end_of, next_in, nodes_in, tally_in, cell_in, node_at}
 use Rattle.tree_words.specs.Blocks.{LinkedBlock, has_node, In, cell_at}
 use Rattle.tree_words.specs.Paths.{NodeState, state_after, node_board}
 use Rattle.tree_words.specs.Records.{Recorded, leaf_of}
@@ -18,7 +18,7 @@ use Rattle.trace_audit.specs.declared.linking.Spot.{Spot}
 use Rattle.trace_audit.specs.declared.linking.Table.{Table}
 use Rattle.trace_audit.specs.Tables.{IsLinked}
 use Rattle.trace_audit.specs.Sums.{AreSums}
-use Rattle.trace_audit.specs.Points.{AreFrugal, AreSame, EachSpot, HasCells, HasRoom, HasSums, IsFirst, LiesWithin, SomeSpot, node_at}
+use Rattle.trace_audit.specs.Points.{AreFrugal, AreSame, EachSpot, HasCells, IsNextBounded, HasSums, IsFirst, LiesWithin, SomeSpot}
 use Rattle.trace_audit.proofs.Cells.{IsMove, move_is}
 use Rattle.trace_audit.proofs.InBlock.{count_one}
 use Rattle.trace_audit.proofs.LinkedLaws.{count_word, lies_in, node_move, spot_block}
@@ -119,7 +119,7 @@ module _ (s : Setting) (words : List ℕ) (t : Table) (bs : List LinkedBlock) (h
         let node = in-node (root_at s) bs f.0 x f.1 (spot_node some.0 some.1 some.2 j m) in
         omega (arith, a.leaves x node, g.leaves room x c node (ap (λ (p : Position). is_empty_at p c) (frugal_board some.0 some.1 some.2 j m) ∙ e)))
 
-    pub grown_of : Recorded s bs words → EachSpot t (λ p. IsFirst words s.knobs.workers p.start) → (next_in words ≤ end_of s → EachSpot t (AreFrugal words sums (s.knobs.workers * s.knobs.expand))) → HasRoom s words t.others → Grown s bs words
+    pub grown_of : Recorded s bs words → EachSpot t (λ p. IsFirst words s.knobs.workers p.start) → (next_in words ≤ end_of s → EachSpot t (AreFrugal words sums (s.knobs.workers * s.knobs.expand))) → IsNextBounded s words t.others → Grown s bs words
     grown_of rec first frugal room = record {
       first = λ b x y i n m e.
           let f = block_spot b x i n in
@@ -148,7 +148,7 @@ module _ (s : Setting) (words : List ℕ) (t : Table) (bs : List LinkedBlock) (h
         omega-few {j} {b} {q} l e = omega (arith, l, ap (nodes_in words) e)
 
         omega-room : next_in words ≤ root_end s + s.knobs.workers * other_words s bs + 488 * s.knobs.workers
-        omega-room = subst (λ (n : ℕ). HasRoom s words n) lk.others room
+        omega-room = subst (λ (n : ℕ). IsNextBounded s words n) lk.others room
 
-    pub room_of : Grown s bs words → HasRoom s words t.others
-    room_of g = subst (λ (n : ℕ). HasRoom s words n) (sym lk.others) g.room
+    pub room_of : Grown s bs words → IsNextBounded s words t.others
+    room_of g = subst (λ (n : ℕ). IsNextBounded s words n) (sym lk.others) g.room

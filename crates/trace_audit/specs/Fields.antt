@@ -3,7 +3,7 @@ use Rattle.std.specs.Prelude.{◌≡◌, ℕ, List, slice_index}
 use Rattle.hex_board.specs.Positions.{Position}
 use Rattle.tree_words.specs.Settings.{Setting}
 use Rattle.tree_words.specs.declared.settings.Knobs.{Knobs}
-use Rattle.trace_audit.specs.Traces.{low_word, high_word, colour_word}
+use Rattle.trace_audit.specs.Traces.{low_word, high_word, colour_number}
 
 -- the two words are those of the set of cells
 abbrev pub AreOfSet : ℕ → ℕ → ℕ → Type 0
@@ -27,6 +27,6 @@ pub record TellKnobs (fields : List ℕ) (k : Knobs) : Type 0 where
 -- the fields tell the shape
 pub record TellShape (fields : List ℕ) (s : Setting) : Type 0 where
   pub board : TellBoard fields s.board
-  pub player : slice_index fields 5 ≡ colour_word s.player
+  pub player : slice_index fields 5 ≡ colour_number s.player
   pub allowed : AreOfSet (slice_index fields 6) (slice_index fields 7) s.allowed
   pub knobs : TellKnobs fields s.knobs

@@ -5,10 +5,10 @@ use Rattle.trace_audit.specs.declared.types.Flaw.TheVariants.{BadForm, Block, Re
 use Rattle.trace_audit.specs.declared.types.Flaw.TheVariants.{Growth}
 
 -- the number of a flaw, in the order in which flaws are looked for
-abbrev pub number_of : Flaw → ℕ
-number_of BadForm = 1
-number_of Block = 2
-number_of Record = 3
-number_of Count = 4
-number_of End = 5
-number_of Growth = 6
+abbrev pub flaw_number : Flaw → ℕ
+flaw_number BadForm = 1
+flaw_number Block = 2
+flaw_number Record = 3
+flaw_number Count = 4
+flaw_number End = 5
+flaw_number Growth = 6

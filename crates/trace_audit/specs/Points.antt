@@ -3,26 +3,21 @@ use Rattle.std.specs.Prelude.{◌≡◌, ℕ, ◌+◌, ◌*◌, ◌<◌, ◌≤�
 use Rattle.std.specs.Prelude.{slice_index_or}
 use Rattle.hex_board.specs.Positions.{is_empty_at, placed}
 use Rattle.tree_words.specs.Settings.{Setting}
-use Rattle.tree_words.specs.Words.{next_in, nodes_in, tally_in, seen_in, cell_in}
+use Rattle.tree_words.specs.Words.{next_in, nodes_in, tally_in, seen_in, cell_in, node_at}
 use Rattle.tree_words.specs.Blocks.{block_size}
 use Rattle.tree_words.specs.Growth.{root_end}
-use Rattle.tree_words.specs.declared.layout.TheConstants.{HEADER_WORDS, NODE_WORDS}
 use Rattle.tree_words.specs.declared.layout.TheConstants.{MOST_BLOCK_WORDS}
 use Rattle.hex_cells.specs.declared.board_size.TheConstants.{MOST_CELLS}
 use Rattle.trace_audit.specs.declared.linking.Spot.{Spot}
 use Rattle.trace_audit.specs.declared.linking.Table.{Table}
-
--- the node of place k of the block at b
-abbrev pub node_at : ℕ → ℕ → ℕ
-node_at b k = b + HEADER_WORDS + NODE_WORDS * k
 
 -- the node at x has the same counts in both
 abbrev pub AreSame : List ℕ → List ℕ → ℕ → Type 0
 AreSame words sums x = (tally_in words x ≡ tally_in sums x) × (seen_in words x ≡ seen_in sums x)
 
 -- the visits of the node of place k of the block at b
-abbrev pub visits_at : List ℕ → ℕ → ℕ → ℕ
-visits_at words b k = (tally_in words (node_at b k)).visits
+abbrev pub place_visits : List ℕ → ℕ → ℕ → ℕ
+place_visits words b k = (tally_in words (node_at b k)).visits
 
 -- the node of place k of the spot's block is the leaf of at most so many records, where its board
 -- has an empty cell
@@ -33,14 +28,14 @@ IsFrugal words sums p most k = let x = node_at p.start k in
 
 -- NEXT is at most the end of the root's block, for each worker so many words, and for each worker
 -- a largest block
-abbrev pub HasRoom : Setting → List ℕ → ℕ → Type 0
-HasRoom s words others = next_in words ≤ root_end s + s.knobs.workers * others
+abbrev pub IsNextBounded : Setting → List ℕ → ℕ → Type 0
+IsNextBounded s words others = next_in words ≤ root_end s + s.knobs.workers * others
     + MOST_BLOCK_WORDS * s.knobs.workers
 
 -- where a node of the block at b has no visits, none has more than so many
 abbrev pub IsFirst : List ℕ → ℕ → ℕ → Type 0
 IsFirst words most b = (i j : ℕ) → i < nodes_in words b → j < nodes_in words b
-    → visits_at words b j ≡ 0 → visits_at words b i ≤ most
+    → place_visits words b j ≡ 0 → place_visits words b i ≤ most
 
 -- each spot of the table is so
 abbrev pub EachSpot : Table → (Spot → Type 0) → Type 0

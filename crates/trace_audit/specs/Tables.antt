@@ -33,14 +33,14 @@ ShowBlock words b = (i : ℕ) → i < size b → is_header_or_move i ≡ true
     → slice_index words (b.start + i) ≡ header_or_move b i
 
 -- the block stands in the words, inside the area and below NEXT
-pub record Stands (s : Setting) (words : List ℕ) (b : LinkedBlock) : Type 0 where
+pub record StandsInArea (s : Setting) (words : List ℕ) (b : LinkedBlock) : Type 0 where
   pub inside : b.start + size b ≤ end_of s
   pub claimed : b.start + size b ≤ next_in words
   pub shown : ShowBlock words b
 
 -- the board of a spot and the player to move there
-abbrev pub state_in : Spot → NodeState
-state_in p = record { board = p.board; player = p.player }
+abbrev pub spot_state : Spot → NodeState
+spot_state p = record { board = p.board; player = p.player }
 
 -- the spot is of a block that a node's link names: the block's first word says which node, and the
 -- spot has its board and the player to move there
@@ -48,11 +48,12 @@ pub record IsSpot (s : Setting) (words : List ℕ) (bs : List LinkedBlock) (p : 
   pub node : is_node (root_at s) bs (slice_index words p.start) ≡ true
   pub link : link_in words (slice_index words p.start) ≡ p.start
   pub inside : (area_at s ≤ p.start) × (p.start < end_of s)
-  pub state : state_in p ≡ node_state s bs (slice_index words p.start)
+  pub state : spot_state p ≡ node_state s bs (slice_index words p.start)
 
 -- the table has spots alone, and each number of its index, if it is not 0, is that of a spot of
 -- this word
-pub record IsTable (s : Setting) (words : List ℕ) (bs : List LinkedBlock) (t : Table) : Type 0 where
+pub record IsSpotTable (s : Setting) (words : List ℕ) (bs : List LinkedBlock) (t : Table)
+    : Type 0 where
   pub long : length t.index.items ≡ end_of s
   pub spots : (k : ℕ) (d : Spot) → k < length t.spots.items
       → IsSpot s words bs (slice_index_or t.spots.items k d)
@@ -78,7 +79,7 @@ pub record Scanned (s : Setting) (words : List ℕ) (t : Table) (done passed : �
   pub complete : AreComplete s (next_in words) bs
   pub ended : AreComplete s passed bs
   pub area : area_at s ≤ passed
-  pub table : IsTable s words bs t
+  pub table : IsSpotTable s words bs t
   pub links : (x : ℕ) → is_node (root_at s) bs x ≡ true → x < done
       → IsFollowed words t passed bs x
   pub vacant : (x : ℕ) → is_node (root_at s) bs x ≡ true → done ≤ x → link_of bs x ≡ 0
@@ -99,8 +100,8 @@ pub record IsEntered (s : Setting) (words : List ℕ) (t : Table) (done at end :
 
 -- the node x is the root, and no block is passed, or it is a node of the block that ends where the
 -- words are passed
-abbrev pub IsLast : Setting → ℕ → List LinkedBlock → ℕ → Type 0
-IsLast s passed bs x =
+abbrev pub IsLastNode : Setting → ℕ → List LinkedBlock → ℕ → Type 0
+IsLastNode s passed bs x =
     ((x ≡ root_at s) × (passed ≡ area_at s))
     ⊎ ((b : LinkedBlock) × In b bs × (has_node b x ≡ true) × (passed ≡ b.start + size b))
 
@@ -108,7 +109,7 @@ IsLast s passed bs x =
 pub record IsLinked (s : Setting) (words : List ℕ) (t : Table) (bs : List LinkedBlock)
     : Type 0 where
   pub linked : Linked s words bs
-  pub table : IsTable s words bs t
+  pub table : IsSpotTable s words bs t
   pub entered : (b : LinkedBlock) → In b bs → 0 < slice_index t.index.items b.start
   pub others : t.others ≡ other_words s bs
   pub few : t.others ≤ end_of s

@@ -35,12 +35,12 @@ pub record IsFront (bytes : List ℕ) (s : Setting) (count : ℕ) : Type 0 where
   pub long : FRONT_BYTES + 8 * count ≤ length bytes
 
 -- the tree of what was read
-abbrev pub tree_of : Text → ClosedTree
-tree_of text = record { shape = text.shape; words = text.words.items }
+abbrev pub closed_tree_of : Text → ClosedTree
+closed_tree_of text = record { shape = text.shape; words = text.words.items }
 
 -- what was read is a tree as it is read, and the bytes begin with its text, of so many bytes
 pub record IsText (bytes : List ℕ) (text : Text) : Type 0 where
-  pub read : IsReadTree (tree_of text)
+  pub read : IsReadTree (closed_tree_of text)
   pub most : text.bytes ≤ length bytes
   pub least : FRONT_BYTES ≤ text.bytes
-  pub begins : bytes ≡ trace_text (tree_of text) ++ drop text.bytes bytes
+  pub begins : bytes ≡ trace_text (closed_tree_of text) ++ drop text.bytes bytes

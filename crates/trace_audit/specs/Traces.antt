@@ -17,9 +17,9 @@ abbrev pub bytes_of : List ℕ → List ℕ
 bytes_of words = flat_map (to_le_bytes w64) words
 
 -- a player as a word
-abbrev pub colour_word : Colour → ℕ
-colour_word Black = 0
-colour_word White = 1
+abbrev pub colour_number : Colour → ℕ
+colour_number Black = 0
+colour_number White = 1
 
 -- the two words of a set of cells: cells 0 to 63 as bits, and then those from 64 on
 abbrev pub low_word : ℕ → ℕ
@@ -29,8 +29,8 @@ abbrev pub high_word : ℕ → ℕ
 high_word set = set / 2 ^ HIGH_EMPTIES_SHIFT
 
 -- how many words of a tree are written: all below NEXT
-abbrev pub written : List ℕ → ℕ
-written words = min (next_in words) (length words)
+abbrev pub written_count : List ℕ → ℕ
+written_count words = min (next_in words) (length words)
 
 -- the fields of a trace: the shape, and how many words of the tree follow
 abbrev pub fields_of : Setting → ℕ → List ℕ
@@ -38,7 +38,7 @@ fields_of s q =
     s.board.size
     ∷ low_word s.board.black ∷ high_word s.board.black
     ∷ low_word s.board.white ∷ high_word s.board.white
-    ∷ colour_word s.player
+    ∷ colour_number s.player
     ∷ low_word s.allowed ∷ high_word s.allowed
     ∷ s.knobs.workers ∷ s.knobs.playouts ∷ s.knobs.seed
     ∷ s.knobs.words ∷ s.knobs.expand ∷ s.knobs.weight
@@ -48,8 +48,8 @@ fields_of s q =
 abbrev pub trace_text : ClosedTree → List ℕ
 trace_text tree =
     codes "HEXTREE1"
-    ++ (bytes_of (fields_of tree.shape (written tree.words))
-    ++ bytes_of (take (written tree.words) tree.words))
+    ++ (bytes_of (fields_of tree.shape (written_count tree.words))
+    ++ bytes_of (take (written_count tree.words) tree.words))
 
 -- the text of the tree, if there is one
 abbrev pub text_if : Option ClosedTree → List ℕ

@@ -17,7 +17,7 @@ use Rattle.trace_audit.specs.declared.types.Flaw.TheVariants.{BadForm, Block, Re
 use Rattle.trace_audit.specs.declared.types.Flaw.TheVariants.{Growth}
 
 -- the bytes begin with the text of this tree, as it is read
-pub record Begins (tree : ClosedTree) (bytes : List ℕ) : Type 0 where
+pub record BeginsWithTree (tree : ClosedTree) (bytes : List ℕ) : Type 0 where
   pub read : IsReadTree tree
   pub rest : List ℕ
   pub text : bytes ≡ trace_text tree ++ rest
@@ -41,9 +41,9 @@ FailsFirst s words Growth =
 -- the first flaw of the bytes' first text: no text of a tree stands there, or the tree that is read
 -- there fails so
 abbrev pub HasFlaw : List ℕ → Flaw → Type 0
-HasFlaw bytes BadForm = (bytes ≢ []) × ((tree : ClosedTree) → ¬ (Begins tree bytes))
+HasFlaw bytes BadForm = (bytes ≢ []) × ((tree : ClosedTree) → ¬ (BeginsWithTree tree bytes))
 HasFlaw bytes why =
-    (tree : ClosedTree) × Begins tree bytes × FailsFirst tree.shape tree.words why
+    (tree : ClosedTree) × BeginsWithTree tree bytes × FailsFirst tree.shape tree.words why
 
 -- each of the trees is as it is read, and closed
 abbrev pub AreClosed : List ClosedTree → Type 0

@@ -6,7 +6,7 @@ ghost use Rattle.tree_words.specs.Blocks.{is_header_or_move, size};
 ghost use Rattle.tree_words.specs.Words.{end_of};
 ghost use Rattle.tree_words.specs.Writing.{listed};
 ghost use Rattle.tree_words.specs.declared.layout.TheConstants.{MOST_BLOCK_WORDS};
-ghost use Rattle.trace_audit.specs.Tables.{Stands, block_at};
+ghost use Rattle.trace_audit.specs.Tables.{StandsInArea, block_at};
 
 use hex_board::Board;
 use hex_cells::CellSet;
@@ -55,8 +55,8 @@ pub(crate) fn block_end(
     requires at { at < length words.now }
     requires size { board.now.size ≡ shape.now.board.size }
     ensures { let b = block_at shape.now board.now parent at in
-        MatchOption result (¬ (Stands shape.now words.now b))
-        (λ end. Stands shape.now words.now b × (end ≡ at + size b)) }
+        MatchOption result (¬ (StandsInArea shape.now words.now b))
+        (λ end. StandsInArea shape.now words.now b × (end ≡ at + size b)) }
 {
     // What each shape keeps of itself.
     let _board = shape.board();

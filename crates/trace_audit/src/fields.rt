@@ -6,7 +6,7 @@ ghost use Rattle.hex_cells.specs.declared.colours.Colour.{Colour};
 ghost use Rattle.tree_words.specs.Settings.{AreInRange, IsSetting, Setting};
 ghost use Rattle.tree_words.specs.declared.settings.Knobs.{Knobs};
 ghost use Rattle.trace_audit.specs.Fields.{AreOfSet, TellBoard, TellKnobs, TellShape};
-ghost use Rattle.trace_audit.specs.Traces.{colour_word};
+ghost use Rattle.trace_audit.specs.Traces.{colour_number};
 
 use super::texts::FIELDS;
 use hex_board::Board;
@@ -40,8 +40,8 @@ fn set_of(low: u64, high: u64) -> Option<CellSet>
 
 // The player of a word.
 fn colour_of(word: u64) -> Option<Colour>
-    ensures { MatchOption result ((c : Colour) → ¬ (word ≡ colour_word c))
-        (λ c. word ≡ colour_word c) }
+    ensures { MatchOption result ((c : Colour) → ¬ (word ≡ colour_number c))
+        (λ c. word ≡ colour_number c) }
 {
     match word {
         0 => Some(Colour::Black),

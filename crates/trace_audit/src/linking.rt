@@ -8,8 +8,8 @@ ghost use Rattle.tree_words.specs.Blocks.{LinkedBlock, In, is_node, size};
 ghost use Rattle.tree_words.specs.Paths.{node_state, root_state, state_after};
 ghost use Rattle.tree_words.specs.Settings.{Setting, IsSetting};
 ghost use Rattle.tree_words.specs.Words.{area_at, end_of, root_at};
-ghost use Rattle.trace_audit.specs.Tables.{AreUnlinked, IsEntered, IsLast, IsLinked, Scanned};
-ghost use Rattle.trace_audit.specs.Tables.{state_in};
+ghost use Rattle.trace_audit.specs.Tables.{AreUnlinked, IsEntered, IsLastNode, IsLinked, Scanned};
+ghost use Rattle.trace_audit.specs.Tables.{spot_state};
 
 use super::blocks::block_end;
 use super::refusals::Memory;
@@ -31,7 +31,7 @@ impl Spot {
     /// The board and the player to move after a stone on the cell.
     pub(crate) fn after(&self, cell: Cell) -> Spot
         requires { is_empty_at self.now.board cell ≡ true }
-        ensures { state_in result ≡ state_after (state_in self.now) cell }
+        ensures { spot_state result ≡ state_after (spot_state self.now) cell }
     {
         let mut board = self.board;
         board.place(self.player, cell);
@@ -66,8 +66,8 @@ fn enter(
         × (is_node (root_at s) bs x ≡ true) }
     ensures { IfOk result (λ ok. (s : Setting) (bs : List LinkedBlock) → IsSetting s
         → length words.now ≡ end_of s → Scanned s words.now table.old x free bs
-        → is_node (root_at s) bs x ≡ true → IsLast s free bs x
-        → state_in spot ≡ node_state s bs x
+        → is_node (root_at s) bs x ≡ true → IsLastNode s free bs x
+        → spot_state spot ≡ node_state s bs x
         → MatchBool ok (Scanned s words.now table.new (x + 1) free bs)
         (AreUnlinked s words.now)) }
 {

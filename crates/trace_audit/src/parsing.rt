@@ -7,11 +7,11 @@ ghost use Rattle.tree_words.specs.Closing.{ClosedTree};
 ghost use Rattle.tree_words.specs.Words.{area_at, end_of};
 ghost use Rattle.trace_audit.specs.Texts.{AreFields, BeginWith, IsFront, IsText, StandAt};
 ghost use Rattle.trace_audit.specs.Told.{AreWords};
-ghost use Rattle.trace_audit.specs.Verdicts.{Begins};
+ghost use Rattle.trace_audit.specs.Verdicts.{BeginsWithTree};
 
 use super::fields::shape_of;
 use super::refusals::Memory;
-use super::texts::{FIELDS, WORD_BYTES, written};
+use super::texts::{FIELDS, WORD_BYTES, written_count};
 use super::zeros::zeros;
 use std::alloc::Global;
 use tree_words::Shape;
@@ -108,7 +108,7 @@ struct Front {
 
 // The front of the text that the bytes begin with; `None` where they begin with none.
 fn read_front(bytes: &[u8]) -> Option<Front>
-    ensures { MatchOption result ((tree : ClosedTree) → ¬ (Begins tree bytes.now))
+    ensures { MatchOption result ((tree : ClosedTree) → ¬ (BeginsWithTree tree bytes.now))
         (λ front. IsFront bytes.now front.shape front.count) }
 {
     let Some(fields) = fields_in(bytes) else {
@@ -128,7 +128,7 @@ fn read_front(bytes: &[u8]) -> Option<Front>
 /// The text that the bytes begin with; `None` where they begin with none.
 pub(crate) fn read_text(alloc: Global, bytes: &[u8]) -> Result<Option<Text>, Memory>
     ensures { IfOk result (λ read. MatchOption read
-        ((tree : ClosedTree) → ¬ (Begins tree bytes.now))
+        ((tree : ClosedTree) → ¬ (BeginsWithTree tree bytes.now))
         (λ text. IsText bytes.now text)) }
 {
     let Some(front) = read_front(bytes) else {
@@ -136,7 +136,7 @@ pub(crate) fn read_text(alloc: Global, bytes: &[u8]) -> Result<Option<Text>, Mem
     };
     let mut words = zeros(alloc, front.shape.total() as usize)?;
     read_words(bytes, FRONT_BYTES, &mut words, front.count);
-    if written(&words) != front.count {
+    if written_count(&words) != front.count {
         return Ok(None);
     }
     Ok(Some(Text {

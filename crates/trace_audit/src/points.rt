@@ -10,12 +10,12 @@ ghost use Rattle.tree_words.specs.Closing.{KeepsEnds};
 ghost use Rattle.tree_words.specs.Complete.{allowed_cells};
 ghost use Rattle.tree_words.specs.Counts.{Exact};
 ghost use Rattle.tree_words.specs.Growth.{Grown};
-ghost use Rattle.tree_words.specs.Words.{cell_in, end_of, nodes_in};
+ghost use Rattle.tree_words.specs.Words.{cell_in, end_of, nodes_in, node_at};
 ghost use Rattle.tree_words.specs.Records.{Recorded};
-ghost use Rattle.trace_audit.specs.Points.{AreFrugal, AreSame, EachSpot, HasCells, HasRoom};
+ghost use Rattle.trace_audit.specs.Points.{AreFrugal, AreSame, EachSpot, HasCells, IsNextBounded};
 ghost use Rattle.trace_audit.specs.Points.{HasSums};
-ghost use Rattle.trace_audit.specs.Points.{IsFirst, IsFrugal, LiesWithin, SomeSpot, node_at};
-ghost use Rattle.trace_audit.specs.Points.{visits_at};
+ghost use Rattle.trace_audit.specs.Points.{IsFirst, IsFrugal, LiesWithin, SomeSpot};
+ghost use Rattle.trace_audit.specs.Points.{place_visits};
 ghost use Rattle.trace_audit.specs.Sums.{AreSums};
 ghost use Rattle.trace_audit.specs.Tables.{IsLinked};
 
@@ -105,8 +105,8 @@ pub(crate) fn keeps_ends(words: &[u64], shape: &Shape) -> bool
 fn has_unvisited(words: &[u64], block: usize) -> bool
     requires { block + block_size (nodes_in words.now block) ≤ length words.now }
     ensures { MatchBool result
-        ((k : ℕ) × (k < nodes_in words.now block) × (visits_at words.now block k ≡ 0))
-        ((k : ℕ) → k < nodes_in words.now block → 0 < visits_at words.now block k) }
+        ((k : ℕ) × (k < nodes_in words.now block) × (place_visits words.now block k ≡ 0))
+        ((k : ℕ) → k < nodes_in words.now block → 0 < place_visits words.now block k) }
 {
     let count = words[block + COUNT_WORD] as usize;
     'nodes: for place in 0..count {
@@ -122,8 +122,8 @@ fn has_unvisited(words: &[u64], block: usize) -> bool
 fn has_more(words: &[u64], block: usize, most: u32) -> bool
     requires { block + block_size (nodes_in words.now block) ≤ length words.now }
     ensures { MatchBool result
-        ((k : ℕ) × (k < nodes_in words.now block) × (most < visits_at words.now block k))
-        ((k : ℕ) → k < nodes_in words.now block → visits_at words.now block k ≤ most) }
+        ((k : ℕ) × (k < nodes_in words.now block) × (most < place_visits words.now block k))
+        ((k : ℕ) → k < nodes_in words.now block → place_visits words.now block k ≤ most) }
 {
     let count = words[block + COUNT_WORD] as usize;
     'nodes: for place in 0..count {
@@ -186,8 +186,8 @@ fn allowed_count(shape: &Shape) -> usize
 fn has_room(words: &[u64], shape: &Shape, others: usize) -> bool
     requires long { length words.now ≡ end_of shape.now }
     requires few { others ≤ end_of shape.now }
-    ensures { MatchBool result (HasRoom shape.now words.now others)
-        (¬ (HasRoom shape.now words.now others)) }
+    ensures { MatchBool result (IsNextBounded shape.now words.now others)
+        (¬ (IsNextBounded shape.now words.now others)) }
 {
     let area = shape.knobs().playouts as usize + FRONT_WORDS;
     let root_end = area + HEADER_WORDS + NODE_WORDS * allowed_count(shape);

@@ -11,7 +11,7 @@ ghost use Rattle.tree_words.specs.Sequence.{amount_of};
 ghost use Rattle.tree_words.specs.Settings.{IsSetting, Setting};
 ghost use Rattle.tree_words.specs.Words.{cell_in, end_of, nodes_in, root_at, winner_in};
 ghost use Rattle.trace_audit.specs.Sums.{AreSums, CanAdd, CanClimb, Climbed, IsAdded, SeesSome};
-ghost use Rattle.trace_audit.specs.Tables.{IsLinked, state_in};
+ghost use Rattle.trace_audit.specs.Tables.{IsLinked, spot_state};
 
 use super::linking::{Spot, Table};
 use super::refusals::Memory;
@@ -161,7 +161,7 @@ fn spot_of(words: &[u64], table: &Table, block: usize, node: usize) -> Spot
         × In b bs × (b.start ≡ block) × (has_node b node ≡ true) }
     ensures { (s : Setting) (bs : List LinkedBlock) (b : LinkedBlock) → IsSetting s
         → length words.now ≡ end_of s → IsLinked s words.now table.now bs → In b bs
-        → b.start ≡ block → has_node b node ≡ true → state_in result ≡ node_state s bs node }
+        → b.start ≡ block → has_node b node ≡ true → spot_state result ≡ node_state s bs node }
 {
     let spot = table.spots[table.index[block] - 1];
     spot.after(Cell::numbered(cell_of(words[node])))

@@ -3,8 +3,8 @@
 ghost use Rattle.std.specs.Prelude.{◌≡◌, ◌*◌, ◌≤◌, OnOk, OnErr, length, vec_capacity};
 ghost use Rattle.hex_io.specs.Causes.{HasCause};
 ghost use Rattle.hex_io.specs.Grew.{Gave, GaveProperPart};
-ghost use Rattle.trace_audit.specs.Traces.{bytes_of, colour_word, fields_of, high_word, low_word};
-ghost use Rattle.trace_audit.specs.Traces.{trace_text, written};
+ghost use Rattle.trace_audit.specs.Traces.{bytes_of, colour_number, fields_of, high_word, low_word};
+ghost use Rattle.trace_audit.specs.Traces.{trace_text, written_count};
 
 use hex_cells::{CellSet, Colour};
 use hex_io::{Link, LinkFault, give};
@@ -38,16 +38,16 @@ pub fn give_text<W: Link>(
     ensures reads { W.read_faults link.new ≡ W.read_faults link.old }
 {
     let words = closed.words();
-    let count = written(words);
+    let count = written_count(words);
     give(link, b"HEXTREE1")?;
     give_words(link, buffer, &fields(closed, count))?;
     give_words(link, buffer, &words[..count])
 }
 
 /// How many of the words are written: all below NEXT.
-pub(crate) fn written(words: &[u64]) -> usize
+pub(crate) fn written_count(words: &[u64]) -> usize
     requires { 1 ≤ length words.now }
-    ensures value { result ≡ written words.now }
+    ensures value { result ≡ written_count words.now }
     ensures range { result ≤ length words.now }
 {
     words[NEXT_AT].min(words.len() as u64) as usize
@@ -69,7 +69,7 @@ fn fields(closed: &Closed, count: usize) -> [u64; FIELDS]
         high_word(black),
         low_word(white),
         high_word(white),
-        colour_word(shape.colour()),
+        colour_number(shape.colour()),
         low_word(allowed),
         high_word(allowed),
         u64::from(knobs.workers),
@@ -83,8 +83,8 @@ fn fields(closed: &Closed, count: usize) -> [u64; FIELDS]
 }
 
 /// A player as a word.
-fn colour_word(colour: Colour) -> u64
-    ensures { result ≡ colour_word colour }
+fn colour_number(colour: Colour) -> u64
+    ensures { result ≡ colour_number colour }
 {
     match colour {
         Colour::Black => 0,

@@ -1,7 +1,7 @@
 //! What an audit answers.
 
 ghost use Rattle.std.specs.Prelude.{◌≡◌};
-ghost use Rattle.trace_audit.specs.Numbers.{number_of};
+ghost use Rattle.trace_audit.specs.Numbers.{flaw_number};
 
 /// What an audit finds in bytes.
 #[derive(Clone, Copy, Debug, PartialEq, Eq)]
@@ -43,7 +43,7 @@ pub enum Flaw {
 impl Flaw {
     /// The number of the flaw, from 1 to 6.
     pub fn number(self) -> u8
-        ensures { result ≡ number_of self }
+        ensures { result ≡ flaw_number self }
     {
         self as u8
     }

@@ -5,7 +5,14 @@ use Rattle.tree_words.specs.Sequence.{amount_of}
 use Rattle.tree_words.specs.declared.layout.TheConstants.{RECORDS_AT}
 use Rattle.tree_words.specs.declared.steps.Op.{Op}
 use Rattle.tree_words.specs.declared.steps.Op.TheVariants.{
-  Draw, Look, Claim, Write, Publish, Add, Note}
+  Draw,
+  Look,
+  Claim,
+  Write,
+  Publish,
+  Add,
+  Note,
+}
 use Rattle.arena_rule.specs.Views.{SeatView}
 use Rattle.arena_rule.specs.Afters.{after}
 use Rattle.arena_rule.specs.Answers.{MayAnswer}

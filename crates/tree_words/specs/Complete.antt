@@ -1,6 +1,18 @@
 -- Complete blocks.
 use Rattle.std.specs.Prelude.{
-  ◌≡◌, ℕ, ◌+◌, ◌^◌, ◌<◌, ◌≤◌, ◌==◌, List, [], ◌∷◌, length, if◌then◌else◌}
+  ◌≡◌,
+  ℕ,
+  ◌+◌,
+  ◌^◌,
+  ◌<◌,
+  ◌≤◌,
+  ◌==◌,
+  List,
+  [],
+  ◌∷◌,
+  length,
+  if◌then◌else◌,
+}
 use Rattle.std.specs.List.{filter}
 use Rattle.hex_cells.specs.Sets.{has, with_cell}
 use Rattle.hex_board.specs.Joined.{cells_of}

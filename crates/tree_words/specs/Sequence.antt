@@ -1,6 +1,20 @@
 -- Seq: the search of one worker, as a fold over its playouts.
 use Rattle.std.specs.Prelude.{
-  ℕ, zero, suc, ◌+◌, nat_le, nat_lt, ◌&&◌, if◌then◌else◌, Bool, List, [], ◌∷◌, length, map}
+  ℕ,
+  zero,
+  suc,
+  ◌+◌,
+  nat_le,
+  nat_lt,
+  ◌&&◌,
+  if◌then◌else◌,
+  Bool,
+  List,
+  [],
+  ◌∷◌,
+  length,
+  map,
+}
 use Rattle.hex_cells.specs.Sets.{has}
 use Rattle.hex_board.specs.Positions.{stones_of}
 use Rattle.hex_cells.specs.Colours.{is_same}

@@ -1,6 +1,18 @@
 -- A tree of the search, and one walk on it.
 use Rattle.std.specs.Prelude.{
-  ℕ, zero, suc, ◌+◌, ◌≤◌, if◌then◌else◌, Bool, true, false, List, [], ◌∷◌}
+  ℕ,
+  zero,
+  suc,
+  ◌+◌,
+  ◌≤◌,
+  if◌then◌else◌,
+  Bool,
+  true,
+  false,
+  List,
+  [],
+  ◌∷◌,
+}
 use Rattle.tree_words.specs.Words.{Count}
 
 -- no visits
@@ -92,7 +104,8 @@ abbrev mutual
   add_row g o done i s = done
   add_row g o (more t ts) zero s =
       more (lit (g.glimpse o s (node_cell t)) (add g o t (g.next s (node_cell t)))) (pass g o s ts)
-  add_row g o (more t ts) (suc i) s = more (lit (g.glimpse o s (node_cell t)) t) (add_row g o ts i s)
+  add_row g o (more t ts) (suc i) s =
+      more (lit (g.glimpse o s (node_cell t)) t) (add_row g o ts i s)
 
 -- the leaf of the walk gets its block, where it is to have one; n is `next`
 abbrev mutual

@@ -4,8 +4,23 @@ use Rattle.hex_cells.specs.declared.colours.Colour.{Colour}
 use Rattle.hex_cells.specs.declared.colours.Colour.TheVariants.{Black, White}
 use Rattle.tree_words.specs.Settings.{Setting}
 use Rattle.tree_words.specs.declared.layout.TheConstants.{
-  NEXT_AT, TICKET_AT, RECORDS_AT, FRONT_WORDS, LINK_WORD, TALLY_WORD, SEEN_WORD, LOW_EMPTIES_WORD,
-  HIGH_EMPTIES_WORD, COUNT_WORD, HIGH_EMPTIES_SHIFT, PLACE_UNIT, VISITS_SHIFT, RECORD_UNIT}
+  NEXT_AT,
+  TICKET_AT,
+  RECORDS_AT,
+  FRONT_WORDS,
+  HEADER_WORDS,
+  NODE_WORDS,
+  LINK_WORD,
+  TALLY_WORD,
+  SEEN_WORD,
+  LOW_EMPTIES_WORD,
+  HIGH_EMPTIES_WORD,
+  COUNT_WORD,
+  HIGH_EMPTIES_SHIFT,
+  PLACE_UNIT,
+  VISITS_SHIFT,
+  RECORD_UNIT,
+}
 use Rattle.tree_words.specs.declared.types.Node.{Node}
 use Rattle.tree_words.specs.declared.types.Block.{Block}
 
@@ -90,6 +105,10 @@ node_in words x = record {
 -- how many nodes the block at b has
 abbrev pub nodes_in : List ℕ → ℕ → ℕ
 nodes_in words b = slice_index words (b + COUNT_WORD)
+
+-- the first word of the node of place k of the block at b
+abbrev pub node_at : ℕ → ℕ → ℕ
+node_at b k = b + HEADER_WORDS + NODE_WORDS * k
 
 -- the fields of the header of the block at b: the first word of the parent node, the empty cells 0
 -- to 63 and 64 to 120 as bits, and the count

@@ -1,10 +1,26 @@
 //! The parts of words, read.
 
 ghost use Rattle.std.specs.Prelude.{
-    ◌≡◌, ◌+◌, ◌-◌, ◌*◌, ◌/◌, ◌%◌, ◌^◌, ◌<◌, ◌≤◌, length, slice_index,
+  ◌≡◌,
+  ◌+◌,
+  ◌-◌,
+  ◌*◌,
+  ◌/◌,
+  ◌%◌,
+  ◌^◌,
+  ◌<◌,
+  ◌≤◌,
+  length,
+  slice_index,
 };
 ghost use Rattle.tree_words.specs.Words.{
-    block_in, cell_in, link_in, node_in, place_in, visits_in, wins_in,
+  block_in,
+  cell_in,
+  link_in,
+  node_in,
+  place_in,
+  visits_in,
+  wins_in,
 };
 
 use super::layout::{

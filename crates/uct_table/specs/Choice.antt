@@ -1,10 +1,25 @@
 -- The child that is chosen.
 use Rattle.std.specs.Prelude.{
-  ℕ, ◌+◌, ◌==◌, Bool, not, ◌&&◌, ◌||◌, nat_lt, List, [], ◌∷◌, max, map, if◌then◌else◌}
+  ℕ,
+  ◌+◌,
+  ◌==◌,
+  Bool,
+  not,
+  ◌&&◌,
+  ◌||◌,
+  nat_lt,
+  List,
+  [],
+  ◌∷◌,
+  max,
+  map,
+  if◌then◌else◌,
+}
 use Rattle.std.specs.List.{position_or_len, list_any}
 use Rattle.uct_table.specs.Scores.{score_of}
 
--- what the scores of one block's children have in common: their parent's visits, the weight, and a factor that bounds their bonus
+-- what the scores of one block's children have in common: their parent's visits, the weight, and a
+-- factor that bounds their bonus
 pub record ParentData : Type 0 where
   pub visits : ℕ
   pub weight : ℕ

@@ -1,6 +1,18 @@
 -- The score formulas, in whole numbers.
 use Rattle.std.specs.Prelude.{
-  ℕ, zero, suc, ◌+◌, ◌-◌, ◌*◌, ◌/◌, ◌^◌, ◌==◌, Bool, nat_le, if◌then◌else◌}
+  ℕ,
+  zero,
+  suc,
+  ◌+◌,
+  ◌-◌,
+  ◌*◌,
+  ◌/◌,
+  ◌^◌,
+  ◌==◌,
+  Bool,
+  nat_le,
+  if◌then◌else◌,
+}
 
 -- the greatest number up to this one that passes, or 0
 unfoldable pub greatest : (ℕ → Bool) → ℕ → ℕ

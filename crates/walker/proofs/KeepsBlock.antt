@@ -24,7 +24,7 @@ use Rattle.walker.specs.declared.stages.Stage.{Stage}
 use Rattle.walker.specs.declared.stages.Stage.TheVariants.{Writing}
 use Rattle.walker.specs.declared.machine.Walker.{Walker}
 use Rattle.walker.specs.Machine.{state_in, own_block, word_of_block, at_leaf, claimed, written}
-use Rattle.walker.specs.Belongs.{Belongs, Stands, Down, IsDown, MayClaim, Holds, AtClaim, AtWrite}
+use Rattle.walker.specs.Belongs.{Belongs, Stands, Down, IsDown, MayClaim, HoldsBlock, AtClaim, AtWrite}
 use Rattle.walker.proofs.KnownLaws.{one-order, known-lies}
 use Rattle.walker.proofs.Going.{Goes, Untouched, down-goes}
 use Rattle.walker.proofs.LeafLaws.{leaf-stands, leaf-belongs}
@@ -159,7 +159,7 @@ module _ (w : Walker) (v : SeatView) (b : Belongs w v) (x : ℕ) where
         let u : SeatView = after v (Write w.at (word_of_block (own_block w) (w.at - w.start))) x in
         let m : MayClaim w u = write-may in
         let goal : Walker → Type 0 = λ z. Belongs z u in
-        let held : (n : ℕ) → n ≡ w.at - w.start + 1 → Holds w u n = λ n e. more-held
+        let held : (n : ℕ) → n ≡ w.at - w.start + 1 → HoldsBlock w u n = λ n e. more-held
         ∙ ap (λ (k : ℕ). Some (record { start = w.start; size = size_below (state_in w); written = take k (block_words (own_block w)) })) (sym e) in
         ⊎_elim
         (λ (l : w.at + 1 < w.start + size_below (state_in w)). subst goal (sym (written-next w l)) (record {

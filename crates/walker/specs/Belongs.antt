@@ -1,9 +1,26 @@
 -- Which views belong to a walker.
-pub use Rattle.walker.specs.Underway.{IsLevel, OnWay, InHand, IsDown, Down, IsBelow, MayClaim}
+pub use Rattle.walker.specs.Underway.{IsLevel, OnWay, HasNumber, IsDown, Down, IsBelow, MayClaim}
 pub use Rattle.walker.specs.Looking.{HasKept, Keeps, children_loaded, InChild, IsScan}
 use Rattle.std.specs.Prelude.{
-  ◌≡◌, ◌≢◌, ℕ, ◌+◌, ◌-◌, ◌<◌, ◌≤◌, true, List, [], ◌++◌, length, take, drop, Option, Some, None,
-  ◌⊎◌}
+  ◌≡◌,
+  ◌≢◌,
+  ℕ,
+  ◌+◌,
+  ◌-◌,
+  ◌<◌,
+  ◌≤◌,
+  true,
+  List,
+  [],
+  ◌++◌,
+  length,
+  take,
+  drop,
+  Option,
+  Some,
+  None,
+  ◌⊎◌,
+}
 use Rattle.tree_words.specs.Words.{root_at}
 use Rattle.tree_words.specs.Blocks.{LinkedBlock}
 use Rattle.tree_words.specs.Paths.{node_state}
@@ -18,8 +35,19 @@ use Rattle.arena_rule.specs.IsView.{IsView}
 use Rattle.walker.specs.Machine.{op_of, state_in, own_block}
 use Rattle.walker.specs.declared.stages.Stage.{Stage}
 use Rattle.walker.specs.declared.stages.Stage.TheVariants.{
-  Drawing, Rooting, Linking, Heading, Scanning, Claiming, Writing, Publishing, Tallying, Seeing,
-  Noting, Ended}
+  Drawing,
+  Rooting,
+  Linking,
+  Heading,
+  Scanning,
+  Claiming,
+  Writing,
+  Publishing,
+  Tallying,
+  Seeing,
+  Noting,
+  Ended,
+}
 use Rattle.walker.specs.declared.machine.Walker.{Walker}
 
 -- no block is known below x, or its board is full
@@ -37,7 +65,7 @@ Leaves w v (Some f) left =
     × (f.made + length left ≡ length (walk_adds v.shape v.known w.number w.leaf))
 
 pub record Up (w : Walker) (v : SeatView) : Type 0 where
-  pub hand : InHand w v
+  pub hand : HasNumber w v
   pub held : v.held ≡ None
   pub leaf : is_known v w.leaf ≡ true
   pub ending : w.ending ≡ outcome_of v.shape w.number (node_state v.shape v.known w.leaf)
@@ -53,8 +81,8 @@ abbrev pub adds_above : Walker → SeatView → List CountAdd
 adds_above w v = (adds_up v.shape w.ending v.known w.node).adds
 
 -- the walker holds its block, of which so many words are written
-abbrev pub Holds : Walker → SeatView → ℕ → Type 0
-Holds w v n = v.held ≡ Some (record {
+abbrev pub HoldsBlock : Walker → SeatView → ℕ → Type 0
+HoldsBlock w v n = v.held ≡ Some (record {
   start = w.start;
   size = size_below (state_in w);
   written = take n (block_words (own_block w));
@@ -68,7 +96,7 @@ pub record AtDraw (w : Walker) (v : SeatView) : Type 0 where
   pub held : v.held ≡ None
 
 pub record AtRoot (w : Walker) (v : SeatView) : Type 0 where
-  pub hand : InHand w v
+  pub hand : HasNumber w v
   pub adds : v.adds ≡ None
   pub held : v.held ≡ None
   pub at : w.at ≡ root_at v.shape + TALLY_WORD
@@ -100,13 +128,13 @@ pub record AtWrite (w : Walker) (v : SeatView) : Type 0 where
   pub may : MayClaim w v
   pub above : w.node < w.start
   pub at : (w.start ≤ w.at) × (w.at < w.start + size_below (state_in w))
-  pub held : Holds w v (w.at - w.start)
+  pub held : HoldsBlock w v (w.at - w.start)
 
 pub record AtPublish (w : Walker) (v : SeatView) : Type 0 where
   pub may : MayClaim w v
   pub above : w.node < w.start
   pub at : w.at ≡ w.node + LINK_WORD
-  pub held : Holds w v (size_below (state_in w))
+  pub held : HoldsBlock w v (size_below (state_in w))
 
 pub record AtTally (w : Walker) (v : SeatView) : Type 0 where
   pub climbs : Climbs w v

@@ -11,14 +11,33 @@ use Rattle.tree_words.specs.Writing.{listed}
 use Rattle.tree_words.specs.Sequence.{size_below}
 use Rattle.tree_words.specs.declared.steps.Op.{Op}
 use Rattle.tree_words.specs.declared.steps.Op.TheVariants.{
-  Draw, Look, Claim, Write, Publish, Add, Note, Done}
+  Draw,
+  Look,
+  Claim,
+  Write,
+  Publish,
+  Add,
+  Note,
+  Done,
+}
 use Rattle.arena_rule.specs.Lookups.{record_word}
 use Rattle.walker.specs.Climbs.{add_op}
 use Rattle.walker.specs.declared.ways.Level.{Level}
 use Rattle.walker.specs.declared.stages.Stage.{Stage}
 use Rattle.walker.specs.declared.stages.Stage.TheVariants.{
-  Drawing, Rooting, Linking, Heading, Scanning, Claiming, Writing, Publishing, Tallying, Seeing,
-  Noting, Ended}
+  Drawing,
+  Rooting,
+  Linking,
+  Heading,
+  Scanning,
+  Claiming,
+  Writing,
+  Publishing,
+  Tallying,
+  Seeing,
+  Noting,
+  Ended,
+}
 use Rattle.walker.specs.declared.machine.Walker.{Walker}
 
 -- the board where the walk stands, and the player to move there

@@ -1,6 +1,20 @@
 -- What a view has of a walk on its way down.
 use Rattle.std.specs.Prelude.{
-  ◌≡◌, ◌≢◌, ℕ, ◌+◌, ◌<◌, ◌≤◌, true, false, List, [], ◌∷◌, length, Some, None}
+  ◌≡◌,
+  ◌≢◌,
+  ℕ,
+  ◌+◌,
+  ◌<◌,
+  ◌≤◌,
+  true,
+  false,
+  List,
+  [],
+  ◌∷◌,
+  length,
+  Some,
+  None,
+}
 use Rattle.play_out.specs.Fills.{empties_of}
 use Rattle.tree_words.specs.Words.{root_at}
 use Rattle.tree_words.specs.Blocks.{LinkedBlock, In, has_node}
@@ -31,7 +45,7 @@ OnWay v [] x = x ≡ root_at v.shape
 OnWay v (l ∷ way) x = IsLevel v l x × OnWay v way l.parent
 
 -- the worker has not ended and has its number in hand
-pub record InHand (w : Walker) (v : SeatView) : Type 0 where
+pub record HasNumber (w : Walker) (v : SeatView) : Type 0 where
   pub ended : v.ended ≡ 0
   pub ticket : v.ticket ≡ Some w.number
 

@@ -23,11 +23,11 @@
 //!
 //! **What is proved.** `op` and `got` are the machine of specs/Machine.antt. Where a view belongs
 //! to the walker (specs/Belongs.antt), it fits `op`; and after an answer that the step may give,
-//! the view afterwards belongs to the walker again. Each view of its shape that is in order, stands for
-//! one worker and has drawn nothing belongs to a new walker. At each node of a walk's way the walk
-//! went to the child that Choice gives for the counts that it loaded there. `Done` comes exactly
-//! after a Draw that gave at least N. Each step but a draw leaves the walk fewer steps, and a walk
-//! has at most [`WALK_STEPS`].
+//! the view afterwards belongs to the walker again. Each view of its shape that is in order, stands
+//! for one worker and has drawn nothing belongs to a new walker. At each node of a walk's way the
+//! walk went to the child that Choice gives for the counts that it loaded there. `Done` comes
+//! exactly after a Draw that gave at least N. Each step but a draw leaves the walk fewer steps, and
+//! a walk has at most [`WALK_STEPS`].
 //!
 //! **What is only tested, or not said.** How fast a walker is, and the trees that walkers make: of
 //! those speak the crates that run them.

@@ -26,7 +26,7 @@ use Rattle.win_cert.specs.declared.certs.Cert.{Cert}
 use Rattle.win_cert.proofs.CaseLines.{edges_good}
 use Rattle.win_cert.proofs.EdgeEntries.{IsGoodOfEdges}
 use Rattle.win_cert.proofs.GoodEntries.{IsGood}
-use Rattle.win_cert.proofs.NamedEntries.{Each, GaveGood, IsTaken, none_applies, not_false, taken}
+use Rattle.win_cert.proofs.NamedEntries.{Each, GaveGood, IsLineTaken, none_applies, not_false, taken}
 use Rattle.win_cert.proofs.ScopeBoards.{IsSmallBoard, no_scope_stones, scope_empty, scope_size}
 use Rattle.win_cert.proofs.GivenEntries.{claim_clear, gave_good, small_board}
 
@@ -57,7 +57,7 @@ claim_good c kind i g h =
     let clear = none_applies c s h in
     let t = and_parts (may_take s (entry_at c i)) true (not_false (list_all (λ j. may_take s (entry_at c j)) (i ∷ [])) (clear bad_reference)) in
     let w = some_named s (entry_at c i) t.0 in
-    let all : Each (IsTaken c s) (w.0 ∷ []) = subst (λ es. Each (IsTaken c s) es) w.1 (taken c s g clear) in
+    let all : Each (IsLineTaken c s) (w.0 ∷ []) = subst (λ es. Each (IsLineTaken c s) es) w.1 (taken c s g clear) in
     let edges : list_all (is_edge_entry c.base) (w.0 ∷ []) ≡ true = subst (λ es. list_all (is_edge_entry c.base) es ≡ true) w.1
     (not_false (list_all (is_edge_entry c.base) (entries_at c (i ∷ []))) (clear not_edges)) in
     let a = w.0 in

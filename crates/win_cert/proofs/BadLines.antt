@@ -6,7 +6,7 @@ use Rattle.std.proofs.lemmas.Bool.Decides.{Decides-eqb, not_from_Decides}
 use Rattle.std.proofs.lemmas.List.{append-nil, append_assoc}
 use Rattle.std.proofs.lemmas.List.Elements.{All-cons, All-nil, All-tail}
 use Rattle.conn_store.specs.declared.entries.Kind.TheVariants.{Full}
-use Rattle.win_cert.specs.Lines.{Steps, after_step, is_nothing, lines_of, steps_in, with_lines}
+use Rattle.win_cert.specs.Lines.{Steps, steps_after, is_nothing, lines_of, steps_in, with_lines}
 use Rattle.win_cert.specs.Named.{step_named}
 use Rattle.win_cert.specs.Texts.{ended, kind_word, line_feed, line_words, space}
 use Rattle.win_cert.specs.Writable.{IsLineOf}
@@ -72,7 +72,7 @@ too_many_back v n k [] rest size good few long some = absurd (omega (arith, long
 too_many_back v n k (line ∷ lines) rest size good few long some =
     let later = map (line_words n) lines ++ rest in
     steps_more v n k (line_words n line) later (later_some (map (line_words n) lines) rest some)
-    ∙ ap (λ o. after_step k o later (steps_in v n (suc k) later)) (step_back v n (step.Line line) size (good 0 line (omega arith)))
+    ∙ ap (λ o. steps_after k o later (steps_in v n (suc k) later)) (step_back v n (step.Line line) size (good 0 line (omega arith)))
     ∙ at_limit (eqb k MOST_LINES) line (steps_in v n (suc k) later) (λ below. too_many_back v n (suc k) lines rest size
     (All-tail (IsLineOf v n) line lines good) (next_below k below few) (omega (arith, long)) some)
 
@@ -114,7 +114,7 @@ too_many_or v n k words rest later line false limit is good some few others e =
 one_too_many : (v n k : ℕ) (words : Words) (rest : TextLines) (later : Result Steps CertError) (o : Option Step)
     → step_named v n words ≡ o → rest ≢ [] → k ≤ MOST_LINES
     → (later ≡ Err TooManyLines → suc k ≤ MOST_LINES → AreTooMany v n (suc k) rest)
-    → after_step k o rest later ≡ Err TooManyLines → AreTooMany v n k (words ∷ rest)
+    → steps_after k o rest later ≡ Err TooManyLines → AreTooMany v n k (words ∷ rest)
 one_too_many v n k words rest later None said some few others e = cc
 one_too_many v n k words rest later (Some (step.Line line)) said some few others e =
     let means = step_means v n words (step.Line line) said in
@@ -172,7 +172,7 @@ no_end false s l m e = cc
 
 one_bad : (v n k m : ℕ) (words : Words) (rest : TextLines) (later : Result Steps CertError) (o : Option Step)
     → step_named v n words ≡ o → rest ≢ [] → (later ≡ Err (NotCert m) → IsBadStep v n (suc k) rest m)
-    → after_step k o rest later ≡ Err (NotCert m) → IsBadStep v n k (words ∷ rest) m
+    → steps_after k o rest later ≡ Err (NotCert m) → IsBadStep v n k (words ∷ rest) m
 one_bad v n k m words rest later None said some others e = bad_here v n k m (words ∷ rest) (λ z. cc) (line_of_err (k + 6) m e)
 one_bad v n k m words rest later (Some (step.Line line)) said some others e =
     let means = step_means v n words (step.Line line) said in
@@ -221,13 +221,13 @@ bad_after v n k zero m s rest size good few some long e =
 bad_after v n k (suc zero) m ([], (kind, i)) rest size good few some long e =
     let line = no_end (is_nothing rest) ([], (kind, i)) (k + 7) m
     (sym (steps_more v n k (kind_word kind ∷ decimal i ∷ []) rest some
-    ∙ ap (λ o. after_step k o rest (steps_in v n (suc k) rest)) (step_back v n (step.Claim kind i) size few)) ∙ e) in
+    ∙ ap (λ o. steps_after k o rest (steps_in v n (suc k) rest)) (step_back v n (step.Claim kind i) size few)) ∙ e) in
     omega (arith, line)
 bad_after v n k (suc (suc j)) m ([], claim) rest size good few some long e = absurd (omega (arith, long))
 bad_after v n k (suc j) m (line ∷ lines, claim) rest size good few some long e =
     let later = take j (step_lines n (lines, claim)) ++ rest in
     let shown = sym (steps_more v n k (line_words n line) later (later_some (take j (step_lines n (lines, claim))) rest some)
-    ∙ ap (λ o. after_step k o later (steps_in v n (suc k) later)) (step_back v n (step.Line line) size (good 0 line (omega arith)))) ∙ e in
+    ∙ ap (λ o. steps_after k o later (steps_in v n (suc k) later)) (step_back v n (step.Line line) size (good 0 line (omega arith)))) ∙ e in
     let after = bad_after v n (suc k) j m (lines, claim) rest size (All-tail (IsLineOf v n) line lines good) few some (omega (arith, long))
     (err_of_lines (line ∷ []) (steps_in v n (suc k) later) (NotCert m) (no_limit (eqb k MOST_LINES) (with_lines (line ∷ []) (steps_in v n (suc k) later)) m shown)) in
     omega (arith, after)

@@ -22,7 +22,7 @@ use Rattle.win_cert.proofs.ChainLines.{given_is}
 use Rattle.win_cert.proofs.Middles.{taken_good}
 use Rattle.win_cert.proofs.EdgeEntries.{IsGoodOfEdges}
 use Rattle.win_cert.proofs.GoodEntries.{IsGood, concluded, good_between, none_empty, none_missed, sure_by_cases}
-use Rattle.win_cert.proofs.NamedEntries.{Each, IsGoodEntry, IsTaken, each_both, each_passes}
+use Rattle.win_cert.proofs.NamedEntries.{Each, IsGoodEntry, IsLineTaken, each_both, each_passes}
 use Rattle.win_cert.proofs.ScopeBoards.{IsSmallBoard, empty_small}
 
 -- ---- the union of the carriers
@@ -83,19 +83,19 @@ good_cases e x y (a ∷ cases) m g f =
 
 -- ---- `or`
 
-or_case : (c : Context) (s : Statement) (a b : ScopedEntry) → kind_taken s ≡ Semi → scope_taken c s ≡ c.scope → IsTaken c s b → same_ends a b ≡ true → IsCase (elements_at c) a.x a.y b
+or_case : (c : Context) (s : Statement) (a b : ScopedEntry) → kind_taken s ≡ Semi → scope_taken c s ≡ c.scope → IsLineTaken c s b → same_ends a b ≡ true → IsCase (elements_at c) a.x a.y b
 or_case c s a b p q g h =
     let t = and_parts (a.x == b.x) (a.y == b.y) h in
     subst (λ v. IsGood (elements_at c) Semi v a.y b.carrier) (sym (eqb-true a.x b.x t.0))
     (subst (λ v. IsGood (elements_at c) Semi b.x v b.carrier) (sym (eqb-true a.y b.y t.1)) (taken_good c s Semi b p q g))
 
 pub or_good : (c : Context) (s : Statement) (entries : List ScopedEntry) (r : ScopedEntry) → kind_taken s ≡ Semi → scope_taken c s ≡ c.scope → IsSmallBoard (elements_at c)
-    → Each (IsTaken c s) entries → share_cell entries ≡ false → have_same_ends entries ≡ true → or_entry c entries ≡ Some r → IsGoodEntry c.base r
+    → Each (IsLineTaken c s) entries → share_cell entries ≡ false → have_same_ends entries ≡ true → or_entry c entries ≡ Some r → IsGoodEntry c.base r
 or_good c s [] r p q m g f h e = absurd (cc)
 or_good c s (a ∷ entries) r p q m g f h e = given_is c (entry_between c Full a.x a.y (carriers_of (a ∷ entries))) r e
     (good_between (elements_at c) Full a.x a.y (carriers_of (a ∷ entries)) (good_cases (elements_at c) a.x a.y (a ∷ entries) m (
       taken_good c s Semi a p q g.0,
-      each_both (IsTaken c s) (λ b. same_ends a b ≡ true) (IsCase (elements_at c) a.x a.y) entries (λ b t i. or_case c s a b p q t i) g.1 (each_passes (same_ends a) entries h),
+      each_both (IsLineTaken c s) (λ b. same_ends a b ≡ true) (IsCase (elements_at c) a.x a.y) entries (λ b t i. or_case c s a b p q t i) g.1 (each_passes (same_ends a) entries h),
     ) f))
 
 -- ---- `cases`
@@ -108,13 +108,13 @@ edges_good e kind a h g =
     subst (λ v. IsGood e kind v (edge_element e true) a.carrier) (eqb-true a.x (edge_element e false) t.0)
     (subst (λ v. IsGood e kind a.x v a.carrier) (eqb-true a.y (edge_element e true) t.1) g)
 
-edge_case : (c : Context) (s : Statement) (a : ScopedEntry) → kind_taken s ≡ Semi → scope_taken c s ≡ c.scope → IsTaken c s a → is_edge_entry c.base a ≡ true
+edge_case : (c : Context) (s : Statement) (a : ScopedEntry) → kind_taken s ≡ Semi → scope_taken c s ≡ c.scope → IsLineTaken c s a → is_edge_entry c.base a ≡ true
     → IsGoodOfEdges (elements_at c) Semi a.carrier
 edge_case c s a p q g h = edges_good (elements_at c) Semi a
     (subst (λ v. (a.x == edge_element (elements_in c.base v) false && a.y == edge_element (elements_in c.base v) true) ≡ true) (g.scope_is ∙ q) h) (taken_good c s Semi a p q g)
 
 pub cases_good : (c : Context) (s : Statement) (entries : List ScopedEntry) → kind_taken s ≡ Semi → scope_taken c s ≡ c.scope → IsSmallBoard (elements_at c)
-    → Each (IsTaken c s) entries → share_cell entries ≡ false → list_all (is_edge_entry c.base) entries ≡ true → IsGoodOfEdges (elements_at c) Full (carriers_of entries)
+    → Each (IsLineTaken c s) entries → share_cell entries ≡ false → list_all (is_edge_entry c.base) entries ≡ true → IsGoodOfEdges (elements_at c) Full (carriers_of entries)
 cases_good c s entries p q m g f h = good_cases (elements_at c) (edge_element (elements_at c) false) (edge_element (elements_at c) true) entries m
-    (each_both (IsTaken c s) (λ a. is_edge_entry c.base a ≡ true) (λ a. IsGoodOfEdges (elements_at c) Semi a.carrier) entries (λ a t i. edge_case c s a p q t i) g
+    (each_both (IsLineTaken c s) (λ a. is_edge_entry c.base a ≡ true) (λ a. IsGoodOfEdges (elements_at c) Semi a.carrier) entries (λ a t i. edge_case c s a p q t i) g
     (each_passes (is_edge_entry c.base) entries h)) f

@@ -4,7 +4,7 @@ use Rattle.hex_cells.specs.Sets.{has, with_cell}
 use Rattle.hex_cells.proofs.Bits.{has_and, has_none}
 use Rattle.hex_cells.proofs.WithCell.{with_cell-cases}
 use Rattle.hex_board.specs.Positions.{Apart, Within}
-use Rattle.win_cert.specs.Named.{cell_named, cells_named}
+use Rattle.win_cert.specs.Named.{cell_named, set_named}
 use Rattle.win_cert.proofs.CellWords.{cell_means}
 use Rattle.win_cert.proofs.Options.{some_of_test, some_of_then}
 
@@ -15,11 +15,11 @@ within_more n s k on below j e = elim (with_cell-cases s k j e) [
 ]
 
 -- the cells that are named lie on the board
-pub cells_within : (n s least : ℕ) (words : List (List ℕ)) (u : ℕ) → cells_named n s least words ≡ Some u → Within n s → Within n u
+pub cells_within : (n s least : ℕ) (words : List (List ℕ)) (u : ℕ) → set_named n s least words ≡ Some u → Within n s → Within n u
 cells_within n s least [] u e on = subst (Within n) (cc) on
 cells_within n s least (word ∷ words) u e on =
-    let found = some_of_then (λ k. cond (leb least k) (cells_named n (with_cell s k) (suc k) words) None) (cell_named n word) u e in
-    let rest = some_of_test (leb least found.0) (cells_named n (with_cell s found.0) (suc found.0) words) u found.2 in
+    let found = some_of_then (λ k. cond (leb least k) (set_named n (with_cell s k) (suc k) words) None) (cell_named n word) u e in
+    let rest = some_of_test (leb least found.0) (set_named n (with_cell s found.0) (suc found.0) words) u found.2 in
     let on_board = cell_means n word found.0 found.1 in
     cells_within n (with_cell s found.0) (suc found.0) words u rest.1 (within_more n s found.0 on on_board.0)
 

@@ -9,7 +9,7 @@ use Rattle.hex_cells.specs.Vertices.{vertex_of}
 use Rattle.hex_cells.proofs.Bits.{has_none, same_set}
 use Rattle.hex_cells.proofs.WithCell.{with_cell-cases, with_cell-here, with_cell-keeps}
 use Rattle.hex_board.specs.Positions.{Within}
-use Rattle.win_cert.specs.Named.{cell_named, cells_named}
+use Rattle.win_cert.specs.Named.{cell_named, set_named}
 use Rattle.win_cert.specs.Texts.{vertices_of}
 use Rattle.win_cert.proofs.CellLists.{cells_within, none_within}
 use Rattle.win_cert.proofs.CellWords.{cell_back, cell_means}
@@ -23,17 +23,17 @@ all_with s t l zero = s
 all_with s t l (suc m) = all_with (cond (has t l) (with_cell s l) s) t (l + 1) m
 
 pick : (n s b l : ℕ) (c : Bool) (cells : List ℕ) (u : ℕ) → n ≤ 11 → b ≤ l → l < n * n
-    → ((b : ℕ) → b ≤ l + 1 → cells_named n (cond c (with_cell s l) s) b (map (vertex_of n) cells) ≡ Some u)
-    → cells_named n s b (map (vertex_of n) (cond c (l ∷ cells) cells)) ≡ Some u
+    → ((b : ℕ) → b ≤ l + 1 → set_named n (cond c (with_cell s l) s) b (map (vertex_of n) cells) ≡ Some u)
+    → set_named n s b (map (vertex_of n) (cond c (l ∷ cells) cells)) ≡ Some u
 pick n s b l true cells u size low on rest =
     let words = map (vertex_of n) cells in
-    ap (option_and_then (λ k. cond (leb b k) (cells_named n (with_cell s k) (suc k) words) None)) (cell_back n l size on)
-    ∙ ap (λ t. cond t (cells_named n (with_cell s l) (suc l) words) None) (leb_holds b l low)
+    ap (option_and_then (λ k. cond (leb b k) (set_named n (with_cell s k) (suc k) words) None)) (cell_back n l size on)
+    ∙ ap (λ t. cond t (set_named n (with_cell s l) (suc l) words) None) (leb_holds b l low)
     ∙ rest (suc l) (omega arith)
 pick n s b l false cells u size low on rest = rest b (omega arith)
 
 named_all : (n s t b l m : ℕ) → n ≤ 11 → b ≤ l → l + m ≤ n * n
-    → cells_named n s b (map (vertex_of n) (filter (has t) (range_with_len l m))) ≡ Some (all_with s t l m)
+    → set_named n s b (map (vertex_of n) (filter (has t) (range_with_len l m))) ≡ Some (all_with s t l m)
 unfolding all_with
 named_all n s t b l zero size low on = refl
 named_all n s t b l (suc m) size low on =
@@ -85,7 +85,7 @@ all_same n s on = same_set (all_with 0 s 0 (n * n)) s (λ k. both_ways (has (all
     (λ h. all_takes 0 s 0 (n * n) k h (omega arith) (let below = on k h in omega (arith, below))))
 
 -- the vertices of a set's cells name it
-pub cells_back : (n s : ℕ) → n ≤ 11 → Within n s → cells_named n 0 0 (vertices_of n s) ≡ Some s
+pub cells_back : (n s : ℕ) → n ≤ 11 → Within n s → set_named n 0 0 (vertices_of n s) ≡ Some s
 cells_back n s size on = named_all n 0 s 0 0 (n * n) size (omega arith) (omega arith) ∙ ap Some (all_same n s on)
 
 -- ---- from words to the set that they name
@@ -120,7 +120,7 @@ record Names (n s b : ℕ) (words : List (List ℕ)) (u : ℕ) : Type 0 where
   new : (j : ℕ) → has u j ≡ true → (has s j ≡ true) ⊎ (b ≤ j)
   is : words ≡ map (vertex_of n) (filter (has u) (range_with_len b (n * n - b)))
 
-names : (n s b : ℕ) (words : List (List ℕ)) (u : ℕ) → cells_named n s b words ≡ Some u
+names : (n s b : ℕ) (words : List (List ℕ)) (u : ℕ) → set_named n s b words ≡ Some u
     → ((j : ℕ) → has s j ≡ true → j < b) → b ≤ n * n → Names n s b words u
 names n s b [] u e below high =
     let same : s ≡ u = cc in
@@ -130,9 +130,9 @@ names n s b [] u e below high =
       is = ap (map (vertex_of n)) (sym (filter_none (has s) b (n * n - b) (λ j low. false_from_ne_true (has s j) (λ h. let l = below j h in absurd (omega (arith, l))))));
     })
 names n s b (word ∷ words) u e below high =
-    let found = some_of_then (λ k. cond (leb b k) (cells_named n (with_cell s k) (suc k) words) None) (cell_named n word) u e in
+    let found = some_of_then (λ k. cond (leb b k) (set_named n (with_cell s k) (suc k) words) None) (cell_named n word) u e in
     let k : ℕ = found.0 in
-    let rest = some_of_test (leb b k) (cells_named n (with_cell s k) (suc k) words) u found.2 in
+    let rest = some_of_test (leb b k) (set_named n (with_cell s k) (suc k) words) u found.2 in
     let low : b ≤ k = leb_says b k rest.0 in
     let means = cell_means n word k found.1 in
     let on : k < n * n = means.0 in
@@ -159,7 +159,7 @@ names n s b (word ∷ words) u e below high =
     }
 
 -- words that name a set are the vertices of its cells
-pub cells_mean : (n : ℕ) (words : List (List ℕ)) (s : ℕ) → cells_named n 0 0 words ≡ Some s
+pub cells_mean : (n : ℕ) (words : List (List ℕ)) (s : ℕ) → set_named n 0 0 words ≡ Some s
     → Within n s × (words ≡ vertices_of n s)
 cells_mean n words s e =
     let means = names n 0 0 words s e (λ j h. let none = has_none j in absurd (cc)) (omega arith) in

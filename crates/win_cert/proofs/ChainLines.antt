@@ -10,7 +10,7 @@ use Rattle.win_cert.specs.Entries.{Context, ScopedEntry, and_entry, carriers_of,
 use Rattle.win_cert.specs.Reasons.{holds_of_chain}
 use Rattle.win_cert.specs.Statements.{Statement, is_cell_in, is_chain, is_or, kind_taken, scope_taken, share_cell}
 use Rattle.win_cert.proofs.GoodEntries.{IsGood, good_between, good_cell, good_group}
-use Rattle.win_cert.proofs.NamedEntries.{Each, IsGoodEntry, IsTaken}
+use Rattle.win_cert.proofs.NamedEntries.{Each, IsGoodEntry, IsLineTaken}
 use Rattle.win_cert.proofs.ScopeBoards.{IsSmallBoard}
 use Rattle.win_cert.proofs.Middles.{IsChainOver, chain_over, is_cell, is_group, middle_ends, other_differs, taken_good}
 
@@ -39,7 +39,7 @@ and_over c a b r (Some u) m g h q f n t e =
     (good_group (elements_at c) x u y a.carrier b.carrier m w.first w.second w.apart w.first_end w.second_end (is_group (elements_at c) u t))))
 
 pub and_good : (c : Context) (s : Statement) (entries : List ScopedEntry) (r : ScopedEntry) → kind_taken s ≡ Full → scope_taken c s ≡ c.scope → IsSmallBoard (elements_at c)
-    → Each (IsTaken c s) entries → share_cell entries ≡ false → holds_of_chain (ends_meet (elements_at c)) entries ≡ false
+    → Each (IsLineTaken c s) entries → share_cell entries ≡ false → holds_of_chain (ends_meet (elements_at c)) entries ≡ false
     → holds_of_chain (λ a b u. is_some (cell_of (elements_at c) u)) entries ≡ false → and_entry c entries ≡ Some r → IsGoodEntry c.base r
 and_good c s [] r p q m g f n t e = absurd (cc)
 and_good c s (a ∷ []) r p q m g f n t e = absurd (cc)
@@ -60,7 +60,7 @@ key_at c a b r u (Some k) m w nx ny h e =
     (subst (λ v. IsGood (elements_at c) Semi x y (with_cell (bit_or a.carrier v) k)) (sym (or_zero_r b.carrier))
     (good_cell (elements_at c) x u y a.carrier b.carrier k m w.first w.second w.apart w.first_end w.second_end (is_cell (elements_at c) u k h) nx ny)))
 
-key_over : (c : Context) (s : Statement) (a b r : ScopedEntry) (o : Option ℕ) → kind_taken s ≡ Full → scope_taken c s ≡ c.scope → IsSmallBoard (elements_at c) → IsTaken c s a → IsTaken c s b
+key_over : (c : Context) (s : Statement) (a b r : ScopedEntry) (o : Option ℕ) → kind_taken s ≡ Full → scope_taken c s ≡ c.scope → IsSmallBoard (elements_at c) → IsLineTaken c s a → IsLineTaken c s b
     → (a.x ≡ a.y → ⊥) → (b.x ≡ b.y → ⊥)
     → middle_of a b ≡ o → share_cell (a ∷ b ∷ []) ≡ false → option_map_or (ends_meet (elements_at c) a b) o false ≡ false
     → option_and_then (λ u. option_map (λ k. entry_between c Semi (other_end a u) (other_end b u) (with_cell (carriers_of (a ∷ b ∷ [])) k)) (cell_of (elements_at c) u)) o ≡ Some r
@@ -72,7 +72,7 @@ key_over c s a b r (Some u) p q m g h na nb i f n e =
     (other_differs a u na t.0) (other_differs b u nb t.1) refl e
 
 pub key_good : (c : Context) (s : Statement) (entries : List ScopedEntry) (r : ScopedEntry) → kind_taken s ≡ Full → scope_taken c s ≡ c.scope → ((is_chain s || is_or s) ≡ true) → IsSmallBoard (elements_at c)
-    → Each (IsTaken c s) entries → share_cell entries ≡ false → holds_of_chain (ends_meet (elements_at c)) entries ≡ false → key_entry c entries ≡ Some r → IsGoodEntry c.base r
+    → Each (IsLineTaken c s) entries → share_cell entries ≡ false → holds_of_chain (ends_meet (elements_at c)) entries ≡ false → key_entry c entries ≡ Some r → IsGoodEntry c.base r
 key_good c s [] r p q l m g f n e = absurd (cc)
 key_good c s (a ∷ []) r p q l m g f n e = absurd (cc)
 key_good c s (a ∷ b ∷ []) r p q l m g f n e = key_over c s a b r (middle_of a b) p q m g.0 g.1.0 (g.0.named.differ l) (g.1.0.named.differ l) refl f n e

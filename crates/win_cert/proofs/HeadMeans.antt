@@ -10,7 +10,7 @@ use Rattle.hex_cells.specs.declared.colours.Colour.{Colour}
 use Rattle.hex_cells.specs.declared.colours.Colour.TheVariants.{Black, White}
 use Rattle.hex_board.specs.Positions.{IsPosition, Within}
 use Rattle.win_cert.specs.Lines.{◌>>=◌, at_line, first_colour, first_line, head_in, line_in, number_after, player_in, size_in, stones_in, version_in}
-use Rattle.win_cert.specs.Named.{after_word, alone, cells_named, first_number}
+use Rattle.win_cert.specs.Named.{after_word, alone, set_named, first_number}
 use Rattle.win_cert.specs.Texts.{colour_word, vertices_of}
 use Rattle.win_cert.specs.declared.certs.TheConstants.{FIRST_VERSION, LATEST_VERSION}
 use Rattle.win_cert.specs.declared.heads.Head.{Head}
@@ -114,8 +114,8 @@ pub stones_mean : (name : List ℕ) (n taken : ℕ) (words : Words) (s : ℕ) �
     → IsStonesLine name n taken s words
 stones_mean name n taken words s e =
     let test = λ (s : ℕ). cond (eqb (bit_and s taken) 0) (Some s) None in
-    let rest = some_of_then (λ rest. option_and_then test (cells_named n 0 0 rest)) (after_word name words) s e in
-    let cells = some_of_then test (cells_named n 0 0 rest.0) s rest.2 in
+    let rest = some_of_then (λ rest. option_and_then test (set_named n 0 0 rest)) (after_word name words) s e in
+    let cells = some_of_then test (set_named n 0 0 rest.0) s rest.2 in
     let free = some_of_if (eqb (bit_and cells.0 taken) 0) cells.0 s cells.2 in
     let means = cells_mean n rest.0 cells.0 cells.1 in
     record {

@@ -19,7 +19,7 @@ use Rattle.win_cert.proofs.CaseLines.{cases_good, edges_good, or_good}
 use Rattle.win_cert.proofs.ChainLines.{and_good, given_is, key_good}
 use Rattle.win_cert.proofs.EdgeEntries.{IsGoodOfEdges, good_done, good_move}
 use Rattle.win_cert.proofs.GoodEntries.{IsGood, good_between, good_near}
-use Rattle.win_cert.proofs.NamedEntries.{Each, GaveGood, IsGoodEntry, IsTaken, not_false, taken}
+use Rattle.win_cert.proofs.NamedEntries.{Each, GaveGood, IsGoodEntry, IsLineTaken, not_false, taken}
 use Rattle.win_cert.proofs.ScopeBoards.{IsSmallBoard, scope_small}
 
 -- ---- `adj`
@@ -51,7 +51,7 @@ adj_good c None p r m h e = absurd (false≢true h)
 -- ---- `move`
 
 move_good : (c : Context) (k i : ℕ) (entries : List ScopedEntry) (r : ScopedEntry) → IsSmallBoard (elements_at c) → is_empty_at (elements_at c).board k ≡ true
-    → Each (IsTaken c (derivation (Move k i))) entries → list_all (is_edge_entry c.base) entries ≡ true → move_entry c k entries ≡ Some r
+    → Each (IsLineTaken c (derivation (Move k i))) entries → list_all (is_edge_entry c.base) entries ≡ true → move_entry c k entries ≡ Some r
     → IsGoodEntry c.base r
 move_good c k i [] r m h g f e = absurd (cc)
 move_good c k i (a ∷ entries) r m h g f e =
@@ -77,7 +77,7 @@ pub record IsRead (c : Context) (line : Line) : Type 0 where
   pub earlier : GaveGood c
   pub clear : (r : Reason) → applies c (derivation line) r ≡ false
 
-named : (c : Context) (line : Line) → IsRead c line → Each (IsTaken c (derivation line)) (entries_at c (numbers_in (derivation line)))
+named : (c : Context) (line : Line) → IsRead c line → Each (IsLineTaken c (derivation line)) (entries_at c (numbers_in (derivation line)))
 named c line h = taken c (derivation line) h.earlier h.clear
 
 line_good : (c : Context) (line : Line) (r : ScopedEntry) → IsRead c line → IsSmallBoard (elements_at c) → gives c line ≡ Some r → IsGoodEntry c.base r

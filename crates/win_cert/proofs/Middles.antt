@@ -20,7 +20,7 @@ use Rattle.win_cert.specs.Scopes.{elements_in}
 use Rattle.win_cert.specs.Statements.{Statement, is_cell_in, kind_taken, scope_taken, share_cell}
 use Rattle.win_cert.proofs.GoodEntries.{IsGood, good_turned}
 use Rattle.win_cert.proofs.LinksOn.{cell_is}
-use Rattle.win_cert.proofs.NamedEntries.{IsTaken}
+use Rattle.win_cert.proofs.NamedEntries.{IsLineTaken}
 use Rattle.win_cert.proofs.ScopeBoards.{IsSmallBoard, empty_small}
 
 -- ---- the element that two entries share
@@ -126,6 +126,6 @@ chain_over e a b u m g h q f n =
     }
 
 -- a named entry on the board of the line's scope
-pub taken_good : (c : Context) (s : Statement) (kind : Kind) (a : ScopedEntry) → kind_taken s ≡ kind → scope_taken c s ≡ c.scope → IsTaken c s a → IsGood (elements_at c) kind a.x a.y a.carrier
+pub taken_good : (c : Context) (s : Statement) (kind : Kind) (a : ScopedEntry) → kind_taken s ≡ kind → scope_taken c s ≡ c.scope → IsLineTaken c s a → IsGood (elements_at c) kind a.x a.y a.carrier
 taken_good c s kind a p q t = subst (λ k. IsGood (elements_at c) k a.x a.y a.carrier) (t.named.kind_is ∙ p)
     (subst (λ v. IsGood (elements_in c.base v) a.kind a.x a.y a.carrier) (t.scope_is ∙ q) t.good)

@@ -73,7 +73,7 @@ pub record IsNamed (c : Context) (s : Statement) (a : ScopedEntry) : Type 0 wher
   pub given : (i : ℕ) × (entry_at c i ≡ Some a)
 
 -- and it is a good one in the scope that the statement takes
-pub record IsTaken (c : Context) (s : Statement) (a : ScopedEntry) : Type 0 where
+pub record IsLineTaken (c : Context) (s : Statement) (a : ScopedEntry) : Type 0 where
   pub named : IsNamed c s a
   pub scope_is : a.scope ≡ scope_taken c s
   pub good : IsGoodEntry c.base a
@@ -109,8 +109,8 @@ not_false true h = refl
 not_false false h = absurd (false≢true (sym h))
 
 -- the entries that a statement names, where no reason is against it
-pub taken : (c : Context) (s : Statement) → GaveGood c → ((r : Reason) → applies c s r ≡ false) → Each (IsTaken c s) (entries_named c s)
-taken c s g h = each_both (IsNamed c s) (λ a. (a.scope == scope_taken c s) ≡ true) (IsTaken c s) (entries_named c s)
+pub taken : (c : Context) (s : Statement) → GaveGood c → ((r : Reason) → applies c s r ≡ false) → Each (IsLineTaken c s) (entries_named c s)
+taken c s g h = each_both (IsNamed c s) (λ a. (a.scope == scope_taken c s) ≡ true) (IsLineTaken c s) (entries_named c s)
     (λ a p q. record { named = p; scope_is = eqb-true a.scope (scope_taken c s) q; good = g p.given.0 a p.given.1 })
     (named_all c s (numbers_in s) (not_false (list_all (λ i. may_take s (entry_at c i)) (numbers_in s)) (h bad_reference)))
     (each_passes (λ a. a.scope == scope_taken c s) (entries_named c s) (not_false (list_all (λ a. a.scope == scope_taken c s) (entries_named c s)) (h wrong_scope)))

@@ -3,7 +3,7 @@ use Rattle.std.proofs.Common.{◌≡◌, ◌≢◌, ℕ, suc, cond, List, [], �
 use Rattle.std.specs.Option.{option_map}
 use Rattle.std.proofs.lemmas.Bool.{ne_eqb}
 use Rattle.std.proofs.lemmas.List.{append_assoc}
-use Rattle.win_cert.specs.Lines.{Steps, after_step, at_line, line_in, steps_in, with_lines}
+use Rattle.win_cert.specs.Lines.{Steps, steps_after, at_line, line_in, steps_in, with_lines}
 use Rattle.win_cert.specs.Named.{step_named}
 use Rattle.win_cert.specs.declared.certs.TheConstants.{MOST_LINES}
 use Rattle.win_cert.specs.declared.lines.Line.{Line}
@@ -30,7 +30,7 @@ said v n k m words next lines rest line (Some s) is few e =
     let pair : ◌≡◌ {A = Step × List (List (List ℕ))} (step.Line line, rest) (s, next ∷ lines) = cc in
     let first : step.Line line ≡ s = ap (λ p. p.0) pair in
     let others : rest ≡ next ∷ lines = ap (λ p. p.1) pair in
-    ap (λ o. after_step k o (next ∷ lines) (steps_in v n (suc k) (next ∷ lines))) (is ∙ ap Some (sym first))
+    ap (λ o. steps_after k o (next ∷ lines) (steps_in v n (suc k) (next ∷ lines))) (is ∙ ap Some (sym first))
     ∙ ap (λ b. cond b (Err TooManyLines) (with_lines (line ∷ []) (steps_in v n (suc k) (next ∷ lines)))) (ne_eqb k MOST_LINES few)
     ∙ ap (λ rest. with_lines (line ∷ []) (steps_in v n (suc k) rest)) (sym others)
 

@@ -10,7 +10,7 @@ use Rattle.std.proofs.lemmas.Slice.Eq.{bytes_eq-Decides}
 use Rattle.hex_cells.specs.Vertices.{vertex_of}
 use Rattle.conn_store.specs.declared.entries.Kind.{Kind}
 use Rattle.conn_store.specs.declared.entries.Kind.TheVariants.{Full, Semi}
-use Rattle.win_cert.specs.Named.{IsStepOf, adj_in, alone, args_named, cases_in, cells_named, claim_in, first_cell, first_end, first_number, is_in_version, keyword_named, move_in, numbers_named, or_after, or_in, pair_in, put_in, step_named, step_words}
+use Rattle.win_cert.specs.Named.{IsStepOf, adj_in, alone, args_named, cases_in, set_named, claim_in, first_cell, first_end, first_number, is_in_version, keyword_named, move_in, numbers_named, or_after, or_in, pair_in, put_in, step_named, step_words}
 use Rattle.win_cert.specs.Texts.{end_word, kind_word}
 use Rattle.win_cert.specs.declared.certs.TheConstants.{LATEST_VERSION}
 use Rattle.win_cert.specs.declared.lines.Line.{Line}
@@ -162,7 +162,7 @@ or_means v n words s e =
 
 put_means : (v n : ℕ) (words : Words) (s : Step) → v ≡ LATEST_VERSION → put_in n words ≡ Some s → Means v n (codes "put") words s
 put_means v n words s latest e =
-    let p = some_of_map (λ cells. step.Line (Put cells)) (cells_named n 0 0 words) s e in
+    let p = some_of_map (λ cells. step.Line (Put cells)) (set_named n 0 0 words) s e in
     let cells = cells_mean n words p.0 p.1 in
     subst (Means v n (codes "put") words) p.2 ((latest, cells.0), ap (λ ws. codes "put" ∷ ws) cells.1)
 

@@ -4,7 +4,7 @@ use Rattle.std.specs.Fmt.{decimal}
 use Rattle.std.specs.List.{All}
 use Rattle.std.proofs.lemmas.Bool.Decides.{Decides-eqb, not_from_Decides}
 use Rattle.std.proofs.lemmas.List.Elements.{All-cons, All-nil}
-use Rattle.win_cert.specs.Lines.{Steps, after_step, is_nothing, steps_in, with_lines}
+use Rattle.win_cert.specs.Lines.{Steps, steps_after, is_nothing, steps_in, with_lines}
 use Rattle.win_cert.specs.Named.{step_named}
 use Rattle.win_cert.specs.Texts.{kind_word, line_words}
 use Rattle.win_cert.specs.Writable.{IsLineOf}
@@ -50,7 +50,7 @@ ok_where false d x y e = cc
 one_step : (v n k : ℕ) (words : Words) (rest : TextLines) (later : Result Steps CertError) (o : Option Step) (s : Steps)
     → step_named v n words ≡ o → k ≤ MOST_LINES
     → ((t : Steps) → later ≡ Ok t → suc k ≤ MOST_LINES → AreSteps v n (suc k) rest t)
-    → after_step k o rest later ≡ Ok s → AreSteps v n k (words ∷ rest) s
+    → steps_after k o rest later ≡ Ok s → AreSteps v n k (words ∷ rest) s
 one_step v n k words rest later None s said few others e = cc
 one_step v n k words rest later (Some (step.Line line)) s said few others e =
     let room = ok_of_if (eqb k MOST_LINES) TooManyLines (with_lines (line ∷ []) later) s e in

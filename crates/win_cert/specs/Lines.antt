@@ -1,14 +1,39 @@
 -- How a text is read, line by line: its head, and then the steps. Only private clauses cite this.
 use Rattle.std.specs.Prelude.{
-  ◌≡◌, MatchOption, MatchResult, ℕ, ◌+◌, ◌==◌, ◌&&◌, nat_le, Bool, false, List, [], ◌∷◌, ◌++◌,
-  Option, Some, None, Result, Ok, Err, suc, length, map, codes, bit_and, if◌then◌else◌}
+  ◌≡◌,
+  MatchOption,
+  MatchResult,
+  ℕ,
+  ◌+◌,
+  ◌==◌,
+  ◌&&◌,
+  nat_le,
+  Bool,
+  false,
+  List,
+  [],
+  ◌∷◌,
+  ◌++◌,
+  Option,
+  Some,
+  None,
+  Result,
+  Ok,
+  Err,
+  suc,
+  length,
+  map,
+  codes,
+  bit_and,
+  if◌then◌else◌,
+}
 use Rattle.std.specs.List.{slice_split}
 use Rattle.std.specs.Option.{ok_or, option_and_then, option_map}
 use Rattle.std.specs.Str.{bytes_eq}
 use Rattle.hex_cells.specs.declared.colours.Colour.{Colour}
 use Rattle.hex_cells.specs.declared.colours.Colour.TheVariants.{Black, White}
 use Rattle.conn_store.specs.declared.entries.Kind.{Kind}
-use Rattle.win_cert.specs.Named.{after_word, alone, cells_named, first_number, step_named}
+use Rattle.win_cert.specs.Named.{after_word, alone, set_named, first_number, step_named}
 use Rattle.win_cert.specs.Words.{is_line_feed, is_space}
 use Rattle.win_cert.specs.declared.certs.Cert.{Cert}
 use Rattle.win_cert.specs.declared.certs.TheConstants.{FIRST_VERSION, LATEST_VERSION, MOST_LINES}
@@ -41,13 +66,15 @@ line_in said lines =
     option_and_then (λ l. option_map (λ a. (a, l.1)) (said l.0)) (first_line lines)
 
 -- the first line of the text says this, or nothing, and these bytes are left
-abbrev pub IsTaken : {A : Type 0} → (List (List ℕ) → Option A) → List ℕ → Option A → List ℕ → Type 0
-IsTaken said bytes result rest = MatchOption result (line_in said (lines_of bytes) ≡ None)
+abbrev pub IsLineTaken : {A : Type 0} → (List (List ℕ) → Option A) → List ℕ → Option A → List ℕ
+    → Type 0
+IsLineTaken said bytes result rest = MatchOption result (line_in said (lines_of bytes) ≡ None)
     (λ a. line_in said (lines_of bytes) ≡ Some (a, lines_of rest))
 
 infixl 10 ◌>>=◌
 -- what is read goes on as f says, and a refusal stays
-abbrev pub ◌>>=◌ : {A B : Type 0} → Result A CertError → (A → Result B CertError) → Result B CertError
+abbrev pub ◌>>=◌ : {A B : Type 0} → Result A CertError → (A → Result B CertError)
+    → Result B CertError
 (Ok x) >>= f = f x
 (Err e) >>= f = Err e
 
@@ -83,7 +110,7 @@ player_in words = option_and_then first_colour (after_word (codes "player") word
 abbrev pub stones_in : List ℕ → ℕ → ℕ → List (List ℕ) → Option ℕ
 stones_in name n taken words = option_and_then
     (λ rest. option_and_then (λ s. if bit_and s taken == 0 then Some s else None)
-    (cells_named n 0 0 rest))
+    (set_named n 0 0 rest))
     (after_word name words)
 
 -- what is read in line n, or that it is bad
@@ -98,7 +125,14 @@ head_in lines =
     at_line 3 (line_in player_in n.1) >>= λ p.
     at_line 4 (line_in (stones_in (codes "black") n.0 0) p.1) >>= λ b.
     at_line 5 (line_in (stones_in (codes "white") n.0 b.0) b.1) >>= λ w.
-    Ok (record { version = v.0; board = record { size = n.0; black = b.0; white = w.0 }; player = p.0 }, w.1)
+    Ok (
+      record {
+        version = v.0;
+        board = record { size = n.0; black = b.0; white = w.0 };
+        player = p.0;
+      },
+      w.1,
+    )
 
 -- derivation lines, and the claim with the number of its entry
 abbrev pub Steps : Type 0
@@ -109,11 +143,12 @@ abbrev pub with_lines : List Line → Result Steps CertError → Result Steps Ce
 with_lines front steps = steps >>= λ s. Ok (front ++ s.0, s.1)
 
 -- what is read after the head and k lines, where this is said first, before other lines
-abbrev pub after_step : ℕ → Option Step → List (List (List ℕ)) → Result Steps CertError → Result Steps CertError
-after_step k None lines others = Err (NotCert (k + 6))
-after_step k (Some (step.Line line)) lines others =
+abbrev pub steps_after : ℕ → Option Step → List (List (List ℕ)) → Result Steps CertError
+    → Result Steps CertError
+steps_after k None lines others = Err (NotCert (k + 6))
+steps_after k (Some (step.Line line)) lines others =
     if k == MOST_LINES then Err TooManyLines else with_lines (line ∷ []) others
-after_step k (Some (step.Claim kind i)) lines others =
+steps_after k (Some (step.Claim kind i)) lines others =
     if is_nothing lines then Ok ([], (kind, i)) else Err (NotCert (k + 7))
 
 -- the steps after the head and k lines
@@ -121,7 +156,8 @@ abbrev pub steps_in : ℕ → ℕ → ℕ → List (List (List ℕ)) → Result 
 steps_in version n k [] = Err (NotCert (k + 6))
 steps_in version n k (words ∷ []) = Err (NotCert (k + 6))
 steps_in version n k (words ∷ next ∷ lines) =
-    after_step k (step_named version n words) (next ∷ lines) (steps_in version n (suc k) (next ∷ lines))
+    steps_after k (step_named version n words) (next ∷ lines)
+    (steps_in version n (suc k) (next ∷ lines))
 
 -- the certificate of this head and these steps
 abbrev pub cert_of : Head → Steps → Cert
@@ -145,7 +181,8 @@ cert_in lines = head_in lines >>= λ h. certs_of h.0 h.1
 
 -- after the head and these lines, the next of the lines left was taken: it was added, or it is the
 -- claim, or it is refused
-abbrev pub IsStepTaken : ℕ → ℕ → List Line → List (List (List ℕ)) → Result (Option (Kind × ℕ)) CertError
+abbrev pub IsStepTaken : ℕ → ℕ → List Line → List (List (List ℕ))
+    → Result (Option (Kind × ℕ)) CertError
     → List Line → List (List (List ℕ)) → Type 0
 IsStepTaken version n old lines result new rest = MatchResult result
     (λ taken. MatchOption taken

@@ -1,7 +1,25 @@
 -- What words name, and what the words of a line say. Only private clauses cite this.
 use Rattle.std.specs.Prelude.{
-  ℕ, ◌*◌, ◌≤◌, ◌==◌, ◌&&◌, nat_le, nat_lt, Bool, true, List, [], ◌∷◌, Option, Some, None, suc,
-  length, codes, if◌then◌else◌}
+  ℕ,
+  ◌*◌,
+  ◌≤◌,
+  ◌==◌,
+  ◌&&◌,
+  nat_le,
+  nat_lt,
+  Bool,
+  true,
+  List,
+  [],
+  ◌∷◌,
+  Option,
+  Some,
+  None,
+  suc,
+  length,
+  codes,
+  if◌then◌else◌,
+}
 use Rattle.std.specs.Fmt.{decimal}
 use Rattle.std.specs.Option.{option_and_then, option_map}
 use Rattle.std.specs.Str.{bytes_eq}
@@ -17,7 +35,16 @@ use Rattle.win_cert.specs.declared.lines.End.{End}
 use Rattle.win_cert.specs.declared.lines.End.TheVariants.{At, First, Second}
 use Rattle.win_cert.specs.declared.lines.Line.{Line}
 use Rattle.win_cert.specs.declared.lines.Line.TheVariants.{
-  Adj, And, Key, Or2, Or3, Put, Done, Move, Cases}
+  Adj,
+  And,
+  Key,
+  Or2,
+  Or3,
+  Put,
+  Done,
+  Move,
+  Cases,
+}
 use Rattle.win_cert.specs.declared.lines.TheConstants.{LEAST_CASES, MOST_CASES, MOST_NUMBER}
 use Rattle.win_cert.specs.declared.steps.Keyword.{Keyword}
 use Rattle.win_cert.specs.declared.steps.Keyword.TheVariants as keyword
@@ -73,10 +100,10 @@ numbers_named (word ∷ words) = option_and_then
     (λ i. option_map (λ numbers. i ∷ numbers) (numbers_named words)) (number_named word)
 
 -- the set s with the cells that all words name: they rise, and none is below `least`
-abbrev pub cells_named : ℕ → ℕ → ℕ → List (List ℕ) → Option ℕ
-cells_named n s least [] = Some s
-cells_named n s least (word ∷ words) = option_and_then
-    (λ k. if nat_le least k then cells_named n (with_cell s k) (suc k) words else None)
+abbrev pub set_named : ℕ → ℕ → ℕ → List (List ℕ) → Option ℕ
+set_named n s least [] = Some s
+set_named n s least (word ∷ words) = option_and_then
+    (λ k. if nat_le least k then set_named n (with_cell s k) (suc k) words else None)
     (cell_named n word)
 
 -- the keyword that a word is
@@ -123,7 +150,7 @@ or_in words = option_and_then
     (λ i. option_and_then (λ j. or_after i.0 j.0 j.1) (first_number i.1)) (first_number words)
 
 abbrev pub put_in : ℕ → List (List ℕ) → Option Step
-put_in n words = option_map (λ s. step.Line (Put s)) (cells_named n 0 0 words)
+put_in n words = option_map (λ s. step.Line (Put s)) (set_named n 0 0 words)
 
 abbrev pub move_in : ℕ → List (List ℕ) → Option Step
 move_in n words = option_and_then

@@ -1,6 +1,21 @@
 -- What a derivation line or the claim takes, and the tests that the reasons against it stand on.
 use Rattle.std.specs.Prelude.{
-  ℕ, ◌==◌, ◌&&◌, ◌||◌, not, Bool, true, false, List, [], ◌∷◌, Option, Some, None, if◌then◌else◌}
+  ℕ,
+  ◌==◌,
+  ◌&&◌,
+  ◌||◌,
+  not,
+  Bool,
+  true,
+  false,
+  List,
+  [],
+  ◌∷◌,
+  Option,
+  Some,
+  None,
+  if◌then◌else◌,
+}
 use Rattle.std.specs.List.{list_all, list_any, range_with_len}
 use Rattle.std.specs.Option.{option_map_or}
 use Rattle.hex_cells.specs.Sets.{has, with_cell}
@@ -18,7 +33,16 @@ use Rattle.win_cert.specs.declared.lines.End.{End}
 use Rattle.win_cert.specs.declared.lines.End.TheVariants.{At, First, Second}
 use Rattle.win_cert.specs.declared.lines.Line.{Line}
 use Rattle.win_cert.specs.declared.lines.Line.TheVariants.{
-  Adj, And, Key, Or2, Or3, Put, Done, Move, Cases}
+  Adj,
+  And,
+  Key,
+  Or2,
+  Or3,
+  Put,
+  Done,
+  Move,
+  Cases,
+}
 
 -- what is read: a derivation line, or the claim with the number of its entry
 pub data Statement : Type 0 where

@@ -2,7 +2,7 @@
 
 ghost use Rattle.std.specs.Prelude.{◌≡◌, ◌+◌, ◌<◌, IfSome, OnOk};
 ghost use Rattle.hex_board.specs.Positions.{Apart, Within};
-ghost use Rattle.win_cert.specs.Lines.{IsTaken, head_in, lines_of, number_after, player_in};
+ghost use Rattle.win_cert.specs.Lines.{IsLineTaken, head_in, lines_of, number_after, player_in};
 ghost use Rattle.win_cert.specs.Lines.{stones_in, with_rest};
 
 use super::reader::Reader;
@@ -71,7 +71,7 @@ impl Reader<'_> {
     fn number(&mut self, name: &[u8], least: u32, most: u32) -> Option<u32>
         requires { self.old.line < 5 }
         ensures count { self.new.line ≡ self.old.line + 1 }
-        ensures value { IsTaken (number_after name.now least most) self.old.rest.now result
+        ensures value { IsLineTaken (number_after name.now least most) self.old.rest.now result
             self.new.rest.now }
     {
         let mut words = self.next()?;
@@ -82,7 +82,7 @@ impl Reader<'_> {
     fn player(&mut self) -> Option<Colour>
         requires { self.old.line < 5 }
         ensures count { self.new.line ≡ self.old.line + 1 }
-        ensures value { IsTaken player_in self.old.rest.now result self.new.rest.now }
+        ensures value { IsLineTaken player_in self.old.rest.now result self.new.rest.now }
     {
         let mut words = self.next()?;
         player_of(&mut words)
@@ -92,7 +92,7 @@ impl Reader<'_> {
     fn stones(&mut self, name: &[u8], size: Size, taken: CellSet) -> Option<CellSet>
         requires { self.old.line < 5 }
         ensures count { self.new.line ≡ self.old.line + 1 }
-        ensures value { IsTaken (stones_in name.now size taken) self.old.rest.now result
+        ensures value { IsLineTaken (stones_in name.now size taken) self.old.rest.now result
             self.new.rest.now }
         ensures on_board { IfSome result (Within size) }
         ensures apart { IfSome result (λ s. Apart s taken) }

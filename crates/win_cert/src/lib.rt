@@ -13,8 +13,8 @@
 //! it. `read` answers the certificate whose text the bytes are, or exactly the first line that is
 //! not as it should be, or that there is a line too many: specs/Readings.antt tells these from the
 //! texts of certificates alone. What is written is read back ([`written_text_is_read_back`]), so a
-//! certificate has one text. `raise` changes the version alone and keeps the verdict. What each line
-//! gives, the reasons in their order, accepted and the verdict are in specs/Entries.antt,
+//! certificate has one text. `raise` changes the version alone and keeps the verdict. What each
+//! line gives, the reasons in their order, accepted and the verdict are in specs/Entries.antt,
 //! Reasons.antt and Verdicts.antt; proofs/Vectors.antt computes them on certificates.
 //!
 //! **What is only tested, or not said.** That calls get their memory; the time, which is linear in

@@ -1,10 +1,33 @@
 //! A certificate from its text.
 
 ghost use Rattle.std.specs.Prelude.{
-    ◌≡◌, ◌≢◌, ◌+◌, ◌<◌, ◌≤◌, ◌⊎◌, length, [], ◌∷◌, ◌++◌, Ok, Err, Some, None, OnOk, if◌then◌else◌,
+  ◌≡◌,
+  ◌≢◌,
+  ◌+◌,
+  ◌<◌,
+  ◌≤◌,
+  ◌⊎◌,
+  length,
+  [],
+  ◌∷◌,
+  ◌++◌,
+  Ok,
+  Err,
+  Some,
+  None,
+  OnOk,
+  if◌then◌else◌,
 };
 ghost use Rattle.win_cert.specs.Lines.{
-    IsStepTaken, at_line, cert_in, cert_of, certs_of, is_nothing, line_in, lines_of, with_rest,
+  IsStepTaken,
+  at_line,
+  cert_in,
+  cert_of,
+  certs_of,
+  is_nothing,
+  line_in,
+  lines_of,
+  with_rest,
 };
 ghost use Rattle.win_cert.specs.Named.{step_named};
 ghost use Rattle.win_cert.specs.declared.refusals.CertError.{CertError};
@@ -81,7 +104,8 @@ fn take_line(
     ensures few { OnOk result (length lines.new.items ≤ MOST_LINES) }
     ensures none { result ≡ Ok None → length lines.new.items ≡ length lines.old.items + 1 }
     ensures value { result ≢ Err CertError.Memory
-        → IsStepTaken version size lines.old.items (lines_of reader.old.rest.now) result lines.new.items
+        → IsStepTaken version size lines.old.items (lines_of reader.old.rest.now) result
+        lines.new.items
         (lines_of reader.new.rest.now) }
 {
     let step = next_step(alloc, reader, version, size)?;

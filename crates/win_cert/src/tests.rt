@@ -5,14 +5,18 @@ use std::alloc::Global;
 use std::rt::HostRuntime;
 use std::test::Fail;
 
-const V1: &[u8] =
-    b"hexcert 1\nsize 2\nplayer black\nblack\nwhite\nadj a2 a1\nadj a1 edge1\nadj a2 b1\nadj b1 edge1\nkey 0 1\nkey 2 3\nor 4 5\nadj a2 edge2\nkey 6 7\nsemi 8\n";
+const V1: &[u8] = b"hexcert 1\nsize 2\nplayer black\nblack\nwhite\n\
+    adj a2 a1\nadj a1 edge1\nadj a2 b1\nadj b1 edge1\n\
+    key 0 1\nkey 2 3\nor 4 5\nadj a2 edge2\nkey 6 7\nsemi 8\n";
 
-const V2: &[u8] =
-    b"hexcert 1\nsize 3\nplayer black\nblack\nwhite\nadj a2 a1\nadj a1 edge1\nadj a2 b1\nadj b1 edge1\nkey 0 1\nkey 2 3\nor 4 5\nadj b2 b1\nadj b2 c1\nadj c1 edge1\nkey 7 3\nkey 8 9\nor 10 11\nand 6 12\nfull 13\n";
+const V2: &[u8] = b"hexcert 1\nsize 3\nplayer black\nblack\nwhite\n\
+    adj a2 a1\nadj a1 edge1\nadj a2 b1\nadj b1 edge1\n\
+    key 0 1\nkey 2 3\nor 4 5\nadj b2 b1\nadj b2 c1\nadj c1 edge1\n\
+    key 7 3\nkey 8 9\nor 10 11\nand 6 12\nfull 13\n";
 
-const V3: &[u8] =
-    b"hexcert 2\nsize 2\nplayer black\nblack\nwhite\nput a1 a2\ndone\nput b1 a2\ndone\nput a2\nmove a1 1\nmove b1 3\ncases 5 6\nput\nmove a2 7\nsemi 9\n";
+const V3: &[u8] = b"hexcert 2\nsize 2\nplayer black\nblack\nwhite\n\
+    put a1 a2\ndone\nput b1 a2\ndone\nput a2\n\
+    move a1 1\nmove b1 3\ncases 5 6\nput\nmove a2 7\nsemi 9\n";
 
 // The five lines of a head of version 2 with stones.
 const HEAD: &[u8] = b"hexcert 2\nsize 11\nplayer white\nblack a1 k11\nwhite b1 a2\n";

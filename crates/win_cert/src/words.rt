@@ -4,7 +4,11 @@ ghost use Rattle.std.specs.Prelude.{◌≡◌, ◌≢◌, ◌↔◌, [], ◌∷�
 ghost use Rattle.std.specs.Option.{option_map};
 ghost use Rattle.std.specs.List.{position, slice_split};
 ghost use Rattle.win_cert.specs.Named.{
-    after_word, cells_named, first_cell, first_end, first_number,
+  after_word,
+  set_named,
+  first_cell,
+  first_end,
+  first_number,
 };
 ghost use Rattle.win_cert.specs.Named.{numbers_named};
 ghost use Rattle.win_cert.specs.Words.{is_space};
@@ -121,7 +125,7 @@ impl<'a> Words<'a> {
 
     /// Takes all words as vertices in rising order; `None` exactly where they are not.
     pub(crate) fn cells(&mut self, size: Size) -> Option<CellSet>
-        ensures { result ≡ cells_named size 0 0 self.old }
+        ensures { result ≡ set_named size 0 0 self.old }
     {
         let mut set = CellSet::none();
         let mut least = 0;

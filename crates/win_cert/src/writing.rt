@@ -7,7 +7,12 @@ ghost use Rattle.hex_cells.specs.Sets.{has};
 ghost use Rattle.hex_cells.specs.Vertices.{vertex_of};
 ghost use Rattle.hex_board.specs.Positions.{Within};
 ghost use Rattle.win_cert.specs.Texts.{
-    cert_text, claim_words, colour_word, end_word, ended, head_words,
+  cert_text,
+  claim_words,
+  colour_word,
+  end_word,
+  ended,
+  head_words,
 };
 ghost use Rattle.win_cert.specs.Texts.{kind_word, line_words, space, vertices_of};
 ghost use Rattle.win_cert.specs.Words.{after_spaces};

@@ -1,7 +1,7 @@
 use Rattle.std.proofs.Common.{◌≡◌, ◌+◌, ◌<◌, ℕ, List, slice_index, length, sym, ap, ◌∙◌, subst, arith}
 use Rattle.hex_cells.specs.Sets.{has as has_cell}
-use Rattle.tree_words.specs.Words.{cell_in}
-use Rattle.seq_search.specs.Adding.{Sighted, node_at}
+use Rattle.tree_words.specs.Words.{cell_in, node_at}
+use Rattle.seq_search.specs.Adding.{Sighted}
 use Rattle.seq_search.proofs.Additions.{sighted-move, sighted-past, sighted-next}
 use Rattle.seq_search.proofs.adding.see.Goals as goal
 use Rattle.seq_search.proofs.adding.see.Goals.{then-has, else-has}

@@ -1,15 +1,15 @@
 use Rattle.std.proofs.Common.{ℕ, ◌+◌, List, drop, length-drop, refl, subst, arith}
 use Rattle.tree_words.specs.Closing.{ClosedTree, IsClosed}
-use Rattle.trace_audit.specs.Texts.{IsText, tree_of}
-use Rattle.trace_audit.specs.Verdicts.{Begins, FailsFirst}
+use Rattle.trace_audit.specs.Texts.{IsText, closed_tree_of}
+use Rattle.trace_audit.specs.Verdicts.{BeginsWithTree, FailsFirst}
 use Rattle.trace_audit.proofs.Matches.{if_none, if_some}
 use Rattle.trace_audit.proofs.TextLists.{bad_form, flaw_is, rest_all, text_stands, texts_more}
 use Rattle.trace_audit.proofs.auditing.audit.Goals as goal
 
 pub returns-in_default : goal.returns-in_default
 returns-in_default c =
-    let n : (u : ClosedTree) → Begins u (drop c.texts.at c.args.bytes.now) → ⊥
-    = subst (λ (l : List ℕ). (u : ClosedTree) → Begins u l → ⊥) (rest_all c.args.bytes.now c.texts.at) (if_none c.in_ok-text.field-0 _ _ c.in_ok-text.ensures c.in_default.is) in
+    let n : (u : ClosedTree) → BeginsWithTree u (drop c.texts.at c.args.bytes.now) → ⊥
+    = subst (λ (l : List ℕ). (u : ClosedTree) → BeginsWithTree u l → ⊥) (rest_all c.args.bytes.now c.texts.at) (if_none c.in_ok-text.field-0 _ _ c.in_ok-text.ensures c.in_default.is) in
     (drop c.texts.at c.args.bytes.now, c.texts.invariant.2, bad_form c.args.bytes.now c.texts.at c.texts-test.true n)
 
 pub returns-in-Some-2 : goal.returns-in-Some-2
@@ -19,7 +19,7 @@ returns-in-Some-2 c =
     let f = if_some c.in_ok-why.field-0 c.in-Some-2.why _ _ c.in_ok-why.ensures c.in-Some-2.is in (
       drop c.texts.at c.args.bytes.now,
       c.texts.invariant.2,
-      flaw_is (drop c.texts.at c.args.bytes.now) c.in-Some-2.why (tree_of c.in-Some.text) (text_stands (drop c.texts.at c.args.bytes.now) c.in-Some.text t)
+      flaw_is (drop c.texts.at c.args.bytes.now) c.in-Some-2.why (closed_tree_of c.in-Some.text) (text_stands (drop c.texts.at c.args.bytes.now) c.in-Some.text t)
           (subst (λ (l : List ℕ). FailsFirst c.in-Some.text.shape l c.in-Some-2.why) c.deref.ensures.value f),
     )
 

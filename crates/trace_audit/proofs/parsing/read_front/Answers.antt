@@ -1,11 +1,11 @@
 use Rattle.std.proofs.Common.{refl}
-use Rattle.trace_audit.specs.Traces.{fields_of, written}
+use Rattle.trace_audit.specs.Traces.{fields_of, written_count}
 use Rattle.trace_audit.proofs.TextTree.{begins_front}
 use Rattle.trace_audit.proofs.TextWords.{count_fits, front_read, tree_told}
 use Rattle.trace_audit.proofs.parsing.read_front.Goals as goal
 
 pub returns-in_default : goal.returns-in_default
-returns-in_default c = λ t b. c.in_default.ensures (fields_of t.shape (written t.words)) refl (begins_front t c.args.bytes.now b)
+returns-in_default c = λ t b. c.in_default.ensures (fields_of t.shape (written_count t.words)) refl (begins_front t c.args.bytes.now b)
 
 pub returns-in_default-shape_of : goal.returns-in_default-shape_of
 returns-in_default-shape_of c = λ t b. c.in_default-shape_of.ensures t.shape b.read.shape (tree_told c.args.bytes.now c.in-Some.fields t c.in-Some.ensures b)

@@ -1,5 +1,6 @@
 use Rattle.std.proofs.Common.{ℕ, ◌<◌}
-use Rattle.trace_audit.specs.Points.{AreSame, node_at}
+use Rattle.tree_words.specs.Words.{node_at}
+use Rattle.trace_audit.specs.Points.{AreSame}
 use Rattle.trace_audit.proofs.points.has_sums.Given as goal
 
 abbrev pub invariant-nodes : goal.invariant-nodes
