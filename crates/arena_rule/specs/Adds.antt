@@ -6,24 +6,12 @@ use Rattle.hex_board.specs.Wins.{is_same}
 use Rattle.tree_words.specs.Settings.{Setting}
 use Rattle.tree_words.specs.Words.{root_at}
 use Rattle.tree_words.specs.Blocks.{LinkedBlock, In, up, has_node, place, cell_at, is_node}
-use Rattle.tree_words.specs.Paths.{
-  NodeState,
-  root_state,
-  state_after,
-  node_state,
-  mover_at,
-  mover_of,
-  is_on,
-  enters,
-}
+use Rattle.tree_words.specs.Paths.{NodeState, root_state, state_after, node_state, mover_at}
+use Rattle.tree_words.specs.Paths.{mover_of, is_on, enters}
 use Rattle.play_out.specs.declared.playouts.Ending.{Ending}
 use Rattle.tree_words.specs.Sequence.{outcome_of, amount_of}
-use Rattle.tree_words.specs.declared.layout.TheConstants.{
-  NODE_WORDS,
-  HEADER_WORDS,
-  TALLY_WORD,
-  SEEN_WORD,
-}
+use Rattle.tree_words.specs.declared.layout.TheConstants.{NODE_WORDS, HEADER_WORDS, TALLY_WORD}
+use Rattle.tree_words.specs.declared.layout.TheConstants.{SEEN_WORD}
 
 -- an add: the word, and whether the mover of that word's node won
 pub record CountAdd : Type 0 where

@@ -1,59 +1,19 @@
 -- What an answer may be, told from the view before the step. All that is said of an answer holds of
 -- it together.
-use Rattle.std.specs.Prelude.{
-  ◌≡◌,
-  ◌≢◌,
-  ◌⊎◌,
-  ℕ,
-  ◌+◌,
-  ◌*◌,
-  ◌<◌,
-  ◌≤◌,
-  true,
-  false,
-  List,
-  Contains,
-  Some,
-  slice_index,
-}
+use Rattle.std.specs.Prelude.{◌≡◌, ◌≢◌, ◌⊎◌, ℕ, ◌+◌, ◌*◌, ◌<◌, ◌≤◌, true, false, List, Contains}
+use Rattle.std.specs.Prelude.{Some, slice_index}
 use Rattle.tree_words.specs.Words.{root_at, area_at, end_of, visits_in, wins_in}
-use Rattle.tree_words.specs.Blocks.{
-  LinkedBlock,
-  In,
-  size,
-  covers,
-  cover,
-  is_header_or_move,
-  header_or_move,
-}
-use Rattle.tree_words.specs.declared.layout.TheConstants.{
-  LINK_WORD,
-  TALLY_WORD,
-  SEEN_WORD,
-  MOST_BLOCK_WORDS,
-}
+use Rattle.tree_words.specs.Blocks.{LinkedBlock, In, size, covers, cover, is_header_or_move}
+use Rattle.tree_words.specs.Blocks.{header_or_move}
+use Rattle.tree_words.specs.declared.layout.TheConstants.{LINK_WORD, TALLY_WORD, SEEN_WORD}
+use Rattle.tree_words.specs.declared.layout.TheConstants.{MOST_BLOCK_WORDS}
 use Rattle.tree_words.specs.declared.settings.TheConstants.{MOST_WORKERS}
 use Rattle.tree_words.specs.declared.steps.Op.{Op}
-use Rattle.tree_words.specs.declared.steps.Op.TheVariants.{
-  Draw,
-  Look,
-  Claim,
-  Write,
-  Publish,
-  Add,
-  Note,
-  Done,
-}
+use Rattle.tree_words.specs.declared.steps.Op.TheVariants.{Draw, Look, Claim, Write, Publish, Add}
+use Rattle.tree_words.specs.declared.steps.Op.TheVariants.{Note, Done}
 use Rattle.arena_rule.specs.Views.{SeatView, Walked}
-use Rattle.arena_rule.specs.Lookups.{
-  is_known,
-  known_link,
-  told_below,
-  recorded_through,
-  adds_made,
-  adds_in,
-  is_held,
-}
+use Rattle.arena_rule.specs.Lookups.{is_known, known_link, told_below, recorded_through, adds_made}
+use Rattle.arena_rule.specs.Lookups.{adds_in, is_held}
 use Rattle.arena_rule.specs.Afters.{word_of}
 
 -- where the view has a copy of the words, the answer is the value there

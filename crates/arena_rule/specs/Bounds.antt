@@ -1,22 +1,6 @@
 -- The parts of the arena rule that bound the growth of the tree.
-use Rattle.std.specs.Prelude.{
-  ◌≡◌,
-  ◌⊎◌,
-  ℕ,
-  ◌+◌,
-  ◌*◌,
-  ◌≤◌,
-  ◌==◌,
-  ◌&&◌,
-  not,
-  if◌then◌else◌,
-  true,
-  List,
-  sum_by,
-  Option,
-  Some,
-  None,
-}
+use Rattle.std.specs.Prelude.{◌≡◌, ◌⊎◌, ℕ, ◌+◌, ◌*◌, ◌≤◌, ◌==◌, ◌&&◌, not, if◌then◌else◌, true}
+use Rattle.std.specs.Prelude.{List, sum_by, Option, Some, None}
 use Rattle.hex_board.specs.Positions.{is_empty_at}
 use Rattle.tree_words.specs.Settings.{Setting}
 use Rattle.tree_words.specs.Words.{root_at, end_of, next_in, tally_in, visits_in}

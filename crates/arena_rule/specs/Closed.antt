@@ -1,17 +1,6 @@
 -- The end of a search, and what the records tell of the counts.
-use Rattle.std.specs.Prelude.{
-  ◌≡◌,
-  ℕ,
-  ◌+◌,
-  ◌<◌,
-  ◌==◌,
-  not,
-  true,
-  List,
-  sum_by,
-  count_by,
-  slice_index,
-}
+use Rattle.std.specs.Prelude.{◌≡◌, ℕ, ◌+◌, ◌<◌, ◌==◌, not, true, List, sum_by, count_by}
+use Rattle.std.specs.Prelude.{slice_index}
 use Rattle.std.specs.List.{filter, range_with_len}
 use Rattle.tree_words.specs.Settings.{Setting}
 use Rattle.tree_words.specs.Words.{root_at, record_in}

@@ -1,62 +1,21 @@
 -- What a view fits: which steps a seat may make, told from its view alone.
-use Rattle.std.specs.Prelude.{
-  ◌≡◌,
-  ◌≢◌,
-  ◌⊎◌,
-  ℕ,
-  ◌+◌,
-  ◌<◌,
-  ◌≤◌,
-  if◌then◌else◌,
-  true,
-  false,
-  List,
-  length,
-  map,
-  Option,
-  Some,
-  None,
-  slice_get,
-}
+use Rattle.std.specs.Prelude.{◌≡◌, ◌≢◌, ◌⊎◌, ℕ, ◌+◌, ◌<◌, ◌≤◌, if◌then◌else◌, true, false, List}
+use Rattle.std.specs.Prelude.{length, map, Option, Some, None, slice_get}
 use Rattle.std.specs.List.{range_with_len}
 use Rattle.tree_words.specs.Words.{root_at, end_of}
-use Rattle.tree_words.specs.Blocks.{
-  LinkedBlock,
-  In,
-  has_node,
-  child,
-  size,
-  block_size,
-  is_header_or_move,
-  header_or_move,
-}
+use Rattle.tree_words.specs.Blocks.{LinkedBlock, In, has_node, child, size, block_size}
+use Rattle.tree_words.specs.Blocks.{is_header_or_move, header_or_move}
 use Rattle.tree_words.specs.Paths.{node_state, is_on}
 use Rattle.tree_words.specs.Sequence.{search_game, outcome_of}
 use Rattle.tree_words.specs.Descents.{pick}
 use Rattle.tree_words.specs.declared.layout.TheConstants.{LINK_WORD, TALLY_WORD, SEEN_WORD}
 use Rattle.tree_words.specs.declared.steps.Op.{Op}
-use Rattle.tree_words.specs.declared.steps.Op.TheVariants.{
-  Draw,
-  Look,
-  Claim,
-  Write,
-  Publish,
-  Add,
-  Note,
-  Done,
-}
+use Rattle.tree_words.specs.declared.steps.Op.TheVariants.{Draw, Look, Claim, Write, Publish, Add}
+use Rattle.tree_words.specs.declared.steps.Op.TheVariants.{Note, Done}
 use Rattle.arena_rule.specs.Views.{SeatView, HeldBlock, Flight, HasDrawnNothing, HasEnded}
 use Rattle.arena_rule.specs.Adds.{CountAdd, walk_adds}
-use Rattle.arena_rule.specs.Lookups.{
-  is_known,
-  known_link,
-  told_below,
-  empties_at,
-  IsLoaded,
-  tally_loaded,
-  seen_loaded,
-  record_word,
-}
+use Rattle.arena_rule.specs.Lookups.{is_known, known_link, told_below, empties_at, IsLoaded}
+use Rattle.arena_rule.specs.Lookups.{tally_loaded, seen_loaded, record_word}
 
 -- Draw: the view stands for one worker, who has not ended, has no number in hand and holds nothing
 pub record FitsDraw (v : SeatView) : Type 0 where

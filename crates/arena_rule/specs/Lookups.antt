@@ -1,26 +1,6 @@
 -- What is looked up in a view: its nodes, its loads, its walks, and the adds of the walk in hand.
-use Rattle.std.specs.Prelude.{
-  ◌≡◌,
-  ℕ,
-  ◌+◌,
-  ◌*◌,
-  ◌==◌,
-  ◌&&◌,
-  nat_lt,
-  nat_le,
-  if◌then◌else◌,
-  Bool,
-  false,
-  List,
-  [],
-  ◌∷◌,
-  length,
-  take,
-  count_by,
-  Option,
-  Some,
-  None,
-}
+use Rattle.std.specs.Prelude.{◌≡◌, ℕ, ◌+◌, ◌*◌, ◌==◌, ◌&&◌, nat_lt, nat_le, if◌then◌else◌, Bool}
+use Rattle.std.specs.Prelude.{false, List, [], ◌∷◌, length, take, count_by, Option, Some, None}
 use Rattle.hex_cells.specs.declared.colours.Colour.{Colour}
 use Rattle.hex_cells.specs.declared.colours.Colour.TheVariants.{Black, White}
 use Rattle.play_out.specs.Fills.{empties_of}

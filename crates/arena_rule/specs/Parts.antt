@@ -1,45 +1,14 @@
 -- The parts of the arena rule, over the words, the linked blocks and the views of all seats. A
 -- spent view has nothing, so that it adds nothing to a sum; what is said of each view holds of it
 -- too.
-use Rattle.std.specs.Prelude.{
-  ◌≡◌,
-  ◌≢◌,
-  ℕ,
-  ◌+◌,
-  ◌*◌,
-  ◌<◌,
-  ◌≤◌,
-  ◌==◌,
-  ◌&&◌,
-  nat_lt,
-  nat_le,
-  if◌then◌else◌,
-  Bool,
-  true,
-  List,
-  length,
-  sum_by,
-  count_by,
-  slice_index,
-  Contains,
-  Option,
-  Some,
-  None,
-}
+use Rattle.std.specs.Prelude.{◌≡◌, ◌≢◌, ℕ, ◌+◌, ◌*◌, ◌<◌, ◌≤◌, ◌==◌, ◌&&◌, nat_lt, nat_le}
+use Rattle.std.specs.Prelude.{if◌then◌else◌, Bool, true, List, length, sum_by, count_by}
+use Rattle.std.specs.Prelude.{slice_index, Contains, Option, Some, None}
 use mathlib.Core.Option.{some}
 use lib.ListN.{get_elem?}
 use Rattle.tree_words.specs.Settings.{Setting}
-use Rattle.tree_words.specs.Words.{
-  root_at,
-  area_at,
-  end_of,
-  next_in,
-  ticket_in,
-  record_in,
-  leaf_in,
-  winner_in,
-  link_in,
-}
+use Rattle.tree_words.specs.Words.{root_at, area_at, end_of, next_in, ticket_in, record_in, leaf_in}
+use Rattle.tree_words.specs.Words.{winner_in, link_in}
 use Rattle.tree_words.specs.Blocks.{LinkedBlock, one_if, is_node, cover}
 use Rattle.tree_words.specs.Paths.{node_state}
 use Rattle.tree_words.specs.Complete.{Linked, HaveNodes}

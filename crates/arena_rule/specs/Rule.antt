@@ -6,18 +6,8 @@ use Rattle.tree_words.specs.Blocks.{LinkedBlock}
 use Rattle.tree_words.specs.declared.steps.Op.{Op}
 use Rattle.arena_rule.specs.Views.{SeatView, spent_view}
 use Rattle.arena_rule.specs.Afters.{word_of, put, answer_of, after, kept_part, given_part, joined}
-use Rattle.arena_rule.specs.Parts.{
-  Widths,
-  Fresh,
-  AreApart,
-  AreLinked,
-  AreWritten,
-  Known,
-  Sums,
-  Tickets,
-  InHand,
-  Sole,
-}
+use Rattle.arena_rule.specs.Parts.{Widths, Fresh, AreApart, AreLinked, AreWritten, Known, Sums}
+use Rattle.arena_rule.specs.Parts.{Tickets, InHand, Sole}
 use Rattle.arena_rule.specs.Bounds.{AreLoads, FirstVisits, LeafBound, Room}
 
 -- the parts of the rule hold, where bs are the linked blocks

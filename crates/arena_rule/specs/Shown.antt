@@ -2,14 +2,8 @@
 use Rattle.std.specs.Prelude.{◌≡◌, ◌≢◌, ℕ, ◌+◌, ◌<◌, ◌≤◌, true, List, Some, slice_index}
 use Rattle.tree_words.specs.Settings.{Setting}
 use Rattle.tree_words.specs.Words.{root_at, link_in, tally_in, seen_in}
-use Rattle.tree_words.specs.Blocks.{
-  LinkedBlock,
-  In,
-  is_node,
-  size,
-  is_header_or_move,
-  header_or_move,
-}
+use Rattle.tree_words.specs.Blocks.{LinkedBlock, In, is_node, size, is_header_or_move}
+use Rattle.tree_words.specs.Blocks.{header_or_move}
 use Rattle.tree_words.specs.declared.steps.Op.{Op}
 use Rattle.arena_rule.specs.Views.{SeatView, HeldBlock}
 use Rattle.arena_rule.specs.Fits.{FitsStep, CanSplit, CanJoin}

@@ -1,38 +1,17 @@
 -- What the checker's answers mean: reasons and verdicts.
 use Rattle.std.specs.Prelude.{ℕ}
-use Rattle.win_cert.specs.Reasons.{
-  Reason,
-  bad_reference,
-  wrong_colour,
-  not_neighbours,
-  no_common_middle,
-  carriers_meet,
-  end_in_carrier,
-  middle_kind,
-  ends_differ,
-  common_cell,
-  not_edges,
-  bad_stone,
-  wrong_scope,
-  not_joined,
-}
+use Rattle.win_cert.specs.Reasons.{Reason, bad_reference, wrong_colour, not_neighbours}
+use Rattle.win_cert.specs.Reasons.{no_common_middle, carriers_meet, end_in_carrier, middle_kind}
+use Rattle.win_cert.specs.Reasons.{ends_differ, common_cell, not_edges, bad_stone, wrong_scope}
+use Rattle.win_cert.specs.Reasons.{not_joined}
 use Rattle.win_cert.specs.Verdicts as win_cert
 use Rattle.cert_check.specs.declared.verdicts.Why.{Why}
-use Rattle.cert_check.specs.declared.verdicts.Why.TheVariants.{
-  BadReference,
-  WrongColour,
-  NotNeighbours,
-  NoCommonMiddle,
-  CarriersMeet,
-  EndInCarrier,
-  MiddleKind,
-  EndsDiffer,
-  CommonCell,
-  NotEdges,
-  BadStone,
-  WrongScope,
-  NotJoined,
-}
+use Rattle.cert_check.specs.declared.verdicts.Why.TheVariants.{BadReference, WrongColour}
+use Rattle.cert_check.specs.declared.verdicts.Why.TheVariants.{NotNeighbours, NoCommonMiddle}
+use Rattle.cert_check.specs.declared.verdicts.Why.TheVariants.{CarriersMeet, EndInCarrier}
+use Rattle.cert_check.specs.declared.verdicts.Why.TheVariants.{MiddleKind, EndsDiffer, CommonCell}
+use Rattle.cert_check.specs.declared.verdicts.Why.TheVariants.{NotEdges, BadStone, WrongScope}
+use Rattle.cert_check.specs.declared.verdicts.Why.TheVariants.{NotJoined}
 use Rattle.cert_check.specs.declared.verdicts.Verdict.{Verdict}
 use Rattle.cert_check.specs.declared.verdicts.Verdict.TheVariants.{Yes, No}
 

@@ -9,16 +9,8 @@ use Rattle.hex_board.specs.Positions.{Position}
 use Rattle.win_cert.specs.Entries.{Context, ScopedEntry, entry_at, gives}
 use Rattle.win_cert.specs.Reasons.{is_bad_reference, is_wrong_scope, reason_against}
 use Rattle.win_cert.specs.Scopes.{elements_in, scope_after}
-use Rattle.win_cert.specs.Statements.{
-  Statement,
-  claim,
-  derivation,
-  is_chain,
-  is_edge_entry,
-  is_or,
-  kind_taken,
-  numbers_in,
-}
+use Rattle.win_cert.specs.Statements.{Statement, claim, derivation, is_chain, is_edge_entry, is_or}
+use Rattle.win_cert.specs.Statements.{kind_taken, numbers_in}
 use Rattle.win_cert.specs.declared.lines.Line.{Line}
 use Rattle.win_cert.specs.declared.lines.Line.TheVariants.{And, Key}
 use Rattle.cert_check.specs.Answers.{reason_of}

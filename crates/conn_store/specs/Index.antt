@@ -1,23 +1,7 @@
 -- The index of a store: for each pair and kind the numbers of its entries. Only private clauses
 -- cite this.
-use Rattle.std.specs.Prelude.{
-  ◌≡◌,
-  ℕ,
-  ◌+◌,
-  ◌-◌,
-  ◌*◌,
-  ◌/◌,
-  ◌<◌,
-  ◌≤◌,
-  true,
-  List,
-  Some,
-  slice_index,
-  slice_index_or,
-  All,
-  length,
-  sum_by,
-}
+use Rattle.std.specs.Prelude.{◌≡◌, ℕ, ◌+◌, ◌-◌, ◌*◌, ◌/◌, ◌<◌, ◌≤◌, true, List, Some, slice_index}
+use Rattle.std.specs.Prelude.{slice_index_or, All, length, sum_by}
 use Rattle.std.specs.List.{slice_get}
 use Rattle.hex_cells.specs.Sets.{has}
 use Rattle.hex_cells.specs.declared.colours.Colour.{Colour}

@@ -1,23 +1,7 @@
 -- The four rules by which an entry follows from others. An entry of a pair has the lesser element
 -- first; the rules speak of the pair without an order.
-use Rattle.std.specs.Prelude.{
-  ◌≡◌,
-  ◌≢◌,
-  ℕ,
-  ◌⊎◌,
-  Bool,
-  true,
-  false,
-  List,
-  [],
-  ◌∷◌,
-  Some,
-  All,
-  length,
-  map,
-  take,
-  bit_or,
-}
+use Rattle.std.specs.Prelude.{◌≡◌, ◌≢◌, ℕ, ◌⊎◌, Bool, true, false, List, [], ◌∷◌, Some, All, length}
+use Rattle.std.specs.Prelude.{map, take, bit_or}
 use Rattle.std.specs.List.{list_all, slice_get}
 use Rattle.hex_cells.specs.Sets.{has, with_cell}
 use Rattle.hex_board.specs.Elements.{PlayerBoard, HasCell}

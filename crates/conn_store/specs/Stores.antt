@@ -1,25 +1,6 @@
 -- Stores: a player's entries in the order in which they came, and what becomes of one more.
-use Rattle.std.specs.Prelude.{
-  ◌≡◌,
-  ℕ,
-  ◌-◌,
-  ◌≤◌,
-  ◌==◌,
-  ◌&&◌,
-  Bool,
-  true,
-  false,
-  suc,
-  List,
-  [],
-  ◌∷◌,
-  ◌++◌,
-  Some,
-  length,
-  take,
-  replicate,
-  if◌then◌else◌,
-}
+use Rattle.std.specs.Prelude.{◌≡◌, ℕ, ◌-◌, ◌≤◌, ◌==◌, ◌&&◌, Bool, true, false, suc, List, [], ◌∷◌}
+use Rattle.std.specs.Prelude.{◌++◌, Some, length, take, replicate, if◌then◌else◌}
 use Rattle.std.specs.List.{slice_get}
 use Rattle.hex_cells.specs.Sets.{has}
 use Rattle.hex_cells.specs.declared.colours.Colour.{Colour}

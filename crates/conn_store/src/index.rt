@@ -1,17 +1,7 @@
 //! The index of a store: which entries a pair has of a kind.
 
-ghost use Rattle.std.specs.Prelude.{
-  ◌≡◌,
-  ℕ,
-  ◌+◌,
-  ◌<◌,
-  ◌≤◌,
-  ◌↔◌,
-  IsTrue,
-  length,
-  slice_index,
-  slice_set,
-};
+ghost use Rattle.std.specs.Prelude.{◌≡◌, ℕ, ◌+◌, ◌<◌, ◌≤◌, ◌↔◌, IsTrue, length, slice_index};
+ghost use Rattle.std.specs.Prelude.{slice_set};
 ghost use Rattle.conn_store.specs.Index.{AnyInside, number_of_pair, pairs_among};
 
 use super::entries::{Entry, Held};

@@ -4,14 +4,8 @@ ghost use Rattle.std.specs.Prelude.{◌≡◌, ◌↔◌, ℕ, ◌<◌, ◌∷�
 ghost use Rattle.hex_board.specs.Elements.{element_count};
 ghost use Rattle.hex_board.specs.Places.{Near};
 ghost use Rattle.conn_store.specs.Entries.{AllEmpty, IsValid, Misses};
-ghost use Rattle.conn_store.specs.Rules.{
-  AndRule,
-  AreWays,
-  IsChain,
-  IsEntry,
-  OrRule,
-  adjacent_entry,
-};
+ghost use Rattle.conn_store.specs.Rules.{AndRule, AreWays, IsChain, IsEntry, OrRule};
+ghost use Rattle.conn_store.specs.Rules.{adjacent_entry};
 ghost use Rattle.conn_store.specs.Stores.{CanAnd, CanOr, GivesAnd, MayBeAdded};
 
 use super::Store;

@@ -10,7 +10,7 @@ use Rattle.std.proofs.Math.Nat.{div-div-eq-div-mul}
 use Rattle.std.proofs.Common.{pow-add, add-zero}
 use Rattle.std.proofs.Math.Nat.{add_comm}
 use Rattle.std.proofs.Math.Pow.{pow_mono, pow_pos}
-use Rattle.std.proofs.lemmas.Nat.{or_lt}
+use Rattle.std.proofs.lemmas.Nat.{or_lt, le_or_l}
 use Rattle.std.proofs.Math.Pow.{pow-lt}
 use Rattle.hex_cells.specs.Sets.{has, with_cell, without_cell, without_cells}
 
@@ -261,3 +261,6 @@ cleared_less a b c l e h = elim (cases_eq b a) [
 -- a without the bits of b, in two ways
 pub minus_value : (a b : ℕ) → a < 2 ^ 121 → b < 2 ^ 121 → bit_and a (2 ^ 128 - 1 - b) ≡ without_cells a b
 minus_value a b ha hb = same_set (bit_and a (2 ^ 128 - 1 - b)) (without_cells a b) (λ k. has_minus a b k ha hb ∙ sym (has_without_cells a b k))
+
+-- what `CellSet::union` is proved from
+pub ruleset union_rules = (has_or, or_below, le_or_l)

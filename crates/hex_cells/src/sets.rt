@@ -97,7 +97,7 @@ impl CellSet {
     }
 
     /// The cells of either set.
-    #[tactic(auto, using(crate::proofs::Bits::has_or, crate::proofs::Bits::or_below, std::proofs::lemmas::Nat::le_or_l))]
+    #[tactic(auto, using(crate::proofs::Bits::union_rules))]
     pub fn union(self, other: CellSet) -> CellSet
         ensures value { result ≡ bit_or self other }
         ensures grows { self ≤ result }

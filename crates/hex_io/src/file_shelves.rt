@@ -47,7 +47,8 @@ impl Shelf for MemShelf {
     fn fetch(&mut self, alloc: Global, name: &str) -> Result<Option<Vec<u8>>, ShelfError>
         ensures told { Fetches (Some self.old.told) (Some self.new.told) name.now
             (says (λ file. file.items) result) }
-        ensures cause { CountsFault self.old.faults self.new.faults (result ≡ Err ShelfError.Fault) }
+        ensures cause { CountsFault self.old.faults self.new.faults
+            (result ≡ Err ShelfError.Fault) }
         ensures fails { result ≢ Err ShelfError.Memory → (result ≡ Err ShelfError.Fault)
             ↔ NextIsBad self.old }
         ensures rest { self.new ≡ record self.old {

@@ -3,14 +3,8 @@ use Rattle.std.specs.Prelude.{◌≡◌, ◌≢◌, ◌≤◌, ◌^◌, ◌-◌,
 use Rattle.std.specs.Prelude.{None, length, codes}
 use Rattle.std.specs.Str.Parse.{IsNumeral, digits_value}
 use Rattle.hexd_words.specs.declared.settings.Mode.{Mode}
-use Rattle.hexd_words.specs.declared.settings.Mode.TheVariants.{
-  Htp,
-  Check,
-  Migrate,
-  Audit,
-  Sim,
-  Bench,
-}
+use Rattle.hexd_words.specs.declared.settings.Mode.TheVariants.{Htp, Check, Migrate, Audit, Sim}
+use Rattle.hexd_words.specs.declared.settings.Mode.TheVariants.{Bench}
 use Rattle.hexd_words.specs.declared.settings.Options.{Options}
 
 abbrev pub TextBytes : Type 0

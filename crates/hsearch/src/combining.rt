@@ -1,18 +1,7 @@
 //! What follows from one entry and those before it.
 
-ghost use Rattle.std.specs.Prelude.{
-  ◌≡◌,
-  ℕ,
-  ◌+◌,
-  ◌<◌,
-  ◌≤◌,
-  ◌∷◌,
-  [],
-  ◌↔◌,
-  IsTrue,
-  length,
-  slice_index,
-};
+ghost use Rattle.std.specs.Prelude.{◌≡◌, ℕ, ◌+◌, ◌<◌, ◌≤◌, ◌∷◌, [], ◌↔◌, IsTrue, length};
+ghost use Rattle.std.specs.Prelude.{slice_index};
 ghost use Rattle.hex_board.specs.Elements.{element_count};
 ghost use Rattle.hsearch.specs.Closed.{HoldsEdge};
 ghost use Rattle.hsearch.specs.Taken.{AreBare, AreNearBelow, Extends, IsOrSettled, IsCombined};

@@ -34,7 +34,8 @@ impl Model for Report {
 ///
 /// It refuses for want of memory alone.
 pub fn connect(alloc: Global, board: &Board, colour: Colour) -> Result<Report, Memory>
-    ensures elements { IfOk result (λ r. r.elements ≡ record { board = board.now; player = colour }) }
+    ensures elements { IfOk result
+        (λ r. r.elements ≡ record { board = board.now; player = colour }) }
     ensures report { IfOk result IsReport }
 {
     let mut store = Store::make(alloc, board, colour)?;

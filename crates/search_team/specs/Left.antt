@@ -1,23 +1,6 @@
 -- What a worker has left to do.
-use Rattle.std.specs.Prelude.{
-  ℕ,
-  ◌+◌,
-  ◌-◌,
-  ◌*◌,
-  ◌==◌,
-  ◌||◌,
-  if◌then◌else◌,
-  zero,
-  suc,
-  Bool,
-  false,
-  List,
-  [],
-  ◌∷◌,
-  Option,
-  Some,
-  None,
-}
+use Rattle.std.specs.Prelude.{ℕ, ◌+◌, ◌-◌, ◌*◌, ◌==◌, ◌||◌, if◌then◌else◌, zero, suc, Bool, false}
+use Rattle.std.specs.Prelude.{List, [], ◌∷◌, Option, Some, None}
 use Rattle.arena_rule.specs.Views.{SeatView, Walked}
 use Rattle.walker.specs.Measure.{steps_left}
 use Rattle.walker.specs.declared.machine.TheConstants.{WALK_STEPS}

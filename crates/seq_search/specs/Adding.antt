@@ -1,17 +1,6 @@
 -- What a walk adds, word by word.
-use Rattle.std.specs.Prelude.{
-  ◌≡◌,
-  ◌≢◌,
-  ℕ,
-  ◌+◌,
-  ◌*◌,
-  ◌<◌,
-  if◌then◌else◌,
-  true,
-  List,
-  length,
-  slice_index,
-}
+use Rattle.std.specs.Prelude.{◌≡◌, ◌≢◌, ℕ, ◌+◌, ◌*◌, ◌<◌, if◌then◌else◌, true, List, length}
+use Rattle.std.specs.Prelude.{slice_index}
 use Rattle.hex_cells.specs.Sets.{has as has_cell}
 use Rattle.tree_words.specs.Settings.{Setting}
 use Rattle.tree_words.specs.Words.{root_at, cell_in, tally_in, seen_in, node_at}

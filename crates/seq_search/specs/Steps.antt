@@ -4,12 +4,8 @@ use Rattle.tree_words.specs.Settings.{Setting}
 use Rattle.tree_words.specs.Words.{root_at, end_of, next_in, record_in, tally_in, seen_in}
 use Rattle.tree_words.specs.Blocks.{LinkedBlock, is_node}
 use Rattle.tree_words.specs.Complete.{Linked, HaveNodes}
-use Rattle.tree_words.specs.declared.layout.TheConstants.{
-  MOST_BLOCK_WORDS,
-  TICKET_AT,
-  RECORDS_AT,
-  SEEN_WORD,
-}
+use Rattle.tree_words.specs.declared.layout.TheConstants.{MOST_BLOCK_WORDS, TICKET_AT, RECORDS_AT}
+use Rattle.tree_words.specs.declared.layout.TheConstants.{SEEN_WORD}
 use Rattle.tree_words.specs.Growth.{root_end}
 use Rattle.tree_words.specs.Walks.{AtMost}
 

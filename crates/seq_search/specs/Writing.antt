@@ -1,19 +1,6 @@
 -- The writes of a new block.
-use Rattle.std.specs.Prelude.{
-  ◌≡◌,
-  ℕ,
-  ◌+◌,
-  ◌-◌,
-  ◌≤◌,
-  ◌&&◌,
-  if◌then◌else◌,
-  true,
-  false,
-  List,
-  length,
-  slice_index,
-  slice_set,
-}
+use Rattle.std.specs.Prelude.{◌≡◌, ℕ, ◌+◌, ◌-◌, ◌≤◌, ◌&&◌, if◌then◌else◌, true, false, List, length}
+use Rattle.std.specs.Prelude.{slice_index, slice_set}
 use Rattle.tree_words.specs.Settings.{Setting}
 use Rattle.tree_words.specs.Words.{next_in, tally_in}
 use Rattle.tree_words.specs.Blocks.{LinkedBlock, covers, is_header_or_move, header_or_move}

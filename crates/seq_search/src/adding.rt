@@ -1,19 +1,7 @@
 //! What a walk adds: its playout's result to the counts and to the records.
 
-ghost use Rattle.std.specs.Prelude.{
-  ◌≡◌,
-  ℕ,
-  ◌+◌,
-  ◌*◌,
-  ◌^◌,
-  ◌≤◌,
-  ◌<◌,
-  length,
-  set,
-  slice_index,
-  List,
-  true,
-};
+ghost use Rattle.std.specs.Prelude.{◌≡◌, ℕ, ◌+◌, ◌*◌, ◌^◌, ◌≤◌, ◌<◌, length, set, slice_index};
+ghost use Rattle.std.specs.Prelude.{List, true};
 ghost use Rattle.hex_cells.specs.declared.colours.Colour.TheVariants.{White};
 ghost use Rattle.hex_cells.specs.Colours.{is_same};
 ghost use Rattle.tree_words.specs.Blocks.{LinkedBlock, one_if, block_size};

@@ -2,16 +2,8 @@
 use Rattle.std.specs.Prelude.{ℕ, ◌+◌, ◌<◌, ◌^◌}
 use Rattle.tree_words.specs.Sequence.{amount_of}
 use Rattle.tree_words.specs.declared.steps.Op.{Op}
-use Rattle.tree_words.specs.declared.steps.Op.TheVariants.{
-  Draw,
-  Look,
-  Claim,
-  Write,
-  Publish,
-  Add,
-  Note,
-  Done,
-}
+use Rattle.tree_words.specs.declared.steps.Op.TheVariants.{Draw, Look, Claim, Write, Publish, Add}
+use Rattle.tree_words.specs.declared.steps.Op.TheVariants.{Note, Done}
 
 -- the word has room for what the step adds to it, where x stands there
 abbrev pub FitsWord : Op → ℕ → Type 0

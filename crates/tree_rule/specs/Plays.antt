@@ -4,15 +4,8 @@ use Rattle.atomic_table.specs.Table.{Me, Step}
 use Rattle.tree_words.specs.Sequence.{amount_of}
 use Rattle.tree_words.specs.declared.layout.TheConstants.{RECORDS_AT}
 use Rattle.tree_words.specs.declared.steps.Op.{Op}
-use Rattle.tree_words.specs.declared.steps.Op.TheVariants.{
-  Draw,
-  Look,
-  Claim,
-  Write,
-  Publish,
-  Add,
-  Note,
-}
+use Rattle.tree_words.specs.declared.steps.Op.TheVariants.{Draw, Look, Claim, Write, Publish, Add}
+use Rattle.tree_words.specs.declared.steps.Op.TheVariants.{Note}
 use Rattle.arena_rule.specs.Views.{SeatView}
 use Rattle.arena_rule.specs.Afters.{after}
 use Rattle.arena_rule.specs.Answers.{MayAnswer}

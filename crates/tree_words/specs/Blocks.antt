@@ -1,40 +1,10 @@
 -- The linked blocks, newest first, and what they fix.
-use Rattle.std.specs.Prelude.{
-  ◌≡◌,
-  ◌⊎◌,
-  ℕ,
-  zero,
-  suc,
-  ◌+◌,
-  ◌-◌,
-  ◌*◌,
-  ◌/◌,
-  ◌%◌,
-  ◌^◌,
-  ◌<◌,
-  ◌≤◌,
-  ◌==◌,
-  nat_lt,
-  nat_le,
-  ◌&&◌,
-  ◌||◌,
-  if◌then◌else◌,
-  Bool,
-  true,
-  List,
-  [],
-  ◌∷◌,
-  length,
-  slice_index,
-  sum_by,
-}
+use Rattle.std.specs.Prelude.{◌≡◌, ◌⊎◌, ℕ, zero, suc, ◌+◌, ◌-◌, ◌*◌, ◌/◌, ◌%◌, ◌^◌, ◌<◌, ◌≤◌, ◌==◌}
+use Rattle.std.specs.Prelude.{nat_lt, nat_le, ◌&&◌, ◌||◌, if◌then◌else◌, Bool, true, List, [], ◌∷◌}
+use Rattle.std.specs.Prelude.{length, slice_index, sum_by}
 use Rattle.tree_words.specs.Words.{move_word}
-use Rattle.tree_words.specs.declared.layout.TheConstants.{
-  NODE_WORDS,
-  LINK_WORD,
-  HEADER_WORDS,
-  HIGH_EMPTIES_SHIFT,
-}
+use Rattle.tree_words.specs.declared.layout.TheConstants.{NODE_WORDS, LINK_WORD, HEADER_WORDS}
+use Rattle.tree_words.specs.declared.layout.TheConstants.{HIGH_EMPTIES_SHIFT}
 
 -- a block: its first word, the first word of its parent node, the set of the empty cells of the
 -- parent's board, and the cells of its nodes in the order of their places

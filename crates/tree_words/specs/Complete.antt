@@ -1,18 +1,6 @@
 -- Complete blocks.
-use Rattle.std.specs.Prelude.{
-  ◌≡◌,
-  ℕ,
-  ◌+◌,
-  ◌^◌,
-  ◌<◌,
-  ◌≤◌,
-  ◌==◌,
-  List,
-  [],
-  ◌∷◌,
-  length,
-  if◌then◌else◌,
-}
+use Rattle.std.specs.Prelude.{◌≡◌, ℕ, ◌+◌, ◌^◌, ◌<◌, ◌≤◌, ◌==◌, List, [], ◌∷◌, length}
+use Rattle.std.specs.Prelude.{if◌then◌else◌}
 use Rattle.std.specs.List.{filter}
 use Rattle.hex_cells.specs.Sets.{has, with_cell}
 use Rattle.hex_board.specs.Joined.{cells_of}

@@ -1,20 +1,6 @@
 -- Seq: the search of one worker, as a fold over its playouts.
-use Rattle.std.specs.Prelude.{
-  ℕ,
-  zero,
-  suc,
-  ◌+◌,
-  nat_le,
-  nat_lt,
-  ◌&&◌,
-  if◌then◌else◌,
-  Bool,
-  List,
-  [],
-  ◌∷◌,
-  length,
-  map,
-}
+use Rattle.std.specs.Prelude.{ℕ, zero, suc, ◌+◌, nat_le, nat_lt, ◌&&◌, if◌then◌else◌, Bool, List}
+use Rattle.std.specs.Prelude.{[], ◌∷◌, length, map}
 use Rattle.hex_cells.specs.Sets.{has}
 use Rattle.hex_board.specs.Positions.{stones_of}
 use Rattle.hex_cells.specs.Colours.{is_same}

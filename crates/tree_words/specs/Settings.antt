@@ -4,13 +4,8 @@ use Rattle.hex_cells.specs.Sets.{has}
 use Rattle.hex_cells.specs.declared.colours.Colour.{Colour}
 use Rattle.hex_board.specs.Positions.{Position, IsPosition, is_empty_at}
 use Rattle.tree_words.specs.declared.settings.Knobs.{Knobs}
-use Rattle.tree_words.specs.declared.settings.TheConstants.{
-  MOST_WORKERS,
-  MOST_PLAYOUTS,
-  LEAST_WORDS,
-  MOST_WORDS,
-  MOST_EXPAND,
-}
+use Rattle.tree_words.specs.declared.settings.TheConstants.{MOST_WORKERS, MOST_PLAYOUTS}
+use Rattle.tree_words.specs.declared.settings.TheConstants.{LEAST_WORDS, MOST_WORDS, MOST_EXPAND}
 use Rattle.uct_table.specs.declared.scoring.TheConstants.{MOST_WEIGHT}
 
 -- a board, the player to move, the cells that he may play, and the knobs

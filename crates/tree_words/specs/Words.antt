@@ -3,24 +3,12 @@ use Rattle.std.specs.Prelude.{ℕ, ◌+◌, ◌*◌, ◌/◌, ◌%◌, ◌^◌, 
 use Rattle.hex_cells.specs.declared.colours.Colour.{Colour}
 use Rattle.hex_cells.specs.declared.colours.Colour.TheVariants.{Black, White}
 use Rattle.tree_words.specs.Settings.{Setting}
-use Rattle.tree_words.specs.declared.layout.TheConstants.{
-  NEXT_AT,
-  TICKET_AT,
-  RECORDS_AT,
-  FRONT_WORDS,
-  HEADER_WORDS,
-  NODE_WORDS,
-  LINK_WORD,
-  TALLY_WORD,
-  SEEN_WORD,
-  LOW_EMPTIES_WORD,
-  HIGH_EMPTIES_WORD,
-  COUNT_WORD,
-  HIGH_EMPTIES_SHIFT,
-  PLACE_UNIT,
-  VISITS_SHIFT,
-  RECORD_UNIT,
-}
+use Rattle.tree_words.specs.declared.layout.TheConstants.{NEXT_AT, TICKET_AT, RECORDS_AT}
+use Rattle.tree_words.specs.declared.layout.TheConstants.{FRONT_WORDS, HEADER_WORDS, NODE_WORDS}
+use Rattle.tree_words.specs.declared.layout.TheConstants.{LINK_WORD, TALLY_WORD, SEEN_WORD}
+use Rattle.tree_words.specs.declared.layout.TheConstants.{LOW_EMPTIES_WORD, HIGH_EMPTIES_WORD}
+use Rattle.tree_words.specs.declared.layout.TheConstants.{COUNT_WORD, HIGH_EMPTIES_SHIFT}
+use Rattle.tree_words.specs.declared.layout.TheConstants.{PLACE_UNIT, VISITS_SHIFT, RECORD_UNIT}
 use Rattle.tree_words.specs.declared.types.Node.{Node}
 use Rattle.tree_words.specs.declared.types.Block.{Block}
 

@@ -4,16 +4,8 @@ use Rattle.std.specs.List.{filter}
 use Rattle.hex_cells.specs.Sets.{has as has_cell}
 use Rattle.hex_board.specs.Joined.{cells_of}
 use Rattle.tree_words.specs.Words.{move_word}
-use Rattle.tree_words.specs.Blocks.{
-  LinkedBlock,
-  size,
-  covers,
-  has_node,
-  place,
-  cell_at,
-  is_header_or_move,
-  header_or_move,
-}
+use Rattle.tree_words.specs.Blocks.{LinkedBlock, size, covers, has_node, place, cell_at}
+use Rattle.tree_words.specs.Blocks.{is_header_or_move, header_or_move}
 
 -- the cells of the set on a board of this size, in rising order
 abbrev pub listed : ℕ → ℕ → List ℕ

@@ -1,27 +1,9 @@
 //! The parts of words, read.
 
-ghost use Rattle.std.specs.Prelude.{
-  ◌≡◌,
-  ◌+◌,
-  ◌-◌,
-  ◌*◌,
-  ◌/◌,
-  ◌%◌,
-  ◌^◌,
-  ◌<◌,
-  ◌≤◌,
-  length,
-  slice_index,
-};
-ghost use Rattle.tree_words.specs.Words.{
-  block_in,
-  cell_in,
-  link_in,
-  node_in,
-  place_in,
-  visits_in,
-  wins_in,
-};
+ghost use Rattle.std.specs.Prelude.{◌≡◌, ◌+◌, ◌-◌, ◌*◌, ◌/◌, ◌%◌, ◌^◌, ◌<◌, ◌≤◌, length};
+ghost use Rattle.std.specs.Prelude.{slice_index};
+ghost use Rattle.tree_words.specs.Words.{block_in, cell_in, link_in, node_in, place_in, visits_in};
+ghost use Rattle.tree_words.specs.Words.{wins_in};
 
 use super::layout::{
     COUNT_WORD, HEADER_WORDS, HIGH_EMPTIES_SHIFT, HIGH_EMPTIES_WORD, LINK_WORD, LOW_EMPTIES_WORD,

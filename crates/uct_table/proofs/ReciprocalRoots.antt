@@ -29,3 +29,6 @@ above_at rs v some lt e = (at rs v some lt e).0
 
 pub bounded_at : (rs : List ℕ) (v : ℕ) → 1 ≤ v → v < length rs → are_above_roots 0 rs ≡ true → get_or rs v 0 ≤ 2 ^ 20 + 1
 bounded_at rs v some lt e = (at rs v some lt e).1
+
+-- what `reciprocal_root` is proved from
+pub ruleset root_rules = (above_at, bounded_at)

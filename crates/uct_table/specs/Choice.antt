@@ -1,20 +1,6 @@
 -- The child that is chosen.
-use Rattle.std.specs.Prelude.{
-  ℕ,
-  ◌+◌,
-  ◌==◌,
-  Bool,
-  not,
-  ◌&&◌,
-  ◌||◌,
-  nat_lt,
-  List,
-  [],
-  ◌∷◌,
-  max,
-  map,
-  if◌then◌else◌,
-}
+use Rattle.std.specs.Prelude.{ℕ, ◌+◌, ◌==◌, Bool, not, ◌&&◌, ◌||◌, nat_lt, List, [], ◌∷◌, max, map}
+use Rattle.std.specs.Prelude.{if◌then◌else◌}
 use Rattle.std.specs.List.{position_or_len, list_any}
 use Rattle.uct_table.specs.Scores.{score_of}
 

@@ -1,20 +1,6 @@
 -- What is kept of the table of reciprocal roots. No clause of a public call cites this.
-use Rattle.std.specs.Prelude.{
-  ℕ,
-  ◌+◌,
-  ◌*◌,
-  ◌^◌,
-  ◌==◌,
-  ◌&&◌,
-  ◌||◌,
-  nat_lt,
-  nat_le,
-  Bool,
-  true,
-  List,
-  [],
-  ◌∷◌,
-}
+use Rattle.std.specs.Prelude.{ℕ, ◌+◌, ◌*◌, ◌^◌, ◌==◌, ◌&&◌, ◌||◌, nat_lt, nat_le, Bool, true, List}
+use Rattle.std.specs.Prelude.{[], ◌∷◌}
 
 -- r is above the reciprocal root of v visits, in 2^20th parts, and no more than 1 above a whole
 -- one; of no visit nothing is asked

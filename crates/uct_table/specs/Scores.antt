@@ -1,18 +1,6 @@
 -- The score formulas, in whole numbers.
-use Rattle.std.specs.Prelude.{
-  ℕ,
-  zero,
-  suc,
-  ◌+◌,
-  ◌-◌,
-  ◌*◌,
-  ◌/◌,
-  ◌^◌,
-  ◌==◌,
-  Bool,
-  nat_le,
-  if◌then◌else◌,
-}
+use Rattle.std.specs.Prelude.{ℕ, zero, suc, ◌+◌, ◌-◌, ◌*◌, ◌/◌, ◌^◌, ◌==◌, Bool, nat_le}
+use Rattle.std.specs.Prelude.{if◌then◌else◌}
 
 -- the greatest number up to this one that passes, or 0
 unfoldable pub greatest : (ℕ → Bool) → ℕ → ℕ

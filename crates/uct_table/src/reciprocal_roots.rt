@@ -108,7 +108,7 @@ fn roots() -> &'static [u32; 1024]
 
 /// A number above the reciprocal root of v visits, in 2^20th parts: its square times v is above
 /// 2^40. v is from 1 to 1,023.
-#[tactic(auto, using(crate::proofs::ReciprocalRoots::above_at, crate::proofs::ReciprocalRoots::bounded_at))]
+#[tactic(auto, using(crate::proofs::ReciprocalRoots::root_rules))]
 pub fn reciprocal_root(v: u32) -> u64
     requires { (1 ≤ v) × (v < TABLED_VISITS) }
     ensures above { 2 ^ 40 < result * result * v }

@@ -37,7 +37,8 @@ impl Model for Parent {
 
     ghost inverse = { λ p. record { visits = p.visits; weight = p.weight; factor = p.factor } };
 
-    ghost invariant = { λ s. IsParent (record { visits = s.visits; weight = s.weight; factor = s.factor }) };
+    ghost invariant = { λ s. IsParent
+        (record { visits = s.visits; weight = s.weight; factor = s.factor }) };
 }
 
 impl Parent {
@@ -64,7 +65,8 @@ impl Parent {
     /// to 1,048,576, and v is at least 1.
     pub fn score_above(&self, kept: u64, v: u32, w: u32, a: u32, b: u32) -> Option<u64>
         requires visited { 1 ≤ v }
-        requires counts { (v ≤ MOST_COUNT) × (w ≤ MOST_COUNT) × (a ≤ MOST_COUNT) × (b ≤ MOST_COUNT) }
+        requires counts { (v ≤ MOST_COUNT) × (w ≤ MOST_COUNT)
+            × (a ≤ MOST_COUNT) × (b ≤ MOST_COUNT) }
         ensures above { IfSome result (λ score.
             (score ≡ score_of self.now.visits v w a b self.now.weight) × (kept < score)) }
         ensures not_above { result ≡ None →

@@ -52,3 +52,6 @@ without_bit_small a at small l = below_from_items (bit_or (bit_and a (1 * 2 ^ at
     by : (b : Bool) (k : ℕ) → cond b (has_cell a k) (has_cell a (k + 1)) ≡ true → k < 121
     by true k e = cell_below a 121 k small e
     by false k e = let q = cell_below a 121 (k + 1) small e in omega (arith, q)
+
+-- what the set without a place is proved from
+pub ruleset without_bit_rules = (without_bit, without_bit_small)

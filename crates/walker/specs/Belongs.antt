@@ -1,26 +1,8 @@
 -- Which views belong to a walker.
 pub use Rattle.walker.specs.Underway.{IsLevel, OnWay, HasNumber, IsDown, Down, IsBelow, MayClaim}
 pub use Rattle.walker.specs.Looking.{HasKept, Keeps, children_loaded, InChild, IsScan}
-use Rattle.std.specs.Prelude.{
-  ◌≡◌,
-  ◌≢◌,
-  ℕ,
-  ◌+◌,
-  ◌-◌,
-  ◌<◌,
-  ◌≤◌,
-  true,
-  List,
-  [],
-  ◌++◌,
-  length,
-  take,
-  drop,
-  Option,
-  Some,
-  None,
-  ◌⊎◌,
-}
+use Rattle.std.specs.Prelude.{◌≡◌, ◌≢◌, ℕ, ◌+◌, ◌-◌, ◌<◌, ◌≤◌, true, List, [], ◌++◌, length, take}
+use Rattle.std.specs.Prelude.{drop, Option, Some, None, ◌⊎◌}
 use Rattle.tree_words.specs.Words.{root_at}
 use Rattle.tree_words.specs.Blocks.{LinkedBlock}
 use Rattle.tree_words.specs.Paths.{node_state}
@@ -34,20 +16,9 @@ use Rattle.arena_rule.specs.Answers.{MayAnswer}
 use Rattle.arena_rule.specs.IsView.{IsView}
 use Rattle.walker.specs.Machine.{op_of, state_in, own_block}
 use Rattle.walker.specs.declared.stages.Stage.{Stage}
-use Rattle.walker.specs.declared.stages.Stage.TheVariants.{
-  Drawing,
-  Rooting,
-  Linking,
-  Heading,
-  Scanning,
-  Claiming,
-  Writing,
-  Publishing,
-  Tallying,
-  Seeing,
-  Noting,
-  Ended,
-}
+use Rattle.walker.specs.declared.stages.Stage.TheVariants.{Drawing, Rooting, Linking, Heading}
+use Rattle.walker.specs.declared.stages.Stage.TheVariants.{Scanning, Claiming, Writing, Publishing}
+use Rattle.walker.specs.declared.stages.Stage.TheVariants.{Tallying, Seeing, Noting, Ended}
 use Rattle.walker.specs.declared.machine.Walker.{Walker}
 
 -- no block is known below x, or its board is full

@@ -8,20 +8,9 @@ use Rattle.walker.specs.Scans.{CanScan, scan_next}
 use Rattle.walker.specs.Machine.{cells_in}
 use Rattle.walker.specs.declared.TheConstants.{PAST_WORDS}
 use Rattle.walker.specs.declared.stages.Stage.{Stage}
-use Rattle.walker.specs.declared.stages.Stage.TheVariants.{
-  Drawing,
-  Rooting,
-  Linking,
-  Heading,
-  Scanning,
-  Claiming,
-  Writing,
-  Publishing,
-  Tallying,
-  Seeing,
-  Noting,
-  Ended,
-}
+use Rattle.walker.specs.declared.stages.Stage.TheVariants.{Drawing, Rooting, Linking, Heading}
+use Rattle.walker.specs.declared.stages.Stage.TheVariants.{Scanning, Claiming, Writing, Publishing}
+use Rattle.walker.specs.declared.stages.Stage.TheVariants.{Tallying, Seeing, Noting, Ended}
 use Rattle.walker.specs.declared.machine.Walker.{Walker}
 
 -- there is room for one more level, and the child that is kept is one of the block's, whose cell is

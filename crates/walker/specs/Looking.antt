@@ -1,22 +1,6 @@
 -- What a view has of a scan.
-use Rattle.std.specs.Prelude.{
-  ◌≡◌,
-  ℕ,
-  ◌+◌,
-  ◌<◌,
-  ◌≤◌,
-  true,
-  false,
-  List,
-  [],
-  ◌∷◌,
-  ◌++◌,
-  length,
-  map,
-  take,
-  Some,
-  slice_get,
-}
+use Rattle.std.specs.Prelude.{◌≡◌, ℕ, ◌+◌, ◌<◌, ◌≤◌, true, false, List, [], ◌∷◌, ◌++◌, length, map}
+use Rattle.std.specs.Prelude.{take, Some, slice_get}
 use Rattle.uct_table.specs.Choice.{Child, score_in, kept_of, kept_from}
 use Rattle.tree_words.specs.Words.{count_in}
 use Rattle.tree_words.specs.Blocks.{LinkedBlock, child}

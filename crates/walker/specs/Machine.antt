@@ -1,63 +1,25 @@
 -- The machine: what a walker is after an answer.
-pub use Rattle.walker.specs.Steps.{
-  state_in,
-  set_below,
-  set_in,
-  cells_in,
-  own_block,
-  word_of_block,
-  op_at,
-  op_of,
-}
-use Rattle.std.specs.Prelude.{
-  ℕ,
-  ◌+◌,
-  ◌*◌,
-  ◌==◌,
-  ◌&&◌,
-  not,
-  nat_lt,
-  nat_le,
-  if◌then◌else◌,
-  Bool,
-  true,
-  List,
-  [],
-  ◌∷◌,
-  length,
-  slice_index,
-}
+pub use Rattle.tree_words.specs.Sequence.{outcome_of}
+pub use Rattle.walker.specs.Steps.{state_in, set_below, set_in, cells_in, own_block, word_of_block}
+pub use Rattle.walker.specs.Steps.{op_at, op_of}
+use Rattle.std.specs.Prelude.{ℕ, ◌+◌, ◌*◌, ◌==◌, ◌&&◌, not, nat_lt, nat_le, if◌then◌else◌, Bool}
+use Rattle.std.specs.Prelude.{true, List, [], ◌∷◌, length, slice_index}
 use Rattle.hex_cells.specs.Colours.{other_of, is_same}
 use Rattle.hex_board.specs.Positions.{stones_of, placed}
 use Rattle.play_out.specs.Fills.{empties_of}
 use Rattle.tree_words.specs.Words.{root_at, end_of, visits_in}
 use Rattle.tree_words.specs.Writing.{listed}
-use Rattle.tree_words.specs.Sequence.{outcome_of, size_below}
-use Rattle.tree_words.specs.declared.layout.TheConstants.{
-  HEADER_WORDS,
-  NODE_WORDS,
-  LINK_WORD,
-  TALLY_WORD,
-}
+use Rattle.tree_words.specs.Sequence.{size_below}
+use Rattle.tree_words.specs.declared.layout.TheConstants.{HEADER_WORDS, NODE_WORDS, LINK_WORD}
+use Rattle.tree_words.specs.declared.layout.TheConstants.{TALLY_WORD}
 use Rattle.arena_rule.specs.Adds.{CountAdd, seen_adds}
 use Rattle.walker.specs.Scans.{ScanData, scan_of, scan_next}
 use Rattle.walker.specs.Climbs.{adds_after}
 use Rattle.walker.specs.declared.ways.Level.{Level}
 use Rattle.walker.specs.declared.stages.Stage.{Stage}
-use Rattle.walker.specs.declared.stages.Stage.TheVariants.{
-  Drawing,
-  Rooting,
-  Linking,
-  Heading,
-  Scanning,
-  Claiming,
-  Writing,
-  Publishing,
-  Tallying,
-  Seeing,
-  Noting,
-  Ended,
-}
+use Rattle.walker.specs.declared.stages.Stage.TheVariants.{Drawing, Rooting, Linking, Heading}
+use Rattle.walker.specs.declared.stages.Stage.TheVariants.{Scanning, Claiming, Writing, Publishing}
+use Rattle.walker.specs.declared.stages.Stage.TheVariants.{Tallying, Seeing, Noting, Ended}
 use Rattle.walker.specs.declared.machine.Walker.{Walker}
 
 -- the walk stands at its node, whose link is next

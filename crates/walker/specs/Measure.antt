@@ -3,30 +3,14 @@ use Rattle.std.specs.Prelude.{ℕ, ◌+◌, ◌-◌, ◌*◌, length}
 use Rattle.play_out.specs.Fills.{empties_of}
 use Rattle.tree_words.specs.Sequence.{size_below}
 use Rattle.tree_words.specs.declared.layout.TheConstants.{MOST_BLOCK_WORDS}
-use Rattle.walker.specs.declared.machine.TheConstants.{
-  CHILD_LOOKS,
-  HEAD_STEPS,
-  LEVEL_STEPS,
-  UP_STEPS,
-  LAST_STEPS,
-}
+use Rattle.walker.specs.declared.machine.TheConstants.{CHILD_LOOKS, HEAD_STEPS, LEVEL_STEPS}
+use Rattle.walker.specs.declared.machine.TheConstants.{UP_STEPS, LAST_STEPS}
 use Rattle.walker.specs.declared.scans.Phase.{Phase}
 use Rattle.walker.specs.declared.scans.Phase.TheVariants.{Move, Tally, Seen}
 use Rattle.walker.specs.declared.stages.Stage.{Stage}
-use Rattle.walker.specs.declared.stages.Stage.TheVariants.{
-  Drawing,
-  Rooting,
-  Linking,
-  Heading,
-  Scanning,
-  Claiming,
-  Writing,
-  Publishing,
-  Tallying,
-  Seeing,
-  Noting,
-  Ended,
-}
+use Rattle.walker.specs.declared.stages.Stage.TheVariants.{Drawing, Rooting, Linking, Heading}
+use Rattle.walker.specs.declared.stages.Stage.TheVariants.{Scanning, Claiming, Writing, Publishing}
+use Rattle.walker.specs.declared.stages.Stage.TheVariants.{Tallying, Seeing, Noting, Ended}
 use Rattle.walker.specs.declared.machine.Walker.{Walker}
 use Rattle.walker.specs.Scans.{ScanData}
 use Rattle.walker.specs.Machine.{state_in}

@@ -5,13 +5,8 @@ use Rattle.uct_table.specs.declared.scoring.TheConstants.{MOST_COUNT}
 use Rattle.tree_words.specs.Words.{count_in}
 use Rattle.tree_words.specs.Walks.{AtMost}
 use Rattle.tree_words.specs.Sequence.{child_of}
-use Rattle.tree_words.specs.declared.layout.TheConstants.{
-  HEADER_WORDS,
-  NODE_WORDS,
-  TALLY_WORD,
-  SEEN_WORD,
-  MOST_NODES,
-}
+use Rattle.tree_words.specs.declared.layout.TheConstants.{HEADER_WORDS, NODE_WORDS, TALLY_WORD}
+use Rattle.tree_words.specs.declared.layout.TheConstants.{SEEN_WORD, MOST_NODES}
 use Rattle.walker.specs.declared.TheConstants.{PAST_WORDS}
 use Rattle.walker.specs.declared.scans.Phase.{Phase}
 use Rattle.walker.specs.declared.scans.Phase.TheVariants.{Move, Tally, Seen}

@@ -10,34 +10,15 @@ use Rattle.tree_words.specs.Complete.{set_of}
 use Rattle.tree_words.specs.Writing.{listed}
 use Rattle.tree_words.specs.Sequence.{size_below}
 use Rattle.tree_words.specs.declared.steps.Op.{Op}
-use Rattle.tree_words.specs.declared.steps.Op.TheVariants.{
-  Draw,
-  Look,
-  Claim,
-  Write,
-  Publish,
-  Add,
-  Note,
-  Done,
-}
+use Rattle.tree_words.specs.declared.steps.Op.TheVariants.{Draw, Look, Claim, Write, Publish, Add}
+use Rattle.tree_words.specs.declared.steps.Op.TheVariants.{Note, Done}
 use Rattle.arena_rule.specs.Lookups.{record_word}
 use Rattle.walker.specs.Climbs.{add_op}
 use Rattle.walker.specs.declared.ways.Level.{Level}
 use Rattle.walker.specs.declared.stages.Stage.{Stage}
-use Rattle.walker.specs.declared.stages.Stage.TheVariants.{
-  Drawing,
-  Rooting,
-  Linking,
-  Heading,
-  Scanning,
-  Claiming,
-  Writing,
-  Publishing,
-  Tallying,
-  Seeing,
-  Noting,
-  Ended,
-}
+use Rattle.walker.specs.declared.stages.Stage.TheVariants.{Drawing, Rooting, Linking, Heading}
+use Rattle.walker.specs.declared.stages.Stage.TheVariants.{Scanning, Claiming, Writing, Publishing}
+use Rattle.walker.specs.declared.stages.Stage.TheVariants.{Tallying, Seeing, Noting, Ended}
 use Rattle.walker.specs.declared.machine.Walker.{Walker}
 
 -- the board where the walk stands, and the player to move there

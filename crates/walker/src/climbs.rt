@@ -131,7 +131,7 @@ fn places(cells: CellSet, stones: CellSet, size: Size) -> CellSet
 }
 
 // The set without this place: those above it fall by one.
-#[tactic(auto, using(crate::proofs::BitLaws::without_bit, crate::proofs::BitLaws::without_bit_small))]
+#[tactic(auto, using(crate::proofs::BitLaws::without_bit_rules))]
 fn without_place(places: CellSet, at: u32) -> CellSet
     requires { at < MOST_CELLS }
     ensures { (k : ℕ) → has result k

@@ -180,7 +180,7 @@ impl Walker {
     }
 
     /// The node is the leaf: the playout is made, and the leaf's tally is next.
-    #[tactic(auto, unfolding(crate::specs::Machine::at_leaf, tree_words::specs::Sequence::outcome_of))]
+    #[tactic(auto, unfolding(crate::specs::Machine::at_leaf, crate::specs::Machine::outcome_of))]
     #[inline(never)]
     pub(crate) fn play_out(&mut self)
         requires { self.old.node < PAST_WORDS }

@@ -1,25 +1,6 @@
 -- How a cut goes. Only private clauses cite this.
-use Rattle.std.specs.Prelude.{
-  ◌≡◌,
-  ℕ,
-  ◌<◌,
-  ◌≤◌,
-  ◌==◌,
-  Bool,
-  true,
-  false,
-  List,
-  [],
-  ◌∷◌,
-  Some,
-  None,
-  All,
-  map,
-  take,
-  length,
-  get_or,
-  if◌then◌else◌,
-}
+use Rattle.std.specs.Prelude.{◌≡◌, ℕ, ◌<◌, ◌≤◌, ◌==◌, Bool, true, false, List, [], ◌∷◌, Some, None}
+use Rattle.std.specs.Prelude.{All, map, take, length, get_or, if◌then◌else◌}
 use Rattle.std.specs.List.{slice_get}
 use Rattle.hex_cells.specs.Colours.{other_of}
 use Rattle.hex_board.specs.Elements.{PlayerBoard}

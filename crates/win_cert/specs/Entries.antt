@@ -1,25 +1,6 @@
 -- Entries in scopes: what each line gives.
-use Rattle.std.specs.Prelude.{
-  ℕ,
-  ◌==◌,
-  ◌||◌,
-  Bool,
-  true,
-  false,
-  List,
-  [],
-  ◌∷◌,
-  ◌++◌,
-  Option,
-  Some,
-  None,
-  zero,
-  suc,
-  max,
-  min,
-  bit_or,
-  if◌then◌else◌,
-}
+use Rattle.std.specs.Prelude.{ℕ, ◌==◌, ◌||◌, Bool, true, false, List, [], ◌∷◌, ◌++◌, Option, Some}
+use Rattle.std.specs.Prelude.{None, zero, suc, max, min, bit_or, if◌then◌else◌}
 use Rattle.std.specs.List.{filter_map, slice_get}
 use Rattle.std.specs.Option.{option_and_then, option_flatten, option_map}
 use Rattle.hex_cells.specs.Sets.{with_cell}
@@ -34,17 +15,8 @@ use Rattle.win_cert.specs.declared.certs.Cert.{Cert}
 use Rattle.win_cert.specs.declared.lines.End.{End}
 use Rattle.win_cert.specs.declared.lines.End.TheVariants.{At, First, Second}
 use Rattle.win_cert.specs.declared.lines.Line.{Line}
-use Rattle.win_cert.specs.declared.lines.Line.TheVariants.{
-  Adj,
-  And,
-  Key,
-  Or2,
-  Or3,
-  Put,
-  Done,
-  Move,
-  Cases,
-}
+use Rattle.win_cert.specs.declared.lines.Line.TheVariants.{Adj, And, Key, Or2, Or3, Put, Done, Move}
+use Rattle.win_cert.specs.declared.lines.Line.TheVariants.{Cases}
 
 -- an entry of elements x and y on the board of a scope, the lesser first; where the player is
 -- joined there, an entry of his edges has element 0 twice

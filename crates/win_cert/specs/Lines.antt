@@ -1,32 +1,7 @@
 -- How a text is read, line by line: its head, and then the steps. Only private clauses cite this.
-use Rattle.std.specs.Prelude.{
-  ◌≡◌,
-  MatchOption,
-  MatchResult,
-  ℕ,
-  ◌+◌,
-  ◌==◌,
-  ◌&&◌,
-  nat_le,
-  Bool,
-  false,
-  List,
-  [],
-  ◌∷◌,
-  ◌++◌,
-  Option,
-  Some,
-  None,
-  Result,
-  Ok,
-  Err,
-  suc,
-  length,
-  map,
-  codes,
-  bit_and,
-  if◌then◌else◌,
-}
+use Rattle.std.specs.Prelude.{◌≡◌, MatchOption, MatchResult, ℕ, ◌+◌, ◌==◌, ◌&&◌, nat_le, Bool}
+use Rattle.std.specs.Prelude.{false, List, [], ◌∷◌, ◌++◌, Option, Some, None, Result, Ok, Err, suc}
+use Rattle.std.specs.Prelude.{length, map, codes, bit_and, if◌then◌else◌}
 use Rattle.std.specs.List.{slice_split}
 use Rattle.std.specs.Option.{ok_or, option_and_then, option_map}
 use Rattle.std.specs.Str.{bytes_eq}

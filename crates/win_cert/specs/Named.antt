@@ -1,25 +1,6 @@
 -- What words name, and what the words of a line say. Only private clauses cite this.
-use Rattle.std.specs.Prelude.{
-  ℕ,
-  ◌*◌,
-  ◌≤◌,
-  ◌==◌,
-  ◌&&◌,
-  nat_le,
-  nat_lt,
-  Bool,
-  true,
-  List,
-  [],
-  ◌∷◌,
-  Option,
-  Some,
-  None,
-  suc,
-  length,
-  codes,
-  if◌then◌else◌,
-}
+use Rattle.std.specs.Prelude.{ℕ, ◌*◌, ◌≤◌, ◌==◌, ◌&&◌, nat_le, nat_lt, Bool, true, List, [], ◌∷◌}
+use Rattle.std.specs.Prelude.{Option, Some, None, suc, length, codes, if◌then◌else◌}
 use Rattle.std.specs.Fmt.{decimal}
 use Rattle.std.specs.Option.{option_and_then, option_map}
 use Rattle.std.specs.Str.{bytes_eq}
@@ -34,17 +15,8 @@ use Rattle.win_cert.specs.declared.certs.TheConstants.{LATEST_VERSION}
 use Rattle.win_cert.specs.declared.lines.End.{End}
 use Rattle.win_cert.specs.declared.lines.End.TheVariants.{At, First, Second}
 use Rattle.win_cert.specs.declared.lines.Line.{Line}
-use Rattle.win_cert.specs.declared.lines.Line.TheVariants.{
-  Adj,
-  And,
-  Key,
-  Or2,
-  Or3,
-  Put,
-  Done,
-  Move,
-  Cases,
-}
+use Rattle.win_cert.specs.declared.lines.Line.TheVariants.{Adj, And, Key, Or2, Or3, Put, Done, Move}
+use Rattle.win_cert.specs.declared.lines.Line.TheVariants.{Cases}
 use Rattle.win_cert.specs.declared.lines.TheConstants.{LEAST_CASES, MOST_CASES, MOST_NUMBER}
 use Rattle.win_cert.specs.declared.steps.Keyword.{Keyword}
 use Rattle.win_cert.specs.declared.steps.Keyword.TheVariants as keyword

@@ -6,34 +6,12 @@ use Rattle.hex_cells.specs.Sets.{has}
 use Rattle.hex_board.specs.Elements.{are_joined}
 use Rattle.hex_board.specs.Places.{cell_of}
 use Rattle.hex_board.specs.Positions.{is_empty_at}
-use Rattle.win_cert.specs.Entries.{
-  Context,
-  ScopedEntry,
-  elements_at,
-  end_element,
-  entry_at,
-  middle_of,
-  other_end,
-}
-use Rattle.win_cert.specs.Statements.{
-  Statement,
-  derivation,
-  cell_numbers,
-  entries_named,
-  have_same_ends,
-  is_cases,
-  is_cell_in,
-  is_chain,
-  is_edge_entry,
-  is_or,
-  is_other_stone,
-  are_near,
-  may_take,
-  numbers_in,
-  scope_taken,
-  share_cell,
-  takes_edges,
-}
+use Rattle.win_cert.specs.Entries.{Context, ScopedEntry, elements_at, end_element, entry_at}
+use Rattle.win_cert.specs.Entries.{middle_of, other_end}
+use Rattle.win_cert.specs.Statements.{Statement, derivation, cell_numbers, entries_named}
+use Rattle.win_cert.specs.Statements.{have_same_ends, is_cases, is_cell_in, is_chain, is_edge_entry}
+use Rattle.win_cert.specs.Statements.{is_or, is_other_stone, are_near, may_take, numbers_in}
+use Rattle.win_cert.specs.Statements.{scope_taken, share_cell, takes_edges}
 use Rattle.win_cert.specs.declared.lines.Line.TheVariants.{Adj, And, Key, Put, Done, Move}
 
 -- the reasons, with their numbers

@@ -1,21 +1,6 @@
 -- What a derivation line or the claim takes, and the tests that the reasons against it stand on.
-use Rattle.std.specs.Prelude.{
-  ℕ,
-  ◌==◌,
-  ◌&&◌,
-  ◌||◌,
-  not,
-  Bool,
-  true,
-  false,
-  List,
-  [],
-  ◌∷◌,
-  Option,
-  Some,
-  None,
-  if◌then◌else◌,
-}
+use Rattle.std.specs.Prelude.{ℕ, ◌==◌, ◌&&◌, ◌||◌, not, Bool, true, false, List, [], ◌∷◌, Option}
+use Rattle.std.specs.Prelude.{Some, None, if◌then◌else◌}
 use Rattle.std.specs.List.{list_all, list_any, range_with_len}
 use Rattle.std.specs.Option.{option_map_or}
 use Rattle.hex_cells.specs.Sets.{has, with_cell}
@@ -32,17 +17,8 @@ use Rattle.win_cert.specs.Scopes.{elements_in}
 use Rattle.win_cert.specs.declared.lines.End.{End}
 use Rattle.win_cert.specs.declared.lines.End.TheVariants.{At, First, Second}
 use Rattle.win_cert.specs.declared.lines.Line.{Line}
-use Rattle.win_cert.specs.declared.lines.Line.TheVariants.{
-  Adj,
-  And,
-  Key,
-  Or2,
-  Or3,
-  Put,
-  Done,
-  Move,
-  Cases,
-}
+use Rattle.win_cert.specs.declared.lines.Line.TheVariants.{Adj, And, Key, Or2, Or3, Put, Done, Move}
+use Rattle.win_cert.specs.declared.lines.Line.TheVariants.{Cases}
 
 -- what is read: a derivation line, or the claim with the number of its entry
 pub data Statement : Type 0 where

@@ -14,17 +14,8 @@ use Rattle.win_cert.specs.declared.certs.Cert.{Cert}
 use Rattle.win_cert.specs.declared.lines.End.{End}
 use Rattle.win_cert.specs.declared.lines.End.TheVariants.{At, First, Second}
 use Rattle.win_cert.specs.declared.lines.Line.{Line}
-use Rattle.win_cert.specs.declared.lines.Line.TheVariants.{
-  Adj,
-  And,
-  Key,
-  Or2,
-  Or3,
-  Put,
-  Done,
-  Move,
-  Cases,
-}
+use Rattle.win_cert.specs.declared.lines.Line.TheVariants.{Adj, And, Key, Or2, Or3, Put, Done, Move}
+use Rattle.win_cert.specs.declared.lines.Line.TheVariants.{Cases}
 
 -- the byte between two words, and the byte that ends a line
 abbrev pub space : ℕ

@@ -6,17 +6,8 @@ use Rattle.win_cert.specs.declared.certs.TheConstants.{FIRST_VERSION, LATEST_VER
 use Rattle.win_cert.specs.declared.lines.End.{End}
 use Rattle.win_cert.specs.declared.lines.End.TheVariants.{At, First, Second}
 use Rattle.win_cert.specs.declared.lines.Line.{Line}
-use Rattle.win_cert.specs.declared.lines.Line.TheVariants.{
-  Adj,
-  And,
-  Key,
-  Or2,
-  Or3,
-  Put,
-  Done,
-  Move,
-  Cases,
-}
+use Rattle.win_cert.specs.declared.lines.Line.TheVariants.{Adj, And, Key, Or2, Or3, Put, Done, Move}
+use Rattle.win_cert.specs.declared.lines.Line.TheVariants.{Cases}
 use Rattle.win_cert.specs.declared.lines.TheConstants.{LEAST_CASES, MOST_CASES, MOST_NUMBER}
 
 -- each number has at most six digits

@@ -1,34 +1,9 @@
 //! A certificate from its text.
 
-ghost use Rattle.std.specs.Prelude.{
-  ◌≡◌,
-  ◌≢◌,
-  ◌+◌,
-  ◌<◌,
-  ◌≤◌,
-  ◌⊎◌,
-  length,
-  [],
-  ◌∷◌,
-  ◌++◌,
-  Ok,
-  Err,
-  Some,
-  None,
-  OnOk,
-  if◌then◌else◌,
-};
-ghost use Rattle.win_cert.specs.Lines.{
-  IsStepTaken,
-  at_line,
-  cert_in,
-  cert_of,
-  certs_of,
-  is_nothing,
-  line_in,
-  lines_of,
-  with_rest,
-};
+ghost use Rattle.std.specs.Prelude.{◌≡◌, ◌≢◌, ◌+◌, ◌<◌, ◌≤◌, ◌⊎◌, length, [], ◌∷◌, ◌++◌, Ok, Err};
+ghost use Rattle.std.specs.Prelude.{Some, None, OnOk, if◌then◌else◌};
+ghost use Rattle.win_cert.specs.Lines.{IsStepTaken, at_line, cert_in, cert_of, certs_of};
+ghost use Rattle.win_cert.specs.Lines.{is_nothing, line_in, lines_of, with_rest};
 ghost use Rattle.win_cert.specs.Named.{step_named};
 ghost use Rattle.win_cert.specs.declared.refusals.CertError.{CertError};
 ghost use Rattle.win_cert.specs.Readings.{IsParsedAs};

@@ -2,14 +2,8 @@
 
 ghost use Rattle.std.specs.Prelude.{◌≡◌, IfOk};
 ghost use Rattle.win_cert.specs.Named.{adj_in, args_named, cases_in, claim_in, is_in_version};
-ghost use Rattle.win_cert.specs.Named.{
-  keyword_named,
-  move_in,
-  numbers_named,
-  or_in,
-  pair_in,
-  put_in,
-};
+ghost use Rattle.win_cert.specs.Named.{keyword_named, move_in, numbers_named, or_in, pair_in};
+ghost use Rattle.win_cert.specs.Named.{put_in};
 ghost use Rattle.win_cert.specs.Named.{alone, step_named};
 
 use super::words::Words;

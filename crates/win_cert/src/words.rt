@@ -3,13 +3,7 @@
 ghost use Rattle.std.specs.Prelude.{◌≡◌, ◌≢◌, ◌↔◌, [], ◌∷◌, Some, None, IfOk, IsTrue, MatchOption};
 ghost use Rattle.std.specs.Option.{option_map};
 ghost use Rattle.std.specs.List.{position, slice_split};
-ghost use Rattle.win_cert.specs.Named.{
-  after_word,
-  set_named,
-  first_cell,
-  first_end,
-  first_number,
-};
+ghost use Rattle.win_cert.specs.Named.{after_word, set_named, first_cell, first_end, first_number};
 ghost use Rattle.win_cert.specs.Named.{numbers_named};
 ghost use Rattle.win_cert.specs.Words.{is_space};
 

@@ -6,14 +6,8 @@ ghost use Rattle.std.specs.List.{filter, flat_map, join_with_byte};
 ghost use Rattle.hex_cells.specs.Sets.{has};
 ghost use Rattle.hex_cells.specs.Vertices.{vertex_of};
 ghost use Rattle.hex_board.specs.Positions.{Within};
-ghost use Rattle.win_cert.specs.Texts.{
-  cert_text,
-  claim_words,
-  colour_word,
-  end_word,
-  ended,
-  head_words,
-};
+ghost use Rattle.win_cert.specs.Texts.{cert_text, claim_words, colour_word, end_word, ended};
+ghost use Rattle.win_cert.specs.Texts.{head_words};
 ghost use Rattle.win_cert.specs.Texts.{kind_word, line_words, space, vertices_of};
 ghost use Rattle.win_cert.specs.Words.{after_spaces};
 ghost use Rattle.win_cert.specs.Writable.{IsEndOn, IsLineOf, IsWritable};
@@ -37,7 +31,8 @@ pub fn write(alloc: Global, cert: &Cert) -> Result<Bytes, Memory>
 
 // The five lines that tell version, size, player and stones.
 fn push_head(alloc: Global, text: &mut Vec<u8>, cert: &Cert) -> Result<(), AllocError>
-    ensures { OnOk result (text.new.items ≡ text.old.items ++ flat_map ended (head_words cert.now)) }
+    ensures { OnOk result
+        (text.new.items ≡ text.old.items ++ flat_map ended (head_words cert.now)) }
 {
     let size = cert.board.size();
     push_number_line(alloc, text, b"hexcert", cert.version)?;
