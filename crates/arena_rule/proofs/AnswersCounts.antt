@@ -94,7 +94,7 @@ module _ (s : Setting) (bs : List LinkedBlock) (w : ℕ) where
   counted-few : (u : SeatView) → IsOnce → adds_counted u ≤ walks_of u + holds_ticket u
   counted-few u h = omega (arith, walks-few u h, made-few u.ticket u.adds h)
 
-one_or_none : (t : Bool) → cond t 1 0 ≤ 1
+pub one_or_none : (t : Bool) → cond t 1 0 ≤ 1
 one_or_none true = omega arith
 one_or_none false = omega arith
 

@@ -83,7 +83,7 @@ link-after v x y z e = ⊎_elim
     by false n m ne q = q
 
 -- the told block is known, where no link was known and one is found
-told-known : (v : SeatView) (x y : ℕ) → is_known v x ≡ true → known_link v x ≡ 0 → y ≢ 0 → known_after v x y ≡ told_below v x y ∷ v.known
+pub told-known : (v : SeatView) (x y : ℕ) → is_known v x ≡ true → known_link v x ≡ 0 → y ≢ 0 → known_after v x y ≡ told_below v x y ∷ v.known
 unfolding known_after
 told-known v x y n z found =
     let a : (known_link v x == 0) ≡ true = eq-eqb (known_link v x) 0 z in

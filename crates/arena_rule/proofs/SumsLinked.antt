@@ -28,7 +28,7 @@ walks-same f g (q ∷ walks) h =
       walks-same f g walks (λ w c. h w (suc c.0, (let l = c.1 in omega arith), c.2)),
     )
 
-walks-none : (f : Walked → ℕ) (walks : List Walked) → ((q : Walked) → f q ≡ 0) → sum_by f walks ≡ 0
+pub walks-none : (f : Walked → ℕ) (walks : List Walked) → ((q : Walked) → f q ≡ 0) → sum_by f walks ≡ 0
 walks-none f [] h = refl
 walks-none f (q ∷ walks) h = omega (arith, sum_by-cons f q walks, h q, walks-none f walks h)
 

@@ -29,9 +29,6 @@ chain_reason c over_cell a b (Some u) =
     (told (is_cell_in (elements_at c) (other_end a u) b.carrier || is_cell_in (elements_at c) (other_end b u) a.carrier) end_in_carrier
     (told (is_wrong_middle over_cell (cell_of (elements_at c) u)) middle_kind None))
 
-pub two_named : (c : Context) (i j : ℕ) (a b : ScopedEntry) → entry_at c i ≡ Some a → entry_at c j ≡ Some b → entries_at c (i ∷ j ∷ []) ≡ a ∷ b ∷ []
-two_named c i j a b h e = ap (λ o. cons_option o (cons_option (entry_at c j) [])) h ∙ ap (λ o. cons_option (Some a) (cons_option o [])) e
-
 -- the last four reasons, of the entries that are named
 abbrev pub last_reasons : Context → Bool → List ScopedEntry → Option Reason
 last_reasons c over_cell es =

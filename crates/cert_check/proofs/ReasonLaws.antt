@@ -11,6 +11,7 @@ use Rattle.win_cert.specs.declared.lines.End.{End}
 use Rattle.win_cert.specs.declared.lines.Line.{Line}
 use Rattle.win_cert.specs.declared.lines.Line.TheVariants.{Adj, And, Key, Or2, Or3, Put, Done, Move, Cases}
 use Rattle.cert_check.specs.Keeping.{IsOrOf, Takes, chain_line}
+use Rattle.win_cert.proofs.CutSteps.{two_reasons, three_reasons}
 
 -- the reason, where the test holds, and else another
 abbrev pub told : Bool → Reason → Option Reason → Option Reason
@@ -73,17 +74,9 @@ or_reason c s numbers =
     (told (not (have_same_ends (entries_at c numbers))) ends_differ
     (told (share_cell (entries_at c numbers)) common_cell None)))
 
-or_two : (c : Context) (i j : ℕ) → reason_against c (derivation (Or2 i j)) ≡ or_reason c (derivation (Or2 i j)) (i ∷ j ∷ [])
-unfolding reason_against
-or_two c i j = refl
-
-or_three : (c : Context) (i j k : ℕ) → reason_against c (derivation (Or3 i j k)) ≡ or_reason c (derivation (Or3 i j k)) (i ∷ j ∷ k ∷ [])
-unfolding reason_against
-or_three c i j k = refl
-
 pub or_reasons : (c : Context) (line : Line) (numbers : List ℕ) → IsOrOf line numbers → reason_against c (derivation line) ≡ or_reason c (derivation line) numbers
-or_reasons c (Or2 i j) numbers h = or_two c i j ∙ ap (or_reason c (derivation (Or2 i j))) h.1
-or_reasons c (Or3 i j k) numbers h = or_three c i j k ∙ ap (or_reason c (derivation (Or3 i j k))) h.1
+or_reasons c (Or2 i j) numbers h = two_reasons c i j ∙ ap (or_reason c (derivation (Or2 i j))) h.1
+or_reasons c (Or3 i j k) numbers h = three_reasons c i j k ∙ ap (or_reason c (derivation (Or3 i j k))) h.1
 or_reasons c (Adj x y) numbers h = absurd (false≢true h.0)
 or_reasons c (And i j) numbers h = absurd (false≢true h.0)
 or_reasons c (Key i j) numbers h = absurd (false≢true h.0)

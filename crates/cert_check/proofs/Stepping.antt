@@ -13,6 +13,8 @@ use Rattle.win_cert.specs.declared.certs.Cert.{Cert}
 use Rattle.win_cert.specs.declared.lines.Line.{Line}
 use Rattle.win_cert.specs.declared.lines.Line.TheVariants.{Adj, And, Key, Or2, Or3, Put, Done, Move, Cases}
 use Rattle.cert_check.specs.Keeping.{context_after}
+use Rattle.win_cert.proofs.GivenEntries.{at_left, at_claim}
+use Rattle.win_cert.proofs.CutVerdicts.{past_claim}
 
 -- ---- the lines
 
@@ -52,21 +54,6 @@ context_step cert k line h =
     ∙ ap (λ o. context_of (player_board cert) (scope_after (scope_after 0 (take k cert.lines)) (line ∷ [])) (entries_below cert k ++ option_and_then (gives (context_at cert k)) o ∷ [])) h
 
 -- ---- the statements
-
-at_left : {X : Type 0} (xs ys : List X) (i : ℕ) (x : X) → slice_get xs i ≡ Some x → slice_get (xs ++ ys) i ≡ Some x
-at_left [] ys i x h = absurd (cc)
-at_left (y ∷ xs) ys zero x h = h
-at_left (y ∷ xs) ys (suc i) x h = at_left xs ys i x h
-
-at_claim : (lines : List Line) (s : Statement) → slice_get (map derivation lines ++ s ∷ []) (length lines) ≡ Some s
-at_claim [] s = refl
-at_claim (line ∷ lines) s = at_claim lines s
-
-past_claim : (lines : List Line) (s : Statement) (k : ℕ) → length lines < k → slice_get (map derivation lines ++ s ∷ []) k ≡ None
-past_claim [] s zero l = absurd (omega (arith, l))
-past_claim [] s (suc k) l = refl
-past_claim (line ∷ lines) s zero l = absurd (omega (arith, l))
-past_claim (line ∷ lines) s (suc k) l = past_claim lines s k (omega (arith, l))
 
 pub line_reason : (cert : Cert) (k : ℕ) (line : Line) → slice_get cert.lines k ≡ Some line → reason_at cert k ≡ reason_against (context_at cert k) (derivation line)
 line_reason cert k line h = ap (option_and_then (reason_against (context_at cert k)))

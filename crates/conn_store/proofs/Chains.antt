@@ -49,7 +49,7 @@ misses_of e a x u v h = elim (least_first x u a.x a.y h.0 h.1) [
 pub misses_both : (e : PlayerBoard) (x c d : ℕ) → Misses e x c → Misses e x d → Misses e x (bit_or c d)
 misses_both e x c d f g k h i = elim (in_union c d k i) [ inl o ↦ f k h o | inr o ↦ g k h o ]
 
-misses_more : (e : PlayerBoard) (x u c k : ℕ) → Misses e x c → HasCell e u k → (x ≡ u → ⊥) → Misses e x (with_cell c k)
+pub misses_more : (e : PlayerBoard) (x u c k : ℕ) → Misses e x c → HasCell e u k → (x ≡ u → ⊥) → Misses e x (with_cell c k)
 misses_more e x u c k f g n j h i = elim (with_cell-cases c k j i) [
   | inl o ↦ f j h o
   | inr o ↦ n (some_same x u (sym h ∙ subst (λ v. HasCell e u v) (sym o) g))
@@ -58,7 +58,7 @@ misses_more e x u c k f g n j h i = elim (with_cell-cases c k j i) [
 pub empty_both : (e : PlayerBoard) (c d : ℕ) → AllEmpty e.board c → AllEmpty e.board d → AllEmpty e.board (bit_or c d)
 empty_both e c d f g k h = elim (in_union c d k h) [ inl o ↦ f k o | inr o ↦ g k o ]
 
-empty_more : (e : PlayerBoard) (c k : ℕ) → AllEmpty e.board c → is_empty_at e.board k ≡ true → AllEmpty e.board (with_cell c k)
+pub empty_more : (e : PlayerBoard) (c k : ℕ) → AllEmpty e.board c → is_empty_at e.board k ≡ true → AllEmpty e.board (with_cell c k)
 empty_more e c k f g j h = elim (with_cell-cases c k j h) [ inl o ↦ f j o | inr o ↦ subst (λ v. is_empty_at e.board v ≡ true) (sym o) g ]
 
 -- a pair with a carrier that misses both

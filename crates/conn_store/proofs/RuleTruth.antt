@@ -27,19 +27,19 @@ use Rattle.conn_store.proofs.Ways.{linked_kept, linked_back, near_linked, linked
 pub least_first : (x y a b : ℕ) → a ≡ min x y → b ≡ max x y → ((a ≡ x) × (b ≡ y)) ⊎ ((a ≡ y) × (b ≡ x))
 least_first x y a b h i = elim (cases_lt x y) [ inl l ↦ inl (omega arith, omega arith) | inr l ↦ inr (omega arith, omega arith) ]
 
-turned : (e : PlayerBoard) (n : ℕ) (kind : Kind) (x y s c : ℕ) → IsSureIn n kind (StonesLink e x y) s c → IsSureIn n kind (StonesLink e y x) s c
+pub turned : (e : PlayerBoard) (n : ℕ) (kind : Kind) (x y s c : ℕ) → IsSureIn n kind (StonesLink e x y) s c → IsSureIn n kind (StonesLink e y x) s c
 turned e n kind x y s c g = sure_more n n kind (StonesLink e x y) (StonesLink e y x) s s c c (omega arith) (same s) (same c)
     (λ a b p q l. linked_kept e y x a b q (linked_back e x y a l)) g
 
 -- an entry of x and y says that these are linked
-between : (e : PlayerBoard) (n : ℕ) (kind : Kind) (a : Entry) (x y s c : ℕ) → IsBetween a x y → IsSureIn n kind (StonesLink e a.x a.y) s c → IsSureIn n kind (StonesLink e x y) s c
+pub between : (e : PlayerBoard) (n : ℕ) (kind : Kind) (a : Entry) (x y s c : ℕ) → IsBetween a x y → IsSureIn n kind (StonesLink e a.x a.y) s c → IsSureIn n kind (StonesLink e x y) s c
 between e n kind a x y s c h g = elim (least_first x y a.x a.y h.0 h.1) [
   | inl p ↦ subst (λ v. IsSureIn n kind (StonesLink e x v) s c) p.1 (subst (λ v. IsSureIn n kind (StonesLink e v a.y) s c) p.0 g)
   | inr p ↦ turned e n kind y x s c (subst (λ v. IsSureIn n kind (StonesLink e y v) s c) p.1 (subst (λ v. IsSureIn n kind (StonesLink e v a.y) s c) p.0 g))
 ]
 
 -- and the other way round
-between_back : (e : PlayerBoard) (n : ℕ) (kind : Kind) (a : Entry) (x y s c : ℕ) → IsBetween a x y → IsSureIn n kind (StonesLink e x y) s c → IsSureIn n kind (StonesLink e a.x a.y) s c
+pub between_back : (e : PlayerBoard) (n : ℕ) (kind : Kind) (a : Entry) (x y s c : ℕ) → IsBetween a x y → IsSureIn n kind (StonesLink e x y) s c → IsSureIn n kind (StonesLink e a.x a.y) s c
 between_back e n kind a x y s c h g = elim (least_first x y a.x a.y h.0 h.1) [
   | inl p ↦ subst (λ v. IsSureIn n kind (StonesLink e a.x v) s c) (sym p.1) (subst (λ v. IsSureIn n kind (StonesLink e v y) s c) (sym p.0) g)
   | inr p ↦ subst (λ v. IsSureIn n kind (StonesLink e a.x v) s c) (sym p.1) (subst (λ v. IsSureIn n kind (StonesLink e v x) s c) (sym p.0) (turned e n kind x y s c g))

@@ -205,7 +205,7 @@ apart_back a b d k h = false_from_ne_true (has a k) (λ o. both_ways (has b k) (
 apart_less : (a b k : ℕ) → Disjoint a b → Disjoint (without_cell a k) b
 apart_less a b k d j h = d j (in_without a k j h).0
 
-kept_out : (b c k : ℕ) → IsSubset b c → has b k ≡ false → IsSubset b (without_cell c k)
+pub kept_out : (b c k : ℕ) → IsSubset b c → has b k ≡ false → IsSubset b (without_cell c k)
 kept_out b c k i n j h = without_keeps c k j (i j h) (λ e. both_ways (has b k) n (subst (λ v. has b v ≡ true) e h))
 
 -- of two goals with carriers that are disjoint the player is sure at once: he answers a stone in one inside that one

@@ -39,11 +39,11 @@ empty_table e kind = record {
 -- ---- one entry more
 
 -- the entry is of its own kind and pair
-kinds_match : (kind : Kind) → same_kind kind kind ≡ true
+pub kinds_match : (kind : Kind) → same_kind kind kind ≡ true
 kinds_match Full = refl
 kinds_match Semi = refl
 
-kinds_are : (j k : Kind) → same_kind j k ≡ true → j ≡ k
+pub kinds_are : (j k : Kind) → same_kind j k ≡ true → j ≡ k
 kinds_are Full Full h = refl
 kinds_are Full Semi h = absurd (cc)
 kinds_are Semi Full h = absurd (cc)
@@ -178,7 +178,7 @@ nothing_sound e = record { valid = λ i a h. absurd (cc); follows = λ i a h. ab
 pub number_at : (numbers : List ℕ) (j : ℕ) → j < length numbers → get_or (held_of numbers).at j 0 ≡ get_or numbers j 0
 number_at numbers j l = get_or_append_left numbers (replicate {A = ℕ} (6 - length numbers) 0) 0 j l
 
-at_start : (n i : ℕ) → n ≡ 0 + i → n ≡ i
+pub at_start : (n i : ℕ) → n ≡ 0 + i → n ≡ i
 at_start n i e = omega arith
 
 pub covered_from : (d : StoreData) (kind : Kind) (x y c : ℕ) → AnyInside d.entries (held_of (numbers_of d kind x y)) c → IsCovered d kind x y c

@@ -46,7 +46,7 @@ route_back n c P p q r (t ∷ ts) w e v =
 way_back : (n : ℕ) (c : Colour) (P : Place → Type 0) (p q : Place) → Way n c P p q → Way n c P q p
 way_back n c P p q w = route_back n c P p q p w.0 w.1 w.2 (way_here n c P p (first_passes n c P p w.0 w.1))
 
-route_as : (n : ℕ) (c : Colour) (P Q : Place → Type 0) (p : Place) (ps : List Place) → ((q : Place) → P q → Q q) → Route n c P p ps → Route n c Q p ps
+pub route_as : (n : ℕ) (c : Colour) (P Q : Place → Type 0) (p : Place) (ps : List Place) → ((q : Place) → P q → Q q) → Route n c P p ps → Route n c Q p ps
 route_as n c P Q p [] f w = f p w
 route_as n c P Q p (q ∷ qs) f w = (f p w.0, w.1, route_as n c P Q q qs f w.2)
 

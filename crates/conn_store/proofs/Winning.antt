@@ -32,14 +32,14 @@ same_stones p White k = refl
 abbrev pub Joins : (ℕ → Type 0) → ℕ → Colour → ℕ → Type 0
 Joins G n player s = (t : ℕ) → IsSubset s t → G t → Joined n player t
 
-still : (a b : Bool) (j k : ℕ) → b ≡ (a && not (j == k)) → a ≡ true → (j ≡ k → ⊥) → b ≡ true
+pub still : (a b : Bool) (j k : ℕ) → b ≡ (a && not (j == k)) → a ≡ true → (j ≡ k → ⊥) → b ≡ true
 still a b j k e h n = grind (arith, nat_tests)
 
 -- cells other than the one that was filled are empty still
-still_empty : (p : Position) (player : Colour) (c k : ℕ) → AllEmpty p c → has c k ≡ false → AllEmpty (placed p player k) c
+pub still_empty : (p : Position) (player : Colour) (c k : ℕ) → AllEmpty p c → has c k ≡ false → AllEmpty (placed p player k) c
 still_empty p player c k f n j h = still (is_empty_at p j) (is_empty_at (placed p player k) j) j k (placed_leaves p player k j) (f j h) (λ e. both_ways (has c k) n (subst (λ v. has c v ≡ true) e h))
 
-rest_empty : (p : Position) (player : Colour) (c k : ℕ) → AllEmpty p c → AllEmpty (placed p player k) (without_cell c k)
+pub rest_empty : (p : Position) (player : Colour) (c k : ℕ) → AllEmpty p c → AllEmpty (placed p player k) (without_cell c k)
 rest_empty p player c k f j h = let a = in_without c k j h in still (is_empty_at p j) (is_empty_at (placed p player k) j) j k (placed_leaves p player k j) (f j a.0) a.1
 
 pub sure_wins : (n : ℕ) (kind : Kind) (player : Colour) (p : Position) (G : ℕ → Type 0) (s c : ℕ) → stones_of p player ≡ s → AllEmpty p c → Joins G p.size player s

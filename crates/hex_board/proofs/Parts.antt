@@ -247,7 +247,7 @@ head_below e h k on f i = let l = head_counts h (is_head e) k (e.board.size * e.
     add_below : (b x y : ℕ) → x < y → b + x < b + y
     add_below b x y l = omega arith
 
-none_some : (x : ℕ) → None ≡ Some x → ⊥
+pub none_some : (x : ℕ) → None ≡ Some x → ⊥
 none_some x e = cc
 
 pub some_same : (x y : ℕ) → Some x ≡ Some y → x ≡ y
@@ -409,7 +409,7 @@ head_number e h a b f i j q = one_head h (is_head e) a b f i j (cancel (edge_ele
     cancel : (b x y : ℕ) → b + x ≡ b + y → x ≡ y
     cancel b x y e = omega arith
 
-high_edge : (b x v : ℕ) → v < b → v ≡ b + x → ⊥
+pub high_edge : (b x v : ℕ) → v < b → v ≡ b + x → ⊥
 high_edge b x v h e = absurd (omega arith)
 
 -- the cells of an element without an edge: its least cell alone where that is empty, else the stones that are linked to it

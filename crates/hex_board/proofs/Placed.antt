@@ -59,10 +59,10 @@ placed_keeps p Black c White k h = h
 placed_keeps p White c Black k h = h
 placed_keeps p White c White k h = with_cell-keeps p.white c k h
 
-less_black : (a b w e : Bool) → ((a && not (b || e)) && not w) ≡ (((a && not b) && not w) && not e)
+pub less_black : (a b w e : Bool) → ((a && not (b || e)) && not w) ≡ (((a && not b) && not w) && not e)
 less_black a b w e = grind arith
 
-less_white : (a b w e : Bool) → ((a && not b) && not (w || e)) ≡ (((a && not b) && not w) && not e)
+pub less_white : (a b w e : Bool) → ((a && not b) && not (w || e)) ≡ (((a && not b) && not w) && not e)
 less_white a b w e = grind arith
 
 -- the other cells stay as they are
@@ -83,7 +83,7 @@ placed_empty p player c k h =
 pub apart_back : (a b : ℕ) → Apart a b → Apart b a
 apart_back a b f k h g = f k g h
 
-with_within : (n s c : ℕ) → Within n s → c < n * n → Within n (with_cell s c)
+pub with_within : (n s c : ℕ) → Within n s → c < n * n → Within n (with_cell s c)
 with_within n s c f l k h = elim (with_cell-cases s c k h) [ inl e ↦ f k e | inr e ↦ subst (λ v. v < n * n) (sym e) l ]
 
 with_apart : (a b c : ℕ) → Apart a b → has b c ≡ false → Apart (with_cell a c) b

@@ -115,7 +115,7 @@ near_in e x y (n, p, q, h, i, b) =
     (place_in (λ r. is_member e x r && list_any (λ s. is_member e y s && are_beside size e.player r s) (places_of size)) size p
     (beside_first size e.player p q b) (and_from (is_member e x p) (list_any next (places_of size)) (member_in e x p h) found))
 
-near_out : (e : PlayerBoard) (x y : ℕ) → is_near e x y ≡ true → Near e x y
+pub near_out : (e : PlayerBoard) (x y : ℕ) → is_near e x y ≡ true → Near e x y
 near_out e x y h =
     let size = e.board.size in
     let from : Place → Bool = λ r. is_member e x r && list_any (λ s. is_member e y s && are_beside size e.player r s) (places_of size) in

@@ -29,9 +29,11 @@ use Rattle.hex_plan.specs.declared.plans.Planned.{Planned}
 use Rattle.hex_plan.specs.declared.threats.Threat.{Threat}
 use Rattle.hex_plan.specs.declared.types.Plan.{Plan}
 use Rattle.hex_plan.specs.declared.types.Plan.TheVariants.{Win, Search}
-use Rattle.hex_plan.proofs.Middles.{IsOverCell, first_of, over_cell, second_of}
+use Rattle.hex_plan.proofs.Middles.{IsOverCell, over_cell}
 use Rattle.hex_plan.proofs.PlanLaws.{planned_win}
 use Rattle.hex_plan.proofs.SureWins.{EdgesLink, entry_says, full_wins, middle_wins, wins_after_other}
+use Rattle.hsearch.proofs.Steps.{at_second, at_first}
+use Rattle.win_cert.proofs.CutDerivations.{some_entry}
 
 stones_on : (p : Position) (player : Colour) → IsPosition p.size p.black p.white → Within p.size (stones_of p player)
 stones_on p Black h = h.black_on
@@ -39,16 +41,13 @@ stones_on p White h = h.white_on
 
 -- ---- certified moves
 
-same_entry : (a b : Entry) → Some a ≡ Some b → a ≡ b
-same_entry a b e = cc
-
 -- the element over which the entry follows is that of its middle
 the_middle : (d : StoreData) (a : Entry) (k : ℕ) (m : IsMiddle d a k) (o : IsOverCell d a m.numbers.0 m.numbers.1) → IsSound d → m.middle ≡ o.u
 the_middle d a k m o s =
     let i = m.numbers.0 in
     let j = m.numbers.1 in
-    let one : m.parts.0 ≡ o.first = same_entry m.parts.0 o.first (sym (first_of d.entries i j m.parts.0 m.parts.1 m.at) ∙ o.first_at) in
-    let two : m.parts.1 ≡ o.second = same_entry m.parts.1 o.second (sym (second_of d.entries i j m.parts.0 m.parts.1 m.at) ∙ o.second_at) in
+    let one : m.parts.0 ≡ o.first = some_entry m.parts.0 o.first (sym (at_first d.entries i j m.parts.0 m.parts.1 m.at) ∙ o.first_at) in
+    let two : m.parts.1 ≡ o.second = some_entry m.parts.1 o.second (sym (at_second d.entries i j m.parts.0 m.parts.1 m.at) ∙ o.second_at) in
     let chain : IsChain o.first o.second m.ends.0 m.middle m.ends.1
     = subst (λ (v : Entry). IsChain o.first v m.ends.0 m.middle m.ends.1) two (subst (λ (v : Entry). IsChain v m.parts.1 m.ends.0 m.middle m.ends.1) one m.chain) in
     (one_chain o.first o.second m.ends.0 m.middle m.ends.1 o.x o.u o.y (s.valid i o.first o.first_at).order (s.valid j o.second o.second_at).order chain o.rule.chain).1

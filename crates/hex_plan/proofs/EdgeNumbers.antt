@@ -10,7 +10,7 @@ use Rattle.conn_store.specs.declared.entries.Held.{Held}
 use Rattle.conn_store.specs.declared.entries.Kind.{Kind}
 use Rattle.conn_store.specs.declared.entries.Kind.TheVariants.{Full, Semi}
 use Rattle.conn_store.proofs.Numbers.{numbers_in}
-use Rattle.conn_store.proofs.Tables.{held_count, number_at, of_means}
+use Rattle.conn_store.proofs.Tables.{held_count, number_at, of_means, at_start}
 use Rattle.hsearch.proofs.Steps.{held_has}
 use Rattle.win_cert.specs.Cuts.{IsEdgeEntryAt}
 use Rattle.hex_plan.specs.Plans.{IsEdgeEntry}
@@ -25,9 +25,6 @@ edge_pair e a j h = subst (λ v. IsBetween a 0 v) (high_apart (are_joined e) j) 
 
 pair_edge : (e : PlayerBoard) (a : Entry) → are_joined e ≡ false → a.x ≡ 0 → a.y ≡ 1 → IsBetween a (edge_element e false) (edge_element e true)
 pair_edge e a j p q = subst (λ v. IsBetween a 0 v) (sym (high_apart (are_joined e) j)) (p, q)
-
-at_start : (n i : ℕ) → n ≡ 0 + i → n ≡ i
-at_start n i h = omega arith
 
 one_number : (d : StoreData) (kind : Kind) (h : Held) (j : ℕ) → are_joined d.elements ≡ false → h ≡ held_of (numbers_of d kind 0 1) → j < h.count
     → (a : Entry) × IsEdgeEntryAt d (get_or h.at j 0) a × (a.kind ≡ kind)

@@ -5,6 +5,7 @@ use Rattle.std.proofs.lemmas.Grind.{flat_map-append}
 use Rattle.std.proofs.lemmas.List.{at_drop_more, map-id}
 use Rattle.std.proofs.lemmas.List.Elements.{filter-append}
 use Rattle.std.proofs.lemmas.List.FromFn.{map-range_with_len_more}
+use Rattle.win_cert.proofs.Joining.{range_more}
 
 -- a loop that writes the text of one item more
 pub text_step : {X : Type 0} (f : X → List ℕ) (xs : List X) (i : ℕ) (x : X) (old now new : List ℕ) → i < length xs → x ≡ get_or xs i x → now ++ flat_map f (drop i xs) ≡ old
@@ -22,10 +23,6 @@ all_dropped (x ∷ xs) (suc i) l = all_dropped xs i (omega arith)
 -- at the end of such a loop
 pub text_end : {X : Type 0} (f : X → List ℕ) (xs : List X) (i : ℕ) (now old : List ℕ) → length xs ≤ i → now ++ flat_map f (drop i xs) ≡ old → now ≡ old
 text_end f xs i now old l h = sym (append-nil now) ∙ ap (λ t. now ++ flat_map f t) (sym (all_dropped xs i l)) ∙ h
-
-range_more : (k : ℕ) → range_with_len 0 (k + 1) ≡ range_with_len 0 k ++ k ∷ []
-range_more k = sym (map-id (range_with_len 0 (k + 1))) ∙ map-range_with_len_more (λ i. i) 0 k k (omega arith)
-    ∙ ap (λ xs. xs ++ k ∷ []) (map-id (range_with_len 0 k))
 
 -- the text of the numbers below k + 1 that pass
 pub numbers_more : (f : ℕ → List ℕ) (test : ℕ → Bool) (k : ℕ) (start text new : List ℕ) → text ≡ start ++ flat_map f (filter test (range_with_len 0 k))

@@ -24,14 +24,10 @@ use Rattle.conn_store.proofs.RuleEntries.{at_two}
 use Rattle.conn_store.proofs.Sureness.{same}
 use Rattle.win_cert.specs.Cuts.{IsEdgeEntryAt}
 use Rattle.hex_plan.specs.Plans.{IsMiddle}
+use Rattle.hsearch.proofs.Steps.{at_second, at_first, kinds_apart}
+use Rattle.win_cert.proofs.CutDerivations.{taken_back}
 
 -- ---- semi entries
-
-taken_back : {X : Type 0} (xs : List X) (n i : ℕ) (x : X) → slice_get (take n xs) i ≡ Some x → slice_get xs i ≡ Some x
-taken_back xs zero i x e = absurd (cc)
-taken_back [] (suc n) i x e = absurd (cc)
-taken_back (y ∷ xs) (suc n) zero x e = e
-taken_back (y ∷ xs) (suc n) (suc i) x e = taken_back xs n i x e
 
 -- the entry follows from two others over an empty cell
 pub record IsOverCell (d : StoreData) (a : Entry) (i j : ℕ) : Type 0 where
@@ -47,28 +43,19 @@ pub record IsOverCell (d : StoreData) (a : Entry) (i j : ℕ) : Type 0 where
   pub cell : IsCell d.elements u place
   pub pair : IsBetween a x y
 
-is_semi : (kind : Kind) → kind ≡ Full → kind ≡ Semi → ⊥
-is_semi kind h s = absurd (cc)
-
 -- a semi entry has this cause
 pub semi_cause : (e : PlayerBoard) (entries : List Entry) (a : Entry) (cause : Cause) → FollowsBy e entries a cause → a.kind ≡ Semi → (i : ℕ) × (j : ℕ) × (cause ≡ AndEmpty i j)
-semi_cause e entries a Adjacent f s = absurd (is_semi a.kind f.1 s)
-semi_cause e entries a (AndGroup i j) (v, w, x, u, y, at, r, g, h, q, c) s = absurd (is_semi a.kind q s)
+semi_cause e entries a Adjacent f s = absurd (kinds_apart a.kind f.1 s)
+semi_cause e entries a (AndGroup i j) (v, w, x, u, y, at, r, g, h, q, c) s = absurd (kinds_apart a.kind q s)
 semi_cause e entries a (AndEmpty i j) f s = (i, j, refl)
-semi_cause e entries a (Or numbers count) (ways, at, r, q, c) s = absurd (is_semi a.kind q s)
-
-pub first_of : (entries : List Entry) (i j : ℕ) (a b : Entry) → AreAt entries (i ∷ j ∷ []) (a ∷ b ∷ []) → slice_get entries i ≡ Some a
-first_of entries i j a b h = cc
-
-pub second_of : (entries : List Entry) (i j : ℕ) (a b : Entry) → AreAt entries (i ∷ j ∷ []) (a ∷ b ∷ []) → slice_get entries j ≡ Some b
-second_of entries i j a b h = cc
+semi_cause e entries a (Or numbers count) (ways, at, r, q, c) s = absurd (kinds_apart a.kind q s)
 
 over_by : (d : StoreData) (n : ℕ) (a : Entry) (i j : ℕ) → FollowsBy d.elements (take n d.entries) a (AndEmpty i j) → IsOverCell d a i j
 over_by d n a i j (v, w, x, u, y, k, at, r, g, h, q, c) = record {
   first = v;
   second = w;
-  first_at = taken_back d.entries n i v (first_of (take n d.entries) i j v w at);
-  second_at = taken_back d.entries n j w (second_of (take n d.entries) i j v w at);
+  first_at = taken_back d.entries n i v (at_first (take n d.entries) i j v w at);
+  second_at = taken_back d.entries n j w (at_second (take n d.entries) i j v w at);
   x = x;
   u = u;
   y = y;

@@ -21,28 +21,16 @@ use Rattle.conn_store.specs.declared.entries.Kind.{Kind}
 use Rattle.conn_store.specs.declared.entries.Kind.TheVariants.{Full, Semi}
 use Rattle.conn_store.proofs.Chains.{empty_both, misses_of}
 use Rattle.conn_store.proofs.Edges.{linked_joins}
-use Rattle.conn_store.proofs.RuleTruth.{least_first}
+use Rattle.conn_store.proofs.RuleTruth.{least_first, turned, between, between_back}
 use Rattle.conn_store.proofs.Sureness.{in_union, in_without, more_stones, same, sure_both, sure_less, sure_more, sure_wider, union_left, union_right}
 use Rattle.conn_store.proofs.Ways.{linked_back, linked_cell, linked_kept}
-use Rattle.conn_store.proofs.Winning.{Joins, sure_wins}
+use Rattle.conn_store.proofs.Winning.{Joins, sure_wins, still, still_empty, rest_empty}
 
 -- the player's two edges
 abbrev pub EdgesLink : PlayerBoard → ℕ → Type 0
 EdgesLink e = StonesLink e (edge_element e false) (edge_element e true)
 
 -- ---- boards with one stone more
-
-still : (a b : Bool) (j k : ℕ) → b ≡ (a && not (j == k)) → a ≡ true → (j ≡ k → ⊥) → b ≡ true
-still a b j k e h n = grind (arith, nat_tests)
-
--- cells other than the one that was filled are empty still
-still_empty : (p : Position) (player : Colour) (c k : ℕ) → AllEmpty p c → has c k ≡ false → AllEmpty (placed p player k) c
-still_empty p player c k f n j h =
-    still (is_empty_at p j) (is_empty_at (placed p player k) j) j k (placed_leaves p player k j) (f j h) (λ e. both_ways (has c k) n (subst (λ v. has c v ≡ true) e h))
-
-rest_empty : (p : Position) (player : Colour) (c k : ℕ) → AllEmpty p c → AllEmpty (placed p player k) (without_cell c k)
-rest_empty p player c k f j h =
-    let a = in_without c k j h in still (is_empty_at p j) (is_empty_at (placed p player k) j) j k (placed_leaves p player k j) (f j a.0) a.1
 
 edges_join : (e : PlayerBoard) (n s : ℕ) → n ≡ e.board.size → Within e.board.size (stones_of e.board e.player) → IsSubset (stones_of e.board e.player) s → Joins (EdgesLink e) n e.player s
 edges_join e n s q on i t j g = subst (λ m. Joined m e.player t) (sym q) (linked_joins e t on (λ k h. j k (i k h)) g)
@@ -93,22 +81,6 @@ full_wins e a k on h v t f i =
     (sure_less (members a.carrier 121) Full (EdgesLink e) s a.carrier k (linked_kept e (edge_element e false) (edge_element e true)) i (entry_says e a Full h t f))
 
 -- ---- two full entries that meet in a cell
-
-turned : (e : PlayerBoard) (n : ℕ) (kind : Kind) (x y s c : ℕ) → IsSureIn n kind (StonesLink e x y) s c → IsSureIn n kind (StonesLink e y x) s c
-turned e n kind x y s c g = sure_more n n kind (StonesLink e x y) (StonesLink e y x) s s c c (omega arith) (same s) (same c)
-    (λ a b p q l. linked_kept e y x a b q (linked_back e x y a l)) g
-
-between : (e : PlayerBoard) (n : ℕ) (kind : Kind) (a : Entry) (x y s c : ℕ) → IsBetween a x y → IsSureIn n kind (StonesLink e a.x a.y) s c → IsSureIn n kind (StonesLink e x y) s c
-between e n kind a x y s c h g = elim (least_first x y a.x a.y h.0 h.1) [
-  | inl p ↦ subst (λ v. IsSureIn n kind (StonesLink e x v) s c) p.1 (subst (λ v. IsSureIn n kind (StonesLink e v a.y) s c) p.0 g)
-  | inr p ↦ turned e n kind y x s c (subst (λ v. IsSureIn n kind (StonesLink e y v) s c) p.1 (subst (λ v. IsSureIn n kind (StonesLink e v a.y) s c) p.0 g))
-]
-
-between_back : (e : PlayerBoard) (n : ℕ) (kind : Kind) (a : Entry) (x y s c : ℕ) → IsBetween a x y → IsSureIn n kind (StonesLink e x y) s c → IsSureIn n kind (StonesLink e a.x a.y) s c
-between_back e n kind a x y s c h g = elim (least_first x y a.x a.y h.0 h.1) [
-  | inl p ↦ subst (λ v. IsSureIn n kind (StonesLink e a.x v) s c) (sym p.1) (subst (λ v. IsSureIn n kind (StonesLink e v y) s c) (sym p.0) g)
-  | inr p ↦ subst (λ v. IsSureIn n kind (StonesLink e a.x v) s c) (sym p.1) (subst (λ v. IsSureIn n kind (StonesLink e v x) s c) (sym p.0) (turned e n kind x y s c g))
-]
 
 -- with one stone more, what a full entry of x and u says
 part_says : (e : PlayerBoard) (a : Entry) (x u k : ℕ) → IsTrueEntry e a → a.kind ≡ Full → IsBetween a x u

@@ -20,7 +20,7 @@ use Rattle.hsearch.proofs.Growth.{wider_answer}
 
 -- ---- AND
 
-turned_pair : (a : Entry) (x y : ℕ) → IsBetween a x y → IsBetween a y x
+pub turned_pair : (a : Entry) (x y : ℕ) → IsBetween a x y → IsBetween a y x
 turned_pair a x y h = (h.0 ∙ min_comm x y, h.1 ∙ max_comm x y)
 
 turned_rule : (e : PlayerBoard) (a b : Entry) (x u y : ℕ) → AndRule e a b x u y → AndRule e b a y u x

@@ -162,10 +162,10 @@ held_has d kind x y i h b e g k m n =
     let a : get_or h.at w.0 0 ≡ i = ap (λ (v : Held). get_or v.at w.0 0) e ∙ (number_at (numbers_of d kind x y) w.0 w.1 ∙ (w.2 ∙ l)) in
     (w.0, omega arith, a)
 
-at_second : (entries : List Entry) (i j : ℕ) (a b : Entry) → AreAt entries (i ∷ j ∷ []) (a ∷ b ∷ []) → slice_get entries j ≡ Some b
+pub at_second : (entries : List Entry) (i j : ℕ) (a b : Entry) → AreAt entries (i ∷ j ∷ []) (a ∷ b ∷ []) → slice_get entries j ≡ Some b
 at_second entries i j a b h = cc
 
-at_first : (entries : List Entry) (i j : ℕ) (a b : Entry) → AreAt entries (i ∷ j ∷ []) (a ∷ b ∷ []) → slice_get entries i ≡ Some a
+pub at_first : (entries : List Entry) (i j : ℕ) (a b : Entry) → AreAt entries (i ∷ j ∷ []) (a ∷ b ∷ []) → slice_get entries i ≡ Some a
 at_first entries i j a b h = cc
 
 -- all the held entries of u and y were joined
@@ -287,7 +287,7 @@ chosen_three d f n x y h e g l o done i j m k ways v w at r =
 
 -- ---- entry n with all before it
 
-kinds_apart : (k : Kind) → k ≡ Full → k ≡ Semi → ⊥
+pub kinds_apart : (k : Kind) → k ≡ Full → k ≡ Semi → ⊥
 kinds_apart k h g = absurd (cc)
 
 middle_of : (a : Entry) (x u : ℕ) → IsBetween a x u → (u ≡ a.x) ⊎ (u ≡ a.y)

@@ -14,7 +14,7 @@ use Rattle.arena_rule.specs.Adds.{walk_adds, amount_at}
 use Rattle.arena_rule.specs.Lookups.{adds_made, load_of, or_zero}
 use Rattle.arena_rule.specs.Parts.{Sums, amount_recorded, amount_counted}
 use Rattle.arena_rule.proofs.AddLaws.{amount-new, adds-linked}
-use Rattle.arena_rule.proofs.SumsLinked.{walks-same}
+use Rattle.arena_rule.proofs.SumsLinked.{walks-same, walks-none}
 use Rattle.walker.proofs.Going.{pairs-same}
 
 -- the counts of a node by the recorded walks
@@ -68,10 +68,6 @@ pick-same g p q p' q' b x e h =
     let pairs : pairs_of p q (b.start + 4) b.cells ≡ pairs_of p' q' (b.start + 4) b.cells
     = pairs-same p q p' q' (b.start + 4) b.cells (λ k l. (h k l).0) (λ k l. (h k l).1) in
     λ i. g.choose (e i) (pairs i)
-
-walks-none : (f : Walked → ℕ) (walks : List Walked) → ((q : Walked) → f q ≡ 0) → sum_by f walks ≡ 0
-walks-none f [] h = refl
-walks-none f (q ∷ walks) h = omega (arith, sum_by-cons f q walks, h q, walks-none f walks h)
 
 -- a new block changes no amount, and its nodes have none
 module _ (s : Setting) (bs : List LinkedBlock) (order : InOrder (root_at s) bs) (n : LinkedBlock) (f : Follows (root_at s) n bs) (walks : List Walked)

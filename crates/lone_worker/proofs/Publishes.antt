@@ -16,7 +16,6 @@ use Rattle.arena_rule.specs.Afters.{known_after, node_of_link, published, with_w
 use Rattle.arena_rule.specs.Rule.{IsState, words_after}
 use Rattle.arena_rule.proofs.Before.{Before, blocks_after}
 use Rattle.arena_rule.proofs.Options.{none-some}
-use Rattle.walker.proofs.KeepsDown.{known-grows}
 use Rattle.lone_worker.proofs.AtLeaf.{IsAtLeaf, StepsAtLeaf}
 use Rattle.lone_worker.proofs.States.{later, state-later}
 use Rattle.lone_worker.proofs.Counts.{recorded-linked}
@@ -25,6 +24,7 @@ use Rattle.lone_worker.proofs.Courses.{AtEnd, Holding, InWalk, Stands, Course, L
 use Rattle.lone_worker.proofs.Leaves.{gets}
 use Rattle.lone_worker.proofs.Ground.{ground, kept, node-of}
 use Rattle.lone_worker.proofs.LeafCounts.{leaf-tally, leaf-empties}
+use Rattle.arena_rule.proofs.Room.{told-known}
 
 module _ (bs : List LinkedBlock) (words : List ℕ) (v : SeatView) (k : ℕ) (l : Lone v.shape bs words v k)
     (w c : ℕ) (fits : FitsPublish v w c) (at : StepsAtLeaf v (Publish w c)) where
@@ -82,7 +82,7 @@ module _ (bs : List LinkedBlock) (words : List ℕ) (v : SeatView) (k : ℕ) (l 
   -- and known
   knows : known_after v x (cond (slice_index words w == 0) c (slice_index words w)) ≡ n ∷ bs
   knows = ap (λ (t : Bool). known_after v x (cond t c (slice_index words w))) found
-      ∙ known-grows v x c stand.known may.vacant (λ e. omega (arith, above, e)) ∙ ap (λ (ks : List LinkedBlock). n ∷ ks) all
+      ∙ told-known v x c stand.known may.vacant (λ e. omega (arith, above, e)) ∙ ap (λ (ks : List LinkedBlock). n ∷ ks) all
 
   -- no adds are begun
   none : v.adds ≡ None

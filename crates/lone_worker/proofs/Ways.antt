@@ -16,13 +16,9 @@ use Rattle.tree_words.proofs.Blocks.BlockLaws.{clash}
 use Rattle.tree_words.proofs.Blocks.GameLaws.{fair_game}
 use Rattle.tree_words.proofs.Blocks.Links.{down-bare, leaf-link}
 use Rattle.tree_words.proofs.Blocks.Members.{filled-in}
-use Rattle.tree_words.proofs.Blocks.Orders.{rooted-turned, link-bare}
+use Rattle.tree_words.proofs.Blocks.Orders.{rooted-turned, link-bare, names-snoc}
 use Rattle.tree_words.proofs.Walks.Leaves.{Whole}
 use Rattle.tree_words.proofs.Walks.Tallies.{on-itself}
-
-names-snoc : (n : LinkedBlock) (os : List LinkedBlock) (x : ℕ) (b : LinkedBlock) → Names os x b → Names (os ++ n ∷ []) x b
-names-snoc n [] x b h = absurd h
-names-snoc n (c ∷ os) x b h = ⊎_elim (λ (u : (c ≡ b) × (b.parent ≡ x)). inl u) (λ (u : ((c.parent == x) ≡ false) × Names os x b). inr (u.0, names-snoc n os x b u.1)) h
 
 names-last : (n : LinkedBlock) (os : List LinkedBlock) (x : ℕ) (b : LinkedBlock) → Bare os x → b ≡ n → b.parent ≡ x → Names (os ++ n ∷ []) x b
 names-last n [] x b h is e = inl (sym is, e)

@@ -22,9 +22,7 @@ use Rattle.lone_worker.specs.Alone.{MakesStep}
 use Rattle.search_team.specs.Left.{work_left}
 use Rattle.search_team.specs.Runs.{HasRun}
 use Rattle.search_team.proofs.Going.{is-done, not-done, step-falls, run-begins}
-
-lt-yes : (a b : ℕ) → a < b → nat_lt a b ≡ true
-lt-yes a b l = grind (arith, nat_tests)
+use Rattle.walker.proofs.MemberLaws.{lt-yes}
 
 -- a scan that is not at its end is put back as it is
 lent : (w : Walker) (s : ScanData) → s.place < s.count → with_scan w s ≡ record w { scan = s }

@@ -135,7 +135,7 @@ fewer (suc n) c f g h e l = ⊎_elim
     step false true h l = absurd (clash false (h refl) refl)
     step false false h l = omega (arith, l)
 
-most-below : (n : ℕ) (f : ℕ → Bool) → count_below n f ≤ n
+pub most-below : (n : ℕ) (f : ℕ → Bool) → count_below n f ≤ n
 most-below zero f = omega arith
 most-below (suc n) f = let r = most-below n f in one (f n) r
   where

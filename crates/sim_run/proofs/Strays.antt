@@ -6,17 +6,15 @@ use Rattle.std.proofs.lemmas.List.Sums.{fails_before_first}
 use Rattle.std.proofs.lemmas.Bool.Decides.{nat_tests}
 use Rattle.tree_words.specs.Settings.{Setting}
 use Rattle.sim_run.specs.Schedules.{is_stray, first_stray}
+use Rattle.walker.proofs.KeepsDown.{not-less}
 
 none_if : (b : Bool) (i : ℕ) → cond b (Some i) None ≡ None → b ≡ false
 none_if true i e = cc
 none_if false i e = refl
-
-below : (k x : ℕ) → nat_le k x ≡ false → x < k
-below k x e = grind (arith, nat_tests)
 
 pub none-stray : (s : Setting) (schedule : List ℕ) → first_stray s schedule ≡ None → All (λ id. id < s.knobs.workers) schedule
 none-stray s schedule e k d l =
     let n : ℕ = position_or_len (is_stray s) schedule in
     let far : ltb n (length schedule) ≡ false = none_if (ltb n (length schedule)) n e in
     let past : length schedule ≤ n = grind (arith, nat_tests) in
-    below s.knobs.workers (get_or schedule k d) (fails_before_first (is_stray s) schedule k d (omega (arith, past, l)))
+    not-less s.knobs.workers (get_or schedule k d) (fails_before_first (is_stray s) schedule k d (omega (arith, past, l)))

@@ -14,10 +14,11 @@ use Rattle.trace_audit.specs.declared.linking.Spot.{Spot}
 use Rattle.trace_audit.specs.declared.linking.Table.{Table}
 use Rattle.trace_audit.specs.Tables.{spot_state, IsLinked}
 use Rattle.trace_audit.specs.Sums.{AreSums, CanClimb, Climbed}
-use Rattle.trace_audit.proofs.Adding.{count_few, leaf_word, outcome_is, sums_more, sums_small}
+use Rattle.trace_audit.proofs.Adding.{leaf_word, outcome_is, sums_more, sums_small}
 use Rattle.trace_audit.proofs.Climbing.{parent_low}
 use Rattle.trace_audit.proofs.Placed.{most_of}
 use Rattle.tree_words.proofs.Blocks.BlockLaws.{has-at}
+use Rattle.seq_search.proofs.Ways.{most-below}
 
 -- no block has the leaf
 pub no_record : (s : Setting) (bs : List LinkedBlock) (words : List ℕ) (k : ℕ) → ((b : LinkedBlock) → In b bs → has_node b (leaf_of words k) ≡ true → ⊥) → IsRecord s bs words k → ⊥
@@ -67,7 +68,7 @@ module _ (s : Setting) (bs : List LinkedBlock) (words sums : List ℕ) (t : Tabl
       leaf_small =
           let w = leaf_word s bs words sums k h lk.linked a (leaf_of words k) refl node o same middle c in
           let r = h.ranges in
-          omega (arith, w, count_few k (λ q. leaf_of words q == leaf_of words k), number, r.playouts)
+          omega (arith, w, most-below k (λ q. leaf_of words q == leaf_of words k), number, r.playouts)
 
       pub playout_added : AreSums s bs words (set middle (leaf_of words k) (slice_index middle (leaf_of words k) + 1)) (k + 1)
       playout_added = sums_more s bs words sums k h lk.linked a (leaf_of words k) refl node o same middle c leaf_inside

@@ -23,12 +23,7 @@ use Rattle.tree_words.proofs.Walks.Countings.{count-more}
 use Rattle.tree_words.proofs.Walks.Tallies.{other_again}
 use Rattle.trace_audit.specs.Sums.{AreSmall, SeesSome, Climbed}
 use Rattle.trace_audit.proofs.Scanning.{apart_blocks}
-
-plus_none : (c : Count) → plus c nothing ≡ c
-plus_none c = λ i. record { visits = v c.visits i; wins = v c.wins i }
-  where
-    v : (n : ℕ) → n + 0 ≡ n
-    v n = omega arith
+use Rattle.tree_words.proofs.Walks.Down.{plus-nothing}
 
 -- no node of a path passes a test that no number up to its end passes
 pub path_low : (r : ℕ) (bs : List LinkedBlock) (test : ℕ → Bool) (x : ℕ) → InOrder r bs → test r ≡ false → ((z : ℕ) → z ≤ x → test z ≡ false) → list_any test (up (r ∷ []) (λ b y rest. y ∷ rest) bs x) ≡ false
@@ -112,7 +107,7 @@ module _ (s : Setting) (words : List ℕ) (h : IsSetting s) (bs : List LinkedBlo
       where
         by : (t : Bool) → count_in (word + cond t amount 0) ≡ plus (count_in word) (cond t (one (is_same o.winner who)) nothing)
         by true = ap (λ (a : ℕ). count_in (word + a)) amounts ∙ count-more word (is_same o.winner who) l
-        by false = ap count_in none ∙ sym (plus_none (count_in word))
+        by false = ap count_in none ∙ sym (plus-nothing (count_in word))
           where
             none : word + 0 ≡ word
             none = omega arith
@@ -156,7 +151,7 @@ module _ (s : Setting) (words : List ℕ) (h : IsSetting s) (bs : List LinkedBlo
               (λ (e : w ≡ y).
               let off : is_on s bs w b.parent ≡ false = path_low r bs (λ z. z == w) b.parent lk.order (ne_eqb r w (λ q. omega (arith, q, e, at.2, low.1))) (λ z l. ne_eqb z w (λ q. omega (arith, q, e, at.2, low.0, l))) in
               let on : is_on s bs w y ≡ true = ap (list_any (λ z. z == w)) path ∙ or_left (y == w) (is_on s bs w b.parent) (eq-eqb y w (sym e)) in
-              c.tally w m ∙ ap (λ (u : Bool). plus (tally_in later w) (cond u (gain_of o (node_state s bs w)) nothing)) off ∙ plus_none (tally_in later w)
+              c.tally w m ∙ ap (λ (u : Bool). plus (tally_in later w) (cond u (gain_of o (node_state s bs w)) nothing)) off ∙ plus-nothing (tally_in later w)
               ∙ ap (tally_in later) e ∙ later_own ∙ (λ j. plus (tally_in now (sym e j)) (gain_of o (node_state s bs (sym e j))))
               ∙ sym (ap (λ (u : Bool). plus (tally_in now w) (cond u (gain_of o (node_state s bs w)) nothing)) on))
               (λ (e : w ≡ y → ⊥).
@@ -170,7 +165,7 @@ module _ (s : Setting) (words : List ℕ) (h : IsSetting s) (bs : List LinkedBlo
               (false_from_ne_true (has_node d r) (λ q. let f = has-at d r q in let starts : b.start ≡ d.start = ap (λ (u : LinkedBlock). u.start) is in omega (arith, f.2, starts, low.1)))
               (λ v l. false_from_ne_true (has_node d v) (λ q. let f = has-at d v q in let starts : b.start ≡ d.start = ap (λ (u : LinkedBlock). u.start) is in omega (arith, f.2, starts, low.0, l))) in
               let on : enters s bs d y ≡ true = ap (list_any (has_node d)) path ∙ or_left (has_node d y) (enters s bs d b.parent) e in
-              c.seen d z j m ∙ ap (λ (u : Bool). plus (seen_in later z) (cond u (glimpse_of o (node_state s bs d.parent) (cell_at d (place d z))) nothing)) off ∙ plus_none (seen_in later z)
+              c.seen d z j m ∙ ap (λ (u : Bool). plus (seen_in later z) (cond u (glimpse_of o (node_state s bs d.parent) (cell_at d (place d z))) nothing)) off ∙ plus-nothing (seen_in later z)
               ∙ later_seen z (ap (λ (q : LinkedBlock). has_node q z) is ∙ m)
               ∙ ap (λ (q : LinkedBlock). plus (seen_in now z) (glimpse_of o (node_state s bs q.parent) (cell_at q (place q z)))) is
               ∙ sym (ap (λ (u : Bool). plus (seen_in now z) (cond u (glimpse_of o (node_state s bs d.parent) (cell_at d (place d z))) nothing)) on))
@@ -241,13 +236,13 @@ module _ (s : Setting) (words : List ℕ) (h : IsSetting s) (bs : List LinkedBlo
             ∙ sym (ap (λ (u : Bool). plus (tally_in now w) (cond u (gain_of o (node_state s bs w)) nothing)) on))
             (λ (e : w ≡ r → ⊥).
             let off : is_on s bs w r ≡ false = ap (list_any (λ z. z == w)) path ∙ or_from (r == w) false (ne_eqb r w (λ q. e (sym q))) refl in
-            ap count_in (get_or-set_other now (r + 2) (w + 2) v 0 (λ q. e (omega (arith, q)))) ∙ sym (plus_none (tally_in now w))
+            ap count_in (get_or-set_other now (r + 2) (w + 2) v 0 (λ q. e (omega (arith, q)))) ∙ sym (plus-nothing (tally_in now w))
             ∙ sym (ap (λ (u : Bool). plus (tally_in now w) (cond u (gain_of o (node_state s bs w)) nothing)) off))
             (cases_eq w r);
         seen = λ d z j m.
             let low = parent_low r bs d lk.order j in
             let off : enters s bs d r ≡ false = ap (list_any (has_node d)) path ∙ or_from (has_node d r) false (false_from_ne_true (has_node d r) (λ q. let f = has-at d r q in omega (arith, f.2, low.1))) refl in
-            ap count_in (other z 3 (in-node r bs d z j m) (omega arith) (λ q. omega (arith, q))) ∙ sym (plus_none (seen_in now z))
+            ap count_in (other z 3 (in-node r bs d z j m) (omega arith) (λ q. omega (arith, q))) ∙ sym (plus-nothing (seen_in now z))
             ∙ sym (ap (λ (u : Bool). plus (seen_in now z) (cond u (glimpse_of o (node_state s bs d.parent) (cell_at d (place d z))) nothing)) off);
         moves = λ w m. let none : w ≡ w + 0 = omega arith in ap (slice_index (set now (r + 2) v)) none ∙ other w 0 m (omega arith) (λ q. omega (arith, q)) ∙ sym (ap (slice_index now) none);
       }

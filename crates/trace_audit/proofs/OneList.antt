@@ -17,6 +17,7 @@ use Rattle.tree_words.specs.Sequence.{outcome_of}
 use Rattle.tree_words.proofs.Blocks.BlockLaws.{clash}
 use Rattle.tree_words.proofs.Blocks.OneTree.{one-knows, one-blocks}
 use Rattle.tree_words.proofs.Blocks.Within.{within-node, within-up}
+use Rattle.hex_cells.proofs.Beside.{same_test}
 
 -- what is no node is gathered from the root's part alone
 up_out : {A : Type 0} (root : A) (step : LinkedBlock → ℕ → A → A) (r : ℕ) (bs : List LinkedBlock) (x : ℕ) → is_node r bs x ≡ false → up root step bs x ≡ root
@@ -28,17 +29,12 @@ up_out root step r (b ∷ bs) x n = ⊎_elim
     ∙ up_out root step r bs x (sym (ap (λ (t : Bool). t || is_node r bs x) h) ∙ n))
     (cases_Bool (has_node b x))
 
-same_bool : (a b : Bool) → (a ≡ true → b ≡ true) → (b ≡ true → a ≡ true) → a ≡ b
-same_bool true b f g = sym (f refl)
-same_bool false true f g = g refl
-same_bool false false f g = refl
-
 module _ (s : Setting) (words : List ℕ) (bs cs : List LinkedBlock) (h : IsSetting s) (p : Linked s words bs) (q : Linked s words cs) where
   abbrev r : ℕ
   r = root_at s
 
   pub node_same : (x : ℕ) → is_node r bs x ≡ is_node r cs x
-  node_same x = same_bool (is_node r bs x) (is_node r cs x)
+  node_same x = same_test (is_node r bs x) (is_node r cs x)
       (within-node r cs bs x (one-knows s words bs cs h.position.most p q))
       (within-node r bs cs x (one-knows s words cs bs h.position.most q p))
 

@@ -12,15 +12,11 @@ use Rattle.tree_words.specs.Words.{next_in, area_at}
 use Rattle.trace_audit.specs.Traces.{bytes_of, fields_of, trace_text, written_count}
 use Rattle.trace_audit.specs.Told.{AreWords, TellsClosed}
 use Rattle.trace_audit.proofs.SameWords.{closed_same, front_below}
+use Rattle.trace_audit.proofs.WordBytes.{none_left}
 
 -- the first q words, and 0 in place of the others
 abbrev read_back : List ℕ → ℕ → List ℕ
 read_back words q = take q words ++ replicate (length words - q) 0
-
-zeros : (n i : ℕ) → slice_index (replicate n 0) i ≡ 0
-zeros zero i = refl
-zeros (suc n) zero = refl
-zeros (suc n) (suc i) = zeros n i
 
 read_long : (words : List ℕ) (q : ℕ) → q ≤ length words → length (read_back words q) ≡ length words
 read_long words q l =
@@ -35,7 +31,7 @@ read_below words q i l m =
     get_or-append (take q words) (replicate (length words - q) 0) 0 i (omega (arith, front, m)) ∙ get_or-take q words i 0 m
 
 read_rest : (words : List ℕ) (q i : ℕ) → q ≤ length words → q ≤ i → slice_index (read_back words q) i ≡ 0
-read_rest words q i l m = get_or-append_right (take q words) (replicate (length words - q) 0) q i 0 (length-take-le q words l) m ∙ zeros (length words - q) (i - q)
+read_rest words q i l m = get_or-append_right (take q words) (replicate (length words - q) 0) q i 0 (length-take-le q words l) m ∙ none_left (length words - q) (i - q)
 
 read_front : (words : List ℕ) (q : ℕ) → q ≤ length words → take q (read_back words q) ≡ take q words
 read_front words q l =

@@ -15,10 +15,7 @@ use Rattle.tree_words.specs.Paths.{NodeState, root_state, state_after, node_stat
 use Rattle.tree_words.proofs.Blocks.GameLaws.{up-in}
 use Rattle.tree_words.proofs.Boards.EmptyLaws.{up-root}
 use Rattle.arena_rule.specs.Adds.{CountAdd, Gathered, seen_adds, root_adds, node_adds, adds_up}
-
-pub twice : (p : Colour) → other_of (other_of p) ≡ p
-twice Black = refl
-twice White = refl
+use Rattle.tree_words.proofs.Walks.Tallies.{other_again}
 
 module _ (s : Setting) (o : Ending) where
   adds-state : (bs : List LinkedBlock) (y : ℕ) → (adds_up s o bs y).state ≡ node_state s bs y
@@ -53,7 +50,7 @@ module _ (s : Setting) (o : Ending) where
       player-above bs b x p g i h t =
           let up : node_state s bs x ≡ state_after (node_state s bs b.parent) (cell_at b (place b x)) = up-in (root_state s) (λ c y above. state_after above (cell_at c (place c y))) (root_at s) bs b x g i h in
           ap (λ (q : NodeState). q.player) (adds-state bs b.parent)
-          ∙ sym (twice (node_state s bs b.parent).player)
+          ∙ sym (other_again (node_state s bs b.parent).player)
           ∙ ap other_of (sym (t ∙ ap (λ (q : NodeState). q.player) up))
 
 -- the first of the adds that are left is the next

@@ -9,12 +9,7 @@ use Rattle.walker.specs.declared.stages.Stage.TheVariants.{Rooting, Scanning, Cl
 use Rattle.walker.specs.declared.machine.Walker.{Walker}
 use Rattle.walker.specs.Scans.{scan_of, scan_next}
 use Rattle.walker.specs.Machine.{state_in, cells_in, asks_block, at_leaf, at_block, drawn, linked, headed, with_scan, scanned, chosen, claimed, written}
-
-lt-yes : (a b : ℕ) → a < b → nat_lt a b ≡ true
-lt-yes a b l = grind (arith, nat_tests)
-
-lt-no : (a b : ℕ) → b ≤ a → nat_lt a b ≡ false
-lt-no a b l = grind (arith, nat_tests)
+use Rattle.walker.proofs.MemberLaws.{lt-yes, lt-no}
 
 le-yes : (a b : ℕ) → a ≤ b → nat_le a b ≡ true
 le-yes a b l = grind (arith, nat_tests)

@@ -15,13 +15,8 @@ use Rattle.play_out.proofs.Listing.{filter_more}
 use Rattle.tree_words.specs.Complete.{set_of}
 use Rattle.tree_words.specs.Writing.{listed}
 use Rattle.tree_words.proofs.Boards.SetNumbers.{set_empties}
-
-pub members-long : (set n : ℕ) → members set n ≡ length (filter (has_cell set) (range_with_len 0 n))
-members-long set n = members_test set (has_cell set) n (λ k. refl) ∙ sym (length-filter (has_cell set) (range_with_len 0 n))
-
-push-last : (l : List ℕ) (c : ℕ) → get_or (l ++ c ∷ []) (length l) 0 ≡ c
-push-last [] c = refl
-push-last (x ∷ l) c = push-last l c
+use Rattle.tree_words.proofs.Boards.EmptyLaws.{members-listed}
+use Rattle.walker.proofs.MemberLaws.{push-last}
 
 -- a cell of the set stands at the place of its rank
 pub rank-cell : (set c n : ℕ) → has_cell set c ≡ true → c < n → get_or (filter (has_cell set) (range_with_len 0 n)) (members set c) 0 ≡ c
@@ -31,13 +26,13 @@ rank-cell set c (suc n) t l =
     let more : filter (has_cell set) (range_with_len 0 (suc n)) ≡ xs ++ cond (has_cell set n) (n ∷ []) [] = filter_more (has_cell set) 0 n n (omega arith) in
     ap (λ (ys : List ℕ). get_or ys (members set c) 0) more ∙ ⊎_elim
     (λ (q : c < n).
-    let fits : members set c < length xs = omega (arith, members_apart set c n t q, members-long set n) in
+    let fits : members set c < length xs = omega (arith, members_apart set c n t q, members-listed set n) in
     get_or_append_left xs (cond (has_cell set n) (n ∷ []) []) 0 (members set c) fits ∙ rank-cell set c n t q)
     (λ (q : n ≤ c).
     let is : c ≡ n = omega arith in
     let here : has_cell set n ≡ true = ap (has_cell set) (sym is) ∙ t in
     ap (λ (u : Bool). get_or (xs ++ cond u (n ∷ []) []) (members set c) 0) here
-    ∙ ap (λ (z : ℕ). get_or (xs ++ n ∷ []) z 0) (ap (members set) is ∙ members-long set n)
+    ∙ ap (λ (z : ℕ). get_or (xs ++ n ∷ []) z 0) (ap (members set) is ∙ members-listed set n)
     ∙ push-last xs n ∙ sym is)
     (cases_lt c n)
 
@@ -51,7 +46,7 @@ count-listed set size small on =
     let most : size * size ≤ 11 * 11 = mul-le-mul small small in
     ap (members set) (rest (size * size) most)
     ∙ members_flat set (size * size) (121 - size * size) (λ k m. false_from_ne_true (has_cell set k) (λ t. let l = on k t in omega (arith, l, m)))
-    ∙ members-long set (size * size)
+    ∙ members-listed set (size * size)
   where
     rest : (n : ℕ) → n ≤ 11 * 11 → 121 ≡ n + (121 - n)
     rest n l = omega arith

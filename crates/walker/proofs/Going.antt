@@ -18,7 +18,8 @@ use Rattle.arena_rule.specs.IsView.{IsView}
 use Rattle.arena_rule.proofs.KnownMore.{Grows, known_cases, known-more, known-kept}
 use Rattle.walker.specs.declared.ways.Level.{Level}
 use Rattle.walker.specs.Belongs.{OnWay, IsDown}
-use Rattle.walker.proofs.KnownLaws.{one-order, node-behind, child-node}
+use Rattle.walker.proofs.KnownLaws.{one-order, node-behind}
+use Rattle.tree_words.proofs.Walks.Down.{child-has}
 
 -- What goes on from the view v to the view u: known blocks and nodes stay, a node's state stays,
 -- and all loads but of the word `at`.
@@ -152,6 +153,6 @@ pub no-count : (v : SeatView) (at : ℕ) → InOrder (root_at v.shape) v.known �
     → (c : LinkedBlock) → In c v.known → Untouched c at
 no-count v at g h c i = record {
   parent = h c.parent 2 (in-parent (root_at v.shape) v.known c g i) (omega arith) (omega arith);
-  tally = λ k l. h (child c k) 2 (in-node (root_at v.shape) v.known c (child c k) i (child-node c k l)) (omega arith) (omega arith);
-  seen = λ k l. h (child c k) 3 (in-node (root_at v.shape) v.known c (child c k) i (child-node c k l)) (omega arith) (omega arith);
+  tally = λ k l. h (child c k) 2 (in-node (root_at v.shape) v.known c (child c k) i (child-has c k l)) (omega arith) (omega arith);
+  seen = λ k l. h (child c k) 3 (in-node (root_at v.shape) v.known c (child c k) i (child-has c k l)) (omega arith) (omega arith);
 }

@@ -28,13 +28,14 @@ use Rattle.walker.specs.Scans.{ScanData, CanScan, scan_on}
 use Rattle.walker.specs.Machine.{state_in, set_in, own_block, op_at, op_of}
 use Rattle.walker.specs.Choosing.{MayChoose, MayScan, MayHead, CanGoAt, CanGo}
 use Rattle.walker.specs.Belongs.{Belongs, Stands, OnWay, InChild, AtHeader, AtChild, AtWrite}
-use Rattle.walker.proofs.KnownLaws.{one-order, known-lies, node-inside, link-block, child-node}
+use Rattle.walker.proofs.KnownLaws.{one-order, known-lies, node-inside, link-block}
 use Rattle.walker.proofs.LeafLaws.{size-is}
 use Rattle.walker.proofs.Fitting.{in-child}
 use Rattle.walker.proofs.KeepsScan.{here, kid, below-after}
 use Rattle.walker.proofs.KeepsChoice.{Looked, seen-looked}
 use Rattle.walker.proofs.KeepsLast.{best-in, cell-empty, room-left}
 use Rattle.walker.proofs.Keeps.{view-after}
+use Rattle.tree_words.proofs.Walks.Down.{child-has}
 
 module _ (w : Walker) (v : SeatView) (b : Belongs w v) (x : ℕ) where
   order : InOrder (root_at v.shape) v.known
@@ -119,7 +120,7 @@ module _ (w : Walker) (v : SeatView) (b : Belongs w v) (x : ℕ) where
         let below = below-after w v b x a iu d in
         let best = best-in w u a.block d b.shape iu b.width k below l in
         let inside = node-inside u.shape u.known (child a.block d.best) iu.known
-        (in-node (root_at u.shape) u.known a.block (child a.block d.best) below.known (child-node a.block d.best best)) in
+        (in-node (root_at u.shape) u.known a.block (child a.block d.best) below.known (child-has a.block d.best best)) in
         record {
           child = omega (arith, inside, small-end, a.below.start);
           room = room-left w u a.block d b.shape iu b.width k below l;

@@ -4,12 +4,12 @@ use Rattle.std.specs.Prelude.{◌==◌, ◌&&◌, not, nat_lt}
 use Rattle.std.specs.List.{filter, range_with_len}
 use Rattle.std.proofs.lemmas.Bool.{cases_lt, eq-eqb, ne_eqb}
 use Rattle.hex_cells.specs.Sets.{has as has_cell, members}
-use Rattle.hex_cells.proofs.Counts.{members_none}
+use Rattle.hex_cells.proofs.Counts.{members_none, members_few}
 use Rattle.play_out.proofs.Listing.{filter_more}
 use Rattle.tree_words.proofs.Blocks.BlockLaws.{clash}
 use Rattle.walker.specs.Places.{ArePlaces}
-use Rattle.walker.proofs.CellLaws.{members-long}
-use Rattle.walker.proofs.MemberLaws.{lt-yes, lt-no, in-more, flat-to, few-members, out-room, both-parts, HasRank, rank-of}
+use Rattle.walker.proofs.MemberLaws.{lt-yes, lt-no, in-more, flat-to, out-room, both-parts, HasRank, rank-of}
+use Rattle.tree_words.proofs.Boards.EmptyLaws.{members-listed}
 
 -- the holes below t are taken out of the stones' bits
 pub record Taken (stones cells all n t gone holes bits : ℕ) : Type 0 where
@@ -55,7 +55,7 @@ module _ (stones cells all n : ℕ) (parts : AreParts cells all n) where
         let le : t ≤ h = ⊎_elim (λ (l : h < t). absurd (clash (has_cell holes h) e (k.low h l))) (λ (l : t ≤ h). l) (cases_lt h t) in
         let in_all : has_cell all h ≡ true = sym (k.high h le) ∙ e in
         let on : h < n = ⊎_elim (λ (l : h < n). l) (λ (l : n ≤ h). absurd (clash (has_cell all h) in_all (parts.far h l).0)) (cases_lt h n) in
-        let few = few-members all t in
+        let few = members_few all t in
         (le, on, in_all, omega (arith, k.count, few, le))
 
     -- one more hole, the least that is left
@@ -78,12 +78,12 @@ module _ (stones cells all n : ℕ) (parts : AreParts cells all n) where
           done = λ c l cell. ⊎_elim
               (λ (m : c < t).
               let room = out-room all c t m (not-both c cell) in
-              let low : c - members all c < h - gone = omega (arith, room, k.count, at, few-members all c) in
+              let low : c - members all c < h - gone = omega (arith, room, k.count, at, members_few all c) in
               moved (c - members all c) ∙ (ap (λ (b : Bool). cond b (has_cell bits (c - members all c)) (has_cell bits (c - members all c + 1))) (lt-yes (c - members all c) (h - gone) low) ∙ k.done c m cell))
               (λ (m : t ≤ c).
               let before : c < h = ⊎_elim (λ (q : c < h). q) (λ (q : h ≤ c). let is : c ≡ h = omega arith in absurd (clash (has_cell all c) (ap (has_cell all) is ∙ at.2) (not-both c cell))) (cases_lt c h) in
               let rank : members all c ≡ gone = same c m (omega arith) in
-              let low : c - members all c < h - gone = omega (arith, rank, before, at, m, few-members all t, k.count) in
+              let low : c - members all c < h - gone = omega (arith, rank, before, at, m, members_few all t, k.count) in
               moved (c - members all c) ∙ (ap (λ (b : Bool). cond b (has_cell bits (c - members all c)) (has_cell bits (c - members all c + 1))) (lt-yes (c - members all c) (h - gone) low)
               ∙ (ap (λ (z : ℕ). has_cell bits (c - z)) rank ∙ (k.left c m ∙ and-true (has_cell cells c) (has_cell stones c) cell))))
               (cases_lt c t);
@@ -110,7 +110,7 @@ module _ (stones cells all n : ℕ) (parts : AreParts cells all n) where
         let xs : List ℕ = filter (has_cell cells) (range_with_len 0 n) in
         let none : (j : ℕ) → t ≤ j → has_cell all j ≡ false = λ j l. sym (k.high j l) ∙ empty j in
         let total : members all n ≡ gone = flat-to all t n k.end (λ j l m. none j l) ∙ sym k.count in
-        let long : length xs + gone ≡ n = omega (arith, members-long cells n, total, both-parts cells all n n parts.here (omega arith)) in
+        let long : length xs + gone ≡ n = omega (arith, members-listed cells n, total, both-parts cells all n n parts.here (omega arith)) in
         ⊎_elim
         (λ (l : i < length xs).
         let c : ℕ = get_or xs i 0 in

@@ -10,12 +10,7 @@ use Rattle.uct_table.proofs.ChoiceLaws.{is_better-visited, is_better-first_unvis
 use Rattle.walker.specs.declared.scans.Phase.{Phase}
 use Rattle.walker.specs.Scans.{ScanData, kept}
 use Rattle.walker.specs.Belongs.{HasKept, Keeps}
-
-lt-yes : (a b : ℕ) → a < b → nat_lt a b ≡ true
-lt-yes a b l = grind (arith, nat_tests)
-
-lt-no : (a b : ℕ) → b ≤ a → nat_lt a b ≡ false
-lt-no a b l = grind (arith, nat_tests)
+use Rattle.walker.proofs.MemberLaws.{lt-yes, lt-no}
 
 -- which child is kept, case by case
 kept-fresh : (d : ScanData) (c : Child) → d.fresh ≡ true → kept d c ≡ d

@@ -24,14 +24,7 @@ use Rattle.walker.proofs.KnownLaws.{one-order, known-lies, known-cells, link-blo
 use Rattle.walker.proofs.Going.{look-goes, down-goes, no-count}
 use Rattle.walker.proofs.LeafLaws.{cells-is, leaf-stands, leaf-belongs}
 use Rattle.walker.proofs.Cases.{linked-block, linked-claim, linked-leaf}
-
--- what is known after a link of a known node was found
-pub known-grows : (v : SeatView) (z b : ℕ) → is_known v z ≡ true → known_link v z ≡ 0 → b ≢ 0 → known_after v z b ≡ told_below v z b ∷ v.known
-unfolding known_after
-known-grows v z b n l ne =
-    let p : (known_link v z == 0) ≡ true = eq-eqb (known_link v z) 0 l in
-    let q : (b == 0) ≡ false = ne_eqb b 0 ne in
-    rw (n, p, q)
+use Rattle.arena_rule.proofs.Room.{told-known}
 
 pub known-none : (v : SeatView) (z : ℕ) → known_after v z 0 ≡ v.known
 unfolding known_after
@@ -46,7 +39,7 @@ known-none v z = by (is_known v z) (known_link v z == 0)
 pub found-below : (v : SeatView) (z b : ℕ) → is_known v z ≡ true → AnswersLink v z b → b ≢ 0 → ((c : LinkedBlock) → In c v.known → In c (known_after v z b))
     → (c : LinkedBlock) × In c (known_after v z b) × (c.start ≡ b) × (c.parent ≡ z)
 found-below v z b n a ne stays = ⊎_elim
-    (λ (e : known_link v z ≡ 0). (told_below v z b, subst (In (told_below v z b)) (sym (known-grows v z b n e ne)) (inl refl), refl, refl))
+    (λ (e : known_link v z ≡ 0). (told_below v z b, subst (In (told_below v z b)) (sym (told-known v z b n e ne)) (inl refl), refl, refl))
     (λ (l : 0 < known_link v z).
     let q = link-block v.known z l in
     (q.0, stays q.0 q.1, q.3 ∙ sym (a.known l), q.2))
@@ -67,7 +60,7 @@ asks-not false true true e = absurd (cc)
 asks-not false true false e = inr (inl refl)
 asks-not false false u e = inl refl
 
-not-less : (a b : ℕ) → nat_le a b ≡ false → b < a
+pub not-less : (a b : ℕ) → nat_le a b ≡ false → b < a
 not-less a b e = grind (arith, nat_tests)
 
 none-less : (n : ℕ) → nat_lt 0 n ≡ false → n ≡ 0

@@ -20,7 +20,7 @@ use Rattle.walker.specs.declared.machine.Walker.{Walker}
 use Rattle.walker.specs.Scans.{ScanData}
 use Rattle.walker.specs.Machine.{state_in, set_in, cells_in, chosen}
 use Rattle.walker.specs.Belongs.{IsDown, IsBelow, InChild, HasKept, IsLevel, children_loaded, AtChild, AtLink}
-use Rattle.walker.proofs.KnownLaws.{one-order, child-node}
+use Rattle.walker.proofs.KnownLaws.{one-order}
 use Rattle.walker.proofs.KeepLaws.{kept-all}
 use Rattle.walker.proofs.ChildLaws.{children-long, children-at}
 use Rattle.tree_words.specs.Complete.{cells_below}
@@ -29,6 +29,7 @@ use Rattle.arena_rule.proofs.Options.{some-eq}
 use Rattle.walker.proofs.LeafLaws.{cells-is, size-is}
 use Rattle.walker.proofs.KeepsScan.{keeps-has, pick-is, fewer-empties}
 use Rattle.walker.proofs.KeepsChoice.{Looked}
+use Rattle.tree_words.proofs.Walks.Down.{child-has}
 
 -- the scan goes on with the next child
 pub looked-next : (w : Walker) (u : SeatView) (c : LinkedBlock) (d : ScanData) → Looked w u c d → IsBelow (record w { scan = d }) u c → u.held ≡ None → d.place < d.count → AtChild (record w { scan = d }) u
@@ -101,7 +102,7 @@ module _ (w : Walker) (u : SeatView) (c : LinkedBlock) (d : ScanData) (shape : u
   state-below : state_after (state_in w) (get_or (cells_in w) d.best 0) ≡ node_state u.shape u.known (child c d.best)
   state-below =
       let up : node_state u.shape u.known (child c d.best) ≡ state_after (node_state u.shape u.known c.parent) (cell_at c (place c (child c d.best)))
-      = up-in (root_state u.shape) (λ e y s. state_after s (cell_at e (place e y))) (root_at u.shape) u.known c (child c d.best) corder below.known (child-node c d.best best-in) in
+      = up-in (root_state u.shape) (λ e y s. state_after s (cell_at e (place e y))) (root_at u.shape) u.known c (child c d.best) corder below.known (child-has c d.best best-in) in
       (λ i. state_after ((k.down.is ∙ ap (node_state u.shape u.known) (sym below.parent)) i) ((sym cell ∙ ap (λ (n : ℕ). get_or c.cells n 0) (sym (is_child c.start d.best))) i))
       ∙ sym up
 
@@ -118,7 +119,7 @@ module _ (w : Walker) (u : SeatView) (c : LinkedBlock) (d : ScanData) (shape : u
     start = below.start;
     parent = below.parent;
     cells = below.cells ∙ ap (λ (s : Setting). listed s.board.size (set_in w)) (sym shape);
-    node = child-node c d.best best-in;
+    node = child-has c d.best best-in;
     chosen = best-chosen;
   }
 
@@ -130,7 +131,7 @@ module _ (w : Walker) (u : SeatView) (c : LinkedBlock) (d : ScanData) (shape : u
     ended = k.down.ended;
     ticket = k.down.ticket;
     adds = k.down.adds;
-    known = in-node (root_at u.shape) u.known c (child c d.best) below.known (child-node c d.best best-in);
+    known = in-node (root_at u.shape) u.known c (child c d.best) below.known (child-has c d.best best-in);
     is = state-below;
     on_way = (level, k.down.on_way);
     loaded = k.tallies d.best has.place;

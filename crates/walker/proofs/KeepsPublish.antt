@@ -17,8 +17,8 @@ use Rattle.walker.specs.Belongs.{Belongs, Down, AtPublish}
 use Rattle.walker.proofs.KnownLaws.{one-order, known-cells}
 use Rattle.walker.proofs.Going.{Goes, state-known}
 use Rattle.walker.proofs.LeafLaws.{cells-is}
-use Rattle.walker.proofs.KeepsDown.{known-grows}
 use Rattle.walker.proofs.KeepsBlock.{still-down}
+use Rattle.arena_rule.proofs.Room.{told-known}
 
 module _ (w : Walker) (v : SeatView) (b : Belongs w v) (x : ℕ) where
   module _ (a : AtPublish w v) (may : MayAnswer v (Publish w.at w.start) x) (iu : IsView (after v (Publish w.at w.start) x)) where
@@ -34,7 +34,7 @@ module _ (w : Walker) (v : SeatView) (b : Belongs w v) (x : ℕ) where
 
     published-known : (after v (Publish w.at w.start) x).known ≡ told_below v w.node (cond (x == 0) w.start x) ∷ v.known
     unfolding with_word published
-    published-known = ap (λ (z : ℕ). known_after v z (cond (x == 0) w.start x)) back ∙ known-grows v w.node (cond (x == 0) w.start x) a.may.down.known a.may.vacant link-some
+    published-known = ap (λ (z : ℕ). known_after v z (cond (x == 0) w.start x)) back ∙ told-known v w.node (cond (x == 0) w.start x) a.may.down.known a.may.vacant link-some
 
     publish-goes : Goes v (after v (Publish w.at w.start) x) 0
     unfolding with_word published

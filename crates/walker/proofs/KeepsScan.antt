@@ -33,9 +33,10 @@ use Rattle.walker.specs.declared.machine.Walker.{Walker}
 use Rattle.walker.specs.Scans.{ScanData}
 use Rattle.walker.specs.Machine.{state_in}
 use Rattle.walker.specs.Belongs.{Belongs, Down, IsBelow, IsScan, InChild, HasKept, Keeps, children_loaded, AtChild}
-use Rattle.walker.proofs.KnownLaws.{one-order, LiesIn, known-lies, child-node}
+use Rattle.walker.proofs.KnownLaws.{one-order, LiesIn, known-lies}
 use Rattle.walker.proofs.Going.{Goes, Untouched, look-goes, down-goes, loaded-goes, tally-goes, seen-goes}
 use Rattle.walker.proofs.ChildLaws.{children-all, children-same}
+use Rattle.tree_words.proofs.Walks.Down.{child-has}
 
 -- a stone takes one of the empty cells
 pub fewer-empties : (p : Position) (player : Colour) (c : ℕ) → p.size ≤ 11 → is_empty_at p c ≡ true → length (empties_of (placed p player c)) < length (empties_of p)
@@ -93,7 +94,7 @@ module _ (w : Walker) (v : SeatView) (b : Belongs w v) (x : ℕ) (a : AtChild w 
   here = omega (arith, a.scan.place, a.scan.count)
 
   pub kid : (i : ℕ) → i < length a.block.cells → is_known v (child a.block i) ≡ true
-  kid i l = in-node (root_at v.shape) v.known a.block (child a.block i) a.below.known (child-node a.block i l)
+  kid i l = in-node (root_at v.shape) v.known a.block (child a.block i) a.below.known (child-has a.block i l)
 
   -- a look at a count of the child in hand
   module _ (j : ℕ) (low : 2 ≤ j) (high : j < 4) (at : w.scan.at ≡ child a.block w.scan.place + j) where
@@ -108,10 +109,10 @@ module _ (w : Walker) (v : SeatView) (b : Belongs w v) (x : ℕ) (a : AtChild w 
 
     not-child : (d : LinkedBlock) (i : In d v.known) (m : d.start < w.node) (k n : ℕ) → k < length d.cells → n < 4 → w.scan.at ≢ child d k + n
     not-child d i m k n l h e =
-        let node : is_known v (child d k) ≡ true = in-node (root_at v.shape) v.known d (child d k) i (child-node d k l) in
+        let node : is_known v (child d k) ≡ true = in-node (root_at v.shape) v.known d (child d k) i (child-has d k l) in
         let q = other-node (child d k) n node h e in
         let one : a.block ≡ d = has-one (root_at v.shape) v.known a.block d (child d k) order a.below.known i
-        (subst (λ (y : ℕ). has_node a.block y ≡ true) q (child-node a.block w.scan.place here)) (child-node d k l) in
+        (subst (λ (y : ℕ). has_node a.block y ≡ true) q (child-has a.block w.scan.place here)) (child-has d k l) in
         let up = above a.block a.below.known in
         let s : a.block.start ≡ d.start = ap (λ (z : LinkedBlock). z.start) one in
         omega (arith, up, a.below.parent, m, s)

@@ -65,10 +65,3 @@ link-here b bs x rest false e l = let q = rest l in (q.0, inr q.1, q.2, q.3)
 pub link-block : (bs : List LinkedBlock) (x : ℕ) → 0 < link_of bs x → (c : LinkedBlock) × In c bs × (c.parent ≡ x) × (c.start ≡ link_of bs x)
 link-block [] x l = absurd (omega arith)
 link-block (b ∷ bs) x l = link-here b bs x (link-block bs x) (b.parent == x) refl l
-
--- a child is a node of its block
-pub child-node : (b : LinkedBlock) (i : ℕ) → i < length b.cells → has_node b (child b i) ≡ true
-child-node b i l = subst (λ (x : ℕ). has_node b x ≡ true) (same b.start i) (has-here b i l)
-  where
-    same : (a i : ℕ) → a + (4 + 4 * i) ≡ a + 4 + 4 * i
-    same a i = omega arith

@@ -8,7 +8,7 @@ use Rattle.std.proofs.lemmas.List.{get_or_append_left, append-nil}
 use Rattle.hex_cells.specs.Sets.{has as has_cell, members}
 use Rattle.hex_cells.proofs.Counts.{members_none, members_more}
 use Rattle.play_out.proofs.Listing.{filter_more}
-use Rattle.walker.proofs.CellLaws.{members-long}
+use Rattle.tree_words.proofs.Boards.EmptyLaws.{members-listed}
 
 pub lt-yes : (a b : ℕ) → a < b → nat_lt a b ≡ true
 lt-yes a b l = grind (arith, nat_tests)
@@ -53,12 +53,6 @@ rise-most s i (suc d) = let b = one-most (has_cell s (i + d)) in omega (arith, a
     one-most : (t : Bool) → cond t 1 0 ≤ 1
     one-most true = omega arith
     one-most false = omega arith
-
-pub few-members : (s c : ℕ) → members s c ≤ c
-few-members s c = let r = rise-most s 0 c in omega (arith, r, members_none s, ap (members s) (zero-plus c))
-  where
-    zero-plus : (c : ℕ) → 0 + c ≡ c
-    zero-plus c = omega arith
 
 -- a number that is out leaves room
 pub out-room : (s c t : ℕ) → c < t → has_cell s c ≡ false → members s t + c + 1 ≤ members s c + t
@@ -113,7 +107,7 @@ rank-step set n i rest true e l =
     (λ (m : length xs ≤ i).
     let is : i ≡ length xs = omega (arith, m, l, length-append xs (n ∷ [])) in
     let last : get_or (xs ++ n ∷ []) i 0 ≡ n = ap (λ (k : ℕ). get_or (xs ++ n ∷ []) k 0) is ∙ push-last xs n in
-    subst (HasRank set (suc n) i) (sym last) (record { inside = e; on = omega arith; rank = members-long set n ∙ sym is }))
+    subst (HasRank set (suc n) i) (sym last) (record { inside = e; on = omega arith; rank = members-listed set n ∙ sym is }))
     (cases_lt i (length xs))
 rank-step set n i rest false e l =
     let xs : List ℕ = filter (has_cell set) (range_with_len 0 n) in

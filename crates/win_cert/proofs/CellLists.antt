@@ -7,12 +7,8 @@ use Rattle.hex_board.specs.Positions.{Apart, Within}
 use Rattle.win_cert.specs.Named.{cell_named, set_named}
 use Rattle.win_cert.proofs.CellWords.{cell_means}
 use Rattle.win_cert.proofs.Options.{some_of_test, some_of_then}
-
-within_more : (n s k : ℕ) → Within n s → k < n * n → Within n (with_cell s k)
-within_more n s k on below j e = elim (with_cell-cases s k j e) [
-  | inl old ↦ on j old
-  | inr new ↦ subst (λ i. i < n * n) (sym new) below
-]
+use Rattle.hex_board.proofs.Placed.{with_within}
+use Rattle.std.proofs.lemmas.Bool.{and_from}
 
 -- the cells that are named lie on the board
 pub cells_within : (n s least : ℕ) (words : List (List ℕ)) (u : ℕ) → set_named n s least words ≡ Some u → Within n s → Within n u
@@ -21,18 +17,13 @@ cells_within n s least (word ∷ words) u e on =
     let found = some_of_then (λ k. cond (leb least k) (set_named n (with_cell s k) (suc k) words) None) (cell_named n word) u e in
     let rest = some_of_test (leb least found.0) (set_named n (with_cell s found.0) (suc found.0) words) u found.2 in
     let on_board = cell_means n word found.0 found.1 in
-    cells_within n (with_cell s found.0) (suc found.0) words u rest.1 (within_more n s found.0 on on_board.0)
-
-both_in : (a b : Bool) → a ≡ true → b ≡ true → (a && b) ≡ true
-both_in true true e f = refl
-both_in true false e f = f
-both_in false b e f = e
+    cells_within n (with_cell s found.0) (suc found.0) words u rest.1 (with_within n s found.0 on on_board.0)
 
 -- sets whose common cells are none are apart
 pub apart_of : (s t : ℕ) → bit_and s t ≡ 0 → Apart s t
 apart_of s t e k in_s in_t =
     let none = has_none k in
-    let both : has (bit_and s t) k ≡ true = has_and s t k ∙ both_in (has s k) (has t k) in_s in_t in
+    let both : has (bit_and s t) k ≡ true = has_and s t k ∙ and_from (has s k) (has t k) in_s in_t in
     absurd (cc)
 
 -- the empty set lies on each board

@@ -7,7 +7,8 @@ use Rattle.std.proofs.lemmas.Slice.Eq.{bytes_eq-Decides}
 use Rattle.hex_cells.specs.Vertices.{vertex_cell, vertex_of}
 use Rattle.hex_cells.proofs.Naming.{read_back}
 use Rattle.win_cert.specs.Named.{cell_named}
-use Rattle.win_cert.proofs.Options.{both_true, some_of_if, some_of_then}
+use Rattle.win_cert.proofs.Options.{both_true, some_of_then}
+use Rattle.std.proofs.lemmas.Option.{cond_some}
 
 abbrev test : ℕ → List ℕ → ℕ → Option ℕ
 test n word k = cond (ltb k (n * n) && bytes_eq word (vertex_of n k)) (Some k) None
@@ -36,7 +37,7 @@ pub cell_means : (n : ℕ) (word : List ℕ) (k : ℕ) → cell_named n word ≡
 unfolding cell_named
 cell_means n word k e =
     let found = some_of_then (test n word) (vertex_cell n word) k e in
-    let same = some_of_if (ltb found.0 (n * n) && bytes_eq word (vertex_of n found.0)) found.0 k found.2 in
+    let same = cond_some (ltb found.0 (n * n) && bytes_eq word (vertex_of n found.0)) found.0 k found.2 in
     let both = both_true (ltb found.0 (n * n)) (bytes_eq word (vertex_of n found.0)) same.0 in (
       subst (λ j. j < n * n) same.1 ((Decides-ltb found.0 (n * n)).0 both.0),
       (bytes_eq-Decides word (vertex_of n found.0)).0 both.1 ∙ ap (vertex_of n) same.1,

@@ -3,7 +3,7 @@
 use Rattle.std.proofs.Common.{◌≡◌, ℕ, ◌<◌, ◌==◌, ◌&&◌, ◌||◌, not, true, false, Bool, List, [], ◌∷◌, Option, Some, None, min, max, map, option_map, if◌then◌else◌, refl, sym, ◌∙◌, ap, subst, inl, inr, ◌⊎◌, arith}
 use Rattle.std.specs.List.{cons_option, filter_map, list_all, slice_get}
 use Rattle.std.specs.Option.{is_none, is_some, option_flatten, option_map_or}
-use Rattle.std.proofs.lemmas.Bool.{and_parts, eq-eqb, false_from_ne_true, false≢true, ne_eqb, true≢false}
+use Rattle.std.proofs.lemmas.Bool.{and_parts, eq-eqb, false_from_ne_true, false≢true, ne_eqb, true≢false, or_from}
 use Rattle.std.proofs.lemmas.Option.{slice_get-map}
 use Rattle.hex_cells.specs.Sets.{has}
 use Rattle.hex_cells.specs.declared.board_size.TheConstants.{MOST_CELLS}
@@ -16,7 +16,7 @@ use Rattle.conn_store.proofs.RuleTruth.{least_first}
 use Rattle.win_cert.specs.Cutting.{over}
 use Rattle.win_cert.specs.Entries.{Context, ScopedEntry, entries_at, entry_at, is_end, middle_of, other_end}
 use Rattle.win_cert.specs.Statements.{is_cell_in, share_cell}
-use Rattle.win_cert.proofs.Middles.{is_cell}
+use Rattle.win_cert.proofs.Middles.{is_cell, if_yes, if_no}
 
 -- ---- the entries that are named
 
@@ -47,18 +47,6 @@ either_yes true q h = refl
 either_yes false q (inl h) = absurd (false≢true h)
 either_yes false q (inr h) = h
 
-both_no : (p q : Bool) → p ≡ false → q ≡ false → (p || q) ≡ false
-both_no false q h k = k
-both_no true q h k = absurd (true≢false h)
-
-if_yes : (b : Bool) (x y : ℕ) → b ≡ true → (if b then x else y) ≡ x
-if_yes true x y h = refl
-if_yes false x y h = absurd (false≢true h)
-
-if_no : (b : Bool) (x y : ℕ) → b ≡ false → (if b then x else y) ≡ y
-if_no true x y h = absurd (true≢false h)
-if_no false x y h = refl
-
 -- the entry's elements are v and w, in one order or the other
 abbrev pub AreEnds : ScopedEntry → ℕ → ℕ → Type 0
 AreEnds a v w = ((a.x ≡ v) × (a.y ≡ w)) ⊎ ((a.x ≡ w) × (a.y ≡ v))
@@ -68,8 +56,8 @@ ends_in a v w (inl h) = either_yes (a.x == v) (a.y == v) (inl (eq-eqb a.x v h.0)
 ends_in a v w (inr h) = either_yes (a.x == v) (a.y == v) (inr (eq-eqb a.y v h.1))
 
 ends_out : (a : ScopedEntry) (v w z : ℕ) → AreEnds a v w → (v ≡ z → ⊥) → (w ≡ z → ⊥) → is_end a z ≡ false
-ends_out a v w z (inl h) m n = both_no (a.x == z) (a.y == z) (ne_eqb a.x z (λ q. m (sym h.0 ∙ q))) (ne_eqb a.y z (λ q. n (sym h.1 ∙ q)))
-ends_out a v w z (inr h) m n = both_no (a.x == z) (a.y == z) (ne_eqb a.x z (λ q. n (sym h.0 ∙ q))) (ne_eqb a.y z (λ q. m (sym h.1 ∙ q)))
+ends_out a v w z (inl h) m n = or_from (a.x == z) (a.y == z) (ne_eqb a.x z (λ q. m (sym h.0 ∙ q))) (ne_eqb a.y z (λ q. n (sym h.1 ∙ q)))
+ends_out a v w z (inr h) m n = or_from (a.x == z) (a.y == z) (ne_eqb a.x z (λ q. n (sym h.0 ∙ q))) (ne_eqb a.y z (λ q. m (sym h.1 ∙ q)))
 
 pub other_is : (a : ScopedEntry) (v u : ℕ) → AreEnds a v u → (v ≡ u → ⊥) → other_end a u ≡ v
 other_is a v u (inl h) n = if_no (a.x == u) a.y a.x (ne_eqb a.x u (λ q. n (sym h.0 ∙ q))) ∙ h.0

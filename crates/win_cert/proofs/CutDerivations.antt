@@ -19,12 +19,13 @@ use Rattle.win_cert.specs.Cutting.{AreDerived, AreLinesTo, AreMarks, Derives, Is
 use Rattle.win_cert.specs.Entries.{ScopedEntry}
 use Rattle.win_cert.specs.declared.lines.Line.{Line}
 use Rattle.win_cert.specs.declared.lines.TheConstants.{MOST_NUMBER}
-use Rattle.win_cert.proofs.CutLines.{IsPlaced, IsSmallAt, line_form, line_right, second_in, third_in}
-use Rattle.win_cert.proofs.CutVerdicts.{at_left, cases_at, some_at}
+use Rattle.win_cert.proofs.CutLines.{IsPlaced, IsSmallAt, line_form, line_right, second_in, third_in, number_of_ways}
+use Rattle.win_cert.proofs.CutVerdicts.{cases_at, some_at}
+use Rattle.win_cert.proofs.GivenEntries.{at_left}
 
 -- ---- names of earlier entries
 
-taken_back : {X : Type 0} (xs : List X) (n i : ℕ) (x : X) → slice_get (take n xs) i ≡ Some x → slice_get xs i ≡ Some x
+pub taken_back : {X : Type 0} (xs : List X) (n i : ℕ) (x : X) → slice_get (take n xs) i ≡ Some x → slice_get xs i ≡ Some x
 taken_back xs zero i x h = absurd (cc)
 taken_back [] (suc n) i x h = absurd (cc)
 taken_back (y ∷ xs) (suc n) zero x h = h
@@ -40,9 +41,6 @@ all_below : (entries : List Entry) (n : ℕ) (numbers : List ℕ) (ways : List E
 all_below entries n [] ways h = All-nil (λ j. j < n)
 all_below entries n (i ∷ numbers) [] h = absurd (cc)
 all_below entries n (i ∷ numbers) (a ∷ ways) h = All-cons (λ j. j < n) i numbers (taken_below entries n i a (cc)) (all_below entries n numbers ways (cc))
-
-same_number : (from : List Entry) (numbers : List ℕ) (ways : List Entry) → AreAt from numbers ways → length ways ≡ length numbers
-same_number from numbers ways h = sym (length-map ways (λ a. Some a)) ∙ sym (ap length h) ∙ length-map numbers (slice_get from)
 
 two_or_three : (m : ℕ) → (m ≡ 2) ⊎ (m ≡ 3) → 2 ≤ m
 two_or_three m (inl h) = omega arith
@@ -72,7 +70,7 @@ by_below e entries n a Adjacent f = All-nil (λ j. j < n)
 by_below e entries n a (AndGroup i j) (b, d, x, u, y, t, r, g, w, k, c) = all_below entries n (i ∷ j ∷ []) (b ∷ d ∷ []) t
 by_below e entries n a (AndEmpty i j) (b, d, x, u, y, z, t, r, g, w, k, c) = all_below entries n (i ∷ j ∷ []) (b ∷ d ∷ []) t
 by_below e entries n a (Or numbers count) (ways, t, r, k, c) = or_below n numbers count (all_below entries n (take count numbers) ways t)
-    (subst (λ v. 2 ≤ v) (same_number (take n entries) (take count numbers) ways t) (two_or_three (length ways) r.number))
+    (subst (λ v. 2 ≤ v) (number_of_ways (take n entries) (take count numbers) ways t) (two_or_three (length ways) r.number))
 
 -- each entry of a store names earlier ones
 pub name_earlier : (d : StoreData) → IsSound d → NameEarlier d.entries
@@ -85,7 +83,7 @@ left_same [] ys i l = absurd (omega arith)
 left_same (x ∷ xs) ys zero l = refl
 left_same (x ∷ xs) ys (suc i) l = left_same xs ys i (omega arith)
 
-last_at : {X : Type 0} (xs : List X) (x : X) → slice_get (xs ++ x ∷ []) (length xs) ≡ Some x
+pub last_at : {X : Type 0} (xs : List X) (x : X) → slice_get (xs ++ x ∷ []) (length xs) ≡ Some x
 last_at [] x = refl
 last_at (y ∷ xs) x = last_at xs x
 
@@ -99,7 +97,7 @@ none_there o x h k = cc
 some_line : (a b : Line) → Some a ≡ Some b → a ≡ b
 some_line a b h = cc
 
-some_entry : (a b : Entry) → Some a ≡ Some b → a ≡ b
+pub some_entry : (a b : Entry) → Some a ≡ Some b → a ≡ b
 some_entry a b h = cc
 
 derived_more : (e : PlayerBoard) (lines : List Line) (given : List ScopedEntry) (line : Line) (x : ScopedEntry) → AreDerived e lines given → IsDerivedBy e given line x → AreDerived e (lines ++ line ∷ []) (given ++ x ∷ [])

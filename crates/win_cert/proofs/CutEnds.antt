@@ -7,12 +7,9 @@ use Rattle.hex_cells.specs.Colours.{other_of}
 use Rattle.hex_board.specs.Elements.{PlayerBoard, HasCell, edge_element}
 use Rattle.hex_board.specs.Places.{IsMember, Place, at_cell, at_edge}
 use Rattle.hex_board.specs.Positions.{is_empty_at, stones_of}
-use Rattle.hex_board.proofs.Parts.{case_of, is_free, is_first, is_second, is_group, is_other, linked_last, none_other, tied_stone}
+use Rattle.hex_board.proofs.Parts.{case_of, is_free, is_first, is_second, is_group, is_other, linked_last, none_other, tied_stone, none_some}
 use Rattle.win_cert.specs.Cutting.{AreStonesOn, IsEndFor}
 use Rattle.win_cert.specs.declared.lines.End.TheVariants.{At}
-
-none_is_some : (x : ℕ) → None ≡ Some x → ⊥
-none_is_some x e = cc
 
 cell_below : (e : PlayerBoard) (k x : ℕ) → AreStonesOn e → HasCell e x k → k < e.board.size * e.board.size
 cell_below e k x s h = elim (case_of e k s.own) [
@@ -22,7 +19,7 @@ cell_below e k x s h = elim (case_of e k s.own) [
   | is_first i t ↦ s.own k (tied_stone e false k i)
   | is_second i j t ↦ s.own k (tied_stone e true k j)
   | is_group r i j l m t ↦ s.own k (linked_last e r k l)
-  | is_other i j l m t ↦ absurd (none_is_some x (sym t ∙ h))
+  | is_other i j l m t ↦ absurd (none_some x (sym t ∙ h))
 ]
 
 -- a cell of the element names it
@@ -32,7 +29,7 @@ cell_end e x k s h =
     record {
       element = h;
       place = l;
-      other = false_from_ne_true (has (stones_of e.board (other_of e.player)) k) (λ t. none_is_some x (sym ((none_other e k s.own s.apart l).1 t) ∙ h));
+      other = false_from_ne_true (has (stones_of e.board (other_of e.player)) k) (λ t. none_some x (sym ((none_other e k s.own s.apart l).1 t) ∙ h));
     }
 
 -- an element that holds no edge has a cell

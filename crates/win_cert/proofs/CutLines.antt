@@ -23,6 +23,7 @@ use Rattle.win_cert.specs.declared.lines.Line.TheVariants.{Adj, And, Key, Or2, O
 use Rattle.win_cert.specs.declared.lines.TheConstants.{MOST_NUMBER}
 use Rattle.win_cert.proofs.CutChains.{entry_over}
 use Rattle.win_cert.proofs.CutSteps.{IsChainAt, IsRight, IsWayAt, adj_right, and_right, key_right, three_right, two_right, unscoped_board}
+use Rattle.conn_store.proofs.RuleEntries.{both_full, all_full}
 
 -- the entry with number i was given by the line with its new number
 abbrev pub IsPlaced : List ScopedEntry → List ℕ → List Entry → ℕ → Type 0
@@ -47,17 +48,6 @@ way_at : (e : PlayerBoard) (given : List ScopedEntry) (renamed : List ℕ) (from
     → b.kind ≡ Semi → IsBetween b a.x a.y → IsWayAt (over e given) (get_or renamed i 0) b a
 way_at e given renamed from a b i l h p k q = record { at = entry_over e given (get_or renamed i 0) (unscoped b) (p b h); kind_is = k; order = l; pair = q }
 
-both_ways_no : (p q : Bool) → (p ≡ true → q ≡ true → ⊥) → (p && (q && true)) ≡ false
-both_ways_no true true h = absurd (h refl refl)
-both_ways_no true false h = refl
-both_ways_no false q h = refl
-
-all_ways_no : (p q r : Bool) → (p ≡ true → q ≡ true → r ≡ true → ⊥) → (p && (q && (r && true))) ≡ false
-all_ways_no true true true h = absurd (h refl refl refl)
-all_ways_no true true false h = refl
-all_ways_no true false r h = refl
-all_ways_no false q r h = refl
-
 over_two : (e : PlayerBoard) (given : List ScopedEntry) (renamed : List ℕ) (from : List Entry) (a : Entry) (i j : ℕ) (ways : List Entry) → a.x < a.y
     → AreAt from (i ∷ j ∷ []) ways → OrRule ways a.x a.y → a.kind ≡ Full → a.carrier ≡ union_of ways → IsPlaced given renamed from i → IsPlaced given renamed from j
     → IsRight (over e given) (Or2 (get_or renamed i 0) (get_or renamed j 0)) a
@@ -68,7 +58,7 @@ over_two e given renamed from a i j (b ∷ d ∷ []) l t r k c p q =
     let v = first_at from j [] d [] u.1 in
     let w = two_of b d a.x a.y r in
     two_right (over e given) (get_or renamed i 0) (get_or renamed j 0) b d a refl (way_at e given renamed from a b i l u.0 p w.first_kind w.first_pair)
-    (way_at e given renamed from a d j l v.0 q w.second_kind w.second_pair) (λ z. both_ways_no (has b.carrier z) (has d.carrier z) (w.free z)) k c
+    (way_at e given renamed from a d j l v.0 q w.second_kind w.second_pair) (λ z. both_full (has b.carrier z) (has d.carrier z) (w.free z)) k c
 over_two e given renamed from a i j (b ∷ d ∷ f ∷ ways) l t r k c p q = absurd (cc)
 
 over_three : (e : PlayerBoard) (given : List ScopedEntry) (renamed : List ℕ) (from : List Entry) (a : Entry) (i j m : ℕ) (ways : List Entry) → a.x < a.y
@@ -84,7 +74,7 @@ over_three e given renamed from a i j m (b ∷ d ∷ f ∷ []) l t r k c p q s =
     let w = three_of b d f a.x a.y r in
     three_right (over e given) (get_or renamed i 0) (get_or renamed j 0) (get_or renamed m 0) b d f a refl (way_at e given renamed from a b i l u.0 p w.first_kind w.first_pair)
     (way_at e given renamed from a d j l v.0 q w.second_kind w.second_pair) (way_at e given renamed from a f m l x.0 s w.third_kind w.third_pair)
-    (λ z. all_ways_no (has b.carrier z) (has d.carrier z) (has f.carrier z) (w.free z)) k c
+    (λ z. all_full (has b.carrier z) (has d.carrier z) (has f.carrier z) (w.free z)) k c
 over_three e given renamed from a i j m (b ∷ d ∷ f ∷ g ∷ ways) l t r k c p q s = absurd (cc)
 
 few_ways : (e : PlayerBoard) (ways : List Entry) (x y n : ℕ) → OrRule ways x y → length ways ≡ n → n < 2 → ⊥
@@ -95,7 +85,7 @@ few_ways e ways x y n r h l = few r.number
     few (inr q) = absurd (omega arith)
 
 -- ways that two or three of the numbers name
-number_of_ways : (from : List Entry) (numbers : List ℕ) (ways : List Entry) → AreAt from numbers ways → length ways ≡ length numbers
+pub number_of_ways : (from : List Entry) (numbers : List ℕ) (ways : List Entry) → AreAt from numbers ways → length ways ≡ length numbers
 number_of_ways from numbers ways h = sym (length-map ways Some) ∙ sym (ap length h) ∙ length-map numbers (slice_get from)
 
 or_right : (e : PlayerBoard) (given : List ScopedEntry) (renamed : List ℕ) (from : List Entry) (a : Entry) (line : Line) (numbers : List ℕ) (count : ℕ) (ways : List Entry)

@@ -3,7 +3,7 @@ use Rattle.std.proofs.Common.{◌≡◌, ℕ, ◌<◌, ◌==◌, ◌&&◌, ◌||
 use Rattle.std.specs.List.{list_all}
 use Rattle.std.specs.Int.Bits.{or_zero_r}
 use Rattle.std.specs.Option.{is_none, is_some, option_map_or}
-use Rattle.std.proofs.lemmas.Bool.{and_from, eq-eqb, false_from_ne_true, false≢true, ne_eqb, true≢false}
+use Rattle.std.proofs.lemmas.Bool.{and_from, eq-eqb, false_from_ne_true, false≢true, ne_eqb, true≢false, or_from, and_right as and_no}
 use Rattle.hex_cells.specs.Sets.{has, with_cell}
 use Rattle.hex_cells.specs.declared.colours.Colour.{Colour}
 use Rattle.hex_cells.specs.declared.colours.Colour.TheVariants.{Black, White}
@@ -27,10 +27,12 @@ use Rattle.win_cert.specs.declared.lines.Line.{Line}
 use Rattle.win_cert.specs.declared.lines.Line.TheVariants.{Adj, And, Key, Or2, Or3}
 use Rattle.win_cert.proofs.CutChains.{ends_are, group_none, middle_is, missed, none_shared, other_is, two_at, three_at}
 use Rattle.win_cert.proofs.LinksOn.{cell_is}
+use Rattle.conn_store.proofs.RuleEntries.{both_full}
+use Rattle.hsearch.proofs.Orders.{turned_pair}
 
 -- ---- the board of the empty scope
 
-with_none : (p : Position) (c : Colour) → with_stones p c 0 ≡ p
+pub with_none : (p : Position) (c : Colour) → with_stones p c 0 ≡ p
 with_none p Black = ap (λ s. record { size = p.size; black = s; white = p.white }) (or_zero_r p.black)
 with_none p White = ap (λ s. record { size = p.size; black = p.black; white = s }) (or_zero_r p.white)
 
@@ -45,19 +47,6 @@ told test reason other = if test then Some reason else other
 pub told_next : (b : Bool) (r : Reason) (o : Option Reason) → b ≡ false → o ≡ None → told b r o ≡ None
 told_next true r o h e = absurd (true≢false h)
 told_next false r o h e = e
-
-and_no : (p q : Bool) → q ≡ false → (p && q) ≡ false
-and_no true q h = h
-and_no false q h = refl
-
-or_no : (p q : Bool) → p ≡ false → q ≡ false → (p || q) ≡ false
-or_no false q h k = k
-or_no true q h k = absurd (true≢false h)
-
-not_both : (p q : Bool) → (p ≡ true → q ≡ true → ⊥) → (p && (q && true)) ≡ false
-not_both true true h = absurd (h refl refl)
-not_both true false h = refl
-not_both false q h = refl
 
 chain_clear : (p q r s t u : Bool) → p ≡ false → q ≡ false → r ≡ false → s ≡ false → t ≡ false → u ≡ false
     → told p bad_reference (told q wrong_scope (told r no_common_middle (told s carriers_meet (told t end_in_carrier (told u middle_kind None))))) ≡ None
@@ -96,7 +85,7 @@ adj_right e given a x y l n k z h i p q =
     let ly : max a.x a.y ≡ a.y = omega arith in (
       ap (λ o. adj_entry c o (end_element d y)) h ∙ ap (λ o. adj_entry c (Some a.x) o) i ∙ ap Some (same_entry a Full (min a.x a.y) (max a.x a.y) 0 0 (sym k) lx ly (sym z) refl),
       adj_reasons c x y ∙ told_next (is_wrong_colour c (derivation (Adj x y))) wrong_colour (told (are_not_neighbours c (derivation (Adj x y))) not_neighbours None)
-          (or_no (is_other_stone d x) (is_other_stone d y) p q)
+          (or_from (is_other_stone d x) (is_other_stone d y) p q)
           (told_next (are_not_neighbours c (derivation (Adj x y))) not_neighbours None
           (ap (λ o. not (are_near d o (end_element d y))) h ∙ ap (λ o. not (are_near d (Some a.x) o)) i ∙ near_yes d a.x a.y n) refl),
     )
@@ -126,9 +115,6 @@ pub record IsChainAt (c : Context) (i j : ℕ) (a b : Entry) (x u y : ℕ) : Typ
 
 between_differ : (a : Entry) (x y : ℕ) → IsBetween a x y → a.x < a.y → x ≡ y → ⊥
 between_differ a x y h l e = let p : a.x ≡ min x y = h.0 in let q : a.y ≡ max x y = h.1 in absurd (omega arith)
-
-turned_pair : (a : Entry) (x y : ℕ) → IsBetween a x y → IsBetween a y x
-turned_pair a x y h = let p : a.x ≡ min x y = h.0 in let q : a.y ≡ max x y = h.1 in (omega arith, omega arith)
 
 chain_middle : (c : Context) (i j : ℕ) (a b : Entry) (x u y : ℕ) → IsChainAt c i j a b x u y → middle_of (unscoped a) (unscoped b) ≡ Some u
 chain_middle c i j a b x u y w =
@@ -173,12 +159,12 @@ chain_taken c i j a b x u y s h w = bad_two (may_take s (entry_at c i)) (may_tak
 
 chain_apart : (c : Context) (i j : ℕ) (a b : Entry) (x u y : ℕ) → IsChainAt c i j a b x u y → share_cell (entries_at c (i ∷ j ∷ [])) ≡ false
 chain_apart c i j a b x u y w = ap share_cell (chain_pair c i j a b x u y w)
-    ∙ none_shared (unscoped a ∷ unscoped b ∷ []) (λ k. not_both (has a.carrier k) (has b.carrier k) (w.rule.apart k))
+    ∙ none_shared (unscoped a ∷ unscoped b ∷ []) (λ k. both_full (has a.carrier k) (has b.carrier k) (w.rule.apart k))
 
 chain_ends : (c : Context) (i j : ℕ) (a b : Entry) (x u y : ℕ) → IsChainAt c i j a b x u y
     → holds_of_chain (λ v w z. is_cell_in (elements_at c) (other_end v z) w.carrier || is_cell_in (elements_at c) (other_end w z) v.carrier) (entries_at c (i ∷ j ∷ [])) ≡ false
 chain_ends c i j a b x u y w = holds_is (λ v w z. is_cell_in (elements_at c) (other_end v z) w.carrier || is_cell_in (elements_at c) (other_end w z) v.carrier) c i j a b x u y w
-    ∙ or_no (is_cell_in (elements_at c) (other_end (unscoped a) u) b.carrier) (is_cell_in (elements_at c) (other_end (unscoped b) u) a.carrier)
+    ∙ or_from (is_cell_in (elements_at c) (other_end (unscoped a) u) b.carrier) (is_cell_in (elements_at c) (other_end (unscoped b) u) a.carrier)
     (ap (λ v. is_cell_in (elements_at c) v b.carrier) (chain_first c i j a b x u y w) ∙ missed (elements_at c) x b.carrier w.rule.first_end)
     (ap (λ v. is_cell_in (elements_at c) v a.carrier) (chain_second c i j a b x u y w) ∙ missed (elements_at c) y a.carrier w.rule.second_end)
 
@@ -229,11 +215,11 @@ or_reason c s numbers =
     (told (not (have_same_ends (entries_at c numbers))) ends_differ
     (told (share_cell (entries_at c numbers)) common_cell None)))
 
-two_reasons : (c : Context) (i j : ℕ) → reason_against c (derivation (Or2 i j)) ≡ or_reason c (derivation (Or2 i j)) (i ∷ j ∷ [])
+pub two_reasons : (c : Context) (i j : ℕ) → reason_against c (derivation (Or2 i j)) ≡ or_reason c (derivation (Or2 i j)) (i ∷ j ∷ [])
 unfolding reason_against
 two_reasons c i j = refl
 
-three_reasons : (c : Context) (i j k : ℕ) → reason_against c (derivation (Or3 i j k)) ≡ or_reason c (derivation (Or3 i j k)) (i ∷ j ∷ k ∷ [])
+pub three_reasons : (c : Context) (i j k : ℕ) → reason_against c (derivation (Or3 i j k)) ≡ or_reason c (derivation (Or3 i j k)) (i ∷ j ∷ k ∷ [])
 unfolding reason_against
 three_reasons c i j k = refl
 
@@ -270,7 +256,7 @@ bad_three true true false h k m = absurd (false≢true m)
 bad_three true false t h k m = absurd (false≢true k)
 bad_three false q t h k m = absurd (false≢true h)
 
-bad_one : (p : Bool) → p ≡ true → not (p && true) ≡ false
+pub bad_one : (p : Bool) → p ≡ true → not (p && true) ≡ false
 bad_one true h = refl
 bad_one false h = absurd (false≢true h)
 

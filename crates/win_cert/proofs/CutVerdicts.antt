@@ -23,7 +23,9 @@ use Rattle.win_cert.specs.declared.certs.TheConstants.{FIRST_VERSION, LATEST_VER
 use Rattle.win_cert.specs.declared.lines.Line.{Line}
 use Rattle.win_cert.specs.declared.lines.Line.TheVariants.{Adj, And, Key, Or2, Or3, Put, Done, Move, Cases}
 use Rattle.win_cert.proofs.CutChains.{entry_over}
-use Rattle.win_cert.proofs.CutSteps.{told, told_next, unscoped_board}
+use Rattle.win_cert.proofs.CutSteps.{told, told_next, unscoped_board, bad_one}
+use Rattle.win_cert.proofs.GivenEntries.{at_left, at_claim}
+use Rattle.conn_store.proofs.Tables.{kinds_match}
 
 -- ---- lists
 
@@ -43,16 +45,7 @@ take_whole [] (suc n) l = refl
 take_whole (x ∷ xs) zero l = absurd (omega arith)
 take_whole (x ∷ xs) (suc n) l = ap (λ ys. x ∷ ys) (take_whole xs n (omega arith))
 
-pub at_left : {X : Type 0} (xs ys : List X) (i : ℕ) (x : X) → slice_get xs i ≡ Some x → slice_get (xs ++ ys) i ≡ Some x
-at_left [] ys i x h = absurd (cc)
-at_left (y ∷ xs) ys zero x h = h
-at_left (y ∷ xs) ys (suc i) x h = at_left xs ys i x h
-
-at_claim : (lines : List Line) (s : Statement) → slice_get (map derivation lines ++ s ∷ []) (length lines) ≡ Some s
-at_claim [] s = refl
-at_claim (line ∷ lines) s = at_claim lines s
-
-past_claim : (lines : List Line) (s : Statement) (k : ℕ) → length lines < k → slice_get (map derivation lines ++ s ∷ []) k ≡ None
+pub past_claim : (lines : List Line) (s : Statement) (k : ℕ) → length lines < k → slice_get (map derivation lines ++ s ∷ []) k ≡ None
 past_claim [] s zero l = absurd (omega arith)
 past_claim [] s (suc k) l = refl
 past_claim (line ∷ lines) s zero l = absurd (omega arith)
@@ -115,14 +108,6 @@ claim_reasons : (c : Context) (kind : Kind) (i : ℕ)
 unfolding reason_against
 claim_reasons c kind i = refl
 
-own_kind : (k : Kind) → same_kind k k ≡ true
-own_kind Full = refl
-own_kind Semi = refl
-
-bad_one : (p : Bool) → p ≡ true → not (p && true) ≡ false
-bad_one true h = refl
-bad_one false h = absurd (false≢true h)
-
 claim_clear : (e : PlayerBoard) (given : List ScopedEntry) (a : Entry) (i : ℕ) → IsBetween a (edge_element e false) (edge_element e true) → slice_get given i ≡ Some (unscoped a)
     → reason_against (over e given) (claim a.kind i) ≡ None
 claim_clear e given a i h q =
@@ -134,7 +119,7 @@ claim_clear e given a i h q =
     let at = entry_over e given i (unscoped a) q in
     let own : (a.x == edge_element e false && a.y == edge_element e true) ≡ true = and_from (a.x == 0) (a.y == x) (eq-eqb a.x 0 (omega arith)) (eq-eqb a.y x (omega arith)) in
     claim_reasons c a.kind i
-    ∙ told_next (is_bad_reference c s) bad_reference _ (ap (λ o. not (may_take s o && true)) at ∙ bad_one (same_kind a.kind a.kind && true) (and_from (same_kind a.kind a.kind) true (own_kind a.kind) refl))
+    ∙ told_next (is_bad_reference c s) bad_reference _ (ap (λ o. not (may_take s o && true)) at ∙ bad_one (same_kind a.kind a.kind && true) (and_from (same_kind a.kind a.kind) true (kinds_match a.kind) refl))
     (told_next (is_wrong_scope c s) wrong_scope _ (ap (λ o. not (list_all (λ v. v.scope == 0) (cons_option o []))) at)
     (told_next (is_no_edge_entry c s) not_edges _ (ap (λ o. not (list_all (is_edge_entry e) (cons_option o []))) at
     ∙ bad_one (is_edge_entry e (unscoped a)) (ap (λ v. a.x == edge_element v false && a.y == edge_element v true) (unscoped_board e) ∙ own)) refl))

@@ -9,7 +9,7 @@ use Rattle.hex_board.specs.Elements.{PlayerBoard, are_joined, edge_element, edge
 use Rattle.hex_board.specs.Joined.{Joined, Path, last_of}
 use Rattle.hex_board.specs.Places.{Place, at_cell, at_edge, IsMember, Route, last_place}
 use Rattle.hex_board.specs.Positions.{is_empty_at, stones_of}
-use Rattle.hex_board.proofs.Parts.{edge_below, of_free, some_same}
+use Rattle.hex_board.proofs.Parts.{edge_below, of_free, some_same, high_edge}
 use Rattle.hex_board.proofs.Search.{joined_out}
 use Rattle.conn_store.specs.Entries.{AllEmpty, Misses}
 use Rattle.conn_store.specs.Laws.{IsSubset}
@@ -20,8 +20,9 @@ use Rattle.conn_store.proofs.Sureness.{sure_more, without_keeps}
 use Rattle.conn_store.proofs.Ways.{linked_kept}
 use Rattle.win_cert.proofs.LinksOn.{links_join}
 use Rattle.win_cert.specs.Scopes.{elements_in}
-use Rattle.win_cert.proofs.GoodEntries.{IsGood, concluded, empty_more, good_linked}
+use Rattle.win_cert.proofs.GoodEntries.{IsGood, concluded, good_linked}
 use Rattle.win_cert.proofs.ScopeBoards.{IsSmallBoard, scope_fewer, scope_more, scope_size}
+use Rattle.conn_store.proofs.Chains.{empty_more}
 
 -- the entry of the player's edges
 abbrev pub IsGoodOfEdges : PlayerBoard → Kind → ℕ → Type 0
@@ -51,11 +52,8 @@ good_done e m h = good_linked e (edge_element e false) (edge_element e true) m
 
 -- ---- no empty cell is in the element of an edge
 
-far : (b x v : ℕ) → v < b → v ≡ b + x → ⊥
-far b x v h e = absurd (omega arith)
-
 pub edge_misses : (e : PlayerBoard) (second : Bool) (c : ℕ) → AllEmpty e.board c → Misses e (edge_element e second) c
-edge_misses e second c f k h i = far (edge_elements e) (count_by (is_head e) (range_with_len 0 k)) (edge_element e second) (edge_below e second)
+edge_misses e second c f k h i = high_edge (edge_elements e) (count_by (is_head e) (range_with_len 0 k)) (edge_element e second) (edge_below e second)
     (some_same (edge_element e second) (head_element e k) (sym h ∙ of_free e k (f k i)))
 
 -- ---- after a stone of his

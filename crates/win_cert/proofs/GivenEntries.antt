@@ -22,12 +22,12 @@ small_board cert h = h.most
 
 -- ---- no reason against a line, or the claim
 
-at_left : {X : Type 0} (xs ys : List X) (i : ℕ) (x : X) → slice_get xs i ≡ Some x → slice_get (xs ++ ys) i ≡ Some x
+pub at_left : {X : Type 0} (xs ys : List X) (i : ℕ) (x : X) → slice_get xs i ≡ Some x → slice_get (xs ++ ys) i ≡ Some x
 at_left [] ys i x h = absurd (cc)
 at_left (y ∷ xs) ys zero x h = h
 at_left (y ∷ xs) ys (suc i) x h = at_left xs ys i x h
 
-at_claim : (lines : List Line) (s : Statement) → slice_get (map derivation lines ++ s ∷ []) (length lines) ≡ Some s
+pub at_claim : (lines : List Line) (s : Statement) → slice_get (map derivation lines ++ s ∷ []) (length lines) ≡ Some s
 at_claim [] s = refl
 at_claim (line ∷ lines) s = at_claim lines s
 

@@ -17,8 +17,8 @@ use Rattle.conn_store.specs.Rules.{IsCell, IsGroup}
 use Rattle.conn_store.specs.Truth.{IsSure, IsSureIn}
 use Rattle.conn_store.specs.declared.entries.Kind.{Kind}
 use Rattle.conn_store.specs.declared.entries.Kind.TheVariants.{Full, Semi}
-use Rattle.conn_store.proofs.Chains.{empty_both, misses_both}
-use Rattle.conn_store.proofs.Sureness.{Disjoint, IsKept, same, sure_both, sure_more, sure_over, sure_trimmed, sure_wider, union_left, union_right, without_keeps}
+use Rattle.conn_store.proofs.Chains.{empty_both, misses_both, misses_more, empty_more}
+use Rattle.conn_store.proofs.Sureness.{Disjoint, IsKept, same, sure_both, sure_more, sure_over, sure_trimmed, sure_wider, union_left, union_right, without_keeps, kept_out}
 use Rattle.conn_store.proofs.Ways.{linked_back, linked_kept, near_linked}
 use Rattle.win_cert.proofs.LinksOn.{cell_links, group_links}
 use Rattle.win_cert.proofs.ScopeBoards.{IsSmallBoard, empty_small}
@@ -90,15 +90,6 @@ good_group e x u y a b m g h d mx my r = record {
       g.holds h.holds);
 }
 
-misses_more : (e : PlayerBoard) (x u c k : ℕ) → Misses e x c → HasCell e u k → (x ≡ u → ⊥) → Misses e x (with_cell c k)
-misses_more e x u c k f g n j h i = elim (with_cell-cases c k j i) [
-  | inl o ↦ f j h o
-  | inr o ↦ n (some_same x u (sym h ∙ subst (λ v. HasCell e u v) (sym o) g))
-]
-
-pub empty_more : (e : PlayerBoard) (c k : ℕ) → AllEmpty e.board c → is_empty_at e.board k ≡ true → AllEmpty e.board (with_cell c k)
-empty_more e c k f g j h = elim (with_cell-cases c k j h) [ inl o ↦ f j o | inr o ↦ subst (λ v. is_empty_at e.board v ≡ true) (sym o) g ]
-
 -- the middle is an empty cell
 pub good_cell : (e : PlayerBoard) (x u y a b k : ℕ) → IsSmallBoard e → IsGood e Full x u a → IsGood e Full u y b → Disjoint a b → Misses e x b → Misses e y a → IsCell e u k
     → (x ≡ u → ⊥) → (y ≡ u → ⊥) → IsGood e Semi x y (with_cell (bit_or a b) k)
@@ -117,10 +108,6 @@ good_cell e x u y a b k m g h d mx my r nx ny =
     }
 
 -- ---- cases
-
--- a set inside c without cell k
-kept_out : (b c k : ℕ) → IsSubset b c → has b k ≡ false → IsSubset b (without_cell c k)
-kept_out b c k i n j h = without_keeps c k j (i j h) (λ e. both_ways (has b k) n (subst (λ v. has b v ≡ true) e h))
 
 -- a carrier inside c, without cell k, in which the player is sure of the goal if he places first
 abbrev pub Leaves : (ℕ → Type 0) → ℕ → ℕ → ℕ → Type 0

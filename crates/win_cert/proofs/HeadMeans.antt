@@ -17,8 +17,9 @@ use Rattle.win_cert.specs.declared.heads.Head.{Head}
 use Rattle.win_cert.specs.declared.refusals.CertError.{CertError}
 use Rattle.win_cert.proofs.CellLists.{apart_of}
 use Rattle.win_cert.proofs.CellSets.{cells_mean}
-use Rattle.win_cert.proofs.Options.{both_true, leb_says, some_of_if, some_of_map, some_of_test, some_of_then}
+use Rattle.win_cert.proofs.Options.{both_true, leb_says, some_of_map, some_of_test, some_of_then}
 use Rattle.win_cert.proofs.WordParts.{Words, after_means, alone_means, number_means}
+use Rattle.std.proofs.lemmas.Option.{cond_some}
 
 abbrev pub TextLines : Type 0
 TextLines = List Words
@@ -116,7 +117,7 @@ stones_mean name n taken words s e =
     let test = λ (s : ℕ). cond (eqb (bit_and s taken) 0) (Some s) None in
     let rest = some_of_then (λ rest. option_and_then test (set_named n 0 0 rest)) (after_word name words) s e in
     let cells = some_of_then test (set_named n 0 0 rest.0) s rest.2 in
-    let free = some_of_if (eqb (bit_and cells.0 taken) 0) cells.0 s cells.2 in
+    let free = cond_some (eqb (bit_and cells.0 taken) 0) cells.0 s cells.2 in
     let means = cells_mean n rest.0 cells.0 cells.1 in
     record {
       on_board = subst (Within n) free.1 means.0;

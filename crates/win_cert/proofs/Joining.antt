@@ -19,7 +19,7 @@ pub joined_after : (text word : List ℕ) (words : List (List ℕ))
     → (text ++ word) ++ after_spaces words ≡ text ++ join_with_byte space (word ∷ words)
 joined_after text word words = append_assoc text word (after_spaces words) ∙ ap (λ t. text ++ t) (sym (joined word words))
 
-range_more : (k : ℕ) → range_with_len 0 (k + 1) ≡ range_with_len 0 k ++ k ∷ []
+pub range_more : (k : ℕ) → range_with_len 0 (k + 1) ≡ range_with_len 0 k ++ k ∷ []
 range_more k = sym (map-id (range_with_len 0 (k + 1))) ∙ map-range_with_len_more (λ i. i) 0 k k (omega arith)
     ∙ ap (λ xs. xs ++ k ∷ []) (map-id (range_with_len 0 k))
 

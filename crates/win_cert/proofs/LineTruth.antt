@@ -7,7 +7,7 @@ use Rattle.hex_cells.specs.Sets.{with_cell}
 use Rattle.hex_board.specs.Elements.{PlayerBoard, are_joined, edge_element}
 use Rattle.hex_board.specs.Places.{Place, Near, are_beside, is_member, is_near, places_of}
 use Rattle.hex_board.specs.Positions.{is_empty_at}
-use Rattle.hex_board.proofs.Places.{beside_out, member_out, place_out}
+use Rattle.hex_board.proofs.Places.{beside_out, member_out, place_out, near_out}
 use Rattle.conn_store.specs.declared.entries.Kind.TheVariants.{Full, Semi}
 use Rattle.win_cert.specs.Entries.{Context, ScopedEntry, adj_entry, carriers_of, edge_entry, elements_at, end_element, entries_at, entry_between, gives, move_entry}
 use Rattle.win_cert.specs.Reasons.{Reason, applies, bad_stone, carriers_meet, common_cell, end_in_carrier, ends_differ, middle_kind, not_edges, not_joined, not_neighbours}
@@ -23,24 +23,6 @@ use Rattle.win_cert.proofs.NamedEntries.{Each, GaveGood, IsGoodEntry, IsLineTake
 use Rattle.win_cert.proofs.ScopeBoards.{IsSmallBoard, scope_small}
 
 -- ---- `adj`
-
-near_out : (e : PlayerBoard) (x y : ℕ) → is_near e x y ≡ true → Near e x y
-near_out e x y h =
-    let size = e.board.size in
-    let from : Place → Bool = λ r. is_member e x r && list_any (λ s. is_member e y s && are_beside size e.player r s) (places_of size) in
-    let t = and_parts (not (x == y)) (list_any from (places_of size)) h in
-    let p = place_out from size t.1 in
-    let next : Place → Bool = λ s. is_member e y s && are_beside size e.player p.0 s in
-    let u = and_parts (is_member e x p.0) (list_any next (places_of size)) p.1 in
-    let q = place_out next size u.1 in
-    let v = and_parts (is_member e y q.0) (are_beside size e.player p.0 q.0) q.1 in (
-      λ z. both_ways (x == y) (not-true (x == y) t.0) (eq-eqb x y z),
-      p.0,
-      q.0,
-      member_out e x p.0 u.0,
-      member_out e y q.0 v.0,
-      beside_out size e.player p.0 q.0 v.1,
-    )
 
 adj_good : (c : Context) (o p : Option ℕ) (r : ScopedEntry) → IsSmallBoard (elements_at c) → are_near (elements_at c) o p ≡ true → adj_entry c o p ≡ Some r → IsGoodEntry c.base r
 adj_good c (Some x) (Some y) r m h e = given_is c (entry_between c Full x y 0) r e

@@ -12,7 +12,7 @@ use Rattle.conn_store.specs.Laws.{IsSubset}
 use Rattle.conn_store.specs.Links.{MayPass, StonesLink}
 use Rattle.conn_store.specs.Rules.{IsCell, IsGroup}
 use Rattle.conn_store.proofs.Edges.{linked_joins}
-use Rattle.conn_store.proofs.Ways.{linked_cell, linked_group}
+use Rattle.conn_store.proofs.Ways.{linked_cell, linked_group, route_as}
 use Rattle.win_cert.proofs.SameTests.{find_same}
 use Rattle.win_cert.proofs.StonesOn.{edge_same, element_same, empty_same, on_board, own_inside, own_within}
 
@@ -43,10 +43,6 @@ pass_off e x y s (at_cell k) (inl h) = inl h
 pass_off e x y s (at_cell k) (inr (inl h)) = inr (inl (cell_off e x k h))
 pass_off e x y s (at_cell k) (inr (inr h)) = inr (inr (cell_off e y k h))
 pass_off e x y s (at_edge second) h = tt
-
-route_as : (n : ℕ) (c : Colour) (P Q : Place → Type 0) (p : Place) (ps : List Place) → ((q : Place) → P q → Q q) → Route n c P p ps → Route n c Q p ps
-route_as n c P Q p [] f w = f p w
-route_as n c P Q p (q ∷ qs) f w = (f p w.0, w.1, route_as n c P Q q qs f w.2)
 
 link_on : (e : PlayerBoard) (x y s : ℕ) → StonesLink e x y s → StonesLink (on_board e) x y s
 link_on e x y s l = (

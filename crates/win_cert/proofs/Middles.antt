@@ -43,11 +43,11 @@ middle_ends a b u h = elim (pick (is_end b a.x) (is_end b a.y) a.x a.y u h) [
   | inr p ↦ (inr p.1, subst (λ v. IsEndOf b v) p.1 (end_of b a.y p.0))
 ]
 
-if_yes : (b : Bool) (x y : ℕ) → b ≡ true → (if b then x else y) ≡ x
+pub if_yes : (b : Bool) (x y : ℕ) → b ≡ true → (if b then x else y) ≡ x
 if_yes true x y h = refl
 if_yes false x y h = absurd (false≢true h)
 
-if_no : (b : Bool) (x y : ℕ) → b ≡ false → (if b then x else y) ≡ y
+pub if_no : (b : Bool) (x y : ℕ) → b ≡ false → (if b then x else y) ≡ y
 if_no true x y h = absurd (false≢true (sym h))
 if_no false x y h = refl
 

@@ -12,6 +12,7 @@ use Rattle.win_cert.specs.Reasons.{Reason, applies, bad_reference, bad_stone, ca
 use Rattle.win_cert.specs.Scopes.{elements_in}
 use Rattle.win_cert.specs.Statements.{Statement, entries_named, is_chain, is_or, kind_taken, may_take, numbers_in, scope_taken}
 use Rattle.win_cert.proofs.GoodEntries.{IsGood}
+use Rattle.conn_store.proofs.Tables.{kinds_are}
 
 -- ---- no reason
 
@@ -78,19 +79,13 @@ pub record IsLineTaken (c : Context) (s : Statement) (a : ScopedEntry) : Type 0 
   pub scope_is : a.scope ≡ scope_taken c s
   pub good : IsGoodEntry c.base a
 
-kinds : (k l : Kind) → same_kind k l ≡ true → k ≡ l
-kinds Full Full h = refl
-kinds Full Semi h = absurd (false≢true h)
-kinds Semi Full h = absurd (false≢true h)
-kinds Semi Semi h = refl
-
 named_one : (c : Context) (s : Statement) (i : ℕ) (o : Option ScopedEntry) (rest : List ScopedEntry) → entry_at c i ≡ o → may_take s o ≡ true → Each (IsNamed c s) rest
     → Each (IsNamed c s) (cons_option o rest)
 named_one c s i None rest e h f = absurd (false≢true h)
 named_one c s i (Some a) rest e h f =
     let t = and_parts (same_kind a.kind (kind_taken s)) (not ((is_chain s || is_or s) && a.x == a.y)) h in (
       record {
-        kind_is = kinds a.kind (kind_taken s) t.0;
+        kind_is = kinds_are a.kind (kind_taken s) t.0;
         differ = λ u q. both_ways ((is_chain s || is_or s) && a.x == a.y) (not-true ((is_chain s || is_or s) && a.x == a.y) t.1)
             (and_from (is_chain s || is_or s) (a.x == a.y) u (eq-eqb a.x a.y q));
         given = (i, e);

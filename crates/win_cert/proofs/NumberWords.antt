@@ -11,14 +11,15 @@ use Rattle.std.proofs.lemmas.Slice.Eq.{bytes_eq-Decides}
 use Rattle.std.proofs.lemmas.Str.Parse.{numerals_by_value, tells_digits}
 use Rattle.win_cert.specs.Named.{number_named}
 use Rattle.win_cert.specs.declared.lines.TheConstants.{MOST_NUMBER}
-use Rattle.win_cert.proofs.Options.{both_true, some_of_if}
+use Rattle.win_cert.proofs.Options.{both_true}
+use Rattle.std.proofs.lemmas.Option.{cond_some}
 
 -- a number that is named is what its word is
 pub named_means : (word : List ℕ) (i : ℕ) → number_named word ≡ Some i → (i ≤ MOST_NUMBER) × (word ≡ decimal i)
 unfolding number_named
 named_means word i e =
     let v = digits_value 10 word in
-    let found = some_of_if (bytes_eq word (decimal v) && leb v MOST_NUMBER) v i e in
+    let found = cond_some (bytes_eq word (decimal v) && leb v MOST_NUMBER) v i e in
     let both = both_true (bytes_eq word (decimal v)) (leb v MOST_NUMBER) found.0 in
     let same : v ≡ i = found.1 in
     let low : v ≤ MOST_NUMBER = grind (arith, nat_tests) in

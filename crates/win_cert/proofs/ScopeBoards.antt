@@ -9,7 +9,7 @@ use Rattle.hex_cells.proofs.Tables.{board_cell}
 use Rattle.hex_cells.proofs.WithCell.{with_cell-cases, with_cell-here, with_cell-keeps}
 use Rattle.hex_board.specs.Elements.{PlayerBoard}
 use Rattle.hex_board.specs.Positions.{Position, is_empty_at, stones_of}
-use Rattle.hex_board.proofs.Placed.{empty_on}
+use Rattle.hex_board.proofs.Placed.{empty_on, less_black, less_white}
 use Rattle.conn_store.specs.Entries.{AllEmpty}
 use Rattle.conn_store.specs.Laws.{IsSubset}
 use Rattle.win_cert.specs.Scopes.{elements_in, with_stones}
@@ -31,12 +31,6 @@ scope_size p White s = refl
 pub scope_own : (p : Position) (c : Colour) (s k : ℕ) → has (stones_of (with_stones p c s) c) k ≡ (has (stones_of p c) k || has s k)
 scope_own p Black s k = has_or p.black s k
 scope_own p White s k = has_or p.white s k
-
-less_black : (a b w s : Bool) → ((a && not (b || s)) && not w) ≡ (((a && not b) && not w) && not s)
-less_black a b w s = grind arith
-
-less_white : (a b w s : Bool) → ((a && not b) && not (w || s)) ≡ (((a && not b) && not w) && not s)
-less_white a b w s = grind arith
 
 -- and the other cells are as they were
 pub scope_leaves : (p : Position) (c : Colour) (s k : ℕ) → is_empty_at (with_stones p c s) k ≡ (is_empty_at p k && not (has s k))

@@ -21,8 +21,9 @@ use Rattle.win_cert.specs.declared.steps.Keyword.TheVariants as keyword
 use Rattle.win_cert.specs.declared.steps.Step.{Step}
 use Rattle.win_cert.specs.declared.steps.Step.TheVariants as step
 use Rattle.win_cert.proofs.CellSets.{cells_mean}
-use Rattle.win_cert.proofs.Options.{both_true, leb_says, some_of_if, some_of_map, some_of_test, some_of_then}
+use Rattle.win_cert.proofs.Options.{both_true, leb_says, some_of_map, some_of_test, some_of_then}
 use Rattle.win_cert.proofs.WordParts.{Words, alone_means, cell_first_means, end_first_means, number_means, numbers_means}
+use Rattle.std.proofs.lemmas.Option.{cond_some}
 
 -- ---- keywords
 
@@ -187,7 +188,7 @@ cases_means : (v n : ℕ) (words : Words) (s : Step) → v ≡ LATEST_VERSION �
 cases_means v n words s latest e =
     let p = some_of_then (λ (numbers : List ℕ). cond (leb LEAST_CASES (length numbers) && leb (length numbers) MOST_CASES) (Some (step.Line (Cases numbers))) None)
     (numbers_named words) s e in
-    let q = some_of_if (leb LEAST_CASES (length p.0) && leb (length p.0) MOST_CASES) (step.Line (Cases p.0)) s p.2 in
+    let q = cond_some (leb LEAST_CASES (length p.0) && leb (length p.0) MOST_CASES) (step.Line (Cases p.0)) s p.2 in
     let both = both_true (leb LEAST_CASES (length p.0)) (leb (length p.0) MOST_CASES) q.0 in
     let numbers = numbers_means words p.0 p.1 in
     subst (Means v n (codes "cases") words) q.1 (

@@ -19,7 +19,8 @@ use Rattle.win_cert.specs.declared.lines.End.TheVariants.{At, First, Second}
 use Rattle.win_cert.specs.declared.lines.TheConstants.{MOST_NUMBER}
 use Rattle.win_cert.proofs.CellWords.{cell_back, cell_means}
 use Rattle.win_cert.proofs.NumberWords.{named_back, named_means}
-use Rattle.win_cert.proofs.Options.{some_of_if, some_of_map, some_of_then}
+use Rattle.win_cert.proofs.Options.{some_of_map, some_of_then}
+use Rattle.std.proofs.lemmas.Option.{cond_some}
 
 abbrev pub Words : Type 0
 Words = List (List ℕ)
@@ -38,7 +39,7 @@ after_back name words = ap (λ b. cond b (Some words) None) ((bytes_eq-Decides n
 pub after_means : (name : List ℕ) (words rest : Words) → after_word name words ≡ Some rest → words ≡ name ∷ rest
 after_means name [] rest e = cc
 after_means name (word ∷ words) rest e =
-    let found = some_of_if (bytes_eq word name) words rest e in
+    let found = cond_some (bytes_eq word name) words rest e in
     ap (λ w. w ∷ words) ((bytes_eq-Decides word name).0 found.0) ∙ ap (λ ws. name ∷ ws) found.1
 
 -- ---- numbers

@@ -71,7 +71,7 @@ link-bare r (b ∷ bs) x g e = ⊎_elim
     (λ (t : (b.parent == x) ≡ false). bare-snoc b (oldest_first bs) x (link-bare r bs x g.1 (sym (ap (λ (u : Bool). cond u b.start (link_of bs x)) t) ∙ e)) t)
     (cases_Bool (b.parent == x))
 
-names-snoc : (n : LinkedBlock) (os : List LinkedBlock) (x : ℕ) (b : LinkedBlock) → Names os x b → Names (os ++ n ∷ []) x b
+pub names-snoc : (n : LinkedBlock) (os : List LinkedBlock) (x : ℕ) (b : LinkedBlock) → Names os x b → Names (os ++ n ∷ []) x b
 names-snoc n [] x b h = absurd h
 names-snoc n (c ∷ os) x b h = ⊎_elim (λ (u : (c ≡ b) × (b.parent ≡ x)). inl u) (λ (u : ((c.parent == x) ≡ false) × Names os x b). inr (u.0, names-snoc n os x b u.1)) h
 

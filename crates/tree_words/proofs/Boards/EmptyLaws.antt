@@ -51,7 +51,7 @@ pub cell-of-move : (i c : ℕ) → c < 256 → cell_in (move_word i c) ≡ c
 cell-of-move i c l = omega arith
 
 -- how many cells below n the set has
-members-listed : (set n : ℕ) → members set n ≡ length (filter (has_cell set) (range_with_len 0 n))
+pub members-listed : (set n : ℕ) → members set n ≡ length (filter (has_cell set) (range_with_len 0 n))
 unfolding members
 members-listed set zero = refl
 members-listed set (suc n) = omega (arith, members-listed set n, ap length (filter_more (has_cell set) 0 n n (omega arith)), length-append (filter (has_cell set) (range_with_len 0 n)) (cond (has_cell set n) (n ∷ []) []), one (has_cell set n) n)

@@ -6,20 +6,12 @@ use Rattle.hex_cells.specs.Sets.{has as has_cell}
 use Rattle.walker.specs.Places.{ArePlaces}
 use Rattle.walker.proofs.HoleLaws.{AreParts, taken-none, hole-at, taken-one, taken-all, same-below}
 use Rattle.walker.proofs.climbs.places.Goals as goal
-
-lt-yes : (a b : ℕ) → a < b → nat_lt a b ≡ true
-lt-yes a b l = grind (arith, nat_tests)
-
-lt-no : (a b : ℕ) → b ≤ a → nat_lt a b ≡ false
-lt-no a b l = grind (arith, nat_tests)
+use Rattle.walker.proofs.MemberLaws.{lt-yes, lt-no}
+use Rattle.std.proofs.lemmas.Bool.{and_right}
 
 true-and : (a b : Bool) → b ≡ true → (a && b) ≡ a
 true-and true b e = e
 true-and false b e = refl
-
-false-and : (a b : Bool) → b ≡ false → (a && b) ≡ false
-false-and true b e = e
-false-and false b e = refl
 
 and-not : (t a : Bool) → t ≡ true → (t && not a) ≡ not a
 and-not true a e = refl
@@ -33,7 +25,7 @@ holes-init c =
     let hole : (k : ℕ) → has_cell c.minus-holes.result k ≡ (nat_lt k n && not (has_cell cells k)) = λ k. c.minus-holes.ensures.items k ∙ ap (λ (b : Bool). b && not (has_cell cells k)) (c.all-all.ensures.items k) in
     let parts : AreParts cells c.minus-holes.result n = record {
       here = λ k l. hole k ∙ and-not (nat_lt k n) (has_cell cells k) (lt-yes k n l);
-      far = λ k l. (hole k ∙ ap (λ (b : Bool). b && not (has_cell cells k)) (lt-no k n l), cell k ∙ false-and (has_cell c.args.cells k) (nat_lt k n) (lt-no k n l));
+      far = λ k l. (hole k ∙ ap (λ (b : Bool). b && not (has_cell cells k)) (lt-no k n l), cell k ∙ and_right (has_cell c.args.cells k) (nat_lt k n) (lt-no k n l));
     } in (
       0,
       cells,

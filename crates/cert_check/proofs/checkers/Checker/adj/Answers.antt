@@ -1,5 +1,5 @@
 use Rattle.std.proofs.Common.{◌≡◌, ℕ, Bool, true, false, ◌||◌, ◌↔◌, not, Option, Some, None, refl, ap, sym, ◌∙◌}
-use Rattle.std.proofs.lemmas.Bool.{false_from_ne_true}
+use Rattle.std.proofs.lemmas.Bool.{false_from_ne_true, or_from, or_right}
 use Rattle.hex_board.specs.Places.{is_near}
 use Rattle.conn_store.specs.declared.entries.Kind.TheVariants.{Full}
 use Rattle.win_cert.specs.Entries.{adj_entry, elements_at, end_element, entry_between}
@@ -9,13 +9,6 @@ use Rattle.cert_check.proofs.checkers.Checker.adj.Goals as goal
 
 own : (o : Option ℕ) (a : ℕ) (b : Bool) → o ≡ Some a → ((o ≡ None) ↔ (b ≡ true)) → b ≡ false
 own o a b e h = false_from_ne_true b (λ t. absurd (cc (e, h.1 t)))
-
-or_right : (a b : Bool) → b ≡ true → (a || b) ≡ true
-or_right true b h = refl
-or_right false b h = h
-
-or_none : (a b : Bool) → a ≡ false → b ≡ false → (a || b) ≡ false
-or_none a b h e = ap (λ t. t || b) h ∙ e
 
 pub returns-in_default : goal.returns-in_default
 returns-in_default c =
@@ -36,7 +29,7 @@ returns-then-not-near c =
     let x = sym c.element.ensures.value ∙ c.in-Some.is in
     let y = sym c.element-2.ensures.value ∙ c.in-Some-element.is in
     adj_reasons now c.args.x c.args.y
-    ∙ told_next _ _ _ _ (or_none (is_other_stone (elements_at now) c.args.x) (is_other_stone (elements_at now) c.args.y)
+    ∙ told_next _ _ _ _ (or_from (is_other_stone (elements_at now) c.args.x) (is_other_stone (elements_at now) c.args.y)
     (own c.element.result c.in-Some.a _ c.in-Some.is c.element.ensures.other)
     (own c.element-2.result c.in-Some-element.b _ c.in-Some-element.is c.element-2.ensures.other))
     (told_first _ _ _ (ap (λ o. not (are_near (elements_at now) o (end_element (elements_at now) c.args.y))) x
@@ -50,7 +43,7 @@ returns c =
     let x = sym c.element.ensures.value ∙ c.in-Some.is in
     let y = sym c.element-2.ensures.value ∙ c.in-Some-element.is in (
       adj_reasons now c.args.x c.args.y
-          ∙ told_next _ _ _ _ (or_none (is_other_stone (elements_at now) c.args.x) (is_other_stone (elements_at now) c.args.y)
+          ∙ told_next _ _ _ _ (or_from (is_other_stone (elements_at now) c.args.x) (is_other_stone (elements_at now) c.args.y)
           (own c.element.result c.in-Some.a _ c.in-Some.is c.element.ensures.other)
           (own c.element-2.result c.in-Some-element.b _ c.in-Some-element.is c.element-2.ensures.other))
           (told_next _ _ _ _ (ap (λ o. not (are_near (elements_at now) o (end_element (elements_at now) c.args.y))) x

@@ -5,9 +5,10 @@ use Rattle.std.specs.Option.{IfSome}
 use Rattle.win_cert.specs.Entries.{entries_at}
 use Rattle.win_cert.specs.Statements.{derivation}
 use Rattle.cert_check.specs.Keeping.{IsGivenOn, chain_line, entry_of}
-use Rattle.cert_check.proofs.ChainReasons.{chain_bad, chain_scopes, chain_takes, two_named, two_scopes}
+use Rattle.cert_check.proofs.ChainReasons.{chain_bad, chain_scopes, chain_takes, two_scopes}
 use Rattle.cert_check.proofs.ReasonLaws.{chain_reasons, missing, missing_next, told_first, told_next}
 use Rattle.cert_check.proofs.checkers.Checker.chain.Goals as goal
+use Rattle.win_cert.proofs.CutChains.{two_at}
 
 pub returns-then-not-takes_all : goal.returns-then-not-takes_all
 returns-then-not-takes_all c =
@@ -47,7 +48,7 @@ join-requires c =
     let first = sym c.entry.ensures.value ∙ ap (option_map entry_of) c.in-Some.is in
     let second = sym c.entry-2.ensures.value ∙ ap (option_map entry_of) c.in-Some-entry.is in
     let scopes = two_scopes (entry_of c.in-Some.a) (entry_of c.in-Some-entry.b) now.scope
-    (ap (list_all (λ a. a.scope == now.scope)) (sym (two_named now c.args.i c.args.j _ _ first second)) ∙ sym scope ∙ c.if-not-are_in_scope.false) in
+    (ap (list_all (λ a. a.scope == now.scope)) (sym (two_at now c.args.i c.args.j _ _ first second)) ∙ sym scope ∙ c.if-not-are_in_scope.false) in
     record {
       named = record {
         first = first;

@@ -6,9 +6,10 @@ use Rattle.conn_store.specs.declared.entries.Kind.TheVariants.{Full, Semi}
 use Rattle.win_cert.specs.Entries.{elements_at, entry_between, other_end}
 use Rattle.win_cert.specs.Statements.{is_cell_in, share_cell}
 use Rattle.cert_check.specs.Keeping.{entry_of}
-use Rattle.cert_check.proofs.ChainReasons.{and_gives, is_wrong_middle, join_reason, key_gives, middle_below, other_below, two_named}
+use Rattle.cert_check.proofs.ChainReasons.{and_gives, is_wrong_middle, join_reason, key_gives, middle_below, other_below}
 use Rattle.cert_check.proofs.ReasonLaws.{told_first, told_next}
 use Rattle.cert_check.proofs.checkers.Checker.join.Goals as goal
+use Rattle.win_cert.proofs.CutChains.{two_at}
 
 pub returns-in_default : goal.returns-in_default
 returns-in_default c =
@@ -17,7 +18,7 @@ returns-in_default c =
     let a = entry_of c.args.a.now in
     let b = entry_of c.args.b.now in
     let n = c.requires.named in
-    let two = two_named now c.args.i c.args.j a b n.first n.second in
+    let two = two_at now c.args.i c.args.j a b n.first n.second in
     join_reason now o c.args.i c.args.j a b None two n.references n.scopes (sym c.middle.ensures ∙ c.in_default.is)
 
 pub returns-then-shares_cell : goal.returns-then-shares_cell
@@ -27,7 +28,7 @@ returns-then-shares_cell c =
     let a = entry_of c.args.a.now in
     let b = entry_of c.args.b.now in
     let n = c.requires.named in
-    let two = two_named now c.args.i c.args.j a b n.first n.second in
+    let two = two_at now c.args.i c.args.j a b n.first n.second in
     let middle = sym c.middle.ensures ∙ c.in-Some.is in
     let reason = join_reason now o c.args.i c.args.j a b (Some c.in-Some.middle) two n.references n.scopes middle in
     let share = ap share_cell (sym two) ∙ sym c.shares_cell.ensures in
@@ -58,7 +59,7 @@ returns-then-is_either_in c =
     let a = entry_of c.args.a.now in
     let b = entry_of c.args.b.now in
     let n = c.requires.named in
-    let two = two_named now c.args.i c.args.j a b n.first n.second in
+    let two = two_at now c.args.i c.args.j a b n.first n.second in
     let middle = sym c.middle.ensures ∙ c.in-Some.is in
     let reason = join_reason now o c.args.i c.args.j a b (Some c.in-Some.middle) two n.references n.scopes middle in
     let share = ap share_cell (sym two) ∙ sym c.shares_cell.ensures in
@@ -81,7 +82,7 @@ returns-then-over_cell c =
     let a = entry_of c.args.a.now in
     let b = entry_of c.args.b.now in
     let n = c.requires.named in
-    let two = two_named now c.args.i c.args.j a b n.first n.second in
+    let two = two_at now c.args.i c.args.j a b n.first n.second in
     let middle = sym c.middle.ensures ∙ c.in-Some.is in
     let reason = join_reason now o c.args.i c.args.j a b (Some c.in-Some.middle) two n.references n.scopes middle in
     let share = ap share_cell (sym two) ∙ sym c.shares_cell.ensures in
@@ -109,7 +110,7 @@ returns-else-over_cell c =
     let a = entry_of c.args.a.now in
     let b = entry_of c.args.b.now in
     let n = c.requires.named in
-    let two = two_named now c.args.i c.args.j a b n.first n.second in
+    let two = two_at now c.args.i c.args.j a b n.first n.second in
     let middle = sym c.middle.ensures ∙ c.in-Some.is in
     let reason = join_reason now o c.args.i c.args.j a b (Some c.in-Some.middle) two n.references n.scopes middle in
     let share = ap share_cell (sym two) ∙ sym c.shares_cell.ensures in
@@ -128,7 +129,7 @@ returns-then-over_cell-2 c =
     let a = entry_of c.args.a.now in
     let b = entry_of c.args.b.now in
     let n = c.requires.named in
-    let two = two_named now c.args.i c.args.j a b n.first n.second in
+    let two = two_at now c.args.i c.args.j a b n.first n.second in
     let middle = sym c.middle.ensures ∙ c.in-Some.is in
     let reason = join_reason now o c.args.i c.args.j a b (Some c.in-Some.middle) two n.references n.scopes middle in
     let share = ap share_cell (sym two) ∙ sym c.shares_cell.ensures in
@@ -147,7 +148,7 @@ returns-else-over_cell-2 c =
     let a = entry_of c.args.a.now in
     let b = entry_of c.args.b.now in
     let n = c.requires.named in
-    let two = two_named now c.args.i c.args.j a b n.first n.second in
+    let two = two_at now c.args.i c.args.j a b n.first n.second in
     let middle = sym c.middle.ensures ∙ c.in-Some.is in
     let reason = join_reason now o c.args.i c.args.j a b (Some c.in-Some.middle) two n.references n.scopes middle in
     let share = ap share_cell (sym two) ∙ sym c.shares_cell.ensures in

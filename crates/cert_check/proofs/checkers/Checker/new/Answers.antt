@@ -1,8 +1,8 @@
 use Rattle.std.proofs.Common.{◌≡◌, All, sym, ◌∙◌, ap, subst, arith}
 use Rattle.win_cert.specs.Scopes.{with_stones}
 use Rattle.cert_check.specs.Keeping.{IsGivenOnIf}
-use Rattle.cert_check.proofs.Boards.{with_none}
 use Rattle.cert_check.proofs.checkers.Checker.new.Goals as goal
+use Rattle.win_cert.proofs.CutSteps.{with_none}
 
 pub invariant_of-result : goal.invariant_of-result
 invariant_of-result c =
