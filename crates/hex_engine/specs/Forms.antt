@@ -1,8 +1,8 @@
 -- How arguments are spelled.
 use Rattle.std.specs.Prelude.{ℕ, ◌*◌, ◌<◌, ◌==◌, ◌&&◌, ◌||◌, not, Bool, false, List, [], ◌∷◌}
-use Rattle.std.specs.Prelude.{Option, Some, None, codes, nat_le, if◌then◌else◌}
+use Rattle.std.specs.Prelude.{Option, Some, None, codes, if◌then◌else◌}
 use Rattle.std.specs.Str.{str_eq_ignore_ascii_case}
-use Rattle.std.specs.Char.{to_ascii_lowercase}
+use Rattle.std.specs.Char.{is_ascii_alphabetic}
 use Rattle.htp_line.specs.Reading.{number_of, is_digit}
 use Rattle.hex_cells.specs.Vertices.{vertex_cell}
 use Rattle.hex_cells.specs.declared.colours.Colour.{Colour}
@@ -26,10 +26,6 @@ abbrev pub colour_of : List ℕ → Option Colour
 colour_of word =
     if names_black word then Some Black else if names_white word then Some White else None
 
--- the byte is a letter, in either case
-abbrev pub is_letter : ℕ → Bool
-is_letter b = nat_le 97 (to_ascii_lowercase b) && nat_le (to_ascii_lowercase b) 122
-
 -- a digit but 0
 abbrev pub is_first_digit_of : ℕ → Bool
 is_first_digit_of b = is_digit b && not (b == 48)
@@ -41,10 +37,10 @@ is_row (d ∷ []) = is_first_digit_of d
 is_row (d ∷ e ∷ []) = is_first_digit_of d && is_digit e
 is_row (d ∷ e ∷ f ∷ more) = false
 
--- a letter and a row, on the board or off it
+-- a letter, in either case, and a row, on the board or off it
 abbrev pub is_vertex : List ℕ → Bool
 is_vertex [] = false
-is_vertex (letter ∷ row) = is_letter letter && is_row row
+is_vertex (letter ∷ row) = is_ascii_alphabetic letter && is_row row
 
 -- what a vertex says, where it lies on the board or not
 abbrev pub on_board : Option ℕ → MoveWord

@@ -34,6 +34,7 @@
 mod answers;
 mod boards;
 mod commands;
+mod deciding;
 mod files;
 mod forms;
 mod moving;

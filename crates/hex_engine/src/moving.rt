@@ -1,40 +1,27 @@
 //! Turns: the command `genmove`.
 
-ghost use Rattle.std.specs.Prelude.{◌≡◌, ◌≤◌, length, true, IfOk, OnErr, Err, Some};
-ghost use Rattle.hex_cells.specs.Vertices.{vertex_of};
+ghost use Rattle.std.specs.Prelude.{◌≡◌, true, IfOk, OnErr, Err, Some};
 ghost use Rattle.hex_io.specs.Causes.{CountsFault};
 ghost use Rattle.hex_io.specs.Told.{Same};
 ghost use Rattle.hex_game.specs.Games.{IsOnBoard, board_of, is_legal, with_step};
 ghost use Rattle.hex_game.specs.Moves.{step_of};
 ghost use Rattle.hex_game.specs.declared.moves.Move.TheVariants.{Stone};
 ghost use Rattle.hex_plan.specs.Openings.{may_move};
-ghost use Rattle.hex_plan.specs.TurnTexts.{texts_of};
 ghost use Rattle.hex_engine.specs.Calls.{AnswersMove, TakesNext};
-ghost use Rattle.hex_engine.specs.MoveReplies.{is_next, moving};
+ghost use Rattle.hex_engine.specs.MoveReplies.{moving};
 ghost use Rattle.hex_engine.specs.Replies.{NoTurn};
 ghost use Rattle.hex_engine.specs.Requests.{IsBrief, TellsNoFault};
 ghost use Rattle.hex_engine.specs.Supply.{nothing_left};
-ghost use Rattle.hex_engine.specs.Uses.{IsGoodFor};
 
-use super::answers::{Answer, EngineError, Fail, Memory};
+use super::answers::{Answer, EngineError, Fail};
 use super::forms::lone_colour;
 use super::standing::Engine;
-use super::texts::vertex_text;
 use hex_cells::{Cell, Colour};
 use hex_game::Move;
-use hex_plan::{Archive, Turn, TurnTexts, may_move, plan, turn_shape, turn_texts};
+use hex_plan::{Archive, TurnTexts, may_move};
 use htp_line::Bytes;
-use search_team::{Gate, search};
+use search_team::Gate;
 use std::thread::Threads;
-
-/// A turn, with what is told of it: the texts of the commands that ask for it, and the vertex of
-/// its cell.
-#[derive(Drop)]
-struct Prepared {
-    turn: Turn,
-    texts: TurnTexts,
-    vertex: Bytes,
-}
 
 impl Engine {
     /// `genmove`, with a colour.
@@ -115,56 +102,5 @@ impl Engine {
         self.game.play(colour, Move::Stone(cell)).unwrap();
         self.turns = turns;
         self.last = Some(texts);
-    }
-
-    /// The next turn, with what is told of it.
-    fn prepare<R: Threads + Sync, G: Gate + Sync>(
-        &self,
-        rt: &R,
-        colour: Colour,
-        gate: &G,
-    ) -> Result<Prepared, Memory>
-        requires { may_move (board_of self.now.game) ≡ true }
-        ensures good { IfOk result (λ next. IsGoodFor self.now.options next.turn) }
-        ensures next { IfOk result (λ next. is_next self.now colour next.turn ≡ true) }
-        ensures texts { IfOk result (λ next. next.texts ≡ texts_of next.turn) }
-        ensures vertex { IfOk result (λ next.
-            next.vertex ≡ vertex_of (board_of self.now.game).size next.turn.cell) }
-        ensures length { IfOk result (λ next. length next.vertex ≤ 3) }
-    {
-        let turn = self.decide(rt, colour, gate)?;
-        let texts = turn_texts(self.alloc, &turn)?;
-        let vertex = vertex_text(self.alloc, turn.cell(), turn.board().size())?;
-        Ok(Prepared {
-            turn,
-            texts,
-            vertex,
-        })
-    }
-
-    /// The next turn, of the board with this colour to move: it is planned, and where the plan is
-    /// no win, searched among the allowed cells.
-    fn decide<R: Threads + Sync, G: Gate + Sync>(
-        &self,
-        rt: &R,
-        colour: Colour,
-        gate: &G,
-    ) -> Result<Turn, Memory>
-        requires { may_move (board_of self.now.game) ≡ true }
-        ensures good { IfOk result (IsGoodFor self.now.options) }
-        ensures next { IfOk result (λ turn. is_next self.now colour turn ≡ true) }
-    {
-        let board = self.game.board();
-        let Ok(planned) = plan(self.alloc, board, colour, self.options.hsearch) else {
-            return Err(Memory);
-        };
-        let Some(allowed) = planned.allowed() else {
-            return Ok(Turn::won(board, colour, self.turns, planned));
-        };
-        let shape = turn_shape(board, colour, allowed, &self.options.knobs, self.turns);
-        let Ok(closed) = search(rt, self.alloc, &shape, gate) else {
-            return Err(Memory);
-        };
-        Ok(Turn::searched(closed, self.turns, planned))
     }
 }

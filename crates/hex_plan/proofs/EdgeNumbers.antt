@@ -1,5 +1,5 @@
 -- The numbers of the entries between the player's two edges.
-use Rattle.std.proofs.Common.{◌≡◌, ℕ, ◌+◌, ◌<◌, ◌≤◌, true, false, Some, get_or, length, refl, sym, ◌∙◌, ap, subst, arith}
+use Rattle.std.proofs.Common.{◌≡◌, ℕ, ◌<◌, ◌≤◌, true, false, Some, get_or, length, refl, sym, ◌∙◌, ap, subst, arith}
 use Rattle.std.specs.List.{slice_get}
 use Rattle.hex_board.specs.Elements.{PlayerBoard, are_joined, edge_element}
 use Rattle.hex_board.proofs.Parts.{high_apart}

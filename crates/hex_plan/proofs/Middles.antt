@@ -1,5 +1,5 @@
 -- Semi entries, which follow over an empty cell, and full ones, whose carriers have a cell.
-use Rattle.std.proofs.Common.{◌≡◌, ℕ, ◌∷◌, [], List, true, false, Some, get_or, take, zero, suc, refl, sym, ◌∙◌, ap, subst, inl, inr}
+use Rattle.std.proofs.Common.{◌≡◌, ℕ, List, true, false, Some, get_or, take, zero, suc, refl, sym, ◌∙◌, ap, subst, inl, inr}
 use Rattle.std.specs.List.{slice_get}
 use Rattle.std.proofs.lemmas.Bool.{both_ways}
 use Rattle.std.proofs.lemmas.Option.{get_or_from_slice_get}
@@ -11,13 +11,12 @@ use Rattle.hex_board.proofs.Parts.{high_apart}
 use Rattle.hex_board.proofs.Search.{joined_found}
 use Rattle.conn_store.specs.Entries.{IsBetween}
 use Rattle.conn_store.specs.Links.{StonesLink}
-use Rattle.conn_store.specs.Rules.{AndRule, AreAt, FollowsBy, IsCell}
+use Rattle.conn_store.specs.Rules.{AndRule, FollowsBy, IsCell}
 use Rattle.conn_store.specs.Stores.{IsSound, StoreData}
 use Rattle.conn_store.specs.Truth.{IsSure, IsSureIn}
 use Rattle.conn_store.specs.declared.entries.Cause.{Cause}
 use Rattle.conn_store.specs.declared.entries.Cause.TheVariants.{Adjacent, AndGroup, AndEmpty, Or}
 use Rattle.conn_store.specs.declared.entries.Entry.{Entry}
-use Rattle.conn_store.specs.declared.entries.Kind.{Kind}
 use Rattle.conn_store.specs.declared.entries.Kind.TheVariants.{Full, Semi}
 use Rattle.conn_store.proofs.Edges.{linked_joins}
 use Rattle.conn_store.proofs.RuleEntries.{at_two}

@@ -1,16 +1,15 @@
 -- Who is sure of joining his edges on a later board wins it.
-use Rattle.std.proofs.Common.{◌≡◌, ◌==◌, ◌&&◌, not, ℕ, ◌+◌, Bool, true, false, min, max, sym, subst, inl, inr, arith}
-use Rattle.std.proofs.lemmas.Bool.{both_ways, false_from_ne_true}
-use Rattle.std.proofs.lemmas.Bool.Decides.{nat_tests}
+use Rattle.std.proofs.Common.{◌≡◌, ℕ, ◌+◌, true, false, min, max, sym, subst, inl, inr, arith}
+use Rattle.std.proofs.lemmas.Bool.{false_from_ne_true}
 use Rattle.hex_cells.specs.Sets.{has, members, with_cell, without_cell}
 use Rattle.hex_cells.specs.Colours.{other_of}
 use Rattle.hex_cells.specs.declared.colours.Colour.{Colour}
 use Rattle.hex_cells.proofs.WithCell.{with_cell-here}
 use Rattle.hex_board.specs.Elements.{HasCell, PlayerBoard, edge_element}
 use Rattle.hex_board.specs.Joined.{Joined}
-use Rattle.hex_board.specs.Positions.{Position, Within, is_empty_at, placed, stones_of}
+use Rattle.hex_board.specs.Positions.{Position, Within, placed, stones_of}
 use Rattle.hex_board.specs.Wins.{Wins}
-use Rattle.hex_board.proofs.Placed.{placed_leaves, placed_other, placed_own, placed_size}
+use Rattle.hex_board.proofs.Placed.{placed_other, placed_own, placed_size}
 use Rattle.conn_store.specs.Entries.{AllEmpty, IsBetween, IsTrueEntry, IsValid}
 use Rattle.conn_store.specs.Laws.{IsSubset}
 use Rattle.conn_store.specs.Links.{StonesLink}
@@ -21,10 +20,10 @@ use Rattle.conn_store.specs.declared.entries.Kind.{Kind}
 use Rattle.conn_store.specs.declared.entries.Kind.TheVariants.{Full, Semi}
 use Rattle.conn_store.proofs.Chains.{empty_both, misses_of}
 use Rattle.conn_store.proofs.Edges.{linked_joins}
-use Rattle.conn_store.proofs.RuleTruth.{least_first, turned, between, between_back}
-use Rattle.conn_store.proofs.Sureness.{in_union, in_without, more_stones, same, sure_both, sure_less, sure_more, sure_wider, union_left, union_right}
-use Rattle.conn_store.proofs.Ways.{linked_back, linked_cell, linked_kept}
-use Rattle.conn_store.proofs.Winning.{Joins, sure_wins, still, still_empty, rest_empty}
+use Rattle.conn_store.proofs.RuleTruth.{between, between_back}
+use Rattle.conn_store.proofs.Sureness.{in_union, more_stones, same, sure_both, sure_less, sure_wider, union_left, union_right}
+use Rattle.conn_store.proofs.Ways.{linked_cell, linked_kept}
+use Rattle.conn_store.proofs.Winning.{Joins, sure_wins, still_empty, rest_empty}
 
 -- the player's two edges
 abbrev pub EdgesLink : PlayerBoard → ℕ → Type 0

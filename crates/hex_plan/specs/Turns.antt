@@ -1,5 +1,5 @@
 -- Turns as plain data.
-use Rattle.std.specs.Prelude.{◌≡◌, ℕ, true, None}
+use Rattle.std.specs.Prelude.{◌≡◌, ℕ, true, None, Some}
 use Rattle.std.specs.Option.{ForSome}
 use Rattle.std.specs.declared.option.Option.{Option}
 use Rattle.hex_cells.specs.declared.colours.Colour.{Colour}
@@ -20,6 +20,29 @@ pub record Decision : Type 0 where
   pub planned : Planned
   pub closed : Option ClosedTree
   pub cell : ℕ
+
+-- the turn with this number whose plan is a win, with this cell: it has no tree
+abbrev pub turn_of_win : Position → Colour → ℕ → Planned → ℕ → Decision
+turn_of_win board player number planned cell = record {
+  board = board;
+  player = player;
+  number = number;
+  planned = planned;
+  closed = None;
+  cell = cell;
+}
+
+-- the turn with this number whose plan is a search, with this cell: its board and player are those
+-- of the tree
+abbrev pub turn_of_search : ClosedTree → ℕ → Planned → ℕ → Decision
+turn_of_search tree number planned cell = record {
+  board = tree.shape.board;
+  player = tree.shape.player;
+  number = number;
+  planned = planned;
+  closed = Some tree;
+  cell = cell;
+}
 
 -- the tree is one of the turn's board and player and of these allowed cells, and its best cell is
 -- the turn's

@@ -1,6 +1,6 @@
 //! Turns.
 
-ghost use Rattle.std.specs.Prelude.{◌≡◌, ◌*◌, ◌<◌, Bool, None, Some, true, IfSome, option_map};
+ghost use Rattle.std.specs.Prelude.{◌≡◌, ◌*◌, ◌<◌, Bool, true, IfSome, option_map};
 ghost use Rattle.std.specs.Option.{ForSome};
 ghost use Rattle.hex_board.specs.Positions.{is_empty_at};
 ghost use Rattle.tree_words.specs.Closing.{IsClosed};
@@ -8,7 +8,7 @@ ghost use Rattle.tree_words.specs.Roots.{IsBest};
 ghost use Rattle.tree_words.specs.Settings.{IsSetting};
 ghost use Rattle.hex_plan.specs.Good.{IsGoodAsPlanned, IsGoodAsSearched};
 ghost use Rattle.hex_plan.specs.Plans.{IsPlanned, IsSearchAmong, IsWin, IsWinBy};
-ghost use Rattle.hex_plan.specs.Turns.{DecidesBy};
+ghost use Rattle.hex_plan.specs.Turns.{DecidesBy, turn_of_search, turn_of_win};
 
 use super::plans::Planned;
 use super::types::Plan;
@@ -85,14 +85,7 @@ impl Turn {
     pub fn won(board: &Board, colour: Colour, number: u64, planned: Planned) -> Turn
         requires win { IsWin planned.plan }
         requires planned { (hsearch : Bool) × IsPlanned board.now colour hsearch planned }
-        ensures parts { result ≡ record {
-          board = board.now;
-          player = colour;
-          number = number;
-          planned = planned;
-          closed = None;
-          cell = result.cell;
-        } }
+        ensures parts { result ≡ turn_of_win board.now colour number planned result.cell }
         ensures cell { IsWinBy planned.plan result.cell }
         ensures empty { is_empty_at board.now result.cell ≡ true }
         ensures good { IsGoodAsPlanned result board.now colour planned }
@@ -117,14 +110,7 @@ impl Turn {
     /// tree's best.
     pub fn searched(closed: Closed, number: u64, planned: Planned) -> Turn
         requires { IsSearchAmong planned.plan closed.shape.allowed }
-        ensures parts { result ≡ record {
-          board = closed.shape.board;
-          player = closed.shape.player;
-          number = number;
-          planned = planned;
-          closed = Some closed;
-          cell = result.cell;
-        } }
+        ensures parts { result ≡ turn_of_search closed number planned result.cell }
         ensures best { IsBest closed.shape closed.words result.cell }
         ensures empty { is_empty_at closed.shape.board result.cell ≡ true }
         ensures good { IsGoodAsSearched result number planned closed }
