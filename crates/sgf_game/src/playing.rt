@@ -1,7 +1,6 @@
 //! Playing the turns of a record.
 
 ghost use Rattle.std.specs.Prelude.{◌≡◌, ◌++◌, true, false, not};
-ghost use Rattle.hex_game.specs.Games.{GameData};
 ghost use Rattle.sgf_game.specs.GameOf.{GameOrMemory};
 ghost use Rattle.sgf_game.specs.Turns.{is_refused_said, step_said, game_of_turns};
 ghost use Rattle.sgf_game.specs.Playing.{IsSaidOn, AreSaidOn, EndsLast};
