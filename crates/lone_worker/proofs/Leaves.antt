@@ -10,7 +10,7 @@ use Rattle.tree_words.specs.Paths.{NodeState, root_state, node_state, node_board
 use Rattle.tree_words.specs.Sequence.{asks, gets_block, next_after, size_below, search_game}
 use Rattle.tree_words.specs.Trees.{oldest_first}
 use Rattle.tree_words.specs.Descents.{NewBlock, leaf_at, walk_end}
-use Rattle.tree_words.proofs.Walks.Asking.{next-stays}
+use Rattle.tree_words.proofs.Walks.Asking.{gets-made, next-stays}
 use Rattle.tree_words.proofs.Walks.Leaves.{Whole}
 use Rattle.arena_rule.specs.Views.{HeldBlock, Walked}
 use Rattle.arena_rule.specs.Parts.{amount_recorded}
@@ -39,14 +39,6 @@ asks-none s next v p why = by s.knobs.expand v.visits (length (empties_of p.boar
 
     by : (a b c d e : ℕ) → (b < a) ⊎ ((c ≡ 0) ⊎ (e < d)) → (nat_le a b && (nat_lt 0 c && nat_le d e)) ≡ false
     by a b c d e h = ⊎_elim (λ (l : b < a). few a b c d e l) (λ (m : (c ≡ 0) ⊎ (e < d)). ⊎_elim (λ (z : c ≡ 0). none a b c d e z) (λ (z : e < d). past a b c d e z) m) h
-
--- it gets the block where it asks and the block fits
-gets-then : (s : Setting) (next : ℕ) (v : Count) (p : NodeState) → asks s next v p ≡ true → next + size_below p ≤ end_of s → gets_block s next v p ≡ true
-unfolding gets_block
-gets-then s next v p a l = both (asks s next v p) (next + size_below p) (end_of s) a l
-  where
-    both : (t : Bool) (m n : ℕ) → t ≡ true → m ≤ n → (t && nat_le m n) ≡ true
-    both t m n a l = grind (arith, nat_tests)
 
 gets-not : (s : Setting) (next : ℕ) (v : Count) (p : NodeState) → (asks s next v p ≡ false) ⊎ (end_of s < next + size_below p) → gets_block s next v p ≡ false
 unfolding gets_block
@@ -105,7 +97,7 @@ module _ (s : Setting) (bs : List LinkedBlock) (ws : List Walked) (next k : ℕ)
       let many : length n.cells ≡ length (empties_of p.board) = ap length cells in
       let a : asks s h.start v p ≡ true = asks-then s h.start v p visits (omega (arith, some, many)) (omega (arith, b.inside)) in
       let big : h.size ≡ size_below p = omega (arith, fits, many) in
-      let wide : gets_block s h.start v p ≡ true = gets-then s h.start v p a (omega (arith, big, b.inside)) in
+      let wide : gets_block s h.start v p ≡ true = gets-made s h.start v p a (omega (arith, big, b.inside)) in
       let same : (w : ℕ) → count_in (amount_recorded s (n ∷ bs) w ws) ≡ count_in (amount_recorded s bs w ws) = λ w. ap count_in (recorded-linked s bs whole.order n f ws leaves w) in
       let new : NewBlock (search_game s) (root_state s) (root_at s) (config_by s bs ws h.start) (config_by s (n ∷ bs) ws next) n = record {
         wide = ap (λ (z : Count × NodeState). gets_block s h.start z.0 z.1) end ∙ wide;
