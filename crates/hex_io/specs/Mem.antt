@@ -1,6 +1,6 @@
 -- A link in memory: what it tells, what it may still do, and which of its calls fail.
-use Rattle.std.specs.Prelude.{ℕ, ◌+◌, ◌-◌, ◌^◌, ◌≤◌, ◌⊎◌, List, min, length, Contains, Result, Ok}
-use Rattle.std.specs.Prelude.{Err}
+use Rattle.std.specs.Prelude.{ℕ, ◌+◌, ◌-◌, ◌^◌, ◌≤◌, ◌⊎◌, List, [], min, length, Contains, Result}
+use Rattle.std.specs.Prelude.{Ok, Err}
 use Rattle.hex_io.specs.Told.{Told}
 use Rattle.hex_io.specs.declared.in_memory.Ask.{Ask}
 
@@ -38,9 +38,44 @@ abbrev pub counted : {T E : Type 0} → ℕ → Result T E → ℕ
 counted faults (Ok n) = faults
 counted faults (Err e) = one_more faults
 
+-- the room that is left for bytes
+abbrev pub room_left : Wire → ℕ
+room_left w = w.room - length w.told.given
+
 -- as many bytes as the piece, the call and what is left allow
 abbrev pub moved_of : ℕ → ℕ → ℕ → ℕ
 moved_of left piece asked = min (min left piece) asked
+
+-- the link after a read that gave this result, which tells so much
+abbrev pub after_read : {T E : Type 0} → Wire → Told → Result T E → Wire
+after_read w told r = record w {
+  told = told;
+  next_read = one_more w.next_read;
+  read_faults = counted w.read_faults r;
+}
+
+-- the link after a write that gave this result, which tells so much
+abbrev pub after_write : {T E : Type 0} → Wire → Told → Result T E → Wire
+after_write w told r = record w {
+  told = told;
+  next_write = one_more w.next_write;
+  write_faults = counted w.write_faults r;
+}
+
+-- the link that a program made to read these bytes, before any call
+abbrev pub new_wire : List ℕ → ℕ → ℕ → ℕ → List ℕ → List ℕ → Wire
+new_wire input piece room reads bad_reads bad_writes = record {
+  told = record { to_come = input; taken = []; given = []; asks = [] };
+  piece = piece;
+  room = room;
+  reads = reads;
+  bad_reads = bad_reads;
+  bad_writes = bad_writes;
+  next_read = 0;
+  next_write = 0;
+  read_faults = 0;
+  write_faults = 0;
+}
 
 -- the lengths of an ask, as a pair
 abbrev pub ask_pair : Ask → ℕ × ℕ
