@@ -26,9 +26,9 @@ pub struct MemShelf {
 }
 
 impl Model for MemShelf {
-    ghost use Rattle.hex_io.specs.MemShelves.{MemShelved};
+    ghost use Rattle.hex_io.specs.MemShelves.{MemShelfData};
 
-    ghost Value = { MemShelved };
+    ghost Value = { MemShelfData };
 
     ghost view = { λ s. record {
       told = record { files = s.files.items; tries = s.tries.items };

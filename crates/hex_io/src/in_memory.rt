@@ -4,7 +4,7 @@ ghost use Rattle.std.specs.Prelude.{◌≡◌, ◌<◌, ◌≤◌, ◌-◌, leng
 ghost use Rattle.hex_io.specs.Told.{ReadsBytes, WritesBytes};
 ghost use Rattle.hex_io.specs.Causes.{HasCause};
 ghost use Rattle.hex_io.specs.Mem.{ReadFails, WriteFails, moved_of, room_left, after_read};
-ghost use Rattle.hex_io.specs.Mem.{after_write, new_wire};
+ghost use Rattle.hex_io.specs.Mem.{after_write, new_link};
 
 use super::links::Link;
 use super::refusals::{LinkFault, Memory};
@@ -42,9 +42,9 @@ pub struct MemLink {
 
 impl Model for MemLink {
     ghost use Rattle.std.specs.Prelude.{◌<◌, ◌≤◌, map, take, drop, vec_len, vec_capacity};
-    ghost use Rattle.hex_io.specs.Mem.{Wire, ask_pair};
+    ghost use Rattle.hex_io.specs.Mem.{MemLinkData, ask_pair};
 
-    ghost Value = { Wire };
+    ghost Value = { MemLinkData };
 
     ghost view = { λ s. record {
       told = record {
@@ -151,7 +151,7 @@ impl MemLink {
     ) -> Result<MemLink, Memory>
         requires { 1 ≤ piece }
         ensures { IfOk result (λ link. link
-            ≡ new_wire input.items piece room reads bad_reads.items bad_writes.items) }
+            ≡ new_link input.items piece room reads bad_reads.items bad_writes.items) }
     {
         let given = Vec::with_capacity(alloc, room)?;
         let asks = Vec::with_capacity(alloc, reads)?;
