@@ -12,8 +12,8 @@ use Rattle.tree_words.specs.Growth.{other_words}
 use Rattle.tree_words.specs.Told.{told_block}
 use Rattle.tree_words.proofs.Blocks.Turned.{other-root, other-more}
 use Rattle.tree_words.proofs.Walks.Asking.{spot-size}
-use Rattle.trace_audit.specs.declared.linking.Spot.{Spot}
-use Rattle.trace_audit.specs.declared.linking.Table.{Table}
+use Rattle.trace_audit.specs.declared.spots.Spot.{Spot}
+use Rattle.trace_audit.specs.declared.spots.Table.{Table}
 use Rattle.trace_audit.specs.Tables.{AreUnlinked, block_at, StandsInArea, spot_state, IsSpot, IsEntered, Scanned}
 use Rattle.trace_audit.proofs.Passing.{block_alone, block_stands, put}
 

@@ -18,8 +18,8 @@ use Rattle.tree_words.proofs.Blocks.Orders.{link-names}
 use Rattle.tree_words.proofs.Boards.RootLaws.{complete_in}
 use Rattle.tree_words.proofs.Boards.SetNumbers.{set-has_empties}
 use Rattle.tree_words.proofs.Walks.Asking.{spot-size}
-use Rattle.trace_audit.specs.declared.linking.Spot.{Spot}
-use Rattle.trace_audit.specs.declared.linking.Table.{Table}
+use Rattle.trace_audit.specs.declared.spots.Spot.{Spot}
+use Rattle.trace_audit.specs.declared.spots.Table.{Table}
 use Rattle.trace_audit.specs.Tables.{AreUnlinked, ShowBlock, StandsInArea, IsSpot, IsSpotTable, IsFollowed, Scanned}
 use Rattle.trace_audit.proofs.Scanning.{link_real, link_whole, apart_blocks, node_below}
 

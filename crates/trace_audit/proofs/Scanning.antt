@@ -13,7 +13,7 @@ use Rattle.tree_words.proofs.Blocks.GameLaws.{IsWhole, whole-in}
 use Rattle.tree_words.proofs.Blocks.NodeLaws.{nodes-apart, node-lies, in-cover}
 use Rattle.tree_words.proofs.Blocks.OneTree.{knows-in}
 use Rattle.tree_words.proofs.Blocks.Within.{told-real}
-use Rattle.trace_audit.specs.declared.linking.Table.{Table}
+use Rattle.trace_audit.specs.declared.spots.Table.{Table}
 use Rattle.trace_audit.specs.Tables.{AreUnlinked, IsFollowed, IsLastNode, Scanned, IsLinked}
 
 module _ (s : Setting) (words : List ℕ) (h : IsSetting s) where

@@ -14,8 +14,8 @@ use Rattle.tree_words.proofs.Blocks.BlockLaws.{root_node}
 use Rattle.tree_words.proofs.Blocks.GameLaws.{in-node}
 use Rattle.tree_words.proofs.Blocks.Members.{node-in}
 use Rattle.tree_words.proofs.Walks.Tallies.{count-none}
-use Rattle.trace_audit.specs.declared.linking.Spot.{Spot}
-use Rattle.trace_audit.specs.declared.linking.Table.{Table}
+use Rattle.trace_audit.specs.declared.spots.Spot.{Spot}
+use Rattle.trace_audit.specs.declared.spots.Table.{Table}
 use Rattle.trace_audit.specs.Tables.{IsLinked}
 use Rattle.trace_audit.specs.Sums.{AreSums}
 use Rattle.trace_audit.specs.Points.{AreFrugal, AreSame, EachSpot, HasCells, IsNextBounded, HasSums, IsFirst, LiesWithin, SomeSpot}
