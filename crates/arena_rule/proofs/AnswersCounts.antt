@@ -1,6 +1,6 @@
 -- What a Look at a tally or a seen word answers, and an Add: at most one add of each walk counts
 -- there, and there are at most N walks.
-use Rattle.std.proofs.Common.{◌≡◌, ◌≢◌, ℕ, zero, suc, ◌+◌, ◌*◌, ◌<◌, ◌≤◌, Bool, true, false, cond, List, [], ◌∷◌, length, take, Option, Some, None, refl, sym, ap, ◌∙◌, subst, ⊎_elim, arith}
+use Rattle.std.proofs.Common.{◌≡◌, ◌≢◌, ℕ, zero, suc, ◌+◌, ◌*◌, ◌<◌, ◌≤◌, Bool, true, cond, List, [], ◌∷◌, length, take, Option, Some, None, refl, sym, ap, ◌∙◌, subst, ⊎_elim, arith}
 use Rattle.std.specs.Prelude.{◌==◌, ◌&&◌, slice_index, sum_by}
 use Rattle.std.specs.List.{list_any}
 use Rattle.std.proofs.lemmas.List.Sums.{sum_by-cons, sum_by-le-sum_by}
@@ -35,6 +35,7 @@ use Rattle.arena_rule.proofs.AddLaws.{tally-adds, seen-adds}
 use Rattle.arena_rule.proofs.SumsLinked.{walks-same, made-same}
 use Rattle.arena_rule.proofs.SumsLaw.{NextAdd, next-add}
 use Rattle.std.proofs.lemmas.Bool.{eq-eqb}
+use Rattle.arena_rule.proofs.CountSums.{one-most}
 
 module _ {A : Type 0} where
   -- a sum of words that have visits and wins
@@ -94,13 +95,9 @@ module _ (s : Setting) (bs : List LinkedBlock) (w : ℕ) where
   counted-few : (u : SeatView) → IsOnce → adds_counted u ≤ walks_of u + holds_ticket u
   counted-few u h = omega (arith, walks-few u h, made-few u.ticket u.adds h)
 
-pub one_or_none : (t : Bool) → cond t 1 0 ≤ 1
-one_or_none true = omega arith
-one_or_none false = omega arith
-
 module _ (bs : List LinkedBlock) (words : List ℕ) (views : List SeatView) (id : ℕ) (v : SeatView) (b : Before bs words views id v) where
   tally-once : (x : ℕ) → is_node (root_at v.shape) bs x ≡ true → IsOnce v.shape bs (x + TALLY_WORD)
-  tally-once x n k leaf = omega (arith, tally-adds v.shape bs b.state.linked.blocks.order k leaf x n, one_or_none (is_on v.shape bs x leaf))
+  tally-once x n k leaf = omega (arith, tally-adds v.shape bs b.state.linked.blocks.order k leaf x n, one-most (is_on v.shape bs x leaf))
 
   seen-once : (x : ℕ) → is_node (root_at v.shape) bs x ≡ true → x ≢ root_at v.shape → IsOnce v.shape bs (x + SEEN_WORD)
   seen-once x n ne k leaf = ⊎_elim
@@ -109,7 +106,7 @@ module _ (bs : List LinkedBlock) (words : List ℕ) (views : List SeatView) (id 
       omega (
         arith,
         seen-adds v.shape bs b.state.linked.blocks.order k leaf t.0 x t.1 t.2,
-        one_or_none (enters v.shape bs t.0 leaf && has_cell (stones_of (outcome_of v.shape k (node_state v.shape bs leaf)).full (mover_of v.shape bs x)) (cell_at t.0 (place t.0 x))),
+        one-most (enters v.shape bs t.0 leaf && has_cell (stones_of (outcome_of v.shape k (node_state v.shape bs leaf)).full (mover_of v.shape bs x)) (cell_at t.0 (place t.0 x))),
       ))
       (node-in (root_at v.shape) bs x n)
 

@@ -9,10 +9,6 @@ abbrev pub sum_below : ℕ → (ℕ → ℕ) → ℕ
 sum_below zero f = 0
 sum_below (suc n) f = sum_below n f + f n
 
-pub below_le : (n : ℕ) (f g : ℕ → ℕ) → ((j : ℕ) → j < n → f j ≤ g j) → sum_below n f ≤ sum_below n g
-below_le zero f g h = omega arith
-below_le (suc n) f g h = omega (arith, below_le n f g (λ j l. h j (omega arith)), h n (omega arith))
-
 pub below_same : (n : ℕ) (f g : ℕ → ℕ) → ((j : ℕ) → j < n → f j ≡ g j) → sum_below n f ≡ sum_below n g
 below_same zero f g h = refl
 below_same (suc n) f g h = omega (arith, below_same n f g (λ j l. h j (omega arith)), h n (omega arith))

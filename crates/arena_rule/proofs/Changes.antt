@@ -1,7 +1,7 @@
 -- What a step leaves of a view, part by part.
-use Rattle.std.proofs.Common.{◌≡◌, ◌⊎◌, ℕ, ◌+◌, ◌<◌, ◌≤◌, Bool, true, false, cond, [], set, Some, refl, ap, inl, inr, arith}
+use Rattle.std.proofs.Common.{◌≡◌, ◌⊎◌, ℕ, ◌+◌, ◌<◌, ◌≤◌, Bool, true, false, cond, [], set, Some, refl, ap, inl, inr}
 use Rattle.std.specs.Prelude.{nat_lt, nat_le, option_map}
-use Rattle.std.proofs.lemmas.Bool.Decides.{nat_tests}
+use Rattle.std.proofs.lemmas.Bool.{ltb-true, ltb-false, leb-true, leb-false}
 use Rattle.tree_words.specs.Words.{end_of}
 use Rattle.tree_words.specs.declared.steps.Op.{Op}
 use Rattle.tree_words.specs.declared.steps.Op.TheVariants.{Draw, Look, Claim, Write, Publish, Add, Note, Done}
@@ -13,17 +13,11 @@ pub drew_cases : (v : SeatView) (x : ℕ) → ((x < v.shape.knobs.playouts) × (
 unfolding drew
 drew_cases v x = by (nat_lt x v.shape.knobs.playouts) refl
   where
-    below : (a b : ℕ) → nat_lt a b ≡ true → a < b
-    below a b e = grind (arith, nat_tests)
-
-    above : (a b : ℕ) → nat_lt a b ≡ false → b ≤ a
-    above a b e = grind (arith, nat_tests)
-
     by : (t : Bool) → nat_lt x v.shape.knobs.playouts ≡ t
         → ((x < v.shape.knobs.playouts) × (cond t (record v { ticket = Some x }) (record v { ended = 1 }) ≡ record v { ticket = Some x }))
         ⊎ ((v.shape.knobs.playouts ≤ x) × (cond t (record v { ticket = Some x }) (record v { ended = 1 }) ≡ record v { ended = 1 }))
-    by true e = inl (below x v.shape.knobs.playouts e, refl)
-    by false e = inr (above x v.shape.knobs.playouts e, refl)
+    by true e = inl (ltb-true x v.shape.knobs.playouts e, refl)
+    by false e = inr (ltb-false x v.shape.knobs.playouts e, refl)
 
 -- a Claim gives a block to hold, or goes past the area's end
 pub claimed_cases : (v : SeatView) (size x : ℕ)
@@ -32,21 +26,12 @@ pub claimed_cases : (v : SeatView) (size x : ℕ)
 unfolding claimed_at
 claimed_cases v size x = by (nat_le (x + size) (end_of v.shape)) refl
   where
-    below : (a b : ℕ) → nat_le a b ≡ true → a ≤ b
-    below a b e = grind (arith, nat_tests)
-
-    above : (a b : ℕ) → nat_le a b ≡ false → b < a
-    above a b e = grind (arith, nat_tests)
-
-    some : SeatView
-    some = record v { held = Some (record { start = x; size = size; written = [] }); claimed = v.claimed + size }
-
     by : (t : Bool) → nat_le (x + size) (end_of v.shape) ≡ t
         → ((x + size ≤ end_of v.shape) × (cond t (record v { held = Some (record { start = x; size = size; written = [] }); claimed = v.claimed + size }) (record v { full = true })
         ≡ record v { held = Some (record { start = x; size = size; written = [] }); claimed = v.claimed + size }))
         ⊎ ((end_of v.shape < x + size) × (cond t (record v { held = Some (record { start = x; size = size; written = [] }); claimed = v.claimed + size }) (record v { full = true }) ≡ record v { full = true }))
-    by true e = inl (below (x + size) (end_of v.shape) e, refl)
-    by false e = inr (above (x + size) (end_of v.shape) e, refl)
+    by true e = inl (leb-true (x + size) (end_of v.shape) e, refl)
+    by false e = inr (leb-false (x + size) (end_of v.shape) e, refl)
 
 -- a part that no Draw and no Claim reads
 module _ {A : Type 0} (f : SeatView → A) where

@@ -135,7 +135,8 @@ module _ (bs : List LinkedBlock) (words : List ℕ) (views : List SeatView) (id 
     room = room-join bs words views id v b other w o;
   }
 
-state-first : (s : Setting) (views : List SeatView) → IsSetting s → AreFirst s views → IsState s (opening_blocks s) (opening_words s) views
+-- the rule holds of the opening words with the first views
+pub state-first : (s : Setting) (views : List SeatView) → IsSetting s → AreFirst s views → IsState s (opening_blocks s) (opening_words s) views
 state-first s views h f = record {
   setting = h;
   long = (opening-are s h).long;

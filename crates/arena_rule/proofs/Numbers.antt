@@ -60,13 +60,6 @@ contains-append x (w ∷ a) b c = ⊎_elim
     (λ (d : Contains (a ++ b) x). ⊎_elim (λ (h : Contains a x). inl (suc h.0, (let l = h.1 in omega arith), h.2)) (λ (h : Contains b x). inr h) (contains-append x a b d))
     (contains-cons w x (a ++ b) c)
 
-pub contains-times : (x : Walked) (walks : List Walked) → Contains walks x → 0 < times_walked x.number walks
-contains-times x [] c = absurd (let l = c.1 in omega arith)
-contains-times x (w ∷ walks) c = ⊎_elim
-    (λ (e : w ≡ x). omega (arith, walked-cons x.number w walks, ap one_if (eq-eqb w.number x.number (ap (λ (q : Walked). q.number) e))))
-    (λ (d : Contains walks x). omega (arith, walked-cons x.number w walks, contains-times x walks d))
-    (contains-cons w x walks c)
-
 -- a record's leaf and winner
 pub leaf-recorded : (leaf : ℕ) (c : Colour) → leaf_in (record_word leaf c) ≡ leaf
 leaf-recorded leaf Black = omega arith
@@ -99,9 +92,6 @@ due k ticket n = one_if (nat_lt k ticket && nat_lt k n)
 
 pub due_one : (k t n : ℕ) → due k t n ≤ 1
 due_one k t n = grind (arith, nat_tests)
-
-pub due_low : (k t n : ℕ) → 0 < due k t n → (k < t) × (k < n)
-due_low k t n h = grind (arith, nat_tests)
 
 hand-count : (n : ℕ) (o : Option ℕ) → ((k : ℕ) → o ≡ Some k → k < n) → sum_below n (λ j. in_hand j o) ≡ has_number o
 hand-count n None h = below_none n

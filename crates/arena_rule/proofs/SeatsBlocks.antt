@@ -8,7 +8,7 @@ use Rattle.tree_words.proofs.Blocks.Within.{knows-both}
 use Rattle.arena_rule.specs.Views.{SeatView, HeldBlock, spent_view}
 use Rattle.arena_rule.specs.Fits.{CanSplit}
 use Rattle.arena_rule.specs.Afters.{kept_part, given_part, joined}
-use Rattle.arena_rule.specs.Parts.{Fresh, AreApart, AreLinked, AreWritten, HasWritten, Known, held_at}
+use Rattle.arena_rule.specs.Parts.{AreApart, AreWritten, HasWritten, Known, held_at}
 use Rattle.arena_rule.specs.Rule.{views_split, views_joined}
 use Rattle.arena_rule.proofs.Before.{Before, Other}
 use Rattle.arena_rule.proofs.Totals.{each-split, each-join, total_split, total_join}
@@ -18,15 +18,9 @@ module _ (bs : List LinkedBlock) (words : List ℕ) (views : List SeatView) (id 
   none-held : (u : SeatView) → u.held ≡ None → (h : HeldBlock) → u.held ≡ Some h → HasWritten words h
   none-held u n h e = absurd (none-some h (sym n ∙ e))
 
-  pub fresh-split : (part : ℕ) → CanSplit v part → Fresh v.shape words
-  fresh-split part can = b.state.fresh
-
   pub apart-split : (part : ℕ) → CanSplit v part → AreApart v.shape bs words (views_split views id v part)
   unfolding kept_part
   apart-split part can i = omega (arith, total_split (held_at i) views id v (kept_part v part) (given_part v part) b.at, b.state.apart i)
-
-  pub linked-split : (part : ℕ) → CanSplit v part → AreLinked v.shape bs words
-  linked-split part can = b.state.linked
 
   pub held-split : (part : ℕ) → CanSplit v part → AreWritten words (views_split views id v part)
   unfolding kept_part
@@ -38,15 +32,9 @@ module _ (bs : List LinkedBlock) (words : List ℕ) (views : List SeatView) (id 
   known-split part can = each-split (λ (u : SeatView). Knows (root_at v.shape) bs u.known) views id (kept_part v part) (given_part v part)
       (λ j u ne e. b.state.known j u e) (b.state.known id v b.at) (b.state.known id v b.at)
 
-  pub fresh-join : (other : ℕ) (w : SeatView) → Other views id v other w → Fresh v.shape words
-  fresh-join other w o = b.state.fresh
-
   pub apart-join : (other : ℕ) (w : SeatView) → Other views id v other w → AreApart v.shape bs words (views_joined views id v other w)
   unfolding joined
   apart-join other w o i = omega (arith, total_join (held_at i) views id other v w (joined v w) (spent_view v.shape) o.differ b.at o.at, b.state.apart i)
-
-  pub linked-join : (other : ℕ) (w : SeatView) → Other views id v other w → AreLinked v.shape bs words
-  linked-join other w o = b.state.linked
 
   pub held-join : (other : ℕ) (w : SeatView) → Other views id v other w → AreWritten words (views_joined views id v other w)
   unfolding joined

@@ -1,5 +1,5 @@
 -- What a view's known blocks tell, the linked blocks tell too: nodes, boards and the adds of walks.
-use Rattle.std.proofs.Common.{◌≡◌, ℕ, Bool, true, false, List, ◌∷◌, refl, sym, ap, ◌∙◌}
+use Rattle.std.proofs.Common.{◌≡◌, ℕ, Bool, true, false, List, ◌∷◌, refl, ap, ◌∙◌}
 use Rattle.std.specs.Prelude.{◌||◌}
 use mathlib.Core.Option.{some}
 use lib.ListN.{get_elem?}
@@ -30,16 +30,6 @@ node-more r d ks x n = second (has_node d x) n
     second : (a : Bool) {b : Bool} → b ≡ true → (a || b) ≡ true
     second true e = refl
     second false e = e
-
--- and the adds of a walk to it stay
-pub adds-more : (s : Setting) (bs ks : List LinkedBlock) (d : LinkedBlock) (k leaf : ℕ) → InOrder (root_at s) bs → Knows (root_at s) bs (d ∷ ks) → is_node (root_at s) ks leaf ≡ true
-    → walk_adds s (d ∷ ks) k leaf ≡ walk_adds s ks k leaf
-adds-more s bs ks d k leaf g kn n = within-adds s bs (d ∷ ks) k leaf g kn (node-more (root_at s) d ks leaf n) ∙ sym (within-adds s bs ks k leaf g kn.2 n)
-
--- as a node's state does
-pub state-more : (s : Setting) (bs ks : List LinkedBlock) (d : LinkedBlock) (x : ℕ) → InOrder (root_at s) bs → Knows (root_at s) bs (d ∷ ks) → is_node (root_at s) ks x ≡ true
-    → node_state s (d ∷ ks) x ≡ node_state s ks x
-state-more s bs ks d x g kn n = within-state s bs (d ∷ ks) x g kn (node-more (root_at s) d ks x n) ∙ sym (within-state s bs ks x g kn.2 n)
 
 module _ (bs : List LinkedBlock) (words : List ℕ) (views : List SeatView) (id : ℕ) (v : SeatView) (b : Before bs words views id v) where
   pub shape-of-each : (j : ℕ) (u : SeatView) → get_elem? views j ≡ some u → u.shape ≡ v.shape

@@ -1,14 +1,20 @@
 -- What the laws of truth speak of: more cells or stones, later boards, and the player's edges.
 use Rattle.std.specs.Prelude.{◌≡◌, ℕ, true, false}
-use Rattle.hex_cells.specs.Sets.{has}
+use Rattle.hex_cells.specs.Sets.{has, with_cell, without_cell}
 use Rattle.hex_board.specs.Elements.{PlayerBoard, edge_element}
 use Rattle.hex_board.specs.Positions.{Position, Within, stones_of}
 use Rattle.conn_store.specs.Entries.{AllEmpty, Connects}
 use Rattle.conn_store.specs.declared.entries.Kind.{Kind}
+use Rattle.conn_store.specs.declared.entries.Kind.TheVariants.{Full}
 
 -- each cell of the set a is in b
 abbrev pub IsSubset : ℕ → ℕ → Type 0
 IsSubset a b = (k : ℕ) → has a k ≡ true → has b k ≡ true
+
+-- with one more stone of the player, on a cell of c, he is sure inside the rest of c
+abbrev pub ConnectsInRest : PlayerBoard → ℕ → ℕ → ℕ → ℕ → Type 0
+ConnectsInRest e x y s c =
+    (k : ℕ) → has c k ≡ true → Connects Full e x y (with_cell s k) (without_cell c k)
 
 -- p has the size of the board of the elements, on which the player's stones lie, and his stones
 -- or more

@@ -1,14 +1,13 @@
 //! Laws of what a player is sure of, for those who rest on the truth of entries.
 
-ghost use Rattle.std.specs.Prelude.{◌≡◌, ℕ, ◌<◌, ◌^◌, true};
+ghost use Rattle.std.specs.Prelude.{ℕ, ◌<◌, ◌^◌};
 ghost use Rattle.hex_cells.specs.Colours.{other_of};
-ghost use Rattle.hex_cells.specs.Sets.{has, with_cell, without_cell};
 ghost use Rattle.hex_cells.specs.declared.board_size.TheConstants.{MOST_CELLS};
 ghost use Rattle.hex_board.specs.Elements.{PlayerBoard};
 ghost use Rattle.hex_board.specs.Positions.{Position};
 ghost use Rattle.hex_board.specs.Wins.{Wins};
 ghost use Rattle.conn_store.specs.Entries.{Connects};
-ghost use Rattle.conn_store.specs.Laws.{IsSubset, IsSureOfEdges};
+ghost use Rattle.conn_store.specs.Laws.{ConnectsInRest, IsSubset, IsSureOfEdges};
 ghost use Rattle.conn_store.specs.declared.entries.Kind.{Kind};
 
 /// The laws of truth. Who is sure where the opponent places first is sure where he does himself.
@@ -21,9 +20,8 @@ pub fn truth_goes_on()
         → IsSubset c d → Connects kind e x y s c → Connects kind e x y s d }
     ensures stones { (kind : Kind) (e : PlayerBoard) (x y s t c : ℕ)
         → IsSubset s t → Connects kind e x y s c → Connects kind e x y t c }
-    ensures rest { (e : PlayerBoard) (x y s c k : ℕ) → c < 2 ^ MOST_CELLS → has c k ≡ true
-        → Connects Kind.Full e x y s c
-        → Connects Kind.Full e x y (with_cell s k) (without_cell c k) }
+    ensures rest { (e : PlayerBoard) (x y s c : ℕ) → c < 2 ^ MOST_CELLS
+        → Connects Kind.Full e x y s c → ConnectsInRest e x y s c }
 {}
 
 /// The law of the edges. On a board with the player's stones or more, a player who is sure of

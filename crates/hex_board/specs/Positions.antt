@@ -1,6 +1,7 @@
 -- Boards with stones, as plain data.
-use Rattle.std.specs.Prelude.{◌≡◌, ℕ, ◌*◌, ◌<◌, ◌≤◌, ◌&&◌, not, nat_lt, Bool, true, Option, Some}
-use Rattle.std.specs.Prelude.{None, if◌then◌else◌}
+use Rattle.std.specs.Prelude.{◌≡◌, ℕ, ◌*◌, ◌<◌, ◌≤◌, ◌&&◌, not, nat_lt, Bool, true, false, Option}
+use Rattle.std.specs.Prelude.{Some, None, if◌then◌else◌}
+use Rattle.hex_cells.specs.Colours.{other_of}
 use Rattle.hex_cells.specs.Sets.{has, with_cell}
 use Rattle.hex_cells.specs.declared.colours.Colour.{Colour}
 use Rattle.hex_cells.specs.declared.colours.Colour.TheVariants.{Black, White}
@@ -44,6 +45,10 @@ is_empty_at p k = nat_lt k (p.size * p.size) && not (has p.black k) && not (has 
 -- the stone on cell k
 abbrev pub stone_at : Position → ℕ → Option Colour
 stone_at p k = if has p.black k then Some Black else (if has p.white k then Some White else None)
+
+-- a stone of the player lies on cell k, and none of the other player
+abbrev pub HasStone : Position → Colour → ℕ → Type 0
+HasStone p c k = (has (stones_of p c) k ≡ true) × (has (stones_of p (other_of c)) k ≡ false)
 
 -- the board with one more stone of the player, on cell k
 abbrev pub placed : Position → Colour → ℕ → Position

@@ -1,12 +1,12 @@
 //! The calls of a board.
 
-ghost use Rattle.std.specs.Prelude.{◌≡◌, ℕ, ◌*◌, ◌<◌, ◌≤◌, ◌↔◌, ◌&&◌, not, nat_lt, true, false};
+ghost use Rattle.std.specs.Prelude.{◌≡◌, ℕ, ◌*◌, ◌<◌, ◌≤◌, ◌↔◌, true};
 ghost use Rattle.std.specs.Prelude.{IsTrue, MatchOption};
 ghost use Rattle.hex_cells.specs.Sets.{has};
 ghost use Rattle.hex_cells.specs.Colours.{other_of};
 ghost use Rattle.hex_board.specs.Joined.{Joined, is_joined, winner_of};
-ghost use Rattle.hex_board.specs.Positions.{Apart, Within, stones_of, is_empty_at, placed};
-ghost use Rattle.hex_board.specs.Positions.{stone_at};
+ghost use Rattle.hex_board.specs.Positions.{Apart, HasStone, Within, stones_of, is_empty_at};
+ghost use Rattle.hex_board.specs.Positions.{placed, stone_at};
 
 use super::boards::Board;
 use super::joined;
@@ -57,8 +57,7 @@ impl Board {
         requires { cell < self.now.size * self.now.size }
         ensures value { result ≡ stone_at self.now cell }
         ensures stone { MatchOption result (is_empty_at self.now cell ≡ true)
-            (λ c. (has (stones_of self.now c) cell ≡ true)
-            × (has (stones_of self.now (other_of c)) cell ≡ false)) }
+            (λ c. HasStone self.now c cell) }
     {
         if self.black.has(cell) {
             Some(Colour::Black)

@@ -1,6 +1,6 @@
 //! Groups of stones, by their least cells.
 
-ghost use Rattle.std.specs.Prelude.{◌≡◌, ℕ, ◌↔◌, IsTrue};
+ghost use Rattle.std.specs.Prelude.{ℕ, ◌↔◌, IsTrue};
 ghost use Rattle.hex_cells.specs.Sets.{has};
 ghost use Rattle.hex_board.specs.Groups.{IsRoot};
 

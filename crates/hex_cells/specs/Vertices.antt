@@ -9,6 +9,15 @@ use Rattle.std.specs.Str.{bytes_eq, str_to_ascii_lowercase}
 abbrev pub vertex_of : ℕ → ℕ → List ℕ
 vertex_of n k = (97 + k % n) ∷ decimal (k / n + 1)
 
+-- the text, its letter in either case, is the letter of column c and the number of row r, both from
+-- 0: `a` and 1 for the first
+abbrev pub NamesPlace : List ℕ → ℕ → ℕ → Type 0
+NamesPlace text c r = str_to_ascii_lowercase text ≡ (97 + c) ∷ decimal (r + 1)
+
+-- the text names no place of a column with a letter and a row with a number up to 99
+abbrev pub NamesNoPlace : List ℕ → Type 0
+NamesNoPlace text = (c r : ℕ) → c < 26 → r < 99 → ¬ (NamesPlace text c r)
+
 -- the text, its letter in either case, is the vertex of cell k of the board of size n
 abbrev pub IsVertex : ℕ → List ℕ → ℕ → Type 0
 IsVertex n text k = (k < n * n) × (str_to_ascii_lowercase text ≡ vertex_of n k)

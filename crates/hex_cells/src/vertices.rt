@@ -1,11 +1,11 @@
 //! Vertices: the names of cells in text, as `c2`.
 
-ghost use Rattle.std.specs.Prelude.{◌≡◌, ◌≢◌, ℕ, ◌+◌, ◌*◌, ◌<◌, ◌≤◌, ◌∷◌, drop, take, IfNone};
+ghost use Rattle.std.specs.Prelude.{◌≡◌, ◌≢◌, ℕ, ◌+◌, ◌*◌, ◌<◌, ◌≤◌, drop, take, IfNone};
 ghost use Rattle.std.specs.Prelude.{IfSome, MatchOption};
 ghost use Rattle.std.specs.Char.{to_ascii_lowercase};
 ghost use Rattle.std.specs.Fmt.{decimal};
-ghost use Rattle.std.specs.Str.{str_to_ascii_lowercase};
-ghost use Rattle.hex_cells.specs.Vertices.{IsVertex, vertex_cell, vertex_of};
+ghost use Rattle.hex_cells.specs.Vertices.{IsVertex, NamesNoPlace, NamesPlace, vertex_cell};
+ghost use Rattle.hex_cells.specs.Vertices.{vertex_of};
 
 use super::decimals::{DECIMAL_LEN, write_decimal};
 use super::{Cell, Size};
@@ -69,9 +69,8 @@ pub fn write_vertex(cell: Cell, size: Size, out: &mut [u8; VERTEX_LEN]) -> usize
 
 // The column and the row, from 0, that a text names on a board of any size.
 fn place_of(text: &[u8]) -> Option<(u32, u32)>
-    ensures { MatchOption result
-        ((c r : ℕ) → c < 26 → r < 99 → str_to_ascii_lowercase text.now ≢ (97 + c) ∷ decimal (r + 1))
-        (λ p. (p.1 < 99) × (str_to_ascii_lowercase text.now ≡ (97 + p.0) ∷ decimal (p.1 + 1))) }
+    ensures { MatchOption result (NamesNoPlace text.now)
+        (λ p. (p.1 < 99) × NamesPlace text.now p.0 p.1) }
 {
     if text.len() == 0 {
         return None;

@@ -1,11 +1,11 @@
 -- A link in memory: what it tells, what it may still do, and which of its calls fail.
-use Rattle.std.specs.Prelude.{ℕ, ◌+◌, ◌-◌, ◌^◌, ◌≤◌, ◌⊎◌, List, min, length, Contains, Result, Ok}
-use Rattle.std.specs.Prelude.{Err}
+use Rattle.std.specs.Prelude.{ℕ, ◌+◌, ◌-◌, ◌^◌, ◌≤◌, ◌⊎◌, List, [], min, length, Contains, Result}
+use Rattle.std.specs.Prelude.{Ok, Err}
 use Rattle.hex_io.specs.Told.{Told}
 use Rattle.hex_io.specs.declared.in_memory.Ask.{Ask}
 
 -- what is known of a link in memory
-pub record Wire : Type 0 where
+pub record MemLinkData : Type 0 where
   pub told : Told
   -- the most bytes that one call moves
   pub piece : ℕ
@@ -22,12 +22,12 @@ pub record Wire : Type 0 where
   pub write_faults : ℕ
 
 -- the next read is past the last one, or is among those that fail
-abbrev pub ReadFails : Wire → Type 0
-ReadFails w = (w.reads ≤ w.next_read) ⊎ Contains w.bad_reads w.next_read
+abbrev pub ReadFails : MemLinkData → Type 0
+ReadFails l = (l.reads ≤ l.next_read) ⊎ Contains l.bad_reads l.next_read
 
 -- no room is left for a byte, or the next write is among those that fail
-abbrev pub WriteFails : Wire → Type 0
-WriteFails w = (w.room ≤ length w.told.given) ⊎ Contains w.bad_writes w.next_write
+abbrev pub WriteFails : MemLinkData → Type 0
+WriteFails l = (l.room ≤ length l.told.given) ⊎ Contains l.bad_writes l.next_write
 
 -- one more, where a u64 holds it
 abbrev pub one_more : ℕ → ℕ
@@ -38,9 +38,44 @@ abbrev pub counted : {T E : Type 0} → ℕ → Result T E → ℕ
 counted faults (Ok n) = faults
 counted faults (Err e) = one_more faults
 
+-- the room that is left for bytes
+abbrev pub room_left : MemLinkData → ℕ
+room_left l = l.room - length l.told.given
+
 -- as many bytes as the piece, the call and what is left allow
 abbrev pub moved_of : ℕ → ℕ → ℕ → ℕ
 moved_of left piece asked = min (min left piece) asked
+
+-- the link after a read that gave this result, which tells so much
+abbrev pub after_read : {T E : Type 0} → MemLinkData → Told → Result T E → MemLinkData
+after_read l told r = record l {
+  told = told;
+  next_read = one_more l.next_read;
+  read_faults = counted l.read_faults r;
+}
+
+-- the link after a write that gave this result, which tells so much
+abbrev pub after_write : {T E : Type 0} → MemLinkData → Told → Result T E → MemLinkData
+after_write l told r = record l {
+  told = told;
+  next_write = one_more l.next_write;
+  write_faults = counted l.write_faults r;
+}
+
+-- the link that a program made to read these bytes, before any call
+abbrev pub new_link : List ℕ → ℕ → ℕ → ℕ → List ℕ → List ℕ → MemLinkData
+new_link input piece room reads bad_reads bad_writes = record {
+  told = record { to_come = input; taken = []; given = []; asks = [] };
+  piece = piece;
+  room = room;
+  reads = reads;
+  bad_reads = bad_reads;
+  bad_writes = bad_writes;
+  next_read = 0;
+  next_write = 0;
+  read_faults = 0;
+  write_faults = 0;
+}
 
 -- the lengths of an ask, as a pair
 abbrev pub ask_pair : Ask → ℕ × ℕ

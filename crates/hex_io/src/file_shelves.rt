@@ -1,12 +1,12 @@
 //! A shelf in memory, which is at fault where it is told to be.
 
-ghost use Rattle.std.specs.Prelude.{◌≡◌, ◌≢◌, IfOk, Contains, IsTrue, ◌↔◌, [], length, Some};
+ghost use Rattle.std.specs.Prelude.{◌≡◌, ◌≢◌, IfOk, IsTrue, ◌↔◌, Some};
 ghost use Rattle.std.specs.Prelude.{option_map};
 ghost use Rattle.std.specs.List.{find};
 ghost use Rattle.std.specs.Str.{bytes_eq};
 ghost use Rattle.hex_io.specs.Shelves.{content_of, found, Fetches, says};
 ghost use Rattle.hex_io.specs.Causes.{CountsFault};
-ghost use Rattle.hex_io.specs.MemShelves.{NextIsBad, faults_after};
+ghost use Rattle.hex_io.specs.MemShelves.{NextIsBad, after_fetch, new_shelf};
 
 use super::files::File;
 use super::in_memory::is_among;
@@ -26,9 +26,9 @@ pub struct MemShelf {
 }
 
 impl Model for MemShelf {
-    ghost use Rattle.hex_io.specs.MemShelves.{MemShelved};
+    ghost use Rattle.hex_io.specs.MemShelves.{MemShelfData};
 
-    ghost Value = { MemShelved };
+    ghost Value = { MemShelfData };
 
     ghost view = { λ s. record {
       told = record { files = s.files.items; tries = s.tries.items };
@@ -51,10 +51,8 @@ impl Shelf for MemShelf {
             (result ≡ Err ShelfError.Fault) }
         ensures fails { result ≢ Err ShelfError.Memory → (result ≡ Err ShelfError.Fault)
             ↔ NextIsBad self.old }
-        ensures rest { self.new ≡ record self.old {
-          told = self.new.told;
-          faults = faults_after self.old.faults (says (λ file. file.items) result);
-        } }
+        ensures rest { self.new
+            ≡ after_fetch self.old self.new.told (says (λ file. file.items) result) }
     {
         if self.is_next_bad() {
             let Ok(()) = self.tries.push(true) else {
@@ -78,12 +76,7 @@ impl MemShelf {
     /// A shelf of these files, the first of a name counting, where the fetches whose numbers stand
     /// in `bad` are at fault.
     pub fn make(alloc: Global, files: Vec<File>, bad: Vec<u32>) -> Result<MemShelf, Memory>
-        ensures { IfOk result
-            (λ shelf. shelf ≡ record {
-              told = record { files = files.items; tries = [] };
-              bad = bad.items;
-              faults = 0;
-            }) }
+        ensures { IfOk result (λ shelf. shelf ≡ new_shelf files.items bad.items) }
     {
         Ok(MemShelf {
             files,

@@ -1,10 +1,10 @@
 //! A link in memory, which fails where it is told to.
 
 ghost use Rattle.std.specs.Prelude.{◌≡◌, ◌<◌, ◌≤◌, ◌-◌, length, IfOk, IsErr, Contains, IsTrue, ◌↔◌};
-ghost use Rattle.std.specs.Prelude.{[]};
 ghost use Rattle.hex_io.specs.Told.{ReadsBytes, WritesBytes};
 ghost use Rattle.hex_io.specs.Causes.{HasCause};
-ghost use Rattle.hex_io.specs.Mem.{ReadFails, WriteFails, one_more, counted, moved_of};
+ghost use Rattle.hex_io.specs.Mem.{ReadFails, WriteFails, moved_of, room_left, after_read};
+ghost use Rattle.hex_io.specs.Mem.{after_write, new_link};
 
 use super::links::Link;
 use super::refusals::{LinkFault, Memory};
@@ -42,9 +42,9 @@ pub struct MemLink {
 
 impl Model for MemLink {
     ghost use Rattle.std.specs.Prelude.{◌<◌, ◌≤◌, map, take, drop, vec_len, vec_capacity};
-    ghost use Rattle.hex_io.specs.Mem.{Wire, ask_pair};
+    ghost use Rattle.hex_io.specs.Mem.{MemLinkData, ask_pair};
 
-    ghost Value = { Wire };
+    ghost Value = { MemLinkData };
 
     ghost view = { λ s. record {
       told = record {
@@ -87,11 +87,7 @@ impl Link for MemLink {
         ensures fails { IsErr result ↔ ReadFails self.old }
         ensures moves { IfOk result
             (λ n. n ≡ moved_of (length self.old.told.to_come) self.old.piece (length buf.old)) }
-        ensures rest { self.new ≡ record self.old {
-          told = self.new.told;
-          next_read = one_more self.old.next_read;
-          read_faults = counted self.old.read_faults result;
-        } }
+        ensures rest { self.new ≡ after_read self.old self.new.told result }
     {
         let number = self.next_read;
         self.next_read = self.next_read.saturating_add(1);
@@ -117,13 +113,8 @@ impl Link for MemLink {
         ensures reads { self.new.read_faults ≡ self.old.read_faults }
         ensures fails { IsErr result ↔ WriteFails self.old }
         ensures moves { IfOk result
-            (λ n. n ≡ moved_of (self.old.room - length self.old.told.given) self.old.piece
-            (length bytes.now)) }
-        ensures rest { self.new ≡ record self.old {
-          told = self.new.told;
-          next_write = one_more self.old.next_write;
-          write_faults = counted self.old.write_faults result;
-        } }
+            (λ n. n ≡ moved_of (room_left self.old) self.old.piece (length bytes.now)) }
+        ensures rest { self.new ≡ after_write self.old self.new.told result }
     {
         let number = self.next_write;
         self.next_write = self.next_write.saturating_add(1);
@@ -159,18 +150,8 @@ impl MemLink {
         bad_writes: Vec<u32>,
     ) -> Result<MemLink, Memory>
         requires { 1 ≤ piece }
-        ensures { IfOk result (λ link. link ≡ record {
-          told = record { to_come = input.items; taken = []; given = []; asks = [] };
-          piece = piece;
-          room = room;
-          reads = reads;
-          bad_reads = bad_reads.items;
-          bad_writes = bad_writes.items;
-          next_read = 0;
-          next_write = 0;
-          read_faults = 0;
-          write_faults = 0;
-        }) }
+        ensures { IfOk result (λ link. link
+            ≡ new_link input.items piece room reads bad_reads.items bad_writes.items) }
     {
         let given = Vec::with_capacity(alloc, room)?;
         let asks = Vec::with_capacity(alloc, reads)?;

@@ -13,8 +13,5 @@ all_seen words n past h = subst (λ (ws : List TextBytes). All IsOther ws) (take
 pub all_text : (words : List TextBytes) → All IsOther words → All IsUtf8 words
 all_text words h k d lt = (h k d lt).0
 
-pub none_alone : (words : List TextBytes) → All IsOther words → Contains words lone_hyphen → ⊥
-none_alone words h found = (h found.0 lone_hyphen found.1).1 found.2
-
 pub all_other : (words : List TextBytes) → All IsUtf8 words → (Contains words lone_hyphen → ⊥) → All IsOther words
 all_other words text none k d lt = (text k d lt, λ e. none (k, lt, get_or_default words k lone_hyphen d lt ∙ e))

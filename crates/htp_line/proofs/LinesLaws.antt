@@ -12,9 +12,6 @@ onto_front l (q ∷ qs) = (l ++ q) ∷ qs
 abbrev pub glued : List (List ℕ) → List (List ℕ) → List (List ℕ)
 glued ps qs = but_last ps ++ onto_front (last_part ps) qs
 
-pub IsSome_part : List (List ℕ) → Type 0
-IsSome_part ps = (p : List ℕ) × (more : List (List ℕ)) × (ps ≡ p ∷ more)
-
 glued-feed : (ps qs : List (List ℕ)) (p : List ℕ) (more : List (List ℕ)) → ps ≡ p ∷ more → [] ∷ glued ps qs ≡ glued ([] ∷ ps) qs
 glued-feed ps qs p more e = rw e refl
 

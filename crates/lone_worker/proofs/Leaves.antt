@@ -10,7 +10,7 @@ use Rattle.tree_words.specs.Paths.{NodeState, root_state, node_state, node_board
 use Rattle.tree_words.specs.Sequence.{asks, gets_block, next_after, size_below, search_game}
 use Rattle.tree_words.specs.Trees.{oldest_first}
 use Rattle.tree_words.specs.Descents.{NewBlock, leaf_at, walk_end}
-use Rattle.tree_words.proofs.Walks.Asking.{next-stays}
+use Rattle.tree_words.proofs.Walks.Asking.{next-stays, next-asked, gets-made, gets-past, gets-none}
 use Rattle.tree_words.proofs.Walks.Leaves.{Whole}
 use Rattle.arena_rule.specs.Views.{HeldBlock, Walked}
 use Rattle.arena_rule.specs.Parts.{amount_recorded}
@@ -40,28 +40,6 @@ asks-none s next v p why = by s.knobs.expand v.visits (length (empties_of p.boar
     by : (a b c d e : ℕ) → (b < a) ⊎ ((c ≡ 0) ⊎ (e < d)) → (nat_le a b && (nat_lt 0 c && nat_le d e)) ≡ false
     by a b c d e h = ⊎_elim (λ (l : b < a). few a b c d e l) (λ (m : (c ≡ 0) ⊎ (e < d)). ⊎_elim (λ (z : c ≡ 0). none a b c d e z) (λ (z : e < d). past a b c d e z) m) h
 
--- it gets the block where it asks and the block fits
-gets-then : (s : Setting) (next : ℕ) (v : Count) (p : NodeState) → asks s next v p ≡ true → next + size_below p ≤ end_of s → gets_block s next v p ≡ true
-unfolding gets_block
-gets-then s next v p a l = both (asks s next v p) (next + size_below p) (end_of s) a l
-  where
-    both : (t : Bool) (m n : ℕ) → t ≡ true → m ≤ n → (t && nat_le m n) ≡ true
-    both t m n a l = grind (arith, nat_tests)
-
-gets-not : (s : Setting) (next : ℕ) (v : Count) (p : NodeState) → (asks s next v p ≡ false) ⊎ (end_of s < next + size_below p) → gets_block s next v p ≡ false
-unfolding gets_block
-gets-not s next v p h = ⊎_elim (λ (a : asks s next v p ≡ false). left (asks s next v p) (next + size_below p) (end_of s) a) (λ (l : end_of s < next + size_below p). right (asks s next v p) (next + size_below p) (end_of s) l) h
-  where
-    left : (t : Bool) (m n : ℕ) → t ≡ false → (t && nat_le m n) ≡ false
-    left t m n a = grind (arith, nat_tests)
-
-    right : (t : Bool) (m n : ℕ) → n < m → (t && nat_le m n) ≡ false
-    right t m n l = grind (arith, nat_tests)
-
-after-asked : (s : Setting) (next : ℕ) (v : Count) (p : NodeState) → asks s next v p ≡ true → next_after s next v p ≡ next + size_below p
-unfolding next_after
-after-asked s next v p a = ap (λ (t : Bool). cond t (next + size_below p) next) a
-
 module _ (s : Setting) (bs : List LinkedBlock) (ws : List Walked) (next k : ℕ) (b : Between s bs ws next k) (v : Count) (p : NodeState)
     (end : walk_end (search_game s) (root_state s) (root_at s) (config_by s bs ws next) ≡ (v, p)) where
   -- the leaf asks for no block
@@ -72,7 +50,7 @@ module _ (s : Setting) (bs : List LinkedBlock) (ws : List Walked) (next k : ℕ)
     tree = b.tree;
     widened = record {
       next = sym (ap (λ (z : Count × NodeState). next_after s next z.0 z.1) end ∙ next-stays s next v p a);
-      block = inr (ap (λ (z : Count × NodeState). gets_block s next z.0 z.1) end ∙ gets-not s next v p (inl a), refl);
+      block = inr (ap (λ (z : Count × NodeState). gets_block s next z.0 z.1) end ∙ gets-none s next v p a, refl);
       tally = λ w t. refl;
       seen = λ w t d. refl;
     };
@@ -85,8 +63,8 @@ module _ (s : Setting) (bs : List LinkedBlock) (ws : List Walked) (next k : ℕ)
     fine = b.fine;
     tree = b.tree;
     widened = record {
-      next = sym (ap (λ (z : Count × NodeState). next_after s next z.0 z.1) end ∙ after-asked s next v p a);
-      block = inr (ap (λ (z : Count × NodeState). gets_block s next z.0 z.1) end ∙ gets-not s next v p (inr l), refl);
+      next = sym (ap (λ (z : Count × NodeState). next_after s next z.0 z.1) end ∙ next-asked s next v p a);
+      block = inr (ap (λ (z : Count × NodeState). gets_block s next z.0 z.1) end ∙ gets-past s next v p a l, refl);
       tally = λ w t. refl;
       seen = λ w t d. refl;
     };
@@ -105,7 +83,7 @@ module _ (s : Setting) (bs : List LinkedBlock) (ws : List Walked) (next k : ℕ)
       let many : length n.cells ≡ length (empties_of p.board) = ap length cells in
       let a : asks s h.start v p ≡ true = asks-then s h.start v p visits (omega (arith, some, many)) (omega (arith, b.inside)) in
       let big : h.size ≡ size_below p = omega (arith, fits, many) in
-      let wide : gets_block s h.start v p ≡ true = gets-then s h.start v p a (omega (arith, big, b.inside)) in
+      let wide : gets_block s h.start v p ≡ true = gets-made s h.start v p a (omega (arith, big, b.inside)) in
       let same : (w : ℕ) → count_in (amount_recorded s (n ∷ bs) w ws) ≡ count_in (amount_recorded s bs w ws) = λ w. ap count_in (recorded-linked s bs whole.order n f ws leaves w) in
       let new : NewBlock (search_game s) (root_state s) (root_at s) (config_by s bs ws h.start) (config_by s (n ∷ bs) ws next) n = record {
         wide = ap (λ (z : Count × NodeState). gets_block s h.start z.0 z.1) end ∙ wide;
@@ -122,7 +100,7 @@ module _ (s : Setting) (bs : List LinkedBlock) (ws : List Walked) (next k : ℕ)
         fine = b.between.fine;
         tree = b.between.tree;
         widened = record {
-          next = b.past ∙ sym (ap (λ (z : Count × NodeState). next_after s h.start z.0 z.1) end ∙ after-asked s h.start v p a ∙ omega (arith, big));
+          next = b.past ∙ sym (ap (λ (z : Count × NodeState). next_after s h.start z.0 z.1) end ∙ next-asked s h.start v p a ∙ omega (arith, big));
           block = inl (n, new);
           tally = λ w t. same (w + 2);
           seen = λ w t d. same (w + 3);

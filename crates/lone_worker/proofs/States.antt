@@ -31,6 +31,7 @@ use Rattle.arena_rule.proofs.SeatsGrowth.{loaded-first, visits-first, leaf-first
 use Rattle.arena_rule.proofs.Room.{room-step}
 use Rattle.arena_rule.proofs.SeatsRoom.{room-first}
 use Rattle.arena_rule.proofs.Firsts.{opening-first}
+use Rattle.arena_rule.proofs.Law.{state-first}
 
 module _ (bs : List LinkedBlock) (words : List ℕ) (v : SeatView) (b : Before bs words (v ∷ []) 0 v) where
   -- the view after a step
@@ -66,24 +67,4 @@ module _ (bs : List LinkedBlock) (words : List ℕ) (v : SeatView) (b : Before b
 
 -- the rule holds of the opening words with the opening view
 pub state-opening : (s : Setting) → IsSetting s → IsState s (opening_blocks s) (opening_words s) (opening_view s ∷ [])
-state-opening s h =
-    let views : List SeatView = opening_view s ∷ [] in
-    let f : AreFirst s views = opening-first s h in
-    record {
-      setting = h;
-      long = (opening-are s h).long;
-      widths = widths-first s views h f;
-      fresh = fresh-first s views h f;
-      apart = apart-first s views h f;
-      linked = linked-first s views h f;
-      held = held-first s views h f;
-      known = known-first s views h f;
-      sums = sums-first s views h f;
-      tickets = tickets-first s views h f;
-      in_hand = in_hand-first s views h f;
-      sole = sole-first s views h f;
-      loaded = loaded-first s views h f;
-      first_visits = visits-first s views h f;
-      leaf_bound = leaf-first s views h f;
-      room = room-first s views h f;
-    }
+state-opening s h = state-first s (opening_view s ∷ []) h (opening-first s h)

@@ -33,7 +33,7 @@ use Rattle.arena_rule.proofs.Amounts.{amount-parts, wins-less, wins_added}
 use Rattle.arena_rule.proofs.AddLaws.{tally-amount, seen-amount, tally-adds, seen-adds}
 use Rattle.lone_worker.proofs.Counts.{tally_by, seen_by, config_by}
 use Rattle.lone_worker.proofs.Courses.{Between, AtEnd}
-use Rattle.arena_rule.proofs.AnswersCounts.{one_or_none}
+use Rattle.arena_rule.proofs.CountSums.{one-most}
 
 -- a word with one more visit, or with none
 word-more : (n : ℕ) (t u : Bool) → wins_in n + 1 < 2 ^ 32 → count_in (cond t (amount_of u) 0 + n) ≡ plus (count_in n) (cond t (one u) nothing)
@@ -81,7 +81,7 @@ module _ (s : Setting) (bs : List LinkedBlock) (whole : Whole (root_at s) bs) (w
   tally-more w n =
       let on : Bool = is_on s bs w leaf in
       let won : Bool = is_same o.winner (mover_of s bs w) in
-      let once : IsOnce s bs (w + TALLY_WORD) = λ j lf. let e = tally-adds s bs whole.order j lf w n in omega (arith, e, one_or_none (is_on s bs w lf)) in
+      let once : IsOnce s bs (w + TALLY_WORD) = λ j lf. let e = tally-adds s bs whole.order j lf w n in omega (arith, e, one-most (is_on s bs w lf)) in
       ap count_in (more (w + TALLY_WORD) ∙ ap (λ (m : ℕ). m + amount_recorded s bs (w + TALLY_WORD) ws) (tally-amount s bs whole.order k leaf w n))
       ∙ word-more (amount_recorded s bs (w + TALLY_WORD) ws) on won (few-wins s bs (w + TALLY_WORD) once ws few)
       ∙ ap (plus (tally_by s bs ws w)) (ap (λ (x : ℕ). cond (is_on s bs w x) (one won) nothing) at ∙ sym (adds-at s (tally_by s bs ws) (seen_by s bs ws) bs whole o w))
@@ -99,7 +99,7 @@ module _ (s : Setting) (bs : List LinkedBlock) (whole : Whole (root_at s) bs) (w
       let won : Bool = is_same o.winner (mover_of s bs w) in
       let once : IsOnce s bs (w + SEEN_WORD) = λ j lf.
       let e = seen-adds s bs whole.order j lf c w i h in
-      omega (arith, e, one_or_none (enters s bs c lf && has_cell (stones_of (outcome_of s j (node_state s bs lf)).full (mover_of s bs w)) (cell_at c (place c w)))) in
+      omega (arith, e, one-most (enters s bs c lf && has_cell (stones_of (outcome_of s j (node_state s bs lf)).full (mover_of s bs w)) (cell_at c (place c w)))) in
       ap count_in (more (w + SEEN_WORD) ∙ ap (λ (m : ℕ). m + amount_recorded s bs (w + SEEN_WORD) ws) (seen-amount s bs whole.order k leaf c w i h ∙ both enter stone (amount_of won)))
       ∙ word-more (amount_recorded s bs (w + SEEN_WORD) ws) (enter && stone) won (few-wins s bs (w + SEEN_WORD) once ws few)
       ∙ ap (plus (seen_by s bs ws w))

@@ -22,12 +22,12 @@ use Rattle.lone_worker.specs.Alone.{MakesStep}
 use Rattle.search_team.specs.Left.{work_left}
 use Rattle.search_team.specs.Runs.{HasRun}
 use Rattle.search_team.proofs.Going.{is-done, not-done, step-falls, run-begins}
-use Rattle.walker.proofs.MemberLaws.{lt-yes}
+use Rattle.std.proofs.lemmas.Bool.{lt-ltb}
 
 -- a scan that is not at its end is put back as it is
 lent : (w : Walker) (s : ScanData) → s.place < s.count → with_scan w s ≡ record w { scan = s }
 unfolding with_scan
-lent w s l = let p : nat_lt s.place s.count ≡ true = lt-yes s.place s.count l in rw p
+lent w s l = let p : nat_lt s.place s.count ≡ true = lt-ltb s.place s.count l in rw p
 
 twice : (w : Walker) (s d : ScanData) → with_scan w d ≡ with_scan (record w { scan = s }) d
 unfolding with_scan

@@ -2,6 +2,7 @@
 use Rattle.std.proofs.Common.{◌≡◌, ℕ, ◌+◌, ◌-◌, ◌<◌, ◌≤◌, nat_lt, nat_le, Bool, true, false, cond, List, length, set, get_or, get_or-set_same, get_or-set_other, refl, sym, ap, ◌∙◌, subst, arith}
 use Rattle.std.specs.Prelude.{◌&&◌}
 use Rattle.std.proofs.Math.ListN.{length-set}
+use Rattle.std.proofs.lemmas.Bool.{lt-leb}
 use Rattle.std.proofs.lemmas.Bool.Decides.{nat_tests}
 use Rattle.play_out.specs.Fills.{empties_of}
 use Rattle.tree_words.specs.Settings.{Setting}
@@ -13,6 +14,7 @@ use Rattle.tree_words.specs.Writing.{WritesBlock}
 use Rattle.seq_search.specs.Writing.{LinksBlock, LinksBelow, Grows, block_below}
 use Rattle.tree_words.proofs.NewBlocks.Writes.{block_of}
 use Rattle.tree_words.proofs.Blocks.BlockLaws.{clash}
+use Rattle.tree_words.proofs.Walks.Asking.{gets-made}
 
 -- a leaf with few visits, or without an empty cell, asks for none
 pub few_asks : (s : Setting) (n : ℕ) (v : Count) (p : NodeState) → v.visits < s.knobs.expand → asks s n v p ≡ false
@@ -52,20 +54,11 @@ pub next-of : (s : Setting) (n : ℕ) (v : Count) (p : NodeState) (t : Bool) →
 unfolding next_after
 next-of s n v p t e = ap (λ (u : Bool). cond u (n + size_below p) n) e
 
-at_most : (a b : ℕ) → a ≤ b → nat_le a b ≡ true
-at_most a b l = grind (arith, nat_tests)
-
-more_than : (a b : ℕ) → b < a → nat_le a b ≡ false
-more_than a b l = grind (arith, nat_tests)
-
 pub gets-none : (s : Setting) (n : ℕ) (v : Count) (p : NodeState) → asks s n v p ≡ false → gets_block s n v p ≡ false
 gets-none s n v p e = gets-of s n v p false e
 
 pub gets-past : (s : Setting) (n : ℕ) (v : Count) (p : NodeState) → asks s n v p ≡ true → end_of s < n + size_below p → gets_block s n v p ≡ false
-gets-past s n v p e l = gets-of s n v p true e ∙ more_than (n + size_below p) (end_of s) l
-
-pub gets-made : (s : Setting) (n : ℕ) (v : Count) (p : NodeState) → asks s n v p ≡ true → n + size_below p ≤ end_of s → gets_block s n v p ≡ true
-gets-made s n v p e l = gets-of s n v p true e ∙ at_most (n + size_below p) (end_of s) l
+gets-past s n v p e l = gets-of s n v p true e ∙ lt-leb (n + size_below p) (end_of s) l
 
 pub grows-none : (s : Setting) (leaf : ℕ) (p : NodeState) (words : List ℕ) → asks s (next_in words) (tally_in words leaf) p ≡ false → Grows s leaf p words words
 grows-none s leaf p words e = record {

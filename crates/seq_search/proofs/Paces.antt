@@ -26,7 +26,7 @@ use Rattle.tree_words.proofs.Blocks.Orders.{rooted-turned, link-bare}
 use Rattle.seq_search.specs.Steps.{Holds}
 use Rattle.seq_search.specs.declared.descending.Descent.{Descent}
 use Rattle.seq_search.specs.Descending.{nodes_down, steps_below, Descended}
-use Rattle.seq_search.specs.Adding.{Sighted, Counted}
+use Rattle.seq_search.specs.Adding.{Sighted, Counted, HasWalked}
 use Rattle.tree_words.proofs.Blocks.NodeLaws.{nodes-apart, stays-clear}
 use Rattle.tree_words.proofs.Blocks.Members.{in-turned}
 use Rattle.seq_search.proofs.LinkLaws.{IsBelow, below, node-fits, child-node, child-move, child-spot}
@@ -278,10 +278,7 @@ kid-cell s bs words k z h x b w j l =
 pub kid-small : (s : Setting) → IsSetting s → (c : ℕ) → c < s.board.size * s.board.size → c < 256
 kid-small s z c l = let f = square_small s.board.size z.position.most in omega (arith, f, l)
 
--- how the adds are told that a walk has come to its leaf, and how far they are
-abbrev pub HasWalked : Setting → List ℕ → Descent → Type 0
-HasWalked s before d = (bs : List LinkedBlock) × (k : ℕ) × (k < s.knobs.playouts) × Holds s bs before k × Descended s bs before d
-
+-- how far the adds are
 abbrev pub Adds : Setting → List ℕ → Descent → Ending → List ℕ → ℕ → Colour → List ℕ → Type 0
 Adds s before d o now x who left = (bs : List LinkedBlock) (k : ℕ) → k < s.knobs.playouts → Holds s bs before k → Descended s bs before d → Adding s bs o before now x who left
 

@@ -1,5 +1,5 @@
 -- What a walk adds, word by word.
-use Rattle.std.specs.Prelude.{◌≡◌, ◌≢◌, ℕ, ◌+◌, ◌*◌, ◌<◌, if◌then◌else◌, true, List, length}
+use Rattle.std.specs.Prelude.{◌≡◌, ◌≢◌, ℕ, ◌+◌, ◌<◌, if◌then◌else◌, true, List, length}
 use Rattle.std.specs.Prelude.{slice_index}
 use Rattle.hex_cells.specs.Sets.{has as has_cell}
 use Rattle.tree_words.specs.Settings.{Setting}
@@ -12,6 +12,9 @@ use Rattle.play_out.specs.declared.playouts.Ending.{Ending}
 use Rattle.tree_words.specs.Sequence.{search_game}
 use Rattle.tree_words.specs.Descents.{adds, sees, Added, config_of}
 use Rattle.tree_words.specs.declared.layout.TheConstants.{TALLY_WORD, SEEN_WORD}
+use Rattle.seq_search.specs.Steps.{Holds}
+use Rattle.seq_search.specs.Descending.{Descended}
+use Rattle.seq_search.specs.declared.descending.Descent.{Descent}
 
 -- Of the first n nodes of the block at b, the seen word of each whose cell is in the set has so
 -- much more, and all else is as before.
@@ -42,3 +45,19 @@ pub record Counted (s : Setting) (bs : List LinkedBlock) (o : Ending)
 abbrev pub AddsWalk : Setting → List LinkedBlock → Ending → List ℕ → List ℕ → Type 0
 AddsWalk s bs o before after =
     Added (search_game s) (root_state s) (root_at s) o (config_of bs before) (config_of bs after)
+
+-- The words hold a tree after some walks, but not all, and the next walk has come to its leaf.
+abbrev pub HasWalked : Setting → List ℕ → Descent → Type 0
+HasWalked s words d = (bs : List LinkedBlock) × (k : ℕ) × (k < s.knobs.playouts)
+    × Holds s bs words k × Descended s bs words d
+
+-- Where the words hold the tree of some blocks after k walks, and walk k has come to its leaf, this
+-- holds of the blocks.
+abbrev pub IfWalked : Setting → List ℕ → ℕ → Descent → (List LinkedBlock → Type 0) → Type 0
+IfWalked s words k d p =
+    (bs : List LinkedBlock) → Holds s bs words k → Descended s bs words d → p bs
+
+-- The walk's counts are added, where its playout gave o.
+abbrev pub CountsWalk : Setting → Descent → Ending → List ℕ → List ℕ → Type 0
+CountsWalk s d o before after = (bs : List LinkedBlock) (k : ℕ) → k < s.knobs.playouts
+    → Holds s bs before k → Descended s bs before d → Counted s bs o before after

@@ -1,8 +1,8 @@
 -- What a search keeps from walk to walk.
-use Rattle.std.specs.Prelude.{◌≡◌, ℕ, List}
+use Rattle.std.specs.Prelude.{◌≡◌, ℕ, ◌<◌, ◌≤◌, List}
 use Rattle.tree_words.specs.Settings.{Setting}
 use Rattle.tree_words.specs.Words.{root_at, next_in, ticket_in}
-use Rattle.tree_words.specs.Blocks.{LinkedBlock}
+use Rattle.tree_words.specs.Blocks.{LinkedBlock, link_of}
 use Rattle.tree_words.specs.Paths.{root_state}
 use Rattle.tree_words.specs.Walks.{walks}
 use Rattle.tree_words.specs.Sequence.{search_game, first_tree}
@@ -33,3 +33,13 @@ pub record Reached (s : Setting) (bs : List LinkedBlock) (k : ℕ) (before after
       (config_of blocks after)
   pub keeps : KeepsRecords s before after
   pub descended : Descended s blocks after d
+
+-- The words hold a tree after some walks, whose root has its block.
+abbrev pub HoldsRooted : Setting → List ℕ → Type 0
+HoldsRooted s words = (bs : List LinkedBlock) × (k : ℕ) × (k ≤ s.knobs.playouts)
+    × Holds s bs words k × (0 < link_of bs (root_at s))
+
+-- The walk has come to its leaf, whichever such tree the words held before.
+abbrev pub ReachesLeaf : Setting → List ℕ → List ℕ → Descent → Type 0
+ReachesLeaf s before after d = (bs : List LinkedBlock) (k : ℕ) → k ≤ s.knobs.playouts
+    → Holds s bs before k → 0 < link_of bs (root_at s) → Reached s bs k before after d

@@ -1,7 +1,7 @@
 //! What a walk adds: its playout's result to the counts and to the records.
 
 ghost use Rattle.std.specs.Prelude.{◌≡◌, ℕ, ◌+◌, ◌*◌, ◌^◌, ◌≤◌, ◌<◌, length, set, slice_index};
-ghost use Rattle.std.specs.Prelude.{List, true};
+ghost use Rattle.std.specs.Prelude.{List};
 ghost use Rattle.hex_cells.specs.declared.colours.Colour.TheVariants.{White};
 ghost use Rattle.hex_cells.specs.Colours.{is_same};
 ghost use Rattle.tree_words.specs.Blocks.{LinkedBlock, one_if, block_size};
@@ -9,7 +9,7 @@ ghost use Rattle.tree_words.specs.Words.{cell_in, nodes_in, node_at};
 ghost use Rattle.tree_words.specs.Sequence.{amount_of};
 ghost use Rattle.seq_search.specs.Steps.{Holds, Records};
 ghost use Rattle.seq_search.specs.Descending.{Descended};
-ghost use Rattle.seq_search.specs.Adding.{Counted, Sighted, AddsWalk};
+ghost use Rattle.seq_search.specs.Adding.{AddsWalk, CountsWalk, HasWalked, IfWalked, Sighted};
 
 use super::descending::Descent;
 use hex_cells::{Cell, CellSet, Colour, MOST_CELLS};
@@ -59,11 +59,8 @@ fn see(words: &mut [u64], block: usize, stones: CellSet, amount: u64)
 // where its mover won; and each node of the blocks that it went through is seen where its cell
 // holds a stone of its mover.
 fn count(words: &mut [u64], shape: &Shape, walk: &Descent, ending: &Ending)
-    requires walked { (bs : List LinkedBlock) × (k : ℕ) × (k < shape.now.knobs.playouts)
-        × Holds shape.now bs words.old k × Descended shape.now bs words.old walk.now }
-    ensures { (bs : List LinkedBlock) (k : ℕ) → k < shape.now.knobs.playouts
-        → Holds shape.now bs words.old k → Descended shape.now bs words.old walk.now
-        → Counted shape.now bs ending.now words.old words.new }
+    requires walked { HasWalked shape.now words.old walk.now }
+    ensures { CountsWalk shape.now walk.now ending.now words.old words.new }
 {
     // What each shape keeps of itself.
     let _board = shape.board();
@@ -96,11 +93,10 @@ pub(crate) fn add(words: &mut [u64], shape: &Shape, walk: &Descent, k: u32, endi
     requires number { k < shape.now.knobs.playouts }
     requires walked { (bs : List LinkedBlock) × Holds shape.now bs words.old k
         × Descended shape.now bs words.old walk.now }
-    ensures holds { (bs : List LinkedBlock) → Holds shape.now bs words.old k
-        → Descended shape.now bs words.old walk.now → Holds shape.now bs words.new (k + 1) }
-    ensures added { (bs : List LinkedBlock) → Holds shape.now bs words.old k
-        → Descended shape.now bs words.old walk.now
-        → AddsWalk shape.now bs ending.now words.old words.new }
+    ensures holds { IfWalked shape.now words.old k walk.now
+        (λ bs. Holds shape.now bs words.new (k + 1)) }
+    ensures added { IfWalked shape.now words.old k walk.now
+        (λ bs. AddsWalk shape.now bs ending.now words.old words.new) }
     ensures record { let white = one_if (is_same ending.now.winner White) in
         Records shape.now k (RECORD_UNIT * walk.now.node + white) words.old words.new }
 {

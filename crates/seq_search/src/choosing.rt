@@ -1,6 +1,6 @@
 //! The child that a walk goes to.
 
-ghost use Rattle.std.specs.Prelude.{◌≡◌, ◌+◌, ◌≤◌, length, slice_index};
+ghost use Rattle.std.specs.Prelude.{◌≡◌, ◌+◌, ◌≤◌, length};
 ghost use Rattle.uct_table.specs.Choice.{choice_of};
 ghost use Rattle.tree_words.specs.Blocks.{block_size};
 ghost use Rattle.tree_words.specs.Sequence.{children_in};

@@ -1,6 +1,6 @@
 -- The size and the start stones that a record's root names.
-use Rattle.std.specs.Prelude.{ℕ, Bool, false, ◌==◌, ◌||◌, List, [], ◌∷◌, ◌++◌, Option, Some, None}
-use Rattle.std.specs.Prelude.{is_none, map, find, codes}
+use Rattle.std.specs.Prelude.{◌≡◌, ℕ, Bool, true, false, ◌==◌, ◌||◌, List, [], ◌∷◌, ◌++◌, Option}
+use Rattle.std.specs.Prelude.{Some, None, MatchOption, is_none, map, find, codes}
 use Rattle.std.specs.Fmt.{decimal}
 use Rattle.std.specs.List.{list_any, range_with_len}
 use Rattle.std.specs.Str.{bytes_eq}
@@ -86,3 +86,8 @@ start_of n root = record {
   black = with_cells 0 (cells_named n (codes "AB") root);
   white = with_cells 0 (cells_named n (codes "AW") root);
 }
+
+-- the start board of a line, where its set-up is not refused; none, where it is
+abbrev pub IsStartOf : ℕ → Node → List Node → Option Position → Type 0
+IsStartOf n root behind start = MatchOption start (is_bad_setup n root behind ≡ true)
+    (λ board. (is_bad_setup n root behind ≡ false) × (board ≡ start_of n root))

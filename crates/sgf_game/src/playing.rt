@@ -1,13 +1,12 @@
 //! Playing the turns of a record.
 
 ghost use Rattle.std.specs.Prelude.{◌≡◌, ◌++◌, true, false, not};
-ghost use Rattle.hex_game.specs.Games.{GameData};
 ghost use Rattle.sgf_game.specs.GameOf.{GameOrMemory};
 ghost use Rattle.sgf_game.specs.Turns.{is_refused_said, step_said, game_of_turns};
 ghost use Rattle.sgf_game.specs.Playing.{IsSaidOn, AreSaidOn, EndsLast};
 
 use super::error::GameError;
-use super::turns::{Said, Turn};
+use super::turns::{MoveText, Turn};
 use hex_board::Board;
 use hex_game::Game;
 use std::alloc::Global;
@@ -22,8 +21,8 @@ fn take_turn(game: &mut Game, turn: &Turn) -> bool
 {
     match turn.said {
         None => false,
-        Some(Said::Ends) => true,
-        Some(Said::Plays(what)) => game.play(turn.colour, what).is_ok(),
+        Some(MoveText::Ends) => true,
+        Some(MoveText::Plays(what)) => game.play(turn.colour, what).is_ok(),
     }
 }
 

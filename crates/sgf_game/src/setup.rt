@@ -1,11 +1,10 @@
 //! The start stones that a record's root names.
 
-ghost use Rattle.std.specs.Prelude.{◌≡◌, true, false, map, MatchOption};
+ghost use Rattle.std.specs.Prelude.{◌≡◌, map};
 ghost use Rattle.hex_cells.specs.Vertices.{vertex_cell};
 ghost use Rattle.sgf_game.specs.Lines.{nodes_lent};
 ghost use Rattle.sgf_game.specs.Values.{trimmed};
-ghost use Rattle.sgf_game.specs.Setup.{changes, is_changed_late, cells_named, is_bad_setup};
-ghost use Rattle.sgf_game.specs.Setup.{start_of};
+ghost use Rattle.sgf_game.specs.Setup.{IsStartOf, changes, is_changed_late, cells_named};
 ghost use Rattle.sgf_game.specs.Placing.{placed_on};
 
 use super::values::{has_named, is_named, trimmed};
@@ -64,9 +63,7 @@ fn stones_named(root: &Node, name: &[u8], taken: CellSet, size: Size) -> Option<
 
 /// The start board of a line; `None` exactly where its set-up is refused.
 pub fn start_of(root: &Node, behind: &[&Node], size: Size) -> Option<Board>
-    ensures { let bad = is_bad_setup size root.now (nodes_lent behind.now) in
-        MatchOption result (bad ≡ true)
-        (λ start. (bad ≡ false) × (start ≡ start_of size root.now)) }
+    ensures { IsStartOf size root.now (nodes_lent behind.now) result }
 {
     if is_changed_late(root, behind) {
         return None;

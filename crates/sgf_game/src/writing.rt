@@ -1,6 +1,6 @@
 //! Writing: the record of a game.
 
-ghost use Rattle.std.specs.Prelude.{◌≡◌, ◌*◌, ◌<◌, ◌≤◌, ◌++◌, ◌∷◌, [], IfOk, OnOk, Ok};
+ghost use Rattle.std.specs.Prelude.{◌≡◌, ◌<◌, ◌≤◌, ◌++◌, ◌∷◌, [], IfOk, OnOk, Ok};
 ghost use Rattle.hex_board.specs.Positions.{Within};
 ghost use Rattle.sgf_tree.specs.Trees.{depth};
 ghost use Rattle.sgf_tree.specs.Printing.{HasText, max_depth};

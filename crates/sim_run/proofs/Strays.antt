@@ -3,10 +3,9 @@ use Rattle.std.proofs.Common.{◌≡◌, ℕ, ◌<◌, ◌≤◌, Bool, true, fa
 use Rattle.std.specs.List.{position_or_len}
 use Rattle.std.specs.Prelude.{nat_le}
 use Rattle.std.proofs.lemmas.List.Sums.{fails_before_first}
-use Rattle.std.proofs.lemmas.Bool.Decides.{nat_tests}
 use Rattle.tree_words.specs.Settings.{Setting}
 use Rattle.sim_run.specs.Schedules.{is_stray, first_stray}
-use Rattle.walker.proofs.KeepsDown.{not-less}
+use Rattle.std.proofs.lemmas.Bool.{leb-false, ltb-false}
 
 none_if : (b : Bool) (i : ℕ) → cond b (Some i) None ≡ None → b ≡ false
 none_if true i e = cc
@@ -16,5 +15,5 @@ pub none-stray : (s : Setting) (schedule : List ℕ) → first_stray s schedule 
 none-stray s schedule e k d l =
     let n : ℕ = position_or_len (is_stray s) schedule in
     let far : ltb n (length schedule) ≡ false = none_if (ltb n (length schedule)) n e in
-    let past : length schedule ≤ n = grind (arith, nat_tests) in
-    not-less s.knobs.workers (get_or schedule k d) (fails_before_first (is_stray s) schedule k d (omega (arith, past, l)))
+    let past : length schedule ≤ n = ltb-false n (length schedule) far in
+    leb-false s.knobs.workers (get_or schedule k d) (fails_before_first (is_stray s) schedule k d (omega (arith, past, l)))

@@ -1,9 +1,8 @@
 -- Words that are copied one by one.
-use Rattle.std.proofs.Common.{◌≡◌, ◌≢◌, ◌⊎◌, ℕ, zero, suc, ◌+◌, ◌<◌, ◌≤◌, List, [], ◌∷◌, ◌++◌, length, set, take, sym, ap, ◌∙◌, ⊎_elim, inl, inr, arith, length-set}
+use Rattle.std.proofs.Common.{◌≡◌, ◌≢◌, ◌⊎◌, ℕ, zero, suc, ◌+◌, ◌<◌, ◌≤◌, List, [], ◌∷◌, length, set, sym, ap, ◌∙◌, ⊎_elim, inl, inr, arith, length-set}
 use Rattle.std.specs.Prelude.{slice_index}
 use Rattle.std.proofs.lemmas.List.{ext_get_or, get_or-set_other, get_or-set_same}
 use Rattle.std.proofs.lemmas.Bool.{cases_lt}
-use Rattle.std.proofs.Math.Seq.{take-append_seam}
 use mathlib.Core.Option.{some, some-injective, some-ne-none}
 use mathlib.Core.Logic.{dite}
 use native.Mathlib.Decide.{ℕ_discrete}
@@ -34,7 +33,3 @@ copied-all words room next i c o =
   where
     by : (j : ℕ) → next ≤ i → (j < i) ⊎ (next ≤ j)
     by j l = ⊎_elim (λ (t : j < i). inl t) (λ (t : i ≤ j). inr (omega (arith, t, l))) (cases_lt j i)
-
--- what is put at the front of a room of its length is all of it
-pub room-kept : (n : ℕ) (new rest : List ℕ) → n ≡ length new → take n (new ++ rest) ≡ new
-room-kept n new rest e = ap (λ (k : ℕ). take k (new ++ rest)) e ∙ take-append_seam new rest

@@ -1,5 +1,5 @@
 -- The script of two workers who race for one block: each step fits.
-use Rattle.std.proofs.Common.{ℕ, true, false, List, [], ◌∷◌, ◌++◌, refl, arith}
+use Rattle.std.proofs.Common.{ℕ, ◌+◌, Bool, true, false, List, [], ◌∷◌, ◌++◌, refl, arith}
 use Rattle.hex_cells.specs.Sets.{has as has_cell}
 use Rattle.play_out.specs.Fills.{empties_of}
 use Rattle.tree_words.specs.Complete.{allowed_cells, set_of}
@@ -69,47 +69,17 @@ walk =
     ∷ (true, Claim 16, 46)
     ∷ []
 
--- the first seat writes its block
-abbrev first_writes : List ScriptLine
-first_writes =
-    (false, Write 30 14, 0)
-    ∷ (false, Write 31 14, 0)
-    ∷ (false, Write 32 0, 0)
-    ∷ (false, Write 33 3, 0)
-    ∷ (false, Write 34 1, 0)
-    ∷ (false, Write 35 0, 0)
-    ∷ (false, Write 36 0, 0)
-    ∷ (false, Write 37 0, 0)
-    ∷ (false, Write 38 258, 0)
-    ∷ (false, Write 39 0, 0)
-    ∷ (false, Write 40 0, 0)
-    ∷ (false, Write 41 0, 0)
-    ∷ (false, Write 42 515, 0)
-    ∷ (false, Write 43 0, 0)
-    ∷ (false, Write 44 0, 0)
-    ∷ (false, Write 45 0, 0)
-    ∷ []
+-- a seat writes these words from the place on
+abbrev writes : Bool → ℕ → List ℕ → List ScriptLine
+writes second at [] = []
+writes second at (word ∷ words) = (second, Write at word, 0) ∷ writes second (at + 1) words
 
--- the second seat writes its block
+-- each seat writes its block
+abbrev first_writes : List ScriptLine
+first_writes = writes false 30 written
+
 abbrev second_writes : List ScriptLine
-second_writes =
-    (true, Write 46 14, 0)
-    ∷ (true, Write 47 14, 0)
-    ∷ (true, Write 48 0, 0)
-    ∷ (true, Write 49 3, 0)
-    ∷ (true, Write 50 1, 0)
-    ∷ (true, Write 51 0, 0)
-    ∷ (true, Write 52 0, 0)
-    ∷ (true, Write 53 0, 0)
-    ∷ (true, Write 54 258, 0)
-    ∷ (true, Write 55 0, 0)
-    ∷ (true, Write 56 0, 0)
-    ∷ (true, Write 57 0, 0)
-    ∷ (true, Write 58 515, 0)
-    ∷ (true, Write 59 0, 0)
-    ∷ (true, Write 60 0, 0)
-    ∷ (true, Write 61 0, 0)
-    ∷ []
+second_writes = writes true 46 written
 
 -- both publish, and look
 abbrev links : List ScriptLine

@@ -6,7 +6,7 @@ use Rattle.tree_words.specs.Settings.{Setting}
 use Rattle.tree_words.specs.Words.{root_at, link_in}
 use Rattle.tree_words.specs.Blocks.{LinkedBlock, In, is_node}
 use Rattle.tree_words.specs.Paths.{node_board, node_state}
-use Rattle.tree_words.specs.Complete.{cells_below, set_of}
+use Rattle.tree_words.specs.Complete.{Linked, cells_below, set_of}
 
 -- the told block: the block below the node x of the known blocks, newest first, that begins at b
 abbrev pub told_block : Setting → List LinkedBlock → ℕ → ℕ → LinkedBlock
@@ -40,3 +40,8 @@ TellsNodes s blocks = (known : List LinkedBlock) (x : ℕ) → Knows (root_at s)
 -- each of the blocks is one of the others
 abbrev pub AreAmong : List LinkedBlock → List LinkedBlock → Type 0
 AreAmong blocks others = (b : LinkedBlock) → In b blocks → In b others
+
+-- all lists of blocks that the words link have the same blocks
+abbrev pub LinkSameBlocks : Setting → List ℕ → Type 0
+LinkSameBlocks s words = (bs others : List LinkedBlock)
+    → Linked s words bs → Linked s words others → AreAmong bs others

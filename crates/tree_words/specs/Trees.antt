@@ -45,6 +45,11 @@ tree_of s bs words = let r = root_at s in
     tree_at (tally_in words) (seen_in words) (oldest_first bs) r (cell_in (slice_index words r))
     (seen_in words r)
 
+-- all lists of blocks that the words link show the same tree
+abbrev pub ShowOneTree : Setting → List ℕ → Type 0
+ShowOneTree s words = (bs others : List LinkedBlock)
+    → Linked s words bs → Linked s words others → tree_of s bs words ≡ tree_of s others words
+
 -- TreeOf: t is the tree of the blocks that the words link
 pub record IsTreeOf (s : Setting) (words : List ℕ) (t : Tree) : Type 0 where
   pub blocks : List LinkedBlock

@@ -5,8 +5,8 @@ ghost use Rattle.tree_words.specs.Settings.{Setting, IsSetting};
 ghost use Rattle.tree_words.specs.Blocks.{LinkedBlock};
 ghost use Rattle.tree_words.specs.Complete.{Linked};
 ghost use Rattle.tree_words.specs.Opening.{AreOpening, ShowRootBlock, opening_words};
-ghost use Rattle.tree_words.specs.Trees.{tree_of};
-ghost use Rattle.tree_words.specs.Told.{AreAmong, TellsLinkedBlocks, TellsNodes};
+ghost use Rattle.tree_words.specs.Trees.{ShowOneTree};
+ghost use Rattle.tree_words.specs.Told.{LinkSameBlocks, TellsLinkedBlocks, TellsNodes};
 
 /// The law of the opening words: each setting has its own, no other words are opening words of it,
 /// and they link one block, the root's, which has a node. It does nothing.
@@ -31,9 +31,6 @@ pub fn told_blocks_are_linked()
 /// The law that words show one tree: of two lists of blocks that they link, each block of one is in
 /// the other, and the trees that they show are the same. It does nothing.
 pub fn words_show_one_tree()
-    ensures blocks { (s : Setting) (words : List ℕ) (bs others : List LinkedBlock)
-        → IsSetting s → Linked s words bs → Linked s words others → AreAmong bs others }
-    ensures tree { (s : Setting) (words : List ℕ) (bs others : List LinkedBlock)
-        → IsSetting s → Linked s words bs → Linked s words others
-        → tree_of s bs words ≡ tree_of s others words }
+    ensures blocks { (s : Setting) (words : List ℕ) → IsSetting s → LinkSameBlocks s words }
+    ensures tree { (s : Setting) (words : List ℕ) → IsSetting s → ShowOneTree s words }
 {}

@@ -1,6 +1,6 @@
 //! The parts of words, read.
 
-ghost use Rattle.std.specs.Prelude.{◌≡◌, ◌+◌, ◌-◌, ◌*◌, ◌/◌, ◌%◌, ◌^◌, ◌<◌, ◌≤◌, length};
+ghost use Rattle.std.specs.Prelude.{◌≡◌, ◌+◌, ◌-◌, ◌/◌, ◌%◌, ◌^◌, ◌<◌, ◌≤◌, length};
 ghost use Rattle.std.specs.Prelude.{slice_index};
 ghost use Rattle.tree_words.specs.Words.{block_in, cell_in, link_in, node_in, place_in, visits_in};
 ghost use Rattle.tree_words.specs.Words.{wins_in};

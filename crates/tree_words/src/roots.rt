@@ -1,6 +1,6 @@
 //! The root's children: the best one, and a report of all.
 
-ghost use Rattle.std.specs.Prelude.{◌≡◌, ℕ, ◌+◌, ◌*◌, ◌<◌, ◌≤◌, ◌^◌, length, slice_index, IfOk};
+ghost use Rattle.std.specs.Prelude.{◌≡◌, ◌+◌, ◌*◌, ◌<◌, ◌≤◌, IfOk};
 ghost use Rattle.std.specs.Prelude.{IsTrue, ◌↔◌};
 ghost use Rattle.tree_words.specs.Roots.{HasRoot, IsBest, root_count, root_link, row_at, rows_of};
 ghost use Rattle.tree_words.specs.Roots.{Beats, Rise};

@@ -1,7 +1,6 @@
 //! The shape of a tree: what it is searched for.
 
-ghost use Rattle.std.specs.Prelude.{◌≡◌, ℕ, ◌<◌, ◌^◌};
-ghost use Rattle.hex_board.specs.Positions.{IsPosition};
+ghost use Rattle.std.specs.Prelude.{◌≡◌};
 ghost use Rattle.tree_words.specs.Settings.{AreEmpty, AreInRange, IsAny, IsSetting};
 ghost use Rattle.tree_words.specs.Words.{end_of};
 

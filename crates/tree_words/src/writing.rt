@@ -1,7 +1,7 @@
 //! The writes of a new block: its header and its moves.
 
-ghost use Rattle.std.specs.Prelude.{◌≡◌, ℕ, ◌+◌, ◌*◌, ◌<◌, ◌≤◌, ◌^◌, length};
-ghost use Rattle.tree_words.specs.Blocks.{LinkedBlock, size, block_size};
+ghost use Rattle.std.specs.Prelude.{◌≡◌, ◌+◌, ◌*◌, ◌<◌, ◌≤◌, length};
+ghost use Rattle.tree_words.specs.Blocks.{size, block_size};
 ghost use Rattle.tree_words.specs.Writing.{WritesBlock, WritesMoves, listed};
 
 use super::layout::{

@@ -18,6 +18,10 @@ pub record Child : Type 0 where
   pub seen : ℕ
   pub seen_wins : ℕ
 
+-- the child with these visits, wins, seen visits and seen wins
+abbrev pub child_with : ℕ → ℕ → ℕ → ℕ → Child
+child_with v w a b = record { visits = v; wins = w; seen = a; seen_wins = b }
+
 abbrev pub is_unvisited : Child → Bool
 is_unvisited x = x.visits == 0
 

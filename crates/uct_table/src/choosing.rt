@@ -1,7 +1,7 @@
 //! Which of two children is preferred.
 
 ghost use Rattle.std.specs.Prelude.{◌≡◌, ◌≤◌, ℕ, List};
-ghost use Rattle.uct_table.specs.Choice.{Child, is_better, kept_of, choice_of};
+ghost use Rattle.uct_table.specs.Choice.{Child, child_with, is_better, kept_of, choice_of};
 
 use super::scoring::{MOST_COUNT, MOST_WEIGHT, score};
 
@@ -29,9 +29,7 @@ pub fn better(
     requires second { (v2 ≤ MOST_COUNT) × (w2 ≤ MOST_COUNT) × (a2 ≤ MOST_COUNT)
         × (b2 ≤ MOST_COUNT) }
     requires weight { c ≤ MOST_WEIGHT }
-    ensures { let first : Child = record { visits = v1; wins = w1; seen = a1; seen_wins = b1 } in
-        let second : Child = record { visits = v2; wins = w2; seen = a2; seen_wins = b2 } in
-        result ≡ is_better p c first second }
+    ensures { result ≡ is_better p c (child_with v1 w1 a1 b1) (child_with v2 w2 a2 b2) }
 {
     v1 > 0 && (v2 == 0 || score(p, v1, w1, a1, b1, c) < score(p, v2, w2, a2, b2, c))
 }

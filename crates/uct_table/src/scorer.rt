@@ -1,7 +1,7 @@
 //! Scores of the children of one block, which have a parent and a weight in common.
 
-ghost use Rattle.std.specs.Prelude.{◌≡◌, ◌+◌, ◌*◌, ◌^◌, ◌<◌, ◌≤◌, IfSome, None};
-ghost use Rattle.uct_table.specs.Scores.{bonus_of, level_of, score_of};
+ghost use Rattle.std.specs.Prelude.{◌≡◌, ◌+◌, ◌*◌, ◌<◌, ◌≤◌, IfSome, None};
+ghost use Rattle.uct_table.specs.Scores.{bonus_of, score_of};
 
 use super::reciprocal_roots::{TABLED_VISITS, reciprocal_root};
 use super::scoring::{

@@ -1,6 +1,6 @@
 //! The level, the root and the score.
 
-ghost use Rattle.std.specs.Prelude.{◌≡◌, ◌+◌, ◌*◌, ◌/◌, ◌^◌, ◌<◌, ◌≤◌, ◌==◌, if◌then◌else◌, IsTrue};
+ghost use Rattle.std.specs.Prelude.{◌≡◌, ◌+◌, ◌*◌, ◌/◌, ◌^◌, ◌<◌, ◌≤◌, ◌==◌, IsTrue};
 ghost use Rattle.uct_table.specs.Scores.{isqrt, level_of, share_of, mean_of, bonus_of, score_of};
 
 use std::num::{nearest_u64_to_f64, saturating_f64_to_u64};

@@ -1,10 +1,9 @@
 -- A bit is taken out of a number, and those above it fall by one place.
 use Rattle.std.proofs.Common.{◌≡◌, ℕ, ◌+◌, ◌-◌, ◌*◌, ◌/◌, ◌%◌, ◌^◌, ◌<◌, ◌≤◌, Bool, true, false, cond, refl, sym, ap, ◌∙◌, arith, ⊎_elim}
 use Rattle.std.specs.Prelude.{◌&&◌, ◌||◌, not, nat_lt, bit_or, bit_and}
-use Rattle.std.proofs.lemmas.Bool.{cases_lt}
+use Rattle.std.proofs.lemmas.Bool.{cases_lt, lt-ltb, le-ltb}
 use Rattle.hex_cells.specs.Sets.{has as has_cell}
 use Rattle.hex_cells.proofs.Bits.{has_or, has_and, has_all, has_mod, has_shl, has_shr, has_above, below_from_items, cell_below}
-use Rattle.walker.proofs.MemberLaws.{lt-yes, lt-no}
 
 -- a bit is taken out, and those above it fall by one place
 pub without_bit : (a at k : ℕ) → a < 2 ^ 121 → at < 121
@@ -13,9 +12,9 @@ without_bit a at k small l =
     has_or (bit_and a (1 * 2 ^ at % 2 ^ 128 - 1)) (a / 2 ^ (at + 1) * 2 ^ at % 2 ^ 128) k
     ∙ (λ i. (has_and a (1 * 2 ^ at % 2 ^ 128 - 1) k ∙ ap (λ (b : Bool). has_cell a k && b) (has_all at k (omega arith))) i || has_cell (a / 2 ^ (at + 1) * 2 ^ at % 2 ^ 128) k)
     ∙ ⊎_elim
-    (λ (m : k < at). below (has_cell a k) (nat_lt k at) _ _ (lt-yes k at m) (high ∙ ap (λ (b : Bool). not b && has_cell (a / 2 ^ (at + 1)) (k - at)) (lt-yes k at m)))
-    (λ (m : at ≤ k). past (has_cell a k) (nat_lt k at) _ _ (lt-no k at m)
-    (high ∙ (ap (λ (b : Bool). not b && has_cell (a / 2 ^ (at + 1)) (k - at)) (lt-no k at m) ∙ (has_shr a (at + 1) (k - at) ∙ ap (has_cell a) (on k at m)))))
+    (λ (m : k < at). below (has_cell a k) (nat_lt k at) _ _ (lt-ltb k at m) (high ∙ ap (λ (b : Bool). not b && has_cell (a / 2 ^ (at + 1)) (k - at)) (lt-ltb k at m)))
+    (λ (m : at ≤ k). past (has_cell a k) (nat_lt k at) _ _ (le-ltb k at m)
+    (high ∙ (ap (λ (b : Bool). not b && has_cell (a / 2 ^ (at + 1)) (k - at)) (le-ltb k at m) ∙ (has_shr a (at + 1) (k - at) ∙ ap (has_cell a) (on k at m)))))
     (cases_lt k at)
   where
     on : (k at : ℕ) → at ≤ k → k - at + (at + 1) ≡ k + 1
@@ -39,7 +38,7 @@ without_bit a at k small l =
         (λ (m : k < 128). has_mod (a / 2 ^ (at + 1) * 2 ^ at) 128 k m ∙ has_shl (a / 2 ^ (at + 1)) at k)
         (λ (m : 128 ≤ k).
         has_above (a / 2 ^ (at + 1) * 2 ^ at % 2 ^ 128) 128 k (omega arith) m
-        ∙ sym (ap (λ (b : Bool). not b && has_cell (a / 2 ^ (at + 1)) (k - at)) (lt-no k at (omega arith))
+        ∙ sym (ap (λ (b : Bool). not b && has_cell (a / 2 ^ (at + 1)) (k - at)) (le-ltb k at (omega arith))
         ∙ (has_shr a (at + 1) (k - at) ∙ (ap (has_cell a) (on k at (omega arith)) ∙ has_above a 121 (k + 1) small (omega arith)))))
         (cases_lt k 128)
 

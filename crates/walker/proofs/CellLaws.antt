@@ -1,15 +1,13 @@
 -- The cells of a set in their order.
-use Rattle.std.proofs.Common.{◌≡◌, ℕ, zero, suc, ◌+◌, ◌-◌, ◌*◌, ◌<◌, ◌≤◌, Bool, true, cond, List, [], ◌∷◌, ◌++◌, length, get_or, refl, sym, ap, ◌∙◌, arith, ⊎_elim}
+use Rattle.std.proofs.Common.{◌≡◌, ℕ, zero, suc, ◌+◌, ◌-◌, ◌*◌, ◌<◌, ◌≤◌, Bool, true, cond, List, [], ◌∷◌, ◌++◌, length, get_or, sym, ap, ◌∙◌, arith, ⊎_elim}
 use Rattle.std.specs.List.{filter, range_with_len}
 use Rattle.std.proofs.lemmas.Bool.{cases_lt, false_from_ne_true}
 use Rattle.std.proofs.lemmas.List.{get_or_append_left}
-use Rattle.std.proofs.lemmas.List.Sums.{length-filter}
 use Rattle.std.proofs.Math.Nat.{mul-le-mul}
 use Rattle.hex_cells.specs.Sets.{has as has_cell, members}
-use Rattle.hex_cells.proofs.Counts.{members_test, members_flat, members_apart}
+use Rattle.hex_cells.proofs.Counts.{members_flat, members_apart}
 use Rattle.hex_cells.proofs.Bits.{same_set}
 use Rattle.hex_board.specs.Positions.{Position, Within, is_empty_at}
-use Rattle.hex_board.proofs.Placed.{empty_on}
 use Rattle.play_out.specs.Fills.{empties_of}
 use Rattle.play_out.proofs.Listing.{filter_more}
 use Rattle.tree_words.specs.Complete.{set_of}
@@ -54,6 +52,3 @@ count-listed set size small on =
 -- the number of the set of a board's empty cells
 pub empties-number : (set : ℕ) (p : Position) → ((k : ℕ) → has_cell set k ≡ is_empty_at p k) → set ≡ set_of (empties_of p)
 empties-number set p e = same_set set (set_of (empties_of p)) (λ k. e k ∙ sym (set_empties p k))
-
-pub empties-within : (p : Position) → Within p.size (set_of (empties_of p))
-empties-within p k t = empty_on p k (sym (set_empties p k) ∙ t)

@@ -68,9 +68,6 @@ module _ (w : Walker) (v : SeatView) (b : Belongs w v) (x : ℕ) where
       let s = size-is w v b.shape (one-order v b.view b.width) b.view.known d in
       omega (arith, s, most, ap (λ (t : Setting). t.board.size) b.shape)
 
-  falls-leaf : (k : ℕ) → steps_left (at_leaf w) < level_left w (k + 1)
-  falls-leaf k = let l = leaf-left w in omega (arith, l)
-
   falls-link : steps_left (linked w x) < left_at Linking w
   falls-link = ⊎_elim
       (λ (e : x ≡ 0). ⊎_elim

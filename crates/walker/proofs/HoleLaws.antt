@@ -2,13 +2,13 @@
 use Rattle.std.proofs.Common.{◌≡◌, ℕ, zero, suc, ◌+◌, ◌-◌, ◌<◌, ◌≤◌, Bool, true, false, cond, List, [], ◌∷◌, ◌++◌, length, get_or, refl, sym, ap, ◌∙◌, arith, ⊎_elim}
 use Rattle.std.specs.Prelude.{◌==◌, ◌&&◌, not, nat_lt}
 use Rattle.std.specs.List.{filter, range_with_len}
-use Rattle.std.proofs.lemmas.Bool.{cases_lt, eq-eqb, ne_eqb}
+use Rattle.std.proofs.lemmas.Bool.{cases_lt, eq-eqb, ne_eqb, lt-ltb, le-ltb}
 use Rattle.hex_cells.specs.Sets.{has as has_cell, members}
 use Rattle.hex_cells.proofs.Counts.{members_none, members_few}
 use Rattle.play_out.proofs.Listing.{filter_more}
 use Rattle.tree_words.proofs.Blocks.BlockLaws.{clash}
 use Rattle.walker.specs.Places.{ArePlaces}
-use Rattle.walker.proofs.MemberLaws.{lt-yes, lt-no, in-more, flat-to, out-room, both-parts, HasRank, rank-of}
+use Rattle.walker.proofs.MemberLaws.{in-more, flat-to, out-room, both-parts, HasRank, rank-of}
 use Rattle.tree_words.proofs.Boards.EmptyLaws.{members-listed}
 
 -- the holes below t are taken out of the stones' bits
@@ -79,18 +79,18 @@ module _ (stones cells all n : ℕ) (parts : AreParts cells all n) where
               (λ (m : c < t).
               let room = out-room all c t m (not-both c cell) in
               let low : c - members all c < h - gone = omega (arith, room, k.count, at, members_few all c) in
-              moved (c - members all c) ∙ (ap (λ (b : Bool). cond b (has_cell bits (c - members all c)) (has_cell bits (c - members all c + 1))) (lt-yes (c - members all c) (h - gone) low) ∙ k.done c m cell))
+              moved (c - members all c) ∙ (ap (λ (b : Bool). cond b (has_cell bits (c - members all c)) (has_cell bits (c - members all c + 1))) (lt-ltb (c - members all c) (h - gone) low) ∙ k.done c m cell))
               (λ (m : t ≤ c).
               let before : c < h = ⊎_elim (λ (q : c < h). q) (λ (q : h ≤ c). let is : c ≡ h = omega arith in absurd (clash (has_cell all c) (ap (has_cell all) is ∙ at.2) (not-both c cell))) (cases_lt c h) in
               let rank : members all c ≡ gone = same c m (omega arith) in
               let low : c - members all c < h - gone = omega (arith, rank, before, at, m, members_few all t, k.count) in
-              moved (c - members all c) ∙ (ap (λ (b : Bool). cond b (has_cell bits (c - members all c)) (has_cell bits (c - members all c + 1))) (lt-yes (c - members all c) (h - gone) low)
+              moved (c - members all c) ∙ (ap (λ (b : Bool). cond b (has_cell bits (c - members all c)) (has_cell bits (c - members all c + 1))) (lt-ltb (c - members all c) (h - gone) low)
               ∙ (ap (λ (z : ℕ). has_cell bits (c - z)) rank ∙ (k.left c m ∙ and-true (has_cell cells c) (has_cell stones c) cell))))
               (cases_lt c t);
           left = λ c l.
               let past : h - gone ≤ c - (gone + 1) = omega (arith, l, at) in
               let on : c - (gone + 1) + 1 ≡ c - gone = omega (arith, l, at) in
-              moved (c - (gone + 1)) ∙ (ap (λ (b : Bool). cond b (has_cell bits (c - (gone + 1))) (has_cell bits (c - (gone + 1) + 1))) (lt-no (c - (gone + 1)) (h - gone) past)
+              moved (c - (gone + 1)) ∙ (ap (λ (b : Bool). cond b (has_cell bits (c - (gone + 1))) (has_cell bits (c - (gone + 1) + 1))) (le-ltb (c - (gone + 1)) (h - gone) past)
               ∙ (ap (has_cell bits) on ∙ k.left c (omega (arith, l, at))));
         }
       where
@@ -123,13 +123,13 @@ module _ (stones cells all n : ℕ) (parts : AreParts cells all n) where
         let rank : members all c ≡ gone = flat-to all t c m (λ j p q. none j p) ∙ sym k.count in
         ap (has_cell bits) (sym pos ∙ ap (λ (z : ℕ). c - z) rank) ∙ (k.left c m ∙ and-true (has_cell cells c) (has_cell stones c) r.inside))
         (cases_lt c t) in
-        value ∙ sym (ap (λ (b : Bool). b && has_cell stones c) (lt-yes i (length xs) l)))
+        value ∙ sym (ap (λ (b : Bool). b && has_cell stones c) (lt-ltb i (length xs) l)))
         (λ (l : length xs ≤ i).
         let far : n ≤ i + gone = omega (arith, long, l) in
         let back : i + gone - gone ≡ i = omega arith in
         ap (has_cell bits) (sym back) ∙ (k.left (i + gone) (let q = k.end in omega (arith, q, far))
         ∙ (ap (λ (b : Bool). b && has_cell stones (i + gone)) (parts.far (i + gone) far).1
-        ∙ sym (ap (λ (b : Bool). b && has_cell stones (get_or xs i 0)) (lt-no i (length xs) l)))))
+        ∙ sym (ap (λ (b : Bool). b && has_cell stones (get_or xs i 0)) (le-ltb i (length xs) l)))))
         (cases_lt i (length xs))
 
 -- tests that agree below n

@@ -1,8 +1,7 @@
 -- A scan keeps the child that Choice takes of those that it has looked at.
 use Rattle.std.proofs.Common.{◌≡◌, ◌≢◌, ◌⊎◌, ℕ, zero, suc, ◌+◌, ◌<◌, ◌≤◌, Bool, true, false, cond, List, [], ◌∷◌, ◌++◌, length, get_or, Some, refl, sym, ap, ◌∙◌, subst, arith, ⊎_elim, inl, inr, append_assoc}
 use Rattle.std.specs.Prelude.{◌==◌, nat_lt, slice_get}
-use Rattle.std.proofs.lemmas.Bool.{cases_Bool, cases_lt, eq-eqb, ne_eqb}
-use Rattle.std.proofs.lemmas.Bool.Decides.{nat_tests}
+use Rattle.std.proofs.lemmas.Bool.{cases_Bool, cases_lt, eq-eqb, ne_eqb, lt-ltb, le-ltb}
 use Rattle.std.proofs.lemmas.Option.{slice_get_within, get_or_from_slice_get, slice_get-get_or}
 use Rattle.std.proofs.lemmas.List.{get_or_append_left}
 use Rattle.uct_table.specs.Choice.{Child, score_in, is_better, kept_of, kept_from}
@@ -10,7 +9,6 @@ use Rattle.uct_table.proofs.ChoiceLaws.{is_better-visited, is_better-first_unvis
 use Rattle.walker.specs.declared.scans.Phase.{Phase}
 use Rattle.walker.specs.Scans.{ScanData, kept}
 use Rattle.walker.specs.Belongs.{HasKept, Keeps}
-use Rattle.walker.proofs.MemberLaws.{lt-yes, lt-no}
 
 -- which child is kept, case by case
 kept-fresh : (d : ScanData) (c : Child) → d.fresh ≡ true → kept d c ≡ d
@@ -26,20 +24,20 @@ kept-better : (d : ScanData) (c : Child) → d.fresh ≡ false → 0 < c.visits 
 unfolding kept
 kept-better d c e z l =
     let q : (c.visits == 0) ≡ false = ne_eqb c.visits 0 (λ y. omega arith) in
-    let r : nat_lt d.most (score_in d.parent d.weight c) ≡ true = lt-yes d.most (score_in d.parent d.weight c) l in rw (e, q, r)
+    let r : nat_lt d.most (score_in d.parent d.weight c) ≡ true = lt-ltb d.most (score_in d.parent d.weight c) l in rw (e, q, r)
 
 kept-first : (d : ScanData) (c : Child) → d.fresh ≡ false → 0 < c.visits → score_in d.parent d.weight c ≤ d.most → d.place ≡ 0 → kept d c ≡ record d { visits = c.visits }
 unfolding kept
 kept-first d c e z l p =
     let q : (c.visits == 0) ≡ false = ne_eqb c.visits 0 (λ y. omega arith) in
-    let r : nat_lt d.most (score_in d.parent d.weight c) ≡ false = lt-no d.most (score_in d.parent d.weight c) l in
+    let r : nat_lt d.most (score_in d.parent d.weight c) ≡ false = le-ltb d.most (score_in d.parent d.weight c) l in
     let t : (d.place == 0) ≡ true = eq-eqb d.place 0 p in rw (e, q, r, t)
 
 kept-not : (d : ScanData) (c : Child) → d.fresh ≡ false → 0 < c.visits → score_in d.parent d.weight c ≤ d.most → d.place ≢ 0 → kept d c ≡ d
 unfolding kept
 kept-not d c e z l p =
     let q : (c.visits == 0) ≡ false = ne_eqb c.visits 0 (λ y. omega arith) in
-    let r : nat_lt d.most (score_in d.parent d.weight c) ≡ false = lt-no d.most (score_in d.parent d.weight c) l in
+    let r : nat_lt d.most (score_in d.parent d.weight c) ≡ false = le-ltb d.most (score_in d.parent d.weight c) l in
     let t : (d.place == 0) ≡ false = ne_eqb d.place 0 p in rw (e, q, r, t)
 
 -- one more child at the end of a list
@@ -63,10 +61,6 @@ slice-left xs ys i a e =
     longer : (xs ys : List Child) → length xs ≤ length (xs ++ ys)
     longer [] ys = omega arith
     longer (x ∷ xs) ys = omega (arith, longer xs ys)
-
--- the scan after the child in hand
-abbrev gone : ScanData → ℕ → Phase → ScanData
-gone d at p = record d { at = at; phase = p; place = d.place + 1 }
 
 module _ (d : ScanData) (c : Child) (at : ℕ) (p : Phase) where
   -- the child in hand is kept, which goes on from it
@@ -149,9 +143,9 @@ module _ (d : ScanData) (c : Child) (at : ℕ) (p : Phase) where
       let better = is_better-visited d.parent d.weight h.child c some z in
       ⊎_elim
       (λ (l : d.most < score_in d.parent d.weight c). subst goal (sym (kept-better d c f z l))
-      (new-child xs h long (better ∙ lt-yes (score_in d.parent d.weight h.child) (score_in d.parent d.weight c) (omega (arith, l, s.1))) c.visits (score_in d.parent d.weight c) d.fresh refl (λ t. absurd (cc)) (λ t. (z, refl))))
+      (new-child xs h long (better ∙ lt-ltb (score_in d.parent d.weight h.child) (score_in d.parent d.weight c) (omega (arith, l, s.1))) c.visits (score_in d.parent d.weight c) d.fresh refl (λ t. absurd (cc)) (λ t. (z, refl))))
       (λ (l : score_in d.parent d.weight c ≤ d.most). subst goal (sym (kept-not d c f z l later))
-      (old-child xs h (better ∙ lt-no (score_in d.parent d.weight h.child) (score_in d.parent d.weight c) (omega (arith, l, s.1)))))
+      (old-child xs h (better ∙ le-ltb (score_in d.parent d.weight h.child) (score_in d.parent d.weight c) (omega (arith, l, s.1)))))
       (cases_lt d.most (score_in d.parent d.weight c)))
       (none-or-some c.visits))
       (cases_Bool d.fresh)

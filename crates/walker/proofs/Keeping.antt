@@ -26,9 +26,3 @@ kept-place d c = kept-same (λ z. z.place) d c (λ b v m t. refl)
 
 pub kept-count : (d : ScanData) (c : Child) → (kept d c).count ≡ d.count
 kept-count d c = kept-same (λ z. z.count) d c (λ b v m t. refl)
-
-pub kept-parent : (d : ScanData) (c : Child) → (kept d c).parent ≡ d.parent
-kept-parent d c = kept-same (λ z. z.parent) d c (λ b v m t. refl)
-
-pub kept-weight : (d : ScanData) (c : Child) → (kept d c).weight ≡ d.weight
-kept-weight d c = kept-same (λ z. z.weight) d c (λ b v m t. refl)

@@ -1,7 +1,7 @@
 -- The look at a link keeps Belongs.
 use Rattle.std.proofs.Common.{◌≡◌, ◌≢◌, ◌⊎◌, ℕ, zero, suc, ◌+◌, ◌<◌, ◌≤◌, Bool, true, false, cond, List, ◌∷◌, length, refl, sym, ap, ◌∙◌, subst, arith, ⊎_elim, inl, inr}
 use Rattle.std.specs.Prelude.{◌==◌, ◌&&◌, not, nat_lt, nat_le}
-use Rattle.std.proofs.lemmas.Bool.{eq-eqb, ne_eqb, cases_Bool, cases_eq, and_parts}
+use Rattle.std.proofs.lemmas.Bool.{cases_Bool, cases_eq, and_parts, leb-false, leb-true, ltb-true}
 use Rattle.std.proofs.lemmas.Bool.Decides.{nat_tests}
 use Rattle.play_out.specs.Fills.{empties_of}
 use Rattle.tree_words.specs.Settings.{Setting}
@@ -49,10 +49,6 @@ found-below v z b n a ne stays = ⊎_elim
     none-or-some zero = inl refl
     none-or-some (suc n) = inr (omega arith)
 
-not-false : (t : Bool) → not t ≡ false → t ≡ true
-not-false true e = refl
-not-false false e = sym e
-
 -- a node that asks for no block is a leaf
 asks-not : (full t u : Bool) → (not full && (t && u)) ≡ false → (t ≡ false) ⊎ ((u ≡ false) ⊎ (full ≡ true))
 asks-not true t u e = inr (inr refl)
@@ -60,17 +56,8 @@ asks-not false true true e = absurd (cc)
 asks-not false true false e = inr (inl refl)
 asks-not false false u e = inl refl
 
-pub not-less : (a b : ℕ) → nat_le a b ≡ false → b < a
-not-less a b e = grind (arith, nat_tests)
-
 none-less : (n : ℕ) → nat_lt 0 n ≡ false → n ≡ 0
 none-less n e = grind (arith, nat_tests)
-
-less : (a b : ℕ) → nat_le a b ≡ true → a ≤ b
-less a b e = grind (arith, nat_tests)
-
-some-less : (n : ℕ) → nat_lt 0 n ≡ true → 0 < n
-some-less n e = grind (arith, nat_tests)
 
 not-true : (t : Bool) → not t ≡ true → t ≡ false
 not-true true e = sym e
@@ -149,8 +136,8 @@ module _ (w : Walker) (v : SeatView) (b : Belongs w v) (x : ℕ) where
           down = link-down;
           below = link-below e;
           vacant = ap (λ (ks : List LinkedBlock). link_of ks w.node) (link-known e) ∙ link-vacant e;
-          visits = let l = less w.shape.knobs.expand w.visits q.0 in subst (λ (s : Setting). s.knobs.expand ≤ w.visits) (sym b.shape) l;
-          some = some-less (length (empties_of w.board)) q.1;
+          visits = let l = leb-true w.shape.knobs.expand w.visits q.0 in subst (λ (s : Setting). s.knobs.expand ≤ w.visits) (sym b.shape) l;
+          some = ltb-true 0 (length (empties_of w.board)) q.1;
           room = b.full ∙ not-true w.full p.0;
         }
 
@@ -161,7 +148,7 @@ module _ (w : Walker) (v : SeatView) (b : Belongs w v) (x : ℕ) where
         let empties : length (empties_of w.board) ≡ empties_at u w.node = ap (λ (p : NodeState). length (empties_of p.board)) link-down.is in
         leaf-stands w u b.shape uorder iu.known link-down a.held (link-below e) (inl (ap (λ (ks : List LinkedBlock). link_of ks w.node) (link-known e) ∙ link-vacant e))
         (⊎_elim
-        (λ (f : nat_le w.shape.knobs.expand w.visits ≡ false). let l = not-less w.shape.knobs.expand w.visits f in
+        (λ (f : nat_le w.shape.knobs.expand w.visits ≡ false). let l = leb-false w.shape.knobs.expand w.visits f in
         inl (omega (arith, l, link-down.counted, ap (λ (s : Setting). s.knobs.expand) b.shape)))
         (λ (f : (nat_lt 0 (length (empties_of w.board)) ≡ false) ⊎ (w.full ≡ true)). inr (⊎_elim
         (λ (z : nat_lt 0 (length (empties_of w.board)) ≡ false). inl (sym empties ∙ none-less (length (empties_of w.board)) z))

@@ -1,8 +1,7 @@
 -- The looks at a header keep Belongs.
 use Rattle.std.proofs.Common.{◌≡◌, ◌≢◌, ℕ, ◌+◌, ◌-◌, ◌%◌, ◌<◌, ◌≤◌, Bool, true, cond, length, refl, sym, ap, ◌∙◌, subst, arith, ⊎_elim, inl, inr}
-use Rattle.std.specs.Prelude.{◌==◌, ◌||◌, nat_lt}
-use Rattle.std.proofs.lemmas.Bool.{eq-eqb, ne_eqb, cases_lt, cases_eq}
-use Rattle.std.proofs.lemmas.Bool.Decides.{nat_tests}
+use Rattle.std.specs.Prelude.{◌==◌, ◌||◌}
+use Rattle.std.proofs.lemmas.Bool.{eq-eqb, ne_eqb, cases_lt, cases_eq, lt-ltb}
 use Rattle.play_out.specs.Fills.{empties_of}
 use Rattle.tree_words.specs.Settings.{Setting}
 use Rattle.tree_words.specs.Words.{root_at}
@@ -36,10 +35,7 @@ module _ (w : Walker) (v : SeatView) (b : Belongs w v) (x : ℕ) where
   -- a header word of the block below
   module _ (a : AtHeader w v) (may : MayAnswer v (Look w.at) x) (iu : IsView (after v (Look w.at) x)) where
     header-stays : (i : ℕ) → i < 4 → is_header_or_move i ≡ true
-    header-stays i l = ap (λ (t : Bool). t || (i % 4 == 0)) (yes i l)
-      where
-        yes : (i : ℕ) → i < 4 → nat_lt i 4 ≡ true
-        yes i l = grind (arith, nat_tests)
+    header-stays i l = ap (λ (t : Bool). t || (i % 4 == 0)) (lt-ltb i 4 l)
 
     head-clear : (y j : ℕ) → is_known v y ≡ true → 2 ≤ j → j < 4 → w.at ≢ y + j
     head-clear y j n l m e = stays-clear (root_at v.shape) v.known a.block (w.at - w.start) y j order a.below.known

@@ -4,7 +4,7 @@ use Rattle.hex_board.specs.Positions.{Position, is_empty_at}
 use Rattle.play_out.specs.Fills.{empties_of}
 use Rattle.tree_words.specs.Settings.{Setting}
 use Rattle.tree_words.specs.Words.{root_at, visits_in}
-use Rattle.tree_words.specs.Blocks.{InOrder, place, cell_at}
+use Rattle.tree_words.specs.Blocks.{place, cell_at}
 use Rattle.tree_words.specs.Paths.{root_state, state_after}
 use Rattle.tree_words.specs.declared.steps.Op.TheVariants.{Draw, Look}
 use Rattle.tree_words.proofs.Blocks.BlockLaws.{root_node}
@@ -39,9 +39,6 @@ unfolding empties_of
 few-empties p l = few_cells p.size (is_empty_at p) l
 
 module _ (w : Walker) (v : SeatView) (b : Belongs w v) (x : ℕ) where
-  order : InOrder (root_at v.shape) v.known
-  order = one-order v b.view b.width
-
   -- the draw
   module _ (a : AtDraw w v) (iu : IsView (after v Draw x)) where
     draw-begins : x < v.shape.knobs.playouts → drew v x ≡ record v { ticket = Some x } → Belongs (record w { number = x; stage = Rooting; at = root_at w.shape + 2 }) (after v Draw x)

@@ -1,14 +1,14 @@
 -- What stands in order among known blocks.
-use Rattle.std.proofs.Common.{◌≡◌, ◌≢◌, ℕ, ◌+◌, ◌*◌, ◌<◌, ◌≤◌, Bool, true, false, cond, List, [], ◌∷◌, length, refl, sym, ap, ◌∙◌, subst, arith, ⊎_elim, inl, inr}
+use Rattle.std.proofs.Common.{◌≡◌, ◌≢◌, ℕ, ◌+◌, ◌<◌, ◌≤◌, Bool, true, false, cond, List, [], ◌∷◌, refl, sym, ap, ◌∙◌, subst, arith, ⊎_elim, inl, inr}
 use Rattle.std.specs.Prelude.{◌==◌}
 use Rattle.std.proofs.lemmas.Bool.{or_cases, eqb-true}
 use Rattle.play_out.specs.Fills.{empties_of}
 use Rattle.tree_words.specs.Settings.{Setting}
 use Rattle.tree_words.specs.Words.{root_at, area_at, end_of}
-use Rattle.tree_words.specs.Blocks.{LinkedBlock, In, InOrder, Follows, has_node, is_node, link_of, size, child}
+use Rattle.tree_words.specs.Blocks.{LinkedBlock, In, InOrder, Follows, has_node, is_node, link_of, size}
 use Rattle.tree_words.specs.Paths.{NodeState}
 use Rattle.tree_words.specs.Complete.{allowed_cells, cells_below}
-use Rattle.tree_words.proofs.Blocks.BlockLaws.{covers_of, has-covers, has-at, has-here}
+use Rattle.tree_words.proofs.Blocks.BlockLaws.{covers_of, has-covers, has-at}
 use Rattle.tree_words.proofs.Blocks.GameLaws.{in-parent, spot-same}
 use Rattle.arena_rule.specs.Views.{SeatView}
 use Rattle.arena_rule.specs.IsView.{AreTold, IsJoined, IsView}

@@ -1,20 +1,14 @@
 -- How many numbers of a set lie below another, and the number of a rank.
 use Rattle.std.proofs.Common.{◌≡◌, ℕ, zero, suc, ◌+◌, ◌-◌, ◌<◌, ◌≤◌, Bool, true, false, cond, List, [], ◌∷◌, ◌++◌, length, get_or, refl, sym, ap, ◌∙◌, subst, arith, ⊎_elim, length-append}
-use Rattle.std.specs.Prelude.{not, nat_lt}
+use Rattle.std.specs.Prelude.{not}
 use Rattle.std.specs.List.{filter, range_with_len}
 use Rattle.std.proofs.lemmas.Bool.{cases_lt}
-use Rattle.std.proofs.lemmas.Bool.Decides.{nat_tests}
 use Rattle.std.proofs.lemmas.List.{get_or_append_left, append-nil}
 use Rattle.hex_cells.specs.Sets.{has as has_cell, members}
 use Rattle.hex_cells.proofs.Counts.{members_none, members_more}
 use Rattle.play_out.proofs.Listing.{filter_more}
 use Rattle.tree_words.proofs.Boards.EmptyLaws.{members-listed}
-
-pub lt-yes : (a b : ℕ) → a < b → nat_lt a b ≡ true
-lt-yes a b l = grind (arith, nat_tests)
-
-pub lt-no : (a b : ℕ) → b ≤ a → nat_lt a b ≡ false
-lt-no a b l = grind (arith, nat_tests)
+use Rattle.arena_rule.proofs.CountSums.{one-most}
 
 pub members-step : (s j : ℕ) → members s (j + 1) ≡ members s j + cond (has_cell s j) 1 0
 members-step s j = omega (arith, members_more s j)
@@ -49,10 +43,6 @@ rise-most s i (suc d) = let b = one-most (has_cell s (i + d)) in omega (arith, a
   where
     shift : (i d : ℕ) → i + suc d ≡ i + d + 1
     shift i d = omega arith
-
-    one-most : (t : Bool) → cond t 1 0 ≤ 1
-    one-most true = omega arith
-    one-most false = omega arith
 
 -- a number that is out leaves room
 pub out-room : (s c t : ℕ) → c < t → has_cell s c ≡ false → members s t + c + 1 ≤ members s c + t

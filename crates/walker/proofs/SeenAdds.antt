@@ -1,8 +1,8 @@
 -- The adds to the seen words of places.
 use Rattle.std.proofs.Common.{◌≡◌, ℕ, zero, suc, ◌+◌, ◌*◌, ◌<◌, ◌≤◌, Bool, true, false, cond, List, [], ◌∷◌, length, map, get_or, refl, sym, ap, ◌∙◌, arith, ⊎_elim}
-use Rattle.std.specs.Prelude.{◌&&◌, ◌==◌, not, nat_lt}
+use Rattle.std.specs.Prelude.{◌&&◌, ◌==◌, not}
 use Rattle.std.specs.List.{filter, range_with_len}
-use Rattle.std.proofs.lemmas.Bool.{cases_Bool, eqb-true}
+use Rattle.std.proofs.lemmas.Bool.{cases_Bool, eqb-true, lt-ltb, le-ltb}
 use Rattle.std.proofs.lemmas.Bool.Decides.{nat_tests}
 use Rattle.hex_cells.specs.Sets.{has as has_cell, without_cell}
 use Rattle.hex_cells.proofs.Bits.{has_without}
@@ -113,8 +113,8 @@ unfolding adds_at
 adds-seen set places block first won cells few are is =
     ap (λ (z : ℕ). map (λ i. record { word = z + 4 * i; won = won }) (filter (has_cell places) (range_with_len 0 121))) (is ∙ at block)
     ∙ sym (seen-range set places (block + 4) won 0 cells 121 few
-    (λ i l. ap (has_cell places) (zero-plus i) ∙ (are i ∙ ap (λ (t : Bool). t && has_cell set (get_or cells i 0)) (less i (length cells) l)))
-    (λ i l. are i ∙ ap (λ (t : Bool). t && has_cell set (get_or cells i 0)) (not-less i (length cells) (omega arith))))
+    (λ i l. ap (has_cell places) (zero-plus i) ∙ (are i ∙ ap (λ (t : Bool). t && has_cell set (get_or cells i 0)) (lt-ltb i (length cells) l)))
+    (λ i l. are i ∙ ap (λ (t : Bool). t && has_cell set (get_or cells i 0)) (le-ltb i (length cells) (omega arith))))
     ∙ ap (λ (z : ℕ). seen_adds set won z cells) (back block)
   where
     at : (b : ℕ) → b + 7 ≡ b + 4 + 3
@@ -125,12 +125,6 @@ adds-seen set places block first won cells few are is =
 
     zero-plus : (i : ℕ) → 0 + i ≡ i
     zero-plus i = omega arith
-
-    less : (i n : ℕ) → i < n → nat_lt i n ≡ true
-    less i n l = grind (arith, nat_tests)
-
-    not-less : (i n : ℕ) → n ≤ i → nat_lt i n ≡ false
-    not-less i n l = grind (arith, nat_tests)
 
 -- what a list of adds has left is none exactly where no place is left
 pub adds-some : (first : ℕ) (won : Bool) (places c : ℕ) → c < 121 → has_cell places c ≡ true → adds_at first won places ≡ [] → ⊥

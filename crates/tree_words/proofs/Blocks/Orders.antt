@@ -4,7 +4,7 @@ use Rattle.std.specs.Prelude.{◌==◌}
 use Rattle.tree_words.specs.Blocks.{LinkedBlock, has_node, is_node, link_of, Follows, InOrder}
 use Rattle.tree_words.specs.Trees.{oldest_first}
 use Rattle.tree_words.specs.Complete.{HaveNodes}
-use Rattle.tree_words.specs.Descents.{Out, Sprouts, Rooted, Names, Inside, Bare}
+use Rattle.tree_words.specs.Descents.{Sprouts, Rooted, Names, Inside, Bare}
 use Rattle.std.proofs.lemmas.Bool.{eqb-true, cases_Bool, or_right, or_left}
 use Rattle.tree_words.proofs.Blocks.BlockLaws.{apart}
 use Rattle.tree_words.proofs.Walks.WalkLaws.{out-snoc}
@@ -55,10 +55,6 @@ rooted-snoc r n bs (b ∷ os) f p o = (o.0, out-snoc n os b.parent o.1 (apart r 
 pub rooted-turned : (r : ℕ) (bs : List LinkedBlock) → InOrder r bs → Rooted (oldest_first bs)
 rooted-turned r [] g = tt
 rooted-turned r (b ∷ bs) g = rooted-snoc r b bs (oldest_first bs) g.0 (parents-turned r bs g.1) (rooted-turned r bs g.1)
-
-out-oldest_first : (bs : List LinkedBlock) (x : ℕ) → ((b : LinkedBlock) → has_node b x ≡ false) → Out (oldest_first bs) x
-out-oldest_first [] x h = tt
-out-oldest_first (b ∷ bs) x h = out-snoc b (oldest_first bs) x (out-oldest_first bs x h) (h b)
 
 bare-snoc : (n : LinkedBlock) (os : List LinkedBlock) (x : ℕ) → Bare os x → (n.parent == x) ≡ false → Bare (os ++ n ∷ []) x
 bare-snoc n [] x b h = (h, tt)

@@ -3,7 +3,7 @@ use Rattle.std.proofs.Common.{◌≡◌, ℕ, zero, suc, ◌+◌, ◌*◌, ◌%�
 use Rattle.std.specs.Prelude.{◌==◌}
 use Rattle.std.specs.List.{filter, range_with_len}
 use Rattle.std.specs.List.Sorted.{IsStrictlyIncreasing}
-use Rattle.std.proofs.lemmas.Bool.{cases_lt, eqb-true, eq-eqb, cases_Bool}
+use Rattle.std.proofs.lemmas.Bool.{eqb-true, eq-eqb, cases_Bool}
 use Rattle.std.proofs.lemmas.List.Kept.{IsStrictlyIncreasing-filter}
 use Rattle.std.proofs.lemmas.List.FromFn.{length-range_with_len, get_or-range_with_len}
 use Rattle.std.proofs.lemmas.List.Sums.{length-filter, count_by-le-length}
@@ -121,13 +121,3 @@ has_root s words h c =
       numbers = λ i l. omega (arith, cell i l, (filter_at (has_cell s.allowed) 0 n i (omega (arith, l, count, len))).1, square_small s.board.size h.position.most);
       rise = rising_range (has_cell s.allowed) n;
     }
-
-pub increasing : (xs : List ℕ) → IsStrictlyIncreasing xs → (i j : ℕ) → i < j → j < length xs → get_or xs i 0 < get_or xs j 0
-increasing xs h i zero l m = absurd (omega arith)
-increasing xs h i (suc j) l m = ⊎_elim
-    (λ (q : i < j). let a = increasing xs h i j q (omega arith) in omega (arith, a, next))
-    (λ (q : j ≤ i). let e : i ≡ j = omega arith in omega (arith, ap (λ (k : ℕ). get_or xs k 0) e, next))
-    (cases_lt i j)
-  where
-    next : get_or xs j 0 < get_or xs (suc j) 0
-    next = subst (λ (k : ℕ). get_or xs j 0 < get_or xs k 0) (omega arith) (h j (omega arith))

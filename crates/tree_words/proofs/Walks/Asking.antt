@@ -13,7 +13,7 @@ use Rattle.tree_words.specs.Walks.{nothing, Game, leaf_state}
 use Rattle.play_out.specs.declared.playouts.Ending.{Ending}
 use Rattle.tree_words.specs.Sequence.{size_below, asks, gets_block, next_after, search_game}
 use Rattle.tree_words.specs.Descents.{Config, walk_end, NewBlock, Widened, pick, leaf_inner, leaf_at, state_leaf, state_inner, state_at, top, Out, Sprouts}
-use Rattle.std.proofs.lemmas.Bool.{and_parts, leb-true, eq-eqb, cases_Bool}
+use Rattle.std.proofs.lemmas.Bool.{and_parts, leb-true, le-leb, lt-leb, eq-eqb, cases_Bool}
 use Rattle.tree_words.proofs.Boards.RootLaws.{filter_some, few_cells}
 use Rattle.tree_words.proofs.Walks.Down.{Fair, child-has, pick-in, down-here, down-else, same-under}
 use Rattle.tree_words.proofs.Walks.Expands.{state-tree}
@@ -66,7 +66,20 @@ past-asks s next v p l = none (nat_le s.knobs.expand v.visits) (nat_lt 0 (length
     none : (t u : Bool) (a b : ℕ) → b < a → (t && (u && nat_le a b)) ≡ false
     none t u a b l = grind (arith, nat_tests)
 
--- `next` after a leaf that gets its block, one that asks in vain, and one that does not ask
+-- a leaf that asks gets its block where that fits, one that asks in vain gets none, and one that does not ask gets none
+pub gets-made : (s : Setting) (next : ℕ) (v : Count) (p : NodeState) → asks s next v p ≡ true → next + size_below p ≤ end_of s → gets_block s next v p ≡ true
+unfolding gets_block
+gets-made s next v p a l = ap (λ (t : Bool). t && nat_le (next + size_below p) (end_of s)) a ∙ le-leb (next + size_below p) (end_of s) l
+
+pub gets-past : (s : Setting) (next : ℕ) (v : Count) (p : NodeState) → asks s next v p ≡ true → end_of s < next + size_below p → gets_block s next v p ≡ false
+unfolding gets_block
+gets-past s next v p a l = ap (λ (t : Bool). t && nat_le (next + size_below p) (end_of s)) a ∙ lt-leb (next + size_below p) (end_of s) l
+
+pub gets-none : (s : Setting) (next : ℕ) (v : Count) (p : NodeState) → asks s next v p ≡ false → gets_block s next v p ≡ false
+unfolding gets_block
+gets-none s next v p a = ap (λ (t : Bool). t && nat_le (next + size_below p) (end_of s)) a
+
+-- `next` after a leaf that gets its block, one that asks in vain, one that asks, and one that does not ask
 pub next-gets : (s : Setting) (next : ℕ) (v : Count) (p : NodeState) → gets_block s next v p ≡ true → (next ≤ end_of s) × (next_after s next v p ≡ next + size_below p)
 unfolding gets_block next_after
 next-gets s next v p e =
@@ -80,6 +93,10 @@ next-vain s next v p e a = ((asks-then s next v p a).1, ap (λ (u : Bool). cond 
   where
     past : (t : Bool) (a b : ℕ) → t ≡ true → (t && nat_le a b) ≡ false → b < a
     past t a b h e = grind (arith, nat_tests)
+
+pub next-asked : (s : Setting) (next : ℕ) (v : Count) (p : NodeState) → asks s next v p ≡ true → next_after s next v p ≡ next + size_below p
+unfolding next_after
+next-asked s next v p a = ap (λ (u : Bool). cond u (next + size_below p) next) a
 
 pub next-stays : (s : Setting) (next : ℕ) (v : Count) (p : NodeState) → asks s next v p ≡ false → next_after s next v p ≡ next
 unfolding next_after

@@ -20,7 +20,7 @@ returns-clause-stones c = λ kind e x y s t d i h.
     sure_wider (members d 121) (members d 121) kind (StonesLink e x y) s t d d (linked_kept e x y) (omega arith) i (same d) h
 
 pub returns-clause-rest : goal.returns-clause-rest
-returns-clause-rest c = λ e x y s d k l i h.
+returns-clause-rest c = λ e x y s d l h k i.
     sure_trimmed (members d 121) (members (without_cell d k) 121) Full (StonesLink e x y) (with_cell s k) (without_cell d k)
     (λ j g. cell_below d 121 j l (in_without d k j g).0) (omega arith)
     (sure_less (members d 121) Full (StonesLink e x y) s d k (linked_kept e x y) i h)

@@ -5,9 +5,9 @@ use Rattle.tree_words.specs.Opening.{opening_words}
 use Rattle.tree_words.proofs.NewBlocks.OpeningTold.{opening-are}
 use Rattle.arena_rule.specs.Rule.{Rule}
 use Rattle.tree_rule.specs.Ends.{IsSameBehind}
-use Rattle.tree_rule.proofs.Copies.{room-kept}
 use Rattle.tree_rule.proofs.Ends.{beyond}
 use Rattle.tree_rule.proofs.trees.end.Goals as goal
+use Rattle.std.proofs.lemmas.List.{take_at}
 
 pub copy_claimed-requires-clause-long : goal.copy_claimed-requires-clause-long
 copy_claimed-requires-clause-long c =
@@ -43,5 +43,5 @@ returns c =
       (slots_counts c.close_with-closed.result.words).0,
       ap length copied,
     ) in
-    let same = room-kept c.args.room.len c.copy_claimed.new.room _ (sym c.deref_mut.ensures.len ∙ long) in
+    let same = take_at c.copy_claimed.new.room _ c.args.room.len (sym long ∙ c.deref_mut.ensures.len) in
     record { views = last.0.views; rule = subst (λ (words : List ℕ). Rule s words last.0.views) (last.2 ∙ sym (same ∙ copied)) last.1.0; at = last.1.1 }

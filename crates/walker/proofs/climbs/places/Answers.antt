@@ -1,13 +1,11 @@
 -- The bits that are none of the cells are taken out one by one, from the lowest on.
-use Rattle.std.proofs.Common.{◌≡◌, ℕ, ◌+◌, ◌-◌, ◌*◌, ◌<◌, ◌≤◌, Bool, true, false, cond, refl, ap, ◌∙◌, subst, List, arith}
+use Rattle.std.proofs.Common.{◌≡◌, ℕ, ◌+◌, ◌-◌, ◌*◌, Bool, true, false, cond, refl, ap, ◌∙◌, subst, List, arith}
 use Rattle.std.specs.Prelude.{◌&&◌, not, nat_lt}
-use Rattle.std.proofs.lemmas.Bool.Decides.{nat_tests}
 use Rattle.hex_cells.specs.Sets.{has as has_cell}
 use Rattle.walker.specs.Places.{ArePlaces}
 use Rattle.walker.proofs.HoleLaws.{AreParts, taken-none, hole-at, taken-one, taken-all, same-below}
 use Rattle.walker.proofs.climbs.places.Goals as goal
-use Rattle.walker.proofs.MemberLaws.{lt-yes, lt-no}
-use Rattle.std.proofs.lemmas.Bool.{and_right}
+use Rattle.std.proofs.lemmas.Bool.{and_right, lt-ltb, le-ltb}
 
 true-and : (a b : Bool) → b ≡ true → (a && b) ≡ a
 true-and true b e = e
@@ -24,13 +22,13 @@ holes-init c =
     let cell : (k : ℕ) → has_cell cells k ≡ (has_cell c.args.cells k && nat_lt k n) = λ k. c.meet-cells.ensures.items k ∙ ap (λ (b : Bool). has_cell c.args.cells k && b) (c.all-all.ensures.items k) in
     let hole : (k : ℕ) → has_cell c.minus-holes.result k ≡ (nat_lt k n && not (has_cell cells k)) = λ k. c.minus-holes.ensures.items k ∙ ap (λ (b : Bool). b && not (has_cell cells k)) (c.all-all.ensures.items k) in
     let parts : AreParts cells c.minus-holes.result n = record {
-      here = λ k l. hole k ∙ and-not (nat_lt k n) (has_cell cells k) (lt-yes k n l);
-      far = λ k l. (hole k ∙ ap (λ (b : Bool). b && not (has_cell cells k)) (lt-no k n l), cell k ∙ and_right (has_cell c.args.cells k) (nat_lt k n) (lt-no k n l));
+      here = λ k l. hole k ∙ and-not (nat_lt k n) (has_cell cells k) (lt-ltb k n l);
+      far = λ k l. (hole k ∙ ap (λ (b : Bool). b && not (has_cell cells k)) (le-ltb k n l), cell k ∙ and_right (has_cell c.args.cells k) (nat_lt k n) (le-ltb k n l));
     } in (
       0,
       cells,
       parts,
-      λ k l. cell k ∙ true-and (has_cell c.args.cells k) (nat_lt k n) (lt-yes k n l),
+      λ k l. cell k ∙ true-and (has_cell c.args.cells k) (nat_lt k n) (lt-ltb k n l),
       taken-none c.args.stones cells c.minus-holes.result n parts c.meet-places.result (λ k. c.meet-places.ensures.items k),
     )
 

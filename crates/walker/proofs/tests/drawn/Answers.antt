@@ -1,6 +1,6 @@
 -- The view of one worker that knows nothing belongs to a new walker, and its first draw may give
 -- such a number.
-use Rattle.std.proofs.Common.{◌≡◌, ℕ, [], Some, None, refl, sym, subst, arith, inr}
+use Rattle.std.proofs.Common.{[], refl, sym, subst, arith, inr}
 use Rattle.tree_words.specs.declared.steps.Op.{Op}
 use Rattle.arena_rule.specs.Views.{SeatView, new_view}
 use Rattle.arena_rule.specs.Answers.{MayAnswer}
