@@ -15,7 +15,7 @@ use Rattle.trace_audit.specs.declared.spots.Table.{Table}
 use Rattle.trace_audit.specs.Tables.{spot_state, IsLinked}
 use Rattle.trace_audit.specs.Sums.{AreSums, CanClimb, Climbed}
 use Rattle.trace_audit.proofs.Adding.{leaf_word, outcome_is, sums_more, sums_small}
-use Rattle.trace_audit.proofs.Climbing.{parent_low}
+use Rattle.trace_audit.proofs.Downward.{parent_low}
 use Rattle.trace_audit.proofs.Placed.{most_of}
 use Rattle.tree_words.proofs.Blocks.BlockLaws.{has-at}
 use Rattle.seq_search.proofs.Ways.{most-below}

@@ -23,10 +23,6 @@ use Rattle.trace_audit.specs.Sums.{AreSums, AreSmall, Climbed}
 use Rattle.trace_audit.proofs.WordBytes.{none_left}
 use Rattle.seq_search.proofs.Ways.{most-below}
 
-one_few : (t : Bool) → one_if t ≤ 1
-one_few true = omega arith
-one_few false = omega arith
-
 -- no sum passes the number of playouts
 pub sums_small : (s : Setting) (bs : List LinkedBlock) (words sums : List ℕ) (k m : ℕ) → k ≤ m → AreSums s bs words sums k → AreSmall s bs sums m
 sums_small s bs words sums k m l a = record {
