@@ -1,7 +1,8 @@
 use Rattle.std.proofs.Common.{◌≡◌, ℕ, ◌+◌, slice_index, sym, ap, ◌∙◌}
 use Rattle.tree_words.specs.Words.{root_at}
 use Rattle.trace_audit.proofs.Matches.{match_on}
-use Rattle.trace_audit.proofs.Verifying.{exact_of, not_exact, spots_within, top_of}
+use Rattle.trace_audit.proofs.SpotLaws.{spots_within}
+use Rattle.trace_audit.proofs.Verifying.{exact_of, not_exact, top_of}
 use Rattle.trace_audit.proofs.counts.is_exact.Goals as goal
 
 pub returns-then-words-root : goal.returns-then-words-root

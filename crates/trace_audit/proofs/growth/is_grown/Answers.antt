@@ -2,7 +2,8 @@ use Rattle.std.proofs.Common.{◌≡◌, ℕ, ◌*◌, ◌≤◌, ap, ◌∙◌,
 use Rattle.tree_words.specs.Words.{end_of, next_in}
 use Rattle.trace_audit.specs.Points.{AreFrugal, EachSpot, IsFirst, SomeSpot}
 use Rattle.trace_audit.proofs.Matches.{if_yes, if_no, match_on}
-use Rattle.trace_audit.proofs.Verifying.{grown_of, not_first, not_frugal, room_of, spots_cells, spots_within}
+use Rattle.trace_audit.proofs.SpotLaws.{spots_cells, spots_within}
+use Rattle.trace_audit.proofs.Verifying.{grown_of, not_first, not_frugal, room_of}
 use Rattle.trace_audit.proofs.growth.is_grown.Goals as goal
 use Rattle.trace_audit.proofs.growth.is_grown.Goals.{else-words-via-then-words+else-not-each_frugal, else-words-via-else-words}
 
