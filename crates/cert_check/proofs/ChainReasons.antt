@@ -1,20 +1,21 @@
 -- The reasons against `and` and `key`, where both entries are there and stand in the scope.
 use Rattle.std.proofs.Common.{◌≡◌, ℕ, ◌<◌, ◌==◌, List, [], ◌∷◌, ◌||◌, not, Option, Some, None, Bool, true, false, refl, sym, ◌∙◌, ap, subst, bit_or, if◌then◌else◌}
-use Rattle.std.specs.List.{cons_option, list_all}
+use Rattle.std.specs.List.{list_all}
 use Rattle.std.specs.Option.{is_none, is_some, option_and_then, option_map, option_map_or}
 use Rattle.std.specs.Int.Bits.{or_zero_r}
 use Rattle.std.proofs.lemmas.Bool.{and_parts, eqb-true, false≢true, true≢false}
 use Rattle.hex_cells.specs.Sets.{with_cell}
-use Rattle.hex_board.specs.Elements.{element_count}
+use Rattle.hex_board.specs.Elements.{PlayerBoard, element_count}
 use Rattle.hex_board.specs.Places.{cell_of}
 use Rattle.conn_store.specs.declared.entries.Kind.TheVariants.{Full, Semi}
 use Rattle.win_cert.specs.Entries.{Context, ScopedEntry, and_entry, carriers_of, elements_at, entries_at, entry_at, entry_between, gives, is_end, key_entry, middle_of, other_end}
 use Rattle.win_cert.specs.Reasons.{Reason, holds_of_chain, reason_against, is_bad_reference, is_wrong_scope, no_common_middle, carriers_meet, end_in_carrier, middle_kind}
 use Rattle.win_cert.specs.Scopes.{elements_in}
 use Rattle.win_cert.specs.Statements.{derivation, is_cell_in, may_take, share_cell}
-use Rattle.cert_check.specs.Keeping.{IsGivenOn, Takes, chain_line, entry_of}
+use Rattle.cert_check.specs.Keeping.{AreNamed, IsGivenOn, Takes, chain_line, entry_of}
 use Rattle.cert_check.specs.declared.given.Given.{Given}
 use Rattle.cert_check.proofs.ReasonLaws.{chain_reasons, told, told_next}
+use Rattle.win_cert.proofs.CutChains.{two_at}
 
 -- whether the middle is of the other sort
 abbrev pub is_wrong_middle : Bool → Option ℕ → Bool
@@ -63,6 +64,30 @@ join_reason c over_cell i j a b m e r s h =
 two_carriers : (a b : ScopedEntry) → carriers_of (a ∷ b ∷ []) ≡ bit_or a.carrier b.carrier
 two_carriers a b = ap (bit_or a.carrier) (or_zero_r b.carrier)
 
+-- ---- by the checker's tests
+
+-- the reason where the two entries have the middle u: whether the carriers meet, whether one of the
+-- other ends x and y is in the other carrier, and whether the middle is of the other sort
+pub joined : {c : Context} {o : Bool} {i j u x y : ℕ} {a b : Given} {m : Option ℕ} {meet inside wrong : Bool} → AreNamed c o i j a b
+    → m ≡ middle_of (entry_of a) (entry_of b) → m ≡ Some u → meet ≡ share_cell (entries_at c (i ∷ j ∷ []))
+    → x ≡ other_end (entry_of a) u → y ≡ other_end (entry_of b) u → inside ≡ (is_cell_in (elements_at c) x b.carrier || is_cell_in (elements_at c) y a.carrier)
+    → wrong ≡ is_wrong_middle o (cell_of (elements_at c) u)
+    → reason_against c (derivation (chain_line o i j)) ≡ told meet carriers_meet (told inside end_in_carrier (told wrong middle_kind None))
+joined {c = c} {o = o} {i = i} {j = j} {u = u} {x = x} {a = a} {b = b} n is some shares x_is y_is in_carrier of_middle =
+    let e = elements_at c in
+    let two = two_at c i j (entry_of a) (entry_of b) n.first n.second in
+    let reason = join_reason c o i j (entry_of a) (entry_of b) (Some u) two n.references n.scopes (sym is ∙ some) in
+    let share = ap share_cell (sym two) ∙ sym shares in
+    let ends = ap (λ v. is_cell_in e v b.carrier || is_cell_in e (other_end (entry_of b) u) a.carrier) (sym x_is)
+    ∙ ap (λ v. is_cell_in e x b.carrier || is_cell_in e v a.carrier) (sym y_is) ∙ sym in_carrier in
+    cc (reason, share, ends, sym of_middle)
+
+-- whether the middle is of the other sort, by what cell it is
+pub wrong_is : (c : Context) (u : ℕ) {o p : Bool} {e : PlayerBoard} {q r : Option ℕ} → e ≡ elements_at c → q ≡ cell_of e u → q ≡ r → o ≡ p
+    → is_wrong_middle p r ≡ is_wrong_middle o (cell_of (elements_at c) u)
+wrong_is c u {p = p} at is found test =
+    ap (is_wrong_middle p) (sym (ap (λ e. cell_of e u) (sym at) ∙ sym is ∙ found)) ∙ ap (λ t. is_wrong_middle t (cell_of (elements_at c) u)) (sym test)
+
 -- what a `key` gives, and an `and`
 pub key_gives : (c : Context) (over_cell : Bool) (i j : ℕ) (a b : ScopedEntry) (u k : ℕ) → over_cell ≡ true → entries_at c (i ∷ j ∷ []) ≡ a ∷ b ∷ []
     → middle_of a b ≡ Some u → cell_of (elements_at c) u ≡ Some k
@@ -80,6 +105,23 @@ and_gives c true i j a b u o e h = absurd (true≢false o)
 and_gives c false i j a b u o e h = ap (and_entry c) e
     ∙ ap (option_map (λ v. entry_between c Full (other_end a v) (other_end b v) (carriers_of (a ∷ b ∷ [])))) h
     ∙ ap (λ s. Some (entry_between c Full (other_end a u) (other_end b u) s)) (two_carriers a b)
+
+-- the same of the entry g between the other ends x and y, with the cells of both carriers
+pub key_given : {c : Context} {o : Bool} {i j u k x y s t : ℕ} {a b : Given} {m q : Option ℕ} {e : PlayerBoard} {g : ScopedEntry} → AreNamed c o i j a b → o ≡ true
+    → m ≡ middle_of (entry_of a) (entry_of b) → m ≡ Some u → e ≡ elements_at c → q ≡ cell_of e u → q ≡ Some k → x ≡ other_end (entry_of a) u → y ≡ other_end (entry_of b) u
+    → s ≡ bit_or a.carrier b.carrier → t ≡ with_cell s k → g ≡ entry_between c Semi x y t → gives c (chain_line o i j) ≡ Some g
+key_given {c = c} {o = o} {i = i} {j = j} {u = u} {k = k} {a = a} {b = b} n key is some at cell found x_is y_is both with is_g =
+    let two = two_at c i j (entry_of a) (entry_of b) n.first n.second in
+    let given = key_gives c o i j (entry_of a) (entry_of b) u k key two (sym is ∙ some) (ap (λ e. cell_of e u) (sym at) ∙ sym cell ∙ found) in
+    cc (given, x_is, y_is, both, with, is_g)
+
+pub and_given : {c : Context} {o : Bool} {i j u x y s : ℕ} {a b : Given} {m : Option ℕ} {g : ScopedEntry} → AreNamed c o i j a b → o ≡ false
+    → m ≡ middle_of (entry_of a) (entry_of b) → m ≡ Some u → x ≡ other_end (entry_of a) u → y ≡ other_end (entry_of b) u
+    → s ≡ bit_or a.carrier b.carrier → g ≡ entry_between c Full x y s → gives c (chain_line o i j) ≡ Some g
+and_given {c = c} {o = o} {i = i} {j = j} {u = u} {a = a} {b = b} n plain is some x_is y_is both is_g =
+    let two = two_at c i j (entry_of a) (entry_of b) n.first n.second in
+    let given = and_gives c o i j (entry_of a) (entry_of b) u plain two (sym is ∙ some) in
+    cc (given, x_is, y_is, both, is_g)
 
 -- ---- the elements
 
@@ -104,6 +146,13 @@ shared_below false false x y u n h l m = absurd (cc)
 pub middle_below : (c : Context) (a : Given) (b : ScopedEntry) (u : ℕ) → a.scope ≡ c.scope → IsGivenOn c.base a → middle_of (entry_of a) b ≡ Some u → u < element_count (elements_at c)
 middle_below c a b u s g h = shared_below (is_end b a.x) (is_end b a.y) a.x a.y u (element_count (elements_at c)) h
     (subst (λ t. a.x < element_count (elements_in c.base t)) s g.x) (subst (λ t. a.y < element_count (elements_in c.base t)) s g.y)
+
+-- the other ends of two entries that are named are elements
+pub first_below : {c : Context} {o : Bool} {i j x : ℕ} {a b : Given} (u : ℕ) → AreNamed c o i j a b → x ≡ other_end (entry_of a) u → x < element_count (elements_at c)
+first_below {c = c} {a = a} u n e = subst (λ v. v < element_count (elements_at c)) (sym e) (other_below c a u n.first_scope n.first_given)
+
+pub second_below : {c : Context} {o : Bool} {i j y : ℕ} {a b : Given} (u : ℕ) → AreNamed c o i j a b → y ≡ other_end (entry_of b) u → y < element_count (elements_at c)
+second_below {c = c} {b = b} u n e = subst (λ v. v < element_count (elements_at c)) (sym e) (other_below c b u n.second_scope n.second_given)
 
 -- ---- what is asked of the entries that are named
 

@@ -1,17 +1,14 @@
 -- Which reasons may stand against each form of line, in their order.
-use Rattle.std.proofs.Common.{◌≡◌, ℕ, List, [], ◌∷◌, ◌==◌, ◌&&◌, not, Option, Some, None, Bool, true, false, refl, sym, ◌∙◌, ap, if◌then◌else◌}
+use Rattle.std.proofs.Common.{◌≡◌, ℕ, List, ◌∷◌, ◌==◌, ◌&&◌, Option, Some, None, Bool, true, false, refl, sym, ◌∙◌, ap, if◌then◌else◌}
 use Rattle.std.specs.List.{list_all}
 use Rattle.std.proofs.lemmas.Bool.{and_parts, false≢true, true≢false}
 use Rattle.conn_store.specs.declared.entries.Kind.{Kind}
-use Rattle.conn_store.specs.declared.entries.Kind.TheVariants.{Semi}
-use Rattle.win_cert.specs.Entries.{Context, entries_at, entry_at, gives, or_entry}
-use Rattle.win_cert.specs.Reasons.{Reason, reason_against, is_bad_reference, is_bad_stone, is_wrong_scope, is_wrong_colour, are_not_neighbours, has_no_middle, do_carriers_meet, is_end_in_carrier, is_middle_wrong, is_cell_common, is_no_edge_entry, is_not_joined, bad_reference, wrong_colour, not_neighbours, no_common_middle, carriers_meet, end_in_carrier, middle_kind, ends_differ, common_cell, not_edges, bad_stone, wrong_scope, not_joined}
-use Rattle.win_cert.specs.Statements.{Statement, claim, derivation, have_same_ends, may_take, share_cell}
+use Rattle.win_cert.specs.Entries.{Context, entries_at, entry_at}
+use Rattle.win_cert.specs.Reasons.{Reason, reason_against, is_bad_reference, is_bad_stone, is_wrong_scope, is_wrong_colour, are_not_neighbours, has_no_middle, do_carriers_meet, is_end_in_carrier, is_middle_wrong, is_cell_common, is_no_edge_entry, is_not_joined, bad_reference, wrong_colour, not_neighbours, no_common_middle, carriers_meet, end_in_carrier, middle_kind, common_cell, not_edges, bad_stone, wrong_scope, not_joined}
+use Rattle.win_cert.specs.Statements.{Statement, claim, derivation, may_take}
 use Rattle.win_cert.specs.declared.lines.End.{End}
-use Rattle.win_cert.specs.declared.lines.Line.{Line}
-use Rattle.win_cert.specs.declared.lines.Line.TheVariants.{Adj, And, Key, Or2, Or3, Put, Done, Move, Cases}
-use Rattle.cert_check.specs.Keeping.{IsOrOf, Takes, chain_line}
-use Rattle.win_cert.proofs.CutSteps.{two_reasons, three_reasons}
+use Rattle.win_cert.specs.declared.lines.Line.TheVariants.{Adj, Put, Done, Move, Cases}
+use Rattle.cert_check.specs.Keeping.{chain_line}
 
 -- the reason, where the test holds, and else another
 abbrev pub told : Bool → Reason → Option Reason → Option Reason
@@ -66,50 +63,14 @@ unfolding reason_against
 chain_reasons c true i j = refl
 chain_reasons c false i j = refl
 
--- the reason against an `or` of these numbers
-abbrev pub or_reason : Context → Statement → List ℕ → Option Reason
-or_reason c s numbers =
-    told (not (list_all (λ i. may_take s (entry_at c i)) numbers)) bad_reference
-    (told (not (list_all (λ a. a.scope == c.scope) (entries_at c numbers))) wrong_scope
-    (told (not (have_same_ends (entries_at c numbers))) ends_differ
-    (told (share_cell (entries_at c numbers)) common_cell None)))
-
-pub or_reasons : (c : Context) (line : Line) (numbers : List ℕ) → IsOrOf line numbers → reason_against c (derivation line) ≡ or_reason c (derivation line) numbers
-or_reasons c (Or2 i j) numbers h = two_reasons c i j ∙ ap (or_reason c (derivation (Or2 i j))) h.1
-or_reasons c (Or3 i j k) numbers h = three_reasons c i j k ∙ ap (or_reason c (derivation (Or3 i j k))) h.1
-or_reasons c (Adj x y) numbers h = absurd (false≢true h.0)
-or_reasons c (And i j) numbers h = absurd (false≢true h.0)
-or_reasons c (Key i j) numbers h = absurd (false≢true h.0)
-or_reasons c (Put cells) numbers h = absurd (false≢true h.0)
-or_reasons c Done numbers h = absurd (false≢true h.0)
-or_reasons c (Move k i) numbers h = absurd (false≢true h.0)
-or_reasons c (Cases ns) numbers h = absurd (false≢true h.0)
-
-pub or_takes : (line : Line) (numbers : List ℕ) → IsOrOf line numbers → Takes (derivation line) Semi true
-or_takes (Or2 i j) numbers h = (refl, refl)
-or_takes (Or3 i j k) numbers h = (refl, refl)
-or_takes (Adj x y) numbers h = absurd (false≢true h.0)
-or_takes (And i j) numbers h = absurd (false≢true h.0)
-or_takes (Key i j) numbers h = absurd (false≢true h.0)
-or_takes (Put cells) numbers h = absurd (false≢true h.0)
-or_takes Done numbers h = absurd (false≢true h.0)
-or_takes (Move k i) numbers h = absurd (false≢true h.0)
-or_takes (Cases ns) numbers h = absurd (false≢true h.0)
-
-pub or_gives : (c : Context) (line : Line) (numbers : List ℕ) → IsOrOf line numbers → gives c line ≡ or_entry c (entries_at c numbers)
-or_gives c (Or2 i j) numbers h = ap (λ l. or_entry c (entries_at c l)) h.1
-or_gives c (Or3 i j k) numbers h = ap (λ l. or_entry c (entries_at c l)) h.1
-or_gives c (Adj x y) numbers h = absurd (false≢true h.0)
-or_gives c (And i j) numbers h = absurd (false≢true h.0)
-or_gives c (Key i j) numbers h = absurd (false≢true h.0)
-or_gives c (Put cells) numbers h = absurd (false≢true h.0)
-or_gives c Done numbers h = absurd (false≢true h.0)
-or_gives c (Move k i) numbers h = absurd (false≢true h.0)
-or_gives c (Cases ns) numbers h = absurd (false≢true h.0)
-
 -- an entry that a statement may take is there
 pub missing : (c : Context) (s : Statement) (i : ℕ) (rest : List ℕ) → list_all (λ k. may_take s (entry_at c k)) (i ∷ rest) ≡ true → entry_at c i ≡ None → ⊥
 missing c s i rest h e = false≢true (sym (ap (λ o. may_take s o && list_all (λ k. may_take s (entry_at c k)) rest) e) ∙ h)
 
 pub missing_next : (c : Context) (s : Statement) (i j : ℕ) (rest : List ℕ) → list_all (λ k. may_take s (entry_at c k)) (i ∷ j ∷ rest) ≡ true → entry_at c j ≡ None → ⊥
 missing_next c s i j rest h e = missing c s j rest (and_parts (may_take s (entry_at c i)) (list_all (λ k. may_take s (entry_at c k)) (j ∷ rest)) h).1 e
+
+-- whether entries are in the scope, by the scope that is kept
+pub kept_scope : {c d : Context} {inside : Bool} (numbers : List ℕ) → d ≡ c → inside ≡ list_all (λ a. a.scope == d.scope) (entries_at c numbers)
+    → inside ≡ list_all (λ a. a.scope == c.scope) (entries_at c numbers)
+kept_scope {c = c} numbers kept is = is ∙ ap (λ n. list_all (λ a. a.scope == n.scope) (entries_at c numbers)) kept

@@ -7,7 +7,7 @@ use Rattle.hex_board.specs.Elements.{PlayerBoard}
 use Rattle.win_cert.specs.Entries.{Context, ScopedEntry, context_at, entries_below, gives}
 use Rattle.win_cert.specs.Reasons.{reason_against}
 use Rattle.win_cert.specs.Scopes.{player_board, scope_after}
-use Rattle.win_cert.specs.Statements.{Statement, claim, derivation}
+use Rattle.win_cert.specs.Statements.{claim, derivation}
 use Rattle.win_cert.specs.Verdicts.{Accepted, reason_at}
 use Rattle.win_cert.specs.declared.certs.Cert.{Cert}
 use Rattle.win_cert.specs.declared.lines.Line.{Line}
@@ -55,16 +55,26 @@ context_step cert k line h =
 
 -- ---- the statements
 
-pub line_reason : (cert : Cert) (k : ℕ) (line : Line) → slice_get cert.lines k ≡ Some line → reason_at cert k ≡ reason_against (context_at cert k) (derivation line)
-line_reason cert k line h = ap (option_and_then (reason_against (context_at cert k)))
+-- the reason against line k is the one against it after the k lines before it
+pub line_reason : {kept : Context} (cert : Cert) (k : ℕ) (line : Line) → slice_get cert.lines k ≡ Some line → kept ≡ context_at cert k
+    → reason_at cert k ≡ reason_against kept (derivation line)
+line_reason cert k line h kept = ap (option_and_then (reason_against (context_at cert k)))
     (at_left (map derivation cert.lines) (claim cert.claim cert.entry ∷ []) k (derivation line) (slice_get-map derivation cert.lines k ∙ ap (option_map derivation) h))
+    ∙ ap (λ n. reason_against n (derivation line)) (sym kept)
 
-pub claim_reason : (cert : Cert) → reason_at cert (length cert.lines) ≡ reason_against (context_at cert (length cert.lines)) (claim cert.claim cert.entry)
-claim_reason cert = ap (option_and_then (reason_against (context_at cert (length cert.lines)))) (at_claim cert.lines (claim cert.claim cert.entry))
+-- and the one against the claim is the one after all lines
+pub claim_reason : {kept : Context} (cert : Cert) → kept ≡ context_at cert (length cert.lines)
+    → reason_at cert (length cert.lines) ≡ reason_against kept (claim cert.claim cert.entry)
+claim_reason cert kept = ap (option_and_then (reason_against (context_at cert (length cert.lines)))) (at_claim cert.lines (claim cert.claim cert.entry))
+    ∙ ap (λ n. reason_against n (claim cert.claim cert.entry)) (sym kept)
 
 -- no reason stands against the first k statements
 abbrev pub AreClear : Cert → ℕ → Type 0
 AreClear cert k = (j : ℕ) → j < k → reason_at cert j ≡ None
+
+-- k lines were read: this is kept, the next line has this number, and no reason stands so far
+abbrev pub IsReadTo : Cert → Context → ℕ → ℕ → Type 0
+IsReadTo cert kept number k = (kept ≡ context_at cert k) × (number ≡ k) × AreClear cert k
 
 pub clear_more : (cert : Cert) (k : ℕ) → AreClear cert k → reason_at cert k ≡ None → AreClear cert (k + 1)
 clear_more cert k f h j l = elim (cases_Bool (nat_lt j k)) [
@@ -78,3 +88,22 @@ all_clear cert f h k = elim (cases_Bool (nat_lt k (length cert.lines + 1))) [
   | inr t ↦ let q : length cert.lines + 1 ≤ k = ltb-false k (length cert.lines + 1) t in
       ap (option_and_then (reason_against (context_at cert k))) (past_claim cert.lines (claim cert.claim cert.entry) k (omega (arith, q)))
 ]
+
+-- ---- the lines as the checker goes through them
+
+-- there is a line k
+pub is_line : {items : List Line} {k : ℕ} (cert : Cert) → items ≡ cert.lines → k < length items → k < length cert.lines
+is_line {k = k} cert e l = subst (λ xs. k < length xs) e l
+
+-- and this is it
+pub next_line : {items : List Line} {k : ℕ} (cert : Cert) (line : Line) → items ≡ cert.lines → k < length items → line ≡ get_or items k line
+    → slice_get cert.lines k ≡ Some line
+next_line {k = k} cert line e l is = at_index cert.lines k line (is_line cert e l) (subst (λ xs. line ≡ get_or xs k line) e is)
+
+-- at the end all lines were read
+pub all_read : {items : List Line} {kept : Context} {number k : ℕ} (cert : Cert) → items ≡ cert.lines → k ≤ length items → length items ≤ k → IsReadTo cert kept number k
+    → IsReadTo cert kept number (length cert.lines)
+all_read {items = items} {kept = kept} {number = number} {k = k} cert e l m read =
+    let same : length items ≡ length cert.lines = ap length e in
+    let last : k ≡ length cert.lines = omega (arith, same, l, m) in
+    subst (IsReadTo cert kept number) last read

@@ -23,7 +23,7 @@ use Rattle.conn_store.proofs.Numbers.{numbers_all, numbers_in}
 use Rattle.conn_store.proofs.RuleEntries.{at_three, at_two}
 use Rattle.conn_store.proofs.RuleTruth.{second_of, third_of}
 use Rattle.conn_store.proofs.Tables.{held_count, last_or_before, number_at, number_within, of_itself}
-use Rattle.hsearch.specs.Closed.{SettlesOr, HoldsEdge, IsRuleClosed, IsKept}
+use Rattle.hsearch.specs.Closed.{SettlesOr, IsRuleClosed, IsKept}
 use Rattle.hsearch.specs.Taken.{AreBare, AreNearBelow, Extends, IsOrSettled, IsCombined, IsAndSettled, IsAndSettledOver, IsAndSettledTo, IsOfPair, IsTaken}
 use Rattle.hsearch.proofs.Growth.{AreWithin, IsPut, answered, covered_stays, entry_stays, entry_was, grown_longer, grown_on, grown_put, put_answers, to_stays, two_were, ways_were}
 use Rattle.hsearch.proofs.Orders.{last_first, swapped_first, swapped_last, swapped_two, three_of, turned_and, two_of, way_twice}
@@ -214,9 +214,6 @@ pub joined_over : (d f : StoreData) (n u : ℕ) → IsSound d → Extends d f
 joined_over d f n u s g done i l a b x y at r m =
     let v = s.valid i b (entry_was d f i b g l (at_second f.entries n i a b at)) in
     done y (ends_below d.elements b u y v r.chain.second).1 i l a b x at r m
-
-pub over_edge : (d : StoreData) (n u : ℕ) → HoldsEdge d.elements u → (i : ℕ) → IsAndSettledOver d n i u
-over_edge d n u h i a b x y at r m = absurd (m h)
 
 -- ---- all ways of a pair
 

@@ -1,8 +1,7 @@
 -- Cells that words name in rising order.
-use Rattle.std.proofs.Common.{◌≡◌, ℕ, ◌*◌, ◌<◌, ◌&&◌, inl, inr, suc, bit_and, leb, Bool, true, false, cond, List, [], ◌∷◌, Some, None, refl, sym, ◌∙◌, subst}
+use Rattle.std.proofs.Common.{◌≡◌, ℕ, suc, bit_and, leb, true, cond, List, [], ◌∷◌, Some, None, ◌∙◌, subst}
 use Rattle.hex_cells.specs.Sets.{has, with_cell}
 use Rattle.hex_cells.proofs.Bits.{has_and, has_none}
-use Rattle.hex_cells.proofs.WithCell.{with_cell-cases}
 use Rattle.hex_board.specs.Positions.{Apart, Within}
 use Rattle.win_cert.specs.Named.{cell_named, set_named}
 use Rattle.win_cert.proofs.CellWords.{cell_means}

@@ -1,6 +1,5 @@
 -- The certificate of derived lines shows the entry of the store.
-use Rattle.std.proofs.Common.{◌≡◌, ℕ, ◌<◌, ◌≤◌, true, false, List, Some, length, refl, sym, ◌∙◌, ap, subst, inl, arith}
-use Rattle.std.specs.List.{slice_get}
+use Rattle.std.proofs.Common.{◌≡◌, ℕ, ◌<◌, ◌≤◌, true, false, length, refl, sym, ◌∙◌, ap, subst, inl, arith}
 use Rattle.hex_board.specs.Elements.{PlayerBoard, edge_element}
 use Rattle.hex_board.specs.Positions.{Position}
 use Rattle.hex_cells.specs.declared.colours.Colour.{Colour}
@@ -12,7 +11,7 @@ use Rattle.win_cert.specs.Cutting.{AreDerived, Derives, unscoped}
 use Rattle.win_cert.specs.Scopes.{player_board}
 use Rattle.win_cert.specs.Writable.{IsLineOf}
 use Rattle.win_cert.specs.declared.certs.Cert.{Cert}
-use Rattle.win_cert.specs.declared.certs.TheConstants.{FIRST_VERSION, LATEST_VERSION, MOST_LINES}
+use Rattle.win_cert.specs.declared.certs.TheConstants.{FIRST_VERSION}
 use Rattle.win_cert.proofs.CutVerdicts.{all_at, cut_accepted, cut_claims}
 
 same_board : (cert : Cert) (e : PlayerBoard) → cert.board ≡ e.board → cert.player ≡ e.player → player_board cert ≡ e

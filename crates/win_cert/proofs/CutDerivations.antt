@@ -1,15 +1,14 @@
 -- The lines of a cut, one entry after another.
-use Rattle.std.proofs.Common.{◌≡◌, ℕ, ◌+◌, ◌<◌, ◌≤◌, ◌==◌, true, false, Bool, List, [], ◌∷◌, ◌++◌, Option, Some, None, All, length, map, take, get_or, if◌then◌else◌, refl, sym, ◌∙◌, ap, subst, inl, inr, ◌⊎◌, zero, suc, arith}
+use Rattle.std.proofs.Common.{◌≡◌, ℕ, ◌+◌, ◌<◌, ◌≤◌, ◌==◌, true, false, Bool, List, [], ◌∷◌, ◌++◌, Option, Some, None, All, length, take, get_or, if◌then◌else◌, refl, sym, ◌∙◌, ap, subst, inl, inr, ◌⊎◌, zero, suc, arith}
 use Rattle.std.specs.List.{slice_get}
 use Rattle.std.proofs.Math.ListN.{get_or-append}
 use Rattle.std.proofs.Math.Seq.{get_or-append_seam, take-append_seam}
 use Rattle.std.proofs.lemmas.Bool.{true≢false}
-use Rattle.std.proofs.lemmas.List.{length-append, length-map, take-append-le}
-use Rattle.std.proofs.lemmas.List.Elements.{All-cons, All-head, All-nil, All-tail}
+use Rattle.std.proofs.lemmas.List.{take-append-le}
+use Rattle.std.proofs.lemmas.List.Elements.{All-cons, All-head, All-nil}
 use Rattle.std.proofs.lemmas.Option.{slice_get_past, slice_get_within}
 use Rattle.hex_board.specs.Elements.{PlayerBoard}
-use Rattle.conn_store.specs.Entries.{IsValid}
-use Rattle.conn_store.specs.Rules.{AreAt, FollowsBy, OrRule}
+use Rattle.conn_store.specs.Rules.{AreAt, FollowsBy}
 use Rattle.conn_store.specs.Stores.{IsSound, StoreData}
 use Rattle.conn_store.specs.declared.entries.Cause.{Cause}
 use Rattle.conn_store.specs.declared.entries.Cause.TheVariants.{Adjacent, AndGroup, AndEmpty, Or}
@@ -18,7 +17,6 @@ use Rattle.conn_store.specs.declared.entries.TheConstants.{MOST_ENTRIES}
 use Rattle.win_cert.specs.Cutting.{AreDerived, AreLinesTo, AreMarks, Derives, IsDerivedBy, IsLineFor, NameEarlier, is_marked, named, unscoped}
 use Rattle.win_cert.specs.Entries.{ScopedEntry}
 use Rattle.win_cert.specs.declared.lines.Line.{Line}
-use Rattle.win_cert.specs.declared.lines.TheConstants.{MOST_NUMBER}
 use Rattle.win_cert.proofs.CutLines.{IsPlaced, IsSmallAt, line_form, line_right, second_in, third_in, number_of_ways}
 use Rattle.win_cert.proofs.CutVerdicts.{cases_at, some_at}
 use Rattle.win_cert.proofs.GivenEntries.{at_left}
@@ -121,15 +119,6 @@ derived_more e lines given line x d r =
     }
 
 -- ---- one entry more
-
-pub lines_start : (d : StoreData) (marks : List Bool) → AreLinesTo d marks 0 [] []
-lines_start d marks = record {
-  given = [];
-  derived = record { number = refl; each = λ k l q. absurd (cc) };
-  few = omega arith;
-  number = refl;
-  places = λ i a l. absurd (omega arith);
-}
 
 pub lines_on : (d : StoreData) (marks : List Bool) (n : ℕ) (lines : List Line) (renamed : List ℕ) (v : ℕ) → AreLinesTo d marks n lines renamed → is_marked marks n ≡ false
     → AreLinesTo d marks (n + 1) lines (renamed ++ v ∷ [])

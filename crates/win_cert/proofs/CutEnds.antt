@@ -1,12 +1,11 @@
 -- The end by which a line names an element.
-use Rattle.std.proofs.Common.{◌≡◌, ℕ, ◌*◌, ◌<◌, ◌≤◌, nat_lt, ◌&&◌, not, true, false, Bool, Option, Some, None, refl, sym, ◌∙◌, subst, arith}
+use Rattle.std.proofs.Common.{◌≡◌, ℕ, ◌*◌, ◌<◌, nat_lt, ◌&&◌, not, true, false, Option, Some, None, sym, ◌∙◌, subst}
 use Rattle.std.specs.Option.{MatchOption}
 use Rattle.std.proofs.lemmas.Bool.{and_parts, false_from_ne_true, ltb-true}
 use Rattle.hex_cells.specs.Sets.{has}
 use Rattle.hex_cells.specs.Colours.{other_of}
-use Rattle.hex_board.specs.Elements.{PlayerBoard, HasCell, edge_element}
-use Rattle.hex_board.specs.Places.{IsMember, Place, at_cell, at_edge}
-use Rattle.hex_board.specs.Positions.{is_empty_at, stones_of}
+use Rattle.hex_board.specs.Elements.{PlayerBoard, HasCell}
+use Rattle.hex_board.specs.Positions.{stones_of}
 use Rattle.hex_board.proofs.Parts.{case_of, is_free, is_first, is_second, is_group, is_other, linked_last, none_other, tied_stone, none_some}
 use Rattle.win_cert.specs.Cutting.{AreStonesOn, IsEndFor}
 use Rattle.win_cert.specs.declared.lines.End.TheVariants.{At}
@@ -31,12 +30,6 @@ cell_end e x k s h =
       place = l;
       other = false_from_ne_true (has (stones_of e.board (other_of e.player)) k) (λ t. none_some x (sym ((none_other e k s.own s.apart l).1 t) ∙ h));
     }
-
--- an element that holds no edge has a cell
-pub has_some : (e : PlayerBoard) (x : ℕ) (p : Place) → IsMember e x p → (edge_element e false ≡ x → ⊥) → (edge_element e true ≡ x → ⊥) → (k : ℕ) × HasCell e x k
-has_some e x (at_cell k) h m n = (k, h)
-has_some e x (at_edge false) h m n = absurd (m h)
-has_some e x (at_edge true) h m n = absurd (n h)
 
 -- what is said of the item of an option that has one
 pub some_case : (P : Type 0) (Q : ℕ → Type 0) (o : Option ℕ) (k : ℕ) → MatchOption o P Q → o ≡ Some k → Q k

@@ -1,6 +1,6 @@
 -- The line for an entry that follows from earlier ones is right, and is one of the first version.
-use Rattle.std.proofs.Common.{◌≡◌, ℕ, ◌<◌, ◌≤◌, ◌==◌, ◌&&◌, true, false, Bool, List, [], ◌∷◌, Option, Some, None, All, length, map, take, get_or, bit_or, refl, sym, ◌∙◌, ap, subst, inl, inr, ◌⊎◌, zero, suc, if◌then◌else◌, arith}
-use Rattle.std.specs.List.{list_all, slice_get}
+use Rattle.std.proofs.Common.{◌≡◌, ℕ, ◌<◌, ◌≤◌, ◌==◌, true, false, Bool, List, [], ◌∷◌, Some, All, length, take, get_or, refl, sym, ◌∙◌, ap, subst, inl, inr, ◌⊎◌, zero, suc, if◌then◌else◌, arith}
+use Rattle.std.specs.List.{slice_get}
 use Rattle.std.proofs.lemmas.Bool.{ne_eqb, true≢false}
 use Rattle.std.proofs.lemmas.List.{length-map}
 use Rattle.std.proofs.lemmas.List.Elements.{All-cons, All-head, All-nil, All-tail}
@@ -14,12 +14,12 @@ use Rattle.conn_store.specs.declared.entries.Entry.{Entry}
 use Rattle.conn_store.specs.declared.entries.Kind.TheVariants.{Full, Semi}
 use Rattle.hsearch.proofs.Orders.{three_of, two_of}
 use Rattle.win_cert.specs.Cutting.{IsLineFor, named, over, unscoped}
-use Rattle.win_cert.specs.Entries.{Context, ScopedEntry, entry_at}
+use Rattle.win_cert.specs.Entries.{ScopedEntry}
 use Rattle.win_cert.specs.Scopes.{elements_in}
 use Rattle.win_cert.specs.Writable.{AreNumbers, IsLineOf}
 use Rattle.win_cert.specs.declared.certs.TheConstants.{FIRST_VERSION}
 use Rattle.win_cert.specs.declared.lines.Line.{Line}
-use Rattle.win_cert.specs.declared.lines.Line.TheVariants.{Adj, And, Key, Or2, Or3}
+use Rattle.win_cert.specs.declared.lines.Line.TheVariants.{Or2, Or3}
 use Rattle.win_cert.specs.declared.lines.TheConstants.{MOST_NUMBER}
 use Rattle.win_cert.proofs.CutChains.{entry_over}
 use Rattle.win_cert.proofs.CutSteps.{IsChainAt, IsRight, IsWayAt, adj_right, and_right, key_right, three_right, two_right, unscoped_board}

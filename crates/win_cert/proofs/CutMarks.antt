@@ -1,7 +1,7 @@
 -- Marks of the entries on which an entry rests.
-use Rattle.std.proofs.Common.{◌≡◌, ◌≢◌, ℕ, ◌+◌, ◌<◌, ◌≤◌, ◌==◌, true, false, Bool, List, [], ◌∷◌, Some, All, length, get_or, set, if◌then◌else◌, not, refl, sym, ◌∙◌, ap, subst, inl, inr, ◌⊎◌, arith}
+use Rattle.std.proofs.Common.{◌≡◌, ℕ, ◌+◌, ◌<◌, ◌≤◌, ◌==◌, true, false, Bool, List, [], ◌∷◌, Some, All, length, get_or, set, if◌then◌else◌, sym, ◌∙◌, ap, subst, inl, inr, arith}
 use Rattle.std.specs.List.{slice_get}
-use Rattle.std.proofs.lemmas.Bool.{cases_eq, ne_eqb, true≢false}
+use Rattle.std.proofs.lemmas.Bool.{cases_eq, ne_eqb}
 use Rattle.std.proofs.lemmas.List.{get_or-set_other, get_or-set_same, length-set}
 use Rattle.std.proofs.lemmas.List.Elements.{All-cons, All-head, All-nil, All-weaker}
 use Rattle.std.proofs.lemmas.Option.{slice_get-get_or}
@@ -46,9 +46,6 @@ three_marked m n i j q l t =
           ∙ t.rest b k (All-cons (λ v. v < b) i (j ∷ []) (All-head (λ v. v < b) i (j ∷ q ∷ []) h) (All-cons (λ v. v < b) j [] (second_in (λ v. v < b) i j (q ∷ []) h) (All-nil (λ v. v < b)))) p;
     }
 
-none_marked : (m : List Bool) → IsMarkedBy m [] m
-none_marked m = record { number = refl; kept = λ k h. h; more = All-nil (λ k. is_marked m k ≡ true); rest = λ b k h p. refl }
-
 pub or_marked : (m n : List Bool) (cause : Cause) (numbers : List ℕ) (count : ℕ) → cause ≡ Or numbers count → (count ≡ 2 → ⊥) → All (λ i. i < length m) (named cause)
     → n ≡ set (set m (get_or numbers 0 0) true) (get_or numbers 1 0) true → IsMarkedBy m (named cause) (set n (get_or numbers 2 0) true)
 or_marked m n cause numbers count q t h e =
@@ -74,13 +71,6 @@ closed_more entries m n left a e c q w j b l h p = elim (cases_eq j left) [
   where
     some_same_entry : (a b : Entry) → Some a ≡ Some b → a ≡ b
     some_same_entry a b h = cc
-
--- an entry that isn't marked
-pub closed_on : (entries : List Entry) (m : List Bool) (left : ℕ) → IsClosedFrom entries m (left + 1) → is_marked m left ≡ false → IsClosedFrom entries m left
-closed_on entries m left c f j b l h p = elim (cases_eq j left) [
-  | inl s ↦ absurd (true≢false (sym h ∙ subst (λ v. is_marked m v ≡ false) (sym s) f))
-  | inr d ↦ c j b (omega (arith, l, d)) h p
-]
 
 -- an entry that is read
 pub read_at : (entries : List Entry) (i : ℕ) (a : Entry) → i < length entries → a ≡ get_or entries i a → slice_get entries i ≡ Some a

@@ -1,9 +1,9 @@
 -- A line of a cut gives the store's entry in the empty scope, and there is no reason against it.
-use Rattle.std.proofs.Common.{◌≡◌, ℕ, ◌<◌, ◌==◌, ◌&&◌, ◌||◌, not, true, false, Bool, List, [], ◌∷◌, Option, Some, None, min, max, bit_or, option_map, option_and_then, if◌then◌else◌, refl, sym, ◌∙◌, ap, subst, arith}
+use Rattle.std.proofs.Common.{◌≡◌, ℕ, ◌<◌, ◌==◌, ◌&&◌, ◌||◌, not, true, false, Bool, List, [], ◌∷◌, Option, Some, None, min, max, bit_or, option_map, option_and_then, if◌then◌else◌, refl, sym, ◌∙◌, ap, arith}
 use Rattle.std.specs.List.{list_all}
 use Rattle.std.specs.Int.Bits.{or_zero_r}
 use Rattle.std.specs.Option.{is_none, is_some, option_map_or}
-use Rattle.std.proofs.lemmas.Bool.{and_from, eq-eqb, false_from_ne_true, false≢true, ne_eqb, true≢false, or_from, and_right as and_no}
+use Rattle.std.proofs.lemmas.Bool.{and_from, eq-eqb, false≢true, ne_eqb, true≢false, or_from, and_right as and_no}
 use Rattle.hex_cells.specs.Sets.{has, with_cell}
 use Rattle.hex_cells.specs.declared.colours.Colour.{Colour}
 use Rattle.hex_cells.specs.declared.colours.Colour.TheVariants.{Black, White}
@@ -11,7 +11,7 @@ use Rattle.hex_board.specs.Elements.{PlayerBoard}
 use Rattle.hex_board.specs.Places.{Near, cell_of, is_near}
 use Rattle.hex_board.specs.Positions.{Position}
 use Rattle.hex_board.proofs.Places.{near_test}
-use Rattle.conn_store.specs.Entries.{IsBetween, IsValid}
+use Rattle.conn_store.specs.Entries.{IsBetween}
 use Rattle.conn_store.specs.Rules.{AndRule, IsCell, IsGroup, both_of}
 use Rattle.conn_store.specs.Stores.{same_kind}
 use Rattle.conn_store.specs.declared.entries.Entry.{Entry}
@@ -19,7 +19,7 @@ use Rattle.conn_store.specs.declared.entries.Kind.{Kind}
 use Rattle.conn_store.specs.declared.entries.Kind.TheVariants.{Full, Semi}
 use Rattle.win_cert.specs.Cutting.{over, unscoped}
 use Rattle.win_cert.specs.Entries.{Context, ScopedEntry, adj_entry, and_entry, carriers_of, elements_at, end_element, entries_at, entry_at, entry_between, gives, key_entry, middle_of, or_entry, other_end}
-use Rattle.win_cert.specs.Reasons.{Reason, reason_against, is_bad_reference, is_wrong_scope, is_wrong_colour, are_not_neighbours, has_no_middle, do_carriers_meet, is_end_in_carrier, is_middle_wrong, do_ends_differ, is_cell_common, holds_of_chain, bad_reference, wrong_colour, not_neighbours, no_common_middle, carriers_meet, end_in_carrier, middle_kind, ends_differ, common_cell, wrong_scope}
+use Rattle.win_cert.specs.Reasons.{Reason, reason_against, is_bad_reference, is_wrong_scope, is_wrong_colour, are_not_neighbours, has_no_middle, do_carriers_meet, is_end_in_carrier, is_middle_wrong, holds_of_chain, bad_reference, wrong_colour, not_neighbours, no_common_middle, carriers_meet, end_in_carrier, middle_kind, ends_differ, common_cell, wrong_scope}
 use Rattle.win_cert.specs.Scopes.{elements_in, with_stones}
 use Rattle.win_cert.specs.Statements.{Statement, derivation, are_near, is_chain, is_or, have_same_ends, is_cell_in, is_other_stone, kind_taken, may_take, share_cell}
 use Rattle.win_cert.specs.declared.lines.End.{End}

@@ -1,22 +1,21 @@
 -- A certificate of derived lines whose claim names the entry of one of them, between the player's
 -- edges, is accepted.
-use Rattle.std.proofs.Common.{◌≡◌, ℕ, ◌+◌, ◌<◌, ◌≤◌, ◌==◌, ◌&&◌, not, true, false, Bool, List, [], ◌∷◌, ◌++◌, Option, Some, None, All, length, map, take, min, max, option_map, option_and_then, refl, sym, ◌∙◌, ap, subst, inl, inr, ◌⊎◌, zero, suc, arith}
+use Rattle.std.proofs.Common.{◌≡◌, ℕ, ◌<◌, ◌≤◌, ◌==◌, ◌&&◌, not, true, false, List, [], ◌∷◌, ◌++◌, Option, Some, None, All, length, map, take, min, max, option_map, option_and_then, refl, sym, ◌∙◌, ap, subst, inl, inr, ◌⊎◌, zero, suc, arith}
 use Rattle.std.specs.List.{cons_option, list_all, slice_get}
-use Rattle.std.proofs.lemmas.Bool.{and_from, eq-eqb, false≢true, true≢false}
+use Rattle.std.proofs.lemmas.Bool.{and_from, eq-eqb}
 use Rattle.std.proofs.lemmas.List.Elements.{All-cons, All-nil}
-use Rattle.std.proofs.lemmas.Option.{slice_get-map, slice_get_past, slice_get_within}
+use Rattle.std.proofs.lemmas.Option.{slice_get-map}
 use Rattle.hex_board.specs.Elements.{PlayerBoard, edge_element}
 use Rattle.conn_store.specs.Entries.{IsBetween}
 use Rattle.conn_store.specs.Stores.{same_kind}
 use Rattle.conn_store.specs.declared.entries.Entry.{Entry}
 use Rattle.conn_store.specs.declared.entries.Kind.{Kind}
-use Rattle.conn_store.specs.declared.entries.Kind.TheVariants.{Full, Semi}
 use Rattle.win_cert.specs.Cutting.{AreDerived, over, unscoped}
-use Rattle.win_cert.specs.Entries.{Context, ScopedEntry, context_at, context_over, entries_at, entries_below, entry_at, gives}
-use Rattle.win_cert.specs.Reasons.{Reason, reason_against, bad_reference, is_bad_reference, is_no_edge_entry, is_wrong_scope, not_edges, wrong_scope}
-use Rattle.win_cert.specs.Scopes.{elements_in, player_board, scope_after, scope_at}
+use Rattle.win_cert.specs.Entries.{Context, ScopedEntry, context_at, context_over, entries_below, entry_at, gives}
+use Rattle.win_cert.specs.Reasons.{reason_against, bad_reference, is_bad_reference, is_no_edge_entry, is_wrong_scope, not_edges, wrong_scope}
+use Rattle.win_cert.specs.Scopes.{player_board, scope_after, scope_at}
 use Rattle.win_cert.specs.Statements.{Statement, claim, derivation, is_edge_entry, may_take}
-use Rattle.win_cert.specs.Verdicts.{Accepted, claimed_entry, reason_at, statements_of}
+use Rattle.win_cert.specs.Verdicts.{Accepted, claimed_entry, reason_at}
 use Rattle.win_cert.specs.Writable.{IsLineOf}
 use Rattle.win_cert.specs.declared.certs.Cert.{Cert}
 use Rattle.win_cert.specs.declared.certs.TheConstants.{FIRST_VERSION, LATEST_VERSION}

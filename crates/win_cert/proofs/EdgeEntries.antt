@@ -1,5 +1,5 @@
 -- Entries of the player's edges: where he is joined, and after a stone of his.
-use Rattle.std.proofs.Common.{◌≡◌, ℕ, ◌+◌, ◌<◌, true, false, Bool, List, [], ◌∷◌, refl, sym, ◌∙◌, subst, inl, inr, suc, arith}
+use Rattle.std.proofs.Common.{◌≡◌, ℕ, true, false, Bool, List, [], ◌∷◌, refl, sym, ◌∙◌, subst, inl, inr, suc, arith}
 use Rattle.std.specs.List.{count_by, range_with_len}
 use Rattle.hex_cells.specs.Sets.{has, members, with_cell, without_cell}
 use Rattle.hex_cells.specs.Edges.{on_edge}

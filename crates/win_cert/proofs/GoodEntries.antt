@@ -1,15 +1,14 @@
 -- Entries that are true and whose carriers are empty cells outside their elements: what the rules
 -- of adjacent elements, of chains and of cases give of them.
-use Rattle.std.proofs.Common.{◌≡◌, ℕ, ◌+◌, min, max, bit_or, true, false, sym, ◌∙◌, subst, inl, inr, ◌⊎◌, zero, suc, arith}
+use Rattle.std.proofs.Common.{◌≡◌, ℕ, ◌+◌, min, max, bit_or, true, false, sym, subst, inl, inr, ◌⊎◌, zero, suc, arith}
 use Rattle.std.proofs.lemmas.Bool.{cases_lt, both_ways, false_from_ne_true}
 use Rattle.hex_cells.specs.Sets.{has, members, with_cell, without_cell}
 use Rattle.hex_cells.proofs.Bits.{has_none}
 use Rattle.hex_cells.proofs.Counts.{members_sub}
-use Rattle.hex_cells.proofs.WithCell.{with_cell-cases, with_cell-here, with_cell-keeps}
-use Rattle.hex_board.specs.Elements.{PlayerBoard, HasCell}
+use Rattle.hex_cells.proofs.WithCell.{with_cell-here, with_cell-keeps}
+use Rattle.hex_board.specs.Elements.{PlayerBoard}
 use Rattle.hex_board.specs.Places.{Near}
-use Rattle.hex_board.specs.Positions.{is_empty_at, stones_of}
-use Rattle.hex_board.proofs.Parts.{some_same}
+use Rattle.hex_board.specs.Positions.{stones_of}
 use Rattle.conn_store.specs.Entries.{AllEmpty, Connects, Misses}
 use Rattle.conn_store.specs.Laws.{IsSubset}
 use Rattle.conn_store.specs.Links.{StonesLink}
@@ -18,7 +17,7 @@ use Rattle.conn_store.specs.Truth.{IsSure, IsSureIn}
 use Rattle.conn_store.specs.declared.entries.Kind.{Kind}
 use Rattle.conn_store.specs.declared.entries.Kind.TheVariants.{Full, Semi}
 use Rattle.conn_store.proofs.Chains.{empty_both, misses_both, misses_more, empty_more}
-use Rattle.conn_store.proofs.Sureness.{Disjoint, IsKept, same, sure_both, sure_more, sure_over, sure_trimmed, sure_wider, union_left, union_right, without_keeps, kept_out}
+use Rattle.conn_store.proofs.Sureness.{Disjoint, IsKept, same, sure_both, sure_more, sure_over, sure_trimmed, sure_wider, union_left, union_right, kept_out}
 use Rattle.conn_store.proofs.Ways.{linked_back, linked_kept, near_linked}
 use Rattle.win_cert.proofs.LinksOn.{cell_links, group_links}
 use Rattle.win_cert.proofs.ScopeBoards.{IsSmallBoard, empty_small}

@@ -1,13 +1,12 @@
 -- What a line gives is good, where the lines before it give good entries and no reason is against
 -- it.
-use Rattle.std.proofs.Common.{◌≡◌, ℕ, ◌==◌, ◌&&◌, not, true, false, Bool, List, [], ◌∷◌, Option, Some, None, refl, subst}
-use Rattle.std.specs.List.{list_all, list_any}
-use Rattle.std.proofs.lemmas.Bool.{and_parts, both_ways, eq-eqb, false≢true, not-true}
+use Rattle.std.proofs.Common.{◌≡◌, ℕ, ◌==◌, ◌&&◌, true, false, List, [], ◌∷◌, Option, Some, None, refl, subst}
+use Rattle.std.specs.List.{list_all}
+use Rattle.std.proofs.lemmas.Bool.{and_parts, false≢true}
 use Rattle.hex_cells.specs.Sets.{with_cell}
-use Rattle.hex_board.specs.Elements.{PlayerBoard, are_joined, edge_element}
-use Rattle.hex_board.specs.Places.{Place, Near, are_beside, is_member, is_near, places_of}
+use Rattle.hex_board.specs.Elements.{are_joined, edge_element}
 use Rattle.hex_board.specs.Positions.{is_empty_at}
-use Rattle.hex_board.proofs.Places.{beside_out, member_out, place_out, near_out}
+use Rattle.hex_board.proofs.Places.{near_out}
 use Rattle.conn_store.specs.declared.entries.Kind.TheVariants.{Full, Semi}
 use Rattle.win_cert.specs.Entries.{Context, ScopedEntry, adj_entry, carriers_of, edge_entry, elements_at, end_element, entries_at, entry_between, gives, move_entry}
 use Rattle.win_cert.specs.Reasons.{Reason, applies, bad_stone, carriers_meet, common_cell, end_in_carrier, ends_differ, middle_kind, not_edges, not_joined, not_neighbours}

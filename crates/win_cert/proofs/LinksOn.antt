@@ -1,11 +1,10 @@
 -- Links of elements on any board, also where stones lie off it.
-use Rattle.std.proofs.Common.{◌≡◌, ℕ, ◌*◌, ◌&&◌, true, false, List, [], ◌∷◌, Some, nat_eq, sym, ◌∙◌, ap, subst, inl, inr}
+use Rattle.std.proofs.Common.{◌≡◌, ℕ, ◌*◌, ◌&&◌, true, false, Some, nat_eq, sym, ◌∙◌, ap, subst, inl, inr}
 use Rattle.std.specs.Option.{option_eq}
 use Rattle.hex_cells.specs.Sets.{has}
-use Rattle.hex_cells.specs.declared.colours.Colour.{Colour}
 use Rattle.hex_board.specs.Elements.{PlayerBoard, HasCell, edge_element}
 use Rattle.hex_board.specs.Joined.{Joined}
-use Rattle.hex_board.specs.Places.{Place, at_cell, at_edge, IsMember, Route, cell_of, is_member, last_place}
+use Rattle.hex_board.specs.Places.{Place, at_cell, at_edge, IsMember, cell_of, is_member, last_place}
 use Rattle.hex_board.specs.Positions.{is_empty_at, stones_of}
 use Rattle.hex_board.proofs.Places.{cell_test}
 use Rattle.conn_store.specs.Laws.{IsSubset}

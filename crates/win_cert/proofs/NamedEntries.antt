@@ -5,8 +5,6 @@ use Rattle.std.specs.List.{cons_option, filter_map, find, list_all, slice_get}
 use Rattle.std.proofs.lemmas.Bool.{and_from, and_parts, both_ways, eqb-true, eq-eqb, false≢true, not-true}
 use Rattle.hex_board.specs.Elements.{PlayerBoard}
 use Rattle.conn_store.specs.Stores.{same_kind}
-use Rattle.conn_store.specs.declared.entries.Kind.{Kind}
-use Rattle.conn_store.specs.declared.entries.Kind.TheVariants.{Full, Semi}
 use Rattle.win_cert.specs.Entries.{Context, ScopedEntry, entry_at}
 use Rattle.win_cert.specs.Reasons.{Reason, applies, bad_reference, bad_stone, carriers_meet, common_cell, end_in_carrier, ends_differ, middle_kind, no_common_middle, not_edges, not_joined, not_neighbours, order, reason_against, wrong_colour, wrong_scope}
 use Rattle.win_cert.specs.Scopes.{elements_in}

@@ -1,5 +1,5 @@
 -- Boards of scopes: their stones and their empty cells.
-use Rattle.std.proofs.Common.{◌≡◌, ℕ, ◌*◌, ◌<◌, ◌≤◌, ◌&&◌, ◌||◌, not, nat_lt, true, false, Bool, refl, ap, sym, ◌∙◌, subst, arith, inl, inr}
+use Rattle.std.proofs.Common.{◌≡◌, ℕ, ◌*◌, ◌<◌, ◌≤◌, ◌&&◌, ◌||◌, not, nat_lt, true, false, Bool, refl, ap, sym, ◌∙◌, subst, inl, inr}
 use Rattle.std.proofs.lemmas.Bool.{and_parts, both_ways, not-true, or_cases, or_left, or_right}
 use Rattle.hex_cells.specs.Sets.{has, with_cell}
 use Rattle.hex_cells.specs.declared.colours.Colour.{Colour}
@@ -57,14 +57,6 @@ scope_more p c s k j h = elim (or_cases (has (stones_of p c) j) (has (with_cell 
     | inl i ↦ with_cell-keeps (stones_of (with_stones p c s) c) k j (scope_own p c s j ∙ or_right (has (stones_of p c) j) (has s j) i)
     | inr e ↦ subst (λ v. has (with_cell (stones_of (with_stones p c s) c) k) v ≡ true) (sym e) (with_cell-here (stones_of (with_stones p c s) c) k)
   ]
-]
-
--- the scope's stones are among them
-pub scope_stones : (p : Position) (c : Colour) (s k : ℕ)
-    → IsSubset (stones_of (with_stones p c s) c) (stones_of (with_stones p c (with_cell s k)) c)
-scope_stones p c s k j h = scope_own p c (with_cell s k) j ∙ elim (or_cases (has (stones_of p c) j) (has s j) (sym (scope_own p c s j) ∙ h)) [
-  | inl o ↦ or_left (has (stones_of p c) j) (has (with_cell s k) j) o
-  | inr o ↦ or_right (has (stones_of p c) j) (has (with_cell s k) j) (with_cell-keeps s k j o)
 ]
 
 kept_empty : (a b d : Bool) → (a && not d) ≡ true → (b ≡ true → d ≡ true) → (a && not b) ≡ true

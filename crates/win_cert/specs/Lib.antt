@@ -3,6 +3,7 @@ pub mod Words
 pub mod Writable
 pub mod Named
 pub mod Lines
+pub mod OneLine
 pub mod Readings
 pub mod Scopes
 pub mod Entries

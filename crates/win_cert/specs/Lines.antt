@@ -1,5 +1,5 @@
 -- How a text is read, line by line: its head, and then the steps. Only private clauses cite this.
-use Rattle.std.specs.Prelude.{◌≡◌, MatchOption, MatchResult, ℕ, ◌+◌, ◌==◌, ◌&&◌, nat_le, Bool}
+use Rattle.std.specs.Prelude.{ℕ, ◌+◌, ◌==◌, ◌&&◌, nat_le, Bool}
 use Rattle.std.specs.Prelude.{false, List, [], ◌∷◌, ◌++◌, Option, Some, None, Result, Ok, Err, suc}
 use Rattle.std.specs.Prelude.{length, map, codes, bit_and, if◌then◌else◌}
 use Rattle.std.specs.List.{slice_split}
@@ -39,12 +39,6 @@ abbrev pub line_in : {A : Type 0} → (List (List ℕ) → Option A) → List (L
     → Option (A × List (List (List ℕ)))
 line_in said lines =
     option_and_then (λ l. option_map (λ a. (a, l.1)) (said l.0)) (first_line lines)
-
--- the first line of the text says this, or nothing, and these bytes are left
-abbrev pub IsLineTaken : {A : Type 0} → (List (List ℕ) → Option A) → List ℕ → Option A → List ℕ
-    → Type 0
-IsLineTaken said bytes result rest = MatchOption result (line_in said (lines_of bytes) ≡ None)
-    (λ a. line_in said (lines_of bytes) ≡ Some (a, lines_of rest))
 
 infixl 10 ◌>>=◌
 -- what is read goes on as f says, and a refusal stays
@@ -153,16 +147,3 @@ certs_of head lines =
 -- what a text of these lines is read as
 abbrev pub cert_in : List (List (List ℕ)) → Result Cert CertError
 cert_in lines = head_in lines >>= λ h. certs_of h.0 h.1
-
--- after the head and these lines, the next of the lines left was taken: it was added, or it is the
--- claim, or it is refused
-abbrev pub IsStepTaken : ℕ → ℕ → List Line → List (List (List ℕ))
-    → Result (Option (Kind × ℕ)) CertError
-    → List Line → List (List (List ℕ)) → Type 0
-IsStepTaken version n old lines result new rest = MatchResult result
-    (λ taken. MatchOption taken
-    (with_lines old (steps_in version n (length old) lines)
-    ≡ with_lines new (steps_in version n (length new) rest))
-    (λ claim. (new ≡ old) × (steps_in version n (length old) lines
-    ≡ (if is_nothing rest then Ok ([], claim) else Err (NotCert (length old + 7))))))
-    (λ e. steps_in version n (length old) lines ≡ Err e)

@@ -2,8 +2,9 @@
 
 ghost use Rattle.std.specs.Prelude.{◌≡◌, ◌+◌, ◌<◌, IfSome, OnOk};
 ghost use Rattle.hex_board.specs.Positions.{Apart, Within};
-ghost use Rattle.win_cert.specs.Lines.{IsLineTaken, head_in, lines_of, number_after, player_in};
-ghost use Rattle.win_cert.specs.Lines.{stones_in, with_rest};
+ghost use Rattle.win_cert.specs.Lines.{head_in, lines_of, number_after, player_in, stones_in};
+ghost use Rattle.win_cert.specs.Lines.{with_rest};
+ghost use Rattle.win_cert.specs.OneLine.{IsLineTaken};
 
 use super::reader::Reader;
 use super::refusals::CertError;

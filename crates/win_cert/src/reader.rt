@@ -1,8 +1,9 @@
 //! The lines of a text, one after the other.
 
-ghost use Rattle.std.specs.Prelude.{◌≡◌, ◌+◌, ◌<◌, Some, None, MatchOption};
+ghost use Rattle.std.specs.Prelude.{◌≡◌, ◌+◌, ◌<◌};
 ghost use Rattle.std.specs.List.{position};
-ghost use Rattle.win_cert.specs.Lines.{first_line, is_nothing, lines_of};
+ghost use Rattle.win_cert.specs.Lines.{is_nothing, lines_of};
+ghost use Rattle.win_cert.specs.OneLine.{IsFirstLine};
 ghost use Rattle.win_cert.specs.Words.{is_line_feed};
 
 use super::refusals::CertError;
@@ -41,9 +42,7 @@ impl<'a> Reader<'a> {
     pub(crate) fn next(&mut self) -> Option<Words<'a>>
         requires { self.old.line < MANY_LINES }
         ensures count { self.new.line ≡ self.old.line + 1 }
-        ensures line { MatchOption result (first_line (lines_of self.old.rest.now) ≡ None)
-            (λ words. first_line (lines_of self.old.rest.now)
-            ≡ Some (words, lines_of self.new.rest.now)) }
+        ensures line { IsFirstLine self.old.rest.now result self.new.rest.now }
     {
         self.line += 1;
         let rest = self.rest;

@@ -2,9 +2,8 @@
 
 ghost use Rattle.std.specs.Prelude.{◌≡◌, ◌≢◌, ◌+◌, ◌<◌, ◌≤◌, ◌⊎◌, length, [], ◌∷◌, ◌++◌, Ok, Err};
 ghost use Rattle.std.specs.Prelude.{Some, None, OnOk, if◌then◌else◌};
-ghost use Rattle.win_cert.specs.Lines.{IsStepTaken, at_line, cert_in, cert_of, certs_of};
-ghost use Rattle.win_cert.specs.Lines.{is_nothing, line_in, lines_of, with_rest};
-ghost use Rattle.win_cert.specs.Named.{step_named};
+ghost use Rattle.win_cert.specs.Lines.{at_line, cert_in, cert_of, certs_of, is_nothing, lines_of};
+ghost use Rattle.win_cert.specs.OneLine.{IsStepRead, IsStepTaken};
 ghost use Rattle.win_cert.specs.declared.refusals.CertError.{CertError};
 ghost use Rattle.win_cert.specs.Readings.{IsParsedAs};
 
@@ -79,9 +78,8 @@ fn take_line(
     ensures few { OnOk result (length lines.new.items ≤ MOST_LINES) }
     ensures none { result ≡ Ok None → length lines.new.items ≡ length lines.old.items + 1 }
     ensures value { result ≢ Err CertError.Memory
-        → IsStepTaken version size lines.old.items (lines_of reader.old.rest.now) result
-        lines.new.items
-        (lines_of reader.new.rest.now) }
+        → IsStepTaken version size lines.old.items reader.old.rest.now result
+        lines.new.items reader.new.rest.now }
 {
     let step = next_step(alloc, reader, version, size)?;
     match step {
@@ -117,9 +115,8 @@ fn next_step(
     requires { reader.old.line < 300_000 }
     ensures count { OnOk result (reader.new.line ≡ reader.old.line + 1) }
     ensures value { result ≢ Err CertError.Memory
-        → with_rest result (lines_of reader.new.rest.now)
-        ≡ at_line (reader.old.line + 1)
-        (line_in (step_named version size) (lines_of reader.old.rest.now)) }
+        → IsStepRead version size (reader.old.line + 1) reader.old.rest.now result
+        reader.new.rest.now }
 {
     let Some(mut words) = reader.next() else {
         return Err(reader.bad());

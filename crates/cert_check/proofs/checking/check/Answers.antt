@@ -1,12 +1,10 @@
-use Rattle.std.proofs.Common.{◌≡◌, ◌+◌, ◌<◌, length, get_or, refl, sym, ◌∙◌, ap, subst, arith, suc}
+use Rattle.std.proofs.Common.{◌≡◌, ◌+◌, length, get_or, refl, sym, ◌∙◌, ap, subst, arith, suc}
 use Rattle.win_cert.specs.Entries.{Context, context_at, entry_at}
-use Rattle.win_cert.specs.Reasons.{reason_against}
-use Rattle.win_cert.specs.Statements.{claim, derivation}
 use Rattle.win_cert.specs.Verdicts.{Accepted, IsVerdict, reason_at}
 use Rattle.win_cert.specs.Writable.{IsLineOf}
 use Rattle.cert_check.specs.Answers.{IsYes, verdict_of}
 use Rattle.cert_check.specs.Keeping.{context_after}
-use Rattle.cert_check.proofs.Stepping.{AreClear, all_clear, at_index, claim_reason, clear_more, context_step, line_reason}
+use Rattle.cert_check.proofs.Stepping.{AreClear, all_clear, all_read, claim_reason, clear_more, context_step, is_line, line_reason, next_line}
 use Rattle.cert_check.proofs.checking.check.Goals as goal
 use Rattle.cert_check.proofs.checking.check.Goals.{in-Ok-claimed, in-Err-claimed}
 
@@ -18,36 +16,29 @@ read-requires c =
     let cert = c.args.cert.now in
     let i = c.lines.line-index in
     let item = c.line-item.result in
-    let l : i < length cert.lines = subst (λ xs. i < length xs) c.as_slice-line-items.ensures c.lines-test.true in
     let is : item ≡ get_or cert.lines i item = subst (λ xs. item ≡ get_or xs i item) c.as_slice-line-items.ensures c.line-item.is in
-    let good : IsLineOf cert.version cert.board.size item = subst (IsLineOf cert.version cert.board.size) (sym is) (c.requires.0.lines i item l) in
+    let good : IsLineOf cert.version cert.board.size item = subst (IsLineOf cert.version cert.board.size) (sym is)
+    (c.requires.0.lines i item (is_line cert c.as_slice-line-items.ensures c.lines-test.true)) in
     record { line = (cert.version, subst (λ (n : Context). IsLineOf cert.version n.base.board.size item) (sym c.lines.invariant.0) good) }
 
 pub returns-in-Err-clause-verdict : goal.returns-in-Err-clause-verdict
 returns-in-Err-clause-verdict c =
     let cert = c.args.cert.now in
-    let i = c.lines.line-index in
-    let item = c.line-item.result in
-    let l : i < length cert.lines = subst (λ xs. i < length xs) c.as_slice-line-items.ensures c.lines-test.true in
-    let is : item ≡ get_or cert.lines i item = subst (λ xs. item ≡ get_or xs i item) c.as_slice-line-items.ensures c.line-item.is in
-    let at = at_index cert.lines i item l is in
-    let read = line_reason cert i item at ∙ ap (λ n. reason_against n (derivation item)) (sym c.lines.invariant.0) in
+    let at = next_line cert c.line-item.result c.as_slice-line-items.ensures c.lines-test.true c.line-item.is in
+    let read = line_reason cert c.lines.line-index c.line-item.result at c.lines.invariant.0 in
     (ap (reason_at cert) c.lines.invariant.1 ∙ read ∙ c.in-Err.ensures, subst (AreClear cert) (sym c.lines.invariant.1) c.lines.invariant.2)
 
 pub returns-in-Err-clause-accepted : goal.returns-in-Err-clause-accepted
 returns-in-Err-clause-accepted c =
     let cert = c.args.cert.now in
     let i = c.lines.line-index in
-    let item = c.line-item.result in
-    let l : i < length cert.lines = subst (λ xs. i < length xs) c.as_slice-line-items.ensures c.lines-test.true in
-    let is : item ≡ get_or cert.lines i item = subst (λ xs. item ≡ get_or xs i item) c.as_slice-line-items.ensures c.line-item.is in
-    let at = at_index cert.lines i item l is in
-    let read = line_reason cert i item at ∙ ap (λ n. reason_against n (derivation item)) (sym c.lines.invariant.0) in
+    let at = next_line cert c.line-item.result c.as_slice-line-items.ensures c.lines-test.true c.line-item.is in
+    let read = line_reason cert i c.line-item.result at c.lines.invariant.0 in
     (λ x. absurd x, λ accepted. cc (sym (accepted i) ∙ read ∙ c.in-Err.ensures))
 
 pub overflow_add-number : goal.overflow_add-number
 overflow_add-number c =
-    let l : c.lines.line-index < length c.args.cert.now.lines = subst (λ xs. c.lines.line-index < length xs) c.as_slice-line-items.ensures c.lines-test.true in
+    let l = is_line c.args.cert.now c.as_slice-line-items.ensures c.lines-test.true in
     omega (arith, c.lines.invariant.1, c.requires.1, l)
 
 pub lines-preserved : goal.lines-preserved
@@ -55,10 +46,9 @@ lines-preserved c =
     let cert = c.args.cert.now in
     let i = c.lines.line-index in
     let item = c.line-item.result in
-    let l : i < length cert.lines = subst (λ xs. i < length xs) c.as_slice-line-items.ensures c.lines-test.true in
-    let is : item ≡ get_or cert.lines i item = subst (λ xs. item ≡ get_or xs i item) c.as_slice-line-items.ensures c.line-item.is in
-    let at = at_index cert.lines i item l is in
-    let read = line_reason cert i item at ∙ ap (λ n. reason_against n (derivation item)) (sym c.lines.invariant.0) in let more : suc i ≡ i + 1 = omega arith in (
+    let at = next_line cert item c.as_slice-line-items.ensures c.lines-test.true c.line-item.is in
+    let read = line_reason cert i item at c.lines.invariant.0 in
+    let more : suc i ≡ i + 1 = omega arith in (
       c.in_ok-keep-in-Ok.ensures ∙ ap (λ n. context_after n item) c.lines.invariant.0 ∙ sym (context_step cert i item at) ∙ ap (context_at cert) more,
       ap (λ v. v + 1) c.lines.invariant.1,
       clear_more cert i c.lines.invariant.2 (read ∙ c.in-Ok.ensures.0),
@@ -67,39 +57,29 @@ lines-preserved c =
 pub returns-clause-verdict : goal.returns-clause-verdict
 returns-clause-verdict c =
     let cert = c.args.cert.now in
-    let last : c.lines.line-index ≡ length cert.lines =
-    let h : length c.as_slice-line-items.result.now ≡ length cert.lines = ap length c.as_slice-line-items.ensures in
-    omega (arith, h, c.lines.auto.line-index-end, c.lines-test.false) in
-    let now = c.lines.invariant.0 ∙ ap (context_at cert) last in
-    let clear : AreClear cert (length cert.lines) = subst (AreClear cert) last c.lines.invariant.2 in
-    let claimed = claim_reason cert ∙ ap (λ n. reason_against n (claim cert.claim cert.entry)) (sym now) in
-    let number = c.lines.invariant.1 ∙ last in
+    let read = all_read cert c.as_slice-line-items.ensures c.lines.auto.line-index-end c.lines-test.false c.lines.invariant in
+    let claimed = claim_reason cert read.0 in
     elim c.match-claimed.branch [
       | in-Ok-claimed w ↦ subst (λ v. IsVerdict cert (verdict_of v)) (sym w.result-is) (
-        all_clear cert clear (claimed ∙ w.in-Ok-claimed.ensures.0),
+        all_clear cert read.2 (claimed ∙ w.in-Ok-claimed.ensures.0),
         refl,
         _,
-        ap (λ n. entry_at n cert.entry) (sym now) ∙ w.in-Ok-claimed.ensures.1,
+        ap (λ n. entry_at n cert.entry) (sym read.0) ∙ w.in-Ok-claimed.ensures.1,
         refl,
       )
       | in-Err-claimed w ↦ subst (λ v. IsVerdict cert (verdict_of v)) (sym w.result-is) (
-        ap (reason_at cert) number ∙ claimed ∙ w.in-Err-claimed.ensures,
-        subst (AreClear cert) (sym number) clear,
+        ap (reason_at cert) read.1 ∙ claimed ∙ w.in-Err-claimed.ensures,
+        subst (AreClear cert) (sym read.1) read.2,
       )
     ]
 
 pub returns-clause-accepted : goal.returns-clause-accepted
 returns-clause-accepted c =
     let cert = c.args.cert.now in
-    let last : c.lines.line-index ≡ length cert.lines =
-    let h : length c.as_slice-line-items.result.now ≡ length cert.lines = ap length c.as_slice-line-items.ensures in
-    omega (arith, h, c.lines.auto.line-index-end, c.lines-test.false) in
-    let now = c.lines.invariant.0 ∙ ap (context_at cert) last in
-    let clear : AreClear cert (length cert.lines) = subst (AreClear cert) last c.lines.invariant.2 in
-    let claimed = claim_reason cert ∙ ap (λ n. reason_against n (claim cert.claim cert.entry)) (sym now) in
-    let number = c.lines.invariant.1 ∙ last in
+    let read = all_read cert c.as_slice-line-items.ensures c.lines.auto.line-index-end c.lines-test.false c.lines.invariant in
+    let claimed = claim_reason cert read.0 in
     elim c.match-claimed.branch [
-      | in-Ok-claimed w ↦ (λ y. all_clear cert clear (claimed ∙ w.in-Ok-claimed.ensures.0), λ accepted. subst IsYes (sym w.result-is) tt)
+      | in-Ok-claimed w ↦ (λ y. all_clear cert read.2 (claimed ∙ w.in-Ok-claimed.ensures.0), λ accepted. subst IsYes (sym w.result-is) tt)
       | in-Err-claimed w ↦ (
         λ y. absurd (subst IsYes w.result-is y),
         λ accepted. absurd (cc (sym (accepted (length cert.lines)) ∙ claimed ∙ w.in-Err-claimed.ensures)),
@@ -109,15 +89,10 @@ returns-clause-accepted c =
 pub returns-clause-wins : goal.returns-clause-wins
 returns-clause-wins c y =
     let cert = c.args.cert.now in
-    let last : c.lines.line-index ≡ length cert.lines =
-    let h : length c.as_slice-line-items.result.now ≡ length cert.lines = ap length c.as_slice-line-items.ensures in
-    omega (arith, h, c.lines.auto.line-index-end, c.lines-test.false) in
-    let now = c.lines.invariant.0 ∙ ap (context_at cert) last in
-    let clear : AreClear cert (length cert.lines) = subst (AreClear cert) last c.lines.invariant.2 in
-    let claimed = claim_reason cert ∙ ap (λ n. reason_against n (claim cert.claim cert.entry)) (sym now) in
-    let number = c.lines.invariant.1 ∙ last in
+    let read = all_read cert c.as_slice-line-items.ensures c.lines.auto.line-index-end c.lines-test.false c.lines.invariant in
+    let claimed = claim_reason cert read.0 in
     let accepted : Accepted cert = elim c.match-claimed.branch [
-      | in-Ok-claimed w ↦ all_clear cert clear (claimed ∙ w.in-Ok-claimed.ensures.0)
+      | in-Ok-claimed w ↦ all_clear cert read.2 (claimed ∙ w.in-Ok-claimed.ensures.0)
       | in-Err-claimed w ↦ absurd (subst IsYes w.result-is y)
     ] in
     c.accepted_certificates_win.ensures.wins cert c.boards_are_positions.ensures accepted

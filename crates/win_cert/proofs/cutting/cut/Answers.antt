@@ -1,5 +1,5 @@
 -- The certificate of the derived lines is accepted.
-use Rattle.std.proofs.Common.{◌≡◌, ℕ, ◌∙◌, ap, get_or, refl, subst, sym}
+use Rattle.std.proofs.Common.{◌≡◌, ℕ, ◌∙◌, ap, refl, subst, sym}
 use Rattle.std.specs.List.{slice_get}
 use Rattle.std.proofs.lemmas.Option.{get_or_from_slice_get}
 use Rattle.conn_store.specs.Stores.{StoreData}

@@ -1,5 +1,5 @@
 -- The lines of the marked ones of the entries before `number`.
-use Rattle.std.proofs.Common.{ℕ, ◌-◌, ◌+◌, ◌≤◌}
+use Rattle.std.proofs.Common.{◌-◌, ◌+◌, ◌≤◌}
 use Rattle.win_cert.specs.Cutting.{AreLinesTo}
 use Rattle.win_cert.proofs.cutting.derivation_of.Given as goal
 

@@ -1,6 +1,4 @@
 -- Two numbers are marked, and a third where there is one.
-use Rattle.std.proofs.Common.{◌≡◌, ℕ, All, ◌<◌, ◌==◌, Bool, true, false, [], ◌∷◌, get_or, set, length, if◌then◌else◌, refl, sym, ◌∙◌, subst}
-use Rattle.win_cert.specs.Cutting.{named}
 use Rattle.win_cert.proofs.CutMarks.{or_marked}
 use Rattle.win_cert.proofs.cutting.mark.Goals as goal
 

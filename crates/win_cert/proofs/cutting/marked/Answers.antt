@@ -1,7 +1,5 @@
 -- The entries that a marked one names are marked with it.
-use Rattle.std.proofs.Common.{◌≡◌, ℕ, ◌+◌, ◌-◌, ◌≤◌, length, true, sym, ◌∙◌, subst, arith}
-use Rattle.std.specs.List.{slice_get}
-use Rattle.conn_store.proofs.RuleEntries.{stands}
+use Rattle.std.proofs.Common.{◌≡◌, ℕ, ◌+◌, ◌-◌, ◌≤◌, length, sym, ◌∙◌, subst, arith}
 use Rattle.win_cert.specs.Cutting.{IsClosedFrom, IsMarkedBy, named}
 use Rattle.conn_store.specs.declared.entries.Entry.{Entry}
 use Rattle.win_cert.proofs.CutMarks.{closed_more, read_at}

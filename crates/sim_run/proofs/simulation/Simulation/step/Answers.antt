@@ -1,6 +1,5 @@
 -- A step of one walker, on the words of the vector.
 use Rattle.std.proofs.Common.{rules, ◌≡◌, ◌≢◌, ◌<◌, List, ℕ, get_or, length, take, ◌++◌, drop, set, refl, sym, ap, ◌∙◌, length-set}
-use Rattle.std.proofs.Math.Seq.{take-append_seam}
 use mathlib.Core.Option.{some, some-injective}
 use lib.ListN.{get_elem?}
 use Rattle.atomic_table.proofs.Lists.{at_index}
@@ -13,6 +12,7 @@ use Rattle.walker.specs.Machine.{op_of}
 use Rattle.walker.specs.declared.machine.Walker.{Walker}
 use Rattle.sim_run.proofs.Stepping.{can-apply, may-take, goes-on, goes-down}
 use Rattle.sim_run.proofs.simulation.Simulation.step.Goals as goal
+use Rattle.std.proofs.lemmas.List.{take_at}
 
 pub returns-then-eq-clause-step : goal.returns-then-eq-clause-step
 returns-then-eq-clause-step c =
@@ -50,9 +50,6 @@ got-requires c =
     c.deref_mut.result.now c.deref_mut.ensures.value c.apply-answer.result c.apply-answer.ensures.answer
 
 -- the words of the vector are those that the step left
-kept : (n : ℕ) (new rest : List ℕ) → n ≡ length new → take n (new ++ rest) ≡ new
-kept n new rest e = ap (λ (k : ℕ). take k (new ++ rest)) e ∙ take-append_seam new rest
-
 at : (c : goal.After-self-2-1) → get_elem? c.args.self.now.walkers.items c.args.id ≡ some c.index_mut.result.now
 at c = at_index c.args.self.now.walkers.items c.args.id c.index_mut.result.now c.requires.id c.index_mut.ensures.value
 
@@ -62,7 +59,7 @@ is c = same-op c.args.self.now.walkers.items c.args.id c.index.result.now c.inde
 now-is : (c : goal.After-self-2-1) → take c.args.self.now.words.len (c.apply-answer.new.words ++ drop (length c.apply-answer.new.words) c.args.self.now.words.items) ≡ words_after c.deref_mut.result.now c.op-op.result
 now-is c =
     let long : length c.deref_mut.result.now ≡ length c.apply-answer.new.words = sym (ap length c.apply-answer.ensures.words ∙ length-set c.deref_mut.result.now _ _) in
-    kept c.args.self.now.words.len c.apply-answer.new.words _ (sym c.deref_mut.ensures.len ∙ long) ∙ c.apply-answer.ensures.words
+    take_at c.apply-answer.new.words _ c.args.self.now.words.len (sym long ∙ c.deref_mut.ensures.len) ∙ c.apply-answer.ensures.words
 
 pub returns-clause-underway : goal.returns-clause-underway
 returns-clause-underway c =
