@@ -1,11 +1,13 @@
 -- Which reasons may stand against each form of line, in their order.
-use Rattle.std.proofs.Common.{◌≡◌, ℕ, List, ◌∷◌, ◌==◌, ◌&&◌, Option, Some, None, Bool, true, false, refl, sym, ◌∙◌, ap, if◌then◌else◌}
+use Rattle.std.proofs.Common.{◌≡◌, ℕ, List, [], ◌∷◌, ◌==◌, ◌&&◌, not, Option, Some, None, Bool, true, false, refl, sym, ◌∙◌, ap, if◌then◌else◌}
 use Rattle.std.specs.List.{list_all}
 use Rattle.std.proofs.lemmas.Bool.{and_parts, false≢true, true≢false}
+use Rattle.hex_cells.specs.Sets.{with_cell}
+use Rattle.hex_board.specs.Positions.{is_empty_at}
 use Rattle.conn_store.specs.declared.entries.Kind.{Kind}
-use Rattle.win_cert.specs.Entries.{Context, entries_at, entry_at}
+use Rattle.win_cert.specs.Entries.{Context, elements_at, entries_at, entry_at}
 use Rattle.win_cert.specs.Reasons.{Reason, reason_against, is_bad_reference, is_bad_stone, is_wrong_scope, is_wrong_colour, are_not_neighbours, has_no_middle, do_carriers_meet, is_end_in_carrier, is_middle_wrong, is_cell_common, is_no_edge_entry, is_not_joined, bad_reference, wrong_colour, not_neighbours, no_common_middle, carriers_meet, end_in_carrier, middle_kind, common_cell, not_edges, bad_stone, wrong_scope, not_joined}
-use Rattle.win_cert.specs.Statements.{Statement, claim, derivation, may_take}
+use Rattle.win_cert.specs.Statements.{Statement, claim, derivation, is_edge_entry, may_take, share_cell}
 use Rattle.win_cert.specs.declared.lines.End.{End}
 use Rattle.win_cert.specs.declared.lines.Line.TheVariants.{Adj, Put, Done, Move, Cases}
 use Rattle.cert_check.specs.Keeping.{chain_line}
@@ -70,7 +72,31 @@ missing c s i rest h e = false≢true (sym (ap (λ o. may_take s o && list_all (
 pub missing_next : (c : Context) (s : Statement) (i j : ℕ) (rest : List ℕ) → list_all (λ k. may_take s (entry_at c k)) (i ∷ j ∷ rest) ≡ true → entry_at c j ≡ None → ⊥
 missing_next c s i j rest h e = missing c s j rest (and_parts (may_take s (entry_at c i)) (list_all (λ k. may_take s (entry_at c k)) (j ∷ rest)) h).1 e
 
--- whether entries are in the scope, by the scope that is kept
+-- whether entries are in scope t, by another name s of it
+pub scope_is : {s t : ℕ} {inside : Bool} (c : Context) (numbers : List ℕ) → s ≡ t → inside ≡ list_all (λ a. a.scope == s) (entries_at c numbers)
+    → inside ≡ list_all (λ a. a.scope == t) (entries_at c numbers)
+scope_is c numbers same is = is ∙ ap (λ t. list_all (λ a. a.scope == t) (entries_at c numbers)) same
+
+-- and in the checker's, by the one that it keeps
 pub kept_scope : {c d : Context} {inside : Bool} (numbers : List ℕ) → d ≡ c → inside ≡ list_all (λ a. a.scope == d.scope) (entries_at c numbers)
     → inside ≡ list_all (λ a. a.scope == c.scope) (entries_at c numbers)
-kept_scope {c = c} numbers kept is = is ∙ ap (λ n. list_all (λ a. a.scope == n.scope) (entries_at c numbers)) kept
+kept_scope {c = c} numbers kept is = scope_is c numbers (ap (λ n. n.scope) kept) is
+
+-- ---- the reasons by the checker's tests: whether the entries may be taken, whether the cell is
+-- empty, whether the entries are in the scope, share a cell, and are of the edges
+
+pub move_tested : {taken empty inside edges : Bool} (c : Context) (k i : ℕ) → taken ≡ list_all (λ j. may_take (derivation (Move k i)) (entry_at c j)) (i ∷ [])
+    → empty ≡ is_empty_at (elements_at c).board k → inside ≡ list_all (λ a. a.scope == with_cell c.scope k) (entries_at c (i ∷ []))
+    → edges ≡ list_all (is_edge_entry c.base) (entries_at c (i ∷ []))
+    → reason_against c (derivation (Move k i)) ≡ told (not taken) bad_reference (told (not empty) bad_stone (told (not inside) wrong_scope (told (not edges) not_edges None)))
+move_tested c k i t f s e = cc (move_reasons c k i, t, f, s, e)
+
+pub cases_tested : {taken inside shared edges : Bool} (c : Context) (numbers : List ℕ) → taken ≡ list_all (λ i. may_take (derivation (Cases numbers)) (entry_at c i)) numbers
+    → inside ≡ list_all (λ a. a.scope == c.scope) (entries_at c numbers) → shared ≡ share_cell (entries_at c numbers) → edges ≡ list_all (is_edge_entry c.base) (entries_at c numbers)
+    → reason_against c (derivation (Cases numbers)) ≡ told (not taken) bad_reference (told (not inside) wrong_scope (told shared common_cell (told (not edges) not_edges None)))
+cases_tested c numbers t s d e = cc (cases_reasons c numbers, t, s, d, e)
+
+pub claim_tested : {taken inside edges : Bool} (c : Context) (kind : Kind) (i : ℕ) → taken ≡ list_all (λ j. may_take (claim kind i) (entry_at c j)) (i ∷ [])
+    → inside ≡ list_all (λ a. a.scope == 0) (entries_at c (i ∷ [])) → edges ≡ list_all (is_edge_entry c.base) (entries_at c (i ∷ []))
+    → reason_against c (claim kind i) ≡ told (not taken) bad_reference (told (not inside) wrong_scope (told (not edges) not_edges None))
+claim_tested c kind i t s e = cc (claim_reasons c kind i, t, s, e)

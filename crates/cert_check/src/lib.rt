@@ -22,11 +22,14 @@
 //! of one scope.
 #![tactic(auto)]
 
+mod chains;
 mod checkers;
 mod checking;
 mod given;
+mod named;
 mod reading;
 mod refusals;
+mod scopes;
 mod verdicts;
 
 pub use checking::check;

@@ -26,7 +26,7 @@ use Rattle.htp_session.specs.Endings.{Conversed}
 use Rattle.hex_cli.specs.Headline.{IsGeneratedMove, AreGeneratedMoves, Headline}
 use Rattle.hex_plan.proofs.CertifiedMoves.{is_certified}
 use Rattle.hex_engine.proofs.Legal.{next_is_legal}
-use Rattle.htp_session.proofs.Reactions.{TakesTurn, MayTakeTurn, reaction_takes}
+use Rattle.htp_session.proofs.TakenTurns.{TakesTurn, MayTakeTurn, reaction_takes}
 use Rattle.htp_session.proofs.SupplyLaws.{step_keeps}
 
 -- ---- a line

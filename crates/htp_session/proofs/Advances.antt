@@ -13,10 +13,11 @@ use Rattle.htp_session.specs.Devices.{DevicesState, stock}
 use Rattle.htp_session.specs.Calls.Answering.{Writes}
 use Rattle.htp_session.specs.declared.stops.Stop.{Stop}
 use Rattle.htp_session.specs.declared.stops.Stop.TheVariants.{ReadFault, WriteFault, Memory, TooLong, ArchiveFault}
-use Rattle.htp_session.specs.Sessions.{IsAfter, Does, DoesSome, Advanced, EndsLine, StopsBefore, AnswersShort, AnswersLast, StopsBeforeLast, LastIsShort}
+use Rattle.htp_session.specs.Sessions.{IsSessionAfter, Does, DoesSome, Advanced, EndsLine, StopsBefore, AnswersShort, AnswersLast, StopsBeforeLast, LastIsShort}
 use Rattle.htp_session.proofs.SupplyLaws.{stands_options}
 use Rattle.htp_session.proofs.StockLaws.{After, uses_nothing, does_nothing}
-use Rattle.htp_session.proofs.TalkLaws.{line_advanced, none_advanced, line_short, line_ends, last_answers, last_none, last_short, last_ends}
+use Rattle.htp_session.proofs.EndedLines.{line_advanced, none_advanced, line_short, line_ends}
+use Rattle.htp_session.proofs.LastLines.{last_answers, last_none, last_short, last_ends}
 
 -- ---- answers that use nothing up
 
@@ -43,7 +44,7 @@ refused d engine says text old out (Err ArchiveFault) is wrote none only = let e
 
 -- the engine's options are those of the conversation
 uses_of_start : (a b : ShelfAndArchive) (used : Supply) (in_vain : List Bool) (start : EngineState) (all later : Supply) (engine : EngineState) (held : Held) (seen : List ℕ)
-    → IsAfter start all later engine held seen → UsesUp engine.options a b used in_vain → UsesUp start.options a b used in_vain
+    → IsSessionAfter start all later engine held seen → UsesUp engine.options a b used in_vain → UsesUp start.options a b used in_vain
 uses_of_start a b used in_vain start all later engine held seen stands uses = subst (λ o. UsesUp o a b used in_vain) (stands_options start all later engine held seen stands) uses
 
 -- what was written where nothing stood before
@@ -72,7 +73,7 @@ open_line a engine held new front out stream ended none =
     (λ start all later seen here. none_advanced start all later engine held new seen front out here (stream seen here.in_hand) ended none)
 
 -- memory ran out, and nothing was used up
-pub stopped : (a b : ShelfAndArchive) (engine : EngineState) (held : Held) (Now : After) → ((start : EngineState) (all later : Supply) (seen : List ℕ) → IsAfter start all later engine held seen → Now start all later seen)
+pub stopped : (a b : ShelfAndArchive) (engine : EngineState) (held : Held) (Now : After) → ((start : EngineState) (all later : Supply) (seen : List ℕ) → IsSessionAfter start all later engine held seen → Now start all later seen)
     → UsesUpNothing engine.options a b → DoesSome a b engine held Now
 stopped a b engine held Now go s = (
   s.in_vain,

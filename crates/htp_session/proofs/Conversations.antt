@@ -1,33 +1,34 @@
 -- A conversation piece by piece: what it used up, and what stands.
-use Rattle.std.proofs.Common.{Ok, Err, ◌≡◌, ◌≤◌, ℕ, true, false, List, [], ◌++◌, length, take, Option, refl, ap, sym, subst, Bool, arith}
+use Rattle.std.proofs.Common.{Err, ◌≡◌, ◌≤◌, ℕ, false, List, [], ◌++◌, length, take, Option, refl, ap, sym, subst, Bool, arith}
 use Rattle.hex_io.specs.Told.{Told, Both, TakesBytes, Same}
 use Rattle.htp_line.specs.Splitting.{Held}
 use Rattle.hex_engine.specs.declared.options.Options.{Options}
 use Rattle.hex_engine.specs.EngineState.{EngineState, opening}
 use Rattle.hex_engine.specs.Supply.{Supply, nothing_left, and_then}
+use Rattle.htp_session.specs.Talk.{talk_to}
 use Rattle.htp_session.specs.Stocks.{ShelfAndArchive, UsesUp}
-use Rattle.htp_session.specs.Sessions.{IsAfter, Does, DoesSome, talk_to, Fed, BrokeOff, GaveUp, HeldBack, AnsweredLast, BrokeOffLast, StopsBeforeLast, LastIsShort}
+use Rattle.htp_session.specs.Sessions.{IsSessionAfter, Does, Fed}
 use Rattle.htp_session.specs.Endings.{Outcome, Conversed, IsInVain}
 use Rattle.htp_session.specs.declared.stops.Stop.TheVariants as stop
 use Rattle.htp_session.proofs.StockLaws.{and_then_nothing, and_then_assoc, uses_then, uses_nothing}
-use Rattle.htp_session.proofs.EndLaws.{Kept, EndsBy, kept_taking, kept_nothing, feed_on, feed_quit, feed_unwritten, feed_unfinished, feed_held_back, read_overlong, read_fault, finish_complete, finish_unwritten, finish_unfinished, finish_held_back, unbegun}
+use Rattle.htp_session.proofs.EndLaws.{Kept, EndsBy, kept_taking, kept_nothing, feed_on, read_overlong, read_fault, unbegun}
 
 -- What a conversation keeps after this text: what was used up so far, and whatever is used up later, where it stands and what the
 -- link told.
 pub record Goes (start : EngineState) (a b : ShelfAndArchive) (x y : Option Told) (engine : EngineState) (held : Held) (seen : List ℕ) : Type 0 where
   pub used : Supply
   pub uses : UsesUp start.options a b used []
-  pub stands : (later : Supply) → IsAfter start (and_then used later) later engine held seen
+  pub stands : (later : Supply) → IsSessionAfter start (and_then used later) later engine held seen
   pub kept : (later : Supply) → Kept start (and_then used later) x y seen (talk_to start (and_then used later) seen).text
 
 -- the same, where a read took this piece more, which is not answered yet
 pub record Took (start : EngineState) (a b : ShelfAndArchive) (x y : Option Told) (engine : EngineState) (held : Held) (seen piece : List ℕ) : Type 0 where
   pub used : Supply
   pub uses : UsesUp start.options a b used []
-  pub stands : (later : Supply) → IsAfter start (and_then used later) later engine held seen
+  pub stands : (later : Supply) → IsSessionAfter start (and_then used later) later engine held seen
   pub kept : (later : Supply) → Kept start (and_then used later) x y (seen ++ piece) (talk_to start (and_then used later) seen).text
 
-pub goes_nothing : (start : EngineState) (a : ShelfAndArchive) (x : Option Told) (engine : EngineState) (held : Held) → ((later : Supply) → IsAfter start later later engine held []) → Goes start a a x x engine held []
+pub goes_nothing : (start : EngineState) (a : ShelfAndArchive) (x : Option Told) (engine : EngineState) (held : Held) → ((later : Supply) → IsSessionAfter start later later engine held []) → Goes start a a x x engine held []
 goes_nothing start a x engine held stands = record {
   used = nothing_left;
   uses = uses_nothing start.options a;
@@ -45,7 +46,7 @@ goes_taking start a b x y z engine held seen buf n g t = record {
 }
 
 -- all that was used up, with what a call used up
-abbrev all_of : Supply → Supply → Supply → Supply
+abbrev pub all_of : Supply → Supply → Supply → Supply
 all_of used more later = and_then used (and_then more later)
 
 pub goes_on_feeding : (start : EngineState) (a b c : ShelfAndArchive) (x y z : Option Told) (engine after : EngineState) (held then : Held) (seen piece : List ℕ) → Took start a b x y engine held seen piece
@@ -56,13 +57,13 @@ goes_on_feeding start a b c x y z engine after held then seen piece g d =
     record {
       used = and_then g.used d.used;
       uses = uses_then start.options a b c g.used d.used [] g.uses (at nothing_left).0;
-      stands = λ later. subst (λ l. IsAfter start l later after then (seen ++ piece)) (sym (and_then_assoc g.used d.used later)) (at later).1.moved;
+      stands = λ later. subst (λ l. IsSessionAfter start l later after then (seen ++ piece)) (sym (and_then_assoc g.used d.used later)) (at later).1.moved;
       kept = λ later. subst (λ l. Kept start l x z (seen ++ piece) (talk_to start l (seen ++ piece)).text) (sym (and_then_assoc g.used d.used later))
           (feed_on start (all_of g.used d.used later) x y z seen piece (g.kept (and_then d.used later)) (at later).1.answered);
     }
 
 -- where a call ends the conversation, nothing is used up after it
-conversed_by : (end : Outcome) (options : Options) (size limit : ℕ) (a b c : ShelfAndArchive) (x z : Option Told) (u v : Supply) (in_vain : List Bool) → UsesUp options a b u [] → UsesUp options b c v in_vain → IsInVain end in_vain
+pub conversed_by : (end : Outcome) (options : Options) (size limit : ℕ) (a b c : ShelfAndArchive) (x z : Option Told) (u v : Supply) (in_vain : List Bool) → UsesUp options a b u [] → UsesUp options b c v in_vain → IsInVain end in_vain
     → EndsBy end (opening options size) (all_of u v nothing_left) limit x z → Conversed end options size limit a c x z
 conversed_by end options size limit a b c x z u v in_vain p q vain outcome = record {
   used = all_of u v nothing_left;
@@ -82,8 +83,6 @@ conversed_at end options size limit a b x z u p vain outcome = record {
   vain = vain;
   outcome = outcome;
 }
-
--- ---- the ends
 
 pub conversed_nothing : (options : Options) (size limit : ℕ) (a : ShelfAndArchive) (x : Option Told) → Conversed (Err stop.Memory) options size limit a a x x
 conversed_nothing options size limit a x = record {
@@ -107,66 +106,6 @@ ends_overlong options size limit a b x y engine held seen piece many one g =
     let here = g.stands nothing_left in
     conversed_at (Err stop.TooLong) options size limit a b x y g.used g.uses refl
     (read_overlong (opening options size) (and_then g.used nothing_left) limit x y seen piece many one (g.kept nothing_left) here.going here.left)
-
-pub ends_quit : (options : Options) (size limit : ℕ) (a b c : ShelfAndArchive) (x y z : Option Told) (engine after : EngineState) (held then : Held) (seen piece : List ℕ) → length (seen ++ piece) ≤ limit
-    → Took (opening options size) a b x y engine held seen piece → Does b c [] engine held (λ start all later seen. Fed true y z start all later after then seen piece) → Conversed (Ok tt) options size limit a c x z
-ends_quit options size limit a b c x y z engine after held then seen piece few g d =
-    let at = d.stood (opening options size) (all_of g.used d.used nothing_left) nothing_left seen (g.stands (and_then d.used nothing_left)) in
-    conversed_by (Ok tt) options size limit a b c x z g.used d.used [] g.uses at.0 refl
-    (feed_quit (opening options size) (all_of g.used d.used nothing_left) limit x y z seen piece few (g.kept (and_then d.used nothing_left)) at.1.answered at.1.moved)
-
-pub ends_unwritten : (options : Options) (size limit : ℕ) (a b c : ShelfAndArchive) (x y z : Option Told) (engine : EngineState) (held : Held) (seen piece : List ℕ) → length (seen ++ piece) ≤ limit
-    → Took (opening options size) a b x y engine held seen piece → Does b c [] engine held (λ start all later seen. BrokeOff y z start all seen piece) → Conversed (Err stop.WriteFault) options size limit a c x z
-ends_unwritten options size limit a b c x y z engine held seen piece few g d =
-    let at = d.stood (opening options size) (all_of g.used d.used nothing_left) nothing_left seen (g.stands (and_then d.used nothing_left)) in
-    conversed_by (Err stop.WriteFault) options size limit a b c x z g.used d.used [] g.uses at.0 refl
-    (feed_unwritten (opening options size) (all_of g.used d.used nothing_left) limit x y z seen piece few (g.kept (and_then d.used nothing_left)) at.1)
-
-pub ends_unfinished : (options : Options) (size limit : ℕ) (a b c : ShelfAndArchive) (x y z : Option Told) (engine : EngineState) (held : Held) (seen piece : List ℕ) → length (seen ++ piece) ≤ limit
-    → Took (opening options size) a b x y engine held seen piece → DoesSome b c engine held (λ start all later seen. GaveUp y z start all later seen piece) → Conversed (Err stop.Memory) options size limit a c x z
-ends_unfinished options size limit a b c x y z engine held seen piece few g d =
-    let at = d.2.stood (opening options size) (all_of g.used d.2.used nothing_left) nothing_left seen (g.stands (and_then d.2.used nothing_left)) in
-    conversed_by (Err stop.Memory) options size limit a b c x z g.used d.2.used d.0 g.uses at.0 d.1
-    (feed_unfinished (opening options size) (all_of g.used d.2.used nothing_left) limit x y z seen piece few (g.kept (and_then d.2.used nothing_left)) at.1)
-
-pub ends_unarchived : (options : Options) (size limit : ℕ) (a b c : ShelfAndArchive) (x y z : Option Told) (engine : EngineState) (held : Held) (seen piece : List ℕ) → length (seen ++ piece) ≤ limit
-    → Took (opening options size) a b x y engine held seen piece → Does b c [] engine held (λ start all later seen. HeldBack y z start all later seen piece) → Conversed (Err stop.ArchiveFault) options size limit a c x z
-ends_unarchived options size limit a b c x y z engine held seen piece few g d =
-    let at = d.stood (opening options size) (all_of g.used d.used nothing_left) nothing_left seen (g.stands (and_then d.used nothing_left)) in
-    conversed_by (Err stop.ArchiveFault) options size limit a b c x z g.used d.used [] g.uses at.0 refl
-    (feed_held_back (opening options size) (all_of g.used d.used nothing_left) limit x y z seen piece few (g.kept (and_then d.used nothing_left)) at.1)
-
-pub last_complete : (options : Options) (size limit : ℕ) (a b c : ShelfAndArchive) (x y z w : Option Told) (engine : EngineState) (held : Held) (seen buf : List ℕ) → length seen ≤ limit
-    → Goes (opening options size) a b x y engine held seen → Both y z (λ o t. TakesBytes o t 0 buf) → Does b c [] engine held (λ start all later seen. AnsweredLast z w start all later seen) → Conversed (Ok tt) options size limit a c x w
-last_complete options size limit a b c x y z w engine held seen buf few g t d =
-    let here = g.stands (and_then d.used nothing_left) in
-    let at = d.stood (opening options size) (all_of g.used d.used nothing_left) nothing_left seen here in
-    conversed_by (Ok tt) options size limit a b c x w g.used d.used [] g.uses at.0 refl
-    (finish_complete (opening options size) (all_of g.used d.used nothing_left) limit x y z w seen buf few (g.kept (and_then d.used nothing_left)) here.going t at.1)
-
-pub last_unwritten : (options : Options) (size limit : ℕ) (a b c : ShelfAndArchive) (x y z w : Option Told) (engine : EngineState) (held : Held) (seen buf : List ℕ) → length seen ≤ limit
-    → Goes (opening options size) a b x y engine held seen → Both y z (λ o t. TakesBytes o t 0 buf) → Does b c [] engine held (λ start all later seen. BrokeOffLast z w start all later seen) → Conversed (Err stop.WriteFault) options size limit a c x w
-last_unwritten options size limit a b c x y z w engine held seen buf few g t d =
-    let here = g.stands (and_then d.used nothing_left) in
-    let at = d.stood (opening options size) (all_of g.used d.used nothing_left) nothing_left seen here in
-    conversed_by (Err stop.WriteFault) options size limit a b c x w g.used d.used [] g.uses at.0 refl
-    (finish_unwritten (opening options size) (all_of g.used d.used nothing_left) limit x y z w seen buf few (g.kept (and_then d.used nothing_left)) here.going t at.1)
-
-pub last_unfinished : (options : Options) (size limit : ℕ) (a b c : ShelfAndArchive) (x y z w : Option Told) (engine : EngineState) (held : Held) (seen buf : List ℕ) → length seen ≤ limit
-    → Goes (opening options size) a b x y engine held seen → Both y z (λ o t. TakesBytes o t 0 buf) → Same z w → DoesSome b c engine held (λ start all later seen. StopsBeforeLast start all later seen) → Conversed (Err stop.Memory) options size limit a c x w
-last_unfinished options size limit a b c x y z w engine held seen buf few g t same d =
-    let here = g.stands (and_then d.2.used nothing_left) in
-    let at = d.2.stood (opening options size) (all_of g.used d.2.used nothing_left) nothing_left seen here in
-    conversed_by (Err stop.Memory) options size limit a b c x w g.used d.2.used d.0 g.uses at.0 d.1
-    (finish_unfinished (opening options size) (all_of g.used d.2.used nothing_left) limit x y z w seen buf few (g.kept (and_then d.2.used nothing_left)) here.going t same at.1)
-
-pub last_unarchived : (options : Options) (size limit : ℕ) (a b c : ShelfAndArchive) (x y z w : Option Told) (engine : EngineState) (held : Held) (seen buf : List ℕ) → length seen ≤ limit
-    → Goes (opening options size) a b x y engine held seen → Both y z (λ o t. TakesBytes o t 0 buf) → Same z w → Does b c [] engine held (λ start all later seen. LastIsShort start all later seen) → Conversed (Err stop.ArchiveFault) options size limit a c x w
-last_unarchived options size limit a b c x y z w engine held seen buf few g t same d =
-    let here = g.stands (and_then d.used nothing_left) in
-    let at = d.stood (opening options size) (all_of g.used d.used nothing_left) nothing_left seen here in
-    conversed_by (Err stop.ArchiveFault) options size limit a b c x w g.used d.used [] g.uses at.0 refl
-    (finish_held_back (opening options size) (all_of g.used d.used nothing_left) limit x y z w seen buf few (g.kept (and_then d.used nothing_left)) here.going t same at.1)
 
 -- the same options and size
 pub conversed_same : (end : Outcome) (k l : Options) (m n limit : ℕ) (a b : ShelfAndArchive) (x y : Option Told) → k ≡ l → m ≡ n → Conversed end k m limit a b x y → Conversed end l n limit a b x y

@@ -6,12 +6,13 @@ use Rattle.hex_io.proofs.BothLaws.{Both-then, Both-weaker, Both-refl, Both-last}
 use Rattle.htp_line.specs.Lines.{lines}
 use Rattle.hex_engine.specs.EngineState.{EngineState}
 use Rattle.hex_engine.specs.Supply.{Supply, nothing_left}
-use Rattle.htp_session.specs.Talk.{TalkState, Going, talk}
-use Rattle.htp_session.specs.Sessions.{talk_to, Quits, AnswersAll, BrokeOff, GaveUp, HeldBack, AnsweredLast, BrokeOffLast, StopsBeforeLast, LastIsShort}
+use Rattle.htp_session.specs.Talk.{TalkState, Going, talk, talk_to}
+use Rattle.htp_session.specs.Sessions.{Quits, AnswersAll, BrokeOff, GaveUp, HeldBack, AnsweredLast, BrokeOffLast, StopsBeforeLast, LastIsShort}
 use Rattle.htp_session.specs.Endings.{Outcome, Ended}
 use Rattle.htp_session.specs.declared.stops.Stop.TheVariants as stop
 use Rattle.htp_session.proofs.Keeping.{Keeps, keeps_taking, keeps_giving, keeps_nothing}
-use Rattle.htp_session.proofs.Ends.{end_complete, end_quit, end_unread, end_unwritten, end_unwritten_last, end_unfinished, end_unfinished_last, end_unbegun, end_overlong, end_unarchived, wants_lines}
+use Rattle.htp_session.proofs.Ends.{end_complete, end_quit, end_unread, end_unarchived, wants_lines, end_overlong}
+use Rattle.htp_session.proofs.BrokenEnds.{end_unwritten, end_unwritten_last, end_unfinished, end_unfinished_last, end_unbegun}
 use Rattle.htp_session.proofs.TalkLaws.{talk_to-nil}
 
 abbrev pub Kept : EngineState → Supply → Option Told → Option Told → List ℕ → List ℕ → Type 0

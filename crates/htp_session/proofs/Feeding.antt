@@ -6,7 +6,7 @@ use Rattle.hex_io.specs.Grew.{Gave, GavePart}
 use Rattle.htp_line.specs.Splitting.{Held}
 use Rattle.hex_engine.specs.EngineState.{EngineState}
 use Rattle.htp_session.specs.Stocks.{ShelfAndArchive}
-use Rattle.htp_session.specs.Sessions.{IsAfter, Quits, Does, DoesSome, StopsBefore, AnswersShort, Advanced, AnswersAll, Fed, BrokeOff, GaveUp, HeldBack, AnswersLast, AnsweredLast, BrokeOffLast}
+use Rattle.htp_session.specs.Sessions.{IsSessionAfter, Quits, Does, DoesSome, StopsBefore, AnswersShort, Advanced, AnswersAll, Fed, BrokeOff, GaveUp, HeldBack, AnswersLast, AnsweredLast, BrokeOffLast}
 use Rattle.htp_session.proofs.Pieces.{next_part, next_seen, parts_make}
 use Rattle.htp_session.proofs.StockLaws.{After, does_then, does_weaker, does_nothing}
 use Rattle.htp_session.proofs.Given.{AnswersAll-then, BrokeOff-then, GaveUp-then, HeldBack-then, AnswersAll-quit, AnswersAll-nothing, quits_stay, line_broke_off, gave_up_at_once, held_back_at_once}
@@ -19,7 +19,7 @@ rest_of piece i = take (length piece - i) (drop i piece)
 
 -- all that the first bytes ask was answered, and the session stands after them
 abbrev pub FedTo : Option Told → Option Told → EngineState → Held → List ℕ → After
-FedTo old new engine held front = λ start all later seen. AnswersAll old new start all seen front × IsAfter start all later engine held (seen ++ front)
+FedTo old new engine held front = λ start all later seen. AnswersAll old new start all seen front × IsSessionAfter start all later engine held (seen ++ front)
 
 -- what up to one line more does
 abbrev pub LineMore : Bool → ShelfAndArchive → ShelfAndArchive → EngineState → Held → EngineState → Held → List ℕ → ℕ → List ℕ → Type 0
@@ -35,7 +35,7 @@ fed_on x y z a b c engine mid after held mid_held then out piece i n p q gave =
     (λ start all between later seen t s. (
       subst (AnswersAll x z start all seen) (next_part piece i n)
           (AnswersAll-then x y z start all seen (take i piece) (take n (rest_of piece i)) t.0 (record { gave = (out, gave, s.answers) })),
-      subst (IsAfter start all later after then) (next_seen seen piece i n) s.moved,
+      subst (IsSessionAfter start all later after then) (next_seen seen piece i n) s.moved,
     )) p q
 
 pub fed_quit : (x y z : Option Told) (a b c : ShelfAndArchive) (engine mid after : EngineState) (held mid_held then : Held) (out piece : List ℕ) (i n : ℕ)
@@ -96,13 +96,13 @@ fed_held_back x y a b c engine mid held mid_held piece i p q =
 pub fed_nothing : (x : Option Told) (a : ShelfAndArchive) (engine : EngineState) (held : Held) → Does a a [] engine held (FedTo x x engine held [])
 fed_nothing x a engine held =
     does_nothing a engine held (FedTo x x engine held [])
-    (λ start all later seen here. (AnswersAll-nothing x start all seen, subst (IsAfter start all later engine held) (sym (append-nil seen)) here))
+    (λ start all later seen here. (AnswersAll-nothing x start all seen, subst (IsSessionAfter start all later engine held) (sym (append-nil seen)) here))
 
 pub fed_all : (x y : Option Told) (a b : ShelfAndArchive) (engine after : EngineState) (held then : Held) (piece front : List ℕ) → front ≡ piece → Does a b [] engine held (FedTo x y after then front)
     → Does a b [] engine held (λ start all later seen. Fed false x y start all later after then seen piece)
 fed_all x y a b engine after held then piece front whole p =
     does_weaker a b [] engine held (FedTo x y after then front) (λ start all later seen. Fed false x y start all later after then seen piece)
-    (λ start all later seen t. record { answered = subst (AnswersAll x y start all seen) whole t.0; moved = subst (λ l. IsAfter start all later after then (seen ++ l)) whole t.1 }) p
+    (λ start all later seen t. record { answered = subst (AnswersAll x y start all seen) whole t.0; moved = subst (λ l. IsSessionAfter start all later after then (seen ++ l)) whole t.1 }) p
 
 -- ---- the last line
 

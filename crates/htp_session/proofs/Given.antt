@@ -6,8 +6,8 @@ use Rattle.hex_io.specs.Grew.{GavePart}
 use Rattle.hex_io.proofs.GaveLaws.{Gave-then, Gave-nothing}
 use Rattle.hex_engine.specs.EngineState.{EngineState}
 use Rattle.hex_engine.specs.Supply.{Supply}
-use Rattle.htp_session.specs.Talk.{TalkState, Going, AfterQuit}
-use Rattle.htp_session.specs.Sessions.{talk_to, Quits, AnswersLines, AnswersAll, AnswersShort, StopsBefore, BrokeOff, GaveUp, HeldBack}
+use Rattle.htp_session.specs.Talk.{TalkState, Going, AfterQuit, talk_to}
+use Rattle.htp_session.specs.Sessions.{Quits, AnswersLines, AnswersAll, AnswersShort, StopsBefore, BrokeOff, GaveUp, HeldBack}
 use Rattle.htp_session.proofs.TalkLaws.{talk_to_quit}
 
 pub answers_then : (start : EngineState) (all : Supply) (seen m n xs ys : List ℕ) → AnswersLines start all xs seen m → AnswersLines start all ys (seen ++ m) n → AnswersLines start all (xs ++ ys) seen (m ++ n)

@@ -10,8 +10,7 @@ use Rattle.htp_line.specs.Splitting.{kept_line}
 use Rattle.htp_line.proofs.LinesLaws.{whole-append}
 use Rattle.hex_engine.specs.EngineState.{EngineState}
 use Rattle.hex_engine.specs.Supply.{Supply}
-use Rattle.htp_session.specs.Talk.{TalkState, Going, goes_on, after_line, followed_by, with_line, talk_start, talk}
-use Rattle.htp_session.specs.Sessions.{talk_to}
+use Rattle.htp_session.specs.Talk.{TalkState, Going, goes_on, after_line, followed_by, with_line, talk_start, talk, talk_to}
 use Rattle.htp_session.specs.Endings.{since, Shown, AsksShown, Course}
 
 -- what a conversation keeps: what it took, what it gave, and that each read came after the answers

@@ -1,10 +1,15 @@
 pub mod TalkLaws
+pub mod EndedLines
+pub mod LastLines
 pub mod Pieces
 pub mod Given
 pub mod Keeping
 pub mod Ends
+pub mod BrokenEnds
 pub mod EndLaws
-pub mod Reactions
+pub mod KeptOptions
+pub mod MoreLeft
+pub mod TakenTurns
 pub mod SupplyLaws
 pub mod StockLaws
 pub mod Advances
@@ -12,6 +17,9 @@ pub mod Feeding
 pub mod Calling
 pub mod InputLaws
 pub mod Conversations
+pub mod PieceEnds
+pub mod InputEnds
+pub mod ReadLaws
 pub mod Outcomes
 pub mod OneWorkerLoads
 pub mod OneWorkerMoves

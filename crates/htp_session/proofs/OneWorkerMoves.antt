@@ -69,9 +69,6 @@ Agree options (Ok t) (Ok u) = (u ≡ record t { left = u.left }) × Alike option
 Agree options (Ok t) (Err missing) = Unit {0}
 Agree options (Err missing) other = Unit {0}
 
-unused_agree : (options : Options) (a b : Supply) (r : Reaction) → Alike options a b → Agree options (unused a r) (unused b r)
-unused_agree options a b r h = (refl, h)
-
 missing_agree : (options : Options) (r : Result Turned Missing) (missing : Missing) → Agree options r (Err missing)
 missing_agree options (Ok t) missing = tt
 missing_agree options (Err other) missing = tt

@@ -10,7 +10,7 @@ use Rattle.hex_engine.specs.EngineState.{EngineState}
 use Rattle.hex_engine.specs.Supply.{Supply, Load, nothing_left, and_then}
 use Rattle.hex_engine.specs.Uses.{CameOf, FetchesLoads, AreGood}
 use Rattle.htp_session.specs.Stocks.{ShelfAndArchive, UsesUp}
-use Rattle.htp_session.specs.Sessions.{IsAfter, Does}
+use Rattle.htp_session.specs.Sessions.{IsSessionAfter, Does}
 
 -- ---- what is left
 
@@ -67,13 +67,13 @@ After = EngineState → Supply → Supply → List ℕ → Type 0
 
 -- a call that did something more and a call after it, where the text m was taken by the first
 pub does_then : (a b c : ShelfAndArchive) (in_vain : List Bool) (engine after : EngineState) (held then : Held) (m : List ℕ) (T S R : After)
-    → ((start : EngineState) (all later : Supply) (seen : List ℕ) → T start all later seen → IsAfter start all later after then (seen ++ m))
+    → ((start : EngineState) (all later : Supply) (seen : List ℕ) → T start all later seen → IsSessionAfter start all later after then (seen ++ m))
     → ((start : EngineState) (all mid later : Supply) (seen : List ℕ) → T start all mid seen → S start all later (seen ++ m) → R start all later seen)
     → Does a b [] engine held T → Does b c in_vain after then S → Does a c in_vain engine held R
 does_then a b c in_vain engine after held then m T S R stands go p q = record {
   used = and_then p.used q.used;
   stood = λ start all later seen here.
-      let first = p.stood start all (and_then q.used later) seen (subst (λ l. IsAfter start all l engine held seen) (and_then_assoc p.used q.used later) here) in
+      let first = p.stood start all (and_then q.used later) seen (subst (λ l. IsSessionAfter start all l engine held seen) (and_then_assoc p.used q.used later) here) in
       let second = q.stood start all later (seen ++ m) (stands start all (and_then q.used later) seen first.1) in (
         uses_then start.options a b c p.used q.used in_vain first.0 second.0,
         go start all (and_then q.used later) later seen first.1 second.1,
@@ -90,7 +90,7 @@ does_weaker a b in_vain engine held T S go p = record {
 
 -- a call that used nothing up
 pub does_nothing : (a : ShelfAndArchive) (engine : EngineState) (held : Held) (T : After)
-    → ((start : EngineState) (all later : Supply) (seen : List ℕ) → IsAfter start all later engine held seen → T start all later seen) → Does a a [] engine held T
+    → ((start : EngineState) (all later : Supply) (seen : List ℕ) → IsSessionAfter start all later engine held seen → T start all later seen) → Does a a [] engine held T
 does_nothing a engine held T go = record {
   used = nothing_left;
   stood = λ start all later seen here. (uses_nothing start.options a, go start all later seen here);

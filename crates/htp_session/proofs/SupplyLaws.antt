@@ -13,9 +13,10 @@ use Rattle.hex_engine.specs.Replies.{Turned, Missing}
 use Rattle.hex_engine.specs.Requests.{reaction}
 use Rattle.htp_session.specs.Talk.{TalkState, Short, IsAnswered, goes_on, after_reaction, after_reading, after_line, followed_by, with_line, talk_start, talk}
 use Rattle.htp_session.specs.Supply.{with_more_left}
-use Rattle.htp_session.specs.Sessions.{IsAfter}
+use Rattle.htp_session.specs.Sessions.{IsSessionAfter}
 use Rattle.htp_session.proofs.TalkLaws.{step-stays}
-use Rattle.htp_session.proofs.Reactions.{KeepsOptions, reaction_keeps, HasAll, leaving_more, reaction_more}
+use Rattle.htp_session.proofs.KeptOptions.{KeepsOptions, reaction_keeps}
+use Rattle.htp_session.proofs.MoreLeft.{HasAll, leaving_more, reaction_more}
 
 -- ---- a talk keeps its options
 
@@ -45,7 +46,7 @@ fold_keeps a [] = refl
 fold_keeps a (raw ∷ lines) = fold_keeps (with_line a raw) lines ∙ step_keeps a raw
 
 -- the engine of a conversation has the options of its start
-pub stands_options : (start : EngineState) (all later : Supply) (engine : EngineState) (held : Held) (seen : List ℕ) → IsAfter start all later engine held seen → engine.options ≡ start.options
+pub stands_options : (start : EngineState) (all later : Supply) (engine : EngineState) (held : Held) (seen : List ℕ) → IsSessionAfter start all later engine held seen → engine.options ≡ start.options
 stands_options start all later engine held seen stands = ap (λ (s : EngineState). s.options) stands.at ∙ fold_keeps (talk_start start all) (whole seen)
 
 -- ---- more at the end of what is left

@@ -4,6 +4,7 @@ use Rattle.hex_io.specs.Told.{Told}
 use Rattle.hex_io.specs.Shelves.{Shelved}
 use Rattle.hex_io.specs.Causes.{CountsFault}
 use Rattle.hex_plan.specs.Turns.{Decision}
+use Rattle.htp_session.specs.Handing.{LinkAndArchive}
 use Rattle.htp_session.specs.Stocks.{ShelfAndArchive}
 use Rattle.htp_session.specs.declared.stops.Stop.{Stop}
 use Rattle.htp_session.specs.declared.stops.Stop.TheVariants.{ReadFault, WriteFault, ArchiveFault}
@@ -23,6 +24,10 @@ pub record DevicesState : Type 0 where
 -- what the shelf and the archive tell
 abbrev pub stock : DevicesState → ShelfAndArchive
 stock devices = (devices.shelf, devices.turns)
+
+-- what the link and the archive tell
+abbrev pub link_and_archive : DevicesState → LinkAndArchive
+link_and_archive devices = (devices.link, devices.turns)
 
 -- why a call stopped, if it did
 abbrev pub stop_of : {T : Type 0} → Result T Stop → Option Stop

@@ -7,29 +7,26 @@ use Rattle.htp_line.specs.Lines.{whole, lines}
 use Rattle.htp_line.specs.Splitting.{Held, StandsAfter}
 use Rattle.hex_engine.specs.EngineState.{EngineState}
 use Rattle.hex_engine.specs.Supply.{Supply, nothing_left, and_then}
-use Rattle.hex_engine.specs.Replies.{NoTurn}
-use Rattle.htp_session.specs.Talk.{TalkState, Going, AfterQuit, Short, ending_if, talk}
+use Rattle.htp_session.specs.Talk.{Going, AfterQuit, ending_if, talk, talk_to, WantsTurn}
 use Rattle.htp_session.specs.Stocks.{ShelfAndArchive, UsesUp}
 
--- the talk over the whole lines of a text, with all this to use up
-abbrev pub talk_to : EngineState → Supply → List ℕ → TalkState
-talk_to start all seen = talk start all (whole seen)
-
--- engine and splitter stand after this text, the talk goes on, and this is left to be used up later
-pub record IsAfter (start : EngineState) (all later : Supply) (engine : EngineState) (held : Held)
-    (seen : List ℕ) : Type 0 where
+-- this engine and this splitter are a session's after this text: the talk over it goes on, and this
+-- is left to be used up later
+pub record IsSessionAfter (start : EngineState) (all later : Supply) (engine : EngineState)
+    (held : Held) (seen : List ℕ) : Type 0 where
   pub at : engine ≡ (talk_to start all seen).at
   pub left : later ≡ (talk_to start all seen).left
   pub going : (talk_to start all seen).ending ≡ Going
   pub in_hand : StandsAfter held seen
 
 -- What a call did. It used something up, whatever the conversation is and whatever it uses up
--- later; and where engine and splitter stood after a text before the call, this holds now.
+-- later; and where engine and splitter were a session's after a text before the call, this holds
+-- now.
 pub record Does (old new : ShelfAndArchive) (in_vain : List Bool) (engine : EngineState)
     (held : Held) (Now : EngineState → Supply → Supply → List ℕ → Type 0) : Type 0 where
   pub used : Supply
   pub stood : (start : EngineState) → (all later : Supply) → (seen : List ℕ)
-      → IsAfter start all (and_then used later) engine held seen →
+      → IsSessionAfter start all (and_then used later) engine held seen →
       UsesUp start.options old new used in_vain × Now start all later seen
 
 -- the same, where one fetch at most came to nothing at the end
@@ -46,7 +43,7 @@ pub record Quits (start : EngineState) (all later : Supply) (seen : List ℕ) : 
 -- what stands after up to one line more
 abbrev pub Moves : Bool → EngineState → Supply → Supply → EngineState → Held → List ℕ → Type 0
 Moves true start all later engine held seen = Quits start all later seen
-Moves false start all later engine held seen = IsAfter start all later engine held seen
+Moves false start all later engine held seen = IsSessionAfter start all later engine held seen
 
 -- more bytes end at least one line more
 abbrev pub EndsLine : List ℕ → List ℕ → Type 0
@@ -63,11 +60,6 @@ pub record StopsBefore (start : EngineState) (all later : Supply)
 abbrev pub AnswersLines : EngineState → Supply → List ℕ → List ℕ → List ℕ → Type 0
 AnswersLines start all bytes seen more = (talk_to start all (seen ++ more)).text
     ≡ (talk_to start all seen).text ++ bytes
-
--- the talk wants a turn, and all was used up
-pub record WantsTurn (s : TalkState) : Type 0 where
-  pub ending : s.ending ≡ Short NoTurn
-  pub left : s.left ≡ nothing_left
 
 -- where nothing is left, these bytes are what more lines are answered before a turn is wanted
 abbrev pub AnswersShort : EngineState → Supply → Supply → List ℕ → List ℕ → List ℕ → Type 0

@@ -1,6 +1,7 @@
 -- The bytes that answer a list of raw lines.
 use Rattle.std.specs.Prelude.{◌≡◌, ◌≢◌, ℕ, Bool, true, false, List, [], ◌++◌, Option, Some, None}
 use Rattle.std.specs.Prelude.{Result, Ok, Err, codes, fold, if◌then◌else◌}
+use Rattle.htp_line.specs.Lines.{whole}
 use Rattle.htp_line.specs.Reading.{reading}
 use Rattle.htp_line.specs.declared.request.Parsed.{Parsed}
 use Rattle.htp_line.specs.declared.request.Parsed.TheVariants.{Blank, Bare, Request}
@@ -8,7 +9,7 @@ use Rattle.htp_line.specs.Splitting.{kept_line}
 use Rattle.htp_line.specs.Answering.{success, failure}
 use Rattle.hex_engine.specs.EngineState.{EngineState}
 use Rattle.hex_engine.specs.Supply.{Supply, nothing_left}
-use Rattle.hex_engine.specs.Replies.{Reply, Done, Quit, Failed, Turned, Missing, message}
+use Rattle.hex_engine.specs.Replies.{Reply, Done, Quit, Failed, Turned, Missing, NoTurn, message}
 use Rattle.hex_engine.specs.Requests.{reaction}
 
 -- whether a talk goes on, or how it ended
@@ -95,6 +96,10 @@ talk_start start left = record { text = []; at = start; left = left; ending = Go
 abbrev pub talk : EngineState → Supply → List (List ℕ) → TalkState
 talk start left lines = fold with_line (talk_start start left) lines
 
+-- the talk over the whole lines of a text, with all this to use up
+abbrev pub talk_to : EngineState → Supply → List ℕ → TalkState
+talk_to start all seen = talk start all (whole seen)
+
 -- no request wanted what was not there
 abbrev pub IsAnswered : TalkState → Type 0
 IsAnswered s = (missing : Missing) → s.ending ≢ Short missing
@@ -103,3 +108,8 @@ IsAnswered s = (missing : Missing) → s.ending ≢ Short missing
 pub record IsThrough (s : TalkState) : Type 0 where
   pub answered : IsAnswered s
   pub used : s.left ≡ nothing_left
+
+-- the talk wants a turn, and all was used up
+pub record WantsTurn (s : TalkState) : Type 0 where
+  pub ending : s.ending ≡ Short NoTurn
+  pub left : s.left ≡ nothing_left

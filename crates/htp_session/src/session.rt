@@ -34,7 +34,7 @@ pub struct Session {
 }
 
 impl Session {
-    ghost use Rattle.htp_session.specs.Sessions.{IsAfter};
+    ghost use Rattle.htp_session.specs.Sessions.{IsSessionAfter};
     ghost use Rattle.htp_session.specs.Calls.Answering.{WritesAnswer};
     ghost use Rattle.htp_session.specs.Calls.Session.{AdvancesBy, AnswersEnd};
 
@@ -43,7 +43,7 @@ impl Session {
         requires { AreInRange options.now.knobs }
         ensures stands { IfOk result
             (λ s. (later : Supply) →
-            IsAfter (opening options.now size) later later s.engine s.splitter []) }
+            IsSessionAfter (opening options.now size) later later s.engine s.splitter []) }
     {
         let engine = Engine::make(alloc, options, size)?;
         let Ok(splitter) = Splitter::make(alloc) else {

@@ -1,5 +1,5 @@
 -- What a walk adds, word by word.
-use Rattle.std.proofs.Common.{◌≡◌, ◌≢◌, ◌⊎◌, ℕ, ◌+◌, ◌<◌, Bool, true, false, cond, List, length, set as set_at, length-set, get_or-set_same, get_or-set_other, slice_index, refl, sym, ap, ◌∙◌, subst, ⊎_elim, arith}
+use Rattle.std.proofs.Common.{◌≡◌, ◌≢◌, ◌⊎◌, ℕ, ◌+◌, ◌<◌, Bool, true, false, cond, List, length, set as set_at, length-set, get_or-set_same, get_or-set_other, slice_index, sym, ap, ◌∙◌, subst, ⊎_elim, arith}
 use Rattle.hex_cells.specs.Sets.{has as has_cell}
 use Rattle.hex_cells.specs.declared.colours.Colour.{Colour}
 use Rattle.tree_words.specs.Words.{cell_in, root_at, tally_in, seen_in, node_at}
@@ -13,10 +13,6 @@ use Rattle.play_out.specs.declared.playouts.Ending.{Ending}
 use Rattle.tree_words.specs.Sequence.{search_game}
 use Rattle.tree_words.specs.Descents.{adds, sees}
 use Rattle.seq_search.specs.Descending.{steps_below}
-
--- the seen words of a block, one by one
-pub sighted-none : (b set amount : ℕ) (words : List ℕ) → Sighted b 0 set amount words words
-sighted-none b set amount words = record { long = refl; seen = λ k l. absurd (omega arith); others = λ i h. refl }
 
 module _ (b n set amount : ℕ) (before now : List ℕ) (s : Sighted b n set amount before now) where
   -- the move of the next node, and its seen word, are as before

@@ -43,9 +43,6 @@ gets-facts s n v p e =
     let u = and_parts (nat_le s.knobs.expand v.visits) (nat_lt 0 (length (empties_of p.board)) && nat_le n (end_of s)) t.0 in
     (ltb-true _ _ (and_parts (nat_lt 0 (length (empties_of p.board))) (nat_le n (end_of s)) u.1).0, leb-true _ _ t.1)
 
-count-none : (words : List ℕ) (i : ℕ) → get_or words i 0 ≡ 0 → count_in (get_or words i 0) ≡ nothing
-count-none words i e = ap count_in e
-
 pub at-most-none : (k : ℕ) (c : Count) → c ≡ nothing → AtMost k c
 at-most-none k c e = (omega (arith, ap (λ (c : Count). c.visits) e), omega (arith, ap (λ (c : Count). c.wins) e))
 

@@ -1,12 +1,11 @@
--- Whether a leaf asks for a block.
+-- How the words grow below a leaf that asks for no block, asks in vain, or gets its block.
 use Rattle.std.proofs.Common.{◌≡◌, ℕ, ◌+◌, ◌-◌, ◌<◌, ◌≤◌, nat_lt, nat_le, Bool, true, false, cond, List, length, set, get_or, get_or-set_same, get_or-set_other, refl, sym, ap, ◌∙◌, subst, arith}
 use Rattle.std.specs.Prelude.{◌&&◌}
 use Rattle.std.proofs.Math.ListN.{length-set}
-use Rattle.std.proofs.lemmas.Bool.{lt-leb}
 use Rattle.std.proofs.lemmas.Bool.Decides.{nat_tests}
 use Rattle.play_out.specs.Fills.{empties_of}
 use Rattle.tree_words.specs.Settings.{Setting}
-use Rattle.tree_words.specs.Words.{Count, end_of, next_in, tally_in}
+use Rattle.tree_words.specs.Words.{end_of, next_in, tally_in}
 use Rattle.tree_words.specs.Blocks.{LinkedBlock, size, is_header_or_move, header_or_move}
 use Rattle.tree_words.specs.Paths.{NodeState}
 use Rattle.tree_words.specs.Sequence.{asks, gets_block, next_after, size_below}
@@ -14,26 +13,7 @@ use Rattle.tree_words.specs.Writing.{WritesBlock}
 use Rattle.seq_search.specs.Writing.{LinksBlock, LinksBelow, Grows, block_below}
 use Rattle.tree_words.proofs.NewBlocks.Writes.{block_of}
 use Rattle.tree_words.proofs.Blocks.BlockLaws.{clash}
-use Rattle.tree_words.proofs.Walks.Asking.{gets-made}
-
--- a leaf with few visits, or without an empty cell, asks for none
-pub few_asks : (s : Setting) (n : ℕ) (v : Count) (p : NodeState) → v.visits < s.knobs.expand → asks s n v p ≡ false
-few_asks s n v p l = low s.knobs.expand v.visits (nat_lt 0 (length (empties_of p.board)) && nat_le n (end_of s)) l
-  where
-    low : (a b : ℕ) (t : Bool) → b < a → (nat_le a b && t) ≡ false
-    low a b t l = grind (arith, nat_tests)
-
-pub full_asks : (s : Setting) (n : ℕ) (v : Count) (p : NodeState) → length (empties_of p.board) ≡ 0 → asks s n v p ≡ false
-full_asks s n v p e = low (nat_le s.knobs.expand v.visits) (length (empties_of p.board)) (nat_le n (end_of s)) e
-  where
-    low : (u : Bool) (a : ℕ) (t : Bool) → a ≡ 0 → (u && (nat_lt 0 a && t)) ≡ false
-    low u a t e = grind (arith, nat_tests)
-
-pub else_asks : (s : Setting) (n : ℕ) (v : Count) (p : NodeState) → s.knobs.expand ≤ v.visits → (length (empties_of p.board) ≡ 0 → ⊥) → asks s n v p ≡ nat_le n (end_of s)
-else_asks s n v p l e = high s.knobs.expand v.visits (length (empties_of p.board)) (nat_le n (end_of s)) l e
-  where
-    high : (a b c : ℕ) (t : Bool) → a ≤ b → (c ≡ 0 → ⊥) → (nat_le a b && (nat_lt 0 c && t)) ≡ t
-    high a b c t l e = grind (arith, nat_tests)
+use Rattle.tree_words.proofs.Walks.Asking.{gets-made, gets-past, gets-none, next-asked, next-stays}
 
 -- the block is written and named by the leaf's link
 pub link-written : (start leaf e : ℕ) (p : NodeState) (cells before words : List ℕ) → WritesBlock (block_of start leaf e cells) before words → cells ≡ empties_of p.board → leaf + 4 ≤ length before
@@ -46,23 +26,9 @@ link-written start leaf e p cells before words w is l =
       each = λ i d. get_or-set_other words (leaf + 1) i start 0 d ∙ v.each i;
     }
 
-gets-of : (s : Setting) (n : ℕ) (v : Count) (p : NodeState) (t : Bool) → asks s n v p ≡ t → gets_block s n v p ≡ (t && nat_le (n + size_below p) (end_of s))
-unfolding gets_block
-gets-of s n v p t e = ap (λ (u : Bool). u && nat_le (n + size_below p) (end_of s)) e
-
-pub next-of : (s : Setting) (n : ℕ) (v : Count) (p : NodeState) (t : Bool) → asks s n v p ≡ t → next_after s n v p ≡ cond t (n + size_below p) n
-unfolding next_after
-next-of s n v p t e = ap (λ (u : Bool). cond u (n + size_below p) n) e
-
-pub gets-none : (s : Setting) (n : ℕ) (v : Count) (p : NodeState) → asks s n v p ≡ false → gets_block s n v p ≡ false
-gets-none s n v p e = gets-of s n v p false e
-
-pub gets-past : (s : Setting) (n : ℕ) (v : Count) (p : NodeState) → asks s n v p ≡ true → end_of s < n + size_below p → gets_block s n v p ≡ false
-gets-past s n v p e l = gets-of s n v p true e ∙ lt-leb (n + size_below p) (end_of s) l
-
 pub grows-none : (s : Setting) (leaf : ℕ) (p : NodeState) (words : List ℕ) → asks s (next_in words) (tally_in words leaf) p ≡ false → Grows s leaf p words words
 grows-none s leaf p words e = record {
-  next = sym (next-of s (next_in words) (tally_in words leaf) p false e);
+  next = sym (next-stays s (next_in words) (tally_in words leaf) p e);
   made = λ t. absurd (clash (gets_block s (next_in words) (tally_in words leaf) p) t (gets-none s (next_in words) (tally_in words leaf) p e));
   none = λ t. (refl, λ i l. refl);
 }
@@ -70,7 +36,7 @@ grows-none s leaf p words e = record {
 pub grows-past : (s : Setting) (leaf m : ℕ) (p : NodeState) (words : List ℕ) → asks s (next_in words) (tally_in words leaf) p ≡ true → end_of s < next_in words + size_below p
     → m ≡ next_in words + size_below p → 0 < length words → Grows s leaf p words (set words 0 m)
 grows-past s leaf m p words e l is some = record {
-  next = get_or-set_same words 0 m 0 some ∙ is ∙ sym (next-of s (next_in words) (tally_in words leaf) p true e);
+  next = get_or-set_same words 0 m 0 some ∙ is ∙ sym (next-asked s (next_in words) (tally_in words leaf) p e);
   made = λ t. absurd (clash (gets_block s (next_in words) (tally_in words leaf) p) t (gets-past s (next_in words) (tally_in words leaf) p e l));
   none = λ t. (length-set words 0 m, λ i h. get_or-set_other words 0 i m 0 (λ z. omega arith));
 }
@@ -80,7 +46,7 @@ pub grows-made : (s : Setting) (leaf m : ℕ) (p : NodeState) (words after : Lis
 grows-made s leaf m p words after e l is some low w =
     let n : ℕ = next_in words in
     let b : LinkedBlock = block_below n leaf w.0 p in
-    let all : m ≡ next_after s n (tally_in words leaf) p = is ∙ sym (next-of s n (tally_in words leaf) p true e) in
+    let all : m ≡ next_after s n (tally_in words leaf) p = is ∙ sym (next-asked s n (tally_in words leaf) p e) in
     record {
       next = w.2.each 0 (λ z. omega arith)
           ∙ ap (λ (t : Bool). cond (t && is_header_or_move (0 - n)) (header_or_move b (0 - n)) (get_or (set words 0 m) 0 0)) (before-it n (size b) low)

@@ -1,12 +1,9 @@
 -- The opening words hold the first tree.
 use Rattle.std.proofs.Common.{◌≡◌, ℕ, ◌<◌, List, [], ◌∷◌, length, get_or, ap, ◌∙◌, inr, arith}
 use Rattle.tree_words.specs.Settings.{Setting, IsSetting}
-use Rattle.tree_words.specs.Words.{count_in, cell_in, root_at, end_of, tally_in, seen_in}
-use Rattle.tree_words.specs.Blocks.{LinkedBlock}
+use Rattle.tree_words.specs.Words.{end_of, tally_in, seen_in}
 use Rattle.tree_words.specs.Complete.{HasEmpties}
 use Rattle.tree_words.specs.Opening.{root_block, opening_word}
-use Rattle.tree_words.specs.Trees.{tree_at, tree_of, oldest_first}
-use Rattle.tree_words.specs.Descents.{tree_in, config_of}
 use Rattle.seq_search.specs.Steps.{Holds}
 use Rattle.tree_words.proofs.NewBlocks.Openings.{root-fits}
 use Rattle.tree_words.proofs.NewBlocks.OpeningLaws.{next-is, clear, root-word, no-counts, opening-linked, opening-nodes}
@@ -28,7 +25,3 @@ module _ (s : Setting) (words : List ℕ) (e : ℕ) (set : IsSetting s) (empties
         fresh = λ i l. clear s words e set empties long each i (omega (arith, l, next)) (λ z. omega (arith, l, next, z)) (inr (omega (arith, l, next)));
         counts = λ x n. let u = no-counts s words e set empties long each x n in (at-most-none 0 (tally_in words x) u.0, at-most-none 0 (seen_in words x) u.1);
       }
-
--- the tree that the words show is that of their blocks and counts
-pub tree-is : (s : Setting) (bs : List LinkedBlock) (words : List ℕ) (k : ℕ) → Holds s bs words k → tree_of s bs words ≡ tree_in (root_at s) (config_of bs words)
-tree-is s bs words k h = λ i. tree_at (tally_in words) (seen_in words) (oldest_first bs) (root_at s) (cell_in (h.root.0 i)) (count_in (h.root.1 i))

@@ -14,8 +14,7 @@ use Rattle.tree_words.specs.Opening.{root_block, opening_word, AreOpening}
 use Rattle.tree_words.specs.Closing.{IsClosed}
 use Rattle.tree_words.specs.Walks.{Tree, Game, walk, walks}
 use Rattle.play_out.specs.declared.playouts.Ending.{Ending}
-use Rattle.tree_words.specs.Sequence.{outcome_of, search_game, first_tree, seq_of}
-use Rattle.tree_words.specs.Trees.{IsTreeOf}
+use Rattle.tree_words.specs.Sequence.{outcome_of, search_game, first_tree}
 use Rattle.tree_words.specs.Descents.{tree_in, walk_end, Added, config_of}
 use Rattle.tree_words.proofs.Blocks.GameLaws.{fair_game}
 use Rattle.tree_words.proofs.Walks.WalkLaws.{walk-tree}
@@ -27,7 +26,7 @@ use Rattle.seq_search.proofs.Standings.{standing-opening, closed-of}
 use Rattle.seq_search.proofs.Turns.{record-reads, standing-walked}
 use Rattle.seq_search.proofs.Growing.{fine-of}
 use Rattle.tree_words.proofs.NewBlocks.OpeningLaws.{opening-tree}
-use Rattle.seq_search.proofs.Openers.{opening-holds, tree-is}
+use Rattle.seq_search.proofs.Openers.{opening-holds}
 
 -- what a playout gave
 pub outcome-is : (s : Setting) (k : ℕ) (p : NodeState) (winner : Colour) (full : Position) → winner ≡ playout_of p.board p.player s.knobs.seed k → full ≡ filled p.board p.player s.knobs.seed k
@@ -76,11 +75,3 @@ searched-more s words middle after k d o h l w r played holds added records =
 -- after all walks the words are a closed tree
 pub searched-closed : (s : Setting) (words : List ℕ) → IsSetting s → Searched s words s.knobs.playouts → IsClosed s words
 searched-closed s words h w = closed-of s w.blocks words h w.holds w.standing (omega (arith, w.ticket)) (omega (arith, w.ticket))
-
--- and show the tree of the sequential search
-pub searched-tree : (s : Setting) (words : List ℕ) → Searched s words s.knobs.playouts → IsTreeOf s words (seq_of s).0
-searched-tree s words w = record {
-  blocks = w.blocks;
-  linked = w.holds.linked;
-  is = tree-is s w.blocks words s.knobs.playouts w.holds ∙ ap (λ (t : Tree × ℕ). t.0) w.tree;
-}

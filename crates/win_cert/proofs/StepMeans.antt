@@ -13,11 +13,11 @@ use Rattle.conn_store.specs.declared.entries.Kind.TheVariants.{Full, Semi}
 use Rattle.win_cert.specs.Named.{IsStepOf, adj_in, alone, args_named, cases_in, set_named, claim_in, first_cell, first_end, first_number, is_in_version, keyword_named, move_in, numbers_named, or_after, or_in, pair_in, put_in, step_named, step_words}
 use Rattle.win_cert.specs.Texts.{end_word, kind_word}
 use Rattle.win_cert.specs.declared.certs.TheConstants.{LATEST_VERSION}
+use Rattle.win_cert.specs.declared.keywords.Keyword.{Keyword}
+use Rattle.win_cert.specs.declared.keywords.Keyword.TheVariants as keyword
 use Rattle.win_cert.specs.declared.lines.Line.{Line}
 use Rattle.win_cert.specs.declared.lines.Line.TheVariants.{Adj, And, Key, Or2, Or3, Put, Done, Move, Cases}
 use Rattle.win_cert.specs.declared.lines.TheConstants.{LEAST_CASES, MOST_CASES, MOST_NUMBER}
-use Rattle.win_cert.specs.declared.steps.Keyword.{Keyword}
-use Rattle.win_cert.specs.declared.steps.Keyword.TheVariants as keyword
 use Rattle.win_cert.specs.declared.steps.Step.{Step}
 use Rattle.win_cert.specs.declared.steps.Step.TheVariants as step
 use Rattle.win_cert.proofs.CellSets.{cells_mean}
@@ -46,60 +46,24 @@ one_of false x k o e = inr e
 is_text : (word : List ℕ) (x k : Keyword) → (bytes_eq word (keyword_text x) ≡ true) × (x ≡ k) → word ≡ keyword_text k
 is_text word x k p = (bytes_eq-Decides word (keyword_text x)).0 p.0 ∙ ap keyword_text p.1
 
+-- the word is the text of a keyword that is named, where it is the first one or the others tell
+next_keyword : (word : List ℕ) (x k : Keyword) (o : Option Keyword) → (o ≡ Some k → word ≡ keyword_text k)
+    → cond (bytes_eq word (keyword_text x)) (Some x) o ≡ Some k → word ≡ keyword_text k
+next_keyword word x k o others e = elim (one_of (bytes_eq word (keyword_text x)) x k o e) [
+  | inl p ↦ is_text word x k p
+  | inr e ↦ others e
+]
+
+no_keyword : (word : List ℕ) (k : Keyword) → ◌≡◌ {A = Option Keyword} None (Some k) → word ≡ keyword_text k
+no_keyword word k e = cc
+
 keyword_means : (word : List ℕ) (k : Keyword) → keyword_named word ≡ Some k → word ≡ keyword_text k
 unfolding keyword_named keyword_text
-keyword_means word k e =
-    let o10 : Option Keyword = None in
-    let o9 : Option Keyword = cond (bytes_eq word (codes "semi")) (Some keyword.Semi) o10 in
-    let o8 : Option Keyword = cond (bytes_eq word (codes "full")) (Some keyword.Full) o9 in
-    let o7 : Option Keyword = cond (bytes_eq word (codes "cases")) (Some keyword.Cases) o8 in
-    let o6 : Option Keyword = cond (bytes_eq word (codes "move")) (Some keyword.Move) o7 in
-    let o5 : Option Keyword = cond (bytes_eq word (codes "done")) (Some keyword.Done) o6 in
-    let o4 : Option Keyword = cond (bytes_eq word (codes "put")) (Some keyword.Put) o5 in
-    let o3 : Option Keyword = cond (bytes_eq word (codes "or")) (Some keyword.Or) o4 in
-    let o2 : Option Keyword = cond (bytes_eq word (codes "key")) (Some keyword.Key) o3 in
-    let o1 : Option Keyword = cond (bytes_eq word (codes "and")) (Some keyword.And) o2 in
-    elim (one_of (bytes_eq word (codes "adj")) keyword.Adj k o1 e) [
-      | inl p ↦ is_text word keyword.Adj k p
-      | inr e ↦
-          elim (one_of (bytes_eq word (codes "and")) keyword.And k o2 e) [
-            | inl p ↦ is_text word keyword.And k p
-            | inr e ↦
-                elim (one_of (bytes_eq word (codes "key")) keyword.Key k o3 e) [
-                  | inl p ↦ is_text word keyword.Key k p
-                  | inr e ↦
-                      elim (one_of (bytes_eq word (codes "or")) keyword.Or k o4 e) [
-                        | inl p ↦ is_text word keyword.Or k p
-                        | inr e ↦
-                            elim (one_of (bytes_eq word (codes "put")) keyword.Put k o5 e) [
-                              | inl p ↦ is_text word keyword.Put k p
-                              | inr e ↦
-                                  elim (one_of (bytes_eq word (codes "done")) keyword.Done k o6 e) [
-                                    | inl p ↦ is_text word keyword.Done k p
-                                    | inr e ↦
-                                        elim (one_of (bytes_eq word (codes "move")) keyword.Move k o7 e) [
-                                          | inl p ↦ is_text word keyword.Move k p
-                                          | inr e ↦
-                                              elim (one_of (bytes_eq word (codes "cases")) keyword.Cases k o8 e) [
-                                                | inl p ↦ is_text word keyword.Cases k p
-                                                | inr e ↦
-                                                    elim (one_of (bytes_eq word (codes "full")) keyword.Full k o9 e) [
-                                                      | inl p ↦ is_text word keyword.Full k p
-                                                      | inr e ↦
-                                                          elim (one_of (bytes_eq word (codes "semi")) keyword.Semi k o10 e) [
-                                                            | inl p ↦ is_text word keyword.Semi k p
-                                                            | inr e ↦
-                                                                cc
-                                                          ]
-                                                    ]
-                                              ]
-                                        ]
-                                  ]
-                            ]
-                      ]
-                ]
-          ]
-    ]
+keyword_means word k =
+    next_keyword word keyword.Adj k _ (next_keyword word keyword.And k _ (next_keyword word keyword.Key k _
+    (next_keyword word keyword.Or k _ (next_keyword word keyword.Put k _ (next_keyword word keyword.Done k _
+    (next_keyword word keyword.Move k _ (next_keyword word keyword.Cases k _ (next_keyword word keyword.Full k _
+    (next_keyword word keyword.Semi k _ (no_keyword word k))))))))))
 
 -- ---- what follows each keyword
 

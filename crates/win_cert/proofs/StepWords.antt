@@ -11,12 +11,12 @@ use Rattle.win_cert.specs.Named.{IsStepOf, adj_in, alone, args_named, cases_in, 
 use Rattle.win_cert.specs.Texts.{end_word, vertices_of}
 use Rattle.win_cert.specs.Writable.{IsEndOn}
 use Rattle.win_cert.specs.declared.certs.TheConstants.{LATEST_VERSION}
+use Rattle.win_cert.specs.declared.keywords.Keyword.{Keyword}
+use Rattle.win_cert.specs.declared.keywords.Keyword.TheVariants as keyword
 use Rattle.win_cert.specs.declared.lines.End.{End}
 use Rattle.win_cert.specs.declared.lines.Line.{Line}
 use Rattle.win_cert.specs.declared.lines.Line.TheVariants.{Adj, And, Key, Or2, Or3, Put, Done, Move, Cases}
 use Rattle.win_cert.specs.declared.lines.TheConstants.{LEAST_CASES, MOST_CASES, MOST_NUMBER}
-use Rattle.win_cert.specs.declared.steps.Keyword.{Keyword}
-use Rattle.win_cert.specs.declared.steps.Keyword.TheVariants as keyword
 use Rattle.win_cert.specs.declared.steps.Step.{Step}
 use Rattle.win_cert.specs.declared.steps.Step.TheVariants as step
 use Rattle.win_cert.proofs.CellSets.{cells_back}

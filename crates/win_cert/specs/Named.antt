@@ -12,14 +12,14 @@ use Rattle.conn_store.specs.declared.entries.Kind.TheVariants.{Full, Semi}
 use Rattle.win_cert.specs.Texts.{kind_word, line_words}
 use Rattle.win_cert.specs.Writable.{IsLineOf}
 use Rattle.win_cert.specs.declared.certs.TheConstants.{LATEST_VERSION}
+use Rattle.win_cert.specs.declared.keywords.Keyword.{Keyword}
+use Rattle.win_cert.specs.declared.keywords.Keyword.TheVariants as keyword
 use Rattle.win_cert.specs.declared.lines.End.{End}
 use Rattle.win_cert.specs.declared.lines.End.TheVariants.{At, First, Second}
 use Rattle.win_cert.specs.declared.lines.Line.{Line}
 use Rattle.win_cert.specs.declared.lines.Line.TheVariants.{Adj, And, Key, Or2, Or3, Put, Done, Move}
 use Rattle.win_cert.specs.declared.lines.Line.TheVariants.{Cases}
 use Rattle.win_cert.specs.declared.lines.TheConstants.{LEAST_CASES, MOST_CASES, MOST_NUMBER}
-use Rattle.win_cert.specs.declared.steps.Keyword.{Keyword}
-use Rattle.win_cert.specs.declared.steps.Keyword.TheVariants as keyword
 use Rattle.win_cert.specs.declared.steps.Step.{Step}
 use Rattle.win_cert.specs.declared.steps.Step.TheVariants as step
 

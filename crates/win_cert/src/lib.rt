@@ -29,9 +29,11 @@
 mod certs;
 mod cutting;
 mod heads;
+mod keywords;
 mod laws;
 mod lines;
 mod lists;
+mod pushing;
 mod raising;
 mod reader;
 mod reading;

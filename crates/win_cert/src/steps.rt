@@ -1,80 +1,21 @@
 //! What a line after the head says: a step of the derivation, or the claim.
 
 ghost use Rattle.std.specs.Prelude.{◌≡◌, IfOk};
-ghost use Rattle.win_cert.specs.Named.{adj_in, args_named, cases_in, claim_in, is_in_version};
-ghost use Rattle.win_cert.specs.Named.{keyword_named, move_in, numbers_named, or_in, pair_in};
-ghost use Rattle.win_cert.specs.Named.{put_in};
-ghost use Rattle.win_cert.specs.Named.{alone, step_named};
+ghost use Rattle.win_cert.specs.Named.{adj_in, alone, args_named, cases_in, claim_in, move_in};
+ghost use Rattle.win_cert.specs.Named.{or_in, pair_in, put_in, step_named};
 
+use super::keywords::{Keyword, is_in_version, keyword_of};
 use super::words::Words;
-use super::{LATEST_VERSION, LEAST_CASES, Line, MOST_CASES, Numbers};
+use super::{LEAST_CASES, Line, MOST_CASES, Numbers};
 use conn_store::Kind;
 use hex_cells::Size;
 use std::alloc::{AllocError, Global};
-
-/// The first word of a line.
-#[derive(Clone, Copy)]
-pub(crate) enum Keyword {
-    Adj,
-    And,
-    Key,
-    Or,
-    Put,
-    Done,
-    Move,
-    Cases,
-    Full,
-    Semi,
-}
 
 /// A derivation line, or the claim with the number of its entry.
 #[derive(Drop)]
 pub(crate) enum Step {
     Line(Line),
     Claim(Kind, u32),
-}
-
-// The keyword that a word is.
-#[tactic(auto, unfolding(crate::specs::Named::keyword_named))]
-fn keyword_of(word: &[u8]) -> Option<Keyword>
-    ensures { result ≡ keyword_named word.now }
-{
-    if word == b"adj".as_slice() {
-        Some(Keyword::Adj)
-    } else if word == b"and".as_slice() {
-        Some(Keyword::And)
-    } else if word == b"key".as_slice() {
-        Some(Keyword::Key)
-    } else if word == b"or".as_slice() {
-        Some(Keyword::Or)
-    } else if word == b"put".as_slice() {
-        Some(Keyword::Put)
-    } else if word == b"done".as_slice() {
-        Some(Keyword::Done)
-    } else if word == b"move".as_slice() {
-        Some(Keyword::Move)
-    } else if word == b"cases".as_slice() {
-        Some(Keyword::Cases)
-    } else if word == b"full".as_slice() {
-        Some(Keyword::Full)
-    } else if word == b"semi".as_slice() {
-        Some(Keyword::Semi)
-    } else {
-        None
-    }
-}
-
-// Whether lines with that keyword stand in certificates of the version.
-fn is_in_version(version: u32, keyword: Keyword) -> bool
-    ensures { result ≡ is_in_version version keyword }
-{
-    match keyword {
-        Keyword::Put => version == LATEST_VERSION,
-        Keyword::Done => version == LATEST_VERSION,
-        Keyword::Move => version == LATEST_VERSION,
-        Keyword::Cases => version == LATEST_VERSION,
-        _ => true,
-    }
 }
 
 /// What the words of a line say, in a certificate of that version on a board of that size; `None`

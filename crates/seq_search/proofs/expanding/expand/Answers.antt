@@ -2,8 +2,8 @@ use Rattle.std.proofs.Common.{◌+◌, ◌*◌, length, ap, sym, ◌∙◌, arit
 use Rattle.std.proofs.Math.ListN.{length-set}
 use Rattle.tree_words.specs.Words.{next_in, tally_in}
 use Rattle.play_out.specs.Fills.{empties_of}
-use Rattle.tree_words.proofs.Walks.Asking.{gets-made}
-use Rattle.seq_search.proofs.LeafBlocks.{gets-none, gets-past, grows-none, grows-past, grows-made}
+use Rattle.tree_words.proofs.Walks.Asking.{gets-made, gets-none, gets-past}
+use Rattle.seq_search.proofs.LeafBlocks.{grows-none, grows-past, grows-made}
 use Rattle.seq_search.proofs.expanding.expand.Goals as goal
 
 pub returns-then-not-asks_for_block-clause-told : goal.returns-then-not-asks_for_block-clause-told

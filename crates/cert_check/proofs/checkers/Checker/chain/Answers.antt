@@ -2,11 +2,10 @@ use Rattle.std.proofs.Common.{◌==◌, [], ◌∷◌, not, ap, sym, ◌∙◌, 
 use Rattle.std.specs.List.{list_all}
 use Rattle.std.specs.Option.{option_map}
 use Rattle.std.specs.Option.{IfSome}
-use Rattle.win_cert.specs.Entries.{entries_at}
 use Rattle.win_cert.specs.Statements.{derivation}
 use Rattle.cert_check.specs.Keeping.{IsGivenOn, chain_line, entry_of}
 use Rattle.cert_check.proofs.ChainReasons.{chain_bad, chain_scopes, chain_takes, two_scopes}
-use Rattle.cert_check.proofs.ReasonLaws.{chain_reasons, missing, missing_next, told_first, told_next}
+use Rattle.cert_check.proofs.ReasonLaws.{chain_reasons, kept_scope, missing, missing_next, told_first, told_next}
 use Rattle.cert_check.proofs.checkers.Checker.chain.Goals as goal
 use Rattle.win_cert.proofs.CutChains.{two_at}
 
@@ -22,7 +21,7 @@ returns-then-not-are_in_scope c =
     let now = c.args.self.now in
     let o = c.args.over_cell in
     let s = derivation (chain_line o c.args.i c.args.j) in
-    let scope = c.are_in_scope.ensures ∙ ap (λ n. list_all (λ a. a.scope == n.scope) (entries_at now (c.args.i ∷ c.args.j ∷ []))) c.self.view_is in
+    let scope = kept_scope (c.args.i ∷ c.args.j ∷ []) c.self.view_is c.are_in_scope.ensures in
     chain_reasons now o c.args.i c.args.j ∙ told_next _ _ _ _
     (chain_bad now o c.args.i c.args.j c.takes_all.result (c.takes_all.ensures s (chain_takes o c.args.i c.args.j)) ∙ ap not c.if-not-takes_all.false)
     (told_first _ _ _ (chain_scopes now o c.args.i c.args.j c.are_in_scope.result scope ∙ ap not c.if-not-are_in_scope.true))
@@ -44,7 +43,7 @@ join-requires c =
     let now = c.args.self.now in
     let o = c.args.over_cell in
     let s = derivation (chain_line o c.args.i c.args.j) in
-    let scope = c.are_in_scope.ensures ∙ ap (λ n. list_all (λ a. a.scope == n.scope) (entries_at now (c.args.i ∷ c.args.j ∷ []))) c.self.view_is in
+    let scope = kept_scope (c.args.i ∷ c.args.j ∷ []) c.self.view_is c.are_in_scope.ensures in
     let first = sym c.entry.ensures.value ∙ ap (option_map entry_of) c.in-Some.is in
     let second = sym c.entry-2.ensures.value ∙ ap (option_map entry_of) c.in-Some-entry.is in
     let scopes = two_scopes (entry_of c.in-Some.a) (entry_of c.in-Some-entry.b) now.scope

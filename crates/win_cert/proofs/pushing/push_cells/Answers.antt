@@ -5,7 +5,7 @@ use Rattle.hex_cells.specs.Vertices.{vertex_of}
 use Rattle.win_cert.specs.Texts.{vertices_of}
 use Rattle.win_cert.specs.Words.{after_spaces}
 use Rattle.win_cert.proofs.Joining.{joined_after, text_more}
-use Rattle.win_cert.proofs.writing.push_cells.Goals as goal
+use Rattle.win_cert.proofs.pushing.push_cells.Goals as goal
 
 pub loop-k-preserved : goal.loop-k-preserved
 loop-k-preserved c = record {

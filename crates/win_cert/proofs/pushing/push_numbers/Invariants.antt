@@ -1,7 +1,7 @@
 use Rattle.std.proofs.Common.{◌≡◌, ◌++◌, map, take}
 use Rattle.std.specs.Fmt.{decimal}
 use Rattle.win_cert.specs.Words.{after_spaces}
-use Rattle.win_cert.proofs.writing.push_numbers.Given as goal
+use Rattle.win_cert.proofs.pushing.push_numbers.Given as goal
 
 -- the word, and the numbers so far
 abbrev pub invariant-loop-number : goal.invariant-loop-number

@@ -3,7 +3,7 @@ use Rattle.std.specs.Fmt.{decimal}
 use Rattle.std.proofs.lemmas.List.{take_all}
 use Rattle.win_cert.specs.Words.{after_spaces}
 use Rattle.win_cert.proofs.Joining.{joined_after}
-use Rattle.win_cert.proofs.writing.push_numbers.Goals as goal
+use Rattle.win_cert.proofs.pushing.push_numbers.Goals as goal
 
 pub returns : goal.returns
 returns c =

@@ -1,0 +1,114 @@
+//! `and`, `key` and `or`: lines over two or three entries of the scope.
+
+ghost use Rattle.std.specs.Prelude.{◌≡◌, ℕ, ◌<◌, ◌||◌, ◌∷◌, List};
+ghost use Rattle.hex_board.specs.Elements.{element_count};
+ghost use Rattle.win_cert.specs.Entries.{elements_at};
+ghost use Rattle.win_cert.specs.Statements.{is_cell_in};
+ghost use Rattle.win_cert.specs.declared.lines.Line.{Line};
+ghost use Rattle.cert_check.specs.Keeping.{AreNamed, DerivesLine, IsOrOf, chain_line};
+
+use super::checkers::Checker;
+use super::given::Given;
+use super::verdicts::Why;
+use conn_store::Kind;
+use hex_cells::CellSet;
+
+impl Checker {
+    /// `and`, or `key` where the middle is to be a cell.
+    pub fn chain(&self, i: u32, j: u32, over_cell: bool) -> Result<Given, Why>
+        ensures { DerivesLine self.now (chain_line over_cell i j) result }
+    {
+        let numbers = [i, j];
+        if !self.takes_all(&numbers, Kind::Full, true) {
+            return Err(Why::BadReference);
+        }
+        if !self.are_in_scope(&numbers, self.scope) {
+            return Err(Why::WrongScope);
+        }
+        let Some(a) = self.entry(i) else {
+            return Err(Why::BadReference);
+        };
+        let Some(b) = self.entry(j) else {
+            return Err(Why::BadReference);
+        };
+        self.join(i, j, over_cell, &a, &b)
+    }
+
+    // `and` or `key` of two full entries of the scope, each of two elements.
+    fn join(&self, i: u32, j: u32, over_cell: bool, a: &Given, b: &Given) -> Result<Given, Why>
+        requires named { AreNamed self.now over_cell i j a.now b.now }
+        ensures { DerivesLine self.now (chain_line over_cell i j) result }
+    {
+        let Some(middle) = a.middle(b) else {
+            return Err(Why::NoCommonMiddle);
+        };
+        if self.shares_cell(&[i, j]) {
+            return Err(Why::CarriersMeet);
+        }
+        let (x, y) = (a.other_end(middle), b.other_end(middle));
+        if self.is_either_in(x, b.carrier, y, a.carrier) {
+            return Err(Why::EndInCarrier);
+        }
+        let cells = a.carrier.union(b.carrier);
+        match self.elements.cell(middle) {
+            Some(cell) => {
+                if over_cell {
+                    Ok(self.between(Kind::Semi, x, y, cells.with(cell)))
+                } else {
+                    Err(Why::MiddleKind)
+                }
+            }
+            None => {
+                if over_cell {
+                    Err(Why::MiddleKind)
+                } else {
+                    Ok(self.between(Kind::Full, x, y, cells))
+                }
+            }
+        }
+    }
+
+    // Whether element x is an empty cell in a, or y one in b.
+    fn is_either_in(&self, x: u8, a: CellSet, y: u8, b: CellSet) -> bool
+        requires x { x < element_count (elements_at self.now) }
+        requires y { y < element_count (elements_at self.now) }
+        ensures { result ≡ (is_cell_in (elements_at self.now) x a
+            || is_cell_in (elements_at self.now) y b) }
+    {
+        self.is_cell_in(x, a) || self.is_cell_in(y, b)
+    }
+
+    // Whether an element is an empty cell in the set.
+    fn is_cell_in(&self, element: u8, cells: CellSet) -> bool
+        requires { element < element_count (elements_at self.now) }
+        ensures { result ≡ is_cell_in (elements_at self.now) element cells }
+    {
+        match self.elements.cell(element) {
+            Some(cell) => cells.has(cell),
+            None => false,
+        }
+    }
+
+    /// `or`: two or three semi entries of the same elements.
+    pub fn either(&self, first: u32, numbers: &[u32]) -> Result<Given, Why>
+        requires { (rest : List ℕ) × (numbers.now ≡ first ∷ rest) }
+        ensures { (line : Line) → IsOrOf line numbers.now → DerivesLine self.now line result }
+    {
+        if !self.takes_all(numbers, Kind::Semi, true) {
+            return Err(Why::BadReference);
+        }
+        if !self.are_in_scope(numbers, self.scope) {
+            return Err(Why::WrongScope);
+        }
+        let Some(a) = self.entry(first) else {
+            return Err(Why::BadReference);
+        };
+        if !self.have_ends_of(&a, numbers) {
+            return Err(Why::EndsDiffer);
+        }
+        if self.shares_cell(numbers) {
+            return Err(Why::CommonCell);
+        }
+        Ok(self.between(Kind::Full, a.x, a.y, self.carriers(numbers)))
+    }
+}

@@ -1,0 +1,78 @@
+//! `put`, `done`, `move` and `cases`: lines that speak of the scope.
+
+ghost use Rattle.win_cert.specs.declared.lines.Line.{Line};
+ghost use Rattle.cert_check.specs.Keeping.{AllowsLine, DerivesLine};
+
+use super::checkers::Checker;
+use super::given::Given;
+use super::verdicts::Why;
+use conn_store::Kind;
+use hex_cells::{Cell, CellSet};
+
+impl Checker {
+    /// `put`.
+    pub fn put(&self, cells: CellSet) -> Result<(), Why>
+        ensures { AllowsLine self.now (Line.Put cells) result }
+    {
+        let _bits = cells.bits();
+        if cells.inside(self.base.empties()) {
+            Ok(())
+        } else {
+            Err(Why::BadStone)
+        }
+    }
+
+    /// `done`.
+    pub fn done(&self) -> Result<Given, Why>
+        ensures { DerivesLine self.now Line.Done result }
+    {
+        // Where the player is joined, both edges are in element 0.
+        if self.elements.edge(true) == 0 {
+            Ok(self.of_edges(Kind::Full, CellSet::none()))
+        } else {
+            Err(Why::NotJoined)
+        }
+    }
+
+    /// `move`.
+    pub fn after_move(&self, cell: Cell, i: u32) -> Result<Given, Why>
+        ensures { DerivesLine self.now (Line.Move cell i) result }
+    {
+        let numbers = [i];
+        if !self.takes_all(&numbers, Kind::Full, false) {
+            return Err(Why::BadReference);
+        }
+        if !self.board.empties().has(cell) {
+            return Err(Why::BadStone);
+        }
+        if !self.are_in_scope(&numbers, self.scope.with(cell)) {
+            return Err(Why::WrongScope);
+        }
+        if !self.are_of_edges(&numbers) {
+            return Err(Why::NotEdges);
+        }
+        match self.entry(i) {
+            Some(given) => Ok(self.of_edges(Kind::Semi, given.carrier.with(cell))),
+            None => Err(Why::BadReference),
+        }
+    }
+
+    /// `cases`.
+    pub fn cases(&self, numbers: &[u32]) -> Result<Given, Why>
+        ensures { DerivesLine self.now (Line.Cases numbers.now) result }
+    {
+        if !self.takes_all(numbers, Kind::Semi, false) {
+            return Err(Why::BadReference);
+        }
+        if !self.are_in_scope(numbers, self.scope) {
+            return Err(Why::WrongScope);
+        }
+        if self.shares_cell(numbers) {
+            return Err(Why::CommonCell);
+        }
+        if !self.are_of_edges(numbers) {
+            return Err(Why::NotEdges);
+        }
+        Ok(self.of_edges(Kind::Full, self.carriers(numbers)))
+    }
+}
