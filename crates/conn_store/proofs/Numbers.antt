@@ -35,10 +35,6 @@ IsListed n kind x y entries number =
 listed_later : (n : ℕ) (kind : Kind) (x y : ℕ) (b : Entry) (entries : List Entry) (number : ℕ) → IsListed (suc n) kind x y entries number → IsListed n kind x y (b ∷ entries) number
 listed_later n kind x y b entries number (i, a, e, g, h) = (suc i, a, omega arith, g, h)
 
-in_front : (b : Bool) (n : ℕ) (xs : List ℕ) (j : ℕ) → j < length (if b then n ∷ xs else xs) → (i : ℕ) → b ≡ true → j ≡ suc i → i < length xs
-in_front true n xs j l i h e = omega arith
-in_front false n xs j l i h e = absurd (cc)
-
 pub numbers_in : (n : ℕ) (kind : Kind) (x y : ℕ) (entries : List Entry) (j : ℕ) → j < length (numbers_from n kind x y entries)
     → IsListed n kind x y entries (get_or (numbers_from n kind x y entries) j 0)
 numbers_in n kind x y [] j l = absurd (omega arith)

@@ -10,7 +10,7 @@ use Rattle.hex_board.specs.Positions.{Within, stones_of, is_empty_at}
 use Rattle.hex_board.proofs.Places.{empty_alone}
 use Rattle.conn_store.specs.Entries.{AllEmpty, IsBetween, IsValid, Misses}
 use Rattle.conn_store.specs.Rules.{AndRule, AreAt, AreWays, FollowsBy, IsCell, IsAndOf, IsChain, IsEntry, IsGroup, OrRule, both_of}
-use Rattle.conn_store.specs.Stores.{CanAnd, CanOr, GivesAnd, MayBeAdded, IsSound, StoreData}
+use Rattle.conn_store.specs.Stores.{CanOr, GivesAnd, MayBeAdded, IsSound, StoreData}
 use Rattle.conn_store.specs.declared.entries.Cause.{Cause}
 use Rattle.conn_store.specs.declared.entries.Cause.TheVariants.{AndGroup, AndEmpty, Or}
 use Rattle.conn_store.specs.declared.entries.Entry.{Entry}
@@ -93,14 +93,6 @@ pub cell_gives : (d : StoreData) (i j : ℕ) (a b entry : Entry) (x u y k : ℕ)
     → AndRule d.elements a b x u y → Within d.elements.board.size (stones_of d.elements.board d.elements.player) → IsCell d.elements u k
     → IsEntry entry Semi x y (with_cell (both_of a b) k) cause → GivesAnd d i j entry
 cell_gives d i j a b entry x u y k cause s h g r on f n = gives_one d i j a b entry x u y s h g r (cell_of_and d.elements a b entry x u y k cause on f n)
-
-pub no_and : (d : StoreData) (i j : ℕ) (a b : Entry) → slice_get d.entries i ≡ Some a → slice_get d.entries j ≡ Some b
-    → ((x u y : ℕ) → AndRule d.elements a b x u y → ⊥) → CanAnd d i j → ⊥
-no_and d i j a b h g f (p, q, x, u, y, at, r) =
-    let t = two_at d.entries i j p q at in
-    let e : p ≡ a = same_Some p a (sym t.0 ∙ h) in
-    let z : q ≡ b = same_Some q b (sym t.1 ∙ g) in
-    f x u y (subst (λ v. AndRule d.elements a v x u y) z (subst (λ v. AndRule d.elements v q x u y) e r))
 
 -- ---- OR
 

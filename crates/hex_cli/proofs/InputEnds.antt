@@ -1,19 +1,16 @@
 -- What follows of how a mode ends that takes its whole input.
-use Rattle.std.proofs.Common.{Ok, Err, Result, Bool, true, false, List, [], Some, None, ◌≡◌, ◌≢◌, ℕ, ◌+◌, ◌≤◌, ◌<◌, ◌⊎◌, ◌++◌, length, drop, Option, refl, ap, sym, ◌∙◌, inl, inr, arith, subst}
+use Rattle.std.proofs.Common.{Ok, Err, Result, Bool, true, false, List, [], ◌≡◌, ◌≢◌, ℕ, ◌+◌, ◌≤◌, ◌⊎◌, ◌++◌, length, drop, Option, refl, ap, sym, ◌∙◌, inl, inr, arith, subst}
 use Rattle.std.specs.Prelude.{◌↔◌}
 use Rattle.std.proofs.Math.Seq.{drop-append_seam}
-use Rattle.hex_io.specs.Causes.{CountsFault}
 use Rattle.hex_io.specs.Told.{Told, Both}
 use Rattle.hex_io.proofs.BothLaws.{Both-weaker}
-use Rattle.htp_session.specs.Devices.{stop_of}
 use Rattle.htp_session.specs.Endings.{since}
-use Rattle.htp_session.specs.Inputs.{TextOf, TookBytes, TookAtMost, TookTooMany, AnsweredAll, AnsweredPart, AnswersInput}
+use Rattle.htp_session.specs.Inputs.{TextOf, TookAtMost, AnsweredAll, AnsweredPart, AnswersInput}
 use Rattle.htp_session.specs.declared.stops.Stop.{Stop}
 use Rattle.htp_session.specs.declared.stops.Stop.TheVariants.{ReadFault, WriteFault, Memory, TooLong, ArchiveFault}
 use Rattle.htp_session.proofs.InputLaws.{took_at_most, took_nothing}
-use Rattle.hex_cli.specs.Statuses.{end_of_answer, status_of, stop_in}
-use Rattle.hex_cli.specs.declared.ends.End.{End}
-use Rattle.hex_cli.specs.declared.ends.End.TheVariants.{Done, Rejected, Usage, Stopped}
+use Rattle.hex_cli.specs.Statuses.{end_of_answer, status_of}
+use Rattle.hex_cli.specs.declared.ends.End.TheVariants.{Usage, Stopped}
 
 taken_since : (o n : Told) (bytes : List ℕ) → n.taken ≡ o.taken ++ bytes → since o n ≡ bytes
 taken_since o n bytes e = ap (drop (length o.taken)) e ∙ drop-append_seam o.taken bytes
@@ -58,12 +55,6 @@ pub input_no_usage : (answer : Result Bool Stop) → end_of_answer answer ≢ Us
 input_no_usage (Ok true) e = absurd (cc)
 input_no_usage (Ok false) e = absurd (cc)
 input_no_usage (Err stop) e = absurd (cc)
-
--- why its answer stopped is why its run did
-pub stop_in_answer : (answer : Result Bool Stop) → stop_in (end_of_answer answer) ≡ stop_of answer
-stop_in_answer (Ok true) = refl
-stop_in_answer (Ok false) = refl
-stop_in_answer (Err stop) = refl
 
 -- before the first read nothing was taken
 pub input_nothing : (Answers : TextOf) (limit : ℕ) (x : Option Told) → AnswersInput Answers x x limit (Err Memory)

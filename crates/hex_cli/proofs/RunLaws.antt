@@ -1,17 +1,13 @@
 -- The statuses, and what follows of them.
-use Rattle.std.proofs.Common.{Ok, Err, Result, List, Some, None, ◌≡◌, ◌≢◌, ℕ, ◌+◌, ◌≤◌, ◌⊎◌, ◌==◌, if◌then◌else◌, length, Option, refl, ap, sym, ◌∙◌, inl, inr, arith}
+use Rattle.std.proofs.Common.{Ok, Err, ◌≡◌, ◌≢◌, ℕ, ◌+◌, ◌≤◌, ◌⊎◌, ◌==◌, if◌then◌else◌, length, Option, refl, ap, sym, ◌∙◌, inl, inr, arith}
 use Rattle.std.specs.Prelude.{◌↔◌}
-use Rattle.hex_io.specs.Causes.{CountsFault}
 use Rattle.hex_io.specs.Told.{Told, Both}
-use Rattle.hex_io.specs.Shelves.{Shelved}
-use Rattle.hex_plan.specs.Turns.{Decision}
 use Rattle.hex_io.proofs.BothLaws.{Both-weaker}
 use Rattle.hex_engine.specs.declared.options.Options.{Options}
 use Rattle.htp_session.specs.Stocks.{ShelfAndArchive}
 use Rattle.htp_session.specs.Endings.{Outcome, Conversed, since}
-use Rattle.htp_session.specs.declared.stops.Stop.{Stop}
 use Rattle.htp_session.specs.declared.stops.Stop.TheVariants.{ReadFault, WriteFault, Memory, TooLong, ArchiveFault}
-use Rattle.hex_cli.specs.Statuses.{HasStopped, end_for, status_of, stop_in}
+use Rattle.hex_cli.specs.Statuses.{end_for, status_of, stop_in}
 use Rattle.hex_cli.specs.Modes.{PlayedTo}
 use Rattle.htp_session.specs.Devices.{stop_of}
 use Rattle.hex_cli.specs.declared.ends.End.{End}
@@ -34,20 +30,6 @@ end_of_status (Stopped ArchiveFault) = refl
 -- each status is that of one end
 pub same_end : (a b : End) → status_of a ≡ status_of b → a ≡ b
 same_end a b e = sym (end_of_status a) ∙ ap end_numbered e ∙ end_of_status b
-
-stopped_by : (end : End) (stop : Stop) → stop_in end ≡ Some stop → end ≡ Stopped stop
-stopped_by Done stop e = absurd (cc)
-stopped_by Rejected stop e = absurd (cc)
-stopped_by Usage stop e = absurd (cc)
-stopped_by (Stopped other) stop e = cc
-
--- a count that rises with one stop rises with its status
-pub status_counts : (before now : ℕ) (end : End) (stop : Stop) (status : ℕ) → status ≡ status_of end → CountsFault before now (stop_in end ≡ Some stop) → CountsFault before now (HasStopped status stop)
-status_counts before now end stop status e c = record {
-  later = c.later;
-  rose = λ s. c.rose (ap stop_in (same_end end (Stopped stop) (sym e ∙ s)));
-  kept = λ n. c.kept (λ s. n (e ∙ ap status_of (stopped_by end stop s)));
-}
 
 -- without a fault and within the limit a session is done, or memory ran out
 pub complete_at : (end : End) (options : Options) (size limit : ℕ) (a b : ShelfAndArchive) (x y : Option Told) → PlayedTo end options size limit a b x y → end ≢ Stopped ReadFault → end ≢ Stopped WriteFault → end ≢ Stopped ArchiveFault

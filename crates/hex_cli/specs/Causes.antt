@@ -28,20 +28,20 @@ CountsTurns a old new Fault = CountsFault (a.faults old) (a.faults new) Fault
 
 -- with well-formed words the input is too long exactly where one byte more than the limit was taken
 abbrev pub IsTooLong : {L : Type 0} → links.Ghosts L → List (List ℕ) → ℕ → L → L → Type 0
-IsTooLong l words status link link_now = (options : Options) → WellFormed words options
-    → Both (l.told link) (l.told link_now) (λ old new.
-    (status ≡ status_of (Stopped TooLong)) ↔ (length (since old new) ≡ INPUT_LIMIT + 1))
+IsTooLong l words status old new = (options : Options) → WellFormed words options
+    → Both (l.told old) (l.told new) (λ before now.
+    (status ≡ status_of (Stopped TooLong)) ↔ (length (since before now) ≡ INPUT_LIMIT + 1))
 
 -- with well-formed words, where no count of faults rose and at most the limit was taken, the run is
 -- done, its input is rejected, or memory ran out
 abbrev pub Completes : {L A : Type 0} → links.Ghosts L → archives.Ghosts A → List (List ℕ) → ℕ
-    → L → L → A → A → Type 0
-Completes l a words status link link_now archive archive_now =
+    → L × A → L × A → Type 0
+Completes l a words status old new =
     (options : Options) → WellFormed words options
-    → ¬ Rose (l.read_faults link) (l.read_faults link_now)
-    → ¬ Rose (l.write_faults link) (l.write_faults link_now)
-    → ¬ Rose (a.faults archive) (a.faults archive_now)
-    → Both (l.told link) (l.told link_now) (λ old new. length (since old new) ≤ INPUT_LIMIT
+    → ¬ Rose (l.read_faults old.0) (l.read_faults new.0)
+    → ¬ Rose (l.write_faults old.0) (l.write_faults new.0)
+    → ¬ Rose (a.faults old.1) (a.faults new.1)
+    → Both (l.told old.0) (l.told new.0) (λ before now. length (since before now) ≤ INPUT_LIMIT
     → (status ≡ status_of Done) ⊎ (status ≡ status_of Rejected)
     ⊎ (status ≡ status_of (Stopped Memory)))
 

@@ -30,22 +30,60 @@ AreWellFormed words = (options : Options) × WellFormed words options
 abbrev pub AreRefused : List (List ℕ) → Type 0
 AreRefused words = (options : Options) → ¬ WellFormed words options
 
--- the modes that may fetch files
-abbrev pub may_fetch : Mode → Bool
-may_fetch Htp = true
-may_fetch _ = false
+-- the status is neither that of a usage nor that of want of memory
+abbrev pub IsServed : ℕ → Type 0
+IsServed status = (status ≢ status_of Usage) × (status ≢ status_of (Stopped Memory))
 
--- the modes that may hand over turns
-abbrev pub may_archive : Mode → Bool
-may_archive Check = false
-may_archive Migrate = false
-may_archive Audit = false
-may_archive _ = true
+-- the status is that of a usage or that of want of memory
+abbrev pub IsRefusal : ℕ → Type 0
+IsRefusal status = (status ≡ status_of Usage) ⊎ (status ≡ status_of (Stopped Memory))
 
--- whatever options make the words well formed in this mode, this holds
+-- ---- the modes
+
+-- whatever options the words say, where they say this mode, this holds of the options
 abbrev pub InMode : Mode → List (List ℕ) → (Options → Type 0) → Type 0
 InMode mode words Holds =
     (options : Options) → WellFormed words options → options.mode ≡ mode → Holds options
+
+-- Mode htp: the session, held over a link, a shelf and an archive, came to the end that has this
+-- status.
+abbrev pub PlaysBy : {L F A : Type 0} → links.Ghosts L → shelves.Ghosts F → archives.Ghosts A
+    → List (List ℕ) → ℕ → L × F × A → L × F × A → Type 0
+PlaysBy l f a words status old new = (end : End) → status ≡ status_of end → InMode Htp words
+    (λ options. PlayedTo end (engine_options options) options.size INPUT_LIMIT
+    (f.told old.1, a.told old.2) (f.told new.1, a.told new.2) (l.told old.0) (l.told new.0))
+
+-- Mode htp, where the run is done: each generated move.
+abbrev pub HasHeadline : {L A : Type 0} → links.Ghosts L → archives.Ghosts A → List (List ℕ) → ℕ
+    → L × A → L × A → Type 0
+HasHeadline l a words status old new = InMode Htp words
+    (λ options. status ≡ status_of Done → Both (a.told old.1) (a.told new.1)
+    (λ turns turns_now. Both (l.told old.0) (l.told new.0)
+    (Headline (engine_options options) options.size turns turns_now)))
+
+-- Mode htp, where the run is done: with one worker the words, the bytes taken and the shelf
+-- determine what was given.
+abbrev pub Determines : {L F : Type 0} → links.Ghosts L → shelves.Ghosts F → List (List ℕ) → ℕ
+    → L × F → L × F → Type 0
+Determines l f words status old new = InMode Htp words
+    (λ options. status ≡ status_of Done → Both (f.told old.1) (f.told new.1)
+    (λ files files_now. Both (l.told old.0) (l.told new.0)
+    (IsDetermined (engine_options options) options.size files files_now)))
+
+-- A mode that takes its whole input answered it by such texts, to the end that has this status.
+abbrev pub AnswersBy : {L : Type 0} → links.Ghosts L → Mode → TextOf → List (List ℕ) → ℕ
+    → L → L → Type 0
+AnswersBy l mode Answers words status old new = (end : End) → status ≡ status_of end
+    → InMode mode words (λ options. AnsweredTo Answers end (l.told old) (l.told new))
+
+-- Modes sim and bench: a turn with its text was handed in, to the end that has this status.
+abbrev pub HandsInBy : {L A : Type 0} → links.Ghosts L → archives.Ghosts A → Mode
+    → (ModeOptions → Decision → List ℕ → Type 0) → List (List ℕ) → ℕ → L × A → L × A → Type 0
+HandsInBy l a mode IsAnswer words status old new = (end : End) → status ≡ status_of end
+    → InMode mode words (λ options. HandedInTo (IsAnswer (mode_options options)) end
+    (l.told old.0, a.told old.1) (l.told new.0, a.told new.1))
+
+-- ---- what is left as it was
 
 -- the link was not read or written: it tells the same and has counted no fault
 pub record Untouched {L : Type 0} (l : links.Ghosts L) (old new : L) : Type 0 where
@@ -63,60 +101,24 @@ pub record IsIdleArchive {A : Type 0} (a : archives.Ghosts A) (old new : A) : Ty
   pub told : a.told new ≡ a.told old
   pub faults : a.faults new ≡ a.faults old
 
--- no usage, and no want of memory
-abbrev pub IsServed : ℕ → Type 0
-IsServed status = (status ≢ status_of Usage) × (status ≢ status_of (Stopped Memory))
+-- the modes that may fetch files
+abbrev pub may_fetch : Mode → Bool
+may_fetch Htp = true
+may_fetch _ = false
 
--- a usage, or want of memory
-abbrev pub IsRefusal : ℕ → Type 0
-IsRefusal status = (status ≡ status_of Usage) ⊎ (status ≡ status_of (Stopped Memory))
+-- the modes that may hand over turns
+abbrev pub may_archive : Mode → Bool
+may_archive Check = false
+may_archive Migrate = false
+may_archive Audit = false
+may_archive _ = true
 
--- ---- the modes
-
--- Mode htp: the session, held over a link, a shelf and an archive, came to every end of this
--- status.
-abbrev pub PlaysBy : {L F A : Type 0} → links.Ghosts L → shelves.Ghosts F → archives.Ghosts A
-    → List (List ℕ) → ℕ → L × F × A → L × F × A → Type 0
-PlaysBy l f a words status old new = (end : End) → status ≡ status_of end → InMode Htp words
-    (λ options. PlayedTo end (engine_options options) options.size INPUT_LIMIT
-    (f.told old.1, a.told old.2) (f.told new.1, a.told new.2) (l.told old.0) (l.told new.0))
-
--- A mode that takes its whole input answered it by such texts, to every end of this status.
-abbrev pub AnswersBy : {L : Type 0} → links.Ghosts L → Mode → TextOf → List (List ℕ) → ℕ
-    → L → L → Type 0
-AnswersBy l mode Answers words status link link_now = (end : End) → status ≡ status_of end
-    → InMode mode words (λ options. AnsweredTo Answers end (l.told link) (l.told link_now))
-
--- Modes sim and bench: a turn with its text was handed in, to every end of this status.
-abbrev pub HandsInBy : {L A : Type 0} → links.Ghosts L → archives.Ghosts A → Mode
-    → (ModeOptions → Decision → List ℕ → Type 0) → List (List ℕ) → ℕ → L × A → L × A → Type 0
-HandsInBy l a mode IsAnswer words status old new = (end : End) → status ≡ status_of end
-    → InMode mode words (λ options. HandedInTo (IsAnswer (mode_options options)) end
-    (l.told old.0, a.told old.1) (l.told new.0, a.told new.1))
-
--- the shelf stands idle in each mode but htp
+-- the shelf is idle in each mode but htp
 abbrev pub HasIdleShelf : {F : Type 0} → shelves.Ghosts F → List (List ℕ) → F → F → Type 0
 HasIdleShelf f words old new = (options : Options) → WellFormed words options
     → may_fetch options.mode ≡ false → IsIdleShelf f old new
 
--- the archive stands idle in each mode that takes its whole input
+-- the archive is idle in each mode that takes its whole input
 abbrev pub HasIdleArchive : {A : Type 0} → archives.Ghosts A → List (List ℕ) → A → A → Type 0
 HasIdleArchive a words old new = (options : Options) → WellFormed words options
     → may_archive options.mode ≡ false → IsIdleArchive a old new
-
--- Mode htp, where the run is done: each generated move.
-abbrev pub HasHeadline : {L A : Type 0} → links.Ghosts L → archives.Ghosts A → List (List ℕ) → ℕ
-    → L → L → A → A → Type 0
-HasHeadline l a words status link link_now archive archive_now = InMode Htp words
-    (λ options. status ≡ status_of Done → Both (a.told archive) (a.told archive_now)
-    (λ turns turns_now. Both (l.told link) (l.told link_now)
-    (Headline (engine_options options) options.size turns turns_now)))
-
--- Mode htp, where the run is done: with one worker the words, the bytes taken and the shelf
--- determine what was given.
-abbrev pub Determines : {L F : Type 0} → links.Ghosts L → shelves.Ghosts F → List (List ℕ) → ℕ
-    → L → L → F → F → Type 0
-Determines l f words status link link_now shelf shelf_now = InMode Htp words
-    (λ options. status ≡ status_of Done → Both (f.told shelf) (f.told shelf_now)
-    (λ files files_now. Both (l.told link) (l.told link_now)
-    (IsDetermined (engine_options options) options.size files files_now)))

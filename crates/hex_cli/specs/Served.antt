@@ -8,7 +8,7 @@ use Rattle.hexd_words.specs.declared.settings.Mode.TheVariants.{Htp, Check, Migr
 use Rattle.hexd_words.specs.declared.settings.Mode.TheVariants.{Sim, Bench}
 use Rattle.hex_plan.specs.Turns.{Decision}
 use Rattle.turn_modes.specs.OneTurn.{IsBenchmark, IsSimulation}
-use Rattle.htp_session.specs.Devices.{DevicesState, stock}
+use Rattle.htp_session.specs.Devices.{DevicesState, stock, link_and_archive}
 use Rattle.htp_session.specs.Inputs.{TextOf}
 use Rattle.hex_cli.specs.AuditTexts.{IsAuditText}
 use Rattle.hex_cli.specs.CertTexts.{IsCheckText, IsMigrateText}
@@ -36,7 +36,7 @@ pub record AnswersTo (Answers : TextOf) (end : End) (old new : DevicesState) : T
 -- a turn with its text was handed in, to this end
 pub record HandsInTo (IsAnswer : Decision → List ℕ → Type 0) (end : End)
     (old new : DevicesState) : Type 0 where
-  pub handed : HandedInTo IsAnswer end (old.link, old.turns) (new.link, new.turns)
+  pub handed : HandedInTo IsAnswer end (link_and_archive old) (link_and_archive new)
   pub shelf : new.shelf ≡ old.shelf
   pub fetches : new.fetch_faults ≡ old.fetch_faults
 

@@ -33,7 +33,7 @@ pub fn simulate<L: Link, F: Shelf, A: Archive, R: Threads + Sync, G: Gate + Sync
     ensures counts { CountsStop devices.old devices.new (stop_in result) }
 {
     let told = mode_options(options);
-    let outcome = simulation(alloc, &told, &mut *devices.link, &mut *devices.archive);
+    let outcome = simulation(alloc, &told, devices);
     End::of(outcome)
 }
 
@@ -50,14 +50,7 @@ pub fn bench<L: Link, F: Shelf, A: Archive, R: Threads + Sync, G: Gate + Sync>(
     ensures counts { CountsStop devices.old devices.new (stop_in result) }
 {
     let told = mode_options(options);
-    let outcome = benchmark(
-        devices.rt,
-        alloc,
-        &told,
-        &mut *devices.link,
-        &mut *devices.archive,
-        devices.gate,
-    );
+    let outcome = benchmark(alloc, &told, devices);
     End::of(outcome)
 }
 

@@ -47,15 +47,20 @@ use std::thread::Threads;
 /// | 6 | exactly where one byte more than the limit was taken | `hexd: input too long` |
 /// | 7 | only where the archive failed | `hexd: archive fault` |
 ///
-/// The limit is [`INPUT_LIMIT`](crate::INPUT_LIMIT). What was given then, in `htp`: with 3 the
-/// answers to all whole lines taken, with 4 a front of the answers, with 5 those to the first
-/// lines, which used up all that was used up, with 6 those to the whole lines up to the limit, and
-/// with 7 those to all lines before the `genmove` that met it. In each other mode nothing with 3,
-/// 5, 6 and 7, and a front of its text with 4.
+/// The limit is [`INPUT_LIMIT`](crate::INPUT_LIMIT). Where a session of `htp` stopped early, it had
+/// given
 ///
-/// What fails first ends the run: with every status but 3 the link's count of read faults is as
-/// before, with every one but 4 its count of write faults, with every one but 7 the archive's. A
-/// fault of the errors changes nothing of the status. Status 5 may come in place of any other.
+/// - with 3, the answers to all whole lines taken;
+/// - with 4, a front of the answers;
+/// - with 5, the answers to the first lines, which used up all that was used up;
+/// - with 6, the answers to the whole lines up to the limit;
+/// - with 7, the answers to all lines before the `genmove` whose turn the archive didn't take.
+///
+/// Each other mode had then given a front of its text with 4, and nothing with 3, 5, 6 and 7.
+///
+/// What fails first ends the run: the link's count of read faults rose exactly with 3, its count of
+/// write faults exactly with 4, and the archive's count of faults exactly with 7. A fault of the
+/// errors changes nothing of the status. Status 5 may come in place of any other.
 pub fn run<R: Threads + Sync, L: Link, E: Link, F: Shelf, A: Archive, G: Gate + Sync>(
     rt: &R,
     alloc: Global,
@@ -76,15 +81,15 @@ pub fn run<R: Threads + Sync, L: Link, E: Link, F: Shelf, A: Archive, G: Gate + 
     ensures unfetched { AreRefused words.now → IsIdleShelf F.Shelf shelf.old shelf.new }
     ensures unarchived { AreRefused words.now → IsIdleArchive A.Archive archive.old archive.new }
 
-    // Mode htp: what was taken and given, and when, where the link tells it; and what was used up
-    // from the shelf and for the archive. Then each generated move; and that with one worker and
-    // without connections all is determined.
+    // Mode htp: what was taken and given, and when, where the link tells it, and what was used up
+    // from the shelf and for the archive; then each generated move; and then that one worker who
+    // looks for no connections gives what the words, the input and the shelf determine.
     ensures conversed { PlaysBy L.Link F.Shelf A.Archive words.now result
         (link.old, shelf.old, archive.old) (link.new, shelf.new, archive.new) }
     ensures headline { HasHeadline L.Link A.Archive words.now result
-        link.old link.new archive.old archive.new }
+        (link.old, archive.old) (link.new, archive.new) }
     ensures determined { Determines L.Link F.Shelf words.now result
-        link.old link.new shelf.old shelf.new }
+        (link.old, shelf.old) (link.new, shelf.new) }
 
     // Modes check, migrate and audit: the whole input was taken, and its text given; the status
     // says whether it was accepted.
@@ -98,12 +103,11 @@ pub fn run<R: Threads + Sync, L: Link, E: Link, F: Shelf, A: Archive, G: Gate + 
     ensures benchmarked { HandsInBy L.Link A.Archive Bench IsBenchmark words.now result
         (link.old, archive.old) (link.new, archive.new) }
 
-    // What stands idle: the shelf in each mode but htp, the archive in check, migrate and audit.
+    // What is idle: the shelf in each mode but htp, the archive in check, migrate and audit.
     ensures idle_shelf { HasIdleShelf F.Shelf words.now shelf.old shelf.new }
     ensures idle_archive { HasIdleArchive A.Archive words.now archive.old archive.new }
 
-    // The causes. What fails first ends the run: a count rose with its own status, and is as before
-    // with every other.
+    // The causes. Each count of faults rose with its own status, and is as before with every other.
     ensures read_fault { CountsReads L.Link link.old link.new
         (HasStopped result ReadFault) }
     ensures write_fault { CountsWrites L.Link link.old link.new
@@ -112,7 +116,7 @@ pub fn run<R: Threads + Sync, L: Link, E: Link, F: Shelf, A: Archive, G: Gate + 
         (HasStopped result ArchiveFault) }
     ensures too_long { IsTooLong L.Link words.now result link.old link.new }
     ensures complete { Completes L.Link A.Archive words.now result
-        link.old link.new archive.old archive.new }
+        (link.old, archive.old) (link.new, archive.new) }
 
     // The line for the errors.
     ensures errors { Reports E.Link result errors.old errors.new }

@@ -19,9 +19,6 @@ use Rattle.hsearch.specs.Taken.{Extends, IsOrSettled, IsCombined, IsAndSettled, 
 
 -- ---- more entries
 
-pub grown : (d f : StoreData) (more : List Entry) → f.elements ≡ d.elements → f.entries ≡ d.entries ++ more → Extends d f
-grown d f more e g = record { elements = e; entries = (more, g) }
-
 pub grown_none : (d : StoreData) → Extends d d
 grown_none d = record { elements = refl; entries = ([], sym (append-nil d.entries)) }
 

@@ -7,29 +7,23 @@ use Rattle.tree_words.specs.Blocks.{LinkedBlock}
 use Rattle.tree_words.specs.Told.{Knows}
 use Rattle.tree_words.specs.Opening.{opening_words}
 use Rattle.tree_words.specs.declared.steps.Op.{Op}
-use Rattle.tree_words.proofs.NewBlocks.OpeningTold.{opening-are}
 use Rattle.arena_rule.specs.Views.{SeatView, opening_view}
 use Rattle.arena_rule.specs.Fits.{FitsStep}
 use Rattle.arena_rule.specs.Afters.{word_of, put, answer_of, after}
 use Rattle.arena_rule.specs.Parts.{AreLinked}
 use Rattle.arena_rule.specs.Rule.{IsState, words_after}
-use Rattle.arena_rule.proofs.Before.{Before, AreFirst, blocks_after, opening_blocks}
+use Rattle.arena_rule.proofs.Before.{Before, blocks_after, opening_blocks}
 use Rattle.arena_rule.proofs.Apart.{fresh-step, apart-step, held-step}
 use Rattle.arena_rule.proofs.SumsLaw.{sums-step}
-use Rattle.arena_rule.proofs.SeatsCounts.{sums-first}
 use Rattle.arena_rule.proofs.Linking.{linked-step, known-step}
-use Rattle.arena_rule.proofs.Opening.{fresh-first, apart-first, linked-first, held-first, known-first}
 use Rattle.arena_rule.proofs.Widths.{widths-step}
 use Rattle.arena_rule.proofs.Tickets.{tickets-step}
 use Rattle.arena_rule.proofs.InHand.{in_hand-step}
-use Rattle.arena_rule.proofs.Sole.{sole-step, sole-first}
-use Rattle.arena_rule.proofs.SeatsNumbers.{widths-first, tickets-first, in_hand-first}
+use Rattle.arena_rule.proofs.Sole.{sole-step}
 use Rattle.arena_rule.proofs.Loaded.{loaded-step}
 use Rattle.arena_rule.proofs.FirstVisits.{visits-step}
 use Rattle.arena_rule.proofs.LeafBound.{leaf-step}
-use Rattle.arena_rule.proofs.SeatsGrowth.{loaded-first, visits-first, leaf-first}
 use Rattle.arena_rule.proofs.Room.{room-step}
-use Rattle.arena_rule.proofs.SeatsRoom.{room-first}
 use Rattle.arena_rule.proofs.Firsts.{opening-first}
 use Rattle.arena_rule.proofs.Law.{state-first}
 

@@ -1,7 +1,6 @@
 -- A schedule without a stray number.
 use Rattle.std.proofs.Common.{◌≡◌, ℕ, ◌<◌, ◌≤◌, Bool, true, false, cond, List, length, get_or, ltb, Some, None, refl, All, arith}
 use Rattle.std.specs.List.{position_or_len}
-use Rattle.std.specs.Prelude.{nat_le}
 use Rattle.std.proofs.lemmas.List.Sums.{fails_before_first}
 use Rattle.tree_words.specs.Settings.{Setting}
 use Rattle.sim_run.specs.Schedules.{is_stray, first_stray}

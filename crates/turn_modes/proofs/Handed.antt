@@ -1,7 +1,6 @@
--- A turn and its text that were handed over, or were not made.
-use Rattle.std.proofs.Common.{◌≡◌, ℕ, List, Ok, Err, Result, refl}
-use Rattle.hex_io.specs.Told.{Same}
-use Rattle.hex_io.proofs.BothLaws.{Both-refl}
+-- A turn that was handed over with its text.
+use Rattle.std.proofs.Common.{◌≡◌, ℕ, List, Option, Ok, Err, Result}
+use Rattle.hex_io.specs.Told.{Told}
 use Rattle.hex_plan.specs.Turns.{Decision}
 use Rattle.htp_session.specs.Handing.{LinkAndArchive, HandsOver}
 use Rattle.htp_session.specs.declared.stops.Stop.{Stop}
@@ -16,6 +15,7 @@ handed Says old new turn text (Err Memory) a h = absurd h
 handed Says old new turn text (Err TooLong) a h = h
 handed Says old new turn text (Err ArchiveFault) a h = h
 
--- nothing was done
-pub nothing_done : (both : LinkAndArchive) → Same both.0 both.0 × Same both.1 both.1
-nothing_done both = (Both-refl both.0 (λ o n. n ≡ o) (λ x. refl), Both-refl both.1 (λ o n. n ≡ o) (λ x. refl))
+-- the same, where the link and the archive tell what devices tell
+pub handed_as : (Says : Decision → List ℕ → Type 0) (x y link link_now : Option Told) (a b turns turns_now : Option (List Decision)) (turn : Decision) (text : List ℕ) (result : Result (Unit {0}) Stop)
+    → x ≡ link → a ≡ turns → y ≡ link_now → b ≡ turns_now → Says turn text → HandsOver (x, a) (y, b) turn text result → HandsIn Says (link, turns) (link_now, turns_now) result
+handed_as Says x y link link_now a b turns turns_now turn text result p q r s says h = rw (← p, ← q, ← r, ← s) (handed Says (x, a) (y, b) turn text result says h)

@@ -4,12 +4,12 @@
 //! cells ([`bench_position`]). The *schedule* of sim says which simulated worker makes each step.
 //! Both are drawn from the seed. What a mode is told are its [`ModeOptions`].
 //!
-//! **A caller** calls [`simulation`] or [`benchmark`] with a link and an archive. The turn is
+//! **A caller** calls [`simulation`] or [`benchmark`] with the devices of a session. The turn is
 //! searched and its text made; then the archive takes the turn, and the link the text:
 //!
 //! ```text
-//! let outcome = simulation(alloc, &options, &mut link, &mut archive);
-//! let outcome = benchmark(&rt, alloc, &options, &mut link, &mut archive, &OpenGate);
+//! let outcome = simulation(alloc, &options, &mut devices);
+//! let outcome = benchmark(alloc, &options, &mut devices);
 //! ```
 //!
 //! **What is proved**, in the words of specs/OneTurn.antt and specs/HandingIn.antt: after success
@@ -19,7 +19,8 @@
 //! are the longest front of a third of the shuffled cells of which none joins its player. The text
 //! is that of the turn. In bench, and in sim with one worker, the options determine it. At a write
 //! fault a front of it was given; at an archive fault or for want of memory nothing was, and the
-//! archive has the same turns. Counts of faults rise exactly with their stops, and nothing is read.
+//! archive has the same turns. Counts of faults rise exactly with their stops, and nothing is read
+//! or fetched.
 //!
 //! **What is only tested, or not said.** That workers of bench run side by side. That memory
 //! suffices. That with several workers sim gives one text for the same options.

@@ -2,16 +2,16 @@
 
 ghost use Rattle.std.specs.Prelude.{◌≡◌};
 ghost use Rattle.tree_words.specs.Settings.{AreInRange};
-ghost use Rattle.htp_session.specs.Devices.{RisesWith};
+ghost use Rattle.htp_session.specs.Devices.{CountsFaults, link_and_archive};
 ghost use Rattle.turn_modes.specs.HandingIn.{IsBenchmarked, IsSimulated};
 
 use super::options::ModeOptions;
 use super::positions::bench_position;
 use super::searches::{benchmarked_turn, simulated_turn};
 use super::texts::{bench_text, sim_text};
-use hex_io::Link;
+use hex_io::{Link, Shelf};
 use hex_plan::Archive;
-use htp_session::{Stop, hand_over};
+use htp_session::{Devices, Stop, hand_over};
 use search_team::Gate;
 use std::alloc::Global;
 use std::thread::Threads;
@@ -20,21 +20,20 @@ use std::thread::Threads;
 /// schedule is drawn from the seed, and hands in the turn and then its text.
 ///
 /// `ArchiveFault` and `WriteFault` come only where the archive or the link counted that fault. It
-/// refuses nothing else but for want of memory, before the turn is handed in, and reads nothing.
-pub fn simulation<L: Link, A: Archive>(
+/// refuses nothing else but for want of memory, before the turn is handed in. It reads nothing, and
+/// fetches nothing from the shelf.
+pub fn simulation<L: Link, F: Shelf, A: Archive, R: Threads + Sync, G: Gate + Sync>(
     alloc: Global,
     options: &ModeOptions,
-    link: &mut L,
-    archive: &mut A,
+    devices: &mut Devices<'_, '_, '_, '_, L, F, A, R, G>,
 ) -> Result<(), Stop>
     requires { AreInRange options.now.knobs }
-    ensures simulated { IsSimulated options.now (L.told link.old, A.told archive.old)
-        (L.told link.new, A.told archive.new) result }
-    ensures write_fault { RisesWith Stop.WriteFault
-        (L.write_faults link.old) (L.write_faults link.new) result }
-    ensures archive_fault { RisesWith Stop.ArchiveFault
-        (A.faults archive.old) (A.faults archive.new) result }
-    ensures reads { L.read_faults link.new ≡ L.read_faults link.old }
+    ensures simulated { IsSimulated options.now
+        (link_and_archive devices.old) (link_and_archive devices.new) result }
+    ensures reads { devices.new.read_faults ≡ devices.old.read_faults }
+    ensures shelf { devices.new.shelf ≡ devices.old.shelf }
+    ensures fetches { devices.new.fetch_faults ≡ devices.old.fetch_faults }
+    ensures counts { CountsFaults devices.old devices.new result }
 {
     let Ok(turn) = simulated_turn(alloc, options) else {
         return Err(Stop::Memory);
@@ -42,37 +41,35 @@ pub fn simulation<L: Link, A: Archive>(
     let Ok(text) = sim_text(alloc, &turn) else {
         return Err(Stop::Memory);
     };
-    hand_over(link, archive, turn, &text)
+    hand_over(&mut *devices.link, &mut *devices.archive, turn, &text)
 }
 
 /// Mode bench: searches the position that the seed and the size make by a team of workers, and
 /// hands in the turn and then its text.
 ///
 /// `ArchiveFault` and `WriteFault` come only where the archive or the link counted that fault. It
-/// refuses nothing else but for want of memory, before the turn is handed in, and reads nothing.
-pub fn benchmark<R: Threads + Sync, L: Link, A: Archive, G: Gate + Sync>(
-    rt: &R,
+/// refuses nothing else but for want of memory, before the turn is handed in. It reads nothing, and
+/// fetches nothing from the shelf.
+pub fn benchmark<L: Link, F: Shelf, A: Archive, R: Threads + Sync, G: Gate + Sync>(
     alloc: Global,
     options: &ModeOptions,
-    link: &mut L,
-    archive: &mut A,
-    gate: &G,
+    devices: &mut Devices<'_, '_, '_, '_, L, F, A, R, G>,
 ) -> Result<(), Stop>
     requires { AreInRange options.now.knobs }
-    ensures benchmarked { IsBenchmarked options.now (L.told link.old, A.told archive.old)
-        (L.told link.new, A.told archive.new) result }
-    ensures write_fault { RisesWith Stop.WriteFault
-        (L.write_faults link.old) (L.write_faults link.new) result }
-    ensures archive_fault { RisesWith Stop.ArchiveFault
-        (A.faults archive.old) (A.faults archive.new) result }
-    ensures reads { L.read_faults link.new ≡ L.read_faults link.old }
+    ensures benchmarked { IsBenchmarked options.now
+        (link_and_archive devices.old) (link_and_archive devices.new) result }
+    ensures reads { devices.new.read_faults ≡ devices.old.read_faults }
+    ensures shelf { devices.new.shelf ≡ devices.old.shelf }
+    ensures fetches { devices.new.fetch_faults ≡ devices.old.fetch_faults }
+    ensures counts { CountsFaults devices.old devices.new result }
 {
     let position = bench_position(options.size, options.knobs.seed);
-    let Ok(turn) = benchmarked_turn(rt, alloc, &position, &options.knobs, gate) else {
+    let Ok(turn) = benchmarked_turn(devices.rt, alloc, &position, &options.knobs, devices.gate)
+    else {
         return Err(Stop::Memory);
     };
     let Ok(text) = bench_text(alloc, &options.knobs, position.stones, &turn) else {
         return Err(Stop::Memory);
     };
-    hand_over(link, archive, turn, &text)
+    hand_over(&mut *devices.link, &mut *devices.archive, turn, &text)
 }

@@ -8,8 +8,9 @@ use super::schedules::schedule;
 use super::searches::simulated_turn;
 use super::{ModeOptions, benchmark, simulation};
 use hex_cells::{Colour, Size};
-use hex_io::MemLink;
+use hex_io::{MemLink, MemShelf};
 use hex_plan::MemArchive;
+use htp_session::Devices;
 use search_team::{Gate, OpenGate, search};
 use seq_search::plain_search;
 use std::sync::atomic::{AtomicBool, Ordering};
@@ -121,11 +122,19 @@ fn runs(rt: HostRuntime) -> Result<(), Fail> {
         let options = options(size, workers, playouts, seed, expand).ok_or("options")?;
         let (reads, writes) = (Vec::new(alloc), Vec::new(alloc));
         let mut link = MemLink::make(alloc, Vec::new(alloc), 7, 1_000, 0, reads, writes)?;
+        let mut shelf = MemShelf::make(alloc, Vec::new(alloc), Vec::new(alloc))?;
         let mut archive = MemArchive::make(alloc, 1)?;
+        let mut devices = Devices {
+            link: &mut link,
+            shelf: &mut shelf,
+            archive: &mut archive,
+            rt: &rt,
+            gate: &OpenGate,
+        };
         let done = if sim {
-            simulation(alloc, &options, &mut link, &mut archive)
+            simulation(alloc, &options, &mut devices)
         } else {
-            benchmark(&rt, alloc, &options, &mut link, &mut archive, &OpenGate)
+            benchmark(alloc, &options, &mut devices)
         };
         assert_eq!(rt; done, Ok(()), "{text}");
         assert_eq!(rt; link.given(), text.as_bytes());
@@ -245,8 +254,16 @@ fn workers_of_bench_meet_at_the_gate(rt: HostRuntime) -> Result<(), Fail> {
     };
     let (reads, writes) = (Vec::new(alloc), Vec::new(alloc));
     let mut link = MemLink::make(alloc, Vec::new(alloc), 100, 1_000, 0, reads, writes)?;
+    let mut shelf = MemShelf::make(alloc, Vec::new(alloc), Vec::new(alloc))?;
     let mut archive = MemArchive::make(alloc, 1)?;
-    let done = benchmark(&rt, alloc, &options, &mut link, &mut archive, &gate);
+    let mut devices = Devices {
+        link: &mut link,
+        shelf: &mut shelf,
+        archive: &mut archive,
+        rt: &rt,
+        gate: &gate,
+    };
+    let done = benchmark(alloc, &options, &mut devices);
     assert_eq!(rt; done, Ok(()));
     assert!(rt; gate.first.load(Ordering::SeqCst) && gate.second.load(Ordering::SeqCst));
     assert!(rt; !gate.missed.load(Ordering::SeqCst));

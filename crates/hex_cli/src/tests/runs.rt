@@ -30,7 +30,7 @@ pub struct Case<'a> {
 }
 
 /// A run in which nothing fails.
-pub const fn ample<'a>(words: &'a str, input: &'a [u8]) -> Case<'a> {
+pub(super) const fn ample<'a>(words: &'a str, input: &'a [u8]) -> Case<'a> {
     Case {
         words,
         input,
@@ -54,7 +54,7 @@ pub struct Left {
 }
 
 /// The words of a line, with one space between two; an empty line has none.
-pub fn words_of(alloc: Global, line: &str) -> Result<Vec<Word>, Fail> {
+pub(super) fn words_of(alloc: Global, line: &str) -> Result<Vec<Word>, Fail> {
     let mut words = Vec::new(alloc);
     if line.is_empty() {
         return Ok(words);
@@ -74,7 +74,7 @@ fn number_list(alloc: Global, number: Option<u32>) -> Result<Vec<u32>, Fail> {
 }
 
 /// A link over this input.
-pub fn link_over(
+pub(super) fn link_over(
     alloc: Global,
     input: &[u8],
     piece: usize,
@@ -95,7 +95,11 @@ fn file_of(alloc: Global, name: &[u8], content: &[u8]) -> Result<File, Fail> {
 }
 
 /// The shelf, with this content of the file `f`.
-pub fn shelf_with(alloc: Global, file: &[u8], bad_fetch: Option<u32>) -> Result<MemShelf, Fail> {
+pub(super) fn shelf_with(
+    alloc: Global,
+    file: &[u8],
+    bad_fetch: Option<u32>,
+) -> Result<MemShelf, Fail> {
     let mut files = Vec::new(alloc);
     files.push(file_of(alloc, b"g.sgf", RECORD)?)?;
     files.push(file_of(alloc, b"h.sgf", RECORD.split_at(66).0)?)?;
@@ -104,7 +108,7 @@ pub fn shelf_with(alloc: Global, file: &[u8], bad_fetch: Option<u32>) -> Result<
 }
 
 /// The run of a case, with this gate.
-pub fn run_at<R: Threads + Sync + Alloc<A = Global>, G: Gate + Sync>(
+pub(super) fn run_at<R: Threads + Sync + Alloc<A = Global>, G: Gate + Sync>(
     rt: &R,
     case: &Case,
     gate: &G,
@@ -134,7 +138,10 @@ pub fn run_at<R: Threads + Sync + Alloc<A = Global>, G: Gate + Sync>(
 }
 
 /// The run of a case.
-pub fn run_of<R: Threads + Sync + Alloc<A = Global>>(rt: &R, case: &Case) -> Result<Left, Fail> {
+pub(super) fn run_of<R: Threads + Sync + Alloc<A = Global>>(
+    rt: &R,
+    case: &Case,
+) -> Result<Left, Fail> {
     run_at(rt, case, &OpenGate)
 }
 
@@ -151,7 +158,7 @@ fn line_of(status: u8) -> &'static [u8] {
 }
 
 /// The run of the case ends with this status and its line, and has given these bytes.
-pub fn check<R: Abort + Threads + Sync + Alloc<A = Global>>(
+pub(super) fn check<R: Abort + Threads + Sync + Alloc<A = Global>>(
     rt: &R,
     name: &str,
     case: &Case,

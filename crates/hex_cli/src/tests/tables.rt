@@ -7,7 +7,7 @@ use std::test::Fail;
 use std::thread::Threads;
 
 /// The bytes that a field of a table stands for: `~` is a line feed.
-pub fn bytes_of(alloc: Global, field: &str) -> Result<Vec<u8>, Fail> {
+pub(super) fn bytes_of(alloc: Global, field: &str) -> Result<Vec<u8>, Fail> {
     let mut bytes = Vec::new(alloc);
     for &byte in field.as_bytes() {
         bytes.push(if byte == b'~' { b'\n' } else { byte })?;
@@ -17,7 +17,7 @@ pub fn bytes_of(alloc: Global, field: &str) -> Result<Vec<u8>, Fail> {
 
 /// Each row of the table is a run in pieces of several lengths. Between the bars of a line stand
 /// its name, its words, its input, its status and what it gives.
-pub fn check_rows<R: Abort + Threads + Sync + Alloc<A = Global>>(
+pub(super) fn check_rows<R: Abort + Threads + Sync + Alloc<A = Global>>(
     rt: &R,
     table: &str,
 ) -> Result<(), Fail> {

@@ -30,10 +30,6 @@ index_mut-requires-in-Semi c =
     place_here _ _ _ _ _ _ _ c.self.invariant.semi_table c.self.view_is c.pair_number-pair.ensures c.requires.valid.order c.requires.valid.elements in
     omega arith
 
--- the fields before, without memory
-data_of : Inside → StoreData
-data_of i = record { elements = i.elements; entries = i.entries.items }
-
 -- what the write of one table leaves
 record Written (i n : Inside) (a : Entry) (h : Held) : Type 0 where
   board : n.board ≡ i.board
