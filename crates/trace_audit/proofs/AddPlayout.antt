@@ -10,12 +10,12 @@ use Rattle.tree_words.specs.Paths.{NodeState, node_state}
 use Rattle.tree_words.specs.Records.{leaf_of, outcome_in, IsRecord}
 use Rattle.tree_words.proofs.Blocks.GameLaws.{in-node}
 use Rattle.tree_words.proofs.Blocks.Members.{node-in}
-use Rattle.trace_audit.specs.declared.linking.Spot.{Spot}
-use Rattle.trace_audit.specs.declared.linking.Table.{Table}
+use Rattle.trace_audit.specs.declared.spots.Spot.{Spot}
+use Rattle.trace_audit.specs.declared.spots.Table.{Table}
 use Rattle.trace_audit.specs.Tables.{spot_state, IsLinked}
 use Rattle.trace_audit.specs.Sums.{AreSums, CanClimb, Climbed}
 use Rattle.trace_audit.proofs.Adding.{leaf_word, outcome_is, sums_more, sums_small}
-use Rattle.trace_audit.proofs.Climbing.{parent_low}
+use Rattle.trace_audit.proofs.Downward.{parent_low}
 use Rattle.trace_audit.proofs.Placed.{most_of}
 use Rattle.tree_words.proofs.Blocks.BlockLaws.{has-at}
 use Rattle.seq_search.proofs.Ways.{most-below}

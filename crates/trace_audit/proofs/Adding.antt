@@ -14,7 +14,7 @@ use Rattle.tree_words.specs.Complete.{Linked}
 use Rattle.tree_words.specs.Walks.{nothing, plus}
 use Rattle.tree_words.specs.Sequence.{outcome_of, gain_of, glimpse_of}
 use Rattle.tree_words.specs.Records.{leaf_of, outcome_in}
-use Rattle.tree_words.specs.Counts.{count_below, place_visits, sights_at, is_seen}
+use Rattle.tree_words.specs.Counts.{count_below, visits_at, sights_at, is_seen}
 use Rattle.tree_words.specs.Growth.{ends_at}
 use Rattle.tree_words.proofs.Blocks.GameLaws.{in-node}
 use Rattle.tree_words.proofs.Blocks.NodeLaws.{nodes-apart}
@@ -22,10 +22,6 @@ use Rattle.tree_words.proofs.Walks.Tallies.{visits-more, sights-more}
 use Rattle.trace_audit.specs.Sums.{AreSums, AreSmall, Climbed}
 use Rattle.trace_audit.proofs.WordBytes.{none_left}
 use Rattle.seq_search.proofs.Ways.{most-below}
-
-one_few : (t : Bool) → one_if t ≤ 1
-one_few true = omega arith
-one_few false = omega arith
 
 -- no sum passes the number of playouts
 pub sums_small : (s : Setting) (bs : List LinkedBlock) (words sums : List ℕ) (k m : ℕ) → k ≤ m → AreSums s bs words sums k → AreSmall s bs sums m
@@ -80,7 +76,7 @@ module _ (s : Setting) (bs : List LinkedBlock) (words sums : List ℕ) (k : ℕ)
           tallies = λ x m.
               ap count_in (other x 2 m (omega arith) (omega arith)) ∙ c.tally x m
               ∙ (λ i. plus (a.tallies x m i) (cond (is_on s bs x (sym is i)) (gain_of (same i) (node_state s bs x)) nothing))
-              ∙ sym (visits-more s bs words k x) ∙ ap (λ (j : ℕ). place_visits s bs words j x) next;
+              ∙ sym (visits-more s bs words k x) ∙ ap (λ (j : ℕ). visits_at s bs words j x) next;
           seen = λ b y i m.
               ap count_in (other y 3 (in-node (root_at s) bs b y i m) (omega arith) (omega arith)) ∙ c.seen b y i m
               ∙ (λ q. plus (a.seen b y i m q) (cond (enters s bs b (sym is q)) (glimpse_of (same q) (node_state s bs b.parent) (cell_at b (place b y))) nothing))

@@ -6,7 +6,7 @@ use Rattle.tree_words.specs.Settings.{Setting, IsSetting}
 use Rattle.tree_words.specs.Words.{root_at, area_at, end_of}
 use Rattle.tree_words.specs.Blocks.{is_node}
 use Rattle.tree_words.proofs.Blocks.BlockLaws.{root_node}
-use Rattle.trace_audit.specs.declared.linking.Table.{Table}
+use Rattle.trace_audit.specs.declared.spots.Table.{Table}
 use Rattle.trace_audit.specs.Tables.{IsLastNode, Scanned}
 use Rattle.trace_audit.proofs.Scanning.{advance, scan_none}
 use Rattle.trace_audit.proofs.WordBytes.{none_left}

@@ -1,50 +1,30 @@
 -- The way up from a node: what is added there, node by node.
-use Rattle.std.proofs.Common.{◌≡◌, ℕ, ◌+◌, ◌*◌, ◌<◌, ◌≤◌, ◌^◌, Bool, true, false, cond, List, [], ◌∷◌, length, set, length-set, get_or-set_same, get_or-set_other, slice_index, refl, sym, ap, ◌∙◌, subst, ⊎_elim, arith}
+use Rattle.std.proofs.Common.{◌≡◌, ℕ, ◌+◌, ◌*◌, ◌<◌, ◌^◌, Bool, true, false, cond, List, [], ◌∷◌, length, set, length-set, get_or-set_same, get_or-set_other, slice_index, sym, ap, ◌∙◌, subst, ⊎_elim, arith}
 use Rattle.std.specs.Prelude.{◌==◌, ◌||◌}
 use Rattle.std.specs.List.{list_any}
-use Rattle.std.proofs.lemmas.Bool.{cases_eq, cases_Bool, eq-eqb, ne_eqb, false_from_ne_true, or_left, or_from}
+use Rattle.std.proofs.lemmas.Bool.{cases_eq, cases_Bool, eq-eqb, ne_eqb, false_from_ne_true, or_left}
 use Rattle.hex_cells.specs.Sets.{has as has_cell}
 use Rattle.hex_cells.specs.Colours.{is_same}
 use Rattle.hex_cells.specs.declared.colours.Colour.{Colour}
 use Rattle.hex_board.specs.Positions.{stones_of}
 use Rattle.play_out.specs.declared.playouts.Ending.{Ending}
 use Rattle.tree_words.specs.Settings.{Setting, IsSetting}
-use Rattle.tree_words.specs.Words.{Count, count_in, root_at, tally_in, seen_in, wins_in, cell_in}
-use Rattle.tree_words.specs.Blocks.{LinkedBlock, has_node, place, cell_at, is_node, In, InOrder, up}
+use Rattle.tree_words.specs.Words.{count_in, root_at, tally_in, seen_in, wins_in, cell_in}
+use Rattle.tree_words.specs.Blocks.{LinkedBlock, has_node, place, cell_at, is_node, In}
 use Rattle.tree_words.specs.Paths.{root_state, state_after, mover_at, node_state, path_of, is_on, enters}
 use Rattle.tree_words.specs.Complete.{Linked}
 use Rattle.tree_words.specs.Walks.{nothing, plus, AtMost}
 use Rattle.tree_words.specs.Sequence.{amount_of, one, gain_of, glimpse_of}
-use Rattle.tree_words.proofs.Blocks.BlockLaws.{clash, has-at, has-here, has-covers, root_node}
+use Rattle.tree_words.proofs.Blocks.BlockLaws.{clash, has-at, has-here, has-covers}
 use Rattle.tree_words.proofs.Blocks.GameLaws.{in-node, up-in}
 use Rattle.tree_words.proofs.Blocks.NodeLaws.{nodes-apart}
-use Rattle.tree_words.proofs.Boards.EmptyLaws.{up-root}
 use Rattle.tree_words.proofs.Walks.Countings.{count-more}
 use Rattle.tree_words.proofs.Walks.Tallies.{other_again}
 use Rattle.trace_audit.specs.Sums.{AreSmall, SeesSome, Climbed}
-use Rattle.trace_audit.proofs.Scanning.{apart_blocks}
+use Rattle.trace_audit.proofs.LinkedBlocks.{apart_blocks}
 use Rattle.tree_words.proofs.Walks.Down.{plus-nothing}
-
--- no node of a path passes a test that no number up to its end passes
-pub path_low : (r : ℕ) (bs : List LinkedBlock) (test : ℕ → Bool) (x : ℕ) → InOrder r bs → test r ≡ false → ((z : ℕ) → z ≤ x → test z ≡ false) → list_any test (up (r ∷ []) (λ b y rest. y ∷ rest) bs x) ≡ false
-path_low r [] test x g e h = or_from (test r) false e refl
-path_low r (b ∷ bs) test x g e h = ⊎_elim
-    (λ (t : has_node b x ≡ true).
-    let at = has-at b x t in
-    let above = g.0.above in
-    ap (λ (u : Bool). list_any test (cond u (x ∷ up (r ∷ []) (λ b y rest. y ∷ rest) bs b.parent) (up (r ∷ []) (λ b y rest. y ∷ rest) bs x))) t
-    ∙ or_from (test x) _ (h x (omega arith)) (path_low r bs test b.parent g.1 e (λ z l. h z (omega (arith, l, above, at.2)))))
-    (λ (t : has_node b x ≡ false).
-    ap (λ (u : Bool). list_any test (cond u (x ∷ up (r ∷ []) (λ b y rest. y ∷ rest) bs b.parent) (up (r ∷ []) (λ b y rest. y ∷ rest) bs x))) t
-    ∙ path_low r bs test x g.1 e h)
-    (cases_Bool (has_node b x))
-
--- a block lies above its parent
-pub parent_low : (r : ℕ) (bs : List LinkedBlock) (b : LinkedBlock) → InOrder r bs → In b bs → (b.parent < b.start) × (r + 4 ≤ b.start)
-parent_low r [] b g i = absurd i
-parent_low r (c ∷ bs) b g i = ⊎_elim
-    (λ (e : b ≡ c). subst (λ (d : LinkedBlock). (d.parent < d.start) × (r + 4 ≤ d.start)) (sym e) (g.0.above, g.0.root))
-    (λ (j : In b bs). parent_low r bs b g.1 j) i
+use Rattle.trace_audit.proofs.CountBounds.{one_most, none_most, sum_most, more_most}
+use Rattle.trace_audit.proofs.Downward.{parent_low, path_low}
 
 module _ (s : Setting) (words : List ℕ) (h : IsSetting s) (bs : List LinkedBlock) (lk : Linked s words bs) where
   abbrev r : ℕ
@@ -56,7 +36,7 @@ module _ (s : Setting) (words : List ℕ) (h : IsSetting s) (bs : List LinkedBlo
 
   -- a node that is no node of b is not changed where b's are
   own_block : (b d : LinkedBlock) (y : ℕ) → In b bs → In d bs → has_node b y ≡ true → has_node d y ≡ true → b ≡ d
-  own_block b d y i j n m = apart_blocks s words h r bs b d (y + 0) lk.order i j (has-covers b y 0 n (omega arith)) (has-covers d y 0 m (omega arith))
+  own_block b d y i j n m = apart_blocks r bs b d (y + 0) lk.order i j (has-covers b y 0 n (omega arith)) (has-covers d y 0 m (omega arith))
 
   module _ (o : Ending) (b : LinkedBlock) (y : ℕ) (i : In b bs) (n : has_node b y ≡ true) (now middle later : List ℕ) (amount : ℕ) (who : Colour)
       (mover : who ≡ (node_state s bs b.parent).player) (amounts : amount ≡ amount_of (is_same o.winner who))
@@ -176,16 +156,6 @@ module _ (s : Setting) (words : List ℕ) (h : IsSetting s) (bs : List LinkedBlo
           moves = λ w m. c.moves w m ∙ later_move w m;
         }
 
-    one_most : (t : Bool) → AtMost 1 (one t)
-    one_most true = (omega arith, omega arith)
-    one_most false = (omega arith, omega arith)
-
-    none_most : AtMost 1 nothing
-    none_most = (omega arith, omega arith)
-
-    sum_most : (m : ℕ) (c d e : Count) → c ≡ plus d e → AtMost m d → AtMost 1 e → AtMost (m + 1) c
-    sum_most m c d e is p q = (omega (arith, ap (λ (n : Count). n.visits) is, p.0, q.0), omega (arith, ap (λ (n : Count). n.wins) is, p.1, q.1))
-
     gain_most : AtMost 1 (gain_of o (node_state s bs y))
     gain_most = subst (AtMost 1) gained (one_most (is_same o.winner who))
 
@@ -196,9 +166,6 @@ module _ (s : Setting) (words : List ℕ) (h : IsSetting s) (bs : List LinkedBlo
         by : (t : Bool) → AtMost 1 (cond t (one (is_same o.winner (node_state s bs b.parent).player)) nothing)
         by true = one_most (is_same o.winner (node_state s bs b.parent).player)
         by false = none_most
-
-    more_most : (m : ℕ) (c : Count) → AtMost m c → AtMost (m + 1) c
-    more_most m c p = (omega (arith, p.0), omega (arith, p.1))
 
     -- no count has grown by more than one
     pub later_small : (m : ℕ) → AreSmall s bs now m → AreSmall s bs later (m + 1)
@@ -214,35 +181,3 @@ module _ (s : Setting) (words : List ℕ) (h : IsSetting s) (bs : List LinkedBlo
           (λ (e : has_node d y ≡ false). subst (AtMost (m + 1)) (sym (later_unseen d z j q e)) (more_most m (seen_in now z) (a.seen d z j q)))
           (cases_Bool (has_node d y));
     }
-
-  -- at the root
-  pub climb_root : (o : Ending) (now : List ℕ) (amount : ℕ) (who : Colour) → who ≡ mover_at (node_state s bs r) → amount ≡ amount_of (is_same o.winner who) → r + 2 < length now → wins_in (slice_index now (r + 2)) + 1 < 2 ^ 32
-      → Climbed s bs o r now (set now (r + 2) (slice_index now (r + 2) + amount))
-  unfolding gain_of
-  climb_root o now amount who mover amounts inside fits =
-      let v : ℕ = slice_index now (r + 2) + amount in
-      let root : is_node r bs r ≡ true = root_node r bs in
-      let path : path_of s bs r ≡ r ∷ [] = up-root (r ∷ []) (λ c z rest. z ∷ rest) r bs lk.order in
-      let gained : one (is_same o.winner who) ≡ gain_of o (node_state s bs r) = ap (λ (c : Colour). one (is_same o.winner c)) mover in
-      let other : (w j : ℕ) → is_node r bs w ≡ true → j < 4 → (j ≡ 2 → ⊥) → slice_index (set now (r + 2) v) (w + j) ≡ slice_index now (w + j)
-      = λ w j m l d. get_or-set_other now (r + 2) (w + j) v 0 (λ e. let same = nodes-apart r bs w r j 2 lk.order m root l (omega arith) e in d (omega (arith, same, e))) in
-      record {
-        long = length-set now (r + 2) v;
-        tally = λ w m. ⊎_elim
-            (λ (e : w ≡ r).
-            let on : is_on s bs w r ≡ true = ap (list_any (λ z. z == w)) path ∙ or_left (r == w) false (eq-eqb r w (sym e)) in
-            ap (tally_in (set now (r + 2) v)) e ∙ ap count_in (get_or-set_same now (r + 2) v 0 inside ∙ ap (λ (a : ℕ). slice_index now (r + 2) + a) amounts)
-            ∙ count-more (slice_index now (r + 2)) (is_same o.winner who) fits ∙ (λ j. plus (tally_in now (sym e j)) (gained j)) ∙ (λ j. plus (tally_in now w) (gain_of o (node_state s bs (sym e j))))
-            ∙ sym (ap (λ (u : Bool). plus (tally_in now w) (cond u (gain_of o (node_state s bs w)) nothing)) on))
-            (λ (e : w ≡ r → ⊥).
-            let off : is_on s bs w r ≡ false = ap (list_any (λ z. z == w)) path ∙ or_from (r == w) false (ne_eqb r w (λ q. e (sym q))) refl in
-            ap count_in (get_or-set_other now (r + 2) (w + 2) v 0 (λ q. e (omega (arith, q)))) ∙ sym (plus-nothing (tally_in now w))
-            ∙ sym (ap (λ (u : Bool). plus (tally_in now w) (cond u (gain_of o (node_state s bs w)) nothing)) off))
-            (cases_eq w r);
-        seen = λ d z j m.
-            let low = parent_low r bs d lk.order j in
-            let off : enters s bs d r ≡ false = ap (list_any (has_node d)) path ∙ or_from (has_node d r) false (false_from_ne_true (has_node d r) (λ q. let f = has-at d r q in omega (arith, f.2, low.1))) refl in
-            ap count_in (other z 3 (in-node r bs d z j m) (omega arith) (λ q. omega (arith, q))) ∙ sym (plus-nothing (seen_in now z))
-            ∙ sym (ap (λ (u : Bool). plus (seen_in now z) (cond u (glimpse_of o (node_state s bs d.parent) (cell_at d (place d z))) nothing)) off);
-        moves = λ w m. let none : w ≡ w + 0 = omega arith in ap (slice_index (set now (r + 2) v)) none ∙ other w 0 m (omega arith) (λ q. omega (arith, q)) ∙ sym (ap (slice_index now) none);
-      }

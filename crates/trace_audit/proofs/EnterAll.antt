@@ -8,8 +8,8 @@ use Rattle.tree_words.specs.Words.{root_at, next_in, cell_in}
 use Rattle.tree_words.specs.Blocks.{LinkedBlock, size, has_node, is_node, cell_at}
 use Rattle.tree_words.specs.Paths.{state_after, node_state}
 use Rattle.tree_words.proofs.Blocks.GameLaws.{in-node}
-use Rattle.trace_audit.specs.declared.linking.Spot.{Spot}
-use Rattle.trace_audit.specs.declared.linking.Table.{Table}
+use Rattle.trace_audit.specs.declared.spots.Spot.{Spot}
+use Rattle.trace_audit.specs.declared.spots.Table.{Table}
 use Rattle.trace_audit.specs.Tables.{spot_state, IsSpot, IsEntered, IsLastNode, Scanned}
 use Rattle.trace_audit.proofs.Cells.{IsMove, move_is}
 use Rattle.trace_audit.proofs.Scanning.{advance}

@@ -9,8 +9,8 @@ use Rattle.tree_words.specs.Words.{root_at, area_at, end_of, link_in}
 use Rattle.tree_words.specs.Blocks.{LinkedBlock, is_node, link_of}
 use Rattle.tree_words.specs.Paths.{node_state}
 use Rattle.tree_words.proofs.Blocks.NodeLaws.{node-lies}
-use Rattle.trace_audit.specs.declared.linking.Spot.{Spot}
-use Rattle.trace_audit.specs.declared.linking.Table.{Table}
+use Rattle.trace_audit.specs.declared.spots.Spot.{Spot}
+use Rattle.trace_audit.specs.declared.spots.Table.{Table}
 use Rattle.trace_audit.specs.Tables.{spot_state, IsSpot, IsSpotTable, IsFollowed, Scanned}
 
 -- where a node lies among all words

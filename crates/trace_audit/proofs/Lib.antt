@@ -9,8 +9,11 @@ pub mod TextForm
 pub mod TextTree
 pub mod TextWords
 pub mod Standing
+pub mod LinkedBlocks
 pub mod Scanning
 pub mod Entering
+pub mod Skipping
+pub mod MustStand
 pub mod Passing
 pub mod Cells
 pub mod Matches
@@ -19,7 +22,10 @@ pub mod Beginning
 pub mod PassBlock
 pub mod LinkedLaws
 pub mod Seeing
+pub mod CountBounds
+pub mod Downward
 pub mod Climbing
+pub mod AtRoot
 pub mod Ways
 pub mod Placed
 pub mod AddNode
@@ -27,6 +33,7 @@ pub mod WayUp
 pub mod Adding
 pub mod AddPlayout
 pub mod InBlock
+pub mod SpotLaws
 pub mod Verifying
 pub mod TextLists
 pub mod OneList

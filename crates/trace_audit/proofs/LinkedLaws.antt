@@ -10,8 +10,8 @@ use Rattle.tree_words.specs.Paths.{state_after, node_state}
 use Rattle.tree_words.proofs.Blocks.BlockLaws.{has-here}
 use Rattle.tree_words.proofs.Blocks.Members.{in-turned, names-in}
 use Rattle.tree_words.proofs.Blocks.Orders.{link-names}
-use Rattle.trace_audit.specs.declared.linking.Spot.{Spot}
-use Rattle.trace_audit.specs.declared.linking.Table.{Table}
+use Rattle.trace_audit.specs.declared.spots.Spot.{Spot}
+use Rattle.trace_audit.specs.declared.spots.Table.{Table}
 use Rattle.trace_audit.specs.Tables.{spot_state, IsSpot, IsLinked}
 use Rattle.trace_audit.proofs.Cells.{IsMove}
 use Rattle.trace_audit.proofs.Placed.{count_is, lies, most_of, move_of, parent_is, place_of}

@@ -12,10 +12,11 @@ use Rattle.tree_words.specs.Growth.{other_words}
 use Rattle.tree_words.specs.Told.{told_block}
 use Rattle.tree_words.proofs.Blocks.Turned.{other-root, other-more}
 use Rattle.tree_words.proofs.Walks.Asking.{spot-size}
-use Rattle.trace_audit.specs.declared.linking.Spot.{Spot}
-use Rattle.trace_audit.specs.declared.linking.Table.{Table}
+use Rattle.trace_audit.specs.declared.spots.Spot.{Spot}
+use Rattle.trace_audit.specs.declared.spots.Table.{Table}
 use Rattle.trace_audit.specs.Tables.{AreUnlinked, block_at, StandsInArea, spot_state, IsSpot, IsEntered, Scanned}
-use Rattle.trace_audit.proofs.Passing.{block_alone, block_stands, put}
+use Rattle.trace_audit.proofs.MustStand.{block_alone, block_stands}
+use Rattle.trace_audit.proofs.Passing.{put}
 
 module _ (s : Setting) (words : List ℕ) (h : IsSetting s) (t : Table) (p : ℕ) (bs : List LinkedBlock) (sc : Scanned s words t p p bs) (n : ℕ) (inside : p < length t.index.items) (entry : 0 < slice_index t.index.items p)
     (index : n ≡ slice_index_or t.index.items p n) where

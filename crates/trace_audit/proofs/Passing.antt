@@ -4,50 +4,25 @@ use Rattle.std.specs.Prelude.{slice_index, slice_index_or}
 use Rattle.std.proofs.lemmas.Bool.{cases_eq, cases_lt, eq-eqb, ne_eqb, false_from_ne_true, or_cases, or_right}
 use Rattle.play_out.specs.Fills.{empties_of}
 use Rattle.tree_words.specs.Settings.{Setting, IsSetting}
-use Rattle.tree_words.specs.Words.{root_at, next_in, link_in}
+use Rattle.tree_words.specs.Words.{root_at, link_in}
 use Rattle.tree_words.specs.Blocks.{LinkedBlock, size, has_node, is_node, In, link_of, Follows}
 use Rattle.tree_words.specs.Paths.{node_board}
-use Rattle.tree_words.specs.Complete.{Linked, HasEmpties, set_of}
+use Rattle.tree_words.specs.Complete.{HasEmpties, set_of}
 use Rattle.tree_words.specs.Growth.{other_words}
 use Rattle.tree_words.specs.Told.{told_block}
-use Rattle.tree_words.proofs.Blocks.BlockLaws.{covers_of, covers_if, has-at, clash}
-use Rattle.tree_words.proofs.Blocks.GameLaws.{IsWhole, spot-same}
+use Rattle.tree_words.proofs.Blocks.BlockLaws.{covers_of, has-at, clash}
+use Rattle.tree_words.proofs.Blocks.GameLaws.{spot-same}
 use Rattle.tree_words.proofs.Blocks.Members.{in-turned, names-in}
 use Rattle.tree_words.proofs.Blocks.NodeLaws.{cover-none, complete-more, link-none}
 use Rattle.tree_words.proofs.Blocks.Orders.{link-names}
 use Rattle.tree_words.proofs.Boards.RootLaws.{complete_in}
 use Rattle.tree_words.proofs.Boards.SetNumbers.{set-has_empties}
 use Rattle.tree_words.proofs.Walks.Asking.{spot-size}
-use Rattle.trace_audit.specs.declared.linking.Spot.{Spot}
-use Rattle.trace_audit.specs.declared.linking.Table.{Table}
-use Rattle.trace_audit.specs.Tables.{AreUnlinked, ShowBlock, StandsInArea, IsSpot, IsSpotTable, IsFollowed, Scanned}
-use Rattle.trace_audit.proofs.Scanning.{link_real, link_whole, apart_blocks, node_below}
-
--- where no block begins
-pub skip : (s : Setting) (words : List ℕ) (h : IsSetting s) (t : Table) (p : ℕ) (bs : List LinkedBlock) → Scanned s words t p p bs → slice_index t.index.items p ≡ 0 → Scanned s words t (p + 1) (p + 1) bs
-skip s words h t p bs sc none = record {
-  order = sc.order;
-  shown = sc.shown;
-  complete = sc.complete;
-  ended = complete-more s p (p + 1) bs (omega arith) sc.ended;
-  area = let area = sc.area in omega (arith, area);
-  table = sc.table;
-  links = λ y n l.
-      let below = node_below s words h p bs y sc.area sc.ended n in
-      ⊎_elim
-      (λ (e : link_in words y ≡ link_of bs y). inl e)
-      (λ (e : (link_of bs y ≡ 0) × (p ≤ link_in words y) × (0 < slice_index t.index.items (link_in words y)) × (slice_index words (link_in words y) ≡ y)).
-      ⊎_elim
-      (λ (at : link_in words y ≡ p). absurd (omega (arith, ap (slice_index t.index.items) at, none, e.2)))
-      (λ (at : link_in words y ≡ p → ⊥). inr (e.0, omega (arith, e.1, at), e.2, e.3))
-      (cases_eq (link_in words y) p))
-      (sc.links y n (omega (arith, below)));
-  vacant = λ y n l. sc.vacant y n (omega (arith, l));
-  entered = sc.entered;
-  others = sc.others;
-  few = let few = sc.few in omega (arith, few);
-  known = sc.known;
-}
+use Rattle.trace_audit.specs.declared.spots.Spot.{Spot}
+use Rattle.trace_audit.specs.declared.spots.Table.{Table}
+use Rattle.trace_audit.specs.Tables.{ShowBlock, StandsInArea, IsSpot, IsSpotTable, IsFollowed, Scanned}
+use Rattle.trace_audit.proofs.LinkedBlocks.{node_below}
+use Rattle.trace_audit.proofs.MustStand.{block_real}
 
 -- a block that begins at p
 module _ (s : Setting) (words : List ℕ) (h : IsSetting s) (t : Table) (p : ℕ) (bs : List LinkedBlock) (sc : Scanned s words t p p bs) (x : ℕ) (n : is_node (root_at s) bs x ≡ true)
@@ -60,34 +35,6 @@ module _ (s : Setting) (words : List ℕ) (h : IsSetting s) (t : Table) (p : ℕ
 
   some : 0 < p
   some = let area = sc.area in omega (arith, area)
-
-  -- it is among the linked blocks, wherever blocks are linked
-  pub block_real : (cs : List LinkedBlock) → Linked s words cs → In block cs
-  block_real cs lk = subst (λ z. In (told_block s bs x z) cs) link (link_real s words h bs cs x lk (sc.known cs lk) n (omega (arith, link, some)))
-
-  pub block_whole : (cs : List LinkedBlock) → Linked s words cs → IsWhole s (next_in words) cs block
-  block_whole cs lk = subst (λ z. IsWhole s (next_in words) cs (told_block s bs x z)) link (link_whole s words h bs cs x lk (sc.known cs lk) n (omega (arith, link, some)))
-
-  -- so it stands there
-  pub block_stands : (cs : List LinkedBlock) → Linked s words cs → StandsInArea s words block
-  block_stands cs lk =
-      let w = block_whole cs lk in
-      record { inside = w.inside.1; claimed = w.claimed; shown = λ i l m. lk.shows.blocks block i (block_real cs lk) l m }
-
-  -- and no other block begins within it
-  pub block_alone : (j : ℕ) (d : Spot) → p < j → j < p + size block → 0 < slice_index t.index.items j → AreUnlinked s words
-  block_alone j d l m e cs lk =
-      let k = sc.table.index j d e in
-      let q : ℕ = slice_index t.index.items j - 1 in
-      let spot : Spot = slice_index_or t.spots.items q d in
-      let is : IsSpot s words bs spot = sc.table.spots q d (omega (arith, e, k.0)) in
-      let y : ℕ = slice_index words spot.start in
-      let to : link_in words y ≡ j = is.link ∙ k.1 in
-      let real : In (told_block s bs y (link_in words y)) cs = link_real s words h bs cs y lk (sc.known cs lk) is.node (omega (arith, to, l)) in
-      let other : LinkedBlock = told_block s bs y (link_in words y) in
-      let same : block ≡ other = apart_blocks s words h (root_at s) cs block other j lk.order (block_real cs lk) real (covers_if j block (omega (arith, l)) m) (covers_if j other (omega (arith, to)) (omega (arith, to))) in
-      let start : p ≡ link_in words y = ap (λ z. z.start) same in
-      omega (arith, start, to, l)
 
   -- no block was below its parent
   was_vacant : link_of bs x ≡ 0
@@ -197,5 +144,5 @@ module _ (s : Setting) (words : List ℕ) (h : IsSetting s) (t : Table) (p : ℕ
               (λ (e : In b bs). omega (arith, same_index b.start, sc.entered b e)) i;
           others = others;
           few = few;
-          known = λ cs lk. (block_real cs lk, n, sc.known cs lk);
+          known = λ cs lk. (block_real s words h t p bs sc x n parent link cs lk, n, sc.known cs lk);
         }

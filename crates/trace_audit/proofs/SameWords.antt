@@ -10,7 +10,7 @@ use Rattle.tree_words.specs.Complete.{AreComplete}
 use Rattle.tree_words.specs.Records.{leaf_of}
 use Rattle.tree_words.specs.Paths.{node_state, is_on, enters, mover_of}
 use Rattle.tree_words.specs.Sequence.{outcome_of}
-use Rattle.tree_words.specs.Counts.{place_visits, sights_at}
+use Rattle.tree_words.specs.Counts.{visits_at, sights_at}
 use Rattle.tree_words.specs.Growth.{ends_at, root_end, other_words}
 use Rattle.tree_words.specs.declared.layout.TheConstants.{MOST_BLOCK_WORDS}
 use Rattle.hex_cells.specs.Sets.{has as has_cell}
@@ -46,11 +46,11 @@ sees_of s bs c y k m = enters s bs c (leaf_in m) && has_cell (stones_of (outcome
 
 module _ (s : Setting) (bs : List LinkedBlock) (a b : List ℕ) (n : ℕ) (same : (k : ℕ) → k < n → record_in b k ≡ record_in a k) where
   -- the counts of the first n playouts are the same
-  visits_same : (x : ℕ) → place_visits s bs b n x ≡ place_visits s bs a n x
+  visits_same : (x : ℕ) → visits_at s bs b n x ≡ visits_at s bs a n x
   visits_same x =
-      let visits : (place_visits s bs b n x).visits ≡ (place_visits s bs a n x).visits
+      let visits : (visits_at s bs b n x).visits ≡ (visits_at s bs a n x).visits
       = count-same n _ _ (λ k l. ap (λ (m : ℕ). is_on s bs x (leaf_in m)) (same k l)) in
-      let wins : (place_visits s bs b n x).wins ≡ (place_visits s bs a n x).wins
+      let wins : (visits_at s bs b n x).wins ≡ (visits_at s bs a n x).wins
       = count-same n _ _ (λ k l. ap (λ (m : ℕ). is_on s bs x (leaf_in m) && is_same (outcome_of s k (node_state s bs (leaf_in m))).winner (mover_of s bs x)) (same k l)) in
       λ i. record { visits = visits i; wins = wins i }
 

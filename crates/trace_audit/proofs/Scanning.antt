@@ -1,59 +1,20 @@
 -- The blocks that are found one by one: what stands at first, and with one more.
-use Rattle.std.proofs.Common.{◌≡◌, ℕ, ◌+◌, ◌-◌, ◌<◌, ◌≤◌, true, List, [], ◌∷◌, length, refl, sym, ap, ◌∙◌, subst, ⊎_elim, inl, arith}
+use Rattle.std.proofs.Common.{◌≡◌, ℕ, ◌+◌, ◌-◌, ◌<◌, ◌≤◌, true, List, [], length, refl, sym, ap, ◌∙◌, subst, ⊎_elim, inl, arith}
 use Rattle.std.specs.Prelude.{slice_index}
 use Rattle.std.proofs.lemmas.List.{get_or_past}
 use Rattle.std.proofs.lemmas.Bool.{cases_lt, eqb-true}
 use Rattle.tree_words.specs.Settings.{Setting, IsSetting}
-use Rattle.tree_words.specs.Words.{root_at, area_at, end_of, next_in, link_in}
-use Rattle.tree_words.specs.Blocks.{LinkedBlock, size, covers, has_node, is_node, In, link_of, InOrder}
-use Rattle.tree_words.specs.Complete.{Linked, AreComplete}
-use Rattle.tree_words.specs.Told.{told_block, Knows}
+use Rattle.tree_words.specs.Words.{root_at, area_at, end_of, link_in}
+use Rattle.tree_words.specs.Blocks.{LinkedBlock, size, has_node, is_node, In, link_of}
+use Rattle.tree_words.specs.Told.{told_block}
 use Rattle.tree_words.proofs.Blocks.BlockLaws.{covers_if, has-at}
-use Rattle.tree_words.proofs.Blocks.GameLaws.{IsWhole, whole-in}
-use Rattle.tree_words.proofs.Blocks.NodeLaws.{nodes-apart, node-lies, in-cover}
+use Rattle.tree_words.proofs.Blocks.NodeLaws.{nodes-apart}
 use Rattle.tree_words.proofs.Blocks.OneTree.{knows-in}
-use Rattle.tree_words.proofs.Blocks.Within.{told-real}
-use Rattle.trace_audit.specs.declared.linking.Table.{Table}
+use Rattle.trace_audit.specs.declared.spots.Table.{Table}
 use Rattle.trace_audit.specs.Tables.{AreUnlinked, IsFollowed, IsLastNode, Scanned, IsLinked}
+use Rattle.trace_audit.proofs.LinkedBlocks.{apart_blocks, link_real, link_whole, first_word, node_below}
 
 module _ (s : Setting) (words : List ℕ) (h : IsSetting s) where
-  -- where a node links a block, that block is among the linked ones, wherever blocks are linked
-  pub link_real : (bs cs : List LinkedBlock) (x : ℕ) → Linked s words cs → Knows (root_at s) cs bs → is_node (root_at s) bs x ≡ true → 0 < link_in words x
-      → In (told_block s bs x (link_in words x)) cs
-  link_real bs cs x lk k n l = told-real s words cs bs x (link_in words x) lk k n h.position.most refl l
-
-  -- and so it is whole
-  pub link_whole : (bs cs : List LinkedBlock) (x : ℕ) → Linked s words cs → Knows (root_at s) cs bs → is_node (root_at s) bs x ≡ true → 0 < link_in words x
-      → IsWhole s (next_in words) cs (told_block s bs x (link_in words x))
-  link_whole bs cs x lk k n l = whole-in s (next_in words) cs (told_block s bs x (link_in words x)) lk.order lk.complete (link_real bs cs x lk k n l)
-
-  -- two blocks that are linked share no word
-  pub apart_blocks : (r : ℕ) (cs : List LinkedBlock) (b c : LinkedBlock) (i : ℕ) → InOrder r cs → In b cs → In c cs → covers i b ≡ true → covers i c ≡ true → b ≡ c
-  apart_blocks r [] b c i g p q u v = absurd p
-  apart_blocks r (d ∷ cs) b c i g p q u v = ⊎_elim
-      (λ (e : b ≡ d). ⊎_elim
-      (λ (f : c ≡ d). e ∙ sym f)
-      (λ (j : In c cs). let none = g.0.clear i (sym (ap (covers i) e) ∙ u) in let some = in-cover cs c i j v in absurd (omega (arith, none, some)))
-      q)
-      (λ (j : In b cs). ⊎_elim
-      (λ (f : c ≡ d). let none = g.0.clear i (sym (ap (covers i) f) ∙ v) in let some = in-cover cs b i j u in absurd (omega (arith, none, some)))
-      (λ (k : In c cs). apart_blocks r cs b c i g.1 j k u v)
-      q)
-      p
-
-  -- the first word of a linked block names its parent
-  pub first_word : (cs : List LinkedBlock) (c : LinkedBlock) → Linked s words cs → In c cs → slice_index words c.start ≡ c.parent
-  first_word cs c lk i =
-      let none : c.start ≡ c.start + 0 = omega arith in
-      ap (slice_index words) none ∙ lk.shows.blocks c 0 i (omega arith) refl
-
-  -- where a node lies, of those found so far
-  pub node_below : (p : ℕ) (bs : List LinkedBlock) (y : ℕ) → area_at s ≤ p → AreComplete s p bs → is_node (root_at s) bs y ≡ true → y + 4 ≤ p
-  node_below p bs y a c n = ⊎_elim
-      (λ (e : y ≡ root_at s). omega (arith, e, a))
-      (λ (e : (area_at s ≤ y) × (y + 4 ≤ p) × (y + 4 ≤ end_of s)). omega (arith, e.1))
-      (node-lies s p bs y c n)
-
   -- a node without link is followed
   pub enter_zero : (t : Table) (x p : ℕ) (bs : List LinkedBlock) → Scanned s words t x p bs → is_node (root_at s) bs x ≡ true → link_in words x ≡ 0 → Scanned s words t (x + 1) p bs
   enter_zero t x p bs sc n e = record {
@@ -84,8 +45,8 @@ module _ (s : Setting) (words : List ℕ) (h : IsSetting s) where
       let b : ℕ = link_in words x in
       let c : LinkedBlock = told_block s bs x b in
       let k = sc.known cs lk in
-      let i : In c cs = link_real bs cs x lk k n l in
-      let w = link_whole bs cs x lk k n l in
+      let i : In c cs = link_real s words h bs cs x lk k n l in
+      let w = link_whole s words h bs cs x lk k n l in
       let inside = w.inside in
       let above = w.above in
       let free : p ≤ b = ⊎_elim
@@ -101,7 +62,7 @@ module _ (s : Setting) (words : List ℕ) (h : IsSetting s) where
       (λ (f : p ≤ b). f)
       (cases_lt b p))
       last in
-      not-so (free, omega (arith, inside.1, long), first_word cs c lk i)
+      not-so (free, omega (arith, inside.1, long), first_word s words h cs c lk i)
 
   -- between the words of a node no other node begins
   pub advance : (t : Table) (x p : ℕ) (bs : List LinkedBlock) → Scanned s words t (x + 1) p bs → is_node (root_at s) bs x ≡ true → Scanned s words t (x + 4) p bs
@@ -154,7 +115,7 @@ module _ (s : Setting) (words : List ℕ) (h : IsSetting s) where
       shows = record {
         blocks = λ b i k. sc.shown b k i;
         links = λ y n.
-            let below = node_below p bs y sc.area sc.ended n in
+            let below = node_below s words h p bs y sc.area sc.ended n in
             ⊎_elim
             (λ (e : link_in words y ≡ link_of bs y). e)
             (λ (e : (link_of bs y ≡ 0) × (p ≤ link_in words y) × (0 < slice_index t.index.items (link_in words y)) × (slice_index words (link_in words y) ≡ y)).

@@ -11,8 +11,8 @@ use Rattle.trace_audit.proofs.Reading.{tells_closed}
 read_all : (ts : List ClosedTree) → AreTrees ts → (us : List ClosedTree) × (length us ≡ length ts) × AreClosed us × (trace_texts ts ≡ trace_texts us)
 read_all [] a = ([], refl, tt, refl)
 read_all (t ∷ ts) a =
-    let rest = read_all ts a.3 in
-    let one : TellsClosed t (trace_text t) = tells_closed t a.0 a.1 a.2 in
+    let rest = read_all ts a.1 in
+    let one : TellsClosed t (trace_text t) = tells_closed t a.0.0 a.0.1 a.0.2 in
     (one.tree ∷ rest.0, ap (λ n. suc n) rest.1, (one.told, one.closed, rest.2), λ i. one.text i ++ rest.3 i)
 
 pub texts_tell : (ts : List ClosedTree) → AreTrees ts → AreTexts (length ts) [] (trace_texts ts)

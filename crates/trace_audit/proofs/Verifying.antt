@@ -14,64 +14,22 @@ use Rattle.tree_words.proofs.Blocks.BlockLaws.{root_node}
 use Rattle.tree_words.proofs.Blocks.GameLaws.{in-node}
 use Rattle.tree_words.proofs.Blocks.Members.{node-in}
 use Rattle.tree_words.proofs.Walks.Tallies.{count-none}
-use Rattle.trace_audit.specs.declared.linking.Spot.{Spot}
-use Rattle.trace_audit.specs.declared.linking.Table.{Table}
+use Rattle.trace_audit.specs.declared.spots.Spot.{Spot}
+use Rattle.trace_audit.specs.declared.spots.Table.{Table}
 use Rattle.trace_audit.specs.Tables.{IsLinked}
 use Rattle.trace_audit.specs.Sums.{AreSums}
-use Rattle.trace_audit.specs.Points.{AreFrugal, AreSame, EachSpot, HasCells, IsNextBounded, HasSums, IsFirst, LiesWithin, SomeSpot}
-use Rattle.trace_audit.proofs.Cells.{IsMove, move_is}
+use Rattle.trace_audit.specs.Points.{AreFrugal, AreSame, EachSpot, IsNextBounded, HasSums, IsFirst, SomeSpot}
 use Rattle.trace_audit.proofs.InBlock.{count_one}
-use Rattle.trace_audit.proofs.LinkedLaws.{count_word, lies_in, node_move, spot_block}
+use Rattle.trace_audit.proofs.LinkedLaws.{spot_block}
+use Rattle.trace_audit.proofs.SpotLaws.{block_spot, spot_move, spot_node}
 
 module _ (s : Setting) (words : List ℕ) (t : Table) (bs : List LinkedBlock) (h : IsSetting s) (long : length words ≡ end_of s) (lk : IsLinked s words t bs) where
-  pub spots_within : EachSpot t (LiesWithin words)
-  spots_within k d l =
-      let f = spot_block s words t bs h lk k d l in
-      let b : LinkedBlock = f.0 in
-      let lies = lies_in s words t bs h lk b f.1 in
-      let count = ap (λ (y : ℕ). slice_index words (y + 3)) (sym f.2) ∙ count_word s words t bs h lk b f.1 in
-      omega (arith, count, f.2, lies, long)
-
-  -- the block of a spot, and its nodes
-  place_few : (k : ℕ) (d : Spot) (l : k < length t.spots.items) (j : ℕ) → j < nodes_in words (slice_index_or t.spots.items k d).start → j < length (spot_block s words t bs h lk k d l).0.cells
-  place_few k d l j m =
-      let f = spot_block s words t bs h lk k d l in
-      omega (arith, m, ap (λ (y : ℕ). slice_index words (y + 3)) (sym f.2), count_word s words t bs h lk f.0 f.1)
-
-  spot_move : (k : ℕ) (d : Spot) (l : k < length t.spots.items) (j : ℕ) → j < nodes_in words (slice_index_or t.spots.items k d).start → IsMove s words bs (spot_block s words t bs h lk k d l).0 j
-  spot_move k d l j m =
-      let f = spot_block s words t bs h lk k d l in
-      move_is s words (next_in words) bs f.0 j h lk.linked.order lk.linked.complete f.1 (λ i q e. lk.linked.shows.blocks f.0 i f.1 q e) (place_few k d l j m)
-
-  spot_node : (k : ℕ) (d : Spot) (l : k < length t.spots.items) (j : ℕ) → j < nodes_in words (slice_index_or t.spots.items k d).start
-      → has_node (spot_block s words t bs h lk k d l).0 (node_at (slice_index_or t.spots.items k d).start j) ≡ true
-  spot_node k d l j m =
-      let f = spot_block s words t bs h lk k d l in
-      ap (λ (z : ℕ). has_node f.0 (z + 4 + 4 * j)) (sym f.2) ∙ (spot_move k d l j m).node
-
-  pub spots_cells : EachSpot t (HasCells words)
-  spots_cells k d l j m =
-      let f = spot_block s words t bs h lk k d l in
-      let mv = spot_move k d l j m in
-      let cell : cell_in (slice_index words (node_at (slice_index_or t.spots.items k d).start j)) ≡ cell_at f.0 j = ap (λ (z : ℕ). cell_in (slice_index words (z + 4 + 4 * j))) (sym f.2) ∙ mv.cell in
-      (omega (arith, cell, mv.small), (λ i. is_empty_at (f.3 i).board (cell i)) ∙ mv.empty)
-
-  -- the spot of a block, and the place of its node
-  block_spot : (b : LinkedBlock) (x : ℕ) → In b bs → has_node b x ≡ true → (k : ℕ) × (k < length t.spots.items) × ((d : Spot) → (slice_index_or t.spots.items k d).start ≡ b.start)
-      × ((j : ℕ) × (j < nodes_in words b.start) × (x ≡ node_at b.start j))
-  block_spot b x i n =
-      let e = lk.entered b i in
-      let few = λ (d : Spot). lk.table.index b.start d e in
-      let m = node_move s words t bs h lk b x i n in
-      let first = few (record { start = 0; board = s.board; player = s.player }) in
-      (slice_index t.index.items b.start - 1, omega (arith, first.0, e), (λ d. (few d).1), (m.0, omega (arith, m.1, count_word s words t bs h lk b i), m.2))
-
   module _ (sums : List ℕ) (a : AreSums s bs words sums s.knobs.playouts) where
     pub exact_of : slice_index words (root_at s + 2) ≡ slice_index sums (root_at s + 2) → EachSpot t (HasSums words sums) → Exact s bs words
     exact_of top each =
         let same : (b : LinkedBlock) (x : ℕ) → In b bs → has_node b x ≡ true → AreSame words sums x
         = λ b x i n.
-        let f = block_spot b x i n in
+        let f = block_spot s words t bs h long lk b x i n in
         let d : Spot = record { start = 0; board = s.board; player = s.player } in
         let start = f.2 d in
         let got = each f.0 d f.1 f.3.0 (omega (arith, f.3.1, ap (nodes_in words) start)) in
@@ -92,7 +50,7 @@ module _ (s : Setting) (words : List ℕ) (t : Table) (bs : List LinkedBlock) (h
         let f = spot_block s words t bs h lk some.0 some.1 some.2 in
         some.3 (λ j m.
         let x : ℕ = node_at (slice_index_or t.spots.items some.0 some.1).start j in
-        let n = spot_node some.0 some.1 some.2 j m in
+        let n = spot_node s words t bs h long lk some.0 some.1 some.2 j m in
         let node = in-node (root_at s) bs f.0 x f.1 n in
         (e.tallies x node ∙ sym (a.tallies x node), e.seen f.0 x f.1 n ∙ sym (a.seen f.0 x f.1 n)))
 
@@ -100,14 +58,14 @@ module _ (s : Setting) (words : List ℕ) (t : Table) (bs : List LinkedBlock) (h
     pub not_first : SomeSpot t (λ p. IsFirst words s.knobs.workers p.start → ⊥) → Grown s bs words → ⊥
     not_first some g =
         let f = spot_block s words t bs h lk some.0 some.1 some.2 in
-        some.3 (λ i j l m e. g.first f.0 _ _ f.1 (spot_node some.0 some.1 some.2 i l) (spot_node some.0 some.1 some.2 j m) e)
+        some.3 (λ i j l m e. g.first f.0 _ _ f.1 (spot_node s words t bs h long lk some.0 some.1 some.2 i l) (spot_node s words t bs h long lk some.0 some.1 some.2 j m) e)
 
     frugal_board : (k : ℕ) (d : Spot) (l : k < length t.spots.items) (j : ℕ) → j < nodes_in words (slice_index_or t.spots.items k d).start
         → node_board s bs (node_at (slice_index_or t.spots.items k d).start j)
         ≡ placed (slice_index_or t.spots.items k d).board (slice_index_or t.spots.items k d).player (cell_in (slice_index words (node_at (slice_index_or t.spots.items k d).start j)))
     frugal_board k d l j m =
         let f = spot_block s words t bs h lk k d l in
-        let mv = spot_move k d l j m in
+        let mv = spot_move s words t bs h long lk k d l j m in
         let cell : cell_in (slice_index words (node_at (slice_index_or t.spots.items k d).start j)) ≡ cell_at f.0 j = ap (λ (z : ℕ). cell_in (slice_index words (z + 4 + 4 * j))) (sym f.2) ∙ mv.cell in
         ap (λ (z : ℕ). node_board s bs (z + 4 + 4 * j)) (sym f.2) ∙ ap (λ (p : NodeState). p.board) mv.state ∙ sym (λ i. (state_after (f.3 i) (cell i)).board)
 
@@ -116,14 +74,14 @@ module _ (s : Setting) (words : List ℕ) (t : Table) (bs : List LinkedBlock) (h
         let f = spot_block s words t bs h lk some.0 some.1 some.2 in
         some.3 (λ j m c e.
         let x : ℕ = node_at (slice_index_or t.spots.items some.0 some.1).start j in
-        let node = in-node (root_at s) bs f.0 x f.1 (spot_node some.0 some.1 some.2 j m) in
+        let node = in-node (root_at s) bs f.0 x f.1 (spot_node s words t bs h long lk some.0 some.1 some.2 j m) in
         omega (arith, a.leaves x node, g.leaves room x c node (ap (λ (p : Position). is_empty_at p c) (frugal_board some.0 some.1 some.2 j m) ∙ e)))
 
     pub grown_of : Recorded s bs words → EachSpot t (λ p. IsFirst words s.knobs.workers p.start) → (next_in words ≤ end_of s → EachSpot t (AreFrugal words sums (s.knobs.workers * s.knobs.expand))) → IsNextBounded s words t.others → Grown s bs words
     grown_of rec first frugal room = record {
       first = λ b x y i n m e.
-          let f = block_spot b x i n in
-          let g = block_spot b y i m in
+          let f = block_spot s words t bs h long lk b x i n in
+          let g = block_spot s words t bs h long lk b y i m in
           let d : Spot = record { start = 0; board = s.board; player = s.player } in
           let start = f.2 d in
           let at = λ (j z : ℕ) (q : z ≡ node_at b.start j). ap (λ (u : ℕ). (tally_in words (node_at u j)).visits) start ∙ ap (λ (v : ℕ). (tally_in words v).visits) (sym q) in
@@ -133,7 +91,7 @@ module _ (s : Setting) (words : List ℕ) (t : Table) (bs : List LinkedBlock) (h
           let none : ends_at words s.knobs.playouts x ≡ 0 = count-none s.knobs.playouts (λ k. leaf_of words k == x) (λ k l. ne_eqb (leaf_of words k) x (λ q. (rec k l).below (q ∙ r))) in
           omega (arith, none))
           (λ (r : (b : LinkedBlock) × In b bs × (has_node b x ≡ true)).
-          let f = block_spot r.0 x r.1 r.2 in
+          let f = block_spot s words t bs h long lk r.0 x r.1 r.2 in
           let d : Spot = record { start = 0; board = s.board; player = s.player } in
           let start = f.2 d in
           let few = omega-few f.3.1 start in

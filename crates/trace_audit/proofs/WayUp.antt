@@ -14,7 +14,8 @@ use Rattle.tree_words.proofs.Blocks.Members.{node-in}
 use Rattle.tree_words.proofs.Walks.Tallies.{other_again}
 use Rattle.trace_audit.specs.Sums.{AreSmall, CanAdd, CanClimb, Climbed, IsAdded}
 use Rattle.trace_audit.proofs.AddNode.{word_fits}
-use Rattle.trace_audit.proofs.Climbing.{climb_root, parent_low}
+use Rattle.trace_audit.proofs.AtRoot.{climb_root}
+use Rattle.trace_audit.proofs.Downward.{parent_low}
 use Rattle.trace_audit.proofs.Placed.{most_of}
 use Rattle.trace_audit.proofs.Ways.{Upward}
 

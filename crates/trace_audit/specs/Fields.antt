@@ -1,7 +1,8 @@
 -- The fields of a text, one by one.
-use Rattle.std.specs.Prelude.{◌≡◌, ℕ, List, slice_index}
-use Rattle.hex_board.specs.Positions.{Position}
-use Rattle.tree_words.specs.Settings.{Setting}
+use Rattle.std.specs.Prelude.{◌≡◌, ℕ, ◌<◌, ◌≤◌, ◌^◌, List, slice_index}
+use Rattle.hex_cells.specs.declared.board_size.TheConstants.{MOST_CELLS}
+use Rattle.hex_board.specs.Positions.{IsPosition, Position}
+use Rattle.tree_words.specs.Settings.{AreInRange, IsSetting, Setting}
 use Rattle.tree_words.specs.declared.settings.Knobs.{Knobs}
 use Rattle.trace_audit.specs.Traces.{low_word, high_word, colour_number}
 
@@ -9,11 +10,24 @@ use Rattle.trace_audit.specs.Traces.{low_word, high_word, colour_number}
 abbrev pub AreOfSet : ℕ → ℕ → ℕ → Type 0
 AreOfSet low high set = (low ≡ low_word set) × (high ≡ high_word set)
 
+-- the two words are those of no set of cells
+abbrev pub AreOfNoSet : ℕ → ℕ → Type 0
+AreOfNoSet low high = (set : ℕ) → set < 2 ^ MOST_CELLS → ¬ (AreOfSet low high set)
+
+-- the number is in the range
+abbrev pub IsWithin : ℕ → ℕ → ℕ → Type 0
+IsWithin least most n = (least ≤ n) × (n ≤ most)
+
 -- the first five fields tell the board
 pub record TellBoard (fields : List ℕ) (p : Position) : Type 0 where
   pub size : slice_index fields 0 ≡ p.size
   pub black : AreOfSet (slice_index fields 1) (slice_index fields 2) p.black
   pub white : AreOfSet (slice_index fields 3) (slice_index fields 4) p.white
+
+-- the first five fields tell no board
+abbrev pub TellNoBoard : List ℕ → Type 0
+TellNoBoard fields =
+    (p : Position) → IsPosition p.size p.black p.white → ¬ (TellBoard fields p)
 
 -- six fields tell the knobs
 pub record TellKnobs (fields : List ℕ) (k : Knobs) : Type 0 where
@@ -24,9 +38,17 @@ pub record TellKnobs (fields : List ℕ) (k : Knobs) : Type 0 where
   pub expand : slice_index fields 12 ≡ k.expand
   pub weight : slice_index fields 13 ≡ k.weight
 
+-- six fields tell no knobs that are in their ranges
+abbrev pub TellNoKnobs : List ℕ → Type 0
+TellNoKnobs fields = (k : Knobs) → AreInRange k → ¬ (TellKnobs fields k)
+
 -- the fields tell the shape
 pub record TellShape (fields : List ℕ) (s : Setting) : Type 0 where
   pub board : TellBoard fields s.board
   pub player : slice_index fields 5 ≡ colour_number s.player
   pub allowed : AreOfSet (slice_index fields 6) (slice_index fields 7) s.allowed
   pub knobs : TellKnobs fields s.knobs
+
+-- the fields tell no shape that can be searched
+abbrev pub TellNoShape : List ℕ → Type 0
+TellNoShape fields = (s : Setting) → IsSetting s → ¬ (TellShape fields s)

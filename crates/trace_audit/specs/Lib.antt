@@ -6,4 +6,6 @@ pub mod Texts
 pub mod Tables
 pub mod Sums
 pub mod Points
+pub mod Scans
+pub mod Playouts
 pub mod Numbers

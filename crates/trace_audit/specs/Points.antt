@@ -1,15 +1,15 @@
 -- The points of a closed tree, block by block.
 use Rattle.std.specs.Prelude.{◌≡◌, ℕ, ◌+◌, ◌*◌, ◌<◌, ◌≤◌, true, List, length, slice_index}
-use Rattle.std.specs.Prelude.{slice_index_or}
-use Rattle.hex_board.specs.Positions.{is_empty_at, placed}
+use Rattle.std.specs.Prelude.{slice_index_or, false, Bool, MatchBool}
+use Rattle.hex_board.specs.Positions.{Position, is_empty_at, placed}
 use Rattle.tree_words.specs.Settings.{Setting}
 use Rattle.tree_words.specs.Words.{next_in, nodes_in, tally_in, seen_in, cell_in, node_at}
 use Rattle.tree_words.specs.Blocks.{block_size}
 use Rattle.tree_words.specs.Growth.{root_end}
 use Rattle.tree_words.specs.declared.layout.TheConstants.{MOST_BLOCK_WORDS}
 use Rattle.hex_cells.specs.declared.board_size.TheConstants.{MOST_CELLS}
-use Rattle.trace_audit.specs.declared.linking.Spot.{Spot}
-use Rattle.trace_audit.specs.declared.linking.Table.{Table}
+use Rattle.trace_audit.specs.declared.spots.Spot.{Spot}
+use Rattle.trace_audit.specs.declared.spots.Table.{Table}
 
 -- the node at x has the same counts in both
 abbrev pub AreSame : List ℕ → List ℕ → ℕ → Type 0
@@ -57,12 +57,53 @@ HasCells words p = (k : ℕ) → k < nodes_in words p.start
     → let cell = cell_in (slice_index words (node_at p.start k)) in
     (cell < MOST_CELLS) × (is_empty_at p.board cell ≡ true)
 
--- all nodes of the spot's block have the same counts
+-- the counts of all nodes of the block at b are the sums
+abbrev pub AreAllSame : List ℕ → List ℕ → ℕ → Type 0
+AreAllSame words sums b = (k : ℕ) → k < nodes_in words b → AreSame words sums (node_at b k)
+
+-- the counts of a node of the block at b are not the sums
+abbrev pub IsSomeOther : List ℕ → List ℕ → ℕ → Type 0
+IsSomeOther words sums b =
+    (k : ℕ) × (k < nodes_in words b) × ¬ (AreSame words sums (node_at b k))
+
+-- the counts of all nodes of the spot's block are the sums
 abbrev pub HasSums : List ℕ → List ℕ → Spot → Type 0
-HasSums words sums p =
-    (k : ℕ) → k < nodes_in words p.start → AreSame words sums (node_at p.start k)
+HasSums words sums p = AreAllSame words sums p.start
 
 -- each node of the spot's block is the leaf of few records
 abbrev pub AreFrugal : List ℕ → List ℕ → ℕ → Spot → Type 0
 AreFrugal words sums most p =
     (k : ℕ) → k < nodes_in words p.start → IsFrugal words sums p most k
+
+-- a node of the spot's block is the leaf of more records, though its board has an empty cell
+abbrev pub IsSomeWasteful : List ℕ → List ℕ → ℕ → Spot → Type 0
+IsSomeWasteful words sums most p =
+    (k : ℕ) × (k < nodes_in words p.start) × ¬ (IsFrugal words sums p most k)
+
+-- a node of the block at b has no visits
+abbrev pub IsSomeUnvisited : List ℕ → ℕ → Type 0
+IsSomeUnvisited words b = (k : ℕ) × (k < nodes_in words b) × (place_visits words b k ≡ 0)
+
+-- each node of the block at b has visits
+abbrev pub AreVisited : List ℕ → ℕ → Type 0
+AreVisited words b = (k : ℕ) → k < nodes_in words b → 0 < place_visits words b k
+
+-- a node of the block at b has more visits than so many
+abbrev pub IsSomeAbove : List ℕ → ℕ → ℕ → Type 0
+IsSomeAbove words b most = (k : ℕ) × (k < nodes_in words b) × (most < place_visits words b k)
+
+-- each node of the block at b has at most so many visits
+abbrev pub AreUpTo : List ℕ → ℕ → ℕ → Type 0
+AreUpTo words b most = (k : ℕ) → k < nodes_in words b → place_visits words b k ≤ most
+
+-- the board has an empty cell
+abbrev pub IsOpen : Position → Type 0
+IsOpen p = (c : ℕ) × (is_empty_at p c ≡ true)
+
+-- the board has no empty cell
+abbrev pub IsFull : Position → Type 0
+IsFull p = (c : ℕ) → is_empty_at p c ≡ false
+
+-- the answer says whether each spot of the table is so, or a spot is not
+abbrev pub TellsEach : Table → Bool → (Spot → Type 0) → Type 0
+TellsEach t answer P = MatchBool answer (EachSpot t P) (SomeSpot t (λ p. ¬ (P p)))

@@ -10,7 +10,7 @@ use Rattle.tree_words.specs.Paths.{node_state, is_on, enters}
 use Rattle.tree_words.specs.Complete.{Linked}
 use Rattle.tree_words.specs.Walks.{nothing, plus, AtMost}
 use Rattle.tree_words.specs.Sequence.{gain_of, glimpse_of}
-use Rattle.tree_words.specs.Counts.{place_visits, sights_at}
+use Rattle.tree_words.specs.Counts.{visits_at, sights_at}
 use Rattle.tree_words.specs.Growth.{ends_at}
 use Rattle.tree_words.specs.declared.layout.TheConstants.{HEADER_WORDS, NODE_WORDS, SEEN_WORD}
 
@@ -20,7 +20,7 @@ pub record AreSums (s : Setting) (bs : List LinkedBlock) (words sums : List ℕ)
     : Type 0 where
   pub long : length sums ≡ end_of s
   pub tallies : (x : ℕ) → is_node (root_at s) bs x ≡ true
-      → tally_in sums x ≡ place_visits s bs words n x
+      → tally_in sums x ≡ visits_at s bs words n x
   pub seen : (b : LinkedBlock) (y : ℕ) → In b bs → has_node b y ≡ true
       → seen_in sums y ≡ sights_at s bs words n b y
   pub leaves : (x : ℕ) → is_node (root_at s) bs x ≡ true

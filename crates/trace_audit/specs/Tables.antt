@@ -11,8 +11,8 @@ use Rattle.tree_words.specs.Paths.{NodeState, node_state}
 use Rattle.tree_words.specs.Complete.{Linked, AreComplete, allowed_cells, set_of}
 use Rattle.tree_words.specs.Growth.{other_words}
 use Rattle.tree_words.specs.Told.{Knows}
-use Rattle.trace_audit.specs.declared.linking.Spot.{Spot}
-use Rattle.trace_audit.specs.declared.linking.Table.{Table}
+use Rattle.trace_audit.specs.declared.spots.Spot.{Spot}
+use Rattle.trace_audit.specs.declared.spots.Table.{Table}
 
 -- the words are linked by no blocks
 abbrev pub AreUnlinked : Setting → List ℕ → Type 0

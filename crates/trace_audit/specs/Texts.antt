@@ -7,11 +7,11 @@ use Rattle.trace_audit.specs.Traces.{bytes_of, fields_of, trace_text}
 use Rattle.trace_audit.specs.Told.{AreWords, IsReadTree}
 use Rattle.trace_audit.specs.declared.parsing.Text.{Text}
 use Rattle.trace_audit.specs.declared.parsing.TheConstants.{FRONT_BYTES}
-use Rattle.trace_audit.specs.declared.texts.TheConstants.{FIELDS}
+use Rattle.trace_audit.specs.declared.texts.TheConstants.{FIELDS, WORD_BYTES}
 
 -- the words stand in the bytes from byte `at` on
 abbrev pub StandAt : List ℕ → ℕ → List ℕ → Type 0
-StandAt bytes at words = bytes_of words ≡ take (8 * length words) (drop at bytes)
+StandAt bytes at words = bytes_of words ≡ take (WORD_BYTES * length words) (drop at bytes)
 
 -- the bytes begin with the name of a text and these fields
 abbrev pub BeginWith : List ℕ → List ℕ → Type 0
@@ -25,6 +25,16 @@ pub record AreFields (bytes fields : List ℕ) : Type 0 where
   pub front : BeginWith bytes fields
   pub long : FRONT_BYTES ≤ length bytes
 
+-- no fields stand so at the front of the bytes
+abbrev pub LacksFields : List ℕ → Type 0
+LacksFields bytes = (fields : List ℕ) → length fields ≡ FIELDS → ¬ (BeginWith bytes fields)
+
+-- so many words may follow the front of a text of this shape: from all in front of the block area
+-- to all of the tree, and no more than so many bytes have
+abbrev pub MayFollow : Setting → ℕ → ℕ → Type 0
+MayFollow s count bytes =
+    (area_at s ≤ count) × (count ≤ end_of s) × (WORD_BYTES * count ≤ bytes)
+
 -- the bytes begin with the front of a text of this shape and so many words, and have as many: from
 -- all in front of the block area to all of the tree
 pub record IsFront (bytes : List ℕ) (s : Setting) (count : ℕ) : Type 0 where
@@ -32,7 +42,7 @@ pub record IsFront (bytes : List ℕ) (s : Setting) (count : ℕ) : Type 0 where
   pub front : BeginWith bytes (fields_of s count)
   pub least : area_at s ≤ count
   pub most : count ≤ end_of s
-  pub long : FRONT_BYTES + 8 * count ≤ length bytes
+  pub long : FRONT_BYTES + WORD_BYTES * count ≤ length bytes
 
 -- the tree of what was read
 abbrev pub closed_tree_of : Text → ClosedTree

@@ -1,5 +1,6 @@
 -- Verdicts: what an audit says of bytes.
 use Rattle.std.specs.Prelude.{◌≡◌, ◌≢◌, ℕ, List, [], ◌∷◌, ◌++◌, length}
+use Rattle.std.specs.Prelude.{MatchOption, Option}
 use Rattle.std.specs.List.{flat_map}
 use Rattle.tree_words.specs.Settings.{Setting, IsSetting}
 use Rattle.tree_words.specs.Blocks.{LinkedBlock}
@@ -22,6 +23,10 @@ pub record BeginsWithTree (tree : ClosedTree) (bytes : List ℕ) : Type 0 where
   pub rest : List ℕ
   pub text : bytes ≡ trace_text tree ++ rest
 
+-- the bytes begin with the text of no tree
+abbrev pub BeginsWithNoTree : List ℕ → Type 0
+BeginsWithNoTree bytes = (tree : ClosedTree) → ¬ (BeginsWithTree tree bytes)
+
 -- the first point of the closed tree that fails: no list of blocks is linked, or such a list is
 -- and of the other points this is the first that fails
 abbrev pub FailsFirst : Setting → List ℕ → Flaw → Type 0
@@ -38,10 +43,14 @@ FailsFirst s words Growth =
     (bs : List LinkedBlock) × Linked s words bs × Recorded s bs words × Exact s bs words
     × KeepsEnds s words × ¬ (Grown s bs words)
 
+-- the answer is the first point that fails; `None` where the tree is closed
+abbrev pub IsFirstFailure : Setting → List ℕ → Option Flaw → Type 0
+IsFirstFailure s words answer = MatchOption answer (IsClosed s words) (FailsFirst s words)
+
 -- the first flaw of the bytes' first text: no text of a tree stands there, or the tree that is read
 -- there fails so
 abbrev pub HasFlaw : List ℕ → Flaw → Type 0
-HasFlaw bytes BadForm = (bytes ≢ []) × ((tree : ClosedTree) → ¬ (BeginsWithTree tree bytes))
+HasFlaw bytes BadForm = (bytes ≢ []) × BeginsWithNoTree bytes
 HasFlaw bytes why =
     (tree : ClosedTree) × BeginsWithTree tree bytes × FailsFirst tree.shape tree.words why
 
@@ -50,10 +59,14 @@ abbrev pub AreClosed : List ClosedTree → Type 0
 AreClosed [] = Unit {0}
 AreClosed (t ∷ ts) = IsReadTree t × IsClosed t.shape t.words × AreClosed ts
 
--- each of the trees is a closed tree of a shape that can be searched
+-- the tree is closed, its shape is one that can be searched, and its words are 64-bit numbers
+abbrev pub IsSearchedTree : ClosedTree → Type 0
+IsSearchedTree t = IsSetting t.shape × IsClosed t.shape t.words × AreWords t.words
+
+-- each of the trees is such a tree
 abbrev pub AreTrees : List ClosedTree → Type 0
 AreTrees [] = Unit {0}
-AreTrees (t ∷ ts) = IsSetting t.shape × IsClosed t.shape t.words × AreWords t.words × AreTrees ts
+AreTrees (t ∷ ts) = IsSearchedTree t × AreTrees ts
 
 -- the texts of the trees, one after another
 abbrev pub trace_texts : List ClosedTree → List ℕ

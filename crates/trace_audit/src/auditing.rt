@@ -1,14 +1,14 @@
 //! The audit of bytes.
 
-ghost use Rattle.std.specs.Prelude.{◌≡◌, ◌≤◌, IfOk, MatchOption, length};
-ghost use Rattle.tree_words.specs.Closing.{IsClosed};
+ghost use Rattle.std.specs.Prelude.{◌≡◌, ◌≤◌, IfOk, length};
 ghost use Rattle.tree_words.specs.Words.{end_of};
-ghost use Rattle.trace_audit.specs.Verdicts.{FailsFirst, IsVerdictOn};
-ghost use Rattle.trace_audit.specs.declared.types.Audit.{Audit};
+ghost use Rattle.trace_audit.specs.Verdicts.{IsFirstFailure, IsVerdictOn};
 
+use super::counts::is_exact;
+use super::ends::keeps_ends;
+use super::growth::is_grown;
 use super::linking::link;
 use super::parsing::read_text;
-use super::points::{is_exact, is_grown, keeps_ends};
 use super::recording::sum;
 use super::refusals::Memory;
 use super::types::{Audit, Flaw};
@@ -21,8 +21,7 @@ pub const MOST_BYTES: usize = 67_108_864;
 // The first point of the closed tree that fails, if one does.
 fn first_failure(alloc: Global, shape: &Shape, words: &[u64]) -> Result<Option<Flaw>, Memory>
     requires { length words.now ≡ end_of shape.now }
-    ensures { IfOk result (λ failure. MatchOption failure (IsClosed shape.now words.now)
-        (λ why. FailsFirst shape.now words.now why)) }
+    ensures { IfOk result (λ failure. IsFirstFailure shape.now words.now failure) }
 {
     // What each shape keeps of itself.
     let _board = shape.board();

@@ -1,12 +1,11 @@
 //! A block of the words, compared with the one that its parent's board tells.
 
-ghost use Rattle.std.specs.Prelude.{◌≡◌, ℕ, ◌+◌, ◌<◌, ◌≤◌, ◌↔◌, IsTrue, MatchOption, length};
-ghost use Rattle.std.specs.Prelude.{slice_index, true};
-ghost use Rattle.tree_words.specs.Blocks.{is_header_or_move, size};
+ghost use Rattle.std.specs.Prelude.{◌≡◌, ◌+◌, ◌<◌, ◌≤◌, ◌↔◌, IsTrue, length};
 ghost use Rattle.tree_words.specs.Words.{end_of};
 ghost use Rattle.tree_words.specs.Writing.{listed};
 ghost use Rattle.tree_words.specs.declared.layout.TheConstants.{MOST_BLOCK_WORDS};
-ghost use Rattle.trace_audit.specs.Tables.{StandsInArea, block_at};
+ghost use Rattle.trace_audit.specs.Scans.{IsBlockEnd, ShowsWords};
+ghost use Rattle.trace_audit.specs.Tables.{block_at};
 
 use hex_board::Board;
 use hex_cells::CellSet;
@@ -17,8 +16,7 @@ use tree_words::{Shape, write_block};
 fn same_block(words: &[u64], at: usize, block: &[u64; MOST_BLOCK_WORDS], size: usize) -> bool
     requires within { at + size ≤ length words.now }
     requires few { size ≤ MOST_BLOCK_WORDS }
-    ensures { IsTrue result ↔ ((i : ℕ) → i < size → is_header_or_move i ≡ true
-        → slice_index words.now (at + i) ≡ slice_index block.now i) }
+    ensures { IsTrue result ↔ ShowsWords words.now at block.now size }
 {
     'words: for i in 0..size {
         if (i < HEADER_WORDS || i % NODE_WORDS == 0) && words[at + i] != block[i] {
@@ -54,9 +52,8 @@ pub(crate) fn block_end(
     requires long { length words.now ≡ end_of shape.now }
     requires at { at < length words.now }
     requires size { board.now.size ≡ shape.now.board.size }
-    ensures { let b = block_at shape.now board.now parent at in
-        MatchOption result (¬ (StandsInArea shape.now words.now b))
-        (λ end. StandsInArea shape.now words.now b × (end ≡ at + size b)) }
+    ensures { IsBlockEnd shape.now words.now at
+        (block_at shape.now board.now parent at) result }
 {
     // What each shape keeps of itself.
     let _board = shape.board();

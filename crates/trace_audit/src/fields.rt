@@ -1,11 +1,10 @@
 //! The front of a text: its name and the fields that tell the shape.
 
-ghost use Rattle.std.specs.Prelude.{◌≡◌, ℕ, ◌<◌, ◌≤◌, ◌^◌, MatchOption, slice_index};
-ghost use Rattle.hex_board.specs.Positions.{Position, IsPosition};
+ghost use Rattle.std.specs.Prelude.{◌≡◌, MatchOption};
 ghost use Rattle.hex_cells.specs.declared.colours.Colour.{Colour};
-ghost use Rattle.tree_words.specs.Settings.{AreInRange, IsSetting, Setting};
-ghost use Rattle.tree_words.specs.declared.settings.Knobs.{Knobs};
-ghost use Rattle.trace_audit.specs.Fields.{AreOfSet, TellBoard, TellKnobs, TellShape};
+ghost use Rattle.tree_words.specs.Settings.{AreInRange};
+ghost use Rattle.trace_audit.specs.Fields.{AreOfNoSet, AreOfSet, IsWithin, TellBoard, TellKnobs};
+ghost use Rattle.trace_audit.specs.Fields.{TellNoBoard, TellNoKnobs, TellNoShape, TellShape};
 ghost use Rattle.trace_audit.specs.Traces.{colour_number};
 
 use super::texts::FIELDS;
@@ -17,8 +16,8 @@ use uct_table::MOST_WEIGHT;
 
 // The number, where it is in the range.
 fn in_range(word: u64, least: u32, most: u32) -> Option<u32>
-    ensures { MatchOption result (¬ ((least ≤ word) × (word ≤ most)))
-        (λ n. (n ≡ word) × (least ≤ n) × (n ≤ most)) }
+    ensures { MatchOption result (¬ (IsWithin least most word))
+        (λ n. (n ≡ word) × IsWithin least most n) }
 {
     if u64::from(least) <= word && word <= u64::from(most) {
         Some(word as u32)
@@ -29,8 +28,7 @@ fn in_range(word: u64, least: u32, most: u32) -> Option<u32>
 
 // The set of cells of two words.
 fn set_of(low: u64, high: u64) -> Option<CellSet>
-    ensures { MatchOption result ((set : ℕ) → set < 2 ^ MOST_CELLS → ¬ (AreOfSet low high set))
-        (λ set. AreOfSet low high set) }
+    ensures { MatchOption result (AreOfNoSet low high) (AreOfSet low high) }
 {
     if high >> (MOST_CELLS - HIGH_EMPTIES_SHIFT) != 0 {
         return None;
@@ -52,9 +50,7 @@ fn colour_of(word: u64) -> Option<Colour>
 
 // The board of the first five fields.
 fn board_of(fields: &[u64; FIELDS]) -> Option<Board>
-    ensures { MatchOption result
-        ((p : Position) → IsPosition p.size p.black p.white → ¬ (TellBoard fields.now p))
-        (λ p. TellBoard fields.now p) }
+    ensures { MatchOption result (TellNoBoard fields.now) (TellBoard fields.now) }
 {
     let Some(number) = in_range(fields[0], 1, Size::MAX) else {
         return None;
@@ -77,7 +73,7 @@ fn board_of(fields: &[u64; FIELDS]) -> Option<Board>
 
 // The knobs of the fields behind the allowed cells.
 fn knobs_of(fields: &[u64; FIELDS]) -> Option<Knobs>
-    ensures { MatchOption result ((k : Knobs) → AreInRange k → ¬ (TellKnobs fields.now k))
+    ensures { MatchOption result (TellNoKnobs fields.now)
         (λ k. TellKnobs fields.now k × AreInRange k) }
 {
     Some(Knobs {
@@ -93,8 +89,7 @@ fn knobs_of(fields: &[u64; FIELDS]) -> Option<Knobs>
 /// The shape that the fields tell; `None` where one of them is out of its range, stones meet or lie
 /// off the board, or the allowed cells are none or not all empty.
 pub(crate) fn shape_of(fields: &[u64; FIELDS]) -> Option<Shape>
-    ensures { MatchOption result ((s : Setting) → IsSetting s → ¬ (TellShape fields.now s))
-        (λ s. TellShape fields.now s) }
+    ensures { MatchOption result (TellNoShape fields.now) (TellShape fields.now) }
 {
     let Some(board) = board_of(fields) else {
         return None;

@@ -39,13 +39,18 @@
 mod archives;
 mod auditing;
 mod blocks;
+mod counts;
+mod ends;
+mod entries;
 mod fields;
+mod gains;
+mod growth;
 mod laws;
 mod linking;
 mod parsing;
-mod points;
 mod recording;
 mod refusals;
+mod spots;
 #[cfg(test)]
 mod tests;
 mod texts;

@@ -1,13 +1,12 @@
 //! A text, read from bytes.
 
-ghost use Rattle.std.specs.Prelude.{◌≡◌, ℕ, ◌+◌, ◌*◌, ◌<◌, ◌≤◌, ◌^◌, List, MatchOption, IfOk};
+ghost use Rattle.std.specs.Prelude.{◌≡◌, ℕ, ◌+◌, ◌*◌, ◌<◌, ◌≤◌, ◌^◌, MatchOption, IfOk};
 ghost use Rattle.std.specs.Prelude.{length, slice_index, take, drop};
 ghost use Rattle.std.specs.Int.{w64, to_le_bytes};
-ghost use Rattle.tree_words.specs.Closing.{ClosedTree};
-ghost use Rattle.tree_words.specs.Words.{area_at, end_of};
-ghost use Rattle.trace_audit.specs.Texts.{AreFields, BeginWith, IsFront, IsText, StandAt};
+ghost use Rattle.trace_audit.specs.Texts.{AreFields, IsFront, IsText, LacksFields, MayFollow};
+ghost use Rattle.trace_audit.specs.Texts.{StandAt};
 ghost use Rattle.trace_audit.specs.Told.{AreWords};
-ghost use Rattle.trace_audit.specs.Verdicts.{BeginsWithTree};
+ghost use Rattle.trace_audit.specs.Verdicts.{BeginsWithNoTree};
 
 use super::fields::shape_of;
 use super::refusals::Memory;
@@ -33,8 +32,8 @@ pub(crate) struct Text {
 
 // The word that stands at this byte.
 fn word_at(bytes: &[u8], at: usize) -> u64
-    requires { at + 8 ≤ length bytes.now }
-    ensures bytes { to_le_bytes w64 result ≡ take 8 (drop at bytes.now) }
+    requires { at + WORD_BYTES ≤ length bytes.now }
+    ensures bytes { to_le_bytes w64 result ≡ take WORD_BYTES (drop at bytes.now) }
     ensures range { result < 2 ^ 64 }
 {
     u64::from_le_bytes([
@@ -51,7 +50,7 @@ fn word_at(bytes: &[u8], at: usize) -> u64
 
 // Reads so many words that stand from this byte on.
 fn read_words(bytes: &[u8], at: usize, words: &mut [u64], count: usize)
-    requires bytes { at + 8 * count ≤ length bytes.now }
+    requires bytes { at + WORD_BYTES * count ≤ length bytes.now }
     requires room { count ≤ length words.old }
     ensures long { length words.new ≡ length words.old }
     ensures read { StandAt bytes.now at (take count words.new) }
@@ -65,9 +64,7 @@ fn read_words(bytes: &[u8], at: usize, words: &mut [u64], count: usize)
 
 // The fields of a text that begins so.
 fn fields_in(bytes: &[u8]) -> Option<[u64; FIELDS]>
-    ensures { MatchOption result
-        ((fields : List ℕ) → length fields ≡ FIELDS → ¬ (BeginWith bytes.now fields))
-        (λ fields. AreFields bytes.now fields) }
+    ensures { MatchOption result (LacksFields bytes.now) (AreFields bytes.now) }
 {
     if bytes.len() < FRONT_BYTES {
         return None;
@@ -83,10 +80,8 @@ fn fields_in(bytes: &[u8]) -> Option<[u64; FIELDS]>
 // How many words a text has whose shape and last field these are: from all in front of the block
 // area to all of the tree, and no more than the bytes behind the fields have.
 fn count_in(shape: &Shape, field: u64, bytes: usize) -> Option<usize>
-    ensures { MatchOption result
-        (¬ ((area_at shape.now ≤ field) × (field ≤ end_of shape.now) × (8 * field ≤ bytes)))
-        (λ count. (count ≡ field)
-        × ((area_at shape.now ≤ count) × (count ≤ end_of shape.now) × (8 * count ≤ bytes))) }
+    ensures { MatchOption result (¬ (MayFollow shape.now field bytes))
+        (λ count. (count ≡ field) × MayFollow shape.now count bytes) }
 {
     let front = u64::from(shape.knobs().playouts) + FRONT_WORDS as u64;
     if field < front || u64::from(shape.total()) < field {
@@ -108,7 +103,7 @@ struct Front {
 
 // The front of the text that the bytes begin with; `None` where they begin with none.
 fn read_front(bytes: &[u8]) -> Option<Front>
-    ensures { MatchOption result ((tree : ClosedTree) → ¬ (BeginsWithTree tree bytes.now))
+    ensures { MatchOption result (BeginsWithNoTree bytes.now)
         (λ front. IsFront bytes.now front.shape front.count) }
 {
     let Some(fields) = fields_in(bytes) else {
@@ -127,9 +122,8 @@ fn read_front(bytes: &[u8]) -> Option<Front>
 
 /// The text that the bytes begin with; `None` where they begin with none.
 pub(crate) fn read_text(alloc: Global, bytes: &[u8]) -> Result<Option<Text>, Memory>
-    ensures { IfOk result (λ read. MatchOption read
-        ((tree : ClosedTree) → ¬ (BeginsWithTree tree bytes.now))
-        (λ text. IsText bytes.now text)) }
+    ensures { IfOk result
+        (λ read. MatchOption read (BeginsWithNoTree bytes.now) (IsText bytes.now)) }
 {
     let Some(front) = read_front(bytes) else {
         return Ok(None);

@@ -11,10 +11,12 @@ enter-requires c =
     let root : c.knobs.result.now.playouts + 2 ≡ root_at s = ap (λ k. k.playouts + 2) c.knobs.ensures.value in (
       s,
       [],
-      h,
-      c.requires,
-      first_scan s c.args.words.now h (c.knobs.result.now.playouts + 2) root _ _ c.requires c.in_ok-no_entries.ensures c.new.ensures.items refl,
-      first_node s c.args.words.now h (c.knobs.result.now.playouts + 2) root,
+      (
+        h,
+        c.requires,
+        first_scan s c.args.words.now h (c.knobs.result.now.playouts + 2) root _ _ c.requires c.in_ok-no_entries.ensures c.new.ensures.items refl,
+        first_node s c.args.words.now h (c.knobs.result.now.playouts + 2) root,
+      ),
     )
 
 pub returns-then-branch : goal.returns-then-branch
@@ -24,8 +26,12 @@ returns-then-branch c =
     let at : ℕ = c.knobs.result.now.playouts + 2 in
     let root : at ≡ root_at s = ap (λ k. k.playouts + 2) c.knobs.ensures.value in
     first_done s c.args.words.now h at root c.enter.new.table
-    (if_yes c.in_ok-enter.field-0 _ _ (c.in_ok-enter.ensures s [] h c.requires (first_scan s c.args.words.now h at root _ _ c.requires c.in_ok-no_entries.ensures c.new.ensures.items refl)
-    (first_node s c.args.words.now h at root) (first_last s c.args.words.now h at root) (λ i. record { board = c.board.ensures.value i; player = c.colour.ensures i })) c.if-branch.true)
+    (if_yes c.in_ok-enter.field-0 _ _ (c.in_ok-enter.ensures s [] (
+      h,
+      c.requires,
+      first_scan s c.args.words.now h at root _ _ c.requires c.in_ok-no_entries.ensures c.new.ensures.items refl,
+      first_node s c.args.words.now h at root,
+    ) (first_last s c.args.words.now h at root) (λ i. record { board = c.board.ensures.value i; player = c.colour.ensures i })) c.if-branch.true)
 
 pub returns-else-branch : goal.returns-else-branch
 returns-else-branch c =
@@ -33,5 +39,9 @@ returns-else-branch c =
     let h = c.board-board.ensures.setting in
     let at : ℕ = c.knobs.result.now.playouts + 2 in
     let root : at ≡ root_at s = ap (λ k. k.playouts + 2) c.knobs.ensures.value in
-    if_no c.in_ok-enter.field-0 _ _ (c.in_ok-enter.ensures s [] h c.requires (first_scan s c.args.words.now h at root _ _ c.requires c.in_ok-no_entries.ensures c.new.ensures.items refl)
-    (first_node s c.args.words.now h at root) (first_last s c.args.words.now h at root) (λ i. record { board = c.board.ensures.value i; player = c.colour.ensures i })) c.if-branch.false
+    if_no c.in_ok-enter.field-0 _ _ (c.in_ok-enter.ensures s [] (
+      h,
+      c.requires,
+      first_scan s c.args.words.now h at root _ _ c.requires c.in_ok-no_entries.ensures c.new.ensures.items refl,
+      first_node s c.args.words.now h at root,
+    ) (first_last s c.args.words.now h at root) (λ i. record { board = c.board.ensures.value i; player = c.colour.ensures i })) c.if-branch.false

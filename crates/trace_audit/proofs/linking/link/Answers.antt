@@ -1,7 +1,7 @@
 use Rattle.std.proofs.Common.{sym, ◌∙◌, arith}
 use Rattle.std.proofs.lemmas.Grind.{get_or_default_zero}
 use Rattle.trace_audit.proofs.Matches.{if_some}
-use Rattle.trace_audit.proofs.Passing.{skip}
+use Rattle.trace_audit.proofs.Skipping.{skip}
 use Rattle.trace_audit.proofs.linking.link.Goals as goal
 
 pub words-preserved-then-index-eq0 : goal.words-preserved-then-index-eq0

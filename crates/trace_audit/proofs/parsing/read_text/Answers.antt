@@ -14,7 +14,7 @@ returns-then-written_count-front c =
     let same = with_items_is c.in_ok-words.words words (omega (arith, c.read_words.ensures.long, c.deref_mut.ensures.len)) in
     text_none c.args.bytes.now words c.in-Some.front.shape c.in-Some.front.count c.in-Some.ensures
     (omega (arith, c.read_words.ensures.long, c.deref_mut.ensures.len, c.total.ensures, ap length none, length-replicate {A = ℕ} c.total.result 0)) (c.read_words.ensures.range (subst AreWords (sym none) (no_words c.total.result))) c.read_words.ensures.read
-    (λ z. c.if-written-front.true (c.written_count.ensures.value ∙ ap written_count (c.deref.ensures.value ∙ same) ∙ z))
+    (λ z. c.if-written_count-front.true (c.written_count.ensures.value ∙ ap written_count (c.deref.ensures.value ∙ same) ∙ z))
 
 pub returns : goal.returns
 returns c =
@@ -25,7 +25,7 @@ returns c =
     let t = text_is c.args.bytes.now _ words c.in-Some.front.shape c.in-Some.front.count same c.in-Some.ensures
     (omega (arith, c.read_words.ensures.long, c.deref_mut.ensures.len, c.total.ensures, ap length none, length-replicate {A = ℕ} c.total.result 0)) (c.read_words.ensures.range (subst AreWords (sym none) (no_words c.total.result))) c.read_words.ensures.read
     (λ i l. c.read_words.ensures.rest i l ∙ ap (λ z. slice_index z i) none ∙ none_left c.total.result i)
-    (sym (ap written_count (c.deref.ensures.value ∙ same)) ∙ sym c.written_count.ensures.value ∙ c.if-written-front.false) in
+    (sym (ap written_count (c.deref.ensures.value ∙ same)) ∙ sym c.written_count.ensures.value ∙ c.if-written_count-front.false) in
     record {
       read = t.0;
       most = omega (arith, front.long);

@@ -6,14 +6,14 @@ use Rattle.trace_audit.proofs.Matches.{if_no, if_yes}
 use Rattle.trace_audit.proofs.recording.add.Goals as goal
 
 pub returns-in_default : goal.returns-in_default
-returns-in_default c = λ bs lk a. no_record c.args.shape.now bs c.args.words.now c.args.k (c.in_default.ensures c.args.shape.now bs c.board-board.ensures.setting c.requires.long lk)
+returns-in_default c = λ bs lk a. no_record c.args.shape.now bs c.args.words.now c.args.k (c.in_default.ensures c.args.shape.now bs (c.board-board.ensures.setting, c.requires.long, lk))
 
 pub returns-then-not-is_winner : goal.returns-then-not-is_winner
 returns-then-not-is_winner c = λ bs lk a.
     let s = c.args.shape.now in
     let h = c.board-board.ensures.setting in
-    let f = c.in-Some.ensures s bs h c.requires.long lk in
-    let state = c.spot_of-spot.ensures s bs f.0 h c.requires.long lk f.1 f.2 f.3 in
+    let f = c.in-Some.ensures s bs (h, c.requires.long, lk) in
+    let state = c.spot_of-spot.ensures s bs (h, c.requires.long, lk) f in
     wrong_record s bs c.args.words.now c.args.sums.now c.args.table.now c.args.k h c.requires.long lk a c.requires.number f.0 f.1 f.3 c.spot_of-spot.result state c.play-ending.result _ _ (ap (λ k. k.seed) c.knobs.ensures.value) c.from.ensures c.play-ending.ensures.full c.play-ending.ensures.winner
     (if_no c.is_winner.result _ _ c.is_winner.ensures c.if-not-is_winner.true)
 
@@ -24,8 +24,8 @@ climb-requires c =
     let bs : List LinkedBlock = c.requires.sums.0 in
     let lk = c.requires.sums.1 in
     let a = c.requires.sums.2 in
-    let f = c.in-Some.ensures s bs h c.requires.long lk in
-    let state = c.spot_of-spot.ensures s bs f.0 h c.requires.long lk f.1 f.2 f.3 in (
+    let f = c.in-Some.ensures s bs (h, c.requires.long, lk) in
+    let state = c.spot_of-spot.ensures s bs (h, c.requires.long, lk) f in (
       s,
       bs,
       can_climb s bs c.args.words.now c.args.sums.now c.args.table.now c.args.k h c.requires.long lk a c.requires.number f.0 f.1 f.3 c.spot_of-spot.result state _ (ap (λ k. k.playouts + 2) c.knobs-2.ensures.value),
@@ -39,8 +39,8 @@ gain-requires-clause-within c =
     let bs : List LinkedBlock = c.requires.sums.0 in
     let lk = c.requires.sums.1 in
     let a = c.requires.sums.2 in
-    let f = c.in-Some.ensures s bs h c.requires.long lk in
-    let state = c.spot_of-spot.ensures s bs f.0 h c.requires.long lk f.1 f.2 f.3 in
+    let f = c.in-Some.ensures s bs (h, c.requires.long, lk) in
+    let state = c.spot_of-spot.ensures s bs (h, c.requires.long, lk) f in
     let k = can_climb s bs c.args.words.now c.args.sums.now c.args.table.now c.args.k h c.requires.long lk a c.requires.number f.0 f.1 f.3 c.spot_of-spot.result state _ (ap (λ k. k.playouts + 2) c.knobs-2.ensures.value) in
     let p = player_is s bs c.args.words.now c.args.sums.now c.args.table.now c.args.k h c.requires.long lk a c.requires.number f.0 f.1 f.3 c.spot_of-spot.result state in
     leaf_inside s bs c.args.words.now c.args.sums.now c.args.table.now c.args.k h c.requires.long lk a c.requires.number f.0 f.1 f.3 c.spot_of-spot.result state c.play-ending.result _ _ (ap (λ k. k.seed) c.knobs.ensures.value) c.from.ensures c.play-ending.ensures.full c.play-ending.ensures.winner
@@ -53,8 +53,8 @@ gain-requires-clause-small c =
     let bs : List LinkedBlock = c.requires.sums.0 in
     let lk = c.requires.sums.1 in
     let a = c.requires.sums.2 in
-    let f = c.in-Some.ensures s bs h c.requires.long lk in
-    let state = c.spot_of-spot.ensures s bs f.0 h c.requires.long lk f.1 f.2 f.3 in
+    let f = c.in-Some.ensures s bs (h, c.requires.long, lk) in
+    let state = c.spot_of-spot.ensures s bs (h, c.requires.long, lk) f in
     let k = can_climb s bs c.args.words.now c.args.sums.now c.args.table.now c.args.k h c.requires.long lk a c.requires.number f.0 f.1 f.3 c.spot_of-spot.result state _ (ap (λ k. k.playouts + 2) c.knobs-2.ensures.value) in
     let p = player_is s bs c.args.words.now c.args.sums.now c.args.table.now c.args.k h c.requires.long lk a c.requires.number f.0 f.1 f.3 c.spot_of-spot.result state in
     leaf_small s bs c.args.words.now c.args.sums.now c.args.table.now c.args.k h c.requires.long lk a c.requires.number f.0 f.1 f.3 c.spot_of-spot.result state c.play-ending.result _ _ (ap (λ k. k.seed) c.knobs.ensures.value) c.from.ensures c.play-ending.ensures.full c.play-ending.ensures.winner
@@ -64,8 +64,8 @@ pub returns : goal.returns
 returns c = λ bs lk a.
     let s = c.args.shape.now in
     let h = c.board-board.ensures.setting in
-    let f = c.in-Some.ensures s bs h c.requires.long lk in
-    let state = c.spot_of-spot.ensures s bs f.0 h c.requires.long lk f.1 f.2 f.3 in
+    let f = c.in-Some.ensures s bs (h, c.requires.long, lk) in
+    let state = c.spot_of-spot.ensures s bs (h, c.requires.long, lk) f in
     let k = can_climb s bs c.args.words.now c.args.sums.now c.args.table.now c.args.k h c.requires.long lk a c.requires.number f.0 f.1 f.3 c.spot_of-spot.result state _ (ap (λ k. k.playouts + 2) c.knobs-2.ensures.value) in
     let p = player_is s bs c.args.words.now c.args.sums.now c.args.table.now c.args.k h c.requires.long lk a c.requires.number f.0 f.1 f.3 c.spot_of-spot.result state in (
       right_record s bs c.args.words.now c.args.sums.now c.args.table.now c.args.k h c.requires.long lk a c.requires.number f.0 f.1 f.3 c.spot_of-spot.result state c.play-ending.result _ _ (ap (λ k. k.seed) c.knobs.ensures.value) c.from.ensures c.play-ending.ensures.full c.play-ending.ensures.winner

@@ -5,39 +5,41 @@ use Rattle.trace_audit.proofs.recording.spot_of.Goals as goal
 pub index-requires : goal.index-requires
 index-requires c =
     let r = c.requires in
-    let l = lies_in r.0 c.args.words.now c.args.table.now r.1 r.3 r.5 r.2 r.6 in
-    let long = r.5.table.long in
-    omega (arith, l, long, r.7, c.args.table.now.index.ok.0)
+    let l = lies_in r.0 c.args.words.now c.args.table.now r.1 r.2.0 r.2.2 r.3.0 r.3.1 in
+    let long = r.2.2.table.long in
+    omega (arith, l, long, r.3.2, c.args.table.now.index.ok.0)
 
 pub index-requires-2 : goal.index-requires-2
 index-requires-2 c =
     let r = c.requires in
-    let k = entry_least r.0 c.args.words.now c.args.table.now r.1 r.3 r.5 r.2 r.6 c.args.block c.index.result.now r.7 c.index.ensures in
+    let k = entry_least r.0 c.args.words.now c.args.table.now r.1 r.2.0 r.2.2 r.3.0 r.3.1 c.args.block c.index.result.now r.3.2 c.index.ensures in
     omega (arith, k.1, c.args.table.now.spots.ok.0)
 
 pub offset_bounds-words-node : goal.offset_bounds-words-node
 offset_bounds-words-node c =
     let r = c.requires in
-    let m = node_most r.0 c.args.words.now c.args.table.now r.1 r.3 r.5 r.2 c.args.node r.6 r.8 in
-    let k = r.3.ranges in
+    let m = node_most r.0 c.args.words.now c.args.table.now r.1 r.2.0 r.2.2 r.3.0 c.args.node r.3.1 r.3.3 in
+    let k = r.2.0.ranges in
     omega (arith, m, k.playouts, k.words)
 
 pub bounds-words-node : goal.bounds-words-node
 bounds-words-node c =
     let r = c.requires in
-    let m = node_most r.0 c.args.words.now c.args.table.now r.1 r.3 r.5 r.2 c.args.node r.6 r.8 in
-    omega (arith, m, r.4)
+    let m = node_most r.0 c.args.words.now c.args.table.now r.1 r.2.0 r.2.2 r.3.0 c.args.node r.3.1 r.3.3 in
+    omega (arith, m, r.2.1)
 
 pub numbered-requires : goal.numbered-requires
 numbered-requires c =
     let r = c.requires in
-    cell_small r.0 c.args.words.now c.args.table.now r.1 r.3 r.5 r.2 r.6 c.args.block c.index.result.now r.7 c.index.ensures c.args.node c.cell_of.result r.8 c.cell_of.ensures c.index-2.result.now c.index-2.ensures
+    cell_small r.0 c.args.words.now c.args.table.now r.1 r.2.0 r.2.2 r.3.0 r.3.1 c.args.block c.index.result.now r.3.2 c.index.ensures c.args.node c.cell_of.result r.3.3 c.cell_of.ensures c.index-2.result.now c.index-2.ensures
 
 pub after-requires : goal.after-requires
 after-requires c =
     let r = c.requires in
-    cell_empty r.0 c.args.words.now c.args.table.now r.1 r.3 r.5 r.2 r.6 c.args.block c.index.result.now r.7 c.index.ensures c.args.node c.numbered.result r.8 (c.numbered.ensures ∙ c.cell_of.ensures) c.index-2.result.now c.index-2.ensures
+    cell_empty r.0 c.args.words.now c.args.table.now r.1 r.2.0 r.2.2 r.3.0 r.3.1 c.args.block c.index.result.now r.3.2 c.index.ensures c.args.node c.numbered.result r.3.3 (c.numbered.ensures ∙ c.cell_of.ensures) c.index-2.result.now c.index-2.ensures
 
 pub returns : goal.returns
-returns c = λ s bs b h long lk i at n.
+returns c = λ s bs g a.
+    let h = g.0 in let long = g.1 in let lk = g.2 in
+    let b = a.0 in let i = a.1 in let at = a.2 in let n = a.3 in
     cell_state s c.args.words.now c.args.table.now bs h lk b i c.args.block c.index.result.now at c.index.ensures c.args.node c.numbered.result n (c.numbered.ensures ∙ c.cell_of.ensures) c.index-2.result.now c.index-2.ensures c.after.result c.after.ensures

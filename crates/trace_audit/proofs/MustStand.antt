@@ -1,0 +1,51 @@
+-- Where an entered block begins: it stands there, alone, or the words are linked by no blocks.
+use Rattle.std.proofs.Common.{◌≡◌, ℕ, ◌+◌, ◌-◌, ◌<◌, true, List, ap, ◌∙◌, subst, arith}
+use Rattle.std.specs.Prelude.{slice_index, slice_index_or}
+use Rattle.tree_words.specs.Settings.{Setting, IsSetting}
+use Rattle.tree_words.specs.Words.{root_at, next_in, link_in}
+use Rattle.tree_words.specs.Blocks.{LinkedBlock, size, is_node, In}
+use Rattle.tree_words.specs.Complete.{Linked}
+use Rattle.tree_words.specs.Told.{told_block}
+use Rattle.tree_words.proofs.Blocks.BlockLaws.{covers_if}
+use Rattle.tree_words.proofs.Blocks.GameLaws.{IsWhole}
+use Rattle.trace_audit.specs.declared.spots.Spot.{Spot}
+use Rattle.trace_audit.specs.declared.spots.Table.{Table}
+use Rattle.trace_audit.specs.Tables.{AreUnlinked, StandsInArea, IsSpot, Scanned}
+use Rattle.trace_audit.proofs.LinkedBlocks.{link_real, link_whole, apart_blocks}
+
+-- a block that begins at p
+module _ (s : Setting) (words : List ℕ) (h : IsSetting s) (t : Table) (p : ℕ) (bs : List LinkedBlock) (sc : Scanned s words t p p bs) (x : ℕ) (n : is_node (root_at s) bs x ≡ true)
+    (parent : slice_index words p ≡ x) (link : link_in words x ≡ p) where
+  abbrev block : LinkedBlock
+  block = told_block s bs x p
+
+  some : 0 < p
+  some = let area = sc.area in omega (arith, area)
+
+  -- it is among the linked blocks, wherever blocks are linked
+  pub block_real : (cs : List LinkedBlock) → Linked s words cs → In block cs
+  block_real cs lk = subst (λ z. In (told_block s bs x z) cs) link (link_real s words h bs cs x lk (sc.known cs lk) n (omega (arith, link, some)))
+
+  pub block_whole : (cs : List LinkedBlock) → Linked s words cs → IsWhole s (next_in words) cs block
+  block_whole cs lk = subst (λ z. IsWhole s (next_in words) cs (told_block s bs x z)) link (link_whole s words h bs cs x lk (sc.known cs lk) n (omega (arith, link, some)))
+
+  -- so it stands there
+  pub block_stands : (cs : List LinkedBlock) → Linked s words cs → StandsInArea s words block
+  block_stands cs lk =
+      let w = block_whole cs lk in
+      record { inside = w.inside.1; claimed = w.claimed; shown = λ i l m. lk.shows.blocks block i (block_real cs lk) l m }
+
+  -- and no other block begins within it
+  pub block_alone : (j : ℕ) (d : Spot) → p < j → j < p + size block → 0 < slice_index t.index.items j → AreUnlinked s words
+  block_alone j d l m e cs lk =
+      let k = sc.table.index j d e in
+      let q : ℕ = slice_index t.index.items j - 1 in
+      let spot : Spot = slice_index_or t.spots.items q d in
+      let is : IsSpot s words bs spot = sc.table.spots q d (omega (arith, e, k.0)) in
+      let y : ℕ = slice_index words spot.start in
+      let to : link_in words y ≡ j = is.link ∙ k.1 in
+      let real : In (told_block s bs y (link_in words y)) cs = link_real s words h bs cs y lk (sc.known cs lk) is.node (omega (arith, to, l)) in
+      let other : LinkedBlock = told_block s bs y (link_in words y) in
+      let same : block ≡ other = apart_blocks (root_at s) cs block other j lk.order (block_real cs lk) real (covers_if j block (omega (arith, l)) m) (covers_if j other (omega (arith, to)) (omega (arith, to))) in
+      let start : p ≡ link_in words y = ap (λ z. z.start) same in
+      omega (arith, start, to, l)

@@ -1,6 +1,0 @@
-use Rattle.std.proofs.Common.{ℕ, ◌<◌}
-use Rattle.trace_audit.specs.Points.{IsFrugal}
-use Rattle.trace_audit.proofs.points.has_few_leaves.Given as goal
-
-abbrev pub invariant-nodes : goal.invariant-nodes
-invariant-nodes l = (k : ℕ) → k < l.place → IsFrugal l.words l.sums l.spot l.most k

@@ -1,0 +1,121 @@
+-- What the steps of adding the playouts answer, whatever blocks the words are linked by.
+use Rattle.std.specs.Prelude.{◌≡◌, ℕ, ◌+◌, ◌*◌, ◌^◌, ◌<◌, true, Bool, List, length, slice_index}
+use Rattle.std.specs.Prelude.{MatchBool, MatchOption, Option, Vec}
+use Rattle.std.specs.declared.alloc.Global.{Global}
+use Rattle.hex_cells.specs.declared.board_size.TheConstants.{MOST_CELLS}
+use Rattle.hex_cells.specs.declared.colours.Colour.{Colour}
+use Rattle.play_out.specs.declared.playouts.Ending.{Ending}
+use Rattle.tree_words.specs.Blocks.{In, LinkedBlock, has_node}
+use Rattle.tree_words.specs.Counts.{Exact}
+use Rattle.tree_words.specs.Growth.{Grown}
+use Rattle.tree_words.specs.Paths.{node_state}
+use Rattle.tree_words.specs.Records.{IsRecord, Recorded}
+use Rattle.tree_words.specs.Settings.{IsSetting, Setting}
+use Rattle.tree_words.specs.Words.{cell_in, end_of, node_at, nodes_in}
+use Rattle.tree_words.specs.declared.layout.TheConstants.{SEEN_WORD}
+use Rattle.trace_audit.specs.Sums.{AreSums, CanAdd, CanClimb, Climbed, IsAdded}
+use Rattle.trace_audit.specs.Tables.{IsLinked, spot_state}
+use Rattle.trace_audit.specs.declared.spots.Spot.{Spot}
+use Rattle.trace_audit.specs.declared.spots.Table.{Table}
+
+-- the words of the shape are linked by these blocks, and the table has the spot of each
+abbrev pub IsLinkedTree : Setting → List LinkedBlock → List ℕ → Table → Type 0
+IsLinkedTree s bs words t =
+    IsSetting s × (length words ≡ end_of s) × IsLinked s words t bs
+
+-- the words are linked by blocks, and the table has the spot of each, for some shape
+abbrev pub IsTableOf : List ℕ → Table → Type 0
+IsTableOf words t = (s : Setting) × (bs : List LinkedBlock) × IsLinkedTree s bs words t
+
+-- one of the blocks begins at `at` and has a node at x
+abbrev pub HasNodeAt : List LinkedBlock → ℕ → ℕ → Type 0
+HasNodeAt bs at x =
+    (b : LinkedBlock) × In b bs × (b.start ≡ at) × (has_node b x ≡ true)
+
+-- none of the blocks has a node at x
+abbrev pub HasNoNode : List LinkedBlock → ℕ → Type 0
+HasNoNode bs x = (b : LinkedBlock) → In b bs → ¬ (has_node b x ≡ true)
+
+-- the answer is where the linked block begins that has a node at x; `None` where none has
+abbrev pub IsBlockOf : List ℕ → Table → ℕ → Option ℕ → Type 0
+IsBlockOf words t x answer = (s : Setting) (bs : List LinkedBlock)
+    → IsLinkedTree s bs words t
+    → MatchOption answer (HasNoNode bs x) (λ at. HasNodeAt bs at x)
+
+-- the words are linked, and the block that begins at `at` has a node at x
+abbrev pub IsLinkedNode : List ℕ → Table → ℕ → ℕ → Type 0
+IsLinkedNode words t at x = (s : Setting) × (bs : List LinkedBlock)
+    × IsLinkedTree s bs words t × HasNodeAt bs at x
+
+-- the spot has the board of the node x and the player to move there
+abbrev pub IsSpotOf : List ℕ → Table → ℕ → ℕ → Spot → Type 0
+IsSpotOf words t at x p = (s : Setting) (bs : List LinkedBlock)
+    → IsLinkedTree s bs words t → HasNodeAt bs at x → spot_state p ≡ node_state s bs x
+
+-- each node of the block at b has the number of a cell
+abbrev pub AreCells : List ℕ → ℕ → Type 0
+AreCells words b =
+    (k : ℕ) → k < nodes_in words b → cell_in (slice_index words (node_at b k)) < MOST_CELLS
+
+-- so much more fits into the sum of the seen word of each node of the block at b
+abbrev pub HasSeenRoom : List ℕ → List ℕ → ℕ → ℕ → Type 0
+HasSeenRoom words sums b amount = (k : ℕ) → k < nodes_in words b
+    → slice_index sums (node_at b k + SEEN_WORD) + amount < 2 ^ 64
+
+-- the words are linked by blocks with which an ending can be added to the node x
+abbrev pub MayAdd : List ℕ → List ℕ → ℕ → Type 0
+MayAdd words sums x = (s : Setting) × (bs : List LinkedBlock) × (b : LinkedBlock) × (m : ℕ)
+    × CanAdd s bs words sums b x m
+
+-- where an ending can be added to the node x, and this player chose it, the ending is added there
+abbrev pub AddsNode : List ℕ → ℕ → Colour → Ending → List ℕ → List ℕ → ℕ → Type 0
+AddsNode words x player o before after parent =
+    (s : Setting) (bs : List LinkedBlock) (b : LinkedBlock) (m : ℕ)
+    → CanAdd s bs words before b x m → player ≡ (node_state s bs b.parent).player
+    → IsAdded s bs o b x m before after parent
+
+-- the words are linked by blocks with which the way from the node x, where this player is to move,
+-- up to the root can be gone
+abbrev pub MayClimb : List ℕ → List ℕ → ℕ → ℕ → Colour → Type 0
+MayClimb words sums root x player = (s : Setting) × (bs : List LinkedBlock)
+    × CanClimb s bs words sums root x × (player ≡ (node_state s bs x).player)
+
+-- where that way can be gone, the ending is added on it
+abbrev pub AddsWay : List ℕ → ℕ → ℕ → Colour → Ending → List ℕ → List ℕ → Type 0
+AddsWay words root x player o before after = (s : Setting) (bs : List LinkedBlock)
+    → CanClimb s bs words before root x → player ≡ (node_state s bs x).player
+    → Climbed s bs o x before after
+
+-- the words are linked, and the sums are those of the first n playouts
+abbrev pub HasSumsOf : Setting → List ℕ → Table → List ℕ → ℕ → Type 0
+HasSumsOf s words t sums n =
+    (bs : List LinkedBlock) × IsLinked s words t bs × AreSums s bs words sums n
+
+-- whatever blocks the words are linked by: playout k has its record, and the sums are those of one
+-- playout more; or it has none. The answer says which
+abbrev pub AddsPlayout : Setting → List ℕ → Table → List ℕ → List ℕ → ℕ → Bool → Type 0
+AddsPlayout s words t before after k answer = (bs : List LinkedBlock)
+    → IsLinked s words t bs → AreSums s bs words before k
+    → MatchBool answer (IsRecord s bs words k × AreSums s bs words after (k + 1))
+    (¬ (IsRecord s bs words k))
+
+-- whatever blocks the words are linked by: each playout has its record, and the answer is the sums
+-- of all; or one has none, and there is no answer
+abbrev pub AddsPlayouts : Setting → List ℕ → Table → Option (Vec ℕ Global) → Type 0
+AddsPlayouts s words t answer = (bs : List LinkedBlock) → IsLinked s words t bs
+    → MatchOption answer (¬ (Recorded s bs words))
+    (λ v. Recorded s bs words × AreSums s bs words v.items s.knobs.playouts)
+
+-- whatever blocks the words are linked by, if these are the sums of all playouts: the answer says
+-- whether the counts are exact
+abbrev pub TellsExact : Setting → List ℕ → Table → List ℕ → Bool → Type 0
+TellsExact s words t sums answer = (bs : List LinkedBlock) → IsLinked s words t bs
+    → AreSums s bs words sums s.knobs.playouts
+    → MatchBool answer (Exact s bs words) (¬ (Exact s bs words))
+
+-- whatever blocks the words are linked by, if each playout has its record and these are the sums of
+-- all: the answer says whether the tree has grown as the knobs say
+abbrev pub TellsGrown : Setting → List ℕ → Table → List ℕ → Bool → Type 0
+TellsGrown s words t sums answer = (bs : List LinkedBlock) → IsLinked s words t bs
+    → Recorded s bs words → AreSums s bs words sums s.knobs.playouts
+    → MatchBool answer (Grown s bs words) (¬ (Grown s bs words))

@@ -1,0 +1,65 @@
+//! The blocks that the links of nodes name, entered in the table.
+
+ghost use Rattle.std.specs.Prelude.{IfOk};
+ghost use Rattle.trace_audit.specs.Scans.{FollowsLink, FollowsLinks, HasNextNode, IsFoundLast};
+
+use super::refusals::Memory;
+use super::spots::{Spot, Table};
+use hex_cells::Cell;
+use tree_words::cell_of;
+use tree_words::layout::{HEADER_WORDS, LINK_WORD, NODE_WORDS};
+
+/// Enters the block that the link of the node at `x` names, if it names one. It begins at `free` or
+/// behind it, and says that its parent is the node. Answers whether all is so.
+pub(crate) fn enter(
+    words: &[u64],
+    table: &mut Table,
+    x: usize,
+    free: usize,
+    spot: Spot,
+) -> Result<bool, Memory>
+    requires { HasNextNode words.now table.old x free }
+    ensures { IfOk result (λ ok. FollowsLink words.now table.old table.new x free spot ok) }
+{
+    let link = words[x + LINK_WORD];
+    if link == 0 {
+        return Ok(true);
+    }
+    let start = link as usize;
+    if start < free {
+        return Ok(false);
+    }
+    if words.len() <= start {
+        return Ok(false);
+    }
+    if words[start] != x as u64 {
+        return Ok(false);
+    }
+    let Ok(()) = table.spots.push(Spot { start, ..spot }) else {
+        return Err(Memory);
+    };
+    table.index[start] = table.spots.len();
+    Ok(true)
+}
+
+/// Enters the blocks below the nodes of the block at `at`, which ends at `end`.
+pub(crate) fn enter_all(
+    words: &[u64],
+    table: &mut Table,
+    at: usize,
+    end: usize,
+) -> Result<bool, Memory>
+    requires { IsFoundLast words.now table.old at end }
+    ensures { IfOk result (λ ok. FollowsLinks words.now table.old table.new at end ok) }
+{
+    let spot = table.spots[table.index[at] - 1];
+    let mut x = at + HEADER_WORDS;
+    'nodes: while x < end {
+        let after = spot.after(Cell::numbered(cell_of(words[x])));
+        if !enter(words, table, x, end, after)? {
+            return Ok(false);
+        }
+        x += NODE_WORDS;
+    }
+    Ok(true)
+}

@@ -1,0 +1,153 @@
+//! The growth of a tree whose blocks are linked and whose records are right.
+
+ghost use Rattle.std.specs.Prelude.{◌≡◌, ◌+◌, ◌≤◌, MatchBool, length, true};
+ghost use Rattle.hex_board.specs.Positions.{is_empty_at, placed};
+ghost use Rattle.tree_words.specs.Blocks.{block_size};
+ghost use Rattle.tree_words.specs.Complete.{allowed_cells};
+ghost use Rattle.tree_words.specs.Words.{end_of, nodes_in};
+ghost use Rattle.trace_audit.specs.Playouts.{HasSumsOf, TellsGrown};
+ghost use Rattle.trace_audit.specs.Points.{AreFrugal, AreUpTo, AreVisited, EachSpot, HasCells};
+ghost use Rattle.trace_audit.specs.Points.{IsFirst, IsFull, IsNextBounded, IsOpen, IsSomeAbove};
+ghost use Rattle.trace_audit.specs.Points.{IsSomeUnvisited, IsSomeWasteful, LiesWithin, TellsEach};
+
+use super::spots::{Spot, Table};
+use hex_cells::Cell;
+use tree_words::layout::{
+    COUNT_WORD, FRONT_WORDS, HEADER_WORDS, MOST_BLOCK_WORDS, MOST_NODES, NEXT_AT, NODE_WORDS,
+    TALLY_WORD,
+};
+use tree_words::{Shape, cell_of, visits_of, write_moves};
+
+// Whether a node of the block has no visits.
+fn has_unvisited(words: &[u64], block: usize) -> bool
+    requires { block + block_size (nodes_in words.now block) ≤ length words.now }
+    ensures { MatchBool result (IsSomeUnvisited words.now block)
+        (AreVisited words.now block) }
+{
+    let count = words[block + COUNT_WORD] as usize;
+    'nodes: for place in 0..count {
+        let x = block + HEADER_WORDS + NODE_WORDS * place;
+        if visits_of(words[x + TALLY_WORD]) == 0 {
+            return true;
+        }
+    }
+    false
+}
+
+// Whether a node of the block has more visits than so many.
+fn has_more(words: &[u64], block: usize, most: u32) -> bool
+    requires { block + block_size (nodes_in words.now block) ≤ length words.now }
+    ensures { MatchBool result (IsSomeAbove words.now block most)
+        (AreUpTo words.now block most) }
+{
+    let count = words[block + COUNT_WORD] as usize;
+    'nodes: for place in 0..count {
+        let x = block + HEADER_WORDS + NODE_WORDS * place;
+        if most < visits_of(words[x + TALLY_WORD]) {
+            return true;
+        }
+    }
+    false
+}
+
+// Whether the board after a stone on the cell has an empty cell.
+fn is_open(spot: &Spot, cell: Cell) -> bool
+    requires { is_empty_at spot.now.board cell ≡ true }
+    ensures { let board = placed spot.now.board spot.now.player cell in
+        MatchBool result (IsOpen board) (IsFull board) }
+{
+    let after = spot.after(cell);
+    after.board.empties().least().is_some()
+}
+
+// Whether each node of the block with an empty cell on its board is the leaf of at most so many
+// records.
+fn has_few_leaves(words: &[u64], sums: &[u64], spot: &Spot, most: u64) -> bool
+    requires within { LiesWithin words.now spot.now }
+    requires long { length sums.now ≡ length words.now }
+    requires cells { HasCells words.now spot.now }
+    ensures { MatchBool result (AreFrugal words.now sums.now most spot.now)
+        (IsSomeWasteful words.now sums.now most spot.now) }
+{
+    let count = words[spot.start + COUNT_WORD] as usize;
+    'nodes: for place in 0..count {
+        let x = spot.start + HEADER_WORDS + NODE_WORDS * place;
+        if most < sums[x] && is_open(spot, Cell::numbered(cell_of(words[x]))) {
+            return false;
+        }
+    }
+    true
+}
+
+// How many cells are allowed.
+fn allowed_count(shape: &Shape) -> usize
+    ensures value { result ≡ length (allowed_cells shape.now) }
+    ensures range { result ≤ MOST_NODES }
+{
+    let size = shape.board().size();
+    let mut block = [0; MOST_BLOCK_WORDS];
+    write_moves(&mut block, 0, shape.allowed(), size)
+}
+
+// Whether NEXT is at most the end of the root's block, so many times the other blocks' words, and
+// one largest block for each worker.
+fn has_room(words: &[u64], shape: &Shape, others: usize) -> bool
+    requires long { length words.now ≡ end_of shape.now }
+    requires few { others ≤ end_of shape.now }
+    ensures { MatchBool result (IsNextBounded shape.now words.now others)
+        (¬ (IsNextBounded shape.now words.now others)) }
+{
+    let area = shape.knobs().playouts as usize + FRONT_WORDS;
+    let root_end = area + HEADER_WORDS + NODE_WORDS * allowed_count(shape);
+    let workers = shape.knobs().workers as usize;
+    words[NEXT_AT] <= (root_end + workers * others + MOST_BLOCK_WORDS * workers) as u64
+}
+
+// Whether in each block that has a node without visits no node has more than so many.
+fn each_first(words: &[u64], table: &Table, most: u32) -> bool
+    requires { EachSpot table.now (LiesWithin words.now) }
+    ensures { TellsEach table.now result (λ p. IsFirst words.now most p.start) }
+{
+    'spots: for i in 0..table.spots.len() {
+        let spot = table.spots[i];
+        if has_unvisited(words, spot.start) && has_more(words, spot.start, most) {
+            return false;
+        }
+    }
+    true
+}
+
+// Whether each node with an empty cell on its board is the leaf of at most so many records.
+fn each_frugal(words: &[u64], sums: &[u64], table: &Table, most: u64) -> bool
+    requires within { EachSpot table.now (LiesWithin words.now) }
+    requires cells { EachSpot table.now (HasCells words.now) }
+    requires long { length sums.now ≡ length words.now }
+    ensures { TellsEach table.now result (AreFrugal words.now sums.now most) }
+{
+    'spots: for i in 0..table.spots.len() {
+        let spot = table.spots[i];
+        if !has_few_leaves(words, sums, &spot, most) {
+            return false;
+        }
+    }
+    true
+}
+
+/// Whether the tree has grown as the knobs say.
+pub(crate) fn is_grown(words: &[u64], shape: &Shape, table: &Table, sums: &[u64]) -> bool
+    requires long { length words.now ≡ end_of shape.now }
+    requires sums { HasSumsOf shape.now words.now table.now sums.now shape.now.knobs.playouts }
+    ensures { TellsGrown shape.now words.now table.now sums.now result }
+{
+    // What each shape keeps of itself.
+    let _board = shape.board();
+    let knobs = shape.knobs();
+    if !each_first(words, table, knobs.workers) {
+        return false;
+    }
+    let most = u64::from(knobs.workers) * u64::from(knobs.expand);
+    if words[NEXT_AT] <= words.len() as u64 && !each_frugal(words, sums, table, most) {
+        return false;
+    }
+    has_room(words, shape, table.others)
+}
