@@ -10,9 +10,9 @@ use Rattle.tree_words.specs.Paths.{NodeState, node_state}
 use Rattle.tree_words.specs.Records.{leaf_of, outcome_in, IsRecord}
 use Rattle.tree_words.proofs.Blocks.GameLaws.{in-node}
 use Rattle.tree_words.proofs.Blocks.Members.{node-in}
-use Rattle.trace_audit.specs.declared.spots.Spot.{Spot}
-use Rattle.trace_audit.specs.declared.spots.Table.{Table}
-use Rattle.trace_audit.specs.Tables.{spot_state, IsLinked}
+use Rattle.trace_audit.specs.declared.sites.Site.{Site}
+use Rattle.trace_audit.specs.declared.sites.Table.{Table}
+use Rattle.trace_audit.specs.Tables.{site_state, IsLinked}
 use Rattle.trace_audit.specs.Sums.{AreSums, CanClimb, Climbed}
 use Rattle.trace_audit.proofs.Adding.{leaf_word, outcome_is, sums_more, sums_small}
 use Rattle.trace_audit.proofs.Downward.{parent_low}
@@ -28,7 +28,7 @@ no_record s bs words k none is = ⊎_elim
     (node-in (root_at s) bs (leaf_of words k) is.node)
 
 module _ (s : Setting) (bs : List LinkedBlock) (words sums : List ℕ) (t : Table) (k : ℕ) (h : IsSetting s) (long : length words ≡ end_of s) (lk : IsLinked s words t bs) (a : AreSums s bs words sums k) (number : k < s.knobs.playouts)
-    (b : LinkedBlock) (i : In b bs) (n : has_node b (leaf_of words k) ≡ true) (spot : Spot) (state : spot_state spot ≡ node_state s bs (leaf_of words k)) where
+    (b : LinkedBlock) (i : In b bs) (n : has_node b (leaf_of words k) ≡ true) (site : Site) (state : site_state site ≡ node_state s bs (leaf_of words k)) where
   node : is_node (root_at s) bs (leaf_of words k) ≡ true
   node = in-node (root_at s) bs b (leaf_of words k) i n
 
@@ -46,13 +46,13 @@ module _ (s : Setting) (bs : List LinkedBlock) (words sums : List ℕ) (t : Tabl
     small = sums_small s bs words sums k s.knobs.playouts (omega (arith, number)) a;
   }
 
-  pub player_is : spot.player ≡ (node_state s bs (leaf_of words k)).player
+  pub player_is : site.player ≡ (node_state s bs (leaf_of words k)).player
   player_is = ap (λ (p : NodeState). p.player) state
 
-  module _ (o : Ending) (seed j : ℕ) (seeds : seed ≡ s.knobs.seed) (numbers : j ≡ k) (full : o.full ≡ filled spot.board spot.player seed j) (winner : o.winner ≡ playout_of spot.board spot.player seed j) where
+  module _ (o : Ending) (seed j : ℕ) (seeds : seed ≡ s.knobs.seed) (numbers : j ≡ k) (full : o.full ≡ filled site.board site.player seed j) (winner : o.winner ≡ playout_of site.board site.player seed j) where
     same : o ≡ outcome_in s bs words k
-    same = outcome_is s bs words sums k h lk.linked a (leaf_of words k) refl node o (spot_state spot) state
-        (full ∙ (λ q. filled spot.board spot.player (seeds q) (numbers q))) (winner ∙ (λ q. playout_of spot.board spot.player (seeds q) (numbers q)))
+    same = outcome_is s bs words sums k h lk.linked a (leaf_of words k) refl node o (site_state site) state
+        (full ∙ (λ q. filled site.board site.player (seeds q) (numbers q))) (winner ∙ (λ q. playout_of site.board site.player (seeds q) (numbers q)))
 
     pub wrong_record : (o.winner ≡ winner_in (record_in words k) → ⊥) → IsRecord s bs words k → ⊥
     wrong_record d is = d (ap (λ (p : Ending). p.winner) same ∙ sym is.result)

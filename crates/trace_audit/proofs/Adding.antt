@@ -49,7 +49,7 @@ sums_none s bs words sums n e is =
 
 module _ (s : Setting) (bs : List LinkedBlock) (words sums : List ℕ) (k : ℕ) (h : IsSetting s) (lk : Linked s words bs) (a : AreSums s bs words sums k) (leaf : ℕ) (is : leaf_of words k ≡ leaf)
     (n : is_node (root_at s) bs leaf ≡ true) where
-  -- the leaf's spot gives the playout
+  -- the leaf's site gives the playout
   pub outcome_is : (o : Ending) (p : NodeState) → p ≡ node_state s bs leaf → o.full ≡ filled p.board p.player s.knobs.seed k → o.winner ≡ playout_of p.board p.player s.knobs.seed k → o ≡ outcome_in s bs words k
   unfolding outcome_of
   outcome_is o p e f w =

@@ -69,8 +69,8 @@ module _ (s : Setting) (words : List ℕ) (h : IsSetting s) (bs : List LinkedBlo
     gained : one (is_same o.winner who) ≡ gain_of o (node_state s bs y)
     unfolding gain_of
     gained =
-        let spot : node_state s bs y ≡ state_after (node_state s bs b.parent) (cell_at b (place b y)) = up-in (root_state s) (λ c z above. state_after above (cell_at c (place c z))) r bs b y lk.order i n in
-        ap (λ (c : Colour). one (is_same o.winner c)) (mover ∙ sym (other_again (node_state s bs b.parent).player) ∙ sym (ap mover_at spot))
+        let site : node_state s bs y ≡ state_after (node_state s bs b.parent) (cell_at b (place b y)) = up-in (root_state s) (λ c z above. state_after above (cell_at c (place c z))) r bs b y lk.order i n in
+        ap (λ (c : Colour). one (is_same o.winner c)) (mover ∙ sym (other_again (node_state s bs b.parent).player) ∙ sym (ap mover_at site))
 
     pub later_own : tally_in later y ≡ plus (tally_in now y) (gain_of o (node_state s bs y))
     later_own =

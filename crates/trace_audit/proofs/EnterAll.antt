@@ -8,9 +8,9 @@ use Rattle.tree_words.specs.Words.{root_at, next_in, cell_in}
 use Rattle.tree_words.specs.Blocks.{LinkedBlock, size, has_node, is_node, cell_at}
 use Rattle.tree_words.specs.Paths.{state_after, node_state}
 use Rattle.tree_words.proofs.Blocks.GameLaws.{in-node}
-use Rattle.trace_audit.specs.declared.spots.Spot.{Spot}
-use Rattle.trace_audit.specs.declared.spots.Table.{Table}
-use Rattle.trace_audit.specs.Tables.{spot_state, IsSpot, IsEntered, IsLastNode, Scanned}
+use Rattle.trace_audit.specs.declared.sites.Site.{Site}
+use Rattle.trace_audit.specs.declared.sites.Table.{Table}
+use Rattle.trace_audit.specs.Tables.{site_state, IsSite, IsEntered, IsLastNode, Scanned}
 use Rattle.trace_audit.proofs.Cells.{IsMove, move_is}
 use Rattle.trace_audit.proofs.Scanning.{advance}
 
@@ -32,21 +32,21 @@ module _ (s : Setting) (words : List ℕ) (t : Table) (done at end : ℕ) (b : L
   pub entry_is : (n : ℕ) → n ≡ slice_index_or t.index.items at n → n ≡ slice_index t.index.items at
   entry_is n h = h ∙ get_or_default_zero t.index.items at n at_inside
 
-  pub entry_least : (n : ℕ) → n ≡ slice_index_or t.index.items at n → (0 < n) × (n - 1 < length t.spots.items)
+  pub entry_least : (n : ℕ) → n ≡ slice_index_or t.index.items at n → (0 < n) × (n - 1 < length t.sites.items)
   entry_least n h =
       let same = entry_is n h in
-      let d : Spot → (0 < n) × (n - 1 < length t.spots.items) = λ d. let k = e.scanned.table.index at d is_entry in (omega (arith, same, is_entry), omega (arith, k.0, same, is_entry)) in
+      let d : Site → (0 < n) × (n - 1 < length t.sites.items) = λ d. let k = e.scanned.table.index at d is_entry in (omega (arith, same, is_entry), omega (arith, k.0, same, is_entry)) in
       d (record { start = 0; board = s.board; player = s.player })
 
-  -- the spot of the block
-  pub spot_is : (n : ℕ) (spot : Spot) → n ≡ slice_index_or t.index.items at n → spot ≡ slice_index_or t.spots.items (n - 1) spot → spot_state spot ≡ node_state s (b ∷ bs) b.parent
-  spot_is n spot h g =
+  -- the site of the block
+  pub site_is : (n : ℕ) (site : Site) → n ≡ slice_index_or t.index.items at n → site ≡ slice_index_or t.sites.items (n - 1) site → site_state site ≡ node_state s (b ∷ bs) b.parent
+  site_is n site h g =
       let same = entry_is n h in
-      let k = e.scanned.table.index at spot is_entry in
-      let found : Spot = slice_index_or t.spots.items (slice_index t.index.items at - 1) spot in
-      let is : IsSpot s words (b ∷ bs) found = e.scanned.table.spots (slice_index t.index.items at - 1) spot (omega (arith, k.0, is_entry)) in
-      let all : spot ≡ found = g ∙ ap (λ m. slice_index_or t.spots.items (m - 1) spot) same in
-      ap spot_state all ∙ is.state ∙ ap (node_state s (b ∷ bs)) (ap (slice_index words) k.1 ∙ names_parent)
+      let k = e.scanned.table.index at site is_entry in
+      let found : Site = slice_index_or t.sites.items (slice_index t.index.items at - 1) site in
+      let is : IsSite s words (b ∷ bs) found = e.scanned.table.sites (slice_index t.index.items at - 1) site (omega (arith, k.0, is_entry)) in
+      let all : site ≡ found = g ∙ ap (λ m. slice_index_or t.sites.items (m - 1) site) same in
+      ap site_state all ∙ is.state ∙ ap (node_state s (b ∷ bs)) (ap (slice_index words) k.1 ∙ names_parent)
 
   -- the node of place k
   pub node_is : (k x : ℕ) → x ≡ at + 4 + 4 * k → x < end → IsMove s words (b ∷ bs) b k × (x ≡ b.start + 4 + 4 * k)
@@ -61,17 +61,17 @@ module _ (s : Setting) (words : List ℕ) (t : Table) (done at end : ℕ) (b : L
   pub node_last : (k x : ℕ) → x ≡ at + 4 + 4 * k → x < end → IsLastNode s end (b ∷ bs) x
   node_last k x h l = let m = node_is k x h l in inr (b, inl refl, ap (has_node b) m.1 ∙ m.0.node, e.ends ∙ ap (λ n. n + size b) (sym e.start))
 
-  module _ (k x n : ℕ) (spot : Spot) (hx : x ≡ at + 4 + 4 * k) (l : x < end) (board : spot_state spot ≡ node_state s (b ∷ bs) b.parent) (cell : n ≡ cell_in (slice_index words x)) where
+  module _ (k x n : ℕ) (site : Site) (hx : x ≡ at + 4 + 4 * k) (l : x < end) (board : site_state site ≡ node_state s (b ∷ bs) b.parent) (cell : n ≡ cell_in (slice_index words x)) where
     cell_is : n ≡ cell_at b k
     cell_is = let m = node_is k x hx l in cell ∙ ap (λ y. cell_in (slice_index words y)) m.1 ∙ m.0.cell
 
     pub cell_small : n < 121
     cell_small = let m = node_is k x hx l in omega (arith, cell_is, m.0.small)
 
-    pub cell_empty : is_empty_at spot.board n ≡ true
+    pub cell_empty : is_empty_at site.board n ≡ true
     cell_empty = let m = node_is k x hx l in (λ i. is_empty_at (board i).board (cell_is i)) ∙ m.0.empty
 
-    pub cell_state : (after : Spot) → spot_state after ≡ state_after (spot_state spot) n → spot_state after ≡ node_state s (b ∷ bs) x
+    pub cell_state : (after : Site) → site_state after ≡ state_after (site_state site) n → site_state after ≡ node_state s (b ∷ bs) x
     cell_state after h =
         let m = node_is k x hx l in
         h ∙ (λ i. state_after (board i) (cell_is i)) ∙ sym m.0.state ∙ ap (node_state s (b ∷ bs)) (sym m.1)

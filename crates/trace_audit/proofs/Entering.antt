@@ -9,9 +9,9 @@ use Rattle.tree_words.specs.Words.{root_at, area_at, end_of, link_in}
 use Rattle.tree_words.specs.Blocks.{LinkedBlock, is_node, link_of}
 use Rattle.tree_words.specs.Paths.{node_state}
 use Rattle.tree_words.proofs.Blocks.NodeLaws.{node-lies}
-use Rattle.trace_audit.specs.declared.spots.Spot.{Spot}
-use Rattle.trace_audit.specs.declared.spots.Table.{Table}
-use Rattle.trace_audit.specs.Tables.{spot_state, IsSpot, IsSpotTable, IsFollowed, Scanned}
+use Rattle.trace_audit.specs.declared.sites.Site.{Site}
+use Rattle.trace_audit.specs.declared.sites.Table.{Table}
+use Rattle.trace_audit.specs.Tables.{site_state, IsSite, IsSiteTable, IsFollowed, Scanned}
 
 -- where a node lies among all words
 pub node_inside : (s : Setting) (words : List ℕ) (t : Table) (done p : ℕ) (bs : List LinkedBlock) (x : ℕ) → IsSetting s → Scanned s words t done p bs → is_node (root_at s) bs x ≡ true
@@ -24,14 +24,14 @@ node_inside s words t done p bs x h sc n = (
   omega (arith, h.ranges.playouts, h.ranges.words),
 )
 
-module _ (s : Setting) (words : List ℕ) (t u : Table) (x p : ℕ) (bs : List LinkedBlock) (sc : Scanned s words t x p bs) (n : is_node (root_at s) bs x ≡ true) (spot : Spot) (start : ℕ)
-    (first : spot.start ≡ start) (state : spot_state spot ≡ node_state s bs x) (link : link_in words x ≡ start) (free : p ≤ start) (inside : start < end_of s) (parent : slice_index words start ≡ x)
-    (index : u.index.items ≡ set t.index.items start (length t.spots.items + 1)) (spots : u.spots.items ≡ t.spots.items ++ spot ∷ []) (others : u.others ≡ t.others) where
-  new_index : slice_index u.index.items start ≡ length t.spots.items + 1
-  new_index = let long = sc.table.long in ap (λ l. slice_index l start) index ∙ get_or-set_same t.index.items start (length t.spots.items + 1) 0 (omega (arith, inside, long))
+module _ (s : Setting) (words : List ℕ) (t u : Table) (x p : ℕ) (bs : List LinkedBlock) (sc : Scanned s words t x p bs) (n : is_node (root_at s) bs x ≡ true) (site : Site) (start : ℕ)
+    (first : site.start ≡ start) (state : site_state site ≡ node_state s bs x) (link : link_in words x ≡ start) (free : p ≤ start) (inside : start < end_of s) (parent : slice_index words start ≡ x)
+    (index : u.index.items ≡ set t.index.items start (length t.sites.items + 1)) (sites : u.sites.items ≡ t.sites.items ++ site ∷ []) (others : u.others ≡ t.others) where
+  new_index : slice_index u.index.items start ≡ length t.sites.items + 1
+  new_index = let long = sc.table.long in ap (λ l. slice_index l start) index ∙ get_or-set_same t.index.items start (length t.sites.items + 1) 0 (omega (arith, inside, long))
 
   old_index : (b : ℕ) → (b ≡ start → ⊥) → slice_index u.index.items b ≡ slice_index t.index.items b
-  old_index b d = ap (λ l. slice_index l b) index ∙ get_or-set_other t.index.items start b (length t.spots.items + 1) 0 d
+  old_index b d = ap (λ l. slice_index l b) index ∙ get_or-set_other t.index.items start b (length t.sites.items + 1) 0 d
 
   more_index : (b : ℕ) → 0 < slice_index t.index.items b → 0 < slice_index u.index.items b
   more_index b l = ⊎_elim
@@ -39,18 +39,18 @@ module _ (s : Setting) (words : List ℕ) (t u : Table) (x p : ℕ) (bs : List L
       (λ (e : b ≡ start → ⊥). omega (arith, old_index b e, l))
       (cases_eq b start)
 
-  old_spot : (k : ℕ) (d : Spot) → k < length t.spots.items → slice_index_or u.spots.items k d ≡ slice_index_or t.spots.items k d
-  old_spot k d l = ap (λ z. slice_index_or z k d) spots ∙ get_or-append t.spots.items (spot ∷ []) d k l
+  old_site : (k : ℕ) (d : Site) → k < length t.sites.items → slice_index_or u.sites.items k d ≡ slice_index_or t.sites.items k d
+  old_site k d l = ap (λ z. slice_index_or z k d) sites ∙ get_or-append t.sites.items (site ∷ []) d k l
 
-  new_spot : (k : ℕ) (d : Spot) → k ≡ length t.spots.items → slice_index_or u.spots.items k d ≡ spot
-  new_spot k d e = (λ i. slice_index_or (spots i) (e i) d) ∙ get_or-append_seam t.spots.items spot [] d
+  new_site : (k : ℕ) (d : Site) → k ≡ length t.sites.items → slice_index_or u.sites.items k d ≡ site
+  new_site k d e = (λ i. slice_index_or (sites i) (e i) d) ∙ get_or-append_seam t.sites.items site [] d
 
-  spots_long : length u.spots.items ≡ length t.spots.items + 1
-  spots_long = ap length spots ∙ length-append t.spots.items (spot ∷ [])
+  sites_long : length u.sites.items ≡ length t.sites.items + 1
+  sites_long = ap length sites ∙ length-append t.sites.items (site ∷ [])
 
-  is_spot : IsSpot s words bs spot
-  is_spot =
-      let named : slice_index words spot.start ≡ x = ap (slice_index words) first ∙ parent in
+  is_site : IsSite s words bs site
+  is_site =
+      let named : slice_index words site.start ≡ x = ap (slice_index words) first ∙ parent in
       let area = sc.area in
       record {
         node = ap (is_node (root_at s) bs) named ∙ n;
@@ -59,23 +59,23 @@ module _ (s : Setting) (words : List ℕ) (t u : Table) (x p : ℕ) (bs : List L
         state = state ∙ ap (node_state s bs) (sym named);
       }
 
-  table_more : IsSpotTable s words bs u
+  table_more : IsSiteTable s words bs u
   table_more = record {
-    long = ap length index ∙ length-set t.index.items start (length t.spots.items + 1) ∙ sc.table.long;
-    spots = λ k d l. ⊎_elim
-        (λ (m : k < length t.spots.items). subst (IsSpot s words bs) (sym (old_spot k d m)) (sc.table.spots k d m))
-        (λ (m : length t.spots.items ≤ k). subst (IsSpot s words bs) (sym (new_spot k d (omega (arith, m, l, spots_long)))) is_spot)
-        (cases_lt k (length t.spots.items));
+    long = ap length index ∙ length-set t.index.items start (length t.sites.items + 1) ∙ sc.table.long;
+    sites = λ k d l. ⊎_elim
+        (λ (m : k < length t.sites.items). subst (IsSite s words bs) (sym (old_site k d m)) (sc.table.sites k d m))
+        (λ (m : length t.sites.items ≤ k). subst (IsSite s words bs) (sym (new_site k d (omega (arith, m, l, sites_long)))) is_site)
+        (cases_lt k (length t.sites.items));
     index = λ b d l. ⊎_elim
         (λ (e : b ≡ start).
-        let k : slice_index u.index.items b ≡ length t.spots.items + 1 = ap (slice_index u.index.items) e ∙ new_index in
-        (omega (arith, k, spots_long), ap (λ z. z.start) (new_spot (slice_index u.index.items b - 1) d (omega (arith, k))) ∙ first ∙ sym e))
+        let k : slice_index u.index.items b ≡ length t.sites.items + 1 = ap (slice_index u.index.items) e ∙ new_index in
+        (omega (arith, k, sites_long), ap (λ z. z.start) (new_site (slice_index u.index.items b - 1) d (omega (arith, k))) ∙ first ∙ sym e))
         (λ (e : b ≡ start → ⊥).
         let k : slice_index u.index.items b ≡ slice_index t.index.items b = old_index b e in
         let old = sc.table.index b d (omega (arith, k, l)) in
-        let at : slice_index_or u.spots.items (slice_index u.index.items b - 1) d ≡ slice_index_or t.spots.items (slice_index t.index.items b - 1) d
-        = ap (λ j. slice_index_or u.spots.items (j - 1) d) k ∙ old_spot (slice_index t.index.items b - 1) d (omega (arith, old.0, k, l)) in
-        (omega (arith, k, old.0, spots_long), ap (λ z. z.start) at ∙ old.1))
+        let at : slice_index_or u.sites.items (slice_index u.index.items b - 1) d ≡ slice_index_or t.sites.items (slice_index t.index.items b - 1) d
+        = ap (λ j. slice_index_or u.sites.items (j - 1) d) k ∙ old_site (slice_index t.index.items b - 1) d (omega (arith, old.0, k, l)) in
+        (omega (arith, k, old.0, sites_long), ap (λ z. z.start) at ∙ old.1))
         (cases_eq b start);
   }
 

@@ -33,7 +33,7 @@ pub mod WayUp
 pub mod Adding
 pub mod AddPlayout
 pub mod InBlock
-pub mod SpotLaws
+pub mod SiteLaws
 pub mod Verifying
 pub mod TextLists
 pub mod OneList

@@ -8,9 +8,9 @@ use Rattle.tree_words.specs.Complete.{Linked}
 use Rattle.tree_words.specs.Told.{told_block}
 use Rattle.tree_words.proofs.Blocks.BlockLaws.{covers_if}
 use Rattle.tree_words.proofs.Blocks.GameLaws.{IsWhole}
-use Rattle.trace_audit.specs.declared.spots.Spot.{Spot}
-use Rattle.trace_audit.specs.declared.spots.Table.{Table}
-use Rattle.trace_audit.specs.Tables.{AreUnlinked, StandsInArea, IsSpot, Scanned}
+use Rattle.trace_audit.specs.declared.sites.Site.{Site}
+use Rattle.trace_audit.specs.declared.sites.Table.{Table}
+use Rattle.trace_audit.specs.Tables.{AreUnlinked, StandsInArea, IsSite, Scanned}
 use Rattle.trace_audit.proofs.LinkedBlocks.{link_real, link_whole, apart_blocks}
 
 -- a block that begins at p
@@ -36,13 +36,13 @@ module _ (s : Setting) (words : List ℕ) (h : IsSetting s) (t : Table) (p : ℕ
       record { inside = w.inside.1; claimed = w.claimed; shown = λ i l m. lk.shows.blocks block i (block_real cs lk) l m }
 
   -- and no other block begins within it
-  pub block_alone : (j : ℕ) (d : Spot) → p < j → j < p + size block → 0 < slice_index t.index.items j → AreUnlinked s words
+  pub block_alone : (j : ℕ) (d : Site) → p < j → j < p + size block → 0 < slice_index t.index.items j → AreUnlinked s words
   block_alone j d l m e cs lk =
       let k = sc.table.index j d e in
       let q : ℕ = slice_index t.index.items j - 1 in
-      let spot : Spot = slice_index_or t.spots.items q d in
-      let is : IsSpot s words bs spot = sc.table.spots q d (omega (arith, e, k.0)) in
-      let y : ℕ = slice_index words spot.start in
+      let site : Site = slice_index_or t.sites.items q d in
+      let is : IsSite s words bs site = sc.table.sites q d (omega (arith, e, k.0)) in
+      let y : ℕ = slice_index words site.start in
       let to : link_in words y ≡ j = is.link ∙ k.1 in
       let real : In (told_block s bs y (link_in words y)) cs = link_real s words h bs cs y lk (sc.known cs lk) is.node (omega (arith, to, l)) in
       let other : LinkedBlock = told_block s bs y (link_in words y) in

@@ -11,10 +11,10 @@ use Rattle.tree_words.specs.Paths.{NodeState, node_state, node_board}
 use Rattle.tree_words.specs.Growth.{other_words}
 use Rattle.tree_words.specs.Told.{told_block}
 use Rattle.tree_words.proofs.Blocks.Turned.{other-root, other-more}
-use Rattle.tree_words.proofs.Walks.Asking.{spot-size}
-use Rattle.trace_audit.specs.declared.spots.Spot.{Spot}
-use Rattle.trace_audit.specs.declared.spots.Table.{Table}
-use Rattle.trace_audit.specs.Tables.{AreUnlinked, block_at, StandsInArea, spot_state, IsSpot, IsEntered, Scanned}
+use Rattle.tree_words.proofs.Walks.Asking.{site-size}
+use Rattle.trace_audit.specs.declared.sites.Site.{Site}
+use Rattle.trace_audit.specs.declared.sites.Table.{Table}
+use Rattle.trace_audit.specs.Tables.{AreUnlinked, block_at, StandsInArea, site_state, IsSite, IsEntered, Scanned}
 use Rattle.trace_audit.proofs.MustStand.{block_alone, block_stands}
 use Rattle.trace_audit.proofs.Passing.{put}
 
@@ -23,57 +23,57 @@ module _ (s : Setting) (words : List ℕ) (h : IsSetting s) (t : Table) (p : ℕ
   is_number : n ≡ slice_index t.index.items p
   is_number = index ∙ get_or_default_zero t.index.items p n inside
 
-  pub number_least : (0 < n) × (n - 1 < length t.spots.items)
+  pub number_least : (0 < n) × (n - 1 < length t.sites.items)
   number_least =
       let k = sc.table.index p (record { start = 0; board = s.board; player = s.player }) entry in
       (omega (arith, is_number, entry), omega (arith, k.0, is_number, entry))
 
-  module _ (spot : Spot) (found : spot ≡ slice_index_or t.spots.items (n - 1) spot) where
-    at_start : spot.start ≡ p
+  module _ (site : Site) (found : site ≡ slice_index_or t.sites.items (n - 1) site) where
+    at_start : site.start ≡ p
     at_start =
-        let k = sc.table.index p spot entry in
-        ap (λ (z : Spot). z.start) (found ∙ ap (λ (m : ℕ). slice_index_or t.spots.items (m - 1) spot) is_number) ∙ k.1
+        let k = sc.table.index p site entry in
+        ap (λ (z : Site). z.start) (found ∙ ap (λ (m : ℕ). slice_index_or t.sites.items (m - 1) site) is_number) ∙ k.1
 
-    spot_of : IsSpot s words bs spot
-    spot_of = subst (IsSpot s words bs) (sym found) (sc.table.spots (n - 1) spot number_least.1)
+    site_of : IsSite s words bs site
+    site_of = subst (IsSite s words bs) (sym found) (sc.table.sites (n - 1) site number_least.1)
 
     abbrev x : ℕ
     x = slice_index words p
 
-    is_x : slice_index words spot.start ≡ x
+    is_x : slice_index words site.start ≡ x
     is_x = ap (slice_index words) at_start
 
     node : is_node (root_at s) bs x ≡ true
-    node = sym (ap (is_node (root_at s) bs) is_x) ∙ spot_of.node
+    node = sym (ap (is_node (root_at s) bs) is_x) ∙ site_of.node
 
     link : link_in words x ≡ p
-    link = sym (ap (link_in words) is_x) ∙ spot_of.link ∙ at_start
+    link = sym (ap (link_in words) is_x) ∙ site_of.link ∙ at_start
 
-    state : spot_state spot ≡ node_state s bs x
-    state = spot_of.state ∙ ap (node_state s bs) is_x
+    state : site_state site ≡ node_state s bs x
+    state = site_of.state ∙ ap (node_state s bs) is_x
 
-    board : spot.board ≡ node_board s bs x
+    board : site.board ≡ node_board s bs x
     board = ap (λ (q : NodeState). q.board) state
 
-    pub board_size : spot.board.size ≡ s.board.size
-    board_size = ap (λ (q : Position). q.size) board ∙ spot-size s bs x
+    pub board_size : site.board.size ≡ s.board.size
+    board_size = ap (λ (q : Position). q.size) board ∙ site-size s bs x
 
-    is_block : block_at s spot.board x p ≡ told_block s bs x p
+    is_block : block_at s site.board x p ≡ told_block s bs x p
     is_block = ap (λ (q : Position). block_at s q x p) board
 
     -- it stands wherever blocks are linked
-    pub must_stand : (StandsInArea s words (block_at s spot.board x p) → ⊥) → AreUnlinked s words
+    pub must_stand : (StandsInArea s words (block_at s site.board x p) → ⊥) → AreUnlinked s words
     must_stand not-so cs lk = not-so (subst (StandsInArea s words) (sym is_block) (block_stands s words h t p bs sc x node refl link cs lk))
 
     -- and no other block is entered within it
-    pub must_be_alone : (end : ℕ) → end ≡ p + size (block_at s spot.board x p) → (i : ℕ) → p + 1 ≤ i → i < end → 0 < slice_index t.index.items i → AreUnlinked s words
-    must_be_alone end e i l m k = block_alone s words h t p bs sc x node refl link i spot (omega (arith, l)) (omega (arith, m, e, ap size is_block)) k
+    pub must_be_alone : (end : ℕ) → end ≡ p + size (block_at s site.board x p) → (i : ℕ) → p + 1 ≤ i → i < end → 0 < slice_index t.index.items i → AreUnlinked s words
+    must_be_alone end e i l m k = block_alone s words h t p bs sc x node refl link i site (omega (arith, l)) (omega (arith, m, e, ap size is_block)) k
 
     -- so it is passed
-    pub is_passed : (u : Table) (end more : ℕ) → length words ≡ end_of s → u.index.items ≡ t.index.items → u.spots.items ≡ t.spots.items → u.others ≡ t.others + more
-        → StandsInArea s words (block_at s spot.board x p) → end ≡ p + size (block_at s spot.board x p) → ((i : ℕ) → p + 1 ≤ i → i < end → slice_index t.index.items i ≡ 0)
+    pub is_passed : (u : Table) (end more : ℕ) → length words ≡ end_of s → u.index.items ≡ t.index.items → u.sites.items ≡ t.sites.items → u.others ≡ t.others + more
+        → StandsInArea s words (block_at s site.board x p) → end ≡ p + size (block_at s site.board x p) → ((i : ℕ) → p + 1 ≤ i → i < end → slice_index t.index.items i ≡ 0)
         → (x ≡ root_at s → more ≡ 0) → ((x ≡ root_at s → ⊥) → more ≡ end - p) → IsEntered s words u (p + 4) p end (told_block s bs x p) bs
-    is_passed u end more long index' spots' others' st e free root other =
+    is_passed u end more long index' sites' others' st e free root other =
         let b : LinkedBlock = told_block s bs x p in
         let ends : end ≡ p + size b = omega (arith, e, ap size is_block) in
         let sum : u.others ≡ other_words s (b ∷ bs) = ⊎_elim
@@ -82,7 +82,7 @@ module _ (s : Setting) (words : List ℕ) (h : IsSetting s) (t : Table) (p : ℕ
         (cases_eq x (root_at s)) in
         let few = sc.few in
         let most : more ≤ end - p = ⊎_elim (λ (r : x ≡ root_at s). omega (arith, root r)) (λ (r : x ≡ root_at s → ⊥). omega (arith, other r)) (cases_eq x (root_at s)) in
-        let all : Scanned s words u (p + 4) (p + size b) (b ∷ bs) = put s words h t p bs sc x node refl link u index' spots' sum (omega (arith, others', few, most, ends)) entry (subst (StandsInArea s words) is_block st)
+        let all : Scanned s words u (p + 4) (p + size b) (b ∷ bs) = put s words h t p bs sc x node refl link u index' sites' sum (omega (arith, others', few, most, ends)) entry (subst (StandsInArea s words) is_block st)
         (λ i l m. free i l (omega (arith, m, ends))) in
         record {
           setting = h;

@@ -11,16 +11,16 @@ use Rattle.tree_words.specs.Complete.{HasEmpties, set_of}
 use Rattle.tree_words.specs.Growth.{other_words}
 use Rattle.tree_words.specs.Told.{told_block}
 use Rattle.tree_words.proofs.Blocks.BlockLaws.{covers_of, has-at, clash}
-use Rattle.tree_words.proofs.Blocks.GameLaws.{spot-same}
+use Rattle.tree_words.proofs.Blocks.GameLaws.{site-same}
 use Rattle.tree_words.proofs.Blocks.Members.{in-turned, names-in}
 use Rattle.tree_words.proofs.Blocks.NodeLaws.{cover-none, complete-more, link-none}
 use Rattle.tree_words.proofs.Blocks.Orders.{link-names}
 use Rattle.tree_words.proofs.Boards.RootLaws.{complete_in}
 use Rattle.tree_words.proofs.Boards.SetNumbers.{set-has_empties}
-use Rattle.tree_words.proofs.Walks.Asking.{spot-size}
-use Rattle.trace_audit.specs.declared.spots.Spot.{Spot}
-use Rattle.trace_audit.specs.declared.spots.Table.{Table}
-use Rattle.trace_audit.specs.Tables.{ShowBlock, StandsInArea, IsSpot, IsSpotTable, IsFollowed, Scanned}
+use Rattle.tree_words.proofs.Walks.Asking.{site-size}
+use Rattle.trace_audit.specs.declared.sites.Site.{Site}
+use Rattle.trace_audit.specs.declared.sites.Table.{Table}
+use Rattle.trace_audit.specs.Tables.{ShowBlock, StandsInArea, IsSite, IsSiteTable, IsFollowed, Scanned}
 use Rattle.trace_audit.proofs.LinkedBlocks.{node_below}
 use Rattle.trace_audit.proofs.MustStand.{block_real}
 
@@ -73,30 +73,30 @@ module _ (s : Setting) (words : List ℕ) (h : IsSetting s) (t : Table) (p : ℕ
   own_link : link_of (block ∷ bs) x ≡ p
   own_link = ap (λ (u : Bool). cond u p (link_of bs x)) (eq-eqb x x refl)
 
-  module _ (u : Table) (index : u.index.items ≡ t.index.items) (spots : u.spots.items ≡ t.spots.items) (others : u.others ≡ other_words s (block ∷ bs)) (few : u.others ≤ p + size block) (mark : 0 < slice_index t.index.items p)
+  module _ (u : Table) (index : u.index.items ≡ t.index.items) (sites : u.sites.items ≡ t.sites.items) (others : u.others ≡ other_words s (block ∷ bs)) (few : u.others ≤ p + size block) (mark : 0 < slice_index t.index.items p)
       (st : StandsInArea s words block) (free : (i : ℕ) → p + 1 ≤ i → i < p + size block → slice_index t.index.items i ≡ 0) where
     same_index : (b : ℕ) → slice_index u.index.items b ≡ slice_index t.index.items b
     same_index b = ap (λ l. slice_index l b) index
 
-    put_table : IsSpotTable s words (block ∷ bs) u
+    put_table : IsSiteTable s words (block ∷ bs) u
     put_table = record {
       long = ap length index ∙ sc.table.long;
-      spots = λ k d l.
-          let same : slice_index_or u.spots.items k d ≡ slice_index_or t.spots.items k d = ap (λ z. slice_index_or z k d) spots in
-          let old = sc.table.spots k d (omega (arith, l, ap length spots)) in
-          let spot : Spot = slice_index_or t.spots.items k d in
-          let now : IsSpot s words (block ∷ bs) spot = record {
-            node = or_right (has_node block (slice_index words spot.start)) (is_node (root_at s) bs (slice_index words spot.start)) old.node;
+      sites = λ k d l.
+          let same : slice_index_or u.sites.items k d ≡ slice_index_or t.sites.items k d = ap (λ z. slice_index_or z k d) sites in
+          let old = sc.table.sites k d (omega (arith, l, ap length sites)) in
+          let site : Site = slice_index_or t.sites.items k d in
+          let now : IsSite s words (block ∷ bs) site = record {
+            node = or_right (has_node block (slice_index words site.start)) (is_node (root_at s) bs (slice_index words site.start)) old.node;
             link = old.link;
             inside = old.inside;
-            state = old.state ∙ sym (spot-same s block bs (slice_index words spot.start) follows old.node);
+            state = old.state ∙ sym (site-same s block bs (slice_index words site.start) follows old.node);
           } in
-          subst (IsSpot s words (block ∷ bs)) (sym same) now;
+          subst (IsSite s words (block ∷ bs)) (sym same) now;
       index = λ b d l.
           let old = sc.table.index b d (omega (arith, same_index b, l)) in
-          let at : slice_index_or u.spots.items (slice_index u.index.items b - 1) d ≡ slice_index_or t.spots.items (slice_index t.index.items b - 1) d
-          = λ i. slice_index_or (spots i) (same_index b i - 1) d in
-          (omega (arith, same_index b, old.0, ap length spots), ap (λ z. z.start) at ∙ old.1);
+          let at : slice_index_or u.sites.items (slice_index u.index.items b - 1) d ≡ slice_index_or t.sites.items (slice_index t.index.items b - 1) d
+          = λ i. slice_index_or (sites i) (same_index b i - 1) d in
+          (omega (arith, same_index b, old.0, ap length sites), ap (λ z. z.start) at ∙ old.1);
     }
 
     put_links : (y : ℕ) → is_node (root_at s) (block ∷ bs) y ≡ true → y < p + 4 → IsFollowed words u (p + size block) (block ∷ bs) y
@@ -125,7 +125,7 @@ module _ (s : Setting) (words : List ℕ) (h : IsSetting s) (t : Table) (p : ℕ
     -- the block is passed
     pub put : Scanned s words u (p + 4) (p + size block) (block ∷ bs)
     put =
-        let small : (node_board s bs x).size ≤ 11 = let most = h.position.most in omega (arith, spot-size s bs x, most) in
+        let small : (node_board s bs x).size ≤ 11 = let most = h.position.most in omega (arith, site-size s bs x, most) in
         let empties : HasEmpties (set_of (empties_of (node_board s bs x))) (node_board s bs x) = set-has_empties (node_board s bs x) small in
         let area = sc.area in
         record {

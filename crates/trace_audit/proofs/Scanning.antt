@@ -10,7 +10,7 @@ use Rattle.tree_words.specs.Told.{told_block}
 use Rattle.tree_words.proofs.Blocks.BlockLaws.{covers_if, has-at}
 use Rattle.tree_words.proofs.Blocks.NodeLaws.{nodes-apart}
 use Rattle.tree_words.proofs.Blocks.OneTree.{knows-in}
-use Rattle.trace_audit.specs.declared.spots.Table.{Table}
+use Rattle.trace_audit.specs.declared.sites.Table.{Table}
 use Rattle.trace_audit.specs.Tables.{AreUnlinked, IsFollowed, IsLastNode, Scanned, IsLinked}
 use Rattle.trace_audit.proofs.LinkedBlocks.{apart_blocks, link_real, link_whole, first_word, node_below}
 
@@ -87,8 +87,8 @@ module _ (s : Setting) (words : List ℕ) (h : IsSetting s) where
   }
 
   -- before any block is found
-  pub scan_none : (t : Table) → length t.index.items ≡ end_of s → ((i : ℕ) → slice_index t.index.items i ≡ 0) → t.spots.items ≡ [] → t.others ≡ 0 → Scanned s words t (root_at s) (area_at s) []
-  scan_none t long none spots others = record {
+  pub scan_none : (t : Table) → length t.index.items ≡ end_of s → ((i : ℕ) → slice_index t.index.items i ≡ 0) → t.sites.items ≡ [] → t.others ≡ 0 → Scanned s words t (root_at s) (area_at s) []
+  scan_none t long none sites others = record {
     order = tt;
     shown = λ b i. absurd i;
     complete = tt;
@@ -96,7 +96,7 @@ module _ (s : Setting) (words : List ℕ) (h : IsSetting s) where
     area = omega arith;
     table = record {
       long = long;
-      spots = λ k d l. absurd (omega (arith, l, ap length spots));
+      sites = λ k d l. absurd (omega (arith, l, ap length sites));
       index = λ b d l. absurd (omega (arith, l, none b));
     };
     links = λ y n l. absurd (omega (arith, eqb-true y (root_at s) n, l));

@@ -6,7 +6,7 @@ use Rattle.tree_words.specs.Settings.{Setting, IsSetting}
 use Rattle.tree_words.specs.Words.{link_in}
 use Rattle.tree_words.specs.Blocks.{LinkedBlock, link_of}
 use Rattle.tree_words.proofs.Blocks.NodeLaws.{complete-more}
-use Rattle.trace_audit.specs.declared.spots.Table.{Table}
+use Rattle.trace_audit.specs.declared.sites.Table.{Table}
 use Rattle.trace_audit.specs.Tables.{Scanned}
 use Rattle.trace_audit.proofs.LinkedBlocks.{node_below}
 

@@ -63,8 +63,8 @@ module _ (s : Setting) (bs : List LinkedBlock) (words : List ℕ) (o : Ending) (
   module _ (b : LinkedBlock) (m : CanAdd s bs words now b x (s.knobs.playouts + (leaf - x))) (mover : Colour) (turn : mover ≡ other_of who) where
     pub mover_is : mover ≡ (node_state s bs b.parent).player
     mover_is =
-        let spot : node_state s bs x ≡ state_after (node_state s bs b.parent) (cell_at b (place b x)) = up-in (root_state s) (λ c z above. state_after above (cell_at c (place c z))) (root_at s) bs b x k.linked.order m.inside m.node in
-        turn ∙ ap other_of u.player ∙ ap mover_at spot ∙ other_again (node_state s bs b.parent).player
+        let site : node_state s bs x ≡ state_after (node_state s bs b.parent) (cell_at b (place b x)) = up-in (root_state s) (λ c z above. state_after above (cell_at c (place c z))) (root_at s) bs b x k.linked.order m.inside m.node in
+        turn ∙ ap other_of u.player ∙ ap mover_at site ∙ other_again (node_state s bs b.parent).player
 
     pub parent_below : b.parent < x
     parent_below = let low = parent_low (root_at s) bs b k.linked.order m.inside in let at = has-at b x m.node in omega (arith, low.0, at.2)

@@ -14,16 +14,16 @@ use Rattle.tree_words.specs.Settings.{IsSetting, Setting}
 use Rattle.tree_words.specs.Words.{cell_in, end_of, node_at, nodes_in}
 use Rattle.tree_words.specs.declared.layout.TheConstants.{SEEN_WORD}
 use Rattle.trace_audit.specs.Sums.{AreSums, CanAdd, CanClimb, Climbed, IsAdded}
-use Rattle.trace_audit.specs.Tables.{IsLinked, spot_state}
-use Rattle.trace_audit.specs.declared.spots.Spot.{Spot}
-use Rattle.trace_audit.specs.declared.spots.Table.{Table}
+use Rattle.trace_audit.specs.Tables.{IsLinked, site_state}
+use Rattle.trace_audit.specs.declared.sites.Site.{Site}
+use Rattle.trace_audit.specs.declared.sites.Table.{Table}
 
--- the words of the shape are linked by these blocks, and the table has the spot of each
+-- the words of the shape are linked by these blocks, and the table has the site of each
 abbrev pub IsLinkedTree : Setting → List LinkedBlock → List ℕ → Table → Type 0
 IsLinkedTree s bs words t =
     IsSetting s × (length words ≡ end_of s) × IsLinked s words t bs
 
--- the words are linked by blocks, and the table has the spot of each, for some shape
+-- the words are linked by blocks, and the table has the site of each, for some shape
 abbrev pub IsTableOf : List ℕ → Table → Type 0
 IsTableOf words t = (s : Setting) × (bs : List LinkedBlock) × IsLinkedTree s bs words t
 
@@ -47,10 +47,10 @@ abbrev pub IsLinkedNode : List ℕ → Table → ℕ → ℕ → Type 0
 IsLinkedNode words t at x = (s : Setting) × (bs : List LinkedBlock)
     × IsLinkedTree s bs words t × HasNodeAt bs at x
 
--- the spot has the board of the node x and the player to move there
-abbrev pub IsSpotOf : List ℕ → Table → ℕ → ℕ → Spot → Type 0
-IsSpotOf words t at x p = (s : Setting) (bs : List LinkedBlock)
-    → IsLinkedTree s bs words t → HasNodeAt bs at x → spot_state p ≡ node_state s bs x
+-- the site has the board of the node x and the player to move there
+abbrev pub IsSiteOf : List ℕ → Table → ℕ → ℕ → Site → Type 0
+IsSiteOf words t at x p = (s : Setting) (bs : List LinkedBlock)
+    → IsLinkedTree s bs words t → HasNodeAt bs at x → site_state p ≡ node_state s bs x
 
 -- each node of the block at b has the number of a cell
 abbrev pub AreCells : List ℕ → ℕ → Type 0

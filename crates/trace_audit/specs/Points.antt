@@ -8,8 +8,8 @@ use Rattle.tree_words.specs.Blocks.{block_size}
 use Rattle.tree_words.specs.Growth.{root_end}
 use Rattle.tree_words.specs.declared.layout.TheConstants.{MOST_BLOCK_WORDS}
 use Rattle.hex_cells.specs.declared.board_size.TheConstants.{MOST_CELLS}
-use Rattle.trace_audit.specs.declared.spots.Spot.{Spot}
-use Rattle.trace_audit.specs.declared.spots.Table.{Table}
+use Rattle.trace_audit.specs.declared.sites.Site.{Site}
+use Rattle.trace_audit.specs.declared.sites.Table.{Table}
 
 -- the node at x has the same counts in both
 abbrev pub AreSame : List ℕ → List ℕ → ℕ → Type 0
@@ -19,9 +19,9 @@ AreSame words sums x = (tally_in words x ≡ tally_in sums x) × (seen_in words 
 abbrev pub place_visits : List ℕ → ℕ → ℕ → ℕ
 place_visits words b k = (tally_in words (node_at b k)).visits
 
--- the node of place k of the spot's block is the leaf of at most so many records, where its board
+-- the node of place k of the site's block is the leaf of at most so many records, where its board
 -- has an empty cell
-abbrev pub IsFrugal : List ℕ → List ℕ → Spot → ℕ → ℕ → Type 0
+abbrev pub IsFrugal : List ℕ → List ℕ → Site → ℕ → ℕ → Type 0
 IsFrugal words sums p most k = let x = node_at p.start k in
     (c : ℕ) → is_empty_at (placed p.board p.player (cell_in (slice_index words x))) c ≡ true
     → slice_index sums x ≤ most
@@ -37,22 +37,22 @@ abbrev pub IsFirst : List ℕ → ℕ → ℕ → Type 0
 IsFirst words most b = (i j : ℕ) → i < nodes_in words b → j < nodes_in words b
     → place_visits words b j ≡ 0 → place_visits words b i ≤ most
 
--- each spot of the table is so
-abbrev pub EachSpot : Table → (Spot → Type 0) → Type 0
-EachSpot t P = (k : ℕ) (d : Spot) → k < length t.spots.items
-    → P (slice_index_or t.spots.items k d)
+-- each site of the table is so
+abbrev pub EachSite : Table → (Site → Type 0) → Type 0
+EachSite t P = (k : ℕ) (d : Site) → k < length t.sites.items
+    → P (slice_index_or t.sites.items k d)
 
--- a spot of the table is so
-abbrev pub SomeSpot : Table → (Spot → Type 0) → Type 0
-SomeSpot t P = (k : ℕ) × (d : Spot) × (k < length t.spots.items)
-    × P (slice_index_or t.spots.items k d)
+-- a site of the table is so
+abbrev pub SomeSite : Table → (Site → Type 0) → Type 0
+SomeSite t P = (k : ℕ) × (d : Site) × (k < length t.sites.items)
+    × P (slice_index_or t.sites.items k d)
 
--- the spot's block lies within the words
-abbrev pub LiesWithin : List ℕ → Spot → Type 0
+-- the site's block lies within the words
+abbrev pub LiesWithin : List ℕ → Site → Type 0
 LiesWithin words p = p.start + block_size (nodes_in words p.start) ≤ length words
 
--- the cells of the nodes of the spot's block are empty on its board
-abbrev pub HasCells : List ℕ → Spot → Type 0
+-- the cells of the nodes of the site's block are empty on its board
+abbrev pub HasCells : List ℕ → Site → Type 0
 HasCells words p = (k : ℕ) → k < nodes_in words p.start
     → let cell = cell_in (slice_index words (node_at p.start k)) in
     (cell < MOST_CELLS) × (is_empty_at p.board cell ≡ true)
@@ -66,17 +66,17 @@ abbrev pub IsSomeOther : List ℕ → List ℕ → ℕ → Type 0
 IsSomeOther words sums b =
     (k : ℕ) × (k < nodes_in words b) × ¬ (AreSame words sums (node_at b k))
 
--- the counts of all nodes of the spot's block are the sums
-abbrev pub HasSums : List ℕ → List ℕ → Spot → Type 0
+-- the counts of all nodes of the site's block are the sums
+abbrev pub HasSums : List ℕ → List ℕ → Site → Type 0
 HasSums words sums p = AreAllSame words sums p.start
 
--- each node of the spot's block is the leaf of few records
-abbrev pub AreFrugal : List ℕ → List ℕ → ℕ → Spot → Type 0
+-- each node of the site's block is the leaf of few records
+abbrev pub AreFrugal : List ℕ → List ℕ → ℕ → Site → Type 0
 AreFrugal words sums most p =
     (k : ℕ) → k < nodes_in words p.start → IsFrugal words sums p most k
 
--- a node of the spot's block is the leaf of more records, though its board has an empty cell
-abbrev pub IsSomeWasteful : List ℕ → List ℕ → ℕ → Spot → Type 0
+-- a node of the site's block is the leaf of more records, though its board has an empty cell
+abbrev pub IsSomeWasteful : List ℕ → List ℕ → ℕ → Site → Type 0
 IsSomeWasteful words sums most p =
     (k : ℕ) × (k < nodes_in words p.start) × ¬ (IsFrugal words sums p most k)
 
@@ -104,6 +104,6 @@ IsOpen p = (c : ℕ) × (is_empty_at p c ≡ true)
 abbrev pub IsFull : Position → Type 0
 IsFull p = (c : ℕ) → is_empty_at p c ≡ false
 
--- the answer says whether each spot of the table is so, or a spot is not
-abbrev pub TellsEach : Table → Bool → (Spot → Type 0) → Type 0
-TellsEach t answer P = MatchBool answer (EachSpot t P) (SomeSpot t (λ p. ¬ (P p)))
+-- the answer says whether each site of the table is so, or a site is not
+abbrev pub TellsEach : Table → Bool → (Site → Type 0) → Type 0
+TellsEach t answer P = MatchBool answer (EachSite t P) (SomeSite t (λ p. ¬ (P p)))

@@ -8,9 +8,9 @@ use Rattle.tree_words.specs.Settings.{Setting, IsSetting}
 use Rattle.tree_words.specs.Words.{area_at, end_of, root_at}
 use Rattle.tree_words.specs.declared.layout.TheConstants.{HEADER_WORDS}
 use Rattle.trace_audit.specs.Tables.{AreUnlinked, IsEntered, IsLastNode, IsLinked, Scanned}
-use Rattle.trace_audit.specs.Tables.{StandsInArea, spot_state}
-use Rattle.trace_audit.specs.declared.spots.Spot.{Spot}
-use Rattle.trace_audit.specs.declared.spots.Table.{Table}
+use Rattle.trace_audit.specs.Tables.{StandsInArea, site_state}
+use Rattle.trace_audit.specs.declared.sites.Site.{Site}
+use Rattle.trace_audit.specs.declared.sites.Table.{Table}
 
 -- the header words and the moves of the block, which has so many words, are those from `at` on
 abbrev pub ShowsWords : List ℕ → ℕ → List ℕ → ℕ → Type 0
@@ -41,12 +41,12 @@ abbrev pub HasNextNode : List ℕ → Table → ℕ → ℕ → Type 0
 HasNextNode words t x free =
     (s : Setting) × (bs : List LinkedBlock) × IsNextNode s bs words t x free
 
--- Whatever was found before: if x is the last node found and the spot tells what stands there, then
+-- Whatever was found before: if x is the last node found and the site tells what stands there, then
 -- the link of x is followed, or the words are linked by no blocks. The answer says which.
-abbrev pub FollowsLink : List ℕ → Table → Table → ℕ → ℕ → Spot → Bool → Type 0
+abbrev pub FollowsLink : List ℕ → Table → Table → ℕ → ℕ → Site → Bool → Type 0
 FollowsLink words before after x free p answer = (s : Setting) (bs : List LinkedBlock)
     → IsNextNode s bs words before x free → IsLastNode s free bs x
-    → spot_state p ≡ node_state s bs x
+    → site_state p ≡ node_state s bs x
     → MatchBool answer (Scanned s words after (x + 1) free bs) (AreUnlinked s words)
 
 -- a block that begins at `at` and ends at `end` was found last, and none of its links is followed
@@ -78,6 +78,6 @@ PassesBlock s words before after at answer = (bs : List LinkedBlock)
 abbrev pub IsScanBegun : Setting → List ℕ → Table → Type 0
 IsScanBegun s words t = Scanned s words t (area_at s) (area_at s) []
 
--- the words are linked by blocks, and the table has the spot of each
+-- the words are linked by blocks, and the table has the site of each
 abbrev pub IsLinkTable : Setting → List ℕ → Table → Type 0
 IsLinkTable s words t = (bs : List LinkedBlock) × IsLinked s words t bs

@@ -11,8 +11,8 @@ use Rattle.tree_words.specs.Paths.{NodeState, node_state}
 use Rattle.tree_words.specs.Complete.{Linked, AreComplete, allowed_cells, set_of}
 use Rattle.tree_words.specs.Growth.{other_words}
 use Rattle.tree_words.specs.Told.{Knows}
-use Rattle.trace_audit.specs.declared.spots.Spot.{Spot}
-use Rattle.trace_audit.specs.declared.spots.Table.{Table}
+use Rattle.trace_audit.specs.declared.sites.Site.{Site}
+use Rattle.trace_audit.specs.declared.sites.Table.{Table}
 
 -- the words are linked by no blocks
 abbrev pub AreUnlinked : Setting → List ℕ → Type 0
@@ -38,28 +38,28 @@ pub record StandsInArea (s : Setting) (words : List ℕ) (b : LinkedBlock) : Typ
   pub claimed : b.start + size b ≤ next_in words
   pub shown : ShowBlock words b
 
--- the board of a spot and the player to move there
-abbrev pub spot_state : Spot → NodeState
-spot_state p = record { board = p.board; player = p.player }
+-- the board of a site and the player to move there
+abbrev pub site_state : Site → NodeState
+site_state p = record { board = p.board; player = p.player }
 
--- the spot is of a block that a node's link names: the block's first word says which node, and the
--- spot has its board and the player to move there
-pub record IsSpot (s : Setting) (words : List ℕ) (bs : List LinkedBlock) (p : Spot) : Type 0 where
+-- the site is of a block that a node's link names: the block's first word says which node, and the
+-- site has its board and the player to move there
+pub record IsSite (s : Setting) (words : List ℕ) (bs : List LinkedBlock) (p : Site) : Type 0 where
   pub node : is_node (root_at s) bs (slice_index words p.start) ≡ true
   pub link : link_in words (slice_index words p.start) ≡ p.start
   pub inside : (area_at s ≤ p.start) × (p.start < end_of s)
-  pub state : spot_state p ≡ node_state s bs (slice_index words p.start)
+  pub state : site_state p ≡ node_state s bs (slice_index words p.start)
 
--- the table has spots alone, and each number of its index, if it is not 0, is that of a spot of
+-- the table has sites alone, and each number of its index, if it is not 0, is that of a site of
 -- this word
-pub record IsSpotTable (s : Setting) (words : List ℕ) (bs : List LinkedBlock) (t : Table)
+pub record IsSiteTable (s : Setting) (words : List ℕ) (bs : List LinkedBlock) (t : Table)
     : Type 0 where
   pub long : length t.index.items ≡ end_of s
-  pub spots : (k : ℕ) (d : Spot) → k < length t.spots.items
-      → IsSpot s words bs (slice_index_or t.spots.items k d)
-  pub index : (b : ℕ) (d : Spot) → 0 < slice_index t.index.items b
+  pub sites : (k : ℕ) (d : Site) → k < length t.sites.items
+      → IsSite s words bs (slice_index_or t.sites.items k d)
+  pub index : (b : ℕ) (d : Site) → 0 < slice_index t.index.items b
       → let k = slice_index t.index.items b in
-      (k ≤ length t.spots.items) × ((slice_index_or t.spots.items (k - 1) d).start ≡ b)
+      (k ≤ length t.sites.items) × ((slice_index_or t.sites.items (k - 1) d).start ≡ b)
 
 -- the link of the node x names the block below it, or a block that is entered in the table and not
 -- yet passed, and whose first word names the node
@@ -79,7 +79,7 @@ pub record Scanned (s : Setting) (words : List ℕ) (t : Table) (done passed : �
   pub complete : AreComplete s (next_in words) bs
   pub ended : AreComplete s passed bs
   pub area : area_at s ≤ passed
-  pub table : IsSpotTable s words bs t
+  pub table : IsSiteTable s words bs t
   pub links : (x : ℕ) → is_node (root_at s) bs x ≡ true → x < done
       → IsFollowed words t passed bs x
   pub vacant : (x : ℕ) → is_node (root_at s) bs x ≡ true → done ≤ x → link_of bs x ≡ 0
@@ -105,11 +105,11 @@ IsLastNode s passed bs x =
     ((x ≡ root_at s) × (passed ≡ area_at s))
     ⊎ ((b : LinkedBlock) × In b bs × (has_node b x ≡ true) × (passed ≡ b.start + size b))
 
--- The blocks are linked, and the table has the spot of each.
+-- The blocks are linked, and the table has the site of each.
 pub record IsLinked (s : Setting) (words : List ℕ) (t : Table) (bs : List LinkedBlock)
     : Type 0 where
   pub linked : Linked s words bs
-  pub table : IsSpotTable s words bs t
+  pub table : IsSiteTable s words bs t
   pub entered : (b : LinkedBlock) → In b bs → 0 < slice_index t.index.items b.start
   pub others : t.others ≡ other_words s bs
   pub few : t.others ≤ end_of s

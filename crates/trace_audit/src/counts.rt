@@ -4,10 +4,10 @@ ghost use Rattle.std.specs.Prelude.{◌≡◌, ◌+◌, ◌≤◌, MatchBool, le
 ghost use Rattle.tree_words.specs.Blocks.{block_size};
 ghost use Rattle.tree_words.specs.Words.{end_of, nodes_in};
 ghost use Rattle.trace_audit.specs.Playouts.{HasSumsOf, TellsExact};
-ghost use Rattle.trace_audit.specs.Points.{AreAllSame, AreSame, EachSpot, HasSums, IsSomeOther};
+ghost use Rattle.trace_audit.specs.Points.{AreAllSame, AreSame, EachSite, HasSums, IsSomeOther};
 ghost use Rattle.trace_audit.specs.Points.{LiesWithin, TellsEach};
 
-use super::spots::Table;
+use super::sites::Table;
 use tree_words::Shape;
 use tree_words::layout::{COUNT_WORD, HEADER_WORDS, NODE_WORDS, RECORDS_AT, SEEN_WORD, TALLY_WORD};
 
@@ -38,13 +38,13 @@ fn has_sums(words: &[u64], sums: &[u64], block: usize) -> bool
 
 // Whether the counts of the nodes of all blocks are the sums.
 fn each_same(words: &[u64], sums: &[u64], table: &Table) -> bool
-    requires within { EachSpot table.now (LiesWithin words.now) }
+    requires within { EachSite table.now (LiesWithin words.now) }
     requires long { length sums.now ≡ length words.now }
     ensures { TellsEach table.now result (HasSums words.now sums.now) }
 {
-    'spots: for i in 0..table.spots.len() {
-        let spot = table.spots[i];
-        if !has_sums(words, sums, spot.start) {
+    'sites: for i in 0..table.sites.len() {
+        let site = table.sites[i];
+        if !has_sums(words, sums, site.start) {
             return false;
         }
     }

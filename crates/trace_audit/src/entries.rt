@@ -4,7 +4,7 @@ ghost use Rattle.std.specs.Prelude.{IfOk};
 ghost use Rattle.trace_audit.specs.Scans.{FollowsLink, FollowsLinks, HasNextNode, IsFoundLast};
 
 use super::refusals::Memory;
-use super::spots::{Spot, Table};
+use super::sites::{Site, Table};
 use hex_cells::Cell;
 use tree_words::cell_of;
 use tree_words::layout::{HEADER_WORDS, LINK_WORD, NODE_WORDS};
@@ -16,10 +16,10 @@ pub(crate) fn enter(
     table: &mut Table,
     x: usize,
     free: usize,
-    spot: Spot,
+    site: Site,
 ) -> Result<bool, Memory>
     requires { HasNextNode words.now table.old x free }
-    ensures { IfOk result (λ ok. FollowsLink words.now table.old table.new x free spot ok) }
+    ensures { IfOk result (λ ok. FollowsLink words.now table.old table.new x free site ok) }
 {
     let link = words[x + LINK_WORD];
     if link == 0 {
@@ -35,10 +35,10 @@ pub(crate) fn enter(
     if words[start] != x as u64 {
         return Ok(false);
     }
-    let Ok(()) = table.spots.push(Spot { start, ..spot }) else {
+    let Ok(()) = table.sites.push(Site { start, ..site }) else {
         return Err(Memory);
     };
-    table.index[start] = table.spots.len();
+    table.index[start] = table.sites.len();
     Ok(true)
 }
 
@@ -52,10 +52,10 @@ pub(crate) fn enter_all(
     requires { IsFoundLast words.now table.old at end }
     ensures { IfOk result (λ ok. FollowsLinks words.now table.old table.new at end ok) }
 {
-    let spot = table.spots[table.index[at] - 1];
+    let site = table.sites[table.index[at] - 1];
     let mut x = at + HEADER_WORDS;
     'nodes: while x < end {
-        let after = spot.after(Cell::numbered(cell_of(words[x])));
+        let after = site.after(Cell::numbered(cell_of(words[x])));
         if !enter(words, table, x, end, after)? {
             return Ok(false);
         }

@@ -6,11 +6,11 @@ ghost use Rattle.tree_words.specs.Blocks.{block_size};
 ghost use Rattle.tree_words.specs.Complete.{allowed_cells};
 ghost use Rattle.tree_words.specs.Words.{end_of, nodes_in};
 ghost use Rattle.trace_audit.specs.Playouts.{HasSumsOf, TellsGrown};
-ghost use Rattle.trace_audit.specs.Points.{AreFrugal, AreUpTo, AreVisited, EachSpot, HasCells};
+ghost use Rattle.trace_audit.specs.Points.{AreFrugal, AreUpTo, AreVisited, EachSite, HasCells};
 ghost use Rattle.trace_audit.specs.Points.{IsFirst, IsFull, IsNextBounded, IsOpen, IsSomeAbove};
 ghost use Rattle.trace_audit.specs.Points.{IsSomeUnvisited, IsSomeWasteful, LiesWithin, TellsEach};
 
-use super::spots::{Spot, Table};
+use super::sites::{Site, Table};
 use hex_cells::Cell;
 use tree_words::layout::{
     COUNT_WORD, FRONT_WORDS, HEADER_WORDS, MOST_BLOCK_WORDS, MOST_NODES, NEXT_AT, NODE_WORDS,
@@ -51,28 +51,28 @@ fn has_more(words: &[u64], block: usize, most: u32) -> bool
 }
 
 // Whether the board after a stone on the cell has an empty cell.
-fn is_open(spot: &Spot, cell: Cell) -> bool
-    requires { is_empty_at spot.now.board cell ≡ true }
-    ensures { let board = placed spot.now.board spot.now.player cell in
+fn is_open(site: &Site, cell: Cell) -> bool
+    requires { is_empty_at site.now.board cell ≡ true }
+    ensures { let board = placed site.now.board site.now.player cell in
         MatchBool result (IsOpen board) (IsFull board) }
 {
-    let after = spot.after(cell);
+    let after = site.after(cell);
     after.board.empties().least().is_some()
 }
 
 // Whether each node of the block with an empty cell on its board is the leaf of at most so many
 // records.
-fn has_few_leaves(words: &[u64], sums: &[u64], spot: &Spot, most: u64) -> bool
-    requires within { LiesWithin words.now spot.now }
+fn has_few_leaves(words: &[u64], sums: &[u64], site: &Site, most: u64) -> bool
+    requires within { LiesWithin words.now site.now }
     requires long { length sums.now ≡ length words.now }
-    requires cells { HasCells words.now spot.now }
-    ensures { MatchBool result (AreFrugal words.now sums.now most spot.now)
-        (IsSomeWasteful words.now sums.now most spot.now) }
+    requires cells { HasCells words.now site.now }
+    ensures { MatchBool result (AreFrugal words.now sums.now most site.now)
+        (IsSomeWasteful words.now sums.now most site.now) }
 {
-    let count = words[spot.start + COUNT_WORD] as usize;
+    let count = words[site.start + COUNT_WORD] as usize;
     'nodes: for place in 0..count {
-        let x = spot.start + HEADER_WORDS + NODE_WORDS * place;
-        if most < sums[x] && is_open(spot, Cell::numbered(cell_of(words[x]))) {
+        let x = site.start + HEADER_WORDS + NODE_WORDS * place;
+        if most < sums[x] && is_open(site, Cell::numbered(cell_of(words[x]))) {
             return false;
         }
     }
@@ -105,12 +105,12 @@ fn has_room(words: &[u64], shape: &Shape, others: usize) -> bool
 
 // Whether in each block that has a node without visits no node has more than so many.
 fn each_first(words: &[u64], table: &Table, most: u32) -> bool
-    requires { EachSpot table.now (LiesWithin words.now) }
+    requires { EachSite table.now (LiesWithin words.now) }
     ensures { TellsEach table.now result (λ p. IsFirst words.now most p.start) }
 {
-    'spots: for i in 0..table.spots.len() {
-        let spot = table.spots[i];
-        if has_unvisited(words, spot.start) && has_more(words, spot.start, most) {
+    'sites: for i in 0..table.sites.len() {
+        let site = table.sites[i];
+        if has_unvisited(words, site.start) && has_more(words, site.start, most) {
             return false;
         }
     }
@@ -119,14 +119,14 @@ fn each_first(words: &[u64], table: &Table, most: u32) -> bool
 
 // Whether each node with an empty cell on its board is the leaf of at most so many records.
 fn each_frugal(words: &[u64], sums: &[u64], table: &Table, most: u64) -> bool
-    requires within { EachSpot table.now (LiesWithin words.now) }
-    requires cells { EachSpot table.now (HasCells words.now) }
+    requires within { EachSite table.now (LiesWithin words.now) }
+    requires cells { EachSite table.now (HasCells words.now) }
     requires long { length sums.now ≡ length words.now }
     ensures { TellsEach table.now result (AreFrugal words.now sums.now most) }
 {
-    'spots: for i in 0..table.spots.len() {
-        let spot = table.spots[i];
-        if !has_few_leaves(words, sums, &spot, most) {
+    'sites: for i in 0..table.sites.len() {
+        let site = table.sites[i];
+        if !has_few_leaves(words, sums, &site, most) {
             return false;
         }
     }

@@ -50,7 +50,7 @@ mod linking;
 mod parsing;
 mod recording;
 mod refusals;
-mod spots;
+mod sites;
 #[cfg(test)]
 mod tests;
 mod texts;

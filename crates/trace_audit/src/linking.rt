@@ -8,7 +8,7 @@ ghost use Rattle.trace_audit.specs.Tables.{AreUnlinked};
 use super::blocks::block_end;
 use super::entries::{enter, enter_all};
 use super::refusals::Memory;
-use super::spots::{Spot, Table, has_entry, no_entries};
+use super::sites::{Site, Table, has_entry, no_entries};
 use std::alloc::Global;
 use tree_words::Shape;
 use tree_words::layout::{FRONT_WORDS, NODE_WORDS, RECORDS_AT};
@@ -42,9 +42,9 @@ fn pass_block(
 {
     // What each shape keeps of itself.
     let _board = shape.board();
-    let spot = table.spots[table.index[at] - 1];
+    let site = table.sites[table.index[at] - 1];
     let parent = words[at] as usize;
-    let Some(end) = block_end(words, shape, at, parent, &spot.board) else {
+    let Some(end) = block_end(words, shape, at, parent, &site.board) else {
         return Ok(None);
     };
     if has_entry(&table.index, at + 1, end) {
@@ -68,16 +68,16 @@ fn begin(alloc: Global, shape: &Shape, words: &[u64]) -> Result<Option<Table>, M
     let _board = shape.board();
     let mut table = Table {
         index: no_entries(alloc, words.len())?,
-        spots: Vec::new(alloc),
+        sites: Vec::new(alloc),
         others: 0,
     };
     let root = shape.knobs().playouts as usize + RECORDS_AT;
-    let spot = Spot {
+    let site = Site {
         start: 0,
         board: *shape.board(),
         player: shape.colour(),
     };
-    if enter(words, &mut table, root, root + NODE_WORDS, spot)? {
+    if enter(words, &mut table, root, root + NODE_WORDS, site)? {
         Ok(Some(table))
     } else {
         Ok(None)

@@ -3,12 +3,12 @@
 ghost use Rattle.std.specs.Prelude.{◌≡◌, ◌<◌, IfOk, MatchBool, length};
 ghost use Rattle.tree_words.specs.Words.{end_of, winner_in};
 ghost use Rattle.trace_audit.specs.Playouts.{AddsPlayout, AddsPlayouts, HasSumsOf, IsBlockOf};
-ghost use Rattle.trace_audit.specs.Playouts.{IsLinkedNode, IsSpotOf, IsTableOf};
+ghost use Rattle.trace_audit.specs.Playouts.{IsLinkedNode, IsSiteOf, IsTableOf};
 ghost use Rattle.trace_audit.specs.Scans.{IsLinkTable};
 
 use super::gains::{climb, gain};
 use super::refusals::Memory;
-use super::spots::{Spot, Table};
+use super::sites::{Site, Table};
 use super::zeros::zeros;
 use hex_cells::{Cell, Colour};
 use play_out::play;
@@ -61,12 +61,12 @@ fn is_winner(player: Colour, word: u64) -> bool
 }
 
 // The board and the player to move at a node of the block at `block`.
-fn spot_of(words: &[u64], table: &Table, block: usize, node: usize) -> Spot
+fn site_of(words: &[u64], table: &Table, block: usize, node: usize) -> Site
     requires { IsLinkedNode words.now table.now block node }
-    ensures { IsSpotOf words.now table.now block node result }
+    ensures { IsSiteOf words.now table.now block node result }
 {
-    let spot = table.spots[table.index[block] - 1];
-    spot.after(Cell::numbered(cell_of(words[node])))
+    let site = table.sites[table.index[block] - 1];
+    site.after(Cell::numbered(cell_of(words[node])))
 }
 
 // Adds playout `k` to the sums, where its record is right.
@@ -83,13 +83,13 @@ fn add(words: &[u64], shape: &Shape, table: &Table, sums: &mut [u64], k: u32) ->
         return false;
     };
     let leaf = (word / RECORD_UNIT) as usize;
-    let spot = spot_of(words, table, block, leaf);
-    let ending = play(&spot.board, spot.player, shape.knobs().seed, u64::from(k));
+    let site = site_of(words, table, block, leaf);
+    let ending = play(&site.board, site.player, shape.knobs().seed, u64::from(k));
     if !is_winner(ending.winner, word) {
         return false;
     }
     let root = shape.knobs().playouts as usize + RECORDS_AT;
-    climb(words, sums, root, leaf, spot.player, &ending);
+    climb(words, sums, root, leaf, site.player, &ending);
     // The move word of the sums counts the records whose leaf it is.
     gain(sums, leaf, 1);
     true

@@ -1,7 +1,7 @@
 use Rattle.std.proofs.Common.{◌≡◌, ℕ, ◌+◌, slice_index, sym, ap, ◌∙◌}
 use Rattle.tree_words.specs.Words.{root_at}
 use Rattle.trace_audit.proofs.Matches.{match_on}
-use Rattle.trace_audit.proofs.SpotLaws.{spots_within}
+use Rattle.trace_audit.proofs.SiteLaws.{sites_within}
 use Rattle.trace_audit.proofs.Verifying.{exact_of, not_exact, top_of}
 use Rattle.trace_audit.proofs.counts.is_exact.Goals as goal
 
@@ -13,7 +13,7 @@ returns-then-words-root c = λ bs lk a e.
     ∙ sym (ap (λ (r : ℕ). slice_index c.args.sums.now (r + 2)) top))
 
 pub each_same-requires-clause-within : goal.each_same-requires-clause-within
-each_same-requires-clause-within c = spots_within c.args.shape.now c.args.words.now c.args.table.now c.requires.sums.0 c.board-board.ensures.setting c.requires.long c.requires.sums.1
+each_same-requires-clause-within c = sites_within c.args.shape.now c.args.words.now c.args.table.now c.requires.sums.0 c.board-board.ensures.setting c.requires.long c.requires.sums.1
 
 pub returns : goal.returns
 returns c = λ bs lk a.

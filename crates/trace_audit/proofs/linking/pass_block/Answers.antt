@@ -12,7 +12,7 @@ index-requires-2 c =
     let r = c.requires.scanned in
     let long = r.1.table.long in
     let k = number_least c.args.shape.now c.args.words.now c.board-board.ensures.setting c.args.table.now c.args.at r.0 r.1 c.index.result.now (omega (arith, long, c.requires.at, c.requires.long)) c.requires.entry c.index.ensures in
-    omega (arith, k.1, c.args.table.now.spots.ok.0)
+    omega (arith, k.1, c.args.table.now.sites.ok.0)
 
 pub block_end-requires-clause-size : goal.block_end-requires-clause-size
 block_end-requires-clause-size c =
@@ -43,7 +43,7 @@ enter_all-requires c =
       told_block c.args.shape.now bs (slice_index c.args.words.now c.args.at) c.args.at,
       bs,
       is_passed c.args.shape.now c.args.words.now c.board-board.ensures.setting c.args.table.now c.args.at bs sc c.index.result.now (omega (arith, long, c.requires.at, c.requires.long)) c.requires.entry c.index.ensures
-          c.index-2.result.now c.index-2.ensures (record { index = c.args.table.now.index; spots = c.args.table.now.spots; others = c.args.table.now.others + c.other_words.result }) c.in-Some.end c.other_words.result c.requires.long refl refl refl
+          c.index-2.result.now c.index-2.ensures (record { index = c.args.table.now.index; sites = c.args.table.now.sites; others = c.args.table.now.others + c.other_words.result }) c.in-Some.end c.other_words.result c.requires.long refl refl refl
           c.in-Some.ensures.0 c.in-Some.ensures.1 (λ i l m. sym (ap (λ z. slice_index z i) c.deref.ensures.value) ∙ if_no c.has_entry.result _ _ c.has_entry.ensures c.if-has_entry.false i l m) c.other_words.ensures.root c.other_words.ensures.other,
     )
 
@@ -52,7 +52,7 @@ returns-then-branch c = λ bs sc.
     let long = sc.table.long in
     let b : LinkedBlock = told_block c.args.shape.now bs (slice_index c.args.words.now c.args.at) c.args.at in
     let e = is_passed c.args.shape.now c.args.words.now c.board-board.ensures.setting c.args.table.now c.args.at bs sc c.index.result.now (omega (arith, long, c.requires.at, c.requires.long)) c.requires.entry c.index.ensures
-    c.index-2.result.now c.index-2.ensures (record { index = c.args.table.now.index; spots = c.args.table.now.spots; others = c.args.table.now.others + c.other_words.result }) c.in-Some.end c.other_words.result c.requires.long refl refl refl
+    c.index-2.result.now c.index-2.ensures (record { index = c.args.table.now.index; sites = c.args.table.now.sites; others = c.args.table.now.others + c.other_words.result }) c.in-Some.end c.other_words.result c.requires.long refl refl refl
     c.in-Some.ensures.0 c.in-Some.ensures.1 (λ i l m. sym (ap (λ z. slice_index z i) c.deref.ensures.value) ∙ if_no c.has_entry.result _ _ c.has_entry.ensures c.if-has_entry.false i l m) c.other_words.ensures.root c.other_words.ensures.other in
     let done = if_yes c.in_ok-enter_all.field-0 _ _ (c.in_ok-enter_all.ensures c.args.shape.now b bs e) c.if-branch.true in
     let inside = c.in-Some.ensures.0.inside in
@@ -64,6 +64,6 @@ returns-else-branch c = λ bs sc.
     let long = sc.table.long in
     let b : LinkedBlock = told_block c.args.shape.now bs (slice_index c.args.words.now c.args.at) c.args.at in
     let e = is_passed c.args.shape.now c.args.words.now c.board-board.ensures.setting c.args.table.now c.args.at bs sc c.index.result.now (omega (arith, long, c.requires.at, c.requires.long)) c.requires.entry c.index.ensures
-    c.index-2.result.now c.index-2.ensures (record { index = c.args.table.now.index; spots = c.args.table.now.spots; others = c.args.table.now.others + c.other_words.result }) c.in-Some.end c.other_words.result c.requires.long refl refl refl
+    c.index-2.result.now c.index-2.ensures (record { index = c.args.table.now.index; sites = c.args.table.now.sites; others = c.args.table.now.others + c.other_words.result }) c.in-Some.end c.other_words.result c.requires.long refl refl refl
     c.in-Some.ensures.0 c.in-Some.ensures.1 (λ i l m. sym (ap (λ z. slice_index z i) c.deref.ensures.value) ∙ if_no c.has_entry.result _ _ c.has_entry.ensures c.if-has_entry.false i l m) c.other_words.ensures.root c.other_words.ensures.other in
     if_no c.in_ok-enter_all.field-0 _ _ (c.in_ok-enter_all.ensures c.args.shape.now b bs e) c.if-branch.false

@@ -13,8 +13,8 @@ returns-then-not-is_winner c = λ bs lk a.
     let s = c.args.shape.now in
     let h = c.board-board.ensures.setting in
     let f = c.in-Some.ensures s bs (h, c.requires.long, lk) in
-    let state = c.spot_of-spot.ensures s bs (h, c.requires.long, lk) f in
-    wrong_record s bs c.args.words.now c.args.sums.now c.args.table.now c.args.k h c.requires.long lk a c.requires.number f.0 f.1 f.3 c.spot_of-spot.result state c.play-ending.result _ _ (ap (λ k. k.seed) c.knobs.ensures.value) c.from.ensures c.play-ending.ensures.full c.play-ending.ensures.winner
+    let state = c.site_of-site.ensures s bs (h, c.requires.long, lk) f in
+    wrong_record s bs c.args.words.now c.args.sums.now c.args.table.now c.args.k h c.requires.long lk a c.requires.number f.0 f.1 f.3 c.site_of-site.result state c.play-ending.result _ _ (ap (λ k. k.seed) c.knobs.ensures.value) c.from.ensures c.play-ending.ensures.full c.play-ending.ensures.winner
     (if_no c.is_winner.result _ _ c.is_winner.ensures c.if-not-is_winner.true)
 
 pub climb-requires : goal.climb-requires
@@ -25,11 +25,11 @@ climb-requires c =
     let lk = c.requires.sums.1 in
     let a = c.requires.sums.2 in
     let f = c.in-Some.ensures s bs (h, c.requires.long, lk) in
-    let state = c.spot_of-spot.ensures s bs (h, c.requires.long, lk) f in (
+    let state = c.site_of-site.ensures s bs (h, c.requires.long, lk) f in (
       s,
       bs,
-      can_climb s bs c.args.words.now c.args.sums.now c.args.table.now c.args.k h c.requires.long lk a c.requires.number f.0 f.1 f.3 c.spot_of-spot.result state _ (ap (λ k. k.playouts + 2) c.knobs-2.ensures.value),
-      player_is s bs c.args.words.now c.args.sums.now c.args.table.now c.args.k h c.requires.long lk a c.requires.number f.0 f.1 f.3 c.spot_of-spot.result state,
+      can_climb s bs c.args.words.now c.args.sums.now c.args.table.now c.args.k h c.requires.long lk a c.requires.number f.0 f.1 f.3 c.site_of-site.result state _ (ap (λ k. k.playouts + 2) c.knobs-2.ensures.value),
+      player_is s bs c.args.words.now c.args.sums.now c.args.table.now c.args.k h c.requires.long lk a c.requires.number f.0 f.1 f.3 c.site_of-site.result state,
     )
 
 pub gain-requires-clause-within : goal.gain-requires-clause-within
@@ -40,10 +40,10 @@ gain-requires-clause-within c =
     let lk = c.requires.sums.1 in
     let a = c.requires.sums.2 in
     let f = c.in-Some.ensures s bs (h, c.requires.long, lk) in
-    let state = c.spot_of-spot.ensures s bs (h, c.requires.long, lk) f in
-    let k = can_climb s bs c.args.words.now c.args.sums.now c.args.table.now c.args.k h c.requires.long lk a c.requires.number f.0 f.1 f.3 c.spot_of-spot.result state _ (ap (λ k. k.playouts + 2) c.knobs-2.ensures.value) in
-    let p = player_is s bs c.args.words.now c.args.sums.now c.args.table.now c.args.k h c.requires.long lk a c.requires.number f.0 f.1 f.3 c.spot_of-spot.result state in
-    leaf_inside s bs c.args.words.now c.args.sums.now c.args.table.now c.args.k h c.requires.long lk a c.requires.number f.0 f.1 f.3 c.spot_of-spot.result state c.play-ending.result _ _ (ap (λ k. k.seed) c.knobs.ensures.value) c.from.ensures c.play-ending.ensures.full c.play-ending.ensures.winner
+    let state = c.site_of-site.ensures s bs (h, c.requires.long, lk) f in
+    let k = can_climb s bs c.args.words.now c.args.sums.now c.args.table.now c.args.k h c.requires.long lk a c.requires.number f.0 f.1 f.3 c.site_of-site.result state _ (ap (λ k. k.playouts + 2) c.knobs-2.ensures.value) in
+    let p = player_is s bs c.args.words.now c.args.sums.now c.args.table.now c.args.k h c.requires.long lk a c.requires.number f.0 f.1 f.3 c.site_of-site.result state in
+    leaf_inside s bs c.args.words.now c.args.sums.now c.args.table.now c.args.k h c.requires.long lk a c.requires.number f.0 f.1 f.3 c.site_of-site.result state c.play-ending.result _ _ (ap (λ k. k.seed) c.knobs.ensures.value) c.from.ensures c.play-ending.ensures.full c.play-ending.ensures.winner
     c.climb.new.sums (c.climb.ensures s bs k p)
 
 pub gain-requires-clause-small : goal.gain-requires-clause-small
@@ -54,10 +54,10 @@ gain-requires-clause-small c =
     let lk = c.requires.sums.1 in
     let a = c.requires.sums.2 in
     let f = c.in-Some.ensures s bs (h, c.requires.long, lk) in
-    let state = c.spot_of-spot.ensures s bs (h, c.requires.long, lk) f in
-    let k = can_climb s bs c.args.words.now c.args.sums.now c.args.table.now c.args.k h c.requires.long lk a c.requires.number f.0 f.1 f.3 c.spot_of-spot.result state _ (ap (λ k. k.playouts + 2) c.knobs-2.ensures.value) in
-    let p = player_is s bs c.args.words.now c.args.sums.now c.args.table.now c.args.k h c.requires.long lk a c.requires.number f.0 f.1 f.3 c.spot_of-spot.result state in
-    leaf_small s bs c.args.words.now c.args.sums.now c.args.table.now c.args.k h c.requires.long lk a c.requires.number f.0 f.1 f.3 c.spot_of-spot.result state c.play-ending.result _ _ (ap (λ k. k.seed) c.knobs.ensures.value) c.from.ensures c.play-ending.ensures.full c.play-ending.ensures.winner
+    let state = c.site_of-site.ensures s bs (h, c.requires.long, lk) f in
+    let k = can_climb s bs c.args.words.now c.args.sums.now c.args.table.now c.args.k h c.requires.long lk a c.requires.number f.0 f.1 f.3 c.site_of-site.result state _ (ap (λ k. k.playouts + 2) c.knobs-2.ensures.value) in
+    let p = player_is s bs c.args.words.now c.args.sums.now c.args.table.now c.args.k h c.requires.long lk a c.requires.number f.0 f.1 f.3 c.site_of-site.result state in
+    leaf_small s bs c.args.words.now c.args.sums.now c.args.table.now c.args.k h c.requires.long lk a c.requires.number f.0 f.1 f.3 c.site_of-site.result state c.play-ending.result _ _ (ap (λ k. k.seed) c.knobs.ensures.value) c.from.ensures c.play-ending.ensures.full c.play-ending.ensures.winner
     c.climb.new.sums (c.climb.ensures s bs k p)
 
 pub returns : goal.returns
@@ -65,12 +65,12 @@ returns c = λ bs lk a.
     let s = c.args.shape.now in
     let h = c.board-board.ensures.setting in
     let f = c.in-Some.ensures s bs (h, c.requires.long, lk) in
-    let state = c.spot_of-spot.ensures s bs (h, c.requires.long, lk) f in
-    let k = can_climb s bs c.args.words.now c.args.sums.now c.args.table.now c.args.k h c.requires.long lk a c.requires.number f.0 f.1 f.3 c.spot_of-spot.result state _ (ap (λ k. k.playouts + 2) c.knobs-2.ensures.value) in
-    let p = player_is s bs c.args.words.now c.args.sums.now c.args.table.now c.args.k h c.requires.long lk a c.requires.number f.0 f.1 f.3 c.spot_of-spot.result state in (
-      right_record s bs c.args.words.now c.args.sums.now c.args.table.now c.args.k h c.requires.long lk a c.requires.number f.0 f.1 f.3 c.spot_of-spot.result state c.play-ending.result _ _ (ap (λ k. k.seed) c.knobs.ensures.value) c.from.ensures c.play-ending.ensures.full c.play-ending.ensures.winner
+    let state = c.site_of-site.ensures s bs (h, c.requires.long, lk) f in
+    let k = can_climb s bs c.args.words.now c.args.sums.now c.args.table.now c.args.k h c.requires.long lk a c.requires.number f.0 f.1 f.3 c.site_of-site.result state _ (ap (λ k. k.playouts + 2) c.knobs-2.ensures.value) in
+    let p = player_is s bs c.args.words.now c.args.sums.now c.args.table.now c.args.k h c.requires.long lk a c.requires.number f.0 f.1 f.3 c.site_of-site.result state in (
+      right_record s bs c.args.words.now c.args.sums.now c.args.table.now c.args.k h c.requires.long lk a c.requires.number f.0 f.1 f.3 c.site_of-site.result state c.play-ending.result _ _ (ap (λ k. k.seed) c.knobs.ensures.value) c.from.ensures c.play-ending.ensures.full c.play-ending.ensures.winner
           (if_yes c.is_winner.result _ _ c.is_winner.ensures c.if-not-is_winner.false),
       subst (λ (l : List ℕ). AreSums s bs c.args.words.now l (c.args.k + 1)) (sym c.gain.ensures)
-          (playout_added s bs c.args.words.now c.args.sums.now c.args.table.now c.args.k h c.requires.long lk a c.requires.number f.0 f.1 f.3 c.spot_of-spot.result state c.play-ending.result _ _ (ap (λ k. k.seed) c.knobs.ensures.value) c.from.ensures c.play-ending.ensures.full c.play-ending.ensures.winner
+          (playout_added s bs c.args.words.now c.args.sums.now c.args.table.now c.args.k h c.requires.long lk a c.requires.number f.0 f.1 f.3 c.site_of-site.result state c.play-ending.result _ _ (ap (λ k. k.seed) c.knobs.ensures.value) c.from.ensures c.play-ending.ensures.full c.play-ending.ensures.winner
           c.climb.new.sums (c.climb.ensures s bs k p)),
     )

@@ -1,6 +1,6 @@
 use Rattle.std.proofs.Common.{◌∙◌, arith}
 use Rattle.trace_audit.proofs.LinkedLaws.{cell_empty, cell_small, cell_state, entry_least, lies_in, node_most}
-use Rattle.trace_audit.proofs.recording.spot_of.Goals as goal
+use Rattle.trace_audit.proofs.recording.site_of.Goals as goal
 
 pub index-requires : goal.index-requires
 index-requires c =
@@ -13,7 +13,7 @@ pub index-requires-2 : goal.index-requires-2
 index-requires-2 c =
     let r = c.requires in
     let k = entry_least r.0 c.args.words.now c.args.table.now r.1 r.2.0 r.2.2 r.3.0 r.3.1 c.args.block c.index.result.now r.3.2 c.index.ensures in
-    omega (arith, k.1, c.args.table.now.spots.ok.0)
+    omega (arith, k.1, c.args.table.now.sites.ok.0)
 
 pub offset_bounds-words-node : goal.offset_bounds-words-node
 offset_bounds-words-node c =

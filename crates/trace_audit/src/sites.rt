@@ -4,7 +4,7 @@ ghost use Rattle.std.specs.Prelude.{◌≡◌, ◌≤◌, IfOk, MatchBool, lengt
 ghost use Rattle.hex_board.specs.Positions.{is_empty_at};
 ghost use Rattle.tree_words.specs.Paths.{state_after};
 ghost use Rattle.trace_audit.specs.Scans.{HasEntry, HasNoEntry};
-ghost use Rattle.trace_audit.specs.Tables.{spot_state};
+ghost use Rattle.trace_audit.specs.Tables.{site_state};
 
 use super::refusals::Memory;
 use hex_board::Board;
@@ -13,21 +13,21 @@ use std::alloc::Global;
 
 /// A linked block: its first word, the board of its parent, and the player to move there.
 #[derive(Clone, Copy, Debug)]
-pub(crate) struct Spot {
+pub(crate) struct Site {
     pub(crate) start: usize,
     pub(crate) board: Board,
     pub(crate) player: Colour,
 }
 
-impl Spot {
+impl Site {
     /// The board and the player to move after a stone on the cell.
-    pub(crate) fn after(&self, cell: Cell) -> Spot
+    pub(crate) fn after(&self, cell: Cell) -> Site
         requires { is_empty_at self.now.board cell ≡ true }
-        ensures { spot_state result ≡ state_after (spot_state self.now) cell }
+        ensures { site_state result ≡ state_after (site_state self.now) cell }
     {
         let mut board = self.board;
         board.place(self.player, cell);
-        Spot {
+        Site {
             start: self.start,
             board,
             player: self.player.other(),
@@ -35,12 +35,12 @@ impl Spot {
     }
 }
 
-/// The linked blocks: each one's spot, and for the first word of each block the number of its spot,
+/// The linked blocks: each one's site, and for the first word of each block the number of its site,
 /// from 1, for other words 0; and how many words the blocks have but for the root's.
 #[derive(Drop)]
 pub(crate) struct Table {
     pub(crate) index: Vec<usize>,
-    pub(crate) spots: Vec<Spot>,
+    pub(crate) sites: Vec<Site>,
     pub(crate) others: usize,
 }
 
