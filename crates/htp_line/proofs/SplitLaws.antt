@@ -6,7 +6,7 @@ use Rattle.std.proofs.lemmas.Bool.Decides.{nat_tests}
 use Rattle.std.proofs.lemmas.List.{take_more, take_all, get_or-take}
 use Rattle.std.proofs.lemmas.List.Sums.{fails_before_first, passes_at_first}
 use Rattle.htp_line.specs.Lines.{is_feed, rest}
-use Rattle.htp_line.specs.Splitting.{Held, kept_line, grown, so_far, StandsAfter, Advances}
+use Rattle.htp_line.specs.Splitting.{SplitterData, kept_line, grown, so_far, StandsAfter, Advances}
 use Rattle.htp_line.proofs.LinesLaws.{NoFeed, whole_more, whole_ended}
 
 grown-kept_if : (b : Bool) (raw more : List ℕ) → leb (length raw) 4096 ≡ b → grown (cond b (Some raw) None) more ≡ kept_line (raw ++ more)
@@ -18,7 +18,7 @@ pub grown-kept : (raw more : List ℕ) → grown (kept_line raw) more ≡ kept_l
 grown-kept raw more = grown-kept_if (leb (length raw) 4096) raw more refl
 
 -- more of the line came
-pub goes_on : (h new : Held) (seen q : List ℕ) → StandsAfter h seen → new ≡ record { line = grown (so_far h) q; ended = false } → NoFeed q → Advances new seen q
+pub goes_on : (h new : SplitterData) (seen q : List ℕ) → StandsAfter h seen → new ≡ record { line = grown (so_far h) q; ended = false } → NoFeed q → Advances new seen q
 goes_on h new seen q stands e none =
     let more = whole_more seen q none in
     rw e (record {
@@ -27,7 +27,7 @@ goes_on h new seen q stands e none =
     })
 
 -- the line ended
-pub goes_past : (h new : Held) (seen q : List ℕ) → StandsAfter h seen → new ≡ record { line = grown (so_far h) q; ended = true } → NoFeed q → Advances new seen (q ++ 10 ∷ [])
+pub goes_past : (h new : SplitterData) (seen q : List ℕ) → StandsAfter h seen → new ≡ record { line = grown (so_far h) q; ended = true } → NoFeed q → Advances new seen (q ++ 10 ∷ [])
 goes_past h new seen q stands e none =
     let more = whole_ended seen q none in
     rw e (record {

@@ -15,16 +15,16 @@ grown None more = None
 grown (Some raw) more = kept_line (raw ++ more)
 
 -- the line in hand as far as it is kept, and whether it ended
-pub record Held : Type 0 where
+pub record SplitterData : Type 0 where
   pub line : Option (List ℕ)
   pub ended : Bool
 
 -- what is kept of the line in hand
-abbrev pub so_far : Held → Option (List ℕ)
+abbrev pub so_far : SplitterData → Option (List ℕ)
 so_far h = if h.ended then Some [] else h.line
 
 -- after a piece, up to and with its first line feed
-abbrev pub after_piece : Held → List ℕ → Held
+abbrev pub after_piece : SplitterData → List ℕ → SplitterData
 after_piece h piece =
     record {
       line = grown (so_far h) (before_first is_feed piece);
@@ -39,11 +39,11 @@ is_some_byte (Some []) = false
 is_some_byte (Some (b ∷ bs)) = true
 
 -- after the end of the input
-abbrev pub after_end : Held → Held
+abbrev pub after_end : SplitterData → SplitterData
 after_end h = record { line = so_far h; ended = is_some_byte (so_far h) }
 
 -- the splitter holds what stands after the last line feed of this text
-abbrev pub StandsAfter : Held → List ℕ → Type 0
+abbrev pub StandsAfter : SplitterData → List ℕ → Type 0
 StandsAfter h text = so_far h ≡ kept_line (rest text)
 
 -- where a line ended, it is the one more
@@ -52,6 +52,6 @@ Ends false line old new = new ≡ old
 Ends true line old new = (raw : List ℕ) × (new ≡ old ++ raw ∷ []) × (line ≡ kept_line raw)
 
 -- from a text on to the same with these bytes at its end
-pub record Advances (h : Held) (seen front : List ℕ) : Type 0 where
+pub record Advances (h : SplitterData) (seen front : List ℕ) : Type 0 where
   pub stands : StandsAfter h (seen ++ front)
   pub ended : Ends h.ended h.line (whole seen) (whole (seen ++ front))

@@ -34,10 +34,10 @@ pub struct Splitter {
 
 impl Model for Splitter {
     ghost use Rattle.std.specs.Prelude.{◌≤◌, vec_len, vec_capacity, None, Some, if◌then◌else◌};
-    ghost use Rattle.htp_line.specs.Splitting.{Held};
+    ghost use Rattle.htp_line.specs.Splitting.{SplitterData};
     ghost use Rattle.htp_line.specs.declared.splitter.TheConstants.{LINE_LIMIT};
 
-    ghost Value = { Held };
+    ghost Value = { SplitterData };
 
     ghost view = { λ s. record {
       line = if s.is_long then None

@@ -3,7 +3,7 @@ use Rattle.std.proofs.Common.{refl, ◌≡◌, ℕ, Bool, true, false, List, [],
 use Rattle.std.specs.Prelude.{IfOk, OnOk}
 use Rattle.std.proofs.lemmas.List.{take-append-drop}
 use Rattle.htp_line.specs.Lines.{whole, lines}
-use Rattle.htp_line.specs.Splitting.{Held, Ends, Advances, StandsAfter}
+use Rattle.htp_line.specs.Splitting.{SplitterData, Ends, Advances, StandsAfter}
 use Rattle.hex_engine.specs.declared.options.Options.{Options}
 use Rattle.hex_engine.specs.EngineState.{EngineState}
 use Rattle.hex_engine.specs.Supply.{Supply, nothing_left, and_then}
@@ -43,7 +43,7 @@ refused d engine says text old out (Err ArchiveFault) is wrote none only = let e
 -- ---- a line
 
 -- the engine's options are those of the conversation
-uses_of_start : (a b : ShelfAndArchive) (used : Supply) (in_vain : List Bool) (start : EngineState) (all later : Supply) (engine : EngineState) (held : Held) (seen : List ℕ)
+uses_of_start : (a b : ShelfAndArchive) (used : Supply) (in_vain : List Bool) (start : EngineState) (all later : Supply) (engine : EngineState) (held : SplitterData) (seen : List ℕ)
     → IsSessionAfter start all later engine held seen → UsesUp engine.options a b used in_vain → UsesUp start.options a b used in_vain
 uses_of_start a b used in_vain start all later engine held seen stands uses = subst (λ o. UsesUp o a b used in_vain) (stands_options start all later engine held seen stands) uses
 
@@ -51,7 +51,7 @@ uses_of_start a b used in_vain start all later engine held seen stands uses = su
 pub written : (old out bytes : List ℕ) → old ≡ [] → out ≡ old ++ bytes → out ≡ bytes
 written old out bytes none grew = grew ∙ ap (λ l. l ++ bytes) none
 
-pub answered_line : (a b : ShelfAndArchive) (engine after : EngineState) (held new now : Held) (front old_out out : List ℕ) (quit : Bool)
+pub answered_line : (a b : ShelfAndArchive) (engine after : EngineState) (held new now : SplitterData) (front old_out out : List ℕ) (quit : Bool)
     → ((seen : List ℕ) → StandsAfter held seen → Advances new seen front) → new.ended ≡ true → now ≡ new → old_out ≡ []
     → (bytes : List ℕ) × (out ≡ old_out ++ bytes) × Responds a b engine new.line bytes after quit
     → Does a b [] engine held (λ start all later seen. Advanced quit start all later after now out seen front)
@@ -65,7 +65,7 @@ answered_line a b engine after held new now front old_out out quit stream ended 
       );
     }
 
-pub open_line : (a : ShelfAndArchive) (engine : EngineState) (held new : Held) (front out : List ℕ)
+pub open_line : (a : ShelfAndArchive) (engine : EngineState) (held new : SplitterData) (front out : List ℕ)
     → ((seen : List ℕ) → StandsAfter held seen → Advances new seen front) → new.ended ≡ false → out ≡ []
     → Does a a [] engine held (λ start all later seen. Advanced false start all later engine new out seen front)
 open_line a engine held new front out stream ended none =
@@ -73,7 +73,7 @@ open_line a engine held new front out stream ended none =
     (λ start all later seen here. none_advanced start all later engine held new seen front out here (stream seen here.in_hand) ended none)
 
 -- memory ran out, and nothing was used up
-pub stopped : (a b : ShelfAndArchive) (engine : EngineState) (held : Held) (Now : After) → ((start : EngineState) (all later : Supply) (seen : List ℕ) → IsSessionAfter start all later engine held seen → Now start all later seen)
+pub stopped : (a b : ShelfAndArchive) (engine : EngineState) (held : SplitterData) (Now : After) → ((start : EngineState) (all later : Supply) (seen : List ℕ) → IsSessionAfter start all later engine held seen → Now start all later seen)
     → UsesUpNothing engine.options a b → DoesSome a b engine held Now
 stopped a b engine held Now go s = (
   s.in_vain,
@@ -87,7 +87,7 @@ stopped a b engine held Now go s = (
   },
 )
 
-pub stopped_line : (a b : ShelfAndArchive) (engine : EngineState) (held new : Held) (piece : List ℕ) (n : ℕ)
+pub stopped_line : (a b : ShelfAndArchive) (engine : EngineState) (held new : SplitterData) (piece : List ℕ) (n : ℕ)
     → ((seen : List ℕ) → StandsAfter held seen → Advances new seen (take n piece)) → new.ended ≡ true
     → UsesUpNothing engine.options a b → DoesSome a b engine held (λ start all later seen. StopsBefore start all later seen piece)
 stopped_line a b engine held new piece n stream ended s =
@@ -97,7 +97,7 @@ stopped_line a b engine held new piece n stream ended s =
       line = subst (EndsLine seen) (take-append-drop n piece) (line_ends new seen (take n piece) (drop n piece) (stream seen here.in_hand) ended);
     }) s
 
-pub short_line : (a b : ShelfAndArchive) (engine : EngineState) (held new : Held) (piece : List ℕ) (n : ℕ)
+pub short_line : (a b : ShelfAndArchive) (engine : EngineState) (held new : SplitterData) (piece : List ℕ) (n : ℕ)
     → ((seen : List ℕ) → StandsAfter held seen → Advances new seen (take n piece)) → new.ended ≡ true
     → Lacks a b engine new.line → Does a b [] engine held (λ start all later seen. AnswersShort start all later [] seen piece)
 short_line a b engine held new piece n stream ended s = record {
@@ -110,7 +110,7 @@ short_line a b engine held new piece n stream ended s = record {
 
 -- ---- the last line
 
-pub answered_last : (a b : ShelfAndArchive) (engine after : EngineState) (held new : Held) (old_out out : List ℕ) (quit : Bool)
+pub answered_last : (a b : ShelfAndArchive) (engine after : EngineState) (held new : SplitterData) (old_out out : List ℕ) (quit : Bool)
     → ((seen : List ℕ) → StandsAfter held seen → Ends new.ended new.line (whole seen) (lines seen)) → new.ended ≡ true → old_out ≡ []
     → (bytes : List ℕ) × (out ≡ old_out ++ bytes) × Responds a b engine new.line bytes after quit
     → Does a b [] engine held (λ start all later seen. AnswersLast start all later out seen)
@@ -124,21 +124,21 @@ answered_last a b engine after held new old_out out quit stream ended none r =
       );
     }
 
-pub no_last : (a : ShelfAndArchive) (engine : EngineState) (held new : Held) (out : List ℕ)
+pub no_last : (a : ShelfAndArchive) (engine : EngineState) (held new : SplitterData) (out : List ℕ)
     → ((seen : List ℕ) → StandsAfter held seen → Ends new.ended new.line (whole seen) (lines seen)) → new.ended ≡ false → out ≡ []
     → Does a a [] engine held (λ start all later seen. AnswersLast start all later out seen)
 no_last a engine held new out stream ended none =
     does_nothing a engine held (λ start all later seen. AnswersLast start all later out seen)
     (λ start all later seen here. last_none start all later engine held new seen out here (stream seen here.in_hand) ended none)
 
-pub stopped_last : (a b : ShelfAndArchive) (engine : EngineState) (held new : Held)
+pub stopped_last : (a b : ShelfAndArchive) (engine : EngineState) (held new : SplitterData)
     → ((seen : List ℕ) → StandsAfter held seen → Ends new.ended new.line (whole seen) (lines seen)) → new.ended ≡ true
     → UsesUpNothing engine.options a b → DoesSome a b engine held (λ start all later seen. StopsBeforeLast start all later seen)
 stopped_last a b engine held new stream ended s =
     stopped a b engine held (λ start all later seen. StopsBeforeLast start all later seen)
     (λ start all later seen here. record { left = here.left; line = last_ends new seen (stream seen here.in_hand) ended }) s
 
-pub lacking_last : (a b : ShelfAndArchive) (engine : EngineState) (held new : Held)
+pub lacking_last : (a b : ShelfAndArchive) (engine : EngineState) (held new : SplitterData)
     → ((seen : List ℕ) → StandsAfter held seen → Ends new.ended new.line (whole seen) (lines seen)) → new.ended ≡ true
     → Lacks a b engine new.line → Does a b [] engine held (λ start all later seen. LastIsShort start all later seen)
 lacking_last a b engine held new stream ended s = record {

@@ -4,7 +4,7 @@ use Rattle.hex_io.specs.Causes.{CountsFault}
 use Rattle.hex_io.specs.Told.{Same}
 use Rattle.hex_io.proofs.BothLaws.{Both-refl}
 use Rattle.htp_line.specs.Lines.{whole, lines}
-use Rattle.htp_line.specs.Splitting.{Held, Advances, Ends, StandsAfter}
+use Rattle.htp_line.specs.Splitting.{SplitterData, Advances, Ends, StandsAfter}
 use Rattle.hex_engine.specs.EngineState.{EngineState}
 use Rattle.htp_session.specs.Sessions.{Does, DoesSome, Advanced, GaveUp, HeldBack}
 use Rattle.htp_session.specs.Devices.{DevicesState, stock, CountsStop}
@@ -46,7 +46,7 @@ counts_nothing a = record {
 
 -- ---- a line for which memory or a turn was wanted
 
-pub stopped_advance : (old new : DevicesState) (before after : Session) (engine : EngineState) (held : Held) (piece : List ℕ) (n : ℕ) (out out_now : List ℕ) (stop : Stop)
+pub stopped_advance : (old new : DevicesState) (before after : Session) (engine : EngineState) (held : SplitterData) (piece : List ℕ) (n : ℕ) (out out_now : List ℕ) (stop : Stop)
     → ((seen : List ℕ) → StandsAfter before.splitter seen → Advances held seen (take n piece)) → held.ended ≡ true
     → WritesAnswer old new before.engine engine held.line out out_now (Err stop) → AdvancesBy old new before after piece (Err stop)
 stopped_advance old new before after engine held piece n out out_now ReadFault stream ended w = absurd w
@@ -55,7 +55,7 @@ stopped_advance old new before after engine held piece n out out_now Memory stre
 stopped_advance old new before after engine held piece n out out_now TooLong stream ended w = absurd w
 stopped_advance old new before after engine held piece n out out_now ArchiveFault stream ended w = short_line (stock old) (stock new) before.engine before.splitter held piece n stream ended w
 
-pub stopped_end : (old new : DevicesState) (before after : Session) (engine : EngineState) (held : Held) (out out_now : List ℕ) (stop : Stop)
+pub stopped_end : (old new : DevicesState) (before after : Session) (engine : EngineState) (held : SplitterData) (out out_now : List ℕ) (stop : Stop)
     → ((seen : List ℕ) → StandsAfter before.splitter seen → Ends held.ended held.line (whole seen) (lines seen)) → held.ended ≡ true
     → WritesAnswer old new before.engine engine held.line out out_now (Err stop) → AnswersEnd old new before after (Err stop)
 stopped_end old new before after engine held out out_now ReadFault stream ended w = absurd w

@@ -1,7 +1,7 @@
 -- A conversation piece by piece: what it used up, and what stands.
 use Rattle.std.proofs.Common.{Err, ◌≡◌, ◌≤◌, ℕ, false, List, [], ◌++◌, length, take, Option, refl, ap, sym, subst, Bool, arith}
 use Rattle.hex_io.specs.Told.{Told, Both, TakesBytes, Same}
-use Rattle.htp_line.specs.Splitting.{Held}
+use Rattle.htp_line.specs.Splitting.{SplitterData}
 use Rattle.hex_engine.specs.declared.options.Options.{Options}
 use Rattle.hex_engine.specs.EngineState.{EngineState, opening}
 use Rattle.hex_engine.specs.Supply.{Supply, nothing_left, and_then}
@@ -15,20 +15,20 @@ use Rattle.htp_session.proofs.EndLaws.{Kept, EndsBy, kept_taking, kept_nothing, 
 
 -- What a conversation keeps after this text: what was used up so far, and whatever is used up later, where it stands and what the
 -- link told.
-pub record Goes (start : EngineState) (a b : ShelfAndArchive) (x y : Option Told) (engine : EngineState) (held : Held) (seen : List ℕ) : Type 0 where
+pub record Goes (start : EngineState) (a b : ShelfAndArchive) (x y : Option Told) (engine : EngineState) (held : SplitterData) (seen : List ℕ) : Type 0 where
   pub used : Supply
   pub uses : UsesUp start.options a b used []
   pub stands : (later : Supply) → IsSessionAfter start (and_then used later) later engine held seen
   pub kept : (later : Supply) → Kept start (and_then used later) x y seen (talk_to start (and_then used later) seen).text
 
 -- the same, where a read took this piece more, which is not answered yet
-pub record Took (start : EngineState) (a b : ShelfAndArchive) (x y : Option Told) (engine : EngineState) (held : Held) (seen piece : List ℕ) : Type 0 where
+pub record Took (start : EngineState) (a b : ShelfAndArchive) (x y : Option Told) (engine : EngineState) (held : SplitterData) (seen piece : List ℕ) : Type 0 where
   pub used : Supply
   pub uses : UsesUp start.options a b used []
   pub stands : (later : Supply) → IsSessionAfter start (and_then used later) later engine held seen
   pub kept : (later : Supply) → Kept start (and_then used later) x y (seen ++ piece) (talk_to start (and_then used later) seen).text
 
-pub goes_nothing : (start : EngineState) (a : ShelfAndArchive) (x : Option Told) (engine : EngineState) (held : Held) → ((later : Supply) → IsSessionAfter start later later engine held []) → Goes start a a x x engine held []
+pub goes_nothing : (start : EngineState) (a : ShelfAndArchive) (x : Option Told) (engine : EngineState) (held : SplitterData) → ((later : Supply) → IsSessionAfter start later later engine held []) → Goes start a a x x engine held []
 goes_nothing start a x engine held stands = record {
   used = nothing_left;
   uses = uses_nothing start.options a;
@@ -36,7 +36,7 @@ goes_nothing start a x engine held stands = record {
   kept = λ later. kept_nothing start later x;
 }
 
-pub goes_taking : (start : EngineState) (a b : ShelfAndArchive) (x y z : Option Told) (engine : EngineState) (held : Held) (seen buf : List ℕ) (n : ℕ) → Goes start a b x y engine held seen → Both y z (λ o t. TakesBytes o t n buf)
+pub goes_taking : (start : EngineState) (a b : ShelfAndArchive) (x y z : Option Told) (engine : EngineState) (held : SplitterData) (seen buf : List ℕ) (n : ℕ) → Goes start a b x y engine held seen → Both y z (λ o t. TakesBytes o t n buf)
     → Took start a b x z engine held seen (take n buf)
 goes_taking start a b x y z engine held seen buf n g t = record {
   used = g.used;
@@ -49,7 +49,7 @@ goes_taking start a b x y z engine held seen buf n g t = record {
 abbrev pub all_of : Supply → Supply → Supply → Supply
 all_of used more later = and_then used (and_then more later)
 
-pub goes_on_feeding : (start : EngineState) (a b c : ShelfAndArchive) (x y z : Option Told) (engine after : EngineState) (held then : Held) (seen piece : List ℕ) → Took start a b x y engine held seen piece
+pub goes_on_feeding : (start : EngineState) (a b c : ShelfAndArchive) (x y z : Option Told) (engine after : EngineState) (held then : SplitterData) (seen piece : List ℕ) → Took start a b x y engine held seen piece
     → Does b c [] engine held (λ start all later seen. Fed false y z start all later after then seen piece) → Goes start a c x z after then (seen ++ piece)
 goes_on_feeding start a b c x y z engine after held then seen piece g d =
     let at : (later : Supply) → UsesUp start.options b c d.used [] × Fed false y z start (all_of g.used d.used later) later after then seen piece =
@@ -93,14 +93,14 @@ conversed_nothing options size limit a x = record {
   outcome = unbegun (opening options size) limit x;
 }
 
-pub ends_unread : (options : Options) (size limit : ℕ) (a b : ShelfAndArchive) (x y z : Option Told) (engine : EngineState) (held : Held) (seen : List ℕ) → length seen ≤ limit → Goes (opening options size) a b x y engine held seen → Same y z
+pub ends_unread : (options : Options) (size limit : ℕ) (a b : ShelfAndArchive) (x y z : Option Told) (engine : EngineState) (held : SplitterData) (seen : List ℕ) → length seen ≤ limit → Goes (opening options size) a b x y engine held seen → Same y z
     → Conversed (Err stop.ReadFault) options size limit a b x z
 ends_unread options size limit a b x y z engine held seen few g same =
     let here = g.stands nothing_left in
     conversed_at (Err stop.ReadFault) options size limit a b x z g.used g.uses refl
     (read_fault (opening options size) (and_then g.used nothing_left) limit x y z seen few (g.kept nothing_left) here.going here.left same)
 
-pub ends_overlong : (options : Options) (size limit : ℕ) (a b : ShelfAndArchive) (x y : Option Told) (engine : EngineState) (held : Held) (seen piece : List ℕ) → length seen ≡ limit → length piece ≡ 1 → Took (opening options size) a b x y engine held seen piece
+pub ends_overlong : (options : Options) (size limit : ℕ) (a b : ShelfAndArchive) (x y : Option Told) (engine : EngineState) (held : SplitterData) (seen piece : List ℕ) → length seen ≡ limit → length piece ≡ 1 → Took (opening options size) a b x y engine held seen piece
     → Conversed (Err stop.TooLong) options size limit a b x y
 ends_overlong options size limit a b x y engine held seen piece many one g =
     let here = g.stands nothing_left in

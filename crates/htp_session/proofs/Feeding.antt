@@ -3,7 +3,7 @@ use Rattle.std.proofs.Common.{◌≡◌, ℕ, ◌+◌, ◌-◌, Bool, true, fals
 use Rattle.std.proofs.lemmas.List.{take-append-drop}
 use Rattle.hex_io.specs.Told.{Told}
 use Rattle.hex_io.specs.Grew.{Gave, GavePart}
-use Rattle.htp_line.specs.Splitting.{Held}
+use Rattle.htp_line.specs.Splitting.{SplitterData}
 use Rattle.hex_engine.specs.EngineState.{EngineState}
 use Rattle.htp_session.specs.Stocks.{ShelfAndArchive}
 use Rattle.htp_session.specs.Sessions.{IsSessionAfter, Quits, Does, DoesSome, StopsBefore, AnswersShort, Advanced, AnswersAll, Fed, BrokeOff, GaveUp, HeldBack, AnswersLast, AnsweredLast, BrokeOffLast}
@@ -18,15 +18,15 @@ rest_of piece i = take (length piece - i) (drop i piece)
 -- ---- one line more
 
 -- all that the first bytes ask was answered, and the session stands after them
-abbrev pub FedTo : Option Told → Option Told → EngineState → Held → List ℕ → After
+abbrev pub FedTo : Option Told → Option Told → EngineState → SplitterData → List ℕ → After
 FedTo old new engine held front = λ start all later seen. AnswersAll old new start all seen front × IsSessionAfter start all later engine held (seen ++ front)
 
 -- what up to one line more does
-abbrev pub LineMore : Bool → ShelfAndArchive → ShelfAndArchive → EngineState → Held → EngineState → Held → List ℕ → ℕ → List ℕ → Type 0
+abbrev pub LineMore : Bool → ShelfAndArchive → ShelfAndArchive → EngineState → SplitterData → EngineState → SplitterData → List ℕ → ℕ → List ℕ → Type 0
 LineMore quit old new engine held after then out n piece =
     Does old new [] engine held (λ start all later seen. Advanced quit start all later after then out seen (take n piece))
 
-pub fed_on : (x y z : Option Told) (a b c : ShelfAndArchive) (engine mid after : EngineState) (held mid_held then : Held) (out piece : List ℕ) (i n : ℕ)
+pub fed_on : (x y z : Option Told) (a b c : ShelfAndArchive) (engine mid after : EngineState) (held mid_held then : SplitterData) (out piece : List ℕ) (i n : ℕ)
     → Does a b [] engine held (FedTo x y mid mid_held (take i piece)) → LineMore false b c mid mid_held after then out n (rest_of piece i) → Gave y z out
     → Does a c [] engine held (FedTo x z after then (take (i + n) piece))
 fed_on x y z a b c engine mid after held mid_held then out piece i n p q gave =
@@ -38,7 +38,7 @@ fed_on x y z a b c engine mid after held mid_held then out piece i n p q gave =
       subst (IsSessionAfter start all later after then) (next_seen seen piece i n) s.moved,
     )) p q
 
-pub fed_quit : (x y z : Option Told) (a b c : ShelfAndArchive) (engine mid after : EngineState) (held mid_held then : Held) (out piece : List ℕ) (i n : ℕ)
+pub fed_quit : (x y z : Option Told) (a b c : ShelfAndArchive) (engine mid after : EngineState) (held mid_held then : SplitterData) (out piece : List ℕ) (i n : ℕ)
     → Does a b [] engine held (FedTo x y mid mid_held (take i piece)) → LineMore true b c mid mid_held after then out n (rest_of piece i) → Gave y z out
     → Does a c [] engine held (λ start all later seen. Fed true x z start all later after then seen piece)
 fed_quit x y z a b c engine mid after held mid_held then out piece i n p q gave =
@@ -56,7 +56,7 @@ fed_quit x y z a b c engine mid after held mid_held then out piece i n p q gave 
       moved = subst (λ l. Quits start all later (seen ++ l)) parts (quits_stay start all later seen (take (i + n) piece) (drop (i + n) piece) quit);
     }) p q
 
-pub fed_broke_off : (x y z : Option Told) (a b c : ShelfAndArchive) (engine mid after : EngineState) (held mid_held then : Held) (out piece : List ℕ) (i n : ℕ) (quit : Bool)
+pub fed_broke_off : (x y z : Option Told) (a b c : ShelfAndArchive) (engine mid after : EngineState) (held mid_held then : SplitterData) (out piece : List ℕ) (i n : ℕ) (quit : Bool)
     → Does a b [] engine held (FedTo x y mid mid_held (take i piece)) → LineMore quit b c mid mid_held after then out n (rest_of piece i) → GavePart y z out
     → Does a c [] engine held (λ start all later seen. BrokeOff x z start all seen piece)
 fed_broke_off x y z a b c engine mid after held mid_held then out piece i n quit p q part =
@@ -67,7 +67,7 @@ fed_broke_off x y z a b c engine mid after held mid_held then out piece i n quit
     (BrokeOff-then x y z start all seen (take i piece) (rest_of piece i) t.0 (line_broke_off y z start all out (seen ++ take i piece) n (rest_of piece i) s.answers part))) p q
 
 -- memory ran out at the next line, and nothing more was given
-pub fed_gave_up : (x y : Option Told) (a b c : ShelfAndArchive) (engine mid : EngineState) (held mid_held : Held) (piece : List ℕ) (i : ℕ)
+pub fed_gave_up : (x y : Option Told) (a b c : ShelfAndArchive) (engine mid : EngineState) (held mid_held : SplitterData) (piece : List ℕ) (i : ℕ)
     → Does a b [] engine held (FedTo x y mid mid_held (take i piece)) → DoesSome b c mid mid_held (λ start all later seen. StopsBefore start all later seen (rest_of piece i))
     → DoesSome a c engine held (λ start all later seen. GaveUp x y start all later seen piece)
 fed_gave_up x y a b c engine mid held mid_held piece i p q = (
@@ -81,7 +81,7 @@ fed_gave_up x y a b c engine mid held mid_held piece i p q = (
 )
 
 -- a turn is wanted at the next line, and nothing more was given
-pub fed_held_back : (x y : Option Told) (a b c : ShelfAndArchive) (engine mid : EngineState) (held mid_held : Held) (piece : List ℕ) (i : ℕ)
+pub fed_held_back : (x y : Option Told) (a b c : ShelfAndArchive) (engine mid : EngineState) (held mid_held : SplitterData) (piece : List ℕ) (i : ℕ)
     → Does a b [] engine held (FedTo x y mid mid_held (take i piece)) → Does b c [] mid mid_held (λ start all later seen. AnswersShort start all later [] seen (rest_of piece i))
     → Does a c [] engine held (λ start all later seen. HeldBack x y start all later seen piece)
 fed_held_back x y a b c engine mid held mid_held piece i p q =
@@ -93,12 +93,12 @@ fed_held_back x y a b c engine mid held mid_held piece i p q =
 
 -- ---- before the first and after the last
 
-pub fed_nothing : (x : Option Told) (a : ShelfAndArchive) (engine : EngineState) (held : Held) → Does a a [] engine held (FedTo x x engine held [])
+pub fed_nothing : (x : Option Told) (a : ShelfAndArchive) (engine : EngineState) (held : SplitterData) → Does a a [] engine held (FedTo x x engine held [])
 fed_nothing x a engine held =
     does_nothing a engine held (FedTo x x engine held [])
     (λ start all later seen here. (AnswersAll-nothing x start all seen, subst (IsSessionAfter start all later engine held) (sym (append-nil seen)) here))
 
-pub fed_all : (x y : Option Told) (a b : ShelfAndArchive) (engine after : EngineState) (held then : Held) (piece front : List ℕ) → front ≡ piece → Does a b [] engine held (FedTo x y after then front)
+pub fed_all : (x y : Option Told) (a b : ShelfAndArchive) (engine after : EngineState) (held then : SplitterData) (piece front : List ℕ) → front ≡ piece → Does a b [] engine held (FedTo x y after then front)
     → Does a b [] engine held (λ start all later seen. Fed false x y start all later after then seen piece)
 fed_all x y a b engine after held then piece front whole p =
     does_weaker a b [] engine held (FedTo x y after then front) (λ start all later seen. Fed false x y start all later after then seen piece)
@@ -106,13 +106,13 @@ fed_all x y a b engine after held then piece front whole p =
 
 -- ---- the last line
 
-pub last_given : (x y : Option Told) (a b : ShelfAndArchive) (engine : EngineState) (held : Held) (out : List ℕ) → Does a b [] engine held (λ start all later seen. AnswersLast start all later out seen) → Gave x y out
+pub last_given : (x y : Option Told) (a b : ShelfAndArchive) (engine : EngineState) (held : SplitterData) (out : List ℕ) → Does a b [] engine held (λ start all later seen. AnswersLast start all later out seen) → Gave x y out
     → Does a b [] engine held (λ start all later seen. AnsweredLast x y start all later seen)
 last_given x y a b engine held out p gave =
     does_weaker a b [] engine held (λ start all later seen. AnswersLast start all later out seen) (λ start all later seen. AnsweredLast x y start all later seen)
     (λ start all later seen t. record { gave = (out, gave, t) }) p
 
-pub last_broke_off : (x y : Option Told) (a b : ShelfAndArchive) (engine : EngineState) (held : Held) (out : List ℕ) → Does a b [] engine held (λ start all later seen. AnswersLast start all later out seen) → GavePart x y out
+pub last_broke_off : (x y : Option Told) (a b : ShelfAndArchive) (engine : EngineState) (held : SplitterData) (out : List ℕ) → Does a b [] engine held (λ start all later seen. AnswersLast start all later out seen) → GavePart x y out
     → Does a b [] engine held (λ start all later seen. BrokeOffLast x y start all later seen)
 last_broke_off x y a b engine held out p part =
     does_weaker a b [] engine held (λ start all later seen. AnswersLast start all later out seen) (λ start all later seen. BrokeOffLast x y start all later seen)

@@ -5,7 +5,7 @@ use Rattle.hex_io.specs.Shelves.{Shelved}
 use Rattle.hex_io.proofs.BothLaws.{Both-then, Both-refl}
 use Rattle.hex_engine.specs.declared.options.Options.{Options}
 use Rattle.hex_plan.specs.Turns.{Decision}
-use Rattle.htp_line.specs.Splitting.{Held}
+use Rattle.htp_line.specs.Splitting.{SplitterData}
 use Rattle.hex_engine.specs.EngineState.{EngineState}
 use Rattle.hex_engine.specs.Supply.{Supply, Load, nothing_left, and_then}
 use Rattle.hex_engine.specs.Uses.{CameOf, FetchesLoads, AreGood}
@@ -66,7 +66,7 @@ abbrev pub After : Type 1
 After = EngineState → Supply → Supply → List ℕ → Type 0
 
 -- a call that did something more and a call after it, where the text m was taken by the first
-pub does_then : (a b c : ShelfAndArchive) (in_vain : List Bool) (engine after : EngineState) (held then : Held) (m : List ℕ) (T S R : After)
+pub does_then : (a b c : ShelfAndArchive) (in_vain : List Bool) (engine after : EngineState) (held then : SplitterData) (m : List ℕ) (T S R : After)
     → ((start : EngineState) (all later : Supply) (seen : List ℕ) → T start all later seen → IsSessionAfter start all later after then (seen ++ m))
     → ((start : EngineState) (all mid later : Supply) (seen : List ℕ) → T start all mid seen → S start all later (seen ++ m) → R start all later seen)
     → Does a b [] engine held T → Does b c in_vain after then S → Does a c in_vain engine held R
@@ -81,7 +81,7 @@ does_then a b c in_vain engine after held then m T S R stands go p q = record {
 }
 
 -- what holds then follows from what held
-pub does_weaker : (a b : ShelfAndArchive) (in_vain : List Bool) (engine : EngineState) (held : Held) (T S : After)
+pub does_weaker : (a b : ShelfAndArchive) (in_vain : List Bool) (engine : EngineState) (held : SplitterData) (T S : After)
     → ((start : EngineState) (all later : Supply) (seen : List ℕ) → T start all later seen → S start all later seen) → Does a b in_vain engine held T → Does a b in_vain engine held S
 does_weaker a b in_vain engine held T S go p = record {
   used = p.used;
@@ -89,7 +89,7 @@ does_weaker a b in_vain engine held T S go p = record {
 }
 
 -- a call that used nothing up
-pub does_nothing : (a : ShelfAndArchive) (engine : EngineState) (held : Held) (T : After)
+pub does_nothing : (a : ShelfAndArchive) (engine : EngineState) (held : SplitterData) (T : After)
     → ((start : EngineState) (all later : Supply) (seen : List ℕ) → IsSessionAfter start all later engine held seen → T start all later seen) → Does a a [] engine held T
 does_nothing a engine held T go = record {
   used = nothing_left;

@@ -6,7 +6,7 @@ use Rattle.htp_line.specs.declared.request.Parsed.{Parsed}
 use Rattle.htp_line.specs.declared.request.Parsed.TheVariants.{Blank, Bare, Request}
 use Rattle.htp_line.specs.Splitting.{kept_line}
 use Rattle.htp_line.specs.Lines.{whole}
-use Rattle.htp_line.specs.Splitting.{Held}
+use Rattle.htp_line.specs.Splitting.{SplitterData}
 use Rattle.hex_engine.specs.EngineState.{EngineState}
 use Rattle.hex_engine.specs.Supply.{Supply, and_then}
 use Rattle.hex_engine.specs.Replies.{Turned, Missing}
@@ -46,7 +46,7 @@ fold_keeps a [] = refl
 fold_keeps a (raw ∷ lines) = fold_keeps (with_line a raw) lines ∙ step_keeps a raw
 
 -- the engine of a conversation has the options of its start
-pub stands_options : (start : EngineState) (all later : Supply) (engine : EngineState) (held : Held) (seen : List ℕ) → IsSessionAfter start all later engine held seen → engine.options ≡ start.options
+pub stands_options : (start : EngineState) (all later : Supply) (engine : EngineState) (held : SplitterData) (seen : List ℕ) → IsSessionAfter start all later engine held seen → engine.options ≡ start.options
 stands_options start all later engine held seen stands = ap (λ (s : EngineState). s.options) stands.at ∙ fold_keeps (talk_start start all) (whole seen)
 
 -- ---- more at the end of what is left

@@ -4,7 +4,7 @@ use Rattle.std.specs.declared.option.Option.{Option}
 use Rattle.hex_io.specs.Told.{Told}
 use Rattle.hex_io.specs.Grew.{Gave, GavePart}
 use Rattle.htp_line.specs.Lines.{whole, lines}
-use Rattle.htp_line.specs.Splitting.{Held, StandsAfter}
+use Rattle.htp_line.specs.Splitting.{SplitterData, StandsAfter}
 use Rattle.hex_engine.specs.EngineState.{EngineState}
 use Rattle.hex_engine.specs.Supply.{Supply, nothing_left, and_then}
 use Rattle.htp_session.specs.Talk.{Going, AfterQuit, ending_if, talk, talk_to, WantsTurn}
@@ -13,7 +13,7 @@ use Rattle.htp_session.specs.Stocks.{ShelfAndArchive, UsesUp}
 -- this engine and this splitter are a session's after this text: the talk over it goes on, and this
 -- is left to be used up later
 pub record IsSessionAfter (start : EngineState) (all later : Supply) (engine : EngineState)
-    (held : Held) (seen : List ℕ) : Type 0 where
+    (held : SplitterData) (seen : List ℕ) : Type 0 where
   pub at : engine ≡ (talk_to start all seen).at
   pub left : later ≡ (talk_to start all seen).left
   pub going : (talk_to start all seen).ending ≡ Going
@@ -23,14 +23,14 @@ pub record IsSessionAfter (start : EngineState) (all later : Supply) (engine : E
 -- later; and where engine and splitter were a session's after a text before the call, this holds
 -- now.
 pub record Does (old new : ShelfAndArchive) (in_vain : List Bool) (engine : EngineState)
-    (held : Held) (Now : EngineState → Supply → Supply → List ℕ → Type 0) : Type 0 where
+    (held : SplitterData) (Now : EngineState → Supply → Supply → List ℕ → Type 0) : Type 0 where
   pub used : Supply
   pub stood : (start : EngineState) → (all later : Supply) → (seen : List ℕ)
       → IsSessionAfter start all (and_then used later) engine held seen →
       UsesUp start.options old new used in_vain × Now start all later seen
 
 -- the same, where one fetch at most came to nothing at the end
-abbrev pub DoesSome : ShelfAndArchive → ShelfAndArchive → EngineState → Held
+abbrev pub DoesSome : ShelfAndArchive → ShelfAndArchive → EngineState → SplitterData
     → (EngineState → Supply → Supply → List ℕ → Type 0) → Type 0
 DoesSome old new engine held Now = (in_vain : List Bool) × (length in_vain ≤ 1)
     × Does old new in_vain engine held Now
@@ -41,7 +41,7 @@ pub record Quits (start : EngineState) (all later : Supply) (seen : List ℕ) : 
   pub left : later ≡ (talk_to start all seen).left
 
 -- what stands after up to one line more
-abbrev pub Moves : Bool → EngineState → Supply → Supply → EngineState → Held → List ℕ → Type 0
+abbrev pub Moves : Bool → EngineState → Supply → Supply → EngineState → SplitterData → List ℕ → Type 0
 Moves true start all later engine held seen = Quits start all later seen
 Moves false start all later engine held seen = IsSessionAfter start all later engine held seen
 
@@ -68,7 +68,7 @@ AnswersShort start all later bytes seen more = later ≡ nothing_left
 
 -- up to one line more was taken, and this answers it
 pub record Advanced (quit : Bool) (start : EngineState) (all later : Supply) (engine : EngineState)
-    (held : Held) (out seen front : List ℕ) : Type 0 where
+    (held : SplitterData) (out seen front : List ℕ) : Type 0 where
   pub answers : AnswersLines start all out seen front
   pub moved : Moves quit start all later engine held (seen ++ front)
 
@@ -79,7 +79,7 @@ pub record AnswersAll (old new : Option Told) (start : EngineState) (all : Suppl
 
 -- all that a piece asks was answered, and this stands then
 pub record Fed (quit : Bool) (old new : Option Told) (start : EngineState) (all later : Supply)
-    (engine : EngineState) (held : Held) (seen piece : List ℕ) : Type 0 where
+    (engine : EngineState) (held : SplitterData) (seen piece : List ℕ) : Type 0 where
   pub answered : AnswersAll old new start all seen piece
   pub moved : Moves quit start all later engine held (seen ++ piece)
 
