@@ -41,7 +41,8 @@ pub record Quits (start : EngineState) (all later : Supply) (seen : List ℕ) : 
   pub left : later ≡ (talk_to start all seen).left
 
 -- what stands after up to one line more
-abbrev pub Moves : Bool → EngineState → Supply → Supply → EngineState → SplitterData → List ℕ → Type 0
+abbrev pub Moves : Bool → EngineState → Supply → Supply → EngineState → SplitterData → List ℕ
+    → Type 0
 Moves true start all later engine held seen = Quits start all later seen
 Moves false start all later engine held seen = IsSessionAfter start all later engine held seen
 
