@@ -12,7 +12,7 @@ use Rattle.tree_words.specs.Complete.{AreComplete, cells_below}
 use Rattle.tree_words.proofs.Blocks.BlockLaws.{has-here, move-stays, move-word}
 use Rattle.tree_words.proofs.Blocks.GameLaws.{whole-in, up-in}
 use Rattle.tree_words.proofs.Boards.EmptyLaws.{below-empty, cell-of-move}
-use Rattle.tree_words.proofs.Walks.Asking.{site-size}
+use Rattle.tree_words.proofs.Walks.Asking.{spot-size}
 use Rattle.trace_audit.specs.Tables.{ShowBlock}
 
 -- what a node's move word says
@@ -34,7 +34,7 @@ move_is s words next bs b k h order complete i shown l =
     let long = ap length cells in
     let empty : is_empty_at (node_board s bs b.parent) (cell_at b k) ≡ true = ap (λ (c : List ℕ). is_empty_at (node_board s bs b.parent) (slice_index c k)) cells ∙ below-empty s bs b.parent k h order (omega (arith, l, long)) in
     let on = empty_on (node_board s bs b.parent) (cell_at b k) empty in
-    let size : (node_board s bs b.parent).size ≤ 11 = let most = h.position.most in omega (arith, site-size s bs b.parent, most) in
+    let size : (node_board s bs b.parent).size ≤ 11 = let most = h.position.most in omega (arith, spot-size s bs b.parent, most) in
     let most : (node_board s bs b.parent).size * (node_board s bs b.parent).size ≤ 11 * 11 = mul-le-mul size size in
     let small : cell_at b k < 121 = omega (arith, on, most) in
     let here : has_node b (b.start + 4 + 4 * k) ≡ true = ap (has_node b) at ∙ has-here b k l in

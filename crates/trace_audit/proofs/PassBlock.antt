@@ -11,7 +11,7 @@ use Rattle.tree_words.specs.Paths.{NodeState, node_state, node_board}
 use Rattle.tree_words.specs.Growth.{other_words}
 use Rattle.tree_words.specs.Told.{told_block}
 use Rattle.tree_words.proofs.Blocks.Turned.{other-root, other-more}
-use Rattle.tree_words.proofs.Walks.Asking.{site-size}
+use Rattle.tree_words.proofs.Walks.Asking.{spot-size}
 use Rattle.trace_audit.specs.declared.sites.Site.{Site}
 use Rattle.trace_audit.specs.declared.sites.Table.{Table}
 use Rattle.trace_audit.specs.Tables.{AreUnlinked, block_at, StandsInArea, site_state, IsSite, IsEntered, Scanned}
@@ -56,7 +56,7 @@ module _ (s : Setting) (words : List ℕ) (h : IsSetting s) (t : Table) (p : ℕ
     board = ap (λ (q : NodeState). q.board) state
 
     pub board_size : site.board.size ≡ s.board.size
-    board_size = ap (λ (q : Position). q.size) board ∙ site-size s bs x
+    board_size = ap (λ (q : Position). q.size) board ∙ spot-size s bs x
 
     is_block : block_at s site.board x p ≡ told_block s bs x p
     is_block = ap (λ (q : Position). block_at s q x p) board

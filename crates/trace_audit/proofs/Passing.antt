@@ -11,13 +11,13 @@ use Rattle.tree_words.specs.Complete.{HasEmpties, set_of}
 use Rattle.tree_words.specs.Growth.{other_words}
 use Rattle.tree_words.specs.Told.{told_block}
 use Rattle.tree_words.proofs.Blocks.BlockLaws.{covers_of, has-at, clash}
-use Rattle.tree_words.proofs.Blocks.GameLaws.{site-same}
+use Rattle.tree_words.proofs.Blocks.GameLaws.{spot-same}
 use Rattle.tree_words.proofs.Blocks.Members.{in-turned, names-in}
 use Rattle.tree_words.proofs.Blocks.NodeLaws.{cover-none, complete-more, link-none}
 use Rattle.tree_words.proofs.Blocks.Orders.{link-names}
 use Rattle.tree_words.proofs.Boards.RootLaws.{complete_in}
 use Rattle.tree_words.proofs.Boards.SetNumbers.{set-has_empties}
-use Rattle.tree_words.proofs.Walks.Asking.{site-size}
+use Rattle.tree_words.proofs.Walks.Asking.{spot-size}
 use Rattle.trace_audit.specs.declared.sites.Site.{Site}
 use Rattle.trace_audit.specs.declared.sites.Table.{Table}
 use Rattle.trace_audit.specs.Tables.{ShowBlock, StandsInArea, IsSite, IsSiteTable, IsFollowed, Scanned}
@@ -89,7 +89,7 @@ module _ (s : Setting) (words : List ℕ) (h : IsSetting s) (t : Table) (p : ℕ
             node = or_right (has_node block (slice_index words site.start)) (is_node (root_at s) bs (slice_index words site.start)) old.node;
             link = old.link;
             inside = old.inside;
-            state = old.state ∙ sym (site-same s block bs (slice_index words site.start) follows old.node);
+            state = old.state ∙ sym (spot-same s block bs (slice_index words site.start) follows old.node);
           } in
           subst (IsSite s words (block ∷ bs)) (sym same) now;
       index = λ b d l.
@@ -125,7 +125,7 @@ module _ (s : Setting) (words : List ℕ) (h : IsSetting s) (t : Table) (p : ℕ
     -- the block is passed
     pub put : Scanned s words u (p + 4) (p + size block) (block ∷ bs)
     put =
-        let small : (node_board s bs x).size ≤ 11 = let most = h.position.most in omega (arith, site-size s bs x, most) in
+        let small : (node_board s bs x).size ≤ 11 = let most = h.position.most in omega (arith, spot-size s bs x, most) in
         let empties : HasEmpties (set_of (empties_of (node_board s bs x))) (node_board s bs x) = set-has_empties (node_board s bs x) small in
         let area = sc.area in
         record {
