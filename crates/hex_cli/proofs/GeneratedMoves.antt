@@ -24,7 +24,7 @@ use Rattle.hex_engine.specs.Requests.{reaction}
 use Rattle.htp_session.specs.Talk.{TalkState, goes_on, reply_text, after_reaction, after_reading, after_line, followed_by, with_line, talk_start, talk}
 use Rattle.htp_session.specs.Endings.{Conversed}
 use Rattle.hex_cli.specs.Headline.{IsGeneratedMove, AreGeneratedMoves, Headline}
-use Rattle.hex_plan.proofs.CertifiedMoves.{is_certified}
+use Rattle.hex_plan.proofs.CertifiedMoves.{is_certified, lost_loses, outside_loses}
 use Rattle.hex_engine.proofs.Legal.{next_is_legal}
 use Rattle.htp_session.proofs.TakenTurns.{TakesTurn, MayTakeTurn, reaction_takes}
 use Rattle.htp_session.proofs.SupplyLaws.{step_keeps}
@@ -108,6 +108,8 @@ takes_turn options turns before s h o took =
         colour = took.colour;
         good = good.0;
         certified = is_certified options.knobs options.hsearch took.turn good.0;
+        outside_threats = outside_loses options.knobs options.hsearch took.turn good.0;
+        where_lost = lost_loses options.knobs options.hsearch took.turn good.0;
         placed = at.0;
         legal = next_is_legal before.at took.colour took.turn (subst (λ p. IsGoodFor p took.turn) (sym h.same) good.0) took.next;
         played = ap (λ (e : EngineState). e.game) took.after;

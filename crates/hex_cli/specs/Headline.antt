@@ -8,7 +8,7 @@ use Rattle.hex_cells.specs.Vertices.{vertex_of}
 use Rattle.hex_game.specs.Games.{board_of, is_legal, with_step}
 use Rattle.hex_game.specs.Moves.{step_of}
 use Rattle.hex_game.specs.declared.moves.Move.TheVariants.{Stone}
-use Rattle.hex_plan.specs.Laws.{IsCertified}
+use Rattle.hex_plan.specs.Laws.{IsCertified, LosesOutsideThreats, LosesWhereLost}
 use Rattle.hex_plan.specs.Turns.{Decision}
 use Rattle.hex_engine.specs.declared.options.Options.{Options}
 use Rattle.hex_engine.specs.EngineState.{EngineState, opening}
@@ -19,14 +19,17 @@ use Rattle.htp_session.specs.Endings.{since}
 
 -- A line was answered by a generated move: its turn is good and stands, among these turns, at the
 -- place that the number of turns before says; where the turn's plan is a win, the move wins against
--- every reply; a stone of this colour on the turn's cell is legal in the game before; and it was
--- played and written.
+-- every reply; a move outside the carrier of one of the turn's threats loses, and where the plan
+-- says that the board is lost each move does; a stone of this colour on the turn's cell is legal in
+-- the game before; and it was played and written.
 pub record IsGeneratedMove (options : Options) (turns : List Decision)
     (before after : TalkState) : Type 0 where
   pub turn : Decision
   pub colour : Colour
   pub good : IsGoodFor options turn
   pub certified : IsCertified turn
+  pub outside_threats : LosesOutsideThreats turn
+  pub where_lost : LosesWhereLost turn
   pub placed : slice_get turns before.at.turns ≡ Some turn
   pub legal : is_legal before.at.game (step_of colour (Stone turn.cell)) ≡ true
   pub played : after.at.game ≡ with_step before.at.game (step_of colour (Stone turn.cell))
