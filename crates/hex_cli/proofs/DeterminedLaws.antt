@@ -6,7 +6,7 @@ use Rattle.hex_io.specs.Shelves.{Shelved}
 use Rattle.hex_io.proofs.BothLaws.{Both-weaker}
 use Rattle.htp_line.specs.Lines.{lines}
 use Rattle.hex_engine.specs.declared.options.Options.{Options}
-use Rattle.hex_plan.specs.Turns.{Decision}
+use Rattle.hex_plan.specs.Turns.{TurnData}
 use Rattle.hex_engine.specs.EngineState.{opening}
 use Rattle.hex_engine.specs.Uses.{CameOf}
 use Rattle.htp_session.specs.Talk.{TalkState}
@@ -17,7 +17,7 @@ use Rattle.htp_session.proofs.OneWorker.{through_told}
 same_end_of : (xs ys zs : List Bool) → xs ++ ys ≡ xs ++ zs → ys ≡ zs
 same_end_of xs ys zs e = sym (drop-append_seam xs ys) ∙ ap (drop (length xs)) e ∙ drop-append_seam xs zs
 
-pub determined_at : (options : Options) (size limit : ℕ) (a b : Option Shelved) (c d : Option (List Decision)) (x y : Option Told) → Conversed (Ok tt) options size limit (a, c) (b, d) x y
+pub determined_at : (options : Options) (size limit : ℕ) (a b : Option Shelved) (c d : Option (List TurnData)) (x y : Option Told) → Conversed (Ok tt) options size limit (a, c) (b, d) x y
     → Both a b (λ s t. Both x y (λ o n. IsDetermined options size s t o n))
 determined_at options size limit a b c d x y k =
     Both-weaker a b _ _ (λ s t f. Both-weaker x y _ _ (λ o n p. λ one tries grew all came good through.

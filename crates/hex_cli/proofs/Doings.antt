@@ -2,7 +2,7 @@
 use Rattle.std.proofs.Common.{List, Some, None, Option, Err, true, false, refl, ◌≡◌, ◌≢◌, ℕ, ◌+◌, ◌≤◌, ◌⊎◌, length, sym, ap, ◌∙◌, subst, inl, inr, arith}
 use Rattle.std.specs.Prelude.{◌↔◌}
 use Rattle.hex_io.specs.Told.{Told, Both, Same}
-use Rattle.hex_plan.specs.Turns.{Decision}
+use Rattle.hex_plan.specs.Turns.{TurnData}
 use Rattle.turn_modes.specs.OneTurn.{IsBenchmark, IsSimulation}
 use Rattle.htp_session.specs.Devices.{DevicesState}
 use Rattle.htp_session.specs.Stocks.{ShelfAndArchive}
@@ -27,7 +27,7 @@ use Rattle.hex_cli.proofs.RunLaws.{complete_at, no_usage, too_long_exactly}
 use Rattle.hex_cli.proofs.HandedTurns.{handed_complete, handed_too_long, outcome_no_usage}
 
 abbrev Answer : Type 1
-Answer = Decision → List ℕ → Type 0
+Answer = TurnData → List ℕ → Type 0
 
 -- ---- no mode ends with a usage
 

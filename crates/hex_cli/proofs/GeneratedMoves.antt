@@ -13,7 +13,7 @@ use Rattle.hex_cells.specs.declared.colours.Colour.{Colour}
 use Rattle.hex_cells.specs.Vertices.{vertex_of}
 use Rattle.hex_game.specs.Games.{board_of}
 use Rattle.hex_io.specs.Shelves.{Shelved}
-use Rattle.hex_plan.specs.Turns.{Decision}
+use Rattle.hex_plan.specs.Turns.{TurnData}
 use Rattle.hex_engine.specs.declared.options.Options.{Options}
 use Rattle.hex_engine.specs.EngineState.{EngineState, opening}
 use Rattle.hex_engine.specs.Supply.{Supply}
@@ -33,7 +33,7 @@ use Rattle.htp_session.proofs.SupplyLaws.{step_keeps}
 
 -- what was said to a line that took the next turn
 record SaysTurn (at : EngineState) (left : Supply) (s : TalkState) : Type 0 where
-  turn : Decision
+  turn : TurnData
   colour : Colour
   was : left.turns ≡ turn ∷ s.left.turns
   next : is_next at colour turn ≡ true
@@ -68,24 +68,24 @@ said_says at left (Some raw) = reading_says at left (reading raw)
 -- ---- the turns that are left
 
 -- what begins with x from place n on has x there, and goes on with what follows
-dropped : (xs : List Decision) (n : ℕ) (x : Decision) (others : List Decision) → drop n xs ≡ x ∷ others → (slice_get xs n ≡ Some x) × (drop (suc n) xs ≡ others)
+dropped : (xs : List TurnData) (n : ℕ) (x : TurnData) (others : List TurnData) → drop n xs ≡ x ∷ others → (slice_get xs n ≡ Some x) × (drop (suc n) xs ≡ others)
 dropped [] zero x others e = absurd (cc)
 dropped [] (suc n) x others e = absurd (cc)
 dropped (y ∷ ys) zero x others e = (cc, cc)
 dropped (y ∷ ys) (suc n) x others e = dropped ys n x others e
 
 -- the turns that are left are those after the turns that were taken, and they are good for the options
-record Holds (options : Options) (turns : List Decision) (s : TalkState) : Type 0 where
+record Holds (options : Options) (turns : List TurnData) (s : TalkState) : Type 0 where
   good : AreGood options s.left.turns
   place : drop s.at.turns turns ≡ s.left.turns
   same : s.at.options ≡ options
 
 -- one line more
-record Goes (options : Options) (turns : List Decision) (before after : TalkState) : Type 0 where
+record Goes (options : Options) (turns : List TurnData) (before after : TalkState) : Type 0 where
   holds : Holds options turns after
   generated : after.at.turns ≢ before.at.turns → IsGeneratedMove options turns before after
 
-stands_still : (options : Options) (turns : List Decision) (before after : TalkState) → Holds options turns before → after.at.options ≡ before.at.options → after.left.turns ≡ before.left.turns → after.at.turns ≡ before.at.turns
+stands_still : (options : Options) (turns : List TurnData) (before after : TalkState) → Holds options turns before → after.at.options ≡ before.at.options → after.left.turns ≡ before.left.turns → after.at.turns ≡ before.at.turns
     → Goes options turns before after
 stands_still options turns before after h o l t = record {
   holds = record {
@@ -96,7 +96,7 @@ stands_still options turns before after h o l t = record {
   generated = λ moved. absurd (moved t);
 }
 
-takes_turn : (options : Options) (turns : List Decision) (before : TalkState) (s : TalkState) → Holds options turns before → s.at.options ≡ before.at.options → SaysTurn before.at before.left s → Goes options turns before (followed_by before s)
+takes_turn : (options : Options) (turns : List TurnData) (before : TalkState) (s : TalkState) → Holds options turns before → s.at.options ≡ before.at.options → SaysTurn before.at before.left s → Goes options turns before (followed_by before s)
 takes_turn options turns before s h o took =
     let good : AreGood options (took.turn ∷ s.left.turns) = subst (AreGood options) took.was h.good in
     let at = dropped turns before.at.turns took.turn s.left.turns (h.place ∙ took.was) in
@@ -117,7 +117,7 @@ takes_turn options turns before s h o took =
       };
     }
 
-step_goes_if : (b : Bool) (options : Options) (turns : List Decision) (a : TalkState) (line : Option (List ℕ)) → Holds options turns a → (cond b (followed_by a (after_line a.at a.left line)) a).at.options ≡ a.at.options
+step_goes_if : (b : Bool) (options : Options) (turns : List TurnData) (a : TalkState) (line : Option (List ℕ)) → Holds options turns a → (cond b (followed_by a (after_line a.at a.left line)) a).at.options ≡ a.at.options
     → Goes options turns a (cond b (followed_by a (after_line a.at a.left line)) a)
 step_goes_if false options turns a line h o = stands_still options turns a a h refl refl refl
 step_goes_if true options turns a line h o = ⊎_elim
@@ -125,13 +125,13 @@ step_goes_if true options turns a line h o = ⊎_elim
     (λ (took : SaysTurn a.at a.left (after_line a.at a.left line)). takes_turn options turns a (after_line a.at a.left line) h o took)
     (said_says a.at a.left line)
 
-step_goes : (options : Options) (turns : List Decision) (a : TalkState) (raw : List ℕ) → Holds options turns a → (with_line a raw).at.options ≡ a.at.options → Goes options turns a (with_line a raw)
+step_goes : (options : Options) (turns : List TurnData) (a : TalkState) (raw : List ℕ) → Holds options turns a → (with_line a raw).at.options ≡ a.at.options → Goes options turns a (with_line a raw)
 unfolding with_line
 step_goes options turns a raw h o = step_goes_if (goes_on a.ending) options turns a (kept_line raw) h o
 
 -- ---- a talk
 
-fold_holds : (options : Options) (turns : List Decision) (a : TalkState) (lines : List (List ℕ)) → Holds options turns a → Holds options turns (fold with_line a lines)
+fold_holds : (options : Options) (turns : List TurnData) (a : TalkState) (lines : List (List ℕ)) → Holds options turns a → Holds options turns (fold with_line a lines)
 fold_holds options turns a [] h = h
 fold_holds options turns a (raw ∷ lines) h = fold_holds options turns (with_line a raw) lines (step_goes options turns a raw h (step_keeps a raw)).holds
 
@@ -144,7 +144,7 @@ are_generated start all lines good none before raw others split moved =
     let goes = step_goes start.options all.turns here raw holds (step_keeps here raw) in
     subst (IsGeneratedMove start.options all.turns here) (sym more) (goes.generated (subst (λ (s : TalkState). s.at.turns ≢ here.at.turns) more moved))
 
-pub headline_at : (options : Options) (size limit : ℕ) (a b : Option Shelved) (c d : Option (List Decision)) (x y : Option Told) → Conversed (Ok tt) options size limit (a, c) (b, d) x y
+pub headline_at : (options : Options) (size limit : ℕ) (a b : Option Shelved) (c d : Option (List TurnData)) (x y : Option Told) → Conversed (Ok tt) options size limit (a, c) (b, d) x y
     → Both c d (λ s t. Both x y (λ o n. Headline options size s t o n))
 headline_at options size limit a b c d x y k =
     Both-weaker c d _ _ (λ s t took. Both-weaker x y _ _ (λ o n p. record {

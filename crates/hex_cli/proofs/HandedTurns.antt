@@ -5,7 +5,7 @@ use Rattle.std.proofs.Math.Seq.{drop-append_seam}
 use Rattle.hex_io.specs.Grew.{Gave}
 use Rattle.hex_io.specs.Told.{Told, Both, Same}
 use Rattle.hex_io.proofs.BothLaws.{Both-weaker}
-use Rattle.hex_plan.specs.Turns.{Decision}
+use Rattle.hex_plan.specs.Turns.{TurnData}
 use Rattle.htp_session.specs.Endings.{Outcome, since}
 use Rattle.htp_session.specs.Handing.{LinkAndArchive}
 use Rattle.htp_session.specs.declared.stops.Stop.TheVariants.{ReadFault, WriteFault, Memory, TooLong, ArchiveFault}
@@ -14,7 +14,7 @@ use Rattle.hex_cli.specs.Statuses.{end_for, status_of}
 use Rattle.hex_cli.specs.declared.ends.End.TheVariants.{Usage, Stopped}
 
 abbrev Answer : Type 1
-Answer = Decision → List ℕ → Type 0
+Answer = TurnData → List ℕ → Type 0
 
 pub outcome_no_usage : (outcome : Outcome) → end_for outcome ≢ Usage
 outcome_no_usage (Ok done) e = absurd (cc)

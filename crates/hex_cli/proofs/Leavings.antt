@@ -4,7 +4,7 @@ use Rattle.std.proofs.Common.{List, Option, ◌≡◌, ℕ, ◌+◌, ◌≤◌, 
 use Rattle.std.specs.Prelude.{◌↔◌}
 use Rattle.hex_io.specs.Shelves.{Shelved}
 use Rattle.hex_io.specs.Told.{Told, Both}
-use Rattle.hex_plan.specs.Turns.{Decision}
+use Rattle.hex_plan.specs.Turns.{TurnData}
 use Rattle.htp_session.specs.Devices.{DevicesState, stock}
 use Rattle.htp_session.specs.Endings.{since}
 use Rattle.htp_session.specs.Inputs.{TextOf}
@@ -23,7 +23,7 @@ use Rattle.hex_cli.proofs.DeterminedLaws.{determined_at}
 use Rattle.hex_cli.proofs.GeneratedMoves.{headline_at}
 use Rattle.hex_cli.proofs.Doings.{IsComplete, IsFaultless, IsLong, does_complete, does_too_long}
 
-pub plays_as : (end other : End) (options : Options) (old new : DevicesState) (link : Option Told) (shelf : Option Shelved) (turns : Option (List Decision))
+pub plays_as : (end other : End) (options : Options) (old new : DevicesState) (link : Option Told) (shelf : Option Shelved) (turns : Option (List TurnData))
     → end ≡ other → options.mode ≡ Htp → ServesIn options.mode options end old new → new.link ≡ link → new.shelf ≡ shelf → new.turns ≡ turns
     → PlayedTo other (engine_options options) options.size INPUT_LIMIT (stock old) (shelf, turns) old.link link
 plays_as end other options old new link shelf turns e htp d l f t =
@@ -33,7 +33,7 @@ plays_as end other options old new link shelf turns e htp d l f t =
 pub answers_as : (Answers : TextOf) (end other : End) (old new : DevicesState) (link : Option Told) → end ≡ other → AnswersTo Answers end old new → new.link ≡ link → AnsweredTo Answers other old.link link
 answers_as Answers end other old new link e d l = rw (← e, ← l) d.answered
 
-pub hands_as : (IsAnswer : Decision → List ℕ → Type 0) (end other : End) (old new : DevicesState) (link : Option Told) (turns : Option (List Decision))
+pub hands_as : (IsAnswer : TurnData → List ℕ → Type 0) (end other : End) (old new : DevicesState) (link : Option Told) (turns : Option (List TurnData))
     → end ≡ other → HandsInTo IsAnswer end old new → new.link ≡ link → new.turns ≡ turns → HandedInTo IsAnswer other (old.link, old.turns) (link, turns)
 hands_as IsAnswer end other old new link turns e d l t = rw (← e, ← l, ← t) d.handed
 
@@ -57,7 +57,7 @@ kept_as before left now l e = sym l ∙ e
 pub does_as : (mode : Mode) (options : Options) (end : End) (old new : DevicesState) → options.mode ≡ mode → ServesIn options.mode options end old new → ServesIn mode options end old new
 does_as mode options end old new is d = subst (λ m. ServesIn m options end old new) is d
 
-pub headline_as : (end : End) (options : Options) (old new : DevicesState) (link : Option Told) (turns : Option (List Decision))
+pub headline_as : (end : End) (options : Options) (old new : DevicesState) (link : Option Told) (turns : Option (List TurnData))
     → end ≡ Done → options.mode ≡ Htp → ServesIn options.mode options end old new → new.link ≡ link → new.turns ≡ turns
     → Both old.turns turns (λ s t. Both old.link link (λ o n. Headline (engine_options options) options.size s t o n))
 headline_as end options old new link turns e htp d l t =

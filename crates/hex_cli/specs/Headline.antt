@@ -9,7 +9,7 @@ use Rattle.hex_game.specs.Games.{board_of, is_legal, with_step}
 use Rattle.hex_game.specs.Moves.{step_of}
 use Rattle.hex_game.specs.declared.moves.Move.TheVariants.{Stone}
 use Rattle.hex_plan.specs.Laws.{IsCertified, LosesOutsideThreats, LosesWhereLost}
-use Rattle.hex_plan.specs.Turns.{Decision}
+use Rattle.hex_plan.specs.Turns.{TurnData}
 use Rattle.hex_engine.specs.declared.options.Options.{Options}
 use Rattle.hex_engine.specs.EngineState.{EngineState, opening}
 use Rattle.hex_engine.specs.Supply.{Supply}
@@ -22,9 +22,9 @@ use Rattle.htp_session.specs.Endings.{since}
 -- every reply; a move outside the carrier of one of the turn's threats loses, and where the plan
 -- says that the board is lost each move does; a stone of this colour on the turn's cell is legal in
 -- the game before; and it was played and written.
-pub record IsGeneratedMove (options : Options) (turns : List Decision)
+pub record IsGeneratedMove (options : Options) (turns : List TurnData)
     (before after : TalkState) : Type 0 where
-  pub turn : Decision
+  pub turn : TurnData
   pub colour : Colour
   pub good : IsGoodFor options turn
   pub certified : IsCertified turn
@@ -48,7 +48,7 @@ AreGeneratedMoves start all lines =
 
 -- What was given is the talk over the lines taken, with the turns that the archive took since and
 -- what came of the files; and each line that took a turn was answered by a generated move.
-pub record Headline (options : Options) (size : ℕ) (turns turns_now : List Decision)
+pub record Headline (options : Options) (size : ℕ) (turns turns_now : List TurnData)
     (old new : Told) : Type 0 where
   pub all : Supply
   pub archived : turns_now ≡ turns ++ all.turns

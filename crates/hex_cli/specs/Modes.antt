@@ -6,7 +6,7 @@ use Rattle.tree_words.specs.declared.settings.Knobs.{Knobs}
 use Rattle.hexd_words.specs.declared.settings.Options.{Options}
 use Rattle.hex_engine.specs.declared.options.Options as engine
 use Rattle.htp_session.specs.Stocks.{ShelfAndArchive}
-use Rattle.hex_plan.specs.Turns.{Decision}
+use Rattle.hex_plan.specs.Turns.{TurnData}
 use Rattle.htp_session.specs.Endings.{Conversed, Outcome}
 use Rattle.htp_session.specs.Handing.{LinkAndArchive}
 use Rattle.htp_session.specs.Inputs.{AnswersInput, TextOf}
@@ -55,7 +55,7 @@ AnsweredTo Answers end old new = (answer : Result Bool Stop) × (end ≡ end_of_
 
 -- A turn with its text was handed in, to this end: the archive took the turn, and then the text was
 -- given.
-abbrev pub HandedInTo : (Decision → List ℕ → Type 0) → End
+abbrev pub HandedInTo : (TurnData → List ℕ → Type 0) → End
     → LinkAndArchive → LinkAndArchive → Type 0
 HandedInTo IsAnswer end old new = (outcome : Outcome) × (end ≡ end_for outcome)
     × HandsIn IsAnswer old new outcome

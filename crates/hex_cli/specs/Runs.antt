@@ -3,7 +3,7 @@ use Rattle.std.specs.Prelude.{◌≡◌, ◌≢◌, ◌⊎◌, ℕ, Bool, true, 
 use Rattle.hex_io.specs.Told.{Both}
 use Rattle.hex_io.specs.declared.links.Link as links
 use Rattle.hex_io.specs.declared.shelves.Shelf as shelves
-use Rattle.hex_plan.specs.Turns.{Decision}
+use Rattle.hex_plan.specs.Turns.{TurnData}
 use Rattle.hex_plan.specs.declared.archives.Archive as archives
 use Rattle.turn_modes.specs.declared.options.ModeOptions.{ModeOptions}
 use Rattle.hexd_words.specs.Reading.{WellFormed}
@@ -78,7 +78,7 @@ AnswersBy l mode Answers words status old new = (end : End) → status ≡ statu
 
 -- Modes sim and bench: a turn with its text was handed in, to the end that has this status.
 abbrev pub HandsInBy : {L A : Type 0} → links.Ghosts L → archives.Ghosts A → Mode
-    → (ModeOptions → Decision → List ℕ → Type 0) → List (List ℕ) → ℕ → L × A → L × A → Type 0
+    → (ModeOptions → TurnData → List ℕ → Type 0) → List (List ℕ) → ℕ → L × A → L × A → Type 0
 HandsInBy l a mode IsAnswer words status old new = (end : End) → status ≡ status_of end
     → InMode mode words (λ options. HandedInTo (IsAnswer (mode_options options)) end
     (l.told old.0, a.told old.1) (l.told new.0, a.told new.1))

@@ -6,7 +6,7 @@ use Rattle.hexd_words.specs.declared.settings.Options.{Options}
 use Rattle.hexd_words.specs.declared.settings.Mode.{Mode}
 use Rattle.hexd_words.specs.declared.settings.Mode.TheVariants.{Htp, Check, Migrate, Audit}
 use Rattle.hexd_words.specs.declared.settings.Mode.TheVariants.{Sim, Bench}
-use Rattle.hex_plan.specs.Turns.{Decision}
+use Rattle.hex_plan.specs.Turns.{TurnData}
 use Rattle.turn_modes.specs.OneTurn.{IsBenchmark, IsSimulation}
 use Rattle.htp_session.specs.Devices.{DevicesState, stock, link_and_archive}
 use Rattle.htp_session.specs.Inputs.{TextOf}
@@ -34,7 +34,7 @@ pub record AnswersTo (Answers : TextOf) (end : End) (old new : DevicesState) : T
   pub idle : StandIdle old new
 
 -- a turn with its text was handed in, to this end
-pub record HandsInTo (IsAnswer : Decision → List ℕ → Type 0) (end : End)
+pub record HandsInTo (IsAnswer : TurnData → List ℕ → Type 0) (end : End)
     (old new : DevicesState) : Type 0 where
   pub handed : HandedInTo IsAnswer end (link_and_archive old) (link_and_archive new)
   pub shelf : new.shelf ≡ old.shelf

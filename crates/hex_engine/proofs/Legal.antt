@@ -9,7 +9,7 @@ use Rattle.hex_board.specs.Joined.{is_joined, winner_of}
 use Rattle.hex_game.specs.Moves.{step_of}
 use Rattle.hex_game.specs.Games.{board_of, is_legal, is_over}
 use Rattle.hex_game.specs.declared.moves.Move.TheVariants.{Stone}
-use Rattle.hex_plan.specs.Turns.{Decision}
+use Rattle.hex_plan.specs.Turns.{TurnData}
 use Rattle.hex_engine.specs.EngineState.{EngineState}
 use Rattle.hex_engine.specs.MoveReplies.{is_board, is_next}
 use Rattle.hex_engine.specs.Uses.{IsGoodFor}
@@ -29,10 +29,10 @@ not_over : (p : Position) → winner_of p ≡ None → is_over p ≡ false
 not_over p e = none_joined (is_joined p.size Black p.black) (is_joined p.size White p.white) e
 
 -- its board is the game's
-pub next_board : (at : EngineState) (colour : Colour) (turn : Decision) → is_next at colour turn ≡ true → turn.board ≡ board_of at.game
+pub next_board : (at : EngineState) (colour : Colour) (turn : TurnData) → is_next at colour turn ≡ true → turn.board ≡ board_of at.game
 next_board at colour turn next = same_board turn.board (board_of at.game) (and_parts _ _ next).0
 
-pub next_is_legal : (at : EngineState) (colour : Colour) (turn : Decision) → IsGoodFor at.options turn → is_next at colour turn ≡ true → is_legal at.game (step_of colour (Stone turn.cell)) ≡ true
+pub next_is_legal : (at : EngineState) (colour : Colour) (turn : TurnData) → IsGoodFor at.options turn → is_next at colour turn ≡ true → is_legal at.game (step_of colour (Stone turn.cell)) ≡ true
 next_is_legal at colour turn good next =
     let now : Position = board_of at.game in
     let board : turn.board ≡ now = next_board at colour turn next in

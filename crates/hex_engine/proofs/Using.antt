@@ -2,7 +2,7 @@
 use Rattle.std.proofs.Common.{◌≡◌, ◌≤◌, ℕ, length, arith, Bool, true, false, cond, List, [], ◌∷◌, ◌++◌, Option, None, Some, Ok, refl, sym, ap, ◌∙◌, subst, append-nil}
 use Rattle.hex_io.specs.Shelves.{Shelved, Fetched, is_failed, Tries, Fetches as FetchesOne}
 use Rattle.hex_io.proofs.BothLaws.{Both-weaker, Both-refl}
-use Rattle.hex_plan.specs.Turns.{Decision}
+use Rattle.hex_plan.specs.Turns.{TurnData}
 use Rattle.hex_engine.specs.declared.options.Options.{Options}
 use Rattle.hex_engine.specs.declared.answers.Fail.TheVariants.{Over, UnknownCommand}
 use Rattle.hex_engine.specs.declared.commands.Command.{Command}
@@ -29,7 +29,7 @@ use Rattle.std.proofs.lemmas.Slice.Eq.{bytes_eq-Decides}
 pub unfetched : (t : Option Shelved) → Loading t t nothing_left []
 unfetched t = Both-refl t (λ o n. FetchesLoads o n [] []) (λ x. record { tries = []; tried = ap (λ l. record x { tries = l }) (sym (append-nil x.tries)); came = tt })
 
-pub nothing_moved : (options : Options) (t : Option (List Decision)) → Moving options t t nothing_left
+pub nothing_moved : (options : Options) (t : Option (List TurnData)) → Moving options t t nothing_left
 nothing_moved options t = record { took = Both-refl t (λ o n. n ≡ o ++ []) (λ x. sym (append-nil x)); good = tt }
 
 fetched_as : (o n : Shelved) (name : List ℕ) (f : Fetched) (what : Loaded) → IsLoadOf f what → Tries o n name f → FetchesLoads o n (loads_only (record { name = name; what = what } ∷ [])).loads []
@@ -54,10 +54,10 @@ pub if_ok : {T E : Type 0} (r : Result T E) (P Q : T → Type 0) → ((x : T) �
 if_ok (Ok x) P Q go h = go x h
 if_ok (Err e) P Q go h = tt
 
-pub uses_nothing : (options : Options) (shelf : Option Shelved) (archive : Option (List Decision)) → Uses options shelf shelf archive archive nothing_left []
+pub uses_nothing : (options : Options) (shelf : Option Shelved) (archive : Option (List TurnData)) → Uses options shelf shelf archive archive nothing_left []
 uses_nothing options shelf archive = record { loading = unfetched shelf; moving = nothing_moved options archive }
 
-pub nothing_used : (options : Options) (shelf : Option Shelved) (archive : Option (List Decision)) → UsesNothing options shelf shelf archive archive
+pub nothing_used : (options : Options) (shelf : Option Shelved) (archive : Option (List TurnData)) → UsesNothing options shelf shelf archive archive
 nothing_used options shelf archive = record { in_vain = []; few = omega arith; uses = uses_nothing options shelf archive }
 
 -- a file of this name came to this
@@ -72,7 +72,7 @@ pub over_reply : (s : EngineState) (colour : Colour) (args : List (List ℕ)) �
 over_reply s colour args e f later =
     ap (moving_by s later) e ∙ ap (λ b. cond b (moving_next s later later.turns colour) (unused later (unchanged s (FailedReply Over)))) f
 
-pub moved_reply : (s : EngineState) (colour : Colour) (turn : Decision) (args : List (List ℕ)) → lone_colour args ≡ Some colour → may_move (board_of s.game) ≡ true → is_next s colour turn ≡ true
+pub moved_reply : (s : EngineState) (colour : Colour) (turn : TurnData) (args : List (List ℕ)) → lone_colour args ≡ Some colour → may_move (board_of s.game) ≡ true → is_next s colour turn ≡ true
     → (later : Supply) → moving s (and_then (turns_only (turn ∷ [])) later) args ≡ unused later (turned s colour turn)
 moved_reply s colour turn args e f n later =
     let left : Supply = and_then (turns_only (turn ∷ [])) later in

@@ -3,7 +3,7 @@ use Rattle.std.specs.Prelude.{◌≡◌, ◌≤◌, ℕ, Bool, true, List, [], �
 use Rattle.hex_cells.specs.declared.colours.Colour.{Colour}
 use Rattle.hex_io.specs.Shelves.{Shelved}
 use Rattle.hex_io.specs.Told.{Both}
-use Rattle.hex_plan.specs.Turns.{Decision}
+use Rattle.hex_plan.specs.Turns.{TurnData}
 use Rattle.hex_engine.specs.EngineState.{EngineState}
 use Rattle.hex_engine.specs.LoadReplies.{loading}
 use Rattle.hex_engine.specs.MoveReplies.{is_next, moving, turned}
@@ -27,16 +27,16 @@ AnswersLoad standing args shelf shelf_now answer after = (loads : List Load)
 
 -- `genmove` with these arguments was answered so: the archive took these turns, which are good, and
 -- the answer, with what stands after it, is what `genmove` does with them
-abbrev pub AnswersMove : EngineState → List (List ℕ) → Option (List Decision)
-    → Option (List Decision) → Answer → EngineState → Type 0
-AnswersMove standing args archive archive_now answer after = (turns : List Decision)
+abbrev pub AnswersMove : EngineState → List (List ℕ) → Option (List TurnData)
+    → Option (List TurnData) → Answer → EngineState → Type 0
+AnswersMove standing args archive archive_now answer after = (turns : List TurnData)
     × Moving standing.options archive archive_now (turns_only turns)
     × ReactsWith (λ left. moving standing left args) (turns_only turns) answer after
 
 -- the archive took a good turn that is next, and its cell was played and answered
-abbrev pub TakesNext : EngineState → Colour → Option (List Decision) → Option (List Decision)
+abbrev pub TakesNext : EngineState → Colour → Option (List TurnData) → Option (List TurnData)
     → Answer → EngineState → Type 0
-TakesNext standing colour archive archive_now answer after = (turn : Decision)
+TakesNext standing colour archive archive_now answer after = (turn : TurnData)
     × IsGoodFor standing.options turn × (is_next standing colour turn ≡ true)
     × Both archive archive_now (λ o n. n ≡ o ++ turn ∷ [])
     × Reacts (turned standing colour turn) answer after

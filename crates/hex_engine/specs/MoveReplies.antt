@@ -10,7 +10,7 @@ use Rattle.hex_game.specs.Moves.{step_of}
 use Rattle.hex_game.specs.declared.moves.Move.TheVariants.{Stone}
 use Rattle.hex_plan.specs.Openings.{may_move}
 use Rattle.hex_plan.specs.TurnTexts.{texts_of}
-use Rattle.hex_plan.specs.Turns.{Decision}
+use Rattle.hex_plan.specs.Turns.{TurnData}
 use Rattle.hex_engine.specs.EngineState.{EngineState}
 use Rattle.hex_engine.specs.Forms.{colour_of}
 use Rattle.hex_engine.specs.Replies.{Done, Failed, Reaction, Turned, Missing, NoTurn}
@@ -24,13 +24,13 @@ is_board a b = (a.size == b.size) && ((a.black == b.black) && (a.white == b.whit
 
 -- the turn is this conversation's next: it has the board of the game, this colour, and the number
 -- of turns before it
-abbrev pub is_next : EngineState → Colour → Decision → Bool
+abbrev pub is_next : EngineState → Colour → TurnData → Bool
 is_next standing colour turn =
     is_board turn.board (board_of standing.game) &&
     (is_same turn.player colour && (turn.number == standing.turns))
 
 -- the turn's cell is played and answered, and its texts are those of the last turn
-abbrev pub turned : EngineState → Colour → Decision → Reaction
+abbrev pub turned : EngineState → Colour → TurnData → Reaction
 turned standing colour turn = record {
   reply = Done (vertex_of (board_of standing.game).size turn.cell);
   after = record standing {
@@ -41,7 +41,7 @@ turned standing colour turn = record {
 }
 
 -- the next turn is used up
-abbrev pub moving_next : EngineState → Supply → List Decision → Colour → Result Turned Missing
+abbrev pub moving_next : EngineState → Supply → List TurnData → Colour → Result Turned Missing
 moving_next standing left [] colour = Err NoTurn
 moving_next standing left (turn ∷ turns) colour =
     if is_next standing colour turn then

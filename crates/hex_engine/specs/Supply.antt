@@ -1,7 +1,7 @@
 -- What a conversation uses up: what comes of the files that it asks for, and the turns that its
 -- moves are searched in.
 use Rattle.std.specs.Prelude.{ℕ, List, [], ◌++◌}
-use Rattle.hex_plan.specs.Turns.{Decision}
+use Rattle.hex_plan.specs.Turns.{TurnData}
 use Rattle.hex_engine.specs.declared.files.Loaded.{Loaded}
 
 -- the name that was asked for, and what came of it
@@ -12,7 +12,7 @@ pub record Load : Type 0 where
 -- what is left to be used up, each in turn
 pub record Supply : Type 0 where
   pub loads : List Load
-  pub turns : List Decision
+  pub turns : List TurnData
 
 -- nothing is left to be used up
 abbrev pub nothing_left : Supply
@@ -27,5 +27,5 @@ abbrev pub loads_only : List Load → Supply
 loads_only loads = record { loads = loads; turns = [] }
 
 -- turns alone
-abbrev pub turns_only : List Decision → Supply
+abbrev pub turns_only : List TurnData → Supply
 turns_only turns = record { loads = []; turns = turns }

@@ -7,7 +7,7 @@ use Rattle.hex_io.specs.declared.files.File.{File}
 use Rattle.hex_io.specs.Shelves.{Shelved, Fetched, Failed, Missing, Long, Contents, fetched_of}
 use Rattle.hex_game.specs.Games.{GameData}
 use Rattle.sgf_game.specs.RecordOf.{IsRecordOf}
-use Rattle.hex_plan.specs.Turns.{Decision}
+use Rattle.hex_plan.specs.Turns.{TurnData}
 use Rattle.hex_plan.specs.Good.{IsGood}
 use Rattle.hex_engine.specs.Supply.{Load, Supply, nothing_left}
 use Rattle.hex_engine.specs.declared.files.Loaded.{Loaded}
@@ -51,11 +51,11 @@ abbrev pub Loading : Option Shelved → Option Shelved → Supply → List Bool 
 Loading old new used in_vain = Both old new (λ o n. FetchesLoads o n used.loads in_vain)
 
 -- the turn is one that a session with these options owes
-abbrev pub IsGoodFor : Options → Decision → Type 0
+abbrev pub IsGoodFor : Options → TurnData → Type 0
 IsGoodFor options turn = IsGood options.knobs options.hsearch turn
 
 -- each of these turns is good
-abbrev pub AreGood : Options → List Decision → Type 0
+abbrev pub AreGood : Options → List TurnData → Type 0
 AreGood options [] = Unit {0}
 AreGood options (turn ∷ turns) = IsGoodFor options turn × AreGood options turns
 
@@ -65,7 +65,7 @@ pub record HasOneWorker (options : Options) : Type 0 where
   pub no_connections : options.hsearch ≡ false
 
 -- the archive, where it tells it, took these turns, and each is good
-pub record Moving (options : Options) (old new : Option (List Decision))
+pub record Moving (options : Options) (old new : Option (List TurnData))
     (used : Supply) : Type 0 where
   pub took : Both old new (λ o n. n ≡ o ++ used.turns)
   pub good : AreGood options used.turns
@@ -73,14 +73,14 @@ pub record Moving (options : Options) (old new : Option (List Decision))
 -- This was used up since: its loads came of the shelf's fetches, and its turns were taken by the
 -- archive.
 pub record Uses (options : Options) (shelf shelf_now : Option Shelved)
-    (archive archive_now : Option (List Decision)) (used : Supply)
+    (archive archive_now : Option (List TurnData)) (used : Supply)
     (in_vain : List Bool) : Type 0 where
   pub loading : Loading shelf shelf_now used in_vain
   pub moving : Moving options archive archive_now used
 
 -- nothing was used up, and one fetch at most came to nothing
 pub record UsesNothing (options : Options) (shelf shelf_now : Option Shelved)
-    (archive archive_now : Option (List Decision)) : Type 0 where
+    (archive archive_now : Option (List TurnData)) : Type 0 where
   pub in_vain : List Bool
   pub few : length in_vain ≤ 1
   pub uses : Uses options shelf shelf_now archive archive_now nothing_left in_vain
@@ -89,7 +89,7 @@ pub record UsesNothing (options : Options) (shelf shelf_now : Option Shelved)
 -- the reaction to the request with that to use up. An answer for which something was used up is
 -- brief.
 pub record Answered (engine : EngineState) (shelf shelf_now : Option Shelved)
-    (archive archive_now : Option (List Decision)) (request : Request) (answer : Answer)
+    (archive archive_now : Option (List TurnData)) (request : Request) (answer : Answer)
     (after : EngineState) : Type 0 where
   pub used : Supply
   pub uses : Uses engine.options shelf shelf_now archive archive_now used []

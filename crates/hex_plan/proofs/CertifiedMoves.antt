@@ -24,7 +24,7 @@ use Rattle.win_cert.specs.declared.certs.Cert.{Cert}
 use Rattle.hex_plan.specs.Good.{FollowsPlan, IsGood}
 use Rattle.hex_plan.specs.Laws.{IsCertified, LosesOutsideThreats, LosesWhereLost}
 use Rattle.hex_plan.specs.Plans.{IsCertifiedWin, IsInEach, IsMiddle, IsNarrowed, IsPlanned, IsPlannedBy, IsReportOf, IsThreat, IsWin, IsWinBy, IsWinningCellBy}
-use Rattle.hex_plan.specs.Turns.{Decision}
+use Rattle.hex_plan.specs.Turns.{TurnData}
 use Rattle.hex_plan.specs.declared.plans.Planned.{Planned}
 use Rattle.hex_plan.specs.declared.threats.Threat.{Threat}
 use Rattle.hex_plan.specs.declared.types.Plan.{Plan}
@@ -68,11 +68,11 @@ won_wins board player cert k d on h =
     (cell_wins d h.edges.0 h.entry h.entry.kind k h.report.report.sound
     (subst (λ (v : PlayerBoard). Within v.board.size (stones_of v.board v.player)) (sym e) (stones_on board player on)) h.edges.1 refl h.winning)
 
-win_by : (options : Knobs) (t : Decision) (plan : Plan) → FollowsPlan options t plan → IsWin plan → IsWinBy plan t.cell
+win_by : (options : Knobs) (t : TurnData) (plan : Plan) → FollowsPlan options t plan → IsWin plan → IsWinBy plan t.cell
 win_by options t (Win cert cell) f w = sym f.1
 win_by options t (Search threats allowed lost) f w = absurd w
 
-pub is_certified : (options : Knobs) (hsearch : Bool) (t : Decision) → IsGood options hsearch t → IsCertified t
+pub is_certified : (options : Knobs) (hsearch : Bool) (t : TurnData) → IsGood options hsearch t → IsCertified t
 is_certified options hsearch t g w =
     let (cert, d, is, won) = planned_win t.board t.player hsearch t.planned t.cell g.planned (win_by options t t.planned.plan g.follows w) in
     won_wins t.board t.player cert t.cell d g.position won
@@ -111,7 +111,7 @@ with_threat board player false p threats allowed lost i threat h q s = absurd (n
 at_one : (P : Threat → Type 0) (threats : List Threat) (i : ℕ) (threat : Threat) → All P threats → slice_get threats i ≡ Some threat → P threat
 at_one P threats i threat h s = subst P (get_or_from_slice_get threats i threat threat s) (h i threat (slice_get_within threats i threat s))
 
-pub outside_loses : (options : Knobs) (hsearch : Bool) (t : Decision) → IsGood options hsearch t → LosesOutsideThreats t
+pub outside_loses : (options : Knobs) (hsearch : Bool) (t : TurnData) → IsGood options hsearch t → LosesOutsideThreats t
 outside_loses options hsearch t g threats allowed lost q i threat s k empty out =
     let (d, e, n) = with_threat t.board t.player hsearch t.planned threats allowed lost i threat g.planned q s in
     threat_wins t.board t.player e threat k g.position n.other_report (at_one (IsThreat e) threats i threat n.are_threats.cut s) out
@@ -135,7 +135,7 @@ lost_region board player false p threats allowed h q = absurd (not_lost threats 
     not_lost : (threats : List Threat) (a b : ℕ) → Search [] b false ≡ Search threats a true → ⊥
     not_lost threats a b e = absurd (cc)
 
-pub lost_loses : (options : Knobs) (hsearch : Bool) (t : Decision) → IsGood options hsearch t → LosesWhereLost t
+pub lost_loses : (options : Knobs) (hsearch : Bool) (t : TurnData) → IsGood options hsearch t → LosesWhereLost t
 lost_loses options hsearch t g threats allowed q k empty =
     let w = some_misses threats k (λ a. lost_region t.board t.player hsearch t.planned threats allowed g.planned q k (empty, a)) in
     outside_loses options hsearch t g threats allowed true q w.0 w.1 w.2 k empty w.3

@@ -15,7 +15,7 @@ use Rattle.tree_words.specs.declared.settings.Knobs.{Knobs}
 use Rattle.win_cert.specs.declared.certs.Cert.{Cert}
 use Rattle.hex_plan.specs.Good.{FollowsPlan, IsGood}
 use Rattle.hex_plan.specs.Plans.{IsCertifiedWin, IsPlanned, IsPlannedBy, IsWinBy, IsWinningCellBy}
-use Rattle.hex_plan.specs.Turns.{Decision, DecidesBy, IsDecided}
+use Rattle.hex_plan.specs.Turns.{TurnData, DecidesBy, IsDecided}
 use Rattle.hex_plan.specs.declared.plans.Planned.{Planned}
 use Rattle.hex_plan.specs.declared.types.Plan.{Plan}
 use Rattle.hex_plan.specs.declared.types.Plan.TheVariants.{Win, Search}
@@ -52,7 +52,7 @@ planned_empty board player hsearch p k h w =
     let (cert, d, is, won) = planned_win board player hsearch p k h w in won_empty board player cert k d won
 
 -- a turn that a win decides
-pub decided_by_win : (t : Decision) (hsearch : Bool) → IsPlanned t.board t.player hsearch t.planned → IsWinBy t.planned.plan t.cell → t.closed ≡ None → IsDecided t
+pub decided_by_win : (t : TurnData) (hsearch : Bool) → IsPlanned t.board t.player hsearch t.planned → IsWinBy t.planned.plan t.cell → t.closed ≡ None → IsDecided t
 decided_by_win t hsearch h w e =
     let (cert, d, is, won) = planned_win t.board t.player hsearch t.planned t.cell h w in
     record {
@@ -60,7 +60,7 @@ decided_by_win t hsearch h w e =
       decided = subst (λ (v : Plan). DecidesBy t v) (sym is) (e, refl, won.cut.writable);
     }
 
-pub good_win : (options : Knobs) (t : Decision) (hsearch : Bool) → IsPosition t.board.size t.board.black t.board.white → winner_of t.board ≡ None → IsPlanned t.board t.player hsearch t.planned → IsWinBy t.planned.plan t.cell → t.closed ≡ None
+pub good_win : (options : Knobs) (t : TurnData) (hsearch : Bool) → IsPosition t.board.size t.board.black t.board.white → winner_of t.board ≡ None → IsPlanned t.board t.player hsearch t.planned → IsWinBy t.planned.plan t.cell → t.closed ≡ None
     → IsGood options hsearch t
 good_win options t hsearch on n h w e =
     let (cert, d, is, won) = planned_win t.board t.player hsearch t.planned t.cell h w in
@@ -73,7 +73,7 @@ good_win options t hsearch on n h w e =
     }
 
 -- the tree of a turn is one of its board and player
-pub tree_of_turn : (t : Decision) (plan : Plan) → DecidesBy t plan → ForSome t.closed (λ (tree : ClosedTree). (tree.shape.board ≡ t.board) × (tree.shape.player ≡ t.player))
+pub tree_of_turn : (t : TurnData) (plan : Plan) → DecidesBy t plan → ForSome t.closed (λ (tree : ClosedTree). (tree.shape.board ≡ t.board) × (tree.shape.player ≡ t.player))
 tree_of_turn t (Win cert cell) h tree e = absurd (cc)
 tree_of_turn t (Search threats allowed lost) h tree e = ((h tree e).board, (h tree e).player)
 

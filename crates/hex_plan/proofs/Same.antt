@@ -16,7 +16,7 @@ use Rattle.tree_words.specs.Closing.{ClosedTree}
 use Rattle.hex_plan.specs.Good.{FollowsPlan, IsTurnShape, IsGood, IsSearchedFor}
 use Rattle.hex_plan.specs.Reports.{rows_in, reported_rows, sequential_rows}
 use Rattle.hex_plan.specs.TurnTexts.{mustplay_of, report_lines, report_of, report_on, texts_of, wincert_of}
-use Rattle.hex_plan.specs.Turns.{Decision}
+use Rattle.hex_plan.specs.Turns.{TurnData}
 use Rattle.hex_plan.specs.declared.types.Plan.{Plan}
 use Rattle.hex_plan.specs.declared.types.Plan.TheVariants.{Search}
 use Rattle.hex_plan.proofs.Reports.{rows_of_tree}
@@ -53,14 +53,14 @@ same_best s a b x y h k e p q =
     omega (arith, le, ge, p.is, q.is, ci, cj)
 
 -- where no connections are looked for a good turn has a tree, which was searched for it among all empty cells
-tree_of : (options : Knobs) (t : Decision) (g : IsGood options false t) → (c : ClosedTree) × (t.closed ≡ Some c) × IsSearchedFor options t g.planned.allowed c
+tree_of : (options : Knobs) (t : TurnData) (g : IsGood options false t) → (c : ClosedTree) × (t.closed ≡ Some c) × IsSearchedFor options t g.planned.allowed c
 tree_of options t g = subst (λ (v : Plan). FollowsPlan options t v) g.planned.plan g.follows
 
-rows_in_tree : (options : Knobs) (t : Decision) (cells : ℕ) (c : ClosedTree) → options.workers ≡ 1 → IsSearchedFor options t cells c → rows_of c.shape c.words ≡ rows_in (seq_of c.shape).0
+rows_in_tree : (options : Knobs) (t : TurnData) (cells : ℕ) (c : ClosedTree) → options.workers ≡ 1 → IsSearchedFor options t cells c → rows_of c.shape c.words ≡ rows_in (seq_of c.shape).0
 rows_in_tree options t cells c one s = rows_of_tree c.shape c.words (seq_of c.shape).0 s.setting s.closed (s.sequential one)
 
 -- with one worker the report of a good turn is that of Seq
-pub report_is_seq : (options : Knobs) (t : Decision) → options.workers ≡ 1 → IsGood options false t → reported_rows t ≡ sequential_rows t
+pub report_is_seq : (options : Knobs) (t : TurnData) → options.workers ≡ 1 → IsGood options false t → reported_rows t ≡ sequential_rows t
 report_is_seq options t one g =
     let tree = tree_of options t g in
     let c : ClosedTree = tree.0 in
@@ -68,7 +68,7 @@ report_is_seq options t one g =
     ∙ ap (option_map (λ (z : ClosedTree). rows_in (seq_of z.shape).0)) (sym tree.1)
 
 -- two trees of one shape that were searched for turns, with one worker
-twins : (options : Knobs) (s : Setting) (t u : Decision) (m n : ℕ) (c d : ClosedTree) → options.workers ≡ 1 → IsSearchedFor options t m c → IsSearchedFor options u n d → c.shape ≡ s → d.shape ≡ s
+twins : (options : Knobs) (s : Setting) (t u : TurnData) (m n : ℕ) (c d : ClosedTree) → options.workers ≡ 1 → IsSearchedFor options t m c → IsSearchedFor options u n d → c.shape ≡ s → d.shape ≡ s
     → (t.cell ≡ u.cell) × (rows_of c.shape c.words ≡ rows_of d.shape d.words)
 twins options s t u m n c d one g h e f =
     let rows : rows_of c.shape c.words ≡ rows_of d.shape d.words
@@ -81,7 +81,7 @@ twins options s t u m n c d one g h e f =
     (same_best s c.words d.words t.cell u.cell root_t root_u rows' best_t best_u, rows)
 
 -- what is said of two turns without connections, of one board and with one set of allowed cells
-same_texts : (t u : Decision) (m n : ℕ) (c d : ClosedTree) → t.board ≡ u.board → m ≡ n → t.planned.plan ≡ Search [] m false → u.planned.plan ≡ Search [] n false → t.closed ≡ Some c → u.closed ≡ Some d
+same_texts : (t u : TurnData) (m n : ℕ) (c d : ClosedTree) → t.board ≡ u.board → m ≡ n → t.planned.plan ≡ Search [] m false → u.planned.plan ≡ Search [] n false → t.closed ≡ Some c → u.closed ≡ Some d
     → c.shape ≡ d.shape → rows_of c.shape c.words ≡ rows_of d.shape d.words → texts_of t ≡ texts_of u
 unfolding report_of
 same_texts t u m n c d b a p q e f s r =
@@ -95,7 +95,7 @@ same_texts t u m n c d b a p q e f s r =
     λ i. record { report = report i; mustplay = mustplay_of (size i) (plan i); wincert = wincert_of (plan i) }
 
 -- with one worker the options, the board, the player and the number determine what a good turn plays and reports
-pub same_turn : (options : Knobs) (t u : Decision) → options.workers ≡ 1 → IsGood options false t → IsGood options false u → t.board ≡ u.board → t.player ≡ u.player → t.number ≡ u.number
+pub same_turn : (options : Knobs) (t u : TurnData) → options.workers ≡ 1 → IsGood options false t → IsGood options false u → t.board ≡ u.board → t.player ≡ u.player → t.number ≡ u.number
     → (t.cell ≡ u.cell) × (reported_rows t ≡ reported_rows u) × (texts_of t ≡ texts_of u)
 same_turn options t u one g h b p n =
     let mine = tree_of options t g in

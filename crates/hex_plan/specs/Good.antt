@@ -11,7 +11,7 @@ use Rattle.tree_words.specs.Sequence.{seq_of}
 use Rattle.tree_words.specs.Trees.{IsTreeOf}
 use Rattle.hex_plan.specs.Plans.{IsPlanned}
 use Rattle.hex_plan.specs.Seeds.{turn_knobs}
-use Rattle.hex_plan.specs.Turns.{Decision}
+use Rattle.hex_plan.specs.Turns.{TurnData}
 use Rattle.hex_plan.specs.declared.plans.Planned.{Planned}
 use Rattle.hex_plan.specs.declared.types.Plan.{Plan}
 use Rattle.hex_plan.specs.declared.types.Plan.TheVariants.{Win, Search}
@@ -31,7 +31,7 @@ IsSequential options closed = options.workers ≡ 1
     → IsTreeOf closed.shape closed.words (seq_of closed.shape).0
 
 -- the tree was searched for this turn of a session with these options, among the allowed cells
-pub record IsSearchedFor (options : Knobs) (t : Decision) (allowed : ℕ)
+pub record IsSearchedFor (options : Knobs) (t : TurnData) (allowed : ℕ)
     (tree : ClosedTree) : Type 0 where
   -- its shape is that of the turn, and one that can be searched, and it is closed
   pub shape : IsTurnShape options t.board t.player t.number allowed tree.shape
@@ -44,14 +44,14 @@ pub record IsSearchedFor (options : Knobs) (t : Decision) (allowed : ℕ)
 
 -- the turn is decided as planned: by the cell of a win, without a tree, or by a tree that was
 -- searched for it
-abbrev pub FollowsPlan : Knobs → Decision → Plan → Type 0
+abbrev pub FollowsPlan : Knobs → TurnData → Plan → Type 0
 FollowsPlan options t (Win cert cell) = (t.closed ≡ None) × (t.cell ≡ cell)
 FollowsPlan options t (Search threats allowed lost) =
     (tree : ClosedTree) × (t.closed ≡ Some tree) × IsSearchedFor options t allowed tree
 
 -- Good: what is promised of each turn of a session with these options, which looks for connections
 -- or doesn't
-pub record IsGood (options : Knobs) (hsearch : Bool) (t : Decision) : Type 0 where
+pub record IsGood (options : Knobs) (hsearch : Bool) (t : TurnData) : Type 0 where
   -- the turn's board is one, no player is joined there, and the turn's cell is empty
   pub position : IsPosition t.board.size t.board.black t.board.white
   pub nobody : winner_of t.board ≡ None
@@ -62,14 +62,14 @@ pub record IsGood (options : Knobs) (hsearch : Bool) (t : Decision) : Type 0 whe
 
 -- the turn, which was planned so for the player on the board, is good where no player is joined
 -- there
-abbrev pub IsGoodAsPlanned : Decision → Position → Colour → Planned → Type 0
+abbrev pub IsGoodAsPlanned : TurnData → Position → Colour → Planned → Type 0
 IsGoodAsPlanned t board player planned = (options : Knobs) (hsearch : Bool)
     → winner_of board ≡ None → IsPlanned board player hsearch planned → IsGood options hsearch t
 
 -- the turn with this number, which was planned so and which the tree decides, is good where no
 -- player is joined on the tree's board, the plan is one for this board and player, and the tree's
 -- shape is that of the turn; for one worker the tree has to be that of Seq
-abbrev pub IsGoodAsSearched : Decision → ℕ → Planned → ClosedTree → Type 0
+abbrev pub IsGoodAsSearched : TurnData → ℕ → Planned → ClosedTree → Type 0
 IsGoodAsSearched t number planned tree = (options : Knobs) (hsearch : Bool)
     → winner_of tree.shape.board ≡ None
     → IsPlanned tree.shape.board tree.shape.player hsearch planned

@@ -3,7 +3,7 @@ use Rattle.std.specs.Prelude.{List, [], ◌∷◌, Option, option_map}
 use Rattle.tree_words.specs.Closing.{ClosedTree}
 use Rattle.tree_words.specs.Roots.{rows_of}
 use Rattle.tree_words.specs.Sequence.{seq_of}
-use Rattle.hex_plan.specs.Turns.{Decision}
+use Rattle.hex_plan.specs.Turns.{TurnData}
 use Rattle.tree_words.specs.Walks.{Tree, node, Children, done, more}
 use Rattle.tree_words.specs.declared.roots.Row.{Row}
 
@@ -21,9 +21,9 @@ abbrev pub rows_in : Tree → List Row
 rows_in (node c v e row) = rows_on row
 
 -- the rows of a turn's tree, if it has one
-abbrev pub reported_rows : Decision → Option (List Row)
+abbrev pub reported_rows : TurnData → Option (List Row)
 reported_rows t = option_map (λ (closed : ClosedTree). rows_of closed.shape closed.words) t.closed
 
 -- the rows of the tree that Seq has for the shape of the turn's tree
-abbrev pub sequential_rows : Decision → Option (List Row)
+abbrev pub sequential_rows : TurnData → Option (List Row)
 sequential_rows t = option_map (λ (closed : ClosedTree). rows_in (seq_of closed.shape).0) t.closed

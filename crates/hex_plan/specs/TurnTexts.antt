@@ -11,7 +11,7 @@ use Rattle.hex_board.specs.Joined.{cells_of}
 use Rattle.tree_words.specs.Roots.{rows_of}
 use Rattle.tree_words.specs.declared.roots.Row.{Row}
 use Rattle.win_cert.specs.Texts.{cert_text}
-use Rattle.hex_plan.specs.Turns.{Decision}
+use Rattle.hex_plan.specs.Turns.{TurnData}
 use Rattle.hex_plan.specs.declared.threats.Threat.{Threat}
 use Rattle.hex_plan.specs.declared.types.Plan.{Plan}
 use Rattle.hex_plan.specs.declared.types.Plan.TheVariants.{Win, Search}
@@ -36,7 +36,7 @@ report_on size closed = codes "playouts " ++ decimal closed.shape.knobs.playouts
     ++ report_lines size (rows_of closed.shape closed.words)
 
 -- the report of a turn's tree, if it has one
-unfoldable pub report_of : Decision → Option (List ℕ)
+unfoldable pub report_of : TurnData → Option (List ℕ)
 report_of turn = option_map (report_on turn.board.size) turn.closed
 
 -- a cell's vertex after a space
@@ -78,7 +78,7 @@ pub record TurnTextsData : Type 0 where
   pub mustplay : List ℕ
   pub wincert : Option (List ℕ)
 
-abbrev pub texts_of : Decision → TurnTextsData
+abbrev pub texts_of : TurnData → TurnTextsData
 texts_of t = record {
   report = report_of t;
   mustplay = mustplay_of t.board.size t.planned.plan;

@@ -13,7 +13,7 @@ use Rattle.hex_plan.specs.declared.plans.Planned.{Planned}
 
 -- a turn without where it lies in memory: the board, the player to move there, the turn's number,
 -- what was planned, the tree that was searched for it, if one was, and the cell that was chosen
-pub record Decision : Type 0 where
+pub record TurnData : Type 0 where
   pub board : Position
   pub player : Colour
   pub number : ℕ
@@ -22,7 +22,7 @@ pub record Decision : Type 0 where
   pub cell : ℕ
 
 -- the turn with this number whose plan is a win, with this cell: it has no tree
-abbrev pub turn_of_win : Position → Colour → ℕ → Planned → ℕ → Decision
+abbrev pub turn_of_win : Position → Colour → ℕ → Planned → ℕ → TurnData
 turn_of_win board player number planned cell = record {
   board = board;
   player = player;
@@ -34,7 +34,7 @@ turn_of_win board player number planned cell = record {
 
 -- the turn with this number whose plan is a search, with this cell: its board and player are those
 -- of the tree
-abbrev pub turn_of_search : ClosedTree → ℕ → Planned → ℕ → Decision
+abbrev pub turn_of_search : ClosedTree → ℕ → Planned → ℕ → TurnData
 turn_of_search tree number planned cell = record {
   board = tree.shape.board;
   player = tree.shape.player;
@@ -46,7 +46,7 @@ turn_of_search tree number planned cell = record {
 
 -- the tree is one of the turn's board and player and of these allowed cells, and its best cell is
 -- the turn's
-pub record Decides (t : Decision) (cells : ℕ) (closed : ClosedTree) : Type 0 where
+pub record Decides (t : TurnData) (cells : ℕ) (closed : ClosedTree) : Type 0 where
   pub board : closed.shape.board ≡ t.board
   pub player : closed.shape.player ≡ t.player
   pub allowed : closed.shape.allowed ≡ cells
@@ -54,11 +54,11 @@ pub record Decides (t : Decision) (cells : ℕ) (closed : ClosedTree) : Type 0 w
 
 -- the plan decides the turn: a win by its cell, and its certificate can be written; a search by its
 -- tree
-abbrev pub DecidesBy : Decision → Plan → Type 0
+abbrev pub DecidesBy : TurnData → Plan → Type 0
 DecidesBy t (Win cert cell) = (t.closed ≡ None) × (t.cell ≡ cell) × IsWritable cert
 DecidesBy t (Search threats allowed lost) = ForSome t.closed (Decides t allowed)
 
 -- what holds of each turn: its cell is empty, and its plan decides it
-pub record IsDecided (t : Decision) : Type 0 where
+pub record IsDecided (t : TurnData) : Type 0 where
   pub empty : is_empty_at t.board t.cell ≡ true
   pub decided : DecidesBy t t.planned.plan

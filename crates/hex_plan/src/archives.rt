@@ -4,7 +4,7 @@ ghost use Rattle.std.specs.Prelude.{◌≡◌, ℕ, List, None};
 ghost use Rattle.std.specs.declared.option.Option.{Option};
 ghost use Rattle.hex_io.specs.Causes.{HasCause};
 ghost use Rattle.hex_plan.specs.Archived.{Archives};
-ghost use Rattle.hex_plan.specs.Turns.{Decision};
+ghost use Rattle.hex_plan.specs.Turns.{TurnData};
 
 use super::refusals::ArchiveFault;
 use super::turns::Turn;
@@ -14,7 +14,7 @@ use super::turns::Turn;
 /// An archive may tell the turns that it took (`told`), the first one first. Its count of faults is
 /// known of every archive; it stands still at the greatest value of a `u64`.
 pub trait Archive {
-    ghost told: { Self → Option (List Decision) };
+    ghost told: { Self → Option (List TurnData) };
 
     ghost faults: { Self → ℕ };
 

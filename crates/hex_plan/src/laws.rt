@@ -6,26 +6,26 @@ ghost use Rattle.hex_plan.specs.Good.{IsGood};
 ghost use Rattle.hex_plan.specs.Laws.{AreDetermined, IsCertified, LosesOutsideThreats};
 ghost use Rattle.hex_plan.specs.Laws.{LosesWhereLost};
 ghost use Rattle.hex_plan.specs.Reports.{reported_rows, sequential_rows};
-ghost use Rattle.hex_plan.specs.Turns.{Decision};
+ghost use Rattle.hex_plan.specs.Turns.{TurnData};
 
 /// A law, with nothing to run: where the plan of a good turn is a win, its player wins after its
 /// cell against every reply.
 pub fn certified_moves_win()
-    ensures { (options : Knobs) (hsearch : Bool) (t : Decision) → IsGood options hsearch t
+    ensures { (options : Knobs) (hsearch : Bool) (t : TurnData) → IsGood options hsearch t
         → IsCertified t }
 {}
 
 /// A law, with nothing to run: after a move outside the carrier of a threat of a good turn, the
 /// other player wins with himself to move.
 pub fn moves_outside_a_threat_lose()
-    ensures { (options : Knobs) (hsearch : Bool) (t : Decision) → IsGood options hsearch t
+    ensures { (options : Knobs) (hsearch : Bool) (t : TurnData) → IsGood options hsearch t
         → LosesOutsideThreats t }
 {}
 
 /// A law, with nothing to run: where the plan of a good turn says that the board is lost, the
 /// other player wins after each move.
 pub fn lost_boards_lose()
-    ensures { (options : Knobs) (hsearch : Bool) (t : Decision) → IsGood options hsearch t
+    ensures { (options : Knobs) (hsearch : Bool) (t : TurnData) → IsGood options hsearch t
         → LosesWhereLost t }
 {}
 
@@ -33,7 +33,7 @@ pub fn lost_boards_lose()
 /// a good turn is that of the sequential search, and the options, the board, the player and the
 /// number determine the turn's cell, its report and its texts.
 pub fn one_worker_decides()
-    ensures report { (options : Knobs) (t : Decision) → options.workers ≡ 1 →
+    ensures report { (options : Knobs) (t : TurnData) → options.workers ≡ 1 →
         IsGood options false t → reported_rows t ≡ sequential_rows t }
     ensures same { (options : Knobs) → options.workers ≡ 1 → AreDetermined options }
 {}

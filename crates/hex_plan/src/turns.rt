@@ -32,9 +32,9 @@ pub struct Turn {
 }
 
 impl Model for Turn {
-    ghost use Rattle.hex_plan.specs.Turns.{Decision, IsDecided};
+    ghost use Rattle.hex_plan.specs.Turns.{TurnData, IsDecided};
 
-    ghost Value = { Decision };
+    ghost Value = { TurnData };
 
     ghost view = { λ t. record {
       board = t.board;

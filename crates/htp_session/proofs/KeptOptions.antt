@@ -4,7 +4,7 @@ use Rattle.std.specs.Str.{bytes_eq}
 use Rattle.htp_line.specs.declared.request.Request.{Request}
 use Rattle.hex_cells.specs.declared.colours.Colour.{Colour}
 use Rattle.hex_game.specs.Games.{board_of}
-use Rattle.hex_plan.specs.Turns.{Decision}
+use Rattle.hex_plan.specs.Turns.{TurnData}
 use Rattle.hex_plan.specs.Openings.{may_move}
 use Rattle.hex_engine.specs.Commands.{command_named}
 use Rattle.hex_engine.specs.EngineState.{EngineState}
@@ -41,7 +41,7 @@ loading_keeps : (at : EngineState) (left : Supply) (name : Option (List ℕ)) �
 loading_keeps at left None = refl
 loading_keeps at left (Some name) = loading_next_keeps at left left.loads name
 
-moving_next_keeps : (at : EngineState) (left : Supply) (turns : List Decision) (colour : Colour) → KeepsOptions at (moving_next at left turns colour)
+moving_next_keeps : (at : EngineState) (left : Supply) (turns : List TurnData) (colour : Colour) → KeepsOptions at (moving_next at left turns colour)
 moving_next_keeps at left [] colour = tt
 moving_next_keeps at left (turn ∷ turns) colour = either_keeps (is_next at colour turn) at _ _ refl tt
 

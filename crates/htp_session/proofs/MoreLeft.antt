@@ -4,7 +4,7 @@ use Rattle.std.specs.Str.{bytes_eq}
 use Rattle.htp_line.specs.declared.request.Request.{Request}
 use Rattle.hex_cells.specs.declared.colours.Colour.{Colour}
 use Rattle.hex_game.specs.Games.{board_of}
-use Rattle.hex_plan.specs.Turns.{Decision}
+use Rattle.hex_plan.specs.Turns.{TurnData}
 use Rattle.hex_plan.specs.Openings.{may_move}
 use Rattle.hex_engine.specs.Commands.{command_named}
 use Rattle.hex_engine.specs.EngineState.{EngineState}
@@ -40,7 +40,7 @@ loading_more : (at : EngineState) (left more : Supply) (name : Option (List ℕ)
 loading_more at left more None all = refl
 loading_more at left more (Some name) all = loading_next_more at left more left.loads name all
 
-moving_next_more : (at : EngineState) (left more : Supply) (turns : List Decision) (colour : Colour) → HasAll (moving_next at left turns colour)
+moving_next_more : (at : EngineState) (left more : Supply) (turns : List TurnData) (colour : Colour) → HasAll (moving_next at left turns colour)
     → moving_next at (and_then left more) (turns ++ more.turns) colour ≡ leaving_more more (moving_next at left turns colour)
 moving_next_more at left more [] colour all = absurd all
 moving_next_more at left more (turn ∷ turns) colour all = either_more (is_next at colour turn) more _ _ _ _ (λ _. refl) (λ none. absurd none) all

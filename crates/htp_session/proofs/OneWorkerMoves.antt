@@ -13,7 +13,7 @@ use Rattle.hex_game.specs.declared.moves.Move.TheVariants.{Stone}
 use Rattle.hex_engine.specs.declared.options.Options.{Options}
 use Rattle.hex_plan.specs.Good.{IsGood}
 use Rattle.hex_plan.specs.Openings.{may_move}
-use Rattle.hex_plan.specs.Turns.{Decision}
+use Rattle.hex_plan.specs.Turns.{TurnData}
 use Rattle.hex_plan.proofs.Same.{same_turn}
 use Rattle.hex_engine.specs.Commands.{command_named}
 use Rattle.hex_engine.specs.Supply.{Supply, Load}
@@ -33,11 +33,11 @@ use Rattle.htp_session.proofs.OneWorkerLoads.{SameLoads}
 -- ---- one turn
 
 -- the option of connections is off
-without : (options : Options) (t : Decision) → HasOneWorker options → IsGoodFor options t → IsGood options.knobs false t
+without : (options : Options) (t : TurnData) → HasOneWorker options → IsGoodFor options t → IsGood options.knobs false t
 without options t one g = subst (λ h. IsGood options.knobs h t) one.no_connections g
 
 -- two good turns that are a conversation's next are played and reported alike
-same_move : (options : Options) (at : EngineState) (colour : Colour) (t u : Decision) → HasOneWorker options → IsGoodFor options t → IsGoodFor options u → is_next at colour t ≡ true → is_next at colour u ≡ true
+same_move : (options : Options) (at : EngineState) (colour : Colour) (t u : TurnData) → HasOneWorker options → IsGoodFor options t → IsGoodFor options u → is_next at colour t ≡ true → is_next at colour u ≡ true
     → turned at colour u ≡ turned at colour t
 same_move options at colour t u one g h e f =
     let p = and_parts _ _ e in
@@ -97,7 +97,7 @@ loading_agree : (options : Options) (at : EngineState) (a b : Supply) (name : Op
 loading_agree options at a b None h = (refl, h)
 loading_agree options at a b (Some name) h = loads_agree options at a b a.loads b.loads name h.loads h.good h.other
 
-moves_agree : (options : Options) (at : EngineState) (a b : Supply) (turns others : List Decision) (colour : Colour) → HasOneWorker options → SameLoads a.loads b.loads → AreGood options turns → AreGood options others
+moves_agree : (options : Options) (at : EngineState) (a b : Supply) (turns others : List TurnData) (colour : Colour) → HasOneWorker options → SameLoads a.loads b.loads → AreGood options turns → AreGood options others
     → Agree options (moving_next at a turns colour) (moving_next at b others colour)
 moves_agree options at a b [] others colour one e g h = tt
 moves_agree options at a b (t ∷ turns) [] colour one e g h = missing_agree options (moving_next at a (t ∷ turns) colour) NoTurn

@@ -4,7 +4,7 @@ use Rattle.hex_io.specs.declared.files.File.{File}
 use Rattle.hex_io.specs.Shelves.{Shelved}
 use Rattle.hex_io.proofs.BothLaws.{Both-then, Both-refl}
 use Rattle.hex_engine.specs.declared.options.Options.{Options}
-use Rattle.hex_plan.specs.Turns.{Decision}
+use Rattle.hex_plan.specs.Turns.{TurnData}
 use Rattle.htp_line.specs.Splitting.{SplitterData}
 use Rattle.hex_engine.specs.EngineState.{EngineState}
 use Rattle.hex_engine.specs.Supply.{Supply, Load, nothing_left, and_then}
@@ -41,7 +41,7 @@ fetches_then x y z k l in_vain p q =
       came = came_then x.files p.tries q.tries k l p.came came;
     }
 
-good_then : (options : Options) (s t : List Decision) → AreGood options s → AreGood options t → AreGood options (s ++ t)
+good_then : (options : Options) (s t : List TurnData) → AreGood options s → AreGood options t → AreGood options (s ++ t)
 good_then options [] t p q = q
 good_then options (turn ∷ turns) t p q = (p.0, good_then options turns t p.1 q)
 

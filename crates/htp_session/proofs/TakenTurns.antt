@@ -4,7 +4,7 @@ use Rattle.std.specs.Str.{bytes_eq}
 use Rattle.htp_line.specs.declared.request.Request.{Request}
 use Rattle.hex_cells.specs.declared.colours.Colour.{Colour}
 use Rattle.hex_game.specs.Games.{board_of}
-use Rattle.hex_plan.specs.Turns.{Decision}
+use Rattle.hex_plan.specs.Turns.{TurnData}
 use Rattle.hex_plan.specs.Openings.{may_move}
 use Rattle.hex_engine.specs.Commands.{command_named}
 use Rattle.hex_engine.specs.EngineState.{EngineState}
@@ -20,7 +20,7 @@ use Rattle.hex_engine.specs.declared.commands.Command.TheVariants as command
 
 -- the next turn was taken: it is the conversation's next of this colour, and its cell was played and answered
 pub record TakesTurn (at : EngineState) (left : Supply) (t : Turned) : Type 0 where
-  pub turn : Decision
+  pub turn : TurnData
   pub colour : Colour
   pub was : left.turns ≡ turn ∷ t.left.turns
   pub next : is_next at colour turn ≡ true
@@ -49,7 +49,7 @@ loading_takes : (at : EngineState) (left : Supply) (name : Option (List ℕ)) �
 loading_takes at left None = inl (refl, refl)
 loading_takes at left (Some name) = loading_next_takes at left left.loads name
 
-moving_next_takes : (at : EngineState) (left : Supply) (turns : List Decision) (colour : Colour) → left.turns ≡ turns → MayTakeTurn at left (moving_next at left turns colour)
+moving_next_takes : (at : EngineState) (left : Supply) (turns : List TurnData) (colour : Colour) → left.turns ≡ turns → MayTakeTurn at left (moving_next at left turns colour)
 moving_next_takes at left [] colour was = tt
 moving_next_takes at left (turn ∷ turns) colour was =
     either_takes (is_next at colour turn) at left _ _ (λ e. inr (record { turn = turn; colour = colour; was = was; next = e; after = refl; reply = refl })) tt

@@ -3,7 +3,7 @@ use Rattle.std.specs.Prelude.{◌≡◌, ℕ, List, Option, Some, None, Result, 
 use Rattle.hex_io.specs.Told.{Told}
 use Rattle.hex_io.specs.Shelves.{Shelved}
 use Rattle.hex_io.specs.Causes.{CountsFault}
-use Rattle.hex_plan.specs.Turns.{Decision}
+use Rattle.hex_plan.specs.Turns.{TurnData}
 use Rattle.htp_session.specs.Handing.{LinkAndArchive}
 use Rattle.htp_session.specs.Stocks.{ShelfAndArchive}
 use Rattle.htp_session.specs.declared.stops.Stop.{Stop}
@@ -17,7 +17,7 @@ pub record DevicesState : Type 0 where
   pub write_faults : ℕ
   pub shelf : Option Shelved
   pub fetch_faults : ℕ
-  pub turns : Option (List Decision)
+  pub turns : Option (List TurnData)
   pub archive_faults : ℕ
   pub names : ℕ × ℕ × ℕ
 

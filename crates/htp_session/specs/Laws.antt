@@ -5,7 +5,7 @@ use Rattle.hex_cells.specs.declared.colours.Colour.{Colour}
 use Rattle.hex_game.specs.Games.{is_legal}
 use Rattle.hex_game.specs.Moves.{step_of}
 use Rattle.hex_game.specs.declared.moves.Move.TheVariants.{Stone}
-use Rattle.hex_plan.specs.Turns.{Decision}
+use Rattle.hex_plan.specs.Turns.{TurnData}
 use Rattle.hex_engine.specs.EngineState.{EngineState}
 use Rattle.hex_engine.specs.Supply.{Supply, and_then}
 use Rattle.hex_engine.specs.Uses.{AreGood, CameOf, HasOneWorker, IsGoodFor}
@@ -53,6 +53,6 @@ ThroughAlike Alike = (start : EngineState) → (one other : Supply) → Alike st
 
 -- a good turn that is a conversation's next has a legal stone on its cell
 abbrev pub SearchedMovesAreLegal : Type 0
-SearchedMovesAreLegal = (at : EngineState) → (colour : Colour) → (turn : Decision)
+SearchedMovesAreLegal = (at : EngineState) → (colour : Colour) → (turn : TurnData)
     → IsGoodFor at.options turn → is_next at colour turn ≡ true
     → is_legal at.game (step_of colour (Stone turn.cell)) ≡ true

@@ -6,7 +6,7 @@ use Rattle.std.specs.declared.option.Option.{Option}
 use Rattle.std.specs.declared.option.Option.TheVariants.{None, Some}
 use Rattle.hex_cells.specs.declared.colours.Colour.{Colour}
 use Rattle.hex_cells.specs.declared.colours.Colour.TheVariants.{Black, White}
-use Rattle.hex_plan.specs.Turns.{Decision}
+use Rattle.hex_plan.specs.Turns.{TurnData}
 use Rattle.tree_words.specs.Closing.{ClosedTree}
 use Rattle.tree_words.specs.Settings.{Setting}
 use Rattle.tree_words.specs.Words.{next_in}
@@ -57,5 +57,5 @@ text_if None = []
 text_if (Some tree) = trace_text tree
 
 -- Trace: of a turn without a closed tree it is empty, else it is the tree's text
-abbrev pub trace_of : Decision → List ℕ
+abbrev pub trace_of : TurnData → List ℕ
 trace_of turn = text_if turn.closed

@@ -16,7 +16,7 @@ use Rattle.tree_words.proofs.Boards.SetNumbers.{set_empties}
 use Rattle.hex_plan.specs.Good.{FollowsPlan, IsSearchedFor, IsSequential, IsTurnShape}
 use Rattle.hex_plan.specs.Reports.{rows_in}
 use Rattle.hex_plan.specs.Seeds.{turn_knobs}
-use Rattle.hex_plan.specs.Turns.{Decision}
+use Rattle.hex_plan.specs.Turns.{TurnData}
 use Rattle.hex_plan.specs.declared.types.Plan.{Plan}
 use Rattle.hex_plan.proofs.Reports.{rows_of_tree}
 use Rattle.turn_modes.specs.OneTurn.{IsFirstTurn, first_rows, first_setting}
@@ -33,15 +33,15 @@ sequential_tree knobs now mover s c e h one w = subst (λ (z : Setting). IsTreeO
 -- ---- the tree of a first turn
 
 -- it was searched for the turn
-pub searched_tree : (knobs : Knobs) (now : Position) (mover : Colour) (t : Decision) (f : IsFirstTurn knobs now mover t)
+pub searched_tree : (knobs : Knobs) (now : Position) (mover : Colour) (t : TurnData) (f : IsFirstTurn knobs now mover t)
     → (c : ClosedTree) × (t.closed ≡ Some c) × IsSearchedFor knobs t f.good.planned.allowed c
 searched_tree knobs now mover t f = subst (λ (v : Plan). FollowsPlan knobs t v) f.good.planned.plan f.good.follows
 
-pub has_tree : (knobs : Knobs) (now : Position) (mover : Colour) (t : Decision) → IsFirstTurn knobs now mover t → IsSome t.closed
+pub has_tree : (knobs : Knobs) (now : Position) (mover : Colour) (t : TurnData) → IsFirstTurn knobs now mover t → IsSome t.closed
 has_tree knobs now mover t f = subst IsSome (sym (searched_tree knobs now mover t f).1) refl
 
 -- what it was searched for
-pub tree_setting : (knobs : Knobs) (now : Position) (mover : Colour) (t : Decision) (f : IsFirstTurn knobs now mover t) (c : ClosedTree) → IsSearchedFor knobs t f.good.planned.allowed c → c.shape ≡ first_setting knobs now mover
+pub tree_setting : (knobs : Knobs) (now : Position) (mover : Colour) (t : TurnData) (f : IsFirstTurn knobs now mover t) (c : ClosedTree) → IsSearchedFor knobs t f.good.planned.allowed c → c.shape ≡ first_setting knobs now mover
 tree_setting knobs now mover t f c s =
     let cells : f.good.planned.allowed ≡ set_of (empties_of now) = same_set f.good.planned.allowed (set_of (empties_of now))
     (λ k. f.good.planned.empties.items k ∙ ap (λ (p : Position). is_empty_at p k) f.board ∙ sym (set_empties now k)) in
@@ -53,7 +53,7 @@ tree_setting knobs now mover t f c s =
     }
 
 -- with one worker its rows are those of the sequential search
-pub sequential_rows_of : (knobs : Knobs) (now : Position) (mover : Colour) (t : Decision) (f : IsFirstTurn knobs now mover t) (c : ClosedTree) → IsSearchedFor knobs t f.good.planned.allowed c → knobs.workers ≡ 1
+pub sequential_rows_of : (knobs : Knobs) (now : Position) (mover : Colour) (t : TurnData) (f : IsFirstTurn knobs now mover t) (c : ClosedTree) → IsSearchedFor knobs t f.good.planned.allowed c → knobs.workers ≡ 1
     → rows_of c.shape c.words ≡ first_rows knobs now mover
 sequential_rows_of knobs now mover t f c s one =
     rows_of_tree c.shape c.words (seq_of c.shape).0 s.setting s.closed (s.sequential one)

@@ -1,13 +1,13 @@
 -- A turn that was handed over with its text.
 use Rattle.std.proofs.Common.{◌≡◌, ℕ, List, Option, Ok, Err, Result}
 use Rattle.hex_io.specs.Told.{Told}
-use Rattle.hex_plan.specs.Turns.{Decision}
+use Rattle.hex_plan.specs.Turns.{TurnData}
 use Rattle.htp_session.specs.Handing.{LinkAndArchive, HandsOver}
 use Rattle.htp_session.specs.declared.stops.Stop.{Stop}
 use Rattle.htp_session.specs.declared.stops.Stop.TheVariants.{ReadFault, WriteFault, Memory, TooLong, ArchiveFault}
 use Rattle.turn_modes.specs.HandingIn.{HandsIn}
 
-pub handed : (Says : Decision → List ℕ → Type 0) (old new : LinkAndArchive) (turn : Decision) (text : List ℕ) (result : Result (Unit {0}) Stop) → Says turn text → HandsOver old new turn text result → HandsIn Says old new result
+pub handed : (Says : TurnData → List ℕ → Type 0) (old new : LinkAndArchive) (turn : TurnData) (text : List ℕ) (result : Result (Unit {0}) Stop) → Says turn text → HandsOver old new turn text result → HandsIn Says old new result
 handed Says old new turn text (Ok done) a h = (turn, text, a, h)
 handed Says old new turn text (Err ReadFault) a h = h
 handed Says old new turn text (Err WriteFault) a h = (turn, text, a, h)
@@ -16,6 +16,6 @@ handed Says old new turn text (Err TooLong) a h = h
 handed Says old new turn text (Err ArchiveFault) a h = h
 
 -- the same, where the link and the archive tell what devices tell
-pub handed_as : (Says : Decision → List ℕ → Type 0) (x y link link_now : Option Told) (a b turns turns_now : Option (List Decision)) (turn : Decision) (text : List ℕ) (result : Result (Unit {0}) Stop)
+pub handed_as : (Says : TurnData → List ℕ → Type 0) (x y link link_now : Option Told) (a b turns turns_now : Option (List TurnData)) (turn : TurnData) (text : List ℕ) (result : Result (Unit {0}) Stop)
     → x ≡ link → a ≡ turns → y ≡ link_now → b ≡ turns_now → Says turn text → HandsOver (x, a) (y, b) turn text result → HandsIn Says (link, turns) (link_now, turns_now) result
 handed_as Says x y link link_now a b turns turns_now turn text result p q r s says h = rw (← p, ← q, ← r, ← s) (handed Says (x, a) (y, b) turn text result says h)

@@ -1,7 +1,7 @@
 -- What modes sim and bench do with the turn and its text.
 use Rattle.std.specs.Prelude.{List, ℕ, Result, Ok, Err}
 use Rattle.hex_io.specs.Told.{Same}
-use Rattle.hex_plan.specs.Turns.{Decision}
+use Rattle.hex_plan.specs.Turns.{TurnData}
 use Rattle.htp_session.specs.Handing.{LinkAndArchive, HandsOver}
 use Rattle.htp_session.specs.declared.stops.Stop.{Stop}
 use Rattle.htp_session.specs.declared.stops.Stop.TheVariants.{ReadFault, WriteFault, Memory}
@@ -12,13 +12,13 @@ use Rattle.turn_modes.specs.declared.options.ModeOptions.{ModeOptions}
 -- A turn with its text was handed over: the archive took the turn, and then the text was given, or
 -- at a write fault a front of it. At an archive fault or for want of memory the archive has the
 -- same turns and nothing was given. Nothing was read.
-abbrev pub HandsIn : (Decision → List ℕ → Type 0) → LinkAndArchive → LinkAndArchive
+abbrev pub HandsIn : (TurnData → List ℕ → Type 0) → LinkAndArchive → LinkAndArchive
     → Result (Unit {0}) Stop → Type 0
 HandsIn Says old new (Ok done) =
-    (turn : Decision) × (text : List ℕ) × Says turn text × HandsOver old new turn text (Ok done)
+    (turn : TurnData) × (text : List ℕ) × Says turn text × HandsOver old new turn text (Ok done)
 HandsIn Says old new (Err ReadFault) = ⊥
 HandsIn Says old new (Err WriteFault) =
-    (turn : Decision) × (text : List ℕ) × Says turn text
+    (turn : TurnData) × (text : List ℕ) × Says turn text
     × HandsOver old new turn text (Err WriteFault)
 HandsIn Says old new (Err Memory) = Same old.0 new.0 × Same old.1 new.1
 HandsIn Says old new (Err TooLong) = ⊥

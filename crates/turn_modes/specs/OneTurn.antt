@@ -17,7 +17,7 @@ use Rattle.hex_plan.specs.Plans.{IsPlanned}
 use Rattle.hex_plan.specs.Reports.{rows_in}
 use Rattle.hex_plan.specs.Seeds.{turn_knobs}
 use Rattle.hex_plan.specs.TurnTexts.{report_of}
-use Rattle.hex_plan.specs.Turns.{Decision}
+use Rattle.hex_plan.specs.Turns.{TurnData}
 use Rattle.hex_plan.specs.declared.plans.Planned.{Planned}
 use Rattle.sim_run.specs.Standing.{EndsSchedule}
 use Rattle.turn_modes.specs.ModeTexts.{sim_text, report_by, bench_text}
@@ -32,14 +32,14 @@ use Rattle.turn_modes.specs.declared.options.ModeOptions.{ModeOptions}
 -- a good turn of a session that looks for no connections, with number 0, on this board with this
 -- player to move
 pub record IsFirstTurn (knobs : Knobs) (now : Position) (mover : Colour)
-    (t : Decision) : Type 0 where
+    (t : TurnData) : Type 0 where
   pub good : IsGood knobs false t
   pub number : t.number ≡ 0
   pub board : t.board ≡ now
   pub player : t.player ≡ mover
 
 -- the turn is a first turn wherever its plan and tree are those of one
-abbrev pub MakesFirstTurn : Planned → ClosedTree → Decision → Type 0
+abbrev pub MakesFirstTurn : Planned → ClosedTree → TurnData → Type 0
 MakesFirstTurn planned tree t = (knobs : Knobs) (now : Position) (mover : Colour)
     → winner_of now ≡ None → IsPlanned now mover false planned
     → IsTurnShape knobs now mover 0 tree.shape.allowed tree.shape → IsSequential knobs tree
@@ -61,11 +61,11 @@ first_rows knobs now mover = rows_in (seq_of (first_setting knobs now mover)).0
 -- ---- mode sim
 
 -- the turn of mode sim: that of the board without stones, with Black to move
-abbrev pub IsSimTurn : ModeOptions → Decision → Type 0
+abbrev pub IsSimTurn : ModeOptions → TurnData → Type 0
 IsSimTurn o = IsFirstTurn o.knobs (empty_board o.size) Black
 
 -- its tree is that of the schedule
-abbrev pub FollowsSchedule : ModeOptions → Decision → Type 0
+abbrev pub FollowsSchedule : ModeOptions → TurnData → Type 0
 FollowsSchedule o t = (tree : ClosedTree) × (t.closed ≡ Some tree) × EndsSchedule tree.shape
     (schedule_of o.knobs.workers o.knobs.seed o.steps) tree.words
 
@@ -76,7 +76,7 @@ sequential_sim_text o = let rows = first_rows o.knobs (empty_board o.size) Black
 
 -- the turn is that of mode sim and its schedule, and the text is that of the turn; with one worker
 -- the options determine it
-pub record IsSimulation (o : ModeOptions) (t : Decision) (text : List ℕ) : Type 0 where
+pub record IsSimulation (o : ModeOptions) (t : TurnData) (text : List ℕ) : Type 0 where
   pub turn : IsSimTurn o t
   pub scheduled : FollowsSchedule o t
   pub says : (report : List ℕ) × (report_of t ≡ Some report)
@@ -96,7 +96,7 @@ abbrev pub bench_player : ModeOptions → Colour
 bench_player o = mover_after (bench_stones o)
 
 -- the turn of mode bench: that of its position
-abbrev pub IsBenchTurn : ModeOptions → Decision → Type 0
+abbrev pub IsBenchTurn : ModeOptions → TurnData → Type 0
 IsBenchTurn o = IsFirstTurn o.knobs (bench_board o) (bench_player o)
 
 -- the text that mode bench gives
@@ -105,7 +105,7 @@ determined_bench_text o = let rows = first_rows o.knobs (bench_board o) (bench_p
     bench_text o.size (bench_stones o) o.knobs o.knobs.playouts rows (best_cell rows)
 
 -- the text is that of the turn of mode bench, and the options determine it
-pub record IsBenchmark (o : ModeOptions) (t : Decision) (text : List ℕ) : Type 0 where
+pub record IsBenchmark (o : ModeOptions) (t : TurnData) (text : List ℕ) : Type 0 where
   pub turn : IsBenchTurn o t
   pub says : (tree : ClosedTree) × (t.closed ≡ Some tree)
       × (text ≡ bench_text o.size (bench_stones o) o.knobs (records_in tree)

@@ -2,11 +2,11 @@ use Rattle.std.proofs.Common.{◌≡◌, Option, Some, None, sym, ap, ◌∙◌,
 use Rattle.std.specs.Prelude.{IsSome, option_map}
 use Rattle.tree_words.specs.Closing.{ClosedTree}
 use Rattle.hex_plan.specs.TurnTexts.{report_of, report_on}
-use Rattle.hex_plan.specs.Turns.{Decision}
+use Rattle.hex_plan.specs.Turns.{TurnData}
 use Rattle.turn_modes.proofs.texts.sim_text.Goals as goal
 
 -- a turn with a tree has a report
-has_report : (t : Decision) → IsSome t.closed → None ≡ report_of t → ⊥
+has_report : (t : TurnData) → IsSome t.closed → None ≡ report_of t → ⊥
 unfolding report_of
 has_report t h e = none t.closed h e
   where
