@@ -12,7 +12,7 @@ use Rattle.win_cert.specs.Entries.{Context, ScopedEntry, and_entry, carriers_of,
 use Rattle.win_cert.specs.Reasons.{Reason, holds_of_chain, reason_against, is_bad_reference, is_wrong_scope, no_common_middle, carriers_meet, end_in_carrier, middle_kind}
 use Rattle.win_cert.specs.Scopes.{elements_in}
 use Rattle.win_cert.specs.Statements.{derivation, is_cell_in, may_take, share_cell}
-use Rattle.cert_check.specs.Keeping.{AreNamed, IsGivenOn, Takes, chain_line, entry_of}
+use Rattle.cert_check.specs.Keeping.{AreNamed, IsGivenOn, TakesKind, chain_line, entry_of}
 use Rattle.cert_check.specs.declared.given.Given.{Given}
 use Rattle.cert_check.proofs.ReasonLaws.{chain_reasons, told, told_next}
 use Rattle.win_cert.proofs.CutChains.{two_at}
@@ -156,7 +156,7 @@ second_below {c = c} {b = b} u n e = subst (λ v. v < element_count (elements_at
 
 -- ---- what is asked of the entries that are named
 
-pub chain_takes : (over_cell : Bool) (i j : ℕ) → Takes (derivation (chain_line over_cell i j)) Full true
+pub chain_takes : (over_cell : Bool) (i j : ℕ) → TakesKind (derivation (chain_line over_cell i j)) Full true
 chain_takes true i j = (refl, refl)
 chain_takes false i j = (refl, refl)
 

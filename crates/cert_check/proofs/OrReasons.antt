@@ -12,7 +12,7 @@ use Rattle.win_cert.specs.Statements.{Statement, derivation, have_same_ends, may
 use Rattle.win_cert.specs.declared.lines.Line.{Line}
 use Rattle.win_cert.specs.declared.lines.Line.TheVariants.{Adj, And, Key, Or2, Or3, Put, Done, Move, Cases}
 use Rattle.win_cert.proofs.CutSteps.{two_reasons, three_reasons}
-use Rattle.cert_check.specs.Keeping.{IsGivenOn, IsOrOf, Takes, entry_of}
+use Rattle.cert_check.specs.Keeping.{IsGivenOn, IsOrOf, TakesKind, entry_of}
 use Rattle.cert_check.specs.declared.given.Given.{Given}
 use Rattle.cert_check.proofs.ReasonLaws.{told}
 
@@ -35,7 +35,7 @@ or_reasons c Done numbers h = absurd (false≢true h.0)
 or_reasons c (Move k i) numbers h = absurd (false≢true h.0)
 or_reasons c (Cases ns) numbers h = absurd (false≢true h.0)
 
-pub or_takes : (line : Line) (numbers : List ℕ) → IsOrOf line numbers → Takes (derivation line) Semi true
+pub or_takes : (line : Line) (numbers : List ℕ) → IsOrOf line numbers → TakesKind (derivation line) Semi true
 or_takes (Or2 i j) numbers h = (refl, refl)
 or_takes (Or3 i j k) numbers h = (refl, refl)
 or_takes (Adj x y) numbers h = absurd (false≢true h.0)

@@ -60,8 +60,8 @@ DerivesLine c line (Ok g) =
 DerivesLine c line (Err why) = reason_against c (derivation line) ≡ Some (reason_of why)
 
 -- the statement takes entries of this kind, and of two elements where `apart` holds
-abbrev pub Takes : Statement → Kind → Bool → Type 0
-Takes s kind apart = (kind_taken s ≡ kind) × ((is_chain s || is_or s) ≡ apart)
+abbrev pub TakesKind : Statement → Kind → Bool → Type 0
+TakesKind s kind apart = (kind_taken s ≡ kind) × ((is_chain s || is_or s) ≡ apart)
 
 -- `key` where the middle is to be a cell, else `and`
 abbrev pub chain_line : Bool → ℕ → ℕ → Line

@@ -7,7 +7,7 @@ ghost use Rattle.hex_cells.specs.declared.board_size.TheConstants.{MOST_CELLS};
 ghost use Rattle.win_cert.specs.Entries.{carriers_of, entries_at, entry_at};
 ghost use Rattle.win_cert.specs.Statements.{Statement, is_edge_entry, may_take};
 ghost use Rattle.win_cert.specs.Statements.{same_ends, share_cell};
-ghost use Rattle.cert_check.specs.Keeping.{Takes, entry_of};
+ghost use Rattle.cert_check.specs.Keeping.{TakesKind, entry_of};
 
 use super::checkers::Checker;
 use super::given::Given;
@@ -18,7 +18,7 @@ impl Checker {
     /// Whether each number is that of an entry of this kind, and of two elements where they must
     /// differ.
     pub fn takes_all(&self, numbers: &[u32], kind: Kind, apart: bool) -> bool
-        ensures { (s : Statement) → Takes s kind apart
+        ensures { (s : Statement) → TakesKind s kind apart
             → result ≡ list_all (λ i. may_take s (entry_at self.now i)) numbers.now }
     {
         'numbers: for &number in numbers {
@@ -31,7 +31,7 @@ impl Checker {
 
     // Whether the number is that of such an entry.
     fn takes(&self, number: u32, kind: Kind, apart: bool) -> bool
-        ensures { (s : Statement) → Takes s kind apart
+        ensures { (s : Statement) → TakesKind s kind apart
             → result ≡ may_take s (entry_at self.now number) }
     {
         match self.entry(number) {

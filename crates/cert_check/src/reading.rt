@@ -1,4 +1,5 @@
-//! What each line gives, and the first reason against it: its form, `adj`, and the claim.
+//! What each line gives, or the first reason against it: `adj` and the claim here, the other forms in
+//! files of their own.
 
 ghost use Rattle.std.specs.Prelude.{◌≡◌, ℕ, ◌<◌, ◌↔◌, true, None, IfSome};
 ghost use Rattle.hex_board.specs.Elements.{element_count};

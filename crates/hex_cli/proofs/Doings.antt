@@ -5,7 +5,7 @@ use Rattle.hex_io.specs.Told.{Told, Both, Same}
 use Rattle.hex_plan.specs.Turns.{TurnData}
 use Rattle.turn_modes.specs.OneTurn.{IsBenchmark, IsSimulation}
 use Rattle.htp_session.specs.Devices.{DevicesState}
-use Rattle.htp_session.specs.Stocks.{ShelfAndArchive}
+use Rattle.htp_session.specs.Usage.{ShelfAndArchive}
 use Rattle.htp_session.specs.Endings.{since}
 use Rattle.htp_session.proofs.Conversations.{conversed_nothing}
 use Rattle.htp_session.specs.Inputs.{TextOf}

@@ -107,6 +107,7 @@ takes_turn options turns before s h o took =
         turn = took.turn;
         colour = took.colour;
         good = good.0;
+        next = took.next;
         certified = is_certified options.knobs options.hsearch took.turn good.0;
         outside_threats = outside_loses options.knobs options.hsearch took.turn good.0;
         where_lost = lost_loses options.knobs options.hsearch took.turn good.0;

@@ -12,21 +12,24 @@ use Rattle.hex_plan.specs.Laws.{IsCertified, LosesOutsideThreats, LosesWhereLost
 use Rattle.hex_plan.specs.Turns.{TurnData}
 use Rattle.hex_engine.specs.declared.options.Options.{Options}
 use Rattle.hex_engine.specs.EngineState.{EngineState, opening}
+use Rattle.hex_engine.specs.MoveReplies.{is_next}
 use Rattle.hex_engine.specs.Supply.{Supply}
 use Rattle.hex_engine.specs.Uses.{IsGoodFor}
 use Rattle.htp_session.specs.Talk.{TalkState, talk}
 use Rattle.htp_session.specs.Endings.{since}
 
--- A line was answered by a generated move: its turn is good and stands, among these turns, at the
--- place that the number of turns before says; where the turn's plan is a win, the move wins against
--- every reply; a move outside the carrier of one of the turn's threats loses, and where the plan
--- says that the board is lost each move does; a stone of this colour on the turn's cell is legal in
--- the game before; and it was played and written.
+-- A line was answered by a generated move. Its turn is good, and is the next one: it has the board
+-- of the game before, this colour to move and the number of turns before, and stands at that place
+-- among these turns. Where the turn's plan is a win, the move wins against every reply; a move
+-- outside the carrier of one of the turn's threats loses, and where the plan says that the board
+-- is lost each move does. A stone of this colour on the turn's cell is legal in the game before;
+-- and it was played and written.
 pub record IsGeneratedMove (options : Options) (turns : List TurnData)
     (before after : TalkState) : Type 0 where
   pub turn : TurnData
   pub colour : Colour
   pub good : IsGoodFor options turn
+  pub next : is_next before.at colour turn ≡ true
   pub certified : IsCertified turn
   pub outside_threats : LosesOutsideThreats turn
   pub where_lost : LosesWhereLost turn

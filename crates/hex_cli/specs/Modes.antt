@@ -5,7 +5,7 @@ use Rattle.hex_io.specs.Told.{Told}
 use Rattle.tree_words.specs.declared.settings.Knobs.{Knobs}
 use Rattle.hexd_words.specs.declared.settings.Options.{Options}
 use Rattle.hex_engine.specs.declared.options.Options as engine
-use Rattle.htp_session.specs.Stocks.{ShelfAndArchive}
+use Rattle.htp_session.specs.Usage.{ShelfAndArchive}
 use Rattle.hex_plan.specs.Turns.{TurnData}
 use Rattle.htp_session.specs.Endings.{Conversed, Outcome}
 use Rattle.htp_session.specs.Handing.{LinkAndArchive}

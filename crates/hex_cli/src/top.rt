@@ -58,9 +58,10 @@ use std::thread::Threads;
 ///
 /// Each other mode had then given a front of its text with 4, and nothing with 3, 5, 6 and 7.
 ///
-/// What fails first ends the run: the link's count of read faults rose exactly with 3, its count of
-/// write faults exactly with 4, and the archive's count of faults exactly with 7. A fault of the
-/// errors changes nothing of the status. Status 5 may come in place of any other.
+/// What fails first ends the run: the link's count of read faults rose with 3, its count of write
+/// faults with 4 and the archive's count of faults with 7, and each is as before with every other
+/// status. A fault of the errors changes nothing of the status. Status 5 may come in place of any
+/// other.
 pub fn run<R: Threads + Sync, L: Link, E: Link, F: Shelf, A: Archive, G: Gate + Sync>(
     rt: &R,
     alloc: Global,

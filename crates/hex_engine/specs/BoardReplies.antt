@@ -20,8 +20,8 @@ pub record QuietReaction : Type 0 where
 
 -- the same, in a conversation that stands so
 abbrev pub in_conversation : EngineState → QuietReaction → Reaction
-in_conversation standing quiet =
-    record { reply = quiet.reply; after = record standing { game = quiet.game } }
+in_conversation engine quiet =
+    record { reply = quiet.reply; after = record engine { game = quiet.game } }
 
 -- a reply after which the game is as before
 abbrev pub reply_alone : GameData → Reply → QuietReaction

@@ -21,22 +21,22 @@ FetchesInVain shelf shelf_now = (tries : List Bool) × (length tries ≤ 1)
 -- with what stands after it, is what `loadsgf` does with them
 abbrev pub AnswersLoad : EngineState → List (List ℕ) → Option Shelved → Option Shelved → Answer
     → EngineState → Type 0
-AnswersLoad standing args shelf shelf_now answer after = (loads : List Load)
+AnswersLoad engine args shelf shelf_now answer after = (loads : List Load)
     × Loading shelf shelf_now (loads_only loads) []
-    × ReactsWith (λ left. loading standing left args) (loads_only loads) answer after
+    × ReactsWith (λ left. loading engine left args) (loads_only loads) answer after
 
 -- `genmove` with these arguments was answered so: the archive took these turns, which are good, and
 -- the answer, with what stands after it, is what `genmove` does with them
 abbrev pub AnswersMove : EngineState → List (List ℕ) → Option (List TurnData)
     → Option (List TurnData) → Answer → EngineState → Type 0
-AnswersMove standing args archive archive_now answer after = (turns : List TurnData)
-    × Moving standing.options archive archive_now (turns_only turns)
-    × ReactsWith (λ left. moving standing left args) (turns_only turns) answer after
+AnswersMove engine args archive archive_now answer after = (turns : List TurnData)
+    × Moving engine.options archive archive_now (turns_only turns)
+    × ReactsWith (λ left. moving engine left args) (turns_only turns) answer after
 
 -- the archive took a good turn that is next, and its cell was played and answered
 abbrev pub TakesNext : EngineState → Colour → Option (List TurnData) → Option (List TurnData)
     → Answer → EngineState → Type 0
-TakesNext standing colour archive archive_now answer after = (turn : TurnData)
-    × IsGoodFor standing.options turn × (is_next standing colour turn ≡ true)
+TakesNext engine colour archive archive_now answer after = (turn : TurnData)
+    × IsGoodFor engine.options turn × (is_next engine colour turn ≡ true)
     × Both archive archive_now (λ o n. n ≡ o ++ turn ∷ [])
-    × Reacts (turned standing colour turn) answer after
+    × Reacts (turned engine colour turn) answer after

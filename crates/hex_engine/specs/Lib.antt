@@ -4,6 +4,7 @@ pub mod Picture
 pub mod EngineState
 pub mod Supply
 pub mod Replies
+pub mod Faults
 pub mod BoardReplies
 pub mod QuietReplies
 pub mod LoadReplies

@@ -12,17 +12,17 @@ use Rattle.hex_engine.specs.declared.files.Loaded.TheVariants.{Unread, Refused, 
 
 -- what stands after a file came to this
 abbrev pub loaded : EngineState → Loaded → Reaction
-loaded standing Unread = unchanged standing (Failed ReadFault)
-loaded standing Refused = unchanged standing (Failed fail.NoLoad)
-loaded standing (Loads game) =
-    record { reply = Done []; after = record standing { game = game } }
+loaded engine Unread = unchanged engine (Failed ReadFault)
+loaded engine Refused = unchanged engine (Failed fail.NoLoad)
+loaded engine (Loads game) =
+    record { reply = Done []; after = record engine { game = game } }
 
 -- the next load is used up, which has to be of this name
 abbrev pub loading_next : EngineState → Supply → List Load → List ℕ → Result Turned Missing
-loading_next standing left [] name = Err NoLoad
-loading_next standing left (load ∷ loads) name =
+loading_next engine left [] name = Err NoLoad
+loading_next engine left (load ∷ loads) name =
     if bytes_eq load.name name then
-    unused (record left { loads = loads }) (loaded standing load.what) else Err NoLoad
+    unused (record left { loads = loads }) (loaded engine load.what) else Err NoLoad
 
 -- the file's name, where it is the only argument and valid UTF-8
 abbrev pub file_named : List (List ℕ) → Option (List ℕ)
@@ -32,9 +32,9 @@ file_named (name ∷ word ∷ words) = None
 
 -- what `loadsgf` does with a file's name, if there is one
 abbrev pub loading_by : EngineState → Supply → Option (List ℕ) → Result Turned Missing
-loading_by standing left None = unused left (unchanged standing (Failed Syntax))
-loading_by standing left (Some name) = loading_next standing left left.loads name
+loading_by engine left None = unused left (unchanged engine (Failed Syntax))
+loading_by engine left (Some name) = loading_next engine left left.loads name
 
 -- what `loadsgf` does with its arguments
 abbrev pub loading : EngineState → Supply → List (List ℕ) → Result Turned Missing
-loading standing left args = loading_by standing left (file_named args)
+loading engine left args = loading_by engine left (file_named args)

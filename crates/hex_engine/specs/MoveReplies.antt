@@ -25,34 +25,34 @@ is_board a b = (a.size == b.size) && ((a.black == b.black) && (a.white == b.whit
 -- the turn is this conversation's next: it has the board of the game, this colour, and the number
 -- of turns before it
 abbrev pub is_next : EngineState → Colour → TurnData → Bool
-is_next standing colour turn =
-    is_board turn.board (board_of standing.game) &&
-    (is_same turn.player colour && (turn.number == standing.turns))
+is_next engine colour turn =
+    is_board turn.board (board_of engine.game) &&
+    (is_same turn.player colour && (turn.number == engine.turns))
 
 -- the turn's cell is played and answered, and its texts are those of the last turn
 abbrev pub turned : EngineState → Colour → TurnData → Reaction
-turned standing colour turn = record {
-  reply = Done (vertex_of (board_of standing.game).size turn.cell);
-  after = record standing {
-    game = with_step standing.game (step_of colour (Stone turn.cell));
-    turns = standing.turns + 1;
+turned engine colour turn = record {
+  reply = Done (vertex_of (board_of engine.game).size turn.cell);
+  after = record engine {
+    game = with_step engine.game (step_of colour (Stone turn.cell));
+    turns = engine.turns + 1;
     last = Some (texts_of turn);
   };
 }
 
 -- the next turn is used up
 abbrev pub moving_next : EngineState → Supply → List TurnData → Colour → Result Turned Missing
-moving_next standing left [] colour = Err NoTurn
-moving_next standing left (turn ∷ turns) colour =
-    if is_next standing colour turn then
-    unused (record left { turns = turns }) (turned standing colour turn) else Err NoTurn
+moving_next engine left [] colour = Err NoTurn
+moving_next engine left (turn ∷ turns) colour =
+    if is_next engine colour turn then
+    unused (record left { turns = turns }) (turned engine colour turn) else Err NoTurn
 
 -- what `genmove` does with a colour, if there is one
 abbrev pub moving_by : EngineState → Supply → Option Colour → Result Turned Missing
-moving_by standing left None = unused left (unchanged standing (Failed Syntax))
-moving_by standing left (Some colour) =
-    if may_move (board_of standing.game) then moving_next standing left left.turns colour
-    else unused left (unchanged standing (Failed Over))
+moving_by engine left None = unused left (unchanged engine (Failed Syntax))
+moving_by engine left (Some colour) =
+    if may_move (board_of engine.game) then moving_next engine left left.turns colour
+    else unused left (unchanged engine (Failed Over))
 
 -- the colour, where it is the only argument
 abbrev pub lone_colour : List (List ℕ) → Option Colour
@@ -62,4 +62,4 @@ lone_colour (word ∷ other ∷ words) = None
 
 -- what `genmove` does with its arguments
 abbrev pub moving : EngineState → Supply → List (List ℕ) → Result Turned Missing
-moving standing left args = moving_by standing left (lone_colour args)
+moving engine left args = moving_by engine left (lone_colour args)

@@ -78,28 +78,28 @@ certifying last args = bare_reply args (text_or NoCert (last_wincert last))
 
 -- what a command with these arguments does that uses nothing up
 unfoldable pub quiet_reaction : EngineState → Quiet → List (List ℕ) → QuietReaction
-quiet_reaction standing BoardSize args = resized standing.game (sizes_of args)
-quiet_reaction standing ClearBoard args =
-    if_bare standing.game args (emptied (board_of standing.game).size)
-quiet_reaction standing KnownCommand args = reply_alone standing.game (knowing args)
-quiet_reaction standing ListCommands args =
-    reply_alone standing.game (bare_reply args (Done all_names))
-quiet_reaction standing MustPlay args = reply_alone standing.game (planning standing.last args)
-quiet_reaction standing Name args =
-    reply_alone standing.game (bare_reply args (Done (codes "hexd")))
-quiet_reaction standing Play args = playing standing.game args
-quiet_reaction standing PrintSgf args =
-    reply_alone standing.game (bare_reply args (Done (trees_print (record_of standing.game))))
-quiet_reaction standing ProtocolVersion args =
-    reply_alone standing.game (bare_reply args (Done (codes "2")))
-quiet_reaction standing Quit args = reply_alone standing.game (bare_reply args reply.Quit)
-quiet_reaction standing SearchReport args = reply_alone standing.game (reporting standing.last args)
-quiet_reaction standing ShowBoard args =
-    reply_alone standing.game (bare_reply args (Done (picture (board_of standing.game))))
-quiet_reaction standing Undo args =
-    if_bare standing.game args (undone standing.game standing.game.steps)
-quiet_reaction standing Version args =
-    reply_alone standing.game (bare_reply args (Done (codes "1.0")))
-quiet_reaction standing WinCert args = reply_alone standing.game (certifying standing.last args)
-quiet_reaction standing Winner args = reply_alone standing.game
-    (bare_reply args (Done (winner_text (winner_of (board_of standing.game)))))
+quiet_reaction engine BoardSize args = resized engine.game (sizes_of args)
+quiet_reaction engine ClearBoard args =
+    if_bare engine.game args (emptied (board_of engine.game).size)
+quiet_reaction engine KnownCommand args = reply_alone engine.game (knowing args)
+quiet_reaction engine ListCommands args =
+    reply_alone engine.game (bare_reply args (Done all_names))
+quiet_reaction engine MustPlay args = reply_alone engine.game (planning engine.last args)
+quiet_reaction engine Name args =
+    reply_alone engine.game (bare_reply args (Done (codes "hexd")))
+quiet_reaction engine Play args = playing engine.game args
+quiet_reaction engine PrintSgf args =
+    reply_alone engine.game (bare_reply args (Done (trees_print (record_of engine.game))))
+quiet_reaction engine ProtocolVersion args =
+    reply_alone engine.game (bare_reply args (Done (codes "2")))
+quiet_reaction engine Quit args = reply_alone engine.game (bare_reply args reply.Quit)
+quiet_reaction engine SearchReport args = reply_alone engine.game (reporting engine.last args)
+quiet_reaction engine ShowBoard args =
+    reply_alone engine.game (bare_reply args (Done (picture (board_of engine.game))))
+quiet_reaction engine Undo args =
+    if_bare engine.game args (undone engine.game engine.game.steps)
+quiet_reaction engine Version args =
+    reply_alone engine.game (bare_reply args (Done (codes "1.0")))
+quiet_reaction engine WinCert args = reply_alone engine.game (certifying engine.last args)
+quiet_reaction engine Winner args = reply_alone engine.game
+    (bare_reply args (Done (winner_text (winner_of (board_of engine.game)))))

@@ -45,7 +45,7 @@ message NoCert = codes "no certificate"
 
 -- an answer after which all stands as before
 abbrev pub unchanged : EngineState → Reply → Reaction
-unchanged standing reply = record { reply = reply; after = standing }
+unchanged engine reply = record { reply = reply; after = engine }
 
 -- nothing is used up
 abbrev pub unused : Supply → Reaction → Result Turned Missing

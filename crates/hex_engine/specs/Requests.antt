@@ -19,21 +19,21 @@ use Rattle.hex_engine.specs.declared.commands.Command.TheVariants as command
 
 -- what a command with these arguments does to a conversation
 abbrev pub obeyed : EngineState → Supply → Command → List (List ℕ) → Result Turned Missing
-obeyed standing left (command.Quiet quiet) args =
-    unused left (in_conversation standing (quiet_reaction standing quiet args))
-obeyed standing left command.GenMove args = moving standing left args
-obeyed standing left command.LoadSgf args = loading standing left args
+obeyed engine left (command.Quiet quiet) args =
+    unused left (in_conversation engine (quiet_reaction engine quiet args))
+obeyed engine left command.GenMove args = moving engine left args
+obeyed engine left command.LoadSgf args = loading engine left args
 
 -- what answers a request for this command, if it is built
 abbrev pub reaction_by : EngineState → Supply → Option Command → List (List ℕ)
     → Result Turned Missing
-reaction_by standing left None args = unused left (unchanged standing (Failed UnknownCommand))
-reaction_by standing left (Some command) args = obeyed standing left command args
+reaction_by engine left None args = unused left (unchanged engine (Failed UnknownCommand))
+reaction_by engine left (Some command) args = obeyed engine left command args
 
 -- what answers a request, or what it wants that is not there
 unfoldable pub reaction : EngineState → Supply → Request → Result Turned Missing
-reaction standing left request =
-    reaction_by standing left (command_named request.name) request.args
+reaction engine left request =
+    reaction_by engine left (command_named request.name) request.args
 
 -- an answer, as a reply
 abbrev pub replied : Answer → Reply

@@ -9,7 +9,7 @@ ghost use Rattle.hex_engine.specs.MoveReplies.{is_next};
 ghost use Rattle.hex_engine.specs.Uses.{IsGoodFor};
 
 use super::answers::Memory;
-use super::standing::Engine;
+use super::state::Engine;
 use super::texts::vertex_text;
 use hex_cells::Colour;
 use hex_plan::{Turn, TurnTexts, plan, turn_shape, turn_texts};

@@ -2,6 +2,7 @@
 
 ghost use Rattle.std.specs.Prelude.{◌≡◌, List, [], ◌∷◌, IfOk, OnErr};
 ghost use Rattle.hex_io.specs.Causes.{CountsFault};
+ghost use Rattle.hex_engine.specs.Faults.{IsReadFault};
 ghost use Rattle.hex_engine.specs.Calls.{AnswersLoad, FetchesInVain};
 ghost use Rattle.hex_engine.specs.Requests.{IsBrief};
 ghost use Rattle.hex_engine.specs.Supply.{loads_only};
@@ -9,7 +10,7 @@ ghost use Rattle.hex_engine.specs.Uses.{IsReadAs, Loading};
 
 use super::answers::{Answer, Fail, Memory};
 use super::forms::file_name;
-use super::standing::Engine;
+use super::state::Engine;
 use super::telling::empty_answer;
 use hex_game::Game;
 use hex_io::{Shelf, ShelfError};
@@ -38,7 +39,7 @@ impl Engine {
         ensures err { OnErr result (self.new ≡ self.old) }
         ensures in_vain { OnErr result (FetchesInVain (F.told shelf.old) (F.told shelf.new)) }
         ensures read_fault { CountsFault (F.faults shelf.old) (F.faults shelf.new)
-            (result ≡ Ok (Answer.Fail Fail.ReadFault)) }
+            (IsReadFault result) }
     {
         let Some(name) = file_name(args) else {
             return Ok(Answer::Fail(Fail::Syntax));

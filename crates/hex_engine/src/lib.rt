@@ -42,14 +42,14 @@ mod obeying;
 mod options;
 mod picture;
 mod recalling;
-mod standing;
+mod state;
 mod telling;
 mod texts;
 
 pub use answers::{Answer, EngineError, Fail, Memory};
 pub use commands::{COMMANDS, Command, Quiet};
 pub use options::Options;
-pub use standing::Engine;
+pub use state::Engine;
 
 #[cfg(test)]
 mod tests;

@@ -7,6 +7,7 @@ ghost use Rattle.hex_game.specs.Games.{IsOnBoard, board_of, is_legal, with_step}
 ghost use Rattle.hex_game.specs.Moves.{step_of};
 ghost use Rattle.hex_game.specs.declared.moves.Move.TheVariants.{Stone};
 ghost use Rattle.hex_plan.specs.Openings.{may_move};
+ghost use Rattle.hex_engine.specs.Faults.{IsArchiveFault};
 ghost use Rattle.hex_engine.specs.Calls.{AnswersMove, TakesNext};
 ghost use Rattle.hex_engine.specs.MoveReplies.{moving};
 ghost use Rattle.hex_engine.specs.Replies.{NoTurn};
@@ -15,7 +16,7 @@ ghost use Rattle.hex_engine.specs.Supply.{nothing_left};
 
 use super::answers::{Answer, EngineError, Fail};
 use super::forms::lone_colour;
-use super::standing::Engine;
+use super::state::Engine;
 use hex_cells::{Cell, Colour};
 use hex_game::Move;
 use hex_plan::{Archive, TurnTexts, may_move};
@@ -44,7 +45,7 @@ impl Engine {
         ensures wants_turn { result ≡ Err EngineError.Archive →
             moving self.old nothing_left args.now ≡ Err NoTurn }
         ensures archive_fault { CountsFault (A.faults archive.old) (A.faults archive.new)
-            (result ≡ Err EngineError.Archive) }
+            (IsArchiveFault result) }
     {
         let Some(colour) = lone_colour(args) else {
             return Ok(Answer::Fail(Fail::Syntax));
@@ -72,7 +73,7 @@ impl Engine {
         ensures err { OnErr result (self.new ≡ self.old) }
         ensures in_vain { OnErr result (Same (A.told archive.old) (A.told archive.new)) }
         ensures archive_fault { CountsFault (A.faults archive.old) (A.faults archive.new)
-            (result ≡ Err EngineError.Archive) }
+            (IsArchiveFault result) }
     {
         // A session has no room for more turns than this.
         let Some(turns) = self.turns.checked_add(1) else {

@@ -9,7 +9,7 @@ use super::answers::{Answer, Memory};
 use super::boards::{clear, play, resize, undo};
 use super::commands::Quiet;
 use super::recalling::{tell_certificate, tell_plan, tell_report};
-use super::standing::Engine;
+use super::state::Engine;
 use super::telling::{know, list, name_of_winner, print_game, quit, show, tell};
 use htp_line::Bytes;
 

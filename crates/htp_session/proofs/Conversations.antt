@@ -6,11 +6,11 @@ use Rattle.hex_engine.specs.declared.options.Options.{Options}
 use Rattle.hex_engine.specs.EngineState.{EngineState, opening}
 use Rattle.hex_engine.specs.Supply.{Supply, nothing_left, and_then}
 use Rattle.htp_session.specs.Talk.{talk_to}
-use Rattle.htp_session.specs.Stocks.{ShelfAndArchive, UsesUp}
+use Rattle.htp_session.specs.Usage.{ShelfAndArchive, UsesUp}
 use Rattle.htp_session.specs.Sessions.{IsSessionAfter, Does, Fed}
 use Rattle.htp_session.specs.Endings.{Outcome, Conversed, IsInVain}
 use Rattle.htp_session.specs.declared.stops.Stop.TheVariants as stop
-use Rattle.htp_session.proofs.StockLaws.{and_then_nothing, and_then_assoc, uses_then, uses_nothing}
+use Rattle.htp_session.proofs.UsageLaws.{and_then_nothing, and_then_assoc, uses_then, uses_nothing}
 use Rattle.htp_session.proofs.EndLaws.{Kept, EndsBy, kept_taking, kept_nothing, feed_on, read_overlong, read_fault, unbegun}
 
 -- What a conversation keeps after this text: what was used up so far, and whatever is used up later, where it stands and what the

@@ -5,10 +5,10 @@ use Rattle.hex_io.specs.Told.{Told}
 use Rattle.hex_io.specs.Grew.{Gave, GavePart}
 use Rattle.htp_line.specs.Splitting.{SplitterData}
 use Rattle.hex_engine.specs.EngineState.{EngineState}
-use Rattle.htp_session.specs.Stocks.{ShelfAndArchive}
+use Rattle.htp_session.specs.Usage.{ShelfAndArchive}
 use Rattle.htp_session.specs.Sessions.{IsSessionAfter, Quits, Does, DoesSome, StopsBefore, AnswersShort, Advanced, AnswersAll, Fed, BrokeOff, GaveUp, HeldBack, AnswersLast, AnsweredLast, BrokeOffLast}
 use Rattle.htp_session.proofs.Pieces.{next_part, next_seen, parts_make}
-use Rattle.htp_session.proofs.StockLaws.{After, does_then, does_weaker, does_nothing}
+use Rattle.htp_session.proofs.UsageLaws.{After, does_then, does_weaker, does_nothing}
 use Rattle.htp_session.proofs.Given.{AnswersAll-then, BrokeOff-then, GaveUp-then, HeldBack-then, AnswersAll-quit, AnswersAll-nothing, quits_stay, line_broke_off, gave_up_at_once, held_back_at_once}
 
 -- the rest of a piece

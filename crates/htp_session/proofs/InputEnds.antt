@@ -5,7 +5,7 @@ use Rattle.htp_line.specs.Splitting.{SplitterData}
 use Rattle.hex_engine.specs.declared.options.Options.{Options}
 use Rattle.hex_engine.specs.EngineState.{EngineState, opening}
 use Rattle.hex_engine.specs.Supply.{nothing_left, and_then}
-use Rattle.htp_session.specs.Stocks.{ShelfAndArchive}
+use Rattle.htp_session.specs.Usage.{ShelfAndArchive}
 use Rattle.htp_session.specs.Sessions.{Does, DoesSome, AnsweredLast, BrokeOffLast, StopsBeforeLast, LastIsShort}
 use Rattle.htp_session.specs.Endings.{Conversed}
 use Rattle.htp_session.specs.declared.stops.Stop.TheVariants as stop

@@ -11,7 +11,7 @@ pub mod KeptOptions
 pub mod MoreLeft
 pub mod TakenTurns
 pub mod SupplyLaws
-pub mod StockLaws
+pub mod UsageLaws
 pub mod Advances
 pub mod Feeding
 pub mod Calling

@@ -2,7 +2,7 @@
 use Rattle.std.proofs.Common.{◌≡◌, ◌≤◌, ◌+◌, ℕ, List, ◌++◌, length, take, sym, subst, Ok}
 use Rattle.hex_engine.specs.declared.options.Options.{Options}
 use Rattle.hex_engine.specs.EngineState.{opening}
-use Rattle.htp_session.specs.Stocks.{ShelfAndArchive}
+use Rattle.htp_session.specs.Usage.{ShelfAndArchive}
 use Rattle.htp_session.specs.Devices.{DevicesState, stock}
 use Rattle.htp_session.specs.Calls.Devices.{ReadsSome}
 use Rattle.htp_session.specs.declared.session.Session.{Session}

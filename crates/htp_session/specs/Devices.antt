@@ -5,7 +5,7 @@ use Rattle.hex_io.specs.Shelves.{Shelved}
 use Rattle.hex_io.specs.Causes.{CountsFault}
 use Rattle.hex_plan.specs.Turns.{TurnData}
 use Rattle.htp_session.specs.Handing.{LinkAndArchive}
-use Rattle.htp_session.specs.Stocks.{ShelfAndArchive}
+use Rattle.htp_session.specs.Usage.{ShelfAndArchive}
 use Rattle.htp_session.specs.declared.stops.Stop.{Stop}
 use Rattle.htp_session.specs.declared.stops.Stop.TheVariants.{ReadFault, WriteFault, ArchiveFault}
 

@@ -9,7 +9,7 @@ use Rattle.hex_engine.specs.declared.options.Options.{Options}
 use Rattle.hex_engine.specs.EngineState.{EngineState, opening}
 use Rattle.hex_engine.specs.Supply.{Supply, nothing_left}
 use Rattle.htp_session.specs.Talk.{Going, AfterQuit, IsThrough, talk, talk_to, WantsTurn}
-use Rattle.htp_session.specs.Stocks.{ShelfAndArchive, UsesUp}
+use Rattle.htp_session.specs.Usage.{ShelfAndArchive, UsesUp}
 use Rattle.htp_session.specs.declared.stops.Stop.{Stop}
 use Rattle.htp_session.specs.declared.stops.Stop.TheVariants.{ReadFault, WriteFault, Memory}
 use Rattle.htp_session.specs.declared.stops.Stop.TheVariants.{TooLong, ArchiveFault}

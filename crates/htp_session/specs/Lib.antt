@@ -1,6 +1,6 @@
 pub mod Talk
 pub mod Supply
-pub mod Stocks
+pub mod Usage
 pub mod Devices
 pub mod Sessions
 pub mod Endings

@@ -11,7 +11,7 @@ use Rattle.arena_rule.proofs.Changes.{drew_cases, claimed_same}
 use Rattle.walker.specs.declared.machine.Walker.{Walker}
 use Rattle.walker.specs.declared.machine.TheConstants.{WALK_STEPS}
 use Rattle.walker.specs.Measure.{steps_left}
-use Rattle.search_team.specs.Left.{has_walk, is_in_hand, has_drawn, count_left, draws_left, work_left}
+use Rattle.search_team.specs.WorkLeft.{has_walk, is_in_hand, has_drawn, count_left, draws_left, work_left}
 use Rattle.search_team.proofs.Numbers.{and_number, left-less, walk-none}
 
 -- the draws that are left after a draw

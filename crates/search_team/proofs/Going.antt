@@ -11,7 +11,7 @@ use Rattle.walker.specs.Belongs.{Belongs}
 use Rattle.walker.proofs.Fitting.{fits}
 use Rattle.walker.proofs.Falling.{fewer, bound}
 use Rattle.lone_worker.specs.Alone.{MakesStep}
-use Rattle.search_team.specs.Left.{work_left}
+use Rattle.search_team.specs.WorkLeft.{work_left}
 use Rattle.search_team.specs.Runs.{HasRun}
 use Rattle.search_team.proofs.Falls.{falls}
 

@@ -3,7 +3,7 @@ use Rattle.std.proofs.Common.{◌≡◌, ◌≢◌, ℕ, ◌+◌, ◌<◌, ◌�
 use Rattle.std.specs.Prelude.{◌==◌, ◌||◌, Contains}
 use Rattle.std.proofs.lemmas.Bool.{cases_lt, eq-eqb, ne_eqb}
 use Rattle.arena_rule.specs.Views.{Walked}
-use Rattle.search_team.specs.Left.{has_walk, count_left}
+use Rattle.search_team.specs.WorkLeft.{has_walk, count_left}
 
 -- the numbers and x
 abbrev pub and_number : ℕ → (ℕ → Bool) → ℕ → Bool

@@ -18,7 +18,7 @@ use Rattle.walker.proofs.Fitting.{fits}
 use Rattle.walker.proofs.Keeps.{keeps}
 use Rattle.walker.proofs.GoingOn.{can-go}
 use Rattle.lone_worker.specs.Alone.{MakesStep}
-use Rattle.search_team.specs.Left.{work_left}
+use Rattle.search_team.specs.WorkLeft.{work_left}
 use Rattle.search_team.specs.Runs.{HasRun}
 use Rattle.search_team.proofs.Going.{not-done, step-falls, run-begins}
 

@@ -1,3 +1,3 @@
-pub mod Left
+pub mod WorkLeft
 pub mod Runs
 pub mod Works

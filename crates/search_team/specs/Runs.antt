@@ -5,7 +5,7 @@ use Rattle.arena_rule.specs.Views.{SeatView}
 use Rattle.walker.specs.Belongs.{Belongs}
 use Rattle.walker.specs.declared.machine.Walker.{Walker}
 use Rattle.lone_worker.specs.Alone.{HasRunAlone}
-use Rattle.search_team.specs.Left.{work_left}
+use Rattle.search_team.specs.WorkLeft.{work_left}
 
 -- The walker w over its view v has made some steps, or none, and is `later` over `view`: these
 -- belong together, are those of a run alone where w and v are, and leave it no more to do.

@@ -6,7 +6,7 @@ ghost use Rattle.walker.specs.Belongs.{Belongs};
 ghost use Rattle.walker.specs.declared.TheConstants.{PAST_WORDS};
 ghost use Rattle.lone_worker.specs.Alone.{MakesStep};
 ghost use Rattle.tree_rule.specs.Seats.{IsOf};
-ghost use Rattle.search_team.specs.Left.{work_left};
+ghost use Rattle.search_team.specs.WorkLeft.{work_left};
 ghost use Rattle.search_team.specs.Runs.{HasRun};
 
 use tree_rule::{Tree, TreeSeat};

@@ -7,7 +7,7 @@ ghost use Rattle.walker.specs.Choosing.{MayChoose};
 ghost use Rattle.walker.specs.declared.stages.Stage.TheVariants.{Scanning};
 ghost use Rattle.lone_worker.specs.Alone.{MakesStep};
 ghost use Rattle.tree_rule.specs.Seats.{IsOf};
-ghost use Rattle.search_team.specs.Left.{work_left};
+ghost use Rattle.search_team.specs.WorkLeft.{work_left};
 ghost use Rattle.search_team.specs.Runs.{HasRun};
 
 use tree_rule::{Tree, TreeSeat};

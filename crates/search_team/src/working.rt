@@ -6,7 +6,7 @@ ghost use Rattle.walker.specs.Machine.{op_of};
 ghost use Rattle.walker.specs.Belongs.{Belongs};
 ghost use Rattle.lone_worker.specs.Alone.{MakesStep};
 ghost use Rattle.tree_rule.specs.Seats.{IsOf};
-ghost use Rattle.search_team.specs.Left.{work_left};
+ghost use Rattle.search_team.specs.WorkLeft.{work_left};
 ghost use Rattle.search_team.specs.Works.{IsFresh, IsDone, WorksAsSequence};
 
 use super::climbing::make_seen_adds;

@@ -15,8 +15,8 @@ use Rattle.hex_game.specs.declared.moves.Move.{Move}
 use Rattle.hex_game.specs.declared.moves.Move.TheVariants.{Stone, Swap}
 use Rattle.hex_game.specs.declared.moves.Step.{Step}
 use Rattle.sgf_tree.specs.declared.lists.Node.{Node}
-use Rattle.sgf_game.specs.declared.turns.MoveText.{MoveText}
-use Rattle.sgf_game.specs.declared.turns.MoveText.TheVariants.{Plays, Ends}
+use Rattle.sgf_game.specs.declared.turns.MoveMeaning.{MoveMeaning}
+use Rattle.sgf_game.specs.declared.turns.MoveMeaning.TheVariants.{Plays, Ends}
 use Rattle.sgf_game.specs.declared.turns.Turn.{Turn}
 use Rattle.sgf_game.specs.Lines.{Entry, entries_in, ends, has_end, is_last, up_to_end}
 use Rattle.sgf_game.specs.Turns.{said_by, turn_of, turns_in, turns_of, step_said, steps_of, is_refused_said, is_refused_next, is_refused, first_refused, game_after}
@@ -53,7 +53,7 @@ stone_on : (n : ℕ) (cell : Option ℕ) → IsCellOf n cell → IsSaidOn n (opt
 stone_on n None h = tt
 stone_on n (Some k) h = h
 
-said_cases : (n : ℕ) (swap end : Bool) (said : Option MoveText) → IsSaidOn n said → IsSaidOn n (cond swap (Some (Plays Swap)) (cond end (Some Ends) said))
+said_cases : (n : ℕ) (swap end : Bool) (said : Option MoveMeaning) → IsSaidOn n said → IsSaidOn n (cond swap (Some (Plays Swap)) (cond end (Some Ends) said))
 said_cases n true end said h = tt
 said_cases n false true said h = tt
 said_cases n false false said h = h
@@ -133,7 +133,7 @@ first_none start turns f = find_none (is_refused start turns) 0 (length turns) (
 
 -- ---- each turn before the last makes a step
 
-abbrev pub speaks : Option MoveText → Bool
+abbrev pub speaks : Option MoveMeaning → Bool
 speaks None = false
 speaks (Some said) = true
 
@@ -141,7 +141,7 @@ abbrev pub says : Option Turn → Bool
 says None = true
 says (Some turn) = speaks turn.said
 
-refused_or_speaks : (game : GameData) (colour : Colour) (said : Option MoveText) → is_refused_said game colour said ≡ false → speaks said ≡ true
+refused_or_speaks : (game : GameData) (colour : Colour) (said : Option MoveMeaning) → is_refused_said game colour said ≡ false → speaks said ≡ true
 refused_or_speaks game colour None e = absurd (cc)
 refused_or_speaks game colour (Some said) e = refl
 
@@ -149,12 +149,12 @@ refused_or_says : (game : GameData) (turn : Option Turn) → is_refused_next gam
 refused_or_says game None e = refl
 refused_or_says game (Some turn) e = refused_or_speaks game turn.colour turn.said e
 
-one_step : (colour : Colour) (said : Option MoveText) → speaks said ≡ true → (said ≡ Some Ends → ⊥) → length (step_said colour said) ≡ 1
+one_step : (colour : Colour) (said : Option MoveMeaning) → speaks said ≡ true → (said ≡ Some Ends → ⊥) → length (step_said colour said) ≡ 1
 one_step colour None e n = absurd (cc)
 one_step colour (Some Ends) e n = absurd (n refl)
 one_step colour (Some (Plays what)) e n = refl
 
-not_last : (said : Option MoveText) (turns : List Turn) (i : ℕ) → (said ≡ Some Ends → turns ≡ []) → i < length turns → said ≡ Some Ends → ⊥
+not_last : (said : Option MoveMeaning) (turns : List Turn) (i : ℕ) → (said ≡ Some Ends → turns ≡ []) → i < length turns → said ≡ Some Ends → ⊥
 not_last said turns i f h e = let t : length turns ≡ 0 = ap length (f e) in omega arith
 
 as_many_steps : (turns : List Turn) (i : ℕ) → EndsLast turns → i < length turns → ((j : ℕ) → j < i → says (slice_get turns j) ≡ true) → length (steps_of (take i turns)) ≡ i
@@ -170,7 +170,7 @@ few_turns start turns i h l f = as_many_steps turns i h l (λ j k. refused_or_sa
 
 -- ---- a turn at its place
 
-pub said_on_board : (start : Position) (steps : List Step) (said : Option MoveText) (what : Move) → IsSaidOn start.size said → said ≡ Some (Plays what) → IsOnBoard (replay start steps) what
+pub said_on_board : (start : Position) (steps : List Step) (said : Option MoveMeaning) (what : Move) → IsSaidOn start.size said → said ≡ Some (Plays what) → IsOnBoard (replay start steps) what
 said_on_board start steps said what h e = on what (subst (IsSaidOn start.size) e h)
   where
     on : (what : Move) → IsSaidOn start.size (Some (Plays what)) → IsOnBoard (replay start steps) what

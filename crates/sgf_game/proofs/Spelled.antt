@@ -16,7 +16,7 @@ use Rattle.hex_cells.proofs.Naming.{read_back}
 use Rattle.hex_game.specs.declared.moves.Move.{Move}
 use Rattle.hex_game.specs.declared.moves.Move.TheVariants.{Stone, Swap}
 use Rattle.sgf_tree.specs.Grammar.{is_white_space}
-use Rattle.sgf_game.specs.declared.turns.MoveText.TheVariants.{Plays}
+use Rattle.sgf_game.specs.declared.turns.MoveMeaning.TheVariants.{Plays}
 use Rattle.sgf_game.specs.Values.{trimmed}
 use Rattle.sgf_game.specs.Lines.{ends}
 use Rattle.sgf_game.specs.Setup.{is_size, size_named}

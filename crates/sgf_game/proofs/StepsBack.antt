@@ -13,7 +13,7 @@ use Rattle.hex_game.specs.declared.moves.Move.TheVariants.{Stone, Swap}
 use Rattle.hex_game.specs.declared.moves.Step.{Step}
 use Rattle.sgf_tree.specs.declared.lists.Node.{Node}
 use Rattle.sgf_game.specs.declared.error.GameError.{GameError}
-use Rattle.sgf_game.specs.declared.turns.MoveText.TheVariants.{Plays}
+use Rattle.sgf_game.specs.declared.turns.MoveMeaning.TheVariants.{Plays}
 use Rattle.sgf_game.specs.declared.turns.Turn.{Turn}
 use Rattle.sgf_game.specs.Lines.{Entry, entry, entries_if, entries_in, has_end, is_last, up_to_end, line_of}
 use Rattle.sgf_game.specs.Turns.{turn_of, turns_in, turns_of, steps_of, is_refused, is_refused_next, first_refused, game_after, game_unless, game_of_turns}

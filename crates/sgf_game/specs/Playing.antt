@@ -2,8 +2,8 @@
 use Rattle.std.specs.Prelude.{◌≡◌, ℕ, ◌*◌, ◌<◌, List, [], ◌∷◌, Option, Some, None}
 use Rattle.hex_game.specs.declared.moves.Move.{Move}
 use Rattle.hex_game.specs.declared.moves.Move.TheVariants.{Stone, Swap}
-use Rattle.sgf_game.specs.declared.turns.MoveText.{MoveText}
-use Rattle.sgf_game.specs.declared.turns.MoveText.TheVariants.{Plays, Ends}
+use Rattle.sgf_game.specs.declared.turns.MoveMeaning.{MoveMeaning}
+use Rattle.sgf_game.specs.declared.turns.MoveMeaning.TheVariants.{Plays, Ends}
 use Rattle.sgf_game.specs.declared.turns.Turn.{Turn}
 
 -- a stone's cell lies on the board of size n
@@ -11,7 +11,7 @@ abbrev pub IsMoveOn : ℕ → Move → Type 0
 IsMoveOn n Swap = Unit {0}
 IsMoveOn n (Stone cell) = cell < n * n
 
-abbrev pub IsSaidOn : ℕ → Option MoveText → Type 0
+abbrev pub IsSaidOn : ℕ → Option MoveMeaning → Type 0
 IsSaidOn n None = Unit {0}
 IsSaidOn n (Some Ends) = Unit {0}
 IsSaidOn n (Some (Plays what)) = IsMoveOn n what

@@ -12,8 +12,8 @@ use Rattle.hex_game.specs.Games.{GameData, is_legal}
 use Rattle.hex_game.specs.declared.moves.Move.TheVariants.{Stone, Swap}
 use Rattle.hex_game.specs.declared.moves.Step.{Step}
 use Rattle.sgf_tree.specs.declared.lists.Node.{Node}
-use Rattle.sgf_game.specs.declared.turns.MoveText.{MoveText}
-use Rattle.sgf_game.specs.declared.turns.MoveText.TheVariants.{Plays, Ends}
+use Rattle.sgf_game.specs.declared.turns.MoveMeaning.{MoveMeaning}
+use Rattle.sgf_game.specs.declared.turns.MoveMeaning.TheVariants.{Plays, Ends}
 use Rattle.sgf_game.specs.declared.turns.Turn.{Turn}
 use Rattle.sgf_game.specs.declared.error.GameError.{GameError}
 use Rattle.sgf_game.specs.declared.error.GameError.TheVariants.{BadMove}
@@ -21,7 +21,7 @@ use Rattle.sgf_game.specs.Lines.{Entry, entries_in, ends}
 
 -- what a move's text says on the board of size n: the swap, the end of the line, or a stone on the
 -- cell of a vertex
-abbrev pub said_by : ℕ → List ℕ → Option MoveText
+abbrev pub said_by : ℕ → List ℕ → Option MoveMeaning
 said_by n text =
     if str_eq_ignore_ascii_case text (codes "swap-pieces") then Some (Plays Swap)
     else (if ends text then Some Ends
@@ -38,7 +38,7 @@ turns_in n node = map (turn_of n (length (entries_in node) == 1)) (entries_in no
 abbrev pub turns_of : ℕ → List Node → List Turn
 turns_of n line = flat_map (turns_in n) line
 
-abbrev pub step_said : Colour → Option MoveText → List Step
+abbrev pub step_said : Colour → Option MoveMeaning → List Step
 step_said colour None = []
 step_said colour (Some Ends) = []
 step_said colour (Some (Plays what)) = step_of colour what ∷ []
@@ -51,7 +51,7 @@ steps_of turns = flat_map (λ turn. step_said turn.colour turn.said) turns
 abbrev pub game_after : Position → List Turn → GameData
 game_after start turns = record { start = start; steps = steps_of turns }
 
-abbrev pub is_refused_said : GameData → Colour → Option MoveText → Bool
+abbrev pub is_refused_said : GameData → Colour → Option MoveMeaning → Bool
 is_refused_said game colour None = true
 is_refused_said game colour (Some Ends) = false
 is_refused_said game colour (Some (Plays what)) = not (is_legal game (step_of colour what))

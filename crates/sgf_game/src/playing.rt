@@ -6,7 +6,7 @@ ghost use Rattle.sgf_game.specs.Turns.{is_refused_said, step_said, game_of_turns
 ghost use Rattle.sgf_game.specs.Playing.{IsSaidOn, AreSaidOn, EndsLast};
 
 use super::error::GameError;
-use super::turns::{MoveText, Turn};
+use super::turns::{MoveMeaning, Turn};
 use hex_board::Board;
 use hex_game::Game;
 use std::alloc::Global;
@@ -21,8 +21,8 @@ fn take_turn(game: &mut Game, turn: &Turn) -> bool
 {
     match turn.said {
         None => false,
-        Some(MoveText::Ends) => true,
-        Some(MoveText::Plays(what)) => game.play(turn.colour, what).is_ok(),
+        Some(MoveMeaning::Ends) => true,
+        Some(MoveMeaning::Plays(what)) => game.play(turn.colour, what).is_ok(),
     }
 }
 

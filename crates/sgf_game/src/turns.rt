@@ -13,7 +13,7 @@ use std::alloc::{AllocError, Global};
 
 /// What the text of a move says.
 #[derive(Clone, Copy)]
-pub enum MoveText {
+pub enum MoveMeaning {
     Plays(Move),
     /// `resign` or `forfeit`: the line ends, without a step.
     Ends,
@@ -24,21 +24,21 @@ pub enum MoveText {
 pub struct Turn {
     pub colour: Colour,
     /// `None` where the text is no move, or where the move is not alone in its node.
-    pub said: Option<MoveText>,
+    pub said: Option<MoveMeaning>,
 }
 
 /// What a move's text says on a board of this size.
-fn said_by(text: &[u8], size: Size) -> Option<MoveText>
+fn said_by(text: &[u8], size: Size) -> Option<MoveMeaning>
     ensures { result ≡ said_by size text.now }
 {
     if spells(text, b"swap-pieces") {
-        return Some(MoveText::Plays(Move::Swap));
+        return Some(MoveMeaning::Plays(Move::Swap));
     }
     if ends(text) {
-        return Some(MoveText::Ends);
+        return Some(MoveMeaning::Ends);
     }
     match read_vertex(text, size) {
-        Some(cell) => Some(MoveText::Plays(Move::Stone(cell))),
+        Some(cell) => Some(MoveMeaning::Plays(Move::Stone(cell))),
         None => None,
     }
 }

@@ -3,7 +3,7 @@ use Rattle.std.proofs.Common.{◌≡◌, ℕ, ◌+◌, ◌<◌, ◌≤◌, refl,
 use Rattle.std.proofs.lemmas.List.{take_more}
 use Rattle.sgf_tree.specs.Printing.{max_depth}
 use Rattle.sgf_tree.specs.Reading.{State, step, run_on, run, begin, open_of, deepest_of}
-use Rattle.sgf_tree.specs.Standing.{IsShallow, OpensTooMany}
+use Rattle.sgf_tree.specs.ReadingStates.{IsShallow, OpensTooMany}
 use Rattle.sgf_tree.specs.Verdict.{GoesTo}
 use Rattle.sgf_tree.proofs.Depths.{Grows, grows, open_le_deepest}
 use Rattle.sgf_tree.proofs.Verdicts.{run_on-append}

@@ -5,7 +5,7 @@ use Rattle.sgf_tree.specs.declared.trees.Tree.{Tree}
 use Rattle.sgf_tree.specs.Trees.{none, tree}
 use Rattle.sgf_tree.specs.Rows.{row}
 use Rattle.sgf_tree.specs.Reading.{Branch, join}
-use Rattle.sgf_tree.specs.Standing.{stack}
+use Rattle.sgf_tree.specs.ReadingStates.{stack}
 
 pub stack-push : (parents : List Parent) (p : Parent) (below : List Branch) → stack (parents ++ p ∷ []) below ≡ record { nodes = p.nodes.items; kids = row p.kids.items } ∷ stack parents below
 stack-push [] p below = refl

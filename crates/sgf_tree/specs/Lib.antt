@@ -5,5 +5,5 @@ pub mod Grammar
 pub mod Printing
 pub mod Places
 pub mod Reading
-pub mod Standing
+pub mod ReadingStates
 pub mod Verdict

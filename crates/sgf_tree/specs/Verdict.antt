@@ -10,7 +10,7 @@ use Rattle.sgf_tree.specs.Grammar.{HasTree}
 use Rattle.sgf_tree.specs.Printing.{max_depth}
 use Rattle.sgf_tree.specs.Reading.{State, between, opened, in_node, in_name, after_name, in_value}
 use Rattle.sgf_tree.specs.Reading.{escaped, after_value, step, run, begin, open_of, deepest_of}
-use Rattle.sgf_tree.specs.Standing.{state_of}
+use Rattle.sgf_tree.specs.ReadingStates.{state_of}
 
 -- the answer, unless memory ran out
 abbrev pub OrMemory : {A : Type 0} → Result A SgfError → Result A SgfError → Type 0

@@ -6,7 +6,7 @@ ghost use Rattle.sgf_tree.specs.Reading.{begin, turn, go_on, add_node, add_prop,
 ghost use Rattle.sgf_tree.specs.Reading.{open_tree, close_into};
 ghost use Rattle.sgf_tree.specs.Trees.{GameTrees};
 ghost use Rattle.sgf_tree.specs.Verdict.{IsFinal};
-ghost use Rattle.sgf_tree.specs.Standing.{state_of, trees_of, Comes, Reads};
+ghost use Rattle.sgf_tree.specs.ReadingStates.{state_of, trees_of, Comes, Reads};
 
 use crate::lists::{Bytes, Node, Nodes, Prop, Props, Values};
 use crate::trees::{Collection, Tree, Trees};

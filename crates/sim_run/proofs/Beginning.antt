@@ -16,7 +16,7 @@ use Rattle.arena_rule.proofs.ViewSeats.{given-stays}
 use Rattle.walker.specs.declared.machine.Walker.{Walker}
 use Rattle.walker.specs.Belongs.{Belongs}
 use Rattle.lone_worker.specs.Alone.{HasRunAlone}
-use Rattle.sim_run.specs.Standing.{IsNew, AreNew, AreSimulated}
+use Rattle.sim_run.specs.BetweenSteps.{IsNew, AreNew, AreSimulated}
 use Rattle.sim_run.proofs.Zips.{all-at, zip-same}
 
 module _ (s : Setting) (h : IsSetting s) (walkers : List Walker) (new : AreNew s walkers) where

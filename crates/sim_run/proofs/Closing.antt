@@ -21,7 +21,7 @@ use Rattle.walker.proofs.Fitting.{fits}
 use Rattle.lone_worker.specs.Alone.{HasRunAlone, ShowsSequence}
 use Rattle.lone_worker.proofs.Machines.{ends-as-sequence}
 use Rattle.sim_run.specs.Steps.{IsFinished}
-use Rattle.sim_run.specs.Standing.{AreSimulated, AreFinished}
+use Rattle.sim_run.specs.BetweenSteps.{AreSimulated, AreFinished}
 use Rattle.sim_run.proofs.Zips.{all-at, at-middle, set-middle}
 
 -- the view stands for a worker, and its workers have ended

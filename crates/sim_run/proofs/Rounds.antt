@@ -8,7 +8,7 @@ use Rattle.tree_words.specs.declared.steps.Op.{Op}
 use Rattle.arena_rule.proofs.Options.{false-true}
 use Rattle.walker.specs.declared.machine.Walker.{Walker}
 use Rattle.sim_run.specs.Steps.{SimulationData, IsFinished, StepsOnce}
-use Rattle.sim_run.specs.Standing.{AreFinished, steps_to_come}
+use Rattle.sim_run.specs.BetweenSteps.{AreFinished, steps_to_come}
 
 -- from `start` on the walkers below i had their turn: some made a step, or each of them is finished and nothing changed
 pub record HaveStepped (s : Setting) (start now : SimulationData) (stepped : Bool) (i : ℕ) : Type 0 where

@@ -26,7 +26,7 @@ use Rattle.walker.proofs.Keeps.{keeps}
 use Rattle.walker.proofs.Falling.{fewer, bound}
 use Rattle.lone_worker.specs.Alone.{HasRunAlone}
 use Rattle.sim_run.specs.Plain.{FitsWord}
-use Rattle.sim_run.specs.Standing.{AreSimulated}
+use Rattle.sim_run.specs.BetweenSteps.{AreSimulated}
 use Rattle.sim_run.proofs.Zips.{zip-at, zip-set}
 use Rattle.sim_run.proofs.Frames.{before, within, fits-word, ticket-drawn, ticket-stays}
 

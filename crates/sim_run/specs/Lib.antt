@@ -1,4 +1,4 @@
 pub mod Plain
 pub mod Schedules
 pub mod Steps
-pub mod Standing
+pub mod BetweenSteps

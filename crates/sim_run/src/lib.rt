@@ -11,8 +11,8 @@
 //! worker it is the tree of the sequential search. It is the tree of this very schedule: from the
 //! opening words and new walkers on, each entry is one step of the walker with its number, and then
 //! come rounds, in each a step of each walker by rising number, until none has a step left
-//! (specs/Steps.antt, specs/Standing.antt). A number that no worker has is refused with its first
-//! place, before anything is simulated, and nothing else is refused but for want of memory.
+//! (specs/Steps.antt, specs/BetweenSteps.antt). A number that no worker has is refused with its
+//! first place, before anything is simulated, and nothing else is refused but for want of memory.
 //! `simulate` returns, takes all its memory before the first step, and waits for nobody.
 //!
 //! **What is only tested, or not said.** That it gets its memory.

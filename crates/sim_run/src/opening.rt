@@ -2,7 +2,7 @@
 
 ghost use Rattle.std.specs.Prelude.{◌≡◌, IfOk};
 ghost use Rattle.tree_words.specs.Opening.{opening_words};
-ghost use Rattle.sim_run.specs.Standing.{AreNew};
+ghost use Rattle.sim_run.specs.BetweenSteps.{AreNew};
 
 use std::alloc::{AllocError, Global};
 use tree_words::{Shape, write_opening};

@@ -4,7 +4,7 @@ ghost use Rattle.std.specs.Prelude.{◌≡◌, ◌↔◌, ℕ, IfOk, Err, Some};
 ghost use Rattle.tree_words.specs.Sequence.{seq_of};
 ghost use Rattle.tree_words.specs.Trees.{IsTreeOf};
 ghost use Rattle.sim_run.specs.Schedules.{first_stray};
-ghost use Rattle.sim_run.specs.Standing.{EndsSchedule};
+ghost use Rattle.sim_run.specs.BetweenSteps.{EndsSchedule};
 ghost use Rattle.sim_run.specs.declared.errors.SimError.{SimError};
 
 use super::errors::SimError;

@@ -20,7 +20,7 @@ impl Simulation {
     ghost use Rattle.tree_words.specs.Opening.{opening_words};
     ghost use Rattle.tree_words.specs.Sequence.{seq_of};
     ghost use Rattle.tree_words.specs.Trees.{IsTreeOf};
-    ghost use Rattle.sim_run.specs.Standing.{IsUnderway, AreNew, AreFinished, HasFewer};
+    ghost use Rattle.sim_run.specs.BetweenSteps.{IsUnderway, AreNew, AreFinished, HasFewer};
     ghost use Rattle.sim_run.specs.Steps.{StepsAlong, StepsOnce, StepsRound, StepsRounds, data_of};
 
     /// The simulation at its beginning: the opening words, and new walkers. It takes all memory.

@@ -1,7 +1,7 @@
 //! Walks of one worker, step by step: each with its answer.
 
 ghost use Rattle.std.specs.Prelude.{◌≡◌, ◌<◌, length};
-ghost use Rattle.sim_run.specs.Standing.{IsUnderway};
+ghost use Rattle.sim_run.specs.BetweenSteps.{IsUnderway};
 
 use super::simulation::Simulation;
 use super::tree_tests::shape_of;

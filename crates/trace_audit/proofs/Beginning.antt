@@ -7,7 +7,7 @@ use Rattle.tree_words.specs.Words.{root_at, area_at, end_of}
 use Rattle.tree_words.specs.Blocks.{is_node}
 use Rattle.tree_words.proofs.Blocks.BlockLaws.{root_node}
 use Rattle.trace_audit.specs.declared.sites.Table.{Table}
-use Rattle.trace_audit.specs.Tables.{IsLastNode, Scanned}
+use Rattle.trace_audit.specs.Tables.{IsInLastBlock, Scanned}
 use Rattle.trace_audit.proofs.Scanning.{advance, scan_none}
 use Rattle.trace_audit.proofs.WordBytes.{none_left}
 
@@ -22,7 +22,7 @@ module _ (s : Setting) (words : List ℕ) (h : IsSetting s) (root : ℕ) (at : r
   pub first_node : is_node (root_at s) [] root ≡ true
   first_node = ap (is_node (root_at s) []) at ∙ root_node (root_at s) []
 
-  pub first_last : IsLastNode s (root + 4) [] root
+  pub first_last : IsInLastBlock s (root + 4) [] root
   first_last = inl (at, omega (arith, at))
 
   pub first_done : (t : Table) → Scanned s words t (root + 1) (root + 4) [] → Scanned s words t (area_at s) (area_at s) []

@@ -10,7 +10,7 @@ use Rattle.tree_words.specs.Paths.{state_after, node_state}
 use Rattle.tree_words.proofs.Blocks.GameLaws.{in-node}
 use Rattle.trace_audit.specs.declared.sites.Site.{Site}
 use Rattle.trace_audit.specs.declared.sites.Table.{Table}
-use Rattle.trace_audit.specs.Tables.{site_state, IsSite, IsEntered, IsLastNode, Scanned}
+use Rattle.trace_audit.specs.Tables.{site_state, IsSite, IsEntered, IsInLastBlock, Scanned}
 use Rattle.trace_audit.proofs.Cells.{IsMove, move_is}
 use Rattle.trace_audit.proofs.Scanning.{advance}
 
@@ -58,7 +58,7 @@ module _ (s : Setting) (words : List ℕ) (t : Table) (done at end : ℕ) (b : L
   pub node_in : (k x : ℕ) → x ≡ at + 4 + 4 * k → x < end → is_node (root_at s) (b ∷ bs) x ≡ true
   node_in k x h l = let m = node_is k x h l in in-node (root_at s) (b ∷ bs) b x (inl refl) (ap (has_node b) m.1 ∙ m.0.node)
 
-  pub node_last : (k x : ℕ) → x ≡ at + 4 + 4 * k → x < end → IsLastNode s end (b ∷ bs) x
+  pub node_last : (k x : ℕ) → x ≡ at + 4 + 4 * k → x < end → IsInLastBlock s end (b ∷ bs) x
   node_last k x h l = let m = node_is k x h l in inr (b, inl refl, ap (has_node b) m.1 ∙ m.0.node, e.ends ∙ ap (λ n. n + size b) (sym e.start))
 
   module _ (k x n : ℕ) (site : Site) (hx : x ≡ at + 4 + 4 * k) (l : x < end) (board : site_state site ≡ node_state s (b ∷ bs) b.parent) (cell : n ≡ cell_in (slice_index words x)) where

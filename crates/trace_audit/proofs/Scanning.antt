@@ -11,7 +11,7 @@ use Rattle.tree_words.proofs.Blocks.BlockLaws.{covers_if, has-at}
 use Rattle.tree_words.proofs.Blocks.NodeLaws.{nodes-apart}
 use Rattle.tree_words.proofs.Blocks.OneTree.{knows-in}
 use Rattle.trace_audit.specs.declared.sites.Table.{Table}
-use Rattle.trace_audit.specs.Tables.{AreUnlinked, IsFollowed, IsLastNode, Scanned, IsLinked}
+use Rattle.trace_audit.specs.Tables.{AreUnlinked, IsFollowed, IsInLastBlock, Scanned, IsLinked}
 use Rattle.trace_audit.proofs.LinkedBlocks.{apart_blocks, link_real, link_whole, first_word, node_below}
 
 module _ (s : Setting) (words : List ℕ) (h : IsSetting s) where
@@ -39,7 +39,7 @@ module _ (s : Setting) (words : List ℕ) (h : IsSetting s) where
   }
 
   -- a node whose link names no block that may stand there
-  pub enter_none : (t : Table) (x p : ℕ) (bs : List LinkedBlock) → Scanned s words t x p bs → is_node (root_at s) bs x ≡ true → IsLastNode s p bs x → length words ≡ end_of s → 0 < link_in words x
+  pub enter_none : (t : Table) (x p : ℕ) (bs : List LinkedBlock) → Scanned s words t x p bs → is_node (root_at s) bs x ≡ true → IsInLastBlock s p bs x → length words ≡ end_of s → 0 < link_in words x
       → ((p ≤ link_in words x) × (link_in words x < length words) × (slice_index words (link_in words x) ≡ x) → ⊥) → AreUnlinked s words
   enter_none t x p bs sc n last long l not-so cs lk =
       let b : ℕ = link_in words x in

@@ -1,5 +1,5 @@
--- What the steps of a scan of the words answer: each says that the blocks are scanned further, or
--- that no blocks are linked by the words.
+-- What the steps of a scan of the words answer: that the blocks are scanned further, or that the
+-- words are linked by no blocks; and what is compared for it.
 use Rattle.std.specs.Prelude.{◌≡◌, ℕ, ◌+◌, ◌<◌, ◌≤◌, true, Bool, List, [], length, slice_index}
 use Rattle.std.specs.Prelude.{MatchBool, MatchOption, Option}
 use Rattle.tree_words.specs.Blocks.{LinkedBlock, is_node, is_header_or_move, size}
@@ -7,7 +7,7 @@ use Rattle.tree_words.specs.Paths.{node_state}
 use Rattle.tree_words.specs.Settings.{Setting, IsSetting}
 use Rattle.tree_words.specs.Words.{area_at, end_of, root_at}
 use Rattle.tree_words.specs.declared.layout.TheConstants.{HEADER_WORDS}
-use Rattle.trace_audit.specs.Tables.{AreUnlinked, IsEntered, IsLastNode, IsLinked, Scanned}
+use Rattle.trace_audit.specs.Tables.{AreUnlinked, IsEntered, IsInLastBlock, IsLinked, Scanned}
 use Rattle.trace_audit.specs.Tables.{StandsInArea, site_state}
 use Rattle.trace_audit.specs.declared.sites.Site.{Site}
 use Rattle.trace_audit.specs.declared.sites.Table.{Table}
@@ -41,11 +41,12 @@ abbrev pub HasNextNode : List ℕ → Table → ℕ → ℕ → Type 0
 HasNextNode words t x free =
     (s : Setting) × (bs : List LinkedBlock) × IsNextNode s bs words t x free
 
--- Whatever was found before: if x is the last node found and the site tells what stands there, then
--- the link of x is followed, or the words are linked by no blocks. The answer says which.
+-- Whatever was found before: if x is the root before any block, or a node of the block found last,
+-- and the site tells what stands there, then the link of x is followed, or the words are linked by
+-- no blocks. The answer says which.
 abbrev pub FollowsLink : List ℕ → Table → Table → ℕ → ℕ → Site → Bool → Type 0
 FollowsLink words before after x free p answer = (s : Setting) (bs : List LinkedBlock)
-    → IsNextNode s bs words before x free → IsLastNode s free bs x
+    → IsNextNode s bs words before x free → IsInLastBlock s free bs x
     → site_state p ≡ node_state s bs x
     → MatchBool answer (Scanned s words after (x + 1) free bs) (AreUnlinked s words)
 

@@ -100,8 +100,8 @@ pub record IsEntered (s : Setting) (words : List ℕ) (t : Table) (done at end :
 
 -- the node x is the root, and no block is passed, or it is a node of the block that ends where the
 -- words are passed
-abbrev pub IsLastNode : Setting → ℕ → List LinkedBlock → ℕ → Type 0
-IsLastNode s passed bs x =
+abbrev pub IsInLastBlock : Setting → ℕ → List LinkedBlock → ℕ → Type 0
+IsInLastBlock s passed bs x =
     ((x ≡ root_at s) × (passed ≡ area_at s))
     ⊎ ((b : LinkedBlock) × In b bs × (has_node b x ≡ true) × (passed ≡ b.start + size b))
 

@@ -16,7 +16,7 @@ use Rattle.tree_words.specs.declared.layout.TheConstants.{HIGH_EMPTIES_SHIFT}
 abbrev pub bytes_of : List ℕ → List ℕ
 bytes_of words = flat_map (to_le_bytes w64) words
 
--- a player as a word
+-- the number of a player
 abbrev pub colour_number : Colour → ℕ
 colour_number Black = 0
 colour_number White = 1

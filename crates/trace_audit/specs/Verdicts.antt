@@ -60,13 +60,13 @@ AreClosed [] = Unit {0}
 AreClosed (t ∷ ts) = IsReadTree t × IsClosed t.shape t.words × AreClosed ts
 
 -- the tree is closed, its shape is one that can be searched, and its words are 64-bit numbers
-abbrev pub IsSearchedTree : ClosedTree → Type 0
-IsSearchedTree t = IsSetting t.shape × IsClosed t.shape t.words × AreWords t.words
+abbrev pub IsClosedTree : ClosedTree → Type 0
+IsClosedTree t = IsSetting t.shape × IsClosed t.shape t.words × AreWords t.words
 
 -- each of the trees is such a tree
 abbrev pub AreTrees : List ClosedTree → Type 0
 AreTrees [] = Unit {0}
-AreTrees (t ∷ ts) = IsSearchedTree t × AreTrees ts
+AreTrees (t ∷ ts) = IsClosedTree t × AreTrees ts
 
 -- the texts of the trees, one after another
 abbrev pub trace_texts : List ClosedTree → List ℕ

@@ -91,7 +91,7 @@ fn allowed_count(shape: &Shape) -> usize
 
 // Whether NEXT is at most the end of the root's block, so many times the other blocks' words, and
 // one largest block for each worker.
-fn has_room(words: &[u64], shape: &Shape, others: usize) -> bool
+fn is_next_bounded(words: &[u64], shape: &Shape, others: usize) -> bool
     requires long { length words.now ≡ end_of shape.now }
     requires few { others ≤ end_of shape.now }
     ensures { MatchBool result (IsNextBounded shape.now words.now others)
@@ -149,5 +149,5 @@ pub(crate) fn is_grown(words: &[u64], shape: &Shape, table: &Table, sums: &[u64]
     if words[NEXT_AT] <= words.len() as u64 && !each_frugal(words, sums, table, most) {
         return false;
     }
-    has_room(words, shape, table.others)
+    is_next_bounded(words, shape, table.others)
 }

@@ -4,14 +4,14 @@ ghost use Rattle.std.specs.Prelude.{◌≡◌, ℕ, List, [], length};
 ghost use Rattle.tree_words.specs.Closing.{ClosedTree};
 ghost use Rattle.trace_audit.specs.Told.{TellsClosed};
 ghost use Rattle.trace_audit.specs.Traces.{trace_text};
-ghost use Rattle.trace_audit.specs.Verdicts.{AreTexts, AreTrees, IsSearchedTree, IsVerdictOn};
+ghost use Rattle.trace_audit.specs.Verdicts.{AreTexts, AreTrees, IsClosedTree, IsVerdictOn};
 ghost use Rattle.trace_audit.specs.Verdicts.{trace_texts};
 ghost use Rattle.trace_audit.specs.declared.types.Audit.{Audit};
 
 /// The law of traces: the text of a closed tree tells a closed tree. Its shape is that of the tree,
 /// and its words are those below NEXT, the others being 0. It does nothing.
 pub fn traces_tell_closed_trees()
-    ensures { (tree : ClosedTree) → IsSearchedTree tree → TellsClosed tree (trace_text tree) }
+    ensures { (tree : ClosedTree) → IsClosedTree tree → TellsClosed tree (trace_text tree) }
 {}
 
 /// The law that traces are audited: the texts of closed trees, one after another, have the verdict

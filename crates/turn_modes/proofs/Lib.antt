@@ -4,5 +4,5 @@ mod Words
 mod Recorded
 mod Preferred
 mod Decided
-mod Said
+mod TextLaws
 mod Handed

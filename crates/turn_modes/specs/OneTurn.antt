@@ -19,7 +19,7 @@ use Rattle.hex_plan.specs.Seeds.{turn_knobs}
 use Rattle.hex_plan.specs.TurnTexts.{report_of}
 use Rattle.hex_plan.specs.Turns.{TurnData}
 use Rattle.hex_plan.specs.declared.plans.Planned.{Planned}
-use Rattle.sim_run.specs.Standing.{EndsSchedule}
+use Rattle.sim_run.specs.BetweenSteps.{EndsSchedule}
 use Rattle.turn_modes.specs.ModeTexts.{sim_text, report_by, bench_text}
 use Rattle.turn_modes.specs.Positions.{board_on, mover_after, shuffled_cells, placed_count}
 use Rattle.turn_modes.specs.Records.{records_in}

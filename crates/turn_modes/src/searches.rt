@@ -6,7 +6,7 @@ ghost use Rattle.hex_board.specs.Positions.{is_empty_at};
 ghost use Rattle.tree_words.specs.Sequence.{seq_of};
 ghost use Rattle.tree_words.specs.Settings.{AreInRange};
 ghost use Rattle.tree_words.specs.Trees.{IsTreeOf};
-ghost use Rattle.sim_run.specs.Standing.{EndsSchedule};
+ghost use Rattle.sim_run.specs.BetweenSteps.{EndsSchedule};
 ghost use Rattle.hex_plan.specs.Good.{IsTurnShape};
 ghost use Rattle.hex_plan.specs.Plans.{IsPlanned, IsSearchAmong};
 ghost use Rattle.turn_modes.specs.OneTurn.{FollowsSchedule, IsFirstTurn, IsSimTurn, MakesFirstTurn};

@@ -46,7 +46,7 @@ pub(super) const fn ample<'a>(words: &'a str, input: &'a [u8]) -> Case<'a> {
 
 /// What a run left.
 #[derive(Drop)]
-pub struct Left {
+pub struct RunResult {
     pub status: u8,
     pub link: MemLink,
     pub errors: MemLink,
@@ -112,7 +112,7 @@ pub(super) fn run_at<R: Threads + Sync + Alloc<A = Global>, G: Gate + Sync>(
     rt: &R,
     case: &Case,
     gate: &G,
-) -> Result<Left, Fail> {
+) -> Result<RunResult, Fail> {
     let alloc = rt.alloc();
     let words = words_of(alloc, case.words)?;
     let mut link = link_over(alloc, case.input, case.piece, case.bad_read, case.bad_write)?;
@@ -129,7 +129,7 @@ pub(super) fn run_at<R: Threads + Sync + Alloc<A = Global>, G: Gate + Sync>(
         &mut archive,
         gate,
     );
-    Ok(Left {
+    Ok(RunResult {
         status,
         link,
         errors,
@@ -141,7 +141,7 @@ pub(super) fn run_at<R: Threads + Sync + Alloc<A = Global>, G: Gate + Sync>(
 pub(super) fn run_of<R: Threads + Sync + Alloc<A = Global>>(
     rt: &R,
     case: &Case,
-) -> Result<Left, Fail> {
+) -> Result<RunResult, Fail> {
     run_at(rt, case, &OpenGate)
 }
 

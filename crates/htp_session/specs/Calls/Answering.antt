@@ -6,7 +6,7 @@ use Rattle.htp_line.specs.declared.request.Parsed.TheVariants as parsed
 use Rattle.hex_engine.specs.EngineState.{EngineState}
 use Rattle.hex_engine.specs.Supply.{Supply}
 use Rattle.htp_session.specs.Talk.{TalkState, after_line, after_reading}
-use Rattle.htp_session.specs.Stocks.{AnswersWith, Wants, UsesUpNothing}
+use Rattle.htp_session.specs.Usage.{AnswersWith, Wants, UsesUpNothing}
 use Rattle.htp_session.specs.Devices.{DevicesState, stock}
 use Rattle.htp_session.specs.declared.stops.Stop.{Stop}
 use Rattle.htp_session.specs.declared.stops.Stop.TheVariants.{ReadFault, WriteFault, Memory}

@@ -9,7 +9,7 @@ use Rattle.hex_engine.specs.Uses.{Answered}
 use Rattle.hex_engine.specs.Replies.{NoTurn}
 use Rattle.hex_engine.specs.Requests.{reaction}
 use Rattle.hex_engine.specs.declared.answers.Answer.{Answer}
-use Rattle.htp_session.specs.Stocks.{UsesUp, UsesUpNothing}
+use Rattle.htp_session.specs.Usage.{UsesUp, UsesUpNothing}
 use Rattle.htp_session.specs.Devices.{DevicesState, stock}
 use Rattle.htp_session.specs.declared.stops.Stop.{Stop}
 use Rattle.htp_session.specs.declared.stops.Stop.TheVariants.{ReadFault, WriteFault, Memory}

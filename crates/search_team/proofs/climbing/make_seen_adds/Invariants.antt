@@ -3,7 +3,7 @@ use Rattle.std.proofs.Common.{◌≡◌, ◌<◌, []}
 use Rattle.walker.specs.Machine.{with_climb}
 use Rattle.walker.specs.declared.TheConstants.{PAST_WORDS}
 use Rattle.tree_rule.specs.Seats.{IsOf}
-use Rattle.search_team.specs.Left.{work_left}
+use Rattle.search_team.specs.WorkLeft.{work_left}
 use Rattle.search_team.specs.Runs.{HasRun}
 use Rattle.search_team.proofs.climbing.make_seen_adds.Given as goal
 

@@ -4,7 +4,7 @@ use Rattle.walker.specs.Machine.{with_scan}
 use Rattle.walker.specs.Choosing.{MayChoose}
 use Rattle.walker.specs.declared.stages.Stage.TheVariants.{Scanning}
 use Rattle.tree_rule.specs.Seats.{IsOf}
-use Rattle.search_team.specs.Left.{work_left}
+use Rattle.search_team.specs.WorkLeft.{work_left}
 use Rattle.search_team.specs.Runs.{HasRun}
 use Rattle.search_team.proofs.scanning.look_at_children.Given as goal
 

@@ -3,7 +3,7 @@ use Rattle.std.proofs.Common.{◌<◌, sym, ◌∙◌, subst}
 use Rattle.arena_rule.specs.Views.{SeatView}
 use Rattle.arena_rule.specs.Fits.{FitsStep}
 use Rattle.walker.proofs.Fitting.{fits}
-use Rattle.search_team.specs.Left.{work_left}
+use Rattle.search_team.specs.WorkLeft.{work_left}
 use Rattle.search_team.proofs.Falls.{falls}
 use Rattle.search_team.proofs.working.step.Goals as goal
 

@@ -4,7 +4,7 @@ use Rattle.arena_rule.specs.Views.{opening_view}
 use Rattle.walker.specs.Belongs.{Belongs}
 use Rattle.lone_worker.specs.Alone.{HasRunAlone}
 use Rattle.tree_rule.specs.Seats.{IsOf}
-use Rattle.search_team.specs.Left.{work_left}
+use Rattle.search_team.specs.WorkLeft.{work_left}
 use Rattle.search_team.proofs.working.work.Given as goal
 
 abbrev pub invariant-steps : goal.invariant-steps

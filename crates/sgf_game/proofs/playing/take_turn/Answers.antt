@@ -1,5 +1,5 @@
 use Rattle.std.proofs.Common.{◌≡◌, Some, arith}
-use Rattle.sgf_game.specs.declared.turns.MoveText.TheVariants.{Plays}
+use Rattle.sgf_game.specs.declared.turns.MoveMeaning.TheVariants.{Plays}
 use Rattle.sgf_game.proofs.Refusals.{said_on_board}
 use Rattle.sgf_game.proofs.playing.take_turn.Goals as goal
 

@@ -1,6 +1,6 @@
 use Rattle.std.proofs.Common.{length}
 use Rattle.std.proofs.lemmas.Result.{err_from_is_err_and}
-use Rattle.sgf_tree.specs.Standing.{state_of}
+use Rattle.sgf_tree.specs.ReadingStates.{state_of}
 use Rattle.sgf_tree.proofs.Verdicts.{ok_of, unfinished_of}
 use Rattle.sgf_tree.proofs.Answering.{Answered, answers_ok, answers_not_sgf, answers_err}
 use Rattle.sgf_tree.proofs.parsing.parse.Goals as goal

@@ -1,5 +1,5 @@
 use Rattle.std.proofs.Common.{◌<◌, length, arith}
-use Rattle.sgf_tree.specs.Standing.{state_of}
+use Rattle.sgf_tree.specs.ReadingStates.{state_of}
 use Rattle.sgf_tree.proofs.Going.{too_many_at, goes_on}
 use Rattle.sgf_tree.proofs.parsing.read_all.Goals as goal
 

@@ -1,5 +1,5 @@
 use Rattle.std.proofs.Common.{take}
-use Rattle.sgf_tree.specs.Standing.{state_of}
+use Rattle.sgf_tree.specs.ReadingStates.{state_of}
 use Rattle.sgf_tree.specs.Verdict.{GoesTo}
 use Rattle.sgf_tree.proofs.parsing.read_all.Given as goal
 

@@ -1,6 +1,6 @@
 -- Between two steps.
 use Rattle.std.proofs.Common.{◌≡◌, length}
-use Rattle.sim_run.specs.Standing.{IsUnderway}
+use Rattle.sim_run.specs.BetweenSteps.{IsUnderway}
 use Rattle.sim_run.proofs.walk_tests.makes.Given as goal
 
 abbrev pub invariant-lines : goal.invariant-lines

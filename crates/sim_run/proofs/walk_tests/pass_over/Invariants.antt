@@ -1,6 +1,6 @@
 -- Between two steps.
 use Rattle.std.proofs.Common.{◌≡◌, length}
-use Rattle.sim_run.specs.Standing.{IsUnderway}
+use Rattle.sim_run.specs.BetweenSteps.{IsUnderway}
 use Rattle.sim_run.proofs.walk_tests.pass_over.Given as goal
 
 abbrev pub invariant-steps : goal.invariant-steps

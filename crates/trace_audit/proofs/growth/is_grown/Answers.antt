@@ -40,5 +40,5 @@ returns c = λ bs lk rec a.
       | else-words-via-then-words+else-not-each_frugal w ↦ λ l. subst (λ (m : ℕ). EachSite c.args.table.now (AreFrugal c.args.words.now c.args.sums.now m)) most (if_yes w.each_frugal.result _ _ w.each_frugal.ensures w.if-not-each_frugal.false)
       | else-words-via-else-words w ↦ λ l. absurd (omega (arith, w.if-words.false, l, c.requires.long))
     ] in
-    match_on c.has_room.result _ _ _ _ (grown_of c.args.shape.now c.args.words.now c.args.table.now bs c.board-board.ensures.setting c.requires.long lk c.args.sums.now a rec first frugal)
-    (λ n g. n (room_of c.args.shape.now c.args.words.now c.args.table.now bs c.board-board.ensures.setting c.requires.long lk c.args.sums.now a g)) c.has_room.ensures
+    match_on c.is_next_bounded.result _ _ _ _ (grown_of c.args.shape.now c.args.words.now c.args.table.now bs c.board-board.ensures.setting c.requires.long lk c.args.sums.now a rec first frugal)
+    (λ n g. n (room_of c.args.shape.now c.args.words.now c.args.table.now bs c.board-board.ensures.setting c.requires.long lk c.args.sums.now a g)) c.is_next_bounded.ensures

@@ -1,7 +1,7 @@
 use Rattle.std.proofs.Common.{rules}
 use Rattle.turn_modes.specs.OneTurn.{IsBenchmark}
 use Rattle.turn_modes.proofs.Handed.{handed_as}
-use Rattle.turn_modes.proofs.Said.{bench_size, bench_turn, benchmark_says}
+use Rattle.turn_modes.proofs.TextLaws.{bench_size, bench_turn, benchmark_says}
 use Rattle.turn_modes.proofs.modes.benchmark.Goals as goal
 
 pub returns-clause-benchmarked : goal.returns-clause-benchmarked

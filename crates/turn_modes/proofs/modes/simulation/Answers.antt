@@ -1,7 +1,7 @@
 use Rattle.std.proofs.Common.{rules}
 use Rattle.turn_modes.specs.OneTurn.{IsSimulation}
 use Rattle.turn_modes.proofs.Handed.{handed_as}
-use Rattle.turn_modes.proofs.Said.{simulation_says}
+use Rattle.turn_modes.proofs.TextLaws.{simulation_says}
 use Rattle.turn_modes.proofs.modes.simulation.Goals as goal
 
 pub returns-clause-simulated : goal.returns-clause-simulated

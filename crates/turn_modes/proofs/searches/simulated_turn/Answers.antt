@@ -2,7 +2,7 @@ use Rattle.std.proofs.Common.{◌≡◌, ℕ, ◌<◌, List, All, ap, subst, sym
 use Rattle.hex_cells.specs.declared.colours.Colour.TheVariants.{Black}
 use Rattle.tree_words.specs.Settings.{Setting}
 use Rattle.tree_words.specs.declared.settings.Knobs.{Knobs}
-use Rattle.sim_run.specs.Standing.{EndsSchedule}
+use Rattle.sim_run.specs.BetweenSteps.{EndsSchedule}
 use Rattle.turn_modes.specs.OneTurn.{IsFirstTurn}
 use Rattle.turn_modes.specs.Schedules.{schedule_of}
 use Rattle.turn_modes.proofs.Decided.{shape_of_tree, sequential_tree}

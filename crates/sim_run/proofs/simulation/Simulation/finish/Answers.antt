@@ -2,7 +2,7 @@
 use Rattle.std.proofs.Common.{rules, ◌≡◌, ◌<◌, true, false, suc, ◌∙◌, length, subst}
 use Rattle.tree_words.specs.Settings.{Setting}
 use Rattle.sim_run.specs.Steps.{data_of}
-use Rattle.sim_run.specs.Standing.{steps_to_come}
+use Rattle.sim_run.specs.BetweenSteps.{steps_to_come}
 use Rattle.sim_run.proofs.Along.{along-round}
 use Rattle.sim_run.proofs.simulation.Simulation.finish.Goals as goal
 

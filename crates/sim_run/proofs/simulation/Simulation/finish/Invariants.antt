@@ -1,6 +1,6 @@
 -- Between two rounds.
 use Rattle.std.proofs.Common.{◌≡◌, ℕ, length}
-use Rattle.sim_run.specs.Standing.{IsUnderway, steps_to_come}
+use Rattle.sim_run.specs.BetweenSteps.{IsUnderway, steps_to_come}
 use Rattle.sim_run.specs.Steps.{StepsAlong, data_of, rounds}
 use Rattle.sim_run.proofs.simulation.Simulation.finish.Given as goal
 

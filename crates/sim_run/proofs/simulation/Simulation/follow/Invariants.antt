@@ -1,6 +1,6 @@
 -- Between two entries of a schedule.
 use Rattle.std.proofs.Common.{◌≡◌, length, take}
-use Rattle.sim_run.specs.Standing.{IsUnderway}
+use Rattle.sim_run.specs.BetweenSteps.{IsUnderway}
 use Rattle.sim_run.specs.Steps.{StepsAlong, data_of}
 use Rattle.sim_run.proofs.simulation.Simulation.follow.Given as goal
 

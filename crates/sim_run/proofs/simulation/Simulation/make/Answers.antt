@@ -1,6 +1,6 @@
 -- New walkers, over the opening words.
 use Rattle.std.proofs.Common.{ℕ, List, sym, subst}
-use Rattle.sim_run.specs.Standing.{AreSimulated}
+use Rattle.sim_run.specs.BetweenSteps.{AreSimulated}
 use Rattle.sim_run.proofs.Beginning.{begins-simulated}
 use Rattle.sim_run.proofs.simulation.Simulation.make.Goals as goal
 

@@ -1,7 +1,7 @@
 -- One more walker had its turn.
 use Rattle.std.proofs.Common.{rules, ◌≡◌, ◌<◌, Bool, IfSome, true, false, is_some, sym, ◌∙◌, ◌+◌, subst, arith}
 use Rattle.tree_words.specs.Settings.{Setting}
-use Rattle.sim_run.specs.Standing.{steps_to_come}
+use Rattle.sim_run.specs.BetweenSteps.{steps_to_come}
 use Rattle.sim_run.specs.Steps.{data_of}
 use Rattle.sim_run.proofs.Along.{along-worker}
 use Rattle.sim_run.proofs.Rounds.{HaveStepped, round-stepped, round-passed, round-over}

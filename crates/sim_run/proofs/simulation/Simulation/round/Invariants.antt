@@ -1,7 +1,7 @@
 -- Between two steps of a round.
 use Rattle.std.proofs.Common.{◌≡◌, length}
 use Rattle.std.specs.List.{range_with_len}
-use Rattle.sim_run.specs.Standing.{IsUnderway}
+use Rattle.sim_run.specs.BetweenSteps.{IsUnderway}
 use Rattle.sim_run.specs.Steps.{StepsAlong, data_of}
 use Rattle.sim_run.proofs.Rounds.{HaveStepped}
 use Rattle.sim_run.proofs.simulation.Simulation.round.Given as goal

@@ -1,6 +1,6 @@
 use Rattle.std.proofs.Common.{◌≡◌, ℕ, ◌+◌, ◌*◌, ap, ◌∙◌, arith}
 use Rattle.trace_audit.proofs.InBlock.{le_match}
-use Rattle.trace_audit.proofs.growth.has_room.Goals as goal
+use Rattle.trace_audit.proofs.growth.is_next_bounded.Goals as goal
 
 pub returns : goal.returns
 returns c =

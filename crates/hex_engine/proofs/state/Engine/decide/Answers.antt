@@ -3,7 +3,7 @@ use Rattle.hex_game.specs.Games.{board_of}
 use Rattle.hex_plan.specs.Openings.{may_move}
 use Rattle.hex_engine.specs.EngineState.{EngineState}
 use Rattle.hex_engine.proofs.Using.{has_empty}
-use Rattle.hex_engine.proofs.standing.Engine.decide.Goals as goal
+use Rattle.hex_engine.proofs.state.Engine.decide.Goals as goal
 
 pub plan-requires-clause-room : goal.plan-requires-clause-room
 plan-requires-clause-room g c =

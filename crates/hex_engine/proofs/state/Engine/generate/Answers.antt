@@ -4,7 +4,7 @@ use Rattle.hex_plan.specs.Openings.{may_move}
 use Rattle.hex_engine.specs.EngineState.{EngineState}
 use Rattle.hex_engine.specs.MoveReplies.{moving_by}
 use Rattle.hex_engine.proofs.Using.{nothing_moved, over_reply, moved_reply, reacts_reply, if_ok}
-use Rattle.hex_engine.proofs.standing.Engine.generate.Goals as goal
+use Rattle.hex_engine.proofs.state.Engine.generate.Goals as goal
 
 pub returns-in_default-clause-reply : goal.returns-in_default-clause-reply
 returns-in_default-clause-reply g c = ([], nothing_moved _ _, λ later. ap (moving_by c.args.self.now later) (sym c.lone_colour.ensures ∙ c.in_default.is))

@@ -4,6 +4,7 @@ ghost use Rattle.std.specs.Prelude.{◌≡◌, IfOk, OnErr, Ok, Err};
 ghost use Rattle.hex_io.specs.Causes.{CountsFault};
 ghost use Rattle.hex_io.specs.Told.{Same};
 ghost use Rattle.tree_words.specs.Settings.{AreInRange};
+ghost use Rattle.hex_engine.specs.Faults.{IsArchiveFault, IsReadFault};
 ghost use Rattle.hex_engine.specs.EngineState.{opening};
 ghost use Rattle.hex_engine.specs.Replies.{NoTurn};
 ghost use Rattle.hex_engine.specs.Requests.{reaction};
@@ -119,9 +120,9 @@ impl Engine {
 
         // The causes.
         ensures read_fault { CountsFault (F.faults shelf.old) (F.faults shelf.new)
-            (result ≡ Ok (Answer.Fail Fail.ReadFault)) }
+            (IsReadFault result) }
         ensures archive_fault { CountsFault (A.faults archive.old) (A.faults archive.new)
-            (result ≡ Err EngineError.Archive) }
+            (IsArchiveFault result) }
     {
         let args = request.args.as_slice();
         let Some(command) = Command::named(request.name.as_slice()) else {

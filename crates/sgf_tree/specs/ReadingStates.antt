@@ -25,19 +25,20 @@ abbrev pub trees_of : Reading → Open
 trees_of r =
     record { outer = stack r.outer.items []; nodes = r.nodes.items; kids = row r.kids.items }
 
-abbrev pub standing : Place → Open → List Prop → List ℕ → List (List ℕ) → List ℕ → State
-standing Between o props name values value = between o
-standing Opened o props name values value = opened o
-standing InNode o props name values value = in_node o props
-standing InName o props name values value = in_name o props name
-standing AfterName o props name values value = after_name o props name
-standing InValue o props name values value = in_value o props name values value
-standing Escaped o props name values value = escaped o props name values value
-standing AfterValue o props name values value = after_value o props name values
+abbrev pub state_in_place : Place → Open → List Prop → List ℕ → List (List ℕ) → List ℕ → State
+state_in_place Between o props name values value = between o
+state_in_place Opened o props name values value = opened o
+state_in_place InNode o props name values value = in_node o props
+state_in_place InName o props name values value = in_name o props name
+state_in_place AfterName o props name values value = after_name o props name
+state_in_place InValue o props name values value = in_value o props name values value
+state_in_place Escaped o props name values value = escaped o props name values value
+state_in_place AfterValue o props name values value = after_value o props name values
 
 -- where a `Reading` stands
 abbrev pub state_of : Reading → State
-state_of r = standing r.place (trees_of r) r.props.items r.name.items r.values.items r.value.items
+state_of r =
+    state_in_place r.place (trees_of r) r.props.items r.name.items r.values.items r.value.items
 
 -- so many trees are open, and no more than may be
 abbrev pub IsShallow : Open → Type 0

@@ -4,7 +4,7 @@ use Rattle.hex_engine.specs.declared.files.Loaded.TheVariants.{Unread, Refused, 
 use Rattle.hex_engine.specs.Uses.{Loading}
 use Rattle.hex_engine.specs.LoadReplies.{loading_by}
 use Rattle.hex_engine.proofs.Using.{unfetched, loads_reply}
-use Rattle.hex_engine.proofs.standing.Engine.load.Goals as goal
+use Rattle.hex_engine.proofs.state.Engine.load.Goals as goal
 
 pub returns-in_default-clause-reply : goal.returns-in_default-clause-reply
 returns-in_default-clause-reply g c = ([], unfetched _, λ later. ap (loading_by c.args.self.now later) (sym c.in_default.ensures))
