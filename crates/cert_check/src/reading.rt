@@ -1,5 +1,5 @@
-//! What each line gives, or the first reason against it: `adj` and the claim here, the other forms in
-//! files of their own.
+//! What each line gives, or the first reason against it: `adj` and the claim here, the other forms
+//! in files of their own.
 
 ghost use Rattle.std.specs.Prelude.{◌≡◌, ℕ, ◌<◌, ◌↔◌, true, None, IfSome};
 ghost use Rattle.hex_board.specs.Elements.{element_count};
