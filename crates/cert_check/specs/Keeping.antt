@@ -1,4 +1,4 @@
--- What the checker keeps between two lines.
+-- What the checker keeps between two lines. No clause of a public call cites this.
 use Rattle.std.specs.Prelude.{◌≡◌, ℕ, ◌<◌, ◌||◌, ◌++◌, ◌∷◌, [], Bool, true, false}
 use Rattle.std.specs.Prelude.{List, Option, Some, None, Result, Ok, Err, All}
 use Rattle.std.specs.Option.{option_map}

@@ -99,7 +99,7 @@ same_self (Some x) = refl
 answers_nothing : (Answers : TextOf) (at : DevicesState) → AnswersTo Answers (Stopped Memory) at at
 answers_nothing Answers at = record {
   answered = (Err Memory, refl, input_nothing Answers INPUT_LIMIT at.link);
-  idle = record { stock = refl; fetches = refl; archives = refl };
+  idle = record { shelf_and_archive = refl; fetches = refl; archives = refl };
 }
 
 hands_nothing : (IsAnswer : Answer) (at : DevicesState) → HandsInTo IsAnswer (Stopped Memory) at at
@@ -121,16 +121,16 @@ does_nothing Bench options at = hands_nothing (IsBenchmark (mode_options options
 
 pub does_unfetched : (mode : Mode) (options : Options) (end : End) (old new : DevicesState) → ServesIn mode options end old new → may_fetch mode ≡ false → (new.shelf ≡ old.shelf) × (new.fetch_faults ≡ old.fetch_faults)
 does_unfetched Htp options end old new d idle = absurd (cc)
-does_unfetched Check options end old new d idle = (ap (λ (s : ShelfAndArchive). s.0) d.idle.stock, d.idle.fetches)
-does_unfetched Migrate options end old new d idle = (ap (λ (s : ShelfAndArchive). s.0) d.idle.stock, d.idle.fetches)
-does_unfetched Audit options end old new d idle = (ap (λ (s : ShelfAndArchive). s.0) d.idle.stock, d.idle.fetches)
+does_unfetched Check options end old new d idle = (ap (λ (s : ShelfAndArchive). s.0) d.idle.shelf_and_archive, d.idle.fetches)
+does_unfetched Migrate options end old new d idle = (ap (λ (s : ShelfAndArchive). s.0) d.idle.shelf_and_archive, d.idle.fetches)
+does_unfetched Audit options end old new d idle = (ap (λ (s : ShelfAndArchive). s.0) d.idle.shelf_and_archive, d.idle.fetches)
 does_unfetched Sim options end old new d idle = (d.shelf, d.fetches)
 does_unfetched Bench options end old new d idle = (d.shelf, d.fetches)
 
 pub does_unarchived : (mode : Mode) (options : Options) (end : End) (old new : DevicesState) → ServesIn mode options end old new → may_archive mode ≡ false → (new.turns ≡ old.turns) × (new.archive_faults ≡ old.archive_faults)
 does_unarchived Htp options end old new d idle = absurd (cc)
-does_unarchived Check options end old new d idle = (ap (λ (s : ShelfAndArchive). s.1) d.idle.stock, d.idle.archives)
-does_unarchived Migrate options end old new d idle = (ap (λ (s : ShelfAndArchive). s.1) d.idle.stock, d.idle.archives)
-does_unarchived Audit options end old new d idle = (ap (λ (s : ShelfAndArchive). s.1) d.idle.stock, d.idle.archives)
+does_unarchived Check options end old new d idle = (ap (λ (s : ShelfAndArchive). s.1) d.idle.shelf_and_archive, d.idle.archives)
+does_unarchived Migrate options end old new d idle = (ap (λ (s : ShelfAndArchive). s.1) d.idle.shelf_and_archive, d.idle.archives)
+does_unarchived Audit options end old new d idle = (ap (λ (s : ShelfAndArchive). s.1) d.idle.shelf_and_archive, d.idle.archives)
 does_unarchived Sim options end old new d idle = absurd (cc)
 does_unarchived Bench options end old new d idle = absurd (cc)

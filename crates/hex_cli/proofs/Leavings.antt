@@ -5,7 +5,7 @@ use Rattle.std.specs.Prelude.{◌↔◌}
 use Rattle.hex_io.specs.Shelves.{Shelved}
 use Rattle.hex_io.specs.Told.{Told, Both}
 use Rattle.hex_plan.specs.Turns.{TurnData}
-use Rattle.htp_session.specs.Devices.{DevicesState, stock}
+use Rattle.htp_session.specs.Devices.{DevicesState, shelf_and_archive}
 use Rattle.htp_session.specs.Endings.{since}
 use Rattle.htp_session.specs.Inputs.{TextOf}
 use Rattle.hexd_words.specs.declared.settings.Mode.{Mode}
@@ -25,9 +25,9 @@ use Rattle.hex_cli.proofs.Doings.{IsComplete, IsFaultless, IsLong, does_complete
 
 pub plays_as : (end other : End) (options : Options) (old new : DevicesState) (link : Option Told) (shelf : Option Shelved) (turns : Option (List TurnData))
     → end ≡ other → options.mode ≡ Htp → ServesIn options.mode options end old new → new.link ≡ link → new.shelf ≡ shelf → new.turns ≡ turns
-    → PlayedTo other (engine_options options) options.size INPUT_LIMIT (stock old) (shelf, turns) old.link link
+    → PlayedTo other (engine_options options) options.size INPUT_LIMIT (shelf_and_archive old) (shelf, turns) old.link link
 plays_as end other options old new link shelf turns e htp d l f t =
-    let plays : PlayedTo end (engine_options options) options.size INPUT_LIMIT (stock old) (stock new) old.link new.link = subst (λ m. ServesIn m options end old new) htp d in
+    let plays : PlayedTo end (engine_options options) options.size INPUT_LIMIT (shelf_and_archive old) (shelf_and_archive new) old.link new.link = subst (λ m. ServesIn m options end old new) htp d in
     rw (← e, ← l, ← f, ← t) plays
 
 pub answers_as : (Answers : TextOf) (end other : End) (old new : DevicesState) (link : Option Told) → end ≡ other → AnswersTo Answers end old new → new.link ≡ link → AnsweredTo Answers other old.link link

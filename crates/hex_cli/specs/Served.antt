@@ -8,7 +8,7 @@ use Rattle.hexd_words.specs.declared.settings.Mode.TheVariants.{Htp, Check, Migr
 use Rattle.hexd_words.specs.declared.settings.Mode.TheVariants.{Sim, Bench}
 use Rattle.hex_plan.specs.Turns.{TurnData}
 use Rattle.turn_modes.specs.OneTurn.{IsBenchmark, IsSimulation}
-use Rattle.htp_session.specs.Devices.{DevicesState, stock, link_and_archive}
+use Rattle.htp_session.specs.Devices.{DevicesState, shelf_and_archive, link_and_archive}
 use Rattle.htp_session.specs.Inputs.{TextOf}
 use Rattle.hex_cli.specs.AuditTexts.{IsAuditText}
 use Rattle.hex_cli.specs.CertTexts.{IsCheckText, IsMigrateText}
@@ -20,11 +20,11 @@ use Rattle.hex_cli.specs.declared.limits.TheConstants.{INPUT_LIMIT}
 abbrev pub PlaysTo : Options → End → DevicesState → DevicesState → Type 0
 PlaysTo options end old new =
     PlayedTo end (engine_options options) options.size INPUT_LIMIT
-    (stock old) (stock new) old.link new.link
+    (shelf_and_archive old) (shelf_and_archive new) old.link new.link
 
 -- nothing was fetched from the shelf and nothing handed to the archive
 pub record StandIdle (old new : DevicesState) : Type 0 where
-  pub stock : stock new ≡ stock old
+  pub shelf_and_archive : shelf_and_archive new ≡ shelf_and_archive old
   pub fetches : new.fetch_faults ≡ old.fetch_faults
   pub archives : new.archive_faults ≡ old.archive_faults
 

@@ -1,6 +1,6 @@
 //! Games from files: the command `loadsgf`.
 
-ghost use Rattle.std.specs.Prelude.{◌≡◌, List, [], ◌∷◌, IfOk, OnErr};
+ghost use Rattle.std.specs.Prelude.{◌≡◌, [], ◌∷◌, IfOk, OnErr};
 ghost use Rattle.hex_io.specs.Causes.{CountsFault};
 ghost use Rattle.hex_engine.specs.Faults.{IsReadFault};
 ghost use Rattle.hex_engine.specs.Calls.{AnswersLoad, FetchesInVain};

@@ -2,7 +2,6 @@
 
 ghost use Rattle.std.specs.Prelude.{◌≡◌, [], IfOk};
 ghost use Rattle.hex_board.specs.Joined.{winner_of};
-ghost use Rattle.hex_game.specs.Games.{board_of};
 ghost use Rattle.sgf_game.specs.Record.{record_of};
 ghost use Rattle.sgf_tree.specs.Printing.{trees_print};
 ghost use Rattle.hex_engine.specs.Commands.{all_names};

@@ -1,4 +1,4 @@
--- What a game keeps beside its start board and its steps.
+-- What a game keeps beside its start board and its steps. No clause of a public call cites this.
 use Rattle.std.specs.Prelude.{◌≡◌, ℕ, ◌+◌, ◌≤◌, true, List, [], ◌∷◌, ◌++◌, length}
 use Rattle.hex_cells.specs.Sets.{members}
 use Rattle.hex_cells.specs.declared.board_size.TheConstants.{MOST_CELLS}

@@ -1,11 +1,11 @@
 //! A game: a start board, the steps taken from it, and the board now.
 
-ghost use Rattle.std.specs.Prelude.{◌≡◌, ℕ, ◌<◌, ◌≤◌, ◌++◌, ◌∷◌, [], ◌↔◌, List, true, false, IfOk};
-ghost use Rattle.std.specs.Prelude.{OnOk, OnErr, IfErr, IsErr, vec_capacity, length, Some, None};
-ghost use Rattle.hex_board.specs.Positions.{Position, empty_board};
-ghost use Rattle.hex_game.specs.Moves.{step_of, lone_black_stone};
-ghost use Rattle.hex_game.specs.Games.{GameData, new_game, board_of, is_legal, is_legal_on};
-ghost use Rattle.hex_game.specs.Games.{refusal, refusal_on, with_step, without_last, moved};
+ghost use Rattle.std.specs.Prelude.{◌≡◌, ◌<◌, ◌≤◌, [], ◌↔◌, true, false, IfOk};
+ghost use Rattle.std.specs.Prelude.{OnOk, OnErr, IfErr, IsErr, vec_capacity, length, Some};
+ghost use Rattle.hex_board.specs.Positions.{empty_board};
+ghost use Rattle.hex_game.specs.Moves.{step_of};
+ghost use Rattle.hex_game.specs.Games.{GameData, new_game, board_of, is_legal};
+ghost use Rattle.hex_game.specs.Games.{refusal, with_step, without_last};
 ghost use Rattle.hex_game.specs.Games.{IsOnBoard, AreLegal};
 
 use super::moves::{MOST_STEPS, Memory, Move, NoMove, PlayError, Step};

@@ -21,7 +21,7 @@
 #![tactic(auto)]
 
 ghost use Rattle.std.specs.Prelude.{◌≡◌};
-ghost use Rattle.hex_game.specs.Games.{GameData, board_of, replay, after_step, with_step};
+ghost use Rattle.hex_game.specs.Games.{GameData, board_of, after_step, with_step};
 ghost use Rattle.hex_game.specs.Games.{without_last};
 ghost use Rattle.hex_game.specs.declared.moves.Step.{Step};
 

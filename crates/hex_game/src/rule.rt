@@ -1,11 +1,11 @@
 //! The rule of one step.
 
-ghost use Rattle.std.specs.Prelude.{◌≡◌, ℕ, true, false, List, Some, None, is_none, ◌+◌, ◌*◌, ◌<◌};
+ghost use Rattle.std.specs.Prelude.{◌≡◌, ℕ, true, false, Some, None, ◌+◌, ◌*◌, ◌<◌};
 ghost use Rattle.std.specs.Prelude.{◌≤◌, length};
-ghost use Rattle.hex_game.specs.Moves.{lone_black_stone, is_white};
-ghost use Rattle.hex_board.specs.Positions.{placed, empty_board, is_empty_at};
+ghost use Rattle.hex_game.specs.Moves.{lone_black_stone};
+ghost use Rattle.hex_board.specs.Positions.{placed, is_empty_at};
 ghost use Rattle.hex_game.specs.Kept.{IsFew, stones_on};
-ghost use Rattle.hex_game.specs.Games.{IsOnBoard, is_over, has_no_stone, may_swap, is_legal_on};
+ghost use Rattle.hex_game.specs.Games.{IsOnBoard, is_over, has_no_stone, may_swap};
 ghost use Rattle.hex_game.specs.Games.{refusal_on, moved, swapped, mirrored, Fits};
 
 use super::moves::{MOST_STEPS, Move, PlayError, Step};

@@ -1,7 +1,6 @@
 //! Each call once with ample memory, a swap that is taken, and each refusal.
 
-ghost use Rattle.std.specs.Prelude.{◌≡◌, ◌*◌, ◌<◌};
-ghost use Rattle.hex_game.specs.Games.{board_of};
+ghost use Rattle.std.specs.Prelude.{◌*◌, ◌<◌};
 
 use super::{Game, Move, NoMove, PlayError, Step};
 use hex_board::Board;

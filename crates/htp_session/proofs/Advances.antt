@@ -9,7 +9,7 @@ use Rattle.hex_engine.specs.EngineState.{EngineState}
 use Rattle.hex_engine.specs.Supply.{Supply, nothing_left, and_then}
 use Rattle.htp_session.specs.Talk.{TalkState, Going, ending_if}
 use Rattle.htp_session.specs.Usage.{ShelfAndArchive, UsesUp, UsesUpNothing, AnswersWith, Responds, Lacks}
-use Rattle.htp_session.specs.Devices.{DevicesState, stock}
+use Rattle.htp_session.specs.Devices.{DevicesState, shelf_and_archive}
 use Rattle.htp_session.specs.Calls.Answering.{Writes}
 use Rattle.htp_session.specs.declared.stops.Stop.{Stop}
 use Rattle.htp_session.specs.declared.stops.Stop.TheVariants.{ReadFault, WriteFault, Memory, TooLong, ArchiveFault}
@@ -33,8 +33,8 @@ pub refused : (d : DevicesState) (engine : EngineState) (says : Supply → TalkS
     → ((later : Supply) → says later ≡ record { text = text; at = engine; left = later; ending = Going })
     → OnOk result (out ≡ old ++ text) → IfOk result (λ quit. quit ≡ false) → ((s : Stop) → result ≡ Err s → s ≡ Memory)
     → Writes d d engine engine says old out result
-refused d engine says text old out (Ok quit) is wrote none only = (text, wrote, rw none (says_nothing_used engine.options (stock d) says text engine false is))
-refused d engine says text old out (Err Memory) is wrote none only = nothing_used engine.options (stock d)
+refused d engine says text old out (Ok quit) is wrote none only = (text, wrote, rw none (says_nothing_used engine.options (shelf_and_archive d) says text engine false is))
+refused d engine says text old out (Err Memory) is wrote none only = nothing_used engine.options (shelf_and_archive d)
 refused d engine says text old out (Err ReadFault) is wrote none only = let e = only ReadFault refl in absurd (cc)
 refused d engine says text old out (Err WriteFault) is wrote none only = let e = only WriteFault refl in absurd (cc)
 refused d engine says text old out (Err TooLong) is wrote none only = let e = only TooLong refl in absurd (cc)

@@ -7,7 +7,7 @@ use Rattle.htp_line.specs.Lines.{whole, lines}
 use Rattle.htp_line.specs.Splitting.{SplitterData, Advances, Ends, StandsAfter}
 use Rattle.hex_engine.specs.EngineState.{EngineState}
 use Rattle.htp_session.specs.Sessions.{Does, DoesSome, Advanced, GaveUp, HeldBack}
-use Rattle.htp_session.specs.Devices.{DevicesState, stock, CountsStop}
+use Rattle.htp_session.specs.Devices.{DevicesState, shelf_and_archive, CountsStop}
 use Rattle.htp_session.specs.Calls.Devices.{GivesAll}
 use Rattle.htp_session.specs.Calls.Answering.{WritesAnswer}
 use Rattle.htp_session.specs.Calls.Session.{AdvancesBy, AnswersEnd, Feeds, Finishes}
@@ -51,43 +51,43 @@ pub stopped_advance : (old new : DevicesState) (before after : Session) (engine 
     → WritesAnswer old new before.engine engine held.line out out_now (Err stop) → AdvancesBy old new before after piece (Err stop)
 stopped_advance old new before after engine held piece n out out_now ReadFault stream ended w = absurd w
 stopped_advance old new before after engine held piece n out out_now WriteFault stream ended w = absurd w
-stopped_advance old new before after engine held piece n out out_now Memory stream ended w = stopped_line (stock old) (stock new) before.engine before.splitter held piece n stream ended w
+stopped_advance old new before after engine held piece n out out_now Memory stream ended w = stopped_line (shelf_and_archive old) (shelf_and_archive new) before.engine before.splitter held piece n stream ended w
 stopped_advance old new before after engine held piece n out out_now TooLong stream ended w = absurd w
-stopped_advance old new before after engine held piece n out out_now ArchiveFault stream ended w = short_line (stock old) (stock new) before.engine before.splitter held piece n stream ended w
+stopped_advance old new before after engine held piece n out out_now ArchiveFault stream ended w = short_line (shelf_and_archive old) (shelf_and_archive new) before.engine before.splitter held piece n stream ended w
 
 pub stopped_end : (old new : DevicesState) (before after : Session) (engine : EngineState) (held : SplitterData) (out out_now : List ℕ) (stop : Stop)
     → ((seen : List ℕ) → StandsAfter before.splitter seen → Ends held.ended held.line (whole seen) (lines seen)) → held.ended ≡ true
     → WritesAnswer old new before.engine engine held.line out out_now (Err stop) → AnswersEnd old new before after (Err stop)
 stopped_end old new before after engine held out out_now ReadFault stream ended w = absurd w
 stopped_end old new before after engine held out out_now WriteFault stream ended w = absurd w
-stopped_end old new before after engine held out out_now Memory stream ended w = stopped_last (stock old) (stock new) before.engine before.splitter held stream ended w
+stopped_end old new before after engine held out out_now Memory stream ended w = stopped_last (shelf_and_archive old) (shelf_and_archive new) before.engine before.splitter held stream ended w
 stopped_end old new before after engine held out out_now TooLong stream ended w = absurd w
-stopped_end old new before after engine held out out_now ArchiveFault stream ended w = lacking_last (stock old) (stock new) before.engine before.splitter held stream ended w
+stopped_end old new before after engine held out out_now ArchiveFault stream ended w = lacking_last (shelf_and_archive old) (shelf_and_archive new) before.engine before.splitter held stream ended w
 
 -- ---- a piece
 
 -- memory or a turn was wanted for the next line
 pub fed_stopped : (old mid new : DevicesState) (before session after : Session) (piece : List ℕ) (at : ℕ) (stop : Stop)
-    → Does (stock old) (stock mid) [] before.engine before.splitter (FedTo old.link mid.link session.engine session.splitter (take at piece))
+    → Does (shelf_and_archive old) (shelf_and_archive mid) [] before.engine before.splitter (FedTo old.link mid.link session.engine session.splitter (take at piece))
     → AdvancesBy mid new session after (rest_of piece at) (Err stop) → new.link ≡ mid.link → Feeds old new before after piece (Err stop)
 fed_stopped old mid new before session after piece at ReadFault fed a link = absurd a
 fed_stopped old mid new before session after piece at WriteFault fed a link = absurd a
 fed_stopped old mid new before session after piece at Memory fed a link =
-    subst (λ x. DoesSome (stock old) (stock new) before.engine before.splitter (λ start all later seen. GaveUp old.link x start all later seen piece)) (sym link)
-    (fed_gave_up old.link mid.link (stock old) (stock mid) (stock new) before.engine session.engine before.splitter session.splitter piece at fed a)
+    subst (λ x. DoesSome (shelf_and_archive old) (shelf_and_archive new) before.engine before.splitter (λ start all later seen. GaveUp old.link x start all later seen piece)) (sym link)
+    (fed_gave_up old.link mid.link (shelf_and_archive old) (shelf_and_archive mid) (shelf_and_archive new) before.engine session.engine before.splitter session.splitter piece at fed a)
 fed_stopped old mid new before session after piece at TooLong fed a link = absurd a
 fed_stopped old mid new before session after piece at ArchiveFault fed a link =
-    subst (λ x. Does (stock old) (stock new) [] before.engine before.splitter (λ start all later seen. HeldBack old.link x start all later seen piece)) (sym link)
-    (fed_held_back old.link mid.link (stock old) (stock mid) (stock new) before.engine session.engine before.splitter session.splitter piece at fed a)
+    subst (λ x. Does (shelf_and_archive old) (shelf_and_archive new) [] before.engine before.splitter (λ start all later seen. HeldBack old.link x start all later seen piece)) (sym link)
+    (fed_held_back old.link mid.link (shelf_and_archive old) (shelf_and_archive mid) (shelf_and_archive new) before.engine session.engine before.splitter session.splitter piece at fed a)
 
 -- an answer was not given whole
 pub fed_unwritten : (old mid asked new : DevicesState) (before session after : Session) (piece : List ℕ) (at n : ℕ) (quit : Bool) (stop : Stop)
-    → Does (stock old) (stock mid) [] before.engine before.splitter (FedTo old.link mid.link session.engine session.splitter (take at piece))
-    → Does (stock mid) (stock asked) [] session.engine session.splitter (λ start all later seen. Advanced quit start all later after.engine after.splitter after.out.items seen (take n (rest_of piece at)))
-    → asked.link ≡ mid.link → stock new ≡ stock asked → GivesAll asked new after.out.items (Err stop) → Feeds old new before after piece (Err stop)
+    → Does (shelf_and_archive old) (shelf_and_archive mid) [] before.engine before.splitter (FedTo old.link mid.link session.engine session.splitter (take at piece))
+    → Does (shelf_and_archive mid) (shelf_and_archive asked) [] session.engine session.splitter (λ start all later seen. Advanced quit start all later after.engine after.splitter after.out.items seen (take n (rest_of piece at)))
+    → asked.link ≡ mid.link → shelf_and_archive new ≡ shelf_and_archive asked → GivesAll asked new after.out.items (Err stop) → Feeds old new before after piece (Err stop)
 fed_unwritten old mid asked new before session after piece at n quit ReadFault fed a link same g = absurd g
 fed_unwritten old mid asked new before session after piece at n quit WriteFault fed a link same g =
-    rw same (fed_broke_off old.link mid.link new.link (stock old) (stock mid) (stock asked) before.engine session.engine after.engine before.splitter session.splitter after.splitter after.out.items piece at n quit fed a (rw (← link) g))
+    rw same (fed_broke_off old.link mid.link new.link (shelf_and_archive old) (shelf_and_archive mid) (shelf_and_archive asked) before.engine session.engine after.engine before.splitter session.splitter after.splitter after.out.items piece at n quit fed a (rw (← link) g))
 fed_unwritten old mid asked new before session after piece at n quit Memory fed a link same g = absurd g
 fed_unwritten old mid asked new before session after piece at n quit TooLong fed a link same g = absurd g
 fed_unwritten old mid asked new before session after piece at n quit ArchiveFault fed a link same g = absurd g
@@ -105,10 +105,10 @@ end_stopped old new before after TooLong a link = absurd a
 end_stopped old new before after ArchiveFault a link = (rw link (same_link old), a)
 
 pub end_given : (old mid new : DevicesState) (before after : Session) (result : Result (Unit {0}) Stop)
-    → AnswersEnd old mid before after (Ok tt) → mid.link ≡ old.link → stock new ≡ stock mid → GivesAll mid new after.out.items result → Finishes old new before result
-end_given old mid new before after (Ok done) a link same g = rw same (last_given old.link new.link (stock old) (stock mid) before.engine before.splitter after.out.items a (rw (← link) g))
+    → AnswersEnd old mid before after (Ok tt) → mid.link ≡ old.link → shelf_and_archive new ≡ shelf_and_archive mid → GivesAll mid new after.out.items result → Finishes old new before result
+end_given old mid new before after (Ok done) a link same g = rw same (last_given old.link new.link (shelf_and_archive old) (shelf_and_archive mid) before.engine before.splitter after.out.items a (rw (← link) g))
 end_given old mid new before after (Err ReadFault) a link same g = absurd g
-end_given old mid new before after (Err WriteFault) a link same g = rw same (last_broke_off old.link new.link (stock old) (stock mid) before.engine before.splitter after.out.items a (rw (← link) g))
+end_given old mid new before after (Err WriteFault) a link same g = rw same (last_broke_off old.link new.link (shelf_and_archive old) (shelf_and_archive mid) before.engine before.splitter after.out.items a (rw (← link) g))
 end_given old mid new before after (Err Memory) a link same g = absurd g
 end_given old mid new before after (Err TooLong) a link same g = absurd g
 end_given old mid new before after (Err ArchiveFault) a link same g = absurd g

@@ -22,8 +22,8 @@ pub record DevicesState : Type 0 where
   pub names : ℕ × ℕ × ℕ
 
 -- what the shelf and the archive tell
-abbrev pub stock : DevicesState → ShelfAndArchive
-stock devices = (devices.shelf, devices.turns)
+abbrev pub shelf_and_archive : DevicesState → ShelfAndArchive
+shelf_and_archive devices = (devices.shelf, devices.turns)
 
 -- what the link and the archive tell
 abbrev pub link_and_archive : DevicesState → LinkAndArchive

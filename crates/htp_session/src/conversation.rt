@@ -1,6 +1,5 @@
 //! A conversation from its first byte to its end.
 
-ghost use Rattle.std.specs.Prelude.{◌≡◌};
 ghost use Rattle.tree_words.specs.Settings.{AreInRange};
 ghost use Rattle.htp_session.specs.Devices.{CountsFaults};
 ghost use Rattle.htp_session.specs.Calls.Conversation.{Converses};

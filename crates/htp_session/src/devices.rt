@@ -1,7 +1,7 @@
 //! The devices of a conversation: a link, a shelf and an archive, a runtime and a gate.
 
 ghost use Rattle.std.specs.Prelude.{◌≡◌, ◌<◌, ◌≤◌, length, IfOk};
-ghost use Rattle.htp_session.specs.Devices.{CountsFaults, stock};
+ghost use Rattle.htp_session.specs.Devices.{CountsFaults, shelf_and_archive};
 ghost use Rattle.htp_session.specs.Calls.Devices.{ReadsSome, GivesAll, Asks};
 
 use crate::inputs::read_some;
@@ -77,7 +77,7 @@ impl<L: Link, F: Shelf, A: Archive, R: Threads + Sync, G: Gate + Sync> Devices<
         requires fits { room ≤ length buffer.old }
         ensures bound { IfOk result (λ n. n ≤ room) }
         ensures reads { ReadsSome self.old self.new buffer.new result }
-        ensures stock { stock self.new ≡ stock self.old }
+        ensures shelf_and_archive { shelf_and_archive self.new ≡ shelf_and_archive self.old }
         ensures counts { CountsFaults self.old self.new result }
     {
         match read_some(&mut *self.link, buffer, room) {
@@ -89,7 +89,7 @@ impl<L: Link, F: Shelf, A: Archive, R: Threads + Sync, G: Gate + Sync> Devices<
     /// Gives all of the bytes. At a fault a front of them was given.
     pub fn give(&mut self, bytes: &[u8]) -> Result<(), Stop>
         ensures gives { GivesAll self.old self.new bytes.now result }
-        ensures stock { stock self.new ≡ stock self.old }
+        ensures shelf_and_archive { shelf_and_archive self.new ≡ shelf_and_archive self.old }
         ensures counts { CountsFaults self.old self.new result }
     {
         match give(&mut *self.link, bytes) {

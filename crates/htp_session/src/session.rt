@@ -4,7 +4,7 @@ ghost use Rattle.std.specs.Prelude.{◌≡◌, ◌<◌, ◌≤◌, length, IfOk,
 ghost use Rattle.tree_words.specs.Settings.{AreInRange};
 ghost use Rattle.hex_engine.specs.EngineState.{opening};
 ghost use Rattle.hex_engine.specs.Supply.{Supply};
-ghost use Rattle.htp_session.specs.Devices.{CountsFaults, stock};
+ghost use Rattle.htp_session.specs.Devices.{CountsFaults};
 
 use crate::answering::respond;
 use crate::devices::Devices;

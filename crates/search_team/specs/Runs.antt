@@ -1,4 +1,4 @@
--- A run of a walker over its view.
+-- A run of a walker over its view. No clause of a public call cites this.
 use Rattle.std.specs.Prelude.{◌≤◌}
 use Rattle.tree_words.specs.Settings.{Setting}
 use Rattle.arena_rule.specs.Views.{SeatView}

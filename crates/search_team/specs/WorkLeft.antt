@@ -1,4 +1,4 @@
--- What a worker has left to do.
+-- What a worker has left to do. No clause of a public call cites this.
 use Rattle.std.specs.Prelude.{ℕ, ◌+◌, ◌-◌, ◌*◌, ◌==◌, ◌||◌, if◌then◌else◌, zero, suc, Bool, false}
 use Rattle.std.specs.Prelude.{List, [], ◌∷◌, Option, Some, None}
 use Rattle.arena_rule.specs.Views.{SeatView, Walked}

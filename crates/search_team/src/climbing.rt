@@ -1,6 +1,6 @@
 //! The adds to a block's seen words, in a loop of their own.
 
-ghost use Rattle.std.specs.Prelude.{◌≡◌, ◌≢◌, ◌<◌, []};
+ghost use Rattle.std.specs.Prelude.{◌≢◌, ◌<◌, []};
 ghost use Rattle.walker.specs.Machine.{with_climb};
 ghost use Rattle.walker.specs.Belongs.{Belongs};
 ghost use Rattle.walker.specs.declared.TheConstants.{PAST_WORDS};

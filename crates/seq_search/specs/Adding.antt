@@ -1,4 +1,4 @@
--- What a walk adds, word by word.
+-- What a walk adds, word by word. No clause of a public call cites this.
 use Rattle.std.specs.Prelude.{◌≡◌, ◌≢◌, ℕ, ◌+◌, ◌<◌, if◌then◌else◌, true, List, length}
 use Rattle.std.specs.Prelude.{slice_index}
 use Rattle.hex_cells.specs.Sets.{has as has_cell}

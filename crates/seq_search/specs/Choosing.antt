@@ -1,4 +1,4 @@
--- The children of a block, as Choice reads them.
+-- The children of a block, as Choice reads them. No clause of a public call cites this.
 use Rattle.std.specs.Prelude.{ℕ, ◌+◌, ◌*◌, ◌<◌, List}
 use Rattle.tree_words.specs.Words.{tally_in, seen_in}
 use Rattle.tree_words.specs.Walks.{AtMost}

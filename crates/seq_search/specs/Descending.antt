@@ -1,4 +1,4 @@
--- How far a walk has come, and its leaf.
+-- How far a walk has come, and its leaf. No clause of a public call cites this.
 use Rattle.std.specs.Prelude.{◌≡◌, ℕ, ◌+◌, ◌≤◌, true, List, ◌++◌, length, take}
 use Rattle.hex_board.specs.Positions.{Position, is_empty_at}
 use Rattle.tree_words.specs.Settings.{Setting}

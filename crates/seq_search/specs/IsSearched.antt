@@ -1,4 +1,4 @@
--- What a search has reached after so many walks.
+-- What a search has reached after so many walks. No clause of a public call cites this.
 use Rattle.std.specs.Prelude.{◌≡◌, ℕ, ◌+◌, ◌<◌, ◌≤◌, true, List}
 use Rattle.tree_words.specs.Settings.{Setting}
 use Rattle.tree_words.specs.Words.{root_at, end_of, next_in, tally_in}

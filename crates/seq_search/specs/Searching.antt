@@ -1,4 +1,4 @@
--- What a search keeps from walk to walk.
+-- What a search keeps from walk to walk. No clause of a public call cites this.
 use Rattle.std.specs.Prelude.{◌≡◌, ℕ, ◌<◌, ◌≤◌, List}
 use Rattle.tree_words.specs.Settings.{Setting}
 use Rattle.tree_words.specs.Words.{root_at, next_in, ticket_in}

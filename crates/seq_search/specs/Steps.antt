@@ -1,4 +1,4 @@
--- What a search over plain words keeps between its steps.
+-- What a search over plain words keeps between its steps. No clause of a public call cites this.
 use Rattle.std.specs.Prelude.{◌≡◌, ℕ, ◌+◌, ◌<◌, ◌≤◌, true, List, length, slice_index}
 use Rattle.tree_words.specs.Settings.{Setting}
 use Rattle.tree_words.specs.Words.{root_at, end_of, next_in, record_in, tally_in, seen_in}

@@ -1,4 +1,4 @@
--- The writes of a new block.
+-- The writes of a new block. No clause of a public call cites this.
 use Rattle.std.specs.Prelude.{◌≡◌, ℕ, ◌+◌, ◌-◌, ◌≤◌, ◌&&◌, if◌then◌else◌, true, false, List, length}
 use Rattle.std.specs.Prelude.{slice_index, slice_set}
 use Rattle.tree_words.specs.Settings.{Setting}

@@ -1,4 +1,4 @@
--- Each tree of a list is smaller than the list.
+-- Each tree of a list is smaller than the list. No clause of a public call cites this.
 use Rattle.std.specs.Prelude.{◌≤◌, max, List, [], ◌∷◌}
 use Rattle.std.proofs.Common.{arith}
 use denote.Param.Weighed.{most}

@@ -1,4 +1,4 @@
--- Where a `Reading` stands, and what a byte makes of it.
+-- Where a `Reading` stands, and what a byte makes of it. No clause of a public call cites this.
 use Rattle.std.specs.Prelude.{◌≡◌, ℕ, ◌<◌, ◌≤◌, List, [], ◌∷◌, length, Option, Some, None, Result}
 use Rattle.std.specs.Prelude.{Ok, Err}
 use Rattle.sgf_tree.specs.declared.lists.Prop.{Prop}

@@ -1,6 +1,6 @@
 //! Parsing: the collection of a text, or where it stops being one.
 
-ghost use Rattle.std.specs.Prelude.{◌≡◌, ◌≤◌, ℕ, IfOk, IfSome, IfNone, Ok, Err};
+ghost use Rattle.std.specs.Prelude.{◌≡◌, ◌≤◌, ℕ, IfOk, Ok, Err};
 ghost use Rattle.sgf_tree.specs.Trees.{GameTrees, depth};
 ghost use Rattle.sgf_tree.specs.Grammar.{Text};
 ghost use Rattle.sgf_tree.specs.Printing.{HasText, max_depth};

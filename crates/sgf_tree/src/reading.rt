@@ -1,6 +1,6 @@
 //! The reader: what has been read so far, and one more byte.
 
-ghost use Rattle.std.specs.Prelude.{◌≡◌, [], ◌∷◌, Some, Err, OnOk, OnErr, IfSome, IfNone};
+ghost use Rattle.std.specs.Prelude.{◌≡◌, [], Some, Err, OnOk, OnErr, IfSome, IfNone};
 ghost use Rattle.sgf_tree.specs.Grammar.{is_white_space, is_capital};
 ghost use Rattle.sgf_tree.specs.Reading.{begin, turn, go_on, add_node, add_prop, in_value, opened};
 ghost use Rattle.sgf_tree.specs.Reading.{open_tree, close_into};

@@ -1,4 +1,4 @@
--- Steps on the words of a plain vector.
+-- Steps on the words of a plain vector. No clause of a public call cites this.
 use Rattle.std.specs.Prelude.{ℕ, ◌+◌, ◌<◌, ◌^◌}
 use Rattle.tree_words.specs.Sequence.{amount_of}
 use Rattle.tree_words.specs.declared.steps.Op.{Op}

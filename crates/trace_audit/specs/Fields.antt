@@ -1,4 +1,4 @@
--- The fields of a text, one by one.
+-- The fields of a text, one by one. No clause of a public call cites this.
 use Rattle.std.specs.Prelude.{◌≡◌, ℕ, ◌<◌, ◌≤◌, ◌^◌, List, slice_index}
 use Rattle.hex_cells.specs.declared.board_size.TheConstants.{MOST_CELLS}
 use Rattle.hex_board.specs.Positions.{IsPosition, Position}

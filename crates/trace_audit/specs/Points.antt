@@ -1,4 +1,4 @@
--- The points of a closed tree, block by block.
+-- The points of a closed tree, block by block. No clause of a public call cites this.
 use Rattle.std.specs.Prelude.{◌≡◌, ℕ, ◌+◌, ◌*◌, ◌<◌, ◌≤◌, true, List, length, slice_index}
 use Rattle.std.specs.Prelude.{slice_index_or, false, Bool, MatchBool}
 use Rattle.hex_board.specs.Positions.{Position, is_empty_at, placed}

@@ -1,5 +1,6 @@
 -- What the steps of a scan of the words answer: that the blocks are scanned further, or that the
--- words are linked by no blocks; and what is compared for it.
+-- words are linked by no blocks; and what is compared for it. No clause of a public call cites
+-- this.
 use Rattle.std.specs.Prelude.{◌≡◌, ℕ, ◌+◌, ◌<◌, ◌≤◌, true, Bool, List, [], length, slice_index}
 use Rattle.std.specs.Prelude.{MatchBool, MatchOption, Option}
 use Rattle.tree_words.specs.Blocks.{LinkedBlock, is_node, is_header_or_move, size}

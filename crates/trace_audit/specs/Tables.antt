@@ -1,4 +1,4 @@
--- The linked blocks, as they are found one by one.
+-- The linked blocks, as they are found one by one. No clause of a public call cites this.
 use Rattle.std.specs.Prelude.{◌≡◌, ◌⊎◌, ℕ, ◌+◌, ◌-◌, ◌<◌, ◌≤◌, ◌==◌, if◌then◌else◌, true, List, ◌∷◌}
 use Rattle.std.specs.Prelude.{length, slice_index, slice_index_or}
 use Rattle.hex_board.specs.Positions.{Position}

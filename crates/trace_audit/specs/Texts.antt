@@ -1,4 +1,4 @@
--- Words and texts in bytes.
+-- Words and texts in bytes. No clause of a public call cites this.
 use Rattle.std.specs.Prelude.{◌≡◌, ℕ, ◌+◌, ◌*◌, ◌≤◌, List, ◌++◌, length, take, drop, codes}
 use Rattle.tree_words.specs.Closing.{ClosedTree}
 use Rattle.tree_words.specs.Settings.{Setting, IsSetting}

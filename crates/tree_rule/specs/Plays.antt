@@ -1,4 +1,4 @@
--- What a step tells the seat that makes it.
+-- What a step tells the seat that makes it. No clause of a public call cites this.
 use Rattle.std.specs.Prelude.{◌≡◌, ℕ, ◌-◌, ◌==◌, true}
 use Rattle.atomic_table.specs.Table.{Me, Step}
 use Rattle.tree_words.specs.Sequence.{amount_of}

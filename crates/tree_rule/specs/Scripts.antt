@@ -1,4 +1,5 @@
--- Scripts: steps of two seats of one tree, with their answers.
+-- Scripts: steps of two seats of one tree, with their answers. No clause of a public call cites
+-- this.
 use Rattle.std.specs.Prelude.{◌≡◌, ◌≢◌, ℕ, Bool, if◌then◌else◌, None, List, [], ◌∷◌}
 use Rattle.hex_cells.specs.declared.colours.Colour.TheVariants.{Black, White}
 use Rattle.hex_board.specs.Positions.{Position}

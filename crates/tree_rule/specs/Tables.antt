@@ -1,4 +1,4 @@
--- The arena rule, as the rule of a table.
+-- The arena rule, as the rule of a table. No clause of a public call cites this.
 use Rattle.std.specs.Prelude.{ℕ}
 use Rattle.atomic_table.specs.Table.{State}
 use Rattle.tree_words.specs.Settings.{Setting}

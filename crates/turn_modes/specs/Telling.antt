@@ -1,4 +1,4 @@
--- What a text tells of a turn with a tree.
+-- What a text tells of a turn with a tree. No clause of a public call cites this.
 use Rattle.std.specs.Prelude.{◌≡◌, ℕ, List}
 use Rattle.std.specs.Option.{ForSome}
 use Rattle.tree_words.specs.Roots.{rows_of}

@@ -1,7 +1,6 @@
 //! The texts of modes sim and bench.
 
 ghost use Rattle.std.specs.Prelude.{◌≡◌, ◌*◌, ◌<◌, ◌++◌, IfOk, OnOk, IsSome, codes};
-ghost use Rattle.std.specs.Fmt.{decimal};
 ghost use Rattle.hex_cells.specs.Vertices.{vertex_of};
 ghost use Rattle.tree_words.specs.Roots.{rows_of};
 ghost use Rattle.turn_modes.specs.ModeTexts.{best_line, number_line};

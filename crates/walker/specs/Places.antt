@@ -1,4 +1,4 @@
--- The places of cells in a list.
+-- The places of cells in a list. No clause of a public call cites this.
 use Rattle.std.specs.Prelude.{◌≡◌, ℕ, ◌&&◌, nat_lt, List, length, slice_index}
 use Rattle.hex_cells.specs.Sets.{has as has_cell}
 

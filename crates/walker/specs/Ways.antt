@@ -1,4 +1,4 @@
--- The levels of a walk's way.
+-- The levels of a walk's way. No clause of a public call cites this.
 use Rattle.std.specs.Prelude.{ℕ, ◌<◌, List, [], ◌∷◌, take, reverse}
 use Rattle.walker.specs.declared.ways.Level.{Level}
 use Rattle.walker.specs.declared.TheConstants.{PAST_WORDS}

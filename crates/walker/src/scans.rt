@@ -1,6 +1,6 @@
 //! The scan of a block's children.
 
-ghost use Rattle.std.specs.Prelude.{◌≡◌, ◌+◌, ◌<◌, ◌≤◌, ◌^◌, IsTrue, ◌↔◌};
+ghost use Rattle.std.specs.Prelude.{◌≡◌, ◌+◌, ◌<◌, ◌≤◌, IsTrue, ◌↔◌};
 ghost use Rattle.tree_words.specs.Words.{count_in};
 ghost use Rattle.tree_words.specs.Walks.{AtMost};
 ghost use Rattle.walker.specs.Scans.{ScanData, CanScan, child_in, kept, scan_next, scan_of};

@@ -1,4 +1,4 @@
--- What an answer to a line does.
+-- What an answer to a line does. No clause of a public call cites this.
 use Rattle.std.specs.Prelude.{◌≡◌, ℕ, Bool, List, ◌++◌, Result, Ok, Err}
 use Rattle.std.specs.declared.option.Option.{Option}
 use Rattle.htp_line.specs.declared.request.Request.{Request}
@@ -7,7 +7,7 @@ use Rattle.hex_engine.specs.EngineState.{EngineState}
 use Rattle.hex_engine.specs.Supply.{Supply}
 use Rattle.htp_session.specs.Talk.{TalkState, after_line, after_reading}
 use Rattle.htp_session.specs.Usage.{AnswersWith, Wants, UsesUpNothing}
-use Rattle.htp_session.specs.Devices.{DevicesState, stock}
+use Rattle.htp_session.specs.Devices.{DevicesState, shelf_and_archive}
 use Rattle.htp_session.specs.declared.stops.Stop.{Stop}
 use Rattle.htp_session.specs.declared.stops.Stop.TheVariants.{ReadFault, WriteFault, Memory}
 use Rattle.htp_session.specs.declared.stops.Stop.TheVariants.{TooLong, ArchiveFault}
@@ -18,14 +18,15 @@ abbrev pub Writes : DevicesState → DevicesState → EngineState → EngineStat
     → List ℕ → List ℕ → Result Bool Stop → Type 0
 Writes old new before after says out out_now (Ok quit) =
     (bytes : List ℕ) × (out_now ≡ out ++ bytes)
-    × AnswersWith before.options (stock old) (stock new) says bytes after quit
+    × AnswersWith before.options (shelf_and_archive old) (shelf_and_archive new) says bytes after
+    quit
 Writes old new before after says out out_now (Err ReadFault) = ⊥
 Writes old new before after says out out_now (Err WriteFault) = ⊥
 Writes old new before after says out out_now (Err Memory) =
-    UsesUpNothing before.options (stock old) (stock new)
+    UsesUpNothing before.options (shelf_and_archive old) (shelf_and_archive new)
 Writes old new before after says out out_now (Err TooLong) = ⊥
 Writes old new before after says out out_now (Err ArchiveFault) =
-    Wants before.options (stock old) (stock new) before says
+    Wants before.options (shelf_and_archive old) (shelf_and_archive new) before says
 
 -- the same of a line, as far as it is kept
 abbrev pub WritesAnswer : DevicesState → DevicesState → EngineState → EngineState

@@ -1,10 +1,11 @@
 -- What a conversation does, from its first byte to its end.
 use Rattle.std.specs.Prelude.{ℕ}
 use Rattle.hex_engine.specs.declared.options.Options.{Options}
-use Rattle.htp_session.specs.Devices.{DevicesState, stock}
+use Rattle.htp_session.specs.Devices.{DevicesState, shelf_and_archive}
 use Rattle.htp_session.specs.Endings.{Outcome, Conversed}
 
 -- a conversation with these options, from an empty board of that size, came to this outcome
 abbrev pub Converses : Options → ℕ → ℕ → DevicesState → DevicesState → Outcome → Type 0
 Converses options size limit old new outcome =
-    Conversed outcome options size limit (stock old) (stock new) old.link new.link
+    Conversed outcome options size limit (shelf_and_archive old) (shelf_and_archive new)
+    old.link new.link

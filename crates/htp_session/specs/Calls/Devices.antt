@@ -10,7 +10,7 @@ use Rattle.hex_engine.specs.Replies.{NoTurn}
 use Rattle.hex_engine.specs.Requests.{reaction}
 use Rattle.hex_engine.specs.declared.answers.Answer.{Answer}
 use Rattle.htp_session.specs.Usage.{UsesUp, UsesUpNothing}
-use Rattle.htp_session.specs.Devices.{DevicesState, stock}
+use Rattle.htp_session.specs.Devices.{DevicesState, shelf_and_archive}
 use Rattle.htp_session.specs.declared.stops.Stop.{Stop}
 use Rattle.htp_session.specs.declared.stops.Stop.TheVariants.{ReadFault, WriteFault, Memory}
 use Rattle.htp_session.specs.declared.stops.Stop.TheVariants.{TooLong, ArchiveFault}
@@ -41,8 +41,8 @@ Asks old new before after request (Ok answer) =
 Asks old new before after request (Err ReadFault) = ⊥
 Asks old new before after request (Err WriteFault) = ⊥
 Asks old new before after request (Err Memory) =
-    UsesUpNothing before.options (stock old) (stock new)
+    UsesUpNothing before.options (shelf_and_archive old) (shelf_and_archive new)
 Asks old new before after request (Err TooLong) = ⊥
 Asks old new before after request (Err ArchiveFault) =
-    UsesUp before.options (stock old) (stock new) nothing_left []
+    UsesUp before.options (shelf_and_archive old) (shelf_and_archive new) nothing_left []
     × (reaction before nothing_left request ≡ Err NoTurn)

@@ -23,14 +23,14 @@ returns-in-Err-clause-counts g c = counts_then c.args.devices.now c.lines.device
 pub returns-in-Err-give-clause-feeds : goal.returns-in-Err-give-clause-feeds
 returns-in-Err-give-clause-feeds g c =
     fed_unwritten c.args.devices.now c.lines.devices c.advance.new.devices c.give.new.self c.args.self.now c.lines.self c.advance.new.self c.args.piece.now c.lines.at c.in-Ok.moved.used c.in-Ok.moved.quit c.in-Err-give.stop
-    c.lines.invariant.fed c.in-Ok.ensures.advances c.in-Ok.ensures.link c.in-Err-give.ensures.stock (subst (λ l. GivesAll c.advance.new.devices c.give.new.self l (Err c.in-Err-give.stop)) c.deref.ensures.value c.in-Err-give.ensures.gives)
+    c.lines.invariant.fed c.in-Ok.ensures.advances c.in-Ok.ensures.link c.in-Err-give.ensures.shelf_and_archive (subst (λ l. GivesAll c.advance.new.devices c.give.new.self l (Err c.in-Err-give.stop)) c.deref.ensures.value c.in-Err-give.ensures.gives)
 
 pub returns-in-Err-give-clause-counts : goal.returns-in-Err-give-clause-counts
 returns-in-Err-give-clause-counts g c = counts_then c.args.devices.now c.lines.devices _ _ c.lines.invariant.counts (counts_then c.lines.devices c.advance.new.devices _ _ c.in-Ok.ensures.counts c.in-Err-give.ensures.counts)
 
 pub returns-then-moved-clause-feeds : goal.returns-then-moved-clause-feeds
 returns-then-moved-clause-feeds g c =
-    rw c.in-Ok-give.ensures.stock (fed_quit _ c.lines.devices.link _ _ _ _ _ c.lines.self.engine _ _ c.lines.self.splitter _ _ c.args.piece.now c.lines.at c.in-Ok.moved.used
+    rw c.in-Ok-give.ensures.shelf_and_archive (fed_quit _ c.lines.devices.link _ _ _ _ _ c.lines.self.engine _ _ c.lines.self.splitter _ _ c.args.piece.now c.lines.at c.in-Ok.moved.used
     c.lines.invariant.fed (rw c.if-moved.true at c.in-Ok.ensures.advances) (rw (← c.in-Ok.ensures.link, ← c.deref.ensures.value) c.in-Ok-give.ensures.gives))
 
 pub returns-then-moved-clause-counts : goal.returns-then-moved-clause-counts
@@ -41,7 +41,7 @@ lines-preserved g c =
     let inv = c.lines.invariant in
     record {
       in_piece = grind (arith, common_steps, c.in-Ok.ensures.used.1);
-      fed = rw c.in-Ok-give.ensures.stock (fed_on _ c.lines.devices.link _ _ _ _ _ c.lines.self.engine _ _ c.lines.self.splitter _ _ c.args.piece.now c.lines.at c.in-Ok.moved.used
+      fed = rw c.in-Ok-give.ensures.shelf_and_archive (fed_on _ c.lines.devices.link _ _ _ _ _ c.lines.self.engine _ _ c.lines.self.splitter _ _ c.args.piece.now c.lines.at c.in-Ok.moved.used
           inv.fed (rw c.if-moved.false at c.in-Ok.ensures.advances) (rw (← c.in-Ok.ensures.link, ← c.deref.ensures.value) c.in-Ok-give.ensures.gives));
       counts = counts_then c.args.devices.now c.lines.devices _ _ inv.counts (counts_then c.lines.devices c.advance.new.devices _ _ c.in-Ok.ensures.counts c.in-Ok-give.ensures.counts);
     }

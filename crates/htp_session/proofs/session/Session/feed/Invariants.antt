@@ -1,6 +1,6 @@
 use Rattle.std.proofs.Common.{◌≤◌, ◌-◌, [], None, length, take}
 use Rattle.htp_session.specs.Sessions.{Does}
-use Rattle.htp_session.specs.Devices.{stock, CountsStop}
+use Rattle.htp_session.specs.Devices.{shelf_and_archive, CountsStop}
 use Rattle.htp_session.proofs.Feeding.{FedTo}
 use Rattle.htp_session.proofs.session.Session.feed.Given as goal
 
@@ -8,7 +8,7 @@ use Rattle.htp_session.proofs.session.Session.feed.Given as goal
 abbrev pub invariant-lines : goal.invariant-lines
 invariant-lines g l = record {
   in_piece : l.at ≤ length l.piece;
-  fed : Does (stock l.fn.devices) (stock l.devices) [] l.fn.self.engine l.fn.self.splitter (FedTo l.fn.devices.link l.devices.link l.self.engine l.self.splitter (take l.at l.piece));
+  fed : Does (shelf_and_archive l.fn.devices) (shelf_and_archive l.devices) [] l.fn.self.engine l.fn.self.splitter (FedTo l.fn.devices.link l.devices.link l.self.engine l.self.splitter (take l.at l.piece));
   counts : CountsStop l.fn.devices l.devices None;
 }
 
