@@ -9,7 +9,8 @@ use std::io::{self, ErrorKind, Read};
 use std::rt::HostRuntime;
 
 /// The files of the system, by path: one that doesn't exist is missing. What is no regular file is
-/// a counted fault, and so is any other failure to open or read.
+/// a counted fault, and so is any other failure to open or read: also a path that goes on behind a
+/// file, and a name longer than the system's names are.
 #[derive(Drop)]
 pub struct DirShelf<'a> {
     rt: &'a HostRuntime,
@@ -43,7 +44,7 @@ impl<'a> Shelf for DirShelf<'a> {
 /// it the very commands that are to come.
 fn read_file(rt: &HostRuntime, alloc: Global, path: &str) -> Result<Option<Vec<u8>>, ShelfError> {
     let file = match regular_file(rt, path) {
-        Err(error) if is_missing(error.kind()) => return Ok(None),
+        Err(error) if error.kind() == ErrorKind::NotFound => return Ok(None),
         Err(_) | Ok(None) => return Err(ShelfError::Fault),
         Ok(Some(file)) => file,
     };
@@ -63,13 +64,4 @@ fn regular_file(rt: &HostRuntime, path: &str) -> io::Result<Option<File>> {
     } else {
         Ok(None)
     }
-}
-
-/// Whether a path that failed so names nothing: nothing is there, a part before its end is no
-/// directory, or it is longer than a name may be.
-fn is_missing(kind: ErrorKind) -> bool {
-    matches!(
-        kind,
-        ErrorKind::NotFound | ErrorKind::NotADirectory | ErrorKind::InvalidFilename
-    )
 }
