@@ -1,25 +1,36 @@
 //! The shelf over the system's files: part of the trusted edge. It tells nothing of its files.
 
-ghost use Rattle.std.specs.Prelude.{None};
+ghost use Rattle.std.specs.Prelude.{◌≡◌, None};
 
 use super::shelves::{FILE_LIMIT, Shelf, ShelfError};
 use std::alloc::Global;
 use std::fs::{self, File};
 use std::io::{self, ErrorKind, Read};
+use std::marker::Model;
 use std::rt::HostRuntime;
 
 /// The files of the system, by path: one that doesn't exist is missing. What is no regular file is
 /// a counted fault, and so is any other failure to open or read: also a path that goes on behind a
-/// file, and a name longer than the system's names are.
+/// file, and a name longer than the system's names are. Contracts see its count of faults.
 #[derive(Drop)]
 pub struct DirShelf<'a> {
     rt: &'a HostRuntime,
     faults: u64,
 }
 
+impl<'a> Model for DirShelf<'a> {
+    ghost use Rattle.std.specs.Prelude.{ℕ};
+
+    ghost Value = { ℕ };
+
+    ghost view = { λ s. s.faults };
+}
+
 impl<'a> DirShelf<'a> {
     /// The files of the system, with no fault counted yet.
-    pub fn new(rt: &'a HostRuntime) -> DirShelf<'a> {
+    pub fn new(rt: &'a HostRuntime) -> DirShelf<'a>
+        ensures { result ≡ 0 }
+    {
         DirShelf { rt, faults: 0 }
     }
 }
@@ -27,7 +38,7 @@ impl<'a> DirShelf<'a> {
 impl<'a> Shelf for DirShelf<'a> {
     ghost told = { λ _. None };
 
-    ghost faults = { λ s. s.faults };
+    ghost faults = { λ s. s };
 
     fn fetch(&mut self, alloc: Global, name: &str) -> Result<Option<Vec<u8>>, ShelfError> {
         let file = read_file(self.rt, alloc, name);

@@ -9,13 +9,14 @@ use super::refusals::LinkFault;
 use super::standard::write_once;
 use super::words::Word;
 use std::fs::File;
+use std::marker::Model;
 use std::rt::HostRuntime;
 
 /// One file that is written from its start. Nothing is to come: a read answers 0.
 ///
 /// The file is made at the first write, or the one that stands there is emptied, so a link that
 /// nobody writes to touches no file. A file that could not be made is a counted fault at the first
-/// write and at each one after it.
+/// write and at each one after it. Contracts see the count of these faults.
 #[derive(Drop)]
 pub struct FileLink<'a> {
     rt: &'a HostRuntime,
@@ -34,9 +35,19 @@ enum Target {
     Refused,
 }
 
+impl<'a> Model for FileLink<'a> {
+    ghost use Rattle.std.specs.Prelude.{ℕ};
+
+    ghost Value = { ℕ };
+
+    ghost view = { λ s. s.write_faults };
+}
+
 impl<'a> FileLink<'a> {
     /// A link that writes the file of that path, with no fault counted yet. It touches no file.
-    pub fn new(rt: &'a HostRuntime, path: Word) -> FileLink<'a> {
+    pub fn new(rt: &'a HostRuntime, path: Word) -> FileLink<'a>
+        ensures { result ≡ 0 }
+    {
         FileLink {
             rt,
             target: Target::Path(path),
@@ -50,13 +61,13 @@ impl<'a> Link for FileLink<'a> {
 
     ghost read_faults = { λ _. 0 };
 
-    ghost write_faults = { λ s. s.write_faults };
+    ghost write_faults = { λ s. s };
 
     fn read(&mut self, buf: &mut [u8]) -> Result<usize, LinkFault>
         ensures bound { IfOk result (λ n. n ≤ length buf.new) }
         ensures told { ReadsBytes None None result buf.new }
         ensures cause { HasCause 0 0 result }
-        ensures writes { self.new.write_faults ≡ self.old.write_faults }
+        ensures writes { self.new ≡ self.old }
         ensures nothing { result ≡ Ok 0 }
     {
         Ok(0)
