@@ -16,3 +16,8 @@ pub record HasCause {T E : Type 0} (before now : ℕ) (result : Result T E) : Ty
   pub later : before ≤ now
   pub kept : OnOk result (now ≡ before)
   pub failed : OnErr result (Rose before now)
+
+-- the counts of faults of a link over the standard streams
+pub record FaultCounts : Type 0 where
+  pub reads : ℕ
+  pub writes : ℕ

@@ -1,24 +1,36 @@
 //! The shelf over the system's files: part of the trusted edge. It tells nothing of its files.
 
-ghost use Rattle.std.specs.Prelude.{None};
+ghost use Rattle.std.specs.Prelude.{◌≡◌, None};
 
 use super::shelves::{FILE_LIMIT, Shelf, ShelfError};
 use std::alloc::Global;
 use std::fs::{self, File};
 use std::io::{self, ErrorKind, Read};
+use std::marker::Model;
 use std::rt::HostRuntime;
 
 /// The files of the system, by path: one that doesn't exist is missing. What is no regular file is
-/// a counted fault, and so is any other failure to open or read.
+/// a counted fault, and so is any other failure to open or read: also a path that goes on behind a
+/// file, and a name longer than the system's names are. Contracts see its count of faults.
 #[derive(Drop)]
 pub struct DirShelf<'a> {
     rt: &'a HostRuntime,
     faults: u64,
 }
 
+impl<'a> Model for DirShelf<'a> {
+    ghost use Rattle.std.specs.Prelude.{ℕ};
+
+    ghost Value = { ℕ };
+
+    ghost view = { λ s. s.faults };
+}
+
 impl<'a> DirShelf<'a> {
     /// The files of the system, with no fault counted yet.
-    pub fn new(rt: &'a HostRuntime) -> DirShelf<'a> {
+    pub fn new(rt: &'a HostRuntime) -> DirShelf<'a>
+        ensures { result ≡ 0 }
+    {
         DirShelf { rt, faults: 0 }
     }
 }
@@ -26,7 +38,7 @@ impl<'a> DirShelf<'a> {
 impl<'a> Shelf for DirShelf<'a> {
     ghost told = { λ _. None };
 
-    ghost faults = { λ s. s.faults };
+    ghost faults = { λ s. s };
 
     fn fetch(&mut self, alloc: Global, name: &str) -> Result<Option<Vec<u8>>, ShelfError> {
         let file = read_file(self.rt, alloc, name);
@@ -43,7 +55,7 @@ impl<'a> Shelf for DirShelf<'a> {
 /// it the very commands that are to come.
 fn read_file(rt: &HostRuntime, alloc: Global, path: &str) -> Result<Option<Vec<u8>>, ShelfError> {
     let file = match regular_file(rt, path) {
-        Err(error) if is_missing(error.kind()) => return Ok(None),
+        Err(error) if error.kind() == ErrorKind::NotFound => return Ok(None),
         Err(_) | Ok(None) => return Err(ShelfError::Fault),
         Ok(Some(file)) => file,
     };
@@ -63,13 +75,4 @@ fn regular_file(rt: &HostRuntime, path: &str) -> io::Result<Option<File>> {
     } else {
         Ok(None)
     }
-}
-
-/// Whether a path that failed so names nothing: nothing is there, a part before its end is no
-/// directory, or it is longer than a name may be.
-fn is_missing(kind: ErrorKind) -> bool {
-    matches!(
-        kind,
-        ErrorKind::NotFound | ErrorKind::NotADirectory | ErrorKind::InvalidFilename
-    )
 }

@@ -10,9 +10,10 @@ ghost use Rattle.hex_io.specs.Causes.{HasCause};
 use super::links::Link;
 use super::refusals::LinkFault;
 use std::io::{Read, Write};
+use std::marker::Model;
 use std::rt::{HostRuntime, Stderr, Stdin, Stdout};
 
-/// Standard input and standard output.
+/// Standard input and standard output. Contracts see its two counts of faults.
 #[derive(Drop)]
 pub struct StdLink {
     input: Stdin,
@@ -21,9 +22,19 @@ pub struct StdLink {
     write_faults: u64,
 }
 
+impl Model for StdLink {
+    ghost use Rattle.hex_io.specs.Causes.{FaultCounts};
+
+    ghost Value = { FaultCounts };
+
+    ghost view = { λ s. record { reads = s.read_faults; writes = s.write_faults } };
+}
+
 impl StdLink {
     /// The standard streams of the process, with no fault counted yet.
-    pub fn new(rt: &HostRuntime) -> StdLink {
+    pub fn new(rt: &HostRuntime) -> StdLink
+        ensures { result ≡ record { reads = 0; writes = 0 } }
+    {
         StdLink {
             input: rt.stdin(),
             output: rt.stdout(),
@@ -36,9 +47,9 @@ impl StdLink {
 impl Link for StdLink {
     ghost told = { λ _. None };
 
-    ghost read_faults = { λ s. s.read_faults };
+    ghost read_faults = { λ s. s.reads };
 
-    ghost write_faults = { λ s. s.write_faults };
+    ghost write_faults = { λ s. s.writes };
 
     fn read(&mut self, buf: &mut [u8]) -> Result<usize, LinkFault> {
         match self.input.read(buf) {
@@ -55,16 +66,26 @@ impl Link for StdLink {
     }
 }
 
-/// Standard error. Nothing is to come: a read answers 0.
+/// Standard error. Nothing is to come: a read answers 0. Contracts see its count of faults.
 #[derive(Drop)]
 pub struct ErrLink {
     output: Stderr,
     write_faults: u64,
 }
 
+impl Model for ErrLink {
+    ghost use Rattle.std.specs.Prelude.{ℕ};
+
+    ghost Value = { ℕ };
+
+    ghost view = { λ s. s.write_faults };
+}
+
 impl ErrLink {
     /// Standard error of the process, with no fault counted yet.
-    pub fn new(rt: &HostRuntime) -> ErrLink {
+    pub fn new(rt: &HostRuntime) -> ErrLink
+        ensures { result ≡ 0 }
+    {
         ErrLink {
             output: rt.stderr(),
             write_faults: 0,
@@ -77,13 +98,13 @@ impl Link for ErrLink {
 
     ghost read_faults = { λ _. 0 };
 
-    ghost write_faults = { λ s. s.write_faults };
+    ghost write_faults = { λ s. s };
 
     fn read(&mut self, buf: &mut [u8]) -> Result<usize, LinkFault>
         ensures bound { IfOk result (λ n. n ≤ length buf.new) }
         ensures told { ReadsBytes None None result buf.new }
         ensures cause { HasCause 0 0 result }
-        ensures writes { self.new.write_faults ≡ self.old.write_faults }
+        ensures writes { self.new ≡ self.old }
         ensures nothing { result ≡ Ok 0 }
     {
         Ok(0)

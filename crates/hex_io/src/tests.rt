@@ -143,32 +143,85 @@ fn a_written_file_is_fetched(rt: HostRuntime) -> Result<(), Fail> {
     Ok(())
 }
 
-// Paths without a file, and what is there and no regular file: a directory, a device that never
-// ends, one that is empty, and one that keeps its reader waiting.
+// A file is fetched up to 1 MiB.
 #[test]
-fn the_system_has_files(rt: HostRuntime) {
+fn a_file_is_fetched_up_to_its_limit(rt: HostRuntime) -> Result<(), Fail> {
+    let alloc = rt.alloc();
     let mut shelf = DirShelf::new(&rt);
-    for name in ["no such file", "/dev/null/file", "no such folder/file"] {
-        assert!(rt; shelf.fetch(rt.alloc(), name) == Ok(None));
+    for (length, want) in [
+        (1_048_576, Ok(Some(1_048_576))),
+        (1_048_577, Err(ShelfError::TooLong)),
+    ] {
+        fs::write(&rt, "long", vec![in alloc; b' '; length]?)?;
+        let got = shelf
+            .fetch(alloc, "long")
+            .map(|found| found.map(|bytes| bytes.len()));
+        assert!(rt; got == want);
     }
-    for name in ["/", "/dev/zero", "/dev/null", "/dev/ptmx"] {
-        assert!(rt; shelf.fetch(rt.alloc(), name) == Err(ShelfError::Fault));
-    }
+    fs::remove_file(&rt, "long")?;
+    Ok(())
 }
 
-// A file is written from its start, over what stood there, and gives nothing to read.
+/// A name of so many letters.
+fn long_name(alloc: Global, length: usize) -> Result<String, AllocError> {
+    let mut name = String::new(alloc);
+    for _ in 0..length {
+        name.push('x')?;
+    }
+    Ok(name)
+}
+
+// Paths without a file, the longest name among them, and what is there and no regular file: a
+// directory, a device that never ends, one that is empty, and one that keeps its reader waiting. A
+// path behind a file, and a name too long for one, are read faults too.
+#[test]
+fn the_system_has_files(rt: HostRuntime) -> Result<(), Fail> {
+    let alloc = rt.alloc();
+    let mut shelf = DirShelf::new(&rt);
+    let (longest, longer) = (long_name(alloc, 255)?, long_name(alloc, 256)?);
+    for name in ["no such file", "no such folder/file", longest.as_str()] {
+        assert!(rt; shelf.fetch(alloc, name) == Ok(None));
+    }
+    let faults = [
+        "/",
+        "/dev/zero",
+        "/dev/null",
+        "/dev/ptmx",
+        "/dev/null/file",
+        longer.as_str(),
+    ];
+    for name in faults {
+        assert!(rt; shelf.fetch(alloc, name) == Err(ShelfError::Fault));
+    }
+    Ok(())
+}
+
+/// The link over a file of this name.
+fn file_link<'a>(rt: &'a HostRuntime, name: &str) -> Result<FileLink<'a>, AllocError> {
+    Ok(FileLink::new(rt, Word::of(String::from_str(rt.alloc(), name)?)))
+}
+
+// A file is made at the first write, and written from its start over what stood there. It gives
+// nothing to read.
 #[test]
 fn a_file_holds_what_its_link_was_given(rt: HostRuntime) -> Result<(), Fail> {
+    let alloc = rt.alloc();
     fs::write(&rt, "written", b"an older text".as_slice())?;
-    let mut link = FileLink::new(&rt, "written");
+    let mut shelf = DirShelf::new(&rt);
+    let mut link = file_link(&rt, "written")?;
+    assert!(rt; link.read(&mut [0u8; 4]) == Ok(0));
+    let found = shelf.fetch(alloc, "written")?;
+    assert!(rt; found.as_deref() == Some(b"an older text".as_slice()));
     assert!(rt; give(&mut link, b"two ") == Ok(()));
     assert!(rt; give(&mut link, b"parts") == Ok(()));
-    assert!(rt; link.read(&mut [0u8; 4]) == Ok(0));
-    let mut shelf = DirShelf::new(&rt);
-    let found = shelf.fetch(rt.alloc(), "written")?;
+    let found = shelf.fetch(alloc, "written")?;
     assert!(rt; found.as_deref() == Some(b"two parts".as_slice()));
     fs::remove_file(&rt, "written")?;
-    let mut nowhere = FileLink::new(&rt, "no such directory/written");
-    assert!(rt; give(&mut nowhere, b"x") == Err(LinkFault));
+    let _unused = file_link(&rt, "unwritten")?;
+    assert!(rt; shelf.fetch(alloc, "unwritten") == Ok(None));
+    let mut nowhere = file_link(&rt, "no such directory/written")?;
+    for _ in 0..2 {
+        assert!(rt; give(&mut nowhere, b"x") == Err(LinkFault));
+    }
     Ok(())
 }

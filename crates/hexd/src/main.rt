@@ -81,15 +81,17 @@ fn run_with<R: Threads + Sync, A: Archive>(
 }
 
 /// The archive over the file that the words name for traces, or none where they name none.
-fn archive_of(rt: &HostRuntime, words: &[Word]) -> Result<Option<TraceArchive<FileLink>>, End> {
+fn archive_of<'a>(
+    rt: &'a HostRuntime,
+    words: &[Word],
+) -> Result<Option<TraceArchive<FileLink<'a>>>, End> {
     let Ok(asked) = trace_name(rt.alloc(), words) else {
         return Err(End::Stopped(Stop::Memory));
     };
     let Some(name) = asked else {
         return Ok(None);
     };
-    let link = FileLink::new(rt, name.as_str());
-    match TraceArchive::make(rt.alloc(), link) {
+    match TraceArchive::make(rt.alloc(), FileLink::new(rt, name)) {
         Ok(archive) => Ok(Some(archive)),
         Err(_) => Err(End::Stopped(Stop::Memory)),
     }

@@ -77,6 +77,22 @@ fn check_writes<R: Abort + Threads + Sync + Alloc<A = Global>>(
     Ok(())
 }
 
+/// One read is made at the end of input: the one behind it would fail, and the run is as without.
+fn check_end<R: Abort + Threads + Sync + Alloc<A = Global>>(
+    rt: &R,
+    words: &str,
+    input: &[u8],
+    given: &[u8],
+    status: u8,
+) -> Result<(), Fail> {
+    let case = Case {
+        piece: 1,
+        bad_read: Some(u32::try_from(input.len()).unwrap_or(0).saturating_add(1)),
+        ..ample(words, input)
+    };
+    check(rt, "one-read-at-the-end", &case, given, status)
+}
+
 #[test]
 fn faults_each(rt: HostRuntime) -> Result<(), Fail> {
     let alloc = rt.alloc();
@@ -87,11 +103,13 @@ fn faults_each(rt: HostRuntime) -> Result<(), Fail> {
         assert!(rt; left.status <= 1, "{words}");
         if !input.is_empty() {
             check_reads(&rt, words, &input, left.link.given())?;
+            check_end(&rt, words, &input, left.link.given(), left.status)?;
         }
         check_writes(&rt, words, &input, left.link.given())?;
     }
     let input = bytes_of(alloc, V1)?;
     check_reads(&rt, "check", &input, b"")?;
+    check_end(&rt, "check", &input, b"yes semi\n", 0)?;
     check_writes(&rt, "check", &input, b"yes semi\n")
 }
 

@@ -1,19 +1,22 @@
-//! An input of one byte more than the limit.
+//! The longest input that a run answers, and one of a byte more.
 
 ghost use Rattle.std.specs.Prelude.{None};
 
-use super::runs::{link_over, shelf_with, words_of};
-use crate::limits::INPUT_LIMIT;
+use super::runs::{line_of, link_over, shelf_with, words_of};
 use crate::top::run;
 use hex_io::{Link, LinkFault};
 use hex_plan::NoArchive;
 use search_team::OpenGate;
+use std::alloc::Global;
+use std::process::Abort;
 use std::test::Fail;
+use std::thread::Threads;
 
-/// Line feeds without memory.
+/// Line feeds without memory, and how many reads were answered at their end.
 #[derive(Drop)]
 struct Feeds {
     left: usize,
+    ends: usize,
 }
 
 impl Link for Feeds {
@@ -27,6 +30,9 @@ impl Link for Feeds {
         let count = self.left.min(buf.len());
         buf[..count].fill(b'\n');
         self.left -= count;
+        if count == 0 {
+            self.ends = self.ends.saturating_add(1);
+        }
         Ok(count)
     }
 
@@ -35,18 +41,25 @@ impl Link for Feeds {
     }
 }
 
-/// `input-too-long`
-#[test]
-fn input_too_long(rt: HostRuntime) -> Result<(), Fail> {
+/// The run over so many line feeds ends with this status and its line, after so many reads at the
+/// end of input.
+fn check_feeds<R: Abort + Threads + Sync + Alloc<A = Global>>(
+    rt: &R,
+    mode: &str,
+    length: usize,
+    status: u8,
+    ends: usize,
+) -> Result<(), Fail> {
     let alloc = rt.alloc();
-    let words = words_of(alloc, "htp")?;
+    let words = words_of(alloc, mode)?;
     let mut link = Feeds {
-        left: INPUT_LIMIT + 1,
+        left: length,
+        ends: 0,
     };
     let mut errors = link_over(alloc, b"", 100, None, None)?;
     let mut shelf = shelf_with(alloc, b"", None)?;
-    let status = run(
-        &rt,
+    let ended = run(
+        rt,
         alloc,
         &words,
         &mut link,
@@ -55,7 +68,18 @@ fn input_too_long(rt: HostRuntime) -> Result<(), Fail> {
         &mut NoArchive,
         &OpenGate,
     );
-    assert_eq!(rt; status, 6);
-    assert_eq!(rt; errors.given(), b"hexd: input too long\n".as_slice());
+    assert_eq!(rt; ended, status, "{mode}, {length}");
+    assert_eq!(rt; errors.given(), line_of(status), "{mode}, {length}");
+    assert_eq!(rt; link.ends, ends, "{mode}, {length}");
     Ok(())
+}
+
+/// `longest-input` and `input-too-long`: 64 MiB are read to their end, and a byte more is the last
+/// one that is read.
+#[test]
+fn longest_inputs(rt: HostRuntime) -> Result<(), Fail> {
+    check_feeds(&rt, "htp", 67_108_864, 0, 1)?;
+    check_feeds(&rt, "htp", 67_108_865, 6, 0)?;
+    check_feeds(&rt, "audit", 67_108_864, 1, 1)?;
+    check_feeds(&rt, "audit", 67_108_865, 6, 0)
 }

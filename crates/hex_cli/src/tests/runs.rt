@@ -146,7 +146,7 @@ pub(super) fn run_of<R: Threads + Sync + Alloc<A = Global>>(
 }
 
 /// The line that a status gives to the errors.
-fn line_of(status: u8) -> &'static [u8] {
+pub(super) fn line_of(status: u8) -> &'static [u8] {
     match status {
         2 => b"hexd: usage\n",
         3 => b"hexd: read fault\n",

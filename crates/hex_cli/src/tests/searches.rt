@@ -66,6 +66,28 @@ fn four_playouts(rt: HostRuntime) -> Result<(), Fail> {
     Ok(())
 }
 
+/// `many-turns`: no turn leaves less memory to those after it.
+#[test]
+fn many_turns(rt: HostRuntime) -> Result<(), Fail> {
+    let alloc = rt.alloc();
+    let (mut input, mut given) = (Vec::new(alloc), Vec::new(alloc));
+    for _ in 0..500 {
+        input.extend_from_slice(b"genmove b\nundo\n")?;
+        given.extend_from_slice(b"= a1\n\n= \n\n")?;
+    }
+    for words in [
+        "htp --size 2 --hsearch off --playouts 1 --words 1024",
+        "htp --size 1",
+    ] {
+        let case = Case {
+            room: 500,
+            ..ample(words, &input)
+        };
+        check(&rt, "many-turns", &case, &given, 0)?;
+    }
+    Ok(())
+}
+
 /// How many of `count` words are not 0, of which the first is at `first` and each next one is
 /// `apart` words behind the one before.
 fn count_words(words: &[u64], first: usize, apart: usize, count: usize) -> usize {
