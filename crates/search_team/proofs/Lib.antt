@@ -4,3 +4,4 @@ pub mod Going
 pub mod Looks
 pub mod SeenAdds
 pub mod Halves
+pub mod ChildLooks
