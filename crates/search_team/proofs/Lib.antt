@@ -5,3 +5,4 @@ mod Going
 mod Looks
 mod SeenAdds
 mod Halves
+mod ChildLooks

@@ -24,7 +24,7 @@ use Rattle.search_team.proofs.Going.{is-done, not-done, step-falls, run-begins}
 use Rattle.std.proofs.lemmas.Bool.{lt-ltb}
 
 -- a scan that is not at its end is put back as it is
-lent : (w : Walker) (s : ScanData) → s.place < s.count → with_scan w s ≡ record w { scan = s }
+pub lent : (w : Walker) (s : ScanData) → s.place < s.count → with_scan w s ≡ record w { scan = s }
 unfolding with_scan
 lent w s l = let p : nat_lt s.place s.count ≡ true = lt-ltb s.place s.count l in rw p
 

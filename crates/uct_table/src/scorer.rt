@@ -4,21 +4,23 @@ ghost use Rattle.std.specs.Prelude.{◌≡◌, ◌+◌, ◌*◌, ◌<◌, ◌≤
 ghost use Rattle.uct_table.specs.Scores.{bonus_of, score_of};
 
 use super::reciprocal_roots::{TABLED_VISITS, reciprocal_root};
-use super::scoring::{
-    MOST_COUNT, MOST_WEIGHT, ROOT_SHIFT, bonus, is_mean_at_most, level, mean, root,
-};
+use super::scoring::{MOST_COUNT, MOST_WEIGHT, ROOT_SHIFT, is_mean_at_most, level, root, score};
 use std::marker::Model;
 
 /// A reciprocal root has 2^20th parts and a weight 2^8th, so the product of a factor and a
 /// reciprocal root has 2^28 parts of a bonus.
 const BOUND_SHIFT: u32 = 28;
 
+/// More visits than the table has are quartered until the quotient is below 4 times 2 to this.
+const LEAST_QUOTIENT_POWER: u32 = 8;
+
 /// The parent of a block's children: what their scores have in common.
 ///
 /// A search makes one for each block that it chooses in, and asks it of each child. Nearly every
 /// child is settled by products: its bonus is bounded by a factor that is made once, times the
-/// reciprocal root of its visits; its mean by what stands before it is rounded. Only a child whose
-/// score may be greater than the one that is kept is scored in full.
+/// reciprocal root of its visits, however many these are; its mean by what stands before it is
+/// rounded. Only a child whose score may be greater than the one that is kept is scored in full,
+/// and one that was visited and never seen.
 #[derive(Clone, Copy, Debug)]
 pub struct Parent {
     visits: u32,
@@ -63,6 +65,7 @@ impl Parent {
     ///
     /// A search that keeps the best child's score asks this of each later child. Counts are from 0
     /// to 1,048,576, and v is at least 1.
+    #[inline(always)]
     pub fn score_above(&self, kept: u64, v: u32, w: u32, a: u32, b: u32) -> Option<u64>
         requires visited { 1 ≤ v }
         requires counts { (v ≤ MOST_COUNT) × (w ≤ MOST_COUNT)
@@ -76,21 +79,24 @@ impl Parent {
         if most <= kept && is_mean_at_most(kept - most, v, w, a, b) {
             return None;
         }
-        let score = mean(v, w, a, b) + bonus(self.visits, v, self.weight);
+        let score = score(self.visits, v, w, a, b, self.weight);
         if kept < score { Some(score) } else { None }
     }
 
-    // No less than the bonus of v visits.
+    // No less than the bonus of v visits: that of v quartered until the table has it, halved as
+    // often, for the reciprocal root of a quarter is twice as great.
     #[tactic(auto, using(crate::proofs::Bounds::bonus_bound))]
+    #[inline(always)]
     pub(crate) fn most_bonus(&self, v: u32) -> u64
         requires visited { 1 ≤ v }
         requires visits { v ≤ MOST_COUNT }
         ensures { bonus_of self.now.visits v self.now.weight ≤ result }
     {
         if v < TABLED_VISITS {
-            (self.factor * reciprocal_root(v)) >> BOUND_SHIFT
-        } else {
-            bonus(self.visits, v, self.weight)
+            return (self.factor * reciprocal_root(v)) >> BOUND_SHIFT;
         }
+        let quarterings = (v.ilog2() - LEAST_QUOTIENT_POWER) / 2;
+        let quotient = v >> (2 * quarterings);
+        (self.factor * reciprocal_root(quotient)) >> (BOUND_SHIFT + quarterings)
     }
 }

@@ -48,7 +48,7 @@ type Row = (u32, u32, u32, u32, u32, u32, u64);
 
 #[test]
 fn scores(rt: HostRuntime) {
-    let rows: [Row; 16] = [
+    let rows: [Row; 21] = [
         (0, 1, 1, 0, 0, 180, 65_536),
         (1, 1, 1, 1, 1, 180, 65_536),
         (4, 1, 1, 2, 1, 180, 98_438),
@@ -66,6 +66,13 @@ fn scores(rt: HostRuntime) {
         (1_048_576, 1_048_576, 1_048_576, 1_048_576, 0, 1024, 66_676),
         (1_048_576, 1_048_576, 0, 0, 0, 1024, 1_144),
         (2, 1, 1, 1, 1, 180, 111_616),
+        // a forced win's third playout: without seen counts, and with a seen loss
+        (3, 2, 2, 0, 0, 180, 105_441),
+        (3, 1, 1, 0, 0, 180, 121_971),
+        (3, 2, 2, 1, 0, 180, 41_890),
+        // many visits: 34,078 + 3,350 and 34,454 + 3,350
+        (10_000, 2500, 1300, 0, 0, 180, 37_428),
+        (10_000, 2500, 1300, 400, 300, 180, 37_804),
     ];
     for (p, v, w, a, b, c, want) in rows {
         assert!(rt; v >= 1 && c <= 1024);
@@ -90,23 +97,27 @@ fn preferences(rt: HostRuntime) {
     assert!(rt; better(3, 2, 2, 2, 2, 1, 1, 1, 1, 180));
 }
 
-// The bound of a bonus is near it: for every level, and visits at the powers of two.
+// The bound of a bonus is near it, for every level: with visits that the table has by 5, and with
+// more by a 500th part and 5.
 #[test]
 fn bounds(rt: HostRuntime) {
+    let most_visits: [u32; 19] = [
+        1, 2, 4, 8, 16, 32, 64, 128, 256, 512, 1023, 1024, 1027, 1028, 4095, 4096, 65_535, 262_143,
+        1_048_576,
+    ];
     for weight in [0u32, 1, 7, 180, 256, 1024] {
         for power in 0..20u32 {
             for part in 0..256u32 {
                 let visits = (1u32 << power) + ((part << power) >> 8);
                 assert!(rt; visits <= 1_048_576 && weight <= 1024);
                 let parent = Parent::of(visits, weight);
-                for v in [
-                    1u32, 2, 4, 8, 16, 32, 64, 128, 256, 512, 1023, 1024, 1_048_576,
-                ] {
+                for v in most_visits {
                     assert!(rt; 1 <= v && v <= 1_048_576);
                     let exact = bonus(visits, v, weight);
                     let most = parent.most_bonus(v);
+                    let part = if v < 1024 { 0 } else { exact / 500 };
                     assert!(rt;
-                        exact <= most && most - exact <= 5,
+                        exact <= most && most - exact <= 5 + part,
                         "at {visits} {v} {weight}"
                     );
                 }

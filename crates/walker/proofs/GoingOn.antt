@@ -89,6 +89,14 @@ module _ (w : Walker) (v : SeatView) (b : Belongs w v) (x : ℕ) where
   few-in : (c : Count) → AtMost v.shape.knobs.playouts c → AtMost MOST_COUNT c
   few-in c h = let p = b.view.setting.ranges.playouts in (omega (arith, h.0, p), omega (arith, h.1, p))
 
+  -- the word of a child that is looked at next
+  pub scan-small : AtChild w v → w.scan.at < PAST_WORDS
+  scan-small a =
+      let y : ℕ = child a.block w.scan.place in
+      let k = in-child w.scan.phase v w.scan y a.scan.stands in
+      let inside = node-inside v.shape v.known y b.view.known (kid w v b x a w.scan.place (here w v b x a)) in
+      omega (arith, k, inside, small-end)
+
   module _ (a : AtChild w v) (may : MayAnswer v (Look w.scan.at) x) (iu : IsView (after v (Look w.scan.at) x)) where
     few-places : length a.block.cells ≤ 121
     few-places =
@@ -98,11 +106,9 @@ module _ (w : Walker) (v : SeatView) (b : Belongs w v) (x : ℕ) where
 
     can-look : CanScan w.scan x
     can-look =
-        let k = in-child w.scan.phase v w.scan (child a.block w.scan.place) a.scan.stands in
         let y : ℕ = child a.block w.scan.place in
-        let inside = node-inside v.shape v.known y b.view.known (kid w v b x a w.scan.place (here w v b x a)) in
         record {
-          at = omega (arith, k, inside, small-end);
+          at = scan-small a;
           place = let h = here w v b x a in omega (arith, h, few-places);
           tally = λ e. few-in (count_in w.scan.tally) (subst (λ (p : Phase). InChild p v w.scan y) e a.scan.stands).2;
           seen = λ e.

@@ -78,3 +78,10 @@ pub record CanScan (d : ScanData) (x : ℕ) : Type 0 where
   pub place : d.place < MOST_NODES
   pub tally : d.phase ≡ Seen → AtMost MOST_COUNT (count_in d.tally)
   pub seen : d.phase ≡ Seen → AtMost MOST_COUNT (count_in x)
+
+-- the scan may go on with the counts of a whole child, whose move is next
+pub record CanScanChild (d : ScanData) (t s : ℕ) : Type 0 where
+  pub at : d.at < PAST_WORDS
+  pub place : d.place < MOST_NODES
+  pub tally : AtMost MOST_COUNT (count_in t)
+  pub seen : AtMost MOST_COUNT (count_in s)

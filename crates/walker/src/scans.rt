@@ -1,9 +1,10 @@
 //! The scan of a block's children.
 
-ghost use Rattle.std.specs.Prelude.{◌≡◌, ◌+◌, ◌<◌, ◌≤◌, IsTrue, ◌↔◌};
+ghost use Rattle.std.specs.Prelude.{◌≡◌, ℕ, ◌+◌, ◌<◌, ◌≤◌, IsTrue, ◌↔◌};
 ghost use Rattle.tree_words.specs.Words.{count_in};
 ghost use Rattle.tree_words.specs.Walks.{AtMost};
-ghost use Rattle.walker.specs.Scans.{ScanData, CanScan, child_in, kept, scan_next, scan_of};
+ghost use Rattle.walker.specs.Scans.{ScanData, CanScan, CanScanChild, child_in, kept, scan_next};
+ghost use Rattle.walker.specs.Scans.{scan_of};
 
 use super::PAST_WORDS;
 use std::marker::Model;
@@ -134,8 +135,41 @@ impl Scan {
         }
     }
 
+    /// The three looks at the child in hand, where its move is next: those that three calls of
+    /// `op` give, whatever is answered in between.
+    #[inline(always)]
+    pub fn child_ops(&self) -> (Op, Op, Op)
+        requires phase { self.now.phase ≡ Phase.Move }
+        requires at { self.now.at < PAST_WORDS }
+        ensures first { result.0 ≡ Op.Look self.now.at }
+        ensures second { (a : ℕ) → result.1 ≡ Op.Look (scan_next self.now a).at }
+        ensures third { (a b : ℕ) → result.2 ≡ Op.Look (scan_next (scan_next self.now a) b).at }
+    {
+        (
+            Op::Look(self.at),
+            Op::Look(self.at + TALLY_WORD as u32),
+            Op::Look(self.at + SEEN_WORD as u32),
+        )
+    }
+
+    /// Takes the answers of the three looks at the child in hand, where its move is next: what
+    /// three calls of `got` make of it. Of the move's word nothing is kept.
+    #[inline(always)]
+    pub fn got_child(&mut self, moved: u64, tally: u64, seen: u64)
+        requires phase { self.old.phase ≡ Phase.Move }
+        requires can { CanScanChild self.old tally seen }
+        ensures { self.new ≡ scan_next (scan_next (scan_next self.old moved) tally) seen }
+    {
+        let _ = moved;
+        self.tally = tally;
+        self.keep(seen);
+        self.at += NODE_WORDS as u32;
+        self.place += 1;
+    }
+
     // Keeps the child in hand, whose seen word this is, where Choice prefers it.
     #[tactic(auto, unfolding(crate::specs::Scans::kept))]
+    #[inline(always)]
     fn keep(&mut self, seen: u64)
         requires tally { AtMost MOST_COUNT (count_in self.old.tally) }
         requires seen { AtMost MOST_COUNT (count_in seen) }
@@ -162,6 +196,14 @@ impl Scan {
         } else if self.place == 0 {
             self.visits = visits;
         }
+    }
+
+    /// Whether a child's move is looked at next.
+    #[inline(always)]
+    pub fn is_at_move(&self) -> bool
+        ensures { IsTrue result → self.now.phase ≡ Phase.Move }
+    {
+        matches!(self.phase, Phase::Move)
     }
 
     /// Whether all children were looked at.

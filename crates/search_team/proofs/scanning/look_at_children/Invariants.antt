@@ -3,6 +3,7 @@ use Rattle.std.proofs.Common.{◌≡◌, ◌≤◌}
 use Rattle.walker.specs.Machine.{with_scan}
 use Rattle.walker.specs.Choosing.{MayChoose}
 use Rattle.walker.specs.declared.stages.Stage.TheVariants.{Scanning}
+use Rattle.walker.specs.declared.scans.Phase.TheVariants.{Move}
 use Rattle.tree_rule.specs.Seats.{IsOf}
 use Rattle.search_team.specs.WorkLeft.{work_left}
 use Rattle.search_team.specs.Runs.{HasRun}
@@ -12,6 +13,7 @@ abbrev pub invariant-looks : goal.invariant-looks
 invariant-looks l = record {
   own : IsOf l.tree l.seat;
   stage : l.walker.stage ≡ Scanning;
+  phase : l.scan.phase ≡ Move;
   run : HasRun l.fn.walker l.fn.seat.view (with_scan l.walker l.scan) l.seat.view;
   last : l.scan.count ≤ l.scan.place → MayChoose (record l.walker { scan = l.scan });
 }
