@@ -1,18 +1,15 @@
+-- Laws for the layers above.
 pub mod Options
 pub mod Before
 pub mod Totals
 pub mod Changes
 pub mod Reach
-pub mod Below
-pub mod ByNumber
 pub mod Within
 pub mod Frames
 pub mod Amounts
 pub mod AddLaws
 pub mod Linking
 pub mod Apart
-pub mod SeatsBlocks
-pub mod Opening
 pub mod AnswersBlocks
 pub mod Numbers
 pub mod Tickets
@@ -21,23 +18,29 @@ pub mod InHand
 pub mod Widths
 pub mod Sole
 pub mod Room
-pub mod SeatsRoom
 pub mod CountSums
-pub mod Recorded
 pub mod LastSeat
-pub mod Closing
-pub mod SeatsNumbers
-pub mod AnswersNumbers
 pub mod Firsts
 pub mod SumsLinked
 pub mod SumsLaw
-pub mod SeatsCounts
-pub mod AnswersCounts
 pub mod Loaded
 pub mod FirstVisits
 pub mod LeafBound
-pub mod SeatsGrowth
 pub mod ViewStays
 pub mod ViewSeats
 pub mod Law
-pub mod RunLaws
+
+-- Steps of this crate's own proofs.
+mod Below
+mod ByNumber
+mod SeatsBlocks
+mod Opening
+mod SeatsRoom
+mod Recorded
+mod Closing
+mod SeatsNumbers
+mod AnswersNumbers
+mod SeatsCounts
+mod AnswersCounts
+mod SeatsGrowth
+mod RunLaws

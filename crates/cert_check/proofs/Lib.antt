@@ -1,7 +1,8 @@
-pub mod BadStones
-pub mod ChainReasons
-pub mod Passing
-pub mod Sharing
-pub mod ReasonLaws
-pub mod OrReasons
-pub mod Stepping
+-- Steps of this crate's own proofs.
+mod BadStones
+mod ChainReasons
+mod Passing
+mod Sharing
+mod ReasonLaws
+mod OrReasons
+mod Stepping

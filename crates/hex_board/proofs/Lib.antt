@@ -1,9 +1,12 @@
+-- Laws for the layers above.
 pub mod Parts
-pub mod Reach
 pub mod Roots
 pub mod Search
-pub mod Tabled
 pub mod WinLaws
 pub mod GroupLaws
 pub mod Places
 pub mod Placed
+
+-- Steps of this crate's own proofs.
+mod Reach
+mod Tabled

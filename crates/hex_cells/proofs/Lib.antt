@@ -1,12 +1,15 @@
+-- Laws for the layers above.
 pub mod Bits
-pub mod Around
 pub mod Beside
 pub mod Counts
 pub mod Digits
 pub mod Naming
-pub mod Ranks
-pub mod Shared
 pub mod Tables
 pub mod ColourLaws
 pub mod WithCell
 pub mod Ranges
+
+-- Steps of this crate's own proofs.
+mod Around
+mod Ranks
+mod Shared

@@ -1,7 +1,8 @@
-pub mod InputEnds
-pub mod HandedTurns
-pub mod Doings
-pub mod Leavings
-pub mod RunLaws
-pub mod DeterminedLaws
-pub mod GeneratedMoves
+-- Steps of this crate's own proofs.
+mod InputEnds
+mod HandedTurns
+mod Doings
+mod Leavings
+mod RunLaws
+mod DeterminedLaws
+mod GeneratedMoves

@@ -1,5 +1,8 @@
-pub mod Ranges
-pub mod Spelling
-pub mod Using
-pub mod Names
+-- Laws for the layers above.
 pub mod Legal
+
+-- Steps of this crate's own proofs.
+mod Ranges
+mod Spelling
+mod Using
+mod Names

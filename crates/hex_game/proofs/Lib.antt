@@ -1,3 +1,4 @@
-pub mod Chains
-pub mod Room
-pub mod Rules
+-- Steps of this crate's own proofs.
+mod Chains
+mod Room
+mod Rules

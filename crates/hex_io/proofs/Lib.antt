@@ -1,4 +1,7 @@
+-- Laws for the layers above.
 pub mod BothLaws
 pub mod GaveLaws
-pub mod Parts
 pub mod ResultLaws
+
+-- Steps of this crate's own proofs.
+mod Parts

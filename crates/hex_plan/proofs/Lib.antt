@@ -1,15 +1,18 @@
-pub mod Allowing
+-- Laws for the layers above.
 pub mod CertifiedMoves
-pub mod Collected
-pub mod Decides
-pub mod EdgeNumbers
-pub mod Lines
-pub mod MiddleOf
-pub mod Middles
-pub mod PlanLaws
 pub mod Reports
-pub mod Rows
 pub mod Rooms
 pub mod Same
-pub mod SureWins
-pub mod WinningCells
+
+-- Steps of this crate's own proofs.
+mod Allowing
+mod Collected
+mod Decides
+mod EdgeNumbers
+mod Lines
+mod MiddleOf
+mod Middles
+mod PlanLaws
+mod Rows
+mod SureWins
+mod WinningCells

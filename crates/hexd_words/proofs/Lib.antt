@@ -1,3 +1,4 @@
+-- Steps of this crate's own proofs.
 mod CommandLemmas
 mod NumberLemmas
 mod TextLemmas

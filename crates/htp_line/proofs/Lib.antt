@@ -1,2 +1,5 @@
+-- Laws for the layers above.
 pub mod LinesLaws
-pub mod SplitLaws
+
+-- Steps of this crate's own proofs.
+mod SplitLaws

@@ -1,26 +1,29 @@
-pub mod TalkLaws
-pub mod EndedLines
-pub mod LastLines
-pub mod Pieces
-pub mod Given
-pub mod Keeping
-pub mod Ends
-pub mod BrokenEnds
-pub mod EndLaws
-pub mod KeptOptions
-pub mod MoreLeft
+-- Laws for the layers above.
 pub mod TakenTurns
 pub mod SupplyLaws
-pub mod UsageLaws
-pub mod Advances
-pub mod Feeding
-pub mod Calling
 pub mod InputLaws
 pub mod Conversations
-pub mod PieceEnds
-pub mod InputEnds
-pub mod ReadLaws
-pub mod Outcomes
-pub mod OneWorkerLoads
-pub mod OneWorkerMoves
 pub mod OneWorker
+
+-- Steps of this crate's own proofs.
+mod TalkLaws
+mod EndedLines
+mod LastLines
+mod Pieces
+mod Given
+mod Keeping
+mod Ends
+mod BrokenEnds
+mod EndLaws
+mod KeptOptions
+mod MoreLeft
+mod UsageLaws
+mod Advances
+mod Feeding
+mod Calling
+mod PieceEnds
+mod InputEnds
+mod ReadLaws
+mod Outcomes
+mod OneWorkerLoads
+mod OneWorkerMoves

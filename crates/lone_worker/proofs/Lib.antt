@@ -1,22 +1,25 @@
-pub mod AtLeaf
-pub mod States
-pub mod Ways
-pub mod Counts
-pub mod Chosen
-pub mod Courses
-pub mod Leaves
-pub mod Walked
-pub mod Ground
-pub mod Looks
-pub mod Draws
-pub mod LeafCounts
-pub mod Standing
-pub mod Adds
-pub mod Claims
-pub mod Notes
-pub mod Publishes
-pub mod Steps
-pub mod Ends
-pub mod Begins
-pub mod Walkers
+-- Laws for the layers above.
 pub mod Machines
+
+-- Steps of this crate's own proofs.
+mod AtLeaf
+mod States
+mod Ways
+mod Counts
+mod Chosen
+mod Courses
+mod Leaves
+mod Walked
+mod Ground
+mod Looks
+mod Draws
+mod LeafCounts
+mod Standing
+mod Adds
+mod Claims
+mod Notes
+mod Publishes
+mod Steps
+mod Ends
+mod Begins
+mod Walkers

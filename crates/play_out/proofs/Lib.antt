@@ -1,6 +1,9 @@
+-- Laws for the layers above.
 pub mod Listing
-mod Shuffles
 pub mod Counting
+
+-- Steps of this crate's own proofs.
+mod Shuffles
 mod Turns
 mod Stones
-pub mod Filling
+mod Filling

@@ -1,6 +1,7 @@
-pub mod Numbers
-pub mod Falls
-pub mod Going
-pub mod Looks
-pub mod SeenAdds
-pub mod Halves
+-- Steps of this crate's own proofs.
+mod Numbers
+mod Falls
+mod Going
+mod Looks
+mod SeenAdds
+mod Halves

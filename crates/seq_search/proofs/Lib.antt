@@ -1,13 +1,16 @@
-pub mod Choices
-pub mod LinkLaws
+-- Laws for the layers above.
 pub mod Ways
-pub mod Standings
-pub mod Turns
-pub mod LeafBlocks
-pub mod Growing
-pub mod Openers
-pub mod Reaches
-pub mod Additions
-pub mod Paces
-pub mod Recordings
-pub mod Searches
+
+-- Steps of this crate's own proofs.
+mod Choices
+mod LinkLaws
+mod Standings
+mod Turns
+mod LeafBlocks
+mod Growing
+mod Openers
+mod Reaches
+mod Additions
+mod Paces
+mod Recordings
+mod Searches

@@ -1,9 +1,12 @@
+-- Laws for the layers above.
 pub mod Texts
-pub mod Lists
-pub mod Placing
-pub mod Refusals
-pub mod Rising
-pub mod Spelled
-pub mod SetUpBack
-pub mod StepsBack
-pub mod HasText
+
+-- Steps of this crate's own proofs.
+mod Lists
+mod Placing
+mod Refusals
+mod Rising
+mod Spelled
+mod SetUpBack
+mod StepsBack
+mod HasText

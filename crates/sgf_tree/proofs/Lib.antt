@@ -1,12 +1,15 @@
-pub mod RowLaws
-pub mod Stacks
-pub mod Choices
-pub mod Forward
-pub mod Backward
-pub mod Depths
-pub mod Completion
+-- Laws for the layers above.
 pub mod Verdicts
-pub mod Going
-pub mod Printed
-pub mod Answering
-pub mod Finishing
+
+-- Steps of this crate's own proofs.
+mod RowLaws
+mod Stacks
+mod Choices
+mod Forward
+mod Backward
+mod Depths
+mod Completion
+mod Going
+mod Printed
+mod Answering
+mod Finishing

@@ -1,8 +1,9 @@
-pub mod Zips
-pub mod Frames
-pub mod Stepping
-pub mod Beginning
-pub mod Closing
-pub mod Along
-pub mod Rounds
-pub mod Strays
+-- Steps of this crate's own proofs.
+mod Zips
+mod Frames
+mod Stepping
+mod Beginning
+mod Closing
+mod Along
+mod Rounds
+mod Strays

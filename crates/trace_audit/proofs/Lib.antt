@@ -1,43 +1,44 @@
-pub mod Gives
-pub mod Pieces
-pub mod Parts
-pub mod SameWords
-pub mod Reading
-pub mod FieldLaws
-pub mod WordBytes
-pub mod TextForm
-pub mod TextTree
-pub mod TextWords
-pub mod Standing
-pub mod LinkedBlocks
-pub mod Scanning
-pub mod Entering
-pub mod Skipping
-pub mod MustStand
-pub mod Passing
-pub mod Cells
-pub mod Matches
-pub mod EnterAll
-pub mod Beginning
-pub mod PassBlock
-pub mod LinkedLaws
-pub mod Seeing
-pub mod CountBounds
-pub mod Downward
-pub mod Climbing
-pub mod AtRoot
-pub mod Ways
-pub mod Placed
-pub mod AddNode
-pub mod WayUp
-pub mod Adding
-pub mod AddPlayout
-pub mod InBlock
-pub mod SiteLaws
-pub mod Verifying
-pub mod TextLists
-pub mod OneList
-pub mod OneGrown
-pub mod OneFlaw
-pub mod OneVerdict
-pub mod TracesTold
+-- Steps of this crate's own proofs.
+mod Gives
+mod Pieces
+mod Parts
+mod SameWords
+mod Reading
+mod FieldLaws
+mod WordBytes
+mod TextForm
+mod TextTree
+mod TextWords
+mod Standing
+mod LinkedBlocks
+mod Scanning
+mod Entering
+mod Skipping
+mod MustStand
+mod Passing
+mod Cells
+mod Matches
+mod EnterAll
+mod Beginning
+mod PassBlock
+mod LinkedLaws
+mod Seeing
+mod CountBounds
+mod Downward
+mod Climbing
+mod AtRoot
+mod Ways
+mod Placed
+mod AddNode
+mod WayUp
+mod Adding
+mod AddPlayout
+mod InBlock
+mod SiteLaws
+mod Verifying
+mod TextLists
+mod OneList
+mod OneGrown
+mod OneFlaw
+mod OneVerdict
+mod TracesTold

@@ -1,8 +1,9 @@
-pub mod Within
-pub mod Moves
-pub mod Ends
-pub mod Copies
-pub mod ScriptLaws
-pub mod OneCell
-pub mod TwoByTwo
-pub mod RaceScript
+-- Steps of this crate's own proofs.
+mod Within
+mod Moves
+mod Ends
+mod Copies
+mod ScriptLaws
+mod OneCell
+mod TwoByTwo
+mod RaceScript

@@ -1,4 +1,6 @@
 -- Linked blocks: what a newer block leaves, who is a node, links, what is told, and the one tree that they show.
+
+-- Laws for the layers above.
 pub mod BlockLaws
 pub mod Members
 pub mod NodeLaws

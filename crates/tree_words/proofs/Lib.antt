@@ -1,3 +1,4 @@
+-- Laws for the layers above.
 pub mod Blocks
 pub mod Boards
 pub mod NewBlocks

@@ -1,3 +1,4 @@
+-- Steps of this crate's own proofs.
 mod Placing
 mod Orders
 mod Words

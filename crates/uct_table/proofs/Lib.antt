@@ -1,8 +1,11 @@
-pub mod Roots
+-- Laws for the layers above.
 pub mod Keeping
 pub mod ChoiceLaws
-pub mod Means
 pub mod Choices
-pub mod Levels
-pub mod Bounds
-pub mod ReciprocalRoots
+
+-- Steps of this crate's own proofs.
+mod Roots
+mod Means
+mod Levels
+mod Bounds
+mod ReciprocalRoots

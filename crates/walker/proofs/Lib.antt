@@ -1,29 +1,32 @@
-pub mod Levels
-pub mod SeenAdds
-pub mod Keeping
-pub mod CellLaws
-pub mod Cases
+-- Laws for the layers above.
 pub mod KnownLaws
-pub mod AddWay
 pub mod Fitting
 pub mod Going
-pub mod KeepLaws
-pub mod ChildLaws
 pub mod LeafLaws
-pub mod KeepsDown
-pub mod KeepsHeader
-pub mod KeepsScan
-pub mod KeepsChoice
-pub mod KeepsLast
-pub mod KeepsChild
-pub mod KeepsBlock
-pub mod KeepsPublish
-pub mod KeepsUp
-pub mod KeepsAdds
 pub mod Keeps
 pub mod GoingOn
-pub mod Endings
 pub mod Falling
-pub mod MemberLaws
-pub mod BitLaws
-pub mod HoleLaws
+
+-- Steps of this crate's own proofs.
+mod Levels
+mod SeenAdds
+mod Keeping
+mod CellLaws
+mod Cases
+mod AddWay
+mod KeepLaws
+mod ChildLaws
+mod KeepsDown
+mod KeepsHeader
+mod KeepsScan
+mod KeepsChoice
+mod KeepsLast
+mod KeepsChild
+mod KeepsBlock
+mod KeepsPublish
+mod KeepsUp
+mod KeepsAdds
+mod Endings
+mod MemberLaws
+mod BitLaws
+mod HoleLaws

@@ -1,48 +1,51 @@
-mod Vectors
-pub mod SameTests
-pub mod StonesOn
-pub mod LinksOn
-pub mod ScopeBoards
-pub mod GoodEntries
-pub mod EdgeEntries
-pub mod NamedEntries
-pub mod Middles
-pub mod ChainLines
-pub mod CaseLines
-pub mod LineTruth
+-- Laws for the layers above.
 pub mod GivenEntries
-pub mod AcceptedLaw
-mod LawVectors
-pub mod Options
-pub mod Splitting
-pub mod NumberWords
-pub mod CellWords
-pub mod CellLists
 pub mod Joining
-pub mod LineParts
-pub mod WordParts
-pub mod CellSets
-pub mod StepWords
-pub mod StepMeans
-pub mod TextLines
-pub mod HeadMeans
-pub mod StepsMean
-pub mod PlainWords
-pub mod ReadMeans
-pub mod ReadBack
-pub mod BadLines
-pub mod HeadStages
-pub mod GoodFronts
-pub mod LongTexts
-pub mod BadHeads
-pub mod Parsed
-pub mod StepLines
-pub mod SameVerdict
 pub mod CutChains
 pub mod CutSteps
-pub mod CutLines
 pub mod CutVerdicts
-pub mod CutEnds
-pub mod CutMarks
 pub mod CutDerivations
-pub mod CutCertificates
+
+-- Steps of this crate's own proofs.
+mod Vectors
+mod SameTests
+mod StonesOn
+mod LinksOn
+mod ScopeBoards
+mod GoodEntries
+mod EdgeEntries
+mod NamedEntries
+mod Middles
+mod ChainLines
+mod CaseLines
+mod LineTruth
+mod AcceptedLaw
+mod LawVectors
+mod Options
+mod Splitting
+mod NumberWords
+mod CellWords
+mod CellLists
+mod LineParts
+mod WordParts
+mod CellSets
+mod StepWords
+mod StepMeans
+mod TextLines
+mod HeadMeans
+mod StepsMean
+mod PlainWords
+mod ReadMeans
+mod ReadBack
+mod BadLines
+mod HeadStages
+mod GoodFronts
+mod LongTexts
+mod BadHeads
+mod Parsed
+mod StepLines
+mod SameVerdict
+mod CutLines
+mod CutEnds
+mod CutMarks
+mod CutCertificates
