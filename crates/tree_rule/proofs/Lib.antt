@@ -1,6 +1,8 @@
+-- Laws for the layers above.
+pub mod Moves
+
 -- Steps of this crate's own proofs.
 mod Within
-mod Moves
 mod Ends
 mod Copies
 mod ScriptLaws

@@ -1,4 +1,4 @@
--- Linked blocks: what a newer block leaves, who is a node, links, what is told, and the one tree that they show.
+-- Linked blocks: what a newer block leaves, who is a node, links, what is told, the one tree that they show, and where the root's block ends.
 
 -- Laws for the layers above.
 pub mod BlockLaws
@@ -10,3 +10,4 @@ pub mod Links
 pub mod GameLaws
 pub mod Within
 pub mod OneTree
+pub mod RootEnds
