@@ -1,6 +1,7 @@
 pub mod Listing
 mod Shuffles
 pub mod Counting
-mod Turns
+pub mod Turns
+pub mod Gifts
 mod Stones
 pub mod Filling

@@ -25,5 +25,4 @@ pub mod GoingOn
 pub mod Endings
 pub mod Falling
 pub mod MemberLaws
-pub mod BitLaws
-pub mod HoleLaws
+pub mod HalfLaws
