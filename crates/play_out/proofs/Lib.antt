@@ -5,5 +5,6 @@ pub mod Counting
 -- Steps of this crate's own proofs.
 mod Shuffles
 mod Turns
+mod Gifts
 mod Stones
 mod Filling

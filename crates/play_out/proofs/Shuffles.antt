@@ -1,6 +1,8 @@
 -- The shuffle, from the last place down.
-use Rattle.std.proofs.Common.{◌≡◌, ℕ, ◌-◌, ◌<◌, ◌≤◌, List, ◌++◌, length, take, refl, sym, ◌∙◌, ap, subst, arith, suc}
+use Rattle.std.proofs.Common.{◌≡◌, ℕ, ◌-◌, ◌<◌, ◌≤◌, List, [], ◌∷◌, ◌++◌, length, take, drop, get_or, ◌+◌, refl, sym, ◌∙◌, ap, subst, arith, suc}
 use Rattle.std.specs.List.{swap}
+use Rattle.std.proofs.Math.ListN.{set}
+use Rattle.std.proofs.lemmas.List.{drop-set-lt}
 use Rattle.std.specs.List.Sorted.{IsPermutation}
 use Rattle.std.proofs.lemmas.List.Sorted.{IsPermutation-refl, IsPermutation-trans}
 use Rattle.rand_core.specs.Stream.{Stream, next_u64}
@@ -24,7 +26,7 @@ unfolding shuffled words_of
 step n stream cells = refl
 
 -- the same with the place as m, and with what the word gave as data
-step_at : (m n : ℕ) (stream rest : Stream) (cells next : List ℕ) (word j : ℕ) → m ≡ suc n → (word, rest) ≡ next_u64 stream
+pub step_at : (m n : ℕ) (stream rest : Stream) (cells next : List ℕ) (word j : ℕ) → m ≡ suc n → (word, rest) ≡ next_u64 stream
     → j ≡ place_of word m → next ≡ swap cells m j → shuffled n (words_of n rest) next ≡ shuffled m (words_of m stream) cells
 step_at m n stream rest cells next word j q e f g =
     let w : word ≡ (next_u64 stream).0 = ap (λ (p : ℕ × Stream). p.0) e in
@@ -34,16 +36,29 @@ step_at m n stream rest cells next word j q e f g =
     subst (λ v. shuffled n (words_of n rest) next ≡ shuffled v (words_of v stream) cells) (sym q)
     (ap (λ v. shuffled n (words_of n v) next) r ∙ (ap (λ v. shuffled n (words_of n (next_u64 stream).1) v) g' ∙ sym (step n stream cells)))
 
--- one word more: places i and j change, where the word gives j
-pub next_shuffling : (start first cells state after next : List ℕ) (i word j : ℕ) → Shuffling start first cells state i → 1 < i
-    → (word, stream_at after) ≡ next_u64 (stream_at state) → j ≡ place_of word (i - 1) → next ≡ swap cells (i - 1) j → IsPermutation cells next
+-- one word more settles place m
+pub next_shuffling : (start first cells state after next : List ℕ) (i m : ℕ) → Shuffling start first cells state i → i ≡ m + 1
+    → shuffled (m - 1) (words_of (m - 1) (stream_at after)) next ≡ shuffled m (words_of m (stream_at state)) cells → IsPermutation cells next
     → length next ≡ length cells
-    → Shuffling start first next after (i - 1)
-next_shuffling start first cells state after next i word j s l e f g p len = record {
-  order = step_at (i - 1) (i - 1 - 1) (stream_at state) (stream_at after) cells next word j (omega arith) e f g ∙ s.order;
-  same = IsPermutation-trans start cells next s.same p;
-  within = omega (arith, s.within);
-}
+    → Shuffling start first next after m
+next_shuffling start first cells state after next i m s e o p len =
+    let q : m ≡ i - 1 = omega arith in
+    record {
+      order = o ∙ ((λ j. shuffled (q j) (words_of (q j) (stream_at state)) cells) ∙ s.order);
+      same = IsPermutation-trans start cells next s.same p;
+      within = omega (arith, s.within);
+    }
+
+-- the same, told of equal values
+pub same_shuffling : (start first cells state next after : List ℕ) (i m : ℕ) → next ≡ cells → after ≡ state → m ≡ i → Shuffling start first cells state i
+    → Shuffling start first next after m
+same_shuffling start first cells state next after i m e f g s =
+    subst (λ v. Shuffling start first v after m) (sym e) (subst (λ v. Shuffling start first cells v m) (sym f) (subst (λ v. Shuffling start first cells state v) (sym g) s))
+
+-- what stands past both places of a swap stays
+pub drop-swap : (xs : List ℕ) (i j n : ℕ) → i < n → j < n → drop n (swap xs i j) ≡ drop n xs
+drop-swap [] i j n l m = refl
+drop-swap (x ∷ xs) i j n l m = drop-set-lt n (set (x ∷ xs) i (get_or (x ∷ xs) j x)) j (get_or (x ∷ xs) i x) m ∙ drop-set-lt n (x ∷ xs) i (get_or (x ∷ xs) j x) l
 
 -- no place is left
 pub all_shuffled : (start first cells state : List ℕ) (i : ℕ) → Shuffling start first cells state i → (1 < i → ⊥)

@@ -28,7 +28,3 @@ stones_within p player owner cells s f w e =
     let r : Within p.size (stones_of (filled_by p player cells) owner) =
     subst (λ v. Within v (stones_of (filled_by p player cells) owner)) (size_after p player cells) (within_after p player owner cells f w) in
     subst (λ v. Within p.size v) (sym e) r
-
-pub stones_apart : (p : Position) (player owner : Colour) (cells : List ℕ) (s : ℕ) → ListsEmpties p cells → Apart (stones_of p owner) (stones_of p (other_of owner))
-    → s ≡ stones_of (filled_by p player cells) owner → Apart s (stones_of (filled_by p player cells) (other_of owner))
-stones_apart p player owner cells s f a e = subst (λ v. Apart v (stones_of (filled_by p player cells) (other_of owner))) (sym e) (apart_after p player owner cells f a)

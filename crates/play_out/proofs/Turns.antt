@@ -79,7 +79,7 @@ every_second s [] = refl
 every_second s (c ∷ cells) = refl
 
 -- a player's stones after stones in turn
-turns : (p : Position) (player owner : Colour) (cells : List ℕ) → with_turns (is_same player owner) (stones_of p owner) cells ≡ stones_of (filled_by p player cells) owner
+pub turns : (p : Position) (player owner : Colour) (cells : List ℕ) → with_turns (is_same player owner) (stones_of p owner) cells ≡ stones_of (filled_by p player cells) owner
 unfolding filled_by with_turns
 turns p Black Black [] = refl
 turns p Black White [] = refl

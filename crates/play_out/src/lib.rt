@@ -25,6 +25,7 @@
 //! refuses.
 #![tactic(auto)]
 
+mod dealing;
 mod order;
 mod playouts;
 #[cfg(test)]

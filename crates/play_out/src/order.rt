@@ -1,6 +1,6 @@
 //! The order in which a playout fills the empty cells.
 
-ghost use Rattle.std.specs.Prelude.{◌≡◌, ℕ, ◌+◌, ◌-◌, ◌*◌, ◌≤◌, ◌<◌, length, take};
+ghost use Rattle.std.specs.Prelude.{◌≡◌, ℕ, ◌+◌, ◌-◌, ◌*◌, ◌≤◌, ◌<◌, length, take, drop};
 ghost use Rattle.std.specs.List.Sorted.{IsPermutation};
 ghost use Rattle.play_out.specs.Streams.{stream_at, words_of, place_of, shuffled};
 ghost use Rattle.play_out.specs.Fills.{ListsEmpties, empties_of, order_of};
@@ -13,9 +13,9 @@ use rand_xoshiro::Xoshiro256PlusPlus;
 /// A board has no more empty cells than the largest board has cells.
 pub const MOST_EMPTIES: usize = MOST_CELLS as usize;
 
-// Writes the empty cells of the board, in rising order, at the front of `cells`, and answers how
-// many they are.
-fn list_empties(board: &Board, cells: &mut [Cell; MOST_EMPTIES]) -> usize
+/// Writes the empty cells of the board, in rising order, at the front of `cells`, and answers how
+/// many they are.
+pub(crate) fn list_empties(board: &Board, cells: &mut [Cell; MOST_EMPTIES]) -> usize
     ensures list { take result cells.new ≡ empties_of board.now }
     ensures count { result ≡ length (empties_of board.now) }
     ensures range { result ≤ MOST_EMPTIES }
@@ -42,6 +42,22 @@ fn place(word: u64, i: usize) -> usize
     (u128::from(word) * (i as u128 + 1) >> u64::BITS) as usize
 }
 
+/// One step of a shuffle: the cell at place `i` and that at the place that the next word gives
+/// change places. No later place changes from then on.
+#[inline(always)]
+pub(crate) fn settle(cells: &mut [Cell], generator: &mut Xoshiro256PlusPlus, i: usize)
+    requires place { (1 ≤ i) × (i < length cells.old) }
+    requires few { length cells.old ≤ MOST_EMPTIES }
+    ensures order { shuffled (i - 1) (words_of (i - 1) (stream_at generator.new)) cells.new
+        ≡ shuffled i (words_of i (stream_at generator.old)) cells.old }
+    ensures same { IsPermutation cells.old cells.new }
+    ensures count { length cells.new ≡ length cells.old }
+    ensures later { drop (i + 1) cells.new ≡ drop (i + 1) cells.old }
+{
+    let word = generator.next_u64();
+    cells.swap(i, place(word, i));
+}
+
 // Shuffles the cells: from the last place down, each changes places with one that the next word
 // gives.
 fn shuffle(cells: &mut [Cell], generator: &mut Xoshiro256PlusPlus)
@@ -53,8 +69,7 @@ fn shuffle(cells: &mut [Cell], generator: &mut Xoshiro256PlusPlus)
     let mut i = cells.len();
     'places: while 1 < i {
         i -= 1;
-        let word = generator.next_u64();
-        cells.swap(i, place(word, i));
+        settle(cells, generator, i);
     }
 }
 

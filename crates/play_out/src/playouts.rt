@@ -8,27 +8,9 @@ ghost use Rattle.hex_board.specs.Joined.{Joined};
 ghost use Rattle.hex_board.specs.Positions.{Apart, Within, is_empty_at, stones_of};
 ghost use Rattle.play_out.specs.Fills.{ListsEmpties, filled_by, filled, playout_of, winner_by};
 
-use super::order::{MOST_EMPTIES, write_order};
+use super::dealing::movers_stones;
 use hex_board::{Board, joined};
-use hex_cells::{Cell, CellSet, Colour, Size};
-
-// The stones of one player after stones on the cells in turn, the first of the player to move. He
-// puts his on every second cell.
-fn stones_after(board: &Board, to_move: Colour, owner: Colour, cells: &[Cell]) -> CellSet
-    requires { ListsEmpties board.now cells.now }
-    ensures value { result ≡ stones_of (filled_by board.now to_move cells.now) owner }
-    ensures on_board { Within board.now.size result }
-    ensures apart { let full = filled_by board.now to_move cells.now in
-        Apart result (stones_of full (other_of owner)) }
-{
-    let mut stones = board.stones(owner);
-    let mut i = if to_move == owner { 0 } else { 1 };
-    'turns: while i < cells.len() {
-        stones = stones.with(cells[i]);
-        i += 2;
-    }
-    stones
-}
+use hex_cells::{CellSet, Colour, Size};
 
 // Who has won on a filled board of this size where these are Black's stones: Black where he is
 // joined, else White.
@@ -61,11 +43,15 @@ pub fn fill(board: &Board, to_move: Colour, seed: u64, k: u64) -> Board
         → has (stones_of result owner) c ≡ true }
     ensures size { result.size ≡ board.now.size }
 {
-    let mut cells = [Cell::numbered(0); MOST_EMPTIES];
-    let count = write_order(board, seed, k, &mut cells);
-    let black = stones_after(board, to_move, Colour::Black, &cells[..count]);
-    let white = stones_after(board, to_move, Colour::White, &cells[..count]);
-    Board::of(board.size(), black, white)
+    // A board's stones lie on it and apart.
+    let (_before, _others_before) = (board.stones(to_move), board.stones(to_move.other()));
+    let own = movers_stones(board, to_move, seed, k);
+    let size = board.size();
+    let others = CellSet::all(size).minus(own);
+    match to_move {
+        Colour::Black => Board::of(size, own, others),
+        Colour::White => Board::of(size, others, own),
+    }
 }
 
 /// The result of playout `k` of a search with this seed: Black where Black is joined on the filled
@@ -75,11 +61,7 @@ pub fn playout(board: &Board, to_move: Colour, seed: u64, k: u64) -> Colour
     ensures joined { let full = filled board.now to_move seed k in
         (result ≡ Colour.Black) ↔ Joined full.size Colour.Black full.black }
 {
-    let mut cells = [Cell::numbered(0); MOST_EMPTIES];
-    let count = write_order(board, seed, k, &mut cells);
-    // Only Black's stones say who won.
-    let stones = stones_after(board, to_move, Colour::Black, &cells[..count]);
-    winner(stones, board.size())
+    play(board, to_move, seed, k).winner
 }
 
 /// Playout `k` of a search with this seed: its filled board and its result.

@@ -28,5 +28,4 @@ mod KeepsUp
 mod KeepsAdds
 mod Endings
 mod MemberLaws
-mod BitLaws
-mod HoleLaws
+mod HalfLaws

@@ -1,18 +1,19 @@
 -- The climb over a block's seen adds.
 use Rattle.std.specs.Prelude.{ℕ, ◌+◌, ◌*◌, Bool, List, [], ◌∷◌, map}
 use Rattle.std.specs.List.{filter, range_with_len}
-use Rattle.hex_cells.specs.Sets.{has as has_place}
-use Rattle.hex_cells.specs.declared.board_size.TheConstants.{MOST_CELLS}
+use Rattle.hex_cells.specs.Sets.{has as has_cell, members}
 use Rattle.tree_words.specs.declared.layout.TheConstants.{NODE_WORDS}
 use Rattle.tree_words.specs.declared.steps.Op.{Op}
 use Rattle.tree_words.specs.declared.steps.Op.TheVariants.{Add, Done}
 use Rattle.arena_rule.specs.Adds.{CountAdd}
+use Rattle.walker.specs.declared.climbs.TheConstants.{HALF_CELLS}
 
--- the adds to the seen words of the nodes of these places, where that of place 0 is `first`
-unfoldable pub adds_at : ℕ → Bool → ℕ → List CountAdd
-adds_at first won places =
-    map (λ i. record { word = first + NODE_WORDS * i; won = won })
-    (filter (has_place places) (range_with_len 0 MOST_CELLS))
+-- the adds to the seen words of the nodes of the cells of the second set: the nodes are those of
+-- the cells of the first set in rising order, and `first` is the seen word of the first node
+unfoldable pub adds_in : ℕ → Bool → ℕ → ℕ → List CountAdd
+adds_in first won cells left =
+    map (λ k. record { word = first + NODE_WORDS * members cells k; won = won })
+    (filter (has_cell left) (range_with_len 0 HALF_CELLS))
 
 -- the next of a list of adds
 abbrev pub add_op : List CountAdd → Op

@@ -1,6 +1,5 @@
 pub mod Ways
 pub mod Scans
-pub mod Places
 pub mod Climbs
 pub mod Steps
 pub mod Machine

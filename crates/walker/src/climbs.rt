@@ -1,42 +1,74 @@
 //! The climb over a block's seen adds.
 
-ghost use Rattle.std.specs.Prelude.{◌≡◌, ℕ, ◌+◌, ◌<◌, nat_lt, if◌then◌else◌, [], IsTrue, ◌↔◌};
-ghost use Rattle.hex_cells.specs.Sets.{has};
+ghost use Rattle.std.specs.Prelude.{◌≡◌, ◌+◌, ◌/◌, ◌%◌, ◌^◌, ◌<◌, ◌++◌, [], IsTrue, ◌↔◌};
 ghost use Rattle.tree_words.specs.Writing.{listed};
 ghost use Rattle.arena_rule.specs.Adds.{seen_adds};
-ghost use Rattle.walker.specs.Climbs.{add_op, adds_after};
-ghost use Rattle.walker.specs.Places.{ArePlaces};
+ghost use Rattle.walker.specs.Climbs.{add_op, adds_after, adds_in};
 
 use super::PAST_WORDS;
-use hex_cells::{CellSet, MOST_CELLS, Size};
+use hex_cells::{CellSet, Size};
 use std::marker::Model;
 use tree_words::Op;
 use tree_words::layout::{HEADER_WORDS, NODE_WORDS, SEEN_WORD};
 
+/// The cells of a half of a block: 64, so that a set of them is a word.
+const HALF_CELLS: u32 = u64::BITS;
+
+// The cells 0 to 63 of a block, or those from 64 on, numbered from 0.
+#[derive(Clone, Copy)]
+struct Half {
+    // The seen word of the node of the first cell.
+    first: u32,
+    // The cells that have nodes.
+    cells: u64,
+    // The cells at whose nodes an add is still to be made.
+    left: u64,
+}
+
 /// The adds of a level of a walk to the seen words of its block that are still to be made, by
 /// rising place. Contracts see them as a list.
 ///
-/// It is small and stands alone, so that a loop over it can keep it in a local: the places of the
-/// nodes are the bits of one number.
+/// It is small and stands alone, so that a loop over it can keep it in a local: the cells are the
+/// bits of two words, and the place of a cell is the number of bits below its own.
 #[derive(Drop)]
 pub struct Climb {
-    first: u32,
     won: bool,
-    left: CellSet,
+    // The half in hand, which is the last one where it has no add left.
+    half: Half,
+    next: Half,
 }
 
 impl Model for Climb {
-    ghost use Rattle.std.specs.Prelude.{List, ◌<◌, ◌+◌};
+    ghost use Rattle.std.specs.Prelude.{List, ◌≡◌, ◌<◌, ◌+◌, ◌*◌, ◌++◌};
     ghost use Rattle.arena_rule.specs.Adds.{CountAdd};
-    ghost use Rattle.tree_words.specs.declared.layout.TheConstants.{HEADER_WORDS, SEEN_WORD};
-    ghost use Rattle.walker.specs.declared.TheConstants.{PAST_WORDS};
-    ghost use Rattle.walker.specs.Climbs.{adds_at};
+    ghost use Rattle.walker.specs.declared.climbs.TheConstants.{PAST_SEEN};
+    ghost use Rattle.walker.specs.Climbs.{adds_in};
 
     ghost Value = { List CountAdd };
 
-    ghost view = { λ c. adds_at c.first c.won c.left };
+    ghost view = { λ c. adds_in c.half.first c.won c.half.cells c.half.left
+        ++ adds_in c.next.first c.won c.next.cells c.next.left };
 
-    ghost invariant = { λ c. c.first < PAST_WORDS + HEADER_WORDS + SEEN_WORD };
+    ghost invariant = { λ c. (c.half.first < PAST_SEEN) × (c.next.first < PAST_SEEN)
+        × (c.half.left ≡ 0 → c.next.left ≡ 0) };
+}
+
+/// No first seen word of a half is past this one.
+const PAST_SEEN: u32 = PAST_WORDS
+    + (HEADER_WORDS + SEEN_WORD + NODE_WORDS * HALF_CELLS as usize) as u32
+    + 1;
+
+impl Half {
+    // No cell.
+    fn none() -> Half
+        ensures { (result.first ≡ 0) × (result.left ≡ 0) }
+    {
+        Half {
+            first: 0,
+            cells: 0,
+            left: 0,
+        }
+    }
 }
 
 impl Climb {
@@ -45,9 +77,9 @@ impl Climb {
         ensures { result ≡ [] }
     {
         Climb {
-            first: 0,
             won: false,
-            left: CellSet::none(),
+            half: Half::none(),
+            next: Half::none(),
         }
     }
 
@@ -60,10 +92,38 @@ impl Climb {
     {
         // The size bounds the cells.
         let _size = size.get();
-        Climb {
-            first: block + (HEADER_WORDS + SEEN_WORD) as u32,
-            won,
-            left: places(cells, stones, size),
+        let added = cells.meet(stones).meet(CellSet::all(size));
+        let (low_cells, high_cells) = halves(cells);
+        let (low_left, high_left) = halves(added);
+        let first = block + (HEADER_WORDS + SEEN_WORD) as u32;
+        let low = Half {
+            first,
+            cells: low_cells,
+            left: low_left,
+        };
+        let high = Half {
+            first: first + NODE_WORDS as u32 * low_cells.count_ones(),
+            cells: high_cells,
+            left: high_left,
+        };
+        Climb::of_halves(won, low, high)
+    }
+
+    // The adds of a half and then those of another.
+    #[inline(always)]
+    fn of_halves(won: bool, half: Half, next: Half) -> Climb
+        requires { (half.first < PAST_SEEN) × (next.first < PAST_SEEN) }
+        ensures { result ≡ adds_in half.first won half.cells half.left
+            ++ adds_in next.first won next.cells next.left }
+    {
+        if half.left != 0 {
+            Climb { won, half, next }
+        } else {
+            Climb {
+                won,
+                half: next,
+                next: Half::none(),
+            }
         }
     }
 
@@ -72,9 +132,9 @@ impl Climb {
         ensures { result ≡ self.now }
     {
         Climb {
-            first: self.first,
             won: self.won,
-            left: self.left,
+            half: self.half,
+            next: self.next,
         }
     }
 
@@ -83,10 +143,12 @@ impl Climb {
     pub fn op(&self) -> Op
         ensures { result ≡ add_op self.now }
     {
-        match self.left.least() {
-            Some(place) => Op::Add(self.first + NODE_WORDS as u32 * place.number(), self.won),
-            None => Op::Done,
+        if self.half.left == 0 {
+            return Op::Done;
         }
+        let cell = self.half.left.trailing_zeros();
+        let place = (self.half.cells & ((1 << cell) - 1)).count_ones();
+        Op::Add(self.half.first + NODE_WORDS as u32 * place, self.won)
     }
 
     /// Goes on after the next add was made.
@@ -94,11 +156,12 @@ impl Climb {
     pub fn got(&mut self)
         ensures { self.new ≡ adds_after self.old }
     {
-        if let Some(place) = self.left.least() {
-            // A place is below the most cells.
-            let _number = place.number();
-            self.left = self.left.without(place);
+        let mut half = self.half;
+        if half.left == 0 {
+            return;
         }
+        half.left ^= 1 << half.left.trailing_zeros();
+        *self = Climb::of_halves(self.won, half, self.next);
     }
 
     /// Whether no add is left.
@@ -106,39 +169,17 @@ impl Climb {
     pub fn is_done(&self) -> bool
         ensures { IsTrue result ↔ (self.now ≡ []) }
     {
-        // A place is below the most cells.
-        let _bits = self.left.bits();
-        self.left.is_empty()
+        self.half.left == 0
     }
 }
 
-// The places of those of the cells, in rising order, that have one of the stones: their bits, where
-// each bit that is none of the cells is taken out.
-fn places(cells: CellSet, stones: CellSet, size: Size) -> CellSet
-    ensures { ArePlaces stones (listed size cells) result }
+// The cells of the set below 64, and those from 64 on.
+fn halves(set: CellSet) -> (u64, u64)
+    ensures { (result.0 ≡ set % 2 ^ HALF_CELLS) × (result.1 ≡ set / 2 ^ HALF_CELLS) }
 {
-    let all = CellSet::all(size);
-    let cells = cells.meet(all);
-    let mut places = cells.meet(stones);
-    let mut holes = all.minus(cells);
-    let mut gone = 0;
-    'holes: while let Some(hole) = holes.least() {
-        places = without_place(places, hole.number() - gone);
-        holes = holes.without(hole);
-        gone += 1;
-    }
-    places
-}
-
-// The set without this place: those above it fall by one.
-#[tactic(auto, using(crate::proofs::BitLaws::without_bit_rules))]
-fn without_place(places: CellSet, at: u32) -> CellSet
-    requires { at < MOST_CELLS }
-    ensures { (k : ℕ) → has result k
-        ≡ (if nat_lt k at then has places k else has places (k + 1)) }
-{
-    let bits = places.bits();
-    let low = bits & ((1u128 << at) - 1);
-    let high = bits >> (at + 1) << at;
-    CellSet::of_bits(low | high)
+    let bits = set.bits();
+    (
+        (bits % (1 << HALF_CELLS)) as u64,
+        (bits >> HALF_CELLS) as u64,
+    )
 }

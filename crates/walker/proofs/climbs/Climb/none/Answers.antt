@@ -1,6 +1,8 @@
--- No place, no add.
-use Rattle.walker.proofs.SeenAdds.{adds-none}
+-- No cell is left in either half.
+use Rattle.std.proofs.Common.{◌++◌, false}
+use Rattle.walker.proofs.HalfLaws.{none-in}
 use Rattle.walker.proofs.climbs.Climb.none.Goals as goal
 
 pub returns : goal.returns
-returns c = adds-none 0 _ c.none.result c.none.ensures.items
+returns c = λ i. none-in c.none.result.first false c.none.result.cells c.none.result.left c.none.ensures.1 i
+    ++ none-in c.none-2.result.first false c.none-2.result.cells c.none-2.result.left c.none-2.ensures.1 i

@@ -1,14 +1,19 @@
--- The least place is that of the next add.
-use Rattle.std.proofs.Common.{◌+◌, ◌*◌, sym, ap, ◌∙◌}
-use Rattle.tree_words.specs.declared.steps.Op.TheVariants.{Add}
-use Rattle.walker.specs.Climbs.{add_op}
-use Rattle.walker.proofs.SeenAdds.{adds-none, adds-next}
+-- The least cell that is left is that of the next add.
+use Rattle.std.proofs.Common.{◌++◌, sym, ap, ◌∙◌, arith}
+use Rattle.walker.specs.Climbs.{add_op, adds_in}
+use Rattle.walker.proofs.HalfLaws.{none-in, next-in}
 use Rattle.walker.proofs.climbs.Climb.op.Goals as goal
 
-pub returns-in-Some : goal.returns-in-Some
-returns-in-Some c =
-    ap (λ n. Add (c.self.inside.first + 4 * n) c.self.inside.won) c.number.ensures.value
-    ∙ ap add_op (sym (adds-next c.self.inside.first c.self.inside.won c.self.inside.left c.in-Some.place (rw c.number.ensures.value at c.number.ensures.range) c.in-Some.ensures.0 c.in-Some.ensures.1) ∙ c.self.view_is)
+pub returns-then-self-eq0 : goal.returns-then-self-eq0
+returns-then-self-eq0 c =
+    let h = c.self.inside.half in
+    let n = c.self.inside.next in
+    let won = c.self.inside.won in
+    ap add_op (sym (sym c.self.view_is ∙ (λ i. none-in h.first won h.cells h.left c.if-self-eq0.true i ++ none-in n.first won n.cells n.left (c.self.invariant.2 c.if-self-eq0.true) i)))
 
-pub returns-in-None : goal.returns-in-None
-returns-in-None c = ap add_op (sym (adds-none c.self.inside.first c.self.inside.won c.self.inside.left c.in-None.ensures) ∙ c.self.view_is)
+pub returns : goal.returns
+returns c =
+    let h = c.self.inside.half in
+    let n = c.self.inside.next in
+    let won = c.self.inside.won in
+    ap add_op (sym (sym c.self.view_is ∙ ap (λ adds. adds ++ adds_in n.first won n.cells n.left) (next-in h.first won h.cells h.left (omega (arith, c.if-self-eq0.false)) (omega arith))))
