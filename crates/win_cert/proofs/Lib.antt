@@ -5,6 +5,7 @@ pub mod LinksOn
 pub mod ScopeBoards
 pub mod GoodEntries
 pub mod EdgeEntries
+pub mod EdgeNumbers
 pub mod NamedEntries
 pub mod Middles
 pub mod ChainLines
@@ -38,11 +39,17 @@ pub mod BadHeads
 pub mod Parsed
 pub mod StepLines
 pub mod SameVerdict
+pub mod Appending
+pub mod Stepping
 pub mod CutChains
 pub mod CutSteps
 pub mod CutLines
-pub mod CutVerdicts
 pub mod CutEnds
 pub mod CutMarks
 pub mod CutDerivations
+pub mod Supports
+pub mod Moved
+pub mod MovedRules
+pub mod CutsIn
+pub mod CutVerdicts
 pub mod CutCertificates
