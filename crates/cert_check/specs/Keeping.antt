@@ -89,19 +89,3 @@ pub record IsChecker (base : PlayerBoard) (scope : ℕ) (board : Position) (elem
   pub is_board : board ≡ (elements_in base scope).board
   pub are_elements : elements ≡ elements_in base scope
   pub are_given : All (IsGivenOnIf base) given
-
--- what the next line is read over
-abbrev pub context_after : Context → Line → Context
-context_after c line = record {
-  base = c.base;
-  scope = scope_after c.scope (line ∷ []);
-  earlier = c.earlier ++ gives c line ∷ [];
-}
-
--- what the first line is read over
-abbrev pub first_context : Position → Colour → Context
-first_context board player = record {
-  base = record { board = board; player = player };
-  scope = 0;
-  earlier = [];
-}

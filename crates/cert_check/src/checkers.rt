@@ -4,10 +4,10 @@ ghost use Rattle.std.specs.Prelude.{◌≡◌, ℕ, [], true, IfOk, IfSome, Ok};
 ghost use Rattle.std.specs.Option.{option_map};
 ghost use Rattle.hex_cells.specs.Sets.{has};
 ghost use Rattle.hex_board.specs.Positions.{is_empty_at};
+ghost use Rattle.win_cert.specs.Contexts.{context_after, first_context};
 ghost use Rattle.win_cert.specs.Entries.{entry_at};
 ghost use Rattle.win_cert.specs.Scopes.{with_stones};
-ghost use Rattle.cert_check.specs.Keeping.{IsGivenOn, ReadsLine, context_after, entry_of};
-ghost use Rattle.cert_check.specs.Keeping.{first_context};
+ghost use Rattle.cert_check.specs.Keeping.{IsGivenOn, ReadsLine, entry_of};
 
 use super::given::Given;
 use super::refusals::Memory;

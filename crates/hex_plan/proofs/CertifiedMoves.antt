@@ -1,4 +1,4 @@
--- What good turns say of winning: certified moves win, and moves outside a threat lose.
+-- What plans and good turns say of winning: certified moves win, and moves outside a threat lose.
 use Rattle.std.proofs.Common.{◌≡◌, ℕ, [], ◌∷◌, Bool, true, false, List, Option, Some, All, suc, refl, sym, ◌∙◌, subst, inl, inr}
 use Rattle.std.specs.List.{slice_get}
 use Rattle.std.proofs.lemmas.Bool.{cases_Bool}
@@ -22,7 +22,7 @@ use Rattle.tree_words.specs.declared.settings.Knobs.{Knobs}
 use Rattle.win_cert.specs.Cuts.{IsEdgeEntryAt}
 use Rattle.win_cert.specs.declared.certs.Cert.{Cert}
 use Rattle.hex_plan.specs.Good.{FollowsPlan, IsGood}
-use Rattle.hex_plan.specs.Laws.{IsCertified, LosesOutsideThreats, LosesWhereLost}
+use Rattle.hex_plan.specs.Laws.{HoldsOfPlans, IsCertified, LosesAsPlanned, LosesOutsideCarriers, LosesOutsideThreats, LosesWhereLost, WinsAsPlanned}
 use Rattle.hex_plan.specs.Plans.{IsCertifiedWin, IsInEach, IsMiddle, IsNarrowed, IsPlanned, IsPlannedBy, IsReportOf, IsThreat, IsWin, IsWinBy, IsWinningCellBy}
 use Rattle.hex_plan.specs.Turns.{TurnData}
 use Rattle.hex_plan.specs.declared.plans.Planned.{Planned}
@@ -72,10 +72,13 @@ win_by : (options : Knobs) (t : TurnData) (plan : Plan) → FollowsPlan options 
 win_by options t (Win cert cell) f w = sym f.1
 win_by options t (Search threats allowed lost) f w = absurd w
 
+pub plan_wins : HoldsOfPlans WinsAsPlanned
+plan_wins board player hsearch p on h k w =
+    let (cert, d, is, won) = planned_win board player hsearch p k h w in
+    won_wins board player cert k d on won
+
 pub is_certified : (options : Knobs) (hsearch : Bool) (t : TurnData) → IsGood options hsearch t → IsCertified t
-is_certified options hsearch t g w =
-    let (cert, d, is, won) = planned_win t.board t.player hsearch t.planned t.cell g.planned (win_by options t t.planned.plan g.follows w) in
-    won_wins t.board t.player cert t.cell d g.position won
+is_certified options hsearch t g w = plan_wins t.board t.player hsearch t.planned g.position g.planned t.cell (win_by options t t.planned.plan g.follows w)
 
 -- ---- threats
 
@@ -111,10 +114,13 @@ with_threat board player false p threats allowed lost i threat h q s = absurd (n
 at_one : (P : Threat → Type 0) (threats : List Threat) (i : ℕ) (threat : Threat) → All P threats → slice_get threats i ≡ Some threat → P threat
 at_one P threats i threat h s = subst P (get_or_from_slice_get threats i threat threat s) (h i threat (slice_get_within threats i threat s))
 
+pub plan_loses_outside : HoldsOfPlans LosesOutsideCarriers
+plan_loses_outside board player hsearch p on h threats allowed lost q i threat s k empty out =
+    let (d, e, n) = with_threat board player hsearch p threats allowed lost i threat h q s in
+    threat_wins board player e threat k on n.other_report (at_one (IsThreat e) threats i threat n.are_threats.cut s) out
+
 pub outside_loses : (options : Knobs) (hsearch : Bool) (t : TurnData) → IsGood options hsearch t → LosesOutsideThreats t
-outside_loses options hsearch t g threats allowed lost q i threat s k empty out =
-    let (d, e, n) = with_threat t.board t.player hsearch t.planned threats allowed lost i threat g.planned q s in
-    threat_wins t.board t.player e threat k g.position n.other_report (at_one (IsThreat e) threats i threat n.are_threats.cut s) out
+outside_loses options hsearch t g = plan_loses_outside t.board t.player hsearch t.planned g.position g.planned
 
 -- ---- lost boards
 
@@ -135,7 +141,10 @@ lost_region board player false p threats allowed h q = absurd (not_lost threats 
     not_lost : (threats : List Threat) (a b : ℕ) → Search [] b false ≡ Search threats a true → ⊥
     not_lost threats a b e = absurd (cc)
 
+pub plan_loses : HoldsOfPlans LosesAsPlanned
+plan_loses board player hsearch p on h threats allowed q k empty =
+    let w = some_misses threats k (λ a. lost_region board player hsearch p threats allowed h q k (empty, a)) in
+    plan_loses_outside board player hsearch p on h threats allowed true q w.0 w.1 w.2 k empty w.3
+
 pub lost_loses : (options : Knobs) (hsearch : Bool) (t : TurnData) → IsGood options hsearch t → LosesWhereLost t
-lost_loses options hsearch t g threats allowed q k empty =
-    let w = some_misses threats k (λ a. lost_region t.board t.player hsearch t.planned threats allowed g.planned q k (empty, a)) in
-    outside_loses options hsearch t g threats allowed true q w.0 w.1 w.2 k empty w.3
+lost_loses options hsearch t g = plan_loses t.board t.player hsearch t.planned g.position g.planned

@@ -1,44 +1,70 @@
--- What the laws of good turns say: certified moves win, moves outside a threat lose, and one
--- worker decides.
+-- What the laws of plans and of good turns say: certified moves win, moves outside a threat lose,
+-- and one worker decides.
 use Rattle.std.specs.Prelude.{◌≡◌, ℕ, Bool, true, false, List, Some}
 use Rattle.std.specs.List.{slice_get}
 use Rattle.hex_cells.specs.Colours.{other_of}
 use Rattle.hex_cells.specs.Sets.{has}
-use Rattle.hex_board.specs.Positions.{is_empty_at, placed}
+use Rattle.hex_cells.specs.declared.colours.Colour.{Colour}
+use Rattle.hex_board.specs.Positions.{IsPosition, Position, is_empty_at, placed}
 use Rattle.hex_board.specs.Wins.{Wins}
 use Rattle.tree_words.specs.declared.settings.Knobs.{Knobs}
 use Rattle.hex_plan.specs.Good.{IsGood}
-use Rattle.hex_plan.specs.Plans.{IsWin}
+use Rattle.hex_plan.specs.Plans.{IsPlanned, IsWin, IsWinBy}
 use Rattle.hex_plan.specs.Reports.{reported_rows}
 use Rattle.hex_plan.specs.TurnTexts.{texts_of}
 use Rattle.hex_plan.specs.Turns.{TurnData}
+use Rattle.hex_plan.specs.declared.plans.Planned.{Planned}
 use Rattle.hex_plan.specs.declared.threats.Threat.{Threat}
+use Rattle.hex_plan.specs.declared.types.Plan.{Plan}
 use Rattle.hex_plan.specs.declared.types.Plan.TheVariants.{Search}
 
--- after the turn's cell its player wins against every reply
-abbrev pub WinsByCell : TurnData → Type 0
-WinsByCell t = Wins t.player (placed t.board t.player t.cell) (other_of t.player)
+-- ---- plans
+
+-- after the player's stone on cell k he wins against every reply
+abbrev pub WinsBy : Position → Colour → ℕ → Type 0
+WinsBy board player k = Wins player (placed board player k) (other_of player)
+
+-- after the player's stone on cell k the other player wins with himself to move
+abbrev pub LosesBy : Position → Colour → ℕ → Type 0
+LosesBy board player k = Wins (other_of player) (placed board player k) (other_of player)
+
+-- where the plan is a win, its cell wins
+abbrev pub WinsAsPlanned : Position → Colour → Plan → Type 0
+WinsAsPlanned board player plan = (k : ℕ) → IsWinBy plan k → WinsBy board player k
+
+-- each move outside the carrier of one of the plan's threats loses
+abbrev pub LosesOutsideCarriers : Position → Colour → Plan → Type 0
+LosesOutsideCarriers board player plan = (threats : List Threat) (allowed : ℕ) (lost : Bool)
+    → plan ≡ Search threats allowed lost
+    → (i : ℕ) (threat : Threat) → slice_get threats i ≡ Some threat
+    → (k : ℕ) → is_empty_at board k ≡ true → has threat.carrier k ≡ false
+    → LosesBy board player k
+
+-- where the plan says that the board is lost, each move loses
+abbrev pub LosesAsPlanned : Position → Colour → Plan → Type 0
+LosesAsPlanned board player plan = (threats : List Threat) (allowed : ℕ)
+    → plan ≡ Search threats allowed true
+    → (k : ℕ) → is_empty_at board k ≡ true → LosesBy board player k
+
+-- of each plan for a player on a board, looked for with connections or without, this holds
+abbrev pub HoldsOfPlans : (Position → Colour → Plan → Type 0) → Type 0
+HoldsOfPlans Holds = (board : Position) (player : Colour) (hsearch : Bool) (p : Planned)
+    → IsPosition board.size board.black board.white → IsPlanned board player hsearch p
+    → Holds board player p.plan
+
+-- ---- turns
 
 -- where the turn's plan is a win, its cell wins
 abbrev pub IsCertified : TurnData → Type 0
-IsCertified t = IsWin t.planned.plan → WinsByCell t
-
--- after a stone of the turn's player on cell k the other player wins with himself to move
-abbrev pub LosesBy : TurnData → ℕ → Type 0
-LosesBy t k = Wins (other_of t.player) (placed t.board t.player k) (other_of t.player)
+IsCertified t = IsWin t.planned.plan → WinsBy t.board t.player t.cell
 
 -- each move outside the carrier of one of the turn's threats loses
 abbrev pub LosesOutsideThreats : TurnData → Type 0
-LosesOutsideThreats t = (threats : List Threat) (allowed : ℕ) (lost : Bool)
-    → t.planned.plan ≡ Search threats allowed lost
-    → (i : ℕ) (threat : Threat) → slice_get threats i ≡ Some threat
-    → (k : ℕ) → is_empty_at t.board k ≡ true → has threat.carrier k ≡ false → LosesBy t k
+LosesOutsideThreats t = LosesOutsideCarriers t.board t.player t.planned.plan
 
 -- where the turn's plan says that the board is lost, each move loses
 abbrev pub LosesWhereLost : TurnData → Type 0
-LosesWhereLost t = (threats : List Threat) (allowed : ℕ)
-    → t.planned.plan ≡ Search threats allowed true
-    → (k : ℕ) → is_empty_at t.board k ≡ true → LosesBy t k
+LosesWhereLost t = LosesAsPlanned t.board t.player t.planned.plan
 
 -- of good turns without a look for connections the board, the player and the number determine the
 -- cell, the report and the texts

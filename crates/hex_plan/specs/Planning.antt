@@ -5,21 +5,14 @@ use Rattle.std.specs.List.{slice_get}
 use Rattle.conn_store.specs.Stores.{StoreData}
 use Rattle.conn_store.specs.declared.entries.Entry.{Entry}
 use Rattle.conn_store.specs.declared.entries.Held.{Held}
-use Rattle.conn_store.specs.declared.entries.Kind.{Kind}
-use Rattle.win_cert.specs.Cuts.{CertifiesEntry, IsEdgeEntryAt}
+use Rattle.win_cert.specs.Cuts.{CertifiesEntry, HasLinesFor, IsEdgeEntryAt}
 use Rattle.hex_plan.specs.declared.threats.Threat.{Threat}
 
--- these are the numbers of the store's entries of that kind between the player's two edges
-pub record AreEdgeNumbers (d : StoreData) (kind : Kind) (h : Held) : Type 0 where
-  pub each : (j : ℕ) → j < h.count
-      → (a : Entry) × IsEdgeEntryAt d (slice_index h.at j) a × (a.kind ≡ kind)
-  pub all : (n : ℕ) (a : Entry) → IsEdgeEntryAt d n a → a.kind ≡ kind
-      → (j : ℕ) × (j < h.count) × (slice_index h.at j ≡ n)
-
--- the threat was cut from entry n of the store, between the two edges, and has its carrier
+-- the threat was cut from entry n of the store, between the two edges, with the lines on which it
+-- rests, and has its carrier
 abbrev pub ShowsEntryAt : StoreData → ℕ → Threat → Type 0
 ShowsEntryAt d n t = (a : Entry) → IsEdgeEntryAt d n a
-    → CertifiesEntry d a t.cert × (t.carrier ≡ a.carrier)
+    → CertifiesEntry d a t.cert × HasLinesFor d n t.cert × (t.carrier ≡ a.carrier)
 
 -- these are numbers of entries
 abbrev pub AreWithin : List Entry → Held → Type 0

@@ -16,7 +16,7 @@ use Rattle.conn_store.specs.declared.entries.Kind.TheVariants.{Full, Semi}
 use Rattle.hsearch.specs.Closed.{IsReport}
 use Rattle.tree_words.specs.Complete.{HasEmpties}
 use Rattle.tree_words.specs.Settings.{AreEmpty, IsAny}
-use Rattle.win_cert.specs.Cuts.{CertifiesEntry, IsEdgeEntryAt}
+use Rattle.win_cert.specs.Cuts.{CertifiesEntry, HasLinesFor, IsEdgeEntryAt}
 use Rattle.win_cert.specs.declared.certs.Cert.{Cert}
 use Rattle.hex_plan.specs.declared.types.Plan.{Plan}
 use Rattle.hex_plan.specs.declared.types.Plan.TheVariants.{Win, Search}
@@ -63,24 +63,27 @@ abbrev pub IsWinningCell : StoreData → Entry → ℕ → Type 0
 IsWinningCell d a k = IsWinningCellBy d a a.kind k
 
 -- the certificate was cut from an entry between the player's two edges of his report on the board,
--- and the cell is the one by which this entry wins
+-- with the lines on which the entry rests, and the cell is the one by which this entry wins
 pub record IsCertifiedWin (board : Position) (player : Colour) (cert : Cert) (cell : ℕ)
     (own : StoreData) : Type 0 where
   pub report : IsReportOf board player own
   pub entry : Entry
   pub edges : IsEdgeEntry own entry
   pub cut : CertifiesEntry own entry cert
+  pub lines : HasLinesFor own edges.0 cert
   pub winning : IsWinningCell own entry cell
 
 -- ---- threats, and the mustplay region
 
--- the threat was cut from a semi entry between the two edges, and has its carrier
+-- the threat was cut from a semi entry between the two edges, with the lines on which it rests, and
+-- has its carrier
 pub record IsThreat (d : StoreData) (t : Threat) : Type 0 where
   pub entry : Entry
   pub edges : IsEdgeEntry d entry
   pub semi : entry.kind ≡ Semi
   pub carrier : t.carrier ≡ entry.carrier
   pub cut : CertifiesEntry d entry t.cert
+  pub lines : HasLinesFor d edges.0 t.cert
 
 -- the carriers rise, as numbers
 abbrev pub AreRising : List Threat → Type 0

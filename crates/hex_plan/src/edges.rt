@@ -1,26 +1,14 @@
-//! The entries of a report between the player's two edges.
+//! An entry of a report between the player's two edges.
 
-ghost use Rattle.std.specs.Prelude.{◌≡◌, ◌≤◌, false, IfNone, IfSome};
+ghost use Rattle.std.specs.Prelude.{◌≡◌, false, IfNone, IfSome};
 ghost use Rattle.hex_board.specs.Elements.{are_joined};
 ghost use Rattle.conn_store.specs.declared.entries.Entry.{Entry};
 ghost use Rattle.hex_plan.specs.Plans.{IsEdgeEntry};
-ghost use Rattle.hex_plan.specs.Planning.{AreEdgeNumbers};
 ghost use Rattle.win_cert.specs.Cuts.{HasEdgeEntryAt};
 
-use conn_store::{Held, Kind, Store};
+use conn_store::Kind;
 use hsearch::Report;
-
-/// The numbers of the store's entries of a kind between the edges of the player, who is not joined.
-pub(crate) fn edge_numbers(store: &Store, kind: Kind) -> Held
-    requires { are_joined store.now.elements ≡ false }
-    ensures few { result.count ≤ 6 }
-    ensures numbers { AreEdgeNumbers store.now kind result }
-{
-    // Each entry has the lesser of its elements first.
-    let _entries = store.entries();
-    let elements = store.elements();
-    store.held(elements.edge(false), elements.edge(true), kind)
-}
+use win_cert::edge_numbers;
 
 /// The number of an entry between the edges of the player, who is not joined: a semi one, where
 /// there is one. `None` exactly where there is none of either kind.

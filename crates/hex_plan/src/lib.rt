@@ -31,8 +31,8 @@
 //! where there is none such and the board is lost. Each certificate is accepted, and has the kind
 //! and the carrier of its entry. After the cell of a win its player wins against every reply
 //! ([`certified_moves_win`]); each move outside the carrier of a threat loses
-//! ([`moves_outside_a_threat_lose`]), and each move on a lost board ([`lost_boards_lose`]). The
-//! shape of a turn has the board, the player, the allowed cells, and the options' knobs with the
+//! ([`moves_outside_a_threat_lose`]), and each move on a lost board ([`lost_boards_lose`]); so it
+//! is of each plan, also without a turn ([`plans_tell_who_wins`]). The shape of a turn has the board, the player, the allowed cells, and the options' knobs with the
 //! seed `S + number·2^32` modulo 2^64. The turns that are made here are good. With one worker,
 //! where no connections are looked for, the cell and the texts of a good turn are determined
 //! ([`one_worker_decides`]). The texts are those of specs/TurnTexts.antt ([`turn_texts`]). An
@@ -76,6 +76,7 @@ pub use archives::{Archive, NoArchive};
 pub use in_memory::MemArchive;
 pub use laws::{
     certified_moves_win, lost_boards_lose, moves_outside_a_threat_lose, one_worker_decides,
+    plans_tell_who_wins,
 };
 pub use openings::may_move;
 pub use planning::plan;

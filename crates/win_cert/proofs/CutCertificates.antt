@@ -1,40 +1,136 @@
--- The certificate of derived lines shows the entry of the store.
-use Rattle.std.proofs.Common.{◌≡◌, ℕ, ◌<◌, ◌≤◌, true, false, length, refl, sym, ◌∙◌, ap, subst, inl, arith}
+-- The certificate of the lines of a cut shows the entry of the store, and has a line for each entry on
+-- which it rests.
+use Rattle.std.proofs.Common.{◌≡◌, ℕ, ◌+◌, ◌<◌, ◌≤◌, All, Option, None, ◌==◌, ◌&&◌, true, false, Bool, List, [], ◌∷◌, Some, length, map, min, max, if◌then◌else◌, refl, sym, ◌∙◌, ap, subst, inl, zero, suc, arith}
+use Rattle.std.specs.List.{slice_get}
+use Rattle.std.specs.Option.{option_flatten}
+use Rattle.std.proofs.lemmas.Bool.{and_from, eq-eqb}
+use Rattle.std.proofs.lemmas.Option.{slice_get_within}
 use Rattle.hex_board.specs.Elements.{PlayerBoard, edge_element}
-use Rattle.hex_board.specs.Positions.{Position}
+use Rattle.hex_board.specs.Positions.{Position, Within, stones_of}
 use Rattle.hex_cells.specs.declared.colours.Colour.{Colour}
-use Rattle.conn_store.specs.Entries.{IsBetween}
-use Rattle.conn_store.specs.Stores.{StoreData}
+use Rattle.conn_store.specs.Entries.{IsBetween, IsValid}
+use Rattle.conn_store.specs.Stores.{IsSound, StoreData}
 use Rattle.conn_store.specs.declared.entries.Entry.{Entry}
-use Rattle.win_cert.specs.Cuts.{CertifiesEntry, IsEdgeEntryAt}
-use Rattle.win_cert.specs.Cutting.{AreDerived, Derives, unscoped}
+use Rattle.win_cert.specs.Contexts.{after_lines, first_context}
+use Rattle.win_cert.specs.Cuts.{CertifiesEntry, HasLinesFor, IsEdgeEntryAt, entries_in, scoped}
+use Rattle.win_cert.specs.Derivations.{DerivesOnto, IsDerivation, given_there}
+use Rattle.win_cert.specs.Entries.{Context, ScopedEntry, elements_at, entry_at}
+use Rattle.win_cert.specs.Freer.{moved, moved_entry}
 use Rattle.win_cert.specs.Scopes.{player_board}
+use Rattle.win_cert.specs.Statements.{is_edge_entry}
+use Rattle.win_cert.specs.Verdicts.{IsVerdict, yes}
 use Rattle.win_cert.specs.Writable.{IsLineOf}
 use Rattle.win_cert.specs.declared.certs.Cert.{Cert}
+use Rattle.win_cert.specs.declared.lines.Line.{Line}
 use Rattle.win_cert.specs.declared.certs.TheConstants.{FIRST_VERSION}
-use Rattle.win_cert.proofs.CutVerdicts.{all_at, cut_accepted, cut_claims}
+use Rattle.win_cert.proofs.Appending.{length_after}
+use Rattle.win_cert.proofs.CutSteps.{unscoped_board}
+use Rattle.win_cert.proofs.CutVerdicts.{accepted, first_of, read_all}
+use Rattle.win_cert.proofs.Moved.{freer_self, moved_self}
+
+-- ---- the board
+
+-- the certificate is one of the store's board, for its player, and its lines are those of entry n
+pub record IsCutOf (d : StoreData) (n : ℕ) (cert : Cert) : Type 0 where
+  pub board : cert.board ≡ d.elements.board
+  pub player : cert.player ≡ d.elements.player
+  pub lines : DerivesOnto d n [] cert.lines cert.entry
+  pub sound : IsSound d
+  pub own : Within d.elements.board.size (stones_of d.elements.board d.elements.player)
+
+-- where no line stood before
+pub first_lines : {d : StoreData} {n i : ℕ} {old new : List Line} → old ≡ [] → DerivesOnto d n old new i → DerivesOnto d n [] new i
+first_lines {d = d} {n = n} {i = i} {new = new} h w = subst (λ v. DerivesOnto d n v new i) h w
+
+pub cut_of : {lines : List Line} (d r : StoreData) (n : ℕ) (cert : Cert) → d ≡ r → cert.board ≡ d.elements.board → cert.player ≡ d.elements.player → cert.lines ≡ lines
+    → DerivesOnto d n [] lines cert.entry → IsSound d → Within d.elements.board.size (stones_of d.elements.board d.elements.player) → IsCutOf r n cert
+cut_of d r n cert h b p l w s on = subst (λ v. IsCutOf v n cert) h (record { board = b; player = p; lines = subst (λ v. DerivesOnto d n [] v cert.entry) (sym l) w; sound = s; own = on })
 
 same_board : (cert : Cert) (e : PlayerBoard) → cert.board ≡ e.board → cert.player ≡ e.player → player_board cert ≡ e
 same_board cert e h k = ap (λ (p : Position). record { board = p; player = cert.player }) h ∙ ap (λ (q : Colour). record { board = e.board; player = q }) k
 
-pub certified : (d : StoreData) (n : ℕ) (a : Entry) (cert : Cert) → IsEdgeEntryAt d n a → Derives d n cert.lines cert.entry → cert.version ≡ FIRST_VERSION → cert.board ≡ d.elements.board
-    → cert.player ≡ d.elements.player → cert.claim ≡ a.kind → CertifiesEntry d a cert
-certified d n a cert h w v b p k =
-    let same = same_board cert d.elements b p in
-    let derived : AreDerived (player_board cert) cert.lines w.given = subst (λ e. AreDerived e cert.lines w.given) (sym same) w.derived in
-    let between : IsBetween a (edge_element (player_board cert) false) (edge_element (player_board cert) true) = subst (λ e. IsBetween a (edge_element e false) (edge_element e true)) (sym same) h.1 in
-    let few : length cert.lines ≤ 75030 = w.few in
-    let place : cert.entry < length cert.lines = w.place in
+first_elements : (d : StoreData) (n : ℕ) (cert : Cert) → IsCutOf d n cert → elements_at (first_of cert) ≡ d.elements
+first_elements d n cert w = unscoped_board (player_board cert) ∙ same_board cert d.elements w.board w.player
+
+derived : (d : StoreData) (n : ℕ) (cert : Cert) (w : IsCutOf d n cert) → IsDerivation d n w.lines.own (first_of cert) cert.lines cert.entry
+derived d n cert w = subst (λ l. IsDerivation d n w.lines.own (first_of cert) l cert.entry) (sym w.lines.added)
+    (w.lines.derives (first_of cert) refl (freer_self d.elements (elements_at (first_of cert)) (first_elements d n cert w)))
+
+-- ---- the entries have their own elements
+
+entry_same : (a : Entry) (x y : ℕ) → x ≡ a.x → y ≡ a.y → scoped 0 (record { kind = a.kind; x = x; y = y; carrier = a.carrier; cause = a.cause }) ≡ scoped 0 a
+entry_same a x y h k = ap (λ v. scoped 0 (record { kind = a.kind; x = v; y = y; carrier = a.carrier; cause = a.cause })) h
+    ∙ ap (λ v. scoped 0 (record { kind = a.kind; x = a.x; y = v; carrier = a.carrier; cause = a.cause })) k
+
+given_same : (d : StoreData) (n : ℕ) (cert : Cert) → IsCutOf d n cert → (i : ℕ) (a : Entry) → slice_get d.entries i ≡ Some a → given_there d (first_of cert) a ≡ Some (scoped 0 a)
+given_same d n cert w i a at =
+    let v : IsValid d.elements a = w.sound.valid i a at in
+    let order : a.x < a.y = v.order in
+    ap (λ e. Some (scoped 0 (moved_entry d.elements e a))) (first_elements d n cert w)
+    ∙ ap (λ o. Some o) (entry_same a (moved d.elements d.elements a.x) (moved d.elements d.elements a.y)
+    (moved_self d.elements a.x w.own (omega (arith, order, v.elements))) (moved_self d.elements a.y w.own v.elements))
+
+map_front : {Y : Type 0} (f g : Entry → Y) (b : Bool) (a : Entry) (xs : List Entry) → f a ≡ g a → map f xs ≡ map g xs → map f (if b then a ∷ xs else xs) ≡ map g (if b then a ∷ xs else xs)
+map_front f g true a xs h k = ap (λ v. v ∷ map f xs) h ∙ ap (λ v. g a ∷ v) k
+map_front f g false a xs h k = k
+
+map_same : {Y : Type 0} (f g : Entry → Y) (set : ℕ → Bool) (entries : List Entry) → ((i : ℕ) (a : Entry) → slice_get entries i ≡ Some a → f a ≡ g a) → map f (entries_in set entries) ≡ map g (entries_in set entries)
+map_same f g set [] h = refl
+map_same f g set (a ∷ entries) h = map_front f g (set 0) a _ (h 0 a refl) (map_same f g (λ i. set (suc i)) entries (λ i b q. h (suc i) b q))
+
+-- ---- the certificate
+
+pub lines_for : (d : StoreData) (n : ℕ) (cert : Cert) → IsCutOf d n cert → HasLinesFor d n cert
+lines_for d n cert w =
+    let (set, support, is) = w.lines.rests in (
+      w.lines.own,
+      w.lines.rests,
+      ap (λ (c : Context). c.earlier) (read_all cert) ∙ (derived d n cert w).gives
+          ∙ ap (map (given_there d (first_of cert))) is
+          ∙ map_same (given_there d (first_of cert)) (λ a. Some (scoped 0 a)) set d.entries (given_same d n cert w)
+          ∙ ap (map (λ a. Some (scoped 0 a))) (sym is),
+    )
+
+edges_of : (e : PlayerBoard) (a : Entry) → IsBetween a (edge_element e false) (edge_element e true) → (a.x == edge_element e false && a.y == edge_element e true) ≡ true
+edges_of e a h =
+    let x : ℕ = edge_element e true in
+    let px : a.x ≡ min 0 x = h.0 in
+    let py : a.y ≡ max 0 x = h.1 in
+    and_from (a.x == 0) (a.y == x) (eq-eqb a.x 0 (omega arith)) (eq-eqb a.y x (omega arith))
+
+claimed : (d : StoreData) (n : ℕ) (a : Entry) (cert : Cert) → IsCutOf d n cert → slice_get d.entries n ≡ Some a → entry_at (after_lines (first_of cert) cert.lines) cert.entry ≡ Some (scoped 0 a)
+claimed d n a cert w at = (derived d n cert w).entry a at ∙ given_same d n cert w n a at
+
+-- the number of an entry that was given is that of a line
+given_within : (c : Context) (i : ℕ) (a : ScopedEntry) → entry_at c i ≡ Some a → i < length c.earlier
+given_within c i a h = some_within (slice_get c.earlier i) refl h
+  where
+    some_within : (o : Option (Option ScopedEntry)) → slice_get c.earlier i ≡ o → option_flatten o ≡ Some a → i < length c.earlier
+    some_within None e k = absurd (cc)
+    some_within (Some x) e k = slice_get_within c.earlier i x e
+
+entry_small : (cert : Cert) (a : ScopedEntry) → length cert.lines ≤ 75030 → entry_at (after_lines (first_of cert) cert.lines) cert.entry ≡ Some a → cert.entry ≤ 999999
+entry_small cert a l h =
+    let m : cert.entry < length (after_lines (first_of cert) cert.lines).earlier = given_within (after_lines (first_of cert) cert.lines) cert.entry a h in
+    let n : length (after_lines (first_of cert) cert.lines).earlier ≡ 0 + length cert.lines = length_after (first_of cert) cert.lines in
+    omega arith
+
+pub certified : (d : StoreData) (n : ℕ) (a : Entry) (cert : Cert) → IsCutOf d n cert → IsEdgeEntryAt d n a → cert.version ≡ FIRST_VERSION → cert.claim ≡ a.kind → CertifiesEntry d a cert
+certified d n a cert w h v k =
+    let few : length cert.lines ≤ 75030 = subst (λ l. length l ≤ 75030) (sym w.lines.added) w.lines.few in
+    let edges : is_edge_entry (player_board cert) (scoped 0 a) ≡ true = ap (λ e. a.x == edge_element e false && a.y == edge_element e true) (first_elements d n cert w) ∙ edges_of d.elements a h.1 in
+    let at = claimed d n a cert w h.0 in
     record {
       version = v;
-      board = b;
-      player = p;
-      verdict = (cut_accepted cert w.given a derived between k (w.entry a h.0), sym k, unscoped a, cut_claims cert w.given a derived (w.entry a h.0), refl);
+      board = w.board;
+      player = w.player;
+      verdict = subst (λ z. IsVerdict cert (yes z a.carrier)) k (accepted cert (scoped 0 a) (derived d n cert w).clear at (sym k) refl edges);
       writable = (
         record {
           version = inl v;
-          lines = all_at (IsLineOf cert.version cert.board.size) cert.lines (λ i line q. subst (λ z. IsLineOf z cert.board.size line) (sym v) (derived.each i line q).2.form);
-          entry = omega arith;
+          lines = subst (λ z. All (IsLineOf z cert.board.size) cert.lines) (sym v)
+              (subst (λ (p : Position). All (IsLineOf FIRST_VERSION p.size) cert.lines) (sym w.board) (subst (λ l. All (IsLineOf FIRST_VERSION d.elements.board.size) l) (sym w.lines.added) w.lines.form));
+          entry = entry_small cert (scoped 0 a) few at;
         },
         omega arith,
       );

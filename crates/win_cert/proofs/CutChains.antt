@@ -1,10 +1,9 @@
--- What a line in the empty scope names: the entries that lines before it gave, and of two that share
+-- What a line names: the entries that lines before it gave, and of two that share
 -- an element, that element and the other ends.
 use Rattle.std.proofs.Common.{◌≡◌, ℕ, ◌==◌, ◌||◌, true, false, Bool, List, [], ◌∷◌, Option, Some, None, min, max, option_map, if◌then◌else◌, refl, sym, ◌∙◌, ap, inl, inr, ◌⊎◌}
 use Rattle.std.specs.List.{cons_option, list_all, slice_get}
 use Rattle.std.specs.Option.{is_some, option_flatten, option_map_or}
 use Rattle.std.proofs.lemmas.Bool.{eq-eqb, false_from_ne_true, false≢true, ne_eqb, true≢false, or_from}
-use Rattle.std.proofs.lemmas.Option.{slice_get-map}
 use Rattle.hex_cells.specs.Sets.{has}
 use Rattle.hex_cells.specs.declared.board_size.TheConstants.{MOST_CELLS}
 use Rattle.hex_board.specs.Elements.{PlayerBoard}
@@ -13,15 +12,11 @@ use Rattle.hex_board.proofs.Search.{any_out}
 use Rattle.conn_store.specs.Entries.{Misses}
 use Rattle.conn_store.specs.Rules.{IsGroup}
 use Rattle.conn_store.proofs.RuleTruth.{least_first}
-use Rattle.win_cert.specs.Cutting.{over}
 use Rattle.win_cert.specs.Entries.{Context, ScopedEntry, entries_at, entry_at, is_end, middle_of, other_end}
 use Rattle.win_cert.specs.Statements.{is_cell_in, share_cell}
 use Rattle.win_cert.proofs.Middles.{is_cell, if_yes, if_no}
 
 -- ---- the entries that are named
-
-pub entry_over : (e : PlayerBoard) (given : List ScopedEntry) (i : ℕ) (a : ScopedEntry) → slice_get given i ≡ Some a → entry_at (over e given) i ≡ Some a
-entry_over e given i a h = ap option_flatten (slice_get-map Some given i ∙ ap (option_map Some) h)
 
 pub two_at : (c : Context) (i j : ℕ) (a b : ScopedEntry) → entry_at c i ≡ Some a → entry_at c j ≡ Some b → entries_at c (i ∷ j ∷ []) ≡ a ∷ b ∷ []
 two_at c i j a b h k = ap (λ o. cons_option o (cons_option (entry_at c j) [])) h ∙ ap (λ o. cons_option (Some a) (cons_option o [])) k

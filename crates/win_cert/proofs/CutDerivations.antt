@@ -1,25 +1,16 @@
--- The lines of a cut, one entry after another.
+-- The premises of an entry are earlier ones.
 use Rattle.std.proofs.Common.{◌≡◌, ℕ, ◌+◌, ◌<◌, ◌≤◌, ◌==◌, true, false, Bool, List, [], ◌∷◌, ◌++◌, Option, Some, None, All, length, take, get_or, if◌then◌else◌, refl, sym, ◌∙◌, ap, subst, inl, inr, ◌⊎◌, zero, suc, arith}
 use Rattle.std.specs.List.{slice_get}
-use Rattle.std.proofs.Math.ListN.{get_or-append}
-use Rattle.std.proofs.Math.Seq.{get_or-append_seam, take-append_seam}
-use Rattle.std.proofs.lemmas.Bool.{true≢false}
-use Rattle.std.proofs.lemmas.List.{take-append-le}
 use Rattle.std.proofs.lemmas.List.Elements.{All-cons, All-head, All-nil}
-use Rattle.std.proofs.lemmas.Option.{slice_get_past, slice_get_within}
 use Rattle.hex_board.specs.Elements.{PlayerBoard}
 use Rattle.conn_store.specs.Rules.{AreAt, FollowsBy}
 use Rattle.conn_store.specs.Stores.{IsSound, StoreData}
 use Rattle.conn_store.specs.declared.entries.Cause.{Cause}
 use Rattle.conn_store.specs.declared.entries.Cause.TheVariants.{Adjacent, AndGroup, AndEmpty, Or}
 use Rattle.conn_store.specs.declared.entries.Entry.{Entry}
-use Rattle.conn_store.specs.declared.entries.TheConstants.{MOST_ENTRIES}
-use Rattle.win_cert.specs.Cutting.{AreDerived, AreLinesTo, AreMarks, Derives, IsDerivedBy, IsLineFor, NameEarlier, is_marked, named, unscoped}
-use Rattle.win_cert.specs.Entries.{ScopedEntry}
-use Rattle.win_cert.specs.declared.lines.Line.{Line}
-use Rattle.win_cert.proofs.CutLines.{IsPlaced, IsSmallAt, line_form, line_right, second_in, third_in, number_of_ways}
-use Rattle.win_cert.proofs.CutVerdicts.{cases_at, some_at}
-use Rattle.win_cert.proofs.GivenEntries.{at_left}
+use Rattle.win_cert.specs.Cuts.{premises}
+use Rattle.win_cert.specs.Cutting.{NameEarlier}
+use Rattle.win_cert.proofs.CutLines.{second_in, third_in, number_of_ways}
 
 -- ---- names of earlier entries
 
@@ -48,7 +39,7 @@ third_added : (n i j k : ℕ) (two : Bool) → i < n → j < n → k < n → All
 third_added n i j k true p q r = All-cons (λ v. v < n) i (j ∷ []) p (All-cons (λ v. v < n) j [] q (All-nil (λ v. v < n)))
 third_added n i j k false p q r = All-cons (λ v. v < n) i (j ∷ k ∷ []) p (All-cons (λ v. v < n) j (k ∷ []) q (All-cons (λ v. v < n) k [] r (All-nil (λ v. v < n))))
 
-or_below : (n : ℕ) (numbers : List ℕ) (count : ℕ) → All (λ j. j < n) (take count numbers) → 2 ≤ length (take count numbers) → All (λ j. j < n) (named (Or numbers count))
+or_below : (n : ℕ) (numbers : List ℕ) (count : ℕ) → All (λ j. j < n) (take count numbers) → 2 ≤ length (take count numbers) → All (λ j. j < n) (premises (Or numbers count))
 or_below n numbers zero h l = absurd (omega arith)
 or_below n [] (suc count) h l = absurd (omega arith)
 or_below n (i ∷ numbers) (suc zero) h l = absurd (omega arith)
@@ -63,7 +54,7 @@ or_below n (i ∷ j ∷ m ∷ numbers) (suc (suc (suc count))) h l =
     let rest = m ∷ take count numbers in
     third_added n i j m (suc (suc (suc count)) == 2) (All-head P i (j ∷ rest) h) (second_in P i j rest h) (third_in P i j m (take count numbers) h)
 
-by_below : (e : PlayerBoard) (entries : List Entry) (n : ℕ) (a : Entry) (cause : Cause) → FollowsBy e (take n entries) a cause → All (λ j. j < n) (named cause)
+by_below : (e : PlayerBoard) (entries : List Entry) (n : ℕ) (a : Entry) (cause : Cause) → FollowsBy e (take n entries) a cause → All (λ j. j < n) (premises cause)
 by_below e entries n a Adjacent f = All-nil (λ j. j < n)
 by_below e entries n a (AndGroup i j) (b, d, x, u, y, t, r, g, w, k, c) = all_below entries n (i ∷ j ∷ []) (b ∷ d ∷ []) t
 by_below e entries n a (AndEmpty i j) (b, d, x, u, y, z, t, r, g, w, k, c) = all_below entries n (i ∷ j ∷ []) (b ∷ d ∷ []) t
@@ -74,12 +65,7 @@ by_below e entries n a (Or numbers count) (ways, t, r, k, c) = or_below n number
 pub name_earlier : (d : StoreData) → IsSound d → NameEarlier d.entries
 name_earlier d s i a h = by_below d.elements d.entries i a a.cause (s.follows i a h)
 
--- ---- one line more
-
-left_same : {X : Type 0} (xs ys : List X) (i : ℕ) → i < length xs → slice_get (xs ++ ys) i ≡ slice_get xs i
-left_same [] ys i l = absurd (omega arith)
-left_same (x ∷ xs) ys zero l = refl
-left_same (x ∷ xs) ys (suc i) l = left_same xs ys i (omega arith)
+-- ---- lists
 
 pub last_at : {X : Type 0} (xs : List X) (x : X) → slice_get (xs ++ x ∷ []) (length xs) ≡ Some x
 last_at [] x = refl
@@ -89,109 +75,20 @@ pub longer : {X : Type 0} (xs : List X) (x : X) → length (xs ++ x ∷ []) ≡ 
 longer [] x = refl
 longer (y ∷ xs) x = let e : length (xs ++ x ∷ []) ≡ length xs + 1 = longer xs x in omega arith
 
-none_there : {X : Type 0} (o : Option X) (x : X) → o ≡ None → o ≡ Some x → ⊥
-none_there o x h k = cc
-
-some_line : (a b : Line) → Some a ≡ Some b → a ≡ b
-some_line a b h = cc
-
 pub some_entry : (a b : Entry) → Some a ≡ Some b → a ≡ b
 some_entry a b h = cc
 
-derived_more : (e : PlayerBoard) (lines : List Line) (given : List ScopedEntry) (line : Line) (x : ScopedEntry) → AreDerived e lines given → IsDerivedBy e given line x → AreDerived e (lines ++ line ∷ []) (given ++ x ∷ [])
-derived_more e lines given line x d r =
-    let n : length given ≡ length lines = d.number in
-    record {
-      number = longer given x ∙ ap (λ v. v + 1) n ∙ sym (longer lines line);
-      each = λ k l q. elim (cases_at k (length lines)) [
-        | inl m ↦
-            let (y, h, w) = d.each k l (sym (left_same lines (line ∷ []) k m) ∙ q) in
-            (y, at_left given (x ∷ []) k y h, subst (λ v. IsDerivedBy e v l y) (sym (take-append-le k given (x ∷ []) (omega arith))) w)
-        | inr (inl m) ↦
-            let o : k ≡ length given = m ∙ sym n in
-            let same : line ≡ l = some_line line l (sym (last_at lines line) ∙ ap (slice_get (lines ++ line ∷ [])) (sym m) ∙ q) in (
-              x,
-              ap (slice_get (given ++ x ∷ [])) o ∙ last_at given x,
-              subst (λ v. IsDerivedBy e (take v (given ++ x ∷ [])) l x) (sym o) (subst (λ v. IsDerivedBy e v l x) (sym (take-append_seam given (x ∷ []))) (subst (λ v. IsDerivedBy e given v x) same r)),
-            )
-        | inr (inr m) ↦ absurd (none_there (slice_get (lines ++ line ∷ []) k) l (slice_get_past (lines ++ line ∷ []) k (let p : length (lines ++ line ∷ []) ≡ length lines + 1 = longer lines line in omega arith)) q)
-      ];
-    }
+pub some_at : {X : Type 0} (xs : List X) (k : ℕ) → k < length xs → (x : X) × (slice_get xs k ≡ Some x)
+some_at [] k l = absurd (omega arith)
+some_at (x ∷ xs) zero l = (x, refl)
+some_at (x ∷ xs) (suc k) l = some_at xs k (omega arith)
 
--- ---- one entry more
+pub cases_at : (k n : ℕ) → (k < n) ⊎ ((k ≡ n) ⊎ (n < k))
+cases_at zero zero = inr (inl refl)
+cases_at zero (suc n) = inl (omega arith)
+cases_at (suc k) zero = inr (inr (omega arith))
+cases_at (suc k) (suc n) = elim (cases_at k n) [ inl l ↦ inl (omega arith) | inr (inl q) ↦ inr (inl (ap suc q)) | inr (inr l) ↦ inr (inr (omega arith)) ]
 
-pub lines_on : (d : StoreData) (marks : List Bool) (n : ℕ) (lines : List Line) (renamed : List ℕ) (v : ℕ) → AreLinesTo d marks n lines renamed → is_marked marks n ≡ false
-    → AreLinesTo d marks (n + 1) lines (renamed ++ v ∷ [])
-lines_on d marks n lines renamed v w f =
-    let m : length renamed ≡ n = w.number in
-    let few : length lines ≤ n = w.few in
-    record {
-      given = w.given;
-      derived = w.derived;
-      few = omega arith;
-      number = longer renamed v ∙ ap (λ z. z + 1) m;
-      places = λ i a l h q. elim (cases_at i n) [
-        | inl p ↦ subst (λ z. (z < length lines) × (slice_get w.given z ≡ Some (unscoped a))) (sym (get_or-append renamed (v ∷ []) 0 i (omega arith))) (w.places i a p h q)
-        | inr (inl p) ↦ absurd (true≢false (sym h ∙ ap (is_marked marks) p ∙ f))
-        | inr (inr p) ↦ absurd (omega arith)
-      ];
-    }
-
-pub lines_more : (d : StoreData) (marks : List Bool) (whole n : ℕ) (lines : List Line) (renamed : List ℕ) (a : Entry) (line : Line) → AreLinesTo d marks n lines renamed → IsSound d
-    → length d.entries ≤ MOST_ENTRIES → AreMarks d.entries whole marks → slice_get d.entries n ≡ Some a → is_marked marks n ≡ true
-    → IsLineFor d.elements (renamed ++ length lines ∷ []) a a.cause line → AreLinesTo d marks (n + 1) (lines ++ line ∷ []) (renamed ++ length lines ∷ [])
-lines_more d marks whole n lines renamed a line w s few_entries marked at known form =
-    let m : length renamed ≡ n = w.number in
-    let few : length lines ≤ n = w.few in
-    let more = renamed ++ length lines ∷ [] in
-    let long : length (lines ++ line ∷ []) ≡ length lines + 1 = longer lines line in
-    let g : length w.given ≡ length lines = w.derived.number in
-    let inside : n < length d.entries = slice_get_within d.entries n a at in
-    let most : length d.entries ≤ 75030 = few_entries in
-    let from = take n d.entries in
-    let earlier : All (λ j. j < n) (named a.cause) = name_earlier d s n a at in
-    let closed : All (λ j. is_marked marks j ≡ true) (named a.cause) = marked.closed n a (omega arith) known at in
-    let old : (i : ℕ) → i < n → get_or more i 0 ≡ get_or renamed i 0 = λ i l. get_or-append renamed (length lines ∷ []) 0 i (omega (arith, l)) in
-    let placed : All (IsPlaced w.given more from) (named a.cause) = λ k z l. λ b h.
-    let j : ℕ = get_or (named a.cause) k z in
-    let lj : j < n = earlier k z l in
-    ap (slice_get w.given) (old j lj) ∙ (w.places j b lj (closed k z l) (taken_back d.entries n j b h)).1 in
-    let right = line_right d.elements w.given more from a line (λ i b h. (s.valid i b (taken_back d.entries n i b h)).order) (s.valid n a at).order (s.follows n a at) form placed in
-    let small : All (IsSmallAt more) (named a.cause) = λ k z l.
-    let j : ℕ = get_or (named a.cause) k z in
-    let lj : j < n = earlier k z l in
-    let (b, h) = some_at d.entries j (omega (arith, lj)) in
-    let p : get_or renamed j 0 < length lines = (w.places j b lj (closed k z l) h).0 in
-    subst (λ v. v ≤ 999999) (sym (old j lj)) (omega (arith, p)) in
-    let last : get_or more n 0 ≡ length lines = ap (λ v. get_or more v 0) (sym m) ∙ get_or-append_seam renamed (length lines) [] 0 in
-    record {
-      given = w.given ++ unscoped a ∷ [];
-      derived = derived_more d.elements lines w.given line (unscoped a) w.derived (record { form = line_form d.elements more a line a.cause form small; gives_it = right.0; clear = right.1 });
-      few = omega arith;
-      number = longer renamed (length lines) ∙ ap (λ z. z + 1) m;
-      places = λ i b l h q. elim (cases_at i n) [
-        | inl p ↦
-            let o = w.places i b p h q in
-            let r : get_or renamed i 0 < length lines = o.0 in
-            subst (λ z. (z < length (lines ++ line ∷ [])) × (slice_get (w.given ++ unscoped a ∷ []) z ≡ Some (unscoped b))) (sym (old i p))
-            (omega (arith, r), at_left w.given (unscoped a ∷ []) (get_or renamed i 0) (unscoped b) o.1)
-        | inr (inl p) ↦
-            let same : a ≡ b = some_entry a b (sym at ∙ ap (slice_get d.entries) (sym p) ∙ q) in
-            subst (λ z. (z < length (lines ++ line ∷ [])) × (slice_get (w.given ++ unscoped a ∷ []) z ≡ Some (unscoped b))) (sym (ap (λ v. get_or more v 0) p ∙ last))
-            (omega arith, ap (slice_get (w.given ++ unscoped a ∷ [])) (sym g) ∙ last_at w.given (unscoped a) ∙ ap (λ v. Some (unscoped v)) same)
-        | inr (inr p) ↦ absurd (omega arith)
-      ];
-    }
-
-pub lines_end : (d : StoreData) (marks : List Bool) (n m : ℕ) (lines : List Line) (renamed : List ℕ) → AreLinesTo d marks m lines renamed → m ≡ n + 1 → n < length d.entries
-    → length d.entries ≤ MOST_ENTRIES → AreMarks d.entries n marks → Derives d n lines (get_or renamed n 0)
-lines_end d marks n m lines renamed w q l few marked =
-    let (a, h) = some_at d.entries n l in
-    let least : length lines ≤ m = w.few in
-    record {
-      given = w.given;
-      derived = w.derived;
-      few = omega arith;
-      place = (w.places n a (omega arith) marked.whole h).0;
-      entry = λ b p. (w.places n b (omega arith) marked.whole p).1;
-    }
+pub all_at : {X : Type 0} (P : X → Type 0) (xs : List X) → ((i : ℕ) (x : X) → slice_get xs i ≡ Some x → P x) → All P xs
+all_at P [] h = All-nil P
+all_at P (x ∷ xs) h = All-cons P x xs (h 0 x refl) (all_at P xs (λ i y q. h (suc i) y q))

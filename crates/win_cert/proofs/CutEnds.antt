@@ -5,7 +5,8 @@ use Rattle.std.proofs.lemmas.Bool.{and_parts, false_from_ne_true, ltb-true}
 use Rattle.hex_cells.specs.Sets.{has}
 use Rattle.hex_cells.specs.Colours.{other_of}
 use Rattle.hex_board.specs.Elements.{PlayerBoard, HasCell}
-use Rattle.hex_board.specs.Positions.{stones_of}
+use Rattle.hex_board.specs.Positions.{Position, Within, stones_of}
+use Rattle.hex_cells.specs.declared.colours.Colour.{Colour}
 use Rattle.hex_board.proofs.Parts.{case_of, is_free, is_first, is_second, is_group, is_other, linked_last, none_other, tied_stone, none_some}
 use Rattle.win_cert.specs.Cutting.{AreStonesOn, IsEndFor}
 use Rattle.win_cert.specs.declared.lines.End.TheVariants.{At}
@@ -35,3 +36,8 @@ cell_end e x k s h =
 pub some_case : (P : Type 0) (Q : ℕ → Type 0) (o : Option ℕ) (k : ℕ) → MatchOption o P Q → o ≡ Some k → Q k
 some_case P Q None k m h = absurd (cc)
 some_case P Q (Some v) k m h = let e : v ≡ k = cc in subst Q e m
+
+-- the player's stones, as they are asked for, lie on the board
+pub stones_within : (p : Position) (e : PlayerBoard) (c : Colour) (s : ℕ) → p ≡ e.board → c ≡ e.player → s ≡ stones_of p c → Within p.size s → Within e.board.size (stones_of e.board e.player)
+stones_within p e c s h k q on =
+    subst (λ (v : Position). Within v.size (stones_of v e.player)) h (subst (λ (v : Colour). Within p.size (stones_of p v)) k (subst (Within p.size) q on))

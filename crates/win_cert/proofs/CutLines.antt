@@ -1,4 +1,5 @@
--- The line for an entry that follows from earlier ones is right, and is one of the first version.
+-- The line for an entry that follows from earlier ones is right, in any scope, and is one of the
+-- first version.
 use Rattle.std.proofs.Common.{◌≡◌, ℕ, ◌<◌, ◌≤◌, ◌==◌, true, false, Bool, List, [], ◌∷◌, Some, All, length, take, get_or, refl, sym, ◌∙◌, ap, subst, inl, inr, ◌⊎◌, zero, suc, if◌then◌else◌, arith}
 use Rattle.std.specs.List.{slice_get}
 use Rattle.std.proofs.lemmas.Bool.{ne_eqb, true≢false}
@@ -13,21 +14,20 @@ use Rattle.conn_store.specs.declared.entries.Cause.TheVariants.{Adjacent, AndGro
 use Rattle.conn_store.specs.declared.entries.Entry.{Entry}
 use Rattle.conn_store.specs.declared.entries.Kind.TheVariants.{Full, Semi}
 use Rattle.hsearch.proofs.Orders.{three_of, two_of}
-use Rattle.win_cert.specs.Cutting.{IsLineFor, named, over, unscoped}
-use Rattle.win_cert.specs.Entries.{ScopedEntry}
-use Rattle.win_cert.specs.Scopes.{elements_in}
+use Rattle.win_cert.specs.Cuts.{premises, scoped}
+use Rattle.win_cert.specs.Cutting.{IsLineFor}
+use Rattle.win_cert.specs.Entries.{Context, elements_at, entry_at}
 use Rattle.win_cert.specs.Writable.{AreNumbers, IsLineOf}
 use Rattle.win_cert.specs.declared.certs.TheConstants.{FIRST_VERSION}
 use Rattle.win_cert.specs.declared.lines.Line.{Line}
 use Rattle.win_cert.specs.declared.lines.Line.TheVariants.{Or2, Or3}
 use Rattle.win_cert.specs.declared.lines.TheConstants.{MOST_NUMBER}
-use Rattle.win_cert.proofs.CutChains.{entry_over}
-use Rattle.win_cert.proofs.CutSteps.{IsChainAt, IsRight, IsWayAt, adj_right, and_right, key_right, three_right, two_right, unscoped_board}
+use Rattle.win_cert.proofs.CutSteps.{IsChainAt, IsRight, IsWayAt, adj_right, and_right, key_right, three_right, two_right}
 use Rattle.conn_store.proofs.RuleEntries.{both_full, all_full}
 
 -- the entry with number i was given by the line with its new number
-abbrev pub IsPlaced : List ScopedEntry → List ℕ → List Entry → ℕ → Type 0
-IsPlaced given renamed from i = (b : Entry) → slice_get from i ≡ Some b → slice_get given (get_or renamed i 0) ≡ Some (unscoped b)
+abbrev pub IsPlaced : Context → List ℕ → List Entry → ℕ → Type 0
+IsPlaced cx renamed from i = (b : Entry) → slice_get from i ≡ Some b → entry_at cx (get_or renamed i 0) ≡ Some (scoped cx.scope b)
 
 first_at : (from : List Entry) (i : ℕ) (numbers : List ℕ) (a : Entry) (ways : List Entry) → AreAt from (i ∷ numbers) (a ∷ ways) → (slice_get from i ≡ Some a) × AreAt from numbers ways
 first_at from i numbers a ways h = (cc, cc)
@@ -39,46 +39,46 @@ pub third_in : (P : ℕ → Type 0) (i j k : ℕ) (rest : List ℕ) → All P (i
 third_in P i j k rest h = second_in P j k rest (All-tail P i (j ∷ k ∷ rest) h)
 
 -- the entries that are named, the lesser element of each first
-abbrev AreOrdered : List Entry → Type 0
+abbrev pub AreOrdered : List Entry → Type 0
 AreOrdered from = (i : ℕ) (b : Entry) → slice_get from i ≡ Some b → b.x < b.y
 
 -- ---- `or`
 
-way_at : (e : PlayerBoard) (given : List ScopedEntry) (renamed : List ℕ) (from : List Entry) (a b : Entry) (i : ℕ) → a.x < a.y → slice_get from i ≡ Some b → IsPlaced given renamed from i
-    → b.kind ≡ Semi → IsBetween b a.x a.y → IsWayAt (over e given) (get_or renamed i 0) b a
-way_at e given renamed from a b i l h p k q = record { at = entry_over e given (get_or renamed i 0) (unscoped b) (p b h); kind_is = k; order = l; pair = q }
+way_at : (cx : Context) (renamed : List ℕ) (from : List Entry) (a b : Entry) (i : ℕ) → a.x < a.y → slice_get from i ≡ Some b → IsPlaced cx renamed from i
+    → b.kind ≡ Semi → IsBetween b a.x a.y → IsWayAt cx (get_or renamed i 0) b a
+way_at cx renamed from a b i l h p k q = record { at = p b h; kind_is = k; order = l; pair = q }
 
-over_two : (e : PlayerBoard) (given : List ScopedEntry) (renamed : List ℕ) (from : List Entry) (a : Entry) (i j : ℕ) (ways : List Entry) → a.x < a.y
-    → AreAt from (i ∷ j ∷ []) ways → OrRule ways a.x a.y → a.kind ≡ Full → a.carrier ≡ union_of ways → IsPlaced given renamed from i → IsPlaced given renamed from j
-    → IsRight (over e given) (Or2 (get_or renamed i 0) (get_or renamed j 0)) a
-over_two e given renamed from a i j [] l t r k c p q = absurd (cc)
-over_two e given renamed from a i j (b ∷ []) l t r k c p q = absurd (cc)
-over_two e given renamed from a i j (b ∷ d ∷ []) l t r k c p q =
+over_two : (cx : Context) (renamed : List ℕ) (from : List Entry) (a : Entry) (i j : ℕ) (ways : List Entry) → a.x < a.y
+    → AreAt from (i ∷ j ∷ []) ways → OrRule ways a.x a.y → a.kind ≡ Full → a.carrier ≡ union_of ways → IsPlaced cx renamed from i → IsPlaced cx renamed from j
+    → IsRight cx (Or2 (get_or renamed i 0) (get_or renamed j 0)) a
+over_two cx renamed from a i j [] l t r k c p q = absurd (cc)
+over_two cx renamed from a i j (b ∷ []) l t r k c p q = absurd (cc)
+over_two cx renamed from a i j (b ∷ d ∷ []) l t r k c p q =
     let u = first_at from i (j ∷ []) b (d ∷ []) t in
     let v = first_at from j [] d [] u.1 in
     let w = two_of b d a.x a.y r in
-    two_right (over e given) (get_or renamed i 0) (get_or renamed j 0) b d a refl (way_at e given renamed from a b i l u.0 p w.first_kind w.first_pair)
-    (way_at e given renamed from a d j l v.0 q w.second_kind w.second_pair) (λ z. both_full (has b.carrier z) (has d.carrier z) (w.free z)) k c
-over_two e given renamed from a i j (b ∷ d ∷ f ∷ ways) l t r k c p q = absurd (cc)
+    two_right cx (get_or renamed i 0) (get_or renamed j 0) b d a (way_at cx renamed from a b i l u.0 p w.first_kind w.first_pair)
+    (way_at cx renamed from a d j l v.0 q w.second_kind w.second_pair) (λ z. both_full (has b.carrier z) (has d.carrier z) (w.free z)) k c
+over_two cx renamed from a i j (b ∷ d ∷ f ∷ ways) l t r k c p q = absurd (cc)
 
-over_three : (e : PlayerBoard) (given : List ScopedEntry) (renamed : List ℕ) (from : List Entry) (a : Entry) (i j m : ℕ) (ways : List Entry) → a.x < a.y
-    → AreAt from (i ∷ j ∷ m ∷ []) ways → OrRule ways a.x a.y → a.kind ≡ Full → a.carrier ≡ union_of ways → IsPlaced given renamed from i → IsPlaced given renamed from j → IsPlaced given renamed from m
-    → IsRight (over e given) (Or3 (get_or renamed i 0) (get_or renamed j 0) (get_or renamed m 0)) a
-over_three e given renamed from a i j m [] l t r k c p q s = absurd (cc)
-over_three e given renamed from a i j m (b ∷ []) l t r k c p q s = absurd (cc)
-over_three e given renamed from a i j m (b ∷ d ∷ []) l t r k c p q s = absurd (cc)
-over_three e given renamed from a i j m (b ∷ d ∷ f ∷ []) l t r k c p q s =
+over_three : (cx : Context) (renamed : List ℕ) (from : List Entry) (a : Entry) (i j m : ℕ) (ways : List Entry) → a.x < a.y
+    → AreAt from (i ∷ j ∷ m ∷ []) ways → OrRule ways a.x a.y → a.kind ≡ Full → a.carrier ≡ union_of ways → IsPlaced cx renamed from i → IsPlaced cx renamed from j → IsPlaced cx renamed from m
+    → IsRight cx (Or3 (get_or renamed i 0) (get_or renamed j 0) (get_or renamed m 0)) a
+over_three cx renamed from a i j m [] l t r k c p q s = absurd (cc)
+over_three cx renamed from a i j m (b ∷ []) l t r k c p q s = absurd (cc)
+over_three cx renamed from a i j m (b ∷ d ∷ []) l t r k c p q s = absurd (cc)
+over_three cx renamed from a i j m (b ∷ d ∷ f ∷ []) l t r k c p q s =
     let u = first_at from i (j ∷ m ∷ []) b (d ∷ f ∷ []) t in
     let v = first_at from j (m ∷ []) d (f ∷ []) u.1 in
     let x = first_at from m [] f [] v.1 in
     let w = three_of b d f a.x a.y r in
-    three_right (over e given) (get_or renamed i 0) (get_or renamed j 0) (get_or renamed m 0) b d f a refl (way_at e given renamed from a b i l u.0 p w.first_kind w.first_pair)
-    (way_at e given renamed from a d j l v.0 q w.second_kind w.second_pair) (way_at e given renamed from a f m l x.0 s w.third_kind w.third_pair)
+    three_right cx (get_or renamed i 0) (get_or renamed j 0) (get_or renamed m 0) b d f a (way_at cx renamed from a b i l u.0 p w.first_kind w.first_pair)
+    (way_at cx renamed from a d j l v.0 q w.second_kind w.second_pair) (way_at cx renamed from a f m l x.0 s w.third_kind w.third_pair)
     (λ z. all_full (has b.carrier z) (has d.carrier z) (has f.carrier z) (w.free z)) k c
-over_three e given renamed from a i j m (b ∷ d ∷ f ∷ g ∷ ways) l t r k c p q s = absurd (cc)
+over_three cx renamed from a i j m (b ∷ d ∷ f ∷ g ∷ ways) l t r k c p q s = absurd (cc)
 
-few_ways : (e : PlayerBoard) (ways : List Entry) (x y n : ℕ) → OrRule ways x y → length ways ≡ n → n < 2 → ⊥
-few_ways e ways x y n r h l = few r.number
+few_ways : (ways : List Entry) (x y n : ℕ) → OrRule ways x y → length ways ≡ n → n < 2 → ⊥
+few_ways ways x y n r h l = few r.number
   where
     few : (length ways ≡ 2) ⊎ (length ways ≡ 3) → ⊥
     few (inl q) = absurd (omega arith)
@@ -88,63 +88,62 @@ few_ways e ways x y n r h l = few r.number
 pub number_of_ways : (from : List Entry) (numbers : List ℕ) (ways : List Entry) → AreAt from numbers ways → length ways ≡ length numbers
 number_of_ways from numbers ways h = sym (length-map ways Some) ∙ sym (ap length h) ∙ length-map numbers (slice_get from)
 
-or_right : (e : PlayerBoard) (given : List ScopedEntry) (renamed : List ℕ) (from : List Entry) (a : Entry) (line : Line) (numbers : List ℕ) (count : ℕ) (ways : List Entry)
+or_right : (cx : Context) (renamed : List ℕ) (from : List Entry) (a : Entry) (line : Line) (numbers : List ℕ) (count : ℕ) (ways : List Entry)
     → a.x < a.y → length numbers ≡ 3 → AreAt from (take count numbers) ways → OrRule ways a.x a.y → a.kind ≡ Full → a.carrier ≡ union_of ways
-    → All (IsPlaced given renamed from) (named (Or numbers count)) → IsLineFor e renamed a (Or numbers count) line → IsRight (over e given) line a
-or_right e given renamed from a line [] count ways l n t r k c p h = absurd (cc)
-or_right e given renamed from a line (i ∷ []) count ways l n t r k c p h = absurd (cc)
-or_right e given renamed from a line (i ∷ j ∷ []) count ways l n t r k c p h = absurd (cc)
-or_right e given renamed from a line (i ∷ j ∷ m ∷ u ∷ numbers) count ways l n t r k c p h = absurd (cc)
-or_right e given renamed from a line (i ∷ j ∷ m ∷ []) zero ways l n t r k c p h = absurd (few_ways e ways a.x a.y 0 r (number_of_ways from [] ways t) (omega arith))
-or_right e given renamed from a line (i ∷ j ∷ m ∷ []) (suc zero) ways l n t r k c p h = absurd (few_ways e ways a.x a.y 1 r (number_of_ways from (i ∷ []) ways t) (omega arith))
-or_right e given renamed from a line (i ∷ j ∷ m ∷ []) (suc (suc zero)) ways l n t r k c p h = subst (λ v. IsRight (over e given) v a) (sym h.1)
-    (over_two e given renamed from a i j ways l t r k c (All-head (IsPlaced given renamed from) i (j ∷ []) p) (second_in (IsPlaced given renamed from) i j [] p))
-or_right e given renamed from a line (i ∷ j ∷ m ∷ []) (suc (suc (suc zero))) ways l n t r k c p h = subst (λ v. IsRight (over e given) v a) (sym h.1)
-    (over_three e given renamed from a i j m ways l t r k c (All-head (IsPlaced given renamed from) i (j ∷ m ∷ []) p) (second_in (IsPlaced given renamed from) i j (m ∷ []) p) (third_in (IsPlaced given renamed from) i j m [] p))
-or_right e given renamed from a line (i ∷ j ∷ m ∷ []) (suc (suc (suc (suc count)))) ways l n t r k c p h =
-    let P = IsPlaced given renamed from in
+    → All (IsPlaced cx renamed from) (premises (Or numbers count)) → IsLineFor (elements_at cx) renamed a (Or numbers count) line → IsRight cx line a
+or_right cx renamed from a line [] count ways l n t r k c p h = absurd (cc)
+or_right cx renamed from a line (i ∷ []) count ways l n t r k c p h = absurd (cc)
+or_right cx renamed from a line (i ∷ j ∷ []) count ways l n t r k c p h = absurd (cc)
+or_right cx renamed from a line (i ∷ j ∷ m ∷ u ∷ numbers) count ways l n t r k c p h = absurd (cc)
+or_right cx renamed from a line (i ∷ j ∷ m ∷ []) zero ways l n t r k c p h = absurd (few_ways ways a.x a.y 0 r (number_of_ways from [] ways t) (omega arith))
+or_right cx renamed from a line (i ∷ j ∷ m ∷ []) (suc zero) ways l n t r k c p h = absurd (few_ways ways a.x a.y 1 r (number_of_ways from (i ∷ []) ways t) (omega arith))
+or_right cx renamed from a line (i ∷ j ∷ m ∷ []) (suc (suc zero)) ways l n t r k c p h = subst (λ v. IsRight cx v a) (sym h.1)
+    (over_two cx renamed from a i j ways l t r k c (All-head (IsPlaced cx renamed from) i (j ∷ []) p) (second_in (IsPlaced cx renamed from) i j [] p))
+or_right cx renamed from a line (i ∷ j ∷ m ∷ []) (suc (suc (suc zero))) ways l n t r k c p h = subst (λ v. IsRight cx v a) (sym h.1)
+    (over_three cx renamed from a i j m ways l t r k c (All-head (IsPlaced cx renamed from) i (j ∷ m ∷ []) p) (second_in (IsPlaced cx renamed from) i j (m ∷ []) p) (third_in (IsPlaced cx renamed from) i j m [] p))
+or_right cx renamed from a line (i ∷ j ∷ m ∷ []) (suc (suc (suc (suc count)))) ways l n t r k c p h =
+    let P = IsPlaced cx renamed from in
     let no : (suc (suc (suc (suc count))) == 2) ≡ false = ne_eqb (suc (suc (suc (suc count)))) 2 (λ q. absurd (omega arith)) in
     let all : All P (i ∷ j ∷ m ∷ []) = subst (λ v. All P (i ∷ j ∷ (if v then [] else m ∷ []))) no p in
     let two = Or2 (get_or renamed i 0) (get_or renamed j 0) in
     let three = Or3 (get_or renamed i 0) (get_or renamed j 0) (get_or renamed m 0) in
-    subst (λ v. IsRight (over e given) v a) (sym (h.1 ∙ ap (λ v. if v then two else three) no))
-    (over_three e given renamed from a i j m ways l t r k c (All-head P i (j ∷ m ∷ []) all) (second_in P i j (m ∷ []) all) (third_in P i j m [] all))
+    subst (λ v. IsRight cx v a) (sym (h.1 ∙ ap (λ v. if v then two else three) no))
+    (over_three cx renamed from a i j m ways l t r k c (All-head P i (j ∷ m ∷ []) all) (second_in P i j (m ∷ []) all) (third_in P i j m [] all))
 
 -- ---- each rule
 
-chain_at : (e : PlayerBoard) (given : List ScopedEntry) (renamed : List ℕ) (from : List Entry) (a b : Entry) (x u y i j : ℕ) → AreOrdered from → AreAt from (i ∷ j ∷ []) (a ∷ b ∷ [])
-    → AndRule (elements_in e 0) a b x u y → IsPlaced given renamed from i → IsPlaced given renamed from j → IsChainAt (over e given) (get_or renamed i 0) (get_or renamed j 0) a b x u y
-chain_at e given renamed from a b x u y i j o t r p q =
+chain_at : (cx : Context) (renamed : List ℕ) (from : List Entry) (a b : Entry) (x u y i j : ℕ) → AreOrdered from → AreAt from (i ∷ j ∷ []) (a ∷ b ∷ [])
+    → AndRule (elements_at cx) a b x u y → IsPlaced cx renamed from i → IsPlaced cx renamed from j → IsChainAt cx (get_or renamed i 0) (get_or renamed j 0) a b x u y
+chain_at cx renamed from a b x u y i j o t r p q =
     let v = first_at from i (j ∷ []) a (b ∷ []) t in
     let w = first_at from j [] b [] v.1 in
     record {
-      first = entry_over e given (get_or renamed i 0) (unscoped a) (p a v.0);
-      second = entry_over e given (get_or renamed j 0) (unscoped b) (q b w.0);
+      first = p a v.0;
+      second = q b w.0;
       first_order = o i a v.0;
       second_order = o j b w.0;
       rule = r;
     }
 
-rule_right : (e : PlayerBoard) (given : List ScopedEntry) (renamed : List ℕ) (from : List Entry) (a : Entry) (line : Line) (cause : Cause) → AreOrdered from → a.x < a.y
-    → FollowsBy (elements_in e 0) from a cause → IsLineFor (elements_in e 0) renamed a cause line → All (IsPlaced given renamed from) (named cause) → IsRight (over e given) line a
-rule_right e given renamed from a line Adjacent o l f h p =
+rule_right : (cx : Context) (renamed : List ℕ) (from : List Entry) (a : Entry) (line : Line) (cause : Cause) → AreOrdered from → a.x < a.y
+    → FollowsBy (elements_at cx) from a cause → IsLineFor (elements_at cx) renamed a cause line → All (IsPlaced cx renamed from) (premises cause) → IsRight cx line a
+rule_right cx renamed from a line Adjacent o l f h p =
     let (x, y, q, v, w) = h in
-    subst (λ z. IsRight (over e given) z a) (sym q) (adj_right e given a x y l f.0 f.1 f.2 v.element w.element v.other w.other)
-rule_right e given renamed from a line (AndGroup i j) o l (b, d, x, u, y, t, r, g, w, k, c) h p =
-    subst (λ z. IsRight (over e given) z a) (sym h)
-    (and_right (over e given) (get_or renamed i 0) (get_or renamed j 0) b d a x u y refl
-    (chain_at e given renamed from b d x u y i j o t r (All-head (IsPlaced given renamed from) i (j ∷ []) p) (second_in (IsPlaced given renamed from) i j [] p)) g w k c)
-rule_right e given renamed from a line (AndEmpty i j) o l (b, d, x, u, y, z, t, r, g, w, k, c) h p =
-    subst (λ v. IsRight (over e given) v a) (sym h)
-    (key_right (over e given) (get_or renamed i 0) (get_or renamed j 0) b d a x u y z refl
-    (chain_at e given renamed from b d x u y i j o t r (All-head (IsPlaced given renamed from) i (j ∷ []) p) (second_in (IsPlaced given renamed from) i j [] p)) g w k c)
-rule_right e given renamed from a line (Or numbers count) o l (ways, t, r, k, c) h p = or_right e given renamed from a line numbers count ways l h.0 t r k c p h
+    subst (λ z. IsRight cx z a) (sym q) (adj_right cx a x y l f.0 f.1 f.2 v.element w.element v.other w.other)
+rule_right cx renamed from a line (AndGroup i j) o l (b, d, x, u, y, t, r, g, w, k, c) h p =
+    subst (λ z. IsRight cx z a) (sym h)
+    (and_right cx (get_or renamed i 0) (get_or renamed j 0) b d a x u y
+    (chain_at cx renamed from b d x u y i j o t r (All-head (IsPlaced cx renamed from) i (j ∷ []) p) (second_in (IsPlaced cx renamed from) i j [] p)) g w k c)
+rule_right cx renamed from a line (AndEmpty i j) o l (b, d, x, u, y, z, t, r, g, w, k, c) h p =
+    subst (λ v. IsRight cx v a) (sym h)
+    (key_right cx (get_or renamed i 0) (get_or renamed j 0) b d a x u y z
+    (chain_at cx renamed from b d x u y i j o t r (All-head (IsPlaced cx renamed from) i (j ∷ []) p) (second_in (IsPlaced cx renamed from) i j [] p)) g w k c)
+rule_right cx renamed from a line (Or numbers count) o l (ways, t, r, k, c) h p = or_right cx renamed from a line numbers count ways l h.0 t r k c p h
 
 -- the line for an entry that follows from earlier ones is right
-pub line_right : (e : PlayerBoard) (given : List ScopedEntry) (renamed : List ℕ) (from : List Entry) (a : Entry) (line : Line) → AreOrdered from → a.x < a.y
-    → FollowsFrom e from a → IsLineFor e renamed a a.cause line → All (IsPlaced given renamed from) (named a.cause) → IsRight (over e given) line a
-line_right e given renamed from a line o l f h p = rule_right e given renamed from a line a.cause o l
-    (subst (λ v. FollowsBy v from a a.cause) (sym (unscoped_board e)) f) (subst (λ v. IsLineFor v renamed a a.cause line) (sym (unscoped_board e)) h) p
+pub line_right : (cx : Context) (renamed : List ℕ) (from : List Entry) (a : Entry) (line : Line) → AreOrdered from → a.x < a.y
+    → FollowsFrom (elements_at cx) from a → IsLineFor (elements_at cx) renamed a a.cause line → All (IsPlaced cx renamed from) (premises a.cause) → IsRight cx line a
+line_right cx renamed from a line o l f h p = rule_right cx renamed from a line a.cause o l f h p
 
 -- ---- the form of the line
 
@@ -164,7 +163,7 @@ third_small : (renamed : List ℕ) (i j k : ℕ) (two : Bool) → All (IsSmallAt
 third_small renamed i j k true h e = absurd (true≢false e)
 third_small renamed i j k false h e = third_in (IsSmallAt renamed) i j k [] h
 
-pub line_form : (e : PlayerBoard) (renamed : List ℕ) (a : Entry) (line : Line) (cause : Cause) → IsLineFor e renamed a cause line → All (IsSmallAt renamed) (named cause)
+pub line_form : (e : PlayerBoard) (renamed : List ℕ) (a : Entry) (line : Line) (cause : Cause) → IsLineFor e renamed a cause line → All (IsSmallAt renamed) (premises cause)
     → IsLineOf FIRST_VERSION e.board.size line
 line_form e renamed a line Adjacent (x, y, q, v, w) s = subst (IsLineOf FIRST_VERSION e.board.size) (sym q) (v.place, w.place)
 line_form e renamed a line (AndGroup i j) h s = subst (IsLineOf FIRST_VERSION e.board.size) (sym h)

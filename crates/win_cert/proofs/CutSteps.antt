@@ -1,4 +1,4 @@
--- A line of a cut gives the store's entry in the empty scope, and there is no reason against it.
+-- A line of a cut gives the store's entry in the line's scope, and there is no reason against it.
 use Rattle.std.proofs.Common.{◌≡◌, ℕ, ◌<◌, ◌==◌, ◌&&◌, ◌||◌, not, true, false, Bool, List, [], ◌∷◌, Option, Some, None, min, max, bit_or, option_map, option_and_then, if◌then◌else◌, refl, sym, ◌∙◌, ap, arith}
 use Rattle.std.specs.List.{list_all}
 use Rattle.std.specs.Int.Bits.{or_zero_r}
@@ -17,7 +17,7 @@ use Rattle.conn_store.specs.Stores.{same_kind}
 use Rattle.conn_store.specs.declared.entries.Entry.{Entry}
 use Rattle.conn_store.specs.declared.entries.Kind.{Kind}
 use Rattle.conn_store.specs.declared.entries.Kind.TheVariants.{Full, Semi}
-use Rattle.win_cert.specs.Cutting.{over, unscoped}
+use Rattle.win_cert.specs.Cuts.{scoped}
 use Rattle.win_cert.specs.Entries.{Context, ScopedEntry, adj_entry, and_entry, carriers_of, elements_at, end_element, entries_at, entry_at, entry_between, gives, key_entry, middle_of, or_entry, other_end}
 use Rattle.win_cert.specs.Reasons.{Reason, reason_against, is_bad_reference, is_wrong_scope, is_wrong_colour, are_not_neighbours, has_no_middle, do_carriers_meet, is_end_in_carrier, is_middle_wrong, holds_of_chain, bad_reference, wrong_colour, not_neighbours, no_common_middle, carriers_meet, end_in_carrier, middle_kind, ends_differ, common_cell, wrong_scope}
 use Rattle.win_cert.specs.Scopes.{elements_in, with_stones}
@@ -57,13 +57,12 @@ chain_clear p q r s t u a b c d e f = told_next p bad_reference _ a (told_next q
 abbrev pub made : Kind → ℕ → ℕ → ℕ → ℕ → ScopedEntry
 made kind x y c s = record { kind = kind; x = x; y = y; carrier = c; scope = s }
 
-pub same_entry : (a : Entry) (kind : Kind) (x y c s : ℕ) → kind ≡ a.kind → x ≡ a.x → y ≡ a.y → c ≡ a.carrier → s ≡ 0 → made kind x y c s ≡ unscoped a
-same_entry a kind x y c s h i j k m = ap (λ v. made v x y c s) h ∙ ap (λ v. made a.kind v y c s) i ∙ ap (λ v. made a.kind a.x v c s) j ∙ ap (λ v. made a.kind a.x a.y v s) k
-    ∙ ap (λ v. made a.kind a.x a.y a.carrier v) m
+pub same_entry : (a : Entry) (kind : Kind) (x y c s : ℕ) → kind ≡ a.kind → x ≡ a.x → y ≡ a.y → c ≡ a.carrier → made kind x y c s ≡ scoped s a
+same_entry a kind x y c s h i j k = ap (λ v. made v x y c s) h ∙ ap (λ v. made a.kind v y c s) i ∙ ap (λ v. made a.kind a.x v c s) j ∙ ap (λ v. made a.kind a.x a.y v s) k
 
 -- a line gives the entry, and there is no reason against it
 abbrev pub IsRight : Context → Line → Entry → Type 0
-IsRight c line a = (gives c line ≡ Some (unscoped a)) × (reason_against c (derivation line) ≡ None)
+IsRight c line a = (gives c line ≡ Some (scoped c.scope a)) × (reason_against c (derivation line) ≡ None)
 
 -- ---- `adj`
 
@@ -75,15 +74,14 @@ adj_reasons c x y = refl
 near_yes : (e : PlayerBoard) (x y : ℕ) → Near e x y → not (is_near e x y) ≡ false
 near_yes e x y n = ap not (sym (near_test e x y true ((λ t. n), (λ t. refl))))
 
-pub adj_right : (e : PlayerBoard) (given : List ScopedEntry) (a : Entry) (x y : End) → a.x < a.y → Near (elements_in e 0) a.x a.y → a.kind ≡ Full → a.carrier ≡ 0
-    → end_element (elements_in e 0) x ≡ Some a.x → end_element (elements_in e 0) y ≡ Some a.y
-    → is_other_stone (elements_in e 0) x ≡ false → is_other_stone (elements_in e 0) y ≡ false → IsRight (over e given) (Adj x y) a
-adj_right e given a x y l n k z h i p q =
-    let c = over e given in
-    let d = elements_in e 0 in
+pub adj_right : (c : Context) (a : Entry) (x y : End) → a.x < a.y → Near (elements_at c) a.x a.y → a.kind ≡ Full → a.carrier ≡ 0
+    → end_element (elements_at c) x ≡ Some a.x → end_element (elements_at c) y ≡ Some a.y
+    → is_other_stone (elements_at c) x ≡ false → is_other_stone (elements_at c) y ≡ false → IsRight c (Adj x y) a
+adj_right c a x y l n k z h i p q =
+    let d = elements_at c in
     let lx : min a.x a.y ≡ a.x = omega arith in
     let ly : max a.x a.y ≡ a.y = omega arith in (
-      ap (λ o. adj_entry c o (end_element d y)) h ∙ ap (λ o. adj_entry c (Some a.x) o) i ∙ ap Some (same_entry a Full (min a.x a.y) (max a.x a.y) 0 0 (sym k) lx ly (sym z) refl),
+      ap (λ o. adj_entry c o (end_element d y)) h ∙ ap (λ o. adj_entry c (Some a.x) o) i ∙ ap Some (same_entry a Full (min a.x a.y) (max a.x a.y) 0 c.scope (sym k) lx ly (sym z)),
       adj_reasons c x y ∙ told_next (is_wrong_colour c (derivation (Adj x y))) wrong_colour (told (are_not_neighbours c (derivation (Adj x y))) not_neighbours None)
           (or_from (is_other_stone d x) (is_other_stone d y) p q)
           (told_next (are_not_neighbours c (derivation (Adj x y))) not_neighbours None
@@ -107,8 +105,8 @@ key_reasons c i j = refl
 
 -- what a rule of AND over u asks, of the entries that two numbers name
 pub record IsChainAt (c : Context) (i j : ℕ) (a b : Entry) (x u y : ℕ) : Type 0 where
-  pub first : entry_at c i ≡ Some (unscoped a)
-  pub second : entry_at c j ≡ Some (unscoped b)
+  pub first : entry_at c i ≡ Some (scoped c.scope a)
+  pub second : entry_at c j ≡ Some (scoped c.scope b)
   pub first_order : a.x < a.y
   pub second_order : b.x < b.y
   pub rule : AndRule (elements_at c) a b x u y
@@ -116,31 +114,31 @@ pub record IsChainAt (c : Context) (i j : ℕ) (a b : Entry) (x u y : ℕ) : Typ
 between_differ : (a : Entry) (x y : ℕ) → IsBetween a x y → a.x < a.y → x ≡ y → ⊥
 between_differ a x y h l e = let p : a.x ≡ min x y = h.0 in let q : a.y ≡ max x y = h.1 in absurd (omega arith)
 
-chain_middle : (c : Context) (i j : ℕ) (a b : Entry) (x u y : ℕ) → IsChainAt c i j a b x u y → middle_of (unscoped a) (unscoped b) ≡ Some u
+chain_middle : (c : Context) (i j : ℕ) (a b : Entry) (x u y : ℕ) → IsChainAt c i j a b x u y → middle_of (scoped c.scope a) (scoped c.scope b) ≡ Some u
 chain_middle c i j a b x u y w =
     let r = w.rule.chain in
     let t = turned_pair b u y r.second in
-    middle_is (unscoped a) (unscoped b) x u y (ends_are (unscoped a) x u r.first.0 r.first.1) (ends_are (unscoped b) y u t.0 t.1) (between_differ a x u r.first w.first_order) r.ends
+    middle_is (scoped c.scope a) (scoped c.scope b) x u y (ends_are (scoped c.scope a) x u r.first.0 r.first.1) (ends_are (scoped c.scope b) y u t.0 t.1) (between_differ a x u r.first w.first_order) r.ends
 
-chain_first : (c : Context) (i j : ℕ) (a b : Entry) (x u y : ℕ) → IsChainAt c i j a b x u y → other_end (unscoped a) u ≡ x
+chain_first : (c : Context) (i j : ℕ) (a b : Entry) (x u y : ℕ) → IsChainAt c i j a b x u y → other_end (scoped c.scope a) u ≡ x
 chain_first c i j a b x u y w =
     let r = w.rule.chain in
-    other_is (unscoped a) x u (ends_are (unscoped a) x u r.first.0 r.first.1) (between_differ a x u r.first w.first_order)
+    other_is (scoped c.scope a) x u (ends_are (scoped c.scope a) x u r.first.0 r.first.1) (between_differ a x u r.first w.first_order)
 
-chain_second : (c : Context) (i j : ℕ) (a b : Entry) (x u y : ℕ) → IsChainAt c i j a b x u y → other_end (unscoped b) u ≡ y
+chain_second : (c : Context) (i j : ℕ) (a b : Entry) (x u y : ℕ) → IsChainAt c i j a b x u y → other_end (scoped c.scope b) u ≡ y
 chain_second c i j a b x u y w =
     let r = w.rule.chain in
     let t = turned_pair b u y r.second in
-    other_is (unscoped b) y u (ends_are (unscoped b) y u t.0 t.1) (between_differ b y u t w.second_order)
+    other_is (scoped c.scope b) y u (ends_are (scoped c.scope b) y u t.0 t.1) (between_differ b y u t w.second_order)
 
-chain_pair : (c : Context) (i j : ℕ) (a b : Entry) (x u y : ℕ) → IsChainAt c i j a b x u y → entries_at c (i ∷ j ∷ []) ≡ unscoped a ∷ unscoped b ∷ []
-chain_pair c i j a b x u y w = two_at c i j (unscoped a) (unscoped b) w.first w.second
+chain_pair : (c : Context) (i j : ℕ) (a b : Entry) (x u y : ℕ) → IsChainAt c i j a b x u y → entries_at c (i ∷ j ∷ []) ≡ scoped c.scope a ∷ scoped c.scope b ∷ []
+chain_pair c i j a b x u y w = two_at c i j (scoped c.scope a) (scoped c.scope b) w.first w.second
 
 -- whether something holds of two entries and their middle
 holds_is : (test : ScopedEntry → ScopedEntry → ℕ → Bool) (c : Context) (i j : ℕ) (a b : Entry) (x u y : ℕ) → IsChainAt c i j a b x u y
-    → holds_of_chain test (entries_at c (i ∷ j ∷ [])) ≡ test (unscoped a) (unscoped b) u
+    → holds_of_chain test (entries_at c (i ∷ j ∷ [])) ≡ test (scoped c.scope a) (scoped c.scope b) u
 holds_is test c i j a b x u y w = ap (holds_of_chain test) (chain_pair c i j a b x u y w)
-    ∙ ap (λ o. option_map_or (test (unscoped a) (unscoped b)) o false) (chain_middle c i j a b x u y w)
+    ∙ ap (λ o. option_map_or (test (scoped c.scope a) (scoped c.scope b)) o false) (chain_middle c i j a b x u y w)
 
 full_taken : (s : Statement) (a : Entry) (b : Bool) → kind_taken s ≡ Full → a.kind ≡ Full → a.x < a.y → (same_kind a.kind (kind_taken s) && not (b && a.x == a.y)) ≡ true
 full_taken s a b h k l = ap (λ v. same_kind v (kind_taken s) && not (b && a.x == a.y)) k ∙ ap (λ v. same_kind Full v && not (b && a.x == a.y)) h
@@ -159,49 +157,52 @@ chain_taken c i j a b x u y s h w = bad_two (may_take s (entry_at c i)) (may_tak
 
 chain_apart : (c : Context) (i j : ℕ) (a b : Entry) (x u y : ℕ) → IsChainAt c i j a b x u y → share_cell (entries_at c (i ∷ j ∷ [])) ≡ false
 chain_apart c i j a b x u y w = ap share_cell (chain_pair c i j a b x u y w)
-    ∙ none_shared (unscoped a ∷ unscoped b ∷ []) (λ k. both_full (has a.carrier k) (has b.carrier k) (w.rule.apart k))
+    ∙ none_shared (scoped c.scope a ∷ scoped c.scope b ∷ []) (λ k. both_full (has a.carrier k) (has b.carrier k) (w.rule.apart k))
 
 chain_ends : (c : Context) (i j : ℕ) (a b : Entry) (x u y : ℕ) → IsChainAt c i j a b x u y
     → holds_of_chain (λ v w z. is_cell_in (elements_at c) (other_end v z) w.carrier || is_cell_in (elements_at c) (other_end w z) v.carrier) (entries_at c (i ∷ j ∷ [])) ≡ false
 chain_ends c i j a b x u y w = holds_is (λ v w z. is_cell_in (elements_at c) (other_end v z) w.carrier || is_cell_in (elements_at c) (other_end w z) v.carrier) c i j a b x u y w
-    ∙ or_from (is_cell_in (elements_at c) (other_end (unscoped a) u) b.carrier) (is_cell_in (elements_at c) (other_end (unscoped b) u) a.carrier)
+    ∙ or_from (is_cell_in (elements_at c) (other_end (scoped c.scope a) u) b.carrier) (is_cell_in (elements_at c) (other_end (scoped c.scope b) u) a.carrier)
     (ap (λ v. is_cell_in (elements_at c) v b.carrier) (chain_first c i j a b x u y w) ∙ missed (elements_at c) x b.carrier w.rule.first_end)
     (ap (λ v. is_cell_in (elements_at c) v a.carrier) (chain_second c i j a b x u y w) ∙ missed (elements_at c) y a.carrier w.rule.second_end)
 
-chain_scope : (c : Context) (i j : ℕ) (a b : Entry) (x u y : ℕ) → c.scope ≡ 0 → IsChainAt c i j a b x u y
-    → not (list_all (λ v. v.scope == c.scope) (entries_at c (i ∷ j ∷ []))) ≡ false
-chain_scope c i j a b x u y z w = ap (λ v. not (list_all (λ v. v.scope == c.scope) v)) (chain_pair c i j a b x u y w) ∙ ap (λ v. not (0 == v && (0 == v && true))) z
+two_scopes : (s : ℕ) → not (s == s && (s == s && true)) ≡ false
+two_scopes s = bad_two (s == s) (s == s) (eq-eqb s s refl) (eq-eqb s s refl)
 
-pub and_right : (c : Context) (i j : ℕ) (a b r : Entry) (x u y : ℕ) → c.scope ≡ 0 → IsChainAt c i j a b x u y → IsGroup (elements_at c) u → IsBetween r x y → r.kind ≡ Full → r.carrier ≡ both_of a b
+chain_scope : (c : Context) (i j : ℕ) (a b : Entry) (x u y : ℕ) → IsChainAt c i j a b x u y
+    → not (list_all (λ v. v.scope == c.scope) (entries_at c (i ∷ j ∷ []))) ≡ false
+chain_scope c i j a b x u y w = ap (λ v. not (list_all (λ v. v.scope == c.scope) v)) (chain_pair c i j a b x u y w) ∙ two_scopes c.scope
+
+pub and_right : (c : Context) (i j : ℕ) (a b r : Entry) (x u y : ℕ) → IsChainAt c i j a b x u y → IsGroup (elements_at c) u → IsBetween r x y → r.kind ≡ Full → r.carrier ≡ both_of a b
     → IsRight c (And i j) r
-and_right c i j a b r x u y z w g h k m =
+and_right c i j a b r x u y w g h k m =
     let s = derivation (And i j) in
     let d = elements_at c in (
       ap (and_entry c) (chain_pair c i j a b x u y w)
-          ∙ ap (option_map (λ v. entry_between c Full (other_end (unscoped a) v) (other_end (unscoped b) v) (carriers_of (unscoped a ∷ unscoped b ∷ [])))) (chain_middle c i j a b x u y w)
-          ∙ ap (λ v. Some (entry_between c Full v (other_end (unscoped b) u) (carriers_of (unscoped a ∷ unscoped b ∷ [])))) (chain_first c i j a b x u y w)
-          ∙ ap (λ v. Some (entry_between c Full x v (carriers_of (unscoped a ∷ unscoped b ∷ [])))) (chain_second c i j a b x u y w)
-          ∙ ap Some (same_entry r Full (min x y) (max x y) (bit_or a.carrier (bit_or b.carrier 0)) c.scope (sym k) (sym h.0) (sym h.1) (ap (bit_or a.carrier) (or_zero_r b.carrier) ∙ sym m) z),
+          ∙ ap (option_map (λ v. entry_between c Full (other_end (scoped c.scope a) v) (other_end (scoped c.scope b) v) (carriers_of (scoped c.scope a ∷ scoped c.scope b ∷ [])))) (chain_middle c i j a b x u y w)
+          ∙ ap (λ v. Some (entry_between c Full v (other_end (scoped c.scope b) u) (carriers_of (scoped c.scope a ∷ scoped c.scope b ∷ [])))) (chain_first c i j a b x u y w)
+          ∙ ap (λ v. Some (entry_between c Full x v (carriers_of (scoped c.scope a ∷ scoped c.scope b ∷ [])))) (chain_second c i j a b x u y w)
+          ∙ ap Some (same_entry r Full (min x y) (max x y) (bit_or a.carrier (bit_or b.carrier 0)) c.scope (sym k) (sym h.0) (sym h.1) (ap (bit_or a.carrier) (or_zero_r b.carrier) ∙ sym m)),
       and_reasons c i j ∙ chain_clear (is_bad_reference c s) (is_wrong_scope c s) (has_no_middle c s) (do_carriers_meet c s) (is_end_in_carrier c s) (is_middle_wrong c s)
-          (chain_taken c i j a b x u y s refl w) (chain_scope c i j a b x u y z w) (ap not (holds_is (λ v w z. true) c i j a b x u y w)) (chain_apart c i j a b x u y w) (chain_ends c i j a b x u y w)
+          (chain_taken c i j a b x u y s refl w) (chain_scope c i j a b x u y w) (ap not (holds_is (λ v w z. true) c i j a b x u y w)) (chain_apart c i j a b x u y w) (chain_ends c i j a b x u y w)
           (holds_is (λ v w z. is_some (cell_of d z)) c i j a b x u y w ∙ group_none d u g),
     )
 
-pub key_right : (c : Context) (i j : ℕ) (a b r : Entry) (x u y k : ℕ) → c.scope ≡ 0 → IsChainAt c i j a b x u y → IsCell (elements_at c) u k → IsBetween r x y → r.kind ≡ Semi → r.carrier ≡ with_cell (both_of a b) k
+pub key_right : (c : Context) (i j : ℕ) (a b r : Entry) (x u y k : ℕ) → IsChainAt c i j a b x u y → IsCell (elements_at c) u k → IsBetween r x y → r.kind ≡ Semi → r.carrier ≡ with_cell (both_of a b) k
     → IsRight c (Key i j) r
-key_right c i j a b r x u y k z w g h n m =
+key_right c i j a b r x u y k w g h n m =
     let s = derivation (Key i j) in
     let d = elements_at c in
-    let all = carriers_of (unscoped a ∷ unscoped b ∷ []) in
-    let f : ℕ → ℕ → ScopedEntry = λ v q. entry_between c Semi (other_end (unscoped a) v) (other_end (unscoped b) v) (with_cell all q) in (
+    let all = carriers_of (scoped c.scope a ∷ scoped c.scope b ∷ []) in
+    let f : ℕ → ℕ → ScopedEntry = λ v q. entry_between c Semi (other_end (scoped c.scope a) v) (other_end (scoped c.scope b) v) (with_cell all q) in (
       ap (key_entry c) (chain_pair c i j a b x u y w)
           ∙ ap (option_and_then (λ v. option_map (f v) (cell_of d v))) (chain_middle c i j a b x u y w)
           ∙ ap (option_map (f u)) (cell_is d u k g)
-          ∙ ap (λ v. Some (entry_between c Semi v (other_end (unscoped b) u) (with_cell all k))) (chain_first c i j a b x u y w)
+          ∙ ap (λ v. Some (entry_between c Semi v (other_end (scoped c.scope b) u) (with_cell all k))) (chain_first c i j a b x u y w)
           ∙ ap (λ v. Some (entry_between c Semi x v (with_cell all k))) (chain_second c i j a b x u y w)
-          ∙ ap Some (same_entry r Semi (min x y) (max x y) (with_cell all k) c.scope (sym n) (sym h.0) (sym h.1) (ap (λ v. with_cell (bit_or a.carrier v) k) (or_zero_r b.carrier) ∙ sym m) z),
+          ∙ ap Some (same_entry r Semi (min x y) (max x y) (with_cell all k) c.scope (sym n) (sym h.0) (sym h.1) (ap (λ v. with_cell (bit_or a.carrier v) k) (or_zero_r b.carrier) ∙ sym m)),
       key_reasons c i j ∙ chain_clear (is_bad_reference c s) (is_wrong_scope c s) (has_no_middle c s) (do_carriers_meet c s) (is_end_in_carrier c s) (is_middle_wrong c s)
-          (chain_taken c i j a b x u y s refl w) (chain_scope c i j a b x u y z w) (ap not (holds_is (λ v w z. true) c i j a b x u y w)) (chain_apart c i j a b x u y w) (chain_ends c i j a b x u y w)
+          (chain_taken c i j a b x u y s refl w) (chain_scope c i j a b x u y w) (ap not (holds_is (λ v w z. true) c i j a b x u y w)) (chain_apart c i j a b x u y w) (chain_ends c i j a b x u y w)
           (holds_is (λ v w z. is_none (cell_of d z)) c i j a b x u y w ∙ ap is_none (cell_is d u k g)),
     )
 
@@ -228,7 +229,7 @@ or_clear p q r s a b c d = told_next p bad_reference _ a (told_next q wrong_scop
 
 -- the numbers name semi entries of the elements of r
 pub record IsWayAt (c : Context) (i : ℕ) (a r : Entry) : Type 0 where
-  pub at : entry_at c i ≡ Some (unscoped a)
+  pub at : entry_at c i ≡ Some (scoped c.scope a)
   pub kind_is : a.kind ≡ Semi
   pub order : r.x < r.y
   pub pair : IsBetween a r.x r.y
@@ -266,35 +267,35 @@ way_min c i a r w = let l : r.x < r.y = w.order in let e : a.x ≡ r.x = way_fir
 way_max : (c : Context) (i : ℕ) (a r : Entry) → IsWayAt c i a r → max a.x a.y ≡ r.y
 way_max c i a r w = let l : r.x < r.y = w.order in let e : a.x ≡ r.x = way_first c i a r w in let f : a.y ≡ r.y = way_second c i a r w in omega arith
 
-pub two_right : (c : Context) (i j : ℕ) (a b r : Entry) → c.scope ≡ 0 → IsWayAt c i a r → IsWayAt c j b r → ((k : ℕ) → (has a.carrier k && (has b.carrier k && true)) ≡ false)
+pub two_right : (c : Context) (i j : ℕ) (a b r : Entry) → IsWayAt c i a r → IsWayAt c j b r → ((k : ℕ) → (has a.carrier k && (has b.carrier k && true)) ≡ false)
     → r.kind ≡ Full → r.carrier ≡ bit_or a.carrier b.carrier → IsRight c (Or2 i j) r
-two_right c i j a b r z v w f k m =
+two_right c i j a b r v w f k m =
     let s = derivation (Or2 i j) in
     let numbers = i ∷ j ∷ [] in
-    let e = two_at c i j (unscoped a) (unscoped b) v.at w.at in (
+    let e = two_at c i j (scoped c.scope a) (scoped c.scope b) v.at w.at in (
       ap (or_entry c) e ∙ ap Some (same_entry r Full (min a.x a.y) (max a.x a.y) (bit_or a.carrier (bit_or b.carrier 0)) c.scope (sym k) (way_min c i a r v) (way_max c i a r v)
-          (ap (bit_or a.carrier) (or_zero_r b.carrier) ∙ sym m) z),
+          (ap (bit_or a.carrier) (or_zero_r b.carrier) ∙ sym m)),
       two_reasons c i j ∙ or_clear (not (list_all (λ i. may_take s (entry_at c i)) numbers)) (not (list_all (λ a. a.scope == c.scope) (entries_at c numbers)))
           (not (have_same_ends (entries_at c numbers))) (share_cell (entries_at c numbers))
           (bad_two (may_take s (entry_at c i)) (may_take s (entry_at c j)) (way_taken c i a r s refl v) (way_taken c j b r s refl w))
-          (ap (λ v. not (list_all (λ a. a.scope == c.scope) v)) e ∙ ap (λ v. not (0 == v && (0 == v && true))) z)
+          (ap (λ v. not (list_all (λ a. a.scope == c.scope) v)) e ∙ two_scopes c.scope)
           (ap (λ v. not (have_same_ends v)) e ∙ bad_one (a.x == b.x && a.y == b.y) (ways_alike c i j a b r v w))
-          (ap share_cell e ∙ none_shared (unscoped a ∷ unscoped b ∷ []) f),
+          (ap share_cell e ∙ none_shared (scoped c.scope a ∷ scoped c.scope b ∷ []) f),
     )
 
-pub three_right : (c : Context) (i j l : ℕ) (a b d r : Entry) → c.scope ≡ 0 → IsWayAt c i a r → IsWayAt c j b r → IsWayAt c l d r
+pub three_right : (c : Context) (i j l : ℕ) (a b d r : Entry) → IsWayAt c i a r → IsWayAt c j b r → IsWayAt c l d r
     → ((k : ℕ) → (has a.carrier k && (has b.carrier k && (has d.carrier k && true))) ≡ false)
     → r.kind ≡ Full → r.carrier ≡ bit_or a.carrier (bit_or b.carrier d.carrier) → IsRight c (Or3 i j l) r
-three_right c i j l a b d r z v w u f k m =
+three_right c i j l a b d r v w u f k m =
     let s = derivation (Or3 i j l) in
     let numbers = i ∷ j ∷ l ∷ [] in
-    let e = three_at c i j l (unscoped a) (unscoped b) (unscoped d) v.at w.at u.at in (
+    let e = three_at c i j l (scoped c.scope a) (scoped c.scope b) (scoped c.scope d) v.at w.at u.at in (
       ap (or_entry c) e ∙ ap Some (same_entry r Full (min a.x a.y) (max a.x a.y) (bit_or a.carrier (bit_or b.carrier (bit_or d.carrier 0))) c.scope (sym k) (way_min c i a r v) (way_max c i a r v)
-          (ap (λ v. bit_or a.carrier (bit_or b.carrier v)) (or_zero_r d.carrier) ∙ sym m) z),
+          (ap (λ v. bit_or a.carrier (bit_or b.carrier v)) (or_zero_r d.carrier) ∙ sym m)),
       three_reasons c i j l ∙ or_clear (not (list_all (λ i. may_take s (entry_at c i)) numbers)) (not (list_all (λ a. a.scope == c.scope) (entries_at c numbers)))
           (not (have_same_ends (entries_at c numbers))) (share_cell (entries_at c numbers))
           (bad_three (may_take s (entry_at c i)) (may_take s (entry_at c j)) (may_take s (entry_at c l)) (way_taken c i a r s refl v) (way_taken c j b r s refl w) (way_taken c l d r s refl u))
-          (ap (λ v. not (list_all (λ a. a.scope == c.scope) v)) e ∙ ap (λ v. not (0 == v && (0 == v && (0 == v && true)))) z)
+          (ap (λ v. not (list_all (λ a. a.scope == c.scope) v)) e ∙ bad_three (c.scope == c.scope) (c.scope == c.scope) (c.scope == c.scope) (eq-eqb c.scope c.scope refl) (eq-eqb c.scope c.scope refl) (eq-eqb c.scope c.scope refl))
           (ap (λ v. not (have_same_ends v)) e ∙ bad_two (a.x == b.x && a.y == b.y) (a.x == d.x && a.y == d.y) (ways_alike c i j a b r v w) (ways_alike c i l a d r v u))
-          (ap share_cell e ∙ none_shared (unscoped a ∷ unscoped b ∷ unscoped d ∷ []) f),
+          (ap share_cell e ∙ none_shared (scoped c.scope a ∷ scoped c.scope b ∷ scoped c.scope d ∷ []) f),
     )

@@ -1,5 +1,5 @@
 -- The lines of an accepted certificate give good entries.
-use Rattle.std.proofs.Common.{◌≡◌, ℕ, List, [], ◌∷◌, ◌++◌, Option, Some, None, length, map, option_map, option_and_then, refl, sym, ◌∙◌, ap, subst, zero, suc, inl, inr, ◌⊎◌}
+use Rattle.std.proofs.Common.{◌≡◌, ℕ, ◌<◌, List, [], ◌∷◌, ◌++◌, Option, Some, None, length, map, option_map, option_and_then, refl, sym, ◌∙◌, ap, subst, zero, suc, inl, inr, ◌⊎◌, arith}
 use Rattle.std.specs.List.{slice_get}
 use Rattle.std.specs.Option.{option_flatten}
 use Rattle.std.proofs.lemmas.Option.{slice_get-map}
@@ -30,6 +30,12 @@ at_left (y ∷ xs) ys (suc i) x h = at_left xs ys i x h
 pub at_claim : (lines : List Line) (s : Statement) → slice_get (map derivation lines ++ s ∷ []) (length lines) ≡ Some s
 at_claim [] s = refl
 at_claim (line ∷ lines) s = at_claim lines s
+
+pub past_claim : (lines : List Line) (s : Statement) (k : ℕ) → length lines < k → slice_get (map derivation lines ++ s ∷ []) k ≡ None
+past_claim [] s zero l = absurd (omega arith)
+past_claim [] s (suc k) l = refl
+past_claim (line ∷ lines) s zero l = absurd (omega arith)
+past_claim (line ∷ lines) s (suc k) l = past_claim lines s k (omega arith)
 
 line_clear : (cert : Cert) (k : ℕ) (line : Line) → Accepted cert → slice_get cert.lines k ≡ Some line → reason_against (context_at cert k) (derivation line) ≡ None
 line_clear cert k line h e = subst (λ o. option_and_then (reason_against (context_at cert k)) o ≡ None)

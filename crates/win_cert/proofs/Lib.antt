@@ -1,9 +1,9 @@
 -- Laws for the layers above.
 pub mod GivenEntries
 pub mod Joining
+pub mod Stepping
 pub mod CutChains
 pub mod CutSteps
-pub mod CutVerdicts
 pub mod CutDerivations
 
 -- Steps of this crate's own proofs.
@@ -14,6 +14,7 @@ mod LinksOn
 mod ScopeBoards
 mod GoodEntries
 mod EdgeEntries
+mod EdgeNumbers
 mod NamedEntries
 mod Middles
 mod ChainLines
@@ -45,7 +46,13 @@ mod BadHeads
 mod Parsed
 mod StepLines
 mod SameVerdict
+mod Appending
 mod CutLines
 mod CutEnds
 mod CutMarks
+mod Supports
+mod Moved
+mod MovedRules
+mod CutsIn
+mod CutVerdicts
 mod CutCertificates

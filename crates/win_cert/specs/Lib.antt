@@ -10,6 +10,9 @@ pub mod Entries
 pub mod Statements
 pub mod Reasons
 pub mod Verdicts
+pub mod Contexts
 pub mod Cuts
 pub mod Cutting
+pub mod Freer
+pub mod Derivations
 pub mod Laws

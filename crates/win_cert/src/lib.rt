@@ -6,16 +6,19 @@
 //! of thirteen reasons against a line or the claim applies; the *verdict* on it is yes, with the
 //! claim and the carrier of its entry, or the first line with a reason against it and that reason.
 //!
-//! **A caller** reads a text ([`read`]), writes one ([`write`]) and raises a certificate to the
-//! latest version ([`raise`]).
+//! **A caller** reads a text ([`read`]), writes one ([`write`]), raises a certificate to the latest
+//! version ([`raise`]) and cuts one from a report ([`cut`], of an entry that [`edge_numbers`]
+//! names), or its lines ([`lines_onto`]).
 //!
 //! **What is proved.** The text is a whole list of lines of words (specs/Texts.antt). `write` gives
 //! it. `read` answers the certificate whose text the bytes are, or exactly the first line that is
 //! not as it should be, or that there is a line too many: specs/Readings.antt tells these from the
 //! texts of certificates alone. What is written is read back ([`written_text_is_read_back`]), so a
-//! certificate has one text. `raise` changes the version alone and keeps the verdict. What each
-//! line gives, the reasons in their order, accepted and the verdict are in specs/Entries.antt,
-//! Reasons.antt and Verdicts.antt; proofs/Vectors.antt computes them on certificates.
+//! certificate has one text. What is cut is accepted, and has a line for each entry on which its
+//! entry rests, and no other (specs/Cuts.antt, Derivations.antt). `raise` changes the version alone
+//! and keeps the verdict. What each line gives, the reasons in their order, accepted and the
+//! verdict are in specs/Entries.antt, Reasons.antt and Verdicts.antt; proofs/Vectors.antt computes
+//! them on certificates.
 //!
 //! **What is only tested, or not said.** That calls get their memory; the time, which is linear in
 //! the length of the text. What the derived texts of [`CertError`] are.
@@ -28,11 +31,13 @@
 
 mod certs;
 mod cutting;
+mod edges;
 mod heads;
 mod keywords;
 mod laws;
 mod lines;
 mod lists;
+mod marking;
 mod pushing;
 mod raising;
 mod reader;
@@ -47,7 +52,8 @@ mod words;
 mod writing;
 
 pub use certs::{Cert, FIRST_VERSION, LATEST_VERSION, MOST_LINES};
-pub use cutting::cut;
+pub use cutting::{cut, lines_onto};
+pub use edges::edge_numbers;
 pub use laws::accepted_certificates_win;
 pub use lines::{End, LEAST_CASES, Line, Lines, MOST_CASES, MOST_NUMBER};
 pub use lists::{Bytes, Numbers};

@@ -3,8 +3,9 @@ use Rattle.win_cert.specs.Entries.{Context, context_at, entry_at}
 use Rattle.win_cert.specs.Verdicts.{Accepted, IsVerdict, reason_at}
 use Rattle.win_cert.specs.Writable.{IsLineOf}
 use Rattle.cert_check.specs.Answers.{IsYes, verdict_of}
-use Rattle.cert_check.specs.Keeping.{context_after}
-use Rattle.cert_check.proofs.Stepping.{AreClear, all_clear, all_read, claim_reason, clear_more, context_step, is_line, line_reason, next_line}
+use Rattle.win_cert.specs.Contexts.{context_after}
+use Rattle.win_cert.proofs.Stepping.{AreClearTo, all_clear, claim_reason, clear_more, context_step, line_reason}
+use Rattle.cert_check.proofs.Stepping.{all_read, is_line, next_line}
 use Rattle.cert_check.proofs.checking.check.Goals as goal
 use Rattle.cert_check.proofs.checking.check.Goals.{in-Ok-claimed, in-Err-claimed}
 
@@ -26,7 +27,7 @@ returns-in-Err-clause-verdict c =
     let cert = c.args.cert.now in
     let at = next_line cert c.line-item.result c.as_slice-line-items.ensures c.lines-test.true c.line-item.is in
     let read = line_reason cert c.lines.line-index c.line-item.result at c.lines.invariant.0 in
-    (ap (reason_at cert) c.lines.invariant.1 ∙ read ∙ c.in-Err.ensures, subst (AreClear cert) (sym c.lines.invariant.1) c.lines.invariant.2)
+    (ap (reason_at cert) c.lines.invariant.1 ∙ read ∙ c.in-Err.ensures, subst (AreClearTo cert) (sym c.lines.invariant.1) c.lines.invariant.2)
 
 pub returns-in-Err-clause-accepted : goal.returns-in-Err-clause-accepted
 returns-in-Err-clause-accepted c =
@@ -69,7 +70,7 @@ returns-clause-verdict c =
       )
       | in-Err-claimed w ↦ subst (λ v. IsVerdict cert (verdict_of v)) (sym w.result-is) (
         ap (reason_at cert) read.1 ∙ claimed ∙ w.in-Err-claimed.ensures,
-        subst (AreClear cert) (sym read.1) read.2,
+        subst (AreClearTo cert) (sym read.1) read.2,
       )
     ]
 

@@ -1,7 +1,7 @@
 use Rattle.std.proofs.Common.{subst, arith}
 use Rattle.conn_store.specs.Stores.{StoreData}
 use Rattle.conn_store.specs.declared.entries.Kind.TheVariants.{Full, Semi}
-use Rattle.hex_plan.specs.Planning.{AreEdgeNumbers}
+use Rattle.win_cert.specs.Cuts.{AreEdgeNumbers}
 use Rattle.hex_plan.proofs.EdgeNumbers.{no_edge_entry}
 use Rattle.hex_plan.proofs.edges.edge_entry.Goals as goal
 

@@ -10,7 +10,8 @@ returns c = (
     report = record { elements = refl; report = c.store-store.ensures.report };
     entry = c.requires.entry.0;
     edges = (c.args.number, c.requires.entry.1);
-    cut = c.in_ok-cert.ensures c.requires.entry.0 c.requires.entry.1;
+    cut = c.in_ok-cert.ensures.certifies c.requires.entry.0 c.requires.entry.1;
+    lines = c.in_ok-cert.ensures.lines;
     winning = c.winning_cell-cell.ensures c.requires.entry.0 c.requires.entry.1;
   },
 )

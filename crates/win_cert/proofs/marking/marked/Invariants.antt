@@ -1,7 +1,7 @@
 -- The entries from `left` on that are marked have those that they name marked.
 use Rattle.std.proofs.Common.{◌≡◌, ◌≤◌, length, true}
-use Rattle.win_cert.specs.Cutting.{IsClosedFrom, is_marked}
-use Rattle.win_cert.proofs.cutting.marked.Given as goal
+use Rattle.win_cert.specs.Cutting.{AreLeast, IsClosedFrom, is_marked}
+use Rattle.win_cert.proofs.marking.marked.Given as goal
 
 abbrev pub invariant-entries : goal.invariant-entries
 invariant-entries l = record {
@@ -9,6 +9,7 @@ invariant-entries l = record {
   left : l.left ≤ length l.entries;
   whole : is_marked l.marks.items l.entry ≡ true;
   closed : IsClosedFrom l.entries l.marks.items l.left;
+  least : AreLeast l.entries l.entry l.marks.items;
 }
 
 abbrev pub decreases-entries : goal.decreases-entries
