@@ -32,13 +32,13 @@
 //! and the carrier of its entry. After the cell of a win its player wins against every reply
 //! ([`certified_moves_win`]); each move outside the carrier of a threat loses
 //! ([`moves_outside_a_threat_lose`]), and each move on a lost board ([`lost_boards_lose`]); so it
-//! is of each plan, also without a turn ([`plans_tell_who_wins`]). The shape of a turn has the board, the player, the allowed cells, and the options' knobs with the
-//! seed `S + number·2^32` modulo 2^64. The turns that are made here are good. With one worker,
-//! where no connections are looked for, the cell and the texts of a good turn are determined
-//! ([`one_worker_decides`]). The texts are those of specs/TurnTexts.antt ([`turn_texts`]). An
-//! archive that tells its turns has exactly this turn more at the end; a fault comes only where
-//! its count rose, and then no turn changed. A [`MemArchive`] is at fault exactly where it is
-//! full, [`NoArchive`] never.
+//! is of each plan, also without a turn ([`plans_tell_who_wins`]). The shape of a turn has the
+//! board, the player, the allowed cells, and the options' knobs with the seed `S + number·2^32`
+//! modulo 2^64. The turns that are made here are good. With one worker, where no connections are
+//! looked for, the cell and the texts of a good turn are determined ([`one_worker_decides`]). The
+//! texts are those of specs/TurnTexts.antt ([`turn_texts`]). An archive that tells its turns has
+//! exactly this turn more at the end; a fault comes only where its count rose, and then no turn
+//! changed. A [`MemArchive`] is at fault exactly where it is full, [`NoArchive`] never.
 //!
 //! **What is only tested, or not said.** That [`plan`], [`turn_texts`] and `MemArchive::make` get
 //! their memory; which entry a certificate is cut from where several would serve; that a report

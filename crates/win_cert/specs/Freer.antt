@@ -15,7 +15,8 @@ pub record IsFreer (e d : PlayerBoard) : Type 0 where
   pub size : d.board.size ≡ e.board.size
   pub player : d.player ≡ e.player
   pub own : stones_of d.board d.player ≡ stones_of e.board e.player
-  pub rest : IsSubset (stones_of d.board (other_of d.player)) (stones_of e.board (other_of e.player))
+  pub rest : IsSubset (stones_of d.board (other_of d.player))
+      (stones_of e.board (other_of e.player))
   pub fewer : (k : ℕ) → is_empty_at e.board k ≡ true → is_empty_at d.board k ≡ true
 
 -- the number on d of the element that is x on e
