@@ -1,0 +1,168 @@
+#!/usr/bin/env python3
+"""Compares tools/second_checker.py with `hexd check` on certificates and on changed ones.
+
+    tools/fuzz_certificates.py [COUNT [SEED]]
+
+Both are handed the same bytes: each file of examples/certificates, each front of V1, the two long texts that
+docs/CERTIFICATES.md tells of, and COUNT changed certificates (3,000 where it isn't said), which SEED (1) determines. A
+changed one is a file of examples/certificates, or a short certificate of shelf/, after one to three changes: of a
+number, a vertex, a name, the head, the order of lines, or of any byte.
+
+It prints how often each answer came, with no line numbers; a text on which the two differ is kept in a file, which is
+named. It ends with 1 where there is one, or where a number of refusal never came, so that too few changes are noticed.
+
+HEXD names the program; where it isn't set that is bin/hexd.
+"""
+
+import os
+import random
+import re
+import subprocess
+import sys
+import tempfile
+from collections import Counter
+from pathlib import Path
+
+import second_checker
+
+ROOT = Path(__file__).resolve().parent.parent
+HEXD = os.environ.get("HEXD", str(ROOT / "bin" / "hexd"))
+SHORT = 1_000
+REASONS = range(1, 14)
+NAMES = [["and", "key", "or", "cases"], ["put", "done"], ["full", "semi"], ["black", "white"]]
+ODD_BYTES = b"\x00\t\n\r 01a\xff"
+
+
+def examples():
+    """The files of examples/certificates."""
+    return [path.read_bytes() for path in sorted((ROOT / "examples" / "certificates").glob("*.cert"))]
+
+
+def shelved():
+    """The certificates of shelf/ that have few lines; none where Python has no lzma."""
+    try:
+        import lzma
+    except ImportError:
+        return []
+    texts = (lzma.decompress(path.read_bytes()) for path in sorted((ROOT / "shelf").glob("[345]-*.cert.xz")))
+    return [text for text in texts if text.count(b"\n") <= SHORT]
+
+
+def told_texts():
+    """What docs/CERTIFICATES.md tells of without a file: the fronts of V1, and texts of many lines."""
+    v1 = (ROOT / "examples" / "certificates" / "v1.cert").read_bytes()
+    head = b"".join(v1.splitlines(keepends=True)[:5])
+    fronts = [v1[:length] for length in range(len(v1))]
+    return fronts + [head + b"adj a1 edge1\n" * many + b"full 0\n" for many in (200_000, 200_001)]
+
+
+def cell_order(word):
+    """The place of a vertex in rising order of cells; what is none has some place."""
+    return word[1:].rjust(2), word[:1]
+
+
+def some_cell(draw, size):
+    return "abcdefghijk"[draw.randrange(size)] + str(draw.randint(1, size))
+
+
+def change_word(draw, line, lines, size):
+    """A number becomes a near one or any, a vertex another or, seldom, an odd word, a name another of the same form."""
+    name, *words = line.split(" ")
+    if not words or draw.random() < 0.1:
+        return " ".join([draw.choice(next((names for names in NAMES if name in names), [name])), *words])
+    at = draw.randrange(len(words))
+    if words[at].isdigit():
+        near = int(words[at]) + draw.choice([-3, -2, -1, 1, 2, 3])
+        words[at] = str(max(0, near) if draw.random() < 0.7 else draw.randrange(len(lines)))
+    elif draw.random() < 0.05:
+        words[at] = draw.choice(["edge1", "edge2", "z1", "a0", "A1", "k11", "white", "black", ""])
+    else:
+        words[at] = some_cell(draw, size)
+    if name in ("put", "black", "white") and draw.random() < 0.95:
+        words = sorted(set(words), key=cell_order)
+    return " ".join([name, *words])
+
+
+def change_cells(draw, line, size):
+    """A line of cells, with one more or one less."""
+    name, *cells = line.split(" ")
+    cells = set(cells) ^ {some_cell(draw, size)}
+    return " ".join([name, *sorted(cells, key=cell_order)])
+
+
+def change(draw, text):
+    """A text after one change."""
+    lines = text.split("\n")
+    at, other = draw.randrange(len(lines)), draw.randrange(len(lines))
+    size = next((int(line[5:]) for line in lines if re.fullmatch("size [1-9]", line)), 3)
+    stones = [k for k, line in enumerate(lines) if line.startswith(("put", "black", "white"))]
+    match draw.choice("wwwwwwwwccccppssssddiiimb"):
+        case "w":
+            lines[at] = change_word(draw, lines[at], lines, size)
+        case "c" if stones:
+            at = draw.choice(stones)
+            lines[at] = change_cells(draw, lines[at], size)
+        case "p" if len(lines) > 2:
+            lines[2] = draw.choice(["player white", "player black"])
+        case "s":
+            lines[at], lines[other] = lines[other], lines[at]
+        case "d":
+            del lines[at]
+        case "i":
+            lines.insert(at, lines[other])
+        case "m":
+            lines.insert(at, draw.choice(["put", "done", "adj edge1 edge2", "cases 0 1", "or 0 1 2", ""]))
+        case _:
+            place = draw.randrange(len(text) + 1)
+            return text[:place] + chr(draw.choice(ODD_BYTES)) * draw.randrange(2) + text[place + 1 :]
+    return "\n".join(lines)
+
+
+def changed_texts(draw, count):
+    """So many changed certificates."""
+    known = examples() + shelved()
+    for _ in range(count):
+        text = draw.choice(known).decode("latin-1")
+        for _ in range(draw.randint(1, 3)):
+            text = change(draw, text)
+        yield text.encode("latin-1")
+
+
+def answer_of_hexd(text):
+    """What `hexd check` writes, where its status is the one for it."""
+    done = subprocess.run([HEXD, "check"], input=text, capture_output=True)
+    said = done.stdout.decode()
+    if done.returncode != (0 if said.startswith("yes") else 1) or not said.endswith("\n"):
+        return f"status {done.returncode} with {said!r}"
+    return said.removesuffix("\n")
+
+
+def sort_of(answer):
+    """An answer without its line numbers."""
+    return re.sub(r"(?<=^no )\d+|(?<=line )\d+", "LINE", answer)
+
+
+def main():
+    count, seed = (int(word) for word in (sys.argv[1:] + ["3000", "1"][len(sys.argv) - 1 :]))
+    answers, differing = Counter(), 0
+    texts = examples() + told_texts()
+    texts.extend(changed_texts(random.Random(seed), count))
+    for text in texts:
+        mine, hexds = second_checker.answer(text), answer_of_hexd(text)
+        answers[sort_of(mine)] += 1
+        if mine != hexds:
+            differing += 1
+            with tempfile.NamedTemporaryFile(prefix="differ-", suffix=".cert", delete=False) as file:
+                file.write(text)
+            print(f"the second checker says {mine!r}, hexd {hexds!r}: {file.name}")
+    for said, often in sorted(answers.items()):
+        print(f"{often:7,} {said}")
+    missing = [why for why in REASONS if not answers[f"no LINE {why}"]]
+    if missing:
+        print(f"numbers of refusal that never came: {missing}")
+    print(f"{len(texts):,} texts (seed {seed}), {differing} on which the two differ")
+    return 1 if differing or missing else 0
+
+
+if __name__ == "__main__":
+    sys.exit(main())
