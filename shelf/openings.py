@@ -1,0 +1,83 @@
+"""Openings of Hex: their cells, their names, which of them a shelf has to have, and the files of certificates.
+
+An opening is Black's first stone on an empty board; White moves next. Its name is the size, a hyphen and the vertex,
+as `6-a3`, and its certificate is the file of this name with `.cert.xz` behind it. A half turn of the board takes an
+opening to another one with the same winner, so of such two the one with the lesser cell number stands for both.
+"""
+
+import functools
+import re
+from pathlib import Path
+from typing import NamedTuple
+
+SHELF = Path(__file__).resolve().parent
+LIST = SHELF / "openings.tsv"
+LETTERS = "abcdefghijk"
+ENDING = ".cert.xz"
+# Who wins claims this kind: Black with White to move, or White with himself to move.
+KINDS = {"black": "full", "white": "semi"}
+
+
+class Opening(NamedTuple):
+    size: int
+    cell: int
+
+    def __str__(self):
+        return f"{self.size}-{vertex(self.size, self.cell)}"
+
+    def turned(self):
+        """The same opening, seen from the other side of the board."""
+        return Opening(self.size, self.size**2 - 1 - self.cell)
+
+
+class Listed(NamedTuple):
+    """What the list says of an opening: who wins, by which kind of claim, and how many lines the certificate has."""
+
+    winner: str
+    kind: str
+    lines: int
+
+
+def vertex(size, cell):
+    return LETTERS[cell % size] + str(cell // size + 1)
+
+
+def opening_named(name):
+    """The opening of a name, or None."""
+    found = re.fullmatch("([1-9]|10|11)-([a-k])([1-9]|10|11)", name)
+    if not found:
+        return None
+    size, column, row = int(found[1]), LETTERS.index(found[2]), int(found[3]) - 1
+    return Opening(size, row * size + column) if column < size and row < size else None
+
+
+def openings_of(size):
+    """The openings of a size up to the half turn, those nearest to the middle of the board first."""
+    middle = (size - 1) / 2
+
+    def distance(cell):
+        x, y = cell % size - middle, cell // size - middle
+        return x * x + y * y + x * y
+
+    return [Opening(size, cell) for cell in sorted(range((size**2 + 1) // 2), key=distance)]
+
+
+def head_of(opening, winner):
+    """The first lines of the opening's certificate for this winner, behind the one with the version."""
+    return [f"size {opening.size}", f"player {winner}", f"black {vertex(*opening)}", "white"]
+
+
+@functools.cache
+def listed():
+    """What openings.tsv says of each opening on the shelf."""
+    rows = [line.split("\t") for line in LIST.read_text().splitlines()[1:]]
+    return {opening_named(name): Listed(winner, kind, int(lines)) for name, winner, kind, lines in rows}
+
+
+def text_of(path):
+    """The bytes of a certificate, unpacked where the file is compressed."""
+    if path.suffix != ".xz":
+        return path.read_bytes()
+    import lzma
+
+    return lzma.decompress(path.read_bytes())
