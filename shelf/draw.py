@@ -1,18 +1,28 @@
 #!/usr/bin/env python3
-"""Writes what the shelf says at a glance, from its certificates: the list openings.tsv, and a board of each size.
+"""Writes what the shelf says at a glance, from its certificates: a list, a board of each size, and README.md's table.
 
-    shelf/pictures.py            writes them anew
-    shelf/pictures.py --check    says nothing where they are as they would be written, and else ends with 1
+    shelf/draw.py            writes them anew
+    shelf/draw.py --check    says nothing where they are as they would be written, and else ends with 1
+
+The list is openings.tsv: each opening, who wins, by which kind of claim, the cell by which White answers and wins (`-`
+where Black wins), and the number of the certificate's lines.
 
 A board is pictures/SIZE.svg. Each cell is an opening, and has the colour of the player who wins after it, black or
-white; a cell for which there is no certificate is grey and has a question mark. The pictures have a ground of their own,
-so that they can be seen on light and on dark pages.
+white; a cell for which there is no certificate is grey and has a question mark. The pictures have a ground of their
+own, so that they can be seen on light and on dark pages.
 """
 
 import math
 import sys
 
-from openings import ENDING, KINDS, LETTERS, LIST, SHELF, Listed, Opening, opening_named, text_of
+from openings import ENDING, KINDS, LIST, SHELF, Listed, Opening, opening_named, text_of, vertex
+
+sys.path.insert(0, str(SHELF.parent / "tools"))
+import second_checker
+
+README = SHELF / "README.md"
+TABLE = "## Each certificate\n"
+HEAD = 5
 
 # The circle around a cell has this radius; a row is 3/2 of it below the one before, and half a column to the right.
 RADIUS = 24
@@ -24,20 +34,44 @@ FILLS = {"black": ("#14181d", "#ffffff"), "white": ("#ffffff", "#14181d"), None:
 WORDS = {"black": "Black wins", "white": "White wins", None: "no certificate"}
 
 
+def answer_of(data):
+    """White's answer by a certificate that he wins: the cell of the `move` or the `key` that the claim names."""
+    lines = data.decode().splitlines()
+    name, *words = lines[HEAD + int(lines[-1].split()[1])].split()
+    if name == "move":
+        return words[0]
+    size, player, stones, read = second_checker.read(data)
+    checker = second_checker.Checker(size, player, stones)
+    for line in read[:-1]:
+        checker.reason_against(*line)
+    (shared,) = checker.given[int(words[0])].pair & checker.given[int(words[1])].pair
+    return vertex(size, shared.bit_length() - 1)
+
+
 def kept():
-    """What the certificates on the shelf say."""
+    """What the certificates on the shelf say, in the order of their names."""
     found = {}
     for path in SHELF.glob("*" + ENDING):
-        lines = text_of(path).decode().splitlines()
-        winner = lines[2].split()[1]
-        found[opening_named(path.name.removesuffix(ENDING))] = Listed(winner, KINDS[winner], len(lines))
-    return found
+        data = text_of(path)
+        winner = data.split(b"\n")[2].split()[1].decode()
+        answer = answer_of(data) if winner == "white" else "-"
+        found[opening_named(path.name.removesuffix(ENDING))] = Listed(winner, KINDS[winner], answer, data.count(b"\n"))
+    return dict(sorted(found.items()))
 
 
 def list_text(shelf):
-    """The list: each opening, who wins, by which kind of claim, and the certificate's lines."""
-    rows = [(str(opening), *map(str, shelf[opening])) for opening in sorted(shelf)]
-    return "".join("\t".join(row) + "\n" for row in [("opening", "winner", "claim", "lines"), *rows])
+    rows = [(str(opening), *map(str, entry)) for opening, entry in shelf.items()]
+    return "".join("\t".join(row) + "\n" for row in [("opening", *Listed._fields), *rows])
+
+
+def table_text(shelf):
+    """README.md's table: what each certificate says in words."""
+    rows = ["| file | what it shows | lines |", "|---|---|---|"]
+    for opening, (winner, kind, answer, lines) in shelf.items():
+        stone = f"On {opening.size} by {opening.size}, after Black's first stone on {vertex(*opening)},"
+        shows = f"{stone} Black wins" if winner == "black" else f"{stone} White wins, by {answer}"
+        rows.append(f"| {opening}{ENDING} | {shows} (`{kind}`) | {lines:,} |")
+    return "\n".join(rows) + "\n"
 
 
 def points(corners):
@@ -78,7 +112,7 @@ def cells_of(size, shelf):
         opening = Opening(size, number)
         source = next((one for one in (opening, opening.turned()) if one in shelf), None)
         winner = shelf[source].winner if source else None
-        name = LETTERS[number % size] + str(number // size + 1)
+        name = vertex(size, number)
         turned = f" (the half turn of {source})" if source not in (opening, None) else ""
         label = name if winner else name + "?"
         yield cell(*middle(number % size, number // size), winner, label, f"{name}: {WORDS[winner]}{turned}")
@@ -126,13 +160,14 @@ def board(size, shelf):
 
 def main():
     shelf = kept()
-    texts = {LIST: list_text(shelf)}
+    front = README.read_text().split(TABLE)[0]
+    texts = {LIST: list_text(shelf), README: f"{front}{TABLE}\n{table_text(shelf)}"}
     for size in sorted({opening.size for opening in shelf}):
         texts[SHELF / "pictures" / f"{size}.svg"] = board(size, shelf)
     if sys.argv[1:] == ["--check"]:
         others = [path for path, text in texts.items() if not path.is_file() or path.read_text() != text]
         for path in others:
-            print(f"shelf/pictures.py: {path.relative_to(SHELF.parent)} is not as it would be written")
+            print(f"shelf/draw.py: {path.relative_to(SHELF.parent)} is not as it would be written")
         return 1 if others else 0
     for path, text in texts.items():
         path.parent.mkdir(exist_ok=True)
