@@ -9,7 +9,7 @@ changed one is a file of examples/certificates, or a short certificate of shelf/
 number, a vertex, a name, the head, the order of lines, or of any byte.
 
 It prints how often each answer came, with no line numbers; a text on which the two differ is kept in a file, which is
-named. It ends with 1 where there is one, or where of 1,000 changed certificates or more none had some number of refusal.
+named. It ends with 1 where there is one, or where some number of refusal never came among 1,000 changed ones or more.
 
 HEXD names the program; where it isn't set that is bin/hexd.
 """
