@@ -31,10 +31,11 @@ class Opening(NamedTuple):
 
 
 class Listed(NamedTuple):
-    """What the list says of an opening: who wins, by which kind of claim, and how many lines the certificate has."""
+    """What the list says of an opening: who wins, by which kind of claim, White's answer, the certificate's lines."""
 
     winner: str
-    kind: str
+    claim: str
+    answer: str
     lines: int
 
 
@@ -71,7 +72,7 @@ def head_of(opening, winner):
 def listed():
     """What openings.tsv says of each opening on the shelf."""
     rows = [line.split("\t") for line in LIST.read_text().splitlines()[1:]]
-    return {opening_named(name): Listed(winner, kind, int(lines)) for name, winner, kind, lines in rows}
+    return {opening_named(name): Listed(*words, int(lines)) for name, *words, lines in rows}
 
 
 def text_of(path):

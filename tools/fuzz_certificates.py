@@ -9,7 +9,7 @@ changed one is a file of examples/certificates, or a short certificate of shelf/
 number, a vertex, a name, the head, the order of lines, or of any byte.
 
 It prints how often each answer came, with no line numbers; a text on which the two differ is kept in a file, which is
-named. It ends with 1 where there is one, or where a number of refusal never came, so that too few changes are noticed.
+named. It ends with 1 where there is one, or where some number of refusal never came among 1,000 changed ones or more.
 
 HEXD names the program; where it isn't set that is bin/hexd.
 """
@@ -28,6 +28,7 @@ import second_checker
 ROOT = Path(__file__).resolve().parent.parent
 HEXD = os.environ.get("HEXD", str(ROOT / "bin" / "hexd"))
 SHORT = 1_000
+MANY = 1_000
 REASONS = range(1, 14)
 NAMES = [["and", "key", "or", "cases"], ["put", "done"], ["full", "semi"], ["black", "white"]]
 ODD_BYTES = b"\x00\t\n\r 01a\xff"
@@ -144,12 +145,12 @@ def sort_of(answer):
 
 def main():
     count, seed = (int(word) for word in (sys.argv[1:] + ["3000", "1"][len(sys.argv) - 1 :]))
-    answers, differing = Counter(), 0
-    texts = examples() + told_texts()
-    texts.extend(changed_texts(random.Random(seed), count))
-    for text in texts:
+    answers, of_changed, differing = Counter(), Counter(), 0
+    told = examples() + told_texts()
+    for number, text in enumerate([*told, *changed_texts(random.Random(seed), count)]):
         mine, hexds = second_checker.answer(text), answer_of_hexd(text)
         answers[sort_of(mine)] += 1
+        of_changed[sort_of(mine)] += number >= len(told)
         if mine != hexds:
             differing += 1
             with tempfile.NamedTemporaryFile(prefix="differ-", suffix=".cert", delete=False) as file:
@@ -157,10 +158,10 @@ def main():
             print(f"the second checker says {mine!r}, hexd {hexds!r}: {file.name}")
     for said, often in sorted(answers.items()):
         print(f"{often:7,} {said}")
-    missing = [why for why in REASONS if not answers[f"no LINE {why}"]]
+    missing = [why for why in REASONS if count >= MANY and not of_changed[f"no LINE {why}"]]
     if missing:
-        print(f"numbers of refusal that never came: {missing}")
-    print(f"{len(texts):,} texts (seed {seed}), {differing} on which the two differ")
+        print(f"no changed certificate was refused by the numbers {missing}")
+    print(f"{answers.total():,} texts (seed {seed}), {differing} on which the two differ")
     return 1 if differing or missing else 0
 
 

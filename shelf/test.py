@@ -1,0 +1,177 @@
+#!/usr/bin/env python3
+"""What the shelf's checkers have to refuse, and find.py has to find: shelf/test.py says nothing where they do.
+
+Of each certificate of sizes 3 to 5, these are refused by `hexd check` and by tools/second_checker.py alike: two lines
+swapped of which one names the other, the other player, the other claim, and the last derivation line cut off; of those
+of size 3 also each other line cut off. shelf/check refuses each file of size 3 under the names of the other openings, a
+true certificate with a claim that is not the opening's, a file with a byte changed, and an opening that is missing.
+find.py makes size 3 anew, shelf/check accepts what it makes, and a second start finds nothing left to do.
+
+HEXD names the program; where it isn't set that is bin/hexd.
+"""
+
+import shutil
+import signal
+import subprocess
+import sys
+import tempfile
+from pathlib import Path
+
+from openings import ENDING, SHELF, listed, text_of
+from sessions import HEXD
+
+sys.path.insert(0, str(SHELF.parent / "tools"))
+import second_checker
+
+HEAD = 5
+# find.py is under way after so many seconds, and ends within so many.
+START_SECONDS, END_SECONDS = 2, 30
+# After b2 and b1 Black is joined with the first row, and with the last one by b3 or a3.
+BLACK_TO_MOVE = """hexcert 2
+size 3
+player black
+black b2
+white
+put b1
+adj b2 b3
+adj edge2 b3
+key 1 2
+adj b2 a3
+adj edge2 a3
+key 4 5
+or 3 6
+put
+move b1 7
+semi 9
+"""
+faults = []
+
+
+def expect(holds, what):
+    if not holds:
+        faults.append(what)
+
+
+def expect_refused(text, what):
+    """Both checkers say no, and the same."""
+    done = subprocess.run([HEXD, "check"], input=text.encode(), capture_output=True)
+    hexds, mine = done.stdout.decode().removesuffix("\n"), second_checker.answer(text.encode())
+    expect(hexds == mine, f"{what}: hexd check says {hexds!r}, the second checker {mine!r}")
+    expect(done.returncode == 1 and mine.startswith("no"), f"{what}: {hexds!r} with status {done.returncode}")
+
+
+def swapped(lines):
+    """The last derivation line, in the place of the last line that it names."""
+    last = len(lines) - 2
+    named = HEAD + max(int(word) for word in lines[last].split(" ") if word.isdigit())
+    result = list(lines)
+    result[last], result[named] = lines[named], lines[last]
+    return result
+
+
+def wrong_certificates(opening, winner, lines):
+    """Each with what is wrong of it. The lines are those of the text, with nothing behind the last."""
+    other = "white" if winner == "black" else "black"
+    kind, entry = lines[-1].split(" ")
+    yield "two lines swapped", swapped(lines)
+    yield "another player", [*lines[:2], f"player {other}", *lines[3:]]
+    yield "another claim", [*lines[:-1], f"{'semi' if kind == 'full' else 'full'} {entry}"]
+    cuts = range(HEAD, len(lines) - 1) if opening.size == 3 else [len(lines) - 2]
+    for cut in cuts:
+        yield f"line {cut - HEAD} cut off", lines[:cut] + lines[cut + 1:]
+
+
+def expect_refusals():
+    for opening, entry in listed().items():
+        if opening.size > 5:
+            continue
+        lines = text_of(SHELF / f"{opening}{ENDING}").decode().removesuffix("\n").split("\n")
+        for what, wrong in wrong_certificates(opening, entry.winner, lines):
+            expect_refused("\n".join(wrong) + "\n", f"{opening} with {what}")
+
+
+def shelf_check(*words, folder=SHELF):
+    """The status of shelf/check, and its lines."""
+    done = subprocess.run([folder / "check", *words], capture_output=True, text=True)
+    return done.returncode, done.stdout.splitlines()
+
+
+def expect_other_names(folder):
+    """Each certificate of size 3 is refused under each other name, even where the same player wins that opening."""
+    small = [opening for opening in listed() if opening.size == 3]
+    for opening in small:
+        place = folder / str(opening)
+        place.mkdir()
+        for other in small:
+            if other != opening:
+                shutil.copy(SHELF / f"{opening}{ENDING}", place / f"{other}{ENDING}")
+        status, said = shelf_check(*sorted(place.iterdir()))
+        expect(status == 1 and said[-1] == f"0 accepted, {len(small) - 1} refused", f"{opening} renamed: {said}")
+
+
+def expect_other_claim(folder):
+    """That Black wins with himself to move is true and no proof of the opening."""
+    path = folder / "3-b2.cert"
+    path.write_text(BLACK_TO_MOVE)
+    expect(second_checker.answer(BLACK_TO_MOVE.encode()) == "yes semi", "Black to move is not accepted")
+    status, said = shelf_check(path)
+    expect(status == 1 and said[-1] == "0 accepted, 1 refused", f"Black to move, as a proof of 3-b2: {said}")
+
+
+def expect_whole_files(folder):
+    """A file of the list that is missing, and one with a byte changed."""
+    copied = folder / "shelf"
+    copied.mkdir()
+    for path in [SHELF / "check", *SHELF.glob("*.py"), *SHELF.glob("*.tsv"), *SHELF.glob("3-*")]:
+        shutil.copy(path, copied)
+    (folder / "tools").symlink_to(SHELF.parent / "tools")
+    packed = bytearray((copied / f"3-a1{ENDING}").read_bytes())
+    packed[len(packed) // 2] ^= 1
+    (copied / f"3-a1{ENDING}").write_bytes(packed)
+    (copied / f"3-b2{ENDING}").unlink()
+    status, said = shelf_check("3", folder=copied)
+    expect(status == 1 and said[-1] == "3 accepted, 2 refused", f"a changed byte and a missing file: {said}")
+
+
+def find(*words):
+    """The status of find.py, and its lines."""
+    done = subprocess.run([SHELF / "find.py", *words], capture_output=True, text=True)
+    return done.returncode, done.stdout.splitlines() + done.stderr.splitlines()
+
+
+def expect_found(folder):
+    """Size 3 is found anew; what is found is accepted, and found once."""
+    for lines in (5, 0):
+        status, said = find("--out", folder, "3")
+        expect(status == 0 and len(said) == lines, f"find.py 3: status {status}, {said}")
+    status, said = shelf_check(*folder.iterdir())
+    expect(status == 0 and said[-1] == "5 accepted", f"what find.py made: {said}")
+    status, said = find("--out", folder, "--seconds", "0", "7-b3")
+    expect(status == 1 and len(said) == 1 and "open" in said[0], f"find.py without time: status {status}, {said}")
+
+
+def expect_interrupted(folder):
+    """After Ctrl-C it ends in order, with no file."""
+    words = [SHELF / "find.py", "--out", folder, "7-b3"]
+    process = subprocess.Popen(words, stdout=subprocess.PIPE, stderr=subprocess.STDOUT, text=True)
+    try:
+        process.communicate(timeout=START_SECONDS)
+    except subprocess.TimeoutExpired:
+        process.send_signal(signal.SIGINT)
+    said = process.communicate(timeout=END_SECONDS)[0]
+    fits = process.returncode == 130 and said.startswith("7-b3: open; ") and said.count("\n") == 1
+    expect(fits and not list(folder.iterdir()), f"find.py after Ctrl-C: status {process.returncode}, {said!r}")
+
+
+def main():
+    expect_refusals()
+    for trial in (expect_other_names, expect_other_claim, expect_whole_files, expect_found, expect_interrupted):
+        with tempfile.TemporaryDirectory() as folder:
+            trial(Path(folder))
+    for fault in faults:
+        print(f"shelf/test.py: {fault}")
+    return 1 if faults else 0
+
+
+if __name__ == "__main__":
+    sys.exit(main())
