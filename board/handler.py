@@ -1,0 +1,182 @@
+"""The server's side of a request: whose it is, what it wants, and its answer. README.md has the table of requests."""
+
+import json
+import re
+import secrets
+import socketserver
+import sys
+from http.server import BaseHTTPRequestHandler, ThreadingHTTPServer
+from pathlib import Path
+
+import htp
+from sessions import Refusal
+
+HOST = "127.0.0.1"
+MOST_BYTES = 1_048_576
+# Who was sent a link meets this.
+NO_TOKEN = "the token is missing: open the address that bin/hexd-board printed, and paste a link into its page"
+# What is left of a refused body is read up to here, so that the client reads the refusal before the connection closes.
+MOST_DROPPED_BYTES = 16 * MOST_BYTES
+# A connection over which nothing comes for so long is closed.
+QUIET_SECONDS = 60
+PAGE = Path(__file__).resolve().with_name("page")
+KINDS = {".html": "text/html", ".css": "text/css", ".js": "text/javascript", ".svg": "image/svg+xml"}
+TEXT = "text/plain"
+HEADERS = {
+    # The page runs its own files alone; its pictures are made in it (blob:), and it talks to nobody but this server.
+    "Content-Security-Policy": "default-src 'none'; script-src 'self'; style-src 'self'; img-src 'self' blob: data:; "
+    "connect-src 'self'; base-uri 'none'; form-action 'none'; frame-ancestors 'none'",
+    "Cache-Control": "no-store",
+    "Cross-Origin-Opener-Policy": "same-origin",
+    "Cross-Origin-Resource-Policy": "same-origin",
+    # The address has the token in it.
+    "Referrer-Policy": "no-referrer",
+    "X-Content-Type-Options": "nosniff",
+}
+
+
+def taken_line(body):
+    """A line as hexd is sent it, from the body of a request; Refusal where it isn't one that the server sends on."""
+    if b"\n" in body:
+        raise Refusal(400, "a request has one line, without a line feed")
+    if not all(32 <= byte <= 126 for byte in body):
+        raise Refusal(400, "a line is of printable ASCII characters")
+    line = body.decode("ascii")
+    name = htp.command_name(line)
+    if name is None:
+        raise Refusal(400, "there is no command in the line")
+    if name == "quit":
+        raise Refusal(400, "quit is for the server: DELETE ends a session")
+    if name == "loadsgf":
+        raise Refusal(400, "loadsgf by name is refused: the bytes of a record are sent to /record")
+    return line
+
+
+class Handler(BaseHTTPRequestHandler):
+    """One request: is it ours, what does it want, and its answer as text."""
+
+    protocol_version = "HTTP/1.1"
+    server_version = "hexd-board"
+    sys_version = ""
+    timeout = QUIET_SECONDS
+
+    def do_GET(self):
+        self.serve(self.get)
+
+    def do_POST(self):
+        self.serve(self.post)
+
+    def do_DELETE(self):
+        self.serve(self.delete)
+
+    def serve(self, method):
+        """Answers by a method, which has the path behind the token; a Refusal is answered by its status and line."""
+        self.left = 0
+        try:
+            self.admit()
+            self.left = self.length()
+            self.answer(200, *method(*self.path.split("?")[0].split("/")[2:]))
+        except Refusal as refusal:
+            self.answer(refusal.status, refusal.why + "\n", TEXT)
+        self.drop_rest()
+
+    def admit(self):
+        """Refuses who isn't this server's page: neither a page elsewhere nor another user of the machine may drive it."""
+        hosts = [f"{host}:{self.server.server_port}" for host in (HOST, "localhost")]
+        if self.headers.get_all("Host", []) not in [[host] for host in hosts]:
+            raise Refusal(403, "the Host of the request is not this server")
+        if self.headers.get("Origin") not in [None, *("http://" + host for host in hosts)]:
+            raise Refusal(403, "the Origin of the request is not this server")
+        given = self.path.split("/")[1] if self.path.startswith("/") else ""
+        if not secrets.compare_digest(given.encode(), self.server.token.encode()):
+            raise Refusal(403, NO_TOKEN)
+
+    def length(self):
+        given = self.headers.get("Content-Length", "0")
+        if "Transfer-Encoding" in self.headers or not re.fullmatch("[0-9]{1,18}", given):
+            self.close_connection = True
+            raise Refusal(411, "a request tells the length of its body")
+        return int(given)
+
+    def body(self):
+        if self.left > MOST_BYTES:
+            raise Refusal(413, f"a body has at most {MOST_BYTES} bytes")
+        body, self.left = self.rfile.read(self.left), 0
+        return body
+
+    def get(self, *path):
+        match path:
+            case (name,) if (name or "index.html") in self.server.files:
+                file = PAGE / (name or "index.html")
+                return file.read_bytes(), KINDS[file.suffix]
+            case ("shelf", opening) if found := re.fullmatch("([1-9]|1[01])-([a-k][1-9][0-9]?)", opening):
+                return json.dumps(self.server.openings.winner(int(found[1]), found[2])), "application/json"
+        raise Refusal(404, "there is no such file")
+
+    def post(self, *path):
+        sessions, body = self.server.sessions, self.body()
+        match path:
+            case ("session",):
+                return sessions.make(), TEXT
+            case ("session", name, "htp"):
+                return sessions.ask(name, taken_line(body)), TEXT
+            case ("session", name, "record"):
+                return sessions.load(name, body), TEXT
+            case ("session", name, "check"):
+                return sessions.check(name, body), TEXT
+        raise Refusal(404, "there is no such request")
+
+    def delete(self, *path):
+        match path:
+            case ("session", name) if self.server.sessions.end(name):
+                return "ended", TEXT
+        raise Refusal(404, "there is no such session")
+
+    def answer(self, status, body, kind):
+        body = body if isinstance(body, bytes) else body.encode()
+        self.send_response(status)
+        self.send_header("Content-Type", f"{kind}; charset=utf-8")
+        self.send_header("Content-Length", str(len(body)))
+        for name, value in HEADERS.items():
+            self.send_header(name, value)
+        if self.close_connection or self.left:
+            self.send_header("Connection", "close")
+        self.end_headers()
+        self.wfile.write(body)
+
+    def drop_rest(self):
+        """Reads what is left of a body that was refused, up to a limit, and closes the connection after it."""
+        if not self.left:
+            return
+        self.close_connection = True
+        self.wfile.flush()
+        left = min(self.left, MOST_DROPPED_BYTES)
+        while left > 0 and (got := self.rfile.read(min(left, 65_536))):
+            left -= len(got)
+
+    def log_message(self, *_):
+        pass
+
+
+class Server(ThreadingHTTPServer):
+    """The server on one port of this machine alone, with its token, sessions and openings."""
+
+    daemon_threads = True
+
+    def __init__(self, port, sessions, openings):
+        self.token = secrets.token_urlsafe(16)
+        self.sessions, self.openings = sessions, openings
+        self.files = {file.name for file in PAGE.iterdir() if file.suffix in KINDS}
+        super().__init__((HOST, port), Handler)
+
+    def server_bind(self):
+        # The one of HTTPServer asks the system for the host's full name, which may take long.
+        socketserver.TCPServer.server_bind(self)
+        self.server_name, self.server_port = self.server_address[:2]
+
+    def handle_error(self, request, client_address):
+        if not isinstance(sys.exc_info()[1], (ConnectionError, TimeoutError)):
+            super().handle_error(request, client_address)
+
+    def address(self):
+        return f"http://{HOST}:{self.server_port}/{self.token}/"

@@ -1,0 +1,84 @@
+"""Openings whose winner is proved: the certificates of the folder shelf/, each read and checked when it is asked for.
+
+The file shelf/6-a3.cert.xz has a certificate of the board of size 6 with one stone of Black on a3, White to move. Where
+there is no such file, where Python has no lzma, or where a second process doesn't accept the certificate, nothing is known.
+The board turned by half a circle is the same board, with first and second edges exchanged; so a certificate also serves for
+the opening on the opposite cell: it is turned, and the second process is given the turned one.
+"""
+
+import re
+import threading
+from pathlib import Path
+
+import htp
+
+try:
+    import lzma
+except ImportError:
+    lzma = None
+
+SHELF = Path(__file__).resolve().parent.parent / "shelf"
+# `hexd check` takes no more.
+MOST_BYTES = 67_108_864
+CHECK_SECONDS = 120
+# What the certificate's player is, and what it claims, where he wins with White to move.
+CLAIMS = {"white": "yes semi", "black": "yes full"}
+
+
+def turned_cell(vertex, size):
+    """The cell opposite to this one."""
+    return f"{chr(ord('a') + size - 1 - (ord(vertex[0]) - ord('a')))}{size + 1 - int(vertex[1:])}"
+
+
+def turned(certificate, size):
+    """The certificate of the board that is turned by half a circle. Lists of cells rise, and so they are turned around too."""
+    edges = {"edge1": "edge2", "edge2": "edge1"}
+    lines = []
+    for line in certificate.split("\n"):
+        name, *words = line.split(" ")
+        words = [turned_cell(word, size) if re.fullmatch("[a-k][0-9]+", word) else edges.get(word, word) for word in words]
+        lines.append(" ".join([name, *(reversed(words) if name in ("black", "white", "put") else words)]))
+    return "\n".join(lines)
+
+
+class Openings:
+    """The proved winners of openings. Each is found once."""
+
+    def __init__(self, program, folder=SHELF):
+        self.program, self.folder = program, Path(folder)
+        self.found = {}
+        self.turn = threading.Lock()
+
+    def winner(self, size, vertex):
+        """`black` or `white` where it is proved who wins after Black's first stone on this cell, and else None."""
+        with self.turn:
+            if (size, vertex) not in self.found:
+                self.found[size, vertex] = self._winner(size, vertex)
+            return self.found[size, vertex]
+
+    def _winner(self, size, vertex):
+        opposite = turned_cell(vertex, size)
+        return self._proved(self._certificate(size, vertex), size, vertex) or self._proved(
+            turned(self._certificate(size, opposite), size), size, vertex
+        )
+
+    def _proved(self, certificate, size, vertex):
+        """Who wins by a certificate, where it is one of this opening and a second process accepts it."""
+        head = certificate.split("\n", 5)[:5]
+        if len(head) < 5 or head[1] != f"size {size}" or head[3:] != [f"black {vertex}", "white"]:
+            return None
+        player = head[2].removeprefix("player ")
+        try:
+            verdict = htp.check(self.program, certificate.encode(), CHECK_SECONDS)
+        except htp.EngineEnded:
+            return None
+        return player if verdict == CLAIMS.get(player) else None
+
+    def _certificate(self, size, vertex):
+        if lzma is None:
+            return ""
+        try:
+            packed = (self.folder / f"{size}-{vertex}.cert.xz").read_bytes()
+            return lzma.LZMADecompressor().decompress(packed, MOST_BYTES).decode()
+        except (OSError, lzma.LZMAError, UnicodeDecodeError):
+            return ""

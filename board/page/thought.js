@@ -1,0 +1,69 @@
+'use strict';
+// What hexd said of one position: its plan (mustplay), its search (search-report) and its certificate (wincert), read from
+// the answers and told in words.
+
+/** Reads the answers. `mover` is 'b' or 'w', `cell` the move that hexd chose; answers that failed are null. */
+function readThought({mover, cell, mustplay, report, certificate, checked}) {
+  const thought = {mover, cell, certificate, checked, win: false, lost: false, allowed: null, threats: [], rows: []};
+  for (const line of mustplay.split('\n')) {
+    const [word, ...rest] = line.split(' ');
+    if (word === 'win') thought.win = true;
+    if (word === 'lost') thought.lost = rest[0] === 'yes';
+    if (word === 'allowed') thought.allowed = new Set(rest);
+    if (word === 'threat') thought.threats.push(rest);
+  }
+  if (report) {
+    const [first, ...rows] = report.split('\n');
+    thought.playouts = Number(first.split(' ')[1]);
+    thought.rows = rows.map(row => row.split(' ')).map(([vertex, visits, won]) => [vertex, Number(visits), Number(won)]);
+  }
+  thought.proof = certificate ? readCertificate(certificate) : null;
+  return thought;
+}
+
+/** The visits of each cell among which was searched. */
+function visitsOf(thought) {
+  return new Map(thought.rows.map(([vertex, visits, won]) => [vertex, {visits, won, share: visits / thought.playouts}]));
+}
+
+/** The cells outside the allowed ones; none where there is no threat, or where the board is lost. */
+function dimmedOf(thought, size) {
+  const dimmed = new Set();
+  if (!thought.threats.length || !thought.allowed || thought.lost) return dimmed;
+  for (let row = 0; row < size; row++) {
+    for (let column = 0; column < size; column++) {
+      const vertex = vertexAt(column, row);
+      if (!thought.allowed.has(vertex)) dimmed.add(vertex);
+    }
+  }
+  return dimmed;
+}
+
+/** The share of wins for Black by what hexd said: {value, proved}, a proved win being at the rim; or null. */
+function blackShare(thought) {
+  if (thought.win || thought.lost) return {value: (thought.mover === 'b') === thought.win ? 1 : 0, proved: true};
+  const row = thought.rows.find(([vertex]) => vertex === thought.cell);
+  if (!row || !row[1]) return null;
+  const share = row[2] / row[1];
+  return {value: thought.mover === 'b' ? share : 1 - share, proved: false};
+}
+
+/** What hexd said, as sentences. */
+function thoughtWords(thought) {
+  const mine = COLOURS[thought.mover], his = COLOURS[other(thought.mover)], said = [];
+  if (thought.win) return [`${mine} wins by ${thought.cell}: a certified win, against every reply.`];
+  if (thought.lost) {
+    said.push(`${mine} loses with every move: no cell lies in each of ${his}'s ${counted(thought.threats.length, 'threat')}.`);
+  } else if (thought.threats.length) {
+    said.push(`${his} has ${counted(thought.threats.length, 'threat')}: every move outside the ${
+      counted(thought.allowed.size, 'allowed cell')} loses.`);
+  } else {
+    said.push(`hexd sees no threat of ${his}'s, and searched all ${counted(thought.rows.length, 'cell')}.`);
+  }
+  const row = thought.rows.find(([vertex]) => vertex === thought.cell);
+  if (row) {
+    said.push(`${thought.cell} has ${grouped(row[1])} of ${counted(thought.playouts, 'visit')}${
+      row[1] ? `; ${mine} won ${percent(row[2] / row[1])} of them` : ''}.`);
+  }
+  return said;
+}

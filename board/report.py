@@ -1,0 +1,178 @@
+#!/usr/bin/env python3
+"""Writes a report of a game: one HTML file with each position of a record and what hexd says of it.
+
+    report.py [--playouts N] [--weight N] [--workers N] GAME.sgf >GAME.html
+
+For each position hexd is asked for a move, its plan, its search and its certificate, which a second process checks; then the
+record's own move is played. How far it is stands on standard error, and why it stops.
+"""
+
+import argparse
+import base64
+import hashlib
+import html
+import json
+import re
+import string
+import sys
+import tempfile
+from pathlib import Path
+
+import htp
+from openings import Openings
+
+PAGE = Path(__file__).resolve().with_name("page")
+TEMPLATE = PAGE.parent / "report.html"
+SCRIPTS = ["elements.js", "board.js", "certificate.js", "thought.js", "plot.js", "report.js"]
+# The options of hexd that it takes and hands on.
+OPTIONS = ("playouts", "weight", "workers")
+SWAP = "swap-pieces"
+CHECK_SECONDS = 120
+
+
+class Stop(Exception):
+    """Why there is no report, in words."""
+
+
+def steps_of(record):
+    """The size, the number of start stones and the steps of a record as `printsgf` writes it."""
+    root, *nodes = record[2:-1].split(";")
+    size = int(re.search(r"SZ\[(\d+)\]", root)[1])
+    start = {colour: len(re.findall(r"\[", "".join(re.findall(rf"A{colour}((?:\[\w+\])+)", root)))) for colour in "BW"}
+    return size, start, [{"colour": node[0].lower(), "move": node[2:-1]} for node in nodes]
+
+
+def stones_of(board):
+    """The stones that `showboard` shows, as pairs of a vertex and a colour."""
+    stones = []
+    for row, line in enumerate(board.splitlines()[2:], 1):
+        marks = line.split()[1:]
+        stones += [(f"{chr(97 + column)}{row}", mark.lower()) for column, mark in enumerate(marks) if mark != "."]
+    return stones
+
+
+def main_line(record):
+    """The moves along the main line of a text in SGF, as pairs of a colour and a value: only to say which one is illegal."""
+    moves, behind = [], ""
+    for token in re.findall(r"\[(?:\\.|[^\]\\])*\]|[A-Z]+|[();]", record, re.DOTALL):
+        if token == ")":
+            return moves
+        if token[0] == "[" and behind in ("B", "W"):
+            moves.append((behind.lower(), token[1:-1].strip().lower()))
+        behind = token if token[0] != "[" else ""
+    return moves
+
+
+def why_refused(engine, record):
+    """Why hexd doesn't load a record: the first move of its main line that hexd refuses, where there is one."""
+    text = record.decode(errors="replace")
+    size = re.search(r"SZ\s*\[\s*(\d+)", text)
+    if "AB" not in text and "AW" not in text and engine.ask(f"boardsize {size[1] if size else 11}").done:
+        for number, (colour, move) in enumerate(main_line(text), 1):
+            if move in ("resign", "forfeit"):
+                break
+            if not move.isascii() or not move.isprintable() or not engine.ask(f"play {colour} {move}").done:
+                return f"move {number} of the record is illegal: {'Black' if colour == 'b' else 'White'} {move!r}"
+    return "it is no record of a game of Hex (hexd: cannot load file)"
+
+
+class Reporter:
+    """One process, and what is asked of it for each position."""
+
+    def __init__(self, engine, program):
+        self.engine, self.program = engine, program
+
+    def ask(self, line):
+        """The text of an answer, or None where it is a failure."""
+        answer = self.engine.ask(line)
+        return answer.text if answer.done else None
+
+    def thought(self, mover):
+        """What hexd says with this player to move, in the words of the page; None once the game is over."""
+        cell = self.ask(f"genmove {mover}")
+        if cell is None:
+            return None
+        said = {"mover": mover, "cell": cell, "mustplay": self.ask("mustplay"), "report": self.ask("search-report")}
+        said["certificate"] = certificate = self.ask("wincert")
+        said["checked"] = certificate and htp.check(self.program, f"{certificate}\n".encode(), CHECK_SECONDS)
+        self.ask("undo")
+        return said
+
+    def position(self, mover, step, last):
+        winner = self.ask("winner")
+        return {
+            "stones": (stones := stones_of(self.ask("showboard"))),
+            "winner": None if winner == "none" else winner[0],
+            "thought": self.thought(mover),
+            "step": step,
+            # After a swap the one stone that lies there is the last one.
+            "last": stones[0][0] if last == SWAP else last,
+        }
+
+    def report(self, record, name):
+        """All of a record: its size, its positions, and the proved winner of its opening."""
+        if not self.engine.load(record).done:
+            raise Stop(why_refused(self.engine, record))
+        size, start, steps = steps_of(self.ask("printsgf"))
+        for _ in steps:
+            self.ask("undo")
+        positions, last, mover = [], None, "w" if start["B"] > start["W"] else "b"
+        for number, step in enumerate([*steps, None]):
+            print(f"{number} of {len(steps)}", file=sys.stderr)
+            positions.append(self.position(step["colour"] if step else mover, step, last))
+            if step:
+                self.ask(f"play {step['colour']} {step['move']}")
+                last, mover = step["move"], "w" if step["colour"] == "b" else "b"
+        opening = None
+        if steps and not any(start.values()) and steps[0]["colour"] == "b":
+            opening = Openings(self.program).winner(size, steps[0]["move"])
+        return {"name": name, "size": size, "positions": positions, "opening": opening and opening[0]}
+
+
+def hashed(text):
+    """How a policy names an inline text that may run, or be a style."""
+    return f"'sha256-{base64.b64encode(hashlib.sha256(text.encode()).digest()).decode()}'"
+
+
+def page_of(report, words):
+    """The file, which needs nothing else: style and scripts are in it, and its policy lets nothing else run."""
+    style = (PAGE / "board.css").read_text()
+    script = "".join((PAGE / name).read_text() for name in SCRIPTS)
+    moves = len(report["positions"]) - 1
+    return string.Template(TEMPLATE.read_text()).substitute(
+        policy=f"default-src 'none'; style-src {hashed(style)}; script-src {hashed(script)}",
+        title=html.escape(report["name"]),
+        summary=html.escape(f"{moves} moves on size {report['size']}, each position looked at by hexd {' '.join(words)}"),
+        style=style,
+        # In a script element only `</` and `<!--` would end or change the text.
+        game=json.dumps(report, separators=(",", ":")).replace("<", "\\u003c"),
+        script=script,
+    )
+
+
+def main():
+    parser = argparse.ArgumentParser(prog="hexd-report", description="Writes a report of a game as HTML on standard output.")
+    for name in OPTIONS:
+        parser.add_argument(f"--{name}", metavar="N", help="the option of hexd")
+    parser.add_argument("--program", type=Path, default=htp.PROGRAM, help="the program in place of the built one")
+    parser.add_argument("record", type=Path, metavar="GAME.sgf")
+    options = parser.parse_args()
+    values = {name: getattr(options, name) for name in OPTIONS}
+    words = [f"--{name}={value}" for name, value in values.items() if value is not None]
+    try:
+        record = options.record.read_bytes()
+        program = options.program.resolve()
+        with tempfile.TemporaryDirectory(prefix="hexd-report-") as folder:
+            with htp.Engine([program, "htp", *words], folder) as engine:
+                report = Reporter(engine, program).report(record, options.record.name)
+        sys.stdout.write(page_of(report, words))
+        return 0
+    except (Stop, htp.EngineEnded) as why:
+        print(f"hexd-report: {options.record}: {why}", file=sys.stderr)
+    except OSError as fault:
+        print(f"hexd-report: {fault.filename or options.record}: {fault.strerror}", file=sys.stderr)
+    return 1
+
+
+if __name__ == "__main__":
+    sys.exit(main())

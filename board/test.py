@@ -1,0 +1,140 @@
+#!/usr/bin/env python3
+"""Tests the board: its server over the socket, its page and its reports in a headless Chromium.
+
+    test.py [--shots DIR] [--pictures DIR] [NAME..]
+
+It says one line where all is right. `--shots` keeps a screenshot of each thing in a folder, `--pictures` makes those of the
+documents; with names it runs the tests whose names have one of these in them. Chromium, its driver and Selenium are Debian's
+packages chromium, chromium-driver and python3-selenium; without them what needs a browser is skipped, which it says.
+"""
+
+import argparse
+import atexit
+import importlib.util
+import io
+import os
+import shutil
+import signal
+import subprocess
+import sys
+import tempfile
+import unittest
+from pathlib import Path
+
+HERE = Path(__file__).resolve().parent
+sys.path.insert(0, str(HERE))
+
+# Debian's packages are for this Python, which need not be the first on the path.
+SYSTEM_PYTHON = "/usr/bin/python3"
+# Longer than any run takes; then something hangs.
+LIMIT_SECONDS = 600
+
+
+def missing():
+    """What a test in a browser lacks, in words; or None."""
+    if not shutil.which("chromium"):
+        return "there is no chromium"
+    if not shutil.which("chromedriver"):
+        return "there is no chromedriver"
+    if importlib.util.find_spec("selenium") is None:
+        return "there is no selenium for Python"
+    return None
+
+
+def become_system_python():
+    """Starts anew under the system's Python where that one has Selenium and this one hasn't."""
+    if importlib.util.find_spec("selenium") or os.path.realpath(sys.executable) == os.path.realpath(SYSTEM_PYTHON):
+        return
+    has = [SYSTEM_PYTHON, "-c", "import selenium"]
+    if os.path.exists(SYSTEM_PYTHON) and subprocess.run(has, stdin=subprocess.DEVNULL, capture_output=True).returncode == 0:
+        os.execv(SYSTEM_PYTHON, [SYSTEM_PYTHON, *sys.argv])
+
+
+def open_standard_streams():
+    """Where a standard stream is closed, a pipe or a socket would take its number."""
+    for number in (0, 1, 2):
+        try:
+            os.fstat(number)
+        except OSError:
+            os.open(os.devnull, os.O_RDWR)
+
+
+def tests(options):
+    """The cases, and what is skipped and why."""
+    from tests import of_report, of_server
+
+    loader, why = unittest.TestLoader(), missing()
+    suites = [loader.loadTestsFromModule(of_server), loader.loadTestsFromTestCase(of_report.Reports)]
+    if why is None:
+        from tests import of_page
+
+        of_page.Pages.shots = options.shots
+        suites.append(loader.loadTestsFromModule(of_page))
+        suites.append(loader.loadTestsFromTestCase(of_report.in_browser(options.shots)))
+    return unittest.TestSuite(chosen(suites, options.names)), why
+
+
+def chosen(suite, names):
+    for test in suite:
+        if isinstance(test, unittest.TestCase):
+            if not names or any(name in test.id() for name in names):
+                yield test
+        else:
+            yield unittest.TestSuite(chosen(test, names))
+
+
+def end_by_signal(number, _):
+    # unittest goes on after any other exception of a test. What was started ends with this process (tests/support.py).
+    raise KeyboardInterrupt(number)
+
+
+def options_of(words):
+    parser = argparse.ArgumentParser(prog="board/test.py")
+    parser.add_argument("--shots", type=Path, metavar="DIR")
+    parser.add_argument("--pictures", type=Path, metavar="DIR")
+    parser.add_argument("names", nargs="*", metavar="NAME")
+    options = parser.parse_args(words)
+    for folder in filter(None, (options.shots, options.pictures)):
+        folder.mkdir(parents=True, exist_ok=True)
+    return options
+
+
+def run(options):
+    """Runs what is asked for, and gives the status."""
+    if options.pictures:
+        from tests import pictures
+
+        pictures.make(options.pictures)
+        return 0
+    suite, why = tests(options)
+    told = io.StringIO()
+    try:
+        result = unittest.TextTestRunner(stream=told, verbosity=2).run(suite)
+    except KeyboardInterrupt as ended:
+        print(f"{told.getvalue()}board/test.py: ended by a signal", file=sys.stderr)
+        return 128 + (ended.args[0] if ended.args else signal.SIGINT)
+    if why:
+        print(f"board/test.py: skipped, for {why}: what needs a browser", file=sys.stderr)
+    if not result.wasSuccessful():
+        print(told.getvalue(), file=sys.stderr)
+        return 1
+    print(f"board/test.py: {result.testsRun} tests passed", file=sys.stderr)
+    return 0
+
+
+def main():
+    open_standard_streams()
+    become_system_python()
+    options = options_of(sys.argv[1:])
+    for number in (signal.SIGTERM, signal.SIGHUP, signal.SIGINT, signal.SIGALRM):
+        signal.signal(number, end_by_signal)
+    signal.alarm(LIMIT_SECONDS)
+    # All that is written lies here, also what a killed server leaves.
+    folder = tempfile.mkdtemp(prefix="hexd-tests-")
+    atexit.register(shutil.rmtree, folder, ignore_errors=True)
+    os.environ["TMPDIR"] = tempfile.tempdir = folder
+    return run(options)
+
+
+if __name__ == "__main__":
+    sys.exit(main())

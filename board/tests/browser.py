@@ -1,0 +1,136 @@
+"""A headless Chromium, driven as a user drives it: by the pointer and by keys."""
+
+import atexit
+import os
+import shutil
+import stat
+import tempfile
+from pathlib import Path
+
+from selenium import webdriver
+from selenium.webdriver.common.action_chains import ActionChains
+from selenium.webdriver.common.by import By
+from selenium.webdriver.chrome.service import Service
+from selenium.webdriver.support.ui import Select
+
+from tests.support import LIMIT_SECONDS, dying, until
+
+# Where Debian's packages put them, and else where the path finds them.
+CHROMIUM = shutil.which("chromium") or "/usr/bin/chromium"
+CHROMEDRIVER = shutil.which("chromedriver") or "/usr/bin/chromedriver"
+ARGUMENTS = [
+    "--headless=new",
+    # Root may not use the sandbox, and a container's /dev/shm may be small.
+    "--no-sandbox",
+    "--disable-dev-shm-usage",
+    "--disable-gpu",
+    "--no-first-run",
+    "--disable-background-networking",
+    "--disable-component-update",
+    "--force-color-profile=srgb",
+    # Over a pipe Chromium ends when its driver does, however that comes.
+    "--remote-debugging-pipe",
+]
+WIDE, NARROW = (1440, 900), (390, 844)
+
+
+class Browser:
+    """One browser with a profile, a home and a folder of downloads of its own."""
+
+    def __init__(self):
+        self.folder = Path(tempfile.mkdtemp(prefix="hexd-browser-"))
+        self.downloads = self.folder / "downloads"
+        self.downloads.mkdir()
+        # Chromedriver in words that end it when this process ends.
+        starter = self.folder / "chromedriver"
+        words = " ".join(f"'{word}'" for word in dying(CHROMEDRIVER))
+        starter.write_text(f'#!/bin/sh\nexec {words} "$@"\n')
+        starter.chmod(starter.stat().st_mode | stat.S_IXUSR)
+        options = webdriver.ChromeOptions()
+        options.binary_location = CHROMIUM
+        for argument in [*ARGUMENTS, f"--user-data-dir={self.folder}/profile"]:
+            options.add_argument(argument)
+        options.add_experimental_option("prefs", {"download.default_directory": str(self.downloads)})
+        options.set_capability("goog:loggingPrefs", {"browser": "ALL"})
+        environment = {**os.environ, "HOME": str(self.folder), "DBUS_SESSION_BUS_ADDRESS": "disabled:"}
+        try:
+            service = Service(str(starter), log_path=str(self.folder / "log"), env=environment)
+            self.driver = webdriver.Chrome(service=service, options=options)
+        except BaseException:
+            shutil.rmtree(self.folder, ignore_errors=True)
+            raise
+        atexit.register(self.end)
+        self.driver.set_page_load_timeout(LIMIT_SECONDS)
+        self.driver.set_script_timeout(LIMIT_SECONDS)
+
+    def end(self):
+        atexit.unregister(self.end)
+        try:
+            self.driver.quit()
+        finally:
+            shutil.rmtree(self.folder, ignore_errors=True)
+
+    def window(self, size, dark=False):
+        width, height = size
+        metrics = {"width": width, "height": height, "deviceScaleFactor": 1, "mobile": size == NARROW}
+        self.driver.execute_cdp_cmd("Emulation.setDeviceMetricsOverride", metrics)
+        scheme = {"name": "prefers-color-scheme", "value": "dark" if dark else "light"}
+        self.driver.execute_cdp_cmd("Emulation.setEmulatedMedia", {"features": [scheme]})
+
+    def open(self, address):
+        # A change behind the # alone would not load the page again.
+        self.driver.get("about:blank")
+        self.driver.get(address)
+        self.ready()
+
+    def run(self, script, *values):
+        return self.driver.execute_script(script, *values)
+
+    def ready(self):
+        """Waits until the page is drawn and nothing is under way in it."""
+        done = "return document.body.dataset.ready === 'yes' && document.body.getAttribute('aria-busy') !== 'true'"
+        until(lambda: self.run(done), "the page is at rest")
+
+    def find(self, css):
+        return self.driver.find_element(By.CSS_SELECTOR, css)
+
+    def all(self, css):
+        return self.driver.find_elements(By.CSS_SELECTOR, css)
+
+    def text(self, css):
+        return self.find(css).text
+
+    def click(self, css):
+        element = self.find(css)
+        self.run("arguments[0].scrollIntoView({block: 'nearest'})", element)
+        element.click()
+        self.ready()
+
+    def cell(self, vertex):
+        self.click(f"[data-vertex='{vertex}']")
+
+    def point(self, css):
+        ActionChains(self.driver).move_to_element(self.find(css)).perform()
+
+    def keys(self, *keys):
+        ActionChains(self.driver).send_keys(*keys).perform()
+        self.ready()
+
+    def choose(self, css, value):
+        Select(self.find(css)).select_by_value(value)
+        self.ready()
+
+    def saved(self, name):
+        """The file of a download, once it is whole."""
+        file = self.downloads / name
+        until(lambda: file.exists() and not list(self.downloads.glob("*.crdownload")), f"{name} is saved")
+        content = file.read_bytes()
+        file.unlink()
+        return content
+
+    def shot(self, file):
+        self.driver.save_screenshot(str(file))
+
+    def faults(self):
+        """What the console says that is an error or a warning, since it was last asked."""
+        return [entry for entry in self.driver.get_log("browser") if entry["level"] in ("SEVERE", "WARNING")]

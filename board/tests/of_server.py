@@ -1,0 +1,282 @@
+"""The server over its socket: what it refuses, sessions and their processes, and how it ends."""
+
+import http.client
+import lzma
+import os
+import resource
+import signal
+import socket
+import subprocess
+import sys
+import tempfile
+import threading
+import time
+import unittest
+from pathlib import Path
+
+from tests.support import LIMIT_SECONDS, ROOT, SMALL, Server, children, dying, is_running, until
+
+import htp
+import sessions
+from openings import Openings
+
+RECORD = "(;FF[4]GM[11]SZ[3];B[a2];W[swap-pieces];B[c3])"
+MOST = 1_048_576
+
+
+class Requests(unittest.TestCase):
+    """One server for all of these."""
+
+    @classmethod
+    def setUpClass(cls):
+        cls.server = Server()
+
+    @classmethod
+    def tearDownClass(cls):
+        cls.server.end()
+
+    def tearDown(self):
+        for name in getattr(self, "names", []):
+            self.server.request("DELETE", f"session/{name}")
+
+    def session(self):
+        name = self.server.session()
+        self.names = getattr(self, "names", []) + [name]
+        return name
+
+    def refused(self, status, got):
+        self.assertEqual(status, got[0], got[1])
+        self.assertEqual(1, len(got[1].splitlines()))
+
+    def test_who_is_not_the_page_is_refused(self):
+        own = f"http://127.0.0.1:{self.server.port}"
+        self.assertEqual(200, self.server.request("GET", "")[0])
+        self.assertEqual(200, self.server.request("GET", "", headers={"Origin": own})[0])
+        self.refused(403, self.server.request("GET", "", token=""))
+        self.refused(403, self.server.request("GET", "", token="x" * len(self.server.token)))
+        self.refused(403, self.server.request("POST", "session", b"", token=""))
+        for host in ("example.org", f"example.org:{self.server.port}", "127.0.0.1", "127.0.0.1:1", ""):
+            self.refused(403, self.server.request("POST", "session", b"", headers={"Host": host}))
+        for origin in ("null", "http://example.org", "http://127.0.0.1:1", own.replace("http", "https")):
+            self.refused(403, self.server.request("POST", "session", b"", headers={"Origin": origin}))
+
+    def test_what_is_too_long(self):
+        name = self.session()
+        self.refused(413, self.server.post(f"session/{name}/htp", b"x" * (MOST + 1)))
+        self.refused(413, self.server.post(f"session/{name}/record", b"x" * (MOST + 1)))
+        self.assertEqual((200, "? line too long"), self.server.post(f"session/{name}/htp", b"x" * MOST))
+        self.assertEqual("= hexd", self.server.ask(name, "name"))
+
+    def test_a_body_without_length(self):
+        connection = http.client.HTTPConnection("127.0.0.1", self.server.port, timeout=LIMIT_SECONDS)
+        connection.request("POST", f"/{self.server.token}/session", iter([b"name"]), encode_chunked=True)
+        self.assertEqual(411, connection.getresponse().status)
+        connection.close()
+
+    def test_lines_that_are_not_sent_on(self):
+        name = self.session()
+        lines = ["name\n", "name\nname", "", " ", "# name", "7", "name\r", "na\x01me", "n\u00e4me"]
+        lines += ["quit", "7 quit", " quit", "quit#", "quit now", "loadsgf game.sgf", "1 loadsgf /etc/passwd", "loadsgf"]
+        for line in lines:
+            with self.subTest(line=line):
+                self.refused(400, self.server.post(f"session/{name}/htp", line.encode()))
+        self.assertEqual("=12 hexd", self.server.ask(name, "12 name # which?"))
+        self.assertEqual("? unknown command", self.server.ask(name, "Quit"))
+
+    def test_what_is_not_there(self):
+        name = self.session()
+        self.refused(404, self.server.post("session/none/htp", b"name"))
+        self.refused(404, self.server.request("DELETE", "session/none"))
+        for path in ("none", f"session/{name}", f"session/{name}/other", "session/", f"session/{name}/htp/x"):
+            self.refused(404, self.server.post(path, b"name"))
+        for path in ("none.js", "../serve.py", "..%2fserve.py", "session", "page/board.js", "shelf/12-a1", "shelf/../x"):
+            self.refused(404, self.server.request("GET", path))
+        self.assertEqual(200, self.server.request("DELETE", f"session/{name}")[0])
+        self.refused(404, self.server.post(f"session/{name}/htp", b"name"))
+
+    def test_sessions_are_few(self):
+        for _ in range(sessions.MOST_SESSIONS):
+            self.session()
+        self.refused(429, self.server.post("session"))
+        self.assertEqual(sessions.MOST_SESSIONS, len(self.server.engines()))
+        self.server.request("DELETE", f"session/{self.names[0]}")
+        self.session()
+
+    def test_a_game_to_its_end(self):
+        name, colour = self.session(), "b"
+        self.server.ask(name, "boardsize 5")
+        while self.server.ask(name, "winner") == "= none":
+            self.assertRegex(self.server.ask(name, f"genmove {colour}"), "^= [a-e][1-5]$")
+            colour = "w" if colour == "b" else "b"
+        self.assertIn(self.server.ask(name, "winner"), ("= black", "= white"))
+        self.assertEqual("? game over", self.server.ask(name, "genmove b"))
+
+    def test_sessions_do_not_mix(self):
+        one, two = self.session(), self.session()
+        for name, size in ((one, 3), (two, 4)):
+            self.server.ask(name, f"boardsize {size}")
+        self.server.ask(one, "play b a1")
+        self.server.ask(two, "play b d4")
+        self.assertEqual("= (;FF[4]GM[11]SZ[3];B[a1])", self.server.ask(one, "printsgf"))
+        self.assertEqual("= (;FF[4]GM[11]SZ[4];B[d4])", self.server.ask(two, "printsgf"))
+
+    def test_one_line_at_a_time(self):
+        name, answers = self.session(), {}
+
+        def ask(number):
+            answers[number] = self.server.ask(name, f"{number} {'genmove b' if number % 4 else 'name'}")
+
+        threads = [threading.Thread(target=ask, args=(number,)) for number in range(1, 13)]
+        for thread in threads:
+            thread.start()
+        for thread in threads:
+            thread.join(LIMIT_SECONDS)
+        self.assertEqual(set(range(1, 13)), set(answers))
+        for number, answer in answers.items():
+            self.assertTrue(answer.startswith(f"={number} "), answer)
+
+    def test_records(self):
+        name = self.session()
+        self.assertEqual((200, "= "), self.server.post(f"session/{name}/record", RECORD.encode()))
+        self.assertEqual(f"= {RECORD}", self.server.ask(name, "printsgf"))
+        for wrong in (b"", b"(;GM[1])", RECORD.replace("c3", "z9").encode(), b"\xff" * 9):
+            self.assertEqual((200, "? cannot load file"), self.server.post(f"session/{name}/record", wrong))
+        self.assertEqual(f"= {RECORD}", self.server.ask(name, "printsgf"))
+
+    def test_certificates(self):
+        name = self.session()
+        right = (ROOT / "examples/certificates/v1.cert").read_bytes()
+        self.assertEqual((200, "yes semi"), self.server.post(f"session/{name}/check", right))
+        self.assertEqual((200, "no 6 9"), self.server.post(f"session/{name}/check", right.replace(b"or 4 5", b"or 4 4")))
+        self.refused(404, self.server.post("session/none/check", right))
+
+    def test_a_killed_process(self):
+        other, before = self.session(), set(self.server.engines())
+        name = self.session()
+        (victim,) = set(self.server.engines()) - before
+        os.kill(victim, signal.SIGKILL)
+        until(lambda: not is_running(victim), "the process has ended")
+        for path, body in (("htp", b"name"), ("htp", b"name"), ("record", RECORD.encode()), ("check", b"")):
+            got = self.server.post(f"session/{name}/{path}", body)
+            self.assertEqual((410, "hexd was ended by signal 9 (Killed)"), got)
+        self.assertEqual(before, set(self.server.engines()))
+        self.assertEqual("= hexd", self.server.ask(other, "name"))
+
+    def test_want_of_memory(self):
+        name = self.session()
+        self.server.ask(name, "name")
+        for pid in self.server.engines():
+            resource.prlimit(pid, resource.RLIMIT_AS, (1 << 20, 1 << 20))
+        got = self.server.post(f"session/{name}/htp", b"genmove b")
+        self.assertEqual((410, "hexd ended with status 5 (hexd: out of memory)"), got)
+
+    def test_many_requests_leave_nothing(self):
+        name = self.session()
+        self.server.ask(name, "name")
+        settled = until(lambda: self.settled(), "the server is at rest")
+        for number in range(200):
+            self.server.ask(name, f"{number} showboard")
+            if number % 20 == 0:
+                self.server.request("DELETE", f"session/{self.server.session()}")
+        until(lambda: self.server.held() == settled, "files and threads are as before")
+        self.assertEqual(1, len(self.server.engines()))
+
+    def settled(self):
+        held = self.server.held()
+        time.sleep(0.3)
+        return held if held == self.server.held() else None
+
+
+class Ends(unittest.TestCase):
+    """Servers that are started and ended, each in another way."""
+
+    def test_by_signals(self):
+        for number, status in ((signal.SIGINT, 0), (signal.SIGTERM, 143), (signal.SIGHUP, 129), (signal.SIGKILL, -9)):
+            with self.subTest(signal=number):
+                server = Server()
+                server.session(), server.session()
+                pids = server.engines()
+                self.assertEqual(2, len(pids))
+                self.assertEqual(status, server.end(number))
+                until(lambda: not any(map(is_running, pids)), "its processes have ended")
+
+    def test_while_it_thinks(self):
+        server = Server("--playouts", "1000000", "--hsearch", "off")
+        name, got = server.session(), []
+        thinking = threading.Thread(target=lambda: got.append(attempt(server, name)))
+        thinking.start()
+        pids = until(server.engines, "there is a process")
+        self.assertEqual(0, server.end())
+        until(lambda: not any(map(is_running, pids)), "its process has ended")
+        thinking.join(LIMIT_SECONDS)
+        self.assertFalse(thinking.is_alive())
+
+    def test_a_taken_port(self):
+        with Server() as server:
+            again = ran("--port", str(server.port))
+            self.assertEqual((1, ""), (again.returncode, again.stdout))
+            self.assertEqual(1, len(again.stderr.splitlines()))
+        with Server(port=()) as one, Server(port=()) as two:
+            self.assertLess(one.port, two.port)
+            self.assertEqual(200, two.request("GET", "")[0])
+
+    def test_on_this_machine_alone(self):
+        with Server() as server, self.assertRaises(OSError):
+            socket.create_connection(("127.0.0.2", server.port), LIMIT_SECONDS)
+
+    def test_words_that_hexd_refuses(self):
+        run = ran("--port", "0", "--", "--size", "12")
+        self.assertEqual((2, "", "hexd: usage\n"), (run.returncode, run.stdout, run.stderr))
+
+    def test_an_idle_session(self):
+        with tempfile.TemporaryDirectory() as folder:
+            table = sessions.Sessions(htp.PROGRAM, SMALL, folder)
+            idle, used = table.make(), table.make()
+            table.open[idle].used -= sessions.IDLE_SECONDS + 1
+            table.end_idle()
+            self.assertEqual("= hexd", table.ask(used, "name"))
+            with self.assertRaises(sessions.Refusal) as refused:
+                table.ask(idle, "name")
+            self.assertEqual(410, refused.exception.status)
+            table.close()
+            self.assertEqual([], os.listdir(folder))
+
+
+class Shelves(unittest.TestCase):
+    """Openings whose winner a certificate shows."""
+
+    def test_an_opening(self):
+        with tempfile.TemporaryDirectory() as folder, htp.Engine([htp.PROGRAM, "htp", "--size", "3"], folder) as engine:
+            engine.ask("play b a1")
+            engine.ask("genmove w")
+            certificate = engine.ask("wincert").text + "\n"
+            claim = certificate.splitlines()[-1]
+            for name, text in (
+                ("3-a1", certificate),
+                # Other openings' files with it, one of a claim that does not hold, and what is no certificate.
+                ("3-b1", certificate),
+                ("4-a1", certificate),
+                ("3-a2", certificate.replace("black a1", "black a2").replace(claim, "semi 0")),
+                ("3-c1", "x"),
+            ):
+                (Path(folder) / f"{name}.cert.xz").write_bytes(lzma.compress(text.encode()))
+            (Path(folder) / "3-b2.cert.xz").write_bytes(b"no such format")
+            openings = Openings(htp.PROGRAM, folder)
+            found = {vertex: openings.winner(3, vertex) for vertex in ("a1", "b1", "c1", "a2", "b2", "a3", "c3")}
+            # c3 is opposite to a1.
+            self.assertEqual({"a1": "white", "c3": "white"}, {vertex: winner for vertex, winner in found.items() if winner})
+            self.assertIsNone(openings.winner(4, "a1"))
+            self.assertIsNone(Openings(htp.PROGRAM, Path(folder) / "none").winner(3, "a1"))
+
+
+def ran(*words):
+    """A start of the server that is refused."""
+    command = dying(ROOT / "bin/hexd-board", *words)
+    return subprocess.run(command, stdin=subprocess.DEVNULL, capture_output=True, text=True, timeout=LIMIT_SECONDS)
+
+
+def attempt(server, name):
+    try:
+        return server.ask(name, "genmove b")
+    except (AssertionError, OSError, http.client.HTTPException) as fault:
+        return str(fault)

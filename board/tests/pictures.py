@@ -1,0 +1,50 @@
+"""The pictures of the documents: screenshots of the page at work, small enough to be kept."""
+
+from tests.browser import Browser
+from tests.support import Server, until
+
+MOST_BYTES = 60_000
+WINDOW = (1240, 760)
+SEARCHED = "11,a10,f6,i4,d9,e8,g4,h2,f3"
+CERTIFIED = "7,c3,d4,e3,d5,f4,d3,d2"
+
+
+def search(browser, address):
+    """A game in which hexd has moved and is asked once more."""
+    browser.open(f"{address}#{SEARCHED}")
+    browser.choose("#player-w", "I")
+    for _ in range(4):
+        browser.click("#go")
+    browser.click("#hint")
+
+
+def certificate(browser, address):
+    """A certified win, with one line of its derivation drawn."""
+    browser.open(f"{address}#{CERTIFIED}")
+    browser.choose("#player-w", "I")
+    for _ in range(20):
+        browser.click("#go")
+        if browser.find("#proof").is_displayed():
+            break
+    browser.click("#proof summary")
+    lines = browser.all("#lines button")
+    last = max(at for at, line in enumerate(lines, 1) if line.text.startswith("key"))
+    browser.click(f"#lines li:nth-child({last}) button")
+    browser.run("document.getElementById('proof').scrollIntoView()")
+
+
+def make(folder):
+    """Makes the pictures in a folder."""
+    with Server("--playouts", "20000", "--workers", "4") as server:
+        browser = Browser()
+        try:
+            browser.window(WINDOW)
+            for name, show in (("search", search), ("certificate", certificate)):
+                show(browser, server.address)
+                file = folder / f"{name}.png"
+                browser.shot(file)
+                until(file.exists, "the picture is there")
+                if file.stat().st_size > MOST_BYTES:
+                    raise AssertionError(f"{file} has {file.stat().st_size} bytes, and may have {MOST_BYTES}")
+        finally:
+            browser.end()
