@@ -29,7 +29,6 @@ pub mod LeafBound
 pub mod ViewStays
 pub mod ViewSeats
 pub mod Law
-
 -- Steps of this crate's own proofs.
 mod Below
 mod ByNumber

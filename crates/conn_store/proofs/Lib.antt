@@ -8,6 +8,5 @@ pub mod Numbers
 pub mod Tables
 pub mod Chains
 pub mod RuleEntries
-
 -- Steps of this crate's own proofs.
 mod Pairs

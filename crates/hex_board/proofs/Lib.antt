@@ -6,7 +6,6 @@ pub mod WinLaws
 pub mod GroupLaws
 pub mod Places
 pub mod Placed
-
 -- Steps of this crate's own proofs.
 mod Reach
 mod Tabled

@@ -8,7 +8,6 @@ pub mod Tables
 pub mod ColourLaws
 pub mod WithCell
 pub mod Ranges
-
 -- Steps of this crate's own proofs.
 mod Around
 mod Ranks

@@ -2,6 +2,5 @@
 pub mod BothLaws
 pub mod GaveLaws
 pub mod ResultLaws
-
 -- Steps of this crate's own proofs.
 mod Parts

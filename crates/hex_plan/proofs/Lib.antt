@@ -3,7 +3,6 @@ pub mod CertifiedMoves
 pub mod Reports
 pub mod Rooms
 pub mod Same
-
 -- Steps of this crate's own proofs.
 mod Allowing
 mod Collected

@@ -4,7 +4,6 @@ pub mod SupplyLaws
 pub mod InputLaws
 pub mod Conversations
 pub mod OneWorker
-
 -- Steps of this crate's own proofs.
 mod TalkLaws
 mod EndedLines

@@ -1,6 +1,5 @@
 -- Laws for the layers above.
 pub mod Machines
-
 -- Steps of this crate's own proofs.
 mod AtLeaf
 mod States

@@ -1,7 +1,6 @@
 -- Laws for the layers above.
 pub mod Listing
 pub mod Counting
-
 -- Steps of this crate's own proofs.
 mod Shuffles
 mod Turns

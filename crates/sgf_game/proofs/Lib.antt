@@ -1,6 +1,5 @@
 -- Laws for the layers above.
 pub mod Texts
-
 -- Steps of this crate's own proofs.
 mod Lists
 mod Placing

@@ -1,6 +1,5 @@
 -- Laws for the layers above.
 pub mod Verdicts
-
 -- Steps of this crate's own proofs.
 mod RowLaws
 mod Stacks

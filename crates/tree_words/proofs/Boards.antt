@@ -4,6 +4,5 @@
 pub mod EmptyLaws
 pub mod SetNumbers
 pub mod RootLaws
-
 -- Steps of this crate's own proofs, in other folders too.
 pub mod Bests

@@ -10,9 +10,7 @@ pub mod Asking
 pub mod Countings
 pub mod ChildLaws
 pub mod Tallies
-
 -- Steps of this crate's own proofs, in other folders too.
 pub mod Expands
-
 -- Steps of this crate's own proofs.
 mod Bridges

@@ -2,7 +2,6 @@
 pub mod Keeping
 pub mod ChoiceLaws
 pub mod Choices
-
 -- Steps of this crate's own proofs.
 mod Roots
 mod Means

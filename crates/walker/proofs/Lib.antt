@@ -6,7 +6,6 @@ pub mod LeafLaws
 pub mod Keeps
 pub mod GoingOn
 pub mod Falling
-
 -- Steps of this crate's own proofs.
 mod Levels
 mod SeenAdds

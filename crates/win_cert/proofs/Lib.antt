@@ -5,7 +5,6 @@ pub mod Stepping
 pub mod CutChains
 pub mod CutSteps
 pub mod CutDerivations
-
 -- Steps of this crate's own proofs.
 mod Vectors
 mod SameTests
