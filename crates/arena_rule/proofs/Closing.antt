@@ -17,6 +17,7 @@ use Rattle.tree_words.specs.Growth.{other_words, Grown}
 use Rattle.tree_words.specs.Closing.{KeepsEnds, IsClosed}
 use Rattle.tree_words.specs.declared.layout.TheConstants.{TALLY_WORD, SEEN_WORD}
 use Rattle.tree_words.proofs.Blocks.GameLaws.{in-node}
+use Rattle.tree_words.proofs.Blocks.RootEnds.{root-end-first}
 use Rattle.arena_rule.specs.Views.{SeatView, HasEnded}
 use Rattle.arena_rule.specs.Adds.{walk_adds, amount_at, tally_amount}
 use Rattle.arena_rule.specs.Lookups.{adds_made}
@@ -123,10 +124,12 @@ module _ (bs : List LinkedBlock) (words : List ℕ) (views : List SeatView) (id 
         omega (arith, b.state.leaf_bound l x c m e id v b.at, mine, ap (λ (k : ℕ). k * v.shape.knobs.expand) all);
     room =
         let known = mul-le-mul_left v.width (known-less (root_at v.shape) v.known bs) in
+        let ends = root-end-first v.shape words bs b.state.setting b.state.linked.blocks b.state.linked.link in
         let held : words_held v.held ≡ 0 = ap words_held ((b.state.in_hand id v b.at).idle (idle bs words views id v b all ended)).1 in
         omega (
           arith,
           b.state.room.next,
+          ends,
           only bs words views id v b all ended claimed_of refl,
           only bs words views id v b all ended full_width refl,
           full-less,

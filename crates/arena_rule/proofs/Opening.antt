@@ -8,8 +8,7 @@ use Rattle.tree_words.specs.Settings.{Setting, IsSetting}
 use Rattle.tree_words.specs.Words.{root_at, area_at, end_of, next_in}
 use Rattle.tree_words.specs.Blocks.{LinkedBlock, one_if, size}
 use Rattle.tree_words.specs.Complete.{set_of}
-use Rattle.tree_words.specs.Growth.{root_end}
-use Rattle.tree_words.specs.Opening.{root_block, opening_words, AreOpening, ShowRootBlock}
+use Rattle.tree_words.specs.Opening.{root_block, opening_next, opening_words, AreOpening, ShowRootBlock}
 use Rattle.tree_words.specs.Told.{Knows}
 use Rattle.tree_words.proofs.Blocks.BlockLaws.{cover-cons}
 use Rattle.tree_words.proofs.NewBlocks.Openings.{root-fits}
@@ -29,7 +28,7 @@ module _ (s : Setting) (views : List SeatView) (set : IsSetting s) (first : AreF
   opening : AreOpening s (opening_words s)
   opening = opening-are s set
 
-  next : next_in (opening_words s) ≡ root_end s
+  next : next_in (opening_words s) ≡ opening_next s
   next = next-is s (opening_words s) opening.empties set opening.set opening.long (λ i l d. opening.each i l)
 
   pub fresh-first : Fresh s (opening_words s)

@@ -6,7 +6,7 @@ use Rattle.tree_words.specs.Settings.{Setting}
 use Rattle.tree_words.specs.Words.{root_at, end_of, next_in, tally_in, visits_in}
 use Rattle.tree_words.specs.Blocks.{LinkedBlock, In, has_node, is_node, link_of, size}
 use Rattle.tree_words.specs.Paths.{node_board}
-use Rattle.tree_words.specs.Growth.{root_end}
+use Rattle.tree_words.specs.Opening.{opening_next}
 use Rattle.tree_words.specs.declared.layout.TheConstants.{TALLY_WORD, SEEN_WORD, MOST_BLOCK_WORDS}
 use Rattle.arena_rule.specs.Views.{SeatView, HeldBlock}
 use Rattle.arena_rule.specs.Lookups.{is_known, load_of, recorded_through, walks_through, walks_at}
@@ -54,11 +54,11 @@ words_held (Some h) = h.size
 abbrev pub claimed_of : SeatView → ℕ
 claimed_of v = v.claimed
 
--- Room: NEXT is at most the end of the root's block, what all views claimed, and a largest block
+-- Room: NEXT is at most the end of the root's block, which begins the area, what all views claimed, and a largest block
 -- for each worker of the full views; and a view claimed at most its width times the words of the
 -- blocks that it knows, and what it holds
 pub record Room (s : Setting) (bs : List LinkedBlock)
     (words : List ℕ) (views : List SeatView) : Type 0 where
   pub next : next_in words
-      ≤ root_end s + sum_by claimed_of views + MOST_BLOCK_WORDS * sum_by full_width views
+      ≤ opening_next s + sum_by claimed_of views + MOST_BLOCK_WORDS * sum_by full_width views
   pub claimed : Each (λ v. v.claimed ≤ v.width * words_known s bs v + words_held v.held) views

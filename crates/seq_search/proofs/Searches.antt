@@ -46,7 +46,7 @@ searched-opening s words h o =
     record {
       blocks = b ∷ [];
       holds = holds;
-      standing = standing-opening s b after refl (ap (λ (t : Tree × ℕ). t.1) tree) holds;
+      standing = standing-opening s b after refl refl (ap (λ (t : Tree × ℕ). t.1) tree) holds;
       tree = tree;
       ticket = get_or-set_same words 1 s.knobs.playouts 0 (omega (arith, o.long));
     }

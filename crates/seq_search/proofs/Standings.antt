@@ -6,13 +6,14 @@ use Rattle.std.proofs.Math.Nat.{mul-le-mul}
 use Rattle.hex_board.specs.Positions.{is_empty_at}
 use Rattle.play_out.specs.Fills.{empties_of}
 use Rattle.tree_words.specs.Settings.{Setting, IsSetting}
-use Rattle.tree_words.specs.Words.{Count, root_at, end_of, next_in, ticket_in, leaf_in, winner_in, tally_in, seen_in}
+use Rattle.tree_words.specs.Words.{Count, root_at, area_at, end_of, next_in, ticket_in, leaf_in, winner_in, tally_in, seen_in}
 use Rattle.tree_words.specs.Blocks.{LinkedBlock, child, has_node, place, cell_at, size, block_size, is_node, link_of, one_if, In, InOrder, Follows}
 use Rattle.tree_words.specs.Paths.{NodeState, root_state, is_on, enters, node_state, node_board}
 use Rattle.tree_words.specs.Records.{leaf_of, outcome_in, IsRecord}
 use Rattle.tree_words.specs.Counts.{sights_at, ExactTo}
 use Rattle.tree_words.specs.declared.layout.TheConstants.{MOST_BLOCK_WORDS}
-use Rattle.tree_words.specs.Growth.{root_end, other_words, ends_at, Grown}
+use Rattle.tree_words.specs.Growth.{other_words, ends_at, Grown}
+use Rattle.tree_words.specs.Opening.{opening_next}
 use Rattle.tree_words.specs.declared.settings.TheConstants.{MOST_WORKERS}
 use Rattle.tree_words.specs.Closing.{KeepsEnds, IsClosed}
 use Rattle.tree_words.specs.Walks.{nothing, plus, Game, AtMost}
@@ -20,7 +21,8 @@ use Rattle.play_out.specs.declared.playouts.Ending.{Ending}
 use Rattle.tree_words.specs.Sequence.{outcome_of, gain_of, glimpse_of, size_below, asks, gets_block, search_game}
 use Rattle.tree_words.specs.Trees.{oldest_first}
 use Rattle.tree_words.specs.Descents.{walk_end, NewBlock, Widened, Added, pick, leaf_at, config_of}
-use Rattle.tree_words.proofs.Blocks.BlockLaws.{has-at, clash}
+use Rattle.tree_words.proofs.Blocks.BlockLaws.{has-at, clash, root_node}
+use Rattle.tree_words.proofs.Blocks.RootEnds.{root-end-first}
 use Rattle.tree_words.proofs.Blocks.GameLaws.{fair_game, in-node, spot-same}
 use Rattle.seq_search.specs.Steps.{Holds, KeepsRecords, Records}
 use Rattle.seq_search.specs.IsSearched.{IsSearched}
@@ -34,14 +36,13 @@ no_count : (c : Count) → AtMost 0 c → c ≡ nothing
 no_count c h = let v : c.visits ≡ 0 = omega (arith, h.0) in let w : c.wins ≡ 0 = omega (arith, h.1) in λ i. record { visits = v i; wins = w i }
 
 -- after the opening
-pub standing-opening : (s : Setting) (b : LinkedBlock) (words : List ℕ) → b.parent ≡ root_at s → next_in words ≡ root_end s → Holds s (b ∷ []) words 0 → IsSearched s (b ∷ []) words 0
-standing-opening s b words e n h =
+pub standing-opening : (s : Setting) (b : LinkedBlock) (words : List ℕ) → b.parent ≡ root_at s → b.start ≡ area_at s → next_in words ≡ opening_next s → Holds s (b ∷ []) words 0 → IsSearched s (b ∷ []) words 0
+standing-opening s b words e begins n h =
     let r : ℕ = root_at s in
     let bs : List LinkedBlock = b ∷ [] in
     let none : (x : ℕ) → is_node r bs x ≡ true → tally_in words x ≡ nothing = λ x m. no_count (tally_in words x) (h.counts x m).0 in
     let other : other_words s bs ≡ 0 = other-root s b [] e in
     let link : link_of bs r ≡ b.start = ap (λ (t : Bool). cond t b.start 0) (eq-eqb b.parent r e) in
-    let above = h.linked.order.0.above in
     let exact : ExactTo s bs words 0 = record {
       tallies = none;
       seen = λ c y i k. no_count (seen_in words y) (h.counts y (in-node r bs c y i k)).1;
@@ -49,7 +50,7 @@ standing-opening s b words e n h =
     record {
       exact = exact;
       recorded = λ j l. absurd (omega arith);
-      rooted = omega (arith, link, above);
+      rooted = link ∙ begins;
       first = λ c x y i hx hy z. omega (arith, ap (λ (v : Count). v.visits) (none x (in-node r bs c x i hx)));
       leaves = λ l x c m k. omega arith;
       within = λ l. omega (arith, n, other);
@@ -60,7 +61,7 @@ standing-opening s b words e n h =
 module _ (s : Setting) (bs : List LinkedBlock) (words after : List ℕ) (k : ℕ) (st : IsSearched s bs words k) (same : SameRecords k words after) where
   standing-kept : ((x : ℕ) → is_node (root_at s) bs x ≡ true → tally_in after x ≡ tally_in words x)
       → ((b : LinkedBlock) (y : ℕ) → In b bs → has_node b y ≡ true → seen_in after y ≡ seen_in words y)
-      → next_in words ≤ next_in after → (next_in after ≤ end_of s → next_in after ≡ root_end s + other_words s bs) → next_in after ≤ root_end s + other_words s bs + MOST_BLOCK_WORDS
+      → next_in words ≤ next_in after → (next_in after ≤ end_of s → next_in after ≡ opening_next s + other_words s bs) → next_in after ≤ opening_next s + other_words s bs + MOST_BLOCK_WORDS
       → IsSearched s bs after k
   standing-kept tally seen grows within room =
       let r : ℕ = root_at s in
@@ -111,7 +112,7 @@ module _ (s : Setting) (bs : List LinkedBlock) (words after : List ℕ) (k : ℕ
       record {
         exact = exact;
         recorded = λ j l. record-words s (n ∷ bs) words after k same j l (record-block s n bs f words j (st.recorded j l));
-        rooted = omega (arith, st.rooted, ap (λ (t : Bool). cond t n.start (link_of bs r)) (ne_eqb n.parent r away));
+        rooted = ap (λ (t : Bool). cond t n.start (link_of bs r)) (ne_eqb n.parent r away) ∙ st.rooted;
         first = λ b x y i hx hy z. ⊎_elim
             (λ (e : b ≡ n).
             let h : has_node n x ≡ true = ap (λ (d : LinkedBlock). has_node d x) (sym e) ∙ hx in
@@ -211,7 +212,7 @@ standing-added s bs words after k n o low h st played sated a rec at won =
     let spot : NodeState = (walk_end g (root_state s) r (config_of bs words)).1 in
     let lf : ℕ = leaf_at g p q (oldest_first bs) r in
     let w : Whole r bs = whole s bs words k h in
-    let here = leaf-node g (fair_game s) p q r bs w st.rooted in
+    let here = leaf-node g (fair_game s) p q r bs w (omega (arith, st.rooted)) in
     let leaf : leaf_of after k ≡ lf = ap leaf_in rec.is ∙ at in
     let at_leaf : node_state s bs lf ≡ spot = leaf-spot s p q bs w in
     let outcome : outcome_in s bs after k ≡ o = ap (λ (x : ℕ). outcome_of s k (node_state s bs x)) leaf ∙ (ap (outcome_of s k) at_leaf ∙ sym played) in
@@ -282,11 +283,12 @@ pub closed-of : (s : Setting) (bs : List LinkedBlock) (words : List ℕ) → IsS
 closed-of s bs words set h st from to =
     let K : ℕ = s.knobs.workers in
     let some : 1 ≤ K = set.ranges.workers.0 in
+    let root = h.linked.shows.links (root_at s) (root_node (root_at s) bs) ∙ st.rooted in
     let done' : KeepsEnds s words = record { next = omega (arith, h.next.1); ticket = (from, to) } in
     let grown : Grown s bs words = record {
       first = λ b x y i hx hy z. omega (arith, st.first b x y i hx hy z, some);
       leaves = λ l x c m e. omega (arith, st.leaves l x c m e, times K s.knobs.expand some);
-      room = omega (arith, st.room, times K (other_words s bs) some, some);
+      room = omega (arith, st.room, root-end-first s words bs set h.linked root, times K (other_words s bs) some, some);
     } in
     record {
       long = h.long;

@@ -6,7 +6,7 @@ use Rattle.tree_words.specs.Blocks.{LinkedBlock, is_node}
 use Rattle.tree_words.specs.Complete.{Linked, HaveNodes}
 use Rattle.tree_words.specs.declared.layout.TheConstants.{MOST_BLOCK_WORDS, TICKET_AT, RECORDS_AT}
 use Rattle.tree_words.specs.declared.layout.TheConstants.{SEEN_WORD}
-use Rattle.tree_words.specs.Growth.{root_end}
+use Rattle.tree_words.specs.Opening.{opening_next}
 use Rattle.tree_words.specs.Walks.{AtMost}
 
 -- After k walks the words are a tree of the setting with these linked blocks, newest first: all
@@ -17,7 +17,7 @@ pub record Holds (s : Setting) (bs : List LinkedBlock) (words : List ℕ) (k : �
   pub linked : Linked s words bs
   pub filled : HaveNodes bs
   pub root : (slice_index words (root_at s) ≡ 0) × (slice_index words (root_at s + SEEN_WORD) ≡ 0)
-  pub next : (root_end s ≤ next_in words) × (next_in words ≤ end_of s + MOST_BLOCK_WORDS)
+  pub next : (opening_next s ≤ next_in words) × (next_in words ≤ end_of s + MOST_BLOCK_WORDS)
   pub fresh : (i : ℕ) → next_in words ≤ i → slice_index words i ≡ 0
   pub counts : (x : ℕ) → is_node (root_at s) bs x ≡ true
       → AtMost k (tally_in words x) × AtMost k (seen_in words x)

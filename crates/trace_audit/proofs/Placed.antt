@@ -2,11 +2,14 @@
 use Rattle.std.proofs.Common.{◌≡◌, ℕ, ◌+◌, ◌*◌, ◌/◌, ◌<◌, ◌≤◌, true, List, length, refl, ap, ◌∙◌, arith}
 use Rattle.std.specs.Prelude.{slice_index}
 use Rattle.tree_words.specs.Settings.{Setting, IsSetting}
-use Rattle.tree_words.specs.Words.{area_at, end_of, next_in}
+use Rattle.tree_words.specs.Words.{root_at, area_at, end_of, next_in, nodes_in}
 use Rattle.tree_words.specs.Blocks.{LinkedBlock, size, has_node, In}
 use Rattle.tree_words.specs.Complete.{Linked}
-use Rattle.tree_words.proofs.Blocks.BlockLaws.{has-at}
-use Rattle.tree_words.proofs.Boards.RootLaws.{complete_in}
+use Rattle.tree_words.specs.Growth.{root_end}
+use Rattle.tree_words.specs.Records.{Recorded, leaf_of}
+use Rattle.tree_words.specs.Roots.{root_link, root_count}
+use Rattle.tree_words.proofs.Blocks.BlockLaws.{has-at, root_node}
+use Rattle.tree_words.proofs.Boards.RootLaws.{complete_in, root_of}
 use Rattle.trace_audit.proofs.Cells.{IsMove, move_is}
 
 module _ (s : Setting) (words : List ℕ) (bs : List LinkedBlock) (h : IsSetting s) (lk : Linked s words bs) where
@@ -35,3 +38,12 @@ module _ (s : Setting) (words : List ℕ) (bs : List LinkedBlock) (h : IsSetting
 
   pub most_of : (b : LinkedBlock) (x : ℕ) → In b bs → has_node b x ≡ true → (area_at s ≤ x) × (x + 4 ≤ end_of s)
   most_of b x i n = let m = move_of b x i n in let l = lies b i in (omega (arith, m.2, l.0), omega (arith, m.1, m.2, l.1))
+
+  -- the root's block lies inside the area
+  pub root_within : Recorded s bs words → root_end s words ≤ end_of s
+  root_within rec =
+      let first = rec 0 (omega (arith, h.ranges.playouts.0)) in
+      let f = root_of (root_at s) bs (leaf_of words 0) lk.order first.node first.below in
+      let link : root_link s words ≡ f.0.start = lk.shows.links (root_at s) (root_node (root_at s) bs) ∙ f.3 in
+      let count : root_count s words ≡ length f.0.cells = ap (nodes_in words) link ∙ count_is f.0 f.1 in
+      omega (arith, link, count, (lies f.0 f.1).1)

@@ -4,9 +4,10 @@ use Rattle.std.specs.Prelude.{slice_index, ◌&&◌, ◌==◌, ◌≢◌}
 use Rattle.std.proofs.lemmas.Bool.{eqb-true, or_cases}
 use Rattle.hex_cells.specs.Colours.{is_same}
 use Rattle.tree_words.specs.Settings.{Setting, IsSetting}
-use Rattle.tree_words.specs.Words.{Count, count_in, root_at, area_at, next_in, record_in, leaf_in, winner_in, tally_in, seen_in, ticket_in}
-use Rattle.tree_words.specs.Blocks.{LinkedBlock, size, has_node, is_node, cell_at, place}
+use Rattle.tree_words.specs.Words.{Count, count_in, root_at, area_at, next_in, nodes_in, record_in, leaf_in, winner_in, tally_in, seen_in, ticket_in}
+use Rattle.tree_words.specs.Blocks.{LinkedBlock, block_size, size, has_node, is_node, cell_at, place}
 use Rattle.tree_words.specs.Complete.{AreComplete}
+use Rattle.tree_words.specs.Roots.{root_link, root_count}
 use Rattle.tree_words.specs.Records.{leaf_of}
 use Rattle.tree_words.specs.Paths.{node_state, is_on, enters, mover_of}
 use Rattle.tree_words.specs.Sequence.{outcome_of}
@@ -18,7 +19,7 @@ use Rattle.hex_board.specs.Positions.{stones_of}
 use Rattle.tree_words.specs.Closing.{IsClosed}
 use Rattle.tree_words.proofs.Boards.RootLaws.{root_of, complete_in}
 use Rattle.tree_words.proofs.Walks.Tallies.{count-same}
-use Rattle.tree_words.proofs.Blocks.BlockLaws.{has-at}
+use Rattle.tree_words.proofs.Blocks.BlockLaws.{has-at, root_node}
 use Rattle.tree_words.proofs.Blocks.GameLaws.{in-node}
 
 -- a node lies below NEXT
@@ -65,6 +66,18 @@ module _ (s : Setting) (bs : List LinkedBlock) (a b : List ℕ) (n : ℕ) (same 
   ends_same : (x : ℕ) → ends_at b n x ≡ ends_at a n x
   ends_same x = count-same n _ _ (λ k l. ap (λ (m : ℕ). leaf_in m == x) (same k l))
 
+-- the root's block ends where it did
+roots_same : (s : Setting) (a b : List ℕ) → IsSetting s → IsClosed s a → ((i : ℕ) → i < next_in a → slice_index b i ≡ slice_index a i) → root_end s b ≡ root_end s a
+roots_same s a b h c same =
+    let front : area_at s ≤ next_in a = front_below s a h c in
+    let first = c.recorded 0 (omega (arith, h.ranges.playouts.0)) in
+    let f = root_of (root_at s) c.blocks (leaf_of a 0) c.linked.order first.node first.below in
+    let k = complete_in s (next_in a) c.blocks f.0 c.linked.complete f.1 in
+    let old : root_link s a ≡ f.0.start = c.linked.shows.links (root_at s) (root_node (root_at s) c.blocks) ∙ f.3 in
+    let link : root_link s b ≡ root_link s a = same (root_at s + 1) (omega (arith, front)) in
+    let count : root_count s b ≡ root_count s a = ap (nodes_in b) link ∙ same (root_link s a + 3) (omega (arith, old, k.1.claimed)) in
+    λ i. link i + block_size (count i)
+
 -- words that are the same below NEXT are closed where the others are
 pub closed_same : (s : Setting) (a b : List ℕ) → IsSetting s → IsClosed s a → length b ≡ length a → ((i : ℕ) → i < next_in a → slice_index b i ≡ slice_index a i) → IsClosed s b
 closed_same s a b h c long same =
@@ -72,6 +85,7 @@ closed_same s a b h c long same =
     let next : next_in b ≡ next_in a = same 0 (omega (arith, front)) in
     let ticket : ticket_in b ≡ ticket_in a = same 1 (omega (arith, front)) in
     let bs : List LinkedBlock = c.blocks in
+    let root_same : root_end s b ≡ root_end s a = roots_same s a b h c same in
     let rec : (k : ℕ) → k < s.knobs.playouts → record_in b k ≡ record_in a k = λ k l. same (2 + k) (omega (arith, front, l)) in
     let below : (x : ℕ) → is_node (root_at s) bs x ≡ true → x + 3 < next_in a = λ x n. node_below s (next_in a) bs x front c.linked.complete n in
     let complete : AreComplete s (next_in b) bs = subst (λ (m : ℕ). AreComplete s m bs) (sym next) c.linked.complete in
@@ -105,6 +119,6 @@ closed_same s a b h c long same =
         first = λ d x y i hx hy z. subst (λ (t : Count). t.visits ≤ s.knobs.workers) (sym (tally x (below x (in-node (root_at s) bs d x i hx))))
             (c.grown.first d x y i hx hy (ap (λ (t : Count). t.visits) (sym (tally y (below y (in-node (root_at s) bs d y i hy)))) ∙ z));
         leaves = λ l x k n e. subst (λ (m : ℕ). m ≤ s.knobs.workers * s.knobs.expand) (sym (ends_same s bs a b s.knobs.playouts rec x)) (c.grown.leaves (omega (arith, next, l)) x k n e);
-        room = subst (λ (m : ℕ). m ≤ root_end s + s.knobs.workers * other_words s bs + MOST_BLOCK_WORDS * s.knobs.workers) (sym next) c.grown.room;
+        room = omega (arith, next, root_same, c.grown.room);
       };
     }

@@ -105,7 +105,7 @@ module _ (s : Setting) (words : List ℕ) (t : Table) (bs : List LinkedBlock) (h
         omega-few : {j b q : ℕ} → j < nodes_in words b → q ≡ b → j < nodes_in words q
         omega-few {j} {b} {q} l e = omega (arith, l, ap (nodes_in words) e)
 
-        omega-room : next_in words ≤ root_end s + s.knobs.workers * other_words s bs + 488 * s.knobs.workers
+        omega-room : next_in words ≤ root_end s words + s.knobs.workers * other_words s bs + 488 * s.knobs.workers
         omega-room = subst (λ (n : ℕ). IsNextBounded s words n) lk.others room
 
     pub room_of : Grown s bs words → IsNextBounded s words t.others

@@ -92,6 +92,11 @@ abbrev pub HasSumsOf : Setting → List ℕ → Table → List ℕ → ℕ → T
 HasSumsOf s words t sums n =
     (bs : List LinkedBlock) × IsLinked s words t bs × AreSums s bs words sums n
 
+-- the words are linked, each playout has its record, and the sums are those of all
+abbrev pub HasAllSums : Setting → List ℕ → Table → List ℕ → Type 0
+HasAllSums s words t sums = (bs : List LinkedBlock) × IsLinked s words t bs
+    × Recorded s bs words × AreSums s bs words sums s.knobs.playouts
+
 -- whatever blocks the words are linked by: playout k has its record, and the sums are those of one
 -- playout more; or it has none. The answer says which
 abbrev pub AddsPlayout : Setting → List ℕ → Table → List ℕ → List ℕ → ℕ → Bool → Type 0

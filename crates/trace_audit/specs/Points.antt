@@ -29,7 +29,7 @@ IsFrugal words sums p most k = let x = node_at p.start k in
 -- NEXT is at most the end of the root's block, for each worker so many words, and for each worker
 -- a largest block
 abbrev pub IsNextBounded : Setting → List ℕ → ℕ → Type 0
-IsNextBounded s words others = next_in words ≤ root_end s + s.knobs.workers * others
+IsNextBounded s words others = next_in words ≤ root_end s words + s.knobs.workers * others
     + MOST_BLOCK_WORDS * s.knobs.workers
 
 -- where a node of the block at b has no visits, none has more than so many

@@ -3,9 +3,9 @@
 ghost use Rattle.std.specs.Prelude.{◌≡◌, ◌+◌, ◌≤◌, MatchBool, length, true};
 ghost use Rattle.hex_board.specs.Positions.{is_empty_at, placed};
 ghost use Rattle.tree_words.specs.Blocks.{block_size};
-ghost use Rattle.tree_words.specs.Complete.{allowed_cells};
+ghost use Rattle.tree_words.specs.Growth.{root_end};
 ghost use Rattle.tree_words.specs.Words.{end_of, nodes_in};
-ghost use Rattle.trace_audit.specs.Playouts.{HasSumsOf, TellsGrown};
+ghost use Rattle.trace_audit.specs.Playouts.{HasAllSums, TellsGrown};
 ghost use Rattle.trace_audit.specs.Points.{AreFrugal, AreUpTo, AreVisited, EachSite, HasCells};
 ghost use Rattle.trace_audit.specs.Points.{IsFirst, IsFull, IsNextBounded, IsOpen, IsSomeAbove};
 ghost use Rattle.trace_audit.specs.Points.{IsSomeUnvisited, IsSomeWasteful, LiesWithin, TellsEach};
@@ -13,10 +13,10 @@ ghost use Rattle.trace_audit.specs.Points.{IsSomeUnvisited, IsSomeWasteful, Lies
 use super::sites::{Site, Table};
 use hex_cells::Cell;
 use tree_words::layout::{
-    COUNT_WORD, FRONT_WORDS, HEADER_WORDS, MOST_BLOCK_WORDS, MOST_NODES, NEXT_AT, NODE_WORDS,
+    COUNT_WORD, HEADER_WORDS, LINK_WORD, MOST_BLOCK_WORDS, NEXT_AT, NODE_WORDS, RECORDS_AT,
     TALLY_WORD,
 };
-use tree_words::{Shape, cell_of, visits_of, write_moves};
+use tree_words::{Shape, cell_of, visits_of};
 
 // Whether a node of the block has no visits.
 fn has_unvisited(words: &[u64], block: usize) -> bool
@@ -79,26 +79,20 @@ fn has_few_leaves(words: &[u64], sums: &[u64], site: &Site, most: u64) -> bool
     true
 }
 
-// How many cells are allowed.
-fn allowed_count(shape: &Shape) -> usize
-    ensures value { result ≡ length (allowed_cells shape.now) }
-    ensures range { result ≤ MOST_NODES }
-{
-    let size = shape.board().size();
-    let mut block = [0; MOST_BLOCK_WORDS];
-    write_moves(&mut block, 0, shape.allowed(), size)
-}
-
 // Whether NEXT is at most the end of the root's block, so many times the other blocks' words, and
 // one largest block for each worker.
 fn is_next_bounded(words: &[u64], shape: &Shape, others: usize) -> bool
     requires long { length words.now ≡ end_of shape.now }
+    requires root { root_end shape.now words.now ≤ end_of shape.now }
     requires few { others ≤ end_of shape.now }
     ensures { MatchBool result (IsNextBounded shape.now words.now others)
         (¬ (IsNextBounded shape.now words.now others)) }
 {
-    let area = shape.knobs().playouts as usize + FRONT_WORDS;
-    let root_end = area + HEADER_WORDS + NODE_WORDS * allowed_count(shape);
+    // What each shape keeps of itself.
+    let _board = shape.board();
+    let root = shape.knobs().playouts as usize + RECORDS_AT;
+    let block = words[root + LINK_WORD] as usize;
+    let root_end = block + HEADER_WORDS + NODE_WORDS * words[block + COUNT_WORD] as usize;
     let workers = shape.knobs().workers as usize;
     words[NEXT_AT] <= (root_end + workers * others + MOST_BLOCK_WORDS * workers) as u64
 }
@@ -136,7 +130,7 @@ fn each_frugal(words: &[u64], sums: &[u64], table: &Table, most: u64) -> bool
 /// Whether the tree has grown as the knobs say.
 pub(crate) fn is_grown(words: &[u64], shape: &Shape, table: &Table, sums: &[u64]) -> bool
     requires long { length words.now ≡ end_of shape.now }
-    requires sums { HasSumsOf shape.now words.now table.now sums.now shape.now.knobs.playouts }
+    requires sums { HasAllSums shape.now words.now table.now sums.now }
     ensures { TellsGrown shape.now words.now table.now sums.now result }
 {
     // What each shape keeps of itself.

@@ -9,8 +9,7 @@ use Rattle.tree_words.specs.Words.{root_at, area_at, next_in}
 use Rattle.tree_words.specs.Blocks.{LinkedBlock}
 use Rattle.tree_words.specs.Paths.{node_board}
 use Rattle.tree_words.specs.Complete.{allowed_cells}
-use Rattle.tree_words.specs.Growth.{root_end}
-use Rattle.tree_words.specs.Opening.{AreOpening, opening_words}
+use Rattle.tree_words.specs.Opening.{AreOpening, opening_next, opening_words}
 use Rattle.tree_words.specs.Told.{told_block}
 use Rattle.tree_words.specs.Closing.{IsClosed}
 use Rattle.tree_words.proofs.Blocks.GameLaws.{whole-in}
@@ -28,7 +27,7 @@ use Rattle.arena_rule.proofs.LastSeat.{value}
 use Rattle.tree_rule.specs.Ends.{AreShown, AreRecords, IsSameBehind, EndsWith}
 
 -- NEXT never lies before the end of the root's block
-next-behind : (s : Setting) (bs : List LinkedBlock) (words : List ℕ) (views : List SeatView) → IsState s bs words views → root_end s ≤ next_in words
+next-behind : (s : Setting) (bs : List LinkedBlock) (words : List ℕ) (views : List SeatView) → IsState s bs words views → opening_next s ≤ next_in words
 next-behind s bs words views st =
     let r : ℕ = root_at s in
     let here = told-real s words bs [] r (area_at s) st.linked.blocks tt (root_node r []) st.setting.position.most st.linked.link (omega arith) in

@@ -1,4 +1,4 @@
--- Linked blocks: what a newer block leaves, who is a node, links, what is told, and the one tree that they show.
+-- Linked blocks: what a newer block leaves, who is a node, links, what is told, the one tree that they show, and where the root's block ends.
 pub mod BlockLaws
 pub mod Members
 pub mod NodeLaws
@@ -8,3 +8,4 @@ pub mod Links
 pub mod GameLaws
 pub mod Within
 pub mod OneTree
+pub mod RootEnds

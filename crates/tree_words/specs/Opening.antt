@@ -3,7 +3,8 @@ use Rattle.std.specs.Prelude.{◌≡◌, ℕ, ◌+◌, ◌-◌, ◌<◌, ◌==�
 use Rattle.std.specs.Prelude.{length, map, slice_index}
 use Rattle.tree_words.specs.Settings.{Setting}
 use Rattle.tree_words.specs.Words.{root_at, area_at, end_of}
-use Rattle.tree_words.specs.Blocks.{LinkedBlock, size, covers, is_header_or_move, header_or_move}
+use Rattle.tree_words.specs.Blocks.{LinkedBlock, block_size, size, covers, is_header_or_move}
+use Rattle.tree_words.specs.Blocks.{header_or_move}
 use Rattle.tree_words.specs.Complete.{HasEmpties, HaveNodes, Linked, allowed_cells, set_of}
 use Rattle.tree_words.specs.declared.layout.TheConstants.{NEXT_AT, LINK_WORD}
 use Rattle.std.specs.List.{range_with_len}
@@ -13,6 +14,10 @@ use Rattle.play_out.specs.Fills.{empties_of}
 abbrev pub root_block : Setting → ℕ → LinkedBlock
 root_block s empties =
     record { start = area_at s; parent = root_at s; empties = empties; cells = allowed_cells s }
+
+-- NEXT of the opening words: the word after the root's block, which begins the area
+abbrev pub opening_next : Setting → ℕ
+opening_next s = area_at s + block_size (length (allowed_cells s))
 
 -- word i: NEXT is the word after the root's block, the root's link names it, its header and moves
 -- stand there, and each other word is 0

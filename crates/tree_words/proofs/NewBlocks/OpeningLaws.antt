@@ -9,8 +9,7 @@ use Rattle.tree_words.specs.Settings.{Setting, IsSetting}
 use Rattle.tree_words.specs.Words.{Count, count_in, root_at, area_at, end_of, next_in, tally_in, seen_in}
 use Rattle.tree_words.specs.Blocks.{LinkedBlock, size, covers, has_node, is_node, header_or_move, is_header_or_move, Follows, In, Shows}
 use Rattle.tree_words.specs.Complete.{HasEmpties, IsComplete, allowed_cells, Linked, HaveNodes}
-use Rattle.tree_words.specs.Growth.{root_end}
-use Rattle.tree_words.specs.Opening.{root_block, opening_word}
+use Rattle.tree_words.specs.Opening.{root_block, opening_next, opening_word}
 use Rattle.tree_words.specs.Walks.{nothing, Tree, node, done, fresh}
 use Rattle.tree_words.specs.Sequence.{first_tree}
 use Rattle.tree_words.specs.Trees.{row_of, tree_leaf, tree_inner}
@@ -32,7 +31,7 @@ some-allowed s h =
 -- The words are the opening words, whatever TICKET is.
 module _ (s : Setting) (words : List ℕ) (e : ℕ) (set : IsSetting s) (empties : HasEmpties e s.board) (long : length words ≡ end_of s)
     (each : (i : ℕ) → i < end_of s → (i ≡ 1 → ⊥) → get_or words i 0 ≡ opening_word s e i) where
-  pub next-is : next_in words ≡ root_end s
+  pub next-is : next_in words ≡ opening_next s
   next-is = each 0 (omega (arith, set.ranges.words.0)) (λ z. omega arith)
 
   -- a word that is neither NEXT nor TICKET nor the root's link
@@ -53,11 +52,11 @@ module _ (s : Setting) (words : List ℕ) (e : ℕ) (set : IsSetting s) (empties
       ∙ ap (λ (t : Bool). cond t c.start rest) (eq-eqb i (root_at s + 1) refl)
 
   -- a word of no block
-  pub clear : (i : ℕ) → 2 ≤ i → (i ≡ root_at s + 1 → ⊥) → ((i < area_at s) ⊎ (root_end s ≤ i)) → get_or words i 0 ≡ 0
+  pub clear : (i : ℕ) → 2 ≤ i → (i ≡ root_at s + 1 → ⊥) → ((i < area_at s) ⊎ (opening_next s ≤ i)) → get_or words i 0 ≡ 0
   clear i m d o = ⊎_elim
       (λ (l : i < end_of s).
       other i l m d ∙ ap (λ (t : Bool). cond (t && is_header_or_move (i - area_at s)) (header_or_move (root_block s e) (i - area_at s)) 0) (false_from_ne_true (covers i (root_block s e)) (λ t. let u = covers_of i (root_block s e) t in
-      ⊎_elim (λ (q : i < area_at s). omega (arith, u.0)) (λ (q : root_end s ≤ i). omega (arith, u.1)) o)))
+      ⊎_elim (λ (q : i < area_at s). omega (arith, u.0)) (λ (q : opening_next s ≤ i). omega (arith, u.1)) o)))
       (λ (l : end_of s ≤ i). get_or_past words i 0 (omega (arith, long)))
       (cases_lt i (end_of s))
 

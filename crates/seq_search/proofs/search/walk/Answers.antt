@@ -11,14 +11,14 @@ pub add-requires-clause-walked : goal.add-requires-clause-walked
 add-requires-clause-walked c =
     let s : Setting = c.args.shape.now in
     let w : Searched s c.args.words.now c.args.k = c.requires.searched in
-    let r : Reached s w.blocks c.args.k c.args.words.now c.reach-walk.new.words c.reach-walk.result = c.reach-walk.ensures w.blocks c.args.k (omega (arith, c.requires.number)) w.holds w.standing.rooted in
+    let r : Reached s w.blocks c.args.k c.args.words.now c.reach-walk.new.words c.reach-walk.result = c.reach-walk.ensures w.blocks c.args.k (omega (arith, c.requires.number)) w.holds (omega (arith, w.standing.rooted)) in
     (r.blocks, r.holds, r.descended)
 
 pub returns : goal.returns
 returns c =
     let s : Setting = c.args.shape.now in
     let w : Searched s c.args.words.now c.args.k = c.requires.searched in
-    let r : Reached s w.blocks c.args.k c.args.words.now c.reach-walk.new.words c.reach-walk.result = c.reach-walk.ensures w.blocks c.args.k (omega (arith, c.requires.number)) w.holds w.standing.rooted in
+    let r : Reached s w.blocks c.args.k c.args.words.now c.reach-walk.new.words c.reach-walk.result = c.reach-walk.ensures w.blocks c.args.k (omega (arith, c.requires.number)) w.holds (omega (arith, w.standing.rooted)) in
     let seed : c.knobs.result.now.seed ≡ s.knobs.seed = ap (λ k. k.seed) c.knobs.ensures.value in
     let played : c.play-ending.result ≡ outcome_of s c.args.k (spot_in c.reach-walk.result)
     = outcome-is s c.args.k (spot_in c.reach-walk.result) c.play-ending.result.winner c.play-ending.result.full

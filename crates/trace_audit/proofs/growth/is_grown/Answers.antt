@@ -1,6 +1,7 @@
 use Rattle.std.proofs.Common.{◌≡◌, ℕ, ◌*◌, ◌≤◌, ap, ◌∙◌, subst, arith}
 use Rattle.tree_words.specs.Words.{end_of, next_in}
 use Rattle.trace_audit.specs.Points.{AreFrugal, EachSite, IsFirst, SomeSite}
+use Rattle.trace_audit.proofs.Placed.{root_within}
 use Rattle.trace_audit.proofs.Matches.{if_yes, if_no, match_on}
 use Rattle.trace_audit.proofs.SiteLaws.{sites_cells, sites_within}
 use Rattle.trace_audit.proofs.Verifying.{grown_of, not_first, not_frugal, room_of}
@@ -28,6 +29,9 @@ returns-then-not-each_frugal c = λ bs lk rec a.
     = λ i. (c.from.ensures ∙ ap (λ k. k.workers) c.knobs-knobs.ensures.value) i * (c.from-2.ensures ∙ ap (λ k. k.expand) c.knobs-knobs.ensures.value) i in
     not_frugal c.args.shape.now c.args.words.now c.args.table.now bs c.board-board.ensures.setting c.requires.long lk c.args.sums.now a (omega (arith, c.if-words.true, c.requires.long))
     (subst (λ (m : ℕ). SomeSite c.args.table.now (λ p. AreFrugal c.args.words.now c.args.sums.now m p → ⊥)) most (if_no c.each_frugal.result _ _ c.each_frugal.ensures c.if-not-each_frugal.true))
+
+pub is_next_bounded-requires-clause-root : goal.is_next_bounded-requires-clause-root
+is_next_bounded-requires-clause-root c = root_within c.args.shape.now c.args.words.now c.requires.sums.0 c.board-board.ensures.setting c.requires.sums.1.linked c.requires.sums.2
 
 pub returns : goal.returns
 returns c = λ bs lk rec a.
