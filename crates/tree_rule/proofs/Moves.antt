@@ -1,5 +1,5 @@
 -- The laws of the steps, as the table asks for them.
-use Rattle.std.proofs.Common.{◌≡◌, ◌≢◌, ℕ, ◌+◌, ◌-◌, ◌/◌, ◌%◌, ◌^◌, ◌<◌, ◌≤◌, Bool, true, false, cond, [], set, get_or, refl, sym, ap, ◌∙◌, subst, ⊎_elim, inr, arith}
+use Rattle.std.proofs.Common.{◌≡◌, ◌≢◌, ℕ, ◌+◌, ◌-◌, ◌/◌, ◌%◌, ◌^◌, ◌<◌, ◌≤◌, Bool, true, false, cond, List, [], ◌∷◌, ◌++◌, set, get_or, refl, sym, ap, ◌∙◌, subst, ⊎_elim, inr, arith}
 use Rattle.std.specs.Prelude.{◌==◌}
 use Rattle.std.proofs.Math.Nat.{mod-eq_of_lt}
 use mathlib.Core.Option.{none, some}
@@ -21,19 +21,35 @@ use Rattle.arena_rule.specs.Fits.{FitsStep, CanSplit, CanJoin}
 use Rattle.arena_rule.specs.Afters.{word_of, put, answer_of, after, kept_part, given_part, joined}
 use Rattle.arena_rule.specs.Answers.{MayAnswer}
 use Rattle.arena_rule.specs.IsView.{IsView}
-use Rattle.arena_rule.specs.Rule.{Rule, views_split}
+use Rattle.arena_rule.specs.Rule.{Rule, words_after, views_after, views_split}
+use Rattle.arena_rule.specs.Runs.{Arena, RuleHolds, IsSeat}
 use Rattle.arena_rule.proofs.Options.{none-some, false-true}
 use Rattle.arena_rule.proofs.Law.{steps, answers, splits, joins}
 use Rattle.arena_rule.proofs.Changes.{shape-after}
 use Rattle.arena_rule.proofs.ViewStays.{view-stays}
 use Rattle.arena_rule.proofs.ViewSeats.{kept-stays, given-stays, join-stays}
 use Rattle.tree_rule.specs.Tables.{HoldsArenaRule}
+use Rattle.tree_rule.specs.Events.{IsMadeInRule, SplitKeepsRule, JoinKeepsRule}
 use Rattle.tree_rule.specs.Plays.{IsStep, add_tells, note_tells}
 use Rattle.tree_rule.specs.Seats.{IsSeatOf}
 use Rattle.tree_rule.specs.Visits.{own_visits}
 
 -- an operation that puts into the word what the step puts there, where the answer is one that it may give
 module _ (s : Setting) (slots id : ℕ) (m : Me ℕ SeatView) (op : Op) (iv : IsView m.0) (fits : FitsStep m.0 op) where
+  -- the arena in which the step is made
+  made-in : (words : List ℕ) (views : List SeatView) → Rule s words views → get_elem? views id ≡ some m.0 → 0 < m.0.width
+      → Rule s (words_after words op) (views_after words views id m.0 op) → IsMadeInRule m.0 op (answer_of op (get_or words (word_of op) 0))
+  made-in words views h at live rule =
+      let shape : m.0.shape ≡ s = (h.state.widths.each id m.0 at).shape in
+      record {
+        arena = record { words = words; views = views };
+        id = id;
+        seat = record { at = at; live = live };
+        found = refl;
+        before = subst (λ (z : Setting). Rule z words views) (sym shape) h;
+        after = subst (λ (z : Setting). Rule z (words_after words op) (views_after words views id m.0 op)) (sym shape) rule;
+      }
+
   pub acts : (f : ℕ → ℕ) → ((x : ℕ) → x < 2 ^ 64 → MayAnswer m.0 op (answer_of op x) → f x ≡ put op x) → Allows (HoldsArenaRule s) slots id m (word_of op) f (λ x n. IsStep m op (answer_of op x) n)
   acts f same t h _ at low =
       let x : ℕ = get_or t.words (word_of op) 0 in
@@ -41,7 +57,13 @@ module _ (s : Setting) (slots id : ℕ) (m : Me ℕ SeatView) (op : Op) (iv : Is
       let live : 0 < m.0.width = omega (arith, iv.width) in
       let may : MayAnswer m.0 op (answer_of op x) = answers s t.words t.views h id m.0 at live op fits in
       let rule : HoldsArenaRule s (stepped t (word_of op) (put op x) id m.1 w keeps) = steps s t.words t.views h id m.0 at live op fits in
-      (w, keeps, tt, subst (λ (n : ℕ). HoldsArenaRule s (stepped t (word_of op) n id m.1 w keeps)) (sym (same x low may)) rule, record { answer = may; view = refl; slots = refl })
+      (
+        w,
+        keeps,
+        tt,
+        subst (λ (n : ℕ). HoldsArenaRule s (stepped t (word_of op) n id m.1 w keeps)) (sym (same x low may)) rule,
+        record { answer = may; made = made-in t.words t.views h at live rule; view = refl; slots = refl },
+      )
 
 -- the sums of draws, claims and adds are below 2^64
 module _ (v : SeatView) (iv : IsView v) where
@@ -170,3 +192,15 @@ sits-joined table old other new sits others shape can same me = record {
   words = sits.words ∙ sym (ap (λ (m : Me ℕ SeatView). end_of m.0.shape) me ∙ ap end_of (joined-shape old.me.0 other.me.0));
   view = subst IsView (sym (ap (λ (m : Me ℕ SeatView). m.0) me)) (join-stays old.me.0 other.me.0 sits.view others.view shape can);
 }
+
+-- a split and a join keep the rule wherever it holds
+pub split-keeps : (v w u : SeatView) (part : ℕ) → IsView v → CanSplit v part → w ≡ kept_part v part → u ≡ given_part v part → SplitKeepsRule v w u
+split-keeps v w u part iv can kept given a id h seat =
+    subst (λ (z : SeatView). Rule v.shape a.words (set a.views id z ++ u ∷ [])) (sym kept)
+    (subst (λ (z : SeatView). Rule v.shape a.words (set a.views id (kept_part v part) ++ z ∷ [])) (sym given)
+    (splits v.shape a.words a.views h id v seat.at seat.live part can))
+
+pub join-keeps : (v u w : SeatView) → IsView v → CanJoin v u → w ≡ joined v u → JoinKeepsRule v u w
+join-keeps v u w iv can both a id other h seat others apart =
+    subst (λ (z : SeatView). Rule v.shape a.words (set (set a.views id z) other (spent_view v.shape))) (sym both)
+    (joins v.shape a.words a.views h id v seat.at seat.live other u others.at apart others.live can)

@@ -1,4 +1,5 @@
 pub mod Tables
+pub mod Events
 pub mod Plays
 pub mod Seats
 pub mod Visits

@@ -9,10 +9,13 @@ use Rattle.tree_words.specs.declared.steps.Op.TheVariants.{Note}
 use Rattle.arena_rule.specs.Views.{SeatView}
 use Rattle.arena_rule.specs.Afters.{after}
 use Rattle.arena_rule.specs.Answers.{MayAnswer}
+use Rattle.tree_rule.specs.Events.{IsMadeInRule}
 
--- the step may give this answer, the view is the one after it, and no slot is taken or given back
+-- the step may give this answer, which is what it found in an arena of the rule, the view is the
+-- one after it, and no slot is taken or given back
 pub record IsStep (old : Me ℕ SeatView) (op : Op) (x : ℕ) (new : Me ℕ SeatView) : Type 0 where
   pub answer : MayAnswer old.0 op x
+  pub made : IsMadeInRule old.0 op x
   pub view : new.0 ≡ after old.0 op x
   pub slots : new.1 ≡ old.1
 

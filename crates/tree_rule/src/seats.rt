@@ -8,6 +8,7 @@ ghost use Rattle.arena_rule.specs.Fits.{FitsStep, CanSplit, CanJoin};
 ghost use Rattle.arena_rule.specs.Afters.{after, kept_part, given_part, joined};
 ghost use Rattle.arena_rule.specs.Answers.{MayAnswer};
 ghost use Rattle.arena_rule.specs.IsView.{IsView};
+ghost use Rattle.tree_rule.specs.Events.{IsMadeInRule, SplitKeepsRule, JoinKeepsRule};
 ghost use Rattle.tree_rule.specs.Seats.{IsSeatOf, IsOf};
 ghost use Rattle.tree_rule.specs.Visits.{AnswersOwnVisits};
 
@@ -63,7 +64,8 @@ fn merge<B: Spent>(shared: &SharedWords, seat: &mut Seat<u8, View>, other: Seat<
 
 impl TreeSeat {
     /// Splits off a seat for `part` of the workers: the seat keeps the others, and both know what
-    /// it knew. The seat is of this tree and has drawn nothing, and both parts have a worker.
+    /// it knew. The seat is of this tree and has drawn nothing, and both parts have a worker. The
+    /// arena rule holds after it wherever it held before.
     pub fn split(&mut self, tree: &Tree, part: u32) -> TreeSeat
         requires own { IsOf tree.now self.old }
         requires can { CanSplit self.old.view part }
@@ -71,6 +73,7 @@ impl TreeSeat {
         ensures kept { self.new.view ≡ kept_part self.old.view part }
         ensures given { result.view ≡ given_part self.old.view part }
         ensures order { IsView self.new.view × IsView result.view }
+        ensures rule { SplitKeepsRule self.old.view self.new.view result.view }
     {
         TreeSeat {
             seat: cut::<Brand>(&tree.table.shared, &mut self.seat, part),
@@ -78,13 +81,15 @@ impl TreeSeat {
     }
 
     /// Joins the other seat: the seat stands for the workers of both, and knows what both knew.
-    /// Both are of this tree, and all their workers have ended.
+    /// Both are of this tree, and all their workers have ended. The arena rule holds after it
+    /// wherever it held before.
     pub fn join(&mut self, tree: &Tree, other: TreeSeat)
         requires own { IsOf tree.now self.old × IsOf tree.now other }
         requires can { CanJoin self.old.view other.view }
         ensures own { IsOf tree.now self.new }
         ensures both { self.new.view ≡ joined self.old.view other.view }
         ensures order { IsView self.new.view }
+        ensures rule { JoinKeepsRule self.old.view other.view self.new.view }
     {
         let TreeSeat { seat } = other;
         merge::<Brand>(&tree.table.shared, &mut self.seat, seat);
@@ -92,7 +97,8 @@ impl TreeSeat {
 
     /// One atomic step on one word of the tree. The seat is of this tree and its view fits the
     /// step, which is not `Done`. It answers the old value of the word, and 0 to a write and a
-    /// note. What the seat knows stays known, and a look at a node's tally answers at least the
+    /// note, as it is found in an arena of which the arena rule holds, before the step and after
+    /// it. What the seat knows stays known, and a look at a node's tally answers at least the
     /// visits that this seat itself made there.
     #[inline(always)]
     pub fn act(&mut self, tree: &Tree, op: Op) -> u64
@@ -101,6 +107,7 @@ impl TreeSeat {
         requires step { op ≢ Done }
         ensures own { IsOf tree.now self.new }
         ensures answer { MayAnswer self.old.view op result }
+        ensures rule { IsMadeInRule self.old.view op result }
         ensures view { self.new.view ≡ after self.old.view op result }
         ensures order { IsView self.new.view }
         ensures known { AreAmong self.old.view.known self.new.view.known }

@@ -5,6 +5,7 @@ ghost use Rattle.std.specs.Mem.Slots.{slots_items, slots_len, IsFull};
 ghost use Rattle.arena_rule.specs.Views.{opening_view, HasEnded};
 ghost use Rattle.arena_rule.specs.Closed.{HasAllWalks};
 ghost use Rattle.arena_rule.specs.IsView.{IsView};
+ghost use Rattle.tree_rule.specs.Events.{BeginsInRule};
 ghost use Rattle.tree_rule.specs.Seats.{IsOf, IsTableFor};
 ghost use Rattle.tree_rule.specs.Ends.{AreShown, AreRecords, AreCopied};
 ghost use Rattle.tree_rule.specs.Ends.{IsSameBehind, EndsWith};
@@ -74,12 +75,13 @@ fn end(table: OpenTable, seat: Seat<u8, View>, mut room: Vec<u64>) -> Vec<u64>
 
 impl Tree {
     /// The tree of the shape with its opening words, and a seat that stands for all its workers. It
-    /// takes all the memory that the tree needs up to its end.
+    /// takes all the memory that the tree needs up to its end. The arena rule holds of them.
     pub fn make(alloc: Global, shape: &Shape) -> Result<(Tree, TreeSeat), Memory>
         ensures shape { IfOk result (λ t. t.0.shape ≡ shape.now) }
         ensures own { IfOk result (λ t. IsOf t.0 t.1) }
         ensures view { IfOk result (λ t. t.1.view ≡ opening_view shape.now) }
         ensures order { IfOk result (λ t. IsView t.1.view) }
+        ensures rule { IfOk result (λ t. BeginsInRule t.0.shape t.1.view) }
     {
         // What each shape keeps of itself.
         let _board = shape.board();

@@ -6,6 +6,7 @@ use Rattle.arena_rule.specs.Fits.{FitsStep}
 use Rattle.arena_rule.specs.Answers.{MayAnswer}
 use Rattle.arena_rule.proofs.Changes.{shape-after}
 use Rattle.arena_rule.proofs.KnownMore.{known-kept}
+use Rattle.tree_rule.specs.Events.{IsMadeInRule}
 use Rattle.tree_rule.specs.Seats.{IsSeatOf}
 use Rattle.tree_rule.proofs.Moves.{own-visits, sits-after}
 use Rattle.tree_rule.proofs.seats.TreeSeat.act.Goals as goal
@@ -22,6 +23,9 @@ returns-clause-own c = record {
   table = c.step.ensures.table ∙ ap (λ s. s.table) c.self.view_is ∙ c.requires.own.table;
   shape = ap (λ v. v.shape) c.step.ensures.told.view ∙ shape-after c.self.inside.seat.me.0 c.args.op c.step.result ∙ ap (λ s. s.view.shape) c.self.view_is ∙ c.requires.own.shape;
 }
+
+pub returns-clause-rule : goal.returns-clause-rule
+returns-clause-rule c = subst (λ (v : SeatView). IsMadeInRule v c.args.op c.step.result) (ap (λ s. s.view) c.self.view_is) c.step.ensures.told.made
 
 pub returns-clause-order : goal.returns-clause-order
 returns-clause-order c = (sits c).view

@@ -1,6 +1,9 @@
 -- A split leaves two seats of the tree.
-use Rattle.std.proofs.Common.{ap, ◌∙◌}
-use Rattle.tree_rule.proofs.Moves.{kept-shape}
+use Rattle.std.proofs.Common.{ap, sym, ◌∙◌, subst}
+use Rattle.arena_rule.specs.Views.{SeatView}
+use Rattle.arena_rule.specs.Fits.{CanSplit}
+use Rattle.tree_rule.specs.Events.{SplitKeepsRule}
+use Rattle.tree_rule.proofs.Moves.{kept-shape, split-keeps}
 use Rattle.tree_rule.proofs.seats.TreeSeat.split.Goals as goal
 
 pub returns-clause-own : goal.returns-clause-own
@@ -10,3 +13,9 @@ returns-clause-own c =
       record { table = c.cut.ensures.own.0.table ∙ table; shape = ap (λ v. v.shape) c.cut.ensures.kept ∙ kept-shape _ _ ∙ old },
       record { table = c.cut.ensures.own.1.table ∙ table; shape = ap (λ v. v.shape) c.cut.ensures.given ∙ old },
     )
+
+pub returns-clause-rule : goal.returns-clause-rule
+returns-clause-rule c =
+    let view = ap (λ s. s.view) c.self.view_is in
+    subst (λ (v : SeatView). SplitKeepsRule v c.cut.new.seat.me.0 c.cut.result.me.0) view
+    (split-keeps c.self.inside.seat.me.0 _ _ c.args.part c.self.invariant.view (subst (λ (v : SeatView). CanSplit v c.args.part) (sym view) c.requires.can) c.cut.ensures.kept c.cut.ensures.given)

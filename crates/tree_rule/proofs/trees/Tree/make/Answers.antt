@@ -39,3 +39,9 @@ invariant_of-result c =
       words = ap (λ t. t.words) c.in-Ok.ensures.2 ∙ c.in-Ok.ensures.0 ∙ ap length (c.as_slice.ensures.value ∙ c.in_ok-room.ensures) ∙ (opening-are c.args.shape.now set).long ∙ sym (ap (λ (m : Me ℕ SeatView). end_of m.0.shape) me);
       view = subst IsView (sym (ap (λ (m : Me ℕ SeatView). m.0) me)) (opening-order c.args.shape.now set);
     }
+
+pub returns-clause-rule : goal.returns-clause-rule
+returns-clause-rule c =
+    let s = c.args.shape.now in
+    let me = c.in-Ok.ensures.4 in
+    subst (λ (v : SeatView). Rule s (opening_words s) (v ∷ [])) (sym (ap (λ (m : Me ℕ SeatView). m.0) me)) (begins s c.board-board.ensures.setting)
