@@ -30,6 +30,10 @@ widths-many : (s : Setting) (n : ℕ) → sum_by width_of (replicate n (new_view
 widths-many s zero = refl
 widths-many s (suc n) = omega (arith, sum_by-cons width_of (new_view s 1 []) (replicate n (new_view s 1 [])), widths-many s n)
 
+-- the opening view has drawn nothing
+pub opening-nothing : (s : Setting) → HasDrawnNothing (opening_view s)
+opening-nothing s = nothing refl refl refl refl refl refl refl
+
 pub opening-first : (s : Setting) → IsSetting s → AreFirst s (opening_view s ∷ [])
 opening-first s h = record {
   each = λ i v e. subst (IsNew s) (in-one (opening_view s) i v e).1 (refl, nothing refl refl refl refl refl refl refl, refl, refl, omega (arith, h.ranges.workers.0));

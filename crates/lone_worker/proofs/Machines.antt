@@ -1,5 +1,5 @@
 -- A walker that runs alone makes the steps of a seat that is alone, each at its leaf.
-use Rattle.std.proofs.Common.{◌≡◌, ℕ, zero, suc, List, Some, set, refl, sym, ap, ◌∙◌, subst}
+use Rattle.std.proofs.Common.{◌≡◌, ℕ, ◌<◌, zero, suc, List, [], ◌∷◌, Some, set, refl, sym, ap, ◌∙◌, subst, arith}
 use Rattle.std.specs.Prelude.{slice_index, option_map}
 use Rattle.tree_words.specs.Settings.{Setting}
 use Rattle.tree_words.specs.Blocks.{LinkedBlock}
@@ -10,9 +10,10 @@ use Rattle.arena_rule.specs.Views.{SeatView, opening_view}
 use Rattle.arena_rule.specs.Fits.{FitsStep}
 use Rattle.arena_rule.specs.Afters.{word_of, put, answer_of, after}
 use Rattle.arena_rule.specs.Answers.{MayAnswer, AnswersStep}
-use Rattle.arena_rule.specs.Rule.{words_after}
+use Rattle.arena_rule.specs.Rule.{Rule, words_after}
 use Rattle.arena_rule.proofs.Before.{opening_blocks}
 use Rattle.arena_rule.proofs.Changes.{whole-after, put-answered}
+use Rattle.arena_rule.proofs.Law.{answers}
 use Rattle.walker.specs.Machine.{op_of, next}
 use Rattle.walker.specs.Belongs.{Belongs}
 use Rattle.walker.specs.declared.machine.Walker.{Walker}
@@ -81,19 +82,43 @@ alone-goes s w v x a may =
           (subst (λ (y : ℕ). Lone v.shape m.0 (words_after a.words op) (after v op y) m.1) (sym is) m.2);
     }
 
-alone : (s : Setting) (n : ℕ) (w : Walker) (v : SeatView) → RunsAlone s n w v → Alone s w v
-alone s zero w v r = subst (Alone s w) (sym r.1) (alone-begins s w (subst (Belongs w) r.1 r.0))
-alone s (suc n) w v r =
+-- a view with the same copy of the words as that of a walker that began with the opening view: the walker is answered by the copy alone
+record Beside (s : Setting) (w : Walker) (v : SeatView) : Type 0 where
+  like : SeatView
+  alone : Alone s w like
+  same : v.whole ≡ Some alone.words
+
+beside-goes : (s : Setting) (w : Walker) (v : SeatView) (x : ℕ) → Beside s w v → MayAnswer v (op_of w) x → Beside s (next w x) (after v (op_of w) x)
+unfolding alone-goes
+beside-goes s w v x b may =
+    let op : Op = op_of w in
+    let a : Alone s w b.like = b.alone in
+    let is : x ≡ answer_of op (slice_index a.words (word_of op)) = answer-is v op x a.words b.same may in
+    let rule : Rule s a.words (b.like ∷ []) = record { blocks = a.blocks; state = a.lone.state } in
+    let live : 0 < b.like.width = omega (arith, a.lone.course.width) in
+    let found : MayAnswer b.like op (answer_of op (slice_index a.words (word_of op))) = answers s a.words (b.like ∷ []) rule 0 b.like refl live op (fits w b.like a.belongs) in
+    let like_may : MayAnswer b.like op x = subst (MayAnswer b.like op) (sym is) found in
+    record {
+      like = after b.like op x;
+      alone = alone-goes s w b.like x a like_may;
+      same = whole-later v op x a.words b.same is;
+    }
+
+beside : (s : Setting) (n : ℕ) (w : Walker) (v : SeatView) → RunsAlone s n w v → Beside s w v
+unfolding alone-begins
+beside s zero w v r = record { like = opening_view s; alone = alone-begins s w r.0; same = r.1 }
+beside s (suc n) w v r =
     let u : Walker = r.0 in
     let y : SeatView = r.1 in
     let m : MakesStep u y w v = r.3 in
-    subst (λ (z : Walker). Alone s z v) (sym m.walker_is) (subst (Alone s (next u m.answer)) (sym m.view_is) (alone-goes s u y m.answer (alone s n u y r.2) m.may))
+    subst (λ (z : Walker). Beside s z v) (sym m.walker_is) (subst (Beside s (next u m.answer)) (sym m.view_is) (beside-goes s u y m.answer (beside s n u y r.2) m.may))
 
 pub ends-as-sequence : (s : Setting) → EndsAsSequence s
 ends-as-sequence s w v r done =
-    let a : Alone s w v = alone s r.0 w v r.1 in
+    let b : Beside s w v = beside s r.0 w v r.1 in
+    let a : Alone s w b.like = b.alone in
     record {
       words = a.words;
-      whole = a.whole;
-      tree = lone-ends s a.blocks a.words v a.count a.lone (subst (FitsStep v) done (fits w v a.belongs));
+      whole = b.same;
+      tree = lone-ends s a.blocks a.words b.like a.count a.lone (subst (FitsStep b.like) done (fits w b.like a.belongs));
     }

@@ -1,6 +1,7 @@
 -- A walker that runs alone, over a view that has a copy of all words.
 use Rattle.std.specs.Prelude.{◌≡◌, ℕ, zero, suc, List, Some}
 use Rattle.tree_words.specs.Settings.{Setting}
+use Rattle.tree_words.specs.Opening.{opening_words}
 use Rattle.tree_words.specs.Sequence.{seq_of}
 use Rattle.tree_words.specs.Trees.{IsTreeOf}
 use Rattle.tree_words.specs.declared.steps.Op.TheVariants.{Done}
@@ -19,9 +20,10 @@ pub record MakesStep (w : Walker) (v : SeatView) (later : Walker) (view : SeatVi
   pub walker_is : later ≡ next w answer
   pub view_is : view ≡ after v (op_of w) answer
 
--- after n steps the walker is w and its view v, where it began with the opening view
+-- After n steps the walker is w and its view v, where it began as a walker to whom the opening view
+-- belongs, with a view whose copy of the words is the opening words, whatever else that knew.
 abbrev pub RunsAlone : Setting → ℕ → Walker → SeatView → Type 0
-RunsAlone s zero w v = Belongs w v × (v ≡ opening_view s)
+RunsAlone s zero w v = Belongs w (opening_view s) × (v.whole ≡ Some (opening_words s))
 RunsAlone s (suc n) w v = (u : Walker) × (before : SeatView) × RunsAlone s n u before
     × MakesStep u before w v
 

@@ -1,8 +1,12 @@
 //! The law of one worker: a walker that runs alone makes the tree of the sequential search.
 //!
-//! **Nouns.** A walker *runs alone* where it began with the opening view of its shape, which has a
-//! copy of all words, and each of its steps was answered as the step may be, and so with the word
-//! that stands in the copy (specs/Alone.antt). It *is done* where its next step is Done.
+//! This crate is that law and no more: it has no type and no code that runs, and its one function
+//! does nothing. search_team and sim_run, whose workers run, cite it.
+//!
+//! **Nouns.** A walker *runs alone* where it began as a new walker with a copy of the opening
+//! words, whatever else its view knew, and each of its steps was answered as the step may be, and
+//! so with the word that stands in the copy (specs/Alone.antt). It *is done* where its next step is
+//! Done.
 //!
 //! **A caller** makes no value here: it cites the law, and keeps in its loop that its walker has
 //! run alone. One step more is one number more.

@@ -1,7 +1,8 @@
 -- A seat before and after its worker has worked.
-use Rattle.std.specs.Prelude.{◌≡◌, ℕ}
+use Rattle.std.specs.Prelude.{◌≡◌, ℕ, Some}
+use Rattle.tree_words.specs.Opening.{opening_words}
 use Rattle.tree_words.specs.Settings.{Setting}
-use Rattle.arena_rule.specs.Views.{SeatView, HasDrawnNothing, HasEnded, opening_view}
+use Rattle.arena_rule.specs.Views.{SeatView, HasDrawnNothing, HasEnded}
 use Rattle.arena_rule.specs.IsView.{IsView}
 use Rattle.lone_worker.specs.Alone.{ShowsSequence}
 use Rattle.tree_rule.specs.Seats.{TreeData, SeatData, IsOf}
@@ -20,7 +21,9 @@ pub record IsDone (tree : TreeData) (seat : SeatData) (workers : ℕ) : Type 0 w
   pub ended : HasEnded seat.view
   pub order : IsView seat.view
 
--- from the opening view of one worker on, the view's copy of the words shows the sequential tree
+-- where one worker searches, from a copy of the opening words on, whatever else the view knew, the
+-- view's copy of the words shows the sequential tree
 abbrev pub WorksAsSequence : Setting → SeatView → SeatView → Type 0
 WorksAsSequence s before after =
-    before ≡ opening_view s → before.width ≡ 1 → ShowsSequence s after
+    s.knobs.workers ≡ 1 → before.width ≡ 1 → before.whole ≡ Some (opening_words s)
+    → ShowsSequence s after

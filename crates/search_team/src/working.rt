@@ -33,8 +33,9 @@ fn step(tree: &Tree, seat: &mut TreeSeat, walker: &mut Walker, op: Op)
 }
 
 /// Lets one worker work until its draw answers that no playout is left. The seat is of this tree
-/// of this shape, stands for one worker and has drawn nothing. Where its view was the opening one,
-/// its copy of the words then shows the tree of the sequential search.
+/// of this shape, stands for one worker and has drawn nothing. Where he is the only one and the
+/// seat's copy of the words was the opening words, the copy then shows the tree of the sequential
+/// search.
 ///
 /// It takes no memory and never waits. The gate is passed as its trait says.
 pub fn work<G: Gate>(tree: &Tree, seat: &mut TreeSeat, shape: &Shape, worker: u32, gate: &G)

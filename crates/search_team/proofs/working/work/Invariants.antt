@@ -1,6 +1,6 @@
--- The seat's view belongs to the walker; from the opening view on it has run alone.
-use Rattle.std.proofs.Common.{◌≡◌}
-use Rattle.arena_rule.specs.Views.{opening_view}
+-- The seat's view belongs to the walker; one worker, from the opening words on, has run alone.
+use Rattle.std.proofs.Common.{◌≡◌, Some}
+use Rattle.tree_words.specs.Opening.{opening_words}
 use Rattle.walker.specs.Belongs.{Belongs}
 use Rattle.lone_worker.specs.Alone.{HasRunAlone}
 use Rattle.tree_rule.specs.Seats.{IsOf}
@@ -11,7 +11,7 @@ abbrev pub invariant-steps : goal.invariant-steps
 invariant-steps g l = record {
   own : IsOf l.tree l.seat;
   belongs : Belongs l.walker l.seat.view;
-  alone : l.fn.seat.view ≡ opening_view l.shape → HasRunAlone l.shape l.walker l.seat.view;
+  alone : l.shape.knobs.workers ≡ 1 → l.fn.seat.view.whole ≡ Some (opening_words l.shape) → HasRunAlone l.shape l.walker l.seat.view;
 }
 
 abbrev pub decreases-steps : goal.decreases-steps
