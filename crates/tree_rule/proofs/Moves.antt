@@ -56,8 +56,7 @@ module _ (s : Setting) (slots id : ℕ) (m : Me ℕ SeatView) (op : Op) (iv : Is
       let w : SeatView = after m.0 op (answer_of op x) in
       let live : 0 < m.0.width = omega (arith, iv.width) in
       let may : MayAnswer m.0 op (answer_of op x) = answers s t.words t.views h id m.0 at live op fits in
-      let rule : HoldsArenaRule s (stepped t (word_of op) (put op x) id m.1 w keeps) = steps s t.words t.views h id m.0 at live op fits in
-      (
+      let rule : HoldsArenaRule s (stepped t (word_of op) (put op x) id m.1 w keeps) = steps s t.words t.views h id m.0 at live op fits in (
         w,
         keeps,
         tt,
