@@ -54,9 +54,9 @@ words_held (Some h) = h.size
 abbrev pub claimed_of : SeatView → ℕ
 claimed_of v = v.claimed
 
--- Room: NEXT is at most the end of the root's block, which begins the area, what all views claimed, and a largest block
--- for each worker of the full views; and a view claimed at most its width times the words of the
--- blocks that it knows, and what it holds
+-- Room: NEXT is at most the end of the root's block, which begins the area, what all views claimed,
+-- and a largest block for each worker of the full views; and a view claimed at most its width times
+-- the words of the blocks that it knows, and what it holds
 pub record Room (s : Setting) (bs : List LinkedBlock)
     (words : List ℕ) (views : List SeatView) : Type 0 where
   pub next : next_in words

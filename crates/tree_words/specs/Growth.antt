@@ -25,8 +25,8 @@ ends_at words n x = count_below n (λ k. leaf_of words k == x)
 
 -- Grown: in a block that has a child without visits no child has more than K; where NEXT
 -- is at most the area's end, a node with an empty cell on its board is the leaf of at most K·T
--- records; and NEXT is at most the end of the root's block, K times the other blocks' words, and one
--- largest block for each worker
+-- records; and NEXT is at most the end of the root's block, K times the other blocks' words, and
+-- one largest block for each worker
 pub record Grown (s : Setting) (bs : List LinkedBlock) (words : List ℕ) : Type 0 where
   pub first : (b : LinkedBlock) (x y : ℕ) → In b bs → has_node b x ≡ true → has_node b y ≡ true
       → (tally_in words y).visits ≡ 0
