@@ -31,5 +31,7 @@ SplitKeepsRule v w u = (a : Arena) (id : ℕ) → RuleHolds v.shape a → IsSeat
 abbrev pub JoinKeepsRule : SeatView → SeatView → SeatView → Type 0
 JoinKeepsRule v u w = (a : Arena) (id other : ℕ) → RuleHolds v.shape a → IsSeat a.views id v
     → IsSeat a.views other u → other ≢ id
-    → RuleHolds v.shape (record { words = a.words;
-      views = slice_set (slice_set a.views id w) other (spent_view v.shape) })
+    → RuleHolds v.shape (record {
+      words = a.words;
+      views = slice_set (slice_set a.views id w) other (spent_view v.shape);
+    })
