@@ -82,6 +82,16 @@ def two_walks_on_one_cell(workers):
     return b"HEXTREE1" + struct.pack("<%dQ" % (len(fields) + len(tree)), *fields, *tree)
 
 
+def moved(trace, by, behind):
+    """The trace of one playout with its root's block moved by so many words, and so many claimed behind it."""
+    fields = struct.unpack_from("<15Q", trace, 8)
+    tree = list(struct.unpack_from("<27Q", trace, FRONT))
+    next_word = 27 + by + behind
+    tree = tree[:7] + [0] * by + tree[7:] + [0] * behind
+    tree[0], tree[2], tree[4] = next_word, tree[2] + 2 * by, tree[4] + by
+    return b"HEXTREE1" + struct.pack("<%dQ" % (15 + len(tree)), *fields[:14], next_word, *tree)
+
+
 def main():
     one = session(["--playouts", "1", "--seed", "0"], b"boardsize 2\ngenmove b\n")
     expect("one playout", root_children(one), [(1, 0, 1, 0), (0, 0, 0, 0), (0, 0, 0, 0), (0, 0, 1, 0)])
@@ -107,6 +117,9 @@ def main():
     audit("a bad tree before a good one", changed(one, TALLY_AT, 7) + one, b"no 0 4\n")
     audit("two workers on one cell", two_walks_on_one_cell(2), b"yes 1\n")
     audit("two visits beside none, by one worker", two_walks_on_one_cell(1), b"no 0 6\n")
+    audit("a root block moved by 489", moved(one, 489, 0), b"yes 1\n")
+    audit("a root block moved by 100, and NEXT 516", moved(one, 100, 389), b"yes 1\n")
+    audit("NEXT 516 behind a root block at the front", moved(one, 0, 489), b"no 0 6\n")
     for line in wrong:
         print("examples/audit_rows.py:", line)
     return 1 if wrong else 0

@@ -1,10 +1,10 @@
-//! Two workers that wait for one another at a gate, and one worker beside the plain search.
+//! Workers that meet at a gate or are counted there, and one worker beside the plain search.
 
 use super::{Gate, OpenGate, search};
 use hex_board::Board;
 use hex_cells::{CellSet, Colour, Size};
 use seq_search::plain_search;
-use std::sync::atomic::{AtomicBool, Ordering};
+use std::sync::atomic::{AtomicBool, AtomicU32, Ordering};
 use std::test::Fail;
 use std::thread;
 use tree_words::layout::RECORDS_AT;
@@ -38,12 +38,62 @@ impl Gate for Meeting {
     }
 }
 
+// A gate that counts how often each of three numbers passed. Where they are to meet it holds each
+// worker until all three have passed, or for so many turns.
+#[derive(Drop)]
+struct Counting {
+    first: AtomicU32,
+    second: AtomicU32,
+    third: AtomicU32,
+    meet: bool,
+}
+
+impl Counting {
+    fn new(meet: bool) -> Counting {
+        Counting {
+            first: AtomicU32::new(0),
+            second: AtomicU32::new(0),
+            third: AtomicU32::new(0),
+            meet,
+        }
+    }
+
+    fn counts(&self) -> [u32; 3] {
+        [
+            self.first.load(Ordering::SeqCst),
+            self.second.load(Ordering::SeqCst),
+            self.third.load(Ordering::SeqCst),
+        ]
+    }
+}
+
+impl Gate for Counting {
+    fn pass(&self, worker: u32) {
+        let mine = match worker {
+            0 => &self.first,
+            1 => &self.second,
+            _ => &self.third,
+        };
+        mine.fetch_add(1, Ordering::SeqCst);
+        if !self.meet {
+            return;
+        }
+        for _ in 0..MOST_TURNS {
+            let [first, second, third] = self.counts();
+            if first != 0 && second != 0 && third != 0 {
+                return;
+            }
+            thread::yield_now();
+        }
+    }
+}
+
 // Size 3, the empty board, Black to move.
 fn three_by_three(workers: u32, playouts: u32) -> Option<Shape> {
     let size = Size::of(3)?;
     let board = Board::of(size, CellSet::none(), CellSet::none());
     let allowed = board.empties();
-    if allowed.least().is_none() || !(1..=2).contains(&workers) || !(1..=100).contains(&playouts) {
+    if allowed.least().is_none() || !(1..=3).contains(&workers) || !(1..=100).contains(&playouts) {
         return None;
     }
     let knobs = Knobs {
@@ -77,6 +127,39 @@ fn workers_meet_at_the_gate(rt: HostRuntime) -> Result<(), Fail> {
             .ok_or("a row")?;
         assert_eq!(rt; cell.number(), 0);
         assert_eq!(rt; visits, 2);
+    }
+    Ok(())
+}
+
+// Each of three workers has a number of its own.
+#[test]
+fn each_number_passes_the_gate(rt: HostRuntime) -> Result<(), Fail> {
+    let shape = three_by_three(3, 3).ok_or("a shape")?;
+    let gate = Counting::new(true);
+    let _closed = search(&rt, rt.alloc(), &shape, &gate)?;
+    assert_eq!(rt; gate.counts(), [1, 1, 1]);
+    Ok(())
+}
+
+// A worker passes before his first add alone, however many walks and adds he makes.
+#[test]
+fn one_worker_passes_once(rt: HostRuntime) -> Result<(), Fail> {
+    let shape = three_by_three(1, 100).ok_or("a shape")?;
+    let gate = Counting::new(false);
+    let _closed = search(&rt, rt.alloc(), &shape, &gate)?;
+    assert_eq!(rt; gate.counts(), [1, 0, 0]);
+    Ok(())
+}
+
+// One playout is one worker's walk: the two others have no walk, and don't pass.
+#[test]
+fn who_has_no_walk_does_not_pass(rt: HostRuntime) -> Result<(), Fail> {
+    let shape = three_by_three(3, 1).ok_or("a shape")?;
+    for _ in 0..3 {
+        let gate = Counting::new(false);
+        let _closed = search(&rt, rt.alloc(), &shape, &gate)?;
+        let one = matches!(gate.counts(), [1, 0, 0] | [0, 1, 0] | [0, 0, 1]);
+        assert!(rt; one);
     }
     Ok(())
 }

@@ -16,6 +16,7 @@ use Rattle.tree_words.specs.Counts.{count_below}
 use Rattle.tree_words.specs.Trees.{oldest_first}
 use Rattle.tree_words.specs.Sequence.{chosen_of, search_game, children_in}
 use Rattle.tree_words.specs.Descents.{pick, leaf_inner, state_leaf, state_inner, steps_inner, Bare}
+use Rattle.tree_words.proofs.Walks.Tallies.{count-most}
 use Rattle.tree_words.proofs.Walks.Adds.{is_child}
 use Rattle.std.proofs.lemmas.Bool.{eqb-true, cases_Bool, false_from_ne_true}
 use Rattle.tree_words.proofs.Blocks.BlockLaws.{clash, root_node}
@@ -135,17 +136,9 @@ fewer (suc n) c f g h e l = ⊎_elim
     step false true h l = absurd (clash false (h refl) refl)
     step false false h l = omega (arith, l)
 
-pub most-below : (n : ℕ) (f : ℕ → Bool) → count_below n f ≤ n
-most-below zero f = omega arith
-most-below (suc n) f = let r = most-below n f in one (f n) r
-  where
-    one : {a n : ℕ} (t : Bool) → a ≤ n → a + one_if t ≤ suc n
-    one true l = omega (arith, l)
-    one false l = omega (arith, l)
-
 pub most-left : (p : Position) → left_on p ≤ 121
 unfolding left_on
-most-left p = most-below 121 (is_empty_at p)
+most-left p = count-most 121 (is_empty_at p)
 
 fewer-left : (p : Position) (player : Colour) (c : ℕ) → is_empty_at p c ≡ true → c < 121 → left_on (placed p player c) < left_on p
 unfolding left_on

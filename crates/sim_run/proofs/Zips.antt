@@ -1,5 +1,5 @@
 -- Two lists that agree place by place.
-use Rattle.std.proofs.Common.{◌≡◌, ℕ, zero, suc, List, [], ◌∷◌, ◌++◌, length, set, get_or, refl, sym, ap, subst, replicate}
+use Rattle.std.proofs.Common.{◌≡◌, ℕ, zero, suc, ◌<◌, List, [], ◌∷◌, ◌++◌, length, set, get_or, refl, sym, ap, subst, replicate, arith}
 use Rattle.std.specs.List.{All, AllZip}
 use mathlib.Core.Option.{some, some-injective, some-ne-none}
 use lib.ListN.{get_elem?}
@@ -27,6 +27,12 @@ module _ {A B : Type 0} (R : A → B → Type 0) where
   zip-same (x ∷ xs) y h = (h 0 x refl, zip-same xs y (λ i. h (suc i)))
 
 module _ {A : Type 0} where
+  -- the element of an index inside the list stands there
+  pub at-index : (l : List A) (i : ℕ) (a : A) → i < length l → a ≡ get_or l i a → get_elem? l i ≡ some a
+  at-index [] i a h e = absurd (omega arith)
+  at-index (x ∷ xs) zero a h e = ap some (sym e)
+  at-index (x ∷ xs) (suc i) a h e = at-index xs i a (omega arith) e
+
   pub at-or : (l : List A) (i : ℕ) (a d : A) → get_elem? l i ≡ some a → get_or l i d ≡ a
   at-or [] i a d e = absurd (some-ne-none a (sym e))
   at-or (x ∷ xs) zero a d e = some-injective x a e

@@ -8,6 +8,7 @@ use Rattle.tree_words.specs.Words.{root_at, end_of, record_in, winner_in}
 use Rattle.tree_words.specs.Blocks.{LinkedBlock, has_node, is_node, In}
 use Rattle.tree_words.specs.Paths.{NodeState, node_state}
 use Rattle.tree_words.specs.Records.{leaf_of, outcome_in, IsRecord}
+use Rattle.tree_words.proofs.Walks.Tallies.{count-most}
 use Rattle.tree_words.proofs.Blocks.GameLaws.{in-node}
 use Rattle.tree_words.proofs.Blocks.Members.{node-in}
 use Rattle.trace_audit.specs.declared.sites.Site.{Site}
@@ -18,7 +19,6 @@ use Rattle.trace_audit.proofs.Adding.{leaf_word, outcome_is, sums_more, sums_sma
 use Rattle.trace_audit.proofs.Downward.{parent_low}
 use Rattle.trace_audit.proofs.Placed.{most_of}
 use Rattle.tree_words.proofs.Blocks.BlockLaws.{has-at}
-use Rattle.seq_search.proofs.Ways.{most-below}
 
 -- no block has the leaf
 pub no_record : (s : Setting) (bs : List LinkedBlock) (words : List ℕ) (k : ℕ) → ((b : LinkedBlock) → In b bs → has_node b (leaf_of words k) ≡ true → ⊥) → IsRecord s bs words k → ⊥
@@ -68,7 +68,7 @@ module _ (s : Setting) (bs : List LinkedBlock) (words sums : List ℕ) (t : Tabl
       leaf_small =
           let w = leaf_word s bs words sums k h lk.linked a (leaf_of words k) refl node o same middle c in
           let r = h.ranges in
-          omega (arith, w, most-below k (λ q. leaf_of words q == leaf_of words k), number, r.playouts)
+          omega (arith, w, count-most k (λ q. leaf_of words q == leaf_of words k), number, r.playouts)
 
       pub playout_added : AreSums s bs words (set middle (leaf_of words k) (slice_index middle (leaf_of words k) + 1)) (k + 1)
       playout_added = sums_more s bs words sums k h lk.linked a (leaf_of words k) refl node o same middle c leaf_inside

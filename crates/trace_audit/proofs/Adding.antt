@@ -18,21 +18,20 @@ use Rattle.tree_words.specs.Counts.{count_below, visits_at, sights_at, is_seen}
 use Rattle.tree_words.specs.Growth.{ends_at}
 use Rattle.tree_words.proofs.Blocks.GameLaws.{in-node}
 use Rattle.tree_words.proofs.Blocks.NodeLaws.{nodes-apart}
-use Rattle.tree_words.proofs.Walks.Tallies.{visits-more, sights-more}
+use Rattle.tree_words.proofs.Walks.Tallies.{count-most, visits-more, sights-more}
 use Rattle.trace_audit.specs.Sums.{AreSums, AreSmall, Climbed}
 use Rattle.trace_audit.proofs.WordBytes.{none_left}
-use Rattle.seq_search.proofs.Ways.{most-below}
 
 -- no sum passes the number of playouts
 pub sums_small : (s : Setting) (bs : List LinkedBlock) (words sums : List ℕ) (k m : ℕ) → k ≤ m → AreSums s bs words sums k → AreSmall s bs sums m
 sums_small s bs words sums k m l a = record {
   tallies = λ x n. (
-    omega (arith, ap (λ (c : Count). c.visits) (a.tallies x n), most-below k (λ j. is_on s bs x (leaf_of words j)), l),
-    omega (arith, ap (λ (c : Count). c.wins) (a.tallies x n), most-below k (λ j. is_on s bs x (leaf_of words j) && is_same (outcome_in s bs words j).winner (mover_of s bs x)), l),
+    omega (arith, ap (λ (c : Count). c.visits) (a.tallies x n), count-most k (λ j. is_on s bs x (leaf_of words j)), l),
+    omega (arith, ap (λ (c : Count). c.wins) (a.tallies x n), count-most k (λ j. is_on s bs x (leaf_of words j) && is_same (outcome_in s bs words j).winner (mover_of s bs x)), l),
   );
   seen = λ b y i n. (
-    omega (arith, ap (λ (c : Count). c.visits) (a.seen b y i n), most-below k (λ j. is_seen s bs words b y j), l),
-    omega (arith, ap (λ (c : Count). c.wins) (a.seen b y i n), most-below k (λ j. is_seen s bs words b y j && is_same (outcome_in s bs words j).winner (mover_of s bs y)), l),
+    omega (arith, ap (λ (c : Count). c.visits) (a.seen b y i n), count-most k (λ j. is_seen s bs words b y j), l),
+    omega (arith, ap (λ (c : Count). c.wins) (a.seen b y i n), count-most k (λ j. is_seen s bs words b y j && is_same (outcome_in s bs words j).winner (mover_of s bs y)), l),
   );
 }
 

@@ -243,6 +243,43 @@ fn too_many_claimed_words_are_found(rt: HostRuntime) -> Result<(), Fail> {
 }
 
 // No bytes, a text twice, and a text behind which a text is cut short.
+// The audit of the trace of one playout with its root's block moved on by so many words, links and
+// parents with it, and so many words claimed behind that.
+fn moved(alloc: Global, by: u32, behind: u32) -> Result<Audit, Fail> {
+    let by = u64::from(by);
+    let next = 27 + by + u64::from(behind);
+    let mut words = Vec::new(alloc);
+    words.extend_from_slice(&ONE_PLAYOUT[..14])?;
+    // The count of the words, NEXT, TICKET, the record and the root.
+    words.extend_from_slice(&[next, next, 1, 2 * (11 + by) + 1])?;
+    words.extend_from_slice(&[0, 7 + by, 4_294_967_297, 0])?;
+    for _ in 0..by {
+        words.push(0)?;
+    }
+    words.extend_from_slice(&ONE_PLAYOUT[22..])?;
+    for _ in 0..behind {
+        words.push(0)?;
+    }
+    audited(alloc, &text(alloc, &words)?)
+}
+
+// The bound on NEXT is told from the end of the root's block, wherever this lies.
+#[test]
+fn the_root_block_may_lie_anywhere(rt: HostRuntime) -> Result<(), Fail> {
+    let alloc = rt.alloc();
+    for (by, behind) in [(0, 488), (489, 0), (100, 389), (100, 488)] {
+        assert!(rt; moved(alloc, by, behind)? == Audit::Yes { trees: 1 });
+    }
+    let growth = Audit::No {
+        tree: 0,
+        why: Flaw::Growth,
+    };
+    for by in [0, 100, 489] {
+        assert!(rt; moved(alloc, by, 489)? == growth);
+    }
+    Ok(())
+}
+
 #[test]
 fn texts_are_counted(rt: HostRuntime) -> Result<(), Fail> {
     let alloc = rt.alloc();

@@ -30,6 +30,14 @@ pub count-none : (n : ℕ) (f : ℕ → Bool) → ((k : ℕ) → k < n → f k �
 count-none zero f e = refl
 count-none (suc n) f e = omega (arith, count-none n f (λ k l. e k (omega arith)), ap one_if (e n (omega arith)))
 
+pub count-most : (n : ℕ) (f : ℕ → Bool) → count_below n f ≤ n
+count-most zero f = omega arith
+count-most (suc n) f = let r = count-most n f in one (f n) r
+  where
+    one : {a n : ℕ} (t : Bool) → a ≤ n → a + one_if t ≤ suc n
+    one true l = omega (arith, l)
+    one false l = omega (arith, l)
+
 one_le : (a b : Bool) → (a ≡ true → b ≡ true) → one_if a ≤ one_if b
 one_le true b h = omega (arith, ap one_if (h refl))
 one_le false b h = omega arith

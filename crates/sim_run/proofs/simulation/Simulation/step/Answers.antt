@@ -2,7 +2,6 @@
 use Rattle.std.proofs.Common.{rules, ◌≡◌, ◌≢◌, ◌<◌, List, ℕ, get_or, length, take, ◌++◌, drop, set, refl, sym, ap, ◌∙◌, length-set}
 use mathlib.Core.Option.{some, some-injective}
 use lib.ListN.{get_elem?}
-use Rattle.atomic_table.proofs.Lists.{at_index}
 use Rattle.tree_words.specs.declared.steps.Op.{Op}
 use Rattle.tree_words.specs.declared.steps.Op.TheVariants.{Done}
 use Rattle.std.specs.Prelude.{slice_index}
@@ -10,6 +9,7 @@ use Rattle.arena_rule.specs.Afters.{answer_of, word_of}
 use Rattle.arena_rule.specs.Rule.{words_after}
 use Rattle.walker.specs.Machine.{op_of}
 use Rattle.walker.specs.declared.machine.Walker.{Walker}
+use Rattle.sim_run.proofs.Zips.{at-index}
 use Rattle.sim_run.proofs.Stepping.{can-apply, may-take, goes-on, goes-down}
 use Rattle.sim_run.proofs.simulation.Simulation.step.Goals as goal
 use Rattle.std.proofs.lemmas.List.{take_at}
@@ -19,7 +19,7 @@ returns-then-eq-clause-step c =
     let done : c.op-op.result ≡ Done = search rules in (
       c.index.result.now,
       record {
-        at = at_index c.args.self.now.walkers.items c.args.id c.index.result.now c.requires.id c.index.ensures;
+        at = at-index c.args.self.now.walkers.items c.args.id c.index.result.now c.requires.id c.index.ensures;
         finished = sym c.op-op.ensures.is ∙ done;
         same = refl;
       },
@@ -29,29 +29,29 @@ pub apply-answer-requires-clause-within : goal.apply-answer-requires-clause-with
 apply-answer-requires-clause-within c =
     let w : Walker = c.index.result.now in
     (can-apply c.args.self.now.shape c.args.self.now.words.items c.args.self.now.walkers.items c.requires.underway c.args.id w
-    (at_index c.args.self.now.walkers.items c.args.id w c.requires.id c.index.ensures) c.op-op.result c.op-op.ensures.is c.deref_mut.result.now c.deref_mut.ensures.value).0
+    (at-index c.args.self.now.walkers.items c.args.id w c.requires.id c.index.ensures) c.op-op.result c.op-op.ensures.is c.deref_mut.result.now c.deref_mut.ensures.value).0
 
 pub apply-answer-requires-clause-room : goal.apply-answer-requires-clause-room
 apply-answer-requires-clause-room c =
     let w : Walker = c.index.result.now in
     (can-apply c.args.self.now.shape c.args.self.now.words.items c.args.self.now.walkers.items c.requires.underway c.args.id w
-    (at_index c.args.self.now.walkers.items c.args.id w c.requires.id c.index.ensures) c.op-op.result c.op-op.ensures.is c.deref_mut.result.now c.deref_mut.ensures.value).1
+    (at-index c.args.self.now.walkers.items c.args.id w c.requires.id c.index.ensures) c.op-op.result c.op-op.ensures.is c.deref_mut.result.now c.deref_mut.ensures.value).1
 
 -- the walker is lent twice
 same-op : (walkers : List Walker) (id : ℕ) (w u : Walker) (op : Op) → id < length walkers → w ≡ get_or walkers id w → u ≡ get_or walkers id u → op ≡ op_of w → op ≡ op_of u
-same-op walkers id w u op l e d is = is ∙ ap op_of (some-injective w u (sym (at_index walkers id w l e) ∙ at_index walkers id u l d))
+same-op walkers id w u op l e d is = is ∙ ap op_of (some-injective w u (sym (at-index walkers id w l e) ∙ at-index walkers id u l d))
 
 pub got-requires : goal.got-requires
 got-requires c =
     let walkers = c.args.self.now.walkers.items in
     let w : Walker = c.index_mut.result.now in
-    may-take c.args.self.now.shape c.args.self.now.words.items walkers c.requires.underway c.args.id w (at_index walkers c.args.id w c.requires.id c.index_mut.ensures.value)
+    may-take c.args.self.now.shape c.args.self.now.words.items walkers c.requires.underway c.args.id w (at-index walkers c.args.id w c.requires.id c.index_mut.ensures.value)
     c.op-op.result (same-op walkers c.args.id c.index.result.now w c.op-op.result c.requires.id c.index.ensures c.index_mut.ensures.value c.op-op.ensures.is)
     c.deref_mut.result.now c.deref_mut.ensures.value c.apply-answer.result c.apply-answer.ensures.answer
 
 -- the words of the vector are those that the step left
 at : (c : goal.After-self-2-1) → get_elem? c.args.self.now.walkers.items c.args.id ≡ some c.index_mut.result.now
-at c = at_index c.args.self.now.walkers.items c.args.id c.index_mut.result.now c.requires.id c.index_mut.ensures.value
+at c = at-index c.args.self.now.walkers.items c.args.id c.index_mut.result.now c.requires.id c.index_mut.ensures.value
 
 is : (c : goal.After-self-2-1) → c.op-op.result ≡ op_of c.index_mut.result.now
 is c = same-op c.args.self.now.walkers.items c.args.id c.index.result.now c.index_mut.result.now c.op-op.result c.requires.id c.index.ensures c.index_mut.ensures.value c.op-op.ensures.is
