@@ -19,7 +19,8 @@
 //!
 //! A faster loop takes a [`Scan`] or a [`Climb`] out ([`Walker::scan`], [`Walker::climb`]), makes
 //! its steps, and puts it back ([`Walker::put_scan`], [`Walker::put_climb`]): the steps are the
-//! same.
+//! same. Of a scan it may make the three looks at a child together ([`Scan::child_ops`],
+//! [`Scan::got_child`]).
 //!
 //! **What is proved.** `op` and `got` are the machine of specs/Machine.antt. Where a view belongs
 //! to the walker (specs/Belongs.antt), it fits `op`; and after an answer that the step may give,
