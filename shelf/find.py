@@ -15,7 +15,6 @@ HEXD names the program; where it isn't set that is bin/hexd. Nothing here is pro
 """
 
 import argparse
-import lzma
 import signal
 import subprocess
 import sys
@@ -24,7 +23,7 @@ from pathlib import Path
 
 from assembly import MOST_LINES, certificate
 from grids import Grid
-from openings import ENDING, KINDS, SHELF, opening_named, openings_of
+from openings import ENDING, KINDS, SHELF, can_unpack, opening_named, openings_of
 from search import Position, Search
 from sessions import COLOURS, HEXD, Session
 
@@ -76,6 +75,8 @@ def accepted(text, kind):
 
 def write(path, text):
     """A file that is there is whole: it gets its name at the end."""
+    import lzma
+
     part = path.with_name(path.name + ".part")
     part.write_bytes(lzma.compress(text.encode(), preset=9 | lzma.PRESET_EXTREME))
     part.replace(path)
@@ -124,6 +125,9 @@ def main():
     if words.list:
         print(*words.openings, sep="\n")
         return 0
+    if not can_unpack():
+        print("shelf/find.py: this python3 has no lzma, which compresses certificates", file=sys.stderr)
+        return 1
     words.out.mkdir(parents=True, exist_ok=True)
     sys.setrecursionlimit(DEPTH)
     clock, searches, missing = Clock(words.seconds), {}, 0

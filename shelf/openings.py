@@ -75,6 +75,20 @@ def listed():
     return {opening_named(name): Listed(*words, int(lines)) for name, *words, lines in rows}
 
 
+def opening_of(path):
+    """The opening that a file is named for, or None."""
+    return opening_named(path.name.removesuffix(".xz").removesuffix(".cert"))
+
+
+def can_unpack():
+    """Whether this Python has lzma, which some lack."""
+    try:
+        import lzma  # noqa: F401
+    except ImportError:
+        return False
+    return True
+
+
 def text_of(path):
     """The bytes of a certificate, unpacked where the file is compressed."""
     if path.suffix != ".xz":

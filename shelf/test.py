@@ -24,8 +24,6 @@ sys.path.insert(0, str(SHELF.parent / "tools"))
 import second_checker
 
 HEAD = 5
-# find.py is under way after so many seconds, and ends within so many.
-START_SECONDS, END_SECONDS = 2, 30
 # After b2 and b1 Black is joined with the first row, and with the last one by b3 or a3.
 BLACK_TO_MOVE = """hexcert 2
 size 3
@@ -151,16 +149,17 @@ def expect_found(folder):
 
 
 def expect_interrupted(folder):
-    """After Ctrl-C it ends in order, with no file."""
-    words = [SHELF / "find.py", "--out", folder, "7-b3"]
-    process = subprocess.Popen(words, stdout=subprocess.PIPE, stderr=subprocess.STDOUT, text=True)
-    try:
-        process.communicate(timeout=START_SECONDS)
-    except subprocess.TimeoutExpired:
-        process.send_signal(signal.SIGINT)
-    said = process.communicate(timeout=END_SECONDS)[0]
-    fits = process.returncode == 130 and said.startswith("7-b3: open; ") and said.count("\n") == 1
-    expect(fits and not list(folder.iterdir()), f"find.py after Ctrl-C: status {process.returncode}, {said!r}")
+    """After Ctrl-C it ends in order: what it had found is there, and no part of another file."""
+    words = [SHELF / "find.py", "--out", folder, "3-a1", "7-b3"]
+    process = subprocess.Popen(words, stdout=subprocess.PIPE, stderr=subprocess.PIPE, text=True)
+    first = process.stdout.readline()
+    process.send_signal(signal.SIGINT)
+    rest, errors = process.communicate()
+    # It may be ended before it begins with the second opening.
+    fits = first.startswith("3-a1: white wins") and (rest == "" or rest.startswith("7-b3: open; "))
+    expect(fits and "Traceback" not in errors, f"find.py after Ctrl-C: {first!r}, {rest!r}, {errors!r}")
+    expect(process.returncode == 130, f"find.py after Ctrl-C: status {process.returncode}")
+    expect([path.name for path in folder.iterdir()] == [f"3-a1{ENDING}"], "find.py after Ctrl-C: other files")
 
 
 def main():
