@@ -1,6 +1,5 @@
--- Laws for the layers above.
-pub mod Ways
 -- Steps of this crate's own proofs.
+mod Ways
 mod Choices
 mod LinkLaws
 mod Standings
