@@ -35,6 +35,8 @@ pub mod AddPlayout
 pub mod InBlock
 pub mod SiteLaws
 pub mod Verifying
+pub mod CutAreas
+pub mod CutTexts
 pub mod TextLists
 pub mod OneList
 pub mod OneGrown
