@@ -120,6 +120,10 @@ def main():
     audit("a root block moved by 489", moved(one, 489, 0), b"yes 1\n")
     audit("a root block moved by 100, and NEXT 516", moved(one, 100, 389), b"yes 1\n")
     audit("NEXT 516 behind a root block at the front", moved(one, 0, 489), b"no 0 6\n")
+    # Short texts that claim the largest tree, one behind the other.
+    claims = two_walks_on_one_cell(2)
+    claims = claims[:96] + struct.pack("<Q", 16_777_216) + claims[104:]
+    audit("many claims of a large tree", claims * 20_000, b"yes 20000\n")
     for line in wrong:
         print("examples/audit_rows.py:", line)
     return 1 if wrong else 0

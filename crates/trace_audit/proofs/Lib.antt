@@ -42,3 +42,5 @@ mod OneGrown
 mod OneFlaw
 mod OneVerdict
 mod TracesTold
+pub mod CutAreas
+pub mod CutTexts

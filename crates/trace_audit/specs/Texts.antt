@@ -1,8 +1,9 @@
 -- Words and texts in bytes. No clause of a public call cites this.
-use Rattle.std.specs.Prelude.{◌≡◌, ℕ, ◌+◌, ◌*◌, ◌≤◌, List, ◌++◌, length, take, drop, codes}
+use Rattle.std.specs.Prelude.{◌≡◌, ℕ, ◌+◌, ◌-◌, ◌*◌, ◌≤◌, List, ◌++◌, length, min, take, drop}
+use Rattle.std.specs.Prelude.{replicate, codes}
 use Rattle.tree_words.specs.Closing.{ClosedTree}
 use Rattle.tree_words.specs.Settings.{Setting, IsSetting}
-use Rattle.tree_words.specs.Words.{area_at, end_of}
+use Rattle.tree_words.specs.Words.{area_at, end_of, next_in}
 use Rattle.trace_audit.specs.Traces.{bytes_of, fields_of, trace_text}
 use Rattle.trace_audit.specs.Told.{AreWords, IsReadTree}
 use Rattle.trace_audit.specs.declared.parsing.Text.{Text}
@@ -44,13 +45,31 @@ pub record IsFront (bytes : List ℕ) (s : Setting) (count : ℕ) : Type 0 where
   pub most : count ≤ end_of s
   pub long : FRONT_BYTES + WORD_BYTES * count ≤ length bytes
 
+-- the shape with an area of so many words
+abbrev pub with_area : Setting → ℕ → Setting
+with_area s words = record s { knobs = record s.knobs { words = words } }
+
+-- The shape c is that of s with an area that may end earlier, but not before all words are in front
+-- of its end that are written, and these words are those up to there.
+pub record IsCut (s : Setting) (words : List ℕ) (c : Setting) : Type 0 where
+  pub area : c ≡ with_area s c.knobs.words
+  pub long : length words ≡ end_of c
+  pub less : end_of c ≤ end_of s
+  pub enough : min (next_in words) (end_of s) ≤ end_of c
+
+-- all words of a tree of this shape, where these are the first and the others are 0
+abbrev pub all_words : Setting → List ℕ → List ℕ
+all_words s words = words ++ replicate (end_of s - length words) 0
+
 -- the tree of what was read
 abbrev pub closed_tree_of : Text → ClosedTree
-closed_tree_of text = record { shape = text.shape; words = text.words.items }
+closed_tree_of text =
+    record { shape = text.shape; words = all_words text.shape text.words.items }
 
 -- what was read is a tree as it is read, and the bytes begin with its text, of so many bytes
 pub record IsText (bytes : List ℕ) (text : Text) : Type 0 where
   pub read : IsReadTree (closed_tree_of text)
+  pub cut : IsCut text.shape text.words.items text.cut
   pub most : text.bytes ≤ length bytes
   pub least : FRONT_BYTES ≤ text.bytes
   pub begins : bytes ≡ trace_text (closed_tree_of text) ++ drop text.bytes bytes

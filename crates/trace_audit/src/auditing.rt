@@ -58,7 +58,7 @@ pub fn audit(alloc: Global, bytes: &[u8]) -> Result<Audit, Memory>
                 why: Flaw::BadForm,
             });
         };
-        if let Some(why) = first_failure(alloc, &text.shape, &text.words)? {
+        if let Some(why) = first_failure(alloc, &text.cut, &text.words)? {
             return Ok(Audit::No { tree, why });
         }
         at += text.bytes;

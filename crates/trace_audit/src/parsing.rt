@@ -4,17 +4,18 @@ ghost use Rattle.std.specs.Prelude.{◌≡◌, ℕ, ◌+◌, ◌*◌, ◌<◌, �
 ghost use Rattle.std.specs.Prelude.{length, slice_index, take, drop};
 ghost use Rattle.std.specs.Int.{w64, to_le_bytes};
 ghost use Rattle.trace_audit.specs.Texts.{AreFields, IsFront, IsText, LacksFields, MayFollow};
-ghost use Rattle.trace_audit.specs.Texts.{StandAt};
+ghost use Rattle.trace_audit.specs.Texts.{StandAt, with_area};
+ghost use Rattle.tree_words.specs.Words.{area_at, end_of};
 ghost use Rattle.trace_audit.specs.Told.{AreWords};
 ghost use Rattle.trace_audit.specs.Verdicts.{BeginsWithNoTree};
 
 use super::fields::shape_of;
 use super::refusals::Memory;
-use super::texts::{FIELDS, WORD_BYTES, written_count};
+use super::texts::{FIELDS, WORD_BYTES};
 use super::zeros::zeros;
 use std::alloc::Global;
-use tree_words::Shape;
-use tree_words::layout::FRONT_WORDS;
+use tree_words::layout::{FRONT_WORDS, NEXT_AT};
+use tree_words::{Knobs, LEAST_WORDS, Shape};
 
 /// The name of a text and its fields have so many bytes.
 const FRONT_BYTES: usize = WORD_BYTES + WORD_BYTES * FIELDS;
@@ -22,10 +23,13 @@ const FRONT_BYTES: usize = WORD_BYTES + WORD_BYTES * FIELDS;
 /// The number of the words that follow is the last field.
 const COUNT_FIELD: usize = FIELDS - 1;
 
-/// What is read from a text: a shape, its words, and how many bytes the text has.
+/// What is read from a text: the shape that it tells; the same shape with an area that ends behind
+/// the written words, and the words up to there, so that no memory is taken for words of which the
+/// text has none; and how many bytes the text has.
 #[derive(Drop)]
 pub(crate) struct Text {
     pub(crate) shape: Shape,
+    pub(crate) cut: Shape,
     pub(crate) words: Vec<u64>,
     pub(crate) bytes: usize,
 }
@@ -120,6 +124,23 @@ fn read_front(bytes: &[u8]) -> Option<Front>
     Some(Front { shape, count })
 }
 
+// The shape with an area that ends behind so many words of the tree, or is the least one.
+fn cut_at(shape: &Shape, count: usize) -> Shape
+    requires least { area_at shape.now ≤ count }
+    requires most { count ≤ end_of shape.now }
+    ensures area { result ≡ with_area shape.now result.knobs.words }
+    ensures less { end_of result ≤ end_of shape.now }
+    ensures enough { count ≤ end_of result }
+{
+    let knobs = shape.knobs();
+    let written = count - knobs.playouts as usize - FRONT_WORDS;
+    let cut = Knobs {
+        words: (written as u32).max(LEAST_WORDS),
+        ..*knobs
+    };
+    Shape::make(shape.board(), shape.colour(), shape.allowed(), &cut)
+}
+
 /// The text that the bytes begin with; `None` where they begin with none.
 pub(crate) fn read_text(alloc: Global, bytes: &[u8]) -> Result<Option<Text>, Memory>
     ensures { IfOk result
@@ -128,13 +149,17 @@ pub(crate) fn read_text(alloc: Global, bytes: &[u8]) -> Result<Option<Text>, Mem
     let Some(front) = read_front(bytes) else {
         return Ok(None);
     };
-    let mut words = zeros(alloc, front.shape.total() as usize)?;
+    // What each shape keeps of itself.
+    let _board = front.shape.board();
+    let cut = cut_at(&front.shape, front.count);
+    let mut words = zeros(alloc, cut.total() as usize)?;
     read_words(bytes, FRONT_BYTES, &mut words, front.count);
-    if written_count(&words) != front.count {
+    if words[NEXT_AT].min(u64::from(front.shape.total())) != front.count as u64 {
         return Ok(None);
     }
     Ok(Some(Text {
         shape: front.shape,
+        cut,
         words,
         bytes: FRONT_BYTES + WORD_BYTES * front.count,
     }))

@@ -45,7 +45,7 @@ pub fn give_text<W: Link>(
 }
 
 /// How many of the words are written: all below NEXT.
-pub(crate) fn written_count(words: &[u64]) -> usize
+fn written_count(words: &[u64]) -> usize
     requires { 1 ≤ length words.now }
     ensures value { result ≡ written_count words.now }
     ensures range { result ≤ length words.now }

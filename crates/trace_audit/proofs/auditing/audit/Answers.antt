@@ -2,6 +2,7 @@ use Rattle.std.proofs.Common.{ℕ, ◌+◌, List, drop, length-drop, refl, subst
 use Rattle.tree_words.specs.Closing.{ClosedTree, IsClosed}
 use Rattle.trace_audit.specs.Texts.{IsText, closed_tree_of}
 use Rattle.trace_audit.specs.Verdicts.{BeginsWithTree, FailsFirst}
+use Rattle.trace_audit.proofs.CutAreas.{cut_fails, cut_closed}
 use Rattle.trace_audit.proofs.Matches.{if_none, if_some}
 use Rattle.trace_audit.proofs.TextLists.{bad_form, flaw_is, rest_all, text_stands, texts_more}
 use Rattle.trace_audit.proofs.auditing.audit.Goals as goal
@@ -20,7 +21,7 @@ returns-in-Some-2 c =
       drop c.texts.at c.args.bytes.now,
       c.texts.invariant.2,
       flaw_is (drop c.texts.at c.args.bytes.now) c.in-Some-2.why (closed_tree_of c.in-Some.text) (text_stands (drop c.texts.at c.args.bytes.now) c.in-Some.text t)
-          (subst (λ (l : List ℕ). FailsFirst c.in-Some.text.shape l c.in-Some-2.why) c.deref.ensures.value f),
+          (cut_fails c.in-Some.text.shape c.in-Some.text.cut c.in-Some.text.words.items t.cut c.in-Some-2.why (subst (λ (l : List ℕ). FailsFirst c.in-Some.text.cut l c.in-Some-2.why) c.deref.ensures.value f)),
     )
 
 pub texts-preserved : goal.texts-preserved
@@ -32,5 +33,6 @@ texts-preserved c =
     let least = t.least in (
       omega (arith, most, length-drop c.texts.at c.args.bytes.now, c.texts-test.true),
       omega (arith, least, c.texts.invariant.1),
-      texts_more c.texts.tree c.texts.at (c.texts.at + c.in-Some.text.bytes) c.args.bytes.now c.in-Some.text c.texts.invariant.2 t (subst (λ (l : List ℕ). IsClosed c.in-Some.text.shape l) c.deref.ensures.value f) refl,
+      texts_more c.texts.tree c.texts.at (c.texts.at + c.in-Some.text.bytes) c.args.bytes.now c.in-Some.text c.texts.invariant.2 t
+          (cut_closed c.in-Some.text.shape c.in-Some.text.cut c.in-Some.text.words.items t.cut (subst (λ (l : List ℕ). IsClosed c.in-Some.text.cut l) c.deref.ensures.value f)) refl,
     )
