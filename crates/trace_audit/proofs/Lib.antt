@@ -42,5 +42,5 @@ mod OneGrown
 mod OneFlaw
 mod OneVerdict
 mod TracesTold
-pub mod CutAreas
-pub mod CutTexts
+mod CutAreas
+mod CutTexts
