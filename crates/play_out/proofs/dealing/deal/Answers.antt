@@ -14,19 +14,19 @@ pairs-init c =
     let value = c.stones-stones.ensures.value in
     elim c.if-i-gt0.branch [
       | then-i-gt0+then-i-eq0 w ↦ record {
-          shuffling = same_shuffling start first w.settle.new.cells w.settle.new.generator _ _ (length start - 1) _ w.cells-is w.generator-is w.i-is
-              (next_shuffling start first start first w.settle.new.generator w.settle.new.cells (length start) (length start - 1) (first_shuffling start first) (omega (arith, w.if-i-gt0.true))
-              w.settle.ensures.order w.settle.ensures.same w.settle.ensures.count);
-          dealt = same-dealt before w.settle.new.cells _ (length start - 1) _ before _ w.cells-is w.i-is value
-              (dealt-even before start w.settle.new.cells (length start - 1) (omega (arith, w.if-i-gt0.true)) w.settle.ensures.count (omega (arith, w.if-i-gt0.true, w.if-i-eq0.true)) w.settle.ensures.later);
-        }
+        shuffling = same_shuffling start first w.settle.new.cells w.settle.new.generator _ _ (length start - 1) _ w.cells-is w.generator-is w.i-is
+            (next_shuffling start first start first w.settle.new.generator w.settle.new.cells (length start) (length start - 1) (first_shuffling start first) (omega (arith, w.if-i-gt0.true))
+            w.settle.ensures.order w.settle.ensures.same w.settle.ensures.count);
+        dealt = same-dealt before w.settle.new.cells _ (length start - 1) _ before _ w.cells-is w.i-is value
+            (dealt-even before start w.settle.new.cells (length start - 1) (omega (arith, w.if-i-gt0.true)) w.settle.ensures.count (omega (arith, w.if-i-gt0.true, w.if-i-eq0.true)) w.settle.ensures.later);
+      }
       | else-i-gt0 w ↦ record {
-          shuffling = same_shuffling start first start first _ _ (length start) _ w.cells-is w.generator-is w.i-is (first_shuffling start first);
-          dealt = same-dealt before start _ (length start) _ before _ w.cells-is w.i-is value (elim w.else-i-gt0.branch [
-            | else-i-gt0-via-then-i-gt0+else-i-eq0 u ↦ dealt-odd before start (length start) refl (λ z. absurd (omega (arith, z, u.if-i-gt0.true))) (omega (arith, u.if-i-eq0.false))
-            | else-i-gt0-via-else-i-gt0 u ↦ dealt-none before start (length start) refl (omega (arith, u.if-i-gt0.false))
-          ]);
-        }
+        shuffling = same_shuffling start first start first _ _ (length start) _ w.cells-is w.generator-is w.i-is (first_shuffling start first);
+        dealt = same-dealt before start _ (length start) _ before _ w.cells-is w.i-is value (elim w.else-i-gt0.branch [
+          | else-i-gt0-via-then-i-gt0+else-i-eq0 u ↦ dealt-odd before start (length start) refl (λ z. absurd (omega (arith, z, u.if-i-gt0.true))) (omega (arith, u.if-i-eq0.false))
+          | else-i-gt0-via-else-i-gt0 u ↦ dealt-none before start (length start) refl (omega (arith, u.if-i-gt0.false))
+        ]);
+      }
     ]
 
 pub pairs-preserved : goal.pairs-preserved
