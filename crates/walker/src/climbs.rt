@@ -156,12 +156,17 @@ impl Climb {
     pub fn got(&mut self)
         ensures { self.new ≡ adds_after self.old }
     {
-        let mut half = self.half;
-        if half.left == 0 {
+        let left = self.half.left;
+        if left == 0 {
             return;
         }
-        half.left ^= 1 << half.left.trailing_zeros();
-        *self = Climb::of_halves(self.won, half, self.next);
+        let rest = left ^ 1 << left.trailing_zeros();
+        if rest != 0 {
+            self.half.left = rest;
+        } else {
+            self.half = self.next;
+            self.next = Half::none();
+        }
     }
 
     /// Whether no add is left.
