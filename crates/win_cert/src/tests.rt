@@ -1,6 +1,9 @@
 //! What no clause says: the certificates V1, V2 and V3, texts that are none, and ample memory.
 
-use super::{CertError, LATEST_VERSION, raise, read, write};
+use super::{CertError, End, LATEST_VERSION, Line, lines_onto, raise, read, write};
+use hex_board::Board;
+use hex_cells::{CellSet, Colour, Size};
+use hsearch::connect;
 use std::alloc::Global;
 use std::rt::HostRuntime;
 use std::test::Fail;
@@ -121,5 +124,26 @@ fn a_line_too_many(rt: HostRuntime) -> Result<(), Fail> {
     text.truncate(length);
     text.extend_from_slice(b"adj a1 edge1\nx")?;
     assert!(rt; matches!(read(rt.alloc(), &text), Err(CertError::TooManyLines)));
+    Ok(())
+}
+
+// The three lines of the board with one cell, after a line that stands there.
+#[test]
+fn lines_after_others(rt: HostRuntime) -> Result<(), Fail> {
+    let size = Size::of(1).ok_or("a size")?;
+    let board = Board::of(size, CellSet::none(), CellSet::none());
+    let Ok(report) = connect(rt.alloc(), &board, Colour::Black) else {
+        return Err("memory".into());
+    };
+    let store = report.store();
+    assert_eq!(rt; store.entries().len(), 3);
+    let mut lines = Vec::new(rt.alloc());
+    lines.push(Line::Put(CellSet::none()))?;
+    assert_eq!(rt; lines_onto(rt.alloc(), store, 2, &mut lines)?, 3);
+    assert_eq!(rt; lines.len(), 4);
+    assert!(rt; matches!(&lines[0], Line::Put(_)));
+    assert!(rt; matches!(&lines[1], Line::Adj(End::First, End::At(_))));
+    assert!(rt; matches!(&lines[2], Line::Adj(End::Second, End::At(_))));
+    assert!(rt; matches!(&lines[3], Line::Key(1, 2)));
     Ok(())
 }
