@@ -87,23 +87,31 @@ class Reporter:
         answer = self.engine.ask(line)
         return answer.text if answer.done else None
 
-    def thought(self, mover):
+    def may_swap(self, mover, stones):
+        """Whether White may swap, by this move or by the next. That it is legal is hexd's answer, which is taken back."""
+        if mover == "b" or self.ask(f"play w {SWAP}") is None:
+            return mover == "b" and not stones
+        self.ask("undo")
+        return True
+
+    def thought(self, mover, swap):
         """What hexd says with this player to move, in the words of the page; None once the game is over."""
         cell = self.ask(f"genmove {mover}")
         if cell is None:
             return None
         said = {"mover": mover, "cell": cell, "mustplay": self.ask("mustplay"), "report": self.ask("search-report")}
         said["certificate"] = certificate = self.ask("wincert")
+        said["swap"] = swap
         said["checked"] = certificate and htp.check(self.program, f"{certificate}\n".encode(), CHECK_SECONDS)
         self.ask("undo")
         return said
 
     def position(self, mover, step, last):
-        winner = self.ask("winner")
+        winner, stones = self.ask("winner"), stones_of(self.ask("showboard"))
         return {
-            "stones": (stones := stones_of(self.ask("showboard"))),
+            "stones": stones,
             "winner": None if winner == "none" else winner[0],
-            "thought": self.thought(mover),
+            "thought": self.thought(mover, self.may_swap(mover, stones)),
             "step": step,
             # After a swap the one stone that lies there is the last one.
             "last": stones[0][0] if last == SWAP else last,

@@ -27,7 +27,7 @@ sys.path.insert(0, str(HERE))
 # Debian's packages are for this Python, which need not be the first on the path.
 SYSTEM_PYTHON = "/usr/bin/python3"
 # Longer than any run takes; then something hangs.
-LIMIT_SECONDS = 600
+LIMIT_SECONDS = 420
 
 
 def missing():

@@ -10,8 +10,8 @@ const STEP = RADIUS * Math.sqrt(3);
 const BAND = 0.98;
 const CUT = 0.3;
 const LABELS = 1.42;
-// From this share of the visits on a cell shows their number.
-const LEAST_SHARE = 0.015;
+// From this share of the visits on a cell is shaded and shows their number.
+const LEAST_SHARE = 0.01;
 // What a picture keeps of the style sheet.
 const KEPT_STYLE = ['fill', 'fill-opacity', 'stroke', 'stroke-width', 'stroke-opacity', 'stroke-linejoin', 'opacity',
   'font-family', 'font-size', 'font-weight', 'text-anchor', 'dominant-baseline', 'paint-order'];
@@ -170,14 +170,15 @@ class BoardView {
     const inner = (name, radius) => svgElement('polygon', {class: name, points: hexagon(x, y, radius)});
     const round = (name, radius) => svgElement('circle', {class: name, cx: x.toFixed(2), cy: y.toFixed(2), r: radius});
     const made = [];
-    if (seen?.share > 0) made.push(shadeOf(inner('shade', RADIUS - 0.5), seen.share));
+    if (seen?.share >= LEAST_SHARE) made.push(shadeOf(inner('shade', RADIUS - 0.5), seen.share));
     if (view.carrier?.has(vertex)) made.push(inner('carrier', RADIUS - 3));
     if (stone) made.push(round(`stone ${stone}`, RADIUS * 0.72));
     if (view.ends?.has(vertex)) made.push(round('end', RADIUS * 0.5));
-    if (view.middle === vertex) made.push(diamond(x, y));
     if (number !== undefined) made.push(wordsAt(`number ${stone}`, number, x, y, number > 99 ? 10 : 12));
     else if (seen?.share >= LEAST_SHARE) made.push(wordsAt(`count ${stone ?? ''}`, seen.visits, x, y, countSize(seen.visits)));
-    if (view.last === vertex && stone) {
+    if (view.middle === vertex) {
+      made.push(diamond(x, y));
+    } else if (view.last === vertex && stone) {
       made.push(number !== undefined || seen ? round('last ring', RADIUS * 0.78) : round('last', RADIUS * 0.22));
     }
     if (view.chosen === vertex && !stone) made.push(inner('chosen', RADIUS - 2));

@@ -148,9 +148,10 @@ class Game {
 
   async ask(mover, cell) {
     const mustplay = await this.session.ask('mustplay');
+    const swap = this.canSwap || (mover === 'b' && !this.steps.length && !this.start.length);
     const report = await this.session.tell('search-report'), certificate = await this.session.tell('wincert');
     const checked = certificate === null ? null : await this.session.check(`${certificate}\n`);
-    return readThought({mover, cell, mustplay, report, certificate, checked});
+    return readThought({mover, cell, swap, mustplay, report, certificate, checked});
   }
 
   /** Goes to a position of the line, by taking steps back or playing them again. */

@@ -39,7 +39,7 @@ class Play {
 
   /** After each change: what the shelf proves of an opening, the link in the address, and the page. */
   async settle() {
-    history.replaceState(null, '', `#${linkOf(this.game)}`);
+    keepAddress(`#${linkOf(this.game)}`);
     this.panel.opening = await this.provedOpening();
     this.draw();
   }
@@ -148,6 +148,15 @@ class Play {
       if (location.hash.length > 1) await this.game.load(recordOf(location.hash)).catch(fault => this.fail(fault));
     });
     document.body.dataset.ready = 'yes';
+  }
+}
+
+/** Puts the game into the address, so that a reload finds it. Some browsers refuse where it comes often in a short time. */
+function keepAddress(link) {
+  try {
+    history.replaceState(null, '', link);
+  } catch {
+    // The next change comes with its own.
   }
 }
 

@@ -5,8 +5,8 @@
 const PLOT = {width: 320, height: 110, left: 8, right: 8, top: 9, bottom: 9};
 
 /**
- * Draws the plot of `count` moves into an SVG. `points` are [position, {value, proved}] in rising order; `at` is the position
- * that is shown; `onPick` is called with the position that is clicked, and `wordsAt` tells a position for the pointer.
+ * Draws the plot of `count` moves into an SVG. `points` are [position, share] in rising order, as `blackShare` makes them;
+ * `at` is the position that is shown, and `onPick` is called with the position that is clicked.
  */
 function drawPlot(svg, {count, points, at = null, onPick = null}) {
   const last = Math.max(count, 1);
@@ -21,7 +21,7 @@ function drawPlot(svg, {count, points, at = null, onPick = null}) {
   if (at !== null) svg.append(svgElement('line', {class: 'now', x1: across(at), x2: across(at), y1: 4, y2: PLOT.height - 4}));
   const line = points.map(([position, {value}]) => [across(position), up(value)]);
   if (line.length > 1) svg.append(svgElement('polyline', {class: 'share', points: pointList(line)}));
-  points.forEach(([position, {value, proved}]) => svg.append(plotMark(across(position), up(value), position, value, proved)));
+  points.forEach(([position, share]) => svg.append(plotMark(across(position), up(share.value), position, share)));
   svg.onclick = onPick && (event => {
     const box = svg.getBoundingClientRect();
     const x = (event.clientX - box.left) / box.width * PLOT.width;
@@ -29,12 +29,13 @@ function drawPlot(svg, {count, points, at = null, onPick = null}) {
   });
 }
 
-function plotMark(x, y, position, value, proved) {
+function plotMark(x, y, position, {value, proved, swap}) {
   const size = proved ? 3.6 : 2.4;
   const mark = svgElement('rect', {class: proved ? 'mark proved' : 'mark', x: (x - size).toFixed(2), y: (y - size).toFixed(2),
     width: 2 * size, height: 2 * size, rx: proved ? 0 : size});
   if (proved) mark.setAttribute('transform', `rotate(45 ${x.toFixed(2)} ${y.toFixed(2)})`);
-  const words = proved ? `${value ? 'Black' : 'White'} wins, proved` : `${percent(value)} for Black`;
+  const unless = swap ? ' unless White swaps' : '';
+  const words = proved ? `${value ? 'Black' : 'White'} wins${unless}, proved` : `${percent(value)} for Black`;
   mark.append(svgElement('title', {}, `after ${counted(position, 'move')}: ${words}`));
   return mark;
 }

@@ -10,6 +10,8 @@ const moveWords = ({colour, move}) => `${COLOURS[colour]} ${move === SWAP ? 'swa
 function faults(at) {
   const {step} = report.positions[at], thought = report.thoughts[at], after = report.thoughts[at + 1];
   if (!step || !thought || thought.mover !== step.colour) return [];
+  // What is proved is of stones: a first move that would have been swapped gives nothing away, and a swap is no stone.
+  if (thought.swap && (thought.mover === 'b' || step.move === SWAP)) return [];
   if (thought.win && after?.win && after.mover !== thought.mover) return ['This move gives the win away.'];
   if (!thought.win && !thought.lost && thought.threats.length && !thought.allowed.has(step.move)) {
     return [`This move is outside a threat: after it ${COLOURS[other(step.colour)]} wins.`];

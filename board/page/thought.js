@@ -2,9 +2,12 @@
 // What hexd said of one position: its plan (mustplay), its search (search-report) and its certificate (wincert), read from
 // the answers and told in words.
 
-/** Reads the answers. `mover` is 'b' or 'w', `cell` the move that hexd chose; answers that failed are null. */
-function readThought({mover, cell, mustplay, report, certificate, checked}) {
-  const thought = {mover, cell, certificate, checked, win: false, lost: false, allowed: null, threats: [], rows: []};
+/**
+ * Reads the answers. `mover` is 'b' or 'w', `cell` the move that hexd chose; answers that failed are null. What hexd proves is
+ * of stones; `swap` says that White may still swap, by this move or by the next.
+ */
+function readThought({mover, cell, swap, mustplay, report, certificate, checked}) {
+  const thought = {mover, cell, swap, certificate, checked, win: false, lost: false, allowed: null, threats: [], rows: []};
   for (const line of mustplay.split('\n')) {
     const [word, ...rest] = line.split(' ');
     if (word === 'win') thought.win = true;
@@ -39,23 +42,30 @@ function dimmedOf(thought, size) {
   return dimmed;
 }
 
-/** The share of wins for Black by what hexd said: {value, proved}, a proved win being at the rim; or null. */
+/** The share of wins for Black by what hexd said: {value, proved, swap}, a proved win being at the rim; or null. */
 function blackShare(thought) {
-  if (thought.win || thought.lost) return {value: (thought.mover === 'b') === thought.win ? 1 : 0, proved: true};
+  if (thought.win || thought.lost) {
+    return {value: (thought.mover === 'b') === thought.win ? 1 : 0, proved: true, swap: thought.swap && !isWhitesWin(thought)};
+  }
   const row = thought.rows.find(([vertex]) => vertex === thought.cell);
   if (!row || !row[1]) return null;
   const share = row[2] / row[1];
   return {value: thought.mover === 'b' ? share : 1 - share, proved: false};
 }
 
+const isWhitesWin = thought => thought.win && thought.mover === 'w';
+
 /** What hexd said, as sentences. */
 function thoughtWords(thought) {
+  const butSwap = thought.swap ? ' but a swap' : '';
   const mine = COLOURS[thought.mover], his = COLOURS[other(thought.mover)], said = [];
-  if (thought.win) return [`${mine} wins by ${thought.cell}: a certified win, against every reply.`];
+  if (thought.win) {
+    return [`${mine} wins by ${thought.cell}: a certified win, against every reply${isWhitesWin(thought) ? '' : butSwap}.`];
+  }
   if (thought.lost) {
-    said.push(`${mine} loses with every move: no cell lies in each of ${his}'s ${counted(thought.threats.length, 'threat')}.`);
+    said.push(`${mine} loses with every move${butSwap}: no cell lies in each of ${his}'s ${counted(thought.threats.length, 'threat')}.`);
   } else if (thought.threats.length) {
-    said.push(`${his} has ${counted(thought.threats.length, 'threat')}: every move outside the ${
+    said.push(`${his} has ${counted(thought.threats.length, 'threat')}: a stone outside the ${
       counted(thought.allowed.size, 'allowed cell')} loses.`);
   } else {
     said.push(`hexd sees no threat of ${his}'s, and searched all ${counted(thought.rows.length, 'cell')}.`);

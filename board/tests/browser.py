@@ -97,6 +97,10 @@ class Browser:
     def all(self, css):
         return self.driver.find_elements(By.CSS_SELECTOR, css)
 
+    def vertices(self, css):
+        """The cells of the board that are found."""
+        return self.run("return [...document.querySelectorAll(arguments[0])].map(cell => cell.dataset.vertex)", css)
+
     def text(self, css):
         return self.find(css).text
 

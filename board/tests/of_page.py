@@ -19,17 +19,17 @@ CERTIFIED = "5,c2,c3,d3"
 THREATS = "5,b4,w-a2,a5"
 
 
+def setUpModule():
+    Pages.server = Server()
+    unittest.addModuleCleanup(Pages.server.end)
+    Pages.browser = Browser()
+    unittest.addModuleCleanup(Pages.browser.end)
+
+
 class Pages(unittest.TestCase):
-    """One server and one browser for all tests of a class. After each the console has no error."""
+    """One server and one browser for all tests. After each the console has no error."""
 
     shots = None
-
-    @classmethod
-    def setUpClass(cls):
-        cls.server = Server()
-        cls.addClassCleanup(cls.server.end)
-        cls.browser = Browser()
-        cls.addClassCleanup(cls.browser.end)
 
     def setUp(self):
         self.browser.window(WIDE)
@@ -99,9 +99,7 @@ class Games(Pages):
         for move in range(61):
             if not re.search("to move", browser.text("#status")):
                 break
-            # Straight down column f where it is free, and else the first free cell.
-            free = [cell.get_attribute("data-vertex") for cell in browser.all("[data-vertex]:not(:has(.stone))")]
-            vertex = next((f"f{row}" for row in range(1, 12) if f"f{row}" in free), free[0])
+            vertex = browser.vertices("[data-vertex]:not(:has(.stone))")[0]
             self.play_by_keys(vertex) if move % 2 else browser.cell(vertex)
             self.assertIn(vertex, self.moves())
             if move == 3:
@@ -193,7 +191,7 @@ class Thoughts(Pages):
     def test_threats(self):
         browser = self.start(THREATS)
         browser.click("#hint")
-        self.soon(True, lambda: "Black has 2 threats: every move outside the 2 allowed cells loses." in browser.text("#words"))
+        self.soon(True, lambda: "Black has 2 threats: a stone outside the 2 allowed cells loses." in browser.text("#words"))
         self.soon(23, self.marks(".cell.dim"))
         browser.click("#show-mustplay")
         self.soon(0, self.marks(".cell.dim"))
@@ -210,13 +208,15 @@ class Thoughts(Pages):
         self.soon(set(), self.carrier)
 
     def carrier(self):
-        cells = self.browser.all("[data-vertex]:has(.carrier)")
-        return {cell.get_attribute("data-vertex") for cell in cells}
+        return set(self.browser.vertices("[data-vertex]:has(.carrier)"))
 
     def test_a_lost_board(self):
         browser = self.start("2,a2")
         browser.click("#hint")
-        self.soon(True, lambda: "White loses with every move" in browser.text("#words"))
+        self.soon(True, lambda: "White loses with every move but a swap" in browser.text("#words"))
+        browser = self.start("3,b2,a1,c1")
+        browser.click("#hint")
+        self.soon(True, lambda: "White loses with every move: no cell" in browser.text("#words"))
 
     def test_a_proved_opening(self):
         browser = self.start("5,a1")

@@ -8,7 +8,7 @@ from pathlib import Path
 
 from tests.support import LIMIT_SECONDS, ROOT, SMALL, dying
 
-# Black has a certified win before move 5, and White after it.
+# White has a certified win before move 4, Black after it, and White again after move 5.
 GAME = "(;FF[4]GM[11]SZ[5]PB[<b>&]C[a ';B[a1\\]'];B[c2];W[c3];B[d3];W[a1];B[a2];W[c4];B[d4];W[d2];B[b3];W[b4];B[a5];W[a4])"
 SWAPPED = "(;GM[11]SZ[3];B[b2];W[swap-pieces];B[a2];W[c1];B[resign])"
 
@@ -59,10 +59,10 @@ def in_browser(shots):
     from tests.browser import NARROW, WIDE, Browser
 
     class Opened(Reports):
-        def setUp(self):
-            super().setUp()
-            self.browser = Browser()
-            self.addCleanup(self.browser.end)
+        @classmethod
+        def setUpClass(cls):
+            cls.browser = Browser()
+            cls.addClassCleanup(cls.browser.end)
 
         def open(self, record):
             run = self.report(record)
@@ -79,6 +79,7 @@ def in_browser(shots):
             self.assertEqual(12, len(browser.all("#moves li")))
             self.assertTrue(browser.all("#plot .mark.proved"))
             self.assertIn("Checked by a second process: yes semi.", browser.text("#positions"))
+            self.assertEqual(2, browser.text("#positions").count("This move gives the win away."))
             self.assertEqual("a game.sgf", browser.text("h1"))
             self.shot("report-top")
             browser.run("document.getElementById('position-3').scrollIntoView()")
@@ -95,7 +96,14 @@ def in_browser(shots):
         def test_a_swapped_game(self):
             self.open(SWAPPED)
             self.assertEqual(5, len(self.browser.all(".position")))
-            self.assertIn("White swaps", self.browser.text("#positions"))
+            said = self.browser.text("#positions")
+            self.assertIn("a certified win, against every reply but a swap.", said)
+            self.assertIn("White loses with every move but a swap", said)
+            self.assertIn("White swaps", said)
+            # The swap and the move before it give nothing away; the two moves after it do.
+            self.assertEqual([], self.browser.all("#position-0 .bad, #position-1 .bad"))
+            self.assertIn("This move is outside a threat: after it White wins.", self.browser.text("#position-2"))
+            self.assertIn("This move gives the win away.", self.browser.text("#position-3"))
 
         test_a_report_stands_alone = test_what_is_refused = None
 

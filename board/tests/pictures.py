@@ -1,7 +1,8 @@
 """The pictures of the documents: screenshots of the page at work, small enough to be kept."""
 
 from tests.browser import Browser
-from tests.support import Server, until
+from tests.palette import small
+from tests.support import Server
 
 MOST_BYTES = 60_000
 WINDOW = (1240, 760)
@@ -35,16 +36,15 @@ def certificate(browser, address):
 
 def make(folder):
     """Makes the pictures in a folder."""
-    with Server("--playouts", "20000", "--workers", "4") as server:
+    with Server("--playouts", "50000", "--weight", "0") as server:
         browser = Browser()
         try:
             browser.window(WINDOW)
             for name, show in (("search", search), ("certificate", certificate)):
                 show(browser, server.address)
-                file = folder / f"{name}.png"
-                browser.shot(file)
-                until(file.exists, "the picture is there")
-                if file.stat().st_size > MOST_BYTES:
-                    raise AssertionError(f"{file} has {file.stat().st_size} bytes, and may have {MOST_BYTES}")
+                picture = small(browser.driver.get_screenshot_as_png())
+                if len(picture) > MOST_BYTES:
+                    raise AssertionError(f"{name} has {len(picture)} bytes, and may have {MOST_BYTES}")
+                (folder / f"{name}.png").write_bytes(picture)
         finally:
             browser.end()
