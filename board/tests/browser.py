@@ -136,5 +136,5 @@ class Browser:
         self.driver.save_screenshot(str(file))
 
     def faults(self):
-        """What the console says that is an error or a warning, since it was last asked."""
-        return [entry for entry in self.driver.get_log("browser") if entry["level"] in ("SEVERE", "WARNING")]
+        """What the console says that is an error, since it was last asked."""
+        return [entry for entry in self.driver.get_log("browser") if entry["level"] == "SEVERE"]
