@@ -1,0 +1,66 @@
+# For those who look for a Makefile: bin/hexd builds the program, and .ci/run checks everything.
+#
+#   make                                  builds the programs
+#   make check                            proves, tests and runs everything
+#   make install [PREFIX=..] [DESTDIR=..] installs the programs, their manual pages, completions and documents
+#   make uninstall [..]                   takes away what `make install` with the same words has put there
+#   make deb                              makes a Debian package in out/; its maintainer is DEBFULLNAME <DEBEMAIL>
+
+# Each program has its crate, a page in man/, three completions, and the words with which it does nothing but start.
+programs = hexd
+words_hexd = htp
+
+# What a user reads. README.md names these files as they lie here, so they keep their places.
+documents = README.md SECURITY.md docs/PROTOCOL.md docs/CERTIFICATES.md docs/TREE.md docs/PROMISES.md docs/GLOSSARY.md \
+    docs/pictures/search.png
+
+PREFIX = /usr/local
+bindir = $(PREFIX)/bin
+datadir = $(PREFIX)/share
+mandir = $(datadir)/man
+docdir = $(datadir)/doc/hexd
+bashdir = $(datadir)/bash-completion/completions
+zshdir = $(datadir)/zsh/site-functions
+fishdir = $(datadir)/fish/vendor_completions.d
+
+# Each installed file: its mode, its place here, and its place there.
+files = $(foreach name,$(programs),755:crates/$(name)/out/$(name):$(bindir)/$(name) \
+    644:man/$(name).6:$(mandir)/man6/$(name).6 \
+    644:completions/$(name).bash:$(bashdir)/$(name) \
+    644:completions/_$(name):$(zshdir)/_$(name) \
+    644:completions/$(name).fish:$(fishdir)/$(name).fish) \
+    $(foreach document,$(documents),644:$(document):$(docdir)/$(document))
+
+# The two commands of a file; the empty line at the end of each ends the command.
+part = $(word $1,$(subst :, ,$2))
+define install_file
+install -D -m $(call part,1,$1) $(call part,2,$1) "$(DESTDIR)$(call part,3,$1)"
+
+endef
+define remove_file
+rm -f "$(DESTDIR)$(call part,3,$1)"
+
+endef
+
+build: $(programs:%=build-%)
+
+# A start builds the program where it isn't fresh, and reads no command here.
+build-%:
+	bin/$* $(words_$*) </dev/null
+
+check:
+	.ci/run
+
+install: build
+	$(foreach file,$(files),$(call install_file,$(file)))
+
+# Folders that others use too stay.
+uninstall:
+	$(foreach file,$(files),$(call remove_file,$(file)))
+	for folder in /docs/pictures /docs ''; do rmdir "$(DESTDIR)$(docdir)$$folder" || exit 0; done 2>/dev/null
+
+# Where Debian has games and what belongs to its zsh.
+deb: build
+	tools/make_deb "$(or $(OUT),out)" PREFIX=/usr bindir=/usr/games zshdir=/usr/share/zsh/vendor-completions
+
+.PHONY: build check install uninstall deb
