@@ -12,6 +12,7 @@ It prints each move, and then on standard error how many moves and certificates 
 memory that the session held after its first move and after its last. It ends with 1 where a certificate is refused.
 """
 
+import argparse
 import subprocess
 import sys
 import tempfile
@@ -107,14 +108,46 @@ class Games:
         )
 
 
+def number(most):
+    """The reader of a number from 1 to this one."""
+
+    def read(word):
+        if not word.isascii() or not word.isdigit() or not 1 <= int(word) <= most:
+            raise argparse.ArgumentTypeError(f"{word!r} is no number from 1 to {most:,}")
+        return int(word)
+
+    return read
+
+
+def folder(word):
+    if not Path(word).is_dir():
+        raise argparse.ArgumentTypeError(f"{word!r} is no folder")
+    return word
+
+
+def words_of(given):
+    """The words of the command line; `--help`, and wrong words, end the program."""
+    parser = argparse.ArgumentParser(description=__doc__, formatter_class=argparse.RawDescriptionHelpFormatter)
+    parser.add_argument("size", metavar="SIZE", nargs="?", type=number(11), default=11)
+    parser.add_argument("playouts", metavar="PLAYOUTS", nargs="?", type=number(1_000_000), default=10_000)
+    parser.add_argument("moves", metavar="MOVES", nargs="?", type=number(1_000_000), default=1)
+    parser.add_argument("folder", metavar="FOLDER", nargs="?", type=folder)
+    parser.add_argument("words", metavar="WORD", nargs=argparse.REMAINDER)
+    return parser.parse_args(given)
+
+
 def main():
-    given = sys.argv[1:]
-    size, playouts, moves = (given + ["11", "10000", "1"][len(given) :])[:3]
+    words = words_of(sys.argv[1:])
     with tempfile.TemporaryDirectory() as spare:
-        games = Games(size, playouts, given[3] if len(given) > 3 else spare, given[4:])
-        while len(games.seconds) < int(moves):
-            if not games.play():
-                return 1
+        games = Games(str(words.size), str(words.playouts), words.folder or spare, words.words)
+        try:
+            while len(games.seconds) < words.moves:
+                if not games.play():
+                    return 1
+        except (EOFError, BrokenPipeError):
+            status = games.engine.process.wait()
+            print(f"selfplay.py: hexd ended with status {status}", file=sys.stderr)
+            return status
     games.report()
     return games.engine.close()
 

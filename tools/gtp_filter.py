@@ -1,0 +1,143 @@
+#!/usr/bin/env python3
+"""hexd for board programs and tournament scripts that speak more than HTP: GTP's and HexGui's habits (bin/hexd-gtp).
+
+    bin/hexd-gtp [WORD..]
+
+It runs `bin/hexd htp WORD..` and hands it each line as it came, but for the commands of tools/gtp_commands.py: these it
+answers itself, by what hexd answers. It ends when hexd does, with hexd's status, and else with 3 where its input can't be
+read and 4 where its output can't be written.
+"""
+
+import os
+import select
+import signal
+import sys
+
+from gtp_commands import OWN, HexdEnded, Refused, Request, Session, is_number
+
+# hexd answers a line of more bytes `line too long`, whatever it holds.
+LONGEST_LINE = 4096
+LARGEST_ID = 2**31 - 1
+# The bytes that hexd drops from a line: all control bytes but the tab.
+CONTROL = bytes(byte for byte in (*range(32), 127) if byte != 9)
+# Where these succeed the game goes on, and no player has resigned.
+CHANGES = (b"boardsize", b"clear_board", b"genmove", b"loadsgf", b"play")
+READ_FAULT, WRITE_FAULT = 3, 4
+
+
+class ReadFault(Exception):
+    """The input can't be read."""
+
+
+class WriteFault(Exception):
+    """The output can't be written."""
+
+
+def read_request(line):
+    """What a line asks, as hexd reads it; none where hexd answers nothing."""
+    text = line.translate(None, CONTROL).partition(b"#")[0].replace(b"\t", b" ").strip()
+    name, _, rest = text.partition(b" ")
+    number = b""
+    if len(name) <= 10 and is_number(name, LARGEST_ID):
+        number = b"%d" % int(name)
+        name, _, rest = rest.strip().partition(b" ")
+    return Request(number, name, rest.strip()) if text else None
+
+
+def give(text):
+    """Writes all of a text."""
+    try:
+        while text:
+            text = text[os.write(1, text) :]
+    except OSError:
+        raise WriteFault from None
+
+
+class Filter:
+    """A driver's input, and the session that answers it."""
+
+    def __init__(self, words):
+        self.session = Session(words)
+        # What was read and is not yet handed over.
+        self.kept = b""
+
+    def read(self):
+        """The next bytes of the input; none at its end."""
+        try:
+            ready, _, _ = select.select([0, self.session.hexd.process.stdout], [], [])
+            # Nothing is left to be answered, so what comes from hexd is its end.
+            if 0 not in ready:
+                raise HexdEnded
+            return os.read(0, LONGEST_LINE)
+        except OSError:
+            raise ReadFault from None
+
+    def piece(self):
+        """The next line with its line feed, or the next bytes of one that is too long; at the end what is left."""
+        while b"\n" not in self.kept and len(self.kept) <= LONGEST_LINE:
+            more = self.read()
+            if not more:
+                break
+            self.kept += more
+        end = self.kept.find(b"\n") + 1 or len(self.kept)
+        piece, self.kept = self.kept[:end], self.kept[end:]
+        return piece
+
+    def hand_over(self, piece):
+        """Hands hexd the line that begins with this piece, as it is."""
+        while not piece.endswith(b"\n"):
+            self.session.hexd.send(piece)
+            piece = self.piece() or b"\n"
+        self.session.hexd.send(piece)
+
+    def answer(self, piece):
+        """What is written for the line that begins with this piece."""
+        line = piece.removesuffix(b"\n")
+        is_long = len(line) > LONGEST_LINE
+        request = None if is_long else read_request(line)
+        if request and request.name in OWN:
+            try:
+                text = OWN[request.name](self.session, request)
+            except Refused as refused:
+                return b"?%s %s\n\n" % (request.number, refused.args[0])
+            if text is not None:
+                return b"=%s %s\n\n" % (request.number, text)
+        self.hand_over(piece)
+        if not request and not is_long:
+            return b""
+        answer = self.session.hexd.answer()
+        if request and request.name in CHANGES and answer[:1] == b"=":
+            self.session.resigned = None
+        return answer
+
+    def run(self):
+        """Answers line after line, and gives the status in the end."""
+        try:
+            while piece := self.piece():
+                give(self.answer(piece))
+        except HexdEnded:
+            pass
+        except ReadFault:
+            os.write(2, b"hexd-gtp: read fault\n")
+            self.session.hexd.close()
+            return READ_FAULT
+        except WriteFault:
+            self.session.hexd.close()
+            return WRITE_FAULT
+        return self.session.hexd.close()
+
+
+def hold_closed_streams():
+    """Opens a standard stream that is closed, so that no pipe gets its number; to use it is a fault still."""
+    for stream, mode in enumerate([os.O_WRONLY, os.O_RDONLY, os.O_WRONLY]):
+        try:
+            os.fstat(stream)
+        except OSError:
+            os.open(os.devnull, mode)
+
+
+if __name__ == "__main__":
+    # Ctrl-C ends it as it ends hexd, which stands in the same group.
+    signal.signal(signal.SIGINT, signal.SIG_DFL)
+    hold_closed_streams()
+    sys.exit(Filter(sys.argv[1:]).run())
