@@ -12,7 +12,7 @@ use Rattle.hex_cells.specs.Sets.{has as has_cell, members}
 use Rattle.hex_cells.proofs.Bits.{has_none}
 use Rattle.hex_cells.proofs.Counts.{members_ones}
 use Rattle.arena_rule.specs.Adds.{CountAdd}
-use Rattle.walker.specs.Climbs.{adds_in}
+use Rattle.walker.specs.Climbs.{half_adds}
 use Rattle.walker.proofs.SeenAdds.{adds-none, adds-next}
 
 is-one : (x : ℕ) → x ≡ 1 → (x == 1) ≡ true
@@ -62,21 +62,21 @@ turned-out a k l t j =
     ]
 
 -- no add is left in a half without a cell that is left
-pub none-in : (first : ℕ) (won : Bool) (cells left : ℕ) → left ≡ 0 → adds_in first won cells left ≡ []
-none-in first won cells left e = ap (adds_in first won cells) e ∙ adds-none first won cells 0 (λ i. has_none i)
+pub none-in : (first : ℕ) (won : Bool) (cells left : ℕ) → left ≡ 0 → half_adds first won cells left ≡ []
+none-in first won cells left e = ap (half_adds first won cells) e ∙ adds-none first won cells 0 (λ i. has_none i)
 
 -- the next add of a half is at the place of the least cell that is left
 pub next-in : (first : ℕ) (won : Bool) (cells left : ℕ) → 0 < left → left < 2 ^ 64
-    → adds_in first won cells left
-    ≡ record { word = first + 4 * count_ones (bit_and cells (1 * 2 ^ trailing_zeros w64 left % 2 ^ 64 - 1)); won = won } ∷ adds_in first won cells (bit_xor left (1 * 2 ^ trailing_zeros w64 left % 2 ^ 64))
+    → half_adds first won cells left
+    ≡ record { word = first + 4 * count_ones (bit_and cells (1 * 2 ^ trailing_zeros w64 left % 2 ^ 64 - 1)); won = won } ∷ half_adds first won cells (bit_xor left (1 * 2 ^ trailing_zeros w64 left % 2 ^ 64))
 next-in first won cells left some small =
     let t = least-in left some small in
     let c : ℕ = trailing_zeros w64 left in
     adds-next first won cells left (bit_xor left (1 * 2 ^ c % 2 ^ 64)) c t.0 t.1 t.2 (turned-out left c t.0 t.1)
-    ∙ ap (λ (m : ℕ). record { word = first + 4 * m; won = won } ∷ adds_in first won cells (bit_xor left (1 * 2 ^ c % 2 ^ 64))) (sym (ranked-in cells c t.0))
+    ∙ ap (λ (m : ℕ). record { word = first + 4 * m; won = won } ∷ half_adds first won cells (bit_xor left (1 * 2 ^ c % 2 ^ 64))) (sym (ranked-in cells c t.0))
 
 -- so a half is done exactly where no cell is left in it
-pub done-in : (first : ℕ) (won : Bool) (cells left : ℕ) (after : List CountAdd) → left < 2 ^ 64 → (adds_in first won cells left ++ after) ≡ [] → left ≡ 0
+pub done-in : (first : ℕ) (won : Bool) (cells left : ℕ) (after : List CountAdd) → left < 2 ^ 64 → (half_adds first won cells left ++ after) ≡ [] → left ≡ 0
 done-in first won cells left after small e = ⊎_elim
     (λ (some : 0 < left). absurd (none (sym (ap (λ (xs : List CountAdd). xs ++ after) (next-in first won cells left some small)) ∙ e)))
     (λ (no : left ≤ 0). omega arith)

@@ -11,7 +11,7 @@ use Rattle.hex_cells.proofs.Counts.{members_none, members_ones}
 use Rattle.tree_words.proofs.Blocks.BlockLaws.{clash}
 use Rattle.tree_words.proofs.Boards.RootLaws.{filter_some}
 use Rattle.arena_rule.specs.Adds.{CountAdd, seen_adds}
-use Rattle.walker.specs.Climbs.{adds_in}
+use Rattle.walker.specs.Climbs.{half_adds}
 use Rattle.walker.proofs.MemberLaws.{in-more, out-more, members-low, members-high}
 
 -- none passes
@@ -66,22 +66,22 @@ least-filter p q a (suc n) c l m t below rest = ⊎_elim
     low a c k e = grind (arith, nat_tests)
 
 -- no cell is left
-pub adds-none : (first : ℕ) (won : Bool) (cells left : ℕ) → ((i : ℕ) → has_cell left i ≡ false) → adds_in first won cells left ≡ []
-unfolding adds_in
+pub adds-none : (first : ℕ) (won : Bool) (cells left : ℕ) → ((i : ℕ) → has_cell left i ≡ false) → half_adds first won cells left ≡ []
+unfolding half_adds
 adds-none first won cells left h = ap (map (λ k. record { word = first + 4 * members cells k; won = won })) (none-filter (has_cell left) 0 64 (λ i l. h i))
 
 -- the least cell that is left is the next
 pub adds-next : (first : ℕ) (won : Bool) (cells left rest c : ℕ) → c < 64 → has_cell left c ≡ true → ((i : ℕ) → i < c → has_cell left i ≡ false)
     → ((i : ℕ) → has_cell rest i ≡ (has_cell left i && not (i == c)))
-    → adds_in first won cells left ≡ record { word = first + 4 * members cells c; won = won } ∷ adds_in first won cells rest
-unfolding adds_in
+    → half_adds first won cells left ≡ record { word = first + 4 * members cells c; won = won } ∷ half_adds first won cells rest
+unfolding half_adds
 adds-next first won cells left rest c l t below out =
     ap (map (λ k. record { word = first + 4 * members cells k; won = won }))
     (least-filter (has_cell left) (has_cell rest) 0 64 c (omega arith) (omega arith) t below out)
 
 -- where a cell is left, so is an add
-pub adds-some : (first : ℕ) (won : Bool) (cells left c : ℕ) → c < 64 → has_cell left c ≡ true → adds_in first won cells left ≡ [] → ⊥
-unfolding adds_in
+pub adds-some : (first : ℕ) (won : Bool) (cells left c : ℕ) → c < 64 → has_cell left c ≡ true → half_adds first won cells left ≡ [] → ⊥
+unfolding half_adds
 adds-some first won cells left c l t e =
     none-cons (has_cell left) 0 64 c (omega arith) (omega arith) t (no-map (λ (k : ℕ). record { word = first + 4 * members cells k; won = won }) (filter (has_cell left) (range_with_len 0 64)) e)
   where
@@ -186,9 +186,9 @@ module _ (stones cells left b : ℕ) (won : Bool) where
 pub adds-seen : (stones cells left n block first next : ℕ) (won : Bool) → n ≤ 121
     → ((k : ℕ) → has_cell left k ≡ ((has_cell cells k && has_cell stones k) && nat_lt k n))
     → first ≡ block + 7 → next ≡ first + 4 * count_ones (cells % 2 ^ 64)
-    → adds_in first won (cells % 2 ^ 64) (left % 2 ^ 64) ++ adds_in next won (cells / 2 ^ 64) (left / 2 ^ 64)
+    → half_adds first won (cells % 2 ^ 64) (left % 2 ^ 64) ++ half_adds next won (cells / 2 ^ 64) (left / 2 ^ 64)
     ≡ seen_adds stones won (block + 4) (filter (has_cell cells) (range_with_len 0 n))
-unfolding adds_in
+unfolding half_adds
 adds-seen stones cells left n block first next won few here is on =
     let f : ℕ → CountAdd = add-at stones cells left (block + 4) won in
     let begins : block + 4 + 4 * members cells 0 ≡ block + 4 = omega (arith, members_none cells) in
@@ -199,12 +199,12 @@ adds-seen stones cells left n block first next won few here is on =
     let long : filter (has_cell left) (range_with_len 0 n) ≡ filter (has_cell left) (range_with_len 0 64) ++ filter (has_cell left) (range_with_len (0 + 64) 64)
     = sym (longer (has_cell left) 0 n (128 - n) (λ i l. here i ∙ and-past (has_cell cells i && has_cell stones i) i n (omega arith)))
     ∙ (ap (λ (z : ℕ). filter (has_cell left) (range_with_len 0 z)) wide ∙ cut (has_cell left) 0 64 64) in
-    let low : map f (filter (has_cell left) (range_with_len (0 + 0) 64)) ≡ adds_in first won (cells % 2 ^ 64) (left % 2 ^ 64)
+    let low : map f (filter (has_cell left) (range_with_len (0 + 0) 64)) ≡ half_adds first won (cells % 2 ^ 64) (left % 2 ^ 64)
     = moved f (λ k. record { word = first + 4 * members (cells % 2 ^ 64) k; won = won }) (has_cell left) (has_cell (left % 2 ^ 64)) 0 0 64
     (λ i l m. ap (has_cell left) (none-plus i) ∙ sym (has_mod left 64 i (omega arith)))
     (λ i l m. let w : block + 4 + 3 + 4 * members cells (0 + i) ≡ first + 4 * members (cells % 2 ^ 64) i
     = omega (arith, is, ap (members cells) (none-plus i), members-low cells 64 i (omega arith)) in λ j. record { word = w j; won = won }) in
-    let high : map f (filter (has_cell left) (range_with_len (64 + 0) 64)) ≡ adds_in next won (cells / 2 ^ 64) (left / 2 ^ 64)
+    let high : map f (filter (has_cell left) (range_with_len (64 + 0) 64)) ≡ half_adds next won (cells / 2 ^ 64) (left / 2 ^ 64)
     = moved f (λ k. record { word = next + 4 * members (cells / 2 ^ 64) k; won = won }) (has_cell left) (has_cell (left / 2 ^ 64)) 64 0 64
     (λ i l m. ap (has_cell left) (turned i) ∙ sym (has_shr left 64 i))
     (λ i l m. let w : block + 4 + 3 + 4 * members cells (64 + i) ≡ next + 4 * members (cells / 2 ^ 64) i
@@ -228,7 +228,7 @@ pub adds-halves : (stones cells left n block first next low high low-left high-l
     → ((k : ℕ) → has_cell left k ≡ ((has_cell cells k && has_cell stones k) && nat_lt k n))
     → low ≡ cells % 2 ^ 64 → high ≡ cells / 2 ^ 64 → low-left ≡ left % 2 ^ 64 → high-left ≡ left / 2 ^ 64
     → first ≡ block + 7 → next ≡ first + 4 * count_ones low
-    → adds_in first won low low-left ++ adds_in next won high high-left ≡ seen_adds stones won (block + 4) (filter (has_cell cells) (range_with_len 0 n))
+    → half_adds first won low low-left ++ half_adds next won high high-left ≡ seen_adds stones won (block + 4) (filter (has_cell cells) (range_with_len 0 n))
 adds-halves stones cells left n block first next low high low-left high-left won few here a b c d is on =
-    (λ i. adds_in first won (a i) (c i) ++ adds_in next won (b i) (d i))
+    (λ i. half_adds first won (a i) (c i) ++ half_adds next won (b i) (d i))
     ∙ adds-seen stones cells left n block first next won few here is (on ∙ ap (λ v. first + 4 * count_ones v) a)

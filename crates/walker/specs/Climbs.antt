@@ -10,8 +10,8 @@ use Rattle.walker.specs.declared.climbs.TheConstants.{HALF_CELLS}
 
 -- the adds to the seen words of the nodes of the cells of the second set: the nodes are those of
 -- the cells of the first set in rising order, and `first` is the seen word of the first node
-unfoldable pub adds_in : ℕ → Bool → ℕ → ℕ → List CountAdd
-adds_in first won cells left =
+unfoldable pub half_adds : ℕ → Bool → ℕ → ℕ → List CountAdd
+half_adds first won cells left =
     map (λ k. record { word = first + NODE_WORDS * members cells k; won = won })
     (filter (has_cell left) (range_with_len 0 HALF_CELLS))
 

@@ -3,7 +3,7 @@
 ghost use Rattle.std.specs.Prelude.{◌≡◌, ◌+◌, ◌/◌, ◌%◌, ◌^◌, ◌<◌, ◌++◌, [], IsTrue, ◌↔◌};
 ghost use Rattle.tree_words.specs.Writing.{listed};
 ghost use Rattle.arena_rule.specs.Adds.{seen_adds};
-ghost use Rattle.walker.specs.Climbs.{add_op, adds_after, adds_in};
+ghost use Rattle.walker.specs.Climbs.{add_op, adds_after, half_adds};
 
 use super::PAST_WORDS;
 use hex_cells::{CellSet, Size};
@@ -42,12 +42,12 @@ impl Model for Climb {
     ghost use Rattle.std.specs.Prelude.{List, ◌≡◌, ◌<◌, ◌+◌, ◌*◌, ◌++◌};
     ghost use Rattle.arena_rule.specs.Adds.{CountAdd};
     ghost use Rattle.walker.specs.declared.climbs.TheConstants.{PAST_SEEN};
-    ghost use Rattle.walker.specs.Climbs.{adds_in};
+    ghost use Rattle.walker.specs.Climbs.{half_adds};
 
     ghost Value = { List CountAdd };
 
-    ghost view = { λ c. adds_in c.half.first c.won c.half.cells c.half.left
-        ++ adds_in c.next.first c.won c.next.cells c.next.left };
+    ghost view = { λ c. half_adds c.half.first c.won c.half.cells c.half.left
+        ++ half_adds c.next.first c.won c.next.cells c.next.left };
 
     ghost invariant = { λ c. (c.half.first < PAST_SEEN) × (c.next.first < PAST_SEEN)
         × (c.half.left ≡ 0 → c.next.left ≡ 0) };
@@ -113,8 +113,8 @@ impl Climb {
     #[inline(always)]
     fn of_halves(won: bool, half: Half, next: Half) -> Climb
         requires { (half.first < PAST_SEEN) × (next.first < PAST_SEEN) }
-        ensures { result ≡ adds_in half.first won half.cells half.left
-            ++ adds_in next.first won next.cells next.left }
+        ensures { result ≡ half_adds half.first won half.cells half.left
+            ++ half_adds next.first won next.cells next.left }
     {
         if half.left != 0 {
             Climb { won, half, next }

@@ -12,10 +12,10 @@ use Rattle.conn_store.specs.Entries.{IsBetween, IsValid}
 use Rattle.conn_store.specs.Stores.{IsSound, StoreData}
 use Rattle.conn_store.specs.declared.entries.Entry.{Entry}
 use Rattle.win_cert.specs.Contexts.{after_lines, first_context}
-use Rattle.win_cert.specs.Cuts.{CertifiesEntry, HasLinesFor, IsEdgeEntryAt, entries_in, scoped}
+use Rattle.win_cert.specs.Cuts.{CertifiesEntry, HasLinesFor, IsEdgeEntryAt, entries_numbered, scoped}
 use Rattle.win_cert.specs.Derivations.{DerivesOnto, IsDerivation, given_there}
 use Rattle.win_cert.specs.Entries.{Context, ScopedEntry, elements_at, entry_at}
-use Rattle.win_cert.specs.Freer.{moved, moved_entry}
+use Rattle.win_cert.specs.Freer.{moved_element, moved_entry}
 use Rattle.win_cert.specs.Scopes.{player_board}
 use Rattle.win_cert.specs.Statements.{is_edge_entry}
 use Rattle.win_cert.specs.Verdicts.{IsVerdict, yes}
@@ -67,14 +67,14 @@ given_same d n cert w i a at =
     let v : IsValid d.elements a = w.sound.valid i a at in
     let order : a.x < a.y = v.order in
     ap (λ e. Some (scoped 0 (moved_entry d.elements e a))) (first_elements d n cert w)
-    ∙ ap (λ o. Some o) (entry_same a (moved d.elements d.elements a.x) (moved d.elements d.elements a.y)
+    ∙ ap (λ o. Some o) (entry_same a (moved_element d.elements d.elements a.x) (moved_element d.elements d.elements a.y)
     (moved_self d.elements a.x w.own (omega (arith, order, v.elements))) (moved_self d.elements a.y w.own v.elements))
 
 map_front : {Y : Type 0} (f g : Entry → Y) (b : Bool) (a : Entry) (xs : List Entry) → f a ≡ g a → map f xs ≡ map g xs → map f (if b then a ∷ xs else xs) ≡ map g (if b then a ∷ xs else xs)
 map_front f g true a xs h k = ap (λ v. v ∷ map f xs) h ∙ ap (λ v. g a ∷ v) k
 map_front f g false a xs h k = k
 
-map_same : {Y : Type 0} (f g : Entry → Y) (set : ℕ → Bool) (entries : List Entry) → ((i : ℕ) (a : Entry) → slice_get entries i ≡ Some a → f a ≡ g a) → map f (entries_in set entries) ≡ map g (entries_in set entries)
+map_same : {Y : Type 0} (f g : Entry → Y) (set : ℕ → Bool) (entries : List Entry) → ((i : ℕ) (a : Entry) → slice_get entries i ≡ Some a → f a ≡ g a) → map f (entries_numbered set entries) ≡ map g (entries_numbered set entries)
 map_same f g set [] h = refl
 map_same f g set (a ∷ entries) h = map_front f g (set 0) a _ (h 0 a refl) (map_same f g (λ i. set (suc i)) entries (λ i b q. h (suc i) b q))
 

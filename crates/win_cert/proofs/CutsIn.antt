@@ -20,14 +20,14 @@ use Rattle.conn_store.specs.Stores.{IsSound, StoreData}
 use Rattle.conn_store.specs.declared.entries.Cause.{Cause}
 use Rattle.conn_store.specs.declared.entries.Cause.TheVariants.{Adjacent, AndGroup, AndEmpty, Or}
 use Rattle.conn_store.specs.declared.entries.Entry.{Entry}
-use Rattle.win_cert.specs.Cuts.{entries_in, premises, scoped}
+use Rattle.win_cert.specs.Cuts.{entries_numbered, premises, scoped}
 use Rattle.win_cert.specs.Cutting.{AreMarks, IsLineFor, is_marked}
 use Rattle.win_cert.specs.Entries.{Context, ScopedEntry, elements_at, entry_at, gives}
 use Rattle.win_cert.specs.Scopes.{elements_in, scope_after}
 use Rattle.win_cert.specs.declared.lines.Line.{Line}
 use Rattle.win_cert.specs.declared.lines.Line.TheVariants.{Adj, And, Key, Or2, Or3}
 use Rattle.win_cert.proofs.CutDerivations.{cases_at, longer, name_earlier, some_entry, taken_back}
-use Rattle.win_cert.specs.Freer.{IsFreer, moved, moved_entry}
+use Rattle.win_cert.specs.Freer.{IsFreer, moved_element, moved_entry}
 use Rattle.win_cert.specs.Contexts.{AreClear, after_lines, context_after}
 use Rattle.win_cert.specs.Derivations.{DerivesOnto, GrowsOn, IsDerivation, given_there}
 use Rattle.win_cert.proofs.Appending.{after_append, base_after, clear_append, entry_kept, entry_last, length_after}
@@ -42,7 +42,7 @@ use Rattle.win_cert.proofs.CutSteps.{IsRight}
 pub record AreLinesIn (c : Context) (d : StoreData) (marks : List Bool) (n : ℕ) (lines : List Line) (renamed : List ℕ) : Type 0 where
   pub clear : AreClear c lines
   pub scope : (after_lines c lines).scope ≡ c.scope
-  pub gives : (after_lines c lines).earlier ≡ c.earlier ++ map (given_there d c) (entries_in (is_marked marks) (take n d.entries))
+  pub gives : (after_lines c lines).earlier ≡ c.earlier ++ map (given_there d c) (entries_numbered (is_marked marks) (take n d.entries))
   pub number : length renamed ≡ n
   pub places : (i : ℕ) (a : Entry) → i < n → is_marked marks i ≡ true → slice_get d.entries i ≡ Some a
       → entry_at (after_lines c lines) (get_or renamed i 0) ≡ given_there d c a
@@ -110,8 +110,8 @@ one_more_in c d marks whole n lines renamed a line f w s marked at known form =
       clear = clear_append c lines (line ∷ []) w.clear (right.1, tt);
       scope = ap (λ (x : Context). x.scope) next ∙ scope_stays e more a a.cause line cx.scope form ∙ w.scope;
       gives = ap (λ (x : Context). x.earlier) next ∙ ap (λ o. cx.earlier ++ o ∷ []) (right.0 ∙ ap (λ v. Some (scoped v (m a))) w.scope)
-          ∙ ap (λ es. es ++ given_there d c a ∷ []) w.gives ∙ added_again c.earlier (map (given_there d c) (entries_in (is_marked marks) (take n d.entries))) (given_there d c a ∷ [])
-          ∙ ap (λ es. c.earlier ++ es) (sym (map-append (given_there d c) (entries_in (is_marked marks) (take n d.entries)) (a ∷ []))
+          ∙ ap (λ es. es ++ given_there d c a ∷ []) w.gives ∙ added_again c.earlier (map (given_there d c) (entries_numbered (is_marked marks) (take n d.entries))) (given_there d c a ∷ [])
+          ∙ ap (λ es. c.earlier ++ es) (sym (map-append (given_there d c) (entries_numbered (is_marked marks) (take n d.entries)) (a ∷ []))
           ∙ ap (map (given_there d c)) (sym (picked_more (is_marked marks) d.entries n a at known)));
       number = longer renamed number ∙ ap (λ z. z + 1) k;
       places = λ i b l h g. ap (λ (x : Context). entry_at x (get_or more i 0)) next ∙ elim (cases_at i n) [
@@ -217,13 +217,13 @@ none_more_from d marks from n lines renamed w h =
 
 lines_done : (d : StoreData) (marks : List Bool) (from n m : ℕ) (lines : List Line) (renamed : List ℕ) → AreLinesFrom d marks from m lines renamed → m ≡ n + 1 → IsSound d → AreMarks d.entries n marks
     → Within d.elements.board.size (stones_of d.elements.board d.elements.player) → (c : Context) → length c.earlier ≡ from → IsFreer d.elements (elements_at c)
-    → IsDerivation d n (entries_in (is_marked marks) d.entries) c lines (get_or renamed n 0)
+    → IsDerivation d n (entries_numbered (is_marked marks) d.entries) c lines (get_or renamed n 0)
 lines_done d marks from n m lines renamed w q s k on c l f =
     let r = w.read c l (record { freer = f; own = on }) in
     record {
       clear = r.clear;
       scope = r.scope;
-      gives = r.gives ∙ ap (λ es. c.earlier ++ map (given_there d c) es) (ap (λ v. entries_in (is_marked marks) (take v d.entries)) q ∙ marked_front d n marks s k);
+      gives = r.gives ∙ ap (λ es. c.earlier ++ map (given_there d c) es) (ap (λ v. entries_numbered (is_marked marks) (take v d.entries)) q ∙ marked_front d n marks s k);
       entry = λ a h. r.places n a (omega arith) k.whole h;
     }
 
@@ -274,9 +274,9 @@ onto_done d marks old n m now renamed i w q s most l k on e =
       added = w.added;
       form = w.from.form;
       few = omega arith;
-      own = entries_in (is_marked marks) d.entries;
+      own = entries_numbered (is_marked marks) d.entries;
       rests = marked_rest d n marks k;
-      derives = λ c g r. subst (λ v. IsDerivation d n (entries_in (is_marked marks) d.entries) c w.lines v) (sym e) (lines_done d marks (length old) n m w.lines renamed w.from q s k on c g r);
+      derives = λ c g r. subst (λ v. IsDerivation d n (entries_numbered (is_marked marks) d.entries) c w.lines v) (sym e) (lines_done d marks (length old) n m w.lines renamed w.from q s k on c g r);
     }
 
 pub onto_grows : (d : StoreData) (marks : List Bool) (old : List Line) (n : ℕ) (now : List Line) (renamed : List ℕ) → AreLinesOnto d marks old n now renamed → GrowsOn old now

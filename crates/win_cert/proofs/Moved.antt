@@ -16,7 +16,7 @@ use Rattle.hex_board.proofs.Parts.{Case, is_free, is_first, is_second, is_group,
 use Rattle.hex_board.proofs.Placed.{empty_on, stone_full}
 use Rattle.hex_board.proofs.WinLaws.{counted}
 use Rattle.win_cert.proofs.SameTests.{any_same}
-use Rattle.win_cert.specs.Freer.{IsFreer, moved}
+use Rattle.win_cert.specs.Freer.{IsFreer, moved_element}
 
 -- the other player has no more stones on d, and the player's stones on e lie on the board
 pub record IsFreerOn (e d : PlayerBoard) : Type 0 where
@@ -205,7 +205,7 @@ head_there e y l h =
 moved_found : (e d : PlayerBoard) (x : ℕ) (o : Option ℕ) (k : ℕ) → o ≡ Some k → option_map_or (head_element d) o x ≡ head_element d k
 moved_found e d x o k h = ap (λ v. option_map_or (head_element d) v x) h
 
-pub moved_head : (e d : PlayerBoard) (k : ℕ) → Within e.board.size (stones_of e.board e.player) → is_head e k ≡ true → moved e d (head_element e k) ≡ head_element d k
+pub moved_head : (e d : PlayerBoard) (k : ℕ) → Within e.board.size (stones_of e.board e.player) → is_head e k ≡ true → moved_element e d (head_element e k) ≡ head_element d k
 moved_head e d k on h =
     let n = e.board.size in
     let x : ℕ = head_element e k in
@@ -224,7 +224,7 @@ head_from e k = more (edge_elements e) (count_by (is_head e) (range_with_len 0 k
     more : (b x : ℕ) → b ≤ b + x
     more b x = omega arith
 
-pub moved_low : (e d : PlayerBoard) (x : ℕ) → x < edge_elements e → moved e d x ≡ x
+pub moved_low : (e d : PlayerBoard) (x : ℕ) → x < edge_elements e → moved_element e d x ≡ x
 moved_low e d x l =
     let n = e.board.size in
     let p = λ (j : ℕ). is_head e j && head_element e j == x in
@@ -238,35 +238,35 @@ moved_low e d x l =
     low : (x b y : ℕ) → x < b → b ≤ y → y ≡ x → ⊥
     low x b y l m q = absurd (omega arith)
 
-pub moved_edge : (e d : PlayerBoard) → IsFreer e d → (second : Bool) → moved e d (edge_element e second) ≡ edge_element d second
+pub moved_edge : (e d : PlayerBoard) → IsFreer e d → (second : Bool) → moved_element e d (edge_element e second) ≡ edge_element d second
 moved_edge e d f second = moved_low e d (edge_element e second) (edge_below e second) ∙ sym (edge_alike e d f second)
 
 -- numbers rise in the same order
-pub moved_less : (e d : PlayerBoard) → IsFreer e d → Within e.board.size (stones_of e.board e.player) → (x y : ℕ) → x < y → y < element_count e → moved e d x < moved e d y
+pub moved_less : (e d : PlayerBoard) → IsFreer e d → Within e.board.size (stones_of e.board e.player) → (x y : ℕ) → x < y → y < element_count e → moved_element e d x < moved_element e d y
 moved_less e d f on x y l h = elim (cases_lt y (edge_elements e)) [
-  | inl m ↦ subst (λ v. v < moved e d y) (sym (moved_low e d x (omega arith))) (subst (λ v. x < v) (sym (moved_low e d y m)) l)
+  | inl m ↦ subst (λ v. v < moved_element e d y) (sym (moved_low e d x (omega arith))) (subst (λ v. x < v) (sym (moved_low e d y m)) l)
   | inr m ↦
       let (k, i, q) = head_there e y m h in
-      let to : moved e d y ≡ head_element d k = ap (moved e d) (sym q) ∙ moved_head e d k on i in
+      let to : moved_element e d y ≡ head_element d k = ap (moved_element e d) (sym q) ∙ moved_head e d k on i in
       elim (cases_lt x (edge_elements e)) [
-        | inl u ↦ subst (λ v. v < moved e d y) (sym (moved_low e d x u)) (subst (λ v. x < v) (sym to) (above x (edge_elements e) (edge_elements d) (head_element d k) u (edges_alike e d f) (head_from d k)))
+        | inl u ↦ subst (λ v. v < moved_element e d y) (sym (moved_low e d x u)) (subst (λ v. x < v) (sym to) (above x (edge_elements e) (edge_elements d) (head_element d k) u (edges_alike e d f) (head_from d k)))
         | inr u ↦
             let (j, t, r) = head_there e x u (omega arith) in
-            let from : moved e d x ≡ head_element d j = ap (moved e d) (sym r) ∙ moved_head e d j on t in
+            let from : moved_element e d x ≡ head_element d j = ap (moved_element e d) (sym r) ∙ moved_head e d j on t in
             let order : j < k = head_order e j k (subst (λ v. v < head_element e k) (sym r) (subst (λ v. x < v) (sym q) l)) in
-            subst (λ v. v < moved e d y) (sym from) (subst (λ v. head_element d j < v) (sym to) (head_less d j k order (head_kept e d f j t)))
+            subst (λ v. v < moved_element e d y) (sym from) (subst (λ v. head_element d j < v) (sym to) (head_less d j k order (head_kept e d f j t)))
       ]
 ]
   where
     above : (x b c y : ℕ) → x < b → c ≡ b → c ≤ y → x < y
     above x b c y l q m = omega arith
 
-pub moved_same : (e d : PlayerBoard) → IsFreer e d → Within e.board.size (stones_of e.board e.player) → (x y : ℕ) → x < element_count e → y < element_count e → moved e d x ≡ moved e d y → x ≡ y
+pub moved_same : (e d : PlayerBoard) → IsFreer e d → Within e.board.size (stones_of e.board e.player) → (x y : ℕ) → x < element_count e → y < element_count e → moved_element e d x ≡ moved_element e d y → x ≡ y
 moved_same e d f on x y h i q = elim (cases_eq x y) [
   | inl s ↦ s
   | inr n ↦ elim (cases_lt x y) [
-    | inl l ↦ absurd (differ (moved e d x) (moved e d y) q (moved_less e d f on x y l i))
-    | inr l ↦ absurd (differ (moved e d y) (moved e d x) (sym q) (moved_less e d f on y x (omega arith) h))
+    | inl l ↦ absurd (differ (moved_element e d x) (moved_element e d y) q (moved_less e d f on x y l i))
+    | inr l ↦ absurd (differ (moved_element e d y) (moved_element e d x) (sym q) (moved_less e d f on y x (omega arith) h))
   ]
 ]
   where
@@ -278,35 +278,35 @@ moved_same e d f on x y h i q = elim (cases_eq x y) [
 within_alike : (e d : PlayerBoard) → IsFreer e d → Within e.board.size (stones_of e.board e.player) → Within d.board.size (stones_of d.board d.player)
 within_alike e d f on = subst (λ n. Within n (stones_of d.board d.player)) (sym f.size) (subst (λ s. Within e.board.size s) (sym f.own) on)
 
-pub cell_moves : (e d : PlayerBoard) → IsFreer e d → Within e.board.size (stones_of e.board e.player) → (x k : ℕ) → HasCell e x k → HasCell d (moved e d x) k
+pub cell_moves : (e d : PlayerBoard) → IsFreer e d → Within e.board.size (stones_of e.board e.player) → (x k : ℕ) → HasCell e x k → HasCell d (moved_element e d x) k
 cell_moves e d f on x k h = elim (case_of e k on) [
   | is_free i t ↦
       let q : head_element e k ≡ x = some_same (head_element e k) x (sym t ∙ h) in
-      of_free d k (f.fewer k i) ∙ ap Some (sym (moved_head e d k on (empty_head e k i)) ∙ ap (moved e d) q)
+      of_free d k (f.fewer k i) ∙ ap Some (sym (moved_head e d k on (empty_head e k i)) ∙ ap (moved_element e d) q)
   | is_first i t ↦
       let q : 0 ≡ x = some_same 0 x (sym t ∙ h) in
-      of_first d k (tied_alike e d f false k ∙ i) ∙ ap Some (sym (moved_edge e d f false) ∙ ap (moved e d) q)
+      of_first d k (tied_alike e d f false k ∙ i) ∙ ap Some (sym (moved_edge e d f false) ∙ ap (moved_element e d) q)
   | is_second i j t ↦
       let q : edge_element e true ≡ x = some_same (edge_element e true) x (sym t ∙ h) in
-      of_second d k (tied_alike e d f false k ∙ i) (tied_alike e d f true k ∙ j) ∙ ap Some (sym (moved_edge e d f true) ∙ ap (moved e d) q)
+      of_second d k (tied_alike e d f false k ∙ i) (tied_alike e d f true k ∙ j) ∙ ap Some (sym (moved_edge e d f true) ∙ ap (moved_element e d) q)
   | is_group r i j l m t ↦
       let q : head_element e r ≡ x = some_same (head_element e r) x (sym t ∙ h) in
       let stone : has (stones_of d.board d.player) k ≡ true = subst (λ s. has s k ≡ true) (sym f.own) (linked_last e r k l) in
       of_group d k r (within_alike e d f on) (stone_full d.board d.player k stone) (tied_alike e d f false k ∙ i) (tied_alike e d f true k ∙ j) (linked_alike e d f r k ∙ l)
       (λ u v. linked_alike e d f u k ∙ m u v)
-      ∙ ap Some (sym (moved_head e d r on (root_head e r k on i j l m)) ∙ ap (moved e d) q)
+      ∙ ap Some (sym (moved_head e d r on (root_head e r k on i j l m)) ∙ ap (moved_element e d) q)
   | is_other i j l m t ↦ absurd (none_some x (sym t ∙ h))
 ]
 
-pub member_moves : (e d : PlayerBoard) → IsFreer e d → Within e.board.size (stones_of e.board e.player) → (x : ℕ) (p : Place) → IsMember e x p → IsMember d (moved e d x) p
+pub member_moves : (e d : PlayerBoard) → IsFreer e d → Within e.board.size (stones_of e.board e.player) → (x : ℕ) (p : Place) → IsMember e x p → IsMember d (moved_element e d x) p
 member_moves e d f on x (at_cell k) h = cell_moves e d f on x k h
-member_moves e d f on x (at_edge second) h = sym (moved_edge e d f second) ∙ ap (moved e d) h
+member_moves e d f on x (at_edge second) h = sym (moved_edge e d f second) ∙ ap (moved_element e d) h
 
 -- a cell that is empty on e is in no other element than before
 pub cell_back : (e d : PlayerBoard) → IsFreer e d → Within e.board.size (stones_of e.board e.player) → (x k : ℕ) → x < element_count e → is_empty_at e.board k ≡ true
-    → HasCell d (moved e d x) k → HasCell e x k
+    → HasCell d (moved_element e d x) k → HasCell e x k
 cell_back e d f on x k l i h =
-    let to : head_element d k ≡ moved e d x = some_same (head_element d k) (moved e d x) (sym (of_free d k (f.fewer k i)) ∙ h) in
+    let to : head_element d k ≡ moved_element e d x = some_same (head_element d k) (moved_element e d x) (sym (of_free d k (f.fewer k i)) ∙ h) in
     let head = empty_head e k i in
     let below : head_element e k < element_count e = inside (edge_elements e) _ _ (count_less (is_head e) 0 k (e.board.size * e.board.size) (empty_on e.board k i) (from_none (is_head e) k head)) in
     of_free e k i ∙ ap Some (moved_same e d f on (head_element e k) x below l (moved_head e d k on head ∙ to))
@@ -319,7 +319,7 @@ beside_alike e d f p q h = subst (λ n. Beside n d.player p q) (sym f.size) (sub
 
 -- elements that lie side by side do so there too
 pub near_moves : (e d : PlayerBoard) → IsFreer e d → Within e.board.size (stones_of e.board e.player) → (x y : ℕ) → x < element_count e → y < element_count e → Near e x y
-    → Near d (moved e d x) (moved e d y)
+    → Near d (moved_element e d x) (moved_element e d y)
 near_moves e d f on x y h i n = (
   λ q. n.0 (moved_same e d f on x y h i q),
   n.1,
@@ -330,7 +330,7 @@ near_moves e d f on x y h i n = (
 )
 
 -- a low number is that of an edge, and of no empty cell
-pub numbers_apart : (e d : PlayerBoard) → IsFreer e d → (u k : ℕ) → u < edge_elements e → head_element d k ≡ moved e d u → ⊥
+pub numbers_apart : (e d : PlayerBoard) → IsFreer e d → (u k : ℕ) → u < edge_elements e → head_element d k ≡ moved_element e d u → ⊥
 numbers_apart e d f u k l q = low u (edge_elements e) (edge_elements d) (head_element d k) l (edges_alike e d f) (head_from d k) (q ∙ moved_low e d u l)
   where
     low : (u b c y : ℕ) → u < b → c ≡ b → c ≤ y → y ≡ u → ⊥
@@ -342,10 +342,10 @@ pub freer_self : (e d : PlayerBoard) → d ≡ e → IsFreer e d
 freer_self e d h = subst (λ (b : PlayerBoard). IsFreer e b) (sym h) (record { size = refl; player = refl; own = refl; rest = λ k t. t; fewer = λ k t. t })
 
 -- there the numbers stay
-pub moved_self : (e : PlayerBoard) (x : ℕ) → Within e.board.size (stones_of e.board e.player) → x < element_count e → moved e e x ≡ x
+pub moved_self : (e : PlayerBoard) (x : ℕ) → Within e.board.size (stones_of e.board e.player) → x < element_count e → moved_element e e x ≡ x
 moved_self e x on l = elim (cases_lt x (edge_elements e)) [
   | inl h ↦ moved_low e e x h
   | inr h ↦
       let (k, i, q) = head_there e x h l in
-      subst (λ v. moved e e v ≡ v) q (moved_head e e k on i)
+      subst (λ v. moved_element e e v ≡ v) q (moved_head e e k on i)
 ]

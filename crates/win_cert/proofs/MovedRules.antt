@@ -26,7 +26,7 @@ use Rattle.win_cert.specs.Writable.{IsEndOn}
 use Rattle.win_cert.specs.declared.lines.End.{End}
 use Rattle.win_cert.specs.declared.lines.End.TheVariants.{At, First, Second}
 use Rattle.win_cert.specs.declared.lines.Line.{Line}
-use Rattle.win_cert.specs.Freer.{IsFreer, moved, moved_entry}
+use Rattle.win_cert.specs.Freer.{IsFreer, moved_element, moved_entry}
 use Rattle.win_cert.proofs.Moved.{IsFreerOn, cell_back, cell_moves, edge_alike, head_kept, head_same, head_there, moved_edge, moved_head, moved_less, moved_low, moved_same, near_moves, numbers_apart}
 
 -- ---- pairs
@@ -40,24 +40,24 @@ between_below e a x y v h =
     (omega arith, omega arith)
 
 pub between_moves : (e d : PlayerBoard) → IsFreerOn e d → (a : Entry) (x y : ℕ) → x < element_count e → y < element_count e → IsBetween a x y
-    → IsBetween (moved_entry e d a) (moved e d x) (moved e d y)
+    → IsBetween (moved_entry e d a) (moved_element e d x) (moved_element e d y)
 between_moves e d f a x y h i b = elim (cases_eq x y) [
   | inl q ↦
-      let m : moved e d x ≡ moved e d y = ap (moved e d) q in
+      let m : moved_element e d x ≡ moved_element e d y = ap (moved_element e d) q in
       let p : min x y ≡ x = omega arith in
       let r : max x y ≡ y = omega arith in
-      (ap (moved e d) (b.0 ∙ p) ∙ least (moved e d x) (moved e d y) m, ap (moved e d) (b.1 ∙ r) ∙ most (moved e d x) (moved e d y) m)
+      (ap (moved_element e d) (b.0 ∙ p) ∙ least (moved_element e d x) (moved_element e d y) m, ap (moved_element e d) (b.1 ∙ r) ∙ most (moved_element e d x) (moved_element e d y) m)
   | inr n ↦ elim (cases_lt x y) [
     | inl l ↦
         let p : min x y ≡ x = omega arith in
         let r : max x y ≡ y = omega arith in
-        let m : moved e d x < moved e d y = moved_less e d f.freer f.own x y l i in
-        (ap (moved e d) (b.0 ∙ p) ∙ omega arith, ap (moved e d) (b.1 ∙ r) ∙ omega arith)
+        let m : moved_element e d x < moved_element e d y = moved_less e d f.freer f.own x y l i in
+        (ap (moved_element e d) (b.0 ∙ p) ∙ omega arith, ap (moved_element e d) (b.1 ∙ r) ∙ omega arith)
     | inr l ↦
         let p : min x y ≡ y = omega arith in
         let r : max x y ≡ x = omega arith in
-        let m : moved e d y < moved e d x = moved_less e d f.freer f.own y x (omega arith) h in
-        (ap (moved e d) (b.0 ∙ p) ∙ omega arith, ap (moved e d) (b.1 ∙ r) ∙ omega arith)
+        let m : moved_element e d y < moved_element e d x = moved_less e d f.freer f.own y x (omega arith) h in
+        (ap (moved_element e d) (b.0 ∙ p) ∙ omega arith, ap (moved_element e d) (b.1 ∙ r) ∙ omega arith)
   ]
 ]
   where
@@ -69,21 +69,21 @@ between_moves e d f a x y h i b = elim (cases_eq x y) [
 
 -- ---- carriers and middles
 
-misses_moves : (e d : PlayerBoard) → IsFreerOn e d → (a : Entry) (x : ℕ) → IsValid e a → x < element_count e → Misses e x a.carrier → Misses d (moved e d x) a.carrier
+misses_moves : (e d : PlayerBoard) → IsFreerOn e d → (a : Entry) (x : ℕ) → IsValid e a → x < element_count e → Misses e x a.carrier → Misses d (moved_element e d x) a.carrier
 misses_moves e d f a x v l m k h i = m k (cell_back e d f.freer f.own x k l (v.empty k i) h) i
 
-cell_stays : (e d : PlayerBoard) → IsFreerOn e d → (u k : ℕ) → IsCell e u k → IsCell d (moved e d u) k
+cell_stays : (e d : PlayerBoard) → IsFreerOn e d → (u k : ℕ) → IsCell e u k → IsCell d (moved_element e d u) k
 cell_stays e d f u k g = (f.freer.fewer k g.0, cell_moves e d f.freer f.own u k g.1)
 
 -- an empty cell of d is no group of e
-group_stays : (e d : PlayerBoard) → IsFreerOn e d → (u : ℕ) → u < element_count e → IsGroup e u → IsGroup d (moved e d u)
+group_stays : (e d : PlayerBoard) → IsFreerOn e d → (u : ℕ) → u < element_count e → IsGroup e u → IsGroup d (moved_element e d u)
 group_stays e d f u l g k h =
-    let to : head_element d k ≡ moved e d u = some_same (head_element d k) (moved e d u) (sym (of_free d k h.0) ∙ h.1) in
+    let to : head_element d k ≡ moved_element e d u = some_same (head_element d k) (moved_element e d u) (sym (of_free d k h.0) ∙ h.1) in
     elim (cases_lt u (edge_elements e)) [
       | inl m ↦ absurd (numbers_apart e d f.freer u k m to)
       | inr m ↦
           let (r, i, q) = head_there e u m l in
-          let same : k ≡ r = head_same d k r (empty_head d k h.0) (head_kept e d f.freer r i) (to ∙ ap (moved e d) (sym q) ∙ moved_head e d r f.own i) in
+          let same : k ≡ r = head_same d k r (empty_head d k h.0) (head_kept e d f.freer r i) (to ∙ ap (moved_element e d) (sym q) ∙ moved_head e d r f.own i) in
           elim (head_cases e r i) [
             | inl t ↦ g r (t, of_free e r t ∙ ap Some q)
             | inr t ↦
@@ -116,7 +116,7 @@ first_at from i numbers a ways h = (cc, cc)
 -- ---- each rule
 
 chain_moves : (e d : PlayerBoard) → IsFreerOn e d → (a b : Entry) (x u y : ℕ) → IsValid e a → IsValid e b → AndRule e a b x u y
-    → AndRule d (moved_entry e d a) (moved_entry e d b) (moved e d x) (moved e d u) (moved e d y)
+    → AndRule d (moved_entry e d a) (moved_entry e d b) (moved_element e d x) (moved_element e d u) (moved_element e d y)
 chain_moves e d f a b x u y va vb r =
     let p = between_below e a x u va r.chain.first in
     let q = between_below e b u y vb r.chain.second in
@@ -151,11 +151,11 @@ length_same e d ways (inl h) = inl (length-map ways (moved_entry e d) ∙ h)
 length_same e d ways (inr h) = inr (length-map ways (moved_entry e d) ∙ h)
 
 or_moves : (e d : PlayerBoard) → IsFreerOn e d → (ways : List Entry) (x y : ℕ) → x < element_count e → y < element_count e → OrRule ways x y
-    → OrRule (map (moved_entry e d) ways) (moved e d x) (moved e d y)
+    → OrRule (map (moved_entry e d) ways) (moved_element e d x) (moved_element e d y)
 or_moves e d f ways x y h i r = record {
   number = length_same e d ways r.number;
   kinds = all_move (λ (a : Entry). a.kind ≡ Semi) (λ (a : Entry). a.kind ≡ Semi) (moved_entry e d) ways (λ a k. k) r.kinds;
-  pairs = all_move (λ (a : Entry). IsBetween a x y) (λ (a : Entry). IsBetween a (moved e d x) (moved e d y)) (moved_entry e d) ways (λ a b. between_moves e d f a x y h i b) r.pairs;
+  pairs = all_move (λ (a : Entry). IsBetween a x y) (λ (a : Entry). IsBetween a (moved_element e d x) (moved_element e d y)) (moved_entry e d) ways (λ a b. between_moves e d f a x y h i b) r.pairs;
   free = λ k. in_all_same e d ways k ∙ r.free k;
 }
 
@@ -174,9 +174,9 @@ by_moves e d f from a (AndGroup i j) all v (b, g, x, u, y, t, r, w, s, k, c) =
     let q = between_below e g u y vg r.chain.second in (
       moved_entry e d b,
       moved_entry e d g,
-      moved e d x,
-      moved e d u,
-      moved e d y,
+      moved_element e d x,
+      moved_element e d u,
+      moved_element e d y,
       all_at_move e d from (i ∷ j ∷ []) (b ∷ g ∷ []) t,
       chain_moves e d f b g x u y vb vg r,
       group_stays e d f u p.1 w,
@@ -193,9 +193,9 @@ by_moves e d f from a (AndEmpty i j) all v (b, g, x, u, y, z, t, r, w, s, k, c) 
     let q = between_below e g u y vg r.chain.second in (
       moved_entry e d b,
       moved_entry e d g,
-      moved e d x,
-      moved e d u,
-      moved e d y,
+      moved_element e d x,
+      moved_element e d u,
+      moved_element e d y,
       z,
       all_at_move e d from (i ∷ j ∷ []) (b ∷ g ∷ []) t,
       chain_moves e d f b g x u y vb vg r,
@@ -220,19 +220,19 @@ follows_moves e d f from a all v h = by_moves e d f from a a.cause all v h
 
 -- ---- the lines
 
-end_moves : (e d : PlayerBoard) → IsFreerOn e d → (x : ℕ) (end : End) → IsEndFor e x end → IsEndFor d (moved e d x) end
+end_moves : (e d : PlayerBoard) → IsFreerOn e d → (x : ℕ) (end : End) → IsEndFor e x end → IsEndFor d (moved_element e d x) end
 end_moves e d f x (At k) h = record {
   element = cell_moves e d f.freer f.own x k h.element;
   place = subst (λ n. IsEndOn n (At k)) (sym f.freer.size) h.place;
   other = false_from_ne_true (has (stones_of d.board (other_of d.player)) k) (λ t. both_ways (has (stones_of e.board (other_of e.player)) k) h.other (f.freer.rest k t));
 }
 end_moves e d f x First h = record {
-  element = ap Some (sym (moved_edge e d f.freer false) ∙ ap (moved e d) (some_same (edge_element e false) x h.element));
+  element = ap Some (sym (moved_edge e d f.freer false) ∙ ap (moved_element e d) (some_same (edge_element e false) x h.element));
   place = tt;
   other = refl;
 }
 end_moves e d f x Second h = record {
-  element = ap Some (sym (moved_edge e d f.freer true) ∙ ap (moved e d) (some_same (edge_element e true) x h.element));
+  element = ap Some (sym (moved_edge e d f.freer true) ∙ ap (moved_element e d) (some_same (edge_element e true) x h.element));
   place = tt;
   other = refl;
 }

@@ -5,7 +5,7 @@ use Rattle.std.proofs.lemmas.Bool.{false_from_ne_true, lt-ltb, ltb-true}
 use Rattle.std.proofs.lemmas.List.Elements.{All-weaker}
 use Rattle.conn_store.specs.Stores.{IsSound, StoreData}
 use Rattle.conn_store.specs.declared.entries.Entry.{Entry}
-use Rattle.win_cert.specs.Cuts.{IsClosedSet, RestsOn, entries_in, premises}
+use Rattle.win_cert.specs.Cuts.{IsClosedSet, RestsOn, entries_numbered, premises}
 use Rattle.win_cert.specs.Cutting.{AreMarks, is_marked}
 use Rattle.win_cert.proofs.CutDerivations.{name_earlier, some_entry}
 
@@ -23,38 +23,38 @@ first_out : (b : Bool) (a : Entry) (xs : List Entry) → b ≡ false → (if b t
 first_out true a xs h = absurd (cc)
 first_out false a xs h = refl
 
-picked : (set : ℕ → Bool) (entries : List Entry) (n : ℕ) (a : Entry) → slice_get entries n ≡ Some a → set n ≡ true → entries_in set (take (suc n) entries) ≡ entries_in set (take n entries) ++ a ∷ []
+picked : (set : ℕ → Bool) (entries : List Entry) (n : ℕ) (a : Entry) → slice_get entries n ≡ Some a → set n ≡ true → entries_numbered set (take (suc n) entries) ≡ entries_numbered set (take n entries) ++ a ∷ []
 picked set [] n a h k = absurd (cc)
 picked set (e ∷ entries) zero a h k = first_in (set 0) e k ∙ ap (λ v. v ∷ []) (some_entry e a h)
 picked set (e ∷ entries) (suc n) a h k = front (set 0) e _ _ (a ∷ []) (picked (λ i. set (suc i)) entries n a h k)
 
 -- one entry more
-pub picked_more : (set : ℕ → Bool) (entries : List Entry) (n : ℕ) (a : Entry) → slice_get entries n ≡ Some a → set n ≡ true → entries_in set (take (n + 1) entries) ≡ entries_in set (take n entries) ++ a ∷ []
+pub picked_more : (set : ℕ → Bool) (entries : List Entry) (n : ℕ) (a : Entry) → slice_get entries n ≡ Some a → set n ≡ true → entries_numbered set (take (n + 1) entries) ≡ entries_numbered set (take n entries) ++ a ∷ []
 picked_more set entries n a h k =
     let q : suc n ≡ n + 1 = omega arith in
-    subst (λ v. entries_in set (take v entries) ≡ entries_in set (take n entries) ++ a ∷ []) q (picked set entries n a h k)
+    subst (λ v. entries_numbered set (take v entries) ≡ entries_numbered set (take n entries) ++ a ∷ []) q (picked set entries n a h k)
 
 same_front : (b : Bool) (a : Entry) (xs ys : List Entry) → xs ≡ ys → (if b then a ∷ xs else xs) ≡ (if b then a ∷ ys else ys)
 same_front b a xs ys h = ap (λ v. if b then a ∷ v else v) h
 
-passed : (set : ℕ → Bool) (entries : List Entry) (n : ℕ) → set n ≡ false → entries_in set (take (suc n) entries) ≡ entries_in set (take n entries)
+passed : (set : ℕ → Bool) (entries : List Entry) (n : ℕ) → set n ≡ false → entries_numbered set (take (suc n) entries) ≡ entries_numbered set (take n entries)
 passed set [] zero k = refl
 passed set [] (suc n) k = refl
 passed set (e ∷ entries) zero k = first_out (set 0) e [] k
 passed set (e ∷ entries) (suc n) k = same_front (set 0) e _ _ (passed (λ i. set (suc i)) entries n k)
 
 -- an entry that is not in the set
-pub picked_same : (set : ℕ → Bool) (entries : List Entry) (n : ℕ) → set n ≡ false → entries_in set (take (n + 1) entries) ≡ entries_in set (take n entries)
+pub picked_same : (set : ℕ → Bool) (entries : List Entry) (n : ℕ) → set n ≡ false → entries_numbered set (take (n + 1) entries) ≡ entries_numbered set (take n entries)
 picked_same set entries n k =
     let q : suc n ≡ n + 1 = omega arith in
-    subst (λ v. entries_in set (take v entries) ≡ entries_in set (take n entries)) q (passed set entries n k)
+    subst (λ v. entries_numbered set (take v entries) ≡ entries_numbered set (take n entries)) q (passed set entries n k)
 
-none_in : (set : ℕ → Bool) (entries : List Entry) → ((i : ℕ) → set i ≡ false) → entries_in set entries ≡ []
+none_in : (set : ℕ → Bool) (entries : List Entry) → ((i : ℕ) → set i ≡ false) → entries_numbered set entries ≡ []
 none_in set [] f = refl
 none_in set (e ∷ entries) f = first_out (set 0) e _ (f 0) ∙ none_in (λ i. set (suc i)) entries (λ i. f (suc i))
 
 -- no entry from number n on is in the set
-pub picked_all : (set : ℕ → Bool) (entries : List Entry) (n : ℕ) → ((i : ℕ) → n ≤ i → set i ≡ false) → entries_in set (take n entries) ≡ entries_in set entries
+pub picked_all : (set : ℕ → Bool) (entries : List Entry) (n : ℕ) → ((i : ℕ) → n ≤ i → set i ≡ false) → entries_numbered set (take n entries) ≡ entries_numbered set entries
 picked_all set [] zero f = refl
 picked_all set [] (suc n) f = refl
 picked_all set (e ∷ entries) zero f = sym (none_in set (e ∷ entries) (λ i. f i (omega arith)))
@@ -77,7 +77,7 @@ past_marked d n marks s m i l = false_from_ne_true (is_marked marks i) (λ t.
     absurd (omega (arith, l, u)))
 
 -- the entries on which entry n rests are the marked ones
-pub marked_rest : (d : StoreData) (n : ℕ) (marks : List Bool) → AreMarks d.entries n marks → RestsOn d.entries n (entries_in (is_marked marks) d.entries)
+pub marked_rest : (d : StoreData) (n : ℕ) (marks : List Bool) → AreMarks d.entries n marks → RestsOn d.entries n (entries_numbered (is_marked marks) d.entries)
 marked_rest d n marks m = (
   is_marked marks,
   record {
@@ -89,5 +89,5 @@ marked_rest d n marks m = (
 
 -- and stand up to entry n
 pub marked_front : (d : StoreData) (n : ℕ) (marks : List Bool) → IsSound d → AreMarks d.entries n marks
-    → entries_in (is_marked marks) (take (n + 1) d.entries) ≡ entries_in (is_marked marks) d.entries
+    → entries_numbered (is_marked marks) (take (n + 1) d.entries) ≡ entries_numbered (is_marked marks) d.entries
 marked_front d n marks s m = picked_all (is_marked marks) d.entries (n + 1) (past_marked d n marks s m)

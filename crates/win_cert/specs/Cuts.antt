@@ -68,15 +68,15 @@ pub record IsSupport (entries : List Entry) (n : ℕ) (set : ℕ → Bool) : Typ
       → (i : ℕ) → set i ≡ true → other i ≡ true
 
 -- the entries whose numbers are in the set, in their order
-abbrev pub entries_in : (ℕ → Bool) → List Entry → List Entry
-entries_in set [] = []
-entries_in set (a ∷ entries) = if set 0 then a ∷ entries_in (λ i. set (suc i)) entries
-    else entries_in (λ i. set (suc i)) entries
+abbrev pub entries_numbered : (ℕ → Bool) → List Entry → List Entry
+entries_numbered set [] = []
+entries_numbered set (a ∷ entries) = if set 0 then a ∷ entries_numbered (λ i. set (suc i)) entries
+    else entries_numbered (λ i. set (suc i)) entries
 
 -- these are the entries on which entry n rests, in their order, each once
 abbrev pub RestsOn : List Entry → ℕ → List Entry → Type 0
 RestsOn entries n own =
-    (set : ℕ → Bool) × IsSupport entries n set × (own ≡ entries_in set entries)
+    (set : ℕ → Bool) × IsSupport entries n set × (own ≡ entries_numbered set entries)
 
 -- the entry of a line for entry a of a store, in the scope s
 abbrev pub scoped : ℕ → Entry → ScopedEntry

@@ -20,16 +20,16 @@ pub record IsFreer (e d : PlayerBoard) : Type 0 where
   pub fewer : (k : ℕ) → is_empty_at e.board k ≡ true → is_empty_at d.board k ≡ true
 
 -- the number on d of the element that is x on e
-abbrev pub moved : PlayerBoard → PlayerBoard → ℕ → ℕ
-moved e d x = option_map_or (head_element d)
+abbrev pub moved_element : PlayerBoard → PlayerBoard → ℕ → ℕ
+moved_element e d x = option_map_or (head_element d)
     (find (λ k. is_head e k && head_element e k == x) (cells_of e.board.size)) x
 
 -- the entry with its elements as they are numbered on d
 abbrev pub moved_entry : PlayerBoard → PlayerBoard → Entry → Entry
 moved_entry e d a = record {
   kind = a.kind;
-  x = moved e d a.x;
-  y = moved e d a.y;
+  x = moved_element e d a.x;
+  y = moved_element e d a.y;
   carrier = a.carrier;
   cause = a.cause;
 }

@@ -1,7 +1,7 @@
 -- The least cell that is left falls out, and after the last of a half the other half is next.
 use Rattle.std.proofs.Common.{◌≡◌, ◌++◌, ◌*◌, ◌^◌, ◌%◌, bit_xor, sym, ap, ◌∙◌, arith, append-nil}
 use Rattle.std.specs.Int.{trailing_zeros, w64}
-use Rattle.walker.specs.Climbs.{adds_after, adds_in}
+use Rattle.walker.specs.Climbs.{adds_after, half_adds}
 use Rattle.walker.proofs.HalfLaws.{none-in, next-in}
 use Rattle.walker.proofs.climbs.Climb.got.Goals as goal
 
@@ -18,7 +18,7 @@ returns-then-rest-ne0 c =
     let h = c.self.inside.half in
     let n = c.self.inside.next in
     let won = c.self.inside.won in
-    ap adds_after (sym (sym c.self.view_is ∙ ap (λ adds. adds ++ adds_in n.first won n.cells n.left) (next-in h.first won h.cells h.left (omega (arith, c.if-left-eq0.false)) (omega arith))))
+    ap adds_after (sym (sym c.self.view_is ∙ ap (λ adds. adds ++ half_adds n.first won n.cells n.left) (next-in h.first won h.cells h.left (omega (arith, c.if-left-eq0.false)) (omega arith))))
 
 pub returns-else-rest-ne0 : goal.returns-else-rest-ne0
 returns-else-rest-ne0 c =
@@ -26,7 +26,7 @@ returns-else-rest-ne0 c =
     let n = c.self.inside.next in
     let won = c.self.inside.won in
     let e = c.none-self-inside.result in
-    let after = adds_in n.first won n.cells n.left in
+    let after = half_adds n.first won n.cells n.left in
     ap (λ adds. after ++ adds) (none-in e.first won e.cells e.left c.none-self-inside.ensures.1) ∙ (append-nil after
     ∙ (sym (ap (λ adds. adds ++ after) (none-in h.first won h.cells (bit_xor h.left (1 * 2 ^ trailing_zeros w64 h.left % 2 ^ 64)) c.if-rest-ne0.false))
     ∙ ap adds_after (sym (sym c.self.view_is ∙ ap (λ adds. adds ++ after) (next-in h.first won h.cells h.left (omega (arith, c.if-left-eq0.false)) (omega arith))))))

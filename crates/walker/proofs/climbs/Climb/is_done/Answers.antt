@@ -1,7 +1,7 @@
 -- No cell is left where no add is.
 use Rattle.std.proofs.Common.{◌++◌, sym, ◌∙◌, arith, eq-eqb}
 use Rattle.std.proofs.lemmas.Bool.{eqb-true}
-use Rattle.walker.specs.Climbs.{adds_in}
+use Rattle.walker.specs.Climbs.{half_adds}
 use Rattle.walker.proofs.HalfLaws.{none-in, done-in}
 use Rattle.walker.proofs.climbs.Climb.is_done.Goals as goal
 
@@ -13,5 +13,5 @@ returns c =
       λ t.
           let none = eqb-true h.left 0 t in
           sym c.self.view_is ∙ (λ i. none-in h.first won h.cells h.left none i ++ none-in n.first won n.cells n.left (c.self.invariant.2 none) i),
-      λ e. eq-eqb h.left 0 (done-in h.first won h.cells h.left (adds_in n.first won n.cells n.left) (omega arith) (c.self.view_is ∙ e)),
+      λ e. eq-eqb h.left 0 (done-in h.first won h.cells h.left (half_adds n.first won n.cells n.left) (omega arith) (c.self.view_is ∙ e)),
     )

@@ -1,6 +1,6 @@
 -- A half without an add is left out.
 use Rattle.std.proofs.Common.{◌++◌, sym, ap, ◌∙◌, append-nil}
-use Rattle.walker.specs.Climbs.{adds_in}
+use Rattle.walker.specs.Climbs.{half_adds}
 use Rattle.walker.proofs.HalfLaws.{none-in}
 use Rattle.walker.proofs.climbs.Climb.of_halves.Goals as goal
 
@@ -10,6 +10,6 @@ returns-else-half-ne0 c =
     let n = c.args.next in
     let won = c.args.won in
     let e = c.none.result in
-    let rest = adds_in n.first won n.cells n.left in
+    let rest = half_adds n.first won n.cells n.left in
     ap (λ adds. rest ++ adds) (none-in e.first won e.cells e.left c.none.ensures.1) ∙ (append-nil rest
     ∙ sym (ap (λ adds. adds ++ rest) (none-in h.first won h.cells h.left c.if-half-ne0.false)))
