@@ -2,7 +2,7 @@
 """Plays sessions with `--trace`, compares the trees of their traces with what is worked out by hand,
 and has the traces, and changed ones, audited by `bin/hexd audit`.
 
-    examples/audit_rows.py
+    tools/audit_rows.py
 
 It says nothing where all is as it has to be; else it names what differs, and ends with status 1.
 """
@@ -125,7 +125,7 @@ def main():
     claims = claims[:96] + struct.pack("<Q", 16_777_216) + claims[104:]
     audit("many claims of a large tree", claims * 20_000, b"yes 20000\n")
     for line in wrong:
-        print("examples/audit_rows.py:", line)
+        print("tools/audit_rows.py:", line)
     return 1 if wrong else 0
 
 

@@ -1,7 +1,7 @@
 #!/usr/bin/env python3
 """Lets the system take a part of what `bin/hexd` writes at once, and compares what arrives in the end.
 
-    examples/short_writes.py
+    tools/short_writes.py
 
 A write that waits for its reader comes back with what it has written so far when the process is stopped
 and goes on. So a certificate of several MB is written to a pipe of 4,096 bytes (standard output), and a
@@ -163,7 +163,7 @@ def main():
         check_pipe()
         check_terminal()
     except Fault as fault:
-        print("examples/short_writes.py: %s" % fault)
+        print("tools/short_writes.py: %s" % fault)
         return 1
     return 0
 

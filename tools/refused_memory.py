@@ -1,14 +1,14 @@
 #!/usr/bin/env python3
 """Refuses each allocation of some runs in turn, and says how each run ended.
 
-    examples/refused_memory.py [ROW ...]
+    tools/refused_memory.py [ROW ...]
 
 A run is one of `hex_cli::run` over links in memory, in pieces of seven bytes. Each has to end with
 its own result, or with status 5, its line on standard error, and the answers to the first lines:
 nothing is left out, nothing is given by half, and nothing else comes in place of an answer.
 
 `rt try --fail-alloc N` refuses the Nth allocation of a program, which it builds for that number.
-examples/refused_memory/program.txt is a program that makes as many allocations before the run as it
+tools/refused_memory/program.txt is a program that makes as many allocations before the run as it
 is told to, so that one build serves for all: it is built twice, once to count the allocations of
 each run, and once to refuse each of them. `rt try` builds with checks, so a bad access, a sum that
 wraps or a failed `unwrap` ends a run too. That takes some minutes, and no part of it is in the gate.
@@ -25,7 +25,7 @@ import tempfile
 from pathlib import Path
 
 TOP = Path(__file__).resolve().parent.parent
-PROGRAM = TOP / "examples" / "refused_memory" / "program.txt"
+PROGRAM = TOP / "tools" / "refused_memory" / "program.txt"
 NAME = "refused_memory"
 # The number of the allocation that is refused. The program's MOST is above it.
 REFUSED = 2000
