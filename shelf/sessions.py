@@ -1,13 +1,15 @@
 """Asks hexd, over one pipe, what it plans for a position: a win with its certificate, or threats."""
 
-import os
 import subprocess
+import sys
 from typing import NamedTuple
 
 from grids import members
 from openings import SHELF
 
-HEXD = os.environ.get("HEXD", str(SHELF.parent / "bin" / "hexd"))
+sys.path.insert(0, str(SHELF.parent / "tools"))
+from programs import HEXD
+
 COLOURS = ("black", "white")
 HEAD_LINES = 5
 

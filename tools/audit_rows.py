@@ -7,13 +7,16 @@ and has the traces, and changed ones, audited by `bin/hexd audit`.
 It says nothing where all is as it has to be; else it names what differs, and ends with status 1.
 """
 
-import os
 import struct
-import subprocess
 import sys
 import tempfile
+from pathlib import Path
 
-HEXD = os.path.join(os.path.dirname(os.path.abspath(__file__)), "..", "bin", "hexd")
+from programs import ROOT, run
+
+sys.path.insert(0, str(ROOT / "examples"))
+from traces import children, trees
+
 FRONT = 128  # bytes before the words of a tree: a name of 8, and 15 fields
 RECORD_AT, TALLY_AT = 144, 168  # in the trace of one playout on size 2
 wrong = []
@@ -28,40 +31,38 @@ def expect(name, got, want):
 def session(words, lines):
     """The trace of a session."""
     with tempfile.TemporaryDirectory() as folder:
-        trace = os.path.join(folder, "trace")
-        command = [HEXD, "htp", "--hsearch", "off", *words, "--trace", trace]
-        done = subprocess.run(command, input=lines, capture_output=True)
-        expect("status of " + " ".join(words), done.returncode, 0)
-        with open(trace, "rb") as file:
-            return file.read()
+        trace = Path(folder, "trace")
+        _, status = run("htp", "--hsearch", "off", *words, "--trace", str(trace), given=lines)
+        expect("status of " + " ".join(words), status, 0)
+        return trace.read_bytes()
 
 
 def audit(name, trace, line):
     """What the audit has to say."""
-    done = subprocess.run([HEXD, "audit"], input=trace, capture_output=True)
-    expect(name, (done.stdout, done.returncode), (line, 0 if line.startswith(b"yes") else 1))
+    expect(name, run("audit", given=trace), (line, 0 if line.startswith(b"yes") else 1))
+
+
+def first_tree(trace):
+    """The words of the first tree of a trace, and its root's first word."""
+    fields, words = next(trees(trace))
+    return words, fields["playouts"] + 2
 
 
 def root_children(trace):
     """The visits, wins, seen visits and seen wins of each child of the root of the first tree."""
-    playouts, count = struct.unpack_from("<Q", trace, 80)[0], struct.unpack_from("<Q", trace, 120)[0]
-    words = struct.unpack_from("<%dQ" % count, trace, FRONT)
-    block = words[playouts + 3]
-    nodes = [block + 4 + 4 * place for place in range(words[block + 3])]
-    return [(words[n + 2] >> 32, words[n + 2] % 2**32, words[n + 3] >> 32, words[n + 3] % 2**32) for n in nodes]
+    words, root = first_tree(trace)
+    return [(visits, wins, words[n + 3] >> 32, words[n + 3] % 2**32) for _, visits, wins, n in children(words, root)]
 
 
 def counts(trace):
     """How many records the first tree has, the visits of its root, and its linked blocks beside the root's."""
-    playouts, count = struct.unpack_from("<Q", trace, 80)[0], struct.unpack_from("<Q", trace, 120)[0]
-    words = struct.unpack_from("<%dQ" % count, trace, FRONT)
-    blocks, nodes = 0, [playouts + 2]
+    words, root = first_tree(trace)
+    blocks, nodes = 0, [root]
     while nodes:
-        block = words[nodes.pop() + 1]
-        if block:
-            blocks += 1
-            nodes += [block + 4 + 4 * place for place in range(words[block + 3])]
-    return sum(word != 0 for word in words[2 : playouts + 2]), words[playouts + 4] >> 32, blocks - 1
+        below = [node for *_, node in children(words, nodes.pop())]
+        blocks += below != []
+        nodes += below
+    return sum(word != 0 for word in words[2:root]), words[root + 2] >> 32, blocks - 1
 
 
 def changed(trace, at, byte):

@@ -12,9 +12,9 @@ import subprocess
 import sys
 import threading
 import time
-from pathlib import Path
 
-PROGRAM = Path(__file__).resolve().parent.parent / "bin" / "hexd"
+from programs import HEXD, size_of
+
 LIMIT = 67_108_864
 BLOCK = 65_536
 MOST_GROWTH = 256
@@ -43,7 +43,7 @@ class Session:
     """A session whose answers are counted as they come."""
 
     def __init__(self):
-        self.process = subprocess.Popen([PROGRAM, "htp"], stdin=subprocess.PIPE, stdout=subprocess.PIPE)
+        self.process = subprocess.Popen([HEXD, "htp"], stdin=subprocess.PIPE, stdout=subprocess.PIPE)
         self.answers, self.more = 0, threading.Condition()
         self.reader = threading.Thread(target=self.count)
         self.reader.start()
@@ -66,22 +66,17 @@ class Session:
         with self.more:
             self.more.wait_for(lambda: self.answers >= answers, timeout=60)
 
-    def size(self):
-        """VmRSS in KiB."""
-        status = Path("/proc/%d/status" % self.process.pid).read_text()
-        return int(status.split("VmRSS:")[1].split()[0])
-
 
 def main():
     text, answers = block()
     session, began = Session(), time.time()
     session.send(text)
     session.wait_for(answers)
-    first = session.size()
+    first = size_of(session.process)
     for _ in range(LIMIT // BLOCK - 1):
         session.send(text)
     session.wait_for(answers * (LIMIT // BLOCK))
-    last = session.size()
+    last = size_of(session.process)
     session.process.stdin.close()
     session.reader.join()
     status = session.process.wait()

@@ -21,11 +21,12 @@ import tty
 from fcntl import F_SETPIPE_SZ, fcntl
 from pathlib import Path
 
-PROGRAM = Path(__file__).resolve().parent.parent / "bin" / "hexd"
+from programs import HEXD
+
 PIPE = 4_096
 # The bytes of each write of a trace, but for the last one.
 WRITE = 4_096
-TRACED = [PROGRAM, "htp", "--size", "5", "--hsearch", "off", "--playouts", "2000", "--trace"]
+TRACED = [HEXD, "htp", "--size", "5", "--hsearch", "off", "--playouts", "2000", "--trace"]
 SECONDS = 30
 
 
@@ -98,7 +99,7 @@ def check_pipe():
     with tempfile.TemporaryFile() as source:
         source.write(text)
         source.seek(0)
-        with subprocess.Popen([PROGRAM, "migrate"], stdin=source, stdout=writer) as process:
+        with subprocess.Popen([HEXD, "migrate"], stdin=source, stdout=writer) as process:
             os.close(writer)
             try:
                 until(lambda: select.select([reader], [], [], 0)[0], "the text")
