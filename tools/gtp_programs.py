@@ -30,7 +30,7 @@ class Program(NamedTuple):
 
 
 def zero_network(folder):
-    """Leela Zero starts with a network alone, of which Debian has none: this one has the fewest layers, and all weights zero."""
+    """Leela Zero needs a network, of which Debian has none: this one has the fewest layers, and all weights are zero."""
     planes, points, hidden = 18, 361, 256
     # Each convolution has weights, biases, means and variances; behind that of the policy there is one layer, behind that of
     # the value two.
