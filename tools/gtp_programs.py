@@ -14,7 +14,7 @@ from programs import HEXD, size_of
 
 # What a program may take of memory in address space, so that a record that hurts hurts nobody else.
 MOST_MEMORY = 6 << 30
-# Longer than any answer here takes: what has not come by then is told as missing.
+# What has not come by then is told as missing: far longer than any answer here takes, but where none would come.
 SECONDS = 10
 # Where Debian has games, which are not on the path of root.
 PATH = os.environ["PATH"] + ":/usr/games"
@@ -71,11 +71,11 @@ def start(program, folder, **streams):
     )
 
 
-def converse(program, given, folder):
+def converse(program, given, folder, seconds=SECONDS):
     """What a session writes on an input, and how it ends: a status, or None where it had to be ended."""
     process = start(program, folder, stderr=subprocess.DEVNULL)
     try:
-        text, _ = process.communicate(given, timeout=SECONDS)
+        text, _ = process.communicate(given, timeout=seconds)
         return text, process.returncode
     except subprocess.TimeoutExpired:
         process.kill()
