@@ -25,8 +25,6 @@ mod decimals;
 mod edges;
 mod graph;
 mod sets;
-#[cfg(test)]
-mod tests;
 mod vertices;
 
 pub use board_size::{MOST_CELLS, Size};
