@@ -1,6 +1,6 @@
 //! The blocks that the links of nodes name, entered in the table.
 
-ghost use Rattle.std.specs.Prelude.{IfOk};
+ghost use Rattle.std.specs.Prelude.{◌≡◌, IfOk};
 ghost use Rattle.trace_audit.specs.Scans.{FollowsLink, FollowsLinks, HasNextNode, IsFoundLast};
 
 use super::refusals::Memory;
@@ -8,6 +8,17 @@ use super::sites::{Site, Table};
 use hex_cells::Cell;
 use tree_words::cell_of;
 use tree_words::layout::{HEADER_WORDS, LINK_WORD, NODE_WORDS};
+
+// How many sites there are, as the index holds it. Before a number is too large for it, memory runs
+// out.
+fn number_of(sites: usize) -> Result<u32, Memory>
+    ensures { IfOk result (λ number. number ≡ sites) }
+{
+    if sites > u32::MAX as usize {
+        return Err(Memory);
+    }
+    Ok(sites as u32)
+}
 
 /// Enters the block that the link of the node at `x` names, if it names one. It begins at `free` or
 /// behind it, and says that its parent is the node. Answers whether all is so.
@@ -38,7 +49,7 @@ pub(crate) fn enter(
     let Ok(()) = table.sites.push(Site { start, ..site }) else {
         return Err(Memory);
     };
-    table.index[start] = table.sites.len();
+    table.index[start] = number_of(table.sites.len())?;
     Ok(true)
 }
 
@@ -52,7 +63,7 @@ pub(crate) fn enter_all(
     requires { IsFoundLast words.now table.old at end }
     ensures { IfOk result (λ ok. FollowsLinks words.now table.old table.new at end ok) }
 {
-    let site = table.sites[table.index[at] - 1];
+    let site = table.sites[table.index[at] as usize - 1];
     let mut x = at + HEADER_WORDS;
     'nodes: while x < end {
         let after = site.after(Cell::numbered(cell_of(words[x])));

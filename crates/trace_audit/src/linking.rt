@@ -42,7 +42,7 @@ fn pass_block(
 {
     // What each shape keeps of itself.
     let _board = shape.board();
-    let site = table.sites[table.index[at] - 1];
+    let site = table.sites[table.index[at] as usize - 1];
     let parent = words[at] as usize;
     let Some(end) = block_end(words, shape, at, parent, &site.board) else {
         return Ok(None);

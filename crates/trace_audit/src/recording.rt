@@ -65,7 +65,7 @@ fn site_of(words: &[u64], table: &Table, block: usize, node: usize) -> Site
     requires { IsLinkedNode words.now table.now block node }
     ensures { IsSiteOf words.now table.now block node result }
 {
-    let site = table.sites[table.index[block] - 1];
+    let site = table.sites[table.index[block] as usize - 1];
     site.after(Cell::numbered(cell_of(words[node])))
 }
 

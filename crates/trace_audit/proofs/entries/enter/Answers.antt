@@ -24,4 +24,4 @@ returns-then-words-start-2 c = λ s bs g last e. let h = g.0 in let long = g.1 i
 
 pub returns : goal.returns
 returns c = λ s bs g last e. let h = g.0 in let long = g.1 in let sc = g.2 in let n = g.3 in enter_some s c.args.words.now c.args.table.now _ c.args.x c.args.free bs sc n _ (slice_index c.args.words.now (c.args.x + 1)) refl e refl (omega (arith, c.if-start-free.false)) (omega (arith, c.if-words-start.false, long)) c.if-words-start-2.false
-    (ap (λ k. set c.args.table.now.index.items (slice_index c.args.words.now (c.args.x + 1)) k) (omega (arith, c.len.ensures, c.in-Ok.ensures.len, c.args.table.now.sites.ok.0))) c.in-Ok.ensures.items refl
+    (ap (λ k. set c.args.table.now.index.items (slice_index c.args.words.now (c.args.x + 1)) k) (omega (arith, c.in_ok-table.ensures, c.len.ensures, c.in-Ok.ensures.len, c.args.table.now.sites.ok.0))) c.in-Ok.ensures.items refl

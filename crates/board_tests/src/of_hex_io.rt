@@ -1,6 +1,6 @@
 //! What no clause says: that a call succeeds with ample memory, and that the devices are there.
 
-use super::{
+use hex_io::{
     Bytes, DirShelf, ErrLink, File, FileLink, Link, LinkFault, MemLink, MemShelf, Shelf,
     ShelfError, StdLink, Word, give, report,
 };

@@ -2,9 +2,9 @@
 
 ghost use Rattle.std.specs.Prelude.{◌*◌, ◌<◌};
 
-use super::{Game, Move, NoMove, PlayError, Step};
 use hex_board::Board;
 use hex_cells::{Cell, CellSet, Colour, Size};
+use hex_game::{Game, Move, NoMove, PlayError, Step};
 use std::process::Abort;
 use std::test::Fail;
 

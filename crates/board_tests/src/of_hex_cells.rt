@@ -1,6 +1,6 @@
 //! What no clause says of itself: vectors from outside, and each public call once.
 
-use super::{
+use hex_cells::{
     Cell, CellSet, Colour, DECIMAL_LEN, MOST_CELLS, Size, VERTEX_LEN, edge, neighbours,
     read_vertex, write_decimal, write_vertex,
 };

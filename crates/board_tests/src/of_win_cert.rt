@@ -1,6 +1,6 @@
 //! What no clause says: the certificates V1, V2 and V3, texts that are none, and ample memory.
 
-use super::{CertError, End, LATEST_VERSION, Line, lines_onto, raise, read, write};
+use win_cert::{CertError, End, LATEST_VERSION, Line, lines_onto, raise, read, write};
 use hex_board::Board;
 use hex_cells::{CellSet, Colour, Size};
 use hsearch::connect;

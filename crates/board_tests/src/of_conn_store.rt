@@ -1,6 +1,6 @@
 //! The rows of single calls, and each call once.
 
-use super::{Held, Kind, Put, Store};
+use conn_store::{Held, Kind, Put, Store};
 use hex_board::Board;
 use hex_cells::{Cell, CellSet, Colour, Size};
 use std::alloc::Global;

@@ -1,6 +1,6 @@
 //! Lines and answers with values from the protocol's rules, and calls with ample memory.
 
-use super::{Parsed, Splitter, id_text, push_failure, push_success, read_line};
+use htp_line::{Parsed, Splitter, id_text, push_failure, push_success, read_line};
 use std::alloc::{AllocError, Global};
 
 /// An id or `-`, and the words, with one space between them; blank is `blank`.

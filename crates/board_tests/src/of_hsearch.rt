@@ -2,10 +2,10 @@
 
 ghost use Rattle.std.specs.Prelude.{◌≡◌, ◌<◌};
 
-use super::{Report, connect};
 use conn_store::{Kind, Store};
 use hex_board::Board;
 use hex_cells::{Cell, CellSet, Colour, Size, edge};
+use hsearch::{Report, connect};
 use std::alloc::Global;
 use std::process::Abort;
 use std::rt::HostRuntime;

@@ -1,6 +1,6 @@
 //! Records that show the rules of reading, with ample memory.
 
-use super::{GameError, from_game, read_game, to_game};
+use sgf_game::{GameError, from_game, read_game, to_game};
 use hex_game::Game;
 use sgf_tree::{parse, print};
 use std::alloc::Global;

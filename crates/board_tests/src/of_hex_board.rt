@@ -2,7 +2,7 @@
 
 ghost use Rattle.std.specs.Prelude.{◌≡◌, ◌*◌, ◌<◌, ◌≤◌};
 
-use super::{Board, Elements};
+use hex_board::{Board, Elements};
 use hex_cells::{Cell, CellSet, Colour, Size};
 use std::process::Abort;
 use std::rt::HostRuntime;

@@ -1,6 +1,6 @@
 //! The format's own examples, with ample memory.
 
-use super::{SgfError, parse, print};
+use sgf_tree::{SgfError, parse, print};
 use std::alloc::Global;
 use std::test::Fail;
 

@@ -1,4 +1,4 @@
-use Rattle.hsearch.proofs.tests.+is_true.Given as goal
+use Rattle.board_tests.proofs.of_hsearch.+is_true.Given as goal
 
 abbrev pub decreases-is_true : goal.decreases-is_true
 decreases-is_true l = l.fuel
