@@ -1,6 +1,7 @@
 //! What a playout adds to the sums, on the way from its leaf up to the root.
 
-ghost use Rattle.std.specs.Prelude.{◌≡◌, ◌+◌, ◌<◌, ◌≤◌, ◌^◌, if◌then◌else◌, length, set, slice_index};
+ghost use Rattle.std.specs.Prelude.{◌≡◌, ◌+◌, ◌<◌, ◌≤◌, ◌^◌, if◌then◌else◌};
+ghost use Rattle.std.specs.Prelude.{length, set, slice_index};
 ghost use Rattle.hex_cells.specs.Colours.{is_same};
 ghost use Rattle.tree_words.specs.Blocks.{block_size};
 ghost use Rattle.tree_words.specs.Sequence.{amount_of};
