@@ -5,8 +5,8 @@ use Rattle.clap.specs.Words.{first_value, found_of}
 use Rattle.clap.specs.declared.parser.matches.ArgMatches.{ArgMatches}
 use Rattle.option_words.specs.Command.{ReadsForm}
 use Rattle.option_words.specs.Finding.{FindsIn, FindsLine}
-use Rattle.option_words.specs.Grammar.{Saying, defaults_of, value_of, word_name}
-use Rattle.option_words.specs.Lines.{IsLine, value_in}
+use Rattle.option_words.specs.Grammar.{value_of, word_name}
+use Rattle.option_words.specs.Lines.{IsLine}
 use Rattle.option_words.specs.Values.{TextBytes, lone_hyphen}
 use Rattle.option_words.proofs.Unsaid.{said_without_default}
 use Rattle.hexd_words.specs.Reading.{WellFormed}

@@ -8,7 +8,7 @@ ghost use Rattle.match_ref.specs.Statuses.{end_line, end_status};
 pub enum End {
     /// The match was played, and its text given.
     Done,
-    /// The words are not well formed.
+    /// The words ask for no match.
     Usage,
     /// A write failed.
     WriteFault,

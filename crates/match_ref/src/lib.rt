@@ -15,8 +15,8 @@
 //!
 //! **What is proved.** The games of [`play_match`] are the match games of specs/Matches.antt, as
 //! many as the match says and in order, whatever the number of threads and the schedule; each step
-//! is legal; and [`match_games_are_determined`]. [`read_match_words`] reads words exactly where they
-//! are well formed. What [`run_match`] gives is the text of the match games of its words, or a
+//! is legal; and [`match_games_are_determined`]. [`read_match_words`] answers a match exactly where
+//! the words ask for it. What [`run_match`] gives is the text of the match games of its words, or a
 //! front of it with the status of a write fault, and else nothing; each status has its cause.
 //!
 //! **What is only tested, or not said.** That games are played side by side: a gate holds each of

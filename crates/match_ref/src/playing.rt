@@ -6,9 +6,7 @@ ghost use Rattle.hex_game.specs.Games.{IsOnBoard, board_of, is_legal, with_step}
 ghost use Rattle.hex_game.specs.Moves.{step_of};
 ghost use Rattle.hex_game.specs.declared.moves.Move.TheVariants.{Stone};
 ghost use Rattle.hex_game.specs.declared.moves.TheConstants.{MOST_STEPS};
-ghost use Rattle.hex_plan.specs.Good.{IsTurnShape};
 ghost use Rattle.hex_plan.specs.Openings.{may_move};
-ghost use Rattle.hex_plan.specs.Plans.{IsPlanned, IsSearchAmong};
 ghost use Rattle.hex_board.specs.Positions.{empty_board};
 ghost use Rattle.tree_words.specs.Settings.{AreInRange};
 ghost use Rattle.match_ref.specs.Matches.{IsMatch, IsMatchGame, IsTurnCell, is_side_a, side_knobs};

@@ -2,7 +2,6 @@
 
 ghost use Rattle.std.specs.Prelude.{◌≡◌, ◌⊎◌};
 ghost use Rattle.hex_io.specs.Causes.{CountsFault};
-ghost use Rattle.match_ref.specs.Dealt.{AreGamesOf};
 ghost use Rattle.match_ref.specs.MatchRuns.{CompletesMatch, CountsMatchWrites, IsMatchRefusal};
 ghost use Rattle.match_ref.specs.MatchRuns.{Referees, RefereesBy};
 ghost use Rattle.match_ref.specs.MatchRuns.{ReportsEnd, LeavesLink};
@@ -30,7 +29,7 @@ use std::thread::Threads;
 /// | status | comes | line for the errors |
 /// |---|---|---|
 /// | 0 | the match was played, and its text given | |
-/// | 2 | exactly where the words are not well formed | `hexd: usage` |
+/// | 2 | exactly where the words ask for no match | `hexd: usage` |
 /// | 4 | only where a write failed; a front of the text was given | |
 /// | 5 | memory ran out; nothing was given | `hexd: out of memory` |
 ///

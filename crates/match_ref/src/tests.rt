@@ -168,7 +168,7 @@ fn plays_matches(rt: HostRuntime) -> Result<(), Fail> {
         ("--size=1 --games=1 --", "0 a black 1\na 1 b 0\n"),
         (
             "--size 2 --games 1 --playouts-a 9 --playouts-b 9 --records=on --seed=9",
-            "0 a black 3\n(;FF[4]GM[11]SZ[2];B[b1];W[a1];B[b2])\na 1 b 0\n",
+            "0 a black 3\n(;FF[4]GM[11]SZ[2];B[a2];W[b1];B[a1])\na 1 b 0\n",
         ),
     ];
     for (line, text) in table {
@@ -209,7 +209,7 @@ fn refuses_words(rt: HostRuntime) -> Result<(), Fail> {
         let left = run_of(&rt, line, 1_000, &OpenGate)?;
         assert_eq!(rt; left.status, 2, "{line}");
         assert!(rt; left.link.given().is_empty(), "{line}");
-        assert_eq!(rt; left.errors.given(), b"hexd: usage\n", "{line}");
+        assert_eq!(rt; left.errors.given(), b"hexd: usage\n".as_slice(), "{line}");
     }
     Ok(())
 }

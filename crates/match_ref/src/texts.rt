@@ -1,6 +1,6 @@
 //! The text of a match.
 
-ghost use Rattle.std.specs.Prelude.{◌≡◌, ◌++◌, ◌≤◌, ℕ, Bool, All, IfOk, OnOk, length, codes, Some};
+ghost use Rattle.std.specs.Prelude.{◌≡◌, ◌++◌, All, IfOk, OnOk};
 ghost use Rattle.std.specs.Fmt.{decimal};
 ghost use Rattle.hex_board.specs.Positions.{empty_board};
 ghost use Rattle.hex_game.specs.Games.{AreLegal};

@@ -1,8 +1,7 @@
 //! What the words of a command line ask for: a match, and whether its records are wanted.
 
-ghost use Rattle.std.specs.Prelude.{◌≡◌, ◌↔◌, IfOk, IfSome, Some, None, option_map, codes};
+ghost use Rattle.std.specs.Prelude.{◌≡◌, ◌↔◌, IfOk, IfSome, Some, option_map};
 ghost use Rattle.clap.specs.Words.{first_value, found_of};
-ghost use Rattle.option_words.specs.Grammar.{word_name};
 ghost use Rattle.option_words.specs.Values.{IsNumberFrom};
 ghost use Rattle.hex_cells.specs.declared.board_size.Size.{Size};
 ghost use Rattle.match_ref.specs.Matches.{IsMatch};
@@ -30,7 +29,7 @@ pub struct MatchWords {
     pub records: bool,
 }
 
-/// The match that the words ask for; none exactly where the words are not well formed.
+/// The match that the words ask for; none exactly where they ask for none.
 pub fn read_match_words(alloc: Global, words: &[Word]) -> Result<Option<MatchWords>, Memory>
     ensures exact { IfOk result
         (λ r. (w : MatchWords) → (r ≡ Some w) ↔ AskFor words.now w) }

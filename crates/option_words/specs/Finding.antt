@@ -1,5 +1,6 @@
 -- What is found in words.
-use Rattle.std.specs.Prelude.{◌≡◌, ◌≢◌, List, [], Option, Some, None, All, Contains, MatchOption, ◌∷◌}
+use Rattle.std.specs.Prelude.{◌≡◌, ◌≢◌, List, [], ◌∷◌, Option, Some, None, All, Contains}
+use Rattle.std.specs.Prelude.{MatchOption}
 use Rattle.std.specs.Str.{IsUtf8}
 use Rattle.clap.specs.Words.{App, fault_of, first_of, first_value, found_of, matches_of, rows_of}
 use Rattle.clap.specs.Words.{with_rule}

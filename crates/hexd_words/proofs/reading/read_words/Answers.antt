@@ -1,7 +1,6 @@
 use Rattle.std.proofs.Common.{◌≡◌, ◌↔◌, List, subst, sym, Option, Some, None}
 use Rattle.std.proofs.lemmas.Result.{IfOk-weaker}
-use Rattle.clap.specs.Words.{App, app_of, first_value, found_of}
-use Rattle.clap.specs.declared.parser.matches.ArgMatches.{ArgMatches}
+use Rattle.clap.specs.Words.{App, first_value, found_of}
 use Rattle.option_words.specs.Command.{ReadsForm}
 use Rattle.option_words.specs.Finding.{FindsIn, FindsLine}
 use Rattle.option_words.specs.Values.{TextBytes}
