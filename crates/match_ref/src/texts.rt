@@ -53,8 +53,9 @@ fn push_winner(text: &mut Vec<u8>, number: usize, winner: Option<Colour>) -> Res
     Ok(())
 }
 
-/// Writes the line of a game: its number, who won it, and how many steps it has.
-pub fn push_line(
+/// Writes the line of a game at the end of the text: its number, who won it, and how many steps it
+/// has. It refuses for want of memory alone.
+pub fn push_game_line(
     alloc: Global,
     text: &mut Vec<u8>,
     number: usize,
@@ -80,7 +81,7 @@ fn push_game(
     requires { AreLegal (empty_board asked.now.setup.size) game.now.steps }
     ensures { OnOk result (text.new.items ≡ text.old.items ++ game_text asked.now number game.now) }
 {
-    push_line(alloc, text, number, game)?;
+    push_game_line(alloc, text, number, game)?;
     if asked.records {
         push_record(alloc, text, &asked.setup, game)?;
     }

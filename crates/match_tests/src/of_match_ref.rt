@@ -3,10 +3,9 @@
 ghost use Rattle.std.specs.Prelude.{IfSome};
 ghost use Rattle.match_ref.specs.Matches.{IsMatch};
 
-use super::texts::push_line;
-use super::{Match, Played, Side, Steps, play_match, run_match};
 use hex_cells::{Colour, Size};
 use hex_io::{MemLink, Word};
+use match_ref::{Match, Played, Side, Steps, play_match, push_game_line, run_match};
 use search_team::{Gate, OpenGate};
 use std::alloc::Global;
 use std::sync::atomic::{AtomicBool, Ordering};
@@ -264,7 +263,7 @@ fn tells_winners(rt: HostRuntime) -> Result<(), Fail> {
             winner,
         };
         let mut text = Vec::new(rt.alloc());
-        push_line(rt.alloc(), &mut text, number, &game)?;
+        push_game_line(rt.alloc(), &mut text, number, &game)?;
         assert_eq!(rt; text.as_slice(), line.as_bytes());
     }
     Ok(())
