@@ -5,6 +5,7 @@ ghost use Rattle.std.specs.List.Sorted.{IsPermutation};
 ghost use Rattle.play_out.specs.Streams.{stream_at, words_of, place_of, shuffled};
 ghost use Rattle.play_out.specs.Fills.{ListsEmpties, empties_of, order_of};
 
+use super::fours::list_empties;
 use hex_board::Board;
 use hex_cells::{Cell, MOST_CELLS};
 use rand_core::{Rng, SeedableRng};
@@ -12,25 +13,6 @@ use rand_xoshiro::Xoshiro256PlusPlus;
 
 /// A board has no more empty cells than the largest board has cells.
 pub const MOST_EMPTIES: usize = MOST_CELLS as usize;
-
-/// Writes the empty cells of the board, in rising order, at the front of `cells`, and answers how
-/// many they are.
-pub(crate) fn list_empties(board: &Board, cells: &mut [Cell; MOST_EMPTIES]) -> usize
-    ensures list { take result cells.new ≡ empties_of board.now }
-    ensures count { result ≡ length (empties_of board.now) }
-    ensures range { result ≤ MOST_EMPTIES }
-{
-    let empties = board.empties();
-    let mut rest = empties.bits();
-    let mut count = 0;
-    for k in 0..board.size().cells() {
-        // A cell that is not empty is written over by the next; this is faster than to go round it.
-        cells[count] = Cell::numbered(k);
-        count += (rest & 1) as usize;
-        rest >>= 1;
-    }
-    count
-}
 
 // The place that a word gives among the places 0 to `i`. The high half of the product is its part
 // of `i + 1`.

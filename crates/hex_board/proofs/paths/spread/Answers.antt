@@ -1,5 +1,5 @@
 use Rattle.hex_board.proofs.Reach.{first_reached, more_reached, no_more}
-use Rattle.hex_board.proofs.paths.flood.Goals as goal
+use Rattle.hex_board.proofs.paths.spread.Goals as goal
 
 pub spread-init : goal.spread-init
 spread-init c = first_reached _ _ _ _ c.meet-reach.ensures.items c.meet-reach.ensures.small
