@@ -10,7 +10,8 @@
 //!
 //! **Speed.** The looks at a block's children and the adds to its seen words are most of a walk,
 //! and the words of a new block come many at a time. A worker takes the walker's small machine for
-//! them out, runs it in a loop of its own, and puts it back: the steps and their order are the same.
+//! them out, runs it in a loop of its own, and puts it back: the steps and their order are the
+//! same.
 //!
 //! **What is proved.** `work` ends: each draw gives a number that its worker hasn't drawn, and a
 //! walk has a bounded number of steps. It takes no memory and never waits. `search` gives a closed

@@ -121,8 +121,8 @@ impl Walker {
         }
     }
 
-    /// The nodes of the held block, where the walker has written its header and none of them; `None`
-    /// exactly elsewhere.
+    /// The nodes of the held block, where the walker has written its header and none of them;
+    /// `None` exactly elsewhere.
     pub fn new_nodes(&self) -> Option<NewNodes>
         ensures { MatchOption result
             (self.now.stage ≡ Stage.Writing → self.now.at ≢ self.now.start + HEADER_WORDS)
