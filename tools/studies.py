@@ -10,8 +10,8 @@ A study is a text. A line is a name and its value, `#` begins a comment:
     setting s0 playouts=1000 weight=0
     match s180 s0                        which settings meet; without such lines each meets each
 
-Block k, counted over the whole study, is one run of hexmatch with `--seed` k·2^51: the seeds of the turns of a block lie within
-2^51, so no two blocks share one.
+Block k, counted over the whole study, is one run of hexmatch with `--seed` k·2^51: the seeds of the turns of a block lie
+within 2^51, so no two blocks share one.
 """
 
 import itertools
