@@ -25,7 +25,7 @@
 //!
 //! **To add a quiet command**, add it to [`Quiet`], to the tables of commands.rt and
 //! specs/Commands.antt, and to `quiet_reaction` of specs/QuietReplies.antt; then write its handler
-//! with that line of `quiet_reaction` as its contract, and its line in obeying.rt. No proof has a
+//! with that line of `quiet_reaction` as its contract, and its line in quiet.rt. No proof has a
 //! table of commands.
 //!
 //! **Limits.** Boards of size 1 to 11, and 1 to 64 workers.
