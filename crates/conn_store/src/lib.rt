@@ -34,8 +34,6 @@ mod laws;
 mod refusals;
 mod rules;
 mod stores;
-#[cfg(test)]
-mod tests;
 
 pub use entries::{Cause, Entry, Held, Kind, MOST_ENTRIES, MOST_FULL, MOST_SEMI, Put};
 pub use laws::{connected_edges_win, truth_goes_on};

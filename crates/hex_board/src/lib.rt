@@ -29,8 +29,6 @@ mod laws;
 mod numbering;
 mod paths;
 mod tables;
-#[cfg(test)]
-mod tests;
 
 pub use boards::Board;
 pub use groups::roots_of;

@@ -43,5 +43,3 @@ pub fn replay_goes_on()
         → board_of (with_step game step) ≡ after_step game.start game.steps (board_of game) step }
 {}
 
-#[cfg(test)]
-mod tests;

@@ -45,8 +45,6 @@ mod refusals;
 mod shelves;
 mod source;
 mod standard;
-#[cfg(test)]
-mod tests;
 mod words;
 
 pub use directory::DirShelf;

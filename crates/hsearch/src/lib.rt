@@ -28,8 +28,6 @@
 mod combining;
 mod refusals;
 mod reports;
-#[cfg(test)]
-mod tests;
 
 pub use refusals::Memory;
 pub use reports::{Report, connect};

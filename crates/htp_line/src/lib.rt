@@ -31,8 +31,6 @@ mod answer;
 mod bytes;
 mod request;
 mod splitter;
-#[cfg(test)]
-mod tests;
 mod want;
 
 pub use answer::{FRAME, ID_LIMIT, id_text, push_failure, push_success};

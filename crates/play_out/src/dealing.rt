@@ -35,8 +35,8 @@ fn deal(
         settle(cells, generator, i);
     }
     'pairs: while 2 < i {
-        settle(cells, generator, i - 1);
-        stones = stones.with(cells[i - 1]);
+        let cell = settle(cells, generator, i - 1);
+        stones = stones.with(cell);
         settle(cells, generator, i - 2);
         i -= 2;
     }

@@ -1,6 +1,6 @@
 //! The order in which a playout fills the empty cells.
 
-ghost use Rattle.std.specs.Prelude.{◌≡◌, ℕ, ◌+◌, ◌-◌, ◌*◌, ◌≤◌, ◌<◌, length, take, drop};
+ghost use Rattle.std.specs.Prelude.{◌≡◌, ℕ, ◌+◌, ◌-◌, ◌*◌, ◌≤◌, ◌<◌, length, take, drop, get_or};
 ghost use Rattle.std.specs.List.Sorted.{IsPermutation};
 ghost use Rattle.play_out.specs.Streams.{stream_at, words_of, place_of, shuffled};
 ghost use Rattle.play_out.specs.Fills.{ListsEmpties, empties_of, order_of};
@@ -43,9 +43,9 @@ fn place(word: u64, i: usize) -> usize
 }
 
 /// One step of a shuffle: the cell at place `i` and that at the place that the next word gives
-/// change places. No later place changes from then on.
+/// change places. No later place changes from then on. Answers the cell that is now at place `i`.
 #[inline(always)]
-pub(crate) fn settle(cells: &mut [Cell], generator: &mut Xoshiro256PlusPlus, i: usize)
+pub(crate) fn settle(cells: &mut [Cell], generator: &mut Xoshiro256PlusPlus, i: usize) -> Cell
     requires place { (1 ≤ i) × (i < length cells.old) }
     requires few { length cells.old ≤ MOST_EMPTIES }
     ensures order { shuffled (i - 1) (words_of (i - 1) (stream_at generator.new)) cells.new
@@ -53,9 +53,15 @@ pub(crate) fn settle(cells: &mut [Cell], generator: &mut Xoshiro256PlusPlus, i: 
     ensures same { IsPermutation cells.old cells.new }
     ensures count { length cells.new ≡ length cells.old }
     ensures later { drop (i + 1) cells.new ≡ drop (i + 1) cells.old }
+    ensures cell { result ≡ get_or cells.new i result }
 {
     let word = generator.next_u64();
-    cells.swap(i, place(word, i));
+    let from = place(word, i);
+    let cell = cells[from];
+    let moved = cells[i];
+    cells[i] = cell;
+    cells[from] = moved;
+    cell
 }
 
 // Shuffles the cells: from the last place down, each changes places with one that the next word

@@ -30,8 +30,6 @@ mod reading;
 mod records;
 mod setup;
 mod sizes;
-#[cfg(test)]
-mod tests;
 mod turns;
 mod values;
 mod writing;

@@ -31,8 +31,6 @@ mod lists;
 mod parsing;
 mod printing;
 mod reading;
-#[cfg(test)]
-mod tests;
 mod trees;
 mod want;
 

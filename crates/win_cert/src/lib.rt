@@ -45,8 +45,6 @@ mod reading;
 mod refusals;
 mod spelling;
 mod steps;
-#[cfg(test)]
-mod tests;
 mod values;
 mod words;
 mod writing;

@@ -1,0 +1,71 @@
+//! Certificates from end to end: H-search, the cut of an entry, its text, and the check of it.
+
+ghost use Rattle.std.specs.Prelude.{IfSome};
+ghost use Rattle.win_cert.specs.Cuts.{HasEdgeEntryAt};
+ghost use Rattle.win_cert.specs.Writable.{IsWritable};
+
+use cert_check::{Verdict, check};
+use conn_store::Kind;
+use hex_board::Board;
+use hex_cells::{CellSet, Colour, Size};
+use hsearch::{Report, connect};
+use std::alloc::Global;
+use std::process::Abort;
+use std::rt::HostRuntime;
+use win_cert::{Cert, cut, write};
+
+// The number of the first semi entry between the player's edges.
+fn edge_entry(report: &Report) -> Option<u32>
+    ensures { IfSome result (HasEdgeEntryAt report.now) }
+{
+    let store = report.store();
+    let entries = store.entries();
+    let (first, second) = (store.elements().edge(false), store.elements().edge(true));
+    let mut number = 0;
+    'entries: while number < entries.len() {
+        let entry = entries[number];
+        let is_between = entry.x == first.min(second) && entry.y == first.max(second);
+        if is_between && entry.kind == Kind::Semi {
+            return Some(number as u32);
+        }
+        number += 1;
+    }
+    None
+}
+
+// A certificate of the first semi entry between the edges; `None` where there is no such entry or
+// no memory.
+fn edge_cert(alloc: Global, report: &Report) -> Option<Cert>
+    ensures { IfSome result IsWritable }
+{
+    let number = edge_entry(report)?;
+    cut(alloc, report, number).ok()
+}
+
+// On the empty board of this size Black's first semi entry between the edges is found and cut; the
+// text of the certificate is this one, and the checker accepts it with this carrier.
+fn certify(rt: &impl Abort, alloc: Global, size: u32, expected: &[u8], carrier: CellSet) {
+    let size = Size::of(size).expect(rt, "a size");
+    let board = Board::of(size, CellSet::none(), CellSet::none());
+    let Ok(report) = connect(alloc, &board, Colour::Black) else {
+        panic!(rt; "there is memory");
+    };
+    let cert = edge_cert(alloc, &report).expect(rt, "an entry, and memory");
+    let Ok(text) = write(alloc, &cert) else {
+        panic!(rt; "there is memory");
+    };
+    assert_eq!(rt; text.as_slice(), expected);
+    let Ok(verdict) = check(alloc, &cert) else {
+        panic!(rt; "there is memory");
+    };
+    let claim = Kind::Semi;
+    assert_eq!(rt; verdict, Verdict::Yes { claim, carrier });
+}
+
+// `cut-one`: the carrier is {a1}.
+#[test]
+fn edge_entry_of_one_cell(rt: HostRuntime) {
+    let text = b"hexcert 1\nsize 1\nplayer black\nblack\nwhite\n\
+        adj edge1 a1\nadj edge2 a1\nkey 0 1\nsemi 2\n";
+    certify(&rt, rt.alloc(), 1, text, CellSet::of_bits(0b1));
+}

@@ -1,0 +1,121 @@
+//! The rows of single calls, and each call once.
+
+use conn_store::{Held, Kind, Put, Store};
+use hex_board::Board;
+use hex_cells::{Cell, CellSet, Colour, Size};
+use std::alloc::Global;
+use std::process::Abort;
+use std::rt::HostRuntime;
+
+// A store of Black's on the board of this size, with his stones on the first so many cells of its
+// second row.
+fn store_of(rt: &impl Abort, alloc: Global, size: u32, stones: u32) -> Store {
+    let size = Size::of(size).expect(rt, "a size");
+    assert!(rt; stones == 0 || 1 < size.get() && stones <= size.get());
+    let mut board = Board::of(size, CellSet::none(), CellSet::none());
+    for column in 0..stones {
+        let cell = Cell::at(size, column, 1);
+        match board.at(cell) {
+            None => board.place(Colour::Black, cell),
+            Some(_) => panic!(rt; "the cell holds a stone"),
+        }
+    }
+    let made = Store::make(alloc, &board, Colour::Black);
+    match made {
+        Ok(store) => store,
+        Err(_) => panic!(rt; "there is memory"),
+    }
+}
+
+// Adds the entry of two elements side by side.
+fn add_adjacent(rt: &impl Abort, store: &mut Store, x: u8, y: u8) -> Put {
+    assert!(rt; x < y && u32::from(y) < store.elements().count());
+    let entry = store
+        .by_adjacent(x, y)
+        .expect(rt, "the elements lie side by side");
+    store.add(entry)
+}
+
+// Adds the entry that follows from two entries by a rule of AND.
+fn add_and(rt: &impl Abort, store: &mut Store, i: u32, j: u32) -> Put {
+    let count = store.entries().len();
+    assert!(rt; (i as usize) < count && (j as usize) < count);
+    let entry = store.by_and(i, j).expect(rt, "a rule of AND applies");
+    store.add(entry)
+}
+
+#[test]
+fn a_second_adjacent_entry_is_dominated(rt: HostRuntime) {
+    let mut store = store_of(&rt, rt.alloc(), 1, 0);
+    assert_eq!(rt; store.elements().count(), 3);
+    assert_eq!(rt; add_adjacent(&rt, &mut store, 0, 2), Put::Added(0));
+    assert_eq!(rt; add_adjacent(&rt, &mut store, 0, 2), Put::Dominated);
+    assert_eq!(rt; store.entries().len(), 1);
+    assert!(rt; store.by_adjacent(0, 1).is_none());
+    assert_eq!(rt; store.board().size().get(), 1);
+    assert_eq!(rt; store.colour(), Colour::Black);
+}
+
+// Black's stones on a2 to g2 are one group, element 13, and a1 to g1 are elements 2 to 8. Each of
+// these seven cells lies beside the first edge and beside the group.
+#[test]
+fn a_seventh_semi_entry_finds_the_pair_full(rt: HostRuntime) {
+    let mut store = store_of(&rt, rt.alloc(), 11, 7);
+    assert_eq!(rt; store.elements().count(), 117);
+    for column in 0..7u8 {
+        let number = 2 * u32::from(column);
+        assert_eq!(rt;
+            add_adjacent(&rt, &mut store, 0, 2 + column),
+            Put::Added(number)
+        );
+        assert_eq!(rt;
+            add_adjacent(&rt, &mut store, 2 + column, 13),
+            Put::Added(number + 1)
+        );
+    }
+    for column in 0..7u32 {
+        let put = add_and(&rt, &mut store, 2 * column, 2 * column + 1);
+        if column < 6 {
+            assert_eq!(rt; put, Put::Added(14 + column));
+        } else {
+            assert_eq!(rt; put, Put::PairFull);
+        }
+    }
+    let held = Held {
+        count: 6,
+        at: [14, 15, 16, 17, 18, 19],
+    };
+    assert!(rt; 13 < store.elements().count());
+    assert_eq!(rt; store.held(0, 13, Kind::Semi), held);
+    assert_eq!(rt; store.held(0, 13, Kind::Full).count, 0);
+    let entries = store.entries();
+    assert_eq!(rt; entries.len(), 20);
+    for entry in &entries[14..] {
+        assert_eq!(rt; entry.carrier.count(), 1);
+    }
+}
+
+#[test]
+fn two_or_three_ways_make_a_full_entry(rt: HostRuntime) {
+    let mut store = store_of(&rt, rt.alloc(), 11, 7);
+    for column in 0..3u8 {
+        add_adjacent(&rt, &mut store, 0, 2 + column);
+        add_adjacent(&rt, &mut store, 2 + column, 13);
+    }
+    for column in 0..3u32 {
+        add_and(&rt, &mut store, 2 * column, 2 * column + 1);
+    }
+    assert_eq!(rt; store.entries().len(), 9);
+    let three = store
+        .by_or_three(6, 7, 8)
+        .expect(&rt, "the rule of OR applies");
+    assert_eq!(rt; three.carrier.count(), 3);
+    assert_eq!(rt; store.add(three), Put::Added(9));
+    let two = store.by_or_two(6, 7).expect(&rt, "the rule of OR applies");
+    assert_eq!(rt; two.carrier.count(), 2);
+    assert_eq!(rt; store.add(two), Put::Added(10));
+    assert_eq!(rt; store.entries().len(), 11);
+    assert!(rt; store.by_or_two(6, 6).is_none());
+    let again = store.by_or_two(7, 6).expect(&rt, "the rule of OR applies");
+    assert_eq!(rt; store.add(again), Put::Dominated);
+}

@@ -1,0 +1,124 @@
+//! What no clause says of itself: vectors from outside, and each public call once.
+
+use hex_cells::{
+    Cell, CellSet, Colour, DECIMAL_LEN, MOST_CELLS, Size, VERTEX_LEN, edge, neighbours,
+    read_vertex, write_decimal, write_vertex,
+};
+use std::rt::HostRuntime;
+use std::test::Fail;
+
+#[test]
+fn reads_vertices(rt: HostRuntime) -> Result<(), Fail> {
+    let table: [(u32, &[u8], Option<u32>); 12] = [
+        (11, b"K11", Some(120)),
+        (11, b"a1", Some(0)),
+        (11, b"b1", Some(1)),
+        (11, b"A2", Some(11)),
+        (11, b"l1", None),
+        (11, b"a12", None),
+        (3, b"d1", None),
+        (3, b"a4", None),
+        (3, b"a0", None),
+        (3, b"a01", None),
+        (3, b"1a", None),
+        (3, b"", None),
+    ];
+    for (n, text, want) in table {
+        let size = Size::of(n).ok_or("a size")?;
+        let number = match read_vertex(text, size) {
+            Some(cell) => Some(cell.number()),
+            None => None,
+        };
+        assert_eq!(rt; number, want);
+    }
+    Ok(())
+}
+
+#[test]
+fn writes_vertices(rt: HostRuntime) -> Result<(), Fail> {
+    let table: [(u32, &[u8]); 4] = [(0, b"a1"), (10, b"k1"), (23, b"b3"), (120, b"k11")];
+    for (number, want) in table {
+        let size = Size::of(11).ok_or("a size")?;
+        let mut out = [0; VERTEX_LEN];
+        assert!(rt; number < MOST_CELLS);
+        let len = write_vertex(Cell::at(size, number % 11, number / 11), size, &mut out);
+        assert_eq!(rt; &out[..len], want);
+    }
+    Ok(())
+}
+
+#[test]
+fn writes_decimals(rt: HostRuntime) -> Result<(), Fail> {
+    let table: [(u32, &[u8]); 4] = [(0, b"0"), (9, b"9"), (10, b"10"), (99, b"99")];
+    for (number, want) in table {
+        let mut out = [0; DECIMAL_LEN];
+        assert!(rt; number < 100);
+        let len = write_decimal(number, &mut out);
+        assert_eq!(rt; &out[..len], want);
+    }
+    Ok(())
+}
+
+#[test]
+fn board_graph(rt: HostRuntime) -> Result<(), Fail> {
+    assert!(rt; Size::of(0).is_none() && Size::of(12).is_none());
+    let size = Size::of(3).ok_or("a size")?;
+    assert_eq!(rt; (size.get(), size.cells()), (3, 9));
+    let corner = neighbours(Cell::at(size, 0, 0), size);
+    assert_eq!(rt; corner.count(), 2);
+    assert!(rt; corner.has(Cell::at(size, 1, 0)) && corner.has(Cell::at(size, 0, 1)));
+    // The middle has all but the two corners that lie in its own diagonal.
+    let middle = neighbours(Cell::at(size, 1, 1), size);
+    let apart = CellSet::none()
+        .with(Cell::at(size, 0, 0))
+        .with(Cell::at(size, 2, 2));
+    assert_eq!(rt;
+        middle.union(apart).with(Cell::at(size, 1, 1)),
+        CellSet::all(size)
+    );
+    assert_eq!(rt; middle.count(), 6);
+    let last_row = edge(Colour::Black, true, size);
+    let last_column = edge(Colour::White, true, size);
+    assert_eq!(rt;
+        last_row.meet(last_column),
+        CellSet::none().with(Cell::at(size, 2, 2))
+    );
+    assert!(rt; edge(Colour::Black, false, size).has(Cell::at(size, 1, 0)));
+    assert!(rt; edge(Colour::White, false, size).has(Cell::at(size, 0, 1)));
+    assert!(rt; CellSet::none().with(Cell::at(size, 1, 1)).around(size) == middle);
+    assert!(rt; Colour::Black.other() == Colour::White && Colour::White.other() == Colour::Black);
+    Ok(())
+}
+
+#[test]
+fn sets(rt: HostRuntime) -> Result<(), Fail> {
+    let size = Size::of(11).ok_or("a size")?;
+    let low = Cell::at(size, 0, 0);
+    let high = Cell::at(size, 10, 10);
+    assert_eq!(rt;
+        (high.number(), high.column(size), high.row(size)),
+        (120, 10, 10)
+    );
+    let both = CellSet::none().with(high).with(low);
+    assert_eq!(rt; (both.count(), both.rank(high), both.rank(low)), (2, 1, 0));
+    assert_eq!(rt; (both.least(), CellSet::none().least()), (Some(low), None));
+    assert_eq!(rt; both.without(low), both.minus(CellSet::none().with(low)));
+    assert!(rt; both.inside(CellSet::all(size)) && !CellSet::all(size).inside(both));
+    assert!(rt; both.meets(CellSet::all(size)) && !both.meets(CellSet::none()));
+    assert!(rt; CellSet::none().is_empty() && !both.is_empty());
+    let all = CellSet::all(size);
+    assert_eq!(rt; all.count(), MOST_CELLS);
+    assert_eq!(rt; (all.nth(0), all.nth(120)), (low, high));
+    Ok(())
+}
+
+#[test]
+fn sets_as_numbers(rt: HostRuntime) -> Result<(), Fail> {
+    let size = Size::of(11).ok_or("a size")?;
+    let first = CellSet::none().with(Cell::numbered(0));
+    let last = CellSet::none().with(Cell::numbered(120));
+    assert_eq!(rt; (first.bits(), last.bits()), (1, 1 << 120));
+    assert_eq!(rt; CellSet::of_bits(1 | 1 << 120), first.union(last));
+    assert_eq!(rt; CellSet::of_bits((1 << 121) - 1), CellSet::all(size));
+    Ok(())
+}
