@@ -32,8 +32,6 @@ mod numbers;
 mod reading;
 mod refusals;
 mod settings;
-#[cfg(test)]
-mod tests;
 
 pub use reading::{clap_reads_lines, read_words};
 pub use refusals::Memory;
