@@ -51,5 +51,3 @@ pub use commands::{COMMANDS, Command, Quiet};
 pub use options::Options;
 pub use state::Engine;
 
-#[cfg(test)]
-mod tests;

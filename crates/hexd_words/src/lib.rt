@@ -30,8 +30,6 @@ mod command;
 mod modes;
 mod reading;
 mod settings;
-#[cfg(test)]
-mod tests;
 
 pub use option_words::Memory;
 pub use reading::read_words;

@@ -46,8 +46,6 @@ mod inputs;
 mod laws;
 mod session;
 mod stops;
-#[cfg(test)]
-mod tests;
 mod texts;
 
 pub use conversation::converse;

@@ -34,10 +34,9 @@ mod positions;
 mod records;
 mod schedules;
 mod searches;
-#[cfg(test)]
-mod tests;
 mod texts;
 
 pub use modes::{benchmark, simulation};
 pub use options::ModeOptions;
 pub use positions::{BenchPosition, bench_position};
+pub use schedules::schedule;

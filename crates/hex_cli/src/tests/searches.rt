@@ -15,13 +15,27 @@ forced-win|htp --hsearch off --playouts 4|\
     = ~~= ~~= ~~= a1~~= playouts 4~a1 2 2~b1 2 2~~= black~~
 ten-on-one-cell|htp --hsearch off --playouts 10|boardsize 1~genmove b~search-report~|0|\
     = ~~= a1~~= playouts 10~a1 10 10~~
-one-cell|htp|boardsize 1~genmove b~mustplay~search-report~|0|\
-    = ~~= a1~~= win a1~~? no search~~
-lost-by-two-threats|htp --playouts 1|boardsize 2~play b a2~genmove w~mustplay~|0|\
-    = ~~= ~~= a1~~= lost yes~allowed a1 b1 b2~threat a1~threat b1~~
+one-cell|htp|boardsize 1~mustplay~genmove b~mustplay~search-report~clear_board~mustplay~\
+    wincert~|0|\
+    = ~~? no search~~= a1~~= win a1~~? no search~~= ~~= win a1~~\
+    = hexcert 1~size 1~player black~black~white~adj edge1 a1~adj edge2 a1~key 0 1~semi 2~~
+lost-by-two-threats|htp --playouts 1|boardsize 2~play b a2~genmove w~mustplay~wincert~|0|\
+    = ~~= ~~= a1~~= lost yes~allowed a1 b1 b2~threat a1~threat b1~~? no certificate~~
+no-connections|htp --hsearch off --playouts 1|boardsize 2~play b a2~genmove w~mustplay~|0|\
+    = ~~= ~~= a1~~= lost no~allowed a1 b1 b2~~
+one-turn|htp --hsearch off --playouts 1|boardsize 2~genmove b~search-report~mustplay~wincert~\
+    play b a2~genmove w~search-report~|0|\
+    = ~~= a1~~= playouts 1~a1 1 0~b1 0 0~a2 0 0~b2 0 0~~= lost no~allowed a1 b1 a2 b2~~\
+    ? no certificate~~= ~~? game over~~= playouts 1~a1 1 0~b1 0 0~a2 0 0~b2 0 0~~
 sim-one|sim --size 1 --workers 3 --playouts 10 --steps 100||0|best a1~playouts 10~a1 10 10~
+sim-4|sim --size 2 --playouts 4||0|best a1~playouts 4~a1 1 0~b1 1 1~a2 1 1~b2 1 1~
+sim-100|sim --size 2 --playouts 100||0|best a2~playouts 100~a1 14 7~b1 32 20~a2 48 35~b2 6 1~
 bench-one|bench --size 1 --playouts 5||0|size 1~stones 0~playouts 5~records 5~best a1 5~
 bench-by-4|bench --size 2 --playouts 8 --workers 4||0|size 2~stones 1~playouts 8~records 8~
+bench-12|bench --size 2 --playouts 12 --expand 1||0|\
+    size 2~stones 1~playouts 12~records 12~best a1 6~
+bench-6|bench --size 6 --playouts 20 --workers 2 --seed 154||0|\
+    size 6~stones 10~playouts 20~records 20~
 bench-large|bench --size 11 --playouts 100000 --workers 8 --seed 5||0|\
     size 11~stones 40~playouts 100000~records 100000~";
 

@@ -29,6 +29,27 @@ illegal-moves|htp|boardsize 3~play w swap-pieces~play b a1~play b swap-pieces~pl
     ? illegal move~~? illegal move~~? syntax error~~
 small-session|htp|boardsize 3~play b a2~undo~name~|0|= ~~= ~~= ~~= hexd~~
 first-board|--size=2 htp|showboard~|0|= ~   a b~ 1 . .~  2 . .~~
+play-forms|htp --size 3|showboard~play b A1~play BLACK a1~play white c3~showboard~play w a0~\
+    play w z9~play red a2~undo~play W Swap-Pieces~showboard~winner now~boardsize 0~|0|\
+    = ~   a b c~ 1 . . .~  2 . . .~   3 . . .~~= ~~? illegal move~~= ~~\
+    = ~   a b c~ 1 B . .~  2 . . .~   3 . . W~~? syntax error~~? illegal move~~\
+    ? syntax error~~= ~~= ~~= ~   a b c~ 1 W . .~  2 . . .~   3 . . .~~\
+    ? syntax error~~? unacceptable size~~
+arguments|htp|printsgf now~loadsgf~search-report~mustplay~wincert~mustplay now~genmove~|0|\
+    ? syntax error~~? syntax error~~? no search~~? no search~~? no certificate~~\
+    ? syntax error~~? syntax error~~
+largest-board|htp|boardsize 11 11~showboard~quit~|0|= ~~= ~   a b c d e f g h i j k~ \
+    1 . . . . . . . . . . .~  \
+    2 . . . . . . . . . . .~   \
+    3 . . . . . . . . . . .~    \
+    4 . . . . . . . . . . .~     \
+    5 . . . . . . . . . . .~      \
+    6 . . . . . . . . . . .~       \
+    7 . . . . . . . . . . .~        \
+    8 . . . . . . . . . . .~         \
+    9 . . . . . . . . . . .~         \
+    10 . . . . . . . . . . .~          \
+    11 . . . . . . . . . . .~~= ~~
 bad-words||name~|2|
 bad-words|htp --workers 0|name~|2|
 bad-words|htp htp|name~|2|

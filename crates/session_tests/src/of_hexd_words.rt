@@ -1,8 +1,8 @@
 //! Tables of lines, with the answers that the rules of the command line give. In a line one space
 //! stands between two words.
 
-use crate::{Memory, Mode, Options, read_words};
 use hex_io::Word;
+use hexd_words::{Memory, Mode, Options, read_words};
 use std::alloc::{AllocError, Global};
 use std::test::Fail;
 
