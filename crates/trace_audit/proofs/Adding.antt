@@ -1,5 +1,5 @@
 -- One playout more in the sums.
-use Rattle.std.proofs.Common.{◌≡◌, ℕ, zero, suc, ◌+◌, ◌<◌, ◌≤◌, Bool, true, false, cond, List, length, length-set, set, get_or-set_same, get_or-set_other, slice_index, replicate, sym, ap, ◌∙◌, ⊎_elim, arith}
+use Rattle.std.proofs.Common.{◌≡◌, ℕ, suc, ◌+◌, ◌<◌, ◌≤◌, true, false, cond, List, length, length-set, set, get_or-set_same, get_or-set_other, slice_index, replicate, sym, ap, ◌∙◌, ⊎_elim, arith}
 use Rattle.std.specs.Prelude.{◌==◌, ◌&&◌}
 use Rattle.std.proofs.lemmas.Bool.{cases_eq, eq-eqb, ne_eqb}
 use Rattle.std.proofs.lemmas.List.{length-replicate}
@@ -14,7 +14,7 @@ use Rattle.tree_words.specs.Complete.{Linked}
 use Rattle.tree_words.specs.Walks.{nothing, plus}
 use Rattle.tree_words.specs.Sequence.{outcome_of, gain_of, glimpse_of}
 use Rattle.tree_words.specs.Records.{leaf_of, outcome_in}
-use Rattle.tree_words.specs.Counts.{count_below, visits_at, sights_at, is_seen}
+use Rattle.tree_words.specs.Counts.{visits_at, sights_at, is_seen}
 use Rattle.tree_words.specs.Growth.{ends_at}
 use Rattle.tree_words.proofs.Blocks.GameLaws.{in-node}
 use Rattle.tree_words.proofs.Blocks.NodeLaws.{nodes-apart}

@@ -1,5 +1,5 @@
 -- Blocks that links name: they are among the linked ones, and no two share a word.
-use Rattle.std.proofs.Common.{◌≡◌, ℕ, ◌+◌, ◌-◌, ◌<◌, ◌≤◌, true, List, [], ◌∷◌, refl, sym, ap, ◌∙◌, ⊎_elim, arith}
+use Rattle.std.proofs.Common.{◌≡◌, ℕ, ◌+◌, ◌<◌, ◌≤◌, true, List, [], ◌∷◌, refl, sym, ap, ◌∙◌, ⊎_elim, arith}
 use Rattle.std.specs.Prelude.{slice_index}
 use Rattle.tree_words.specs.Settings.{Setting, IsSetting}
 use Rattle.tree_words.specs.Words.{root_at, area_at, end_of, next_in, link_in}

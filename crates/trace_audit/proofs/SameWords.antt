@@ -12,8 +12,7 @@ use Rattle.tree_words.specs.Records.{leaf_of}
 use Rattle.tree_words.specs.Paths.{node_state, is_on, enters, mover_of}
 use Rattle.tree_words.specs.Sequence.{outcome_of}
 use Rattle.tree_words.specs.Counts.{visits_at, sights_at}
-use Rattle.tree_words.specs.Growth.{ends_at, root_end, other_words}
-use Rattle.tree_words.specs.declared.layout.TheConstants.{MOST_BLOCK_WORDS}
+use Rattle.tree_words.specs.Growth.{ends_at, root_end}
 use Rattle.hex_cells.specs.Sets.{has as has_cell}
 use Rattle.hex_board.specs.Positions.{stones_of}
 use Rattle.tree_words.specs.Closing.{IsClosed}

@@ -1,7 +1,6 @@
 //! What a playout adds to the sums, on the way from its leaf up to the root.
 
-ghost use Rattle.std.specs.Prelude.{◌≡◌, ◌+◌, ◌<◌, ◌≤◌, ◌^◌, if◌then◌else◌};
-ghost use Rattle.std.specs.Prelude.{length, set, slice_index};
+ghost use Rattle.std.specs.Prelude.{◌≡◌, ◌+◌, ◌<◌, ◌≤◌, ◌^◌, length, set, slice_index};
 ghost use Rattle.hex_cells.specs.Colours.{is_same};
 ghost use Rattle.tree_words.specs.Blocks.{block_size};
 ghost use Rattle.tree_words.specs.Sequence.{amount_of};
@@ -26,16 +25,6 @@ fn amount(player: Colour, winner: Colour) -> u64
     if player == winner { VISIT + 1 } else { VISIT }
 }
 
-// So much where the test holds, else 0. A jump over the add would be guessed wrong half the time:
-// the stones of a playout lie as dice fall.
-#[inline(always)]
-fn amount_if(test: bool, amount: u64) -> u64
-    ensures value { result ≡ (if test then amount else 0) }
-    ensures range { result ≤ amount }
-{
-    if test { amount } else { 0 }
-}
-
 /// Adds to a word of the sums.
 pub(crate) fn gain(sums: &mut [u64], at: usize, amount: u64)
     requires within { at < length sums.old }
@@ -57,8 +46,9 @@ fn see(words: &Words, sums: &mut [u64], block: usize, stones: CellSet, amount: u
     let count = words.at(block + COUNT_WORD) as usize;
     'nodes: for place in 0..count {
         let at = block + HEADER_WORDS + NODE_WORDS * place;
-        let seen = stones.has(Cell::numbered(cell_of(words.at(at))));
-        sums[at + SEEN_WORD] += amount_if(seen, amount);
+        if stones.has(Cell::numbered(cell_of(words.at(at)))) {
+            sums[at + SEEN_WORD] += amount;
+        }
     }
 }
 

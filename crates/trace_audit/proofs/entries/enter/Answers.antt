@@ -1,4 +1,4 @@
-use Rattle.std.proofs.Common.{◌+◌, set, refl, sym, ap, ◌∙◌, arith}
+use Rattle.std.proofs.Common.{set, refl, sym, ap, ◌∙◌, arith}
 use Rattle.std.specs.Prelude.{slice_index}
 use Rattle.trace_audit.proofs.Scanning.{enter_none}
 use Rattle.trace_audit.proofs.Entering.{enter_some, node_inside}

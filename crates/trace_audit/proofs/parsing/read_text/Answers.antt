@@ -1,4 +1,4 @@
-use Rattle.std.proofs.Common.{◌≡◌, ℕ, ◌+◌, ◌*◌, List, refl, sym, ap, ◌∙◌, arith}
+use Rattle.std.proofs.Common.{◌≡◌, ℕ, List, refl, sym, ◌∙◌, arith}
 use Rattle.std.specs.Prelude.{min}
 use Rattle.tree_words.specs.Words.{end_of, next_in}
 use Rattle.trace_audit.proofs.CutTexts.{cut_none, cut_text}

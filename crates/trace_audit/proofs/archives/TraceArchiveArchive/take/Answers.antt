@@ -4,7 +4,7 @@ use Rattle.std.specs.Prelude.{option_map}
 use Rattle.hex_io.specs.Grew.{Gave}
 use Rattle.hex_io.proofs.GaveLaws.{Gave-nothing}
 use Rattle.tree_words.specs.Closing.{ClosedTree}
-use Rattle.trace_audit.specs.Traces.{text_if, trace_of}
+use Rattle.trace_audit.specs.Traces.{text_if}
 use Rattle.trace_audit.proofs.archives.TraceArchiveArchive.take.Goals as goal
 
 pub returns-in_default-clause-all : goal.returns-in_default-clause-all

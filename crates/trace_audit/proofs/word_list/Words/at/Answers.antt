@@ -1,4 +1,4 @@
-use Rattle.std.proofs.Common.{◌≡◌, ℕ, ◌<◌, length, sym, ap, ◌∙◌, arith}
+use Rattle.std.proofs.Common.{◌<◌, length, sym, ap, ◌∙◌, arith}
 use Rattle.std.specs.Prelude.{slice_index}
 use Rattle.trace_audit.proofs.FromBytes.{from_long, from_past, from_read}
 use Rattle.trace_audit.proofs.word_list.Words.at.Goals as goal
