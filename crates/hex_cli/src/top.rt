@@ -1,14 +1,14 @@
 //! The top call: from the words of the command line to a status.
 
 ghost use Rattle.std.specs.Prelude.{◌≡◌};
+ghost use Rattle.hex_io.specs.Causes.{CountsFault};
 ghost use Rattle.hexd_words.specs.declared.settings.Mode.TheVariants.{Htp, Check, Migrate};
 ghost use Rattle.hexd_words.specs.declared.settings.Mode.TheVariants.{Audit, Sim, Bench};
 ghost use Rattle.htp_session.specs.declared.stops.Stop.TheVariants.{ReadFault, WriteFault};
 ghost use Rattle.htp_session.specs.declared.stops.Stop.TheVariants.{ArchiveFault};
 ghost use Rattle.turn_modes.specs.OneTurn.{IsSimulation, IsBenchmark};
 ghost use Rattle.hex_cli.specs.AuditTexts.{IsAuditText};
-ghost use Rattle.hex_cli.specs.Causes.{CountsReads, CountsWrites, CountsTurns, IsTooLong};
-ghost use Rattle.hex_cli.specs.Causes.{Completes, Reports};
+ghost use Rattle.hex_cli.specs.Causes.{Completes, IsTooLong, Reports};
 ghost use Rattle.hex_cli.specs.CertTexts.{IsCheckText, IsMigrateText};
 ghost use Rattle.hex_cli.specs.Determined.{Determines};
 ghost use Rattle.hex_cli.specs.Headline.{HasHeadline};
@@ -131,11 +131,11 @@ pub fn run<R: Threads + Sync, L: Link, E: Link, F: Shelf, A: Archive, G: Gate + 
     ensures idle_archive { HasIdleArchive A.Archive words.now archive.old archive.new }
 
     // The causes. Each count of faults rose with its own status, and is as before with every other.
-    ensures read_fault { CountsReads L.Link link.old link.new
+    ensures read_fault { CountsFault (L.read_faults link.old) (L.read_faults link.new)
         (HasStopped result ReadFault) }
-    ensures write_fault { CountsWrites L.Link link.old link.new
+    ensures write_fault { CountsFault (L.write_faults link.old) (L.write_faults link.new)
         (HasStopped result WriteFault) }
-    ensures archive_fault { CountsTurns A.Archive archive.old archive.new
+    ensures archive_fault { CountsFault (A.faults archive.old) (A.faults archive.new)
         (HasStopped result ArchiveFault) }
     ensures too_long { IsTooLong L.Link words.now result link.old link.new }
     ensures complete { Completes L.Link A.Archive words.now result

@@ -1,4 +1,4 @@
--- The bits of numbers below 16.
+-- The bits of numbers below 16. No clause of a public call cites this.
 use Rattle.std.specs.Prelude.{ℕ, List, [], ◌∷◌, ◌++◌, take}
 use Rattle.std.specs.List.{filter, range_with_len}
 use Rattle.hex_cells.specs.Sets.{has}

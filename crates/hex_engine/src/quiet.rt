@@ -8,7 +8,7 @@ ghost use Rattle.hex_engine.specs.Requests.{Reacts, TellsNoFault};
 use super::answers::{Answer, Memory};
 use super::boards::{clear, play, resize, undo};
 use super::commands::Quiet;
-use super::recalling::{tell_certificate, tell_plan, tell_report};
+use super::last_turn::{tell_certificate, tell_plan, tell_report};
 use super::state::Engine;
 use super::telling::{know, list, name_of_winner, print_game, quit, show, tell};
 use htp_line::Bytes;
