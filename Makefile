@@ -47,7 +47,7 @@ build: $(programs:%=build-%)
 
 # A start builds the program where it isn't fresh, and reads no command here.
 build-%:
-	bin/$* $(words_$*) </dev/null
+	bin/$* $(words_$*) </dev/null >/dev/null
 
 check:
 	.ci/run
