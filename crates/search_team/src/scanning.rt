@@ -37,8 +37,31 @@ fn look_at_child(tree: &Tree, seat: &mut TreeSeat, walker: &Walker, scan: &mut S
     scan.got_child(moved, tally, seen);
 }
 
+// Makes looks at whole children until a child without visits is kept, or none is left.
+#[inline(always)]
+fn look_while_choosing(tree: &Tree, seat: &mut TreeSeat, walker: &Walker, scan: &mut Scan)
+    requires own { IsOf tree.now seat.old }
+    requires stage { walker.now.stage ≡ Scanning }
+    requires phase { scan.old.phase ≡ Move }
+    requires belongs { Belongs (with_scan walker.now scan.old) seat.old.view }
+    requires more { scan.old.place < scan.old.count }
+    ensures own { IsOf tree.now seat.new }
+    ensures phase { scan.new.phase ≡ Move }
+    ensures run { HasRun (with_scan walker.now scan.old) seat.old.view
+        (with_scan walker.now scan.new) seat.new.view }
+    ensures last { scan.new.count ≤ scan.new.place
+        → MayChoose (record walker.now { scan = scan.new }) }
+{
+    'looks: while !scan.is_done() && !scan.is_fresh() {
+        look_at_child(tree, seat, walker, scan);
+    }
+}
+
 /// Where the walker looks at a block's children, makes all its looks there. A scan that was given
 /// back between two looks at one child is left to single steps, which no worker here ever needs.
+///
+/// After a child without visits none is chosen any more: that part of the looks has a loop of its
+/// own.
 #[inline(always)]
 pub(crate) fn look_at_children(tree: &Tree, seat: &mut TreeSeat, walker: &mut Walker)
     requires own { IsOf tree.now seat.old }
@@ -52,7 +75,8 @@ pub(crate) fn look_at_children(tree: &Tree, seat: &mut TreeSeat, walker: &mut Wa
     if !scan.is_at_move() {
         return;
     }
-    'looks: while !scan.is_done() {
+    look_while_choosing(tree, seat, walker, &mut scan);
+    'rest: while !scan.is_done() {
         look_at_child(tree, seat, walker, &mut scan);
     }
     walker.put_scan(scan);

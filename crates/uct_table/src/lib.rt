@@ -14,13 +14,15 @@
 //! ```
 //!
 //! or, faster, makes a [`Parent`] for the block, keeps the best score as well, and asks
-//! [`Parent::score_above`] of each later child.
+//! [`Parent::score_above`] of each later child, or, with a bar kept beside the score,
+//! [`Parent::is_low`] of each and [`Parent::score`] of those that are not low.
 //!
 //! **What is proved.** [`level`], [`root`] and [`score`] give exactly the numbers of
-//! `specs/Scores.antt`, [`Parent::score_above`] is such a score exactly where it is greater, and
-//! [`better`] is exactly its word in `specs/Choice.antt`. The law [`going_through_gives_choice`]
-//! says that the child kept at the end is Choice. Floats are only guesses: a guess is taken where
-//! its square shows that it is right.
+//! `specs/Scores.antt`, [`Parent::score_above`] is such a score exactly where it is greater, a
+//! child of which [`Parent::is_low`] holds has no score above the bar, and [`better`] is exactly
+//! its word in `specs/Choice.antt`. The law [`going_through_gives_choice`] says that the child kept
+//! at the end is Choice. Floats are only guesses: a guess is taken where its square shows that it
+//! is right.
 //!
 //! **Only tested, or not said.** That scores choose well, and how long a call takes.
 //!
@@ -37,4 +39,4 @@ mod tests;
 
 pub use choosing::{better, going_through_gives_choice};
 pub use scorer::Parent;
-pub use scoring::{MOST_COUNT, MOST_WEIGHT, level, root, score};
+pub use scoring::{MOST_BAR, MOST_COUNT, MOST_WEIGHT, level, root, score};

@@ -1,10 +1,12 @@
 //! Scores of the children of one block, which have a parent and a weight in common.
 
-ghost use Rattle.std.specs.Prelude.{◌≡◌, ◌+◌, ◌*◌, ◌<◌, ◌≤◌, IfSome, None};
+ghost use Rattle.std.specs.Prelude.{◌≡◌, ◌+◌, ◌*◌, ◌<◌, ◌≤◌, IfSome, IsTrue, None};
 ghost use Rattle.uct_table.specs.Scores.{bonus_of, score_of};
 
 use super::reciprocal_roots::{TABLED_VISITS, reciprocal_root};
-use super::scoring::{MOST_COUNT, MOST_WEIGHT, ROOT_SHIFT, is_mean_at_most, level, root, score};
+use super::scoring::{
+    MOST_BAR, MOST_COUNT, MOST_WEIGHT, ROOT_SHIFT, is_mean_at_most, level, root, score,
+};
 use std::marker::Model;
 
 /// A reciprocal root has 2^20th parts and a weight 2^8th, so the product of a factor and a
@@ -61,10 +63,38 @@ impl Parent {
         }
     }
 
-    /// The score of a child where it is above `kept`.
+    /// Whether products settle that the score of a child is at most `bar`; never for the bar 0.
     ///
-    /// A search that keeps the best child's score asks this of each later child. Counts are from 0
-    /// to 1,048,576, and v is at least 1.
+    /// A search that keeps the best child's score asks this of each later child, with a bar that is
+    /// no higher than that score, and takes the score of the few that are not low. The bar is from 0
+    /// to [`MOST_BAR`], counts are from 0 to 1,048,576, and v is at least 1.
+    #[inline(always)]
+    pub fn is_low(&self, bar: u64, v: u32, w: u32, a: u32, b: u32) -> bool
+        requires bar { bar ≤ MOST_BAR }
+        requires visited { 1 ≤ v }
+        requires counts { (v ≤ MOST_COUNT) × (w ≤ MOST_COUNT)
+            × (a ≤ MOST_COUNT) × (b ≤ MOST_COUNT) }
+        ensures low { IsTrue result →
+            score_of self.now.visits v w a b self.now.weight ≤ bar }
+        ensures some { IsTrue result → 0 < bar }
+    {
+        let most = self.most_bonus(v);
+        most < bar && is_mean_at_most(bar - most, v, w, a, b)
+    }
+
+    /// The score of a child. Counts are from 0 to 1,048,576, and v is at least 1.
+    #[inline(always)]
+    pub fn score(&self, v: u32, w: u32, a: u32, b: u32) -> u64
+        requires visited { 1 ≤ v }
+        requires counts { (v ≤ MOST_COUNT) × (w ≤ MOST_COUNT)
+            × (a ≤ MOST_COUNT) × (b ≤ MOST_COUNT) }
+        ensures { result ≡ score_of self.now.visits v w a b self.now.weight }
+    {
+        score(self.visits, v, w, a, b, self.weight)
+    }
+
+    /// The score of a child where it is above `kept`. Counts are from 0 to 1,048,576, and v is at
+    /// least 1.
     #[inline(always)]
     pub fn score_above(&self, kept: u64, v: u32, w: u32, a: u32, b: u32) -> Option<u64>
         requires visited { 1 ≤ v }
@@ -75,11 +105,10 @@ impl Parent {
         ensures not_above { result ≡ None →
             score_of self.now.visits v w a b self.now.weight ≤ kept }
     {
-        let most = self.most_bonus(v);
-        if most <= kept && is_mean_at_most(kept - most, v, w, a, b) {
+        if self.is_low(kept.min(MOST_BAR), v, w, a, b) {
             return None;
         }
-        let score = score(self.visits, v, w, a, b, self.weight);
+        let score = self.score(v, w, a, b);
         if kept < score { Some(score) } else { None }
     }
 

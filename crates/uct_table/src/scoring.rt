@@ -104,14 +104,15 @@ pub fn mean(v: u32, w: u32, a: u32, b: u32) -> u64
     (visits * own + SEEN_WEIGHT * share(b, a)) / (visits + SEEN_WEIGHT)
 }
 
-/// No mean of wins that are at most the visits reaches this, and below it the products of
-/// [`is_mean_at_most`] fit.
-const FLOOR_LIMIT: u64 = 1 << 20;
+/// The greatest bar of a score that products are asked about: no mean of wins that are at most the
+/// visits is above it, and up to it the products of [`is_mean_at_most`] fit.
+pub const MOST_BAR: u64 = (1 << 20) - 1;
 
-/// Whether the mean would be at most `floor` if none of its parts were rounded down; so the mean
-/// is. Told by products alone; no floor of [`FLOOR_LIMIT`] or more is told.
+/// Whether the mean would be at most `floor`, which is at most [`MOST_BAR`], if none of its parts
+/// were rounded down; so the mean is. Told by products alone.
 #[tactic(auto, using(crate::proofs::Means::mean_is_low))]
 pub fn is_mean_at_most(floor: u64, v: u32, w: u32, a: u32, b: u32) -> bool
+    requires floor { floor ≤ MOST_BAR }
     requires visited { 1 ≤ v }
     requires visits { v ≤ MOST_COUNT }
     requires wins { w ≤ MOST_COUNT }
@@ -119,9 +120,6 @@ pub fn is_mean_at_most(floor: u64, v: u32, w: u32, a: u32, b: u32) -> bool
     requires seen_wins { b ≤ MOST_COUNT }
     ensures { IsTrue result → mean_of v w a b ≤ floor }
 {
-    if floor >= FLOOR_LIMIT {
-        return false;
-    }
     let seen = u64::from(a);
     let won = u64::from(w) * seen + SEEN_WEIGHT * u64::from(b);
     SHARE_PARTS * won < (floor + 1) * ((u64::from(v) + SEEN_WEIGHT) * seen)

@@ -1,7 +1,7 @@
 //! Values that were computed elsewhere from the formulas.
 
 use super::scoring::bonus;
-use super::{Parent, better, going_through_gives_choice, level, root, score};
+use super::{MOST_BAR, Parent, better, going_through_gives_choice, level, root, score};
 
 #[test]
 fn levels(rt: HostRuntime) {
@@ -82,6 +82,9 @@ fn scores(rt: HostRuntime) {
         let parent = Parent::of(p, c);
         assert_eq!(rt; parent.score_above(want, v, w, a, b), None);
         assert_eq!(rt; parent.score_above(want - 1, v, w, a, b), Some(want));
+        if let below @ ..=MOST_BAR = want - 1 {
+            assert!(rt; !parent.is_low(below, v, w, a, b));
+        }
     }
 }
 

@@ -49,7 +49,7 @@ kept-elsewhere d c at p = by d.fresh (c.visits == 0) (nat_lt d.most (score_in d.
 
 -- the three looks at a child at once
 pub whole-child : (d : ScanData) (m t s : ℕ) → d.phase ≡ Move
-    → (let k : ScanData = kept (record d { tally = t }) (child_in (record d { tally = t }) s) in record k { at = k.at + 4; place = k.place + 1 })
+    → (let k : ScanData = kept (record d { tally = t }) (child_in (record d { tally = t }) s) in record k { at = k.at + 4; place = d.place + 1 })
     ≡ scan_next (scan_next (scan_next d m) t) s
 whole-child d m t s e = ends ∙ sym thrice
   where
@@ -65,11 +65,8 @@ whole-child d m t s e = ends ∙ sym thrice
     phase-is : k.phase ≡ Move
     phase-is = kept-same (λ z. z.phase) f (child_in f s) (λ b v m t. refl) ∙ e
 
-    place-is : k.place + 1 ≡ d.place + 1
-    place-is = omega (arith, kept-place f (child_in f s))
-
-    ends : record k { at = k.at + 4; place = k.place + 1 } ≡ record k { at = d.at + 2 + 1 + 1; phase = Move; place = d.place + 1 }
-    ends = λ i. record k { at = at-is i; phase = phase-is i; place = place-is i }
+    ends : record k { at = k.at + 4; place = d.place + 1 } ≡ record k { at = d.at + 2 + 1 + 1; phase = Move; place = d.place + 1 }
+    ends = λ i. record k { at = at-is i; phase = phase-is i; place = d.place + 1 }
 
     thrice : scan_next (scan_next (scan_next d m) t) s ≡ record k { at = d.at + 2 + 1 + 1; phase = Move; place = d.place + 1 }
     thrice =

@@ -5,6 +5,7 @@
 //! kind of step that is next ([`Stage`]), and its *way* are the *levels* between the root and the
 //! node where it stands. A [`Scan`] goes over the children of a block and keeps the one that Choice
 //! takes, and a [`Climb`] over the adds to a block's seen words: both are small machines inside it.
+//! [`NewNodes`] are the nodes of a new block that are still to be written.
 //!
 //! **A caller** steps it until it is done, and makes each step on the words of a shared tree:
 //!
@@ -20,7 +21,8 @@
 //! A faster loop takes a [`Scan`] or a [`Climb`] out ([`Walker::scan`], [`Walker::climb`]), makes
 //! its steps, and puts it back ([`Walker::put_scan`], [`Walker::put_climb`]): the steps are the
 //! same. Of a scan it may make the three looks at a child together ([`Scan::child_ops`],
-//! [`Scan::got_child`]).
+//! [`Scan::got_child`]), and of a new block the four writes of a node ([`Walker::new_nodes`],
+//! [`NewNodes::node_ops`], [`NewNodes::got_node`], [`Walker::put_new_nodes`]).
 //!
 //! **What is proved.** `op` and `got` are the machine of specs/Machine.antt. Where a view belongs
 //! to the walker (specs/Belongs.antt), it fits `op`; and after an answer that the step may give,

@@ -8,9 +8,9 @@ ghost use Rattle.walker.specs.Scans.{scan_of};
 
 use super::PAST_WORDS;
 use std::marker::Model;
-use tree_words::layout::{HEADER_WORDS, NODE_WORDS, SEEN_WORD, TALLY_WORD};
+use tree_words::layout::{HEADER_WORDS, MOST_NODES, NODE_WORDS, SEEN_WORD, TALLY_WORD};
 use tree_words::{Op, visits_of, wins_of};
-use uct_table::{MOST_COUNT, MOST_WEIGHT, Parent};
+use uct_table::{MOST_BAR, MOST_COUNT, MOST_WEIGHT, Parent};
 
 /// Which word of a child is looked at next.
 #[derive(Clone, Copy, Debug, PartialEq, Eq)]
@@ -38,10 +38,14 @@ pub struct Scan {
     best: u32,
     visits: u32,
     most: u64,
+    // No higher than `most`, and 0 at the first child.
+    bar: u64,
     fresh: bool,
 }
 
 impl Model for Scan {
+    ghost use Rattle.std.specs.Prelude.{◌≡◌, ◌≤◌};
+    ghost use Rattle.uct_table.specs.declared.scoring.TheConstants.{MOST_BAR};
     ghost use Rattle.walker.specs.Scans.{ScanData};
 
     ghost Value = { ScanData };
@@ -59,6 +63,8 @@ impl Model for Scan {
       most = s.most;
       fresh = s.fresh;
     } };
+
+    ghost invariant = { λ s. (s.bar ≤ s.most) × (s.bar ≤ MOST_BAR) × (s.place ≡ 0 → s.bar ≡ 0) };
 }
 
 impl Scan {
@@ -80,6 +86,7 @@ impl Scan {
             best: 0,
             visits: 0,
             most: 0,
+            bar: 0,
             fresh: false,
         }
     }
@@ -98,6 +105,7 @@ impl Scan {
             best: self.best,
             visits: self.visits,
             most: self.most,
+            bar: self.bar,
             fresh: self.fresh,
         }
     }
@@ -130,7 +138,6 @@ impl Scan {
                 self.keep(answer);
                 self.at += (NODE_WORDS - SEEN_WORD) as u32;
                 self.phase = Phase::Move;
-                self.place += 1;
             }
         }
     }
@@ -164,36 +171,43 @@ impl Scan {
         self.tally = tally;
         self.keep(seen);
         self.at += NODE_WORDS as u32;
-        self.place += 1;
     }
 
-    // Keeps the child in hand, whose seen word this is, where Choice prefers it.
+    // Keeps the child in hand, whose seen word this is, where Choice prefers it, and goes on to the
+    // next place. Nearly every child is settled by the bar; the first one never is.
     #[tactic(auto, unfolding(crate::specs::Scans::kept))]
     #[inline(always)]
     fn keep(&mut self, seen: u64)
         requires tally { AtMost MOST_COUNT (count_in self.old.tally) }
         requires seen { AtMost MOST_COUNT (count_in seen) }
-        ensures { self.new ≡ kept self.old (child_in self.old seen) }
+        requires place { self.old.place < MOST_NODES }
+        ensures { self.new ≡ record (kept self.old (child_in self.old seen)) {
+          place = self.old.place + 1;
+        } }
     {
+        let place = self.place;
+        self.place += 1;
         if self.fresh {
             return;
         }
         let visits = visits_of(self.tally);
         if visits == 0 {
-            self.best = self.place;
+            self.best = place;
             self.visits = 0;
             self.fresh = true;
             return;
         }
-        let wins = wins_of(self.tally);
-        let above = self
-            .parent
-            .score_above(self.most, visits, wins, visits_of(seen), wins_of(seen));
-        if let Some(score) = above {
+        let (wins, seen, seen_wins) = (wins_of(self.tally), visits_of(seen), wins_of(seen));
+        if self.parent.is_low(self.bar, visits, wins, seen, seen_wins) {
+            return;
+        }
+        let score = self.parent.score(visits, wins, seen, seen_wins);
+        if self.most < score {
             self.most = score;
-            self.best = self.place;
+            self.bar = score.min(MOST_BAR);
+            self.best = place;
             self.visits = visits;
-        } else if self.place == 0 {
+        } else if place == 0 {
             self.visits = visits;
         }
     }
@@ -204,6 +218,14 @@ impl Scan {
         ensures { IsTrue result → self.now.phase ≡ Phase.Move }
     {
         matches!(self.phase, Phase::Move)
+    }
+
+    /// Whether a child without visits is kept: none that comes after it is chosen.
+    #[inline(always)]
+    pub fn is_fresh(&self) -> bool
+        ensures { result ≡ self.now.fresh }
+    {
+        self.fresh
     }
 
     /// Whether all children were looked at.

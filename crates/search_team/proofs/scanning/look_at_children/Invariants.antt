@@ -9,8 +9,8 @@ use Rattle.search_team.specs.WorkLeft.{work_left}
 use Rattle.search_team.specs.Runs.{HasRun}
 use Rattle.search_team.proofs.scanning.look_at_children.Given as goal
 
-abbrev pub invariant-looks : goal.invariant-looks
-invariant-looks l = record {
+abbrev pub invariant-rest : goal.invariant-rest
+invariant-rest l = record {
   own : IsOf l.tree l.seat;
   stage : l.walker.stage ≡ Scanning;
   phase : l.scan.phase ≡ Move;
@@ -18,5 +18,5 @@ invariant-looks l = record {
   last : l.scan.count ≤ l.scan.place → MayChoose (record l.walker { scan = l.scan });
 }
 
-abbrev pub decreases-looks : goal.decreases-looks
-decreases-looks l = work_left (with_scan l.walker l.scan) l.seat.view
+abbrev pub decreases-rest : goal.decreases-rest
+decreases-rest l = work_left (with_scan l.walker l.scan) l.seat.view
