@@ -27,8 +27,6 @@ mod climbing;
 mod gates;
 mod scanning;
 mod searching;
-#[cfg(test)]
-mod tests;
 mod working;
 
 pub use gates::{Gate, OpenGate};
