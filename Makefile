@@ -7,8 +7,9 @@
 #   make deb                              makes a Debian package in out/; its maintainer is DEBFULLNAME <DEBEMAIL>
 
 # Each program has its crate, a page in man/, three completions, and the words with which it does nothing but start.
-programs = hexd
+programs = hexd hexmatch
 words_hexd = htp
+words_hexmatch = --size 1 --games 1
 
 # What a user reads. README.md names these files as they lie here, so they keep their places.
 documents = README.md SECURITY.md docs/PROTOCOL.md docs/CERTIFICATES.md docs/TREE.md docs/PROMISES.md docs/GLOSSARY.md \

@@ -16,7 +16,6 @@ HEXD names the program; where it isn't set that is bin/hexd. Nothing here is pro
 
 import argparse
 import signal
-import subprocess
 import sys
 import time
 from pathlib import Path
@@ -25,7 +24,10 @@ from assembly import MOST_LINES, certificate
 from grids import Grid
 from openings import ENDING, KINDS, SHELF, can_unpack, opening_named, openings_of
 from search import Position, Search
-from sessions import COLOURS, HEXD, Session
+from sessions import COLOURS, Session
+
+sys.path.insert(0, str(SHELF.parent / "tools"))
+from programs import checked
 
 PROGRESS_SECONDS = 10
 INTERRUPTED = 130
@@ -69,8 +71,7 @@ def root_of(opening):
 
 def accepted(text, kind):
     """Whether `hexd check` accepts a certificate with this claim."""
-    done = subprocess.run([HEXD, "check"], input=text.encode(), capture_output=True)
-    return (done.returncode, done.stdout.decode()) == (0, f"yes {kind}\n")
+    return checked(text.encode()) == (f"yes {kind}", 0)
 
 
 def write(path, text):

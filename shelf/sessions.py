@@ -1,13 +1,14 @@
 """Asks hexd, over one pipe, what it plans for a position: a win with its certificate, or threats."""
 
-import os
-import subprocess
+import sys
 from typing import NamedTuple
 
 from grids import members
 from openings import SHELF
 
-HEXD = os.environ.get("HEXD", str(SHELF.parent / "bin" / "hexd"))
+sys.path.insert(0, str(SHELF.parent / "tools"))
+from programs import Hexd
+
 COLOURS = ("black", "white")
 HEAD_LINES = 5
 
@@ -32,23 +33,17 @@ class Session:
         self.grid, self.asked = grid, 0
         words = ["--size", str(grid.size), "--playouts", "1", "--words", "1024"]
         # In a session of its own, so that Ctrl-C reaches this program alone.
-        self.process = subprocess.Popen(
-            [HEXD, "htp", *words], stdin=subprocess.PIPE, stdout=subprocess.PIPE, start_new_session=True
-        )
+        self.hexd = Hexd(words, start_new_session=True)
 
     def answer(self):
         """The text of the next answer; None of a failure."""
-        lines = [self.process.stdout.readline()]
-        while lines[-1] != b"\n":
-            if not lines[-1]:
-                raise EOFError("hexd has ended")
-            lines.append(self.process.stdout.readline())
-        text = b"".join(lines).decode()
+        text = self.hexd.answer().decode()
+        if not text.endswith("\n\n"):
+            raise EOFError("hexd has ended")
         return text[2:].rstrip("\n") if text.startswith("=") else None
 
     def ask(self, commands):
-        self.process.stdin.write("".join(command + "\n" for command in commands).encode())
-        self.process.stdin.flush()
+        self.hexd.send("".join(command + "\n" for command in commands).encode())
         return [self.answer() for _ in commands]
 
     def plan(self, black, white, mover):
@@ -69,8 +64,7 @@ class Session:
         return Threats([sum(1 << self.grid.numbers[name] for name in names) for names in sets])
 
     def close(self):
-        self.process.stdin.close()
-        self.process.wait()
+        self.hexd.close()
 
 
 def carrier_of(grid, win, own, player):

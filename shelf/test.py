@@ -18,10 +18,10 @@ import tempfile
 from pathlib import Path
 
 from openings import ENDING, SHELF, listed, text_of
-from sessions import HEXD
 
 sys.path.insert(0, str(SHELF.parent / "tools"))
 import second_checker
+from programs import checked
 
 HEAD = 5
 # After b2 and b1 Black is joined with the first row, and with the last one by b3 or a3.
@@ -52,10 +52,9 @@ def expect(holds, what):
 
 def expect_refused(text, what):
     """Both checkers say no, and the same."""
-    done = subprocess.run([HEXD, "check"], input=text.encode(), capture_output=True)
-    hexds, mine = done.stdout.decode().removesuffix("\n"), second_checker.answer(text.encode())
+    (hexds, status), mine = checked(text.encode()), second_checker.answer(text.encode())
     expect(hexds == mine, f"{what}: hexd check says {hexds!r}, the second checker {mine!r}")
-    expect(done.returncode == 1 and mine.startswith("no"), f"{what}: {hexds!r} with status {done.returncode}")
+    expect(status == 1 and mine.startswith("no"), f"{what}: {hexds!r} with status {status}")
 
 
 def swapped(lines):

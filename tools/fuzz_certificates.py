@@ -14,19 +14,15 @@ named. It ends with 1 where there is one, or where some number of refusal never 
 HEXD names the program; where it isn't set that is bin/hexd.
 """
 
-import os
 import random
 import re
-import subprocess
 import sys
 import tempfile
 from collections import Counter
-from pathlib import Path
 
 import second_checker
+from programs import ROOT, run
 
-ROOT = Path(__file__).resolve().parent.parent
-HEXD = os.environ.get("HEXD", str(ROOT / "bin" / "hexd"))
 SHORT = 1_000
 MANY = 1_000
 REASONS = range(1, 14)
@@ -131,10 +127,10 @@ def changed_texts(draw, count):
 
 def answer_of_hexd(text):
     """What `hexd check` writes, where its status is the one for it."""
-    done = subprocess.run([HEXD, "check"], input=text, capture_output=True)
-    said = done.stdout.decode()
-    if done.returncode != (0 if said.startswith("yes") else 1) or not said.endswith("\n"):
-        return f"status {done.returncode} with {said!r}"
+    given, status = run("check", given=text)
+    said = given.decode()
+    if status != (0 if said.startswith("yes") else 1) or not said.endswith("\n"):
+        return f"status {status} with {said!r}"
     return said.removesuffix("\n")
 
 

@@ -3,10 +3,9 @@ the game here. tools/gtp_filter.py hands hexd all else."""
 
 import os
 import re
-import subprocess
-from pathlib import Path
 
-PROGRAM = Path(__file__).resolve().parent.parent / "bin" / "hexd"
+from programs import Hexd, HexdEnded
+
 LARGEST_SEED = 2**64 - 1
 COLOURS = {b"b": b"B", b"black": b"B", b"w": b"W", b"white": b"W"}
 OTHER = {b"B": b"W", b"W": b"B"}
@@ -24,10 +23,6 @@ class Refused(Exception):
     """A command's failure, with its message."""
 
 
-class HexdEnded(Exception):
-    """hexd has ended."""
-
-
 class Request:
     """What a line asks: its id or nothing, the command's name or nothing, and what stands behind the name."""
 
@@ -36,30 +31,8 @@ class Request:
         self.args = rest.split()
 
 
-class Hexd:
-    """A process of hexd."""
-
-    def __init__(self, words):
-        command = [str(PROGRAM), "htp", *words]
-        self.process = subprocess.Popen(command, stdin=subprocess.PIPE, stdout=subprocess.PIPE)
-
-    def send(self, piece):
-        """Hands over a part of the input."""
-        try:
-            self.process.stdin.write(piece)
-            self.process.stdin.flush()
-        except BrokenPipeError:
-            raise HexdEnded from None
-
-    def answer(self):
-        """The next answer, with the empty line that ends it; less where hexd ends within it."""
-        lines = []
-        while lines[-1:] != [b"\n"]:
-            line = self.process.stdout.readline()
-            if not line:
-                break
-            lines.append(line)
-        return b"".join(lines)
+class Engine(Hexd):
+    """A session of hexd, of which commands are asked."""
 
     def ask(self, command):
         """The text of a command's success."""
@@ -70,16 +43,6 @@ class Hexd:
         if answer[:1] == b"?":
             raise Refused(answer[2:-2])
         return answer[2:-2]
-
-    def close(self):
-        """Ends the process, and waits for its status: that of a shell where a signal ended it."""
-        try:
-            self.process.stdin.close()
-        except BrokenPipeError:
-            pass
-        self.process.stdout.close()
-        status = self.process.wait()
-        return status if status >= 0 else 128 - status
 
 
 def is_number(word, largest):
@@ -104,7 +67,7 @@ class Session:
     """hexd, and who has resigned. Each command answers the text of its success, or None where the line is hexd's."""
 
     def __init__(self, words):
-        self.words, self.hexd = words, Hexd(words)
+        self.words, self.hexd = words, Engine(words)
         self.resigned = None
 
     def is_over(self):
@@ -133,7 +96,7 @@ class Session:
             raise Refused(b"cannot set the seed beside --trace")
         record = os.memfd_create("game")
         os.write(record, self.hexd.ask(b"printsgf"))
-        last, self.hexd = self.hexd, Hexd(self.with_seed(request.args[0].decode()))
+        last, self.hexd = self.hexd, Engine(self.with_seed(request.args[0].decode()))
         try:
             self.load(record)
         except Refused:

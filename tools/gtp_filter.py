@@ -13,7 +13,8 @@ import select
 import signal
 import sys
 
-from gtp_commands import OWN, HexdEnded, Refused, Request, Session, is_number
+from gtp_commands import OWN, Refused, Request, Session, is_number
+from programs import HexdEnded
 
 # hexd answers a line of more bytes `line too long`, whatever it holds.
 LONGEST_LINE = 4096

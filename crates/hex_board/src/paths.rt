@@ -11,6 +11,19 @@ use hex_cells::{CellSet, Colour, Size, edge};
 pub fn flood(goal: CellSet, stones: CellSet, size: Size) -> CellSet
     ensures { (d : ℕ) → IsTrue (has result d) ↔ Leads size stones goal d }
 {
+    // On a board of a constant size each step's shifts are by constants.
+    if size == Size::LARGEST {
+        spread(goal, stones, Size::LARGEST)
+    } else {
+        spread(goal, stones, size)
+    }
+}
+
+// The flood, step by step.
+#[inline(always)]
+fn spread(goal: CellSet, stones: CellSet, size: Size) -> CellSet
+    ensures { (d : ℕ) → IsTrue (has result d) ↔ Leads size stones goal d }
+{
     let mut reach = goal.meet(stones);
     'spread: loop {
         let next = reach.union(reach.around(size).meet(stones));

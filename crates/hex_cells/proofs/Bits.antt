@@ -4,15 +4,14 @@ use Rattle.std.specs.Int.{bit_at, trailing_zeros, w128}
 use Rattle.std.proofs.Common.{nat_lt}
 use Rattle.std.proofs.lemmas.Bool.Decides.{nat_tests}
 use Rattle.std.proofs.lemmas.Bool.{cases_lt, cases_eq, both_ways}
-use Rattle.std.proofs.lemmas.Nat.Bits.{bit_at_or, bit_at_and, bit_at-lt, bit_at-zero, bit_at_above, bit_at_not, bit_at_set_same, bit_at_set_other, shr_and_one, bit_at-trailing_zeros, bit_at_cat_low, bit_at_cat_high, bit_at_ones, bit_at_ones_above, same_from_bits, bit_at_xor, bit_at-pow_same, bit_at-pow_other}
+use Rattle.std.proofs.lemmas.Nat.Bits.{bit_at_or, bit_at_and, bit_at-lt, bit_at-zero, bit_at_above, bit_at_not, shr_and_one, bit_at-trailing_zeros, bit_at_cat_low, bit_at_cat_high, bit_at_ones, bit_at_ones_above, same_from_bits, bit_at_xor, bit_at-pow_same, bit_at-pow_other}
 use Rattle.std.proofs.lemmas.Nat.{div-add-mod', shl_whole, mod_below}
 use Rattle.std.proofs.Math.Nat.{div-div-eq-div-mul}
 use Rattle.std.proofs.Common.{pow-add, add-zero}
 use Rattle.std.proofs.Math.Nat.{add_comm}
 use Rattle.std.proofs.Math.Pow.{pow_mono, pow_pos}
 use Rattle.std.proofs.lemmas.Nat.{or_lt, le_or_l}
-use Rattle.std.proofs.Math.Pow.{pow-lt}
-use Rattle.hex_cells.specs.Sets.{has, with_cell, without_cell, without_cells}
+use Rattle.hex_cells.specs.Sets.{has, without_cell, without_cells}
 
 max_one : (x y : ℕ) → x < 2 → y < 2 → (max x y == 1) ≡ (x == 1 || y == 1)
 max_one x y hx hy = grind (arith, nat_tests)
@@ -46,40 +45,18 @@ has_not a k h i = not_one _ _ (bit_at-lt a k) (bit_at_not w128 a k h i)
 pub has_minus : (a b k : ℕ) → a < 2 ^ 121 → b < 2 ^ 121 → has (bit_and a (2 ^ 128 - 1 - b)) k ≡ (has a k && not (has b k))
 has_minus a b k ha hb = has_and a (2 ^ 128 - 1 - b) k ∙ (elim (cases_lt k 128) [ inl h ↦ ap (λ v. has a k && v) (has_not b k (omega arith) h) | inr h ↦ let e : has a k ≡ false = has_above a 121 k ha (omega arith) in rw e refl ])
 
-with_one : (y x k c : ℕ) → y ≡ 1 → k ≡ c → (y == 1) ≡ (x == 1 || k == c)
-with_one y x k c e f = grind (arith, nat_tests)
-
-same_more : (x k c : ℕ) → (k ≡ c → ⊥) → (x == 1) ≡ (x == 1 || k == c)
-same_more x k c n = grind (arith, nat_tests)
-
-pow_below : (c : ℕ) → c < 121 → 1 * 2 ^ c % 2 ^ 128 < 2 ^ 121
-pow_below c hc = let h : 2 ^ c < 2 ^ 121 = pow-lt hc in omega arith
-
 apart : (x : ℕ) → x ≡ 1 → x ≡ 0 → ⊥
 apart x e f = omega arith
 
-is_one : (x : ℕ) → x ≡ 1 → (x == 1) ≡ true
+pub is_one : (x : ℕ) → x ≡ 1 → (x == 1) ≡ true
 is_one x e = rw e refl
 
-is_none : (x : ℕ) → x ≡ 0 → (x == 1) ≡ false
+pub is_none : (x : ℕ) → x ≡ 0 → (x == 1) ≡ false
 is_none x e = rw e refl
 
 pub has_test : (a k : ℕ) → (bit_and (a / 2 ^ k) 1 == 1) ≡ has a k
 unfolding has
 has_test a k = ap (λ v. v == 1) (shr_and_one a k)
-
-with_same : (a c k : ℕ) → c < 128 → k ≡ c → (bit_at (bit_or a (1 * 2 ^ c % 2 ^ 128)) k == 1) ≡ (bit_at a k == 1 || k == c)
-with_same a c k h e = with_one _ _ k c (rw e (bit_at_set_same w128 a c h)) e
-
-pub has_with : (a c k : ℕ) → c < 128 → has (bit_or a (1 * 2 ^ c % 2 ^ 128)) k ≡ (has a k || k == c)
-unfolding has
-has_with a c k h = elim (cases_eq k c) [
-  | inl e ↦ with_same a c k h e
-  | inr n ↦ rw (bit_at_set_other w128 a c h k n) (same_more (bit_at a k) k c n)
-]
-
-pub with_below : (a c : ℕ) → a < 2 ^ 121 → c < 121 → bit_or a (1 * 2 ^ c % 2 ^ 128) < 2 ^ 121
-with_below a c ha hc = or_lt 121 a _ ha (pow_below c hc)
 
 pub or_below : (a b : ℕ) → a < 2 ^ 121 → b < 2 ^ 121 → bit_or a b < 2 ^ 121
 or_below a b ha hb = or_lt 121 a b ha hb
@@ -173,12 +150,6 @@ bit_false a k e = let l : bit_at a k < 2 = bit_at-lt a k in grind (arith, nat_te
 pub inside_in : (a b : ℕ) → a < 2 ^ 121 → b < 2 ^ 121 → ((k : ℕ) → has a k ≡ true → has b k ≡ true) → bit_and a (2 ^ 128 - 1 - b) ≡ 0
 inside_in a b ha hb f = same_from_bits _ 0 (λ k. bit_false _ k (has_minus a b k ha hb ∙ kept (has a k) (has b k) (f k)) ∙ sym (bit_at-zero k))
 
-pub one_bit_value : (c : ℕ) → c < 121 → 1 * 2 ^ c % 2 ^ 128 ≡ 2 ^ c
-one_bit_value c h = one_shl c (omega arith)
-
-pub with_value : (a c : ℕ) → c < 121 → bit_or a (1 * 2 ^ c % 2 ^ 128) ≡ with_cell a c
-with_value a c h = ap (λ v. bit_or a v) (one_bit_value c h)
-
 pub all_value : (m : ℕ) → m ≤ 121 → 1 * 2 ^ m % 2 ^ 128 - 1 ≡ 2 ^ m - 1
 all_value m h = ap (λ v. v - 1) (one_shl m h)
 
@@ -235,18 +206,6 @@ has_without_cells s t k = has_and s (bit_xor s t) k ∙ differ_at (bit_at s k) _
 -- a cell of a set below 2 ^ w is below w
 pub cell_below : (s w k : ℕ) → s < 2 ^ w → has s k ≡ true → k < w
 cell_below s w k h e = elim (cases_lt k w) [ inl l ↦ l | inr g ↦ absurd (both_ways (has s k) (has_above s w k h g) e) ]
-
-none_ored : (x y : Bool) → x ≡ false → (x || y) ≡ y
-none_ored x y e = rw e refl
-
-pub has_bit : (c k : ℕ) → c < 121 → has (1 * 2 ^ c % 2 ^ 128) k ≡ (k == c)
-has_bit c k h = sym (none_ored (has 0 k) (has (1 * 2 ^ c % 2 ^ 128) k) (has_none k)) ∙ (sym (has_or 0 (1 * 2 ^ c % 2 ^ 128) k) ∙ (has_with 0 c k (omega arith) ∙ none_ored (has 0 k) (k == c) (has_none k)))
-
-pub has_cleared : (a c k : ℕ) → a < 2 ^ 121 → c < 121 → has (bit_and a (2 ^ 128 - 1 - 1 * 2 ^ c % 2 ^ 128)) k ≡ (has a k && not (k == c))
-has_cleared a c k h l = has_minus a (1 * 2 ^ c % 2 ^ 128) k h (pow_below c l) ∙ ap (λ v. has a k && not v) (has_bit c k l)
-
-pub cleared_value : (a c : ℕ) → a < 2 ^ 121 → c < 121 → bit_and a (2 ^ 128 - 1 - 1 * 2 ^ c % 2 ^ 128) ≡ without_cell a c
-cleared_value a c h l = same_set (bit_and a (2 ^ 128 - 1 - 1 * 2 ^ c % 2 ^ 128)) (without_cell a c) (λ k. has_cleared a c k h l ∙ sym (has_without a c k))
 
 pub same_out : (a : Bool) (c : ℕ) → (a && not (c == c)) ≡ false
 same_out a c = grind (arith, nat_tests)

@@ -8,7 +8,9 @@ pub mod Tables
 pub mod ColourLaws
 pub mod WithCell
 pub mod Ranges
+pub mod HalfBits
 -- Steps of this crate's own proofs.
 mod Around
 mod Ranks
+mod Powers
 mod Shared

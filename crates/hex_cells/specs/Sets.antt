@@ -1,5 +1,6 @@
 -- Sets of cells as numbers.
-use Rattle.std.specs.Prelude.{ℕ, Bool, ◌==◌, ◌+◌, ◌^◌, zero, suc, cond, bit_and, bit_or, bit_xor}
+use Rattle.std.specs.Prelude.{ℕ, Bool, true, ◌==◌, ◌&&◌, ◌+◌, ◌^◌, zero, suc, cond}
+use Rattle.std.specs.Prelude.{List, [], ◌∷◌, bit_and, bit_or, bit_xor}
 use Rattle.std.specs.Int.{bit_at}
 
 -- cell k is in the set whose number is s
@@ -22,3 +23,8 @@ without_cell s k = bit_and s (bit_xor s (2 ^ k))
 -- the number of the set s without the cells of the set t
 abbrev pub without_cells : ℕ → ℕ → ℕ
 without_cells s t = bit_and s (bit_xor s t)
+
+-- the numbers are the powers of two from 2 ^ k on
+unfoldable pub are_powers : ℕ → List ℕ → Bool
+are_powers k [] = true
+are_powers k (s ∷ ss) = s == 2 ^ k && are_powers (k + 1) ss

@@ -27,6 +27,9 @@ impl Size {
     /// The largest size.
     pub const MAX: u32 = 11;
 
+    /// The size of the largest board.
+    pub const LARGEST: Size = Size { n: Size::MAX };
+
     /// The size `n`; `None` exactly where `n` is not 1 to 11.
     pub fn of(n: u32) -> Option<Size>
         ensures { MatchOption result (¬ ((1 ≤ n) × (n ≤ Size.MAX)))

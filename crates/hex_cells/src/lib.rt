@@ -24,7 +24,9 @@ mod colours;
 mod decimals;
 mod edges;
 mod graph;
+mod halves;
 mod sets;
+mod singles;
 mod vertices;
 
 pub use board_size::{MOST_CELLS, Size};

@@ -4,6 +4,8 @@ ghost use Rattle.std.specs.Prelude.{◌≡◌, ℕ, ◌+◌, ◌-◌, ◌*◌, �
 ghost use Rattle.std.specs.Prelude.{nat_lt, not, true, false, IsTrue, MatchOption, bit_or, bit_and};
 ghost use Rattle.hex_cells.specs.Sets.{has, members, with_cell, without_cell, without_cells};
 
+use super::halves::place_in;
+use super::singles::single;
 use super::{Cell, MOST_CELLS, Size};
 use std::marker::Model;
 
@@ -72,7 +74,7 @@ impl CellSet {
         ensures items { (k : ℕ) → has result k ≡ (has self k || k == cell) }
     {
         CellSet {
-            bits: self.bits | 1 << cell.number(),
+            bits: self.bits | single(cell),
         }
     }
 
@@ -85,7 +87,7 @@ impl CellSet {
         ensures items { (k : ℕ) → has result k ≡ (has self k && not (k == cell)) }
     {
         CellSet {
-            bits: self.bits & !(1 << cell.number()),
+            bits: self.bits & !single(cell),
         }
     }
 
@@ -185,25 +187,18 @@ impl CellSet {
     }
 
     /// The cell with `k` cells of the set below it: the cells in rising order, from 0.
-    #[tactic(auto, using(crate::proofs::Counts::members_more, crate::proofs::Counts::members_none))]
     pub fn nth(self, k: u32) -> Cell
         requires { k < members self MOST_CELLS }
         ensures inside { has self result ≡ true }
         ensures order { members self result ≡ k }
     {
-        let mut at = 0;
-        let mut width = MOST_CELLS;
-        // The cell is one of the `width` numbers from `at` on; halving them takes seven steps.
-        while 1 < width {
-            let half = width / 2;
-            if k < self.below(at + half) {
-                width = half;
-            } else {
-                at += half;
-                width -= half;
-            }
+        let low = (self.bits % (1 << u64::BITS)) as u64;
+        let in_low = low.count_ones();
+        if k < in_low {
+            return Cell::numbered(place_in(low, k));
         }
-        Cell::numbered(at)
+        let high = (self.bits >> u64::BITS) as u64;
+        Cell::numbered(u64::BITS + place_in(high, k - in_low))
     }
 
     // How many cells of the set have a number below `end`.

@@ -1,11 +1,11 @@
 -- What follows of what was done in any mode.
-use Rattle.std.proofs.Common.{List, Some, None, Option, Err, true, false, refl, ◌≡◌, ◌≢◌, ℕ, ◌+◌, ◌≤◌, ◌⊎◌, length, sym, ap, ◌∙◌, subst, inl, inr, arith}
+use Rattle.std.proofs.Common.{List, Some, None, Option, Err, false, refl, ◌≡◌, ◌≢◌, ℕ, ◌+◌, ◌≤◌, ◌⊎◌, length, sym, ◌∙◌, subst, inl, inr, arith}
 use Rattle.std.specs.Prelude.{◌↔◌}
 use Rattle.hex_io.specs.Told.{Told, Both, Same}
 use Rattle.hex_plan.specs.Turns.{TurnData}
 use Rattle.turn_modes.specs.OneTurn.{IsBenchmark, IsSimulation}
+use Rattle.turn_modes.specs.declared.options.ModeOptions.{ModeOptions}
 use Rattle.htp_session.specs.Devices.{DevicesState}
-use Rattle.htp_session.specs.Usage.{ShelfAndArchive}
 use Rattle.htp_session.specs.Endings.{since}
 use Rattle.htp_session.proofs.Conversations.{conversed_nothing}
 use Rattle.htp_session.specs.Inputs.{TextOf}
@@ -15,54 +15,52 @@ use Rattle.hexd_words.specs.declared.settings.Mode.{Mode}
 use Rattle.hexd_words.specs.declared.settings.Mode.TheVariants.{Htp, Check, Migrate, Audit, Sim, Bench}
 use Rattle.hex_cli.specs.AuditTexts.{IsAuditText}
 use Rattle.hex_cli.specs.CertTexts.{IsCheckText, IsMigrateText}
-use Rattle.hex_cli.specs.Modes.{engine_options, mode_options}
+use Rattle.hex_cli.specs.Modes.{AnswersBy, DevicesTold, HandsInBy, engine_options, mode_options}
+use Rattle.hex_cli.specs.Playing.{HasGoodTurns}
 use Rattle.hex_cli.specs.Runs.{may_archive, may_fetch}
-use Rattle.hex_cli.specs.Served.{AnswersTo, ServesIn, HandsInTo}
+use Rattle.hex_cli.specs.Served.{IsUnarchived, IsUnfetched, ServesIn, StandsIdleIn}
 use Rattle.hex_cli.specs.Statuses.{status_of}
 use Rattle.hex_cli.specs.declared.ends.End.{End}
 use Rattle.hex_cli.specs.declared.ends.End.TheVariants.{Usage, Done, Rejected, Stopped}
 use Rattle.hex_cli.specs.declared.limits.TheConstants.{INPUT_LIMIT}
 use Rattle.hex_cli.proofs.InputEnds.{input_complete, input_no_usage, input_nothing, input_too_long}
-use Rattle.hex_cli.proofs.RunLaws.{complete_at, no_usage, too_long_exactly}
-use Rattle.hex_cli.proofs.HandedTurns.{handed_complete, handed_too_long, outcome_no_usage}
+use Rattle.hex_cli.proofs.RunLaws.{outcome_no_usage, session_complete, session_too_long}
+use Rattle.hex_cli.proofs.HandedTurns.{handed_complete, handed_too_long}
 
 abbrev Answer : Type 1
-Answer = TurnData → List ℕ → Type 0
+Answer = ModeOptions → TurnData → List ℕ → Type 0
 
 -- ---- no mode ends with a usage
 
-answers_no_usage : (Answers : TextOf) (end : End) (old new : DevicesState) → AnswersTo Answers end old new → end ≢ Usage
-answers_no_usage Answers end old new d e = input_no_usage d.answered.0 (sym d.answered.1 ∙ e)
-
-hands_no_usage : {IsAnswer : Answer} (end : End) (old new : DevicesState) → HandsInTo IsAnswer end old new → end ≢ Usage
-hands_no_usage end old new d e = outcome_no_usage d.handed.0 (sym d.handed.1 ∙ e)
-
-pub does_no_usage : (mode : Mode) (options : Options) (end : End) (old new : DevicesState) → ServesIn mode options end old new → end ≢ Usage
-does_no_usage Htp options end old new d = no_usage end (engine_options options) options.size INPUT_LIMIT _ _ _ _ d
-does_no_usage Check options end old new d = answers_no_usage IsCheckText end old new d
-does_no_usage Migrate options end old new d = answers_no_usage IsMigrateText end old new d
-does_no_usage Audit options end old new d = answers_no_usage IsAuditText end old new d
-does_no_usage Sim options end old new d = hands_no_usage end old new d
-does_no_usage Bench options end old new d = hands_no_usage end old new d
+pub does_no_usage : (mode : Mode) (options : Options) (end : End) (old new : DevicesTold) → ServesIn mode options end old new → end ≢ Usage
+does_no_usage Htp options end old new d e = outcome_no_usage d.1.0 (sym d.1.1 ∙ e)
+does_no_usage Check options end old new d e = input_no_usage d.0 (sym d.1 ∙ e)
+does_no_usage Migrate options end old new d e = input_no_usage d.0 (sym d.1 ∙ e)
+does_no_usage Audit options end old new d e = input_no_usage d.0 (sym d.1 ∙ e)
+does_no_usage Sim options end old new d e = outcome_no_usage d.0 (sym d.1 ∙ e)
+does_no_usage Bench options end old new d e = outcome_no_usage d.0 (sym d.1 ∙ e)
 
 -- ---- the input is too long exactly where one byte more than the limit was taken
 
 abbrev pub IsLong : End → Told → Told → Type 0
 IsLong end o n = (status_of end ≡ 6) ↔ (length (since o n) ≡ INPUT_LIMIT + 1)
 
-answers_too_long : (Answers : TextOf) (end : End) (old new : DevicesState) → AnswersTo Answers end old new → Both old.link new.link (IsLong end)
-answers_too_long Answers end old new d = subst (λ (x : End). Both old.link new.link (IsLong x)) (sym d.answered.1) (input_too_long Answers INPUT_LIMIT old.link new.link d.answered.0 d.answered.2)
+plays_too_long : (options : Options) (end : End) (old new : DevicesTold) → HasGoodTurns options end old new → Both old.link new.link (IsLong end)
+plays_too_long options end old new d = subst (λ (x : End). Both old.link new.link (IsLong x)) (sym d.1.1) (session_too_long d.1.0 (engine_options options) options.size INPUT_LIMIT d.0 _ _ old.link new.link d.1.2)
 
-hands_too_long : (IsAnswer : Answer) (end : End) (old new : DevicesState) → HandsInTo IsAnswer end old new → Both old.link new.link (IsLong end)
-hands_too_long IsAnswer end old new d = subst (λ (x : End). Both old.link new.link (IsLong x)) (sym d.handed.1) (handed_too_long IsAnswer INPUT_LIMIT (old.link, old.turns) (new.link, new.turns) d.handed.0 d.handed.2)
+answers_too_long : (Answers : TextOf) (end : End) (old new : DevicesTold) → AnswersBy Answers end old new → Both old.link new.link (IsLong end)
+answers_too_long Answers end old new d = subst (λ (x : End). Both old.link new.link (IsLong x)) (sym d.1) (input_too_long Answers INPUT_LIMIT old.link new.link d.0 d.2)
 
-pub does_too_long : (mode : Mode) (options : Options) (end : End) (old new : DevicesState) → ServesIn mode options end old new → Both old.link new.link (IsLong end)
-does_too_long Htp options end old new d = too_long_exactly end (engine_options options) options.size INPUT_LIMIT _ _ _ _ d
+hands_too_long : (Says : Answer) (options : Options) (end : End) (old new : DevicesTold) → HandsInBy Says options end old new → Both old.link new.link (IsLong end)
+hands_too_long Says options end old new d = subst (λ (x : End). Both old.link new.link (IsLong x)) (sym d.1) (handed_too_long (Says (mode_options options)) INPUT_LIMIT (old.link, old.turns) (new.link, new.turns) d.0 d.2)
+
+pub does_too_long : (mode : Mode) (options : Options) (end : End) (old new : DevicesTold) → ServesIn mode options end old new → Both old.link new.link (IsLong end)
+does_too_long Htp options end old new d = plays_too_long options end old new d
 does_too_long Check options end old new d = answers_too_long IsCheckText end old new d
 does_too_long Migrate options end old new d = answers_too_long IsMigrateText end old new d
 does_too_long Audit options end old new d = answers_too_long IsAuditText end old new d
-does_too_long Sim options end old new d = hands_too_long (IsSimulation (mode_options options)) end old new d
-does_too_long Bench options end old new d = hands_too_long (IsBenchmark (mode_options options)) end old new d
+does_too_long Sim options end old new d = hands_too_long IsSimulation options end old new d
+does_too_long Bench options end old new d = hands_too_long IsBenchmark options end old new d
 
 -- ---- without a fault and within the limit the run is done, its input is rejected, or memory ran out
 
@@ -74,21 +72,25 @@ pub record IsFaultless (end : End) : Type 0 where
   pub write : end ≢ Stopped WriteFault
   pub archive : end ≢ Stopped ArchiveFault
 
-answers_complete : (Answers : TextOf) (end : End) (old new : DevicesState) → AnswersTo Answers end old new → IsFaultless end → Both old.link new.link (IsComplete end)
-answers_complete Answers end old new d f = subst (λ (x : End). Both old.link new.link (IsComplete x)) (sym d.answered.1)
-    (input_complete Answers INPUT_LIMIT old.link new.link d.answered.0 d.answered.2 (λ e. f.read (d.answered.1 ∙ e)) (λ e. f.write (d.answered.1 ∙ e)))
+plays_complete : (options : Options) (end : End) (old new : DevicesTold) → HasGoodTurns options end old new → IsFaultless end → Both old.link new.link (IsComplete end)
+plays_complete options end old new d f = subst (λ (x : End). Both old.link new.link (IsComplete x)) (sym d.1.1)
+    (session_complete d.1.0 (engine_options options) options.size INPUT_LIMIT d.0 _ _ old.link new.link d.1.2 (λ e. f.read (d.1.1 ∙ e)) (λ e. f.write (d.1.1 ∙ e)) (λ e. f.archive (d.1.1 ∙ e)))
 
-hands_complete : (IsAnswer : Answer) (end : End) (old new : DevicesState) → HandsInTo IsAnswer end old new → IsFaultless end → Both old.link new.link (IsComplete end)
-hands_complete IsAnswer end old new d f = subst (λ (x : End). Both old.link new.link (IsComplete x)) (sym d.handed.1)
-    (handed_complete IsAnswer INPUT_LIMIT (old.link, old.turns) (new.link, new.turns) d.handed.0 d.handed.2 (λ e. f.write (d.handed.1 ∙ e)) (λ e. f.archive (d.handed.1 ∙ e)))
+answers_complete : (Answers : TextOf) (end : End) (old new : DevicesTold) → AnswersBy Answers end old new → IsFaultless end → Both old.link new.link (IsComplete end)
+answers_complete Answers end old new d f = subst (λ (x : End). Both old.link new.link (IsComplete x)) (sym d.1)
+    (input_complete Answers INPUT_LIMIT old.link new.link d.0 d.2 (λ e. f.read (d.1 ∙ e)) (λ e. f.write (d.1 ∙ e)))
 
-pub does_complete : (mode : Mode) (options : Options) (end : End) (old new : DevicesState) → ServesIn mode options end old new → IsFaultless end → Both old.link new.link (IsComplete end)
-does_complete Htp options end old new d f = complete_at end (engine_options options) options.size INPUT_LIMIT _ _ _ _ d f.read f.write f.archive
+hands_complete : (Says : Answer) (options : Options) (end : End) (old new : DevicesTold) → HandsInBy Says options end old new → IsFaultless end → Both old.link new.link (IsComplete end)
+hands_complete Says options end old new d f = subst (λ (x : End). Both old.link new.link (IsComplete x)) (sym d.1)
+    (handed_complete (Says (mode_options options)) INPUT_LIMIT (old.link, old.turns) (new.link, new.turns) d.0 d.2 (λ e. f.write (d.1 ∙ e)) (λ e. f.archive (d.1 ∙ e)))
+
+pub does_complete : (mode : Mode) (options : Options) (end : End) (old new : DevicesTold) → ServesIn mode options end old new → IsFaultless end → Both old.link new.link (IsComplete end)
+does_complete Htp options end old new d f = plays_complete options end old new d f
 does_complete Check options end old new d f = answers_complete IsCheckText end old new d f
 does_complete Migrate options end old new d f = answers_complete IsMigrateText end old new d f
 does_complete Audit options end old new d f = answers_complete IsAuditText end old new d f
-does_complete Sim options end old new d f = hands_complete (IsSimulation (mode_options options)) end old new d f
-does_complete Bench options end old new d f = hands_complete (IsBenchmark (mode_options options)) end old new d f
+does_complete Sim options end old new d f = hands_complete IsSimulation options end old new d f
+does_complete Bench options end old new d f = hands_complete IsBenchmark options end old new d f
 
 -- ---- before anything was done nothing changed
 
@@ -96,41 +98,53 @@ same_self : {X : Type 0} (x : Option X) → Same x x
 same_self None = tt
 same_self (Some x) = refl
 
-answers_nothing : (Answers : TextOf) (at : DevicesState) → AnswersTo Answers (Stopped Memory) at at
-answers_nothing Answers at = record {
-  answered = (Err Memory, refl, input_nothing Answers INPUT_LIMIT at.link);
-  idle = record { shelf_and_archive = refl; fetches = refl; archives = refl };
-}
+plays_nothing : (options : Options) (at : DevicesTold) → HasGoodTurns options (Stopped Memory) at at
+plays_nothing options at =
+    let nothing = conversed_nothing (engine_options options) options.size INPUT_LIMIT (at.shelf, at.turns) at.link in
+    (nothing.0, (Err Memory, refl, nothing.1), nothing.2)
 
-hands_nothing : (IsAnswer : Answer) (at : DevicesState) → HandsInTo IsAnswer (Stopped Memory) at at
-hands_nothing IsAnswer at = record {
-  handed = (Err Memory, refl, (same_self at.link, same_self at.turns));
-  shelf = refl;
-  fetches = refl;
-}
+answers_nothing : (Answers : TextOf) (at : DevicesTold) → AnswersBy Answers (Stopped Memory) at at
+answers_nothing Answers at = (Err Memory, refl, input_nothing Answers INPUT_LIMIT at.link)
 
-pub does_nothing : (mode : Mode) (options : Options) (at : DevicesState) → ServesIn mode options (Stopped Memory) at at
-does_nothing Htp options at = conversed_nothing (engine_options options) options.size INPUT_LIMIT _ _
+hands_nothing : (Says : Answer) (options : Options) (at : DevicesTold) → HandsInBy Says options (Stopped Memory) at at
+hands_nothing Says options at = (Err Memory, refl, (same_self at.link, same_self at.turns))
+
+pub does_nothing : (mode : Mode) (options : Options) (at : DevicesTold) → ServesIn mode options (Stopped Memory) at at
+does_nothing Htp options at = plays_nothing options at
 does_nothing Check options at = answers_nothing IsCheckText at
 does_nothing Migrate options at = answers_nothing IsMigrateText at
 does_nothing Audit options at = answers_nothing IsAuditText at
-does_nothing Sim options at = hands_nothing (IsSimulation (mode_options options)) at
-does_nothing Bench options at = hands_nothing (IsBenchmark (mode_options options)) at
+does_nothing Sim options at = hands_nothing IsSimulation options at
+does_nothing Bench options at = hands_nothing IsBenchmark options at
 
 -- ---- what stands idle
 
-pub does_unfetched : (mode : Mode) (options : Options) (end : End) (old new : DevicesState) → ServesIn mode options end old new → may_fetch mode ≡ false → (new.shelf ≡ old.shelf) × (new.fetch_faults ≡ old.fetch_faults)
-does_unfetched Htp options end old new d idle = absurd (cc)
-does_unfetched Check options end old new d idle = (ap (λ (s : ShelfAndArchive). s.0) d.idle.shelf_and_archive, d.idle.fetches)
-does_unfetched Migrate options end old new d idle = (ap (λ (s : ShelfAndArchive). s.0) d.idle.shelf_and_archive, d.idle.fetches)
-does_unfetched Audit options end old new d idle = (ap (λ (s : ShelfAndArchive). s.0) d.idle.shelf_and_archive, d.idle.fetches)
-does_unfetched Sim options end old new d idle = (d.shelf, d.fetches)
-does_unfetched Bench options end old new d idle = (d.shelf, d.fetches)
+unfetched_self : (at : DevicesState) → IsUnfetched at at
+unfetched_self at = record { shelf = refl; fetches = refl }
 
-pub does_unarchived : (mode : Mode) (options : Options) (end : End) (old new : DevicesState) → ServesIn mode options end old new → may_archive mode ≡ false → (new.turns ≡ old.turns) × (new.archive_faults ≡ old.archive_faults)
-does_unarchived Htp options end old new d idle = absurd (cc)
-does_unarchived Check options end old new d idle = (ap (λ (s : ShelfAndArchive). s.1) d.idle.shelf_and_archive, d.idle.archives)
-does_unarchived Migrate options end old new d idle = (ap (λ (s : ShelfAndArchive). s.1) d.idle.shelf_and_archive, d.idle.archives)
-does_unarchived Audit options end old new d idle = (ap (λ (s : ShelfAndArchive). s.1) d.idle.shelf_and_archive, d.idle.archives)
-does_unarchived Sim options end old new d idle = absurd (cc)
-does_unarchived Bench options end old new d idle = absurd (cc)
+unarchived_self : (at : DevicesState) → IsUnarchived at at
+unarchived_self at = record { turns = refl; archives = refl }
+
+pub idle_self : (mode : Mode) (at : DevicesState) → StandsIdleIn mode at at
+idle_self Htp at = tt
+idle_self Check at = (unfetched_self at, unarchived_self at)
+idle_self Migrate at = (unfetched_self at, unarchived_self at)
+idle_self Audit at = (unfetched_self at, unarchived_self at)
+idle_self Sim at = unfetched_self at
+idle_self Bench at = unfetched_self at
+
+pub idle_unfetched : (mode : Mode) (old new : DevicesState) → StandsIdleIn mode old new → may_fetch mode ≡ false → IsUnfetched old new
+idle_unfetched Htp old new d idle = absurd (cc)
+idle_unfetched Check old new d idle = d.0
+idle_unfetched Migrate old new d idle = d.0
+idle_unfetched Audit old new d idle = d.0
+idle_unfetched Sim old new d idle = d
+idle_unfetched Bench old new d idle = d
+
+pub idle_unarchived : (mode : Mode) (old new : DevicesState) → StandsIdleIn mode old new → may_archive mode ≡ false → IsUnarchived old new
+idle_unarchived Htp old new d idle = absurd (cc)
+idle_unarchived Check old new d idle = d.1
+idle_unarchived Migrate old new d idle = d.1
+idle_unarchived Audit old new d idle = d.1
+idle_unarchived Sim old new d idle = absurd (cc)
+idle_unarchived Bench old new d idle = absurd (cc)

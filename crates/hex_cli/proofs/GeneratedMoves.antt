@@ -1,10 +1,12 @@
 -- Each line that takes a turn is answered by a generated move.
 use Rattle.std.proofs.Common.{◌≡◌, ◌≢◌, ℕ, zero, suc, ◌+◌, Bool, true, false, cond, List, [], ◌∷◌, ◌++◌, Option, Some, None, Result, Ok, Err, ◌⊎◌, ⊎_elim, inl, inr, fold, drop, refl, sym, ap, ◌∙◌, subst, add-one}
+use Rattle.std.specs.List.{AllByRecursion}
 use Rattle.std.specs.Prelude.{slice_get}
 use Rattle.std.proofs.lemmas.List.Sums.{fold_push}
 use Rattle.hex_io.specs.Told.{Told, Both}
 use Rattle.hex_io.proofs.BothLaws.{Both-weaker}
 use Rattle.htp_line.specs.Answering.{success}
+use Rattle.htp_line.specs.Lines.{lines}
 use Rattle.htp_line.specs.Reading.{reading}
 use Rattle.htp_line.specs.declared.request.Parsed.{Parsed}
 use Rattle.htp_line.specs.declared.request.Parsed.TheVariants.{Blank, Bare, Request}
@@ -12,8 +14,12 @@ use Rattle.htp_line.specs.Splitting.{kept_line}
 use Rattle.hex_cells.specs.declared.colours.Colour.{Colour}
 use Rattle.hex_cells.specs.Vertices.{vertex_of}
 use Rattle.hex_game.specs.Games.{board_of}
-use Rattle.hex_io.specs.Shelves.{Shelved}
+use Rattle.hex_plan.specs.Good.{FollowsPlan}
+use Rattle.hex_plan.specs.Laws.{IsCertified}
+use Rattle.hex_plan.specs.Plans.{IsWin}
 use Rattle.hex_plan.specs.Turns.{TurnData}
+use Rattle.hex_plan.specs.declared.types.Plan.{Plan}
+use Rattle.hex_plan.specs.declared.types.Plan.TheVariants.{Win, Search}
 use Rattle.hex_engine.specs.declared.options.Options.{Options}
 use Rattle.hex_engine.specs.EngineState.{EngineState, opening}
 use Rattle.hex_engine.specs.Supply.{Supply}
@@ -22,8 +28,9 @@ use Rattle.hex_engine.specs.MoveReplies.{is_next, turned}
 use Rattle.hex_engine.specs.Replies.{Turned, Missing}
 use Rattle.hex_engine.specs.Requests.{reaction}
 use Rattle.htp_session.specs.Talk.{TalkState, goes_on, reply_text, after_reaction, after_reading, after_line, followed_by, with_line, talk_start, talk}
-use Rattle.htp_session.specs.Endings.{Conversed}
-use Rattle.hex_cli.specs.Headline.{IsGeneratedMove, AreGeneratedMoves, Headline}
+use Rattle.htp_session.specs.Endings.{since}
+use Rattle.hex_cli.specs.Headline.{IsGeneratedMove, AreGeneratedMoves, WinsOrIsBest}
+use Rattle.hex_cli.specs.Playing.{HasTrueThreats}
 use Rattle.hex_plan.proofs.CertifiedMoves.{is_certified, lost_loses, outside_loses}
 use Rattle.hex_engine.proofs.Legal.{next_is_legal}
 use Rattle.htp_session.proofs.TakenTurns.{TakesTurn, MayTakeTurn, reaction_takes}
@@ -96,6 +103,11 @@ stands_still options turns before after h o l t = record {
   generated = λ moved. absurd (moved t);
 }
 
+-- a win's cell wins, and a search's is the best of its tree
+chosen_by : (options : Options) (turn : TurnData) (plan : Plan) → turn.planned.plan ≡ plan → FollowsPlan options.knobs turn plan → IsCertified turn → WinsOrIsBest options.knobs turn plan
+chosen_by options turn (Win cert cell) is follows certified = certified (subst IsWin (sym is) tt)
+chosen_by options turn (Search threats allowed lost) is follows certified = follows
+
 takes_turn : (options : Options) (turns : List TurnData) (before : TalkState) (s : TalkState) → Holds options turns before → s.at.options ≡ before.at.options → SaysTurn before.at before.left s → Goes options turns before (followed_by before s)
 takes_turn options turns before s h o took =
     let good : AreGood options (took.turn ∷ s.left.turns) = subst (AreGood options) took.was h.good in
@@ -106,12 +118,9 @@ takes_turn options turns before s h o took =
       generated = λ moved. record {
         turn = took.turn;
         colour = took.colour;
-        good = good.0;
         next = took.next;
-        certified = is_certified options.knobs options.hsearch took.turn good.0;
-        outside_threats = outside_loses options.knobs options.hsearch took.turn good.0;
-        where_lost = lost_loses options.knobs options.hsearch took.turn good.0;
         placed = at.0;
+        chosen = chosen_by options took.turn took.turn.planned.plan refl good.0.follows (is_certified options.knobs options.hsearch took.turn good.0);
         legal = next_is_legal before.at took.colour took.turn (subst (λ p. IsGoodFor p took.turn) (sym h.same) good.0) took.next;
         played = ap (λ (e : EngineState). e.game) took.after;
         written = (took.written.0, ap (λ l. before.text ++ l) took.written.1);
@@ -145,12 +154,17 @@ are_generated start all lines good none before raw others split moved =
     let goes = step_goes start.options all.turns here raw holds (step_keeps here raw) in
     subst (IsGeneratedMove start.options all.turns here) (sym more) (goes.generated (subst (λ (s : TalkState). s.at.turns ≢ here.at.turns) more moved))
 
-pub headline_at : (options : Options) (size limit : ℕ) (a b : Option Shelved) (c d : Option (List TurnData)) (x y : Option Told) → Conversed (Ok tt) options size limit (a, c) (b, d) x y
-    → Both c d (λ s t. Both x y (λ o n. Headline options size s t o n))
-headline_at options size limit a b c d x y k =
-    Both-weaker c d _ _ (λ s t took. Both-weaker x y _ _ (λ o n p. record {
-      all = k.used;
-      archived = took;
-      given = p.ends.given;
-      generated = are_generated (opening options size) k.used _ k.uses.moving.good refl;
-    }) k.outcome) k.uses.moving.took
+-- the turns that a session used up tell true threats
+pub threats_at : (options : Options) (turns : List TurnData) → AreGood options turns → AllByRecursion HasTrueThreats turns
+threats_at options [] good = tt
+threats_at options (turn ∷ turns) good = (
+  record {
+    outside = outside_loses options.knobs options.hsearch turn good.0;
+    where_lost = lost_loses options.knobs options.hsearch turn good.0;
+  },
+  threats_at options turns good.1,
+)
+
+pub headline_at : (options : Options) (size : ℕ) (used : Supply) (x y : Option Told) → Both x y (λ o n. Unit {0}) → AreGood options used.turns
+    → Both x y (λ o n. AreGeneratedMoves (opening options size) used (lines (since o n)))
+headline_at options size used x y told good = Both-weaker x y _ _ (λ o n t. are_generated (opening options size) used _ good refl) told

@@ -11,14 +11,10 @@ use Rattle.htp_session.specs.Handing.{LinkAndArchive}
 use Rattle.htp_session.specs.declared.stops.Stop.TheVariants.{ReadFault, WriteFault, Memory, TooLong, ArchiveFault}
 use Rattle.turn_modes.specs.HandingIn.{HandsIn}
 use Rattle.hex_cli.specs.Statuses.{end_for, status_of}
-use Rattle.hex_cli.specs.declared.ends.End.TheVariants.{Usage, Stopped}
+use Rattle.hex_cli.specs.declared.ends.End.TheVariants.{Stopped}
 
 abbrev Answer : Type 1
 Answer = TurnData → List ℕ → Type 0
-
-pub outcome_no_usage : (outcome : Outcome) → end_for outcome ≢ Usage
-outcome_no_usage (Ok done) e = absurd (cc)
-outcome_no_usage (Err stop) e = absurd (cc)
 
 -- ---- nothing was taken
 

@@ -1,7 +1,8 @@
--- Why a run ends so: its status, and its link, archive and errors before and after.
+-- Why a run ends so: its status, and its link, archive and errors before and after. Which count of
+-- faults rose says `CountsFault` of hex_io.
 use Rattle.std.specs.Prelude.{◌≡◌, ◌+◌, ◌≤◌, ◌⊎◌, ◌↔◌, ℕ, List, length}
 use Rattle.hex_io.specs.Told.{Both}
-use Rattle.hex_io.specs.Causes.{CountsFault, Rose}
+use Rattle.hex_io.specs.Causes.{Rose}
 use Rattle.hex_io.specs.Reported.{Reported}
 use Rattle.hex_io.specs.declared.links.Link as links
 use Rattle.hex_plan.specs.declared.archives.Archive as archives
@@ -13,18 +14,6 @@ use Rattle.hex_cli.specs.Statuses.{status_of, error_line}
 use Rattle.hex_cli.specs.declared.ends.End.{End}
 use Rattle.hex_cli.specs.declared.ends.End.TheVariants.{Done, Rejected, Stopped}
 use Rattle.hex_cli.specs.declared.limits.TheConstants.{INPUT_LIMIT}
-
--- the link's count of read faults rose where this holds, and is as before where it doesn't
-abbrev pub CountsReads : {L : Type 0} → links.Ghosts L → L → L → Type 0 → Type 0
-CountsReads l old new Fault = CountsFault (l.read_faults old) (l.read_faults new) Fault
-
--- the same of its count of write faults
-abbrev pub CountsWrites : {L : Type 0} → links.Ghosts L → L → L → Type 0 → Type 0
-CountsWrites l old new Fault = CountsFault (l.write_faults old) (l.write_faults new) Fault
-
--- the same of the archive's count of faults
-abbrev pub CountsTurns : {A : Type 0} → archives.Ghosts A → A → A → Type 0 → Type 0
-CountsTurns a old new Fault = CountsFault (a.faults old) (a.faults new) Fault
 
 -- with well-formed words the input is too long exactly where one byte more than the limit was taken
 abbrev pub IsTooLong : {L : Type 0} → links.Ghosts L → List (List ℕ) → ℕ → L → L → Type 0

@@ -1,6 +1,6 @@
--- The headline: what stands of each generated move of a run that is done.
+-- The headline: what stands of each generated move of a session that is done.
 use Rattle.std.specs.Prelude.{◌≡◌, ◌≢◌, ℕ, true, List, [], ◌∷◌, ◌++◌, Option, Some, slice_get}
-use Rattle.hex_io.specs.Told.{Told}
+use Rattle.hex_io.specs.Told.{Both}
 use Rattle.htp_line.specs.Answering.{success}
 use Rattle.htp_line.specs.Lines.{lines}
 use Rattle.hex_cells.specs.declared.colours.Colour.{Colour}
@@ -8,32 +8,43 @@ use Rattle.hex_cells.specs.Vertices.{vertex_of}
 use Rattle.hex_game.specs.Games.{board_of, is_legal, with_step}
 use Rattle.hex_game.specs.Moves.{step_of}
 use Rattle.hex_game.specs.declared.moves.Move.TheVariants.{Stone}
-use Rattle.hex_plan.specs.Laws.{IsCertified, LosesOutsideThreats, LosesWhereLost}
+use Rattle.tree_words.specs.Closing.{ClosedTree}
+use Rattle.tree_words.specs.declared.settings.Knobs.{Knobs}
+use Rattle.hexd_words.specs.declared.settings.Options as words
+use Rattle.hex_plan.specs.Good.{IsSearchedFor}
+use Rattle.hex_plan.specs.Laws.{WinsBy}
 use Rattle.hex_plan.specs.Turns.{TurnData}
+use Rattle.hex_plan.specs.declared.types.Plan.{Plan}
+use Rattle.hex_plan.specs.declared.types.Plan.TheVariants.{Win, Search}
 use Rattle.hex_engine.specs.declared.options.Options.{Options}
 use Rattle.hex_engine.specs.EngineState.{EngineState, opening}
 use Rattle.hex_engine.specs.MoveReplies.{is_next}
 use Rattle.hex_engine.specs.Supply.{Supply}
-use Rattle.hex_engine.specs.Uses.{IsGoodFor}
 use Rattle.htp_session.specs.Talk.{TalkState, talk}
 use Rattle.htp_session.specs.Endings.{since}
+use Rattle.hex_cli.specs.Modes.{DevicesTold, PlaysBy, engine_options}
+use Rattle.hex_cli.specs.declared.ends.End.{End}
+use Rattle.hex_cli.specs.declared.ends.End.TheVariants.{Done}
 
--- A line was answered by a generated move. Its turn is good, and is the next one: it has the board
--- of the game before, this colour to move and the number of turns before, and stands at that place
--- among these turns. Where the turn's plan is a win, the move wins against every reply; a move
--- outside the carrier of one of the turn's threats loses, and where the plan says that the board
--- is lost each move does. A stone of this colour on the turn's cell is legal in the game before;
--- and it was played and written.
+-- Where the turn's plan is a win, its cell wins against every reply. Where it is a search, the turn
+-- has a tree, which was searched for it and is closed: the cell is the least of the root's children
+-- of most visits, and with one worker the tree is that of Seq.
+abbrev pub WinsOrIsBest : Knobs → TurnData → Plan → Type 0
+WinsOrIsBest knobs turn (Win cert cell) = WinsBy turn.board turn.player turn.cell
+WinsOrIsBest knobs turn (Search threats allowed lost) =
+    (tree : ClosedTree) × (turn.closed ≡ Some tree) × IsSearchedFor knobs turn allowed tree
+
+-- A line was answered by a generated move. Its turn is the next one: it has the board of the game
+-- before, this colour to move and the number of turns before, and stands at that place among these
+-- turns. Its cell wins or is the best of its tree; a stone of this colour on the cell is legal in
+-- the game before; and it was played and written.
 pub record IsGeneratedMove (options : Options) (turns : List TurnData)
     (before after : TalkState) : Type 0 where
   pub turn : TurnData
   pub colour : Colour
-  pub good : IsGoodFor options turn
   pub next : is_next before.at colour turn ≡ true
-  pub certified : IsCertified turn
-  pub outside_threats : LosesOutsideThreats turn
-  pub where_lost : LosesWhereLost turn
   pub placed : slice_get turns before.at.turns ≡ Some turn
+  pub chosen : WinsOrIsBest options.knobs turn turn.planned.plan
   pub legal : is_legal before.at.game (step_of colour (Stone turn.cell)) ≡ true
   pub played : after.at.game ≡ with_step before.at.game (step_of colour (Stone turn.cell))
   pub written : (id : Option ℕ)
@@ -49,12 +60,10 @@ AreGeneratedMoves start all lines =
     → IsGeneratedMove start.options all.turns (talk start all before)
     (talk start all (before ++ raw ∷ []))
 
--- What was given is the talk over the lines taken, with the turns that the archive took since and
--- what came of the files; and each line that took a turn was answered by a generated move.
-pub record Headline (options : Options) (size : ℕ) (turns turns_now : List TurnData)
-    (old new : Told) : Type 0 where
-  pub all : Supply
-  pub archived : turns_now ≡ turns ++ all.turns
-  pub given : new.given ≡ old.given
-      ++ (talk (opening options size) all (lines (since old new))).text
-  pub generated : AreGeneratedMoves (opening options size) all (lines (since old new))
+-- Mode htp: where the session is done, each of its lines that took a turn was answered by a
+-- generated move.
+abbrev pub HasHeadline : words.Options → End → DevicesTold → DevicesTold → Type 0
+HasHeadline options end before after = end ≡ Done → (used : Supply)
+    × PlaysBy used options end before after
+    × Both before.link after.link (λ old new.
+    AreGeneratedMoves (opening (engine_options options) options.size) used (lines (since old new)))

@@ -1,5 +1,6 @@
 pub mod Statuses
 pub mod Modes
+pub mod Playing
 pub mod Served
 pub mod CertTexts
 pub mod AuditTexts

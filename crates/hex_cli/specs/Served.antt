@@ -6,50 +6,52 @@ use Rattle.hexd_words.specs.declared.settings.Options.{Options}
 use Rattle.hexd_words.specs.declared.settings.Mode.{Mode}
 use Rattle.hexd_words.specs.declared.settings.Mode.TheVariants.{Htp, Check, Migrate, Audit}
 use Rattle.hexd_words.specs.declared.settings.Mode.TheVariants.{Sim, Bench}
-use Rattle.hex_plan.specs.Turns.{TurnData}
 use Rattle.turn_modes.specs.OneTurn.{IsBenchmark, IsSimulation}
-use Rattle.htp_session.specs.Devices.{DevicesState, shelf_and_archive, link_and_archive}
-use Rattle.htp_session.specs.Inputs.{TextOf}
+use Rattle.htp_session.specs.Devices.{DevicesState}
 use Rattle.hex_cli.specs.AuditTexts.{IsAuditText}
 use Rattle.hex_cli.specs.CertTexts.{IsCheckText, IsMigrateText}
-use Rattle.hex_cli.specs.Modes.{AnsweredTo, HandedInTo, PlayedTo, engine_options, mode_options}
+use Rattle.hex_cli.specs.Modes.{AnswersBy, DevicesTold, HandsInBy}
+use Rattle.hex_cli.specs.Playing.{HasGoodTurns}
 use Rattle.hex_cli.specs.declared.ends.End.{End}
-use Rattle.hex_cli.specs.declared.limits.TheConstants.{INPUT_LIMIT}
 
--- a session came to this end
-abbrev pub PlaysTo : Options → End → DevicesState → DevicesState → Type 0
-PlaysTo options end old new =
-    PlayedTo end (engine_options options) options.size INPUT_LIMIT
-    (shelf_and_archive old) (shelf_and_archive new) old.link new.link
+-- what the link, the shelf and the archive tell
+abbrev pub told_of : DevicesState → DevicesTold
+told_of devices = record { link = devices.link; shelf = devices.shelf; turns = devices.turns }
 
--- nothing was fetched from the shelf and nothing handed to the archive
-pub record StandIdle (old new : DevicesState) : Type 0 where
-  pub shelf_and_archive : shelf_and_archive new ≡ shelf_and_archive old
-  pub fetches : new.fetch_faults ≡ old.fetch_faults
-  pub archives : new.archive_faults ≡ old.archive_faults
-
--- the whole input was answered by such texts, to this end
-pub record AnswersTo (Answers : TextOf) (end : End) (old new : DevicesState) : Type 0 where
-  pub answered : AnsweredTo Answers end old.link new.link
-  pub idle : StandIdle old new
-
--- a turn with its text was handed in, to this end
-pub record HandsInTo (IsAnswer : TurnData → List ℕ → Type 0) (end : End)
-    (old new : DevicesState) : Type 0 where
-  pub handed : HandedInTo IsAnswer end (link_and_archive old) (link_and_archive new)
+-- nothing was fetched from the shelf
+pub record IsUnfetched (old new : DevicesState) : Type 0 where
   pub shelf : new.shelf ≡ old.shelf
   pub fetches : new.fetch_faults ≡ old.fetch_faults
 
+-- nothing was handed to the archive
+pub record IsUnarchived (old new : DevicesState) : Type 0 where
+  pub turns : new.turns ≡ old.turns
+  pub archives : new.archive_faults ≡ old.archive_faults
+
 -- what was done in this mode, to this end
-abbrev pub ServesIn : Mode → Options → End → DevicesState → DevicesState → Type 0
-ServesIn Htp options = PlaysTo options
-ServesIn Check options = AnswersTo IsCheckText
-ServesIn Migrate options = AnswersTo IsMigrateText
-ServesIn Audit options = AnswersTo IsAuditText
-ServesIn Sim options = HandsInTo (IsSimulation (mode_options options))
-ServesIn Bench options = HandsInTo (IsBenchmark (mode_options options))
+abbrev pub ServesIn : Mode → Options → End → DevicesTold → DevicesTold → Type 0
+ServesIn Htp options = HasGoodTurns options
+ServesIn Check options = AnswersBy IsCheckText
+ServesIn Migrate options = AnswersBy IsMigrateText
+ServesIn Audit options = AnswersBy IsAuditText
+ServesIn Sim options = HandsInBy IsSimulation options
+ServesIn Bench options = HandsInBy IsBenchmark options
+
+-- which devices stood idle in this mode
+abbrev pub StandsIdleIn : Mode → DevicesState → DevicesState → Type 0
+StandsIdleIn Htp old new = Unit {0}
+StandsIdleIn Check old new = IsUnfetched old new × IsUnarchived old new
+StandsIdleIn Migrate old new = IsUnfetched old new × IsUnarchived old new
+StandsIdleIn Audit old new = IsUnfetched old new × IsUnarchived old new
+StandsIdleIn Sim old new = IsUnfetched old new
+StandsIdleIn Bench old new = IsUnfetched old new
 
 -- what was done for the words, in the mode that they say
 abbrev pub Serves : List (List ℕ) → End → DevicesState → DevicesState → Type 0
 Serves words end old new = (options : Options) → WellFormed words options
-    → ServesIn options.mode options end old new
+    → ServesIn options.mode options end (told_of old) (told_of new)
+
+-- which devices stood idle in the mode that the words say
+abbrev pub LeavesIdle : List (List ℕ) → DevicesState → DevicesState → Type 0
+LeavesIdle words old new =
+    (options : Options) → WellFormed words options → StandsIdleIn options.mode old new

@@ -2,7 +2,8 @@
 
 ghost use Rattle.htp_session.specs.Devices.{CountsStop};
 ghost use Rattle.hex_cli.specs.Inputs.{IsTextOf};
-ghost use Rattle.hex_cli.specs.Served.{AnswersTo};
+ghost use Rattle.hex_cli.specs.Modes.{AnswersBy};
+ghost use Rattle.hex_cli.specs.Served.{IsUnarchived, IsUnfetched, told_of};
 ghost use Rattle.hex_cli.specs.Statuses.{stop_in};
 ghost use Rattle.hex_cli.specs.declared.limits.TheConstants.{INPUT_LIMIT};
 
@@ -48,7 +49,10 @@ pub fn answer<L: Link, F: Shelf, A: Archive, R: Threads + Sync, G: Gate + Sync>(
     mode: InputMode,
     devices: &mut Devices<'_, '_, '_, '_, L, F, A, R, G>,
 ) -> End
-    ensures answers { AnswersTo (IsTextOf mode) result devices.old devices.new }
+    ensures answers { AnswersBy (IsTextOf mode) result
+        (told_of devices.old) (told_of devices.new) }
+    ensures unfetched { IsUnfetched devices.old devices.new }
+    ensures unarchived { IsUnarchived devices.old devices.new }
     ensures counts { CountsStop devices.old devices.new (stop_in result) }
 {
     let answer = answer_input(alloc, &mut *devices.link, &mode, INPUT_LIMIT);

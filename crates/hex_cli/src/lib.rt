@@ -24,16 +24,17 @@
 //! formed, 6 exactly where one byte more than [`INPUT_LIMIT`] was taken, 7 before a `genmove` that
 //! is not refused. With status 5 the lines that were answered used up all that was used up, so no
 //! turn is thrown away. The errors get the one line of the status. Each generated move of a run
-//! that is done is legal and good; its turn is for the board of the game before, and stands at its
-//! place of the archive; where it is certified it wins against every reply; a move outside the
-//! carrier of one of its turn's threats loses, and where its plan says that the board is lost each
-//! move does (specs/Headline.antt). With one worker and without connections the words, the bytes
-//! read and the files determine what is given (specs/Determined.antt). In the modes that take their
-//! whole input the text is that of the bytes taken (specs/CertTexts.antt, specs/AuditTexts.antt),
-//! with status 1 exactly where it does not accept them. In modes `sim` and `bench` the archive took
-//! one turn, and the text is that of this turn, in the words of turn_modes. The shelf stands idle
-//! in each mode but `htp`, and the archive where the input is taken whole. [`trace_name`] is the
-//! name that `--trace` says.
+//! that is done is legal; its turn is for the board of the game before, and stands at its place of
+//! the archive; where it is certified it wins against every reply, and else it is the best of its
+//! closed tree (specs/Headline.antt). Each turn that was used up is good; a move outside the
+//! carrier of one of its threats loses, and where its plan says that the board is lost each move
+//! does (specs/Playing.antt). With one worker and without connections the words, the bytes read and
+//! the files determine what is given (specs/Determined.antt). In the modes that take their whole
+//! input the text is that of the bytes taken (specs/CertTexts.antt, specs/AuditTexts.antt), with
+//! status 1 exactly where it does not accept them. In modes `sim` and `bench` the archive took one
+//! turn, and the text is that of this turn, in the words of turn_modes. The shelf stands idle in
+//! each mode but `htp`, and the archive where the input is taken whole. [`trace_name`] is the name
+//! that `--trace` says.
 //!
 //! **Only tested, or not said.** That memory suffices: a run may always end with status 5, which no
 //! clause ties to a refused growth; and a quiet answer that is dropped then can't be told from

@@ -5,7 +5,8 @@ ghost use Rattle.tree_words.specs.Settings.{AreInRange};
 ghost use Rattle.hexd_words.specs.Values as value;
 ghost use Rattle.htp_session.specs.Devices.{CountsStop};
 ghost use Rattle.hex_cli.specs.Modes.{engine_options};
-ghost use Rattle.hex_cli.specs.Served.{PlaysTo};
+ghost use Rattle.hex_cli.specs.Playing.{HasGoodTurns};
+ghost use Rattle.hex_cli.specs.Served.{told_of};
 ghost use Rattle.hex_cli.specs.Statuses.{stop_in};
 
 use crate::ends::End;
@@ -27,7 +28,8 @@ pub fn play<L: Link, F: Shelf, A: Archive, R: Threads + Sync, G: Gate + Sync>(
 ) -> End
     requires ranges { value.OptionsInRange options.now }
     requires seed { options.now.seed < 2 ^ 64 }
-    ensures plays { PlaysTo options.now result devices.old devices.new }
+    ensures plays { HasGoodTurns options.now result
+        (told_of devices.old) (told_of devices.new) }
     ensures counts { CountsStop devices.old devices.new (stop_in result) }
 {
     let outcome = converse(

@@ -5,7 +5,7 @@ ghost use Rattle.hexd_words.specs.Values as value;
 ghost use Rattle.htp_session.specs.declared.stops.Stop.TheVariants.{Memory};
 ghost use Rattle.htp_session.specs.Devices.{CountsStop};
 ghost use Rattle.hex_cli.specs.Runs.{AreWellFormed, AreRefused};
-ghost use Rattle.hex_cli.specs.Served.{Serves, ServesIn};
+ghost use Rattle.hex_cli.specs.Served.{LeavesIdle, Serves, ServesIn, StandsIdleIn, told_of};
 ghost use Rattle.hex_cli.specs.Statuses.{stop_in};
 ghost use Rattle.hex_cli.specs.declared.ends.End.TheVariants.{Stopped};
 
@@ -34,6 +34,7 @@ pub fn serve<L: Link, F: Shelf, A: Archive, R: Threads + Sync, G: Gate + Sync>(
         → (result ≡ End.Usage) ⊎ (result ≡ Stopped Memory) }
     ensures untouched { AreRefused words.now → devices.new ≡ devices.old }
     ensures does { Serves words.now result devices.old devices.new }
+    ensures idle { LeavesIdle words.now devices.old devices.new }
     ensures counts { CountsStop devices.old devices.new (stop_in result) }
 {
     let options = match read_words(alloc, words) {
@@ -52,7 +53,9 @@ fn in_mode<L: Link, F: Shelf, A: Archive, R: Threads + Sync, G: Gate + Sync>(
 ) -> End
     requires ranges { value.OptionsInRange options.now }
     requires seed { options.now.seed < 2 ^ 64 }
-    ensures does { ServesIn options.now.mode options.now result devices.old devices.new }
+    ensures does { ServesIn options.now.mode options.now result
+        (told_of devices.old) (told_of devices.new) }
+    ensures idle { StandsIdleIn options.now.mode devices.old devices.new }
     ensures counts { CountsStop devices.old devices.new (stop_in result) }
 {
     match options.mode {

@@ -5,8 +5,8 @@ ghost use Rattle.tree_words.specs.Settings.{AreInRange};
 ghost use Rattle.hexd_words.specs.Values as value;
 ghost use Rattle.htp_session.specs.Devices.{CountsStop};
 ghost use Rattle.turn_modes.specs.OneTurn.{IsBenchmark, IsSimulation};
-ghost use Rattle.hex_cli.specs.Modes.{mode_options};
-ghost use Rattle.hex_cli.specs.Served.{HandsInTo};
+ghost use Rattle.hex_cli.specs.Modes.{HandsInBy, mode_options};
+ghost use Rattle.hex_cli.specs.Served.{IsUnfetched, told_of};
 ghost use Rattle.hex_cli.specs.Statuses.{stop_in};
 
 use crate::ends::End;
@@ -28,8 +28,9 @@ pub fn simulate<L: Link, F: Shelf, A: Archive, R: Threads + Sync, G: Gate + Sync
 ) -> End
     requires ranges { value.OptionsInRange options.now }
     requires seed { options.now.seed < 2 ^ 64 }
-    ensures hands { HandsInTo (IsSimulation (mode_options options.now)) result
-        devices.old devices.new }
+    ensures hands { HandsInBy IsSimulation options.now result
+        (told_of devices.old) (told_of devices.new) }
+    ensures unfetched { IsUnfetched devices.old devices.new }
     ensures counts { CountsStop devices.old devices.new (stop_in result) }
 {
     let told = mode_options(options);
@@ -45,8 +46,9 @@ pub fn bench<L: Link, F: Shelf, A: Archive, R: Threads + Sync, G: Gate + Sync>(
 ) -> End
     requires ranges { value.OptionsInRange options.now }
     requires seed { options.now.seed < 2 ^ 64 }
-    ensures hands { HandsInTo (IsBenchmark (mode_options options.now)) result
-        devices.old devices.new }
+    ensures hands { HandsInBy IsBenchmark options.now result
+        (told_of devices.old) (told_of devices.new) }
+    ensures unfetched { IsUnfetched devices.old devices.new }
     ensures counts { CountsStop devices.old devices.new (stop_in result) }
 {
     let told = mode_options(options);

@@ -1,17 +1,21 @@
 //! The top call: from the words of the command line to a status.
 
 ghost use Rattle.std.specs.Prelude.{◌≡◌};
-ghost use Rattle.hexd_words.specs.declared.settings.Mode.TheVariants.{Check, Migrate, Audit};
-ghost use Rattle.hexd_words.specs.declared.settings.Mode.TheVariants.{Sim, Bench};
+ghost use Rattle.hex_io.specs.Causes.{CountsFault};
+ghost use Rattle.hexd_words.specs.declared.settings.Mode.TheVariants.{Htp, Check, Migrate};
+ghost use Rattle.hexd_words.specs.declared.settings.Mode.TheVariants.{Audit, Sim, Bench};
 ghost use Rattle.htp_session.specs.declared.stops.Stop.TheVariants.{ReadFault, WriteFault};
 ghost use Rattle.htp_session.specs.declared.stops.Stop.TheVariants.{ArchiveFault};
 ghost use Rattle.turn_modes.specs.OneTurn.{IsSimulation, IsBenchmark};
 ghost use Rattle.hex_cli.specs.AuditTexts.{IsAuditText};
-ghost use Rattle.hex_cli.specs.Causes.{CountsReads, CountsWrites, CountsTurns, IsTooLong};
-ghost use Rattle.hex_cli.specs.Causes.{Completes, Reports};
+ghost use Rattle.hex_cli.specs.Causes.{Completes, IsTooLong, Reports};
 ghost use Rattle.hex_cli.specs.CertTexts.{IsCheckText, IsMigrateText};
+ghost use Rattle.hex_cli.specs.Determined.{Determines};
+ghost use Rattle.hex_cli.specs.Headline.{HasHeadline};
+ghost use Rattle.hex_cli.specs.Modes.{AnswersBy, HandsInBy};
+ghost use Rattle.hex_cli.specs.Playing.{HasGoodTurns, HasKnownThreats, HasPlayed};
 ghost use Rattle.hex_cli.specs.Runs.{AreWellFormed, AreRefused, IsServed, IsRefusal, Untouched};
-ghost use Rattle.hex_cli.specs.Runs.{AnswersBy, HandsInBy, PlaysBy, HasHeadline, Determines};
+ghost use Rattle.hex_cli.specs.Runs.{InMode, run_over};
 ghost use Rattle.hex_cli.specs.Runs.{IsIdleShelf, IsIdleArchive, HasIdleShelf, HasIdleArchive};
 ghost use Rattle.hex_cli.specs.Statuses.{status_of, HasStopped};
 ghost use Rattle.hex_cli.specs.declared.ends.End.{End};
@@ -83,37 +87,55 @@ pub fn run<R: Threads + Sync, L: Link, E: Link, F: Shelf, A: Archive, G: Gate + 
     ensures unarchived { AreRefused words.now → IsIdleArchive A.Archive archive.old archive.new }
 
     // Mode htp: what was taken and given, and when, where the link tells it, and what was used up
-    // from the shelf and for the archive; then each generated move; and then that one worker who
-    // looks for no connections gives what the words, the input and the shelf determine.
-    ensures conversed { PlaysBy L.Link F.Shelf A.Archive words.now result
-        (link.old, shelf.old, archive.old) (link.new, shelf.new, archive.new) }
-    ensures headline { HasHeadline L.Link A.Archive words.now result
-        (link.old, archive.old) (link.new, archive.new) }
-    ensures determined { Determines L.Link F.Shelf words.now result
-        (link.old, shelf.old) (link.new, shelf.new) }
+    // from the shelf and for the archive. Then, where the run is done, each generated move; that
+    // each turn used up is good, and what it says of threats is true; and that one worker who looks
+    // for no connections gives what the words, the input and the shelf determine.
+    ensures conversed { InMode Htp HasPlayed
+        (run_over L.Link F.Shelf A.Archive words.now result
+        (link.old, shelf.old, archive.old) (link.new, shelf.new, archive.new)) }
+    ensures headline { InMode Htp HasHeadline
+        (run_over L.Link F.Shelf A.Archive words.now result
+        (link.old, shelf.old, archive.old) (link.new, shelf.new, archive.new)) }
+    ensures good_turns { InMode Htp HasGoodTurns
+        (run_over L.Link F.Shelf A.Archive words.now result
+        (link.old, shelf.old, archive.old) (link.new, shelf.new, archive.new)) }
+    ensures threats { InMode Htp HasKnownThreats
+        (run_over L.Link F.Shelf A.Archive words.now result
+        (link.old, shelf.old, archive.old) (link.new, shelf.new, archive.new)) }
+    ensures determined { InMode Htp Determines
+        (run_over L.Link F.Shelf A.Archive words.now result
+        (link.old, shelf.old, archive.old) (link.new, shelf.new, archive.new)) }
 
     // Modes check, migrate and audit: the whole input was taken, and its text given; the status
     // says whether it was accepted.
-    ensures checked { AnswersBy L.Link Check IsCheckText words.now result link.old link.new }
-    ensures migrated { AnswersBy L.Link Migrate IsMigrateText words.now result link.old link.new }
-    ensures audited { AnswersBy L.Link Audit IsAuditText words.now result link.old link.new }
+    ensures checked { InMode Check (λ options. AnswersBy IsCheckText)
+        (run_over L.Link F.Shelf A.Archive words.now result
+        (link.old, shelf.old, archive.old) (link.new, shelf.new, archive.new)) }
+    ensures migrated { InMode Migrate (λ options. AnswersBy IsMigrateText)
+        (run_over L.Link F.Shelf A.Archive words.now result
+        (link.old, shelf.old, archive.old) (link.new, shelf.new, archive.new)) }
+    ensures audited { InMode Audit (λ options. AnswersBy IsAuditText)
+        (run_over L.Link F.Shelf A.Archive words.now result
+        (link.old, shelf.old, archive.old) (link.new, shelf.new, archive.new)) }
 
     // Modes sim and bench: one turn was handed to the archive, and then its text given.
-    ensures simulated { HandsInBy L.Link A.Archive Sim IsSimulation words.now result
-        (link.old, archive.old) (link.new, archive.new) }
-    ensures benchmarked { HandsInBy L.Link A.Archive Bench IsBenchmark words.now result
-        (link.old, archive.old) (link.new, archive.new) }
+    ensures simulated { InMode Sim (HandsInBy IsSimulation)
+        (run_over L.Link F.Shelf A.Archive words.now result
+        (link.old, shelf.old, archive.old) (link.new, shelf.new, archive.new)) }
+    ensures benchmarked { InMode Bench (HandsInBy IsBenchmark)
+        (run_over L.Link F.Shelf A.Archive words.now result
+        (link.old, shelf.old, archive.old) (link.new, shelf.new, archive.new)) }
 
     // What is idle: the shelf in each mode but htp, the archive in check, migrate and audit.
     ensures idle_shelf { HasIdleShelf F.Shelf words.now shelf.old shelf.new }
     ensures idle_archive { HasIdleArchive A.Archive words.now archive.old archive.new }
 
     // The causes. Each count of faults rose with its own status, and is as before with every other.
-    ensures read_fault { CountsReads L.Link link.old link.new
+    ensures read_fault { CountsFault (L.read_faults link.old) (L.read_faults link.new)
         (HasStopped result ReadFault) }
-    ensures write_fault { CountsWrites L.Link link.old link.new
+    ensures write_fault { CountsFault (L.write_faults link.old) (L.write_faults link.new)
         (HasStopped result WriteFault) }
-    ensures archive_fault { CountsTurns A.Archive archive.old archive.new
+    ensures archive_fault { CountsFault (A.faults archive.old) (A.faults archive.new)
         (HasStopped result ArchiveFault) }
     ensures too_long { IsTooLong L.Link words.now result link.old link.new }
     ensures complete { Completes L.Link A.Archive words.now result

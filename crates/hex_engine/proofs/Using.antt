@@ -11,7 +11,7 @@ use Rattle.htp_line.specs.declared.request.Request.{Request}
 use Rattle.std.proofs.lemmas.Bool.{and_parts}
 use Rattle.hex_engine.specs.EngineState.{EngineState}
 use Rattle.hex_engine.specs.Supply.{Supply, nothing_left, loads_only, turns_only, and_then}
-use Rattle.hex_engine.specs.declared.files.Loaded.{Loaded}
+use Rattle.hex_engine.specs.declared.loadsgf.Loaded.{Loaded}
 use Rattle.hex_engine.specs.Uses.{IsLoadOf, FetchesLoads, Loading, Moving, Uses, UsesNothing}
 use Rattle.hex_engine.specs.Replies.{Failed as FailedReply, Reaction, Turned, Missing, NoLoad, NoTurn, unchanged, unused}
 use Rattle.hex_engine.specs.LoadReplies.{loaded, loading, loading_by, file_named}

@@ -7,8 +7,8 @@ use Rattle.hex_engine.specs.Replies.{unchanged, unused}
 use Rattle.hex_engine.specs.Supply.{Load, Supply}
 use Rattle.hex_engine.specs.declared.answers.Fail.TheVariants.{Syntax, ReadFault}
 use Rattle.hex_engine.specs.declared.answers.Fail.TheVariants as fail
-use Rattle.hex_engine.specs.declared.files.Loaded.{Loaded}
-use Rattle.hex_engine.specs.declared.files.Loaded.TheVariants.{Unread, Refused, Loads}
+use Rattle.hex_engine.specs.declared.loadsgf.Loaded.{Loaded}
+use Rattle.hex_engine.specs.declared.loadsgf.Loaded.TheVariants.{Unread, Refused, Loads}
 
 -- what stands after a file came to this
 abbrev pub loaded : EngineState → Loaded → Reaction

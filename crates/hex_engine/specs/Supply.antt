@@ -2,7 +2,7 @@
 -- moves are searched in.
 use Rattle.std.specs.Prelude.{ℕ, List, [], ◌++◌}
 use Rattle.hex_plan.specs.Turns.{TurnData}
-use Rattle.hex_engine.specs.declared.files.Loaded.{Loaded}
+use Rattle.hex_engine.specs.declared.loadsgf.Loaded.{Loaded}
 
 -- the name that was asked for, and what came of it
 pub record Load : Type 0 where

@@ -10,8 +10,8 @@ use Rattle.sgf_game.specs.RecordOf.{IsRecordOf}
 use Rattle.hex_plan.specs.Turns.{TurnData}
 use Rattle.hex_plan.specs.Good.{IsGood}
 use Rattle.hex_engine.specs.Supply.{Load, Supply, nothing_left}
-use Rattle.hex_engine.specs.declared.files.Loaded.{Loaded}
-use Rattle.hex_engine.specs.declared.files.Loaded.TheVariants.{Unread, Refused, Loads}
+use Rattle.hex_engine.specs.declared.loadsgf.Loaded.{Loaded}
+use Rattle.hex_engine.specs.declared.loadsgf.Loaded.TheVariants.{Unread, Refused, Loads}
 use Rattle.hex_engine.specs.EngineState.{EngineState}
 use Rattle.hex_engine.specs.Requests.{ReactsWith, IsBrief, reaction}
 use Rattle.hex_engine.specs.declared.answers.Answer.{Answer}

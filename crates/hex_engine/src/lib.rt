@@ -25,7 +25,7 @@
 //!
 //! **To add a quiet command**, add it to [`Quiet`], to the tables of commands.rt and
 //! specs/Commands.antt, and to `quiet_reaction` of specs/QuietReplies.antt; then write its handler
-//! with that line of `quiet_reaction` as its contract, and its line in obeying.rt. No proof has a
+//! with that line of `quiet_reaction` as its contract, and its line in quiet.rt. No proof has a
 //! table of commands.
 //!
 //! **Limits.** Boards of size 1 to 11, and 1 to 64 workers.
@@ -34,14 +34,14 @@
 mod answers;
 mod boards;
 mod commands;
-mod deciding;
-mod files;
 mod forms;
-mod moving;
-mod obeying;
+mod genmove;
+mod last_turn;
+mod loadsgf;
+mod next_turn;
 mod options;
 mod picture;
-mod recalling;
+mod quiet;
 mod state;
 mod telling;
 mod texts;

@@ -1,5 +1,3 @@
-pub mod Command
-pub mod Grammar
+pub mod Table
 pub mod Values
 pub mod Reading
-pub mod Finding

@@ -1,55 +1,21 @@
-//! The command line as `clap` reads it. All values are text here.
+//! The command of hexd: its table of options.
 
-ghost use Rattle.std.specs.Prelude.{◌≡◌, ◌≢◌, IfOk, None};
-ghost use Rattle.clap.specs.Words.{app_of, kind_of, with_rule};
-ghost use Rattle.hexd_words.specs.Command.{hexd_app, knob_table, mode_rule, other_table, plain_app};
-ghost use Rattle.hexd_words.specs.Command.{with_options};
-ghost use Rattle.hexd_words.specs.Finding.{FindsMatches, with_default};
+ghost use Rattle.std.specs.Prelude.{◌≡◌, IfOk};
+ghost use Rattle.clap.specs.Words.{app_of};
+ghost use Rattle.option_words.specs.Command.{with_options};
+ghost use Rattle.hexd_words.specs.Table.{hexd_app, knob_table, other_table};
 
-use crate::Memory;
-use clap::error::ErrorKind;
-use clap::{Arg, ArgAction, ArgMatches, Command, Error};
-use hex_io::Word;
+use clap::Command;
+use option_words::{plain_command, with_bare_option, with_option};
 use std::alloc::{AllocError, Global};
 
-/// The command: one positional word, and the options.
+/// The command: one positional word, which is required, and the options.
 pub fn command<'a>(alloc: Global) -> Result<Command<'a>, AllocError>
     ensures { IfOk result (λ c. app_of c ≡ hexd_app) }
 {
-    let bare = with_mode(alloc)?;
+    let bare = plain_command(alloc, true)?;
     let knobs = with_knobs(alloc, bare)?;
     with_others(alloc, knobs)
-}
-
-// The command with no option. No word names the program, and nothing asks for help.
-fn with_mode<'a>(alloc: Global) -> Result<Command<'a>, AllocError>
-    ensures { IfOk result (λ c. app_of c ≡ with_rule plain_app mode_rule) }
-{
-    let mode = Arg::new(alloc, "mode")
-        .required(true)
-        .action(ArgAction::Set);
-    let plain = Command::new(alloc, "hexd")
-        .no_binary_name(true)
-        .disable_help_flag(true)
-        .disable_version_flag(true);
-    plain.arg(mode)
-}
-
-// The command with one more option, which has a default.
-fn with_option<'a>(
-    alloc: Global,
-    command: Command<'a>,
-    name: &'a str,
-    default: &'a str,
-) -> Result<Command<'a>, AllocError>
-    ensures { IfOk result
-        (λ c. app_of c ≡ with_default (app_of command.entry) name.entry.now default.entry.now) }
-{
-    let option = Arg::new(alloc, name)
-        .long(name)
-        .default_value(default)
-        .action(ArgAction::Set);
-    command.arg(option)
 }
 
 fn with_knobs<'a>(alloc: Global, command: Command<'a>) -> Result<Command<'a>, AllocError>
@@ -70,29 +36,5 @@ fn with_others<'a>(alloc: Global, command: Command<'a>) -> Result<Command<'a>, A
     let command = with_option(alloc, command, "hsearch", "on")?;
     let command = with_option(alloc, command, "steps", "10000")?;
     let command = with_option(alloc, command, "budget", "1000000")?;
-    let trace = Arg::new(alloc, "trace")
-        .long("trace")
-        .action(ArgAction::Set);
-    command.arg(trace)
-}
-
-/// What `clap` finds in the words; none exactly where it finds a fault in them.
-pub fn matched<'a>(alloc: Global, words: &'a [Word]) -> Result<Option<ArgMatches<'a>>, Memory>
-    ensures { IfOk result (FindsMatches words.now) }
-{
-    let command = command(alloc)?;
-    match command.try_get_matches_from(words) {
-        Ok(matches) => Ok(Some(matches)),
-        Err(error) => none_unless_full(&error),
-    }
-}
-
-// A fault of the words is no want of memory.
-fn none_unless_full<'a>(error: &Error) -> Result<Option<ArgMatches<'a>>, Memory>
-    ensures { IfOk result (λ r. (r ≡ None) × (kind_of error.now ≢ ErrorKind.OutOfMemory)) }
-{
-    match error.kind() {
-        ErrorKind::OutOfMemory => Err(Memory),
-        _ => Ok(None),
-    }
+    with_bare_option(alloc, command, "trace")
 }

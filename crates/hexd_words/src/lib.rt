@@ -16,9 +16,8 @@
 //!
 //! **What is proved.** [`read_words`] answers options exactly where the words are well formed with
 //! these values, `WellFormed` of `specs/Reading.antt`, and none exactly where no options make them
-//! so. That definition and the grammar that it stands on, `specs/Grammar.antt`, do not speak of
-//! `clap`, which reads the words here; [`clap_reads_lines`] is the law that both say the same.
-//! Numbers are read by this crate: `clap` takes a plus sign and more than twenty digits.
+//! so. The grammar on which that stands is the crate option_words', for hexd's table of options,
+//! `hexd_form` of `specs/Table.antt`.
 //!
 //! **Only tested, or not said.** That memory suffices: a call may always answer [`Memory`]. The
 //! tests have a table of lines, each with its answer by the rules above.
@@ -28,11 +27,10 @@
 #![tactic(auto)]
 
 mod command;
-mod numbers;
+mod modes;
 mod reading;
-mod refusals;
 mod settings;
 
-pub use reading::{clap_reads_lines, read_words};
-pub use refusals::Memory;
+pub use option_words::Memory;
+pub use reading::read_words;
 pub use settings::{Mode, Options};

@@ -1,21 +1,18 @@
 //! From the words of a command line to its options.
 
-ghost use Rattle.std.specs.Prelude.{◌≡◌, ◌≢◌, ◌↔◌, All, Contains, IfOk, IfSome, IsTrue, List};
-ghost use Rattle.std.specs.Prelude.{Some, [], codes, option_map};
-ghost use Rattle.std.specs.Bool.{OnFalse};
-ghost use Rattle.std.specs.Str.{IsUtf8};
+ghost use Rattle.std.specs.Prelude.{◌≡◌, ◌≢◌, ◌↔◌, IfOk, IfSome, IsTrue, Some, [], codes};
+ghost use Rattle.std.specs.Prelude.{option_map};
 ghost use Rattle.clap.specs.Words.{first_value, found_of};
-ghost use Rattle.hexd_words.specs.Finding.{ArePlain, HasNoFault, FindsWhatIsSaid};
-ghost use Rattle.hexd_words.specs.Grammar.{Saying};
-ghost use Rattle.hexd_words.specs.Reading.{IsLine, WellFormed};
-ghost use Rattle.hexd_words.specs.Values.{OptionsInRange, AreOptions, lone_hyphen};
+ghost use Rattle.hexd_words.specs.Reading.{WellFormed};
+ghost use Rattle.hexd_words.specs.Values.{OptionsInRange, AreOptions};
 ghost use Rattle.hexd_words.specs.declared.settings.Options.{Options};
 
-use crate::command::matched;
-use crate::numbers::{mode, number, small_number, switch};
+use crate::command::command;
+use crate::modes::mode;
 use crate::{Memory, Options};
 use clap::ArgMatches;
 use hex_io::Word;
+use option_words::{find, number, small_number, switch};
 use std::alloc::Global;
 
 /// The options that the words ask for; none exactly where the words are not well formed.
@@ -23,40 +20,11 @@ pub fn read_words(alloc: Global, words: &[Word]) -> Result<Option<Options>, Memo
     ensures exact { IfOk result (λ r. (o : Options) → (r ≡ Some o) ↔ WellFormed words.now o) }
     ensures ranges { IfOk result (λ r. IfSome r OptionsInRange) }
 {
-    if has_lone_hyphen(words) {
-        return Ok(None);
-    }
-    match matched(alloc, words)? {
+    let command = command(alloc)?;
+    match find(command, words)? {
         Some(matches) => options_of(alloc, &matches),
         None => Ok(None),
     }
-}
-
-/// The law that `clap` reads the grammar; it does nothing when it runs.
-///
-/// Of words that are text, none of them a hyphen alone, `clap` finds no fault exactly in those that
-/// are a line, and the value that it then finds of a name is what the line says, or the default.
-pub fn clap_reads_lines(words: &[Word])
-    ensures line { ArePlain words.now → HasNoFault words.now
-        → (said : List Saying) × IsLine words.now said }
-    ensures clear { (said : List Saying) → IsLine words.now said → HasNoFault words.now }
-    ensures values { FindsWhatIsSaid words.now }
-{
-    let _words = words;
-}
-
-// Whether one of the words is a hyphen alone. No line has one, but `clap` takes it for a value.
-// Each word that was looked at is text.
-fn has_lone_hyphen(words: &[Word]) -> bool
-    ensures found { IsTrue result ↔ Contains words.now lone_hyphen }
-    ensures text { OnFalse result (All IsUtf8 words.now) }
-{
-    for word in words {
-        if word.as_str() == "-" {
-            return true;
-        }
-    }
-    false
 }
 
 // The options that the matches say; none where a value is not as its option wants it.
@@ -99,7 +67,7 @@ fn with_trace(matches: &ArgMatches<'_>, trace: Option<Word>) -> Option<Options>
         → (result ≡ Some o) ↔ AreOptions (first_value (found_of matches.now)) o }
 {
     Some(Options {
-        mode: mode(matches.get_str("mode"))?,
+        mode: mode(matches.get_str("word"))?,
         size: small_number(matches.get_str("size"), 1, 11)?,
         workers: small_number(matches.get_str("workers"), 1, 64)?,
         playouts: small_number(matches.get_str("playouts"), 1, 1_000_000)?,

@@ -8,7 +8,7 @@ use Rattle.hex_engine.specs.Supply.{Supply, nothing_left, and_then}
 use Rattle.htp_session.specs.Talk.{talk_to}
 use Rattle.htp_session.specs.Usage.{ShelfAndArchive, UsesUp}
 use Rattle.htp_session.specs.Sessions.{IsSessionAfter, Does, Fed}
-use Rattle.htp_session.specs.Endings.{Outcome, Conversed, IsInVain}
+use Rattle.htp_session.specs.Endings.{Outcome, ConversedInGoodTurns, IsInVain}
 use Rattle.htp_session.specs.declared.stops.Stop.TheVariants as stop
 use Rattle.htp_session.proofs.UsageLaws.{and_then_nothing, and_then_assoc, uses_then, uses_nothing}
 use Rattle.htp_session.proofs.EndLaws.{Kept, EndsBy, kept_taking, kept_nothing, feed_on, read_overlong, read_fault, unbegun}
@@ -62,51 +62,51 @@ goes_on_feeding start a b c x y z engine after held then seen piece g d =
           (feed_on start (all_of g.used d.used later) x y z seen piece (g.kept (and_then d.used later)) (at later).1.answered);
     }
 
+conversed_using : (end : Outcome) (options : Options) (size limit : ℕ) (a b : ShelfAndArchive) (x y : Option Told) (used : Supply) (in_vain : List Bool) → UsesUp options a b used in_vain → IsInVain end in_vain
+    → EndsBy end (opening options size) used limit x y → ConversedInGoodTurns end options size limit a b x y
+conversed_using end options size limit a b x y used in_vain uses vain outcome = (
+  used,
+  record {
+    in_vain = in_vain;
+    fetched = uses.loading;
+    vain = vain;
+    took = uses.moving.took;
+    outcome = outcome;
+  },
+  uses.moving.good,
+)
+
 -- where a call ends the conversation, nothing is used up after it
 pub conversed_by : (end : Outcome) (options : Options) (size limit : ℕ) (a b c : ShelfAndArchive) (x z : Option Told) (u v : Supply) (in_vain : List Bool) → UsesUp options a b u [] → UsesUp options b c v in_vain → IsInVain end in_vain
-    → EndsBy end (opening options size) (all_of u v nothing_left) limit x z → Conversed end options size limit a c x z
-conversed_by end options size limit a b c x z u v in_vain p q vain outcome = record {
-  used = all_of u v nothing_left;
-  in_vain = in_vain;
-  uses = subst (λ l. UsesUp options a c l in_vain) (sym (ap (and_then u) (and_then_nothing v))) (uses_then options a b c u v in_vain p q);
-  vain = vain;
-  outcome = outcome;
-}
+    → EndsBy end (opening options size) (all_of u v nothing_left) limit x z → ConversedInGoodTurns end options size limit a c x z
+conversed_by end options size limit a b c x z u v in_vain p q vain outcome =
+    conversed_using end options size limit a c x z (all_of u v nothing_left) in_vain
+    (subst (λ l. UsesUp options a c l in_vain) (sym (ap (and_then u) (and_then_nothing v))) (uses_then options a b c u v in_vain p q)) vain outcome
 
 -- the same, where no call was made at the end
 conversed_at : (end : Outcome) (options : Options) (size limit : ℕ) (a b : ShelfAndArchive) (x z : Option Told) (u : Supply) → UsesUp options a b u [] → IsInVain end []
-    → EndsBy end (opening options size) (and_then u nothing_left) limit x z → Conversed end options size limit a b x z
-conversed_at end options size limit a b x z u p vain outcome = record {
-  used = and_then u nothing_left;
-  in_vain = [];
-  uses = subst (λ l. UsesUp options a b l []) (sym (and_then_nothing u)) p;
-  vain = vain;
-  outcome = outcome;
-}
+    → EndsBy end (opening options size) (and_then u nothing_left) limit x z → ConversedInGoodTurns end options size limit a b x z
+conversed_at end options size limit a b x z u p vain outcome =
+    conversed_using end options size limit a b x z (and_then u nothing_left) [] (subst (λ l. UsesUp options a b l []) (sym (and_then_nothing u)) p) vain outcome
 
-pub conversed_nothing : (options : Options) (size limit : ℕ) (a : ShelfAndArchive) (x : Option Told) → Conversed (Err stop.Memory) options size limit a a x x
-conversed_nothing options size limit a x = record {
-  used = nothing_left;
-  in_vain = [];
-  uses = uses_nothing options a;
-  vain = omega arith;
-  outcome = unbegun (opening options size) limit x;
-}
+pub conversed_nothing : (options : Options) (size limit : ℕ) (a : ShelfAndArchive) (x : Option Told) → ConversedInGoodTurns (Err stop.Memory) options size limit a a x x
+conversed_nothing options size limit a x =
+    conversed_using (Err stop.Memory) options size limit a a x x nothing_left [] (uses_nothing options a) (omega arith) (unbegun (opening options size) limit x)
 
 pub ends_unread : (options : Options) (size limit : ℕ) (a b : ShelfAndArchive) (x y z : Option Told) (engine : EngineState) (held : SplitterData) (seen : List ℕ) → length seen ≤ limit → Goes (opening options size) a b x y engine held seen → Same y z
-    → Conversed (Err stop.ReadFault) options size limit a b x z
+    → ConversedInGoodTurns (Err stop.ReadFault) options size limit a b x z
 ends_unread options size limit a b x y z engine held seen few g same =
     let here = g.stands nothing_left in
     conversed_at (Err stop.ReadFault) options size limit a b x z g.used g.uses refl
     (read_fault (opening options size) (and_then g.used nothing_left) limit x y z seen few (g.kept nothing_left) here.going here.left same)
 
 pub ends_overlong : (options : Options) (size limit : ℕ) (a b : ShelfAndArchive) (x y : Option Told) (engine : EngineState) (held : SplitterData) (seen piece : List ℕ) → length seen ≡ limit → length piece ≡ 1 → Took (opening options size) a b x y engine held seen piece
-    → Conversed (Err stop.TooLong) options size limit a b x y
+    → ConversedInGoodTurns (Err stop.TooLong) options size limit a b x y
 ends_overlong options size limit a b x y engine held seen piece many one g =
     let here = g.stands nothing_left in
     conversed_at (Err stop.TooLong) options size limit a b x y g.used g.uses refl
     (read_overlong (opening options size) (and_then g.used nothing_left) limit x y seen piece many one (g.kept nothing_left) here.going here.left)
 
 -- the same options and size
-pub conversed_same : (end : Outcome) (k l : Options) (m n limit : ℕ) (a b : ShelfAndArchive) (x y : Option Told) → k ≡ l → m ≡ n → Conversed end k m limit a b x y → Conversed end l n limit a b x y
-conversed_same end k l m n limit a b x y p q c = subst (λ o. Conversed end o n limit a b x y) p (subst (λ s. Conversed end k s limit a b x y) q c)
+pub conversed_same : (end : Outcome) (k l : Options) (m n limit : ℕ) (a b : ShelfAndArchive) (x y : Option Told) → k ≡ l → m ≡ n → ConversedInGoodTurns end k m limit a b x y → ConversedInGoodTurns end l n limit a b x y
+conversed_same end k l m n limit a b x y p q c = subst (λ o. ConversedInGoodTurns end o n limit a b x y) p (subst (λ s. ConversedInGoodTurns end k s limit a b x y) q c)

@@ -7,13 +7,13 @@ use Rattle.hex_engine.specs.EngineState.{EngineState, opening}
 use Rattle.hex_engine.specs.Supply.{nothing_left, and_then}
 use Rattle.htp_session.specs.Usage.{ShelfAndArchive}
 use Rattle.htp_session.specs.Sessions.{Does, DoesSome, AnsweredLast, BrokeOffLast, StopsBeforeLast, LastIsShort}
-use Rattle.htp_session.specs.Endings.{Conversed}
+use Rattle.htp_session.specs.Endings.{ConversedInGoodTurns}
 use Rattle.htp_session.specs.declared.stops.Stop.TheVariants as stop
 use Rattle.htp_session.proofs.EndLaws.{finish_complete, finish_unwritten, finish_unfinished, finish_held_back}
 use Rattle.htp_session.proofs.Conversations.{Goes, all_of, conversed_by}
 
 pub last_complete : (options : Options) (size limit : ℕ) (a b c : ShelfAndArchive) (x y z w : Option Told) (engine : EngineState) (held : SplitterData) (seen buf : List ℕ) → length seen ≤ limit
-    → Goes (opening options size) a b x y engine held seen → Both y z (λ o t. TakesBytes o t 0 buf) → Does b c [] engine held (λ start all later seen. AnsweredLast z w start all later seen) → Conversed (Ok tt) options size limit a c x w
+    → Goes (opening options size) a b x y engine held seen → Both y z (λ o t. TakesBytes o t 0 buf) → Does b c [] engine held (λ start all later seen. AnsweredLast z w start all later seen) → ConversedInGoodTurns (Ok tt) options size limit a c x w
 last_complete options size limit a b c x y z w engine held seen buf few g t d =
     let here = g.stands (and_then d.used nothing_left) in
     let at = d.stood (opening options size) (all_of g.used d.used nothing_left) nothing_left seen here in
@@ -21,7 +21,7 @@ last_complete options size limit a b c x y z w engine held seen buf few g t d =
     (finish_complete (opening options size) (all_of g.used d.used nothing_left) limit x y z w seen buf few (g.kept (and_then d.used nothing_left)) here.going t at.1)
 
 pub last_unwritten : (options : Options) (size limit : ℕ) (a b c : ShelfAndArchive) (x y z w : Option Told) (engine : EngineState) (held : SplitterData) (seen buf : List ℕ) → length seen ≤ limit
-    → Goes (opening options size) a b x y engine held seen → Both y z (λ o t. TakesBytes o t 0 buf) → Does b c [] engine held (λ start all later seen. BrokeOffLast z w start all later seen) → Conversed (Err stop.WriteFault) options size limit a c x w
+    → Goes (opening options size) a b x y engine held seen → Both y z (λ o t. TakesBytes o t 0 buf) → Does b c [] engine held (λ start all later seen. BrokeOffLast z w start all later seen) → ConversedInGoodTurns (Err stop.WriteFault) options size limit a c x w
 last_unwritten options size limit a b c x y z w engine held seen buf few g t d =
     let here = g.stands (and_then d.used nothing_left) in
     let at = d.stood (opening options size) (all_of g.used d.used nothing_left) nothing_left seen here in
@@ -29,7 +29,7 @@ last_unwritten options size limit a b c x y z w engine held seen buf few g t d =
     (finish_unwritten (opening options size) (all_of g.used d.used nothing_left) limit x y z w seen buf few (g.kept (and_then d.used nothing_left)) here.going t at.1)
 
 pub last_unfinished : (options : Options) (size limit : ℕ) (a b c : ShelfAndArchive) (x y z w : Option Told) (engine : EngineState) (held : SplitterData) (seen buf : List ℕ) → length seen ≤ limit
-    → Goes (opening options size) a b x y engine held seen → Both y z (λ o t. TakesBytes o t 0 buf) → Same z w → DoesSome b c engine held (λ start all later seen. StopsBeforeLast start all later seen) → Conversed (Err stop.Memory) options size limit a c x w
+    → Goes (opening options size) a b x y engine held seen → Both y z (λ o t. TakesBytes o t 0 buf) → Same z w → DoesSome b c engine held (λ start all later seen. StopsBeforeLast start all later seen) → ConversedInGoodTurns (Err stop.Memory) options size limit a c x w
 last_unfinished options size limit a b c x y z w engine held seen buf few g t same d =
     let here = g.stands (and_then d.2.used nothing_left) in
     let at = d.2.stood (opening options size) (all_of g.used d.2.used nothing_left) nothing_left seen here in
@@ -37,7 +37,7 @@ last_unfinished options size limit a b c x y z w engine held seen buf few g t sa
     (finish_unfinished (opening options size) (all_of g.used d.2.used nothing_left) limit x y z w seen buf few (g.kept (and_then d.2.used nothing_left)) here.going t same at.1)
 
 pub last_unarchived : (options : Options) (size limit : ℕ) (a b c : ShelfAndArchive) (x y z w : Option Told) (engine : EngineState) (held : SplitterData) (seen buf : List ℕ) → length seen ≤ limit
-    → Goes (opening options size) a b x y engine held seen → Both y z (λ o t. TakesBytes o t 0 buf) → Same z w → Does b c [] engine held (λ start all later seen. LastIsShort start all later seen) → Conversed (Err stop.ArchiveFault) options size limit a c x w
+    → Goes (opening options size) a b x y engine held seen → Both y z (λ o t. TakesBytes o t 0 buf) → Same z w → Does b c [] engine held (λ start all later seen. LastIsShort start all later seen) → ConversedInGoodTurns (Err stop.ArchiveFault) options size limit a c x w
 last_unarchived options size limit a b c x y z w engine held seen buf few g t same d =
     let here = g.stands (and_then d.used nothing_left) in
     let at = d.stood (opening options size) (all_of g.used d.used nothing_left) nothing_left seen here in

@@ -5,8 +5,8 @@ use Rattle.hex_io.specs.Shelves.{Fetched, Failed, Missing, Long, Contents, fetch
 use Rattle.hex_game.specs.Games.{GameData}
 use Rattle.sgf_tree.proofs.Verdicts.{one_collection}
 use Rattle.hex_engine.specs.Supply.{Load}
-use Rattle.hex_engine.specs.declared.files.Loaded.{Loaded}
-use Rattle.hex_engine.specs.declared.files.Loaded.TheVariants.{Unread, Refused, Loads}
+use Rattle.hex_engine.specs.declared.loadsgf.Loaded.{Loaded}
+use Rattle.hex_engine.specs.declared.loadsgf.Loaded.TheVariants.{Unread, Refused, Loads}
 use Rattle.sgf_game.specs.RecordOf.{IsRecordOf}
 use Rattle.hex_engine.specs.Uses.{IsReadAs, IsLoadOf, CameOf}
 

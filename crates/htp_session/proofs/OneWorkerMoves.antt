@@ -17,7 +17,7 @@ use Rattle.hex_plan.specs.Turns.{TurnData}
 use Rattle.hex_plan.proofs.Same.{same_turn}
 use Rattle.hex_engine.specs.Commands.{command_named}
 use Rattle.hex_engine.specs.Supply.{Supply, Load}
-use Rattle.hex_engine.specs.declared.files.Loaded.{Loaded}
+use Rattle.hex_engine.specs.declared.loadsgf.Loaded.{Loaded}
 use Rattle.hex_engine.specs.EngineState.{EngineState}
 use Rattle.hex_engine.specs.Uses.{AreGood, HasOneWorker, IsGoodFor}
 use Rattle.hex_engine.specs.Replies.{Reaction, Turned, Missing, Done, NoLoad, NoTurn, Failed, unused, unchanged}

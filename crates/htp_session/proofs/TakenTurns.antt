@@ -9,8 +9,8 @@ use Rattle.hex_plan.specs.Openings.{may_move}
 use Rattle.hex_engine.specs.Commands.{command_named}
 use Rattle.hex_engine.specs.EngineState.{EngineState}
 use Rattle.hex_engine.specs.Supply.{Supply, Load}
-use Rattle.hex_engine.specs.declared.files.Loaded.{Loaded}
-use Rattle.hex_engine.specs.declared.files.Loaded.TheVariants.{Unread, Refused, Loads}
+use Rattle.hex_engine.specs.declared.loadsgf.Loaded.{Loaded}
+use Rattle.hex_engine.specs.declared.loadsgf.Loaded.TheVariants.{Unread, Refused, Loads}
 use Rattle.hex_engine.specs.Replies.{Turned, Missing}
 use Rattle.hex_engine.specs.LoadReplies.{loaded, file_named, loading_next, loading_by}
 use Rattle.hex_engine.specs.MoveReplies.{is_next, turned, moving_next, moving_by, lone_colour}

@@ -8,8 +8,9 @@ use Rattle.htp_line.specs.Lines.{lines}
 use Rattle.hex_engine.specs.declared.options.Options.{Options}
 use Rattle.hex_engine.specs.EngineState.{EngineState, opening}
 use Rattle.hex_engine.specs.Supply.{Supply, nothing_left}
+use Rattle.hex_engine.specs.Uses.{AreGood, Loading}
 use Rattle.htp_session.specs.Talk.{Going, AfterQuit, IsThrough, talk, talk_to, WantsTurn}
-use Rattle.htp_session.specs.Usage.{ShelfAndArchive, UsesUp}
+use Rattle.htp_session.specs.Usage.{ShelfAndArchive}
 use Rattle.htp_session.specs.declared.stops.Stop.{Stop}
 use Rattle.htp_session.specs.declared.stops.Stop.TheVariants.{ReadFault, WriteFault, Memory}
 use Rattle.htp_session.specs.declared.stops.Stop.TheVariants.{TooLong, ArchiveFault}
@@ -113,13 +114,19 @@ abbrev pub IsInVain : Outcome → List Bool → Type 0
 IsInVain (Err Memory) in_vain = length in_vain ≤ 1
 IsInVain _ in_vain = in_vain ≡ []
 
--- A conversation with these options, from an empty board of that size to this end: what it used up
--- from its shelf and for its archive, each turn of which is good, and what stands where the link
--- tells it.
-pub record Conversed (end : Outcome) (options : Options) (size limit : ℕ)
+-- A conversation with these options, from an empty board of that size to this end, which used up
+-- just this: where the shelf tells it, the files stay and each load came of a fetch, in turn; where
+-- the archive tells it, it took just these turns; and what stands where the link tells it.
+pub record Conversed (end : Outcome) (options : Options) (size limit : ℕ) (used : Supply)
     (old new : ShelfAndArchive) (link link_now : Option Told) : Type 0 where
-  pub used : Supply
   pub in_vain : List Bool
-  pub uses : UsesUp options old new used in_vain
+  pub fetched : Loading old.0 new.0 used in_vain
   pub vain : IsInVain end in_vain
+  pub took : Both old.1 new.1 (λ turns turns_now. turns_now ≡ turns ++ used.turns)
   pub outcome : Both link link_now (Ended end (opening options size) used limit)
+
+-- the same with something to use up of which each turn is good
+abbrev pub ConversedInGoodTurns : Outcome → Options → ℕ → ℕ → ShelfAndArchive → ShelfAndArchive
+    → Option Told → Option Told → Type 0
+ConversedInGoodTurns end options size limit old new link link_now = (used : Supply)
+    × Conversed end options size limit used old new link link_now × AreGood options used.turns

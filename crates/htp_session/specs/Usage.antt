@@ -1,5 +1,5 @@
--- What a conversation uses things up from. `ShelfAndArchive` and `UsesUp` stand in the contract of
--- `run`; only clauses of private calls cite the others.
+-- What a conversation uses things up from. `ShelfAndArchive` stands in the contract of `run`; only
+-- clauses of private calls cite the others.
 use Rattle.std.specs.Prelude.{◌≡◌, ℕ, Bool, List, []}
 use Rattle.std.specs.declared.option.Option.{Option}
 use Rattle.hex_io.specs.Shelves.{Shelved}

@@ -43,7 +43,8 @@ once p k a (suc n) l m = elim (cases_eq a k) [
   | inr d ↦ skipped p (p a) k a (filter p (range_with_len (a + 1) n)) d ∙ once p k (a + 1) n (omega arith) (omega arith)
 ]
 
-off_board : (p : Position) (k : ℕ) → p.size * p.size ≤ k → is_empty_at p k ≡ false
+-- no cell off the board is empty
+pub off_board : (p : Position) (k : ℕ) → p.size * p.size ≤ k → is_empty_at p k ≡ false
 off_board p k l = ap (λ b. b && not (has p.black k) && not (has p.white k)) (no_less k (p.size * p.size) l)
   where
     no_less : (j n : ℕ) → n ≤ j → nat_lt j n ≡ false

@@ -2,6 +2,7 @@
 pub mod Listing
 pub mod Counting
 -- Steps of this crate's own proofs.
+mod Quads
 mod Shuffles
 mod Turns
 mod Gifts

@@ -1,9 +1,9 @@
 -- The cells of a set, listed one by one.
-use Rattle.std.proofs.Common.{◌/◌, ◌^◌, ◌==◌, bit_and, pow-add, subst, inl, inr, ◌≡◌, ℕ, ◌+◌, ◌*◌, ◌<◌, ◌≤◌, true, false, Bool, cond, List, [], ◌∷◌, ◌++◌, length, take, refl, sym, ◌∙◌, ap, arith, zero, suc, add-one, add-zero, append-nil, length-append}
+use Rattle.std.proofs.Common.{◌/◌, ◌%◌, ◌-◌, ◌^◌, ◌==◌, zero-add, bit_and, pow-add, subst, inl, inr, ◌≡◌, ℕ, ◌+◌, ◌*◌, ◌<◌, ◌≤◌, true, false, Bool, cond, List, [], ◌∷◌, ◌++◌, length, take, map, refl, sym, ◌∙◌, ap, arith, zero, suc, add-one, add-zero, append-nil, length-append}
 use Rattle.std.proofs.Math.ListN.{set, length-set}
 use Rattle.std.proofs.Math.Nat.{mul-le-mul}
 use Rattle.std.specs.List.{filter, range_with_len}
-use Rattle.std.proofs.lemmas.List.{take_more_set, take-set}
+use Rattle.std.proofs.lemmas.List.{take_more_set, take-set, length-map}
 use Rattle.std.proofs.lemmas.List.Elements.{filter_agree}
 use Rattle.std.proofs.lemmas.List.Sums.{length-filter, count_by-le-length}
 use Rattle.std.proofs.lemmas.List.FromFn.{length-range_with_len}
@@ -11,7 +11,9 @@ use Rattle.std.proofs.lemmas.Bool.{cases_Bool, eqb-true, eqb-false}
 use Rattle.std.proofs.lemmas.Nat.{and_le_r}
 use Rattle.std.proofs.Math.Nat.{div-div-eq-div-mul}
 use Rattle.hex_cells.specs.Sets.{has}
-use Rattle.hex_cells.proofs.Bits.{has_test}
+use Rattle.hex_cells.proofs.Bits.{has_test, has_shr, has_mod}
+use Rattle.play_out.specs.Fours.{bits_of}
+use Rattle.play_out.proofs.Counting.{off_board}
 use Rattle.hex_board.specs.Joined.{cells_of}
 use Rattle.hex_board.specs.Positions.{Position, is_empty_at}
 use Rattle.play_out.specs.Fills.{empties_of}
@@ -85,22 +87,82 @@ listed_next s rest cells count end c l r h e =
           subst (λ n. Listed s (set cells count c) n (end + 1)) (sym same) (cell_passed s cells count end c l e (ap (has s) e ∙ f))
     ]
 
-pub rest_next : (s rest k : ℕ) → rest ≡ s / 2 ^ k → rest / 2 ≡ s / 2 ^ (k + 1)
-rest_next s rest k e = ap (λ v. v / 2) e ∙ (div-div-eq-div-mul s (2 ^ k) 2 ∙ ap (λ v. s / v) (sym (pow-add 2 k 1)))
+-- ---- four cells more
 
--- all cells are the whole board
-pub all_cells : (p : Position) (s : ℕ) (cells : List ℕ) (count : ℕ) → ((k : ℕ) → has s k ≡ is_empty_at p k)
-    → take count cells ≡ filter (has s) (range_with_len 0 (p.size * p.size)) → take count cells ≡ empties_of p
+-- a filter of a range in two parts
+in_two : (p : ℕ → Bool) (a n m : ℕ) → filter p (range_with_len a (n + m)) ≡ filter p (range_with_len a n) ++ filter p (range_with_len (a + n) m)
+in_two p a zero m = (λ j. filter p (range_with_len (none_added j) (none_before j)))
+  where
+    none_added : a ≡ a + zero
+    none_added = omega arith
+
+    none_before : zero + m ≡ m
+    none_before = omega arith
+in_two p a (suc n) m =
+    let e : suc n + m ≡ suc (n + m) = omega arith in
+    let f : a + 1 + n ≡ a + suc n = omega arith in
+    ap (λ v. filter p (range_with_len a v)) e
+    ∙ (ap (λ xs. cond (p a) (a ∷ xs) xs) (in_two p (a + 1) n m ∙ ap (λ v. filter p (range_with_len (a + 1) n) ++ filter p (range_with_len v m)) f)
+    ∙ front (p a) a (filter p (range_with_len (a + 1) n)) (filter p (range_with_len (a + suc n) m)))
+
+mapped : (b : Bool) (e a : ℕ) (xs : List ℕ) → cond b ((e + a) ∷ map (λ j. e + j) xs) (map (λ j. e + j) xs) ≡ map (λ j. e + j) (cond b (a ∷ xs) xs)
+mapped true e a xs = refl
+mapped false e a xs = refl
+
+-- a filter of a range that begins higher
+moved : (p q : ℕ → Bool) (e a n : ℕ) → ((j : ℕ) → a ≤ j → j < a + n → p (e + j) ≡ q j) → filter p (range_with_len (e + a) n) ≡ map (λ j. e + j) (filter q (range_with_len a n))
+moved p q e a zero f = refl
+moved p q e a (suc n) f =
+    let next : e + a + 1 ≡ e + (a + 1) = omega arith in
+    let rest : filter p (range_with_len (e + a + 1) n) ≡ map (λ j. e + j) (filter q (range_with_len (a + 1) n)) =
+    ap (λ v. filter p (range_with_len v n)) next ∙ moved p q e (a + 1) n (λ j l h. f j (omega (arith, l)) (omega (arith, h))) in
+    (λ i. cond (f a (omega arith) (omega arith) i) ((e + a) ∷ rest i) (rest i)) ∙ mapped (q a) e a (filter q (range_with_len (a + 1) n))
+
+-- four cells of a set, by the bits of a number below 16
+quarter : (s e : ℕ) → filter (has s) (range_with_len e 4) ≡ map (λ j. e + j) (bits_of (s / 2 ^ e % 16))
+quarter s e =
+    let same : e ≡ e + 0 = omega arith in
+    ap (λ v. filter (has s) (range_with_len v 4)) same
+    ∙ moved (has s) (has (s / 2 ^ e % 16)) e 0 4 (λ j l h.
+    let turned : e + j ≡ j + e = omega arith in
+    ap (has s) turned ∙ (sym (has_shr s e j) ∙ sym (has_mod (s / 2 ^ e) 4 j (omega (arith, h)))))
+
+pub listed_four : (s : ℕ) (cells next : List ℕ) (count end m four : ℕ) → Listed s cells count end → four ≡ s / 2 ^ end % 16 → length next ≡ 121
+    → take m next ≡ take count cells ++ map (λ j. end + j) (bits_of four) → m ≡ count + length (bits_of four) → Listed s next m (end + 4)
+listed_four s cells next count end m four l e size t c =
+    let bits : map (λ j. end + j) (bits_of four) ≡ filter (has s) (range_with_len end 4) = ap (λ n. map (λ j. end + j) (bits_of n)) e ∙ sym (quarter s end) in
+    let whole : filter (has s) (range_with_len 0 (end + 4)) ≡ filter (has s) (range_with_len 0 end) ++ filter (has s) (range_with_len end 4) =
+    in_two (has s) 0 end 4 ∙ ap (λ v. filter (has s) (range_with_len 0 end) ++ filter (has s) (range_with_len v 4)) (zero-add end) in
+    record {
+      items = t ∙ ((λ i. l.items i ++ bits i) ∙ sym whole);
+      many = c ∙ (ap (λ v. v + length (bits_of four)) l.many
+          ∙ (ap (λ v. length (filter (has s) (range_with_len 0 end)) + v) (sym (length-map (bits_of four) (λ j. end + j)) ∙ ap length bits)
+          ∙ (sym (length-append (filter (has s) (range_with_len 0 end)) (filter (has s) (range_with_len end 4))) ∙ ap length (sym whole))));
+      size = size;
+    }
+
+pub rest_next : (s rest k : ℕ) → rest ≡ s / 2 ^ (4 * k) → rest / 16 ≡ s / 2 ^ (4 * (k + 1))
+rest_next s rest k e =
+    let sum : 4 * k + 4 ≡ 4 * (k + 1) = omega arith in
+    ap (λ v. v / 16) e ∙ (div-div-eq-div-mul s (2 ^ (4 * k)) 16 ∙ (ap (λ v. s / v) (sym (pow-add 2 (4 * k) 4)) ∙ ap (λ v. s / 2 ^ v) sum))
+
+-- ---- the whole board
+
+none_from : (p : ℕ → Bool) (a n : ℕ) → ((k : ℕ) → a ≤ k → p k ≡ false) → filter p (range_with_len a n) ≡ []
+none_from p a zero f = refl
+none_from p a (suc n) f =
+    ap (λ b. cond b (a ∷ filter p (range_with_len (a + 1) n)) (filter p (range_with_len (a + 1) n))) (f a (omega arith)) ∙ none_from p (a + 1) n (λ k l. f k (omega (arith, l)))
+
+-- the cells of a set below the last are those of the board that it lies on
+on_board : (s n : ℕ) → n ≤ 121 → ((k : ℕ) → n ≤ k → has s k ≡ false) → filter (has s) (range_with_len 0 121) ≡ filter (has s) (range_with_len 0 n)
+on_board s n l f =
+    let e : 121 ≡ n + (121 - n) = omega arith in
+    ap (λ v. filter (has s) (range_with_len 0 v)) e ∙ (in_two (has s) 0 n (121 - n)
+    ∙ (ap (λ xs. filter (has s) (range_with_len 0 n) ++ xs) (none_from (has s) (0 + n) (121 - n) (λ k m. f k (omega (arith, m)))) ∙ append-nil (filter (has s) (range_with_len 0 n))))
+
+-- all cells are the empty ones
+pub all_empties : (p : Position) (s : ℕ) → p.size ≤ 11 → ((k : ℕ) → has s k ≡ is_empty_at p k) → filter (has s) (range_with_len 0 121) ≡ empties_of p
 unfolding empties_of
-all_cells p s cells count f e = e ∙ filter_agree (has s) (is_empty_at p) f (cells_of p.size)
-
-pub all_counted : (p : Position) (s count : ℕ) → ((k : ℕ) → has s k ≡ is_empty_at p k)
-    → count ≡ length (filter (has s) (range_with_len 0 (p.size * p.size))) → count ≡ length (empties_of p)
-unfolding empties_of
-all_counted p s count f e = e ∙ ap length (filter_agree (has s) (is_empty_at p) f (cells_of p.size))
-
-pub few_empties : (p : Position) (s : ℕ) → p.size ≤ 11 → length (filter (has s) (range_with_len 0 (p.size * p.size))) ≤ 121
-unfolding below
-few_empties p s small =
+all_empties p s small f =
     let most : p.size * p.size ≤ 11 * 11 = mul-le-mul small small in
-    omega (arith, most, few_below s (p.size * p.size))
+    on_board s (p.size * p.size) (omega (arith, most)) (λ k l. f k ∙ off_board p k l) ∙ filter_agree (has s) (is_empty_at p) f (cells_of p.size)

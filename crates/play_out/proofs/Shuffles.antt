@@ -1,8 +1,10 @@
 -- The shuffle, from the last place down.
-use Rattle.std.proofs.Common.{◌≡◌, ℕ, ◌-◌, ◌<◌, ◌≤◌, List, [], ◌∷◌, ◌++◌, length, take, drop, get_or, ◌+◌, refl, sym, ◌∙◌, ap, subst, arith, suc}
+use Rattle.std.proofs.Common.{◌≡◌, ℕ, ◌-◌, ◌<◌, ◌≤◌, List, [], ◌∷◌, ◌++◌, length, take, drop, get_or, ◌+◌, refl, sym, ◌∙◌, ap, subst, arith, suc, inl, inr}
 use Rattle.std.specs.List.{swap}
-use Rattle.std.proofs.Math.ListN.{set}
-use Rattle.std.proofs.lemmas.List.{drop-set-lt}
+use Rattle.std.proofs.Math.ListN.{set, length-set}
+use Rattle.std.proofs.lemmas.Bool.{cases_eq}
+use Rattle.std.proofs.lemmas.List.{drop-set-lt, get_or_read, get_or_default, get_or-set_same, get_or-set_other}
+use Rattle.std.proofs.lemmas.List.Edits.{swap_is}
 use Rattle.std.specs.List.Sorted.{IsPermutation}
 use Rattle.std.proofs.lemmas.List.Sorted.{IsPermutation-refl, IsPermutation-trans}
 use Rattle.rand_core.specs.Stream.{Stream, next_u64}
@@ -54,6 +56,24 @@ pub same_shuffling : (start first cells state next after : List ℕ) (i m : ℕ)
     → Shuffling start first next after m
 same_shuffling start first cells state next after i m e f g s =
     subst (λ v. Shuffling start first v after m) (sym e) (subst (λ v. Shuffling start first cells v m) (sym f) (subst (λ v. Shuffling start first cells state v) (sym g) s))
+
+-- two writes are a swap
+pub swapped : (cells : List ℕ) (i j cell moved : ℕ) → i < length cells → j < length cells → cell ≡ get_or cells j cell → moved ≡ get_or cells i moved
+    → set (set cells i cell) j moved ≡ swap cells i j
+swapped cells i j cell moved l m e f =
+    ap (λ v. set (set cells i v) j moved) (get_or_read cells j cell m e 0)
+    ∙ (ap (λ v. set (set cells i (get_or cells j 0)) j v) (get_or_read cells i moved l f 0) ∙ swap_is cells i j 0 l m)
+
+-- and the first place has what was at the other
+pub swapped_first : (cells : List ℕ) (i j cell moved : ℕ) → i < length cells → j < length cells → cell ≡ get_or cells j cell → moved ≡ get_or cells i moved
+    → cell ≡ get_or (set (set cells i cell) j moved) i cell
+swapped_first cells i j cell moved l m e f = elim (cases_eq i j) [
+  | inl q ↦
+      let in_next : j < length (set cells i cell) = omega (arith, m, length-set cells i cell) in
+      sym (ap (λ v. get_or (set (set cells i cell) j moved) v cell) q ∙ get_or-set_same (set cells i cell) j moved cell in_next
+      ∙ (f ∙ get_or_default cells i moved cell l ∙ ap (λ v. get_or cells v cell) q ∙ sym e))
+  | inr n ↦ sym (get_or-set_other (set cells i cell) j i moved cell n ∙ get_or-set_same cells i cell cell l)
+]
 
 -- what stands past both places of a swap stays
 pub drop-swap : (xs : List ℕ) (i j n : ℕ) → i < n → j < n → drop n (swap xs i j) ≡ drop n xs

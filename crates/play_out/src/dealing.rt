@@ -6,7 +6,8 @@ ghost use Rattle.hex_board.specs.Positions.{stones_of};
 ghost use Rattle.play_out.specs.Fills.{ListsEmpties, filled, filled_by, order_of};
 ghost use Rattle.play_out.specs.Streams.{stream_at, words_of, shuffled};
 
-use super::order::{MOST_EMPTIES, list_empties, settle};
+use super::fours::list_empties;
+use super::order::{MOST_EMPTIES, settle};
 use hex_board::Board;
 use hex_cells::{Cell, CellSet, Colour};
 use rand_core::SeedableRng;
@@ -35,8 +36,8 @@ fn deal(
         settle(cells, generator, i);
     }
     'pairs: while 2 < i {
-        settle(cells, generator, i - 1);
-        stones = stones.with(cells[i - 1]);
+        let cell = settle(cells, generator, i - 1);
+        stones = stones.with(cell);
         settle(cells, generator, i - 2);
         i -= 2;
     }

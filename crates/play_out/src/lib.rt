@@ -26,6 +26,7 @@
 #![tactic(auto)]
 
 mod dealing;
+mod fours;
 mod order;
 mod playouts;
 

@@ -1,10 +1,11 @@
 //! The order in which a playout fills the empty cells.
 
-ghost use Rattle.std.specs.Prelude.{◌≡◌, ℕ, ◌+◌, ◌-◌, ◌*◌, ◌≤◌, ◌<◌, length, take, drop};
+ghost use Rattle.std.specs.Prelude.{◌≡◌, ℕ, ◌+◌, ◌-◌, ◌*◌, ◌≤◌, ◌<◌, length, take, drop, get_or};
 ghost use Rattle.std.specs.List.Sorted.{IsPermutation};
 ghost use Rattle.play_out.specs.Streams.{stream_at, words_of, place_of, shuffled};
 ghost use Rattle.play_out.specs.Fills.{ListsEmpties, empties_of, order_of};
 
+use super::fours::list_empties;
 use hex_board::Board;
 use hex_cells::{Cell, MOST_CELLS};
 use rand_core::{Rng, SeedableRng};
@@ -12,25 +13,6 @@ use rand_xoshiro::Xoshiro256PlusPlus;
 
 /// A board has no more empty cells than the largest board has cells.
 pub const MOST_EMPTIES: usize = MOST_CELLS as usize;
-
-/// Writes the empty cells of the board, in rising order, at the front of `cells`, and answers how
-/// many they are.
-pub(crate) fn list_empties(board: &Board, cells: &mut [Cell; MOST_EMPTIES]) -> usize
-    ensures list { take result cells.new ≡ empties_of board.now }
-    ensures count { result ≡ length (empties_of board.now) }
-    ensures range { result ≤ MOST_EMPTIES }
-{
-    let empties = board.empties();
-    let mut rest = empties.bits();
-    let mut count = 0;
-    for k in 0..board.size().cells() {
-        // A cell that is not empty is written over by the next; this is faster than to go round it.
-        cells[count] = Cell::numbered(k);
-        count += (rest & 1) as usize;
-        rest >>= 1;
-    }
-    count
-}
 
 // The place that a word gives among the places 0 to `i`. The high half of the product is its part
 // of `i + 1`.
@@ -43,9 +25,9 @@ fn place(word: u64, i: usize) -> usize
 }
 
 /// One step of a shuffle: the cell at place `i` and that at the place that the next word gives
-/// change places. No later place changes from then on.
+/// change places. No later place changes from then on. Answers the cell that is now at place `i`.
 #[inline(always)]
-pub(crate) fn settle(cells: &mut [Cell], generator: &mut Xoshiro256PlusPlus, i: usize)
+pub(crate) fn settle(cells: &mut [Cell], generator: &mut Xoshiro256PlusPlus, i: usize) -> Cell
     requires place { (1 ≤ i) × (i < length cells.old) }
     requires few { length cells.old ≤ MOST_EMPTIES }
     ensures order { shuffled (i - 1) (words_of (i - 1) (stream_at generator.new)) cells.new
@@ -53,9 +35,15 @@ pub(crate) fn settle(cells: &mut [Cell], generator: &mut Xoshiro256PlusPlus, i: 
     ensures same { IsPermutation cells.old cells.new }
     ensures count { length cells.new ≡ length cells.old }
     ensures later { drop (i + 1) cells.new ≡ drop (i + 1) cells.old }
+    ensures cell { result ≡ get_or cells.new i result }
 {
     let word = generator.next_u64();
-    cells.swap(i, place(word, i));
+    let from = place(word, i);
+    let cell = cells[from];
+    let moved = cells[i];
+    cells[i] = cell;
+    cells[from] = moved;
+    cell
 }
 
 // Shuffles the cells: from the last place down, each changes places with one that the next word

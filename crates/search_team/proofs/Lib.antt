@@ -6,3 +6,4 @@ mod Looks
 mod SeenAdds
 mod Halves
 mod ChildLooks
+mod NodeWrites

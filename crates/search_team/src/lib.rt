@@ -8,9 +8,10 @@
 //! **A caller** calls [`search`]. It makes the tree, splits its seat by halves until each part
 //! stands for one worker, lets each work in a thread, joins the seats and closes the tree.
 //!
-//! **Speed.** The looks at a block's children and the adds to its seen words are most of a walk. A
-//! worker takes the walker's small machine for them out, runs it in a loop of its own, and puts it
-//! back: the steps and their order are the same.
+//! **Speed.** The looks at a block's children and the adds to its seen words are most of a walk,
+//! and the words of a new block come many at a time. A worker takes the walker's small machine for
+//! them out, runs it in a loop of its own, and puts it back: the steps and their order are the
+//! same.
 //!
 //! **What is proved.** `work` ends: each draw gives a number that its worker hasn't drawn, and a
 //! walk has a bounded number of steps. It takes no memory and never waits. `search` gives a closed
@@ -28,6 +29,7 @@ mod gates;
 mod scanning;
 mod searching;
 mod working;
+mod writing;
 
 pub use gates::{Gate, OpenGate};
 pub use searching::search;

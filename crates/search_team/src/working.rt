@@ -12,6 +12,7 @@ ghost use Rattle.search_team.specs.Works.{IsFresh, IsDone, WorksAsSequence};
 use super::climbing::make_seen_adds;
 use super::gates::Gate;
 use super::scanning::look_at_children;
+use super::writing::write_new_nodes;
 use tree_rule::{Tree, TreeSeat};
 use tree_words::{Op, Shape};
 use walker::Walker;
@@ -58,6 +59,7 @@ pub fn work<G: Gate>(tree: &Tree, seat: &mut TreeSeat, shape: &Shape, worker: u3
         step(tree, seat, &mut walker, op);
         // Most of a walk's steps are these: each kind has a loop of its own. A walk's first add is
         // no seen add.
+        write_new_nodes(tree, seat, &mut walker);
         look_at_children(tree, seat, &mut walker);
         make_seen_adds(tree, seat, &mut walker);
     }

@@ -6,6 +6,8 @@ mod SameWords
 mod Reading
 mod FieldLaws
 mod WordBytes
+mod FromBytes
+mod HeldTexts
 mod TextForm
 mod TextTree
 mod TextWords

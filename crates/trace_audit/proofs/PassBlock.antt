@@ -28,7 +28,7 @@ module _ (s : Setting) (words : List ℕ) (h : IsSetting s) (t : Table) (p : ℕ
       let k = sc.table.index p (record { start = 0; board = s.board; player = s.player }) entry in
       (omega (arith, is_number, entry), omega (arith, k.0, is_number, entry))
 
-  module _ (site : Site) (found : site ≡ slice_index_or t.sites.items (n - 1) site) where
+  module _ (site : Site) (found : site ≡ slice_index_or t.sites.items (n - 1) site) (x : ℕ) (is : x ≡ slice_index words p) where
     at_start : site.start ≡ p
     at_start =
         let k = sc.table.index p site entry in
@@ -37,11 +37,8 @@ module _ (s : Setting) (words : List ℕ) (h : IsSetting s) (t : Table) (p : ℕ
     site_of : IsSite s words bs site
     site_of = subst (IsSite s words bs) (sym found) (sc.table.sites (n - 1) site number_least.1)
 
-    abbrev x : ℕ
-    x = slice_index words p
-
     is_x : slice_index words site.start ≡ x
-    is_x = ap (slice_index words) at_start
+    is_x = ap (slice_index words) at_start ∙ sym is
 
     node : is_node (root_at s) bs x ≡ true
     node = sym (ap (is_node (root_at s) bs) is_x) ∙ site_of.node
@@ -63,11 +60,11 @@ module _ (s : Setting) (words : List ℕ) (h : IsSetting s) (t : Table) (p : ℕ
 
     -- it stands wherever blocks are linked
     pub must_stand : (StandsInArea s words (block_at s site.board x p) → ⊥) → AreUnlinked s words
-    must_stand not-so cs lk = not-so (subst (StandsInArea s words) (sym is_block) (block_stands s words h t p bs sc x node refl link cs lk))
+    must_stand not-so cs lk = not-so (subst (StandsInArea s words) (sym is_block) (block_stands s words h t p bs sc x node (sym is) link cs lk))
 
     -- and no other block is entered within it
     pub must_be_alone : (end : ℕ) → end ≡ p + size (block_at s site.board x p) → (i : ℕ) → p + 1 ≤ i → i < end → 0 < slice_index t.index.items i → AreUnlinked s words
-    must_be_alone end e i l m k = block_alone s words h t p bs sc x node refl link i site (omega (arith, l)) (omega (arith, m, e, ap size is_block)) k
+    must_be_alone end e i l m k = block_alone s words h t p bs sc x node (sym is) link i site (omega (arith, l)) (omega (arith, m, e, ap size is_block)) k
 
     -- so it is passed
     pub is_passed : (u : Table) (end more : ℕ) → length words ≡ end_of s → u.index.items ≡ t.index.items → u.sites.items ≡ t.sites.items → u.others ≡ t.others + more
@@ -82,7 +79,7 @@ module _ (s : Setting) (words : List ℕ) (h : IsSetting s) (t : Table) (p : ℕ
         (cases_eq x (root_at s)) in
         let few = sc.few in
         let most : more ≤ end - p = ⊎_elim (λ (r : x ≡ root_at s). omega (arith, root r)) (λ (r : x ≡ root_at s → ⊥). omega (arith, other r)) (cases_eq x (root_at s)) in
-        let all : Scanned s words u (p + 4) (p + size b) (b ∷ bs) = put s words h t p bs sc x node refl link u index' sites' sum (omega (arith, others', few, most, ends)) entry (subst (StandsInArea s words) is_block st)
+        let all : Scanned s words u (p + 4) (p + size b) (b ∷ bs) = put s words h t p bs sc x node (sym is) link u index' sites' sum (omega (arith, others', few, most, ends)) entry (subst (StandsInArea s words) is_block st)
         (λ i l m. free i l (omega (arith, m, ends))) in
         record {
           setting = h;

@@ -21,7 +21,7 @@ closed_more [] t a r c = (r, c, tt)
 closed_more (u ∷ ts) t a r c = (a.0, a.1, closed_more ts t a.2 r c)
 
 -- one text more
-pub texts_more : (n at m : ℕ) (bytes : List ℕ) (text : Text) → AreTexts n (drop at bytes) bytes → IsText (drop at bytes) text → IsClosed text.shape (all_words text.shape text.words.items) → m ≡ at + text.bytes
+pub texts_more : (n at m : ℕ) (bytes : List ℕ) (text : Text) → AreTexts n (drop at bytes) bytes → IsText (drop at bytes) text → IsClosed text.shape (all_words text.shape text.words) → m ≡ at + text.bytes
     → AreTexts (n + 1) (drop m bytes) bytes
 texts_more n at m bytes text a t c e =
     let tree : ClosedTree = closed_tree_of text in

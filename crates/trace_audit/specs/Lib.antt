@@ -3,6 +3,7 @@ pub mod Told
 pub mod Verdicts
 pub mod Fields
 pub mod Texts
+pub mod WordLists
 pub mod Tables
 pub mod Sums
 pub mod Points

@@ -1,6 +1,6 @@
 -- What the steps of adding the playouts answer, whatever blocks the words are linked by. No clause
 -- of a public call cites this.
-use Rattle.std.specs.Prelude.{◌≡◌, ℕ, ◌+◌, ◌*◌, ◌^◌, ◌<◌, true, Bool, List, length, slice_index}
+use Rattle.std.specs.Prelude.{◌≡◌, ℕ, ◌+◌, ◌^◌, ◌<◌, true, Bool, List, length, slice_index}
 use Rattle.std.specs.Prelude.{MatchBool, MatchOption, Option, Vec}
 use Rattle.std.specs.declared.alloc.Global.{Global}
 use Rattle.hex_cells.specs.declared.board_size.TheConstants.{MOST_CELLS}

@@ -64,12 +64,12 @@ all_words s words = words ++ replicate (end_of s - length words) 0
 -- the tree of what was read
 abbrev pub closed_tree_of : Text → ClosedTree
 closed_tree_of text =
-    record { shape = text.shape; words = all_words text.shape text.words.items }
+    record { shape = text.shape; words = all_words text.shape text.words }
 
 -- what was read is a tree as it is read, and the bytes begin with its text, of so many bytes
 pub record IsText (bytes : List ℕ) (text : Text) : Type 0 where
   pub read : IsReadTree (closed_tree_of text)
-  pub cut : IsCut text.shape text.words.items text.cut
+  pub cut : IsCut text.shape text.words text.cut
   pub most : text.bytes ≤ length bytes
   pub least : FRONT_BYTES ≤ text.bytes
   pub begins : bytes ≡ trace_text (closed_tree_of text) ++ drop text.bytes bytes

@@ -12,6 +12,7 @@ use super::parsing::read_text;
 use super::recording::sum;
 use super::refusals::Memory;
 use super::types::{Audit, Flaw};
+use super::word_list::Words;
 use std::alloc::Global;
 use tree_words::Shape;
 
@@ -19,7 +20,7 @@ use tree_words::Shape;
 pub const MOST_BYTES: usize = 67_108_864;
 
 // The first point of the closed tree that fails, if one does.
-fn first_failure(alloc: Global, shape: &Shape, words: &[u64]) -> Result<Option<Flaw>, Memory>
+fn first_failure(alloc: Global, shape: &Shape, words: &Words) -> Result<Option<Flaw>, Memory>
     requires { length words.now ≡ end_of shape.now }
     ensures { IfOk result (λ failure. IsFirstFailure shape.now words.now failure) }
 {
@@ -52,7 +53,7 @@ pub fn audit(alloc: Global, bytes: &[u8]) -> Result<Audit, Memory>
     let mut at = 0;
     let mut tree = 0;
     'texts: while at < bytes.len() {
-        let Some(text) = read_text(alloc, &bytes[at..])? else {
+        let Some(text) = read_text(&bytes[at..]) else {
             return Ok(Audit::No {
                 tree,
                 why: Flaw::BadForm,

@@ -7,19 +7,22 @@ ghost use Rattle.tree_words.specs.declared.layout.TheConstants.{MOST_BLOCK_WORDS
 ghost use Rattle.trace_audit.specs.Scans.{IsBlockEnd, ShowsWords};
 ghost use Rattle.trace_audit.specs.Tables.{block_at};
 
+use super::word_list::Words;
 use hex_board::Board;
 use hex_cells::CellSet;
 use tree_words::layout::{HEADER_WORDS, MOST_BLOCK_WORDS, NEXT_AT, NODE_WORDS, RECORDS_AT};
 use tree_words::{Shape, write_block};
 
 // Whether the words from `at` on are a block's: its header words and its moves.
-fn same_block(words: &[u64], at: usize, block: &[u64; MOST_BLOCK_WORDS], size: usize) -> bool
+fn same_block(words: &Words, at: usize, block: &[u64; MOST_BLOCK_WORDS], size: usize) -> bool
     requires within { at + size ≤ length words.now }
     requires few { size ≤ MOST_BLOCK_WORDS }
     ensures { IsTrue result ↔ ShowsWords words.now at block.now size }
 {
+    // What the words keep of themselves.
+    let _len = words.len();
     'words: for i in 0..size {
-        if (i < HEADER_WORDS || i % NODE_WORDS == 0) && words[at + i] != block[i] {
+        if (i < HEADER_WORDS || i % NODE_WORDS == 0) && words.at(at + i) != block[i] {
             return false;
         }
     }
@@ -43,7 +46,7 @@ fn cells_below(shape: &Shape, parent: usize, board: &Board) -> CellSet
 /// The word after the block at `at` below a node with this board, where it stands there; `None`
 /// where it does not.
 pub(crate) fn block_end(
-    words: &[u64],
+    words: &Words,
     shape: &Shape,
     at: usize,
     parent: usize,
@@ -66,7 +69,7 @@ pub(crate) fn block_end(
     if words.len() < end {
         return None;
     }
-    if words[NEXT_AT] < end as u64 {
+    if words.at(NEXT_AT) < end as u64 {
         return None;
     }
     if same_block(words, at, &block, size) {

@@ -8,26 +8,28 @@ ghost use Rattle.trace_audit.specs.Points.{AreAllSame, AreSame, EachSite, HasSum
 ghost use Rattle.trace_audit.specs.Points.{LiesWithin, TellsEach};
 
 use super::sites::Table;
+use super::word_list::Words;
 use tree_words::Shape;
 use tree_words::layout::{COUNT_WORD, HEADER_WORDS, NODE_WORDS, RECORDS_AT, SEEN_WORD, TALLY_WORD};
 
 // Whether the tally and the seen word of the node at `x` are the sums.
-fn has_same(words: &[u64], sums: &[u64], x: usize) -> bool
+fn has_same(words: &Words, sums: &[u64], x: usize) -> bool
     requires words { x + NODE_WORDS ≤ length words.now }
     requires sums { x + NODE_WORDS ≤ length sums.now }
     ensures { MatchBool result (AreSame words.now sums.now x) (¬ (AreSame words.now sums.now x)) }
 {
-    words[x + TALLY_WORD] == sums[x + TALLY_WORD] && words[x + SEEN_WORD] == sums[x + SEEN_WORD]
+    words.at(x + TALLY_WORD) == sums[x + TALLY_WORD]
+        && words.at(x + SEEN_WORD) == sums[x + SEEN_WORD]
 }
 
 // Whether the counts of the nodes of the block are the sums.
-fn has_sums(words: &[u64], sums: &[u64], block: usize) -> bool
+fn has_sums(words: &Words, sums: &[u64], block: usize) -> bool
     requires within { block + block_size (nodes_in words.now block) ≤ length words.now }
     requires long { length sums.now ≡ length words.now }
     ensures { MatchBool result (AreAllSame words.now sums.now block)
         (IsSomeOther words.now sums.now block) }
 {
-    let count = words[block + COUNT_WORD] as usize;
+    let count = words.at(block + COUNT_WORD) as usize;
     'nodes: for place in 0..count {
         if !has_same(words, sums, block + HEADER_WORDS + NODE_WORDS * place) {
             return false;
@@ -37,7 +39,7 @@ fn has_sums(words: &[u64], sums: &[u64], block: usize) -> bool
 }
 
 // Whether the counts of the nodes of all blocks are the sums.
-fn each_same(words: &[u64], sums: &[u64], table: &Table) -> bool
+fn each_same(words: &Words, sums: &[u64], table: &Table) -> bool
     requires within { EachSite table.now (LiesWithin words.now) }
     requires long { length sums.now ≡ length words.now }
     ensures { TellsEach table.now result (HasSums words.now sums.now) }
@@ -52,7 +54,7 @@ fn each_same(words: &[u64], sums: &[u64], table: &Table) -> bool
 }
 
 /// Whether the counts of all nodes are the sums.
-pub(crate) fn is_exact(words: &[u64], shape: &Shape, table: &Table, sums: &[u64]) -> bool
+pub(crate) fn is_exact(words: &Words, shape: &Shape, table: &Table, sums: &[u64]) -> bool
     requires long { length words.now ≡ end_of shape.now }
     requires sums { HasSumsOf shape.now words.now table.now sums.now shape.now.knobs.playouts }
     ensures { TellsExact shape.now words.now table.now sums.now result }
@@ -60,7 +62,7 @@ pub(crate) fn is_exact(words: &[u64], shape: &Shape, table: &Table, sums: &[u64]
     // What each shape keeps of itself.
     let _board = shape.board();
     let root = shape.knobs().playouts as usize + RECORDS_AT;
-    if words[root + TALLY_WORD] != sums[root + TALLY_WORD] {
+    if words.at(root + TALLY_WORD) != sums[root + TALLY_WORD] {
         return false;
     }
     each_same(words, sums, table)

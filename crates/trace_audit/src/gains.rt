@@ -1,6 +1,7 @@
 //! What a playout adds to the sums, on the way from its leaf up to the root.
 
-ghost use Rattle.std.specs.Prelude.{◌≡◌, ◌+◌, ◌<◌, ◌≤◌, ◌^◌, length, set, slice_index};
+ghost use Rattle.std.specs.Prelude.{◌≡◌, ◌+◌, ◌<◌, ◌≤◌, ◌^◌, if◌then◌else◌};
+ghost use Rattle.std.specs.Prelude.{length, set, slice_index};
 ghost use Rattle.hex_cells.specs.Colours.{is_same};
 ghost use Rattle.tree_words.specs.Blocks.{block_size};
 ghost use Rattle.tree_words.specs.Sequence.{amount_of};
@@ -9,6 +10,7 @@ ghost use Rattle.trace_audit.specs.Playouts.{AddsNode, AddsWay, AreCells, HasSee
 ghost use Rattle.trace_audit.specs.Playouts.{MayClimb};
 ghost use Rattle.trace_audit.specs.Sums.{SeesSome};
 
+use super::word_list::Words;
 use hex_cells::{Cell, CellSet, Colour};
 use play_out::Ending;
 use tree_words::cell_of;
@@ -24,6 +26,16 @@ fn amount(player: Colour, winner: Colour) -> u64
     if player == winner { VISIT + 1 } else { VISIT }
 }
 
+// So much where the test holds, else 0. A jump over the add would be guessed wrong half the time:
+// the stones of a playout lie as dice fall.
+#[inline(always)]
+fn amount_if(test: bool, amount: u64) -> u64
+    ensures value { result ≡ (if test then amount else 0) }
+    ensures range { result ≤ amount }
+{
+    if test { amount } else { 0 }
+}
+
 /// Adds to a word of the sums.
 pub(crate) fn gain(sums: &mut [u64], at: usize, amount: u64)
     requires within { at < length sums.old }
@@ -34,7 +46,7 @@ pub(crate) fn gain(sums: &mut [u64], at: usize, amount: u64)
 }
 
 // Adds to the sum of the seen word of each node of the block whose cell is in the set.
-fn see(words: &[u64], sums: &mut [u64], block: usize, stones: CellSet, amount: u64)
+fn see(words: &Words, sums: &mut [u64], block: usize, stones: CellSet, amount: u64)
     requires within { block + block_size (nodes_in words.now block) ≤ length words.now }
     requires long { length sums.old ≡ length words.now }
     requires cells { AreCells words.now block }
@@ -42,31 +54,30 @@ fn see(words: &[u64], sums: &mut [u64], block: usize, stones: CellSet, amount: u
     ensures { SeesSome words.now block (nodes_in words.now block) stones amount
         sums.old sums.new }
 {
-    let count = words[block + COUNT_WORD] as usize;
+    let count = words.at(block + COUNT_WORD) as usize;
     'nodes: for place in 0..count {
         let at = block + HEADER_WORDS + NODE_WORDS * place;
-        if stones.has(Cell::numbered(cell_of(words[at]))) {
-            sums[at + SEEN_WORD] += amount;
-        }
+        let seen = stones.has(Cell::numbered(cell_of(words.at(at))));
+        sums[at + SEEN_WORD] += amount_if(seen, amount);
     }
 }
 
 // Adds the ending to a node below the root, which this player chose, and to the nodes of its block
 // that it sees. Answers the node's parent.
-fn add_node(words: &[u64], sums: &mut [u64], node: usize, player: Colour, ending: &Ending) -> usize
+fn add_node(words: &Words, sums: &mut [u64], node: usize, player: Colour, ending: &Ending) -> usize
     requires { MayAdd words.now sums.old node }
     ensures { AddsNode words.now node player ending.now sums.old sums.new result }
 {
     let amount = amount(player, ending.winner);
     gain(sums, node + TALLY_WORD, amount);
-    let block = node - HEADER_WORDS - NODE_WORDS * (words[node] / PLACE_UNIT) as usize;
+    let block = node - HEADER_WORDS - NODE_WORDS * (words.at(node) / PLACE_UNIT) as usize;
     see(words, sums, block, ending.full.stones(player), amount);
-    words[block] as usize
+    words.at(block) as usize
 }
 
 /// Adds the ending on the way from a node, where this player is to move, up to the root.
 pub(crate) fn climb(
-    words: &[u64],
+    words: &Words,
     sums: &mut [u64],
     root: usize,
     leaf: usize,

@@ -11,6 +11,7 @@ ghost use Rattle.trace_audit.specs.Points.{IsFirst, IsFull, IsNextBounded, IsOpe
 ghost use Rattle.trace_audit.specs.Points.{IsSomeUnvisited, IsSomeWasteful, LiesWithin, TellsEach};
 
 use super::sites::{Site, Table};
+use super::word_list::Words;
 use hex_cells::Cell;
 use tree_words::layout::{
     COUNT_WORD, HEADER_WORDS, LINK_WORD, MOST_BLOCK_WORDS, NEXT_AT, NODE_WORDS, RECORDS_AT,
@@ -19,15 +20,17 @@ use tree_words::layout::{
 use tree_words::{Shape, cell_of, visits_of};
 
 // Whether a node of the block has no visits.
-fn has_unvisited(words: &[u64], block: usize) -> bool
+fn has_unvisited(words: &Words, block: usize) -> bool
     requires { block + block_size (nodes_in words.now block) ≤ length words.now }
     ensures { MatchBool result (IsSomeUnvisited words.now block)
         (AreVisited words.now block) }
 {
-    let count = words[block + COUNT_WORD] as usize;
+    // What the words keep of themselves.
+    let _len = words.len();
+    let count = words.at(block + COUNT_WORD) as usize;
     'nodes: for place in 0..count {
         let x = block + HEADER_WORDS + NODE_WORDS * place;
-        if visits_of(words[x + TALLY_WORD]) == 0 {
+        if visits_of(words.at(x + TALLY_WORD)) == 0 {
             return true;
         }
     }
@@ -35,15 +38,17 @@ fn has_unvisited(words: &[u64], block: usize) -> bool
 }
 
 // Whether a node of the block has more visits than so many.
-fn has_more(words: &[u64], block: usize, most: u32) -> bool
+fn has_more(words: &Words, block: usize, most: u32) -> bool
     requires { block + block_size (nodes_in words.now block) ≤ length words.now }
     ensures { MatchBool result (IsSomeAbove words.now block most)
         (AreUpTo words.now block most) }
 {
-    let count = words[block + COUNT_WORD] as usize;
+    // What the words keep of themselves.
+    let _len = words.len();
+    let count = words.at(block + COUNT_WORD) as usize;
     'nodes: for place in 0..count {
         let x = block + HEADER_WORDS + NODE_WORDS * place;
-        if most < visits_of(words[x + TALLY_WORD]) {
+        if most < visits_of(words.at(x + TALLY_WORD)) {
             return true;
         }
     }
@@ -62,17 +67,17 @@ fn is_open(site: &Site, cell: Cell) -> bool
 
 // Whether each node of the block with an empty cell on its board is the leaf of at most so many
 // records.
-fn has_few_leaves(words: &[u64], sums: &[u64], site: &Site, most: u64) -> bool
+fn has_few_leaves(words: &Words, sums: &[u64], site: &Site, most: u64) -> bool
     requires within { LiesWithin words.now site.now }
     requires long { length sums.now ≡ length words.now }
     requires cells { HasCells words.now site.now }
     ensures { MatchBool result (AreFrugal words.now sums.now most site.now)
         (IsSomeWasteful words.now sums.now most site.now) }
 {
-    let count = words[site.start + COUNT_WORD] as usize;
+    let count = words.at(site.start + COUNT_WORD) as usize;
     'nodes: for place in 0..count {
         let x = site.start + HEADER_WORDS + NODE_WORDS * place;
-        if most < sums[x] && is_open(site, Cell::numbered(cell_of(words[x]))) {
+        if most < sums[x] && is_open(site, Cell::numbered(cell_of(words.at(x)))) {
             return false;
         }
     }
@@ -81,7 +86,7 @@ fn has_few_leaves(words: &[u64], sums: &[u64], site: &Site, most: u64) -> bool
 
 // Whether NEXT is at most the end of the root's block, so many times the other blocks' words, and
 // one largest block for each worker.
-fn is_next_bounded(words: &[u64], shape: &Shape, others: usize) -> bool
+fn is_next_bounded(words: &Words, shape: &Shape, others: usize) -> bool
     requires long { length words.now ≡ end_of shape.now }
     requires root { root_end shape.now words.now ≤ end_of shape.now }
     requires few { others ≤ end_of shape.now }
@@ -91,14 +96,14 @@ fn is_next_bounded(words: &[u64], shape: &Shape, others: usize) -> bool
     // What each shape keeps of itself.
     let _board = shape.board();
     let root = shape.knobs().playouts as usize + RECORDS_AT;
-    let block = words[root + LINK_WORD] as usize;
-    let root_end = block + HEADER_WORDS + NODE_WORDS * words[block + COUNT_WORD] as usize;
+    let block = words.at(root + LINK_WORD) as usize;
+    let root_end = block + HEADER_WORDS + NODE_WORDS * words.at(block + COUNT_WORD) as usize;
     let workers = shape.knobs().workers as usize;
-    words[NEXT_AT] <= (root_end + workers * others + MOST_BLOCK_WORDS * workers) as u64
+    words.at(NEXT_AT) <= (root_end + workers * others + MOST_BLOCK_WORDS * workers) as u64
 }
 
 // Whether in each block that has a node without visits no node has more than so many.
-fn each_first(words: &[u64], table: &Table, most: u32) -> bool
+fn each_first(words: &Words, table: &Table, most: u32) -> bool
     requires { EachSite table.now (LiesWithin words.now) }
     ensures { TellsEach table.now result (λ p. IsFirst words.now most p.start) }
 {
@@ -112,7 +117,7 @@ fn each_first(words: &[u64], table: &Table, most: u32) -> bool
 }
 
 // Whether each node with an empty cell on its board is the leaf of at most so many records.
-fn each_frugal(words: &[u64], sums: &[u64], table: &Table, most: u64) -> bool
+fn each_frugal(words: &Words, sums: &[u64], table: &Table, most: u64) -> bool
     requires within { EachSite table.now (LiesWithin words.now) }
     requires cells { EachSite table.now (HasCells words.now) }
     requires long { length sums.now ≡ length words.now }
@@ -128,7 +133,7 @@ fn each_frugal(words: &[u64], sums: &[u64], table: &Table, most: u64) -> bool
 }
 
 /// Whether the tree has grown as the knobs say.
-pub(crate) fn is_grown(words: &[u64], shape: &Shape, table: &Table, sums: &[u64]) -> bool
+pub(crate) fn is_grown(words: &Words, shape: &Shape, table: &Table, sums: &[u64]) -> bool
     requires long { length words.now ≡ end_of shape.now }
     requires sums { HasAllSums shape.now words.now table.now sums.now }
     ensures { TellsGrown shape.now words.now table.now sums.now result }
@@ -140,7 +145,7 @@ pub(crate) fn is_grown(words: &[u64], shape: &Shape, table: &Table, sums: &[u64]
         return false;
     }
     let most = u64::from(knobs.workers) * u64::from(knobs.expand);
-    if words[NEXT_AT] <= words.len() as u64 && !each_frugal(words, sums, table, most) {
+    if words.at(NEXT_AT) <= words.len() as u64 && !each_frugal(words, sums, table, most) {
         return false;
     }
     is_next_bounded(words, shape, table.others)

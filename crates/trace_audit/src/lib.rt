@@ -56,6 +56,7 @@ mod sites;
 mod tests;
 mod texts;
 pub mod types;
+mod word_list;
 mod zeros;
 
 pub use archives::TraceArchive;

@@ -9,6 +9,7 @@ use super::blocks::block_end;
 use super::entries::{enter, enter_all};
 use super::refusals::Memory;
 use super::sites::{Site, Table, has_entry, no_entries};
+use super::word_list::Words;
 use std::alloc::Global;
 use tree_words::Shape;
 use tree_words::layout::{FRONT_WORDS, NODE_WORDS, RECORDS_AT};
@@ -28,7 +29,7 @@ fn other_words(shape: &Shape, parent: usize, size: usize) -> usize
 
 // Passes the block that was entered at `at`: the word after it, where it stands there alone.
 fn pass_block(
-    words: &[u64],
+    words: &Words,
     shape: &Shape,
     table: &mut Table,
     at: usize,
@@ -42,8 +43,8 @@ fn pass_block(
 {
     // What each shape keeps of itself.
     let _board = shape.board();
-    let site = table.sites[table.index[at] - 1];
-    let parent = words[at] as usize;
+    let site = table.sites[table.index[at] as usize - 1];
+    let parent = words.at(at) as usize;
     let Some(end) = block_end(words, shape, at, parent, &site.board) else {
         return Ok(None);
     };
@@ -59,7 +60,7 @@ fn pass_block(
 }
 
 // The table of the root's link alone.
-fn begin(alloc: Global, shape: &Shape, words: &[u64]) -> Result<Option<Table>, Memory>
+fn begin(alloc: Global, shape: &Shape, words: &Words) -> Result<Option<Table>, Memory>
     requires { length words.now ≡ end_of shape.now }
     ensures { IfOk result (λ table. MatchOption table (AreUnlinked shape.now words.now)
         (IsScanBegun shape.now words.now)) }
@@ -85,7 +86,7 @@ fn begin(alloc: Global, shape: &Shape, words: &[u64]) -> Result<Option<Table>, M
 }
 
 /// The linked blocks, where there are such.
-pub(crate) fn link(alloc: Global, shape: &Shape, words: &[u64]) -> Result<Option<Table>, Memory>
+pub(crate) fn link(alloc: Global, shape: &Shape, words: &Words) -> Result<Option<Table>, Memory>
     requires { length words.now ≡ end_of shape.now }
     ensures { IfOk result (λ table. MatchOption table (AreUnlinked shape.now words.now)
         (IsLinkTable shape.now words.now)) }

@@ -1,6 +1,6 @@
 //! A text, read from bytes.
 
-ghost use Rattle.std.specs.Prelude.{◌≡◌, ℕ, ◌+◌, ◌*◌, ◌<◌, ◌≤◌, ◌^◌, MatchOption, IfOk};
+ghost use Rattle.std.specs.Prelude.{◌≡◌, ℕ, ◌+◌, ◌*◌, ◌<◌, ◌≤◌, ◌^◌, MatchOption};
 ghost use Rattle.std.specs.Prelude.{length, slice_index, take, drop};
 ghost use Rattle.std.specs.Int.{w64, to_le_bytes};
 ghost use Rattle.trace_audit.specs.Texts.{AreFields, IsFront, IsText, LacksFields, MayFollow};
@@ -10,10 +10,8 @@ ghost use Rattle.trace_audit.specs.Told.{AreWords};
 ghost use Rattle.trace_audit.specs.Verdicts.{BeginsWithNoTree};
 
 use super::fields::shape_of;
-use super::refusals::Memory;
 use super::texts::{FIELDS, WORD_BYTES};
-use super::zeros::zeros;
-use std::alloc::Global;
+use super::word_list::{Words, word_at};
 use tree_words::layout::{FRONT_WORDS, NEXT_AT};
 use tree_words::{Knobs, LEAST_WORDS, Shape};
 
@@ -27,29 +25,11 @@ const COUNT_FIELD: usize = FIELDS - 1;
 /// the written words, and the words up to there, so that no memory is taken for words of which the
 /// text has none; and how many bytes the text has.
 #[derive(Drop)]
-pub(crate) struct Text {
+pub(crate) struct Text<'a> {
     pub(crate) shape: Shape,
     pub(crate) cut: Shape,
-    pub(crate) words: Vec<u64>,
+    pub(crate) words: Words<'a>,
     pub(crate) bytes: usize,
-}
-
-// The word that stands at this byte.
-fn word_at(bytes: &[u8], at: usize) -> u64
-    requires { at + WORD_BYTES ≤ length bytes.now }
-    ensures bytes { to_le_bytes w64 result ≡ take WORD_BYTES (drop at bytes.now) }
-    ensures range { result < 2 ^ 64 }
-{
-    u64::from_le_bytes([
-        bytes[at],
-        bytes[at + 1],
-        bytes[at + 2],
-        bytes[at + 3],
-        bytes[at + 4],
-        bytes[at + 5],
-        bytes[at + 6],
-        bytes[at + 7],
-    ])
 }
 
 // Reads so many words that stand from this byte on.
@@ -142,25 +122,24 @@ fn cut_at(shape: &Shape, count: usize) -> Shape
 }
 
 /// The text that the bytes begin with; `None` where they begin with none.
-pub(crate) fn read_text(alloc: Global, bytes: &[u8]) -> Result<Option<Text>, Memory>
-    ensures { IfOk result
-        (λ read. MatchOption read (BeginsWithNoTree bytes.now) (IsText bytes.now)) }
+pub(crate) fn read_text<'a>(bytes: &'a [u8]) -> Option<Text<'a>>
+    ensures { MatchOption result (BeginsWithNoTree bytes.now) (IsText bytes.now) }
 {
     let Some(front) = read_front(bytes) else {
-        return Ok(None);
+        return None;
     };
     // What each shape keeps of itself.
     let _board = front.shape.board();
     let cut = cut_at(&front.shape, front.count);
-    let mut words = zeros(alloc, cut.total() as usize)?;
-    read_words(bytes, FRONT_BYTES, &mut words, front.count);
-    if words[NEXT_AT].min(u64::from(front.shape.total())) != front.count as u64 {
-        return Ok(None);
+    let end = FRONT_BYTES + WORD_BYTES * front.count;
+    let words = Words::of(&bytes[FRONT_BYTES..end], cut.total() as usize);
+    if words.at(NEXT_AT).min(u64::from(front.shape.total())) != front.count as u64 {
+        return None;
     }
-    Ok(Some(Text {
+    Some(Text {
         shape: front.shape,
         cut,
         words,
-        bytes: FRONT_BYTES + WORD_BYTES * front.count,
-    }))
+        bytes: end,
+    })
 }

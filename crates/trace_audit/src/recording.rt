@@ -9,6 +9,7 @@ ghost use Rattle.trace_audit.specs.Scans.{IsLinkTable};
 use super::gains::{climb, gain};
 use super::refusals::Memory;
 use super::sites::{Site, Table};
+use super::word_list::Words;
 use super::zeros::zeros;
 use hex_cells::{Cell, Colour};
 use play_out::play;
@@ -19,7 +20,7 @@ use tree_words::layout::{
 use tree_words::{Shape, cell_of};
 
 // The first word of the block that has a node at `leaf`; `None` where there is none.
-fn block_of(words: &[u64], table: &Table, leaf: u64) -> Option<usize>
+fn block_of(words: &Words, table: &Table, leaf: u64) -> Option<usize>
     requires { IsTableOf words.now table.now }
     ensures { IsBlockOf words.now table.now leaf result }
 {
@@ -27,7 +28,7 @@ fn block_of(words: &[u64], table: &Table, leaf: u64) -> Option<usize>
         return None;
     }
     let leaf = leaf as usize;
-    let place = (words[leaf] / PLACE_UNIT) as usize;
+    let place = (words.at(leaf) / PLACE_UNIT) as usize;
     let before = HEADER_WORDS + NODE_WORDS * place;
     if leaf < before {
         return None;
@@ -36,7 +37,7 @@ fn block_of(words: &[u64], table: &Table, leaf: u64) -> Option<usize>
     if table.index[block] == 0 {
         return None;
     }
-    if words[block + COUNT_WORD] as usize <= place {
+    if words.at(block + COUNT_WORD) as usize <= place {
         return None;
     }
     Some(block)
@@ -61,16 +62,16 @@ fn is_winner(player: Colour, word: u64) -> bool
 }
 
 // The board and the player to move at a node of the block at `block`.
-fn site_of(words: &[u64], table: &Table, block: usize, node: usize) -> Site
+fn site_of(words: &Words, table: &Table, block: usize, node: usize) -> Site
     requires { IsLinkedNode words.now table.now block node }
     ensures { IsSiteOf words.now table.now block node result }
 {
-    let site = table.sites[table.index[block] - 1];
-    site.after(Cell::numbered(cell_of(words[node])))
+    let site = table.sites[table.index[block] as usize - 1];
+    site.after(Cell::numbered(cell_of(words.at(node))))
 }
 
 // Adds playout `k` to the sums, where its record is right.
-fn add(words: &[u64], shape: &Shape, table: &Table, sums: &mut [u64], k: u32) -> bool
+fn add(words: &Words, shape: &Shape, table: &Table, sums: &mut [u64], k: u32) -> bool
     requires long { length words.now ≡ end_of shape.now }
     requires number { k < shape.now.knobs.playouts }
     requires sums { HasSumsOf shape.now words.now table.now sums.old k }
@@ -78,7 +79,7 @@ fn add(words: &[u64], shape: &Shape, table: &Table, sums: &mut [u64], k: u32) ->
 {
     // What each shape keeps of itself.
     let _board = shape.board();
-    let word = words[RECORDS_AT + k as usize];
+    let word = words.at(RECORDS_AT + k as usize);
     let Some(block) = block_of(words, table, word / RECORD_UNIT) else {
         return false;
     };
@@ -99,7 +100,7 @@ fn add(words: &[u64], shape: &Shape, table: &Table, sums: &mut [u64], k: u32) ->
 pub(crate) fn sum(
     alloc: Global,
     shape: &Shape,
-    words: &[u64],
+    words: &Words,
     table: &Table,
 ) -> Result<Option<Vec<u64>>, Memory>
     requires long { length words.now ≡ end_of shape.now }

@@ -36,16 +36,17 @@ impl Site {
 }
 
 /// The linked blocks: each one's site, and for the first word of each block the number of its site,
-/// from 1, for other words 0; and how many words the blocks have but for the root's.
+/// from 1, for other words 0; and how many words the blocks have but for the root's. The numbers
+/// are short, since there is one for each word of a tree.
 #[derive(Drop)]
 pub(crate) struct Table {
-    pub(crate) index: Vec<usize>,
+    pub(crate) index: Vec<u32>,
     pub(crate) sites: Vec<Site>,
     pub(crate) others: usize,
 }
 
 /// Whether a block was entered between these words.
-pub(crate) fn has_entry(index: &[usize], from: usize, to: usize) -> bool
+pub(crate) fn has_entry(index: &[u32], from: usize, to: usize) -> bool
     requires { to ≤ length index.now }
     ensures { MatchBool result (HasEntry index.now from to) (HasNoEntry index.now from to) }
 {
@@ -58,7 +59,7 @@ pub(crate) fn has_entry(index: &[usize], from: usize, to: usize) -> bool
 }
 
 /// An index without entries.
-pub(crate) fn no_entries(alloc: Global, count: usize) -> Result<Vec<usize>, Memory>
+pub(crate) fn no_entries(alloc: Global, count: usize) -> Result<Vec<u32>, Memory>
     ensures { IfOk result (λ index. index.items ≡ replicate count 0) }
 {
     let index = vec![in alloc; 0; count]?;

@@ -14,7 +14,7 @@ use Rattle.tree_words.specs.declared.settings.Knobs.{Knobs}
 use Rattle.hex_plan.specs.TurnTexts.{report_of, report_on}
 use Rattle.hex_plan.specs.Turns.{TurnData}
 use Rattle.turn_modes.specs.ModeTexts.{bench_lines, bench_text, best_line, report_by, sim_text}
-use Rattle.turn_modes.specs.OneTurn.{FollowsSchedule, IsBenchTurn, IsBenchmark, IsFirstTurn, IsSimTurn, IsSimulation, bench_board, bench_player, bench_stones, first_rows}
+use Rattle.turn_modes.specs.OneTurn.{IsBenchTurn, IsBenchmark, IsFirstTurn, IsSimTurn, IsSimulation, bench_board, bench_player, bench_stones, first_rows}
 use Rattle.turn_modes.specs.Positions.{IsBenchPosition, board_on, mover_after, shuffled_cells}
 use Rattle.turn_modes.specs.Records.{records_in}
 use Rattle.turn_modes.specs.Rows.{best_cell, visits_of}
@@ -27,9 +27,9 @@ use Rattle.turn_modes.proofs.Recorded.{all_recorded}
 
 -- ---- mode sim
 
-pub simulation_says : (o : ModeOptions) (t : TurnData) (text items : List ℕ) → IsSimTurn o t → FollowsSchedule o t → text ≡ items → TellsSim t items → IsSimulation o t text
+pub simulation_says : (o : ModeOptions) (t : TurnData) (text items : List ℕ) → IsSimTurn o t → text ≡ items → TellsSim t items → IsSimulation o t text
 unfolding report_of
-simulation_says o t text items f along same says =
+simulation_says o t text items f same says =
     let start : Position = empty_board o.size in
     let tree = searched_tree o.knobs start Black t f in
     let c : ClosedTree = tree.0 in
@@ -41,7 +41,6 @@ simulation_says o t text items f along same says =
     let playouts : c.shape.knobs.playouts ≡ o.knobs.playouts = ap (λ (z : Setting). z.knobs.playouts) setting in
     record {
       turn = f;
-      scheduled = along;
       says = (report_on t.board.size c, reported, said);
       one = λ w.
           said

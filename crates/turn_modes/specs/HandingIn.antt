@@ -6,7 +6,7 @@ use Rattle.htp_session.specs.Handing.{LinkAndArchive, HandsOver}
 use Rattle.htp_session.specs.declared.stops.Stop.{Stop}
 use Rattle.htp_session.specs.declared.stops.Stop.TheVariants.{ReadFault, WriteFault, Memory}
 use Rattle.htp_session.specs.declared.stops.Stop.TheVariants.{TooLong, ArchiveFault}
-use Rattle.turn_modes.specs.OneTurn.{IsSimulation, IsBenchmark}
+use Rattle.turn_modes.specs.OneTurn.{FollowsSchedule, IsSimulation, IsBenchmark}
 use Rattle.turn_modes.specs.declared.options.ModeOptions.{ModeOptions}
 
 -- A turn with its text was handed over: the archive took the turn, and then the text was given, or
@@ -28,6 +28,11 @@ HandsIn Says old new (Err ArchiveFault) = Same old.0 new.0 × Same old.1 new.1
 abbrev pub IsSimulated : ModeOptions → LinkAndArchive → LinkAndArchive
     → Result (Unit {0}) Stop → Type 0
 IsSimulated o = HandsIn (IsSimulation o)
+
+-- the turn that mode sim handed in has the tree of its schedule
+abbrev pub IsScheduled : ModeOptions → LinkAndArchive → LinkAndArchive
+    → Result (Unit {0}) Stop → Type 0
+IsScheduled o = HandsIn (λ turn text. FollowsSchedule o turn)
 
 -- what mode bench did
 abbrev pub IsBenchmarked : ModeOptions → LinkAndArchive → LinkAndArchive

@@ -74,11 +74,10 @@ abbrev pub sequential_sim_text : ModeOptions → List ℕ
 sequential_sim_text o = let rows = first_rows o.knobs (empty_board o.size) Black in
     sim_text o.size (best_cell rows) (report_by o.size o.knobs.playouts rows)
 
--- the turn is that of mode sim and its schedule, and the text is that of the turn; with one worker
--- the options determine it
+-- the turn is that of mode sim, and the text is that of the turn; with one worker the options
+-- determine it
 pub record IsSimulation (o : ModeOptions) (t : TurnData) (text : List ℕ) : Type 0 where
   pub turn : IsSimTurn o t
-  pub scheduled : FollowsSchedule o t
   pub says : (report : List ℕ) × (report_of t ≡ Some report)
       × (text ≡ sim_text o.size t.cell report)
   pub one : o.knobs.workers ≡ 1 → text ≡ sequential_sim_text o

@@ -3,7 +3,7 @@
 ghost use Rattle.std.specs.Prelude.{◌≡◌};
 ghost use Rattle.tree_words.specs.Settings.{AreInRange};
 ghost use Rattle.htp_session.specs.Devices.{CountsFaults, link_and_archive};
-ghost use Rattle.turn_modes.specs.HandingIn.{IsBenchmarked, IsSimulated};
+ghost use Rattle.turn_modes.specs.HandingIn.{IsBenchmarked, IsScheduled, IsSimulated};
 
 use super::options::ModeOptions;
 use super::positions::bench_position;
@@ -29,6 +29,8 @@ pub fn simulation<L: Link, F: Shelf, A: Archive, R: Threads + Sync, G: Gate + Sy
 ) -> Result<(), Stop>
     requires { AreInRange options.now.knobs }
     ensures simulated { IsSimulated options.now
+        (link_and_archive devices.old) (link_and_archive devices.new) result }
+    ensures scheduled { IsScheduled options.now
         (link_and_archive devices.old) (link_and_archive devices.new) result }
     ensures reads { devices.new.read_faults ≡ devices.old.read_faults }
     ensures shelf { devices.new.shelf ≡ devices.old.shelf }

@@ -143,7 +143,7 @@ module _ (w : Walker) (v : SeatView) (b : Belongs w v) (x : ℕ) where
     can-scan : MayScan w x
     can-scan = record { look = can-look; last = last-at w.scan.phase refl }
 
-  can-write : AtWrite w v → (w.node < PAST_WORDS) × (w.start < PAST_WORDS) × (w.at < PAST_WORDS)
+  pub can-write : AtWrite w v → (w.node < PAST_WORDS) × (w.start < PAST_WORDS) × (w.at < PAST_WORDS)
   can-write a =
       let q = b.view.held (record { start = w.start; size = size_below (state_in w); written = take (w.at - w.start) (block_words (own_block w)) }) a.held in
       (known-small w.node a.may.down.known, omega (arith, q, small-end), omega (arith, q, small-end, a.at))

@@ -28,3 +28,4 @@ mod KeepsAdds
 mod Endings
 mod MemberLaws
 mod HalfLaws
+mod NodeCells

@@ -15,7 +15,7 @@ use Rattle.walker.specs.Climbs.{half_adds}
 use Rattle.walker.proofs.MemberLaws.{in-more, out-more, members-low, members-high}
 
 -- none passes
-none-filter : (p : ℕ → Bool) (a n : ℕ) → ((i : ℕ) → a ≤ i → p i ≡ false) → filter p (range_with_len a n) ≡ []
+pub none-filter : (p : ℕ → Bool) (a n : ℕ) → ((i : ℕ) → a ≤ i → p i ≡ false) → filter p (range_with_len a n) ≡ []
 none-filter p a zero h = refl
 none-filter p a (suc n) h =
     ap (λ (t : Bool). cond t (a ∷ filter p (range_with_len (a + 1) n)) (filter p (range_with_len (a + 1) n))) (h a (omega arith))
@@ -29,7 +29,7 @@ same-filter p q a (suc n) h =
     ∙ ap (λ (xs : List ℕ). cond (q a) (a ∷ xs) xs) (same-filter p q (a + 1) n (λ i l. h i (omega arith)))
 
 -- the least that passes is the first
-least-filter : (p q : ℕ → Bool) (a n c : ℕ) → a ≤ c → c < a + n → p c ≡ true → ((i : ℕ) → i < c → p i ≡ false)
+pub least-filter : (p q : ℕ → Bool) (a n c : ℕ) → a ≤ c → c < a + n → p c ≡ true → ((i : ℕ) → i < c → p i ≡ false)
     → ((i : ℕ) → q i ≡ (p i && not (i == c))) → filter p (range_with_len a n) ≡ c ∷ filter q (range_with_len a n)
 least-filter p q a zero c l m t below rest = absurd (omega arith)
 least-filter p q a (suc n) c l m t below rest = ⊎_elim
@@ -79,6 +79,10 @@ adds-next first won cells left rest c l t below out =
     ap (map (λ k. record { word = first + 4 * members cells k; won = won }))
     (least-filter (has_cell left) (has_cell rest) 0 64 c (omega arith) (omega arith) t below out)
 
+-- some number passes
+pub none-cons : (p : ℕ → Bool) (a n k : ℕ) → a ≤ k → k < a + n → p k ≡ true → filter p (range_with_len a n) ≡ [] → ⊥
+none-cons p a n k l m t e = let some = filter_some p a n k t l m in let none : length (filter p (range_with_len a n)) ≡ 0 = ap length e in omega (arith, some, none)
+
 -- where a cell is left, so is an add
 pub adds-some : (first : ℕ) (won : Bool) (cells left c : ℕ) → c < 64 → has_cell left c ≡ true → half_adds first won cells left ≡ [] → ⊥
 unfolding half_adds
@@ -89,11 +93,8 @@ adds-some first won cells left c l t e =
     no-map f [] e = refl
     no-map f (x ∷ xs) e = absurd (let n : suc (length (map f xs)) ≡ 0 = ap length e in omega (arith, n))
 
-    none-cons : (p : ℕ → Bool) (a n k : ℕ) → a ≤ k → k < a + n → p k ≡ true → filter p (range_with_len a n) ≡ [] → ⊥
-    none-cons p a n k l m t e = let some = filter_some p a n k t l m in let none : length (filter p (range_with_len a n)) ≡ 0 = ap length e in omega (arith, some, none)
-
 -- no number past a range passes
-longer : (p : ℕ → Bool) (a n m : ℕ) → ((i : ℕ) → a + n ≤ i → p i ≡ false) → filter p (range_with_len a (n + m)) ≡ filter p (range_with_len a n)
+pub longer : (p : ℕ → Bool) (a n m : ℕ) → ((i : ℕ) → a + n ≤ i → p i ≡ false) → filter p (range_with_len a (n + m)) ≡ filter p (range_with_len a n)
 longer p a zero m h = ap (λ (z : ℕ). filter p (range_with_len a z)) (none-plus m) ∙ none-filter p a m (λ i l. h i (omega arith))
   where
     none-plus : (m : ℕ) → 0 + m ≡ m

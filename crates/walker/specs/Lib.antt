@@ -3,6 +3,7 @@ pub mod Scans
 pub mod Climbs
 pub mod Steps
 pub mod Machine
+pub mod NewNodes
 pub mod Choosing
 pub mod Underway
 pub mod Looking

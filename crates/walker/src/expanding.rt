@@ -1,13 +1,17 @@
 //! A new block: its claim, its words and its link.
 
-ghost use Rattle.std.specs.Prelude.{◌≡◌, ◌+◌, ◌-◌, ◌<◌, ◌≤◌, ◌^◌, length, slice_index};
+ghost use Rattle.std.specs.Prelude.{◌≡◌, ◌≢◌, ◌+◌, ◌-◌, ◌<◌, ◌≤◌, ◌^◌, length, slice_index};
+ghost use Rattle.std.specs.Prelude.{MatchOption};
 ghost use Rattle.play_out.specs.Fills.{empties_of};
 ghost use Rattle.tree_words.specs.Sequence.{size_below};
 ghost use Rattle.walker.specs.Machine.{asks_block, claimed, linked_now, own_block, state_in};
 ghost use Rattle.walker.specs.Machine.{word_of_block, written};
+ghost use Rattle.walker.specs.NewNodes.{AreNodesOf, with_nodes};
+ghost use Rattle.walker.specs.declared.stages.Stage.{Stage};
 
 use super::PAST_WORDS;
 use super::machine::Walker;
+use super::new_nodes::NewNodes;
 use super::stages::Stage;
 use tree_words::layout::{
     COUNT_WORD, HEADER_WORDS, HIGH_EMPTIES_SHIFT, HIGH_EMPTIES_WORD, LINK_WORD, LOW_EMPTIES_WORD,
@@ -114,6 +118,39 @@ impl Walker {
         } else {
             self.stage = Stage::Publishing;
             self.at = self.node + LINK_WORD as u32;
+        }
+    }
+
+    /// The nodes of the held block, where the walker has written its header and none of them;
+    /// `None` exactly elsewhere.
+    pub fn new_nodes(&self) -> Option<NewNodes>
+        ensures { MatchOption result
+            (self.now.stage ≡ Stage.Writing → self.now.at ≢ self.now.start + HEADER_WORDS)
+            (λ nodes. (self.now.stage ≡ Stage.Writing) × (self.now.at ≡ nodes.at)
+            × (nodes.place ≡ 0) × AreNodesOf self.now nodes) }
+    {
+        // The size bounds the board's cells.
+        let _size = self.board.size();
+        let written = self.at.saturating_sub(self.start);
+        match self.stage {
+            Stage::Writing if written == HEADER_WORDS as u32 => {
+                Some(NewNodes::of(self.at, self.board.empties()))
+            }
+            _ => None,
+        }
+    }
+
+    /// Goes on with the nodes that are left now, after some that were written by themselves. After
+    /// the last the link is next.
+    pub fn put_new_nodes(&mut self, nodes: NewNodes)
+        requires { self.old.node < PAST_WORDS }
+        ensures { self.new ≡ with_nodes self.old nodes }
+    {
+        if nodes.is_done() {
+            self.stage = Stage::Publishing;
+            self.at = self.node + LINK_WORD as u32;
+        } else {
+            self.at = nodes.at();
         }
     }
 

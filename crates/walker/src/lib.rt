@@ -42,6 +42,7 @@ mod climbs;
 mod descending;
 mod expanding;
 mod machine;
+mod new_nodes;
 mod scans;
 mod stages;
 #[cfg(test)]
@@ -50,6 +51,7 @@ mod ways;
 
 pub use climbs::Climb;
 pub use machine::{WALK_STEPS, Walker};
+pub use new_nodes::NewNodes;
 pub use scans::{Phase, Scan};
 pub use stages::Stage;
 pub use ways::{Level, Way};

@@ -2,10 +2,11 @@
 use Rattle.std.specs.Prelude.{ℕ}
 use Rattle.hex_engine.specs.declared.options.Options.{Options}
 use Rattle.htp_session.specs.Devices.{DevicesState, shelf_and_archive}
-use Rattle.htp_session.specs.Endings.{Outcome, Conversed}
+use Rattle.htp_session.specs.Endings.{Outcome, ConversedInGoodTurns}
 
--- a conversation with these options, from an empty board of that size, came to this outcome
+-- a conversation with these options, from an empty board of that size, came to this outcome, and
+-- each turn that it used up is good
 abbrev pub Converses : Options → ℕ → ℕ → DevicesState → DevicesState → Outcome → Type 0
 Converses options size limit old new outcome =
-    Conversed outcome options size limit (shelf_and_archive old) (shelf_and_archive new)
-    old.link new.link
+    ConversedInGoodTurns outcome options size limit (shelf_and_archive old)
+    (shelf_and_archive new) old.link new.link

@@ -5,14 +5,14 @@ use Rattle.htp_session.proofs.Conversations.{conversed_same}
 use Rattle.hex_cli.specs.Modes.{engine_options}
 use Rattle.hex_cli.specs.Statuses.{stop_in}
 use Rattle.hex_cli.specs.declared.limits.TheConstants.{INPUT_LIMIT}
-use Rattle.hex_cli.proofs.RunLaws.{played, stop_in_end}
+use Rattle.hex_cli.proofs.RunLaws.{stop_in_end}
 use Rattle.hex_cli.proofs.playing.play.Goals as goal
 
 pub returns-clause-plays : goal.returns-clause-plays
 returns-clause-plays g c =
-    rw c.of.ensures (played c.converse-outcome.result (engine_options c.args.options.now) c.args.options.now.size INPUT_LIMIT _ _ _ _
-    (conversed_same c.converse-outcome.result c.engine_options.result (engine_options c.args.options.now) c.board_size.result c.args.options.now.size INPUT_LIMIT _ _ _ _
-    c.engine_options.ensures.value c.board_size.ensures c.converse-outcome.ensures.converses))
+    let held = conversed_same c.converse-outcome.result c.engine_options.result (engine_options c.args.options.now) c.board_size.result c.args.options.now.size INPUT_LIMIT _ _ _ _
+    c.engine_options.ensures.value c.board_size.ensures c.converse-outcome.ensures.converses in
+    (held.0, (c.converse-outcome.result, c.of.ensures, held.1), held.2)
 
 pub returns-clause-counts : goal.returns-clause-counts
 returns-clause-counts g c =

@@ -18,3 +18,21 @@ returns-in-Sim-clause-does g c = rw c.in-Sim.is c.simulate.ensures.hands
 
 pub returns-in-Bench-clause-does : goal.returns-in-Bench-clause-does
 returns-in-Bench-clause-does g c = rw c.in-Bench.is c.bench.ensures.hands
+
+pub returns-in-Htp-clause-idle : goal.returns-in-Htp-clause-idle
+returns-in-Htp-clause-idle g c = rw c.in-Htp.is tt
+
+pub returns-in-Check-clause-idle : goal.returns-in-Check-clause-idle
+returns-in-Check-clause-idle g c = rw c.in-Check.is (c.answer.ensures.unfetched, c.answer.ensures.unarchived)
+
+pub returns-in-Migrate-clause-idle : goal.returns-in-Migrate-clause-idle
+returns-in-Migrate-clause-idle g c = rw c.in-Migrate.is (c.answer-in-Migrate.ensures.unfetched, c.answer-in-Migrate.ensures.unarchived)
+
+pub returns-in-Audit-clause-idle : goal.returns-in-Audit-clause-idle
+returns-in-Audit-clause-idle g c = rw c.in-Audit.is (c.answer-in-Audit.ensures.unfetched, c.answer-in-Audit.ensures.unarchived)
+
+pub returns-in-Sim-clause-idle : goal.returns-in-Sim-clause-idle
+returns-in-Sim-clause-idle g c = rw c.in-Sim.is c.simulate.ensures.unfetched
+
+pub returns-in-Bench-clause-idle : goal.returns-in-Bench-clause-idle
+returns-in-Bench-clause-idle g c = rw c.in-Bench.is c.bench.ensures.unfetched

@@ -1,12 +1,15 @@
 -- Words that made options are well formed, and what was done for these options was done for them.
 use Rattle.std.proofs.Common.{◌≡◌, Some, subst}
 use Rattle.hexd_words.specs.declared.settings.Options.{Options}
-use Rattle.hex_cli.specs.Served.{ServesIn}
-use Rattle.hex_cli.proofs.Doings.{does_no_usage, does_nothing}
+use Rattle.hex_cli.specs.Served.{ServesIn, StandsIdleIn, told_of}
+use Rattle.hex_cli.proofs.Doings.{does_no_usage, does_nothing, idle_self}
 use Rattle.hex_cli.proofs.serving.serve.Goals as goal
 
 pub returns-in-Err-clause-does : goal.returns-in-Err-clause-does
-returns-in-Err-clause-does g c = λ options well_formed. does_nothing options.mode options c.args.devices.now
+returns-in-Err-clause-does g c = λ options well_formed. does_nothing options.mode options (told_of c.args.devices.now)
+
+pub returns-in-Err-clause-idle : goal.returns-in-Err-clause-idle
+returns-in-Err-clause-idle g c = λ options well_formed. idle_self options.mode c.args.devices.now
 
 pub returns-in-Ok-None-clause-usage : goal.returns-in-Ok-None-clause-usage
 returns-in-Ok-None-clause-usage g c = λ e options well_formed.
@@ -17,6 +20,9 @@ pub returns-in-Ok-None-clause-does : goal.returns-in-Ok-None-clause-does
 returns-in-Ok-None-clause-does g c = λ options well_formed.
     let made : c.in-Ok-None.field-0 ≡ Some options = (c.in-Ok-None.ensures.exact options).1 well_formed in
     absurd cc
+
+pub returns-in-Ok-None-clause-idle : goal.returns-in-Ok-None-clause-idle
+returns-in-Ok-None-clause-idle g c = λ options well_formed. idle_self options.mode c.args.devices.now
 
 pub returns-clause-usage : goal.returns-clause-usage
 returns-clause-usage g c = λ e. absurd (does_no_usage c.in-Ok-Some.options.mode c.in-Ok-Some.options c.in_mode.result _ _ c.in_mode.ensures.does e)
@@ -34,4 +40,10 @@ pub returns-clause-does : goal.returns-clause-does
 returns-clause-does g c = λ options well_formed.
     let made : c.in-Ok-Some.field-0 ≡ Some options = (c.in-Ok-Some.ensures.exact options).1 well_formed in
     let same : c.in-Ok-Some.options ≡ options = cc in
-    subst (λ (o : Options). ServesIn o.mode o c.in_mode.result c.args.devices.now c.in_mode.new.devices) same c.in_mode.ensures.does
+    subst (λ (o : Options). ServesIn o.mode o c.in_mode.result (told_of c.args.devices.now) (told_of c.in_mode.new.devices)) same c.in_mode.ensures.does
+
+pub returns-clause-idle : goal.returns-clause-idle
+returns-clause-idle g c = λ options well_formed.
+    let made : c.in-Ok-Some.field-0 ≡ Some options = (c.in-Ok-Some.ensures.exact options).1 well_formed in
+    let same : c.in-Ok-Some.options ≡ options = cc in
+    subst (λ (o : Options). StandsIdleIn o.mode c.args.devices.now c.in_mode.new.devices) same c.in_mode.ensures.idle

@@ -1,7 +1,8 @@
 use Rattle.std.proofs.Common.{◌∙◌, ap}
 use Rattle.std.proofs.lemmas.Result.{IfOk-weaker}
 use Rattle.clap.specs.Words.{App}
-use Rattle.hexd_words.specs.Command.{hexd_app, knob_table, other_table, with_options}
+use Rattle.option_words.specs.Command.{with_options}
+use Rattle.hexd_words.specs.Table.{hexd_app, knob_table, other_table}
 use Rattle.hexd_words.proofs.command.command.Goals as goal
 
 pub returns : goal.returns

@@ -1,5 +1,5 @@
 use Rattle.std.proofs.lemmas.Result.{IfOk-weaker}
-use Rattle.hexd_words.proofs.CommandLemmas.{one_more}
+use Rattle.option_words.proofs.CommandLemmas.{one_more}
 use Rattle.hexd_words.proofs.command.with_knobs.Goals as goal
 
 pub returns : goal.returns

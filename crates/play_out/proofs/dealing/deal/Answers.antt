@@ -33,13 +33,15 @@ pub pairs-preserved : goal.pairs-preserved
 pairs-preserved c =
     let inv = c.pairs.invariant in
     let before : ℕ = stones_of c.args.board.now c.args.to_move in
+    let one = c.settle-cell in
+    let two = c.settle-in-pairs in
     record {
-      shuffling = next_shuffling _ _ c.settle-in-pairs.new.cells c.settle-in-pairs.new.generator _ _ (c.pairs.i - 1) _
-          (next_shuffling _ _ c.pairs.cells c.pairs.generator _ _ c.pairs.i _ inv.shuffling (omega arith) c.settle-in-pairs.ensures.order c.settle-in-pairs.ensures.same c.settle-in-pairs.ensures.count)
-          (omega arith) c.settle-in-pairs-2.ensures.order c.settle-in-pairs-2.ensures.same c.settle-in-pairs-2.ensures.count;
-      dealt = subst (Dealt before c.settle-in-pairs-2.new.cells (c.pairs.i - 2)) (sym c.with-stones.ensures.value)
-          (dealt-two before c.pairs.cells c.settle-in-pairs.new.cells c.settle-in-pairs-2.new.cells c.pairs.i c.pairs.stones c.index-cells-i.result inv.dealt c.pairs-test.true inv.shuffling.within
-          c.settle-in-pairs.ensures.count c.settle-in-pairs-2.ensures.count c.settle-in-pairs.ensures.later c.settle-in-pairs-2.ensures.later c.index-cells-i.is);
+      shuffling = next_shuffling _ _ one.new.cells one.new.generator two.new.generator two.new.cells (c.pairs.i - 1) _
+          (next_shuffling _ _ c.pairs.cells c.pairs.generator one.new.generator one.new.cells c.pairs.i (c.pairs.i - 1) inv.shuffling (omega arith) one.ensures.order one.ensures.same one.ensures.count)
+          (omega arith) two.ensures.order two.ensures.same two.ensures.count;
+      dealt = subst (Dealt before two.new.cells (c.pairs.i - 2)) (sym c.with-stones.ensures.value)
+          (dealt-two before c.pairs.cells one.new.cells two.new.cells c.pairs.i c.pairs.stones one.result inv.dealt c.pairs-test.true inv.shuffling.within
+          one.ensures.count two.ensures.count one.ensures.later two.ensures.later one.ensures.cell);
     }
 
 pub returns-then-i-gt0-2-clause-order : goal.returns-then-i-gt0-2-clause-order

@@ -30,8 +30,8 @@ returns-then-same_block c =
     let count = c.write_block-count.ensures.count in
     let all = stands_is c.args.shape.now c.args.board.now c.args.parent c.args.at c.empties-empties.result (listed c.size.result c.cells_below-cells.result) _ c.write_block-count.new.words c.empties-empties.ensures cells c.write_block-count.ensures.words in (
       record {
-        inside = omega (arith, long, count, c.if-words-end.false, c.requires.long);
-        claimed = omega (arith, long, count, c.if-words-end-2.false);
+        inside = omega (arith, long, count, c.if-len-end.false, c.len.ensures, c.requires.long);
+        claimed = omega (arith, long, count, c.if-at-end.false, c.at.ensures);
         shown = all c.args.words.now (λ i l t. c.if-same_block.ensures.0 refl i (omega (arith, l, long, count)) t);
       },
       omega (arith, long, count),

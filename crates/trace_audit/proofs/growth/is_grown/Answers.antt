@@ -6,7 +6,7 @@ use Rattle.trace_audit.proofs.Matches.{if_yes, if_no, match_on}
 use Rattle.trace_audit.proofs.SiteLaws.{sites_cells, sites_within}
 use Rattle.trace_audit.proofs.Verifying.{grown_of, not_first, not_frugal, room_of}
 use Rattle.trace_audit.proofs.growth.is_grown.Goals as goal
-use Rattle.trace_audit.proofs.growth.is_grown.Goals.{else-words-via-then-words+else-not-each_frugal, else-words-via-else-words}
+use Rattle.trace_audit.proofs.growth.is_grown.Goals.{else-at-len-via-then-at-len+else-not-each_frugal, else-at-len-via-else-at-len}
 
 pub each_first-requires : goal.each_first-requires
 each_first-requires c = sites_within c.args.shape.now c.args.words.now c.args.table.now c.requires.sums.0 c.board-board.ensures.setting c.requires.long c.requires.sums.1
@@ -27,7 +27,7 @@ pub returns-then-not-each_frugal : goal.returns-then-not-each_frugal
 returns-then-not-each_frugal c = λ bs lk rec a.
     let most : c.from.result * c.from-2.result ≡ c.args.shape.now.knobs.workers * c.args.shape.now.knobs.expand
     = λ i. (c.from.ensures ∙ ap (λ k. k.workers) c.knobs-knobs.ensures.value) i * (c.from-2.ensures ∙ ap (λ k. k.expand) c.knobs-knobs.ensures.value) i in
-    not_frugal c.args.shape.now c.args.words.now c.args.table.now bs c.board-board.ensures.setting c.requires.long lk c.args.sums.now a (omega (arith, c.if-words.true, c.requires.long))
+    not_frugal c.args.shape.now c.args.words.now c.args.table.now bs c.board-board.ensures.setting c.requires.long lk c.args.sums.now a (omega (arith, c.if-at-len.true, c.at.ensures, c.len.ensures, c.requires.long))
     (subst (λ (m : ℕ). SomeSite c.args.table.now (λ p. AreFrugal c.args.words.now c.args.sums.now m p → ⊥)) most (if_no c.each_frugal.result _ _ c.each_frugal.ensures c.if-not-each_frugal.true))
 
 pub is_next_bounded-requires-clause-root : goal.is_next_bounded-requires-clause-root
@@ -40,9 +40,9 @@ returns c = λ bs lk rec a.
     = λ i. (c.from.ensures ∙ ap (λ k. k.workers) c.knobs-knobs.ensures.value) i * (c.from-2.ensures ∙ ap (λ k. k.expand) c.knobs-knobs.ensures.value) i in
     let first = subst (λ (m : ℕ). EachSite c.args.table.now (λ p. IsFirst c.args.words.now m p.start)) workers (if_yes c.each_first.result _ _ c.each_first.ensures c.if-not-each_first.false) in
     let frugal : next_in c.args.words.now ≤ end_of c.args.shape.now → EachSite c.args.table.now (AreFrugal c.args.words.now c.args.sums.now (c.args.shape.now.knobs.workers * c.args.shape.now.knobs.expand))
-    = elim c.else-words.branch [
-      | else-words-via-then-words+else-not-each_frugal w ↦ λ l. subst (λ (m : ℕ). EachSite c.args.table.now (AreFrugal c.args.words.now c.args.sums.now m)) most (if_yes w.each_frugal.result _ _ w.each_frugal.ensures w.if-not-each_frugal.false)
-      | else-words-via-else-words w ↦ λ l. absurd (omega (arith, w.if-words.false, l, c.requires.long))
+    = elim c.else-at-len.branch [
+      | else-at-len-via-then-at-len+else-not-each_frugal w ↦ λ l. subst (λ (m : ℕ). EachSite c.args.table.now (AreFrugal c.args.words.now c.args.sums.now m)) most (if_yes w.each_frugal.result _ _ w.each_frugal.ensures w.if-not-each_frugal.false)
+      | else-at-len-via-else-at-len w ↦ λ l. absurd (omega (arith, w.if-at-len.false, c.at.ensures, c.len.ensures, l, c.requires.long))
     ] in
     match_on c.is_next_bounded.result _ _ _ _ (grown_of c.args.shape.now c.args.words.now c.args.table.now bs c.board-board.ensures.setting c.requires.long lk c.args.sums.now a rec first frugal)
     (λ n g. n (room_of c.args.shape.now c.args.words.now c.args.table.now bs c.board-board.ensures.setting c.requires.long lk c.args.sums.now a g)) c.is_next_bounded.ensures

@@ -1,4 +1,5 @@
-use Rattle.std.proofs.Common.{◌∙◌, arith}
+use Rattle.std.proofs.Common.{ap, ◌∙◌, arith}
+use Rattle.tree_words.specs.Words.{cell_in}
 use Rattle.trace_audit.proofs.LinkedLaws.{cell_empty, cell_small, cell_state, entry_least, lies_in, node_most}
 use Rattle.trace_audit.proofs.recording.site_of.Goals as goal
 
@@ -15,15 +16,8 @@ index-requires-2 c =
     let k = entry_least r.0 c.args.words.now c.args.table.now r.1 r.2.0 r.2.2 r.3.0 r.3.1 c.args.block c.index.result.now r.3.2 c.index.ensures in
     omega (arith, k.1, c.args.table.now.sites.ok.0)
 
-pub offset_bounds-words-node : goal.offset_bounds-words-node
-offset_bounds-words-node c =
-    let r = c.requires in
-    let m = node_most r.0 c.args.words.now c.args.table.now r.1 r.2.0 r.2.2 r.3.0 c.args.node r.3.1 r.3.3 in
-    let k = r.2.0.ranges in
-    omega (arith, m, k.playouts, k.words)
-
-pub bounds-words-node : goal.bounds-words-node
-bounds-words-node c =
+pub at-requires : goal.at-requires
+at-requires c =
     let r = c.requires in
     let m = node_most r.0 c.args.words.now c.args.table.now r.1 r.2.0 r.2.2 r.3.0 c.args.node r.3.1 r.3.3 in
     omega (arith, m, r.2.1)
@@ -31,15 +25,15 @@ bounds-words-node c =
 pub numbered-requires : goal.numbered-requires
 numbered-requires c =
     let r = c.requires in
-    cell_small r.0 c.args.words.now c.args.table.now r.1 r.2.0 r.2.2 r.3.0 r.3.1 c.args.block c.index.result.now r.3.2 c.index.ensures c.args.node c.cell_of.result r.3.3 c.cell_of.ensures c.index-2.result.now c.index-2.ensures
+    cell_small r.0 c.args.words.now c.args.table.now r.1 r.2.0 r.2.2 r.3.0 r.3.1 c.args.block c.index.result.now r.3.2 c.index.ensures c.args.node c.cell_of.result r.3.3 (c.cell_of.ensures ∙ ap cell_in c.at.ensures) c.index-2.result.now c.index-2.ensures
 
 pub after-requires : goal.after-requires
 after-requires c =
     let r = c.requires in
-    cell_empty r.0 c.args.words.now c.args.table.now r.1 r.2.0 r.2.2 r.3.0 r.3.1 c.args.block c.index.result.now r.3.2 c.index.ensures c.args.node c.numbered.result r.3.3 (c.numbered.ensures ∙ c.cell_of.ensures) c.index-2.result.now c.index-2.ensures
+    cell_empty r.0 c.args.words.now c.args.table.now r.1 r.2.0 r.2.2 r.3.0 r.3.1 c.args.block c.index.result.now r.3.2 c.index.ensures c.args.node c.numbered.result r.3.3 (c.numbered.ensures ∙ (c.cell_of.ensures ∙ ap cell_in c.at.ensures)) c.index-2.result.now c.index-2.ensures
 
 pub returns : goal.returns
 returns c = λ s bs g a.
     let h = g.0 in let long = g.1 in let lk = g.2 in
     let b = a.0 in let i = a.1 in let at = a.2 in let n = a.3 in
-    cell_state s c.args.words.now c.args.table.now bs h lk b i c.args.block c.index.result.now at c.index.ensures c.args.node c.numbered.result n (c.numbered.ensures ∙ c.cell_of.ensures) c.index-2.result.now c.index-2.ensures c.after.result c.after.ensures
+    cell_state s c.args.words.now c.args.table.now bs h lk b i c.args.block c.index.result.now at c.index.ensures c.args.node c.numbered.result n (c.numbered.ensures ∙ (c.cell_of.ensures ∙ ap cell_in c.at.ensures)) c.index-2.result.now c.index-2.ensures c.after.result c.after.ensures

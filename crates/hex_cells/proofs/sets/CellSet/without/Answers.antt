@@ -1,18 +1,23 @@
-use Rattle.std.proofs.Common.{◌<◌, ◌≤◌, ◌-◌, ◌*◌, ◌%◌, ◌^◌, arith, sym, bit_and}
+use Rattle.std.proofs.Common.{◌≡◌, ℕ, ◌&&◌, ◌==◌, not, ◌≤◌, ◌-◌, ◌^◌, arith, sym, ap, ◌∙◌, bit_and}
 use Rattle.std.proofs.lemmas.Nat.{and_le_l}
-use Rattle.hex_cells.proofs.Bits.{has_cleared, cleared_value, cleared_less}
+use Rattle.hex_cells.specs.Sets.{has}
+use Rattle.hex_cells.proofs.Bits.{has_minus, minus_value, cleared_less}
+use Rattle.hex_cells.proofs.WithCell.{has_pow}
 use Rattle.hex_cells.proofs.sets.CellSet.without.Goals as goal
 
 pub returns : goal.returns
 returns c =
     let a = c.self.inside.bits in
-    let k = c.number.result in
-    let l : k < 121 = c.number.ensures.range in
-    let r : bit_and a (2 ^ 128 - 1 - 1 * 2 ^ k % 2 ^ 128) ≤ a = and_le_l a (2 ^ 128 - 1 - 1 * 2 ^ k % 2 ^ 128) in
-    rw (sym c.self.view_is, sym c.number.ensures.value) (record {
-      value = cleared_value a k c.self.invariant l;
+    let s = c.single.result in
+    let l = c.single.ensures.range in
+    let e = c.single.ensures.value in
+    let k = c.args.cell in
+    let r : bit_and a (2 ^ 128 - 1 - s) ≤ a = and_le_l a (2 ^ 128 - 1 - s) in
+    let items : (j : ℕ) → has (bit_and a (2 ^ 128 - 1 - s)) j ≡ (has a j && not (j == k)) = λ j. has_minus a s j c.self.invariant l ∙ ap (λ v. has a j && not v) (ap (λ v. has v j) e ∙ has_pow k j) in
+    rw (sym c.self.view_is) (record {
+      value = cc (minus_value a s c.self.invariant l, e);
       shrinks = r;
-      fewer = cleared_less a (bit_and a (2 ^ 128 - 1 - 1 * 2 ^ k % 2 ^ 128)) k r (has_cleared a k k c.self.invariant l);
+      fewer = cleared_less a (bit_and a (2 ^ 128 - 1 - s)) k r (items k);
       small = omega (arith, r, c.self.invariant);
-      items = λ j. has_cleared a k j c.self.invariant l;
+      items = items;
     })

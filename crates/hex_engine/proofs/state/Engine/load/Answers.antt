@@ -1,6 +1,6 @@
 use Rattle.std.proofs.Common.{Ok, [], ◌∷◌, sym, ap, ◌∙◌, subst}
 use Rattle.hex_engine.specs.Supply.{loads_only}
-use Rattle.hex_engine.specs.declared.files.Loaded.TheVariants.{Unread, Refused, Loads}
+use Rattle.hex_engine.specs.declared.loadsgf.Loaded.TheVariants.{Unread, Refused, Loads}
 use Rattle.hex_engine.specs.Uses.{Loading}
 use Rattle.hex_engine.specs.LoadReplies.{loading_by}
 use Rattle.hex_engine.proofs.Using.{unfetched, loads_reply}

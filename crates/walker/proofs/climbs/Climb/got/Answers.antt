@@ -1,5 +1,5 @@
 -- The least cell that is left falls out, and after the last of a half the other half is next.
-use Rattle.std.proofs.Common.{◌≡◌, ◌++◌, ◌*◌, ◌^◌, ◌%◌, bit_xor, sym, ap, ◌∙◌, arith, append-nil}
+use Rattle.std.proofs.Common.{◌++◌, ◌*◌, ◌^◌, ◌%◌, bit_xor, sym, ap, ◌∙◌, arith, append-nil}
 use Rattle.std.specs.Int.{trailing_zeros, w64}
 use Rattle.walker.specs.Climbs.{adds_after, half_adds}
 use Rattle.walker.proofs.HalfLaws.{none-in, next-in}

@@ -1,0 +1,15 @@
+# Completion of hexmatch's words for fish: each option. A number is the user's own.
+complete -c hexmatch -f
+complete -c hexmatch -l size -x -d 'Cells on a side of the board: 1 to 11'
+complete -c hexmatch -l games -x -d 'Games of the match: 1 to 1,000'
+complete -c hexmatch -l threads -x -d 'Threads in which games are played: 1 to 64'
+complete -c hexmatch -l seed -x -d 'Seed of the match: 0 to 18,446,744,073,709,551,615'
+complete -c hexmatch -l records -x -a 'on off' -d 'Whether records of the games are written: on or off'
+complete -c hexmatch -l playouts-a -x -d 'Playouts of side a for a move: 1 to 1,000,000'
+complete -c hexmatch -l playouts-b -x -d 'Playouts of side b for a move: 1 to 1,000,000'
+complete -c hexmatch -l words-a -x -d 'Words that the blocks of a tree of side a have: 1,024 to 16,777,216'
+complete -c hexmatch -l words-b -x -d 'Words that the blocks of a tree of side b have: 1,024 to 16,777,216'
+complete -c hexmatch -l expand-a -x -d 'Visits from which on a node of side a gets children: 1 to 1,000'
+complete -c hexmatch -l expand-b -x -d 'Visits from which on a node of side b gets children: 1 to 1,000'
+complete -c hexmatch -l weight-a -x -d 'How much few visits count in a score of side a: 0 to 1,024'
+complete -c hexmatch -l weight-b -x -d 'How much few visits count in a score of side b: 0 to 1,024'

@@ -1,0 +1,30 @@
+-- Mode htp: what stands of a session, and of the turns that it used up.
+use Rattle.std.specs.Prelude.{List}
+use Rattle.std.specs.List.{AllByRecursion}
+use Rattle.hexd_words.specs.declared.settings.Options.{Options}
+use Rattle.hex_plan.specs.Laws.{LosesOutsideThreats, LosesWhereLost}
+use Rattle.hex_plan.specs.Turns.{TurnData}
+use Rattle.hex_engine.specs.Supply.{Supply}
+use Rattle.hex_engine.specs.Uses.{AreGood}
+use Rattle.hex_cli.specs.Modes.{DevicesTold, PlaysBy, engine_options}
+use Rattle.hex_cli.specs.declared.ends.End.{End}
+
+-- a session came to this end
+abbrev pub HasPlayed : Options → End → DevicesTold → DevicesTold → Type 0
+HasPlayed options end before after = (used : Supply) × PlaysBy used options end before after
+
+-- the same, and each turn that it used up is good
+abbrev pub HasGoodTurns : Options → End → DevicesTold → DevicesTold → Type 0
+HasGoodTurns options end before after = (used : Supply) × PlaysBy used options end before after
+    × AreGood (engine_options options) used.turns
+
+-- each move outside the carrier of one of the turn's threats loses, and where its plan says that
+-- the board is lost each move does
+pub record HasTrueThreats (turn : TurnData) : Type 0 where
+  pub outside : LosesOutsideThreats turn
+  pub where_lost : LosesWhereLost turn
+
+-- the same, and of each turn that it used up the threats are true
+abbrev pub HasKnownThreats : Options → End → DevicesTold → DevicesTold → Type 0
+HasKnownThreats options end before after = (used : Supply) × PlaysBy used options end before after
+    × AllByRecursion HasTrueThreats used.turns

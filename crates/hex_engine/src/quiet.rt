@@ -1,0 +1,46 @@
+//! What a quiet command does: one match over them.
+
+ghost use Rattle.std.specs.Prelude.{◌≡◌, IfOk, OnErr};
+ghost use Rattle.hex_engine.specs.BoardReplies.{in_conversation};
+ghost use Rattle.hex_engine.specs.QuietReplies.{quiet_reaction};
+ghost use Rattle.hex_engine.specs.Requests.{Reacts, TellsNoFault};
+
+use super::answers::{Answer, Memory};
+use super::boards::{clear, play, resize, undo};
+use super::commands::Quiet;
+use super::last_turn::{tell_certificate, tell_plan, tell_report};
+use super::state::Engine;
+use super::telling::{know, list, name_of_winner, print_game, quit, show, tell};
+use htp_line::Bytes;
+
+impl Engine {
+    /// Does what a command says that uses nothing up.
+    #[tactic(auto, unfolding(crate::specs::QuietReplies::quiet_reaction))]
+    pub(super) fn obey(&mut self, command: Quiet, args: &[Bytes]) -> Result<Answer, Memory>
+        ensures ok { IfOk result
+            (λ answer. Reacts
+            (in_conversation self.old (quiet_reaction self.old command args.now)) answer self.new) }
+        ensures calm { IfOk result TellsNoFault }
+        ensures err { OnErr result (self.new ≡ self.old) }
+    {
+        let alloc = self.alloc;
+        match command {
+            Quiet::BoardSize => Ok(resize(alloc, &mut self.game, args)),
+            Quiet::ClearBoard => Ok(clear(alloc, &mut self.game, args)),
+            Quiet::KnownCommand => know(alloc, args),
+            Quiet::ListCommands => list(alloc, args),
+            Quiet::MustPlay => tell_plan(alloc, args, &self.last),
+            Quiet::Name => tell(alloc, args, b"hexd"),
+            Quiet::Play => Ok(play(alloc, &mut self.game, args)),
+            Quiet::PrintSgf => print_game(alloc, args, &self.game),
+            Quiet::ProtocolVersion => tell(alloc, args, b"2"),
+            Quiet::Quit => Ok(quit(args)),
+            Quiet::SearchReport => tell_report(alloc, args, &self.last),
+            Quiet::ShowBoard => show(alloc, args, self.game.board()),
+            Quiet::Undo => Ok(undo(alloc, &mut self.game, args)),
+            Quiet::Version => tell(alloc, args, b"1.0"),
+            Quiet::WinCert => tell_certificate(alloc, args, &self.last),
+            Quiet::Winner => tell(alloc, args, name_of_winner(self.game.board())),
+        }
+    }
+}

@@ -1,0 +1,58 @@
+//! The program `hexmatch`: [`match_ref::run_match`] over the standard streams of the process.
+//!
+//! **What it is.** The words of the command line, standard output for the text, standard error for
+//! the one line of a failure, and the status as the exit code. Nothing is read.
+//!
+//! **A caller** is the shell: `hexmatch --size 7 --games 20 --playouts-b 4000`.
+//!
+//! **What is proved.** That it is safe and ends whenever its games do. What it answers is proved of
+//! [`match_ref::run_match`].
+//!
+//! **Only tested, or not said.** What the terminal or another program got.
+//!
+//! **Limits.** An argument that is no text is a wrong word.
+#![tactic(auto)]
+
+use hex_io::{ErrLink, StdLink, Word, report};
+use match_ref::{End, run_match};
+use search_team::OpenGate;
+use std::process::ExitCode;
+use std::thread::Threads;
+use std::{env, io};
+
+fn main(rt: HostRuntime) -> ExitCode {
+    let mut errors = ErrLink::new(&rt);
+    let status = match words_of(&rt) {
+        Ok(words) => run_with(&rt, &rt, &words, &mut errors),
+        Err(end) => {
+            report(&mut errors, end.line());
+            end.status()
+        }
+    };
+    ExitCode::from(status)
+}
+
+/// A run over the standard streams. Games run in threads of `threads`, which is the runtime again:
+/// it starts threads only for who takes it as such.
+fn run_with<R: Threads + Sync>(
+    rt: &HostRuntime,
+    threads: &R,
+    words: &[Word],
+    errors: &mut ErrLink,
+) -> u8 {
+    let mut link = StdLink::new(rt);
+    run_match(threads, rt.alloc(), words, &mut link, errors, &OpenGate)
+}
+
+/// The words after the program's name, or how a run ends that can't have them.
+fn words_of(rt: &HostRuntime) -> Result<Vec<Word>, End> {
+    let arguments = match env::args(rt) {
+        Err(error) if error.kind() == io::ErrorKind::OutOfMemory => return Err(End::Memory),
+        Err(_) => return Err(End::Usage),
+        Ok(arguments) => arguments,
+    };
+    match arguments.skip(1).map(Word::of).collect(rt.alloc()) {
+        Err(_) => Err(End::Memory),
+        Ok(words) => Ok(words),
+    }
+}

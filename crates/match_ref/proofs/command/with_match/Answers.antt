@@ -1,0 +1,10 @@
+use Rattle.std.proofs.lemmas.Result.{IfOk-weaker}
+use Rattle.option_words.proofs.CommandLemmas.{one_more}
+use Rattle.match_ref.proofs.command.with_match.Goals as goal
+
+pub returns : goal.returns
+returns c =
+    IfOk-weaker c.with_option-5.result _ _ (λ m h. one_more _ _ _ _ h
+    (one_more _ _ _ _ c.in_ok-command-4.ensures
+    (one_more _ _ _ _ c.in_ok-command-3.ensures
+    (one_more _ _ _ _ c.in_ok-command-2.ensures c.in_ok-command.ensures)))) c.with_option-5.ensures

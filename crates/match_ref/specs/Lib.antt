@@ -1,0 +1,7 @@
+pub mod Matches
+pub mod Dealt
+pub mod MatchTable
+pub mod MatchWords
+pub mod MatchTexts
+pub mod Statuses
+pub mod MatchRuns

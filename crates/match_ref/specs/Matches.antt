@@ -1,0 +1,98 @@
+-- Match games: what is played in a match between two sides.
+use Rattle.std.specs.Prelude.{◌≡◌, ℕ, ◌+◌, ◌*◌, ◌%◌, ◌^◌, ◌<◌, ◌≤◌, ◌==◌, Bool, true, false}
+use Rattle.std.specs.Prelude.{List, [], ◌∷◌, Option, if◌then◌else◌}
+use Rattle.hex_cells.specs.Colours.{other_of}
+use Rattle.hex_cells.specs.declared.colours.Colour.{Colour}
+use Rattle.hex_cells.specs.declared.colours.Colour.TheVariants.{Black, White}
+use Rattle.hex_board.specs.Joined.{winner_of}
+use Rattle.hex_board.specs.Positions.{Position, empty_board}
+use Rattle.hex_game.specs.Games.{GameData, board_of, new_game, with_step}
+use Rattle.hex_game.specs.Moves.{step_of}
+use Rattle.hex_game.specs.declared.moves.Move.TheVariants.{Stone}
+use Rattle.hex_game.specs.declared.moves.Step.{Step}
+use Rattle.tree_words.specs.Settings.{AreInRange}
+use Rattle.tree_words.specs.declared.settings.Knobs.{Knobs}
+use Rattle.hex_plan.specs.Good.{IsGood}
+use Rattle.hex_plan.specs.Openings.{may_move}
+use Rattle.hex_plan.specs.Turns.{TurnData}
+use Rattle.match_ref.specs.declared.settings.Match.{Match}
+use Rattle.match_ref.specs.declared.settings.Side.{Side}
+use Rattle.match_ref.specs.declared.settings.TheConstants.{MOST_GAMES, MOST_THREADS}
+use Rattle.match_ref.specs.declared.played.Played.{Played}
+
+-- side a is Black in the games of even number, and White in the others
+abbrev pub is_side_a : ℕ → Colour → Bool
+is_side_a i Black = i % 2 == 0
+is_side_a i White = i % 2 == 1
+
+-- the side that plays this colour in game i
+abbrev pub side_of : Match → ℕ → Colour → Side
+side_of m i player = if is_side_a i player then m.a else m.b
+
+-- the seed of that side in game i: S + 2i·2^40 for side a and S + (2i+1)·2^40 for side b, modulo
+-- 2^64, where S is the seed of the match
+abbrev pub side_seed : Match → ℕ → Colour → ℕ
+side_seed m i player =
+    (m.seed + (2 * i + (if is_side_a i player then 0 else 1)) * 2 ^ 40) % 2 ^ 64
+
+-- with what that side searches in game i: with one worker
+abbrev pub side_knobs : Match → ℕ → Colour → Knobs
+side_knobs m i player = record {
+  workers = 1;
+  playouts = (side_of m i player).playouts;
+  seed = side_seed m i player;
+  words = (side_of m i player).words;
+  expand = (side_of m i player).expand;
+  weight = (side_of m i player).weight;
+}
+
+-- the cell is that of a good turn with this number on the board now, with this player to move, of a
+-- session with these knobs that looks for no connections
+pub record IsTurnCell (knobs : Knobs) (now : Position) (mover : Colour)
+    (number cell : ℕ) : Type 0 where
+  pub turn : TurnData
+  pub good : IsGood knobs false turn
+  pub board : turn.board ≡ now
+  pub player : turn.player ≡ mover
+  pub number_is : turn.number ≡ number
+  pub cell_is : turn.cell ≡ cell
+
+-- These steps are the rest of match game i, from this game on. The mover made `mine` turns before,
+-- and the other player `theirs`. The game ends where a player is joined or no cell is empty.
+abbrev pub PlaysOn : Match → ℕ → GameData → Colour → ℕ → ℕ → List Step → Type 0
+PlaysOn m i game mover mine theirs [] = may_move (board_of game) ≡ false
+PlaysOn m i game mover mine theirs (step ∷ steps) =
+    (may_move (board_of game) ≡ true) × (cell : ℕ) × (step ≡ step_of mover (Stone cell))
+    × IsTurnCell (side_knobs m i mover) (board_of game) mover mine cell
+    × PlaysOn m i (with_step game step) (other_of mover) theirs (mine + 1) steps
+
+-- the empty board of the match, without steps
+abbrev pub first_game : Match → GameData
+first_game m = new_game (empty_board m.size)
+
+-- the game of these steps
+abbrev pub game_with : Match → List Step → GameData
+game_with m steps = record { start = empty_board m.size; steps = steps }
+
+-- this is match game i: Black begins, and the winner is who is joined at the end
+pub record IsMatchGame (m : Match) (i : ℕ) (p : Played) : Type 0 where
+  pub plays : PlaysOn m i (first_game m) Black 0 0 p.steps
+  pub winner : p.winner ≡ winner_of (board_of (game_with m p.steps))
+
+-- the knobs of a side are in their ranges, whatever its seed
+abbrev pub IsSide : Side → Type 0
+IsSide s = (seed : ℕ) → seed < 2 ^ 64 → AreInRange (record {
+  workers = 1;
+  playouts = s.playouts;
+  seed = seed;
+  words = s.words;
+  expand = s.expand;
+  weight = s.weight;
+})
+
+-- the numbers of the match are in their ranges
+pub record IsMatch (m : Match) : Type 0 where
+  pub games : (1 ≤ m.games) × (m.games ≤ MOST_GAMES)
+  pub threads : (1 ≤ m.threads) × (m.threads ≤ MOST_THREADS)
+  pub side_a : IsSide m.a
+  pub side_b : IsSide m.b

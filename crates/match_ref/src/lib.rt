@@ -1,0 +1,53 @@
+//! Matches: many games between two settings of the search, side by side.
+//!
+//! **What it is.** A [`Match`] has two *sides*, each with the settings of its searches. In each
+//! game they take turns from the empty board on: side a is Black in the games of even number. A
+//! side plays with one worker and without a look for connections. A *match game* is the one that
+//! the match and its number determine.
+//!
+//! **A caller** hands in the match and gets its games in order, or hands in the words of a command
+//! line and gets the status:
+//!
+//! ```text
+//! let games = play_match(rt, alloc, &setup, &OpenGate)?;
+//! let status = run_match(rt, alloc, &words, &mut link, &mut errors, &OpenGate);
+//! ```
+//!
+//! **What is proved.** The games of [`play_match`] are the match games of specs/Matches.antt, as
+//! many as the match says and in order, whatever the number of threads and the schedule; each step
+//! is legal; and [`match_games_are_determined`]. [`read_match_words`] answers a match exactly where
+//! the words ask for it. What [`run_match`] gives is the text of the match games of its words, or a
+//! front of it with the status of a write fault, and else nothing; each status has its cause.
+//!
+//! **What is only tested, or not said.** That games are played side by side: a gate holds each of
+//! two games until the other has come. That memory suffices, that more threads are faster, and
+//! which side is the better one.
+//!
+//! **Limits.** Those of [`Match`] and [`Side`]. A thread holds one tree at a time: 16 bytes for
+//! each of a side's words, its playouts and six more. Where no thread can be made, games are played
+//! in turn.
+#![tactic(auto)]
+
+mod command;
+mod ends;
+mod halves;
+mod laws;
+mod matches;
+mod played;
+mod playing;
+mod records;
+mod refusals;
+mod running;
+mod settings;
+mod texts;
+mod words;
+
+pub use ends::End;
+pub use laws::match_games_are_determined;
+pub use matches::play_match;
+pub use played::{Played, Steps};
+pub use refusals::Memory;
+pub use running::run_match;
+pub use settings::{MOST_GAMES, MOST_THREADS, Match, Side};
+pub use texts::push_game_line;
+pub use words::{MatchWords, read_match_words};

@@ -1,0 +1,156 @@
+//! One game.
+
+ghost use Rattle.std.specs.Prelude.{◌≡◌, ◌*◌, ◌<◌, ◌≤◌, IfOk, length, true};
+ghost use Rattle.hex_board.specs.Joined.{winner_of};
+ghost use Rattle.hex_game.specs.Games.{IsOnBoard, board_of, is_legal, with_step};
+ghost use Rattle.hex_game.specs.Moves.{step_of};
+ghost use Rattle.hex_game.specs.declared.moves.Move.TheVariants.{Stone};
+ghost use Rattle.hex_game.specs.declared.moves.TheConstants.{MOST_STEPS};
+ghost use Rattle.hex_plan.specs.Openings.{may_move};
+ghost use Rattle.hex_board.specs.Positions.{empty_board};
+ghost use Rattle.tree_words.specs.Settings.{AreInRange};
+ghost use Rattle.match_ref.specs.Matches.{IsMatch, IsMatchGame, IsTurnCell, is_side_a, side_knobs};
+ghost use Rattle.match_ref.specs.declared.settings.TheConstants.{MOST_GAMES};
+
+use super::played::{Played, Steps};
+use super::refusals::Memory;
+use super::settings::{Match, Side};
+use hex_board::Board;
+use hex_cells::{Cell, CellSet, Colour, Size};
+use hex_game::{Game, Move};
+use hex_plan::{Turn, may_move, plan, turn_shape};
+use search_team::{OpenGate, search};
+use std::alloc::{AllocError, Global};
+use std::thread::Threads;
+use tree_words::Knobs;
+
+/// The seeds of two sides, or of one side in two games, are at least this far apart: a side makes
+/// fewer than 2^8 turns, and the seeds of two turns are 2^32 apart.
+const SIDE_STEP: u64 = 1 << 40;
+
+/// Whether it is side a that plays this colour in the game with this number.
+pub fn is_side_a(number: usize, player: Colour) -> bool
+    ensures { result ≡ is_side_a number player }
+{
+    match player {
+        Colour::Black => number % 2 == 0,
+        Colour::White => number % 2 == 1,
+    }
+}
+
+// With what the side searches that plays this colour in the game with this number.
+fn side_knobs(setup: &Match, number: u32, player: Colour) -> Knobs
+    requires setup { IsMatch setup.now }
+    requires few { number < MOST_GAMES }
+    ensures value { result ≡ side_knobs setup.now number player }
+    ensures ranges { AreInRange result }
+{
+    let (side, place): (&Side, u64) = if is_side_a(number as usize, player) {
+        (&setup.a, 0)
+    } else {
+        (&setup.b, 1)
+    };
+    let seed = setup
+        .seed
+        .wrapping_add((2 * number as u64 + place).wrapping_mul(SIDE_STEP));
+    Knobs {
+        workers: 1,
+        playouts: side.playouts,
+        seed,
+        words: side.words,
+        expand: side.expand,
+        weight: side.weight,
+    }
+}
+
+// The cell of the mover's next turn.
+fn turn_cell<R: Threads + Sync>(
+    rt: &R,
+    alloc: Global,
+    knobs: &Knobs,
+    board: &Board,
+    mover: Colour,
+    number: u64,
+) -> Result<Cell, Memory>
+    requires may { may_move board.now ≡ true }
+    requires ranges { AreInRange knobs.now }
+    ensures turn { IfOk result (IsTurnCell knobs.now board.now mover number) }
+    ensures on_board { IfOk result (λ cell. cell < board.now.size * board.now.size) }
+{
+    let Ok(planned) = plan(alloc, board, mover, false) else {
+        return Err(Memory);
+    };
+    let Some(allowed) = planned.allowed() else {
+        unreachable!();
+    };
+    let shape = turn_shape(board, mover, allowed, knobs, number);
+    let Ok(closed) = search(rt, alloc, &shape, &OpenGate) else {
+        return Err(Memory);
+    };
+    let turn = Turn::searched(closed, number, planned);
+    Ok(turn.cell())
+}
+
+/// The board of this size without stones.
+pub fn bare_board(size: Size) -> Board
+    ensures { result ≡ empty_board size }
+{
+    Board::of(size, CellSet::none(), CellSet::none())
+}
+
+// Puts the mover's stone on the cell.
+fn put_stone(game: &mut Game, mover: Colour, cell: Cell)
+    requires on_board { IsOnBoard (board_of game.old) (Stone cell) }
+    requires legal { is_legal game.old (step_of mover (Stone cell)) ≡ true }
+    ensures stone { game.new ≡ with_step game.old (step_of mover (Stone cell)) }
+    ensures few { length game.new.steps ≤ MOST_STEPS }
+{
+    game.play(mover, Move::Stone(cell)).unwrap();
+    game.steps_are_legal();
+}
+
+// The steps of a game, and who is joined there.
+fn played(alloc: Global, game: &Game) -> Result<Played, AllocError>
+    ensures steps { IfOk result (λ p. p.steps ≡ game.now.steps) }
+    ensures winner { IfOk result (λ p. p.winner ≡ winner_of (board_of game.now)) }
+{
+    let steps = game.steps().iter().copied().collect(alloc)?;
+    let winner = game.board().winner();
+    Ok(Played {
+        steps: Steps::of(steps),
+        winner,
+    })
+}
+
+/// Match game `number`.
+pub fn play_game<R: Threads + Sync>(
+    rt: &R,
+    alloc: Global,
+    setup: &Match,
+    number: u32,
+) -> Result<Played, Memory>
+    requires setup { IsMatch setup.now }
+    requires few { number < MOST_GAMES }
+    ensures { IfOk result (IsMatchGame setup.now number) }
+{
+    let bare = bare_board(setup.size);
+    let Ok(mut game) = Game::make(alloc, &bare) else {
+        return Err(Memory);
+    };
+    let mut mover = Colour::Black;
+    let mut mine = 0u64;
+    let mut theirs = 0u64;
+    'moves: while may_move(game.board()) {
+        let knobs = side_knobs(setup, number, mover);
+        let cell = turn_cell(rt, alloc, &knobs, game.board(), mover, mine)?;
+        put_stone(&mut game, mover, cell);
+        mover = mover.other();
+        let made = mine + 1;
+        mine = theirs;
+        theirs = made;
+    }
+    match played(alloc, &game) {
+        Ok(played) => Ok(played),
+        Err(_) => Err(Memory),
+    }
+}

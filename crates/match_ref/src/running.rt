@@ -1,0 +1,93 @@
+//! The top call: from the words of the command line to a status.
+
+ghost use Rattle.std.specs.Prelude.{◌≡◌, ◌⊎◌};
+ghost use Rattle.hex_io.specs.Causes.{CountsFault};
+ghost use Rattle.match_ref.specs.MatchRuns.{CompletesMatch, CountsMatchWrites, IsMatchRefusal};
+ghost use Rattle.match_ref.specs.MatchRuns.{Referees, RefereesBy};
+ghost use Rattle.match_ref.specs.MatchRuns.{ReportsEnd, LeavesLink};
+ghost use Rattle.match_ref.specs.MatchWords.{AskForNone, AskFor};
+ghost use Rattle.match_ref.specs.Statuses.{end_status};
+ghost use Rattle.match_ref.specs.declared.ends.End.{End};
+ghost use Rattle.match_ref.specs.declared.words.MatchWords.{MatchWords};
+
+use super::ends::End;
+use super::matches::play_match;
+use super::texts::match_text;
+use super::words::read_match_words;
+use hex_io::{Link, Word, give, report};
+use search_team::Gate;
+use std::alloc::Global;
+use std::thread::Threads;
+
+/// Plays the match that the words ask for, gives its text to the link, and answers the status.
+///
+/// The words are those of the command line after the program's name. The games are played side by
+/// side in threads of `rt`, each after it passed the gate; no clause speaks of these. The text has
+/// a line for each game, in order, with its record after it where records are wanted, and then how
+/// many games each side won. It is given when all games were played. Nothing is read.
+///
+/// | status | comes | line for the errors |
+/// |---|---|---|
+/// | 0 | the match was played, and its text given | |
+/// | 2 | exactly where the words ask for no match | `hexd: usage` |
+/// | 4 | only where a write failed; a front of the text was given | |
+/// | 5 | memory ran out; nothing was given | `hexd: out of memory` |
+///
+/// A fault of the errors changes nothing of the status. Status 5 may come in place of any other.
+pub fn run_match<R: Threads + Sync, L: Link, E: Link, G: Gate + Sync>(
+    rt: &R,
+    alloc: Global,
+    words: &[Word],
+    link: &mut L,
+    errors: &mut E,
+    gate: &G,
+) -> u8
+    ensures status { (end : End) × (result ≡ end_status end) }
+    ensures usage { result ≡ end_status End.Usage → AskForNone words.now }
+    ensures refused { AskForNone words.now → IsMatchRefusal result }
+    ensures untouched { AskForNone words.now → LeavesLink L.Link link.old link.new }
+    ensures played { RefereesBy L.Link words.now result link.old link.new }
+    ensures write_fault { CountsMatchWrites L.Link result link.old link.new }
+    ensures reads { L.read_faults link.new ≡ L.read_faults link.old }
+    ensures complete { CompletesMatch L.Link words.now result link.old link.new }
+    ensures errors { ReportsEnd E.Link result errors.old errors.new }
+{
+    let end = referee(rt, alloc, words, link, gate);
+    report(errors, end.line());
+    end.status()
+}
+
+// The match of the words, and how it ended.
+fn referee<R: Threads + Sync, L: Link, G: Gate + Sync>(
+    rt: &R,
+    alloc: Global,
+    words: &[Word],
+    link: &mut L,
+    gate: &G,
+) -> End
+    ensures usage { result ≡ End.Usage → AskForNone words.now }
+    ensures refused { AskForNone words.now → (result ≡ End.Usage) ⊎ (result ≡ End.Memory) }
+    ensures untouched { (result ≡ End.Usage) ⊎ (result ≡ End.Memory)
+        → L.told link.new ≡ L.told link.old }
+    ensures played { (w : MatchWords) → AskFor words.now w
+        → Referees result w (L.told link.old) (L.told link.new) }
+    ensures write_fault { CountsFault (L.write_faults link.old) (L.write_faults link.new)
+        (result ≡ End.WriteFault) }
+    ensures reads { L.read_faults link.new ≡ L.read_faults link.old }
+{
+    let asked = match read_match_words(alloc, words) {
+        Ok(Some(asked)) => asked,
+        Ok(None) => return End::Usage,
+        Err(_) => return End::Memory,
+    };
+    let Ok(games) = play_match(rt, alloc, &asked.setup, gate) else {
+        return End::Memory;
+    };
+    let Ok(text) = match_text(alloc, &asked, &games) else {
+        return End::Memory;
+    };
+    match give(link, &text) {
+        Ok(()) => End::Done,
+        Err(_) => End::WriteFault,
+    }
+}

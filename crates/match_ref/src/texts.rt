@@ -1,0 +1,144 @@
+//! The text of a match.
+
+ghost use Rattle.std.specs.Prelude.{◌≡◌, ◌++◌, All, IfOk, OnOk};
+ghost use Rattle.std.specs.Fmt.{decimal};
+ghost use Rattle.hex_board.specs.Positions.{empty_board};
+ghost use Rattle.hex_game.specs.Games.{AreLegal};
+ghost use Rattle.match_ref.specs.MatchTexts.{colour_name, game_line, game_text, games_text};
+ghost use Rattle.match_ref.specs.MatchTexts.{has_won, match_text, side_word, winner_words, wins_of};
+ghost use Rattle.match_ref.specs.Matches.{is_side_a};
+
+use super::played::Played;
+use super::playing::is_side_a;
+use super::records::push_record;
+use super::refusals::Memory;
+use super::words::MatchWords;
+use hex_cells::Colour;
+use std::alloc::{AllocError, Global};
+
+// Writes a number in decimal.
+fn push_number(alloc: Global, text: &mut Vec<u8>, number: usize) -> Result<(), AllocError>
+    ensures { OnOk result (text.new.items ≡ text.old.items ++ decimal number) }
+{
+    text.extend_from_slice(number.to_string(alloc)?.as_bytes())
+}
+
+fn side_word(is_a: bool) -> &'static [u8]
+    ensures { result.now ≡ side_word is_a }
+{
+    if is_a { b"a" } else { b"b" }
+}
+
+fn colour_name(colour: Colour) -> &'static [u8]
+    ensures { result.now ≡ colour_name colour }
+{
+    match colour {
+        Colour::Black => b"black",
+        Colour::White => b"white",
+    }
+}
+
+// Writes the side and the colour that won, with a space at each end.
+fn push_winner(text: &mut Vec<u8>, number: usize, winner: Option<Colour>) -> Result<(), AllocError>
+    ensures { OnOk result (text.new.items ≡ text.old.items ++ winner_words number winner) }
+{
+    let Some(player) = winner else {
+        return text.extend_from_slice(b" none none ");
+    };
+    text.push(b' ')?;
+    text.extend_from_slice(side_word(is_side_a(number, player)))?;
+    text.push(b' ')?;
+    text.extend_from_slice(colour_name(player))?;
+    text.push(b' ')?;
+    Ok(())
+}
+
+/// Writes the line of a game at the end of the text: its number, who won it, and how many steps it
+/// has. It refuses for want of memory alone.
+pub fn push_game_line(
+    alloc: Global,
+    text: &mut Vec<u8>,
+    number: usize,
+    game: &Played,
+) -> Result<(), AllocError>
+    ensures { OnOk result (text.new.items ≡ text.old.items ++ game_line number game.now) }
+{
+    push_number(alloc, text, number)?;
+    push_winner(text, number, game.winner)?;
+    push_number(alloc, text, game.steps.as_slice().len())?;
+    text.push(b'\n')?;
+    Ok(())
+}
+
+// Writes the line of a game, and its record where records are wanted.
+fn push_game(
+    alloc: Global,
+    text: &mut Vec<u8>,
+    asked: &MatchWords,
+    number: usize,
+    game: &Played,
+) -> Result<(), Memory>
+    requires { AreLegal (empty_board asked.now.setup.size) game.now.steps }
+    ensures { OnOk result (text.new.items ≡ text.old.items ++ game_text asked.now number game.now) }
+{
+    push_game_line(alloc, text, number, game)?;
+    if asked.records {
+        push_record(alloc, text, &asked.setup, game)?;
+    }
+    Ok(())
+}
+
+// Writes the texts of the games.
+fn push_games(
+    alloc: Global,
+    text: &mut Vec<u8>,
+    asked: &MatchWords,
+    games: &[Played],
+) -> Result<(), Memory>
+    requires { All (λ game. AreLegal (empty_board asked.now.setup.size) game.steps) games.now }
+    ensures { OnOk result (text.new.items ≡ text.old.items ++ games_text asked.now 0 games.now) }
+{
+    for (number, game) in games.iter().enumerate() {
+        push_game(alloc, text, asked, number, game)?;
+    }
+    Ok(())
+}
+
+// Whether this side won the game with this number.
+fn has_won(is_a: bool, number: usize, winner: Option<Colour>) -> bool
+    ensures { result ≡ has_won is_a number winner }
+{
+    match winner {
+        None => false,
+        Some(player) if is_a => is_side_a(number, player),
+        Some(player) => !is_side_a(number, player),
+    }
+}
+
+// How many of the games this side won.
+fn wins_of(is_a: bool, games: &[Played]) -> usize
+    ensures { result ≡ wins_of is_a 0 games.now }
+{
+    let mut wins = 0;
+    for (number, game) in games.iter().enumerate() {
+        if has_won(is_a, number, game.winner) {
+            wins += 1;
+        }
+    }
+    wins
+}
+
+/// The text of the match with these games.
+pub fn match_text(alloc: Global, asked: &MatchWords, games: &[Played]) -> Result<Vec<u8>, Memory>
+    requires { All (λ game. AreLegal (empty_board asked.now.setup.size) game.steps) games.now }
+    ensures { IfOk result (λ text. text.items ≡ match_text asked.now games.now) }
+{
+    let mut text = Vec::new(alloc);
+    push_games(alloc, &mut text, asked, games)?;
+    text.extend_from_slice(b"a ")?;
+    push_number(alloc, &mut text, wins_of(true, games))?;
+    text.extend_from_slice(b" b ")?;
+    push_number(alloc, &mut text, wins_of(false, games))?;
+    text.extend_from_slice(b"\n")?;
+    Ok(text)
+}

@@ -1,0 +1,270 @@
+//! Games that meet at a gate, rows of runs, and writes that fail.
+
+ghost use Rattle.std.specs.Prelude.{IfSome};
+ghost use Rattle.match_ref.specs.Matches.{IsMatch};
+
+use hex_cells::{Colour, Size};
+use hex_io::{MemLink, Word};
+use match_ref::{Match, Played, Side, Steps, play_match, push_game_line, run_match};
+use search_team::{Gate, OpenGate};
+use std::alloc::Global;
+use std::sync::atomic::{AtomicBool, Ordering};
+use std::test::Fail;
+use std::thread::{self, Threads};
+
+// A gate that holds each of the games 0 and 1 until the other one has passed, or for so many turns.
+#[derive(Drop)]
+struct Meeting {
+    first: AtomicBool,
+    second: AtomicBool,
+    missed: AtomicBool,
+}
+
+const MOST_TURNS: u32 = 10_000_000;
+
+impl Meeting {
+    fn new() -> Meeting {
+        Meeting {
+            first: AtomicBool::new(false),
+            second: AtomicBool::new(false),
+            missed: AtomicBool::new(false),
+        }
+    }
+
+    /// Both games passed, and neither missed the other.
+    fn was_held(&self) -> bool {
+        self.first.load(Ordering::SeqCst)
+            && self.second.load(Ordering::SeqCst)
+            && !self.missed.load(Ordering::SeqCst)
+    }
+}
+
+impl Gate for Meeting {
+    fn pass(&self, game: u32) {
+        let (mine, other) = match game {
+            0 => (&self.first, &self.second),
+            1 => (&self.second, &self.first),
+            _ => return,
+        };
+        mine.store(true, Ordering::SeqCst);
+        for _ in 0..MOST_TURNS {
+            if other.load(Ordering::SeqCst) {
+                return;
+            }
+            thread::yield_now();
+        }
+        self.missed.store(true, Ordering::SeqCst);
+    }
+}
+
+// A match of so many games of one stone in so many threads, where they are in their ranges.
+fn small_match(games: u32, threads: u32) -> Option<Match>
+    ensures { IfSome result IsMatch }
+{
+    let size = Size::of(1)?;
+    if !(1..=1_000).contains(&games) || !(1..=64).contains(&threads) {
+        return None;
+    }
+    let side = Side {
+        playouts: 1,
+        words: 65_536,
+        expand: 8,
+        weight: 180,
+    };
+    Some(Match {
+        size,
+        games,
+        threads,
+        seed: 0,
+        a: side,
+        b: side,
+    })
+}
+
+/// `gate-match`: games 0 and 1 meet, whatever the numbers of games and threads are.
+#[test]
+fn games_meet_at_the_gate(rt: HostRuntime) -> Result<(), Fail> {
+    for (games, threads) in [(2, 2), (4, 2), (12, 8), (3, 64)] {
+        let gate = Meeting::new();
+        let setup = small_match(games, threads).ok_or("a match")?;
+        let played = play_match(&rt, rt.alloc(), &setup, &gate)?;
+        assert_eq!(rt; played.len(), games as usize);
+        assert!(rt; gate.was_held(), "{games} {threads}");
+    }
+    Ok(())
+}
+
+// What a run left: its status, what was given, and the line for the errors.
+#[derive(Drop)]
+struct RunResult {
+    status: u8,
+    link: MemLink,
+    errors: MemLink,
+}
+
+// A link without input, with room for so many bytes, which are given one at a time.
+fn link_with(alloc: Global, room: usize) -> Result<MemLink, Fail> {
+    Ok(MemLink::make(
+        alloc,
+        Vec::new(alloc),
+        1,
+        room,
+        0,
+        Vec::new(alloc),
+        Vec::new(alloc),
+    )?)
+}
+
+// The run of a line of words, with one space between two, over a link with so much room.
+fn run_of<R: Threads + Sync + Alloc<A = Global>, G: Gate + Sync>(
+    rt: &R,
+    line: &str,
+    room: usize,
+    gate: &G,
+) -> Result<RunResult, Fail> {
+    let alloc = rt.alloc();
+    let mut words = Vec::new(alloc);
+    for word in line.split(' ') {
+        words.push(Word::of(String::from_str(alloc, word)?))?;
+    }
+    if line.is_empty() {
+        words.clear();
+    }
+    let mut link = link_with(alloc, room)?;
+    let mut errors = link_with(alloc, 100)?;
+    let status = run_match(rt, alloc, &words, &mut link, &mut errors, gate);
+    Ok(RunResult {
+        status,
+        link,
+        errors,
+    })
+}
+
+const MATCH_TWO: &str = "--size 1 --games 2 --playouts-a 1 --playouts-b 1 --threads 2";
+
+const TWO_GAMES: &str = "0 a black 1\n1 b black 1\na 1 b 1\n";
+
+/// `gate-match-run`: so it is in a run.
+#[test]
+fn runs_meet_at_the_gate(rt: HostRuntime) -> Result<(), Fail> {
+    let gate = Meeting::new();
+    let left = run_of(&rt, MATCH_TWO, 1_000, &gate)?;
+    assert_eq!(rt; left.status, 0);
+    assert!(rt; gate.was_held());
+    Ok(())
+}
+
+/// Matches with their texts: `match-two`, `match-record` and others.
+#[test]
+fn plays_matches(rt: HostRuntime) -> Result<(), Fail> {
+    let table = [
+        (MATCH_TWO, TWO_GAMES),
+        (
+            "--size 1 --games 1 --records on",
+            "0 a black 1\n(;FF[4]GM[11]SZ[1];B[a1])\na 1 b 0\n",
+        ),
+        ("--size=1 --games=1", "0 a black 1\na 1 b 0\n"),
+        ("--size=1 --games=1 --", "0 a black 1\na 1 b 0\n"),
+        (
+            "--size 2 --games 1 --playouts-a 9 --playouts-b 9 --records=on --seed=9",
+            "0 a black 3\n(;FF[4]GM[11]SZ[2];B[a2];W[b1];B[a1])\na 1 b 0\n",
+        ),
+    ];
+    for (line, text) in table {
+        let left = run_of(&rt, line, 1_000, &OpenGate)?;
+        assert_eq!(rt; left.status, 0, "{line}");
+        assert_eq!(rt; left.link.given(), text.as_bytes(), "{line}");
+        assert!(rt; left.errors.given().is_empty());
+    }
+    Ok(())
+}
+
+/// Words that are refused: `match-no-games` and others.
+#[test]
+fn refuses_words(rt: HostRuntime) -> Result<(), Fail> {
+    let table = [
+        "--games 0",
+        "--games 1001",
+        "--size 12",
+        "--threads 65",
+        "--games 1 --games 1",
+        "--records ON",
+        "--records",
+        "x",
+        "-- x",
+        "-- --",
+        "-",
+        "--help",
+        "--workers 2",
+        "--playouts 5",
+        "--playouts-a=0",
+        "--playouts-a=000000000000000000001",
+        "--words-b=1023",
+        "--expand-a 1001",
+        "--weight-b 1025",
+        "--seed -1",
+    ];
+    for line in table {
+        let left = run_of(&rt, line, 1_000, &OpenGate)?;
+        assert_eq!(rt; left.status, 2, "{line}");
+        assert!(rt; left.link.given().is_empty(), "{line}");
+        assert_eq!(rt; left.errors.given(), b"hexd: usage\n".as_slice(), "{line}");
+    }
+    Ok(())
+}
+
+/// No words, and `--` alone, ask for the match of the defaults.
+#[test]
+fn plays_by_default(rt: HostRuntime) -> Result<(), Fail> {
+    let bare = run_of(&rt, "", 10_000, &OpenGate)?;
+    let ended = run_of(&rt, "--", 10_000, &OpenGate)?;
+    assert_eq!(rt; bare.status, 0);
+    assert_eq!(rt; bare.link.given().split(|byte| *byte == b'\n').count(), 12);
+    assert_eq!(rt; ended.link.given(), bare.link.given());
+    Ok(())
+}
+
+/// A write that fails at each byte of a text.
+#[test]
+fn faults_each(rt: HostRuntime) -> Result<(), Fail> {
+    for room in 0..TWO_GAMES.len() {
+        let left = run_of(&rt, MATCH_TWO, room, &OpenGate)?;
+        assert_eq!(rt; left.status, 4, "{room}");
+        assert_eq!(rt; left.link.given(), TWO_GAMES.as_bytes().split_at(room).0);
+        assert!(rt; left.errors.given().is_empty());
+    }
+    Ok(())
+}
+
+/// `match-threads`: one thread and eight give the same text.
+#[test]
+fn threads_change_nothing(rt: HostRuntime) -> Result<(), Fail> {
+    let words = "--size 4 --games 12 --playouts-a 50 --playouts-b 200 --records on";
+    let eight_threads =
+        "--size 4 --games 12 --playouts-a 50 --playouts-b 200 --records on --threads 8";
+    let one = run_of(&rt, words, 10_000, &OpenGate)?;
+    let eight = run_of(&rt, eight_threads, 10_000, &OpenGate)?;
+    assert_eq!(rt; one.status, 0);
+    assert_eq!(rt; one.link.given(), eight.link.given());
+    Ok(())
+}
+
+/// The line of a game that nobody won, and of one that White won.
+#[test]
+fn tells_winners(rt: HostRuntime) -> Result<(), Fail> {
+    let table = [
+        (7, None, "7 none none 0\n"),
+        (8, Some(Colour::White), "8 b white 0\n"),
+        (9, Some(Colour::White), "9 a white 0\n"),
+    ];
+    for (number, winner, line) in table {
+        let game = Played {
+            steps: Steps::of(Vec::new(rt.alloc())),
+            winner,
+        };
+        let mut text = Vec::new(rt.alloc());
+        push_game_line(rt.alloc(), &mut text, number, &game)?;
+        assert_eq!(rt; text.as_slice(), line.as_bytes());
+    }
+    Ok(())
+}

@@ -1,0 +1,5 @@
+pub mod Values
+pub mod Grammar
+pub mod Lines
+pub mod Command
+pub mod Finding

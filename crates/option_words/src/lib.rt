@@ -1,0 +1,44 @@
+//! The words of a command line, for any table of options.
+//!
+//! **What it is.** The *words* are those after the program's name. Each *option* stands at most
+//! once, as `--name value` or `--name=value`; one word may be *positional*, before, between or
+//! after them. A word `--` ends the options, and every word after it is positional. A program's
+//! *form* is its table of options, each with its default or without one, and whether the positional
+//! word is required; a *command* is the form as `clap` reads it. All values are text.
+//!
+//! **A caller** makes its command, has the words read by it, and reads each value as a number or a
+//! switch:
+//!
+//! ```text
+//! let command = plain_command(alloc, true)?;
+//! let command = with_option(alloc, command, "size", "11")?;
+//! let Some(found) = find(command, &words)? else {
+//!     return usage();
+//! };
+//! let size = small_number(found.get_str("size"), 1, 11)?;
+//! ```
+//!
+//! **What is proved.** [`find`] finds something exactly where the words are a line of the form,
+//! `IsLine` of `specs/Lines.antt`, but for one whose positional word is a hyphen alone, where it
+//! finds nothing; and what it finds of a name is what the line says, or the default. That
+//! definition and the grammar that it stands on, `specs/Grammar.antt`, do not speak of `clap`,
+//! which reads the words here; [`clap_reads_lines`] is the law that both say the same. Numbers are
+//! read by this crate: `clap` takes a plus sign and more than twenty digits.
+//!
+//! **Only tested, or not said.** That memory suffices: a call may always answer [`Memory`]. The
+//! tables of lines stand in the tests of the crates above.
+//!
+//! **Limits.** There are no short options, no shortened names, no `--help` and no `--version`.
+//! Every word has to be text. That a command reads its form, `ReadsForm` of `specs/Command.antt`,
+//! is shown for a given table by computing it.
+#![tactic(auto)]
+
+mod command;
+mod finding;
+mod numbers;
+mod refusals;
+
+pub use command::{plain_command, with_bare_option, with_option};
+pub use finding::{clap_reads_lines, find};
+pub use numbers::{number, small_number, switch};
+pub use refusals::Memory;

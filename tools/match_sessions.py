@@ -1,0 +1,63 @@
+#!/usr/bin/env python3
+"""Plays the games of a match by two sessions of `hexd htp` each, and compares their records with those of `hexmatch`.
+
+A side's session has the side's options and its seed of the game, and takes the other side's moves by `play`. It says
+nothing where the records are the same.
+"""
+
+import re
+import subprocess
+import sys
+
+from programs import ROOT
+
+sys.path.insert(0, str(ROOT / "examples"))
+from referee import Engine
+
+SETTINGS = [
+    {"size": 4, "games": 4, "seed": 7, "a": {"playouts": 60, "weight": 0}, "b": {"playouts": 200, "expand": 3}},
+    {"size": 3, "games": 3, "seed": 2**64 - 1, "a": {"playouts": 30}, "b": {"playouts": 30, "words": 1024}},
+]
+DEFAULTS = {"playouts": 1000, "words": 65536, "expand": 8, "weight": 180}
+
+
+def match_records(setting):
+    words = [f"--{name}={setting[name]}" for name in ["size", "games", "seed"]]
+    words += [f"--{name}-{side}={value}" for side in "ab" for name, value in setting[side].items()]
+    program = [str(ROOT / "bin" / "hexmatch"), *words, "--records=on", "--threads=2"]
+    text = subprocess.run(program, capture_output=True, text=True, check=True, timeout=600).stdout
+    return re.findall(r"^\(;.*$", text, re.M)
+
+
+def session(setting, side, game):
+    seed = (setting["seed"] + (2 * game + "ab".index(side)) * 2**40) % 2**64
+    words = [f"--{name}={value}" for name, value in {**DEFAULTS, **setting[side]}.items()]
+    return Engine("--hsearch", "off", f"--size={setting['size']}", f"--seed={seed}", *words)
+
+
+def session_record(setting, game):
+    black, white = [session(setting, side, game) for side in ("ab" if game % 2 == 0 else "ba")]
+    mover, other, colour = black, white, "black"
+    while black.ask("winner")[1] == "none":
+        done, vertex = mover.ask(f"genmove {colour}")
+        if not (done and other.ask(f"play {colour} {vertex}")[0]):
+            return f"game {game}: {colour} {vertex}"
+        mover, other, colour = other, mover, "white" if colour == "black" else "black"
+    record = black.ask("printsgf")[1]
+    black.close()
+    white.close()
+    return record
+
+
+def main():
+    for setting in SETTINGS:
+        want = [session_record(setting, game) for game in range(setting["games"])]
+        got = match_records(setting)
+        if got != want:
+            print(f"tools/match_sessions.py: {setting}: hexmatch has {got}, two sessions have {want}")
+            return 1
+    return 0
+
+
+if __name__ == "__main__":
+    sys.exit(main())

@@ -1,0 +1,69 @@
+"""The program hexd for the scripts here and in shelf/: where it is, one run of it, and a session over pipes.
+
+HEXD in the environment names the program; where it isn't set that is bin/hexd, which builds it where it isn't fresh.
+"""
+
+import os
+import subprocess
+from pathlib import Path
+
+ROOT = Path(__file__).resolve().parent.parent
+HEXD = os.environ.get("HEXD", str(ROOT / "bin" / "hexd"))
+
+
+def run(*words, given=b""):
+    """What a run of hexd with these words writes on an input, and its status."""
+    done = subprocess.run([HEXD, *words], input=given, capture_output=True)
+    return done.stdout, done.returncode
+
+
+def checked(text):
+    """The line that `hexd check` writes of a text, without its line feed, and its status."""
+    said, status = run("check", given=text)
+    return said.decode().removesuffix("\n"), status
+
+
+class HexdEnded(Exception):
+    """hexd has ended."""
+
+
+class Hexd:
+    """A session of hexd, whose lines and answers are bytes as they come."""
+
+    def __init__(self, words, **how):
+        command = [HEXD, "htp", *words]
+        self.process = subprocess.Popen(command, stdin=subprocess.PIPE, stdout=subprocess.PIPE, **how)
+
+    def send(self, piece):
+        """Hands over a part of the input."""
+        try:
+            self.process.stdin.write(piece)
+            self.process.stdin.flush()
+        except BrokenPipeError:
+            raise HexdEnded from None
+
+    def answer(self):
+        """The next answer, with the empty line that ends it; less where hexd ends within it."""
+        lines = []
+        while lines[-1:] != [b"\n"]:
+            line = self.process.stdout.readline()
+            if not line:
+                break
+            lines.append(line)
+        return b"".join(lines)
+
+    def close(self):
+        """Ends the process, and waits for its status: that of a shell where a signal ended it."""
+        try:
+            self.process.stdin.close()
+        except BrokenPipeError:
+            pass
+        self.process.stdout.close()
+        status = self.process.wait()
+        return status if status >= 0 else 128 - status
+
+
+def size_of(process):
+    """The memory that a process holds (VmRSS), in KiB."""
+    status = Path(f"/proc/{process.pid}/status").read_text()
+    return int(status.split("VmRSS:")[1].split()[0])

@@ -1,0 +1,194 @@
+#!/usr/bin/env python3
+"""Refuses each allocation of some runs in turn, and says how each run ended.
+
+    tools/refused_memory.py [ROW ...]
+
+A run is one of `hex_cli::run` over links in memory, in pieces of seven bytes. Each has to end with
+its own result, or with status 5, its line on standard error, and the answers to the first lines:
+nothing is left out, nothing is given by half, and nothing else comes in place of an answer.
+
+`rt try --fail-alloc N` refuses the Nth allocation of a program, which it builds for that number.
+tools/refused_memory/program.txt is a program that makes as many allocations before the run as it
+is told to, so that one build serves for all: it is built twice, once to count the allocations of
+each run, and once to refuse each of them. `rt try` builds with checks, so a bad access, a sum that
+wraps or a failed `unwrap` ends a run too. That takes some minutes, and no part of it is in the gate.
+
+For each row it prints how many allocations were refused and how these runs ended. Its status is 1
+where one ended otherwise.
+"""
+
+import os
+import shutil
+import subprocess
+import sys
+import tempfile
+from pathlib import Path
+
+TOP = Path(__file__).resolve().parent.parent
+PROGRAM = TOP / "tools" / "refused_memory" / "program.txt"
+NAME = "refused_memory"
+# The number of the allocation that is refused. The program's MOST is above it.
+REFUSED = 2000
+
+RECORD = r"(;FF[4]GM[11]SZ[3]AP[Editor:0.9]C[a\]b];B[a2];W[swap-pieces];B[c3])"
+V1 = (TOP / "examples" / "certificates" / "v1.cert").read_text()
+EMPTY_3 = "   a b c\n 1 . . .\n  2 . . .\n   3 . . .\n\n"
+
+
+class Row:
+    """A run: its words, its input, and the text that it gives, where that is one text."""
+
+    def __init__(self, words, text, given, file=("none", "")):
+        self.words, self.input, self.given, self.file = words.split(), text, given, file
+        self.is_session = words.startswith("htp")
+
+    def is_given(self, given):
+        return given == self.given
+
+    def fronts(self):
+        """What may have been given where memory ran out: the first answers, or nothing."""
+        answers = self.given.split("\n\n")[:-1] if self.is_session else []
+        return {"".join(answer + "\n\n" for answer in answers[:count]) for count in range(len(answers) + 1)}
+
+
+class FirstCertificate(Row):
+    """A run whose cell and certificate are left open: what it gives is what it gave when it was counted."""
+
+    def __init__(self):
+        super().__init__("htp", "boardsize 2\ngenmove b\nwincert\n", None)
+
+    def is_given(self, given):
+        if self.given is None:
+            fronts = ["= \n\n= %s\n\n= hexcert 1\nsize 2\nplayer black\nblack\nwhite\n" % cell for cell in ("a2", "b1")]
+            if not given.startswith(tuple(fronts)) or given.count("\n\n") != 3:
+                return False
+            self.given = given
+        return given == self.given
+
+
+ROWS = {
+    "swap-undo": Row(
+        "htp",
+        "boardsize 3\nplay b a2\nplay w swap-pieces\nshowboard\nundo\nshowboard\nundo\nundo\n",
+        "= \n\n= \n\n= \n\n= \n" + EMPTY_3.replace("1 . .", "1 . W") + "= \n\n= \n" + EMPTY_3.replace("2 .", "2 B")
+        + "= \n\n? cannot undo\n\n",
+    ),
+    "load-and-print": Row(
+        "htp",
+        "loadsgf g.sgf\nprintsgf\n",
+        "= \n\n= (;FF[4]GM[11]SZ[3];B[a2];W[swap-pieces];B[c3])\n\n",
+        ("g.sgf", RECORD),
+    ),
+    "forced-win": Row(
+        "htp --hsearch off --playouts 4",
+        "boardsize 2\nplay b a2\nplay w b2\ngenmove b\nsearch-report\nwinner\n",
+        "= \n\n= \n\n= \n\n= a1\n\n= playouts 4\na1 2 2\nb1 2 2\n\n= black\n\n",
+    ),
+    "first-certificate": FirstCertificate(),
+    "check-v1": Row("check", V1, "yes semi\n"),
+    "sim-one": Row(
+        "sim --size 1 --workers 3 --playouts 10 --steps 100", "", "best a1\nplayouts 10\na1 10 10\n"
+    ),
+}
+
+
+class Run:
+    """What the program wrote of one run."""
+
+    def __init__(self, text):
+        self.place, _, rest = text.partition("\n")
+        if self.place.startswith("before"):
+            return
+        status, length, rest = rest.split("\n", 2)
+        self.status, self.errors, self.given = int(status), rest[: int(length)], rest[int(length) :]
+
+    def count(self, word):
+        """The number behind this word, which has to be the first one."""
+        if not self.place.startswith(word + " "):
+            sys.exit("the refused allocation is not where it was looked for: %s" % self.place)
+        return int(self.place.split()[1])
+
+
+def make_repository(folder):
+    """The sources of every crate, and the program beside them."""
+    for crate in (TOP / "crates").iterdir():
+        if (crate / "src").is_dir():
+            shutil.copytree(crate / "src", folder / "crates" / crate.name / "src")
+    source = folder / "crates" / NAME / "src"
+    source.mkdir(parents=True)
+    shutil.copy(PROGRAM, source / "main.rt")
+    shutil.copy(TOP / "HANDLES", folder)
+    uses = "\n%s: hex_io hex_plan hex_cli search_team anyhow\n" % NAME
+    (folder / "crates.txt").write_text((TOP / "crates.txt").read_text() + uses)
+
+
+def run_all(folder, runs):
+    """Runs (row, number of allocations before it) by one build of the program."""
+    cases = folder / "cases"
+    shutil.rmtree(cases, ignore_errors=True)
+    cases.mkdir()
+    names = {}
+    for name, before in runs:
+        row, case = ROWS[name], "%s.%d" % (name, before)
+        names[case] = (name, before)
+        (cases / case).write_text(row.input)
+        (cases / (case + ".args")).write_text("\n".join([str(before), *row.file, *row.words]) + "\n")
+    command = ["rt", "try", "--fail-alloc", str(REFUSED), "--cases", str(cases)]
+    done = subprocess.run(command, cwd=folder / "crates" / NAME, capture_output=True, text=True)
+    came = {}
+    for part in done.stdout.split("== ")[1:]:
+        case, _, text = part.partition("\n")
+        came[names[case]] = Run(text)
+    if done.returncode != 0 or len(came) != len(runs):
+        sys.exit("%s\nrt try ended with status %d: %d of %d runs" % (done.stderr, done.returncode, len(came), len(runs)))
+    return came
+
+
+def verdict(row, run):
+    """How a run ended in which an allocation was refused; None where that may not be."""
+    if run.place != "within":
+        return None
+    if run.status == 0 and run.errors == "" and row.is_given(run.given):
+        return "result"
+    if run.status == 5 and run.errors == "hexd: out of memory\n" and run.given in row.fronts():
+        return "memory"
+    return None
+
+
+def main():
+    names = sys.argv[1:] or list(ROWS)
+    if not set(names) <= set(ROWS):
+        sys.exit("the rows are " + ", ".join(ROWS))
+    with tempfile.TemporaryDirectory() as place:
+        folder = Path(place)
+        make_repository(folder)
+        wrong = 0
+        # Where nothing is refused in the run: what is left of the allocations before and behind it.
+        counted = run_all(folder, [(name, before) for name in names for before in (0, 2 * REFUSED)])
+        first = {}
+        for name in names:
+            whole, first[name] = counted[name, 0], counted[name, 2 * REFUSED].count("before")
+            if whole.status != 0 or whole.errors != "" or not ROWS[name].is_given(whole.given):
+                sys.exit("%s: status %d, %r" % (name, whole.status, whole.given))
+        last = {name: counted[name, 0].count("after") for name in names}
+        runs = [(name, before) for name in names for before in range(last[name] + 1, first[name] + 1)]
+        came = run_all(folder, runs)
+        for name in names:
+            ends = {"result": 0, "memory": 0}
+            for before in range(first[name], last[name], -1):
+                end = verdict(ROWS[name], came[name, before])
+                if end is None:
+                    wrong += 1
+                    run = came[name, before]
+                    print("%s: allocation %d of it refused: %s" % (name, first[name] - before + 1, vars(run)))
+                else:
+                    ends[end] += 1
+            print(
+                "%s: %d allocations refused in turn: status 5 and the first answers %d times, the result %d times"
+                % (name, first[name] - last[name], ends["memory"], ends["result"])
+            )
+    return 1 if wrong else 0
+
+
+if __name__ == "__main__":
+    sys.exit(main())
