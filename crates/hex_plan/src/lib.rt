@@ -64,8 +64,6 @@ mod refusals;
 mod regions;
 mod report_texts;
 mod shapes;
-#[cfg(test)]
-mod tests;
 mod texts;
 mod threats;
 mod turns;

@@ -12,14 +12,10 @@
 //! to it of [`trace_audit::TraceArchive`].
 //!
 //! **Only tested, or not said.** What the terminal or another program gave or got, and what a file
-//! holds. The test here is not of the program: it takes a connection from H-search through
-//! `cut`, `write` and `check`, since this crate stands above all of these.
+//! holds.
 //!
 //! **Limits.** An argument that is no text is a wrong word.
 #![tactic(auto)]
-
-#[cfg(test)]
-mod tests;
 
 use hex_cli::{End, run, trace_name};
 use hex_io::{DirShelf, ErrLink, FileLink, StdLink, Word, report};

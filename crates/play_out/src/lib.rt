@@ -29,8 +29,6 @@ mod dealing;
 mod fours;
 mod order;
 mod playouts;
-#[cfg(test)]
-mod tests;
 
 pub use order::{MOST_EMPTIES, write_order};
 pub use playouts::{Ending, fill, play, playout};

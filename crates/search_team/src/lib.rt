@@ -28,8 +28,6 @@ mod climbing;
 mod gates;
 mod scanning;
 mod searching;
-#[cfg(test)]
-mod tests;
 mod working;
 mod writing;
 

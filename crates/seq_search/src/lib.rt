@@ -30,7 +30,5 @@ mod expanding;
 mod opening;
 mod reaching;
 mod search;
-#[cfg(test)]
-mod tests;
 
 pub use search::plain_search;

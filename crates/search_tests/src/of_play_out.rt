@@ -1,9 +1,9 @@
 //! The words of the generator, filled boards and results, against values that other programs
 //! computed from the published algorithms of xoshiro256++ and SplitMix64.
 
-use super::{Ending, MOST_EMPTIES, fill, play, playout, write_order};
 use hex_board::Board;
 use hex_cells::{Cell, CellSet, Colour, Size};
+use play_out::{Ending, MOST_EMPTIES, fill, play, playout, write_order};
 use rand_core::{Rng, SeedableRng};
 use rand_xoshiro::Xoshiro256PlusPlus;
 use std::test::Fail;

@@ -1,42 +1,18 @@
-//! Workers that meet at a gate or are counted there, and one worker beside the plain search.
+//! Workers that are counted at a gate, and one worker's tree by three searches. That two workers
+//! meet at a gate is told by whole runs, in hex_cli's tests.
 
-use super::{Gate, OpenGate, search};
 use hex_board::Board;
 use hex_cells::{CellSet, Colour, Size};
+use search_team::{Gate, OpenGate, search};
 use seq_search::plain_search;
-use std::sync::atomic::{AtomicBool, AtomicU32, Ordering};
+use sim_run::simulate;
+use std::sync::atomic::{AtomicU32, Ordering};
 use std::test::Fail;
 use std::thread;
 use tree_words::layout::RECORDS_AT;
-use tree_words::{Closed, Knobs, Shape, report};
-
-// A gate that holds each of two workers until the other one has passed, or for so many turns.
-#[derive(Drop)]
-struct Meeting {
-    first: AtomicBool,
-    second: AtomicBool,
-    missed: AtomicBool,
-}
+use tree_words::{Closed, Knobs, Shape};
 
 const MOST_TURNS: u32 = 10_000_000;
-
-impl Gate for Meeting {
-    fn pass(&self, worker: u32) {
-        let (mine, other) = if worker == 0 {
-            (&self.first, &self.second)
-        } else {
-            (&self.second, &self.first)
-        };
-        mine.store(true, Ordering::SeqCst);
-        for _ in 0..MOST_TURNS {
-            if other.load(Ordering::SeqCst) {
-                return;
-            }
-            thread::yield_now();
-        }
-        self.missed.store(true, Ordering::SeqCst);
-    }
-}
 
 // A gate that counts how often each of three numbers passed. Where they are to meet it holds each
 // worker until all three have passed, or for so many turns.
@@ -101,34 +77,10 @@ fn three_by_three(workers: u32, playouts: u32) -> Option<Shape> {
         playouts,
         seed: 0,
         words: 1_024,
-        expand: 8,
+        expand: 2,
         weight: 180,
     };
     Some(Shape::make(&board, Colour::Black, allowed, &knobs))
-}
-
-// Neither worker has added when the other one chooses, so both walks go to a1.
-#[test]
-fn workers_meet_at_the_gate(rt: HostRuntime) -> Result<(), Fail> {
-    let shape = three_by_three(2, 2).ok_or("a shape")?;
-    for _ in 0..3 {
-        let gate = Meeting {
-            first: AtomicBool::new(false),
-            second: AtomicBool::new(false),
-            missed: AtomicBool::new(false),
-        };
-        let closed = search(&rt, rt.alloc(), &shape, &gate)?;
-        assert!(rt; gate.first.load(Ordering::SeqCst) && gate.second.load(Ordering::SeqCst));
-        assert!(rt; !gate.missed.load(Ordering::SeqCst));
-        let rows = report(rt.alloc(), &closed)?;
-        let (cell, visits) = rows
-            .first()
-            .map(|row| (row.cell, row.visits))
-            .ok_or("a row")?;
-        assert_eq!(rt; cell.number(), 0);
-        assert_eq!(rt; visits, 2);
-    }
-    Ok(())
 }
 
 // Each of three workers has a number of its own.
@@ -170,11 +122,13 @@ fn behind_the_front(closed: &Closed) -> &[u64] {
 }
 
 #[test]
-fn one_worker_is_the_plain_search(rt: HostRuntime) -> Result<(), Fail> {
+fn one_worker_has_one_tree(rt: HostRuntime) -> Result<(), Fail> {
     let shape = three_by_three(1, 100).ok_or("a shape")?;
     let plain = plain_search(rt.alloc(), &shape)?;
-    let closed = search(&rt, rt.alloc(), &shape, &OpenGate)?;
-    assert!(rt; !behind_the_front(&plain).is_empty());
-    assert_eq!(rt; behind_the_front(&closed), behind_the_front(&plain));
+    let team = search(&rt, rt.alloc(), &shape, &OpenGate)?;
+    let simulated = simulate(rt.alloc(), &shape, &[0, 0, 0])?;
+    assert!(rt; behind_the_front(&plain).len() > 100);
+    assert!(rt; behind_the_front(&team) == behind_the_front(&plain));
+    assert!(rt; behind_the_front(&simulated) == behind_the_front(&plain));
     Ok(())
 }

@@ -3,12 +3,12 @@
 ghost use Rattle.std.specs.Prelude.{IfSome};
 ghost use Rattle.tree_words.specs.Settings.{AreEmpty, IsAny};
 
-use super::opening::opening_words;
-use super::plain_search;
 use hex_board::Board;
 use hex_cells::{Cell, CellSet, Colour, Size};
+use seq_search::plain_search;
+use std::alloc::Global;
 use std::test::Fail;
-use tree_words::{Closed, Knobs, Shape, best, report};
+use tree_words::{Closed, Knobs, Shape, best, report, write_opening};
 
 // What a search is for: the size, Black's and White's stones and the allowed cells, all empty ones
 // where there is none, as the bits of a number, the player to move, and playouts, seed, words,
@@ -446,6 +446,13 @@ fn large_trees(rt: HostRuntime) -> Result<(), Fail> {
         }
     }
     Ok(())
+}
+
+// The opening words of the shape.
+fn opening_words(alloc: Global, shape: &Shape) -> Result<Vec<u64>, Fail> {
+    let mut words = vec![in alloc; 0; shape.total() as usize]?;
+    write_opening(&mut words, shape);
+    Ok(words)
 }
 
 // How many words are not 0.

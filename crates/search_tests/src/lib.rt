@@ -1,0 +1,15 @@
+//! Tests of the crates of the search and of its plans, as a caller of theirs: a file for each,
+//! which calls what the crate makes public.
+//!
+//! They stand in a crate of their own since a crate with tests is proved twice, without them and
+//! with them. The library itself has nothing.
+#![tactic(auto)]
+
+#[cfg(test)]
+mod of_hex_plan;
+#[cfg(test)]
+mod of_play_out;
+#[cfg(test)]
+mod of_search_team;
+#[cfg(test)]
+mod of_seq_search;
