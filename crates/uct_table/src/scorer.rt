@@ -66,8 +66,8 @@ impl Parent {
     /// Whether products settle that the score of a child is at most `bar`; never for the bar 0.
     ///
     /// A search that keeps the best child's score asks this of each later child, with a bar that is
-    /// no higher than that score, and takes the score of the few that are not low. The bar is from 0
-    /// to [`MOST_BAR`], counts are from 0 to 1,048,576, and v is at least 1.
+    /// no higher than that score, and takes the score of the few that are not low. The bar is from
+    /// 0 to [`MOST_BAR`], counts are from 0 to 1,048,576, and v is at least 1.
     #[inline(always)]
     pub fn is_low(&self, bar: u64, v: u32, w: u32, a: u32, b: u32) -> bool
         requires bar { bar ≤ MOST_BAR }
