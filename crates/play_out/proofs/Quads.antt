@@ -9,7 +9,7 @@ use Rattle.std.proofs.lemmas.List.{take_more_set, length-take-le, take-take}
 use Rattle.std.proofs.lemmas.List.Sums.{length-filter}
 use Rattle.hex_cells.specs.Sets.{has}
 use Rattle.hex_cells.proofs.Counts.{members_test, members_ones}
-use Rattle.play_out.specs.Fours.{bits_of, row_of}
+use Rattle.play_out.specs.Fours.{bits_of, padded_bits}
 
 -- the numbers of those that are true
 quad : Bool → Bool → Bool → Bool → List ℕ
@@ -48,9 +48,9 @@ row_right false false true false = record { whole = refl; front = refl; few = om
 row_right false false false true = record { whole = refl; front = refl; few = omega arith; small = refl }
 row_right false false false false = record { whole = refl; front = refl; few = omega arith; small = refl }
 
-pub row_of-right : (n : ℕ) → Row (bits_of n) (row_of n)
+pub padded_bits-right : (n : ℕ) → Row (bits_of n) (padded_bits n)
 unfolding quad
-row_of-right n = row_right (has n 0) (has n 1) (has n 2) (has n 3)
+padded_bits-right n = row_right (has n 0) (has n 1) (has n 2) (has n 3)
 
 -- the bits of a number below 16 are its ones
 pub bits_counted : (n : ℕ) → n < 16 → count_ones n ≡ length (bits_of n)
@@ -101,11 +101,11 @@ front_four cells count a b c d l =
     together (x ∷ xs) = ap (λ ys. x ∷ ys) (together xs)
 
 -- the first of the four are the bits
-pub four_listed : (cells : List ℕ) (count first n a b c d : ℕ) (row : List ℕ) → row ≡ row_of n → count + 4 ≤ length cells → a ≡ first + get_or row 0 0 → b ≡ first + get_or row 1 0
+pub four_listed : (cells : List ℕ) (count first n a b c d : ℕ) (row : List ℕ) → row ≡ padded_bits n → count + 4 ≤ length cells → a ≡ first + get_or row 0 0 → b ≡ first + get_or row 1 0
     → c ≡ first + get_or row 2 0 → d ≡ first + get_or row 3 0
     → take (count + length (bits_of n)) (written cells count a b c d) ≡ take count cells ++ map (λ j. first + j) (bits_of n)
 four_listed cells count first n a b c d row e l ea eb ec ed =
-    let r : Row (bits_of n) (row_of n) = row_of-right n in
+    let r : Row (bits_of n) (padded_bits n) = padded_bits-right n in
     let m : ℕ = length (bits_of n) in
     let whole : length row ≡ 4 = ap length e ∙ r.whole in
     let all : a ∷ b ∷ c ∷ d ∷ [] ≡ map (λ j. first + j) row =

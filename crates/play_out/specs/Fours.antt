@@ -8,5 +8,5 @@ abbrev pub bits_of : ℕ → List ℕ
 bits_of n = filter (has n) (range_with_len 0 4)
 
 -- and then 0 up to four
-abbrev pub row_of : ℕ → List ℕ
-row_of n = take 4 (bits_of n ++ 0 ∷ 0 ∷ 0 ∷ 0 ∷ [])
+abbrev pub padded_bits : ℕ → List ℕ
+padded_bits n = take 4 (bits_of n ++ 0 ∷ 0 ∷ 0 ∷ 0 ∷ [])

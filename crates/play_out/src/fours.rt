@@ -3,7 +3,7 @@
 ghost use Rattle.std.specs.Prelude.{◌≡◌, ◌+◌, ◌++◌, ◌<◌, ◌≤◌, length, take, map};
 ghost use Rattle.std.specs.List.{range_with_len};
 ghost use Rattle.play_out.specs.Fills.{empties_of};
-ghost use Rattle.play_out.specs.Fours.{bits_of, row_of};
+ghost use Rattle.play_out.specs.Fours.{bits_of, padded_bits};
 
 use super::order::MOST_EMPTIES;
 use hex_board::Board;
@@ -33,14 +33,14 @@ static ROWS: [[u32; 4]; 16] = [
 const FOURS: u32 = MOST_CELLS / 4;
 
 fn rows() -> &'static [[u32; 4]; 16]
-    ensures { result.now ≡ map row_of (range_with_len 0 16) }
+    ensures { result.now ≡ map padded_bits (range_with_len 0 16) }
 {
     &ROWS
 }
 
 fn row(four: usize) -> [u32; 4]
     requires { four < 16 }
-    ensures { result ≡ row_of four }
+    ensures { result ≡ padded_bits four }
 {
     rows()[four]
 }
