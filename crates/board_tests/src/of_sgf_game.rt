@@ -1,7 +1,7 @@
 //! Records that show the rules of reading, with ample memory.
 
-use sgf_game::{GameError, from_game, read_game, to_game};
 use hex_game::Game;
+use sgf_game::{GameError, from_game, read_game, to_game};
 use sgf_tree::{parse, print};
 use std::alloc::Global;
 use std::test::Fail;

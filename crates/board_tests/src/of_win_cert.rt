@@ -1,12 +1,12 @@
 //! What no clause says: the certificates V1, V2 and V3, texts that are none, and ample memory.
 
-use win_cert::{CertError, End, LATEST_VERSION, Line, lines_onto, raise, read, write};
 use hex_board::Board;
 use hex_cells::{CellSet, Colour, Size};
 use hsearch::connect;
 use std::alloc::Global;
 use std::rt::HostRuntime;
 use std::test::Fail;
+use win_cert::{CertError, End, LATEST_VERSION, Line, lines_onto, raise, read, write};
 
 const V1: &[u8] = b"hexcert 1\nsize 2\nplayer black\nblack\nwhite\n\
     adj a2 a1\nadj a1 edge1\nadj a2 b1\nadj b1 edge1\n\

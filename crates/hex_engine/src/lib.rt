@@ -50,4 +50,3 @@ pub use answers::{Answer, EngineError, Fail, Memory};
 pub use commands::{COMMANDS, Command, Quiet};
 pub use options::Options;
 pub use state::Engine;
-

@@ -42,4 +42,3 @@ pub fn replay_goes_on()
     ensures { (game : GameData) (step : Step)
         → board_of (with_step game step) ≡ after_step game.start game.steps (board_of game) step }
 {}
-
