@@ -5,12 +5,14 @@ pub mod Stepping
 pub mod CutChains
 pub mod CutSteps
 pub mod CutDerivations
+pub mod ScopeBoards
+pub mod Appending
+pub mod CutVerdicts
 -- Steps of this crate's own proofs.
 mod Vectors
 mod SameTests
 mod StonesOn
 mod LinksOn
-mod ScopeBoards
 mod GoodEntries
 mod EdgeEntries
 mod EdgeNumbers
@@ -45,7 +47,6 @@ mod BadHeads
 mod Parsed
 mod StepLines
 mod SameVerdict
-mod Appending
 mod CutLines
 mod CutEnds
 mod CutMarks
@@ -53,5 +54,4 @@ mod Supports
 mod Moved
 mod MovedRules
 mod CutsIn
-mod CutVerdicts
 mod CutCertificates

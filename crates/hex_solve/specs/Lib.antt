@@ -1,0 +1,7 @@
+pub mod Deciding
+pub mod Showing
+pub mod Solved
+pub mod Ledgers
+pub mod Marks
+pub mod Searching
+pub mod Telling
