@@ -5,6 +5,13 @@ pub mod Stepping
 pub mod CutChains
 pub mod CutSteps
 pub mod CutDerivations
+-- Lines after lines, what they show of a position, and when they are accepted.
+pub mod Appending
+pub mod Reaching
+pub mod ScopeLines
+pub mod Shown
+pub mod ScopedWins
+pub mod Accepting
 -- Steps of this crate's own proofs.
 mod Vectors
 mod SameTests
@@ -45,7 +52,6 @@ mod BadHeads
 mod Parsed
 mod StepLines
 mod SameVerdict
-mod Appending
 mod CutLines
 mod CutEnds
 mod CutMarks
@@ -53,5 +59,4 @@ mod Supports
 mod Moved
 mod MovedRules
 mod CutsIn
-mod CutVerdicts
 mod CutCertificates
