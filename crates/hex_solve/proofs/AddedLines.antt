@@ -24,11 +24,11 @@ use Rattle.win_cert.specs.declared.lines.Line.TheVariants.{Put, Done, Move, Case
 use Rattle.win_cert.specs.declared.lines.TheConstants.{MOST_NUMBER}
 use Rattle.hex_solve.specs.Ledgers.{AnswerAll, AreAnswers, GrowsBy, IsAmong, IsLedger, LedgerData, MayFollow, ShowsWin, read_of, with_line}
 use Rattle.win_cert.specs.Contexts.{AreClear, after_lines}
-use Rattle.hex_solve.specs.Showing.{IsReached, Keeps, Shows, scope_of}
+use Rattle.win_cert.specs.Showing.{IsReached, Keeps, Shows, scope_of}
 use Rattle.hex_solve.proofs.LedgerLaws.{TwoShow, base_of, base_same, grows_on, grows_one, no_room, number_next, second_follows, small_on, two_shown}
-use Rattle.hex_solve.proofs.Reaching.{kept_reached, scope_other, scope_own}
-use Rattle.hex_solve.proofs.Shown.{AreWays, no_ways, one_way, put_cases, put_done, put_move, two_at_least}
-use Rattle.hex_solve.proofs.Steps.{Leaves, here, later, put_right}
+use Rattle.win_cert.proofs.Reaching.{kept_reached, scope_other, scope_own}
+use Rattle.win_cert.proofs.Shown.{AreWays, no_ways, one_way, put_cases, put_done, put_move, two_at_least}
+use Rattle.win_cert.proofs.ScopeLines.{Leaves, here, later, put_right}
 
 -- ---- room
 

@@ -31,14 +31,14 @@ use Rattle.std.specs.Prelude.{Result, Ok, Err}
 use Rattle.hex_solve.specs.declared.searching.Found.{Found}
 use Rattle.hex_solve.specs.declared.searching.Stop.{Stop}
 use Rattle.hex_solve.specs.declared.searching.Stop.TheVariants.{Spent, Open, Memory}
-use Rattle.hex_solve.specs.Showing.{Keeps, Shows, scope_of}
+use Rattle.win_cert.specs.Showing.{Keeps, Shows, scope_of}
 use Rattle.hex_solve.specs.declared.ledgers.Mark.{Mark}
 use Rattle.win_cert.proofs.Appending.{after_append}
-use Rattle.hex_solve.proofs.Staying.{shown_on}
+use Rattle.win_cert.proofs.Appending.{shown_on}
 use Rattle.hex_solve.proofs.FirstWins.{other_back}
 use Rattle.hex_solve.proofs.LedgerLaws.{grows_none, grows_on}
 use Rattle.hex_solve.proofs.NextNeed.{first_joined, first_other, first_own, need_after, need_next, sum_cells, sum_least, sum_none, wins_by}
-use Rattle.hex_solve.proofs.Reaching.{keeps_on}
+use Rattle.win_cert.proofs.Reaching.{keeps_on}
 
 pub grows_wider : (a b : ℕ) (d e : LedgerData) → a ≤ b → GrowsBy a d e → GrowsBy b d e
 grows_wider a b d e l g = record { base = g.base; more = g.more; lines = g.lines; lost = g.lost; count = omega (arith, g.count) }

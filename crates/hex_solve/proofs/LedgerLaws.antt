@@ -17,7 +17,7 @@ use Rattle.win_cert.specs.declared.lines.Line.{Line}
 use Rattle.win_cert.proofs.CutDerivations.{longer}
 use Rattle.hex_solve.specs.Ledgers.{GrowsBy, IsLedger, LedgerData, MayFollow, ShowsWin, count_of, read_of, with_line}
 use Rattle.win_cert.specs.Contexts.{AreClear, after_lines, context_after, first_context}
-use Rattle.hex_solve.specs.Showing.{Shows, scope_of}
+use Rattle.win_cert.specs.Showing.{Shows, scope_of}
 use Rattle.win_cert.proofs.Appending.{after_append, base_after, clear_append, length_after}
 
 -- ---- one line

@@ -20,9 +20,9 @@ use Rattle.hex_solve.specs.Deciding.{first, need}
 use Rattle.hex_solve.specs.Ledgers.{GrowsBy, IsLedger, LedgerData, ShowsWin, count_of, read_of}
 use Rattle.hex_solve.specs.Solved.{claim_for, few_cells}
 use Rattle.hex_solve.specs.Searching.{IsShown, tree_lines}
-use Rattle.hex_solve.specs.Showing.{GivesEdges, Shows, scope_of}
+use Rattle.win_cert.specs.Showing.{GivesEdges, Shows, scope_of}
 use Rattle.hex_solve.specs.Telling.{IsCertOf, IsCertifiedWin, IsToldBy, IsTooLong}
-use Rattle.win_cert.proofs.CutVerdicts.{accepted}
+use Rattle.win_cert.proofs.Accepting.{accepted}
 use Rattle.hex_solve.proofs.AddedLines.{shown_below}
 use Rattle.hex_solve.proofs.FirstWins.{first_wins}
 use Rattle.hex_solve.proofs.LedgerLaws.{base_of}
@@ -63,7 +63,7 @@ certified d claim cert w z f v b p k l =
         },
         ledger.few,
       );
-      accepted = (accepted cert there.entry ledger.clear there.at there.kind_is there.scope_is (subst (λ x. is_edge_entry x there.entry ≡ true) (base_of e) there.edges)).0;
+      accepted = (accepted cert shown.carrier ledger.clear there).0;
     }
 
 -- ---- what is told

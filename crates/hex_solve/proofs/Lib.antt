@@ -1,8 +1,4 @@
 -- Steps of this crate's own proofs.
-mod Staying
-mod Steps
-mod Reaching
-mod Shown
 mod FirstWins
 mod NeedBound
 mod LedgerLaws

@@ -14,7 +14,7 @@ use Rattle.win_cert.specs.Writable.{IsLineOf}
 use Rattle.win_cert.specs.declared.certs.TheConstants.{LATEST_VERSION, MOST_LINES}
 use Rattle.win_cert.specs.declared.lines.Line.{Line}
 use Rattle.win_cert.specs.Contexts.{AreClear, after_lines, first_context}
-use Rattle.hex_solve.specs.Showing.{Shows, scope_of}
+use Rattle.win_cert.specs.Showing.{Shows, scope_of}
 
 -- the lines of a player's certificate on a board, and how many more there were no room for
 pub record LedgerData : Type 0 where

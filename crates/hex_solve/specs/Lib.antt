@@ -1,5 +1,4 @@
 pub mod Deciding
-pub mod Showing
 pub mod Solved
 pub mod Ledgers
 pub mod Marks

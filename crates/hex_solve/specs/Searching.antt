@@ -10,7 +10,7 @@ use Rattle.conn_store.specs.declared.entries.Kind.{Kind}
 use Rattle.conn_store.specs.declared.entries.Kind.TheVariants.{Full, Semi}
 use Rattle.hex_solve.specs.Deciding.{first, need}
 use Rattle.hex_solve.specs.Ledgers.{GrowsBy, LedgerData, ShowsWin, count_of}
-use Rattle.hex_solve.specs.Showing.{Keeps}
+use Rattle.win_cert.specs.Showing.{Keeps}
 use Rattle.hex_solve.specs.Solved.{IsOpen}
 use Rattle.hex_solve.specs.declared.searching.Found.{Found}
 use Rattle.hex_solve.specs.declared.searching.Stop.{Stop}

@@ -17,7 +17,7 @@ use Rattle.win_cert.specs.Writable.{IsWritable}
 use Rattle.win_cert.specs.declared.certs.Cert.{Cert}
 use Rattle.win_cert.specs.declared.certs.TheConstants.{MOST_LINES}
 use Rattle.hex_solve.specs.Deciding.{need}
-use Rattle.hex_solve.specs.Showing.{Keeps}
+use Rattle.win_cert.specs.Showing.{Keeps}
 use Rattle.hex_solve.specs.declared.answers.Solved.{Solved}
 use Rattle.hex_solve.specs.declared.answers.Solved.TheVariants.{Won, Unknown, TooLong, Open}
 

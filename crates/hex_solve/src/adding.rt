@@ -9,7 +9,7 @@ ghost use Rattle.hex_cells.specs.declared.board_size.TheConstants.{MOST_CELLS};
 ghost use Rattle.conn_store.specs.declared.entries.Kind.{Kind};
 ghost use Rattle.win_cert.specs.declared.certs.TheConstants.{MOST_LINES};
 ghost use Rattle.hex_solve.specs.Ledgers.{AnswerAll, GrowsBy, MayFollow, ShowsWin, with_line};
-ghost use Rattle.hex_solve.specs.Showing.{Keeps, scope_of};
+ghost use Rattle.win_cert.specs.Showing.{Keeps, scope_of};
 
 use super::ledgers::Ledger;
 use hex_board::Board;

@@ -1,8 +1,12 @@
 -- Lines that stand after others: what is read over, and the entries that stay.
-use Rattle.std.proofs.Common.{◌≡◌, ℕ, ◌+◌, List, [], ◌∷◌, ◌++◌, Option, Some, None, length, refl, sym, ◌∙◌, ap, arith}
+use Rattle.std.proofs.Common.{◌≡◌, ℕ, ◌+◌, List, [], ◌∷◌, ◌++◌, true, Option, Some, None, length, refl, sym, ◌∙◌, ap, subst, arith}
 use Rattle.std.specs.List.{slice_get}
 use Rattle.std.specs.Option.{option_flatten}
+use Rattle.hex_board.specs.Positions.{Position}
+use Rattle.conn_store.specs.declared.entries.Kind.{Kind}
 use Rattle.win_cert.specs.Entries.{Context, ScopedEntry, entry_at, gives}
+use Rattle.win_cert.specs.Showing.{GivesEdges, Shows}
+use Rattle.win_cert.specs.Statements.{is_edge_entry}
 use Rattle.win_cert.specs.declared.lines.Line.{Line}
 use Rattle.win_cert.proofs.CutDerivations.{last_at, longer}
 use Rattle.win_cert.proofs.GivenEntries.{at_left}
@@ -50,3 +54,19 @@ entry_stays c (line ∷ lines) i a h = entry_stays (context_after c line) lines 
 -- the entry of the line itself
 pub entry_last : (c : Context) (line : Line) (a : ScopedEntry) → gives c line ≡ Some a → entry_at (context_after c line) (length c.earlier) ≡ Some a
 entry_last c line a h = ap option_flatten (last_at c.earlier (gives c line)) ∙ h
+
+-- ---- what is shown stays
+
+pub edges_stay : (c : Context) (lines : List Line) (kind : Kind) (s d i : ℕ) → GivesEdges c kind s d i → GivesEdges (after_lines c lines) kind s d i
+edges_stay c lines kind s d i g = record {
+  entry = g.entry;
+  at = entry_stays c lines i g.entry g.at;
+  kind_is = g.kind_is;
+  scope_is = g.scope_is;
+  edges = subst (λ b. is_edge_entry b g.entry ≡ true) (sym (base_after c lines)) g.edges;
+  carrier_is = g.carrier_is;
+}
+
+-- what is shown is shown by more lines too
+pub shown_on : (c : Context) (lines : List Line) (p : Position) (kind : Kind) (s i : ℕ) → Shows c p kind s i → Shows (after_lines c lines) p kind s i
+shown_on c lines p kind s i h = record { carrier = h.carrier; gives = edges_stay c lines kind s h.carrier i h.gives; empty = h.empty; first = h.first }

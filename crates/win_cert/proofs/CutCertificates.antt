@@ -23,9 +23,9 @@ use Rattle.win_cert.specs.Writable.{IsLineOf}
 use Rattle.win_cert.specs.declared.certs.Cert.{Cert}
 use Rattle.win_cert.specs.declared.lines.Line.{Line}
 use Rattle.win_cert.specs.declared.certs.TheConstants.{FIRST_VERSION}
-use Rattle.win_cert.proofs.Appending.{length_after}
+use Rattle.win_cert.proofs.Appending.{base_after, length_after}
 use Rattle.win_cert.proofs.CutSteps.{unscoped_board}
-use Rattle.win_cert.proofs.CutVerdicts.{accepted, first_of, read_all}
+use Rattle.win_cert.proofs.Accepting.{accepted, first_of, read_all}
 use Rattle.win_cert.proofs.Moved.{freer_self, moved_self}
 
 -- ---- the board
@@ -118,13 +118,13 @@ entry_small cert a l h =
 pub certified : (d : StoreData) (n : ℕ) (a : Entry) (cert : Cert) → IsCutOf d n cert → IsEdgeEntryAt d n a → cert.version ≡ FIRST_VERSION → cert.claim ≡ a.kind → CertifiesEntry d a cert
 certified d n a cert w h v k =
     let few : length cert.lines ≤ 75030 = subst (λ l. length l ≤ 75030) (sym w.lines.added) w.lines.few in
-    let edges : is_edge_entry (player_board cert) (scoped 0 a) ≡ true = ap (λ e. a.x == edge_element e false && a.y == edge_element e true) (first_elements d n cert w) ∙ edges_of d.elements a h.1 in
+    let edges : is_edge_entry (after_lines (first_of cert) cert.lines).base (scoped 0 a) ≡ true = ap (λ b. is_edge_entry b (scoped 0 a)) (base_after (first_of cert) cert.lines) ∙ ap (λ e. a.x == edge_element e false && a.y == edge_element e true) (first_elements d n cert w) ∙ edges_of d.elements a h.1 in
     let at = claimed d n a cert w h.0 in
     record {
       version = v;
       board = w.board;
       player = w.player;
-      verdict = subst (λ z. IsVerdict cert (yes z a.carrier)) k (accepted cert (scoped 0 a) (derived d n cert w).clear at (sym k) refl edges);
+      verdict = subst (λ z. IsVerdict cert (yes z a.carrier)) k (accepted cert a.carrier (derived d n cert w).clear (record { entry = scoped 0 a; at = at; kind_is = sym k; scope_is = refl; edges = edges; carrier_is = refl }));
       writable = (
         record {
           version = inl v;

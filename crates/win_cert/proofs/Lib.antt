@@ -5,14 +5,19 @@ pub mod Stepping
 pub mod CutChains
 pub mod CutSteps
 pub mod CutDerivations
-pub mod ScopeBoards
+-- Lines after lines, what they show of a position, and when they are accepted.
 pub mod Appending
-pub mod CutVerdicts
+pub mod Reaching
+pub mod ScopeLines
+pub mod Shown
+pub mod ScopedWins
+pub mod Accepting
 -- Steps of this crate's own proofs.
 mod Vectors
 mod SameTests
 mod StonesOn
 mod LinksOn
+mod ScopeBoards
 mod GoodEntries
 mod EdgeEntries
 mod EdgeNumbers

@@ -21,7 +21,7 @@ use Rattle.win_cert.specs.declared.lines.Line.TheVariants.{Put, Done, Move, Case
 use Rattle.win_cert.proofs.CutChains.{none_shared}
 use Rattle.win_cert.proofs.CutSteps.{bad_one, told, told_next}
 use Rattle.win_cert.specs.Contexts.{AreClear, after_lines, context_after}
-use Rattle.hex_solve.specs.Showing.{GivesEdges}
+use Rattle.win_cert.specs.Showing.{GivesEdges}
 use Rattle.win_cert.proofs.Appending.{entry_kept, entry_last}
 
 -- ---- `put`

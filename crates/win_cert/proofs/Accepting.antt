@@ -1,23 +1,22 @@
 -- A certificate whose lines are clear, and whose claim names an entry of the edges in the empty
 -- scope, is accepted.
-use Rattle.std.proofs.Common.{◌≡◌, ℕ, ◌≤◌, ◌==◌, ◌&&◌, not, true, false, List, [], ◌∷◌, Some, None, length, take, refl, sym, ◌∙◌, ap, subst, zero, suc, arith}
+use Rattle.std.proofs.Common.{◌≡◌, ℕ, ◌<◌, ◌≤◌, ◌==◌, ◌&&◌, not, true, false, List, [], ◌∷◌, ◌++◌, Option, Some, None, length, take, refl, sym, ◌∙◌, ap, subst, zero, suc, arith}
 use Rattle.std.specs.List.{cons_option, list_all, slice_get}
 use Rattle.std.proofs.lemmas.Bool.{and_from, eq-eqb}
 use Rattle.conn_store.specs.Stores.{same_kind}
 use Rattle.conn_store.specs.declared.entries.Kind.{Kind}
 use Rattle.conn_store.proofs.Tables.{kinds_match}
-use Rattle.win_cert.specs.Contexts.{AreClear, after_lines, context_after, first_context}
-use Rattle.win_cert.specs.Entries.{Context, ScopedEntry, context_at, entry_at}
+use Rattle.win_cert.specs.Entries.{Context, ScopedEntry, context_at, entries_at, entry_at}
 use Rattle.win_cert.specs.Reasons.{reason_against, bad_reference, is_bad_reference, is_no_edge_entry, is_wrong_scope, not_edges, wrong_scope}
-use Rattle.win_cert.specs.Scopes.{player_board}
 use Rattle.win_cert.specs.Statements.{claim, derivation, is_edge_entry, may_take}
-use Rattle.win_cert.specs.Verdicts.{IsVerdict, yes}
+use Rattle.win_cert.specs.Verdicts.{Accepted, IsVerdict, claimed_entry, reason_at, yes}
 use Rattle.win_cert.specs.declared.certs.Cert.{Cert}
 use Rattle.win_cert.specs.declared.lines.Line.{Line}
-use Rattle.win_cert.proofs.Appending.{base_after}
-use Rattle.win_cert.proofs.CutDerivations.{some_at}
 use Rattle.win_cert.proofs.CutSteps.{bad_one, told, told_next}
+use Rattle.win_cert.proofs.CutDerivations.{some_at}
 use Rattle.win_cert.proofs.Stepping.{all_clear, claim_reason, context_step, line_reason}
+use Rattle.win_cert.specs.Contexts.{AreClear, after_lines, context_after, first_context}
+use Rattle.win_cert.specs.Showing.{GivesEdges}
 
 abbrev pub first_of : Cert → Context
 first_of cert = first_context cert.board cert.player
@@ -47,21 +46,15 @@ read_all cert = read_over cert (length cert.lines) (omega arith) ∙ ap (after_l
 
 -- ---- the claim
 
--- line i gave the entry a, one of the player's edges in the empty scope, of that kind
-pub record IsClaimed (c : Context) (kind : Kind) (a : ScopedEntry) (i : ℕ) : Type 0 where
-  pub at : entry_at c i ≡ Some a
-  pub kind_is : a.kind ≡ kind
-  pub scope_is : a.scope ≡ 0
-  pub edges : is_edge_entry c.base a ≡ true
-
 claim_reasons : (c : Context) (kind : Kind) (i : ℕ)
     → reason_against c (claim kind i) ≡ told (is_bad_reference c (claim kind i)) bad_reference (told (is_wrong_scope c (claim kind i)) wrong_scope (told (is_no_edge_entry c (claim kind i)) not_edges None))
 unfolding reason_against
 claim_reasons c kind i = refl
 
-claim_right : (c : Context) (kind : Kind) (a : ScopedEntry) (i : ℕ) → IsClaimed c kind a i → reason_against c (claim kind i) ≡ None
-claim_right c kind a i g =
+pub claim_right : (c : Context) (kind : Kind) (i d : ℕ) → GivesEdges c kind 0 d i → reason_against c (claim kind i) ≡ None
+claim_right c kind i d g =
     let s = claim kind i in
+    let a = g.entry in
     claim_reasons c kind i
     ∙ told_next (is_bad_reference c s) bad_reference _ (ap (λ o. not (may_take s o && true)) g.at ∙ bad_one (same_kind a.kind kind && true)
     (and_from (same_kind a.kind kind) true (ap (λ v. same_kind v kind) g.kind_is ∙ kinds_match kind) refl))
@@ -70,17 +63,14 @@ claim_right c kind a i g =
 
 -- ---- the verdict
 
-pub accepted : (cert : Cert) (a : ScopedEntry) → AreClear (first_of cert) cert.lines → entry_at (after_lines (first_of cert) cert.lines) cert.entry ≡ Some a → a.kind ≡ cert.claim
-    → a.scope ≡ 0 → is_edge_entry (player_board cert) a ≡ true → IsVerdict cert (yes cert.claim a.carrier)
-accepted cert a f at k z edges =
-    let c = after_lines (first_of cert) cert.lines in
-    let g : IsClaimed c cert.claim a cert.entry = record { at = at; kind_is = k; scope_is = z; edges = subst (λ b. is_edge_entry b a ≡ true) (sym (base_after (first_of cert) cert.lines)) edges } in (
-      all_clear cert
-          (λ j l. let w = some_at cert.lines j l in
-          line_reason cert j w.0 w.1 (sym (read_over cert j (omega arith))) ∙ clear_at (first_of cert) cert.lines j w.0 f w.1)
-          (claim_reason cert (sym (read_all cert)) ∙ claim_right c cert.claim a cert.entry g),
-      refl,
-      a,
-      ap (λ c. entry_at c cert.entry) (read_all cert) ∙ at,
-      refl,
-    )
+pub accepted : (cert : Cert) (d : ℕ) → AreClear (first_of cert) cert.lines → GivesEdges (after_lines (first_of cert) cert.lines) cert.claim 0 d cert.entry → IsVerdict cert (yes cert.claim d)
+accepted cert d f g = (
+  all_clear cert
+      (λ j l. let w = some_at cert.lines j l in
+      line_reason cert j w.0 w.1 (sym (read_over cert j (omega arith))) ∙ clear_at (first_of cert) cert.lines j w.0 f w.1)
+      (claim_reason cert (sym (read_all cert)) ∙ claim_right (after_lines (first_of cert) cert.lines) cert.claim cert.entry d g),
+  refl,
+  g.entry,
+  ap (λ c. entry_at c cert.entry) (read_all cert) ∙ g.at,
+  sym g.carrier_is,
+)

@@ -22,10 +22,10 @@ use Rattle.win_cert.specs.declared.lines.Line.{Line}
 use Rattle.win_cert.specs.declared.lines.Line.TheVariants.{Put, Done, Move, Cases}
 use Rattle.win_cert.proofs.CutDerivations.{longer}
 use Rattle.win_cert.specs.Contexts.{AreClear, after_lines, context_after}
-use Rattle.hex_solve.specs.Showing.{GivesEdges, HasFirstCell, IsReached, Shows}
-use Rattle.hex_solve.proofs.Staying.{edges_stay}
-use Rattle.hex_solve.proofs.Reaching.{reached_joined}
-use Rattle.hex_solve.proofs.Steps.{AreCases, no_cases, one_more, Leaves, here, later, cases_give, cases_right, done_gives, done_right, move_gives, move_right, put_right}
+use Rattle.win_cert.specs.Showing.{GivesEdges, HasFirstCell, IsReached, Shows}
+use Rattle.win_cert.proofs.Appending.{edges_stay}
+use Rattle.win_cert.proofs.Reaching.{reached_joined}
+use Rattle.win_cert.proofs.ScopeLines.{AreCases, no_cases, one_more, Leaves, here, later, cases_give, cases_right, done_gives, done_right, move_gives, move_right, put_right}
 
 -- after `put` the scope is its cells
 abbrev put_after : Context → ℕ → Context
