@@ -1,21 +1,17 @@
 -- A ledger with one line more, and with two.
-use Rattle.std.proofs.Common.{◌≡◌, ℕ, ◌+◌, ◌-◌, ◌*◌, ◌^◌, ◌<◌, ◌≤◌, true, false, Bool, List, [], ◌∷◌, ◌++◌, None, All, length, min, nat_lt, if◌then◌else◌, refl, sym, ◌∙◌, ap, subst, inl, inr, zero, suc, arith}
+use Rattle.std.proofs.Common.{◌≡◌, ℕ, ◌+◌, ◌-◌, ◌^◌, ◌<◌, ◌≤◌, List, [], ◌∷◌, ◌++◌, None, All, length, min, if◌then◌else◌, refl, sym, ◌∙◌, ap, subst, inl, inr, arith}
 use Rattle.std.proofs.lemmas.Bool.{cases_lt, le-ltb, lt-ltb}
 use Rattle.std.proofs.lemmas.List.Elements.{All-cons, All-head, All-nil, All-tail}
-use Rattle.hex_cells.specs.Sets.{has}
 use Rattle.hex_board.specs.Elements.{PlayerBoard}
-use Rattle.hex_board.specs.Positions.{Position, Within, is_empty_at}
-use Rattle.hex_board.proofs.Placed.{empty_on}
-use Rattle.conn_store.specs.Entries.{AllEmpty}
+use Rattle.hex_board.specs.Positions.{Position}
 use Rattle.conn_store.specs.declared.entries.Kind.{Kind}
-use Rattle.win_cert.specs.Entries.{Context}
 use Rattle.win_cert.specs.Reasons.{reason_against}
 use Rattle.win_cert.specs.Statements.{derivation}
 use Rattle.win_cert.specs.Writable.{IsLineOf}
 use Rattle.win_cert.specs.declared.certs.TheConstants.{LATEST_VERSION, MOST_LINES}
 use Rattle.win_cert.specs.declared.lines.Line.{Line}
 use Rattle.win_cert.proofs.CutDerivations.{longer}
-use Rattle.hex_solve.specs.Ledgers.{GrowsBy, IsLedger, LedgerData, MayFollow, ShowsWin, count_of, read_of, with_line}
+use Rattle.hex_solve.specs.Ledgers.{GrowsBy, IsLedger, LedgerData, MayFollow, ShowsWin, read_of, with_line}
 use Rattle.win_cert.specs.Contexts.{AreClear, after_lines, context_after, first_context}
 use Rattle.win_cert.specs.Showing.{Shows, scope_of}
 use Rattle.win_cert.proofs.Appending.{after_append, base_after, clear_append, length_after}

@@ -1,23 +1,22 @@
 -- The end of the plain search: the certificate of a ledger, or why there is none.
-use Rattle.std.proofs.Common.{◌≡◌, ℕ, ◌+◌, ◌*◌, ◌<◌, ◌≤◌, ◌&&◌, not, true, false, Bool, All, List, [], ◌∷◌, ◌++◌, Some, length, refl, sym, ◌∙◌, ap, subst, inl, inr, arith}
+use Rattle.std.proofs.Common.{◌≡◌, ℕ, ◌+◌, ◌*◌, ◌<◌, ◌≤◌, ◌&&◌, not, true, false, Bool, All, [], Some, length, refl, sym, ◌∙◌, ap, subst, inl, inr, arith}
 use Rattle.std.proofs.lemmas.Bool.{cases_lt}
-use Rattle.hex_cells.specs.Colours.{is_same, other_of}
+use Rattle.hex_cells.specs.Colours.{other_of}
 use Rattle.hex_cells.specs.Sets.{has, without_cells}
 use Rattle.hex_cells.specs.declared.colours.Colour.{Colour}
 use Rattle.hex_cells.specs.declared.colours.Colour.TheVariants.{Black, White}
 use Rattle.hex_cells.proofs.Bits.{has_none, has_without_cells, same_set}
 use Rattle.hex_board.specs.Elements.{PlayerBoard}
-use Rattle.hex_board.specs.Positions.{Apart, IsPosition, Position, Within, stones_of}
+use Rattle.hex_board.specs.Positions.{Position, stones_of}
 use Rattle.hex_board.specs.Wins.{empty_count}
 use Rattle.conn_store.specs.declared.entries.Kind.{Kind}
 use Rattle.conn_store.specs.declared.entries.Kind.TheVariants.{Full, Semi}
 use Rattle.win_cert.specs.Scopes.{player_board}
-use Rattle.win_cert.specs.Statements.{is_edge_entry}
-use Rattle.win_cert.specs.Writable.{IsLineOf, IsWritable}
+use Rattle.win_cert.specs.Writable.{IsLineOf}
 use Rattle.win_cert.specs.declared.certs.Cert.{Cert}
 use Rattle.win_cert.specs.declared.certs.TheConstants.{LATEST_VERSION, MOST_LINES}
-use Rattle.hex_solve.specs.Deciding.{first, need}
-use Rattle.hex_solve.specs.Ledgers.{GrowsBy, IsLedger, LedgerData, ShowsWin, count_of, read_of}
+use Rattle.hex_solve.specs.Deciding.{need}
+use Rattle.hex_solve.specs.Ledgers.{IsLedger, LedgerData, ShowsWin, count_of, read_of}
 use Rattle.hex_solve.specs.Solved.{claim_for, few_cells}
 use Rattle.hex_solve.specs.Searching.{IsShown, tree_lines}
 use Rattle.win_cert.specs.Showing.{GivesEdges, Shows, scope_of}
@@ -25,7 +24,6 @@ use Rattle.hex_solve.specs.Telling.{IsCertOf, IsCertifiedWin, IsToldBy, IsTooLon
 use Rattle.win_cert.proofs.Accepting.{accepted}
 use Rattle.hex_solve.proofs.AddedLines.{shown_below}
 use Rattle.hex_solve.proofs.FirstWins.{first_wins}
-use Rattle.hex_solve.proofs.LedgerLaws.{base_of}
 use Rattle.hex_solve.proofs.TreeLines.{tree_few}
 
 -- ---- the certificate

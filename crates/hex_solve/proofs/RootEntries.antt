@@ -1,5 +1,5 @@
 -- What a report's semi entry between the mover's edges shows, and that there is none.
-use Rattle.std.proofs.Common.{◌≡◌, ℕ, ◌≤◌, refl, sym, ◌∙◌, ap, subst, arith}
+use Rattle.std.proofs.Common.{◌≡◌, ◌≤◌, sym, ◌∙◌, ap, subst, arith}
 use Rattle.hex_cells.specs.declared.colours.Colour.{Colour}
 use Rattle.hex_board.specs.Elements.{PlayerBoard}
 use Rattle.hex_board.specs.Positions.{IsPosition, Position}
@@ -14,7 +14,7 @@ use Rattle.win_cert.specs.Laws.{WinsAsClaimed, first_mover}
 use Rattle.win_cert.specs.Verdicts.{Accepted, HaveSameVerdict, IsVerdict, raised, yes}
 use Rattle.win_cert.specs.Writable.{HasBoard, IsWritable}
 use Rattle.win_cert.specs.declared.certs.Cert.{Cert}
-use Rattle.hex_solve.specs.Solved.{IsUndecided, claim_for}
+use Rattle.hex_solve.specs.Solved.{IsUndecided}
 use Rattle.hex_solve.specs.Telling.{IsCertifiedWin}
 use Rattle.hex_solve.proofs.LedgersTell.{semi_for}
 

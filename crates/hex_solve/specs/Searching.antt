@@ -4,7 +4,7 @@ use Rattle.std.specs.Prelude.{Err, Some}
 use Rattle.hex_cells.specs.Colours.{other_of}
 use Rattle.hex_cells.specs.declared.colours.Colour.{Colour}
 use Rattle.hex_board.specs.Joined.{is_joined}
-use Rattle.hex_board.specs.Positions.{Position, is_empty_at, stones_of}
+use Rattle.hex_board.specs.Positions.{Position, stones_of}
 use Rattle.hex_board.specs.Wins.{empty_count}
 use Rattle.conn_store.specs.declared.entries.Kind.{Kind}
 use Rattle.conn_store.specs.declared.entries.Kind.TheVariants.{Full, Semi}

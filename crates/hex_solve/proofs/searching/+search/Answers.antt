@@ -1,7 +1,6 @@
-use Rattle.std.proofs.Common.{◌≡◌, ℕ, ◌+◌, ◌*◌, ◌-◌, ◌^◌, ◌<◌, ◌≤◌, true, false, length, List, refl, sym, ◌∙◌, ap, subst, suc, arith}
+use Rattle.std.proofs.Common.{◌≡◌, ℕ, ◌^◌, ◌<◌, true, false, List, refl, sym, ◌∙◌, ap, subst, suc, arith}
 use Rattle.std.proofs.lemmas.Bool.{not-false, not-true}
 use Rattle.hex_cells.specs.Colours.{other_of}
-use Rattle.hex_cells.specs.Sets.{has}
 use Rattle.hex_cells.proofs.Bits.{cell_below}
 use Rattle.hex_cells.specs.declared.colours.Colour.{Colour}
 use Rattle.conn_store.specs.declared.entries.Kind.TheVariants.{Full}
@@ -9,7 +8,7 @@ use Rattle.hex_board.specs.Joined.{is_joined}
 use Rattle.hex_board.specs.Positions.{Position, is_empty_at, placed, stones_of}
 use Rattle.hex_board.specs.Wins.{empty_count}
 use Rattle.hex_board.proofs.WinLaws.{one_empty_less}
-use Rattle.hex_solve.specs.Ledgers.{LedgerData, count_of}
+use Rattle.hex_solve.specs.Ledgers.{count_of}
 use Rattle.hex_solve.specs.Searching.{IsSearched}
 use Rattle.hex_solve.proofs.Found.{child_is, joined_short, mover_wins, other_wins_all, stone_answered, stop_on}
 use Rattle.hex_solve.proofs.Growing.{grows_wider}

@@ -1,7 +1,6 @@
-use Rattle.std.proofs.Common.{◌≡◌, ℕ, ◌+◌, ◌≤◌, length, refl, sym, ◌∙◌, ap, subst, arith}
-use Rattle.conn_store.specs.declared.entries.Kind.TheVariants.{Full, Semi}
-use Rattle.win_cert.specs.declared.lines.Line.{Line}
-use Rattle.win_cert.specs.declared.lines.Line.TheVariants.{Put, Done, Move, Cases}
+use Rattle.std.proofs.Common.{◌≡◌, ◌+◌, ◌≤◌, length, sym, ap, subst, arith}
+use Rattle.conn_store.specs.declared.entries.Kind.TheVariants.{Full}
+use Rattle.win_cert.specs.declared.lines.Line.TheVariants.{Put, Cases}
 use Rattle.hex_solve.specs.Ledgers.{AnswerAll}
 use Rattle.hex_solve.specs.Ledgers.{IsLedger, LedgerData}
 use Rattle.hex_board.specs.Elements.{PlayerBoard}

@@ -1,6 +1,6 @@
-use Rattle.std.proofs.Common.{◌≡◌, ℕ, ◌+◌, length, refl, sym, ◌∙◌, ap, subst, arith}
-use Rattle.conn_store.specs.declared.entries.Kind.TheVariants.{Full, Semi}
-use Rattle.win_cert.specs.declared.lines.Line.TheVariants.{Put, Done, Move, Cases}
+use Rattle.std.proofs.Common.{◌≡◌, ◌+◌, length, refl, ap, subst, arith}
+use Rattle.conn_store.specs.declared.entries.Kind.TheVariants.{Full}
+use Rattle.win_cert.specs.declared.lines.Line.TheVariants.{Put, Done}
 use Rattle.hex_solve.specs.Ledgers.{IsLedger, LedgerData}
 use Rattle.hex_solve.proofs.AddedLines.{done_two, follows_second, grows_second, put_follows, shown_second}
 use Rattle.hex_solve.proofs.ledgers.Ledger.add_done.Goals as goal

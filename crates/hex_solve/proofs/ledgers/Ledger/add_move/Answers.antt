@@ -1,6 +1,6 @@
-use Rattle.std.proofs.Common.{◌≡◌, ℕ, ◌+◌, length, refl, sym, ◌∙◌, ap, subst, arith}
-use Rattle.conn_store.specs.declared.entries.Kind.TheVariants.{Full, Semi}
-use Rattle.win_cert.specs.declared.lines.Line.TheVariants.{Put, Done, Move, Cases}
+use Rattle.std.proofs.Common.{◌≡◌, ◌+◌, length, sym, ap, subst, arith}
+use Rattle.conn_store.specs.declared.entries.Kind.TheVariants.{Semi}
+use Rattle.win_cert.specs.declared.lines.Line.TheVariants.{Put, Move}
 use Rattle.hex_solve.specs.Ledgers.{IsLedger, LedgerData}
 use Rattle.hex_solve.proofs.AddedLines.{base_kept, follows_second, grows_second, move_form, move_two, none_lost, put_follows, room_had, shown_second}
 use Rattle.hex_board.specs.Elements.{PlayerBoard}

@@ -1,4 +1,4 @@
-use Rattle.std.proofs.Common.{◌≡◌, refl, sym, ◌∙◌, ap, subst, arith}
+use Rattle.std.proofs.Common.{◌≡◌, refl, ◌∙◌, ap, subst, arith}
 use Rattle.hex_solve.specs.Ledgers.{IsLedger, LedgerData}
 use Rattle.hex_solve.proofs.LedgersTell.{certified}
 use Rattle.hex_solve.proofs.ledgers.Ledger.into_cert.Goals as goal
