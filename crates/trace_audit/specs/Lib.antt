@@ -5,6 +5,7 @@ pub mod Fields
 pub mod Texts
 pub mod WordLists
 pub mod Tables
+pub mod Gains
 pub mod Sums
 pub mod Points
 pub mod Scans

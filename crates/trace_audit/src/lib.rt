@@ -46,6 +46,7 @@ mod entries;
 mod fields;
 mod gains;
 mod growth;
+mod handing;
 mod laws;
 mod linking;
 mod parsing;
