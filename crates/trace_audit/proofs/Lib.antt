@@ -13,6 +13,7 @@ mod TextTree
 mod TextWords
 mod Standing
 mod LinkedBlocks
+mod Slots
 mod Scanning
 mod Entering
 mod Skipping

@@ -4,6 +4,7 @@ pub mod Verdicts
 pub mod Fields
 pub mod Texts
 pub mod WordLists
+pub mod Slots
 pub mod Tables
 pub mod Gains
 pub mod Sums

@@ -122,7 +122,7 @@ pub(crate) fn hand_all(words: &Words, shape: &Shape, table: &Table, sums: &mut [
     let mut at = words.len();
     'words: while area < at {
         at -= 1;
-        if table.index[at] != 0 {
+        if table.index.entry(at) != 0 {
             hand_up(words, shape, sums, at);
         }
     }

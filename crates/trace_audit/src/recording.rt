@@ -37,7 +37,7 @@ fn block_of(words: &Words, table: &Table, leaf: u64) -> Option<usize>
         return None;
     }
     let block = leaf - before;
-    if table.index[block] == 0 {
+    if table.index.entry(block) == 0 {
         return None;
     }
     if words.at(block + COUNT_WORD) as usize <= place {
@@ -69,7 +69,7 @@ fn site_of(words: &Words, table: &Table, block: usize, node: usize) -> Site
     requires { IsLinkedNode words.now table.now block node }
     ensures { IsSiteOf words.now table.now block node result }
 {
-    let site = table.sites[table.index[block] as usize - 1];
+    let site = table.sites[table.index.entry(block) as usize - 1];
     site.after(Cell::numbered(cell_of(words.at(node))))
 }
 

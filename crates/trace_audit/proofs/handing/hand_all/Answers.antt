@@ -1,5 +1,4 @@
 use Rattle.std.proofs.Common.{◌≡◌, ℕ, ◌+◌, ◌-◌, ◌<◌, List, slice_index, sym, ap, ◌∙◌, subst, arith}
-use Rattle.std.proofs.lemmas.Grind.{get_or_default_zero}
 use Rattle.tree_words.specs.Blocks.{LinkedBlock, In}
 use Rattle.tree_words.specs.Words.{end_of}
 use Rattle.trace_audit.specs.Sums.{AreHanded}
@@ -26,12 +25,12 @@ hand_up-requires-clause-sums c =
     let long = lk.table.long in
     let at : ℕ = c.words.at - 1 in
     let next : c.words.at ≡ at + 1 = omega (arith, c.words-test.true) in
-    let some = c.index.ensures ∙ get_or_default_zero c.args.table.now.index.items at c.index.result.now (omega (arith, long, i.0, c.words-test.true)) in
-    let f = entry_block s c.args.words.now c.args.table.now bs h lk at (omega (arith, some, c.if-index-ne0.true)) in
+    let some = c.entry.ensures in
+    let f = entry_block s c.args.words.now c.args.table.now bs h lk at (omega (arith, some, c.if-entry-ne0.true)) in
     (bs, f.0, lk.linked, f.1, f.2, subst (AreHanded s bs c.args.words.now c.words.sums) next (i.2 bs lk c.requires.sums.2))
 
-pub words-preserved-then-index-ne0 : goal.words-preserved-then-index-ne0
-words-preserved-then-index-ne0 c =
+pub words-preserved-then-entry-ne0 : goal.words-preserved-then-entry-ne0
+words-preserved-then-entry-ne0 c =
     let s = c.args.shape.now in
     let h = c.board-board.ensures.setting in
     let i = c.words.invariant in
@@ -41,8 +40,8 @@ words-preserved-then-index-ne0 c =
       omega (arith, c.words-test.true, ap (λ k. k.playouts) c.knobs.ensures.value),
       λ bs lk a.
           let long = lk.table.long in
-          let some = c.index.ensures ∙ get_or_default_zero c.args.table.now.index.items at c.index.result.now (omega (arith, long, i.0, c.words-test.true)) in
-          let f = entry_block s c.args.words.now c.args.table.now bs h lk at (omega (arith, some, c.if-index-ne0.true)) in
+          let some = c.entry.ensures in
+          let f = entry_block s c.args.words.now c.args.table.now bs h lk at (omega (arith, some, c.if-entry-ne0.true)) in
           c.hand_up.ensures bs f.0 lk.linked f.1 f.2 (subst (AreHanded s bs c.args.words.now c.words.sums) next (i.2 bs lk a)),
     )
 
@@ -58,9 +57,9 @@ words-preserved c =
       omega (arith, c.words-test.true, area),
       λ bs lk a.
           let long = lk.table.long in
-          let none = c.index.ensures ∙ get_or_default_zero c.args.table.now.index.items at c.index.result.now (omega (arith, long, i.0, c.words-test.true)) in
+          let none = c.entry.ensures in
           handed_past s c.args.words.now bs h lk.linked c.words.sums at
-          (λ b j e. let some = lk.entered b j in omega (arith, some, ap (slice_index c.args.table.now.index.items) e, none, c.if-index-ne0.false))
+          (λ b j e. let some = lk.entered b j in omega (arith, some, ap (slice_index c.args.table.now.index) e, none, c.if-entry-ne0.false))
           (omega (arith, c.words-test.true, area))
           (subst (AreHanded s bs c.args.words.now c.words.sums) next (i.2 bs lk a)),
     )
