@@ -1,7 +1,7 @@
 -- A playout whose record is right, and one whose record is not.
-use Rattle.std.proofs.Common.{◌≡◌, ℕ, ◌+◌, ◌<◌, Bool, true, false, cond, List, refl, slice_index, sym, ap, ◌∙◌, subst, ⊎_elim, arith}
+use Rattle.std.proofs.Common.{◌≡◌, ℕ, ◌+◌, ◌<◌, Bool, true, false, List, refl, sym, ap, ◌∙◌, subst, ⊎_elim, arith}
 use Rattle.std.specs.Prelude.{◌*◌, ◌&&◌, not, nat_lt}
-use Rattle.std.proofs.lemmas.Bool.{lt-ltb, false_from_ne_true}
+use Rattle.std.proofs.lemmas.Bool.{lt-ltb}
 use Rattle.hex_cells.specs.Colours.{is_same, other_of}
 use Rattle.hex_cells.specs.Sets.{has as has_cell}
 use Rattle.hex_cells.specs.declared.colours.Colour.{Colour}
@@ -12,7 +12,7 @@ use Rattle.tree_words.specs.Settings.{Setting, IsSetting}
 use Rattle.tree_words.specs.Words.{root_at, record_in, winner_in}
 use Rattle.tree_words.specs.Blocks.{LinkedBlock, In, cell_at, has_node, is_node, place}
 use Rattle.tree_words.specs.Complete.{Linked}
-use Rattle.tree_words.specs.Paths.{NodeState, node_board, node_state, root_state, state_after}
+use Rattle.tree_words.specs.Paths.{NodeState, node_state, root_state, state_after}
 use Rattle.tree_words.specs.Records.{leaf_of, outcome_in, IsRecord}
 use Rattle.tree_words.specs.Sequence.{amount_of, outcome_of}
 use Rattle.tree_words.proofs.Blocks.BlockLaws.{has-at}

@@ -1,9 +1,9 @@
 -- What a block's sums have after a gain.
-use Rattle.std.proofs.Common.{◌≡◌, ℕ, ◌+◌, ◌*◌, ◌<◌, ◌≤◌, true, List, length, length-set, set, get_or-set_same, get_or-set_other, slice_index, refl, sym, ap, ◌∙◌, subst, ⊎_elim, arith}
+use Rattle.std.proofs.Common.{◌≡◌, ℕ, ◌+◌, ◌*◌, ◌<◌, ◌≤◌, true, List, length, length-set, set, get_or-set_same, get_or-set_other, slice_index, sym, ap, ◌∙◌, ⊎_elim, arith}
 use Rattle.std.proofs.lemmas.Bool.{cases_eq}
 use Rattle.tree_words.specs.Settings.{Setting, IsSetting}
-use Rattle.tree_words.specs.Words.{Count, cell_in, count_in, root_at, end_of, node_at, nodes_in, tally_in, seen_in}
-use Rattle.tree_words.specs.Blocks.{LinkedBlock, In, block_size, cell_at, has_node, is_node, place, size}
+use Rattle.tree_words.specs.Words.{Count, cell_in, count_in, root_at, end_of, node_at, nodes_in, tally_in}
+use Rattle.tree_words.specs.Blocks.{LinkedBlock, In, block_size, cell_at, has_node, is_node, place}
 use Rattle.tree_words.specs.Complete.{Linked}
 use Rattle.tree_words.specs.Walks.{plus}
 use Rattle.tree_words.proofs.Blocks.BlockLaws.{covers_if, has-at, has-covers, has-here, root_node}

@@ -1,5 +1,5 @@
 -- The sums before any block has handed up its own, and after all have.
-use Rattle.std.proofs.Common.{◌≡◌, ℕ, ◌+◌, ◌<◌, ◌≤◌, Bool, true, false, cond, List, refl, sym, ap, ◌∙◌, subst, ⊎_elim, arith}
+use Rattle.std.proofs.Common.{◌≡◌, ℕ, ◌+◌, ◌<◌, ◌≤◌, Bool, true, false, List, refl, sym, ap, ◌∙◌, ⊎_elim, arith}
 use Rattle.std.specs.Prelude.{◌==◌, ◌&&◌}
 use Rattle.std.specs.List.{list_any}
 use Rattle.std.proofs.lemmas.Bool.{cases_lt, eqb-true, ne_eqb, false_from_ne_true}
@@ -9,7 +9,7 @@ use Rattle.tree_words.specs.Settings.{Setting, IsSetting}
 use Rattle.tree_words.specs.Words.{area_at, end_of, root_at, tally_in}
 use Rattle.tree_words.specs.Blocks.{LinkedBlock, In, cell_at, has_node, is_node, place}
 use Rattle.tree_words.specs.Complete.{Linked}
-use Rattle.tree_words.specs.Paths.{mover_at, mover_of, node_state, path_of, root_state, state_after}
+use Rattle.tree_words.specs.Paths.{mover_at, mover_of, path_of, root_state, state_after}
 use Rattle.tree_words.specs.Counts.{is_seen, visits_at}
 use Rattle.tree_words.specs.Records.{leaf_of, outcome_in}
 use Rattle.tree_words.proofs.Blocks.BlockLaws.{has-at}
@@ -17,7 +17,7 @@ use Rattle.tree_words.proofs.Blocks.GameLaws.{up-in}
 use Rattle.tree_words.proofs.Blocks.Members.{node-in}
 use Rattle.tree_words.proofs.Walks.Countings.{has-one}
 use Rattle.tree_words.proofs.Walks.Tallies.{other_again}
-use Rattle.trace_audit.specs.Sums.{AreHanded, AreOwn, AreSums, AreStanding, HaveCounts, chooser, has_stone, level, stand, standing, tally_of}
+use Rattle.trace_audit.specs.Sums.{AreHanded, AreOwn, AreSums, AreStanding, chooser, has_stone, level, stand}
 use Rattle.trace_audit.proofs.Downward.{parent_low, path_low}
 use Rattle.trace_audit.proofs.Gained.{node_inside}
 use Rattle.trace_audit.proofs.Placed.{lies}

@@ -1,8 +1,8 @@
 -- The sums of a block handed up to its parent's.
-use Rattle.std.proofs.Common.{◌≡◌, ℕ, ◌+◌, ◌-◌, ◌*◌, ◌/◌, ◌%◌, ◌<◌, ◌≤◌, ◌^◌, Bool, true, false, cond, List, [], ◌∷◌, length, length-set, set, get_or-set_same, get_or-set_other, slice_index, refl, sym, ap, ◌∙◌, subst, ⊎_elim, arith}
+use Rattle.std.proofs.Common.{◌≡◌, ℕ, ◌+◌, ◌-◌, ◌*◌, ◌/◌, ◌<◌, ◌≤◌, ◌^◌, Bool, true, false, cond, List, [], ◌∷◌, length, length-set, set, get_or-set_same, get_or-set_other, slice_index, refl, sym, ap, ◌∙◌, subst, ⊎_elim, arith}
 use Rattle.std.specs.Prelude.{◌==◌, ◌&&◌, not}
 use Rattle.std.proofs.lemmas.Bool.{cases_Bool, cases_eq, cases_lt, eq-eqb, ne_eqb, false_from_ne_true, or_right}
-use Rattle.hex_cells.specs.Colours.{is_same, other_of}
+use Rattle.hex_cells.specs.Colours.{other_of}
 use Rattle.hex_cells.specs.Sets.{has as has_cell, with_cell}
 use Rattle.hex_cells.specs.declared.colours.Colour.{Colour}
 use Rattle.hex_cells.specs.declared.colours.Colour.TheVariants.{Black, White}
@@ -11,26 +11,26 @@ use Rattle.hex_board.proofs.Placed.{empty_on, placed_keeps, placed_leaves, place
 use Rattle.hex_cells.proofs.WithCell.{has_with_cell}
 use Rattle.play_out.specs.Fills.{empties_of, filled, filled_by, order_of}
 use Rattle.tree_words.specs.Settings.{Setting, IsSetting}
-use Rattle.tree_words.specs.Words.{Count, cell_in, count_in, root_at, end_of, next_in, node_at, nodes_in, tally_in, seen_in}
-use Rattle.tree_words.specs.Blocks.{LinkedBlock, In, block_size, cell_at, has_node, is_node, one_if, place}
+use Rattle.tree_words.specs.Words.{Count, cell_in, count_in, root_at, next_in, node_at, nodes_in}
+use Rattle.tree_words.specs.Blocks.{LinkedBlock, In, cell_at, has_node, is_node, one_if, place}
 use Rattle.tree_words.specs.Complete.{Linked, allowed_cells}
 use Rattle.tree_words.specs.Paths.{NodeState, mover_of, node_board, node_state, root_state, state_after}
 use Rattle.tree_words.specs.Records.{leaf_of, outcome_in}
 use Rattle.tree_words.specs.Sequence.{outcome_of}
 use Rattle.tree_words.specs.Walks.{plus}
 use Rattle.tree_words.proofs.Blocks.BlockLaws.{has-at, root_node}
-use Rattle.tree_words.proofs.Blocks.GameLaws.{in-node, in-parent, up-in, whole-in}
+use Rattle.tree_words.proofs.Blocks.GameLaws.{in-parent, up-in, whole-in}
 use Rattle.tree_words.proofs.Blocks.Members.{node-in}
 use Rattle.tree_words.proofs.Walks.Asking.{spot-size}
 use Rattle.tree_words.proofs.Walks.Countings.{has-one}
 use Rattle.tree_words.proofs.Walks.Tallies.{other_again}
 use Rattle.trace_audit.specs.Gains.{AreUnseen, GainsBlock, HasGiftRoom, cell_of_node, rest_gift, turned_word}
-use Rattle.trace_audit.specs.Sums.{AreHanded, AreStanding, Counts, HaveCounts, IsFilled, chooser, has_stone, level, stand, standing, tally_of}
+use Rattle.trace_audit.specs.Sums.{AreHanded, chooser, has_stone, level, stand, standing, tally_of}
 use Rattle.trace_audit.proofs.Downward.{parent_low}
-use Rattle.trace_audit.proofs.Gained.{counts_gained, gained_move, head_apart, node_inside, own_node}
+use Rattle.trace_audit.proofs.Gained.{counts_gained, gained_move, node_inside, own_node}
 use Rattle.trace_audit.proofs.Placed.{count_is, move_of}
 use Rattle.trace_audit.proofs.Stands.{level_high, level_low, stand_keeps, stand_next}
-use Rattle.trace_audit.proofs.Sums.{IsSmall, and_sum, count_plus, tally_same, tally_small, tally_sum, tally_turned, word_fits, word_of}
+use Rattle.trace_audit.proofs.Sums.{and_sum, count_plus, tally_same, tally_small, tally_sum, tally_turned, word_fits, word_of}
 use Rattle.trace_audit.proofs.Unseen.{empty_stands}
 
 -- on a filled board a cell has a stone of one player just where it has none of the other

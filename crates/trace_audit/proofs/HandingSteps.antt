@@ -2,7 +2,7 @@
 use Rattle.std.proofs.Common.{◌≡◌, ℕ, ◌+◌, ◌-◌, ◌*◌, ◌/◌, ◌<◌, ◌≤◌, ◌^◌, true, List, length, set, slice_index, sym, ap, ◌∙◌, subst, ⊎_elim, arith}
 use Rattle.tree_words.specs.Settings.{Setting, IsSetting}
 use Rattle.tree_words.specs.Words.{end_of, nodes_in, root_at}
-use Rattle.tree_words.specs.Blocks.{LinkedBlock, In, block_size, has_node, is_node}
+use Rattle.tree_words.specs.Blocks.{LinkedBlock, In, block_size, has_node}
 use Rattle.tree_words.specs.Complete.{Linked}
 use Rattle.tree_words.proofs.Blocks.GameLaws.{in-parent}
 use Rattle.tree_words.proofs.Blocks.Members.{node-in}

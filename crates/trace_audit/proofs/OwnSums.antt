@@ -1,16 +1,15 @@
 -- One playout more in the sums, at its leaf.
-use Rattle.std.proofs.Common.{◌≡◌, ℕ, zero, suc, ◌+◌, ◌*◌, ◌%◌, ◌<◌, ◌≤◌, ◌^◌, Bool, true, false, cond, List, length, length-set, replicate, set, get_or-set_same, get_or-set_other, slice_index, refl, sym, ap, ◌∙◌, subst, ⊎_elim, arith}
+use Rattle.std.proofs.Common.{◌≡◌, ℕ, suc, ◌+◌, ◌<◌, ◌^◌, Bool, true, false, cond, List, length, length-set, replicate, set, get_or-set_same, get_or-set_other, slice_index, refl, sym, ap, ◌∙◌, subst, ⊎_elim, arith}
 use Rattle.std.specs.Prelude.{◌==◌, ◌&&◌}
 use Rattle.std.proofs.lemmas.Bool.{cases_eq, eq-eqb, ne_eqb, false_from_ne_true}
 use Rattle.std.proofs.lemmas.List.{length-replicate}
 use Rattle.hex_cells.specs.Colours.{is_same}
-use Rattle.hex_cells.specs.Sets.{has as has_cell}
 use Rattle.hex_cells.specs.declared.colours.Colour.{Colour}
-use Rattle.hex_board.specs.Positions.{Position, stones_of}
+use Rattle.hex_board.specs.Positions.{stones_of}
 use Rattle.play_out.specs.declared.playouts.Ending.{Ending}
 use Rattle.tree_words.specs.Settings.{Setting, IsSetting}
-use Rattle.tree_words.specs.Words.{Count, count_in, root_at, end_of, node_at, nodes_in, tally_in, seen_in}
-use Rattle.tree_words.specs.Blocks.{LinkedBlock, In, block_size, cell_at, has_node, is_node, one_if, place}
+use Rattle.tree_words.specs.Words.{count_in, root_at, end_of, node_at}
+use Rattle.tree_words.specs.Blocks.{LinkedBlock, In, has_node, is_node, one_if}
 use Rattle.tree_words.specs.Complete.{Linked}
 use Rattle.tree_words.specs.Growth.{ends_at}
 use Rattle.tree_words.specs.Records.{leaf_of, outcome_in}
@@ -22,11 +21,10 @@ use Rattle.tree_words.proofs.Blocks.NodeLaws.{nodes-apart}
 use Rattle.tree_words.proofs.Walks.Countings.{has-one}
 use Rattle.tree_words.proofs.Walks.Down.{plus-nothing}
 use Rattle.tree_words.proofs.Walks.Tallies.{count-most}
-use Rattle.trace_audit.specs.Gains.{AreCells, GainsLeaf, HasRoom, IsNodeOf}
+use Rattle.trace_audit.specs.Gains.{GainsLeaf, HasRoom}
 use Rattle.trace_audit.specs.Sums.{AreOwn, Counts, HaveCounts, IsFilled, chooser, has_stone, standing, tally_of}
 use Rattle.trace_audit.proofs.Downward.{parent_low}
-use Rattle.trace_audit.proofs.Gained.{counts_gained, gained_move, head_apart, node_inside, node_of, own_node}
-use Rattle.trace_audit.proofs.Placed.{count_is, lies, move_of}
+use Rattle.trace_audit.proofs.Gained.{counts_gained, gained_move, head_apart, node_inside, own_node}
 use Rattle.trace_audit.proofs.Sums.{IsSmall, one_word, tally_next, tally_small, word_of, word_small}
 use Rattle.trace_audit.proofs.WordBytes.{none_left}
 

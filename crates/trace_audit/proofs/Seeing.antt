@@ -1,5 +1,5 @@
 -- The seen words of a block in the sums, one by one.
-use Rattle.std.proofs.Common.{◌≡◌, ℕ, ◌+◌, ◌*◌, ◌<◌, Bool, false, cond, List, length, set, length-set, get_or-set_same, get_or-set_other, slice_index, sym, ap, ◌∙◌, subst, ⊎_elim, arith}
+use Rattle.std.proofs.Common.{◌≡◌, ℕ, ◌+◌, ◌<◌, List, length, set, length-set, get_or-set_same, get_or-set_other, slice_index, sym, ap, ◌∙◌, subst, ⊎_elim, arith}
 use Rattle.std.proofs.lemmas.Bool.{cases_eq}
 use Rattle.tree_words.specs.Words.{node_at}
 use Rattle.trace_audit.specs.Gains.{Sees, cell_of_node}

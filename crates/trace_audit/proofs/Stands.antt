@@ -1,8 +1,8 @@
 -- Where playouts stand while sums are handed up.
 use Rattle.std.proofs.Common.{◌≡◌, ℕ, ◌+◌, ◌<◌, ◌≤◌, Bool, true, false, cond, List, [], ◌∷◌, refl, sym, ap, ◌∙◌, subst, ⊎_elim, inl, inr, arith}
-use Rattle.std.specs.Prelude.{◌==◌, ◌&&◌, ◌||◌, nat_le, nat_lt}
+use Rattle.std.specs.Prelude.{◌||◌, nat_le, nat_lt}
 use Rattle.std.specs.List.{list_any}
-use Rattle.std.proofs.lemmas.Bool.{cases_Bool, cases_eq, cases_lt, eq-eqb, eqb-true, ne_eqb, false_from_ne_true, or_cases, or_from, or_left}
+use Rattle.std.proofs.lemmas.Bool.{cases_eq, cases_lt, eqb-true, false_from_ne_true, or_cases}
 use Rattle.std.proofs.lemmas.Bool.Decides.{nat_tests}
 use Rattle.hex_cells.specs.Sets.{has as has_cell}
 use Rattle.hex_cells.specs.declared.colours.Colour.{Colour}
@@ -10,15 +10,15 @@ use Rattle.hex_board.specs.Positions.{stones_of}
 use Rattle.hex_board.proofs.Placed.{placed_keeps}
 use Rattle.tree_words.specs.Settings.{Setting}
 use Rattle.tree_words.specs.Words.{root_at}
-use Rattle.tree_words.specs.Blocks.{LinkedBlock, In, InOrder, covers, has_node, is_node, one_if, size, up, place, cell_at}
+use Rattle.tree_words.specs.Blocks.{LinkedBlock, In, InOrder, has_node, is_node, place, cell_at}
 use Rattle.tree_words.specs.Paths.{NodeState, root_state, state_after, node_state, node_board, path_of}
-use Rattle.tree_words.proofs.Blocks.BlockLaws.{clash, covers_if, has-at, root_node}
-use Rattle.tree_words.proofs.Blocks.GameLaws.{in-node, in-parent, up-in}
+use Rattle.tree_words.proofs.Blocks.BlockLaws.{covers_if, has-at}
+use Rattle.tree_words.proofs.Blocks.GameLaws.{in-parent, up-in}
 use Rattle.tree_words.proofs.Blocks.Members.{node-in}
 use Rattle.tree_words.proofs.Boards.EmptyLaws.{up-root}
 use Rattle.tree_words.proofs.Walks.Countings.{has-one}
 use Rattle.trace_audit.specs.Sums.{stand, level}
-use Rattle.trace_audit.proofs.Downward.{parent_low, path_low}
+use Rattle.trace_audit.proofs.Downward.{parent_low}
 use Rattle.trace_audit.proofs.LinkedBlocks.{apart_blocks}
 
 -- what holds of the root, and of the nodes of a block where it holds of its parent, holds of each node

@@ -1,11 +1,11 @@
 -- Counts of playouts: sums of them, and words that hold them.
-use Rattle.std.proofs.Common.{◌≡◌, ℕ, zero, suc, ◌+◌, ◌-◌, ◌*◌, ◌/◌, ◌%◌, ◌<◌, ◌≤◌, ◌^◌, Bool, true, false, cond, List, refl, sym, ap, ◌∙◌, arith}
-use Rattle.std.specs.Prelude.{◌&&◌, not}
+use Rattle.std.proofs.Common.{◌≡◌, ℕ, zero, suc, ◌+◌, ◌*◌, ◌/◌, ◌%◌, ◌<◌, ◌^◌, Bool, true, false, cond, List, refl, sym, ap, ◌∙◌, arith}
+use Rattle.std.specs.Prelude.{◌&&◌}
 use Rattle.hex_cells.specs.Colours.{is_same, other_of}
 use Rattle.hex_cells.specs.declared.colours.Colour.{Colour}
 use Rattle.hex_cells.specs.declared.colours.Colour.TheVariants.{Black, White}
 use Rattle.tree_words.specs.Settings.{Setting}
-use Rattle.tree_words.specs.Words.{Count, count_in, visits_in, wins_in}
+use Rattle.tree_words.specs.Words.{Count, count_in}
 use Rattle.tree_words.specs.Blocks.{LinkedBlock, one_if}
 use Rattle.tree_words.specs.Records.{outcome_in}
 use Rattle.tree_words.specs.Walks.{nothing, plus}

@@ -1,12 +1,12 @@
 -- The cells of a block: each empty cell is among them; and what is told of each of them.
-use Rattle.std.proofs.Common.{◌≡◌, ⊎_elim, ℕ, zero, suc, ◌+◌, ◌*◌, ◌<◌, ◌≤◌, true, false, cond, List, [], ◌∷◌, length, set, length-set, get_or-set_same, get_or-set_other, slice_index, inl, inr, refl, sym, ap, ◌∙◌, subst, arith}
+use Rattle.std.proofs.Common.{◌≡◌, ⊎_elim, ℕ, zero, suc, ◌+◌, ◌<◌, true, cond, List, [], ◌∷◌, length, set, get_or-set_same, get_or-set_other, slice_index, inl, inr, sym, ap, ◌∙◌, arith}
 use Rattle.std.specs.Prelude.{◌==◌, count_by}
 use Rattle.std.proofs.lemmas.Bool.{cases_eq}
 use Rattle.hex_board.specs.Positions.{Position, is_empty_at}
 use Rattle.play_out.specs.Fills.{empties_of}
 use Rattle.play_out.proofs.Counting.{counted_later, empties_listed}
 use Rattle.tree_words.specs.Words.{node_at}
-use Rattle.trace_audit.specs.Gains.{AreUnseen, IsUnseenAt, cell_of_node, turned_word}
+use Rattle.trace_audit.specs.Gains.{AreUnseen, cell_of_node, turned_word}
 
 -- where a number stands in a list
 stands_at : (xs : List ℕ) (c : ℕ) → 0 < count_by (λ e. e == c) xs → (k : ℕ) × (k < length xs) × (slice_index xs k ≡ c)

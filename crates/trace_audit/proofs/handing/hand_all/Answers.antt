@@ -1,5 +1,5 @@
-use Rattle.std.proofs.Common.{◌≡◌, ℕ, ◌+◌, ◌-◌, ◌<◌, List, slice_index, sym, ap, ◌∙◌, subst, arith}
-use Rattle.tree_words.specs.Blocks.{LinkedBlock, In}
+use Rattle.std.proofs.Common.{◌≡◌, ℕ, ◌+◌, ◌-◌, List, slice_index, sym, ap, ◌∙◌, subst, arith}
+use Rattle.tree_words.specs.Blocks.{LinkedBlock}
 use Rattle.tree_words.specs.Words.{end_of}
 use Rattle.trace_audit.specs.Sums.{AreHanded}
 use Rattle.trace_audit.proofs.HandedAll.{all_handed, handed_none, handed_past}

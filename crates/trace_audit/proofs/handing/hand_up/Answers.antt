@@ -1,4 +1,4 @@
-use Rattle.std.proofs.Common.{◌≡◌, ℕ, ◌+◌, List, sym, ap, ◌∙◌, arith}
+use Rattle.std.proofs.Common.{◌+◌, sym, ap, ◌∙◌, arith}
 use Rattle.trace_audit.proofs.HandingSteps.{at_cells, at_inside, at_within, block_done, gifts_fit, in_cells, in_node, in_words, parent_inside, place_fits, root_done, root_fits, tally_fits, total_fits}
 use Rattle.trace_audit.proofs.handing.hand_up.Goals as goal
 

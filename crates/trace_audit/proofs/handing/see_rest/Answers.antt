@@ -1,4 +1,4 @@
-use Rattle.std.proofs.Common.{◌≡◌, ℕ, ◌+◌, ◌-◌, ◌*◌, ◌<◌, List, slice_index, slice_index_or, length, sym, ap, ◌∙◌, arith}
+use Rattle.std.proofs.Common.{◌≡◌, ℕ, ◌+◌, ◌-◌, ◌*◌, ◌<◌, slice_index_or, length, ap, ◌∙◌, arith}
 use Rattle.tree_words.specs.Words.{cell_in}
 use Rattle.trace_audit.specs.Gains.{cell_of_node, rest_gift}
 use Rattle.trace_audit.proofs.Seeing.{sees_next}

@@ -1,4 +1,4 @@
-use Rattle.std.proofs.Common.{◌≡◌, ℕ, ◌+◌, ◌<◌, ◌∙◌, ap, length-set, replicate, arith}
+use Rattle.std.proofs.Common.{◌≡◌, ℕ, ◌∙◌, ap, length-set, replicate, arith}
 use Rattle.std.proofs.lemmas.List.{length-replicate}
 use Rattle.tree_words.specs.Words.{cell_in}
 use Rattle.trace_audit.specs.Gains.{cell_of_node}

@@ -1,5 +1,4 @@
-use Rattle.std.proofs.Common.{◌+◌, List, ◌∷◌, refl, sym, ap, ◌∙◌, arith}
-use Rattle.std.specs.Prelude.{slice_index}
+use Rattle.std.proofs.Common.{◌+◌, List, ◌∷◌, refl, arith}
 use Rattle.tree_words.specs.Blocks.{LinkedBlock}
 use Rattle.tree_words.specs.Told.{told_block}
 use Rattle.trace_audit.specs.Tables.{Scanned}

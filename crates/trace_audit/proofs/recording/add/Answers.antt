@@ -1,4 +1,4 @@
-use Rattle.std.proofs.Common.{◌≡◌, ℕ, ◌+◌, ◌<◌, ◌≤◌, ◌^◌, ◌/◌, List, length, slice_index, sym, ap, ◌∙◌, subst, arith}
+use Rattle.std.proofs.Common.{ℕ, ◌+◌, ◌≤◌, ◌^◌, ◌/◌, List, length, slice_index, sym, ap, ◌∙◌, subst, arith}
 use Rattle.hex_board.specs.Positions.{stones_of}
 use Rattle.hex_cells.specs.Colours.{is_same}
 use Rattle.tree_words.specs.Sequence.{amount_of}

@@ -1,4 +1,4 @@
-use Rattle.std.proofs.Common.{◌≡◌, ℕ, ◌+◌, ◌-◌, ◌*◌, ◌/◌, ap, ◌∙◌, arith}
+use Rattle.std.proofs.Common.{◌≡◌, ℕ, ◌+◌, ◌-◌, ◌*◌, ◌/◌, ap, arith}
 use Rattle.std.specs.Prelude.{slice_index}
 use Rattle.trace_audit.proofs.LinkedLaws.{block_entry, block_found, count_word, node_most, place_word}
 use Rattle.trace_audit.proofs.recording.block_of.Goals as goal

@@ -1,8 +1,7 @@
-use Rattle.std.proofs.Common.{◌≡◌, true, false, cond, sym, ap, ◌∙◌, ◌*◌}
-use Rattle.hex_board.specs.Joined.{is_joined}
+use Rattle.std.proofs.Common.{◌≡◌, cond, sym, ap, ◌∙◌}
 use Rattle.hex_board.specs.Positions.{Position}
 use Rattle.hex_cells.specs.declared.colours.Colour.TheVariants.{Black, White}
-use Rattle.play_out.specs.Fills.{filled, playout_of, winner_by}
+use Rattle.play_out.specs.Fills.{playout_of, winner_by}
 use Rattle.trace_audit.proofs.recording.ending_of.Goals as goal
 use Rattle.trace_audit.proofs.recording.ending_of.Goals.{then-joined, else-joined}
 

@@ -1,4 +1,4 @@
-use Rattle.std.proofs.Common.{◌/◌, ◌+◌, List, ℕ, ap, ◌∙◌}
+use Rattle.std.proofs.Common.{◌/◌, ◌+◌, ap, ◌∙◌}
 use Rattle.trace_audit.specs.Slots.{entries_from}
 use Rattle.trace_audit.proofs.Slots.{entries_none}
 use Rattle.trace_audit.proofs.index.Index.empty.Goals as goal

@@ -1,7 +1,7 @@
 use Rattle.std.proofs.Common.{◌≡◌, ℕ, ◌+◌, ◌*◌, ◌/◌, ◌%◌, ◌<◌, List, length, set, slice_index, inl, inr, refl, sym, ap, ◌∙◌, subst, arith}
 use Rattle.std.specs.Prelude.{◌⊎◌}
 use Rattle.std.proofs.lemmas.Grind.{get_or_default_zero}
-use Rattle.trace_audit.specs.Slots.{IsTaken, entries_from}
+use Rattle.trace_audit.specs.Slots.{IsTaken}
 use Rattle.trace_audit.proofs.Slots.{entries_long, entries_set, entry_taken, slot_inside, slots_set}
 use Rattle.trace_audit.proofs.index.Index.enter.Goals as goal
 use Rattle.trace_audit.proofs.index.Index.enter.Goals.{else-slot-ne0-via-then-slot-ne0+else-slot-place, else-slot-ne0-via-else-slot-ne0}
