@@ -12,10 +12,10 @@ use Rattle.trace_audit.proofs.Scanning.{advance, scan_none}
 use Rattle.trace_audit.proofs.WordBytes.{none_left}
 
 module _ (s : Setting) (words : List ℕ) (h : IsSetting s) (root : ℕ) (at : root ≡ root_at s) where
-  pub first_scan : (t : Table) (n : ℕ) → n ≡ end_of s → t.index.items ≡ replicate n 0 → t.sites.items ≡ [] → t.others ≡ 0 → Scanned s words t root (root + 4) []
+  pub first_scan : (t : Table) (n : ℕ) → n ≡ end_of s → t.index ≡ replicate n 0 → t.sites.items ≡ [] → t.others ≡ 0 → Scanned s words t root (root + 4) []
   first_scan t n e none sites others =
       let area : area_at s ≡ root + 4 = omega (arith, at) in
-      let long : length t.index.items ≡ end_of s = ap length none ∙ length-replicate {A = ℕ} n 0 ∙ e in
+      let long : length t.index ≡ end_of s = ap length none ∙ length-replicate {A = ℕ} n 0 ∙ e in
       let first = scan_none s words h t long (λ i. ap (λ z. slice_index z i) none ∙ none_left n i) sites others in
       subst (λ (p : ℕ). Scanned s words t root p []) area (subst (λ (d : ℕ). Scanned s words t d (area_at s) []) (sym at) first)
 

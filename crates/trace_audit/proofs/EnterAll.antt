@@ -1,7 +1,6 @@
 -- The nodes of the block that was found last, one by one.
 use Rattle.std.proofs.Common.{◌≡◌, ℕ, ◌+◌, ◌-◌, ◌*◌, ◌<◌, true, List, ◌∷◌, length, refl, sym, ap, ◌∙◌, inl, inr, arith}
 use Rattle.std.specs.Prelude.{slice_index, slice_index_or}
-use Rattle.std.proofs.lemmas.Grind.{get_or_default_zero}
 use Rattle.hex_board.specs.Positions.{is_empty_at}
 use Rattle.tree_words.specs.Settings.{Setting}
 use Rattle.tree_words.specs.Words.{root_at, next_in, cell_in}
@@ -20,31 +19,31 @@ module _ (s : Setting) (words : List ℕ) (t : Table) (done at end : ℕ) (b : L
       let none : at ≡ b.start + 0 = omega (arith, e.start) in
       ap (slice_index words) none ∙ e.scanned.shown b (inl refl) 0 (omega arith) refl
 
-  is_entry : 0 < slice_index t.index.items at
-  is_entry = omega (arith, e.scanned.entered b (inl refl), ap (slice_index t.index.items) e.start)
+  is_entry : 0 < slice_index t.index at
+  is_entry = omega (arith, e.scanned.entered b (inl refl), ap (slice_index t.index) e.start)
 
-  at_inside : at < length t.index.items
+  at_inside : at < length t.index
   at_inside =
       let inside = (e.scanned.complete).0.inside in
       let long = e.scanned.table.long in
       omega (arith, inside, long, e.start)
 
-  pub entry_is : (n : ℕ) → n ≡ slice_index_or t.index.items at n → n ≡ slice_index t.index.items at
-  entry_is n h = h ∙ get_or_default_zero t.index.items at n at_inside
+  pub entry_is : (n : ℕ) → n ≡ slice_index t.index at → n ≡ slice_index t.index at
+  entry_is n h = h
 
-  pub entry_least : (n : ℕ) → n ≡ slice_index_or t.index.items at n → (0 < n) × (n - 1 < length t.sites.items)
+  pub entry_least : (n : ℕ) → n ≡ slice_index t.index at → (0 < n) × (n - 1 < length t.sites.items)
   entry_least n h =
       let same = entry_is n h in
       let d : Site → (0 < n) × (n - 1 < length t.sites.items) = λ d. let k = e.scanned.table.index at d is_entry in (omega (arith, same, is_entry), omega (arith, k.0, same, is_entry)) in
       d (record { start = 0; board = s.board; player = s.player })
 
   -- the site of the block
-  pub site_is : (n : ℕ) (site : Site) → n ≡ slice_index_or t.index.items at n → site ≡ slice_index_or t.sites.items (n - 1) site → site_state site ≡ node_state s (b ∷ bs) b.parent
+  pub site_is : (n : ℕ) (site : Site) → n ≡ slice_index t.index at → site ≡ slice_index_or t.sites.items (n - 1) site → site_state site ≡ node_state s (b ∷ bs) b.parent
   site_is n site h g =
       let same = entry_is n h in
       let k = e.scanned.table.index at site is_entry in
-      let found : Site = slice_index_or t.sites.items (slice_index t.index.items at - 1) site in
-      let is : IsSite s words (b ∷ bs) found = e.scanned.table.sites (slice_index t.index.items at - 1) site (omega (arith, k.0, is_entry)) in
+      let found : Site = slice_index_or t.sites.items (slice_index t.index at - 1) site in
+      let is : IsSite s words (b ∷ bs) found = e.scanned.table.sites (slice_index t.index at - 1) site (omega (arith, k.0, is_entry)) in
       let all : site ≡ found = g ∙ ap (λ m. slice_index_or t.sites.items (m - 1) site) same in
       ap site_state all ∙ is.state ∙ ap (node_state s (b ∷ bs)) (ap (slice_index words) k.1 ∙ names_parent)
 

@@ -26,16 +26,16 @@ node_inside s words t done p bs x h sc n = (
 
 module _ (s : Setting) (words : List ℕ) (t u : Table) (x p : ℕ) (bs : List LinkedBlock) (sc : Scanned s words t x p bs) (n : is_node (root_at s) bs x ≡ true) (site : Site) (start : ℕ)
     (first : site.start ≡ start) (state : site_state site ≡ node_state s bs x) (link : link_in words x ≡ start) (free : p ≤ start) (inside : start < end_of s) (parent : slice_index words start ≡ x)
-    (index : u.index.items ≡ set t.index.items start (length t.sites.items + 1)) (sites : u.sites.items ≡ t.sites.items ++ site ∷ []) (others : u.others ≡ t.others) where
-  new_index : slice_index u.index.items start ≡ length t.sites.items + 1
-  new_index = let long = sc.table.long in ap (λ l. slice_index l start) index ∙ get_or-set_same t.index.items start (length t.sites.items + 1) 0 (omega (arith, inside, long))
+    (index : u.index ≡ set t.index start (length t.sites.items + 1)) (sites : u.sites.items ≡ t.sites.items ++ site ∷ []) (others : u.others ≡ t.others) where
+  new_index : slice_index u.index start ≡ length t.sites.items + 1
+  new_index = let long = sc.table.long in ap (λ l. slice_index l start) index ∙ get_or-set_same t.index start (length t.sites.items + 1) 0 (omega (arith, inside, long))
 
-  old_index : (b : ℕ) → (b ≡ start → ⊥) → slice_index u.index.items b ≡ slice_index t.index.items b
-  old_index b d = ap (λ l. slice_index l b) index ∙ get_or-set_other t.index.items start b (length t.sites.items + 1) 0 d
+  old_index : (b : ℕ) → (b ≡ start → ⊥) → slice_index u.index b ≡ slice_index t.index b
+  old_index b d = ap (λ l. slice_index l b) index ∙ get_or-set_other t.index start b (length t.sites.items + 1) 0 d
 
-  more_index : (b : ℕ) → 0 < slice_index t.index.items b → 0 < slice_index u.index.items b
+  more_index : (b : ℕ) → 0 < slice_index t.index b → 0 < slice_index u.index b
   more_index b l = ⊎_elim
-      (λ (e : b ≡ start). omega (arith, ap (slice_index u.index.items) e, new_index))
+      (λ (e : b ≡ start). omega (arith, ap (slice_index u.index) e, new_index))
       (λ (e : b ≡ start → ⊥). omega (arith, old_index b e, l))
       (cases_eq b start)
 
@@ -61,20 +61,20 @@ module _ (s : Setting) (words : List ℕ) (t u : Table) (x p : ℕ) (bs : List L
 
   table_more : IsSiteTable s words bs u
   table_more = record {
-    long = ap length index ∙ length-set t.index.items start (length t.sites.items + 1) ∙ sc.table.long;
+    long = ap length index ∙ length-set t.index start (length t.sites.items + 1) ∙ sc.table.long;
     sites = λ k d l. ⊎_elim
         (λ (m : k < length t.sites.items). subst (IsSite s words bs) (sym (old_site k d m)) (sc.table.sites k d m))
         (λ (m : length t.sites.items ≤ k). subst (IsSite s words bs) (sym (new_site k d (omega (arith, m, l, sites_long)))) is_site)
         (cases_lt k (length t.sites.items));
     index = λ b d l. ⊎_elim
         (λ (e : b ≡ start).
-        let k : slice_index u.index.items b ≡ length t.sites.items + 1 = ap (slice_index u.index.items) e ∙ new_index in
-        (omega (arith, k, sites_long), ap (λ z. z.start) (new_site (slice_index u.index.items b - 1) d (omega (arith, k))) ∙ first ∙ sym e))
+        let k : slice_index u.index b ≡ length t.sites.items + 1 = ap (slice_index u.index) e ∙ new_index in
+        (omega (arith, k, sites_long), ap (λ z. z.start) (new_site (slice_index u.index b - 1) d (omega (arith, k))) ∙ first ∙ sym e))
         (λ (e : b ≡ start → ⊥).
-        let k : slice_index u.index.items b ≡ slice_index t.index.items b = old_index b e in
+        let k : slice_index u.index b ≡ slice_index t.index b = old_index b e in
         let old = sc.table.index b d (omega (arith, k, l)) in
-        let at : slice_index_or u.sites.items (slice_index u.index.items b - 1) d ≡ slice_index_or t.sites.items (slice_index t.index.items b - 1) d
-        = ap (λ j. slice_index_or u.sites.items (j - 1) d) k ∙ old_site (slice_index t.index.items b - 1) d (omega (arith, old.0, k, l)) in
+        let at : slice_index_or u.sites.items (slice_index u.index b - 1) d ≡ slice_index_or t.sites.items (slice_index t.index b - 1) d
+        = ap (λ j. slice_index_or u.sites.items (j - 1) d) k ∙ old_site (slice_index t.index b - 1) d (omega (arith, old.0, k, l)) in
         (omega (arith, k, old.0, sites_long), ap (λ z. z.start) at ∙ old.1))
         (cases_eq b start);
   }
@@ -91,12 +91,12 @@ module _ (s : Setting) (words : List ℕ) (t u : Table) (x p : ℕ) (bs : List L
     links = λ y m l. ⊎_elim
         (λ (k : y < x). ⊎_elim
         (λ (e : link_in words y ≡ link_of bs y). inl e)
-        (λ (e : (link_of bs y ≡ 0) × (p ≤ link_in words y) × (0 < slice_index t.index.items (link_in words y)) × (slice_index words (link_in words y) ≡ y)).
+        (λ (e : (link_of bs y ≡ 0) × (p ≤ link_in words y) × (0 < slice_index t.index (link_in words y)) × (slice_index words (link_in words y) ≡ y)).
         inr (e.0, e.1, more_index (link_in words y) e.2, e.3))
         (sc.links y m k))
         (λ (k : x ≤ y).
         let at : x ≡ y = omega (arith, k, l) in
-        let here : IsFollowed words u p bs x = inr (sc.vacant x n (omega arith), omega (arith, link, free), omega (arith, ap (slice_index u.index.items) link, new_index), ap (slice_index words) link ∙ parent) in
+        let here : IsFollowed words u p bs x = inr (sc.vacant x n (omega arith), omega (arith, link, free), omega (arith, ap (slice_index u.index) link, new_index), ap (slice_index words) link ∙ parent) in
         subst (IsFollowed words u p bs) at here)
         (cases_lt y x);
     vacant = λ y m l. sc.vacant y m (omega (arith, l));

@@ -1,7 +1,6 @@
 -- The linked blocks and their table: where a node's block is found, and its board.
 use Rattle.std.proofs.Common.{◌≡◌, ℕ, ◌+◌, ◌-◌, ◌*◌, ◌/◌, ◌<◌, ◌≤◌, true, List, length, sym, ap, ◌∙◌, arith}
 use Rattle.std.specs.Prelude.{slice_index, slice_index_or}
-use Rattle.std.proofs.lemmas.Grind.{get_or_default_zero}
 use Rattle.hex_board.specs.Positions.{is_empty_at}
 use Rattle.tree_words.specs.Settings.{Setting, IsSetting}
 use Rattle.tree_words.specs.Words.{root_at, area_at, end_of, cell_in}
@@ -36,7 +35,7 @@ module _ (s : Setting) (words : List ℕ) (t : Table) (bs : List LinkedBlock) (h
   node_most b x i n = most_of s words bs h lk.linked b x i n
 
   -- the block of a node is entered
-  pub block_entry : (b : LinkedBlock) → In b bs → 0 < slice_index t.index.items b.start
+  pub block_entry : (b : LinkedBlock) → In b bs → 0 < slice_index t.index b.start
   block_entry b i = lk.entered b i
 
   -- a site of the table is that of a linked block
@@ -52,14 +51,14 @@ module _ (s : Setting) (words : List ℕ) (t : Table) (bs : List LinkedBlock) (h
       (named.0, in-turned named.0 bs at.0, named.2 ∙ to, is.state ∙ ap (node_state s bs) (sym at.1))
 
   -- where the index has an entry, a block begins
-  pub entry_block : (a : ℕ) → 0 < slice_index t.index.items a → (b : LinkedBlock) × In b bs × (b.start ≡ a)
+  pub entry_block : (a : ℕ) → 0 < slice_index t.index a → (b : LinkedBlock) × In b bs × (b.start ≡ a)
   entry_block a l =
       let d : Site = record { start = 0; board = s.board; player = s.player } in
       let k = lk.table.index a d l in
-      let f = site_block (slice_index t.index.items a - 1) d (omega (arith, k.0, l)) in
+      let f = site_block (slice_index t.index a - 1) d (omega (arith, k.0, l)) in
       (f.0, f.1, f.2 ∙ k.1)
 
-  pub block_found : (x p : ℕ) → p ≡ slice_index words x / 256 → 4 + 4 * p ≤ x → 0 < slice_index t.index.items (x - (4 + 4 * p)) → p < slice_index words (x - (4 + 4 * p) + 3)
+  pub block_found : (x p : ℕ) → p ≡ slice_index words x / 256 → 4 + 4 * p ≤ x → 0 < slice_index t.index (x - (4 + 4 * p)) → p < slice_index words (x - (4 + 4 * p) + 3)
       → (b : LinkedBlock) × In b bs × (b.start ≡ x - (4 + 4 * p)) × (has_node b x ≡ true)
   block_found x p e l m n =
       let f = entry_block (x - (4 + 4 * p)) m in
@@ -68,22 +67,22 @@ module _ (s : Setting) (words : List ℕ) (t : Table) (bs : List LinkedBlock) (h
       (f.0, f.1, f.2, sym (ap (has_node f.0) at) ∙ has-here f.0 p few)
 
   -- the site of a block
-  module _ (b : LinkedBlock) (i : In b bs) (a n : ℕ) (at : b.start ≡ a) (index : n ≡ slice_index_or t.index.items a n) where
-    entry_inside : a < length t.index.items
+  module _ (b : LinkedBlock) (i : In b bs) (a n : ℕ) (at : b.start ≡ a) (index : n ≡ slice_index t.index a) where
+    entry_inside : a < length t.index
     entry_inside = let l = lies_in b i in let long = lk.table.long in omega (arith, at, l, long)
 
-    entry_is : n ≡ slice_index t.index.items a
-    entry_is = index ∙ get_or_default_zero t.index.items a n entry_inside
+    entry_is : n ≡ slice_index t.index a
+    entry_is = index
 
-    pub entry_least : (0 < n) × (n - 1 < length t.sites.items) × (a < length t.index.items)
+    pub entry_least : (0 < n) × (n - 1 < length t.sites.items) × (a < length t.index)
     entry_least =
-        let some : 0 < slice_index t.index.items a = omega (arith, ap (slice_index t.index.items) at, lk.entered b i) in
+        let some : 0 < slice_index t.index a = omega (arith, ap (slice_index t.index) at, lk.entered b i) in
         let k = lk.table.index a (record { start = 0; board = s.board; player = s.player }) some in
         (omega (arith, entry_is, some), omega (arith, k.0, entry_is, some), entry_inside)
 
     pub entry_state : (site : Site) → site ≡ slice_index_or t.sites.items (n - 1) site → site_state site ≡ node_state s bs b.parent
     entry_state site found =
-        let some : 0 < slice_index t.index.items a = omega (arith, ap (slice_index t.index.items) at, lk.entered b i) in
+        let some : 0 < slice_index t.index a = omega (arith, ap (slice_index t.index) at, lk.entered b i) in
         let k = lk.table.index a site some in
         let is : IsSite s words bs (slice_index_or t.sites.items (n - 1) site) = lk.table.sites (n - 1) site entry_least.1 in
         let start : (slice_index_or t.sites.items (n - 1) site).start ≡ b.start = ap (λ (m : ℕ). (slice_index_or t.sites.items (m - 1) site).start) entry_is ∙ k.1 ∙ sym at in

@@ -2,7 +2,6 @@
 use Rattle.std.proofs.Common.{◌≡◌, ℕ, ◌+◌, ◌-◌, ◌<◌, ◌≤◌, true, List, ◌∷◌, length, refl, sym, ap, ◌∙◌, subst, ⊎_elim, arith}
 use Rattle.std.specs.Prelude.{slice_index, slice_index_or}
 use Rattle.std.proofs.lemmas.Bool.{cases_eq}
-use Rattle.std.proofs.lemmas.Grind.{get_or_default_zero}
 use Rattle.hex_board.specs.Positions.{Position}
 use Rattle.tree_words.specs.Settings.{Setting, IsSetting}
 use Rattle.tree_words.specs.Words.{root_at, end_of, link_in}
@@ -18,10 +17,10 @@ use Rattle.trace_audit.specs.Tables.{AreUnlinked, block_at, StandsInArea, site_s
 use Rattle.trace_audit.proofs.MustStand.{block_alone, block_stands}
 use Rattle.trace_audit.proofs.Passing.{put}
 
-module _ (s : Setting) (words : List ℕ) (h : IsSetting s) (t : Table) (p : ℕ) (bs : List LinkedBlock) (sc : Scanned s words t p p bs) (n : ℕ) (inside : p < length t.index.items) (entry : 0 < slice_index t.index.items p)
-    (index : n ≡ slice_index_or t.index.items p n) where
-  is_number : n ≡ slice_index t.index.items p
-  is_number = index ∙ get_or_default_zero t.index.items p n inside
+module _ (s : Setting) (words : List ℕ) (h : IsSetting s) (t : Table) (p : ℕ) (bs : List LinkedBlock) (sc : Scanned s words t p p bs) (n : ℕ) (inside : p < length t.index) (entry : 0 < slice_index t.index p)
+    (index : n ≡ slice_index t.index p) where
+  is_number : n ≡ slice_index t.index p
+  is_number = index
 
   pub number_least : (0 < n) × (n - 1 < length t.sites.items)
   number_least =
@@ -63,12 +62,12 @@ module _ (s : Setting) (words : List ℕ) (h : IsSetting s) (t : Table) (p : ℕ
     must_stand not-so cs lk = not-so (subst (StandsInArea s words) (sym is_block) (block_stands s words h t p bs sc x node (sym is) link cs lk))
 
     -- and no other block is entered within it
-    pub must_be_alone : (end : ℕ) → end ≡ p + size (block_at s site.board x p) → (i : ℕ) → p + 1 ≤ i → i < end → 0 < slice_index t.index.items i → AreUnlinked s words
+    pub must_be_alone : (end : ℕ) → end ≡ p + size (block_at s site.board x p) → (i : ℕ) → p + 1 ≤ i → i < end → 0 < slice_index t.index i → AreUnlinked s words
     must_be_alone end e i l m k = block_alone s words h t p bs sc x node (sym is) link i site (omega (arith, l)) (omega (arith, m, e, ap size is_block)) k
 
     -- so it is passed
-    pub is_passed : (u : Table) (end more : ℕ) → length words ≡ end_of s → u.index.items ≡ t.index.items → u.sites.items ≡ t.sites.items → u.others ≡ t.others + more
-        → StandsInArea s words (block_at s site.board x p) → end ≡ p + size (block_at s site.board x p) → ((i : ℕ) → p + 1 ≤ i → i < end → slice_index t.index.items i ≡ 0)
+    pub is_passed : (u : Table) (end more : ℕ) → length words ≡ end_of s → u.index ≡ t.index → u.sites.items ≡ t.sites.items → u.others ≡ t.others + more
+        → StandsInArea s words (block_at s site.board x p) → end ≡ p + size (block_at s site.board x p) → ((i : ℕ) → p + 1 ≤ i → i < end → slice_index t.index i ≡ 0)
         → (x ≡ root_at s → more ≡ 0) → ((x ≡ root_at s → ⊥) → more ≡ end - p) → IsEntered s words u (p + 4) p end (told_block s bs x p) bs
     is_passed u end more long index' sites' others' st e free root other =
         let b : LinkedBlock = told_block s bs x p in

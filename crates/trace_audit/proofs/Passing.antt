@@ -45,7 +45,7 @@ module _ (s : Setting) (words : List ℕ) (h : IsSetting s) (t : Table) (p : ℕ
       let c = complete_in s p bs named.0 sc.ended (in-turned named.0 bs at.0) in
       let ends = c.1.claimed in
       absurd (omega (arith, ends, named.2, sym e ∙ link)))
-      (λ (e : (link_of bs x ≡ 0) × (p ≤ link_in words x) × (0 < slice_index t.index.items (link_in words x)) × (slice_index words (link_in words x) ≡ x)). e.0)
+      (λ (e : (link_of bs x ≡ 0) × (p ≤ link_in words x) × (0 < slice_index t.index (link_in words x)) × (slice_index words (link_in words x) ≡ x)). e.0)
       (sc.links x n (omega (arith, above_it)))
 
   follows : Follows (root_at s) block bs
@@ -73,9 +73,9 @@ module _ (s : Setting) (words : List ℕ) (h : IsSetting s) (t : Table) (p : ℕ
   own_link : link_of (block ∷ bs) x ≡ p
   own_link = ap (λ (u : Bool). cond u p (link_of bs x)) (eq-eqb x x refl)
 
-  module _ (u : Table) (index : u.index.items ≡ t.index.items) (sites : u.sites.items ≡ t.sites.items) (others : u.others ≡ other_words s (block ∷ bs)) (few : u.others ≤ p + size block) (mark : 0 < slice_index t.index.items p)
-      (st : StandsInArea s words block) (free : (i : ℕ) → p + 1 ≤ i → i < p + size block → slice_index t.index.items i ≡ 0) where
-    same_index : (b : ℕ) → slice_index u.index.items b ≡ slice_index t.index.items b
+  module _ (u : Table) (index : u.index ≡ t.index) (sites : u.sites.items ≡ t.sites.items) (others : u.others ≡ other_words s (block ∷ bs)) (few : u.others ≤ p + size block) (mark : 0 < slice_index t.index p)
+      (st : StandsInArea s words block) (free : (i : ℕ) → p + 1 ≤ i → i < p + size block → slice_index t.index i ≡ 0) where
+    same_index : (b : ℕ) → slice_index u.index b ≡ slice_index t.index b
     same_index b = ap (λ l. slice_index l b) index
 
     put_table : IsSiteTable s words (block ∷ bs) u
@@ -94,7 +94,7 @@ module _ (s : Setting) (words : List ℕ) (h : IsSetting s) (t : Table) (p : ℕ
           subst (IsSite s words (block ∷ bs)) (sym same) now;
       index = λ b d l.
           let old = sc.table.index b d (omega (arith, same_index b, l)) in
-          let at : slice_index_or u.sites.items (slice_index u.index.items b - 1) d ≡ slice_index_or t.sites.items (slice_index t.index.items b - 1) d
+          let at : slice_index_or u.sites.items (slice_index u.index b - 1) d ≡ slice_index_or t.sites.items (slice_index t.index b - 1) d
           = λ i. slice_index_or (sites i) (same_index b i - 1) d in
           (omega (arith, same_index b, old.0, ap length sites), ap (λ z. z.start) at ∙ old.1);
     }
@@ -107,7 +107,7 @@ module _ (s : Setting) (words : List ℕ) (h : IsSetting s) (t : Table) (p : ℕ
         (λ (e : y ≡ x). inl (ap (link_in words) e ∙ link ∙ sym (ap (link_of (block ∷ bs)) e ∙ own_link)))
         (λ (d : y ≡ x → ⊥). ⊎_elim
         (λ (e : link_in words y ≡ link_of bs y). inl (e ∙ sym (other_link y d)))
-        (λ (e : (link_of bs y ≡ 0) × (p ≤ link_in words y) × (0 < slice_index t.index.items (link_in words y)) × (slice_index words (link_in words y) ≡ y)).
+        (λ (e : (link_of bs y ≡ 0) × (p ≤ link_in words y) × (0 < slice_index t.index (link_in words y)) × (slice_index words (link_in words y) ≡ y)).
         let not-here : link_in words y ≡ p → ⊥ = λ z. d (sym e.3 ∙ ap (slice_index words) z ∙ parent) in
         let behind : p + size block ≤ link_in words y = ⊎_elim
         (λ (v : link_in words y < p + size block). absurd (omega (arith, free (link_in words y) (omega (arith, e.1, not-here)) v, e.2)))
@@ -140,7 +140,7 @@ module _ (s : Setting) (words : List ℕ) (h : IsSetting s) (t : Table) (p : ℕ
           links = put_links;
           vacant = put_vacant;
           entered = λ b i. ⊎_elim
-              (λ (e : b ≡ block). omega (arith, ap (λ z. slice_index u.index.items z.start) e, same_index p, mark))
+              (λ (e : b ≡ block). omega (arith, ap (λ z. slice_index u.index z.start) e, same_index p, mark))
               (λ (e : In b bs). omega (arith, same_index b.start, sc.entered b e)) i;
           others = others;
           few = few;

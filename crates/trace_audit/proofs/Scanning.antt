@@ -87,7 +87,7 @@ module _ (s : Setting) (words : List ℕ) (h : IsSetting s) where
   }
 
   -- before any block is found
-  pub scan_none : (t : Table) → length t.index.items ≡ end_of s → ((i : ℕ) → slice_index t.index.items i ≡ 0) → t.sites.items ≡ [] → t.others ≡ 0 → Scanned s words t (root_at s) (area_at s) []
+  pub scan_none : (t : Table) → length t.index ≡ end_of s → ((i : ℕ) → slice_index t.index i ≡ 0) → t.sites.items ≡ [] → t.others ≡ 0 → Scanned s words t (root_at s) (area_at s) []
   scan_none t long none sites others = record {
     order = tt;
     shown = λ b i. absurd i;
@@ -118,8 +118,8 @@ module _ (s : Setting) (words : List ℕ) (h : IsSetting s) where
             let below = node_below s words h p bs y sc.area sc.ended n in
             ⊎_elim
             (λ (e : link_in words y ≡ link_of bs y). e)
-            (λ (e : (link_of bs y ≡ 0) × (p ≤ link_in words y) × (0 < slice_index t.index.items (link_in words y)) × (slice_index words (link_in words y) ≡ y)).
-            absurd (omega (arith, sc.table.long, e.1, l, e.2, get_or_past t.index.items (link_in words y) 0 (omega (arith, sc.table.long, e.1, l)))))
+            (λ (e : (link_of bs y ≡ 0) × (p ≤ link_in words y) × (0 < slice_index t.index (link_in words y)) × (slice_index words (link_in words y) ≡ y)).
+            absurd (omega (arith, sc.table.long, e.1, l, e.2, get_or_past t.index (link_in words y) 0 (omega (arith, sc.table.long, e.1, l)))))
             (sc.links y n (omega (arith, below)));
       };
       complete = sc.complete;

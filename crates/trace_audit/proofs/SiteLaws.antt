@@ -53,4 +53,4 @@ module _ (s : Setting) (words : List ℕ) (t : Table) (bs : List LinkedBlock) (h
       let few = λ (d : Site). lk.table.index b.start d e in
       let m = node_move s words t bs h lk b x i n in
       let first = few (record { start = 0; board = s.board; player = s.player }) in
-      (slice_index t.index.items b.start - 1, omega (arith, first.0, e), (λ d. (few d).1), (m.0, omega (arith, m.1, count_word s words t bs h lk b i), m.2))
+      (slice_index t.index b.start - 1, omega (arith, first.0, e), (λ d. (few d).1), (m.0, omega (arith, m.1, count_word s words t bs h lk b i), m.2))

@@ -4,7 +4,9 @@ pub mod Verdicts
 pub mod Fields
 pub mod Texts
 pub mod WordLists
+pub mod Slots
 pub mod Tables
+pub mod Gains
 pub mod Sums
 pub mod Points
 pub mod Scans

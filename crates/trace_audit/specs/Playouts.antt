@@ -1,20 +1,17 @@
 -- What the steps of adding the playouts answer, whatever blocks the words are linked by. No clause
 -- of a public call cites this.
-use Rattle.std.specs.Prelude.{◌≡◌, ℕ, ◌+◌, ◌^◌, ◌<◌, true, Bool, List, length, slice_index}
+use Rattle.std.specs.Prelude.{◌≡◌, ℕ, ◌+◌, true, Bool, List, length}
 use Rattle.std.specs.Prelude.{MatchBool, MatchOption, Option, Vec}
 use Rattle.std.specs.declared.alloc.Global.{Global}
-use Rattle.hex_cells.specs.declared.board_size.TheConstants.{MOST_CELLS}
-use Rattle.hex_cells.specs.declared.colours.Colour.{Colour}
-use Rattle.play_out.specs.declared.playouts.Ending.{Ending}
 use Rattle.tree_words.specs.Blocks.{In, LinkedBlock, has_node}
+use Rattle.tree_words.specs.Complete.{Linked}
 use Rattle.tree_words.specs.Counts.{Exact}
 use Rattle.tree_words.specs.Growth.{Grown}
 use Rattle.tree_words.specs.Paths.{node_state}
 use Rattle.tree_words.specs.Records.{IsRecord, Recorded}
 use Rattle.tree_words.specs.Settings.{IsSetting, Setting}
-use Rattle.tree_words.specs.Words.{cell_in, end_of, node_at, nodes_in}
-use Rattle.tree_words.specs.declared.layout.TheConstants.{SEEN_WORD}
-use Rattle.trace_audit.specs.Sums.{AreSums, CanAdd, CanClimb, Climbed, IsAdded}
+use Rattle.tree_words.specs.Words.{end_of}
+use Rattle.trace_audit.specs.Sums.{AreHanded, AreOwn, AreSums}
 use Rattle.trace_audit.specs.Tables.{IsLinked, site_state}
 use Rattle.trace_audit.specs.declared.sites.Site.{Site}
 use Rattle.trace_audit.specs.declared.sites.Table.{Table}
@@ -53,39 +50,28 @@ abbrev pub IsSiteOf : List ℕ → Table → ℕ → ℕ → Site → Type 0
 IsSiteOf words t at x p = (s : Setting) (bs : List LinkedBlock)
     → IsLinkedTree s bs words t → HasNodeAt bs at x → site_state p ≡ node_state s bs x
 
--- each node of the block at b has the number of a cell
-abbrev pub AreCells : List ℕ → ℕ → Type 0
-AreCells words b =
-    (k : ℕ) → k < nodes_in words b → cell_in (slice_index words (node_at b k)) < MOST_CELLS
+-- the words are linked, and the sums are those of the first n playouts, each at its leaf
+abbrev pub HasOwnSums : Setting → List ℕ → Table → List ℕ → ℕ → Type 0
+HasOwnSums s words t sums n =
+    (bs : List LinkedBlock) × IsLinked s words t bs × AreOwn s bs words sums n
 
--- so much more fits into the sum of the seen word of each node of the block at b
-abbrev pub HasSeenRoom : List ℕ → List ℕ → ℕ → ℕ → Type 0
-HasSeenRoom words sums b amount = (k : ℕ) → k < nodes_in words b
-    → slice_index sums (node_at b k + SEEN_WORD) + amount < 2 ^ 64
+-- the words are linked, a block begins at `at`, and all blocks behind it have handed up their sums
+abbrev pub MayHandUp : Setting → List ℕ → List ℕ → ℕ → Type 0
+MayHandUp s words sums at = (bs : List LinkedBlock) × (b : LinkedBlock) × Linked s words bs
+    × In b bs × (b.start ≡ at) × AreHanded s bs words sums (at + 1)
 
--- the words are linked by blocks with which an ending can be added to the node x
-abbrev pub MayAdd : List ℕ → List ℕ → ℕ → Type 0
-MayAdd words sums x = (s : Setting) × (bs : List LinkedBlock) × (b : LinkedBlock) × (m : ℕ)
-    × CanAdd s bs words sums b x m
+-- whatever blocks the words are linked by, if these are the sums with all blocks behind `at` handed
+-- up, and a block begins there: now its sums are handed up too
+abbrev pub HandsUp : Setting → List ℕ → List ℕ → List ℕ → ℕ → Type 0
+HandsUp s words before after at = (bs : List LinkedBlock) (b : LinkedBlock) → Linked s words bs
+    → In b bs → b.start ≡ at → AreHanded s bs words before (at + 1)
+    → AreHanded s bs words after at
 
--- where an ending can be added to the node x, and this player chose it, the ending is added there
-abbrev pub AddsNode : List ℕ → ℕ → Colour → Ending → List ℕ → List ℕ → ℕ → Type 0
-AddsNode words x player o before after parent =
-    (s : Setting) (bs : List LinkedBlock) (b : LinkedBlock) (m : ℕ)
-    → CanAdd s bs words before b x m → player ≡ (node_state s bs b.parent).player
-    → IsAdded s bs o b x m before after parent
-
--- the words are linked by blocks with which the way from the node x, where this player is to move,
--- up to the root can be gone
-abbrev pub MayClimb : List ℕ → List ℕ → ℕ → ℕ → Colour → Type 0
-MayClimb words sums root x player = (s : Setting) × (bs : List LinkedBlock)
-    × CanClimb s bs words sums root x × (player ≡ (node_state s bs x).player)
-
--- where that way can be gone, the ending is added on it
-abbrev pub AddsWay : List ℕ → ℕ → ℕ → Colour → Ending → List ℕ → List ℕ → Type 0
-AddsWay words root x player o before after = (s : Setting) (bs : List LinkedBlock)
-    → CanClimb s bs words before root x → player ≡ (node_state s bs x).player
-    → Climbed s bs o x before after
+-- whatever blocks the words are linked by, if these were the sums with each playout at its leaf:
+-- now they are those of all playouts
+abbrev pub HandsAll : Setting → List ℕ → Table → List ℕ → List ℕ → Type 0
+HandsAll s words t before after = (bs : List LinkedBlock) → IsLinked s words t bs
+    → AreOwn s bs words before s.knobs.playouts → AreSums s bs words after s.knobs.playouts
 
 -- the words are linked, and the sums are those of the first n playouts
 abbrev pub HasSumsOf : Setting → List ℕ → Table → List ℕ → ℕ → Type 0
@@ -97,12 +83,12 @@ abbrev pub HasAllSums : Setting → List ℕ → Table → List ℕ → Type 0
 HasAllSums s words t sums = (bs : List LinkedBlock) × IsLinked s words t bs
     × Recorded s bs words × AreSums s bs words sums s.knobs.playouts
 
--- whatever blocks the words are linked by: playout k has its record, and the sums are those of one
--- playout more; or it has none. The answer says which
+-- whatever blocks the words are linked by: playout k has its record, and the sums have one playout
+-- more, at its leaf; or it has none. The answer says which
 abbrev pub AddsPlayout : Setting → List ℕ → Table → List ℕ → List ℕ → ℕ → Bool → Type 0
 AddsPlayout s words t before after k answer = (bs : List LinkedBlock)
-    → IsLinked s words t bs → AreSums s bs words before k
-    → MatchBool answer (IsRecord s bs words k × AreSums s bs words after (k + 1))
+    → IsLinked s words t bs → AreOwn s bs words before k
+    → MatchBool answer (IsRecord s bs words k × AreOwn s bs words after (k + 1))
     (¬ (IsRecord s bs words k))
 
 -- whatever blocks the words are linked by: each playout has its record, and the answer is the sums

@@ -54,11 +54,11 @@ pub record IsSite (s : Setting) (words : List ℕ) (bs : List LinkedBlock) (p : 
 -- this word
 pub record IsSiteTable (s : Setting) (words : List ℕ) (bs : List LinkedBlock) (t : Table)
     : Type 0 where
-  pub long : length t.index.items ≡ end_of s
+  pub long : length t.index ≡ end_of s
   pub sites : (k : ℕ) (d : Site) → k < length t.sites.items
       → IsSite s words bs (slice_index_or t.sites.items k d)
-  pub index : (b : ℕ) (d : Site) → 0 < slice_index t.index.items b
-      → let k = slice_index t.index.items b in
+  pub index : (b : ℕ) (d : Site) → 0 < slice_index t.index b
+      → let k = slice_index t.index b in
       (k ≤ length t.sites.items) × ((slice_index_or t.sites.items (k - 1) d).start ≡ b)
 
 -- the link of the node x names the block below it, or a block that is entered in the table and not
@@ -66,7 +66,7 @@ pub record IsSiteTable (s : Setting) (words : List ℕ) (bs : List LinkedBlock) 
 abbrev pub IsFollowed : List ℕ → Table → ℕ → List LinkedBlock → ℕ → Type 0
 IsFollowed words t passed bs x = let b = link_in words x in
     (b ≡ link_of bs x)
-    ⊎ ((link_of bs x ≡ 0) × (passed ≤ b) × (0 < slice_index t.index.items b)
+    ⊎ ((link_of bs x ≡ 0) × (passed ≤ b) × (0 < slice_index t.index b)
     × (slice_index words b ≡ x))
 
 -- So far: the words below `passed` have these blocks, each of which is entered, the links of their
@@ -83,7 +83,7 @@ pub record Scanned (s : Setting) (words : List ℕ) (t : Table) (done passed : �
   pub links : (x : ℕ) → is_node (root_at s) bs x ≡ true → x < done
       → IsFollowed words t passed bs x
   pub vacant : (x : ℕ) → is_node (root_at s) bs x ≡ true → done ≤ x → link_of bs x ≡ 0
-  pub entered : (b : LinkedBlock) → In b bs → 0 < slice_index t.index.items b.start
+  pub entered : (b : LinkedBlock) → In b bs → 0 < slice_index t.index b.start
   pub others : t.others ≡ other_words s bs
   pub few : t.others ≤ passed
   pub known : (cs : List LinkedBlock) → Linked s words cs → Knows (root_at s) cs bs
@@ -110,6 +110,6 @@ pub record IsLinked (s : Setting) (words : List ℕ) (t : Table) (bs : List Link
     : Type 0 where
   pub linked : Linked s words bs
   pub table : IsSiteTable s words bs t
-  pub entered : (b : LinkedBlock) → In b bs → 0 < slice_index t.index.items b.start
+  pub entered : (b : LinkedBlock) → In b bs → 0 < slice_index t.index b.start
   pub others : t.others ≡ other_words s bs
   pub few : t.others ≤ end_of s

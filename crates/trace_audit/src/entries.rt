@@ -1,8 +1,10 @@
 //! The blocks that the links of nodes name, entered in the table.
 
-ghost use Rattle.std.specs.Prelude.{◌≡◌, IfOk};
+ghost use Rattle.std.specs.Prelude.{◌≡◌, ◌<◌, IfOk};
+ghost use Rattle.trace_audit.specs.declared.index.TheConstants.{NUMBERS};
 ghost use Rattle.trace_audit.specs.Scans.{FollowsLink, FollowsLinks, HasNextNode, IsFoundLast};
 
+use super::index::NUMBERS;
 use super::refusals::Memory;
 use super::sites::{Site, Table};
 use super::word_list::Words;
@@ -13,9 +15,10 @@ use tree_words::layout::{HEADER_WORDS, LINK_WORD, NODE_WORDS};
 // How many sites there are, as the index holds it. Before a number is too large for it, memory runs
 // out.
 fn number_of(sites: usize) -> Result<u32, Memory>
-    ensures { IfOk result (λ number. number ≡ sites) }
+    ensures value { IfOk result (λ number. number ≡ sites) }
+    ensures range { IfOk result (λ number. number < NUMBERS) }
 {
-    if sites > u32::MAX as usize {
+    if sites >= NUMBERS as usize {
         return Err(Memory);
     }
     Ok(sites as u32)
@@ -50,8 +53,8 @@ pub(crate) fn enter(
     let Ok(()) = table.sites.push(Site { start, ..site }) else {
         return Err(Memory);
     };
-    table.index[start] = number_of(table.sites.len())?;
-    Ok(true)
+    let number = number_of(table.sites.len())?;
+    Ok(table.index.enter(start, number))
 }
 
 /// Enters the blocks below the nodes of the block at `at`, which ends at `end`.
@@ -64,7 +67,7 @@ pub(crate) fn enter_all(
     requires { IsFoundLast words.now table.old at end }
     ensures { IfOk result (λ ok. FollowsLinks words.now table.old table.new at end ok) }
 {
-    let site = table.sites[table.index[at] as usize - 1];
+    let site = table.sites[table.index.entry(at) as usize - 1];
     let mut x = at + HEADER_WORDS;
     'nodes: while x < end {
         let after = site.after(Cell::numbered(cell_of(words.at(x))));

@@ -1,21 +1,20 @@
-//! What a playout adds to the sums, on the way from its leaf up to the root.
+//! What a playout adds to the sums of its leaf's block.
 
-ghost use Rattle.std.specs.Prelude.{◌≡◌, ◌+◌, ◌<◌, ◌≤◌, ◌^◌, length, set, slice_index};
+ghost use Rattle.std.specs.Prelude.{◌≡◌, ◌+◌, ◌<◌, ◌≤◌, ◌^◌, if◌then◌else◌, length, set, slice_index};
+ghost use Rattle.hex_board.specs.Positions.{stones_of};
 ghost use Rattle.hex_cells.specs.Colours.{is_same};
+ghost use Rattle.hex_cells.specs.Sets.{has};
 ghost use Rattle.tree_words.specs.Blocks.{block_size};
 ghost use Rattle.tree_words.specs.Sequence.{amount_of};
 ghost use Rattle.tree_words.specs.Words.{nodes_in};
-ghost use Rattle.trace_audit.specs.Playouts.{AddsNode, AddsWay, AreCells, HasSeenRoom, MayAdd};
-ghost use Rattle.trace_audit.specs.Playouts.{MayClimb};
-ghost use Rattle.trace_audit.specs.Sums.{SeesSome};
+ghost use Rattle.trace_audit.specs.Gains.{AreCells, GainsBlock, GainsLeaf, HasRoom, IsNodeOf, Sees};
+ghost use Rattle.trace_audit.specs.Gains.{stone_gift};
 
 use super::word_list::Words;
 use hex_cells::{Cell, CellSet, Colour};
 use play_out::Ending;
 use tree_words::cell_of;
-use tree_words::layout::{
-    COUNT_WORD, HEADER_WORDS, NODE_WORDS, PLACE_UNIT, SEEN_WORD, TALLY_WORD, VISIT,
-};
+use tree_words::layout::{COUNT_WORD, HEADER_WORDS, NODE_WORDS, SEEN_WORD, TALLY_WORD, VISIT};
 
 // One visit, and one win where the player is the winner.
 fn amount(player: Colour, winner: Colour) -> u64
@@ -39,8 +38,8 @@ fn see(words: &Words, sums: &mut [u64], block: usize, stones: CellSet, amount: u
     requires within { block + block_size (nodes_in words.now block) ≤ length words.now }
     requires long { length sums.old ≡ length words.now }
     requires cells { AreCells words.now block }
-    requires small { HasSeenRoom words.now sums.old block amount }
-    ensures { SeesSome words.now block (nodes_in words.now block) stones amount
+    requires small { HasRoom words.now sums.old block amount }
+    ensures { Sees words.now block (nodes_in words.now block) (stone_gift stones amount)
         sums.old sums.new }
 {
     let count = words.at(block + COUNT_WORD) as usize;
@@ -52,40 +51,30 @@ fn see(words: &Words, sums: &mut [u64], block: usize, stones: CellSet, amount: u
     }
 }
 
-// Adds the ending to a node below the root, which this player chose, and to the nodes of its block
-// that it sees. Answers the node's parent.
-fn add_node(words: &Words, sums: &mut [u64], node: usize, player: Colour, ending: &Ending) -> usize
-    requires { MayAdd words.now sums.old node }
-    ensures { AddsNode words.now node player ending.now sums.old sums.new result }
-{
-    let amount = amount(player, ending.winner);
-    gain(sums, node + TALLY_WORD, amount);
-    let block = node - HEADER_WORDS - NODE_WORDS * (words.at(node) / PLACE_UNIT) as usize;
-    see(words, sums, block, ending.full.stones(player), amount);
-    words.at(block) as usize
-}
-
-/// Adds the ending on the way from a node, where this player is to move, up to the root.
-pub(crate) fn climb(
+/// Adds the ending of a playout to the sums of its leaf, whose stone this player placed, and of the
+/// leaf's block.
+pub(crate) fn gain_leaf(
     words: &Words,
     sums: &mut [u64],
-    root: usize,
+    block: usize,
     leaf: usize,
-    to_move: Colour,
+    player: Colour,
     ending: &Ending,
 )
-    requires { MayClimb words.now sums.old root leaf to_move }
-    ensures { AddsWay words.now root leaf to_move ending.now sums.old sums.new }
+    requires within { block + block_size (nodes_in words.now block) ≤ length words.now }
+    requires long { length sums.old ≡ length words.now }
+    requires cells { AreCells words.now block }
+    requires node { IsNodeOf words.now block leaf }
+    requires small { HasRoom words.now sums.old block (VISIT + 1) }
+    requires tally { slice_index sums.old (leaf + TALLY_WORD) + (VISIT + 1) < 2 ^ 64 }
+    requires total { slice_index sums.old block + (VISIT + 1) < 2 ^ 64 }
+    requires leaves { slice_index sums.old leaf + 1 < 2 ^ 64 }
+    ensures { GainsLeaf words.now block leaf (amount_of (is_same ending.now.winner player))
+        (stones_of ending.now.full player) sums.old sums.new }
 {
-    let mut node = leaf;
-    let mut player = to_move;
-    'up: while node != root {
-        player = player.other();
-        node = add_node(words, sums, node, player, ending);
-    }
-    gain(
-        sums,
-        root + TALLY_WORD,
-        amount(player.other(), ending.winner),
-    );
+    let amount = amount(player, ending.winner);
+    gain(sums, leaf, 1);
+    gain(sums, block, amount);
+    gain(sums, leaf + TALLY_WORD, amount);
+    see(words, sums, block, ending.full.stones(player), amount);
 }

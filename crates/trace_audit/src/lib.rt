@@ -32,8 +32,9 @@
 //! **What is only tested, or not said.** That the archive gets the memory for its buffer.
 //!
 //! **Limits.** `make` takes memory for a buffer of [`BUFFER_BYTES`] bytes, and `audit` for one text
-//! at a time: twelve bytes for each word that the text has, and not for those that it claims, but
-//! for 1,024 of the area at least; and a site for each linked block. An audit takes at most
+//! at a time: nine bytes for each word that the text has, and not for those that it claims, but
+//! for 1,024 of the area at least; and a site for each linked block. Its time goes with the words
+//! and the playouts of the texts, and not with the depth of their trees. An audit takes at most
 //! [`MOST_BYTES`] bytes. A trace has at most 128 bytes and eight for each word of the tree.
 #![tactic(auto)]
 
@@ -46,6 +47,8 @@ mod entries;
 mod fields;
 mod gains;
 mod growth;
+mod handing;
+mod index;
 mod laws;
 mod linking;
 mod parsing;

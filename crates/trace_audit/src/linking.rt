@@ -7,8 +7,9 @@ ghost use Rattle.trace_audit.specs.Tables.{AreUnlinked};
 
 use super::blocks::block_end;
 use super::entries::{enter, enter_all};
+use super::index::Index;
 use super::refusals::Memory;
-use super::sites::{Site, Table, has_entry, no_entries};
+use super::sites::{Site, Table, has_entry};
 use super::word_list::Words;
 use std::alloc::Global;
 use tree_words::Shape;
@@ -36,14 +37,14 @@ fn pass_block(
 ) -> Result<Option<usize>, Memory>
     requires long { length words.now ≡ end_of shape.now }
     requires at { at < length words.now }
-    requires entry { 0 < slice_index table.old.index.items at }
+    requires entry { 0 < slice_index table.old.index at }
     requires scanned { IsScanned shape.now words.now table.old at }
     ensures { IfOk result
         (λ to. PassesBlock shape.now words.now table.old table.new at to) }
 {
     // What each shape keeps of itself.
     let _board = shape.board();
-    let site = table.sites[table.index[at] as usize - 1];
+    let site = table.sites[table.index.entry(at) as usize - 1];
     let parent = words.at(at) as usize;
     let Some(end) = block_end(words, shape, at, parent, &site.board) else {
         return Ok(None);
@@ -68,7 +69,7 @@ fn begin(alloc: Global, shape: &Shape, words: &Words) -> Result<Option<Table>, M
     // What each shape keeps of itself.
     let _board = shape.board();
     let mut table = Table {
-        index: no_entries(alloc, words.len())?,
+        index: Index::empty(alloc, words.len())?,
         sites: Vec::new(alloc),
         others: 0,
     };
@@ -98,7 +99,7 @@ pub(crate) fn link(alloc: Global, shape: &Shape, words: &Words) -> Result<Option
     };
     let mut at = shape.knobs().playouts as usize + FRONT_WORDS;
     'words: while at < words.len() {
-        if table.index[at] == 0 {
+        if table.index.entry(at) == 0 {
             at += 1;
         } else {
             let Some(end) = pass_block(words, shape, &mut table, at)? else {

@@ -2,17 +2,20 @@
 
 ghost use Rattle.std.specs.Prelude.{◌≡◌, ◌<◌, IfOk, MatchBool, length};
 ghost use Rattle.tree_words.specs.Words.{end_of, winner_in};
-ghost use Rattle.trace_audit.specs.Playouts.{AddsPlayout, AddsPlayouts, HasSumsOf, IsBlockOf};
+ghost use Rattle.play_out.specs.Fills.{filled, playout_of};
+ghost use Rattle.trace_audit.specs.Playouts.{AddsPlayout, AddsPlayouts, HasOwnSums, IsBlockOf};
 ghost use Rattle.trace_audit.specs.Playouts.{IsLinkedNode, IsSiteOf, IsTableOf};
 ghost use Rattle.trace_audit.specs.Scans.{IsLinkTable};
+ghost use Rattle.trace_audit.specs.Sums.{IsFilled};
 
-use super::gains::{climb, gain};
+use super::gains::gain_leaf;
+use super::handing::hand_all;
 use super::refusals::Memory;
 use super::sites::{Site, Table};
 use super::word_list::Words;
 use super::zeros::zeros;
 use hex_cells::{Cell, Colour};
-use play_out::play;
+use play_out::{Ending, fill};
 use std::alloc::Global;
 use tree_words::layout::{
     COUNT_WORD, HEADER_WORDS, NODE_WORDS, PLACE_UNIT, RECORD_UNIT, RECORDS_AT,
@@ -34,7 +37,7 @@ fn block_of(words: &Words, table: &Table, leaf: u64) -> Option<usize>
         return None;
     }
     let block = leaf - before;
-    if table.index[block] == 0 {
+    if table.index.entry(block) == 0 {
         return None;
     }
     if words.at(block + COUNT_WORD) as usize <= place {
@@ -66,15 +69,32 @@ fn site_of(words: &Words, table: &Table, block: usize, node: usize) -> Site
     requires { IsLinkedNode words.now table.now block node }
     ensures { IsSiteOf words.now table.now block node result }
 {
-    let site = table.sites[table.index[block] as usize - 1];
+    let site = table.sites[table.index.entry(block) as usize - 1];
     site.after(Cell::numbered(cell_of(words.at(node))))
 }
 
-// Adds playout `k` to the sums, where its record is right.
+// How playout `k` of a search with this seed ends from the site.
+fn ending_of(site: &Site, seed: u64, k: u64) -> Ending
+    ensures full { result.full ≡ filled site.now.board site.now.player seed k }
+    ensures winner { result.winner ≡ playout_of site.now.board site.now.player seed k }
+    ensures filled { IsFilled site.now.board.size result.full }
+{
+    let full = fill(&site.board, site.player, seed, k);
+    // A board's stones lie apart.
+    let _black = full.stones(Colour::Black);
+    let winner = if full.joined(Colour::Black) {
+        Colour::Black
+    } else {
+        Colour::White
+    };
+    Ending { full, winner }
+}
+
+// Adds playout `k` to the sums of its leaf's block, where its record is right.
 fn add(words: &Words, shape: &Shape, table: &Table, sums: &mut [u64], k: u32) -> bool
     requires long { length words.now ≡ end_of shape.now }
     requires number { k < shape.now.knobs.playouts }
-    requires sums { HasSumsOf shape.now words.now table.now sums.old k }
+    requires sums { HasOwnSums shape.now words.now table.now sums.old k }
     ensures { AddsPlayout shape.now words.now table.now sums.old sums.new k result }
 {
     // What each shape keeps of itself.
@@ -85,14 +105,11 @@ fn add(words: &Words, shape: &Shape, table: &Table, sums: &mut [u64], k: u32) ->
     };
     let leaf = (word / RECORD_UNIT) as usize;
     let site = site_of(words, table, block, leaf);
-    let ending = play(&site.board, site.player, shape.knobs().seed, u64::from(k));
+    let ending = ending_of(&site, shape.knobs().seed, u64::from(k));
     if !is_winner(ending.winner, word) {
         return false;
     }
-    let root = shape.knobs().playouts as usize + RECORDS_AT;
-    climb(words, sums, root, leaf, site.player, &ending);
-    // The move word of the sums counts the records whose leaf it is.
-    gain(sums, leaf, 1);
+    gain_leaf(words, sums, block, leaf, site.player.other(), &ending);
     true
 }
 
@@ -115,5 +132,6 @@ pub(crate) fn sum(
             return Ok(None);
         }
     }
+    hand_all(words, shape, table, &mut sums);
     Ok(Some(sums))
 }

@@ -220,29 +220,6 @@ fn a_leaf_with_too_many_records_is_found(rt: HostRuntime) -> Result<(), Fail> {
     Ok(())
 }
 
-// The audit of the trace of one playout with this NEXT, the words that are no block's being 0.
-fn claimed(alloc: Global, next: u64) -> Result<Audit, Fail> {
-    let mut words = ONE_PLAYOUT;
-    words[14] = next;
-    words[15] = next;
-    let mut bytes = text(alloc, &words)?;
-    for _ in 27..next {
-        bytes.extend_from_slice(&0_u64.to_le_bytes())?;
-    }
-    audited(alloc, &bytes)
-}
-
-// One worker may claim a largest block of 488 words that is not linked, and no word more.
-#[test]
-fn too_many_claimed_words_are_found(rt: HostRuntime) -> Result<(), Fail> {
-    let alloc = rt.alloc();
-    let why = Flaw::Growth;
-    assert_eq!(rt; claimed(alloc, 27 + 488)?, Audit::Yes { trees: 1 });
-    assert_eq!(rt; claimed(alloc, 28 + 488)?, Audit::No { tree: 0, why });
-    Ok(())
-}
-
-// No bytes, a text twice, and a text behind which a text is cut short.
 // The audit of the trace of one playout with its root's block moved on by so many words, links and
 // parents with it, and so many words claimed behind that.
 fn moved(alloc: Global, by: u32, behind: u32) -> Result<Audit, Fail> {
@@ -263,7 +240,8 @@ fn moved(alloc: Global, by: u32, behind: u32) -> Result<Audit, Fail> {
     audited(alloc, &text(alloc, &words)?)
 }
 
-// The bound on NEXT is told from the end of the root's block, wherever this lies.
+// One worker may claim a largest block of 488 words that is not linked, and no word more. The bound
+// on NEXT is told from the end of the root's block, wherever this lies.
 #[test]
 fn the_root_block_may_lie_anywhere(rt: HostRuntime) -> Result<(), Fail> {
     let alloc = rt.alloc();
@@ -280,6 +258,7 @@ fn the_root_block_may_lie_anywhere(rt: HostRuntime) -> Result<(), Fail> {
     Ok(())
 }
 
+// No bytes, a text twice, and a text behind which a text is cut short.
 #[test]
 fn texts_are_counted(rt: HostRuntime) -> Result<(), Fail> {
     let alloc = rt.alloc();

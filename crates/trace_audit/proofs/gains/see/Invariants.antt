@@ -1,5 +1,5 @@
-use Rattle.trace_audit.specs.Sums.{SeesSome}
+use Rattle.trace_audit.specs.Gains.{Sees, stone_gift}
 use Rattle.trace_audit.proofs.gains.see.Given as goal
 
 abbrev pub invariant-nodes : goal.invariant-nodes
-invariant-nodes l = SeesSome l.words l.block l.place l.stones l.amount l.initial.sums l.sums
+invariant-nodes l = Sees l.words l.block l.place (stone_gift l.stones l.amount) l.initial.sums l.sums

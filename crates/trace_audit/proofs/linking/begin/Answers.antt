@@ -14,7 +14,7 @@ enter-requires c =
       (
         h,
         c.requires,
-        first_scan s c.args.words.now h (c.knobs.result.now.playouts + 2) root _ _ (c.len.ensures ∙ c.requires) c.in_ok-no_entries.ensures c.new.ensures.items refl,
+        first_scan s c.args.words.now h (c.knobs.result.now.playouts + 2) root _ _ (c.len.ensures ∙ c.requires) c.in_ok-empty.ensures c.new.ensures.items refl,
         first_node s c.args.words.now h (c.knobs.result.now.playouts + 2) root,
       ),
     )
@@ -29,7 +29,7 @@ returns-then-branch c =
     (if_yes c.in_ok-enter.field-0 _ _ (c.in_ok-enter.ensures s [] (
       h,
       c.requires,
-      first_scan s c.args.words.now h at root _ _ (c.len.ensures ∙ c.requires) c.in_ok-no_entries.ensures c.new.ensures.items refl,
+      first_scan s c.args.words.now h at root _ _ (c.len.ensures ∙ c.requires) c.in_ok-empty.ensures c.new.ensures.items refl,
       first_node s c.args.words.now h at root,
     ) (first_last s c.args.words.now h at root) (λ i. record { board = c.board.ensures.value i; player = c.colour.ensures i })) c.if-branch.true)
 
@@ -42,6 +42,6 @@ returns-else-branch c =
     if_no c.in_ok-enter.field-0 _ _ (c.in_ok-enter.ensures s [] (
       h,
       c.requires,
-      first_scan s c.args.words.now h at root _ _ (c.len.ensures ∙ c.requires) c.in_ok-no_entries.ensures c.new.ensures.items refl,
+      first_scan s c.args.words.now h at root _ _ (c.len.ensures ∙ c.requires) c.in_ok-empty.ensures c.new.ensures.items refl,
       first_node s c.args.words.now h at root,
     ) (first_last s c.args.words.now h at root) (λ i. record { board = c.board.ensures.value i; player = c.colour.ensures i })) c.if-branch.false

@@ -1,15 +1,14 @@
 use Rattle.std.proofs.Common.{sym, ◌∙◌, arith}
-use Rattle.std.proofs.lemmas.Grind.{get_or_default_zero}
 use Rattle.trace_audit.proofs.Matches.{if_some}
 use Rattle.trace_audit.proofs.Skipping.{skip}
 use Rattle.trace_audit.proofs.linking.link.Goals as goal
 
-pub words-preserved-then-index-eq0 : goal.words-preserved-then-index-eq0
-words-preserved-then-index-eq0 c =
+pub words-preserved-then-entry-eq0 : goal.words-preserved-then-entry-eq0
+words-preserved-then-entry-eq0 c =
     let i = c.words.invariant.1 in
     let long = i.1.table.long in
-    let none = c.index.ensures ∙ get_or_default_zero c.words.table.index.items c.words.at c.index.result.now (omega (arith, long, c.words-test.true, c.requires)) in
-    (omega (arith, c.words-test.true, c.requires), (i.0, skip c.args.shape.now c.args.words.now c.board-board.ensures.setting c.words.table c.words.at i.0 i.1 (sym none ∙ c.if-index-eq0.true)))
+    let none = c.entry.ensures in
+    (omega (arith, c.words-test.true, c.requires), (i.0, skip c.args.shape.now c.args.words.now c.board-board.ensures.setting c.words.table c.words.at i.0 i.1 (sym none ∙ c.if-entry-eq0.true)))
 
 pub words-preserved : goal.words-preserved
 words-preserved c =

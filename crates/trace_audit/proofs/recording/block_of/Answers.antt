@@ -1,6 +1,5 @@
-use Rattle.std.proofs.Common.{◌≡◌, ℕ, ◌+◌, ◌-◌, ◌*◌, ◌/◌, ap, ◌∙◌, arith}
+use Rattle.std.proofs.Common.{◌≡◌, ℕ, ◌+◌, ◌-◌, ◌*◌, ◌/◌, ap, arith}
 use Rattle.std.specs.Prelude.{slice_index}
-use Rattle.std.proofs.lemmas.Grind.{get_or_default_zero}
 use Rattle.trace_audit.proofs.LinkedLaws.{block_entry, block_found, count_word, node_most, place_word}
 use Rattle.trace_audit.proofs.recording.block_of.Goals as goal
 
@@ -10,14 +9,14 @@ returns-then-len-leaf c = λ s bs g b i n. let h = g.0 in let long = g.1 in let 
 pub returns-then-leaf-before : goal.returns-then-leaf-before
 returns-then-leaf-before c = λ s bs g b i n. let h = g.0 in let long = g.1 in let lk = g.2 in let m = place_word s c.args.words.now c.args.table.now bs h lk b c.args.leaf i n in omega (arith, m.0, c.if-leaf-before.true, c.at.ensures)
 
-pub returns-then-index-eq0 : goal.returns-then-index-eq0
-returns-then-index-eq0 c = λ s bs g b i n. let h = g.0 in let long = g.1 in let lk = g.2 in
+pub returns-then-entry-eq0 : goal.returns-then-entry-eq0
+returns-then-entry-eq0 c = λ s bs g b i n. let h = g.0 in let long = g.1 in let lk = g.2 in
     let m = place_word s c.args.words.now c.args.table.now bs h lk b c.args.leaf i n in
     let at : c.args.leaf - (4 + 4 * (c.at.result / 256)) ≡ b.start = omega (arith, m.0, c.at.ensures) in
     let most = node_most s c.args.words.now c.args.table.now bs h lk b c.args.leaf i n in
     let all = lk.table.long in
-    let none = c.index.ensures ∙ get_or_default_zero c.args.table.now.index.items _ c.index.result.now (omega (arith, most, all)) in
-    omega (arith, c.if-index-eq0.true, none, ap (slice_index c.args.table.now.index.items) at, block_entry s c.args.words.now c.args.table.now bs h lk b i)
+    let none = c.entry.ensures in
+    omega (arith, c.if-entry-eq0.true, none, ap (slice_index c.args.table.now.index) at, block_entry s c.args.words.now c.args.table.now bs h lk b i)
 
 pub returns-then-at-place : goal.returns-then-at-place
 returns-then-at-place c = λ s bs g b i n. let h = g.0 in let long = g.1 in let lk = g.2 in
@@ -28,5 +27,5 @@ returns-then-at-place c = λ s bs g b i n. let h = g.0 in let long = g.1 in let 
 pub returns : goal.returns
 returns c = λ s bs g. let h = g.0 in let long = g.1 in let lk = g.2 in
     let all = lk.table.long in
-    let some = c.index.ensures ∙ get_or_default_zero c.args.table.now.index.items _ c.index.result.now (omega (arith, all, long, c.if-len-leaf.false, c.len.ensures)) in
-    block_found s c.args.words.now c.args.table.now bs h lk c.args.leaf (c.at.result / 256) (ap (λ (w : ℕ). w / 256) c.at.ensures) (omega (arith, c.if-leaf-before.false)) (omega (arith, some, c.if-index-eq0.false)) (omega (arith, c.if-at-place.false, c.at-2.ensures))
+    let some = c.entry.ensures in
+    block_found s c.args.words.now c.args.table.now bs h lk c.args.leaf (c.at.result / 256) (ap (λ (w : ℕ). w / 256) c.at.ensures) (omega (arith, c.if-leaf-before.false)) (omega (arith, some, c.if-entry-eq0.false)) (omega (arith, c.if-at-place.false, c.at-2.ensures))
