@@ -105,12 +105,15 @@ after_put d entry (Added n) = with_entry d entry
 after_put d entry Dominated = d
 after_put d entry PairFull = d
 
--- each entry is valid, follows from earlier ones, and is true
+-- each entry is valid, and follows from earlier ones
 pub record IsSound (d : StoreData) : Type 0 where
   pub valid : (i : ℕ) (a : Entry) → slice_get d.entries i ≡ Some a → IsValid d.elements a
   pub follows : (i : ℕ) (a : Entry) → slice_get d.entries i ≡ Some a
       → FollowsFrom d.elements (take i d.entries) a
-  pub true_entries : (i : ℕ) (a : Entry) → slice_get d.entries i ≡ Some a → IsTrueEntry d.elements a
+
+-- each entry is true
+abbrev pub AreTrue : StoreData → Type 0
+AreTrue d = (i : ℕ) (a : Entry) → slice_get d.entries i ≡ Some a → IsTrueEntry d.elements a
 
 -- each pair has at most its full number of entries
 abbrev pub AreFew : StoreData → Type 0

@@ -12,6 +12,7 @@ use Rattle.hex_board.specs.Elements.{PlayerBoard, HasCell, edge_element, edge_el
 use Rattle.hex_board.specs.Positions.{Within, is_empty_at, stones_of}
 use Rattle.hex_board.proofs.Parts.{edge_below, empty_head, head_cases, none_some, of_free, some_same}
 use Rattle.hex_board.proofs.Placed.{stone_full}
+use Rattle.hex_board.proofs.Places.{near_in, near_out}
 use Rattle.std.proofs.lemmas.Bool.{and_parts, false_from_ne_true}
 use Rattle.conn_store.specs.Entries.{IsBetween, IsValid, Misses}
 use Rattle.conn_store.specs.Rules.{AndRule, AreAt, FollowsBy, FollowsFrom, IsCell, IsChain, IsGroup, OrRule, is_in_all, union_of}
@@ -164,7 +165,7 @@ by_moves : (e d : PlayerBoard) → IsFreerOn e d → (from : List Entry) (a : En
 by_moves e d f from a Adjacent all v h =
     let l : a.x < a.y = v.order in
     let m : a.y < element_count e = v.elements in
-    (near_moves e d f.freer f.own a.x a.y (omega arith) m h.0, h.1, h.2)
+    (near_in d (moved_element e d a.x) (moved_element e d a.y) (near_moves e d f.freer f.own a.x a.y (omega arith) m (near_out e a.x a.y h.0)), h.1, h.2)
 by_moves e d f from a (AndGroup i j) all v (b, g, x, u, y, t, r, w, s, k, c) =
     let one = first_at from i (j ∷ []) b (g ∷ []) t in
     let two = first_at from j [] g [] one.1 in
