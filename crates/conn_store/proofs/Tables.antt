@@ -20,7 +20,7 @@ use Rattle.conn_store.specs.declared.entries.Held.{Held}
 use Rattle.conn_store.specs.declared.entries.Kind.{Kind}
 use Rattle.conn_store.specs.declared.entries.Kind.TheVariants.{Full, Semi}
 use Rattle.conn_store.specs.declared.entries.TheConstants.{MOST_ENTRIES, MOST_FULL, MOST_SEMI}
-use Rattle.conn_store.proofs.Numbers.{held_more, numbers_all, numbers_in, numbers_push, one_if}
+use Rattle.conn_store.proofs.Numbers.{counted_full, full_counted, held_more, numbers_all, numbers_in, numbers_push, one_if}
 use Rattle.conn_store.proofs.Pairs.{pair_below, pairs_few, same_pair}
 
 -- ---- no entries
@@ -354,11 +354,19 @@ looked_in d a h entries inside k t g = both_ways inside t (k.answer.1
 pub looked_full : (d : StoreData) (a : Entry) (h : Held) (entries : List Entry) (inside : Bool) (most : ℕ) → IsLooked d a h entries inside → most ≡ most_of a.kind → h.count ≡ most
     → IsPairFull d a.kind a.x a.y
 looked_full d a h entries inside most k e f =
-    let c : h.count ≡ length (numbers_of d a.kind a.x a.y) = held_count h (numbers_of d a.kind a.x a.y) k.held in omega arith
+    let c : h.count ≡ length (numbers_of d a.kind a.x a.y) = held_count h (numbers_of d a.kind a.x a.y) k.held in
+    let l : most_of a.kind ≤ length (numbers_of d a.kind a.x a.y) = omega arith in counted_full d a.kind a.x a.y l
 
 pub looked_room : (d : StoreData) (a : Entry) (h : Held) (entries : List Entry) (inside : Bool) (most : ℕ) → IsLooked d a h entries inside → most ≡ most_of a.kind
     → (h.count ≡ most → ⊥) → h.count < most_of a.kind
 looked_room d a h entries inside most k e f = let l : h.count ≤ most_of a.kind = k.few in omega arith
+
+pub looked_not_full : (d : StoreData) (a : Entry) (h : Held) (entries : List Entry) (inside : Bool) (most : ℕ) → IsLooked d a h entries inside → most ≡ most_of a.kind
+    → (h.count ≡ most → ⊥) → IsPairFull d a.kind a.x a.y → ⊥
+looked_not_full d a h entries inside most k e f g =
+    let c : h.count ≡ length (numbers_of d a.kind a.x a.y) = held_count h (numbers_of d a.kind a.x a.y) k.held in
+    let l : h.count < most_of a.kind = looked_room d a h entries inside most k e f in
+    let m : most_of a.kind ≤ length (numbers_of d a.kind a.x a.y) = full_counted d a.kind a.x a.y g in absurd (omega arith)
 
 -- the numbers of the index are those of entries
 pub numbers_here : (d : StoreData) (a : Entry) (h : Held) (entries : List Entry) → h ≡ held_of (numbers_of d a.kind a.x a.y) → entries ≡ d.entries

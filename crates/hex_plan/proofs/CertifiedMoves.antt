@@ -25,7 +25,7 @@ use Rattle.win_cert.specs.Cuts.{IsEdgeEntryAt}
 use Rattle.win_cert.specs.declared.certs.Cert.{Cert}
 use Rattle.hex_plan.specs.Good.{FollowsPlan, IsGood}
 use Rattle.hex_plan.specs.Laws.{HoldsOfPlans, IsCertified, LosesAsPlanned, LosesOutsideCarriers, LosesOutsideThreats, LosesWhereLost, WinsAsPlanned}
-use Rattle.hex_plan.specs.Plans.{IsCertifiedWin, IsInEach, IsMiddle, IsNarrowed, IsPlanned, IsPlannedBy, IsReportOf, IsThreat, IsWin, IsWinBy, IsWinningCellBy}
+use Rattle.hex_plan.specs.Plans.{IsCertifiedWin, IsInEach, IsMiddle, IsNarrowed, IsPlanned, IsPlannedBy, IsReportOf, IsThreat, IsWin, IsWinBy, IsWinningCell}
 use Rattle.hex_plan.specs.Turns.{TurnData}
 use Rattle.hex_plan.specs.declared.plans.Planned.{Planned}
 use Rattle.hex_plan.specs.declared.threats.Threat.{Threat}
@@ -55,8 +55,8 @@ the_middle d a k m o s =
     (one_chain o.first o.second m.ends.0 m.middle m.ends.1 o.x o.u o.y (s.valid i o.first o.first_at).order (s.valid j o.second o.second_at).order chain o.rule.chain).1
 
 cell_wins : (d : StoreData) (n : ℕ) (a : Entry) (kind : Kind) (k : ℕ) → IsSound d → AreTrue d → Within d.elements.board.size (stones_of d.elements.board d.elements.player) → IsEdgeEntryAt d n a → a.kind ≡ kind
-    → IsWinningCellBy d a kind k → Wins d.elements.player (placed d.elements.board d.elements.player k) (other_of d.elements.player)
-cell_wins d n a Full k s ts on at q w = full_wins d.elements a k on at.1 (s.valid n a at.0) (ts n a at.0) q w.in_set
+    → IsWinningCell d a kind k → Wins d.elements.player (placed d.elements.board d.elements.player k) (other_of d.elements.player)
+cell_wins d n a Full k s ts on at q w = full_wins d.elements a k on at.1 (s.valid n a at.0) (ts n a at.0) q w.0
 cell_wins d n a Semi k s ts on at q w =
     let o : IsOverCell d a w.numbers.0 w.numbers.1 = over_cell d n a w.numbers.0 w.numbers.1 s at.0 w.cause in
     middle_wins d.elements a o.first o.second o.x o.u o.y k on at.1 o.pair (s.valid _ o.first o.first_at) (s.valid _ o.second o.second_at) (ts _ o.first o.first_at)

@@ -24,7 +24,7 @@ use Rattle.conn_store.proofs.Sureness.{same}
 use Rattle.win_cert.specs.Cuts.{IsEdgeEntryAt}
 use Rattle.hex_plan.specs.Plans.{IsMiddle}
 use Rattle.hsearch.proofs.Steps.{at_second, at_first, kinds_apart}
-use Rattle.win_cert.proofs.CutDerivations.{taken_back}
+use Rattle.conn_store.proofs.RuleTruth.{taken_back}
 
 -- ---- semi entries
 

@@ -11,7 +11,7 @@ use Rattle.conn_store.specs.declared.entries.Entry.{Entry}
 use Rattle.conn_store.specs.declared.entries.Kind.{Kind}
 use Rattle.conn_store.specs.declared.entries.Kind.TheVariants.{Full, Semi}
 use Rattle.win_cert.specs.Cuts.{IsEdgeEntryAt}
-use Rattle.hex_plan.specs.Plans.{IsMiddle, IsWinningCell, IsWinningCellBy}
+use Rattle.hex_plan.specs.Plans.{IsMiddle, IsWinningCell}
 use Rattle.hex_plan.proofs.MiddleOf.{read_is}
 use Rattle.hex_plan.proofs.Middles.{full_has_cell}
 
@@ -38,15 +38,15 @@ semi_there d s entries n a r p q at e k =
     (a, subst (λ (v : StoreData). slice_get v.entries n ≡ Some a) (sym p) at.0, sym (ap (λ (v : Entry). v.kind) is) ∙ k)
 
 pub least_wins : (d s : StoreData) (entries : List Entry) (n : ℕ) (a r : Entry) (k : ℕ) (o : Option ℕ) → s ≡ d → entries ≡ s.entries → IsEdgeEntryAt d n a → r ≡ get_or entries n r → r.kind ≡ Full
-    → o ≡ Some k → IsLeastCell o r.carrier → IsWinningCell d a k
+    → o ≡ Some k → IsLeastCell o r.carrier → IsWinningCell d a a.kind k
 least_wins d s entries n a r k o p q at e f h l =
     let is : r ≡ a = the_entry d s entries n a r p q at e in
     let m = subst (λ (v : Entry). IsLeastCell (Some k) v.carrier) is (subst (λ (v : Option ℕ). IsLeastCell v r.carrier) h l) in
-    subst (λ (v : Kind). IsWinningCellBy d a v k) (sym (sym (ap (λ (v : Entry). v.kind) is) ∙ f)) (record { in_set = m.0; least = m.1 })
+    subst (λ (v : Kind). IsWinningCell d a v k) (sym (sym (ap (λ (v : Entry). v.kind) is) ∙ f)) m
 
 pub middle_wins : (d s : StoreData) (entries : List Entry) (n : ℕ) (a r : Entry) (k : ℕ) → s ≡ d → entries ≡ s.entries → IsEdgeEntryAt d n a → r ≡ get_or entries n r → r.kind ≡ Semi
-    → ((b : Entry) → slice_get s.entries n ≡ Some b → IsMiddle s b k) → IsWinningCell d a k
+    → ((b : Entry) → slice_get s.entries n ≡ Some b → IsMiddle s b k) → IsWinningCell d a a.kind k
 middle_wins d s entries n a r k p q at e f h =
     let is : r ≡ a = the_entry d s entries n a r p q at e in
     let m : IsMiddle d a k = subst (λ (v : StoreData). IsMiddle v a k) p (h a (subst (λ (v : StoreData). slice_get v.entries n ≡ Some a) (sym p) at.0)) in
-    subst (λ (v : Kind). IsWinningCellBy d a v k) (sym (sym (ap (λ (v : Entry). v.kind) is) ∙ f)) m
+    subst (λ (v : Kind). IsWinningCell d a v k) (sym (sym (ap (λ (v : Entry). v.kind) is) ∙ f)) m

@@ -19,7 +19,7 @@ use Rattle.conn_store.specs.declared.entries.Kind.TheVariants.{Full, Semi}
 use Rattle.conn_store.specs.declared.entries.Put.{Put}
 use Rattle.conn_store.specs.declared.entries.Put.TheVariants.{Added, Dominated, PairFull}
 use Rattle.conn_store.proofs.Chains.{ends_below}
-use Rattle.conn_store.proofs.Numbers.{numbers_all, numbers_in}
+use Rattle.conn_store.proofs.Numbers.{full_counted, numbers_all, numbers_in}
 use Rattle.conn_store.proofs.RuleEntries.{at_three, at_two}
 use Rattle.conn_store.proofs.RuleTruth.{second_of, third_of}
 use Rattle.conn_store.proofs.Tables.{held_count, last_or_before, number_at, number_within, of_itself}
@@ -78,6 +78,7 @@ near_covers a c q k h = absurd (both_ways (has a.carrier k) (ap (λ v. has v k) 
 -- a pair of which there is an entry is covered by it
 bare_covered : (d : StoreData) (x y : ℕ) → AreBare d → IsPairFull d Full x y → IsCovered d Full x y 0
 bare_covered d x y b h =
+    let m : 4 ≤ length (numbers_of d Full x y) = full_counted d Full x y h in
     let l : 0 < length (numbers_of d Full x y) = omega arith in
     let w = numbers_in 0 Full x y d.entries 0 l in
     (w.0, w.1, w.3, w.4, near_covers w.1 0 (b w.0 w.1 w.3))

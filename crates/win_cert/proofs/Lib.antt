@@ -54,4 +54,5 @@ mod Moved
 mod MovedRules
 mod CutsIn
 mod CutVerdicts
+mod RuleLines
 mod CutCertificates

@@ -15,4 +15,5 @@ pub mod Cuts
 pub mod Cutting
 pub mod Freer
 pub mod Derivations
+pub mod RuleLines
 pub mod Laws
