@@ -2,7 +2,7 @@
 use Rattle.std.specs.Prelude.{List}
 use Rattle.std.specs.List.{AllByRecursion}
 use Rattle.hexd_words.specs.declared.settings.Options.{Options}
-use Rattle.hex_plan.specs.Laws.{LosesOutsideThreats, LosesWhereLost}
+use Rattle.hex_plan.specs.Laws.{LosesAsPlanned, LosesOutsideCarriers}
 use Rattle.hex_plan.specs.Turns.{TurnData}
 use Rattle.hex_engine.specs.Supply.{Supply}
 use Rattle.hex_engine.specs.Uses.{AreGood}
@@ -21,8 +21,8 @@ HasGoodTurns options end before after = (used : Supply) × PlaysBy used options 
 -- each move outside the carrier of one of the turn's threats loses, and where its plan says that
 -- the board is lost each move does
 pub record HasTrueThreats (turn : TurnData) : Type 0 where
-  pub outside : LosesOutsideThreats turn
-  pub where_lost : LosesWhereLost turn
+  pub outside : LosesOutsideCarriers turn.board turn.player turn.planned.plan
+  pub where_lost : LosesAsPlanned turn.board turn.player turn.planned.plan
 
 -- the same, and of each turn that it used up the threats are true
 abbrev pub HasKnownThreats : Options → End → DevicesTold → DevicesTold → Type 0
