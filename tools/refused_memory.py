@@ -3,9 +3,10 @@
 
     tools/refused_memory.py [ROW ...]
 
-A run is one of `hex_cli::run` over links in memory, in pieces of seven bytes. Each has to end with
-its own result, or with status 5, its line on standard error, and the answers to the first lines:
-nothing is left out, nothing is given by half, and nothing else comes in place of an answer.
+A run is one of `hex_cli::run`, or of `match_ref::run_match`, over links in memory, in pieces of
+seven bytes. Each has to end with its own result, or with status 5, its line on standard error, and
+the answers to the first lines: nothing is left out, nothing is given by half, and nothing else
+comes in place of an answer.
 
 `rt try --fail-alloc N` refuses the Nth allocation of a program, which it builds for that number.
 tools/refused_memory/program.txt is a program that makes as many allocations before the run as it
@@ -38,6 +39,8 @@ EMPTY_3 = "   a b c\n 1 . . .\n  2 . . .\n   3 . . .\n\n"
 class Row:
     """A run: its words, its input, and the text that it gives, where that is one text."""
 
+    program = "hexd"
+
     def __init__(self, words, text, given, file=("none", "")):
         self.words, self.input, self.given, self.file = words.split(), text, given, file
         self.is_session = words.startswith("htp")
@@ -66,6 +69,17 @@ class FirstCertificate(Row):
         return given == self.given
 
 
+class Match(Row):
+    """A run of hexmatch, which reads nothing."""
+
+    program = "hexmatch"
+
+    def __init__(self, words, given):
+        super().__init__(words, "", given)
+
+
+TWO_GAMES = "0 a black 1\n(;FF[4]GM[11]SZ[1];B[a1])\n1 b black 1\n(;FF[4]GM[11]SZ[1];B[a1])\na 1 b 1\n"
+
 ROWS = {
     "swap-undo": Row(
         "htp",
@@ -89,6 +103,7 @@ ROWS = {
     "sim-one": Row(
         "sim --size 1 --workers 3 --playouts 10 --steps 100", "", "best a1\nplayouts 10\na1 10 10\n"
     ),
+    "match-records": Match("--size 1 --games 2 --records on --playouts-a 4 --playouts-b 4", TWO_GAMES),
 }
 
 
@@ -118,7 +133,7 @@ def make_repository(folder):
     source.mkdir(parents=True)
     shutil.copy(PROGRAM, source / "main.rt")
     shutil.copy(TOP / "HANDLES", folder)
-    uses = "\n%s: hex_io hex_plan hex_cli search_team anyhow\n" % NAME
+    uses = "\n%s: hex_io hex_plan hex_cli match_ref search_team anyhow\n" % NAME
     (folder / "crates.txt").write_text((TOP / "crates.txt").read_text() + uses)
 
 
@@ -132,7 +147,7 @@ def run_all(folder, runs):
         row, case = ROWS[name], "%s.%d" % (name, before)
         names[case] = (name, before)
         (cases / case).write_text(row.input)
-        (cases / (case + ".args")).write_text("\n".join([str(before), *row.file, *row.words]) + "\n")
+        (cases / (case + ".args")).write_text("\n".join([str(before), *row.file, row.program, *row.words]) + "\n")
     command = ["rt", "try", "--fail-alloc", str(REFUSED), "--cases", str(cases)]
     done = subprocess.run(command, cwd=folder / "crates" / NAME, capture_output=True, text=True)
     came = {}

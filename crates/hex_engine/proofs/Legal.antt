@@ -1,14 +1,13 @@
 -- The cell of a good turn that is next makes a legal move.
-use Rattle.std.proofs.Common.{◌≡◌, Bool, true, false, cond, Some, None, refl, ap, sym, ◌∙◌, subst}
-use Rattle.std.specs.Prelude.{not, ◌&&◌, ◌||◌}
+use Rattle.std.proofs.Common.{◌≡◌, true, false, ap, sym, ◌∙◌, subst}
+use Rattle.std.specs.Prelude.{not, ◌&&◌}
 use Rattle.std.proofs.lemmas.Bool.{and_parts, eqb-true}
 use Rattle.hex_cells.specs.declared.colours.Colour.{Colour}
-use Rattle.hex_cells.specs.declared.colours.Colour.TheVariants.{Black, White}
 use Rattle.hex_board.specs.Positions.{Position, is_empty_at}
-use Rattle.hex_board.specs.Joined.{is_joined, winner_of}
 use Rattle.hex_game.specs.Moves.{step_of}
 use Rattle.hex_game.specs.Games.{board_of, is_legal, is_over}
 use Rattle.hex_game.specs.declared.moves.Move.TheVariants.{Stone}
+use Rattle.hex_game.proofs.Over.{not_over}
 use Rattle.hex_plan.specs.Turns.{TurnData}
 use Rattle.hex_engine.specs.EngineState.{EngineState}
 use Rattle.hex_engine.specs.MoveReplies.{is_board, is_next}
@@ -19,14 +18,6 @@ same_board x z h =
     let p = and_parts _ _ h in
     let q = and_parts _ _ p.1 in
     λ i. record { size = eqb-true x.size z.size p.0 i; black = eqb-true x.black z.black q.0 i; white = eqb-true x.white z.white q.1 i }
-
-none_joined : (a b : Bool) → cond a (Some Black) (cond b (Some White) None) ≡ None → (a || b) ≡ false
-none_joined true b e = absurd (cc)
-none_joined false true e = absurd (cc)
-none_joined false false e = refl
-
-not_over : (p : Position) → winner_of p ≡ None → is_over p ≡ false
-not_over p e = none_joined (is_joined p.size Black p.black) (is_joined p.size White p.white) e
 
 -- its board is the game's
 pub next_board : (at : EngineState) (colour : Colour) (turn : TurnData) → is_next at colour turn ≡ true → turn.board ≡ board_of at.game

@@ -8,7 +8,6 @@ use Rattle.hex_engine.specs.declared.answers.Fail.TheVariants.{Over, UnknownComm
 use Rattle.hex_engine.specs.declared.commands.Command.{Command}
 use Rattle.hex_engine.specs.Commands.{command_named}
 use Rattle.htp_line.specs.declared.request.Request.{Request}
-use Rattle.std.proofs.lemmas.Bool.{and_parts}
 use Rattle.hex_engine.specs.EngineState.{EngineState}
 use Rattle.hex_engine.specs.Supply.{Supply, nothing_left, loads_only, turns_only, and_then}
 use Rattle.hex_engine.specs.declared.loadsgf.Loaded.{Loaded}
@@ -19,10 +18,8 @@ use Rattle.hex_engine.specs.MoveReplies.{lone_colour, is_next, turned, moving, m
 use Rattle.hex_engine.specs.Requests.{Reacts, replied, reaction, reaction_by, obeyed}
 use Rattle.hex_engine.specs.declared.answers.Answer.{Answer}
 use Rattle.hex_cells.specs.declared.colours.Colour.{Colour}
-use Rattle.hex_board.specs.Positions.{Position, is_empty_at}
 use Rattle.hex_game.specs.Games.{board_of}
 use Rattle.hex_plan.specs.Openings.{may_move}
-use Rattle.hex_plan.proofs.Rooms.{empty_in}
 use Rattle.std.specs.Prelude.{IfOk, Result, Err}
 use Rattle.std.proofs.lemmas.Slice.Eq.{bytes_eq-Decides}
 
@@ -82,9 +79,6 @@ moved_reply s colour turn args e f n later =
 -- the reaction that this answer gives
 pub reacts_reply : (r : Reaction) (answer : Answer) (after : EngineState) (later : Supply) → Reacts r answer after → unused later r ≡ Ok (record { reply = replied answer; after = after; left = later })
 reacts_reply r answer after later e = ap (unused later) (sym e)
-
-pub has_empty : (p : Position) → may_move p ≡ true → (k : ℕ) × (is_empty_at p k ≡ true)
-has_empty p e = empty_in p (and_parts _ _ e).1
 
 pub unknown_reply : (s : EngineState) (left : Supply) (request : Request) (name : List ℕ) → name ≡ request.name → command_named name ≡ None → reaction s left request ≡ unused left (unchanged s (FailedReply UnknownCommand))
 unfolding reaction

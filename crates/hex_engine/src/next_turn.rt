@@ -1,4 +1,4 @@
-//! The next turn of a conversation: planned, searched where the plan is no win, and told.
+//! The next turn of a conversation, and what is told of it.
 
 ghost use Rattle.std.specs.Prelude.{◌≡◌, ◌≤◌, length, true, IfOk};
 ghost use Rattle.hex_cells.specs.Vertices.{vertex_of};
@@ -12,10 +12,11 @@ use super::answers::Memory;
 use super::state::Engine;
 use super::texts::vertex_text;
 use hex_cells::Colour;
-use hex_plan::{Turn, TurnTexts, plan, turn_shape, turn_texts};
+use hex_plan::{Turn, TurnTexts, turn_texts};
 use htp_line::Bytes;
-use search_team::{Gate, search};
+use search_team::Gate;
 use std::thread::Threads;
+use turn_search::decided_turn;
 
 /// A turn, with what is told of it: the texts of the commands that ask for it, and the vertex of
 /// its cell.
@@ -52,8 +53,7 @@ impl Engine {
         })
     }
 
-    /// The next turn, of the board with this colour to move: it is planned, and where the plan is
-    /// no win, searched among the allowed cells.
+    /// The turn that is owed on the board with this colour to move.
     fn decide<R: Threads + Sync, G: Gate + Sync>(
         &self,
         rt: &R,
@@ -65,16 +65,13 @@ impl Engine {
         ensures next { IfOk result (λ turn. is_next self.now colour turn ≡ true) }
     {
         let board = self.game.board();
-        let Ok(planned) = plan(self.alloc, board, colour, self.options.hsearch) else {
-            return Err(Memory);
-        };
-        let Some(allowed) = planned.allowed() else {
-            return Ok(Turn::won(board, colour, self.turns, planned));
-        };
-        let shape = turn_shape(board, colour, allowed, &self.options.knobs, self.turns);
-        let Ok(closed) = search(rt, self.alloc, &shape, gate) else {
-            return Err(Memory);
-        };
-        Ok(Turn::searched(closed, self.turns, planned))
+        let knobs = &self.options.knobs;
+        let hsearch = self.options.hsearch;
+        match decided_turn(
+            rt, self.alloc, board, colour, self.turns, knobs, hsearch, gate,
+        ) {
+            Ok(turn) => Ok(turn),
+            Err(_) => Err(Memory),
+        }
     }
 }

@@ -17,8 +17,7 @@ use hex_board::Board;
 use hex_cells::Colour;
 use hex_game::Game;
 use htp_line::Bytes;
-use sgf_game::from_game;
-use sgf_tree::print;
+use sgf_game::game_text;
 use std::alloc::{AllocError, Global};
 
 /// A success without text.
@@ -95,10 +94,7 @@ pub fn print_game(alloc: Global, args: &[Bytes], game: &Game) -> Result<Answer, 
     if !args.is_empty() {
         return Ok(Answer::Fail(Fail::Syntax));
     }
-    let Ok(collection) = from_game(alloc, game) else {
-        return Err(Memory);
-    };
-    let Ok(text) = print(alloc, &collection) else {
+    let Ok(text) = game_text(alloc, game) else {
         return Err(Memory);
     };
     Ok(text_answer(alloc, text.as_slice())?)

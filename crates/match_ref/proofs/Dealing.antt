@@ -1,5 +1,5 @@
 -- Games that were dealt out in two halves, and are dealt in turn again.
-use Rattle.std.proofs.Common.{◌≡◌, ◌∙◌, ℕ, ◌+◌, ◌<◌, ◌≤◌, List, [], ◌∷◌, ◌++◌, Some, length, refl, sym, ap, subst, zero, suc, arith, append_assoc, append-nil}
+use Rattle.std.proofs.Common.{◌≡◌, ◌∙◌, ℕ, ◌+◌, ◌<◌, ◌≤◌, List, [], ◌∷◌, ◌++◌, Some, length, sym, subst, zero, suc, arith, append_assoc, append-nil}
 use Rattle.std.specs.List.{slice_get}
 use Rattle.match_ref.specs.declared.settings.Match.{Match}
 use Rattle.match_ref.specs.declared.played.Played.{Played}

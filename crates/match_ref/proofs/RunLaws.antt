@@ -1,5 +1,5 @@
 -- The statuses, and what follows of them.
-use Rattle.std.proofs.Common.{◌≡◌, ◌≢◌, ◌⊎◌, ◌==◌, ◌∙◌, ℕ, List, Some, Option, if◌then◌else◌, refl, sym, ap, inl, inr}
+use Rattle.std.proofs.Common.{◌≡◌, ◌≢◌, ◌⊎◌, ◌==◌, ◌∙◌, ℕ, Some, Option, if◌then◌else◌, refl, sym, ap, inl, inr}
 use Rattle.match_ref.specs.Statuses.{end_status}
 use Rattle.match_ref.specs.declared.ends.End.{End}
 use Rattle.match_ref.specs.declared.ends.End.TheVariants.{Done, Usage, WriteFault, Memory}

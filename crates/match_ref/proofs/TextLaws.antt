@@ -1,5 +1,5 @@
 -- Texts and wins of a list of games, from its parts.
-use Rattle.std.proofs.Common.{◌≡◌, ◌∙◌, ℕ, ◌+◌, Bool, List, [], ◌∷◌, ◌++◌, length, sym, ap, ap₂, refl, append_assoc, append-nil, arith, suc}
+use Rattle.std.proofs.Common.{◌≡◌, ◌∙◌, ℕ, ◌+◌, Bool, List, [], ◌∷◌, ◌++◌, length, sym, ap, append_assoc, append-nil, arith}
 use Rattle.std.specs.Prelude.{if◌then◌else◌}
 use Rattle.match_ref.specs.MatchTexts.{game_text, games_text, has_won, wins_of}
 use Rattle.match_ref.specs.declared.played.Played.{Played}

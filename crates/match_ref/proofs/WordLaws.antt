@@ -1,12 +1,11 @@
 -- Words that are well formed, and what is found in them.
-use Rattle.std.proofs.Common.{◌≡◌, ◌≢◌, ◌∙◌, ◌≤◌, ◌↔◌, ℕ, refl, sym, ap, subst, List, Option, Some, None, codes, true, false, IfSome, arith}
+use Rattle.std.proofs.Common.{◌≡◌, ◌∙◌, ◌↔◌, refl, sym, subst, List, Option, Some, None, codes, IfSome, arith}
 use Rattle.clap.specs.Words.{first_value, found_of}
 use Rattle.clap.specs.declared.parser.matches.ArgMatches.{ArgMatches}
 use Rattle.option_words.specs.Command.{ReadsForm}
 use Rattle.option_words.specs.Finding.{FindsIn, FindsLine}
 use Rattle.option_words.specs.Grammar.{value_of, word_name}
-use Rattle.option_words.specs.Lines.{IsLine}
-use Rattle.option_words.specs.Values.{IsNumberFrom, TextBytes, lone_hyphen}
+use Rattle.option_words.specs.Values.{TextBytes}
 use Rattle.option_words.proofs.NumberLemmas.{number_in_range}
 use Rattle.option_words.proofs.Unsaid.{said_without_default}
 use Rattle.match_ref.specs.MatchTable.{match_app, match_form}
@@ -19,25 +18,21 @@ pub match_reads : ReadsForm match_app match_form
 unfolding match_app
 match_reads = record { built = refl; simple = refl; free = refl; apart = refl; named = refl; top = refl }
 
-line_of : (words : List TextBytes) (w : MatchWords) → (g : AskFor words w) → IsLine match_form words g.said
-line_of words w g = record { says = g.says; once = g.once; word = λ required. cc }
-
 no_word : (words : List TextBytes) (w : MatchWords) → (g : AskFor words w) → value_of g.said word_name ≡ None
 no_word words w g = said_without_default match_form g.said word_name refl ∙ g.values.word
 
 pub none_found : (words : List TextBytes) (w : MatchWords) → FindsIn match_form words None → AskFor words w → ⊥
 none_found words w none g =
-    none g.said (line_of words w g) (λ same. let no = no_word words w g in cc)
+    none g.said g.line (λ same. let no = no_word words w g in cc)
 
 pub found : (words : List TextBytes) (m : ArgMatches) (w : MatchWords) → FindsLine match_form words m → AreMatchWords (first_value (found_of m)) w ↔ AskFor words w
 found words m w f = (
   λ values. record {
     said = f.said;
-    says = f.line.says;
-    once = f.line.once;
+    line = f.line;
     values = subst (λ (value : TextBytes → Option TextBytes). AreMatchWords value w) (f.values f.said f.line) values;
   },
-  λ g. subst (λ (value : TextBytes → Option TextBytes). AreMatchWords value w) (sym (f.values g.said (line_of words w g))) g.values,
+  λ g. subst (λ (value : TextBytes → Option TextBytes). AreMatchWords value w) (sym (f.values g.said g.line)) g.values,
 )
 
 -- ---- ranges

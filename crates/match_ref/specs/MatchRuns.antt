@@ -1,5 +1,5 @@
 -- What a run of the referee does, told of its words, its status, its link and its errors.
-use Rattle.std.specs.Prelude.{◌≡◌, ◌≢◌, ◌⊎◌, ℕ, List, Option}
+use Rattle.std.specs.Prelude.{◌≡◌, ◌⊎◌, ℕ, List, Option}
 use Rattle.hex_io.specs.Causes.{CountsFault, Rose}
 use Rattle.hex_io.specs.Grew.{Gave, GaveProperPart}
 use Rattle.hex_io.specs.Reported.{Reported}
@@ -7,7 +7,7 @@ use Rattle.hex_io.specs.Told.{Told}
 use Rattle.hex_io.specs.declared.links.Link as links
 use Rattle.match_ref.specs.Dealt.{AreGamesOf}
 use Rattle.match_ref.specs.MatchTexts.{match_text}
-use Rattle.match_ref.specs.MatchWords.{AskForNone, AskFor}
+use Rattle.match_ref.specs.MatchWords.{AskFor}
 use Rattle.match_ref.specs.Statuses.{end_line, end_status}
 use Rattle.match_ref.specs.declared.ends.End.{End}
 use Rattle.match_ref.specs.declared.ends.End.TheVariants.{Done, Usage, WriteFault, Memory}

@@ -1,7 +1,7 @@
 -- What the words of hexmatch ask for.
 use Rattle.std.specs.Prelude.{◌≡◌, ◌^◌, ◌-◌, List, Option, Some, None, codes}
-use Rattle.option_words.specs.Grammar.{Saying, SaysInOrder, SaysOnce, word_name}
-use Rattle.option_words.specs.Lines.{value_in}
+use Rattle.option_words.specs.Grammar.{Saying, word_name}
+use Rattle.option_words.specs.Lines.{IsLine, value_in}
 use Rattle.option_words.specs.Values.{IsNumberFrom, TextBytes, switch_word}
 use Rattle.tree_words.specs.declared.settings.TheConstants.{MOST_PLAYOUTS}
 use Rattle.tree_words.specs.declared.settings.TheConstants.{LEAST_WORDS, MOST_WORDS, MOST_EXPAND}
@@ -31,12 +31,11 @@ pub record AreMatchWords (value : TextBytes → Option TextBytes) (w : MatchWord
       (value (codes "expand-b")) (value (codes "weight-b")) w.setup.b
   pub records : value (codes "records") ≡ Some (switch_word w.records)
 
--- The words say options, each at most once, and no positional word, and with the defaults for what
--- they do not say, the values are this match.
+-- The words are a line of hexmatch's form, and with the defaults for what it does not say, its
+-- values are this match.
 pub record AskFor (words : List TextBytes) (w : MatchWords) : Type 0 where
   pub said : List Saying
-  pub says : SaysInOrder match_form.options words said
-  pub once : SaysOnce said
+  pub line : IsLine match_form words said
   pub values : AreMatchWords (value_in match_form said) w
 
 -- the words ask for no match

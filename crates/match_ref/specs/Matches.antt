@@ -1,6 +1,6 @@
 -- Match games: what is played in a match between two sides.
-use Rattle.std.specs.Prelude.{◌≡◌, ℕ, ◌+◌, ◌*◌, ◌%◌, ◌^◌, ◌<◌, ◌≤◌, ◌==◌, Bool, true, false}
-use Rattle.std.specs.Prelude.{List, [], ◌∷◌, Option, if◌then◌else◌}
+use Rattle.std.specs.Prelude.{◌≡◌, ℕ, ◌+◌, ◌*◌, ◌/◌, ◌%◌, ◌^◌, ◌<◌, ◌≤◌, ◌==◌, Bool, true, false}
+use Rattle.std.specs.Prelude.{List, [], ◌∷◌, length, if◌then◌else◌}
 use Rattle.hex_cells.specs.Colours.{other_of}
 use Rattle.hex_cells.specs.declared.colours.Colour.{Colour}
 use Rattle.hex_cells.specs.declared.colours.Colour.TheVariants.{Black, White}
@@ -12,9 +12,9 @@ use Rattle.hex_game.specs.declared.moves.Move.TheVariants.{Stone}
 use Rattle.hex_game.specs.declared.moves.Step.{Step}
 use Rattle.tree_words.specs.Settings.{AreInRange}
 use Rattle.tree_words.specs.declared.settings.Knobs.{Knobs}
-use Rattle.hex_plan.specs.Good.{IsGood}
 use Rattle.hex_plan.specs.Openings.{may_move}
 use Rattle.hex_plan.specs.Turns.{TurnData}
+use Rattle.turn_search.specs.Owed.{IsOwed}
 use Rattle.match_ref.specs.declared.settings.Match.{Match}
 use Rattle.match_ref.specs.declared.settings.Side.{Side}
 use Rattle.match_ref.specs.declared.settings.TheConstants.{MOST_GAMES, MOST_THREADS}
@@ -46,25 +46,26 @@ side_knobs m i player = record {
   weight = (side_of m i player).weight;
 }
 
--- the cell is that of a good turn with this number on the board now, with this player to move, of a
--- session with these knobs that looks for no connections
+-- the cell is that of a turn that a session with these knobs, which looks for no connections, owes
+-- on the board now with this player to move, after so many turns
 pub record IsTurnCell (knobs : Knobs) (now : Position) (mover : Colour)
-    (number cell : ℕ) : Type 0 where
+    (turns cell : ℕ) : Type 0 where
   pub turn : TurnData
-  pub good : IsGood knobs false turn
-  pub board : turn.board ≡ now
-  pub player : turn.player ≡ mover
-  pub number_is : turn.number ≡ number
+  pub owed : IsOwed knobs false now mover turns turn
   pub cell_is : turn.cell ≡ cell
 
--- These steps are the rest of match game i, from this game on. The mover made `mine` turns before,
--- and the other player `theirs`. The game ends where a player is joined or no cell is empty.
-abbrev pub PlaysOn : Match → ℕ → GameData → Colour → ℕ → ℕ → List Step → Type 0
-PlaysOn m i game mover mine theirs [] = may_move (board_of game) ≡ false
-PlaysOn m i game mover mine theirs (step ∷ steps) =
+-- how many turns the mover made before, where the players take turns: half of the steps so far
+abbrev pub turns_made : GameData → ℕ
+turns_made game = length game.steps / 2
+
+-- These steps are the rest of match game i, from this game on, with this player to move. The game
+-- ends where a player is joined or no cell is empty.
+abbrev pub PlaysOn : Match → ℕ → GameData → Colour → List Step → Type 0
+PlaysOn m i game mover [] = may_move (board_of game) ≡ false
+PlaysOn m i game mover (step ∷ steps) =
     (may_move (board_of game) ≡ true) × (cell : ℕ) × (step ≡ step_of mover (Stone cell))
-    × IsTurnCell (side_knobs m i mover) (board_of game) mover mine cell
-    × PlaysOn m i (with_step game step) (other_of mover) theirs (mine + 1) steps
+    × IsTurnCell (side_knobs m i mover) (board_of game) mover (turns_made game) cell
+    × PlaysOn m i (with_step game step) (other_of mover) steps
 
 -- the empty board of the match, without steps
 abbrev pub first_game : Match → GameData
@@ -76,7 +77,7 @@ game_with m steps = record { start = empty_board m.size; steps = steps }
 
 -- this is match game i: Black begins, and the winner is who is joined at the end
 pub record IsMatchGame (m : Match) (i : ℕ) (p : Played) : Type 0 where
-  pub plays : PlaysOn m i (first_game m) Black 0 0 p.steps
+  pub plays : PlaysOn m i (first_game m) Black p.steps
   pub winner : p.winner ≡ winner_of (board_of (game_with m p.steps))
 
 -- the knobs of a side are in their ranges, whatever its seed

@@ -49,5 +49,5 @@ pub use played::{Played, Steps};
 pub use refusals::Memory;
 pub use running::run_match;
 pub use settings::{MOST_GAMES, MOST_THREADS, Match, Side};
-pub use texts::push_game_line;
+pub use texts::game_line;
 pub use words::{MatchWords, read_match_words};

@@ -10,6 +10,7 @@ ghost use Rattle.hex_plan.specs.Openings.{may_move};
 ghost use Rattle.hex_board.specs.Positions.{empty_board};
 ghost use Rattle.tree_words.specs.Settings.{AreInRange};
 ghost use Rattle.match_ref.specs.Matches.{IsMatch, IsMatchGame, IsTurnCell, is_side_a, side_knobs};
+ghost use Rattle.match_ref.specs.Matches.{turns_made};
 ghost use Rattle.match_ref.specs.declared.settings.TheConstants.{MOST_GAMES};
 
 use super::played::{Played, Steps};
@@ -18,11 +19,12 @@ use super::settings::{Match, Side};
 use hex_board::Board;
 use hex_cells::{Cell, CellSet, Colour, Size};
 use hex_game::{Game, Move};
-use hex_plan::{Turn, may_move, plan, turn_shape};
-use search_team::{OpenGate, search};
+use hex_plan::may_move;
+use search_team::OpenGate;
 use std::alloc::{AllocError, Global};
 use std::thread::Threads;
 use tree_words::Knobs;
+use turn_search::decided_turn;
 
 /// The seeds of two sides, or of one side in two games, are at least this far apart: a side makes
 /// fewer than 2^8 turns, and the seeds of two turns are 2^32 apart.
@@ -63,31 +65,30 @@ fn side_knobs(setup: &Match, number: u32, player: Colour) -> Knobs
     }
 }
 
-// The cell of the mover's next turn.
+// How many turns the mover made before: the players take turns.
+fn turns_made(game: &Game) -> u64
+    ensures { result ≡ turns_made game.now }
+{
+    (game.steps().len() / 2) as u64
+}
+
+// The cell of the mover's turn after so many turns.
 fn turn_cell<R: Threads + Sync>(
     rt: &R,
     alloc: Global,
     knobs: &Knobs,
     board: &Board,
     mover: Colour,
-    number: u64,
+    turns: u64,
 ) -> Result<Cell, Memory>
     requires may { may_move board.now ≡ true }
     requires ranges { AreInRange knobs.now }
-    ensures turn { IfOk result (IsTurnCell knobs.now board.now mover number) }
+    ensures turn { IfOk result (IsTurnCell knobs.now board.now mover turns) }
     ensures on_board { IfOk result (λ cell. cell < board.now.size * board.now.size) }
 {
-    let Ok(planned) = plan(alloc, board, mover, false) else {
+    let Ok(turn) = decided_turn(rt, alloc, board, mover, turns, knobs, false, &OpenGate) else {
         return Err(Memory);
     };
-    let Some(allowed) = planned.allowed() else {
-        unreachable!();
-    };
-    let shape = turn_shape(board, mover, allowed, knobs, number);
-    let Ok(closed) = search(rt, alloc, &shape, &OpenGate) else {
-        return Err(Memory);
-    };
-    let turn = Turn::searched(closed, number, planned);
     Ok(turn.cell())
 }
 
@@ -138,16 +139,12 @@ pub fn play_game<R: Threads + Sync>(
         return Err(Memory);
     };
     let mut mover = Colour::Black;
-    let mut mine = 0u64;
-    let mut theirs = 0u64;
     'moves: while may_move(game.board()) {
         let knobs = side_knobs(setup, number, mover);
-        let cell = turn_cell(rt, alloc, &knobs, game.board(), mover, mine)?;
+        let turns = turns_made(&game);
+        let cell = turn_cell(rt, alloc, &knobs, game.board(), mover, turns)?;
         put_stone(&mut game, mover, cell);
         mover = mover.other();
-        let made = mine + 1;
-        mine = theirs;
-        theirs = made;
     }
     match played(alloc, &game) {
         Ok(played) => Ok(played),

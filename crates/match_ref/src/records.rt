@@ -11,8 +11,7 @@ use super::playing::bare_board;
 use super::refusals::Memory;
 use super::settings::Match;
 use hex_game::{Game, Step};
-use sgf_game::from_game;
-use sgf_tree::print;
+use sgf_game::game_text;
 use std::alloc::Global;
 
 // Takes one more step, which is legal.
@@ -50,10 +49,7 @@ pub fn push_record(
         (text.new.items ≡ text.old.items ++ record_line setup.now played.now) }
 {
     let game = game_again(alloc, setup, played)?;
-    let Ok(collection) = from_game(alloc, &game) else {
-        return Err(Memory);
-    };
-    let Ok(record) = print(alloc, &collection) else {
+    let Ok(record) = game_text(alloc, &game) else {
         return Err(Memory);
     };
     text.extend_from_slice(record.as_slice())?;

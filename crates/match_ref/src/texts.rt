@@ -53,9 +53,21 @@ fn push_winner(text: &mut Vec<u8>, number: usize, winner: Option<Colour>) -> Res
     Ok(())
 }
 
-/// Writes the line of a game at the end of the text: its number, who won it, and how many steps it
-/// has. It refuses for want of memory alone.
-pub fn push_game_line(
+/// The line of a game: its number, who won it, and how many steps it has. It refuses for want of
+/// memory alone.
+pub fn game_line(alloc: Global, number: usize, game: &Played) -> Result<Vec<u8>, AllocError>
+    ensures { IfOk result (λ line. line.items ≡ game_line number game.now) }
+{
+    let mut line = Vec::new(alloc);
+    push_number(alloc, &mut line, number)?;
+    push_winner(&mut line, number, game.winner)?;
+    push_number(alloc, &mut line, game.steps.as_slice().len())?;
+    line.push(b'\n')?;
+    Ok(line)
+}
+
+// Writes the line of a game.
+fn push_line(
     alloc: Global,
     text: &mut Vec<u8>,
     number: usize,
@@ -63,11 +75,8 @@ pub fn push_game_line(
 ) -> Result<(), AllocError>
     ensures { OnOk result (text.new.items ≡ text.old.items ++ game_line number game.now) }
 {
-    push_number(alloc, text, number)?;
-    push_winner(text, number, game.winner)?;
-    push_number(alloc, text, game.steps.as_slice().len())?;
-    text.push(b'\n')?;
-    Ok(())
+    let line = game_line(alloc, number, game)?;
+    text.extend_from_slice(&line)
 }
 
 // Writes the line of a game, and its record where records are wanted.
@@ -81,7 +90,7 @@ fn push_game(
     requires { AreLegal (empty_board asked.now.setup.size) game.now.steps }
     ensures { OnOk result (text.new.items ≡ text.old.items ++ game_text asked.now number game.now) }
 {
-    push_game_line(alloc, text, number, game)?;
+    push_line(alloc, text, number, game)?;
     if asked.records {
         push_record(alloc, text, &asked.setup, game)?;
     }

@@ -5,7 +5,7 @@ ghost use Rattle.match_ref.specs.Matches.{IsMatch};
 
 use hex_cells::{Colour, Size};
 use hex_io::{MemLink, Word};
-use match_ref::{Match, Played, Side, Steps, play_match, push_game_line, run_match};
+use match_ref::{Match, Played, Side, Steps, game_line, play_match, run_match};
 use search_team::{Gate, OpenGate};
 use std::alloc::Global;
 use std::sync::atomic::{AtomicBool, Ordering};
@@ -193,6 +193,7 @@ fn refuses_words(rt: HostRuntime) -> Result<(), Fail> {
         "x",
         "-- x",
         "-- --",
+        "-- -",
         "-",
         "--help",
         "--workers 2",
@@ -220,7 +221,10 @@ fn plays_by_default(rt: HostRuntime) -> Result<(), Fail> {
     let ended = run_of(&rt, "--", 10_000, &OpenGate)?;
     assert_eq!(rt; bare.status, 0);
     assert_eq!(rt; bare.link.given().split(|byte| *byte == b'\n').count(), 12);
+    assert!(rt; bare.errors.given().is_empty());
+    assert_eq!(rt; ended.status, 0);
     assert_eq!(rt; ended.link.given(), bare.link.given());
+    assert!(rt; ended.errors.given().is_empty());
     Ok(())
 }
 
@@ -262,9 +266,8 @@ fn tells_winners(rt: HostRuntime) -> Result<(), Fail> {
             steps: Steps::of(Vec::new(rt.alloc())),
             winner,
         };
-        let mut text = Vec::new(rt.alloc());
-        push_game_line(rt.alloc(), &mut text, number, &game)?;
-        assert_eq!(rt; text.as_slice(), line.as_bytes());
+        let told = game_line(rt.alloc(), number, &game)?;
+        assert_eq!(rt; told.as_slice(), line.as_bytes());
     }
     Ok(())
 }

@@ -16,9 +16,9 @@ use clap::error::ErrorKind;
 use clap::{ArgMatches, Command, Error};
 use hex_io::Word;
 
-/// What the words say by the command; none where they are no line of its form, or one whose
-/// positional word is a hyphen alone. A value of a name that is found is what the line says, or the
-/// default.
+/// What the words say by the command. Where something is found, they are a line of its form, and
+/// the value of each name is what the line says, or the default. Where nothing is, they are no line
+/// of it, or one whose positional word is a hyphen alone.
 pub fn find<'a>(command: Command<'a>, words: &'a [Word]) -> Result<Option<ArgMatches<'a>>, Memory>
     ensures { IfOk result (FindsByForm (app_of command.entry) words.now) }
 {
@@ -43,8 +43,8 @@ pub fn clap_reads_lines(words: &[Word])
     let _words = words;
 }
 
-// Whether one of the words is a hyphen alone. No line has one, but `clap` takes it for a value.
-// Each word that was looked at is text.
+// Whether one of the words is a hyphen alone. In a line only the positional word may be one, but
+// `clap` takes it for any value. Where none is, each word is text.
 fn has_lone_hyphen(words: &[Word]) -> bool
     ensures found { IsTrue result ↔ Contains words.now lone_hyphen }
     ensures text { OnFalse result (All IsUtf8 words.now) }

@@ -18,15 +18,16 @@
 //! let size = small_number(found.get_str("size"), 1, 11)?;
 //! ```
 //!
-//! **What is proved.** [`find`] finds something exactly where the words are a line of the form,
-//! `IsLine` of `specs/Lines.antt`, but for one whose positional word is a hyphen alone, where it
-//! finds nothing; and what it finds of a name is what the line says, or the default. That
+//! **What is proved.** [`find`] finds something only where the words are a line of the form,
+//! `IsLine` of `specs/Lines.antt`, and in every line but one whose positional word is a hyphen
+//! alone; and what it finds of a name is what the line says, or the default. That
 //! definition and the grammar that it stands on, `specs/Grammar.antt`, do not speak of `clap`,
 //! which reads the words here; [`clap_reads_lines`] is the law that both say the same. Numbers are
 //! read by this crate: `clap` takes a plus sign and more than twenty digits.
 //!
-//! **Only tested, or not said.** That memory suffices: a call may always answer [`Memory`]. The
-//! tables of lines stand in the tests of the crates above.
+//! **Only tested, or not said.** That memory suffices: a call may always answer [`Memory`]. That
+//! nothing is found in a line whose positional word is a hyphen alone. The tables of lines stand in
+//! the tests of the crates above.
 //!
 //! **Limits.** There are no short options, no shortened names, no `--help` and no `--version`.
 //! Every word has to be text. That a command reads its form, `ReadsForm` of `specs/Command.antt`,

@@ -1,9 +1,11 @@
-//! Gates: what a worker passes before its first add.
+//! Gates: what a worker of a search passes before its first add, or a game of a match before its
+//! first move.
 
-/// A gate, which workers share. Each worker that makes a walk passes it once, in its first walk,
-/// after its last look and before its first add to a count. It promises nothing but to return.
+/// A gate, which workers or games share. Each worker that makes a walk passes it once, in its first
+/// walk, after its last look and before its first add to a count; each game of a match passes it
+/// once, before its first move. It promises nothing but to return.
 pub trait Gate {
-    /// The worker with this number passes; workers are numbered from 0.
+    /// The worker or the game with this number passes; both are numbered from 0.
     fn pass(&self, worker: u32);
 }
 

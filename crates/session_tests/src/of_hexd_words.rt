@@ -131,6 +131,8 @@ htp -
 -- -htp
 htp -- htp
 htp -- --
+-- -
+htp -- -
 -- -- htp
 -- htp --size 5";
 

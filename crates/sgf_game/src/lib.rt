@@ -7,13 +7,14 @@
 //! read: a step of a game (crate hex_game), the end of the line (`resign`, `forfeit`), or nothing.
 //!
 //! **A caller.** [`to_game`] makes a game of a collection, as `parse` reads it, [`read_game`] one
-//! of a record's bytes, and [`from_game`] the record of a game, which `print` prints.
+//! of a record's bytes, [`from_game`] the record of a game, and [`game_text`] the text of this.
 //!
 //! **What is proved.** `to_game` answers exactly the game of the collection, or exactly its
 //! refusal, by one definition on lists (`specs/GameOf.antt`): the main line cut behind the node
 //! that ends it, the root's values, the turns, and the first turn that is refused. `from_game`
 //! answers exactly the record of the game (`specs/Record.antt`), whose game by that definition is
-//! the same game, and which has a text. Every answer yields to want of memory.
+//! the same game, and which has a text: that of `game_text`, which `read_game` reads as the game.
+//! Every answer yields to want of memory.
 //!
 //! **What is only tested, or not said.** That calls succeed with ample memory, and the time: each
 //! value is read a few times, so it is linear in the collection's size.
@@ -36,5 +37,5 @@ mod writing;
 
 pub use error::GameError;
 pub use reading::to_game;
-pub use records::read_game;
+pub use records::{game_text, read_game};
 pub use writing::from_game;

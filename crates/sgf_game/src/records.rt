@@ -1,12 +1,15 @@
-//! From the bytes of a record to its game.
+//! From the bytes of a record to its game, and back.
 
-ghost use Rattle.std.specs.Prelude.{IfOk};
-ghost use Rattle.sgf_game.specs.RecordOf.{IsGameOf};
+ghost use Rattle.std.specs.Prelude.{◌≡◌, IfOk};
+ghost use Rattle.sgf_tree.specs.Printing.{trees_print};
+ghost use Rattle.sgf_game.specs.Record.{record_of};
+ghost use Rattle.sgf_game.specs.RecordOf.{IsGameOf, IsRecordOf};
 
 use super::error::GameError;
 use super::reading::to_game;
+use super::writing::from_game;
 use hex_game::Game;
-use sgf_tree::{SgfError, parse};
+use sgf_tree::{Bytes, Memory, SgfError, parse, print};
 use std::alloc::{AllocError, Global};
 
 /// The game of which the bytes are a record; none exactly where they are no text of a collection
@@ -24,4 +27,15 @@ pub fn read_game(alloc: Global, bytes: &[u8]) -> Result<Option<Game>, AllocError
         Err(GameError::Memory) => Err(AllocError),
         Err(_) => Ok(None),
     }
+}
+
+/// The text of the game's record (SGF FF[4]), without white space between tokens: what
+/// [`from_game`] makes, printed. Want of memory is the only refusal.
+pub fn game_text(alloc: Global, game: &Game) -> Result<Bytes, Memory>
+    ensures text { IfOk result (λ bytes. bytes ≡ trees_print (record_of game.now)) }
+    // So it is read again as the same game.
+    ensures record { IfOk result (λ bytes. IsRecordOf bytes game.now) }
+{
+    let collection = from_game(alloc, game)?;
+    print(alloc, &collection)
 }

@@ -12,13 +12,14 @@ use Rattle.tree_words.specs.Sequence.{seq_of}
 use Rattle.tree_words.specs.Settings.{Setting}
 use Rattle.tree_words.specs.declared.roots.Row.{Row}
 use Rattle.tree_words.specs.declared.settings.Knobs.{Knobs}
-use Rattle.hex_plan.specs.Good.{IsGood, IsSequential, IsTurnShape}
+use Rattle.hex_plan.specs.Good.{IsSequential, IsTurnShape}
 use Rattle.hex_plan.specs.Plans.{IsPlanned}
 use Rattle.hex_plan.specs.Reports.{rows_in}
 use Rattle.hex_plan.specs.Seeds.{turn_knobs}
 use Rattle.hex_plan.specs.TurnTexts.{report_of}
 use Rattle.hex_plan.specs.Turns.{TurnData}
 use Rattle.hex_plan.specs.declared.plans.Planned.{Planned}
+use Rattle.turn_search.specs.Owed.{IsOwed}
 use Rattle.sim_run.specs.BetweenSteps.{EndsSchedule}
 use Rattle.turn_modes.specs.ModeTexts.{sim_text, report_by, bench_text}
 use Rattle.turn_modes.specs.Positions.{board_on, mover_after, shuffled_cells, placed_count}
@@ -29,14 +30,10 @@ use Rattle.turn_modes.specs.declared.options.ModeOptions.{ModeOptions}
 
 -- ---- the turn
 
--- a good turn of a session that looks for no connections, with number 0, on this board with this
+-- the first turn that a session which looks for no connections owes, on this board with this
 -- player to move
-pub record IsFirstTurn (knobs : Knobs) (now : Position) (mover : Colour)
-    (t : TurnData) : Type 0 where
-  pub good : IsGood knobs false t
-  pub number : t.number ≡ 0
-  pub board : t.board ≡ now
-  pub player : t.player ≡ mover
+abbrev pub IsFirstTurn : Knobs → Position → Colour → TurnData → Type 0
+IsFirstTurn knobs now mover = IsOwed knobs false now mover 0
 
 -- the turn is a first turn wherever its plan and tree are those of one
 abbrev pub MakesFirstTurn : Planned → ClosedTree → TurnData → Type 0

@@ -1,4 +1,4 @@
-//! The turn of a search: its plan, its shape, and what its tree decides.
+//! The turns of the modes: that of sim by a schedule, and that of bench by a team.
 
 ghost use Rattle.std.specs.Prelude.{◌≡◌, ◌<◌, ℕ, None, Some, false, true, IfOk, All};
 ghost use Rattle.hex_board.specs.Joined.{winner_of};
@@ -17,11 +17,12 @@ use super::schedules::schedule;
 use hex_board::Board;
 use hex_cells::Colour;
 use hex_plan::{Memory, Planned, Turn, plan, turn_shape};
-use search_team::{Gate, search};
+use search_team::Gate;
 use sim_run::{SimError, simulate};
 use std::alloc::Global;
 use std::thread::Threads;
 use tree_words::{Closed, Knobs, Shape};
+use turn_search::decided_turn;
 
 // The plan of a turn, and the shape of its search.
 #[derive(Drop)]
@@ -101,9 +102,14 @@ pub fn benchmarked_turn<R: Threads + Sync, G: Gate + Sync>(
     requires ranges { AreInRange knobs.now }
     ensures { IfOk result (IsFirstTurn knobs.now position.now.board position.now.colour) }
 {
-    let prepared = prepare(alloc, &position.board, position.colour, knobs)?;
-    let Ok(closed) = search(rt, alloc, &prepared.shape, gate) else {
-        return Err(Memory);
-    };
-    Ok(decide(prepared.planned, closed))
+    decided_turn(
+        rt,
+        alloc,
+        &position.board,
+        position.colour,
+        0,
+        knobs,
+        false,
+        gate,
+    )
 }

@@ -1,4 +1,4 @@
-use Rattle.std.proofs.Common.{◌≡◌, sym, ◌∙◌}
+use Rattle.std.proofs.Common.{sym, ◌∙◌}
 use Rattle.match_ref.specs.declared.ends.End.TheVariants.{Usage}
 use Rattle.match_ref.proofs.RunLaws.{complete_at, same_end}
 use Rattle.match_ref.proofs.running.run_match.Goals as goal

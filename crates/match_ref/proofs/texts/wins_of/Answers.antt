@@ -1,6 +1,6 @@
-use Rattle.std.proofs.Common.{◌≡◌, ◌+◌, ◌++◌, ◌∷◌, ◌≤◌, ◌∙◌, ℕ, Bool, true, false, [], length, take, ap, sym, refl, arith}
+use Rattle.std.proofs.Common.{◌≡◌, ◌+◌, ◌++◌, ◌∷◌, ◌∙◌, [], length, take, sym, refl, arith}
 use Rattle.std.proofs.lemmas.Grind.{common_steps}
-use Rattle.match_ref.specs.MatchTexts.{has_won, wins_of}
+use Rattle.match_ref.specs.MatchTexts.{has_won}
 use Rattle.match_ref.proofs.TextLaws.{win, wins_more}
 use Rattle.match_ref.proofs.texts.wins_of.Goals.{then-has_won, else-has_won}
 use Rattle.match_ref.proofs.texts.wins_of.Goals as goal

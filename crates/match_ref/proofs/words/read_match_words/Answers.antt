@@ -1,5 +1,5 @@
-use Rattle.std.proofs.Common.{◌≡◌, ◌↔◌, List, subst, sym, Option, Some, None}
-use Rattle.clap.specs.Words.{App, app_of, first_value, found_of}
+use Rattle.std.proofs.Common.{◌≡◌, subst, sym, None}
+use Rattle.clap.specs.Words.{App, first_value, found_of}
 use Rattle.option_words.specs.Command.{ReadsForm}
 use Rattle.option_words.specs.Finding.{FindsIn, FindsLine}
 use Rattle.match_ref.specs.MatchTable.{match_app, match_form}

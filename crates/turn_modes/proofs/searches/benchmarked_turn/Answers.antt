@@ -1,14 +1,12 @@
-use Rattle.std.proofs.Common.{◌≡◌}
-use Rattle.turn_modes.proofs.Decided.{shape_of_tree, sequential_tree}
+-- The position has room, and nobody is joined.
+use Rattle.std.proofs.Common.{rules, ◌≡◌, ◌∙◌, ap, true}
+use Rattle.std.specs.Prelude.{◌&&◌, is_some, not}
+use Rattle.hex_plan.specs.Openings.{has_room, may_move}
+use Rattle.hex_plan.proofs.Rooms.{room_of}
 use Rattle.turn_modes.proofs.searches.benchmarked_turn.Goals as goal
 
-pub returns : goal.returns
-returns g c =
-    let knobs = c.args.knobs.now in
+pub decided_turn-requires-clause-may : goal.decided_turn-requires-clause-may
+decided_turn-requires-clause-may g c =
     let board = c.args.position.now.board in
-    let player = c.args.position.now.colour in
-    let s = c.in_ok-prepared.prepared.shape in
-    let same : c.in-Ok.closed.shape ≡ s = c.in-Ok.ensures.shape in
-    c.decide.ensures.first knobs board player c.requires.nobody c.in_ok-prepared.ensures.planned
-    (shape_of_tree knobs board player s c.in-Ok.closed same c.in_ok-prepared.ensures.shape)
-    (sequential_tree knobs board player s c.in-Ok.closed same c.in_ok-prepared.ensures.shape c.in-Ok.ensures.one)
+    let may : may_move board ≡ true = ap (λ o. not (is_some o) && has_room board) c.requires.nobody ∙ room_of board c.requires.room.0 c.requires.room.1 in
+    search rules
