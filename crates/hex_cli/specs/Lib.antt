@@ -1,4 +1,3 @@
-pub mod Statuses
 pub mod Modes
 pub mod Playing
 pub mod Served

@@ -1,16 +1,16 @@
 //! The top call of `hexd`: from the words of a command line and a link to a status.
 //!
-//! **What it is.** A *run* reads its words and does what they ask for; [`End`] is how it ends, and
-//! its *status* is a number. In mode `htp` it plays a session of htp_session: a conversation from
-//! an empty board, of which the *talk* over the lines taken is what is given. Modes `check`,
+//! **What it is.** A *run* reads its words and does what they ask for; its *status* tells how it
+//! ended (`End` of hex_devices). In mode `htp` it plays a session of htp_session: a conversation
+//! from an empty board, of which the *talk* over the lines taken is what is given. Modes `check`,
 //! `migrate` and `audit` take their whole input and give one text for it. Modes `sim` and `bench`
 //! of turn_modes read nothing, and hand in one turn with its text.
 //!
-//! **A caller** makes the link, the errors, the shelf and the archive, and ends with the status:
+//! **A caller** makes the devices, of a link, a shelf, an archive, a runtime and a gate, and the
+//! errors, and ends with the status:
 //!
 //! ```text
-//! let status =
-//!     run(rt, alloc, &words, &mut link, &mut errors, &mut shelf, &mut archive, &OpenGate);
+//! let status = run(alloc, &words, &mut devices, &mut errors);
 //! ```
 //!
 //! **What is proved**, in the words of `specs/Runs.antt`, `specs/Causes.antt`, `specs/Modes.antt`
@@ -49,7 +49,6 @@
 
 mod audits;
 mod certificates;
-mod ends;
 mod inputs;
 mod knobs;
 mod limits;
@@ -62,7 +61,6 @@ mod tests;
 mod top;
 mod trace_names;
 
-pub use ends::End;
 pub use hexd_words::Memory;
 pub use limits::INPUT_LIMIT;
 pub use top::run;
