@@ -2,8 +2,8 @@
 //!
 //! **Nouns.** A *worker* is a walker with a seat of its own, stepped until its draw answers that no
 //! playout is left ([`work`]). A *team* is the workers of one shape, each in a thread. A [`Gate`]
-//! is what a worker passes once, between its first looks and its first add; a test can hold workers
-//! there, and [`OpenGate`] holds none.
+//! is what a worker passes once, between its first looks and its first add; a test counts and holds
+//! workers there with a [`CountingGate`], and [`OpenGate`] holds none.
 //!
 //! **A caller** calls [`search`]. It makes the tree, splits its seat by halves until each part
 //! stands for one worker, lets each work in a thread, joins the seats and closes the tree.
@@ -25,12 +25,14 @@
 #![tactic(auto)]
 
 mod climbing;
+mod counting;
 mod gates;
 mod scanning;
 mod searching;
 mod working;
 mod writing;
 
+pub use counting::CountingGate;
 pub use gates::{Gate, OpenGate};
 pub use searching::search;
 pub use working::work;

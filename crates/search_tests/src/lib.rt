@@ -13,3 +13,13 @@ mod of_play_out;
 mod of_search_team;
 #[cfg(test)]
 mod of_seq_search;
+#[cfg(test)]
+mod of_sim_run;
+#[cfg(test)]
+mod of_tree_rule;
+#[cfg(test)]
+mod of_tree_words;
+#[cfg(test)]
+mod of_uct_table;
+#[cfg(test)]
+mod of_walker;

@@ -1,68 +1,14 @@
-//! Workers that are counted at a gate, and one worker's tree by three searches. That two workers
-//! meet at a gate is told by whole runs, in hex_cli's tests.
+//! Workers that are counted at a gate, and one worker's tree by three searches. That whole runs
+//! pass the gate is told by the tests of hex_cli.
 
 use hex_board::Board;
 use hex_cells::{CellSet, Colour, Size};
-use search_team::{Gate, OpenGate, search};
+use search_team::{CountingGate, OpenGate, search};
 use seq_search::plain_search;
 use sim_run::simulate;
-use std::sync::atomic::{AtomicU32, Ordering};
 use std::test::Fail;
-use std::thread;
 use tree_words::layout::RECORDS_AT;
 use tree_words::{Closed, Knobs, Shape};
-
-const MOST_TURNS: u32 = 10_000_000;
-
-// A gate that counts how often each of three numbers passed. Where they are to meet it holds each
-// worker until all three have passed, or for so many turns.
-#[derive(Drop)]
-struct Counting {
-    first: AtomicU32,
-    second: AtomicU32,
-    third: AtomicU32,
-    meet: bool,
-}
-
-impl Counting {
-    fn new(meet: bool) -> Counting {
-        Counting {
-            first: AtomicU32::new(0),
-            second: AtomicU32::new(0),
-            third: AtomicU32::new(0),
-            meet,
-        }
-    }
-
-    fn counts(&self) -> [u32; 3] {
-        [
-            self.first.load(Ordering::SeqCst),
-            self.second.load(Ordering::SeqCst),
-            self.third.load(Ordering::SeqCst),
-        ]
-    }
-}
-
-impl Gate for Counting {
-    fn pass(&self, worker: u32) {
-        let mine = match worker {
-            0 => &self.first,
-            1 => &self.second,
-            _ => &self.third,
-        };
-        mine.fetch_add(1, Ordering::SeqCst);
-        if !self.meet {
-            return;
-        }
-        for _ in 0..MOST_TURNS {
-            let [first, second, third] = self.counts();
-            if first != 0 && second != 0 && third != 0 {
-                return;
-            }
-            thread::yield_now();
-        }
-    }
-}
 
 // Size 3, the empty board, Black to move.
 fn three_by_three(workers: u32, playouts: u32) -> Option<Shape> {
@@ -83,35 +29,24 @@ fn three_by_three(workers: u32, playouts: u32) -> Option<Shape> {
     Some(Shape::make(&board, Colour::Black, allowed, &knobs))
 }
 
-// Each of three workers has a number of its own.
+// Workers, playouts and how many workers meet: three with a walk each, who have numbers of their
+// own; one, who passes before his first add alone, however many walks and adds he makes; and three
+// of whom one has a walk, and the others don't pass.
 #[test]
-fn each_number_passes_the_gate(rt: HostRuntime) -> Result<(), Fail> {
-    let shape = three_by_three(3, 3).ok_or("a shape")?;
-    let gate = Counting::new(true);
-    let _closed = search(&rt, rt.alloc(), &shape, &gate)?;
-    assert_eq!(rt; gate.counts(), [1, 1, 1]);
-    Ok(())
-}
-
-// A worker passes before his first add alone, however many walks and adds he makes.
-#[test]
-fn one_worker_passes_once(rt: HostRuntime) -> Result<(), Fail> {
-    let shape = three_by_three(1, 100).ok_or("a shape")?;
-    let gate = Counting::new(false);
-    let _closed = search(&rt, rt.alloc(), &shape, &gate)?;
-    assert_eq!(rt; gate.counts(), [1, 0, 0]);
-    Ok(())
-}
-
-// One playout is one worker's walk: the two others have no walk, and don't pass.
-#[test]
-fn who_has_no_walk_does_not_pass(rt: HostRuntime) -> Result<(), Fail> {
-    let shape = three_by_three(3, 1).ok_or("a shape")?;
-    for _ in 0..3 {
-        let gate = Counting::new(false);
+fn each_walker_passes_once(rt: HostRuntime) -> Result<(), Fail> {
+    for (workers, playouts, meeting) in [(3, 3, 3), (1, 100, 0), (3, 1, 0), (3, 1, 0), (3, 1, 0)] {
+        let shape = three_by_three(workers, playouts).ok_or("a shape")?;
+        let gate = CountingGate::new(meeting);
         let _closed = search(&rt, rt.alloc(), &shape, &gate)?;
-        let one = matches!(gate.counts(), [1, 0, 0] | [0, 1, 0] | [0, 0, 1]);
-        assert!(rt; one);
+        assert!(rt; !gate.was_missed());
+        let [first, second, third] = gate.counts();
+        let (most, rest) = (first.max(second).max(third), second.saturating_add(third));
+        let sum = first.saturating_add(rest);
+        assert_eq!(rt;
+            (most, sum),
+            (1, workers.min(playouts)),
+            "{workers}, {playouts}"
+        );
     }
     Ok(())
 }

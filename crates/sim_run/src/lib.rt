@@ -30,10 +30,6 @@ mod opening;
 mod search;
 mod simulation;
 mod steps;
-#[cfg(test)]
-mod tree_tests;
-#[cfg(test)]
-mod walk_tests;
 
 pub use errors::SimError;
 pub use search::simulate;

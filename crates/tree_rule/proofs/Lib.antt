@@ -4,7 +4,3 @@ pub mod Moves
 mod Within
 mod Ends
 mod Copies
-mod ScriptLaws
-mod OneCell
-mod TwoByTwo
-mod RaceScript

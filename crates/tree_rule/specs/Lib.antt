@@ -4,4 +4,3 @@ pub mod Plays
 pub mod Seats
 pub mod Visits
 pub mod Ends
-pub mod Scripts

@@ -28,15 +28,9 @@
 //! words of blocks. Two allocations of all words stand from `make` to `close`.
 #![tactic(auto)]
 
-#[cfg(test)]
-mod one_cell_tests;
 mod opening;
 mod plays;
-#[cfg(test)]
-mod race_tests;
 mod rule;
-#[cfg(test)]
-mod scripts;
 mod seats;
 mod steps;
 mod trees;

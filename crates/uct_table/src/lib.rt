@@ -34,8 +34,6 @@ mod choosing;
 mod reciprocal_roots;
 mod scorer;
 mod scoring;
-#[cfg(test)]
-mod tests;
 
 pub use choosing::{better, going_through_gives_choice};
 pub use scorer::Parent;

@@ -47,8 +47,6 @@ mod machine;
 mod new_nodes;
 mod scans;
 mod stages;
-#[cfg(test)]
-mod tests;
 mod ways;
 
 pub use climbs::Climb;

@@ -1,0 +1,5 @@
+-- Steps of this crate's own proofs.
+mod ScriptLaws
+mod OneCell
+mod TwoByTwo
+mod RaceScript

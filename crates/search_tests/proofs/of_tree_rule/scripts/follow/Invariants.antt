@@ -1,0 +1,12 @@
+-- What stands after some lines of a script.
+use Rattle.std.proofs.Common.{◌≡◌, drop}
+use Rattle.tree_rule.specs.Seats.{IsOf}
+use Rattle.search_tests.specs.Scripts.{views_of, after_script, AllFit}
+use Rattle.search_tests.proofs.of_tree_rule.scripts.follow.Given as goal
+
+abbrev pub invariant-loop-line : goal.invariant-loop-line
+invariant-loop-line l = record {
+  own : IsOf l.tree l.a × IsOf l.tree l.b;
+  fits : AllFit (views_of l.a l.b) (drop l.line-index l.lines);
+  views : after_script (views_of l.a l.b) (drop l.line-index l.lines) ≡ after_script (views_of l.fn.a l.fn.b) l.lines;
+}
