@@ -14,7 +14,7 @@ use Rattle.win_cert.proofs.Appending.{shown_on}
 pub grows_wider : (a b : ℕ) (d e : LedgerData) → a ≤ b → GrowsBy a d e → GrowsBy b d e
 grows_wider a b d e l g = record { base = g.base; more = g.more; lines = g.lines; lost = g.lost; count = omega (arith, g.count) }
 
-read_grown : (a : ℕ) (d e : LedgerData) (g : GrowsBy a d e) → read_of e ≡ after_lines (read_of d) g.more
+pub read_grown : (a : ℕ) (d e : LedgerData) (g : GrowsBy a d e) → read_of e ≡ after_lines (read_of d) g.more
 read_grown a d e g =
     ap (λ (b : PlayerBoard). after_lines (first_context b.board b.player) e.lines) g.base
     ∙ ap (after_lines (first_context d.base.board d.base.player)) g.lines

@@ -15,3 +15,9 @@ mod TryingEnds
 mod Found
 mod LedgersTell
 mod RootEntries
+mod InsideLines
+mod WaysLines
+mod CutLedgers
+mod Narrowing
+mod Strongly
+mod EntryWays

@@ -4,3 +4,4 @@ pub mod Ledgers
 pub mod Marks
 pub mod Searching
 pub mod Telling
+pub mod Strong

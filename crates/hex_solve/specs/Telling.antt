@@ -56,3 +56,11 @@ IsPlainAnswer p mover own budget (Unknown spent left) =
     (spent ≡ budget) × (budget < need p mover) × (left ≡ own)
 IsPlainAnswer p mover own budget (TooLong winner lines) = IsTooLong p mover winner lines
 IsPlainAnswer p mover own budget (Open full) = IsOpen p full
+
+-- the same, of a certificate of any length
+abbrev pub IsAnswer : Position → Colour → Option StoreData → ℕ → Solved → Type 0
+IsAnswer p mover own budget (Won winner cert) = IsCertifiedWin p mover winner cert
+IsAnswer p mover own budget (Unknown spent left) =
+    (spent ≡ budget) × (budget < need p mover) × (left ≡ own)
+IsAnswer p mover own budget (TooLong winner lines) = IsTooLong p mover winner lines
+IsAnswer p mover own budget (Open full) = IsOpen p full

@@ -10,6 +10,7 @@ ghost use Rattle.conn_store.specs.declared.entries.Kind.{Kind};
 ghost use Rattle.win_cert.specs.declared.certs.TheConstants.{MOST_LINES};
 ghost use Rattle.hex_solve.specs.Ledgers.{AnswerAll, GrowsBy, MayFollow, ShowsWin, with_line};
 ghost use Rattle.win_cert.specs.Showing.{Keeps, scope_of};
+ghost use Rattle.hex_solve.specs.Strong.{MovesInside, ShowsIn};
 
 use super::ledgers::Ledger;
 use hex_board::Board;
@@ -25,6 +26,7 @@ impl Ledger {
             (stones_of board.now self.old.base.player) ≡ true }
         ensures grows { OnOk result (GrowsBy 2 self.old self.new) }
         ensures shows { IfOk result (ShowsWin self.new board.now Kind.Full) }
+        ensures inside { IfOk result (ShowsIn self.new board.now Kind.Full 0) }
     {
         let scope = self.scope(board);
         let number = self.lines.len() as u32 + 1;
@@ -42,6 +44,7 @@ impl Ledger {
             Kind.Full line }
         ensures grows { OnOk result (GrowsBy 2 self.old self.new) }
         ensures shows { IfOk result (ShowsWin self.new board.now Kind.Semi) }
+        ensures inside { IfOk result (MovesInside self.old self.new board.now cell line) }
     {
         let scope = self.scope(board);
         let number = self.lines.len() as u32 + 1;
@@ -68,7 +71,7 @@ impl Ledger {
     }
 
     // The cells on which the player has stones on this board and had none on the first.
-    fn scope(&self, board: &Board) -> CellSet
+    pub(super) fn scope(&self, board: &Board) -> CellSet
         ensures { result ≡ scope_of self.now.base board.now }
     {
         board
@@ -77,7 +80,7 @@ impl Ledger {
     }
 
     // Adds a line that may follow, where there is room for it, and counts it elsewhere.
-    fn add(&mut self, line: Line) -> Result<(), AllocError>
+    pub(super) fn add(&mut self, line: Line) -> Result<(), AllocError>
         requires { length self.old.lines < MOST_LINES → MayFollow self.old line }
         ensures { OnOk result (self.new ≡ with_line self.old line) }
     {

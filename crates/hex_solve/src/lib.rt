@@ -30,10 +30,14 @@ mod adding;
 mod answers;
 mod laws;
 mod ledgers;
+mod order;
 mod refusals;
 mod searching;
 mod solving;
+mod strong;
 mod telling;
+mod ways;
+mod winning;
 
 pub use answers::Solved;
 pub use laws::{first_implies_wins, need_is_bounded};

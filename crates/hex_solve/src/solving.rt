@@ -1,15 +1,16 @@
 //! The solver.
 
-ghost use Rattle.std.specs.Prelude.{◌≡◌, IfNone, IfOk, IfSome, None};
+ghost use Rattle.std.specs.Prelude.{◌≡◌, IfNone, IfOk, IfSome, None, Some};
 ghost use Rattle.hex_board.specs.Joined.{winner_of};
 ghost use Rattle.hex_board.specs.Positions.{IsPosition};
 ghost use Rattle.hex_solve.specs.Solved.{IsReportOf, IsUndecided, OpenIsFull, TooLongNeedsMany};
 ghost use Rattle.hex_solve.specs.Solved.{UnknownNeedsMore, WinnerWins, WonIsCertified, WonIsShort};
-ghost use Rattle.hex_solve.specs.Telling.{IsCertifiedWin};
+ghost use Rattle.hex_solve.specs.Telling.{IsAnswer, IsCertifiedWin};
 
 use super::answers::Solved;
 use super::refusals::Memory;
 use super::telling::search_plainly;
+use super::winning::search_strongly;
 use conn_store::Kind;
 use hex_board::Board;
 use hex_cells::Colour;
@@ -49,6 +50,26 @@ pub fn solve(
         Some(cert) => Ok(Solved::Won {
             winner: mover,
             cert,
+        }),
+        None => search_both(alloc, board, mover, own, budget),
+    }
+}
+
+// What the search with connections tells, where it tells a winner; else what the one without tells.
+fn search_both(
+    alloc: Global,
+    board: &Board,
+    mover: Colour,
+    own: Report,
+    budget: u64,
+) -> Result<Solved, Memory>
+    requires { winner_of board.now ≡ None }
+    ensures { IfOk result (IsAnswer board.now mover (Some own) budget) }
+{
+    match search_strongly(alloc, board, mover, budget)? {
+        Some(won) => Ok(Solved::Won {
+            winner: won.winner,
+            cert: won.cert,
         }),
         None => search_plainly(alloc, board, mover, Some(own), budget),
     }

@@ -1,0 +1,164 @@
+//! What the reports of a position add to the ledgers: an entry by which the mover wins, or the
+//! other's threats.
+
+ghost use Rattle.std.specs.Prelude.{◌≡◌, ℕ, IfOk, IfSome, false, true};
+ghost use Rattle.hex_board.specs.Joined.{is_joined};
+ghost use Rattle.hex_board.specs.Positions.{is_empty_at, stones_of};
+ghost use Rattle.conn_store.specs.declared.entries.Kind.{Kind};
+ghost use Rattle.win_cert.specs.Showing.{Keeps};
+ghost use Rattle.hex_solve.specs.Strong.{AnswerEach, Grows, HasSemiAt, HasThreats};
+ghost use Rattle.hex_solve.specs.Strong.{IsOwnCut, ShowsCut, ShowsIn};
+
+use super::ledgers::Ledger;
+use super::order::narrowest;
+use super::searching::Stop;
+use super::strong::Shown;
+use conn_store::{Kind, Store};
+use hex_board::Board;
+use hex_cells::CellSet;
+use hsearch::connect;
+use std::alloc::{AllocError, Global};
+use win_cert::{Line, MOST_LINES, Numbers, edge_numbers, lines_onto};
+
+/// The lines of the other player's ledger that answer the mover's stones on a position.
+#[derive(Drop)]
+pub(crate) struct Ways {
+    /// The numbers of the lines.
+    pub numbers: Vec<u32>,
+    /// The cells on which a stone isn't answered yet.
+    pub replies: CellSet,
+    /// The cells of all their carriers.
+    pub union: CellSet,
+}
+
+/// Adds the lines of a semi entry between the edges of the ledger's player, who is to place and is
+/// not joined, where his report has one.
+pub(crate) fn own_entry(
+    alloc: Global,
+    board: &Board,
+    own: &mut Ledger,
+) -> Result<Option<Shown>, Stop>
+    requires keeps { Keeps own.old.base.board board.now }
+    requires unjoined { is_joined board.now.size own.old.base.player
+        (stones_of board.now own.old.base.player) ≡ false }
+    ensures { IfOk result (IsOwnCut board.now own.old own.new) }
+{
+    let Ok(report) = connect(alloc, board, own.player()) else {
+        return Err(Stop::Memory);
+    };
+    let store = report.store();
+    let semi = edge_numbers(store, Kind::Semi);
+    if semi.count == 0 {
+        return Ok(None);
+    }
+    let entry = semi.at[0];
+    match own.add_cut(alloc, board, store, entry) {
+        Ok(Some(line)) => Ok(Some(Shown {
+            by_mover: true,
+            line,
+            carrier: store.entries()[entry as usize].carrier,
+        })),
+        Ok(None) => Err(Stop::Spent),
+        Err(_) => Err(Stop::Memory),
+    }
+}
+
+/// Adds the lines of the threats of the ledger's player, who is not joined, with the other to place:
+/// each time that which leaves fewest replies, as long as one takes some away.
+pub(crate) fn threats(alloc: Global, board: &Board, other: &mut Ledger) -> Result<Ways, Stop>
+    requires keeps { Keeps other.old.base.board board.now }
+    requires unjoined { is_joined board.now.size other.old.base.player
+        (stones_of board.now other.old.base.player) ≡ false }
+    ensures { IfOk result (HasThreats board.now other.old other.new) }
+{
+    let mut ways = Ways {
+        numbers: Vec::new(alloc),
+        replies: board.empties(),
+        union: CellSet::none(),
+    };
+    let Ok(report) = connect(alloc, board, other.player()) else {
+        return Err(Stop::Memory);
+    };
+    let store = report.store();
+    let entries = store.entries();
+    let semi = edge_numbers(store, Kind::Semi);
+    if semi.count == 0 {
+        return Ok(ways);
+    }
+    'threats: loop {
+        let entry = narrowest(entries, &semi, ways.replies);
+        let carrier = entries[entry as usize].carrier;
+        let replies = ways.replies.meet(carrier);
+        if ways.replies.count() <= replies.count() {
+            return Ok(ways);
+        }
+        let line = match other.add_cut(alloc, board, store, entry) {
+            Ok(Some(line)) => line,
+            Ok(None) => return Err(Stop::Spent),
+            Err(_) => return Err(Stop::Memory),
+        };
+        let Ok(()) = ways.numbers.push(line) else {
+            return Err(Stop::Memory);
+        };
+        ways.replies = replies;
+        ways.union = ways.union.union(carrier);
+    }
+}
+
+impl Ledger {
+    /// Adds the lines of a semi entry between the player's edges in his store of the board, after a
+    /// `put`; answers the number of the entry's own line. Where there is no room for all, `None`.
+    pub fn add_cut(
+        &mut self,
+        alloc: Global,
+        board: &Board,
+        store: &Store,
+        entry: u32,
+    ) -> Result<Option<u32>, AllocError>
+        requires keeps { Keeps self.old.base.board board.now }
+        requires elements { store.now.elements
+            ≡ record { board = board.now; player = self.old.base.player } }
+        requires entry { HasSemiAt store.now entry }
+        ensures { IfOk result
+            (λ line. IfSome line (ShowsCut self.old self.new board.now store.now entry)) }
+    {
+        let before = self.lines.len();
+        let scope = self.scope(board);
+        // Each entry follows from earlier ones, and is true.
+        let _entries = store.entries();
+        self.lines.push(Line::Put(scope))?;
+        let added = lines_onto(alloc, store, &[entry], &mut self.lines);
+        if self.lines.len() <= MOST_LINES {
+            match added {
+                Ok(numbers) => return Ok(Some(numbers[0])),
+                Err(_) => {}
+            }
+        }
+        self.lines.truncate(before);
+        match added {
+            Ok(_) => Ok(None),
+            Err(error) => Err(error),
+        }
+    }
+
+    /// Adds that the player wins after each stone of the other's, inside these cells, where these
+    /// lines answer each; answers the number of the new line.
+    pub fn add_ways(
+        &mut self,
+        board: &Board,
+        lines: Vec<u32>,
+        union: CellSet,
+    ) -> Result<u32, AllocError>
+        requires keeps { Keeps self.old.base.board board.now }
+        requires room { (k : ℕ) × (is_empty_at board.now k ≡ true) }
+        requires answers { AnswerEach board.now self.old lines.items union }
+        ensures grows { IfOk result (λ line. Grows self.old self.new) }
+        ensures shows { IfOk result (ShowsIn self.new board.now Kind.Full union) }
+    {
+        let scope = self.scope(board);
+        let number = self.lines.len() as u32 + 1;
+        self.add(Line::Put(scope))?;
+        self.add(Line::Cases(Numbers::of(lines)))?;
+        Ok(number)
+    }
+}
