@@ -1,8 +1,9 @@
 -- The numbers of the entries of a pair and kind.
-use Rattle.std.proofs.Common.{◌≡◌, ℕ, ◌+◌, ◌-◌, ◌<◌, zero, suc, Bool, true, false, if◌then◌else◌, List, [], ◌∷◌, ◌++◌, length, replicate, get_or, set, Some, refl, sym, ◌∙◌, ap, subst, arith, length-append, append_assoc}
-use Rattle.std.specs.List.{slice_get}
+use Rattle.std.proofs.Common.{◌≡◌, ℕ, ◌+◌, ◌-◌, ◌<◌, ◌≤◌, zero, suc, Bool, true, false, cond, if◌then◌else◌, List, [], ◌∷◌, ◌++◌, length, replicate, get_or, set, Some, refl, sym, ◌∙◌, ap, subst, arith, length-append, append_assoc}
+use Rattle.std.specs.List.{count_by, slice_get}
+use Rattle.std.proofs.lemmas.List.Sums.{sum_by-cons}
 use Rattle.std.proofs.Math.Seq.{set-append_seam}
-use Rattle.conn_store.specs.Stores.{held_of, is_of, numbers_from}
+use Rattle.conn_store.specs.Stores.{IsPairFull, StoreData, held_of, is_of, most_of, numbers_from, numbers_of}
 use Rattle.conn_store.specs.declared.entries.Entry.{Entry}
 use Rattle.conn_store.specs.declared.entries.Held.{Held}
 use Rattle.conn_store.specs.declared.entries.Kind.{Kind}
@@ -69,6 +70,25 @@ numbers_all n kind x y (b ∷ entries) zero a g h =
 numbers_all n kind x y (b ∷ entries) (suc i) a g h =
     let e : suc n + i ≡ n + suc i = omega arith in
     stands_later (is_of kind x y b) n (numbers_from (suc n) kind x y entries) (n + suc i) (subst (λ v. Stands (numbers_from (suc n) kind x y entries) v) e (numbers_all (suc n) kind x y entries i a g h))
+
+-- ---- how many there are
+
+listed_one : (b : Bool) (n : ℕ) (xs : List ℕ) → length (if b then n ∷ xs else xs) ≡ cond {A = ℕ} b 1 0 + length xs
+listed_one true n xs = omega arith
+listed_one false n xs = omega arith
+
+-- a pair has as many numbers of a kind as entries
+pub numbers_counted : (n : ℕ) (kind : Kind) (x y : ℕ) (entries : List Entry) → length (numbers_from n kind x y entries) ≡ count_by (is_of kind x y) entries
+numbers_counted n kind x y [] = refl
+numbers_counted n kind x y (a ∷ entries) =
+    listed_one (is_of kind x y a) n (numbers_from (suc n) kind x y entries)
+    ∙ (ap (λ v. cond {A = ℕ} (is_of kind x y a) 1 0 + v) (numbers_counted (suc n) kind x y entries) ∙ sym (sum_by-cons (λ (b : Entry). cond {A = ℕ} (is_of kind x y b) 1 0) a entries))
+
+pub counted_full : (d : StoreData) (kind : Kind) (x y : ℕ) → most_of kind ≤ length (numbers_of d kind x y) → IsPairFull d kind x y
+counted_full d kind x y l = subst (λ n. most_of kind ≤ n) (numbers_counted 0 kind x y d.entries) l
+
+pub full_counted : (d : StoreData) (kind : Kind) (x y : ℕ) → IsPairFull d kind x y → most_of kind ≤ length (numbers_of d kind x y)
+full_counted d kind x y l = subst (λ n. most_of kind ≤ n) (sym (numbers_counted 0 kind x y d.entries)) l
 
 -- ---- one number more
 

@@ -1,5 +1,5 @@
 -- What the four rules give is true where what it follows from is true.
-use Rattle.std.proofs.Common.{◌≡◌, ℕ, ◌+◌, ◌<◌, ◌&&◌, min, max, bit_or, true, Bool, List, [], ◌∷◌, take, Some, All, sym, subst, inl, inr, ◌⊎◌, suc, arith}
+use Rattle.std.proofs.Common.{◌≡◌, ℕ, ◌+◌, ◌<◌, ◌&&◌, min, max, bit_or, true, Bool, List, [], ◌∷◌, take, Some, All, sym, subst, inl, inr, ◌⊎◌, zero, suc, arith}
 use Rattle.std.specs.List.{slice_get}
 use Rattle.std.proofs.lemmas.Bool.{cases_lt, both_ways, false_from_ne_true}
 use Rattle.std.proofs.lemmas.List.Elements.{All-head, All-tail, All-nil, All-cons}
@@ -8,11 +8,14 @@ use Rattle.hex_board.specs.Elements.{PlayerBoard, HasCell}
 use Rattle.hex_board.specs.Positions.{Apart, stones_of, is_empty_at}
 use Rattle.hex_cells.proofs.WithCell.{with_cell-here, with_cell-keeps}
 use Rattle.hex_cells.proofs.Tables.{board_cell}
-use Rattle.hex_board.proofs.Placed.{empty_on}
+use Rattle.hex_board.proofs.Placed.{empty_on, stones_on}
+use Rattle.hex_board.proofs.Places.{near_out}
 use Rattle.conn_store.specs.Entries.{IsBetween, IsTrueEntry, IsValid, Misses}
 use Rattle.conn_store.specs.Index.{IsSmall}
+use Rattle.conn_store.specs.Laws.{IsOnBoard}
 use Rattle.conn_store.specs.Links.{StonesLink}
 use Rattle.conn_store.specs.Rules.{AndRule, AreAt, FollowsBy, IsCell, IsGroup, OrRule, both_of, is_in_all, union_of}
+use Rattle.conn_store.specs.Stores.{AreTrue, IsSound, StoreData}
 use Rattle.conn_store.specs.Truth.{IsSureIn, IsSure}
 use Rattle.conn_store.specs.declared.entries.Cause.{Cause}
 use Rattle.conn_store.specs.declared.entries.Cause.TheVariants.{Adjacent, AndGroup, AndEmpty, Or}
@@ -181,7 +184,7 @@ at_all P entries (i ∷ numbers) (a ∷ ways) f h =
 pub follows_true : (e : PlayerBoard) (entries : List Entry) (entry : Entry) (cause : Cause) → IsSmall e
     → ((i : ℕ) (a : Entry) → slice_get entries i ≡ Some a → IsValid e a) → ((i : ℕ) (a : Entry) → slice_get entries i ≡ Some a → IsTrueEntry e a)
     → IsValid e entry → FollowsBy e entries entry cause → IsTrueEntry e entry
-follows_true e entries entry Adjacent m vs ts v f = concludes e entry 0 Full m v f.1 (near_linked e entry.x entry.y (stones_of e.board e.player) f.0)
+follows_true e entries entry Adjacent m vs ts v f = concludes e entry 0 Full m v f.1 (near_linked e entry.x entry.y (stones_of e.board e.player) (near_out e entry.x entry.y f.0))
 follows_true e entries entry (AndGroup i j) m vs ts v (a, b, x, u, y, at, r, g, h, q, c) =
     let ta = at_all (λ w. IsTrueEntry e w) entries (i ∷ j ∷ []) (a ∷ b ∷ []) ts at in
     group_true e a b entry x u y m v (All-head (λ w. IsTrueEntry e w) a (b ∷ []) ta) (second_of (λ w. IsTrueEntry e w) a b [] ta) r g h q c
@@ -192,3 +195,31 @@ follows_true e entries entry (AndEmpty i j) m vs ts v (a, b, x, u, y, k, at, r, 
     (All-head (λ w. IsTrueEntry e w) a (b ∷ []) ta) (second_of (λ w. IsTrueEntry e w) a b [] ta) r g h q c
 follows_true e entries entry (Or numbers count) m vs ts v (ways, at, r, q, c) =
     or_true e entry ways m v (at_all (λ w. IsTrueEntry e w) entries (take count numbers) ways ts at) r q c
+
+-- ---- sound stores
+
+pub taken_back : {X : Type 0} (xs : List X) (n i : ℕ) (x : X) → slice_get (take n xs) i ≡ Some x → slice_get xs i ≡ Some x
+taken_back xs zero i x h = absurd (cc)
+taken_back [] (suc n) i x h = absurd (cc)
+taken_back (y ∷ xs) (suc n) zero x h = h
+taken_back (y ∷ xs) (suc n) (suc i) x h = taken_back xs n i x h
+
+pub taken_below : {X : Type 0} (xs : List X) (n i : ℕ) (x : X) → slice_get (take n xs) i ≡ Some x → i < n
+taken_below xs zero i x h = absurd (cc)
+taken_below [] (suc n) i x h = absurd (cc)
+taken_below (y ∷ xs) (suc n) zero x h = omega arith
+taken_below (y ∷ xs) (suc n) (suc i) x h = let l : i < n = taken_below xs n i x h in omega arith
+
+-- entries that are valid and follow from earlier ones are true, one after the other
+true_to : (d : StoreData) → IsSmall d.elements → IsSound d → (n i : ℕ) (a : Entry) → i < n → slice_get d.entries i ≡ Some a → IsTrueEntry d.elements a
+true_to d m s zero i a l h = absurd (omega arith)
+true_to d m s (suc n) i a l h = follows_true d.elements (take i d.entries) a a.cause m
+    (λ j b g. s.valid j b (taken_back d.entries i j b g))
+    (λ j b g. let k : j < i = taken_below d.entries i j b g in true_to d m s n j b (omega arith) (taken_back d.entries i j b g))
+    (s.valid i a h) (s.follows i a h)
+
+pub sound_true : (d : StoreData) → IsSmall d.elements → IsSound d → AreTrue d
+sound_true d m s i a h = true_to d m s (suc i) i a (omega arith) h
+
+pub board_small : (e : PlayerBoard) → IsOnBoard e → IsSmall e
+board_small e on = record { size = on.most; stones = stones_on e.board e.player on }

@@ -11,7 +11,7 @@ use Rattle.std.proofs.lemmas.List.Folds.{sum_by-replicate}
 use Rattle.hex_cells.specs.declared.colours.Colour.{Colour}
 use Rattle.hex_board.specs.Elements.{PlayerBoard, element_count}
 use Rattle.hex_board.specs.Positions.{Position, Within, stones_of}
-use Rattle.conn_store.specs.Entries.{IsTrueEntry, IsValid}
+use Rattle.conn_store.specs.Entries.{IsValid}
 use Rattle.conn_store.specs.Rules.{FollowsFrom}
 use Rattle.conn_store.specs.Index.{AnyInside, IsStored, IsTable, number_of_pair, pairs_among, total_of}
 use Rattle.conn_store.specs.Stores.{AreFew, IsCovered, IsPairFull, IsSound, StoreData, held_of, is_of, most_of, numbers_from, numbers_of, same_kind, with_entry}
@@ -20,8 +20,7 @@ use Rattle.conn_store.specs.declared.entries.Held.{Held}
 use Rattle.conn_store.specs.declared.entries.Kind.{Kind}
 use Rattle.conn_store.specs.declared.entries.Kind.TheVariants.{Full, Semi}
 use Rattle.conn_store.specs.declared.entries.TheConstants.{MOST_ENTRIES, MOST_FULL, MOST_SEMI}
-use Rattle.conn_store.proofs.Numbers.{held_more, numbers_all, numbers_in, numbers_push, one_if}
-use Rattle.conn_store.proofs.RuleTruth.{follows_true}
+use Rattle.conn_store.proofs.Numbers.{counted_full, full_counted, held_more, numbers_all, numbers_in, numbers_push, one_if}
 use Rattle.conn_store.proofs.Pairs.{pair_below, pairs_few, same_pair}
 
 -- ---- no entries
@@ -152,8 +151,8 @@ last_or_before (c ∷ entries) a b (suc i) h = elim (last_or_before entries a b 
   | inr t ↦ inr (ap suc t.0, t.1)
 ]
 
-pub sound_more : (d : StoreData) (a : Entry) → IsSound d → IsValid d.elements a → FollowsFrom d.elements d.entries a → IsTrueEntry d.elements a → IsSound (with_entry d a)
-sound_more d a s v f t = record {
+pub sound_more : (d : StoreData) (a : Entry) → IsSound d → IsValid d.elements a → FollowsFrom d.elements d.entries a → IsSound (with_entry d a)
+sound_more d a s v f = record {
   valid = λ i b h. elim (last_or_before d.entries a b i h) [
     | inl p ↦ s.valid i b p.1
     | inr p ↦ subst (λ w. IsValid d.elements w) (sym p.1) v
@@ -164,14 +163,10 @@ sound_more d a s v f t = record {
     | inr p ↦ subst (λ w. FollowsFrom d.elements w b) (sym (ap (λ n. take n (d.entries ++ a ∷ [])) p.0 ∙ take-append_seam d.entries (a ∷ [])))
         (subst (λ w. FollowsFrom d.elements d.entries w) (sym p.1) f)
   ];
-  true_entries = λ i b h. elim (last_or_before d.entries a b i h) [
-    | inl p ↦ s.true_entries i b p.1
-    | inr p ↦ subst (λ w. IsTrueEntry d.elements w) (sym p.1) t
-  ];
 }
 
 pub nothing_sound : (e : PlayerBoard) → IsSound (record { elements = e; entries = [] })
-nothing_sound e = record { valid = λ i a h. absurd (cc); follows = λ i a h. absurd (cc); true_entries = λ i a h. absurd (cc) }
+nothing_sound e = record { valid = λ i a h. absurd (cc); follows = λ i a h. absurd (cc) }
 
 -- ---- what the index says of a carrier
 
@@ -225,7 +220,7 @@ pub stored_few : (board : Position) (player : Colour) (d : StoreData) (full semi
     → length d.entries ≤ MOST_ENTRIES
 stored_few board player d full semi room s =
     let l : length d.entries ≤ 10 * pairs_among (element_count d.elements) = tables_few d full semi (length d.entries) s.full_table s.semi_table s.total in
-    let m : pairs_among (element_count d.elements) ≤ 7503 = pairs_few (element_count d.elements) s.small.count in omega arith
+    let m : pairs_among (element_count d.elements) ≤ 7503 = pairs_few (element_count d.elements) s.count in omega arith
 
 -- what is read of a table
 pub held_here : (d f : StoreData) (kind k : Kind) (table : List Held) (h : Held) (p x y : ℕ) → IsTable d kind table → d ≡ f → k ≡ kind → p ≡ number_of_pair x y
@@ -251,8 +246,8 @@ new_stored board player e entries full semi room n q z w f m i j k r = record {
   small = record {
     size = subst (λ (v : PlayerBoard). v.board.size ≤ 11) (sym q) z;
     stones = subst (λ (v : PlayerBoard). Within v.board.size (stones_of v.board v.player)) (sym q) w;
-    count = f;
   };
+  count = f;
   sound = subst (λ (v : List Entry). IsSound (record { elements = e; entries = v })) (sym i) (nothing_sound e);
   few = λ kind x y. subst (λ (v : List Entry). length (numbers_from 0 kind x y v) ≤ most_of kind) (sym i) (omega arith);
   full_table = table Full full j;
@@ -308,14 +303,14 @@ pub stored_more : (board : Position) (player : Colour) (d : StoreData) (full sem
     → IsStored board player (with_entry d a) next_full next_semi next_room
 stored_more board player d full semi room a h next_full next_semi next_room s v f e l w r =
     let b = both_written d a h full semi next_full next_semi v.order v.elements s.full_table s.semi_table e l w in
-    let t : IsTrueEntry d.elements a = follows_true d.elements d.entries a a.cause s.small s.sound.valid s.sound.true_entries v f in
     let n : length (d.entries ++ a ∷ []) ≡ length d.entries + 1 = length-append d.entries (a ∷ []) in
     let c : h.count ≡ length (numbers_of d a.kind a.x a.y) = held_count h (numbers_of d a.kind a.x a.y) e in
     record {
       same_board = s.same_board;
       same_player = s.same_player;
       small = s.small;
-      sound = sound_more d a s.sound v f t;
+      count = s.count;
+      sound = sound_more d a s.sound v f;
       few = few_more d a s.few (rw (← c) l);
       full_table = b.0;
       semi_table = b.1;
@@ -359,11 +354,19 @@ looked_in d a h entries inside k t g = both_ways inside t (k.answer.1
 pub looked_full : (d : StoreData) (a : Entry) (h : Held) (entries : List Entry) (inside : Bool) (most : ℕ) → IsLooked d a h entries inside → most ≡ most_of a.kind → h.count ≡ most
     → IsPairFull d a.kind a.x a.y
 looked_full d a h entries inside most k e f =
-    let c : h.count ≡ length (numbers_of d a.kind a.x a.y) = held_count h (numbers_of d a.kind a.x a.y) k.held in omega arith
+    let c : h.count ≡ length (numbers_of d a.kind a.x a.y) = held_count h (numbers_of d a.kind a.x a.y) k.held in
+    let l : most_of a.kind ≤ length (numbers_of d a.kind a.x a.y) = omega arith in counted_full d a.kind a.x a.y l
 
 pub looked_room : (d : StoreData) (a : Entry) (h : Held) (entries : List Entry) (inside : Bool) (most : ℕ) → IsLooked d a h entries inside → most ≡ most_of a.kind
     → (h.count ≡ most → ⊥) → h.count < most_of a.kind
 looked_room d a h entries inside most k e f = let l : h.count ≤ most_of a.kind = k.few in omega arith
+
+pub looked_not_full : (d : StoreData) (a : Entry) (h : Held) (entries : List Entry) (inside : Bool) (most : ℕ) → IsLooked d a h entries inside → most ≡ most_of a.kind
+    → (h.count ≡ most → ⊥) → IsPairFull d a.kind a.x a.y → ⊥
+looked_not_full d a h entries inside most k e f g =
+    let c : h.count ≡ length (numbers_of d a.kind a.x a.y) = held_count h (numbers_of d a.kind a.x a.y) k.held in
+    let l : h.count < most_of a.kind = looked_room d a h entries inside most k e f in
+    let m : most_of a.kind ≤ length (numbers_of d a.kind a.x a.y) = full_counted d a.kind a.x a.y g in absurd (omega arith)
 
 -- the numbers of the index are those of entries
 pub numbers_here : (d : StoreData) (a : Entry) (h : Held) (entries : List Entry) → h ≡ held_of (numbers_of d a.kind a.x a.y) → entries ≡ d.entries

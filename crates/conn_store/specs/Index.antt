@@ -44,7 +44,6 @@ total_of table = sum_by (λ (h : Held). h.count) table
 pub record IsSmall (e : PlayerBoard) : Type 0 where
   pub size : e.board.size ≤ 11
   pub stones : Within e.board.size (stones_of e.board e.player)
-  pub count : element_count e ≤ MOST_ELEMENTS
 
 -- what a store keeps: the board and the player of its elements, sound entries, the two tables,
 -- and room for all entries
@@ -54,6 +53,7 @@ pub record IsStored
   pub same_board : d.elements.board ≡ board
   pub same_player : d.elements.player ≡ player
   pub small : IsSmall d.elements
+  pub count : element_count d.elements ≤ MOST_ELEMENTS
   pub sound : IsSound d
   pub few : AreFew d
   pub full_table : IsTable d Full full

@@ -2,10 +2,14 @@
 use Rattle.std.specs.Prelude.{◌≡◌, ℕ, true, false}
 use Rattle.hex_cells.specs.Sets.{has, with_cell, without_cell}
 use Rattle.hex_board.specs.Elements.{PlayerBoard, edge_element}
-use Rattle.hex_board.specs.Positions.{Position, Within, stones_of}
+use Rattle.hex_board.specs.Positions.{IsPosition, Position, Within, stones_of}
 use Rattle.conn_store.specs.Entries.{AllEmpty, Connects}
 use Rattle.conn_store.specs.declared.entries.Kind.{Kind}
 use Rattle.conn_store.specs.declared.entries.Kind.TheVariants.{Full}
+
+-- the elements are those of a board
+abbrev pub IsOnBoard : PlayerBoard → Type 0
+IsOnBoard e = IsPosition e.board.size e.board.black e.board.white
 
 -- each cell of the set a is in b
 abbrev pub IsSubset : ℕ → ℕ → Type 0

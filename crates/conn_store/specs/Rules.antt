@@ -5,7 +5,7 @@ use Rattle.std.specs.Prelude.{map, take, bit_or}
 use Rattle.std.specs.List.{list_all, slice_get}
 use Rattle.hex_cells.specs.Sets.{has, with_cell}
 use Rattle.hex_board.specs.Elements.{PlayerBoard, HasCell}
-use Rattle.hex_board.specs.Places.{Near}
+use Rattle.hex_board.specs.Places.{is_near}
 use Rattle.hex_board.specs.Positions.{Apart, is_empty_at}
 use Rattle.conn_store.specs.Entries.{IsBetween, Misses}
 use Rattle.conn_store.specs.declared.entries.Cause.{Cause}
@@ -89,7 +89,7 @@ AreAt entries numbers ways = map (slice_get entries) numbers ≡ map Some ways
 -- the entry follows by the rule that the cause names from the entries whose numbers it has
 abbrev pub FollowsBy : PlayerBoard → List Entry → Entry → Cause → Type 0
 FollowsBy e entries entry Adjacent =
-    Near e entry.x entry.y × (entry.kind ≡ Full) × (entry.carrier ≡ 0)
+    (is_near e entry.x entry.y ≡ true) × (entry.kind ≡ Full) × (entry.carrier ≡ 0)
 FollowsBy e entries entry (AndGroup i j) =
     (a : Entry) × (b : Entry) × (x : ℕ) × (u : ℕ) × (y : ℕ)
     × AreAt entries (i ∷ j ∷ []) (a ∷ b ∷ [])

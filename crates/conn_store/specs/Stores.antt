@@ -1,13 +1,13 @@
 -- Stores: a player's entries in the order in which they came, and what becomes of one more.
 use Rattle.std.specs.Prelude.{◌≡◌, ℕ, ◌-◌, ◌≤◌, ◌==◌, ◌&&◌, Bool, true, false, suc, List, [], ◌∷◌}
-use Rattle.std.specs.Prelude.{◌++◌, Some, length, take, replicate, if◌then◌else◌}
+use Rattle.std.specs.Prelude.{◌++◌, Some, count_by, length, take, replicate, if◌then◌else◌}
 use Rattle.std.specs.List.{slice_get}
 use Rattle.hex_cells.specs.Sets.{has}
 use Rattle.hex_cells.specs.declared.colours.Colour.{Colour}
 use Rattle.hex_board.specs.Elements.{PlayerBoard}
 use Rattle.hex_board.specs.Positions.{Position}
 use Rattle.conn_store.specs.Entries.{IsValid, IsTrueEntry}
-use Rattle.conn_store.specs.Rules.{AndRule, AreAt, FollowsFrom, IsAndOf, OrRule}
+use Rattle.conn_store.specs.Rules.{AndRule, AreAt, FollowsBy, FollowsFrom, IsAndOf, OrRule}
 use Rattle.conn_store.specs.declared.entries.Entry.{Entry}
 use Rattle.conn_store.specs.declared.entries.Held.{Held}
 use Rattle.conn_store.specs.declared.entries.Kind.{Kind}
@@ -71,7 +71,7 @@ IsDominated d entry = IsCovered d entry.kind entry.x entry.y entry.carrier
 
 -- the pair has its full number of entries of that kind; no store has more
 abbrev pub IsPairFull : StoreData → Kind → ℕ → ℕ → Type 0
-IsPairFull d kind x y = most_of kind ≤ length (numbers_of d kind x y)
+IsPairFull d kind x y = most_of kind ≤ count_by (is_of kind x y) d.entries
 
 -- the store with the entry at its end
 abbrev pub with_entry : StoreData → Entry → StoreData
@@ -105,12 +105,15 @@ after_put d entry (Added n) = with_entry d entry
 after_put d entry Dominated = d
 after_put d entry PairFull = d
 
--- each entry is valid, follows from earlier ones, and is true
+-- each entry is valid, and follows from earlier ones
 pub record IsSound (d : StoreData) : Type 0 where
   pub valid : (i : ℕ) (a : Entry) → slice_get d.entries i ≡ Some a → IsValid d.elements a
   pub follows : (i : ℕ) (a : Entry) → slice_get d.entries i ≡ Some a
-      → FollowsFrom d.elements (take i d.entries) a
-  pub true_entries : (i : ℕ) (a : Entry) → slice_get d.entries i ≡ Some a → IsTrueEntry d.elements a
+      → FollowsBy d.elements (take i d.entries) a a.cause
+
+-- each entry is true
+abbrev pub AreTrue : StoreData → Type 0
+AreTrue d = (i : ℕ) (a : Entry) → slice_get d.entries i ≡ Some a → IsTrueEntry d.elements a
 
 -- each pair has at most its full number of entries
 abbrev pub AreFew : StoreData → Type 0

@@ -11,9 +11,9 @@
 //! ([`Store::add`]), looks up those of a pair ([`Store::held`]), and goes over all
 //! ([`Store::entries`]).
 //!
-//! **What is proved.** Each entry of a store is valid, follows by the four rules from earlier
-//! ones, and is *true*: the truth of an entry (specs/Truth.antt, specs/Links.antt) speaks of
-//! paths of stones and of placing in turn, and of no rule. `add` refuses exactly where an entry
+//! **What is proved.** Each entry of a store is valid and follows by the four rules from earlier
+//! ones. So it is *true* ([`sound_entries_are_true`]): the truth of an entry (specs/Truth.antt,
+//! specs/Links.antt) speaks of paths of stones and of placing in turn, and of no rule. `add` refuses exactly where an entry
 //! of that pair and kind has its carrier inside the new one, or else the pair is full. `held` has
 //! exactly the numbers of the entries of that pair and kind. Who is sure of linking the elements
 //! of his two edges wins the game ([`connected_edges_win`]); more cells, more stones and the
@@ -36,6 +36,6 @@ mod rules;
 mod stores;
 
 pub use entries::{Cause, Entry, Held, Kind, MOST_ENTRIES, MOST_FULL, MOST_SEMI, Put};
-pub use laws::{connected_edges_win, truth_goes_on};
+pub use laws::{connected_edges_win, sound_entries_are_true, truth_goes_on};
 pub use refusals::Memory;
 pub use stores::Store;

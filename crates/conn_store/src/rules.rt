@@ -1,8 +1,8 @@
 //! The four rules: the entries that follow from those of a store.
 
-ghost use Rattle.std.specs.Prelude.{◌≡◌, ◌↔◌, ℕ, ◌<◌, ◌∷◌, [], IfNone, IfSome, IsTrue, length};
+ghost use Rattle.std.specs.Prelude.{◌≡◌, ◌↔◌, ℕ, ◌<◌, ◌∷◌, [], IfNone, IfSome, IsTrue, false, length};
 ghost use Rattle.hex_board.specs.Elements.{element_count};
-ghost use Rattle.hex_board.specs.Places.{Near};
+ghost use Rattle.hex_board.specs.Places.{is_near};
 ghost use Rattle.conn_store.specs.Entries.{AllEmpty, IsValid, Misses};
 ghost use Rattle.conn_store.specs.Rules.{AndRule, AreWays, IsChain, IsEntry, OrRule};
 ghost use Rattle.conn_store.specs.Rules.{adjacent_entry};
@@ -77,7 +77,7 @@ impl Store {
         requires elements { y < element_count self.now.elements }
         ensures next { IfSome result (MayBeAdded self.now) }
         ensures entry { IfSome result (λ a. a ≡ adjacent_entry x y) }
-        ensures none { IfNone result (¬ (Near self.now.elements x y)) }
+        ensures none { IfNone result (is_near self.now.elements x y ≡ false) }
     {
         if self.elements().near(x, y) {
             Some(Entry {

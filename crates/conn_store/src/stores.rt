@@ -4,7 +4,7 @@ ghost use Rattle.std.specs.Prelude.{◌≡◌, ℕ, ◌+◌, ◌<◌, ◌≤◌,
 ghost use Rattle.hex_board.specs.Elements.{element_count};
 ghost use Rattle.conn_store.specs.Entries.{IsValid};
 ghost use Rattle.conn_store.specs.Rules.{FollowsFrom};
-ghost use Rattle.conn_store.specs.Stores.{IsDominated, IsPairFull, IsSound, after_put};
+ghost use Rattle.conn_store.specs.Stores.{AreTrue, IsDominated, IsPairFull, IsSound, after_put};
 ghost use Rattle.conn_store.specs.Stores.{empty_store, held_of, most_of, numbers_of, with_entry};
 
 use super::entries::{Entry, Held, Kind, MOST_ENTRIES, MOST_FULL, MOST_SEMI, Put};
@@ -126,11 +126,12 @@ impl Store {
         }
     }
 
-    /// The entries, in the order in which they came. Each is valid, follows from earlier ones,
-    /// and is true.
+    /// The entries, in the order in which they came. Each is valid and follows from earlier ones,
+    /// and so it is true.
     pub fn entries(&self) -> &[Entry]
         ensures value { result.now ≡ self.now.entries }
         ensures sound { IsSound self.now }
+        ensures true_entries { AreTrue self.now }
         ensures few { length result.now ≤ MOST_ENTRIES }
     {
         &self.entries

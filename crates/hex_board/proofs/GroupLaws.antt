@@ -59,7 +59,8 @@ one_head_at p a b h i q = elim (cases_order a b) [
 
 -- ---- elements
 
-head_number : (e : PlayerBoard) (a b : ℕ) → is_head e a ≡ true → is_head e b ≡ true → head_element e a ≡ head_element e b → a ≡ b
+-- two heads with one number are one cell
+pub head_number : (e : PlayerBoard) (a b : ℕ) → is_head e a ≡ true → is_head e b ≡ true → head_element e a ≡ head_element e b → a ≡ b
 head_number e a b i j q = one_head_at (is_head e) a b i j (cancel (edge_elements e) (count_by (is_head e) (range_with_len 0 a)) (count_by (is_head e) (range_with_len 0 b)) q)
   where
     cancel : (b x y : ℕ) → b + x ≡ b + y → x ≡ y

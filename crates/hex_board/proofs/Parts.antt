@@ -82,7 +82,7 @@ tied_full e second k h = stone_full e.board e.player k (tied_stone e second k h)
 
 -- ---- the least cell that is linked to a cell
 
-find_case : (p : ℕ → Bool) (a m : ℕ) → ((find p (range_with_len a m) ≡ None) × ((j : ℕ) → a ≤ j → j < a + m → p j ≡ false))
+pub find_case : (p : ℕ → Bool) (a m : ℕ) → ((find p (range_with_len a m) ≡ None) × ((j : ℕ) → a ≤ j → j < a + m → p j ≡ false))
     ⊎ ((r : ℕ) × (find p (range_with_len a m) ≡ Some r) × (r < a + m) × (p r ≡ true) × ((j : ℕ) → a ≤ j → j < r → p j ≡ false))
 find_case p a zero = inl (refl, λ j l h. absurd (omega arith))
 find_case p a (suc m) = elim (cases_Bool (p a)) [
@@ -144,7 +144,7 @@ case_of e k on =
 
 -- ---- heads
 
-head_from_root : (a b c d : Bool) → b ≡ true → c ≡ false → d ≡ false → (a || (b && not c && not d)) ≡ true
+pub head_from_root : (a b c d : Bool) → b ≡ true → c ≡ false → d ≡ false → (a || (b && not c && not d)) ≡ true
 head_from_root a b c d h i j = grind arith
 
 stone_alone : (a b : Bool) → a ≡ true → b ≡ false → (a && not b) ≡ true

@@ -6,7 +6,12 @@ use Rattle.hex_cells.specs.Sets.{has, with_cell}
 use Rattle.hex_cells.specs.declared.colours.Colour.{Colour}
 use Rattle.hex_cells.specs.declared.colours.Colour.TheVariants.{Black, White}
 use Rattle.hex_cells.proofs.WithCell.{has_with_cell, with_cell-cases, with_cell-keeps}
-use Rattle.hex_board.specs.Positions.{Apart, Position, Within, is_empty_at, placed, stones_of}
+use Rattle.hex_board.specs.Positions.{Apart, IsPosition, Position, Within, is_empty_at, placed, stones_of}
+
+-- the player's stones lie on the board
+pub stones_on : (p : Position) (player : Colour) → IsPosition p.size p.black p.white → Within p.size (stones_of p player)
+stones_on p Black h = h.black_on
+stones_on p White h = h.white_on
 
 -- ---- an empty cell
 

@@ -104,7 +104,7 @@ near_meets e x y (n, p, at_cell k, h, i, b) = inl (k, (p, h, b), i)
 near_meets e x y (n, at_cell k, at_edge second, h, i, b) = inr (k, (at_edge second, i, b), h)
 near_meets e x y (n, at_edge other, at_edge second, h, i, b) = absurd b
 
-near_in : (e : PlayerBoard) (x y : ℕ) → Near e x y → is_near e x y ≡ true
+pub near_in : (e : PlayerBoard) (x y : ℕ) → Near e x y → is_near e x y ≡ true
 near_in e x y (n, p, q, h, i, b) =
     let size = e.board.size in
     let next : Place → Bool = λ r. is_member e y r && are_beside size e.player p r in
@@ -132,6 +132,9 @@ near_out e x y h =
       member_out e y q.0 v.0,
       beside_out size e.player p.0 q.0 v.1,
     )
+
+pub near_decided : (e : PlayerBoard) (x y : ℕ) → IsTrue (is_near e x y) ↔ Near e x y
+near_decided e x y = (near_out e x y, near_in e x y)
 
 pub near_test : (e : PlayerBoard) (x y : ℕ) (r : Bool) → IsTrue r ↔ Near e x y → r ≡ is_near e x y
 near_test e x y r h = same_test r (is_near e x y) (λ t. near_in e x y (h.0 t)) (λ t. h.1 (near_out e x y t))

@@ -10,6 +10,7 @@ use Rattle.hex_cells.specs.declared.colours.Colour.TheVariants.{Black, White}
 use Rattle.hex_board.specs.Joined.{Joined, cells_of}
 use Rattle.hex_board.specs.Positions.{Position, stones_of, is_empty_at, placed}
 use Rattle.hex_board.specs.Wins.{empty_count, WinsIn, Wins}
+use Rattle.hex_board.proofs.Search.{joined_found, joined_out}
 use Rattle.hex_board.proofs.Placed.{empty_on, placed_leaves, placed_size}
 
 -- ---- counts
@@ -56,8 +57,8 @@ one_empty_less p player k h =
 -- ---- wins
 
 joined_in : (fuel : ℕ) (player : Colour) (p : Position) (mover : Colour) → Joined p.size player (stones_of p player) → WinsIn fuel player p mover
-joined_in zero player p mover j = j
-joined_in (suc fuel) player p mover j = inl j
+joined_in zero player p mover j = joined_found p.size player (stones_of p player) j
+joined_in (suc fuel) player p mover j = inl (joined_found p.size player (stones_of p player) j)
 
 pub joined_wins : (player : Colour) (p : Position) (mover : Colour) → Joined p.size player (stones_of p player) → Wins player p mover
 joined_wins player p mover j = joined_in (empty_count p) player p mover j
@@ -91,8 +92,8 @@ less_suc a b e = omega arith
 
 own_out : (fuel : ℕ) (player : Colour) (p : Position) → empty_count p ≡ fuel → WinsIn fuel player p player
     → Joined p.size player (stones_of p player) ⊎ ((k : ℕ) × (is_empty_at p k ≡ true) × Wins player (placed p player k) (other_of player))
-own_out zero player p e w = inl w
-own_out (suc fuel) player p e (inl j) = inl j
+own_out zero player p e w = inl (joined_out p.size player (stones_of p player) w)
+own_out (suc fuel) player p e (inl j) = inl (joined_out p.size player (stones_of p player) j)
 own_out (suc fuel) Black p e (inr (k, h, w)) = inr (k, h, subst (λ n. WinsIn n Black (placed p Black k) White) (less_suc fuel (empty_count (placed p Black k)) (sym e ∙ one_empty_less p Black k h)) w)
 own_out (suc fuel) White p e (inr (k, h, w)) = inr (k, h, subst (λ n. WinsIn n White (placed p White k) Black) (less_suc fuel (empty_count (placed p White k)) (sym e ∙ one_empty_less p White k h)) w)
 
@@ -102,8 +103,8 @@ own_means player p w = own_out (empty_count p) player p refl w
 
 other_out : (fuel : ℕ) (player : Colour) (p : Position) → empty_count p ≡ fuel → WinsIn fuel player p (other_of player)
     → Joined p.size player (stones_of p player) ⊎ (((k : ℕ) × (is_empty_at p k ≡ true)) × ((j : ℕ) → is_empty_at p j ≡ true → Wins player (placed p (other_of player) j) player))
-other_out zero player p e w = inl w
-other_out (suc fuel) player p e (inl j) = inl j
+other_out zero player p e w = inl (joined_out p.size player (stones_of p player) w)
+other_out (suc fuel) player p e (inl j) = inl (joined_out p.size player (stones_of p player) j)
 other_out (suc fuel) Black p e (inr (s, w)) = inr (s, λ j i. subst (λ n. WinsIn n Black (placed p White j) Black) (less_suc fuel (empty_count (placed p White j)) (sym e ∙ one_empty_less p White j i)) (w j i))
 other_out (suc fuel) White p e (inr (s, w)) = inr (s, λ j i. subst (λ n. WinsIn n White (placed p Black j) White) (less_suc fuel (empty_count (placed p Black j)) (sym e ∙ one_empty_less p Black j i)) (w j i))
 

@@ -3,7 +3,7 @@ use Rattle.std.specs.Prelude.{◌≡◌, ℕ, ◌⊎◌, true, zero, suc, count_
 pub use Rattle.hex_cells.specs.Colours.{is_same}
 use Rattle.hex_cells.specs.Colours.{other_of}
 use Rattle.hex_cells.specs.declared.colours.Colour.{Colour}
-use Rattle.hex_board.specs.Joined.{Joined, cells_of}
+use Rattle.hex_board.specs.Joined.{cells_of, is_joined}
 use Rattle.hex_board.specs.Positions.{Position, stones_of, is_empty_at, placed}
 
 -- how many cells of the board have no stone
@@ -14,9 +14,9 @@ empty_count p = count_by (is_empty_at p) (cells_of p.size)
 -- cell is empty, and after some stone of his own, or after every stone of the other player, he wins
 -- with the other to move
 abbrev pub WinsIn : ℕ → Colour → Position → Colour → Type 0
-WinsIn zero player p mover = Joined p.size player (stones_of p player)
+WinsIn zero player p mover = is_joined p.size player (stones_of p player) ≡ true
 WinsIn (suc fuel) player p mover =
-    Joined p.size player (stones_of p player) ⊎ MatchBool (is_same player mover)
+    (is_joined p.size player (stones_of p player) ≡ true) ⊎ MatchBool (is_same player mover)
     ((k : ℕ) × (is_empty_at p k ≡ true) × WinsIn fuel player (placed p mover k) (other_of mover))
     (((k : ℕ) × (is_empty_at p k ≡ true))
     × ((k : ℕ) → is_empty_at p k ≡ true

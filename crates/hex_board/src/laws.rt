@@ -1,6 +1,6 @@
 //! Laws of who wins, and of elements.
 
-ghost use Rattle.std.specs.Prelude.{◌≡◌, ◌⊎◌, ℕ, Bool, true};
+ghost use Rattle.std.specs.Prelude.{◌≡◌, ◌⊎◌, ◌↔◌, ℕ, Bool, IsTrue, true};
 ghost use Rattle.hex_cells.specs.Colours.{other_of};
 ghost use Rattle.hex_cells.specs.declared.colours.Colour.{Colour};
 ghost use Rattle.hex_board.specs.Joined.{Joined};
@@ -8,6 +8,7 @@ ghost use Rattle.hex_board.specs.Positions.{Position, Within, stones_of};
 ghost use Rattle.hex_board.specs.Wins.{Wins, WinsAfterEach, WinsByOwn};
 ghost use Rattle.hex_board.specs.Elements.{PlayerBoard, HasCell, Together};
 ghost use Rattle.hex_board.specs.Elements.{edge_element, element_of, is_linked, is_tied};
+ghost use Rattle.hex_board.specs.Places.{Near, is_near};
 
 /// The laws of `Wins`: a joined player has won; who is to place wins by a stone after which he
 /// wins; and he wins against the other's next stone, where there is room for one, if he wins after
@@ -36,4 +37,10 @@ pub fn one_element_is_a_group()
     ensures linked { (e : PlayerBoard) (a b : ℕ)
         → Within e.board.size (stones_of e.board e.player)
         → is_linked e a b ≡ true → element_of e a ≡ element_of e b }
+{}
+
+/// A law, with nothing to run: the test `is_near`, which goes over all places of the board, passes
+/// exactly where a place of one element lies beside a place of the other.
+pub fn near_is_decided()
+    ensures { (e : PlayerBoard) (x y : ℕ) → IsTrue (is_near e x y) ↔ Near e x y }
 {}

@@ -13,8 +13,9 @@
 //! edges, and equals `is_joined`, a plain search of paths that callers may define things by
 //! ([`joined_is_decided`]). A board is told apart by its `Position`. The elements are those of the
 //! definitions in specs/Elements.antt, where an element's number is a count of least cells; what
-//! lies near is said in specs/Places.antt, where a place is a cell or an edge. `Wins`, who wins
-//! where both play on, is a definition for the crates above, with its laws ([`wins_go_on`]).
+//! lies near is said in specs/Places.antt, where a place is a cell or an edge, and by the test
+//! `is_near` ([`near_is_decided`]). `Wins`, who wins where both play on, is a definition for the
+//! crates above, with its laws ([`wins_go_on`]).
 //!
 //! **What is only tested, or not said.** That a full board has exactly one winner is nowhere used,
 //! and tested on all boards of sizes 1 to 4. Speed, and what the derived `Debug` prints.
@@ -32,7 +33,7 @@ mod tables;
 
 pub use boards::Board;
 pub use groups::roots_of;
-pub use laws::{one_element_is_a_group, wins_go_on};
+pub use laws::{near_is_decided, one_element_is_a_group, wins_go_on};
 pub use numbering::MOST_ELEMENTS;
 pub use paths::{flood, joined, joined_is_decided};
 pub use tables::Elements;

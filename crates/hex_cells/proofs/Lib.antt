@@ -8,6 +8,7 @@ pub mod Tables
 pub mod ColourLaws
 pub mod WithCell
 pub mod Ranges
+pub mod Filters
 pub mod HalfBits
 -- Steps of this crate's own proofs.
 mod Around

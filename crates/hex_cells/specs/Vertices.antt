@@ -1,13 +1,18 @@
 -- Vertices: the names of cells in text.
-use Rattle.std.specs.Prelude.{◌≡◌, ℕ, ◌+◌, ◌*◌, ◌/◌, ◌%◌, ◌<◌, List, ◌∷◌, Option}
+use Rattle.std.specs.Prelude.{◌≡◌, ℕ, ◌+◌, ◌*◌, ◌/◌, ◌%◌, ◌<◌, List, ◌∷◌, Option, map}
 use Rattle.std.specs.Fmt.{decimal}
-use Rattle.std.specs.List.{find, range_with_len}
+use Rattle.std.specs.List.{filter, find, range_with_len}
 use Rattle.std.specs.Str.{bytes_eq, str_to_ascii_lowercase}
+use Rattle.hex_cells.specs.Sets.{has}
 
 -- the vertex of cell k on the board of size n: its column's letter, `a` (97) for the first, and its
 -- row's number, 1 for the first
 abbrev pub vertex_of : ℕ → ℕ → List ℕ
 vertex_of n k = (97 + k % n) ∷ decimal (k / n + 1)
+
+-- the vertices of the set's cells on the board of size n, in rising order of cells
+abbrev pub vertices_of : ℕ → ℕ → List (List ℕ)
+vertices_of n s = map (vertex_of n) (filter (has s) (range_with_len 0 (n * n)))
 
 -- the text, its letter in either case, is the letter of column c and the number of row r, both from
 -- 0: `a` and 1 for the first

@@ -1,6 +1,7 @@
 -- What the quiet commands do that change the game.
 use Rattle.std.specs.Prelude.{ℕ, ◌==◌, ◌&&◌, Bool, List, [], ◌∷◌, Option, Some, None}
 use Rattle.std.specs.Prelude.{nat_le, if◌then◌else◌}
+use Rattle.std.specs.Option.{option_map_or}
 use Rattle.hex_cells.specs.declared.colours.Colour.{Colour}
 use Rattle.hex_board.specs.Positions.{empty_board}
 use Rattle.hex_game.specs.Games.{GameData, board_of, is_legal, new_game, with_step, without_last}
@@ -36,18 +37,16 @@ abbrev pub if_bare : GameData → List (List ℕ) → QuietReaction → QuietRea
 if_bare game [] quiet = quiet
 if_bare game (word ∷ words) quiet = reply_alone game (Failed Syntax)
 
--- a board has 1 to 11 columns, and as many rows
-abbrev pub are_sizes : ℕ → ℕ → Bool
-are_sizes columns rows = (columns == rows) && (nat_le 1 columns && nat_le columns 11)
-
 -- board and history are emptied
 abbrev pub emptied : ℕ → QuietReaction
 emptied size = success_at (new_game (empty_board size))
 
--- what `boardsize` does with these numbers, if they are numbers
+-- what `boardsize` does with these numbers, if they are numbers: a board has 1 to 11 columns, and
+-- as many rows
 abbrev pub resized : GameData → Option (ℕ × ℕ) → QuietReaction
 resized game None = reply_alone game (Failed Syntax)
-resized game (Some sizes) = if are_sizes sizes.0 sizes.1 then emptied sizes.0
+resized game (Some sizes) =
+    if (sizes.0 == sizes.1) && (nat_le 1 sizes.0 && nat_le sizes.0 11) then emptied sizes.0
     else reply_alone game (Failed Size)
 
 -- what `play` does with this word of a move
@@ -58,17 +57,13 @@ played game colour (Says what) =
     if is_legal game (step_of colour what) then success_at (with_step game (step_of colour what))
     else reply_alone game (Failed Illegal)
 
--- the same, where the first word is a colour or is not
-abbrev pub played_by : GameData → Option Colour → MoveWord → QuietReaction
-played_by game None what = reply_alone game (Failed Syntax)
-played_by game (Some colour) what = played game colour what
-
--- what `play` does with its arguments
+-- what `play` does with its arguments, of which the first has to name a colour
 abbrev pub playing : GameData → List (List ℕ) → QuietReaction
 playing game [] = reply_alone game (Failed Syntax)
 playing game (colour ∷ []) = reply_alone game (Failed Syntax)
 playing game (colour ∷ what ∷ []) =
-    played_by game (colour_of colour) (move_word_of (board_of game).size what)
+    option_map_or (λ c. played game c (move_word_of (board_of game).size what)) (colour_of colour)
+    (reply_alone game (Failed Syntax))
 playing game (colour ∷ what ∷ word ∷ words) = reply_alone game (Failed Syntax)
 
 -- what `undo` does with a history

@@ -1,6 +1,7 @@
 -- How arguments are spelled.
 use Rattle.std.specs.Prelude.{ℕ, ◌*◌, ◌<◌, ◌==◌, ◌&&◌, ◌||◌, not, Bool, false, List, [], ◌∷◌}
 use Rattle.std.specs.Prelude.{Option, Some, None, codes, if◌then◌else◌}
+use Rattle.std.specs.Option.{option_and_then, option_map}
 use Rattle.std.specs.Str.{str_eq_ignore_ascii_case}
 use Rattle.std.specs.Char.{is_ascii_alphabetic}
 use Rattle.htp_line.specs.Reading.{number_of, is_digit}
@@ -11,20 +12,16 @@ use Rattle.hex_game.specs.declared.moves.Move.TheVariants.{Stone, Swap}
 use Rattle.hex_engine.specs.declared.forms.MoveWord.{MoveWord}
 use Rattle.hex_engine.specs.declared.forms.MoveWord.TheVariants.{Formless, OffBoard, Says}
 
--- `b` or `black`, each letter in either case
-abbrev pub names_black : List ℕ → Bool
-names_black word =
-    str_eq_ignore_ascii_case word (codes "b") || str_eq_ignore_ascii_case word (codes "black")
+-- the word is one of these two, each letter in either case
+abbrev pub is_either : List ℕ → List ℕ → List ℕ → Bool
+is_either letter name word =
+    str_eq_ignore_ascii_case word letter || str_eq_ignore_ascii_case word name
 
--- `w` or `white`, each letter in either case
-abbrev pub names_white : List ℕ → Bool
-names_white word =
-    str_eq_ignore_ascii_case word (codes "w") || str_eq_ignore_ascii_case word (codes "white")
-
--- the player that the word names
+-- the player that the word names: `b` or `black`, `w` or `white`
 abbrev pub colour_of : List ℕ → Option Colour
 colour_of word =
-    if names_black word then Some Black else if names_white word then Some White else None
+    if is_either (codes "b") (codes "black") word then Some Black
+    else if is_either (codes "w") (codes "white") word then Some White else None
 
 -- a digit but 0
 abbrev pub is_first_digit_of : ℕ → Bool
@@ -61,15 +58,10 @@ IsSaidOf size OffBoard = Unit {0}
 IsSaidOf size (Says (Stone cell)) = cell < size * size
 IsSaidOf size (Says Swap) = Unit {0}
 
--- two numbers, where both are numbers
-abbrev pub pair_of : Option ℕ → Option ℕ → Option (ℕ × ℕ)
-pair_of None b = None
-pair_of (Some a) None = None
-pair_of (Some a) (Some b) = Some (a, b)
-
 -- a number, which stands for columns and rows, or two
 abbrev pub sizes_of : List (List ℕ) → Option (ℕ × ℕ)
 sizes_of [] = None
-sizes_of (a ∷ []) = pair_of (number_of a) (number_of a)
-sizes_of (a ∷ b ∷ []) = pair_of (number_of a) (number_of b)
+sizes_of (a ∷ []) = option_map (λ n. (n, n)) (number_of a)
+sizes_of (a ∷ b ∷ []) =
+    option_and_then (λ n. option_map (λ m. (n, m)) (number_of b)) (number_of a)
 sizes_of (a ∷ b ∷ c ∷ more) = None

@@ -1,8 +1,9 @@
 -- What the commands do that use nothing up.
 use Rattle.std.specs.Prelude.{ℕ, Bool, true, false, List, [], ◌∷◌, Option, Some, None}
 use Rattle.std.specs.Prelude.{codes, is_some}
+use Rattle.std.specs.Option.{option_and_then, option_map}
+use Rattle.hex_cells.specs.Colours.{colour_word}
 use Rattle.hex_cells.specs.declared.colours.Colour.{Colour}
-use Rattle.hex_cells.specs.declared.colours.Colour.TheVariants.{Black, White}
 use Rattle.hex_board.specs.Joined.{winner_of}
 use Rattle.hex_game.specs.Games.{board_of}
 use Rattle.hex_plan.specs.TurnTexts.{TurnTextsData}
@@ -50,31 +51,21 @@ knowing (word ∷ other ∷ words) = Failed Syntax
 -- the text of `winner`
 abbrev pub winner_text : Option Colour → List ℕ
 winner_text None = codes "none"
-winner_text (Some Black) = codes "black"
-winner_text (Some White) = codes "white"
+winner_text (Some colour) = colour_word colour
 
--- the report of the last turn, what `mustplay` says of it, and its certificate
-abbrev pub last_report : Option TurnTextsData → Option (List ℕ)
-last_report None = None
-last_report (Some texts) = texts.report
-
-abbrev pub last_mustplay : Option TurnTextsData → Option (List ℕ)
-last_mustplay None = None
-last_mustplay (Some texts) = Some texts.mustplay
-
-abbrev pub last_wincert : Option TurnTextsData → Option (List ℕ)
-last_wincert None = None
-last_wincert (Some texts) = texts.wincert
-
--- what the three commands answer that ask for the last turn, if there is one
+-- what the three commands answer that ask for the last turn: its report, what `mustplay` says of it,
+-- and its certificate, where there is one
 abbrev pub reporting : Option TurnTextsData → List (List ℕ) → Reply
-reporting last args = bare_reply args (text_or NoSearch (last_report last))
+reporting last args = bare_reply args
+    (text_or NoSearch (option_and_then (λ (texts : TurnTextsData). texts.report) last))
 
 abbrev pub planning : Option TurnTextsData → List (List ℕ) → Reply
-planning last args = bare_reply args (text_or NoSearch (last_mustplay last))
+planning last args = bare_reply args
+    (text_or NoSearch (option_map (λ (texts : TurnTextsData). texts.mustplay) last))
 
 abbrev pub certifying : Option TurnTextsData → List (List ℕ) → Reply
-certifying last args = bare_reply args (text_or NoCert (last_wincert last))
+certifying last args = bare_reply args
+    (text_or NoCert (option_and_then (λ (texts : TurnTextsData). texts.wincert) last))
 
 -- what a command with these arguments does that uses nothing up
 unfoldable pub quiet_reaction : EngineState → Quiet → List (List ℕ) → QuietReaction

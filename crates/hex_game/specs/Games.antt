@@ -1,11 +1,12 @@
 -- Games: the board that a history leads to, and what may be played next.
 use Rattle.std.specs.Prelude.{◌≡◌, ℕ, ◌+◌, ◌*◌, ◌/◌, ◌%◌, ◌<◌, ◌==◌, ◌&&◌, ◌||◌, not, Bool, true}
 use Rattle.std.specs.Prelude.{List, [], ◌∷◌, ◌++◌, Option, Some, None, is_some, if◌then◌else◌}
+use Rattle.hex_cells.specs.Colours.{is_same}
 use Rattle.hex_cells.specs.declared.colours.Colour.{Colour}
 use Rattle.hex_cells.specs.declared.colours.Colour.TheVariants.{Black, White}
 use Rattle.hex_board.specs.Positions.{Position, empty_board, is_empty_at, placed}
 use Rattle.hex_board.specs.Joined.{is_joined}
-use Rattle.hex_game.specs.Moves.{is_white, lone_black_stone, before_last}
+use Rattle.hex_game.specs.Moves.{lone_black_stone, before_last}
 use Rattle.hex_game.specs.declared.moves.Move.{Move}
 use Rattle.hex_game.specs.declared.moves.Move.TheVariants.{Stone, Swap}
 use Rattle.hex_game.specs.declared.moves.Step.{Step}
@@ -23,7 +24,7 @@ has_no_stone start = (start.black == 0) && (start.white == 0)
 -- Black
 abbrev pub may_swap : Position → List Step → Colour → Bool
 may_swap start steps colour =
-    is_white colour && (has_no_stone start && is_some (lone_black_stone steps))
+    is_same colour White && (has_no_stone start && is_some (lone_black_stone steps))
 
 abbrev pub fits : Position → List Step → Position → Colour → Move → Bool
 fits start steps now colour (Stone cell) = is_empty_at now cell

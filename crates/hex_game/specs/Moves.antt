@@ -1,5 +1,5 @@
 -- What a step is in a history.
-use Rattle.std.specs.Prelude.{ℕ, Bool, true, false, List, [], ◌∷◌, Option, Some, None}
+use Rattle.std.specs.Prelude.{ℕ, List, [], ◌∷◌, Option, Some, None}
 use Rattle.hex_cells.specs.declared.colours.Colour.{Colour}
 use Rattle.hex_cells.specs.declared.colours.Colour.TheVariants.{Black, White}
 use Rattle.hex_game.specs.declared.moves.Move.{Move}
@@ -9,27 +9,16 @@ use Rattle.hex_game.specs.declared.moves.Step.{Step}
 abbrev pub step_of : Colour → Move → Step
 step_of colour what = record { colour = colour; what = what }
 
-abbrev pub is_white : Colour → Bool
-is_white Black = false
-is_white White = true
-
--- the cell of a stone
-abbrev pub stone_cell : Move → Option ℕ
-stone_cell (Stone cell) = Some cell
-stone_cell Swap = None
-
 -- the cell that a step of Black puts a stone on
 abbrev pub black_stone_by : Colour → Move → Option ℕ
-black_stone_by Black what = stone_cell what
+black_stone_by Black (Stone cell) = Some cell
+black_stone_by Black Swap = None
 black_stone_by White what = None
-
-abbrev pub black_stone : Step → Option ℕ
-black_stone step = black_stone_by step.colour step.what
 
 -- the cell of Black's stone, where that one stone is the whole history
 abbrev pub lone_black_stone : List Step → Option ℕ
 lone_black_stone [] = None
-lone_black_stone (step ∷ []) = black_stone step
+lone_black_stone (step ∷ []) = black_stone_by step.colour step.what
 lone_black_stone (step ∷ next ∷ steps) = None
 
 -- all steps but the last

@@ -7,23 +7,25 @@ use Rattle.std.proofs.lemmas.Option.{get_or_from_slice_get, slice_get_within}
 use Rattle.hex_cells.specs.Sets.{has, members}
 use Rattle.hex_cells.specs.Colours.{other_of}
 use Rattle.hex_cells.specs.declared.colours.Colour.{Colour}
-use Rattle.hex_cells.specs.declared.colours.Colour.TheVariants.{Black, White}
 use Rattle.hex_board.specs.Elements.{PlayerBoard}
 use Rattle.hex_board.specs.Positions.{IsPosition, Position, Within, is_empty_at, placed, stones_of}
 use Rattle.hex_board.specs.Wins.{Wins}
+use Rattle.hex_board.proofs.Placed.{stones_on}
 use Rattle.conn_store.specs.Rules.{IsCell, IsChain}
-use Rattle.conn_store.specs.Stores.{IsSound, StoreData}
+use Rattle.conn_store.specs.Laws.{IsOnBoard}
+use Rattle.conn_store.specs.Stores.{AreTrue, IsSound, StoreData}
 use Rattle.conn_store.specs.Truth.{IsSureIn}
 use Rattle.conn_store.specs.declared.entries.Entry.{Entry}
 use Rattle.conn_store.specs.declared.entries.Kind.{Kind}
 use Rattle.conn_store.specs.declared.entries.Kind.TheVariants.{Full, Semi}
 use Rattle.conn_store.proofs.Chains.{one_chain}
+use Rattle.conn_store.proofs.RuleTruth.{board_small, sound_true}
 use Rattle.tree_words.specs.declared.settings.Knobs.{Knobs}
 use Rattle.win_cert.specs.Cuts.{IsEdgeEntryAt}
 use Rattle.win_cert.specs.declared.certs.Cert.{Cert}
 use Rattle.hex_plan.specs.Good.{FollowsPlan, IsGood}
 use Rattle.hex_plan.specs.Laws.{HoldsOfPlans, IsCertified, LosesAsPlanned, LosesOutsideCarriers, LosesOutsideThreats, LosesWhereLost, WinsAsPlanned}
-use Rattle.hex_plan.specs.Plans.{IsCertifiedWin, IsInEach, IsMiddle, IsNarrowed, IsPlanned, IsPlannedBy, IsReportOf, IsThreat, IsWin, IsWinBy, IsWinningCellBy}
+use Rattle.hex_plan.specs.Plans.{IsCertifiedWin, IsInEach, IsMiddle, IsNarrowed, IsPlanned, IsPlannedBy, IsReportOf, IsThreat, IsWin, IsWinBy, IsWinningCell}
 use Rattle.hex_plan.specs.Turns.{TurnData}
 use Rattle.hex_plan.specs.declared.plans.Planned.{Planned}
 use Rattle.hex_plan.specs.declared.threats.Threat.{Threat}
@@ -35,9 +37,9 @@ use Rattle.hex_plan.proofs.SureWins.{EdgesLink, entry_says, full_wins, middle_wi
 use Rattle.hsearch.proofs.Steps.{at_second, at_first}
 use Rattle.win_cert.proofs.CutDerivations.{some_entry}
 
-stones_on : (p : Position) (player : Colour) → IsPosition p.size p.black p.white → Within p.size (stones_of p player)
-stones_on p Black h = h.black_on
-stones_on p White h = h.white_on
+-- the entries of a report are true
+report_true : (board : Position) (player : Colour) (d : StoreData) → IsPosition board.size board.black board.white → IsReportOf board player d → AreTrue d
+report_true board player d on r = sound_true d (board_small d.elements (subst IsOnBoard (sym r.elements) on)) r.report.sound
 
 -- ---- certified moves
 
@@ -52,20 +54,20 @@ the_middle d a k m o s =
     = subst (λ (v : Entry). IsChain o.first v m.ends.0 m.middle m.ends.1) two (subst (λ (v : Entry). IsChain v m.parts.1 m.ends.0 m.middle m.ends.1) one m.chain) in
     (one_chain o.first o.second m.ends.0 m.middle m.ends.1 o.x o.u o.y (s.valid i o.first o.first_at).order (s.valid j o.second o.second_at).order chain o.rule.chain).1
 
-cell_wins : (d : StoreData) (n : ℕ) (a : Entry) (kind : Kind) (k : ℕ) → IsSound d → Within d.elements.board.size (stones_of d.elements.board d.elements.player) → IsEdgeEntryAt d n a → a.kind ≡ kind
-    → IsWinningCellBy d a kind k → Wins d.elements.player (placed d.elements.board d.elements.player k) (other_of d.elements.player)
-cell_wins d n a Full k s on at q w = full_wins d.elements a k on at.1 (s.valid n a at.0) (s.true_entries n a at.0) q w.in_set
-cell_wins d n a Semi k s on at q w =
+cell_wins : (d : StoreData) (n : ℕ) (a : Entry) (kind : Kind) (k : ℕ) → IsSound d → AreTrue d → Within d.elements.board.size (stones_of d.elements.board d.elements.player) → IsEdgeEntryAt d n a → a.kind ≡ kind
+    → IsWinningCell d a kind k → Wins d.elements.player (placed d.elements.board d.elements.player k) (other_of d.elements.player)
+cell_wins d n a Full k s ts on at q w = full_wins d.elements a k on at.1 (s.valid n a at.0) (ts n a at.0) q w.0
+cell_wins d n a Semi k s ts on at q w =
     let o : IsOverCell d a w.numbers.0 w.numbers.1 = over_cell d n a w.numbers.0 w.numbers.1 s at.0 w.cause in
-    middle_wins d.elements a o.first o.second o.x o.u o.y k on at.1 o.pair (s.valid _ o.first o.first_at) (s.valid _ o.second o.second_at) (s.true_entries _ o.first o.first_at)
-    (s.true_entries _ o.second o.second_at) o.rule (subst (λ v. IsCell d.elements v k) (the_middle d a k w o s) w.cell)
+    middle_wins d.elements a o.first o.second o.x o.u o.y k on at.1 o.pair (s.valid _ o.first o.first_at) (s.valid _ o.second o.second_at) (ts _ o.first o.first_at)
+    (ts _ o.second o.second_at) o.rule (subst (λ v. IsCell d.elements v k) (the_middle d a k w o s) w.cell)
 
 won_wins : (board : Position) (player : Colour) (cert : Cert) (k : ℕ) (d : StoreData) → IsPosition board.size board.black board.white → IsCertifiedWin board player cert k d
     → Wins player (placed board player k) (other_of player)
 won_wins board player cert k d on h =
     let e = h.report.elements in
     subst (λ (v : PlayerBoard). Wins v.player (placed v.board v.player k) (other_of v.player)) e
-    (cell_wins d h.edges.0 h.entry h.entry.kind k h.report.report.sound
+    (cell_wins d h.edges.0 h.entry h.entry.kind k h.report.report.sound (report_true board player d on h.report)
     (subst (λ (v : PlayerBoard). Within v.board.size (stones_of v.board v.player)) (sym e) (stones_on board player on)) h.edges.1 refl h.winning)
 
 win_by : (options : Knobs) (t : TurnData) (plan : Plan) → FollowsPlan options t plan → IsWin plan → IsWinBy plan t.cell
@@ -95,7 +97,7 @@ threat_wins board player d threat k on r h out =
     let s = r.report.sound in
     let free = subst (λ (v : PlayerBoard). (j : ℕ) → has a.carrier j ≡ true → is_empty_at v.board j ≡ true) r.elements (s.valid n a at.0).empty in
     wins_after_other board player _ k a.carrier (stones_on board (other_of player) on) free (subst (λ c. has c k ≡ false) h.carrier out)
-    (subst (λ (v : PlayerBoard). SaysOf v a) r.elements (entry_says d.elements a Semi at.1 (s.true_entries n a at.0) h.semi))
+    (subst (λ (v : PlayerBoard). SaysOf v a) r.elements (entry_says d.elements a Semi at.1 (report_true board (other_of player) d on r n a at.0) h.semi))
 
 narrowed_by : (board : Position) (player : Colour) (plan : Plan) (own other : Option StoreData) (threats : List Threat) (allowed : ℕ) (lost : Bool) → IsPlannedBy board player plan own other
     → plan ≡ Search threats allowed lost → (d : StoreData) × (e : StoreData) × IsNarrowed board player threats allowed lost d e

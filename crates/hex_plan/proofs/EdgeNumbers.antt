@@ -1,12 +1,16 @@
--- No entry stands between the player's two edges.
-use Rattle.std.proofs.Common.{◌≡◌, ℕ, ◌≤◌, refl, arith}
+-- An entry stands between the player's two edges where one has a number, and else none does.
+use Rattle.std.proofs.Common.{◌≡◌, ℕ, ◌<◌, ◌≤◌, refl, arith}
+use Rattle.std.specs.Prelude.{slice_index}
 use Rattle.conn_store.specs.Stores.{StoreData}
 use Rattle.conn_store.specs.declared.entries.Entry.{Entry}
 use Rattle.conn_store.specs.declared.entries.Held.{Held}
 use Rattle.conn_store.specs.declared.entries.Kind.{Kind}
 use Rattle.conn_store.specs.declared.entries.Kind.TheVariants.{Full, Semi}
-use Rattle.win_cert.specs.Cuts.{AreEdgeNumbers}
+use Rattle.win_cert.specs.Cuts.{AreEdgeNumbers, HasEdgeEntryAt}
 use Rattle.hex_plan.specs.Plans.{IsEdgeEntry}
+
+pub first_there : (d : StoreData) (kind : Kind) (h : Held) → AreEdgeNumbers d kind h → 0 < h.count → HasEdgeEntryAt d (slice_index h.at 0)
+first_there d kind h g l = let w = g.each 0 l in (w.0, w.1)
 
 none_there : (d : StoreData) (kind : Kind) (h : Held) → AreEdgeNumbers d kind h → h.count ≤ 0 → (a : Entry) → IsEdgeEntry d a → a.kind ≡ kind → ⊥
 none_there d kind h g l a w k = let p = g.all w.0 a w.1 k in absurd (omega (arith, p.1))

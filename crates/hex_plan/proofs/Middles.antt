@@ -12,7 +12,7 @@ use Rattle.hex_board.proofs.Search.{joined_found}
 use Rattle.conn_store.specs.Entries.{IsBetween}
 use Rattle.conn_store.specs.Links.{StonesLink}
 use Rattle.conn_store.specs.Rules.{AndRule, FollowsBy, IsCell}
-use Rattle.conn_store.specs.Stores.{IsSound, StoreData}
+use Rattle.conn_store.specs.Stores.{AreTrue, IsSound, StoreData}
 use Rattle.conn_store.specs.Truth.{IsSure, IsSureIn}
 use Rattle.conn_store.specs.declared.entries.Cause.{Cause}
 use Rattle.conn_store.specs.declared.entries.Cause.TheVariants.{Adjacent, AndGroup, AndEmpty, Or}
@@ -24,7 +24,7 @@ use Rattle.conn_store.proofs.Sureness.{same}
 use Rattle.win_cert.specs.Cuts.{IsEdgeEntryAt}
 use Rattle.hex_plan.specs.Plans.{IsMiddle}
 use Rattle.hsearch.proofs.Steps.{at_second, at_first, kinds_apart}
-use Rattle.win_cert.proofs.CutDerivations.{taken_back}
+use Rattle.conn_store.proofs.RuleTruth.{taken_back}
 
 -- ---- semi entries
 
@@ -101,12 +101,12 @@ edges_of e a s j h l =
     subst (λ v. StonesLink e 0 v s) (p.1 ∙ sym (high_apart (are_joined e) j)) (subst (λ v. StonesLink e v a.y s) p.0 l)
 
 -- the carrier of a full entry between the edges of a player who is not joined has a cell
-pub full_has_cell : (d : StoreData) (n : ℕ) (a : Entry) → IsSound d → IsEdgeEntryAt d n a → a.kind ≡ Full → Within d.elements.board.size (stones_of d.elements.board d.elements.player)
+pub full_has_cell : (d : StoreData) (n : ℕ) (a : Entry) → AreTrue d → IsEdgeEntryAt d n a → a.kind ≡ Full → Within d.elements.board.size (stones_of d.elements.board d.elements.player)
     → are_joined d.elements ≡ false → ((k : ℕ) → has a.carrier k ≡ false) → ⊥
-full_has_cell d n a s at k on j f =
+full_has_cell d n a ts at k on j f =
     let stones : ℕ = stones_of d.elements.board d.elements.player in
     let t : IsSure Full (StonesLink d.elements a.x a.y) stones a.carrier
-    = subst (λ v. IsSure v (StonesLink d.elements a.x a.y) stones a.carrier) k (s.true_entries n a at.0) in
+    = subst (λ v. IsSure v (StonesLink d.elements a.x a.y) stones a.carrier) k (ts n a at.0) in
     let l : StonesLink d.elements a.x a.y stones = empty_full (members a.carrier 121) (StonesLink d.elements a.x a.y) stones a.carrier f t in
     both_ways (are_joined d.elements) j
     (joined_found d.elements.board.size d.elements.player stones (linked_joins d.elements stones on (same stones) (edges_of d.elements a stones j at.1 l)))

@@ -14,7 +14,7 @@ use Rattle.tree_words.specs.Closing.{ClosedTree}
 use Rattle.tree_words.specs.declared.settings.Knobs.{Knobs}
 use Rattle.win_cert.specs.declared.certs.Cert.{Cert}
 use Rattle.hex_plan.specs.Good.{FollowsPlan, IsGood}
-use Rattle.hex_plan.specs.Plans.{IsCertifiedWin, IsPlanned, IsPlannedBy, IsWinBy, IsWinningCellBy}
+use Rattle.hex_plan.specs.Plans.{IsCertifiedWin, IsPlanned, IsPlannedBy, IsWinBy, IsWinningCell}
 use Rattle.hex_plan.specs.Turns.{TurnData, DecidesBy, IsDecided}
 use Rattle.hex_plan.specs.declared.plans.Planned.{Planned}
 use Rattle.hex_plan.specs.declared.types.Plan.{Plan}
@@ -38,9 +38,9 @@ pub planned_win : (board : Position) (player : Colour) (hsearch : Bool) (p : Pla
 planned_win board player hsearch p k h w = won_by board player p.plan p.own p.other k (looked board player hsearch p k h w) w
 
 -- the cell of a win is empty
-pub winning_empty : (d : StoreData) (a : Entry) (kind : Kind) (k : ℕ) → IsValid d.elements a → IsWinningCellBy d a kind k → is_empty_at d.elements.board k ≡ true
+pub winning_empty : (d : StoreData) (a : Entry) (kind : Kind) (k : ℕ) → IsValid d.elements a → IsWinningCell d a kind k → is_empty_at d.elements.board k ≡ true
 winning_empty d a Semi k v w = w.cell.0
-winning_empty d a Full k v w = v.empty k w.in_set
+winning_empty d a Full k v w = v.empty k w.0
 
 pub won_empty : (board : Position) (player : Colour) (cert : Cert) (k : ℕ) (d : StoreData) → IsCertifiedWin board player cert k d → is_empty_at board k ≡ true
 won_empty board player cert k d h =

@@ -48,19 +48,12 @@ pub record IsMiddle (d : StoreData) (a : Entry) (k : ℕ) : Type 0 where
   pub pair : IsBetween a ends.0 ends.1
   pub cell : IsCell d.elements middle k
 
--- cell k is in the set, and none below it is
-pub record IsLeastIn (set k : ℕ) : Type 0 where
-  pub in_set : has set k ≡ true
-  pub least : (j : ℕ) → j < k → has set j ≡ false
-
 -- the cell by which an entry of that kind wins: the middle of a semi one, and the least cell of the
 -- carrier of a full one
-abbrev pub IsWinningCellBy : StoreData → Entry → Kind → ℕ → Type 0
-IsWinningCellBy d a Semi k = IsMiddle d a k
-IsWinningCellBy d a Full k = IsLeastIn a.carrier k
-
-abbrev pub IsWinningCell : StoreData → Entry → ℕ → Type 0
-IsWinningCell d a k = IsWinningCellBy d a a.kind k
+abbrev pub IsWinningCell : StoreData → Entry → Kind → ℕ → Type 0
+IsWinningCell d a Semi k = IsMiddle d a k
+IsWinningCell d a Full k =
+    (has a.carrier k ≡ true) × ((j : ℕ) → j < k → has a.carrier j ≡ false)
 
 -- the certificate was cut from an entry between the player's two edges of his report on the board,
 -- with the lines on which the entry rests, and the cell is the one by which this entry wins
@@ -71,7 +64,7 @@ pub record IsCertifiedWin (board : Position) (player : Colour) (cert : Cert) (ce
   pub edges : IsEdgeEntry own entry
   pub cut : CertifiesEntry own entry cert
   pub lines : HasLinesFor own edges.0 cert
-  pub winning : IsWinningCell own entry cell
+  pub winning : IsWinningCell own entry entry.kind cell
 
 -- ---- threats, and the mustplay region
 

@@ -3,11 +3,9 @@ use Rattle.std.specs.Prelude.{ℕ, ◌-◌, ◌*◌, ◌<◌, Bool, true, false}
 use Rattle.std.specs.Prelude.{List, [], ◌∷◌, ◌++◌, codes, length, take}
 use Rattle.std.specs.Prelude.{Option, Some, None, option_map}
 use Rattle.tree_words.specs.Closing.{ClosedTree}
-use Rattle.std.specs.List.{filter, flat_map}
+use Rattle.std.specs.List.{flat_map}
 use Rattle.std.specs.Fmt.{decimal}
-use Rattle.hex_cells.specs.Sets.{has}
-use Rattle.hex_cells.specs.Vertices.{vertex_of}
-use Rattle.hex_board.specs.Joined.{cells_of}
+use Rattle.hex_cells.specs.Vertices.{vertex_of, vertices_of}
 use Rattle.tree_words.specs.Roots.{rows_of}
 use Rattle.tree_words.specs.declared.roots.Row.{Row}
 use Rattle.win_cert.specs.Texts.{cert_text}
@@ -39,13 +37,13 @@ report_on size closed = codes "playouts " ++ decimal closed.shape.knobs.playouts
 unfoldable pub report_of : TurnData → Option (List ℕ)
 report_of turn = option_map (report_on turn.board.size) turn.closed
 
--- a cell's vertex after a space
-abbrev pub spaced_vertex : ℕ → ℕ → List ℕ
-spaced_vertex size k = 32 ∷ vertex_of size k
-
 -- the vertices of the cells of a set, in rising order, a space before each
 abbrev pub spaced_vertices : ℕ → ℕ → List ℕ
-spaced_vertices size set = flat_map (spaced_vertex size) (filter (has set) (cells_of size))
+spaced_vertices size set = flat_map (λ vertex. 32 ∷ vertex) (vertices_of size set)
+
+-- a cell's vertex after a space; private clauses alone cite it
+abbrev pub spaced_vertex : ℕ → ℕ → List ℕ
+spaced_vertex size k = 32 ∷ vertex_of size k
 
 -- `yes` or `no`
 abbrev pub answer_word : Bool → List ℕ

@@ -18,7 +18,8 @@ use hsearch::Report;
 pub(crate) fn winning_cell(report: &Report, number: u32) -> Cell
     requires apart { are_joined report.now.elements ≡ false }
     requires entry { HasEdgeEntryAt report.now number }
-    ensures { (a : Entry) → IsEdgeEntryAt report.now number a → IsWinningCell report.now a result }
+    ensures { (a : Entry) → IsEdgeEntryAt report.now number a
+        → IsWinningCell report.now a a.kind result }
 {
     let store = report.store();
     // The player's stones lie on the board.

@@ -6,13 +6,13 @@ use Rattle.hex_cells.specs.Sets.{has, with_cell}
 use Rattle.hex_board.specs.Elements.{PlayerBoard}
 use Rattle.conn_store.specs.Entries.{IsBetween}
 use Rattle.conn_store.specs.Rules.{AndRule, AreAt, IsCell, IsGroup, both_of, union_of}
-use Rattle.conn_store.specs.Stores.{IsCovered, IsPairFull, StoreData, after_put, numbers_from, numbers_of}
+use Rattle.conn_store.specs.Stores.{IsCovered, IsPairFull, StoreData, after_put, most_of, numbers_from, numbers_of}
 use Rattle.conn_store.specs.declared.entries.Entry.{Entry}
 use Rattle.conn_store.specs.declared.entries.Kind.{Kind}
 use Rattle.conn_store.specs.declared.entries.Kind.TheVariants.{Full, Semi}
 use Rattle.conn_store.specs.declared.entries.Put.{Put}
 use Rattle.conn_store.specs.declared.entries.Put.TheVariants.{Added, Dominated, PairFull}
-use Rattle.conn_store.proofs.Numbers.{numbers_over}
+use Rattle.conn_store.proofs.Numbers.{counted_full, full_counted, numbers_over}
 use Rattle.conn_store.proofs.Tables.{of_itself}
 use Rattle.hsearch.specs.Closed.{SettlesAnd, SettlesOr, HoldsEdge, IsSettled}
 use Rattle.hsearch.specs.Taken.{Extends, IsOrSettled, IsCombined, IsAndSettled, IsAndSettledOver, IsAndSettledTo}
@@ -67,7 +67,9 @@ full_stays d f kind x y g h =
     ap (λ (v : List Entry). numbers_from 0 kind x y v) g.entries.1 ∙ numbers_over 0 kind x y d.entries g.entries.0 in
     let l : length (numbers_of f kind x y) ≡ length (numbers_of d kind x y) + length (numbers_from (0 + length d.entries) kind x y g.entries.0) =
     ap length e ∙ length-append (numbers_of d kind x y) (numbers_from (0 + length d.entries) kind x y g.entries.0) in
-    omega arith
+    let m : most_of kind ≤ length (numbers_of d kind x y) = full_counted d kind x y h in
+    let n : most_of kind ≤ length (numbers_of f kind x y) = omega arith in
+    counted_full f kind x y n
 
 pub answer_stays : (d f : StoreData) (kind : Kind) (x y c : ℕ) → Extends d f → IsSettled d kind x y c → IsSettled f kind x y c
 answer_stays d f kind x y c g (inl h) = inl (covered_stays d f kind (min x y) (max x y) c g h)

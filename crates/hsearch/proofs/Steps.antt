@@ -1,5 +1,5 @@
 -- One step of the search: what is answered after it.
-use Rattle.std.proofs.Common.{◌≡◌, ℕ, ◌+◌, ◌<◌, ◌≤◌, ◌⊎◌, ◌∷◌, [], List, Some, length, get_or, map, take, min, max, true, All, refl, sym, ◌∙◌, ap, subst, inl, inr, arith}
+use Rattle.std.proofs.Common.{◌≡◌, ℕ, ◌+◌, ◌<◌, ◌≤◌, ◌⊎◌, ◌∷◌, [], List, Some, length, get_or, map, take, min, max, true, false, All, refl, sym, ◌∙◌, ap, subst, inl, inr, arith}
 use Rattle.std.specs.List.{slice_get}
 use Rattle.std.proofs.lemmas.Bool.{both_ways, cases_lt, cases_order}
 use Rattle.std.proofs.lemmas.List.Elements.{All-head}
@@ -7,7 +7,7 @@ use Rattle.std.proofs.lemmas.Option.{same_Some, slice_get_within}
 use Rattle.hex_cells.specs.Sets.{has, with_cell}
 use Rattle.hex_cells.proofs.Bits.{has_none}
 use Rattle.hex_board.specs.Elements.{PlayerBoard, element_count}
-use Rattle.hex_board.specs.Places.{Near}
+use Rattle.hex_board.specs.Places.{is_near}
 use Rattle.conn_store.specs.Entries.{IsBetween}
 use Rattle.conn_store.specs.Rules.{AndRule, AreAt, FollowsBy, IsCell, IsGroup, OrRule, adjacent_entry, both_of, union_of}
 use Rattle.conn_store.specs.Stores.{GivesAnd, IsCovered, MayBeAdded, IsPairFull, IsSound, StoreData, after_put, held_of, is_of, numbers_of}
@@ -19,7 +19,7 @@ use Rattle.conn_store.specs.declared.entries.Kind.TheVariants.{Full, Semi}
 use Rattle.conn_store.specs.declared.entries.Put.{Put}
 use Rattle.conn_store.specs.declared.entries.Put.TheVariants.{Added, Dominated, PairFull}
 use Rattle.conn_store.proofs.Chains.{ends_below}
-use Rattle.conn_store.proofs.Numbers.{numbers_all, numbers_in}
+use Rattle.conn_store.proofs.Numbers.{full_counted, numbers_all, numbers_in}
 use Rattle.conn_store.proofs.RuleEntries.{at_three, at_two}
 use Rattle.conn_store.proofs.RuleTruth.{second_of, third_of}
 use Rattle.conn_store.proofs.Tables.{held_count, last_or_before, number_at, number_within, of_itself}
@@ -78,6 +78,7 @@ near_covers a c q k h = absurd (both_ways (has a.carrier k) (ap (λ v. has v k) 
 -- a pair of which there is an entry is covered by it
 bare_covered : (d : StoreData) (x y : ℕ) → AreBare d → IsPairFull d Full x y → IsCovered d Full x y 0
 bare_covered d x y b h =
+    let m : 4 ≤ length (numbers_of d Full x y) = full_counted d Full x y h in
     let l : 0 < length (numbers_of d Full x y) = omega arith in
     let w = numbers_in 0 Full x y d.entries 0 l in
     (w.0, w.1, w.3, w.4, near_covers w.1 0 (b w.0 w.1 w.3))
@@ -100,14 +101,14 @@ near_put d f x y entry put b q p = (
     bare = subst (λ (v : StoreData). AreBare v) (sym p.after) (bare_put d entry put b (ap (λ (a : Entry). a.carrier) q))
 
 pub near_stays : (d f : StoreData) (n : ℕ) → Extends d f → AreNearBelow d n → AreNearBelow f n
-near_stays d f n g h x y l m r = covered_stays d f Full x y 0 g (h x y l m (subst (λ (e : PlayerBoard). Near e x y) g.elements r))
+near_stays d f n g h x y l m r = covered_stays d f Full x y 0 g (h x y l m (subst (λ (e : PlayerBoard). is_near e x y ≡ true) g.elements r))
 
 -- the pairs of one element more
-pub near_more : (f : StoreData) (y : ℕ) → AreNearBelow f y → ((x : ℕ) → x < y → Near f.elements x y → IsCovered f Full x y 0) → AreNearBelow f (y + 1)
+pub near_more : (f : StoreData) (y : ℕ) → AreNearBelow f y → ((x : ℕ) → x < y → is_near f.elements x y ≡ true → IsCovered f Full x y 0) → AreNearBelow f (y + 1)
 near_more f y h g x z l m r = elim (cases_lt z y) [
   | inl b ↦ h x z l b r
   | inr b ↦ let q : y ≡ z = omega arith in
-      subst (λ v. IsCovered f Full x v 0) q (g x (omega arith) (subst (λ v. Near f.elements x v) (sym q) r))
+      subst (λ v. IsCovered f Full x v 0) q (g x (omega arith) (subst (λ v. is_near f.elements x v ≡ true) (sym q) r))
 ]
 
 -- what is known when the elements below x were tried with y
@@ -115,7 +116,7 @@ pub record IsNearTo (d f : StoreData) (x y : ℕ) : Type 0 where
   pub grown : Extends d f
   pub bare : AreBare f
   pub before : AreNearBelow f y
-  pub done : (z : ℕ) → z < x → Near f.elements z y → IsCovered f Full z y 0
+  pub done : (z : ℕ) → z < x → is_near f.elements z y ≡ true → IsCovered f Full z y 0
 
 pub near_some : (d f g : StoreData) (x y : ℕ) (entry : Entry) (put : Put) → IsNearTo d f x y → entry ≡ adjacent_entry x y → IsPut f g entry put → IsNearTo d g (x + 1) y
 near_some d f g x y entry put n q p =
@@ -126,19 +127,19 @@ near_some d f g x y entry put n q p =
       bare = w.1;
       before = near_stays f g y e n.before;
       done = λ z l r. elim (cases_lt z x) [
-        | inl b ↦ covered_stays f g Full z y 0 e (n.done z b (subst (λ (v : PlayerBoard). Near v z y) e.elements r))
+        | inl b ↦ covered_stays f g Full z y 0 e (n.done z b (subst (λ (v : PlayerBoard). is_near v z y ≡ true) e.elements r))
         | inr b ↦ let same : x ≡ z = omega arith in subst (λ v. IsCovered g Full v y 0) same w.0
       ];
     }
 
-pub near_none : (d f : StoreData) (x y : ℕ) → IsNearTo d f x y → ¬ (Near f.elements x y) → IsNearTo d f (x + 1) y
+pub near_none : (d f : StoreData) (x y : ℕ) → IsNearTo d f x y → is_near f.elements x y ≡ false → IsNearTo d f (x + 1) y
 near_none d f x y n h = record {
   grown = n.grown;
   bare = n.bare;
   before = n.before;
   done = λ z l r. elim (cases_lt z x) [
     | inl b ↦ n.done z b r
-    | inr b ↦ let same : z ≡ x = omega arith in absurd (h (subst (λ v. Near f.elements v y) same r))
+    | inr b ↦ let same : z ≡ x = omega arith in absurd (both_ways (is_near f.elements x y) h (subst (λ v. is_near f.elements v y ≡ true) same r))
   ];
 }
 

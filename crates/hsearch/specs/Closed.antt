@@ -1,9 +1,10 @@
 -- Reports: stores that are closed under the four rules.
-use Rattle.std.specs.Prelude.{◌≡◌, ℕ, ◌⊎◌, ◌<◌, Bool, List, Some, All, min, max}
+use Rattle.std.specs.Prelude.{◌≡◌, ℕ, ◌⊎◌, ◌<◌, Bool, true, List, Some, All, min}
+use Rattle.std.specs.Prelude.{max}
 use Rattle.std.specs.List.{slice_get}
 use Rattle.hex_cells.specs.Sets.{with_cell}
 use Rattle.hex_board.specs.Elements.{PlayerBoard, edge_element, element_count}
-use Rattle.hex_board.specs.Places.{Near}
+use Rattle.hex_board.specs.Places.{is_near}
 use Rattle.conn_store.specs.Rules.{AndRule, IsCell, IsGroup, OrRule, both_of, union_of}
 use Rattle.conn_store.specs.Stores.{IsCovered, IsPairFull, IsSound, StoreData}
 use Rattle.conn_store.specs.declared.entries.Entry.{Entry}
@@ -38,12 +39,12 @@ SettlesOr d ways x y = OrRule ways x y → IsSettled d Full x y (union_of ways)
 -- each pair that lies side by side has an entry with the empty carrier, and what the rules of AND
 -- and OR give of entries of the store is settled
 pub record IsRuleClosed (d : StoreData) : Type 0 where
-  pub near : (x y : ℕ) → x < y → y < element_count d.elements → Near d.elements x y
+  pub near : (x y : ℕ) → x < y → y < element_count d.elements → is_near d.elements x y ≡ true
       → IsCovered d Full x y 0
   pub ands : (a b : Entry) (x u y : ℕ) → IsKept d a → IsKept d b → SettlesAnd d a b x u y
   pub ors : (ways : List Entry) (x y : ℕ) → All (IsKept d) ways → SettlesOr d ways x y
 
--- a report: each entry is valid, follows from earlier ones and is true, and the store is closed
+-- a report: each entry is valid and follows from earlier ones, and the store is closed
 pub record IsReport (d : StoreData) : Type 0 where
   pub sound : IsSound d
   pub closed : IsRuleClosed d

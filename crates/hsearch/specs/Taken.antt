@@ -1,7 +1,7 @@
 -- Stores on their way to a report. Only private clauses cite this.
-use Rattle.std.specs.Prelude.{◌≡◌, ℕ, ◌+◌, ◌<◌, List, [], ◌∷◌, ◌++◌, Some}
+use Rattle.std.specs.Prelude.{◌≡◌, ℕ, ◌+◌, ◌<◌, true, List, [], ◌∷◌, ◌++◌, Some}
 use Rattle.std.specs.List.{slice_get}
-use Rattle.hex_board.specs.Places.{Near}
+use Rattle.hex_board.specs.Places.{is_near}
 use Rattle.conn_store.specs.Rules.{AreAt}
 use Rattle.conn_store.specs.Stores.{IsCovered, StoreData}
 use Rattle.conn_store.specs.declared.entries.Entry.{Entry}
@@ -49,7 +49,8 @@ AreBare d = (i : ℕ) (a : Entry) → slice_get d.entries i ≡ Some a → a.car
 
 -- of the pairs of an element below y that lie side by side each has an entry with the empty carrier
 abbrev pub AreNearBelow : StoreData → ℕ → Type 0
-AreNearBelow d n = (x y : ℕ) → x < y → y < n → Near d.elements x y → IsCovered d Full x y 0
+AreNearBelow d n =
+    (x y : ℕ) → x < y → y < n → is_near d.elements x y ≡ true → IsCovered d Full x y 0
 
 -- entry n is of elements x and y
 abbrev pub IsOfPair : StoreData → ℕ → ℕ → ℕ → Type 0

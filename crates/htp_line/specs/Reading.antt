@@ -2,6 +2,7 @@
 use Rattle.std.specs.Prelude.{ℕ, ◌==◌, ◌&&◌, ◌||◌, not, Bool, List, [], ◌∷◌, length, map, filter}
 use Rattle.std.specs.Prelude.{Option, Some, None, nat_le, nat_lt, if◌then◌else◌, take_while}
 use Rattle.std.specs.List.{slice_split, list_all}
+use Rattle.std.specs.Option.{option_map_or}
 use Rattle.std.specs.Str.Parse.{digits_value}
 use Rattle.htp_line.specs.declared.request.Parsed.{Parsed}
 use Rattle.htp_line.specs.declared.request.Parsed.TheVariants.{Blank, Bare, Request}
@@ -10,17 +11,11 @@ use Rattle.htp_line.specs.declared.request.Parsed.TheVariants.{Blank, Bare, Requ
 abbrev pub is_kept : ℕ → Bool
 is_kept b = (nat_le 32 b && not (b == 127)) || (b == 9)
 
--- a byte before a comment, which begins with a hash sign
-abbrev pub is_no_hash : ℕ → Bool
-is_no_hash b = not (b == 35)
-
--- a tab becomes a space
-abbrev pub tab_to_space : ℕ → ℕ
-tab_to_space b = if b == 9 then 32 else b
-
--- the line without control bytes and comment, each tab a space
+-- the line without control bytes and comment, which begins with a hash sign (35), each tab (9) a
+-- space (32)
 abbrev pub cleaned : List ℕ → List ℕ
-cleaned raw = map tab_to_space (take_while is_no_hash (filter is_kept raw))
+cleaned raw =
+    map (λ b. if b == 9 then 32 else b) (take_while (λ b. not (b == 35)) (filter is_kept raw))
 
 -- a space
 abbrev pub is_space : ℕ → Bool
@@ -54,15 +49,11 @@ abbrev pub with_id : ℕ → List (List ℕ) → Parsed
 with_id id [] = Bare id
 with_id id (name ∷ args) = Request (record { id = Some id; name = name; args = args })
 
--- the words, of which the first may be an id
-abbrev pub reading_by : Option ℕ → List ℕ → List (List ℕ) → Parsed
-reading_by None first others = Request (record { id = None; name = first; args = others })
-reading_by (Some id) first others = with_id id others
-
--- what the words of a line ask
+-- what the words of a line ask, of which the first may be an id
 abbrev pub reading_of_words : List (List ℕ) → Parsed
 reading_of_words [] = Blank
-reading_of_words (first ∷ others) = reading_by (number_of first) first others
+reading_of_words (first ∷ others) = option_map_or (λ id. with_id id others) (number_of first)
+    (Request (record { id = None; name = first; args = others }))
 
 -- what a raw line asks
 abbrev pub reading : List ℕ → Parsed

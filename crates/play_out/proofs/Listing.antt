@@ -11,6 +11,7 @@ use Rattle.std.proofs.lemmas.Bool.{cases_Bool, eqb-true, eqb-false}
 use Rattle.std.proofs.lemmas.Nat.{and_le_r}
 use Rattle.std.proofs.Math.Nat.{div-div-eq-div-mul}
 use Rattle.hex_cells.specs.Sets.{has}
+use Rattle.hex_cells.proofs.Filters.{none_pass, two_pass}
 use Rattle.hex_cells.proofs.Bits.{has_test, has_shr, has_mod}
 use Rattle.play_out.specs.Fours.{bits_of}
 use Rattle.play_out.proofs.Counting.{off_board}
@@ -89,22 +90,6 @@ listed_next s rest cells count end c l r h e =
 
 -- ---- four cells more
 
--- a filter of a range in two parts
-in_two : (p : ℕ → Bool) (a n m : ℕ) → filter p (range_with_len a (n + m)) ≡ filter p (range_with_len a n) ++ filter p (range_with_len (a + n) m)
-in_two p a zero m = (λ j. filter p (range_with_len (none_added j) (none_before j)))
-  where
-    none_added : a ≡ a + zero
-    none_added = omega arith
-
-    none_before : zero + m ≡ m
-    none_before = omega arith
-in_two p a (suc n) m =
-    let e : suc n + m ≡ suc (n + m) = omega arith in
-    let f : a + 1 + n ≡ a + suc n = omega arith in
-    ap (λ v. filter p (range_with_len a v)) e
-    ∙ (ap (λ xs. cond (p a) (a ∷ xs) xs) (in_two p (a + 1) n m ∙ ap (λ v. filter p (range_with_len (a + 1) n) ++ filter p (range_with_len v m)) f)
-    ∙ front (p a) a (filter p (range_with_len (a + 1) n)) (filter p (range_with_len (a + suc n) m)))
-
 mapped : (b : Bool) (e a : ℕ) (xs : List ℕ) → cond b ((e + a) ∷ map (λ j. e + j) xs) (map (λ j. e + j) xs) ≡ map (λ j. e + j) (cond b (a ∷ xs) xs)
 mapped true e a xs = refl
 mapped false e a xs = refl
@@ -132,7 +117,7 @@ pub listed_four : (s : ℕ) (cells next : List ℕ) (count end m four : ℕ) →
 listed_four s cells next count end m four l e size t c =
     let bits : map (λ j. end + j) (bits_of four) ≡ filter (has s) (range_with_len end 4) = ap (λ n. map (λ j. end + j) (bits_of n)) e ∙ sym (quarter s end) in
     let whole : filter (has s) (range_with_len 0 (end + 4)) ≡ filter (has s) (range_with_len 0 end) ++ filter (has s) (range_with_len end 4) =
-    in_two (has s) 0 end 4 ∙ ap (λ v. filter (has s) (range_with_len 0 end) ++ filter (has s) (range_with_len v 4)) (zero-add end) in
+    two_pass (has s) 0 end 4 ∙ ap (λ v. filter (has s) (range_with_len 0 end) ++ filter (has s) (range_with_len v 4)) (zero-add end) in
     record {
       items = t ∙ ((λ i. l.items i ++ bits i) ∙ sym whole);
       many = c ∙ (ap (λ v. v + length (bits_of four)) l.many
@@ -148,17 +133,12 @@ rest_next s rest k e =
 
 -- ---- the whole board
 
-none_from : (p : ℕ → Bool) (a n : ℕ) → ((k : ℕ) → a ≤ k → p k ≡ false) → filter p (range_with_len a n) ≡ []
-none_from p a zero f = refl
-none_from p a (suc n) f =
-    ap (λ b. cond b (a ∷ filter p (range_with_len (a + 1) n)) (filter p (range_with_len (a + 1) n))) (f a (omega arith)) ∙ none_from p (a + 1) n (λ k l. f k (omega (arith, l)))
-
 -- the cells of a set below the last are those of the board that it lies on
 on_board : (s n : ℕ) → n ≤ 121 → ((k : ℕ) → n ≤ k → has s k ≡ false) → filter (has s) (range_with_len 0 121) ≡ filter (has s) (range_with_len 0 n)
 on_board s n l f =
     let e : 121 ≡ n + (121 - n) = omega arith in
-    ap (λ v. filter (has s) (range_with_len 0 v)) e ∙ (in_two (has s) 0 n (121 - n)
-    ∙ (ap (λ xs. filter (has s) (range_with_len 0 n) ++ xs) (none_from (has s) (0 + n) (121 - n) (λ k m. f k (omega (arith, m)))) ∙ append-nil (filter (has s) (range_with_len 0 n))))
+    ap (λ v. filter (has s) (range_with_len 0 v)) e ∙ (two_pass (has s) 0 n (121 - n)
+    ∙ (ap (λ xs. filter (has s) (range_with_len 0 n) ++ xs) (none_pass (has s) (0 + n) (121 - n) (λ k m. f k (omega (arith, m)))) ∙ append-nil (filter (has s) (range_with_len 0 n))))
 
 -- all cells are the empty ones
 pub all_empties : (p : Position) (s : ℕ) → p.size ≤ 11 → ((k : ℕ) → has s k ≡ is_empty_at p k) → filter (has s) (range_with_len 0 121) ≡ empties_of p

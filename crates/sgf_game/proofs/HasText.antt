@@ -9,7 +9,8 @@ use Rattle.hex_game.specs.declared.moves.Step.{Step}
 use Rattle.sgf_tree.specs.declared.lists.Prop.{Prop}
 use Rattle.sgf_tree.specs.Grammar.{is_capital, IsName}
 use Rattle.sgf_tree.specs.Printing.{HaveTexts, NodesHaveTexts, HasText}
-use Rattle.sgf_game.specs.Record.{letter_of, prop_if, vertices, root_of, node_of_step, record_of}
+use Rattle.hex_cells.specs.Vertices.{vertices_of}
+use Rattle.sgf_game.specs.Record.{letter_of, prop_if, root_of, node_of_step, record_of}
 
 both_have : (xs ys : List Prop) → HaveTexts xs → HaveTexts ys → HaveTexts (xs ++ ys)
 both_have [] ys h k = k
@@ -32,9 +33,9 @@ root_has start = (
     (
       two_capitals 83 90 refl refl,
       tt,
-      both_have (prop_if (codes "AB") (vertices start.size start.black)) (prop_if (codes "AW") (vertices start.size start.white))
-          (stones_have (codes "AB") (vertices start.size start.black) (two_capitals 65 66 refl refl))
-          (stones_have (codes "AW") (vertices start.size start.white) (two_capitals 65 87 refl refl)),
+      both_have (prop_if (codes "AB") (vertices_of start.size start.black)) (prop_if (codes "AW") (vertices_of start.size start.white))
+          (stones_have (codes "AB") (vertices_of start.size start.black) (two_capitals 65 66 refl refl))
+          (stones_have (codes "AW") (vertices_of start.size start.white) (two_capitals 65 87 refl refl)),
     ),
   ),
 )

@@ -7,7 +7,7 @@ use Rattle.std.specs.Str.{bytes_eq}
 use Rattle.std.proofs.lemmas.Bool.{cases_Bool, cases_eq, eqb-true, false_from_ne_true, both_ways}
 use Rattle.std.proofs.lemmas.Bool.Decides.{nat_tests}
 use Rattle.hex_cells.specs.Sets.{has}
-use Rattle.hex_cells.specs.Vertices.{vertex_of, vertex_cell}
+use Rattle.hex_cells.specs.Vertices.{vertex_of, vertex_cell, vertices_of}
 use Rattle.hex_cells.proofs.Bits.{has_none, same_set}
 use Rattle.hex_cells.proofs.Naming.{read_back}
 use Rattle.hex_board.specs.Joined.{cells_of}
@@ -16,7 +16,7 @@ use Rattle.sgf_tree.specs.declared.lists.Prop.{Prop}
 use Rattle.sgf_game.specs.Values.{trimmed, values_if, has_named}
 use Rattle.sgf_game.specs.Lines.{entries_in, entries_if}
 use Rattle.sgf_game.specs.Setup.{is_cell, is_in, has_twice, are_misplaced, with_cells, cells_named, set_up_cells, start_of}
-use Rattle.sgf_game.specs.Record.{vertices, prop_if, root_of}
+use Rattle.sgf_game.specs.Record.{prop_if, root_of}
 use Rattle.sgf_game.proofs.Lists.{any_append}
 use Rattle.sgf_game.proofs.Placing.{AreCells, has_cells, twice_append}
 use Rattle.sgf_game.proofs.Spelled.{trim_vertex}
@@ -41,7 +41,7 @@ read_again n p a (suc m) h l = one (p a) (read_again n p (a + 1) m h (omega arit
     one false e = e
 
 -- the cells that the vertices of a set are read as
-pub cells_again : (n s : ℕ) → n ≤ 11 → map (vertex_cell n) (map trimmed (vertices n s)) ≡ some_cells (filter (has s) (cells_of n))
+pub cells_again : (n s : ℕ) → n ≤ 11 → map (vertex_cell n) (map trimmed (vertices_of n s)) ≡ some_cells (filter (has s) (cells_of n))
 cells_again n s h = read_again n (has s) 0 (n * n) h (omega arith)
 
 cells_on : (n : ℕ) (p : ℕ → Bool) (a m : ℕ) → a + m ≤ n * n → AreCells n (some_cells (filter p (range_with_len a m)))
@@ -150,7 +150,7 @@ no_entries (b ∷ bs) (w ∷ ws) = refl
 
 -- the root has no move
 pub root_entries : (start : Position) → entries_in (root_of start) ≡ []
-root_entries start = no_entries (vertices start.size start.black) (vertices start.size start.white)
+root_entries start = no_entries (vertices_of start.size start.black) (vertices_of start.size start.white)
 
 none_removed : (bs ws : List (List ℕ)) → list_any (λ (p : Prop). bytes_eq p.name (codes "AE")) (prop_if (codes "AB") bs ++ prop_if (codes "AW") ws) ≡ false
 none_removed [] [] = refl
@@ -159,13 +159,13 @@ none_removed (b ∷ bs) [] = refl
 none_removed (b ∷ bs) (w ∷ ws) = refl
 
 pub root_removes_none : (start : Position) → has_named (codes "AE") (root_of start) ≡ false
-root_removes_none start = none_removed (vertices start.size start.black) (vertices start.size start.white)
+root_removes_none start = none_removed (vertices_of start.size start.black) (vertices_of start.size start.white)
 
 pub black_cells : (start : Position) → start.size ≤ 11 → cells_named start.size (codes "AB") (root_of start) ≡ some_cells (filter (has start.black) (cells_of start.size))
-black_cells start h = ap (map (vertex_cell start.size)) (black_values (vertices start.size start.black) (vertices start.size start.white)) ∙ cells_again start.size start.black h
+black_cells start h = ap (map (vertex_cell start.size)) (black_values (vertices_of start.size start.black) (vertices_of start.size start.white)) ∙ cells_again start.size start.black h
 
 pub white_cells : (start : Position) → start.size ≤ 11 → cells_named start.size (codes "AW") (root_of start) ≡ some_cells (filter (has start.white) (cells_of start.size))
-white_cells start h = ap (map (vertex_cell start.size)) (white_values (vertices start.size start.black) (vertices start.size start.white)) ∙ cells_again start.size start.white h
+white_cells start h = ap (map (vertex_cell start.size)) (white_values (vertices_of start.size start.black) (vertices_of start.size start.white)) ∙ cells_again start.size start.white h
 
 pub root_well_placed : (start : Position) → start.size ≤ 11 → Within start.size start.black → Within start.size start.white → Apart start.black start.white
     → are_misplaced (set_up_cells start.size (root_of start)) ≡ false

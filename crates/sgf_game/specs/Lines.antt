@@ -3,6 +3,7 @@ use Rattle.std.specs.Prelude.{ℕ, Bool, ◌||◌, List, [], ◌∷◌, ◌++◌
 use Rattle.std.specs.Prelude.{codes, if◌then◌else◌}
 use Rattle.std.specs.Borrow.{Bor}
 use Rattle.std.specs.List.{list_any}
+use Rattle.std.specs.Option.{option_map_or}
 use Rattle.std.specs.Str.{bytes_eq, str_eq_ignore_ascii_case}
 use Rattle.hex_cells.specs.declared.colours.Colour.{Colour}
 use Rattle.hex_cells.specs.declared.colours.Colour.TheVariants.{Black, White}
@@ -34,12 +35,9 @@ mover name =
     if bytes_eq name (codes "B") then Some Black
     else (if bytes_eq name (codes "W") then Some White else None)
 
-abbrev pub entries_by : Option Colour → List (List ℕ) → List Entry
-entries_by None values = []
-entries_by (Some colour) values = map (entry colour) values
-
+-- the moves that a property holds
 abbrev pub entries_if : Prop → List Entry
-entries_if p = entries_by (mover p.name) p.values
+entries_if p = option_map_or (λ colour. map (entry colour) p.values) (mover p.name) []
 
 -- the moves in a node, in the order of its properties and values
 abbrev pub entries_in : Node → List Entry

@@ -1,11 +1,9 @@
 -- The record of a game.
-use Rattle.std.specs.Prelude.{ℕ, List, [], ◌∷◌, ◌++◌, map, filter, codes}
+use Rattle.std.specs.Prelude.{ℕ, List, [], ◌∷◌, ◌++◌, map, codes}
 use Rattle.std.specs.Fmt.{decimal}
-use Rattle.hex_cells.specs.Sets.{has}
-use Rattle.hex_cells.specs.Vertices.{vertex_of}
+use Rattle.hex_cells.specs.Vertices.{vertex_of, vertices_of}
 use Rattle.hex_cells.specs.declared.colours.Colour.{Colour}
 use Rattle.hex_cells.specs.declared.colours.Colour.TheVariants.{Black, White}
-use Rattle.hex_board.specs.Joined.{cells_of}
 use Rattle.hex_board.specs.Positions.{Position}
 use Rattle.hex_game.specs.Games.{GameData}
 use Rattle.hex_game.specs.declared.moves.Move.{Move}
@@ -18,10 +16,6 @@ use Rattle.sgf_tree.specs.Trees.{GameTrees, none, tree}
 abbrev pub prop_of : List ℕ → List (List ℕ) → Prop
 prop_of name values = record { name = name; values = values }
 
--- the vertices of a set's cells, in rising order
-abbrev pub vertices : ℕ → ℕ → List (List ℕ)
-vertices n set = map (vertex_of n) (filter (has set) (cells_of n))
-
 -- a property stands only where it has a value
 abbrev pub prop_if : List ℕ → List (List ℕ) → List Prop
 prop_if name [] = []
@@ -33,8 +27,8 @@ root_of start = record {
   props =
       prop_of (codes "FF") (codes "4" ∷ []) ∷ prop_of (codes "GM") (codes "11" ∷ [])
       ∷ prop_of (codes "SZ") (decimal start.size ∷ [])
-      ∷ (prop_if (codes "AB") (vertices start.size start.black)
-      ++ prop_if (codes "AW") (vertices start.size start.white));
+      ∷ (prop_if (codes "AB") (vertices_of start.size start.black)
+      ++ prop_if (codes "AW") (vertices_of start.size start.white));
 }
 
 abbrev pub letter_of : Colour → List ℕ

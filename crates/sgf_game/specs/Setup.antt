@@ -3,6 +3,7 @@ use Rattle.std.specs.Prelude.{◌≡◌, ℕ, Bool, true, false, ◌==◌, ◌||
 use Rattle.std.specs.Prelude.{Some, None, MatchOption, is_none, map, find, codes}
 use Rattle.std.specs.Fmt.{decimal}
 use Rattle.std.specs.List.{list_any, range_with_len}
+use Rattle.std.specs.Option.{option_map_or}
 use Rattle.std.specs.Str.{bytes_eq}
 use Rattle.hex_cells.specs.Sets.{with_cell}
 use Rattle.hex_cells.specs.Vertices.{vertex_cell}
@@ -10,13 +11,10 @@ use Rattle.hex_board.specs.Positions.{Position}
 use Rattle.sgf_tree.specs.declared.lists.Node.{Node}
 use Rattle.sgf_game.specs.Values.{has_named, values_named, first_named}
 
-abbrev pub is_eleven : Option (List ℕ) → Bool
-is_eleven None = false
-is_eleven (Some value) = bytes_eq value (codes "11")
-
 -- the first GM is `11`, the number of Hex
 abbrev pub is_hex : Node → Bool
-is_hex root = is_eleven (first_named (codes "GM") root)
+is_hex root =
+    option_map_or (λ value. bytes_eq value (codes "11")) (first_named (codes "GM") root) false
 
 -- the text is the number n, or twice the number n with `:` between
 abbrev pub is_size : List ℕ → ℕ → Bool
@@ -26,13 +24,9 @@ is_size text n = bytes_eq text (decimal n) || bytes_eq text (decimal n ++ 58 ∷
 unfoldable pub size_named : List ℕ → Option ℕ
 size_named text = find (is_size text) (range_with_len 1 11)
 
-abbrev pub size_or_eleven : Option (List ℕ) → Option ℕ
-size_or_eleven None = Some 11
-size_or_eleven (Some value) = size_named value
-
 -- the size that the first SZ names, and 11 without SZ
 abbrev pub size_of : Node → Option ℕ
-size_of root = size_or_eleven (first_named (codes "SZ") root)
+size_of root = option_map_or size_named (first_named (codes "SZ") root) (Some 11)
 
 -- the cells that the values under this name are vertices of
 abbrev pub cells_named : ℕ → List ℕ → Node → List (Option ℕ)

@@ -5,7 +5,8 @@ ghost use Rattle.hex_board.specs.Positions.{Within};
 ghost use Rattle.sgf_tree.specs.Trees.{depth};
 ghost use Rattle.sgf_tree.specs.Printing.{HasText, max_depth};
 ghost use Rattle.sgf_game.specs.GameOf.{game_of};
-ghost use Rattle.sgf_game.specs.Record.{prop_of, vertices, prop_if, root_of, node_of_step};
+ghost use Rattle.hex_cells.specs.Vertices.{vertices_of};
+ghost use Rattle.sgf_game.specs.Record.{prop_of, prop_if, root_of, node_of_step};
 ghost use Rattle.sgf_game.specs.Record.{record_of};
 ghost use Rattle.sgf_game.specs.Playing.{IsMoveOn};
 
@@ -132,7 +133,7 @@ fn push_stones(
 ) -> Result<(), AllocError>
     requires { Within size stones }
     ensures { OnOk result
-        (props.new.items ≡ props.old.items ++ prop_if name.now (vertices size stones)) }
+        (props.new.items ≡ props.old.items ++ prop_if name.now (vertices_of size stones)) }
 {
     let values = vertices(alloc, stones, size)?;
     if !values.is_empty() {
@@ -147,7 +148,7 @@ fn push_stones(
 /// The vertices of the cells, in rising order.
 fn vertices(alloc: Global, stones: CellSet, size: Size) -> Result<Vec<Bytes>, AllocError>
     requires { Within size stones }
-    ensures { IfOk result (λ values. values.items ≡ vertices size stones) }
+    ensures { IfOk result (λ values. values.items ≡ vertices_of size stones) }
 {
     let mut values = Vec::new(alloc);
     let mut rest = stones;

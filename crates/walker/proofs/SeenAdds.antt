@@ -7,6 +7,7 @@ use Rattle.std.proofs.lemmas.Bool.Decides.{nat_tests}
 use Rattle.std.proofs.lemmas.List.{map-append}
 use Rattle.hex_cells.specs.Sets.{has as has_cell, members}
 use Rattle.hex_cells.proofs.Bits.{has_mod, has_shr}
+use Rattle.hex_cells.proofs.Filters.{least_pass, longer_pass, none_pass, two_pass}
 use Rattle.hex_cells.proofs.Counts.{members_none, members_ones}
 use Rattle.tree_words.proofs.Blocks.BlockLaws.{clash}
 use Rattle.tree_words.proofs.Boards.RootLaws.{filter_some}
@@ -14,61 +15,10 @@ use Rattle.arena_rule.specs.Adds.{CountAdd, seen_adds}
 use Rattle.walker.specs.Climbs.{half_adds}
 use Rattle.walker.proofs.MemberLaws.{in-more, out-more, members-low, members-high}
 
--- none passes
-pub none-filter : (p : ℕ → Bool) (a n : ℕ) → ((i : ℕ) → a ≤ i → p i ≡ false) → filter p (range_with_len a n) ≡ []
-none-filter p a zero h = refl
-none-filter p a (suc n) h =
-    ap (λ (t : Bool). cond t (a ∷ filter p (range_with_len (a + 1) n)) (filter p (range_with_len (a + 1) n))) (h a (omega arith))
-    ∙ none-filter p (a + 1) n (λ i l. h i (omega arith))
-
--- tests that agree on the range
-same-filter : (p q : ℕ → Bool) (a n : ℕ) → ((i : ℕ) → a ≤ i → p i ≡ q i) → filter p (range_with_len a n) ≡ filter q (range_with_len a n)
-same-filter p q a zero h = refl
-same-filter p q a (suc n) h =
-    ap (λ (t : Bool). cond t (a ∷ filter p (range_with_len (a + 1) n)) (filter p (range_with_len (a + 1) n))) (h a (omega arith))
-    ∙ ap (λ (xs : List ℕ). cond (q a) (a ∷ xs) xs) (same-filter p q (a + 1) n (λ i l. h i (omega arith)))
-
--- the least that passes is the first
-pub least-filter : (p q : ℕ → Bool) (a n c : ℕ) → a ≤ c → c < a + n → p c ≡ true → ((i : ℕ) → i < c → p i ≡ false)
-    → ((i : ℕ) → q i ≡ (p i && not (i == c))) → filter p (range_with_len a n) ≡ c ∷ filter q (range_with_len a n)
-least-filter p q a zero c l m t below rest = absurd (omega arith)
-least-filter p q a (suc n) c l m t below rest = ⊎_elim
-    (λ (e : (a == c) ≡ true).
-    let is : a ≡ c = eqb-true a c e in
-    let here : p a ≡ true = ap p is ∙ t in
-    let gone : q a ≡ false = rest a ∙ out (p a) (a == c) e in
-    ap (λ (u : Bool). cond u (a ∷ filter p (range_with_len (a + 1) n)) (filter p (range_with_len (a + 1) n))) here
-    ∙ (λ i. is i ∷ same-filter p q (a + 1) n (λ j k. sym (rest j ∙ kept (p j) (j == c) (apart j c (omega arith)))) i)
-    ∙ sym (ap (λ (u : Bool). c ∷ cond u (a ∷ filter q (range_with_len (a + 1) n)) (filter q (range_with_len (a + 1) n))) gone))
-    (λ (e : (a == c) ≡ false).
-    let less : a < c = low a c l e in
-    let no : p a ≡ false = below a less in
-    let nor : q a ≡ false = rest a ∙ ap (λ (u : Bool). u && not (a == c)) no in
-    ap (λ (u : Bool). cond u (a ∷ filter p (range_with_len (a + 1) n)) (filter p (range_with_len (a + 1) n))) no
-    ∙ least-filter p q (a + 1) n c (omega arith) (omega arith) t below rest
-    ∙ sym (ap (λ (u : Bool). c ∷ cond u (a ∷ filter q (range_with_len (a + 1) n)) (filter q (range_with_len (a + 1) n))) nor))
-    (cases_Bool (a == c))
-  where
-    out : (b u : Bool) → u ≡ true → (b && not u) ≡ false
-    out true true e = refl
-    out true false e = sym e
-    out false u e = refl
-
-    kept : (b u : Bool) → u ≡ false → (b && not u) ≡ b
-    kept true true e = sym e
-    kept true false e = refl
-    kept false u e = refl
-
-    apart : (j c : ℕ) → c < j → (j == c) ≡ false
-    apart j c k = grind (arith, nat_tests)
-
-    low : (a c : ℕ) → a ≤ c → (a == c) ≡ false → a < c
-    low a c k e = grind (arith, nat_tests)
-
 -- no cell is left
 pub adds-none : (first : ℕ) (won : Bool) (cells left : ℕ) → ((i : ℕ) → has_cell left i ≡ false) → half_adds first won cells left ≡ []
 unfolding half_adds
-adds-none first won cells left h = ap (map (λ k. record { word = first + 4 * members cells k; won = won })) (none-filter (has_cell left) 0 64 (λ i l. h i))
+adds-none first won cells left h = ap (map (λ k. record { word = first + 4 * members cells k; won = won })) (none_pass (has_cell left) 0 64 (λ i l. h i))
 
 -- the least cell that is left is the next
 pub adds-next : (first : ℕ) (won : Bool) (cells left rest c : ℕ) → c < 64 → has_cell left c ≡ true → ((i : ℕ) → i < c → has_cell left i ≡ false)
@@ -77,7 +27,7 @@ pub adds-next : (first : ℕ) (won : Bool) (cells left rest c : ℕ) → c < 64 
 unfolding half_adds
 adds-next first won cells left rest c l t below out =
     ap (map (λ k. record { word = first + 4 * members cells k; won = won }))
-    (least-filter (has_cell left) (has_cell rest) 0 64 c (omega arith) (omega arith) t below out)
+    (least_pass (has_cell left) (has_cell rest) 0 64 c (omega arith) (omega arith) t below out)
 
 -- some number passes
 pub none-cons : (p : ℕ → Bool) (a n k : ℕ) → a ≤ k → k < a + n → p k ≡ true → filter p (range_with_len a n) ≡ [] → ⊥
@@ -92,44 +42,6 @@ adds-some first won cells left c l t e =
     no-map : (f : ℕ → CountAdd) (xs : List ℕ) → map f xs ≡ [] → xs ≡ []
     no-map f [] e = refl
     no-map f (x ∷ xs) e = absurd (let n : suc (length (map f xs)) ≡ 0 = ap length e in omega (arith, n))
-
--- no number past a range passes
-pub longer : (p : ℕ → Bool) (a n m : ℕ) → ((i : ℕ) → a + n ≤ i → p i ≡ false) → filter p (range_with_len a (n + m)) ≡ filter p (range_with_len a n)
-longer p a zero m h = ap (λ (z : ℕ). filter p (range_with_len a z)) (none-plus m) ∙ none-filter p a m (λ i l. h i (omega arith))
-  where
-    none-plus : (m : ℕ) → 0 + m ≡ m
-    none-plus m = omega arith
-longer p a (suc n) m h =
-    ap (λ (z : ℕ). filter p (range_with_len a z)) (more n m)
-    ∙ ap (λ (xs : List ℕ). cond (p a) (a ∷ xs) xs) (longer p (a + 1) n m (λ i l. h i (omega arith)))
-  where
-    more : (n m : ℕ) → suc n + m ≡ suc (n + m)
-    more n m = omega arith
-
--- a range in two parts
-cut : (p : ℕ → Bool) (a n m : ℕ) → filter p (range_with_len a (n + m)) ≡ filter p (range_with_len a n) ++ filter p (range_with_len (a + n) m)
-cut p a zero m = (λ i. filter p (range_with_len (plus-none a i) (none-plus m i)))
-  where
-    none-plus : (m : ℕ) → 0 + m ≡ m
-    none-plus m = omega arith
-
-    plus-none : (a : ℕ) → a ≡ a + 0
-    plus-none a = omega arith
-cut p a (suc n) m =
-    ap (λ (z : ℕ). filter p (range_with_len a z)) (more n m)
-    ∙ (ap (λ (xs : List ℕ). cond (p a) (a ∷ xs) xs) (cut p (a + 1) n m)
-    ∙ (through (p a) a (filter p (range_with_len (a + 1) n)) (filter p (range_with_len (a + 1 + n) m))
-    ∙ ap (λ (z : ℕ). cond (p a) (a ∷ filter p (range_with_len (a + 1) n)) (filter p (range_with_len (a + 1) n)) ++ filter p (range_with_len z m)) (shift a n)))
-  where
-    more : (n m : ℕ) → suc n + m ≡ suc (n + m)
-    more n m = omega arith
-
-    shift : (a n : ℕ) → a + 1 + n ≡ a + suc n
-    shift a n = omega arith
-
-    through : (t : Bool) (x : ℕ) (xs ys : List ℕ) → cond t (x ∷ (xs ++ ys)) (xs ++ ys) ≡ cond t (x ∷ xs) xs ++ ys
-    through true x xs ys = refl
-    through false x xs ys = refl
 
 -- a range from d on, told by the numbers less d
 moved : (f g : ℕ → CountAdd) (p q : ℕ → Bool) (d a n : ℕ) → ((i : ℕ) → a ≤ i → i < a + n → p (d + i) ≡ q i) → ((i : ℕ) → a ≤ i → i < a + n → f (d + i) ≡ g i)
@@ -198,8 +110,8 @@ adds-seen stones cells left n block first next won few here is on =
     ∙ seen-from stones cells left (block + 4) won 0 n (λ k l m. here k ∙ and-below (has_cell cells k && has_cell stones k) k n (omega arith)) in
     let wide : n + (128 - n) ≡ 64 + 64 = omega arith in
     let long : filter (has_cell left) (range_with_len 0 n) ≡ filter (has_cell left) (range_with_len 0 64) ++ filter (has_cell left) (range_with_len (0 + 64) 64)
-    = sym (longer (has_cell left) 0 n (128 - n) (λ i l. here i ∙ and-past (has_cell cells i && has_cell stones i) i n (omega arith)))
-    ∙ (ap (λ (z : ℕ). filter (has_cell left) (range_with_len 0 z)) wide ∙ cut (has_cell left) 0 64 64) in
+    = sym (longer_pass (has_cell left) 0 n (128 - n) (λ i l. here i ∙ and-past (has_cell cells i && has_cell stones i) i n (omega arith)))
+    ∙ (ap (λ (z : ℕ). filter (has_cell left) (range_with_len 0 z)) wide ∙ two_pass (has_cell left) 0 64 64) in
     let low : map f (filter (has_cell left) (range_with_len (0 + 0) 64)) ≡ half_adds first won (cells % 2 ^ 64) (left % 2 ^ 64)
     = moved f (λ k. record { word = first + 4 * members (cells % 2 ^ 64) k; won = won }) (has_cell left) (has_cell (left % 2 ^ 64)) 0 0 64
     (λ i l m. ap (has_cell left) (none-plus i) ∙ sym (has_mod left 64 i (omega arith)))

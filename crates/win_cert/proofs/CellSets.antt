@@ -6,6 +6,7 @@ use Rattle.std.proofs.lemmas.Bool.{cases_eq, false_from_ne_true}
 use Rattle.std.specs.Cmp.{both_ways}
 use Rattle.hex_cells.specs.Sets.{has, with_cell}
 use Rattle.hex_cells.specs.Vertices.{vertex_of}
+use Rattle.hex_cells.proofs.Filters.{none_pass}
 use Rattle.hex_cells.proofs.Bits.{has_none, same_set}
 use Rattle.hex_cells.proofs.WithCell.{with_cell-cases, with_cell-here, with_cell-keeps}
 use Rattle.hex_board.specs.Positions.{Within}
@@ -90,12 +91,6 @@ cells_back n s size on = named_all n 0 s 0 0 (n * n) size (omega arith) (omega a
 
 -- ---- from words to the set that they name
 
-filter_none : (p : ℕ → Bool) (a m : ℕ) → ((j : ℕ) → a ≤ j → p j ≡ false) → filter p (range_with_len a m) ≡ []
-filter_none p a zero none = refl
-filter_none p a (suc m) none =
-    ap (λ b. cond b (a ∷ filter p (range_with_len (a + 1) m)) (filter p (range_with_len (a + 1) m))) (none a (omega arith))
-    ∙ filter_none p (a + 1) m (λ j low. none j (omega arith))
-
 filter_to : (p : ℕ → Bool) (b k m : ℕ) → b ≤ k → k < b + m → ((j : ℕ) → b ≤ j → j < k → p j ≡ false) → p k ≡ true
     → filter p (range_with_len b m) ≡ k ∷ filter p (range_with_len (suc k) (b + m - suc k))
 filter_to p b k zero low high none passes = absurd (omega arith)
@@ -127,7 +122,7 @@ names n s b [] u e below high =
     subst (Names n s b []) same (record {
       keeps = λ j h. h;
       new = λ j h. inl h;
-      is = ap (map (vertex_of n)) (sym (filter_none (has s) b (n * n - b) (λ j low. false_from_ne_true (has s j) (λ h. let l = below j h in absurd (omega (arith, l))))));
+      is = ap (map (vertex_of n)) (sym (none_pass (has s) b (n * n - b) (λ j low. false_from_ne_true (has s j) (λ h. let l = below j h in absurd (omega (arith, l))))));
     })
 names n s b (word ∷ words) u e below high =
     let found = some_of_then (λ k. cond (leb b k) (set_named n (with_cell s k) (suc k) words) None) (cell_named n word) u e in

@@ -8,23 +8,12 @@ use Rattle.conn_store.specs.Stores.{IsSound, StoreData}
 use Rattle.conn_store.specs.declared.entries.Cause.{Cause}
 use Rattle.conn_store.specs.declared.entries.Cause.TheVariants.{Adjacent, AndGroup, AndEmpty, Or}
 use Rattle.conn_store.specs.declared.entries.Entry.{Entry}
+use Rattle.conn_store.proofs.RuleTruth.{taken_below}
 use Rattle.win_cert.specs.Cuts.{premises}
 use Rattle.win_cert.specs.Cutting.{NameEarlier}
 use Rattle.win_cert.proofs.CutLines.{second_in, third_in, number_of_ways}
 
 -- ---- names of earlier entries
-
-pub taken_back : {X : Type 0} (xs : List X) (n i : ℕ) (x : X) → slice_get (take n xs) i ≡ Some x → slice_get xs i ≡ Some x
-taken_back xs zero i x h = absurd (cc)
-taken_back [] (suc n) i x h = absurd (cc)
-taken_back (y ∷ xs) (suc n) zero x h = h
-taken_back (y ∷ xs) (suc n) (suc i) x h = taken_back xs n i x h
-
-taken_below : {X : Type 0} (xs : List X) (n i : ℕ) (x : X) → slice_get (take n xs) i ≡ Some x → i < n
-taken_below xs zero i x h = absurd (cc)
-taken_below [] (suc n) i x h = absurd (cc)
-taken_below (y ∷ xs) (suc n) zero x h = omega arith
-taken_below (y ∷ xs) (suc n) (suc i) x h = let l : i < n = taken_below xs n i x h in omega arith
 
 all_below : (entries : List Entry) (n : ℕ) (numbers : List ℕ) (ways : List Entry) → AreAt (take n entries) numbers ways → All (λ j. j < n) numbers
 all_below entries n [] ways h = All-nil (λ j. j < n)

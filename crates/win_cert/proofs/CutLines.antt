@@ -29,7 +29,7 @@ use Rattle.conn_store.proofs.RuleEntries.{both_full, all_full}
 abbrev pub IsPlaced : Context → List ℕ → List Entry → ℕ → Type 0
 IsPlaced cx renamed from i = (b : Entry) → slice_get from i ≡ Some b → entry_at cx (get_or renamed i 0) ≡ Some (scoped cx.scope b)
 
-first_at : (from : List Entry) (i : ℕ) (numbers : List ℕ) (a : Entry) (ways : List Entry) → AreAt from (i ∷ numbers) (a ∷ ways) → (slice_get from i ≡ Some a) × AreAt from numbers ways
+pub first_at : (from : List Entry) (i : ℕ) (numbers : List ℕ) (a : Entry) (ways : List Entry) → AreAt from (i ∷ numbers) (a ∷ ways) → (slice_get from i ≡ Some a) × AreAt from numbers ways
 first_at from i numbers a ways h = (cc, cc)
 
 pub second_in : (P : ℕ → Type 0) (i j : ℕ) (rest : List ℕ) → All P (i ∷ j ∷ rest) → P j

@@ -8,9 +8,8 @@ use Rattle.hex_cells.specs.Sets.{has, with_cell}
 use Rattle.hex_cells.specs.declared.colours.Colour.{Colour}
 use Rattle.hex_cells.specs.declared.colours.Colour.TheVariants.{Black, White}
 use Rattle.hex_board.specs.Elements.{PlayerBoard}
-use Rattle.hex_board.specs.Places.{Near, cell_of, is_near}
+use Rattle.hex_board.specs.Places.{cell_of, is_near}
 use Rattle.hex_board.specs.Positions.{Position}
-use Rattle.hex_board.proofs.Places.{near_test}
 use Rattle.conn_store.specs.Entries.{IsBetween}
 use Rattle.conn_store.specs.Rules.{AndRule, IsCell, IsGroup, both_of}
 use Rattle.conn_store.specs.Stores.{same_kind}
@@ -71,10 +70,10 @@ adj_reasons : (c : Context) (x y : End)
 unfolding reason_against
 adj_reasons c x y = refl
 
-near_yes : (e : PlayerBoard) (x y : ℕ) → Near e x y → not (is_near e x y) ≡ false
-near_yes e x y n = ap not (sym (near_test e x y true ((λ t. n), (λ t. refl))))
+near_yes : (e : PlayerBoard) (x y : ℕ) → is_near e x y ≡ true → not (is_near e x y) ≡ false
+near_yes e x y n = ap not n
 
-pub adj_right : (c : Context) (a : Entry) (x y : End) → a.x < a.y → Near (elements_at c) a.x a.y → a.kind ≡ Full → a.carrier ≡ 0
+pub adj_right : (c : Context) (a : Entry) (x y : End) → a.x < a.y → is_near (elements_at c) a.x a.y ≡ true → a.kind ≡ Full → a.carrier ≡ 0
     → end_element (elements_at c) x ≡ Some a.x → end_element (elements_at c) y ≡ Some a.y
     → is_other_stone (elements_at c) x ≡ false → is_other_stone (elements_at c) y ≡ false → IsRight c (Adj x y) a
 adj_right c a x y l n k z h i p q =

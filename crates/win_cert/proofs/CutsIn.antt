@@ -25,7 +25,8 @@ use Rattle.win_cert.specs.Entries.{Context, elements_at, entry_at}
 use Rattle.win_cert.specs.Scopes.{elements_in, scope_after}
 use Rattle.win_cert.specs.declared.lines.Line.{Line}
 use Rattle.win_cert.specs.declared.lines.Line.TheVariants.{Or2, Or3}
-use Rattle.win_cert.proofs.CutDerivations.{cases_at, longer, name_earlier, some_entry, taken_back}
+use Rattle.win_cert.proofs.CutDerivations.{cases_at, longer, name_earlier, some_entry}
+use Rattle.conn_store.proofs.RuleTruth.{taken_back}
 use Rattle.win_cert.specs.Freer.{IsFreer, moved_entry}
 use Rattle.win_cert.specs.Contexts.{AreClear, after_lines, context_after}
 use Rattle.win_cert.specs.Derivations.{DerivesOnto, GrowsOn, IsDerivation, given_there}

@@ -60,4 +60,5 @@ mod Supports
 mod Moved
 mod MovedRules
 mod CutsIn
+mod RuleLines
 mod CutCertificates

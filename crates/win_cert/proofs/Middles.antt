@@ -51,13 +51,13 @@ pub if_no : (b : Bool) (x y : ℕ) → b ≡ false → (if b then x else y) ≡ 
 if_no true x y h = absurd (false≢true (sym h))
 if_no false x y h = refl
 
-other_second : (a : ScopedEntry) (u : ℕ) → a.x ≡ u → other_end a u ≡ a.y
+pub other_second : (a : ScopedEntry) (u : ℕ) → a.x ≡ u → other_end a u ≡ a.y
 other_second a u h = if_yes (a.x == u) a.y a.x (eq-eqb a.x u h)
 
-other_first : (a : ScopedEntry) (u : ℕ) → (a.x ≡ u → ⊥) → other_end a u ≡ a.x
+pub other_first : (a : ScopedEntry) (u : ℕ) → (a.x ≡ u → ⊥) → other_end a u ≡ a.x
 other_first a u h = if_no (a.x == u) a.y a.x (ne_eqb a.x u h)
 
-second_then : (a : ScopedEntry) (u : ℕ) → IsEndOf a u → (a.x ≡ u → ⊥) → a.y ≡ u
+pub second_then : (a : ScopedEntry) (u : ℕ) → IsEndOf a u → (a.x ≡ u → ⊥) → a.y ≡ u
 second_then a u (inl h) n = absurd (n h)
 second_then a u (inr h) n = h
 
@@ -94,7 +94,7 @@ pub is_group : (e : PlayerBoard) (u : ℕ) → is_some (cell_of e u) ≡ false �
 is_group e u f k h = both_ways (is_some (cell_of e u)) f (ap is_some (cell_is e u k h))
 
 -- a set of empty cells without the element's
-misses_by : (e : PlayerBoard) (x c : ℕ) → AllEmpty e.board c → is_cell_in e x c ≡ false → Misses e x c
+pub misses_by : (e : PlayerBoard) (x c : ℕ) → AllEmpty e.board c → is_cell_in e x c ≡ false → Misses e x c
 misses_by e x c f n k h i = both_ways (is_cell_in e x c) n (ap (λ o. option_map_or (has c) o false) (cell_is e x k (f k i, h)) ∙ i)
 
 -- ---- what both lines ask

@@ -11,7 +11,8 @@ use Rattle.hex_board.specs.Elements.{PlayerBoard, HasCell, are_joined, edge_elem
 use Rattle.hex_board.specs.Joined.{cells_of, is_joined, leads_in}
 use Rattle.hex_board.specs.Places.{Place, at_cell, at_edge, Beside, IsMember, Near}
 use Rattle.hex_board.specs.Positions.{Within, is_empty_at, stones_of}
-use Rattle.hex_board.proofs.Parts.{is_free, is_first, is_second, is_group, is_other, case_of, edge_below, empty_head, head_cases, head_on, linked_last, none_some, of_first, of_free, of_group, of_second, root_head, some_same}
+use Rattle.hex_board.proofs.Parts.{is_free, is_first, is_second, is_group, is_other, case_of, edge_below, empty_head, find_case, head_cases, head_from_root, head_on, linked_last, none_some, of_first, of_free, of_group, of_second, root_head, some_same}
+use Rattle.hex_board.proofs.GroupLaws.{head_number}
 use Rattle.hex_board.proofs.Placed.{empty_on, stone_full}
 use Rattle.hex_board.proofs.WinLaws.{counted}
 use Rattle.win_cert.proofs.SameTests.{any_same}
@@ -23,23 +24,6 @@ pub record IsFreerOn (e d : PlayerBoard) : Type 0 where
   pub own : Within e.board.size (stones_of e.board e.player)
 
 -- ---- counts of a range
-
-find_case : (p : ℕ → Bool) (a m : ℕ) → ((find p (range_with_len a m) ≡ None) × ((j : ℕ) → a ≤ j → j < a + m → p j ≡ false))
-    ⊎ ((k : ℕ) × (find p (range_with_len a m) ≡ Some k) × (p k ≡ true))
-find_case p a zero = inl (refl, λ j l h. absurd (omega arith))
-find_case p a (suc m) = elim (cases_Bool (p a)) [
-  | inl t ↦ inr (a, ap (λ b. cond b (Some a) (find p (range_with_len (a + 1) m))) t, t)
-  | inr t ↦ elim (find_case p (a + 1) m) [
-    | inl u ↦ inl (
-      ap (λ b. cond b (Some a) (find p (range_with_len (a + 1) m))) t ∙ u.0,
-      λ j l h. elim (cases_eq j a) [
-        | inl e ↦ ap p e ∙ t
-        | inr n ↦ u.1 j (omega arith) (omega arith)
-      ],
-    )
-    | inr u ↦ inr (u.0, ap (λ b. cond b (Some a) (find p (range_with_len (a + 1) m))) t ∙ u.1, u.2)
-  ]
-]
 
 count_grows : (b : Bool) (x y : ℕ) → x ≤ y → cond {A = ℕ} b 1 0 + x ≤ cond {A = ℕ} b 1 0 + y
 count_grows true x y l = omega arith
@@ -145,13 +129,10 @@ root_alike e d f k =
     ap (λ s. has s k && not (list_any (λ j. is_linked d j k) (range_with_len 0 k))) f.own
     ∙ ap (λ b. has (stones_of e.board e.player) k && not b) (any_same (λ j. is_linked d j k) (λ j. is_linked e j k) 0 k (λ j l. linked_alike e d f j k))
 
-root_is_head : (a b c d : Bool) → b ≡ true → c ≡ false → d ≡ false → (a || (b && not c && not d)) ≡ true
-root_is_head a b c d h i j = grind arith
-
 pub head_kept : (e d : PlayerBoard) → IsFreer e d → (k : ℕ) → is_head e k ≡ true → is_head d k ≡ true
 head_kept e d f k h = elim (head_cases e k h) [
   | inl t ↦ empty_head d k (f.fewer k t)
-  | inr t ↦ root_is_head (is_empty_at d.board k) (is_root d k) (is_tied d false k) (is_tied d true k) (root_alike e d f k ∙ t.0) (tied_alike e d f false k ∙ t.1) (tied_alike e d f true k ∙ t.2)
+  | inr t ↦ head_from_root (is_empty_at d.board k) (is_root d k) (is_tied d false k) (is_tied d true k) (root_alike e d f k ∙ t.0) (tied_alike e d f false k ∙ t.1) (tied_alike e d f true k ∙ t.2)
 ]
 
 -- ---- numbers
@@ -173,19 +154,6 @@ head_order e j k l = elim (cases_lt j k) [ inl h ↦ h | inr h ↦ absurd (past 
   where
     past : (x y : ℕ) → x < y → y ≤ x → ⊥
     past x y l m = absurd (omega arith)
-
--- two heads with one number are one cell
-pub head_same : (e : PlayerBoard) (j k : ℕ) → is_head e j ≡ true → is_head e k ≡ true → head_element e j ≡ head_element e k → j ≡ k
-head_same e j k h i q = elim (cases_eq j k) [
-  | inl s ↦ s
-  | inr n ↦ elim (cases_lt j k) [
-    | inl l ↦ absurd (differ (head_element e j) (head_element e k) q (head_less e j k l h))
-    | inr l ↦ absurd (differ (head_element e k) (head_element e j) (sym q) (head_less e k j (omega arith) i))
-  ]
-]
-  where
-    differ : (x y : ℕ) → x ≡ y → x < y → ⊥
-    differ x y q l = absurd (omega arith)
 
 -- the head with a number
 pub head_there : (e : PlayerBoard) (y : ℕ) → edge_elements e ≤ y → y < element_count e → (k : ℕ) × (is_head e k ≡ true) × (head_element e k ≡ y)
@@ -212,8 +180,8 @@ moved_head e d k on h =
     elim (find_case p 0 (n * n)) [
       | inl u ↦ absurd (both_ways (p k) (u.1 k (omega arith) (omega (arith, head_on e k on h))) (and_from (is_head e k) (head_element e k == x) h (eq-eqb x x refl)))
       | inr u ↦
-          let t = and_parts (is_head e u.0) (head_element e u.0 == x) u.2 in
-          let same : u.0 ≡ k = head_same e u.0 k t.0 h (eqb-true (head_element e u.0) x t.1) in
+          let t = and_parts (is_head e u.0) (head_element e u.0 == x) u.3 in
+          let same : u.0 ≡ k = head_number e u.0 k t.0 h (eqb-true (head_element e u.0) x t.1) in
           moved_found e d x (find p (range_with_len 0 (n * n))) u.0 u.1 ∙ ap (head_element d) same
     ]
 
@@ -230,7 +198,7 @@ moved_low e d x l =
     elim (find_case p 0 (n * n)) [
       | inl u ↦ ap (λ o. option_map_or (head_element d) o x) u.0
       | inr u ↦
-          let t = and_parts (is_head e u.0) (head_element e u.0 == x) u.2 in
+          let t = and_parts (is_head e u.0) (head_element e u.0 == x) u.3 in
           absurd (low x (edge_elements e) (head_element e u.0) l (head_from e u.0) (eqb-true (head_element e u.0) x t.1))
     ]
   where

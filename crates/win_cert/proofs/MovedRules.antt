@@ -11,7 +11,9 @@ use Rattle.hex_cells.specs.Sets.{has, with_cell}
 use Rattle.hex_board.specs.Elements.{PlayerBoard, HasCell, edge_element, edge_elements, element_count, head_element, is_head}
 use Rattle.hex_board.specs.Positions.{Within, is_empty_at, stones_of}
 use Rattle.hex_board.proofs.Parts.{edge_below, empty_head, head_cases, none_some, of_free, some_same}
+use Rattle.hex_board.proofs.GroupLaws.{head_number}
 use Rattle.hex_board.proofs.Placed.{stone_full}
+use Rattle.hex_board.proofs.Places.{near_in, near_out}
 use Rattle.std.proofs.lemmas.Bool.{and_parts, false_from_ne_true}
 use Rattle.conn_store.specs.Entries.{IsBetween, IsValid, Misses}
 use Rattle.conn_store.specs.Rules.{AndRule, AreAt, FollowsBy, FollowsFrom, IsCell, IsChain, IsGroup, OrRule, is_in_all, union_of}
@@ -27,7 +29,8 @@ use Rattle.win_cert.specs.declared.lines.End.{End}
 use Rattle.win_cert.specs.declared.lines.End.TheVariants.{At, First, Second}
 use Rattle.win_cert.specs.declared.lines.Line.{Line}
 use Rattle.win_cert.specs.Freer.{IsFreer, moved_element, moved_entry}
-use Rattle.win_cert.proofs.Moved.{IsFreerOn, cell_back, cell_moves, edge_alike, head_kept, head_same, head_there, moved_edge, moved_head, moved_less, moved_low, moved_same, near_moves, numbers_apart}
+use Rattle.win_cert.proofs.CutLines.{first_at}
+use Rattle.win_cert.proofs.Moved.{IsFreerOn, cell_back, cell_moves, edge_alike, head_kept, head_there, moved_edge, moved_head, moved_less, moved_low, moved_same, near_moves, numbers_apart}
 
 -- ---- pairs
 
@@ -83,7 +86,7 @@ group_stays e d f u l g k h =
       | inl m ↦ absurd (numbers_apart e d f.freer u k m to)
       | inr m ↦
           let (r, i, q) = head_there e u m l in
-          let same : k ≡ r = head_same d k r (empty_head d k h.0) (head_kept e d f.freer r i) (to ∙ ap (moved_element e d) (sym q) ∙ moved_head e d r f.own i) in
+          let same : k ≡ r = head_number d k r (empty_head d k h.0) (head_kept e d f.freer r i) (to ∙ ap (moved_element e d) (sym q) ∙ moved_head e d r f.own i) in
           elim (head_cases e r i) [
             | inl t ↦ g r (t, of_free e r t ∙ ap Some q)
             | inr t ↦
@@ -109,9 +112,6 @@ all_at_move e d from (i ∷ numbers) (a ∷ ways) h =
 -- each entry is valid
 abbrev pub AreValid : PlayerBoard → List Entry → Type 0
 AreValid e from = (i : ℕ) (a : Entry) → slice_get from i ≡ Some a → IsValid e a
-
-first_at : (from : List Entry) (i : ℕ) (numbers : List ℕ) (a : Entry) (ways : List Entry) → AreAt from (i ∷ numbers) (a ∷ ways) → (slice_get from i ≡ Some a) × AreAt from numbers ways
-first_at from i numbers a ways h = (cc, cc)
 
 -- ---- each rule
 
@@ -164,7 +164,7 @@ by_moves : (e d : PlayerBoard) → IsFreerOn e d → (from : List Entry) (a : En
 by_moves e d f from a Adjacent all v h =
     let l : a.x < a.y = v.order in
     let m : a.y < element_count e = v.elements in
-    (near_moves e d f.freer f.own a.x a.y (omega arith) m h.0, h.1, h.2)
+    (near_in d (moved_element e d a.x) (moved_element e d a.y) (near_moves e d f.freer f.own a.x a.y (omega arith) m (near_out e a.x a.y h.0)), h.1, h.2)
 by_moves e d f from a (AndGroup i j) all v (b, g, x, u, y, t, r, w, s, k, c) =
     let one = first_at from i (j ∷ []) b (g ∷ []) t in
     let two = first_at from j [] g [] one.1 in

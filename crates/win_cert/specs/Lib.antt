@@ -16,4 +16,5 @@ pub mod Cutting
 pub mod Freer
 pub mod Derivations
 pub mod Showing
+pub mod RuleLines
 pub mod Laws

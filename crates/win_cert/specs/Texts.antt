@@ -2,12 +2,10 @@
 -- feed.
 use Rattle.std.specs.Prelude.{ℕ, List, [], ◌∷◌, ◌++◌, map, codes}
 use Rattle.std.specs.Fmt.{decimal}
-use Rattle.std.specs.List.{filter, flat_map, join_with_byte}
-use Rattle.hex_cells.specs.Sets.{has}
+use Rattle.std.specs.List.{flat_map, join_with_byte}
+pub use Rattle.hex_cells.specs.Colours.{colour_word}
+pub use Rattle.hex_cells.specs.Vertices.{vertices_of}
 use Rattle.hex_cells.specs.Vertices.{vertex_of}
-use Rattle.hex_cells.specs.declared.colours.Colour.{Colour}
-use Rattle.hex_cells.specs.declared.colours.Colour.TheVariants.{Black, White}
-use Rattle.hex_board.specs.Joined.{cells_of}
 use Rattle.conn_store.specs.declared.entries.Kind.{Kind}
 use Rattle.conn_store.specs.declared.entries.Kind.TheVariants.{Full, Semi}
 use Rattle.win_cert.specs.declared.certs.Cert.{Cert}
@@ -24,17 +22,9 @@ space = 32
 abbrev pub line_feed : ℕ
 line_feed = 10
 
-abbrev pub colour_word : Colour → List ℕ
-colour_word Black = codes "black"
-colour_word White = codes "white"
-
 abbrev pub kind_word : Kind → List ℕ
 kind_word Full = codes "full"
 kind_word Semi = codes "semi"
-
--- the vertices of the set's cells on the board of size n, in rising order of cells
-abbrev pub vertices_of : ℕ → ℕ → List (List ℕ)
-vertices_of n s = map (vertex_of n) (filter (has s) (cells_of n))
 
 -- the word for an end: a vertex, or the name of one of the player's edges
 abbrev pub end_word : ℕ → End → List ℕ

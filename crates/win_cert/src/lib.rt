@@ -18,7 +18,8 @@
 //! entry rests, and no other (specs/Cuts.antt, Derivations.antt). `raise` changes the version alone
 //! and keeps the verdict. What each line gives, the reasons in their order, accepted and the
 //! verdict are in specs/Entries.antt, Reasons.antt and Verdicts.antt; proofs/Vectors.antt computes
-//! them on certificates.
+//! them on certificates. A line has no reason against it exactly where its rule of connection
+//! applies ([`lines_are_rules`]).
 //!
 //! **What is only tested, or not said.** That calls get their memory; the time, which is linear in
 //! the length of the text. What the derived texts of [`CertError`] are.
@@ -43,6 +44,7 @@ mod raising;
 mod reader;
 mod reading;
 mod refusals;
+mod rule_lines;
 mod spelling;
 mod steps;
 mod values;
@@ -58,5 +60,6 @@ pub use lists::{Bytes, Numbers};
 pub use raising::raise;
 pub use reading::read;
 pub use refusals::{CertError, Memory};
+pub use rule_lines::lines_are_rules;
 pub use spelling::written_text_is_read_back;
 pub use writing::write;

@@ -6,7 +6,7 @@ use Rattle.hex_plan.proofs.winning.winning_cell.Goals as goal
 pub unwrap-requires : goal.unwrap-requires
 unwrap-requires c =
     full_some c.args.report.now c.store-store.result.now c.entries.result.now c.args.number c.requires.entry.0 c.index-entries-number.result c.least.result
-    c.store-store.ensures.value c.entries.ensures.value c.entries.ensures.sound c.requires.entry.1 c.index-entries-number.is c.in-Full.is
+    c.store-store.ensures.value c.entries.ensures.value c.entries.ensures.true_entries c.requires.entry.1 c.index-entries-number.is c.in-Full.is
     (within_of c.store-store.result.now.elements c.board.result.now c.colour.result c.stones-stones.result c.board.ensures c.colour.ensures c.stones-stones.ensures.value c.stones-stones.ensures.on_board)
     c.requires.apart c.least.ensures
 

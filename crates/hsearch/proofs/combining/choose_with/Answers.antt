@@ -18,3 +18,6 @@ thirds-preserved c = record {
       (c.thirds.invariant.done q l))
       c.choose_three.ensures.chosen;
 }
+
+pub returns-clause-chosen : goal.returns-clause-chosen
+returns-clause-chosen c = λ q l. c.thirds.invariant.done q (omega (arith, c.thirds-test.false))

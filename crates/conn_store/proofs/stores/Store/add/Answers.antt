@@ -1,5 +1,5 @@
 use Rattle.std.proofs.Common.{refl}
-use Rattle.conn_store.proofs.Tables.{IsLooked, looked_full, looked_in, looked_out, looked_room, numbers_here}
+use Rattle.conn_store.proofs.Tables.{IsLooked, looked_full, looked_in, looked_not_full, looked_out, looked_room, numbers_here}
 use Rattle.conn_store.proofs.stores.Store.add.Goals as goal
 
 pub has_inside-requires-clause-numbers : goal.has_inside-requires-clause-numbers
@@ -40,3 +40,9 @@ returns-clause-dominated c =
     let k : IsLooked c.args.self.now c.args.entry c.held-held.result c.entries.result.now c.has_inside.result =
     record { held = c.held-held.ensures.numbers; few = c.held-held.ensures.few; same_entries = c.entries.ensures.value; answer = c.has_inside.ensures } in
     (λ e. absurd (cc), λ g. absurd (looked_in _ _ _ _ _ k c.if-has_inside.false g))
+
+pub returns-clause-full : goal.returns-clause-full
+returns-clause-full c =
+    let k : IsLooked c.args.self.now c.args.entry c.held-held.result c.entries.result.now c.has_inside.result =
+    record { held = c.held-held.ensures.numbers; few = c.held-held.ensures.few; same_entries = c.entries.ensures.value; answer = c.has_inside.ensures } in
+    (λ e. absurd (cc), λ g. absurd (looked_not_full _ _ _ _ _ _ k c.most.ensures c.if-held-most.false g.1))

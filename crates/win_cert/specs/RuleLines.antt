@@ -1,0 +1,31 @@
+-- What the law of lines says: which rule of connection a line without a reason against it stands for.
+use Rattle.std.specs.Prelude.{◌≡◌, ℕ, ◌≤◌, List, Some, None, All, map}
+use Rattle.hex_board.specs.Elements.{PlayerBoard}
+use Rattle.conn_store.specs.Entries.{IsValid}
+use Rattle.conn_store.specs.Rules.{AndRule, IsCell, IsGroup}
+use Rattle.conn_store.specs.declared.entries.Entry.{Entry}
+use Rattle.win_cert.specs.Cuts.{scoped}
+use Rattle.win_cert.specs.Entries.{Context, elements_at, entry_at}
+use Rattle.win_cert.specs.Reasons.{reason_against}
+use Rattle.win_cert.specs.Statements.{derivation}
+use Rattle.win_cert.specs.declared.lines.Line.{Line}
+
+-- the numbers are those of earlier lines that gave these entries in the line's scope, each a valid
+-- one
+pub record AreNamed (c : Context) (numbers : List ℕ) (entries : List Entry) : Type 0 where
+  pub size : c.base.board.size ≤ 11
+  pub at : map (entry_at c) numbers ≡ map (λ (a : Entry). Some (scoped c.scope a)) entries
+  pub valid : All (IsValid (elements_at c)) entries
+
+-- there is no reason against the line
+abbrev pub IsClear : Context → Line → Type 0
+IsClear c line = reason_against c (derivation line) ≡ None
+
+-- the rule of AND applies to the entries over a group
+abbrev pub JoinOverGroup : PlayerBoard → Entry → Entry → Type 0
+JoinOverGroup e a b = (x : ℕ) × (u : ℕ) × (y : ℕ) × AndRule e a b x u y × IsGroup e u
+
+-- the rule of AND applies to the entries over an empty cell
+abbrev pub JoinOverCell : PlayerBoard → Entry → Entry → Type 0
+JoinOverCell e a b =
+    (x : ℕ) × (u : ℕ) × (y : ℕ) × (k : ℕ) × AndRule e a b x u y × IsCell e u k
