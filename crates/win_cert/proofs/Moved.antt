@@ -11,7 +11,7 @@ use Rattle.hex_board.specs.Elements.{PlayerBoard, HasCell, are_joined, edge_elem
 use Rattle.hex_board.specs.Joined.{cells_of, is_joined, leads_in}
 use Rattle.hex_board.specs.Places.{Place, at_cell, at_edge, Beside, IsMember, Near}
 use Rattle.hex_board.specs.Positions.{Within, is_empty_at, stones_of}
-use Rattle.hex_board.proofs.Parts.{is_free, is_first, is_second, is_group, is_other, case_of, edge_below, empty_head, head_cases, head_on, linked_last, none_some, of_first, of_free, of_group, of_second, root_head, some_same}
+use Rattle.hex_board.proofs.Parts.{is_free, is_first, is_second, is_group, is_other, case_of, edge_below, empty_head, find_case, head_cases, head_from_root, head_on, linked_last, none_some, of_first, of_free, of_group, of_second, root_head, some_same}
 use Rattle.hex_board.proofs.GroupLaws.{head_number}
 use Rattle.hex_board.proofs.Placed.{empty_on, stone_full}
 use Rattle.hex_board.proofs.WinLaws.{counted}
