@@ -19,7 +19,8 @@ use Rattle.win_cert.proofs.ScopeLines.{done_gives, move_gives}
 use Rattle.hex_solve.specs.Ledgers.{LedgerData, ShowsWin, read_of, with_line}
 use Rattle.hex_solve.specs.Strong.{ShowsIn}
 use Rattle.hex_solve.proofs.AddedLines.{done_two, move_two}
-use Rattle.hex_solve.proofs.LedgerLaws.{base_same, had_room, number_next, read_next, with_two}
+use Rattle.hex_solve.proofs.LedgerLaws.{had_room, number_next, read_next}
+use Rattle.hex_solve.proofs.TwoLines.{base_same, with_two}
 
 -- ---- a fact of what is read after two lines
 

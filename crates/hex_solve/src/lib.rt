@@ -3,7 +3,7 @@
 //! **Nouns.** *First* of a position is the player who is told to win by trying each move, *need* is
 //! how many positions a search enters that tries the cells in rising order, and *bound* is the most
 //! that it can be with so many empty cells. A *ledger* is what is kept of a player's certificate
-//! while a search goes on.
+//! while a search goes on. A *reply* is a cell on which a stone isn't answered yet by such lines.
 //!
 //! **A caller** asks [`solve`] and takes its [`Solved`] apart:
 //!
@@ -19,8 +19,9 @@
 //! nine cells are empty (specs/Solved.antt and Deciding.antt).
 //!
 //! **What is only tested, or not said.** That calls get their memory; the time. That connections
-//! make the search shorter, beyond a semi entry between the mover's edges at the root. That a full
-//! board has a winner: [`Solved::Open`] would show one that has none.
+//! make the search shorter, beyond a semi entry between the mover's edges at the root; the search
+//! with them tells a winner or nothing, and no clause says what it enters. That a full board has a
+//! winner: [`Solved::Open`] would show one that has none.
 //!
 //! **Limits.** Those of `win_cert`: a certificate has at most 200,000 lines. A position has two
 //! ledgers of at most so many.
