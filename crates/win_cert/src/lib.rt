@@ -1,7 +1,7 @@
 //! Certificates: texts that show that a player wins.
 //!
 //! **Nouns.** A certificate ([`Cert`]) is a board, a player, *derivation lines* ([`Line`]) and a
-//! claim. Each line gives an *entry* in its *scope*, a set of cells on which the player is taken to
+//! claim; each of these lines, and the claim, is a *statement* ([`Statement`]). Each line gives an *entry* in its *scope*, a set of cells on which the player is taken to
 //! have stones too, or sets the scope of the lines after it. A certificate is *accepted* where none
 //! of thirteen reasons against a line or the claim applies; the *verdict* on it is yes, with the
 //! claim and the carrier of its entry, or the first line with a reason against it and that reason.
@@ -44,7 +44,7 @@ mod reader;
 mod reading;
 mod refusals;
 mod spelling;
-mod steps;
+mod statements;
 mod values;
 mod words;
 mod writing;
@@ -59,4 +59,5 @@ pub use raising::raise;
 pub use reading::read;
 pub use refusals::{CertError, Memory};
 pub use spelling::written_text_is_read_back;
+pub use statements::Statement;
 pub use writing::write;
