@@ -18,6 +18,8 @@ mod of_hex_game;
 #[cfg(test)]
 mod of_hex_io;
 #[cfg(test)]
+mod of_hex_solve;
+#[cfg(test)]
 mod of_hsearch;
 #[cfg(test)]
 mod of_htp_line;

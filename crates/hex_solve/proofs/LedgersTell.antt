@@ -1,0 +1,153 @@
+-- The end of the plain search: the certificate of a ledger, or why there is none.
+use Rattle.std.proofs.Common.{◌≡◌, ℕ, ◌+◌, ◌*◌, ◌<◌, ◌≤◌, ◌&&◌, not, true, false, Bool, All, [], Some, length, refl, sym, ◌∙◌, ap, subst, inl, inr, arith}
+use Rattle.std.proofs.lemmas.Bool.{cases_lt}
+use Rattle.hex_cells.specs.Colours.{other_of}
+use Rattle.hex_cells.specs.Sets.{has, without_cells}
+use Rattle.hex_cells.specs.declared.colours.Colour.{Colour}
+use Rattle.hex_cells.specs.declared.colours.Colour.TheVariants.{Black, White}
+use Rattle.hex_cells.proofs.Bits.{has_none, has_without_cells, same_set}
+use Rattle.hex_board.specs.Elements.{PlayerBoard}
+use Rattle.hex_board.specs.Positions.{Position, stones_of}
+use Rattle.hex_board.specs.Wins.{empty_count}
+use Rattle.conn_store.specs.declared.entries.Kind.{Kind}
+use Rattle.conn_store.specs.declared.entries.Kind.TheVariants.{Full, Semi}
+use Rattle.win_cert.specs.Scopes.{player_board}
+use Rattle.win_cert.specs.Writable.{IsLineOf}
+use Rattle.win_cert.specs.declared.certs.Cert.{Cert}
+use Rattle.win_cert.specs.declared.certs.TheConstants.{LATEST_VERSION, MOST_LINES}
+use Rattle.hex_solve.specs.Deciding.{need}
+use Rattle.hex_solve.specs.Ledgers.{IsLedger, LedgerData, ShowsWin, count_of, read_of}
+use Rattle.hex_solve.specs.Solved.{claim_for, few_cells}
+use Rattle.hex_solve.specs.Searching.{IsShown, tree_lines}
+use Rattle.win_cert.specs.Showing.{GivesEdges, Shows, scope_of}
+use Rattle.hex_solve.specs.Telling.{IsCertOf, IsCertifiedWin, IsToldBy, IsTooLong}
+use Rattle.win_cert.proofs.Accepting.{accepted}
+use Rattle.hex_solve.proofs.AddedLines.{shown_below}
+use Rattle.hex_solve.proofs.FirstWins.{first_wins}
+use Rattle.hex_solve.proofs.TreeLines.{tree_few}
+
+-- ---- the certificate
+
+no_more : (a : Bool) → (a && not a) ≡ false
+no_more true = refl
+no_more false = refl
+
+-- on the board itself the scope is empty
+pub no_scope : (base : PlayerBoard) → scope_of base base.board ≡ 0
+no_scope base = let s = stones_of base.board base.player in same_set (without_cells s s) 0 (λ k. has_without_cells s s k ∙ (no_more (has s k) ∙ sym (has_none k)))
+
+pub certified : (d : LedgerData) (claim : Kind) (cert : Cert) → IsLedger d → d.lost ≡ 0 → ShowsWin d d.base.board claim cert.entry → cert.version ≡ LATEST_VERSION → cert.board ≡ d.base.board
+    → cert.player ≡ d.base.player → cert.claim ≡ claim → cert.lines ≡ d.lines → IsCertOf d claim cert
+certified d claim cert w z f v b p k l =
+    let base : PlayerBoard = player_board cert in
+    let same : base ≡ d.base = ap (λ (x : Position). record { board = x; player = cert.player }) b ∙ ap (λ (c : Colour). record { board = d.base.board; player = c }) p in
+    let e : LedgerData = record { base = base; lines = cert.lines; lost = d.lost } in
+    let is : e ≡ d = ap (λ (x : PlayerBoard). record { base = x; lines = cert.lines; lost = d.lost }) same ∙ ap (λ xs. record { base = d.base; lines = xs; lost = d.lost }) l in
+    let ledger : IsLedger e = subst IsLedger (sym is) w in
+    let shown : Shows (read_of d) d.base.board claim (scope_of d.base d.base.board) cert.entry = f z in
+    let gives : GivesEdges (read_of d) claim 0 shown.carrier cert.entry = subst (λ s. GivesEdges (read_of d) claim s shown.carrier cert.entry) (no_scope d.base) shown.gives in
+    let there : GivesEdges (read_of e) cert.claim 0 shown.carrier cert.entry = subst (λ (x : Kind). GivesEdges (read_of e) x 0 shown.carrier cert.entry) (sym k)
+    (subst (λ (x : LedgerData). GivesEdges (read_of x) claim 0 shown.carrier cert.entry) (sym is) gives) in
+    record {
+      board = b;
+      player = p;
+      claims = k;
+      lines = l;
+      writable = (
+        record {
+          version = inr v;
+          lines = subst (λ n. All (IsLineOf n cert.board.size) cert.lines) (sym v) ledger.form;
+          entry = shown_below d d.base.board claim (scope_of d.base d.base.board) cert.entry w shown;
+        },
+        ledger.few,
+      );
+      accepted = (accepted cert shown.carrier ledger.clear there).0;
+    }
+
+-- ---- what is told
+
+pub won_told : (p : Position) (mover : Colour) (claim : Kind) (line : ℕ) (d : LedgerData) (cert : Cert) (winner : Colour) → IsToldBy p mover claim line d → IsCertOf d claim cert → winner ≡ d.base.player
+    → IsCertifiedWin p mover winner cert × (length cert.lines ≤ 2 * need p mover)
+won_told p mover claim line d cert winner t c w = (
+  record {
+    certified = record {
+      writable = c.writable;
+      accepted = c.accepted;
+      board = c.board ∙ t.board;
+      player = c.player ∙ sym w;
+      claims = c.claims ∙ (t.claims ∙ ap (λ (v : Colour). claim_for v mover) (sym w));
+    };
+    wins = first_wins p mover winner (t.first_is ∙ ap Some (sym w));
+  },
+  subst (λ xs. length xs ≤ 2 * need p mover) (sym c.lines) (fewer (length d.lines) d.lost (2 * need p mover) t.entered),
+)
+  where
+    fewer : (a b c : ℕ) → a + b ≤ c → a ≤ c
+    fewer a b c l = omega arith
+
+over_nine : (p : Position) (claim : Kind) (n : ℕ) → n ≤ tree_lines claim (empty_count p) → MOST_LINES < n → few_cells < empty_count p
+over_nine p claim n l m = elim (cases_lt 9 (empty_count p)) [
+  | inl h ↦ h
+  | inr h ↦ let t : tree_lines claim (empty_count p) ≤ 7220 = tree_few claim (empty_count p) h in absurd (omega arith)
+]
+
+pub long_told : (p : Position) (mover : Colour) (claim : Kind) (line : ℕ) (d : LedgerData) (winner : Colour) (lines : ℕ) → IsToldBy p mover claim line d → winner ≡ d.base.player → IsLedger d → 0 < d.lost → MOST_LINES < lines
+    → IsTooLong p mover winner lines
+long_told p mover claim line d winner lines t w ledger lost l =
+    let full : length d.lines ≡ MOST_LINES = ledger.full lost in
+    let many : MOST_LINES < count_of d = omega arith in
+    record {
+      wins = first_wins p mover winner (t.first_is ∙ ap Some (sym w));
+      long = l;
+      large = over_nine p claim (count_of d) t.tree many;
+      needs = let e : count_of d ≤ 2 * need p mover = t.entered in omega arith;
+    }
+
+-- ---- the two ledgers at the end
+
+pub empty_ledger : Position → Colour → LedgerData
+empty_ledger p c = record { base = record { board = p; player = c }; lines = []; lost = 0 }
+
+pub semi_for : (c : Colour) → Semi ≡ claim_for c c
+semi_for Black = refl
+semi_for White = refl
+
+full_for : (c : Colour) → Full ≡ claim_for (other_of c) c
+full_for Black = refl
+full_for White = refl
+
+pub own_told : (p : Position) (mover : Colour) (line : ℕ) (own other mine theirs : LedgerData) → own.base ≡ record { board = p; player = mover } → count_of own ≡ 0
+    → IsShown true p mover line (own, other) (mine, theirs) → IsToldBy p mover Semi line mine
+own_told p mover line own other mine theirs e z (g, s, q, f, b) =
+    let base : mine.base ≡ record { board = p; player = mover } = g.base ∙ e in
+    let board : mine.base.board ≡ p = ap (λ (x : PlayerBoard). x.board) base in
+    let player : mine.base.player ≡ mover = ap (λ (x : PlayerBoard). x.player) base in
+    record {
+      board = board;
+      claims = semi_for mover ∙ ap (λ (c : Colour). claim_for c mover) (sym player);
+      first_is = f ∙ ap Some (sym player);
+      shows = subst (λ (x : Position). ShowsWin mine x Semi line) (sym board) s;
+      entered = from_none (count_of mine) (count_of own) (2 * need p mover) z g.count;
+      tree = from_none (count_of mine) (count_of own) (tree_lines Semi (empty_count p)) z b;
+    }
+  where
+    from_none : (x y m : ℕ) → y ≡ 0 → x ≤ y + m → x ≤ m
+    from_none x y m q l = omega arith
+
+pub other_told : (p : Position) (mover : Colour) (line : ℕ) (own other mine theirs : LedgerData) → other.base ≡ record { board = p; player = other_of mover } → count_of other ≡ 0
+    → IsShown false p mover line (own, other) (mine, theirs) → IsToldBy p mover Full line theirs
+other_told p mover line own other mine theirs e z (g, s, q, f, b) =
+    let base : theirs.base ≡ record { board = p; player = other_of mover } = g.base ∙ e in
+    let board : theirs.base.board ≡ p = ap (λ (x : PlayerBoard). x.board) base in
+    let player : theirs.base.player ≡ other_of mover = ap (λ (x : PlayerBoard). x.player) base in
+    record {
+      board = board;
+      claims = full_for mover ∙ ap (λ (c : Colour). claim_for c mover) (sym player);
+      first_is = f ∙ ap Some (sym player);
+      shows = subst (λ (x : Position). ShowsWin theirs x Full line) (sym board) s;
+      entered = from_none (count_of theirs) (count_of other) (2 * need p mover) z g.count;
+      tree = from_none (count_of theirs) (count_of other) (tree_lines Full (empty_count p)) z b;
+    }
+  where
+    from_none : (x y m : ℕ) → y ≡ 0 → x ≤ y + m → x ≤ m
+    from_none x y m q l = omega arith

@@ -1,0 +1,6 @@
+pub mod Deciding
+pub mod Solved
+pub mod Ledgers
+pub mod Marks
+pub mod Searching
+pub mod Telling

@@ -1,0 +1,21 @@
+//! What the solver answers.
+
+use hex_board::Board;
+use hex_cells::Colour;
+use hsearch::Report;
+use win_cert::Cert;
+
+/// Who wins a position, or why that is not told.
+#[derive(Drop)]
+pub enum Solved {
+    /// The winner, with a certificate that he wins.
+    Won { winner: Colour, cert: Cert },
+    /// The budget is spent. Where connections were looked for, there is the report of the player
+    /// to move, too.
+    Unknown { spent: u64, own: Option<Report> },
+    /// The winner. The certificate that was found has too many lines to be written: so many.
+    TooLong { winner: Colour, lines: u64 },
+    /// A full board that keeps all stones, on which nobody is joined. There is none, by a theorem
+    /// of Hex that is not proved here.
+    Open { full: Board },
+}

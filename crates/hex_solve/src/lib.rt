@@ -1,0 +1,41 @@
+//! The solver: who wins a position, with a certificate.
+//!
+//! **Nouns.** *First* of a position is the player who is told to win by trying each move, *need* is
+//! how many positions a search enters that tries the cells in rising order, and *bound* is the most
+//! that it can be with so many empty cells. A *ledger* is what is kept of a player's certificate
+//! while a search goes on.
+//!
+//! **A caller** asks [`solve`] and takes its [`Solved`] apart:
+//!
+//! ```text
+//! match solve(alloc, &board, mover, hsearch, budget)? {
+//!     Solved::Won { winner, cert } => ..
+//! ```
+//!
+//! **What is proved.** A winner wins, whether his certificate fits or not. The certificate of one
+//! who has won can be written, is accepted, and is of this board, for him. It is unknown who wins
+//! only where the budget is below need, and need is at most bound ([`need_is_bounded`]). A
+//! certificate is too long only where need is above half the lines that one may have and more than
+//! nine cells are empty (specs/Solved.antt and Deciding.antt).
+//!
+//! **What is only tested, or not said.** That calls get their memory; the time. That connections
+//! make the search shorter, beyond a semi entry between the mover's edges at the root. That a full
+//! board has a winner: [`Solved::Open`] would show one that has none.
+//!
+//! **Limits.** Those of `win_cert`: a certificate has at most 200,000 lines. A position has two
+//! ledgers of at most so many.
+#![tactic(auto)]
+
+mod adding;
+mod answers;
+mod laws;
+mod ledgers;
+mod refusals;
+mod searching;
+mod solving;
+mod telling;
+
+pub use answers::Solved;
+pub use laws::{first_implies_wins, need_is_bounded};
+pub use refusals::Memory;
+pub use solving::solve;

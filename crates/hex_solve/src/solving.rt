@@ -1,0 +1,87 @@
+//! The solver.
+
+ghost use Rattle.std.specs.Prelude.{◌≡◌, IfNone, IfOk, IfSome, None};
+ghost use Rattle.hex_board.specs.Joined.{winner_of};
+ghost use Rattle.hex_board.specs.Positions.{IsPosition};
+ghost use Rattle.hex_solve.specs.Solved.{IsReportOf, IsUndecided, OpenIsFull, TooLongNeedsMany};
+ghost use Rattle.hex_solve.specs.Solved.{UnknownNeedsMore, WinnerWins, WonIsCertified, WonIsShort};
+ghost use Rattle.hex_solve.specs.Telling.{IsCertifiedWin};
+
+use super::answers::Solved;
+use super::refusals::Memory;
+use super::telling::search_plainly;
+use conn_store::Kind;
+use hex_board::Board;
+use hex_cells::Colour;
+use hsearch::{Report, connect};
+use std::alloc::Global;
+use win_cert::{Cert, accepted_certificates_win, cut, edge_numbers, raise};
+
+/// Who wins the board, on which no player is joined, with `mover` to place next.
+///
+/// With `hsearch` it first asks for the mover's report: a semi entry between his edges is a win.
+/// Else a search goes depth first and tries the cells in rising order, up to the first that wins;
+/// it enters at most `budget` positions, each as often as a list of moves leads to it.
+///
+/// It answers the winner with a certificate of the latest version, that the budget is spent, the
+/// winner alone where the certificate would have too many lines, or a full board on which nobody is
+/// joined, if there is one. It refuses for want of memory alone.
+pub fn solve(
+    alloc: Global,
+    board: &Board,
+    mover: Colour,
+    hsearch: bool,
+    budget: u64,
+) -> Result<Solved, Memory>
+    requires nobody { winner_of board.now ≡ None }
+    ensures wins { IfOk result (WinnerWins board.now mover) }
+    ensures won { IfOk result (WonIsCertified board.now mover) }
+    ensures short { IfOk result (WonIsShort board.now mover hsearch) }
+    ensures unknown { IfOk result (UnknownNeedsMore board.now mover hsearch budget) }
+    ensures too_long { IfOk result (TooLongNeedsMany board.now mover) }
+    ensures open { IfOk result (OpenIsFull board.now) }
+{
+    if !hsearch {
+        return search_plainly(alloc, board, mover, None, budget);
+    }
+    let own = connect(alloc, board, mover)?;
+    match by_connections(alloc, board, mover, &own)? {
+        Some(cert) => Ok(Solved::Won {
+            winner: mover,
+            cert,
+        }),
+        None => search_plainly(alloc, board, mover, Some(own), budget),
+    }
+}
+
+// What connections decide: a certificate that the mover wins, cut from the first semi entry between
+// his edges in his report. `None` exactly where the report has no such entry.
+fn by_connections(
+    alloc: Global,
+    board: &Board,
+    mover: Colour,
+    own: &Report,
+) -> Result<Option<Cert>, Memory>
+    requires nobody { winner_of board.now ≡ None }
+    requires own { IsReportOf board.now mover own.now }
+    ensures won { IfOk result (λ won. IfSome won (IsCertifiedWin board.now mover mover)) }
+    ensures none { IfOk result (λ won. IfNone won (IsUndecided own.now)) }
+{
+    accepted_certificates_win();
+    boards_are_positions(board);
+    let semi = edge_numbers(own.store(), Kind::Semi);
+    if semi.count == 0 {
+        return Ok(None);
+    }
+    let cert = cut(alloc, own, semi.at[0])?;
+    Ok(Some(raise(alloc, &cert)?))
+}
+
+// The board has 1 to 11 rows, and its stones lie on it and have no cell in common.
+fn boards_are_positions(board: &Board)
+    ensures { IsPosition board.now.size board.now.black board.now.white }
+{
+    let _size = board.size();
+    let _black = board.stones(Colour::Black);
+    let _white = board.stones(Colour::White);
+}
