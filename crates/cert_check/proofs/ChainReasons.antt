@@ -11,7 +11,8 @@ use Rattle.conn_store.specs.declared.entries.Kind.TheVariants.{Full, Semi}
 use Rattle.win_cert.specs.Entries.{Context, ScopedEntry, and_entry, carriers_of, elements_at, entries_at, entry_at, entry_between, gives, is_end, key_entry, middle_of, other_end}
 use Rattle.win_cert.specs.Reasons.{Reason, holds_of_chain, reason_against, is_bad_reference, is_wrong_scope, no_common_middle, carriers_meet, end_in_carrier, middle_kind}
 use Rattle.win_cert.specs.Scopes.{elements_in}
-use Rattle.win_cert.specs.Statements.{derivation, is_cell_in, may_take, share_cell}
+use Rattle.win_cert.specs.Statements.{is_cell_in, may_take, share_cell}
+use Rattle.win_cert.specs.declared.statements.Statement.TheVariants.{Derivation}
 use Rattle.cert_check.specs.Keeping.{AreNamed, IsGivenOn, TakesKind, chain_line, entry_of}
 use Rattle.cert_check.specs.declared.given.Given.{Given}
 use Rattle.cert_check.proofs.ReasonLaws.{chain_reasons, told, told_next}
@@ -49,15 +50,15 @@ by_middle c over_cell a b (Some u) = refl
 
 -- the four tests, over the entries that are named
 after_scopes : (c : Context) (over_cell : Bool) (i j : ℕ) (a b : ScopedEntry) → entries_at c (i ∷ j ∷ []) ≡ a ∷ b ∷ []
-    → is_bad_reference c (derivation (chain_line over_cell i j)) ≡ false → is_wrong_scope c (derivation (chain_line over_cell i j)) ≡ false
-    → reason_against c (derivation (chain_line over_cell i j)) ≡ last_reasons c over_cell (a ∷ b ∷ [])
+    → is_bad_reference c (Derivation (chain_line over_cell i j)) ≡ false → is_wrong_scope c (Derivation (chain_line over_cell i j)) ≡ false
+    → reason_against c (Derivation (chain_line over_cell i j)) ≡ last_reasons c over_cell (a ∷ b ∷ [])
 after_scopes c true i j a b e r s = chain_reasons c true i j ∙ told_next _ _ _ _ r (told_next _ _ _ _ s (ap (last_reasons c true) e))
 after_scopes c false i j a b e r s = chain_reasons c false i j ∙ told_next _ _ _ _ r (told_next _ _ _ _ s (ap (last_reasons c false) e))
 
 -- the reason, by the middle
 pub join_reason : (c : Context) (over_cell : Bool) (i j : ℕ) (a b : ScopedEntry) (m : Option ℕ) → entries_at c (i ∷ j ∷ []) ≡ a ∷ b ∷ []
-    → is_bad_reference c (derivation (chain_line over_cell i j)) ≡ false → is_wrong_scope c (derivation (chain_line over_cell i j)) ≡ false
-    → middle_of a b ≡ m → reason_against c (derivation (chain_line over_cell i j)) ≡ chain_reason c over_cell a b m
+    → is_bad_reference c (Derivation (chain_line over_cell i j)) ≡ false → is_wrong_scope c (Derivation (chain_line over_cell i j)) ≡ false
+    → middle_of a b ≡ m → reason_against c (Derivation (chain_line over_cell i j)) ≡ chain_reason c over_cell a b m
 join_reason c over_cell i j a b m e r s h =
     after_scopes c over_cell i j a b e r s ∙ by_middle c over_cell a b (middle_of a b) ∙ ap (chain_reason c over_cell a b) h
 
@@ -72,7 +73,7 @@ pub joined : {c : Context} {o : Bool} {i j u x y : ℕ} {a b : Given} {m : Optio
     → m ≡ middle_of (entry_of a) (entry_of b) → m ≡ Some u → meet ≡ share_cell (entries_at c (i ∷ j ∷ []))
     → x ≡ other_end (entry_of a) u → y ≡ other_end (entry_of b) u → inside ≡ (is_cell_in (elements_at c) x b.carrier || is_cell_in (elements_at c) y a.carrier)
     → wrong ≡ is_wrong_middle o (cell_of (elements_at c) u)
-    → reason_against c (derivation (chain_line o i j)) ≡ told meet carriers_meet (told inside end_in_carrier (told wrong middle_kind None))
+    → reason_against c (Derivation (chain_line o i j)) ≡ told meet carriers_meet (told inside end_in_carrier (told wrong middle_kind None))
 joined {c = c} {o = o} {i = i} {j = j} {u = u} {x = x} {a = a} {b = b} n is some shares x_is y_is in_carrier of_middle =
     let e = elements_at c in
     let two = two_at c i j (entry_of a) (entry_of b) n.first n.second in
@@ -156,17 +157,17 @@ second_below {c = c} {b = b} u n e = subst (λ v. v < element_count (elements_at
 
 -- ---- what is asked of the entries that are named
 
-pub chain_takes : (over_cell : Bool) (i j : ℕ) → TakesKind (derivation (chain_line over_cell i j)) Full true
+pub chain_takes : (over_cell : Bool) (i j : ℕ) → TakesKind (Derivation (chain_line over_cell i j)) Full true
 chain_takes true i j = (refl, refl)
 chain_takes false i j = (refl, refl)
 
-pub chain_bad : (c : Context) (over_cell : Bool) (i j : ℕ) (b : Bool) → b ≡ list_all (λ k. may_take (derivation (chain_line over_cell i j)) (entry_at c k)) (i ∷ j ∷ [])
-    → is_bad_reference c (derivation (chain_line over_cell i j)) ≡ not b
+pub chain_bad : (c : Context) (over_cell : Bool) (i j : ℕ) (b : Bool) → b ≡ list_all (λ k. may_take (Derivation (chain_line over_cell i j)) (entry_at c k)) (i ∷ j ∷ [])
+    → is_bad_reference c (Derivation (chain_line over_cell i j)) ≡ not b
 chain_bad c true i j b h = ap not (sym h)
 chain_bad c false i j b h = ap not (sym h)
 
 pub chain_scopes : (c : Context) (over_cell : Bool) (i j : ℕ) (b : Bool) → b ≡ list_all (λ a. a.scope == c.scope) (entries_at c (i ∷ j ∷ []))
-    → is_wrong_scope c (derivation (chain_line over_cell i j)) ≡ not b
+    → is_wrong_scope c (Derivation (chain_line over_cell i j)) ≡ not b
 chain_scopes c true i j b h = ap not (sym h)
 chain_scopes c false i j b h = ap not (sym h)
 

@@ -8,7 +8,9 @@ use Rattle.conn_store.specs.declared.entries.Kind.TheVariants.{Full, Semi}
 use Rattle.win_cert.specs.Entries.{Context, ScopedEntry, carriers_of, elements_at, entries_at, entry_at, entry_between, gives, or_entry}
 use Rattle.win_cert.specs.Reasons.{Reason, reason_against, bad_reference, ends_differ, common_cell, wrong_scope}
 use Rattle.win_cert.specs.Scopes.{elements_in}
-use Rattle.win_cert.specs.Statements.{Statement, derivation, have_same_ends, may_take, same_ends, share_cell}
+use Rattle.win_cert.specs.Statements.{have_same_ends, may_take, same_ends, share_cell}
+use Rattle.win_cert.specs.declared.statements.Statement.{Statement}
+use Rattle.win_cert.specs.declared.statements.Statement.TheVariants.{Derivation}
 use Rattle.win_cert.specs.declared.lines.Line.{Line}
 use Rattle.win_cert.specs.declared.lines.Line.TheVariants.{Adj, And, Key, Or2, Or3, Put, Done, Move, Cases}
 use Rattle.win_cert.proofs.CutSteps.{two_reasons, three_reasons}
@@ -24,9 +26,9 @@ or_reason c s numbers =
     (told (not (have_same_ends (entries_at c numbers))) ends_differ
     (told (share_cell (entries_at c numbers)) common_cell None)))
 
-pub or_reasons : (c : Context) (line : Line) (numbers : List ℕ) → IsOrOf line numbers → reason_against c (derivation line) ≡ or_reason c (derivation line) numbers
-or_reasons c (Or2 i j) numbers h = two_reasons c i j ∙ ap (or_reason c (derivation (Or2 i j))) h.1
-or_reasons c (Or3 i j k) numbers h = three_reasons c i j k ∙ ap (or_reason c (derivation (Or3 i j k))) h.1
+pub or_reasons : (c : Context) (line : Line) (numbers : List ℕ) → IsOrOf line numbers → reason_against c (Derivation line) ≡ or_reason c (Derivation line) numbers
+or_reasons c (Or2 i j) numbers h = two_reasons c i j ∙ ap (or_reason c (Derivation (Or2 i j))) h.1
+or_reasons c (Or3 i j k) numbers h = three_reasons c i j k ∙ ap (or_reason c (Derivation (Or3 i j k))) h.1
 or_reasons c (Adj x y) numbers h = absurd (false≢true h.0)
 or_reasons c (And i j) numbers h = absurd (false≢true h.0)
 or_reasons c (Key i j) numbers h = absurd (false≢true h.0)
@@ -35,7 +37,7 @@ or_reasons c Done numbers h = absurd (false≢true h.0)
 or_reasons c (Move k i) numbers h = absurd (false≢true h.0)
 or_reasons c (Cases ns) numbers h = absurd (false≢true h.0)
 
-pub or_takes : (line : Line) (numbers : List ℕ) → IsOrOf line numbers → TakesKind (derivation line) Semi true
+pub or_takes : (line : Line) (numbers : List ℕ) → IsOrOf line numbers → TakesKind (Derivation line) Semi true
 or_takes (Or2 i j) numbers h = (refl, refl)
 or_takes (Or3 i j k) numbers h = (refl, refl)
 or_takes (Adj x y) numbers h = absurd (false≢true h.0)
@@ -62,9 +64,9 @@ or_gives c (Cases ns) numbers h = absurd (false≢true h.0)
 -- the reason: whether all numbers may be taken, whether all entries are in the scope, whether all
 -- have the same elements, and whether their carriers share a cell
 pub or_tested : {taken inside same shared : Bool} (c : Context) (line : Line) (numbers : List ℕ) → IsOrOf line numbers
-    → taken ≡ list_all (λ i. may_take (derivation line) (entry_at c i)) numbers → inside ≡ list_all (λ a. a.scope == c.scope) (entries_at c numbers)
+    → taken ≡ list_all (λ i. may_take (Derivation line) (entry_at c i)) numbers → inside ≡ list_all (λ a. a.scope == c.scope) (entries_at c numbers)
     → same ≡ have_same_ends (entries_at c numbers) → shared ≡ share_cell (entries_at c numbers)
-    → reason_against c (derivation line) ≡ told (not taken) bad_reference (told (not inside) wrong_scope (told (not same) ends_differ (told shared common_cell None)))
+    → reason_against c (Derivation line) ≡ told (not taken) bad_reference (told (not inside) wrong_scope (told (not same) ends_differ (told shared common_cell None)))
 or_tested c line numbers h t i e s = cc (or_reasons c line numbers h, t, i, e, s)
 
 -- the entries that are named begin with the one of the first number

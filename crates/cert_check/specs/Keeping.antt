@@ -9,7 +9,9 @@ use Rattle.hex_board.specs.Positions.{Position}
 use Rattle.win_cert.specs.Entries.{Context, ScopedEntry, entry_at, gives}
 use Rattle.win_cert.specs.Reasons.{is_bad_reference, is_wrong_scope, reason_against}
 use Rattle.win_cert.specs.Scopes.{elements_in, scope_after}
-use Rattle.win_cert.specs.Statements.{Statement, claim, derivation, is_chain, is_edge_entry, is_or}
+use Rattle.win_cert.specs.Statements.{is_chain, is_edge_entry, is_or}
+use Rattle.win_cert.specs.declared.statements.Statement.{Statement}
+use Rattle.win_cert.specs.declared.statements.Statement.TheVariants.{Claim, Derivation}
 use Rattle.win_cert.specs.Statements.{kind_taken, numbers_in}
 use Rattle.win_cert.specs.declared.lines.Line.{Line}
 use Rattle.win_cert.specs.declared.lines.Line.TheVariants.{And, Key}
@@ -36,28 +38,28 @@ IsGivenOnIf base (Some g) = IsGivenOn base g
 -- what a line gives, if a reason doesn't stand against it: else the first reason
 abbrev pub ReadsLine : Context → Line → Result (Option Given) Why → Type 0
 ReadsLine c line (Ok g) =
-    (reason_against c (derivation line) ≡ None) × (gives c line ≡ option_map entry_of g)
+    (reason_against c (Derivation line) ≡ None) × (gives c line ≡ option_map entry_of g)
     × IsGivenOnIf c.base g
-ReadsLine c line (Err why) = reason_against c (derivation line) ≡ Some (reason_of why)
+ReadsLine c line (Err why) = reason_against c (Derivation line) ≡ Some (reason_of why)
 
 -- there is no reason against a line, or this is the first
 abbrev pub AllowsLine : Context → Line → Result (Unit {0}) Why → Type 0
-AllowsLine c line (Ok t) = reason_against c (derivation line) ≡ None
-AllowsLine c line (Err why) = reason_against c (derivation line) ≡ Some (reason_of why)
+AllowsLine c line (Ok t) = reason_against c (Derivation line) ≡ None
+AllowsLine c line (Err why) = reason_against c (Derivation line) ≡ Some (reason_of why)
 
 -- there is no reason against the claim of this kind and number, and it is of this entry, or there
 -- is a first one
 abbrev pub ReadsClaim : Context → Kind → ℕ → Result Given Why → Type 0
 ReadsClaim c kind i (Ok g) =
-    (reason_against c (claim kind i) ≡ None) × (entry_at c i ≡ Some (entry_of g))
-ReadsClaim c kind i (Err why) = reason_against c (claim kind i) ≡ Some (reason_of why)
+    (reason_against c (Claim kind i) ≡ None) × (entry_at c i ≡ Some (entry_of g))
+ReadsClaim c kind i (Err why) = reason_against c (Claim kind i) ≡ Some (reason_of why)
 
 -- an entry that was given by a line, or the first reason against it
 abbrev pub DerivesLine : Context → Line → Result Given Why → Type 0
 DerivesLine c line (Ok g) =
-    (reason_against c (derivation line) ≡ None) × (gives c line ≡ Some (entry_of g))
+    (reason_against c (Derivation line) ≡ None) × (gives c line ≡ Some (entry_of g))
     × IsGivenOn c.base g
-DerivesLine c line (Err why) = reason_against c (derivation line) ≡ Some (reason_of why)
+DerivesLine c line (Err why) = reason_against c (Derivation line) ≡ Some (reason_of why)
 
 -- the statement takes entries of this kind, and of two elements where `apart` holds
 abbrev pub TakesKind : Statement → Kind → Bool → Type 0
@@ -70,14 +72,14 @@ chain_line false i j = And i j
 
 -- the line is an `or` of these numbers
 abbrev pub IsOrOf : Line → List ℕ → Type 0
-IsOrOf line numbers = (is_or (derivation line) ≡ true) × (numbers_in (derivation line) ≡ numbers)
+IsOrOf line numbers = (is_or (Derivation line) ≡ true) × (numbers_in (Derivation line) ≡ numbers)
 
 -- a and b are the entries that `and` or `key` names: there are such, and they stand in the scope
 pub record AreNamed (c : Context) (over_cell : Bool) (i j : ℕ) (a b : Given) : Type 0 where
   pub first : entry_at c i ≡ Some (entry_of a)
   pub second : entry_at c j ≡ Some (entry_of b)
-  pub references : is_bad_reference c (derivation (chain_line over_cell i j)) ≡ false
-  pub scopes : is_wrong_scope c (derivation (chain_line over_cell i j)) ≡ false
+  pub references : is_bad_reference c (Derivation (chain_line over_cell i j)) ≡ false
+  pub scopes : is_wrong_scope c (Derivation (chain_line over_cell i j)) ≡ false
   pub first_scope : a.scope ≡ c.scope
   pub second_scope : b.scope ≡ c.scope
   pub first_given : IsGivenOn c.base a

@@ -5,7 +5,8 @@ ghost use Rattle.std.specs.List.{list_all};
 ghost use Rattle.hex_cells.specs.Sets.{has};
 ghost use Rattle.hex_cells.specs.declared.board_size.TheConstants.{MOST_CELLS};
 ghost use Rattle.win_cert.specs.Entries.{carriers_of, entries_at, entry_at};
-ghost use Rattle.win_cert.specs.Statements.{Statement, is_edge_entry, may_take};
+ghost use Rattle.win_cert.specs.Statements.{is_edge_entry, may_take};
+ghost use Rattle.win_cert.specs.declared.statements.Statement.{Statement};
 ghost use Rattle.win_cert.specs.Statements.{same_ends, share_cell};
 ghost use Rattle.cert_check.specs.Keeping.{TakesKind, entry_of};
 

@@ -14,7 +14,7 @@ use Rattle.conn_store.specs.declared.entries.Kind.{Kind}
 use Rattle.conn_store.specs.declared.entries.Kind.TheVariants.{Full, Semi}
 use Rattle.win_cert.specs.Entries.{ScopedEntry, entry_at}
 use Rattle.win_cert.specs.Reasons.{reason_against}
-use Rattle.win_cert.specs.Statements.{derivation}
+use Rattle.win_cert.specs.declared.statements.Statement.TheVariants.{Derivation}
 use Rattle.win_cert.specs.Writable.{IsLineOf}
 use Rattle.win_cert.specs.declared.certs.TheConstants.{LATEST_VERSION, MOST_LINES}
 use Rattle.win_cert.specs.declared.lines.Line.{Line}
@@ -44,10 +44,10 @@ room_back d line l = elim (cases_lt (length d.lines) MOST_LINES) [
 ]
 
 pub follows_second : (d e : LedgerData) (line next : Line) → IsLedger d → e ≡ with_line d line → (d.lost ≡ 0 → AreClear (read_of d) (line ∷ next ∷ [])) → length e.lines < MOST_LINES
-    → reason_against (read_of e) (derivation next) ≡ None
+    → reason_against (read_of e) (Derivation next) ≡ None
 follows_second d e line next w q f l =
     let m : length (with_line d line).lines < MOST_LINES = subst (λ (v : LedgerData). length v.lines < MOST_LINES) q l in
-    subst (λ (v : LedgerData). reason_against (read_of v) (derivation next) ≡ None) (sym q)
+    subst (λ (v : LedgerData). reason_against (read_of v) (Derivation next) ≡ None) (sym q)
     (second_follows d line next (f (none_lost d w (room_back d line m))) m)
 
 pub shown_second : (d e f : LedgerData) (p : Position) (kind : Kind) (line next : Line) (i : ℕ) → e ≡ with_line d line → f ≡ with_line e next → i ≡ length d.lines + 1

@@ -5,7 +5,7 @@ use Rattle.hex_board.specs.Elements.{PlayerBoard}
 use Rattle.hex_board.specs.Positions.{Position}
 use Rattle.conn_store.specs.declared.entries.Kind.{Kind}
 use Rattle.win_cert.specs.Reasons.{reason_against}
-use Rattle.win_cert.specs.Statements.{derivation}
+use Rattle.win_cert.specs.declared.statements.Statement.TheVariants.{Derivation}
 use Rattle.win_cert.specs.declared.certs.TheConstants.{MOST_LINES}
 use Rattle.win_cert.specs.declared.lines.Line.{Line}
 use Rattle.hex_solve.specs.Ledgers.{LedgerData, ShowsWin, read_of, with_line}
@@ -22,9 +22,9 @@ TwoShow d p kind line next = AreClear (read_of d) (line ∷ next ∷ [])
     × Shows (after_lines (read_of d) (line ∷ next ∷ [])) p kind (scope_of d.base p) (length (read_of d).earlier + 1)
 
 pub second_follows : (d : LedgerData) (line next : Line) → AreClear (read_of d) (line ∷ next ∷ []) → length (with_line d line).lines < MOST_LINES
-    → reason_against (read_of (with_line d line)) (derivation next) ≡ None
+    → reason_against (read_of (with_line d line)) (Derivation next) ≡ None
 second_follows d line next h l = elim (cases_lt (length d.lines) MOST_LINES) [
-  | inl m ↦ subst (λ c. reason_against c (derivation next) ≡ None) (sym (read_next d line m)) h.1.0
+  | inl m ↦ subst (λ c. reason_against c (Derivation next) ≡ None) (sym (read_next d line m)) h.1.0
   | inr m ↦ let e : length (with_line d line).lines ≡ length d.lines = ap (λ (e : LedgerData). length e.lines) (no_room d line m) in absurd (omega arith)
 ]
 

@@ -9,7 +9,7 @@ use Rattle.conn_store.specs.declared.entries.Kind.{Kind}
 use Rattle.conn_store.specs.declared.entries.Kind.TheVariants.{Semi}
 use Rattle.win_cert.specs.Entries.{Context}
 use Rattle.win_cert.specs.Reasons.{reason_against}
-use Rattle.win_cert.specs.Statements.{derivation}
+use Rattle.win_cert.specs.declared.statements.Statement.TheVariants.{Derivation}
 use Rattle.win_cert.specs.Writable.{IsLineOf}
 use Rattle.win_cert.specs.declared.certs.TheConstants.{LATEST_VERSION, MOST_LINES}
 use Rattle.win_cert.specs.declared.lines.Line.{Line}
@@ -47,7 +47,7 @@ with_line d line =
 
 -- the line may stand after the others
 abbrev pub MayFollow : LedgerData → Line → Type 0
-MayFollow d line = (reason_against (read_of d) (derivation line) ≡ None)
+MayFollow d line = (reason_against (read_of d) (Derivation line) ≡ None)
     × IsLineOf LATEST_VERSION d.base.board.size line
 
 -- new is old with more lines, at most so many

@@ -19,7 +19,9 @@ use Rattle.win_cert.specs.Entries.{Context, ScopedEntry, context_at, entry_at, e
 use Rattle.win_cert.specs.Laws.{GivesTrueEntries, WinsAsClaimed, first_mover}
 use Rattle.win_cert.specs.Reasons.{bad_reference, not_edges, reason_against}
 use Rattle.win_cert.specs.Scopes.{elements_in, player_board}
-use Rattle.win_cert.specs.Statements.{Statement, claim, is_edge_entry, may_take}
+use Rattle.win_cert.specs.Statements.{is_edge_entry, may_take}
+use Rattle.win_cert.specs.declared.statements.Statement.{Statement}
+use Rattle.win_cert.specs.declared.statements.Statement.TheVariants.{Claim}
 use Rattle.win_cert.specs.Verdicts.{Accepted}
 use Rattle.win_cert.specs.Writable.{HasBoard}
 use Rattle.win_cert.specs.declared.certs.Cert.{Cert}
@@ -51,9 +53,9 @@ some_named : (s : Statement) (o : Option ScopedEntry) → may_take s o ≡ true 
 some_named s None h = absurd (false≢true h)
 some_named s (Some a) h = (a, refl)
 
-claim_good : (c : Context) (kind : Kind) (i : ℕ) → GaveGood c → reason_against c (claim kind i) ≡ None → (a : ScopedEntry) × IsGoodOfEdges (elements_in c.base 0) kind a.carrier
+claim_good : (c : Context) (kind : Kind) (i : ℕ) → GaveGood c → reason_against c (Claim kind i) ≡ None → (a : ScopedEntry) × IsGoodOfEdges (elements_in c.base 0) kind a.carrier
 claim_good c kind i g h =
-    let s = claim kind i in
+    let s = Claim kind i in
     let clear = none_applies c s h in
     let t = and_parts (may_take s (entry_at c i)) true (not_false (list_all (λ j. may_take s (entry_at c j)) (i ∷ [])) (clear bad_reference)) in
     let w = some_named s (entry_at c i) t.0 in

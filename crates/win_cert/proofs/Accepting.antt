@@ -8,7 +8,8 @@ use Rattle.conn_store.specs.declared.entries.Kind.{Kind}
 use Rattle.conn_store.proofs.Tables.{kinds_match}
 use Rattle.win_cert.specs.Entries.{Context, context_at, entry_at}
 use Rattle.win_cert.specs.Reasons.{reason_against, bad_reference, is_bad_reference, is_no_edge_entry, is_wrong_scope, not_edges, wrong_scope}
-use Rattle.win_cert.specs.Statements.{claim, derivation, is_edge_entry, may_take}
+use Rattle.win_cert.specs.Statements.{is_edge_entry, may_take}
+use Rattle.win_cert.specs.declared.statements.Statement.TheVariants.{Claim, Derivation}
 use Rattle.win_cert.specs.Verdicts.{IsVerdict, yes}
 use Rattle.win_cert.specs.declared.certs.Cert.{Cert}
 use Rattle.win_cert.specs.declared.lines.Line.{Line}
@@ -30,9 +31,9 @@ after_take c [] k x h = absurd (cc)
 after_take c (y ∷ xs) zero x h = let e : y ≡ x = cc in ap (context_after c) e
 after_take c (y ∷ xs) (suc k) x h = after_take (context_after c y) xs k x h
 
-clear_at : (c : Context) (xs : List Line) (k : ℕ) (x : Line) → AreClear c xs → slice_get xs k ≡ Some x → reason_against (after_lines c (take k xs)) (derivation x) ≡ None
+clear_at : (c : Context) (xs : List Line) (k : ℕ) (x : Line) → AreClear c xs → slice_get xs k ≡ Some x → reason_against (after_lines c (take k xs)) (Derivation x) ≡ None
 clear_at c [] k x f h = absurd (cc)
-clear_at c (y ∷ xs) zero x f h = let e : y ≡ x = cc in subst (λ v. reason_against c (derivation v) ≡ None) e f.0
+clear_at c (y ∷ xs) zero x f h = let e : y ≡ x = cc in subst (λ v. reason_against c (Derivation v) ≡ None) e f.0
 clear_at c (y ∷ xs) (suc k) x f h = clear_at (context_after c y) xs k x f.1 h
 
 pub read_over : (cert : Cert) (k : ℕ) → k ≤ length cert.lines → context_at cert k ≡ after_lines (first_of cert) (take k cert.lines)
@@ -47,13 +48,13 @@ read_all cert = read_over cert (length cert.lines) (omega arith) ∙ ap (after_l
 -- ---- the claim
 
 claim_reasons : (c : Context) (kind : Kind) (i : ℕ)
-    → reason_against c (claim kind i) ≡ told (is_bad_reference c (claim kind i)) bad_reference (told (is_wrong_scope c (claim kind i)) wrong_scope (told (is_no_edge_entry c (claim kind i)) not_edges None))
+    → reason_against c (Claim kind i) ≡ told (is_bad_reference c (Claim kind i)) bad_reference (told (is_wrong_scope c (Claim kind i)) wrong_scope (told (is_no_edge_entry c (Claim kind i)) not_edges None))
 unfolding reason_against
 claim_reasons c kind i = refl
 
-pub claim_right : (c : Context) (kind : Kind) (i d : ℕ) → GivesEdges c kind 0 d i → reason_against c (claim kind i) ≡ None
+pub claim_right : (c : Context) (kind : Kind) (i d : ℕ) → GivesEdges c kind 0 d i → reason_against c (Claim kind i) ≡ None
 claim_right c kind i d g =
-    let s = claim kind i in
+    let s = Claim kind i in
     let a = g.entry in
     claim_reasons c kind i
     ∙ told_next (is_bad_reference c s) bad_reference _ (ap (λ o. not (may_take s o && true)) g.at ∙ bad_one (same_kind a.kind kind && true)

@@ -7,7 +7,7 @@ use Rattle.std.proofs.lemmas.List.{append-nil, append_assoc}
 use Rattle.std.proofs.lemmas.List.Elements.{All-cons, All-nil, All-tail}
 use Rattle.conn_store.specs.declared.entries.Kind.TheVariants.{Full}
 use Rattle.win_cert.specs.Lines.{Steps, steps_after, is_nothing, lines_of, steps_in, with_lines}
-use Rattle.win_cert.specs.Named.{step_named}
+use Rattle.win_cert.specs.Named.{statement_named}
 use Rattle.win_cert.specs.Texts.{ended, kind_word, line_feed, line_words, space}
 use Rattle.win_cert.specs.Writable.{IsLineOf}
 use Rattle.win_cert.specs.declared.certs.TheConstants.{MOST_LINES}
@@ -15,8 +15,8 @@ use Rattle.win_cert.specs.declared.lines.Line.{Line}
 use Rattle.win_cert.specs.declared.lines.TheConstants.{MOST_NUMBER}
 use Rattle.win_cert.specs.declared.refusals.CertError.{CertError}
 use Rattle.win_cert.specs.declared.refusals.CertError.TheVariants.{NotCert, TooManyLines}
-use Rattle.win_cert.specs.declared.steps.Step.{Step}
-use Rattle.win_cert.specs.declared.steps.Step.TheVariants as step
+use Rattle.win_cert.specs.declared.statements.Statement.{Statement}
+use Rattle.win_cert.specs.declared.statements.Statement.TheVariants.{Claim, Derivation}
 use Rattle.win_cert.proofs.HeadMeans.{TextLines}
 use Rattle.win_cert.proofs.ReadBack.{steps_more}
 use Rattle.win_cert.proofs.StepMeans.{step_means}
@@ -72,7 +72,7 @@ too_many_back v n k [] rest size good few long some = absurd (omega (arith, long
 too_many_back v n k (line ∷ lines) rest size good few long some =
     let later = map (line_words n) lines ++ rest in
     steps_more v n k (line_words n line) later (later_some (map (line_words n) lines) rest some)
-    ∙ ap (λ o. steps_after k o later (steps_in v n (suc k) later)) (step_back v n (step.Line line) size (good 0 line (omega arith)))
+    ∙ ap (λ o. steps_after k o later (steps_in v n (suc k) later)) (step_back v n (Derivation line) size (good 0 line (omega arith)))
     ∙ at_limit (eqb k MOST_LINES) line (steps_in v n (suc k) later) (λ below. too_many_back v n (suc k) lines rest size
     (All-tail (IsLineOf v n) line lines good) (next_below k below few) (omega (arith, long)) some)
 
@@ -111,22 +111,22 @@ too_many_or v n k words rest later line false limit is good some few others e =
       long = let l = t.long in omega (arith, l);
     }
 
-one_too_many : (v n k : ℕ) (words : Words) (rest : TextLines) (later : Result Steps CertError) (o : Option Step)
-    → step_named v n words ≡ o → rest ≢ [] → k ≤ MOST_LINES
+one_too_many : (v n k : ℕ) (words : Words) (rest : TextLines) (later : Result Steps CertError) (o : Option Statement)
+    → statement_named v n words ≡ o → rest ≢ [] → k ≤ MOST_LINES
     → (later ≡ Err TooManyLines → suc k ≤ MOST_LINES → AreTooMany v n (suc k) rest)
     → steps_after k o rest later ≡ Err TooManyLines → AreTooMany v n k (words ∷ rest)
 one_too_many v n k words rest later None said some few others e = cc
-one_too_many v n k words rest later (Some (step.Line line)) said some few others e =
-    let means = step_means v n words (step.Line line) said in
+one_too_many v n k words rest later (Some (Derivation line)) said some few others e =
+    let means = step_means v n words (Derivation line) said in
     too_many_or v n k words rest later line (eqb k MOST_LINES) refl means.1 means.0 some few others e
-one_too_many v n k words rest later (Some (step.Claim kind i)) said some few others e =
+one_too_many v n k words rest later (Some (Claim kind i)) said some few others e =
     absurd (not_too_many (is_nothing rest) ([], (kind, i)) (k + 7) e)
 
 pub too_many_means : (v n k : ℕ) (lines : TextLines) → k ≤ MOST_LINES → steps_in v n k lines ≡ Err TooManyLines → AreTooMany v n k lines
 too_many_means v n k [] few e = cc
 too_many_means v n k (words ∷ []) few e = cc
 too_many_means v n k (words ∷ next ∷ lines) few e =
-    one_too_many v n k words (next ∷ lines) (steps_in v n (suc k) (next ∷ lines)) (step_named v n words) refl (λ z. cc) few
+    one_too_many v n k words (next ∷ lines) (steps_in v n (suc k) (next ∷ lines)) (statement_named v n words) refl (λ z. cc) few
     (λ f room. too_many_means v n (suc k) (next ∷ lines) room f) e
 
 -- ---- a bad line
@@ -170,12 +170,12 @@ no_end : (b : Bool) (s : Steps) (l m : ℕ) → cond b (Ok s) (Err (NotCert l)) 
 no_end true s l m e = cc
 no_end false s l m e = cc
 
-one_bad : (v n k m : ℕ) (words : Words) (rest : TextLines) (later : Result Steps CertError) (o : Option Step)
-    → step_named v n words ≡ o → rest ≢ [] → (later ≡ Err (NotCert m) → IsBadStep v n (suc k) rest m)
+one_bad : (v n k m : ℕ) (words : Words) (rest : TextLines) (later : Result Steps CertError) (o : Option Statement)
+    → statement_named v n words ≡ o → rest ≢ [] → (later ≡ Err (NotCert m) → IsBadStep v n (suc k) rest m)
     → steps_after k o rest later ≡ Err (NotCert m) → IsBadStep v n k (words ∷ rest) m
 one_bad v n k m words rest later None said some others e = bad_here v n k m (words ∷ rest) (λ z. cc) (line_of_err (k + 6) m e)
-one_bad v n k m words rest later (Some (step.Line line)) said some others e =
-    let means = step_means v n words (step.Line line) said in
+one_bad v n k m words rest later (Some (Derivation line)) said some others e =
+    let means = step_means v n words (Derivation line) said in
     let b = others (err_of_lines (line ∷ []) later (NotCert m) (no_limit (eqb k MOST_LINES) (with_lines (line ∷ []) later) m e)) in
     record {
       s = (line ∷ b.s.0, b.s.1);
@@ -188,8 +188,8 @@ one_bad v n k m words rest later (Some (step.Line line)) said some others e =
       long = let l = b.long in omega (arith, l);
       count = let c = b.count in omega (arith, c);
     }
-one_bad v n k m words rest later (Some (step.Claim kind i)) said some others e =
-    let means = step_means v n words (step.Claim kind i) said in
+one_bad v n k m words rest later (Some (Claim kind i)) said some others e =
+    let means = step_means v n words (Claim kind i) said in
     let line = no_end (is_nothing rest) ([], (kind, i)) (k + 7) m e in
     record {
       s = ([], (kind, i));
@@ -207,7 +207,7 @@ pub bad_means : (v n k m : ℕ) (lines : TextLines) → lines ≢ [] → steps_i
 bad_means v n k m [] some e = absurd (some refl)
 bad_means v n k m (words ∷ []) some e = bad_here v n k m (words ∷ []) some (line_of_err (k + 6) m e)
 bad_means v n k m (words ∷ next ∷ lines) some e =
-    one_bad v n k m words (next ∷ lines) (steps_in v n (suc k) (next ∷ lines)) (step_named v n words) refl (λ z. cc)
+    one_bad v n k m words (next ∷ lines) (steps_in v n (suc k) (next ∷ lines)) (statement_named v n words) refl (λ z. cc)
     (λ f. bad_means v n (suc k) m (next ∷ lines) (λ z. cc) f) e
 
 pub bad_from : (v n k m : ℕ) (lines : TextLines) → lines ≢ [] → steps_in v n k lines ≡ Err (NotCert m) → k + 6 ≤ m
@@ -221,13 +221,13 @@ bad_after v n k zero m s rest size good few some long e =
 bad_after v n k (suc zero) m ([], (kind, i)) rest size good few some long e =
     let line = no_end (is_nothing rest) ([], (kind, i)) (k + 7) m
     (sym (steps_more v n k (kind_word kind ∷ decimal i ∷ []) rest some
-    ∙ ap (λ o. steps_after k o rest (steps_in v n (suc k) rest)) (step_back v n (step.Claim kind i) size few)) ∙ e) in
+    ∙ ap (λ o. steps_after k o rest (steps_in v n (suc k) rest)) (step_back v n (Claim kind i) size few)) ∙ e) in
     omega (arith, line)
 bad_after v n k (suc (suc j)) m ([], claim) rest size good few some long e = absurd (omega (arith, long))
 bad_after v n k (suc j) m (line ∷ lines, claim) rest size good few some long e =
     let later = take j (step_lines n (lines, claim)) ++ rest in
     let shown = sym (steps_more v n k (line_words n line) later (later_some (take j (step_lines n (lines, claim))) rest some)
-    ∙ ap (λ o. steps_after k o later (steps_in v n (suc k) later)) (step_back v n (step.Line line) size (good 0 line (omega arith)))) ∙ e in
+    ∙ ap (λ o. steps_after k o later (steps_in v n (suc k) later)) (step_back v n (Derivation line) size (good 0 line (omega arith)))) ∙ e in
     let after = bad_after v n (suc k) j m (lines, claim) rest size (All-tail (IsLineOf v n) line lines good) few some (omega (arith, long))
     (err_of_lines (line ∷ []) (steps_in v n (suc k) later) (NotCert m) (no_limit (eqb k MOST_LINES) (with_lines (line ∷ []) (steps_in v n (suc k) later)) m shown)) in
     omega (arith, after)

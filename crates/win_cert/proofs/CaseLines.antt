@@ -17,7 +17,8 @@ use Rattle.conn_store.proofs.Sureness.{same, union_left, union_right}
 use Rattle.conn_store.proofs.Ways.{linked_kept}
 use Rattle.win_cert.specs.Entries.{Context, ScopedEntry, carriers_of, elements_at, entry_between, or_entry}
 use Rattle.win_cert.specs.Scopes.{elements_in}
-use Rattle.win_cert.specs.Statements.{Statement, have_same_ends, is_edge_entry, kind_taken, same_ends, scope_taken, share_cell}
+use Rattle.win_cert.specs.Statements.{have_same_ends, is_edge_entry, kind_taken, same_ends, scope_taken, share_cell}
+use Rattle.win_cert.specs.declared.statements.Statement.{Statement}
 use Rattle.win_cert.proofs.ChainLines.{given_is}
 use Rattle.win_cert.proofs.Middles.{taken_good}
 use Rattle.win_cert.proofs.EdgeEntries.{IsGoodOfEdges}

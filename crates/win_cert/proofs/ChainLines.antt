@@ -8,7 +8,8 @@ use Rattle.hex_board.specs.Places.{cell_of}
 use Rattle.conn_store.specs.declared.entries.Kind.TheVariants.{Full, Semi}
 use Rattle.win_cert.specs.Entries.{Context, ScopedEntry, and_entry, carriers_of, elements_at, entry_between, key_entry, middle_of, other_end}
 use Rattle.win_cert.specs.Reasons.{holds_of_chain}
-use Rattle.win_cert.specs.Statements.{Statement, is_cell_in, is_chain, is_or, kind_taken, scope_taken, share_cell}
+use Rattle.win_cert.specs.Statements.{is_cell_in, is_chain, is_or, kind_taken, scope_taken, share_cell}
+use Rattle.win_cert.specs.declared.statements.Statement.{Statement}
 use Rattle.win_cert.proofs.GoodEntries.{IsGood, good_between, good_cell, good_group}
 use Rattle.win_cert.proofs.NamedEntries.{Each, IsGoodEntry, IsLineTaken}
 use Rattle.win_cert.proofs.ScopeBoards.{IsSmallBoard}

@@ -20,7 +20,9 @@ use Rattle.win_cert.specs.Cuts.{scoped}
 use Rattle.win_cert.specs.Entries.{Context, ScopedEntry, adj_entry, and_entry, carriers_of, elements_at, end_element, entries_at, entry_at, entry_between, gives, key_entry, middle_of, or_entry, other_end}
 use Rattle.win_cert.specs.Reasons.{Reason, reason_against, is_bad_reference, is_wrong_scope, is_wrong_colour, are_not_neighbours, has_no_middle, do_carriers_meet, is_end_in_carrier, is_middle_wrong, holds_of_chain, bad_reference, wrong_colour, not_neighbours, no_common_middle, carriers_meet, end_in_carrier, middle_kind, ends_differ, common_cell, wrong_scope}
 use Rattle.win_cert.specs.Scopes.{elements_in, with_stones}
-use Rattle.win_cert.specs.Statements.{Statement, derivation, are_near, is_chain, is_or, have_same_ends, is_cell_in, is_other_stone, kind_taken, may_take, share_cell}
+use Rattle.win_cert.specs.Statements.{are_near, is_chain, is_or, have_same_ends, is_cell_in, is_other_stone, kind_taken, may_take, share_cell}
+use Rattle.win_cert.specs.declared.statements.Statement.{Statement}
+use Rattle.win_cert.specs.declared.statements.Statement.TheVariants.{Derivation}
 use Rattle.win_cert.specs.declared.lines.End.{End}
 use Rattle.win_cert.specs.declared.lines.Line.{Line}
 use Rattle.win_cert.specs.declared.lines.Line.TheVariants.{Adj, And, Key, Or2, Or3}
@@ -61,12 +63,12 @@ same_entry a kind x y c s h i j k = ap (λ v. made v x y c s) h ∙ ap (λ v. ma
 
 -- a line gives the entry, and there is no reason against it
 abbrev pub IsRight : Context → Line → Entry → Type 0
-IsRight c line a = (gives c line ≡ Some (scoped c.scope a)) × (reason_against c (derivation line) ≡ None)
+IsRight c line a = (gives c line ≡ Some (scoped c.scope a)) × (reason_against c (Derivation line) ≡ None)
 
 -- ---- `adj`
 
 adj_reasons : (c : Context) (x y : End)
-    → reason_against c (derivation (Adj x y)) ≡ told (is_wrong_colour c (derivation (Adj x y))) wrong_colour (told (are_not_neighbours c (derivation (Adj x y))) not_neighbours None)
+    → reason_against c (Derivation (Adj x y)) ≡ told (is_wrong_colour c (Derivation (Adj x y))) wrong_colour (told (are_not_neighbours c (Derivation (Adj x y))) not_neighbours None)
 unfolding reason_against
 adj_reasons c x y = refl
 
@@ -81,9 +83,9 @@ adj_right c a x y l n k z h i p q =
     let lx : min a.x a.y ≡ a.x = omega arith in
     let ly : max a.x a.y ≡ a.y = omega arith in (
       ap (λ o. adj_entry c o (end_element d y)) h ∙ ap (λ o. adj_entry c (Some a.x) o) i ∙ ap Some (same_entry a Full (min a.x a.y) (max a.x a.y) 0 c.scope (sym k) lx ly (sym z)),
-      adj_reasons c x y ∙ told_next (is_wrong_colour c (derivation (Adj x y))) wrong_colour (told (are_not_neighbours c (derivation (Adj x y))) not_neighbours None)
+      adj_reasons c x y ∙ told_next (is_wrong_colour c (Derivation (Adj x y))) wrong_colour (told (are_not_neighbours c (Derivation (Adj x y))) not_neighbours None)
           (or_from (is_other_stone d x) (is_other_stone d y) p q)
-          (told_next (are_not_neighbours c (derivation (Adj x y))) not_neighbours None
+          (told_next (are_not_neighbours c (Derivation (Adj x y))) not_neighbours None
           (ap (λ o. not (are_near d o (end_element d y))) h ∙ ap (λ o. not (are_near d (Some a.x) o)) i ∙ near_yes d a.x a.y n) refl),
     )
 
@@ -94,11 +96,11 @@ abbrev chain_reason : Context → Statement → Option Reason
 chain_reason c s = told (is_bad_reference c s) bad_reference (told (is_wrong_scope c s) wrong_scope (told (has_no_middle c s) no_common_middle
     (told (do_carriers_meet c s) carriers_meet (told (is_end_in_carrier c s) end_in_carrier (told (is_middle_wrong c s) middle_kind None)))))
 
-and_reasons : (c : Context) (i j : ℕ) → reason_against c (derivation (And i j)) ≡ chain_reason c (derivation (And i j))
+and_reasons : (c : Context) (i j : ℕ) → reason_against c (Derivation (And i j)) ≡ chain_reason c (Derivation (And i j))
 unfolding reason_against
 and_reasons c i j = refl
 
-key_reasons : (c : Context) (i j : ℕ) → reason_against c (derivation (Key i j)) ≡ chain_reason c (derivation (Key i j))
+key_reasons : (c : Context) (i j : ℕ) → reason_against c (Derivation (Key i j)) ≡ chain_reason c (Derivation (Key i j))
 unfolding reason_against
 key_reasons c i j = refl
 
@@ -175,7 +177,7 @@ chain_scope c i j a b x u y w = ap (λ v. not (list_all (λ v. v.scope == c.scop
 pub and_right : (c : Context) (i j : ℕ) (a b r : Entry) (x u y : ℕ) → IsChainAt c i j a b x u y → IsGroup (elements_at c) u → IsBetween r x y → r.kind ≡ Full → r.carrier ≡ both_of a b
     → IsRight c (And i j) r
 and_right c i j a b r x u y w g h k m =
-    let s = derivation (And i j) in
+    let s = Derivation (And i j) in
     let d = elements_at c in (
       ap (and_entry c) (chain_pair c i j a b x u y w)
           ∙ ap (option_map (λ v. entry_between c Full (other_end (scoped c.scope a) v) (other_end (scoped c.scope b) v) (carriers_of (scoped c.scope a ∷ scoped c.scope b ∷ [])))) (chain_middle c i j a b x u y w)
@@ -190,7 +192,7 @@ and_right c i j a b r x u y w g h k m =
 pub key_right : (c : Context) (i j : ℕ) (a b r : Entry) (x u y k : ℕ) → IsChainAt c i j a b x u y → IsCell (elements_at c) u k → IsBetween r x y → r.kind ≡ Semi → r.carrier ≡ with_cell (both_of a b) k
     → IsRight c (Key i j) r
 key_right c i j a b r x u y k w g h n m =
-    let s = derivation (Key i j) in
+    let s = Derivation (Key i j) in
     let d = elements_at c in
     let all = carriers_of (scoped c.scope a ∷ scoped c.scope b ∷ []) in
     let f : ℕ → ℕ → ScopedEntry = λ v q. entry_between c Semi (other_end (scoped c.scope a) v) (other_end (scoped c.scope b) v) (with_cell all q) in (
@@ -215,11 +217,11 @@ or_reason c s numbers =
     (told (not (have_same_ends (entries_at c numbers))) ends_differ
     (told (share_cell (entries_at c numbers)) common_cell None)))
 
-pub two_reasons : (c : Context) (i j : ℕ) → reason_against c (derivation (Or2 i j)) ≡ or_reason c (derivation (Or2 i j)) (i ∷ j ∷ [])
+pub two_reasons : (c : Context) (i j : ℕ) → reason_against c (Derivation (Or2 i j)) ≡ or_reason c (Derivation (Or2 i j)) (i ∷ j ∷ [])
 unfolding reason_against
 two_reasons c i j = refl
 
-pub three_reasons : (c : Context) (i j k : ℕ) → reason_against c (derivation (Or3 i j k)) ≡ or_reason c (derivation (Or3 i j k)) (i ∷ j ∷ k ∷ [])
+pub three_reasons : (c : Context) (i j k : ℕ) → reason_against c (Derivation (Or3 i j k)) ≡ or_reason c (Derivation (Or3 i j k)) (i ∷ j ∷ k ∷ [])
 unfolding reason_against
 three_reasons c i j k = refl
 
@@ -269,7 +271,7 @@ way_max c i a r w = let l : r.x < r.y = w.order in let e : a.x ≡ r.x = way_fir
 pub two_right : (c : Context) (i j : ℕ) (a b r : Entry) → IsWayAt c i a r → IsWayAt c j b r → ((k : ℕ) → (has a.carrier k && (has b.carrier k && true)) ≡ false)
     → r.kind ≡ Full → r.carrier ≡ bit_or a.carrier b.carrier → IsRight c (Or2 i j) r
 two_right c i j a b r v w f k m =
-    let s = derivation (Or2 i j) in
+    let s = Derivation (Or2 i j) in
     let numbers = i ∷ j ∷ [] in
     let e = two_at c i j (scoped c.scope a) (scoped c.scope b) v.at w.at in (
       ap (or_entry c) e ∙ ap Some (same_entry r Full (min a.x a.y) (max a.x a.y) (bit_or a.carrier (bit_or b.carrier 0)) c.scope (sym k) (way_min c i a r v) (way_max c i a r v)
@@ -286,7 +288,7 @@ pub three_right : (c : Context) (i j l : ℕ) (a b d r : Entry) → IsWayAt c i 
     → ((k : ℕ) → (has a.carrier k && (has b.carrier k && (has d.carrier k && true))) ≡ false)
     → r.kind ≡ Full → r.carrier ≡ bit_or a.carrier (bit_or b.carrier d.carrier) → IsRight c (Or3 i j l) r
 three_right c i j l a b d r v w u f k m =
-    let s = derivation (Or3 i j l) in
+    let s = Derivation (Or3 i j l) in
     let numbers = i ∷ j ∷ l ∷ [] in
     let e = three_at c i j l (scoped c.scope a) (scoped c.scope b) (scoped c.scope d) v.at w.at u.at in (
       ap (or_entry c) e ∙ ap Some (same_entry r Full (min a.x a.y) (max a.x a.y) (bit_or a.carrier (bit_or b.carrier (bit_or d.carrier 0))) c.scope (sym k) (way_min c i a r v) (way_max c i a r v)

@@ -6,7 +6,8 @@ use Rattle.std.proofs.lemmas.Option.{slice_get-map}
 use Rattle.win_cert.specs.Entries.{ScopedEntry, context_at, entries_below, entry_at, gives}
 use Rattle.win_cert.specs.Reasons.{reason_against}
 use Rattle.win_cert.specs.Scopes.{player_board}
-use Rattle.win_cert.specs.Statements.{Statement, claim, derivation}
+use Rattle.win_cert.specs.declared.statements.Statement.{Statement}
+use Rattle.win_cert.specs.declared.statements.Statement.TheVariants.{Claim, Derivation}
 use Rattle.win_cert.specs.Verdicts.{Accepted}
 use Rattle.win_cert.specs.Writable.{HasBoard}
 use Rattle.win_cert.specs.declared.certs.Cert.{Cert}
@@ -27,22 +28,22 @@ at_left [] ys i x h = absurd (cc)
 at_left (y ∷ xs) ys zero x h = h
 at_left (y ∷ xs) ys (suc i) x h = at_left xs ys i x h
 
-pub at_claim : (lines : List Line) (s : Statement) → slice_get (map derivation lines ++ s ∷ []) (length lines) ≡ Some s
+pub at_claim : (lines : List Line) (s : Statement) → slice_get (map Derivation lines ++ s ∷ []) (length lines) ≡ Some s
 at_claim [] s = refl
 at_claim (line ∷ lines) s = at_claim lines s
 
-pub past_claim : (lines : List Line) (s : Statement) (k : ℕ) → length lines < k → slice_get (map derivation lines ++ s ∷ []) k ≡ None
+pub past_claim : (lines : List Line) (s : Statement) (k : ℕ) → length lines < k → slice_get (map Derivation lines ++ s ∷ []) k ≡ None
 past_claim [] s zero l = absurd (omega arith)
 past_claim [] s (suc k) l = refl
 past_claim (line ∷ lines) s zero l = absurd (omega arith)
 past_claim (line ∷ lines) s (suc k) l = past_claim lines s k (omega arith)
 
-line_clear : (cert : Cert) (k : ℕ) (line : Line) → Accepted cert → slice_get cert.lines k ≡ Some line → reason_against (context_at cert k) (derivation line) ≡ None
+line_clear : (cert : Cert) (k : ℕ) (line : Line) → Accepted cert → slice_get cert.lines k ≡ Some line → reason_against (context_at cert k) (Derivation line) ≡ None
 line_clear cert k line h e = subst (λ o. option_and_then (reason_against (context_at cert k)) o ≡ None)
-    (at_left (map derivation cert.lines) (claim cert.claim cert.entry ∷ []) k (derivation line) (slice_get-map derivation cert.lines k ∙ ap (option_map derivation) e)) (h k)
+    (at_left (map Derivation cert.lines) (Claim cert.claim cert.entry ∷ []) k (Derivation line) (slice_get-map Derivation cert.lines k ∙ ap (option_map Derivation) e)) (h k)
 
-pub claim_clear : (cert : Cert) → Accepted cert → reason_against (context_at cert (length cert.lines)) (claim cert.claim cert.entry) ≡ None
-claim_clear cert h = subst (λ o. option_and_then (reason_against (context_at cert (length cert.lines))) o ≡ None) (at_claim cert.lines (claim cert.claim cert.entry)) (h (length cert.lines))
+pub claim_clear : (cert : Cert) → Accepted cert → reason_against (context_at cert (length cert.lines)) (Claim cert.claim cert.entry) ≡ None
+claim_clear cert h = subst (λ o. option_and_then (reason_against (context_at cert (length cert.lines))) o ≡ None) (at_claim cert.lines (Claim cert.claim cert.entry)) (h (length cert.lines))
 
 -- ---- what the lines give
 
@@ -74,6 +75,6 @@ gave_good cert (suc n) b h i a e = elim (given_by cert n i a e) [
   | inr (line, l, f) ↦ read_good (context_at cert n) line a (record {
     small = small_board cert b;
     earlier = gave_good cert n b h;
-    clear = none_applies (context_at cert n) (derivation line) (line_clear cert n line h l);
+    clear = none_applies (context_at cert n) (Derivation line) (line_clear cert n line h l);
   }) f
 ]

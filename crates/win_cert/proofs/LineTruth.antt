@@ -11,7 +11,8 @@ use Rattle.conn_store.specs.declared.entries.Kind.TheVariants.{Full, Semi}
 use Rattle.win_cert.specs.Entries.{Context, ScopedEntry, adj_entry, carriers_of, edge_entry, elements_at, end_element, entries_at, entry_between, gives, move_entry}
 use Rattle.win_cert.specs.Reasons.{Reason, applies, bad_stone, carriers_meet, common_cell, end_in_carrier, ends_differ, middle_kind, not_edges, not_joined, not_neighbours}
 use Rattle.win_cert.specs.Scopes.{elements_in}
-use Rattle.win_cert.specs.Statements.{derivation, are_near, have_same_ends, is_edge_entry, numbers_in}
+use Rattle.win_cert.specs.Statements.{are_near, have_same_ends, is_edge_entry, numbers_in}
+use Rattle.win_cert.specs.declared.statements.Statement.TheVariants.{Derivation}
 use Rattle.win_cert.specs.declared.lines.Line.{Line}
 use Rattle.win_cert.specs.declared.lines.Line.TheVariants.{Adj, And, Key, Or2, Or3, Put, Done, Move, Cases}
 use Rattle.win_cert.proofs.CaseLines.{cases_good, edges_good, or_good}
@@ -32,7 +33,7 @@ adj_good c None p r m h e = absurd (false≢true h)
 -- ---- `move`
 
 move_good : (c : Context) (k i : ℕ) (entries : List ScopedEntry) (r : ScopedEntry) → IsSmallBoard (elements_at c) → is_empty_at (elements_at c).board k ≡ true
-    → Each (IsLineTaken c (derivation (Move k i))) entries → list_all (is_edge_entry c.base) entries ≡ true → move_entry c k entries ≡ Some r
+    → Each (IsLineTaken c (Derivation (Move k i))) entries → list_all (is_edge_entry c.base) entries ≡ true → move_entry c k entries ≡ Some r
     → IsGoodEntry c.base r
 move_good c k i [] r m h g f e = absurd (cc)
 move_good c k i (a ∷ entries) r m h g f e =
@@ -56,26 +57,26 @@ edge_good c carrier r g e = given_is c (edge_entry c Full carrier) r e
 pub record IsRead (c : Context) (line : Line) : Type 0 where
   pub small : IsSmallBoard c.base
   pub earlier : GaveGood c
-  pub clear : (r : Reason) → applies c (derivation line) r ≡ false
+  pub clear : (r : Reason) → applies c (Derivation line) r ≡ false
 
-named : (c : Context) (line : Line) → IsRead c line → Each (IsLineTaken c (derivation line)) (entries_at c (numbers_in (derivation line)))
-named c line h = taken c (derivation line) h.earlier h.clear
+named : (c : Context) (line : Line) → IsRead c line → Each (IsLineTaken c (Derivation line)) (entries_at c (numbers_in (Derivation line)))
+named c line h = taken c (Derivation line) h.earlier h.clear
 
 line_good : (c : Context) (line : Line) (r : ScopedEntry) → IsRead c line → IsSmallBoard (elements_at c) → gives c line ≡ Some r → IsGoodEntry c.base r
 line_good c (Adj x y) r h m e = adj_good c (end_element (elements_at c) x) (end_element (elements_at c) y) r m
     (not_false (are_near (elements_at c) (end_element (elements_at c) x) (end_element (elements_at c) y)) (h.clear not_neighbours)) e
-line_good c (And i j) r h m e = and_good c (derivation (And i j)) (entries_at c (i ∷ j ∷ [])) r refl refl m (named c (And i j) h) (h.clear carriers_meet) (h.clear end_in_carrier) (h.clear middle_kind) e
-line_good c (Key i j) r h m e = key_good c (derivation (Key i j)) (entries_at c (i ∷ j ∷ [])) r refl refl refl m (named c (Key i j) h) (h.clear carriers_meet) (h.clear end_in_carrier) e
-line_good c (Or2 i j) r h m e = or_good c (derivation (Or2 i j)) (entries_at c (i ∷ j ∷ [])) r refl refl m (named c (Or2 i j) h) (h.clear common_cell)
+line_good c (And i j) r h m e = and_good c (Derivation (And i j)) (entries_at c (i ∷ j ∷ [])) r refl refl m (named c (And i j) h) (h.clear carriers_meet) (h.clear end_in_carrier) (h.clear middle_kind) e
+line_good c (Key i j) r h m e = key_good c (Derivation (Key i j)) (entries_at c (i ∷ j ∷ [])) r refl refl refl m (named c (Key i j) h) (h.clear carriers_meet) (h.clear end_in_carrier) e
+line_good c (Or2 i j) r h m e = or_good c (Derivation (Or2 i j)) (entries_at c (i ∷ j ∷ [])) r refl refl m (named c (Or2 i j) h) (h.clear common_cell)
     (not_false (have_same_ends (entries_at c (i ∷ j ∷ []))) (h.clear ends_differ)) e
-line_good c (Or3 i j k) r h m e = or_good c (derivation (Or3 i j k)) (entries_at c (i ∷ j ∷ k ∷ [])) r refl refl m (named c (Or3 i j k) h) (h.clear common_cell)
+line_good c (Or3 i j k) r h m e = or_good c (Derivation (Or3 i j k)) (entries_at c (i ∷ j ∷ k ∷ [])) r refl refl m (named c (Or3 i j k) h) (h.clear common_cell)
     (not_false (have_same_ends (entries_at c (i ∷ j ∷ k ∷ []))) (h.clear ends_differ)) e
 line_good c (Put cells) r h m e = absurd (cc)
 line_good c Done r h m e = edge_good c 0 r (good_done (elements_at c) m (not_false (are_joined (elements_at c)) (h.clear not_joined))) e
 line_good c (Move k i) r h m e = move_good c k i (entries_at c (i ∷ [])) r m (not_false (is_empty_at (elements_at c).board k) (h.clear bad_stone)) (named c (Move k i) h)
     (not_false (list_all (is_edge_entry c.base) (entries_at c (i ∷ []))) (h.clear not_edges)) e
 line_good c (Cases numbers) r h m e = edge_good c (carriers_of (entries_at c numbers)) r
-    (cases_good c (derivation (Cases numbers)) (entries_at c numbers) refl refl m (named c (Cases numbers) h) (h.clear common_cell)
+    (cases_good c (Derivation (Cases numbers)) (entries_at c numbers) refl refl m (named c (Cases numbers) h) (h.clear common_cell)
     (not_false (list_all (is_edge_entry c.base) (entries_at c numbers)) (h.clear not_edges))) e
 
 -- a line against which there is no reason gives a good entry

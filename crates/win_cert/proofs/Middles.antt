@@ -17,7 +17,8 @@ use Rattle.conn_store.specs.declared.entries.Kind.TheVariants.{Full}
 use Rattle.conn_store.proofs.Sureness.{Disjoint}
 use Rattle.win_cert.specs.Entries.{Context, ScopedEntry, elements_at, is_end, middle_of, other_end}
 use Rattle.win_cert.specs.Scopes.{elements_in}
-use Rattle.win_cert.specs.Statements.{Statement, is_cell_in, kind_taken, scope_taken, share_cell}
+use Rattle.win_cert.specs.Statements.{is_cell_in, kind_taken, scope_taken, share_cell}
+use Rattle.win_cert.specs.declared.statements.Statement.{Statement}
 use Rattle.win_cert.proofs.GoodEntries.{IsGood, good_turned}
 use Rattle.win_cert.proofs.LinksOn.{cell_is}
 use Rattle.win_cert.proofs.NamedEntries.{IsLineTaken}

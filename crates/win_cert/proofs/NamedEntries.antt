@@ -8,7 +8,8 @@ use Rattle.conn_store.specs.Stores.{same_kind}
 use Rattle.win_cert.specs.Entries.{Context, ScopedEntry, entry_at}
 use Rattle.win_cert.specs.Reasons.{Reason, applies, bad_reference, bad_stone, carriers_meet, common_cell, end_in_carrier, ends_differ, middle_kind, no_common_middle, not_edges, not_joined, not_neighbours, order, reason_against, wrong_colour, wrong_scope}
 use Rattle.win_cert.specs.Scopes.{elements_in}
-use Rattle.win_cert.specs.Statements.{Statement, entries_named, is_chain, is_or, kind_taken, may_take, numbers_in, scope_taken}
+use Rattle.win_cert.specs.Statements.{entries_named, is_chain, is_or, kind_taken, may_take, numbers_in, scope_taken}
+use Rattle.win_cert.specs.declared.statements.Statement.{Statement}
 use Rattle.win_cert.proofs.GoodEntries.{IsGood}
 use Rattle.conn_store.proofs.Tables.{kinds_are}
 

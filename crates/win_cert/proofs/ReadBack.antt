@@ -14,7 +14,7 @@ use Rattle.hex_cells.proofs.Bits.{has_and, has_none, same_set}
 use Rattle.hex_board.specs.Positions.{Apart, Within}
 use Rattle.conn_store.specs.declared.entries.Kind.{Kind}
 use Rattle.win_cert.specs.Lines.{◌>>=◌, steps_after, at_line, cert_in, cert_of, certs_of, head_in, line_in, lines_of, number_after, player_in, size_in, steps_in, stones_in, version_in, with_lines}
-use Rattle.win_cert.specs.Named.{alone, set_named, first_number, step_named}
+use Rattle.win_cert.specs.Named.{alone, set_named, first_number, statement_named}
 use Rattle.win_cert.specs.Texts.{cert_text, cert_words, claim_words, colour_word, kind_word, line_words, vertices_of}
 use Rattle.win_cert.specs.Writable.{HasBoard, IsLineOf, IsWritable}
 use Rattle.win_cert.specs.declared.certs.Cert.{Cert}
@@ -24,7 +24,7 @@ use Rattle.win_cert.specs.declared.lines.Line.{Line}
 use Rattle.win_cert.specs.declared.lines.TheConstants.{MOST_NUMBER}
 use Rattle.win_cert.specs.declared.refusals.CertError.{CertError}
 use Rattle.win_cert.specs.declared.refusals.CertError.TheVariants.{TooManyLines}
-use Rattle.win_cert.specs.declared.steps.Step.TheVariants as step
+use Rattle.win_cert.specs.declared.statements.Statement.TheVariants.{Claim, Derivation}
 use Rattle.win_cert.proofs.CellSets.{cells_back}
 use Rattle.win_cert.proofs.HeadMeans.{IsHead, TextLines, head_lines}
 use Rattle.win_cert.proofs.LineParts.{first_of_more}
@@ -107,7 +107,7 @@ head_back head rest some good =
 -- ---- steps
 
 pub steps_more : (v n k : ℕ) (words : Words) (rest : TextLines) → rest ≢ []
-    → steps_in v n k (words ∷ rest) ≡ steps_after k (step_named v n words) rest (steps_in v n (suc k) rest)
+    → steps_in v n k (words ∷ rest) ≡ steps_after k (statement_named v n words) rest (steps_in v n (suc k) rest)
 steps_more v n k words [] some = absurd (some refl)
 steps_more v n k words (next ∷ rest) some = refl
 
@@ -120,11 +120,11 @@ pub steps_back : (v n k : ℕ) (lines : List Line) (kind : Kind) (i : ℕ) → n
     → k + length lines ≤ MOST_LINES
     → steps_in v n k (map (line_words n) lines ++ (kind_word kind ∷ decimal i ∷ []) ∷ nothing) ≡ Ok (lines, (kind, i))
 steps_back v n k [] kind i size good few room =
-    ap (λ o. steps_after k o nothing (steps_in v n (suc k) nothing)) (step_back v n (step.Claim kind i) size few)
+    ap (λ o. steps_after k o nothing (steps_in v n (suc k) nothing)) (step_back v n (Claim kind i) size few)
 steps_back v n k (line ∷ lines) kind i size good few room =
     let rest = map (line_words n) lines ++ (kind_word kind ∷ decimal i ∷ []) ∷ nothing in
     steps_more v n k (line_words n line) rest (append_some (map (line_words n) lines) (kind_word kind ∷ decimal i ∷ []) nothing)
-    ∙ ap (λ o. steps_after k o rest (steps_in v n (suc k) rest)) (step_back v n (step.Line line) size (good 0 line (omega arith)))
+    ∙ ap (λ o. steps_after k o rest (steps_in v n (suc k) rest)) (step_back v n (Derivation line) size (good 0 line (omega arith)))
     ∙ ap (λ b. cond b (Err TooManyLines) (with_lines (line ∷ []) (steps_in v n (suc k) rest))) (ne_eqb k MOST_LINES (λ e. omega (arith, e, room)))
     ∙ ap (with_lines (line ∷ [])) (steps_back v n (suc k) lines kind i size (All-tail (IsLineOf v n) line lines good) few (omega (arith, room)))
 

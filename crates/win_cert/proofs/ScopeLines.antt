@@ -13,7 +13,8 @@ use Rattle.conn_store.specs.declared.entries.Kind.{Kind}
 use Rattle.conn_store.specs.declared.entries.Kind.TheVariants.{Full, Semi}
 use Rattle.win_cert.specs.Entries.{Context, ScopedEntry, carriers_of, edge_entry, elements_at, entries_at, entry_at, gives, move_entry}
 use Rattle.win_cert.specs.Reasons.{reason_against, bad_reference, bad_stone, common_cell, is_bad_reference, is_bad_stone, is_cell_common, is_no_edge_entry, is_not_joined, is_wrong_scope, not_edges, not_joined, wrong_scope}
-use Rattle.win_cert.specs.Statements.{derivation, cell_numbers, is_edge_entry, may_take}
+use Rattle.win_cert.specs.Statements.{cell_numbers, is_edge_entry, may_take}
+use Rattle.win_cert.specs.declared.statements.Statement.TheVariants.{Derivation}
 use Rattle.win_cert.specs.declared.lines.Line.{Line}
 use Rattle.win_cert.specs.declared.lines.Line.TheVariants.{Put, Done, Move, Cases}
 use Rattle.win_cert.proofs.CutChains.{none_shared}
@@ -24,12 +25,12 @@ use Rattle.win_cert.proofs.Appending.{entry_last}
 
 -- ---- `put`
 
-put_reasons : (c : Context) (cells : ℕ) → reason_against c (derivation (Put cells)) ≡ told (is_bad_stone c (derivation (Put cells))) bad_stone None
+put_reasons : (c : Context) (cells : ℕ) → reason_against c (Derivation (Put cells)) ≡ told (is_bad_stone c (Derivation (Put cells))) bad_stone None
 unfolding reason_against
 put_reasons c cells = refl
 
-pub put_right : (c : Context) (cells : ℕ) → AllEmpty c.base.board cells → reason_against c (derivation (Put cells)) ≡ None
-put_right c cells f = put_reasons c cells ∙ told_next (is_bad_stone c (derivation (Put cells))) bad_stone None
+pub put_right : (c : Context) (cells : ℕ) → AllEmpty c.base.board cells → reason_against c (Derivation (Put cells)) ≡ None
+put_right c cells f = put_reasons c cells ∙ told_next (is_bad_stone c (Derivation (Put cells))) bad_stone None
     (false_from_ne_true (list_any (λ k. has cells k && not (is_empty_at c.base.board k)) cell_numbers) (λ t.
     let w = any_out (λ k. has cells k && not (is_empty_at c.base.board k)) 0 MOST_CELLS t in
     let u = and_parts (has cells w.0) (not (is_empty_at c.base.board w.0)) w.2 in
@@ -58,30 +59,30 @@ given_edges c line kind carrier h = record {
 
 -- ---- `done`
 
-done_reasons : (c : Context) → reason_against c (derivation Done) ≡ told (is_not_joined c (derivation Done)) not_joined None
+done_reasons : (c : Context) → reason_against c (Derivation Done) ≡ told (is_not_joined c (Derivation Done)) not_joined None
 unfolding reason_against
 done_reasons c = refl
 
-pub done_right : (c : Context) → are_joined (elements_at c) ≡ true → reason_against c (derivation Done) ≡ None
-done_right c h = done_reasons c ∙ told_next (is_not_joined c (derivation Done)) not_joined None (ap not h) refl
+pub done_right : (c : Context) → are_joined (elements_at c) ≡ true → reason_against c (Derivation Done) ≡ None
+done_right c h = done_reasons c ∙ told_next (is_not_joined c (Derivation Done)) not_joined None (ap not h) refl
 
 pub done_gives : (c : Context) → GivesEdges (context_after c Done) Full c.scope 0 (length c.earlier)
 done_gives c = given_edges c Done Full 0 refl
 
 -- ---- `move`
 
-move_reasons : (c : Context) (k i : ℕ) → reason_against c (derivation (Move k i))
-    ≡ told (is_bad_reference c (derivation (Move k i))) bad_reference (told (is_bad_stone c (derivation (Move k i))) bad_stone
-    (told (is_wrong_scope c (derivation (Move k i))) wrong_scope (told (is_no_edge_entry c (derivation (Move k i))) not_edges None)))
+move_reasons : (c : Context) (k i : ℕ) → reason_against c (Derivation (Move k i))
+    ≡ told (is_bad_reference c (Derivation (Move k i))) bad_reference (told (is_bad_stone c (Derivation (Move k i))) bad_stone
+    (told (is_wrong_scope c (Derivation (Move k i))) wrong_scope (told (is_no_edge_entry c (Derivation (Move k i))) not_edges None)))
 unfolding reason_against
 move_reasons c k i = refl
 
 one_at : (c : Context) (i : ℕ) (a : ScopedEntry) → entry_at c i ≡ Some a → entries_at c (i ∷ []) ≡ a ∷ []
 one_at c i a h = ap (λ o. cons_option o []) h
 
-pub move_right : (c : Context) (k i d : ℕ) → is_empty_at (elements_at c).board k ≡ true → GivesEdges c Full (with_cell c.scope k) d i → reason_against c (derivation (Move k i)) ≡ None
+pub move_right : (c : Context) (k i d : ℕ) → is_empty_at (elements_at c).board k ≡ true → GivesEdges c Full (with_cell c.scope k) d i → reason_against c (Derivation (Move k i)) ≡ None
 move_right c k i d h g =
-    let s = derivation (Move k i) in
+    let s = Derivation (Move k i) in
     let a = g.entry in
     move_reasons c k i
     ∙ told_next (is_bad_reference c s) bad_reference _ (ap (λ o. not (may_take s o && true)) g.at ∙ bad_one (same_kind a.kind Full && true)
@@ -106,17 +107,17 @@ pub data Leaves (k : ℕ) : List ℕ → Type 0 where
   here : (d : ℕ) (carriers : List ℕ) → has d k ≡ false → Leaves k (d ∷ carriers)
   later : (d : ℕ) (carriers : List ℕ) → Leaves k carriers → Leaves k (d ∷ carriers)
 
-cases_reasons : (c : Context) (numbers : List ℕ) → reason_against c (derivation (Cases numbers))
-    ≡ told (is_bad_reference c (derivation (Cases numbers))) bad_reference (told (is_wrong_scope c (derivation (Cases numbers))) wrong_scope
-    (told (is_cell_common c (derivation (Cases numbers))) common_cell (told (is_no_edge_entry c (derivation (Cases numbers))) not_edges None)))
+cases_reasons : (c : Context) (numbers : List ℕ) → reason_against c (Derivation (Cases numbers))
+    ≡ told (is_bad_reference c (Derivation (Cases numbers))) bad_reference (told (is_wrong_scope c (Derivation (Cases numbers))) wrong_scope
+    (told (is_cell_common c (Derivation (Cases numbers))) common_cell (told (is_no_edge_entry c (Derivation (Cases numbers))) not_edges None)))
 unfolding reason_against
 cases_reasons c numbers = refl
 
-taken_all : (c : Context) (all numbers carriers : List ℕ) → AreCases c numbers carriers → list_all (λ i. may_take (derivation (Cases all)) (entry_at c i)) numbers ≡ true
+taken_all : (c : Context) (all numbers carriers : List ℕ) → AreCases c numbers carriers → list_all (λ i. may_take (Derivation (Cases all)) (entry_at c i)) numbers ≡ true
 taken_all c all numbers carriers no_cases = refl
 taken_all c all numbers carriers (one_more i d ns ds g h) =
-    and_from (may_take (derivation (Cases all)) (entry_at c i)) (list_all (λ j. may_take (derivation (Cases all)) (entry_at c j)) ns)
-    (ap (may_take (derivation (Cases all))) g.at ∙ and_from (same_kind g.entry.kind Semi) true (ap (λ v. same_kind v Semi) g.kind_is) refl)
+    and_from (may_take (Derivation (Cases all)) (entry_at c i)) (list_all (λ j. may_take (Derivation (Cases all)) (entry_at c j)) ns)
+    (ap (may_take (Derivation (Cases all))) g.at ∙ and_from (same_kind g.entry.kind Semi) true (ap (λ v. same_kind v Semi) g.kind_is) refl)
     (taken_all c all ns ds h)
 
 scopes_all : (c : Context) (numbers carriers : List ℕ) → AreCases c numbers carriers → list_all (λ a. a.scope == c.scope) (entries_at c numbers) ≡ true
@@ -142,9 +143,9 @@ left_out c k numbers carriers (one_more i d ns ds g h) (here e es f) = ap (λ o.
 left_out c k numbers carriers (one_more i d ns ds g h) (later e es f) = ap (λ o. list_all (λ a. has a.carrier k) (cons_option o (entries_at c ns))) g.at
     ∙ and_right_no (has g.entry.carrier k) (list_all (λ a. has a.carrier k) (entries_at c ns)) (left_out c k ns ds h f)
 
-pub cases_right : (c : Context) (numbers carriers : List ℕ) → AreCases c numbers carriers → ((k : ℕ) → Leaves k carriers) → reason_against c (derivation (Cases numbers)) ≡ None
+pub cases_right : (c : Context) (numbers carriers : List ℕ) → AreCases c numbers carriers → ((k : ℕ) → Leaves k carriers) → reason_against c (Derivation (Cases numbers)) ≡ None
 cases_right c numbers carriers h f =
-    let s = derivation (Cases numbers) in
+    let s = Derivation (Cases numbers) in
     cases_reasons c numbers
     ∙ told_next (is_bad_reference c s) bad_reference _ (ap not (taken_all c numbers numbers carriers h))
     (told_next (is_wrong_scope c s) wrong_scope _ (ap not (scopes_all c numbers carriers h))

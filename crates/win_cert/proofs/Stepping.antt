@@ -7,7 +7,7 @@ use Rattle.hex_board.specs.Elements.{PlayerBoard}
 use Rattle.win_cert.specs.Entries.{Context, ScopedEntry, context_at, entries_below, gives}
 use Rattle.win_cert.specs.Reasons.{reason_against}
 use Rattle.win_cert.specs.Scopes.{player_board, scope_after}
-use Rattle.win_cert.specs.Statements.{claim, derivation}
+use Rattle.win_cert.specs.declared.statements.Statement.TheVariants.{Claim, Derivation}
 use Rattle.win_cert.specs.Verdicts.{Accepted, reason_at}
 use Rattle.win_cert.specs.declared.certs.Cert.{Cert}
 use Rattle.win_cert.specs.declared.lines.Line.{Line}
@@ -49,16 +49,16 @@ context_step cert k line h =
 
 -- the reason against line k is the one against it after the k lines before it
 pub line_reason : {kept : Context} (cert : Cert) (k : ℕ) (line : Line) → slice_get cert.lines k ≡ Some line → kept ≡ context_at cert k
-    → reason_at cert k ≡ reason_against kept (derivation line)
+    → reason_at cert k ≡ reason_against kept (Derivation line)
 line_reason cert k line h kept = ap (option_and_then (reason_against (context_at cert k)))
-    (at_left (map derivation cert.lines) (claim cert.claim cert.entry ∷ []) k (derivation line) (slice_get-map derivation cert.lines k ∙ ap (option_map derivation) h))
-    ∙ ap (λ n. reason_against n (derivation line)) (sym kept)
+    (at_left (map Derivation cert.lines) (Claim cert.claim cert.entry ∷ []) k (Derivation line) (slice_get-map Derivation cert.lines k ∙ ap (option_map Derivation) h))
+    ∙ ap (λ n. reason_against n (Derivation line)) (sym kept)
 
 -- and the one against the claim is the one after all lines
 pub claim_reason : {kept : Context} (cert : Cert) → kept ≡ context_at cert (length cert.lines)
-    → reason_at cert (length cert.lines) ≡ reason_against kept (claim cert.claim cert.entry)
-claim_reason cert kept = ap (option_and_then (reason_against (context_at cert (length cert.lines)))) (at_claim cert.lines (claim cert.claim cert.entry))
-    ∙ ap (λ n. reason_against n (claim cert.claim cert.entry)) (sym kept)
+    → reason_at cert (length cert.lines) ≡ reason_against kept (Claim cert.claim cert.entry)
+claim_reason cert kept = ap (option_and_then (reason_against (context_at cert (length cert.lines)))) (at_claim cert.lines (Claim cert.claim cert.entry))
+    ∙ ap (λ n. reason_against n (Claim cert.claim cert.entry)) (sym kept)
 
 -- no reason stands against the first k statements
 abbrev pub AreClearTo : Cert → ℕ → Type 0
@@ -74,5 +74,5 @@ pub all_clear : (cert : Cert) → AreClearTo cert (length cert.lines) → reason
 all_clear cert f h k = elim (cases_Bool (nat_lt k (length cert.lines + 1))) [
   | inl t ↦ clear_more cert (length cert.lines) f h k (ltb-true k (length cert.lines + 1) t)
   | inr t ↦ let q : length cert.lines + 1 ≤ k = ltb-false k (length cert.lines + 1) t in
-      ap (option_and_then (reason_against (context_at cert k))) (past_claim cert.lines (claim cert.claim cert.entry) k (omega (arith, q)))
+      ap (option_and_then (reason_against (context_at cert k))) (past_claim cert.lines (Claim cert.claim cert.entry) k (omega (arith, q)))
 ]

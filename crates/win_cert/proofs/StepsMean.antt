@@ -5,15 +5,15 @@ use Rattle.std.specs.List.{All}
 use Rattle.std.proofs.lemmas.Bool.Decides.{Decides-eqb, not_from_Decides}
 use Rattle.std.proofs.lemmas.List.Elements.{All-cons, All-nil}
 use Rattle.win_cert.specs.Lines.{Steps, steps_after, is_nothing, steps_in, with_lines}
-use Rattle.win_cert.specs.Named.{step_named}
+use Rattle.win_cert.specs.Named.{statement_named}
 use Rattle.win_cert.specs.Texts.{kind_word, line_words}
 use Rattle.win_cert.specs.Writable.{IsLineOf}
 use Rattle.win_cert.specs.declared.certs.TheConstants.{MOST_LINES}
 use Rattle.win_cert.specs.declared.lines.TheConstants.{MOST_NUMBER}
 use Rattle.win_cert.specs.declared.refusals.CertError.{CertError}
 use Rattle.win_cert.specs.declared.refusals.CertError.TheVariants.{NotCert, TooManyLines}
-use Rattle.win_cert.specs.declared.steps.Step.{Step}
-use Rattle.win_cert.specs.declared.steps.Step.TheVariants as step
+use Rattle.win_cert.specs.declared.statements.Statement.{Statement}
+use Rattle.win_cert.specs.declared.statements.Statement.TheVariants.{Claim, Derivation}
 use Rattle.win_cert.proofs.HeadMeans.{TextLines, bind_ok}
 use Rattle.win_cert.proofs.StepMeans.{step_means}
 use Rattle.win_cert.proofs.WordParts.{Words}
@@ -47,17 +47,17 @@ ok_where : {A : Type 0} (b : Bool) (d : CertError) (x y : A) → cond b (Ok x) (
 ok_where true d x y e = (refl, cc)
 ok_where false d x y e = cc
 
-one_step : (v n k : ℕ) (words : Words) (rest : TextLines) (later : Result Steps CertError) (o : Option Step) (s : Steps)
-    → step_named v n words ≡ o → k ≤ MOST_LINES
+one_step : (v n k : ℕ) (words : Words) (rest : TextLines) (later : Result Steps CertError) (o : Option Statement) (s : Steps)
+    → statement_named v n words ≡ o → k ≤ MOST_LINES
     → ((t : Steps) → later ≡ Ok t → suc k ≤ MOST_LINES → AreSteps v n (suc k) rest t)
     → steps_after k o rest later ≡ Ok s → AreSteps v n k (words ∷ rest) s
 one_step v n k words rest later None s said few others e = cc
-one_step v n k words rest later (Some (step.Line line)) s said few others e =
+one_step v n k words rest later (Some (Derivation line)) s said few others e =
     let room = ok_of_if (eqb k MOST_LINES) TooManyLines (with_lines (line ∷ []) later) s e in
     let below : k ≢ MOST_LINES = not_from_Decides (eqb k MOST_LINES) (Decides-eqb k MOST_LINES) room.0 in
     let t = bind_ok later _ s room.1 in
     let steps = others t.0 t.1 (omega (arith, below)) in
-    let means = step_means v n words (step.Line line) said in
+    let means = step_means v n words (Derivation line) said in
     let is : ◌≡◌ {A = Steps} (line ∷ t.0.0, t.0.1) s = cc in
     subst (AreSteps v n k (words ∷ rest)) is (record {
       lines_are = (λ i. means.1 i ∷ steps.lines_are i);
@@ -65,9 +65,9 @@ one_step v n k words rest later (Some (step.Line line)) s said few others e =
       entry = steps.entry;
       few = let f = steps.few in omega (arith, f);
     })
-one_step v n k words rest later (Some (step.Claim kind i)) s said few others e =
+one_step v n k words rest later (Some (Claim kind i)) s said few others e =
     let end = ok_where (is_nothing rest) (NotCert (k + 7)) ([], (kind, i)) s e in
-    let means = step_means v n words (step.Claim kind i) said in
+    let means = step_means v n words (Claim kind i) said in
     subst (AreSteps v n k (words ∷ rest)) end.1 (record {
       lines_are = (λ j. means.1 j ∷ nothing_means rest end.0 j);
       good = All-nil (IsLineOf v n);
@@ -80,5 +80,5 @@ pub steps_mean : (v n k : ℕ) (lines : TextLines) (s : Steps) → k ≤ MOST_LI
 steps_mean v n k [] s few e = cc
 steps_mean v n k (words ∷ []) s few e = cc
 steps_mean v n k (words ∷ next ∷ lines) s few e =
-    one_step v n k words (next ∷ lines) (steps_in v n (suc k) (next ∷ lines)) (step_named v n words) s refl few
+    one_step v n k words (next ∷ lines) (steps_in v n (suc k) (next ∷ lines)) (statement_named v n words) s refl few
     (λ t f room. steps_mean v n (suc k) (next ∷ lines) t room f) e

@@ -6,7 +6,7 @@ use Rattle.hex_board.specs.Positions.{Position}
 use Rattle.win_cert.specs.Entries.{Context, gives}
 use Rattle.win_cert.specs.Reasons.{reason_against}
 use Rattle.win_cert.specs.Scopes.{scope_after}
-use Rattle.win_cert.specs.Statements.{derivation}
+use Rattle.win_cert.specs.declared.statements.Statement.TheVariants.{Derivation}
 use Rattle.win_cert.specs.declared.lines.Line.{Line}
 
 -- what the first line is read over
@@ -34,4 +34,4 @@ after_lines c (line ∷ lines) = after_lines (context_after c line) lines
 abbrev pub AreClear : Context → List Line → Type 0
 AreClear c [] = Unit {0}
 AreClear c (line ∷ lines) =
-    (reason_against c (derivation line) ≡ None) × AreClear (context_after c line) lines
+    (reason_against c (Derivation line) ≡ None) × AreClear (context_after c line) lines

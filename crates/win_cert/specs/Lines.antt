@@ -8,7 +8,7 @@ use Rattle.std.specs.Str.{bytes_eq}
 use Rattle.hex_cells.specs.declared.colours.Colour.{Colour}
 use Rattle.hex_cells.specs.declared.colours.Colour.TheVariants.{Black, White}
 use Rattle.conn_store.specs.declared.entries.Kind.{Kind}
-use Rattle.win_cert.specs.Named.{after_word, alone, set_named, first_number, step_named}
+use Rattle.win_cert.specs.Named.{after_word, alone, set_named, first_number, statement_named}
 use Rattle.win_cert.specs.Words.{is_line_feed, is_space}
 use Rattle.win_cert.specs.declared.certs.Cert.{Cert}
 use Rattle.win_cert.specs.declared.certs.TheConstants.{FIRST_VERSION, LATEST_VERSION, MOST_LINES}
@@ -16,8 +16,8 @@ use Rattle.win_cert.specs.declared.heads.Head.{Head}
 use Rattle.win_cert.specs.declared.lines.Line.{Line}
 use Rattle.win_cert.specs.declared.refusals.CertError.{CertError}
 use Rattle.win_cert.specs.declared.refusals.CertError.TheVariants.{NotCert, TooManyLines}
-use Rattle.win_cert.specs.declared.steps.Step.{Step}
-use Rattle.win_cert.specs.declared.steps.Step.TheVariants as step
+use Rattle.win_cert.specs.declared.statements.Statement.{Statement}
+use Rattle.win_cert.specs.declared.statements.Statement.TheVariants.{Claim, Derivation}
 
 -- the words of each line, and of what stands after the last line feed
 abbrev pub lines_of : List ℕ → List (List (List ℕ))
@@ -112,12 +112,12 @@ abbrev pub with_lines : List Line → Result Steps CertError → Result Steps Ce
 with_lines front steps = steps >>= λ s. Ok (front ++ s.0, s.1)
 
 -- what is read after the head and k lines, where this is said first, before other lines
-abbrev pub steps_after : ℕ → Option Step → List (List (List ℕ)) → Result Steps CertError
+abbrev pub steps_after : ℕ → Option Statement → List (List (List ℕ)) → Result Steps CertError
     → Result Steps CertError
 steps_after k None lines others = Err (NotCert (k + 6))
-steps_after k (Some (step.Line line)) lines others =
+steps_after k (Some (Derivation line)) lines others =
     if k == MOST_LINES then Err TooManyLines else with_lines (line ∷ []) others
-steps_after k (Some (step.Claim kind i)) lines others =
+steps_after k (Some (Claim kind i)) lines others =
     if is_nothing lines then Ok ([], (kind, i)) else Err (NotCert (k + 7))
 
 -- the steps after the head and k lines
@@ -125,7 +125,7 @@ abbrev pub steps_in : ℕ → ℕ → ℕ → List (List (List ℕ)) → Result 
 steps_in version n k [] = Err (NotCert (k + 6))
 steps_in version n k (words ∷ []) = Err (NotCert (k + 6))
 steps_in version n k (words ∷ next ∷ lines) =
-    steps_after k (step_named version n words) (next ∷ lines)
+    steps_after k (statement_named version n words) (next ∷ lines)
     (steps_in version n (suc k) (next ∷ lines))
 
 -- the certificate of this head and these steps

@@ -20,8 +20,8 @@ use Rattle.win_cert.specs.declared.lines.Line.{Line}
 use Rattle.win_cert.specs.declared.lines.Line.TheVariants.{Adj, And, Key, Or2, Or3, Put, Done, Move}
 use Rattle.win_cert.specs.declared.lines.Line.TheVariants.{Cases}
 use Rattle.win_cert.specs.declared.lines.TheConstants.{LEAST_CASES, MOST_CASES, MOST_NUMBER}
-use Rattle.win_cert.specs.declared.steps.Step.{Step}
-use Rattle.win_cert.specs.declared.steps.Step.TheVariants as step
+use Rattle.win_cert.specs.declared.statements.Statement.{Statement}
+use Rattle.win_cert.specs.declared.statements.Statement.TheVariants.{Claim, Derivation}
 
 -- the number that a word is, without leading zero and with at most six digits
 unfoldable pub number_named : List ℕ → Option ℕ
@@ -102,67 +102,67 @@ is_in_version version keyword.Cases = version == LATEST_VERSION
 is_in_version version k = true
 
 -- what the words after each keyword say, on the board of size n
-abbrev pub adj_in : ℕ → List (List ℕ) → Option Step
+abbrev pub adj_in : ℕ → List (List ℕ) → Option Statement
 adj_in n words = option_and_then
-    (λ x. option_and_then (λ y. alone (step.Line (Adj x.0 y.0)) y.1) (first_end n x.1))
+    (λ x. option_and_then (λ y. alone (Derivation (Adj x.0 y.0)) y.1) (first_end n x.1))
     (first_end n words)
 
-abbrev pub pair_in : (ℕ → ℕ → Line) → List (List ℕ) → Option Step
+abbrev pub pair_in : (ℕ → ℕ → Line) → List (List ℕ) → Option Statement
 pair_in line words = option_and_then
-    (λ i. option_and_then (λ j. alone (step.Line (line i.0 j.0)) j.1) (first_number i.1))
+    (λ i. option_and_then (λ j. alone (Derivation (line i.0 j.0)) j.1) (first_number i.1))
     (first_number words)
 
-abbrev pub or_after : ℕ → ℕ → List (List ℕ) → Option Step
-or_after i j [] = Some (step.Line (Or2 i j))
+abbrev pub or_after : ℕ → ℕ → List (List ℕ) → Option Statement
+or_after i j [] = Some (Derivation (Or2 i j))
 or_after i j (word ∷ words) = option_and_then
-    (λ k. alone (step.Line (Or3 i j k.0)) k.1) (first_number (word ∷ words))
+    (λ k. alone (Derivation (Or3 i j k.0)) k.1) (first_number (word ∷ words))
 
-abbrev pub or_in : List (List ℕ) → Option Step
+abbrev pub or_in : List (List ℕ) → Option Statement
 or_in words = option_and_then
     (λ i. option_and_then (λ j. or_after i.0 j.0 j.1) (first_number i.1)) (first_number words)
 
-abbrev pub put_in : ℕ → List (List ℕ) → Option Step
-put_in n words = option_map (λ s. step.Line (Put s)) (set_named n 0 0 words)
+abbrev pub put_in : ℕ → List (List ℕ) → Option Statement
+put_in n words = option_map (λ s. Derivation (Put s)) (set_named n 0 0 words)
 
-abbrev pub move_in : ℕ → List (List ℕ) → Option Step
+abbrev pub move_in : ℕ → List (List ℕ) → Option Statement
 move_in n words = option_and_then
-    (λ k. option_and_then (λ i. alone (step.Line (Move k.0 i.0)) i.1) (first_number k.1))
+    (λ k. option_and_then (λ i. alone (Derivation (Move k.0 i.0)) i.1) (first_number k.1))
     (first_cell n words)
 
-abbrev pub cases_in : List (List ℕ) → Option Step
+abbrev pub cases_in : List (List ℕ) → Option Statement
 cases_in words = option_and_then
     (λ numbers. if nat_le LEAST_CASES (length numbers) && nat_le (length numbers) MOST_CASES
-    then Some (step.Line (Cases numbers)) else None)
+    then Some (Derivation (Cases numbers)) else None)
     (numbers_named words)
 
-abbrev pub claim_in : Kind → List (List ℕ) → Option Step
+abbrev pub claim_in : Kind → List (List ℕ) → Option Statement
 claim_in kind words =
-    option_and_then (λ i. alone (step.Claim kind i.0) i.1) (first_number words)
+    option_and_then (λ i. alone (Claim kind i.0) i.1) (first_number words)
 
-abbrev pub args_named : ℕ → Keyword → List (List ℕ) → Option Step
+abbrev pub args_named : ℕ → Keyword → List (List ℕ) → Option Statement
 args_named n keyword.Adj words = adj_in n words
 args_named n keyword.And words = pair_in And words
 args_named n keyword.Key words = pair_in Key words
 args_named n keyword.Or words = or_in words
 args_named n keyword.Put words = put_in n words
-args_named n keyword.Done words = alone (step.Line Done) words
+args_named n keyword.Done words = alone (Derivation Done) words
 args_named n keyword.Move words = move_in n words
 args_named n keyword.Cases words = cases_in words
 args_named n keyword.Full words = claim_in Full words
 args_named n keyword.Semi words = claim_in Semi words
 
 -- what the words of a line say, in a certificate of that version on a board of that size
-abbrev pub step_named : ℕ → ℕ → List (List ℕ) → Option Step
-step_named version n [] = None
-step_named version n (word ∷ words) = option_and_then
+abbrev pub statement_named : ℕ → ℕ → List (List ℕ) → Option Statement
+statement_named version n [] = None
+statement_named version n (word ∷ words) = option_and_then
     (λ k. if is_in_version version k then args_named n k words else None) (keyword_named word)
 
 -- the words of a line that says this
-abbrev pub step_words : ℕ → Step → List (List ℕ)
-step_words n (step.Line line) = line_words n line
-step_words n (step.Claim kind i) = kind_word kind ∷ decimal i ∷ []
+abbrev pub statement_words : ℕ → Statement → List (List ℕ)
+statement_words n (Derivation line) = line_words n line
+statement_words n (Claim kind i) = kind_word kind ∷ decimal i ∷ []
 
 -- it is one of that version on the board of size n
-abbrev pub IsStepOf : ℕ → ℕ → Step → Type 0
-IsStepOf version n (step.Line line) = IsLineOf version n line
-IsStepOf version n (step.Claim kind i) = i ≤ MOST_NUMBER
+abbrev pub IsStatementOf : ℕ → ℕ → Statement → Type 0
+IsStatementOf version n (Derivation line) = IsLineOf version n line
+IsStatementOf version n (Claim kind i) = i ≤ MOST_NUMBER

@@ -5,11 +5,11 @@ use Rattle.std.specs.Prelude.{Option, Some, None, Result, Ok, Err, length, if◌
 use Rattle.conn_store.specs.declared.entries.Kind.{Kind}
 use Rattle.win_cert.specs.Lines.{at_line, first_line, is_nothing, line_in, lines_of, steps_in}
 use Rattle.win_cert.specs.Lines.{with_lines, with_rest}
-use Rattle.win_cert.specs.Named.{step_named}
+use Rattle.win_cert.specs.Named.{statement_named}
 use Rattle.win_cert.specs.declared.lines.Line.{Line}
 use Rattle.win_cert.specs.declared.refusals.CertError.{CertError}
 use Rattle.win_cert.specs.declared.refusals.CertError.TheVariants.{NotCert}
-use Rattle.win_cert.specs.declared.steps.Step.{Step}
+use Rattle.win_cert.specs.declared.statements.Statement.{Statement}
 
 -- these words are the first line of the text, and these bytes are left; or no line feed is left
 abbrev pub IsFirstLine : List ℕ → Option (List (List ℕ)) → List ℕ → Type 0
@@ -24,16 +24,16 @@ IsLineTaken said bytes result rest = MatchOption result (line_in said (lines_of 
 
 -- the first line of the text, which is line n, says this step, and these bytes are left; or it is
 -- bad
-abbrev pub IsStepRead : ℕ → ℕ → ℕ → List ℕ → Result Step CertError → List ℕ → Type 0
-IsStepRead version size n bytes result rest =
+abbrev pub IsStatementRead : ℕ → ℕ → ℕ → List ℕ → Result Statement CertError → List ℕ → Type 0
+IsStatementRead version size n bytes result rest =
     with_rest result (lines_of rest)
-    ≡ at_line n (line_in (step_named version size) (lines_of bytes))
+    ≡ at_line n (line_in (statement_named version size) (lines_of bytes))
 
 -- after the head and these lines, the first line of the text was taken: it was added, or it is the
 -- claim, or it is refused
-abbrev pub IsStepTaken : ℕ → ℕ → List Line → List ℕ → Result (Option (Kind × ℕ)) CertError
+abbrev pub IsStatementTaken : ℕ → ℕ → List Line → List ℕ → Result (Option (Kind × ℕ)) CertError
     → List Line → List ℕ → Type 0
-IsStepTaken version n old bytes result new rest = MatchResult result
+IsStatementTaken version n old bytes result new rest = MatchResult result
     (λ taken. MatchOption taken
     (with_lines old (steps_in version n (length old) (lines_of bytes))
     ≡ with_lines new (steps_in version n (length new) (lines_of rest)))

@@ -8,7 +8,9 @@ use Rattle.hex_board.specs.Places.{cell_of}
 use Rattle.hex_board.specs.Positions.{is_empty_at}
 use Rattle.win_cert.specs.Entries.{Context, ScopedEntry, elements_at, end_element, entry_at}
 use Rattle.win_cert.specs.Entries.{middle_of, other_end}
-use Rattle.win_cert.specs.Statements.{Statement, derivation, cell_numbers, entries_named}
+use Rattle.win_cert.specs.Statements.{cell_numbers, entries_named}
+use Rattle.win_cert.specs.declared.statements.Statement.{Statement}
+use Rattle.win_cert.specs.declared.statements.Statement.TheVariants.{Derivation}
 use Rattle.win_cert.specs.Statements.{have_same_ends, is_cases, is_cell_in, is_chain, is_edge_entry}
 use Rattle.win_cert.specs.Statements.{is_or, is_other_stone, are_near, may_take, numbers_in}
 use Rattle.win_cert.specs.Statements.{scope_taken, share_cell, takes_edges}
@@ -43,9 +45,9 @@ is_bad_reference c s = not (list_all (λ i. may_take s (entry_at c i)) (numbers_
 
 -- a cell of `put` is not empty on the board, or that of `move` on the board of the scope
 abbrev pub is_bad_stone : Context → Statement → Bool
-is_bad_stone c (derivation (Put cells)) =
+is_bad_stone c (Derivation (Put cells)) =
     list_any (λ k. has cells k && not (is_empty_at c.base.board k)) cell_numbers
-is_bad_stone c (derivation (Move k i)) = not (is_empty_at (elements_at c).board k)
+is_bad_stone c (Derivation (Move k i)) = not (is_empty_at (elements_at c).board k)
 is_bad_stone c s = false
 
 -- an entry's scope is not the one in which the statement takes entries
@@ -54,13 +56,13 @@ is_wrong_scope c s = not (list_all (λ a. a.scope == scope_taken c s) (entries_n
 
 -- an end of `adj` is a stone of the opponent
 abbrev pub is_wrong_colour : Context → Statement → Bool
-is_wrong_colour c (derivation (Adj x y)) =
+is_wrong_colour c (Derivation (Adj x y)) =
     is_other_stone (elements_at c) x || is_other_stone (elements_at c) y
 is_wrong_colour c s = false
 
 -- the elements of `adj` are not near
 abbrev pub are_not_neighbours : Context → Statement → Bool
-are_not_neighbours c (derivation (Adj x y)) =
+are_not_neighbours c (Derivation (Adj x y)) =
     not (are_near (elements_at c) (end_element (elements_at c) x) (end_element (elements_at c) y))
 are_not_neighbours c s = false
 
@@ -87,10 +89,10 @@ is_end_in_carrier c s = is_chain s && holds_of_chain
 
 -- the middle of `and` is an empty cell, or that of `key` is a group
 abbrev pub is_middle_wrong : Context → Statement → Bool
-is_middle_wrong c (derivation (And i j)) = holds_of_chain
-    (λ a b u. is_some (cell_of (elements_at c) u)) (entries_named c (derivation (And i j)))
-is_middle_wrong c (derivation (Key i j)) = holds_of_chain
-    (λ a b u. is_none (cell_of (elements_at c) u)) (entries_named c (derivation (Key i j)))
+is_middle_wrong c (Derivation (And i j)) = holds_of_chain
+    (λ a b u. is_some (cell_of (elements_at c) u)) (entries_named c (Derivation (And i j)))
+is_middle_wrong c (Derivation (Key i j)) = holds_of_chain
+    (λ a b u. is_none (cell_of (elements_at c) u)) (entries_named c (Derivation (Key i j)))
 is_middle_wrong c s = false
 
 -- the entries of `or` have not all the same elements
@@ -108,7 +110,7 @@ is_no_edge_entry c s =
 
 -- the player is not joined on the board of the scope of `done`
 abbrev pub is_not_joined : Context → Statement → Bool
-is_not_joined c (derivation Done) = not (are_joined (elements_at c))
+is_not_joined c (Derivation Done) = not (are_joined (elements_at c))
 is_not_joined c s = false
 
 -- whether a reason applies to a statement

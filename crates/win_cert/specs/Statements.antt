@@ -19,24 +19,21 @@ use Rattle.win_cert.specs.declared.lines.End.TheVariants.{At, First, Second}
 use Rattle.win_cert.specs.declared.lines.Line.{Line}
 use Rattle.win_cert.specs.declared.lines.Line.TheVariants.{Adj, And, Key, Or2, Or3, Put, Done, Move}
 use Rattle.win_cert.specs.declared.lines.Line.TheVariants.{Cases}
-
--- what is read: a derivation line, or the claim with the number of its entry
-pub data Statement : Type 0 where
-  derivation : Line → Statement
-  claim : Kind → ℕ → Statement
+use Rattle.win_cert.specs.declared.statements.Statement.{Statement}
+use Rattle.win_cert.specs.declared.statements.Statement.TheVariants.{Claim, Derivation}
 
 -- the numbers that a statement names
 abbrev pub numbers_in : Statement → List ℕ
-numbers_in (derivation (Adj x y)) = []
-numbers_in (derivation (And i j)) = i ∷ j ∷ []
-numbers_in (derivation (Key i j)) = i ∷ j ∷ []
-numbers_in (derivation (Or2 i j)) = i ∷ j ∷ []
-numbers_in (derivation (Or3 i j k)) = i ∷ j ∷ k ∷ []
-numbers_in (derivation (Put cells)) = []
-numbers_in (derivation Done) = []
-numbers_in (derivation (Move k i)) = i ∷ []
-numbers_in (derivation (Cases numbers)) = numbers
-numbers_in (claim kind i) = i ∷ []
+numbers_in (Derivation (Adj x y)) = []
+numbers_in (Derivation (And i j)) = i ∷ j ∷ []
+numbers_in (Derivation (Key i j)) = i ∷ j ∷ []
+numbers_in (Derivation (Or2 i j)) = i ∷ j ∷ []
+numbers_in (Derivation (Or3 i j k)) = i ∷ j ∷ k ∷ []
+numbers_in (Derivation (Put cells)) = []
+numbers_in (Derivation Done) = []
+numbers_in (Derivation (Move k i)) = i ∷ []
+numbers_in (Derivation (Cases numbers)) = numbers
+numbers_in (Claim kind i) = i ∷ []
 
 -- the entries that it names
 abbrev pub entries_named : Context → Statement → List ScopedEntry
@@ -44,40 +41,40 @@ entries_named c s = entries_at c (numbers_in s)
 
 -- whether the statement is an `and` or a `key`
 abbrev pub is_chain : Statement → Bool
-is_chain (derivation (And i j)) = true
-is_chain (derivation (Key i j)) = true
+is_chain (Derivation (And i j)) = true
+is_chain (Derivation (Key i j)) = true
 is_chain s = false
 
 -- whether it is an `or`
 abbrev pub is_or : Statement → Bool
-is_or (derivation (Or2 i j)) = true
-is_or (derivation (Or3 i j k)) = true
+is_or (Derivation (Or2 i j)) = true
+is_or (Derivation (Or3 i j k)) = true
 is_or s = false
 
 -- whether it is a `cases`
 abbrev pub is_cases : Statement → Bool
-is_cases (derivation (Cases numbers)) = true
+is_cases (Derivation (Cases numbers)) = true
 is_cases s = false
 
 -- whether it takes entries of the player's edges: `move`, `cases` and the claim
 abbrev pub takes_edges : Statement → Bool
-takes_edges (derivation (Move k i)) = true
-takes_edges (derivation (Cases numbers)) = true
-takes_edges (derivation line) = false
-takes_edges (claim kind i) = true
+takes_edges (Derivation (Move k i)) = true
+takes_edges (Derivation (Cases numbers)) = true
+takes_edges (Derivation line) = false
+takes_edges (Claim kind i) = true
 
 -- the kind of entry that a statement takes
 abbrev pub kind_taken : Statement → Kind
-kind_taken (claim kind i) = kind
-kind_taken (derivation line) =
-    if is_or (derivation line) || is_cases (derivation line) then Semi else Full
+kind_taken (Claim kind i) = kind
+kind_taken (Derivation line) =
+    if is_or (Derivation line) || is_cases (Derivation line) then Semi else Full
 
 -- the scope in which a statement takes entries: for `move` its own with the cell too, for the claim
 -- the empty one, else its own
 abbrev pub scope_taken : Context → Statement → ℕ
-scope_taken c (derivation (Move k i)) = with_cell c.scope k
-scope_taken c (derivation line) = c.scope
-scope_taken c (claim kind i) = 0
+scope_taken c (Derivation (Move k i)) = with_cell c.scope k
+scope_taken c (Derivation line) = c.scope
+scope_taken c (Claim kind i) = 0
 
 -- whether a statement may take an entry: there is one, of the kind, and of two elements where
 -- they must differ

@@ -6,13 +6,14 @@ use Rattle.std.specs.Option.{option_and_then}
 use Rattle.conn_store.specs.declared.entries.Kind.{Kind}
 use Rattle.win_cert.specs.Entries.{ScopedEntry, context_at, entry_at}
 use Rattle.win_cert.specs.Reasons.{Reason, reason_against}
-use Rattle.win_cert.specs.Statements.{Statement, claim, derivation}
+use Rattle.win_cert.specs.declared.statements.Statement.{Statement}
+use Rattle.win_cert.specs.declared.statements.Statement.TheVariants.{Claim, Derivation}
 use Rattle.win_cert.specs.declared.certs.Cert.{Cert}
 use Rattle.win_cert.specs.declared.certs.TheConstants.{LATEST_VERSION}
 
 -- the derivation lines, and then the claim
 abbrev pub statements_of : Cert → List Statement
-statements_of cert = map derivation cert.lines ++ claim cert.claim cert.entry ∷ []
+statements_of cert = map Derivation cert.lines ++ Claim cert.claim cert.entry ∷ []
 
 -- the first reason against statement k, if there is one; the claim has the number after the last
 -- line

@@ -1,10 +1,11 @@
 //! Certificates: texts that show that a player wins.
 //!
 //! **Nouns.** A certificate ([`Cert`]) is a board, a player, *derivation lines* ([`Line`]) and a
-//! claim. Each line gives an *entry* in its *scope*, a set of cells on which the player is taken to
-//! have stones too, or sets the scope of the lines after it. A certificate is *accepted* where none
-//! of thirteen reasons against a line or the claim applies; the *verdict* on it is yes, with the
-//! claim and the carrier of its entry, or the first line with a reason against it and that reason.
+//! claim; each of these lines, and the claim, is a *statement* ([`Statement`]). Each line gives an
+//! *entry* in its *scope*, a set of cells on which the player is taken to have stones too, or sets
+//! the scope of the lines after it. A certificate is *accepted* where none of thirteen reasons
+//! against a line or the claim applies; the *verdict* on it is yes, with the claim and the carrier
+//! of its entry, or the first line with a reason against it and that reason.
 //!
 //! **A caller** reads a text ([`read`]), writes one ([`write`]), raises a certificate to the latest
 //! version ([`raise`]) and cuts one from a report ([`cut`], of an entry that [`edge_numbers`]
@@ -46,7 +47,7 @@ mod reading;
 mod refusals;
 mod rule_lines;
 mod spelling;
-mod steps;
+mod statements;
 mod values;
 mod words;
 mod writing;
@@ -62,4 +63,5 @@ pub use reading::read;
 pub use refusals::{CertError, Memory};
 pub use rule_lines::lines_are_rules;
 pub use spelling::written_text_is_read_back;
+pub use statements::Statement;
 pub use writing::write;

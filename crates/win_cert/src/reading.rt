@@ -3,13 +3,13 @@
 ghost use Rattle.std.specs.Prelude.{◌≡◌, ◌≢◌, ◌+◌, ◌<◌, ◌≤◌, ◌⊎◌, length, [], ◌∷◌, ◌++◌, Ok, Err};
 ghost use Rattle.std.specs.Prelude.{Some, None, OnOk, if◌then◌else◌};
 ghost use Rattle.win_cert.specs.Lines.{at_line, cert_in, cert_of, certs_of, is_nothing, lines_of};
-ghost use Rattle.win_cert.specs.OneLine.{IsStepRead, IsStepTaken};
+ghost use Rattle.win_cert.specs.OneLine.{IsStatementRead, IsStatementTaken};
 ghost use Rattle.win_cert.specs.declared.refusals.CertError.{CertError};
 ghost use Rattle.win_cert.specs.Readings.{IsParsedAs};
 
 use super::heads::Head;
 use super::reader::Reader;
-use super::steps::{Step, read_step};
+use super::statements::{Statement, read_statement};
 use super::{Cert, CertError, Line, Lines, MOST_LINES};
 use conn_store::Kind;
 use hex_cells::Size;
@@ -78,13 +78,13 @@ fn take_line(
     ensures few { OnOk result (length lines.new.items ≤ MOST_LINES) }
     ensures none { result ≡ Ok None → length lines.new.items ≡ length lines.old.items + 1 }
     ensures value { result ≢ Err CertError.Memory
-        → IsStepTaken version size lines.old.items reader.old.rest.now result
+        → IsStatementTaken version size lines.old.items reader.old.rest.now result
         lines.new.items reader.new.rest.now }
 {
     let step = next_step(alloc, reader, version, size)?;
     match step {
-        Step::Claim(kind, entry) => Ok(Some((kind, entry))),
-        Step::Line(line) => {
+        Statement::Claim(kind, entry) => Ok(Some((kind, entry))),
+        Statement::Derivation(line) => {
             if lines.len() == MOST_LINES {
                 return Err(CertError::TooManyLines);
             }
@@ -111,17 +111,17 @@ fn next_step(
     reader: &mut Reader<'_>,
     version: u32,
     size: Size,
-) -> Result<Step, CertError>
+) -> Result<Statement, CertError>
     requires { reader.old.line < 300_000 }
     ensures count { OnOk result (reader.new.line ≡ reader.old.line + 1) }
     ensures value { result ≢ Err CertError.Memory
-        → IsStepRead version size (reader.old.line + 1) reader.old.rest.now result
+        → IsStatementRead version size (reader.old.line + 1) reader.old.rest.now result
         reader.new.rest.now }
 {
     let Some(mut words) = reader.next() else {
         return Err(reader.bad());
     };
-    let Ok(step) = read_step(alloc, &mut words, version, size) else {
+    let Ok(step) = read_statement(alloc, &mut words, version, size) else {
         return Err(CertError::Memory);
     };
     step.ok_or(reader.bad())

@@ -5,7 +5,7 @@ use Rattle.hex_cells.specs.Sets.{with_cell}
 use Rattle.hex_board.specs.Positions.{is_empty_at}
 use Rattle.conn_store.specs.declared.entries.Kind.TheVariants.{Semi}
 use Rattle.win_cert.specs.Entries.{edge_entry, elements_at, move_entry}
-use Rattle.win_cert.specs.Statements.{derivation}
+use Rattle.win_cert.specs.declared.statements.Statement.TheVariants.{Derivation}
 use Rattle.win_cert.specs.declared.lines.Line.TheVariants.{Move}
 use Rattle.cert_check.specs.Keeping.{entry_of}
 use Rattle.cert_check.proofs.ReasonLaws.{missing, move_tested, scope_is, told_first, told_next}
@@ -13,14 +13,14 @@ use Rattle.cert_check.proofs.checkers.Checker.after_move.Goals as goal
 
 pub returns-then-not-takes_all : goal.returns-then-not-takes_all
 returns-then-not-takes_all c =
-    move_tested c.args.self.now c.args.cell c.args.i (c.takes_all.ensures (derivation (Move c.args.cell c.args.i)) (refl, refl)) refl refl refl
+    move_tested c.args.self.now c.args.cell c.args.i (c.takes_all.ensures (Derivation (Move c.args.cell c.args.i)) (refl, refl)) refl refl refl
     ∙ told_first _ _ _ (ap not c.if-not-takes_all.true)
 
 pub returns-then-not-has : goal.returns-then-not-has
 returns-then-not-has c =
     let board = c.self.invariant.is_board ∙ ap (λ n. (elements_at n).board) c.self.view_is in
     let empty = c.has.ensures ∙ c.empties.ensures c.args.cell ∙ ap (λ p. is_empty_at p c.args.cell) board in
-    move_tested c.args.self.now c.args.cell c.args.i (c.takes_all.ensures (derivation (Move c.args.cell c.args.i)) (refl, refl)) empty refl refl
+    move_tested c.args.self.now c.args.cell c.args.i (c.takes_all.ensures (Derivation (Move c.args.cell c.args.i)) (refl, refl)) empty refl refl
     ∙ told_next _ _ _ _ (ap not c.if-not-takes_all.false) (told_first _ _ _ (ap not c.if-not-has.true))
 
 pub returns-then-not-are_in_scope : goal.returns-then-not-are_in_scope
@@ -29,7 +29,7 @@ returns-then-not-are_in_scope c =
     let board = c.self.invariant.is_board ∙ ap (λ n. (elements_at n).board) c.self.view_is in
     let empty = c.has.ensures ∙ c.empties.ensures c.args.cell ∙ ap (λ p. is_empty_at p c.args.cell) board in
     let inside = scope_is now (c.args.i ∷ []) (c.with.ensures.value ∙ ap (λ n. with_cell n.scope c.args.cell) c.self.view_is) c.are_in_scope.ensures in
-    move_tested now c.args.cell c.args.i (c.takes_all.ensures (derivation (Move c.args.cell c.args.i)) (refl, refl)) empty inside refl
+    move_tested now c.args.cell c.args.i (c.takes_all.ensures (Derivation (Move c.args.cell c.args.i)) (refl, refl)) empty inside refl
     ∙ told_next _ _ _ _ (ap not c.if-not-takes_all.false) (told_next _ _ _ _ (ap not c.if-not-has.false)
     (told_first _ _ _ (ap not c.if-not-are_in_scope.true)))
 
@@ -39,7 +39,7 @@ returns-then-not-are_of_edges c =
     let board = c.self.invariant.is_board ∙ ap (λ n. (elements_at n).board) c.self.view_is in
     let empty = c.has.ensures ∙ c.empties.ensures c.args.cell ∙ ap (λ p. is_empty_at p c.args.cell) board in
     let inside = scope_is now (c.args.i ∷ []) (c.with.ensures.value ∙ ap (λ n. with_cell n.scope c.args.cell) c.self.view_is) c.are_in_scope.ensures in
-    move_tested now c.args.cell c.args.i (c.takes_all.ensures (derivation (Move c.args.cell c.args.i)) (refl, refl)) empty inside c.are_of_edges.ensures
+    move_tested now c.args.cell c.args.i (c.takes_all.ensures (Derivation (Move c.args.cell c.args.i)) (refl, refl)) empty inside c.are_of_edges.ensures
     ∙ told_next _ _ _ _ (ap not c.if-not-takes_all.false) (told_next _ _ _ _ (ap not c.if-not-has.false)
     (told_next _ _ _ _ (ap not c.if-not-are_in_scope.false) (told_first _ _ _ (ap not c.if-not-are_of_edges.true))))
 
@@ -50,7 +50,7 @@ returns-in-Some c =
     let empty = c.has.ensures ∙ c.empties.ensures c.args.cell ∙ ap (λ p. is_empty_at p c.args.cell) board in
     let inside = scope_is now (c.args.i ∷ []) (c.with.ensures.value ∙ ap (λ n. with_cell n.scope c.args.cell) c.self.view_is) c.are_in_scope.ensures in
     let named = sym c.entry.ensures.value ∙ ap (option_map entry_of) c.in-Some.is in (
-      move_tested now c.args.cell c.args.i (c.takes_all.ensures (derivation (Move c.args.cell c.args.i)) (refl, refl)) empty inside c.are_of_edges.ensures
+      move_tested now c.args.cell c.args.i (c.takes_all.ensures (Derivation (Move c.args.cell c.args.i)) (refl, refl)) empty inside c.are_of_edges.ensures
           ∙ told_next _ _ _ _ (ap not c.if-not-takes_all.false) (told_next _ _ _ _ (ap not c.if-not-has.false)
           (told_next _ _ _ _ (ap not c.if-not-are_in_scope.false) (told_next _ _ _ _ (ap not c.if-not-are_of_edges.false) refl))),
       ap (λ o. move_entry now c.args.cell (cons_option o [])) named
@@ -60,6 +60,6 @@ returns-in-Some c =
 
 pub returns-in-None : goal.returns-in-None
 returns-in-None c =
-    let s = derivation (Move c.args.cell c.args.i) in
+    let s = Derivation (Move c.args.cell c.args.i) in
     absurd (missing c.args.self.now s c.args.i [] (sym (c.takes_all.ensures s (refl, refl)) ∙ c.if-not-takes_all.false)
     (sym c.entry.ensures.value ∙ ap (option_map entry_of) c.in-None.is))

@@ -4,7 +4,7 @@ use Rattle.hex_board.specs.Elements.{PlayerBoard}
 use Rattle.hex_board.specs.Positions.{is_empty_at}
 use Rattle.win_cert.specs.Entries.{Context}
 use Rattle.win_cert.specs.Reasons.{reason_against}
-use Rattle.win_cert.specs.Statements.{derivation}
+use Rattle.win_cert.specs.declared.statements.Statement.TheVariants.{Derivation}
 use Rattle.cert_check.specs.Keeping.{IsGivenOnIf}
 use Rattle.cert_check.proofs.BadStones.{none_in, small_set}
 use Rattle.cert_check.proofs.ReasonLaws.{put_reasons, told_none}
@@ -13,7 +13,7 @@ use Rattle.cert_check.proofs.checkers.Checker.keep.Goals as goal
 pub with_stones-self-inside-requires : goal.with_stones-self-inside-requires
 with_stones-self-inside-requires c k t =
     let now = c.args.self.now in
-    let clear = told_none _ _ _ (sym (put_reasons now c.in-Put.cells) ∙ ap (λ l. reason_against now (derivation l)) (sym c.in-Put.is) ∙ c.requires.0) in
+    let clear = told_none _ _ _ (sym (put_reasons now c.in-Put.cells) ∙ ap (λ l. reason_against now (Derivation l)) (sym c.in-Put.is) ∙ c.requires.0) in
     ap (λ n. is_empty_at n.base.board k) c.self.view_is
     ∙ none_in now.base.board c.in-Put.cells k (small_set c.in-Put.cells c.bits-bits.result c.bits-bits.ensures.value c.bits-bits.ensures.range k) clear t
 

@@ -1,7 +1,8 @@
 use Rattle.std.proofs.Common.{◌≡◌, drop}
 use Rattle.std.specs.List.{list_all}
 use Rattle.win_cert.specs.Entries.{entry_at}
-use Rattle.win_cert.specs.Statements.{Statement, may_take}
+use Rattle.win_cert.specs.Statements.{may_take}
+use Rattle.win_cert.specs.declared.statements.Statement.{Statement}
 use Rattle.cert_check.specs.Keeping.{TakesKind}
 use Rattle.cert_check.proofs.checkers.Checker.takes_all.Given as goal
 

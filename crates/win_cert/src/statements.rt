@@ -1,8 +1,8 @@
-//! What a line after the head says: a step of the derivation, or the claim.
+//! What a line after the head says: a derivation line, or the claim.
 
 ghost use Rattle.std.specs.Prelude.{◌≡◌, IfOk};
 ghost use Rattle.win_cert.specs.Named.{adj_in, alone, args_named, cases_in, claim_in, move_in};
-ghost use Rattle.win_cert.specs.Named.{or_in, pair_in, put_in, step_named};
+ghost use Rattle.win_cert.specs.Named.{or_in, pair_in, put_in, statement_named};
 
 use super::keywords::{Keyword, is_in_version, keyword_of};
 use super::words::Words;
@@ -11,22 +11,23 @@ use conn_store::Kind;
 use hex_cells::Size;
 use std::alloc::{AllocError, Global};
 
-/// A derivation line, or the claim with the number of its entry.
+/// What a line of a certificate after its head says: a derivation line, or the claim with the number
+/// of its entry. The reasons against certificates speak of statements.
 #[derive(Drop)]
-pub(crate) enum Step {
-    Line(Line),
+pub enum Statement {
+    Derivation(Line),
     Claim(Kind, u32),
 }
 
 /// What the words of a line say, in a certificate of that version on a board of that size; `None`
 /// exactly where they say nothing.
-pub(crate) fn read_step(
+pub(crate) fn read_statement(
     alloc: Global,
     words: &mut Words<'_>,
     version: u32,
     size: Size,
-) -> Result<Option<Step>, AllocError>
-    ensures { IfOk result (λ step. step ≡ step_named version size words.old) }
+) -> Result<Option<Statement>, AllocError>
+    ensures { IfOk result (λ step. step ≡ statement_named version size words.old) }
 {
     let Some(word) = words.next() else {
         return Ok(None);
@@ -47,7 +48,7 @@ fn read_args(
     words: &mut Words<'_>,
     keyword: Keyword,
     size: Size,
-) -> Result<Option<Step>, AllocError>
+) -> Result<Option<Statement>, AllocError>
     ensures { IfOk result (λ step. step ≡ args_named size keyword words.old) }
 {
     match keyword {
@@ -64,86 +65,86 @@ fn read_args(
     }
 }
 
-fn read_adj(words: &mut Words<'_>, size: Size) -> Option<Step>
+fn read_adj(words: &mut Words<'_>, size: Size) -> Option<Statement>
     ensures { result ≡ adj_in size words.old }
 {
     let x = words.end(size)?;
     let y = words.end(size)?;
     words.nothing()?;
-    Some(Step::Line(Line::Adj(x, y)))
+    Some(Statement::Derivation(Line::Adj(x, y)))
 }
 
-fn read_and(words: &mut Words<'_>) -> Option<Step>
+fn read_and(words: &mut Words<'_>) -> Option<Statement>
     ensures { result ≡ pair_in Line.And words.old }
 {
     let i = words.number()?;
     let j = words.number()?;
     words.nothing()?;
-    Some(Step::Line(Line::And(i, j)))
+    Some(Statement::Derivation(Line::And(i, j)))
 }
 
-fn read_key(words: &mut Words<'_>) -> Option<Step>
+fn read_key(words: &mut Words<'_>) -> Option<Statement>
     ensures { result ≡ pair_in Line.Key words.old }
 {
     let i = words.number()?;
     let j = words.number()?;
     words.nothing()?;
-    Some(Step::Line(Line::Key(i, j)))
+    Some(Statement::Derivation(Line::Key(i, j)))
 }
 
-fn read_or(words: &mut Words<'_>) -> Option<Step>
+fn read_or(words: &mut Words<'_>) -> Option<Statement>
     ensures { result ≡ or_in words.old }
 {
     let i = words.number()?;
     let j = words.number()?;
     if words.are_done() {
-        return Some(Step::Line(Line::Or2(i, j)));
+        return Some(Statement::Derivation(Line::Or2(i, j)));
     }
     let k = words.number()?;
     words.nothing()?;
-    Some(Step::Line(Line::Or3(i, j, k)))
+    Some(Statement::Derivation(Line::Or3(i, j, k)))
 }
 
-fn read_put(words: &mut Words<'_>, size: Size) -> Option<Step>
+fn read_put(words: &mut Words<'_>, size: Size) -> Option<Statement>
     ensures { result ≡ put_in size words.old }
 {
     let cells = words.cells(size)?;
-    Some(Step::Line(Line::Put(cells)))
+    Some(Statement::Derivation(Line::Put(cells)))
 }
 
-fn read_done(words: &mut Words<'_>) -> Option<Step>
-    ensures { result ≡ alone (Step.Line Line.Done) words.old }
+fn read_done(words: &mut Words<'_>) -> Option<Statement>
+    ensures { result ≡ alone (Statement.Derivation Line.Done) words.old }
 {
     words.nothing()?;
-    Some(Step::Line(Line::Done))
+    Some(Statement::Derivation(Line::Done))
 }
 
-fn read_move(words: &mut Words<'_>, size: Size) -> Option<Step>
+fn read_move(words: &mut Words<'_>, size: Size) -> Option<Statement>
     ensures { result ≡ move_in size words.old }
 {
     let cell = words.cell(size)?;
     let i = words.number()?;
     words.nothing()?;
-    Some(Step::Line(Line::Move(cell, i)))
+    Some(Statement::Derivation(Line::Move(cell, i)))
 }
 
-fn read_cases(alloc: Global, words: &mut Words<'_>) -> Result<Option<Step>, AllocError>
+fn read_cases(alloc: Global, words: &mut Words<'_>) -> Result<Option<Statement>, AllocError>
     ensures { IfOk result (λ step. step ≡ cases_in words.old) }
 {
     let Some(numbers) = words.numbers(alloc)? else {
         return Ok(None);
     };
     if LEAST_CASES <= numbers.len() && numbers.len() <= MOST_CASES {
-        Ok(Some(Step::Line(Line::Cases(Numbers::of(numbers)))))
+        Ok(Some(Statement::Derivation(Line::Cases(Numbers::of(numbers)))))
     } else {
         Ok(None)
     }
 }
 
-fn read_claim(words: &mut Words<'_>, kind: Kind) -> Option<Step>
+fn read_claim(words: &mut Words<'_>, kind: Kind) -> Option<Statement>
     ensures { result ≡ claim_in kind words.old }
 {
     let i = words.number()?;
     words.nothing()?;
-    Some(Step::Claim(kind, i))
+    Some(Statement::Claim(kind, i))
 }
