@@ -23,7 +23,9 @@ use Rattle.win_cert.specs.Cuts.{scoped}
 use Rattle.win_cert.specs.Entries.{Context, ScopedEntry, elements_at, entries_at, entry_at, is_end, middle_of, other_end}
 use Rattle.win_cert.specs.Reasons.{holds_of_chain, bad_reference, carriers_meet, common_cell, end_in_carrier, ends_differ, middle_kind, no_common_middle}
 use Rattle.win_cert.specs.RuleLines.{AreNamed, IsClear, JoinOverCell, JoinOverGroup}
-use Rattle.win_cert.specs.Statements.{Statement, derivation, have_same_ends, is_cell_in, is_chain, is_or, kind_taken, may_take, share_cell}
+use Rattle.win_cert.specs.declared.statements.Statement.{Statement}
+use Rattle.win_cert.specs.declared.statements.Statement.TheVariants.{Derivation}
+use Rattle.win_cert.specs.Statements.{have_same_ends, is_cell_in, is_chain, is_or, kind_taken, may_take, share_cell}
 use Rattle.win_cert.specs.declared.lines.Line.TheVariants.{And, Key, Or2, Or3}
 use Rattle.win_cert.proofs.CutChains.{three_at, two_at}
 use Rattle.win_cert.proofs.CutSteps.{IsChainAt, IsWayAt, and_right, key_right, three_right, two_right}
@@ -186,7 +188,7 @@ chain_at c i j a b x u y n r =
 pub and_means : (c : Context) (i j : ℕ) (a b : Entry) → AreNamed c (i ∷ j ∷ []) (a ∷ b ∷ []) → IsClear c (And i j) → JoinOverGroup (elements_at c) a b
 and_means c i j a b n h =
     let e = elements_at c in
-    let s = derivation (And i j) in
+    let s = Derivation (And i j) in
     let f = none_applies c s h in
     let t = two_there c i j a b n.at in
     let k = two_taken (may_take s (entry_at c i)) (may_take s (entry_at c j)) (f bad_reference) in
@@ -205,7 +207,7 @@ and_clear c i j a b n (x, u, y, r, g) =
 pub key_means : (c : Context) (i j : ℕ) (a b : Entry) → AreNamed c (i ∷ j ∷ []) (a ∷ b ∷ []) → IsClear c (Key i j) → JoinOverCell (elements_at c) a b
 key_means c i j a b n h =
     let e = elements_at c in
-    let s = derivation (Key i j) in
+    let s = Derivation (Key i j) in
     let f = none_applies c s h in
     let t = two_there c i j a b n.at in
     let k = two_taken (may_take s (entry_at c i)) (may_take s (entry_at c j)) (f bad_reference) in
@@ -226,7 +228,7 @@ pub two_means : (c : Context) (i j : ℕ) (a b : Entry) → AreNamed c (i ∷ j 
 two_means c i j a b n h =
     let v = scoped c.scope a in
     let w = scoped c.scope b in
-    let s = derivation (Or2 i j) in
+    let s = Derivation (Or2 i j) in
     let f = none_applies c s h in
     let t = two_there c i j a b n.at in
     let pair : entries_at c (i ∷ j ∷ []) ≡ v ∷ w ∷ [] = two_at c i j v w t.0 t.1 in
@@ -256,7 +258,7 @@ three_means c i j k a b d n h =
     let v = scoped c.scope a in
     let w = scoped c.scope b in
     let u = scoped c.scope d in
-    let s = derivation (Or3 i j k) in
+    let s = Derivation (Or3 i j k) in
     let f = none_applies c s h in
     let t = three_there c i j k a b d n.at in
     let all : entries_at c (i ∷ j ∷ k ∷ []) ≡ v ∷ w ∷ u ∷ [] = three_at c i j k v w u t.0 t.1 t.2 in

@@ -7,7 +7,7 @@ use Rattle.conn_store.specs.declared.entries.Entry.{Entry}
 use Rattle.win_cert.specs.Cuts.{scoped}
 use Rattle.win_cert.specs.Entries.{Context, elements_at, entry_at}
 use Rattle.win_cert.specs.Reasons.{reason_against}
-use Rattle.win_cert.specs.Statements.{derivation}
+use Rattle.win_cert.specs.declared.statements.Statement.TheVariants.{Derivation}
 use Rattle.win_cert.specs.declared.lines.Line.{Line}
 
 -- the numbers are those of earlier lines that gave these entries in the line's scope, each a valid
@@ -19,7 +19,7 @@ pub record AreNamed (c : Context) (numbers : List ℕ) (entries : List Entry) : 
 
 -- there is no reason against the line
 abbrev pub IsClear : Context → Line → Type 0
-IsClear c line = reason_against c (derivation line) ≡ None
+IsClear c line = reason_against c (Derivation line) ≡ None
 
 -- the rule of AND applies to the entries over a group
 abbrev pub JoinOverGroup : PlayerBoard → Entry → Entry → Type 0
