@@ -1,11 +1,14 @@
 -- What the texts of the options' values say.
-use Rattle.std.specs.Prelude.{◌≡◌, ◌≢◌, ◌≤◌, ◌^◌, ◌-◌, [], Option, Some, codes}
+use Rattle.std.specs.Prelude.{◌≡◌, ◌≢◌, ◌≤◌, [], Option, Some, codes}
 use Rattle.option_words.specs.Grammar.{word_name}
 use Rattle.option_words.specs.Values.{IsNumberFrom, TextBytes, switch_word}
 use Rattle.hexd_words.specs.declared.settings.Mode.{Mode}
 use Rattle.hexd_words.specs.declared.settings.Mode.TheVariants.{Htp, Check, Migrate, Audit, Sim}
 use Rattle.hexd_words.specs.declared.settings.Mode.TheVariants.{Bench}
 use Rattle.hexd_words.specs.declared.settings.Options.{Options}
+use Rattle.hexd_words.specs.declared.table.TheConstants.{SIZE, WORKERS, PLAYOUTS, SEED, WORDS}
+use Rattle.hexd_words.specs.declared.table.TheConstants.{EXPAND, WEIGHT, HSEARCH, STEPS, BUDGET}
+use Rattle.hexd_words.specs.declared.table.TheConstants.{TRACE}
 
 -- the word that names a mode
 abbrev pub mode_word : Mode → TextBytes
@@ -19,26 +22,26 @@ mode_word Bench = codes "bench"
 -- The options are what these values of the names say.
 pub record AreOptions (value : TextBytes → Option TextBytes) (o : Options) : Type 0 where
   pub mode : value word_name ≡ Some (mode_word o.mode)
-  pub size : IsNumberFrom 1 11 (value (codes "size")) o.size
-  pub workers : IsNumberFrom 1 64 (value (codes "workers")) o.workers
-  pub playouts : IsNumberFrom 1 1000000 (value (codes "playouts")) o.playouts
-  pub seed : IsNumberFrom 0 (2 ^ 64 - 1) (value (codes "seed")) o.seed
-  pub words : IsNumberFrom 1024 16777216 (value (codes "words")) o.words
-  pub expand : IsNumberFrom 1 1000 (value (codes "expand")) o.expand
-  pub weight : IsNumberFrom 0 1024 (value (codes "weight")) o.weight
-  pub hsearch : value (codes "hsearch") ≡ Some (switch_word o.hsearch)
-  pub steps : IsNumberFrom 0 1000000 (value (codes "steps")) o.steps
-  pub budget : IsNumberFrom 1 (2 ^ 64 - 1) (value (codes "budget")) o.budget
-  pub trace : value (codes "trace") ≡ o.trace
+  pub size : IsNumberFrom SIZE.2 SIZE.3 (value SIZE.0.now) o.size
+  pub workers : IsNumberFrom WORKERS.2 WORKERS.3 (value WORKERS.0.now) o.workers
+  pub playouts : IsNumberFrom PLAYOUTS.2 PLAYOUTS.3 (value PLAYOUTS.0.now) o.playouts
+  pub seed : IsNumberFrom SEED.2 SEED.3 (value SEED.0.now) o.seed
+  pub words : IsNumberFrom WORDS.2 WORDS.3 (value WORDS.0.now) o.words
+  pub expand : IsNumberFrom EXPAND.2 EXPAND.3 (value EXPAND.0.now) o.expand
+  pub weight : IsNumberFrom WEIGHT.2 WEIGHT.3 (value WEIGHT.0.now) o.weight
+  pub hsearch : value HSEARCH.0.now ≡ Some (switch_word o.hsearch)
+  pub steps : IsNumberFrom STEPS.2 STEPS.3 (value STEPS.0.now) o.steps
+  pub budget : IsNumberFrom BUDGET.2 BUDGET.3 (value BUDGET.0.now) o.budget
+  pub trace : value TRACE.now ≡ o.trace
   pub trace_is_named : o.trace ≢ Some []
 
 -- The options are in their ranges.
 pub record OptionsInRange (o : Options) : Type 0 where
-  pub size : (1 ≤ o.size) × (o.size ≤ 11)
-  pub workers : (1 ≤ o.workers) × (o.workers ≤ 64)
-  pub playouts : (1 ≤ o.playouts) × (o.playouts ≤ 1000000)
-  pub words : (1024 ≤ o.words) × (o.words ≤ 16777216)
-  pub expand : (1 ≤ o.expand) × (o.expand ≤ 1000)
-  pub weight : o.weight ≤ 1024
-  pub steps : o.steps ≤ 1000000
-  pub budget : 1 ≤ o.budget
+  pub size : (SIZE.2 ≤ o.size) × (o.size ≤ SIZE.3)
+  pub workers : (WORKERS.2 ≤ o.workers) × (o.workers ≤ WORKERS.3)
+  pub playouts : (PLAYOUTS.2 ≤ o.playouts) × (o.playouts ≤ PLAYOUTS.3)
+  pub words : (WORDS.2 ≤ o.words) × (o.words ≤ WORDS.3)
+  pub expand : (EXPAND.2 ≤ o.expand) × (o.expand ≤ EXPAND.3)
+  pub weight : o.weight ≤ WEIGHT.3
+  pub steps : o.steps ≤ STEPS.3
+  pub budget : BUDGET.2 ≤ o.budget

@@ -5,6 +5,9 @@ ghost use Rattle.clap.specs.Words.{app_of};
 ghost use Rattle.option_words.specs.Command.{with_options};
 ghost use Rattle.hexd_words.specs.Table.{hexd_app, knob_table, other_table};
 
+use crate::table::{
+    BUDGET, EXPAND, HSEARCH, PLAYOUTS, SEED, SIZE, STEPS, TRACE, WEIGHT, WORDS, WORKERS,
+};
 use clap::Command;
 use option_words::{plain_command, with_bare_option, with_option};
 use std::alloc::{AllocError, Global};
@@ -21,20 +24,20 @@ pub fn command<'a>(alloc: Global) -> Result<Command<'a>, AllocError>
 fn with_knobs<'a>(alloc: Global, command: Command<'a>) -> Result<Command<'a>, AllocError>
     ensures { IfOk result (λ c. app_of c ≡ with_options (app_of command.entry) knob_table) }
 {
-    let command = with_option(alloc, command, "size", "11")?;
-    let command = with_option(alloc, command, "workers", "1")?;
-    let command = with_option(alloc, command, "playouts", "10000")?;
-    let command = with_option(alloc, command, "seed", "0")?;
-    let command = with_option(alloc, command, "words", "4194304")?;
-    let command = with_option(alloc, command, "expand", "8")?;
-    with_option(alloc, command, "weight", "180")
+    let command = with_option(alloc, command, SIZE.0, SIZE.1)?;
+    let command = with_option(alloc, command, WORKERS.0, WORKERS.1)?;
+    let command = with_option(alloc, command, PLAYOUTS.0, PLAYOUTS.1)?;
+    let command = with_option(alloc, command, SEED.0, SEED.1)?;
+    let command = with_option(alloc, command, WORDS.0, WORDS.1)?;
+    let command = with_option(alloc, command, EXPAND.0, EXPAND.1)?;
+    with_option(alloc, command, WEIGHT.0, WEIGHT.1)
 }
 
 fn with_others<'a>(alloc: Global, command: Command<'a>) -> Result<Command<'a>, AllocError>
     ensures { IfOk result (λ c. app_of c ≡ with_options (app_of command.entry) other_table) }
 {
-    let command = with_option(alloc, command, "hsearch", "on")?;
-    let command = with_option(alloc, command, "steps", "10000")?;
-    let command = with_option(alloc, command, "budget", "1000000")?;
-    with_bare_option(alloc, command, "trace")
+    let command = with_option(alloc, command, HSEARCH.0, HSEARCH.1)?;
+    let command = with_option(alloc, command, STEPS.0, STEPS.1)?;
+    let command = with_option(alloc, command, BUDGET.0, BUDGET.1)?;
+    with_bare_option(alloc, command, TRACE)
 }

@@ -30,6 +30,7 @@ mod command;
 mod modes;
 mod reading;
 mod settings;
+mod table;
 
 pub use option_words::Memory;
 pub use reading::read_words;

@@ -1,6 +1,6 @@
 //! From the words of a command line to its options.
 
-ghost use Rattle.std.specs.Prelude.{◌≡◌, ◌≢◌, ◌↔◌, IfOk, IfSome, IsTrue, Some, [], codes};
+ghost use Rattle.std.specs.Prelude.{◌≡◌, ◌≢◌, ◌↔◌, IfOk, IfSome, IsTrue, Some, []};
 ghost use Rattle.std.specs.Prelude.{option_map};
 ghost use Rattle.clap.specs.Words.{first_value, found_of};
 ghost use Rattle.hexd_words.specs.Reading.{WellFormed};
@@ -9,6 +9,9 @@ ghost use Rattle.hexd_words.specs.declared.settings.Options.{Options};
 
 use crate::command::command;
 use crate::modes::mode;
+use crate::table::{
+    BUDGET, EXPAND, HSEARCH, PLAYOUTS, SEED, SIZE, STEPS, TRACE, WEIGHT, WORDS, WORKERS,
+};
 use crate::{Memory, Options};
 use clap::ArgMatches;
 use hex_io::Word;
@@ -32,7 +35,7 @@ fn options_of(alloc: Global, matches: &ArgMatches<'_>) -> Result<Option<Options>
     ensures { IfOk result (λ r. (o : Options)
         → (r ≡ Some o) ↔ AreOptions (first_value (found_of matches.now)) o) }
 {
-    let name = matches.get_str("trace");
+    let name = matches.get_str(TRACE);
     if is_empty(name) {
         return Ok(None);
     }
@@ -58,26 +61,25 @@ fn copied(alloc: Global, text: Option<&str>) -> Result<Option<Word>, Memory>
     }
 }
 
-// The options, where the name of the trace is at hand. The ranges are those of the table in
-// `Options`.
+// The options, where the name of the trace is at hand. The ranges are those of the table.
 fn with_trace(matches: &ArgMatches<'_>, trace: Option<Word>) -> Option<Options>
-    requires as_given { first_value (found_of matches.now) (codes "trace") ≡ trace }
+    requires as_given { first_value (found_of matches.now) TRACE.now ≡ trace }
     requires named { trace ≢ Some [] }
     ensures { (o : Options)
         → (result ≡ Some o) ↔ AreOptions (first_value (found_of matches.now)) o }
 {
     Some(Options {
         mode: mode(matches.get_str("word"))?,
-        size: small_number(matches.get_str("size"), 1, 11)?,
-        workers: small_number(matches.get_str("workers"), 1, 64)?,
-        playouts: small_number(matches.get_str("playouts"), 1, 1_000_000)?,
-        seed: number(matches.get_str("seed"), 0, u64::MAX)?,
-        words: small_number(matches.get_str("words"), 1_024, 16_777_216)?,
-        expand: small_number(matches.get_str("expand"), 1, 1_000)?,
-        weight: small_number(matches.get_str("weight"), 0, 1_024)?,
-        hsearch: switch(matches.get_str("hsearch"))?,
-        steps: small_number(matches.get_str("steps"), 0, 1_000_000)?,
-        budget: number(matches.get_str("budget"), 1, u64::MAX)?,
+        size: small_number(matches.get_str(SIZE.0), SIZE.2, SIZE.3)?,
+        workers: small_number(matches.get_str(WORKERS.0), WORKERS.2, WORKERS.3)?,
+        playouts: small_number(matches.get_str(PLAYOUTS.0), PLAYOUTS.2, PLAYOUTS.3)?,
+        seed: number(matches.get_str(SEED.0), SEED.2, SEED.3)?,
+        words: small_number(matches.get_str(WORDS.0), WORDS.2, WORDS.3)?,
+        expand: small_number(matches.get_str(EXPAND.0), EXPAND.2, EXPAND.3)?,
+        weight: small_number(matches.get_str(WEIGHT.0), WEIGHT.2, WEIGHT.3)?,
+        hsearch: switch(matches.get_str(HSEARCH.0))?,
+        steps: small_number(matches.get_str(STEPS.0), STEPS.2, STEPS.3)?,
+        budget: number(matches.get_str(BUDGET.0), BUDGET.2, BUDGET.3)?,
         trace,
     })
 }
