@@ -57,30 +57,37 @@ fn a_second_adjacent_entry_is_dominated(rt: HostRuntime) {
 }
 
 // Black's stones on a2 to g2 are one group, element 13, and a1 to g1 are elements 2 to 8. Each of
-// these seven cells lies beside the first edge and beside the group.
+// these seven cells lies beside the first edge and beside the group: its two entries are added.
+fn add_columns(rt: &impl Abort, store: &mut Store, columns: u8) {
+    for column in 0..columns {
+        let number = 2 * u32::from(column);
+        let x = 2u8.saturating_add(column);
+        assert_eq!(rt; add_adjacent(rt, store, 0, x), Put::Added(number));
+        assert_eq!(rt; add_adjacent(rt, store, x, 13), Put::Added(number + 1));
+    }
+}
+
+// Adds the way over each of these cells, from the first edge to the group, of which the pair holds
+// six.
+fn add_ways(rt: &impl Abort, store: &mut Store, columns: u8) {
+    for column in 0..u32::from(columns) {
+        let put = add_and(rt, store, 2 * column, 2 * column + 1);
+        let number = 2 * u32::from(columns) + column;
+        let want = if column < 6 {
+            Put::Added(number)
+        } else {
+            Put::PairFull
+        };
+        assert_eq!(rt; put, want);
+    }
+}
+
 #[test]
 fn a_seventh_semi_entry_finds_the_pair_full(rt: HostRuntime) {
     let mut store = store_of(&rt, rt.alloc(), 11, 7);
     assert_eq!(rt; store.elements().count(), 117);
-    for column in 0..7u8 {
-        let number = 2 * u32::from(column);
-        assert_eq!(rt;
-            add_adjacent(&rt, &mut store, 0, 2 + column),
-            Put::Added(number)
-        );
-        assert_eq!(rt;
-            add_adjacent(&rt, &mut store, 2 + column, 13),
-            Put::Added(number + 1)
-        );
-    }
-    for column in 0..7u32 {
-        let put = add_and(&rt, &mut store, 2 * column, 2 * column + 1);
-        if column < 6 {
-            assert_eq!(rt; put, Put::Added(14 + column));
-        } else {
-            assert_eq!(rt; put, Put::PairFull);
-        }
-    }
+    add_columns(&rt, &mut store, 7);
+    add_ways(&rt, &mut store, 7);
     let held = Held {
         count: 6,
         at: [14, 15, 16, 17, 18, 19],
@@ -98,13 +105,8 @@ fn a_seventh_semi_entry_finds_the_pair_full(rt: HostRuntime) {
 #[test]
 fn two_or_three_ways_make_a_full_entry(rt: HostRuntime) {
     let mut store = store_of(&rt, rt.alloc(), 11, 7);
-    for column in 0..3u8 {
-        add_adjacent(&rt, &mut store, 0, 2 + column);
-        add_adjacent(&rt, &mut store, 2 + column, 13);
-    }
-    for column in 0..3u32 {
-        add_and(&rt, &mut store, 2 * column, 2 * column + 1);
-    }
+    add_columns(&rt, &mut store, 3);
+    add_ways(&rt, &mut store, 3);
     assert_eq!(rt; store.entries().len(), 9);
     let three = store
         .by_or_three(6, 7, 8)
