@@ -1,8 +1,7 @@
 -- A ledger with the lines of an entry that is cut from a report.
-use Rattle.std.proofs.Common.{◌≡◌, ℕ, ◌+◌, ◌<◌, ◌≤◌, List, [], ◌∷◌, ◌++◌, All, Some, length, refl, sym, ◌∙◌, ap, subst, suc, arith}
+use Rattle.std.proofs.Common.{◌≡◌, ℕ, ◌+◌, ◌≤◌, List, [], ◌∷◌, ◌++◌, All, Some, length, refl, sym, ◌∙◌, ap, subst, suc, arith}
 use Rattle.std.specs.List.{slice_get}
 use Rattle.std.proofs.lemmas.List.Elements.{All-cons, All-head, All-nil, All-tail}
-use Rattle.hex_cells.specs.Sets.{has}
 use Rattle.hex_board.specs.Elements.{PlayerBoard}
 use Rattle.hex_board.specs.Positions.{Position}
 use Rattle.conn_store.specs.Stores.{IsSound, StoreData}
@@ -12,7 +11,7 @@ use Rattle.conn_store.specs.declared.entries.Kind.TheVariants.{Semi}
 use Rattle.win_cert.specs.Contexts.{AreClear, after_lines, first_context}
 use Rattle.win_cert.specs.Cuts.{IsEdgeEntryAt}
 use Rattle.win_cert.specs.Derivations.{DerivesOnto}
-use Rattle.win_cert.specs.Showing.{Keeps, Shows, scope_of}
+use Rattle.win_cert.specs.Showing.{Keeps, scope_of}
 use Rattle.win_cert.specs.Writable.{IsLineOf}
 use Rattle.win_cert.specs.declared.certs.TheConstants.{FIRST_VERSION, LATEST_VERSION, MOST_LINES}
 use Rattle.win_cert.specs.declared.lines.Line.{Line}
@@ -20,8 +19,8 @@ use Rattle.win_cert.specs.declared.lines.Line.TheVariants.{Adj, And, Key, Or2, O
 use Rattle.win_cert.proofs.Appending.{after_append, clear_append}
 use Rattle.win_cert.proofs.CutDerivations.{longer}
 use Rattle.win_cert.proofs.CutShown.{IsCutOnto, cut_clear, cut_gives, cut_onto, cut_shown}
-use Rattle.hex_solve.specs.Ledgers.{GrowsBy, IsLedger, LedgerData, read_of}
-use Rattle.hex_solve.specs.Strong.{AreSemi, AreWins, Grows, ShowsCuts, ShowsIn}
+use Rattle.hex_solve.specs.Ledgers.{IsLedger, LedgerData, read_of}
+use Rattle.hex_solve.specs.Strong.{AreSemi, AreWins, ShowsCuts, ShowsIn}
 use Rattle.hex_solve.proofs.AddedLines.{put_follows, reached_there}
 use Rattle.hex_solve.proofs.InsideLines.{ShownInside, same_carrier, same_inside}
 use Rattle.hex_solve.proofs.LedgerLaws.{base_of, number_next}

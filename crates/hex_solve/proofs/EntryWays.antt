@@ -10,7 +10,6 @@ use Rattle.hex_board.specs.Positions.{Position, is_empty_at}
 use Rattle.conn_store.specs.Stores.{StoreData}
 use Rattle.conn_store.specs.declared.entries.Entry.{Entry}
 use Rattle.conn_store.specs.declared.entries.Held.{Held}
-use Rattle.conn_store.specs.declared.entries.Kind.{Kind}
 use Rattle.conn_store.specs.declared.entries.Kind.TheVariants.{Semi}
 use Rattle.win_cert.specs.Cuts.{AreEdgeNumbers, IsEdgeEntryAt}
 use Rattle.win_cert.proofs.CutDerivations.{longer}

@@ -1,24 +1,23 @@
 -- How the replies that are left are narrowed by each line that answers some.
 use Rattle.std.proofs.Common.{◌≡◌, ℕ, ◌+◌, ◌<◌, ◌≤◌, ◌&&◌, ◌||◌, ◌==◌, ◌⊎◌, not, true, false, Bool, List, [], ◌∷◌, ◌++◌, length, bit_and, bit_or, refl, sym, ◌∙◌, ap, subst, inl, inr, arith}
-use Rattle.std.proofs.lemmas.Bool.{both_ways, cases_Bool, false_from_ne_true, true≢false}
+use Rattle.std.proofs.lemmas.Bool.{cases_Bool, true≢false}
 use Rattle.hex_cells.specs.Colours.{other_of}
 use Rattle.hex_cells.specs.Sets.{has, members, without_cell}
 use Rattle.hex_cells.proofs.Bits.{has_and, has_or, has_without}
-use Rattle.hex_cells.proofs.Counts.{members_few, members_less}
+use Rattle.hex_cells.proofs.Counts.{members_less}
 use Rattle.hex_board.specs.Elements.{PlayerBoard}
 use Rattle.hex_cells.specs.declared.colours.Colour.{Colour}
 use Rattle.hex_board.specs.Positions.{Position, is_empty_at, placed}
 use Rattle.hex_board.proofs.Placed.{placed_empty}
-use Rattle.conn_store.specs.Laws.{IsSubset}
 use Rattle.conn_store.specs.declared.entries.Kind.{Kind}
 use Rattle.conn_store.specs.declared.entries.Kind.TheVariants.{Semi}
-use Rattle.conn_store.proofs.Sureness.{in_without, without_inside, without_itself}
-use Rattle.win_cert.specs.Showing.{GivesEdges, Keeps, Shows, scope_of}
+use Rattle.conn_store.proofs.Sureness.{without_inside, without_itself}
+use Rattle.win_cert.specs.Showing.{GivesEdges, scope_of}
 use Rattle.win_cert.proofs.Appending.{edges_stay, shown_on}
 use Rattle.win_cert.proofs.CutDerivations.{longer}
 use Rattle.win_cert.proofs.Reaching.{scope_other}
 use Rattle.win_cert.specs.Contexts.{after_lines}
-use Rattle.hex_solve.specs.Ledgers.{GrowsBy, LedgerData, read_of}
+use Rattle.hex_solve.specs.Ledgers.{LedgerData, read_of}
 use Rattle.hex_solve.specs.Strong.{AnswerBut, AreInside, AreWins, Grows, IsMissed, ShowsIn}
 use Rattle.hex_solve.proofs.LedgerLaws.{grows_none, grows_on}
 use Rattle.hex_solve.specs.Searching.{IsSearched}

@@ -1,4 +1,4 @@
-use Rattle.std.proofs.Common.{◌≡◌, ◌<◌, arith}
+use Rattle.std.proofs.Common.{◌<◌, arith}
 use Rattle.hex_cells.specs.Sets.{members}
 use Rattle.hex_solve.proofs.EntryWays.{entry_chosen, none_chosen, numbered, semi_within}
 use Rattle.hex_solve.proofs.ways.chosen_of.Goals as goal

@@ -1,4 +1,4 @@
-use Rattle.std.proofs.Common.{◌≡◌, ℕ, All, Global, List, Vec, sym, subst}
+use Rattle.std.proofs.Common.{ℕ, All, Global, List, Vec, sym, subst}
 use Rattle.std.specs.Option.{IfSome}
 use Rattle.hex_solve.specs.Strong.{HasSemiAt, ShowsCuts}
 use Rattle.hex_solve.proofs.EntryWays.{are_semi, chosen_answer}

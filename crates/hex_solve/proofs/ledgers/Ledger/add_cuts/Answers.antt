@@ -1,4 +1,4 @@
-use Rattle.std.proofs.Common.{◌≡◌, ◌≤◌, length, subst, arith}
+use Rattle.std.proofs.Common.{◌≤◌, length, arith}
 use Rattle.win_cert.specs.declared.certs.TheConstants.{MOST_LINES}
 use Rattle.hex_solve.proofs.CutLedgers.{cut_in, cut_ledger, cut_shows, cut_shows_from}
 use Rattle.hex_solve.proofs.EntryWays.{all_within}
