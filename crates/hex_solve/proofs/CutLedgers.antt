@@ -1,16 +1,17 @@
 -- A ledger with the lines of an entry that is cut from a report.
-use Rattle.std.proofs.Common.{◌≡◌, ℕ, ◌+◌, ◌<◌, ◌≤◌, List, [], ◌∷◌, ◌++◌, All, Some, get_or, length, refl, sym, ◌∙◌, ap, subst, arith}
+use Rattle.std.proofs.Common.{◌≡◌, ℕ, ◌+◌, ◌≤◌, List, [], ◌∷◌, ◌++◌, All, Some, length, refl, sym, ◌∙◌, ap, subst, suc, arith}
 use Rattle.std.specs.List.{slice_get}
 use Rattle.std.proofs.lemmas.List.Elements.{All-cons, All-head, All-nil, All-tail}
-use Rattle.hex_cells.specs.Sets.{has}
 use Rattle.hex_board.specs.Elements.{PlayerBoard}
 use Rattle.hex_board.specs.Positions.{Position}
 use Rattle.conn_store.specs.Stores.{IsSound, StoreData}
 use Rattle.conn_store.specs.declared.entries.Entry.{Entry}
+use Rattle.conn_store.specs.declared.entries.Kind.{Kind}
+use Rattle.conn_store.specs.declared.entries.Kind.TheVariants.{Semi}
 use Rattle.win_cert.specs.Contexts.{AreClear, after_lines, first_context}
 use Rattle.win_cert.specs.Cuts.{IsEdgeEntryAt}
 use Rattle.win_cert.specs.Derivations.{DerivesOnto}
-use Rattle.win_cert.specs.Showing.{Keeps, Shows, scope_of}
+use Rattle.win_cert.specs.Showing.{Keeps, scope_of}
 use Rattle.win_cert.specs.Writable.{IsLineOf}
 use Rattle.win_cert.specs.declared.certs.TheConstants.{FIRST_VERSION, LATEST_VERSION, MOST_LINES}
 use Rattle.win_cert.specs.declared.lines.Line.{Line}
@@ -18,8 +19,8 @@ use Rattle.win_cert.specs.declared.lines.Line.TheVariants.{Adj, And, Key, Or2, O
 use Rattle.win_cert.proofs.Appending.{after_append, clear_append}
 use Rattle.win_cert.proofs.CutDerivations.{longer}
 use Rattle.win_cert.proofs.CutShown.{IsCutOnto, cut_clear, cut_gives, cut_onto, cut_shown}
-use Rattle.hex_solve.specs.Ledgers.{GrowsBy, IsLedger, LedgerData, read_of}
-use Rattle.hex_solve.specs.Strong.{Grows, ShowsCut, ShowsIn}
+use Rattle.hex_solve.specs.Ledgers.{IsLedger, LedgerData, read_of}
+use Rattle.hex_solve.specs.Strong.{AreSemi, AreWins, ShowsCuts, ShowsIn}
 use Rattle.hex_solve.proofs.AddedLines.{put_follows, reached_there}
 use Rattle.hex_solve.proofs.InsideLines.{ShownInside, same_carrier, same_inside}
 use Rattle.hex_solve.proofs.LedgerLaws.{base_of, number_next}
@@ -61,35 +62,35 @@ abbrev pub lined : LedgerData → List Line → LedgerData
 lined d now = record { base = d.base; lines = now; lost = d.lost }
 
 -- what is known where a `put` and the lines of an entry were added to a ledger
-pub record IsCutIn (d : LedgerData) (p : Position) (s : ℕ) (store : StoreData) (n : ℕ) (before now : List Line) (numbers : List ℕ) : Type 0 where
+pub record IsCutIn (d : LedgerData) (p : Position) (s : ℕ) (store : StoreData) (asked : List ℕ) (before now : List Line) (numbers : List ℕ) : Type 0 where
   pub ledger : IsLedger d
   pub keeps : Keeps d.base.board p
   pub scope : s ≡ scope_of d.base p
   pub elements : store.elements ≡ record { board = p; player = d.base.player }
   pub sound : IsSound store
   pub put : before ≡ d.lines ++ Put s ∷ []
-  pub onto : DerivesOnto store (n ∷ []) before now numbers
+  pub onto : DerivesOnto store asked before now numbers
   pub room : length now ≤ MOST_LINES
 
-all_lines : (d : LedgerData) (p : Position) (s : ℕ) (store : StoreData) (n : ℕ) (before now : List Line) (numbers : List ℕ) (w : IsCutIn d p s store n before now numbers) → now ≡ d.lines ++ Put s ∷ w.onto.lines
-all_lines d p s store n before now numbers w = w.onto.added ∙ (ap (λ v. v ++ w.onto.lines) w.put ∙ seam d.lines (Put s) w.onto.lines)
+all_lines : (d : LedgerData) (p : Position) (s : ℕ) (store : StoreData) (asked : List ℕ) (before now : List Line) (numbers : List ℕ) (w : IsCutIn d p s store asked before now numbers) → now ≡ d.lines ++ Put s ∷ w.onto.lines
+all_lines d p s store asked before now numbers w = w.onto.added ∙ (ap (λ v. v ++ w.onto.lines) w.put ∙ seam d.lines (Put s) w.onto.lines)
 
-cut_there : (d : LedgerData) (p : Position) (s : ℕ) (store : StoreData) (n : ℕ) (before now : List Line) (numbers : List ℕ) (w : IsCutIn d p s store n before now numbers)
-    → IsCutOnto (read_of d) p s store (n ∷ []) w.onto.lines numbers
-cut_there d p s store n before now numbers w =
+cut_there : (d : LedgerData) (p : Position) (s : ℕ) (store : StoreData) (asked : List ℕ) (before now : List Line) (numbers : List ℕ) (w : IsCutIn d p s store asked before now numbers)
+    → IsCutOnto (read_of d) p s store asked w.onto.lines numbers
+cut_there d p s store asked before now numbers w =
     let c = read_of d in
     let e : length before ≡ length d.lines + 1 = ap length w.put ∙ longer d.lines (Put s) in
     let m : length c.earlier ≡ length d.lines = number_next d in
     let number : length before ≡ length c.earlier + 1 = omega arith in
     let elements : store.elements ≡ record { board = p; player = c.base.player } = w.elements ∙ ap (λ (x : PlayerBoard). record { board = p; player = x.player }) (sym (base_of d)) in
-    cut_onto c p s store (n ∷ []) before now numbers (reached_there d p s w.keeps w.scope) elements w.sound number w.onto
+    cut_onto c p s store asked before now numbers (reached_there d p s w.keeps w.scope) elements w.sound number w.onto
 
-pub cut_ledger : (d : LedgerData) (p : Position) (s : ℕ) (store : StoreData) (n : ℕ) (before now : List Line) (numbers : List ℕ) → IsCutIn d p s store n before now numbers → IsLedger (lined d now)
-cut_ledger d p s store n before now numbers w =
+pub cut_ledger : (d : LedgerData) (p : Position) (s : ℕ) (store : StoreData) (asked : List ℕ) (before now : List Line) (numbers : List ℕ) → IsCutIn d p s store asked before now numbers → IsLedger (lined d now)
+cut_ledger d p s store asked before now numbers w =
     let first = first_context d.base.board d.base.player in
-    let all = all_lines d p s store n before now numbers w in
+    let all = all_lines d p s store asked before now numbers w in
     let o = w.onto in
-    let clear : AreClear (read_of d) (Put s ∷ o.lines) = cut_clear (read_of d) p s store (n ∷ []) o.lines numbers (cut_there d p s store n before now numbers w) in
+    let clear : AreClear (read_of d) (Put s ∷ o.lines) = cut_clear (read_of d) p s store asked o.lines numbers (cut_there d p s store asked before now numbers w) in
     let size : store.elements.board.size ≡ d.base.board.size = ap (λ (x : PlayerBoard). x.board.size) w.elements ∙ w.keeps.size in
     let form : All (IsLineOf LATEST_VERSION d.base.board.size) (Put s ∷ o.lines) = All-cons (IsLineOf LATEST_VERSION d.base.board.size) (Put s) o.lines (put_follows d p s w.keeps w.scope).1
     (all_latest store.elements.board.size d.base.board.size o.lines size o.form) in
@@ -102,30 +103,45 @@ cut_ledger d p s store n before now numbers w =
       small = w.ledger.small;
     }
 
-pub cut_shows : (d : LedgerData) (p : Position) (s : ℕ) (store : StoreData) (n : ℕ) (before now : List Line) (numbers : List ℕ) (i : ℕ) → IsCutIn d p s store n before now numbers → slice_get numbers 0 ≡ Some i
-    → ShowsCut d (lined d now) p store n i
-cut_shows d p s store n before now numbers i w at =
+-- each of the lines shows what its entry says, by a fact of each place
+wins_all : (new : LedgerData) (p : Position) (d : StoreData) (asked numbers sets : List ℕ) → length numbers ≡ length asked → AreSemi d asked sets
+    → ((j n i : ℕ) (a : Entry) → slice_get asked j ≡ Some n → slice_get numbers j ≡ Some i → IsEdgeEntryAt d n a → ShowsIn new p a.kind a.carrier i) → AreWins new p numbers sets
+wins_all new p d [] [] [] l h f = tt
+wins_all new p d [] [] (c ∷ sets) l h f = absurd h
+wins_all new p d [] (i ∷ numbers) sets l h f = absurd (omega arith)
+wins_all new p d (n ∷ asked) [] sets l h f = absurd (omega arith)
+wins_all new p d (n ∷ asked) (i ∷ numbers) [] l h f = absurd h
+wins_all new p d (n ∷ asked) (i ∷ numbers) (c ∷ sets) l ((a, at, k, q), r) f = (
+  subst (λ v. ShowsIn new p Semi v i) q (subst (λ (x : Kind). ShowsIn new p x a.carrier i) k (f 0 n i a refl refl at)),
+  wins_all new p d asked numbers sets (omega arith) r (λ j. f (suc j)),
+)
+
+pub cut_shows : (d : LedgerData) (p : Position) (s : ℕ) (store : StoreData) (asked : List ℕ) (before now : List Line) (numbers : List ℕ) → IsCutIn d p s store asked before now numbers
+    → ShowsCuts d (lined d now) p store asked numbers
+cut_shows d p s store asked before now numbers w =
     let first = first_context d.base.board d.base.player in
     let c = read_of d in
-    let all = all_lines d p s store n before now numbers w in
+    let all = all_lines d p s store asked before now numbers w in
     let o = w.onto in
-    let cut = cut_there d p s store n before now numbers w in
+    let cut = cut_there d p s store asked before now numbers w in
     let read : after_lines first now ≡ after_lines c (Put s ∷ o.lines) = ap (after_lines first) all ∙ after_append first d.lines (Put s ∷ o.lines) in
-    let long : length now ≡ length d.lines + length (Put s ∷ o.lines) = ap length all ∙ lengths d.lines (Put s ∷ o.lines) in (
-      (length (Put s ∷ o.lines), record { base = refl; more = Put s ∷ o.lines; lines = all; lost = omega arith; count = omega (arith, long) }),
-      λ a edge z.
+    let long : length now ≡ length d.lines + length (Put s ∷ o.lines) = ap length all ∙ lengths d.lines (Put s ∷ o.lines) in
+    record {
+      grows = (length (Put s ∷ o.lines), record { base = refl; more = Put s ∷ o.lines; lines = all; lost = omega arith; count = omega (arith, long) });
+      count = o.count;
+      each = λ sets semi. wins_all (lined d now) p store asked numbers sets o.count semi (λ j n i a h g edge z.
           let n2 = after_lines c (Put s ∷ o.lines) in
-          let shown = cut_shown c p s store (n ∷ []) o.lines numbers 0 n i a cut refl at edge in
-          let g = cut_gives c p s store (n ∷ []) o.lines numbers 0 n i a cut refl at edge in
-          let both : ShownInside p a.kind a.carrier n2 s i = (shown, same_inside shown.carrier a.carrier a.carrier (same_carrier n2 a.kind a.kind s s shown.carrier a.carrier i shown.gives g) (λ k h. h)) in
-          subst (λ x. ShownInside p a.kind a.carrier x (scope_of d.base p) i) (sym read) (subst (λ v. ShownInside p a.kind a.carrier n2 v i) w.scope both),
-    )
+          let shown = cut_shown c p s store asked o.lines numbers j n i a cut h g edge in
+          let gives = cut_gives c p s store asked o.lines numbers j n i a cut h g edge in
+          let both : ShownInside p a.kind a.carrier n2 s i = (shown, same_inside shown.carrier a.carrier a.carrier (same_carrier n2 a.kind a.kind s s shown.carrier a.carrier i shown.gives gives) (λ k h. h)) in
+          subst (λ x. ShownInside p a.kind a.carrier x (scope_of d.base p) i) (sym read) (subst (λ v. ShownInside p a.kind a.carrier n2 v i) w.scope both));
+    }
 
 -- the same, as the code goes
-pub cut_in : (d x : LedgerData) (p : Position) (s : ℕ) (store : StoreData) (n : ℕ) (before now : List Line) (numbers : List ℕ) → x ≡ d → IsLedger x → Keeps d.base.board p → s ≡ scope_of d.base p
-    → store.elements ≡ record { board = p; player = d.base.player } → IsSound store → before ≡ x.lines ++ Put s ∷ [] → DerivesOnto store (n ∷ []) before now numbers → length now ≤ MOST_LINES
-    → IsCutIn x p s store n before now numbers
-cut_in d x p s store n before now numbers e w k q is sound put onto room = record {
+pub cut_in : (d x : LedgerData) (p : Position) (s : ℕ) (store : StoreData) (asked : List ℕ) (before now : List Line) (numbers : List ℕ) → x ≡ d → IsLedger x → Keeps d.base.board p → s ≡ scope_of d.base p
+    → store.elements ≡ record { board = p; player = d.base.player } → IsSound store → before ≡ x.lines ++ Put s ∷ [] → DerivesOnto store asked before now numbers → length now ≤ MOST_LINES
+    → IsCutIn x p s store asked before now numbers
+cut_in d x p s store asked before now numbers e w k q is sound put onto room = record {
   ledger = w;
   keeps = subst (λ (v : LedgerData). Keeps v.base.board p) (sym e) k;
   scope = subst (λ (v : LedgerData). s ≡ scope_of v.base p) (sym e) q;
@@ -136,9 +152,5 @@ cut_in d x p s store n before now numbers e w k q is sound put onto room = recor
   room = room;
 }
 
-pub head_of : (xs : List ℕ) (i : ℕ) → length xs ≡ 1 → i ≡ get_or xs 0 i → slice_get xs 0 ≡ Some i
-head_of [] i l e = absurd (omega arith)
-head_of (x ∷ xs) i l e = ap Some (sym e)
-
-pub cut_shows_from : (d x new : LedgerData) (p : Position) (store : StoreData) (n i : ℕ) → x ≡ d → ShowsCut x new p store n i → ShowsCut d new p store n i
-cut_shows_from d x new p store n i e h = subst (λ (o : LedgerData). ShowsCut o new p store n i) e h
+pub cut_shows_from : (d x new : LedgerData) (p : Position) (store : StoreData) (asked numbers : List ℕ) → x ≡ d → ShowsCuts x new p store asked numbers → ShowsCuts d new p store asked numbers
+cut_shows_from d x new p store asked numbers e h = subst (λ (o : LedgerData). ShowsCuts o new p store asked numbers) e h

@@ -1,5 +1,5 @@
 -- The cells inside which two lines show a win: where the player is joined, and by a stone of his.
-use Rattle.std.proofs.Common.{◌≡◌, ℕ, ◌+◌, true, List, [], ◌∷◌, Option, Some, length, sym, ◌∙◌, ap, subst, inl, inr, arith}
+use Rattle.std.proofs.Common.{◌≡◌, ℕ, ◌+◌, true, [], ◌∷◌, Some, length, sym, ◌∙◌, ap, subst, inl, inr}
 use Rattle.hex_cells.specs.Sets.{has, with_cell}
 use Rattle.hex_cells.proofs.WithCell.{with_cell-cases, with_cell-here, with_cell-keeps}
 use Rattle.hex_board.specs.Joined.{is_joined}
@@ -16,7 +16,7 @@ use Rattle.win_cert.proofs.Appending.{edges_stay}
 use Rattle.win_cert.proofs.CutDerivations.{longer}
 use Rattle.win_cert.proofs.Reaching.{scope_own}
 use Rattle.win_cert.proofs.ScopeLines.{done_gives, move_gives}
-use Rattle.hex_solve.specs.Ledgers.{LedgerData, ShowsWin, read_of, with_line}
+use Rattle.hex_solve.specs.Ledgers.{LedgerData, read_of, with_line}
 use Rattle.hex_solve.specs.Strong.{ShowsIn}
 use Rattle.hex_solve.proofs.AddedLines.{done_two, move_two}
 use Rattle.hex_solve.proofs.LedgerLaws.{had_room, number_next, read_next}

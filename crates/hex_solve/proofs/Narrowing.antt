@@ -1,24 +1,23 @@
 -- How the replies that are left are narrowed by each line that answers some.
-use Rattle.std.proofs.Common.{◌≡◌, ℕ, ◌+◌, ◌<◌, ◌≤◌, ◌&&◌, ◌||◌, ◌==◌, not, true, false, Bool, List, [], ◌∷◌, ◌++◌, length, bit_and, bit_or, refl, sym, ◌∙◌, ap, subst, inl, inr, arith}
-use Rattle.std.proofs.lemmas.Bool.{both_ways, cases_Bool, false_from_ne_true, true≢false}
+use Rattle.std.proofs.Common.{◌≡◌, ℕ, ◌+◌, ◌<◌, ◌≤◌, ◌&&◌, ◌||◌, ◌==◌, ◌⊎◌, not, true, false, Bool, List, [], ◌∷◌, ◌++◌, length, bit_and, bit_or, refl, sym, ◌∙◌, ap, subst, inl, inr, arith}
+use Rattle.std.proofs.lemmas.Bool.{cases_Bool, true≢false}
 use Rattle.hex_cells.specs.Colours.{other_of}
 use Rattle.hex_cells.specs.Sets.{has, members, without_cell}
 use Rattle.hex_cells.proofs.Bits.{has_and, has_or, has_without}
-use Rattle.hex_cells.proofs.Counts.{members_few, members_less}
+use Rattle.hex_cells.proofs.Counts.{members_less}
 use Rattle.hex_board.specs.Elements.{PlayerBoard}
 use Rattle.hex_cells.specs.declared.colours.Colour.{Colour}
 use Rattle.hex_board.specs.Positions.{Position, is_empty_at, placed}
 use Rattle.hex_board.proofs.Placed.{placed_empty}
-use Rattle.conn_store.specs.Laws.{IsSubset}
 use Rattle.conn_store.specs.declared.entries.Kind.{Kind}
 use Rattle.conn_store.specs.declared.entries.Kind.TheVariants.{Semi}
-use Rattle.conn_store.proofs.Sureness.{in_without, without_inside, without_itself}
-use Rattle.win_cert.specs.Showing.{GivesEdges, Keeps, Shows, scope_of}
+use Rattle.conn_store.proofs.Sureness.{without_inside, without_itself}
+use Rattle.win_cert.specs.Showing.{GivesEdges, scope_of}
 use Rattle.win_cert.proofs.Appending.{edges_stay, shown_on}
 use Rattle.win_cert.proofs.CutDerivations.{longer}
 use Rattle.win_cert.proofs.Reaching.{scope_other}
 use Rattle.win_cert.specs.Contexts.{after_lines}
-use Rattle.hex_solve.specs.Ledgers.{GrowsBy, LedgerData, read_of}
+use Rattle.hex_solve.specs.Ledgers.{LedgerData, read_of}
 use Rattle.hex_solve.specs.Strong.{AnswerBut, AreInside, AreWins, Grows, IsMissed, ShowsIn}
 use Rattle.hex_solve.proofs.LedgerLaws.{grows_none, grows_on}
 use Rattle.hex_solve.specs.Searching.{IsSearched}
@@ -82,7 +81,7 @@ in_right a b k h = has_or a b k ∙ yes (has a k) (has b k) h
     yes true y e = refl
     yes false y e = e
 
-inside_more : (sets : List ℕ) (u c : ℕ) → AreInside sets u → AreInside (sets ++ c ∷ []) (bit_or u c)
+pub inside_more : (sets : List ℕ) (u c : ℕ) → AreInside sets u → AreInside (sets ++ c ∷ []) (bit_or u c)
 inside_more [] u c g = (λ k h. in_right u c k h, tt)
 inside_more (b ∷ sets) u c (g, r) = (λ k h. in_left u c k (g k h), inside_more sets u c r)
 
@@ -93,41 +92,35 @@ in_both a b k h i = has_and a b k ∙ yes (has a k) (has b k) h i
     yes true y e f = f
     yes false y e f = absurd (true≢false (sym e))
 
-in_first : (a b k : ℕ) → has (bit_and a b) k ≡ true → has a k ≡ true
+pub in_first : (a b k : ℕ) → has (bit_and a b) k ≡ true → has a k ≡ true
 in_first a b k h = yes (has a k) (has b k) (sym (has_and a b k) ∙ h)
   where
     yes : (x y : Bool) → (x && y) ≡ true → x ≡ true
     yes true y e = refl
     yes false y e = absurd (true≢false (sym e))
 
+pub missed_on : (p : Position) (replies c : ℕ) (sets : List ℕ) → ((k : ℕ) → is_empty_at p k ≡ true → (has replies k ≡ true) ⊎ IsMissed k sets) → (k : ℕ) → is_empty_at p k ≡ true
+    → (has (bit_and replies c) k ≡ true) ⊎ IsMissed k (sets ++ c ∷ [])
+missed_on p replies c sets f k h = elim (f k h) [
+  | inl t ↦ elim (cases_Bool (has c k)) [
+    | inl o ↦ inl (in_both replies c k t o)
+    | inr o ↦ inr (missed_last k c sets o)
+  ]
+  | inr t ↦ inr (missed_still k c sets t)
+]
+
+pub fewer_left : (a b c d : ℕ) → a + b ≤ 121 → c < b → d ≡ a + 1 → d + c ≤ 121
+fewer_left a b c d l m e = omega arith
+
 pub narrowed_on : (p : Position) (d e : LedgerData) (numbers : List ℕ) (replies union i c : ℕ) → Grows d e → AnswerBut p d numbers replies union → ShowsIn e p Semi c i
     → members (bit_and replies c) 121 < members replies 121 → AnswerBut p e (numbers ++ i ∷ []) (bit_and replies c) (bit_or union c)
 narrowed_on p d e numbers replies union i c g w s l = record {
   sets = w.sets ++ c ∷ [];
   wins = wins_more e p numbers w.sets i c (wins_on d e p numbers w.sets g w.wins) s;
-  missed = λ k h. elim (w.missed k h) [
-    | inl t ↦ elim (cases_Bool (has c k)) [
-      | inl o ↦ inl (in_both replies c k t o)
-      | inr o ↦ inr (missed_last k c w.sets o)
-    ]
-    | inr t ↦ inr (missed_still k c w.sets t)
-  ];
+  missed = missed_on p replies c w.sets w.missed;
   left = λ k h. w.left k (in_first replies c k h);
   inside = inside_more w.sets union c w.inside;
-  few = fewer (length numbers) (members replies 121) (members (bit_and replies c) 121) (length (numbers ++ i ∷ [])) w.few l (longer numbers i);
-}
-  where
-    fewer : (a b c d : ℕ) → a + b ≤ 121 → c < b → d ≡ a + 1 → d + c ≤ 121
-    fewer a b c d l m e = omega arith
-
-pub narrowed_begun : (p : Position) (d : LedgerData) (cells : ℕ) → ((k : ℕ) → has cells k ≡ is_empty_at p k) → AnswerBut p d [] cells 0
-narrowed_begun p d cells e = record {
-  sets = [];
-  wins = tt;
-  missed = λ k h. inl (e k ∙ h);
-  left = λ k h. sym (e k) ∙ h;
-  inside = tt;
-  few = let m : members cells 121 ≤ 121 = members_few cells 121 in omega arith;
+  few = fewer_left (length numbers) (members replies 121) (members (bit_and replies c) 121) (length (numbers ++ i ∷ [])) w.few l (longer numbers i);
 }
 
 -- ---- the answer to a stone

@@ -1,11 +1,11 @@
 -- What the search with connections finds of a position, as its code goes.
 use Rattle.std.proofs.Common.{◌≡◌, ℕ, ◌<◌, true, false, Bool, List, [], ◌∷◌, ◌++◌, bit_and, bit_or, sym, ◌∙◌, ap, subst}
 use Rattle.hex_cells.specs.Colours.{other_of}
-use Rattle.hex_cells.specs.Sets.{has, members, with_cell, without_cell}
+use Rattle.hex_cells.specs.Sets.{has, with_cell, without_cell}
 use Rattle.hex_cells.specs.declared.colours.Colour.{Colour}
 use Rattle.hex_board.specs.Elements.{PlayerBoard}
 use Rattle.hex_board.specs.Positions.{Position, placed}
-use Rattle.conn_store.specs.declared.entries.Kind.TheVariants.{Full, Semi}
+use Rattle.conn_store.specs.declared.entries.Kind.TheVariants.{Full}
 use Rattle.hex_solve.specs.Ledgers.{GrowsBy, IsLedger, LedgerData}
 use Rattle.hex_solve.specs.Marks.{IsBefore, mark_of}
 use Rattle.hex_solve.specs.Searching.{IsSearched}

@@ -78,10 +78,31 @@ HasSemiAt d n = (a : Entry) × IsEdgeEntryAt d n a × (a.kind ≡ Semi)
 abbrev pub IsOneOf : Held → ℕ → Type 0
 IsOneOf h n = (j : ℕ) × (j < h.count) × (slice_index h.at j ≡ n)
 
--- the ledger grew, and line i of it shows that the player wins p by entry n of the store
-abbrev pub ShowsCut : LedgerData → LedgerData → Position → StoreData → ℕ → ℕ → Type 0
-ShowsCut old new p d n i = Grows old new
-    × ((a : Entry) → IsEdgeEntryAt d n a → ShowsIn new p a.kind a.carrier i)
+-- the entries of these numbers are semi ones between the player's edges, with these carriers
+abbrev pub AreSemi : StoreData → List ℕ → List ℕ → Type 0
+AreSemi d [] [] = Unit {0}
+AreSemi d [] (c ∷ sets) = ⊥
+AreSemi d (n ∷ numbers) [] = ⊥
+AreSemi d (n ∷ numbers) (c ∷ sets) =
+    ((a : Entry) × IsEdgeEntryAt d n a × (a.kind ≡ Semi) × (a.carrier ≡ c)) × AreSemi d numbers sets
+
+-- entries of the store that answer each stone but those on the replies that are left, inside the
+-- union; each took some reply away
+pub record IsChosen (p : Position) (d : StoreData) (numbers : List ℕ)
+    (replies union : ℕ) : Type 0 where
+  pub sets : List ℕ
+  pub entries : AreSemi d numbers sets
+  pub missed : (k : ℕ) → is_empty_at p k ≡ true → (has replies k ≡ true) ⊎ IsMissed k sets
+  pub left : (k : ℕ) → has replies k ≡ true → is_empty_at p k ≡ true
+  pub inside : AreInside sets union
+  pub few : length numbers + members replies MOST_CELLS ≤ MOST_CELLS
+
+-- the ledger grew, and lines of it show that the player wins p, each by an entry of the store
+pub record ShowsCuts (old new : LedgerData) (p : Position) (d : StoreData)
+    (entries lines : List ℕ) : Type 0 where
+  pub grows : Grows old new
+  pub count : length lines ≡ length entries
+  pub each : (sets : List ℕ) → AreSemi d entries sets → AreWins new p lines sets
 
 -- the winner's ledger grew, and a line of it shows that he wins p inside these cells; the other
 -- ledger is as before

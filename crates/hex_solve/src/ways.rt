@@ -1,19 +1,20 @@
 //! What the reports of a position add to the ledgers: an entry by which the mover wins, or the
 //! other's threats.
 
-ghost use Rattle.std.specs.Prelude.{◌≡◌, ℕ, IfOk, IfSome, false, true};
+ghost use Rattle.std.specs.Prelude.{◌≡◌, ℕ, ◌≤◌, All, IfOk, IfSome, false, true};
 ghost use Rattle.hex_board.specs.Joined.{is_joined};
 ghost use Rattle.hex_board.specs.Positions.{is_empty_at, stones_of};
 ghost use Rattle.conn_store.specs.declared.entries.Kind.{Kind};
+ghost use Rattle.win_cert.specs.Cuts.{AreEdgeNumbers};
 ghost use Rattle.win_cert.specs.Showing.{Keeps};
 ghost use Rattle.hex_solve.specs.Strong.{AnswerEach, Grows, HasSemiAt, HasThreats};
-ghost use Rattle.hex_solve.specs.Strong.{IsOwnCut, ShowsCut, ShowsIn};
+ghost use Rattle.hex_solve.specs.Strong.{IsChosen, IsOwnCut, ShowsCuts, ShowsIn};
 
 use super::ledgers::Ledger;
 use super::order::narrowest;
 use super::searching::Stop;
 use super::strong::Shown;
-use conn_store::{Kind, Store};
+use conn_store::{Held, Kind, Store};
 use hex_board::Board;
 use hex_cells::CellSet;
 use hsearch::connect;
@@ -32,7 +33,7 @@ pub(crate) struct Ways {
 }
 
 /// Adds the lines of a semi entry between the edges of the ledger's player, who is to place and is
-/// not joined, where his report has one.
+/// not joined, where his report has one: of one with the fewest cells in its carrier.
 pub(crate) fn own_entry(
     alloc: Global,
     board: &Board,
@@ -47,90 +48,108 @@ pub(crate) fn own_entry(
         return Err(Stop::Memory);
     };
     let store = report.store();
+    let entries = store.entries();
     let semi = edge_numbers(store, Kind::Semi);
     if semi.count == 0 {
         return Ok(None);
     }
-    let entry = semi.at[0];
-    match own.add_cut(alloc, board, store, entry) {
-        Ok(Some(line)) => Ok(Some(Shown {
+    let entry = narrowest(entries, &semi, board.empties());
+    let carrier = entries[entry as usize].carrier;
+    match own.add_cuts(alloc, board, store, &[entry]) {
+        Ok(Some(lines)) => Ok(Some(Shown {
             by_mover: true,
-            line,
-            carrier: store.entries()[entry as usize].carrier,
+            line: lines[0],
+            carrier,
         })),
         Ok(None) => Err(Stop::Spent),
         Err(_) => Err(Stop::Memory),
     }
 }
 
-/// Adds the lines of the threats of the ledger's player, who is not joined, with the other to place:
-/// each time that which leaves fewest replies, as long as one takes some away.
+/// Adds the lines of threats of the ledger's player, who is not joined, with the other to place;
+/// they share the lines of what they both rest on.
 pub(crate) fn threats(alloc: Global, board: &Board, other: &mut Ledger) -> Result<Ways, Stop>
     requires keeps { Keeps other.old.base.board board.now }
     requires unjoined { is_joined board.now.size other.old.base.player
         (stones_of board.now other.old.base.player) ≡ false }
     ensures { IfOk result (HasThreats board.now other.old other.new) }
 {
+    let Ok(report) = connect(alloc, board, other.player()) else {
+        return Err(Stop::Memory);
+    };
+    let store = report.store();
+    let semi = edge_numbers(store, Kind::Semi);
+    let Ok(chosen) = chosen_of(alloc, board, store, &semi) else {
+        return Err(Stop::Memory);
+    };
+    match other.add_cuts(alloc, board, store, &chosen.numbers) {
+        Ok(Some(numbers)) => Ok(Ways {
+            numbers,
+            replies: chosen.replies,
+            union: chosen.union,
+        }),
+        Ok(None) => Err(Stop::Spent),
+        Err(_) => Err(Stop::Memory),
+    }
+}
+
+// The numbers of the entries that are taken as threats: each time of that which leaves fewest
+// replies, as long as one takes some away; and the replies that they leave.
+fn chosen_of(alloc: Global, board: &Board, store: &Store, semi: &Held) -> Result<Ways, AllocError>
+    requires few { semi.now.count ≤ 6 }
+    requires numbers { AreEdgeNumbers store.now Kind.Semi semi.now }
+    ensures { IfOk result (λ ways.
+        IsChosen board.now store.now ways.numbers.items ways.replies ways.union) }
+{
     let mut ways = Ways {
         numbers: Vec::new(alloc),
         replies: board.empties(),
         union: CellSet::none(),
     };
-    let Ok(report) = connect(alloc, board, other.player()) else {
-        return Err(Stop::Memory);
-    };
-    let store = report.store();
-    let entries = store.entries();
-    let semi = edge_numbers(store, Kind::Semi);
     if semi.count == 0 {
         return Ok(ways);
     }
+    let entries = store.entries();
     'threats: loop {
-        let entry = narrowest(entries, &semi, ways.replies);
+        let entry = narrowest(entries, semi, ways.replies);
         let carrier = entries[entry as usize].carrier;
         let replies = ways.replies.meet(carrier);
         if ways.replies.count() <= replies.count() {
             return Ok(ways);
         }
-        let line = match other.add_cut(alloc, board, store, entry) {
-            Ok(Some(line)) => line,
-            Ok(None) => return Err(Stop::Spent),
-            Err(_) => return Err(Stop::Memory),
-        };
-        let Ok(()) = ways.numbers.push(line) else {
-            return Err(Stop::Memory);
-        };
+        ways.numbers.push(entry)?;
         ways.replies = replies;
         ways.union = ways.union.union(carrier);
     }
 }
 
 impl Ledger {
-    /// Adds the lines of a semi entry between the player's edges in his store of the board, after a
-    /// `put`; answers the number of the entry's own line. Where there is no room for all, `None`.
-    pub fn add_cut(
+    /// Adds the lines of these semi entries between the player's edges in his store of the board,
+    /// after a `put`; answers the numbers of the entries' own lines, in turn. Where there is no room
+    /// for all, `None`.
+    pub fn add_cuts(
         &mut self,
         alloc: Global,
         board: &Board,
         store: &Store,
-        entry: u32,
-    ) -> Result<Option<u32>, AllocError>
+        entries: &[u32],
+    ) -> Result<Option<Vec<u32>>, AllocError>
         requires keeps { Keeps self.old.base.board board.now }
         requires elements { store.now.elements
             ≡ record { board = board.now; player = self.old.base.player } }
-        requires entry { HasSemiAt store.now entry }
-        ensures { IfOk result
-            (λ line. IfSome line (ShowsCut self.old self.new board.now store.now entry)) }
+        requires entries { All (HasSemiAt store.now) entries.now }
+        ensures { IfOk result (λ lines. IfSome lines
+            (λ v. ShowsCuts self.old self.new board.now store.now entries.now v.items)) }
     {
         let before = self.lines.len();
         let scope = self.scope(board);
         // Each entry follows from earlier ones, and is true.
         let _entries = store.entries();
         self.lines.push(Line::Put(scope))?;
-        let added = lines_onto(alloc, store, &[entry], &mut self.lines);
+        let added = lines_onto(alloc, store, entries, &mut self.lines);
         if self.lines.len() <= MOST_LINES {
             match added {
-                Ok(numbers) => return Ok(Some(numbers[0])),
+                Ok(numbers) => return Ok(Some(numbers)),
                 Err(_) => {}
             }
         }

@@ -1,6 +1,6 @@
 use Rattle.std.proofs.Common.{◌≡◌, ◌^◌, ◌<◌, bit_and, bit_or, true, false, refl, sym, ◌∙◌, ap, subst, suc, arith}
 use Rattle.std.proofs.lemmas.Bool.{not-false, not-true}
-use Rattle.hex_cells.specs.Sets.{members, with_cell, without_cell}
+use Rattle.hex_cells.specs.Sets.{members}
 use Rattle.hex_cells.proofs.Bits.{cell_below}
 use Rattle.hex_cells.specs.declared.colours.Colour.{Colour}
 use Rattle.hex_board.specs.Positions.{Position, is_empty_at, placed}

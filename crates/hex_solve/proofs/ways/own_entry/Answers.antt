@@ -1,24 +1,30 @@
-use Rattle.std.proofs.Common.{◌≡◌, ◌<◌, refl, subst, arith}
-use Rattle.std.specs.List.{slice_index}
+use Rattle.std.proofs.Common.{ℕ, ◌∷◌, [], Global, Vec, refl, subst}
 use Rattle.std.specs.Option.{IfSome}
-use Rattle.hex_solve.specs.Strong.{HasSemiAt, ShowsCut}
-use Rattle.hex_solve.proofs.EntryWays.{semi_shown, semi_within}
+use Rattle.hex_solve.specs.Strong.{HasSemiAt, ShowsCuts}
+use Rattle.hex_solve.proofs.EntryWays.{numbered, one_semi, one_shown, semi_here, semi_within}
 use Rattle.hex_solve.proofs.ways.own_entry.Goals as goal
 
 pub bounds-entries-entry : goal.bounds-entries-entry
-bounds-entries-entry c =
-    let some : 0 < c.edge_numbers-semi.result.count = omega (arith, c.if-semi-eq0.false) in
-    semi_within c.store-store.result.now c.entries.result.now _ c.entries.ensures.value (c.edge_numbers-semi.ensures.numbers.each 0 some)
+bounds-entries-entry c = semi_within c.store-store.result.now c.entries-entries.result.now c.narrowest-entry.result c.entries-entries.ensures.value
+    (numbered c.store-store.result.now c.edge_numbers-semi.result c.narrowest-entry.result c.edge_numbers-semi.ensures.numbers c.narrowest-entry.ensures)
 
-pub bounds-entries-entry-in-Ok-Some : goal.bounds-entries-entry-in-Ok-Some
-bounds-entries-entry-in-Ok-Some c =
-    let some : 0 < c.edge_numbers-semi.result.count = omega (arith, c.if-semi-eq0.false) in
-    semi_within c.store-store.result.now c.entries.result.now _ c.entries.ensures.value (c.edge_numbers-semi.ensures.numbers.each 0 some)
+pub bounds-entries-entry-else-semi-eq0 : goal.bounds-entries-entry-else-semi-eq0
+bounds-entries-entry-else-semi-eq0 c = semi_within c.store-store.result.now c.entries-entries.result.now c.narrowest-entry.result c.entries-entries.ensures.value
+    (numbered c.store-store.result.now c.edge_numbers-semi.result c.narrowest-entry.result c.edge_numbers-semi.ensures.numbers c.narrowest-entry.ensures)
+
+pub add_cuts-requires-clause-entries : goal.add_cuts-requires-clause-entries
+add_cuts-requires-clause-entries c = one_semi c.store-store.result.now c.narrowest-entry.result
+    (numbered c.store-store.result.now c.edge_numbers-semi.result c.narrowest-entry.result c.edge_numbers-semi.ensures.numbers c.narrowest-entry.ensures)
 
 pub returns-in-Ok-Some : goal.returns-in-Ok-Some
 returns-in-Ok-Some c =
-    let some : 0 < c.edge_numbers-semi.result.count = omega (arith, c.if-semi-eq0.false) in
-    let semi : HasSemiAt c.store-store.result.now (slice_index c.edge_numbers-semi.result.at 0) = c.edge_numbers-semi.ensures.numbers.each 0 some in
-    let cut : ShowsCut c.args.own.now c.add_cut.new.self c.args.board.now c.store-store.result.now (slice_index c.edge_numbers-semi.result.at 0) c.in-Ok-Some.line =
-    subst (λ o. IfSome o (ShowsCut c.args.own.now c.add_cut.new.self c.args.board.now c.store-store.result.now (slice_index c.edge_numbers-semi.result.at 0))) c.in-Ok-Some.field-0-is c.in-Ok-Some.ensures in
-    (refl, cut.0, semi_shown c.args.own.now c.add_cut.new.self c.args.board.now c.store-store.result.now (slice_index c.edge_numbers-semi.result.at 0) c.in-Ok-Some.line c.entries.result.now c.index-entries-entry.result c.entries.ensures.value semi cut)
+    let d = c.store-store.result.now in
+    let n = c.narrowest-entry.result in
+    let semi : HasSemiAt d n = numbered d c.edge_numbers-semi.result n c.edge_numbers-semi.ensures.numbers c.narrowest-entry.ensures in
+    let cut : ShowsCuts c.args.own.now c.add_cuts.new.self c.args.board.now d (n ∷ []) c.in-Ok-Some.lines.items =
+    subst (λ o. IfSome o (λ (v : Vec ℕ Global). ShowsCuts c.args.own.now c.add_cuts.new.self c.args.board.now d (n ∷ []) v.items)) c.in-Ok-Some.field-0-is c.in-Ok-Some.ensures in (
+      refl,
+      cut.grows,
+      one_shown c.args.own.now c.add_cuts.new.self c.args.board.now d n c.index.result.now _ c.in-Ok-Some.lines.items c.index.result.now
+          (semi_here d n c.entries-entries.result.now c.index-entries-entry.result c.entries-entries.ensures.value semi) cut c.index.ensures,
+    )
