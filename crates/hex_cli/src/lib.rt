@@ -56,8 +56,6 @@ mod numbers;
 mod playing;
 mod serving;
 mod single_turns;
-#[cfg(test)]
-mod tests;
 mod top;
 mod trace_names;
 

@@ -1,6 +1,6 @@
 //! A run over devices in memory, and tables of runs.
 
-use crate::top::run;
+use hex_cli::run;
 use hex_devices::Devices;
 use hex_io::{Bytes, File, MemLink, MemShelf, Word};
 use hex_plan::MemArchive;

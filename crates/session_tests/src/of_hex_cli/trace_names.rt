@@ -2,7 +2,7 @@
 //! stands between two words.
 
 use super::runs::words_of;
-use crate::trace_name;
+use hex_cli::trace_name;
 use std::test::Fail;
 
 /// Lines that ask for traces, and those that do not or are refused, with an empty name.

@@ -3,9 +3,9 @@
 ghost use Rattle.std.specs.Prelude.{None};
 
 use super::runs::{line_of, link_over, shelf_with, words_of};
-use crate::top::run;
+use hex_cli::run;
 use hex_devices::Devices;
-use hex_io::{Link, LinkFault};
+use hex_io::{Link, LinkFault, MemLink};
 use hex_plan::NoArchive;
 use search_team::OpenGate;
 use std::alloc::Global;
@@ -42,15 +42,13 @@ impl Link for Feeds {
     }
 }
 
-/// The run over so many line feeds ends with this status and its line, after so many reads at the
-/// end of input.
-fn check_feeds<R: Abort + Threads + Sync + Alloc<A = Global>>(
+/// What a run over so many line feeds leaves: its status, the errors, and how many reads were
+/// answered at the end of input.
+fn run_feeds<R: Threads + Sync + Alloc<A = Global>>(
     rt: &R,
     mode: &str,
     length: usize,
-    status: u8,
-    ends: usize,
-) -> Result<(), Fail> {
+) -> Result<(u8, MemLink, usize), Fail> {
     let alloc = rt.alloc();
     let words = words_of(alloc, mode)?;
     let mut link = Feeds {
@@ -67,22 +65,44 @@ fn check_feeds<R: Abort + Threads + Sync + Alloc<A = Global>>(
         gate: &OpenGate,
     };
     let ended = run(alloc, &words, &mut devices, &mut errors);
+    Ok((ended, errors, link.ends))
+}
+
+/// The run over so many line feeds ends with this status and its line, after so many reads at the
+/// end of input.
+fn check_feeds<R: Abort + Threads + Sync + Alloc<A = Global>>(
+    rt: &R,
+    mode: &str,
+    length: usize,
+    status: u8,
+    ends: usize,
+) -> Result<(), Fail> {
+    let (ended, errors, reads) = run_feeds(rt, mode, length)?;
     assert_eq!(rt; ended, status, "{mode}, {length}");
     assert_eq!(rt; errors.given(), line_of(status), "{mode}, {length}");
-    assert_eq!(rt; link.ends, ends, "{mode}, {length}");
+    assert_eq!(rt; reads, ends, "{mode}, {length}");
     Ok(())
 }
 
-/// `longest-input`: 64 MiB are read to their end.
+/// `longest-input`: 64 MiB are read to their end, and there each mode makes one read.
 #[test]
 fn longest_input(rt: HostRuntime) -> Result<(), Fail> {
-    check_feeds(&rt, "htp", 67_108_864, 0, 1)?;
-    check_feeds(&rt, "audit", 67_108_864, 1, 1)
+    for (mode, length, status) in [
+        ("htp", 67_108_864, 0),
+        ("audit", 67_108_864, 1),
+        ("check", 3, 1),
+        ("migrate", 3, 1),
+    ] {
+        check_feeds(&rt, mode, length, status, 1)?;
+    }
+    Ok(())
 }
 
 /// `input-too-long`: a byte more is the last one that is read.
 #[test]
 fn input_too_long(rt: HostRuntime) -> Result<(), Fail> {
-    check_feeds(&rt, "htp", 67_108_865, 6, 0)?;
-    check_feeds(&rt, "audit", 67_108_865, 6, 0)
+    for mode in ["htp", "audit"] {
+        check_feeds(&rt, mode, 67_108_865, 6, 0)?;
+    }
+    Ok(())
 }
