@@ -11,8 +11,8 @@ ghost use Rattle.conn_store.specs.Laws.{ConnectsInRest, IsOnBoard, IsSubset, IsS
 ghost use Rattle.conn_store.specs.Stores.{AreTrue, IsSound, StoreData};
 ghost use Rattle.conn_store.specs.declared.entries.Kind.{Kind};
 
-/// The law of sound stores: on a board, entries of which each is valid and follows by the four rules
-/// from earlier ones are true. It does nothing.
+/// The law of sound stores: on a board, entries of which each is valid and follows by the four
+/// rules from earlier ones are true. It does nothing.
 pub fn sound_entries_are_true()
     ensures { (d : StoreData) → IsOnBoard d.elements → IsSound d → AreTrue d }
 {}

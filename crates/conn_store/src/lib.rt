@@ -13,11 +13,11 @@
 //!
 //! **What is proved.** Each entry of a store is valid and follows by the four rules from earlier
 //! ones. So it is *true* ([`sound_entries_are_true`]): the truth of an entry (specs/Truth.antt,
-//! specs/Links.antt) speaks of paths of stones and of placing in turn, and of no rule. `add` refuses exactly where an entry
-//! of that pair and kind has its carrier inside the new one, or else the pair is full. `held` has
-//! exactly the numbers of the entries of that pair and kind. Who is sure of linking the elements
-//! of his two edges wins the game ([`connected_edges_win`]); more cells, more stones and the
-//! first move keep truth ([`truth_goes_on`]).
+//! specs/Links.antt) speaks of paths of stones and of placing in turn, and of no rule. `add`
+//! refuses exactly where an entry of that pair and kind has its carrier inside the new one, or else
+//! the pair is full. `held` has exactly the numbers of the entries of that pair and kind. Who is
+//! sure of linking the elements of his two edges wins the game ([`connected_edges_win`]); more
+//! cells, more stones and the first move keep truth ([`truth_goes_on`]).
 //!
 //! **What is only tested, or not said.** That [`Store::make`] gets its memory; speed; what the
 //! derived `Debug` prints. That a rule is never missed is for the crate above.

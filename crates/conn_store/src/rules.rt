@@ -1,6 +1,7 @@
 //! The four rules: the entries that follow from those of a store.
 
-ghost use Rattle.std.specs.Prelude.{◌≡◌, ◌↔◌, ℕ, ◌<◌, ◌∷◌, [], IfNone, IfSome, IsTrue, false, length};
+ghost use Rattle.std.specs.Prelude.{◌≡◌, ◌↔◌, ℕ, ◌<◌, ◌∷◌, [], IfNone, IfSome, IsTrue, false};
+ghost use Rattle.std.specs.Prelude.{length};
 ghost use Rattle.hex_board.specs.Elements.{element_count};
 ghost use Rattle.hex_board.specs.Places.{is_near};
 ghost use Rattle.conn_store.specs.Entries.{AllEmpty, IsValid, Misses};

@@ -53,8 +53,8 @@ abbrev pub winner_text : Option Colour → List ℕ
 winner_text None = codes "none"
 winner_text (Some colour) = colour_word colour
 
--- what the three commands answer that ask for the last turn: its report, what `mustplay` says of it,
--- and its certificate, where there is one
+-- what the three commands answer that ask for the last turn: its report, what `mustplay` says of
+-- it, and its certificate, where there is one
 abbrev pub reporting : Option TurnTextsData → List (List ℕ) → Reply
 reporting last args = bare_reply args
     (text_or NoSearch (option_and_then (λ (texts : TurnTextsData). texts.report) last))

@@ -1,5 +1,6 @@
 -- What the search with connections finds of a position. Only private clauses cite this.
-use Rattle.std.specs.Prelude.{◌≡◌, ℕ, ◌+◌, ◌<◌, ◌≤◌, ◌⊎◌, Bool, true, false, List, [], ◌∷◌, Option, Some}
+use Rattle.std.specs.Prelude.{◌≡◌, ℕ, ◌+◌, ◌<◌, ◌≤◌, ◌⊎◌, Bool, true, false, List, [], ◌∷◌, Option}
+use Rattle.std.specs.Prelude.{Some}
 use Rattle.std.specs.Prelude.{None, length, slice_index}
 use Rattle.hex_cells.specs.Sets.{has, members, with_cell}
 use Rattle.hex_cells.specs.declared.board_size.TheConstants.{MOST_CELLS}

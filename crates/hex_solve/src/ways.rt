@@ -125,8 +125,8 @@ fn chosen_of(alloc: Global, board: &Board, store: &Store, semi: &Held) -> Result
 
 impl Ledger {
     /// Adds the lines of these semi entries between the player's edges in his store of the board,
-    /// after a `put`; answers the numbers of the entries' own lines, in turn. Where there is no room
-    /// for all, `None`.
+    /// after a `put`; answers the numbers of the entries' own lines, in turn. Where there is no
+    /// room for all, `None`.
     pub fn add_cuts(
         &mut self,
         alloc: Global,

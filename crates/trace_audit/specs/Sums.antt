@@ -1,5 +1,6 @@
 -- The sums of what playouts add, in a second list of words. No clause of a public call cites this.
-use Rattle.std.specs.Prelude.{◌≡◌, ℕ, ◌+◌, ◌*◌, ◌<◌, ◌==◌, ◌&&◌, nat_le, nat_lt, not, if◌then◌else◌, true}
+use Rattle.std.specs.Prelude.{◌≡◌, ℕ, ◌+◌, ◌*◌, ◌<◌, ◌==◌, ◌&&◌, nat_le, nat_lt, not, if◌then◌else◌}
+use Rattle.std.specs.Prelude.{true}
 use Rattle.std.specs.Prelude.{Bool, List, length, slice_index}
 use Rattle.hex_cells.specs.Colours.{is_same}
 use Rattle.hex_cells.specs.Sets.{has as has_cell}

@@ -1,6 +1,7 @@
 //! What a playout adds to the sums of its leaf's block.
 
-ghost use Rattle.std.specs.Prelude.{◌≡◌, ◌+◌, ◌<◌, ◌≤◌, ◌^◌, if◌then◌else◌, length, set, slice_index};
+ghost use Rattle.std.specs.Prelude.{◌≡◌, ◌+◌, ◌<◌, ◌≤◌, ◌^◌, if◌then◌else◌, length, set};
+ghost use Rattle.std.specs.Prelude.{slice_index};
 ghost use Rattle.hex_board.specs.Positions.{stones_of};
 ghost use Rattle.hex_cells.specs.Colours.{is_same};
 ghost use Rattle.hex_cells.specs.Sets.{has};

@@ -1,4 +1,5 @@
--- What the law of lines says: which rule of connection a line without a reason against it stands for.
+-- What the law of lines says: which rule of connection a line without a reason against it stands
+-- for.
 use Rattle.std.specs.Prelude.{◌≡◌, ℕ, ◌≤◌, List, Some, None, All, map}
 use Rattle.hex_board.specs.Elements.{PlayerBoard}
 use Rattle.conn_store.specs.Entries.{IsValid}

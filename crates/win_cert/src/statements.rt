@@ -11,8 +11,8 @@ use conn_store::Kind;
 use hex_cells::Size;
 use std::alloc::{AllocError, Global};
 
-/// What a line of a certificate after its head says: a derivation line, or the claim with the number
-/// of its entry. The reasons against certificates speak of statements.
+/// What a line of a certificate after its head says: a derivation line, or the claim with the
+/// number of its entry. The reasons against certificates speak of statements.
 #[derive(Drop)]
 pub enum Statement {
     Derivation(Line),
