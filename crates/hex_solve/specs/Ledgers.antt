@@ -1,4 +1,4 @@
--- The lines that are kept for a player while a search goes on. No clause of a public call cites this.
+-- The lines kept for a player while a search goes on. No clause of a public call cites this.
 use Rattle.std.specs.Prelude.{◌≡◌, ℕ, ◌+◌, ◌-◌, ◌^◌, ◌<◌, ◌≤◌, ◌⊎◌, List, [], ◌∷◌, ◌++◌, All, None}
 use Rattle.std.specs.Prelude.{true, length, min, nat_lt}
 use Rattle.std.specs.Prelude.{if◌then◌else◌}
