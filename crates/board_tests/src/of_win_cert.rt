@@ -127,7 +127,8 @@ fn a_line_too_many(rt: HostRuntime) -> Result<(), Fail> {
     Ok(())
 }
 
-// The three lines of the board with one cell, after a line that stands there.
+// The three lines of the board with one cell, for two entries that share one, after a line that
+// stands there.
 #[test]
 fn lines_after_others(rt: HostRuntime) -> Result<(), Fail> {
     let size = Size::of(1).ok_or("a size")?;
@@ -139,7 +140,8 @@ fn lines_after_others(rt: HostRuntime) -> Result<(), Fail> {
     assert_eq!(rt; store.entries().len(), 3);
     let mut lines = Vec::new(rt.alloc());
     lines.push(Line::Put(CellSet::none()))?;
-    assert_eq!(rt; lines_onto(rt.alloc(), store, 2, &mut lines)?, 3);
+    let numbers = lines_onto(rt.alloc(), store, &[2, 0], &mut lines)?;
+    assert_eq!(rt; numbers.as_slice(), [3, 1].as_slice());
     assert_eq!(rt; lines.len(), 4);
     assert!(rt; matches!(&lines[0], Line::Put(_)));
     assert!(rt; matches!(&lines[1], Line::Adj(End::First, End::At(_))));

@@ -1,6 +1,6 @@
 -- The certificate of the lines of a cut shows the entry of the store, and has a line for each entry on
 -- which it rests.
-use Rattle.std.proofs.Common.{◌≡◌, ℕ, ◌+◌, ◌<◌, ◌≤◌, All, Option, None, ◌==◌, ◌&&◌, true, false, Bool, List, [], ◌∷◌, Some, length, map, min, max, if◌then◌else◌, refl, sym, ◌∙◌, ap, subst, inl, zero, suc, arith}
+use Rattle.std.proofs.Common.{◌≡◌, ℕ, ◌+◌, ◌<◌, ◌≤◌, All, Option, None, ◌==◌, ◌&&◌, true, false, Bool, List, [], ◌∷◌, Some, get_or, length, map, min, max, if◌then◌else◌, refl, sym, ◌∙◌, ap, subst, inl, zero, suc, arith}
 use Rattle.std.specs.List.{slice_get}
 use Rattle.std.specs.Option.{option_flatten}
 use Rattle.std.proofs.lemmas.Bool.{and_from, eq-eqb}
@@ -26,6 +26,7 @@ use Rattle.win_cert.specs.declared.certs.TheConstants.{FIRST_VERSION}
 use Rattle.win_cert.proofs.Appending.{base_after, length_after}
 use Rattle.win_cert.proofs.CutSteps.{unscoped_board}
 use Rattle.win_cert.proofs.Accepting.{accepted, first_of, read_all}
+use Rattle.win_cert.proofs.CutShown.{between_edges}
 use Rattle.win_cert.proofs.Moved.{freer_self, moved_self}
 
 -- ---- the board
@@ -34,17 +35,23 @@ use Rattle.win_cert.proofs.Moved.{freer_self, moved_self}
 pub record IsCutOf (d : StoreData) (n : ℕ) (cert : Cert) : Type 0 where
   pub board : cert.board ≡ d.elements.board
   pub player : cert.player ≡ d.elements.player
-  pub lines : DerivesOnto d n [] cert.lines cert.entry
+  pub lines : DerivesOnto d (n ∷ []) [] cert.lines (cert.entry ∷ [])
   pub sound : IsSound d
   pub own : Within d.elements.board.size (stones_of d.elements.board d.elements.player)
 
--- where no line stood before
-pub first_lines : {d : StoreData} {n i : ℕ} {old new : List Line} → old ≡ [] → DerivesOnto d n old new i → DerivesOnto d n [] new i
-first_lines {d = d} {n = n} {i = i} {new = new} h w = subst (λ v. DerivesOnto d n v new i) h w
+one_number : (numbers : List ℕ) (i : ℕ) → length numbers ≡ 1 → i ≡ get_or numbers 0 i → numbers ≡ i ∷ []
+one_number [] i l e = absurd (omega (arith, l))
+one_number (j ∷ []) i l e = ap (λ v. v ∷ []) (sym e)
+one_number (j ∷ k ∷ numbers) i l e = absurd (omega (arith, l))
+
+-- where no line stood before, and one number is answered
+pub first_lines : {d : StoreData} {n i : ℕ} {old new : List Line} {numbers : List ℕ} → old ≡ [] → i ≡ get_or numbers 0 i → DerivesOnto d (n ∷ []) old new numbers → DerivesOnto d (n ∷ []) [] new (i ∷ [])
+first_lines {d = d} {n = n} {i = i} {old = old} {new = new} {numbers = numbers} h e w =
+    subst (λ v. DerivesOnto d (n ∷ []) v new (i ∷ [])) h (subst (λ v. DerivesOnto d (n ∷ []) old new v) (one_number numbers i w.count e) w)
 
 pub cut_of : {lines : List Line} (d r : StoreData) (n : ℕ) (cert : Cert) → d ≡ r → cert.board ≡ d.elements.board → cert.player ≡ d.elements.player → cert.lines ≡ lines
-    → DerivesOnto d n [] lines cert.entry → IsSound d → Within d.elements.board.size (stones_of d.elements.board d.elements.player) → IsCutOf r n cert
-cut_of d r n cert h b p l w s on = subst (λ v. IsCutOf v n cert) h (record { board = b; player = p; lines = subst (λ v. DerivesOnto d n [] v cert.entry) (sym l) w; sound = s; own = on })
+    → DerivesOnto d (n ∷ []) [] lines (cert.entry ∷ []) → IsSound d → Within d.elements.board.size (stones_of d.elements.board d.elements.player) → IsCutOf r n cert
+cut_of d r n cert h b p l w s on = subst (λ v. IsCutOf v n cert) h (record { board = b; player = p; lines = subst (λ v. DerivesOnto d (n ∷ []) [] v (cert.entry ∷ [])) (sym l) w; sound = s; own = on })
 
 same_board : (cert : Cert) (e : PlayerBoard) → cert.board ≡ e.board → cert.player ≡ e.player → player_board cert ≡ e
 same_board cert e h k = ap (λ (p : Position). record { board = p; player = cert.player }) h ∙ ap (λ (q : Colour). record { board = e.board; player = q }) k
@@ -52,8 +59,8 @@ same_board cert e h k = ap (λ (p : Position). record { board = p; player = cert
 first_elements : (d : StoreData) (n : ℕ) (cert : Cert) → IsCutOf d n cert → elements_at (first_of cert) ≡ d.elements
 first_elements d n cert w = unscoped_board (player_board cert) ∙ same_board cert d.elements w.board w.player
 
-derived : (d : StoreData) (n : ℕ) (cert : Cert) (w : IsCutOf d n cert) → IsDerivation d n w.lines.own (first_of cert) cert.lines cert.entry
-derived d n cert w = subst (λ l. IsDerivation d n w.lines.own (first_of cert) l cert.entry) (sym w.lines.added)
+derived : (d : StoreData) (n : ℕ) (cert : Cert) (w : IsCutOf d n cert) → IsDerivation d (n ∷ []) w.lines.own (first_of cert) cert.lines (cert.entry ∷ [])
+derived d n cert w = subst (λ l. IsDerivation d (n ∷ []) w.lines.own (first_of cert) l (cert.entry ∷ [])) (sym w.lines.added)
     (w.lines.derives (first_of cert) refl (freer_self d.elements (elements_at (first_of cert)) (first_elements d n cert w)))
 
 -- ---- the entries have their own elements
@@ -92,14 +99,10 @@ lines_for d n cert w =
     )
 
 edges_of : (e : PlayerBoard) (a : Entry) → IsBetween a (edge_element e false) (edge_element e true) → (a.x == edge_element e false && a.y == edge_element e true) ≡ true
-edges_of e a h =
-    let x : ℕ = edge_element e true in
-    let px : a.x ≡ min 0 x = h.0 in
-    let py : a.y ≡ max 0 x = h.1 in
-    and_from (a.x == 0) (a.y == x) (eq-eqb a.x 0 (omega arith)) (eq-eqb a.y x (omega arith))
+edges_of e a h = let w = between_edges e a h in and_from (a.x == edge_element e false) (a.y == edge_element e true) (eq-eqb a.x (edge_element e false) w.0) (eq-eqb a.y (edge_element e true) w.1)
 
 claimed : (d : StoreData) (n : ℕ) (a : Entry) (cert : Cert) → IsCutOf d n cert → slice_get d.entries n ≡ Some a → entry_at (after_lines (first_of cert) cert.lines) cert.entry ≡ Some (scoped 0 a)
-claimed d n a cert w at = (derived d n cert w).entry a at ∙ given_same d n cert w n a at
+claimed d n a cert w at = (derived d n cert w).answers 0 n cert.entry a refl refl at ∙ given_same d n cert w n a at
 
 -- the number of an entry that was given is that of a line
 given_within : (c : Context) (i : ℕ) (a : ScopedEntry) → entry_at c i ≡ Some a → i < length c.earlier

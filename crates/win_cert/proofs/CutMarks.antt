@@ -1,16 +1,13 @@
--- Marks of the entries on which an entry rests.
-use Rattle.std.proofs.Common.{◌≡◌, ℕ, ◌+◌, ◌<◌, ◌≤◌, ◌==◌, true, false, Bool, List, [], ◌∷◌, Some, All, length, get_or, set, if◌then◌else◌, sym, ◌∙◌, ap, subst, inl, inr, zero, suc, arith}
+-- Marks of the entries on which entries rest.
+use Rattle.std.proofs.Common.{◌≡◌, ℕ, ◌+◌, ◌<◌, ◌≤◌, true, false, Bool, List, [], ◌∷◌, ◌++◌, Some, All, length, get_or, replicate, set, take, refl, sym, ◌∙◌, ap, subst, inl, inr, zero, suc, arith}
 use Rattle.std.specs.List.{slice_get}
-use Rattle.std.proofs.lemmas.Bool.{cases_eq, ne_eqb}
-use Rattle.std.proofs.lemmas.List.{get_or-set_other, get_or-set_same, length-set}
-use Rattle.std.proofs.lemmas.List.Elements.{All-cons, All-head, All-nil, All-weaker}
-use Rattle.std.proofs.lemmas.Option.{slice_get-get_or}
-use Rattle.conn_store.specs.declared.entries.Cause.{Cause}
-use Rattle.conn_store.specs.declared.entries.Cause.TheVariants.{Or}
+use Rattle.std.proofs.lemmas.Bool.{cases_eq, true≢false}
+use Rattle.std.proofs.lemmas.List.{get_or-set_other, get_or-set_same, length-set, take_more}
+use Rattle.std.proofs.lemmas.List.Elements.{All-append, All-cons, All-head, All-nil, All-tail, All-weaker}
+use Rattle.std.proofs.lemmas.Option.{slice_get-get_or, slice_get_within}
 use Rattle.conn_store.specs.declared.entries.Entry.{Entry}
 use Rattle.win_cert.specs.Cuts.{premises}
 use Rattle.win_cert.specs.Cutting.{AreInside, IsClosedFrom, IsMarkedBy, NameEarlier, is_marked}
-use Rattle.win_cert.proofs.CutLines.{second_in, third_in}
 
 kept_one : (m : List Bool) (i j : ℕ) → j < length m → is_marked m i ≡ true → is_marked (set m j true) i ≡ true
 kept_one m i j l h = elim (cases_eq i j) [
@@ -24,51 +21,49 @@ inside_one m j s f h i t = elim (cases_eq i j) [
   | inr n ↦ f i (sym (get_or-set_other m j i true false n) ∙ t)
 ]
 
-within : (m : List Bool) (i j : ℕ) → j < length m → j < length (set m i true)
-within m i j l = subst (λ v. j < v) (sym (length-set m i true)) l
+All-front : {X : Type 0} (P : X → Type 0) (xs ys : List X) → All P (xs ++ ys) → All P xs
+All-front P [] ys h = All-nil P
+All-front P (x ∷ xs) ys h = All-cons P x xs (All-head P x (xs ++ ys) h) (All-front P xs ys (All-tail P x (xs ++ ys) h))
+
+All-last : {X : Type 0} (P : X → Type 0) (xs : List X) (y : X) → All P (xs ++ y ∷ []) → P y
+All-last P [] y h = All-head P y [] h
+All-last P (x ∷ xs) y h = All-last P xs y (All-tail P x (xs ++ y ∷ []) h)
 
 apart_from : (j b k : ℕ) → j < b → b ≤ k → k ≡ j → ⊥
 apart_from j b k l n q = absurd (omega arith)
 
-pub two_marked : (m : List Bool) (i j : ℕ) → i < length m → j < length m → IsMarkedBy m (i ∷ j ∷ []) (set (set m i true) j true)
-two_marked m i j l n = record {
-  number = length-set (set m i true) j true ∙ length-set m i true;
-  kept = λ k h. kept_one (set m i true) k j (within m i j n) (kept_one m k i l h);
-  more = All-cons (λ k. is_marked (set (set m i true) j true) k ≡ true) i (j ∷ []) (kept_one (set m i true) i j (within m i j n) (get_or-set_same m i true false l))
-      (All-cons (λ k. is_marked (set (set m i true) j true) k ≡ true) j [] (get_or-set_same (set m i true) j true false (within m i j n)) (All-nil (λ k. is_marked (set (set m i true) j true) k ≡ true)));
-  least = λ s h f. inside_one (set m i true) j s (inside_one m i s f (All-head (λ k. s k ≡ true) i (j ∷ []) h)) (second_in (λ k. s k ≡ true) i j [] h);
-  rest = λ b k h p. get_or-set_other (set m i true) j k true false (apart_from j b k (second_in (λ v. v < b) i j [] h) p)
-      ∙ get_or-set_other m i k true false (apart_from i b k (All-head (λ v. v < b) i (j ∷ []) h) p);
-}
+pub none_marked : (m : List Bool) → IsMarkedBy m [] m
+none_marked m = record { number = refl; kept = λ i h. h; more = All-nil (λ i. is_marked m i ≡ true); least = λ s h f. f; rest = λ b i h p. refl }
 
-pub three_marked : (m n : List Bool) (i j q : ℕ) → q < length m → IsMarkedBy m (i ∷ j ∷ []) n → IsMarkedBy m (i ∷ j ∷ q ∷ []) (set n q true)
-three_marked m n i j q l t =
+-- one entry more is marked
+pub one_marked : (m n : List Bool) (numbers : List ℕ) (q : ℕ) → q < length m → IsMarkedBy m numbers n → IsMarkedBy m (numbers ++ q ∷ []) (set n q true)
+one_marked m n numbers q l t =
     let w : q < length n = subst (λ v. q < v) (sym t.number) l in
+    let own : (s : ℕ → Bool) → All (λ i. s i ≡ true) (numbers ++ q ∷ []) → s q ≡ true = λ s h. All-last (λ i. s i ≡ true) numbers q h in
     record {
       number = length-set n q true ∙ t.number;
       kept = λ k h. kept_one n k q w (t.kept k h);
-      more = All-cons (λ k. is_marked (set n q true) k ≡ true) i (j ∷ q ∷ []) (kept_one n i q w (All-head (λ k. is_marked n k ≡ true) i (j ∷ []) t.more))
-          (All-cons (λ k. is_marked (set n q true) k ≡ true) j (q ∷ []) (kept_one n j q w (second_in (λ k. is_marked n k ≡ true) i j [] t.more))
-          (All-cons (λ k. is_marked (set n q true) k ≡ true) q [] (get_or-set_same n q true false w) (All-nil (λ k. is_marked (set n q true) k ≡ true))));
-      least = λ s h f. inside_one n q s
-          (t.least s (All-cons (λ k. s k ≡ true) i (j ∷ []) (All-head (λ k. s k ≡ true) i (j ∷ q ∷ []) h) (All-cons (λ k. s k ≡ true) j [] (second_in (λ k. s k ≡ true) i j (q ∷ []) h) (All-nil (λ k. s k ≡ true)))) f)
-          (third_in (λ k. s k ≡ true) i j q [] h);
-      rest = λ b k h p. get_or-set_other n q k true false (apart_from q b k (third_in (λ v. v < b) i j q [] h) p)
-          ∙ t.rest b k (All-cons (λ v. v < b) i (j ∷ []) (All-head (λ v. v < b) i (j ∷ q ∷ []) h) (All-cons (λ v. v < b) j [] (second_in (λ v. v < b) i j (q ∷ []) h) (All-nil (λ v. v < b)))) p;
+      more = All-append (λ k. is_marked (set n q true) k ≡ true) numbers (q ∷ []) (All-weaker (λ k. is_marked n k ≡ true) (λ k. is_marked (set n q true) k ≡ true) (λ k h. kept_one n k q w h) numbers t.more)
+          (All-cons (λ k. is_marked (set n q true) k ≡ true) q [] (get_or-set_same n q true false w) (All-nil (λ k. is_marked (set n q true) k ≡ true)));
+      least = λ s h f. inside_one n q s (t.least s (All-front (λ i. s i ≡ true) numbers (q ∷ []) h) f) (own s h);
+      rest = λ b k h p. get_or-set_other n q k true false (apart_from q b k (All-last (λ v. v < b) numbers q h) p) ∙ t.rest b k (All-front (λ v. v < b) numbers (q ∷ []) h) p;
     }
 
-pub or_marked : (m n : List Bool) (cause : Cause) (numbers : List ℕ) (count : ℕ) → cause ≡ Or numbers count → (count ≡ 2 → ⊥) → All (λ i. i < length m) (premises cause)
-    → n ≡ set (set m (get_or numbers 0 0) true) (get_or numbers 1 0) true → IsMarkedBy m (premises cause) (set n (get_or numbers 2 0) true)
-or_marked m n cause numbers count q t h e =
-    let i = get_or numbers 0 0 in
-    let j = get_or numbers 1 0 in
-    let k = get_or numbers 2 0 in
-    let no : (count == 2) ≡ false = ne_eqb count 2 t in
-    let all : All (λ v. v < length m) (i ∷ j ∷ k ∷ []) = subst (λ v. All (λ v. v < length m) (i ∷ j ∷ (if v then [] else k ∷ []))) no (subst (λ v. All (λ i. i < length m) (premises v)) q h) in
-    let made = three_marked m (set (set m i true) j true) i j k (third_in (λ v. v < length m) i j k [] all)
-    (two_marked m i j (All-head (λ v. v < length m) i (j ∷ k ∷ []) all) (second_in (λ v. v < length m) i j (k ∷ []) all)) in
-    subst (λ v. IsMarkedBy m (premises v) (set n k true)) (sym q) (subst (λ v. IsMarkedBy m (i ∷ j ∷ (if v then [] else k ∷ [])) (set n k true)) (sym no)
-    (subst (λ v. IsMarkedBy m (i ∷ j ∷ k ∷ []) (set v k true)) (sym e) made))
+-- the next of these entries is marked
+pub next_marked : (m n : List Bool) (numbers : List ℕ) (i : ℕ) → i < length numbers → All (λ j. j < length m) numbers → IsMarkedBy m (take i numbers) n → IsMarkedBy m (take (i + 1) numbers) (set n (get_or numbers i 0) true)
+next_marked m n numbers i l h t = subst (λ v. IsMarkedBy m v (set n (get_or numbers i 0) true)) (sym (take_more numbers i 0 l)) (one_marked m n (take i numbers) (get_or numbers i 0) (h i 0 l) t)
+
+no_mark : (n i : ℕ) → get_or (replicate n false) i false ≡ false
+no_mark zero i = refl
+no_mark (suc n) zero = refl
+no_mark (suc n) (suc i) = no_mark n i
+
+-- where nothing is marked
+pub none_inside : (m : List Bool) (n : ℕ) (s : ℕ → Bool) → m ≡ replicate n false → AreInside m s
+none_inside m n s e i t = absurd (true≢false (sym t ∙ ap (λ v. get_or v i false) e ∙ no_mark n i))
+
+pub none_closed : (entries : List Entry) (m : List Bool) → IsClosedFrom entries m (length entries)
+none_closed entries m j a l h q = let k : j < length entries = slice_get_within entries j a q in absurd (omega (arith, l, k))
 
 -- one entry more: the marks of those after it are as they were
 pub closed_more : (entries : List Entry) (m n : List Bool) (left : ℕ) (a : Entry) → NameEarlier entries → IsClosedFrom entries m (left + 1) → slice_get entries left ≡ Some a

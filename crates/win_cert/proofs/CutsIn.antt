@@ -3,11 +3,11 @@
 use Rattle.std.proofs.Common.{◌≡◌, ℕ, ◌+◌, ◌<◌, ◌≤◌, true, false, Bool, List, [], ◌∷◌, ◌++◌, Option, Some, None, All, length, map, take, get_or, if◌then◌else◌, option_map, refl, sym, ◌∙◌, ap, subst, inl, inr, zero, suc, arith}
 use Rattle.std.specs.List.{slice_get}
 use Rattle.std.proofs.Math.ListN.{get_or-append}
-use Rattle.std.proofs.Math.Seq.{get_or-append_seam}
+use Rattle.std.proofs.Math.Seq.{get_or-append_seam, take-length}
 use Rattle.std.proofs.lemmas.Bool.{true≢false}
-use Rattle.std.proofs.lemmas.List.{map-append}
+use Rattle.std.proofs.lemmas.List.{length-map, map-append}
 use Rattle.std.proofs.lemmas.List.Elements.{All-cons, All-head, All-nil, All-tail}
-use Rattle.std.proofs.lemmas.Option.{slice_get_within}
+use Rattle.std.proofs.lemmas.Option.{get_or_from_slice_get, slice_get-map, slice_get_within}
 use Rattle.conn_store.specs.declared.entries.TheConstants.{MOST_ENTRIES}
 use Rattle.win_cert.specs.Writable.{IsLineOf}
 use Rattle.win_cert.specs.declared.certs.TheConstants.{FIRST_VERSION, MOST_LINES}
@@ -32,7 +32,7 @@ use Rattle.win_cert.specs.Contexts.{AreClear, after_lines, context_after}
 use Rattle.win_cert.specs.Derivations.{DerivesOnto, GrowsOn, IsDerivation, given_there}
 use Rattle.win_cert.proofs.Appending.{after_append, base_after, clear_append, entry_kept, entry_last, length_after}
 use Rattle.win_cert.proofs.Moved.{IsFreerOn, moved_less}
-use Rattle.win_cert.proofs.Supports.{marked_front, marked_rest, picked_more, picked_same}
+use Rattle.win_cert.proofs.Supports.{marked_rest, picked_more, picked_same}
 use Rattle.win_cert.proofs.MovedRules.{follows_moves, line_moves}
 use Rattle.win_cert.proofs.CutLines.{AreOrdered, IsPlaced, line_right}
 use Rattle.win_cert.proofs.CutSteps.{IsRight}
@@ -73,11 +73,11 @@ scope_stays e renamed a (AndGroup i j) line s h = ap (λ v. scope_after s (v ∷
 scope_stays e renamed a (AndEmpty i j) line s h = ap (λ v. scope_after s (v ∷ [])) h
 scope_stays e renamed a (Or numbers count) line s h = or_stays s _ _ _ _ line h.1
 
-pub one_more_in : (c : Context) (d : StoreData) (marks : List Bool) (whole n : ℕ) (lines : List Line) (renamed : List ℕ) (a : Entry) (line : Line)
-    → IsFreerOn d.elements (elements_at c) → AreLinesIn c d marks n lines renamed → IsSound d → AreMarks d.entries whole marks → slice_get d.entries n ≡ Some a → is_marked marks n ≡ true
+pub one_more_in : (c : Context) (d : StoreData) (marks : List Bool) (asked : List ℕ) (n : ℕ) (lines : List Line) (renamed : List ℕ) (a : Entry) (line : Line)
+    → IsFreerOn d.elements (elements_at c) → AreLinesIn c d marks n lines renamed → IsSound d → AreMarks d.entries asked marks → slice_get d.entries n ≡ Some a → is_marked marks n ≡ true
     → IsLineFor d.elements (renamed ++ (length c.earlier + length lines) ∷ []) a a.cause line
     → AreLinesIn c d marks (n + 1) (lines ++ line ∷ []) (renamed ++ (length c.earlier + length lines) ∷ [])
-one_more_in c d marks whole n lines renamed a line f w s marked at known form =
+one_more_in c d marks asked n lines renamed a line f w s marked at known form =
     let e = d.elements in
     let q = elements_at c in
     let m : Entry → Entry = moved_entry e q in
@@ -164,11 +164,11 @@ all_more : (P : Line → Type 0) (xs : List Line) (x : Line) → All P xs → P 
 all_more P [] x h p = All-cons P x [] p (All-nil P)
 all_more P (y ∷ xs) x h p = All-cons P y (xs ++ x ∷ []) (All-head P y xs h) (all_more P xs x (All-tail P y xs h) p)
 
-pub one_more_from : (d : StoreData) (marks : List Bool) (from whole n : ℕ) (lines : List Line) (renamed : List ℕ) (a : Entry) (line : Line) → AreLinesFrom d marks from n lines renamed → IsSound d
+pub one_more_from : (d : StoreData) (marks : List Bool) (from : ℕ) (asked : List ℕ) (n : ℕ) (lines : List Line) (renamed : List ℕ) (a : Entry) (line : Line) → AreLinesFrom d marks from n lines renamed → IsSound d
     → from ≤ MOST_LINES + 1 → length d.entries ≤ MOST_ENTRIES
-    → AreMarks d.entries whole marks → slice_get d.entries n ≡ Some a → is_marked marks n ≡ true → IsLineFor d.elements (renamed ++ (from + length lines) ∷ []) a a.cause line
+    → AreMarks d.entries asked marks → slice_get d.entries n ≡ Some a → is_marked marks n ≡ true → IsLineFor d.elements (renamed ++ (from + length lines) ∷ []) a a.cause line
     → AreLinesFrom d marks from (n + 1) (lines ++ line ∷ []) (renamed ++ (from + length lines) ∷ [])
-one_more_from d marks from whole n lines renamed a line w s low most m at known form =
+one_more_from d marks from asked n lines renamed a line w s low most m at known form =
     let k : length renamed ≡ n = w.number in
     let f : length lines ≤ n = w.few in
     let l : length (lines ++ line ∷ []) ≡ length lines + 1 = longer lines line in
@@ -194,7 +194,7 @@ one_more_from d marks from whole n lines renamed a line w s low most m at known 
       ];
       form = all_more (IsLineOf FIRST_VERSION d.elements.board.size) lines line w.form (line_form d.elements more a line a.cause form small);
       read = λ c q g. subst (λ v. AreLinesIn c d marks (n + 1) (lines ++ line ∷ []) (renamed ++ (v + length lines) ∷ [])) q
-          (one_more_in c d marks whole n lines renamed a line g (w.read c q g) s m at known (subst (λ v. IsLineFor d.elements (renamed ++ (v + length lines) ∷ []) a a.cause line) (sym q) form));
+          (one_more_in c d marks asked n lines renamed a line g (w.read c q g) s m at known (subst (λ v. IsLineFor d.elements (renamed ++ (v + length lines) ∷ []) a a.cause line) (sym q) form));
     }
 
 pub none_more_from : (d : StoreData) (marks : List Bool) (from n : ℕ) (lines : List Line) (renamed : List ℕ) → AreLinesFrom d marks from n lines renamed → is_marked marks n ≡ false
@@ -215,16 +215,26 @@ none_more_from d marks from n lines renamed w h =
       read = λ c q g. none_more_in c d marks n lines renamed v (w.read c q g) h;
     }
 
-lines_done : (d : StoreData) (marks : List Bool) (from n m : ℕ) (lines : List Line) (renamed : List ℕ) → AreLinesFrom d marks from m lines renamed → m ≡ n + 1 → IsSound d → AreMarks d.entries n marks
+-- what the j-th number of those that were asked for is renamed to
+renamed_to : (renamed asked : List ℕ) (j n i : ℕ) → slice_get asked j ≡ Some n → slice_get (map (λ n. get_or renamed n 0) asked) j ≡ Some i → get_or renamed n 0 ≡ i
+renamed_to renamed asked j n i h k = same_number (get_or renamed n 0) i (sym (slice_get-map (λ n. get_or renamed n 0) asked j ∙ ap (option_map (λ n. get_or renamed n 0)) h) ∙ k)
+  where
+    same_number : (a b : ℕ) → Some a ≡ Some b → a ≡ b
+    same_number a b e = cc
+
+lines_done : (d : StoreData) (marks : List Bool) (from : ℕ) (asked : List ℕ) (m : ℕ) (lines : List Line) (renamed : List ℕ) → AreLinesFrom d marks from m lines renamed → m ≡ length d.entries → AreMarks d.entries asked marks
     → Within d.elements.board.size (stones_of d.elements.board d.elements.player) → (c : Context) → length c.earlier ≡ from → IsFreer d.elements (elements_at c)
-    → IsDerivation d n (entries_numbered (is_marked marks) d.entries) c lines (get_or renamed n 0)
-lines_done d marks from n m lines renamed w q s k on c l f =
+    → IsDerivation d asked (entries_numbered (is_marked marks) d.entries) c lines (map (λ n. get_or renamed n 0) asked)
+lines_done d marks from asked m lines renamed w q k on c l f =
     let r = w.read c l (record { freer = f; own = on }) in
     record {
       clear = r.clear;
       scope = r.scope;
-      gives = r.gives ∙ ap (λ es. c.earlier ++ map (given_there d c) es) (ap (λ v. entries_numbered (is_marked marks) (take v d.entries)) q ∙ marked_front d n marks s k);
-      entry = λ a h. r.places n a (omega arith) k.whole h;
+      gives = r.gives ∙ ap (λ es. c.earlier ++ map (given_there d c) (entries_numbered (is_marked marks) es)) (ap (λ v. take v d.entries) q ∙ take-length d.entries);
+      answers = λ j n i a h g at.
+          let inside : n < length d.entries = slice_get_within d.entries n a at in
+          let known : is_marked marks n ≡ true = subst (λ v. is_marked marks v ≡ true) (get_or_from_slice_get asked j n 0 h) (k.whole j 0 (slice_get_within asked j n h)) in
+          ap (entry_at (after_lines c lines)) (sym (renamed_to renamed asked j n i h g)) ∙ r.places n a (omega (arith, inside, q)) known at;
     }
 
 -- ---- after the lines that stand there
@@ -245,16 +255,16 @@ onto_begun d marks old = record { lines = []; added = none_added old; from = no_
 pub onto_length : (d : StoreData) (marks : List Bool) (old : List Line) (n : ℕ) (now : List Line) (renamed : List ℕ) (w : AreLinesOnto d marks old n now renamed) → length now ≡ length old + length w.lines
 onto_length d marks old n now renamed w = ap length w.added ∙ added_length old w.lines
 
-pub onto_more : (d : StoreData) (marks : List Bool) (old : List Line) (whole n : ℕ) (now next : List Line) (renamed more : List ℕ) (a : Entry) (line : Line) → AreLinesOnto d marks old n now renamed → IsSound d
-    → length old ≤ MOST_LINES + 1 → length d.entries ≤ MOST_ENTRIES → AreMarks d.entries whole marks → slice_get d.entries n ≡ Some a → is_marked marks n ≡ true
+pub onto_more : (d : StoreData) (marks : List Bool) (old : List Line) (asked : List ℕ) (n : ℕ) (now next : List Line) (renamed more : List ℕ) (a : Entry) (line : Line) → AreLinesOnto d marks old n now renamed → IsSound d
+    → length old ≤ MOST_LINES + 1 → length d.entries ≤ MOST_ENTRIES → AreMarks d.entries asked marks → slice_get d.entries n ≡ Some a → is_marked marks n ≡ true
     → more ≡ renamed ++ length now ∷ [] → next ≡ now ++ line ∷ [] → IsLineFor d.elements more a a.cause line → AreLinesOnto d marks old (n + 1) next more
-onto_more d marks old whole n now next renamed more a line w s low most m at known q r form =
+onto_more d marks old asked n now next renamed more a line w s low most m at known q r form =
     let e : more ≡ renamed ++ (length old + length w.lines) ∷ [] = q ∙ ap (λ v. renamed ++ v ∷ []) (onto_length d marks old n now renamed w) in
     record {
       lines = w.lines ++ line ∷ [];
       added = r ∙ ap (λ v. v ++ line ∷ []) w.added ∙ added_again old w.lines (line ∷ []);
       from = subst (λ v. AreLinesFrom d marks (length old) (n + 1) (w.lines ++ line ∷ []) v) (sym e)
-          (one_more_from d marks (length old) whole n w.lines renamed a line w.from s low most m at known (subst (λ v. IsLineFor d.elements v a a.cause line) e form));
+          (one_more_from d marks (length old) asked n w.lines renamed a line w.from s low most m at known (subst (λ v. IsLineFor d.elements v a a.cause line) e form));
     }
 
 pub onto_same : (d : StoreData) (marks : List Bool) (old : List Line) (n : ℕ) (now : List Line) (renamed more : List ℕ) → AreLinesOnto d marks old n now renamed → is_marked marks n ≡ false
@@ -263,10 +273,10 @@ onto_same d marks old n now renamed more w h q =
     let e : more ≡ renamed ++ (length old + length w.lines) ∷ [] = q ∙ ap (λ v. renamed ++ v ∷ []) (onto_length d marks old n now renamed w) in
     record { lines = w.lines; added = w.added; from = subst (λ v. AreLinesFrom d marks (length old) (n + 1) w.lines v) (sym e) (none_more_from d marks (length old) n w.lines renamed w.from h) }
 
-pub onto_done : (d : StoreData) (marks : List Bool) (old : List Line) (n m : ℕ) (now : List Line) (renamed : List ℕ) (i : ℕ) → AreLinesOnto d marks old m now renamed → m ≡ n + 1 → IsSound d
-    → length d.entries ≤ MOST_ENTRIES → n < length d.entries → AreMarks d.entries n marks → Within d.elements.board.size (stones_of d.elements.board d.elements.player)
-    → i ≡ get_or renamed n 0 → DerivesOnto d n old now i
-onto_done d marks old n m now renamed i w q s most l k on e =
+pub onto_done : (d : StoreData) (marks : List Bool) (old : List Line) (asked : List ℕ) (m : ℕ) (now : List Line) (renamed numbers : List ℕ) → AreLinesOnto d marks old m now renamed → m ≡ length d.entries
+    → length d.entries ≤ MOST_ENTRIES → AreMarks d.entries asked marks → Within d.elements.board.size (stones_of d.elements.board d.elements.player)
+    → numbers ≡ map (λ n. get_or renamed n 0) asked → DerivesOnto d asked old now numbers
+onto_done d marks old asked m now renamed numbers w q most k on e =
     let f : length w.lines ≤ m = w.from.few in
     let largest : length d.entries ≤ 75030 = most in
     record {
@@ -274,9 +284,10 @@ onto_done d marks old n m now renamed i w q s most l k on e =
       added = w.added;
       form = w.from.form;
       few = omega arith;
+      count = ap length e ∙ length-map asked (λ n. get_or renamed n 0);
       own = entries_numbered (is_marked marks) d.entries;
-      rests = marked_rest d n marks k;
-      derives = λ c g r. subst (λ v. IsDerivation d n (entries_numbered (is_marked marks) d.entries) c w.lines v) (sym e) (lines_done d marks (length old) n m w.lines renamed w.from q s k on c g r);
+      rests = marked_rest d asked marks k;
+      derives = λ c g r. subst (λ v. IsDerivation d asked (entries_numbered (is_marked marks) d.entries) c w.lines v) (sym e) (lines_done d marks (length old) asked m w.lines renamed w.from q k on c g r);
     }
 
 pub onto_grows : (d : StoreData) (marks : List Bool) (old : List Line) (n : ℕ) (now : List Line) (renamed : List ℕ) → AreLinesOnto d marks old n now renamed → GrowsOn old now

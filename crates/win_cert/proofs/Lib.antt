@@ -12,6 +12,7 @@ pub mod ScopeLines
 pub mod Shown
 pub mod ScopedWins
 pub mod Accepting
+pub mod CutShown
 -- Steps of this crate's own proofs.
 mod Vectors
 mod SameTests

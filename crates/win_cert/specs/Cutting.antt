@@ -35,17 +35,18 @@ IsClosedFrom entries marks i =
 abbrev pub AreInside : List Bool → (ℕ → Bool) → Type 0
 AreInside marks set = (i : ℕ) → is_marked marks i ≡ true → set i ≡ true
 
--- the marked entries are in each set that has entry n, and with each entry its premises
-abbrev pub AreLeast : List Entry → ℕ → List Bool → Type 0
-AreLeast entries n marks =
-    (set : ℕ → Bool) → IsClosedSet entries n set → AreInside marks set
+-- the marked entries are in each set that has the entries of these numbers, and with each entry its
+-- premises
+abbrev pub AreLeast : List Entry → List ℕ → List Bool → Type 0
+AreLeast entries asked marks =
+    (set : ℕ → Bool) → IsClosedSet entries asked set → AreInside marks set
 
--- entry n is marked, and with each marked entry its premises, and no more
-pub record AreMarks (entries : List Entry) (n : ℕ) (marks : List Bool) : Type 0 where
+-- the entries of these numbers are marked, and with each marked entry its premises, and no more
+pub record AreMarks (entries : List Entry) (asked : List ℕ) (marks : List Bool) : Type 0 where
   pub number : length marks ≡ length entries
-  pub whole : is_marked marks n ≡ true
+  pub whole : All (λ n. is_marked marks n ≡ true) asked
   pub closed : IsClosedFrom entries marks 0
-  pub least : AreLeast entries n marks
+  pub least : AreLeast entries asked marks
 
 -- marks, and the entries of these numbers that are marked after them
 pub record IsMarkedBy (old : List Bool) (numbers : List ℕ) (new : List Bool) : Type 0 where

@@ -6,7 +6,7 @@ use Rattle.conn_store.specs.Stores.{StoreData}
 use Rattle.conn_store.specs.declared.entries.Entry.{Entry}
 use Rattle.conn_store.specs.declared.entries.TheConstants.{MOST_ENTRIES}
 use Rattle.win_cert.specs.Contexts.{AreClear, after_lines}
-use Rattle.win_cert.specs.Cuts.{RestsOn, scoped}
+use Rattle.win_cert.specs.Cuts.{RestOn, scoped}
 use Rattle.win_cert.specs.Entries.{Context, ScopedEntry, elements_at, entry_at}
 use Rattle.win_cert.specs.Freer.{IsFreer, moved_entry}
 use Rattle.win_cert.specs.Writable.{IsLineOf}
@@ -22,23 +22,26 @@ abbrev pub given_there : StoreData → Context → Entry → Option ScopedEntry
 given_there d c a = Some (scoped c.scope (moved_entry d.elements (elements_at c) a))
 
 -- read over c, there is no reason against these lines; they leave the scope as it is; they give
--- these entries of the store, and line i gives entry n
-pub record IsDerivation (d : StoreData) (n : ℕ) (own : List Entry) (c : Context)
-    (lines : List Line) (i : ℕ) : Type 0 where
+-- these entries of the store, and the lines of these numbers give, in turn, those that were asked for
+pub record IsDerivation (d : StoreData) (asked : List ℕ) (own : List Entry) (c : Context)
+    (lines : List Line) (numbers : List ℕ) : Type 0 where
   pub clear : AreClear c lines
   pub scope : (after_lines c lines).scope ≡ c.scope
   pub gives : (after_lines c lines).earlier ≡ c.earlier ++ map (given_there d c) own
-  pub entry : (a : Entry) → slice_get d.entries n ≡ Some a
+  pub answers : (j n i : ℕ) (a : Entry) → slice_get asked j ≡ Some n
+      → slice_get numbers j ≡ Some i → slice_get d.entries n ≡ Some a
       → entry_at (after_lines c lines) i ≡ given_there d c a
 
--- after the old lines stand those of the store's entry n, a line for each entry on which it rests;
--- line i gives it. They are lines of the first version
-pub record DerivesOnto (d : StoreData) (n : ℕ) (old new : List Line) (i : ℕ) : Type 0 where
+-- after the old lines stand those of the store's entries that were asked for, a line for each entry
+-- on which they rest; the lines of these numbers give them. They are lines of the first version
+pub record DerivesOnto (d : StoreData) (asked : List ℕ) (old new : List Line)
+    (numbers : List ℕ) : Type 0 where
   pub lines : List Line
   pub added : new ≡ old ++ lines
   pub form : All (IsLineOf FIRST_VERSION d.elements.board.size) lines
   pub few : length lines ≤ MOST_ENTRIES
+  pub count : length numbers ≡ length asked
   pub own : List Entry
-  pub rests : RestsOn d.entries n own
+  pub rests : RestOn d.entries asked own
   pub derives : (c : Context) → length c.earlier ≡ length old
-      → IsFreer d.elements (elements_at c) → IsDerivation d n own c lines i
+      → IsFreer d.elements (elements_at c) → IsDerivation d asked own c lines numbers

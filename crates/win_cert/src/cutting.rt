@@ -1,6 +1,6 @@
 //! Certificates of the entries of a report.
 
-ghost use Rattle.std.specs.Prelude.{◌≡◌, ◌+◌, ◌<◌, ◌≤◌, All, IfOk, List, length};
+ghost use Rattle.std.specs.Prelude.{◌≡◌, ◌+◌, ◌<◌, ◌≤◌, All, IfOk, List, get_or, length, map};
 ghost use Rattle.conn_store.specs.Entries.{IsValid};
 ghost use Rattle.conn_store.specs.Rules.{FollowsFrom};
 ghost use Rattle.hex_board.specs.Elements.{element_count};
@@ -30,35 +30,36 @@ pub fn cut(alloc: Global, report: &Report, entry: u32) -> Result<Cert, Memory>
     // The player's stones lie on the board.
     let _stones = store.board().stones(store.colour());
     let mut lines = Vec::new(alloc);
-    let claimed = lines_onto(alloc, store, entry, &mut lines)?;
+    let claimed = lines_onto(alloc, store, &[entry], &mut lines)?;
     Ok(Cert {
         version: FIRST_VERSION,
         board: *store.board(),
         player: store.colour(),
         lines: Lines::of(lines),
         claim: store.entries()[entry as usize].kind,
-        entry: claimed,
+        entry: claimed[0],
     })
 }
 
-/// Adds the lines of the store's entry with this number after those that stand there, and answers
-/// the number of its own line: a line for each entry on which it rests, in the store's order. They
-/// may be read in any scope on whose board the player has the stones that he has on the store's,
-/// and the other player no more. One line more than a certificate has may stand there before. Where
-/// memory runs out some of the new ones may stand there.
+/// Adds the lines of the store's entries with these numbers after those that stand there, and
+/// answers the numbers of their own lines, in turn: a line for each entry on which they rest, once,
+/// in the store's order. They may be read in any scope on whose board the player has the stones
+/// that he has on the store's, and the other player no more. One line more than a certificate has
+/// may stand there before. Where memory runs out some of the new ones may stand there.
 pub fn lines_onto(
     alloc: Global,
     store: &Store,
-    entry: u32,
+    asked: &[u32],
     out: &mut Vec<Line>,
-) -> Result<u32, AllocError>
-    requires below { entry < length store.now.entries }
+) -> Result<Vec<u32>, AllocError>
+    requires below { All (λ n. n < length store.now.entries) asked.now }
     requires room { length out.old.items ≤ MOST_LINES + 1 }
     ensures grows { GrowsOn out.old.items out.new.items }
-    ensures derives { IfOk result (DerivesOnto store.now entry out.old.items out.new.items) }
+    ensures derives { IfOk result
+        (λ v. DerivesOnto store.now asked.now out.old.items out.new.items v.items) }
 {
-    let marks = marked(alloc, store.entries(), entry)?;
-    derived_onto(alloc, store, &marks, entry, out)
+    let marks = marked(alloc, store.entries(), asked)?;
+    derived_onto(alloc, store, &marks, asked, out)
 }
 
 // Adds the lines of the marked entries.
@@ -66,28 +67,41 @@ fn derived_onto(
     alloc: Global,
     store: &Store,
     marks: &[bool],
-    entry: u32,
+    asked: &[u32],
     out: &mut Vec<Line>,
-) -> Result<u32, AllocError>
-    requires below { entry < length store.now.entries }
-    requires marks { AreMarks store.now.entries entry marks.now }
+) -> Result<Vec<u32>, AllocError>
+    requires below { All (λ n. n < length store.now.entries) asked.now }
+    requires marks { AreMarks store.now.entries asked.now marks.now }
     requires room { length out.old.items ≤ MOST_LINES + 1 }
     ensures grows { GrowsOn out.old.items out.new.items }
-    ensures derives { IfOk result (DerivesOnto store.now entry out.old.items out.new.items) }
+    ensures derives { IfOk result
+        (λ v. DerivesOnto store.now asked.now out.old.items out.new.items v.items) }
 {
     let entries = store.entries();
     // The player's stones lie on the board, apart from the opponent's.
     let _stones = store.board().stones(store.colour());
     let mut renamed = Vec::new(alloc);
     let mut number = 0;
-    'entries: while number <= entry as usize {
+    'entries: while number < entries.len() {
         renamed.push(out.len() as u32)?;
         if marks[number] {
             out.push(line_of(store.elements(), entries[number], &renamed))?;
         }
         number += 1;
     }
-    Ok(renamed[entry as usize])
+    numbers_of(alloc, &renamed, asked)
+}
+
+// What the numbers of these entries are renamed to.
+fn numbers_of(alloc: Global, renamed: &[u32], asked: &[u32]) -> Result<Vec<u32>, AllocError>
+    requires { All (λ n. n < length renamed.now) asked.now }
+    ensures { IfOk result (λ v. v.items ≡ map (λ n. get_or renamed.now n 0) asked.now) }
+{
+    let mut numbers = Vec::new(alloc);
+    'asked: for &entry in asked {
+        numbers.push(renamed[entry as usize])?;
+    }
+    Ok(numbers)
 }
 
 // The line for an entry that follows from others, where these have the numbers `renamed`.

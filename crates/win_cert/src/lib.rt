@@ -8,7 +8,7 @@
 //!
 //! **A caller** reads a text ([`read`]), writes one ([`write`]), raises a certificate to the latest
 //! version ([`raise`]) and cuts one from a report ([`cut`], of an entry that [`edge_numbers`]
-//! names), or its lines ([`lines_onto`]).
+//! names), or the lines of one entry or several ([`lines_onto`]).
 //!
 //! **What is proved.** The text is a whole list of lines of words (specs/Texts.antt). `write` gives
 //! it. `read` answers the certificate whose text the bytes are, or exactly the first line that is

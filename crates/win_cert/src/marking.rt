@@ -1,21 +1,24 @@
-//! Marks of the entries on which an entry rests.
+//! Marks of the entries on which entries rest.
 
-ghost use Rattle.std.specs.Prelude.{◌≡◌, ◌<◌, All, IfOk, length, true};
-ghost use Rattle.std.specs.List.{slice_set};
+ghost use Rattle.std.specs.Prelude.{◌<◌, All, IfOk, length};
 ghost use Rattle.win_cert.specs.Cuts.{premises};
 ghost use Rattle.win_cert.specs.Cutting.{AreMarks, IsMarkedBy, NameEarlier};
 
 use conn_store::{Cause, Entry};
 use std::alloc::{AllocError, Global};
 
-/// Marks the entry with this number and those on which it rests, and no other.
-pub(crate) fn marked(alloc: Global, entries: &[Entry], entry: u32) -> Result<Vec<bool>, AllocError>
-    requires below { entry < length entries.now }
+/// Marks the entries with these numbers and those on which they rest, and no other.
+pub(crate) fn marked(
+    alloc: Global,
+    entries: &[Entry],
+    asked: &[u32],
+) -> Result<Vec<bool>, AllocError>
+    requires below { All (λ n. n < length entries.now) asked.now }
     requires earlier { NameEarlier entries.now }
-    ensures { IfOk result (λ marks. AreMarks entries.now entry marks.items) }
+    ensures { IfOk result (λ marks. AreMarks entries.now asked.now marks.items) }
 {
     let mut marks = vec![in alloc; false; entries.len()]?;
-    marks[entry as usize] = true;
+    mark_all(&mut marks, asked);
     let mut left = entries.len();
     'entries: while 0 < left {
         left -= 1;
@@ -33,23 +36,24 @@ fn mark(marks: &mut Vec<bool>, cause: Cause)
 {
     match cause {
         Cause::Adjacent => {}
-        Cause::AndGroup(i, j) => mark_two(marks, i, j),
-        Cause::AndEmpty(i, j) => mark_two(marks, i, j),
+        Cause::AndGroup(i, j) => mark_all(marks, &[i, j]),
+        Cause::AndEmpty(i, j) => mark_all(marks, &[i, j]),
         Cause::Or(numbers, count) => {
-            mark_two(marks, numbers[0], numbers[1]);
-            if count != 2 {
-                marks[numbers[2] as usize] = true;
+            if count == 2 {
+                mark_all(marks, &[numbers[0], numbers[1]]);
+            } else {
+                mark_all(marks, &[numbers[0], numbers[1], numbers[2]]);
             }
         }
     }
 }
 
-// Marks two entries.
-fn mark_two(marks: &mut Vec<bool>, i: u32, j: u32)
-    requires first { i < length marks.old.items }
-    requires second { j < length marks.old.items }
-    ensures { marks.new.items ≡ slice_set (slice_set marks.old.items i true) j true }
+// Marks the entries with these numbers.
+fn mark_all(marks: &mut Vec<bool>, numbers: &[u32])
+    requires { All (λ i. i < length marks.old.items) numbers.now }
+    ensures { IsMarkedBy marks.old.items numbers.now marks.new.items }
 {
-    marks[i as usize] = true;
-    marks[j as usize] = true;
+    'numbers: for &number in numbers {
+        marks[number as usize] = true;
+    }
 }

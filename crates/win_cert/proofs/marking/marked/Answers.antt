@@ -1,10 +1,36 @@
 -- The entries that a marked one names are marked with it.
-use Rattle.std.proofs.Common.{◌≡◌, ℕ, ◌+◌, ◌-◌, ◌≤◌, All, length, true, sym, ◌∙◌, subst, arith}
+use Rattle.std.proofs.Common.{◌≡◌, ℕ, ◌+◌, ◌-◌, ◌<◌, ◌≤◌, All, false, get_or, length, true, sym, ◌∙◌, ap, subst, arith}
+use Rattle.std.proofs.lemmas.List.{length-replicate}
+use Rattle.std.proofs.lemmas.List.Elements.{All-weaker}
+use Rattle.std.proofs.lemmas.Option.{slice_get-get_or}
 use Rattle.win_cert.specs.Cuts.{premises}
 use Rattle.win_cert.specs.Cutting.{IsClosedFrom, IsMarkedBy, is_marked}
 use Rattle.conn_store.specs.declared.entries.Entry.{Entry}
-use Rattle.win_cert.proofs.CutMarks.{closed_more, marked_at, read_at}
+use Rattle.win_cert.proofs.CutMarks.{closed_more, marked_at, none_closed, none_inside, read_at}
 use Rattle.win_cert.proofs.marking.marked.Goals as goal
+
+pub entries-init : goal.entries-init
+entries-init c =
+    let entries = c.args.entries.now in
+    let marks = c.mark_all.new.marks.items in
+    let made = c.in_ok-marks.ensures.items_if_clones_equal (λ y h. h) in
+    record {
+      number = c.mark_all.ensures.number ∙ ap length made ∙ length-replicate (length entries) false;
+      left = omega arith;
+      whole = c.mark_all.ensures.more;
+      closed = none_closed entries marks;
+      least = λ s h. c.mark_all.ensures.least s h.whole (none_inside c.in_ok-marks.marks.items (length entries) s made);
+    }
+
+pub mark-requires : goal.mark-requires
+mark-requires c =
+    let n : ℕ = c.entries.left - 1 in
+    let entries = c.args.entries.now in
+    let a = c.index-entries-left.result in
+    let long : length c.entries.marks.items ≡ length entries = c.entries.invariant.number in
+    let left : c.entries.left ≤ length entries = c.entries.invariant.left in
+    let e = get_or entries n a in
+    All-weaker (λ j. j < n) (λ j. j < length c.entries.marks.items) (λ j l. omega (arith, l, long, left)) (premises e.cause) (c.requires.earlier n e (slice_get-get_or entries n a (omega arith)))
 
 pub entries-preserved-then-index : goal.entries-preserved-then-index
 entries-preserved-then-index c =
@@ -22,7 +48,7 @@ entries-preserved-then-index c =
           (subst (λ (v : Entry). All (λ j. s j ≡ true) (premises v.cause)) c.index-entries-left.is
           (f.closed n a (c.entries.invariant.least s f n known) (read_at entries n a (omega arith) c.index-entries-left.is)))
           (c.entries.invariant.least s f);
-      whole = c.mark.ensures.kept c.args.entry c.entries.invariant.whole;
+      whole = All-weaker (λ k. is_marked c.entries.marks.items k ≡ true) (λ k. is_marked c.mark.new.marks.items k ≡ true) c.mark.ensures.kept c.args.asked.now c.entries.invariant.whole;
       closed = closed_more entries c.entries.marks.items c.mark.new.marks.items n a c.requires.earlier (subst (IsClosedFrom entries c.entries.marks.items) up c.entries.invariant.closed)
           (read_at entries n a (omega arith) c.index-entries-left.is)
           (subst (λ (v : Entry). IsMarkedBy c.entries.marks.items (premises v.cause) c.mark.new.marks.items) (sym c.index-entries-left.is) c.mark.ensures);
