@@ -1,15 +1,15 @@
 -- A certificate whose lines are clear, and whose claim names an entry of the edges in the empty
 -- scope, is accepted.
-use Rattle.std.proofs.Common.{◌≡◌, ℕ, ◌<◌, ◌≤◌, ◌==◌, ◌&&◌, not, true, false, List, [], ◌∷◌, ◌++◌, Option, Some, None, length, take, refl, sym, ◌∙◌, ap, subst, zero, suc, arith}
+use Rattle.std.proofs.Common.{◌≡◌, ℕ, ◌≤◌, ◌==◌, ◌&&◌, not, true, List, [], ◌∷◌, Some, None, length, take, refl, sym, ◌∙◌, ap, subst, zero, suc, arith}
 use Rattle.std.specs.List.{cons_option, list_all, slice_get}
 use Rattle.std.proofs.lemmas.Bool.{and_from, eq-eqb}
 use Rattle.conn_store.specs.Stores.{same_kind}
 use Rattle.conn_store.specs.declared.entries.Kind.{Kind}
 use Rattle.conn_store.proofs.Tables.{kinds_match}
-use Rattle.win_cert.specs.Entries.{Context, ScopedEntry, context_at, entries_at, entry_at}
+use Rattle.win_cert.specs.Entries.{Context, context_at, entry_at}
 use Rattle.win_cert.specs.Reasons.{reason_against, bad_reference, is_bad_reference, is_no_edge_entry, is_wrong_scope, not_edges, wrong_scope}
 use Rattle.win_cert.specs.Statements.{claim, derivation, is_edge_entry, may_take}
-use Rattle.win_cert.specs.Verdicts.{Accepted, IsVerdict, claimed_entry, reason_at, yes}
+use Rattle.win_cert.specs.Verdicts.{IsVerdict, yes}
 use Rattle.win_cert.specs.declared.certs.Cert.{Cert}
 use Rattle.win_cert.specs.declared.lines.Line.{Line}
 use Rattle.win_cert.proofs.CutSteps.{bad_one, told, told_next}

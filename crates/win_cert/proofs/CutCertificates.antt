@@ -1,6 +1,6 @@
 -- The certificate of the lines of a cut shows the entry of the store, and has a line for each entry on
 -- which it rests.
-use Rattle.std.proofs.Common.{◌≡◌, ℕ, ◌+◌, ◌<◌, ◌≤◌, All, Option, None, ◌==◌, ◌&&◌, true, false, Bool, List, [], ◌∷◌, Some, get_or, length, map, min, max, if◌then◌else◌, refl, sym, ◌∙◌, ap, subst, inl, zero, suc, arith}
+use Rattle.std.proofs.Common.{◌≡◌, ℕ, ◌+◌, ◌<◌, ◌≤◌, All, Option, None, ◌==◌, ◌&&◌, true, false, Bool, List, [], ◌∷◌, Some, get_or, length, map, if◌then◌else◌, refl, sym, ◌∙◌, ap, subst, inl, suc, arith}
 use Rattle.std.specs.List.{slice_get}
 use Rattle.std.specs.Option.{option_flatten}
 use Rattle.std.proofs.lemmas.Bool.{and_from, eq-eqb}
@@ -11,7 +11,7 @@ use Rattle.hex_cells.specs.declared.colours.Colour.{Colour}
 use Rattle.conn_store.specs.Entries.{IsBetween, IsValid}
 use Rattle.conn_store.specs.Stores.{IsSound, StoreData}
 use Rattle.conn_store.specs.declared.entries.Entry.{Entry}
-use Rattle.win_cert.specs.Contexts.{after_lines, first_context}
+use Rattle.win_cert.specs.Contexts.{after_lines}
 use Rattle.win_cert.specs.Cuts.{CertifiesEntry, HasLinesFor, IsEdgeEntryAt, entries_numbered, scoped}
 use Rattle.win_cert.specs.Derivations.{DerivesOnto, IsDerivation, given_there}
 use Rattle.win_cert.specs.Entries.{Context, ScopedEntry, elements_at, entry_at}

@@ -1,8 +1,8 @@
 -- What a line names: the entries that lines before it gave, and of two that share
 -- an element, that element and the other ends.
-use Rattle.std.proofs.Common.{◌≡◌, ℕ, ◌==◌, ◌||◌, true, false, Bool, List, [], ◌∷◌, Option, Some, None, min, max, option_map, if◌then◌else◌, refl, sym, ◌∙◌, ap, inl, inr, ◌⊎◌}
-use Rattle.std.specs.List.{cons_option, list_all, slice_get}
-use Rattle.std.specs.Option.{is_some, option_flatten, option_map_or}
+use Rattle.std.proofs.Common.{◌≡◌, ℕ, ◌==◌, ◌||◌, true, false, Bool, List, [], ◌∷◌, Option, Some, None, min, max, if◌then◌else◌, refl, sym, ◌∙◌, ap, inl, inr, ◌⊎◌}
+use Rattle.std.specs.List.{cons_option, list_all}
+use Rattle.std.specs.Option.{is_some, option_map_or}
 use Rattle.std.proofs.lemmas.Bool.{eq-eqb, false_from_ne_true, false≢true, ne_eqb, true≢false, or_from}
 use Rattle.hex_cells.specs.Sets.{has}
 use Rattle.hex_cells.specs.declared.board_size.TheConstants.{MOST_CELLS}

@@ -1,9 +1,9 @@
 -- What the lines of a cut show of a position, after a `put` of its scope.
-use Rattle.std.proofs.Common.{◌≡◌, ℕ, ◌+◌, ◌==◌, true, false, List, [], ◌∷◌, Some, min, max, length, refl, sym, ◌∙◌, ap, subst, arith}
+use Rattle.std.proofs.Common.{◌≡◌, ℕ, ◌+◌, ◌==◌, true, false, List, ◌∷◌, Some, min, max, length, refl, sym, ◌∙◌, ap, subst, arith}
 use Rattle.std.specs.List.{slice_get}
 use Rattle.std.proofs.lemmas.Bool.{and_from, eq-eqb}
 use Rattle.hex_cells.specs.Colours.{other_of}
-use Rattle.hex_cells.specs.Sets.{has, with_cell}
+use Rattle.hex_cells.specs.Sets.{has}
 use Rattle.hex_cells.specs.declared.colours.Colour.{Colour}
 use Rattle.hex_cells.specs.declared.colours.Colour.TheVariants.{Black, White}
 use Rattle.hex_cells.proofs.WithCell.{with_cell-here}

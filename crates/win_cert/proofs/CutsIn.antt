@@ -1,6 +1,6 @@
 -- The lines of a cut in any scope, on a board with fewer stones of the other player: there is no
 -- reason against any, and they give the store's entries with their elements as numbered there.
-use Rattle.std.proofs.Common.{◌≡◌, ℕ, ◌+◌, ◌<◌, ◌≤◌, true, false, Bool, List, [], ◌∷◌, ◌++◌, Option, Some, None, All, length, map, take, get_or, if◌then◌else◌, option_map, refl, sym, ◌∙◌, ap, subst, inl, inr, zero, suc, arith}
+use Rattle.std.proofs.Common.{◌≡◌, ℕ, ◌+◌, ◌<◌, ◌≤◌, true, false, Bool, List, [], ◌∷◌, ◌++◌, Some, All, length, map, take, get_or, if◌then◌else◌, option_map, refl, sym, ◌∙◌, ap, subst, inl, inr, zero, suc, arith}
 use Rattle.std.specs.List.{slice_get}
 use Rattle.std.proofs.Math.ListN.{get_or-append}
 use Rattle.std.proofs.Math.Seq.{get_or-append_seam, take-length}
@@ -12,9 +12,8 @@ use Rattle.conn_store.specs.declared.entries.TheConstants.{MOST_ENTRIES}
 use Rattle.win_cert.specs.Writable.{IsLineOf}
 use Rattle.win_cert.specs.declared.certs.TheConstants.{FIRST_VERSION, MOST_LINES}
 use Rattle.win_cert.proofs.CutLines.{IsSmallAt, line_form}
-use Rattle.hex_board.specs.Elements.{PlayerBoard, element_count}
+use Rattle.hex_board.specs.Elements.{PlayerBoard}
 use Rattle.hex_board.specs.Positions.{Within, stones_of}
-use Rattle.conn_store.specs.Entries.{IsValid}
 use Rattle.conn_store.specs.Rules.{FollowsFrom}
 use Rattle.conn_store.specs.Stores.{IsSound, StoreData}
 use Rattle.conn_store.specs.declared.entries.Cause.{Cause}
@@ -22,12 +21,12 @@ use Rattle.conn_store.specs.declared.entries.Cause.TheVariants.{Adjacent, AndGro
 use Rattle.conn_store.specs.declared.entries.Entry.{Entry}
 use Rattle.win_cert.specs.Cuts.{entries_numbered, premises, scoped}
 use Rattle.win_cert.specs.Cutting.{AreMarks, IsLineFor, is_marked}
-use Rattle.win_cert.specs.Entries.{Context, ScopedEntry, elements_at, entry_at, gives}
+use Rattle.win_cert.specs.Entries.{Context, elements_at, entry_at}
 use Rattle.win_cert.specs.Scopes.{elements_in, scope_after}
 use Rattle.win_cert.specs.declared.lines.Line.{Line}
-use Rattle.win_cert.specs.declared.lines.Line.TheVariants.{Adj, And, Key, Or2, Or3}
+use Rattle.win_cert.specs.declared.lines.Line.TheVariants.{Or2, Or3}
 use Rattle.win_cert.proofs.CutDerivations.{cases_at, longer, name_earlier, some_entry, taken_back}
-use Rattle.win_cert.specs.Freer.{IsFreer, moved_element, moved_entry}
+use Rattle.win_cert.specs.Freer.{IsFreer, moved_entry}
 use Rattle.win_cert.specs.Contexts.{AreClear, after_lines, context_after}
 use Rattle.win_cert.specs.Derivations.{DerivesOnto, GrowsOn, IsDerivation, given_there}
 use Rattle.win_cert.proofs.Appending.{after_append, base_after, clear_append, entry_kept, entry_last, length_after}

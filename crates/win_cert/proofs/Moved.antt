@@ -1,18 +1,17 @@
 -- Elements on a board with fewer stones of the other player: the same groups and edges, and more
 -- empty cells, so their numbers rise in the same order.
-use Rattle.std.proofs.Common.{◌≡◌, ℕ, ◌+◌, ◌*◌, ◌<◌, ◌≤◌, ◌==◌, ◌&&◌, ◌||◌, ◌⊎◌, not, true, false, Bool, List, Option, Some, None, cond, if◌then◌else◌, refl, sym, ◌∙◌, ap, subst, inl, inr, zero, suc, arith}
+use Rattle.std.proofs.Common.{◌≡◌, ℕ, ◌+◌, ◌*◌, ◌<◌, ◌≤◌, ◌==◌, ◌&&◌, ◌||◌, ◌⊎◌, not, true, false, Bool, Option, Some, None, cond, if◌then◌else◌, refl, sym, ◌∙◌, ap, subst, inl, inr, zero, suc, arith}
 use Rattle.std.specs.List.{count_by, find, list_any, range_with_len}
 use Rattle.std.specs.Option.{option_map_or}
 use Rattle.std.proofs.lemmas.Bool.{and_from, and_parts, both_ways, cases_Bool, cases_eq, cases_lt, eq-eqb, eqb-true, false≢true, true≢false}
 use Rattle.hex_cells.specs.Sets.{has}
 use Rattle.hex_cells.specs.Edges.{on_edge}
-use Rattle.hex_cells.specs.Colours.{other_of}
 use Rattle.hex_cells.specs.declared.colours.Colour.{Colour}
-use Rattle.hex_board.specs.Elements.{PlayerBoard, HasCell, are_joined, edge_element, edge_elements, element_count, element_of, head_element, is_head, is_linked, is_root, is_tied}
+use Rattle.hex_board.specs.Elements.{PlayerBoard, HasCell, are_joined, edge_element, edge_elements, element_count, head_element, is_head, is_linked, is_root, is_tied}
 use Rattle.hex_board.specs.Joined.{cells_of, is_joined, leads_in}
 use Rattle.hex_board.specs.Places.{Place, at_cell, at_edge, Beside, IsMember, Near}
 use Rattle.hex_board.specs.Positions.{Within, is_empty_at, stones_of}
-use Rattle.hex_board.proofs.Parts.{Case, is_free, is_first, is_second, is_group, is_other, case_of, edge_below, empty_head, head_cases, head_on, linked_last, none_some, of_first, of_free, of_group, of_second, root_head, some_same}
+use Rattle.hex_board.proofs.Parts.{is_free, is_first, is_second, is_group, is_other, case_of, edge_below, empty_head, head_cases, head_on, linked_last, none_some, of_first, of_free, of_group, of_second, root_head, some_same}
 use Rattle.hex_board.proofs.Placed.{empty_on, stone_full}
 use Rattle.hex_board.proofs.WinLaws.{counted}
 use Rattle.win_cert.proofs.SameTests.{any_same}

@@ -1,28 +1,26 @@
 -- Each line that the solver adds: there is no reason against it, and the entry that it gives.
-use Rattle.std.proofs.Common.{◌≡◌, ℕ, ◌+◌, ◌==◌, ◌&&◌, not, true, false, Bool, List, [], ◌∷◌, ◌++◌, Option, Some, None, min, max, length, cond, if◌then◌else◌, refl, sym, ◌∙◌, ap, subst, arith}
+use Rattle.std.proofs.Common.{◌≡◌, ℕ, ◌==◌, ◌&&◌, not, true, false, Bool, List, [], ◌∷◌, Some, None, min, max, length, refl, ◌∙◌, ap, arith}
 use Rattle.std.specs.List.{cons_option, list_all, list_any}
-use Rattle.std.proofs.lemmas.Bool.{and_from, and_parts, both_ways, eq-eqb, false_from_ne_true, false≢true, not-true, true≢false}
+use Rattle.std.proofs.lemmas.Bool.{and_from, and_parts, both_ways, eq-eqb, false_from_ne_true, not-true}
 use Rattle.hex_cells.specs.Sets.{has, with_cell}
 use Rattle.hex_cells.specs.declared.board_size.TheConstants.{MOST_CELLS}
-use Rattle.hex_board.specs.Elements.{PlayerBoard, are_joined, edge_element}
+use Rattle.hex_board.specs.Elements.{are_joined, edge_element}
 use Rattle.hex_board.specs.Positions.{is_empty_at}
 use Rattle.hex_board.proofs.Search.{any_out}
 use Rattle.conn_store.specs.Entries.{AllEmpty}
 use Rattle.conn_store.specs.Stores.{same_kind}
 use Rattle.conn_store.specs.declared.entries.Kind.{Kind}
 use Rattle.conn_store.specs.declared.entries.Kind.TheVariants.{Full, Semi}
-use Rattle.conn_store.proofs.Tables.{kinds_match}
 use Rattle.win_cert.specs.Entries.{Context, ScopedEntry, carriers_of, edge_entry, elements_at, entries_at, entry_at, gives, move_entry}
-use Rattle.win_cert.specs.Reasons.{Reason, reason_against, bad_reference, bad_stone, common_cell, is_bad_reference, is_bad_stone, is_cell_common, is_no_edge_entry, is_not_joined, is_wrong_scope, not_edges, not_joined, wrong_scope}
-use Rattle.win_cert.specs.Scopes.{elements_in}
-use Rattle.win_cert.specs.Statements.{Statement, claim, derivation, cell_numbers, is_edge_entry, kind_taken, may_take, share_cell}
+use Rattle.win_cert.specs.Reasons.{reason_against, bad_reference, bad_stone, common_cell, is_bad_reference, is_bad_stone, is_cell_common, is_no_edge_entry, is_not_joined, is_wrong_scope, not_edges, not_joined, wrong_scope}
+use Rattle.win_cert.specs.Statements.{derivation, cell_numbers, is_edge_entry, may_take}
 use Rattle.win_cert.specs.declared.lines.Line.{Line}
 use Rattle.win_cert.specs.declared.lines.Line.TheVariants.{Put, Done, Move, Cases}
 use Rattle.win_cert.proofs.CutChains.{none_shared}
 use Rattle.win_cert.proofs.CutSteps.{bad_one, told, told_next}
-use Rattle.win_cert.specs.Contexts.{AreClear, after_lines, context_after}
+use Rattle.win_cert.specs.Contexts.{context_after}
 use Rattle.win_cert.specs.Showing.{GivesEdges}
-use Rattle.win_cert.proofs.Appending.{entry_kept, entry_last}
+use Rattle.win_cert.proofs.Appending.{entry_last}
 
 -- ---- `put`
 

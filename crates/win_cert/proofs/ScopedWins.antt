@@ -1,8 +1,6 @@
 -- A true entry of the player's edges in a scope tells who wins a position that is reached with it.
-use Rattle.std.proofs.Common.{◌≡◌, ℕ, true, false, refl, sym, ◌∙◌, ap, subst, arith}
-use Rattle.hex_cells.specs.Sets.{has, members}
-use Rattle.hex_cells.specs.Colours.{other_of}
-use Rattle.hex_cells.specs.declared.colours.Colour.{Colour}
+use Rattle.std.proofs.Common.{ℕ, true, false, sym, ◌∙◌, subst}
+use Rattle.hex_cells.specs.Sets.{members}
 use Rattle.hex_board.specs.Elements.{PlayerBoard, edge_element}
 use Rattle.hex_board.specs.Joined.{Joined}
 use Rattle.hex_board.specs.Positions.{Position, stones_of}
@@ -11,10 +9,8 @@ use Rattle.conn_store.specs.Entries.{AllEmpty}
 use Rattle.conn_store.specs.Links.{StonesLink}
 use Rattle.conn_store.specs.Truth.{IsSure}
 use Rattle.conn_store.specs.declared.entries.Kind.{Kind}
-use Rattle.conn_store.specs.declared.entries.Kind.TheVariants.{Full, Semi}
-use Rattle.conn_store.proofs.Sureness.{same}
 use Rattle.conn_store.proofs.Winning.{mover_of, sure_wins}
-use Rattle.win_cert.specs.Scopes.{elements_in, with_stones}
+use Rattle.win_cert.specs.Scopes.{elements_in}
 use Rattle.win_cert.proofs.LinksOn.{links_join}
 use Rattle.win_cert.proofs.ScopeBoards.{scope_size}
 use Rattle.win_cert.specs.Showing.{IsReached}

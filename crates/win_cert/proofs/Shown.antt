@@ -1,28 +1,22 @@
 -- What two lines show of a position: where the player is joined, by a stone of his, and by cases.
-use Rattle.std.proofs.Common.{◌≡◌, ℕ, ◌+◌, ◌≤◌, true, false, Bool, List, [], ◌∷◌, length, bit_or, refl, sym, ◌∙◌, ap, subst, inl, inr, arith}
+use Rattle.std.proofs.Common.{◌≡◌, ℕ, ◌+◌, ◌≤◌, true, List, [], ◌∷◌, length, bit_or, refl, sym, ◌∙◌, subst, inl, inr, arith}
 use Rattle.std.specs.List.{cons_option}
 use Rattle.std.proofs.lemmas.Bool.{both_ways}
 use Rattle.hex_cells.specs.Sets.{has, with_cell}
-use Rattle.hex_cells.specs.Colours.{other_of}
-use Rattle.hex_cells.specs.declared.colours.Colour.{Colour}
 use Rattle.hex_cells.specs.declared.colours.Colour.TheVariants.{Black}
 use Rattle.hex_cells.proofs.Bits.{has_none}
 use Rattle.hex_cells.proofs.WithCell.{with_cell-cases, with_cell-here}
-use Rattle.hex_board.specs.Elements.{PlayerBoard, are_joined}
 use Rattle.hex_board.specs.Joined.{is_joined}
 use Rattle.hex_board.specs.Positions.{Position, is_empty_at, placed, stones_of}
 use Rattle.hex_board.proofs.Placed.{placed_empty}
 use Rattle.conn_store.specs.Entries.{AllEmpty}
-use Rattle.conn_store.specs.declared.entries.Kind.{Kind}
 use Rattle.conn_store.specs.declared.entries.Kind.TheVariants.{Full, Semi}
 use Rattle.conn_store.proofs.Chains.{empty_both}
 use Rattle.win_cert.specs.Entries.{Context, carriers_of, entries_at}
-use Rattle.win_cert.specs.Scopes.{elements_in}
-use Rattle.win_cert.specs.declared.lines.Line.{Line}
 use Rattle.win_cert.specs.declared.lines.Line.TheVariants.{Put, Done, Move, Cases}
 use Rattle.win_cert.proofs.CutDerivations.{longer}
 use Rattle.win_cert.specs.Contexts.{AreClear, after_lines, context_after}
-use Rattle.win_cert.specs.Showing.{GivesEdges, HasFirstCell, IsReached, Shows}
+use Rattle.win_cert.specs.Showing.{GivesEdges, IsReached, Shows}
 use Rattle.win_cert.proofs.Appending.{edges_stay}
 use Rattle.win_cert.proofs.Reaching.{reached_joined}
 use Rattle.win_cert.proofs.ScopeLines.{AreCases, no_cases, one_more, Leaves, here, later, cases_give, cases_right, done_gives, done_right, move_gives, move_right, put_right}

@@ -1,5 +1,5 @@
 -- The entries on which entries rest: those that are marked.
-use Rattle.std.proofs.Common.{◌≡◌, ℕ, ◌+◌, ◌<◌, ◌≤◌, true, false, Bool, List, [], ◌∷◌, ◌++◌, Option, Some, take, refl, ◌∙◌, ap, subst, zero, suc, if◌then◌else◌, arith}
+use Rattle.std.proofs.Common.{◌≡◌, ℕ, ◌+◌, true, false, Bool, List, [], ◌∷◌, ◌++◌, Some, take, refl, ◌∙◌, ap, subst, zero, suc, if◌then◌else◌, arith}
 use Rattle.std.specs.List.{slice_get}
 use Rattle.conn_store.specs.Stores.{StoreData}
 use Rattle.conn_store.specs.declared.entries.Entry.{Entry}

@@ -1,6 +1,6 @@
 -- Lines that are read in turn: what the next line is read over, and that there is no reason against
 -- any of them.
-use Rattle.std.specs.Prelude.{◌≡◌, ℕ, ◌++◌, List, [], ◌∷◌, None}
+use Rattle.std.specs.Prelude.{◌≡◌, ◌++◌, List, [], ◌∷◌, None}
 use Rattle.hex_cells.specs.declared.colours.Colour.{Colour}
 use Rattle.hex_board.specs.Positions.{Position}
 use Rattle.win_cert.specs.Entries.{Context, gives}

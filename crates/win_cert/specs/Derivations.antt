@@ -22,7 +22,7 @@ abbrev pub given_there : StoreData → Context → Entry → Option ScopedEntry
 given_there d c a = Some (scoped c.scope (moved_entry d.elements (elements_at c) a))
 
 -- read over c, there is no reason against these lines; they leave the scope as it is; they give
--- these entries of the store, and the lines of these numbers give, in turn, those that were asked for
+-- these entries of the store, and the lines of these numbers give, in turn, those asked for
 pub record IsDerivation (d : StoreData) (asked : List ℕ) (own : List Entry) (c : Context)
     (lines : List Line) (numbers : List ℕ) : Type 0 where
   pub clear : AreClear c lines

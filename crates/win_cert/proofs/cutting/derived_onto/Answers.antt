@@ -8,7 +8,7 @@ use Rattle.conn_store.proofs.RuleEntries.{stands}
 use Rattle.win_cert.specs.Cuts.{premises}
 use Rattle.win_cert.specs.Cutting.{IsLineFor}
 use Rattle.win_cert.proofs.CutEnds.{stones_within}
-use Rattle.win_cert.proofs.CutsIn.{AreLinesOnto, onto_begun, onto_done, onto_grows, onto_more, onto_same}
+use Rattle.win_cert.proofs.CutsIn.{AreLinesOnto, onto_done, onto_more, onto_same}
 use Rattle.conn_store.specs.declared.entries.TheConstants.{MOST_ENTRIES}
 use Rattle.win_cert.proofs.CutDerivations.{longer, name_earlier}
 use Rattle.win_cert.proofs.cutting.derived_onto.Goals as goal
