@@ -1,3 +1,4 @@
+pub mod SolveTexts
 pub mod Statuses
 pub mod Modes
 pub mod Playing

@@ -7,7 +7,7 @@ use Rattle.hexd_words.specs.Reading.{WellFormed}
 use Rattle.hexd_words.specs.declared.settings.Options.{Options}
 use Rattle.hexd_words.specs.declared.settings.Mode.{Mode}
 use Rattle.hexd_words.specs.declared.settings.Mode.TheVariants.{Htp, Check, Migrate, Audit}
-use Rattle.hexd_words.specs.declared.settings.Mode.TheVariants.{Sim, Bench}
+use Rattle.hexd_words.specs.declared.settings.Mode.TheVariants.{Sim, Bench, Solve}
 use Rattle.htp_session.specs.declared.stops.Stop.TheVariants.{Memory}
 use Rattle.hex_cli.specs.Modes.{DevicesTold}
 use Rattle.hex_cli.specs.Statuses.{status_of}
@@ -88,6 +88,7 @@ may_fetch Migrate = false
 may_fetch Audit = false
 may_fetch Sim = false
 may_fetch Bench = false
+may_fetch Solve = false
 
 -- the modes that may hand over turns
 abbrev pub may_archive : Mode → Bool
@@ -97,6 +98,7 @@ may_archive Migrate = false
 may_archive Audit = false
 may_archive Sim = true
 may_archive Bench = true
+may_archive Solve = false
 
 -- the shelf is idle in each mode but htp
 abbrev pub HasIdleShelf : {F : Type 0} → shelves.Ghosts F → List (List ℕ) → F → F → Type 0

@@ -11,6 +11,7 @@ use crate::audits::audit_answer;
 use crate::certificates::{check_answer, migrate_answer};
 use crate::ends::End;
 use crate::limits::INPUT_LIMIT;
+use crate::solutions::solve_answer;
 use hex_io::{Link, Shelf};
 use hex_plan::Archive;
 use htp_session::{Devices, InputAnswer, InputReader, answer_input};
@@ -27,6 +28,13 @@ pub enum InputMode {
     Migrate,
     /// It is audited as traces of closed trees.
     Audit,
+    /// It is read as the record of a game, and solved.
+    Solve {
+        /// Whether connections are looked for.
+        hsearch: bool,
+        /// How many positions the solver may enter.
+        budget: u64,
+    },
 }
 
 impl InputReader for InputMode {
@@ -39,6 +47,9 @@ impl InputReader for InputMode {
             InputMode::Check => check_answer(alloc, input),
             InputMode::Migrate => migrate_answer(alloc, input),
             InputMode::Audit => audit_answer(alloc, input),
+            InputMode::Solve { hsearch, budget } => {
+                solve_answer(alloc, *hsearch, *budget, input)
+            }
         }
     }
 }

@@ -57,6 +57,7 @@ mod numbers;
 mod playing;
 mod serving;
 mod single_turns;
+mod solutions;
 #[cfg(test)]
 mod tests;
 mod top;

@@ -3,12 +3,13 @@
 ghost use Rattle.std.specs.Prelude.{◌≡◌};
 ghost use Rattle.hex_io.specs.Causes.{CountsFault};
 ghost use Rattle.hexd_words.specs.declared.settings.Mode.TheVariants.{Htp, Check, Migrate};
-ghost use Rattle.hexd_words.specs.declared.settings.Mode.TheVariants.{Audit, Sim, Bench};
+ghost use Rattle.hexd_words.specs.declared.settings.Mode.TheVariants.{Audit, Sim, Bench, Solve};
 ghost use Rattle.htp_session.specs.declared.stops.Stop.TheVariants.{ReadFault, WriteFault};
 ghost use Rattle.htp_session.specs.declared.stops.Stop.TheVariants.{ArchiveFault};
 ghost use Rattle.turn_modes.specs.OneTurn.{IsSimulation, IsBenchmark};
 ghost use Rattle.hex_cli.specs.AuditTexts.{IsAuditText};
 ghost use Rattle.hex_cli.specs.Causes.{Completes, IsTooLong, Reports};
+ghost use Rattle.hex_cli.specs.SolveTexts.{IsSolveText};
 ghost use Rattle.hex_cli.specs.CertTexts.{IsCheckText, IsMigrateText};
 ghost use Rattle.hex_cli.specs.Determined.{Determines};
 ghost use Rattle.hex_cli.specs.Headline.{HasHeadline};
@@ -115,6 +116,9 @@ pub fn run<R: Threads + Sync, L: Link, E: Link, F: Shelf, A: Archive, G: Gate + 
         (run_over L.Link F.Shelf A.Archive words.now result
         (link.old, shelf.old, archive.old) (link.new, shelf.new, archive.new)) }
     ensures audited { InMode Audit (λ options. AnswersBy IsAuditText)
+        (run_over L.Link F.Shelf A.Archive words.now result
+        (link.old, shelf.old, archive.old) (link.new, shelf.new, archive.new)) }
+    ensures solved { InMode Solve (λ o. AnswersBy (IsSolveText o.hsearch o.budget))
         (run_over L.Link F.Shelf A.Archive words.now result
         (link.old, shelf.old, archive.old) (link.new, shelf.new, archive.new)) }
 

@@ -4,7 +4,7 @@ use Rattle.option_words.specs.Grammar.{word_name}
 use Rattle.option_words.specs.Values.{IsNumberFrom, TextBytes, switch_word}
 use Rattle.hexd_words.specs.declared.settings.Mode.{Mode}
 use Rattle.hexd_words.specs.declared.settings.Mode.TheVariants.{Htp, Check, Migrate, Audit, Sim}
-use Rattle.hexd_words.specs.declared.settings.Mode.TheVariants.{Bench}
+use Rattle.hexd_words.specs.declared.settings.Mode.TheVariants.{Bench, Solve}
 use Rattle.hexd_words.specs.declared.settings.Options.{Options}
 
 -- the word that names a mode
@@ -15,6 +15,7 @@ mode_word Migrate = codes "migrate"
 mode_word Audit = codes "audit"
 mode_word Sim = codes "sim"
 mode_word Bench = codes "bench"
+mode_word Solve = codes "solve"
 
 -- The options are what these values of the names say.
 pub record AreOptions (value : TextBytes → Option TextBytes) (o : Options) : Type 0 where

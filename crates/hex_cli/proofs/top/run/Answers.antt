@@ -2,7 +2,7 @@
 use Rattle.std.proofs.Common.{refl, sym, ap, ◌∙◌, subst, rules}
 use Rattle.hex_io.specs.Causes.{Rose}
 use Rattle.hex_io.specs.Reported.{Reported}
-use Rattle.hexd_words.specs.declared.settings.Mode.TheVariants.{Htp, Check, Migrate, Audit, Sim, Bench}
+use Rattle.hexd_words.specs.declared.settings.Mode.TheVariants.{Htp, Check, Migrate, Audit, Sim, Bench, Solve}
 use Rattle.turn_modes.specs.OneTurn.{IsBenchmark, IsSimulation}
 use Rattle.hex_cli.specs.AuditTexts.{IsAuditText}
 use Rattle.hex_cli.specs.CertTexts.{IsCheckText, IsMigrateText}
@@ -10,6 +10,7 @@ use Rattle.hex_cli.specs.Determined.{Determines}
 use Rattle.hex_cli.specs.Headline.{HasHeadline}
 use Rattle.hex_cli.specs.Modes.{AnswersBy, HandsInBy}
 use Rattle.hex_cli.specs.Playing.{HasGoodTurns, HasKnownThreats, HasPlayed}
+use Rattle.hex_cli.specs.SolveTexts.{IsSolveText}
 use Rattle.hex_cli.specs.Served.{told_of}
 use Rattle.hex_cli.specs.Statuses.{error_line, status_of, stop_in}
 use Rattle.hex_cli.specs.declared.ends.End.TheVariants.{Usage}
@@ -60,6 +61,10 @@ returns-clause-migrated g c = λ options well_formed is end e.
 pub returns-clause-audited : goal.returns-clause-audited
 returns-clause-audited g c = λ options well_formed is end e.
     ends_as (λ options. AnswersBy IsAuditText) Audit options c.serve-end.result end _ c.serve-end.new.devices _ c.serve-end.new.devices.shelf c.serve-end.new.devices.turns (λ now d. d) is (same_end c.serve-end.result end (sym c.status.ensures ∙ e)) (c.serve-end.ensures.does options well_formed) (search rules) refl refl
+
+pub returns-clause-solved : goal.returns-clause-solved
+returns-clause-solved g c = λ options well_formed is end e.
+    ends_as (λ options. AnswersBy (IsSolveText options.hsearch options.budget)) Solve options c.serve-end.result end _ c.serve-end.new.devices _ c.serve-end.new.devices.shelf c.serve-end.new.devices.turns (λ now d. d) is (same_end c.serve-end.result end (sym c.status.ensures ∙ e)) (c.serve-end.ensures.does options well_formed) (search rules) refl refl
 
 -- ---- the modes that hand in one turn
 
