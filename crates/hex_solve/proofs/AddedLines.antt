@@ -1,34 +1,33 @@
--- The two lines that a ledger gets for a position.
-use Rattle.std.proofs.Common.{◌≡◌, ℕ, ◌+◌, ◌*◌, ◌<◌, ◌≤◌, true, false, List, [], ◌∷◌, Option, Some, None, length, refl, sym, ◌∙◌, ap, subst, inl, inr, arith}
+-- The two lines that a ledger gets for a position: `put`, and `done` or `move`.
+use Rattle.std.proofs.Common.{◌≡◌, ℕ, ◌+◌, ◌*◌, ◌<◌, ◌≤◌, true, [], ◌∷◌, Option, Some, None, length, refl, sym, ◌∙◌, ap, subst, inl, inr, arith}
 use Rattle.std.specs.List.{slice_get}
 use Rattle.std.specs.Option.{option_flatten}
-use Rattle.std.proofs.lemmas.Bool.{cases_Bool, cases_eq, cases_lt, false_from_ne_true, true≢false}
+use Rattle.std.proofs.lemmas.Bool.{cases_eq, cases_lt}
 use Rattle.std.proofs.lemmas.List.Elements.{All-cons, All-nil}
 use Rattle.std.proofs.lemmas.Option.{slice_get_within}
-use Rattle.hex_cells.specs.Sets.{has, with_cell}
-use Rattle.hex_cells.specs.Colours.{other_of}
+use Rattle.hex_cells.specs.Sets.{with_cell}
 use Rattle.hex_board.specs.Elements.{PlayerBoard}
 use Rattle.hex_board.specs.Joined.{is_joined}
 use Rattle.hex_board.specs.Positions.{Position, is_empty_at, placed, stones_of}
-use Rattle.hex_board.proofs.Placed.{empty_on, placed_empty}
-use Rattle.conn_store.specs.Entries.{AllEmpty}
+use Rattle.hex_board.proofs.Placed.{empty_on}
 use Rattle.conn_store.specs.declared.entries.Kind.{Kind}
 use Rattle.conn_store.specs.declared.entries.Kind.TheVariants.{Full, Semi}
 use Rattle.win_cert.specs.Entries.{ScopedEntry, entry_at}
 use Rattle.win_cert.specs.Reasons.{reason_against}
 use Rattle.win_cert.specs.Statements.{derivation}
-use Rattle.win_cert.specs.Writable.{AreNumbers, IsLineOf}
+use Rattle.win_cert.specs.Writable.{IsLineOf}
 use Rattle.win_cert.specs.declared.certs.TheConstants.{LATEST_VERSION, MOST_LINES}
 use Rattle.win_cert.specs.declared.lines.Line.{Line}
-use Rattle.win_cert.specs.declared.lines.Line.TheVariants.{Put, Done, Move, Cases}
+use Rattle.win_cert.specs.declared.lines.Line.TheVariants.{Put, Done, Move}
 use Rattle.win_cert.specs.declared.lines.TheConstants.{MOST_NUMBER}
-use Rattle.hex_solve.specs.Ledgers.{AnswerAll, AreAnswers, GrowsBy, IsAmong, IsLedger, LedgerData, MayFollow, ShowsWin, read_of, with_line}
+use Rattle.hex_solve.specs.Ledgers.{GrowsBy, IsLedger, LedgerData, MayFollow, ShowsWin, read_of, with_line}
 use Rattle.win_cert.specs.Contexts.{AreClear, after_lines}
 use Rattle.win_cert.specs.Showing.{IsReached, Keeps, Shows, scope_of}
-use Rattle.hex_solve.proofs.LedgerLaws.{TwoShow, base_of, base_same, grows_on, grows_one, no_room, number_next, second_follows, small_on, two_shown}
-use Rattle.win_cert.proofs.Reaching.{kept_reached, scope_other, scope_own}
-use Rattle.win_cert.proofs.Shown.{AreWays, no_ways, one_way, put_cases, put_done, put_move, two_at_least}
-use Rattle.win_cert.proofs.ScopeLines.{Leaves, here, later, put_right}
+use Rattle.hex_solve.proofs.TwoLines.{TwoShow, base_same, second_follows, two_shown}
+use Rattle.hex_solve.proofs.LedgerLaws.{base_of, grows_on, grows_one, no_room, number_next, small_on}
+use Rattle.win_cert.proofs.Reaching.{kept_reached, scope_own}
+use Rattle.win_cert.proofs.Shown.{put_done, put_move}
+use Rattle.win_cert.proofs.ScopeLines.{put_right}
 
 -- ---- room
 
@@ -118,65 +117,6 @@ move_form d p k i w e h f z = (
   subst (λ n. k < n * n) e.size (empty_on p k h),
   All-cons (λ v. v ≤ MOST_NUMBER) i [] (shown_below d (placed p d.base.player k) Full (scope_of d.base (placed p d.base.player k)) i w (f z)) (All-nil (λ v. v ≤ MOST_NUMBER)),
 )
-
--- ---- cases
-
--- the answers as ways, and a carrier for each
-pub record Answering (d : LedgerData) (p : Position) (numbers cells : List ℕ) : Type 0 where
-  pub carriers : List ℕ
-  pub ways : AreWays (read_of d) p (scope_of d.base p) numbers carriers
-  pub first : (c : ℕ) (rest : List ℕ) → carriers ≡ c ∷ rest → (k : ℕ) × (has c k ≡ true)
-  pub leaves : (k : ℕ) → IsAmong k cells → Leaves k carriers
-  pub bare : (k : ℕ) → is_empty_at p k ≡ false → (j : ℕ) → IsAmong j cells → Leaves k carriers
-  pub small : AreNumbers numbers
-
-none_first : (c : ℕ) (rest : List ℕ) → [] ≡ c ∷ rest → (k : ℕ) × (has c k ≡ true)
-none_first c rest h = absurd (cc)
-
-head_same : (a c : ℕ) (b rest : List ℕ) → a ∷ b ≡ c ∷ rest → a ≡ c
-head_same a c b rest h = cc
-
-pub answering : (d : LedgerData) (p : Position) (numbers cells : List ℕ) → IsLedger d → d.lost ≡ 0 → AreAnswers d p numbers cells → Answering d p numbers cells
-answering d p [] [] w z f = record { carriers = []; ways = no_ways; first = none_first; leaves = λ k h. absurd h; bare = λ k h j i. absurd i; small = All-nil (λ v. v ≤ MOST_NUMBER) }
-answering d p [] (k ∷ cells) w z f = absurd f
-answering d p (i ∷ numbers) [] w z f = absurd f
-answering d p (i ∷ numbers) (k ∷ cells) w z (f, e, g) =
-    let r = answering d p numbers cells w z g in
-    let q = placed p (other_of d.base.player) k in
-    let s : Shows (read_of d) q Semi (scope_of d.base p) i = subst (λ v. Shows (read_of d) q Semi v i) (scope_other d.base p k) (f z) in
-    let here_out : has s.carrier k ≡ false = false_from_ne_true (has s.carrier k) (λ t. (placed_empty p (other_of d.base.player) k k (s.empty k t)).1 refl) in
-    let inside : AllEmpty p s.carrier = λ j h. (placed_empty p (other_of d.base.player) k j (s.empty j h)).0 in
-    record {
-      carriers = s.carrier ∷ r.carriers;
-      ways = one_way i s.carrier numbers r.carriers s.gives inside r.ways;
-      first = λ c rest h. let t = s.first refl in (t.0, subst (λ v. has v t.0 ≡ true) (head_same s.carrier c r.carriers rest h) t.1);
-      leaves = λ j h. elim h [
-        | inl t ↦ here s.carrier r.carriers (ap (has s.carrier) t ∙ here_out)
-        | inr t ↦ later s.carrier r.carriers (r.leaves j t)
-      ];
-      bare = λ j h m t. here s.carrier r.carriers (false_from_ne_true (has s.carrier j) (λ o. true≢false (sym (inside j o) ∙ h)));
-      small = All-cons (λ v. v ≤ MOST_NUMBER) i numbers (shown_below d q Semi (scope_of d.base p) i w s) r.small;
-    }
-
-all_left : (d : LedgerData) (p : Position) (numbers : List ℕ) (a : AnswerAll d p numbers) (w : Answering d p numbers a.0) (j : ℕ) → is_empty_at p j ≡ true → (k : ℕ) → Leaves k w.carriers
-all_left d p numbers a w j e k = elim (cases_Bool (is_empty_at p k)) [
-  | inl t ↦ w.leaves k (a.2 k t)
-  | inr t ↦ w.bare k t j (a.2 j e)
-]
-
-pub cases_two : (d : LedgerData) (p : Position) (s j : ℕ) (numbers : List ℕ) → IsLedger d → Keeps d.base.board p → s ≡ scope_of d.base p → is_empty_at p j ≡ true → AnswerAll d p numbers → d.lost ≡ 0
-    → TwoShow d p Full (Put s) (Cases numbers)
-cases_two d p s j numbers v k q e a z =
-    let w = answering d p numbers a.0 v z a.1 in
-    let r = put_cases (read_of d) p s numbers w.carriers (reached_there d p s k q) (subst (λ x. AreWays (read_of d) p x numbers w.carriers) (sym q) w.ways) (all_left d p numbers a w j e) in
-    (r.0, subst (λ x. Shows (after_lines (read_of d) (Put s ∷ Cases numbers ∷ [])) p Full x (length (read_of d).earlier + 1)) q r.1)
-
-pub cases_form : (d : LedgerData) (p : Position) (j : ℕ) (numbers : List ℕ) → IsLedger d → is_empty_at p j ≡ true → length numbers ≤ 121 → AnswerAll d p numbers → d.lost ≡ 0
-    → IsLineOf LATEST_VERSION d.base.board.size (Cases numbers)
-cases_form d p j numbers v e l a z =
-    let w = answering d p numbers a.0 v z a.1 in
-    let two : 2 ≤ length numbers = two_at_least numbers w.carriers (read_of d) p (scope_of d.base p) w.ways (all_left d p numbers a w j e) w.first in
-    (refl, two, omega arith, w.small)
 
 -- ---- as the code goes
 

@@ -2,8 +2,11 @@
 mod FirstWins
 mod NeedBound
 mod LedgerLaws
+mod Sums
 mod NextNeed
+mod TwoLines
 mod AddedLines
+mod AddedCases
 mod NobodyJoined
 mod Growing
 mod TreeLines

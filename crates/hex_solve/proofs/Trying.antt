@@ -23,7 +23,8 @@ use Rattle.hex_solve.specs.Searching.{IsSearched, tree_lines}
 use Rattle.win_cert.specs.Showing.{Keeps}
 use Rattle.hex_solve.proofs.FirstWins.{other_back}
 use Rattle.hex_solve.proofs.LedgerLaws.{grows_none, grows_on}
-use Rattle.hex_solve.proofs.NextNeed.{need_after, need_next, sum_cells, sum_least, wins_by}
+use Rattle.hex_solve.proofs.NextNeed.{need_after, need_next, wins_by}
+use Rattle.hex_solve.proofs.Sums.{sum_cells, sum_least}
 use Rattle.win_cert.proofs.Reaching.{keeps_on}
 use Rattle.hex_solve.proofs.Growing.{among_left, among_last, answers_more, answers_on, grows_wider}
 use Rattle.hex_solve.proofs.NobodyJoined.{nobody}

@@ -14,7 +14,8 @@ use Rattle.hex_solve.specs.Deciding.{first, is_for, need, sum_up_to}
 use Rattle.hex_solve.specs.Ledgers.{AnswerAll, GrowsBy, LedgerData, count_of}
 use Rattle.hex_solve.specs.Searching.{tree_lines}
 use Rattle.hex_solve.proofs.FirstWins.{other_back}
-use Rattle.hex_solve.proofs.NextNeed.{first_other, first_own, need_after, sum_none, wins_by}
+use Rattle.hex_solve.proofs.NextNeed.{first_other, first_own, need_after, wins_by}
+use Rattle.hex_solve.proofs.Sums.{sum_none}
 use Rattle.hex_solve.proofs.Growing.{grows_wider}
 use Rattle.hex_solve.proofs.NobodyJoined.{nobody}
 use Rattle.hex_solve.proofs.Trying.{IsTrying, some_fewer, sum_here, picked_yes, won_by}

@@ -6,7 +6,8 @@ use Rattle.hex_solve.specs.Ledgers.{IsLedger, LedgerData}
 use Rattle.hex_board.specs.Elements.{PlayerBoard}
 use Rattle.win_cert.specs.Writable.{IsLineOf}
 use Rattle.win_cert.specs.declared.certs.TheConstants.{LATEST_VERSION}
-use Rattle.hex_solve.proofs.AddedLines.{base_kept, cases_form, cases_two, follows_second, grows_second, none_lost, put_follows, room_had, shown_second}
+use Rattle.hex_solve.proofs.AddedLines.{base_kept, follows_second, grows_second, none_lost, put_follows, room_had, shown_second}
+use Rattle.hex_solve.proofs.AddedCases.{cases_form, cases_two}
 use Rattle.hex_solve.proofs.ledgers.Ledger.add_cases.Goals as goal
 
 pub add-requires : goal.add-requires
