@@ -118,7 +118,7 @@ def make_repository(folder):
     source.mkdir(parents=True)
     shutil.copy(PROGRAM, source / "main.rt")
     shutil.copy(TOP / "HANDLES", folder)
-    uses = "\n%s: hex_io hex_plan hex_cli search_team anyhow\n" % NAME
+    uses = "\n%s: hex_io hex_plan hex_devices hex_cli search_team anyhow\n" % NAME
     (folder / "crates.txt").write_text((TOP / "crates.txt").read_text() + uses)
 
 

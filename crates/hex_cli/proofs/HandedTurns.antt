@@ -3,15 +3,16 @@ use Rattle.std.proofs.Common.{append-nil, Ok, Err, List, [], ◌≡◌, ◌≢�
 use Rattle.std.specs.Prelude.{◌↔◌}
 use Rattle.std.proofs.Math.Seq.{drop-append_seam}
 use Rattle.hex_io.specs.Grew.{Gave}
-use Rattle.hex_io.specs.Told.{Told, Both, Same}
-use Rattle.hex_io.proofs.BothLaws.{Both-weaker}
+use Rattle.hex_io.specs.Told.{Told, Both}
+use Rattle.hex_io.proofs.BothLaws.{Both-refl, Both-weaker}
 use Rattle.hex_plan.specs.Turns.{TurnData}
-use Rattle.htp_session.specs.Endings.{Outcome, since}
-use Rattle.htp_session.specs.Handing.{LinkAndArchive}
-use Rattle.htp_session.specs.declared.stops.Stop.TheVariants.{ReadFault, WriteFault, Memory, TooLong, ArchiveFault}
+use Rattle.htp_session.specs.Endings.{since}
+use Rattle.hex_devices.specs.Devices.{Outcome}
+use Rattle.hex_devices.specs.Devices.{LinkAndArchive}
+use Rattle.hex_devices.specs.declared.stops.Stop.TheVariants.{ReadFault, WriteFault, Memory, TooLong, ArchiveFault}
 use Rattle.turn_modes.specs.HandingIn.{HandsIn}
-use Rattle.hex_cli.specs.Statuses.{end_for, status_of}
-use Rattle.hex_cli.specs.declared.ends.End.TheVariants.{Stopped}
+use Rattle.hex_devices.specs.Statuses.{end_for, status_of}
+use Rattle.hex_devices.specs.declared.ends.End.TheVariants.{Stopped}
 
 abbrev Answer : Type 1
 Answer = TurnData → List ℕ → Type 0
@@ -27,13 +28,13 @@ none_since o n e = ap (λ (l : List ℕ). length (drop (length o.taken) l)) (e �
 gave_none : (x y : Option Told) (text : List ℕ) → Gave x y text → Both x y TookNone
 gave_none x y text gave = Both-weaker x y _ _ (λ o n e. ap (λ (t : Told). t.taken) e) gave
 
-same_none : (x y : Option Told) → Same x y → Both x y TookNone
-same_none x y same = Both-weaker x y _ _ (λ o n e. ap (λ (t : Told). t.taken) e) same
+same_none : (x y : Option Told) → y ≡ x → Both x y TookNone
+same_none x y same = rw same (Both-refl x TookNone (λ o. refl))
 
 took_none : (IsAnswer : Answer) (a b : LinkAndArchive) (outcome : Outcome) → HandsIn IsAnswer a b outcome → Both a.0 b.0 TookNone
 took_none IsAnswer a b (Ok done) h = gave_none a.0 b.0 _ h.3.0
 took_none IsAnswer a b (Err ReadFault) h = absurd h
-took_none IsAnswer a b (Err WriteFault) h = gave_none a.0 b.0 _ h.3.0.3
+took_none IsAnswer a b (Err WriteFault) h = gave_none a.0 b.0 _ h.3.0.4
 took_none IsAnswer a b (Err Memory) h = same_none a.0 b.0 h.0
 took_none IsAnswer a b (Err TooLong) h = absurd h
 took_none IsAnswer a b (Err ArchiveFault) h = same_none a.0 b.0 h.0

@@ -5,12 +5,12 @@ use Rattle.std.proofs.Math.Seq.{drop-append_seam}
 use Rattle.hex_io.specs.Told.{Told, Both}
 use Rattle.hex_io.proofs.BothLaws.{Both-weaker}
 use Rattle.htp_session.specs.Endings.{since}
-use Rattle.htp_session.specs.Inputs.{TextOf, TookAtMost, AnsweredAll, AnsweredPart, AnswersInput}
-use Rattle.htp_session.specs.declared.stops.Stop.{Stop}
-use Rattle.htp_session.specs.declared.stops.Stop.TheVariants.{ReadFault, WriteFault, Memory, TooLong, ArchiveFault}
-use Rattle.htp_session.proofs.InputLaws.{took_at_most, took_nothing}
-use Rattle.hex_cli.specs.Statuses.{end_of_answer, status_of}
-use Rattle.hex_cli.specs.declared.ends.End.TheVariants.{Usage, Stopped}
+use Rattle.hex_devices.specs.Inputs.{TextOf, TookAtMost, AnsweredAll, AnsweredPart, AnswersInput}
+use Rattle.hex_devices.specs.declared.stops.Stop.{Stop}
+use Rattle.hex_devices.specs.declared.stops.Stop.TheVariants.{ReadFault, WriteFault, Memory, TooLong, ArchiveFault}
+use Rattle.hex_devices.proofs.InputLaws.{took_at_most, took_nothing}
+use Rattle.hex_devices.specs.Statuses.{end_of_answer, status_of}
+use Rattle.hex_devices.specs.declared.ends.End.TheVariants.{Usage, Stopped}
 
 taken_since : (o n : Told) (bytes : List ℕ) → n.taken ≡ o.taken ++ bytes → since o n ≡ bytes
 taken_since o n bytes e = ap (drop (length o.taken)) e ∙ drop-append_seam o.taken bytes

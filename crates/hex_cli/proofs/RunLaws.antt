@@ -1,35 +1,18 @@
--- The statuses, and what follows of them.
+-- What follows of how a session ended.
 use Rattle.std.proofs.Common.{Ok, Err, ◌≡◌, ◌≢◌, ℕ, ◌+◌, ◌≤◌, ◌⊎◌, ◌==◌, if◌then◌else◌, length, Option, refl, ap, sym, ◌∙◌, inl, inr, arith}
 use Rattle.std.specs.Prelude.{◌↔◌}
 use Rattle.hex_io.specs.Told.{Told, Both}
 use Rattle.hex_io.proofs.BothLaws.{Both-weaker}
 use Rattle.hex_engine.specs.declared.options.Options.{Options}
 use Rattle.hex_engine.specs.Supply.{Supply}
-use Rattle.htp_session.specs.Usage.{ShelfAndArchive}
-use Rattle.htp_session.specs.Endings.{Outcome, Conversed, since}
-use Rattle.htp_session.specs.declared.stops.Stop.TheVariants.{ReadFault, WriteFault, Memory, TooLong, ArchiveFault}
-use Rattle.hex_cli.specs.Statuses.{end_for, status_of, stop_in}
-use Rattle.htp_session.specs.Devices.{stop_of}
-use Rattle.hex_cli.specs.declared.ends.End.{End}
-use Rattle.hex_cli.specs.declared.ends.End.TheVariants.{Done, Rejected, Usage, Stopped}
-
-end_numbered : ℕ → End
-end_numbered n = if n == 0 then Done else if n == 1 then Rejected else if n == 2 then Usage else if n == 3 then Stopped ReadFault else if n == 4 then Stopped WriteFault else if n == 5 then Stopped Memory else if n == 6 then Stopped TooLong else Stopped ArchiveFault
-
-end_of_status : (end : End) → end_numbered (status_of end) ≡ end
-unfolding end_numbered
-end_of_status Done = refl
-end_of_status Rejected = refl
-end_of_status Usage = refl
-end_of_status (Stopped ReadFault) = refl
-end_of_status (Stopped WriteFault) = refl
-end_of_status (Stopped Memory) = refl
-end_of_status (Stopped TooLong) = refl
-end_of_status (Stopped ArchiveFault) = refl
-
--- each status is that of one end
-pub same_end : (a b : End) → status_of a ≡ status_of b → a ≡ b
-same_end a b e = sym (end_of_status a) ∙ ap end_numbered e ∙ end_of_status b
+use Rattle.hex_devices.specs.Devices.{ShelfAndArchive}
+use Rattle.htp_session.specs.Endings.{Conversed, since}
+use Rattle.hex_devices.specs.Devices.{Outcome}
+use Rattle.hex_devices.specs.declared.stops.Stop.TheVariants.{ReadFault, WriteFault, Memory, TooLong, ArchiveFault}
+use Rattle.hex_devices.specs.Statuses.{end_for, status_of, stop_in}
+use Rattle.hex_devices.specs.Devices.{stop_of}
+use Rattle.hex_devices.specs.declared.ends.End.{End}
+use Rattle.hex_devices.specs.declared.ends.End.TheVariants.{Done, Rejected, Usage, Stopped}
 
 -- a session's end is never that of a usage
 pub outcome_no_usage : (outcome : Outcome) → end_for outcome ≢ Usage

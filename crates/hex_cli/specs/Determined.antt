@@ -11,9 +11,10 @@ use Rattle.hex_engine.specs.Supply.{Supply}
 use Rattle.hex_engine.specs.Uses.{AreGood, CameOf, HasOneWorker}
 use Rattle.htp_session.specs.Talk.{IsThrough, talk}
 use Rattle.htp_session.specs.Endings.{since}
-use Rattle.hex_cli.specs.Modes.{DevicesTold, engine_options}
-use Rattle.hex_cli.specs.declared.ends.End.{End}
-use Rattle.hex_cli.specs.declared.ends.End.TheVariants.{Done}
+use Rattle.hex_cli.specs.Modes.{engine_options}
+use Rattle.hex_devices.specs.Devices.{DevicesState}
+use Rattle.hex_devices.specs.declared.ends.End.{End}
+use Rattle.hex_devices.specs.declared.ends.End.TheVariants.{Done}
 
 -- With one worker, what was given is the text of every talk over the lines taken that is through,
 -- whose loads came of these fetches and whose turns are good. So any two such talks have one text,
@@ -27,7 +28,7 @@ IsDetermined options size shelf shelf_now old new =
     → new.given ≡ old.given ++ (talk (opening options size) all (lines (since old new))).text
 
 -- Mode htp: the same where the session is done.
-abbrev pub Determines : words.Options → End → DevicesTold → DevicesTold → Type 0
+abbrev pub Determines : words.Options → End → DevicesState → DevicesState → Type 0
 Determines options end before after = end ≡ Done
     → Both before.shelf after.shelf (λ shelf shelf_now. Both before.link after.link
     (IsDetermined (engine_options options) options.size shelf shelf_now))

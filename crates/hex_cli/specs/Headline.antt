@@ -22,9 +22,10 @@ use Rattle.hex_engine.specs.MoveReplies.{is_next}
 use Rattle.hex_engine.specs.Supply.{Supply}
 use Rattle.htp_session.specs.Talk.{TalkState, talk}
 use Rattle.htp_session.specs.Endings.{since}
-use Rattle.hex_cli.specs.Modes.{DevicesTold, PlaysBy, engine_options}
-use Rattle.hex_cli.specs.declared.ends.End.{End}
-use Rattle.hex_cli.specs.declared.ends.End.TheVariants.{Done}
+use Rattle.hex_cli.specs.Modes.{PlaysBy, engine_options}
+use Rattle.hex_devices.specs.Devices.{DevicesState}
+use Rattle.hex_devices.specs.declared.ends.End.{End}
+use Rattle.hex_devices.specs.declared.ends.End.TheVariants.{Done}
 
 -- Where the turn's plan is a win, its cell wins against every reply. Where it is a search, the turn
 -- has a tree, which was searched for it and is closed: the cell is the least of the root's children
@@ -62,7 +63,7 @@ AreGeneratedMoves start all lines =
 
 -- Mode htp: where the session is done, each of its lines that took a turn was answered by a
 -- generated move.
-abbrev pub HasHeadline : words.Options → End → DevicesTold → DevicesTold → Type 0
+abbrev pub HasHeadline : words.Options → End → DevicesState → DevicesState → Type 0
 HasHeadline options end before after = end ≡ Done → (used : Supply)
     × PlaysBy used options end before after
     × Both before.link after.link (λ old new.

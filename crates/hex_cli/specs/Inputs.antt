@@ -1,5 +1,5 @@
 -- What the modes that take their whole input answer. No clause of a public call cites this.
-use Rattle.htp_session.specs.Inputs.{TextOf}
+use Rattle.hex_devices.specs.Inputs.{TextOf}
 use Rattle.hex_cli.specs.AuditTexts.{IsAuditText}
 use Rattle.hex_cli.specs.CertTexts.{IsCheckText, IsMigrateText}
 use Rattle.hex_cli.specs.SolveTexts.{IsSolveText}

@@ -1,10 +1,9 @@
-pub mod SolveTexts
-pub mod Statuses
 pub mod Modes
 pub mod Playing
 pub mod Served
 pub mod CertTexts
 pub mod AuditTexts
+pub mod SolveTexts
 pub mod Inputs
 pub mod Determined
 pub mod Headline

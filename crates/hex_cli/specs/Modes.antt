@@ -1,20 +1,19 @@
 -- What a run does in each of its modes, to its end, told of what its devices tell before and after.
 use Rattle.std.specs.Prelude.{◌≡◌, ℕ, Bool, List, Result}
-use Rattle.std.specs.declared.option.Option.{Option}
-use Rattle.hex_io.specs.Shelves.{Shelved}
-use Rattle.hex_io.specs.Told.{Told}
 use Rattle.tree_words.specs.declared.settings.Knobs.{Knobs}
 use Rattle.hexd_words.specs.declared.settings.Options.{Options}
 use Rattle.hex_plan.specs.Turns.{TurnData}
 use Rattle.hex_engine.specs.Supply.{Supply}
 use Rattle.hex_engine.specs.declared.options.Options as engine
-use Rattle.htp_session.specs.Endings.{Conversed, Outcome}
-use Rattle.htp_session.specs.Inputs.{AnswersInput, TextOf}
-use Rattle.htp_session.specs.declared.stops.Stop.{Stop}
+use Rattle.htp_session.specs.Endings.{Conversed}
+use Rattle.hex_devices.specs.Devices.{DevicesState, Outcome}
+use Rattle.hex_devices.specs.Devices.{link_and_archive, shelf_and_archive}
+use Rattle.hex_devices.specs.Inputs.{AnswersInput, TextOf}
+use Rattle.hex_devices.specs.declared.stops.Stop.{Stop}
 use Rattle.turn_modes.specs.HandingIn.{HandsIn}
 use Rattle.turn_modes.specs.declared.options.ModeOptions.{ModeOptions}
-use Rattle.hex_cli.specs.Statuses.{end_for, end_of_answer}
-use Rattle.hex_cli.specs.declared.ends.End.{End}
+use Rattle.hex_devices.specs.Statuses.{end_for, end_of_answer}
+use Rattle.hex_devices.specs.declared.ends.End.{End}
 use Rattle.hex_cli.specs.declared.limits.TheConstants.{INPUT_LIMIT}
 
 -- ---- what the words' options say
@@ -40,21 +39,15 @@ mode_options o = record { size = o.size; knobs = knobs_of o; steps = o.steps }
 
 -- ---- one relation for each kind of mode
 
--- what a link, a shelf and an archive tell, where they do
-pub record DevicesTold : Type 0 where
-  pub link : Option Told
-  pub shelf : Option Shelved
-  pub turns : Option (List TurnData)
-
 -- Mode htp: a session of these options used up just this, and came to this end.
-abbrev pub PlaysBy : Supply → Options → End → DevicesTold → DevicesTold → Type 0
+abbrev pub PlaysBy : Supply → Options → End → DevicesState → DevicesState → Type 0
 PlaysBy used options end before after = (outcome : Outcome) × (end ≡ end_for outcome)
     × Conversed outcome (engine_options options) options.size INPUT_LIMIT used
-    (before.shelf, before.turns) (after.shelf, after.turns) before.link after.link
+    (shelf_and_archive before) (shelf_and_archive after) before.link after.link
 
 -- Modes check, migrate and audit: the whole input, of at most INPUT_LIMIT bytes, was answered by
 -- such a text, and this is the end.
-abbrev pub AnswersBy : TextOf → End → DevicesTold → DevicesTold → Type 0
+abbrev pub AnswersBy : TextOf → End → DevicesState → DevicesState → Type 0
 AnswersBy Answers end before after =
     (answer : Result Bool Stop) × (end ≡ end_of_answer answer)
     × AnswersInput Answers before.link after.link INPUT_LIMIT answer
@@ -62,7 +55,7 @@ AnswersBy Answers end before after =
 -- Modes sim and bench: the archive took a turn, and then such a text was given, and this is the
 -- end.
 abbrev pub HandsInBy : (ModeOptions → TurnData → List ℕ → Type 0) → Options → End
-    → DevicesTold → DevicesTold → Type 0
+    → DevicesState → DevicesState → Type 0
 HandsInBy Says options end before after = (outcome : Outcome) × (end ≡ end_for outcome)
-    × HandsIn (Says (mode_options options)) (before.link, before.turns) (after.link, after.turns)
+    × HandsIn (Says (mode_options options)) (link_and_archive before) (link_and_archive after)
     outcome

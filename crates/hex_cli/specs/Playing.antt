@@ -6,15 +6,16 @@ use Rattle.hex_plan.specs.Laws.{LosesOutsideThreats, LosesWhereLost}
 use Rattle.hex_plan.specs.Turns.{TurnData}
 use Rattle.hex_engine.specs.Supply.{Supply}
 use Rattle.hex_engine.specs.Uses.{AreGood}
-use Rattle.hex_cli.specs.Modes.{DevicesTold, PlaysBy, engine_options}
-use Rattle.hex_cli.specs.declared.ends.End.{End}
+use Rattle.hex_cli.specs.Modes.{PlaysBy, engine_options}
+use Rattle.hex_devices.specs.Devices.{DevicesState}
+use Rattle.hex_devices.specs.declared.ends.End.{End}
 
 -- a session came to this end
-abbrev pub HasPlayed : Options → End → DevicesTold → DevicesTold → Type 0
+abbrev pub HasPlayed : Options → End → DevicesState → DevicesState → Type 0
 HasPlayed options end before after = (used : Supply) × PlaysBy used options end before after
 
 -- the same, and each turn that it used up is good
-abbrev pub HasGoodTurns : Options → End → DevicesTold → DevicesTold → Type 0
+abbrev pub HasGoodTurns : Options → End → DevicesState → DevicesState → Type 0
 HasGoodTurns options end before after = (used : Supply) × PlaysBy used options end before after
     × AreGood (engine_options options) used.turns
 
@@ -25,6 +26,6 @@ pub record HasTrueThreats (turn : TurnData) : Type 0 where
   pub where_lost : LosesWhereLost turn
 
 -- the same, and of each turn that it used up the threats are true
-abbrev pub HasKnownThreats : Options → End → DevicesTold → DevicesTold → Type 0
+abbrev pub HasKnownThreats : Options → End → DevicesState → DevicesState → Type 0
 HasKnownThreats options end before after = (used : Supply) × PlaysBy used options end before after
     × AllByRecursion HasTrueThreats used.turns

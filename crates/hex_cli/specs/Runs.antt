@@ -1,18 +1,15 @@
--- What a run does, told of its words, its status, and its link, shelf and archive before and after.
+-- What a run does, told of its words, its status, and its devices before and after.
 use Rattle.std.specs.Prelude.{◌≡◌, ◌≢◌, ◌⊎◌, ℕ, Bool, true, false, List}
-use Rattle.hex_io.specs.declared.links.Link as links
-use Rattle.hex_io.specs.declared.shelves.Shelf as shelves
-use Rattle.hex_plan.specs.declared.archives.Archive as archives
 use Rattle.hexd_words.specs.Reading.{WellFormed}
 use Rattle.hexd_words.specs.declared.settings.Options.{Options}
 use Rattle.hexd_words.specs.declared.settings.Mode.{Mode}
 use Rattle.hexd_words.specs.declared.settings.Mode.TheVariants.{Htp, Check, Migrate, Audit}
 use Rattle.hexd_words.specs.declared.settings.Mode.TheVariants.{Sim, Bench, Solve}
-use Rattle.htp_session.specs.declared.stops.Stop.TheVariants.{Memory}
-use Rattle.hex_cli.specs.Modes.{DevicesTold}
-use Rattle.hex_cli.specs.Statuses.{status_of}
-use Rattle.hex_cli.specs.declared.ends.End.{End}
-use Rattle.hex_cli.specs.declared.ends.End.TheVariants.{Usage, Stopped}
+use Rattle.hex_devices.specs.declared.stops.Stop.TheVariants.{Memory}
+use Rattle.hex_devices.specs.Devices.{DevicesState}
+use Rattle.hex_devices.specs.Statuses.{status_of}
+use Rattle.hex_devices.specs.declared.ends.End.{End}
+use Rattle.hex_devices.specs.declared.ends.End.TheVariants.{Usage, Stopped}
 
 -- ---- the words
 
@@ -34,51 +31,35 @@ IsRefusal status = (status ≡ status_of Usage) ⊎ (status ≡ status_of (Stopp
 
 -- ---- the modes
 
--- what is seen of a run: its words, its status, and what its link, shelf and archive tell before
--- and after
+-- what is seen of a run: its words, its status, and what its devices tell before and after
 pub record RunData : Type 0 where
   pub words : List (List ℕ)
   pub status : ℕ
-  pub before : DevicesTold
-  pub after : DevicesTold
+  pub before : DevicesState
+  pub after : DevicesState
 
--- what a link, a shelf and an archive tell
-abbrev pub told_by : {L F A : Type 0} → links.Ghosts L → shelves.Ghosts F → archives.Ghosts A
-    → L × F × A → DevicesTold
-told_by l f a at = record { link = l.told at.0; shelf = f.told at.1; turns = a.told at.2 }
-
--- the run with these words and this status, over these devices before and after
-abbrev pub run_over : {L F A : Type 0} → links.Ghosts L → shelves.Ghosts F → archives.Ghosts A
-    → List (List ℕ) → ℕ → L × F × A → L × F × A → RunData
-run_over l f a words status old new = record {
-  words = words;
-  status = status;
-  before = told_by l f a old;
-  after = told_by l f a new;
-}
+-- the run that is seen so
+abbrev pub seen : List (List ℕ) → ℕ → DevicesState → DevicesState → RunData
+seen words status old new =
+    record { words = words; status = status; before = old; after = new }
 
 -- Where the words say this mode, the run did this by their options, to the end that has its status.
-abbrev pub InMode : Mode → (Options → End → DevicesTold → DevicesTold → Type 0) → RunData → Type 0
+abbrev pub InMode : Mode → (Options → End → DevicesState → DevicesState → Type 0) → RunData
+    → Type 0
 InMode mode Does run = (options : Options) → WellFormed run.words options → options.mode ≡ mode
     → (end : End) → run.status ≡ status_of end → Does options end run.before run.after
 
 -- ---- what is left as it was
 
--- the link was not read or written: it tells the same and has counted no fault
-pub record Untouched {L : Type 0} (l : links.Ghosts L) (old new : L) : Type 0 where
-  pub told : l.told new ≡ l.told old
-  pub reads : l.read_faults new ≡ l.read_faults old
-  pub writes : l.write_faults new ≡ l.write_faults old
-
 -- nothing was fetched from the shelf: it tells the same and has counted no fault
-pub record IsIdleShelf {F : Type 0} (f : shelves.Ghosts F) (old new : F) : Type 0 where
-  pub told : f.told new ≡ f.told old
-  pub faults : f.faults new ≡ f.faults old
+pub record IsUnfetched (old new : DevicesState) : Type 0 where
+  pub shelf : new.shelf ≡ old.shelf
+  pub fetches : new.fetch_faults ≡ old.fetch_faults
 
 -- nothing was handed to the archive: it tells the same and has counted no fault
-pub record IsIdleArchive {A : Type 0} (a : archives.Ghosts A) (old new : A) : Type 0 where
-  pub told : a.told new ≡ a.told old
-  pub faults : a.faults new ≡ a.faults old
+pub record IsUnarchived (old new : DevicesState) : Type 0 where
+  pub turns : new.turns ≡ old.turns
+  pub archives : new.archive_faults ≡ old.archive_faults
 
 -- the modes that may fetch files
 abbrev pub may_fetch : Mode → Bool
@@ -101,11 +82,11 @@ may_archive Bench = true
 may_archive Solve = false
 
 -- the shelf is idle in each mode but htp
-abbrev pub HasIdleShelf : {F : Type 0} → shelves.Ghosts F → List (List ℕ) → F → F → Type 0
-HasIdleShelf f words old new = (options : Options) → WellFormed words options
-    → may_fetch options.mode ≡ false → IsIdleShelf f old new
+abbrev pub HasIdleShelf : List (List ℕ) → DevicesState → DevicesState → Type 0
+HasIdleShelf words old new = (options : Options) → WellFormed words options
+    → may_fetch options.mode ≡ false → IsUnfetched old new
 
 -- the archive is idle in each mode that takes its whole input
-abbrev pub HasIdleArchive : {A : Type 0} → archives.Ghosts A → List (List ℕ) → A → A → Type 0
-HasIdleArchive a words old new = (options : Options) → WellFormed words options
-    → may_archive options.mode ≡ false → IsIdleArchive a old new
+abbrev pub HasIdleArchive : List (List ℕ) → DevicesState → DevicesState → Type 0
+HasIdleArchive words old new = (options : Options) → WellFormed words options
+    → may_archive options.mode ≡ false → IsUnarchived old new

@@ -1,5 +1,4 @@
--- What is done for the words of a run, told of its devices. Only clauses of private calls cite
--- these.
+-- What is done for the words of a run, told of its devices. No clause of a public call cites this.
 use Rattle.std.specs.Prelude.{◌≡◌, ℕ, List}
 use Rattle.hexd_words.specs.Reading.{WellFormed}
 use Rattle.hexd_words.specs.declared.settings.Options.{Options}
@@ -7,30 +6,17 @@ use Rattle.hexd_words.specs.declared.settings.Mode.{Mode}
 use Rattle.hexd_words.specs.declared.settings.Mode.TheVariants.{Htp, Check, Migrate, Audit}
 use Rattle.hexd_words.specs.declared.settings.Mode.TheVariants.{Sim, Bench, Solve}
 use Rattle.turn_modes.specs.OneTurn.{IsBenchmark, IsSimulation}
-use Rattle.htp_session.specs.Devices.{DevicesState}
+use Rattle.hex_devices.specs.Devices.{DevicesState}
 use Rattle.hex_cli.specs.AuditTexts.{IsAuditText}
 use Rattle.hex_cli.specs.SolveTexts.{IsSolveText}
 use Rattle.hex_cli.specs.CertTexts.{IsCheckText, IsMigrateText}
-use Rattle.hex_cli.specs.Modes.{AnswersBy, DevicesTold, HandsInBy}
+use Rattle.hex_cli.specs.Modes.{AnswersBy, HandsInBy}
 use Rattle.hex_cli.specs.Playing.{HasGoodTurns}
-use Rattle.hex_cli.specs.declared.ends.End.{End}
-
--- what the link, the shelf and the archive tell
-abbrev pub told_of : DevicesState → DevicesTold
-told_of devices = record { link = devices.link; shelf = devices.shelf; turns = devices.turns }
-
--- nothing was fetched from the shelf
-pub record IsUnfetched (old new : DevicesState) : Type 0 where
-  pub shelf : new.shelf ≡ old.shelf
-  pub fetches : new.fetch_faults ≡ old.fetch_faults
-
--- nothing was handed to the archive
-pub record IsUnarchived (old new : DevicesState) : Type 0 where
-  pub turns : new.turns ≡ old.turns
-  pub archives : new.archive_faults ≡ old.archive_faults
+use Rattle.hex_cli.specs.Runs.{IsUnarchived, IsUnfetched}
+use Rattle.hex_devices.specs.declared.ends.End.{End}
 
 -- what was done in this mode, to this end
-abbrev pub ServesIn : Mode → Options → End → DevicesTold → DevicesTold → Type 0
+abbrev pub ServesIn : Mode → Options → End → DevicesState → DevicesState → Type 0
 ServesIn Htp options = HasGoodTurns options
 ServesIn Check options = AnswersBy IsCheckText
 ServesIn Migrate options = AnswersBy IsMigrateText
@@ -52,7 +38,7 @@ StandsIdleIn Solve old new = IsUnfetched old new × IsUnarchived old new
 -- what was done for the words, in the mode that they say
 abbrev pub Serves : List (List ℕ) → End → DevicesState → DevicesState → Type 0
 Serves words end old new = (options : Options) → WellFormed words options
-    → ServesIn options.mode options end (told_of old) (told_of new)
+    → ServesIn options.mode options end old new
 
 -- which devices stood idle in the mode that the words say
 abbrev pub LeavesIdle : List (List ℕ) → DevicesState → DevicesState → Type 0

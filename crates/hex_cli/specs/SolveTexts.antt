@@ -8,12 +8,14 @@ use Rattle.hex_cells.specs.Colours.{other_of}
 use Rattle.hex_cells.specs.declared.colours.Colour.{Colour}
 use Rattle.hex_cells.specs.declared.colours.Colour.TheVariants.{Black}
 use Rattle.hex_board.specs.Joined.{winner_of}
+use Rattle.hex_board.specs.Positions.{Position}
 use Rattle.win_cert.specs.Texts.{cert_text, colour_word}
 use Rattle.win_cert.specs.Writable.{IsWritable}
 use Rattle.hex_game.specs.Games.{GameData, board_of}
 use Rattle.hex_game.specs.declared.moves.Step.{Step}
 use Rattle.sgf_game.specs.RecordOf.{IsGameOf}
-use Rattle.hex_solve.specs.Solved.{IsSolved}
+use Rattle.hex_solve.specs.Solved.{OpenIsFull, TooLongNeedsMany, UnknownNeedsMore, WinnerWins}
+use Rattle.hex_solve.specs.Solved.{WonIsCertified, WonIsShort}
 use Rattle.hex_solve.specs.declared.answers.Solved.{Solved}
 use Rattle.hex_solve.specs.declared.answers.Solved.TheVariants.{Won, Unknown, TooLong, Open}
 
@@ -24,7 +26,8 @@ next_after steps =
 
 -- the text for an answer of the solver
 abbrev pub solved_text : Solved → List ℕ
-solved_text (Won winner cert) = codes "won " ++ (colour_word winner ++ (codes "\n" ++ cert_text cert))
+solved_text (Won winner cert) =
+    codes "won " ++ (colour_word winner ++ (codes "\n" ++ cert_text cert))
 solved_text (Unknown spent own) = codes "unknown " ++ (decimal spent ++ codes "\n")
 solved_text (TooLong winner lines) =
     codes "too long " ++ (colour_word winner ++ (codes " " ++ (decimal lines ++ codes "\n")))
@@ -36,6 +39,17 @@ IsTold (Won winner cert) = IsWritable cert
 IsTold (Unknown spent own) = Unit {0}
 IsTold (TooLong winner lines) = Unit {0}
 IsTold (Open full) = Unit {0}
+
+-- what the solver may answer, with connections or without and with this budget, of the position p
+-- with `mover` to place
+pub record IsSolved (hsearch : Bool) (budget : ℕ) (p : Position) (mover : Colour) (solved : Solved)
+    : Type 0 where
+  pub wins : WinnerWins p mover solved
+  pub won : WonIsCertified p mover solved
+  pub short : WonIsShort p mover hsearch solved
+  pub unknown : UnknownNeedsMore p mover hsearch budget solved
+  pub too_long : TooLongNeedsMany p mover solved
+  pub full : OpenIsFull p solved
 
 -- a player is joined on the game's board, and the text says who
 abbrev pub IsOverText : GameData → List ℕ → Type 0

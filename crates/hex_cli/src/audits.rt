@@ -5,7 +5,7 @@ ghost use Rattle.hex_cli.specs.AuditTexts.{IsAuditText, audit_text, is_clean};
 ghost use Rattle.hex_cli.specs.declared.limits.TheConstants.{INPUT_LIMIT};
 
 use crate::numbers::push_number;
-use htp_session::InputAnswer;
+use hex_devices::InputAnswer;
 use std::alloc::{AllocError, Global};
 use trace_audit::audit;
 use trace_audit::types::Audit;

@@ -10,7 +10,7 @@ ghost use Rattle.hex_cli.specs.CertTexts.{verdict_text};
 use crate::numbers::push_number;
 use cert_check::{Verdict, check};
 use conn_store::Kind;
-use htp_session::InputAnswer;
+use hex_devices::InputAnswer;
 use std::alloc::{AllocError, Global};
 use win_cert::{Cert, CertError, raise, read, write};
 

@@ -1,20 +1,19 @@
 //! The modes that answer their whole input by one text.
 
-ghost use Rattle.htp_session.specs.Devices.{CountsStop};
+ghost use Rattle.hex_devices.specs.Devices.{CountsStop};
 ghost use Rattle.hex_cli.specs.Inputs.{IsTextOf};
 ghost use Rattle.hex_cli.specs.Modes.{AnswersBy};
-ghost use Rattle.hex_cli.specs.Served.{IsUnarchived, IsUnfetched, told_of};
-ghost use Rattle.hex_cli.specs.Statuses.{stop_in};
+ghost use Rattle.hex_cli.specs.Runs.{IsUnarchived, IsUnfetched};
+ghost use Rattle.hex_devices.specs.Statuses.{stop_in};
 ghost use Rattle.hex_cli.specs.declared.limits.TheConstants.{INPUT_LIMIT};
 
 use crate::audits::audit_answer;
 use crate::certificates::{check_answer, migrate_answer};
-use crate::ends::End;
 use crate::limits::INPUT_LIMIT;
 use crate::solutions::solve_answer;
+use hex_devices::{Devices, End, InputAnswer, InputReader, answer_input};
 use hex_io::{Link, Shelf};
 use hex_plan::Archive;
-use htp_session::{Devices, InputAnswer, InputReader, answer_input};
 use search_team::Gate;
 use std::alloc::{AllocError, Global};
 use std::thread::Threads;
@@ -61,7 +60,7 @@ pub fn answer<L: Link, F: Shelf, A: Archive, R: Threads + Sync, G: Gate + Sync>(
     devices: &mut Devices<'_, '_, '_, '_, L, F, A, R, G>,
 ) -> End
     ensures answers { AnswersBy (IsTextOf mode) result
-        (told_of devices.old) (told_of devices.new) }
+        devices.old devices.new }
     ensures unfetched { IsUnfetched devices.old devices.new }
     ensures unarchived { IsUnarchived devices.old devices.new }
     ensures counts { CountsStop devices.old devices.new (stop_in result) }

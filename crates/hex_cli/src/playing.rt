@@ -3,19 +3,18 @@
 ghost use Rattle.std.specs.Prelude.{◌≡◌, ◌^◌, ◌<◌};
 ghost use Rattle.tree_words.specs.Settings.{AreInRange};
 ghost use Rattle.hexd_words.specs.Values as value;
-ghost use Rattle.htp_session.specs.Devices.{CountsStop};
+ghost use Rattle.hex_devices.specs.Devices.{CountsStop};
 ghost use Rattle.hex_cli.specs.Modes.{engine_options};
 ghost use Rattle.hex_cli.specs.Playing.{HasGoodTurns};
-ghost use Rattle.hex_cli.specs.Served.{told_of};
-ghost use Rattle.hex_cli.specs.Statuses.{stop_in};
+ghost use Rattle.hex_devices.specs.Statuses.{stop_in};
 
-use crate::ends::End;
 use crate::knobs::{board_size, knobs_of};
 use crate::limits::INPUT_LIMIT;
+use hex_devices::{Devices, End};
 use hex_io::{Link, Shelf};
 use hex_plan::Archive;
 use hexd_words::Options;
-use htp_session::{Devices, converse};
+use htp_session::converse;
 use search_team::Gate;
 use std::alloc::Global;
 use std::thread::Threads;
@@ -29,7 +28,7 @@ pub fn play<L: Link, F: Shelf, A: Archive, R: Threads + Sync, G: Gate + Sync>(
     requires ranges { value.OptionsInRange options.now }
     requires seed { options.now.seed < 2 ^ 64 }
     ensures plays { HasGoodTurns options.now result
-        (told_of devices.old) (told_of devices.new) }
+        devices.old devices.new }
     ensures counts { CountsStop devices.old devices.new (stop_in result) }
 {
     let outcome = converse(

@@ -2,21 +2,20 @@
 
 ghost use Rattle.std.specs.Prelude.{◌≡◌, ◌≢◌, ◌⊎◌, ◌^◌, ◌<◌};
 ghost use Rattle.hexd_words.specs.Values as value;
-ghost use Rattle.htp_session.specs.declared.stops.Stop.TheVariants.{Memory};
-ghost use Rattle.htp_session.specs.Devices.{CountsStop};
+ghost use Rattle.hex_devices.specs.declared.stops.Stop.TheVariants.{Memory};
+ghost use Rattle.hex_devices.specs.Devices.{CountsStop};
 ghost use Rattle.hex_cli.specs.Runs.{AreWellFormed, AreRefused};
-ghost use Rattle.hex_cli.specs.Served.{LeavesIdle, Serves, ServesIn, StandsIdleIn, told_of};
-ghost use Rattle.hex_cli.specs.Statuses.{stop_in};
-ghost use Rattle.hex_cli.specs.declared.ends.End.TheVariants.{Stopped};
+ghost use Rattle.hex_cli.specs.Served.{LeavesIdle, Serves, ServesIn, StandsIdleIn};
+ghost use Rattle.hex_devices.specs.Statuses.{stop_in};
+ghost use Rattle.hex_devices.specs.declared.ends.End.TheVariants.{Stopped};
 
-use crate::ends::End;
 use crate::inputs::{InputMode, answer};
 use crate::playing::play;
 use crate::single_turns::{bench, simulate};
+use hex_devices::{Devices, End, Stop};
 use hex_io::{Link, Shelf, Word};
 use hex_plan::Archive;
 use hexd_words::{Mode, Options, read_words};
-use htp_session::{Devices, Stop};
 use search_team::Gate;
 use std::alloc::Global;
 use std::thread::Threads;
@@ -54,7 +53,7 @@ fn in_mode<L: Link, F: Shelf, A: Archive, R: Threads + Sync, G: Gate + Sync>(
     requires ranges { value.OptionsInRange options.now }
     requires seed { options.now.seed < 2 ^ 64 }
     ensures does { ServesIn options.now.mode options.now result
-        (told_of devices.old) (told_of devices.new) }
+        devices.old devices.new }
     ensures idle { StandsIdleIn options.now.mode devices.old devices.new }
     ensures counts { CountsStop devices.old devices.new (stop_in result) }
 {

@@ -3,18 +3,17 @@
 ghost use Rattle.std.specs.Prelude.{◌≡◌, ◌^◌, ◌<◌};
 ghost use Rattle.tree_words.specs.Settings.{AreInRange};
 ghost use Rattle.hexd_words.specs.Values as value;
-ghost use Rattle.htp_session.specs.Devices.{CountsStop};
+ghost use Rattle.hex_devices.specs.Devices.{CountsStop};
 ghost use Rattle.turn_modes.specs.OneTurn.{IsBenchmark, IsSimulation};
 ghost use Rattle.hex_cli.specs.Modes.{HandsInBy, mode_options};
-ghost use Rattle.hex_cli.specs.Served.{IsUnfetched, told_of};
-ghost use Rattle.hex_cli.specs.Statuses.{stop_in};
+ghost use Rattle.hex_cli.specs.Runs.{IsUnfetched};
+ghost use Rattle.hex_devices.specs.Statuses.{stop_in};
 
-use crate::ends::End;
 use crate::knobs::{board_size, knobs_of};
+use hex_devices::{Devices, End};
 use hex_io::{Link, Shelf};
 use hex_plan::Archive;
 use hexd_words::Options;
-use htp_session::Devices;
 use search_team::Gate;
 use std::alloc::Global;
 use std::thread::Threads;
@@ -29,7 +28,7 @@ pub fn simulate<L: Link, F: Shelf, A: Archive, R: Threads + Sync, G: Gate + Sync
     requires ranges { value.OptionsInRange options.now }
     requires seed { options.now.seed < 2 ^ 64 }
     ensures hands { HandsInBy IsSimulation options.now result
-        (told_of devices.old) (told_of devices.new) }
+        devices.old devices.new }
     ensures unfetched { IsUnfetched devices.old devices.new }
     ensures counts { CountsStop devices.old devices.new (stop_in result) }
 {
@@ -47,7 +46,7 @@ pub fn bench<L: Link, F: Shelf, A: Archive, R: Threads + Sync, G: Gate + Sync>(
     requires ranges { value.OptionsInRange options.now }
     requires seed { options.now.seed < 2 ^ 64 }
     ensures hands { HandsInBy IsBenchmark options.now result
-        (told_of devices.old) (told_of devices.new) }
+        devices.old devices.new }
     ensures unfetched { IsUnfetched devices.old devices.new }
     ensures counts { CountsStop devices.old devices.new (stop_in result) }
 {

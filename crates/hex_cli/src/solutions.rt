@@ -4,14 +4,14 @@ ghost use Rattle.std.specs.Prelude.{◌≡◌, ◌⊎◌, ◌++◌, IfOk, codes}
 ghost use Rattle.std.specs.Fmt.{decimal};
 ghost use Rattle.win_cert.specs.Texts.{cert_text, colour_word};
 ghost use Rattle.win_cert.specs.Writable.{IsWritable};
-ghost use Rattle.hex_cli.specs.SolveTexts.{IsOverText, IsSolveText, IsSolvedText, IsTold, next_after};
-ghost use Rattle.hex_cli.specs.SolveTexts.{solved_text};
+ghost use Rattle.hex_cli.specs.SolveTexts.{IsOverText, IsSolveText, IsSolvedText, IsTold};
+ghost use Rattle.hex_cli.specs.SolveTexts.{next_after, solved_text};
 
 use crate::numbers::push_number;
 use hex_cells::Colour;
+use hex_devices::InputAnswer;
 use hex_game::{Game, Step};
 use hex_solve::{Solved, solve};
-use htp_session::InputAnswer;
 use sgf_game::read_game;
 use std::alloc::{AllocError, Global};
 use win_cert::{Cert, write};
@@ -67,7 +67,8 @@ fn next_to_place(steps: &[Step]) -> Colour
 
 // The line where a player is joined already.
 fn over_text(alloc: Global, winner: Colour) -> Result<Vec<u8>, AllocError>
-    ensures { IfOk result (λ text. text.items ≡ codes "over " ++ (colour_word winner ++ codes "\n")) }
+    ensures { IfOk result (λ text. text.items
+        ≡ codes "over " ++ (colour_word winner ++ codes "\n")) }
 {
     let mut text = b"over ".to_vec(alloc)?;
     text.extend_from_slice(colour_name(winner))?;

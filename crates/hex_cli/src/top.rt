@@ -4,32 +4,32 @@ ghost use Rattle.std.specs.Prelude.{◌≡◌};
 ghost use Rattle.hex_io.specs.Causes.{CountsFault};
 ghost use Rattle.hexd_words.specs.declared.settings.Mode.TheVariants.{Htp, Check, Migrate};
 ghost use Rattle.hexd_words.specs.declared.settings.Mode.TheVariants.{Audit, Sim, Bench, Solve};
-ghost use Rattle.htp_session.specs.declared.stops.Stop.TheVariants.{ReadFault, WriteFault};
-ghost use Rattle.htp_session.specs.declared.stops.Stop.TheVariants.{ArchiveFault};
+ghost use Rattle.hex_devices.specs.declared.stops.Stop.TheVariants.{ReadFault, WriteFault};
+ghost use Rattle.hex_devices.specs.declared.stops.Stop.TheVariants.{ArchiveFault};
 ghost use Rattle.turn_modes.specs.OneTurn.{IsSimulation, IsBenchmark};
 ghost use Rattle.hex_cli.specs.AuditTexts.{IsAuditText};
-ghost use Rattle.hex_cli.specs.Causes.{Completes, IsTooLong, Reports};
-ghost use Rattle.hex_cli.specs.SolveTexts.{IsSolveText};
+ghost use Rattle.hex_cli.specs.Causes.{Completes, IsTooLong};
+ghost use Rattle.hex_devices.specs.Statuses.{Reports};
 ghost use Rattle.hex_cli.specs.CertTexts.{IsCheckText, IsMigrateText};
 ghost use Rattle.hex_cli.specs.Determined.{Determines};
 ghost use Rattle.hex_cli.specs.Headline.{HasHeadline};
 ghost use Rattle.hex_cli.specs.Modes.{AnswersBy, HandsInBy};
 ghost use Rattle.hex_cli.specs.Playing.{HasGoodTurns, HasKnownThreats, HasPlayed};
-ghost use Rattle.hex_cli.specs.Runs.{AreWellFormed, AreRefused, IsServed, IsRefusal, Untouched};
-ghost use Rattle.hex_cli.specs.Runs.{InMode, run_over};
-ghost use Rattle.hex_cli.specs.Runs.{IsIdleShelf, IsIdleArchive, HasIdleShelf, HasIdleArchive};
-ghost use Rattle.hex_cli.specs.Statuses.{status_of, HasStopped};
-ghost use Rattle.hex_cli.specs.declared.ends.End.{End};
+ghost use Rattle.hex_cli.specs.Runs.{AreWellFormed, AreRefused, IsServed, IsRefusal};
+ghost use Rattle.hex_cli.specs.Runs.{InMode, seen, HasIdleShelf, HasIdleArchive};
+ghost use Rattle.hex_cli.specs.SolveTexts.{IsSolveText};
+ghost use Rattle.hex_devices.specs.Statuses.{status_of, HasStopped};
+ghost use Rattle.hex_devices.specs.declared.ends.End.{End};
 
 use crate::serving::serve;
+use hex_devices::Devices;
 use hex_io::{Link, Shelf, Word, report};
 use hex_plan::Archive;
-use htp_session::Devices;
 use search_team::Gate;
 use std::alloc::Global;
 use std::thread::Threads;
 
-/// Runs the program that the words ask for over a link, and answers its status.
+/// Runs the program that the words ask for over the devices, and answers its status.
 ///
 /// The words are those of the command line after the program's name. In mode `htp` each raw line of
 /// the input is answered, by GTP version 2, from an empty board of the size that the words say. The
@@ -39,7 +39,8 @@ use std::thread::Threads;
 /// Modes `sim` and `bench` read nothing: they search one position, hand the turn to the archive,
 /// and give one text that says it.
 ///
-/// Searches run in threads of `rt`, and their workers pass the gate; no clause speaks of these.
+/// Searches run in threads of the devices' runtime, and their workers pass their gate; no clause
+/// speaks of these.
 ///
 /// | status | comes | line for the errors |
 /// |---|---|---|
@@ -68,104 +69,68 @@ use std::thread::Threads;
 /// status. A fault of the errors changes nothing of the status. Status 5 may come in place of any
 /// other.
 pub fn run<R: Threads + Sync, L: Link, E: Link, F: Shelf, A: Archive, G: Gate + Sync>(
-    rt: &R,
     alloc: Global,
     words: &[Word],
-    link: &mut L,
+    devices: &mut Devices<'_, '_, '_, '_, L, F, A, R, G>,
     errors: &mut E,
-    shelf: &mut F,
-    archive: &mut A,
-    gate: &G,
 ) -> u8
     ensures status { (end : End) × (result ≡ status_of end) }
+
+    // The link, the shelf and the archive are those that were handed in.
+    ensures names { devices.new.names ≡ devices.old.names }
 
     // The words. Want of memory may come in place of a refusal.
     ensures usage { result ≡ status_of End.Usage → AreRefused words.now }
     ensures well_formed { IsServed result → AreWellFormed words.now }
     ensures refused { AreRefused words.now → IsRefusal result }
-    ensures untouched { AreRefused words.now → Untouched L.Link link.old link.new }
-    ensures unfetched { AreRefused words.now → IsIdleShelf F.Shelf shelf.old shelf.new }
-    ensures unarchived { AreRefused words.now → IsIdleArchive A.Archive archive.old archive.new }
+    ensures untouched { AreRefused words.now → devices.new ≡ devices.old }
 
     // Mode htp: what was taken and given, and when, where the link tells it, and what was used up
-    // from the shelf and for the archive. Then, where the run is done, each generated move; that
-    // each turn used up is good, and what it says of threats is true; and that one worker who looks
-    // for no connections gives what the words, the input and the shelf determine.
-    ensures conversed { InMode Htp HasPlayed
-        (run_over L.Link F.Shelf A.Archive words.now result
-        (link.old, shelf.old, archive.old) (link.new, shelf.new, archive.new)) }
-    ensures headline { InMode Htp HasHeadline
-        (run_over L.Link F.Shelf A.Archive words.now result
-        (link.old, shelf.old, archive.old) (link.new, shelf.new, archive.new)) }
-    ensures good_turns { InMode Htp HasGoodTurns
-        (run_over L.Link F.Shelf A.Archive words.now result
-        (link.old, shelf.old, archive.old) (link.new, shelf.new, archive.new)) }
-    ensures threats { InMode Htp HasKnownThreats
-        (run_over L.Link F.Shelf A.Archive words.now result
-        (link.old, shelf.old, archive.old) (link.new, shelf.new, archive.new)) }
-    ensures determined { InMode Htp Determines
-        (run_over L.Link F.Shelf A.Archive words.now result
-        (link.old, shelf.old, archive.old) (link.new, shelf.new, archive.new)) }
+    // from the shelf and for the archive. Then, where the run is done, each generated move. At
+    // every status, that each turn used up is good, and what it says of threats is true. And, where
+    // the run is done, that one worker who looks for no connections gives what the words, the input
+    // and the shelf determine.
+    ensures conversed { InMode Htp HasPlayed (seen words.now result devices.old devices.new) }
+    ensures headline { InMode Htp HasHeadline (seen words.now result devices.old devices.new) }
+    ensures good_turns { InMode Htp HasGoodTurns (seen words.now result devices.old devices.new) }
+    ensures threats { InMode Htp HasKnownThreats (seen words.now result devices.old devices.new) }
+    ensures determined { InMode Htp Determines (seen words.now result devices.old devices.new) }
 
-    // Modes check, migrate and audit: the whole input was taken, and its text given; the status
-    // says whether it was accepted.
+    // Modes check, migrate, audit and solve: the whole input was taken, and its text given; the
+    // status says whether it was accepted.
     ensures checked { InMode Check (λ options. AnswersBy IsCheckText)
-        (run_over L.Link F.Shelf A.Archive words.now result
-        (link.old, shelf.old, archive.old) (link.new, shelf.new, archive.new)) }
+        (seen words.now result devices.old devices.new) }
     ensures migrated { InMode Migrate (λ options. AnswersBy IsMigrateText)
-        (run_over L.Link F.Shelf A.Archive words.now result
-        (link.old, shelf.old, archive.old) (link.new, shelf.new, archive.new)) }
+        (seen words.now result devices.old devices.new) }
     ensures audited { InMode Audit (λ options. AnswersBy IsAuditText)
-        (run_over L.Link F.Shelf A.Archive words.now result
-        (link.old, shelf.old, archive.old) (link.new, shelf.new, archive.new)) }
+        (seen words.now result devices.old devices.new) }
     ensures solved { InMode Solve (λ o. AnswersBy (IsSolveText o.hsearch o.budget))
-        (run_over L.Link F.Shelf A.Archive words.now result
-        (link.old, shelf.old, archive.old) (link.new, shelf.new, archive.new)) }
+        (seen words.now result devices.old devices.new) }
 
     // Modes sim and bench: one turn was handed to the archive, and then its text given.
     ensures simulated { InMode Sim (HandsInBy IsSimulation)
-        (run_over L.Link F.Shelf A.Archive words.now result
-        (link.old, shelf.old, archive.old) (link.new, shelf.new, archive.new)) }
+        (seen words.now result devices.old devices.new) }
     ensures benchmarked { InMode Bench (HandsInBy IsBenchmark)
-        (run_over L.Link F.Shelf A.Archive words.now result
-        (link.old, shelf.old, archive.old) (link.new, shelf.new, archive.new)) }
+        (seen words.now result devices.old devices.new) }
 
-    // What is idle: the shelf in each mode but htp, the archive in check, migrate and audit.
-    ensures idle_shelf { HasIdleShelf F.Shelf words.now shelf.old shelf.new }
-    ensures idle_archive { HasIdleArchive A.Archive words.now archive.old archive.new }
+    // What is idle: the shelf in each mode but htp, the archive in those that take the whole input.
+    ensures idle_shelf { HasIdleShelf words.now devices.old devices.new }
+    ensures idle_archive { HasIdleArchive words.now devices.old devices.new }
 
     // The causes. Each count of faults rose with its own status, and is as before with every other.
-    ensures read_fault { CountsFault (L.read_faults link.old) (L.read_faults link.new)
+    ensures read_fault { CountsFault devices.old.read_faults devices.new.read_faults
         (HasStopped result ReadFault) }
-    ensures write_fault { CountsFault (L.write_faults link.old) (L.write_faults link.new)
+    ensures write_fault { CountsFault devices.old.write_faults devices.new.write_faults
         (HasStopped result WriteFault) }
-    ensures archive_fault { CountsFault (A.faults archive.old) (A.faults archive.new)
+    ensures archive_fault { CountsFault devices.old.archive_faults devices.new.archive_faults
         (HasStopped result ArchiveFault) }
-    ensures too_long { IsTooLong L.Link words.now result link.old link.new }
-    ensures complete { Completes L.Link A.Archive words.now result
-        (link.old, archive.old) (link.new, archive.new) }
+    ensures too_long { IsTooLong (seen words.now result devices.old devices.new) }
+    ensures complete { Completes (seen words.now result devices.old devices.new) }
 
     // The line for the errors.
     ensures errors { Reports E.Link result errors.old errors.new }
 {
-    let mut devices = Devices {
-        link,
-        shelf,
-        archive,
-        rt,
-        gate,
-    };
-    let end = serve(alloc, words, &mut devices);
-    let Devices {
-        link,
-        shelf,
-        archive,
-        ..
-    } = devices;
-    // What the three tell now is what was left of them.
-    let _link: &L = link;
-    let _shelf: &F = shelf;
-    let _archive: &A = archive;
+    let end = serve(alloc, words, devices);
     report(errors, end.line());
     end.status()
 }

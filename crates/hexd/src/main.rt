@@ -17,10 +17,10 @@
 //! **Limits.** An argument that is no text is a wrong word.
 #![tactic(auto)]
 
-use hex_cli::{End, run, trace_name};
+use hex_cli::{run, trace_name};
+use hex_devices::{Devices, End, Stop};
 use hex_io::{DirShelf, ErrLink, FileLink, StdLink, Word, report};
 use hex_plan::{Archive, NoArchive};
-use htp_session::Stop;
 use search_team::OpenGate;
 use std::process::ExitCode;
 use std::thread::Threads;
@@ -64,16 +64,14 @@ fn run_with<R: Threads + Sync, A: Archive>(
 ) -> u8 {
     let mut link = StdLink::new(rt);
     let mut shelf = DirShelf::new(rt);
-    run(
-        threads,
-        rt.alloc(),
-        words,
-        &mut link,
-        errors,
-        &mut shelf,
+    let mut devices = Devices {
+        link: &mut link,
+        shelf: &mut shelf,
         archive,
-        &OpenGate,
-    )
+        rt: threads,
+        gate: &OpenGate,
+    };
+    run(rt.alloc(), words, &mut devices, errors)
 }
 
 /// The archive over the file that the words name for traces, or none where they name none.

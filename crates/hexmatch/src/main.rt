@@ -13,8 +13,9 @@
 //! **Limits.** An argument that is no text is a wrong word.
 #![tactic(auto)]
 
+use hex_devices::{End, Stop};
 use hex_io::{ErrLink, StdLink, Word, report};
-use match_ref::{End, run_match};
+use match_ref::run_match;
 use search_team::OpenGate;
 use std::process::ExitCode;
 use std::thread::Threads;
@@ -47,12 +48,14 @@ fn run_with<R: Threads + Sync>(
 /// The words after the program's name, or how a run ends that can't have them.
 fn words_of(rt: &HostRuntime) -> Result<Vec<Word>, End> {
     let arguments = match env::args(rt) {
-        Err(error) if error.kind() == io::ErrorKind::OutOfMemory => return Err(End::Memory),
+        Err(error) if error.kind() == io::ErrorKind::OutOfMemory => return Err(End::Stopped(
+            Stop::Memory,
+        )),
         Err(_) => return Err(End::Usage),
         Ok(arguments) => arguments,
     };
     match arguments.skip(1).map(Word::of).collect(rt.alloc()) {
-        Err(_) => Err(End::Memory),
+        Err(_) => Err(End::Stopped(Stop::Memory)),
         Ok(words) => Ok(words),
     }
 }

@@ -8,11 +8,12 @@ use Rattle.hex_engine.specs.declared.options.Options.{Options}
 use Rattle.hex_engine.specs.EngineState.{EngineState}
 use Rattle.hex_engine.specs.Supply.{Supply, nothing_left, and_then}
 use Rattle.htp_session.specs.Talk.{TalkState, Going, ending_if}
-use Rattle.htp_session.specs.Usage.{ShelfAndArchive, UsesUp, UsesUpNothing, AnswersWith, Responds, Lacks}
-use Rattle.htp_session.specs.Devices.{DevicesState, shelf_and_archive}
+use Rattle.htp_session.specs.Usage.{UsesUp, UsesUpNothing, AnswersWith, Responds, Lacks}
+use Rattle.hex_devices.specs.Devices.{ShelfAndArchive}
+use Rattle.hex_devices.specs.Devices.{DevicesState, shelf_and_archive}
 use Rattle.htp_session.specs.Calls.Answering.{Writes}
-use Rattle.htp_session.specs.declared.stops.Stop.{Stop}
-use Rattle.htp_session.specs.declared.stops.Stop.TheVariants.{ReadFault, WriteFault, Memory, TooLong, ArchiveFault}
+use Rattle.hex_devices.specs.declared.stops.Stop.{Stop}
+use Rattle.hex_devices.specs.declared.stops.Stop.TheVariants.{ReadFault, WriteFault, Memory, TooLong, ArchiveFault}
 use Rattle.htp_session.specs.Sessions.{IsSessionAfter, Does, DoesSome, Advanced, EndsLine, StopsBefore, AnswersShort, AnswersLast, StopsBeforeLast, LastIsShort}
 use Rattle.htp_session.proofs.SupplyLaws.{stands_options}
 use Rattle.htp_session.proofs.UsageLaws.{After, uses_nothing, does_nothing}

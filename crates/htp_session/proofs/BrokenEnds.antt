@@ -8,7 +8,7 @@ use Rattle.hex_engine.specs.Supply.{Supply, nothing_left}
 use Rattle.htp_session.specs.Talk.{Going, talk, talk_to}
 use Rattle.htp_session.specs.Sessions.{EndsLine, HasLast}
 use Rattle.htp_session.specs.Endings.{since, StoppedAfter, Ended}
-use Rattle.htp_session.specs.declared.stops.Stop.TheVariants as stop
+use Rattle.hex_devices.specs.declared.stops.Stop.TheVariants as stop
 use Rattle.htp_session.proofs.Keeping.{Keeps, since_keeps, keeps_nothing, course_of, talk_text, lines-append}
 
 -- a write broke off within the answers to a front s of what was taken

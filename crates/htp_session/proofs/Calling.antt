@@ -7,13 +7,13 @@ use Rattle.htp_line.specs.Lines.{whole, lines}
 use Rattle.htp_line.specs.Splitting.{SplitterData, Advances, Ends, StandsAfter}
 use Rattle.hex_engine.specs.EngineState.{EngineState}
 use Rattle.htp_session.specs.Sessions.{Does, DoesSome, Advanced, GaveUp, HeldBack}
-use Rattle.htp_session.specs.Devices.{DevicesState, shelf_and_archive, CountsStop}
-use Rattle.htp_session.specs.Calls.Devices.{GivesAll}
+use Rattle.hex_devices.specs.Devices.{DevicesState, shelf_and_archive, CountsStop}
+use Rattle.hex_devices.specs.Calls.{GivesAll}
 use Rattle.htp_session.specs.Calls.Answering.{WritesAnswer}
 use Rattle.htp_session.specs.Calls.Session.{AdvancesBy, AnswersEnd, Feeds, Finishes}
 use Rattle.htp_session.specs.declared.session.Session.{Session}
-use Rattle.htp_session.specs.declared.stops.Stop.{Stop}
-use Rattle.htp_session.specs.declared.stops.Stop.TheVariants.{ReadFault, WriteFault, Memory, TooLong, ArchiveFault}
+use Rattle.hex_devices.specs.declared.stops.Stop.{Stop}
+use Rattle.hex_devices.specs.declared.stops.Stop.TheVariants.{ReadFault, WriteFault, Memory, TooLong, ArchiveFault}
 use Rattle.std.specs.Prelude.{Option, None, Some}
 use Rattle.htp_session.proofs.Advances.{stopped_line, short_line, stopped_last, lacking_last}
 use Rattle.htp_session.proofs.Feeding.{FedTo, rest_of, fed_broke_off, fed_gave_up, fed_held_back, last_given, last_broke_off}

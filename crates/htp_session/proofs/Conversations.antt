@@ -6,10 +6,12 @@ use Rattle.hex_engine.specs.declared.options.Options.{Options}
 use Rattle.hex_engine.specs.EngineState.{EngineState, opening}
 use Rattle.hex_engine.specs.Supply.{Supply, nothing_left, and_then}
 use Rattle.htp_session.specs.Talk.{talk_to}
-use Rattle.htp_session.specs.Usage.{ShelfAndArchive, UsesUp}
+use Rattle.htp_session.specs.Usage.{UsesUp}
+use Rattle.hex_devices.specs.Devices.{ShelfAndArchive}
 use Rattle.htp_session.specs.Sessions.{IsSessionAfter, Does, Fed}
-use Rattle.htp_session.specs.Endings.{Outcome, ConversedInGoodTurns, IsInVain}
-use Rattle.htp_session.specs.declared.stops.Stop.TheVariants as stop
+use Rattle.htp_session.specs.Endings.{ConversedInGoodTurns, IsInVain}
+use Rattle.hex_devices.specs.Devices.{Outcome}
+use Rattle.hex_devices.specs.declared.stops.Stop.TheVariants as stop
 use Rattle.htp_session.proofs.UsageLaws.{and_then_nothing, and_then_assoc, uses_then, uses_nothing}
 use Rattle.htp_session.proofs.EndLaws.{Kept, EndsBy, kept_taking, kept_nothing, feed_on, read_overlong, read_fault, unbegun}
 

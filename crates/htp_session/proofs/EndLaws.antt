@@ -8,8 +8,9 @@ use Rattle.hex_engine.specs.EngineState.{EngineState}
 use Rattle.hex_engine.specs.Supply.{Supply, nothing_left}
 use Rattle.htp_session.specs.Talk.{TalkState, Going, talk, talk_to}
 use Rattle.htp_session.specs.Sessions.{Quits, AnswersAll, BrokeOff, GaveUp, HeldBack, AnsweredLast, BrokeOffLast, StopsBeforeLast, LastIsShort}
-use Rattle.htp_session.specs.Endings.{Outcome, Ended}
-use Rattle.htp_session.specs.declared.stops.Stop.TheVariants as stop
+use Rattle.htp_session.specs.Endings.{Ended}
+use Rattle.hex_devices.specs.Devices.{Outcome}
+use Rattle.hex_devices.specs.declared.stops.Stop.TheVariants as stop
 use Rattle.htp_session.proofs.Keeping.{Keeps, keeps_taking, keeps_giving, keeps_nothing}
 use Rattle.htp_session.proofs.Ends.{end_complete, end_quit, end_unread, end_unarchived, wants_lines, end_overlong}
 use Rattle.htp_session.proofs.BrokenEnds.{end_unwritten, end_unwritten_last, end_unfinished, end_unfinished_last, end_unbegun}

@@ -8,7 +8,7 @@ use Rattle.hex_engine.specs.Supply.{Supply, nothing_left}
 use Rattle.hex_engine.specs.Replies.{Missing}
 use Rattle.htp_session.specs.Talk.{TalkState, Ending, Going, AfterQuit, Short, ending_if, goes_on, talk, talk_to, WantsTurn}
 use Rattle.htp_session.specs.Endings.{since, Ended}
-use Rattle.htp_session.specs.declared.stops.Stop.TheVariants as stop
+use Rattle.hex_devices.specs.declared.stops.Stop.TheVariants as stop
 use Rattle.htp_session.proofs.TalkLaws.{talk_stays, talk_quit}
 use Rattle.htp_session.proofs.Keeping.{Keeps, since_keeps, course_of}
 

@@ -5,7 +5,7 @@ use Rattle.hex_io.specs.Told.{Told}
 use Rattle.hex_io.specs.Grew.{Gave, GavePart}
 use Rattle.htp_line.specs.Splitting.{SplitterData}
 use Rattle.hex_engine.specs.EngineState.{EngineState}
-use Rattle.htp_session.specs.Usage.{ShelfAndArchive}
+use Rattle.hex_devices.specs.Devices.{ShelfAndArchive}
 use Rattle.htp_session.specs.Sessions.{IsSessionAfter, Quits, Does, DoesSome, StopsBefore, AnswersShort, Advanced, AnswersAll, Fed, BrokeOff, GaveUp, HeldBack, AnswersLast, AnsweredLast, BrokeOffLast}
 use Rattle.htp_session.proofs.Pieces.{next_part, next_seen, parts_make}
 use Rattle.htp_session.proofs.UsageLaws.{After, does_then, does_weaker, does_nothing}

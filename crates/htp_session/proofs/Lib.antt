@@ -1,7 +1,6 @@
 -- Laws for the layers above.
 pub mod TakenTurns
 pub mod SupplyLaws
-pub mod InputLaws
 pub mod Conversations
 pub mod OneWorker
 -- Steps of this crate's own proofs.

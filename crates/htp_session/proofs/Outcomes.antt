@@ -2,14 +2,14 @@
 use Rattle.std.proofs.Common.{◌≡◌, ◌≤◌, ◌+◌, ℕ, List, length, length-append, true, Ok, Err, subst, arith}
 use Rattle.hex_io.specs.Told.{Both, TakesBytes}
 use Rattle.hex_engine.specs.declared.options.Options.{Options}
-use Rattle.htp_session.specs.Devices.{DevicesState, shelf_and_archive}
-use Rattle.htp_session.specs.Endings.{Outcome}
-use Rattle.htp_session.specs.Calls.Devices.{ReadsSome}
+use Rattle.hex_devices.specs.Devices.{DevicesState, shelf_and_archive}
+use Rattle.hex_devices.specs.Devices.{Outcome}
+use Rattle.hex_devices.specs.Calls.{ReadsSome}
 use Rattle.htp_session.specs.Calls.Session.{Feeds, Finishes}
 use Rattle.htp_session.specs.Calls.Conversation.{Converses}
 use Rattle.htp_session.specs.declared.session.Session.{Session}
-use Rattle.htp_session.specs.declared.stops.Stop.{Stop}
-use Rattle.htp_session.specs.declared.stops.Stop.TheVariants.{ReadFault, WriteFault, Memory, TooLong, ArchiveFault}
+use Rattle.hex_devices.specs.declared.stops.Stop.{Stop}
+use Rattle.hex_devices.specs.declared.stops.Stop.TheVariants.{ReadFault, WriteFault, Memory, TooLong, ArchiveFault}
 use Rattle.htp_session.proofs.Conversations.{ends_unread, ends_overlong}
 use Rattle.htp_session.proofs.PieceEnds.{ends_quit, ends_unwritten, ends_unfinished, ends_unarchived}
 use Rattle.htp_session.proofs.InputEnds.{last_complete, last_unwritten, last_unfinished, last_unarchived}

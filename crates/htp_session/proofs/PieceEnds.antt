@@ -5,10 +5,10 @@ use Rattle.htp_line.specs.Splitting.{SplitterData}
 use Rattle.hex_engine.specs.declared.options.Options.{Options}
 use Rattle.hex_engine.specs.EngineState.{EngineState, opening}
 use Rattle.hex_engine.specs.Supply.{nothing_left, and_then}
-use Rattle.htp_session.specs.Usage.{ShelfAndArchive}
+use Rattle.hex_devices.specs.Devices.{ShelfAndArchive}
 use Rattle.htp_session.specs.Sessions.{Does, DoesSome, Fed, BrokeOff, GaveUp, HeldBack}
 use Rattle.htp_session.specs.Endings.{ConversedInGoodTurns}
-use Rattle.htp_session.specs.declared.stops.Stop.TheVariants as stop
+use Rattle.hex_devices.specs.declared.stops.Stop.TheVariants as stop
 use Rattle.htp_session.proofs.EndLaws.{feed_quit, feed_unwritten, feed_unfinished, feed_held_back}
 use Rattle.htp_session.proofs.Conversations.{Took, all_of, conversed_by}
 

@@ -2,9 +2,9 @@
 use Rattle.std.proofs.Common.{◌≡◌, ◌≤◌, ◌+◌, ℕ, List, ◌++◌, length, take, sym, subst, Ok}
 use Rattle.hex_engine.specs.declared.options.Options.{Options}
 use Rattle.hex_engine.specs.EngineState.{opening}
-use Rattle.htp_session.specs.Usage.{ShelfAndArchive}
-use Rattle.htp_session.specs.Devices.{DevicesState, shelf_and_archive}
-use Rattle.htp_session.specs.Calls.Devices.{ReadsSome}
+use Rattle.hex_devices.specs.Devices.{ShelfAndArchive}
+use Rattle.hex_devices.specs.Devices.{DevicesState, shelf_and_archive}
+use Rattle.hex_devices.specs.Calls.{ReadsSome}
 use Rattle.htp_session.specs.declared.session.Session.{Session}
 use Rattle.htp_session.proofs.Pieces.{length-taken}
 use Rattle.htp_session.proofs.Conversations.{Goes, Took, goes_taking}

@@ -9,7 +9,8 @@ use Rattle.htp_line.specs.Splitting.{SplitterData}
 use Rattle.hex_engine.specs.EngineState.{EngineState}
 use Rattle.hex_engine.specs.Supply.{Supply, Load, nothing_left, and_then}
 use Rattle.hex_engine.specs.Uses.{CameOf, FetchesLoads, AreGood}
-use Rattle.htp_session.specs.Usage.{ShelfAndArchive, UsesUp}
+use Rattle.htp_session.specs.Usage.{UsesUp}
+use Rattle.hex_devices.specs.Devices.{ShelfAndArchive}
 use Rattle.htp_session.specs.Sessions.{IsSessionAfter, Does}
 
 -- ---- what is left

@@ -10,14 +10,10 @@ use Rattle.hex_engine.specs.EngineState.{EngineState, opening}
 use Rattle.hex_engine.specs.Supply.{Supply, nothing_left}
 use Rattle.hex_engine.specs.Uses.{AreGood, Loading}
 use Rattle.htp_session.specs.Talk.{Going, AfterQuit, IsThrough, talk, talk_to, WantsTurn}
-use Rattle.htp_session.specs.Usage.{ShelfAndArchive}
-use Rattle.htp_session.specs.declared.stops.Stop.{Stop}
-use Rattle.htp_session.specs.declared.stops.Stop.TheVariants.{ReadFault, WriteFault, Memory}
-use Rattle.htp_session.specs.declared.stops.Stop.TheVariants.{TooLong, ArchiveFault}
-
--- how a conversation ended: it came to its end, or stopped for a reason
-abbrev pub Outcome : Type 0
-Outcome = Result (Unit {0}) Stop
+use Rattle.hex_devices.specs.Devices.{ShelfAndArchive}
+use Rattle.hex_devices.specs.Devices.{Outcome}
+use Rattle.hex_devices.specs.declared.stops.Stop.TheVariants.{ReadFault, WriteFault, Memory}
+use Rattle.hex_devices.specs.declared.stops.Stop.TheVariants.{TooLong, ArchiveFault}
 
 -- the bytes taken since
 abbrev pub since : Told → Told → List ℕ

@@ -1,10 +1,7 @@
 pub mod Talk
 pub mod Supply
 pub mod Usage
-pub mod Devices
 pub mod Sessions
 pub mod Endings
 pub mod Calls
 pub mod Laws
-pub mod Inputs
-pub mod Handing

@@ -8,7 +8,8 @@ use Rattle.htp_line.specs.Splitting.{SplitterData, StandsAfter}
 use Rattle.hex_engine.specs.EngineState.{EngineState}
 use Rattle.hex_engine.specs.Supply.{Supply, nothing_left, and_then}
 use Rattle.htp_session.specs.Talk.{Going, AfterQuit, ending_if, talk, talk_to, WantsTurn}
-use Rattle.htp_session.specs.Usage.{ShelfAndArchive, UsesUp}
+use Rattle.htp_session.specs.Usage.{UsesUp}
+use Rattle.hex_devices.specs.Devices.{ShelfAndArchive}
 
 -- this engine and this splitter are a session's after this text: the talk over it goes on, and this
 -- is left to be used up later

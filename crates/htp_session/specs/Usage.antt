@@ -1,19 +1,13 @@
--- What a conversation uses things up from. `ShelfAndArchive` stands in the contract of `run`; only
--- clauses of private calls cite the others.
+-- What a conversation uses things up from. No clause of a public call cites this.
 use Rattle.std.specs.Prelude.{◌≡◌, ℕ, Bool, List, []}
 use Rattle.std.specs.declared.option.Option.{Option}
-use Rattle.hex_io.specs.Shelves.{Shelved}
 use Rattle.hex_engine.specs.declared.options.Options.{Options}
-use Rattle.hex_plan.specs.Turns.{TurnData}
+use Rattle.hex_devices.specs.Devices.{ShelfAndArchive}
 use Rattle.hex_engine.specs.EngineState.{EngineState}
 use Rattle.hex_engine.specs.Supply.{Supply, nothing_left, and_then}
 use Rattle.hex_engine.specs.Uses.{Uses, UsesNothing}
 use Rattle.hex_engine.specs.Replies.{NoTurn}
 use Rattle.htp_session.specs.Talk.{TalkState, Short, ending_if, after_line}
-
--- what the shelf and the archive tell, where they do
-abbrev pub ShelfAndArchive : Type 0
-ShelfAndArchive = Option Shelved × Option (List TurnData)
 
 -- this was used up since, and these fetches at the end came to nothing
 abbrev pub UsesUp : Options → ShelfAndArchive → ShelfAndArchive → Supply → List Bool → Type 0

@@ -5,11 +5,11 @@ ghost use Rattle.std.specs.Prelude.{OnOk, OnErr, option_map, false, Some};
 ghost use Rattle.htp_line.specs.Answering.{failure, WritesFor, HasSpareRoom};
 ghost use Rattle.hex_engine.specs.Requests.{IsBrief, replied};
 ghost use Rattle.htp_session.specs.Talk.{reply_text, is_quit};
-ghost use Rattle.htp_session.specs.Devices.{CountsFaults};
+ghost use Rattle.hex_devices.specs.Devices.{CountsFaults};
 ghost use Rattle.htp_session.specs.Calls.Answering.{WritesAnswer, WritesReply};
 
-use crate::devices::Devices;
-use crate::stops::Stop;
+use crate::asking::ask;
+use hex_devices::{Devices, Stop};
 use hex_engine::{Answer, Engine, Fail};
 use hex_io::{Link, Shelf};
 use hex_plan::Archive;
@@ -75,7 +75,7 @@ fn respond_to<L: Link, F: Shelf, A: Archive, R: Threads + Sync, G: Gate + Sync>(
     let Ok(()) = out.reserve(id.len() + BRIEF) else {
         return Err(Stop::Memory);
     };
-    let answer = match devices.ask(engine, request) {
+    let answer = match ask(devices, engine, request) {
         Err(stop) => return Err(stop),
         Ok(answer) => answer,
     };

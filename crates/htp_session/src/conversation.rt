@@ -1,14 +1,12 @@
 //! A conversation from its first byte to its end.
 
 ghost use Rattle.tree_words.specs.Settings.{AreInRange};
-ghost use Rattle.htp_session.specs.Devices.{CountsFaults};
+ghost use Rattle.hex_devices.specs.Devices.{CountsFaults};
 ghost use Rattle.htp_session.specs.Calls.Conversation.{Converses};
 
-use crate::devices::Devices;
-use crate::inputs::PIECE;
 use crate::session::Session;
-use crate::stops::Stop;
 use hex_cells::Size;
+use hex_devices::{Devices, PIECE, Stop};
 use hex_engine::Options;
 use hex_io::{Link, Shelf};
 use hex_plan::Archive;

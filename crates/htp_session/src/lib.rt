@@ -7,28 +7,23 @@
 //! stands at then, what is left to be used up, and whether it goes on, ended with an answered
 //! `quit`, or fell short of a file or a turn. Nothing of pieces, buffers or searches is in it.
 //!
-//! **A caller** makes the [`Devices`], a link, a shelf and an archive with the runtime and the gate
-//! of the searches, says the engine's options, the size of the first board and the most bytes that
-//! are answered, and learns how it ended:
+//! **A caller** makes the `Devices` of hex_devices, a link, a shelf and an archive with the runtime
+//! and the gate of the searches, says the engine's options, the size of the first board and the
+//! most bytes that are answered, and learns how it ended:
 //!
 //! ```text
 //! let outcome = converse(alloc, &mut devices, &options, size, limit);
 //! ```
 //!
-//! Beside it stand [`take_all`], the whole input of a link up to a limit, and [`answer_input`],
-//! which answers it by one text of an [`InputReader`]; and [`hand_over`], which hands a turn to an
-//! archive and gives its text, for what reads no input.
-//!
 //! **What is proved**, in the words of `specs/Endings.antt`: where the link tells it, what was
 //! given is the talk over the lines of what was taken, as far as each outcome says, with the files
 //! that came of the shelf's fetches and the turns that the archive took, each of which is good. All
 //! whole lines taken were answered before the next read, and no read that was answered follows an
-//! answered `quit`. What fails first ends it: a count of faults rose with its own [`Stop`] and is
+//! answered `quit`. What fails first ends it: a count of faults rose with its own `Stop` and is
 //! as before with every other outcome. More at the end of what a talk has to use up changes nothing
 //! of it ([`more_left_is_not_used`]); with one worker it is determined
 //! ([`one_worker_is_determined`], [`one_worker_and_one_shelf_determine`]); and the move of a good
-//! turn is legal where it is played ([`searched_moves_are_legal`]). A turn that is handed over was
-//! taken before the first byte of its text was given ([`hand_over`]).
+//! turn is legal where it is played ([`searched_moves_are_legal`]).
 //!
 //! **Only tested, or not said.** That memory suffices: it may always stop for want of memory, which
 //! no clause ties to a refused growth. That after a fault nothing is read or written. That searches
@@ -39,22 +34,13 @@
 #![tactic(auto)]
 
 mod answering;
+mod asking;
 mod conversation;
-mod devices;
-mod handing;
-mod inputs;
 mod laws;
 mod session;
-mod stops;
-mod texts;
 
 pub use conversation::converse;
-pub use devices::Devices;
-pub use handing::hand_over;
-pub use inputs::take_all;
 pub use laws::{
     more_left_is_not_used, one_worker_and_one_shelf_determine, one_worker_is_determined,
     searched_moves_are_legal,
 };
-pub use stops::Stop;
-pub use texts::{InputAnswer, InputReader, answer_input};

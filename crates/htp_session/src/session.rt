@@ -4,12 +4,11 @@ ghost use Rattle.std.specs.Prelude.{◌≡◌, ◌<◌, ◌≤◌, length, IfOk,
 ghost use Rattle.tree_words.specs.Settings.{AreInRange};
 ghost use Rattle.hex_engine.specs.EngineState.{opening};
 ghost use Rattle.hex_engine.specs.Supply.{Supply};
-ghost use Rattle.htp_session.specs.Devices.{CountsFaults};
+ghost use Rattle.hex_devices.specs.Devices.{CountsFaults};
 
 use crate::answering::respond;
-use crate::devices::Devices;
-use crate::stops::Stop;
 use hex_cells::Size;
+use hex_devices::{Devices, Stop};
 use hex_engine::{Engine, Memory, Options};
 use hex_io::{Link, Shelf};
 use hex_plan::Archive;

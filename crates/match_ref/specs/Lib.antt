@@ -3,5 +3,4 @@ pub mod Dealt
 pub mod MatchTable
 pub mod MatchWords
 pub mod MatchTexts
-pub mod Statuses
 pub mod MatchRuns

@@ -29,7 +29,6 @@
 #![tactic(auto)]
 
 mod command;
-mod ends;
 mod halves;
 mod laws;
 mod matches;
@@ -42,7 +41,6 @@ mod settings;
 mod texts;
 mod words;
 
-pub use ends::End;
 pub use laws::match_games_are_determined;
 pub use matches::play_match;
 pub use played::{Played, Steps};

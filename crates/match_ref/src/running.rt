@@ -2,18 +2,18 @@
 
 ghost use Rattle.std.specs.Prelude.{◌≡◌, ◌⊎◌};
 ghost use Rattle.hex_io.specs.Causes.{CountsFault};
+ghost use Rattle.hex_devices.specs.Statuses.{Reports, status_of};
+ghost use Rattle.hex_devices.specs.declared.ends.End.TheVariants.{Stopped};
+ghost use Rattle.hex_devices.specs.declared.stops.Stop.TheVariants.{WriteFault, Memory};
 ghost use Rattle.match_ref.specs.MatchRuns.{CompletesMatch, CountsMatchWrites, IsMatchRefusal};
-ghost use Rattle.match_ref.specs.MatchRuns.{Referees, RefereesBy};
-ghost use Rattle.match_ref.specs.MatchRuns.{ReportsEnd, LeavesLink};
+ghost use Rattle.match_ref.specs.MatchRuns.{IsMatchStatus, LeavesLink, Referees, RefereesBy};
 ghost use Rattle.match_ref.specs.MatchWords.{AskForNone, AskFor};
-ghost use Rattle.match_ref.specs.Statuses.{end_status};
-ghost use Rattle.match_ref.specs.declared.ends.End.{End};
 ghost use Rattle.match_ref.specs.declared.words.MatchWords.{MatchWords};
 
-use super::ends::End;
 use super::matches::play_match;
 use super::texts::match_text;
 use super::words::read_match_words;
+use hex_devices::{End, Stop};
 use hex_io::{Link, Word, give, report};
 use search_team::Gate;
 use std::alloc::Global;
@@ -42,15 +42,15 @@ pub fn run_match<R: Threads + Sync, L: Link, E: Link, G: Gate + Sync>(
     errors: &mut E,
     gate: &G,
 ) -> u8
-    ensures status { (end : End) × (result ≡ end_status end) }
-    ensures usage { result ≡ end_status End.Usage → AskForNone words.now }
+    ensures status { IsMatchStatus result }
+    ensures usage { result ≡ status_of End.Usage → AskForNone words.now }
     ensures refused { AskForNone words.now → IsMatchRefusal result }
     ensures untouched { AskForNone words.now → LeavesLink L.Link link.old link.new }
     ensures played { RefereesBy L.Link words.now result link.old link.new }
     ensures write_fault { CountsMatchWrites L.Link result link.old link.new }
     ensures reads { L.read_faults link.new ≡ L.read_faults link.old }
     ensures complete { CompletesMatch L.Link words.now result link.old link.new }
-    ensures errors { ReportsEnd E.Link result errors.old errors.new }
+    ensures errors { Reports E.Link result errors.old errors.new }
 {
     let end = referee(rt, alloc, words, link, gate);
     report(errors, end.line());
@@ -65,29 +65,30 @@ fn referee<R: Threads + Sync, L: Link, G: Gate + Sync>(
     link: &mut L,
     gate: &G,
 ) -> End
+    ensures status { IsMatchStatus (status_of result) }
     ensures usage { result ≡ End.Usage → AskForNone words.now }
-    ensures refused { AskForNone words.now → (result ≡ End.Usage) ⊎ (result ≡ End.Memory) }
-    ensures untouched { (result ≡ End.Usage) ⊎ (result ≡ End.Memory)
+    ensures refused { AskForNone words.now → (result ≡ End.Usage) ⊎ (result ≡ Stopped Memory) }
+    ensures untouched { (result ≡ End.Usage) ⊎ (result ≡ Stopped Memory)
         → L.told link.new ≡ L.told link.old }
     ensures played { (w : MatchWords) → AskFor words.now w
         → Referees result w (L.told link.old) (L.told link.new) }
     ensures write_fault { CountsFault (L.write_faults link.old) (L.write_faults link.new)
-        (result ≡ End.WriteFault) }
+        (result ≡ Stopped WriteFault) }
     ensures reads { L.read_faults link.new ≡ L.read_faults link.old }
 {
     let asked = match read_match_words(alloc, words) {
         Ok(Some(asked)) => asked,
         Ok(None) => return End::Usage,
-        Err(_) => return End::Memory,
+        Err(_) => return End::Stopped(Stop::Memory),
     };
     let Ok(games) = play_match(rt, alloc, &asked.setup, gate) else {
-        return End::Memory;
+        return End::Stopped(Stop::Memory);
     };
     let Ok(text) = match_text(alloc, &asked, &games) else {
-        return End::Memory;
+        return End::Stopped(Stop::Memory);
     };
     match give(link, &text) {
         Ok(()) => End::Done,
-        Err(_) => End::WriteFault,
+        Err(_) => End::Stopped(Stop::WriteFault),
     }
 }

@@ -18,6 +18,11 @@ ArePlain words = All IsUtf8 words × (¬ Contains words lone_hyphen)
 abbrev pub HasNoFault : App → List TextBytes → Type 0
 HasNoFault app words = fault_of app words ≡ []
 
+-- words that are plain, and in which clap finds no fault, are a line
+abbrev pub FaultlessIsLine : App → Form → List TextBytes → Type 0
+FaultlessIsLine app form words =
+    ArePlain words → HasNoFault app words → (said : List Saying) × IsLine form words said
+
 -- the matches that clap finds in the words, or none where it finds a fault
 abbrev pub FindsMatches : App → List TextBytes → Option ArgMatches → Type 0
 FindsMatches app words found = MatchOption found (fault_of app words ≢ [])

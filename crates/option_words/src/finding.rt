@@ -5,8 +5,8 @@ ghost use Rattle.std.specs.Bool.{OnFalse};
 ghost use Rattle.std.specs.Str.{IsUtf8};
 ghost use Rattle.clap.specs.Words.{App, app_of, kind_of};
 ghost use Rattle.option_words.specs.Command.{ReadsForm};
-ghost use Rattle.option_words.specs.Finding.{ArePlain, FindsByForm, FindsMatches, FindsWhatIsSaid};
-ghost use Rattle.option_words.specs.Finding.{HasNoFault};
+ghost use Rattle.option_words.specs.Finding.{FindsByForm, FindsMatches, FindsWhatIsSaid};
+ghost use Rattle.option_words.specs.Finding.{FaultlessIsLine, HasNoFault};
 ghost use Rattle.option_words.specs.Grammar.{Form, Saying};
 ghost use Rattle.option_words.specs.Lines.{IsLine};
 ghost use Rattle.option_words.specs.Values.{lone_hyphen};
@@ -33,8 +33,8 @@ pub fn find<'a>(command: Command<'a>, words: &'a [Word]) -> Result<Option<ArgMat
 /// Of words that are text, none of them a hyphen alone, `clap` finds no fault exactly in those that
 /// are a line, and the value that it then finds of a name is what the line says, or the default.
 pub fn clap_reads_lines(words: &[Word])
-    ensures line { (app : App) (form : Form) → ReadsForm app form → ArePlain words.now
-        → HasNoFault app words.now → (said : List Saying) × IsLine form words.now said }
+    ensures line { (app : App) (form : Form) → ReadsForm app form
+        → FaultlessIsLine app form words.now }
     ensures clear { (app : App) (form : Form) → ReadsForm app form → (said : List Saying)
         → IsLine form words.now said → HasNoFault app words.now }
     ensures values { (app : App) (form : Form) → ReadsForm app form

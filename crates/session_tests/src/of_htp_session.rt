@@ -5,10 +5,11 @@ ghost use Rattle.std.specs.Prelude.{◌≡◌, ◌^◌};
 ghost use Rattle.tree_words.specs.Settings.{AreInRange};
 
 use hex_cells::Size;
+use hex_devices::{Devices, InputAnswer, InputReader, Stop, answer_input};
 use hex_engine::Options;
 use hex_io::{MemLink, MemShelf};
 use hex_plan::NoArchive;
-use htp_session::{Devices, InputAnswer, InputReader, Stop, answer_input, converse};
+use htp_session::converse;
 use search_team::OpenGate;
 use std::alloc::{AllocError, Global};
 use std::process::Abort;

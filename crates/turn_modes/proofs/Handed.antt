@@ -2,9 +2,10 @@
 use Rattle.std.proofs.Common.{◌≡◌, ℕ, List, Option, Ok, Err, Result}
 use Rattle.hex_io.specs.Told.{Told}
 use Rattle.hex_plan.specs.Turns.{TurnData}
-use Rattle.htp_session.specs.Handing.{LinkAndArchive, HandsOver}
-use Rattle.htp_session.specs.declared.stops.Stop.{Stop}
-use Rattle.htp_session.specs.declared.stops.Stop.TheVariants.{ReadFault, WriteFault, Memory, TooLong, ArchiveFault}
+use Rattle.hex_devices.specs.Devices.{LinkAndArchive, Outcome}
+use Rattle.hex_devices.specs.Handing.{HandsOver}
+use Rattle.hex_devices.specs.declared.stops.Stop.{Stop}
+use Rattle.hex_devices.specs.declared.stops.Stop.TheVariants.{ReadFault, WriteFault, Memory, TooLong, ArchiveFault}
 use Rattle.turn_modes.specs.HandingIn.{HandsIn}
 
 pub handed : (Says : TurnData → List ℕ → Type 0) (old new : LinkAndArchive) (turn : TurnData) (text : List ℕ) (result : Result (Unit {0}) Stop) → Says turn text → HandsOver old new turn text result → HandsIn Says old new result
@@ -19,3 +20,12 @@ handed Says old new turn text (Err ArchiveFault) a h = h
 pub handed_as : (Says : TurnData → List ℕ → Type 0) (x y link link_now : Option Told) (a b turns turns_now : Option (List TurnData)) (turn : TurnData) (text : List ℕ) (result : Result (Unit {0}) Stop)
     → x ≡ link → a ≡ turns → y ≡ link_now → b ≡ turns_now → Says turn text → HandsOver (x, a) (y, b) turn text result → HandsIn Says (link, turns) (link_now, turns_now) result
 handed_as Says x y link link_now a b turns turns_now turn text result p q r s says h = rw (← p, ← q, ← r, ← s) (handed Says (x, a) (y, b) turn text result says h)
+
+-- what holds of the turn and its text holds less
+pub hands_less : (Says Less : TurnData → List ℕ → Type 0) (old new : LinkAndArchive) (outcome : Outcome) → ((turn : TurnData) (text : List ℕ) → Says turn text → Less turn text) → HandsIn Says old new outcome → HandsIn Less old new outcome
+hands_less Says Less old new (Ok done) less h = (h.0, h.1, less h.0 h.1 h.2, h.3)
+hands_less Says Less old new (Err ReadFault) less h = absurd h
+hands_less Says Less old new (Err WriteFault) less h = (h.0, h.1, less h.0 h.1 h.2, h.3)
+hands_less Says Less old new (Err Memory) less h = h
+hands_less Says Less old new (Err TooLong) less h = absurd h
+hands_less Says Less old new (Err ArchiveFault) less h = h

@@ -1,3 +1,5 @@
+-- Laws for the layers above.
+pub mod Handed
 -- Steps of this crate's own proofs.
 mod Placing
 mod Orders
@@ -6,4 +8,3 @@ mod Recorded
 mod Preferred
 mod Decided
 mod TextLaws
-mod Handed

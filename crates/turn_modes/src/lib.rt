@@ -4,7 +4,7 @@
 //! cells ([`bench_position`]). The *schedule* of sim says which simulated worker makes each step.
 //! Both are drawn from the seed. What a mode is told are its [`ModeOptions`].
 //!
-//! **A caller** calls [`simulation`] or [`benchmark`] with the devices of a session. The turn is
+//! **A caller** calls [`simulation`] or [`benchmark`] with the devices of a run. The turn is
 //! searched and its text made; then the archive takes the turn, and the link the text:
 //!
 //! ```text

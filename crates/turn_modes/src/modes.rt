@@ -2,16 +2,16 @@
 
 ghost use Rattle.std.specs.Prelude.{◌≡◌};
 ghost use Rattle.tree_words.specs.Settings.{AreInRange};
-ghost use Rattle.htp_session.specs.Devices.{CountsFaults, link_and_archive};
-ghost use Rattle.turn_modes.specs.HandingIn.{IsBenchmarked, IsScheduled, IsSimulated};
+ghost use Rattle.hex_devices.specs.Devices.{CountsFaults, link_and_archive};
+ghost use Rattle.turn_modes.specs.HandingIn.{IsBenchmarked, IsSimulated};
 
 use super::options::ModeOptions;
 use super::positions::bench_position;
 use super::searches::{benchmarked_turn, simulated_turn};
 use super::texts::{bench_text, sim_text};
+use hex_devices::{Devices, Stop, hand_over};
 use hex_io::{Link, Shelf};
 use hex_plan::Archive;
-use htp_session::{Devices, Stop, hand_over};
 use search_team::Gate;
 use std::alloc::Global;
 use std::thread::Threads;
@@ -29,8 +29,6 @@ pub fn simulation<L: Link, F: Shelf, A: Archive, R: Threads + Sync, G: Gate + Sy
 ) -> Result<(), Stop>
     requires { AreInRange options.now.knobs }
     ensures simulated { IsSimulated options.now
-        (link_and_archive devices.old) (link_and_archive devices.new) result }
-    ensures scheduled { IsScheduled options.now
         (link_and_archive devices.old) (link_and_archive devices.new) result }
     ensures reads { devices.new.read_faults ≡ devices.old.read_faults }
     ensures shelf { devices.new.shelf ≡ devices.old.shelf }

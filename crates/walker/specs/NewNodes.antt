@@ -1,11 +1,11 @@
 -- The nodes of a new block that are still to be written.
-use Rattle.std.specs.Prelude.{◌≡◌, ℕ, ◌+◌, ◌*◌, List, [], ◌∷◌, drop}
+use Rattle.std.specs.Prelude.{◌≡◌, ◌≢◌, ℕ, ◌+◌, ◌*◌, List, [], ◌∷◌, drop, Option, MatchOption}
 use Rattle.std.specs.List.{filter, range_with_len}
 use Rattle.hex_cells.specs.Sets.{has as has_cell}
 use Rattle.hex_cells.specs.declared.board_size.TheConstants.{MOST_CELLS}
 use Rattle.play_out.specs.Fills.{empties_of}
 use Rattle.tree_words.specs.declared.layout.TheConstants.{HEADER_WORDS, NODE_WORDS, LINK_WORD}
-use Rattle.walker.specs.declared.stages.Stage.TheVariants.{Publishing}
+use Rattle.walker.specs.declared.stages.Stage.TheVariants.{Publishing, Writing}
 use Rattle.walker.specs.declared.machine.Walker.{Walker}
 
 -- the first word of the next node, its place, and the cells of it and of the later ones
@@ -26,6 +26,11 @@ nodes_after d = record { at = d.at + NODE_WORDS; place = d.place + 1; cells = dr
 pub record AreNodesOf (w : Walker) (d : NewNodesData) : Type 0 where
   pub at : d.at ≡ w.start + HEADER_WORDS + NODE_WORDS * d.place
   pub cells : d.cells ≡ drop d.place (empties_of w.board)
+
+-- all nodes of the held block, exactly where the walker has written its header and none of them
+abbrev pub LendsNewNodes : Walker → Option NewNodesData → Type 0
+LendsNewNodes w nodes = MatchOption nodes (w.stage ≡ Writing → w.at ≢ w.start + HEADER_WORDS)
+    (λ d. (w.stage ≡ Writing) × (w.at ≡ d.at) × (d.place ≡ 0) × AreNodesOf w d)
 
 -- these nodes are left to write: after the last of them the link is next
 abbrev pub with_nodes_at : List ℕ → ℕ → Walker → Walker

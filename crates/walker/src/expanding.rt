@@ -1,13 +1,11 @@
 //! A new block: its claim, its words and its link.
 
-ghost use Rattle.std.specs.Prelude.{◌≡◌, ◌≢◌, ◌+◌, ◌-◌, ◌<◌, ◌≤◌, ◌^◌, length, slice_index};
-ghost use Rattle.std.specs.Prelude.{MatchOption};
+ghost use Rattle.std.specs.Prelude.{◌≡◌, ◌+◌, ◌-◌, ◌<◌, ◌≤◌, ◌^◌, length, slice_index};
 ghost use Rattle.play_out.specs.Fills.{empties_of};
 ghost use Rattle.tree_words.specs.Sequence.{size_below};
 ghost use Rattle.walker.specs.Machine.{asks_block, claimed, linked_now, own_block, state_in};
 ghost use Rattle.walker.specs.Machine.{word_of_block, written};
-ghost use Rattle.walker.specs.NewNodes.{AreNodesOf, with_nodes};
-ghost use Rattle.walker.specs.declared.stages.Stage.{Stage};
+ghost use Rattle.walker.specs.NewNodes.{LendsNewNodes, with_nodes};
 
 use super::PAST_WORDS;
 use super::machine::Walker;
@@ -124,10 +122,7 @@ impl Walker {
     /// The nodes of the held block, where the walker has written its header and none of them;
     /// `None` exactly elsewhere.
     pub fn new_nodes(&self) -> Option<NewNodes>
-        ensures { MatchOption result
-            (self.now.stage ≡ Stage.Writing → self.now.at ≢ self.now.start + HEADER_WORDS)
-            (λ nodes. (self.now.stage ≡ Stage.Writing) × (self.now.at ≡ nodes.at)
-            × (nodes.place ≡ 0) × AreNodesOf self.now nodes) }
+        ensures { LendsNewNodes self.now result }
     {
         // The size bounds the board's cells.
         let _size = self.board.size();

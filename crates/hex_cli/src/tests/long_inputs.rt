@@ -4,6 +4,7 @@ ghost use Rattle.std.specs.Prelude.{None};
 
 use super::runs::{line_of, link_over, shelf_with, words_of};
 use crate::top::run;
+use hex_devices::Devices;
 use hex_io::{Link, LinkFault};
 use hex_plan::NoArchive;
 use search_team::OpenGate;
@@ -58,16 +59,14 @@ fn check_feeds<R: Abort + Threads + Sync + Alloc<A = Global>>(
     };
     let mut errors = link_over(alloc, b"", 100, None, None)?;
     let mut shelf = shelf_with(alloc, b"", None)?;
-    let ended = run(
+    let mut devices = Devices {
+        link: &mut link,
+        shelf: &mut shelf,
+        archive: &mut NoArchive,
         rt,
-        alloc,
-        &words,
-        &mut link,
-        &mut errors,
-        &mut shelf,
-        &mut NoArchive,
-        &OpenGate,
-    );
+        gate: &OpenGate,
+    };
+    let ended = run(alloc, &words, &mut devices, &mut errors);
     assert_eq!(rt; ended, status, "{mode}, {length}");
     assert_eq!(rt; errors.given(), line_of(status), "{mode}, {length}");
     assert_eq!(rt; link.ends, ends, "{mode}, {length}");

@@ -1,6 +1,7 @@
 //! A run over devices in memory, and tables of runs.
 
 use crate::top::run;
+use hex_devices::Devices;
 use hex_io::{Bytes, File, MemLink, MemShelf, Word};
 use hex_plan::MemArchive;
 use search_team::{Gate, OpenGate};
@@ -119,16 +120,14 @@ pub(super) fn run_at<R: Threads + Sync + Alloc<A = Global>, G: Gate + Sync>(
     let mut errors = link_over(alloc, b"", 3, None, case.bad_error)?;
     let mut shelf = shelf_with(alloc, case.file, case.bad_fetch)?;
     let mut archive = MemArchive::make(alloc, case.room)?;
-    let status = run(
+    let mut devices = Devices {
+        link: &mut link,
+        shelf: &mut shelf,
+        archive: &mut archive,
         rt,
-        alloc,
-        &words,
-        &mut link,
-        &mut errors,
-        &mut shelf,
-        &mut archive,
         gate,
-    );
+    };
+    let status = run(alloc, &words, &mut devices, &mut errors);
     Ok(RunResult {
         status,
         link,

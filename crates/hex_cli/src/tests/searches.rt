@@ -29,6 +29,8 @@ one-turn|htp --hsearch off --playouts 1|boardsize 2~genmove b~search-report~must
     ? no certificate~~= ~~? game over~~= playouts 1~a1 1 0~b1 0 0~a2 0 0~b2 0 0~~
 sim-one|sim --size 1 --workers 3 --playouts 10 --steps 100||0|best a1~playouts 10~a1 10 10~
 sim-4|sim --size 2 --playouts 4||0|best a1~playouts 4~a1 1 0~b1 1 1~a2 1 1~b2 1 1~
+sim-by-3|sim --size 2 --workers 3 --playouts 20 --steps 100||0|\
+    best a2~playouts 20~a1 4 2~b1 6 5~a2 7 6~b2 3 2~
 sim-100|sim --size 2 --playouts 100||0|best a2~playouts 100~a1 14 7~b1 32 20~a2 48 35~b2 6 1~
 bench-one|bench --size 1 --playouts 5||0|size 1~stones 0~playouts 5~records 5~best a1 5~
 bench-by-4|bench --size 2 --playouts 8 --workers 4||0|size 2~stones 1~playouts 8~records 8~

@@ -7,10 +7,10 @@ use Rattle.hex_engine.specs.EngineState.{EngineState}
 use Rattle.hex_engine.specs.Supply.{Supply}
 use Rattle.htp_session.specs.Talk.{TalkState, after_line, after_reading}
 use Rattle.htp_session.specs.Usage.{AnswersWith, Wants, UsesUpNothing}
-use Rattle.htp_session.specs.Devices.{DevicesState, shelf_and_archive}
-use Rattle.htp_session.specs.declared.stops.Stop.{Stop}
-use Rattle.htp_session.specs.declared.stops.Stop.TheVariants.{ReadFault, WriteFault, Memory}
-use Rattle.htp_session.specs.declared.stops.Stop.TheVariants.{TooLong, ArchiveFault}
+use Rattle.hex_devices.specs.Devices.{DevicesState, shelf_and_archive}
+use Rattle.hex_devices.specs.declared.stops.Stop.{Stop}
+use Rattle.hex_devices.specs.declared.stops.Stop.TheVariants.{ReadFault, WriteFault, Memory}
+use Rattle.hex_devices.specs.declared.stops.Stop.TheVariants.{TooLong, ArchiveFault}
 
 -- what is to be written grew by what this says, after which the engine stands so; or nothing was
 -- used up, and memory or a turn was wanted

@@ -1,8 +1,9 @@
 -- What a conversation does, from its first byte to its end.
 use Rattle.std.specs.Prelude.{ℕ}
 use Rattle.hex_engine.specs.declared.options.Options.{Options}
-use Rattle.htp_session.specs.Devices.{DevicesState, shelf_and_archive}
-use Rattle.htp_session.specs.Endings.{Outcome, ConversedInGoodTurns}
+use Rattle.hex_devices.specs.Devices.{DevicesState, shelf_and_archive}
+use Rattle.htp_session.specs.Endings.{ConversedInGoodTurns}
+use Rattle.hex_devices.specs.Devices.{Outcome}
 
 -- a conversation with these options, from an empty board of that size, came to this outcome, and
 -- each turn that it used up is good

@@ -5,12 +5,12 @@ use Rattle.hex_io.specs.Told.{Same}
 use Rattle.htp_session.specs.Sessions.{Does, DoesSome, Advanced, StopsBefore, AnswersShort, Fed}
 use Rattle.htp_session.specs.Sessions.{BrokeOff, GaveUp, HeldBack, AnswersLast, StopsBeforeLast}
 use Rattle.htp_session.specs.Sessions.{LastIsShort, AnsweredLast, BrokeOffLast}
-use Rattle.htp_session.specs.Devices.{DevicesState, shelf_and_archive}
+use Rattle.hex_devices.specs.Devices.{DevicesState, shelf_and_archive}
 use Rattle.htp_session.specs.declared.session.Moved.{Moved}
 use Rattle.htp_session.specs.declared.session.Session.{Session}
-use Rattle.htp_session.specs.declared.stops.Stop.{Stop}
-use Rattle.htp_session.specs.declared.stops.Stop.TheVariants.{ReadFault, WriteFault, Memory}
-use Rattle.htp_session.specs.declared.stops.Stop.TheVariants.{TooLong, ArchiveFault}
+use Rattle.hex_devices.specs.declared.stops.Stop.{Stop}
+use Rattle.hex_devices.specs.declared.stops.Stop.TheVariants.{ReadFault, WriteFault, Memory}
+use Rattle.hex_devices.specs.declared.stops.Stop.TheVariants.{TooLong, ArchiveFault}
 
 -- up to one line more of a piece was taken, and what is to be written answers it; or a line more
 -- stood there, and memory or a turn was wanted for it

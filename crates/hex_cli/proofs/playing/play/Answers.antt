@@ -1,9 +1,9 @@
 -- What the conversation left is what its run left.
 use Rattle.std.proofs.Common.{subst, sym, ◌∙◌, ap}
-use Rattle.htp_session.specs.Devices.{CountsStop}
+use Rattle.hex_devices.specs.Devices.{CountsStop}
 use Rattle.htp_session.proofs.Conversations.{conversed_same}
 use Rattle.hex_cli.specs.Modes.{engine_options}
-use Rattle.hex_cli.specs.Statuses.{stop_in}
+use Rattle.hex_devices.specs.Statuses.{stop_in}
 use Rattle.hex_cli.specs.declared.limits.TheConstants.{INPUT_LIMIT}
 use Rattle.hex_cli.proofs.RunLaws.{stop_in_end}
 use Rattle.hex_cli.proofs.playing.play.Goals as goal

@@ -1,12 +1,12 @@
 -- Words that made options are well formed, and what was done for these options was done for them.
 use Rattle.std.proofs.Common.{◌≡◌, Some, subst}
 use Rattle.hexd_words.specs.declared.settings.Options.{Options}
-use Rattle.hex_cli.specs.Served.{ServesIn, StandsIdleIn, told_of}
+use Rattle.hex_cli.specs.Served.{ServesIn, StandsIdleIn}
 use Rattle.hex_cli.proofs.Doings.{does_no_usage, does_nothing, idle_self}
 use Rattle.hex_cli.proofs.serving.serve.Goals as goal
 
 pub returns-in-Err-clause-does : goal.returns-in-Err-clause-does
-returns-in-Err-clause-does g c = λ options well_formed. does_nothing options.mode options (told_of c.args.devices.now)
+returns-in-Err-clause-does g c = λ options well_formed. does_nothing options.mode options c.args.devices.now
 
 pub returns-in-Err-clause-idle : goal.returns-in-Err-clause-idle
 returns-in-Err-clause-idle g c = λ options well_formed. idle_self options.mode c.args.devices.now
@@ -40,7 +40,7 @@ pub returns-clause-does : goal.returns-clause-does
 returns-clause-does g c = λ options well_formed.
     let made : c.in-Ok-Some.field-0 ≡ Some options = (c.in-Ok-Some.ensures.exact options).1 well_formed in
     let same : c.in-Ok-Some.options ≡ options = cc in
-    subst (λ (o : Options). ServesIn o.mode o c.in_mode.result (told_of c.args.devices.now) (told_of c.in_mode.new.devices)) same c.in_mode.ensures.does
+    subst (λ (o : Options). ServesIn o.mode o c.in_mode.result c.args.devices.now c.in_mode.new.devices) same c.in_mode.ensures.does
 
 pub returns-clause-idle : goal.returns-clause-idle
 returns-clause-idle g c = λ options well_formed.

@@ -1,7 +1,7 @@
 -- What stands at each end, and after one piece more.
 use Rattle.std.proofs.Common.{◌≡◌, ◌≤◌, ◌+◌, [], ◌++◌, length, take, refl, arith, ◌∙◌}
 use Rattle.hex_engine.specs.EngineState.{opening}
-use Rattle.htp_session.specs.Devices.{shelf_and_archive}
+use Rattle.hex_devices.specs.Devices.{shelf_and_archive}
 use Rattle.htp_session.proofs.Pieces.{length-front}
 use Rattle.htp_session.proofs.Calling.{counts_nothing, counts_then}
 use Rattle.htp_session.proofs.Conversations.{goes_nothing, goes_on_feeding, conversed_nothing}

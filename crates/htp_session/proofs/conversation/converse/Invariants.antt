@@ -1,5 +1,5 @@
 use Rattle.std.proofs.Common.{◌≤◌, ◌-◌, None}
-use Rattle.htp_session.specs.Devices.{CountsStop}
+use Rattle.hex_devices.specs.Devices.{CountsStop}
 use Rattle.htp_session.proofs.ReadLaws.{GoesOnAfter}
 use Rattle.htp_session.proofs.conversation.converse.Given as goal
 

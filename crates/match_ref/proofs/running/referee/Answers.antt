@@ -1,10 +1,9 @@
-use Rattle.std.proofs.Common.{◌≡◌, ◌∙◌, List, Some, All, sym, ap, subst}
+use Rattle.std.proofs.Common.{◌≡◌, ◌∙◌, List, All, sym, ap, subst}
 use Rattle.hex_io.specs.Grew.{Gave, GaveProperPart}
 use Rattle.hex_board.specs.Positions.{empty_board}
 use Rattle.hex_game.specs.Games.{AreLegal}
 use Rattle.match_ref.specs.Dealt.{AreGamesOf}
 use Rattle.match_ref.specs.MatchTexts.{match_text}
-use Rattle.match_ref.specs.MatchWords.{AskFor}
 use Rattle.match_ref.specs.declared.played.Played.{Played}
 use Rattle.match_ref.specs.declared.words.MatchWords.{MatchWords}
 use Rattle.match_ref.proofs.Legal.{all_legal}

@@ -8,10 +8,5 @@ pub returns-clause-simulated : goal.returns-clause-simulated
 returns-clause-simulated g c =
     let o = c.args.options.now in
     let says = simulation_says o c.in-Ok.turn c.deref.result.now c.in-Ok-sim_text.text.items c.in-Ok.ensures.turn c.deref.ensures.value c.in-Ok-sim_text.ensures in
-    handed_as (IsSimulation o) (g.L.Link.told c.devices.inside.link.now) (g.L.Link.told c.hand_over.new.link) _ _ (g.A.Archive.told c.devices.inside.archive.now) (g.A.Archive.told c.hand_over.new.archive) _ _
-    c.in-Ok.turn c.deref.result.now c.hand_over.result (search rules) (search rules) (search rules) (search rules) says c.hand_over.ensures.hands
-
-pub returns-clause-scheduled : goal.returns-clause-scheduled
-returns-clause-scheduled g c =
-    handed_as (λ turn text. FollowsSchedule c.args.options.now turn) (g.L.Link.told c.devices.inside.link.now) (g.L.Link.told c.hand_over.new.link) _ _ (g.A.Archive.told c.devices.inside.archive.now) (g.A.Archive.told c.hand_over.new.archive) _ _
-    c.in-Ok.turn c.deref.result.now c.hand_over.result (search rules) (search rules) (search rules) (search rules) c.in-Ok.ensures.scheduled c.hand_over.ensures.hands
+    handed_as (λ turn text. IsSimulation o turn text × FollowsSchedule o turn) (g.L.Link.told c.devices.inside.link.now) (g.L.Link.told c.hand_over.new.link) _ _ (g.A.Archive.told c.devices.inside.archive.now) (g.A.Archive.told c.hand_over.new.archive) _ _
+    c.in-Ok.turn c.deref.result.now c.hand_over.result (search rules) (search rules) (search rules) (search rules) (says, c.in-Ok.ensures.scheduled) c.hand_over.ensures.hands

@@ -1,7 +1,7 @@
 -- What stands after one line more.
 use Rattle.std.proofs.Common.{◌≡◌, Err, take, subst, arith}
 use Rattle.std.proofs.lemmas.Grind.{common_steps}
-use Rattle.htp_session.specs.Calls.Devices.{GivesAll}
+use Rattle.hex_devices.specs.Calls.{GivesAll}
 use Rattle.htp_session.proofs.Feeding.{fed_nothing, fed_all, fed_on, fed_quit}
 use Rattle.htp_session.proofs.Calling.{counts_nothing, counts_then, fed_stopped, fed_unwritten}
 use Rattle.htp_session.proofs.session.Session.feed.Goals as goal

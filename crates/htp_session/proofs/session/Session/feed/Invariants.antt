@@ -1,6 +1,6 @@
 use Rattle.std.proofs.Common.{◌≤◌, ◌-◌, [], None, length, take}
 use Rattle.htp_session.specs.Sessions.{Does}
-use Rattle.htp_session.specs.Devices.{shelf_and_archive, CountsStop}
+use Rattle.hex_devices.specs.Devices.{shelf_and_archive, CountsStop}
 use Rattle.htp_session.proofs.Feeding.{FedTo}
 use Rattle.htp_session.proofs.session.Session.feed.Given as goal
 

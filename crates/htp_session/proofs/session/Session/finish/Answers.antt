@@ -1,6 +1,6 @@
 -- What answers the last line was given.
 use Rattle.std.proofs.Common.{subst}
-use Rattle.htp_session.specs.Calls.Devices.{GivesAll}
+use Rattle.hex_devices.specs.Calls.{GivesAll}
 use Rattle.htp_session.proofs.Calling.{end_stopped, end_given}
 use Rattle.htp_session.proofs.session.Session.finish.Goals as goal
 

@@ -1,13 +1,11 @@
--- What the devices of a conversation tell, and what a call did to their counts of faults.
+-- What the devices of a run tell, and what a call did to their counts of faults.
 use Rattle.std.specs.Prelude.{◌≡◌, ℕ, List, Option, Some, None, Result, Ok, Err}
 use Rattle.hex_io.specs.Told.{Told}
 use Rattle.hex_io.specs.Shelves.{Shelved}
 use Rattle.hex_io.specs.Causes.{CountsFault}
 use Rattle.hex_plan.specs.Turns.{TurnData}
-use Rattle.htp_session.specs.Handing.{LinkAndArchive}
-use Rattle.htp_session.specs.Usage.{ShelfAndArchive}
-use Rattle.htp_session.specs.declared.stops.Stop.{Stop}
-use Rattle.htp_session.specs.declared.stops.Stop.TheVariants.{ReadFault, WriteFault, ArchiveFault}
+use Rattle.hex_devices.specs.declared.stops.Stop.{Stop}
+use Rattle.hex_devices.specs.declared.stops.Stop.TheVariants.{ReadFault, WriteFault, ArchiveFault}
 
 -- What a link, a shelf and an archive tell, where they do, and their counts of faults. The names
 -- are those of the three references, and stand still.
@@ -21,6 +19,14 @@ pub record DevicesState : Type 0 where
   pub archive_faults : ℕ
   pub names : ℕ × ℕ × ℕ
 
+-- what a shelf and an archive tell, where they do
+abbrev pub ShelfAndArchive : Type 0
+ShelfAndArchive = Option Shelved × Option (List TurnData)
+
+-- what a link and an archive tell, where they do
+abbrev pub LinkAndArchive : Type 0
+LinkAndArchive = Option Told × Option (List TurnData)
+
 -- what the shelf and the archive tell
 abbrev pub shelf_and_archive : DevicesState → ShelfAndArchive
 shelf_and_archive devices = (devices.shelf, devices.turns)
@@ -28,6 +34,10 @@ shelf_and_archive devices = (devices.shelf, devices.turns)
 -- what the link and the archive tell
 abbrev pub link_and_archive : DevicesState → LinkAndArchive
 link_and_archive devices = (devices.link, devices.turns)
+
+-- how what gives nothing back ended: it came to its end, or stopped for a reason
+abbrev pub Outcome : Type 0
+Outcome = Result (Unit {0}) Stop
 
 -- why a call stopped, if it did
 abbrev pub stop_of : {T : Type 0} → Result T Stop → Option Stop

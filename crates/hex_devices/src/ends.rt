@@ -1,9 +1,9 @@
 //! How a run ends: its status, and the line that it gives to the errors.
 
 ghost use Rattle.std.specs.Prelude.{◌≡◌};
-ghost use Rattle.hex_cli.specs.Statuses.{end_for, end_of_answer, status_of, error_line};
+ghost use Rattle.hex_devices.specs.Statuses.{end_for, end_of_answer, status_of, error_line};
 
-use htp_session::Stop;
+use crate::stops::Stop;
 
 /// How a run ended.
 #[derive(Clone, Copy, Debug, PartialEq, Eq)]

@@ -3,8 +3,8 @@
 ghost use Rattle.std.specs.Prelude.{◌≡◌, ◌<◌, ◌≤◌, length, IfOk};
 ghost use Rattle.hex_io.specs.Told.{ReadsBytes};
 ghost use Rattle.hex_io.specs.Causes.{HasCause};
-ghost use Rattle.htp_session.specs.Devices.{RisesWith};
-ghost use Rattle.htp_session.specs.Inputs.{TakesAll};
+ghost use Rattle.hex_devices.specs.Devices.{RisesWith};
+ghost use Rattle.hex_devices.specs.Inputs.{TakesAll};
 
 use crate::stops::Stop;
 use hex_io::{Link, LinkFault};

@@ -1,11 +1,11 @@
 -- What was taken, over one read after another.
-use Rattle.std.proofs.Common.{◌≡◌, ◌≤◌, ◌+◌, ℕ, List, [], ◌++◌, length, take, Option, refl, ap, sym, ◌∙◌, subst, append-nil, append_assoc}
+use Rattle.std.proofs.Common.{◌≡◌, ◌≤◌, ℕ, List, [], ◌++◌, length, take, Option, refl, ap, sym, ◌∙◌, subst, append-nil, append_assoc}
 use Rattle.hex_io.specs.Told.{Told, Both, TakesBytes, Same}
 use Rattle.hex_io.proofs.BothLaws.{Both-then, Both-weaker, Both-refl}
 use Rattle.std.specs.Prelude.{Err}
-use Rattle.htp_session.specs.Inputs.{TookBytes, TookAtMost, TakesAll, TextOf, AnswersInput}
-use Rattle.htp_session.specs.declared.stops.Stop.{Stop}
-use Rattle.htp_session.specs.declared.stops.Stop.TheVariants.{ReadFault, WriteFault, Memory, TooLong, ArchiveFault}
+use Rattle.hex_devices.specs.Inputs.{TookBytes, TookAtMost, TakesAll, TextOf, AnswersInput}
+use Rattle.hex_devices.specs.declared.stops.Stop.{Stop}
+use Rattle.hex_devices.specs.declared.stops.Stop.TheVariants.{ReadFault, WriteFault, Memory, TooLong, ArchiveFault}
 
 pub took_nothing : (a : Option Told) (xs : List ℕ) → xs ≡ [] → Both a a (TookBytes xs)
 took_nothing a xs none = rw none (Both-refl a (TookBytes []) (λ o. record { moved = refl; taken = sym (append-nil o.taken); given = refl }))

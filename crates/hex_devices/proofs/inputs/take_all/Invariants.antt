@@ -1,7 +1,7 @@
 use Rattle.std.proofs.Common.{◌≡◌, ◌≤◌, ◌-◌, length}
 use Rattle.hex_io.specs.Told.{Both}
-use Rattle.htp_session.specs.Inputs.{TookBytes}
-use Rattle.htp_session.proofs.inputs.take_all.Given as goal
+use Rattle.hex_devices.specs.Inputs.{TookBytes}
+use Rattle.hex_devices.proofs.inputs.take_all.Given as goal
 
 -- what was taken so far is kept, and no fault was counted
 abbrev pub invariant-pieces : goal.invariant-pieces

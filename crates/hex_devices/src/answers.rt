@@ -1,8 +1,8 @@
 //! Answers the whole input of a link by one text.
 
 ghost use Rattle.std.specs.Prelude.{◌≤◌, ℕ, Bool, List, IfOk, length};
-ghost use Rattle.htp_session.specs.Devices.{RisesWith};
-ghost use Rattle.htp_session.specs.Inputs.{AnswersInput};
+ghost use Rattle.hex_devices.specs.Devices.{RisesWith};
+ghost use Rattle.hex_devices.specs.Inputs.{AnswersInput};
 
 use crate::inputs::take_all;
 use crate::stops::Stop;

@@ -1,6 +1,6 @@
-//! Why a conversation stops before its end.
+//! Why a run stops before its end.
 
-/// Why a conversation stops before its end.
+/// Why a run stops before its end.
 #[derive(Clone, Copy, Debug, PartialEq, Eq)]
 pub enum Stop {
     /// A read failed.

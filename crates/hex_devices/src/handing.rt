@@ -1,8 +1,8 @@
 //! Hands a turn to an archive, and gives its text to a link.
 
 ghost use Rattle.std.specs.Prelude.{◌≡◌};
-ghost use Rattle.htp_session.specs.Devices.{RisesWith};
-ghost use Rattle.htp_session.specs.Handing.{HandsOver};
+ghost use Rattle.hex_devices.specs.Devices.{RisesWith};
+ghost use Rattle.hex_devices.specs.Handing.{HandsOver};
 
 use crate::stops::Stop;
 use hex_io::{Link, give};

@@ -1,12 +1,14 @@
 -- How a run ends: its status, and the line that it gives to the errors.
 use Rattle.std.specs.Prelude.{◌≡◌, Bool, true, false, ℕ, List, [], Result, Ok, Err, codes}
 use Rattle.std.specs.Prelude.{Option, Some, None}
-use Rattle.htp_session.specs.Endings.{Outcome}
-use Rattle.htp_session.specs.declared.stops.Stop.{Stop}
-use Rattle.htp_session.specs.declared.stops.Stop.TheVariants.{ReadFault, WriteFault, Memory}
-use Rattle.htp_session.specs.declared.stops.Stop.TheVariants.{TooLong, ArchiveFault}
-use Rattle.hex_cli.specs.declared.ends.End.{End}
-use Rattle.hex_cli.specs.declared.ends.End.TheVariants.{Done, Rejected, Usage, Stopped}
+use Rattle.hex_io.specs.Reported.{Reported}
+use Rattle.hex_io.specs.declared.links.Link as links
+use Rattle.hex_devices.specs.Devices.{Outcome}
+use Rattle.hex_devices.specs.declared.stops.Stop.{Stop}
+use Rattle.hex_devices.specs.declared.stops.Stop.TheVariants.{ReadFault, WriteFault, Memory}
+use Rattle.hex_devices.specs.declared.stops.Stop.TheVariants.{TooLong, ArchiveFault}
+use Rattle.hex_devices.specs.declared.ends.End.{End}
+use Rattle.hex_devices.specs.declared.ends.End.TheVariants.{Done, Rejected, Usage, Stopped}
 
 -- how a run ends whose session ended so
 abbrev pub end_for : Outcome → End
@@ -51,3 +53,8 @@ error_line (Stopped WriteFault) = []
 error_line (Stopped Memory) = codes "hexd: out of memory\n"
 error_line (Stopped TooLong) = codes "hexd: input too long\n"
 error_line (Stopped ArchiveFault) = codes "hexd: archive fault\n"
+
+-- the errors were given the line of the status, or a front of it where a write failed
+abbrev pub Reports : {E : Type 0} → links.Ghosts E → ℕ → E → E → Type 0
+Reports e status old new = (end : End) → status ≡ status_of end
+    → Reported (e.told old) (e.told new) (e.write_faults old) (e.write_faults new) (error_line end)

@@ -1,8 +1,8 @@
 -- What was taken, and at what it ended.
 use Rattle.std.proofs.Common.{ℕ, List, refl, arith, rules, subst}
 use Rattle.hex_io.specs.Told.{Both, TakesBytes}
-use Rattle.htp_session.proofs.InputLaws.{took_nothing, took_all, took_before}
-use Rattle.htp_session.proofs.inputs.take_all.Goals as goal
+use Rattle.hex_devices.proofs.InputLaws.{took_nothing, took_all, took_before}
+use Rattle.hex_devices.proofs.inputs.take_all.Goals as goal
 
 pub pieces-init : goal.pieces-init
 pieces-init g c = record { in_limit = grind arith; took = took_nothing _ _ (search rules); reads = refl; writes = refl }

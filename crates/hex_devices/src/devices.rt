@@ -1,20 +1,18 @@
-//! The devices of a conversation: a link, a shelf and an archive, a runtime and a gate.
+//! The devices of a run: a link, a shelf and an archive, a runtime and a gate.
 
 ghost use Rattle.std.specs.Prelude.{◌≡◌, ◌<◌, ◌≤◌, length, IfOk};
-ghost use Rattle.htp_session.specs.Devices.{CountsFaults, shelf_and_archive};
-ghost use Rattle.htp_session.specs.Calls.Devices.{ReadsSome, GivesAll, Asks};
+ghost use Rattle.hex_devices.specs.Devices.{CountsFaults, shelf_and_archive};
+ghost use Rattle.hex_devices.specs.Calls.{ReadsSome, GivesAll};
 
 use crate::inputs::read_some;
 use crate::stops::Stop;
-use hex_engine::{Answer, Engine, EngineError};
 use hex_io::{Link, Shelf, give};
 use hex_plan::Archive;
-use htp_line::Request;
 use search_team::Gate;
 use std::marker::Model;
 use std::thread::Threads;
 
-/// What a conversation is held over.
+/// What a run is made over.
 ///
 /// Contracts see what the first three tell, where they do, and their counts of faults. No clause
 /// depends on the runtime or the gate.
@@ -44,7 +42,7 @@ pub struct Devices<
 
 impl<'a, 'b, 'c, 'd, L: Link, F: Shelf, A: Archive, R: Threads + Sync, G: Gate + Sync> Model
     for Devices<'a, 'b, 'c, 'd, L, F, A, R, G> {
-    ghost use Rattle.htp_session.specs.Devices.{DevicesState};
+    ghost use Rattle.hex_devices.specs.Devices.{DevicesState};
 
     ghost Value = { DevicesState };
 
@@ -95,25 +93,6 @@ impl<L: Link, F: Shelf, A: Archive, R: Threads + Sync, G: Gate + Sync> Devices<
         match give(&mut *self.link, bytes) {
             Err(_) => Err(Stop::WriteFault),
             Ok(()) => Ok(()),
-        }
-    }
-
-    /// Asks the engine for its answer to a request.
-    pub fn ask(&mut self, engine: &mut Engine, request: &Request) -> Result<Answer, Stop>
-        ensures asks { Asks self.old self.new engine.old engine.new request.now result }
-        ensures link { self.new.link ≡ self.old.link }
-        ensures counts { CountsFaults self.old self.new result }
-    {
-        match engine.line(
-            self.rt,
-            request,
-            &mut *self.shelf,
-            &mut *self.archive,
-            self.gate,
-        ) {
-            Err(EngineError::Memory) => Err(Stop::Memory),
-            Err(EngineError::Archive) => Err(Stop::ArchiveFault),
-            Ok(answer) => Ok(answer),
         }
     }
 }

@@ -1,0 +1,3 @@
+-- Laws for the layers above.
+pub mod InputLaws
+pub mod StatusLaws

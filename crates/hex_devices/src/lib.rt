@@ -1,0 +1,44 @@
+//! What a run has to do with: its devices, why it stops, and how it ends.
+//!
+//! **What it is.** The [`Devices`] of a run are a link, a shelf and an archive, with the runtime
+//! and the gate of its searches. A *stop* is why it comes to no end of its own ([`Stop`]), and its
+//! [`End`] is what a status and the line for the errors tell. What is done with the devices without
+//! a session stands here too: the whole input of a link is taken and answered by one text, and a
+//! turn is handed to an archive and its text given.
+//!
+//! **A caller** makes the devices, hands them on, and tells how it ended:
+//!
+//! ```text
+//! let input = take_all(alloc, &mut link, limit)?;
+//! let answer = answer_input(alloc, &mut link, &reader, limit);
+//! let outcome = hand_over(&mut link, &mut archive, turn, &text);
+//! let status = End::of(outcome).status();
+//! ```
+//!
+//! **What is proved.** [`take_all`] takes all that is to come, up to a limit, in the words of
+//! specs/Inputs.antt. [`answer_input`] gives the text by which an [`InputReader`] answers it. A
+//! turn that is handed over was taken before the first byte of its text was given ([`hand_over`],
+//! specs/Handing.antt). At a write fault a front of its text was given that is not all of it, and
+//! with every other stop nothing (specs/Giving.antt). A count of faults rose with its own [`Stop`]
+//! and is as before with every other outcome (specs/Devices.antt). No two ends have one status
+//! (specs/Statuses.antt).
+//!
+//! **Only tested, or not said.** That memory suffices. That after a fault nothing is read or
+//! written.
+//!
+//! **Limits.** None of its own: each caller says the most bytes of an input.
+#![tactic(auto)]
+
+mod answers;
+mod devices;
+mod ends;
+mod handing;
+mod inputs;
+mod stops;
+
+pub use answers::{InputAnswer, InputReader, answer_input};
+pub use devices::Devices;
+pub use ends::End;
+pub use handing::hand_over;
+pub use inputs::{PIECE, take_all};
+pub use stops::Stop;
