@@ -1,6 +1,6 @@
 # Completion of hexd's words for bash: one mode, and each option once. A number is the user's own.
 _hexd() {
-    local modes='htp check migrate audit sim bench'
+    local modes='htp check migrate audit sim bench solve'
     local options=' --size --workers --playouts --seed --words --expand --weight --hsearch --steps --budget --trace '
     local at word name=${COMP_WORDS[COMP_CWORD-1]}
     # bash cuts `--name=value` in three at the sign.

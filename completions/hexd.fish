@@ -1,5 +1,5 @@
 # Completion of hexd's words for fish: one mode, and each option. A number is the user's own.
-set -l modes htp check migrate audit sim bench
+set -l modes htp check migrate audit sim bench solve
 complete -c hexd -f
 complete -c hexd -n "not __fish_seen_subcommand_from $modes" -a htp -d 'Play a session of the Hex Text Protocol'
 complete -c hexd -n "not __fish_seen_subcommand_from $modes" -a check -d 'Check a certificate'
@@ -7,6 +7,7 @@ complete -c hexd -n "not __fish_seen_subcommand_from $modes" -a migrate -d 'Writ
 complete -c hexd -n "not __fish_seen_subcommand_from $modes" -a audit -d 'Audit traces of trees'
 complete -c hexd -n "not __fish_seen_subcommand_from $modes" -a sim -d 'Search by workers that step in turn'
 complete -c hexd -n "not __fish_seen_subcommand_from $modes" -a bench -d 'Search a position of its own'
+complete -c hexd -n "not __fish_seen_subcommand_from $modes" -a solve -d 'Tell who wins the position of a record'
 complete -c hexd -l size -x -d 'Cells on a side of the board: 1 to 11'
 complete -c hexd -l workers -x -d 'Workers that search one tree: 1 to 64'
 complete -c hexd -l playouts -x -d 'Playouts of a search: 1 to 1,000,000'
@@ -16,5 +17,5 @@ complete -c hexd -l expand -x -d 'Visits from which on a node gets children: 1 t
 complete -c hexd -l weight -x -d 'How much few visits count in a score: 0 to 1,024'
 complete -c hexd -l hsearch -x -a 'on off' -d 'Whether a genmove looks for connections first: on or off'
 complete -c hexd -l steps -x -d 'Steps of the schedule that sim draws: 0 to 1,000,000'
-complete -c hexd -l budget -x -d 'Has no effect: 1 to 18,446,744,073,709,551,615'
+complete -c hexd -l budget -x -d 'Positions that the solver may enter: 1 to 18,446,744,073,709,551,615'
 complete -c hexd -l trace -r -F -d 'File to which searches add their trees: a text of at least one byte'

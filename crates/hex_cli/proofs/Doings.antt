@@ -12,8 +12,9 @@ use Rattle.hex_devices.specs.Inputs.{TextOf}
 use Rattle.hex_devices.specs.declared.stops.Stop.TheVariants.{ReadFault, WriteFault, ArchiveFault, Memory}
 use Rattle.hexd_words.specs.declared.settings.Options.{Options}
 use Rattle.hexd_words.specs.declared.settings.Mode.{Mode}
-use Rattle.hexd_words.specs.declared.settings.Mode.TheVariants.{Htp, Check, Migrate, Audit, Sim, Bench}
+use Rattle.hexd_words.specs.declared.settings.Mode.TheVariants.{Htp, Check, Migrate, Audit, Sim, Bench, Solve}
 use Rattle.hex_cli.specs.AuditTexts.{IsAuditText}
+use Rattle.hex_cli.specs.SolveTexts.{IsSolveText}
 use Rattle.hex_cli.specs.CertTexts.{IsCheckText, IsMigrateText}
 use Rattle.hex_cli.specs.Modes.{AnswersBy, HandsInBy, engine_options, mode_options}
 use Rattle.hex_cli.specs.Playing.{HasGoodTurns}
@@ -39,6 +40,7 @@ does_no_usage Migrate options end old new d e = input_no_usage d.0 (sym d.1 ∙ 
 does_no_usage Audit options end old new d e = input_no_usage d.0 (sym d.1 ∙ e)
 does_no_usage Sim options end old new d e = outcome_no_usage d.0 (sym d.1 ∙ e)
 does_no_usage Bench options end old new d e = outcome_no_usage d.0 (sym d.1 ∙ e)
+does_no_usage Solve options end old new d e = input_no_usage d.0 (sym d.1 ∙ e)
 
 -- ---- the input is too long exactly where one byte more than the limit was taken
 
@@ -61,6 +63,7 @@ does_too_long Migrate options end old new d = answers_too_long IsMigrateText end
 does_too_long Audit options end old new d = answers_too_long IsAuditText end old new d
 does_too_long Sim options end old new d = hands_too_long IsSimulation options end old new d
 does_too_long Bench options end old new d = hands_too_long IsBenchmark options end old new d
+does_too_long Solve options end old new d = answers_too_long (IsSolveText options.hsearch options.budget) end old new d
 
 -- ---- without a fault and within the limit the run is done, its input is rejected, or memory ran out
 
@@ -91,6 +94,7 @@ does_complete Migrate options end old new d f = answers_complete IsMigrateText e
 does_complete Audit options end old new d f = answers_complete IsAuditText end old new d f
 does_complete Sim options end old new d f = hands_complete IsSimulation options end old new d f
 does_complete Bench options end old new d f = hands_complete IsBenchmark options end old new d f
+does_complete Solve options end old new d f = answers_complete (IsSolveText options.hsearch options.budget) end old new d f
 
 -- ---- before anything was done nothing changed
 
@@ -116,6 +120,7 @@ does_nothing Migrate options at = answers_nothing IsMigrateText at
 does_nothing Audit options at = answers_nothing IsAuditText at
 does_nothing Sim options at = hands_nothing IsSimulation options at
 does_nothing Bench options at = hands_nothing IsBenchmark options at
+does_nothing Solve options at = answers_nothing (IsSolveText options.hsearch options.budget) at
 
 -- ---- what stands idle
 
@@ -132,6 +137,7 @@ idle_self Migrate at = (unfetched_self at, unarchived_self at)
 idle_self Audit at = (unfetched_self at, unarchived_self at)
 idle_self Sim at = unfetched_self at
 idle_self Bench at = unfetched_self at
+idle_self Solve at = (unfetched_self at, unarchived_self at)
 
 pub idle_unfetched : (mode : Mode) (old new : DevicesState) → StandsIdleIn mode old new → may_fetch mode ≡ false → IsUnfetched old new
 idle_unfetched Htp old new d idle = absurd (cc)
@@ -140,6 +146,7 @@ idle_unfetched Migrate old new d idle = d.0
 idle_unfetched Audit old new d idle = d.0
 idle_unfetched Sim old new d idle = d
 idle_unfetched Bench old new d idle = d
+idle_unfetched Solve old new d idle = d.0
 
 pub idle_unarchived : (mode : Mode) (old new : DevicesState) → StandsIdleIn mode old new → may_archive mode ≡ false → IsUnarchived old new
 idle_unarchived Htp old new d idle = absurd (cc)
@@ -148,3 +155,4 @@ idle_unarchived Migrate old new d idle = d.1
 idle_unarchived Audit old new d idle = d.1
 idle_unarchived Sim old new d idle = absurd (cc)
 idle_unarchived Bench old new d idle = absurd (cc)
+idle_unarchived Solve old new d idle = d.1

@@ -3,6 +3,7 @@ mod InputEnds
 mod HandedTurns
 mod Doings
 mod Leavings
+mod SolvedTexts
 mod RunLaws
 mod DeterminedLaws
 mod GeneratedMoves

@@ -3,6 +3,7 @@ pub mod Playing
 pub mod Served
 pub mod CertTexts
 pub mod AuditTexts
+pub mod SolveTexts
 pub mod Inputs
 pub mod Determined
 pub mod Headline

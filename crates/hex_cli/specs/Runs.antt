@@ -4,7 +4,7 @@ use Rattle.hexd_words.specs.Reading.{WellFormed}
 use Rattle.hexd_words.specs.declared.settings.Options.{Options}
 use Rattle.hexd_words.specs.declared.settings.Mode.{Mode}
 use Rattle.hexd_words.specs.declared.settings.Mode.TheVariants.{Htp, Check, Migrate, Audit}
-use Rattle.hexd_words.specs.declared.settings.Mode.TheVariants.{Sim, Bench}
+use Rattle.hexd_words.specs.declared.settings.Mode.TheVariants.{Sim, Bench, Solve}
 use Rattle.hex_devices.specs.declared.stops.Stop.TheVariants.{Memory}
 use Rattle.hex_devices.specs.Devices.{DevicesState}
 use Rattle.hex_devices.specs.Statuses.{status_of}
@@ -69,6 +69,7 @@ may_fetch Migrate = false
 may_fetch Audit = false
 may_fetch Sim = false
 may_fetch Bench = false
+may_fetch Solve = false
 
 -- the modes that may hand over turns
 abbrev pub may_archive : Mode → Bool
@@ -78,6 +79,7 @@ may_archive Migrate = false
 may_archive Audit = false
 may_archive Sim = true
 may_archive Bench = true
+may_archive Solve = false
 
 -- the shelf is idle in each mode but htp
 abbrev pub HasIdleShelf : List (List ℕ) → DevicesState → DevicesState → Type 0

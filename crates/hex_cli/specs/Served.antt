@@ -4,10 +4,11 @@ use Rattle.hexd_words.specs.Reading.{WellFormed}
 use Rattle.hexd_words.specs.declared.settings.Options.{Options}
 use Rattle.hexd_words.specs.declared.settings.Mode.{Mode}
 use Rattle.hexd_words.specs.declared.settings.Mode.TheVariants.{Htp, Check, Migrate, Audit}
-use Rattle.hexd_words.specs.declared.settings.Mode.TheVariants.{Sim, Bench}
+use Rattle.hexd_words.specs.declared.settings.Mode.TheVariants.{Sim, Bench, Solve}
 use Rattle.turn_modes.specs.OneTurn.{IsBenchmark, IsSimulation}
 use Rattle.hex_devices.specs.Devices.{DevicesState}
 use Rattle.hex_cli.specs.AuditTexts.{IsAuditText}
+use Rattle.hex_cli.specs.SolveTexts.{IsSolveText}
 use Rattle.hex_cli.specs.CertTexts.{IsCheckText, IsMigrateText}
 use Rattle.hex_cli.specs.Modes.{AnswersBy, HandsInBy}
 use Rattle.hex_cli.specs.Playing.{HasGoodTurns}
@@ -22,6 +23,7 @@ ServesIn Migrate options = AnswersBy IsMigrateText
 ServesIn Audit options = AnswersBy IsAuditText
 ServesIn Sim options = HandsInBy IsSimulation options
 ServesIn Bench options = HandsInBy IsBenchmark options
+ServesIn Solve options = AnswersBy (IsSolveText options.hsearch options.budget)
 
 -- which devices stood idle in this mode
 abbrev pub StandsIdleIn : Mode → DevicesState → DevicesState → Type 0
@@ -31,6 +33,7 @@ StandsIdleIn Migrate old new = IsUnfetched old new × IsUnarchived old new
 StandsIdleIn Audit old new = IsUnfetched old new × IsUnarchived old new
 StandsIdleIn Sim old new = IsUnfetched old new
 StandsIdleIn Bench old new = IsUnfetched old new
+StandsIdleIn Solve old new = IsUnfetched old new × IsUnarchived old new
 
 -- what was done for the words, in the mode that they say
 abbrev pub Serves : List (List ℕ) → End → DevicesState → DevicesState → Type 0

@@ -29,7 +29,7 @@ fn told(alloc: Global, found: Audit) -> Result<InputAnswer, AllocError>
     match found {
         Audit::Yes { trees } => {
             let mut text = b"yes ".to_vec(alloc)?;
-            push_number(alloc, &mut text, trees)?;
+            push_number(alloc, &mut text, u64::from(trees))?;
             text.push(b'\n')?;
             Ok(InputAnswer {
                 text,
@@ -38,9 +38,9 @@ fn told(alloc: Global, found: Audit) -> Result<InputAnswer, AllocError>
         }
         Audit::No { tree, why } => {
             let mut text = b"no ".to_vec(alloc)?;
-            push_number(alloc, &mut text, tree)?;
+            push_number(alloc, &mut text, u64::from(tree))?;
             text.push(b' ')?;
-            push_number(alloc, &mut text, u32::from(why.number()))?;
+            push_number(alloc, &mut text, u64::from(why.number()))?;
             text.push(b'\n')?;
             Ok(InputAnswer {
                 text,

@@ -75,9 +75,9 @@ fn judged(alloc: Global, verdict: Verdict) -> Result<InputAnswer, AllocError>
         } => answer_of(alloc, b"yes semi\n", true),
         Verdict::No { line, why } => {
             let mut text = b"no ".to_vec(alloc)?;
-            push_number(alloc, &mut text, line)?;
+            push_number(alloc, &mut text, u64::from(line))?;
             text.push(b' ')?;
-            push_number(alloc, &mut text, why.number())?;
+            push_number(alloc, &mut text, u64::from(why.number()))?;
             text.push(b'\n')?;
             Ok(InputAnswer {
                 text,
@@ -96,7 +96,7 @@ fn refused(alloc: Global, error: CertError) -> Result<InputAnswer, AllocError>
     match error {
         CertError::NotCert { line } => {
             let mut text = b"not a certificate at line ".to_vec(alloc)?;
-            push_number(alloc, &mut text, line)?;
+            push_number(alloc, &mut text, u64::from(line))?;
             text.push(b'\n')?;
             Ok(InputAnswer {
                 text,

@@ -10,6 +10,7 @@ ghost use Rattle.hex_cli.specs.declared.limits.TheConstants.{INPUT_LIMIT};
 use crate::audits::audit_answer;
 use crate::certificates::{check_answer, migrate_answer};
 use crate::limits::INPUT_LIMIT;
+use crate::solutions::solve_answer;
 use hex_devices::{Devices, End, InputAnswer, InputReader, answer_input};
 use hex_io::{Link, Shelf};
 use hex_plan::Archive;
@@ -26,6 +27,13 @@ pub enum InputMode {
     Migrate,
     /// It is audited as traces of closed trees.
     Audit,
+    /// It is read as the record of a game, and solved.
+    Solve {
+        /// Whether connections are looked for.
+        hsearch: bool,
+        /// How many positions the solver may enter.
+        budget: u64,
+    },
 }
 
 impl InputReader for InputMode {
@@ -38,6 +46,9 @@ impl InputReader for InputMode {
             InputMode::Check => check_answer(alloc, input),
             InputMode::Migrate => migrate_answer(alloc, input),
             InputMode::Audit => audit_answer(alloc, input),
+            InputMode::Solve { hsearch, budget } => {
+                solve_answer(alloc, *hsearch, *budget, input)
+            }
         }
     }
 }

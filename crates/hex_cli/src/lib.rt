@@ -3,8 +3,8 @@
 //! **What it is.** A *run* reads its words and does what they ask for; its *status* tells how it
 //! ended (`End` of hex_devices). In mode `htp` it plays a session of htp_session: a conversation
 //! from an empty board, of which the *talk* over the lines taken is what is given. Modes `check`,
-//! `migrate` and `audit` take their whole input and give one text for it. Modes `sim` and `bench`
-//! of turn_modes read nothing, and hand in one turn with its text.
+//! `migrate`, `audit` and `solve` take their whole input and give one text for it. Modes `sim` and
+//! `bench` of turn_modes read nothing, and hand in one turn with its text.
 //!
 //! **A caller** makes the devices, of a link, a shelf, an archive, a runtime and a gate, and the
 //! errors, and ends with the status:
@@ -30,11 +30,11 @@
 //! carrier of one of its threats loses, and where its plan says that the board is lost each move
 //! does (specs/Playing.antt). With one worker and without connections the words, the bytes read and
 //! the files determine what is given (specs/Determined.antt). In the modes that take their whole
-//! input the text is that of the bytes taken (specs/CertTexts.antt, specs/AuditTexts.antt), with
-//! status 1 exactly where it does not accept them. In modes `sim` and `bench` the archive took one
-//! turn, and the text is that of this turn, in the words of turn_modes. The shelf stands idle in
-//! each mode but `htp`, and the archive where the input is taken whole. [`trace_name`] is the name
-//! that `--trace` says.
+//! input the text is that of the bytes taken (specs/CertTexts.antt, specs/AuditTexts.antt,
+//! specs/SolveTexts.antt), with status 1 exactly where it does not accept them. In modes `sim` and
+//! `bench` the archive took one turn, and the text is that of this turn, in the words of
+//! turn_modes. The shelf stands idle in each mode but `htp`, and the archive where the input is
+//! taken whole. [`trace_name`] is the name that `--trace` says.
 //!
 //! **Only tested, or not said.** That memory suffices: a run may always end with status 5, which no
 //! clause ties to a refused growth; and a quiet answer that is dropped then can't be told from
@@ -56,6 +56,7 @@ mod numbers;
 mod playing;
 mod serving;
 mod single_turns;
+mod solutions;
 mod top;
 mod trace_names;
 

@@ -3,7 +3,7 @@
 ghost use Rattle.std.specs.Prelude.{◌≡◌};
 ghost use Rattle.hex_io.specs.Causes.{CountsFault};
 ghost use Rattle.hexd_words.specs.declared.settings.Mode.TheVariants.{Htp, Check, Migrate};
-ghost use Rattle.hexd_words.specs.declared.settings.Mode.TheVariants.{Audit, Sim, Bench};
+ghost use Rattle.hexd_words.specs.declared.settings.Mode.TheVariants.{Audit, Sim, Bench, Solve};
 ghost use Rattle.hex_devices.specs.declared.stops.Stop.TheVariants.{ReadFault, WriteFault};
 ghost use Rattle.hex_devices.specs.declared.stops.Stop.TheVariants.{ArchiveFault};
 ghost use Rattle.turn_modes.specs.OneTurn.{IsSimulation, IsBenchmark};
@@ -17,6 +17,7 @@ ghost use Rattle.hex_cli.specs.Modes.{AnswersBy, HandsInBy};
 ghost use Rattle.hex_cli.specs.Playing.{HasGoodTurns, HasKnownThreats, HasPlayed};
 ghost use Rattle.hex_cli.specs.Runs.{AreWellFormed, AreRefused, IsServed, IsRefusal};
 ghost use Rattle.hex_cli.specs.Runs.{InMode, seen, HasIdleShelf, HasIdleArchive};
+ghost use Rattle.hex_cli.specs.SolveTexts.{IsSolveText};
 ghost use Rattle.hex_devices.specs.Statuses.{status_of, HasStopped};
 ghost use Rattle.hex_devices.specs.declared.ends.End.{End};
 
@@ -95,13 +96,15 @@ pub fn run<R: Threads + Sync, L: Link, E: Link, F: Shelf, A: Archive, G: Gate + 
     ensures threats { InMode Htp HasKnownThreats (seen words.now result devices.old devices.new) }
     ensures determined { InMode Htp Determines (seen words.now result devices.old devices.new) }
 
-    // Modes check, migrate and audit: the whole input was taken, and its text given; the status
-    // says whether it was accepted.
+    // Modes check, migrate, audit and solve: the whole input was taken, and its text given; the
+    // status says whether it was accepted.
     ensures checked { InMode Check (λ options. AnswersBy IsCheckText)
         (seen words.now result devices.old devices.new) }
     ensures migrated { InMode Migrate (λ options. AnswersBy IsMigrateText)
         (seen words.now result devices.old devices.new) }
     ensures audited { InMode Audit (λ options. AnswersBy IsAuditText)
+        (seen words.now result devices.old devices.new) }
+    ensures solved { InMode Solve (λ o. AnswersBy (IsSolveText o.hsearch o.budget))
         (seen words.now result devices.old devices.new) }
 
     // Modes sim and bench: one turn was handed to the archive, and then its text given.
@@ -110,7 +113,7 @@ pub fn run<R: Threads + Sync, L: Link, E: Link, F: Shelf, A: Archive, G: Gate + 
     ensures benchmarked { InMode Bench (HandsInBy IsBenchmark)
         (seen words.now result devices.old devices.new) }
 
-    // What is idle: the shelf in each mode but htp, the archive in check, migrate and audit.
+    // What is idle: the shelf in each mode but htp, the archive in those that take the whole input.
     ensures idle_shelf { HasIdleShelf words.now devices.old devices.new }
     ensures idle_archive { HasIdleArchive words.now devices.old devices.new }
 

@@ -13,7 +13,7 @@ use Rattle.hexd_words.specs.Reading.{WellFormed}
 use Rattle.hexd_words.specs.Table.{hexd_app, hexd_form}
 use Rattle.hexd_words.specs.Values.{AreOptions, mode_word}
 use Rattle.hexd_words.specs.declared.settings.Mode.{Mode}
-use Rattle.hexd_words.specs.declared.settings.Mode.TheVariants.{Htp, Check, Migrate, Audit, Sim, Bench}
+use Rattle.hexd_words.specs.declared.settings.Mode.TheVariants.{Htp, Check, Migrate, Audit, Sim, Bench, Solve}
 use Rattle.hexd_words.specs.declared.settings.Options.{Options}
 
 pub hexd_reads : ReadsForm hexd_app hexd_form
@@ -35,6 +35,7 @@ mode_other Migrate = λ same. cc
 mode_other Audit = λ same. cc
 mode_other Sim = λ same. cc
 mode_other Bench = λ same. cc
+mode_other Solve = λ same. cc
 
 pub none_found : (words : List TextBytes) (o : Options) → FindsIn hexd_form words None → WellFormed words o → ⊥
 none_found words o none w =

@@ -4,7 +4,7 @@ use Rattle.option_words.specs.Grammar.{word_name}
 use Rattle.option_words.specs.Values.{IsNumberFrom, TextBytes, switch_word}
 use Rattle.hexd_words.specs.declared.settings.Mode.{Mode}
 use Rattle.hexd_words.specs.declared.settings.Mode.TheVariants.{Htp, Check, Migrate, Audit, Sim}
-use Rattle.hexd_words.specs.declared.settings.Mode.TheVariants.{Bench}
+use Rattle.hexd_words.specs.declared.settings.Mode.TheVariants.{Bench, Solve}
 use Rattle.hexd_words.specs.declared.settings.Options.{Options}
 use Rattle.hexd_words.specs.declared.table.TheConstants.{SIZE, WORKERS, PLAYOUTS, SEED, WORDS}
 use Rattle.hexd_words.specs.declared.table.TheConstants.{EXPAND, WEIGHT, HSEARCH, STEPS, BUDGET}
@@ -18,6 +18,7 @@ mode_word Migrate = codes "migrate"
 mode_word Audit = codes "audit"
 mode_word Sim = codes "sim"
 mode_word Bench = codes "bench"
+mode_word Solve = codes "solve"
 
 -- The options are what these values of the names say.
 pub record AreOptions (value : TextBytes → Option TextBytes) (o : Options) : Type 0 where

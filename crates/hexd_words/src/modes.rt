@@ -18,6 +18,7 @@ pub fn mode(word: Option<&str>) -> Option<Mode>
         "audit" => Some(Mode::Audit),
         "sim" => Some(Mode::Sim),
         "bench" => Some(Mode::Bench),
+        "solve" => Some(Mode::Solve),
         _ => None,
     }
 }

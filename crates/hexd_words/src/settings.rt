@@ -17,6 +17,8 @@ pub enum Mode {
     Sim,
     /// It searches a large position of its own. Its word is `bench`.
     Bench,
+    /// It tells who wins the position of a record. Its word is `solve`.
+    Solve,
 }
 
 /// The mode, and the value of each option, given or default.
@@ -45,7 +47,7 @@ pub struct Options {
     /// `--steps`: how many steps the schedule of a simulation has, 0 to 1,000,000, by default
     /// 10,000.
     pub steps: u32,
-    /// `--budget`: how many steps a solver may take, at least 1, by default 1,000,000.
+    /// `--budget`: how many positions the solver may enter, at least 1, by default 1,000,000.
     pub budget: u64,
     /// `--trace`: the name of the file for traces, of at least one byte; by default there is none.
     pub trace: Option<Word>,

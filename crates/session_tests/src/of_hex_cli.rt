@@ -8,5 +8,6 @@ mod records;
 mod runs;
 mod searches;
 mod sessions;
+mod solutions;
 mod tables;
 mod trace_names;

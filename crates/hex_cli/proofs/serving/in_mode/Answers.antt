@@ -19,6 +19,9 @@ returns-in-Sim-clause-does g c = rw c.in-Sim.is c.simulate.ensures.hands
 pub returns-in-Bench-clause-does : goal.returns-in-Bench-clause-does
 returns-in-Bench-clause-does g c = rw c.in-Bench.is c.bench.ensures.hands
 
+pub returns-in-Solve-clause-does : goal.returns-in-Solve-clause-does
+returns-in-Solve-clause-does g c = rw c.in-Solve.is (rw c.solving.ensures c.answer-in-Solve.ensures.answers)
+
 pub returns-in-Htp-clause-idle : goal.returns-in-Htp-clause-idle
 returns-in-Htp-clause-idle g c = rw c.in-Htp.is tt
 
@@ -36,3 +39,6 @@ returns-in-Sim-clause-idle g c = rw c.in-Sim.is c.simulate.ensures.unfetched
 
 pub returns-in-Bench-clause-idle : goal.returns-in-Bench-clause-idle
 returns-in-Bench-clause-idle g c = rw c.in-Bench.is c.bench.ensures.unfetched
+
+pub returns-in-Solve-clause-idle : goal.returns-in-Solve-clause-idle
+returns-in-Solve-clause-idle g c = rw c.in-Solve.is (c.answer-in-Solve.ensures.unfetched, c.answer-in-Solve.ensures.unarchived)

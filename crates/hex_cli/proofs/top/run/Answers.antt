@@ -1,7 +1,7 @@
 -- What the status tells of the end, and what the devices of a run leave.
 use Rattle.std.proofs.Common.{sym, ap, ◌∙◌, subst}
 use Rattle.hex_io.specs.Reported.{Reported}
-use Rattle.hexd_words.specs.declared.settings.Mode.TheVariants.{Htp, Check, Migrate, Audit, Sim, Bench}
+use Rattle.hexd_words.specs.declared.settings.Mode.TheVariants.{Htp, Check, Migrate, Audit, Sim, Bench, Solve}
 use Rattle.turn_modes.specs.OneTurn.{IsBenchmark, IsSimulation}
 use Rattle.hex_devices.specs.Statuses.{error_line, status_of, stop_in}
 use Rattle.hex_devices.specs.declared.ends.End.TheVariants.{Usage}
@@ -12,6 +12,7 @@ use Rattle.hex_cli.specs.Determined.{Determines}
 use Rattle.hex_cli.specs.Headline.{HasHeadline}
 use Rattle.hex_cli.specs.Modes.{AnswersBy, HandsInBy}
 use Rattle.hex_cli.specs.Playing.{HasGoodTurns, HasKnownThreats, HasPlayed}
+use Rattle.hex_cli.specs.SolveTexts.{IsSolveText}
 use Rattle.hex_cli.proofs.Doings.{idle_unarchived, idle_unfetched}
 use Rattle.hex_cli.proofs.Leavings.{complete_as, determines, ends_as, has_headline, known_threats, long_as, played}
 use Rattle.hex_cli.proofs.top.run.Goals as goal
@@ -58,6 +59,10 @@ returns-clause-migrated g c = λ options well_formed is end e.
 pub returns-clause-audited : goal.returns-clause-audited
 returns-clause-audited g c = λ options well_formed is end e.
     ends_as (λ options. AnswersBy IsAuditText) Audit options c.serve-end.result end c.args.devices.now c.serve-end.new.devices (λ d. d) is (same_end c.serve-end.result end (sym c.status.ensures ∙ e)) (c.serve-end.ensures.does options well_formed)
+
+pub returns-clause-solved : goal.returns-clause-solved
+returns-clause-solved g c = λ options well_formed is end e.
+    ends_as (λ options. AnswersBy (IsSolveText options.hsearch options.budget)) Solve options c.serve-end.result end c.args.devices.now c.serve-end.new.devices (λ d. d) is (same_end c.serve-end.result end (sym c.status.ensures ∙ e)) (c.serve-end.ensures.does options well_formed)
 
 -- ---- the modes that hand in one turn
 
