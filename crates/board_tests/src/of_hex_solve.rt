@@ -55,15 +55,18 @@ fn small_boards(rt: HostRuntime) {
     use Kind::{Full, Semi};
     // 3^k for Black's stone on cell k, twice that for White's.
     let (after_a2, file_a, after_two) = (9, 1 + 81 + 6_561, 1 + 2 * 81);
+    let after_d1 = 27;
     // Size, stones, the mover, connections, the budget, and what is told.
-    let rows: [(u32, u32, Colour, bool, u64, Answer); 9] = [
+    let rows: [(u32, u32, Colour, bool, u64, Answer); 10] = [
         // `budget-one` and `budget-for-four-cells`: four empty cells have the bound 65.
         (2, 0, Black, false, 1, Answer::Unknown(1, false)),
         (2, 0, Black, false, 65, Answer::Won(Black, Semi)),
         // `the-other-moves`: Black wins, though White moves.
         (2, after_a2, White, true, 65, Answer::Won(Black, Full)),
         (2, after_a2, White, false, 65, Answer::Won(Black, Full)),
-        (2, after_a2, White, true, 1, Answer::Unknown(1, true)),
+        // Black's two threats have no cell in common, so one position is enough; not so after d1.
+        (2, after_a2, White, true, 1, Answer::Won(Black, Full)),
+        (4, after_d1, White, true, 1, Answer::Unknown(1, true)),
         // `over-already`.
         (1, 1, White, false, 1, Answer::Over(Black)),
         // `semi-at-the-root`: a4 alone joins Black's a1, a2 and a3 to his second edge.

@@ -29,6 +29,7 @@
 
 mod adding;
 mod answers;
+mod cuts;
 mod laws;
 mod ledgers;
 mod order;
