@@ -1,5 +1,5 @@
-//! What the search with connections adds to a ledger: the lines of entries of a report, and the line
-//! that shows that each reply is answered.
+//! What the search with connections adds to a ledger: the lines of entries of a report, and the
+//! line that shows that each reply is answered.
 
 ghost use Rattle.std.specs.Prelude.{◌≡◌, ℕ, All, IfOk, IfSome, true};
 ghost use Rattle.hex_board.specs.Positions.{is_empty_at};
@@ -16,8 +16,8 @@ use win_cert::{Line, MOST_LINES, Numbers, lines_onto};
 
 impl Ledger {
     /// Adds the lines of these semi entries between the player's edges in his store of the board,
-    /// after a `put`; answers the numbers of the entries' own lines, in turn. Where there is no room
-    /// for all, `None`.
+    /// after a `put`; answers the numbers of the entries' own lines, in turn. Where there is no
+    /// room for all, `None`.
     pub fn add_cuts(
         &mut self,
         alloc: Global,
