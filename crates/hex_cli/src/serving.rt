@@ -64,16 +64,12 @@ fn in_mode<L: Link, F: Shelf, A: Archive, R: Threads + Sync, G: Gate + Sync>(
         Mode::Audit => answer(alloc, InputMode::Audit, devices),
         Mode::Sim => simulate(alloc, options, devices),
         Mode::Bench => bench(alloc, options, devices),
-        Mode::Solve => answer(alloc, solving(options), devices),
-    }
-}
-
-// The solver that the options ask for.
-fn solving(options: &Options) -> InputMode
-    ensures { result ≡ InputMode.Solve options.now.hsearch options.now.budget }
-{
-    InputMode::Solve {
-        hsearch: options.hsearch,
-        budget: options.budget,
+        Mode::Solve => {
+            let solver = InputMode::Solve {
+                hsearch: options.hsearch,
+                budget: options.budget,
+            };
+            answer(alloc, solver, devices)
+        }
     }
 }

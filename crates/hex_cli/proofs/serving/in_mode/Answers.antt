@@ -20,7 +20,7 @@ pub returns-in-Bench-clause-does : goal.returns-in-Bench-clause-does
 returns-in-Bench-clause-does g c = rw c.in-Bench.is c.bench.ensures.hands
 
 pub returns-in-Solve-clause-does : goal.returns-in-Solve-clause-does
-returns-in-Solve-clause-does g c = rw c.in-Solve.is (rw c.solving.ensures c.answer-in-Solve.ensures.answers)
+returns-in-Solve-clause-does g c = rw c.in-Solve.is c.answer-in-Solve.ensures.answers
 
 pub returns-in-Htp-clause-idle : goal.returns-in-Htp-clause-idle
 returns-in-Htp-clause-idle g c = rw c.in-Htp.is tt
