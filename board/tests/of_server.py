@@ -166,7 +166,8 @@ class Requests(unittest.TestCase):
         name = self.session()
         self.server.ask(name, "name")
         for pid in self.server.engines():
-            resource.prlimit(pid, resource.RLIMIT_AS, (1 << 20, 1 << 20))
+            # Of data alone, so that the stack may grow.
+            resource.prlimit(pid, resource.RLIMIT_DATA, (1 << 20, 1 << 20))
         got = self.server.post(f"session/{name}/htp", b"genmove b")
         self.assertEqual((410, "hexd ended with status 5 (hexd: out of memory)"), got)
 

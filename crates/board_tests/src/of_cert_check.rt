@@ -23,7 +23,9 @@ fn edge_entry(report: &Report) -> Option<u32>
     let (first, second) = (store.elements().edge(false), store.elements().edge(true));
     let mut number = 0;
     'entries: while number < entries.len() {
-        let entry = entries[number];
+        let Some(entry) = entries.get(number) else {
+            return None;
+        };
         let is_between = entry.x == first.min(second) && entry.y == first.max(second);
         if is_between && entry.kind == Kind::Semi {
             return Some(number as u32);
