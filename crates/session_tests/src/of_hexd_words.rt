@@ -55,7 +55,7 @@ htp htp
 play
 help
 checks
-solve
+solves
 --size=5
 htp htp --size=5
 --size=0 htp
@@ -198,6 +198,7 @@ fn takes_modes(rt: HostRuntime) -> Result<(), Fail> {
         ("-- audit", Mode::Audit),
         ("sim --steps 3", Mode::Sim),
         ("--workers=2 -- bench", Mode::Bench),
+        ("solve --budget 5", Mode::Solve),
     ];
     for (line, mode) in table {
         let options = read(rt.alloc(), line)?.ok_or("refused")?;
