@@ -6,7 +6,7 @@ use Rattle.std.proofs.lemmas.List.{set-get_or}
 use Rattle.std.proofs.lemmas.List.FromFn.{get_or-map-range_with_len}
 use Rattle.play_out.specs.Fills.{empties_of}
 use Rattle.tree_words.specs.Words.{root_at, next_in}
-use Rattle.tree_words.specs.Blocks.{LinkedBlock, In, Follows, Shows, covers, has_node, is_node, link_of, size, is_header_or_move, header_or_move}
+use Rattle.tree_words.specs.Blocks.{LinkedBlock, In, Follows, HaveBlocks, covers, has_node, is_node, link_of, size, is_header_or_move, header_or_move}
 use Rattle.tree_words.specs.Paths.{NodeState, node_state, node_board}
 use Rattle.tree_words.specs.Complete.{AreComplete, IsComplete, HasEmpties, allowed_cells}
 use Rattle.tree_words.specs.Told.{Knows}
@@ -125,7 +125,7 @@ module _ (bs : List LinkedBlock) (words : List ℕ) (views : List SeatView) (id 
         ∙ sym (ap (λ (u : Bool). cond u c (link_of bs y)) (ne_eqb x y (λ e. omega (arith, e, t.2)))
         ∙ link-none (root_at v.shape) bs y b.state.linked.blocks.order out)
 
-    shows : Shows (root_at v.shape) (new ∷ bs) (set words l c)
+    shows : HaveBlocks (root_at v.shape) (new ∷ bs) (set words l c)
     shows = record {
       blocks = λ d i n h st. ⊎_elim
           (λ (e : d ≡ new). subst (λ (z : LinkedBlock). slice_index (set words l c) (z.start + i) ≡ header_or_move z i) (sym e)

@@ -13,7 +13,7 @@ use Rattle.win_cert.specs.Reasons.{Reason, holds_of_chain, reason_against, is_ba
 use Rattle.win_cert.specs.Scopes.{elements_in}
 use Rattle.win_cert.specs.Statements.{is_cell_in, may_take, share_cell}
 use Rattle.win_cert.specs.declared.statements.Statement.TheVariants.{Derivation}
-use Rattle.cert_check.specs.Keeping.{AreNamed, IsGivenOn, TakesKind, chain_line, entry_of}
+use Rattle.cert_check.specs.Keeping.{AreBothNamed, IsGivenOn, TakesKind, chain_line, entry_of}
 use Rattle.cert_check.specs.declared.given.Given.{Given}
 use Rattle.cert_check.proofs.ReasonLaws.{chain_reasons, told, told_next}
 use Rattle.win_cert.proofs.CutChains.{two_at}
@@ -69,7 +69,7 @@ two_carriers a b = ap (bit_or a.carrier) (or_zero_r b.carrier)
 
 -- the reason where the two entries have the middle u: whether the carriers meet, whether one of the
 -- other ends x and y is in the other carrier, and whether the middle is of the other sort
-pub joined : {c : Context} {o : Bool} {i j u x y : ℕ} {a b : Given} {m : Option ℕ} {meet inside wrong : Bool} → AreNamed c o i j a b
+pub joined : {c : Context} {o : Bool} {i j u x y : ℕ} {a b : Given} {m : Option ℕ} {meet inside wrong : Bool} → AreBothNamed c o i j a b
     → m ≡ middle_of (entry_of a) (entry_of b) → m ≡ Some u → meet ≡ share_cell (entries_at c (i ∷ j ∷ []))
     → x ≡ other_end (entry_of a) u → y ≡ other_end (entry_of b) u → inside ≡ (is_cell_in (elements_at c) x b.carrier || is_cell_in (elements_at c) y a.carrier)
     → wrong ≡ is_wrong_middle o (cell_of (elements_at c) u)
@@ -108,7 +108,7 @@ and_gives c false i j a b u o e h = ap (and_entry c) e
     ∙ ap (λ s. Some (entry_between c Full (other_end a u) (other_end b u) s)) (two_carriers a b)
 
 -- the same of the entry g between the other ends x and y, with the cells of both carriers
-pub key_given : {c : Context} {o : Bool} {i j u k x y s t : ℕ} {a b : Given} {m q : Option ℕ} {e : PlayerBoard} {g : ScopedEntry} → AreNamed c o i j a b → o ≡ true
+pub key_given : {c : Context} {o : Bool} {i j u k x y s t : ℕ} {a b : Given} {m q : Option ℕ} {e : PlayerBoard} {g : ScopedEntry} → AreBothNamed c o i j a b → o ≡ true
     → m ≡ middle_of (entry_of a) (entry_of b) → m ≡ Some u → e ≡ elements_at c → q ≡ cell_of e u → q ≡ Some k → x ≡ other_end (entry_of a) u → y ≡ other_end (entry_of b) u
     → s ≡ bit_or a.carrier b.carrier → t ≡ with_cell s k → g ≡ entry_between c Semi x y t → gives c (chain_line o i j) ≡ Some g
 key_given {c = c} {o = o} {i = i} {j = j} {u = u} {k = k} {a = a} {b = b} n key is some at cell found x_is y_is both with is_g =
@@ -116,7 +116,7 @@ key_given {c = c} {o = o} {i = i} {j = j} {u = u} {k = k} {a = a} {b = b} n key 
     let given = key_gives c o i j (entry_of a) (entry_of b) u k key two (sym is ∙ some) (ap (λ e. cell_of e u) (sym at) ∙ sym cell ∙ found) in
     cc (given, x_is, y_is, both, with, is_g)
 
-pub and_given : {c : Context} {o : Bool} {i j u x y s : ℕ} {a b : Given} {m : Option ℕ} {g : ScopedEntry} → AreNamed c o i j a b → o ≡ false
+pub and_given : {c : Context} {o : Bool} {i j u x y s : ℕ} {a b : Given} {m : Option ℕ} {g : ScopedEntry} → AreBothNamed c o i j a b → o ≡ false
     → m ≡ middle_of (entry_of a) (entry_of b) → m ≡ Some u → x ≡ other_end (entry_of a) u → y ≡ other_end (entry_of b) u
     → s ≡ bit_or a.carrier b.carrier → g ≡ entry_between c Full x y s → gives c (chain_line o i j) ≡ Some g
 and_given {c = c} {o = o} {i = i} {j = j} {u = u} {a = a} {b = b} n plain is some x_is y_is both is_g =
@@ -149,10 +149,10 @@ middle_below c a b u s g h = shared_below (is_end b a.x) (is_end b a.y) a.x a.y 
     (subst (λ t. a.x < element_count (elements_in c.base t)) s g.x) (subst (λ t. a.y < element_count (elements_in c.base t)) s g.y)
 
 -- the other ends of two entries that are named are elements
-pub first_below : {c : Context} {o : Bool} {i j x : ℕ} {a b : Given} (u : ℕ) → AreNamed c o i j a b → x ≡ other_end (entry_of a) u → x < element_count (elements_at c)
+pub first_below : {c : Context} {o : Bool} {i j x : ℕ} {a b : Given} (u : ℕ) → AreBothNamed c o i j a b → x ≡ other_end (entry_of a) u → x < element_count (elements_at c)
 first_below {c = c} {a = a} u n e = subst (λ v. v < element_count (elements_at c)) (sym e) (other_below c a u n.first_scope n.first_given)
 
-pub second_below : {c : Context} {o : Bool} {i j y : ℕ} {a b : Given} (u : ℕ) → AreNamed c o i j a b → y ≡ other_end (entry_of b) u → y < element_count (elements_at c)
+pub second_below : {c : Context} {o : Bool} {i j y : ℕ} {a b : Given} (u : ℕ) → AreBothNamed c o i j a b → y ≡ other_end (entry_of b) u → y < element_count (elements_at c)
 second_below {c = c} {b = b} u n e = subst (λ v. v < element_count (elements_at c)) (sym e) (other_below c b u n.second_scope n.second_given)
 
 -- ---- what is asked of the entries that are named

@@ -75,7 +75,7 @@ abbrev pub IsOrOf : Line → List ℕ → Type 0
 IsOrOf line numbers = (is_or (Derivation line) ≡ true) × (numbers_in (Derivation line) ≡ numbers)
 
 -- a and b are the entries that `and` or `key` names: there are such, and they stand in the scope
-pub record AreNamed (c : Context) (over_cell : Bool) (i j : ℕ) (a b : Given) : Type 0 where
+pub record AreBothNamed (c : Context) (over_cell : Bool) (i j : ℕ) (a b : Given) : Type 0 where
   pub first : entry_at c i ≡ Some (entry_of a)
   pub second : entry_at c j ≡ Some (entry_of b)
   pub references : is_bad_reference c (Derivation (chain_line over_cell i j)) ≡ false

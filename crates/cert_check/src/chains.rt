@@ -5,7 +5,7 @@ ghost use Rattle.hex_board.specs.Elements.{element_count};
 ghost use Rattle.win_cert.specs.Entries.{elements_at};
 ghost use Rattle.win_cert.specs.Statements.{is_cell_in};
 ghost use Rattle.win_cert.specs.declared.lines.Line.{Line};
-ghost use Rattle.cert_check.specs.Keeping.{AreNamed, DerivesLine, IsOrOf, chain_line};
+ghost use Rattle.cert_check.specs.Keeping.{AreBothNamed, DerivesLine, IsOrOf, chain_line};
 
 use super::checkers::Checker;
 use super::given::Given;
@@ -36,7 +36,7 @@ impl Checker {
 
     // `and` or `key` of two full entries of the scope, each of two elements.
     fn join(&self, i: u32, j: u32, over_cell: bool, a: &Given, b: &Given) -> Result<Given, Why>
-        requires named { AreNamed self.now over_cell i j a.now b.now }
+        requires named { AreBothNamed self.now over_cell i j a.now b.now }
         ensures { DerivesLine self.now (chain_line over_cell i j) result }
     {
         let Some(middle) = a.middle(b) else {

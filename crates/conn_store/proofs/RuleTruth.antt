@@ -12,7 +12,7 @@ use Rattle.hex_board.proofs.Placed.{empty_on, stones_on}
 use Rattle.hex_board.proofs.Places.{near_out}
 use Rattle.conn_store.specs.Entries.{IsBetween, IsTrueEntry, IsValid, Misses}
 use Rattle.conn_store.specs.Index.{IsSmall}
-use Rattle.conn_store.specs.Laws.{IsOnBoard}
+use Rattle.conn_store.specs.Laws.{AreOfBoard}
 use Rattle.conn_store.specs.Links.{StonesLink}
 use Rattle.conn_store.specs.Rules.{AndRule, AreAt, FollowsBy, IsCell, IsGroup, OrRule, both_of, is_in_all, union_of}
 use Rattle.conn_store.specs.Stores.{AreTrue, IsSound, StoreData}
@@ -221,5 +221,5 @@ true_to d m s (suc n) i a l h = follows_true d.elements (take i d.entries) a a.c
 pub sound_true : (d : StoreData) → IsSmall d.elements → IsSound d → AreTrue d
 sound_true d m s i a h = true_to d m s (suc i) i a (omega arith) h
 
-pub board_small : (e : PlayerBoard) → IsOnBoard e → IsSmall e
+pub board_small : (e : PlayerBoard) → AreOfBoard e → IsSmall e
 board_small e on = record { size = on.most; stones = stones_on e.board e.player on }

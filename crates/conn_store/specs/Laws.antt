@@ -8,8 +8,8 @@ use Rattle.conn_store.specs.declared.entries.Kind.{Kind}
 use Rattle.conn_store.specs.declared.entries.Kind.TheVariants.{Full}
 
 -- the elements are those of a board
-abbrev pub IsOnBoard : PlayerBoard → Type 0
-IsOnBoard e = IsPosition e.board.size e.board.black e.board.white
+abbrev pub AreOfBoard : PlayerBoard → Type 0
+AreOfBoard e = IsPosition e.board.size e.board.black e.board.white
 
 -- each cell of the set a is in b
 abbrev pub IsSubset : ℕ → ℕ → Type 0

@@ -7,14 +7,14 @@ ghost use Rattle.hex_board.specs.Elements.{PlayerBoard};
 ghost use Rattle.hex_board.specs.Positions.{Position};
 ghost use Rattle.hex_board.specs.Wins.{Wins};
 ghost use Rattle.conn_store.specs.Entries.{Connects};
-ghost use Rattle.conn_store.specs.Laws.{ConnectsInRest, IsOnBoard, IsSubset, IsSureOfEdges};
+ghost use Rattle.conn_store.specs.Laws.{ConnectsInRest, AreOfBoard, IsSubset, IsSureOfEdges};
 ghost use Rattle.conn_store.specs.Stores.{AreTrue, IsSound, StoreData};
 ghost use Rattle.conn_store.specs.declared.entries.Kind.{Kind};
 
 /// The law of sound stores: on a board, entries of which each is valid and follows by the four
 /// rules from earlier ones are true. It does nothing.
 pub fn sound_entries_are_true()
-    ensures { (d : StoreData) → IsOnBoard d.elements → IsSound d → AreTrue d }
+    ensures { (d : StoreData) → AreOfBoard d.elements → IsSound d → AreTrue d }
 {}
 
 /// The laws of truth. Who is sure where the opponent places first is sure where he does himself.

@@ -10,9 +10,9 @@ use Rattle.htp_session.specs.Endings.{since}
 use Rattle.htp_session.proofs.Conversations.{conversed_nothing}
 use Rattle.hex_devices.specs.Inputs.{TextOf}
 use Rattle.hex_devices.specs.declared.stops.Stop.TheVariants.{ReadFault, WriteFault, ArchiveFault, Memory}
-use Rattle.hexd_words.specs.declared.settings.Options.{Options}
-use Rattle.hexd_words.specs.declared.settings.Mode.{Mode}
-use Rattle.hexd_words.specs.declared.settings.Mode.TheVariants.{Htp, Check, Migrate, Audit, Sim, Bench, Solve}
+use Rattle.hexd_args.specs.declared.settings.Options.{Options}
+use Rattle.hexd_args.specs.declared.settings.Mode.{Mode}
+use Rattle.hexd_args.specs.declared.settings.Mode.TheVariants.{Htp, Check, Migrate, Audit, Sim, Bench, Solve}
 use Rattle.hex_cli.specs.AuditTexts.{IsAuditText}
 use Rattle.hex_cli.specs.SolveTexts.{IsSolveText}
 use Rattle.hex_cli.specs.CertTexts.{IsCheckText, IsMigrateText}

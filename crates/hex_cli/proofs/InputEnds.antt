@@ -22,7 +22,7 @@ all_since : (Answers : TextOf) (accepted : Bool) (limit : ℕ) (o n : Told) → 
 all_since Answers accepted limit o n p = subst (λ (l : List ℕ). length l ≤ limit) (sym (taken_since o n o.to_come p.1.taken)) p.1.in_limit
 
 part_since : (Answers : TextOf) (limit : ℕ) (o n : Told) → AnsweredPart Answers limit o n → length (since o n) ≤ limit
-part_since Answers limit o n p = subst (λ (l : List ℕ). length l ≤ limit) (sym (taken_since o n o.to_come p.3.taken)) p.3.in_limit
+part_since Answers limit o n p = subst (λ (l : List ℕ). length l ≤ limit) (sym (taken_since o n o.to_come p.4.taken)) p.4.in_limit
 
 not_too_long : (limit k s : ℕ) → k ≤ limit → s ≢ 6 → (s ≡ 6) ↔ (k ≡ limit + 1)
 not_too_long limit k s few other = (λ e. absurd (other e), λ e. absurd (omega (arith, e, few)))

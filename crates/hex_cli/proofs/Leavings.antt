@@ -5,8 +5,8 @@ use Rattle.hex_io.specs.Told.{Told, Both}
 use Rattle.hex_io.proofs.BothLaws.{Both-weaker}
 use Rattle.hex_devices.specs.Devices.{DevicesState, shelf_and_archive}
 use Rattle.htp_session.specs.Endings.{Conversed, since}
-use Rattle.hexd_words.specs.declared.settings.Mode.{Mode}
-use Rattle.hexd_words.specs.declared.settings.Options.{Options}
+use Rattle.hexd_args.specs.declared.settings.Mode.{Mode}
+use Rattle.hexd_args.specs.declared.settings.Options.{Options}
 use Rattle.hex_engine.specs.Supply.{Supply}
 use Rattle.hex_cli.specs.Determined.{Determines}
 use Rattle.hex_cli.specs.Headline.{HasHeadline}

@@ -3,8 +3,8 @@
 use Rattle.std.specs.Prelude.{◌≡◌, ◌+◌, ◌≤◌, ◌⊎◌, ◌↔◌, length}
 use Rattle.hex_io.specs.Told.{Both}
 use Rattle.hex_io.specs.Causes.{Rose}
-use Rattle.hexd_words.specs.Reading.{WellFormed}
-use Rattle.hexd_words.specs.declared.settings.Options.{Options}
+use Rattle.hexd_args.specs.Reading.{WellFormed}
+use Rattle.hexd_args.specs.declared.settings.Options.{Options}
 use Rattle.htp_session.specs.Endings.{since}
 use Rattle.hex_devices.specs.declared.stops.Stop.TheVariants.{Memory, TooLong}
 use Rattle.hex_devices.specs.Devices.{DevicesState}
@@ -20,7 +20,7 @@ IsTooLong run = (options : Options) → WellFormed run.words options
     HasStopped run.status TooLong ↔ (length (since old new) ≡ INPUT_LIMIT + 1))
 
 -- no count of faults rose of the link's reads and writes and the archive
-pub record HasNoFault (old new : DevicesState) : Type 0 where
+pub record MetNoFault (old new : DevicesState) : Type 0 where
   pub reads : ¬ Rose old.read_faults new.read_faults
   pub writes : ¬ Rose old.write_faults new.write_faults
   pub archives : ¬ Rose old.archive_faults new.archive_faults
@@ -29,7 +29,7 @@ pub record HasNoFault (old new : DevicesState) : Type 0 where
 -- done, its input is rejected, or memory ran out
 abbrev pub Completes : RunData → Type 0
 Completes run = (options : Options) → WellFormed run.words options
-    → HasNoFault run.before run.after
+    → MetNoFault run.before run.after
     → Both run.before.link run.after.link (λ old new. length (since old new) ≤ INPUT_LIMIT
     → (run.status ≡ status_of Done) ⊎ (run.status ≡ status_of Rejected)
     ⊎ HasStopped run.status Memory)

@@ -4,7 +4,7 @@ use Rattle.std.specs.Prelude.{◌≡◌, ℕ, Bool, List, ◌++◌}
 use Rattle.hex_io.specs.Told.{Told, Both}
 use Rattle.hex_io.specs.Shelves.{Shelved}
 use Rattle.htp_line.specs.Lines.{lines}
-use Rattle.hexd_words.specs.declared.settings.Options as words
+use Rattle.hexd_args.specs.declared.settings.Options as words
 use Rattle.hex_engine.specs.declared.options.Options.{Options}
 use Rattle.hex_engine.specs.EngineState.{opening}
 use Rattle.hex_engine.specs.Supply.{Supply}

@@ -10,7 +10,7 @@ use Rattle.hex_game.specs.Moves.{step_of}
 use Rattle.hex_game.specs.declared.moves.Move.TheVariants.{Stone}
 use Rattle.tree_words.specs.Closing.{ClosedTree}
 use Rattle.tree_words.specs.declared.settings.Knobs.{Knobs}
-use Rattle.hexd_words.specs.declared.settings.Options as words
+use Rattle.hexd_args.specs.declared.settings.Options as words
 use Rattle.hex_plan.specs.Good.{IsSearchedFor}
 use Rattle.hex_plan.specs.Laws.{WinsBy}
 use Rattle.hex_plan.specs.Turns.{TurnData}

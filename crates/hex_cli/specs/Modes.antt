@@ -1,7 +1,7 @@
 -- What a run does in each of its modes, to its end, told of what its devices tell before and after.
 use Rattle.std.specs.Prelude.{◌≡◌, ℕ, Bool, List, Result}
 use Rattle.tree_words.specs.declared.settings.Knobs.{Knobs}
-use Rattle.hexd_words.specs.declared.settings.Options.{Options}
+use Rattle.hexd_args.specs.declared.settings.Options.{Options}
 use Rattle.hex_plan.specs.Turns.{TurnData}
 use Rattle.hex_engine.specs.Supply.{Supply}
 use Rattle.hex_engine.specs.declared.options.Options as engine

@@ -1,10 +1,10 @@
 -- What a run does, told of its words, its status, and its devices before and after.
 use Rattle.std.specs.Prelude.{◌≡◌, ◌≢◌, ◌⊎◌, ℕ, Bool, true, false, List}
-use Rattle.hexd_words.specs.Reading.{WellFormed}
-use Rattle.hexd_words.specs.declared.settings.Options.{Options}
-use Rattle.hexd_words.specs.declared.settings.Mode.{Mode}
-use Rattle.hexd_words.specs.declared.settings.Mode.TheVariants.{Htp, Check, Migrate, Audit}
-use Rattle.hexd_words.specs.declared.settings.Mode.TheVariants.{Sim, Bench, Solve}
+use Rattle.hexd_args.specs.Reading.{WellFormed}
+use Rattle.hexd_args.specs.declared.settings.Options.{Options}
+use Rattle.hexd_args.specs.declared.settings.Mode.{Mode}
+use Rattle.hexd_args.specs.declared.settings.Mode.TheVariants.{Htp, Check, Migrate, Audit}
+use Rattle.hexd_args.specs.declared.settings.Mode.TheVariants.{Sim, Bench, Solve}
 use Rattle.hex_devices.specs.declared.stops.Stop.TheVariants.{Memory}
 use Rattle.hex_devices.specs.Devices.{DevicesState}
 use Rattle.hex_devices.specs.Statuses.{status_of}

@@ -1,10 +1,10 @@
 -- What is done for the words of a run, told of its devices. No clause of a public call cites this.
 use Rattle.std.specs.Prelude.{◌≡◌, ℕ, List}
-use Rattle.hexd_words.specs.Reading.{WellFormed}
-use Rattle.hexd_words.specs.declared.settings.Options.{Options}
-use Rattle.hexd_words.specs.declared.settings.Mode.{Mode}
-use Rattle.hexd_words.specs.declared.settings.Mode.TheVariants.{Htp, Check, Migrate, Audit}
-use Rattle.hexd_words.specs.declared.settings.Mode.TheVariants.{Sim, Bench, Solve}
+use Rattle.hexd_args.specs.Reading.{WellFormed}
+use Rattle.hexd_args.specs.declared.settings.Options.{Options}
+use Rattle.hexd_args.specs.declared.settings.Mode.{Mode}
+use Rattle.hexd_args.specs.declared.settings.Mode.TheVariants.{Htp, Check, Migrate, Audit}
+use Rattle.hexd_args.specs.declared.settings.Mode.TheVariants.{Sim, Bench, Solve}
 use Rattle.turn_modes.specs.OneTurn.{IsBenchmark, IsSimulation}
 use Rattle.hex_devices.specs.Devices.{DevicesState}
 use Rattle.hex_cli.specs.AuditTexts.{IsAuditText}

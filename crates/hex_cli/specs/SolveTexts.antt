@@ -20,8 +20,8 @@ use Rattle.hex_solve.specs.declared.answers.Solved.{Solved}
 use Rattle.hex_solve.specs.declared.answers.Solved.TheVariants.{Won, Unknown, TooLong, Open}
 
 -- the player to place after these steps: the other of who made the last, and Black before any
-abbrev pub next_after : List Step → Colour
-next_after steps =
+abbrev pub next_mover : List Step → Colour
+next_mover steps =
     option_map_or (λ step. other_of step.colour) (slice_get steps (length steps - 1)) Black
 
 -- the text for an answer of the solver
@@ -34,11 +34,11 @@ solved_text (TooLong winner lines) =
 solved_text (Open full) = codes "open\n"
 
 -- an answer whose certificate, where it has one, can be written; private clauses alone cite it
-abbrev pub IsTold : Solved → Type 0
-IsTold (Won winner cert) = IsWritable cert
-IsTold (Unknown spent own) = Unit {0}
-IsTold (TooLong winner lines) = Unit {0}
-IsTold (Open full) = Unit {0}
+abbrev pub CanBeWritten : Solved → Type 0
+CanBeWritten (Won winner cert) = IsWritable cert
+CanBeWritten (Unknown spent own) = Unit {0}
+CanBeWritten (TooLong winner lines) = Unit {0}
+CanBeWritten (Open full) = Unit {0}
 
 -- what the solver may answer, with connections or without and with this budget, of the position p
 -- with `mover` to place
@@ -60,7 +60,7 @@ IsOverText game text = (winner : Colour) × (winner_of (board_of game) ≡ Some 
 abbrev pub IsSolvedText : Bool → ℕ → GameData → List ℕ → Type 0
 IsSolvedText hsearch budget game text =
     (solved : Solved) × (winner_of (board_of game) ≡ None)
-    × IsSolved hsearch budget (board_of game) (next_after game.steps) solved
+    × IsSolved hsearch budget (board_of game) (next_mover game.steps) solved
     × (text ≡ solved_text solved)
 
 -- Mode solve: the text tells who wins the position of the game of which the bytes are a record; or

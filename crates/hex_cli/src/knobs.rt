@@ -2,11 +2,11 @@
 
 ghost use Rattle.std.specs.Prelude.{◌≡◌, ◌^◌, ◌<◌, ◌≤◌};
 ghost use Rattle.tree_words.specs.Settings.{AreInRange};
-ghost use Rattle.hexd_words.specs.Values as value;
+ghost use Rattle.hexd_args.specs.Values as value;
 ghost use Rattle.hex_cli.specs.Modes.{knobs_of};
 
 use hex_cells::Size;
-use hexd_words::Options;
+use hexd_args::Options;
 use tree_words::Knobs;
 
 /// The knobs of a search, which are in their ranges.

@@ -60,7 +60,7 @@ mod solutions;
 mod top;
 mod trace_names;
 
-pub use hexd_words::Memory;
+pub use hexd_args::Memory;
 pub use limits::INPUT_LIMIT;
 pub use top::run;
 pub use trace_names::trace_name;

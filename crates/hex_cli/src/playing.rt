@@ -2,7 +2,7 @@
 
 ghost use Rattle.std.specs.Prelude.{◌≡◌, ◌^◌, ◌<◌};
 ghost use Rattle.tree_words.specs.Settings.{AreInRange};
-ghost use Rattle.hexd_words.specs.Values as value;
+ghost use Rattle.hexd_args.specs.Values as value;
 ghost use Rattle.hex_devices.specs.Devices.{CountsStop};
 ghost use Rattle.hex_cli.specs.Modes.{engine_options};
 ghost use Rattle.hex_cli.specs.Playing.{HasGoodTurns};
@@ -13,7 +13,7 @@ use crate::limits::INPUT_LIMIT;
 use hex_devices::{Devices, End};
 use hex_io::{Link, Shelf};
 use hex_plan::Archive;
-use hexd_words::Options;
+use hexd_args::Options;
 use htp_session::converse;
 use search_team::Gate;
 use std::alloc::Global;

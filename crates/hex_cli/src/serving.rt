@@ -1,7 +1,7 @@
 //! What is done for the words of a run, in the mode that they say.
 
 ghost use Rattle.std.specs.Prelude.{◌≡◌, ◌≢◌, ◌⊎◌, ◌^◌, ◌<◌};
-ghost use Rattle.hexd_words.specs.Values as value;
+ghost use Rattle.hexd_args.specs.Values as value;
 ghost use Rattle.hex_devices.specs.declared.stops.Stop.TheVariants.{Memory};
 ghost use Rattle.hex_devices.specs.Devices.{CountsStop};
 ghost use Rattle.hex_cli.specs.Runs.{AreWellFormed, AreRefused};
@@ -15,7 +15,7 @@ use crate::single_turns::{bench, simulate};
 use hex_devices::{Devices, End, Stop};
 use hex_io::{Link, Shelf, Word};
 use hex_plan::Archive;
-use hexd_words::{Mode, Options, read_words};
+use hexd_args::{Mode, Options, read_words};
 use search_team::Gate;
 use std::alloc::Global;
 use std::thread::Threads;

@@ -2,7 +2,7 @@
 
 ghost use Rattle.std.specs.Prelude.{◌≡◌, ◌^◌, ◌<◌};
 ghost use Rattle.tree_words.specs.Settings.{AreInRange};
-ghost use Rattle.hexd_words.specs.Values as value;
+ghost use Rattle.hexd_args.specs.Values as value;
 ghost use Rattle.hex_devices.specs.Devices.{CountsStop};
 ghost use Rattle.turn_modes.specs.OneTurn.{IsBenchmark, IsSimulation};
 ghost use Rattle.hex_cli.specs.Modes.{HandsInBy, mode_options};
@@ -13,7 +13,7 @@ use crate::knobs::{board_size, knobs_of};
 use hex_devices::{Devices, End};
 use hex_io::{Link, Shelf};
 use hex_plan::Archive;
-use hexd_words::Options;
+use hexd_args::Options;
 use search_team::Gate;
 use std::alloc::Global;
 use std::thread::Threads;

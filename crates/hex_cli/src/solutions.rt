@@ -4,8 +4,8 @@ ghost use Rattle.std.specs.Prelude.{◌≡◌, ◌⊎◌, ◌++◌, IfOk, codes}
 ghost use Rattle.std.specs.Fmt.{decimal};
 ghost use Rattle.win_cert.specs.Texts.{cert_text, colour_word};
 ghost use Rattle.win_cert.specs.Writable.{IsWritable};
-ghost use Rattle.hex_cli.specs.SolveTexts.{IsOverText, IsSolveText, IsSolvedText, IsTold};
-ghost use Rattle.hex_cli.specs.SolveTexts.{next_after, solved_text};
+ghost use Rattle.hex_cli.specs.SolveTexts.{IsOverText, IsSolveText, IsSolvedText, CanBeWritten};
+ghost use Rattle.hex_cli.specs.SolveTexts.{next_mover, solved_text};
 
 use crate::numbers::push_number;
 use hex_cells::Colour;
@@ -57,7 +57,7 @@ fn game_text(alloc: Global, hsearch: bool, budget: u64, game: &Game) -> Result<V
 
 // The player to place after these steps: the other of who made the last, and Black before any.
 fn next_to_place(steps: &[Step]) -> Colour
-    ensures { result ≡ next_after steps.now }
+    ensures { result ≡ next_mover steps.now }
 {
     match steps.last() {
         Some(step) => step.colour.other(),
@@ -78,7 +78,7 @@ fn over_text(alloc: Global, winner: Colour) -> Result<Vec<u8>, AllocError>
 
 // The text for an answer of the solver.
 fn text_of(alloc: Global, solved: &Solved) -> Result<Vec<u8>, AllocError>
-    requires { IsTold solved.now }
+    requires { CanBeWritten solved.now }
     ensures { IfOk result (λ text. text.items ≡ solved_text solved.now) }
 {
     match solved {

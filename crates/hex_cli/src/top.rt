@@ -2,8 +2,8 @@
 
 ghost use Rattle.std.specs.Prelude.{◌≡◌};
 ghost use Rattle.hex_io.specs.Causes.{CountsFault};
-ghost use Rattle.hexd_words.specs.declared.settings.Mode.TheVariants.{Htp, Check, Migrate};
-ghost use Rattle.hexd_words.specs.declared.settings.Mode.TheVariants.{Audit, Sim, Bench, Solve};
+ghost use Rattle.hexd_args.specs.declared.settings.Mode.TheVariants.{Htp, Check, Migrate};
+ghost use Rattle.hexd_args.specs.declared.settings.Mode.TheVariants.{Audit, Sim, Bench, Solve};
 ghost use Rattle.hex_devices.specs.declared.stops.Stop.TheVariants.{ReadFault, WriteFault};
 ghost use Rattle.hex_devices.specs.declared.stops.Stop.TheVariants.{ArchiveFault};
 ghost use Rattle.turn_modes.specs.OneTurn.{IsSimulation, IsBenchmark};

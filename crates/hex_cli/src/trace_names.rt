@@ -1,12 +1,12 @@
 //! The name of the file for traces, for the program that makes the archive.
 
 ghost use Rattle.std.specs.Prelude.{◌≡◌, IfOk, None};
-ghost use Rattle.hexd_words.specs.Reading.{WellFormed};
-ghost use Rattle.hexd_words.specs.declared.settings.Options.{Options};
+ghost use Rattle.hexd_args.specs.Reading.{WellFormed};
+ghost use Rattle.hexd_args.specs.declared.settings.Options.{Options};
 ghost use Rattle.hex_cli.specs.Runs.{AreRefused};
 
 use hex_io::Word;
-use hexd_words::{Memory, read_words};
+use hexd_args::{Memory, read_words};
 use std::alloc::Global;
 
 /// The name of the file for traces, which is the value of `--trace`.

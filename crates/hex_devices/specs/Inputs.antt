@@ -1,5 +1,6 @@
 -- The whole input of a link, up to a limit.
-use Rattle.std.specs.Prelude.{◌≡◌, ◌+◌, ◌≤◌, ℕ, Bool, List, [], ◌++◌, length, Result, Ok, Err, Vec}
+use Rattle.std.specs.Prelude.{◌≡◌, ◌+◌, ◌<◌, ◌≤◌, ℕ, Bool, List, [], ◌++◌, length, Result, Ok}
+use Rattle.std.specs.Prelude.{Err, Vec}
 use Rattle.std.specs.declared.alloc.Global.{Global}
 use Rattle.std.specs.declared.option.Option.{Option}
 use Rattle.hex_io.specs.Told.{Told, Both}
@@ -53,13 +54,13 @@ abbrev pub AnsweredAll : TextOf → Bool → ℕ → Told → Told → Type 0
 AnsweredAll Answers accepted limit old new =
     (text : List ℕ) × IsAnswer Answers accepted limit old new text text
 
--- a front of the text was given
+-- a front of the text was given that is not all of it
 abbrev pub AnsweredPart : TextOf → ℕ → Told → Told → Type 0
 AnsweredPart Answers limit old new = (accepted : Bool) × (front : List ℕ) × (others : List ℕ)
-    × IsAnswer Answers accepted limit old new (front ++ others) front
+    × (0 < length others) × IsAnswer Answers accepted limit old new (front ++ others) front
 
--- The whole input was answered by its text, or a front of it where a write failed. Where it was not
--- taken whole, or memory ran out, nothing was given.
+-- The whole input was answered by its text, or a front of it that is not all where a write failed.
+-- Where it was not taken whole, or memory ran out, nothing was given.
 abbrev pub AnswersInput : TextOf → Option Told → Option Told → ℕ → Result Bool Stop → Type 0
 AnswersInput Answers old new limit (Ok accepted) =
     Both old new (AnsweredAll Answers accepted limit)

@@ -12,7 +12,7 @@ use Rattle.hex_board.specs.Positions.{IsPosition, Position, Within, is_empty_at,
 use Rattle.hex_board.specs.Wins.{Wins}
 use Rattle.hex_board.proofs.Placed.{stones_on}
 use Rattle.conn_store.specs.Rules.{IsCell, IsChain}
-use Rattle.conn_store.specs.Laws.{IsOnBoard}
+use Rattle.conn_store.specs.Laws.{AreOfBoard}
 use Rattle.conn_store.specs.Stores.{AreTrue, IsSound, StoreData}
 use Rattle.conn_store.specs.Truth.{IsSureIn}
 use Rattle.conn_store.specs.declared.entries.Entry.{Entry}
@@ -39,7 +39,7 @@ use Rattle.win_cert.proofs.CutDerivations.{some_entry}
 
 -- the entries of a report are true
 report_true : (board : Position) (player : Colour) (d : StoreData) → IsPosition board.size board.black board.white → IsReportOf board player d → AreTrue d
-report_true board player d on r = sound_true d (board_small d.elements (subst IsOnBoard (sym r.elements) on)) r.report.sound
+report_true board player d on r = sound_true d (board_small d.elements (subst AreOfBoard (sym r.elements) on)) r.report.sound
 
 -- ---- certified moves
 

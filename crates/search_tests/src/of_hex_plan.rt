@@ -1,5 +1,5 @@
 //! The seeds of turns, and where no turn is made. What is planned is shown by whole sessions, rows
-//! of hex_cli's tests.
+//! of session_tests.
 
 ghost use Rattle.std.specs.Prelude.{IfSome};
 ghost use Rattle.tree_words.specs.Settings.{AreEmpty, IsAny};

@@ -1,5 +1,5 @@
 //! Workers that are counted at a gate, and one worker's tree by three searches. That whole runs
-//! pass the gate is told by the tests of hex_cli.
+//! pass the gate is told by session_tests (of_hex_cli/gates.rt).
 
 use hex_board::Board;
 use hex_cells::{CellSet, Colour, Size};

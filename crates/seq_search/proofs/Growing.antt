@@ -5,7 +5,7 @@ use Rattle.std.proofs.Math.ListN.{length-set}
 use Rattle.std.proofs.lemmas.Bool.{cases_eq, or_right, eq-eqb, ne_eqb, cases_Bool, or_cases, and_parts, leb-true, ltb-true, false_from_ne_true}
 use Rattle.tree_words.specs.Settings.{Setting, IsSetting}
 use Rattle.tree_words.specs.Words.{Count, count_in, root_at, area_at, end_of, next_in, tally_in, seen_in}
-use Rattle.tree_words.specs.Blocks.{LinkedBlock, size, covers, has_node, is_node, link_of, header_or_move, is_header_or_move, Follows, In, Shows}
+use Rattle.tree_words.specs.Blocks.{LinkedBlock, size, covers, has_node, is_node, link_of, header_or_move, is_header_or_move, Follows, In, HaveBlocks}
 use Rattle.tree_words.specs.Paths.{NodeState, root_state, node_state, node_board}
 use Rattle.tree_words.specs.Complete.{HasEmpties, IsComplete, AreComplete, allowed_cells}
 use Rattle.tree_words.specs.declared.layout.TheConstants.{MOST_BLOCK_WORDS}
@@ -168,7 +168,7 @@ module _ (s : Setting) (bs : List LinkedBlock) (before after : List ℕ) (k : �
         empties = subst (λ (z : NodeState). HasEmpties e z.board) (sym spot-is) empties;
         cells = ap (λ (z : NodeState). empties_of z.board) (sym spot-is) ∙ sym (ap (λ (t : Bool). cond t (allowed_cells s) (empties_of (node_board s bs leaf))) notroot);
       } in
-      let shows : Shows (root_at s) (n ∷ bs) after = record {
+      let shows : HaveBlocks (root_at s) (n ∷ bs) after = record {
         blocks = λ c i m li t. ⊎_elim
             (λ (q : c ≡ n).
             subst (λ (d : LinkedBlock). get_or after (d.start + i) 0 ≡ header_or_move d i) (sym q) (new-stays i (subst (λ (d : LinkedBlock). i < size d) q li) t))

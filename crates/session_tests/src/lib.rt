@@ -11,7 +11,7 @@ mod of_hex_cli;
 #[cfg(test)]
 mod of_hex_engine;
 #[cfg(test)]
-mod of_hexd_words;
+mod of_hexd_args;
 #[cfg(test)]
 mod of_htp_session;
 #[cfg(test)]

@@ -1,5 +1,5 @@
 //! Sessions over links in memory that take at most so many bytes, one that names no text, and whole
-//! inputs. That searches pass the gate is told by hex_cli's tests.
+//! inputs. That searches pass the gate is told by of_hex_cli/gates.rt.
 
 ghost use Rattle.std.specs.Prelude.{◌≡◌, ◌^◌};
 ghost use Rattle.tree_words.specs.Settings.{AreInRange};

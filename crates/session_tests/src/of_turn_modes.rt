@@ -1,5 +1,5 @@
 //! Positions and schedules, as other programs computed them. The runs of both modes are rows of
-//! hex_cli's tests.
+//! of_hex_cli.
 
 use hex_cells::{Colour, Size};
 use std::test::Fail;

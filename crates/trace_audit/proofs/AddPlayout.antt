@@ -23,7 +23,7 @@ use Rattle.tree_words.proofs.Walks.Tallies.{other_again}
 use Rattle.trace_audit.specs.declared.sites.Site.{Site}
 use Rattle.trace_audit.specs.Tables.{site_state}
 use Rattle.trace_audit.specs.Gains.{GainsLeaf}
-use Rattle.trace_audit.specs.Sums.{AreOwn, IsFilled, chooser}
+use Rattle.trace_audit.specs.Sums.{AreOwn, IsFullBoard, chooser}
 use Rattle.trace_audit.proofs.Downward.{parent_low}
 use Rattle.trace_audit.proofs.OwnSums.{own_added}
 
@@ -35,7 +35,7 @@ no_record s bs words k leaf same none is = ⊎_elim
     (node-in (root_at s) bs (leaf_of words k) is.node)
 
 -- a board without empty cells whose stones lie apart
-pub is_filled : (full : Position) (n : ℕ) → full.size ≡ n → ((c : ℕ) → is_empty_at full c ≡ false) → Apart full.black full.white → IsFilled n full
+pub is_filled : (full : Position) (n : ℕ) → full.size ≡ n → ((c : ℕ) → is_empty_at full c ≡ false) → Apart full.black full.white → IsFullBoard n full
 is_filled full n e none apart c l =
     one (has_cell full.black c) (has_cell full.white c) (nat_lt c (full.size * full.size)) (lt-ltb c (full.size * full.size) (subst (λ (m : ℕ). c < m * m) (sym e) l)) (none c) (apart c)
   where
@@ -73,11 +73,11 @@ module _ (s : Setting) (bs : List LinkedBlock) (words : List ℕ) (k : ℕ) (h :
     pub right_record : o.winner ≡ winner_in (record_in words k) → IsRecord s bs words k
     right_record e = record { node = ap (is_node (root_at s) bs) is_leaf ∙ node; below = λ z. below (sym is_leaf ∙ z); result = sym e ∙ ap (λ (p : Ending). p.winner) same }
 
-    pub playout_added : (sums after : List ℕ) (p : Colour) → AreOwn s bs words sums k → k < s.knobs.playouts → p ≡ other_of site.player → IsFilled site.board.size o.full
+    pub playout_added : (sums after : List ℕ) (p : Colour) → AreOwn s bs words sums k → k < s.knobs.playouts → p ≡ other_of site.player → IsFullBoard site.board.size o.full
         → GainsLeaf words b.start leaf (amount_of (is_same o.winner p)) (stones_of o.full p) sums after → AreOwn s bs words after (k + 1)
     playout_added sums after p a number turn filled-up g =
         let size : site.board.size ≡ s.board.size = ap (λ (q : NodeState). q.board.size) state ∙ spot-size s bs leaf in
         own_added s words bs h lk sums k a number b i leaf n is_leaf after
         (subst (λ (q : Ending). GainsLeaf words b.start leaf (amount_of (is_same q.winner (chooser s bs b))) (stones_of q.full (chooser s bs b)) sums after) same
         (subst (λ (q : Colour). GainsLeaf words b.start leaf (amount_of (is_same o.winner q)) (stones_of o.full q) sums after) (chooser_is p turn) g))
-        (subst (λ (q : Ending). IsFilled s.board.size q.full) same (subst (λ (m : ℕ). IsFilled m o.full) size filled-up))
+        (subst (λ (q : Ending). IsFullBoard s.board.size q.full) same (subst (λ (m : ℕ). IsFullBoard m o.full) size filled-up))

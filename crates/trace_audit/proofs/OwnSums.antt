@@ -21,8 +21,8 @@ use Rattle.tree_words.proofs.Blocks.NodeLaws.{nodes-apart}
 use Rattle.tree_words.proofs.Walks.Countings.{has-one}
 use Rattle.tree_words.proofs.Walks.Down.{plus-nothing}
 use Rattle.tree_words.proofs.Walks.Tallies.{count-most}
-use Rattle.trace_audit.specs.Gains.{GainsLeaf, HasRoom}
-use Rattle.trace_audit.specs.Sums.{AreOwn, Counts, HaveCounts, IsFilled, chooser, has_stone, standing, tally_of}
+use Rattle.trace_audit.specs.Gains.{GainsLeaf, CanGain}
+use Rattle.trace_audit.specs.Sums.{AreOwn, Counts, HaveCounts, IsFullBoard, chooser, has_stone, standing, tally_of}
 use Rattle.trace_audit.proofs.Downward.{parent_low}
 use Rattle.trace_audit.proofs.Gained.{counts_gained, gained_move, head_apart, node_inside, own_node}
 use Rattle.trace_audit.proofs.Sums.{IsSmall, one_word, tally_next, tally_small, word_of, word_small}
@@ -91,7 +91,7 @@ module _ (s : Setting) (words : List ℕ) (bs : List LinkedBlock) (h : IsSetting
     pub leaf_room : slice_index sums leaf + 1 < 2 ^ 64
     leaf_room = let l = few k number in omega (arith, a.leaves leaf node, count-most k (λ q. leaf_of words q == leaf), l)
 
-    pub seen_room : HasRoom words sums b.start (2 ^ 32 + 1)
+    pub seen_room : CanGain words sums b.start (2 ^ 32 + 1)
     seen_room j l =
         let y : ℕ = node_at b.start j in
         let w : slice_index sums (y + 3) < 2 ^ 63 = word_small (slice_index sums (y + 3)) _ (a.counts.seen b y i (own_node s words bs h lk b j i l)) (small _ _) in
@@ -127,7 +127,7 @@ module _ (s : Setting) (words : List ℕ) (bs : List LinkedBlock) (h : IsSetting
       below e = let low = parent_low r bs b lk.order i in let at = has-at b leaf n in omega (arith, e, low.1, at.2)
 
       -- all sums are those of one playout more
-      pub own_added : (after : List ℕ) → GainsLeaf words b.start leaf (amount_of (is_same o.winner p)) (stones_of o.full p) sums after → IsFilled s.board.size o.full → AreOwn s bs words after (k + 1)
+      pub own_added : (after : List ℕ) → GainsLeaf words b.start leaf (amount_of (is_same o.winner p)) (stones_of o.full p) sums after → IsFullBoard s.board.size o.full → AreOwn s bs words after (k + 1)
       own_added after g full =
           let middle : List ℕ = set sums leaf (slice_index sums leaf + 1) in
           let next : suc k ≡ k + 1 = omega arith in
@@ -163,7 +163,7 @@ module _ (s : Setting) (words : List ℕ) (bs : List LinkedBlock) (h : IsSetting
                 (λ (e : j ≡ k → ⊥). a.nodes j (omega (arith, l, e)))
                 (cases_eq j k);
             filled = λ j l. ⊎_elim
-                (λ (e : j ≡ k). subst (λ (q : ℕ). IsFilled s.board.size (outcome_in s bs words q).full) (sym e) full)
+                (λ (e : j ≡ k). subst (λ (q : ℕ). IsFullBoard s.board.size (outcome_in s bs words q).full) (sym e) full)
                 (λ (e : j ≡ k → ⊥). a.filled j (omega (arith, l, e)))
                 (cases_eq j k);
           })

@@ -4,7 +4,7 @@ use Rattle.std.specs.Prelude.{◌==◌, ◌⊎◌}
 use Rattle.std.proofs.lemmas.Bool.{cases_eq, eq-eqb, ne_eqb}
 use Rattle.std.proofs.lemmas.Grind.{same_number_lists}
 use Rattle.std.proofs.lemmas.List.{length-replicate}
-use Rattle.trace_audit.specs.Slots.{AreSlots, IsTaken, entries_from, entry_in}
+use Rattle.trace_audit.specs.Slots.{AreSlots, IsNearTaken, entries_from, entry_in}
 use Rattle.trace_audit.proofs.WordBytes.{none_left}
 
 pub entries_long : (i n : ℕ) (slots : List ℕ) → length (entries_from i n slots) ≡ n
@@ -94,7 +94,7 @@ module _ (n : ℕ) (slots : List ℕ) (a : AreSlots n slots) (at : ℕ) (l : at 
         (cases_eq k at))
 
   -- another word of the piece has one
-  pub entry_taken : (slice_index slots (at / 4) ≡ 0 → ⊥) → (slice_index slots (at / 4) % 4 ≡ at % 4 → ⊥) → IsTaken (entries_from 0 n slots) at
+  pub entry_taken : (slice_index slots (at / 4) ≡ 0 → ⊥) → (slice_index slots (at / 4) % 4 ≡ at % 4 → ⊥) → IsNearTaken (entries_from 0 n slots) at
   entry_taken some other =
       let m : ℕ = slice_index slots (at / 4) in
       let j : ℕ = 4 * (at / 4) + m % 4 in

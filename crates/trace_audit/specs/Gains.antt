@@ -23,8 +23,8 @@ abbrev pub IsNodeOf : List ℕ → ℕ → ℕ → Type 0
 IsNodeOf words b x = (k : ℕ) × (k < nodes_in words b) × (x ≡ node_at b k)
 
 -- so much more fits into the sum of the seen word of each node of the block at b
-abbrev pub HasRoom : List ℕ → List ℕ → ℕ → ℕ → Type 0
-HasRoom words sums b amount = (k : ℕ) → k < nodes_in words b
+abbrev pub CanGain : List ℕ → List ℕ → ℕ → ℕ → Type 0
+CanGain words sums b amount = (k : ℕ) → k < nodes_in words b
     → slice_index sums (node_at b k + SEEN_WORD) + amount < 2 ^ 64
 
 -- what the stones of a player give a cell

@@ -19,5 +19,5 @@ pub record AreSlots (len : ℕ) (slots : List ℕ) : Type 0 where
       ⊎ ((4 ≤ slice_index slots k) × (4 * k + slice_index slots k % 4 < len))
 
 -- another word, fewer than four from this one, has a number
-abbrev pub IsTaken : List ℕ → ℕ → Type 0
-IsTaken index at = (j : ℕ) × (j ≢ at) × (j < at + 4) × (at < j + 4) × (0 < slice_index index j)
+abbrev pub IsNearTaken : List ℕ → ℕ → Type 0
+IsNearTaken index at = (j : ℕ) × (j ≢ at) × (j < at + 4) × (at < j + 4) × (0 < slice_index index j)

@@ -77,8 +77,8 @@ pub record HaveCounts (s : Setting) (bs : List LinkedBlock) (sums : List ℕ) (c
       → seen_in sums y ≡ c.seen b y
 
 -- each cell of the board of size n has a stone, of one player
-abbrev pub IsFilled : ℕ → Position → Type 0
-IsFilled n full =
+abbrev pub IsFullBoard : ℕ → Position → Type 0
+IsFullBoard n full =
     (c : ℕ) → c < n * n → has_cell full.white c ≡ not (has_cell full.black c)
 
 -- the sums of the first n playouts, each of which stands somewhere
@@ -88,7 +88,7 @@ pub record AreStanding (s : Setting) (bs : List LinkedBlock) (words sums : List 
   pub leaves : (x : ℕ) → is_node (root_at s) bs x ≡ true
       → slice_index sums x ≡ ends_at words n x
   pub nodes : (k : ℕ) → k < n → is_node (root_at s) bs (leaf_of words k) ≡ true
-  pub filled : (k : ℕ) → k < n → IsFilled s.board.size (outcome_in s bs words k).full
+  pub filled : (k : ℕ) → k < n → IsFullBoard s.board.size (outcome_in s bs words k).full
 
 -- at first each playout stands at its leaf
 abbrev pub AreOwn : Setting → List LinkedBlock → List ℕ → List ℕ → ℕ → Type 0

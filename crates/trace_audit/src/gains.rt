@@ -8,7 +8,7 @@ ghost use Rattle.hex_cells.specs.Sets.{has};
 ghost use Rattle.tree_words.specs.Blocks.{block_size};
 ghost use Rattle.tree_words.specs.Sequence.{amount_of};
 ghost use Rattle.tree_words.specs.Words.{nodes_in};
-ghost use Rattle.trace_audit.specs.Gains.{AreCells, GainsBlock, GainsLeaf, HasRoom, IsNodeOf, Sees};
+ghost use Rattle.trace_audit.specs.Gains.{AreCells, GainsBlock, GainsLeaf, CanGain, IsNodeOf, Sees};
 ghost use Rattle.trace_audit.specs.Gains.{stone_gift};
 
 use super::word_list::Words;
@@ -39,7 +39,7 @@ fn see(words: &Words, sums: &mut [u64], block: usize, stones: CellSet, amount: u
     requires within { block + block_size (nodes_in words.now block) ≤ length words.now }
     requires long { length sums.old ≡ length words.now }
     requires cells { AreCells words.now block }
-    requires small { HasRoom words.now sums.old block amount }
+    requires small { CanGain words.now sums.old block amount }
     ensures { Sees words.now block (nodes_in words.now block) (stone_gift stones amount)
         sums.old sums.new }
 {
@@ -66,7 +66,7 @@ pub(crate) fn gain_leaf(
     requires long { length sums.old ≡ length words.now }
     requires cells { AreCells words.now block }
     requires node { IsNodeOf words.now block leaf }
-    requires small { HasRoom words.now sums.old block (VISIT + 1) }
+    requires small { CanGain words.now sums.old block (VISIT + 1) }
     requires tally { slice_index sums.old (leaf + TALLY_WORD) + (VISIT + 1) < 2 ^ 64 }
     requires total { slice_index sums.old block + (VISIT + 1) < 2 ^ 64 }
     requires leaves { slice_index sums.old leaf + 1 < 2 ^ 64 }

@@ -1,7 +1,7 @@
 //! Which block begins at which word.
 
 ghost use Rattle.std.specs.Prelude.{◌≡◌, ◌<◌, IfOk, MatchBool, length, replicate, set, slice_index};
-ghost use Rattle.trace_audit.specs.Slots.{IsTaken};
+ghost use Rattle.trace_audit.specs.Slots.{IsNearTaken};
 ghost use Rattle.trace_audit.specs.declared.index.TheConstants.{NUMBERS};
 
 use super::refusals::Memory;
@@ -71,7 +71,7 @@ impl Index {
         requires least { 0 < number }
         requires most { number < NUMBERS }
         ensures { MatchBool result (self.new ≡ set self.old at number)
-            (IsTaken self.old at) }
+            (IsNearTaken self.old at) }
     {
         let place = (at % PIECE as usize) as u32;
         let slot = self.slots[at / PIECE as usize];

@@ -6,7 +6,7 @@ ghost use Rattle.play_out.specs.Fills.{filled, playout_of};
 ghost use Rattle.trace_audit.specs.Playouts.{AddsPlayout, AddsPlayouts, HasOwnSums, IsBlockOf};
 ghost use Rattle.trace_audit.specs.Playouts.{IsLinkedNode, IsSiteOf, IsTableOf};
 ghost use Rattle.trace_audit.specs.Scans.{IsLinkTable};
-ghost use Rattle.trace_audit.specs.Sums.{IsFilled};
+ghost use Rattle.trace_audit.specs.Sums.{IsFullBoard};
 
 use super::gains::gain_leaf;
 use super::handing::hand_all;
@@ -77,7 +77,7 @@ fn site_of(words: &Words, table: &Table, block: usize, node: usize) -> Site
 fn ending_of(site: &Site, seed: u64, k: u64) -> Ending
     ensures full { result.full ≡ filled site.now.board site.now.player seed k }
     ensures winner { result.winner ≡ playout_of site.now.board site.now.player seed k }
-    ensures filled { IsFilled site.now.board.size result.full }
+    ensures filled { IsFullBoard site.now.board.size result.full }
 {
     let full = fill(&site.board, site.player, seed, k);
     // A board's stones lie apart.

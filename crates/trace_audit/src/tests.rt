@@ -240,8 +240,8 @@ fn moved(alloc: Global, by: u32, behind: u32) -> Result<Audit, Fail> {
     audited(alloc, &text(alloc, &words)?)
 }
 
-// One worker may claim a largest block of 488 words that is not linked, and no word more. The bound
-// on NEXT is told from the end of the root's block, wherever this lies.
+// `moved-root-block`: one worker may claim a largest block of 488 words that is not linked, and no
+// word more. The bound on NEXT is told from the end of the root's block, wherever this lies.
 #[test]
 fn the_root_block_may_lie_anywhere(rt: HostRuntime) -> Result<(), Fail> {
     let alloc = rt.alloc();

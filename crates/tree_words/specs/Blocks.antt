@@ -102,7 +102,7 @@ is_header_or_move i = nat_lt i HEADER_WORDS || (i % NODE_WORDS == 0)
 
 -- the words have these linked blocks: the header and the moves of each, and at each node of the
 -- tree the link that names the block whose parent it is, or 0
-pub record Shows (r : ℕ) (bs : List LinkedBlock) (words : List ℕ) : Type 0 where
+pub record HaveBlocks (r : ℕ) (bs : List LinkedBlock) (words : List ℕ) : Type 0 where
   pub blocks : (c : LinkedBlock) (i : ℕ) → In c bs → i < size c → is_header_or_move i ≡ true
       → slice_index words (c.start + i) ≡ header_or_move c i
   pub links : (x : ℕ) → is_node r bs x ≡ true → slice_index words (x + LINK_WORD) ≡ link_of bs x

@@ -8,7 +8,7 @@ use Rattle.hex_board.specs.Positions.{Position, is_empty_at}
 use Rattle.play_out.specs.Fills.{empties_of}
 use Rattle.tree_words.specs.Settings.{Setting}
 use Rattle.tree_words.specs.Words.{root_at, area_at, end_of, next_in}
-use Rattle.tree_words.specs.Blocks.{LinkedBlock, size, InOrder, Shows}
+use Rattle.tree_words.specs.Blocks.{LinkedBlock, size, InOrder, HaveBlocks}
 use Rattle.tree_words.specs.Paths.{node_board}
 use Rattle.hex_cells.specs.declared.board_size.TheConstants.{MOST_CELLS}
 
@@ -49,7 +49,7 @@ AreComplete s next (b ∷ bs) = IsComplete s next bs b × AreComplete s next bs
 -- by its parent's link, and shares no word with another
 pub record Linked (s : Setting) (words : List ℕ) (bs : List LinkedBlock) : Type 0 where
   pub order : InOrder (root_at s) bs
-  pub shows : Shows (root_at s) bs words
+  pub shows : HaveBlocks (root_at s) bs words
   pub complete : AreComplete s (next_in words) bs
 
 -- each block has a node. No step makes another; the closed tree does not ask it.

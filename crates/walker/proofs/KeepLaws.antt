@@ -8,7 +8,7 @@ use Rattle.uct_table.specs.Choice.{Child, score_in, is_better, kept_of, kept_fro
 use Rattle.uct_table.proofs.ChoiceLaws.{is_better-visited, is_better-first_unvisited, is_better-second_unvisited}
 use Rattle.walker.specs.declared.scans.Phase.{Phase}
 use Rattle.walker.specs.Scans.{ScanData, kept}
-use Rattle.walker.specs.Belongs.{HasKept, Keeps}
+use Rattle.walker.specs.Belongs.{HasKept, KeepsBest}
 
 -- which child is kept, case by case
 kept-fresh : (d : ScanData) (c : Child) → d.fresh ≡ true → kept d c ≡ d
@@ -76,7 +76,7 @@ module _ (d : ScanData) (c : Child) (at : ℕ) (p : Phase) where
     goes = λ ys. (λ i. kept_from z.parent z.weight (sym b i) c (sym n i) ys);
   }
 
-  keeps-first : Keeps d [] → Keeps (record (kept d c) { at = at; phase = p; place = d.place + 1 }) (c ∷ [])
+  keeps-first : KeepsBest d [] → KeepsBest (record (kept d c) { at = at; phase = p; place = d.place + 1 }) (c ∷ [])
   keeps-first h =
       let e : d.fresh ≡ false = h.3 in
       let goal : ScanData → Type 0 = λ k. HasKept (record k { at = at; phase = p; place = d.place + 1 }) (c ∷ []) in
@@ -154,7 +154,7 @@ module _ (d : ScanData) (c : Child) (at : ℕ) (p : Phase) where
       none-or-some zero = inl refl
       none-or-some (suc n) = inr (omega arith)
 
-  pub keeps-more : (xs : List Child) → length xs ≡ d.place → Keeps d xs → Keeps (record (kept d c) { at = at; phase = p; place = d.place + 1 }) (xs ++ c ∷ [])
+  pub keeps-more : (xs : List Child) → length xs ≡ d.place → KeepsBest d xs → KeepsBest (record (kept d c) { at = at; phase = p; place = d.place + 1 }) (xs ++ c ∷ [])
   keeps-more [] long h = keeps-first h
   keeps-more (x ∷ xs) long h = keeps-later (x ∷ xs) long h
 

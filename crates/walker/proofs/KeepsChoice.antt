@@ -15,7 +15,7 @@ use Rattle.walker.specs.declared.scans.Phase.{Phase}
 use Rattle.walker.specs.declared.scans.Phase.TheVariants.{Move, Seen}
 use Rattle.walker.specs.declared.machine.Walker.{Walker}
 use Rattle.walker.specs.Scans.{ScanData, child_in, scan_on}
-use Rattle.walker.specs.Belongs.{Belongs, Down, InChild, Keeps, children_loaded, AtChild}
+use Rattle.walker.specs.Belongs.{Belongs, Down, InChild, KeepsBest, children_loaded, AtChild}
 use Rattle.walker.proofs.Going.{look-seen, loaded-goes, tally-goes, seen-goes}
 use Rattle.walker.proofs.Keeping.{kept-same}
 use Rattle.walker.proofs.KeepLaws.{keeps-more, kept-few}
@@ -35,7 +35,7 @@ pub record Looked (w : Walker) (u : SeatView) (c : LinkedBlock) (d : ScanData) :
   pub tallies : (i : ℕ) → i < d.place → IsLoaded u (child c i + 2)
   pub seen : (i : ℕ) → i < d.place → IsLoaded u (child c i + 3)
   pub few : d.visits ≤ u.shape.knobs.playouts
-  pub keeps : Keeps d (children_loaded u c d.place)
+  pub keeps : KeepsBest d (children_loaded u c d.place)
 
 module _ (w : Walker) (v : SeatView) (b : Belongs w v) (x : ℕ) (a : AtChild w v) (phase : w.scan.phase ≡ Seen)
     (may : MayAnswer v (Look w.scan.at) x) (iu : IsView (after v (Look w.scan.at) x)) where
@@ -75,7 +75,7 @@ module _ (w : Walker) (v : SeatView) (b : Belongs w v) (x : ℕ) (a : AtChild w 
       let seen : seen_loaded u y ≡ count_in x = ap (λ (o : Option ℕ). count_in (or_zero o)) (look-seen v w.scan.at x y (kid w v b x a w.scan.place (here w v b x a)) stands.0) in
       λ i. child_of (tally i, seen i)
 
-  kept-now : Keeps then (children_loaded (after v (Look w.scan.at) x) a.block (w.scan.place + 1))
+  kept-now : KeepsBest then (children_loaded (after v (Look w.scan.at) x) a.block (w.scan.place + 1))
   kept-now =
       let u : SeatView = after v (Look w.scan.at) x in
       let few : w.scan.place ≤ length a.block.cells = (let h = here w v b x a in omega (arith, h)) in
@@ -85,7 +85,7 @@ module _ (w : Walker) (v : SeatView) (b : Belongs w v) (x : ℕ) (a : AtChild w 
       (λ k l. seen-goes v u w.scan.at (goes w v b x a iu) (child a.block k) (λ e. let s = stands.0 in omega (arith, s, e, l))) in
       let more : children_loaded u a.block (w.scan.place + 1) ≡ children_loaded v a.block w.scan.place ++ child_in w.scan x ∷ []
       = children-push u a.block w.scan.place (here w v b x a) ∙ (λ i. same i ++ child-is i ∷ []) in
-      subst (Keeps then) (sym more)
+      subst (KeepsBest then) (sym more)
       (keeps-more w.scan (child_in w.scan x) (w.scan.at + 1) Move (children_loaded v a.block w.scan.place) (children-long v a.block w.scan.place few) a.scan.keeps)
 
   pub seen-looked : Looked w (after v (Look w.scan.at) x) a.block then

@@ -32,7 +32,7 @@ use Rattle.walker.specs.declared.scans.Phase.{Phase}
 use Rattle.walker.specs.declared.machine.Walker.{Walker}
 use Rattle.walker.specs.Scans.{ScanData}
 use Rattle.walker.specs.Machine.{state_in}
-use Rattle.walker.specs.Belongs.{Belongs, Down, IsBelow, IsScan, InChild, HasKept, Keeps, children_loaded, AtChild}
+use Rattle.walker.specs.Belongs.{Belongs, Down, IsBelow, IsScan, InChild, HasKept, KeepsBest, children_loaded, AtChild}
 use Rattle.walker.proofs.KnownLaws.{one-order, LiesIn, known-lies}
 use Rattle.walker.proofs.Going.{Goes, Untouched, look-goes, down-goes, loaded-goes, tally-goes, seen-goes}
 use Rattle.walker.proofs.ChildLaws.{children-all, children-same}
@@ -63,11 +63,11 @@ fewer-empties p player c small e =
         by false t e = refl
 
 -- what a scan keeps does not hang on where it looks
-pub keeps-look : (d : ScanData) (xs : List Child) (at t : ℕ) (p : Phase) → Keeps d xs → Keeps (record d { at = at; phase = p; tally = t }) xs
+pub keeps-look : (d : ScanData) (xs : List Child) (at t : ℕ) (p : Phase) → KeepsBest d xs → KeepsBest (record d { at = at; phase = p; tally = t }) xs
 keeps-look d [] at t p h = h
 keeps-look d (x ∷ xs) at t p h = record { place = h.place; child = h.child; is = h.is; visits = h.visits; fresh = h.fresh; score = h.score; goes = h.goes }
 
-pub keeps-has : (d : ScanData) (xs : List Child) → 0 < length xs → Keeps d xs → HasKept d xs
+pub keeps-has : (d : ScanData) (xs : List Child) → 0 < length xs → KeepsBest d xs → HasKept d xs
 keeps-has d [] l h = absurd (omega arith)
 keeps-has d (x ∷ xs) l h = h
 
@@ -165,5 +165,5 @@ module _ (w : Walker) (v : SeatView) (b : Belongs w v) (x : ℕ) (a : AtChild w 
           tallies = λ i l. loaded-goes v u w.scan.at goes (child a.block i + 2) (ne i 2 l (omega arith) (omega arith)) (a.scan.tallies i l);
           seen = λ i l. loaded-goes v u w.scan.at goes (child a.block i + 3) (ne i 3 l (omega arith) (omega arith)) (a.scan.seen i l);
           few = a.scan.few;
-          keeps = subst (Keeps (record w.scan { at = at; phase = p; tally = t })) (sym same) (keeps-look w.scan (children_loaded v a.block w.scan.place) at t p a.scan.keeps);
+          keeps = subst (KeepsBest (record w.scan { at = at; phase = p; tally = t })) (sym same) (keeps-look w.scan (children_loaded v a.block w.scan.place) at t p a.scan.keeps);
         }

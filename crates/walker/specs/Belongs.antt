@@ -1,6 +1,6 @@
 -- Which views belong to a walker.
 pub use Rattle.walker.specs.Underway.{IsLevel, OnWay, HasNumber, IsDown, Down, IsBelow, MayClaim}
-pub use Rattle.walker.specs.Looking.{HasKept, Keeps, children_loaded, InChild, IsScan}
+pub use Rattle.walker.specs.Looking.{HasKept, KeepsBest, children_loaded, InChild, IsScan}
 use Rattle.std.specs.Prelude.{◌≡◌, ◌≢◌, ℕ, ◌+◌, ◌-◌, ◌<◌, ◌≤◌, true, List, [], ◌++◌, length, take}
 use Rattle.std.specs.Prelude.{drop, Option, Some, None, ◌⊎◌}
 use Rattle.tree_words.specs.Words.{root_at}

@@ -27,9 +27,9 @@ pub record HasKept (d : ScanData) (xs : List Child) : Type 0 where
   pub goes : (ys : List Child) → kept_of d.parent d.weight (xs ++ ys)
       ≡ kept_from d.parent d.weight d.best child d.place ys
 
-abbrev pub Keeps : ScanData → List Child → Type 0
-Keeps d [] = (d.place ≡ 0) × (d.best ≡ 0) × (d.most ≡ 0) × (d.fresh ≡ false)
-Keeps d (x ∷ xs) = HasKept d (x ∷ xs)
+abbrev pub KeepsBest : ScanData → List Child → Type 0
+KeepsBest d [] = (d.place ≡ 0) × (d.best ≡ 0) × (d.most ≡ 0) × (d.fresh ≡ false)
+KeepsBest d (x ∷ xs) = HasKept d (x ∷ xs)
 
 -- the counts of the first n children of a block, as they were loaded
 abbrev pub children_loaded : SeatView → LinkedBlock → ℕ → List Child
@@ -55,4 +55,4 @@ pub record IsScan (w : Walker) (v : SeatView) (b : LinkedBlock) : Type 0 where
   pub tallies : (i : ℕ) → i < w.scan.place → IsLoaded v (child b i + TALLY_WORD)
   pub seen : (i : ℕ) → i < w.scan.place → IsLoaded v (child b i + SEEN_WORD)
   pub few : w.scan.visits ≤ v.shape.knobs.playouts
-  pub keeps : Keeps w.scan (children_loaded v b w.scan.place)
+  pub keeps : KeepsBest w.scan (children_loaded v b w.scan.place)

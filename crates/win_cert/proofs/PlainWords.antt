@@ -14,7 +14,7 @@ use Rattle.hex_cells.specs.declared.colours.Colour.TheVariants.{Black, White}
 use Rattle.conn_store.specs.declared.entries.Kind.{Kind}
 use Rattle.conn_store.specs.declared.entries.Kind.TheVariants.{Full, Semi}
 use Rattle.win_cert.specs.Texts.{cert_words, colour_word, end_word, kind_word, line_words, vertices_of}
-use Rattle.win_cert.specs.Words.{is_line_feed, is_space}
+use Rattle.win_cert.specs.Words.{is_line_feed, is_space_byte}
 use Rattle.win_cert.specs.Writable.{HasBoard, HasSpelling, IsEndOn, IsLineOf}
 use Rattle.win_cert.specs.declared.certs.Cert.{Cert}
 use Rattle.win_cert.specs.declared.lines.End.{End}
@@ -26,16 +26,16 @@ use Rattle.win_cert.proofs.TextLines.{AreLines, ArePlain, IsLine, Plain}
 use Rattle.win_cert.proofs.WordParts.{row_small}
 
 plain_nil : Plain []
-plain_nil = (All-nil (λ x. is_space x ≡ false), All-nil (λ x. is_line_feed x ≡ false))
+plain_nil = (All-nil (λ x. is_space_byte x ≡ false), All-nil (λ x. is_line_feed x ≡ false))
 
-plain_cons : (x : ℕ) (word : List ℕ) → is_space x ≡ false → is_line_feed x ≡ false → Plain word → Plain (x ∷ word)
-plain_cons x word s l p = (All-cons (λ x. is_space x ≡ false) x word s p.0, All-cons (λ x. is_line_feed x ≡ false) x word l p.1)
+plain_cons : (x : ℕ) (word : List ℕ) → is_space_byte x ≡ false → is_line_feed x ≡ false → Plain word → Plain (x ∷ word)
+plain_cons x word s l p = (All-cons (λ x. is_space_byte x ≡ false) x word s p.0, All-cons (λ x. is_line_feed x ≡ false) x word l p.1)
 
 are_plain : List ℕ → Bool
 are_plain [] = true
-are_plain (x ∷ word) = cond (is_space x) false (cond (is_line_feed x) false (are_plain word))
+are_plain (x ∷ word) = cond (is_space_byte x) false (cond (is_line_feed x) false (are_plain word))
 
-plain_if : (s l : Bool) (x : ℕ) (word : List ℕ) → is_space x ≡ s → is_line_feed x ≡ l → (are_plain word ≡ true → Plain word)
+plain_if : (s l : Bool) (x : ℕ) (word : List ℕ) → is_space_byte x ≡ s → is_line_feed x ≡ l → (are_plain word ≡ true → Plain word)
     → cond s false (cond l false (are_plain word)) ≡ true → Plain (x ∷ word)
 plain_if true l x word a b rest e = cc
 plain_if false true x word a b rest e = cc
@@ -44,7 +44,7 @@ plain_if false false x word a b rest e = plain_cons x word a b (rest e)
 plain_code : (word : List ℕ) → are_plain word ≡ true → Plain word
 unfolding are_plain
 plain_code [] e = plain_nil
-plain_code (x ∷ word) e = plain_if (is_space x) (is_line_feed x) x word refl refl (plain_code word) e
+plain_code (x ∷ word) e = plain_if (is_space_byte x) (is_line_feed x) x word refl refl (plain_code word) e
 
 plain_digits : (word : List ℕ) → AllDigits 10 word → Plain word
 plain_digits [] d = plain_nil

@@ -1,5 +1,5 @@
 -- The parts of a list that is cut at elements.
-use Rattle.win_cert.specs.Words.{is_space, words_in}
+use Rattle.win_cert.specs.Words.{is_space_byte, words_in}
 use Rattle.std.proofs.Common.{IsTrue, not, ◌≡◌, ◌≢◌, ℕ, ◌+◌, ◌<◌, ◌≤◌, Bool, true, false, cond, ltb, List, [], ◌∷◌, length, take, drop, ◌-◌, Some, None, refl, ap, sym, ◌∙◌, subst, arith}
 use Rattle.std.specs.List.{position, position_or_len, slice_split}
 use Rattle.std.proofs.lemmas.Bool.Decides.{nat_tests}
@@ -38,7 +38,7 @@ split_some p xs e = let n = length-slice_split p xs in let z = ap length e in om
 -- no word is left exactly where there are no more
 pub done_where : (more : Bool) (rest : List ℕ) (words : List (List ℕ)) → words_in more rest ≡ words
     → (IsTrue (not more) → words ≡ []) × (words ≡ [] → IsTrue (not more))
-done_where true rest words v = (λ t. cc, λ e. absurd (split_some is_space rest (v ∙ e)))
+done_where true rest words v = (λ t. cc, λ e. absurd (split_some is_space_byte rest (v ∙ e)))
 done_where false rest words v = (λ t. sym v, λ e. refl)
 
 -- all that stands from place i on

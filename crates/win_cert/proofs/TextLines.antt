@@ -6,11 +6,11 @@ use Rattle.std.proofs.lemmas.List.Elements.{All-append, All-cons}
 use Rattle.std.proofs.lemmas.List.Splits.{join_with_byte-slice_split, slice_split_at, slice_split_none}
 use Rattle.win_cert.specs.Lines.{lines_of}
 use Rattle.win_cert.specs.Texts.{ended, line_feed, space}
-use Rattle.win_cert.specs.Words.{is_line_feed, is_space}
+use Rattle.win_cert.specs.Words.{is_line_feed, is_space_byte}
 
 -- a word has neither spaces nor line feeds
 abbrev pub Plain : List ℕ → Type 0
-Plain word = All (λ x. is_space x ≡ false) word × All (λ x. is_line_feed x ≡ false) word
+Plain word = All (λ x. is_space_byte x ≡ false) word × All (λ x. is_line_feed x ≡ false) word
 
 abbrev pub ArePlain : List (List ℕ) → Type 0
 ArePlain [] = Unit {0}
@@ -27,9 +27,9 @@ AreLines (words ∷ lines) = IsLine words × AreLines lines
 
 -- words that are joined are cut again
 cut_again : (word : List ℕ) (words : List (List ℕ)) → ArePlain (word ∷ words)
-    → slice_split is_space (join_with_byte space (word ∷ words)) ≡ word ∷ words
-cut_again word [] p = slice_split_none is_space word p.0.0
-cut_again word (next ∷ words) p = slice_split_at is_space word space (join_with_byte space (next ∷ words)) p.0.0 refl
+    → slice_split is_space_byte (join_with_byte space (word ∷ words)) ≡ word ∷ words
+cut_again word [] p = slice_split_none is_space_byte word p.0.0
+cut_again word (next ∷ words) p = slice_split_at is_space_byte word space (join_with_byte space (next ∷ words)) p.0.0 refl
     ∙ ap (λ ws. word ∷ ws) (cut_again next words p.1)
 
 no_feed : (word : List ℕ) (words : List (List ℕ)) → ArePlain (word ∷ words)
@@ -44,7 +44,7 @@ line_before [] text p = absurd p
 line_before (word ∷ words) text p =
     let line = join_with_byte space (word ∷ words) in
     ap lines_of (append_assoc line (line_feed ∷ []) text)
-    ∙ ap (map (slice_split is_space)) (slice_split_at is_line_feed line line_feed text (no_feed word words p) refl)
+    ∙ ap (map (slice_split is_space_byte)) (slice_split_at is_line_feed line line_feed text (no_feed word words p) refl)
     ∙ ap (λ ws. ws ∷ lines_of text) (cut_again word words p)
 
 -- lines before a text are the first of its lines
@@ -55,9 +55,9 @@ lines_before (words ∷ lines) text p =
     ∙ line_before words (flat_map ended lines ++ text) p.0
     ∙ ap (λ ls. words ∷ ls) (lines_before lines text p.1)
 
-joined_parts : (parts : List (List ℕ)) → map (join_with_byte space) (map (slice_split is_space) parts) ≡ parts
+joined_parts : (parts : List (List ℕ)) → map (join_with_byte space) (map (slice_split is_space_byte) parts) ≡ parts
 joined_parts [] = refl
-joined_parts (part ∷ parts) = ap (λ p. p ∷ map (join_with_byte space) (map (slice_split is_space) parts)) (join_with_byte-slice_split space part)
+joined_parts (part ∷ parts) = ap (λ p. p ∷ map (join_with_byte space) (map (slice_split is_space_byte) parts)) (join_with_byte-slice_split space part)
     ∙ ap (λ ps. part ∷ ps) (joined_parts parts)
 
 pub text_from : (text : List ℕ) → join_with_byte line_feed (map (join_with_byte space) (lines_of text)) ≡ text

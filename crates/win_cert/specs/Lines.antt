@@ -9,7 +9,7 @@ use Rattle.hex_cells.specs.declared.colours.Colour.{Colour}
 use Rattle.hex_cells.specs.declared.colours.Colour.TheVariants.{Black, White}
 use Rattle.conn_store.specs.declared.entries.Kind.{Kind}
 use Rattle.win_cert.specs.Named.{after_word, alone, set_named, first_number, statement_named}
-use Rattle.win_cert.specs.Words.{is_line_feed, is_space}
+use Rattle.win_cert.specs.Words.{is_line_feed, is_space_byte}
 use Rattle.win_cert.specs.declared.certs.Cert.{Cert}
 use Rattle.win_cert.specs.declared.certs.TheConstants.{FIRST_VERSION, LATEST_VERSION, MOST_LINES}
 use Rattle.win_cert.specs.declared.heads.Head.{Head}
@@ -21,7 +21,7 @@ use Rattle.win_cert.specs.declared.statements.Statement.TheVariants.{Claim, Deri
 
 -- the words of each line, and of what stands after the last line feed
 abbrev pub lines_of : List ℕ → List (List (List ℕ))
-lines_of bytes = map (slice_split is_space) (slice_split is_line_feed bytes)
+lines_of bytes = map (slice_split is_space_byte) (slice_split is_line_feed bytes)
 
 -- the first line, and what stands after it; none where no line feed is left
 abbrev pub first_line : List (List (List ℕ)) → Option (List (List ℕ) × List (List (List ℕ)))

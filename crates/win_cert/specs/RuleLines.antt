@@ -1,9 +1,9 @@
 -- What the law of lines says: which rule of connection a line without a reason against it stands
 -- for.
-use Rattle.std.specs.Prelude.{◌≡◌, ℕ, ◌≤◌, List, Some, None, All, map}
+use Rattle.std.specs.Prelude.{◌≡◌, ℕ, ◌≤◌, ◌↔◌, List, [], ◌∷◌, Some, None, All, map}
 use Rattle.hex_board.specs.Elements.{PlayerBoard}
 use Rattle.conn_store.specs.Entries.{IsValid}
-use Rattle.conn_store.specs.Rules.{AndRule, IsCell, IsGroup}
+use Rattle.conn_store.specs.Rules.{AndRule, IsCell, IsGroup, OrRule}
 use Rattle.conn_store.specs.declared.entries.Entry.{Entry}
 use Rattle.win_cert.specs.Cuts.{scoped}
 use Rattle.win_cert.specs.Entries.{Context, elements_at, entry_at}
@@ -30,3 +30,23 @@ JoinOverGroup e a b = (x : ℕ) × (u : ℕ) × (y : ℕ) × AndRule e a b x u y
 abbrev pub JoinOverCell : PlayerBoard → Entry → Entry → Type 0
 JoinOverCell e a b =
     (x : ℕ) × (u : ℕ) × (y : ℕ) × (k : ℕ) × AndRule e a b x u y × IsCell e u k
+
+-- the rule of OR applies to the entries
+abbrev pub OrOverTwo : PlayerBoard → Entry → Entry → Type 0
+OrOverTwo e a b = OrRule (a ∷ b ∷ []) a.x a.y
+
+abbrev pub OrOverThree : PlayerBoard → Entry → Entry → Entry → Type 0
+OrOverThree e a b d = OrRule (a ∷ b ∷ d ∷ []) a.x a.y
+
+-- of two entries that earlier lines gave in its scope, there is no reason against this form of line
+-- exactly where the rule applies
+abbrev pub StandsForTwo : (ℕ → ℕ → Line) → (PlayerBoard → Entry → Entry → Type 0) → Type 0
+StandsForTwo line rule = (c : Context) (i j : ℕ) (a b : Entry)
+    → AreNamed c (i ∷ j ∷ []) (a ∷ b ∷ []) → IsClear c (line i j) ↔ rule (elements_at c) a b
+
+-- the same of three entries
+abbrev pub StandsForThree : (ℕ → ℕ → ℕ → Line)
+    → (PlayerBoard → Entry → Entry → Entry → Type 0) → Type 0
+StandsForThree line rule = (c : Context) (i j k : ℕ) (a b d : Entry)
+    → AreNamed c (i ∷ j ∷ k ∷ []) (a ∷ b ∷ d ∷ [])
+    → IsClear c (line i j k) ↔ rule (elements_at c) a b d

@@ -3,8 +3,8 @@ use Rattle.std.specs.Prelude.{ℕ, ◌==◌, Bool, List, [], ◌∷◌, if◌the
 use Rattle.std.specs.List.{flat_map, slice_split}
 use Rattle.win_cert.specs.Texts.{line_feed, space}
 
-abbrev pub is_space : ℕ → Bool
-is_space b = b == space
+abbrev pub is_space_byte : ℕ → Bool
+is_space_byte b = b == space
 
 abbrev pub is_line_feed : ℕ → Bool
 is_line_feed b = b == line_feed
@@ -15,4 +15,4 @@ after_spaces words = flat_map (λ word. space ∷ word) words
 
 -- the words of a line that are left to be read, where there are more
 abbrev pub words_in : Bool → List ℕ → List (List ℕ)
-words_in more rest = if more then slice_split is_space rest else []
+words_in more rest = if more then slice_split is_space_byte rest else []

@@ -5,7 +5,7 @@ ghost use Rattle.std.specs.Option.{option_map};
 ghost use Rattle.std.specs.List.{position, slice_split};
 ghost use Rattle.win_cert.specs.Named.{after_word, set_named, first_cell, first_end, first_number};
 ghost use Rattle.win_cert.specs.Named.{numbers_named};
-ghost use Rattle.win_cert.specs.Words.{is_space};
+ghost use Rattle.win_cert.specs.Words.{is_space_byte};
 
 use super::End;
 use super::values::{read_cell, read_end, read_number};
@@ -31,7 +31,7 @@ impl<'a> Model for Words<'a> {
 }
 
 fn first_space(text: &[u8]) -> Option<usize>
-    ensures { result ≡ position is_space text.now }
+    ensures { result ≡ position is_space_byte text.now }
 {
     text.iter().position(|&b| b == b' ')
 }
@@ -39,7 +39,7 @@ fn first_space(text: &[u8]) -> Option<usize>
 impl<'a> Words<'a> {
     /// The words of this line, which has no line feed.
     pub(crate) fn of(line: &'a [u8]) -> Words<'a>
-        ensures { result ≡ slice_split is_space line.now }
+        ensures { result ≡ slice_split is_space_byte line.now }
     {
         Words {
             rest: line,

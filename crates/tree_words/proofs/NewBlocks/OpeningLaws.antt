@@ -7,7 +7,7 @@ use Rattle.hex_cells.specs.Sets.{has as has_cell}
 use Rattle.play_out.specs.Fills.{empties_of}
 use Rattle.tree_words.specs.Settings.{Setting, IsSetting}
 use Rattle.tree_words.specs.Words.{Count, count_in, root_at, area_at, end_of, next_in, tally_in, seen_in}
-use Rattle.tree_words.specs.Blocks.{LinkedBlock, size, covers, has_node, is_node, header_or_move, is_header_or_move, Follows, In, Shows}
+use Rattle.tree_words.specs.Blocks.{LinkedBlock, size, covers, has_node, is_node, header_or_move, is_header_or_move, Follows, In, HaveBlocks}
 use Rattle.tree_words.specs.Complete.{HasEmpties, IsComplete, allowed_cells, Linked, HaveNodes}
 use Rattle.tree_words.specs.Opening.{root_block, opening_next, opening_word}
 use Rattle.tree_words.specs.Walks.{nothing, Tree, node, done, fresh}
@@ -104,7 +104,7 @@ module _ (s : Setting) (words : List ℕ) (e : ℕ) (set : IsSetting s) (empties
         empties = empties;
         cells = sym (ap (λ (t : Bool). cond t (allowed_cells s) (empties_of s.board)) (eq-eqb r r refl));
       } in
-      let shows : Shows r (c ∷ []) words = record {
+      let shows : HaveBlocks r (c ∷ []) words = record {
         blocks = λ d i m l t. ⊎_elim
             (λ (q : d ≡ c). subst (λ (z : LinkedBlock). get_or words (z.start + i) 0 ≡ header_or_move z i) (sym q)
             (inside i (subst (λ (z : LinkedBlock). i < size z) q l) ∙ ap (λ (u : Bool). cond u (header_or_move c i) 0) t))

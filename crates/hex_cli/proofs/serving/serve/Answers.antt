@@ -1,6 +1,6 @@
 -- Words that made options are well formed, and what was done for these options was done for them.
 use Rattle.std.proofs.Common.{◌≡◌, Some, subst}
-use Rattle.hexd_words.specs.declared.settings.Options.{Options}
+use Rattle.hexd_args.specs.declared.settings.Options.{Options}
 use Rattle.hex_cli.specs.Served.{ServesIn, StandsIdleIn}
 use Rattle.hex_cli.proofs.Doings.{does_no_usage, does_nothing, idle_self}
 use Rattle.hex_cli.proofs.serving.serve.Goals as goal

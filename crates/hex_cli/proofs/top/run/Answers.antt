@@ -1,7 +1,7 @@
 -- What the status tells of the end, and what the devices of a run leave.
 use Rattle.std.proofs.Common.{sym, ap, ◌∙◌, subst}
 use Rattle.hex_io.specs.Reported.{Reported}
-use Rattle.hexd_words.specs.declared.settings.Mode.TheVariants.{Htp, Check, Migrate, Audit, Sim, Bench, Solve}
+use Rattle.hexd_args.specs.declared.settings.Mode.TheVariants.{Htp, Check, Migrate, Audit, Sim, Bench, Solve}
 use Rattle.turn_modes.specs.OneTurn.{IsBenchmark, IsSimulation}
 use Rattle.hex_devices.specs.Statuses.{error_line, status_of, stop_in}
 use Rattle.hex_devices.specs.declared.ends.End.TheVariants.{Usage}

@@ -1,6 +1,6 @@
 -- The words make these options well formed, and no others.
 use Rattle.std.proofs.Common.{◌≡◌, Some, ap}
-use Rattle.hexd_words.specs.declared.settings.Options.{Options}
+use Rattle.hexd_args.specs.declared.settings.Options.{Options}
 use Rattle.hex_cli.proofs.trace_names.trace_name.Goals as goal
 
 pub returns-in-Some-clause-well_formed : goal.returns-in-Some-clause-well_formed

@@ -1,6 +1,6 @@
 use Rattle.std.proofs.Common.{◌≡◌, ℕ, ◌+◌, ◌<◌, ◌≤◌, length, set, refl, sym, ap, ◌∙◌, arith}
 use Rattle.tree_words.specs.Words.{end_of}
-use Rattle.trace_audit.specs.Slots.{IsTaken}
+use Rattle.trace_audit.specs.Slots.{IsNearTaken}
 use Rattle.std.specs.Prelude.{slice_index}
 use Rattle.trace_audit.proofs.Scanning.{enter_none}
 use Rattle.trace_audit.proofs.Entering.{enter_some, node_inside}
@@ -29,7 +29,7 @@ returns c = λ s bs g last e. let h = g.0 in let long = g.1 in let sc = g.2 in l
     let free : c.args.free ≤ start = omega (arith, c.if-start-free.false) in
     let inside : start < end_of s = omega (arith, c.if-len-start.false, c.len.ensures, long) in
     let number : c.in_ok-number.number ≡ length c.args.table.now.sites.items + 1 = omega (arith, c.in_ok-number.ensures.value, c.len-2.ensures, c.in-Ok.ensures.len, c.args.table.now.sites.ok.0) in
-    match_on c.enter.result (c.enter.new.self ≡ set c.args.table.now.index start c.in_ok-number.number) (IsTaken c.args.table.now.index start) _ _
+    match_on c.enter.result (c.enter.new.self ≡ set c.args.table.now.index start c.in_ok-number.number) (IsNearTaken c.args.table.now.index start) _ _
     (λ m. enter_some s c.args.words.now c.args.table.now _ c.args.x c.args.free bs sc n _ start refl e (sym c.at-link.ensures) free inside (sym c.at.ensures ∙ c.if-at-x.false)
     (m ∙ ap (λ (k : ℕ). set c.args.table.now.index start k) number) c.in-Ok.ensures.items refl)
     (λ m. two_close s c.args.words.now h c.args.table.now c.args.x c.args.free bs sc n start (sym c.at-link.ensures) free m.0 (record { board = s.board; start = 0; player = s.player }) m.1 m.2 m.3 m.4)

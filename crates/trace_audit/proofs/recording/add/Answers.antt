@@ -4,7 +4,7 @@ use Rattle.hex_cells.specs.Colours.{is_same}
 use Rattle.tree_words.specs.Sequence.{amount_of}
 use Rattle.tree_words.specs.Words.{nodes_in, winner_in}
 use Rattle.tree_words.specs.Blocks.{LinkedBlock, block_size}
-use Rattle.trace_audit.specs.Gains.{AreCells, GainsLeaf, HasRoom, IsNodeOf}
+use Rattle.trace_audit.specs.Gains.{AreCells, GainsLeaf, CanGain, IsNodeOf}
 use Rattle.trace_audit.proofs.AddPlayout.{no_record, playout_added, right_record, wrong_record}
 use Rattle.trace_audit.proofs.Gained.{block_cells, block_within, node_of}
 use Rattle.trace_audit.proofs.Matches.{if_no, if_yes}
@@ -52,7 +52,7 @@ gain_leaf-requires-clause-small c =
     let lk = c.requires.sums.1 in
     let a = c.requires.sums.2 in
     let f = c.in-Some.ensures s bs (h, c.requires.long, lk) in
-    subst (λ (q : ℕ). HasRoom c.args.words.now c.args.sums.now q (2 ^ 32 + 1)) f.2 (seen_room s c.args.words.now bs h lk.linked c.args.sums.now c.args.k a c.requires.number f.0 f.1 _ f.3)
+    subst (λ (q : ℕ). CanGain c.args.words.now c.args.sums.now q (2 ^ 32 + 1)) f.2 (seen_room s c.args.words.now bs h lk.linked c.args.sums.now c.args.k a c.requires.number f.0 f.1 _ f.3)
 
 pub gain_leaf-requires-clause-tally : goal.gain_leaf-requires-clause-tally
 gain_leaf-requires-clause-tally c =

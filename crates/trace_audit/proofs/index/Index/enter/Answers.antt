@@ -1,7 +1,7 @@
 use Rattle.std.proofs.Common.{◌≡◌, ℕ, ◌+◌, ◌*◌, ◌/◌, ◌%◌, ◌<◌, List, length, set, slice_index, inl, inr, refl, sym, ap, ◌∙◌, subst, arith}
 use Rattle.std.specs.Prelude.{◌⊎◌}
 use Rattle.std.proofs.lemmas.Grind.{get_or_default_zero}
-use Rattle.trace_audit.specs.Slots.{IsTaken}
+use Rattle.trace_audit.specs.Slots.{IsNearTaken}
 use Rattle.trace_audit.proofs.Slots.{entries_long, entries_set, entry_taken, slot_inside, slots_set}
 use Rattle.trace_audit.proofs.index.Index.enter.Goals as goal
 use Rattle.trace_audit.proofs.index.Index.enter.Goals.{else-slot-ne0-via-then-slot-ne0+else-slot-place, else-slot-ne0-via-else-slot-ne0}
@@ -16,7 +16,7 @@ returns-then-slot-place c =
     let few : c.args.at < c.self.inside.len = omega (arith, c.requires.at, ap length c.self.view_is, entries_long 0 c.self.inside.len c.self.inside.slots.items) in
     let inside = slot_inside c.self.inside.len c.self.inside.slots.items c.self.invariant c.args.at few in
     let slot : c.index-slot.result.now ≡ slice_index c.self.inside.slots.items (c.args.at / 4) = c.index-slot.ensures ∙ get_or_default_zero c.self.inside.slots.items (c.args.at / 4) c.index-slot.result.now inside in
-    subst (λ (l : List ℕ). IsTaken l c.args.at) c.self.view_is (entry_taken c.self.inside.len c.self.inside.slots.items c.self.invariant c.args.at few
+    subst (λ (l : List ℕ). IsNearTaken l c.args.at) c.self.view_is (entry_taken c.self.inside.len c.self.inside.slots.items c.self.invariant c.args.at few
     (λ e. c.if-slot-ne0.true (slot ∙ e)) (λ e. c.if-slot-place.true (ap (λ (n : ℕ). n % 4) slot ∙ e)))
 
 pub index_mut-requires : goal.index_mut-requires

@@ -2,13 +2,13 @@
 use Rattle.std.specs.Prelude.{◌≡◌, ◌≢◌, ◌≤◌, [], Option, Some, codes}
 use Rattle.option_words.specs.Grammar.{word_name}
 use Rattle.option_words.specs.Values.{IsNumberFrom, TextBytes, switch_word}
-use Rattle.hexd_words.specs.declared.settings.Mode.{Mode}
-use Rattle.hexd_words.specs.declared.settings.Mode.TheVariants.{Htp, Check, Migrate, Audit, Sim}
-use Rattle.hexd_words.specs.declared.settings.Mode.TheVariants.{Bench, Solve}
-use Rattle.hexd_words.specs.declared.settings.Options.{Options}
-use Rattle.hexd_words.specs.declared.table.TheConstants.{SIZE, WORKERS, PLAYOUTS, SEED, WORDS}
-use Rattle.hexd_words.specs.declared.table.TheConstants.{EXPAND, WEIGHT, HSEARCH, STEPS, BUDGET}
-use Rattle.hexd_words.specs.declared.table.TheConstants.{TRACE}
+use Rattle.hexd_args.specs.declared.settings.Mode.{Mode}
+use Rattle.hexd_args.specs.declared.settings.Mode.TheVariants.{Htp, Check, Migrate, Audit, Sim}
+use Rattle.hexd_args.specs.declared.settings.Mode.TheVariants.{Bench, Solve}
+use Rattle.hexd_args.specs.declared.settings.Options.{Options}
+use Rattle.hexd_args.specs.declared.table.TheConstants.{SIZE, WORKERS, PLAYOUTS, SEED, WORDS}
+use Rattle.hexd_args.specs.declared.table.TheConstants.{EXPAND, WEIGHT, HSEARCH, STEPS, BUDGET}
+use Rattle.hexd_args.specs.declared.table.TheConstants.{TRACE}
 
 -- the word that names a mode
 abbrev pub mode_word : Mode → TextBytes

@@ -3,9 +3,9 @@
 ghost use Rattle.std.specs.Prelude.{◌≡◌, ◌≢◌, ◌↔◌, IfOk, IfSome, IsTrue, Some, []};
 ghost use Rattle.std.specs.Prelude.{option_map};
 ghost use Rattle.clap.specs.Words.{first_value, found_of};
-ghost use Rattle.hexd_words.specs.Reading.{WellFormed};
-ghost use Rattle.hexd_words.specs.Values.{OptionsInRange, AreOptions};
-ghost use Rattle.hexd_words.specs.declared.settings.Options.{Options};
+ghost use Rattle.hexd_args.specs.Reading.{WellFormed};
+ghost use Rattle.hexd_args.specs.Values.{OptionsInRange, AreOptions};
+ghost use Rattle.hexd_args.specs.declared.settings.Options.{Options};
 
 use crate::command::command;
 use crate::modes::mode;

@@ -1,8 +1,8 @@
 //! The mode that a word names.
 
 ghost use Rattle.std.specs.Prelude.{◌≡◌, ◌↔◌, Some, option_map};
-ghost use Rattle.hexd_words.specs.Values.{mode_word};
-ghost use Rattle.hexd_words.specs.declared.settings.Mode.{Mode};
+ghost use Rattle.hexd_args.specs.Values.{mode_word};
+ghost use Rattle.hexd_args.specs.declared.settings.Mode.{Mode};
 
 use crate::Mode;
 

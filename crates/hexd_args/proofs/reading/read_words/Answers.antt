@@ -4,12 +4,12 @@ use Rattle.clap.specs.Words.{App, first_value, found_of}
 use Rattle.option_words.specs.Command.{ReadsForm}
 use Rattle.option_words.specs.Finding.{FindsIn, FindsLine}
 use Rattle.option_words.specs.Values.{TextBytes}
-use Rattle.hexd_words.specs.Reading.{WellFormed}
-use Rattle.hexd_words.specs.Table.{hexd_app, hexd_form}
-use Rattle.hexd_words.specs.declared.settings.Options.{Options}
-use Rattle.hexd_words.proofs.RangeLemmas.{ranges_from}
-use Rattle.hexd_words.proofs.WellLemmas.{found, hexd_reads, none_found}
-use Rattle.hexd_words.proofs.reading.read_words.Goals as goal
+use Rattle.hexd_args.specs.Reading.{WellFormed}
+use Rattle.hexd_args.specs.Table.{hexd_app, hexd_form}
+use Rattle.hexd_args.specs.declared.settings.Options.{Options}
+use Rattle.hexd_args.proofs.RangeLemmas.{ranges_from}
+use Rattle.hexd_args.proofs.WellLemmas.{found, hexd_reads, none_found}
+use Rattle.hexd_args.proofs.reading.read_words.Goals as goal
 
 reads_now : (app : App) → app ≡ hexd_app → ReadsForm app hexd_form
 reads_now app is = subst (λ (a : App). ReadsForm a hexd_form) (sym is) hexd_reads

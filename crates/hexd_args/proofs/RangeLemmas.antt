@@ -2,10 +2,10 @@
 use Rattle.std.proofs.Common.{◌≡◌, Option, Some, None, refl, ◌↔◌, IfSome}
 use Rattle.option_words.specs.Values.{TextBytes}
 use Rattle.option_words.proofs.NumberLemmas.{number_in_range}
-use Rattle.hexd_words.specs.Values.{OptionsInRange, AreOptions}
-use Rattle.hexd_words.specs.declared.settings.Options.{Options}
-use Rattle.hexd_words.specs.declared.table.TheConstants.{SIZE, WORKERS, PLAYOUTS, WORDS}
-use Rattle.hexd_words.specs.declared.table.TheConstants.{EXPAND, WEIGHT, STEPS, BUDGET}
+use Rattle.hexd_args.specs.Values.{OptionsInRange, AreOptions}
+use Rattle.hexd_args.specs.declared.settings.Options.{Options}
+use Rattle.hexd_args.specs.declared.table.TheConstants.{SIZE, WORKERS, PLAYOUTS, WORDS}
+use Rattle.hexd_args.specs.declared.table.TheConstants.{EXPAND, WEIGHT, STEPS, BUDGET}
 
 pub in_range : (value : TextBytes → Option TextBytes) (o : Options) → AreOptions value o → OptionsInRange o
 in_range value o h = record {

@@ -3,9 +3,9 @@ use Rattle.std.specs.Prelude.{List}
 use Rattle.option_words.specs.Grammar.{Saying, SaysInOrder, SaysOnce}
 use Rattle.option_words.specs.Lines.{value_in}
 use Rattle.option_words.specs.Values.{TextBytes}
-use Rattle.hexd_words.specs.Table.{hexd_form}
-use Rattle.hexd_words.specs.Values.{AreOptions}
-use Rattle.hexd_words.specs.declared.settings.Options.{Options}
+use Rattle.hexd_args.specs.Table.{hexd_form}
+use Rattle.hexd_args.specs.Values.{AreOptions}
+use Rattle.hexd_args.specs.declared.settings.Options.{Options}
 
 -- The words say a mode and options, each at most once, and with the defaults for what they do not
 -- say, the values are these options.

@@ -3,7 +3,7 @@
 ghost use Rattle.std.specs.Prelude.{◌≡◌, IfOk};
 ghost use Rattle.clap.specs.Words.{app_of};
 ghost use Rattle.option_words.specs.Command.{with_options};
-ghost use Rattle.hexd_words.specs.Table.{hexd_app, knob_table, other_table};
+ghost use Rattle.hexd_args.specs.Table.{hexd_app, knob_table, other_table};
 
 use crate::table::{
     BUDGET, EXPAND, HSEARCH, PLAYOUTS, SEED, SIZE, STEPS, TRACE, WEIGHT, WORDS, WORKERS,

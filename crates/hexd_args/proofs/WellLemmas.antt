@@ -9,12 +9,12 @@ use Rattle.option_words.specs.Grammar.{value_of, word_name}
 use Rattle.option_words.specs.Lines.{IsLine}
 use Rattle.option_words.specs.Values.{TextBytes, lone_hyphen}
 use Rattle.option_words.proofs.Unsaid.{said_without_default}
-use Rattle.hexd_words.specs.Reading.{WellFormed}
-use Rattle.hexd_words.specs.Table.{hexd_app, hexd_form}
-use Rattle.hexd_words.specs.Values.{AreOptions, mode_word}
-use Rattle.hexd_words.specs.declared.settings.Mode.{Mode}
-use Rattle.hexd_words.specs.declared.settings.Mode.TheVariants.{Htp, Check, Migrate, Audit, Sim, Bench, Solve}
-use Rattle.hexd_words.specs.declared.settings.Options.{Options}
+use Rattle.hexd_args.specs.Reading.{WellFormed}
+use Rattle.hexd_args.specs.Table.{hexd_app, hexd_form}
+use Rattle.hexd_args.specs.Values.{AreOptions, mode_word}
+use Rattle.hexd_args.specs.declared.settings.Mode.{Mode}
+use Rattle.hexd_args.specs.declared.settings.Mode.TheVariants.{Htp, Check, Migrate, Audit, Sim, Bench, Solve}
+use Rattle.hexd_args.specs.declared.settings.Options.{Options}
 
 pub hexd_reads : ReadsForm hexd_app hexd_form
 unfolding hexd_app

@@ -2,7 +2,7 @@
 //! stands between two words.
 
 use hex_io::Word;
-use hexd_words::{Memory, Mode, Options, read_words};
+use hexd_args::{Memory, Mode, Options, read_words};
 use std::alloc::{AllocError, Global};
 use std::test::Fail;
 

@@ -2,8 +2,8 @@ use Rattle.std.proofs.Common.{◌∙◌, ap}
 use Rattle.std.proofs.lemmas.Result.{IfOk-weaker}
 use Rattle.clap.specs.Words.{App}
 use Rattle.option_words.specs.Command.{with_options}
-use Rattle.hexd_words.specs.Table.{hexd_app, knob_table, other_table}
-use Rattle.hexd_words.proofs.command.command.Goals as goal
+use Rattle.hexd_args.specs.Table.{hexd_app, knob_table, other_table}
+use Rattle.hexd_args.proofs.command.command.Goals as goal
 
 pub returns : goal.returns
 unfolding hexd_app

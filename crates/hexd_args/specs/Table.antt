@@ -4,9 +4,9 @@ use Rattle.clap.specs.Words.{App}
 use Rattle.option_words.specs.Command.{plain_app, with_options, word_rule}
 use Rattle.option_words.specs.Grammar.{Form, OptionTable}
 use Rattle.clap.specs.Words.{with_rule}
-use Rattle.hexd_words.specs.declared.table.TheConstants.{SIZE, WORKERS, PLAYOUTS, SEED, WORDS}
-use Rattle.hexd_words.specs.declared.table.TheConstants.{EXPAND, WEIGHT, HSEARCH, STEPS, BUDGET}
-use Rattle.hexd_words.specs.declared.table.TheConstants.{TRACE}
+use Rattle.hexd_args.specs.declared.table.TheConstants.{SIZE, WORKERS, PLAYOUTS, SEED, WORDS}
+use Rattle.hexd_args.specs.declared.table.TheConstants.{EXPAND, WEIGHT, HSEARCH, STEPS, BUDGET}
+use Rattle.hexd_args.specs.declared.table.TheConstants.{TRACE}
 
 -- the options, each with the text that stands for it where it is not said; for `trace` there is
 -- none

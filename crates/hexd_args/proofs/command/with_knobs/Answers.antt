@@ -1,6 +1,6 @@
 use Rattle.std.proofs.lemmas.Result.{IfOk-weaker}
 use Rattle.option_words.proofs.CommandLemmas.{one_more}
-use Rattle.hexd_words.proofs.command.with_knobs.Goals as goal
+use Rattle.hexd_args.proofs.command.with_knobs.Goals as goal
 
 pub returns : goal.returns
 returns c =
