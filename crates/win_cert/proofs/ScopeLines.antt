@@ -5,9 +5,8 @@ use Rattle.std.proofs.lemmas.Bool.{and_from, and_parts, both_ways, eq-eqb, false
 use Rattle.hex_cells.specs.Sets.{has, with_cell}
 use Rattle.hex_cells.specs.declared.board_size.TheConstants.{MOST_CELLS}
 use Rattle.hex_board.specs.Elements.{are_joined, edge_element}
-use Rattle.hex_board.specs.Positions.{is_empty_at}
+use Rattle.hex_board.specs.Positions.{AllEmpty, is_empty_at}
 use Rattle.hex_board.proofs.Search.{any_out}
-use Rattle.conn_store.specs.Entries.{AllEmpty}
 use Rattle.conn_store.specs.Stores.{same_kind}
 use Rattle.conn_store.specs.declared.entries.Kind.{Kind}
 use Rattle.conn_store.specs.declared.entries.Kind.TheVariants.{Full, Semi}
