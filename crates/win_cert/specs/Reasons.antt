@@ -86,10 +86,6 @@ is_middle_wrong c (Derivation (Key i j)) = holds_of_chain
     (λ a b u. is_none (cell_of (elements_at c) u)) (entries_named c (Derivation (Key i j)))
 is_middle_wrong c s = false
 
--- the entries of `or` have not all the same elements
-abbrev pub do_ends_differ : Context → Statement → Bool
-do_ends_differ c s = is_or s && not (have_same_ends (entries_named c s))
-
 -- a cell is in all the carriers of `or` or `cases`
 abbrev pub is_cell_common : Context → Statement → Bool
 is_cell_common c s = (is_or s || is_cases s) && share_cell (entries_named c s)
@@ -113,7 +109,7 @@ applies c s NoCommonMiddle = has_no_middle c s
 applies c s CarriersMeet = do_carriers_meet c s
 applies c s EndInCarrier = is_end_in_carrier c s
 applies c s MiddleKind = is_middle_wrong c s
-applies c s EndsDiffer = do_ends_differ c s
+applies c s EndsDiffer = is_or s && not (have_same_ends (entries_named c s))
 applies c s CommonCell = is_cell_common c s
 applies c s NotEdges = is_no_edge_entry c s
 applies c s BadStone = is_bad_stone c s
