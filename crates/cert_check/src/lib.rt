@@ -1,7 +1,7 @@
 //! The checker of certificates.
 //!
-//! **Nouns.** Those of `win_cert`. A *verdict* (`win_cert::Verdict`) is what the checker answers: yes
-//! with the claim and the carrier of its entry, or no with the number of a line and the reason
+//! **Nouns.** Those of `win_cert`. A *verdict* (`win_cert::Verdict`) is what the checker answers:
+//! yes with the claim and the carrier of its entry, or no with the number of a line and the reason
 //! against it (`win_cert::Reason`).
 //!
 //! **A caller** checks a certificate by [`check`]:
