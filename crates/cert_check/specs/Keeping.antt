@@ -1,14 +1,13 @@
 -- What the checker keeps between two lines. No clause of a public call cites this.
-use Rattle.std.specs.Prelude.{◌≡◌, ℕ, ◌<◌, ◌||◌, ◌++◌, ◌∷◌, [], Bool, true, false}
+use Rattle.std.specs.Prelude.{◌≡◌, ℕ, ◌<◌, ◌||◌, Bool, true, false}
 use Rattle.std.specs.Prelude.{List, Option, Some, None, Result, Ok, Err, All}
 use Rattle.std.specs.Option.{option_map}
-use Rattle.hex_cells.specs.declared.colours.Colour.{Colour}
 use Rattle.conn_store.specs.declared.entries.Kind.{Kind}
 use Rattle.hex_board.specs.Elements.{PlayerBoard, element_count}
 use Rattle.hex_board.specs.Positions.{Position}
 use Rattle.win_cert.specs.Entries.{Context, ScopedEntry, entry_at, gives}
 use Rattle.win_cert.specs.Reasons.{is_bad_reference, is_wrong_scope, reason_against}
-use Rattle.win_cert.specs.Scopes.{elements_in, scope_after}
+use Rattle.win_cert.specs.Scopes.{elements_in}
 use Rattle.win_cert.specs.Statements.{is_chain, is_edge_entry, is_or}
 use Rattle.win_cert.specs.declared.statements.Statement.{Statement}
 use Rattle.win_cert.specs.declared.statements.Statement.TheVariants.{Claim, Derivation}

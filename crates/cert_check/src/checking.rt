@@ -31,7 +31,10 @@ pub fn check(alloc: Global, cert: &Cert) -> Result<Verdict, Memory>
     'lines: for line in cert.lines.as_slice() {
         match checker.read(line) {
             Ok(given) => checker.keep(line, given)?,
-            Err(reason) => return Ok(Verdict::No { line: number, reason }),
+            Err(reason) => return Ok(Verdict::No {
+                line: number,
+                reason,
+            }),
         }
         number += 1;
     }
@@ -40,7 +43,10 @@ pub fn check(alloc: Global, cert: &Cert) -> Result<Verdict, Memory>
             claim: cert.claim,
             carrier: given.carrier,
         },
-        Err(reason) => Verdict::No { line: number, reason },
+        Err(reason) => Verdict::No {
+            line: number,
+            reason,
+        },
     })
 }
 
