@@ -1,7 +1,7 @@
 -- A new walker for each worker so far, and room for the others.
 use Rattle.std.proofs.Common.{◌≡◌, ◌≤◌, All, length, vec_capacity}
 use Rattle.sim_run.specs.BetweenSteps.{IsNew}
-use Rattle.sim_run.proofs.opening.new_walkers.Given as goal
+use Rattle.sim_run.proofs.walkers.new_walkers.Given as goal
 
 abbrev pub invariant-workers : goal.invariant-workers
 invariant-workers l = record {

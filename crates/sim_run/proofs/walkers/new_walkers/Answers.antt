@@ -3,7 +3,7 @@ use Rattle.std.proofs.Common.{All, length, sym, ap, ◌∙◌, ◌+◌, ℕ, sub
 use Rattle.std.proofs.lemmas.List.{length_push}
 use Rattle.std.proofs.lemmas.List.Elements.{All-push}
 use Rattle.sim_run.specs.BetweenSteps.{IsNew}
-use Rattle.sim_run.proofs.opening.new_walkers.Goals as goal
+use Rattle.sim_run.proofs.walkers.new_walkers.Goals as goal
 
 pub workers-preserved : goal.workers-preserved
 workers-preserved c =
