@@ -4,7 +4,7 @@ ghost use Rattle.std.specs.Prelude.{IfSome};
 ghost use Rattle.win_cert.specs.Cuts.{HasEdgeEntryAt};
 ghost use Rattle.win_cert.specs.Writable.{IsWritable};
 
-use cert_check::{Verdict, check};
+use cert_check::check;
 use conn_store::Kind;
 use hex_board::Board;
 use hex_cells::{CellSet, Colour, Size};
@@ -12,7 +12,7 @@ use hsearch::{Report, connect};
 use std::alloc::Global;
 use std::process::Abort;
 use std::rt::HostRuntime;
-use win_cert::{Cert, cut, write};
+use win_cert::{Cert, Verdict, cut, write};
 
 // The number of the first semi entry between the player's edges.
 fn edge_entry(report: &Report) -> Option<u32>

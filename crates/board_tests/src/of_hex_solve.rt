@@ -2,13 +2,14 @@
 //! certificate, and what is spent where it is unknown.
 
 use super::of_hsearch::board_of;
-use cert_check::{Verdict, check};
+use cert_check::check;
 use conn_store::Kind;
 use hex_board::Board;
 use hex_cells::{Colour, Size};
 use hex_solve::{Memory, Solved, solve};
 use std::alloc::Global;
 use std::rt::HostRuntime;
+use win_cert::Verdict;
 
 // What the tests ask of an answer.
 #[derive(Debug, Clone, Copy, PartialEq, Eq)]

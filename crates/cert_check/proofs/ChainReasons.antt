@@ -9,7 +9,9 @@ use Rattle.hex_board.specs.Elements.{PlayerBoard, element_count}
 use Rattle.hex_board.specs.Places.{cell_of}
 use Rattle.conn_store.specs.declared.entries.Kind.TheVariants.{Full, Semi}
 use Rattle.win_cert.specs.Entries.{Context, ScopedEntry, and_entry, carriers_of, elements_at, entries_at, entry_at, entry_between, gives, is_end, key_entry, middle_of, other_end}
-use Rattle.win_cert.specs.Reasons.{Reason, holds_of_chain, reason_against, is_bad_reference, is_wrong_scope, no_common_middle, carriers_meet, end_in_carrier, middle_kind}
+use Rattle.win_cert.specs.Reasons.{holds_of_chain, reason_against, is_bad_reference, is_wrong_scope}
+use Rattle.win_cert.specs.declared.reasons.Reason.{Reason}
+use Rattle.win_cert.specs.declared.reasons.Reason.TheVariants.{NoCommonMiddle, CarriersMeet, EndInCarrier, MiddleKind}
 use Rattle.win_cert.specs.Scopes.{elements_in}
 use Rattle.win_cert.specs.Statements.{is_cell_in, may_take, share_cell}
 use Rattle.win_cert.specs.declared.statements.Statement.TheVariants.{Derivation}
@@ -25,25 +27,25 @@ is_wrong_middle false o = is_some o
 
 -- the reason against the two entries with this middle
 abbrev pub chain_reason : Context → Bool → ScopedEntry → ScopedEntry → Option ℕ → Option Reason
-chain_reason c over_cell a b None = Some no_common_middle
+chain_reason c over_cell a b None = Some NoCommonMiddle
 chain_reason c over_cell a b (Some u) =
-    told (share_cell (a ∷ b ∷ [])) carriers_meet
-    (told (is_cell_in (elements_at c) (other_end a u) b.carrier || is_cell_in (elements_at c) (other_end b u) a.carrier) end_in_carrier
-    (told (is_wrong_middle over_cell (cell_of (elements_at c) u)) middle_kind None))
+    told (share_cell (a ∷ b ∷ [])) CarriersMeet
+    (told (is_cell_in (elements_at c) (other_end a u) b.carrier || is_cell_in (elements_at c) (other_end b u) a.carrier) EndInCarrier
+    (told (is_wrong_middle over_cell (cell_of (elements_at c) u)) MiddleKind None))
 
 -- the last four reasons, of the entries that are named
 abbrev pub last_reasons : Context → Bool → List ScopedEntry → Option Reason
 last_reasons c over_cell es =
-    told (not (holds_of_chain (λ a b u. true) es)) no_common_middle
-    (told (share_cell es) carriers_meet
-    (told (holds_of_chain (λ a b u. is_cell_in (elements_at c) (other_end a u) b.carrier || is_cell_in (elements_at c) (other_end b u) a.carrier) es) end_in_carrier
-    (told (holds_of_chain (λ a b u. is_wrong_middle over_cell (cell_of (elements_at c) u)) es) middle_kind None)))
+    told (not (holds_of_chain (λ a b u. true) es)) NoCommonMiddle
+    (told (share_cell es) CarriersMeet
+    (told (holds_of_chain (λ a b u. is_cell_in (elements_at c) (other_end a u) b.carrier || is_cell_in (elements_at c) (other_end b u) a.carrier) es) EndInCarrier
+    (told (holds_of_chain (λ a b u. is_wrong_middle over_cell (cell_of (elements_at c) u)) es) MiddleKind None)))
 
 by_middle : (c : Context) (over_cell : Bool) (a b : ScopedEntry) (m : Option ℕ)
-    → told (not (option_map_or (λ u. true) m false)) no_common_middle
-    (told (share_cell (a ∷ b ∷ [])) carriers_meet
-    (told (option_map_or (λ u. is_cell_in (elements_at c) (other_end a u) b.carrier || is_cell_in (elements_at c) (other_end b u) a.carrier) m false) end_in_carrier
-    (told (option_map_or (λ u. is_wrong_middle over_cell (cell_of (elements_at c) u)) m false) middle_kind None)))
+    → told (not (option_map_or (λ u. true) m false)) NoCommonMiddle
+    (told (share_cell (a ∷ b ∷ [])) CarriersMeet
+    (told (option_map_or (λ u. is_cell_in (elements_at c) (other_end a u) b.carrier || is_cell_in (elements_at c) (other_end b u) a.carrier) m false) EndInCarrier
+    (told (option_map_or (λ u. is_wrong_middle over_cell (cell_of (elements_at c) u)) m false) MiddleKind None)))
     ≡ chain_reason c over_cell a b m
 by_middle c over_cell a b None = refl
 by_middle c over_cell a b (Some u) = refl
@@ -73,7 +75,7 @@ pub joined : {c : Context} {o : Bool} {i j u x y : ℕ} {a b : Given} {m : Optio
     → m ≡ middle_of (entry_of a) (entry_of b) → m ≡ Some u → meet ≡ share_cell (entries_at c (i ∷ j ∷ []))
     → x ≡ other_end (entry_of a) u → y ≡ other_end (entry_of b) u → inside ≡ (is_cell_in (elements_at c) x b.carrier || is_cell_in (elements_at c) y a.carrier)
     → wrong ≡ is_wrong_middle o (cell_of (elements_at c) u)
-    → reason_against c (Derivation (chain_line o i j)) ≡ told meet carriers_meet (told inside end_in_carrier (told wrong middle_kind None))
+    → reason_against c (Derivation (chain_line o i j)) ≡ told meet CarriersMeet (told inside EndInCarrier (told wrong MiddleKind None))
 joined {c = c} {o = o} {i = i} {j = j} {u = u} {x = x} {a = a} {b = b} n is some shares x_is y_is in_carrier of_middle =
     let e = elements_at c in
     let two = two_at c i j (entry_of a) (entry_of b) n.first n.second in

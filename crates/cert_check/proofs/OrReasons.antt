@@ -6,7 +6,9 @@ use Rattle.std.proofs.lemmas.Bool.{and_from, and_parts, eq-eqb, eqb-true, false�
 use Rattle.hex_board.specs.Elements.{element_count}
 use Rattle.conn_store.specs.declared.entries.Kind.TheVariants.{Full, Semi}
 use Rattle.win_cert.specs.Entries.{Context, ScopedEntry, carriers_of, elements_at, entries_at, entry_at, entry_between, gives, or_entry}
-use Rattle.win_cert.specs.Reasons.{Reason, reason_against, bad_reference, ends_differ, common_cell, wrong_scope}
+use Rattle.win_cert.specs.Reasons.{reason_against}
+use Rattle.win_cert.specs.declared.reasons.Reason.{Reason}
+use Rattle.win_cert.specs.declared.reasons.Reason.TheVariants.{BadReference, EndsDiffer, CommonCell, WrongScope}
 use Rattle.win_cert.specs.Scopes.{elements_in}
 use Rattle.win_cert.specs.Statements.{have_same_ends, may_take, same_ends, share_cell}
 use Rattle.win_cert.specs.declared.statements.Statement.{Statement}
@@ -21,10 +23,10 @@ use Rattle.cert_check.proofs.ReasonLaws.{told}
 -- the reason against an `or` of these numbers
 abbrev pub or_reason : Context → Statement → List ℕ → Option Reason
 or_reason c s numbers =
-    told (not (list_all (λ i. may_take s (entry_at c i)) numbers)) bad_reference
-    (told (not (list_all (λ a. a.scope == c.scope) (entries_at c numbers))) wrong_scope
-    (told (not (have_same_ends (entries_at c numbers))) ends_differ
-    (told (share_cell (entries_at c numbers)) common_cell None)))
+    told (not (list_all (λ i. may_take s (entry_at c i)) numbers)) BadReference
+    (told (not (list_all (λ a. a.scope == c.scope) (entries_at c numbers))) WrongScope
+    (told (not (have_same_ends (entries_at c numbers))) EndsDiffer
+    (told (share_cell (entries_at c numbers)) CommonCell None)))
 
 pub or_reasons : (c : Context) (line : Line) (numbers : List ℕ) → IsOrOf line numbers → reason_against c (Derivation line) ≡ or_reason c (Derivation line) numbers
 or_reasons c (Or2 i j) numbers h = two_reasons c i j ∙ ap (or_reason c (Derivation (Or2 i j))) h.1
@@ -66,7 +68,7 @@ or_gives c (Cases ns) numbers h = absurd (false≢true h.0)
 pub or_tested : {taken inside same shared : Bool} (c : Context) (line : Line) (numbers : List ℕ) → IsOrOf line numbers
     → taken ≡ list_all (λ i. may_take (Derivation line) (entry_at c i)) numbers → inside ≡ list_all (λ a. a.scope == c.scope) (entries_at c numbers)
     → same ≡ have_same_ends (entries_at c numbers) → shared ≡ share_cell (entries_at c numbers)
-    → reason_against c (Derivation line) ≡ told (not taken) bad_reference (told (not inside) wrong_scope (told (not same) ends_differ (told shared common_cell None)))
+    → reason_against c (Derivation line) ≡ told (not taken) BadReference (told (not inside) WrongScope (told (not same) EndsDiffer (told shared CommonCell None)))
 or_tested c line numbers h t i e s = cc (or_reasons c line numbers h, t, i, e, s)
 
 -- the entries that are named begin with the one of the first number

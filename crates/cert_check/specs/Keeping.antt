@@ -1,23 +1,21 @@
 -- What the checker keeps between two lines. No clause of a public call cites this.
-use Rattle.std.specs.Prelude.{◌≡◌, ℕ, ◌<◌, ◌||◌, ◌++◌, ◌∷◌, [], Bool, true, false}
+use Rattle.std.specs.Prelude.{◌≡◌, ℕ, ◌<◌, ◌||◌, Bool, true, false}
 use Rattle.std.specs.Prelude.{List, Option, Some, None, Result, Ok, Err, All}
 use Rattle.std.specs.Option.{option_map}
-use Rattle.hex_cells.specs.declared.colours.Colour.{Colour}
 use Rattle.conn_store.specs.declared.entries.Kind.{Kind}
 use Rattle.hex_board.specs.Elements.{PlayerBoard, element_count}
 use Rattle.hex_board.specs.Positions.{Position}
 use Rattle.win_cert.specs.Entries.{Context, ScopedEntry, entry_at, gives}
 use Rattle.win_cert.specs.Reasons.{is_bad_reference, is_wrong_scope, reason_against}
-use Rattle.win_cert.specs.Scopes.{elements_in, scope_after}
+use Rattle.win_cert.specs.Scopes.{elements_in}
 use Rattle.win_cert.specs.Statements.{is_chain, is_edge_entry, is_or}
 use Rattle.win_cert.specs.declared.statements.Statement.{Statement}
 use Rattle.win_cert.specs.declared.statements.Statement.TheVariants.{Claim, Derivation}
 use Rattle.win_cert.specs.Statements.{kind_taken, numbers_in}
 use Rattle.win_cert.specs.declared.lines.Line.{Line}
 use Rattle.win_cert.specs.declared.lines.Line.TheVariants.{And, Key}
-use Rattle.cert_check.specs.Answers.{reason_of}
+use Rattle.win_cert.specs.declared.reasons.Reason.{Reason}
 use Rattle.cert_check.specs.declared.given.Given.{Given}
-use Rattle.cert_check.specs.declared.verdicts.Why.{Why}
 
 -- the entry that was given
 abbrev pub entry_of : Given → ScopedEntry
@@ -36,30 +34,30 @@ IsGivenOnIf base None = Unit {0}
 IsGivenOnIf base (Some g) = IsGivenOn base g
 
 -- what a line gives, if a reason doesn't stand against it: else the first reason
-abbrev pub ReadsLine : Context → Line → Result (Option Given) Why → Type 0
+abbrev pub ReadsLine : Context → Line → Result (Option Given) Reason → Type 0
 ReadsLine c line (Ok g) =
     (reason_against c (Derivation line) ≡ None) × (gives c line ≡ option_map entry_of g)
     × IsGivenOnIf c.base g
-ReadsLine c line (Err why) = reason_against c (Derivation line) ≡ Some (reason_of why)
+ReadsLine c line (Err reason) = reason_against c (Derivation line) ≡ Some reason
 
 -- there is no reason against a line, or this is the first
-abbrev pub AllowsLine : Context → Line → Result (Unit {0}) Why → Type 0
+abbrev pub AllowsLine : Context → Line → Result (Unit {0}) Reason → Type 0
 AllowsLine c line (Ok t) = reason_against c (Derivation line) ≡ None
-AllowsLine c line (Err why) = reason_against c (Derivation line) ≡ Some (reason_of why)
+AllowsLine c line (Err reason) = reason_against c (Derivation line) ≡ Some reason
 
 -- there is no reason against the claim of this kind and number, and it is of this entry, or there
 -- is a first one
-abbrev pub ReadsClaim : Context → Kind → ℕ → Result Given Why → Type 0
+abbrev pub ReadsClaim : Context → Kind → ℕ → Result Given Reason → Type 0
 ReadsClaim c kind i (Ok g) =
     (reason_against c (Claim kind i) ≡ None) × (entry_at c i ≡ Some (entry_of g))
-ReadsClaim c kind i (Err why) = reason_against c (Claim kind i) ≡ Some (reason_of why)
+ReadsClaim c kind i (Err reason) = reason_against c (Claim kind i) ≡ Some reason
 
 -- an entry that was given by a line, or the first reason against it
-abbrev pub DerivesLine : Context → Line → Result Given Why → Type 0
+abbrev pub DerivesLine : Context → Line → Result Given Reason → Type 0
 DerivesLine c line (Ok g) =
     (reason_against c (Derivation line) ≡ None) × (gives c line ≡ Some (entry_of g))
     × IsGivenOn c.base g
-DerivesLine c line (Err why) = reason_against c (Derivation line) ≡ Some (reason_of why)
+DerivesLine c line (Err reason) = reason_against c (Derivation line) ≡ Some reason
 
 -- the statement takes entries of this kind, and of two elements where `apart` holds
 abbrev pub TakesKind : Statement → Kind → Bool → Type 0

@@ -9,45 +9,45 @@ ghost use Rattle.cert_check.specs.Keeping.{AreBothNamed, DerivesLine, IsOrOf, ch
 
 use super::checkers::Checker;
 use super::given::Given;
-use super::verdicts::Why;
 use conn_store::Kind;
 use hex_cells::CellSet;
+use win_cert::Reason;
 
 impl Checker {
     /// `and`, or `key` where the middle is to be a cell.
-    pub fn chain(&self, i: u32, j: u32, over_cell: bool) -> Result<Given, Why>
+    pub fn chain(&self, i: u32, j: u32, over_cell: bool) -> Result<Given, Reason>
         ensures { DerivesLine self.now (chain_line over_cell i j) result }
     {
         let numbers = [i, j];
         if !self.takes_all(&numbers, Kind::Full, true) {
-            return Err(Why::BadReference);
+            return Err(Reason::BadReference);
         }
         if !self.are_in_scope(&numbers, self.scope) {
-            return Err(Why::WrongScope);
+            return Err(Reason::WrongScope);
         }
         let Some(a) = self.entry(i) else {
-            return Err(Why::BadReference);
+            return Err(Reason::BadReference);
         };
         let Some(b) = self.entry(j) else {
-            return Err(Why::BadReference);
+            return Err(Reason::BadReference);
         };
         self.join(i, j, over_cell, &a, &b)
     }
 
     // `and` or `key` of two full entries of the scope, each of two elements.
-    fn join(&self, i: u32, j: u32, over_cell: bool, a: &Given, b: &Given) -> Result<Given, Why>
+    fn join(&self, i: u32, j: u32, over_cell: bool, a: &Given, b: &Given) -> Result<Given, Reason>
         requires named { AreBothNamed self.now over_cell i j a.now b.now }
         ensures { DerivesLine self.now (chain_line over_cell i j) result }
     {
         let Some(middle) = a.middle(b) else {
-            return Err(Why::NoCommonMiddle);
+            return Err(Reason::NoCommonMiddle);
         };
         if self.shares_cell(&[i, j]) {
-            return Err(Why::CarriersMeet);
+            return Err(Reason::CarriersMeet);
         }
         let (x, y) = (a.other_end(middle), b.other_end(middle));
         if self.is_either_in(x, b.carrier, y, a.carrier) {
-            return Err(Why::EndInCarrier);
+            return Err(Reason::EndInCarrier);
         }
         let cells = a.carrier.union(b.carrier);
         match self.elements.cell(middle) {
@@ -55,12 +55,12 @@ impl Checker {
                 if over_cell {
                     Ok(self.between(Kind::Semi, x, y, cells.with(cell)))
                 } else {
-                    Err(Why::MiddleKind)
+                    Err(Reason::MiddleKind)
                 }
             }
             None => {
                 if over_cell {
-                    Err(Why::MiddleKind)
+                    Err(Reason::MiddleKind)
                 } else {
                     Ok(self.between(Kind::Full, x, y, cells))
                 }
@@ -90,24 +90,24 @@ impl Checker {
     }
 
     /// `or`: two or three semi entries of the same elements.
-    pub fn either(&self, first: u32, numbers: &[u32]) -> Result<Given, Why>
+    pub fn either(&self, first: u32, numbers: &[u32]) -> Result<Given, Reason>
         requires { (rest : List ℕ) × (numbers.now ≡ first ∷ rest) }
         ensures { (line : Line) → IsOrOf line numbers.now → DerivesLine self.now line result }
     {
         if !self.takes_all(numbers, Kind::Semi, true) {
-            return Err(Why::BadReference);
+            return Err(Reason::BadReference);
         }
         if !self.are_in_scope(numbers, self.scope) {
-            return Err(Why::WrongScope);
+            return Err(Reason::WrongScope);
         }
         let Some(a) = self.entry(first) else {
-            return Err(Why::BadReference);
+            return Err(Reason::BadReference);
         };
         if !self.have_ends_of(&a, numbers) {
-            return Err(Why::EndsDiffer);
+            return Err(Reason::EndsDiffer);
         }
         if self.shares_cell(numbers) {
-            return Err(Why::CommonCell);
+            return Err(Reason::CommonCell);
         }
         Ok(self.between(Kind::Full, a.x, a.y, self.carriers(numbers)))
     }

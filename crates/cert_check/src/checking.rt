@@ -5,15 +5,14 @@ ghost use Rattle.hex_board.specs.Positions.{IsPosition};
 ghost use Rattle.win_cert.specs.Laws.{WinsAsClaimed};
 ghost use Rattle.win_cert.specs.Verdicts.{Accepted, IsVerdict};
 ghost use Rattle.win_cert.specs.Writable.{IsWritable};
-ghost use Rattle.cert_check.specs.Answers.{IsYes, verdict_of};
+ghost use Rattle.cert_check.specs.Answers.{IsYes};
 
 use super::checkers::Checker;
 use super::refusals::Memory;
-use super::verdicts::Verdict;
 use hex_board::Board;
 use hex_cells::Colour;
 use std::alloc::Global;
-use win_cert::{Cert, accepted_certificates_win};
+use win_cert::{Cert, Verdict, accepted_certificates_win};
 
 /// Checks a certificate that can be written: whether it is accepted. Where it is, the player wins
 /// as it claims; else the verdict names the first line against which there is a reason, the claim
@@ -21,7 +20,7 @@ use win_cert::{Cert, accepted_certificates_win};
 /// want of memory, which may come at any certificate.
 pub fn check(alloc: Global, cert: &Cert) -> Result<Verdict, Memory>
     requires { IsWritable cert.now }
-    ensures verdict { IfOk result (λ v. IsVerdict cert.now (verdict_of v)) }
+    ensures verdict { IfOk result (λ v. IsVerdict cert.now v) }
     ensures accepted { IfOk result (λ v. IsYes v ↔ Accepted cert.now) }
     ensures wins { IfOk result (λ v. IsYes v → WinsAsClaimed cert.now) }
 {
@@ -32,7 +31,10 @@ pub fn check(alloc: Global, cert: &Cert) -> Result<Verdict, Memory>
     'lines: for line in cert.lines.as_slice() {
         match checker.read(line) {
             Ok(given) => checker.keep(line, given)?,
-            Err(why) => return Ok(Verdict::No { line: number, why }),
+            Err(reason) => return Ok(Verdict::No {
+                line: number,
+                reason,
+            }),
         }
         number += 1;
     }
@@ -41,7 +43,10 @@ pub fn check(alloc: Global, cert: &Cert) -> Result<Verdict, Memory>
             claim: cert.claim,
             carrier: given.carrier,
         },
-        Err(why) => Verdict::No { line: number, why },
+        Err(reason) => Verdict::No {
+            line: number,
+            reason,
+        },
     })
 }
 

@@ -1,14 +1,15 @@
 //! The checker of certificates.
 //!
-//! **Nouns.** Those of `win_cert`. A *verdict* ([`Verdict`]) is what the checker answers: yes with
-//! the claim and the carrier of its entry, or no with the number of a line and why ([`Why`]).
+//! **Nouns.** Those of `win_cert`. A *verdict* (`win_cert::Verdict`) is what the checker answers:
+//! yes with the claim and the carrier of its entry, or no with the number of a line and the reason
+//! against it (`win_cert::Reason`).
 //!
 //! **A caller** checks a certificate by [`check`]:
 //!
 //! ```text
 //! match check(alloc, &cert)? {
 //!     Verdict::Yes { claim, carrier } => ..
-//!     Verdict::No { line, why } => ..
+//!     Verdict::No { line, reason } => ..
 //! }
 //! ```
 //!
@@ -30,8 +31,6 @@ mod named;
 mod reading;
 mod refusals;
 mod scopes;
-mod verdicts;
 
 pub use checking::check;
 pub use refusals::Memory;
-pub use verdicts::{Verdict, Why};

@@ -11,14 +11,13 @@ ghost use Rattle.cert_check.specs.Keeping.{DerivesLine, IsGivenOn, ReadsClaim, R
 
 use super::checkers::Checker;
 use super::given::Given;
-use super::verdicts::Why;
 use conn_store::Kind;
 use hex_cells::CellSet;
-use win_cert::{End, Line};
+use win_cert::{End, Line, Reason};
 
 impl Checker {
     /// What a derivation line gives, or the first reason against it.
-    pub fn read(&self, line: &Line) -> Result<Option<Given>, Why>
+    pub fn read(&self, line: &Line) -> Result<Option<Given>, Reason>
         requires line { (version : ℕ) × IsLineOf version self.now.base.board.size line.now }
         ensures { ReadsLine self.now line.now result }
     {
@@ -81,40 +80,40 @@ impl Checker {
     }
 
     // `adj`.
-    fn adj(&self, x: End, y: End) -> Result<Given, Why>
+    fn adj(&self, x: End, y: End) -> Result<Given, Reason>
         requires x { IsEndOn self.now.base.board.size x }
         requires y { IsEndOn self.now.base.board.size y }
         ensures { DerivesLine self.now (Line.Adj x y) result }
     {
         let Some(a) = self.element(x) else {
-            return Err(Why::WrongColour);
+            return Err(Reason::WrongColour);
         };
         let Some(b) = self.element(y) else {
-            return Err(Why::WrongColour);
+            return Err(Reason::WrongColour);
         };
         if !self.elements.near(a, b) {
-            return Err(Why::NotNeighbours);
+            return Err(Reason::NotNeighbours);
         }
         Ok(self.between(Kind::Full, a, b, CellSet::none()))
     }
 
     /// The entry that the claim names, or the first reason against it.
-    pub fn claimed(&self, kind: Kind, i: u32) -> Result<Given, Why>
+    pub fn claimed(&self, kind: Kind, i: u32) -> Result<Given, Reason>
         ensures { ReadsClaim self.now kind i result }
     {
         let numbers = [i];
         if !self.takes_all(&numbers, kind, false) {
-            return Err(Why::BadReference);
+            return Err(Reason::BadReference);
         }
         if !self.are_in_scope(&numbers, CellSet::none()) {
-            return Err(Why::WrongScope);
+            return Err(Reason::WrongScope);
         }
         if !self.are_of_edges(&numbers) {
-            return Err(Why::NotEdges);
+            return Err(Reason::NotEdges);
         }
         match self.entry(i) {
             Some(given) => Ok(given),
-            None => Err(Why::BadReference),
+            None => Err(Reason::BadReference),
         }
     }
 }

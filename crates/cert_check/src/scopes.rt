@@ -5,73 +5,73 @@ ghost use Rattle.cert_check.specs.Keeping.{AllowsLine, DerivesLine};
 
 use super::checkers::Checker;
 use super::given::Given;
-use super::verdicts::Why;
 use conn_store::Kind;
 use hex_cells::{Cell, CellSet};
+use win_cert::Reason;
 
 impl Checker {
     /// `put`.
-    pub fn put(&self, cells: CellSet) -> Result<(), Why>
+    pub fn put(&self, cells: CellSet) -> Result<(), Reason>
         ensures { AllowsLine self.now (Line.Put cells) result }
     {
         let _bits = cells.bits();
         if cells.inside(self.base.empties()) {
             Ok(())
         } else {
-            Err(Why::BadStone)
+            Err(Reason::BadStone)
         }
     }
 
     /// `done`.
-    pub fn done(&self) -> Result<Given, Why>
+    pub fn done(&self) -> Result<Given, Reason>
         ensures { DerivesLine self.now Line.Done result }
     {
         // Where the player is joined, both edges are in element 0.
         if self.elements.edge(true) == 0 {
             Ok(self.of_edges(Kind::Full, CellSet::none()))
         } else {
-            Err(Why::NotJoined)
+            Err(Reason::NotJoined)
         }
     }
 
     /// `move`.
-    pub fn after_move(&self, cell: Cell, i: u32) -> Result<Given, Why>
+    pub fn after_move(&self, cell: Cell, i: u32) -> Result<Given, Reason>
         ensures { DerivesLine self.now (Line.Move cell i) result }
     {
         let numbers = [i];
         if !self.takes_all(&numbers, Kind::Full, false) {
-            return Err(Why::BadReference);
+            return Err(Reason::BadReference);
         }
         if !self.board.empties().has(cell) {
-            return Err(Why::BadStone);
+            return Err(Reason::BadStone);
         }
         if !self.are_in_scope(&numbers, self.scope.with(cell)) {
-            return Err(Why::WrongScope);
+            return Err(Reason::WrongScope);
         }
         if !self.are_of_edges(&numbers) {
-            return Err(Why::NotEdges);
+            return Err(Reason::NotEdges);
         }
         match self.entry(i) {
             Some(given) => Ok(self.of_edges(Kind::Semi, given.carrier.with(cell))),
-            None => Err(Why::BadReference),
+            None => Err(Reason::BadReference),
         }
     }
 
     /// `cases`.
-    pub fn cases(&self, numbers: &[u32]) -> Result<Given, Why>
+    pub fn cases(&self, numbers: &[u32]) -> Result<Given, Reason>
         ensures { DerivesLine self.now (Line.Cases numbers.now) result }
     {
         if !self.takes_all(numbers, Kind::Semi, false) {
-            return Err(Why::BadReference);
+            return Err(Reason::BadReference);
         }
         if !self.are_in_scope(numbers, self.scope) {
-            return Err(Why::WrongScope);
+            return Err(Reason::WrongScope);
         }
         if self.shares_cell(numbers) {
-            return Err(Why::CommonCell);
+            return Err(Reason::CommonCell);
         }
         if !self.are_of_edges(numbers) {
-            return Err(Why::NotEdges);
+            return Err(Reason::NotEdges);
         }
         Ok(self.of_edges(Kind::Full, self.carriers(numbers)))
     }

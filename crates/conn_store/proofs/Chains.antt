@@ -3,9 +3,9 @@ use Rattle.std.proofs.Common.{◌≡◌, ℕ, ◌<◌, min, max, true, bit_or, s
 use Rattle.hex_cells.specs.Sets.{with_cell}
 use Rattle.hex_cells.proofs.WithCell.{with_cell-cases}
 use Rattle.hex_board.specs.Elements.{PlayerBoard, HasCell, element_count}
-use Rattle.hex_board.specs.Positions.{is_empty_at}
+use Rattle.hex_board.specs.Positions.{AllEmpty, is_empty_at}
 use Rattle.hex_board.proofs.Parts.{some_same}
-use Rattle.conn_store.specs.Entries.{AllEmpty, IsBetween, IsValid, Misses}
+use Rattle.conn_store.specs.Entries.{IsBetween, IsValid, Misses}
 use Rattle.conn_store.specs.Rules.{AndRule, IsCell, IsChain, both_of}
 use Rattle.conn_store.specs.declared.entries.Entry.{Entry}
 use Rattle.conn_store.proofs.RuleTruth.{least_first}

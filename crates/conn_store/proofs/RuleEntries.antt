@@ -6,9 +6,9 @@ use Rattle.std.proofs.lemmas.List.Elements.{All-cons, All-head, All-nil}
 use Rattle.std.proofs.lemmas.Option.{same_Some, slice_get_read}
 use Rattle.hex_cells.specs.Sets.{has, with_cell}
 use Rattle.hex_board.specs.Elements.{PlayerBoard, HasCell}
-use Rattle.hex_board.specs.Positions.{Within, stones_of, is_empty_at}
+use Rattle.hex_board.specs.Positions.{AllEmpty, Within, stones_of, is_empty_at}
 use Rattle.hex_board.proofs.Places.{empty_alone}
-use Rattle.conn_store.specs.Entries.{AllEmpty, IsBetween, IsValid, Misses}
+use Rattle.conn_store.specs.Entries.{IsBetween, IsValid, Misses}
 use Rattle.conn_store.specs.Rules.{AndRule, AreAt, AreWays, FollowsBy, IsCell, IsAndOf, IsChain, IsEntry, IsGroup, OrRule, both_of}
 use Rattle.conn_store.specs.Stores.{CanOr, GivesAnd, MayBeAdded, IsSound, StoreData}
 use Rattle.conn_store.specs.declared.entries.Cause.{Cause}

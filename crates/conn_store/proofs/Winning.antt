@@ -7,12 +7,11 @@ use Rattle.hex_cells.specs.Colours.{other_of}
 use Rattle.hex_cells.specs.declared.colours.Colour.{Colour}
 use Rattle.hex_cells.specs.declared.colours.Colour.TheVariants.{Black, White}
 use Rattle.hex_board.specs.Joined.{Joined}
-use Rattle.hex_board.specs.Positions.{Position, stones_of, is_empty_at, placed}
+use Rattle.hex_board.specs.Positions.{AllEmpty, Position, stones_of, is_empty_at, placed}
 use Rattle.hex_board.specs.Wins.{Wins}
 use Rattle.hex_board.proofs.WinLaws.{joined_wins, own_wins, other_wins}
 use Rattle.hex_board.proofs.Placed.{placed_leaves, placed_own, placed_size}
 use Rattle.conn_store.specs.Laws.{IsSubset}
-use Rattle.conn_store.specs.Entries.{AllEmpty}
 use Rattle.conn_store.specs.Truth.{IsSureIn}
 use Rattle.conn_store.specs.declared.entries.Kind.{Kind}
 use Rattle.conn_store.specs.declared.entries.Kind.TheVariants.{Full, Semi}

@@ -2,15 +2,11 @@
 use Rattle.std.specs.Prelude.{◌≡◌, ℕ, ◌<◌, true, min, max}
 use Rattle.hex_cells.specs.Sets.{has}
 use Rattle.hex_board.specs.Elements.{PlayerBoard, HasCell, element_count}
-use Rattle.hex_board.specs.Positions.{Position, stones_of, is_empty_at}
+use Rattle.hex_board.specs.Positions.{AllEmpty, stones_of}
 use Rattle.conn_store.specs.Links.{StonesLink}
 use Rattle.conn_store.specs.Truth.{IsSure}
 use Rattle.conn_store.specs.declared.entries.Entry.{Entry}
 use Rattle.conn_store.specs.declared.entries.Kind.{Kind}
-
--- the cells of the set c are empty
-abbrev pub AllEmpty : Position → ℕ → Type 0
-AllEmpty p c = (k : ℕ) → has c k ≡ true → is_empty_at p k ≡ true
 
 -- no cell of element x is in the set c
 abbrev pub Misses : PlayerBoard → ℕ → ℕ → Type 0

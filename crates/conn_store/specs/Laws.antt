@@ -2,8 +2,8 @@
 use Rattle.std.specs.Prelude.{◌≡◌, ℕ, true, false}
 use Rattle.hex_cells.specs.Sets.{has, with_cell, without_cell}
 use Rattle.hex_board.specs.Elements.{PlayerBoard, edge_element}
-use Rattle.hex_board.specs.Positions.{IsPosition, Position, Within, stones_of}
-use Rattle.conn_store.specs.Entries.{AllEmpty, Connects}
+use Rattle.hex_board.specs.Positions.{AllEmpty, IsPosition, Position, Within, stones_of}
+use Rattle.conn_store.specs.Entries.{Connects}
 use Rattle.conn_store.specs.declared.entries.Kind.{Kind}
 use Rattle.conn_store.specs.declared.entries.Kind.TheVariants.{Full}
 

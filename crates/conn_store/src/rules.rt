@@ -4,7 +4,8 @@ ghost use Rattle.std.specs.Prelude.{◌≡◌, ◌↔◌, ℕ, ◌<◌, ◌∷�
 ghost use Rattle.std.specs.Prelude.{length};
 ghost use Rattle.hex_board.specs.Elements.{element_count};
 ghost use Rattle.hex_board.specs.Places.{is_near};
-ghost use Rattle.conn_store.specs.Entries.{AllEmpty, IsValid, Misses};
+ghost use Rattle.hex_board.specs.Positions.{AllEmpty};
+ghost use Rattle.conn_store.specs.Entries.{IsValid, Misses};
 ghost use Rattle.conn_store.specs.Rules.{AndRule, AreWays, IsChain, IsEntry, OrRule};
 ghost use Rattle.conn_store.specs.Rules.{adjacent_entry};
 ghost use Rattle.conn_store.specs.Stores.{CanAnd, CanOr, GivesAnd, MayBeAdded};

@@ -42,6 +42,10 @@ stones_of p White = p.white
 abbrev pub is_empty_at : Position → ℕ → Bool
 is_empty_at p k = nat_lt k (p.size * p.size) && not (has p.black k) && not (has p.white k)
 
+-- the cells of the set s are empty
+abbrev pub AllEmpty : Position → ℕ → Type 0
+AllEmpty p s = (k : ℕ) → has s k ≡ true → is_empty_at p k ≡ true
+
 -- the stone on cell k
 abbrev pub stone_at : Position → ℕ → Option Colour
 stone_at p k = if has p.black k then Some Black else (if has p.white k then Some White else None)

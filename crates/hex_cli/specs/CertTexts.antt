@@ -3,14 +3,14 @@ use Rattle.std.specs.Prelude.{◌≡◌, ◌≢◌, ◌⊎◌, ℕ, Bool, true, 
 use Rattle.std.specs.Fmt.{decimal}
 use Rattle.conn_store.specs.declared.entries.Kind.TheVariants.{Full, Semi}
 use Rattle.win_cert.specs.Readings.{IsParsedAs}
+use Rattle.win_cert.specs.Reasons.{number_of_reason}
 use Rattle.win_cert.specs.Texts.{cert_text}
 use Rattle.win_cert.specs.Verdicts.{IsVerdict, raised}
 use Rattle.win_cert.specs.declared.certs.Cert.{Cert}
 use Rattle.win_cert.specs.declared.refusals.CertError.{CertError}
 use Rattle.win_cert.specs.declared.refusals.CertError.TheVariants.{NotCert, TooManyLines, Memory}
-use Rattle.cert_check.specs.Answers.{number_of_why, verdict_of}
-use Rattle.cert_check.specs.declared.verdicts.Verdict.{Verdict}
-use Rattle.cert_check.specs.declared.verdicts.Verdict.TheVariants.{Yes, No}
+use Rattle.win_cert.specs.declared.verdicts.Verdict.{Verdict}
+use Rattle.win_cert.specs.declared.verdicts.Verdict.TheVariants.{Yes, No}
 
 -- the line for bytes that are no certificate
 abbrev pub refusal_text : CertError → List ℕ
@@ -34,18 +34,18 @@ IsMigrateText bytes text false = IsRefusalText bytes text
 abbrev pub verdict_text : Verdict → List ℕ
 verdict_text (Yes Full carrier) = codes "yes full\n"
 verdict_text (Yes Semi carrier) = codes "yes semi\n"
-verdict_text (No line why) = codes "no "
-    ++ (decimal line ++ (codes " " ++ (decimal (number_of_why why) ++ codes "\n")))
+verdict_text (No line reason) = codes "no "
+    ++ (decimal line ++ (codes " " ++ (decimal (number_of_reason reason) ++ codes "\n")))
 
 -- whether a verdict is yes
 abbrev pub is_yes : Verdict → Bool
 is_yes (Yes claim carrier) = true
-is_yes (No line why) = false
+is_yes (No line reason) = false
 
 -- the bytes are a certificate, and the text is the line of its verdict
 abbrev pub IsVerdictText : List ℕ → List ℕ → Bool → Type 0
 IsVerdictText bytes text accepted = (cert : Cert) × (verdict : Verdict) × IsParsedAs bytes (Ok cert)
-    × IsVerdict cert (verdict_of verdict) × (accepted ≡ is_yes verdict)
+    × IsVerdict cert verdict × (accepted ≡ is_yes verdict)
     × (text ≡ verdict_text verdict)
 
 -- Mode check: the text is the line of the verdict on the certificate that the bytes are; or they

@@ -8,11 +8,11 @@ ghost use Rattle.hex_cli.specs.CertTexts.{IsCheckText, IsMigrateText, is_yes, re
 ghost use Rattle.hex_cli.specs.CertTexts.{verdict_text};
 
 use crate::numbers::push_number;
-use cert_check::{Verdict, check};
+use cert_check::check;
 use conn_store::Kind;
 use hex_devices::InputAnswer;
 use std::alloc::{AllocError, Global};
-use win_cert::{Cert, CertError, raise, read, write};
+use win_cert::{Cert, CertError, Verdict, raise, read, write};
 
 /// The answer of mode `migrate`: the certificate in the latest version, or why there is none.
 pub fn migrate_answer(alloc: Global, input: &[u8]) -> Result<InputAnswer, AllocError>
@@ -73,11 +73,11 @@ fn judged(alloc: Global, verdict: Verdict) -> Result<InputAnswer, AllocError>
             claim: Kind::Semi,
             ..
         } => answer_of(alloc, b"yes semi\n", true),
-        Verdict::No { line, why } => {
+        Verdict::No { line, reason } => {
             let mut text = b"no ".to_vec(alloc)?;
             push_number(alloc, &mut text, u64::from(line))?;
             text.push(b' ')?;
-            push_number(alloc, &mut text, u64::from(why.number()))?;
+            push_number(alloc, &mut text, u64::from(reason.number()))?;
             text.push(b'\n')?;
             Ok(InputAnswer {
                 text,

@@ -17,14 +17,12 @@ use Rattle.hex_game.specs.declared.moves.PlayError.TheVariants.{Occupied, Over, 
 abbrev pub is_over : Position → Bool
 is_over now = is_joined now.size Black now.black || is_joined now.size White now.white
 
-abbrev pub has_no_stone : Position → Bool
-has_no_stone start = (start.black == 0) && (start.white == 0)
-
 -- a swap is White's alone, where the game began without stones and its history is one stone of
 -- Black
 abbrev pub may_swap : Position → List Step → Colour → Bool
 may_swap start steps colour =
-    is_same colour White && (has_no_stone start && is_some (lone_black_stone steps))
+    is_same colour White
+    && (start.black == 0 && (start.white == 0 && is_some (lone_black_stone steps)))
 
 abbrev pub fits : Position → List Step → Position → Colour → Move → Bool
 fits start steps now colour (Stone cell) = is_empty_at now cell

@@ -1,11 +1,11 @@
 //! The rule of one step.
 
-ghost use Rattle.std.specs.Prelude.{◌≡◌, ℕ, true, false, Some, None, ◌+◌, ◌*◌, ◌<◌};
-ghost use Rattle.std.specs.Prelude.{◌≤◌, length};
+ghost use Rattle.std.specs.Prelude.{◌≡◌, ℕ, true, false, Some, None, ◌+◌, ◌*◌, ◌<◌, ◌==◌};
+ghost use Rattle.std.specs.Prelude.{◌≤◌, ◌&&◌, length};
 ghost use Rattle.hex_game.specs.Moves.{lone_black_stone};
 ghost use Rattle.hex_board.specs.Positions.{placed, is_empty_at};
 ghost use Rattle.hex_game.specs.Kept.{IsFew, stones_on};
-ghost use Rattle.hex_game.specs.Games.{IsOnBoard, is_over, has_no_stone, may_swap};
+ghost use Rattle.hex_game.specs.Games.{IsOnBoard, is_over, may_swap};
 ghost use Rattle.hex_game.specs.Games.{refusal_on, moved, swapped, mirrored, Fits};
 
 use super::moves::{MOST_STEPS, Move, PlayError, Step};
@@ -52,7 +52,7 @@ fn swap_may_come(start: &Board, steps: &[Step], colour: Colour) -> bool
 }
 
 fn is_bare(start: &Board) -> bool
-    ensures { result ≡ has_no_stone start.now }
+    ensures { result ≡ (start.now.black == 0 && start.now.white == 0) }
 {
     start.stones(Colour::Black) == CellSet::none() && start.stones(Colour::White) == CellSet::none()
 }

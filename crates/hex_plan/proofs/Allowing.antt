@@ -6,11 +6,11 @@ use Rattle.std.proofs.lemmas.Bool.{both_ways}
 use Rattle.hex_cells.specs.Sets.{has}
 use Rattle.hex_cells.specs.declared.colours.Colour.{Colour}
 use Rattle.hex_board.specs.Joined.{cells_of}
-use Rattle.hex_board.specs.Positions.{Position, is_empty_at}
+use Rattle.hex_board.specs.Positions.{AllEmpty, Position, is_empty_at}
 use Rattle.hex_board.proofs.Placed.{empty_on}
 use Rattle.hex_board.proofs.Search.{any_in, any_out}
 use Rattle.tree_words.specs.Complete.{HasEmpties}
-use Rattle.tree_words.specs.Settings.{AreEmpty, IsAny}
+use Rattle.tree_words.specs.Settings.{IsAny}
 use Rattle.conn_store.specs.Stores.{StoreData}
 use Rattle.hex_plan.specs.Plans.{AllowsEmpties, IsMustplay, IsPlanned, IsPlannedBy}
 use Rattle.hex_plan.specs.declared.plans.Planned.{Planned}
@@ -23,11 +23,11 @@ use Rattle.std.specs.declared.option.Option.{Option}
 abbrev pub HasRoom : Position → Type 0
 HasRoom board = (k : ℕ) × (is_empty_at board k ≡ true)
 
-empties_allowed : (board : Position) (allowed : ℕ) → HasEmpties allowed board → HasRoom board → IsAny allowed × AreEmpty allowed board
+empties_allowed : (board : Position) (allowed : ℕ) → HasEmpties allowed board → HasRoom board → IsAny allowed × AllEmpty board allowed
 empties_allowed board allowed h w = ((w.0, h.items w.0 ∙ w.1), λ k i. sym (h.items k) ∙ i)
 
 -- a set of empty cells that is not known to have none has one
-some_cell : (board : Position) (set : ℕ) → AreEmpty set board → (((k : ℕ) → has set k ≡ true → ⊥) → ⊥) → IsAny set
+some_cell : (board : Position) (set : ℕ) → AllEmpty board set → (((k : ℕ) → has set k ≡ true → ⊥) → ⊥) → IsAny set
 some_cell board set empty f = by_test (list_any (has set) (cells_of board.size)) refl
   where
     by_test : (b : Bool) → list_any (has set) (cells_of board.size) ≡ b → IsAny set
@@ -35,11 +35,11 @@ some_cell board set empty f = by_test (list_any (has set) (cells_of board.size))
     by_test false e = absurd (f (λ k h.
         both_ways (list_any (has set) (cells_of board.size)) e (any_in (has set) 0 (board.size * board.size) k (omega arith) (omega (arith, empty_on board k (empty k h))) h)))
 
-region_allowed : (board : Position) (threats : List Threat) (allowed : ℕ) (lost : Bool) → IsMustplay board threats allowed lost → HasRoom board → IsAny allowed × AreEmpty allowed board
+region_allowed : (board : Position) (threats : List Threat) (allowed : ℕ) (lost : Bool) → IsMustplay board threats allowed lost → HasRoom board → IsAny allowed × AllEmpty board allowed
 region_allowed board threats allowed true m w = empties_allowed board allowed (m.free refl) w
 region_allowed board threats allowed false m w =
     let n = m.narrowed refl in
-    let empty : AreEmpty allowed board = λ k i. ((n k).0 i).0 in
+    let empty : AllEmpty board allowed = λ k i. ((n k).0 i).0 in
     (some_cell board allowed empty (λ f. not_lost (m.none.1 (λ k i. f k ((n k).1 i)))), empty)
   where
     not_lost : false ≡ true → ⊥

@@ -25,7 +25,8 @@ use Rattle.win_cert.specs.Cuts.{IsEdgeEntryAt}
 use Rattle.win_cert.specs.declared.certs.Cert.{Cert}
 use Rattle.hex_plan.specs.Good.{FollowsPlan, IsGood}
 use Rattle.hex_plan.specs.Laws.{HoldsOfPlans, IsCertified, LosesAsPlanned, LosesOutsideCarriers, LosesOutsideThreats, LosesWhereLost, WinsAsPlanned}
-use Rattle.hex_plan.specs.Plans.{IsCertifiedWin, IsInEach, IsMiddle, IsNarrowed, IsPlanned, IsPlannedBy, IsReportOf, IsThreat, IsWin, IsWinBy, IsWinningCell}
+use Rattle.hsearch.specs.Closed.{IsReportOf}
+use Rattle.hex_plan.specs.Plans.{IsCertifiedWin, IsInEach, IsMiddle, IsNarrowed, IsPlanned, IsPlannedBy, IsThreat, IsWin, IsWinBy, IsWinningCell}
 use Rattle.hex_plan.specs.Turns.{TurnData}
 use Rattle.hex_plan.specs.declared.plans.Planned.{Planned}
 use Rattle.hex_plan.specs.declared.threats.Threat.{Threat}

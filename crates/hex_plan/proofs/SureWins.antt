@@ -7,10 +7,10 @@ use Rattle.hex_cells.specs.declared.colours.Colour.{Colour}
 use Rattle.hex_cells.proofs.WithCell.{with_cell-here}
 use Rattle.hex_board.specs.Elements.{HasCell, PlayerBoard, edge_element}
 use Rattle.hex_board.specs.Joined.{Joined}
-use Rattle.hex_board.specs.Positions.{Position, Within, placed, stones_of}
+use Rattle.hex_board.specs.Positions.{AllEmpty, Position, Within, placed, stones_of}
 use Rattle.hex_board.specs.Wins.{Wins}
 use Rattle.hex_board.proofs.Placed.{placed_other, placed_own, placed_size}
-use Rattle.conn_store.specs.Entries.{AllEmpty, IsBetween, IsTrueEntry, IsValid}
+use Rattle.conn_store.specs.Entries.{IsBetween, IsTrueEntry, IsValid}
 use Rattle.conn_store.specs.Laws.{IsSubset}
 use Rattle.conn_store.specs.Links.{StonesLink}
 use Rattle.conn_store.specs.Rules.{AndRule, IsCell, both_of}

@@ -5,7 +5,7 @@ use Rattle.std.specs.List.{slice_get}
 use Rattle.hex_cells.specs.Colours.{other_of}
 use Rattle.hex_cells.specs.Sets.{has}
 use Rattle.hex_cells.specs.declared.colours.Colour.{Colour}
-use Rattle.hex_board.specs.Positions.{Position, is_empty_at}
+use Rattle.hex_board.specs.Positions.{AllEmpty, Position, is_empty_at}
 use Rattle.conn_store.specs.Entries.{IsBetween}
 use Rattle.conn_store.specs.Rules.{AreAt, IsCell, IsChain}
 use Rattle.conn_store.specs.Stores.{StoreData}
@@ -13,22 +13,15 @@ use Rattle.conn_store.specs.declared.entries.Cause.TheVariants.{AndEmpty}
 use Rattle.conn_store.specs.declared.entries.Entry.{Entry}
 use Rattle.conn_store.specs.declared.entries.Kind.{Kind}
 use Rattle.conn_store.specs.declared.entries.Kind.TheVariants.{Full, Semi}
-use Rattle.hsearch.specs.Closed.{IsReport}
+use Rattle.hsearch.specs.Closed.{IsReportOf}
 use Rattle.tree_words.specs.Complete.{HasEmpties}
-use Rattle.tree_words.specs.Settings.{AreEmpty, IsAny}
+use Rattle.tree_words.specs.Settings.{IsAny}
 use Rattle.win_cert.specs.Cuts.{CertifiesEntry, HasLinesFor, IsEdgeEntryAt}
 use Rattle.win_cert.specs.declared.certs.Cert.{Cert}
 use Rattle.hex_plan.specs.declared.types.Plan.{Plan}
 use Rattle.hex_plan.specs.declared.types.Plan.TheVariants.{Win, Search}
 use Rattle.hex_plan.specs.declared.plans.Planned.{Planned}
 use Rattle.hex_plan.specs.declared.threats.Threat.{Threat}
-
--- ---- reports
-
--- the store is a report of the player on the board: sound and closed
-pub record IsReportOf (board : Position) (player : Colour) (d : StoreData) : Type 0 where
-  pub elements : d.elements ≡ record { board = board; player = player }
-  pub report : IsReport d
 
 -- the entry is one of the store, between the player's two edges
 abbrev pub IsEdgeEntry : StoreData → Entry → Type 0
@@ -155,4 +148,4 @@ IsSearchAmong (Search threats allowed lost) set = allowed ≡ set
 -- a search of the plan is among empty cells of the board, and there is one
 abbrev pub AllowsEmpties : Position → Plan → Type 0
 AllowsEmpties board (Win cert cell) = Unit {0}
-AllowsEmpties board (Search threats allowed lost) = IsAny allowed × AreEmpty allowed board
+AllowsEmpties board (Search threats allowed lost) = IsAny allowed × AllEmpty board allowed

@@ -3,7 +3,8 @@
 ghost use Rattle.std.specs.Prelude.{◌≡◌, ℕ, IfOk, None, true, false};
 ghost use Rattle.hex_board.specs.Joined.{winner_of};
 ghost use Rattle.hex_board.specs.Positions.{is_empty_at};
-ghost use Rattle.hex_plan.specs.Plans.{AllowsEmpties, IsEdgeEntry, IsFree, IsPlanned, IsReportOf};
+ghost use Rattle.hsearch.specs.Closed.{IsReportOf};
+ghost use Rattle.hex_plan.specs.Plans.{AllowsEmpties, IsEdgeEntry, IsFree, IsPlanned};
 ghost use Rattle.hex_board.specs.Elements.{are_joined};
 ghost use Rattle.win_cert.specs.Cuts.{HasEdgeEntryAt};
 ghost use Rattle.conn_store.specs.declared.entries.Entry.{Entry};

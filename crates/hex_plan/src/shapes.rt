@@ -1,7 +1,8 @@
 //! The shape of the search of a turn.
 
 ghost use Rattle.std.specs.Prelude.{◌≡◌};
-ghost use Rattle.tree_words.specs.Settings.{AreEmpty, AreInRange, IsAny};
+ghost use Rattle.hex_board.specs.Positions.{AllEmpty};
+ghost use Rattle.tree_words.specs.Settings.{AreInRange, IsAny};
 ghost use Rattle.hex_plan.specs.Good.{IsTurnShape};
 ghost use Rattle.hex_plan.specs.Seeds.{seed_of, turn_knobs};
 
@@ -43,7 +44,7 @@ pub fn turn_shape(
     number: u64,
 ) -> Shape
     requires any { IsAny allowed }
-    requires empty { AreEmpty allowed board.now }
+    requires empty { AllEmpty board.now allowed }
     requires ranges { AreInRange options.now }
     ensures { IsTurnShape options.now board.now colour number allowed result }
 {

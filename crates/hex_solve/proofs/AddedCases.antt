@@ -4,9 +4,8 @@ use Rattle.std.proofs.lemmas.Bool.{cases_Bool, false_from_ne_true, true≢false}
 use Rattle.std.proofs.lemmas.List.Elements.{All-cons, All-nil}
 use Rattle.hex_cells.specs.Sets.{has}
 use Rattle.hex_cells.specs.Colours.{other_of}
-use Rattle.hex_board.specs.Positions.{Position, is_empty_at, placed}
+use Rattle.hex_board.specs.Positions.{AllEmpty, Position, is_empty_at, placed}
 use Rattle.hex_board.proofs.Placed.{placed_empty}
-use Rattle.conn_store.specs.Entries.{AllEmpty}
 use Rattle.conn_store.specs.declared.entries.Kind.TheVariants.{Full, Semi}
 use Rattle.win_cert.specs.Writable.{AreNumbers, IsLineOf}
 use Rattle.win_cert.specs.declared.certs.TheConstants.{LATEST_VERSION}

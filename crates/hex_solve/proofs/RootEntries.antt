@@ -11,9 +11,10 @@ use Rattle.conn_store.specs.declared.entries.Kind.{Kind}
 use Rattle.conn_store.specs.declared.entries.Kind.TheVariants.{Semi}
 use Rattle.win_cert.specs.Cuts.{AreEdgeNumbers, CertifiesEntry}
 use Rattle.win_cert.specs.Laws.{WinsAsClaimed, first_mover}
-use Rattle.win_cert.specs.Verdicts.{Accepted, HaveSameVerdict, IsVerdict, raised, yes}
+use Rattle.win_cert.specs.Verdicts.{Accepted, HaveSameVerdict, IsVerdict, raised}
 use Rattle.win_cert.specs.Writable.{HasBoard, IsWritable}
 use Rattle.win_cert.specs.declared.certs.Cert.{Cert}
+use Rattle.win_cert.specs.declared.verdicts.Verdict.TheVariants.{Yes}
 use Rattle.hex_solve.specs.Solved.{IsUndecided}
 use Rattle.hex_solve.specs.Telling.{IsCertifiedWin}
 use Rattle.hex_solve.proofs.LedgersTell.{semi_for}
@@ -29,7 +30,7 @@ AcceptedWins = (cert : Cert) → HasBoard cert → Accepted cert → WinsAsClaim
 pub certified_win : (e : PlayerBoard) (d : StoreData) (a : Entry) (cert new : Cert) → d.elements ≡ e → a.kind ≡ Semi → CertifiesEntry d a cert → new ≡ raised cert → IsWritable new → HaveSameVerdict cert new
     → IsPosition e.board.size e.board.black e.board.white → AcceptedWins → IsCertifiedWin e.board e.player e.player new
 certified_win e d a cert new is k c r w same on law =
-    let v : IsVerdict new (yes a.kind a.carrier) = (same (yes a.kind a.carrier)).0 c.verdict in
+    let v : IsVerdict new (Yes a.kind a.carrier) = (same (Yes a.kind a.carrier)).0 c.verdict in
     let board : new.board ≡ e.board = ap (λ (x : Cert). x.board) r ∙ (c.board ∙ ap (λ (x : PlayerBoard). x.board) is) in
     let player : new.player ≡ e.player = ap (λ (x : Cert). x.player) r ∙ (c.player ∙ ap (λ (x : PlayerBoard). x.player) is) in
     let claims : new.claim ≡ Semi = sym v.1 ∙ k in

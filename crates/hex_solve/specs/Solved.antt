@@ -10,7 +10,7 @@ use Rattle.conn_store.specs.Stores.{StoreData}
 use Rattle.conn_store.specs.declared.entries.Entry.{Entry}
 use Rattle.conn_store.specs.declared.entries.Kind.{Kind}
 use Rattle.conn_store.specs.declared.entries.Kind.TheVariants.{Full, Semi}
-use Rattle.hsearch.specs.Closed.{IsReport}
+use Rattle.hsearch.specs.Closed.{IsReportOf}
 use Rattle.win_cert.specs.Cuts.{IsEdgeEntryAt}
 use Rattle.win_cert.specs.Verdicts.{Accepted}
 use Rattle.win_cert.specs.Writable.{IsWritable}
@@ -71,11 +71,6 @@ TooLongNeedsMany p mover (TooLong winner lines) =
 TooLongNeedsMany p mover (Open full) = Unit {0}
 
 -- ---- none
-
--- the store is a report of the player on the board: sound and closed
-pub record IsReportOf (p : Position) (player : Colour) (d : StoreData) : Type 0 where
-  pub elements : d.elements ≡ record { board = p; player = player }
-  pub report : IsReport d
 
 -- no semi entry of the store is between the player's two edges
 abbrev pub IsUndecided : StoreData → Type 0

@@ -3,7 +3,8 @@
 ghost use Rattle.std.specs.Prelude.{◌≡◌, IfNone, IfOk, IfSome, None, Some};
 ghost use Rattle.hex_board.specs.Joined.{winner_of};
 ghost use Rattle.hex_board.specs.Positions.{IsPosition};
-ghost use Rattle.hex_solve.specs.Solved.{IsReportOf, IsUndecided, OpenIsFull, TooLongNeedsMany};
+ghost use Rattle.hsearch.specs.Closed.{IsReportOf};
+ghost use Rattle.hex_solve.specs.Solved.{IsUndecided, OpenIsFull, TooLongNeedsMany};
 ghost use Rattle.hex_solve.specs.Solved.{UnknownNeedsMore, WinnerWins, WonIsCertified, WonIsShort};
 ghost use Rattle.hex_solve.specs.Telling.{IsAnswer, IsCertifiedWin};
 

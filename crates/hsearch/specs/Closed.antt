@@ -3,8 +3,10 @@ use Rattle.std.specs.Prelude.{◌≡◌, ℕ, ◌⊎◌, ◌<◌, Bool, true, Li
 use Rattle.std.specs.Prelude.{max}
 use Rattle.std.specs.List.{slice_get}
 use Rattle.hex_cells.specs.Sets.{with_cell}
+use Rattle.hex_cells.specs.declared.colours.Colour.{Colour}
 use Rattle.hex_board.specs.Elements.{PlayerBoard, edge_element, element_count}
 use Rattle.hex_board.specs.Places.{is_near}
+use Rattle.hex_board.specs.Positions.{Position}
 use Rattle.conn_store.specs.Rules.{AndRule, IsCell, IsGroup, OrRule, both_of, union_of}
 use Rattle.conn_store.specs.Stores.{IsCovered, IsPairFull, IsSound, StoreData}
 use Rattle.conn_store.specs.declared.entries.Entry.{Entry}
@@ -48,3 +50,8 @@ pub record IsRuleClosed (d : StoreData) : Type 0 where
 pub record IsReport (d : StoreData) : Type 0 where
   pub sound : IsSound d
   pub closed : IsRuleClosed d
+
+-- the store is a report of the player on the board
+pub record IsReportOf (board : Position) (player : Colour) (d : StoreData) : Type 0 where
+  pub elements : d.elements ≡ record { board = board; player = player }
+  pub report : IsReport d

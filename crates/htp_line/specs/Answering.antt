@@ -1,17 +1,13 @@
 -- The bytes of an answer.
-use Rattle.std.specs.Prelude.{◌≡◌, ◌+◌, ◌≤◌, ℕ, List, [], ◌∷◌, ◌++◌, Option, Some, None, Result}
+use Rattle.std.specs.Prelude.{◌≡◌, ◌+◌, ◌≤◌, ℕ, List, [], ◌∷◌, ◌++◌, Option, Result}
 use Rattle.std.specs.Prelude.{OnOk, Vec, vec_len, vec_capacity}
 use Rattle.std.specs.declared.alloc.Global.{Global}
 use Rattle.std.specs.Fmt.{decimal}
+use Rattle.std.specs.Option.{option_map_or}
 
--- an id, in its shortest form
-abbrev pub id_text : Option ℕ → List ℕ
-id_text None = []
-id_text (Some id) = decimal id
-
--- `=` or `?`, the id, a space, the text and two line feeds
+-- `=` or `?`, the id in its shortest form if there is one, a space, the text and two line feeds
 abbrev pub answer : ℕ → Option ℕ → List ℕ → List ℕ
-answer sign id text = sign ∷ id_text id ++ 32 ∷ text ++ 10 ∷ 10 ∷ []
+answer sign id text = sign ∷ option_map_or decimal id [] ++ 32 ∷ text ++ 10 ∷ 10 ∷ []
 
 -- a success begins with `=`
 abbrev pub success : Option ℕ → List ℕ → List ℕ
@@ -21,12 +17,12 @@ success = answer 61
 abbrev pub failure : Option ℕ → List ℕ → List ℕ
 failure = answer 63
 
--- what is written where these bytes are an id's: the text of that id stands at the end, but for a
--- want of memory
+-- what is written where these bytes are an id in its shortest form: the text of that id stands at
+-- the end, but for a want of memory
 abbrev pub WritesFor : {T E : Type 0} → List ℕ → (Option ℕ → List ℕ) → List ℕ → List ℕ
     → Result T E → Type 0
 WritesFor bytes text old new result =
-    (id : Option ℕ) → bytes ≡ id_text id → OnOk result (new ≡ old ++ text id)
+    (id : Option ℕ) → bytes ≡ option_map_or decimal id [] → OnOk result (new ≡ old ++ text id)
 
 -- so many bytes more fit in a vector without memory
 abbrev pub HasSpareRoom : Vec ℕ Global → ℕ → Type 0

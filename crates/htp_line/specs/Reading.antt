@@ -21,13 +21,9 @@ cleaned raw =
 abbrev pub is_space : ℕ → Bool
 is_space b = b == 32
 
--- a part that is not empty
-abbrev pub is_word : List ℕ → Bool
-is_word part = nat_lt 0 (length part)
-
--- the words between spaces
+-- the words between spaces: the parts that are not empty
 unfoldable pub words : List ℕ → List (List ℕ)
-words text = filter is_word (slice_split is_space text)
+words text = filter (λ part. nat_lt 0 (length part)) (slice_split is_space text)
 
 -- a decimal digit
 abbrev pub is_digit : ℕ → Bool

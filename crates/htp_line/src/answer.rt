@@ -2,7 +2,9 @@
 
 ghost use Rattle.std.specs.Prelude.{◌≡◌, ◌+◌, ◌≤◌, ◌++◌, ◌∷◌, [], length, IfOk, IsOk, OnOk};
 ghost use Rattle.std.specs.Prelude.{OnErr, vec_len};
-ghost use Rattle.htp_line.specs.Answering.{success, failure, id_text, WritesFor, HasSpareRoom};
+ghost use Rattle.std.specs.Fmt.{decimal};
+ghost use Rattle.std.specs.Option.{option_map_or};
+ghost use Rattle.htp_line.specs.Answering.{success, failure, WritesFor, HasSpareRoom};
 
 use super::want::Memory;
 use std::alloc::Global;
@@ -15,7 +17,7 @@ pub const FRAME: usize = 4;
 
 /// An id in its shortest form; nothing where there is none.
 pub fn id_text(alloc: Global, id: Option<u32>) -> Result<Vec<u8>, Memory>
-    ensures text { IfOk result (λ text. text.items ≡ id_text id) }
+    ensures text { IfOk result (λ text. text.items ≡ option_map_or decimal id []) }
     ensures short { IfOk result (λ text. vec_len text ≤ ID_LIMIT) }
 {
     match id {

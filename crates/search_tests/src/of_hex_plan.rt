@@ -2,7 +2,8 @@
 //! of session_tests.
 
 ghost use Rattle.std.specs.Prelude.{IfSome};
-ghost use Rattle.tree_words.specs.Settings.{AreEmpty, IsAny};
+ghost use Rattle.hex_board.specs.Positions.{AllEmpty};
+ghost use Rattle.tree_words.specs.Settings.{IsAny};
 
 use hex_board::Board;
 use hex_cells::{Cell, CellSet, Colour, Size};
@@ -12,7 +13,7 @@ use tree_words::Knobs;
 
 // The empty cells of the board, where it has one.
 fn some_empties(board: &Board) -> Option<CellSet>
-    ensures { IfSome result (λ set. IsAny set × AreEmpty set board.now) }
+    ensures { IfSome result (λ set. IsAny set × AllEmpty board.now set) }
 {
     let all = board.empties();
     all.least()?;

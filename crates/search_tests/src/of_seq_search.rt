@@ -1,7 +1,8 @@
 //! The trees of small searches, against those that another program computed from the rules alone.
 
 ghost use Rattle.std.specs.Prelude.{IfSome};
-ghost use Rattle.tree_words.specs.Settings.{AreEmpty, IsAny};
+ghost use Rattle.hex_board.specs.Positions.{AllEmpty};
+ghost use Rattle.tree_words.specs.Settings.{IsAny};
 
 use hex_board::Board;
 use hex_cells::{Cell, CellSet, Colour, Size};
@@ -38,7 +39,7 @@ fn set_of(size: Size, bits: u32) -> CellSet {
 
 // The empty cells of the board whose bits are set, or else all; `None` where the board is full.
 fn allowed_on(board: &Board, bits: u32) -> Option<CellSet>
-    ensures { IfSome result (λ set. IsAny set × AreEmpty set board.now) }
+    ensures { IfSome result (λ set. IsAny set × AllEmpty board.now set) }
 {
     let named = set_of(board.size(), bits).meet(board.empties());
     if named.least().is_some() {

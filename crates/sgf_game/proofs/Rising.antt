@@ -1,9 +1,5 @@
 -- The cells of a set in rising order: the least, and then the others.
-use Rattle.std.proofs.Common.{◌≡◌, ℕ, ◌+◌, ◌*◌, ◌<◌, ◌≤◌, ◌==◌, ◌&&◌, not, Bool, true, false, cond, [], ◌∷◌, map, refl, sym, ap, ◌∙◌, arith, inl, inr, zero, suc}
-use Rattle.std.specs.Prelude.{filter}
-use Rattle.std.specs.List.{range_with_len}
-use Rattle.std.proofs.lemmas.Bool.{cases_eq}
-use Rattle.std.proofs.lemmas.Bool.Decides.{nat_tests}
+use Rattle.std.proofs.Common.{◌≡◌, ℕ, ◌*◌, ◌<◌, ◌==◌, ◌&&◌, not, Bool, true, false, [], ◌∷◌, map, refl, sym, ap, ◌∙◌, arith}
 use Rattle.hex_cells.specs.Sets.{has}
 use Rattle.hex_cells.specs.Vertices.{vertex_of, vertices_of}
 use Rattle.hex_board.specs.Positions.{Within}

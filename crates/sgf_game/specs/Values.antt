@@ -1,7 +1,7 @@
 -- The values of a node's properties.
-use Rattle.std.specs.Prelude.{ℕ, Bool, List, [], ◌∷◌, Option, Some, None, reverse, map, flat_map}
+use Rattle.std.specs.Prelude.{ℕ, Bool, List, [], ◌∷◌, Option, reverse, map, flat_map}
 use Rattle.std.specs.Prelude.{if◌then◌else◌}
-use Rattle.std.specs.List.{list_any}
+use Rattle.std.specs.List.{list_any, slice_get}
 use Rattle.std.specs.Str.{bytes_eq}
 use Rattle.sgf_tree.specs.declared.lists.Prop.{Prop}
 use Rattle.sgf_tree.specs.declared.lists.Node.{Node}
@@ -27,10 +27,6 @@ values_if name p = if bytes_eq p.name name then map trimmed p.values else []
 abbrev pub values_named : List ℕ → Node → List (List ℕ)
 values_named name node = flat_map (values_if name) node.props
 
-abbrev pub first_of : List (List ℕ) → Option (List ℕ)
-first_of [] = None
-first_of (value ∷ values) = Some value
-
 -- the first value that the node has under this name
 abbrev pub first_named : List ℕ → Node → Option (List ℕ)
-first_named name node = first_of (values_named name node)
+first_named name node = slice_get (values_named name node) 0

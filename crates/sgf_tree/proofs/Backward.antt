@@ -4,10 +4,10 @@ use Rattle.std.proofs.lemmas.Bool.{eqb-true}
 use Rattle.sgf_tree.specs.declared.lists.Prop.{Prop}
 use Rattle.sgf_tree.specs.declared.lists.Node.{Node}
 use Rattle.sgf_tree.specs.Trees.{GameTrees, none, tree}
-use Rattle.sgf_tree.specs.Grammar.{is_white_space, is_capital, IsFilled, AreCapitals, Gap, ContentText, ValuesText, PropsText, NodesText, TreesText, HasTree, Text}
+use Rattle.sgf_tree.specs.Grammar.{is_white_space, is_capital, IsFilled, Gap, ContentText, ValuesText, PropsText, NodesText, TreesText, HasTree, Text}
 use Rattle.sgf_tree.specs.Reading.{join, Branch, Open, State, between, opened, in_node, in_name, after_name, in_value, escaped, after_value, open_tree, add_node, close_into, turn, go_on, add_prop, step, run_on, run, begin}
 use Rattle.sgf_tree.proofs.Choices.{by_cond, different, append_nil}
-use Rattle.sgf_tree.proofs.Forward.{join-none, join-join}
+use Rattle.sgf_tree.proofs.Forward.{AreCapitals, join-none, join-join}
 
 -- The bytes finish the collection c from open trees that have been read so far, and no gap is first.
 abbrev pub Closes : GameTrees → List Branch → List Node → GameTrees → List ℕ → Type 0

@@ -1,9 +1,10 @@
 -- The reader goes over each text of a collection, and ends with that collection.
-use Rattle.std.proofs.Common.{◌≡◌, ℕ, false, cond, refl, sym, ap, ◌∙◌, subst, ◌==◌, List, [], ◌∷◌, ◌++◌, append_assoc, inl, inr, Option, Some, None}
+use Rattle.std.proofs.Common.{◌≡◌, ℕ, false, cond, refl, sym, ap, ◌∙◌, subst, ◌==◌, List, [], ◌∷◌, ◌++◌, append_assoc, inl, inr, Option, Some, None, IsTrue}
+use Rattle.std.specs.List.{AllByRecursion}
 use Rattle.sgf_tree.specs.declared.lists.Prop.{Prop}
 use Rattle.sgf_tree.specs.declared.lists.Node.{Node}
 use Rattle.sgf_tree.specs.Trees.{GameTrees, none, tree}
-use Rattle.sgf_tree.specs.Grammar.{is_white_space, is_capital, IsFilled, AreCapitals, IsName, Gap, ContentText, ValuesText, PropsText, NodesText, TreesText, Text}
+use Rattle.sgf_tree.specs.Grammar.{is_white_space, is_capital, IsFilled, IsName, Gap, ContentText, ValuesText, PropsText, NodesText, TreesText, Text}
 use Rattle.sgf_tree.specs.Reading.{join, Open, State, between, opened, in_node, in_name, after_name, in_value, escaped, after_value, open_tree, add_node, turn, go_on, add_prop, step, run_on, run, begin}
 use Rattle.sgf_tree.proofs.Choices.{cond_true, cond_false, not_equal, capital_no_space, space_no_capital, capital_no_bracket, append_nil}
 
@@ -29,6 +30,10 @@ values_runs o ps n vs [] w r e =
 values_runs o ps n vs (v ∷ more_vs) w r (gap, more, value, g, others) =
     let now = vs ++ v ∷ [] in
     ap (run (after_value o ps n vs)) value.1 ∙ content_runs o ps n vs v value.0 gap [] value.2 ∙ gap_runs (after_value o ps n now) (λ x. cond (x == 91) (Some (in_value o ps n now [])) (go_on o (add_prop ps n now) x)) (λ x. refl) gap more g ∙ values_runs o ps n now more_vs more r others ∙ ap (λ b. run (after_value o ps n b) r) (append_assoc vs (v ∷ []) more_vs)
+
+-- each byte is a capital letter
+abbrev pub AreCapitals : List ℕ → Type 0
+AreCapitals name = AllByRecursion (λ x. IsTrue (is_capital x)) name
 
 pub name_runs : (o : Open) (ps : List Prop) (a m w : List ℕ) → AreCapitals m → run (in_name o ps a) (m ++ w) ≡ run (in_name o ps (a ++ m)) w
 name_runs o ps a [] w h = ap (λ b. run (in_name o ps b) w) (sym (append_nil a))

@@ -2,6 +2,7 @@
 -- something, and that the bytes `rest` follow it.
 use Rattle.std.specs.Prelude.{◌≡◌, ◌≢◌, ℕ, List, [], ◌∷◌, ◌++◌, Bool, IsTrue, ◌==◌, ◌||◌, ◌&&◌}
 use Rattle.std.specs.Prelude.{nat_le, ◌⊎◌}
+use Rattle.std.specs.List.{AllByRecursion}
 use Rattle.sgf_tree.specs.declared.lists.Prop.{Prop}
 use Rattle.sgf_tree.specs.declared.lists.Node.{Node}
 use Rattle.sgf_tree.specs.Trees.{GameTrees, none, tree}
@@ -19,13 +20,9 @@ abbrev pub IsFilled : {A : Type 0} → List A → Type 0
 IsFilled [] = ⊥
 IsFilled (x ∷ xs) = Unit {0}
 
-abbrev pub AreCapitals : List ℕ → Type 0
-AreCapitals [] = Unit {0}
-AreCapitals (x ∷ xs) = IsTrue (is_capital x) × AreCapitals xs
-
 -- a property's name: at least one byte, each a capital letter
 abbrev pub IsName : List ℕ → Type 0
-IsName name = IsFilled name × AreCapitals name
+IsName name = IsFilled name × AllByRecursion (λ x. IsTrue (is_capital x)) name
 
 -- any number of white space bytes, also none
 abbrev pub Gap : List ℕ → List ℕ → Type 0

@@ -1,7 +1,8 @@
 //! What no clause says: the trace of one playout, and a write that fails.
 
 ghost use Rattle.std.specs.Prelude.{IfSome};
-ghost use Rattle.tree_words.specs.Settings.{AreEmpty, IsAny};
+ghost use Rattle.hex_board.specs.Positions.{AllEmpty};
+ghost use Rattle.tree_words.specs.Settings.{IsAny};
 
 use super::types::{Audit, Flaw};
 use super::{MOST_BYTES, TraceArchive, audit};
@@ -25,7 +26,7 @@ const ONE_PLAYOUT: [u64; 42] = [
 
 // The empty cells of the board, where it has one.
 fn some_empties(board: &Board) -> Option<CellSet>
-    ensures { IfSome result (λ set. IsAny set × AreEmpty set board.now) }
+    ensures { IfSome result (λ set. IsAny set × AllEmpty board.now set) }
 {
     let all = board.empties();
     all.least()?;

@@ -2,7 +2,7 @@
 use Rattle.std.specs.Prelude.{◌≡◌, ℕ, ◌^◌, ◌<◌, ◌≤◌, true}
 use Rattle.hex_cells.specs.Sets.{has}
 use Rattle.hex_cells.specs.declared.colours.Colour.{Colour}
-use Rattle.hex_board.specs.Positions.{Position, IsPosition, is_empty_at}
+use Rattle.hex_board.specs.Positions.{AllEmpty, Position, IsPosition}
 use Rattle.tree_words.specs.declared.settings.Knobs.{Knobs}
 use Rattle.tree_words.specs.declared.settings.TheConstants.{MOST_WORKERS, MOST_PLAYOUTS}
 use Rattle.tree_words.specs.declared.settings.TheConstants.{LEAST_WORDS, MOST_WORDS, MOST_EXPAND}
@@ -24,10 +24,6 @@ pub record AreInRange (k : Knobs) : Type 0 where
   pub expand : (1 ≤ k.expand) × (k.expand ≤ MOST_EXPAND)
   pub weight : k.weight ≤ MOST_WEIGHT
 
--- the allowed cells lie inside the empty cells of the board
-abbrev pub AreEmpty : ℕ → Position → Type 0
-AreEmpty allowed board = (k : ℕ) → has allowed k ≡ true → is_empty_at board k ≡ true
-
 -- there is an allowed cell
 abbrev pub IsAny : ℕ → Type 0
 IsAny allowed = (k : ℕ) × (has allowed k ≡ true)
@@ -36,5 +32,5 @@ IsAny allowed = (k : ℕ) × (has allowed k ≡ true)
 pub record IsSetting (s : Setting) : Type 0 where
   pub position : IsPosition s.board.size s.board.black s.board.white
   pub any : IsAny s.allowed
-  pub empty : AreEmpty s.allowed s.board
+  pub empty : AllEmpty s.board s.allowed
   pub ranges : AreInRange s.knobs

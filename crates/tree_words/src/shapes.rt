@@ -1,7 +1,8 @@
 //! The shape of a tree: what it is searched for.
 
 ghost use Rattle.std.specs.Prelude.{◌≡◌};
-ghost use Rattle.tree_words.specs.Settings.{AreEmpty, AreInRange, IsAny, IsSetting};
+ghost use Rattle.hex_board.specs.Positions.{AllEmpty};
+ghost use Rattle.tree_words.specs.Settings.{AreInRange, IsAny, IsSetting};
 ghost use Rattle.tree_words.specs.Words.{end_of};
 
 use super::layout::FRONT_WORDS;
@@ -52,7 +53,7 @@ impl Shape {
     /// cells of the board, and the knobs are in their ranges.
     pub fn make(board: &Board, colour: Colour, allowed: CellSet, knobs: &Knobs) -> Shape
         requires any { IsAny allowed }
-        requires empty { AreEmpty allowed board.now }
+        requires empty { AllEmpty board.now allowed }
         requires ranges { AreInRange knobs.now }
         ensures { result ≡ record {
           board = board.now;
@@ -92,7 +93,7 @@ impl Shape {
     pub fn allowed(&self) -> CellSet
         ensures value { result ≡ self.now.allowed }
         ensures any { IsAny result }
-        ensures empty { AreEmpty result self.now.board }
+        ensures empty { AllEmpty self.now.board result }
     {
         self.allowed
     }

@@ -15,13 +15,9 @@ isqrt x = greatest (λ r. nat_le (r * r) x) x
 unfoldable pub log2 : ℕ → ℕ
 log2 p = greatest (λ b. nat_le (2 ^ b) p) p
 
--- the 256th parts from 2 to the b on: straight up to the next power of two
-abbrev pub level_from : ℕ → ℕ → ℕ
-level_from b p = 256 * b + 256 * (p - 2 ^ b) / 2 ^ b
-
 -- the level of p visits: their binary logarithm in 256th parts, straight between powers of two
 unfoldable pub level_of : ℕ → ℕ
-level_of p = if p == 0 then 0 else level_from (log2 p) p
+level_of p = if p == 0 then 0 else (let b = log2 p in 256 * b + 256 * (p - 2 ^ b) / 2 ^ b)
 
 -- the share of wins among visits, in 65536th parts
 abbrev pub share_of : ℕ → ℕ → ℕ

@@ -17,7 +17,8 @@ use Rattle.conn_store.proofs.Winning.{mover_of, sure_wins}
 use Rattle.win_cert.proofs.LinksOn.{links_join}
 use Rattle.win_cert.specs.Entries.{Context, ScopedEntry, context_at, entry_at, entries_at}
 use Rattle.win_cert.specs.Laws.{GivesTrueEntries, WinsAsClaimed, first_mover}
-use Rattle.win_cert.specs.Reasons.{bad_reference, not_edges, reason_against}
+use Rattle.win_cert.specs.Reasons.{reason_against}
+use Rattle.win_cert.specs.declared.reasons.Reason.TheVariants.{BadReference, NotEdges}
 use Rattle.win_cert.specs.Scopes.{elements_in, player_board}
 use Rattle.win_cert.specs.Statements.{is_edge_entry, may_take}
 use Rattle.win_cert.specs.declared.statements.Statement.{Statement}
@@ -57,11 +58,11 @@ claim_good : (c : Context) (kind : Kind) (i : ℕ) → GaveGood c → reason_aga
 claim_good c kind i g h =
     let s = Claim kind i in
     let clear = none_applies c s h in
-    let t = and_parts (may_take s (entry_at c i)) true (not_false (list_all (λ j. may_take s (entry_at c j)) (i ∷ [])) (clear bad_reference)) in
+    let t = and_parts (may_take s (entry_at c i)) true (not_false (list_all (λ j. may_take s (entry_at c j)) (i ∷ [])) (clear BadReference)) in
     let w = some_named s (entry_at c i) t.0 in
     let all : Each (IsLineTaken c s) (w.0 ∷ []) = subst (λ es. Each (IsLineTaken c s) es) w.1 (taken c s g clear) in
     let edges : list_all (is_edge_entry c.base) (w.0 ∷ []) ≡ true = subst (λ es. list_all (is_edge_entry c.base) es ≡ true) w.1
-    (not_false (list_all (is_edge_entry c.base) (entries_at c (i ∷ []))) (clear not_edges)) in
+    (not_false (list_all (is_edge_entry c.base) (entries_at c (i ∷ []))) (clear NotEdges)) in
     let a = w.0 in
     let e = elements_in c.base 0 in
     let good : IsGood e kind a.x a.y a.carrier = subst (λ v. IsGood e v a.x a.y a.carrier) all.0.named.kind_is

@@ -7,10 +7,12 @@ use Rattle.conn_store.specs.Stores.{same_kind}
 use Rattle.conn_store.specs.declared.entries.Kind.{Kind}
 use Rattle.conn_store.proofs.Tables.{kinds_match}
 use Rattle.win_cert.specs.Entries.{Context, context_at, entry_at}
-use Rattle.win_cert.specs.Reasons.{reason_against, bad_reference, is_bad_reference, is_no_edge_entry, is_wrong_scope, not_edges, wrong_scope}
+use Rattle.win_cert.specs.Reasons.{reason_against, is_bad_reference, is_no_edge_entry, is_wrong_scope}
+use Rattle.win_cert.specs.declared.reasons.Reason.TheVariants.{BadReference, NotEdges, WrongScope}
 use Rattle.win_cert.specs.Statements.{is_edge_entry, may_take}
 use Rattle.win_cert.specs.declared.statements.Statement.TheVariants.{Claim, Derivation}
-use Rattle.win_cert.specs.Verdicts.{IsVerdict, yes}
+use Rattle.win_cert.specs.Verdicts.{IsVerdict}
+use Rattle.win_cert.specs.declared.verdicts.Verdict.TheVariants.{Yes}
 use Rattle.win_cert.specs.declared.certs.Cert.{Cert}
 use Rattle.win_cert.specs.declared.lines.Line.{Line}
 use Rattle.win_cert.proofs.CutSteps.{bad_one, told, told_next}
@@ -48,7 +50,7 @@ read_all cert = read_over cert (length cert.lines) (omega arith) ∙ ap (after_l
 -- ---- the claim
 
 claim_reasons : (c : Context) (kind : Kind) (i : ℕ)
-    → reason_against c (Claim kind i) ≡ told (is_bad_reference c (Claim kind i)) bad_reference (told (is_wrong_scope c (Claim kind i)) wrong_scope (told (is_no_edge_entry c (Claim kind i)) not_edges None))
+    → reason_against c (Claim kind i) ≡ told (is_bad_reference c (Claim kind i)) BadReference (told (is_wrong_scope c (Claim kind i)) WrongScope (told (is_no_edge_entry c (Claim kind i)) NotEdges None))
 unfolding reason_against
 claim_reasons c kind i = refl
 
@@ -57,14 +59,14 @@ claim_right c kind i d g =
     let s = Claim kind i in
     let a = g.entry in
     claim_reasons c kind i
-    ∙ told_next (is_bad_reference c s) bad_reference _ (ap (λ o. not (may_take s o && true)) g.at ∙ bad_one (same_kind a.kind kind && true)
+    ∙ told_next (is_bad_reference c s) BadReference _ (ap (λ o. not (may_take s o && true)) g.at ∙ bad_one (same_kind a.kind kind && true)
     (and_from (same_kind a.kind kind) true (ap (λ v. same_kind v kind) g.kind_is ∙ kinds_match kind) refl))
-    (told_next (is_wrong_scope c s) wrong_scope _ (ap (λ o. not (list_all (λ v. v.scope == 0) (cons_option o []))) g.at ∙ bad_one (a.scope == 0) (eq-eqb a.scope 0 g.scope_is))
-    (told_next (is_no_edge_entry c s) not_edges _ (ap (λ o. not (list_all (is_edge_entry c.base) (cons_option o []))) g.at ∙ bad_one (is_edge_entry c.base a) g.edges) refl))
+    (told_next (is_wrong_scope c s) WrongScope _ (ap (λ o. not (list_all (λ v. v.scope == 0) (cons_option o []))) g.at ∙ bad_one (a.scope == 0) (eq-eqb a.scope 0 g.scope_is))
+    (told_next (is_no_edge_entry c s) NotEdges _ (ap (λ o. not (list_all (is_edge_entry c.base) (cons_option o []))) g.at ∙ bad_one (is_edge_entry c.base a) g.edges) refl))
 
 -- ---- the verdict
 
-pub accepted : (cert : Cert) (d : ℕ) → AreClear (first_of cert) cert.lines → GivesEdges (after_lines (first_of cert) cert.lines) cert.claim 0 d cert.entry → IsVerdict cert (yes cert.claim d)
+pub accepted : (cert : Cert) (d : ℕ) → AreClear (first_of cert) cert.lines → GivesEdges (after_lines (first_of cert) cert.lines) cert.claim 0 d cert.entry → IsVerdict cert (Yes cert.claim d)
 accepted cert d f g = (
   all_clear cert
       (λ j l. let w = some_at cert.lines j l in

@@ -5,9 +5,9 @@ use Rattle.std.specs.List.{list_all}
 use Rattle.std.proofs.lemmas.Bool.{and_cases, and_parts, both_ways, eqb-true, false_from_ne_true, false≢true}
 use Rattle.hex_cells.specs.Sets.{has, members}
 use Rattle.hex_board.specs.Elements.{PlayerBoard, edge_element}
-use Rattle.hex_board.specs.Positions.{stones_of}
+use Rattle.hex_board.specs.Positions.{AllEmpty, stones_of}
 use Rattle.hex_board.proofs.Search.{any_in}
-use Rattle.conn_store.specs.Entries.{AllEmpty, Misses}
+use Rattle.conn_store.specs.Entries.{Misses}
 use Rattle.conn_store.specs.Laws.{IsSubset}
 use Rattle.conn_store.specs.Links.{StonesLink}
 use Rattle.conn_store.specs.declared.entries.Kind.{Kind}

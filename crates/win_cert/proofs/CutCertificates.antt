@@ -18,7 +18,8 @@ use Rattle.win_cert.specs.Entries.{Context, ScopedEntry, elements_at, entry_at}
 use Rattle.win_cert.specs.Freer.{moved_element, moved_entry}
 use Rattle.win_cert.specs.Scopes.{player_board}
 use Rattle.win_cert.specs.Statements.{is_edge_entry}
-use Rattle.win_cert.specs.Verdicts.{IsVerdict, yes}
+use Rattle.win_cert.specs.Verdicts.{IsVerdict}
+use Rattle.win_cert.specs.declared.verdicts.Verdict.TheVariants.{Yes}
 use Rattle.win_cert.specs.Writable.{IsLineOf}
 use Rattle.win_cert.specs.declared.certs.Cert.{Cert}
 use Rattle.win_cert.specs.declared.lines.Line.{Line}
@@ -127,7 +128,7 @@ certified d n a cert w h v k =
       version = v;
       board = w.board;
       player = w.player;
-      verdict = subst (λ z. IsVerdict cert (yes z a.carrier)) k (accepted cert a.carrier (derived d n cert w).clear (record { entry = scoped 0 a; at = at; kind_is = sym k; scope_is = refl; edges = edges; carrier_is = refl }));
+      verdict = subst (λ z. IsVerdict cert (Yes z a.carrier)) k (accepted cert a.carrier (derived d n cert w).clear (record { entry = scoped 0 a; at = at; kind_is = sym k; scope_is = refl; edges = edges; carrier_is = refl }));
       writable = (
         record {
           version = inl v;

@@ -8,8 +8,8 @@ use Rattle.hex_cells.specs.declared.colours.Colour.{Colour}
 use Rattle.hex_cells.specs.declared.colours.Colour.TheVariants.{Black, White}
 use Rattle.hex_cells.proofs.WithCell.{with_cell-here}
 use Rattle.hex_board.specs.Elements.{PlayerBoard, edge_element}
-use Rattle.hex_board.specs.Positions.{Position, stones_of}
-use Rattle.conn_store.specs.Entries.{AllEmpty, IsBetween, IsValid}
+use Rattle.hex_board.specs.Positions.{AllEmpty, Position, stones_of}
+use Rattle.conn_store.specs.Entries.{IsBetween, IsValid}
 use Rattle.conn_store.specs.Rules.{FollowsBy}
 use Rattle.conn_store.specs.Stores.{IsSound, StoreData}
 use Rattle.conn_store.specs.declared.entries.Cause.{Cause}

@@ -18,7 +18,9 @@ use Rattle.conn_store.specs.declared.entries.Kind.{Kind}
 use Rattle.conn_store.specs.declared.entries.Kind.TheVariants.{Full, Semi}
 use Rattle.win_cert.specs.Cuts.{scoped}
 use Rattle.win_cert.specs.Entries.{Context, ScopedEntry, adj_entry, and_entry, carriers_of, elements_at, end_element, entries_at, entry_at, entry_between, gives, key_entry, middle_of, or_entry, other_end}
-use Rattle.win_cert.specs.Reasons.{Reason, reason_against, is_bad_reference, is_wrong_scope, is_wrong_colour, are_not_neighbours, has_no_middle, do_carriers_meet, is_end_in_carrier, is_middle_wrong, holds_of_chain, bad_reference, wrong_colour, not_neighbours, no_common_middle, carriers_meet, end_in_carrier, middle_kind, ends_differ, common_cell, wrong_scope}
+use Rattle.win_cert.specs.Reasons.{reason_against, is_bad_reference, is_wrong_scope, is_wrong_colour, are_not_neighbours, has_no_middle, do_carriers_meet, is_end_in_carrier, is_middle_wrong, holds_of_chain}
+use Rattle.win_cert.specs.declared.reasons.Reason.{Reason}
+use Rattle.win_cert.specs.declared.reasons.Reason.TheVariants.{BadReference, WrongColour, NotNeighbours, NoCommonMiddle, CarriersMeet, EndInCarrier, MiddleKind, EndsDiffer, CommonCell, WrongScope}
 use Rattle.win_cert.specs.Scopes.{elements_in, with_stones}
 use Rattle.win_cert.specs.Statements.{are_near, is_chain, is_or, have_same_ends, is_cell_in, is_other_stone, kind_taken, may_take, share_cell}
 use Rattle.win_cert.specs.declared.statements.Statement.{Statement}
@@ -50,8 +52,8 @@ told_next true r o h e = absurd (true≢false h)
 told_next false r o h e = e
 
 chain_clear : (p q r s t u : Bool) → p ≡ false → q ≡ false → r ≡ false → s ≡ false → t ≡ false → u ≡ false
-    → told p bad_reference (told q wrong_scope (told r no_common_middle (told s carriers_meet (told t end_in_carrier (told u middle_kind None))))) ≡ None
-chain_clear p q r s t u a b c d e f = told_next p bad_reference _ a (told_next q wrong_scope _ b (told_next r no_common_middle _ c (told_next s carriers_meet _ d (told_next t end_in_carrier _ e (told_next u middle_kind _ f refl)))))
+    → told p BadReference (told q WrongScope (told r NoCommonMiddle (told s CarriersMeet (told t EndInCarrier (told u MiddleKind None))))) ≡ None
+chain_clear p q r s t u a b c d e f = told_next p BadReference _ a (told_next q WrongScope _ b (told_next r NoCommonMiddle _ c (told_next s CarriersMeet _ d (told_next t EndInCarrier _ e (told_next u MiddleKind _ f refl)))))
 
 -- ---- the entry that is given
 
@@ -68,7 +70,7 @@ IsRight c line a = (gives c line ≡ Some (scoped c.scope a)) × (reason_against
 -- ---- `adj`
 
 adj_reasons : (c : Context) (x y : End)
-    → reason_against c (Derivation (Adj x y)) ≡ told (is_wrong_colour c (Derivation (Adj x y))) wrong_colour (told (are_not_neighbours c (Derivation (Adj x y))) not_neighbours None)
+    → reason_against c (Derivation (Adj x y)) ≡ told (is_wrong_colour c (Derivation (Adj x y))) WrongColour (told (are_not_neighbours c (Derivation (Adj x y))) NotNeighbours None)
 unfolding reason_against
 adj_reasons c x y = refl
 
@@ -83,9 +85,9 @@ adj_right c a x y l n k z h i p q =
     let lx : min a.x a.y ≡ a.x = omega arith in
     let ly : max a.x a.y ≡ a.y = omega arith in (
       ap (λ o. adj_entry c o (end_element d y)) h ∙ ap (λ o. adj_entry c (Some a.x) o) i ∙ ap Some (same_entry a Full (min a.x a.y) (max a.x a.y) 0 c.scope (sym k) lx ly (sym z)),
-      adj_reasons c x y ∙ told_next (is_wrong_colour c (Derivation (Adj x y))) wrong_colour (told (are_not_neighbours c (Derivation (Adj x y))) not_neighbours None)
+      adj_reasons c x y ∙ told_next (is_wrong_colour c (Derivation (Adj x y))) WrongColour (told (are_not_neighbours c (Derivation (Adj x y))) NotNeighbours None)
           (or_from (is_other_stone d x) (is_other_stone d y) p q)
-          (told_next (are_not_neighbours c (Derivation (Adj x y))) not_neighbours None
+          (told_next (are_not_neighbours c (Derivation (Adj x y))) NotNeighbours None
           (ap (λ o. not (are_near d o (end_element d y))) h ∙ ap (λ o. not (are_near d (Some a.x) o)) i ∙ near_yes d a.x a.y n) refl),
     )
 
@@ -93,8 +95,8 @@ adj_right c a x y l n k z h i p q =
 
 -- the reason against an `and` or a `key`
 abbrev chain_reason : Context → Statement → Option Reason
-chain_reason c s = told (is_bad_reference c s) bad_reference (told (is_wrong_scope c s) wrong_scope (told (has_no_middle c s) no_common_middle
-    (told (do_carriers_meet c s) carriers_meet (told (is_end_in_carrier c s) end_in_carrier (told (is_middle_wrong c s) middle_kind None)))))
+chain_reason c s = told (is_bad_reference c s) BadReference (told (is_wrong_scope c s) WrongScope (told (has_no_middle c s) NoCommonMiddle
+    (told (do_carriers_meet c s) CarriersMeet (told (is_end_in_carrier c s) EndInCarrier (told (is_middle_wrong c s) MiddleKind None)))))
 
 and_reasons : (c : Context) (i j : ℕ) → reason_against c (Derivation (And i j)) ≡ chain_reason c (Derivation (And i j))
 unfolding reason_against
@@ -212,10 +214,10 @@ key_right c i j a b r x u y k w g h n m =
 -- the reason against an `or` of these numbers
 abbrev pub or_reason : Context → Statement → List ℕ → Option Reason
 or_reason c s numbers =
-    told (not (list_all (λ i. may_take s (entry_at c i)) numbers)) bad_reference
-    (told (not (list_all (λ a. a.scope == c.scope) (entries_at c numbers))) wrong_scope
-    (told (not (have_same_ends (entries_at c numbers))) ends_differ
-    (told (share_cell (entries_at c numbers)) common_cell None)))
+    told (not (list_all (λ i. may_take s (entry_at c i)) numbers)) BadReference
+    (told (not (list_all (λ a. a.scope == c.scope) (entries_at c numbers))) WrongScope
+    (told (not (have_same_ends (entries_at c numbers))) EndsDiffer
+    (told (share_cell (entries_at c numbers)) CommonCell None)))
 
 pub two_reasons : (c : Context) (i j : ℕ) → reason_against c (Derivation (Or2 i j)) ≡ or_reason c (Derivation (Or2 i j)) (i ∷ j ∷ [])
 unfolding reason_against
@@ -225,8 +227,8 @@ pub three_reasons : (c : Context) (i j k : ℕ) → reason_against c (Derivation
 unfolding reason_against
 three_reasons c i j k = refl
 
-or_clear : (p q r s : Bool) → p ≡ false → q ≡ false → r ≡ false → s ≡ false → told p bad_reference (told q wrong_scope (told r ends_differ (told s common_cell None))) ≡ None
-or_clear p q r s a b c d = told_next p bad_reference _ a (told_next q wrong_scope _ b (told_next r ends_differ _ c (told_next s common_cell _ d refl)))
+or_clear : (p q r s : Bool) → p ≡ false → q ≡ false → r ≡ false → s ≡ false → told p BadReference (told q WrongScope (told r EndsDiffer (told s CommonCell None))) ≡ None
+or_clear p q r s a b c d = told_next p BadReference _ a (told_next q WrongScope _ b (told_next r EndsDiffer _ c (told_next s CommonCell _ d refl)))
 
 -- the numbers name semi entries of the elements of r
 pub record IsWayAt (c : Context) (i : ℕ) (a r : Entry) : Type 0 where

@@ -8,10 +8,10 @@ use Rattle.hex_cells.proofs.WithCell.{with_cell-here, with_cell-keeps}
 use Rattle.hex_board.specs.Elements.{PlayerBoard, are_joined, edge_element, edge_elements, head_element, is_head}
 use Rattle.hex_board.specs.Joined.{Joined, Path, last_of}
 use Rattle.hex_board.specs.Places.{Place, at_cell, at_edge, IsMember, Route, last_place}
-use Rattle.hex_board.specs.Positions.{is_empty_at, stones_of}
+use Rattle.hex_board.specs.Positions.{AllEmpty, is_empty_at, stones_of}
 use Rattle.hex_board.proofs.Parts.{edge_below, of_free, some_same, high_edge}
 use Rattle.hex_board.proofs.Search.{joined_out}
-use Rattle.conn_store.specs.Entries.{AllEmpty, Misses}
+use Rattle.conn_store.specs.Entries.{Misses}
 use Rattle.conn_store.specs.Laws.{IsSubset}
 use Rattle.conn_store.specs.Links.{MayPass, StonesLink}
 use Rattle.conn_store.specs.declared.entries.Kind.{Kind}

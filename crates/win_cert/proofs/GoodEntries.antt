@@ -8,8 +8,8 @@ use Rattle.hex_cells.proofs.Counts.{members_sub}
 use Rattle.hex_cells.proofs.WithCell.{with_cell-here, with_cell-keeps}
 use Rattle.hex_board.specs.Elements.{PlayerBoard}
 use Rattle.hex_board.specs.Places.{Near}
-use Rattle.hex_board.specs.Positions.{stones_of}
-use Rattle.conn_store.specs.Entries.{AllEmpty, Connects, Misses}
+use Rattle.hex_board.specs.Positions.{AllEmpty, stones_of}
+use Rattle.conn_store.specs.Entries.{Connects, Misses}
 use Rattle.conn_store.specs.Laws.{IsSubset}
 use Rattle.conn_store.specs.Links.{StonesLink}
 use Rattle.conn_store.specs.Rules.{IsCell, IsGroup}

@@ -11,7 +11,8 @@ use Rattle.hex_board.specs.Joined.{is_joined, leads_in}
 use Rattle.hex_board.specs.Positions.{IsPosition, empty_board}
 use Rattle.hex_board.specs.Wins.{Wins}
 use Rattle.conn_store.specs.declared.entries.Kind.TheVariants.{Semi}
-use Rattle.win_cert.specs.Reasons.{Reason, reason_against}
+use Rattle.win_cert.specs.Reasons.{reason_against}
+use Rattle.win_cert.specs.declared.reasons.Reason.{Reason}
 use Rattle.win_cert.specs.Verdicts.{Accepted, reason_at, statements_of}
 use Rattle.win_cert.specs.Entries.{context_at}
 use Rattle.win_cert.specs.Writable.{HasBoard}

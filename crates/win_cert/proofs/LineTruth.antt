@@ -9,7 +9,9 @@ use Rattle.hex_board.specs.Positions.{is_empty_at}
 use Rattle.hex_board.proofs.Places.{near_out}
 use Rattle.conn_store.specs.declared.entries.Kind.TheVariants.{Full, Semi}
 use Rattle.win_cert.specs.Entries.{Context, ScopedEntry, adj_entry, carriers_of, edge_entry, elements_at, end_element, entries_at, entry_between, gives, move_entry}
-use Rattle.win_cert.specs.Reasons.{Reason, applies, bad_stone, carriers_meet, common_cell, end_in_carrier, ends_differ, middle_kind, not_edges, not_joined, not_neighbours}
+use Rattle.win_cert.specs.Reasons.{applies}
+use Rattle.win_cert.specs.declared.reasons.Reason.{Reason}
+use Rattle.win_cert.specs.declared.reasons.Reason.TheVariants.{BadStone, CarriersMeet, CommonCell, EndInCarrier, EndsDiffer, MiddleKind, NotEdges, NotJoined, NotNeighbours}
 use Rattle.win_cert.specs.Scopes.{elements_in}
 use Rattle.win_cert.specs.Statements.{are_near, have_same_ends, is_edge_entry, numbers_in}
 use Rattle.win_cert.specs.declared.statements.Statement.TheVariants.{Derivation}
@@ -64,20 +66,20 @@ named c line h = taken c (Derivation line) h.earlier h.clear
 
 line_good : (c : Context) (line : Line) (r : ScopedEntry) → IsRead c line → IsSmallBoard (elements_at c) → gives c line ≡ Some r → IsGoodEntry c.base r
 line_good c (Adj x y) r h m e = adj_good c (end_element (elements_at c) x) (end_element (elements_at c) y) r m
-    (not_false (are_near (elements_at c) (end_element (elements_at c) x) (end_element (elements_at c) y)) (h.clear not_neighbours)) e
-line_good c (And i j) r h m e = and_good c (Derivation (And i j)) (entries_at c (i ∷ j ∷ [])) r refl refl m (named c (And i j) h) (h.clear carriers_meet) (h.clear end_in_carrier) (h.clear middle_kind) e
-line_good c (Key i j) r h m e = key_good c (Derivation (Key i j)) (entries_at c (i ∷ j ∷ [])) r refl refl refl m (named c (Key i j) h) (h.clear carriers_meet) (h.clear end_in_carrier) e
-line_good c (Or2 i j) r h m e = or_good c (Derivation (Or2 i j)) (entries_at c (i ∷ j ∷ [])) r refl refl m (named c (Or2 i j) h) (h.clear common_cell)
-    (not_false (have_same_ends (entries_at c (i ∷ j ∷ []))) (h.clear ends_differ)) e
-line_good c (Or3 i j k) r h m e = or_good c (Derivation (Or3 i j k)) (entries_at c (i ∷ j ∷ k ∷ [])) r refl refl m (named c (Or3 i j k) h) (h.clear common_cell)
-    (not_false (have_same_ends (entries_at c (i ∷ j ∷ k ∷ []))) (h.clear ends_differ)) e
+    (not_false (are_near (elements_at c) (end_element (elements_at c) x) (end_element (elements_at c) y)) (h.clear NotNeighbours)) e
+line_good c (And i j) r h m e = and_good c (Derivation (And i j)) (entries_at c (i ∷ j ∷ [])) r refl refl m (named c (And i j) h) (h.clear CarriersMeet) (h.clear EndInCarrier) (h.clear MiddleKind) e
+line_good c (Key i j) r h m e = key_good c (Derivation (Key i j)) (entries_at c (i ∷ j ∷ [])) r refl refl refl m (named c (Key i j) h) (h.clear CarriersMeet) (h.clear EndInCarrier) e
+line_good c (Or2 i j) r h m e = or_good c (Derivation (Or2 i j)) (entries_at c (i ∷ j ∷ [])) r refl refl m (named c (Or2 i j) h) (h.clear CommonCell)
+    (not_false (have_same_ends (entries_at c (i ∷ j ∷ []))) (h.clear EndsDiffer)) e
+line_good c (Or3 i j k) r h m e = or_good c (Derivation (Or3 i j k)) (entries_at c (i ∷ j ∷ k ∷ [])) r refl refl m (named c (Or3 i j k) h) (h.clear CommonCell)
+    (not_false (have_same_ends (entries_at c (i ∷ j ∷ k ∷ []))) (h.clear EndsDiffer)) e
 line_good c (Put cells) r h m e = absurd (cc)
-line_good c Done r h m e = edge_good c 0 r (good_done (elements_at c) m (not_false (are_joined (elements_at c)) (h.clear not_joined))) e
-line_good c (Move k i) r h m e = move_good c k i (entries_at c (i ∷ [])) r m (not_false (is_empty_at (elements_at c).board k) (h.clear bad_stone)) (named c (Move k i) h)
-    (not_false (list_all (is_edge_entry c.base) (entries_at c (i ∷ []))) (h.clear not_edges)) e
+line_good c Done r h m e = edge_good c 0 r (good_done (elements_at c) m (not_false (are_joined (elements_at c)) (h.clear NotJoined))) e
+line_good c (Move k i) r h m e = move_good c k i (entries_at c (i ∷ [])) r m (not_false (is_empty_at (elements_at c).board k) (h.clear BadStone)) (named c (Move k i) h)
+    (not_false (list_all (is_edge_entry c.base) (entries_at c (i ∷ []))) (h.clear NotEdges)) e
 line_good c (Cases numbers) r h m e = edge_good c (carriers_of (entries_at c numbers)) r
-    (cases_good c (Derivation (Cases numbers)) (entries_at c numbers) refl refl m (named c (Cases numbers) h) (h.clear common_cell)
-    (not_false (list_all (is_edge_entry c.base) (entries_at c numbers)) (h.clear not_edges))) e
+    (cases_good c (Derivation (Cases numbers)) (entries_at c numbers) refl refl m (named c (Cases numbers) h) (h.clear CommonCell)
+    (not_false (list_all (is_edge_entry c.base) (entries_at c numbers)) (h.clear NotEdges))) e
 
 -- a line against which there is no reason gives a good entry
 pub read_good : (c : Context) (line : Line) (r : ScopedEntry) → IsRead c line → gives c line ≡ Some r → IsGoodEntry c.base r

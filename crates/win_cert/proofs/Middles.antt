@@ -7,10 +7,10 @@ use Rattle.hex_cells.specs.Sets.{has}
 use Rattle.hex_board.specs.Elements.{PlayerBoard}
 use Rattle.hex_board.specs.Joined.{cells_of}
 use Rattle.hex_board.specs.Places.{at_cell, cell_of, is_member}
-use Rattle.hex_board.specs.Positions.{is_empty_at}
+use Rattle.hex_board.specs.Positions.{AllEmpty, is_empty_at}
 use Rattle.hex_board.proofs.Places.{cell_out}
 use Rattle.hex_board.proofs.Search.{any_in}
-use Rattle.conn_store.specs.Entries.{AllEmpty, Misses}
+use Rattle.conn_store.specs.Entries.{Misses}
 use Rattle.conn_store.specs.Rules.{IsCell, IsGroup}
 use Rattle.conn_store.specs.declared.entries.Kind.{Kind}
 use Rattle.conn_store.specs.declared.entries.Kind.TheVariants.{Full}

@@ -1,6 +1,6 @@
 -- Elements on a board with fewer stones of the other player: the same groups and edges, and more
 -- empty cells, so their numbers rise in the same order.
-use Rattle.std.proofs.Common.{◌≡◌, ℕ, ◌+◌, ◌*◌, ◌<◌, ◌≤◌, ◌==◌, ◌&&◌, ◌||◌, ◌⊎◌, not, true, false, Bool, Option, Some, None, cond, if◌then◌else◌, refl, sym, ◌∙◌, ap, subst, inl, inr, zero, suc, arith}
+use Rattle.std.proofs.Common.{◌≡◌, ℕ, ◌+◌, ◌*◌, ◌<◌, ◌≤◌, ◌==◌, ◌&&◌, not, true, false, Bool, Option, Some, cond, if◌then◌else◌, refl, sym, ◌∙◌, ap, subst, inl, inr, zero, suc, arith}
 use Rattle.std.specs.List.{count_by, find, list_any, range_with_len}
 use Rattle.std.specs.Option.{option_map_or}
 use Rattle.std.proofs.lemmas.Bool.{and_from, and_parts, both_ways, cases_Bool, cases_eq, cases_lt, eq-eqb, eqb-true, false≢true, true≢false}

@@ -1,36 +1,34 @@
 -- What follows by a rule on a player's board follows by it on one with fewer stones of the other
 -- player, of the entries with their elements as numbered there.
-use Rattle.std.proofs.Common.{◌≡◌, ℕ, ◌<◌, ◌≤◌, ◌&&◌, true, false, Bool, List, [], ◌∷◌, Option, Some, None, All, length, map, take, min, max, bit_or, option_map, refl, sym, ◌∙◌, ap, subst, inl, inr, ◌⊎◌, zero, suc, arith}
-use Rattle.std.specs.List.{list_all, slice_get}
+use Rattle.std.proofs.Common.{◌≡◌, ℕ, ◌<◌, ◌&&◌, true, false, List, [], ◌∷◌, Some, All, length, map, take, min, max, bit_or, option_map, refl, sym, ◌∙◌, ap, subst, inl, inr, ◌⊎◌, arith}
+use Rattle.std.specs.List.{slice_get}
 use Rattle.std.proofs.lemmas.Bool.{both_ways, cases_eq, cases_lt}
 use Rattle.std.proofs.lemmas.List.{length-map}
 use Rattle.std.proofs.lemmas.List.Elements.{All-cons, All-head, All-nil, All-tail}
 use Rattle.std.proofs.lemmas.Option.{slice_get-map}
 use Rattle.hex_cells.specs.Colours.{other_of}
-use Rattle.hex_cells.specs.Sets.{has, with_cell}
-use Rattle.hex_board.specs.Elements.{PlayerBoard, HasCell, edge_element, edge_elements, element_count, head_element, is_head}
-use Rattle.hex_board.specs.Positions.{Within, is_empty_at, stones_of}
-use Rattle.hex_board.proofs.Parts.{edge_below, empty_head, head_cases, none_some, of_free, some_same}
+use Rattle.hex_cells.specs.Sets.{has}
+use Rattle.hex_board.specs.Elements.{PlayerBoard, edge_element, edge_elements, element_count, head_element}
+use Rattle.hex_board.specs.Positions.{is_empty_at, stones_of}
+use Rattle.hex_board.proofs.Parts.{empty_head, head_cases, of_free, some_same}
 use Rattle.hex_board.proofs.GroupLaws.{head_number}
 use Rattle.hex_board.proofs.Placed.{stone_full}
 use Rattle.hex_board.proofs.Places.{near_in, near_out}
 use Rattle.std.proofs.lemmas.Bool.{and_parts, false_from_ne_true}
 use Rattle.conn_store.specs.Entries.{IsBetween, IsValid, Misses}
-use Rattle.conn_store.specs.Rules.{AndRule, AreAt, FollowsBy, FollowsFrom, IsCell, IsChain, IsGroup, OrRule, is_in_all, union_of}
+use Rattle.conn_store.specs.Rules.{AndRule, AreAt, FollowsBy, FollowsFrom, IsCell, IsGroup, OrRule, is_in_all, union_of}
 use Rattle.conn_store.specs.declared.entries.Cause.{Cause}
 use Rattle.conn_store.specs.declared.entries.Cause.TheVariants.{Adjacent, AndGroup, AndEmpty, Or}
 use Rattle.conn_store.specs.declared.entries.Entry.{Entry}
-use Rattle.conn_store.specs.declared.entries.Kind.TheVariants.{Full, Semi}
+use Rattle.conn_store.specs.declared.entries.Kind.TheVariants.{Semi}
 use Rattle.win_cert.specs.Cutting.{IsEndFor, IsLineFor}
-use Rattle.win_cert.specs.Entries.{end_element}
-use Rattle.win_cert.specs.Statements.{is_other_stone}
 use Rattle.win_cert.specs.Writable.{IsEndOn}
 use Rattle.win_cert.specs.declared.lines.End.{End}
 use Rattle.win_cert.specs.declared.lines.End.TheVariants.{At, First, Second}
 use Rattle.win_cert.specs.declared.lines.Line.{Line}
-use Rattle.win_cert.specs.Freer.{IsFreer, moved_element, moved_entry}
+use Rattle.win_cert.specs.Freer.{moved_element, moved_entry}
 use Rattle.win_cert.proofs.CutLines.{first_at}
-use Rattle.win_cert.proofs.Moved.{IsFreerOn, cell_back, cell_moves, edge_alike, head_kept, head_there, moved_edge, moved_head, moved_less, moved_low, moved_same, near_moves, numbers_apart}
+use Rattle.win_cert.proofs.Moved.{IsFreerOn, cell_back, cell_moves, head_kept, head_there, moved_edge, moved_head, moved_less, moved_same, near_moves, numbers_apart}
 
 -- ---- pairs
 

@@ -6,7 +6,9 @@ use Rattle.std.proofs.lemmas.Bool.{and_from, and_parts, both_ways, eqb-true, eq-
 use Rattle.hex_board.specs.Elements.{PlayerBoard}
 use Rattle.conn_store.specs.Stores.{same_kind}
 use Rattle.win_cert.specs.Entries.{Context, ScopedEntry, entry_at}
-use Rattle.win_cert.specs.Reasons.{Reason, applies, bad_reference, bad_stone, carriers_meet, common_cell, end_in_carrier, ends_differ, middle_kind, no_common_middle, not_edges, not_joined, not_neighbours, order, reason_against, wrong_colour, wrong_scope}
+use Rattle.win_cert.specs.Reasons.{applies, order, reason_against}
+use Rattle.win_cert.specs.declared.reasons.Reason.{Reason}
+use Rattle.win_cert.specs.declared.reasons.Reason.TheVariants.{BadReference, BadStone, CarriersMeet, CommonCell, EndInCarrier, EndsDiffer, MiddleKind, NoCommonMiddle, NotEdges, NotJoined, NotNeighbours, WrongColour, WrongScope}
 use Rattle.win_cert.specs.Scopes.{elements_in}
 use Rattle.win_cert.specs.Statements.{entries_named, is_chain, is_or, kind_taken, may_take, numbers_in, scope_taken}
 use Rattle.win_cert.specs.declared.statements.Statement.{Statement}
@@ -27,19 +29,19 @@ passed_at test (q ∷ rs) (suc i) r h e = passed_at test rs i r (passed (test q)
 -- where there is no reason against a statement, none applies
 pub none_applies : (c : Context) (s : Statement) → reason_against c s ≡ None → (r : Reason) → applies c s r ≡ false
 unfolding reason_against
-none_applies c s h bad_reference = passed_at (applies c s) order 0 bad_reference h refl
-none_applies c s h bad_stone = passed_at (applies c s) order 1 bad_stone h refl
-none_applies c s h wrong_scope = passed_at (applies c s) order 2 wrong_scope h refl
-none_applies c s h wrong_colour = passed_at (applies c s) order 3 wrong_colour h refl
-none_applies c s h not_neighbours = passed_at (applies c s) order 4 not_neighbours h refl
-none_applies c s h no_common_middle = passed_at (applies c s) order 5 no_common_middle h refl
-none_applies c s h carriers_meet = passed_at (applies c s) order 6 carriers_meet h refl
-none_applies c s h end_in_carrier = passed_at (applies c s) order 7 end_in_carrier h refl
-none_applies c s h middle_kind = passed_at (applies c s) order 8 middle_kind h refl
-none_applies c s h ends_differ = passed_at (applies c s) order 9 ends_differ h refl
-none_applies c s h common_cell = passed_at (applies c s) order 10 common_cell h refl
-none_applies c s h not_edges = passed_at (applies c s) order 11 not_edges h refl
-none_applies c s h not_joined = passed_at (applies c s) order 12 not_joined h refl
+none_applies c s h BadReference = passed_at (applies c s) order 0 BadReference h refl
+none_applies c s h BadStone = passed_at (applies c s) order 1 BadStone h refl
+none_applies c s h WrongScope = passed_at (applies c s) order 2 WrongScope h refl
+none_applies c s h WrongColour = passed_at (applies c s) order 3 WrongColour h refl
+none_applies c s h NotNeighbours = passed_at (applies c s) order 4 NotNeighbours h refl
+none_applies c s h NoCommonMiddle = passed_at (applies c s) order 5 NoCommonMiddle h refl
+none_applies c s h CarriersMeet = passed_at (applies c s) order 6 CarriersMeet h refl
+none_applies c s h EndInCarrier = passed_at (applies c s) order 7 EndInCarrier h refl
+none_applies c s h MiddleKind = passed_at (applies c s) order 8 MiddleKind h refl
+none_applies c s h EndsDiffer = passed_at (applies c s) order 9 EndsDiffer h refl
+none_applies c s h CommonCell = passed_at (applies c s) order 10 CommonCell h refl
+none_applies c s h NotEdges = passed_at (applies c s) order 11 NotEdges h refl
+none_applies c s h NotJoined = passed_at (applies c s) order 12 NotJoined h refl
 
 -- ---- lists of entries
 
@@ -106,5 +108,5 @@ not_false false h = absurd (false≢true (sym h))
 pub taken : (c : Context) (s : Statement) → GaveGood c → ((r : Reason) → applies c s r ≡ false) → Each (IsLineTaken c s) (entries_named c s)
 taken c s g h = each_both (IsNamed c s) (λ a. (a.scope == scope_taken c s) ≡ true) (IsLineTaken c s) (entries_named c s)
     (λ a p q. record { named = p; scope_is = eqb-true a.scope (scope_taken c s) q; good = g p.given.0 a p.given.1 })
-    (named_all c s (numbers_in s) (not_false (list_all (λ i. may_take s (entry_at c i)) (numbers_in s)) (h bad_reference)))
-    (each_passes (λ a. a.scope == scope_taken c s) (entries_named c s) (not_false (list_all (λ a. a.scope == scope_taken c s) (entries_named c s)) (h wrong_scope)))
+    (named_all c s (numbers_in s) (not_false (list_all (λ i. may_take s (entry_at c i)) (numbers_in s)) (h BadReference)))
+    (each_passes (λ a. a.scope == scope_taken c s) (entries_named c s) (not_false (list_all (λ a. a.scope == scope_taken c s) (entries_named c s)) (h WrongScope)))

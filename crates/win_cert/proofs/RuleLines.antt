@@ -1,6 +1,6 @@
 -- A line of a rule has no reason against it exactly where the rule applies to the entries that it
 -- names.
-use Rattle.std.proofs.Common.{◌≡◌, ℕ, ◌<◌, ◌≤◌, ◌==◌, ◌&&◌, ◌||◌, ◌⊎◌, not, min, max, true, false, Bool, List, [], ◌∷◌, Option, Some, None, All, map, bit_or, if◌then◌else◌, refl, sym, ◌∙◌, ap, inl, inr, arith}
+use Rattle.std.proofs.Common.{◌≡◌, ℕ, ◌<◌, ◌≤◌, ◌==◌, ◌&&◌, ◌||◌, ◌⊎◌, not, min, max, true, false, Bool, List, [], ◌∷◌, Option, Some, None, map, bit_or, if◌then◌else◌, refl, sym, ◌∙◌, ap, inl, inr, arith}
 use Rattle.std.specs.List.{list_all}
 use Rattle.std.specs.Option.{is_none, is_some, option_map_or}
 use Rattle.std.proofs.lemmas.Bool.{and_parts, both_ways, cases_eq, eq-eqb, eqb-true, false_from_ne_true, or_left, or_parts, or_right, true≢false}
@@ -21,7 +21,8 @@ use Rattle.conn_store.specs.Stores.{same_kind}
 use Rattle.hsearch.proofs.Orders.{turned_pair}
 use Rattle.win_cert.specs.Cuts.{scoped}
 use Rattle.win_cert.specs.Entries.{Context, ScopedEntry, elements_at, entries_at, entry_at, is_end, middle_of, other_end}
-use Rattle.win_cert.specs.Reasons.{holds_of_chain, bad_reference, carriers_meet, common_cell, end_in_carrier, ends_differ, middle_kind, no_common_middle}
+use Rattle.win_cert.specs.Reasons.{holds_of_chain}
+use Rattle.win_cert.specs.declared.reasons.Reason.TheVariants.{BadReference, CarriersMeet, CommonCell, EndInCarrier, EndsDiffer, MiddleKind, NoCommonMiddle}
 use Rattle.win_cert.specs.RuleLines.{AreNamed, IsClear, JoinOverCell, JoinOverGroup}
 use Rattle.win_cert.specs.declared.statements.Statement.{Statement}
 use Rattle.win_cert.specs.declared.statements.Statement.TheVariants.{Derivation}
@@ -191,13 +192,13 @@ and_means c i j a b n h =
     let s = Derivation (And i j) in
     let f = none_applies c s h in
     let t = two_there c i j a b n.at in
-    let k = two_taken (may_take s (entry_at c i)) (may_take s (entry_at c j)) (f bad_reference) in
-    let w = chain_line c i j a b n (taken_kind s a c.scope (entry_at c i) t.0 k.0) (taken_kind s b c.scope (entry_at c j) t.1 k.1) (f no_common_middle) (f carriers_meet) (f end_in_carrier) in (
+    let k = two_taken (may_take s (entry_at c i)) (may_take s (entry_at c j)) (f BadReference) in
+    let w = chain_line c i j a b n (taken_kind s a c.scope (entry_at c i) t.0 k.0) (taken_kind s b c.scope (entry_at c j) t.1 k.1) (f NoCommonMiddle) (f CarriersMeet) (f EndInCarrier) in (
       other_end (scoped c.scope a) w.middle,
       w.middle,
       other_end (scoped c.scope b) w.middle,
       w.rule,
-      is_group e w.middle (sym (at_middle (λ v w z. is_some (cell_of e z)) c i j w.middle (scoped c.scope a) (scoped c.scope b) w.pair w.is) ∙ f middle_kind),
+      is_group e w.middle (sym (at_middle (λ v w z. is_some (cell_of e z)) c i j w.middle (scoped c.scope a) (scoped c.scope b) w.pair w.is) ∙ f MiddleKind),
     )
 
 pub and_clear : (c : Context) (i j : ℕ) (a b : Entry) → AreNamed c (i ∷ j ∷ []) (a ∷ b ∷ []) → JoinOverGroup (elements_at c) a b → IsClear c (And i j)
@@ -210,9 +211,9 @@ key_means c i j a b n h =
     let s = Derivation (Key i j) in
     let f = none_applies c s h in
     let t = two_there c i j a b n.at in
-    let k = two_taken (may_take s (entry_at c i)) (may_take s (entry_at c j)) (f bad_reference) in
-    let w = chain_line c i j a b n (taken_kind s a c.scope (entry_at c i) t.0 k.0) (taken_kind s b c.scope (entry_at c j) t.1 k.1) (f no_common_middle) (f carriers_meet) (f end_in_carrier) in
-    let q = some_cell (cell_of e w.middle) (sym (at_middle (λ v w z. is_none (cell_of e z)) c i j w.middle (scoped c.scope a) (scoped c.scope b) w.pair w.is) ∙ f middle_kind) in
+    let k = two_taken (may_take s (entry_at c i)) (may_take s (entry_at c j)) (f BadReference) in
+    let w = chain_line c i j a b n (taken_kind s a c.scope (entry_at c i) t.0 k.0) (taken_kind s b c.scope (entry_at c j) t.1 k.1) (f NoCommonMiddle) (f CarriersMeet) (f EndInCarrier) in
+    let q = some_cell (cell_of e w.middle) (sym (at_middle (λ v w z. is_none (cell_of e z)) c i j w.middle (scoped c.scope a) (scoped c.scope b) w.pair w.is) ∙ f MiddleKind) in
     (other_end (scoped c.scope a) w.middle, w.middle, other_end (scoped c.scope b) w.middle, q.0, w.rule, is_cell e w.middle q.0 q.1)
 
 pub key_clear : (c : Context) (i j : ℕ) (a b : Entry) → AreNamed c (i ∷ j ∷ []) (a ∷ b ∷ []) → JoinOverCell (elements_at c) a b → IsClear c (Key i j)
@@ -233,9 +234,9 @@ two_means c i j a b n h =
     let t = two_there c i j a b n.at in
     let pair : entries_at c (i ∷ j ∷ []) ≡ v ∷ w ∷ [] = two_at c i j v w t.0 t.1 in
     let va = All-head (IsValid (elements_at c)) a (b ∷ []) n.valid in
-    let k = two_taken (may_take s (entry_at c i)) (may_take s (entry_at c j)) (f bad_reference) in
-    let q = same_pair a b (one_taken (a.x == b.x && a.y == b.y) (ap (λ z. not (have_same_ends z)) (sym pair) ∙ f ends_differ)) in
-    let free = none_in_all (v ∷ w ∷ []) (λ k g. cell_small c a n.size va k (and_parts (has a.carrier k) (has b.carrier k && true) g).0) (ap share_cell (sym pair) ∙ f common_cell) in
+    let k = two_taken (may_take s (entry_at c i)) (may_take s (entry_at c j)) (f BadReference) in
+    let q = same_pair a b (one_taken (a.x == b.x && a.y == b.y) (ap (λ z. not (have_same_ends z)) (sym pair) ∙ f EndsDiffer)) in
+    let free = none_in_all (v ∷ w ∷ []) (λ k g. cell_small c a n.size va k (and_parts (has a.carrier k) (has b.carrier k && true) g).0) (ap share_cell (sym pair) ∙ f CommonCell) in
     two_ways a b va.order (taken_kind s a c.scope (entry_at c i) t.0 k.0, taken_kind s b c.scope (entry_at c j) t.1 k.1, q.0, q.1)
     (λ k g l. both_not (has a.carrier k) (has b.carrier k) (free k) g l)
 
@@ -263,11 +264,11 @@ three_means c i j k a b d n h =
     let t = three_there c i j k a b d n.at in
     let all : entries_at c (i ∷ j ∷ k ∷ []) ≡ v ∷ w ∷ u ∷ [] = three_at c i j k v w u t.0 t.1 t.2 in
     let va = All-head (IsValid (elements_at c)) a (b ∷ d ∷ []) n.valid in
-    let p = three_taken (may_take s (entry_at c i)) (may_take s (entry_at c j)) (may_take s (entry_at c k)) (f bad_reference) in
-    let q = two_taken (a.x == b.x && a.y == b.y) (a.x == d.x && a.y == d.y) (ap (λ z. not (have_same_ends z)) (sym all) ∙ f ends_differ) in
+    let p = three_taken (may_take s (entry_at c i)) (may_take s (entry_at c j)) (may_take s (entry_at c k)) (f BadReference) in
+    let q = two_taken (a.x == b.x && a.y == b.y) (a.x == d.x && a.y == d.y) (ap (λ z. not (have_same_ends z)) (sym all) ∙ f EndsDiffer) in
     let one = same_pair a b q.0 in
     let two = same_pair a d q.1 in
-    let free = none_in_all (v ∷ w ∷ u ∷ []) (λ z g. cell_small c a n.size va z (and_parts (has a.carrier z) (has b.carrier z && (has d.carrier z && true)) g).0) (ap share_cell (sym all) ∙ f common_cell) in
+    let free = none_in_all (v ∷ w ∷ u ∷ []) (λ z g. cell_small c a n.size va z (and_parts (has a.carrier z) (has b.carrier z && (has d.carrier z && true)) g).0) (ap share_cell (sym all) ∙ f CommonCell) in
     let ka = taken_kind s a c.scope (entry_at c i) t.0 p.0 in
     three_ways a b d va.order (ka, taken_kind s b c.scope (entry_at c j) t.1 p.1, one.0, one.1) (ka, taken_kind s d c.scope (entry_at c k) t.2 p.2, two.0, two.1)
     (λ z g l m. all_not (has a.carrier z) (has b.carrier z) (has d.carrier z) (free z) g l m)

@@ -4,7 +4,9 @@ use Rattle.std.specs.List.{slice_get}
 use Rattle.std.specs.Option.{option_and_then}
 use Rattle.win_cert.specs.Entries.{context_over, entries_below, entry_at, gives}
 use Rattle.win_cert.specs.Reasons.{reason_against}
-use Rattle.win_cert.specs.Verdicts.{HaveSameVerdict, IsVerdict, Verdict, claimed_entry, no, raised, reason_at, statements_of, yes}
+use Rattle.win_cert.specs.Verdicts.{HaveSameVerdict, IsVerdict, claimed_entry, raised, reason_at, statements_of}
+use Rattle.win_cert.specs.declared.verdicts.Verdict.{Verdict}
+use Rattle.win_cert.specs.declared.verdicts.Verdict.TheVariants.{No, Yes}
 use Rattle.win_cert.specs.declared.certs.Cert.{Cert}
 
 same_entries : (cert : Cert) (k : ℕ) → entries_below (raised cert) k ≡ entries_below cert k
@@ -20,11 +22,11 @@ same_claim : (cert : Cert) → claimed_entry (raised cert) ≡ claimed_entry cer
 same_claim cert = ap (λ entries. entry_at (context_over cert (length cert.lines) entries) cert.entry) (same_entries cert (length cert.lines))
 
 same_verdict : (cert : Cert) (v : Verdict) → IsVerdict (raised cert) v ↔ IsVerdict cert v
-same_verdict cert (yes kind carrier) = (
+same_verdict cert (Yes kind carrier) = (
   λ y. (λ k. sym (same_reason cert k) ∙ y.0 k, y.1, y.2, sym (same_claim cert) ∙ y.3, y.4),
   λ y. (λ k. same_reason cert k ∙ y.0 k, y.1, y.2, same_claim cert ∙ y.3, y.4),
 )
-same_verdict cert (no k reason) = (
+same_verdict cert (No k reason) = (
   λ y. (sym (same_reason cert k) ∙ y.0, λ j below. sym (same_reason cert j) ∙ y.1 j below),
   λ y. (same_reason cert k ∙ y.0, λ j below. same_reason cert j ∙ y.1 j below),
 )

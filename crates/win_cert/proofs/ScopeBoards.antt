@@ -8,9 +8,8 @@ use Rattle.hex_cells.proofs.Bits.{has_none, has_or}
 use Rattle.hex_cells.proofs.Tables.{board_cell}
 use Rattle.hex_cells.proofs.WithCell.{with_cell-cases, with_cell-here, with_cell-keeps}
 use Rattle.hex_board.specs.Elements.{PlayerBoard}
-use Rattle.hex_board.specs.Positions.{Position, is_empty_at, stones_of}
+use Rattle.hex_board.specs.Positions.{AllEmpty, Position, is_empty_at, stones_of}
 use Rattle.hex_board.proofs.Placed.{empty_on, less_black, less_white}
-use Rattle.conn_store.specs.Entries.{AllEmpty}
 use Rattle.conn_store.specs.Laws.{IsSubset}
 use Rattle.win_cert.specs.Scopes.{elements_in, with_stones}
 

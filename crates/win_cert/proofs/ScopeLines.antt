@@ -5,14 +5,14 @@ use Rattle.std.proofs.lemmas.Bool.{and_from, and_parts, both_ways, eq-eqb, false
 use Rattle.hex_cells.specs.Sets.{has, with_cell}
 use Rattle.hex_cells.specs.declared.board_size.TheConstants.{MOST_CELLS}
 use Rattle.hex_board.specs.Elements.{are_joined, edge_element}
-use Rattle.hex_board.specs.Positions.{is_empty_at}
+use Rattle.hex_board.specs.Positions.{AllEmpty, is_empty_at}
 use Rattle.hex_board.proofs.Search.{any_out}
-use Rattle.conn_store.specs.Entries.{AllEmpty}
 use Rattle.conn_store.specs.Stores.{same_kind}
 use Rattle.conn_store.specs.declared.entries.Kind.{Kind}
 use Rattle.conn_store.specs.declared.entries.Kind.TheVariants.{Full, Semi}
 use Rattle.win_cert.specs.Entries.{Context, ScopedEntry, carriers_of, edge_entry, elements_at, entries_at, entry_at, gives, move_entry}
-use Rattle.win_cert.specs.Reasons.{reason_against, bad_reference, bad_stone, common_cell, is_bad_reference, is_bad_stone, is_cell_common, is_no_edge_entry, is_not_joined, is_wrong_scope, not_edges, not_joined, wrong_scope}
+use Rattle.win_cert.specs.Reasons.{reason_against, is_bad_reference, is_bad_stone, is_cell_common, is_no_edge_entry, is_not_joined, is_wrong_scope}
+use Rattle.win_cert.specs.declared.reasons.Reason.TheVariants.{BadReference, BadStone, CommonCell, NotEdges, NotJoined, WrongScope}
 use Rattle.win_cert.specs.Statements.{cell_numbers, is_edge_entry, may_take}
 use Rattle.win_cert.specs.declared.statements.Statement.TheVariants.{Derivation}
 use Rattle.win_cert.specs.declared.lines.Line.{Line}
@@ -25,12 +25,12 @@ use Rattle.win_cert.proofs.Appending.{entry_last}
 
 -- ---- `put`
 
-put_reasons : (c : Context) (cells : ℕ) → reason_against c (Derivation (Put cells)) ≡ told (is_bad_stone c (Derivation (Put cells))) bad_stone None
+put_reasons : (c : Context) (cells : ℕ) → reason_against c (Derivation (Put cells)) ≡ told (is_bad_stone c (Derivation (Put cells))) BadStone None
 unfolding reason_against
 put_reasons c cells = refl
 
 pub put_right : (c : Context) (cells : ℕ) → AllEmpty c.base.board cells → reason_against c (Derivation (Put cells)) ≡ None
-put_right c cells f = put_reasons c cells ∙ told_next (is_bad_stone c (Derivation (Put cells))) bad_stone None
+put_right c cells f = put_reasons c cells ∙ told_next (is_bad_stone c (Derivation (Put cells))) BadStone None
     (false_from_ne_true (list_any (λ k. has cells k && not (is_empty_at c.base.board k)) cell_numbers) (λ t.
     let w = any_out (λ k. has cells k && not (is_empty_at c.base.board k)) 0 MOST_CELLS t in
     let u = and_parts (has cells w.0) (not (is_empty_at c.base.board w.0)) w.2 in
@@ -59,12 +59,12 @@ given_edges c line kind carrier h = record {
 
 -- ---- `done`
 
-done_reasons : (c : Context) → reason_against c (Derivation Done) ≡ told (is_not_joined c (Derivation Done)) not_joined None
+done_reasons : (c : Context) → reason_against c (Derivation Done) ≡ told (is_not_joined c (Derivation Done)) NotJoined None
 unfolding reason_against
 done_reasons c = refl
 
 pub done_right : (c : Context) → are_joined (elements_at c) ≡ true → reason_against c (Derivation Done) ≡ None
-done_right c h = done_reasons c ∙ told_next (is_not_joined c (Derivation Done)) not_joined None (ap not h) refl
+done_right c h = done_reasons c ∙ told_next (is_not_joined c (Derivation Done)) NotJoined None (ap not h) refl
 
 pub done_gives : (c : Context) → GivesEdges (context_after c Done) Full c.scope 0 (length c.earlier)
 done_gives c = given_edges c Done Full 0 refl
@@ -72,8 +72,8 @@ done_gives c = given_edges c Done Full 0 refl
 -- ---- `move`
 
 move_reasons : (c : Context) (k i : ℕ) → reason_against c (Derivation (Move k i))
-    ≡ told (is_bad_reference c (Derivation (Move k i))) bad_reference (told (is_bad_stone c (Derivation (Move k i))) bad_stone
-    (told (is_wrong_scope c (Derivation (Move k i))) wrong_scope (told (is_no_edge_entry c (Derivation (Move k i))) not_edges None)))
+    ≡ told (is_bad_reference c (Derivation (Move k i))) BadReference (told (is_bad_stone c (Derivation (Move k i))) BadStone
+    (told (is_wrong_scope c (Derivation (Move k i))) WrongScope (told (is_no_edge_entry c (Derivation (Move k i))) NotEdges None)))
 unfolding reason_against
 move_reasons c k i = refl
 
@@ -85,11 +85,11 @@ move_right c k i d h g =
     let s = Derivation (Move k i) in
     let a = g.entry in
     move_reasons c k i
-    ∙ told_next (is_bad_reference c s) bad_reference _ (ap (λ o. not (may_take s o && true)) g.at ∙ bad_one (same_kind a.kind Full && true)
+    ∙ told_next (is_bad_reference c s) BadReference _ (ap (λ o. not (may_take s o && true)) g.at ∙ bad_one (same_kind a.kind Full && true)
     (and_from (same_kind a.kind Full) true (ap (λ v. same_kind v Full) g.kind_is) refl))
-    (told_next (is_bad_stone c s) bad_stone _ (ap not h)
-    (told_next (is_wrong_scope c s) wrong_scope _ (ap (λ es. not (list_all (λ v. v.scope == with_cell c.scope k) es)) (one_at c i a g.at) ∙ bad_one (a.scope == with_cell c.scope k) (eq-eqb a.scope (with_cell c.scope k) g.scope_is))
-    (told_next (is_no_edge_entry c s) not_edges _ (ap (λ es. not (list_all (is_edge_entry c.base) es)) (one_at c i a g.at) ∙ bad_one (is_edge_entry c.base a) g.edges) refl)))
+    (told_next (is_bad_stone c s) BadStone _ (ap not h)
+    (told_next (is_wrong_scope c s) WrongScope _ (ap (λ es. not (list_all (λ v. v.scope == with_cell c.scope k) es)) (one_at c i a g.at) ∙ bad_one (a.scope == with_cell c.scope k) (eq-eqb a.scope (with_cell c.scope k) g.scope_is))
+    (told_next (is_no_edge_entry c s) NotEdges _ (ap (λ es. not (list_all (is_edge_entry c.base) es)) (one_at c i a g.at) ∙ bad_one (is_edge_entry c.base a) g.edges) refl)))
 
 pub move_gives : (c : Context) (k i d : ℕ) → GivesEdges c Full (with_cell c.scope k) d i → GivesEdges (context_after c (Move k i)) Semi c.scope (with_cell d k) (length c.earlier)
 move_gives c k i d g = given_edges c (Move k i) Semi (with_cell d k)
@@ -108,8 +108,8 @@ pub data Leaves (k : ℕ) : List ℕ → Type 0 where
   later : (d : ℕ) (carriers : List ℕ) → Leaves k carriers → Leaves k (d ∷ carriers)
 
 cases_reasons : (c : Context) (numbers : List ℕ) → reason_against c (Derivation (Cases numbers))
-    ≡ told (is_bad_reference c (Derivation (Cases numbers))) bad_reference (told (is_wrong_scope c (Derivation (Cases numbers))) wrong_scope
-    (told (is_cell_common c (Derivation (Cases numbers))) common_cell (told (is_no_edge_entry c (Derivation (Cases numbers))) not_edges None)))
+    ≡ told (is_bad_reference c (Derivation (Cases numbers))) BadReference (told (is_wrong_scope c (Derivation (Cases numbers))) WrongScope
+    (told (is_cell_common c (Derivation (Cases numbers))) CommonCell (told (is_no_edge_entry c (Derivation (Cases numbers))) NotEdges None)))
 unfolding reason_against
 cases_reasons c numbers = refl
 
@@ -147,10 +147,10 @@ pub cases_right : (c : Context) (numbers carriers : List ℕ) → AreCases c num
 cases_right c numbers carriers h f =
     let s = Derivation (Cases numbers) in
     cases_reasons c numbers
-    ∙ told_next (is_bad_reference c s) bad_reference _ (ap not (taken_all c numbers numbers carriers h))
-    (told_next (is_wrong_scope c s) wrong_scope _ (ap not (scopes_all c numbers carriers h))
-    (told_next (is_cell_common c s) common_cell _ (none_shared (entries_at c numbers) (λ k. left_out c k numbers carriers h (f k)))
-    (told_next (is_no_edge_entry c s) not_edges _ (ap not (edges_all c numbers carriers h)) refl)))
+    ∙ told_next (is_bad_reference c s) BadReference _ (ap not (taken_all c numbers numbers carriers h))
+    (told_next (is_wrong_scope c s) WrongScope _ (ap not (scopes_all c numbers carriers h))
+    (told_next (is_cell_common c s) CommonCell _ (none_shared (entries_at c numbers) (λ k. left_out c k numbers carriers h (f k)))
+    (told_next (is_no_edge_entry c s) NotEdges _ (ap not (edges_all c numbers carriers h)) refl)))
 
 pub cases_give : (c : Context) (numbers : List ℕ) → GivesEdges (context_after c (Cases numbers)) Full c.scope (carriers_of (entries_at c numbers)) (length c.earlier)
 cases_give c numbers = given_edges c (Cases numbers) Full (carriers_of (entries_at c numbers)) refl

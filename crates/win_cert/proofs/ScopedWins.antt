@@ -3,9 +3,8 @@ use Rattle.std.proofs.Common.{ℕ, true, false, sym, ◌∙◌, subst}
 use Rattle.hex_cells.specs.Sets.{members}
 use Rattle.hex_board.specs.Elements.{PlayerBoard, edge_element}
 use Rattle.hex_board.specs.Joined.{Joined}
-use Rattle.hex_board.specs.Positions.{Position, stones_of}
+use Rattle.hex_board.specs.Positions.{AllEmpty, Position, stones_of}
 use Rattle.hex_board.specs.Wins.{Wins}
-use Rattle.conn_store.specs.Entries.{AllEmpty}
 use Rattle.conn_store.specs.Links.{StonesLink}
 use Rattle.conn_store.specs.Truth.{IsSure}
 use Rattle.conn_store.specs.declared.entries.Kind.{Kind}

@@ -7,9 +7,8 @@ use Rattle.hex_cells.specs.declared.colours.Colour.TheVariants.{Black}
 use Rattle.hex_cells.proofs.Bits.{has_none}
 use Rattle.hex_cells.proofs.WithCell.{with_cell-cases, with_cell-here}
 use Rattle.hex_board.specs.Joined.{is_joined}
-use Rattle.hex_board.specs.Positions.{Position, is_empty_at, placed, stones_of}
+use Rattle.hex_board.specs.Positions.{AllEmpty, Position, is_empty_at, placed, stones_of}
 use Rattle.hex_board.proofs.Placed.{placed_empty}
-use Rattle.conn_store.specs.Entries.{AllEmpty}
 use Rattle.conn_store.specs.declared.entries.Kind.TheVariants.{Full, Semi}
 use Rattle.conn_store.proofs.Chains.{empty_both}
 use Rattle.win_cert.specs.Entries.{Context, carriers_of, entries_at}

@@ -6,7 +6,9 @@ use Rattle.hex_cells.specs.Sets.{has}
 use Rattle.hex_board.specs.Joined.{is_joined, leads_in}
 use Rattle.hex_cells.specs.declared.colours.Colour.TheVariants.{Black}
 use Rattle.conn_store.specs.declared.entries.Kind.TheVariants.{Full, Semi}
-use Rattle.win_cert.specs.Reasons.{Reason, bad_reference, bad_stone, carriers_meet, common_cell, end_in_carrier, ends_differ, middle_kind, no_common_middle, not_edges, not_joined, not_neighbours, reason_against, wrong_colour, wrong_scope}
+use Rattle.win_cert.specs.Reasons.{reason_against}
+use Rattle.win_cert.specs.declared.reasons.Reason.{Reason}
+use Rattle.win_cert.specs.declared.reasons.Reason.TheVariants.{BadReference, BadStone, CarriersMeet, CommonCell, EndInCarrier, EndsDiffer, MiddleKind, NoCommonMiddle, NotEdges, NotJoined, NotNeighbours, WrongColour, WrongScope}
 use Rattle.win_cert.specs.Texts.{cert_text}
 use Rattle.win_cert.specs.Verdicts.{claimed_entry, reason_at}
 use Rattle.win_cert.specs.declared.certs.Cert.{Cert}
@@ -75,51 +77,51 @@ v1_judged : AreGoodTo v1 10
 unfolding has is_joined leads_in reason_against
 v1_judged = refl
 
-or_twice_judged : IsRefusedAt (with_line v1 6 (Or2 4 4)) 6 common_cell
+or_twice_judged : IsRefusedAt (with_line v1 6 (Or2 4 4)) 6 CommonCell
 unfolding has is_joined leads_in reason_against
 or_twice_judged = refl
 
-or_too_high_judged : IsRefusedAt (with_line v1 6 (Or2 4 9)) 6 bad_reference
+or_too_high_judged : IsRefusedAt (with_line v1 6 (Or2 4 9)) 6 BadReference
 unfolding has is_joined leads_in reason_against
 or_too_high_judged = refl
 
-or_of_full_judged : IsRefusedAt (with_line v1 6 (Or2 0 2)) 6 bad_reference
+or_of_full_judged : IsRefusedAt (with_line v1 6 (Or2 0 2)) 6 BadReference
 unfolding has is_joined leads_in reason_against
 or_of_full_judged = refl
 
-and_over_cell_judged : IsRefusedAt (with_line v1 4 (And 0 1)) 4 middle_kind
+and_over_cell_judged : IsRefusedAt (with_line v1 4 (And 0 1)) 4 MiddleKind
 unfolding has is_joined leads_in reason_against
 and_over_cell_judged = refl
 
-key_apart_judged : IsRefusedAt (with_line v1 4 (Key 0 3)) 4 no_common_middle
+key_apart_judged : IsRefusedAt (with_line v1 4 (Key 0 3)) 4 NoCommonMiddle
 unfolding has is_joined leads_in reason_against
 key_apart_judged = refl
 
-or_of_other_ends_judged : IsRefusedAt (with_line v1 5 (Key 0 2)) 6 ends_differ
+or_of_other_ends_judged : IsRefusedAt (with_line v1 5 (Key 0 2)) 6 EndsDiffer
 unfolding has is_joined leads_in reason_against
 or_of_other_ends_judged = refl
 
-key_into_carrier_judged : IsRefusedAt (with_line v1 7 (Key 0 6)) 7 end_in_carrier
+key_into_carrier_judged : IsRefusedAt (with_line v1 7 (Key 0 6)) 7 EndInCarrier
 unfolding has is_joined leads_in reason_against
 key_into_carrier_judged = refl
 
-adj_apart_judged : IsRefusedAt (with_line v1 0 (Adj (At 0) (At 3))) 0 not_neighbours
+adj_apart_judged : IsRefusedAt (with_line v1 0 (Adj (At 0) (At 3))) 0 NotNeighbours
 unfolding has is_joined leads_in reason_against
 adj_apart_judged = refl
 
-adj_to_white_judged : IsRefusedAt (record v1 { board = record { size = 2; black = 0; white = 1 } }) 0 wrong_colour
+adj_to_white_judged : IsRefusedAt (record v1 { board = record { size = 2; black = 0; white = 1 } }) 0 WrongColour
 unfolding has is_joined leads_in reason_against
 adj_to_white_judged = refl
 
-claim_of_a_cell_judged : IsRefusedAt (record v1 { entry = 4 }) 9 not_edges
+claim_of_a_cell_judged : IsRefusedAt (record v1 { entry = 4 }) 9 NotEdges
 unfolding has is_joined leads_in reason_against
 claim_of_a_cell_judged = refl
 
-claim_of_the_other_kind_judged : IsRefusedAt (record v1 { claim = Full }) 9 bad_reference
+claim_of_the_other_kind_judged : IsRefusedAt (record v1 { claim = Full }) 9 BadReference
 unfolding has is_joined leads_in reason_against
 claim_of_the_other_kind_judged = refl
 
-v2_judged : IsRefusedAt v2 13 carriers_meet
+v2_judged : IsRefusedAt v2 13 CarriersMeet
 unfolding has is_joined leads_in reason_against
 v2_judged = refl
 
@@ -127,23 +129,23 @@ v3_judged : AreGoodTo v3 11
 unfolding has is_joined leads_in reason_against
 v3_judged = refl
 
-cases_twice_judged : IsRefusedAt (with_line v3 7 (Cases (5 ∷ 5 ∷ []))) 7 common_cell
+cases_twice_judged : IsRefusedAt (with_line v3 7 (Cases (5 ∷ 5 ∷ []))) 7 CommonCell
 unfolding has is_joined leads_in reason_against
 cases_twice_judged = refl
 
-case_of_a_put_judged : IsRefusedAt (with_line v3 7 (Cases (5 ∷ 4 ∷ []))) 7 bad_reference
+case_of_a_put_judged : IsRefusedAt (with_line v3 7 (Cases (5 ∷ 4 ∷ []))) 7 BadReference
 unfolding has is_joined leads_in reason_against
 case_of_a_put_judged = refl
 
-move_in_another_scope_judged : IsRefusedAt (with_line v3 5 (Move 1 1)) 5 wrong_scope
+move_in_another_scope_judged : IsRefusedAt (with_line v3 5 (Move 1 1)) 5 WrongScope
 unfolding has is_joined leads_in reason_against
 move_in_another_scope_judged = refl
 
-move_on_a_stone_judged : IsRefusedAt (with_line v3 5 (Move 2 1)) 5 bad_stone
+move_on_a_stone_judged : IsRefusedAt (with_line v3 5 (Move 2 1)) 5 BadStone
 unfolding has is_joined leads_in reason_against
 move_on_a_stone_judged = refl
 
-done_too_early_judged : IsRefusedAt (with_line v3 0 (Put 1)) 1 not_joined
+done_too_early_judged : IsRefusedAt (with_line v3 0 (Put 1)) 1 NotJoined
 unfolding has is_joined leads_in reason_against
 done_too_early_judged = refl
 

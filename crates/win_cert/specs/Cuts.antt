@@ -11,7 +11,8 @@ use Rattle.conn_store.specs.declared.entries.Entry.{Entry}
 use Rattle.conn_store.specs.declared.entries.Held.{Held}
 use Rattle.conn_store.specs.declared.entries.Kind.{Kind}
 use Rattle.win_cert.specs.Entries.{ScopedEntry, entries_below}
-use Rattle.win_cert.specs.Verdicts.{IsVerdict, yes}
+use Rattle.win_cert.specs.Verdicts.{IsVerdict}
+use Rattle.win_cert.specs.declared.verdicts.Verdict.TheVariants.{Yes}
 use Rattle.win_cert.specs.Writable.{IsWritable}
 use Rattle.win_cert.specs.declared.certs.Cert.{Cert}
 use Rattle.win_cert.specs.declared.certs.TheConstants.{FIRST_VERSION}
@@ -38,7 +39,7 @@ pub record CertifiesEntry (d : StoreData) (a : Entry) (cert : Cert) : Type 0 whe
   pub version : cert.version ≡ FIRST_VERSION
   pub board : cert.board ≡ d.elements.board
   pub player : cert.player ≡ d.elements.player
-  pub verdict : IsVerdict cert (yes a.kind a.carrier)
+  pub verdict : IsVerdict cert (Yes a.kind a.carrier)
   pub writable : IsWritable cert
 
 -- the certificate shows entry n of the store

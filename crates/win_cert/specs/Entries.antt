@@ -1,6 +1,6 @@
 -- Entries in scopes: what each line gives.
 use Rattle.std.specs.Prelude.{ℕ, ◌==◌, ◌||◌, Bool, true, false, List, [], ◌∷◌, ◌++◌, Option, Some}
-use Rattle.std.specs.Prelude.{None, zero, suc, max, min, bit_or, if◌then◌else◌}
+use Rattle.std.specs.Prelude.{None, zero, suc, max, min, bit_or, take, if◌then◌else◌}
 use Rattle.std.specs.List.{filter_map, slice_get}
 use Rattle.std.specs.Option.{option_and_then, option_flatten, option_map}
 use Rattle.hex_cells.specs.Sets.{with_cell}
@@ -10,7 +10,7 @@ use Rattle.hex_board.specs.Positions.{stones_of}
 use Rattle.conn_store.specs.Entries.{Connects}
 use Rattle.conn_store.specs.declared.entries.Kind.{Kind}
 use Rattle.conn_store.specs.declared.entries.Kind.TheVariants.{Full, Semi}
-use Rattle.win_cert.specs.Scopes.{elements_in, player_board, scope_at}
+use Rattle.win_cert.specs.Scopes.{elements_in, player_board, scope_after}
 use Rattle.win_cert.specs.declared.certs.Cert.{Cert}
 use Rattle.win_cert.specs.declared.lines.End.{End}
 use Rattle.win_cert.specs.declared.lines.End.TheVariants.{At, First, Second}
@@ -125,10 +125,13 @@ gives c Done = Some (edge_entry c Full 0)
 gives c (Move k i) = move_entry c k (entries_at c (i ∷ []))
 gives c (Cases numbers) = Some (edge_entry c Full (carriers_of (entries_at c numbers)))
 
--- line k, read over what the lines before it give
+-- line k, read over what the lines before it give, in the scope after these
 abbrev pub context_over : Cert → ℕ → List (Option ScopedEntry) → Context
-context_over cert k earlier =
-    record { base = player_board cert; scope = scope_at cert k; earlier = earlier }
+context_over cert k earlier = record {
+  base = player_board cert;
+  scope = scope_after 0 (take k cert.lines);
+  earlier = earlier;
+}
 
 -- what each of the first k lines gives, where each is read over those before it
 abbrev pub entries_below : Cert → ℕ → List (Option ScopedEntry)

@@ -15,29 +15,20 @@ use Rattle.win_cert.specs.Statements.{have_same_ends, is_cases, is_cell_in, is_c
 use Rattle.win_cert.specs.Statements.{is_or, is_other_stone, are_near, may_take, numbers_in}
 use Rattle.win_cert.specs.Statements.{scope_taken, share_cell, takes_edges}
 use Rattle.win_cert.specs.declared.lines.Line.TheVariants.{Adj, And, Key, Put, Done, Move}
+use Rattle.win_cert.specs.declared.reasons.Reason.{Reason}
+use Rattle.win_cert.specs.declared.reasons.Reason.TheVariants.{BadReference, WrongColour}
+use Rattle.win_cert.specs.declared.reasons.Reason.TheVariants.{NotNeighbours, NoCommonMiddle}
+use Rattle.win_cert.specs.declared.reasons.Reason.TheVariants.{CarriersMeet, EndInCarrier}
+use Rattle.win_cert.specs.declared.reasons.Reason.TheVariants.{MiddleKind, EndsDiffer, CommonCell}
+use Rattle.win_cert.specs.declared.reasons.Reason.TheVariants.{NotEdges, BadStone, WrongScope}
+use Rattle.win_cert.specs.declared.reasons.Reason.TheVariants.{NotJoined}
 
--- the reasons, with their numbers
-pub data Reason : Type 0 where
-  bad_reference : Reason  -- 1
-  wrong_colour : Reason  -- 2
-  not_neighbours : Reason  -- 3
-  no_common_middle : Reason  -- 4
-  carriers_meet : Reason  -- 5
-  end_in_carrier : Reason  -- 6
-  middle_kind : Reason  -- 7
-  ends_differ : Reason  -- 8
-  common_cell : Reason  -- 9
-  not_edges : Reason  -- 10
-  bad_stone : Reason  -- 11
-  wrong_scope : Reason  -- 12
-  not_joined : Reason  -- 13
-
--- the order in which they are told
+-- the order in which reasons are told
 abbrev pub order : List Reason
 order =
-    bad_reference ∷ bad_stone ∷ wrong_scope ∷ wrong_colour ∷ not_neighbours ∷ no_common_middle
-    ∷ carriers_meet ∷ end_in_carrier ∷ middle_kind ∷ ends_differ ∷ common_cell ∷ not_edges
-    ∷ not_joined ∷ []
+    BadReference ∷ BadStone ∷ WrongScope ∷ WrongColour ∷ NotNeighbours ∷ NoCommonMiddle
+    ∷ CarriersMeet ∷ EndInCarrier ∷ MiddleKind ∷ EndsDiffer ∷ CommonCell ∷ NotEdges
+    ∷ NotJoined ∷ []
 
 -- a number that is named is not that of an earlier line that gives an entry of the kind taken
 abbrev pub is_bad_reference : Context → Statement → Bool
@@ -95,10 +86,6 @@ is_middle_wrong c (Derivation (Key i j)) = holds_of_chain
     (λ a b u. is_none (cell_of (elements_at c) u)) (entries_named c (Derivation (Key i j)))
 is_middle_wrong c s = false
 
--- the entries of `or` have not all the same elements
-abbrev pub do_ends_differ : Context → Statement → Bool
-do_ends_differ c s = is_or s && not (have_same_ends (entries_named c s))
-
 -- a cell is in all the carriers of `or` or `cases`
 abbrev pub is_cell_common : Context → Statement → Bool
 is_cell_common c s = (is_or s || is_cases s) && share_cell (entries_named c s)
@@ -115,20 +102,36 @@ is_not_joined c s = false
 
 -- whether a reason applies to a statement
 abbrev pub applies : Context → Statement → Reason → Bool
-applies c s bad_reference = is_bad_reference c s
-applies c s wrong_colour = is_wrong_colour c s
-applies c s not_neighbours = are_not_neighbours c s
-applies c s no_common_middle = has_no_middle c s
-applies c s carriers_meet = do_carriers_meet c s
-applies c s end_in_carrier = is_end_in_carrier c s
-applies c s middle_kind = is_middle_wrong c s
-applies c s ends_differ = do_ends_differ c s
-applies c s common_cell = is_cell_common c s
-applies c s not_edges = is_no_edge_entry c s
-applies c s bad_stone = is_bad_stone c s
-applies c s wrong_scope = is_wrong_scope c s
-applies c s not_joined = is_not_joined c s
+applies c s BadReference = is_bad_reference c s
+applies c s WrongColour = is_wrong_colour c s
+applies c s NotNeighbours = are_not_neighbours c s
+applies c s NoCommonMiddle = has_no_middle c s
+applies c s CarriersMeet = do_carriers_meet c s
+applies c s EndInCarrier = is_end_in_carrier c s
+applies c s MiddleKind = is_middle_wrong c s
+applies c s EndsDiffer = is_or s && not (have_same_ends (entries_named c s))
+applies c s CommonCell = is_cell_common c s
+applies c s NotEdges = is_no_edge_entry c s
+applies c s BadStone = is_bad_stone c s
+applies c s WrongScope = is_wrong_scope c s
+applies c s NotJoined = is_not_joined c s
 
 -- the first reason, in that order, that applies to a statement
 unfoldable pub reason_against : Context → Statement → Option Reason
 reason_against c s = find (applies c s) order
+
+-- the number by which texts name a reason
+abbrev pub number_of_reason : Reason → ℕ
+number_of_reason BadReference = 1
+number_of_reason WrongColour = 2
+number_of_reason NotNeighbours = 3
+number_of_reason NoCommonMiddle = 4
+number_of_reason CarriersMeet = 5
+number_of_reason EndInCarrier = 6
+number_of_reason MiddleKind = 7
+number_of_reason EndsDiffer = 8
+number_of_reason CommonCell = 9
+number_of_reason NotEdges = 10
+number_of_reason BadStone = 11
+number_of_reason WrongScope = 12
+number_of_reason NotJoined = 13

@@ -1,5 +1,5 @@
 -- Scopes: sets of cells on which the player is taken to have stones too.
-use Rattle.std.specs.Prelude.{ℕ, List, [], ◌∷◌, take, bit_or}
+use Rattle.std.specs.Prelude.{ℕ, List, [], ◌∷◌, bit_or}
 use Rattle.hex_cells.specs.declared.colours.Colour.{Colour}
 use Rattle.hex_cells.specs.declared.colours.Colour.TheVariants.{Black, White}
 use Rattle.hex_board.specs.Elements.{PlayerBoard}
@@ -13,10 +13,6 @@ abbrev pub scope_after : ℕ → List Line → ℕ
 scope_after s [] = s
 scope_after s (Put cells ∷ lines) = scope_after cells lines
 scope_after s (line ∷ lines) = scope_after s lines
-
--- the scope of line k
-abbrev pub scope_at : Cert → ℕ → ℕ
-scope_at cert k = scope_after 0 (take k cert.lines)
 
 -- the board with the player's stones on the cells of s too
 abbrev pub with_stones : Position → Colour → ℕ → Position

@@ -16,7 +16,6 @@ use Rattle.win_cert.specs.Entries.{Context, ScopedEntry, entries_at}
 use Rattle.win_cert.specs.Scopes.{elements_in}
 use Rattle.win_cert.specs.declared.lines.End.{End}
 use Rattle.win_cert.specs.declared.lines.End.TheVariants.{At, First, Second}
-use Rattle.win_cert.specs.declared.lines.Line.{Line}
 use Rattle.win_cert.specs.declared.lines.Line.TheVariants.{Adj, And, Key, Or2, Or3, Put, Done, Move}
 use Rattle.win_cert.specs.declared.lines.Line.TheVariants.{Cases}
 use Rattle.win_cert.specs.declared.statements.Statement.{Statement}

@@ -1,15 +1,17 @@
--- Which certificates are accepted, and what a checker answers.
+-- Which certificates are accepted, and the verdict on one.
 use Rattle.std.specs.Prelude.{◌≡◌, ℕ, ◌<◌, ◌↔◌, List, [], ◌∷◌, ◌++◌, Option, Some, None, length}
 use Rattle.std.specs.Prelude.{map}
 use Rattle.std.specs.List.{slice_get}
 use Rattle.std.specs.Option.{option_and_then}
-use Rattle.conn_store.specs.declared.entries.Kind.{Kind}
 use Rattle.win_cert.specs.Entries.{ScopedEntry, context_at, entry_at}
-use Rattle.win_cert.specs.Reasons.{Reason, reason_against}
+use Rattle.win_cert.specs.Reasons.{reason_against}
 use Rattle.win_cert.specs.declared.statements.Statement.{Statement}
 use Rattle.win_cert.specs.declared.statements.Statement.TheVariants.{Claim, Derivation}
 use Rattle.win_cert.specs.declared.certs.Cert.{Cert}
 use Rattle.win_cert.specs.declared.certs.TheConstants.{LATEST_VERSION}
+use Rattle.win_cert.specs.declared.reasons.Reason.{Reason}
+use Rattle.win_cert.specs.declared.verdicts.Verdict.{Verdict}
+use Rattle.win_cert.specs.declared.verdicts.Verdict.TheVariants.{Yes, No}
 
 -- the derivation lines, and then the claim
 abbrev pub statements_of : Cert → List Statement
@@ -29,19 +31,13 @@ Accepted cert = (k : ℕ) → reason_at cert k ≡ None
 abbrev pub claimed_entry : Cert → Option ScopedEntry
 claimed_entry cert = entry_at (context_at cert (length cert.lines)) cert.entry
 
--- what a checker answers: yes, with the claim and the carrier of its entry, or no, with the number
--- of a statement and a reason against it
-pub data Verdict : Type 0 where
-  yes : Kind → ℕ → Verdict
-  no : ℕ → Reason → Verdict
-
 -- the verdict on a certificate: yes where it is accepted, and else the first statement against
 -- which there is a reason, and the first reason against it
 abbrev pub IsVerdict : Cert → Verdict → Type 0
-IsVerdict cert (yes kind carrier) =
+IsVerdict cert (Yes kind carrier) =
     Accepted cert × (kind ≡ cert.claim)
     × (a : ScopedEntry) × (claimed_entry cert ≡ Some a) × (carrier ≡ a.carrier)
-IsVerdict cert (no k reason) =
+IsVerdict cert (No k reason) =
     (reason_at cert k ≡ Some reason) × ((j : ℕ) → j < k → reason_at cert j ≡ None)
 
 -- the certificate with the latest version, and all else as it was

@@ -4,8 +4,9 @@
 //! claim; each of these lines, and the claim, is a *statement* ([`Statement`]). Each line gives an
 //! *entry* in its *scope*, a set of cells on which the player is taken to have stones too, or sets
 //! the scope of the lines after it. A certificate is *accepted* where none of thirteen reasons
-//! against a line or the claim applies; the *verdict* on it is yes, with the claim and the carrier
-//! of its entry, or the first line with a reason against it and that reason.
+//! against a line or the claim applies ([`Reason`]); the *verdict* on it ([`Verdict`]) is yes, with
+//! the claim and the carrier of its entry, or the first line with a reason against it and that
+//! reason.
 //!
 //! **A caller** reads a text ([`read`]), writes one ([`write`]), raises a certificate to the latest
 //! version ([`raise`]) and cuts one from a report ([`cut`], of an entry that [`edge_numbers`]
@@ -44,11 +45,13 @@ mod pushing;
 mod raising;
 mod reader;
 mod reading;
+mod reasons;
 mod refusals;
 mod rule_lines;
 mod spelling;
 mod statements;
 mod values;
+mod verdicts;
 mod words;
 mod writing;
 
@@ -60,8 +63,10 @@ pub use lines::{End, LEAST_CASES, Line, Lines, MOST_CASES, MOST_NUMBER};
 pub use lists::{Bytes, Numbers};
 pub use raising::raise;
 pub use reading::read;
+pub use reasons::Reason;
 pub use refusals::{CertError, Memory};
 pub use rule_lines::lines_are_rules;
 pub use spelling::written_text_is_read_back;
 pub use statements::Statement;
+pub use verdicts::Verdict;
 pub use writing::write;

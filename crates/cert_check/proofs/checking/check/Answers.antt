@@ -2,7 +2,7 @@ use Rattle.std.proofs.Common.{◌≡◌, ◌+◌, length, get_or, refl, sym, ◌
 use Rattle.win_cert.specs.Entries.{Context, context_at, entry_at}
 use Rattle.win_cert.specs.Verdicts.{Accepted, IsVerdict, reason_at}
 use Rattle.win_cert.specs.Writable.{IsLineOf}
-use Rattle.cert_check.specs.Answers.{IsYes, verdict_of}
+use Rattle.cert_check.specs.Answers.{IsYes}
 use Rattle.win_cert.specs.Contexts.{context_after}
 use Rattle.win_cert.proofs.Stepping.{AreClearTo, all_clear, claim_reason, clear_more, context_step, line_reason}
 use Rattle.cert_check.proofs.Stepping.{all_read, is_line, next_line}
@@ -61,14 +61,14 @@ returns-clause-verdict c =
     let read = all_read cert c.as_slice-line-items.ensures c.lines.auto.line-index-end c.lines-test.false c.lines.invariant in
     let claimed = claim_reason cert read.0 in
     elim c.match-claimed.branch [
-      | in-Ok-claimed w ↦ subst (λ v. IsVerdict cert (verdict_of v)) (sym w.result-is) (
+      | in-Ok-claimed w ↦ subst (λ v. IsVerdict cert v) (sym w.result-is) (
         all_clear cert read.2 (claimed ∙ w.in-Ok-claimed.ensures.0),
         refl,
         _,
         ap (λ n. entry_at n cert.entry) (sym read.0) ∙ w.in-Ok-claimed.ensures.1,
         refl,
       )
-      | in-Err-claimed w ↦ subst (λ v. IsVerdict cert (verdict_of v)) (sym w.result-is) (
+      | in-Err-claimed w ↦ subst (λ v. IsVerdict cert v) (sym w.result-is) (
         ap (reason_at cert) read.1 ∙ claimed ∙ w.in-Err-claimed.ensures,
         subst (AreClearTo cert) (sym read.1) read.2,
       )

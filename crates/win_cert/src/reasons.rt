@@ -1,14 +1,11 @@
-//! What the checker answers.
+//! The thirteen reasons against a line of a certificate or its claim.
 
 ghost use Rattle.std.specs.Prelude.{◌≡◌};
-ghost use Rattle.cert_check.specs.Answers.{number_of_why};
-
-use conn_store::Kind;
-use hex_cells::CellSet;
+ghost use Rattle.win_cert.specs.Reasons.{number_of_reason};
 
 /// A reason against a derivation line or the claim.
 #[derive(Clone, Copy, Debug, PartialEq, Eq)]
-pub enum Why {
+pub enum Reason {
     /// A number that is named is not that of an earlier line with an entry of the kind taken.
     BadReference,
     /// An end of `adj` is a stone of the opponent.
@@ -37,35 +34,25 @@ pub enum Why {
     NotJoined,
 }
 
-impl Why {
+impl Reason {
     /// The number of the reason, 1 to 13, by which texts name it.
     pub fn number(self) -> u32
-        ensures { result ≡ number_of_why self }
+        ensures { result ≡ number_of_reason self }
     {
         match self {
-            Why::BadReference => 1,
-            Why::WrongColour => 2,
-            Why::NotNeighbours => 3,
-            Why::NoCommonMiddle => 4,
-            Why::CarriersMeet => 5,
-            Why::EndInCarrier => 6,
-            Why::MiddleKind => 7,
-            Why::EndsDiffer => 8,
-            Why::CommonCell => 9,
-            Why::NotEdges => 10,
-            Why::BadStone => 11,
-            Why::WrongScope => 12,
-            Why::NotJoined => 13,
+            Reason::BadReference => 1,
+            Reason::WrongColour => 2,
+            Reason::NotNeighbours => 3,
+            Reason::NoCommonMiddle => 4,
+            Reason::CarriersMeet => 5,
+            Reason::EndInCarrier => 6,
+            Reason::MiddleKind => 7,
+            Reason::EndsDiffer => 8,
+            Reason::CommonCell => 9,
+            Reason::NotEdges => 10,
+            Reason::BadStone => 11,
+            Reason::WrongScope => 12,
+            Reason::NotJoined => 13,
         }
     }
-}
-
-/// The verdict on a certificate.
-#[derive(Clone, Copy, Debug, PartialEq, Eq)]
-pub enum Verdict {
-    /// It is accepted: the claim, and the carrier of the entry that the claim names.
-    Yes { claim: Kind, carrier: CellSet },
-    /// It is not: the number from 0 of the first line against which there is a reason, the claim
-    /// being the last, and the first reason.
-    No { line: u32, why: Why },
 }
