@@ -9,9 +9,9 @@ ghost use Rattle.hex_cli.specs.Served.{LeavesIdle, Serves, ServesIn, StandsIdleI
 ghost use Rattle.hex_devices.specs.Statuses.{stop_in};
 ghost use Rattle.hex_devices.specs.declared.ends.End.TheVariants.{Stopped};
 
-use crate::inputs::{InputMode, answer};
 use crate::playing::play;
 use crate::single_turns::{bench, simulate};
+use crate::whole_inputs::{InputMode, serve_input};
 use hex_devices::{Devices, End, Stop};
 use hex_io::{Link, Shelf, Word};
 use hex_plan::Archive;
@@ -59,9 +59,9 @@ fn in_mode<L: Link, F: Shelf, A: Archive, R: Threads + Sync, G: Gate + Sync>(
 {
     match options.mode {
         Mode::Htp => play(alloc, options, devices),
-        Mode::Check => answer(alloc, InputMode::Check, devices),
-        Mode::Migrate => answer(alloc, InputMode::Migrate, devices),
-        Mode::Audit => answer(alloc, InputMode::Audit, devices),
+        Mode::Check => serve_input(alloc, InputMode::Check, devices),
+        Mode::Migrate => serve_input(alloc, InputMode::Migrate, devices),
+        Mode::Audit => serve_input(alloc, InputMode::Audit, devices),
         Mode::Sim => simulate(alloc, options, devices),
         Mode::Bench => bench(alloc, options, devices),
         Mode::Solve => {
@@ -69,7 +69,7 @@ fn in_mode<L: Link, F: Shelf, A: Archive, R: Threads + Sync, G: Gate + Sync>(
                 hsearch: options.hsearch,
                 budget: options.budget,
             };
-            answer(alloc, solver, devices)
+            serve_input(alloc, solver, devices)
         }
     }
 }
