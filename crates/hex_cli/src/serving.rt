@@ -1,10 +1,12 @@
 //! What is done for the words of a run, in the mode that they say.
 
 ghost use Rattle.std.specs.Prelude.{◌≡◌, ◌≢◌, ◌⊎◌, ◌^◌, ◌<◌};
+ghost use Rattle.hexd_args.specs.Reading.{WellFormed};
 ghost use Rattle.hexd_args.specs.Values as value;
+ghost use Rattle.hexd_args.specs.declared.settings.Options.{Options};
 ghost use Rattle.hex_devices.specs.declared.stops.Stop.TheVariants.{Memory};
 ghost use Rattle.hex_devices.specs.Devices.{CountsStop};
-ghost use Rattle.hex_cli.specs.Runs.{AreWellFormed, AreRefused};
+ghost use Rattle.hex_cli.specs.Runs.{AreRefused};
 ghost use Rattle.hex_cli.specs.Served.{LeavesIdle, Serves, ServesIn, StandsIdleIn};
 ghost use Rattle.hex_devices.specs.Statuses.{stop_in};
 ghost use Rattle.hex_devices.specs.declared.ends.End.TheVariants.{Stopped};
@@ -28,7 +30,7 @@ pub fn serve<L: Link, F: Shelf, A: Archive, R: Threads + Sync, G: Gate + Sync>(
 ) -> End
     ensures usage { result ≡ End.Usage → AreRefused words.now }
     ensures well_formed { result ≢ End.Usage → result ≢ Stopped Memory
-        → AreWellFormed words.now }
+        → (options : Options) × WellFormed words.now options }
     ensures refused { AreRefused words.now
         → (result ≡ End.Usage) ⊎ (result ≡ Stopped Memory) }
     ensures untouched { AreRefused words.now → devices.new ≡ devices.old }
