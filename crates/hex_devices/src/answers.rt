@@ -50,7 +50,10 @@ pub fn answer_input<L: Link, R: InputReader>(
     ensures write_fault { RisesWith Stop.WriteFault
         (L.write_faults link.old) (L.write_faults link.new) result }
 {
-    let input = take_all(alloc, link, limit)?;
+    let input = match take_all(alloc, link, limit) {
+        Err(stop) => return Err(stop),
+        Ok(input) => input,
+    };
     let answer = reader.answer(alloc, &input)?;
     give_text(link, &answer.text)?;
     Ok(answer.accepted)
