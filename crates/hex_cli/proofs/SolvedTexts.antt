@@ -14,7 +14,7 @@ pub solved_by : (hsearch : Bool) (budget : ℕ) (p : Position) (mover : Colour) 
     → IsSolved hsearch budget p mover solved
 solved_by hsearch budget p mover (Won winner cert) wins won short unknown long open = (wins, won, short)
 solved_by hsearch budget p mover (Unknown spent own) wins won short unknown long open = unknown
-solved_by hsearch budget p mover (TooLong winner lines) wins won short unknown long open = (wins, long)
+solved_by hsearch budget p mover (TooLong winner lines) wins won short unknown long open = (wins, long.0, long.1, long.2)
 solved_by hsearch budget p mover (Open full) wins won short unknown long open = open
 
 pub solved_of_game : (hsearch : Bool) (budget : ℕ) (game : GameData) (p : Position) (mover : Colour) (solved : Solved) → p ≡ board_of game → mover ≡ next_mover game.steps → IsSolved hsearch budget p mover solved → IsSolved hsearch budget (board_of game) (next_mover game.steps) solved

@@ -8,6 +8,7 @@ use Rattle.hex_game.specs.Moves.{step_of}
 use Rattle.hex_game.specs.Games.{board_of, is_legal, is_over}
 use Rattle.hex_game.specs.declared.moves.Move.TheVariants.{Stone}
 use Rattle.hex_game.proofs.Over.{not_over}
+use Rattle.hex_plan.specs.Good.{IsGood}
 use Rattle.hex_plan.specs.Turns.{TurnData}
 use Rattle.hex_engine.specs.EngineState.{EngineState}
 use Rattle.hex_engine.specs.MoveReplies.{is_board, is_next}

@@ -3,6 +3,7 @@ use Rattle.std.specs.Prelude.{◌≡◌, ◌≤◌, ℕ, Bool, true, List, [], �
 use Rattle.hex_cells.specs.declared.colours.Colour.{Colour}
 use Rattle.hex_io.specs.Shelves.{Shelved}
 use Rattle.hex_io.specs.Told.{Both}
+use Rattle.hex_plan.specs.Good.{IsGood}
 use Rattle.hex_plan.specs.Turns.{TurnData}
 use Rattle.hex_engine.specs.EngineState.{EngineState}
 use Rattle.hex_engine.specs.LoadReplies.{loading}
