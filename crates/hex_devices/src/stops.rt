@@ -28,3 +28,13 @@ impl From<AllocError> for Stop {
         Stop::Memory
     }
 }
+
+impl From<hex_plan::Memory> for Stop {
+    ghost use Rattle.hex_devices.specs.declared.stops.Stop.{Stop};
+
+    ghost from_gives = { λ _ stop. stop ≡ Stop.Memory };
+
+    fn from(_refused: hex_plan::Memory) -> Stop {
+        Stop::Memory
+    }
+}
