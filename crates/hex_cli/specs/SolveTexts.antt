@@ -1,6 +1,6 @@
 -- What mode solve answers.
-use Rattle.std.specs.Prelude.{◌≡◌, ◌⊎◌, ◌-◌, ◌*◌, ◌<◌, ◌≤◌, ℕ, Bool, true, false, List, ◌++◌, Some, None, codes}
-use Rattle.std.specs.Prelude.{length}
+use Rattle.std.specs.Prelude.{◌≡◌, ◌⊎◌, ◌-◌, ◌*◌, ◌<◌, ◌≤◌, ℕ, Bool, true, false}
+use Rattle.std.specs.Prelude.{List, ◌++◌, Some, None, codes, length}
 use Rattle.std.specs.Fmt.{decimal}
 use Rattle.std.specs.List.{slice_get}
 use Rattle.std.specs.Option.{option_map_or}
@@ -43,11 +43,11 @@ CanBeWritten (TooLong winner lines) = Unit {0}
 CanBeWritten (Open full) = Unit {0}
 
 -- What the solver may answer, with connections or without and with this budget, of the position p
--- with `mover` to place. A winner wins, whatever the other does, and his certificate shows it;
--- without connections it has at most two lines for each position that the search needs. Or the
--- budget is spent, and the search needs more. Or the winner's certificate would have more lines than
--- one may have: more cells are empty than a few, and the search needs more than half as many
--- positions. Or the board can be filled so that nobody is joined.
+-- with `mover` to place. Who is told to win does, whatever the other does. His certificate shows it,
+-- and without connections it has at most two lines for each position that the search needs; or it
+-- would have more lines than one may have, and then more cells are empty than a few, and the search
+-- needs more than half as many positions. Where nobody is told, the budget is spent, and the search
+-- needs more; or a full board keeps the stones of p, and nobody is joined on it.
 abbrev pub IsSolved : Bool → ℕ → Position → Colour → Solved → Type 0
 IsSolved hsearch budget p mover (Won winner cert) = Wins winner p mover
     × Certifies p mover winner cert × (hsearch ≡ false → length cert.lines ≤ 2 * need p mover)

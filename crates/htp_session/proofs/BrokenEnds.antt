@@ -44,7 +44,7 @@ stops_at start all limit o n seen text ls raw others few kept split e going used
     let many : length (lines (since o n)) ≡ length ls + length (raw ∷ others) = ap length w ∙ length-append ls (raw ∷ others) in
     record {
       in_limit = omega arith;
-      m = length ls;
+      before = length ls;
       given = kept.given ∙ ap (λ l. o.given ++ l) (sym e) ∙ ap (λ l. o.given ++ (talk start all l).text) (sym front);
       going = ap (λ l. (talk start all l).ending) front ∙ going;
       used = ap (λ l. (talk start all l).left) front ∙ used;
@@ -74,5 +74,5 @@ end_unbegun start limit o =
     let same_length = ap length s in
     record {
       course = course_of start nothing_left o o [] [] kept;
-      ends = record { in_limit = omega arith; m = 0; given = sym (append-nil o.given); going = refl; used = refl; line = inr s };
+      ends = record { in_limit = omega arith; before = 0; given = sym (append-nil o.given); going = refl; used = refl; line = inr s };
     }

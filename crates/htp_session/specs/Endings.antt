@@ -68,16 +68,16 @@ pub record Unwritten (start : EngineState) (all : Supply) (limit : ℕ)
       × ((talk start all (lines (since old new))).text ≡ part ++ more)
       × (new.given ≡ old.given ++ part)
 
--- memory ran out at a line, or before the first read: the talk over the m lines before it was given,
+-- memory ran out at a line, or before the first read: the talk over the lines before it was given,
 -- which used up all, and a line more stands there unless nothing was taken
 pub record Unfinished (start : EngineState) (all : Supply) (limit : ℕ)
     (old new : Told) : Type 0 where
   pub in_limit : length (since old new) ≤ limit
-  pub m : ℕ
-  pub given : new.given ≡ old.given ++ (talk start all (take m (lines (since old new)))).text
-  pub going : (talk start all (take m (lines (since old new)))).ending ≡ Going
-  pub used : (talk start all (take m (lines (since old new)))).left ≡ nothing_left
-  pub line : (m < length (lines (since old new))) ⊎ (since old new ≡ [])
+  pub before : ℕ
+  pub given : new.given ≡ old.given ++ (talk start all (take before (lines (since old new)))).text
+  pub going : (talk start all (take before (lines (since old new)))).ending ≡ Going
+  pub used : (talk start all (take before (lines (since old new)))).left ≡ nothing_left
+  pub line : (before < length (lines (since old new))) ⊎ (since old new ≡ [])
 
 -- one byte more than the limit was taken: the talk over the whole lines up to the limit was given
 pub record Overlong (start : EngineState) (all : Supply) (limit : ℕ) (old new : Told) : Type 0 where

@@ -100,8 +100,8 @@ talk start left lines = fold with_line (talk_start start left) lines
 abbrev pub talk_to : EngineState → Supply → List ℕ → TalkState
 talk_to start all seen = talk start all (whole seen)
 
--- each line was answered, up to an answered quit, no request wanting what was not there, and all was
--- used up
+-- each line was answered, up to an answered quit, so no request wanted what was not there, and all
+-- was used up
 pub record IsThrough (s : TalkState) : Type 0 where
   pub answered : (missing : Missing) → s.ending ≢ Short missing
   pub used : s.left ≡ nothing_left
