@@ -1,16 +1,16 @@
 //! The modes that answer their whole input by one text.
 
 ghost use Rattle.hex_devices.specs.Devices.{CountsStop};
-ghost use Rattle.hex_cli.specs.Inputs.{IsTextOf};
+ghost use Rattle.hex_cli.specs.WholeInputs.{IsTextOf};
 ghost use Rattle.hex_cli.specs.Modes.{AnswersBy};
 ghost use Rattle.hex_cli.specs.Runs.{IsUnarchived, IsUnfetched};
 ghost use Rattle.hex_devices.specs.Statuses.{stop_in};
 ghost use Rattle.hex_cli.specs.declared.limits.TheConstants.{INPUT_LIMIT};
 
-use crate::audits::audit_answer;
-use crate::certificates::{check_answer, migrate_answer};
+use crate::audits::audit_traces;
+use crate::certificates::{check_certificate, migrate_certificate};
 use crate::limits::INPUT_LIMIT;
-use crate::solutions::solve_answer;
+use crate::solutions::solve_record;
 use hex_devices::{Devices, End, InputAnswer, InputReader, answer_input};
 use hex_io::{Link, Shelf};
 use hex_plan::Archive;
@@ -43,18 +43,18 @@ impl InputReader for InputMode {
 
     fn answer(&self, alloc: Global, input: &[u8]) -> Result<InputAnswer, AllocError> {
         match self {
-            InputMode::Check => check_answer(alloc, input),
-            InputMode::Migrate => migrate_answer(alloc, input),
-            InputMode::Audit => audit_answer(alloc, input),
+            InputMode::Check => check_certificate(alloc, input),
+            InputMode::Migrate => migrate_certificate(alloc, input),
+            InputMode::Audit => audit_traces(alloc, input),
             InputMode::Solve { hsearch, budget } => {
-                solve_answer(alloc, *hsearch, *budget, input)
+                solve_record(alloc, *hsearch, *budget, input)
             }
         }
     }
 }
 
 /// Takes the whole input of the link, and gives the text that answers it.
-pub fn answer<L: Link, F: Shelf, A: Archive, R: Threads + Sync, G: Gate + Sync>(
+pub fn serve_input<L: Link, F: Shelf, A: Archive, R: Threads + Sync, G: Gate + Sync>(
     alloc: Global,
     mode: InputMode,
     devices: &mut Devices<'_, '_, '_, '_, L, F, A, R, G>,

@@ -3,8 +3,8 @@ use Rattle.hex_devices.specs.Inputs.{TextOf}
 use Rattle.hex_cli.specs.AuditTexts.{IsAuditText}
 use Rattle.hex_cli.specs.CertTexts.{IsCheckText, IsMigrateText}
 use Rattle.hex_cli.specs.SolveTexts.{IsSolveText}
-use Rattle.hex_cli.specs.declared.inputs.InputMode.{InputMode}
-use Rattle.hex_cli.specs.declared.inputs.InputMode.TheVariants.{Check, Migrate, Audit, Solve}
+use Rattle.hex_cli.specs.declared.whole_inputs.InputMode.{InputMode}
+use Rattle.hex_cli.specs.declared.whole_inputs.InputMode.TheVariants.{Check, Migrate, Audit, Solve}
 
 -- the texts of each
 abbrev pub IsTextOf : InputMode → TextOf
