@@ -48,7 +48,7 @@ pub record IsSolved (hsearch : Bool) (budget : ℕ) (p : Position) (mover : Colo
   pub won : WonIsCertified p mover solved
   pub short : WonIsShort p mover hsearch solved
   pub unknown : UnknownNeedsMore p mover hsearch budget solved
-  pub too_long : TooLongNeedsMany p mover solved
+  pub too_long : TooLongNeedsMany p mover hsearch budget solved
   pub full : OpenIsFull p solved
 
 -- a player is joined on the game's board, and the text says who
