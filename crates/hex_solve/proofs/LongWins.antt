@@ -1,5 +1,5 @@
 -- What is told where the lines of the search with connections are too many for a certificate.
-use Rattle.std.proofs.Common.{◌≡◌, ℕ, ◌+◌, ◌-◌, ◌*◌, ◌<◌, ◌≤◌, true, false, Option, inl, inr, sym, ◌∙◌, ap, subst, arith}
+use Rattle.std.proofs.Common.{◌≡◌, ℕ, ◌+◌, ◌-◌, ◌*◌, ◌<◌, ◌≤◌, true, false, Option, Some, inl, inr, sym, ◌∙◌, ap, subst, arith}
 use Rattle.std.proofs.lemmas.Bool.{cases_lt, false_from_ne_true}
 use Rattle.hex_cells.specs.Sets.{has, members}
 use Rattle.hex_cells.specs.declared.colours.Colour.{Colour}
@@ -10,6 +10,8 @@ use Rattle.hex_board.specs.Wins.{Wins, empty_count}
 use Rattle.conn_store.specs.Stores.{StoreData}
 use Rattle.win_cert.specs.declared.certs.TheConstants.{MOST_LINES}
 use Rattle.hex_solve.specs.Deciding.{need}
+use Rattle.std.specs.Option.{IfSome}
+use Rattle.hex_solve.specs.Strong.{IsStrongAnswer}
 use Rattle.hex_solve.specs.Telling.{IsAnswer, IsLong, IsPlainAnswer, IsTooLong}
 use Rattle.hex_solve.specs.declared.answers.Solved.{Solved}
 use Rattle.hex_solve.specs.declared.answers.Solved.TheVariants.{Won, Unknown, TooLong, Open}
@@ -40,3 +42,7 @@ pub unknown_long : (p : Position) (mover winner : Colour) (own left : Option Sto
 unknown_long p mover winner own left budget spent lines cells plain e l f n w h =
     let t : IsPlainAnswer p mover own budget (Unknown spent left) = subst (λ (x : Solved). IsPlainAnswer p mover own budget x) e h in
     record { wins = w; long = l; large = many_empty p cells f n; needs = inr t.1 }
+
+-- a winner without a certificate wins
+pub strong_wins : (p : Position) (mover winner : Colour) (lines : ℕ) (o : Option Solved) (s : Solved) → o ≡ Some s → s ≡ TooLong winner lines → IfSome o (IsStrongAnswer p mover) → Wins winner p mover
+strong_wins p mover winner lines o s e f h = (subst (λ (x : Solved). IsStrongAnswer p mover x) f (subst (λ (x : Option Solved). IfSome x (IsStrongAnswer p mover)) e h)).0
