@@ -108,7 +108,6 @@ chosen_answer p old new d numbers sets lines replies union w h = record {
   few = let e : length lines ≡ length numbers = h.count in let m : length numbers + members replies 121 ≤ 121 = w.few in omega arith;
 }
 
-
 -- what one of the lines shows
 pub wins_at : (d : LedgerData) (p : Position) (numbers sets : List ℕ) (j i c : ℕ) → AreWins d p numbers sets → slice_get numbers j ≡ Some i → slice_get sets j ≡ Some c → ShowsIn d p Semi c i
 wins_at d p [] [] j i c f g h = absurd (cc)

@@ -173,4 +173,3 @@ trying_on p mover own start other next most left rest numbers cells k i w h n l 
 
     longer_by : (x y s n t : ℕ) → x ≤ y + t → y ≤ s + n * t → x ≤ s + (n + 1) * t
     longer_by x y s n t l m = grind arith
-

@@ -14,9 +14,13 @@ const BUCKETS: usize = 32_768;
 const NOWHERE: u32 = u32::MAX;
 // At most so many places of a bucket are looked at.
 const MOST_STEPS: usize = 64;
+
 const LOW_FACTOR: u64 = 0x9E37_79B9_7F4A_7C15;
+
 const HIGH_FACTOR: u64 = 0xC2B2_AE3D_27D4_EB4F;
+
 const HIGH_BITS: u32 = 64;
+
 const BUCKET_SHIFT: u32 = 49;
 
 /// Makes the buckets, where there are none.

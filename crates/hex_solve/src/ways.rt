@@ -123,12 +123,7 @@ fn cut_threats(alloc: Global, board: &Board, other: &mut Ledger) -> Result<Ways,
 }
 
 // The entries that were chosen, with these numbers of their lines, which are kept in mind.
-fn kept(
-    board: &Board,
-    other: &mut Ledger,
-    chosen: &Chosen,
-    numbers: Vec<u32>,
-) -> Result<Ways, Stop>
+fn kept(board: &Board, other: &mut Ledger, chosen: &Chosen, numbers: Vec<u32>) -> Result<Ways, Stop>
     requires wins { AreWins other.old board.now numbers.items chosen.now.carriers.items }
     requires but { AnswerBut board.now other.old numbers.items chosen.now.replies
         chosen.now.union }
@@ -191,12 +186,7 @@ fn narrowed(board: &Board, other: &Ledger, found: Ways) -> Result<Ways, Stop>
 
 // The entries that are taken as threats: each time that which leaves fewest replies, as long as one
 // takes some away; and the replies that they leave.
-fn chosen_of(
-    alloc: Global,
-    board: &Board,
-    store: &Store,
-    semi: &Held,
-) -> Result<Chosen, AllocError>
+fn chosen_of(alloc: Global, board: &Board, store: &Store, semi: &Held) -> Result<Chosen, AllocError>
     requires few { semi.now.count ≤ 6 }
     requires numbers { AreEdgeNumbers store.now Kind.Semi semi.now }
     ensures { IfOk result (λ chosen. IsChosen board.now store.now chosen.numbers.items
