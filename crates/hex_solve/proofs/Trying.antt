@@ -17,13 +17,14 @@ use Rattle.hex_cells.proofs.Counts.{members_few, members_less, members_test}
 use Rattle.conn_store.proofs.Sureness.{in_without, without_inside, without_itself}
 use Rattle.conn_store.specs.declared.entries.Kind.TheVariants.{Semi}
 use Rattle.win_cert.proofs.CutDerivations.{longer}
+use Rattle.hex_solve.proofs.FirstWins.{less_suc}
 use Rattle.hex_solve.specs.Deciding.{first, is_for, need, sum_up_to}
 use Rattle.hex_solve.specs.Ledgers.{AreAnswers, GrowsBy, IsAmong, LedgerData, ShowsWin, count_of}
 use Rattle.hex_solve.specs.Searching.{IsSearched, tree_lines}
 use Rattle.win_cert.specs.Showing.{Keeps}
 use Rattle.hex_solve.proofs.FirstWins.{other_back}
 use Rattle.hex_solve.proofs.LedgerLaws.{grows_none, grows_on}
-use Rattle.hex_solve.proofs.NextNeed.{need_after, need_next, wins_by}
+use Rattle.hex_solve.proofs.NextNeed.{for_other, need_after, need_next, wins_by}
 use Rattle.hex_solve.proofs.Sums.{sum_cells, sum_least}
 use Rattle.win_cert.proofs.Reaching.{keeps_on}
 use Rattle.hex_solve.proofs.Growing.{among_left, among_last, answers_more, answers_on, grows_wider}
@@ -88,14 +89,6 @@ trying_begun p mover own other left cells k s a h e =
     told : (n l x y : ℕ) → n ≡ 1 + x → x ≡ y → n + l ≡ l + 1 + y
     told n l x y q r = omega arith
 
-pub not_won : (c : Colour) → is_for c (Some (other_of c)) ≡ false
-not_won Black = refl
-not_won White = refl
-
-pub won_by : (c : Colour) → is_for c (Some c) ≡ true
-won_by Black = refl
-won_by White = refl
-
 pub picked_no : (t : Bool) (x y : ℕ) → t ≡ false → (if t then x else x + y) ≡ x + y
 picked_no true x y h = absurd (true≢false h)
 picked_no false x y h = refl
@@ -121,7 +114,7 @@ trying_on p mover own start other next most left rest numbers cells k i w h n l 
     let here : is_empty_at p k ≡ true = w.inside k h in
     let m : ℕ = need q (other_of mover) in
     let fell : sum_up_to (has cells) (wins_by p mover) (need_after p mover) (cells_of p.size) ≡ m + sum_up_to (has (without_cell cells k)) (wins_by p mover) (need_after p mover) (cells_of p.size) =
-    sum_here p mover cells k here h n ∙ picked_no (wins_by p mover k) m _ (ap (is_for mover) f ∙ not_won mover) in
+    sum_here p mover cells k here h n ∙ picked_no (wins_by p mover k) m _ (ap (is_for mover) f ∙ for_other mover) in
     let player : other_of next.base.player ≡ mover = ap (λ (b : PlayerBoard). other_of b.player) g.base ∙ (ap other_of w.searched.other_player ∙ other_back mover) in
     record {
       searched = record {
@@ -180,6 +173,3 @@ trying_on p mover own start other next most left rest numbers cells k i w h n l 
 
     longer_by : (x y s n t : ℕ) → x ≤ y + t → y ≤ s + n * t → x ≤ s + (n + 1) * t
     longer_by x y s n t l m = grind arith
-
-    less_suc : (a b : ℕ) → suc a ≡ suc b → a ≡ b
-    less_suc a b e = omega arith

@@ -1,5 +1,5 @@
 -- What the solver tells of a position p with `mover` to place next: a clause for each answer.
-use Rattle.std.specs.Prelude.{◌≡◌, ℕ, ◌*◌, ◌<◌, ◌≤◌, Bool, true, false, Option, Some, None, length}
+use Rattle.std.specs.Prelude.{◌≡◌, ℕ, ◌*◌, ◌<◌, ◌≤◌, ◌⊎◌, Bool, true, false, Option, Some, None, length}
 use Rattle.std.specs.Prelude.{if◌then◌else◌}
 use Rattle.hex_cells.specs.Colours.{is_same}
 use Rattle.hex_cells.specs.declared.colours.Colour.{Colour}
@@ -61,14 +61,19 @@ WonIsShort p mover hsearch (Open full) = Unit {0}
 abbrev pub few_cells : ℕ
 few_cells = 9
 
+-- with connections, the search without them needs more than the budget
+abbrev pub IsBeyond : Position → Colour → Bool → ℕ → Type 0
+IsBeyond p mover hsearch budget = (hsearch ≡ true) × (budget < need p mover)
+
 -- the winner's certificate had more lines than one may have: more cells are empty than a few, and
--- the search needs more than half as many positions
-abbrev pub TooLongNeedsMany : Position → Colour → Solved → Type 0
-TooLongNeedsMany p mover (Won winner cert) = Unit {0}
-TooLongNeedsMany p mover (Unknown spent own) = Unit {0}
-TooLongNeedsMany p mover (TooLong winner lines) =
-    (MOST_LINES < lines) × (few_cells < empty_count p) × (MOST_LINES < 2 * need p mover)
-TooLongNeedsMany p mover (Open full) = Unit {0}
+-- the search without connections needs more than half as many positions, or more than the budget
+abbrev pub TooLongNeedsMany : Position → Colour → Bool → ℕ → Solved → Type 0
+TooLongNeedsMany p mover hsearch budget (Won winner cert) = Unit {0}
+TooLongNeedsMany p mover hsearch budget (Unknown spent own) = Unit {0}
+TooLongNeedsMany p mover hsearch budget (TooLong winner lines) =
+    (MOST_LINES < lines) × (few_cells < empty_count p)
+    × ((MOST_LINES < 2 * need p mover) ⊎ IsBeyond p mover hsearch budget)
+TooLongNeedsMany p mover hsearch budget (Open full) = Unit {0}
 
 -- ---- none
 

@@ -1,6 +1,6 @@
 -- What the search without connections leaves at its end, and what it tells. Only private clauses
 -- cite this.
-use Rattle.std.specs.Prelude.{◌≡◌, ℕ, ◌*◌, ◌<◌, ◌≤◌, Option, Some, length}
+use Rattle.std.specs.Prelude.{◌≡◌, ℕ, ◌*◌, ◌<◌, ◌≤◌, ◌⊎◌, Option, Some, length}
 use Rattle.hex_cells.specs.declared.colours.Colour.{Colour}
 use Rattle.hex_board.specs.Positions.{Position}
 use Rattle.hex_board.specs.Wins.{Wins, empty_count}
@@ -57,10 +57,18 @@ IsPlainAnswer p mover own budget (Unknown spent left) =
 IsPlainAnswer p mover own budget (TooLong winner lines) = IsTooLong p mover winner lines
 IsPlainAnswer p mover own budget (Open full) = IsOpen p full
 
--- the same, of a certificate of any length
+-- the winner wins p, and his certificate has too many lines: the search without connections needs
+-- many positions, or more than the budget
+pub record IsLong (p : Position) (mover winner : Colour) (budget lines : ℕ) : Type 0 where
+  pub wins : Wins winner p mover
+  pub long : MOST_LINES < lines
+  pub large : few_cells < empty_count p
+  pub needs : (MOST_LINES < 2 * need p mover) ⊎ (budget < need p mover)
+
+-- the same with connections, of a certificate of any length
 abbrev pub IsAnswer : Position → Colour → Option StoreData → ℕ → Solved → Type 0
 IsAnswer p mover own budget (Won winner cert) = IsCertifiedWin p mover winner cert
 IsAnswer p mover own budget (Unknown spent left) =
     (spent ≡ budget) × (budget < need p mover) × (left ≡ own)
-IsAnswer p mover own budget (TooLong winner lines) = IsTooLong p mover winner lines
+IsAnswer p mover own budget (TooLong winner lines) = IsLong p mover winner budget lines
 IsAnswer p mover own budget (Open full) = IsOpen p full

@@ -29,7 +29,11 @@
 
 mod adding;
 mod answers;
+mod buckets;
 mod cuts;
+mod keeping;
+mod knowing;
+mod known;
 mod laws;
 mod ledgers;
 mod order;

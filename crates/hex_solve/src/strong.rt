@@ -8,6 +8,7 @@ ghost use Rattle.hex_cells.specs.Colours.{other_of};
 ghost use Rattle.hex_solve.specs.Searching.{IsSearched};
 ghost use Rattle.hex_solve.specs.Strong.{IsWon};
 
+use super::keeping::{add_answers, add_joined, add_stone, known_entry};
 use super::ledgers::Ledger;
 use super::order::{keys_of, pick};
 use super::searching::Stop;
@@ -44,15 +45,12 @@ pub(crate) fn decide(
         return Err(Stop::Spent);
     }
     *left -= 1;
+    match known_entry(board, own, other) {
+        Some(shown) => return Ok(shown),
+        None => {}
+    }
     if board.joined(mover.other()) {
-        let Ok(line) = other.add_done(board) else {
-            return Err(Stop::Memory);
-        };
-        return Ok(Shown {
-            by_mover: false,
-            line,
-            carrier: CellSet::none(),
-        });
+        return add_joined(board, other);
     }
     let Some(_room) = board.empties().least() else {
         return Err(Stop::Open(*board));
@@ -85,7 +83,7 @@ fn replies(
         Ok(ways) => ways,
         Err(stop) => return Err(stop),
     };
-    let keys = match keys_of(alloc, board, mover, ways.replies) {
+    let keys = match keys_of(alloc, board, own, ways.replies) {
         Ok(keys) => keys,
         Err(stop) => return Err(stop),
     };
@@ -100,14 +98,7 @@ fn replies(
         };
         if !shown.by_mover {
             other.back(mark);
-            let Ok(line) = own.add_move(board, cell, shown.line) else {
-                return Err(Stop::Memory);
-            };
-            return Ok(Shown {
-                by_mover: true,
-                line,
-                carrier: shown.carrier.with(cell),
-            });
+            return add_stone(board, own, cell, shown);
         }
         // What answers the stone also answers each reply outside its carrier.
         let carrier = shown.carrier.without(cell);
@@ -117,13 +108,5 @@ fn replies(
         ways.replies = ways.replies.meet(carrier);
         ways.union = ways.union.union(carrier);
     }
-    let union = ways.union;
-    let Ok(line) = other.add_ways(board, ways.numbers, union) else {
-        return Err(Stop::Memory);
-    };
-    Ok(Shown {
-        by_mover: false,
-        line,
-        carrier: union,
-    })
+    add_answers(board, other, ways)
 }
