@@ -43,11 +43,11 @@ CanBeWritten (TooLong winner lines) = Unit {0}
 CanBeWritten (Open full) = Unit {0}
 
 -- What the solver may answer, with connections or without and with this budget, of the position p
--- with `mover` to place. Who is told to win does, whatever the other does. His certificate shows it,
--- and without connections it has at most two lines for each position that the search needs; or it
--- would have more lines than one may have, and then more cells are empty than a few, and the search
--- needs more than half as many positions. Where nobody is told, the budget is spent, and the search
--- needs more; or a full board keeps the stones of p, and nobody is joined on it.
+-- with `mover` to place. Who is told to win does, whatever the other does. His certificate shows
+-- it, and without connections it has at most two lines for each position that the search needs; or
+-- it would have more lines than one may have, and then more cells are empty than a few, and the
+-- search needs more than half as many positions. Where nobody is told to win, the budget is spent,
+-- and the search needs more; or a full board keeps the stones of p, and nobody is joined on it.
 abbrev pub IsSolved : Bool → ℕ → Position → Colour → Solved → Type 0
 IsSolved hsearch budget p mover (Won winner cert) = Wins winner p mover
     × Certifies p mover winner cert × (hsearch ≡ false → length cert.lines ≤ 2 * need p mover)
