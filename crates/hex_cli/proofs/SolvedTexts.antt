@@ -12,10 +12,10 @@ use Rattle.hex_cli.specs.SolveTexts.{IsSolved, next_mover}
 pub solved_by : (hsearch : Bool) (budget : ℕ) (p : Position) (mover : Colour) (solved : Solved)
     → WinnerWins p mover solved → WonIsCertified p mover solved → WonIsShort p mover hsearch solved → UnknownNeedsMore p mover hsearch budget solved → TooLongNeedsMany p mover hsearch budget solved → OpenIsFull p solved
     → IsSolved hsearch budget p mover solved
-solved_by hsearch budget p mover (Won winner cert) wins won short unknown long open = (wins, won, short)
-solved_by hsearch budget p mover (Unknown spent own) wins won short unknown long open = unknown
-solved_by hsearch budget p mover (TooLong winner lines) wins won short unknown long open = (wins, long.0, long.1, long.2)
-solved_by hsearch budget p mover (Open full) wins won short unknown long open = open
+solved_by hsearch budget p mover (Won winner cert) wins won short unknown long filled = (wins, won, short)
+solved_by hsearch budget p mover (Unknown spent own) wins won short unknown long filled = unknown
+solved_by hsearch budget p mover (TooLong winner lines) wins won short unknown long filled = (wins, long.0, long.1, long.2)
+solved_by hsearch budget p mover (Open full) wins won short unknown long filled = filled
 
 pub solved_of_game : (hsearch : Bool) (budget : ℕ) (game : GameData) (p : Position) (mover : Colour) (solved : Solved) → p ≡ board_of game → mover ≡ next_mover game.steps → IsSolved hsearch budget p mover solved → IsSolved hsearch budget (board_of game) (next_mover game.steps) solved
 solved_of_game hsearch budget game p mover solved board next s =

@@ -47,8 +47,8 @@ CanBeWritten (Open full) = Unit {0}
 -- it, and without connections it has at most two lines for each position that the search needs; or
 -- it would have more lines than one may have, and then more cells are empty than a few, and the
 -- search without connections needs more than half as many positions, or, with connections, more
--- than the budget. Where nobody is told, the budget is spent, and the search needs more; or a full
--- board keeps the stones of p, and nobody is joined on it.
+-- than the budget. Where nobody is told to win, the budget is spent, and the search needs more; or a
+-- full board keeps the stones of p, and nobody is joined on it.
 abbrev pub IsSolved : Bool → ℕ → Position → Colour → Solved → Type 0
 IsSolved hsearch budget p mover (Won winner cert) = Wins winner p mover
     × Certifies p mover winner cert × (hsearch ≡ false → length cert.lines ≤ 2 * need p mover)
