@@ -17,7 +17,7 @@ use Rattle.win_cert.specs.Cuts.{AreEdgeNumbers, IsEdgeEntryAt}
 use Rattle.win_cert.proofs.CutDerivations.{longer}
 use Rattle.win_cert.specs.Showing.{Keeps}
 use Rattle.hex_solve.specs.Ledgers.{LedgerData}
-use Rattle.hex_solve.specs.Strong.{AnswerBut, AreSemi, AreWins, HasGrown, HasSemiAt, IsChosen, IsOneOf, ShowsCuts, ShowsIn}
+use Rattle.hex_solve.specs.Strong.{AnswerBut, AreSemi, AreWins, HasGrown, HasSemiAt, AreThreatsChosen, IsOneOf, ShowsCuts, ShowsIn}
 use Rattle.hex_solve.proofs.Narrowing.{fewer_left, in_first, grows_not, inside_more, missed_on, narrowed_on, wins_on}
 
 pub numbered : (d : StoreData) (h : Held) (n : ℕ) → AreEdgeNumbers d Semi h → IsOneOf h n → HasSemiAt d n
@@ -71,24 +71,24 @@ player_grown p d e s (a, g) q = q ∙ ap (λ (b : PlayerBoard). record { board =
 
 -- an entry more that takes some reply away
 pub entry_chosen : (p : Position) (d : StoreData) (n : ℕ) (xs : List Entry) (x : Entry) (numbers more sets others : List ℕ) (replies fewer union wider : ℕ) → xs ≡ d.entries → HasSemiAt d n
-    → IsChosen p d numbers sets replies union → more ≡ numbers ++ n ∷ [] → others ≡ sets ++ (get_or xs n x).carrier ∷ [] → fewer ≡ bit_and replies (get_or xs n x).carrier → wider ≡ bit_or union (get_or xs n x).carrier
-    → members fewer 121 < members replies 121 → IsChosen p d more others fewer wider
+    → AreThreatsChosen p d numbers sets replies union → more ≡ numbers ++ n ∷ [] → others ≡ sets ++ (get_or xs n x).carrier ∷ [] → fewer ≡ bit_and replies (get_or xs n x).carrier → wider ≡ bit_or union (get_or xs n x).carrier
+    → members fewer 121 < members replies 121 → AreThreatsChosen p d more others fewer wider
 entry_chosen p d n xs x numbers more sets others replies fewer union wider e s w a t b c l =
     let u = (get_or xs n x).carrier in
     let less : members (bit_and replies u) 121 < members replies 121 = subst (λ v. members v 121 < members replies 121) b l in
-    let r : IsChosen p d (numbers ++ n ∷ []) (sets ++ u ∷ []) (bit_and replies u) (bit_or union u) = record {
+    let r : AreThreatsChosen p d (numbers ++ n ∷ []) (sets ++ u ∷ []) (bit_and replies u) (bit_or union u) = record {
       entries = semi_more d numbers sets n u w.entries (semi_here d n xs x e s);
       missed = missed_on p replies u sets w.missed;
       left = λ k h. w.left k (in_first replies u k h);
       inside = inside_more sets union u w.inside;
       few = fewer_left (length numbers) (members replies 121) (members (bit_and replies u) 121) (length (numbers ++ n ∷ [])) w.few less (longer numbers n);
     } in
-    subst (λ v. IsChosen p d more others fewer v) (sym c) (subst (λ v. IsChosen p d more others v (bit_or union u)) (sym b)
-    (subst (λ v. IsChosen p d more v (bit_and replies u) (bit_or union u)) (sym t) (subst (λ v. IsChosen p d v (sets ++ u ∷ []) (bit_and replies u) (bit_or union u)) (sym a) r)))
+    subst (λ v. AreThreatsChosen p d more others fewer v) (sym c) (subst (λ v. AreThreatsChosen p d more others v (bit_or union u)) (sym b)
+    (subst (λ v. AreThreatsChosen p d more v (bit_and replies u) (bit_or union u)) (sym t) (subst (λ v. AreThreatsChosen p d v (sets ++ u ∷ []) (bit_and replies u) (bit_or union u)) (sym a) r)))
 
-pub none_chosen : (p : Position) (d : StoreData) (numbers sets : List ℕ) (cells union : ℕ) → numbers ≡ [] → sets ≡ [] → union ≡ 0 → ((k : ℕ) → has cells k ≡ is_empty_at p k) → IsChosen p d numbers sets cells union
+pub none_chosen : (p : Position) (d : StoreData) (numbers sets : List ℕ) (cells union : ℕ) → numbers ≡ [] → sets ≡ [] → union ≡ 0 → ((k : ℕ) → has cells k ≡ is_empty_at p k) → AreThreatsChosen p d numbers sets cells union
 none_chosen p d numbers sets cells union a t b e =
-    subst (λ xs. IsChosen p d xs sets cells union) (sym a) (subst (λ xs. IsChosen p d [] xs cells union) (sym t) (subst (λ v. IsChosen p d [] [] cells v) (sym b) (record {
+    subst (λ xs. AreThreatsChosen p d xs sets cells union) (sym a) (subst (λ xs. AreThreatsChosen p d [] xs cells union) (sym t) (subst (λ v. AreThreatsChosen p d [] [] cells v) (sym b) (record {
       entries = tt;
       missed = λ k h. inl (e k ∙ h);
       left = λ k h. sym (e k) ∙ h;
@@ -97,7 +97,7 @@ none_chosen p d numbers sets cells union a t b e =
     })))
 
 -- the lines of the entries answer what these do
-pub chosen_answer : (p : Position) (old new : LedgerData) (d : StoreData) (numbers sets lines : List ℕ) (replies union : ℕ) → IsChosen p d numbers sets replies union → ShowsCuts old new p d numbers lines
+pub chosen_answer : (p : Position) (old new : LedgerData) (d : StoreData) (numbers sets lines : List ℕ) (replies union : ℕ) → AreThreatsChosen p d numbers sets replies union → ShowsCuts old new p d numbers lines
     → AnswerBut p new lines replies union
 chosen_answer p old new d numbers sets lines replies union w h = record {
   sets = sets;

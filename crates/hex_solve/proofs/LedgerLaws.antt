@@ -6,7 +6,7 @@ use Rattle.win_cert.specs.Writable.{IsLineOf}
 use Rattle.win_cert.specs.declared.certs.TheConstants.{LATEST_VERSION}
 use Rattle.win_cert.specs.declared.lines.Line.{Line}
 use Rattle.win_cert.proofs.CutDerivations.{longer}
-use Rattle.hex_solve.specs.Ledgers.{GrowsBy, IsKnown, IsLedger, LedgerData, MayFollow, read_of, with_line}
+use Rattle.hex_solve.specs.Ledgers.{GrowsBy, IsKnown, IsLedger, LedgerData, MayStandNext, read_of, with_one_line}
 use Rattle.hex_solve.specs.declared.known.Known.{Known}
 use Rattle.hex_solve.proofs.KnownLines.{all_known, all_more, nothing_more}
 use Rattle.win_cert.specs.Contexts.{context_after, first_context}
@@ -20,10 +20,10 @@ stored d line = record { base = d.base; room = d.room; lines = d.lines ++ line �
 abbrev counted_on : LedgerData → LedgerData
 counted_on d = record { base = d.base; room = d.room; lines = d.lines; lost = min (d.lost + 1) (2 ^ 64 - 1); known = d.known }
 
-pub with_room : (d : LedgerData) (line : Line) → length d.lines < d.room → with_line d line ≡ stored d line
+pub with_room : (d : LedgerData) (line : Line) → length d.lines < d.room → with_one_line d line ≡ stored d line
 with_room d line l = ap (λ b. if b then stored d line else counted_on d) (lt-ltb (length d.lines) d.room l)
 
-pub no_room : (d : LedgerData) (line : Line) → d.room ≤ length d.lines → with_line d line ≡ counted_on d
+pub no_room : (d : LedgerData) (line : Line) → d.room ≤ length d.lines → with_one_line d line ≡ counted_on d
 no_room d line l = ap (λ b. if b then stored d line else counted_on d) (le-ltb (length d.lines) d.room l)
 
 rises : (x : ℕ) → x < 2 ^ 64 → (x ≤ min (x + 1) (2 ^ 64 - 1)) × (min (x + 1) (2 ^ 64 - 1) ≤ x + 1)
@@ -33,7 +33,7 @@ rises x l = (omega arith, omega arith)
 abbrev pub IsSmall : LedgerData → Type 0
 IsSmall d = d.lost < 2 ^ 64
 
-pub small_on : (d : LedgerData) (line : Line) → IsSmall d → IsSmall (with_line d line)
+pub small_on : (d : LedgerData) (line : Line) → IsSmall d → IsSmall (with_one_line d line)
 small_on d line w = elim (cases_lt (length d.lines) d.room) [
   | inl l ↦ subst IsSmall (sym (with_room d line l)) w
   | inr l ↦ subst IsSmall (sym (no_room d line l)) (below d.lost)
@@ -54,7 +54,7 @@ grows_stored d line = record {
   known = nothing_more d.known;
 }
 
-pub grows_one : (d : LedgerData) (line : Line) → IsSmall d → GrowsBy 1 d (with_line d line)
+pub grows_one : (d : LedgerData) (line : Line) → IsSmall d → GrowsBy 1 d (with_one_line d line)
 grows_one d line w = elim (cases_lt (length d.lines) d.room) [
   | inl l ↦ subst (λ e. GrowsBy 1 d e) (sym (with_room d line l)) (grows_stored d line)
   | inr l ↦
@@ -97,13 +97,13 @@ not_lost : (x : ℕ) → min (x + 1) (2 ^ 64 - 1) ≡ 0 → ⊥
 not_lost x e = absurd (omega arith)
 
 -- where nothing was lost there was room
-pub had_room : (d : LedgerData) (line : Line) → (with_line d line).lost ≡ 0 → (length d.lines < d.room) × (d.lost ≡ 0)
+pub had_room : (d : LedgerData) (line : Line) → (with_one_line d line).lost ≡ 0 → (length d.lines < d.room) × (d.lost ≡ 0)
 had_room d line h = elim (cases_lt (length d.lines) d.room) [
   | inl l ↦ (l, sym (ap (λ (e : LedgerData). e.lost) (with_room d line l)) ∙ h)
   | inr l ↦ absurd (not_lost d.lost (sym (ap (λ (e : LedgerData). e.lost) (no_room d line l)) ∙ h))
 ]
 
-pub read_next : (d : LedgerData) (line : Line) → length d.lines < d.room → read_of (with_line d line) ≡ context_after (read_of d) line
+pub read_next : (d : LedgerData) (line : Line) → length d.lines < d.room → read_of (with_one_line d line) ≡ context_after (read_of d) line
 read_next d line l = ap read_of (with_room d line l) ∙ after_append (first_context d.base.board d.base.player) d.lines (line ∷ [])
 
 pub number_next : (d : LedgerData) → length (read_of d).earlier ≡ length d.lines
@@ -113,7 +113,7 @@ pub base_of : (d : LedgerData) → (read_of d).base ≡ d.base
 base_of d = base_after (first_context d.base.board d.base.player) d.lines
 
 -- a ledger stays one
-pub ledger_more : (d : LedgerData) (line : Line) → IsLedger d → length d.lines < d.room → MayFollow d line → IsLedger (stored d line)
+pub ledger_more : (d : LedgerData) (line : Line) → IsLedger d → length d.lines < d.room → MayStandNext d line → IsLedger (stored d line)
 ledger_more d line w l m = record {
   clear = clear_append (first_context d.base.board d.base.player) d.lines (line ∷ []) w.clear (m.0, tt);
   form = all_more (IsLineOf LATEST_VERSION d.base.board.size) d.lines line w.form m.1;
@@ -143,8 +143,8 @@ ledger_lost d w l = record {
 
 -- ---- as the code goes
 
-pub ledger_added : (d e : LedgerData) (line : Line) (xs : List Line) → e ≡ d → IsLedger e → (length d.lines < d.room → MayFollow d line) → length e.lines < e.room → xs ≡ e.lines ++ line ∷ []
+pub ledger_added : (d e : LedgerData) (line : Line) (xs : List Line) → e ≡ d → IsLedger e → (length d.lines < d.room → MayStandNext d line) → length e.lines < e.room → xs ≡ e.lines ++ line ∷ []
     → IsLedger (record { base = e.base; room = e.room; lines = xs; lost = e.lost; known = e.known })
 ledger_added d e line xs q w f l h =
-    let may : MayFollow e line = subst (λ (v : LedgerData). length v.lines < v.room → MayFollow v line) (sym q) f l in
+    let may : MayStandNext e line = subst (λ (v : LedgerData). length v.lines < v.room → MayStandNext v line) (sym q) f l in
     subst (λ (ys : List Line). IsLedger (record { base = e.base; room = e.room; lines = ys; lost = e.lost; known = e.known })) (sym h) (ledger_more e line w l may)

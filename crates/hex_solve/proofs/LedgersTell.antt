@@ -24,9 +24,9 @@ use Rattle.hex_solve.specs.Deciding.{need}
 use Rattle.hex_solve.specs.declared.known.TheConstants.{LEDGER_LINES}
 use Rattle.hex_solve.specs.Ledgers.{IsLedger, LedgerData, ShowsWin, count_of, read_of}
 use Rattle.hex_solve.specs.Solved.{claim_for, few_cells}
-use Rattle.hex_solve.specs.Searching.{IsShown, tree_lines}
+use Rattle.hex_solve.specs.Searching.{IsShownBy, tree_lines}
 use Rattle.win_cert.specs.Showing.{GivesEdges, Shows, scope_of}
-use Rattle.hex_solve.specs.Telling.{IsCertOf, IsCertifiedWin, IsToldBy, IsTooLong}
+use Rattle.hex_solve.specs.Telling.{IsCertOf, IsCertifiedWinner, IsToldBy, IsOverlong}
 use Rattle.win_cert.proofs.Accepting.{accepted}
 use Rattle.hex_solve.proofs.AddedLines.{shown_below}
 use Rattle.hex_solve.proofs.FirstWins.{first_wins}
@@ -106,7 +106,7 @@ wins_long p mover winner claim line d t e w z on law =
 -- ---- what is told
 
 pub won_told : (p : Position) (mover : Colour) (claim : Kind) (line : ℕ) (d : LedgerData) (cert : Cert) (winner : Colour) → IsToldBy p mover claim line d → IsCertOf d claim cert → winner ≡ d.base.player
-    → IsCertifiedWin p mover winner cert × (length cert.lines ≤ 2 * need p mover)
+    → IsCertifiedWinner p mover winner cert × (length cert.lines ≤ 2 * need p mover)
 won_told p mover claim line d cert winner t c w = (
   record {
     certified = record {
@@ -131,7 +131,7 @@ over_nine p claim n l m = elim (cases_lt 9 (empty_count p)) [
 ]
 
 pub long_told : (p : Position) (mover : Colour) (claim : Kind) (line : ℕ) (d : LedgerData) (winner : Colour) (lines : ℕ) → IsToldBy p mover claim line d → winner ≡ d.base.player → MOST_LINES < count_of d → MOST_LINES < lines
-    → IsTooLong p mover winner lines
+    → IsOverlong p mover winner lines
 long_told p mover claim line d winner lines t w many l =
     record {
       wins = first_wins p mover winner (t.first_is ∙ ap Some (sym w));
@@ -151,7 +151,7 @@ full_for Black = refl
 full_for White = refl
 
 pub own_told : (p : Position) (mover : Colour) (line : ℕ) (own other mine theirs : LedgerData) → own.base ≡ record { board = p; player = mover } → count_of own ≡ 0
-    → IsShown true p mover line (own, other) (mine, theirs) → IsToldBy p mover Semi line mine
+    → IsShownBy true p mover line (own, other) (mine, theirs) → IsToldBy p mover Semi line mine
 own_told p mover line own other mine theirs e z (g, s, q, f, b) =
     let base : mine.base ≡ record { board = p; player = mover } = g.base ∙ e in
     let board : mine.base.board ≡ p = ap (λ (x : PlayerBoard). x.board) base in
@@ -169,7 +169,7 @@ own_told p mover line own other mine theirs e z (g, s, q, f, b) =
     from_none x y m q l = omega arith
 
 pub other_told : (p : Position) (mover : Colour) (line : ℕ) (own other mine theirs : LedgerData) → other.base ≡ record { board = p; player = other_of mover } → count_of other ≡ 0
-    → IsShown false p mover line (own, other) (mine, theirs) → IsToldBy p mover Full line theirs
+    → IsShownBy false p mover line (own, other) (mine, theirs) → IsToldBy p mover Full line theirs
 other_told p mover line own other mine theirs e z (g, s, q, f, b) =
     let base : theirs.base ≡ record { board = p; player = other_of mover } = g.base ∙ e in
     let board : theirs.base.board ≡ p = ap (λ (x : PlayerBoard). x.board) base in

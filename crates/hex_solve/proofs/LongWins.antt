@@ -12,7 +12,7 @@ use Rattle.win_cert.specs.declared.certs.TheConstants.{MOST_LINES}
 use Rattle.hex_solve.specs.Deciding.{need}
 use Rattle.std.specs.Option.{IfSome}
 use Rattle.hex_solve.specs.Strong.{IsStrongAnswer}
-use Rattle.hex_solve.specs.Telling.{IsAnswer, IsLong, IsPlainAnswer, IsTooLong}
+use Rattle.hex_solve.specs.Telling.{IsSolverAnswer, IsLong, IsPlainAnswer, IsOverlong}
 use Rattle.hex_solve.specs.declared.answers.Solved.{Solved}
 use Rattle.hex_solve.specs.declared.answers.Solved.TheVariants.{Won, Unknown, TooLong, Open}
 

@@ -20,7 +20,7 @@ use Rattle.win_cert.specs.Contexts.{after_lines}
 use Rattle.hex_solve.specs.Ledgers.{LedgerData, read_of}
 use Rattle.hex_solve.specs.Strong.{AnswerBut, AreAllInside, AreWins, HasGrown, IsMissed, ShowsIn}
 use Rattle.hex_solve.proofs.LedgerLaws.{grows_none, grows_on}
-use Rattle.hex_solve.specs.Searching.{IsSearched}
+use Rattle.hex_solve.specs.Searching.{IsPairOfLedgers}
 use Rattle.hex_solve.proofs.Growing.{read_grown}
 use Rattle.hex_solve.proofs.InsideLines.{ShownInside, same_carrier, same_inside}
 use Rattle.std.proofs.lemmas.Bool.Decides.{nat_tests}
@@ -153,7 +153,7 @@ reply_taken replies c k h l = members_less (bit_and replies (without_cell c k)) 
 
 -- ---- the ledgers
 
-pub searched_on : (p : Position) (mover : Colour) (own d e : LedgerData) → IsSearched p mover own d → HasGrown d e → IsSearched p mover own e
+pub searched_on : (p : Position) (mover : Colour) (own d e : LedgerData) → IsPairOfLedgers p mover own d → HasGrown d e → IsPairOfLedgers p mover own e
 searched_on p mover own d e s (a, g) = record {
   own_player = s.own_player;
   other_player = ap (λ (b : PlayerBoard). b.player) g.base ∙ s.other_player;

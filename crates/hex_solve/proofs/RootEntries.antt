@@ -16,7 +16,7 @@ use Rattle.win_cert.specs.Writable.{HasBoard, IsWritable}
 use Rattle.win_cert.specs.declared.certs.Cert.{Cert}
 use Rattle.win_cert.specs.declared.verdicts.Verdict.TheVariants.{Yes}
 use Rattle.hex_solve.specs.Solved.{IsUndecided}
-use Rattle.hex_solve.specs.Telling.{IsCertifiedWin}
+use Rattle.hex_solve.specs.Telling.{IsCertifiedWinner}
 use Rattle.hex_solve.proofs.LedgersTell.{AcceptedWins, semi_for}
 
 pub no_semi : (d : StoreData) (h : Held) → AreEdgeNumbers d Semi h → h.count ≤ 0 → IsUndecided d
@@ -24,7 +24,7 @@ no_semi d h g l n a w k = let p = g.all n a w k in absurd (omega (arith, p.1))
 
 -- the certificate of a semi entry, in the latest version, shows that the mover wins
 pub certified_win : (e : PlayerBoard) (d : StoreData) (a : Entry) (cert new : Cert) → d.elements ≡ e → a.kind ≡ Semi → CertifiesEntry d a cert → new ≡ raised cert → IsWritable new → HaveSameVerdict cert new
-    → IsPosition e.board.size e.board.black e.board.white → AcceptedWins → IsCertifiedWin e.board e.player e.player new
+    → IsPosition e.board.size e.board.black e.board.white → AcceptedWins → IsCertifiedWinner e.board e.player e.player new
 certified_win e d a cert new is k c r w same on law =
     let v : IsVerdict new (Yes a.kind a.carrier) = (same (Yes a.kind a.carrier)).0 c.verdict in
     let board : new.board ≡ e.board = ap (λ (x : Cert). x.board) r ∙ (c.board ∙ ap (λ (x : PlayerBoard). x.board) is) in

@@ -10,7 +10,7 @@ use Rattle.hex_board.specs.Positions.{Position, placed}
 use Rattle.conn_store.specs.declared.entries.Kind.TheVariants.{Full, Semi}
 use Rattle.hex_solve.specs.Ledgers.{IsLedger, LedgerData}
 use Rattle.hex_solve.specs.Marks.{IsBefore, mark_of}
-use Rattle.hex_solve.specs.Searching.{IsSearched}
+use Rattle.hex_solve.specs.Searching.{IsPairOfLedgers}
 use Rattle.hex_solve.specs.Strong.{AnswerBut, HasGrown, IsFoundBy, IsWon, IsWonBy, ShowsIn}
 use Rattle.hex_solve.specs.declared.ledgers.Mark.{Mark}
 use Rattle.hex_solve.specs.declared.strong.Shown.{Shown}
@@ -19,11 +19,11 @@ use Rattle.hex_solve.proofs.Narrowing.{child_inside, grows_both, narrowed_on, re
 
 -- the loop over the replies
 pub record IsNarrowing (p : Position) (mover : Colour) (own start other : LedgerData) (numbers : List ℕ) (replies union : ℕ) : Type 0 where
-  pub searched : IsSearched p mover own other
+  pub searched : IsPairOfLedgers p mover own other
   pub grows : HasGrown start other
   pub but : AnswerBut p other numbers replies union
 
-pub narrowing_begun : (p : Position) (mover : Colour) (own start other : LedgerData) (numbers : List ℕ) (replies union : ℕ) → IsSearched p mover own start → HasGrown start other
+pub narrowing_begun : (p : Position) (mover : Colour) (own start other : LedgerData) (numbers : List ℕ) (replies union : ℕ) → IsPairOfLedgers p mover own start → HasGrown start other
     → AnswerBut p other numbers replies union → IsNarrowing p mover own start other numbers replies union
 narrowing_begun p mover own start other numbers replies union s g b = record { searched = searched_on p mover own start other s g; grows = g; but = b }
 
@@ -74,7 +74,7 @@ stone_taken p mover own begun start other mine theirs numbers more replies fewer
     let n = narrowed_on p other theirs numbers replies union i (without_cell u k) g w.but (child_inside p theirs mover k u i player s) (reply_taken replies u k h l) in
     let t : AnswerBut p theirs more fewer wider = subst (λ x. AnswerBut p theirs more fewer x) (sym c) (subst (λ x. AnswerBut p theirs more x (bit_or union (without_cell u k))) (sym b)
     (subst (λ xs. AnswerBut p theirs xs (bit_and replies (without_cell u k)) (bit_or union (without_cell u k))) (sym a) n)) in (
-      record { searched = subst (λ (d : LedgerData). IsSearched p mover d theirs) (sym q) (searched_on p mover own other theirs w.searched g); grows = grows_both start other theirs w.grows g; but = t },
+      record { searched = subst (λ (d : LedgerData). IsPairOfLedgers p mover d theirs) (sym q) (searched_on p mover own other theirs w.searched g); grows = grows_both start other theirs w.grows g; but = t },
       q ∙ e,
     )
 

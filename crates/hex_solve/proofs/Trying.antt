@@ -20,7 +20,7 @@ use Rattle.win_cert.proofs.CutDerivations.{longer}
 use Rattle.hex_solve.proofs.FirstWins.{less_suc}
 use Rattle.hex_solve.specs.Deciding.{first, is_for, need, sum_up_to}
 use Rattle.hex_solve.specs.Ledgers.{AreAnswers, GrowsBy, IsAmong, LedgerData, ShowsWin, count_of}
-use Rattle.hex_solve.specs.Searching.{IsSearched, tree_lines}
+use Rattle.hex_solve.specs.Searching.{IsPairOfLedgers, tree_lines}
 use Rattle.win_cert.specs.Showing.{Keeps}
 use Rattle.hex_solve.proofs.FirstWins.{other_back}
 use Rattle.hex_solve.proofs.LedgerLaws.{grows_none, grows_on}
@@ -32,8 +32,8 @@ use Rattle.hex_solve.proofs.NobodyJoined.{nobody}
 
 -- ---- the child
 
-pub child_searched : (p : Position) (mover : Colour) (own other : LedgerData) (k : ℕ) → IsSearched p mover own other → is_joined p.size (other_of mover) (stones_of p (other_of mover)) ≡ false
-    → is_empty_at p k ≡ true → IsSearched (placed p mover k) (other_of mover) other own
+pub child_searched : (p : Position) (mover : Colour) (own other : LedgerData) (k : ℕ) → IsPairOfLedgers p mover own other → is_joined p.size (other_of mover) (stones_of p (other_of mover)) ≡ false
+    → is_empty_at p k ≡ true → IsPairOfLedgers (placed p mover k) (other_of mover) other own
 child_searched p mover own other k s a h = record {
   own_player = s.other_player;
   other_player = s.own_player ∙ sym (other_back mover);
@@ -47,7 +47,7 @@ child_searched p mover own other k s a h = record {
 
 -- the cells that are left to be tried; each other one was answered
 pub record IsTrying (p : Position) (mover : Colour) (own first_other other : LedgerData) (most left : ℕ) (numbers : List ℕ) (cells : ℕ) : Type 0 where
-  pub searched : IsSearched p mover own other
+  pub searched : IsPairOfLedgers p mover own other
   pub grows : GrowsBy (2 * (most - left)) first_other other
   pub spent : left ≤ most
   pub sum : need p mover + left ≡ most + 1 + sum_up_to (has cells) (wins_by p mover) (need_after p mover) (cells_of p.size)
@@ -63,7 +63,7 @@ pub record IsTrying (p : Position) (mover : Colour) (own first_other other : Led
 pub some_fewer : (p : Position) (k : ℕ) → is_empty_at p k ≡ true → (n : ℕ) × (empty_count p ≡ suc n)
 some_fewer p k h = (empty_count (placed p Black k), one_empty_less p Black k h)
 
-pub trying_begun : (p : Position) (mover : Colour) (own other : LedgerData) (left cells k : ℕ) → IsSearched p mover own other → is_joined p.size (other_of mover) (stones_of p (other_of mover)) ≡ false
+pub trying_begun : (p : Position) (mover : Colour) (own other : LedgerData) (left cells k : ℕ) → IsPairOfLedgers p mover own other → is_joined p.size (other_of mover) (stones_of p (other_of mover)) ≡ false
     → is_empty_at p k ≡ true → ((j : ℕ) → has cells j ≡ is_empty_at p j) → IsTrying p mover own other other left left [] cells
 trying_begun p mover own other left cells k s a h e =
     let (n, c) = some_fewer p k h in

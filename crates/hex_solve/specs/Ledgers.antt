@@ -55,14 +55,14 @@ abbrev pub count_of : LedgerData → ℕ
 count_of d = length d.lines + d.lost
 
 -- the ledger with one line more, or one more that there is no room for
-abbrev pub with_line : LedgerData → Line → LedgerData
-with_line d line =
+abbrev pub with_one_line : LedgerData → Line → LedgerData
+with_one_line d line =
     if nat_lt (length d.lines) d.room then record d { lines = d.lines ++ line ∷ [] }
     else record d { lost = min (d.lost + 1) (2 ^ 64 - 1) }
 
 -- the line may stand after the others
-abbrev pub MayFollow : LedgerData → Line → Type 0
-MayFollow d line = (reason_against (read_of d) (Derivation line) ≡ None)
+abbrev pub MayStandNext : LedgerData → Line → Type 0
+MayStandNext d line = (reason_against (read_of d) (Derivation line) ≡ None)
     × IsLineOf LATEST_VERSION d.base.board.size line
 
 -- new is old with more lines, at most so many, and more is kept in mind

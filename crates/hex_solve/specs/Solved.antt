@@ -1,5 +1,6 @@
 -- What the solver tells of a position p with `mover` to place next: a clause for each answer.
-use Rattle.std.specs.Prelude.{◌≡◌, ℕ, ◌*◌, ◌<◌, ◌≤◌, ◌⊎◌, Bool, true, false, Option, Some, None, length}
+use Rattle.std.specs.Prelude.{◌≡◌, ℕ, ◌*◌, ◌<◌, ◌≤◌, ◌⊎◌, Bool, true, false, Option, Some, None}
+use Rattle.std.specs.Prelude.{length}
 use Rattle.std.specs.Prelude.{if◌then◌else◌}
 use Rattle.hex_cells.specs.Colours.{is_same}
 use Rattle.hex_cells.specs.declared.colours.Colour.{Colour}
@@ -96,7 +97,7 @@ UnknownNeedsMore p mover hsearch budget (TooLong winner lines) = Unit {0}
 UnknownNeedsMore p mover hsearch budget (Open full) = Unit {0}
 
 -- the board is full, keeps the stones of p, and nobody is joined on it
-pub record IsOpen (p full : Position) : Type 0 where
+pub record IsOpenBoard (p full : Position) : Type 0 where
   pub keeps : Keeps p full
   pub filled : (k : ℕ) → is_empty_at full k ≡ false
   pub unjoined : (c : Colour) → is_joined full.size c (stones_of full c) ≡ false
@@ -106,4 +107,4 @@ abbrev pub OpenIsFull : Position → Solved → Type 0
 OpenIsFull p (Won winner cert) = Unit {0}
 OpenIsFull p (Unknown spent own) = Unit {0}
 OpenIsFull p (TooLong winner lines) = Unit {0}
-OpenIsFull p (Open full) = IsOpen p full
+OpenIsFull p (Open full) = IsOpenBoard p full

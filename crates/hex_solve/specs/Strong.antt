@@ -22,7 +22,7 @@ use Rattle.hex_solve.specs.declared.answers.Solved.TheVariants.{Won, Unknown, To
 use Rattle.hex_board.specs.Wins.{Wins}
 use Rattle.win_cert.specs.declared.certs.TheConstants.{MOST_LINES}
 use Rattle.hex_solve.specs.Solved.{claim_for}
-use Rattle.hex_solve.specs.Telling.{IsCertifiedWin}
+use Rattle.hex_solve.specs.Telling.{IsCertifiedWinner}
 
 -- new is old with more lines, and more is kept in mind
 abbrev pub HasGrown : LedgerData → LedgerData → Type 0
@@ -92,7 +92,7 @@ AreSemi d (n ∷ numbers) (c ∷ sets) =
 
 -- entries of the store, with these carriers, that answer each stone but those on the replies that
 -- are left, inside the union; each took some reply away
-pub record IsChosen (p : Position) (d : StoreData) (numbers sets : List ℕ)
+pub record AreThreatsChosen (p : Position) (d : StoreData) (numbers sets : List ℕ)
     (replies union : ℕ) : Type 0 where
   pub entries : AreSemi d numbers sets
   pub missed : (k : ℕ) → is_empty_at p k ≡ true → (has replies k ≡ true) ⊎ IsMissed k sets
@@ -144,7 +144,7 @@ pub record IsWonIn (p : Position) (mover : Colour) (claim : Kind) (line : ℕ)
 
 -- the winner wins p, by the certificate, or by more lines than one may have
 abbrev pub IsStrongAnswer : Position → Colour → Solved → Type 0
-IsStrongAnswer p mover (Won winner cert) = IsCertifiedWin p mover winner cert
+IsStrongAnswer p mover (Won winner cert) = IsCertifiedWinner p mover winner cert
 IsStrongAnswer p mover (Unknown spent own) = ⊥
 IsStrongAnswer p mover (TooLong winner lines) = Wins winner p mover × (MOST_LINES < lines)
 IsStrongAnswer p mover (Open full) = ⊥

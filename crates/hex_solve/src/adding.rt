@@ -7,7 +7,7 @@ ghost use Rattle.hex_board.specs.Joined.{is_joined};
 ghost use Rattle.hex_board.specs.Positions.{is_empty_at, placed, stones_of};
 ghost use Rattle.hex_cells.specs.declared.board_size.TheConstants.{MOST_CELLS};
 ghost use Rattle.conn_store.specs.declared.entries.Kind.{Kind};
-ghost use Rattle.hex_solve.specs.Ledgers.{AnswerAll, GrowsBy, MayFollow, ShowsWin, with_line};
+ghost use Rattle.hex_solve.specs.Ledgers.{AnswerAll, GrowsBy, MayStandNext, ShowsWin, with_one_line};
 ghost use Rattle.win_cert.specs.Showing.{Keeps, scope_of};
 ghost use Rattle.hex_solve.specs.Strong.{MovesInside, ShowsIn};
 
@@ -80,8 +80,8 @@ impl Ledger {
 
     // Adds a line that may follow, where there is room for it, and counts it elsewhere.
     pub(super) fn add(&mut self, line: Line) -> Result<(), AllocError>
-        requires { length self.old.lines < self.old.room → MayFollow self.old line }
-        ensures { OnOk result (self.new ≡ with_line self.old line) }
+        requires { length self.old.lines < self.old.room → MayStandNext self.old line }
+        ensures { OnOk result (self.new ≡ with_one_line self.old line) }
     {
         if self.lines.len() < self.room {
             self.lines.push(line)?;

@@ -15,8 +15,8 @@ use conn_store::Kind;
 use hex_board::Board;
 use hex_cells::{Cell, CellSet};
 
-/// What is known of a board, with the player of `own` to place: a line by which he wins, else one by
-/// which the other does.
+/// What is known of a board, with the player of `own` to place: a line by which he wins, else one
+/// by which the other does.
 pub(crate) fn known_entry(board: &Board, own: &Ledger, other: &Ledger) -> Option<Shown>
     ensures { IfSome result (IsWon board.now (own.now, other.now) (own.now, other.now)) }
 {

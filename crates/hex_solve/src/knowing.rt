@@ -43,10 +43,12 @@ impl Ledger {
         Ok(())
     }
 
-    /// What is known that shows that the player wins the board by an entry of that kind, if anything
-    /// was found: of what is looked at the one with the fewest of these cells in its carrier.
+    /// What is known that shows that the player wins the board by an entry of that kind, if
+    /// anything was found: of what is looked at the one with the fewest of these cells in its
+    /// carrier.
     pub fn recall(&self, board: &Board, kind: Kind, cells: CellSet) -> Option<Known>
-        ensures { IfSome result (λ known. ShowsIn self.now board.now kind known.carrier known.line) }
+        ensures { IfSome result (λ known.
+            ShowsIn self.now board.now kind known.carrier known.line) }
     {
         let scope = self.scope(board);
         let empties = board.empties();

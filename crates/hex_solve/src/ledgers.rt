@@ -1,5 +1,5 @@
-//! Ledgers: the lines of a player's certificate, which grow while a search goes on, and what is kept
-//! in mind of them.
+//! Ledgers: the lines of a player's certificate, which grow while a search goes on, and what is
+//! kept in mind of them.
 
 ghost use Rattle.std.specs.Prelude.{◌≡◌, ◌<◌, ◌≤◌, ◌↔◌, [], IsTrue, MatchResult};
 ghost use Rattle.win_cert.specs.declared.certs.TheConstants.{MOST_LINES};

@@ -1,15 +1,12 @@
 //! The solver.
 
-ghost use Rattle.std.specs.Prelude.{◌≡◌, ℕ, ◌<◌, IfNone, IfOk, IfSome, None, Option, Some};
-ghost use Rattle.hex_cells.specs.declared.colours.Colour.{Colour};
+ghost use Rattle.std.specs.Prelude.{◌≡◌, ◌<◌, IfNone, IfOk, IfSome, None, Some};
 ghost use Rattle.hex_board.specs.Joined.{winner_of};
-ghost use Rattle.hex_board.specs.Wins.{Wins};
-ghost use Rattle.conn_store.specs.Stores.{StoreData};
 ghost use Rattle.hsearch.specs.Closed.{IsReportOf};
 ghost use Rattle.win_cert.specs.declared.certs.TheConstants.{MOST_LINES};
 ghost use Rattle.hex_solve.specs.Solved.{IsUndecided, OpenIsFull, TooLongNeedsMany};
 ghost use Rattle.hex_solve.specs.Solved.{UnknownNeedsMore, WinnerWins, WonIsCertified, WonIsShort};
-ghost use Rattle.hex_solve.specs.Telling.{IsAnswer, IsCertifiedWin, IsPlainAnswer};
+ghost use Rattle.hex_solve.specs.Telling.{IsCertifiedWinner, IsSolverAnswer, TellsWinner};
 
 use super::answers::Solved;
 use super::refusals::Memory;
@@ -74,7 +71,7 @@ fn search_both(
     budget: u64,
 ) -> Result<Solved, Memory>
     requires { winner_of board.now ≡ None }
-    ensures { IfOk result (IsAnswer board.now mover (Some own) budget) }
+    ensures { IfOk result (IsSolverAnswer board.now mover (Some own) budget) }
 {
     match search_strongly(alloc, board, mover, budget)? {
         Some(Solved::TooLong { winner, lines }) => {
@@ -90,9 +87,7 @@ fn search_both(
 // empty, the winner, whose certificate would have so many lines.
 fn winner_told(board: &Board, plain: Solved, winner: Colour, lines: u64) -> Solved
     requires { MOST_LINES < lines }
-    ensures { (mover : Colour) (own : Option StoreData) (budget : ℕ) → Wins winner board.now mover
-        → IsPlainAnswer board.now mover own budget plain
-        → IsAnswer board.now mover own budget result }
+    ensures { TellsWinner board.now winner plain result }
 {
     match plain {
         Solved::Unknown { spent, own } => {
@@ -116,7 +111,7 @@ fn by_connections(
 ) -> Result<Option<Cert>, Memory>
     requires nobody { winner_of board.now ≡ None }
     requires own { IsReportOf board.now mover own.now }
-    ensures won { IfOk result (λ won. IfSome won (IsCertifiedWin board.now mover mover)) }
+    ensures won { IfOk result (λ won. IfSome won (IsCertifiedWinner board.now mover mover)) }
     ensures none { IfOk result (λ won. IfNone won (IsUndecided own.now)) }
 {
     accepted_certificates_win();

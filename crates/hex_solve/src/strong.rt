@@ -5,7 +5,7 @@ ghost use Rattle.std.specs.Prelude.{◌≡◌, ℕ, IfOk, true, false};
 ghost use Rattle.hex_board.specs.Joined.{is_joined};
 ghost use Rattle.hex_board.specs.Positions.{is_empty_at, stones_of};
 ghost use Rattle.hex_cells.specs.Colours.{other_of};
-ghost use Rattle.hex_solve.specs.Searching.{IsSearched};
+ghost use Rattle.hex_solve.specs.Searching.{IsPairOfLedgers};
 ghost use Rattle.hex_solve.specs.Strong.{IsWon};
 
 use super::keeping::{add_answers, add_joined, add_stone, known_entry};
@@ -38,7 +38,7 @@ pub(crate) fn decide(
     other: &mut Ledger,
     left: &mut u64,
 ) -> Result<Shown, Stop>
-    requires searched { IsSearched board.now mover own.old other.old }
+    requires searched { IsPairOfLedgers board.now mover own.old other.old }
     ensures { IfOk result (IsWon board.now (own.old, other.old) (own.new, other.new)) }
 {
     if *left == 0 {
@@ -72,7 +72,7 @@ fn replies(
     other: &mut Ledger,
     left: &mut u64,
 ) -> Result<Shown, Stop>
-    requires searched { IsSearched board.now mover own.old other.old }
+    requires searched { IsPairOfLedgers board.now mover own.old other.old }
     requires apart { is_joined board.now.size (other_of mover)
         (stones_of board.now (other_of mover)) ≡ false }
     requires room { (k : ℕ) × (is_empty_at board.now k ≡ true) }

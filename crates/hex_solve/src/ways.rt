@@ -7,7 +7,7 @@ ghost use Rattle.hex_board.specs.Positions.{stones_of};
 ghost use Rattle.conn_store.specs.declared.entries.Kind.{Kind};
 ghost use Rattle.win_cert.specs.Cuts.{AreEdgeNumbers};
 ghost use Rattle.win_cert.specs.Showing.{Keeps};
-ghost use Rattle.hex_solve.specs.Strong.{AnswerBut, AreWins, HasGrown, HasThreats, IsChosen};
+ghost use Rattle.hex_solve.specs.Strong.{AnswerBut, AreWins, HasGrown, HasThreats, AreThreatsChosen};
 ghost use Rattle.hex_solve.specs.Strong.{IsOwnCut};
 
 use super::keeping::keep;
@@ -189,7 +189,7 @@ fn narrowed(board: &Board, other: &Ledger, found: Ways) -> Result<Ways, Stop>
 fn chosen_of(alloc: Global, board: &Board, store: &Store, semi: &Held) -> Result<Chosen, AllocError>
     requires few { semi.now.count ≤ 6 }
     requires numbers { AreEdgeNumbers store.now Kind.Semi semi.now }
-    ensures { IfOk result (λ chosen. IsChosen board.now store.now chosen.numbers.items
+    ensures { IfOk result (λ chosen. AreThreatsChosen board.now store.now chosen.numbers.items
         chosen.carriers.items chosen.replies chosen.union) }
 {
     let mut chosen = Chosen {

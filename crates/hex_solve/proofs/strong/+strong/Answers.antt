@@ -7,7 +7,7 @@ use Rattle.hex_board.specs.Positions.{Position, is_empty_at, placed}
 use Rattle.hex_board.specs.Wins.{empty_count}
 use Rattle.hex_board.proofs.WinLaws.{one_empty_less}
 use Rattle.conn_store.specs.declared.entries.Kind.TheVariants.{Full}
-use Rattle.hex_solve.specs.Searching.{IsSearched}
+use Rattle.hex_solve.specs.Searching.{IsPairOfLedgers}
 use Rattle.hex_solve.specs.Strong.{IsWonBy, ShowsIn}
 use Rattle.hex_solve.proofs.EntryWays.{keeps_grown}
 use Rattle.hex_solve.proofs.Narrowing.{reply_taken}
@@ -32,8 +32,8 @@ replies-decide-requires t c =
     let one : empty_count p ≡ suc (empty_count (placed p c.args.mover c.in-Some.cell)) = one_empty_less p c.args.mover c.in-Some.cell here in
     let same : empty_count c.place.new.self ≡ empty_count (placed p c.args.mover c.in-Some.cell) = ap empty_count c.place.ensures in (
       omega (arith, c.decreases, one, same),
-      subst (λ (q : Position). IsSearched q c.other.result c.replies.other c.replies.own) (sym c.place.ensures)
-          (subst (λ (d : Colour). IsSearched (placed p c.args.mover c.in-Some.cell) d c.replies.other c.replies.own) (sym c.other.ensures)
+      subst (λ (q : Position). IsPairOfLedgers q c.other.result c.replies.other c.replies.own) (sym c.place.ensures)
+          (subst (λ (d : Colour). IsPairOfLedgers (placed p c.args.mover c.in-Some.cell) d c.replies.other c.replies.own) (sym c.other.ensures)
           (child_searched p c.args.mover c.replies.own c.replies.other c.in-Some.cell w.searched c.requires.apart here)),
     )
 
