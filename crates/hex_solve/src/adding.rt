@@ -7,7 +7,8 @@ ghost use Rattle.hex_board.specs.Joined.{is_joined};
 ghost use Rattle.hex_board.specs.Positions.{is_empty_at, placed, stones_of};
 ghost use Rattle.hex_cells.specs.declared.board_size.TheConstants.{MOST_CELLS};
 ghost use Rattle.conn_store.specs.declared.entries.Kind.{Kind};
-ghost use Rattle.hex_solve.specs.Ledgers.{AnswerAll, GrowsBy, MayStandNext, ShowsWin, with_one_line};
+ghost use Rattle.hex_solve.specs.Ledgers.{AnswerAll, GrowsBy, MayStandNext, ShowsWin};
+ghost use Rattle.hex_solve.specs.Ledgers.{with_one_line};
 ghost use Rattle.win_cert.specs.Showing.{Keeps, scope_of};
 ghost use Rattle.hex_solve.specs.Strong.{MovesInside, ShowsIn};
 

@@ -7,8 +7,8 @@ ghost use Rattle.hex_board.specs.Positions.{stones_of};
 ghost use Rattle.conn_store.specs.declared.entries.Kind.{Kind};
 ghost use Rattle.win_cert.specs.Cuts.{AreEdgeNumbers};
 ghost use Rattle.win_cert.specs.Showing.{Keeps};
-ghost use Rattle.hex_solve.specs.Strong.{AnswerBut, AreWins, HasGrown, HasThreats, AreThreatsChosen};
-ghost use Rattle.hex_solve.specs.Strong.{IsOwnCut};
+ghost use Rattle.hex_solve.specs.Strong.{AnswerBut, AreThreatsChosen, AreWins, HasGrown};
+ghost use Rattle.hex_solve.specs.Strong.{HasThreats, IsOwnCut};
 
 use super::keeping::keep;
 use super::ledgers::Ledger;
