@@ -1,5 +1,5 @@
 -- What follows of how a mode ends that hands in one turn.
-use Rattle.std.proofs.Common.{append-nil, Ok, Err, List, [], ◌≡◌, ◌≢◌, ℕ, ◌+◌, ◌≤◌, ◌⊎◌, length, drop, Option, refl, ap, sym, ◌∙◌, inl, inr, arith, subst}
+use Rattle.std.proofs.Common.{append-nil, Ok, Err, List, [], ◌≡◌, ◌≢◌, ℕ, ◌+◌, ◌≤◌, ◌⊎◌, length, drop, Option, refl, ap, sym, ◌∙◌, inl, inr, arith}
 use Rattle.std.specs.Prelude.{◌↔◌}
 use Rattle.std.proofs.Math.Seq.{drop-append_seam}
 use Rattle.hex_io.specs.Grew.{Gave}
