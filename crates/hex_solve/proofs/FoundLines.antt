@@ -1,6 +1,6 @@
 -- What was found of a position, where the ledger grows on.
 use Rattle.std.specs.Prelude.{Err, IfOk, Ok, Result}
-use Rattle.std.proofs.Common.{◌≡◌, ℕ, Bool, refl, sym, ap, subst}
+use Rattle.std.proofs.Common.{Bool, refl}
 use Rattle.hex_board.specs.Positions.{Position}
 use Rattle.conn_store.specs.declared.entries.Kind.{Kind}
 use Rattle.hex_solve.specs.Ledgers.{LedgerData}

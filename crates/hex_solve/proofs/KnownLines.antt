@@ -1,5 +1,5 @@
 -- What is kept in mind of a ledger's lines.
-use Rattle.std.proofs.Common.{◌≡◌, ℕ, ◌+◌, ◌≤◌, ◌++◌, All, List, [], ◌∷◌, true, Some, refl, sym, ◌∙◌, ap, subst, zero, suc, arith}
+use Rattle.std.proofs.Common.{◌≡◌, ℕ, ◌++◌, All, List, [], ◌∷◌, true, Some, refl, sym, ◌∙◌, ap, subst, zero, suc, arith}
 use Rattle.std.specs.List.{slice_get}
 use Rattle.std.proofs.lemmas.List.Elements.{All-cons, All-head, All-nil, All-tail}
 use Rattle.hex_cells.specs.Sets.{has}
@@ -7,7 +7,7 @@ use Rattle.hex_board.specs.Positions.{Position, is_empty_at}
 use Rattle.conn_store.specs.Laws.{IsSubset}
 use Rattle.conn_store.specs.declared.entries.Kind.{Kind}
 use Rattle.win_cert.proofs.Appending.{edges_stay}
-use Rattle.win_cert.specs.Showing.{GivesEdges, HasFirstCell, scope_of}
+use Rattle.win_cert.specs.Showing.{GivesEdges, scope_of}
 use Rattle.hex_solve.specs.Ledgers.{GrowsBy, IsKnown, IsLedger, LedgerData, read_of}
 use Rattle.hex_solve.specs.Strong.{HasGrown, ShowsIn}
 use Rattle.hex_solve.specs.declared.known.Known.{Known}

@@ -1,7 +1,7 @@
 -- A ledger with one line more.
 use Rattle.std.proofs.Common.{◌≡◌, ℕ, ◌+◌, ◌-◌, ◌^◌, ◌<◌, ◌≤◌, List, [], ◌∷◌, ◌++◌, All, length, min, if◌then◌else◌, refl, sym, ◌∙◌, ap, subst, inl, inr, arith}
 use Rattle.std.proofs.lemmas.Bool.{cases_lt, le-ltb, lt-ltb}
-use Rattle.std.proofs.lemmas.List.Elements.{All-cons, All-head, All-nil, All-tail}
+use Rattle.std.proofs.lemmas.List.Elements.{All-cons, All-nil}
 use Rattle.win_cert.specs.Writable.{IsLineOf}
 use Rattle.win_cert.specs.declared.certs.TheConstants.{LATEST_VERSION}
 use Rattle.win_cert.specs.declared.lines.Line.{Line}

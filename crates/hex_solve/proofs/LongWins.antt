@@ -1,5 +1,5 @@
 -- What is told where the lines of the search with connections are too many for a certificate.
-use Rattle.std.proofs.Common.{◌≡◌, ℕ, ◌+◌, ◌-◌, ◌*◌, ◌<◌, ◌≤◌, true, false, Option, Some, inl, inr, sym, ◌∙◌, ap, subst, arith}
+use Rattle.std.proofs.Common.{◌≡◌, ℕ, ◌+◌, ◌-◌, ◌*◌, ◌<◌, ◌≤◌, false, Option, Some, inl, inr, sym, ◌∙◌, subst, arith}
 use Rattle.std.proofs.lemmas.Bool.{cases_lt, false_from_ne_true}
 use Rattle.hex_cells.specs.Sets.{has, members}
 use Rattle.hex_cells.specs.declared.colours.Colour.{Colour}
@@ -9,12 +9,11 @@ use Rattle.hex_board.specs.Positions.{Position, is_empty_at}
 use Rattle.hex_board.specs.Wins.{Wins, empty_count}
 use Rattle.conn_store.specs.Stores.{StoreData}
 use Rattle.win_cert.specs.declared.certs.TheConstants.{MOST_LINES}
-use Rattle.hex_solve.specs.Deciding.{need}
 use Rattle.std.specs.Option.{IfSome}
 use Rattle.hex_solve.specs.Strong.{IsStrongAnswer}
-use Rattle.hex_solve.specs.Telling.{IsSolverAnswer, IsLong, IsPlainAnswer, IsOverlong}
+use Rattle.hex_solve.specs.Telling.{IsLong, IsPlainAnswer}
 use Rattle.hex_solve.specs.declared.answers.Solved.{Solved}
-use Rattle.hex_solve.specs.declared.answers.Solved.TheVariants.{Won, Unknown, TooLong, Open}
+use Rattle.hex_solve.specs.declared.answers.Solved.TheVariants.{Unknown, TooLong}
 
 counted : (s m : ℕ) → ((k : ℕ) → m ≤ k → has s k ≡ false) → members s 121 ≤ members s m
 counted s m f = elim (cases_lt m 121) [

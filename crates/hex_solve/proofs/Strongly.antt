@@ -3,7 +3,7 @@ use Rattle.std.specs.Prelude.{IfOk, Result, Ok, Err}
 use Rattle.hex_solve.specs.declared.searching.Stop.{Stop}
 use Rattle.std.proofs.Common.{refl, ◌≡◌, ℕ, ◌<◌, true, false, Bool, List, [], ◌∷◌, ◌++◌, bit_and, bit_or, sym, ◌∙◌, ap, subst}
 use Rattle.hex_cells.specs.Colours.{other_of}
-use Rattle.hex_cells.specs.Sets.{has, with_cell, without_cell}
+use Rattle.hex_cells.specs.Sets.{has, without_cell}
 use Rattle.hex_cells.specs.declared.colours.Colour.{Colour}
 use Rattle.hex_board.specs.Elements.{PlayerBoard}
 use Rattle.hex_board.specs.Positions.{Position, placed}

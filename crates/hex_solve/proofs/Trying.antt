@@ -5,7 +5,7 @@ use Rattle.std.proofs.lemmas.Bool.Decides.{nat_tests}
 use Rattle.hex_cells.specs.Colours.{other_of}
 use Rattle.hex_cells.specs.Sets.{has, members, without_cell}
 use Rattle.hex_cells.specs.declared.colours.Colour.{Colour}
-use Rattle.hex_cells.specs.declared.colours.Colour.TheVariants.{Black, White}
+use Rattle.hex_cells.specs.declared.colours.Colour.TheVariants.{Black}
 use Rattle.hex_cells.proofs.Bits.{has_without}
 use Rattle.hex_board.specs.Elements.{PlayerBoard}
 use Rattle.hex_board.specs.Joined.{cells_of, is_joined}

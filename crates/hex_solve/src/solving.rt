@@ -26,9 +26,9 @@ const FEW_CELLS: u32 = 9;
 ///
 /// With `hsearch` it first asks for the mover's report: a semi entry between his edges is a win.
 /// Else a search with connections looks for a winner, which enters at most `budget` positions.
-/// Where that finds none, and without `hsearch`, a search goes depth first and tries the cells in
-/// rising order, up to the first that wins; it enters at most `budget` positions, each as often as
-/// a list of moves leads to it.
+/// Where that finds none, or one whose certificate would be too long, and without `hsearch`, a
+/// search goes depth first and tries the cells in rising order, up to the first that wins; it
+/// enters at most `budget` positions, each as often as a list of moves leads to it.
 ///
 /// It answers the winner with a certificate of the latest version, that the budget is spent, the
 /// winner alone where the certificate would have too many lines, or a full board on which nobody is

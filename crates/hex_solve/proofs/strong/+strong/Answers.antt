@@ -6,9 +6,7 @@ use Rattle.hex_cells.specs.declared.colours.Colour.{Colour}
 use Rattle.hex_board.specs.Positions.{Position, is_empty_at, placed}
 use Rattle.hex_board.specs.Wins.{empty_count}
 use Rattle.hex_board.proofs.WinLaws.{one_empty_less}
-use Rattle.conn_store.specs.declared.entries.Kind.TheVariants.{Full}
 use Rattle.hex_solve.specs.Searching.{IsPairOfLedgers}
-use Rattle.hex_solve.specs.Strong.{IsWonBy, ShowsIn}
 use Rattle.hex_solve.proofs.EntryWays.{keeps_grown}
 use Rattle.hex_solve.proofs.Narrowing.{reply_taken}
 use Rattle.hex_solve.proofs.Strongly.{back_before, child_shows, child_won, joined_answer, mover_answer, narrowing_begun, other_answer, stone_taken}

@@ -1,5 +1,5 @@
 use Rattle.std.proofs.Common.{ℕ, All, List, sym, subst}
-use Rattle.hex_solve.specs.Strong.{HasSemiAt, ShowsCuts}
+use Rattle.hex_solve.specs.Strong.{HasSemiAt}
 use Rattle.hex_solve.proofs.EntryWays.{are_semi, chosen_answer, lines_there}
 use Rattle.hex_solve.proofs.FoundLines.{threats_after}
 use Rattle.hex_solve.proofs.ways.cut_threats.Goals as goal

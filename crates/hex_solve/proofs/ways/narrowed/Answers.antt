@@ -1,4 +1,4 @@
-use Rattle.std.proofs.Common.{◌<◌, bit_and, subst, arith}
+use Rattle.std.proofs.Common.{◌<◌, arith}
 use Rattle.hex_cells.specs.Sets.{members}
 use Rattle.hex_solve.proofs.EntryWays.{known_narrows}
 use Rattle.hex_solve.proofs.ways.narrowed.Goals as goal

@@ -1,4 +1,4 @@
-use Rattle.std.proofs.Common.{ℕ, ◌∷◌, [], Global, Vec, refl, subst}
+use Rattle.std.proofs.Common.{ℕ, ◌∷◌, [], Global, Vec, subst}
 use Rattle.std.specs.Option.{IfSome}
 use Rattle.hex_solve.specs.Strong.{HasSemiAt, ShowsCuts}
 use Rattle.conn_store.specs.declared.entries.Kind.TheVariants.{Semi}

@@ -1,4 +1,3 @@
-use Rattle.hex_solve.specs.declared.known.Known.{Known}
 use Rattle.hex_solve.proofs.KnownLines.{known_added, known_grows}
 use Rattle.hex_solve.proofs.Narrowing.{grows_not}
 use Rattle.hex_solve.proofs.ledgers.Ledger.remember.Goals as goal
