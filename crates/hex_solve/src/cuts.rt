@@ -12,7 +12,7 @@ use conn_store::Store;
 use hex_board::Board;
 use hex_cells::CellSet;
 use std::alloc::{AllocError, Global};
-use win_cert::{Line, MOST_LINES, Numbers, lines_onto};
+use win_cert::{Line, Numbers, lines_onto};
 
 impl Ledger {
     /// Adds the lines of these semi entries between the player's edges in his store of the board,
@@ -33,9 +33,6 @@ impl Ledger {
             (λ v. ShowsCuts self.old self.new board.now store.now entries.now v.items)) }
     {
         let before = self.lines.len();
-        if MOST_LINES < before {
-            return Ok(None);
-        }
         let scope = self.scope(board);
         // Each entry follows from earlier ones, and is true.
         let _entries = store.entries();
