@@ -1,5 +1,5 @@
 -- A run that is done with one worker gave the one text.
-use Rattle.std.proofs.Common.{Ok, ◌≡◌, ℕ, Bool, List, [], ◌++◌, Option, length, drop, ap, sym, ◌∙◌, subst, append-nil}
+use Rattle.std.proofs.Common.{Ok, ◌≡◌, ℕ, Bool, List, ◌++◌, Option, length, drop, ap, sym, ◌∙◌, subst, append-nil}
 use Rattle.std.proofs.Math.Seq.{drop-append_seam}
 use Rattle.hex_io.specs.Told.{Told, Both}
 use Rattle.hex_io.specs.Shelves.{Shelved}

@@ -1,5 +1,5 @@
 -- What follows of what was done in any mode.
-use Rattle.std.proofs.Common.{List, Some, None, Option, Err, false, refl, ◌≡◌, ◌≢◌, ℕ, ◌+◌, ◌≤◌, ◌⊎◌, length, sym, ◌∙◌, subst, inl, inr, arith}
+use Rattle.std.proofs.Common.{List, Some, None, Option, Err, false, refl, ◌≡◌, ◌≢◌, ℕ, ◌+◌, ◌≤◌, ◌⊎◌, length, sym, ◌∙◌, subst}
 use Rattle.std.specs.Prelude.{◌↔◌}
 use Rattle.hex_io.specs.Told.{Told, Both, Same}
 use Rattle.hex_plan.specs.Turns.{TurnData}
@@ -22,7 +22,7 @@ use Rattle.hex_cli.specs.Runs.{IsUnarchived, IsUnfetched, may_archive, may_fetch
 use Rattle.hex_cli.specs.Served.{ServesIn, StandsIdleIn}
 use Rattle.hex_devices.specs.Statuses.{status_of}
 use Rattle.hex_devices.specs.declared.ends.End.{End}
-use Rattle.hex_devices.specs.declared.ends.End.TheVariants.{Usage, Done, Rejected, Stopped}
+use Rattle.hex_devices.specs.declared.ends.End.TheVariants.{Usage, Stopped}
 use Rattle.hex_cli.specs.declared.limits.TheConstants.{INPUT_LIMIT}
 use Rattle.hex_cli.proofs.InputEnds.{input_complete, input_no_usage, input_nothing, input_too_long}
 use Rattle.hex_cli.proofs.RunLaws.{outcome_no_usage, session_complete, session_too_long}

@@ -1,5 +1,5 @@
 -- Each line that takes a turn is answered by a generated move.
-use Rattle.std.proofs.Common.{◌≡◌, ◌≢◌, ℕ, zero, suc, ◌+◌, Bool, true, false, cond, List, [], ◌∷◌, ◌++◌, Option, Some, None, Result, Ok, Err, ◌⊎◌, ⊎_elim, inl, inr, fold, drop, refl, sym, ap, ◌∙◌, subst, add-one}
+use Rattle.std.proofs.Common.{◌≡◌, ◌≢◌, ℕ, zero, suc, Bool, true, false, cond, List, [], ◌∷◌, ◌++◌, Option, Some, None, Result, Ok, Err, ◌⊎◌, ⊎_elim, inl, inr, fold, drop, refl, sym, ap, ◌∙◌, subst, add-one}
 use Rattle.std.specs.List.{AllByRecursion}
 use Rattle.std.specs.Prelude.{slice_get}
 use Rattle.std.proofs.lemmas.List.Sums.{fold_push}
@@ -14,7 +14,7 @@ use Rattle.htp_line.specs.Splitting.{kept_line}
 use Rattle.hex_cells.specs.declared.colours.Colour.{Colour}
 use Rattle.hex_cells.specs.Vertices.{vertex_of}
 use Rattle.hex_game.specs.Games.{board_of}
-use Rattle.hex_plan.specs.Good.{FollowsPlan}
+use Rattle.hex_plan.specs.Good.{FollowsPlan, IsGood}
 use Rattle.hex_plan.specs.Laws.{IsCertified}
 use Rattle.hex_plan.specs.Plans.{IsWin}
 use Rattle.hex_plan.specs.Turns.{TurnData}
@@ -23,7 +23,7 @@ use Rattle.hex_plan.specs.declared.types.Plan.TheVariants.{Win, Search}
 use Rattle.hex_engine.specs.declared.options.Options.{Options}
 use Rattle.hex_engine.specs.EngineState.{EngineState, opening}
 use Rattle.hex_engine.specs.Supply.{Supply}
-use Rattle.hex_engine.specs.Uses.{AreGood, IsGoodFor}
+use Rattle.hex_engine.specs.Uses.{AreGood}
 use Rattle.hex_engine.specs.MoveReplies.{is_next, turned}
 use Rattle.hex_engine.specs.Replies.{Turned, Missing}
 use Rattle.hex_engine.specs.Requests.{reaction}
@@ -121,7 +121,7 @@ takes_turn options turns before s h o took =
         next = took.next;
         placed = at.0;
         chosen = chosen_by options took.turn took.turn.planned.plan refl good.0.follows (is_certified options.knobs options.hsearch took.turn good.0);
-        legal = next_is_legal before.at took.colour took.turn (subst (λ p. IsGoodFor p took.turn) (sym h.same) good.0) took.next;
+        legal = next_is_legal before.at took.colour took.turn (subst (λ (p : Options). IsGood p.knobs p.hsearch took.turn) (sym h.same) good.0) took.next;
         played = ap (λ (e : EngineState). e.game) took.after;
         written = (took.written.0, ap (λ l. before.text ++ l) took.written.1);
       };

@@ -1,5 +1,5 @@
 -- What follows of how a mode ends that hands in one turn.
-use Rattle.std.proofs.Common.{append-nil, Ok, Err, List, [], ◌≡◌, ◌≢◌, ℕ, ◌+◌, ◌≤◌, ◌⊎◌, length, drop, Option, refl, ap, sym, ◌∙◌, inl, inr, arith, subst}
+use Rattle.std.proofs.Common.{append-nil, Ok, Err, List, [], ◌≡◌, ◌≢◌, ℕ, ◌+◌, ◌≤◌, ◌⊎◌, length, drop, Option, refl, ap, sym, ◌∙◌, inl, inr, arith}
 use Rattle.std.specs.Prelude.{◌↔◌}
 use Rattle.std.proofs.Math.Seq.{drop-append_seam}
 use Rattle.hex_io.specs.Grew.{Gave}
@@ -32,9 +32,9 @@ same_none : (x y : Option Told) → y ≡ x → Both x y TookNone
 same_none x y same = rw same (Both-refl x TookNone (λ o. refl))
 
 took_none : (IsAnswer : Answer) (a b : LinkAndArchive) (outcome : Outcome) → HandsIn IsAnswer a b outcome → Both a.0 b.0 TookNone
-took_none IsAnswer a b (Ok done) h = gave_none a.0 b.0 _ h.3.0
+took_none IsAnswer a b (Ok done) h = gave_none a.0 b.0 _ h.3
 took_none IsAnswer a b (Err ReadFault) h = absurd h
-took_none IsAnswer a b (Err WriteFault) h = gave_none a.0 b.0 _ h.3.0.4
+took_none IsAnswer a b (Err WriteFault) h = gave_none a.0 b.0 _ h.3.4
 took_none IsAnswer a b (Err Memory) h = same_none a.0 b.0 h.0
 took_none IsAnswer a b (Err TooLong) h = absurd h
 took_none IsAnswer a b (Err ArchiveFault) h = same_none a.0 b.0 h.0

@@ -1,7 +1,7 @@
 -- What was done over the devices of a run, told of its status.
-use Rattle.std.proofs.Common.{List, Ok, ◌≡◌, ℕ, ◌+◌, ◌≤◌, ◌⊎◌, length, sym, ◌∙◌, subst}
+use Rattle.std.proofs.Common.{◌≡◌, ℕ, ◌+◌, ◌≤◌, ◌⊎◌, length, sym, ◌∙◌, subst}
 use Rattle.std.specs.Prelude.{◌↔◌}
-use Rattle.hex_io.specs.Told.{Told, Both}
+use Rattle.hex_io.specs.Told.{Both}
 use Rattle.hex_io.proofs.BothLaws.{Both-weaker}
 use Rattle.hex_devices.specs.Devices.{DevicesState, shelf_and_archive}
 use Rattle.htp_session.specs.Endings.{Conversed, since}
@@ -15,11 +15,10 @@ use Rattle.hex_cli.specs.Playing.{HasGoodTurns, HasKnownThreats, HasPlayed}
 use Rattle.hex_cli.specs.Served.{ServesIn}
 use Rattle.hex_devices.specs.Statuses.{status_of}
 use Rattle.hex_devices.specs.declared.ends.End.{End}
-use Rattle.hex_devices.specs.declared.ends.End.TheVariants.{Done}
 use Rattle.hex_cli.specs.declared.limits.TheConstants.{INPUT_LIMIT}
 use Rattle.hex_cli.proofs.DeterminedLaws.{determined_at}
 use Rattle.hex_cli.proofs.GeneratedMoves.{headline_at, threats_at}
-use Rattle.hex_cli.proofs.Doings.{IsComplete, IsFaultless, IsLong, does_complete, does_too_long}
+use Rattle.hex_cli.proofs.Doings.{IsFaultless, does_complete, does_too_long}
 use Rattle.hex_cli.proofs.RunLaws.{done_outcome}
 
 -- ---- what stands of a session

@@ -1,5 +1,5 @@
 -- What follows of how a session ended.
-use Rattle.std.proofs.Common.{Ok, Err, ◌≡◌, ◌≢◌, ℕ, ◌+◌, ◌≤◌, ◌⊎◌, ◌==◌, if◌then◌else◌, length, Option, refl, ap, sym, ◌∙◌, inl, inr, arith}
+use Rattle.std.proofs.Common.{Ok, Err, ◌≡◌, ◌≢◌, ℕ, ◌+◌, ◌≤◌, ◌⊎◌, length, Option, refl, inl, inr, arith}
 use Rattle.std.specs.Prelude.{◌↔◌}
 use Rattle.hex_io.specs.Told.{Told, Both}
 use Rattle.hex_io.proofs.BothLaws.{Both-weaker}
@@ -11,8 +11,7 @@ use Rattle.hex_devices.specs.Devices.{Outcome}
 use Rattle.hex_devices.specs.declared.stops.Stop.TheVariants.{ReadFault, WriteFault, Memory, TooLong, ArchiveFault}
 use Rattle.hex_devices.specs.Statuses.{end_for, status_of, stop_in}
 use Rattle.hex_devices.specs.Devices.{stop_of}
-use Rattle.hex_devices.specs.declared.ends.End.{End}
-use Rattle.hex_devices.specs.declared.ends.End.TheVariants.{Done, Rejected, Usage, Stopped}
+use Rattle.hex_devices.specs.declared.ends.End.TheVariants.{Done, Usage, Stopped}
 
 -- a session's end is never that of a usage
 pub outcome_no_usage : (outcome : Outcome) → end_for outcome ≢ Usage

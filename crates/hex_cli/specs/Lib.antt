@@ -4,7 +4,7 @@ pub mod Served
 pub mod CertTexts
 pub mod AuditTexts
 pub mod SolveTexts
-pub mod Inputs
+pub mod WholeInputs
 pub mod Determined
 pub mod Headline
 pub mod Runs

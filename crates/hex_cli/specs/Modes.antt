@@ -45,8 +45,8 @@ PlaysBy used options end before after = (outcome : Outcome) × (end ≡ end_for 
     × Conversed outcome (engine_options options) options.size INPUT_LIMIT used
     (shelf_and_archive before) (shelf_and_archive after) before.link after.link
 
--- Modes check, migrate and audit: the whole input, of at most INPUT_LIMIT bytes, was answered by
--- such a text, and this is the end.
+-- Modes check, migrate, audit and solve: the whole input, of at most INPUT_LIMIT bytes, was
+-- answered by such a text, and this is the end.
 abbrev pub AnswersBy : TextOf → End → DevicesState → DevicesState → Type 0
 AnswersBy Answers end before after =
     (answer : Result Bool Stop) × (end ≡ end_of_answer answer)

@@ -1,5 +1,4 @@
 -- Mode htp: what stands of a session, and of the turns that it used up.
-use Rattle.std.specs.Prelude.{List}
 use Rattle.std.specs.List.{AllByRecursion}
 use Rattle.hexd_args.specs.declared.settings.Options.{Options}
 use Rattle.hex_plan.specs.Laws.{LosesAsPlanned, LosesOutsideCarriers}

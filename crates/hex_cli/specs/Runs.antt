@@ -13,10 +13,6 @@ use Rattle.hex_devices.specs.declared.ends.End.TheVariants.{Usage, Stopped}
 
 -- ---- the words
 
--- some options make these words well formed
-abbrev pub AreWellFormed : List (List ℕ) → Type 0
-AreWellFormed words = (options : Options) × WellFormed words options
-
 -- no options make these words well formed
 abbrev pub AreRefused : List (List ℕ) → Type 0
 AreRefused words = (options : Options) → ¬ WellFormed words options

@@ -1,5 +1,5 @@
 -- What is done for the words of a run, told of its devices. No clause of a public call cites this.
-use Rattle.std.specs.Prelude.{◌≡◌, ℕ, List}
+use Rattle.std.specs.Prelude.{ℕ, List}
 use Rattle.hexd_args.specs.Reading.{WellFormed}
 use Rattle.hexd_args.specs.declared.settings.Options.{Options}
 use Rattle.hexd_args.specs.declared.settings.Mode.{Mode}

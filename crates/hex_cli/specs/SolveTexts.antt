@@ -1,6 +1,6 @@
 -- What mode solve answers.
-use Rattle.std.specs.Prelude.{◌≡◌, ◌⊎◌, ◌-◌, ℕ, Bool, true, false, List, ◌++◌, Some, None, codes}
-use Rattle.std.specs.Prelude.{length}
+use Rattle.std.specs.Prelude.{◌≡◌, ◌⊎◌, ◌-◌, ◌*◌, ◌<◌, ◌≤◌, ℕ, Bool, true, false}
+use Rattle.std.specs.Prelude.{List, ◌++◌, Some, None, codes, length}
 use Rattle.std.specs.Fmt.{decimal}
 use Rattle.std.specs.List.{slice_get}
 use Rattle.std.specs.Option.{option_map_or}
@@ -9,13 +9,15 @@ use Rattle.hex_cells.specs.declared.colours.Colour.{Colour}
 use Rattle.hex_cells.specs.declared.colours.Colour.TheVariants.{Black}
 use Rattle.hex_board.specs.Joined.{winner_of}
 use Rattle.hex_board.specs.Positions.{Position}
+use Rattle.hex_board.specs.Wins.{Wins, empty_count}
 use Rattle.win_cert.specs.Texts.{cert_text, colour_word}
 use Rattle.win_cert.specs.Writable.{IsWritable}
+use Rattle.win_cert.specs.declared.certs.TheConstants.{MOST_LINES}
 use Rattle.hex_game.specs.Games.{GameData, board_of}
 use Rattle.hex_game.specs.declared.moves.Step.{Step}
 use Rattle.sgf_game.specs.RecordOf.{IsGameOf}
-use Rattle.hex_solve.specs.Solved.{OpenIsFull, TooLongNeedsMany, UnknownNeedsMore, WinnerWins}
-use Rattle.hex_solve.specs.Solved.{WonIsCertified, WonIsShort}
+use Rattle.hex_solve.specs.Deciding.{need}
+use Rattle.hex_solve.specs.Solved.{Certifies, IsBeyond, IsOpenBoard, IsOwnReport, few_cells}
 use Rattle.hex_solve.specs.declared.answers.Solved.{Solved}
 use Rattle.hex_solve.specs.declared.answers.Solved.TheVariants.{Won, Unknown, TooLong, Open}
 
@@ -40,16 +42,22 @@ CanBeWritten (Unknown spent own) = Unit {0}
 CanBeWritten (TooLong winner lines) = Unit {0}
 CanBeWritten (Open full) = Unit {0}
 
--- what the solver may answer, with connections or without and with this budget, of the position p
--- with `mover` to place
-pub record IsSolved (hsearch : Bool) (budget : ℕ) (p : Position) (mover : Colour) (solved : Solved)
-    : Type 0 where
-  pub wins : WinnerWins p mover solved
-  pub won : WonIsCertified p mover solved
-  pub short : WonIsShort p mover hsearch solved
-  pub unknown : UnknownNeedsMore p mover hsearch budget solved
-  pub too_long : TooLongNeedsMany p mover solved
-  pub full : OpenIsFull p solved
+-- What the solver may answer, with connections or without and with this budget, of the position p
+-- with `mover` to place. Who is told to win does, whatever the other does. His certificate shows
+-- it, and without connections it has at most two lines for each position that the search needs; or
+-- it would have more lines than one may have, and then more cells are empty than a few, and the
+-- search without connections needs more than half as many positions, or, with connections, more
+-- than the budget. Where nobody is told to win, the budget is spent, and the search needs more; or
+-- a full board keeps the stones of p, and nobody is joined on it.
+abbrev pub IsSolved : Bool → ℕ → Position → Colour → Solved → Type 0
+IsSolved hsearch budget p mover (Won winner cert) = Wins winner p mover
+    × Certifies p mover winner cert × (hsearch ≡ false → length cert.lines ≤ 2 * need p mover)
+IsSolved hsearch budget p mover (Unknown spent own) =
+    (spent ≡ budget) × (budget < need p mover) × IsOwnReport p mover hsearch own
+IsSolved hsearch budget p mover (TooLong winner lines) = Wins winner p mover
+    × (MOST_LINES < lines) × (few_cells < empty_count p)
+    × ((MOST_LINES < 2 * need p mover) ⊎ IsBeyond p mover hsearch budget)
+IsSolved hsearch budget p mover (Open full) = IsOpenBoard p full
 
 -- a player is joined on the game's board, and the text says who
 abbrev pub IsOverText : GameData → List ℕ → Type 0

@@ -11,7 +11,7 @@ use trace_audit::audit;
 use trace_audit::types::Audit;
 
 /// The answer of mode `audit`: whether the bytes are the traces of closed trees.
-pub fn audit_answer(alloc: Global, input: &[u8]) -> Result<InputAnswer, AllocError>
+pub fn audit_traces(alloc: Global, input: &[u8]) -> Result<InputAnswer, AllocError>
     requires { length input.now ≤ INPUT_LIMIT }
     ensures { IfOk result (λ a. IsAuditText input.now a.text.items a.accepted) }
 {

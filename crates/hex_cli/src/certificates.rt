@@ -15,18 +15,18 @@ use std::alloc::{AllocError, Global};
 use win_cert::{Cert, CertError, Verdict, raise, read, write};
 
 /// The answer of mode `migrate`: the certificate in the latest version, or why there is none.
-pub fn migrate_answer(alloc: Global, input: &[u8]) -> Result<InputAnswer, AllocError>
+pub fn migrate_certificate(alloc: Global, input: &[u8]) -> Result<InputAnswer, AllocError>
     ensures { IfOk result (λ a. IsMigrateText input.now a.text.items a.accepted) }
 {
     match read(alloc, input) {
-        Ok(cert) => migrated(alloc, &cert),
+        Ok(cert) => in_latest_version(alloc, &cert),
         Err(CertError::Memory) => Err(AllocError),
         Err(error) => refused(alloc, error),
     }
 }
 
 /// The answer of mode `check`: the verdict on the certificate, or why there is none.
-pub fn check_answer(alloc: Global, input: &[u8]) -> Result<InputAnswer, AllocError>
+pub fn check_certificate(alloc: Global, input: &[u8]) -> Result<InputAnswer, AllocError>
     ensures { IfOk result (λ a. IsCheckText input.now a.text.items a.accepted) }
 {
     match read(alloc, input) {
@@ -42,7 +42,7 @@ pub fn check_answer(alloc: Global, input: &[u8]) -> Result<InputAnswer, AllocErr
 }
 
 // The certificate in the latest version.
-fn migrated(alloc: Global, cert: &Cert) -> Result<InputAnswer, AllocError>
+fn in_latest_version(alloc: Global, cert: &Cert) -> Result<InputAnswer, AllocError>
     requires { IsWritable cert.now }
     ensures text { IfOk result (λ a. a.text.items ≡ cert_text (raised cert.now)) }
     ensures accepted { IfOk result (λ a. a.accepted ≡ true) }
@@ -68,11 +68,11 @@ fn judged(alloc: Global, verdict: Verdict) -> Result<InputAnswer, AllocError>
         Verdict::Yes {
             claim: Kind::Full,
             ..
-        } => answer_of(alloc, b"yes full\n", true),
+        } => with_text(alloc, b"yes full\n", true),
         Verdict::Yes {
             claim: Kind::Semi,
             ..
-        } => answer_of(alloc, b"yes semi\n", true),
+        } => with_text(alloc, b"yes semi\n", true),
         Verdict::No { line, reason } => {
             let mut text = b"no ".to_vec(alloc)?;
             push_number(alloc, &mut text, u64::from(line))?;
@@ -103,12 +103,13 @@ fn refused(alloc: Global, error: CertError) -> Result<InputAnswer, AllocError>
                 accepted: false,
             })
         }
-        CertError::TooManyLines => answer_of(alloc, b"too many lines\n", false),
-        CertError::Memory => answer_of(alloc, b"", false),
+        CertError::TooManyLines => with_text(alloc, b"too many lines\n", false),
+        CertError::Memory => with_text(alloc, b"", false),
     }
 }
 
-fn answer_of(alloc: Global, text: &[u8], accepted: bool) -> Result<InputAnswer, AllocError>
+// The answer that has this text.
+fn with_text(alloc: Global, text: &[u8], accepted: bool) -> Result<InputAnswer, AllocError>
     ensures text { IfOk result (λ a. a.text.items ≡ text.now) }
     ensures accepted { IfOk result (λ a. a.accepted ≡ accepted) }
 {

@@ -49,7 +49,6 @@
 
 mod audits;
 mod certificates;
-mod inputs;
 mod knobs;
 mod limits;
 mod numbers;
@@ -59,6 +58,7 @@ mod single_turns;
 mod solutions;
 mod top;
 mod trace_names;
+mod whole_inputs;
 
 pub use hexd_args::Memory;
 pub use limits::INPUT_LIMIT;

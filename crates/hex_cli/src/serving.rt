@@ -1,17 +1,19 @@
 //! What is done for the words of a run, in the mode that they say.
 
 ghost use Rattle.std.specs.Prelude.{◌≡◌, ◌≢◌, ◌⊎◌, ◌^◌, ◌<◌};
+ghost use Rattle.hexd_args.specs.Reading.{WellFormed};
 ghost use Rattle.hexd_args.specs.Values as value;
+ghost use Rattle.hexd_args.specs.declared.settings.Options.{Options};
 ghost use Rattle.hex_devices.specs.declared.stops.Stop.TheVariants.{Memory};
 ghost use Rattle.hex_devices.specs.Devices.{CountsStop};
-ghost use Rattle.hex_cli.specs.Runs.{AreWellFormed, AreRefused};
+ghost use Rattle.hex_cli.specs.Runs.{AreRefused};
 ghost use Rattle.hex_cli.specs.Served.{LeavesIdle, Serves, ServesIn, StandsIdleIn};
 ghost use Rattle.hex_devices.specs.Statuses.{stop_in};
 ghost use Rattle.hex_devices.specs.declared.ends.End.TheVariants.{Stopped};
 
-use crate::inputs::{InputMode, answer};
 use crate::playing::play;
 use crate::single_turns::{bench, simulate};
+use crate::whole_inputs::{InputMode, serve_input};
 use hex_devices::{Devices, End, Stop};
 use hex_io::{Link, Shelf, Word};
 use hex_plan::Archive;
@@ -28,7 +30,7 @@ pub fn serve<L: Link, F: Shelf, A: Archive, R: Threads + Sync, G: Gate + Sync>(
 ) -> End
     ensures usage { result ≡ End.Usage → AreRefused words.now }
     ensures well_formed { result ≢ End.Usage → result ≢ Stopped Memory
-        → AreWellFormed words.now }
+        → (options : Options) × WellFormed words.now options }
     ensures refused { AreRefused words.now
         → (result ≡ End.Usage) ⊎ (result ≡ Stopped Memory) }
     ensures untouched { AreRefused words.now → devices.new ≡ devices.old }
@@ -59,9 +61,9 @@ fn in_mode<L: Link, F: Shelf, A: Archive, R: Threads + Sync, G: Gate + Sync>(
 {
     match options.mode {
         Mode::Htp => play(alloc, options, devices),
-        Mode::Check => answer(alloc, InputMode::Check, devices),
-        Mode::Migrate => answer(alloc, InputMode::Migrate, devices),
-        Mode::Audit => answer(alloc, InputMode::Audit, devices),
+        Mode::Check => serve_input(alloc, InputMode::Check, devices),
+        Mode::Migrate => serve_input(alloc, InputMode::Migrate, devices),
+        Mode::Audit => serve_input(alloc, InputMode::Audit, devices),
         Mode::Sim => simulate(alloc, options, devices),
         Mode::Bench => bench(alloc, options, devices),
         Mode::Solve => {
@@ -69,7 +71,7 @@ fn in_mode<L: Link, F: Shelf, A: Archive, R: Threads + Sync, G: Gate + Sync>(
                 hsearch: options.hsearch,
                 budget: options.budget,
             };
-            answer(alloc, solver, devices)
+            serve_input(alloc, solver, devices)
         }
     }
 }

@@ -18,7 +18,7 @@ use win_cert::{Cert, write};
 
 /// The answer of mode `solve`: who wins the position of the record's game, within the budget and
 /// with connections or without; or that the bytes are no record of a game.
-pub fn solve_answer(
+pub fn solve_record(
     alloc: Global,
     hsearch: bool,
     budget: u64,

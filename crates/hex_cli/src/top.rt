@@ -2,6 +2,8 @@
 
 ghost use Rattle.std.specs.Prelude.{◌≡◌};
 ghost use Rattle.hex_io.specs.Causes.{CountsFault};
+ghost use Rattle.hexd_args.specs.Reading.{WellFormed};
+ghost use Rattle.hexd_args.specs.declared.settings.Options.{Options};
 ghost use Rattle.hexd_args.specs.declared.settings.Mode.TheVariants.{Htp, Check, Migrate};
 ghost use Rattle.hexd_args.specs.declared.settings.Mode.TheVariants.{Audit, Sim, Bench, Solve};
 ghost use Rattle.hex_devices.specs.declared.stops.Stop.TheVariants.{ReadFault, WriteFault};
@@ -15,7 +17,7 @@ ghost use Rattle.hex_cli.specs.Determined.{Determines};
 ghost use Rattle.hex_cli.specs.Headline.{HasHeadline};
 ghost use Rattle.hex_cli.specs.Modes.{AnswersBy, HandsInBy};
 ghost use Rattle.hex_cli.specs.Playing.{HasGoodTurns, HasKnownThreats, HasPlayed};
-ghost use Rattle.hex_cli.specs.Runs.{AreWellFormed, AreRefused, IsServed, IsRefusal};
+ghost use Rattle.hex_cli.specs.Runs.{AreRefused, IsServed, IsRefusal};
 ghost use Rattle.hex_cli.specs.Runs.{InMode, seen, HasIdleShelf, HasIdleArchive};
 ghost use Rattle.hex_cli.specs.SolveTexts.{IsSolveText};
 ghost use Rattle.hex_devices.specs.Statuses.{status_of, HasStopped};
@@ -81,7 +83,7 @@ pub fn run<R: Threads + Sync, L: Link, E: Link, F: Shelf, A: Archive, G: Gate + 
 
     // The words. Want of memory may come in place of a refusal.
     ensures usage { result ≡ status_of End.Usage → AreRefused words.now }
-    ensures well_formed { IsServed result → AreWellFormed words.now }
+    ensures well_formed { IsServed result → (options : Options) × WellFormed words.now options }
     ensures refused { AreRefused words.now → IsRefusal result }
     ensures untouched { AreRefused words.now → devices.new ≡ devices.old }
 

@@ -4,9 +4,10 @@ ghost use Rattle.std.specs.Prelude.{◌≤◌, ℕ, Bool, List, IfOk, length};
 ghost use Rattle.hex_devices.specs.Devices.{RisesWith};
 ghost use Rattle.hex_devices.specs.Inputs.{AnswersInput};
 
+use crate::giving::give_text;
 use crate::inputs::take_all;
 use crate::stops::Stop;
-use hex_io::{Link, give};
+use hex_io::Link;
 use std::alloc::{AllocError, Global};
 
 /// What is answered to an input: a text, and whether the input was accepted.
@@ -53,11 +54,7 @@ pub fn answer_input<L: Link, R: InputReader>(
         Err(stop) => return Err(stop),
         Ok(input) => input,
     };
-    let Ok(answer) = reader.answer(alloc, &input) else {
-        return Err(Stop::Memory);
-    };
-    match give(link, &answer.text) {
-        Err(_) => Err(Stop::WriteFault),
-        Ok(()) => Ok(answer.accepted),
-    }
+    let answer = reader.answer(alloc, &input)?;
+    give_text(link, &answer.text)?;
+    Ok(answer.accepted)
 }

@@ -4,9 +4,10 @@ ghost use Rattle.std.specs.Prelude.{◌≡◌, ◌<◌, ◌≤◌, length, IfOk}
 ghost use Rattle.hex_devices.specs.Devices.{CountsFaults, shelf_and_archive};
 ghost use Rattle.hex_devices.specs.Calls.{ReadsSome, GivesAll};
 
+use crate::giving::give_text;
 use crate::inputs::read_some;
 use crate::stops::Stop;
-use hex_io::{Link, Shelf, give};
+use hex_io::{Link, Shelf};
 use hex_plan::Archive;
 use search_team::Gate;
 use std::marker::Model;
@@ -90,9 +91,6 @@ impl<L: Link, F: Shelf, A: Archive, R: Threads + Sync, G: Gate + Sync> Devices<
         ensures shelf_and_archive { shelf_and_archive self.new ≡ shelf_and_archive self.old }
         ensures counts { CountsFaults self.old self.new result }
     {
-        match give(&mut *self.link, bytes) {
-            Err(_) => Err(Stop::WriteFault),
-            Ok(()) => Ok(()),
-        }
+        give_text(&mut *self.link, bytes)
     }
 }

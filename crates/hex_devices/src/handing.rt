@@ -4,8 +4,9 @@ ghost use Rattle.std.specs.Prelude.{◌≡◌};
 ghost use Rattle.hex_devices.specs.Devices.{RisesWith};
 ghost use Rattle.hex_devices.specs.Handing.{HandsOver};
 
+use crate::giving::give_text;
 use crate::stops::Stop;
-use hex_io::{Link, give};
+use hex_io::Link;
 use hex_plan::{Archive, Turn};
 
 /// Hands the turn to the archive, and then gives the text. It reads nothing, and the text is given
@@ -30,8 +31,5 @@ pub fn hand_over<L: Link, A: Archive>(
     let Ok(()) = archive.take(turn) else {
         return Err(Stop::ArchiveFault);
     };
-    match give(link, text) {
-        Err(_) => Err(Stop::WriteFault),
-        Ok(()) => Ok(()),
-    }
+    give_text(link, text)
 }

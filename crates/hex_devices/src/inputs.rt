@@ -50,8 +50,6 @@ pub fn take_all<L: Link>(alloc: Global, link: &mut L, limit: usize) -> Result<Ve
         if input.len() == limit {
             return Err(Stop::TooLong);
         }
-        let Ok(()) = input.extend_from_slice(&buffer[..count]) else {
-            return Err(Stop::Memory);
-        };
+        input.extend_from_slice(&buffer[..count])?;
     }
 }

@@ -32,6 +32,7 @@
 mod answers;
 mod devices;
 mod ends;
+mod giving;
 mod handing;
 mod inputs;
 mod stops;

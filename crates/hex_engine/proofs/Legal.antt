@@ -8,10 +8,10 @@ use Rattle.hex_game.specs.Moves.{step_of}
 use Rattle.hex_game.specs.Games.{board_of, is_legal, is_over}
 use Rattle.hex_game.specs.declared.moves.Move.TheVariants.{Stone}
 use Rattle.hex_game.proofs.Over.{not_over}
+use Rattle.hex_plan.specs.Good.{IsGood}
 use Rattle.hex_plan.specs.Turns.{TurnData}
 use Rattle.hex_engine.specs.EngineState.{EngineState}
 use Rattle.hex_engine.specs.MoveReplies.{is_board, is_next}
-use Rattle.hex_engine.specs.Uses.{IsGoodFor}
 
 pub same_board : (x z : Position) → is_board x z ≡ true → x ≡ z
 same_board x z h =
@@ -23,7 +23,7 @@ same_board x z h =
 pub next_board : (at : EngineState) (colour : Colour) (turn : TurnData) → is_next at colour turn ≡ true → turn.board ≡ board_of at.game
 next_board at colour turn next = same_board turn.board (board_of at.game) (and_parts _ _ next).0
 
-pub next_is_legal : (at : EngineState) (colour : Colour) (turn : TurnData) → IsGoodFor at.options turn → is_next at colour turn ≡ true → is_legal at.game (step_of colour (Stone turn.cell)) ≡ true
+pub next_is_legal : (at : EngineState) (colour : Colour) (turn : TurnData) → IsGood at.options.knobs at.options.hsearch turn → is_next at colour turn ≡ true → is_legal at.game (step_of colour (Stone turn.cell)) ≡ true
 next_is_legal at colour turn good next =
     let now : Position = board_of at.game in
     let board : turn.board ≡ now = next_board at colour turn next in

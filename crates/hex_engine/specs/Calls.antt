@@ -3,13 +3,14 @@ use Rattle.std.specs.Prelude.{◌≡◌, ◌≤◌, ℕ, Bool, true, List, [], �
 use Rattle.hex_cells.specs.declared.colours.Colour.{Colour}
 use Rattle.hex_io.specs.Shelves.{Shelved}
 use Rattle.hex_io.specs.Told.{Both}
+use Rattle.hex_plan.specs.Good.{IsGood}
 use Rattle.hex_plan.specs.Turns.{TurnData}
 use Rattle.hex_engine.specs.EngineState.{EngineState}
 use Rattle.hex_engine.specs.LoadReplies.{loading}
 use Rattle.hex_engine.specs.MoveReplies.{is_next, moving, turned}
 use Rattle.hex_engine.specs.Requests.{Reacts, ReactsWith}
 use Rattle.hex_engine.specs.Supply.{Load, nothing_left, loads_only, turns_only}
-use Rattle.hex_engine.specs.Uses.{IsGoodFor, Loading, Moving}
+use Rattle.hex_engine.specs.Uses.{Loading, Moving}
 use Rattle.hex_engine.specs.declared.answers.Answer.{Answer}
 
 -- one fetch at most was tried, which came to nothing
@@ -37,6 +38,7 @@ AnswersMove engine args archive archive_now answer after = (turns : List TurnDat
 abbrev pub TakesNext : EngineState → Colour → Option (List TurnData) → Option (List TurnData)
     → Answer → EngineState → Type 0
 TakesNext engine colour archive archive_now answer after = (turn : TurnData)
-    × IsGoodFor engine.options turn × (is_next engine colour turn ≡ true)
+    × IsGood engine.options.knobs engine.options.hsearch turn
+    × (is_next engine colour turn ≡ true)
     × Both archive archive_now (λ o n. n ≡ o ++ turn ∷ [])
     × Reacts (turned engine colour turn) answer after

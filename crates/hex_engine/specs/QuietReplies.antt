@@ -1,9 +1,8 @@
 -- What the commands do that use nothing up.
-use Rattle.std.specs.Prelude.{ℕ, Bool, true, false, List, [], ◌∷◌, Option, Some, None}
-use Rattle.std.specs.Prelude.{codes, is_some}
-use Rattle.std.specs.Option.{option_and_then, option_map}
+use Rattle.std.specs.Prelude.{ℕ, List, [], ◌∷◌, Option, Some, None}
+use Rattle.std.specs.Prelude.{codes, is_some, if◌then◌else◌}
+use Rattle.std.specs.Option.{option_and_then, option_map, option_map_or}
 use Rattle.hex_cells.specs.Colours.{colour_word}
-use Rattle.hex_cells.specs.declared.colours.Colour.{Colour}
 use Rattle.hex_board.specs.Joined.{winner_of}
 use Rattle.hex_game.specs.Games.{board_of}
 use Rattle.hex_plan.specs.TurnTexts.{TurnTextsData}
@@ -37,37 +36,15 @@ abbrev pub text_or : Fail → Option (List ℕ) → Reply
 text_or fail None = Failed fail
 text_or fail (Some text) = Done text
 
--- the text of a truth value
-abbrev pub truth : Bool → List ℕ
-truth true = codes "true"
-truth false = codes "false"
-
 -- what `known_command` answers
 abbrev pub knowing : List (List ℕ) → Reply
 knowing [] = Failed Syntax
-knowing (word ∷ []) = Done (truth (is_some (command_named word)))
+knowing (word ∷ []) =
+    Done (if is_some (command_named word) then codes "true" else codes "false")
 knowing (word ∷ other ∷ words) = Failed Syntax
 
--- the text of `winner`
-abbrev pub winner_text : Option Colour → List ℕ
-winner_text None = codes "none"
-winner_text (Some colour) = colour_word colour
-
--- what the three commands answer that ask for the last turn: its report, what `mustplay` says of
--- it, and its certificate, where there is one
-abbrev pub reporting : Option TurnTextsData → List (List ℕ) → Reply
-reporting last args = bare_reply args
-    (text_or NoSearch (option_and_then (λ (texts : TurnTextsData). texts.report) last))
-
-abbrev pub planning : Option TurnTextsData → List (List ℕ) → Reply
-planning last args = bare_reply args
-    (text_or NoSearch (option_map (λ (texts : TurnTextsData). texts.mustplay) last))
-
-abbrev pub certifying : Option TurnTextsData → List (List ℕ) → Reply
-certifying last args = bare_reply args
-    (text_or NoCert (option_and_then (λ (texts : TurnTextsData). texts.wincert) last))
-
--- what a command with these arguments does that uses nothing up
+-- What a command with these arguments does that uses nothing up. The three that ask for the last
+-- turn answer its report, what `mustplay` says of it, and its certificate, where there is one.
 unfoldable pub quiet_reaction : EngineState → Quiet → List (List ℕ) → QuietReaction
 quiet_reaction engine BoardSize args = resized engine.game (sizes_of args)
 quiet_reaction engine ClearBoard args =
@@ -75,7 +52,8 @@ quiet_reaction engine ClearBoard args =
 quiet_reaction engine KnownCommand args = reply_alone engine.game (knowing args)
 quiet_reaction engine ListCommands args =
     reply_alone engine.game (bare_reply args (Done all_names))
-quiet_reaction engine MustPlay args = reply_alone engine.game (planning engine.last args)
+quiet_reaction engine MustPlay args = reply_alone engine.game (bare_reply args
+    (text_or NoSearch (option_map (λ (texts : TurnTextsData). texts.mustplay) engine.last)))
 quiet_reaction engine Name args =
     reply_alone engine.game (bare_reply args (Done (codes "hexd")))
 quiet_reaction engine Play args = playing engine.game args
@@ -84,13 +62,15 @@ quiet_reaction engine PrintSgf args =
 quiet_reaction engine ProtocolVersion args =
     reply_alone engine.game (bare_reply args (Done (codes "2")))
 quiet_reaction engine Quit args = reply_alone engine.game (bare_reply args reply.Quit)
-quiet_reaction engine SearchReport args = reply_alone engine.game (reporting engine.last args)
+quiet_reaction engine SearchReport args = reply_alone engine.game (bare_reply args
+    (text_or NoSearch (option_and_then (λ (texts : TurnTextsData). texts.report) engine.last)))
 quiet_reaction engine ShowBoard args =
     reply_alone engine.game (bare_reply args (Done (picture (board_of engine.game))))
 quiet_reaction engine Undo args =
     if_bare engine.game args (undone engine.game engine.game.steps)
 quiet_reaction engine Version args =
     reply_alone engine.game (bare_reply args (Done (codes "1.0")))
-quiet_reaction engine WinCert args = reply_alone engine.game (certifying engine.last args)
-quiet_reaction engine Winner args = reply_alone engine.game
-    (bare_reply args (Done (winner_text (winner_of (board_of engine.game)))))
+quiet_reaction engine WinCert args = reply_alone engine.game (bare_reply args
+    (text_or NoCert (option_and_then (λ (texts : TurnTextsData). texts.wincert) engine.last)))
+quiet_reaction engine Winner args = reply_alone engine.game (bare_reply args
+    (Done (option_map_or colour_word (winner_of (board_of engine.game)) (codes "none"))))

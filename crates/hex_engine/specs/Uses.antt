@@ -50,14 +50,11 @@ pub record FetchesLoads (old new : Shelved) (loads : List Load) (in_vain : List 
 abbrev pub Loading : Option Shelved → Option Shelved → Supply → List Bool → Type 0
 Loading old new used in_vain = Both old new (λ o n. FetchesLoads o n used.loads in_vain)
 
--- the turn is one that a session with these options owes
-abbrev pub IsGoodFor : Options → TurnData → Type 0
-IsGoodFor options turn = IsGood options.knobs options.hsearch turn
-
--- each of these turns is good
+-- each of these turns is one that a session with these options owes
 abbrev pub AreGood : Options → List TurnData → Type 0
 AreGood options [] = Unit {0}
-AreGood options (turn ∷ turns) = IsGoodFor options turn × AreGood options turns
+AreGood options (turn ∷ turns) =
+    IsGood options.knobs options.hsearch turn × AreGood options turns
 
 -- one worker searches, and no connections are looked for
 pub record HasOneWorker (options : Options) : Type 0 where

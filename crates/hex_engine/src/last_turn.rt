@@ -1,7 +1,8 @@
 //! The quiet commands that ask for the last turn: `search-report`, `mustplay` and `wincert`.
 
 ghost use Rattle.std.specs.Prelude.{IfOk};
-ghost use Rattle.hex_engine.specs.QuietReplies.{certifying, planning, reporting};
+ghost use Rattle.std.specs.Option.{option_and_then, option_map};
+ghost use Rattle.hex_engine.specs.QuietReplies.{bare_reply, text_or};
 ghost use Rattle.hex_engine.specs.Requests.{Tells};
 
 use super::answers::{Answer, Fail, Memory};
@@ -18,7 +19,8 @@ pub fn tell_report(
     args: &[Bytes],
     last: &Option<TurnTexts>,
 ) -> Result<Answer, Memory>
-    ensures { IfOk result (Tells (reporting last.now args.now)) }
+    ensures { IfOk result (Tells (bare_reply args.now
+        (text_or Fail.NoSearch (option_and_then (λ texts. texts.report) last.now)))) }
 {
     if !args.is_empty() {
         return Ok(Answer::Fail(Fail::Syntax));
@@ -37,7 +39,8 @@ pub fn tell_report(
 /// Answers the last turn's plan: of a win its cell; of a search whether the board was lost, the
 /// allowed cells, and the carrier of each threat.
 pub fn tell_plan(alloc: Global, args: &[Bytes], last: &Option<TurnTexts>) -> Result<Answer, Memory>
-    ensures { IfOk result (Tells (planning last.now args.now)) }
+    ensures { IfOk result (Tells (bare_reply args.now
+        (text_or Fail.NoSearch (option_map (λ texts. texts.mustplay) last.now)))) }
 {
     if !args.is_empty() {
         return Ok(Answer::Fail(Fail::Syntax));
@@ -56,7 +59,8 @@ pub fn tell_certificate(
     args: &[Bytes],
     last: &Option<TurnTexts>,
 ) -> Result<Answer, Memory>
-    ensures { IfOk result (Tells (certifying last.now args.now)) }
+    ensures { IfOk result (Tells (bare_reply args.now
+        (text_or Fail.NoCert (option_and_then (λ texts. texts.wincert) last.now)))) }
 {
     if !args.is_empty() {
         return Ok(Answer::Fail(Fail::Syntax));

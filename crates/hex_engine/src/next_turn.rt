@@ -6,7 +6,7 @@ ghost use Rattle.hex_game.specs.Games.{board_of};
 ghost use Rattle.hex_plan.specs.Openings.{may_move};
 ghost use Rattle.hex_plan.specs.TurnTexts.{texts_of};
 ghost use Rattle.hex_engine.specs.MoveReplies.{is_next};
-ghost use Rattle.hex_engine.specs.Uses.{IsGoodFor};
+ghost use Rattle.hex_plan.specs.Good.{IsGood};
 
 use super::answers::Memory;
 use super::state::Engine;
@@ -36,7 +36,8 @@ impl Engine {
         gate: &G,
     ) -> Result<Prepared, Memory>
         requires { may_move (board_of self.now.game) ≡ true }
-        ensures good { IfOk result (λ next. IsGoodFor self.now.options next.turn) }
+        ensures good { IfOk result
+            (λ next. IsGood self.now.options.knobs self.now.options.hsearch next.turn) }
         ensures next { IfOk result (λ next. is_next self.now colour next.turn ≡ true) }
         ensures texts { IfOk result (λ next. next.texts ≡ texts_of next.turn) }
         ensures vertex { IfOk result (λ next.
@@ -61,7 +62,8 @@ impl Engine {
         gate: &G,
     ) -> Result<Turn, Memory>
         requires { may_move (board_of self.now.game) ≡ true }
-        ensures good { IfOk result (IsGoodFor self.now.options) }
+        ensures good { IfOk result
+            (IsGood self.now.options.knobs self.now.options.hsearch) }
         ensures next { IfOk result (λ turn. is_next self.now colour turn ≡ true) }
     {
         let board = self.game.board();

@@ -1,12 +1,14 @@
 //! The quiet commands that leave the game as it is: each answers a text.
 
-ghost use Rattle.std.specs.Prelude.{◌≡◌, [], IfOk};
+ghost use Rattle.std.specs.Prelude.{◌≡◌, [], IfOk, codes};
+ghost use Rattle.std.specs.Option.{option_map_or};
+ghost use Rattle.hex_cells.specs.Colours.{colour_word};
 ghost use Rattle.hex_board.specs.Joined.{winner_of};
 ghost use Rattle.sgf_game.specs.Record.{record_of};
 ghost use Rattle.sgf_tree.specs.Printing.{trees_print};
 ghost use Rattle.hex_engine.specs.Commands.{all_names};
 ghost use Rattle.hex_engine.specs.Picture.{picture};
-ghost use Rattle.hex_engine.specs.QuietReplies.{bare_reply, knowing, winner_text};
+ghost use Rattle.hex_engine.specs.QuietReplies.{bare_reply, knowing};
 ghost use Rattle.hex_engine.specs.Replies.{Done, Quit};
 ghost use Rattle.hex_engine.specs.Requests.{IsBrief, Tells};
 
@@ -49,7 +51,7 @@ pub fn tell(alloc: Global, args: &[Bytes], text: &[u8]) -> Result<Answer, Memory
 
 /// The text of `winner`.
 pub fn name_of_winner(board: &Board) -> &'static [u8]
-    ensures { result.now ≡ winner_text (winner_of board.now) }
+    ensures { result.now ≡ option_map_or colour_word (winner_of board.now) (codes "none") }
 {
     match board.winner() {
         None => b"none",

@@ -1,5 +1,5 @@
 -- What `search-report`, `mustplay` and `wincert` say of a turn.
-use Rattle.std.specs.Prelude.{ℕ, ◌-◌, ◌*◌, ◌<◌, Bool, true, false}
+use Rattle.std.specs.Prelude.{ℕ, ◌-◌, ◌*◌, ◌<◌, if◌then◌else◌}
 use Rattle.std.specs.Prelude.{List, [], ◌∷◌, ◌++◌, codes, length, take}
 use Rattle.std.specs.Prelude.{Option, Some, None, option_map}
 use Rattle.tree_words.specs.Closing.{ClosedTree}
@@ -28,14 +28,20 @@ abbrev pub AreOn : ℕ → List Row → Type 0
 AreOn size [] = Unit {0}
 AreOn size (row ∷ rows) = (row.cell < size * size) × AreOn size rows
 
--- the number of a tree's playouts, and a line for each child of its root, in rising order of cells
-abbrev pub report_on : ℕ → ClosedTree → List ℕ
-report_on size closed = codes "playouts " ++ decimal closed.shape.knobs.playouts
-    ++ report_lines size (rows_of closed.shape closed.words)
+-- the report of a search of so many playouts, by the rows of its tree
+abbrev pub report_by : ℕ → ℕ → List Row → List ℕ
+report_by size playouts rows = codes "playouts " ++ decimal playouts ++ report_lines size rows
 
--- the report of a turn's tree, if it has one
+-- that of a closed tree; private clauses alone cite it
+abbrev pub report_on : ℕ → ClosedTree → List ℕ
+report_on size closed =
+    report_by size closed.shape.knobs.playouts (rows_of closed.shape closed.words)
+
+-- the report of a turn's tree, if it has one: a row for each child of its root, in rising order of
+-- cells
 unfoldable pub report_of : TurnData → Option (List ℕ)
-report_of turn = option_map (report_on turn.board.size) turn.closed
+report_of turn = option_map (λ (tree : ClosedTree). report_by turn.board.size
+    tree.shape.knobs.playouts (rows_of tree.shape tree.words)) turn.closed
 
 -- the vertices of the cells of a set, in rising order, a space before each
 abbrev pub spaced_vertices : ℕ → ℕ → List ℕ
@@ -45,11 +51,6 @@ spaced_vertices size set = flat_map (λ vertex. 32 ∷ vertex) (vertices_of size
 abbrev pub spaced_vertex : ℕ → ℕ → List ℕ
 spaced_vertex size k = 32 ∷ vertex_of size k
 
--- `yes` or `no`
-abbrev pub answer_word : Bool → List ℕ
-answer_word true = codes "yes"
-answer_word false = codes "no"
-
 -- a line feed, `threat`, and the vertices of the threat's carrier
 abbrev pub threat_line : ℕ → Threat → List ℕ
 threat_line size t = codes "\nthreat" ++ spaced_vertices size t.carrier
@@ -57,16 +58,13 @@ threat_line size t = codes "\nthreat" ++ spaced_vertices size t.carrier
 -- of a win its cell; of a search whether the board is lost, the allowed cells, and each threat
 abbrev pub mustplay_of : ℕ → Plan → List ℕ
 mustplay_of size (Win cert cell) = codes "win " ++ vertex_of size cell
-mustplay_of size (Search threats allowed lost) = codes "lost " ++ answer_word lost
+mustplay_of size (Search threats allowed lost) =
+    codes "lost " ++ (if lost then codes "yes" else codes "no")
     ++ codes "\nallowed" ++ spaced_vertices size allowed ++ flat_map (threat_line size) threats
-
--- a text without its last byte
-abbrev pub without_last_byte : List ℕ → List ℕ
-without_last_byte text = take (length text - 1) text
 
 -- the certificate of a win, without its last line feed
 abbrev pub wincert_of : Plan → Option (List ℕ)
-wincert_of (Win cert cell) = Some (without_last_byte (cert_text cert))
+wincert_of (Win cert cell) = Some (take (length (cert_text cert) - 1) (cert_text cert))
 wincert_of (Search threats allowed lost) = None
 
 -- what the three commands say of a turn; of a win there is no report, and of a search no

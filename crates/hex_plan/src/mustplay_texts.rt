@@ -1,10 +1,11 @@
 //! The text of a plan: a win's cell, or the allowed cells and the threats of a search.
 
 ghost use Rattle.std.specs.Prelude.{◌≡◌, ◌*◌, ◌<◌, ◌++◌, ◌∷◌, [], IfOk, OnOk, codes};
+ghost use Rattle.std.specs.Prelude.{if◌then◌else◌};
 ghost use Rattle.std.specs.List.{filter, flat_map};
 ghost use Rattle.hex_cells.specs.Sets.{has};
 ghost use Rattle.hex_cells.specs.Vertices.{vertex_of};
-ghost use Rattle.hex_plan.specs.TurnTexts.{answer_word, mustplay_of, spaced_vertex, threat_line};
+ghost use Rattle.hex_plan.specs.TurnTexts.{mustplay_of, spaced_vertex, threat_line};
 ghost use Rattle.hex_plan.specs.TurnTexts.{spaced_vertices};
 ghost use Rattle.hex_plan.specs.declared.types.Plan.{Plan};
 
@@ -44,7 +45,8 @@ pub(crate) fn search_text(
 
 // `yes` or `no`.
 fn push_answer(text: &mut Vec<u8>, answer: bool) -> Result<(), AllocError>
-    ensures { OnOk result (text.new.items ≡ text.old.items ++ answer_word answer) }
+    ensures { OnOk result (text.new.items
+        ≡ text.old.items ++ (if answer then codes "yes" else codes "no")) }
 {
     if answer {
         text.extend_from_slice(b"yes")

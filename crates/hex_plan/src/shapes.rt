@@ -1,10 +1,10 @@
 //! The shape of the search of a turn.
 
-ghost use Rattle.std.specs.Prelude.{◌≡◌};
+ghost use Rattle.std.specs.Prelude.{◌≡◌, ◌+◌, ◌*◌, ◌%◌, ◌^◌};
 ghost use Rattle.hex_board.specs.Positions.{AllEmpty};
 ghost use Rattle.tree_words.specs.Settings.{AreInRange, IsAny};
 ghost use Rattle.hex_plan.specs.Good.{IsTurnShape};
-ghost use Rattle.hex_plan.specs.Seeds.{seed_of, turn_knobs};
+ghost use Rattle.hex_plan.specs.Seeds.{turn_knobs};
 
 use hex_board::Board;
 use hex_cells::{CellSet, Colour};
@@ -16,7 +16,7 @@ const TURN_STEP: u64 = 1 << 32;
 
 // The seed of the turn with this number.
 fn seed_of(seed: u64, number: u64) -> u64
-    ensures { result ≡ seed_of seed number }
+    ensures { result ≡ (seed + number * 2 ^ 32) % 2 ^ 64 }
 {
     seed.wrapping_add(number.wrapping_mul(TURN_STEP))
 }

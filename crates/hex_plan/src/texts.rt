@@ -1,7 +1,7 @@
 //! What the commands `search-report`, `mustplay` and `wincert` say of a turn.
 
-ghost use Rattle.std.specs.Prelude.{◌≡◌, IfOk, option_map};
-ghost use Rattle.hex_plan.specs.TurnTexts.{mustplay_of, texts_of, wincert_of, without_last_byte};
+ghost use Rattle.std.specs.Prelude.{◌≡◌, ◌-◌, IfOk, length, option_map, take};
+ghost use Rattle.hex_plan.specs.TurnTexts.{mustplay_of, texts_of, wincert_of};
 ghost use Rattle.win_cert.specs.Texts.{cert_text};
 ghost use Rattle.win_cert.specs.Writable.{IsWritable};
 
@@ -109,7 +109,8 @@ fn wincert_text(alloc: Global, turn: &Turn) -> Result<Option<Vec<u8>>, AllocErro
 // The text of a certificate, without its last line feed.
 fn cert_body(alloc: Global, cert: &Cert) -> Result<Vec<u8>, AllocError>
     requires { IsWritable cert.now }
-    ensures { IfOk result (λ text. text.items ≡ without_last_byte (cert_text cert.now)) }
+    ensures { IfOk result (λ text. text.items
+        ≡ take (length (cert_text cert.now) - 1) (cert_text cert.now)) }
 {
     let Ok(text) = write(alloc, cert) else {
         return Err(AllocError);

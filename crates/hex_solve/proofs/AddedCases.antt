@@ -29,10 +29,10 @@ pub record Answering (d : LedgerData) (p : Position) (numbers cells : List ℕ) 
   pub bare : (k : ℕ) → is_empty_at p k ≡ false → (j : ℕ) → IsAmong j cells → Leaves k carriers
   pub small : AreNumbers numbers
 
-none_first : (c : ℕ) (rest : List ℕ) → [] ≡ c ∷ rest → (k : ℕ) × (has c k ≡ true)
+pub none_first : (c : ℕ) (rest : List ℕ) → [] ≡ c ∷ rest → (k : ℕ) × (has c k ≡ true)
 none_first c rest h = absurd (cc)
 
-head_same : (a c : ℕ) (b rest : List ℕ) → a ∷ b ≡ c ∷ rest → a ≡ c
+pub head_same : (a c : ℕ) (b rest : List ℕ) → a ∷ b ≡ c ∷ rest → a ≡ c
 head_same a c b rest h = cc
 
 pub answering : (d : LedgerData) (p : Position) (numbers cells : List ℕ) → IsLedger d → d.lost ≡ 0 → AreAnswers d p numbers cells → Answering d p numbers cells

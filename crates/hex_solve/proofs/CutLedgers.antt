@@ -13,17 +13,18 @@ use Rattle.win_cert.specs.Cuts.{IsEdgeEntryAt}
 use Rattle.win_cert.specs.Derivations.{DerivesOnto}
 use Rattle.win_cert.specs.Showing.{Keeps, scope_of}
 use Rattle.win_cert.specs.Writable.{IsLineOf}
-use Rattle.win_cert.specs.declared.certs.TheConstants.{FIRST_VERSION, LATEST_VERSION, MOST_LINES}
+use Rattle.win_cert.specs.declared.certs.TheConstants.{FIRST_VERSION, LATEST_VERSION}
 use Rattle.win_cert.specs.declared.lines.Line.{Line}
 use Rattle.win_cert.specs.declared.lines.Line.TheVariants.{Adj, And, Key, Or2, Or3, Put, Done, Move, Cases}
 use Rattle.win_cert.proofs.Appending.{after_append, clear_append}
 use Rattle.win_cert.proofs.CutDerivations.{longer}
 use Rattle.win_cert.proofs.CutShown.{IsCutOnto, cut_clear, cut_gives, cut_onto, cut_shown}
-use Rattle.hex_solve.specs.Ledgers.{IsLedger, LedgerData, read_of}
+use Rattle.hex_solve.specs.Ledgers.{GrowsBy, IsLedger, LedgerData, read_of}
 use Rattle.hex_solve.specs.Strong.{AreSemi, AreWins, ShowsCuts, ShowsIn}
 use Rattle.hex_solve.proofs.AddedLines.{put_follows, reached_there}
 use Rattle.hex_solve.proofs.InsideLines.{ShownInside, same_carrier, same_inside}
 use Rattle.hex_solve.proofs.LedgerLaws.{base_of, number_next}
+use Rattle.hex_solve.proofs.KnownLines.{all_known, nothing_more}
 
 not_latest : FIRST_VERSION ≡ LATEST_VERSION → ⊥
 not_latest h = absurd (omega arith)
@@ -59,7 +60,19 @@ lengths (x ∷ xs) ys = let e : length (xs ++ ys) ≡ length xs + length ys = le
 
 -- the ledger with these lines in place of its own
 abbrev pub lined : LedgerData → List Line → LedgerData
-lined d now = record { base = d.base; lines = now; lost = d.lost }
+lined d now = record { base = d.base; room = d.room; lines = now; lost = d.lost; known = d.known }
+
+pub lined_on : (d : LedgerData) (now more : List Line) → now ≡ d.lines ++ more → GrowsBy (length more) d (lined d now)
+lined_on d now more e = let l : length now ≡ length d.lines + length more = ap length e ∙ lengths d.lines more in record {
+  base = refl;
+  room = refl;
+  more = more;
+  lines = e;
+  lost = omega arith;
+  count = omega (arith, l);
+  learnt = [];
+  known = nothing_more d.known;
+}
 
 -- what is known where a `put` and the lines of an entry were added to a ledger
 pub record IsCutIn (d : LedgerData) (p : Position) (s : ℕ) (store : StoreData) (asked : List ℕ) (before now : List Line) (numbers : List ℕ) : Type 0 where
@@ -70,7 +83,7 @@ pub record IsCutIn (d : LedgerData) (p : Position) (s : ℕ) (store : StoreData)
   pub sound : IsSound store
   pub put : before ≡ d.lines ++ Put s ∷ []
   pub onto : DerivesOnto store asked before now numbers
-  pub room : length now ≤ MOST_LINES
+  pub room : length now ≤ d.room
 
 all_lines : (d : LedgerData) (p : Position) (s : ℕ) (store : StoreData) (asked : List ℕ) (before now : List Line) (numbers : List ℕ) (w : IsCutIn d p s store asked before now numbers) → now ≡ d.lines ++ Put s ∷ w.onto.lines
 all_lines d p s store asked before now numbers w = w.onto.added ∙ (ap (λ v. v ++ w.onto.lines) w.put ∙ seam d.lines (Put s) w.onto.lines)
@@ -99,8 +112,11 @@ cut_ledger d p s store asked before now numbers w =
       clear = subst (AreClear first) (sym all) (clear_append first d.lines (Put s ∷ o.lines) w.ledger.clear clear);
       form = subst (All (IsLineOf LATEST_VERSION d.base.board.size)) (sym all) (all_both (IsLineOf LATEST_VERSION d.base.board.size) d.lines (Put s ∷ o.lines) w.ledger.form form);
       few = w.room;
-      full = λ h. let f : length d.lines ≡ MOST_LINES = w.ledger.full h in absurd (omega (arith, w.room));
+      full = λ h. let f : length d.lines ≡ d.room = w.ledger.full h in absurd (omega (arith, w.room));
       small = w.ledger.small;
+      enough = w.ledger.enough;
+      bounded = w.ledger.bounded;
+      known = all_known (length (Put s ∷ o.lines)) d (lined d now) d.known (lined_on d now (Put s ∷ o.lines) all) w.ledger.known;
     }
 
 -- each of the lines shows what its entry says, by a fact of each place
@@ -125,9 +141,8 @@ cut_shows d p s store asked before now numbers w =
     let o = w.onto in
     let cut = cut_there d p s store asked before now numbers w in
     let read : after_lines first now ≡ after_lines c (Put s ∷ o.lines) = ap (after_lines first) all ∙ after_append first d.lines (Put s ∷ o.lines) in
-    let long : length now ≡ length d.lines + length (Put s ∷ o.lines) = ap length all ∙ lengths d.lines (Put s ∷ o.lines) in
     record {
-      grows = (length (Put s ∷ o.lines), record { base = refl; more = Put s ∷ o.lines; lines = all; lost = omega arith; count = omega (arith, long) });
+      grows = (length (Put s ∷ o.lines), lined_on d now (Put s ∷ o.lines) all);
       count = o.count;
       each = λ sets semi. wins_all (lined d now) p store asked numbers sets o.count semi (λ j n i a h g edge z.
           let n2 = after_lines c (Put s ∷ o.lines) in
@@ -139,7 +154,7 @@ cut_shows d p s store asked before now numbers w =
 
 -- the same, as the code goes
 pub cut_in : (d x : LedgerData) (p : Position) (s : ℕ) (store : StoreData) (asked : List ℕ) (before now : List Line) (numbers : List ℕ) → x ≡ d → IsLedger x → Keeps d.base.board p → s ≡ scope_of d.base p
-    → store.elements ≡ record { board = p; player = d.base.player } → IsSound store → before ≡ x.lines ++ Put s ∷ [] → DerivesOnto store asked before now numbers → length now ≤ MOST_LINES
+    → store.elements ≡ record { board = p; player = d.base.player } → IsSound store → before ≡ x.lines ++ Put s ∷ [] → DerivesOnto store asked before now numbers → length now ≤ x.room
     → IsCutIn x p s store asked before now numbers
 cut_in d x p s store asked before now numbers e w k q is sound put onto room = record {
   ledger = w;

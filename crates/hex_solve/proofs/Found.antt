@@ -12,8 +12,8 @@ use Rattle.conn_store.specs.declared.entries.Kind.TheVariants.{Full, Semi}
 use Rattle.hex_solve.specs.Deciding.{need}
 use Rattle.hex_solve.specs.Ledgers.{GrowsBy, IsLedger, LedgerData, ShowsWin, count_of}
 use Rattle.hex_solve.specs.Marks.{IsBefore, mark_of}
-use Rattle.hex_solve.specs.Solved.{IsOpen}
-use Rattle.hex_solve.specs.Searching.{IsSearch, IsShown, IsStop, tree_lines}
+use Rattle.hex_solve.specs.Solved.{IsOpenBoard}
+use Rattle.hex_solve.specs.Searching.{IsSearch, IsShownBy, IsStop, tree_lines}
 use Rattle.std.specs.Prelude.{Ok}
 use Rattle.hex_solve.specs.declared.searching.Found.{Found}
 use Rattle.hex_solve.specs.declared.searching.Stop.{Stop}
@@ -40,30 +40,30 @@ pub stop_on : (p next : Position) (mover player : Colour) (own start other : Led
 stop_on p next mover player own start other most left numbers cells k Spent w h n e f s =
     trying_spent p mover own start other most left numbers cells k w h n (subst (λ (q : Position). left < need q (other_of mover)) e (subst (λ (c : Colour). left < need next c) f s))
 stop_on p next mover player own start other most left numbers cells k (Open full) w h n e f s =
-    let t : IsOpen (placed p mover k) full = subst (λ (q : Position). IsOpen q full) e s in
+    let t : IsOpenBoard (placed p mover k) full = subst (λ (q : Position). IsOpenBoard q full) e s in
     record { keeps = keeps_back p full mover k t.keeps; filled = t.filled; unjoined = t.unjoined }
 stop_on p next mover player own start other most left numbers cells k Memory w h n e f s = tt
 
 -- what the child's search found, told of the position after the stone
 pub child_is : (p next : Position) (mover player : Colour) (k left rest : ℕ) (old new : LedgerData × LedgerData) (found : Found) (by : Bool) → next ≡ placed p mover k → player ≡ other_of mover
     → found.by_mover ≡ by → IsSearch next player left rest old new (Ok found)
-    → (rest + need (placed p mover k) (other_of mover) ≡ left) × IsShown by (placed p mover k) (other_of mover) found.line old new
+    → (rest + need (placed p mover k) (other_of mover) ≡ left) × IsShownBy by (placed p mover k) (other_of mover) found.line old new
 child_is p next mover player k left rest old new found by e f g s =
-    let a = subst (λ (q : Position). (rest + need q player ≡ left) × IsShown found.by_mover q player found.line old new) e s in
-    let b = subst (λ (c : Colour). (rest + need (placed p mover k) c ≡ left) × IsShown found.by_mover (placed p mover k) c found.line old new) f a in
-    subst (λ (t : Bool). (rest + need (placed p mover k) (other_of mover) ≡ left) × IsShown t (placed p mover k) (other_of mover) found.line old new) g b
+    let a = subst (λ (q : Position). (rest + need q player ≡ left) × IsShownBy found.by_mover q player found.line old new) e s in
+    let b = subst (λ (c : Colour). (rest + need (placed p mover k) c ≡ left) × IsShownBy found.by_mover (placed p mover k) c found.line old new) f a in
+    subst (λ (t : Bool). (rest + need (placed p mover k) (other_of mover) ≡ left) × IsShownBy t (placed p mover k) (other_of mover) found.line old new) g b
 
 -- the mover wins by a stone
 pub mover_wins : (p : Position) (mover : Colour) (begun own start other mine theirs last back : LedgerData) (most left rest : ℕ) (numbers : List ℕ) (cells k i line : ℕ) (mark : Mark)
     → IsTrying p mover own start other most left numbers cells → own ≡ begun → is_joined p.size (other_of mover) (stones_of p (other_of mover)) ≡ false → has cells k ≡ true
     → ((j : ℕ) → j < k → has cells j ≡ false) → IsLedger start → mark ≡ mark_of start
-    → (rest + need (placed p mover k) (other_of mover) ≡ left) × IsShown false (placed p mover k) (other_of mover) i (other, own) (theirs, mine)
+    → (rest + need (placed p mover k) (other_of mover) ≡ left) × IsShownBy false (placed p mover k) (other_of mover) i (other, own) (theirs, mine)
     → GrowsBy 2 mine last → ShowsWin last p Semi line → ((old : LedgerData) → IsBefore old mark theirs → back ≡ old)
-    → (rest + need p mover ≡ most + 1) × IsShown true p mover line (begun, start) (last, back)
+    → (rest + need p mover ≡ most + 1) × IsShownBy true p mover line (begun, start) (last, back)
 mover_wins p mover begun own start other mine theirs last back most left rest numbers cells k i line mark w e a h n ledger at (r, (g, s, q, f, b)) grow show undo =
     let m : ℕ = need (placed p mover k) (other_of mover) in
     let win = trying_won p mover own start other most left rest numbers cells k w a h n r f in
-    let before : IsBefore start mark theirs = record { ledger = ledger; mark_is = at; base = ap (λ (d : LedgerData). d.base) q ∙ w.grows.base; more = w.grows.more; lines = ap (λ (d : LedgerData). d.lines) q ∙ w.grows.lines } in (
+    let before : IsBefore start mark theirs = record { ledger = ledger; mark_is = at; base = ap (λ (d : LedgerData). d.base) q ∙ w.grows.base; room = ap (λ (d : LedgerData). d.room) q ∙ w.grows.room; more = w.grows.more; lines = ap (λ (d : LedgerData). d.lines) q ∙ w.grows.lines; learnt = w.grows.learnt; known = ap (λ (d : LedgerData). d.known) q ∙ w.grows.known } in (
       win.entered,
       (
         subst (λ (d : LedgerData). GrowsBy (2 * need p mover) d last) e (grows_wider (2 * m + 2) (2 * need p mover) own last (wide m (need p mover) win.more) (grows_on (2 * m) 2 own mine last g grow)),
@@ -84,7 +84,7 @@ mover_wins p mover begun own start other mine theirs last back most left rest nu
 -- the other answers a stone
 pub stone_answered : (p : Position) (mover : Colour) (own begun start other mine theirs : LedgerData) (most left rest : ℕ) (numbers more : List ℕ) (cells fewer k i : ℕ)
     → IsTrying p mover own start other most left numbers cells → own ≡ begun → has cells k ≡ true → ((j : ℕ) → j < k → has cells j ≡ false) → k < 121
-    → (rest + need (placed p mover k) (other_of mover) ≡ left) × IsShown true (placed p mover k) (other_of mover) i (other, own) (theirs, mine)
+    → (rest + need (placed p mover k) (other_of mover) ≡ left) × IsShownBy true (placed p mover k) (other_of mover) i (other, own) (theirs, mine)
     → more ≡ numbers ++ i ∷ [] → fewer ≡ without_cell cells k → IsTrying p mover mine start theirs most rest more fewer × (mine ≡ begun)
 stone_answered p mover own begun start other mine theirs most left rest numbers more cells fewer k i w e h n l (r, (g, s, q, f, b)) d c =
     let t = trying_on p mover own start other theirs most left rest numbers cells k i w h n l r g s f b in (
@@ -96,7 +96,7 @@ stone_answered p mover own begun start other mine theirs most left rest numbers 
 -- all stones were answered
 pub other_wins_all : (p : Position) (mover : Colour) (own begun start other last : LedgerData) (most left : ℕ) (numbers : List ℕ) (cells k line : ℕ) → IsTrying p mover own start other most left numbers cells
     → own ≡ begun → is_joined p.size (other_of mover) (stones_of p (other_of mover)) ≡ false → is_empty_at p k ≡ true → ((j : ℕ) → has cells j ≡ false) → GrowsBy 2 other last → ShowsWin last p Full line
-    → (left + need p mover ≡ most + 1) × IsShown false p mover line (begun, start) (own, last)
+    → (left + need p mover ≡ most + 1) × IsShownBy false p mover line (begun, start) (own, last)
 other_wins_all p mover own begun start other last most left numbers cells k line w e a h n grow show =
     let z = trying_done p mover own start other most left numbers cells k w a h n in (
       z.entered,

@@ -12,7 +12,7 @@ use Rattle.win_cert.proofs.Appending.{after_append}
 use Rattle.win_cert.proofs.Appending.{shown_on}
 
 pub grows_wider : (a b : ℕ) (d e : LedgerData) → a ≤ b → GrowsBy a d e → GrowsBy b d e
-grows_wider a b d e l g = record { base = g.base; more = g.more; lines = g.lines; lost = g.lost; count = omega (arith, g.count) }
+grows_wider a b d e l g = record { base = g.base; room = g.room; more = g.more; lines = g.lines; lost = g.lost; count = omega (arith, g.count); learnt = g.learnt; known = g.known }
 
 pub read_grown : (a : ℕ) (d e : LedgerData) (g : GrowsBy a d e) → read_of e ≡ after_lines (read_of d) g.more
 read_grown a d e g =

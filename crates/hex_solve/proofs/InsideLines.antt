@@ -16,7 +16,7 @@ use Rattle.win_cert.proofs.Appending.{edges_stay}
 use Rattle.win_cert.proofs.CutDerivations.{longer}
 use Rattle.win_cert.proofs.Reaching.{scope_own}
 use Rattle.win_cert.proofs.ScopeLines.{done_gives, move_gives}
-use Rattle.hex_solve.specs.Ledgers.{LedgerData, read_of, with_line}
+use Rattle.hex_solve.specs.Ledgers.{LedgerData, read_of, with_one_line}
 use Rattle.hex_solve.specs.Strong.{ShowsIn}
 use Rattle.hex_solve.proofs.AddedLines.{done_two, move_two}
 use Rattle.hex_solve.proofs.LedgerLaws.{had_room, number_next, read_next}
@@ -31,7 +31,7 @@ ShownInside p kind u c s i = (w : Shows c p kind s i) × IsSubset w.carrier u
 pub two_inside : (d : LedgerData) (p : Position) (kind : Kind) (u : ℕ) (line next : Line)
     → (d.lost ≡ 0 → ShownInside p kind u (after_lines (read_of d) (line ∷ next ∷ [])) (scope_of d.base p) (length (read_of d).earlier + 1)) → ShowsIn (with_two d line next) p kind u (length d.lines + 1)
 two_inside d p kind u line next f h =
-    let e = with_line d line in
+    let e = with_one_line d line in
     let s = had_room e next h in
     let t = had_room d line s.1 in
     let same : read_of (with_two d line next) ≡ after_lines (read_of d) (line ∷ next ∷ []) = read_next e next s.0 ∙ ap (λ c. context_after c next) (read_next d line t.0) in
@@ -39,11 +39,11 @@ two_inside d p kind u line next f h =
     (subst (λ i. ShownInside p kind u (read_of (with_two d line next)) (scope_of d.base p) (i + 1)) (number_next d)
     (subst (λ c. ShownInside p kind u c (scope_of d.base p) (length (read_of d).earlier + 1)) (sym same) (f t.1)))
 
-pub inside_second : (d e f : LedgerData) (p : Position) (kind : Kind) (u : ℕ) (line next : Line) (i : ℕ) → e ≡ with_line d line → f ≡ with_line e next → i ≡ length d.lines + 1
+pub inside_second : (d e f : LedgerData) (p : Position) (kind : Kind) (u : ℕ) (line next : Line) (i : ℕ) → e ≡ with_one_line d line → f ≡ with_one_line e next → i ≡ length d.lines + 1
     → (d.lost ≡ 0 → ShownInside p kind u (after_lines (read_of d) (line ∷ next ∷ [])) (scope_of d.base p) (length (read_of d).earlier + 1)) → ShowsIn f p kind u i
 inside_second d e f p kind u line next i q r n h =
-    let same : f ≡ with_line (with_line d line) next = r ∙ ap (λ (v : LedgerData). with_line v next) q in
-    subst (λ (v : LedgerData). ShowsIn v p kind u i) (sym same) (subst (λ v. ShowsIn (with_line (with_line d line) next) p kind u v) (sym n) (two_inside d p kind u line next h))
+    let same : f ≡ with_one_line (with_one_line d line) next = r ∙ ap (λ (v : LedgerData). with_one_line v next) q in
+    subst (λ (v : LedgerData). ShowsIn v p kind u i) (sym same) (subst (λ v. ShowsIn (with_one_line (with_one_line d line) next) p kind u v) (sym n) (two_inside d p kind u line next h))
 
 -- ---- a line gives one carrier
 

@@ -1,5 +1,7 @@
 -- Steps of this crate's own proofs.
 mod FirstWins
+mod KnownLines
+mod BackTo
 mod NeedBound
 mod LedgerLaws
 mod Sums
@@ -14,10 +16,12 @@ mod Trying
 mod TryingEnds
 mod Found
 mod LedgersTell
+mod LongWins
 mod RootEntries
 mod InsideLines
 mod WaysLines
 mod CutLedgers
 mod Narrowing
+mod FoundLines
 mod Strongly
 mod EntryWays

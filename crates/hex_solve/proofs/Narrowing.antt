@@ -18,16 +18,16 @@ use Rattle.win_cert.proofs.CutDerivations.{longer}
 use Rattle.win_cert.proofs.Reaching.{scope_other}
 use Rattle.win_cert.specs.Contexts.{after_lines}
 use Rattle.hex_solve.specs.Ledgers.{LedgerData, read_of}
-use Rattle.hex_solve.specs.Strong.{AnswerBut, AreInside, AreWins, Grows, IsMissed, ShowsIn}
+use Rattle.hex_solve.specs.Strong.{AnswerBut, AreAllInside, AreWins, HasGrown, IsMissed, ShowsIn}
 use Rattle.hex_solve.proofs.LedgerLaws.{grows_none, grows_on}
-use Rattle.hex_solve.specs.Searching.{IsSearched}
+use Rattle.hex_solve.specs.Searching.{IsPairOfLedgers}
 use Rattle.hex_solve.proofs.Growing.{read_grown}
 use Rattle.hex_solve.proofs.InsideLines.{ShownInside, same_carrier, same_inside}
 use Rattle.std.proofs.lemmas.Bool.Decides.{nat_tests}
 
 -- ---- a ledger that grows shows what it showed
 
-pub inside_on : (d e : LedgerData) (p : Position) (kind : Kind) (c i : ℕ) → Grows d e → ShowsIn d p kind c i → ShowsIn e p kind c i
+pub inside_on : (d e : LedgerData) (p : Position) (kind : Kind) (c i : ℕ) → HasGrown d e → ShowsIn d p kind c i → ShowsIn e p kind c i
 inside_on d e p kind c i (a, g) f z =
     let none : d.lost ≡ 0 = omega (arith, g.lost, z) in
     let v = f none in
@@ -38,13 +38,13 @@ inside_on d e p kind c i (a, g) f z =
     let both : ShownInside p kind c (after_lines r g.more) s i = (w, same_inside w.carrier v.0.carrier c q v.1) in
     subst (λ (b : PlayerBoard). ShownInside p kind c (read_of e) (scope_of b p) i) (sym g.base) (subst (λ x. ShownInside p kind c x s i) (sym (read_grown a d e g)) both)
 
-pub grows_both : (d e f : LedgerData) → Grows d e → Grows e f → Grows d f
+pub grows_both : (d e f : LedgerData) → HasGrown d e → HasGrown e f → HasGrown d f
 grows_both d e f (a, g) (b, h) = (a + b, grows_on a b d e f g h)
 
-pub grows_not : (d : LedgerData) → Grows d d
+pub grows_not : (d : LedgerData) → HasGrown d d
 grows_not d = (0, grows_none d)
 
-wins_on : (d e : LedgerData) (p : Position) (numbers sets : List ℕ) → Grows d e → AreWins d p numbers sets → AreWins e p numbers sets
+pub wins_on : (d e : LedgerData) (p : Position) (numbers sets : List ℕ) → HasGrown d e → AreWins d p numbers sets → AreWins e p numbers sets
 wins_on d e p [] [] g f = tt
 wins_on d e p [] (c ∷ sets) g f = absurd f
 wins_on d e p (i ∷ numbers) [] g f = absurd f
@@ -81,7 +81,7 @@ in_right a b k h = has_or a b k ∙ yes (has a k) (has b k) h
     yes true y e = refl
     yes false y e = e
 
-pub inside_more : (sets : List ℕ) (u c : ℕ) → AreInside sets u → AreInside (sets ++ c ∷ []) (bit_or u c)
+pub inside_more : (sets : List ℕ) (u c : ℕ) → AreAllInside sets u → AreAllInside (sets ++ c ∷ []) (bit_or u c)
 inside_more [] u c g = (λ k h. in_right u c k h, tt)
 inside_more (b ∷ sets) u c (g, r) = (λ k h. in_left u c k (g k h), inside_more sets u c r)
 
@@ -112,7 +112,7 @@ missed_on p replies c sets f k h = elim (f k h) [
 pub fewer_left : (a b c d : ℕ) → a + b ≤ 121 → c < b → d ≡ a + 1 → d + c ≤ 121
 fewer_left a b c d l m e = omega arith
 
-pub narrowed_on : (p : Position) (d e : LedgerData) (numbers : List ℕ) (replies union i c : ℕ) → Grows d e → AnswerBut p d numbers replies union → ShowsIn e p Semi c i
+pub narrowed_on : (p : Position) (d e : LedgerData) (numbers : List ℕ) (replies union i c : ℕ) → HasGrown d e → AnswerBut p d numbers replies union → ShowsIn e p Semi c i
     → members (bit_and replies c) 121 < members replies 121 → AnswerBut p e (numbers ++ i ∷ []) (bit_and replies c) (bit_or union c)
 narrowed_on p d e numbers replies union i c g w s l = record {
   sets = w.sets ++ c ∷ [];
@@ -153,7 +153,7 @@ reply_taken replies c k h l = members_less (bit_and replies (without_cell c k)) 
 
 -- ---- the ledgers
 
-pub searched_on : (p : Position) (mover : Colour) (own d e : LedgerData) → IsSearched p mover own d → Grows d e → IsSearched p mover own e
+pub searched_on : (p : Position) (mover : Colour) (own d e : LedgerData) → IsPairOfLedgers p mover own d → HasGrown d e → IsPairOfLedgers p mover own e
 searched_on p mover own d e s (a, g) = record {
   own_player = s.own_player;
   other_player = ap (λ (b : PlayerBoard). b.player) g.base ∙ s.other_player;

@@ -10,25 +10,21 @@ use Rattle.conn_store.specs.declared.entries.Held.{Held}
 use Rattle.conn_store.specs.declared.entries.Kind.{Kind}
 use Rattle.conn_store.specs.declared.entries.Kind.TheVariants.{Semi}
 use Rattle.win_cert.specs.Cuts.{AreEdgeNumbers, CertifiesEntry}
-use Rattle.win_cert.specs.Laws.{WinsAsClaimed, first_mover}
-use Rattle.win_cert.specs.Verdicts.{Accepted, HaveSameVerdict, IsVerdict, raised}
+use Rattle.win_cert.specs.Laws.{first_mover}
+use Rattle.win_cert.specs.Verdicts.{HaveSameVerdict, IsVerdict, raised}
 use Rattle.win_cert.specs.Writable.{HasBoard, IsWritable}
 use Rattle.win_cert.specs.declared.certs.Cert.{Cert}
 use Rattle.win_cert.specs.declared.verdicts.Verdict.TheVariants.{Yes}
 use Rattle.hex_solve.specs.Solved.{IsUndecided}
-use Rattle.hex_solve.specs.Telling.{IsCertifiedWin}
-use Rattle.hex_solve.proofs.LedgersTell.{semi_for}
+use Rattle.hex_solve.specs.Telling.{IsCertifiedWinner}
+use Rattle.hex_solve.proofs.LedgersTell.{AcceptedWins, semi_for}
 
 pub no_semi : (d : StoreData) (h : Held) → AreEdgeNumbers d Semi h → h.count ≤ 0 → IsUndecided d
 no_semi d h g l n a w k = let p = g.all n a w k in absurd (omega (arith, p.1))
 
--- the law of accepted certificates
-abbrev pub AcceptedWins : Type 0
-AcceptedWins = (cert : Cert) → HasBoard cert → Accepted cert → WinsAsClaimed cert
-
 -- the certificate of a semi entry, in the latest version, shows that the mover wins
 pub certified_win : (e : PlayerBoard) (d : StoreData) (a : Entry) (cert new : Cert) → d.elements ≡ e → a.kind ≡ Semi → CertifiesEntry d a cert → new ≡ raised cert → IsWritable new → HaveSameVerdict cert new
-    → IsPosition e.board.size e.board.black e.board.white → AcceptedWins → IsCertifiedWin e.board e.player e.player new
+    → IsPosition e.board.size e.board.black e.board.white → AcceptedWins → IsCertifiedWinner e.board e.player e.player new
 certified_win e d a cert new is k c r w same on law =
     let v : IsVerdict new (Yes a.kind a.carrier) = (same (Yes a.kind a.carrier)).0 c.verdict in
     let board : new.board ≡ e.board = ap (λ (x : Cert). x.board) r ∙ (c.board ∙ ap (λ (x : PlayerBoard). x.board) is) in

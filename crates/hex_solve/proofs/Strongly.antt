@@ -1,15 +1,17 @@
 -- What the search with connections finds of a position, as its code goes.
-use Rattle.std.proofs.Common.{◌≡◌, ℕ, ◌<◌, true, false, Bool, List, [], ◌∷◌, ◌++◌, bit_and, bit_or, sym, ◌∙◌, ap, subst}
+use Rattle.std.specs.Prelude.{IfOk, Result, Ok, Err}
+use Rattle.hex_solve.specs.declared.searching.Stop.{Stop}
+use Rattle.std.proofs.Common.{refl, ◌≡◌, ℕ, ◌<◌, true, false, Bool, List, [], ◌∷◌, ◌++◌, bit_and, bit_or, sym, ◌∙◌, ap, subst}
 use Rattle.hex_cells.specs.Colours.{other_of}
-use Rattle.hex_cells.specs.Sets.{has, with_cell, without_cell}
+use Rattle.hex_cells.specs.Sets.{has, without_cell}
 use Rattle.hex_cells.specs.declared.colours.Colour.{Colour}
 use Rattle.hex_board.specs.Elements.{PlayerBoard}
 use Rattle.hex_board.specs.Positions.{Position, placed}
-use Rattle.conn_store.specs.declared.entries.Kind.TheVariants.{Full}
-use Rattle.hex_solve.specs.Ledgers.{GrowsBy, IsLedger, LedgerData}
+use Rattle.conn_store.specs.declared.entries.Kind.TheVariants.{Full, Semi}
+use Rattle.hex_solve.specs.Ledgers.{IsLedger, LedgerData}
 use Rattle.hex_solve.specs.Marks.{IsBefore, mark_of}
-use Rattle.hex_solve.specs.Searching.{IsSearched}
-use Rattle.hex_solve.specs.Strong.{AnswerBut, Grows, IsWon, IsWonBy, MovesInside, ShowsIn}
+use Rattle.hex_solve.specs.Searching.{IsPairOfLedgers}
+use Rattle.hex_solve.specs.Strong.{AnswerBut, HasGrown, IsFoundBy, IsWon, IsWonBy, ShowsIn}
 use Rattle.hex_solve.specs.declared.ledgers.Mark.{Mark}
 use Rattle.hex_solve.specs.declared.strong.Shown.{Shown}
 use Rattle.hex_solve.proofs.FirstWins.{other_back}
@@ -17,11 +19,11 @@ use Rattle.hex_solve.proofs.Narrowing.{child_inside, grows_both, narrowed_on, re
 
 -- the loop over the replies
 pub record IsNarrowing (p : Position) (mover : Colour) (own start other : LedgerData) (numbers : List ℕ) (replies union : ℕ) : Type 0 where
-  pub searched : IsSearched p mover own other
-  pub grows : Grows start other
+  pub searched : IsPairOfLedgers p mover own other
+  pub grows : HasGrown start other
   pub but : AnswerBut p other numbers replies union
 
-pub narrowing_begun : (p : Position) (mover : Colour) (own start other : LedgerData) (numbers : List ℕ) (replies union : ℕ) → IsSearched p mover own start → Grows start other
+pub narrowing_begun : (p : Position) (mover : Colour) (own start other : LedgerData) (numbers : List ℕ) (replies union : ℕ) → IsPairOfLedgers p mover own start → HasGrown start other
     → AnswerBut p other numbers replies union → IsNarrowing p mover own start other numbers replies union
 narrowing_begun p mover own start other numbers replies union s g b = record { searched = searched_on p mover own start other s g; grows = g; but = b }
 
@@ -37,19 +39,29 @@ back_before p mover own start other theirs numbers replies union mark w ledger a
   ledger = ledger;
   mark_is = at;
   base = ap (λ (d : LedgerData). d.base) q ∙ w.grows.1.base;
+  room = ap (λ (d : LedgerData). d.room) q ∙ w.grows.1.room;
   more = w.grows.1.more;
   lines = ap (λ (d : LedgerData). d.lines) q ∙ w.grows.1.lines;
+  learnt = w.grows.1.learnt;
+  known = ap (λ (d : LedgerData). d.known) q ∙ w.grows.1.known;
 }
 
--- the mover wins by a stone
-pub mover_won : (p : Position) (mover : Colour) (begun own start other mine theirs last back : LedgerData) (numbers : List ℕ) (replies union k u i line : ℕ) (mark : Mark)
-    → IsNarrowing p mover own start other numbers replies union → own ≡ begun → IsLedger start → mark ≡ mark_of start → IsWonBy false (placed p mover k) i u (other, own) (theirs, mine)
-    → GrowsBy 2 mine last → MovesInside mine last p k i line → ((old : LedgerData) → IsBefore old mark theirs → back ≡ old) → IsWonBy true p line (with_cell u k) (begun, start) (last, back)
-mover_won p mover begun own start other mine theirs last back numbers replies union k u i line mark w e ledger at (g, s, q) grow inside undo =
+-- the stone after which the mover wins
+pub child_shows : (p : Position) (mover : Colour) (begun own start other mine theirs : LedgerData) (numbers : List ℕ) (replies union k u i : ℕ) → IsNarrowing p mover own start other numbers replies union
+    → IsWonBy false (placed p mover k) i u (other, own) (theirs, mine) → ShowsIn mine (placed p mine.base.player k) Full u i
+child_shows p mover begun own start other mine theirs numbers replies union k u i w (g, s, q) =
     let player : mine.base.player ≡ mover = ap (λ (b : PlayerBoard). b.player) g.1.base ∙ w.searched.own_player in
-    let before : IsBefore start mark theirs = back_before p mover own start other theirs numbers replies union mark w ledger at q in (
-      subst (λ (d : LedgerData). Grows d last) e (grows_both own mine last g (2, grow)),
-      inside u (subst (λ (c : Colour). ShowsIn mine (placed p c k) Full u i) (sym player) s),
+    subst (λ (c : Colour). ShowsIn mine (placed p c k) Full u i) (sym player) s
+
+-- the mover wins by a stone
+pub mover_won : (p : Position) (mover : Colour) (begun own start other mine theirs last back : LedgerData) (numbers : List ℕ) (replies union k u i : ℕ) (shown : Shown) (mark : Mark)
+    → IsNarrowing p mover own start other numbers replies union → own ≡ begun → IsLedger start → mark ≡ mark_of start → IsWonBy false (placed p mover k) i u (other, own) (theirs, mine)
+    → IsFoundBy true Semi p mine last shown → ((old : LedgerData) → IsBefore old mark theirs → back ≡ old) → IsWon p (begun, start) (last, back) shown
+mover_won p mover begun own start other mine theirs last back numbers replies union k u i shown mark w e ledger at (g, s, q) (by, grow, inside) undo =
+    let before : IsBefore start mark theirs = back_before p mover own start other theirs numbers replies union mark w ledger at q in
+    subst (λ (b : Bool). IsWonBy b p shown.line shown.carrier (begun, start) (last, back)) (sym by) (
+      subst (λ (d : LedgerData). HasGrown d last) e (grows_both own mine last g grow),
+      inside,
       undo start before,
     )
 
@@ -62,10 +74,27 @@ stone_taken p mover own begun start other mine theirs numbers more replies fewer
     let n = narrowed_on p other theirs numbers replies union i (without_cell u k) g w.but (child_inside p theirs mover k u i player s) (reply_taken replies u k h l) in
     let t : AnswerBut p theirs more fewer wider = subst (λ x. AnswerBut p theirs more fewer x) (sym c) (subst (λ x. AnswerBut p theirs more x (bit_or union (without_cell u k))) (sym b)
     (subst (λ xs. AnswerBut p theirs xs (bit_and replies (without_cell u k)) (bit_or union (without_cell u k))) (sym a) n)) in (
-      record { searched = subst (λ (d : LedgerData). IsSearched p mover d theirs) (sym q) (searched_on p mover own other theirs w.searched g); grows = grows_both start other theirs w.grows g; but = t },
+      record { searched = subst (λ (d : LedgerData). IsPairOfLedgers p mover d theirs) (sym q) (searched_on p mover own other theirs w.searched g); grows = grows_both start other theirs w.grows g; but = t },
       q ∙ e,
     )
 
 -- all stones were answered
-pub other_won : (p : Position) (begun start own other last : LedgerData) (u line : ℕ) → own ≡ begun → Grows start other → Grows other last → ShowsIn last p Full u line → IsWonBy false p line u (begun, start) (own, last)
-other_won p begun start own other last u line e g h s = (grows_both start other last g h, s, e)
+pub other_won : (p : Position) (begun start own other last : LedgerData) (shown : Shown) → own ≡ begun → HasGrown start other → IsFoundBy false Full p other last shown → IsWon p (begun, start) (own, last) shown
+other_won p begun start own other last shown e g (by, h, s) = subst (λ (b : Bool). IsWonBy b p shown.line shown.carrier (begun, start) (own, last)) (sym by) (grows_both start other last g h, s, e)
+
+-- ---- the same of an answer that may be a stop
+
+pub joined_answer : (p : Position) (own other last : LedgerData) (r : Result Shown Stop) → IfOk r (IsFoundBy false Full p other last) → IfOk r (IsWon p (own, other) (own, last))
+joined_answer p own other last (Ok shown) (by, g, s) = subst (λ (b : Bool). IsWonBy b p shown.line shown.carrier (own, other) (own, last)) (sym by) (g, s, refl)
+joined_answer p own other last (Err stop) h = tt
+
+pub mover_answer : (p : Position) (mover : Colour) (begun own start other mine theirs last back : LedgerData) (numbers : List ℕ) (replies union k u i : ℕ) (mark : Mark) (r : Result Shown Stop)
+    → IsNarrowing p mover own start other numbers replies union → own ≡ begun → IsLedger start → mark ≡ mark_of start → IsWonBy false (placed p mover k) i u (other, own) (theirs, mine)
+    → IfOk r (IsFoundBy true Semi p mine last) → ((old : LedgerData) → IsBefore old mark theirs → back ≡ old) → IfOk r (IsWon p (begun, start) (last, back))
+mover_answer p mover begun own start other mine theirs last back numbers replies union k u i mark (Ok shown) w e ledger at won found undo =
+    mover_won p mover begun own start other mine theirs last back numbers replies union k u i shown mark w e ledger at won found undo
+mover_answer p mover begun own start other mine theirs last back numbers replies union k u i mark (Err stop) w e ledger at won found undo = tt
+
+pub other_answer : (p : Position) (begun start own other last : LedgerData) (r : Result Shown Stop) → own ≡ begun → HasGrown start other → IfOk r (IsFoundBy false Full p other last) → IfOk r (IsWon p (begun, start) (own, last))
+other_answer p begun start own other last (Ok shown) e g found = other_won p begun start own other last shown e g found
+other_answer p begun start own other last (Err stop) e g found = tt

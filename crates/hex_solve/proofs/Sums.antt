@@ -3,7 +3,7 @@ use Rattle.std.proofs.Common.{◌≡◌, ℕ, ◌+◌, ◌<◌, ◌≤◌, ◌==
 use Rattle.std.specs.List.{range_with_len}
 use Rattle.std.proofs.lemmas.Bool.{cases_eq, false≢true, true≢false}
 use Rattle.hex_cells.specs.Sets.{has, without_cell}
-use Rattle.hex_cells.proofs.Bits.{has_without}
+use Rattle.hex_cells.proofs.Bits.{has_without, same_out}
 use Rattle.hex_solve.specs.Deciding.{sum_up_to}
 
 step_same : (e t u : Bool) (x y v w : ℕ) → (e ≡ true → t ≡ u) → (e ≡ true → x ≡ y) → v ≡ w
@@ -37,9 +37,6 @@ pub sum_none : (e t : ℕ → Bool) (f : ℕ → ℕ) (a m : ℕ) → ((k : ℕ)
 sum_none e t f a zero p = refl
 sum_none e t f a (suc m) p = sum_none_step (e a) (t a) (f a) (sum_up_to e t f (range_with_len (a + 1) m)) (p a) ∙ sum_none e t f (a + 1) m p
 
-without_this : (b : Bool) (c : ℕ) → (b && not (c == c)) ≡ false
-without_this b c = grind arith
-
 without_that : (b : Bool) (k c : ℕ) → (k ≡ c → ⊥) → (b && not (k == c)) ≡ b
 without_that b k c n = grind arith
 
@@ -51,7 +48,7 @@ sum_least s c t f a (suc m) l h i n = elim (cases_eq a c) [
   | inl e ↦
       let rest = sum_up_to (has s) t f (range_with_len (a + 1) m) in
       let after = sum_up_to (has (without_cell s c)) t f (range_with_len (a + 1) m) in
-      let gone : has (without_cell s c) a ≡ false = has_without s c a ∙ (ap (λ v. has s a && not (v == c)) e ∙ without_this (has s a) c) in
+      let gone : has (without_cell s c) a ≡ false = has_without s c a ∙ (ap (λ v. has s a && not (v == c)) e ∙ same_out (has s a) c) in
       let same : rest ≡ after = sum_cells (has s) (has (without_cell s c)) t f (a + 1) m (λ k g. sym (has_without s c k ∙ without_that (has s k) k c (λ q. absurd (omega arith)))) in
       sum_one_step (has s a) (t a) (f a) rest (ap (has s) e ∙ i)
       ∙ (ap (λ v. if t v then f v else f v + rest) e

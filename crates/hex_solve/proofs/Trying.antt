@@ -5,7 +5,7 @@ use Rattle.std.proofs.lemmas.Bool.Decides.{nat_tests}
 use Rattle.hex_cells.specs.Colours.{other_of}
 use Rattle.hex_cells.specs.Sets.{has, members, without_cell}
 use Rattle.hex_cells.specs.declared.colours.Colour.{Colour}
-use Rattle.hex_cells.specs.declared.colours.Colour.TheVariants.{Black, White}
+use Rattle.hex_cells.specs.declared.colours.Colour.TheVariants.{Black}
 use Rattle.hex_cells.proofs.Bits.{has_without}
 use Rattle.hex_board.specs.Elements.{PlayerBoard}
 use Rattle.hex_board.specs.Joined.{cells_of, is_joined}
@@ -17,13 +17,14 @@ use Rattle.hex_cells.proofs.Counts.{members_few, members_less, members_test}
 use Rattle.conn_store.proofs.Sureness.{in_without, without_inside, without_itself}
 use Rattle.conn_store.specs.declared.entries.Kind.TheVariants.{Semi}
 use Rattle.win_cert.proofs.CutDerivations.{longer}
+use Rattle.hex_solve.proofs.FirstWins.{less_suc}
 use Rattle.hex_solve.specs.Deciding.{first, is_for, need, sum_up_to}
 use Rattle.hex_solve.specs.Ledgers.{AreAnswers, GrowsBy, IsAmong, LedgerData, ShowsWin, count_of}
-use Rattle.hex_solve.specs.Searching.{IsSearched, tree_lines}
+use Rattle.hex_solve.specs.Searching.{IsPairOfLedgers, tree_lines}
 use Rattle.win_cert.specs.Showing.{Keeps}
 use Rattle.hex_solve.proofs.FirstWins.{other_back}
 use Rattle.hex_solve.proofs.LedgerLaws.{grows_none, grows_on}
-use Rattle.hex_solve.proofs.NextNeed.{need_after, need_next, wins_by}
+use Rattle.hex_solve.proofs.NextNeed.{for_other, need_after, need_next, wins_by}
 use Rattle.hex_solve.proofs.Sums.{sum_cells, sum_least}
 use Rattle.win_cert.proofs.Reaching.{keeps_on}
 use Rattle.hex_solve.proofs.Growing.{among_left, among_last, answers_more, answers_on, grows_wider}
@@ -31,8 +32,8 @@ use Rattle.hex_solve.proofs.NobodyJoined.{nobody}
 
 -- ---- the child
 
-pub child_searched : (p : Position) (mover : Colour) (own other : LedgerData) (k : ℕ) → IsSearched p mover own other → is_joined p.size (other_of mover) (stones_of p (other_of mover)) ≡ false
-    → is_empty_at p k ≡ true → IsSearched (placed p mover k) (other_of mover) other own
+pub child_searched : (p : Position) (mover : Colour) (own other : LedgerData) (k : ℕ) → IsPairOfLedgers p mover own other → is_joined p.size (other_of mover) (stones_of p (other_of mover)) ≡ false
+    → is_empty_at p k ≡ true → IsPairOfLedgers (placed p mover k) (other_of mover) other own
 child_searched p mover own other k s a h = record {
   own_player = s.other_player;
   other_player = s.own_player ∙ sym (other_back mover);
@@ -46,7 +47,7 @@ child_searched p mover own other k s a h = record {
 
 -- the cells that are left to be tried; each other one was answered
 pub record IsTrying (p : Position) (mover : Colour) (own first_other other : LedgerData) (most left : ℕ) (numbers : List ℕ) (cells : ℕ) : Type 0 where
-  pub searched : IsSearched p mover own other
+  pub searched : IsPairOfLedgers p mover own other
   pub grows : GrowsBy (2 * (most - left)) first_other other
   pub spent : left ≤ most
   pub sum : need p mover + left ≡ most + 1 + sum_up_to (has cells) (wins_by p mover) (need_after p mover) (cells_of p.size)
@@ -62,7 +63,7 @@ pub record IsTrying (p : Position) (mover : Colour) (own first_other other : Led
 pub some_fewer : (p : Position) (k : ℕ) → is_empty_at p k ≡ true → (n : ℕ) × (empty_count p ≡ suc n)
 some_fewer p k h = (empty_count (placed p Black k), one_empty_less p Black k h)
 
-pub trying_begun : (p : Position) (mover : Colour) (own other : LedgerData) (left cells k : ℕ) → IsSearched p mover own other → is_joined p.size (other_of mover) (stones_of p (other_of mover)) ≡ false
+pub trying_begun : (p : Position) (mover : Colour) (own other : LedgerData) (left cells k : ℕ) → IsPairOfLedgers p mover own other → is_joined p.size (other_of mover) (stones_of p (other_of mover)) ≡ false
     → is_empty_at p k ≡ true → ((j : ℕ) → has cells j ≡ is_empty_at p j) → IsTrying p mover own other other left left [] cells
 trying_begun p mover own other left cells k s a h e =
     let (n, c) = some_fewer p k h in
@@ -87,14 +88,6 @@ trying_begun p mover own other left cells k s a h e =
   where
     told : (n l x y : ℕ) → n ≡ 1 + x → x ≡ y → n + l ≡ l + 1 + y
     told n l x y q r = omega arith
-
-pub not_won : (c : Colour) → is_for c (Some (other_of c)) ≡ false
-not_won Black = refl
-not_won White = refl
-
-pub won_by : (c : Colour) → is_for c (Some c) ≡ true
-won_by Black = refl
-won_by White = refl
 
 pub picked_no : (t : Bool) (x y : ℕ) → t ≡ false → (if t then x else x + y) ≡ x + y
 picked_no true x y h = absurd (true≢false h)
@@ -121,7 +114,7 @@ trying_on p mover own start other next most left rest numbers cells k i w h n l 
     let here : is_empty_at p k ≡ true = w.inside k h in
     let m : ℕ = need q (other_of mover) in
     let fell : sum_up_to (has cells) (wins_by p mover) (need_after p mover) (cells_of p.size) ≡ m + sum_up_to (has (without_cell cells k)) (wins_by p mover) (need_after p mover) (cells_of p.size) =
-    sum_here p mover cells k here h n ∙ picked_no (wins_by p mover k) m _ (ap (is_for mover) f ∙ not_won mover) in
+    sum_here p mover cells k here h n ∙ picked_no (wins_by p mover k) m _ (ap (is_for mover) f ∙ for_other mover) in
     let player : other_of next.base.player ≡ mover = ap (λ (b : PlayerBoard). other_of b.player) g.base ∙ (ap other_of w.searched.other_player ∙ other_back mover) in
     record {
       searched = record {
@@ -180,6 +173,3 @@ trying_on p mover own start other next most left rest numbers cells k i w h n l 
 
     longer_by : (x y s n t : ℕ) → x ≤ y + t → y ≤ s + n * t → x ≤ s + (n + 1) * t
     longer_by x y s n t l m = grind arith
-
-    less_suc : (a b : ℕ) → suc a ≡ suc b → a ≡ b
-    less_suc a b e = omega arith

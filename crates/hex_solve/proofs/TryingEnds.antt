@@ -18,7 +18,8 @@ use Rattle.hex_solve.proofs.NextNeed.{first_other, first_own, need_after, wins_b
 use Rattle.hex_solve.proofs.Sums.{sum_none}
 use Rattle.hex_solve.proofs.Growing.{grows_wider}
 use Rattle.hex_solve.proofs.NobodyJoined.{nobody}
-use Rattle.hex_solve.proofs.Trying.{IsTrying, some_fewer, sum_here, picked_yes, won_by}
+use Rattle.hex_solve.proofs.Trying.{IsTrying, some_fewer, sum_here, picked_yes}
+use Rattle.hex_solve.proofs.NextNeed.{for_own}
 
 -- the mover wins after a stone on the least cell
 pub record Winning (p : Position) (mover : Colour) (most rest m : ℕ) : Type 0 where
@@ -36,7 +37,7 @@ trying_won p mover own start other most left rest numbers cells k w a h n r f =
     let m : ℕ = need q (other_of mover) in
     let mine : first q (other_of mover) ≡ Some mover = f ∙ ap Some (other_back mover) in
     let fell : sum_up_to (has cells) (wins_by p mover) (need_after p mover) (cells_of p.size) ≡ m =
-    sum_here p mover cells k here h n ∙ picked_yes (wins_by p mover k) m _ (ap (is_for mover) mine ∙ won_by mover) in
+    sum_here p mover cells k here h n ∙ picked_yes (wins_by p mover k) m _ (ap (is_for mover) mine ∙ for_own mover) in
     let (c, e) = some_fewer p k here in
     record {
       entered = entered (need p mover) left rest m most _ w.sum fell r;

@@ -20,7 +20,8 @@ use Rattle.win_cert.proofs.CutDerivations.{longer}
 use Rattle.win_cert.proofs.ScopeLines.{Leaves, cases_give, here, later}
 use Rattle.win_cert.proofs.Shown.{AreWays, no_ways, one_way, put_cases, two_at_least}
 use Rattle.hex_solve.specs.Ledgers.{IsLedger, LedgerData, read_of}
-use Rattle.hex_solve.specs.Strong.{AnswerEach, AreInside, AreWins, IsMissed}
+use Rattle.hex_solve.specs.Strong.{AnswerEach, AreAllInside, AreWins, IsMissed}
+use Rattle.hex_solve.proofs.AddedCases.{head_same, none_first}
 use Rattle.hex_solve.proofs.AddedLines.{reached_there, shown_below}
 use Rattle.hex_solve.proofs.InsideLines.{ShownInside, same_carrier, same_inside}
 
@@ -32,19 +33,13 @@ pub record Listed (d : LedgerData) (p : Position) (numbers sets : List ℕ) (uni
   pub first : (c : ℕ) (rest : List ℕ) → carriers ≡ c ∷ rest → (k : ℕ) × (has c k ≡ true)
   pub leaves : (k : ℕ) → IsMissed k sets → Leaves k carriers
   pub bare : (k : ℕ) → is_empty_at p k ≡ false → (j : ℕ) → IsMissed j sets → Leaves k carriers
-  pub inside : AreInside carriers union
+  pub inside : AreAllInside carriers union
   pub small : AreNumbers numbers
-
-none_first : (c : ℕ) (rest : List ℕ) → [] ≡ c ∷ rest → (k : ℕ) × (has c k ≡ true)
-none_first c rest h = absurd (cc)
-
-head_same : (a c : ℕ) (b rest : List ℕ) → a ∷ b ≡ c ∷ rest → a ≡ c
-head_same a c b rest h = cc
 
 out_of : (a b k : ℕ) → IsSubset a b → has b k ≡ false → has a k ≡ false
 out_of a b k f h = false_from_ne_true (has a k) (λ t. both_ways (has b k) h (f k t))
 
-pub listed : (d : LedgerData) (p : Position) (numbers sets : List ℕ) (union : ℕ) → IsLedger d → d.lost ≡ 0 → AreWins d p numbers sets → AreInside sets union → Listed d p numbers sets union
+pub listed : (d : LedgerData) (p : Position) (numbers sets : List ℕ) (union : ℕ) → IsLedger d → d.lost ≡ 0 → AreWins d p numbers sets → AreAllInside sets union → Listed d p numbers sets union
 listed d p [] [] union w z f g = record { carriers = []; ways = no_ways; first = none_first; leaves = λ k h. absurd h; bare = λ k h j i. absurd i; inside = tt; small = All-nil (λ v. v ≤ MOST_NUMBER) }
 listed d p [] (c ∷ sets) union w z f g = absurd f
 listed d p (i ∷ numbers) [] union w z f g = absurd f
@@ -80,7 +75,7 @@ both_inside a b u f g = λ k h. elim (cases_Bool (has a k)) [
 nothing_inside : (u : ℕ) → IsSubset 0 u
 nothing_inside u = λ k h. absurd (both_ways (has 0 k) (has_none k) h)
 
-pub union_inside : (c : Context) (p : Position) (s : ℕ) (numbers carriers : List ℕ) (u : ℕ) → AreWays c p s numbers carriers → AreInside carriers u
+pub union_inside : (c : Context) (p : Position) (s : ℕ) (numbers carriers : List ℕ) (u : ℕ) → AreWays c p s numbers carriers → AreAllInside carriers u
     → IsSubset (carriers_of (entries_at (context_after c (Put s)) numbers)) u
 union_inside c p s numbers carriers u no_ways g = nothing_inside u
 union_inside c p s numbers carriers u (one_way i d ns ds e f w) (a, b) =

@@ -11,14 +11,14 @@ use Rattle.conn_store.specs.declared.entries.Kind.TheVariants.{Full, Semi}
 use Rattle.hex_solve.specs.Deciding.{first, need}
 use Rattle.hex_solve.specs.Ledgers.{GrowsBy, LedgerData, ShowsWin, count_of}
 use Rattle.win_cert.specs.Showing.{Keeps}
-use Rattle.hex_solve.specs.Solved.{IsOpen}
+use Rattle.hex_solve.specs.Solved.{IsOpenBoard}
 use Rattle.hex_solve.specs.declared.searching.Found.{Found}
 use Rattle.hex_solve.specs.declared.searching.Stop.{Stop}
 use Rattle.hex_solve.specs.declared.searching.Stop.TheVariants.{Spent, Open, Memory}
 
 -- p is searched with `mover` to place, over a ledger of his and one of the other's, of one board
 -- whose stones p keeps, and the mover is not joined
-pub record IsSearched (p : Position) (mover : Colour) (own other : LedgerData) : Type 0 where
+pub record IsPairOfLedgers (p : Position) (mover : Colour) (own other : LedgerData) : Type 0 where
   pub own_player : own.base.player ≡ mover
   pub other_player : other.base.player ≡ other_of mover
   pub board : other.base.board ≡ own.base.board
@@ -35,12 +35,12 @@ tree_lines Full (suc m) = 2 + suc m * tree_lines Semi m
 
 -- the winner's ledger grew by at most two lines for each position that was entered, and by no more
 -- than a tree has, and has a line that shows that he wins p; the other ledger is as before
-abbrev pub IsShown : Bool → Position → Colour → ℕ → LedgerData × LedgerData
+abbrev pub IsShownBy : Bool → Position → Colour → ℕ → LedgerData × LedgerData
     → LedgerData × LedgerData → Type 0
-IsShown true p mover line old new = GrowsBy (2 * need p mover) old.0 new.0
+IsShownBy true p mover line old new = GrowsBy (2 * need p mover) old.0 new.0
     × ShowsWin new.0 p Semi line × (new.1 ≡ old.1) × (first p mover ≡ Some mover)
     × (count_of new.0 ≤ count_of old.0 + tree_lines Semi (empty_count p))
-IsShown false p mover line old new = GrowsBy (2 * need p mover) old.1 new.1
+IsShownBy false p mover line old new = GrowsBy (2 * need p mover) old.1 new.1
     × ShowsWin new.1 p Full line × (new.0 ≡ old.0) × (first p mover ≡ Some (other_of mover))
     × (count_of new.1 ≤ count_of old.1 + tree_lines Full (empty_count p))
 
@@ -48,7 +48,7 @@ IsShown false p mover line old new = GrowsBy (2 * need p mover) old.1 new.1
 -- open, or for want of memory
 abbrev pub IsStop : Position → Colour → ℕ → Stop → Type 0
 IsStop p mover left Spent = left < need p mover
-IsStop p mover left (Open full) = IsOpen p full
+IsStop p mover left (Open full) = IsOpenBoard p full
 IsStop p mover left Memory = Unit {0}
 
 -- what a search answers that may enter `left` positions: who wins, by a line, and how many it may
@@ -56,5 +56,5 @@ IsStop p mover left Memory = Unit {0}
 abbrev pub IsSearch : Position → Colour → ℕ → ℕ → LedgerData × LedgerData
     → LedgerData × LedgerData → Result Found Stop → Type 0
 IsSearch p mover left rest old new (Ok found) = (rest + need p mover ≡ left)
-    × IsShown found.by_mover p mover found.line old new
+    × IsShownBy found.by_mover p mover found.line old new
 IsSearch p mover left rest old new (Err stop) = IsStop p mover left stop

@@ -1,5 +1,6 @@
 -- What the solver tells of a position p with `mover` to place next: a clause for each answer.
-use Rattle.std.specs.Prelude.{◌≡◌, ℕ, ◌*◌, ◌<◌, ◌≤◌, Bool, true, false, Option, Some, None, length}
+use Rattle.std.specs.Prelude.{◌≡◌, ℕ, ◌*◌, ◌<◌, ◌≤◌, ◌⊎◌, Bool, true, false, Option, Some, None}
+use Rattle.std.specs.Prelude.{length}
 use Rattle.std.specs.Prelude.{if◌then◌else◌}
 use Rattle.hex_cells.specs.Colours.{is_same}
 use Rattle.hex_cells.specs.declared.colours.Colour.{Colour}
@@ -61,14 +62,19 @@ WonIsShort p mover hsearch (Open full) = Unit {0}
 abbrev pub few_cells : ℕ
 few_cells = 9
 
+-- with connections, the search without them needs more than the budget
+abbrev pub IsBeyond : Position → Colour → Bool → ℕ → Type 0
+IsBeyond p mover hsearch budget = (hsearch ≡ true) × (budget < need p mover)
+
 -- the winner's certificate had more lines than one may have: more cells are empty than a few, and
--- the search needs more than half as many positions
-abbrev pub TooLongNeedsMany : Position → Colour → Solved → Type 0
-TooLongNeedsMany p mover (Won winner cert) = Unit {0}
-TooLongNeedsMany p mover (Unknown spent own) = Unit {0}
-TooLongNeedsMany p mover (TooLong winner lines) =
-    (MOST_LINES < lines) × (few_cells < empty_count p) × (MOST_LINES < 2 * need p mover)
-TooLongNeedsMany p mover (Open full) = Unit {0}
+-- the search without connections needs more than half as many positions, or more than the budget
+abbrev pub TooLongNeedsMany : Position → Colour → Bool → ℕ → Solved → Type 0
+TooLongNeedsMany p mover hsearch budget (Won winner cert) = Unit {0}
+TooLongNeedsMany p mover hsearch budget (Unknown spent own) = Unit {0}
+TooLongNeedsMany p mover hsearch budget (TooLong winner lines) =
+    (MOST_LINES < lines) × (few_cells < empty_count p)
+    × ((MOST_LINES < 2 * need p mover) ⊎ IsBeyond p mover hsearch budget)
+TooLongNeedsMany p mover hsearch budget (Open full) = Unit {0}
 
 -- ---- none
 
@@ -91,7 +97,7 @@ UnknownNeedsMore p mover hsearch budget (TooLong winner lines) = Unit {0}
 UnknownNeedsMore p mover hsearch budget (Open full) = Unit {0}
 
 -- the board is full, keeps the stones of p, and nobody is joined on it
-pub record IsOpen (p full : Position) : Type 0 where
+pub record IsOpenBoard (p full : Position) : Type 0 where
   pub keeps : Keeps p full
   pub filled : (k : ℕ) → is_empty_at full k ≡ false
   pub unjoined : (c : Colour) → is_joined full.size c (stones_of full c) ≡ false
@@ -101,4 +107,4 @@ abbrev pub OpenIsFull : Position → Solved → Type 0
 OpenIsFull p (Won winner cert) = Unit {0}
 OpenIsFull p (Unknown spent own) = Unit {0}
 OpenIsFull p (TooLong winner lines) = Unit {0}
-OpenIsFull p (Open full) = IsOpen p full
+OpenIsFull p (Open full) = IsOpenBoard p full

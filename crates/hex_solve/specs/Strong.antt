@@ -17,13 +17,16 @@ use Rattle.win_cert.specs.Showing.{Shows, scope_of}
 use Rattle.hex_solve.specs.Ledgers.{GrowsBy, LedgerData, ShowsWin, read_of}
 use Rattle.hex_solve.specs.declared.strong.Shown.{Shown}
 use Rattle.hex_solve.specs.declared.ways.Ways.{Ways}
-use Rattle.hex_solve.specs.declared.winning.Winner.{Winner}
+use Rattle.hex_solve.specs.declared.answers.Solved.{Solved}
+use Rattle.hex_solve.specs.declared.answers.Solved.TheVariants.{Won, Unknown, TooLong, Open}
+use Rattle.hex_board.specs.Wins.{Wins}
+use Rattle.win_cert.specs.declared.certs.TheConstants.{MOST_LINES}
 use Rattle.hex_solve.specs.Solved.{claim_for}
-use Rattle.hex_solve.specs.Telling.{IsCertifiedWin}
+use Rattle.hex_solve.specs.Telling.{IsCertifiedWinner}
 
--- new is old with more lines
-abbrev pub Grows : LedgerData → LedgerData → Type 0
-Grows old new = (most : ℕ) × GrowsBy most old new
+-- new is old with more lines, and more is kept in mind
+abbrev pub HasGrown : LedgerData → LedgerData → Type 0
+HasGrown old new = (most : ℕ) × GrowsBy most old new
 
 -- where there was room for all lines, line i shows that the player wins p by an entry whose carrier
 -- lies inside c
@@ -50,9 +53,9 @@ IsMissed k [] = ⊥
 IsMissed k (c ∷ sets) = (has c k ≡ false) ⊎ IsMissed k sets
 
 -- each of the sets is inside this one
-abbrev pub AreInside : List ℕ → ℕ → Type 0
-AreInside [] union = Unit {0}
-AreInside (c ∷ sets) union = IsSubset c union × AreInside sets union
+abbrev pub AreAllInside : List ℕ → ℕ → Type 0
+AreAllInside [] union = Unit {0}
+AreAllInside (c ∷ sets) union = IsSubset c union × AreAllInside sets union
 
 -- the lines of these numbers show that the player wins p by placing first, inside the union, and
 -- they answer each stone of the other's but those on the replies that are left; each number took
@@ -63,7 +66,7 @@ pub record AnswerBut (p : Position) (d : LedgerData) (numbers : List ℕ)
   pub wins : AreWins d p numbers sets
   pub missed : (k : ℕ) → is_empty_at p k ≡ true → (has replies k ≡ true) ⊎ IsMissed k sets
   pub left : (k : ℕ) → has replies k ≡ true → is_empty_at p k ≡ true
-  pub inside : AreInside sets union
+  pub inside : AreAllInside sets union
   pub few : length numbers + members replies MOST_CELLS ≤ MOST_CELLS
 
 -- they answer each stone of the other's
@@ -87,21 +90,20 @@ AreSemi d (n ∷ numbers) [] = ⊥
 AreSemi d (n ∷ numbers) (c ∷ sets) =
     ((a : Entry) × IsEdgeEntryAt d n a × (a.kind ≡ Semi) × (a.carrier ≡ c)) × AreSemi d numbers sets
 
--- entries of the store that answer each stone but those on the replies that are left, inside the
--- union; each took some reply away
-pub record IsChosen (p : Position) (d : StoreData) (numbers : List ℕ)
+-- entries of the store, with these carriers, that answer each stone but those on the replies that
+-- are left, inside the union; each took some reply away
+pub record AreThreatsChosen (p : Position) (d : StoreData) (numbers sets : List ℕ)
     (replies union : ℕ) : Type 0 where
-  pub sets : List ℕ
   pub entries : AreSemi d numbers sets
   pub missed : (k : ℕ) → is_empty_at p k ≡ true → (has replies k ≡ true) ⊎ IsMissed k sets
   pub left : (k : ℕ) → has replies k ≡ true → is_empty_at p k ≡ true
-  pub inside : AreInside sets union
+  pub inside : AreAllInside sets union
   pub few : length numbers + members replies MOST_CELLS ≤ MOST_CELLS
 
 -- the ledger grew, and lines of it show that the player wins p, each by an entry of the store
 pub record ShowsCuts (old new : LedgerData) (p : Position) (d : StoreData)
     (entries lines : List ℕ) : Type 0 where
-  pub grows : Grows old new
+  pub grows : HasGrown old new
   pub count : length lines ≡ length entries
   pub each : (sets : List ℕ) → AreSemi d entries sets → AreWins new p lines sets
 
@@ -109,24 +111,29 @@ pub record ShowsCuts (old new : LedgerData) (p : Position) (d : StoreData)
 -- ledger is as before
 abbrev pub IsWonBy : Bool → Position → ℕ → ℕ → LedgerData × LedgerData
     → LedgerData × LedgerData → Type 0
-IsWonBy true p line carrier old new = Grows old.0 new.0 × ShowsIn new.0 p Semi carrier line
+IsWonBy true p line carrier old new = HasGrown old.0 new.0 × ShowsIn new.0 p Semi carrier line
     × (new.1 ≡ old.1)
-IsWonBy false p line carrier old new = Grows old.1 new.1 × ShowsIn new.1 p Full carrier line
+IsWonBy false p line carrier old new = HasGrown old.1 new.1 × ShowsIn new.1 p Full carrier line
     × (new.0 ≡ old.0)
 
 abbrev pub IsWon : Position → LedgerData × LedgerData → LedgerData × LedgerData → Shown → Type 0
 IsWon p old new shown = IsWonBy shown.by_mover p shown.line shown.carrier old new
 
+-- the ledger grew, and a line of it shows that its player wins p by an entry of that kind, inside
+-- the cells that are told; by whom is told too
+abbrev pub IsFoundBy : Bool → Kind → Position → LedgerData → LedgerData → Shown → Type 0
+IsFoundBy by kind p old new shown = (shown.by_mover ≡ by) × HasGrown old new
+    × ShowsIn new p kind shown.carrier shown.line
+
 -- what his own report tells: that the mover wins; or nothing, and the ledger is as before
 abbrev pub IsOwnCut : Position → LedgerData → LedgerData → Option Shown → Type 0
 IsOwnCut p old new None = new ≡ old
-IsOwnCut p old new (Some shown) = (shown.by_mover ≡ true) × Grows old new
-    × ShowsIn new p Semi shown.carrier shown.line
+IsOwnCut p old new (Some shown) = IsFoundBy true Semi p old new shown
 
 -- the ledger grew by the lines of threats
 abbrev pub HasThreats : Position → LedgerData → LedgerData → Ways → Type 0
 HasThreats p old new ways =
-    Grows old new × AnswerBut p new ways.numbers.items ways.replies ways.union
+    HasGrown old new × AnswerBut p new ways.numbers.items ways.replies ways.union
 
 -- the ledger is one of p, and the line shows in it that its player wins p, as is claimed
 pub record IsWonIn (p : Position) (mover : Colour) (claim : Kind) (line : ℕ)
@@ -135,6 +142,9 @@ pub record IsWonIn (p : Position) (mover : Colour) (claim : Kind) (line : ℕ)
   pub claims : claim ≡ claim_for d.base.player mover
   pub shows : ShowsWin d d.base.board claim line
 
--- the player wins p, by the certificate
-abbrev pub IsWinner : Position → Colour → Winner → Type 0
-IsWinner p mover w = IsCertifiedWin p mover w.winner w.cert
+-- the winner wins p, by the certificate, or by more lines than one may have
+abbrev pub IsStrongAnswer : Position → Colour → Solved → Type 0
+IsStrongAnswer p mover (Won winner cert) = IsCertifiedWinner p mover winner cert
+IsStrongAnswer p mover (Unknown spent own) = ⊥
+IsStrongAnswer p mover (TooLong winner lines) = Wins winner p mover × (MOST_LINES < lines)
+IsStrongAnswer p mover (Open full) = ⊥

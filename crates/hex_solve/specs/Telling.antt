@@ -1,6 +1,6 @@
 -- What the search without connections leaves at its end, and what it tells. Only private clauses
 -- cite this.
-use Rattle.std.specs.Prelude.{◌≡◌, ℕ, ◌*◌, ◌<◌, ◌≤◌, Option, Some, length}
+use Rattle.std.specs.Prelude.{◌≡◌, ℕ, ◌*◌, ◌<◌, ◌≤◌, ◌⊎◌, Option, Some, length}
 use Rattle.hex_cells.specs.declared.colours.Colour.{Colour}
 use Rattle.hex_board.specs.Positions.{Position}
 use Rattle.hex_board.specs.Wins.{Wins, empty_count}
@@ -13,7 +13,7 @@ use Rattle.win_cert.specs.declared.certs.TheConstants.{MOST_LINES}
 use Rattle.hex_solve.specs.Deciding.{first, need}
 use Rattle.hex_solve.specs.Ledgers.{LedgerData, ShowsWin, count_of}
 use Rattle.hex_solve.specs.Searching.{tree_lines}
-use Rattle.hex_solve.specs.Solved.{Certifies, IsOpen, claim_for, few_cells}
+use Rattle.hex_solve.specs.Solved.{Certifies, IsOpenBoard, claim_for, few_cells}
 use Rattle.hex_solve.specs.declared.answers.Solved.{Solved}
 use Rattle.hex_solve.specs.declared.answers.Solved.TheVariants.{Won, Unknown, TooLong, Open}
 
@@ -37,12 +37,12 @@ pub record IsToldBy (p : Position) (mover : Colour) (claim : Kind) (line : ℕ)
   pub tree : count_of d ≤ tree_lines claim (empty_count p)
 
 -- the winner wins p, by this certificate
-pub record IsCertifiedWin (p : Position) (mover winner : Colour) (cert : Cert) : Type 0 where
+pub record IsCertifiedWinner (p : Position) (mover winner : Colour) (cert : Cert) : Type 0 where
   pub certified : Certifies p mover winner cert
   pub wins : Wins winner p mover
 
 -- the winner wins p, and his certificate has too many lines
-pub record IsTooLong (p : Position) (mover winner : Colour) (lines : ℕ) : Type 0 where
+pub record IsOverlong (p : Position) (mover winner : Colour) (lines : ℕ) : Type 0 where
   pub wins : Wins winner p mover
   pub long : MOST_LINES < lines
   pub large : few_cells < empty_count p
@@ -51,16 +51,30 @@ pub record IsTooLong (p : Position) (mover winner : Colour) (lines : ℕ) : Type
 -- what a search tells that was handed this report and may enter so many positions
 abbrev pub IsPlainAnswer : Position → Colour → Option StoreData → ℕ → Solved → Type 0
 IsPlainAnswer p mover own budget (Won winner cert) =
-    IsCertifiedWin p mover winner cert × (length cert.lines ≤ 2 * need p mover)
+    IsCertifiedWinner p mover winner cert × (length cert.lines ≤ 2 * need p mover)
 IsPlainAnswer p mover own budget (Unknown spent left) =
     (spent ≡ budget) × (budget < need p mover) × (left ≡ own)
-IsPlainAnswer p mover own budget (TooLong winner lines) = IsTooLong p mover winner lines
-IsPlainAnswer p mover own budget (Open full) = IsOpen p full
+IsPlainAnswer p mover own budget (TooLong winner lines) = IsOverlong p mover winner lines
+IsPlainAnswer p mover own budget (Open full) = IsOpenBoard p full
 
--- the same, of a certificate of any length
-abbrev pub IsAnswer : Position → Colour → Option StoreData → ℕ → Solved → Type 0
-IsAnswer p mover own budget (Won winner cert) = IsCertifiedWin p mover winner cert
-IsAnswer p mover own budget (Unknown spent left) =
+-- the winner wins p, and his certificate has too many lines: the search without connections needs
+-- many positions, or more than the budget
+pub record IsLong (p : Position) (mover winner : Colour) (budget lines : ℕ) : Type 0 where
+  pub wins : Wins winner p mover
+  pub long : MOST_LINES < lines
+  pub large : few_cells < empty_count p
+  pub needs : (MOST_LINES < 2 * need p mover) ⊎ (budget < need p mover)
+
+-- the same with connections, of a certificate of any length
+abbrev pub IsSolverAnswer : Position → Colour → Option StoreData → ℕ → Solved → Type 0
+IsSolverAnswer p mover own budget (Won winner cert) = IsCertifiedWinner p mover winner cert
+IsSolverAnswer p mover own budget (Unknown spent left) =
     (spent ≡ budget) × (budget < need p mover) × (left ≡ own)
-IsAnswer p mover own budget (TooLong winner lines) = IsTooLong p mover winner lines
-IsAnswer p mover own budget (Open full) = IsOpen p full
+IsSolverAnswer p mover own budget (TooLong winner lines) = IsLong p mover winner budget lines
+IsSolverAnswer p mover own budget (Open full) = IsOpenBoard p full
+
+-- where the winner wins p, this is what may be told with connections after what is told without
+abbrev pub TellsWinner : Position → Colour → Solved → Solved → Type 0
+TellsWinner p winner plain told = (mover : Colour) (own : Option StoreData) (budget : ℕ)
+    → Wins winner p mover → IsPlainAnswer p mover own budget plain
+    → IsSolverAnswer p mover own budget told

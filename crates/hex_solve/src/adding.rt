@@ -7,8 +7,8 @@ ghost use Rattle.hex_board.specs.Joined.{is_joined};
 ghost use Rattle.hex_board.specs.Positions.{is_empty_at, placed, stones_of};
 ghost use Rattle.hex_cells.specs.declared.board_size.TheConstants.{MOST_CELLS};
 ghost use Rattle.conn_store.specs.declared.entries.Kind.{Kind};
-ghost use Rattle.win_cert.specs.declared.certs.TheConstants.{MOST_LINES};
-ghost use Rattle.hex_solve.specs.Ledgers.{AnswerAll, GrowsBy, MayFollow, ShowsWin, with_line};
+ghost use Rattle.hex_solve.specs.Ledgers.{AnswerAll, GrowsBy, MayStandNext, ShowsWin};
+ghost use Rattle.hex_solve.specs.Ledgers.{with_one_line};
 ghost use Rattle.win_cert.specs.Showing.{Keeps, scope_of};
 ghost use Rattle.hex_solve.specs.Strong.{MovesInside, ShowsIn};
 
@@ -16,7 +16,7 @@ use super::ledgers::Ledger;
 use hex_board::Board;
 use hex_cells::{Cell, CellSet};
 use std::alloc::AllocError;
-use win_cert::{Line, MOST_LINES, Numbers};
+use win_cert::{Line, Numbers};
 
 impl Ledger {
     /// Adds that the player, who is joined on the board, has won; answers the number of the line.
@@ -81,10 +81,10 @@ impl Ledger {
 
     // Adds a line that may follow, where there is room for it, and counts it elsewhere.
     pub(super) fn add(&mut self, line: Line) -> Result<(), AllocError>
-        requires { length self.old.lines < MOST_LINES → MayFollow self.old line }
-        ensures { OnOk result (self.new ≡ with_line self.old line) }
+        requires { length self.old.lines < self.old.room → MayStandNext self.old line }
+        ensures { OnOk result (self.new ≡ with_one_line self.old line) }
     {
-        if self.lines.len() < MOST_LINES {
+        if self.lines.len() < self.room {
             self.lines.push(line)?;
         } else {
             self.lost = self.lost.saturating_add(1);

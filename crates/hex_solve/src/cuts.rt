@@ -5,14 +5,14 @@ ghost use Rattle.std.specs.Prelude.{◌≡◌, ℕ, All, IfOk, IfSome, true};
 ghost use Rattle.hex_board.specs.Positions.{is_empty_at};
 ghost use Rattle.conn_store.specs.declared.entries.Kind.{Kind};
 ghost use Rattle.win_cert.specs.Showing.{Keeps};
-ghost use Rattle.hex_solve.specs.Strong.{AnswerEach, Grows, HasSemiAt, ShowsCuts, ShowsIn};
+ghost use Rattle.hex_solve.specs.Strong.{AnswerEach, HasGrown, HasSemiAt, ShowsCuts, ShowsIn};
 
 use super::ledgers::Ledger;
 use conn_store::Store;
 use hex_board::Board;
 use hex_cells::CellSet;
 use std::alloc::{AllocError, Global};
-use win_cert::{Line, MOST_LINES, Numbers, lines_onto};
+use win_cert::{Line, Numbers, lines_onto};
 
 impl Ledger {
     /// Adds the lines of these semi entries between the player's edges in his store of the board,
@@ -38,7 +38,7 @@ impl Ledger {
         let _entries = store.entries();
         self.lines.push(Line::Put(scope))?;
         let added = lines_onto(alloc, store, entries, &mut self.lines);
-        if self.lines.len() <= MOST_LINES {
+        if self.lines.len() <= self.room {
             match added {
                 Ok(numbers) => return Ok(Some(numbers)),
                 Err(_) => {}
@@ -62,7 +62,7 @@ impl Ledger {
         requires keeps { Keeps self.old.base.board board.now }
         requires room { (k : ℕ) × (is_empty_at board.now k ≡ true) }
         requires answers { AnswerEach board.now self.old lines.items union }
-        ensures grows { IfOk result (λ line. Grows self.old self.new) }
+        ensures grows { IfOk result (λ line. HasGrown self.old self.new) }
         ensures shows { IfOk result (ShowsIn self.new board.now Kind.Full union) }
     {
         let scope = self.scope(board);

@@ -1,17 +1,17 @@
 //! The solver.
 
-ghost use Rattle.std.specs.Prelude.{◌≡◌, IfNone, IfOk, IfSome, None, Some};
+ghost use Rattle.std.specs.Prelude.{◌≡◌, ◌<◌, IfNone, IfOk, IfSome, None, Some};
 ghost use Rattle.hex_board.specs.Joined.{winner_of};
-ghost use Rattle.hex_board.specs.Positions.{IsPosition};
 ghost use Rattle.hsearch.specs.Closed.{IsReportOf};
+ghost use Rattle.win_cert.specs.declared.certs.TheConstants.{MOST_LINES};
 ghost use Rattle.hex_solve.specs.Solved.{IsUndecided, OpenIsFull, TooLongNeedsMany};
 ghost use Rattle.hex_solve.specs.Solved.{UnknownNeedsMore, WinnerWins, WonIsCertified, WonIsShort};
-ghost use Rattle.hex_solve.specs.Telling.{IsAnswer, IsCertifiedWin};
+ghost use Rattle.hex_solve.specs.Telling.{IsCertifiedWinner, IsSolverAnswer, TellsWinner};
 
 use super::answers::Solved;
 use super::refusals::Memory;
 use super::telling::search_plainly;
-use super::winning::search_strongly;
+use super::winning::{boards_are_positions, search_strongly};
 use conn_store::Kind;
 use hex_board::Board;
 use hex_cells::Colour;
@@ -19,13 +19,16 @@ use hsearch::{Report, connect};
 use std::alloc::Global;
 use win_cert::{Cert, accepted_certificates_win, cut, edge_numbers, raise};
 
+// With this many empty cells or fewer no certificate is too long.
+const FEW_CELLS: u32 = 9;
+
 /// Who wins the board, on which no player is joined, with `mover` to place next.
 ///
 /// With `hsearch` it first asks for the mover's report: a semi entry between his edges is a win.
 /// Else a search with connections looks for a winner, which enters at most `budget` positions.
-/// Where that finds none, and without `hsearch`, a search goes depth first and tries the cells in
-/// rising order, up to the first that wins; it enters at most `budget` positions, each as often as
-/// a list of moves leads to it.
+/// Where that finds none, or one whose certificate would be too long, and without `hsearch`, a
+/// search goes depth first and tries the cells in rising order, up to the first that wins; it
+/// enters at most `budget` positions, each as often as a list of moves leads to it.
 ///
 /// It answers the winner with a certificate of the latest version, that the budget is spent, the
 /// winner alone where the certificate would have too many lines, or a full board on which nobody is
@@ -42,7 +45,7 @@ pub fn solve(
     ensures won { IfOk result (WonIsCertified board.now mover) }
     ensures short { IfOk result (WonIsShort board.now mover hsearch) }
     ensures unknown { IfOk result (UnknownNeedsMore board.now mover hsearch budget) }
-    ensures too_long { IfOk result (TooLongNeedsMany board.now mover) }
+    ensures too_long { IfOk result (TooLongNeedsMany board.now mover hsearch budget) }
     ensures open { IfOk result (OpenIsFull board.now) }
 {
     if !hsearch {
@@ -58,7 +61,8 @@ pub fn solve(
     }
 }
 
-// What the search with connections tells, where it tells a winner; else what the one without tells.
+// What the search with connections tells, where it tells a winner with a certificate; else what the
+// one without tells, or the winner alone.
 fn search_both(
     alloc: Global,
     board: &Board,
@@ -67,14 +71,33 @@ fn search_both(
     budget: u64,
 ) -> Result<Solved, Memory>
     requires { winner_of board.now ≡ None }
-    ensures { IfOk result (IsAnswer board.now mover (Some own) budget) }
+    ensures { IfOk result (IsSolverAnswer board.now mover (Some own) budget) }
 {
     match search_strongly(alloc, board, mover, budget)? {
-        Some(won) => Ok(Solved::Won {
-            winner: won.winner,
-            cert: won.cert,
-        }),
+        Some(Solved::TooLong { winner, lines }) => {
+            let plain = search_plainly(alloc, board, mover, Some(own), budget)?;
+            Ok(winner_told(board, plain, winner, lines))
+        }
+        Some(told) => Ok(told),
         None => search_plainly(alloc, board, mover, Some(own), budget),
+    }
+}
+
+// What the search without connections told; where that is nothing and more than a few cells are
+// empty, the winner, whose certificate would have so many lines.
+fn winner_told(board: &Board, plain: Solved, winner: Colour, lines: u64) -> Solved
+    requires { MOST_LINES < lines }
+    ensures { TellsWinner board.now winner plain result }
+{
+    match plain {
+        Solved::Unknown { spent, own } => {
+            if FEW_CELLS < board.empties().count() {
+                Solved::TooLong { winner, lines }
+            } else {
+                Solved::Unknown { spent, own }
+            }
+        }
+        told => told,
     }
 }
 
@@ -88,7 +111,7 @@ fn by_connections(
 ) -> Result<Option<Cert>, Memory>
     requires nobody { winner_of board.now ≡ None }
     requires own { IsReportOf board.now mover own.now }
-    ensures won { IfOk result (λ won. IfSome won (IsCertifiedWin board.now mover mover)) }
+    ensures won { IfOk result (λ won. IfSome won (IsCertifiedWinner board.now mover mover)) }
     ensures none { IfOk result (λ won. IfNone won (IsUndecided own.now)) }
 {
     accepted_certificates_win();
@@ -99,13 +122,4 @@ fn by_connections(
     }
     let cert = cut(alloc, own, semi.at[0])?;
     Ok(Some(raise(alloc, &cert)?))
-}
-
-// The board has 1 to 11 rows, and its stones lie on it and have no cell in common.
-fn boards_are_positions(board: &Board)
-    ensures { IsPosition board.now.size board.now.black board.now.white }
-{
-    let _size = board.size();
-    let _black = board.stones(Colour::Black);
-    let _white = board.stones(Colour::White);
 }

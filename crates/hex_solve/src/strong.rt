@@ -5,9 +5,10 @@ ghost use Rattle.std.specs.Prelude.{◌≡◌, ℕ, IfOk, true, false};
 ghost use Rattle.hex_board.specs.Joined.{is_joined};
 ghost use Rattle.hex_board.specs.Positions.{is_empty_at, stones_of};
 ghost use Rattle.hex_cells.specs.Colours.{other_of};
-ghost use Rattle.hex_solve.specs.Searching.{IsSearched};
+ghost use Rattle.hex_solve.specs.Searching.{IsPairOfLedgers};
 ghost use Rattle.hex_solve.specs.Strong.{IsWon};
 
+use super::keeping::{add_answers, add_joined, add_stone, known_entry};
 use super::ledgers::Ledger;
 use super::order::{keys_of, pick};
 use super::searching::Stop;
@@ -37,22 +38,19 @@ pub(crate) fn decide(
     other: &mut Ledger,
     left: &mut u64,
 ) -> Result<Shown, Stop>
-    requires searched { IsSearched board.now mover own.old other.old }
+    requires searched { IsPairOfLedgers board.now mover own.old other.old }
     ensures { IfOk result (IsWon board.now (own.old, other.old) (own.new, other.new)) }
 {
     if *left == 0 {
         return Err(Stop::Spent);
     }
     *left -= 1;
+    match known_entry(board, own, other) {
+        Some(shown) => return Ok(shown),
+        None => {}
+    }
     if board.joined(mover.other()) {
-        let Ok(line) = other.add_done(board) else {
-            return Err(Stop::Memory);
-        };
-        return Ok(Shown {
-            by_mover: false,
-            line,
-            carrier: CellSet::none(),
-        });
+        return add_joined(board, other);
     }
     let Some(_room) = board.empties().least() else {
         return Err(Stop::Open(*board));
@@ -74,7 +72,7 @@ fn replies(
     other: &mut Ledger,
     left: &mut u64,
 ) -> Result<Shown, Stop>
-    requires searched { IsSearched board.now mover own.old other.old }
+    requires searched { IsPairOfLedgers board.now mover own.old other.old }
     requires apart { is_joined board.now.size (other_of mover)
         (stones_of board.now (other_of mover)) ≡ false }
     requires room { (k : ℕ) × (is_empty_at board.now k ≡ true) }
@@ -85,7 +83,7 @@ fn replies(
         Ok(ways) => ways,
         Err(stop) => return Err(stop),
     };
-    let keys = match keys_of(alloc, board, mover, ways.replies) {
+    let keys = match keys_of(alloc, board, own, ways.replies) {
         Ok(keys) => keys,
         Err(stop) => return Err(stop),
     };
@@ -100,14 +98,7 @@ fn replies(
         };
         if !shown.by_mover {
             other.back(mark);
-            let Ok(line) = own.add_move(board, cell, shown.line) else {
-                return Err(Stop::Memory);
-            };
-            return Ok(Shown {
-                by_mover: true,
-                line,
-                carrier: shown.carrier.with(cell),
-            });
+            return add_stone(board, own, cell, shown);
         }
         // What answers the stone also answers each reply outside its carrier.
         let carrier = shown.carrier.without(cell);
@@ -117,13 +108,5 @@ fn replies(
         ways.replies = ways.replies.meet(carrier);
         ways.union = ways.union.union(carrier);
     }
-    let union = ways.union;
-    let Ok(line) = other.add_ways(board, ways.numbers, union) else {
-        return Err(Stop::Memory);
-    };
-    Ok(Shown {
-        by_mover: false,
-        line,
-        carrier: union,
-    })
+    add_answers(board, other, ways)
 }

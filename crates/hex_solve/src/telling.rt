@@ -15,6 +15,7 @@ use hex_board::Board;
 use hex_cells::Colour;
 use hsearch::Report;
 use std::alloc::Global;
+use win_cert::MOST_LINES;
 
 /// Who wins the board, on which nobody is joined, with `mover` to place: by a search that tries the
 /// cells in rising order and enters at most `budget` positions. Where it is unknown, the report is
@@ -29,8 +30,8 @@ pub(crate) fn search_plainly(
     requires { winner_of board.now ≡ None }
     ensures { IfOk result (IsPlainAnswer board.now mover own budget) }
 {
-    let mut mine = Ledger::make(alloc, board, mover);
-    let mut theirs = Ledger::make(alloc, board, mover.other());
+    let mut mine = Ledger::make(alloc, board, mover, MOST_LINES);
+    let mut theirs = Ledger::make(alloc, board, mover.other(), MOST_LINES);
     let mut left = budget;
     match position(alloc, board, mover, &mut mine, &mut theirs, &mut left) {
         Ok(found) => {

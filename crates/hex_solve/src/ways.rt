@@ -7,8 +7,10 @@ ghost use Rattle.hex_board.specs.Positions.{stones_of};
 ghost use Rattle.conn_store.specs.declared.entries.Kind.{Kind};
 ghost use Rattle.win_cert.specs.Cuts.{AreEdgeNumbers};
 ghost use Rattle.win_cert.specs.Showing.{Keeps};
-ghost use Rattle.hex_solve.specs.Strong.{HasThreats, IsChosen, IsOwnCut};
+ghost use Rattle.hex_solve.specs.Strong.{AnswerBut, AreThreatsChosen, AreWins, HasGrown};
+ghost use Rattle.hex_solve.specs.Strong.{HasThreats, IsOwnCut};
 
+use super::keeping::keep;
 use super::ledgers::Ledger;
 use super::order::narrowest;
 use super::searching::Stop;
@@ -29,6 +31,19 @@ pub(crate) struct Ways {
     pub replies: CellSet,
     /// The cells of all their carriers.
     pub union: CellSet,
+}
+
+// Entries of a report that are taken as threats.
+#[derive(Drop)]
+struct Chosen {
+    // Their numbers.
+    numbers: Vec<u32>,
+    // Their carriers, in turn.
+    carriers: Vec<CellSet>,
+    // The cells that are in all carriers.
+    replies: CellSet,
+    // The cells of all carriers.
+    union: CellSet,
 }
 
 /// Adds the lines of a semi entry between the edges of the ledger's player, who is to place and is
@@ -55,19 +70,38 @@ pub(crate) fn own_entry(
     let entry = narrowest(entries, &semi, board.empties());
     let carrier = entries[entry as usize].carrier;
     match own.add_cuts(alloc, board, store, &[entry]) {
-        Ok(Some(lines)) => Ok(Some(Shown {
-            by_mover: true,
-            line: lines[0],
-            carrier,
-        })),
+        Ok(Some(lines)) => {
+            let shown = Shown {
+                by_mover: true,
+                line: lines[0],
+                carrier,
+            };
+            match keep(board, own, Kind::Semi, shown) {
+                Ok(kept) => Ok(Some(kept)),
+                Err(stop) => Err(stop),
+            }
+        }
         Ok(None) => Err(Stop::Spent),
         Err(_) => Err(Stop::Memory),
     }
 }
 
 /// Adds the lines of threats of the ledger's player, who is not joined, with the other to place;
-/// they share the lines of what they both rest on.
+/// they share the lines of what they both rest on. What else is known takes more replies away.
 pub(crate) fn threats(alloc: Global, board: &Board, other: &mut Ledger) -> Result<Ways, Stop>
+    requires keeps { Keeps other.old.base.board board.now }
+    requires unjoined { is_joined board.now.size other.old.base.player
+        (stones_of board.now other.old.base.player) ≡ false }
+    ensures { IfOk result (HasThreats board.now other.old other.new) }
+{
+    match cut_threats(alloc, board, other) {
+        Ok(ways) => narrowed(board, other, ways),
+        Err(stop) => Err(stop),
+    }
+}
+
+// Adds the lines of threats of his report, and keeps them in mind.
+fn cut_threats(alloc: Global, board: &Board, other: &mut Ledger) -> Result<Ways, Stop>
     requires keeps { Keeps other.old.base.board board.now }
     requires unjoined { is_joined board.now.size other.old.base.player
         (stones_of board.now other.old.base.player) ≡ false }
@@ -82,42 +116,102 @@ pub(crate) fn threats(alloc: Global, board: &Board, other: &mut Ledger) -> Resul
         return Err(Stop::Memory);
     };
     match other.add_cuts(alloc, board, store, &chosen.numbers) {
-        Ok(Some(numbers)) => Ok(Ways {
-            numbers,
-            replies: chosen.replies,
-            union: chosen.union,
-        }),
+        Ok(Some(numbers)) => kept(board, other, &chosen, numbers),
         Ok(None) => Err(Stop::Spent),
         Err(_) => Err(Stop::Memory),
     }
 }
 
-// The numbers of the entries that are taken as threats: each time of that which leaves fewest
-// replies, as long as one takes some away; and the replies that they leave.
-fn chosen_of(alloc: Global, board: &Board, store: &Store, semi: &Held) -> Result<Ways, AllocError>
+// The entries that were chosen, with these numbers of their lines, which are kept in mind.
+fn kept(board: &Board, other: &mut Ledger, chosen: &Chosen, numbers: Vec<u32>) -> Result<Ways, Stop>
+    requires wins { AreWins other.old board.now numbers.items chosen.now.carriers.items }
+    requires but { AnswerBut board.now other.old numbers.items chosen.now.replies
+        chosen.now.union }
+    ensures { IfOk result (HasThreats board.now other.old other.new) }
+{
+    let Ok(()) = remember_all(board, other, &numbers, &chosen.carriers) else {
+        return Err(Stop::Memory);
+    };
+    Ok(Ways {
+        numbers,
+        replies: chosen.replies,
+        union: chosen.union,
+    })
+}
+
+// Keeps in mind what each of the lines shows.
+fn remember_all(
+    board: &Board,
+    other: &mut Ledger,
+    lines: &[u32],
+    carriers: &[CellSet],
+) -> Result<(), AllocError>
+    requires { AreWins other.old board.now lines.now carriers.now }
+    ensures { IfOk result (λ done. HasGrown other.old other.new) }
+{
+    'lines: for place in 0..lines.len() {
+        let Some(line) = lines.get(place) else {
+            return Ok(());
+        };
+        let Some(carrier) = carriers.get(place) else {
+            return Ok(());
+        };
+        other.remember(board, Kind::Semi, *line, *carrier)?;
+    }
+    Ok(())
+}
+
+// The ways with lines that are known to answer more, each time that which leaves fewest replies.
+fn narrowed(board: &Board, other: &Ledger, found: Ways) -> Result<Ways, Stop>
+    requires { AnswerBut board.now other.now found.numbers.items found.replies found.union }
+    ensures { IfOk result (λ ways.
+        AnswerBut board.now other.now ways.numbers.items ways.replies ways.union) }
+{
+    let mut ways = found;
+    'known: loop {
+        let Some(known) = other.recall(board, Kind::Semi, ways.replies) else {
+            return Ok(ways);
+        };
+        let replies = ways.replies.meet(known.carrier);
+        if ways.replies.count() <= replies.count() {
+            return Ok(ways);
+        }
+        let Ok(()) = ways.numbers.push(known.line) else {
+            return Err(Stop::Memory);
+        };
+        ways.replies = replies;
+        ways.union = ways.union.union(known.carrier);
+    }
+}
+
+// The entries that are taken as threats: each time that which leaves fewest replies, as long as one
+// takes some away; and the replies that they leave.
+fn chosen_of(alloc: Global, board: &Board, store: &Store, semi: &Held) -> Result<Chosen, AllocError>
     requires few { semi.now.count ≤ 6 }
     requires numbers { AreEdgeNumbers store.now Kind.Semi semi.now }
-    ensures { IfOk result (λ ways.
-        IsChosen board.now store.now ways.numbers.items ways.replies ways.union) }
+    ensures { IfOk result (λ chosen. AreThreatsChosen board.now store.now chosen.numbers.items
+        chosen.carriers.items chosen.replies chosen.union) }
 {
-    let mut ways = Ways {
+    let mut chosen = Chosen {
         numbers: Vec::new(alloc),
+        carriers: Vec::new(alloc),
         replies: board.empties(),
         union: CellSet::none(),
     };
     if semi.count == 0 {
-        return Ok(ways);
+        return Ok(chosen);
     }
     let entries = store.entries();
     'threats: loop {
-        let entry = narrowest(entries, semi, ways.replies);
+        let entry = narrowest(entries, semi, chosen.replies);
         let carrier = entries[entry as usize].carrier;
-        let replies = ways.replies.meet(carrier);
-        if ways.replies.count() <= replies.count() {
-            return Ok(ways);
+        let replies = chosen.replies.meet(carrier);
+        if chosen.replies.count() <= replies.count() {
+            return Ok(chosen);
         }
-        ways.numbers.push(entry)?;
-        ways.replies = replies;
-        ways.union = ways.union.union(carrier);
+        chosen.numbers.push(entry)?;
+        chosen.carriers.push(carrier)?;
+        chosen.replies = replies;
+        chosen.union = chosen.union.union(carrier);
     }
 }

@@ -2,8 +2,11 @@
 
 ghost use Rattle.std.specs.Prelude.{◌≡◌, IfOk, IfSome, None};
 ghost use Rattle.hex_board.specs.Joined.{winner_of};
-ghost use Rattle.hex_solve.specs.Strong.{IsWinner, IsWonIn};
+ghost use Rattle.hex_board.specs.Positions.{IsPosition};
+ghost use Rattle.hex_solve.specs.Strong.{IsStrongAnswer, IsWonIn};
 
+use super::answers::Solved;
+use super::known::LEDGER_LINES;
 use super::ledgers::Ledger;
 use super::refusals::Memory;
 use super::searching::Stop;
@@ -12,29 +15,22 @@ use conn_store::Kind;
 use hex_board::Board;
 use hex_cells::Colour;
 use std::alloc::Global;
-use win_cert::{Cert, accepted_certificates_win};
-
-/// A player with a certificate that he wins.
-#[derive(Drop)]
-pub(crate) struct Winner {
-    pub winner: Colour,
-    pub cert: Cert,
-}
+use win_cert::accepted_certificates_win;
 
 /// Who wins the board, on which nobody is joined, with `mover` to place: by a search with
 /// connections that enters at most `budget` positions. `None` where it does not end so, or where
-/// the certificate would have too many lines.
+/// there was no room for all lines.
 pub(crate) fn search_strongly(
     alloc: Global,
     board: &Board,
     mover: Colour,
     budget: u64,
-) -> Result<Option<Winner>, Memory>
+) -> Result<Option<Solved>, Memory>
     requires { winner_of board.now ≡ None }
-    ensures { IfOk result (λ won. IfSome won (IsWinner board.now mover)) }
+    ensures { IfOk result (λ won. IfSome won (IsStrongAnswer board.now mover)) }
 {
-    let mut mine = Ledger::make(alloc, board, mover);
-    let mut theirs = Ledger::make(alloc, board, mover.other());
+    let mut mine = Ledger::make(alloc, board, mover, LEDGER_LINES);
+    let mut theirs = Ledger::make(alloc, board, mover.other(), LEDGER_LINES);
     let mut left = budget;
     match decide(alloc, board, mover, &mut mine, &mut theirs, &mut left) {
         Ok(shown) => {
@@ -49,7 +45,7 @@ pub(crate) fn search_strongly(
 }
 
 // No winner, or want of memory.
-fn stopped(stop: Stop) -> Result<Option<Winner>, Memory>
+fn stopped(stop: Stop) -> Result<Option<Solved>, Memory>
     ensures { IfOk result (λ won. won ≡ None) }
 {
     match stop {
@@ -59,19 +55,29 @@ fn stopped(stop: Stop) -> Result<Option<Winner>, Memory>
     }
 }
 
-// The ledger's player with the certificate of his lines, where there was room for all.
-fn won(board: &Board, mover: Colour, ledger: Ledger, claim: Kind, line: u32) -> Option<Winner>
+// That the ledger's player wins, by the certificate of his lines where it is not too long. `None`
+// where there was no room for all lines.
+fn won(board: &Board, mover: Colour, ledger: Ledger, claim: Kind, line: u32) -> Option<Solved>
     requires { IsWonIn board.now mover claim line ledger }
-    ensures { IfSome result (IsWinner board.now mover) }
+    ensures { IfSome result (IsStrongAnswer board.now mover) }
 {
     accepted_certificates_win();
-    // A board has 1 to 11 rows, and its stones lie on it and have no cell in common.
+    boards_are_positions(board);
+    let winner = ledger.player();
+    if !ledger.has_all() {
+        return None;
+    }
+    match ledger.into_cert(claim, line) {
+        Ok(cert) => Some(Solved::Won { winner, cert }),
+        Err(lines) => Some(Solved::TooLong { winner, lines }),
+    }
+}
+
+/// The board has 1 to 11 rows, and its stones lie on it and have no cell in common.
+pub(crate) fn boards_are_positions(board: &Board)
+    ensures { IsPosition board.now.size board.now.black board.now.white }
+{
     let _size = board.size();
     let _black = board.stones(Colour::Black);
     let _white = board.stones(Colour::White);
-    let winner = ledger.player();
-    match ledger.into_cert(claim, line) {
-        Ok(cert) => Some(Winner { winner, cert }),
-        Err(_) => None,
-    }
 }

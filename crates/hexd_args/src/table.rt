@@ -1,6 +1,9 @@
 //! The options of hexd, a line each. The code, the definitions of specs/Table.antt and
 //! specs/Values.antt and the tests read them here.
 
+use tree_words::{LEAST_WORDS, MOST_EXPAND, MOST_PLAYOUTS, MOST_WORDS, MOST_WORKERS};
+use uct_table::MOST_WEIGHT;
+
 /// An option that is a number: its name, what stands for it where it is not said, and its least and
 /// its greatest number.
 type Number = (&'static str, &'static str, u32, u32);
@@ -12,22 +15,22 @@ type LongNumber = (&'static str, &'static str, u64, u64);
 pub const SIZE: Number = ("size", "11", 1, 11);
 
 /// `--workers`: how many workers search.
-pub const WORKERS: Number = ("workers", "1", 1, 64);
+pub const WORKERS: Number = ("workers", "1", 1, MOST_WORKERS);
 
 /// `--playouts`: how many playouts a search makes.
-pub const PLAYOUTS: Number = ("playouts", "10000", 1, 1_000_000);
+pub const PLAYOUTS: Number = ("playouts", "10000", 1, MOST_PLAYOUTS);
 
 /// `--seed`: where the random numbers begin.
 pub const SEED: LongNumber = ("seed", "0", 0, u64::MAX);
 
 /// `--words`: the room of the search tree in words.
-pub const WORDS: Number = ("words", "4194304", 1_024, 16_777_216);
+pub const WORDS: Number = ("words", "4194304", LEAST_WORDS, MOST_WORDS);
 
 /// `--expand`: the visits at which a node gets its children.
-pub const EXPAND: Number = ("expand", "8", 1, 1_000);
+pub const EXPAND: Number = ("expand", "8", 1, MOST_EXPAND);
 
 /// `--weight`: how much exploration weighs.
-pub const WEIGHT: Number = ("weight", "180", 0, 1_024);
+pub const WEIGHT: Number = ("weight", "180", 0, MOST_WEIGHT);
 
 /// `--hsearch`: whether connections are searched for, `on` or `off`; what stands for it where it is
 /// not said.

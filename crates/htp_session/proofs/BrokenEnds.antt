@@ -7,7 +7,7 @@ use Rattle.hex_engine.specs.EngineState.{EngineState}
 use Rattle.hex_engine.specs.Supply.{Supply, nothing_left}
 use Rattle.htp_session.specs.Talk.{Going, talk, talk_to}
 use Rattle.htp_session.specs.Sessions.{EndsLine, HasLast}
-use Rattle.htp_session.specs.Endings.{since, StoppedAfter, Ended}
+use Rattle.htp_session.specs.Endings.{since, Ended, Unfinished}
 use Rattle.hex_devices.specs.declared.stops.Stop.TheVariants as stop
 use Rattle.htp_session.proofs.Keeping.{Keeps, since_keeps, keeps_nothing, course_of, talk_text, lines-append}
 
@@ -35,13 +35,16 @@ end_unwritten_last start all limit o n seen part more few kept e =
     record { course = course_of start all o n seen part kept; ends = record { in_limit = omega arith; given = (part, more, ap (λ l. (talk start all (lines l)).text) w ∙ e, kept.given) } }
 
 -- memory ran out at the line after the first ones
-stops_at : (start : EngineState) (all : Supply) (o n : Told) (seen text : List ℕ) (ls : List (List ℕ)) (raw : List ℕ) (others : List (List ℕ)) → Keeps start all o n seen text → lines seen ≡ ls ++ raw ∷ others → (talk start all ls).text ≡ text
-    → (talk start all ls).ending ≡ Going → (talk start all ls).left ≡ nothing_left → StoppedAfter start all o n (length ls)
-stops_at start all o n seen text ls raw others kept split e going used =
+stops_at : (start : EngineState) (all : Supply) (limit : ℕ) (o n : Told) (seen text : List ℕ) (ls : List (List ℕ)) (raw : List ℕ) (others : List (List ℕ)) → length seen ≤ limit → Keeps start all o n seen text → lines seen ≡ ls ++ raw ∷ others → (talk start all ls).text ≡ text
+    → (talk start all ls).ending ≡ Going → (talk start all ls).left ≡ nothing_left → Unfinished start all limit o n
+stops_at start all limit o n seen text ls raw others few kept split e going used =
+    let same_length = ap length (since_keeps start all o n seen text kept) in
     let w : lines (since o n) ≡ ls ++ raw ∷ others = ap lines (since_keeps start all o n seen text kept) ∙ split in
     let front : take (length ls) (lines (since o n)) ≡ ls = ap (take (length ls)) w ∙ take-append_seam ls (raw ∷ others) in
     let many : length (lines (since o n)) ≡ length ls + length (raw ∷ others) = ap length w ∙ length-append ls (raw ∷ others) in
     record {
+      in_limit = omega arith;
+      before = length ls;
       given = kept.given ∙ ap (λ l. o.given ++ l) (sym e) ∙ ap (λ l. o.given ++ (talk start all l).text) (sym front);
       going = ap (λ l. (talk start all l).ending) front ∙ going;
       used = ap (λ l. (talk start all l).left) front ∙ used;
@@ -51,19 +54,17 @@ stops_at start all o n seen text ls raw others kept split e going used =
 pub end_unfinished : (start : EngineState) (all : Supply) (limit : ℕ) (o n : Told) (s t text : List ℕ) → length (s ++ t) ≤ limit → Keeps start all o n (s ++ t) text → (talk_to start all s).text ≡ text → (talk_to start all s).ending ≡ Going → (talk_to start all s).left ≡ nothing_left → EndsLine s t
     → Ended (Err stop.Memory) start all limit o n
 end_unfinished start all limit o n s t text few kept e going used line =
-    let same_length = ap length (since_keeps start all o n (s ++ t) text kept) in
     let split : lines (s ++ t) ≡ whole s ++ line.0 ∷ (line.1 ++ unless_empty (rest (s ++ t))) =
     ap (λ l. l ++ unless_empty (rest (s ++ t))) line.2 ∙ append_assoc (whole s) (line.0 ∷ line.1) (unless_empty (rest (s ++ t))) in
     record {
       course = course_of start all o n (s ++ t) text kept;
-      ends = record { in_limit = omega arith; stops = (length (whole s), stops_at start all o n (s ++ t) text (whole s) line.0 _ kept split e going used) };
+      ends = stops_at start all limit o n (s ++ t) text (whole s) line.0 _ few kept split e going used;
     }
 
 pub end_unfinished_last : (start : EngineState) (all : Supply) (limit : ℕ) (o n : Told) (seen text : List ℕ) → length seen ≤ limit → Keeps start all o n seen text → (talk_to start all seen).text ≡ text → (talk_to start all seen).ending ≡ Going → (talk_to start all seen).left ≡ nothing_left → HasLast seen
     → Ended (Err stop.Memory) start all limit o n
 end_unfinished_last start all limit o n seen text few kept e going used line =
-    let same_length = ap length (since_keeps start all o n seen text kept) in
-    record { course = course_of start all o n seen text kept; ends = record { in_limit = omega arith; stops = (length (whole seen), stops_at start all o n seen text (whole seen) line.0 [] kept line.1 e going used) } }
+    record { course = course_of start all o n seen text kept; ends = stops_at start all limit o n seen text (whole seen) line.0 [] few kept line.1 e going used }
 
 -- memory ran out before the first read
 pub end_unbegun : (start : EngineState) (limit : ℕ) (o : Told) → Ended (Err stop.Memory) start nothing_left limit o o
@@ -73,5 +74,5 @@ end_unbegun start limit o =
     let same_length = ap length s in
     record {
       course = course_of start nothing_left o o [] [] kept;
-      ends = record { in_limit = omega arith; stops = (0, record { given = sym (append-nil o.given); going = refl; used = refl; line = inr s }) };
+      ends = record { in_limit = omega arith; before = 0; given = sym (append-nil o.given); going = refl; used = refl; line = inr s };
     }

@@ -6,7 +6,8 @@ use Rattle.htp_line.specs.Lines.{whole, rest, lines, unless_empty}
 use Rattle.hex_engine.specs.EngineState.{EngineState}
 use Rattle.hex_engine.specs.Supply.{Supply, nothing_left}
 use Rattle.hex_engine.specs.Replies.{Missing}
-use Rattle.htp_session.specs.Talk.{TalkState, Ending, Going, AfterQuit, Short, ending_if, goes_on, talk, talk_to, WantsTurn}
+use Rattle.htp_session.specs.Talk.{TalkState, Ending, Going, AfterQuit, Short, ending_if, goes_on, talk, talk_to}
+use Rattle.htp_session.specs.Sessions.{WantsTurn}
 use Rattle.htp_session.specs.Endings.{since, Ended}
 use Rattle.hex_devices.specs.declared.stops.Stop.TheVariants as stop
 use Rattle.htp_session.proofs.TalkLaws.{talk_stays, talk_quit}
@@ -69,7 +70,8 @@ end_unarchived start all limit o n seen text few kept e wants =
       ends = record {
         in_limit = omega arith;
         given = kept.given ∙ ap (λ l. o.given ++ l) (sym e) ∙ ap (λ l. o.given ++ (talk start all (lines l)).text) (sym s);
-        wants = rw s wants;
+        wants = ap (λ l. (talk start all (lines l)).ending) s ∙ wants.ending;
+        used = ap (λ l. (talk start all (lines l)).left) s ∙ wants.left;
       };
     }
 

@@ -11,14 +11,14 @@ use Rattle.htp_line.proofs.LinesLaws.{whole-append}
 use Rattle.hex_engine.specs.EngineState.{EngineState}
 use Rattle.hex_engine.specs.Supply.{Supply}
 use Rattle.htp_session.specs.Talk.{TalkState, Going, goes_on, after_line, followed_by, with_line, talk_start, talk, talk_to}
-use Rattle.htp_session.specs.Endings.{since, Shown, AsksShown, Course}
+use Rattle.htp_session.specs.Endings.{since, Shown, Course}
 
 -- what a conversation keeps: what it took, what it gave, and that each read came after the answers
 pub record Keeps (start : EngineState) (all : Supply) (old new : Told) (seen text : List ℕ) : Type 0 where
   pub taken : new.taken ≡ old.taken ++ seen
   pub moved : old.to_come ≡ seen ++ new.to_come
   pub given : new.given ≡ old.given ++ text
-  pub asks : AsksShown start all old new
+  pub asks : (added : List (ℕ × ℕ)) × (new.asks ≡ old.asks ++ added) × AllByRecursion (Shown start all old new) added
 
 pub since_keeps : (start : EngineState) (all : Supply) (o n : Told) (seen text : List ℕ) → Keeps start all o n seen text → since o n ≡ seen
 since_keeps start all o n seen text k = ap (drop (length o.taken)) k.taken ∙ drop-append_seam o.taken seen

@@ -11,7 +11,8 @@ use Rattle.hex_engine.specs.EngineState.{EngineState}
 use Rattle.hex_engine.specs.Uses.{AreGood, CameOf, HasOneWorker}
 use Rattle.hex_engine.specs.Replies.{Turned, Missing}
 use Rattle.hex_engine.specs.Requests.{reaction}
-use Rattle.htp_session.specs.Talk.{TalkState, IsAnswered, IsThrough, goes_on, after_reaction, after_reading, after_line, followed_by, with_line, talk_start, talk}
+use Rattle.htp_session.specs.Talk.{TalkState, IsThrough, goes_on, after_reaction, after_reading, after_line, followed_by, with_line, talk_start, talk}
+use Rattle.htp_session.specs.Laws.{IsAnswered}
 use Rattle.htp_session.proofs.OneWorkerLoads.{SameLoads, equal_loads, told_loads}
 use Rattle.htp_session.proofs.OneWorkerMoves.{Alike, Agree, reactions_agree}
 use Rattle.htp_session.proofs.TalkLaws.{step-stays}

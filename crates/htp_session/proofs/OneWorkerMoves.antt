@@ -19,7 +19,7 @@ use Rattle.hex_engine.specs.Commands.{command_named}
 use Rattle.hex_engine.specs.Supply.{Supply, Load}
 use Rattle.hex_engine.specs.declared.loadsgf.Loaded.{Loaded}
 use Rattle.hex_engine.specs.EngineState.{EngineState}
-use Rattle.hex_engine.specs.Uses.{AreGood, HasOneWorker, IsGoodFor}
+use Rattle.hex_engine.specs.Uses.{AreGood, HasOneWorker}
 use Rattle.hex_engine.specs.Replies.{Reaction, Turned, Missing, Done, NoLoad, NoTurn, Failed, unused, unchanged}
 use Rattle.hex_engine.specs.LoadReplies.{loaded, file_named, loading_next, loading_by}
 use Rattle.hex_engine.specs.MoveReplies.{is_next, turned, moving_next, moving_by, lone_colour}
@@ -33,11 +33,11 @@ use Rattle.htp_session.proofs.OneWorkerLoads.{SameLoads}
 -- ---- one turn
 
 -- the option of connections is off
-without : (options : Options) (t : TurnData) → HasOneWorker options → IsGoodFor options t → IsGood options.knobs false t
+without : (options : Options) (t : TurnData) → HasOneWorker options → IsGood options.knobs options.hsearch t → IsGood options.knobs false t
 without options t one g = subst (λ h. IsGood options.knobs h t) one.no_connections g
 
 -- two good turns that are a conversation's next are played and reported alike
-same_move : (options : Options) (at : EngineState) (colour : Colour) (t u : TurnData) → HasOneWorker options → IsGoodFor options t → IsGoodFor options u → is_next at colour t ≡ true → is_next at colour u ≡ true
+same_move : (options : Options) (at : EngineState) (colour : Colour) (t u : TurnData) → HasOneWorker options → IsGood options.knobs options.hsearch t → IsGood options.knobs options.hsearch u → is_next at colour t ≡ true → is_next at colour u ≡ true
     → turned at colour u ≡ turned at colour t
 same_move options at colour t u one g h e f =
     let p = and_parts _ _ e in

@@ -11,7 +11,8 @@ use Rattle.hex_engine.specs.EngineState.{EngineState}
 use Rattle.hex_engine.specs.Supply.{Supply, and_then}
 use Rattle.hex_engine.specs.Replies.{Turned, Missing}
 use Rattle.hex_engine.specs.Requests.{reaction}
-use Rattle.htp_session.specs.Talk.{TalkState, Short, IsAnswered, goes_on, after_reaction, after_reading, after_line, followed_by, with_line, talk_start, talk}
+use Rattle.htp_session.specs.Talk.{TalkState, Short, goes_on, after_reaction, after_reading, after_line, followed_by, with_line, talk_start, talk}
+use Rattle.htp_session.specs.Laws.{IsAnswered}
 use Rattle.htp_session.specs.Supply.{with_more_left}
 use Rattle.htp_session.specs.Sessions.{IsSessionAfter}
 use Rattle.htp_session.proofs.TalkLaws.{step-stays}

@@ -7,9 +7,10 @@ use Rattle.hex_io.specs.Told.{Told, Both}
 use Rattle.htp_line.specs.Lines.{lines}
 use Rattle.hex_engine.specs.declared.options.Options.{Options}
 use Rattle.hex_engine.specs.EngineState.{EngineState, opening}
+use Rattle.hex_engine.specs.Replies.{NoTurn}
 use Rattle.hex_engine.specs.Supply.{Supply, nothing_left}
 use Rattle.hex_engine.specs.Uses.{AreGood, Loading}
-use Rattle.htp_session.specs.Talk.{Going, AfterQuit, IsThrough, talk, talk_to, WantsTurn}
+use Rattle.htp_session.specs.Talk.{Going, AfterQuit, Short, IsThrough, talk, talk_to}
 use Rattle.hex_devices.specs.Devices.{ShelfAndArchive}
 use Rattle.hex_devices.specs.Devices.{Outcome}
 use Rattle.hex_devices.specs.declared.stops.Stop.TheVariants.{ReadFault, WriteFault, Memory}
@@ -28,16 +29,13 @@ pub record Shown (start : EngineState) (all : Supply) (old new : Told) (ask : �
       ++ (talk_to start all (drop (length old.taken) (take ask.0 new.taken))).text
   pub going : (talk_to start all (drop (length old.taken) (take ask.0 new.taken))).ending ≡ Going
 
--- each read that was answered came after the answers
-abbrev pub AsksShown : EngineState → Supply → Told → Told → Type 0
-AsksShown start all old new = (added : List (ℕ × ℕ)) × (new.asks ≡ old.asks ++ added)
-    × AllByRecursion (Shown start all old new) added
-
--- the bytes taken are the first of those that were to come, and each read came after the answers
+-- the bytes taken are the first of those that were to come, and each read that was answered came
+-- after the answers
 pub record Course (start : EngineState) (all : Supply) (old new : Told) : Type 0 where
   pub taken : new.taken ≡ old.taken ++ since old new
   pub moved : old.to_come ≡ since old new ++ new.to_come
-  pub asks : AsksShown start all old new
+  pub asks : (added : List (ℕ × ℕ)) × (new.asks ≡ old.asks ++ added)
+      × AllByRecursion (Shown start all old new) added
 
 -- the talk over all lines was given, to the end of the input or to an answered quit
 pub record Finished (start : EngineState) (all : Supply) (limit : ℕ) (old new : Told) : Type 0 where
@@ -59,7 +57,8 @@ pub record Unarchived (start : EngineState) (all : Supply) (limit : ℕ)
     (old new : Told) : Type 0 where
   pub in_limit : length (since old new) ≤ limit
   pub given : new.given ≡ old.given ++ (talk start all (lines (since old new))).text
-  pub wants : WantsTurn (talk start all (lines (since old new)))
+  pub wants : (talk start all (lines (since old new))).ending ≡ Short NoTurn
+  pub used : (talk start all (lines (since old new))).left ≡ nothing_left
 
 -- a write failed: a front of the talk was given
 pub record Unwritten (start : EngineState) (all : Supply) (limit : ℕ)
@@ -69,19 +68,16 @@ pub record Unwritten (start : EngineState) (all : Supply) (limit : ℕ)
       × ((talk start all (lines (since old new))).text ≡ part ++ more)
       × (new.given ≡ old.given ++ part)
 
--- the talk over the first m lines was given, which used up all, and a line more stands there unless
--- nothing was taken
-pub record StoppedAfter (start : EngineState) (all : Supply) (old new : Told) (m : ℕ) : Type 0 where
-  pub given : new.given ≡ old.given ++ (talk start all (take m (lines (since old new)))).text
-  pub going : (talk start all (take m (lines (since old new)))).ending ≡ Going
-  pub used : (talk start all (take m (lines (since old new)))).left ≡ nothing_left
-  pub line : (m < length (lines (since old new))) ⊎ (since old new ≡ [])
-
--- memory ran out at a line, or before the first read: the talk over the lines before it was given
+-- memory ran out at a line, or before the first read: the talk over the lines before it was given,
+-- which used up all, and a line more stands there unless nothing was taken
 pub record Unfinished (start : EngineState) (all : Supply) (limit : ℕ)
     (old new : Told) : Type 0 where
   pub in_limit : length (since old new) ≤ limit
-  pub stops : (m : ℕ) × StoppedAfter start all old new m
+  pub before : ℕ
+  pub given : new.given ≡ old.given ++ (talk start all (take before (lines (since old new)))).text
+  pub going : (talk start all (take before (lines (since old new)))).ending ≡ Going
+  pub used : (talk start all (take before (lines (since old new)))).left ≡ nothing_left
+  pub line : (before < length (lines (since old new))) ⊎ (since old new ≡ [])
 
 -- one byte more than the limit was taken: the talk over the whole lines up to the limit was given
 pub record Overlong (start : EngineState) (all : Supply) (limit : ℕ) (old new : Told) : Type 0 where

@@ -1,17 +1,23 @@
 -- Laws of a talk.
-use Rattle.std.specs.Prelude.{◌≡◌, ℕ, Bool, true, List}
+use Rattle.std.specs.Prelude.{◌≡◌, ◌≢◌, ℕ, Bool, true, List}
 use Rattle.hex_io.specs.declared.files.File.{File}
 use Rattle.hex_cells.specs.declared.colours.Colour.{Colour}
 use Rattle.hex_game.specs.Games.{is_legal}
 use Rattle.hex_game.specs.Moves.{step_of}
 use Rattle.hex_game.specs.declared.moves.Move.TheVariants.{Stone}
+use Rattle.hex_plan.specs.Good.{IsGood}
 use Rattle.hex_plan.specs.Turns.{TurnData}
 use Rattle.hex_engine.specs.EngineState.{EngineState}
 use Rattle.hex_engine.specs.Supply.{Supply, and_then}
-use Rattle.hex_engine.specs.Uses.{AreGood, CameOf, HasOneWorker, IsGoodFor}
+use Rattle.hex_engine.specs.Uses.{AreGood, CameOf, HasOneWorker}
 use Rattle.hex_engine.specs.MoveReplies.{is_next}
-use Rattle.htp_session.specs.Talk.{TalkState, IsAnswered, IsThrough, talk}
+use Rattle.hex_engine.specs.Replies.{Missing}
+use Rattle.htp_session.specs.Talk.{TalkState, Short, IsThrough, talk}
 use Rattle.htp_session.specs.Supply.{with_more_left}
+
+-- no request wanted what was not there
+abbrev pub IsAnswered : TalkState → Type 0
+IsAnswered s = (missing : Missing) → s.ending ≢ Short missing
 
 -- more at the end of what is left changes nothing of a talk that was not short
 abbrev pub MoreLeftIsNotUsed : Type 0
@@ -54,5 +60,5 @@ ThroughAlike Alike = (start : EngineState) → (one other : Supply) → Alike st
 -- a good turn that is a conversation's next has a legal stone on its cell
 abbrev pub SearchedMovesAreLegal : Type 0
 SearchedMovesAreLegal = (at : EngineState) → (colour : Colour) → (turn : TurnData)
-    → IsGoodFor at.options turn → is_next at colour turn ≡ true
+    → IsGood at.options.knobs at.options.hsearch turn → is_next at colour turn ≡ true
     → is_legal at.game (step_of colour (Stone turn.cell)) ≡ true

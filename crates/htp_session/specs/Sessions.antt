@@ -7,8 +7,9 @@ use Rattle.htp_line.specs.Lines.{whole, lines}
 use Rattle.htp_line.specs.Splitting.{SplitterData, StandsAfter}
 use Rattle.hex_engine.specs.EngineState.{EngineState}
 use Rattle.hex_engine.specs.Supply.{Supply, nothing_left, and_then}
-use Rattle.htp_session.specs.Talk.{Going, AfterQuit, ending_if, talk, talk_to, WantsTurn}
+use Rattle.htp_session.specs.Talk.{TalkState, Going, AfterQuit, Short, ending_if, talk, talk_to}
 use Rattle.htp_session.specs.Usage.{UsesUp}
+use Rattle.hex_engine.specs.Replies.{NoTurn}
 use Rattle.hex_devices.specs.Devices.{ShelfAndArchive}
 
 -- this engine and this splitter are a session's after this text: the talk over it goes on, and this
@@ -62,6 +63,11 @@ pub record StopsBefore (start : EngineState) (all later : Supply)
 abbrev pub AnswersLines : EngineState → Supply → List ℕ → List ℕ → List ℕ → Type 0
 AnswersLines start all bytes seen more = (talk_to start all (seen ++ more)).text
     ≡ (talk_to start all seen).text ++ bytes
+
+-- the talk wants a turn, and all was used up
+pub record WantsTurn (s : TalkState) : Type 0 where
+  pub ending : s.ending ≡ Short NoTurn
+  pub left : s.left ≡ nothing_left
 
 -- where nothing is left, these bytes are what more lines are answered before a turn is wanted
 abbrev pub AnswersShort : EngineState → Supply → Supply → List ℕ → List ℕ → List ℕ → Type 0

@@ -9,7 +9,7 @@ use Rattle.htp_line.specs.Splitting.{kept_line}
 use Rattle.htp_line.specs.Answering.{success, failure}
 use Rattle.hex_engine.specs.EngineState.{EngineState}
 use Rattle.hex_engine.specs.Supply.{Supply, nothing_left}
-use Rattle.hex_engine.specs.Replies.{Reply, Done, Quit, Failed, Turned, Missing, NoTurn, message}
+use Rattle.hex_engine.specs.Replies.{Reply, Done, Quit, Failed, Turned, Missing, message}
 use Rattle.hex_engine.specs.Requests.{reaction}
 
 -- whether a talk goes on, or how it ended
@@ -100,16 +100,8 @@ talk start left lines = fold with_line (talk_start start left) lines
 abbrev pub talk_to : EngineState → Supply → List ℕ → TalkState
 talk_to start all seen = talk start all (whole seen)
 
--- no request wanted what was not there
-abbrev pub IsAnswered : TalkState → Type 0
-IsAnswered s = (missing : Missing) → s.ending ≢ Short missing
-
--- each line was answered, up to an answered quit, and all was used up
+-- each line was answered, up to an answered quit, so no request wanted what was not there, and all
+-- was used up
 pub record IsThrough (s : TalkState) : Type 0 where
-  pub answered : IsAnswered s
+  pub answered : (missing : Missing) → s.ending ≢ Short missing
   pub used : s.left ≡ nothing_left
-
--- the talk wants a turn, and all was used up
-pub record WantsTurn (s : TalkState) : Type 0 where
-  pub ending : s.ending ≡ Short NoTurn
-  pub left : s.left ≡ nothing_left

@@ -1,5 +1,5 @@
 -- Words that are well formed, and what is found in them.
-use Rattle.std.proofs.Common.{◌≡◌, ◌∙◌, ◌↔◌, refl, sym, subst, List, Option, Some, None, codes, IfSome, arith}
+use Rattle.std.proofs.Common.{◌≡◌, ◌∙◌, ◌↔◌, refl, sym, subst, List, Option, Some, None, IfSome, arith}
 use Rattle.clap.specs.Words.{first_value, found_of}
 use Rattle.clap.specs.declared.parser.matches.ArgMatches.{ArgMatches}
 use Rattle.option_words.specs.Command.{ReadsForm}
@@ -12,6 +12,7 @@ use Rattle.match_ref.specs.MatchTable.{match_app, match_form}
 use Rattle.match_ref.specs.MatchWords.{AreMatchWords, IsSaidSide, AskFor}
 use Rattle.match_ref.specs.Matches.{IsMatch, IsSide}
 use Rattle.match_ref.specs.declared.settings.Side.{Side}
+use Rattle.match_ref.specs.declared.table.TheConstants.{GAMES, THREADS}
 use Rattle.match_ref.specs.declared.words.MatchWords.{MatchWords}
 
 pub match_reads : ReadsForm match_app match_form
@@ -37,22 +38,22 @@ found words m w f = (
 
 -- ---- ranges
 
-side_in_range : (p n e k : Option TextBytes) (s : Side) → IsSaidSide p n e k s → IsSide s
-side_in_range p n e k s h seed below = record {
+side_in_range : (value : TextBytes → Option TextBytes) (p n e k : TextBytes) (s : Side) → IsSaidSide value p n e k s → IsSide s
+side_in_range value p n e k s h seed below = record {
   workers = (omega arith, omega arith);
-  playouts = number_in_range _ _ _ p h.playouts_is;
+  playouts = number_in_range _ _ _ (value p) h.playouts_is;
   seed = below;
-  words = number_in_range _ _ _ n h.words_is;
-  expand = number_in_range _ _ _ e h.expand_is;
-  weight = (number_in_range _ _ _ k h.weight_is).1;
+  words = number_in_range _ _ _ (value n) h.words_is;
+  expand = number_in_range _ _ _ (value e) h.expand_is;
+  weight = (number_in_range _ _ _ (value k) h.weight_is).1;
 }
 
 in_range : (value : TextBytes → Option TextBytes) (w : MatchWords) → AreMatchWords value w → IsMatch w.setup
 in_range value w h = record {
-  games = number_in_range _ _ _ (value (codes "games")) h.games;
-  threads = number_in_range _ _ _ (value (codes "threads")) h.threads;
-  side_a = side_in_range _ _ _ _ w.setup.a h.a;
-  side_b = side_in_range _ _ _ _ w.setup.b h.b;
+  games = number_in_range _ _ _ (value GAMES.0.now) h.games;
+  threads = number_in_range _ _ _ (value THREADS.0.now) h.threads;
+  side_a = side_in_range _ _ _ _ _ w.setup.a h.a;
+  side_b = side_in_range _ _ _ _ _ w.setup.b h.b;
 }
 
 pub ranges_from : (value : TextBytes → Option TextBytes) (r : Option MatchWords) → ((w : MatchWords) → (r ≡ Some w) ↔ AreMatchWords value w) → IfSome r (λ w. IsMatch w.setup)

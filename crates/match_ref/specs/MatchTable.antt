@@ -1,27 +1,30 @@
 -- The form of hexmatch's words: its options, and no positional word that has to be there.
-use Rattle.std.specs.Prelude.{false, [], ◌∷◌, ◌++◌, codes}
+use Rattle.std.specs.Prelude.{false, [], ◌∷◌, ◌++◌}
 use Rattle.clap.specs.Words.{App, with_rule}
 use Rattle.option_words.specs.Command.{plain_app, with_options, word_rule}
 use Rattle.option_words.specs.Grammar.{Form, OptionTable}
+use Rattle.match_ref.specs.declared.table.TheConstants.{SIZE, GAMES, THREADS, SEED, RECORDS}
+use Rattle.match_ref.specs.declared.table.TheConstants.{PLAYOUTS, WORDS, EXPAND, WEIGHT}
 
--- the options, each with the text that stands for it where it is not said
+-- the options of the match, each with the text that stands for it where it is not said
 abbrev pub match_table : OptionTable
-match_table = (codes "size", codes "5" ∷ [])
-    ∷ (codes "games", codes "10" ∷ [])
-    ∷ (codes "threads", codes "1" ∷ [])
-    ∷ (codes "seed", codes "0" ∷ [])
-    ∷ (codes "records", codes "off" ∷ [])
+match_table = (SIZE.0.now, SIZE.1.now ∷ [])
+    ∷ (GAMES.0.now, GAMES.1.now ∷ [])
+    ∷ (THREADS.0.now, THREADS.1.now ∷ [])
+    ∷ (SEED.0.now, SEED.1.now ∷ [])
+    ∷ (RECORDS.0.now, RECORDS.1.now ∷ [])
     ∷ []
 
+-- the options of the sides: each has two names, that of side a and that of side b, and one default
 abbrev pub side_table : OptionTable
-side_table = (codes "playouts-a", codes "1000" ∷ [])
-    ∷ (codes "playouts-b", codes "1000" ∷ [])
-    ∷ (codes "words-a", codes "65536" ∷ [])
-    ∷ (codes "words-b", codes "65536" ∷ [])
-    ∷ (codes "expand-a", codes "8" ∷ [])
-    ∷ (codes "expand-b", codes "8" ∷ [])
-    ∷ (codes "weight-a", codes "180" ∷ [])
-    ∷ (codes "weight-b", codes "180" ∷ [])
+side_table = (PLAYOUTS.0.now, PLAYOUTS.2.now ∷ [])
+    ∷ (PLAYOUTS.1.now, PLAYOUTS.2.now ∷ [])
+    ∷ (WORDS.0.now, WORDS.2.now ∷ [])
+    ∷ (WORDS.1.now, WORDS.2.now ∷ [])
+    ∷ (EXPAND.0.now, EXPAND.2.now ∷ [])
+    ∷ (EXPAND.1.now, EXPAND.2.now ∷ [])
+    ∷ (WEIGHT.0.now, WEIGHT.2.now ∷ [])
+    ∷ (WEIGHT.1.now, WEIGHT.2.now ∷ [])
     ∷ []
 
 abbrev pub match_form : Form

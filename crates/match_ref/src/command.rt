@@ -5,6 +5,7 @@ ghost use Rattle.clap.specs.Words.{app_of};
 ghost use Rattle.option_words.specs.Command.{with_options};
 ghost use Rattle.match_ref.specs.MatchTable.{match_app, match_table, side_table};
 
+use super::table::{EXPAND, GAMES, PLAYOUTS, RECORDS, SEED, SIZE, THREADS, WEIGHT, WORDS};
 use clap::Command;
 use option_words::{plain_command, with_option};
 use std::alloc::{AllocError, Global};
@@ -21,22 +22,22 @@ pub fn command<'a>(alloc: Global) -> Result<Command<'a>, AllocError>
 fn with_match<'a>(alloc: Global, command: Command<'a>) -> Result<Command<'a>, AllocError>
     ensures { IfOk result (λ c. app_of c ≡ with_options (app_of command.entry) match_table) }
 {
-    let command = with_option(alloc, command, "size", "5")?;
-    let command = with_option(alloc, command, "games", "10")?;
-    let command = with_option(alloc, command, "threads", "1")?;
-    let command = with_option(alloc, command, "seed", "0")?;
-    with_option(alloc, command, "records", "off")
+    let command = with_option(alloc, command, SIZE.0, SIZE.1)?;
+    let command = with_option(alloc, command, GAMES.0, GAMES.1)?;
+    let command = with_option(alloc, command, THREADS.0, THREADS.1)?;
+    let command = with_option(alloc, command, SEED.0, SEED.1)?;
+    with_option(alloc, command, RECORDS.0, RECORDS.1)
 }
 
 fn with_sides<'a>(alloc: Global, command: Command<'a>) -> Result<Command<'a>, AllocError>
     ensures { IfOk result (λ c. app_of c ≡ with_options (app_of command.entry) side_table) }
 {
-    let command = with_option(alloc, command, "playouts-a", "1000")?;
-    let command = with_option(alloc, command, "playouts-b", "1000")?;
-    let command = with_option(alloc, command, "words-a", "65536")?;
-    let command = with_option(alloc, command, "words-b", "65536")?;
-    let command = with_option(alloc, command, "expand-a", "8")?;
-    let command = with_option(alloc, command, "expand-b", "8")?;
-    let command = with_option(alloc, command, "weight-a", "180")?;
-    with_option(alloc, command, "weight-b", "180")
+    let command = with_option(alloc, command, PLAYOUTS.0, PLAYOUTS.2)?;
+    let command = with_option(alloc, command, PLAYOUTS.1, PLAYOUTS.2)?;
+    let command = with_option(alloc, command, WORDS.0, WORDS.2)?;
+    let command = with_option(alloc, command, WORDS.1, WORDS.2)?;
+    let command = with_option(alloc, command, EXPAND.0, EXPAND.2)?;
+    let command = with_option(alloc, command, EXPAND.1, EXPAND.2)?;
+    let command = with_option(alloc, command, WEIGHT.0, WEIGHT.2)?;
+    with_option(alloc, command, WEIGHT.1, WEIGHT.2)
 }

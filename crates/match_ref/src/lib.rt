@@ -38,6 +38,7 @@ mod records;
 mod refusals;
 mod running;
 mod settings;
+mod table;
 mod texts;
 mod words;
 

@@ -29,7 +29,7 @@ use std::thread::Threads;
 /// | status | comes | line for the errors |
 /// |---|---|---|
 /// | 0 | the match was played, and its text given | |
-/// | 2 | exactly where the words ask for no match | `hexd: usage` |
+/// | 2 | exactly where the words ask for no match; nothing was given | `hexd: usage` |
 /// | 4 | only where a write failed; a front of the text was given | |
 /// | 5 | memory ran out; nothing was given | `hexd: out of memory` |
 ///
@@ -45,7 +45,7 @@ pub fn run_match<R: Threads + Sync, L: Link, E: Link, G: Gate + Sync>(
     ensures status { IsMatchStatus result }
     ensures usage { result ≡ status_of End.Usage → AskForNone words.now }
     ensures refused { AskForNone words.now → IsMatchRefusal result }
-    ensures untouched { AskForNone words.now → LeavesLink L.Link link.old link.new }
+    ensures untouched { IsMatchRefusal result → LeavesLink L.Link link.old link.new }
     ensures played { RefereesBy L.Link words.now result link.old link.new }
     ensures write_fault { CountsMatchWrites L.Link result link.old link.new }
     ensures reads { L.read_faults link.new ≡ L.read_faults link.old }

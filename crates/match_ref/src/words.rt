@@ -11,14 +11,13 @@ ghost use Rattle.match_ref.specs.declared.words.MatchWords.{MatchWords};
 
 use super::command::command;
 use super::refusals::Memory;
-use super::settings::{MOST_GAMES, MOST_THREADS, Match, Side};
+use super::settings::{Match, Side};
+use super::table::{EXPAND, GAMES, PLAYOUTS, RECORDS, SEED, SIZE, THREADS, WEIGHT, WORDS};
 use clap::ArgMatches;
 use hex_cells::Size;
 use hex_io::Word;
 use option_words::{find, number, small_number, switch};
 use std::alloc::Global;
-use tree_words::{LEAST_WORDS, MOST_EXPAND, MOST_PLAYOUTS, MOST_WORDS};
-use uct_table::MOST_WEIGHT;
 
 /// The match that is asked for, and whether its records are.
 #[derive(Clone, Copy, Debug, PartialEq, Eq)]
@@ -54,48 +53,39 @@ fn said_match(found: &ArgMatches<'_>) -> Option<MatchWords>
     }
     Some(MatchWords {
         setup: Match {
-            size: board_size(found.get_str("size"))?,
-            games: small_number(found.get_str("games"), 1, MOST_GAMES)?,
-            threads: small_number(found.get_str("threads"), 1, MOST_THREADS)?,
-            seed: number(found.get_str("seed"), 0, u64::MAX)?,
-            a: side(
-                found.get_str("playouts-a"),
-                found.get_str("words-a"),
-                found.get_str("expand-a"),
-                found.get_str("weight-a"),
-            )?,
-            b: side(
-                found.get_str("playouts-b"),
-                found.get_str("words-b"),
-                found.get_str("expand-b"),
-                found.get_str("weight-b"),
-            )?,
+            size: board_size(found.get_str(SIZE.0))?,
+            games: small_number(found.get_str(GAMES.0), GAMES.2, GAMES.3)?,
+            threads: small_number(found.get_str(THREADS.0), THREADS.2, THREADS.3)?,
+            seed: number(found.get_str(SEED.0), SEED.2, SEED.3)?,
+            a: side(found, PLAYOUTS.0, WORDS.0, EXPAND.0, WEIGHT.0)?,
+            b: side(found, PLAYOUTS.1, WORDS.1, EXPAND.1, WEIGHT.1)?,
         },
-        records: switch(found.get_str("records"))?,
+        records: switch(found.get_str(RECORDS.0))?,
     })
 }
 
 fn board_size(text: Option<&str>) -> Option<Size>
     ensures { (n : Size) → (result ≡ Some n)
-        ↔ IsNumberFrom 1 11 (option_map (λ t. t.now) text.entry) n }
+        ↔ IsNumberFrom SIZE.2 SIZE.3 (option_map (λ t. t.now) text.entry) n }
 {
-    Size::of(small_number(text, 1, Size::MAX)?)
+    Size::of(small_number(text, SIZE.2, SIZE.3)?)
 }
 
+// The side whose options have these names.
 fn side(
-    playouts: Option<&str>,
-    words: Option<&str>,
-    expand: Option<&str>,
-    weight: Option<&str>,
+    found: &ArgMatches<'_>,
+    playouts: &str,
+    words: &str,
+    expand: &str,
+    weight: &str,
 ) -> Option<Side>
-    ensures { (s : Side) → (result ≡ Some s)
-        ↔ IsSaidSide (option_map (λ t. t.now) playouts.entry) (option_map (λ t. t.now) words.entry)
-        (option_map (λ t. t.now) expand.entry) (option_map (λ t. t.now) weight.entry) s }
+    ensures { (s : Side) → (result ≡ Some s) ↔ IsSaidSide (first_value (found_of found.now))
+        playouts.now words.now expand.now weight.now s }
 {
     Some(Side {
-        playouts: small_number(playouts, 1, MOST_PLAYOUTS)?,
-        words: small_number(words, LEAST_WORDS, MOST_WORDS)?,
-        expand: small_number(expand, 1, MOST_EXPAND)?,
-        weight: small_number(weight, 0, MOST_WEIGHT)?,
+        playouts: small_number(found.get_str(playouts), PLAYOUTS.3, PLAYOUTS.4)?,
+        words: small_number(found.get_str(words), WORDS.3, WORDS.4)?,
+        expand: small_number(found.get_str(expand), EXPAND.3, EXPAND.4)?,
+        weight: small_number(found.get_str(weight), WEIGHT.3, WEIGHT.4)?,
     })
 }

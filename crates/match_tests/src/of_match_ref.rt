@@ -5,64 +5,20 @@ ghost use Rattle.match_ref.specs.Matches.{IsMatch};
 
 use hex_cells::{Colour, Size};
 use hex_io::{MemLink, Word};
-use match_ref::{Match, Played, Side, Steps, game_line, play_match, run_match};
-use search_team::{Gate, OpenGate};
+use match_ref::{
+    MOST_GAMES, MOST_THREADS, Match, Played, Side, Steps, game_line, play_match, run_match,
+};
+use search_team::{CountingGate, Gate, OpenGate};
 use std::alloc::Global;
-use std::sync::atomic::{AtomicBool, Ordering};
 use std::test::Fail;
-use std::thread::{self, Threads};
-
-// A gate that holds each of the games 0 and 1 until the other one has passed, or for so many turns.
-#[derive(Drop)]
-struct Meeting {
-    first: AtomicBool,
-    second: AtomicBool,
-    missed: AtomicBool,
-}
-
-const MOST_TURNS: u32 = 10_000_000;
-
-impl Meeting {
-    fn new() -> Meeting {
-        Meeting {
-            first: AtomicBool::new(false),
-            second: AtomicBool::new(false),
-            missed: AtomicBool::new(false),
-        }
-    }
-
-    /// Both games passed, and neither missed the other.
-    fn was_held(&self) -> bool {
-        self.first.load(Ordering::SeqCst)
-            && self.second.load(Ordering::SeqCst)
-            && !self.missed.load(Ordering::SeqCst)
-    }
-}
-
-impl Gate for Meeting {
-    fn pass(&self, game: u32) {
-        let (mine, other) = match game {
-            0 => (&self.first, &self.second),
-            1 => (&self.second, &self.first),
-            _ => return,
-        };
-        mine.store(true, Ordering::SeqCst);
-        for _ in 0..MOST_TURNS {
-            if other.load(Ordering::SeqCst) {
-                return;
-            }
-            thread::yield_now();
-        }
-        self.missed.store(true, Ordering::SeqCst);
-    }
-}
+use std::thread::Threads;
 
 // A match of so many games of one stone in so many threads, where they are in their ranges.
 fn small_match(games: u32, threads: u32) -> Option<Match>
     ensures { IfSome result IsMatch }
 {
     let size = Size::of(1)?;
-    if !(1..=1_000).contains(&games) || !(1..=64).contains(&threads) {
+    if !(1..=MOST_GAMES).contains(&games) || !(1..=MOST_THREADS).contains(&threads) {
         return None;
     }
     let side = Side {
@@ -81,15 +37,17 @@ fn small_match(games: u32, threads: u32) -> Option<Match>
     })
 }
 
-/// `gate-match`: games 0 and 1 meet, whatever the numbers of games and threads are.
+/// `gate-match`: games 0 and 1 meet, whatever the numbers of games and threads are, and each of the
+/// first three passes once.
 #[test]
 fn games_meet_at_the_gate(rt: HostRuntime) -> Result<(), Fail> {
-    for (games, threads) in [(2, 2), (4, 2), (12, 8), (3, 64)] {
-        let gate = Meeting::new();
+    for (games, threads, third) in [(2, 2, 0), (4, 2, 1), (12, 8, 1), (3, 64, 1)] {
+        let gate = CountingGate::new(2);
         let setup = small_match(games, threads).ok_or("a match")?;
         let played = play_match(&rt, rt.alloc(), &setup, &gate)?;
         assert_eq!(rt; played.len(), games as usize);
-        assert!(rt; gate.was_held(), "{games} {threads}");
+        assert_eq!(rt; gate.counts(), [1, 1, third], "{games} {threads}");
+        assert!(rt; !gate.was_missed(), "{games} {threads}");
     }
     Ok(())
 }
@@ -147,10 +105,11 @@ const TWO_GAMES: &str = "0 a black 1\n1 b black 1\na 1 b 1\n";
 /// `gate-match-run`: so it is in a run.
 #[test]
 fn runs_meet_at_the_gate(rt: HostRuntime) -> Result<(), Fail> {
-    let gate = Meeting::new();
+    let gate = CountingGate::new(2);
     let left = run_of(&rt, MATCH_TWO, 1_000, &gate)?;
     assert_eq!(rt; left.status, 0);
-    assert!(rt; gate.was_held());
+    assert_eq!(rt; gate.counts(), [1, 1, 0]);
+    assert!(rt; !gate.was_missed());
     Ok(())
 }
 

@@ -7,9 +7,8 @@ ghost use Rattle.tree_words.specs.Settings.{IsAny};
 use hex_board::Board;
 use hex_cells::{Cell, CellSet, Colour, Size};
 use seq_search::plain_search;
-use std::alloc::Global;
 use std::test::Fail;
-use tree_words::{Closed, Knobs, Shape, best, report, write_opening};
+use tree_words::{Closed, Knobs, Shape, best, make_opening, report};
 
 // What a search is for: the size, Black's and White's stones and the allowed cells, all empty ones
 // where there is none, as the bits of a number, the player to move, and playouts, seed, words,
@@ -449,13 +448,6 @@ fn large_trees(rt: HostRuntime) -> Result<(), Fail> {
     Ok(())
 }
 
-// The opening words of the shape.
-fn opening_words(alloc: Global, shape: &Shape) -> Result<Vec<u64>, Fail> {
-    let mut words = vec![in alloc; 0; shape.total() as usize]?;
-    write_opening(&mut words, shape);
-    Ok(words)
-}
-
 // How many words are not 0.
 fn marked(words: &[u64]) -> usize {
     let mut marked = 0usize;
@@ -522,7 +514,7 @@ fn opening_words_of_small_boards(rt: HostRuntime) -> Result<(), Fail> {
     ];
     for (search, wanted) in table {
         let shape = shape_of(&search).ok_or("a shape")?;
-        let words = opening_words(rt.alloc(), &shape)?;
+        let words = make_opening(rt.alloc(), &shape)?;
         for &(at, value) in wanted {
             assert_eq!(rt; words.get(at).copied(), Some(value));
         }
@@ -534,7 +526,7 @@ fn opening_words_of_small_boards(rt: HostRuntime) -> Result<(), Fail> {
 #[test]
 fn opening_words_of_a_large_board(rt: HostRuntime) -> Result<(), Fail> {
     let shape = shape_of(&(11, 0, 0, 0, B, [10_000, 0, 1024, 8, 180])).ok_or("a shape")?;
-    let words = opening_words(rt.alloc(), &shape)?;
+    let words = make_opening(rt.alloc(), &shape)?;
     let header = [
         (0usize, 10_494),
         (10_003, 10_006),

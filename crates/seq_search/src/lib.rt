@@ -27,7 +27,6 @@ mod adding;
 mod choosing;
 mod descending;
 mod expanding;
-mod opening;
 mod reaching;
 mod search;
 

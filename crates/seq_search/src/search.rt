@@ -7,12 +7,11 @@ ghost use Rattle.tree_words.specs.Trees.{IsTreeOf};
 ghost use Rattle.seq_search.specs.Searching.{Searched};
 
 use super::adding::add;
-use super::opening::opening_words;
 use super::reaching::reach;
 use play_out::play;
 use std::alloc::Global;
 use tree_words::layout::TICKET_AT;
-use tree_words::{Closed, Memory, Shape};
+use tree_words::{Closed, Memory, Shape, make_opening};
 
 // One walk, for playout `k`: down to a leaf, the playout from there, and its adds on the way.
 fn walk(words: &mut [u64], shape: &Shape, k: u32)
@@ -50,7 +49,7 @@ pub fn plain_search(alloc: Global, shape: &Shape) -> Result<Closed, Memory>
 {
     // What each shape keeps of itself.
     let _board = shape.board();
-    let mut words = opening_words(alloc, shape)?;
+    let mut words = make_opening(alloc, shape)?;
     make_walks(&mut words, shape);
     Ok(Closed::of(*shape, words))
 }

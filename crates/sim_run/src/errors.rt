@@ -1,7 +1,7 @@
 //! Why a schedule was not simulated.
 
-use std::alloc::AllocError;
 use thiserror::Error;
+use tree_words::Memory;
 
 /// Why a schedule was not simulated.
 #[derive(Clone, Copy, Debug, PartialEq, Eq, Drop, Error)]
@@ -14,13 +14,13 @@ pub enum SimError {
     NoSuchWalker { at: usize },
 }
 
-impl From<AllocError> for SimError {
+impl From<Memory> for SimError {
     ghost use Rattle.std.specs.Prelude.{◌≡◌};
     ghost use Rattle.sim_run.specs.declared.errors.SimError.{SimError};
 
     ghost from_gives = { λ _ error. error ≡ SimError.Memory };
 
-    fn from(_refused: AllocError) -> SimError {
+    fn from(_refused: Memory) -> SimError {
         SimError::Memory
     }
 }

@@ -26,10 +26,10 @@
 #![tactic(auto)]
 
 mod errors;
-mod opening;
 mod search;
 mod simulation;
 mod steps;
+mod walkers;
 
 pub use errors::SimError;
 pub use search::simulate;

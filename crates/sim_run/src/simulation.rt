@@ -1,9 +1,9 @@
 //! A simulation: the words of a tree, and a walker for each worker.
 
-use super::opening::{new_walkers, open};
 use super::steps::apply;
-use std::alloc::{AllocError, Global};
-use tree_words::{Closed, Op, Shape};
+use super::walkers::new_walkers;
+use std::alloc::Global;
+use tree_words::{Closed, Memory, Op, Shape, make_opening};
 use walker::Walker;
 
 /// The words of a tree, and a walker for each worker of its shape.
@@ -24,7 +24,7 @@ impl Simulation {
     ghost use Rattle.sim_run.specs.Steps.{StepsAlong, StepsOnce, StepsRound, StepsRounds, data_of};
 
     /// The simulation at its beginning: the opening words, and new walkers. It takes all memory.
-    pub(crate) fn make(alloc: Global, shape: &Shape) -> Result<Simulation, AllocError>
+    pub(crate) fn make(alloc: Global, shape: &Shape) -> Result<Simulation, Memory>
         ensures shape { IfOk result (λ run. run.shape ≡ shape.now) }
         ensures words { IfOk result (λ run. run.words.items ≡ opening_words shape.now) }
         ensures walkers { IfOk result (λ run. AreNew shape.now run.walkers.items) }
@@ -32,7 +32,7 @@ impl Simulation {
     {
         // What each shape keeps of itself.
         let _board = shape.board();
-        let words = open(alloc, shape)?;
+        let words = make_opening(alloc, shape)?;
         let walkers = new_walkers(alloc, shape)?;
         Ok(Simulation {
             shape: *shape,

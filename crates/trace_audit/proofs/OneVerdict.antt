@@ -1,5 +1,6 @@
 -- Bytes have one verdict.
 use Rattle.std.proofs.Common.{◌≡◌, ℕ, suc, ◌*◌, ◌<◌, ◌≤◌, List, [], ◌∷◌, ◌++◌, length, take, drop, refl, sym, ap, ◌∙◌, subst, ⊎_elim, arith, append_assoc}
+use Rattle.std.specs.List.{flat_map}
 use Rattle.std.specs.Prelude.{slice_index}
 use Rattle.std.proofs.lemmas.Bool.{cases_lt}
 use Rattle.std.proofs.lemmas.List.{append_cancel_left, ext_get_or, get_or-take}
@@ -7,11 +8,12 @@ use Rattle.tree_words.specs.Words.{end_of}
 use Rattle.tree_words.specs.Closing.{ClosedTree, IsClosed}
 use Rattle.trace_audit.specs.Traces.{bytes_of, trace_text, written_count}
 use Rattle.trace_audit.specs.Texts.{StandAt, IsFront}
-use Rattle.trace_audit.specs.Verdicts.{AreClosed, AreTexts, BeginsWithTree, FailsFirst, HasFlaw, IsVerdictOn, trace_texts}
+use Rattle.trace_audit.specs.Verdicts.{AreTexts, BeginsWithTree, FailsFirst, HasFlaw, IsVerdictOn}
 use Rattle.trace_audit.specs.declared.types.Audit.{Audit}
 use Rattle.trace_audit.specs.declared.types.Audit.TheVariants.{Yes, No}
 use Rattle.trace_audit.specs.declared.types.Flaw.{Flaw}
 use Rattle.trace_audit.specs.declared.types.Flaw.TheVariants.{BadForm, Block, Record, Count, End, Growth}
+use Rattle.trace_audit.proofs.TextLists.{AreClosed}
 use Rattle.trace_audit.proofs.WordBytes.{bytes_long, take_front}
 use Rattle.trace_audit.proofs.TextTree.{begins_front}
 use Rattle.trace_audit.proofs.TextWords.{begins_long, behind, text_words, written_most}
@@ -106,18 +108,18 @@ flaw_one bytes End w f g = flaw_beside bytes End w f.0 f.1 f.2 g
 flaw_one bytes Growth w f g = flaw_beside bytes Growth w f.0 f.1 f.2 g
 
 -- the texts of closed trees as far as they go are one list
-texts_one : (ts us : List ClosedTree) (r z : List ℕ) → AreClosed ts → AreClosed us → IsEnd r → IsEnd z → trace_texts ts ++ r ≡ trace_texts us ++ z → (length ts ≡ length us) × (r ≡ z)
+texts_one : (ts us : List ClosedTree) (r z : List ℕ) → AreClosed ts → AreClosed us → IsEnd r → IsEnd z → flat_map trace_text ts ++ r ≡ flat_map trace_text us ++ z → (length ts ≡ length us) × (r ≡ z)
 texts_one [] [] r z a b k l e = (refl, e)
 texts_one (t ∷ ts) [] r z a b k l e =
-    absurd (l t (record { read = a.0; rest = trace_texts ts ++ r; text = sym e ∙ append_assoc (trace_text t) (trace_texts ts) r }) a.1)
+    absurd (l t (record { read = a.0.0; rest = flat_map trace_text ts ++ r; text = sym e ∙ append_assoc (trace_text t) (flat_map trace_text ts) r }) a.0.1)
 texts_one [] (u ∷ us) r z a b k l e =
-    absurd (k u (record { read = b.0; rest = trace_texts us ++ z; text = e ∙ append_assoc (trace_text u) (trace_texts us) z }) b.1)
+    absurd (k u (record { read = b.0.0; rest = flat_map trace_text us ++ z; text = e ∙ append_assoc (trace_text u) (flat_map trace_text us) z }) b.0.1)
 texts_one (t ∷ ts) (u ∷ us) r z a b k l e =
-    let bytes : List ℕ = (trace_text t ++ trace_texts ts) ++ r in
-    let mine : bytes ≡ trace_text t ++ (trace_texts ts ++ r) = append_assoc (trace_text t) (trace_texts ts) r in
-    let yours : bytes ≡ trace_text u ++ (trace_texts us ++ z) = e ∙ append_assoc (trace_text u) (trace_texts us) z in
-    let same : t ≡ u = tree_one bytes t u (record { read = a.0; rest = trace_texts ts ++ r; text = mine }) (record { read = b.0; rest = trace_texts us ++ z; text = yours }) in
-    let rest = texts_one ts us r z a.2 b.2 k l (rest_one bytes t u (trace_texts ts ++ r) (trace_texts us ++ z) same mine yours) in
+    let bytes : List ℕ = (trace_text t ++ flat_map trace_text ts) ++ r in
+    let mine : bytes ≡ trace_text t ++ (flat_map trace_text ts ++ r) = append_assoc (trace_text t) (flat_map trace_text ts) r in
+    let yours : bytes ≡ trace_text u ++ (flat_map trace_text us ++ z) = e ∙ append_assoc (trace_text u) (flat_map trace_text us) z in
+    let same : t ≡ u = tree_one bytes t u (record { read = a.0.0; rest = flat_map trace_text ts ++ r; text = mine }) (record { read = b.0.0; rest = flat_map trace_text us ++ z; text = yours }) in
+    let rest = texts_one ts us r z a.1 b.1 k l (rest_one bytes t u (flat_map trace_text ts ++ r) (flat_map trace_text us ++ z) same mine yours) in
     (ap (λ n. suc n) rest.0, rest.1)
 
 both : (bytes r z : List ℕ) (n m : ℕ) → AreTexts n r bytes → AreTexts m z bytes → IsEnd r → IsEnd z → (n ≡ m) × (r ≡ z)

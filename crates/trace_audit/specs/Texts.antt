@@ -6,6 +6,7 @@ use Rattle.tree_words.specs.Settings.{Setting, IsSetting}
 use Rattle.tree_words.specs.Words.{area_at, end_of, next_in}
 use Rattle.trace_audit.specs.Traces.{bytes_of, fields_of, trace_text}
 use Rattle.trace_audit.specs.Told.{AreWords, IsReadTree}
+use Rattle.trace_audit.specs.Verdicts.{BeginsWithTree}
 use Rattle.trace_audit.specs.declared.parsing.Text.{Text}
 use Rattle.trace_audit.specs.declared.parsing.TheConstants.{FRONT_BYTES}
 use Rattle.trace_audit.specs.declared.texts.TheConstants.{FIELDS, WORD_BYTES}
@@ -29,6 +30,10 @@ pub record AreFields (bytes fields : List ℕ) : Type 0 where
 -- no fields stand so at the front of the bytes
 abbrev pub LacksFields : List ℕ → Type 0
 LacksFields bytes = (fields : List ℕ) → length fields ≡ FIELDS → ¬ (BeginWith bytes fields)
+
+-- the bytes begin with the text of no tree
+abbrev pub BeginsWithNoTree : List ℕ → Type 0
+BeginsWithNoTree bytes = (tree : ClosedTree) → ¬ (BeginsWithTree tree bytes)
 
 -- so many words may follow the front of a text of this shape: from all in front of the block area
 -- to all of the tree, and no more than so many bytes have

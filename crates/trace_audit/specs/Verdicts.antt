@@ -1,7 +1,7 @@
 -- Verdicts: what an audit says of bytes.
 use Rattle.std.specs.Prelude.{◌≡◌, ◌≢◌, ℕ, List, [], ◌∷◌, ◌++◌, length}
 use Rattle.std.specs.Prelude.{MatchOption, Option}
-use Rattle.std.specs.List.{flat_map}
+use Rattle.std.specs.List.{AllByRecursion, flat_map}
 use Rattle.tree_words.specs.Settings.{Setting, IsSetting}
 use Rattle.tree_words.specs.Blocks.{LinkedBlock}
 use Rattle.tree_words.specs.Complete.{Linked}
@@ -22,10 +22,6 @@ pub record BeginsWithTree (tree : ClosedTree) (bytes : List ℕ) : Type 0 where
   pub read : IsReadTree tree
   pub rest : List ℕ
   pub text : bytes ≡ trace_text tree ++ rest
-
--- the bytes begin with the text of no tree
-abbrev pub BeginsWithNoTree : List ℕ → Type 0
-BeginsWithNoTree bytes = (tree : ClosedTree) → ¬ (BeginsWithTree tree bytes)
 
 -- the first point of the closed tree that fails: no list of blocks is linked, or such a list is
 -- and of the other points this is the first that fails
@@ -50,14 +46,9 @@ IsFirstFailure s words answer = MatchOption answer (IsClosed s words) (FailsFirs
 -- the first flaw of the bytes' first text: no text of a tree stands there, or the tree that is read
 -- there fails so
 abbrev pub HasFlaw : List ℕ → Flaw → Type 0
-HasFlaw bytes BadForm = (bytes ≢ []) × BeginsWithNoTree bytes
+HasFlaw bytes BadForm = (bytes ≢ []) × ((tree : ClosedTree) → ¬ (BeginsWithTree tree bytes))
 HasFlaw bytes why =
     (tree : ClosedTree) × BeginsWithTree tree bytes × FailsFirst tree.shape tree.words why
-
--- each of the trees is as it is read, and closed
-abbrev pub AreClosed : List ClosedTree → Type 0
-AreClosed [] = Unit {0}
-AreClosed (t ∷ ts) = IsReadTree t × IsClosed t.shape t.words × AreClosed ts
 
 -- the tree is closed, its shape is one that can be searched, and its words are 64-bit numbers
 abbrev pub IsClosedTree : ClosedTree → Type 0
@@ -68,16 +59,13 @@ abbrev pub AreTrees : List ClosedTree → Type 0
 AreTrees [] = Unit {0}
 AreTrees (t ∷ ts) = IsClosedTree t × AreTrees ts
 
--- the texts of the trees, one after another
-abbrev pub trace_texts : List ClosedTree → List ℕ
-trace_texts trees = flat_map trace_text trees
-
--- the bytes are the texts of n closed trees, and then the rest
+-- the bytes are the texts of n closed trees, one after another, each as it is read, and then the
+-- rest
 pub record AreTexts (n : ℕ) (rest bytes : List ℕ) : Type 0 where
   pub trees : List ClosedTree
   pub count : length trees ≡ n
-  pub closed : AreClosed trees
-  pub text : bytes ≡ trace_texts trees ++ rest
+  pub closed : AllByRecursion (λ tree. IsReadTree tree × IsClosed tree.shape tree.words) trees
+  pub text : bytes ≡ flat_map trace_text trees ++ rest
 
 -- the verdict on bytes: they are the texts of so many closed trees; or behind those of so many
 -- stands a text with this first flaw

@@ -1,11 +1,11 @@
 //! The law of traces: what is read from the text of a closed tree is a closed tree.
 
 ghost use Rattle.std.specs.Prelude.{◌≡◌, ℕ, List, [], length};
+ghost use Rattle.std.specs.List.{flat_map};
 ghost use Rattle.tree_words.specs.Closing.{ClosedTree};
 ghost use Rattle.trace_audit.specs.Told.{TellsClosed};
 ghost use Rattle.trace_audit.specs.Traces.{trace_text};
 ghost use Rattle.trace_audit.specs.Verdicts.{AreTexts, AreTrees, IsClosedTree, IsVerdictOn};
-ghost use Rattle.trace_audit.specs.Verdicts.{trace_texts};
 ghost use Rattle.trace_audit.specs.declared.types.Audit.{Audit};
 
 /// The law of traces: the text of a closed tree tells a closed tree. Its shape is that of the tree,
@@ -18,7 +18,7 @@ pub fn traces_tell_closed_trees()
 /// `Yes`, with their number. It does nothing.
 pub fn traces_are_texts_of_closed_trees()
     ensures { (trees : List ClosedTree) → AreTrees trees
-        → AreTexts (length trees) [] (trace_texts trees) }
+        → AreTexts (length trees) [] (flat_map trace_text trees) }
 {}
 
 /// The law that bytes have one verdict: they are the texts of closed trees where an audit answers

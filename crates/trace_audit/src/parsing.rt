@@ -4,10 +4,9 @@ ghost use Rattle.std.specs.Prelude.{◌≡◌, ℕ, ◌+◌, ◌*◌, ◌<◌, �
 ghost use Rattle.std.specs.Prelude.{length, slice_index, take, drop};
 ghost use Rattle.std.specs.Int.{w64, to_le_bytes};
 ghost use Rattle.trace_audit.specs.Texts.{AreFields, IsFront, IsText, LacksFields, MayFollow};
-ghost use Rattle.trace_audit.specs.Texts.{StandAt, with_area};
+ghost use Rattle.trace_audit.specs.Texts.{BeginsWithNoTree, StandAt, with_area};
 ghost use Rattle.tree_words.specs.Words.{area_at, end_of};
 ghost use Rattle.trace_audit.specs.Told.{AreWords};
-ghost use Rattle.trace_audit.specs.Verdicts.{BeginsWithNoTree};
 
 use super::fields::shape_of;
 use super::texts::{FIELDS, WORD_BYTES};

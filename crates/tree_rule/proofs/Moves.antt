@@ -22,7 +22,6 @@ use Rattle.arena_rule.specs.Afters.{word_of, put, answer_of, after, kept_part, g
 use Rattle.arena_rule.specs.Answers.{MayAnswer}
 use Rattle.arena_rule.specs.IsView.{IsView}
 use Rattle.arena_rule.specs.Rule.{Rule, words_after, views_after, views_split}
-use Rattle.arena_rule.specs.Runs.{Arena, RuleHolds, IsSeat}
 use Rattle.arena_rule.proofs.Options.{none-some, false-true}
 use Rattle.arena_rule.proofs.Law.{steps, answers, splits, joins}
 use Rattle.arena_rule.proofs.Changes.{shape-after}

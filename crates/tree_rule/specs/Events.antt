@@ -1,5 +1,5 @@
 -- The events of a tree: its seats' steps, splits and joins, as the arena rule sees them.
-use Rattle.std.specs.Prelude.{◌≡◌, ◌≢◌, ℕ, List, [], ◌∷◌, ◌++◌, slice_set}
+use Rattle.std.specs.Prelude.{◌≡◌, ◌≢◌, ℕ, [], ◌∷◌, ◌++◌, slice_set}
 use Rattle.tree_words.specs.Settings.{Setting}
 use Rattle.tree_words.specs.Opening.{opening_words}
 use Rattle.tree_words.specs.declared.steps.Op.{Op}

@@ -28,7 +28,6 @@
 //! words of blocks. Two allocations of all words stand from `make` to `close`.
 #![tactic(auto)]
 
-mod opening;
 mod plays;
 mod rule;
 mod seats;

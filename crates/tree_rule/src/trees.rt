@@ -10,7 +10,6 @@ ghost use Rattle.tree_rule.specs.Seats.{IsOf, IsTableFor};
 ghost use Rattle.tree_rule.specs.Ends.{AreShown, AreRecords, AreCopied};
 ghost use Rattle.tree_rule.specs.Ends.{IsSameBehind, EndsWith};
 
-use super::opening::open;
 use super::rule::ArenaRule;
 use super::seats::TreeSeat;
 use arena_rule::View;
@@ -18,7 +17,7 @@ use atomic_table::{Seat, Table};
 use std::alloc::Global;
 use std::marker::Model;
 use tree_words::layout::NEXT_AT;
-use tree_words::{Closed, Memory, Shape};
+use tree_words::{Closed, Memory, Shape, make_opening};
 
 // The table of a tree, and the table when no seat shares it any more.
 type OpenTable = Table<u8, View, Shape, ArenaRule, Global>;
@@ -85,7 +84,7 @@ impl Tree {
     {
         // What each shape keeps of itself.
         let _board = shape.board();
-        let room = open(alloc, shape)?;
+        let room = make_opening(alloc, shape)?;
         let Ok((table, seat)) = Table::of_words(alloc, room.as_slice(), shape) else {
             return Err(Memory);
         };

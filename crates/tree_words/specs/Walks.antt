@@ -108,16 +108,16 @@ abbrev mutual
   expand_row g n (more t ts) zero s = more (expand g n t (g.next s (node_cell t))) ts
   expand_row g n (more t ts) (suc i) s = more t (expand_row g n ts i s)
 
--- playout k from the leaf, and its adds
-abbrev pub added : {S O : Type 0} → Game S O → S → ℕ → Tree → Tree
-added g s k u = add g (g.play k (leaf_state g u s).1) u s
-
 -- One walk, for playout k, of a tree and of `next`: first the leaf gets its block, then the walk
--- adds. It goes on into a new block by itself, since the leaf is looked for again; that is the same
--- walk, as a new block changes no count on the way, and its first child is a leaf, having no visit.
+-- adds what its playout, from the leaf, gave. It goes on into a new block by itself, since the leaf
+-- is looked for again; that is the same walk, as a new block changes no count on the way, and its
+-- first child is a leaf, having no visit.
 abbrev pub walk : {S O : Type 0} → Game S O → S → ℕ → Tree × ℕ → Tree × ℕ
 walk g s k t =
-    (added g s k (expand g t.1 t.0 s), g.grown t.1 (leaf_state g t.0 s).0 (leaf_state g t.0 s).1)
+    let u = expand g t.1 t.0 s in (
+      add g (g.play k (leaf_state g u s).1) u s,
+      g.grown t.1 (leaf_state g t.0 s).0 (leaf_state g t.0 s).1,
+    )
 
 -- the walks for playouts 0 to k - 1
 abbrev pub walks : {S O : Type 0} → Game S O → S → Tree × ℕ → ℕ → Tree × ℕ

@@ -9,9 +9,9 @@
 //! and of a header.
 //!
 //! **A caller** makes a [`Shape`], searches, and asks of the [`Closed`] tree the [`best`] cell or a
-//! [`report`] of all. A search writes the opening words by [`write_opening`] and a new block by
-//! [`write_block`]. A reader of words takes them apart by [`node`] and [`block`]; [`layout`] says
-//! where each part stands. [`Op`] names the steps of a worker.
+//! [`report`] of all. A search begins with the opening words, which [`make_opening`] gives, and
+//! writes a new block by [`write_block`]. A reader of words takes them apart by [`node`] and
+//! [`block`]; [`layout`] says where each part stands. [`Op`] names the steps of a worker.
 //!
 //! **What is proved.** A closed tree keeps what its name says: complete blocks that share no word,
 //! a right record of each playout, exact counts, bounds of growth. `best` is the root's child with
@@ -27,10 +27,11 @@
 //! tree (Paths, Complete, Records, Counts, Growth, Closing, Roots, Told) and the walk (Trees,
 //! Walks, Sequence, Descents). proofs/ has a folder for each kind of law.
 //!
-//! **What is only tested, or not said.** How strong a tree plays; that `report` gets its memory.
+//! **What is only tested, or not said.** How strong a tree plays; that `report` and `make_opening`
+//! get their memory.
 //!
 //! **Limits.** 1 to 64 workers, 1 to 1,000,000 playouts, 1,024 to 16,777,216 words of blocks,
-//! blocks of at most 488 words. Only `report` takes memory.
+//! blocks of at most 488 words. Only `report` and `make_opening` take memory.
 #![tactic(auto)]
 
 mod closed_tree;
@@ -47,7 +48,7 @@ mod writing;
 
 pub use closed_tree::Closed;
 pub use laws::{opening_words_are_told, told_blocks_are_linked, words_show_one_tree};
-pub use opening::write_opening;
+pub use opening::make_opening;
 pub use readings::{block, cell_of, node, visits_of, wins_of};
 pub use roots::{Memory, Row, best, report};
 pub use settings::{Knobs, LEAST_WORDS, MOST_EXPAND, MOST_PLAYOUTS, MOST_WORDS, MOST_WORKERS};

@@ -9,9 +9,9 @@ use Rattle.hex_devices.specs.declared.stops.Stop.TheVariants.{ReadFault, WriteFa
 use Rattle.turn_modes.specs.HandingIn.{HandsIn}
 
 pub handed : (Says : TurnData → List ℕ → Type 0) (old new : LinkAndArchive) (turn : TurnData) (text : List ℕ) (result : Result (Unit {0}) Stop) → Says turn text → HandsOver old new turn text result → HandsIn Says old new result
-handed Says old new turn text (Ok done) a h = (turn, text, a, h)
+handed Says old new turn text (Ok done) a h = (turn, text, a, h.0, h.1)
 handed Says old new turn text (Err ReadFault) a h = h
-handed Says old new turn text (Err WriteFault) a h = (turn, text, a, h)
+handed Says old new turn text (Err WriteFault) a h = (turn, text, a, h.0, h.1)
 handed Says old new turn text (Err Memory) a h = absurd h
 handed Says old new turn text (Err TooLong) a h = h
 handed Says old new turn text (Err ArchiveFault) a h = h
@@ -23,9 +23,9 @@ handed_as Says x y link link_now a b turns turns_now turn text result p q r s sa
 
 -- what holds of the turn and its text holds less
 pub hands_less : (Says Less : TurnData → List ℕ → Type 0) (old new : LinkAndArchive) (outcome : Outcome) → ((turn : TurnData) (text : List ℕ) → Says turn text → Less turn text) → HandsIn Says old new outcome → HandsIn Less old new outcome
-hands_less Says Less old new (Ok done) less h = (h.0, h.1, less h.0 h.1 h.2, h.3)
+hands_less Says Less old new (Ok done) less h = (h.0, h.1, less h.0 h.1 h.2, h.3, h.4)
 hands_less Says Less old new (Err ReadFault) less h = absurd h
-hands_less Says Less old new (Err WriteFault) less h = (h.0, h.1, less h.0 h.1 h.2, h.3)
+hands_less Says Less old new (Err WriteFault) less h = (h.0, h.1, less h.0 h.1 h.2, h.3, h.4)
 hands_less Says Less old new (Err Memory) less h = h
 hands_less Says Less old new (Err TooLong) less h = absurd h
 hands_less Says Less old new (Err ArchiveFault) less h = h

@@ -1,5 +1,5 @@
 -- The shuffled cells of a board without stones, and the boards after stones on them.
-use Rattle.std.proofs.Common.{◌≡◌, ℕ, zero, suc, ◌+◌, ◌-◌, ◌*◌, ◌<◌, ◌≤◌, ◌&&◌, not, nat_lt, Bool, true, false, cond, List, [], ◌∷◌, ◌++◌, length, take, get_or, Option, Some, None, refl, sym, ap, ◌∙◌, inl, inr, zero-add, add-one, arith}
+use Rattle.std.proofs.Common.{◌≡◌, ℕ, zero, suc, ◌+◌, ◌-◌, ◌*◌, ◌/◌, ◌<◌, ◌≤◌, ◌&&◌, not, nat_lt, Bool, true, false, cond, List, [], ◌∷◌, ◌++◌, length, take, get_or, Option, Some, None, refl, sym, ap, ◌∙◌, inl, inr, zero-add, add-one, arith}
 use Rattle.std.specs.Prelude.{is_some}
 use Rattle.std.specs.List.{filter, range_with_len, swap}
 use Rattle.std.proofs.lemmas.Bool.{cases_lt, lt-ltb}
@@ -17,7 +17,7 @@ use Rattle.hex_board.specs.Positions.{Position, empty_board, is_empty_at, placed
 use Rattle.hex_board.proofs.Search.{joined_out, starts_in}
 use Rattle.play_out.specs.Fills.{ListsEmpties, empties_of, filled_by, order_of}
 use Rattle.play_out.specs.Streams.{place_of, shuffled, state_for, stream_at, words_of}
-use Rattle.turn_modes.specs.Positions.{board_on, is_open, most_stones, mover_after, shuffled_cells, placed_count}
+use Rattle.turn_modes.specs.Positions.{board_on, is_open, mover_after, shuffled_cells, placed_count}
 use Rattle.turn_modes.proofs.Placing.{mover_from, from_black, one_stone_more, next_is_empty}
 
 -- ---- the board without stones
@@ -112,16 +112,16 @@ open_so_far size m cells next before b here k l = elim (cases_lt k m) [
   | inr g ↦ let same : k ≡ m = omega arith in ap (λ i. is_open (board_on size cells (i + 1))) same ∙ ap is_open (sym b) ∙ here
 ]
 
-pub all_placed : (size n : ℕ) (cells : List ℕ) → n ≤ most_stones size → ((m : ℕ) → m < n → is_open (board_on size cells (m + 1)) ≡ true)
-    → (n < most_stones size → is_open (board_on size cells (n + 1)) ≡ false) → n ≡ placed_count size cells
+pub all_placed : (size n : ℕ) (cells : List ℕ) → n ≤ size * size / 3 → ((m : ℕ) → m < n → is_open (board_on size cells (m + 1)) ≡ true)
+    → (n < size * size / 3 → is_open (board_on size cells (n + 1)) ≡ false) → n ≡ placed_count size cells
 unfolding placed_count
 all_placed size n cells few before stop =
-    let most : ℕ = most_stones size in
+    let most : ℕ = size * size / 3 in
     let test : ℕ → Bool = λ m. is_open (board_on size cells (m + 1)) in
     let many = length-range_with_len 0 most in
     sym (prefix_len_is test (range_with_len 0 most) n 0 (omega arith)
     (λ k l. ap test (at k (omega arith)) ∙ before k l)
     (λ l. ap test (at n (omega arith)) ∙ stop (omega arith)))
   where
-    at : (k : ℕ) → k < most_stones size → get_or (range_with_len 0 (most_stones size)) k 0 ≡ k
-    at k l = get_or-range_with_len 0 (most_stones size) k 0 l ∙ zero-add k
+    at : (k : ℕ) → k < size * size / 3 → get_or (range_with_len 0 (size * size / 3)) k 0 ≡ k
+    at k l = get_or-range_with_len 0 (size * size / 3) k 0 l ∙ zero-add k

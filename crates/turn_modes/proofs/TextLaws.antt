@@ -11,10 +11,10 @@ use Rattle.tree_words.specs.Roots.{rows_of}
 use Rattle.tree_words.specs.Settings.{Setting}
 use Rattle.tree_words.specs.declared.roots.Row.{Row}
 use Rattle.tree_words.specs.declared.settings.Knobs.{Knobs}
-use Rattle.hex_plan.specs.TurnTexts.{report_of, report_on}
+use Rattle.hex_plan.specs.TurnTexts.{report_by, report_of, report_on}
 use Rattle.hex_plan.specs.Turns.{TurnData}
-use Rattle.turn_modes.specs.ModeTexts.{bench_lines, bench_text, best_line, report_by, sim_text}
-use Rattle.turn_modes.specs.OneTurn.{IsBenchTurn, IsBenchmark, IsFirstTurn, IsSimTurn, IsSimulation, bench_board, bench_player, bench_stones, first_rows}
+use Rattle.turn_modes.specs.ModeTexts.{bench_lines, bench_text, best_line, sim_text}
+use Rattle.turn_modes.specs.OneTurn.{IsBenchmark, IsFirstTurn, IsSimulation, bench_board, bench_player, bench_stones, first_rows}
 use Rattle.turn_modes.specs.Positions.{IsBenchPosition, board_on, mover_after, shuffled_cells}
 use Rattle.turn_modes.specs.Records.{records_in}
 use Rattle.turn_modes.specs.Rows.{best_cell, visits_of}
@@ -27,7 +27,7 @@ use Rattle.turn_modes.proofs.Recorded.{all_recorded}
 
 -- ---- mode sim
 
-pub simulation_says : (o : ModeOptions) (t : TurnData) (text items : List ℕ) → IsSimTurn o t → text ≡ items → TellsSim t items → IsSimulation o t text
+pub simulation_says : (o : ModeOptions) (t : TurnData) (text items : List ℕ) → IsFirstTurn o.knobs (empty_board o.size) Black t → text ≡ items → TellsSim t items → IsSimulation o t text
 unfolding report_of
 simulation_says o t text items f same says =
     let start : Position = empty_board o.size in
@@ -71,12 +71,12 @@ position_board o p h = h.board ∙ ap (board_on o.size (shuffled_cells o.size o.
 pub bench_size : (o : ModeOptions) (p : BenchPosition) → IsBenchPosition o.size o.knobs.seed p → p.board.size ≡ o.size → (bench_board o).size ≡ o.size
 bench_size o p h n = ap (λ (b : Position). b.size) (sym (position_board o p h)) ∙ n
 
-pub bench_turn : (o : ModeOptions) (p : BenchPosition) (t : TurnData) → IsBenchPosition o.size o.knobs.seed p → IsFirstTurn o.knobs p.board p.colour t → IsBenchTurn o t
+pub bench_turn : (o : ModeOptions) (p : BenchPosition) (t : TurnData) → IsBenchPosition o.size o.knobs.seed p → IsFirstTurn o.knobs p.board p.colour t → IsFirstTurn o.knobs (bench_board o) (bench_player o) t
 bench_turn o p t h f =
     subst (λ (b : Position). IsFirstTurn o.knobs b (bench_player o) t) (position_board o p h)
     (subst (λ (k : Colour). IsFirstTurn o.knobs p.board k t) (h.colour ∙ ap mover_after h.stones) f)
 
-pub benchmark_says : (o : ModeOptions) (t : TurnData) (stones : ℕ) (text items : List ℕ) → IsBenchTurn o t → stones ≡ bench_stones o → (bench_board o).size ≡ o.size → text ≡ items
+pub benchmark_says : (o : ModeOptions) (t : TurnData) (stones : ℕ) (text items : List ℕ) → IsFirstTurn o.knobs (bench_board o) (bench_player o) t → stones ≡ bench_stones o → (bench_board o).size ≡ o.size → text ≡ items
     → TellsBench o.knobs stones t items → IsBenchmark o t text
 benchmark_says o t stones text items f m n same says =
     let now : Position = bench_board o in

@@ -1,9 +1,9 @@
 -- What modes sim and bench do with the turn and its text.
-use Rattle.std.specs.Prelude.{◌≡◌, List, ℕ, Ok, Err}
-use Rattle.hex_io.specs.Told.{Same}
+use Rattle.std.specs.Prelude.{◌≡◌, List, [], ◌∷◌, ◌++◌, ℕ, Ok, Err}
+use Rattle.hex_io.specs.Grew.{Gave, GaveProperPart}
+use Rattle.hex_io.specs.Told.{Both, Same}
 use Rattle.hex_plan.specs.Turns.{TurnData}
 use Rattle.hex_devices.specs.Devices.{LinkAndArchive, Outcome}
-use Rattle.hex_devices.specs.Handing.{HandsOver}
 use Rattle.hex_devices.specs.declared.stops.Stop.TheVariants.{ReadFault, WriteFault, Memory}
 use Rattle.hex_devices.specs.declared.stops.Stop.TheVariants.{TooLong, ArchiveFault}
 use Rattle.turn_modes.specs.OneTurn.{FollowsSchedule, IsSimulation, IsBenchmark}
@@ -15,11 +15,12 @@ use Rattle.turn_modes.specs.declared.options.ModeOptions.{ModeOptions}
 abbrev pub HandsIn : (TurnData → List ℕ → Type 0) → LinkAndArchive → LinkAndArchive
     → Outcome → Type 0
 HandsIn Says old new (Ok done) =
-    (turn : TurnData) × (text : List ℕ) × Says turn text × HandsOver old new turn text (Ok done)
+    (turn : TurnData) × (text : List ℕ) × Says turn text × Gave old.0 new.0 text
+    × Both old.1 new.1 (λ before now. now ≡ before ++ turn ∷ [])
 HandsIn Says old new (Err ReadFault) = ⊥
 HandsIn Says old new (Err WriteFault) =
-    (turn : TurnData) × (text : List ℕ) × Says turn text
-    × HandsOver old new turn text (Err WriteFault)
+    (turn : TurnData) × (text : List ℕ) × Says turn text × GaveProperPart old.0 new.0 text
+    × Both old.1 new.1 (λ before now. now ≡ before ++ turn ∷ [])
 HandsIn Says old new (Err Memory) = (new.0 ≡ old.0) × Same old.1 new.1
 HandsIn Says old new (Err TooLong) = ⊥
 HandsIn Says old new (Err ArchiveFault) = (new.0 ≡ old.0) × Same old.1 new.1

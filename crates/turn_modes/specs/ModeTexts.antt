@@ -4,7 +4,6 @@ use Rattle.std.specs.Fmt.{decimal}
 use Rattle.hex_cells.specs.Vertices.{vertex_of}
 use Rattle.tree_words.specs.declared.roots.Row.{Row}
 use Rattle.tree_words.specs.declared.settings.Knobs.{Knobs}
-use Rattle.hex_plan.specs.TurnTexts.{report_lines}
 use Rattle.turn_modes.specs.Rows.{visits_of}
 
 -- a word and its space, a number, and a line feed
@@ -15,10 +14,6 @@ number_line word n = word ++ decimal n ++ 10 ∷ []
 abbrev pub sim_text : ℕ → ℕ → List ℕ → List ℕ
 sim_text size cell report =
     codes "best " ++ vertex_of size cell ++ 10 ∷ report ++ 10 ∷ []
-
--- the report of a search of so many playouts, by the rows of its tree
-abbrev pub report_by : ℕ → ℕ → List Row → List ℕ
-report_by size playouts rows = codes "playouts " ++ decimal playouts ++ report_lines size rows
 
 -- mode bench, with one worker: the best cell and its visits
 abbrev pub best_line : ℕ → ℕ → ℕ → List ℕ

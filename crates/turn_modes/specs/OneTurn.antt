@@ -16,12 +16,12 @@ use Rattle.hex_plan.specs.Good.{IsSequential, IsTurnShape}
 use Rattle.hex_plan.specs.Plans.{IsPlanned}
 use Rattle.hex_plan.specs.Reports.{rows_in}
 use Rattle.hex_plan.specs.Seeds.{turn_knobs}
-use Rattle.hex_plan.specs.TurnTexts.{report_of}
+use Rattle.hex_plan.specs.TurnTexts.{report_by, report_of}
 use Rattle.hex_plan.specs.Turns.{TurnData}
 use Rattle.hex_plan.specs.declared.plans.Planned.{Planned}
 use Rattle.turn_search.specs.Owed.{IsOwed}
 use Rattle.sim_run.specs.BetweenSteps.{EndsSchedule}
-use Rattle.turn_modes.specs.ModeTexts.{sim_text, report_by, bench_text}
+use Rattle.turn_modes.specs.ModeTexts.{sim_text, bench_text}
 use Rattle.turn_modes.specs.Positions.{board_on, mover_after, shuffled_cells, placed_count}
 use Rattle.turn_modes.specs.Records.{records_in}
 use Rattle.turn_modes.specs.Rows.{best_cell}
@@ -57,27 +57,20 @@ first_rows knobs now mover = rows_in (seq_of (first_setting knobs now mover)).0
 
 -- ---- mode sim
 
--- the turn of mode sim: that of the board without stones, with Black to move
-abbrev pub IsSimTurn : ModeOptions → TurnData → Type 0
-IsSimTurn o = IsFirstTurn o.knobs (empty_board o.size) Black
-
--- its tree is that of the schedule
+-- the turn's tree is that of the schedule
 abbrev pub FollowsSchedule : ModeOptions → TurnData → Type 0
 FollowsSchedule o t = (tree : ClosedTree) × (t.closed ≡ Some tree) × EndsSchedule tree.shape
     (schedule_of o.knobs.workers o.knobs.seed o.steps) tree.words
 
--- the text that mode sim gives with one worker
-abbrev pub sequential_sim_text : ModeOptions → List ℕ
-sequential_sim_text o = let rows = first_rows o.knobs (empty_board o.size) Black in
-    sim_text o.size (best_cell rows) (report_by o.size o.knobs.playouts rows)
-
--- the turn is that of mode sim, and the text is that of the turn; with one worker the options
--- determine it
+-- the turn is that of the board without stones, with Black to move, and the text is that of the
+-- turn; with one worker the options determine it
 pub record IsSimulation (o : ModeOptions) (t : TurnData) (text : List ℕ) : Type 0 where
-  pub turn : IsSimTurn o t
+  pub turn : IsFirstTurn o.knobs (empty_board o.size) Black t
   pub says : (report : List ℕ) × (report_of t ≡ Some report)
       × (text ≡ sim_text o.size t.cell report)
-  pub one : o.knobs.workers ≡ 1 → text ≡ sequential_sim_text o
+  pub one : o.knobs.workers ≡ 1
+      → text ≡ (let rows = first_rows o.knobs (empty_board o.size) Black in
+      sim_text o.size (best_cell rows) (report_by o.size o.knobs.playouts rows))
 
 -- ---- mode bench
 
@@ -91,19 +84,11 @@ bench_board o = board_on o.size (shuffled_cells o.size o.knobs.seed) (bench_ston
 abbrev pub bench_player : ModeOptions → Colour
 bench_player o = mover_after (bench_stones o)
 
--- the turn of mode bench: that of its position
-abbrev pub IsBenchTurn : ModeOptions → TurnData → Type 0
-IsBenchTurn o = IsFirstTurn o.knobs (bench_board o) (bench_player o)
-
--- the text that mode bench gives
-abbrev pub determined_bench_text : ModeOptions → List ℕ
-determined_bench_text o = let rows = first_rows o.knobs (bench_board o) (bench_player o) in
-    bench_text o.size (bench_stones o) o.knobs o.knobs.playouts rows (best_cell rows)
-
--- the text is that of the turn of mode bench, and the options determine it
+-- the turn is that of the position, the text is that of the turn, and the options determine it
 pub record IsBenchmark (o : ModeOptions) (t : TurnData) (text : List ℕ) : Type 0 where
-  pub turn : IsBenchTurn o t
+  pub turn : IsFirstTurn o.knobs (bench_board o) (bench_player o) t
   pub says : (tree : ClosedTree) × (t.closed ≡ Some tree)
       × (text ≡ bench_text o.size (bench_stones o) o.knobs (records_in tree)
       (rows_of tree.shape tree.words) t.cell)
-  pub determined : text ≡ determined_bench_text o
+  pub determined : text ≡ (let rows = first_rows o.knobs (bench_board o) (bench_player o) in
+      bench_text o.size (bench_stones o) o.knobs o.knobs.playouts rows (best_cell rows))

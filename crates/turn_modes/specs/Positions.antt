@@ -26,14 +26,11 @@ mover_after (suc m) = other_of (mover_after m)
 abbrev pub is_open : Position → Bool
 is_open p = not (is_some (winner_of p))
 
--- the most stones: a third of the board's cells, rounded down
-abbrev pub most_stones : ℕ → ℕ
-most_stones size = size * size / 3
-
--- how many stones are placed, of the most: all before the first that joins its player
+-- how many stones are placed: of a third of the board's cells, rounded down, all before the first
+-- that joins its player
 unfoldable pub placed_count : ℕ → List ℕ → ℕ
 placed_count size cells = prefix_len (λ m. is_open (board_on size cells (m + 1)))
-    (range_with_len 0 (most_stones size))
+    (range_with_len 0 (size * size / 3))
 
 -- the position after stones on the longest such front of these cells
 pub record IsPlacedOn (size : ℕ) (cells : List ℕ) (p : BenchPosition) : Type 0 where

@@ -35,12 +35,8 @@ pub fn simulation<L: Link, F: Shelf, A: Archive, R: Threads + Sync, G: Gate + Sy
     ensures fetches { devices.new.fetch_faults ≡ devices.old.fetch_faults }
     ensures counts { CountsFaults devices.old devices.new result }
 {
-    let Ok(turn) = simulated_turn(alloc, options) else {
-        return Err(Stop::Memory);
-    };
-    let Ok(text) = sim_text(alloc, &turn) else {
-        return Err(Stop::Memory);
-    };
+    let turn = simulated_turn(alloc, options)?;
+    let text = sim_text(alloc, &turn)?;
     hand_over(&mut *devices.link, &mut *devices.archive, turn, &text)
 }
 
@@ -64,12 +60,7 @@ pub fn benchmark<L: Link, F: Shelf, A: Archive, R: Threads + Sync, G: Gate + Syn
     ensures counts { CountsFaults devices.old devices.new result }
 {
     let position = bench_position(options.size, options.knobs.seed);
-    let Ok(turn) = benchmarked_turn(devices.rt, alloc, &position, &options.knobs, devices.gate)
-    else {
-        return Err(Stop::Memory);
-    };
-    let Ok(text) = bench_text(alloc, &options.knobs, position.stones, &turn) else {
-        return Err(Stop::Memory);
-    };
+    let turn = benchmarked_turn(devices.rt, alloc, &position, &options.knobs, devices.gate)?;
+    let text = bench_text(alloc, &options.knobs, position.stones, &turn)?;
     hand_over(&mut *devices.link, &mut *devices.archive, turn, &text)
 }

@@ -1,10 +1,10 @@
 //! The position of mode bench.
 
-ghost use Rattle.std.specs.Prelude.{◌≡◌, ◌≤◌, ◌*◌, ℕ, None, true, length};
+ghost use Rattle.std.specs.Prelude.{◌≡◌, ◌≤◌, ◌*◌, ◌/◌, ℕ, None, true, length};
 ghost use Rattle.hex_board.specs.Joined.{winner_of};
 ghost use Rattle.hex_board.specs.Positions.{empty_board, is_empty_at};
 ghost use Rattle.play_out.specs.Fills.{ListsEmpties};
-ghost use Rattle.turn_modes.specs.Positions.{IsBenchPosition, IsPlacedOn, is_open, most_stones};
+ghost use Rattle.turn_modes.specs.Positions.{IsBenchPosition, IsPlacedOn, is_open};
 
 use hex_board::Board;
 use hex_cells::{Cell, CellSet, Colour, Size};
@@ -42,7 +42,7 @@ fn place_stones(size: Size, cells: &[Cell]) -> BenchPosition
     requires once { ListsEmpties (empty_board size) cells.now }
     requires many { length cells.now ≡ size * size }
     ensures placed { IsPlacedOn size cells.now result }
-    ensures few { result.stones ≤ most_stones size }
+    ensures few { result.stones ≤ size * size / 3 }
     ensures size { result.board.size ≡ size }
     ensures nobody { winner_of result.board ≡ None }
     ensures room { (k : ℕ) × (is_empty_at result.board k ≡ true) }
@@ -73,7 +73,7 @@ fn place_stones(size: Size, cells: &[Cell]) -> BenchPosition
 /// Black's first, until the next one would join its player.
 pub fn bench_position(size: Size, seed: u64) -> BenchPosition
     ensures is { IsBenchPosition size seed result }
-    ensures few { result.stones ≤ most_stones size }
+    ensures few { result.stones ≤ size * size / 3 }
     ensures size { result.board.size ≡ size }
     ensures nobody { winner_of result.board ≡ None }
     ensures room { (k : ℕ) × (is_empty_at result.board k ≡ true) }

@@ -1,15 +1,16 @@
 //! The turns of the modes: that of sim by a schedule, and that of bench by a team.
 
 ghost use Rattle.std.specs.Prelude.{◌≡◌, ◌<◌, ℕ, None, Some, false, true, IfOk, All};
+ghost use Rattle.hex_cells.specs.declared.colours.Colour.TheVariants.{Black};
 ghost use Rattle.hex_board.specs.Joined.{winner_of};
-ghost use Rattle.hex_board.specs.Positions.{is_empty_at};
+ghost use Rattle.hex_board.specs.Positions.{empty_board, is_empty_at};
 ghost use Rattle.tree_words.specs.Sequence.{seq_of};
 ghost use Rattle.tree_words.specs.Settings.{AreInRange};
 ghost use Rattle.tree_words.specs.Trees.{IsTreeOf};
 ghost use Rattle.sim_run.specs.BetweenSteps.{EndsSchedule};
 ghost use Rattle.hex_plan.specs.Good.{IsTurnShape};
 ghost use Rattle.hex_plan.specs.Plans.{IsPlanned, IsSearchAmong};
-ghost use Rattle.turn_modes.specs.OneTurn.{FollowsSchedule, IsFirstTurn, IsSimTurn, MakesFirstTurn};
+ghost use Rattle.turn_modes.specs.OneTurn.{FollowsSchedule, IsFirstTurn, MakesFirstTurn};
 
 use super::options::ModeOptions;
 use super::positions::{BenchPosition, bare_board};
@@ -76,7 +77,8 @@ fn follow(alloc: Global, shape: &Shape, list: &[u8]) -> Result<Closed, Memory>
 /// The turn of mode sim: that of the board without stones, with Black to move, by a schedule.
 pub fn simulated_turn(alloc: Global, options: &ModeOptions) -> Result<Turn, Memory>
     requires { AreInRange options.now.knobs }
-    ensures turn { IfOk result (IsSimTurn options.now) }
+    ensures turn { IfOk result
+        (IsFirstTurn options.now.knobs (empty_board options.now.size) Black) }
     ensures scheduled { IfOk result (FollowsSchedule options.now) }
 {
     let knobs = &options.knobs;

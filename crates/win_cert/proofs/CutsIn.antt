@@ -10,7 +10,8 @@ use Rattle.std.proofs.lemmas.List.Elements.{All-cons, All-head, All-nil, All-tai
 use Rattle.std.proofs.lemmas.Option.{get_or_from_slice_get, slice_get-map, slice_get_within}
 use Rattle.conn_store.specs.declared.entries.TheConstants.{MOST_ENTRIES}
 use Rattle.win_cert.specs.Writable.{IsLineOf}
-use Rattle.win_cert.specs.declared.certs.TheConstants.{FIRST_VERSION, MOST_LINES}
+use Rattle.win_cert.specs.declared.certs.TheConstants.{FIRST_VERSION}
+use Rattle.win_cert.specs.declared.lines.TheConstants.{MOST_NUMBER}
 use Rattle.win_cert.proofs.CutLines.{IsSmallAt, line_form}
 use Rattle.hex_board.specs.Elements.{PlayerBoard}
 use Rattle.hex_board.specs.Positions.{Within, stones_of}
@@ -165,7 +166,7 @@ all_more P [] x h p = All-cons P x [] p (All-nil P)
 all_more P (y ∷ xs) x h p = All-cons P y (xs ++ x ∷ []) (All-head P y xs h) (all_more P xs x (All-tail P y xs h) p)
 
 pub one_more_from : (d : StoreData) (marks : List Bool) (from : ℕ) (asked : List ℕ) (n : ℕ) (lines : List Line) (renamed : List ℕ) (a : Entry) (line : Line) → AreLinesFrom d marks from n lines renamed → IsSound d
-    → from ≤ MOST_LINES + 1 → length d.entries ≤ MOST_ENTRIES
+    → from + MOST_ENTRIES ≤ MOST_NUMBER → length d.entries ≤ MOST_ENTRIES
     → AreMarks d.entries asked marks → slice_get d.entries n ≡ Some a → is_marked marks n ≡ true → IsLineFor d.elements (renamed ++ (from + length lines) ∷ []) a a.cause line
     → AreLinesFrom d marks from (n + 1) (lines ++ line ∷ []) (renamed ++ (from + length lines) ∷ [])
 one_more_from d marks from asked n lines renamed a line w s low most m at known form =
@@ -174,7 +175,7 @@ one_more_from d marks from asked n lines renamed a line w s low most m at known 
     let l : length (lines ++ line ∷ []) ≡ length lines + 1 = longer lines line in
     let more = renamed ++ (from + length lines) ∷ [] in
     let inside : n < length d.entries = slice_get_within d.entries n a at in
-    let lowest : from ≤ 200000 + 1 = low in
+    let lowest : from + 75030 ≤ 999999 = low in
     let largest : length d.entries ≤ 75030 = most in
     let old : (i : ℕ) → i < n → get_or more i 0 ≡ get_or renamed i 0 = λ i l. get_or-append renamed ((from + length lines) ∷ []) 0 i (omega (arith, l)) in
     let small : All (IsSmallAt more) (premises a.cause) = λ i z l.
@@ -256,7 +257,7 @@ pub onto_length : (d : StoreData) (marks : List Bool) (old : List Line) (n : ℕ
 onto_length d marks old n now renamed w = ap length w.added ∙ added_length old w.lines
 
 pub onto_more : (d : StoreData) (marks : List Bool) (old : List Line) (asked : List ℕ) (n : ℕ) (now next : List Line) (renamed more : List ℕ) (a : Entry) (line : Line) → AreLinesOnto d marks old n now renamed → IsSound d
-    → length old ≤ MOST_LINES + 1 → length d.entries ≤ MOST_ENTRIES → AreMarks d.entries asked marks → slice_get d.entries n ≡ Some a → is_marked marks n ≡ true
+    → length old + MOST_ENTRIES ≤ MOST_NUMBER → length d.entries ≤ MOST_ENTRIES → AreMarks d.entries asked marks → slice_get d.entries n ≡ Some a → is_marked marks n ≡ true
     → more ≡ renamed ++ length now ∷ [] → next ≡ now ++ line ∷ [] → IsLineFor d.elements more a a.cause line → AreLinesOnto d marks old (n + 1) next more
 onto_more d marks old asked n now next renamed more a line w s low most m at known q r form =
     let e : more ≡ renamed ++ (length old + length w.lines) ∷ [] = q ∙ ap (λ v. renamed ++ v ∷ []) (onto_length d marks old n now renamed w) in

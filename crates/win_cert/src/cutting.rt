@@ -8,10 +8,12 @@ ghost use Rattle.hex_board.specs.Places.{IsMember, Place};
 ghost use Rattle.win_cert.specs.Cuts.{CertifiesEntryAt, HasEdgeEntryAt, HasLinesFor, premises};
 ghost use Rattle.win_cert.specs.Cutting.{AreMarks, AreStonesOn, IsEndFor, IsLineFor};
 ghost use Rattle.win_cert.specs.Derivations.{DerivesOnto, GrowsOn};
+ghost use Rattle.win_cert.specs.declared.lines.TheConstants.{MOST_NUMBER};
 ghost use Rattle.conn_store.specs.declared.entries.Entry.{Entry};
+ghost use Rattle.conn_store.specs.declared.entries.TheConstants.{MOST_ENTRIES};
 
 use super::marking::marked;
-use super::{Cert, End, FIRST_VERSION, Line, Lines, MOST_LINES, Memory};
+use super::{Cert, End, FIRST_VERSION, Line, Lines, Memory};
 use conn_store::{Cause, Entry, Store};
 use hex_board::Elements;
 use hsearch::Report;
@@ -44,8 +46,9 @@ pub fn cut(alloc: Global, report: &Report, entry: u32) -> Result<Cert, Memory>
 /// Adds the lines of the store's entries with these numbers after those that stand there, and
 /// answers the numbers of their own lines, in turn: a line for each entry on which they rest, once,
 /// in the store's order. They may be read in any scope on whose board the player has the stones
-/// that he has on the store's, and the other player no more. One line more than a certificate has
-/// may stand there before. Where memory runs out some of the new ones may stand there.
+/// that he has on the store's, and the other player no more. So many lines may stand there before
+/// that the numbers of the new ones can be written. Where memory runs out some of the new ones may
+/// stand there.
 pub fn lines_onto(
     alloc: Global,
     store: &Store,
@@ -53,7 +56,7 @@ pub fn lines_onto(
     out: &mut Vec<Line>,
 ) -> Result<Vec<u32>, AllocError>
     requires below { All (λ n. n < length store.now.entries) asked.now }
-    requires room { length out.old.items ≤ MOST_LINES + 1 }
+    requires room { length out.old.items + MOST_ENTRIES ≤ MOST_NUMBER }
     ensures grows { GrowsOn out.old.items out.new.items }
     ensures derives { IfOk result
         (λ v. DerivesOnto store.now asked.now out.old.items out.new.items v.items) }
@@ -72,7 +75,7 @@ fn derived_onto(
 ) -> Result<Vec<u32>, AllocError>
     requires below { All (λ n. n < length store.now.entries) asked.now }
     requires marks { AreMarks store.now.entries asked.now marks.now }
-    requires room { length out.old.items ≤ MOST_LINES + 1 }
+    requires room { length out.old.items + MOST_ENTRIES ≤ MOST_NUMBER }
     ensures grows { GrowsOn out.old.items out.new.items }
     ensures derives { IfOk result
         (λ v. DerivesOnto store.now asked.now out.old.items out.new.items v.items) }

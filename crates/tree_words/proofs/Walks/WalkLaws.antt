@@ -4,7 +4,7 @@ use Rattle.std.specs.Prelude.{◌==◌, nat_lt, nat_le, ◌&&◌}
 use Rattle.std.proofs.lemmas.Bool.Decides.{nat_tests}
 use Rattle.tree_words.specs.Words.{Count}
 use Rattle.tree_words.specs.Blocks.{LinkedBlock, child, has_node, size, cell_at}
-use Rattle.tree_words.specs.Walks.{nothing, Tree, node, Children, done, Game, pairs, fresh, leaf_state, add, expand, expand_row, added, walk}
+use Rattle.tree_words.specs.Walks.{nothing, Tree, node, Children, done, Game, pairs, fresh, leaf_state, add, expand, expand_row, walk}
 use Rattle.tree_words.specs.Trees.{row_of, tree_leaf, tree_inner, tree_at}
 use Rattle.tree_words.specs.Descents.{Config, tree_in, walk_end, NewBlock, Widened, Added, EndsBy, Fine, pick, state_leaf, state_inner, state_at, Out, Sprouts}
 use Rattle.std.proofs.lemmas.Bool.{and_parts, cases_Bool, false_from_ne_true}
@@ -131,8 +131,9 @@ module _ {S O : Type 0} (g : Game S O) (fair : Fair g) (s : S) (r : ℕ) where
       let u : Fine r m = fine-widened c m f w in
       let U : Tree = tree_in r m in
       let played : o ≡ g.play k (leaf_state g U s).1 = is ∙ ap (λ (z : Count × S). g.play k z.1) (state-tree g fair m.tally m.seen m.blocks r 0 nothing s u.sprouts) in
-      let tree : tree_in r d ≡ added g s k (expand g c.next (tree_in r c) s)
-      = added-tree o m d u a ∙ ap (λ (z : O). add g z U s) played ∙ ap (added g s k) (widened-tree c m f w) in
+      let adds : Tree → Tree = λ v. add g (g.play k (leaf_state g v s).1) v s in
+      let tree : tree_in r d ≡ adds (expand g c.next (tree_in r c) s)
+      = added-tree o m d u a ∙ ap (λ (z : O). add g z U s) played ∙ ap adds (widened-tree c m f w) in
       let next : d.next ≡ g.grown c.next (leaf_state g (tree_in r c) s).0 (leaf_state g (tree_in r c) s).1
       = a.next ∙ w.next ∙ ap (λ (z : Count × S). g.grown c.next z.0 z.1) (state-tree g fair c.tally c.seen c.blocks r 0 nothing s f.sprouts) in
       λ i. (tree i, next i)

@@ -3,7 +3,7 @@ use Rattle.std.proofs.Common.{sym, ap, ◌∙◌, inl, inr}
 use Rattle.std.proofs.lemmas.Result.{IfOk-weaker}
 use Rattle.hex_board.specs.Joined.{winner_of}
 use Rattle.hex_cli.specs.SolveTexts.{next_mover}
-use Rattle.hex_cli.proofs.SolvedTexts.{solved_of_game}
+use Rattle.hex_cli.proofs.SolvedTexts.{solved_by, solved_of_game}
 use Rattle.hex_cli.proofs.solutions.game_text.Goals as goal
 
 pub returns-in-Some : goal.returns-in-Some
@@ -17,13 +17,7 @@ returns c =
       sym (ap winner_of c.board-board.ensures) ∙ sym c.in_default.ensures.value,
       solved_of_game c.args.hsearch c.args.budget c.args.game.now c.board-board.result.now c.next_to_place-mover.result c.in-Ok.solved
           c.board-board.ensures (c.next_to_place-mover.ensures ∙ ap next_mover c.steps.ensures)
-          (record {
-            wins = c.in-Ok.ensures.wins;
-            won = c.in-Ok.ensures.won;
-            short = c.in-Ok.ensures.short;
-            unknown = c.in-Ok.ensures.unknown;
-            too_long = c.in-Ok.ensures.too_long;
-            full = c.in-Ok.ensures.open;
-          }),
+          (solved_by c.args.hsearch c.args.budget c.board-board.result.now c.next_to_place-mover.result c.in-Ok.solved
+          c.in-Ok.ensures.wins c.in-Ok.ensures.won c.in-Ok.ensures.short c.in-Ok.ensures.unknown c.in-Ok.ensures.too_long c.in-Ok.ensures.open),
       e,
     )) c.text_of.ensures

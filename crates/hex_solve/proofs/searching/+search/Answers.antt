@@ -9,7 +9,7 @@ use Rattle.hex_board.specs.Positions.{Position, is_empty_at, placed, stones_of}
 use Rattle.hex_board.specs.Wins.{empty_count}
 use Rattle.hex_board.proofs.WinLaws.{one_empty_less}
 use Rattle.hex_solve.specs.Ledgers.{count_of}
-use Rattle.hex_solve.specs.Searching.{IsSearched}
+use Rattle.hex_solve.specs.Searching.{IsPairOfLedgers}
 use Rattle.hex_solve.proofs.Found.{child_is, joined_short, mover_wins, other_wins_all, stone_answered, stop_on}
 use Rattle.hex_solve.proofs.Growing.{grows_wider}
 use Rattle.hex_solve.proofs.NobodyJoined.{joined_told}
@@ -32,8 +32,8 @@ moves-position-requires t c =
     let one : empty_count p ≡ suc (empty_count (placed p c.args.mover c.in-Some.cell)) = one_empty_less p c.args.mover c.in-Some.cell here in
     let same : empty_count c.place.new.self ≡ empty_count (placed p c.args.mover c.in-Some.cell) = ap empty_count c.place.ensures in (
       omega (arith, c.decreases, one, same),
-      subst (λ (q : Position). IsSearched q c.other.result c.cells.other c.cells.own) (sym c.place.ensures)
-          (subst (λ (d : Colour). IsSearched (placed p c.args.mover c.in-Some.cell) d c.cells.other c.cells.own) (sym c.other.ensures)
+      subst (λ (q : Position). IsPairOfLedgers q c.other.result c.cells.other c.cells.own) (sym c.place.ensures)
+          (subst (λ (d : Colour). IsPairOfLedgers (placed p c.args.mover c.in-Some.cell) d c.cells.other c.cells.own) (sym c.other.ensures)
           (child_searched p c.args.mover c.cells.own c.cells.other c.in-Some.cell w.searched c.requires.apart here)),
     )
 

@@ -6,16 +6,15 @@ use Rattle.hex_cells.specs.declared.colours.Colour.{Colour}
 use Rattle.hex_board.specs.Positions.{Position, is_empty_at, placed}
 use Rattle.hex_board.specs.Wins.{empty_count}
 use Rattle.hex_board.proofs.WinLaws.{one_empty_less}
-use Rattle.conn_store.specs.declared.entries.Kind.TheVariants.{Full}
-use Rattle.hex_solve.specs.Searching.{IsSearched}
-use Rattle.hex_solve.specs.Strong.{IsWonBy, ShowsIn}
+use Rattle.hex_solve.specs.Searching.{IsPairOfLedgers}
+use Rattle.hex_solve.proofs.EntryWays.{keeps_grown}
 use Rattle.hex_solve.proofs.Narrowing.{reply_taken}
-use Rattle.hex_solve.proofs.Strongly.{back_before, child_won, mover_won, narrowing_begun, other_won, stone_taken}
+use Rattle.hex_solve.proofs.Strongly.{back_before, child_shows, child_won, joined_answer, mover_answer, narrowing_begun, other_answer, stone_taken}
 use Rattle.hex_solve.proofs.Trying.{child_searched}
 use Rattle.hex_solve.proofs.strong.+strong.Goals as goal
 
 pub decide-returns-then-joined : goal.decide-returns-then-joined
-decide-returns-then-joined t c = ((2, c.in-Ok.ensures.grows), subst (λ v. ShowsIn c.add_done.new.self c.args.board.now Full v c.in-Ok.line) (sym c.none.ensures.value) c.in-Ok.ensures.inside, refl)
+decide-returns-then-joined t c = joined_answer c.args.board.now c.args.own.now c.args.other.now c.add_joined.new.other c.add_joined.result c.add_joined.ensures
 
 pub replies-replies-init : goal.replies-replies-init
 replies-replies-init t c = record {
@@ -31,8 +30,8 @@ replies-decide-requires t c =
     let one : empty_count p ≡ suc (empty_count (placed p c.args.mover c.in-Some.cell)) = one_empty_less p c.args.mover c.in-Some.cell here in
     let same : empty_count c.place.new.self ≡ empty_count (placed p c.args.mover c.in-Some.cell) = ap empty_count c.place.ensures in (
       omega (arith, c.decreases, one, same),
-      subst (λ (q : Position). IsSearched q c.other.result c.replies.other c.replies.own) (sym c.place.ensures)
-          (subst (λ (d : Colour). IsSearched (placed p c.args.mover c.in-Some.cell) d c.replies.other c.replies.own) (sym c.other.ensures)
+      subst (λ (q : Position). IsPairOfLedgers q c.other.result c.replies.other c.replies.own) (sym c.place.ensures)
+          (subst (λ (d : Colour). IsPairOfLedgers (placed p c.args.mover c.in-Some.cell) d c.replies.other c.replies.own) (sym c.other.ensures)
           (child_searched p c.args.mover c.replies.own c.replies.other c.in-Some.cell w.searched c.requires.apart here)),
     )
 
@@ -45,15 +44,27 @@ replies-back-requires t c =
           c.mark-mark.ensures.kept c.mark-mark.ensures.value won.2,
     )
 
+pub replies-add_stone-requires : goal.replies-add_stone-requires
+replies-add_stone-requires t c =
+    let p = c.args.board.now in
+    let w = c.replies.invariant.narrowing in
+    let won = child_won p c.place.new.self c.args.mover c.in-Some.cell (c.replies.other, c.replies.own) (c.decide.new.own, c.decide.new.other) c.in-Ok-decide.shown false c.place.ensures
+    (not-true c.in-Ok-decide.shown.by_mover c.if-not-shown.true) c.in-Ok-decide.ensures in
+    record {
+      keeps = keeps_grown p c.replies.own c.decide.new.other won.0 w.searched.keeps;
+      empty = w.but.left c.in-Some.cell c.in-Some.ensures;
+      shows = child_shows p c.args.mover c.args.own.now c.replies.own c.args.other.now c.replies.other c.decide.new.other c.decide.new.own c.replies.ways.numbers.items c.replies.ways.replies c.replies.ways.union c.in-Some.cell
+          c.in-Ok-decide.shown.carrier c.in-Ok-decide.shown.line w won;
+    }
+
 pub replies-returns-then-not-shown : goal.replies-returns-then-not-shown
 replies-returns-then-not-shown t c =
     let p = c.args.board.now in
     let won = child_won p c.place.new.self c.args.mover c.in-Some.cell (c.replies.other, c.replies.own) (c.decide.new.own, c.decide.new.other) c.in-Ok-decide.shown false c.place.ensures
     (not-true c.in-Ok-decide.shown.by_mover c.if-not-shown.true) c.in-Ok-decide.ensures in
-    subst (λ v. IsWonBy true p c.in-Ok-add_move.line v (c.args.own.now, c.args.other.now) (c.add_move.new.self, c.back.new.self)) (sym c.with.ensures.value)
-    (mover_won p c.args.mover c.args.own.now c.replies.own c.args.other.now c.replies.other c.decide.new.other c.decide.new.own c.add_move.new.self c.back.new.self c.replies.ways.numbers.items c.replies.ways.replies
-    c.replies.ways.union c.in-Some.cell c.in-Ok-decide.shown.carrier c.in-Ok-decide.shown.line c.in-Ok-add_move.line c.mark-mark.result c.replies.invariant.narrowing c.replies.invariant.same c.mark-mark.ensures.kept
-    c.mark-mark.ensures.value won c.in-Ok-add_move.ensures.grows c.in-Ok-add_move.ensures.inside c.back.ensures)
+    mover_answer p c.args.mover c.args.own.now c.replies.own c.args.other.now c.replies.other c.decide.new.other c.decide.new.own c.add_stone.new.own c.back.new.self c.replies.ways.numbers.items c.replies.ways.replies
+    c.replies.ways.union c.in-Some.cell c.in-Ok-decide.shown.carrier c.in-Ok-decide.shown.line c.mark-mark.result c.add_stone.result c.replies.invariant.narrowing c.replies.invariant.same c.mark-mark.ensures.kept
+    c.mark-mark.ensures.value won c.add_stone.ensures c.back.ensures
 
 pub replies-replies-smaller : goal.replies-replies-smaller
 replies-replies-smaller t c =
@@ -74,5 +85,5 @@ replies-replies-preserved t c =
     record { narrowing = r.0; same = r.1 }
 
 pub replies-returns : goal.replies-returns
-replies-returns t c = other_won c.args.board.now c.args.own.now c.args.other.now c.replies.own c.replies.other c.add_ways.new.self c.replies.ways.union c.in-Ok-add_ways.line c.replies.invariant.same
-    c.replies.invariant.narrowing.grows c.in-Ok-add_ways.ensures.grows c.in-Ok-add_ways.ensures.shows
+replies-returns t c = other_answer c.args.board.now c.args.own.now c.args.other.now c.replies.own c.replies.other c.add_answers.new.other c.add_answers.result c.replies.invariant.same c.replies.invariant.narrowing.grows
+    c.add_answers.ensures

@@ -1,8 +1,15 @@
-use Rattle.std.proofs.Common.{sym, subst, arith}
+use Rattle.std.proofs.Common.{sym, ◌∙◌, subst, arith}
 use Rattle.std.proofs.lemmas.List.{with_items_is}
 use Rattle.tree_words.specs.Closing.{IsClosed}
+use Rattle.tree_words.specs.Opening.{AreOpening}
+use Rattle.tree_words.proofs.NewBlocks.OpeningTold.{opening-are}
 use Rattle.seq_search.proofs.Searches.{searched-closed}
 use Rattle.seq_search.proofs.search.plain_search.Goals as goal
+
+pub make_walks-requires : goal.make_walks-requires
+make_walks-requires c =
+    let s = c.args.shape.now in
+    subst (AreOpening s) (sym (c.deref_mut.ensures.value ∙ c.in_ok-words.ensures)) (opening-are s c.board-board.ensures.setting)
 
 pub of-requires : goal.of-requires
 of-requires c =

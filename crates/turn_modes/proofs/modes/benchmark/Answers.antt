@@ -10,6 +10,6 @@ returns-clause-benchmarked g c =
     let p = c.bench_position-position.result in
     let is = c.bench_position-position.ensures.is in
     let size = bench_size o p is c.bench_position-position.ensures.size in
-    let says = benchmark_says o c.in-Ok.turn p.stones c.deref.result.now c.in-Ok-bench_text.text.items (bench_turn o p c.in-Ok.turn is c.in-Ok.ensures) is.stones size c.deref.ensures.value c.in-Ok-bench_text.ensures in
+    let says = benchmark_says o c.in_ok-turn.turn p.stones c.deref.result.now c.in_ok-text.text.items (bench_turn o p c.in_ok-turn.turn is c.in_ok-turn.ensures) is.stones size c.deref.ensures.value c.in_ok-text.ensures in
     handed_as (IsBenchmark o) (g.L.Link.told c.devices.inside.link.now) (g.L.Link.told c.hand_over.new.link) _ _ (g.A.Archive.told c.devices.inside.archive.now) (g.A.Archive.told c.hand_over.new.archive) _ _
-    c.in-Ok.turn c.deref.result.now c.hand_over.result (search rules) (search rules) (search rules) (search rules) says c.hand_over.ensures.hands
+    c.in_ok-turn.turn c.deref.result.now c.hand_over.result (search rules) (search rules) (search rules) (search rules) says c.hand_over.ensures.hands

@@ -7,6 +7,6 @@ use Rattle.turn_modes.proofs.modes.simulation.Goals as goal
 pub returns-clause-simulated : goal.returns-clause-simulated
 returns-clause-simulated g c =
     let o = c.args.options.now in
-    let says = simulation_says o c.in-Ok.turn c.deref.result.now c.in-Ok-sim_text.text.items c.in-Ok.ensures.turn c.deref.ensures.value c.in-Ok-sim_text.ensures in
+    let says = simulation_says o c.in_ok-turn.turn c.deref.result.now c.in_ok-text.text.items c.in_ok-turn.ensures.turn c.deref.ensures.value c.in_ok-text.ensures in
     handed_as (λ turn text. IsSimulation o turn text × FollowsSchedule o turn) (g.L.Link.told c.devices.inside.link.now) (g.L.Link.told c.hand_over.new.link) _ _ (g.A.Archive.told c.devices.inside.archive.now) (g.A.Archive.told c.hand_over.new.archive) _ _
-    c.in-Ok.turn c.deref.result.now c.hand_over.result (search rules) (search rules) (search rules) (search rules) (says, c.in-Ok.ensures.scheduled) c.hand_over.ensures.hands
+    c.in_ok-turn.turn c.deref.result.now c.hand_over.result (search rules) (search rules) (search rules) (search rules) (says, c.in_ok-turn.ensures.scheduled) c.hand_over.ensures.hands

@@ -1,0 +1,70 @@
+//! The modes that answer their whole input by one text.
+
+ghost use Rattle.hex_devices.specs.Devices.{CountsStop};
+ghost use Rattle.hex_cli.specs.WholeInputs.{IsTextOf};
+ghost use Rattle.hex_cli.specs.Modes.{AnswersBy};
+ghost use Rattle.hex_cli.specs.Runs.{IsUnarchived, IsUnfetched};
+ghost use Rattle.hex_devices.specs.Statuses.{stop_in};
+ghost use Rattle.hex_cli.specs.declared.limits.TheConstants.{INPUT_LIMIT};
+
+use crate::audits::audit_traces;
+use crate::certificates::{check_certificate, migrate_certificate};
+use crate::limits::INPUT_LIMIT;
+use crate::solutions::solve_record;
+use hex_devices::{Devices, End, InputAnswer, InputReader, answer_input};
+use hex_io::{Link, Shelf};
+use hex_plan::Archive;
+use search_team::Gate;
+use std::alloc::{AllocError, Global};
+use std::thread::Threads;
+
+/// What is done with the whole input.
+#[derive(Clone, Copy, Debug, PartialEq, Eq)]
+pub enum InputMode {
+    /// It is checked as a certificate.
+    Check,
+    /// It is written as a certificate of the latest version.
+    Migrate,
+    /// It is audited as traces of closed trees.
+    Audit,
+    /// It is read as the record of a game, and solved.
+    Solve {
+        /// Whether connections are looked for.
+        hsearch: bool,
+        /// How many positions the solver may enter.
+        budget: u64,
+    },
+}
+
+impl InputReader for InputMode {
+    ghost answers = { λ mode. IsTextOf mode };
+
+    ghost most = { λ mode. INPUT_LIMIT };
+
+    fn answer(&self, alloc: Global, input: &[u8]) -> Result<InputAnswer, AllocError> {
+        match self {
+            InputMode::Check => check_certificate(alloc, input),
+            InputMode::Migrate => migrate_certificate(alloc, input),
+            InputMode::Audit => audit_traces(alloc, input),
+            InputMode::Solve { hsearch, budget } => {
+                solve_record(alloc, *hsearch, *budget, input)
+            }
+        }
+    }
+}
+
+/// Takes the whole input of the link, and gives the text that answers it.
+pub fn serve_input<L: Link, F: Shelf, A: Archive, R: Threads + Sync, G: Gate + Sync>(
+    alloc: Global,
+    mode: InputMode,
+    devices: &mut Devices<'_, '_, '_, '_, L, F, A, R, G>,
+) -> End
+    ensures answers { AnswersBy (IsTextOf mode) result
+        devices.old devices.new }
+    ensures unfetched { IsUnfetched devices.old devices.new }
+    ensures unarchived { IsUnarchived devices.old devices.new }
+    ensures counts { CountsStop devices.old devices.new (stop_in result) }
+{
+    let answer = answer_input(alloc, &mut *devices.link, &mode, INPUT_LIMIT);
+    End::of_answer(answer)
+}
