@@ -2,10 +2,10 @@
 //!
 //! **Nouns.** *First* of a position is the player who is told to win by trying each move, *need* is
 //! how many positions a search enters that tries the cells in rising order, and *bound* is the most
-//! that it can be with so many empty cells. A *ledger* has the lines of a player's certificate while
-//! a search goes on, and what is *known* of them: an entry that a line gave stands at each position
-//! with the same stones of the player on which its carrier is empty. A *reply* is a cell on which a
-//! stone isn't answered yet by such lines.
+//! that it can be with so many empty cells. A *ledger* has the lines of a player's certificate
+//! while a search goes on, and what is *known* of them: an entry that a line gave stands at each
+//! position with the same stones of the player on which its carrier is empty. A *reply* is a cell
+//! on which a stone isn't answered yet by such lines.
 //!
 //! **A caller** asks [`solve`] and takes its [`Solved`] apart:
 //!
