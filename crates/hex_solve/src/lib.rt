@@ -2,10 +2,10 @@
 //!
 //! **Nouns.** *First* of a position is the player who is told to win by trying each move, *need* is
 //! how many positions a search enters that tries the cells in rising order, and *bound* is the most
-//! that it can be with so many empty cells. A *ledger* is what is kept of a player's certificate
-//! while a search goes on, and what is kept in mind of them: what is *known* of a line stands at each
-//! position with the same stones of the player on which its carrier is empty. A *reply* is a cell on
-//! which a stone isn't answered yet by such lines.
+//! that it can be with so many empty cells. A *ledger* has the lines of a player's certificate
+//! while a search goes on, and what is *known* of them: an entry that a line gave stands at each
+//! position with the same stones of the player on which its carrier is empty. A *reply* is a cell
+//! on which a stone isn't answered yet by such lines.
 //!
 //! **A caller** asks [`solve`] and takes its [`Solved`] apart:
 //!
@@ -23,8 +23,8 @@
 //!
 //! **What is only tested, or not said.** That calls get their memory; the time. That connections
 //! make the search shorter, beyond a semi entry between the mover's edges at the root; the search
-//! with them tells a winner or nothing, and no clause says what it enters, nor that what is known is
-//! found. That a full board has a winner: [`Solved::Open`] would show one that has none.
+//! with them tells a winner or nothing, and no clause says what it enters, nor that what is known
+//! is found. That a full board has a winner: [`Solved::Open`] would show one that has none.
 //!
 //! **Limits.** Those of `win_cert`: a certificate has at most 200,000 lines. A position has two
 //! ledgers of at most so many, with connections of at most 750,000.
