@@ -22,6 +22,9 @@ use hsearch::connect;
 use std::alloc::{AllocError, Global};
 use win_cert::edge_numbers;
 
+// Before threats are cut it is looked which cells so many known lines leave.
+const MOST_KNOWN: u32 = 8;
+
 /// The lines of the other player's ledger that answer the mover's stones on a position.
 #[derive(Drop)]
 pub(crate) struct Ways {
@@ -112,7 +115,8 @@ fn cut_threats(alloc: Global, board: &Board, other: &mut Ledger) -> Result<Ways,
     };
     let store = report.store();
     let semi = edge_numbers(store, Kind::Semi);
-    let Ok(chosen) = chosen_of(alloc, board, store, &semi) else {
+    let open = left_by_known(board, other);
+    let Ok(chosen) = chosen_of(alloc, board, store, &semi, open) else {
         return Err(Stop::Memory);
     };
     match other.add_cuts(alloc, board, store, &chosen.numbers) {
@@ -120,6 +124,19 @@ fn cut_threats(alloc: Global, board: &Board, other: &mut Ledger) -> Result<Ways,
         Ok(None) => Err(Stop::Spent),
         Err(_) => Err(Stop::Memory),
     }
+}
+
+// The empty cells that are in the carriers of some lines that are known to win the board: of those
+// which leave fewest, one after another. Nothing rests on it.
+fn left_by_known(board: &Board, other: &Ledger) -> CellSet {
+    let mut cells = board.empties();
+    'known: for _line in 0..MOST_KNOWN {
+        let Some(known) = other.recall(board, Kind::Semi, cells) else {
+            return cells;
+        };
+        cells = cells.meet(known.carrier);
+    }
+    cells
 }
 
 // The entries that were chosen, with these numbers of their lines, which are kept in mind.
@@ -184,9 +201,15 @@ fn narrowed(board: &Board, other: &Ledger, found: Ways) -> Result<Ways, Stop>
     }
 }
 
-// The entries that are taken as threats: each time that which leaves fewest replies, as long as one
-// takes some away; and the replies that they leave.
-fn chosen_of(alloc: Global, board: &Board, store: &Store, semi: &Held) -> Result<Chosen, AllocError>
+// The entries that are taken as threats: each time that which leaves fewest of the open cells, as
+// long as one takes some away; and the replies that they leave.
+fn chosen_of(
+    alloc: Global,
+    board: &Board,
+    store: &Store,
+    semi: &Held,
+    open: CellSet,
+) -> Result<Chosen, AllocError>
     requires few { semi.now.count ≤ 6 }
     requires numbers { AreEdgeNumbers store.now Kind.Semi semi.now }
     ensures { IfOk result (λ chosen. AreThreatsChosen board.now store.now chosen.numbers.items
@@ -202,13 +225,16 @@ fn chosen_of(alloc: Global, board: &Board, store: &Store, semi: &Held) -> Result
         return Ok(chosen);
     }
     let entries = store.entries();
+    let mut left = open;
     'threats: loop {
-        let entry = narrowest(entries, semi, chosen.replies);
+        let entry = narrowest(entries, semi, left);
         let carrier = entries[entry as usize].carrier;
         let replies = chosen.replies.meet(carrier);
-        if chosen.replies.count() <= replies.count() {
+        let fewer = left.meet(carrier);
+        if left.count() <= fewer.count() || chosen.replies.count() <= replies.count() {
             return Ok(chosen);
         }
+        left = fewer;
         chosen.numbers.push(entry)?;
         chosen.carriers.push(carrier)?;
         chosen.replies = replies;
