@@ -1,5 +1,5 @@
-//! The options of hexd, a line each. The code, the definitions of specs/Table.antt and
-//! specs/Values.antt and the tests read them here.
+//! The options of hexd, a line each. The code and the definitions of specs/Table.antt and
+//! specs/Values.antt read them here, and tools/check_install compares the documents with them.
 
 use tree_words::{LEAST_WORDS, MOST_EXPAND, MOST_PLAYOUTS, MOST_WORDS, MOST_WORKERS};
 use uct_table::MOST_WEIGHT;
