@@ -1,6 +1,5 @@
 -- What a run does in each of its modes, to its end, told of what its devices tell before and after.
 use Rattle.std.specs.Prelude.{◌≡◌, ℕ, Bool, List, Result}
-use Rattle.tree_words.specs.declared.settings.Knobs.{Knobs}
 use Rattle.hexd_args.specs.declared.settings.Options.{Options}
 use Rattle.hex_plan.specs.Turns.{TurnData}
 use Rattle.hex_engine.specs.Supply.{Supply}
@@ -18,24 +17,13 @@ use Rattle.hex_cli.specs.declared.limits.TheConstants.{INPUT_LIMIT}
 
 -- ---- what the words' options say
 
--- the knobs of a search
-abbrev pub knobs_of : Options → Knobs
-knobs_of o = record {
-  workers = o.workers;
-  playouts = o.playouts;
-  seed = o.seed;
-  words = o.words;
-  expand = o.expand;
-  weight = o.weight;
-}
-
 -- the engine's options
 abbrev pub engine_options : Options → engine.Options
-engine_options o = record { knobs = knobs_of o; hsearch = o.hsearch }
+engine_options o = record { knobs = o.knobs; hsearch = o.hsearch }
 
 -- what the modes sim and bench are told
 abbrev pub mode_options : Options → ModeOptions
-mode_options o = record { size = o.size; knobs = knobs_of o; steps = o.steps }
+mode_options o = record { size = o.size; knobs = o.knobs; steps = o.steps }
 
 -- ---- one relation for each kind of mode
 

@@ -49,12 +49,12 @@
 
 mod audits;
 mod certificates;
-mod knobs;
 mod limits;
 mod numbers;
 mod playing;
 mod serving;
 mod single_turns;
+mod sizes;
 mod solutions;
 mod top;
 mod trace_names;

@@ -1,6 +1,6 @@
 //! Mode `htp`: a session.
 
-ghost use Rattle.std.specs.Prelude.{◌≡◌, ◌^◌, ◌<◌};
+ghost use Rattle.std.specs.Prelude.{◌≡◌};
 ghost use Rattle.tree_words.specs.Settings.{AreInRange};
 ghost use Rattle.hexd_args.specs.Values as value;
 ghost use Rattle.hex_devices.specs.Devices.{CountsStop};
@@ -8,8 +8,8 @@ ghost use Rattle.hex_cli.specs.Modes.{engine_options};
 ghost use Rattle.hex_cli.specs.Playing.{HasGoodTurns};
 ghost use Rattle.hex_devices.specs.Statuses.{stop_in};
 
-use crate::knobs::{board_size, knobs_of};
 use crate::limits::INPUT_LIMIT;
+use crate::sizes::board_size;
 use hex_devices::{Devices, End};
 use hex_io::{Link, Shelf};
 use hex_plan::Archive;
@@ -26,7 +26,6 @@ pub fn play<L: Link, F: Shelf, A: Archive, R: Threads + Sync, G: Gate + Sync>(
     devices: &mut Devices<'_, '_, '_, '_, L, F, A, R, G>,
 ) -> End
     requires ranges { value.OptionsInRange options.now }
-    requires seed { options.now.seed < 2 ^ 64 }
     ensures plays { HasGoodTurns options.now result
         devices.old devices.new }
     ensures counts { CountsStop devices.old devices.new (stop_in result) }
@@ -44,12 +43,11 @@ pub fn play<L: Link, F: Shelf, A: Archive, R: Threads + Sync, G: Gate + Sync>(
 /// The engine's options.
 fn engine_options(options: &Options) -> hex_engine::Options
     requires ranges { value.OptionsInRange options.now }
-    requires seed { options.now.seed < 2 ^ 64 }
     ensures value { result ≡ engine_options options.now }
     ensures ranges { AreInRange result.knobs }
 {
     hex_engine::Options {
-        knobs: knobs_of(options),
+        knobs: options.knobs,
         hsearch: options.hsearch,
     }
 }

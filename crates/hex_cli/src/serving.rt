@@ -53,7 +53,6 @@ fn in_mode<L: Link, F: Shelf, A: Archive, R: Threads + Sync, G: Gate + Sync>(
     devices: &mut Devices<'_, '_, '_, '_, L, F, A, R, G>,
 ) -> End
     requires ranges { value.OptionsInRange options.now }
-    requires seed { options.now.seed < 2 ^ 64 }
     ensures does { ServesIn options.now.mode options.now result
         devices.old devices.new }
     ensures idle { StandsIdleIn options.now.mode devices.old devices.new }

@@ -1,6 +1,6 @@
 //! Modes `sim` and `bench`: one turn, and the text that says it.
 
-ghost use Rattle.std.specs.Prelude.{◌≡◌, ◌^◌, ◌<◌};
+ghost use Rattle.std.specs.Prelude.{◌≡◌};
 ghost use Rattle.tree_words.specs.Settings.{AreInRange};
 ghost use Rattle.hexd_args.specs.Values as value;
 ghost use Rattle.hex_devices.specs.Devices.{CountsStop};
@@ -9,7 +9,7 @@ ghost use Rattle.hex_cli.specs.Modes.{HandsInBy, mode_options};
 ghost use Rattle.hex_cli.specs.Runs.{IsUnfetched};
 ghost use Rattle.hex_devices.specs.Statuses.{stop_in};
 
-use crate::knobs::{board_size, knobs_of};
+use crate::sizes::board_size;
 use hex_devices::{Devices, End};
 use hex_io::{Link, Shelf};
 use hex_plan::Archive;
@@ -26,7 +26,6 @@ pub fn simulate<L: Link, F: Shelf, A: Archive, R: Threads + Sync, G: Gate + Sync
     devices: &mut Devices<'_, '_, '_, '_, L, F, A, R, G>,
 ) -> End
     requires ranges { value.OptionsInRange options.now }
-    requires seed { options.now.seed < 2 ^ 64 }
     ensures hands { HandsInBy IsSimulation options.now result
         devices.old devices.new }
     ensures unfetched { IsUnfetched devices.old devices.new }
@@ -44,7 +43,6 @@ pub fn bench<L: Link, F: Shelf, A: Archive, R: Threads + Sync, G: Gate + Sync>(
     devices: &mut Devices<'_, '_, '_, '_, L, F, A, R, G>,
 ) -> End
     requires ranges { value.OptionsInRange options.now }
-    requires seed { options.now.seed < 2 ^ 64 }
     ensures hands { HandsInBy IsBenchmark options.now result
         devices.old devices.new }
     ensures unfetched { IsUnfetched devices.old devices.new }
@@ -58,13 +56,12 @@ pub fn bench<L: Link, F: Shelf, A: Archive, R: Threads + Sync, G: Gate + Sync>(
 /// What the modes are told.
 fn mode_options(options: &Options) -> ModeOptions
     requires ranges { value.OptionsInRange options.now }
-    requires seed { options.now.seed < 2 ^ 64 }
     ensures value { result ≡ mode_options options.now }
     ensures ranges { AreInRange result.knobs }
 {
     ModeOptions {
         size: board_size(options.size),
-        knobs: knobs_of(options),
+        knobs: options.knobs,
         steps: options.steps,
     }
 }

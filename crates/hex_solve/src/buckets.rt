@@ -15,12 +15,17 @@ const NOWHERE: u32 = u32::MAX;
 // At most so many places of a bucket are looked at.
 const MOST_STEPS: usize = 64;
 
+// The odd number next to 2^64 by the golden ratio, the factor of Fibonacci hashing: it spreads the
+// low half of a scope over the high bits.
 const LOW_FACTOR: u64 = 0x9E37_79B9_7F4A_7C15;
 
+// A large prime, another factor for the high half (the second of xxHash's 64-bit primes).
 const HIGH_FACTOR: u64 = 0xC2B2_AE3D_27D4_EB4F;
 
+// A scope's low half has as many bits; the rest is its high half.
 const HIGH_BITS: u32 = 64;
 
+// Of 64 mixed bits the highest 15 number the bucket, since there are 2^15.
 const BUCKET_SHIFT: u32 = 49;
 
 /// Makes the buckets, where there are none.

@@ -13,8 +13,8 @@ use hex_cells::CellSet;
 use std::alloc::AllocError;
 
 impl Ledger {
-    /// Keeps in mind that this line shows that the player wins the board, inside the carrier: as
-    /// many as a ledger may have lines.
+    /// Keeps in mind that this line shows that the player wins the board, inside the carrier. Of at
+    /// most as many lines as a ledger may have: beyond that nothing more is kept.
     pub fn remember(
         &mut self,
         board: &Board,

@@ -15,6 +15,6 @@ pub(crate) struct Known {
     pub scope: CellSet,
     pub carrier: CellSet,
     pub line: u32,
-    /// The place of the one before in its bucket. No clause speaks of it.
+    /// The place of the one before in its bucket, or that where nothing is. No clause speaks of it.
     pub before: u32,
 }

@@ -26,7 +26,7 @@
 //! with them tells a winner or nothing, and no clause says what it enters, nor that what is known
 //! is found. That a full board has a winner: [`Solved::Open`] would show one that has none.
 //!
-//! **Limits.** Those of `win_cert`: a certificate has at most 200,000 lines. A position has two
+//! **Limits.** Those of `win_cert`: a certificate has at most 200,000 lines. A search has two
 //! ledgers of at most so many, with connections of at most 750,000.
 #![tactic(auto)]
 

@@ -4,7 +4,8 @@ ghost use Rattle.std.specs.Prelude.{◌≡◌, ◌≢◌, ◌↔◌, IfOk, IfSom
 ghost use Rattle.std.specs.Prelude.{option_map};
 ghost use Rattle.clap.specs.Words.{first_value, found_of};
 ghost use Rattle.hexd_args.specs.Reading.{WellFormed};
-ghost use Rattle.hexd_args.specs.Values.{OptionsInRange, AreOptions};
+ghost use Rattle.tree_words.specs.declared.settings.Knobs.{Knobs};
+ghost use Rattle.hexd_args.specs.Values.{OptionsInRange, AreKnobs, AreOptions};
 ghost use Rattle.hexd_args.specs.declared.settings.Options.{Options};
 
 use crate::command::command;
@@ -15,8 +16,9 @@ use crate::table::{
 use crate::{Memory, Options};
 use clap::ArgMatches;
 use hex_io::Word;
-use option_words::{find, number, small_number, switch};
+use option_words::{find, found_long_number, found_number, switch};
 use std::alloc::Global;
+use tree_words::Knobs;
 
 /// The options that the words ask for; none exactly where the words are not well formed.
 pub fn read_words(alloc: Global, words: &[Word]) -> Result<Option<Options>, Memory>
@@ -70,16 +72,26 @@ fn with_trace(matches: &ArgMatches<'_>, trace: Option<Word>) -> Option<Options>
 {
     Some(Options {
         mode: mode(matches.get_str("word"))?,
-        size: small_number(matches.get_str(SIZE.0), SIZE.2, SIZE.3)?,
-        workers: small_number(matches.get_str(WORKERS.0), WORKERS.2, WORKERS.3)?,
-        playouts: small_number(matches.get_str(PLAYOUTS.0), PLAYOUTS.2, PLAYOUTS.3)?,
-        seed: number(matches.get_str(SEED.0), SEED.2, SEED.3)?,
-        words: small_number(matches.get_str(WORDS.0), WORDS.2, WORDS.3)?,
-        expand: small_number(matches.get_str(EXPAND.0), EXPAND.2, EXPAND.3)?,
-        weight: small_number(matches.get_str(WEIGHT.0), WEIGHT.2, WEIGHT.3)?,
+        size: found_number(matches, SIZE)?,
+        knobs: knobs(matches)?,
         hsearch: switch(matches.get_str(HSEARCH.0))?,
-        steps: small_number(matches.get_str(STEPS.0), STEPS.2, STEPS.3)?,
-        budget: number(matches.get_str(BUDGET.0), BUDGET.2, BUDGET.3)?,
+        steps: found_number(matches, STEPS)?,
+        budget: found_long_number(matches, BUDGET)?,
         trace,
+    })
+}
+
+// The knobs of a search; none where a value is not as its option wants it.
+fn knobs(matches: &ArgMatches<'_>) -> Option<Knobs>
+    ensures { (k : Knobs)
+        → (result ≡ Some k) ↔ AreKnobs (first_value (found_of matches.now)) k }
+{
+    Some(Knobs {
+        workers: found_number(matches, WORKERS)?,
+        playouts: found_number(matches, PLAYOUTS)?,
+        seed: found_long_number(matches, SEED)?,
+        words: found_number(matches, WORDS)?,
+        expand: found_number(matches, EXPAND)?,
+        weight: found_number(matches, WEIGHT)?,
     })
 }

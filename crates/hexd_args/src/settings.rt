@@ -1,6 +1,7 @@
 //! What a command line asks for.
 
 use hex_io::Word;
+use tree_words::Knobs;
 
 /// What the program does.
 #[derive(Clone, Copy, Debug, PartialEq, Eq)]
@@ -30,18 +31,12 @@ pub struct Options {
     pub mode: Mode,
     /// `--size`: cells on a side of the first board, 1 to 11, by default 11.
     pub size: u32,
-    /// `--workers`: how many workers search, 1 to 64, by default 1.
-    pub workers: u32,
-    /// `--playouts`: how many playouts a search makes, 1 to 1,000,000, by default 10,000.
-    pub playouts: u32,
-    /// `--seed`: where the random numbers begin, any number of 64 bits, by default 0.
-    pub seed: u64,
-    /// `--words`: room of the search tree in words, 1,024 to 16,777,216, by default 4,194,304.
-    pub words: u32,
-    /// `--expand`: visits at which a node gets its children, 1 to 1,000, by default 8.
-    pub expand: u32,
-    /// `--weight`: how much exploration weighs, 0 to 1,024, by default 180.
-    pub weight: u32,
+    /// What a search is told: `--workers`, 1 to 64, by default 1; `--playouts`, 1 to 1,000,000, by
+    /// default 10,000; `--seed`, where the random numbers begin, any number of 64 bits, by default
+    /// 0; `--words`, the room of its tree in words, 1,024 to 16,777,216, by default 4,194,304;
+    /// `--expand`, the visits at which a node gets its children, 1 to 1,000, by default 8; and
+    /// `--weight`, how much exploration weighs, 0 to 1,024, by default 180.
+    pub knobs: Knobs,
     /// `--hsearch`: whether connections are searched for, `on` or `off`, by default `on`.
     pub hsearch: bool,
     /// `--steps`: how many steps the schedule of a simulation has, 0 to 1,000,000, by default

@@ -3,6 +3,7 @@ use Rattle.std.specs.Prelude.{false, [], ◌∷◌, ◌++◌}
 use Rattle.clap.specs.Words.{App, with_rule}
 use Rattle.option_words.specs.Command.{plain_app, with_options, word_rule}
 use Rattle.option_words.specs.Grammar.{Form, OptionTable}
+use Rattle.option_words.specs.Values.{TextBytes}
 use Rattle.match_ref.specs.declared.table.TheConstants.{SIZE, GAMES, THREADS, SEED, RECORDS}
 use Rattle.match_ref.specs.declared.table.TheConstants.{PLAYOUTS, WORDS, EXPAND, WEIGHT}
 
@@ -15,17 +16,15 @@ match_table = (SIZE.0.now, SIZE.1.now ∷ [])
     ∷ (RECORDS.0.now, RECORDS.1.now ∷ [])
     ∷ []
 
--- the options of the sides: each has two names, that of side a and that of side b, and one default
+-- an option of the sides: its name for side a, that for side b, and one default
+abbrev pub both_sides : (a b default : TextBytes) → OptionTable
+both_sides a b default = (a, default ∷ []) ∷ (b, default ∷ []) ∷ []
+
 abbrev pub side_table : OptionTable
-side_table = (PLAYOUTS.0.now, PLAYOUTS.2.now ∷ [])
-    ∷ (PLAYOUTS.1.now, PLAYOUTS.2.now ∷ [])
-    ∷ (WORDS.0.now, WORDS.2.now ∷ [])
-    ∷ (WORDS.1.now, WORDS.2.now ∷ [])
-    ∷ (EXPAND.0.now, EXPAND.2.now ∷ [])
-    ∷ (EXPAND.1.now, EXPAND.2.now ∷ [])
-    ∷ (WEIGHT.0.now, WEIGHT.2.now ∷ [])
-    ∷ (WEIGHT.1.now, WEIGHT.2.now ∷ [])
-    ∷ []
+side_table = both_sides PLAYOUTS.0.now PLAYOUTS.1.now PLAYOUTS.2.now
+    ++ both_sides WORDS.0.now WORDS.1.now WORDS.2.now
+    ++ both_sides EXPAND.0.now EXPAND.1.now EXPAND.2.now
+    ++ both_sides WEIGHT.0.now WEIGHT.1.now WEIGHT.2.now
 
 abbrev pub match_form : Form
 match_form = record { required = false; options = match_table ++ side_table }

@@ -3,9 +3,11 @@
 ghost use Rattle.std.specs.Prelude.{◌≡◌, IfOk};
 ghost use Rattle.clap.specs.Words.{app_of};
 ghost use Rattle.option_words.specs.Command.{with_options};
-ghost use Rattle.match_ref.specs.MatchTable.{match_app, match_table, side_table};
+ghost use Rattle.match_ref.specs.MatchTable.{both_sides, match_app, match_table, side_table};
 
-use super::table::{EXPAND, GAMES, PLAYOUTS, RECORDS, SEED, SIZE, THREADS, WEIGHT, WORDS};
+use super::table::{
+    EXPAND, GAMES, PLAYOUTS, RECORDS, SEED, SIZE, SideNumber, THREADS, WEIGHT, WORDS,
+};
 use clap::Command;
 use option_words::{plain_command, with_option};
 use std::alloc::{AllocError, Global};
@@ -32,12 +34,21 @@ fn with_match<'a>(alloc: Global, command: Command<'a>) -> Result<Command<'a>, Al
 fn with_sides<'a>(alloc: Global, command: Command<'a>) -> Result<Command<'a>, AllocError>
     ensures { IfOk result (λ c. app_of c ≡ with_options (app_of command.entry) side_table) }
 {
-    let command = with_option(alloc, command, PLAYOUTS.0, PLAYOUTS.2)?;
-    let command = with_option(alloc, command, PLAYOUTS.1, PLAYOUTS.2)?;
-    let command = with_option(alloc, command, WORDS.0, WORDS.2)?;
-    let command = with_option(alloc, command, WORDS.1, WORDS.2)?;
-    let command = with_option(alloc, command, EXPAND.0, EXPAND.2)?;
-    let command = with_option(alloc, command, EXPAND.1, EXPAND.2)?;
-    let command = with_option(alloc, command, WEIGHT.0, WEIGHT.2)?;
-    with_option(alloc, command, WEIGHT.1, WEIGHT.2)
+    let command = with_both(alloc, command, PLAYOUTS)?;
+    let command = with_both(alloc, command, WORDS)?;
+    let command = with_both(alloc, command, EXPAND)?;
+    with_both(alloc, command, WEIGHT)
+}
+
+// An option of side a, and that of side b.
+fn with_both<'a>(
+    alloc: Global,
+    command: Command<'a>,
+    option: SideNumber,
+) -> Result<Command<'a>, AllocError>
+    ensures { IfOk result (λ c. app_of c ≡ with_options (app_of command.entry)
+        (both_sides option.entry.0.now option.entry.1.now option.entry.2.now)) }
+{
+    let command = with_option(alloc, command, option.0, option.2)?;
+    with_option(alloc, command, option.1, option.2)
 }

@@ -3,31 +3,25 @@
 
 use super::settings::{MOST_GAMES, MOST_THREADS};
 use hex_cells::Size;
+use option_words::{LongNumberOption, NumberOption};
 use tree_words::{LEAST_WORDS, MOST_EXPAND, MOST_PLAYOUTS, MOST_WORDS};
 use uct_table::MOST_WEIGHT;
 
-/// An option that is a number: its name, what stands for it where it is not said, and its least and
-/// its greatest number.
-type Number = (&'static str, &'static str, u32, u32);
-
-/// The same of a number of 64 bits.
-type LongNumber = (&'static str, &'static str, u64, u64);
-
-/// The same of a number that each side has: its name for side a, its name for side b, and the rest
-/// as above.
-type SideNumber = (&'static str, &'static str, &'static str, u32, u32);
+/// An option of the sides that is a number: its name for side a, that for side b, what stands for
+/// it where it is not said, and its least and its greatest number.
+pub type SideNumber = (&'static str, &'static str, &'static str, u32, u32);
 
 /// `--size`: the cells on a side of the board.
-pub const SIZE: Number = ("size", "5", 1, Size::MAX);
+pub const SIZE: NumberOption = ("size", "5", 1, Size::MAX);
 
 /// `--games`: how many games are played.
-pub const GAMES: Number = ("games", "10", 1, MOST_GAMES);
+pub const GAMES: NumberOption = ("games", "10", 1, MOST_GAMES);
 
 /// `--threads`: in how many threads.
-pub const THREADS: Number = ("threads", "1", 1, MOST_THREADS);
+pub const THREADS: NumberOption = ("threads", "1", 1, MOST_THREADS);
 
 /// `--seed`: where the random numbers begin.
-pub const SEED: LongNumber = ("seed", "0", 0, u64::MAX);
+pub const SEED: LongNumberOption = ("seed", "0", 0, u64::MAX);
 
 /// `--records`: whether the record of each game is wanted, `on` or `off`; what stands for it where
 /// it is not said.

@@ -16,7 +16,7 @@ use super::table::{EXPAND, GAMES, PLAYOUTS, RECORDS, SEED, SIZE, THREADS, WEIGHT
 use clap::ArgMatches;
 use hex_cells::Size;
 use hex_io::Word;
-use option_words::{find, number, small_number, switch};
+use option_words::{find, found_long_number, found_number, small_number, switch};
 use std::alloc::Global;
 
 /// The match that is asked for, and whether its records are.
@@ -54,9 +54,9 @@ fn said_match(found: &ArgMatches<'_>) -> Option<MatchWords>
     Some(MatchWords {
         setup: Match {
             size: board_size(found.get_str(SIZE.0))?,
-            games: small_number(found.get_str(GAMES.0), GAMES.2, GAMES.3)?,
-            threads: small_number(found.get_str(THREADS.0), THREADS.2, THREADS.3)?,
-            seed: number(found.get_str(SEED.0), SEED.2, SEED.3)?,
+            games: found_number(found, GAMES)?,
+            threads: found_number(found, THREADS)?,
+            seed: found_long_number(found, SEED)?,
             a: side(found, PLAYOUTS.0, WORDS.0, EXPAND.0, WEIGHT.0)?,
             b: side(found, PLAYOUTS.1, WORDS.1, EXPAND.1, WEIGHT.1)?,
         },

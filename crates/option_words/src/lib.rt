@@ -15,7 +15,7 @@
 //! let Some(found) = find(command, &words)? else {
 //!     return usage();
 //! };
-//! let size = small_number(found.get_str("size"), 1, 11)?;
+//! let size = found_number(&found, ("size", "11", 1, 11))?;
 //! ```
 //!
 //! **What is proved.** [`find`] finds something only where the words are a line of the form,
@@ -36,10 +36,12 @@
 
 mod command;
 mod finding;
+mod found_numbers;
 mod numbers;
 mod refusals;
 
 pub use command::{plain_command, with_bare_option, with_option};
 pub use finding::{clap_reads_lines, find};
-pub use numbers::{number, small_number, switch};
+pub use found_numbers::{LongNumberOption, NumberOption, found_long_number, found_number};
+pub use numbers::{small_number, switch};
 pub use refusals::Memory;

@@ -152,12 +152,12 @@ fn read(alloc: Global, line: &str) -> Result<Option<Options>, Memory> {
 fn numbers(options: &Options) -> [u64; 10] {
     [
         options.size as u64,
-        options.workers as u64,
-        options.playouts as u64,
-        options.seed,
-        options.words as u64,
-        options.expand as u64,
-        options.weight as u64,
+        options.knobs.workers as u64,
+        options.knobs.playouts as u64,
+        options.knobs.seed,
+        options.knobs.words as u64,
+        options.knobs.expand as u64,
+        options.knobs.weight as u64,
         options.hsearch as u64,
         options.steps as u64,
         options.budget,

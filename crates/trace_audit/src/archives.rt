@@ -50,6 +50,23 @@ impl<W: Link> TraceArchive<W> {
         let TraceArchive { link, buffer: _ } = self;
         link
     }
+
+    // Gives the link the trace of the turn.
+    fn give(&mut self, turn: &Turn) -> Result<(), ArchiveFault>
+        ensures cause { HasCause (W.write_faults self.old) (W.write_faults self.new) result }
+        ensures all { OnOk result (Gave (W.told self.old) (W.told self.new) (trace_of turn.now)) }
+        ensures proper { OnErr result
+            (GaveProperPart (W.told self.old) (W.told self.new) (trace_of turn.now)) }
+        ensures reads { W.read_faults self.new ≡ W.read_faults self.old }
+    {
+        let Some(closed) = turn.closed() else {
+            return Ok(());
+        };
+        match give_text(&mut self.link, &mut self.buffer, closed) {
+            Ok(()) => Ok(()),
+            Err(_) => Err(ArchiveFault),
+        }
+    }
 }
 
 impl<W: Link> Archive for TraceArchive<W> {
@@ -65,12 +82,6 @@ impl<W: Link> Archive for TraceArchive<W> {
             (GaveProperPart (W.told self.old) (W.told self.new) (trace_of turn)) }
         ensures reads { W.read_faults self.new ≡ W.read_faults self.old }
     {
-        let Some(closed) = turn.closed() else {
-            return Ok(());
-        };
-        match give_text(&mut self.link, &mut self.buffer, closed) {
-            Ok(()) => Ok(()),
-            Err(_) => Err(ArchiveFault),
-        }
+        self.give(&turn)
     }
 }

@@ -55,8 +55,6 @@ mod parsing;
 mod recording;
 mod refusals;
 mod sites;
-#[cfg(test)]
-mod tests;
 mod texts;
 pub mod types;
 mod word_list;

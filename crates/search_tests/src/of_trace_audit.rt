@@ -4,8 +4,6 @@ ghost use Rattle.std.specs.Prelude.{IfSome};
 ghost use Rattle.hex_board.specs.Positions.{AllEmpty};
 ghost use Rattle.tree_words.specs.Settings.{IsAny};
 
-use super::types::{Audit, Flaw};
-use super::{MOST_BYTES, TraceArchive, audit};
 use hex_board::Board;
 use hex_cells::{CellSet, Colour, Size};
 use hex_io::MemLink;
@@ -14,6 +12,8 @@ use hex_plan::{Archive, ArchiveFault, Planned, Threats, Turn};
 use seq_search::plain_search;
 use std::alloc::Global;
 use std::test::Fail;
+use trace_audit::types::{Audit, Flaw};
+use trace_audit::{MOST_BYTES, TraceArchive, audit};
 use tree_words::{Knobs, Shape};
 
 // The words of the trace behind its name: the fields, and then the tree of one playout on the empty
