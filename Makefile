@@ -12,8 +12,9 @@ words_hexd = htp
 words_hexmatch = --size 1 --games 1
 
 # What a user reads. README.md names these files as they lie here, so they keep their places.
-documents = README.md SECURITY.md docs/PROTOCOL.md docs/CERTIFICATES.md docs/TREE.md docs/PROMISES.md docs/GLOSSARY.md \
-    docs/pictures/search.png
+documents = README.md SECURITY.md docs/use/MANUAL.md docs/use/CERTIFICATES.md docs/change/TREE.md \
+    docs/trust/PROMISES.md docs/trust/GLOSSARY.md docs/use/pictures/search.png
+folders = use/pictures use trust change
 
 PREFIX = /usr/local
 bindir = $(PREFIX)/bin
@@ -58,7 +59,7 @@ install: build
 # Folders that others use too stay.
 uninstall:
 	$(foreach file,$(files),$(call remove_file,$(file)))
-	for folder in /docs/pictures /docs ''; do rmdir "$(DESTDIR)$(docdir)$$folder" || exit 0; done 2>/dev/null
+	for folder in $(folders:%=/docs/%) /docs ''; do rmdir "$(DESTDIR)$(docdir)$$folder" || exit 0; done 2>/dev/null
 
 # Where Debian has games and what belongs to its zsh.
 deb: build

@@ -109,7 +109,7 @@ class Handler(BaseHTTPRequestHandler):
             case (name,) if (name or "index.html") in self.server.files:
                 file = PAGE / (name or "index.html")
                 return file.read_bytes(), KINDS[file.suffix]
-            case ("shelf", opening) if found := re.fullmatch("([1-9]|1[01])-([a-k][1-9][0-9]?)", opening):
+            case ("openings", opening) if found := re.fullmatch("([1-9]|1[01])-([a-k][1-9][0-9]?)", opening):
                 return json.dumps(self.server.openings.winner(int(found[1]), found[2])), "application/json"
         raise Refusal(404, "there is no such file")
 

@@ -3,7 +3,7 @@
     with Engine(["hexd", "htp", "--size", "5"]) as engine:
         answer = engine.ask("genmove b")        # Answer(done=True, text="c3")
 
-It knows how lines and answers are cut (docs/PROTOCOL.md) and what a command's name is, and no rule of the game.
+It knows how lines and answers are cut (docs/use/MANUAL.md) and what a command's name is, and no rule of the game.
 """
 
 import signal

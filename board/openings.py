@@ -1,6 +1,6 @@
-"""Openings whose winner is proved: the certificates of the folder shelf/, each read and checked when it is asked for.
+"""Openings whose winner is proved: the certificates of the folder openings/, each read and checked when it is asked for.
 
-The file shelf/6-a3.cert.xz has a certificate of the board of size 6 with one stone of Black on a3, White to move. Where
+The file openings/6-a3.cert.xz has a certificate of the board of size 6 with one stone of Black on a3, White to move. Where
 there is no such file, where Python has no lzma, or where a second process doesn't accept the certificate, nothing is known.
 The board turned by half a circle is the same board, with first and second edges exchanged; so a certificate also serves for
 the opening on the opposite cell: it is turned, and the second process is given the turned one.
@@ -17,7 +17,7 @@ try:
 except ImportError:
     lzma = None
 
-SHELF = Path(__file__).resolve().parent.parent / "shelf"
+FOLDER = Path(__file__).resolve().parent.parent / "openings"
 # `hexd check` takes no more.
 MOST_BYTES = 67_108_864
 CHECK_SECONDS = 120
@@ -44,7 +44,7 @@ def turned(certificate, size):
 class Openings:
     """The proved winners of openings. Each is found once."""
 
-    def __init__(self, program, folder=SHELF):
+    def __init__(self, program, folder=FOLDER):
         self.program, self.folder = program, Path(folder)
         self.found = {}
         self.turn = threading.Lock()

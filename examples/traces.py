@@ -6,7 +6,7 @@
 For each tree in the file: the player to move, the board's size and the number of playouts, then a
 line `CELL VISITS WINS` for each child of the root, and last the main line, which goes to a child of
 most visits, of these the one with the least cell, as long as there is a block below. It checks
-nothing: docs/TREE.md says what each word holds.
+nothing: docs/change/TREE.md says what each word holds.
 """
 
 import struct

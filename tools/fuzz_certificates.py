@@ -4,8 +4,8 @@
     tools/fuzz_certificates.py [COUNT [SEED]]
 
 Both are handed the same bytes: each file of examples/certificates, each front of V1, the two long texts that
-docs/CERTIFICATES.md tells of, and COUNT changed certificates (3,000 where it isn't said), which SEED (1) determines. A
-changed one is a file of examples/certificates, or a short certificate of shelf/, after one to three changes: of a
+docs/use/CERTIFICATES.md tells of, and COUNT changed certificates (3,000 where it isn't said), which SEED (1) determines. A
+changed one is a file of examples/certificates, or a short certificate of openings/, after one to three changes: of a
 number, a vertex, a name, the head, the order of lines, or of any byte.
 
 It prints how often each answer came, with no line numbers; a text on which the two differ is kept in a file, which is
@@ -36,17 +36,17 @@ def examples():
 
 
 def shelved():
-    """The certificates of shelf/ that have few lines; none where Python has no lzma."""
+    """The certificates of openings/ that have few lines; none where Python has no lzma."""
     try:
         import lzma
     except ImportError:
         return []
-    texts = (lzma.decompress(path.read_bytes()) for path in sorted((ROOT / "shelf").glob("[345]-*.cert.xz")))
+    texts = (lzma.decompress(path.read_bytes()) for path in sorted((ROOT / "openings").glob("[345]-*.cert.xz")))
     return [text for text in texts if text.count(b"\n") <= SHORT]
 
 
 def told_texts():
-    """What docs/CERTIFICATES.md tells of without a file: the fronts of V1, and texts of many lines."""
+    """What docs/use/CERTIFICATES.md tells of without a file: the fronts of V1, and texts of many lines."""
     v1 = (ROOT / "examples" / "certificates" / "v1.cert").read_bytes()
     head = b"".join(v1.splitlines(keepends=True)[:5])
     fronts = [v1[:length] for length in range(len(v1))]

@@ -1,4 +1,4 @@
-"""The program hexd for the scripts here and in shelf/: where it is, one run of it, and a session over pipes.
+"""The program hexd for the scripts here and in openings/: where it is, one run of it, and a session over pipes.
 
 HEXD in the environment names the program; where it isn't set that is bin/hexd, which builds it where it isn't fresh.
 """

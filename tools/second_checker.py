@@ -1,5 +1,5 @@
 #!/usr/bin/env python3
-"""A second checker of Hex certificates, which goes by docs/CERTIFICATES.md: tools/second_checker.py <FILE
+"""A second checker of Hex certificates, which goes by docs/use/CERTIFICATES.md: tools/second_checker.py <FILE
 
 It shares nothing with hexd, and answers and ends as `hexd check` does: with status 0 after `yes full` or `yes semi`,
 and else with status 1. Cells and edges are places: place k is the cell with number k, and the two places behind the

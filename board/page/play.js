@@ -37,7 +37,7 @@ class Play {
     }
   }
 
-  /** After each change: what the shelf proves of an opening, the link in the address, and the page. */
+  /** After each change: what the certificates prove of an opening, the link in the address, and the page. */
   async settle() {
     keepAddress(`#${linkOf(this.game)}`);
     this.panel.opening = await this.provedOpening();
@@ -47,7 +47,7 @@ class Play {
   async provedOpening() {
     const {size, start, steps} = this.game;
     if (start.length || steps.length !== 1 || steps[0].colour !== 'b') return null;
-    const winner = JSON.parse(await request('GET', `shelf/${size}-${steps[0].move}`));
+    const winner = JSON.parse(await request('GET', `openings/${size}-${steps[0].move}`));
     return winner && {vertex: steps[0].move, winner: winner[0]};
   }
 

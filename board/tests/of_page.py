@@ -12,7 +12,7 @@ from selenium.webdriver.common.keys import Keys
 from tests.browser import NARROW, WIDE, Browser
 from tests.support import LIMIT_SECONDS, ROOT, Server, until
 
-SHELF = ROOT / "shelf"
+FOLDER = ROOT / "openings"
 # White wins with a certificate: README.md has this game.
 CERTIFIED = "5,c2,c3,d3"
 # White has two moves that do not lose at once.
@@ -225,7 +225,7 @@ class Thoughts(Pages):
 
     def test_a_proved_opening(self):
         browser = self.start("5,a1")
-        said = (SHELF / "5-a1.cert.xz").exists()
+        said = (FOLDER / "5-a1.cert.xz").exists()
         self.soon(said, lambda: bool(browser.all("#words .proved")))
         if said:
             self.soon("Proved: after Black's a1 White wins; a swap gives the win away.", self.words("#words .proved"))

@@ -89,7 +89,7 @@ class Requests(unittest.TestCase):
         self.refused(404, self.server.request("DELETE", "session/none"))
         for path in ("none", f"session/{name}", f"session/{name}/other", "session/", f"session/{name}/htp/x"):
             self.refused(404, self.server.post(path, b"name"))
-        for path in ("none.js", "../serve.py", "..%2fserve.py", "session", "page/board.js", "shelf/12-a1", "shelf/../x"):
+        for path in ("none.js", "../serve.py", "..%2fserve.py", "session", "page/board.js", "openings/12-a1", "openings/../x"):
             self.refused(404, self.server.request("GET", path))
         self.assertEqual(200, self.server.request("DELETE", f"session/{name}")[0])
         self.refused(404, self.server.post(f"session/{name}/htp", b"name"))

@@ -202,7 +202,7 @@ def main():
     single = [rows_fault(), seed_fault(), trace_fault(), lists_fault()]
     faults = [fault for fault in single if fault] + [*same_faults(), *stream_faults(), *ending_faults()]
     for fault in faults:
-        print(f"tools/check_gtp: {fault}")
+        print(f"gtp/test.py: {fault}")
     return 1 if faults else 0
 
 

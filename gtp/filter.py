@@ -3,7 +3,7 @@
 
     bin/hexd-gtp [WORD..]
 
-It runs `bin/hexd htp WORD..` and hands it each line as it came, but for the commands of tools/gtp_commands.py: these it
+It runs `bin/hexd htp WORD..` and hands it each line as it came, but for the commands of gtp/commands.py: these it
 answers itself, by what hexd answers. It ends when hexd does, with hexd's status, and else with 3 where its input can't be
 read and 4 where its output can't be written.
 """
@@ -12,8 +12,10 @@ import os
 import select
 import signal
 import sys
+from pathlib import Path
 
-from gtp_commands import OWN, Refused, Request, Session, is_number
+sys.path.insert(0, str(Path(__file__).resolve().parent.parent / "tools"))
+from commands import OWN, Refused, Request, Session, is_number
 from programs import HexdEnded
 
 # hexd answers a line of more bytes `line too long`, whatever it holds.

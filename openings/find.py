@@ -1,15 +1,15 @@
 #!/usr/bin/env python3
-"""Finds certificates of openings by asking hexd: shelf/find.py [--out FOLDER] [--seconds N] NAME..
+"""Finds certificates of openings by asking hexd: openings/find.py [--out FOLDER] [--seconds N] NAME..
 
 A NAME is that of an opening, as `6-a3`, or a size, which stands for all its openings up to the half turn of the board.
-Each certificate is written to FOLDER (this shelf, where it isn't said) as NAME.cert.xz, once `hexd check` has accepted
+Each certificate is written to FOLDER (this one by default) as NAME.cert.xz, once `hexd check` has accepted
 it. An opening whose file is there is passed over, so the same command goes on where it was ended. An opening that takes
 longer than N seconds is left open; without N there is no end to it.
 
 It is one process that asks one session of `hexd htp`. Every ten seconds a line on standard error says how far it is:
 the positions that hexd was asked, the seconds, and how many positions the search takes to be still needed for White to
 win the opening, and for Black. Ctrl-C ends it after the question at hand. It ends with 0 where each opening that was
-named has its certificate, else with 1, and after Ctrl-C with 130. `shelf/find.py --list SIZE` prints the openings.
+named has its certificate, else with 1, and after Ctrl-C with 130. `openings/find.py --list SIZE` prints the openings.
 
 HEXD names the program; where it isn't set that is bin/hexd. Nothing here is proved: what it writes is, by its checker.
 """
@@ -22,11 +22,11 @@ from pathlib import Path
 
 from assembly import MOST_LINES, certificate
 from grids import Grid
-from openings import ENDING, KINDS, SHELF, can_unpack, opening_named, openings_of
+from openings import ENDING, FOLDER, KINDS, can_unpack, opening_named, openings_of
 from search import Position, Search
 from sessions import COLOURS, Session
 
-sys.path.insert(0, str(SHELF.parent / "tools"))
+sys.path.insert(0, str(FOLDER.parent / "tools"))
 from programs import checked
 
 PROGRESS_SECONDS = 10
@@ -112,7 +112,7 @@ def named(word):
 
 def arguments():
     parser = argparse.ArgumentParser(description=__doc__.split("\n\n")[0], epilog="Its first lines tell more.")
-    parser.add_argument("--out", metavar="FOLDER", type=Path, default=SHELF, help="where certificates are kept")
+    parser.add_argument("--out", metavar="FOLDER", type=Path, default=FOLDER, help="where certificates are kept")
     parser.add_argument("--seconds", metavar="N", type=float, help="how long an opening may take")
     parser.add_argument("--list", action="store_true", help="print the openings that are named, and find nothing")
     parser.add_argument("names", metavar="NAME", type=named, nargs="+", help="an opening, as 6-a3, or a size")
@@ -127,7 +127,7 @@ def main():
         print(*words.openings, sep="\n")
         return 0
     if not can_unpack():
-        print("shelf/find.py: this python3 has no lzma, which compresses certificates", file=sys.stderr)
+        print("openings/find.py: this python3 has no lzma, which compresses certificates", file=sys.stderr)
         return 1
     words.out.mkdir(parents=True, exist_ok=True)
     sys.setrecursionlimit(DEPTH)

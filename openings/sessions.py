@@ -4,9 +4,9 @@ import sys
 from typing import NamedTuple
 
 from grids import members
-from openings import SHELF
+from openings import FOLDER
 
-sys.path.insert(0, str(SHELF.parent / "tools"))
+sys.path.insert(0, str(FOLDER.parent / "tools"))
 from programs import Hexd
 
 COLOURS = ("black", "white")

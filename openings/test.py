@@ -1,11 +1,11 @@
 #!/usr/bin/env python3
-"""What the shelf's checkers have to refuse, and find.py has to find: shelf/test.py says nothing where they do.
+"""What the checkers have to refuse, and find.py has to find: openings/test.py says nothing where they do.
 
 Of each certificate of sizes 3 to 5, these are refused by `hexd check` and by tools/second_checker.py alike: two lines
 swapped of which one names the other, the other player, the other claim, and the last derivation line cut off; of those
-of size 3 also each other line cut off. shelf/check refuses each file of size 3 under the names of the other openings, a
+of size 3 also each other line cut off. openings/check refuses each file of size 3 under the names of the other openings, a
 true certificate with a claim that is not the opening's, a file with a byte changed, and an opening that is missing.
-find.py makes size 3 anew, shelf/check accepts what it makes, and a second start finds nothing left to do.
+find.py makes size 3 anew, openings/check accepts what it makes, and a second start finds nothing left to do.
 
 HEXD names the program; where it isn't set that is bin/hexd.
 """
@@ -17,9 +17,9 @@ import sys
 import tempfile
 from pathlib import Path
 
-from openings import ENDING, SHELF, listed, text_of
+from openings import ENDING, FOLDER, listed, text_of
 
-sys.path.insert(0, str(SHELF.parent / "tools"))
+sys.path.insert(0, str(FOLDER.parent / "tools"))
 import second_checker
 from programs import checked
 
@@ -82,13 +82,13 @@ def expect_refusals():
     for opening, entry in listed().items():
         if opening.size > 5:
             continue
-        lines = text_of(SHELF / f"{opening}{ENDING}").decode().removesuffix("\n").split("\n")
+        lines = text_of(FOLDER / f"{opening}{ENDING}").decode().removesuffix("\n").split("\n")
         for what, wrong in wrong_certificates(opening, entry.winner, lines):
             expect_refused("\n".join(wrong) + "\n", f"{opening} with {what}")
 
 
-def shelf_check(*words, folder=SHELF):
-    """The status of shelf/check, and its lines."""
+def openings_check(*words, folder=FOLDER):
+    """The status of openings/check, and its lines."""
     done = subprocess.run([folder / "check", *words], capture_output=True, text=True)
     return done.returncode, done.stdout.splitlines()
 
@@ -101,8 +101,8 @@ def expect_other_names(folder):
         place.mkdir()
         for other in small:
             if other != opening:
-                shutil.copy(SHELF / f"{opening}{ENDING}", place / f"{other}{ENDING}")
-        status, said = shelf_check(*sorted(place.iterdir()))
+                shutil.copy(FOLDER / f"{opening}{ENDING}", place / f"{other}{ENDING}")
+        status, said = openings_check(*sorted(place.iterdir()))
         expect(status == 1 and said[-1] == f"0 accepted, {len(small) - 1} refused", f"{opening} renamed: {said}")
 
 
@@ -111,28 +111,28 @@ def expect_other_claim(folder):
     path = folder / "3-b2.cert"
     path.write_text(BLACK_TO_MOVE)
     expect(second_checker.answer(BLACK_TO_MOVE.encode()) == "yes semi", "Black to move is not accepted")
-    status, said = shelf_check(path)
+    status, said = openings_check(path)
     expect(status == 1 and said[-1] == "0 accepted, 1 refused", f"Black to move, as a proof of 3-b2: {said}")
 
 
 def expect_whole_files(folder):
     """A file of the list that is missing, and one with a byte changed."""
-    copied = folder / "shelf"
+    copied = folder / "openings"
     copied.mkdir()
-    for path in [SHELF / "check", *SHELF.glob("*.py"), *SHELF.glob("*.tsv"), *SHELF.glob("3-*")]:
+    for path in [FOLDER / "check", *FOLDER.glob("*.py"), *FOLDER.glob("*.tsv"), *FOLDER.glob("3-*")]:
         shutil.copy(path, copied)
-    (folder / "tools").symlink_to(SHELF.parent / "tools")
+    (folder / "tools").symlink_to(FOLDER.parent / "tools")
     packed = bytearray((copied / f"3-a1{ENDING}").read_bytes())
     packed[len(packed) // 2] ^= 1
     (copied / f"3-a1{ENDING}").write_bytes(packed)
     (copied / f"3-b2{ENDING}").unlink()
-    status, said = shelf_check("3", folder=copied)
+    status, said = openings_check("3", folder=copied)
     expect(status == 1 and said[-1] == "3 accepted, 2 refused", f"a changed byte and a missing file: {said}")
 
 
 def find(*words):
     """The status of find.py, and its lines."""
-    done = subprocess.run([SHELF / "find.py", *words], capture_output=True, text=True)
+    done = subprocess.run([FOLDER / "find.py", *words], capture_output=True, text=True)
     return done.returncode, done.stdout.splitlines() + done.stderr.splitlines()
 
 
@@ -141,7 +141,7 @@ def expect_found(folder):
     for lines in (5, 0):
         status, said = find("--out", folder, "3")
         expect(status == 0 and len(said) == lines, f"find.py 3: status {status}, {said}")
-    status, said = shelf_check(*folder.iterdir())
+    status, said = openings_check(*folder.iterdir())
     expect(status == 0 and said[-1] == "5 accepted", f"what find.py made: {said}")
     status, said = find("--out", folder, "--seconds", "0", "7-b3")
     expect(status == 1 and len(said) == 1 and "open" in said[0], f"find.py without time: status {status}, {said}")
@@ -149,7 +149,7 @@ def expect_found(folder):
 
 def expect_interrupted(folder):
     """After Ctrl-C it ends in order: what it had found is there, and no part of another file."""
-    words = [SHELF / "find.py", "--out", folder, "3-a1", "7-b3"]
+    words = [FOLDER / "find.py", "--out", folder, "3-a1", "7-b3"]
     process = subprocess.Popen(words, stdout=subprocess.PIPE, stderr=subprocess.PIPE, text=True)
     first = process.stdout.readline()
     process.send_signal(signal.SIGINT)
@@ -167,7 +167,7 @@ def main():
         with tempfile.TemporaryDirectory() as folder:
             trial(Path(folder))
     for fault in faults:
-        print(f"shelf/test.py: {fault}")
+        print(f"openings/test.py: {fault}")
     return 1 if faults else 0
 
 

@@ -1,4 +1,4 @@
-"""Openings of Hex: their cells, their names, which of them a shelf has to have, and the files of certificates.
+"""Openings of Hex: their cells, their names, which of them a size has to have, and the files of certificates.
 
 An opening is Black's first stone on an empty board; White moves next. Its name is the size, a hyphen and the vertex,
 as `6-a3`, and its certificate is the file of this name with `.cert.xz` behind it. A half turn of the board takes an
@@ -10,8 +10,8 @@ import re
 from pathlib import Path
 from typing import NamedTuple
 
-SHELF = Path(__file__).resolve().parent
-LIST = SHELF / "openings.tsv"
+FOLDER = Path(__file__).resolve().parent
+LIST = FOLDER / "openings.tsv"
 LETTERS = "abcdefghijk"
 ENDING = ".cert.xz"
 # Who wins claims this kind: Black with White to move, or White with himself to move.
@@ -70,7 +70,7 @@ def head_of(opening, winner):
 
 @functools.cache
 def listed():
-    """What openings.tsv says of each opening on the shelf."""
+    """What openings.tsv says of each opening."""
     rows = [line.split("\t") for line in LIST.read_text().splitlines()[1:]]
     return {opening_named(name): Listed(*words, int(lines)) for name, *words, lines in rows}
 

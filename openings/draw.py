@@ -1,8 +1,8 @@
 #!/usr/bin/env python3
-"""Writes what the shelf says at a glance, from its certificates: a list, a board of each size, and README.md's table.
+"""Writes what the certificates here say at a glance: a list, a board of each size, and README.md's table.
 
-    shelf/draw.py            writes them anew
-    shelf/draw.py --check    says nothing where they are as they would be written, and else ends with 1
+    openings/draw.py            writes them anew
+    openings/draw.py --check    says nothing where they are as they would be written, and else ends with 1
 
 The list is openings.tsv: each opening, who wins, by which kind of claim, the cell by which White answers and wins (`-`
 where Black wins), and the number of the certificate's lines.
@@ -15,12 +15,12 @@ own, so that they can be seen on light and on dark pages.
 import math
 import sys
 
-from openings import ENDING, KINDS, LIST, SHELF, Listed, Opening, opening_named, text_of, vertex
+from openings import ENDING, FOLDER, KINDS, LIST, Listed, Opening, opening_named, text_of, vertex
 
-sys.path.insert(0, str(SHELF.parent / "tools"))
+sys.path.insert(0, str(FOLDER.parent / "tools"))
 import second_checker
 
-README = SHELF / "README.md"
+README = FOLDER / "README.md"
 TABLE = "## Each certificate\n"
 HEAD = 5
 
@@ -49,9 +49,9 @@ def answer_of(data):
 
 
 def kept():
-    """What the certificates on the shelf say, in the order of their names."""
+    """What the certificates say, in the order of their names."""
     found = {}
-    for path in SHELF.glob("*" + ENDING):
+    for path in FOLDER.glob("*" + ENDING):
         data = text_of(path)
         winner = data.split(b"\n")[2].split()[1].decode()
         answer = answer_of(data) if winner == "white" else "-"
@@ -59,15 +59,15 @@ def kept():
     return dict(sorted(found.items()))
 
 
-def list_text(shelf):
-    rows = [(str(opening), *map(str, entry)) for opening, entry in shelf.items()]
+def list_text(known):
+    rows = [(str(opening), *map(str, entry)) for opening, entry in known.items()]
     return "".join("\t".join(row) + "\n" for row in [("opening", *Listed._fields), *rows])
 
 
-def table_text(shelf):
+def table_text(known):
     """README.md's table: what each certificate says in words."""
     rows = ["| file | what it shows | lines |", "|---|---|---|"]
-    for opening, (winner, kind, answer, lines) in shelf.items():
+    for opening, (winner, kind, answer, lines) in known.items():
         stone = f"On {opening.size} by {opening.size}, after Black's first stone on {vertex(*opening)},"
         shows = f"{stone} Black wins" if winner == "black" else f"{stone} White wins, by {answer}"
         rows.append(f"| {opening}{ENDING} | {shows} (`{kind}`) | {lines:,} |")
@@ -107,11 +107,11 @@ def edge(colour, cells, turns):
     )
 
 
-def cells_of(size, shelf):
+def cells_of(size, known):
     for number in range(size**2):
         opening = Opening(size, number)
-        source = next((one for one in (opening, opening.turned()) if one in shelf), None)
-        winner = shelf[source].winner if source else None
+        source = next((one for one in (opening, opening.turned()) if one in known), None)
+        winner = known[source].winner if source else None
         name = vertex(size, number)
         turned = f" (the half turn of {source})" if source not in (opening, None) else ""
         label = name if winner else name + "?"
@@ -128,10 +128,10 @@ def legend(width, top, winners):
         yield f'<text x="{x + 18:.1f}" y="{y + 5:.1f}" fill="#14181d" text-anchor="start">{WORDS[winner]}</text>'
 
 
-def board(size, shelf):
+def board(size, known):
     """The picture of a size."""
     last = size - 1
-    whole = sum(opening.size == size for opening in shelf) == (size**2 + 1) // 2
+    whole = sum(opening.size == size for opening in known) == (size**2 + 1) // 2
     winners = ["black", "white"] if whole else ["black", "white", None]
     width = max(2 * MARGIN + COLUMN * (1.5 * size - 0.5), len(winners) * 150 + 20)
     bottom = middle(0, last)[1] + RADIUS + MARGIN
@@ -150,7 +150,7 @@ def board(size, shelf):
         f'<rect width="100%" height="100%" rx="12" fill="{GROUND}"/>',
         f'<g transform="translate({shift:.1f} 0)">',
         *sides,
-        *cells_of(size, shelf),
+        *cells_of(size, known),
         "</g>",
         *legend(width, bottom, winners),
         "</svg>",
@@ -159,15 +159,15 @@ def board(size, shelf):
 
 
 def main():
-    shelf = kept()
+    known = kept()
     front = README.read_text().split(TABLE)[0]
-    texts = {LIST: list_text(shelf), README: f"{front}{TABLE}\n{table_text(shelf)}"}
-    for size in sorted({opening.size for opening in shelf}):
-        texts[SHELF / "pictures" / f"{size}.svg"] = board(size, shelf)
+    texts = {LIST: list_text(known), README: f"{front}{TABLE}\n{table_text(known)}"}
+    for size in sorted({opening.size for opening in known}):
+        texts[FOLDER / "pictures" / f"{size}.svg"] = board(size, known)
     if sys.argv[1:] == ["--check"]:
         others = [path for path, text in texts.items() if not path.is_file() or path.read_text() != text]
         for path in others:
-            print(f"shelf/draw.py: {path.relative_to(SHELF.parent)} is not as it would be written")
+            print(f"openings/draw.py: {path.relative_to(FOLDER.parent)} is not as it would be written")
         return 1 if others else 0
     for path, text in texts.items():
         path.parent.mkdir(exist_ok=True)
