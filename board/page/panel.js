@@ -160,6 +160,6 @@ class Panel {
     byId('size').value = game.size;
     byId('alert').hidden = !lost;
     byId('alert-text').textContent = lost ?? '';
-    if (document.activeElement !== byId('link')) byId('link').value = `${location.origin}/#${linkOf(game)}`;
+    if (document.activeElement !== byId('link')) byId('link').value = `${Session.address}#${linkOf(game)}`;
   }
 }

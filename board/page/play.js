@@ -47,7 +47,7 @@ class Play {
   async provedOpening() {
     const {size, start, steps} = this.game;
     if (start.length || steps.length !== 1 || steps[0].colour !== 'b') return null;
-    const winner = JSON.parse(await request('GET', `openings/${size}-${steps[0].move}`));
+    const winner = await Session.winner(size, steps[0].move);
     return winner && {vertex: steps[0].move, winner: winner[0]};
   }
 

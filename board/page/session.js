@@ -32,6 +32,12 @@ class Session {
 
   static async open() { return new Session(await request('POST', 'session')); }
 
+  /** Who is proved to win after Black's first stone on this cell: 'black', 'white' or null. */
+  static async winner(size, vertex) { return JSON.parse(await request('GET', `openings/${size}-${vertex}`)); }
+
+  /** What stands before the `#` of a link. It has not the server's token. */
+  static get address() { return `${location.origin}/`; }
+
   /** The text that answers a line; Refused with hexd's words where it is a failure. */
   async ask(line) { return answered(await request('POST', `${this.path}/htp`, line)); }
 
