@@ -52,7 +52,7 @@ impl Board {
         CellSet::all(self.size).minus(self.black).minus(self.white)
     }
 
-    /// The colour of the stone on a cell of the board; `None` exactly where the cell is empty.
+    /// The colour of the stone on a cell of the board; `None` exactly if the cell is empty.
     pub fn at(&self, cell: Cell) -> Option<Colour>
         requires { cell < self.now.size * self.now.size }
         ensures value { result ≡ stone_at self.now cell }

@@ -11,8 +11,8 @@ ghost use Rattle.hex_board.specs.Elements.{edge_element, element_of, is_linked, 
 ghost use Rattle.hex_board.specs.Places.{Near, is_near};
 
 /// The laws of `Wins`: a joined player has won; who is to place wins by a stone after which he
-/// wins; and he wins against the other's next stone, where there is room for one, if he wins after
-/// each. Where he is not joined, he wins in no other way. It does nothing.
+/// wins; and he wins against the other's next stone, if there is room for one, if he wins after
+/// each. If he is not joined, he wins in no other way. It does nothing.
 pub fn wins_go_on()
     ensures joined { (player : Colour) (p : Position) (mover : Colour)
         → Joined p.size player (stones_of p player) → Wins player p mover }
@@ -40,7 +40,7 @@ pub fn one_element_is_a_group()
 {}
 
 /// A law, with nothing to run: the test `is_near`, which goes over all places of the board, passes
-/// exactly where a place of one element lies beside a place of the other.
+/// exactly if a place of one element lies beside a place of the other.
 pub fn near_is_decided()
     ensures { (e : PlayerBoard) (x y : ℕ) → IsTrue (is_near e x y) ↔ Near e x y }
 {}

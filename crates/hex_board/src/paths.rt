@@ -45,7 +45,7 @@ pub fn joined(stones: CellSet, colour: Colour, size: Size) -> bool
 }
 
 /// A law, with nothing to run: the test `is_joined`, which searches for a path cell by cell, passes
-/// exactly where there is a path that joins the edges. So callers may define what is joined as a
+/// exactly if there is a path that joins the edges. So callers may define what is joined as a
 /// function.
 pub fn joined_is_decided()
     ensures { (n : ℕ) (c : Colour) (s : ℕ) → IsTrue (is_joined n c s) ↔ Joined n c s }

@@ -30,7 +30,7 @@ impl Size {
     /// The size of the largest board.
     pub const LARGEST: Size = Size { n: Size::MAX };
 
-    /// The size `n`; `None` exactly where `n` is not 1 to 11.
+    /// The size `n`; `None` exactly if `n` is not 1 to 11.
     pub fn of(n: u32) -> Option<Size>
         ensures { MatchOption result (¬ ((1 ≤ n) × (n ≤ Size.MAX)))
             (λ s. (s ≡ n) × ((1 ≤ n) × (n ≤ Size.MAX))) }

@@ -16,6 +16,18 @@
 //! **What is only tested, or not said.** Speed, and what the derived `Debug` prints.
 //!
 //! **Limits.** Boards of 1 by 1 to 11 by 11 cells. No call takes memory.
+//!
+//! **Why so.**
+//!
+//! - A set is two words for the processor: it counts and shifts 64 bits at once, and a shift of 128
+//!   bits by a number that it doesn't know takes some ten instructions. So `nth` finds by one count
+//!   in which half the cell is, and halves that word; the set of a single cell is read from a
+//!   table, each of whose numbers is proved.
+//! - There are more calls than one layer needs (`around`, `without`, `rank`, `meets`, `is_empty`):
+//!   crates above use them on sets that are no board.
+//! - A number below 100 is written without memory, into bytes of its caller: a vertex's row here,
+//!   the size of a record in sgf_game, the rows of hex_engine's picture. Longer numbers are written
+//!   by std, where memory may be taken.
 #![tactic(auto)]
 
 mod board_size;

@@ -29,7 +29,7 @@ impl Model for CellSet {
 }
 
 impl CellSet {
-    /// The set as a number: bit k is set exactly where cell k is in it.
+    /// The set as a number: bit k is set exactly if cell k is in it.
     pub fn bits(self) -> u128
         ensures value { result ≡ self }
         ensures range { result < 2 ^ MOST_CELLS }
@@ -38,7 +38,7 @@ impl CellSet {
         self.bits
     }
 
-    /// The set with this number: cell k is in it exactly where bit k is set. No bit from
+    /// The set with this number: cell k is in it exactly if bit k is set. No bit from
     /// [`MOST_CELLS`] on may be set.
     pub fn of_bits(bits: u128) -> CellSet
         requires { bits < 2 ^ MOST_CELLS }
@@ -164,9 +164,8 @@ impl CellSet {
         self.bits.count_ones()
     }
 
-    /// How many cells of the set have a lower number than this cell: where the cell is in the set,
-    /// the place at which
-    /// `nth` has it.
+    /// How many cells of the set have a lower number than this cell: if the cell is in the set, the
+    /// place at which `nth` has it.
     pub fn rank(self, cell: Cell) -> u32
         ensures value { result ≡ members self cell }
         ensures range { result < MOST_CELLS }

@@ -81,7 +81,7 @@ fn place_of(text: &[u8]) -> Option<(u32, u32)>
 }
 
 /// The cell of the board whose vertex the text is: one column letter in either case, and the row's
-/// number without leading zero. `None` exactly where the text is no vertex of the board.
+/// number without leading zero. `None` exactly if the text is no vertex of the board.
 pub fn read_vertex(text: &[u8], size: Size) -> Option<Cell>
     ensures value { result ≡ vertex_cell size text.now }
     ensures cell { IfSome result (IsVertex size text.now) }

@@ -60,10 +60,10 @@ impl Game {
         })
     }
 
-    /// Takes one more step, where it is legal. It takes no memory.
+    /// Takes one more step, if it is legal. It takes no memory.
     ///
-    /// `Over` comes exactly where a player is joined; otherwise `Occupied` exactly where the
-    /// stone's cell holds a stone, and `BadSwap` exactly where the swap may not come.
+    /// `Over` comes exactly if a player is joined; otherwise `Occupied` exactly if the stone's cell
+    /// holds a stone, and `BadSwap` exactly if the swap may not come.
     pub fn play(&mut self, colour: Colour, what: Move) -> Result<(), PlayError>
         requires on_board { IsOnBoard (board_of self.old) what }
         ensures ok { OnOk result
@@ -86,7 +86,7 @@ impl Game {
         Ok(())
     }
 
-    /// Takes back the last step. `NoMove` comes exactly where there is none.
+    /// Takes back the last step. `NoMove` comes exactly if there is none.
     pub fn undo(&mut self) -> Result<(), NoMove>
         ensures none { IsErr result ↔ (self.old.steps ≡ []) }
         ensures ok { OnOk result (self.new ≡ without_last self.old) }

@@ -3,7 +3,7 @@
 //! **What it is.** A *move* is a stone on a cell, or the swap. A *step* is a move with the colour
 //! that made it. A *history* is the list of steps. The *replay* of a history is the board that it
 //! leads to from the start board; a step that isn't legal leaves a replay as it is. A step is legal
-//! where no player is joined, and a stone's cell is empty, or the swap is White's answer to Black's
+//! if no player is joined, and a stone's cell is empty, or the swap is White's answer to Black's
 //! one stone on a board that was empty.
 //!
 //! **A caller** makes a [`Game`] from a board, plays and takes back, and reads the board:
@@ -18,6 +18,15 @@
 //! **What is only tested, or not said.** The derived texts of errors.
 //!
 //! **Limits.** A game has at most 122 steps.
+//!
+//! **Why so.**
+//!
+//! - A swap is legal only if Black's stone is the only one on the board, so the board after it is
+//!   the empty one with White's stone on the mirrored cell.
+//! - A game keeps the board before each step, 122 small boards, taken when it is made: so `undo`
+//!   takes no work and no memory.
+//! - [`Game::steps_are_legal`] does nothing; its contract is the one place that says of a game in
+//!   hand that each step was legal and that there are at most 122, which the law of records needs.
 #![tactic(auto)]
 
 ghost use Rattle.std.specs.Prelude.{◌≡◌};

@@ -15,8 +15,8 @@ use super::shelves::{FILE_LIMIT, Shelf, ShelfError};
 use std::alloc::Global;
 use std::marker::Model;
 
-/// A shelf in memory: it tells its files and its tries. A fetch is at fault exactly where its
-/// number, from 0, is among those that were named; one that ran out of memory takes no number.
+/// A shelf in memory: it tells its files and its tries. A fetch is at fault exactly if its number,
+/// from 0, is among those that were named; one that ran out of memory takes no number.
 #[derive(Drop)]
 pub struct MemShelf {
     files: Vec<File>,

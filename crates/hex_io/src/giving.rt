@@ -8,7 +8,7 @@ ghost use Rattle.hex_io.specs.Reported.{Reported};
 use super::links::Link;
 use super::refusals::LinkFault;
 
-/// Gives all of the bytes. At a fault a front of them was given that is not all of them, and
+/// Gives all of the bytes. At a fault a prefix of them was given that is not all of them, and
 /// nothing is given after it.
 pub fn give<L: Link>(link: &mut L, bytes: &[u8]) -> Result<(), LinkFault>
     ensures all { OnOk result (Gave (L.told link.old) (L.told link.new) bytes.now) }

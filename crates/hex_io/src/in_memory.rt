@@ -21,9 +21,9 @@ pub struct Ask {
 
 /// A link in memory: it reads from bytes that were handed to it and keeps those given.
 ///
-/// It tells all its meanings. A call fails exactly where its number, from 0, is among those that
-/// were named, where a read is past the last one, or where a write finds no room for a byte. Its
-/// reads and writes take no memory.
+/// It tells all its meanings. A call fails exactly if its number, from 0, is among those that were
+/// named, where a read is past the last one, or where a write finds no room for a byte. Its reads
+/// and writes take no memory.
 #[derive(Drop)]
 pub struct MemLink {
     source: Source,

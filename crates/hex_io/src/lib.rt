@@ -20,18 +20,32 @@
 //! ```
 //!
 //! **What is proved.** Bytes are moved in order and none is lost or made up, where a link tells; a
-//! fault comes only where its count rose, and then no byte was moved; with every other answer the
+//! fault comes only if its count rose, and then no byte was moved; with every other answer the
 //! count is as before. Generic code can't change a count, so a body that gives up without a fault
 //! of its link is refused, and one that tries again after a fault where its contract says that no
 //! fault came. A fetch answers what the files hold. A `MemLink` and a `MemShelf` tell all and fail
-//! exactly where they were told to.
+//! exactly if they were told to.
 //!
-//! **Only tested, or not said.** What a terminal, a file or another program gave or got: `StdLink`,
-//! `ErrLink`, `FileLink` and `DirShelf` tell nothing. A read may wait for its device.
+//! **What is only tested, or not said.** What a terminal, a file or another program gave or got:
+//! `StdLink`, `ErrLink`, `FileLink` and `DirShelf` tell nothing. A read may wait for its device.
 //!
 //! **Limits.** A file of [`FILE_LIMIT`] bytes. A count stands still at the greatest value of a
 //! `u64`. `MemLink::make` takes memory for all that it will hold, and a fetch for what it answers;
 //! no other call takes any.
+//!
+//! **Why so.**
+//!
+//! - Only regular files are loaded: `loadsgf` of a pipe without a writer, or of a device, would
+//!   keep a session waiting for good by one line of a stranger. Another user of the folder could
+//!   still put a pipe there between the look and the open.
+//! - A file for traces is made at its first write, so a run that hands over no tree touches no
+//!   file: `audit --trace t <t` would otherwise empty its own input and say yes of nothing. The
+//!   price: a session without a searched move leaves an older file as it was, and doesn't say that
+//!   a name can't be made. If it can't be made, each write is a counted fault, and none tries
+//!   again, since a file that begins in the middle is no list of traces.
+//! - A file is missing if the system says so. Every other failure to open (no permission, a name
+//!   too long, a path behind a file) is a read fault: a longer list would be a guess at what the
+//!   system means.
 #![tactic(auto)]
 
 mod directory;

@@ -45,11 +45,11 @@ pub trait Shelf {
 
     ghost faults: { Self → ℕ };
 
-    /// Fetches the bytes of the file of that name; `None` where no file has it. The files stay as
-    /// they are.
+    /// Fetches the bytes of the file of that name; `None` if no file has it. The files stay as they
+    /// are.
     ///
-    /// A file of more than [`FILE_LIMIT`] bytes is `TooLong`. `Fault` comes only where the count
-    /// of faults rose, and with every other answer the count is as before. After want of memory
+    /// A file of more than [`FILE_LIMIT`] bytes is `TooLong`. `Fault` comes only if the count of
+    /// faults rose, and with every other answer the count is as before. After want of memory
     /// nothing changed.
     fn fetch(&mut self, alloc: Global, name: &str) -> Result<Option<Vec<u8>>, ShelfError>
         ensures told { Fetches (told self.old) (told self.new) name.now

@@ -15,7 +15,7 @@ pub const ID_LIMIT: usize = 10;
 /// The bytes round an id and a text: the sign, a space and two line feeds.
 pub const FRAME: usize = 4;
 
-/// An id in its shortest form; nothing where there is none.
+/// An id in its shortest form; nothing if there is none.
 pub fn id_text(alloc: Global, id: Option<u32>) -> Result<Vec<u8>, Memory>
     ensures text { IfOk result (λ text. text.items ≡ option_map_or decimal id []) }
     ensures short { IfOk result (λ text. vec_len text ≤ ID_LIMIT) }

@@ -17,14 +17,23 @@
 //! ```
 //!
 //! **What is proved.** However a stream is cut into pieces, the raw lines are those of the whole
-//! stream (`stream` of `push` and `finish`, over `specs/Lines.antt`), and a line is long exactly
-//! where it has more than [`LINE_LIMIT`] bytes. A raw line is read exactly as the filters of
+//! stream (`stream` of `push` and `finish`, over `specs/Lines.antt`), and a line is long exactly if
+//! it has more than [`LINE_LIMIT`] bytes. A raw line is read exactly as the filters of
 //! `specs/Reading.antt` say, and an answer has exactly the bytes of `specs/Answering.antt`.
 //!
-//! **Only tested, or not said.** That memory suffices: `make`, `read_line`, `id_text` and, where no
-//! room is left, the two writers may answer [`Memory`], which no clause ties to anything.
+//! **What is only tested, or not said.** That memory suffices: `make`, `read_line`, `id_text` and,
+//! if no room is left, the two writers may answer [`Memory`], which no clause ties to anything.
 //!
 //! **Limits.** A line that is too long is not kept. `push`, `finish` and `line` take no memory.
+//!
+//! **Why so.**
+//!
+//! - The number of an argument and the id of a request have the same form, so one reader,
+//!   [`read_number`], serves both.
+//! - hex_io, htp_line, sgf_tree and win_cert each have a type `Bytes` with the same contract: none
+//!   of them stands on another, and one type for all would need a crate below all four.
+//! - The protocol's white space, once control bytes are dropped, is the byte 32 alone; SGF's is
+//!   that of `sgf_tree::is_white_space`. Each standard's crate says its own.
 #![tactic(auto)]
 
 mod answer;

@@ -102,7 +102,7 @@ fn words_of(alloc: Global, text: &[u8]) -> Result<Vec<Bytes>, AllocError>
 }
 
 /// The number that a word is: one to ten digits with a value of at most 2,147,483,647, the greatest
-/// id (GTP version 2, draft, 2.4). `None` exactly where it is no such number.
+/// id (GTP version 2, draft, 2.4). `None` exactly if it is no such number.
 pub fn read_number(word: &[u8]) -> Option<u32>
     ensures { result ≡ number_of word.now }
 {

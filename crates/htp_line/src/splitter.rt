@@ -112,8 +112,8 @@ impl Splitter {
         self.ended
     }
 
-    /// Lends the raw line that ended; none where it has more than [`LINE_LIMIT`] bytes. The line
-    /// feed is not counted.
+    /// Lends the raw line that ended; none if it has more than [`LINE_LIMIT`] bytes. The line feed
+    /// is not counted.
     pub fn line(&self) -> Option<&[u8]>
         requires ended { self.now.ended ≡ true }
         ensures line { option_map (λ raw. raw.now) result ≡ self.now.line }

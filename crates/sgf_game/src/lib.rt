@@ -22,6 +22,12 @@
 //! **Limits.** Variations other than the main line, point rectangles as `a1:b2`, and moves in Go's
 //! coordinates are not read. Other programs may spell the swap in another way; such a move is
 //! refused.
+//!
+//! **Why so.**
+//!
+//! - [`GameError`] has no numbered variants, since one of them has a field. A collection without a
+//!   node, which no text has, is refused as no game of Hex, so [`to_game`] asks nothing of its
+//!   caller.
 #![tactic(auto)]
 
 mod error;

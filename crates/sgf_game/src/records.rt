@@ -12,8 +12,8 @@ use hex_game::Game;
 use sgf_tree::{Bytes, Memory, SgfError, parse, print};
 use std::alloc::{AllocError, Global};
 
-/// The game of which the bytes are a record; none exactly where they are no text of a collection
-/// (SGF FF[4]), or nest too deep, or are a record of no game, as [`to_game`] refuses it.
+/// The game of which the bytes are a record; none exactly if they are no text of a collection (SGF
+/// FF[4]), or nest too deep, or are a record of no game, as [`to_game`] refuses it.
 pub fn read_game(alloc: Global, bytes: &[u8]) -> Result<Option<Game>, AllocError>
     ensures { IfOk result (λ read. IsGameOf bytes.now read) }
 {

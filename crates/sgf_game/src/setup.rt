@@ -61,7 +61,7 @@ fn stones_named(root: &Node, name: &[u8], taken: CellSet, size: Size) -> Option<
     Some(stones)
 }
 
-/// The start board of a line; `None` exactly where its set-up is refused.
+/// The start board of a line; `None` exactly if its set-up is refused.
 pub fn start_of(root: &Node, behind: &[&Node], size: Size) -> Option<Board>
     ensures { IsStartOf size root.now (nodes_lent behind.now) result }
 {

@@ -60,7 +60,7 @@ fn has_one_move(node: &Node) -> bool
     found
 }
 
-/// Adds a turn for each value; where they are not alone in their node, it says nothing.
+/// Adds a turn for each value; if they are not alone in their node, it says nothing.
 fn push_values(
     turns: &mut Vec<Turn>,
     colour: Colour,

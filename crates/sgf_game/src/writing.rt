@@ -17,9 +17,9 @@ use sgf_tree::{Bytes, Collection, Memory, Node, Nodes, Prop, Props, Tree, Trees,
 use std::alloc::{AllocError, Global};
 
 /// The record of a game: one tree without kids. Its root has `FF[4]`, `GM[11]`, SZ with the size,
-/// and AB and AW with the start stones of Black and of White, cells in rising order, each only
-/// where there are such stones. A node follows for each step, with B or W and the vertex in lower
-/// case, or `swap-pieces`. Want of memory is the only refusal.
+/// and AB and AW with the start stones of Black and of White, cells in rising order, each only if
+/// there are such stones. A node follows for each step, with B or W and the vertex in lower case,
+/// or `swap-pieces`. Want of memory is the only refusal.
 pub fn from_game(alloc: Global, game: &Game) -> Result<Collection, Memory>
     ensures record_is { IfOk result (λ c. c.trees ≡ record_of game.now) }
     // Its game is the game.
@@ -123,7 +123,7 @@ fn prop_of(alloc: Global, name: &[u8], value: &[u8]) -> Result<Prop, AllocError>
     })
 }
 
-/// The property of these stones, where there are any.
+/// The property of these stones, if there are any.
 fn push_stones(
     alloc: Global,
     props: &mut Vec<Prop>,

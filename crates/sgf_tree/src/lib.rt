@@ -23,6 +23,12 @@
 //! names and text before the first parenthesis are refused. The reader holds its open trees in a
 //! list and does not recurse; `print`, and dropping a collection, recurse as deep as its trees
 //! nest.
+//!
+//! **Why so.**
+//!
+//! - A place with 65 open trees is said from the grammar alone, with no second scanner: each
+//!   collection whose text begins with these bytes is deeper than 64.
+//! - [`SgfError`] has no numbered variants, since one of them has a field.
 #![tactic(auto)]
 
 mod error;

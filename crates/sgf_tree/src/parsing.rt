@@ -13,10 +13,10 @@ use crate::trees::Collection;
 use std::alloc::Global;
 
 /// Parses SGF text: the collection that the bytes are a text of, where its trees nest at most 64
-/// deep. `TooDeep` comes exactly where 65 trees are open at a place of the longest prefix that some
+/// deep. `TooDeep` comes exactly if 65 trees are open at a place of the longest prefix that some
 /// collection's text begins with; a parenthesis inside a value opens none. Otherwise `NotSgf` comes
-/// exactly where the bytes are no collection's text, and `at` is the length of that prefix.
-/// `Memory` may come in place of any answer.
+/// exactly if the bytes are no collection's text, and `at` is the length of that prefix. `Memory`
+/// may come in place of any answer.
 ///
 /// The grammar is that of SGF FF[4], with values kept byte for byte.
 pub fn parse(alloc: Global, bytes: &[u8]) -> Result<Collection, SgfError>
