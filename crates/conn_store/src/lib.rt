@@ -14,7 +14,7 @@
 //! **What is proved.** Each entry of a store is valid and follows by the four rules from earlier
 //! ones. So it is *true* ([`sound_entries_are_true`]): the truth of an entry (specs/Truth.antt,
 //! specs/Links.antt) speaks of paths of stones and of placing in turn, and of no rule. `add`
-//! refuses exactly where an entry of that pair and kind has its carrier inside the new one, or else
+//! refuses exactly if an entry of that pair and kind has its carrier inside the new one, or else
 //! the pair is full. `held` has exactly the numbers of the entries of that pair and kind. Who is
 //! sure of linking the elements of his two edges wins the game ([`connected_edges_win`]); more
 //! cells, more stones and the first move keep truth ([`truth_goes_on`]).
@@ -26,6 +26,17 @@
 //! [`MOST_ENTRIES`] in all. Only [`Store::make`] takes memory.
 //!
 //! Source: Anshelevich's virtual and semi connections, with the AND rule, the OR rule and carriers.
+//!
+//! **Why so.**
+//!
+//! - That entries are true is a law and no part of what sound means. So what a plan keeps of a
+//!   report speaks of rules alone, and who reads the contract of `run` meets the truth of entries
+//!   nowhere: that certified moves win is said by `Wins`.
+//! - `IsSure` speaks of any goal that stones may reach, by recursion on the number of cells; the
+//!   truth of an entry takes as goal that its two elements are linked. So each rule is proved once,
+//!   as a law of goals.
+//! - The calls `by_adjacent`, `by_and`, `by_or_two` and `by_or_three` are the one place where the
+//!   rules' conditions are tested; H-search and tests make their entries by them.
 #![tactic(auto)]
 
 mod entries;

@@ -23,6 +23,16 @@
 //! **Limits.** Those of `conn_store`. Only [`connect`] takes memory.
 //!
 //! Source: Anshelevich's H-search.
+//!
+//! **Why so.**
+//!
+//! - [`connect`] asks nothing of its caller. If the colour is joined both edges are element 0, and
+//!   no pair of them has an entry.
+//! - The store's entries are the worklist: a search keeps one number, how many entries it has
+//!   taken; entries come in order, and each is combined with those before it. It ends since a store
+//!   has at most `MOST_ENTRIES`.
+//! - An entry over three ways is made of ways at falling places of the index, so no set of ways is
+//!   tried twice.
 #![tactic(auto)]
 
 mod combining;

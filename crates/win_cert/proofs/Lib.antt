@@ -1,3 +1,56 @@
+-- How to read the proof of `win_cert::accepted_certificates_win`: accepted certificates win.
+-- 1. What is claimed: src/laws.rt; specs/Laws.antt, Scopes.antt, Entries.antt (what each line
+--    gives), Statements.antt, Reasons.antt (the thirteen reasons), Verdicts.antt (`Accepted`).
+--    Winning is hex_board's `Wins`, truth conn_store's.
+-- 2. proofs/SameTests, StonesOn, LinksOn: stones off a board change no element. ScopeBoards,
+--    GoodEntries: an entry is kept with three facts: it is true, its carrier has empty cells of its
+--    scope's board alone, and none of its elements' cells.
+-- 3. A form of line each: NamedEntries, Middles, ChainLines (`and`, `key`), EdgeEntries, CaseLines
+--    (`or`, `cases`), and LineTruth for all.
+-- 4. proofs/GivenEntries and AcceptedLaw: all lines, and the claim.
+-- 5. That a line has no reason against it exactly if its rule of connection applies
+--    (src/rule_lines.rt, specs/RuleLines.antt): proofs/RuleLines, by CutSteps one way and
+--    NamedEntries and Middles the other.
+--
+-- How to read the proof of `win_cert::read`, `written_text_is_read_back`: the text of a
+-- certificate.
+-- 1. What is claimed: src/reading.rt and spelling.rt; specs/Texts.antt (the text, as lines of
+--    words), Writable.antt (which certificates have one), Readings.antt (what bytes are read as,
+--    from such texts alone).
+-- 2. specs/Words.antt, Named.antt, Lines.antt and OneLine.antt (what reading one line does), which
+--    only private clauses cite: the reader as a function of the lines, word by word and line by
+--    line. The code of src/reader.rt, words.rt, values.rt, heads.rt, keywords.rt, statements.rt and
+--    reading.rt is that function. The writer is src/writing.rt (the lines) over pushing.rt (words,
+--    numbers, vertices).
+-- 3. The text and its lines: proofs/Joining, Splitting, TextLines, LineParts. What words say is
+--    what they are the words of: Options, NumberWords, CellWords, CellLists, CellSets, WordParts,
+--    StepWords; and no word has a space or a line feed: PlainWords.
+-- 4. What is read is good and has this text: HeadMeans, StepMeans, StepsMean, ReadMeans. A
+--    certificate's text is read as the certificate: ReadBack.
+-- 5. The refusals: HeadStages, BadLines, GoodFronts, BadHeads (the lines before the one that is
+--    named are good, and with it they aren't), StepLines, LongTexts (a line too many).
+-- 6. All together: Parsed, which both contracts cite.
+--
+-- How to read the proof of `win_cert::cut`: what is cut from a report is accepted.
+-- 1. What is claimed: src/cutting.rt; specs/Cuts.antt (the certificate, and the entries on which an
+--    entry rests), Contexts.antt (lines that are read in turn), Freer.antt and Derivations.antt
+--    (lines after others, in any scope).
+-- 2. specs/Cutting.antt, which only private clauses cite: marked entries, and the line for each.
+-- 3. src/marking.rt with proofs/CutDerivations (premises are earlier entries), CutMarks and
+--    Supports: the marked entries are those on which the entries that are asked for rest.
+-- 4. One line: proofs/CutEnds (the end that names an element), CutChains, CutSteps (a line gives
+--    the store's entry in its scope, and there is no reason against it), CutLines. On a board with
+--    fewer stones of the other player: Moved (elements rise in the same order there) and MovedRules
+--    (what follows by a rule follows there).
+-- 5. All lines: Appending (lines after lines), CutsIn, which `lines_onto` cites. `cut` is
+--    `lines_onto` of one entry where no line stands: Stepping (a certificate's lines, read in
+--    turn), Accepting (clear lines with the claim's entry are accepted), CutCertificates.
+-- 6. For whoever makes certificates of his own, what lines show of a position that is reached from
+--    the board: specs/Showing.antt, Reaching (positions and scopes), ScopeLines (`put`, `done`,
+--    `move` and `cases`: no reason against them, and what they give), Shown (two lines each: a
+--    `put` with one of the other three), CutShown (a `put` with the lines of a cut), ScopedWins
+--    (such an entry, if it is true, tells who wins).
+
 -- Laws for the layers above.
 pub mod GivenEntries
 pub mod Joining

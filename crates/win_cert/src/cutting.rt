@@ -47,7 +47,7 @@ pub fn cut(alloc: Global, report: &Report, entry: u32) -> Result<Cert, Memory>
 /// answers the numbers of their own lines, in turn: a line for each entry on which they rest, once,
 /// in the store's order. They may be read in any scope on whose board the player has the stones
 /// that he has on the store's, and the other player no more. So many lines may stand there before
-/// that the numbers of the new ones can be written. Where memory runs out some of the new ones may
+/// that the numbers of the new ones can be written. If memory runs out some of the new ones may
 /// stand there.
 pub fn lines_onto(
     alloc: Global,

@@ -3,10 +3,9 @@
 //! **Nouns.** A certificate ([`Cert`]) is a board, a player, *derivation lines* ([`Line`]) and a
 //! claim; each of these lines, and the claim, is a *statement* ([`Statement`]). Each line gives an
 //! *entry* in its *scope*, a set of cells on which the player is taken to have stones too, or sets
-//! the scope of the lines after it. A certificate is *accepted* where none of thirteen reasons
-//! against a line or the claim applies ([`Reason`]); the *verdict* on it ([`Verdict`]) is yes, with
-//! the claim and the carrier of its entry, or the first line with a reason against it and that
-//! reason.
+//! the scope of the lines after it. A certificate is *accepted* if none of thirteen reasons against
+//! a line or the claim applies ([`Reason`]); the *verdict* on it ([`Verdict`]) is yes, with the
+//! claim and the carrier of its entry, or the first line with a reason against it and that reason.
 //!
 //! **A caller** reads a text ([`read`]), writes one ([`write`]), raises a certificate to the latest
 //! version ([`raise`]) and cuts one from a report ([`cut`], of an entry that [`edge_numbers`]
@@ -20,8 +19,8 @@
 //! entry rests, and no other (specs/Cuts.antt, Derivations.antt). `raise` changes the version alone
 //! and keeps the verdict. What each line gives, the reasons in their order, accepted and the
 //! verdict are in specs/Entries.antt, Reasons.antt and Verdicts.antt; proofs/Vectors.antt computes
-//! them on certificates. A line has no reason against it exactly where its rule of connection
-//! applies ([`lines_are_rules`]).
+//! them on certificates. A line has no reason against it exactly if its rule of connection applies
+//! ([`lines_are_rules`]).
 //!
 //! **What is only tested, or not said.** That calls get their memory; the time, which is linear in
 //! the length of the text. What the derived texts of [`CertError`] are.
@@ -30,6 +29,23 @@
 //! [`MOST_CASES`] cases in a line.
 //!
 //! Source: the rules are those of `conn_store`; scopes and cases are this project's own.
+//!
+//! **Why so.**
+//!
+//! - The rules stand here as tests of a line, since a checker names the first reason against one,
+//!   and in conn_store as relations, since a report is closed under them. That both are the same is
+//!   the law [`lines_are_rules`]. The relation can't go: a report comes before certificates, and a
+//!   carrier that a rule gives need not be one that a line names.
+//! - The law that accepted certificates win needs no condition on scopes. BadStone against a `put`,
+//!   NoCommonMiddle, WrongColour, and MiddleKind against a `key` stand among the reasons because a
+//!   certificate is to say what it means.
+//! - Which line is no certificate's is said from prefixes of certificates' texts, and by no reader:
+//!   the lines before it begin the text of some certificate, and with it they don't.
+//! - A cut keeps the report's order, so each line names earlier ones. What an entry rests on is the
+//!   least set that has it and with each entry its premises; a body that keeps an entry too many is
+//!   refused. Which rule a line takes is in no clause.
+//! - [`lines_onto`] cuts several entries at once, for any scope, so that they share the lines of
+//!   what they both rest on; [`cut`] is one entry on the report's own board.
 #![tactic(auto)]
 
 mod certs;

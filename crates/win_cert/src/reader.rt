@@ -38,7 +38,7 @@ impl<'a> Reader<'a> {
         }
     }
 
-    /// Takes the next line: its words. `None` exactly where no line feed is left.
+    /// Takes the next line: its words. `None` exactly if no line feed is left.
     pub(crate) fn next(&mut self) -> Option<Words<'a>>
         requires { self.old.line < MANY_LINES }
         ensures count { self.new.line ≡ self.old.line + 1 }

@@ -16,7 +16,7 @@ use hex_cells::Size;
 use std::alloc::Global;
 
 /// The certificate that the bytes are the text of. `NotCert` names the first line that is not as it
-/// should be, and `TooManyLines` comes exactly where 200,001 good derivation lines follow the head.
+/// should be, and `TooManyLines` comes exactly if 200,001 good derivation lines follow the head.
 pub fn read(alloc: Global, bytes: &[u8]) -> Result<Cert, CertError>
     ensures { IsParsedAs bytes.now result }
 {

@@ -5,7 +5,7 @@ ghost use Rattle.win_cert.specs.RuleLines.{StandsForTwo, StandsForThree};
 ghost use Rattle.win_cert.specs.declared.lines.Line.{Line};
 
 /// The law of lines. Of valid entries that earlier lines gave in its scope, a line has no reason
-/// against it exactly where its rule of connection applies: `and` is the rule of AND over a group,
+/// against it exactly if its rule of connection applies: `and` is the rule of AND over a group,
 /// `key` that over an empty cell, and `or` the rule of OR. (Of `adj` the test and the rule are one,
 /// `is_near`.) So who reads the reasons against lines has read the rules, and the other way round.
 /// It does nothing.

@@ -20,7 +20,7 @@ pub enum Statement {
 }
 
 /// What the words of a line say, in a certificate of that version on a board of that size; `None`
-/// exactly where they say nothing.
+/// exactly if they say nothing.
 pub(crate) fn read_statement(
     alloc: Global,
     words: &mut Words<'_>,

@@ -26,7 +26,7 @@ fn value_of(word: &[u8]) -> Option<u32>
     Some(value)
 }
 
-/// The number that a word is, without leading zero; `None` exactly where it is none, or one above
+/// The number that a word is, without leading zero; `None` exactly if it is none, or one above
 /// [`MOST_NUMBER`].
 pub(crate) fn read_number(word: &[u8]) -> Option<u32>
     ensures { result ≡ number_named word.now }
@@ -46,7 +46,7 @@ pub(crate) fn read_number(word: &[u8]) -> Option<u32>
     value_of(word)
 }
 
-/// The cell of the board whose vertex the word is, in lower case; `None` exactly where it is none.
+/// The cell of the board whose vertex the word is, in lower case; `None` exactly if it is none.
 pub(crate) fn read_cell(word: &[u8], size: Size) -> Option<Cell>
     ensures { result ≡ cell_named size word.now }
 {
@@ -61,7 +61,7 @@ pub(crate) fn read_cell(word: &[u8], size: Size) -> Option<Cell>
     }
 }
 
-/// The end of a connection that the word names; `None` exactly where it names none.
+/// The end of a connection that the word names; `None` exactly if it names none.
 pub(crate) fn read_end(word: &[u8], size: Size) -> Option<End>
     ensures { result ≡ end_named size word.now }
 {

@@ -47,7 +47,7 @@ impl<'a> Words<'a> {
         }
     }
 
-    /// Takes the next word; `None` exactly where no word is left.
+    /// Takes the next word; `None` exactly if no word is left.
     pub(crate) fn next(&mut self) -> Option<&'a [u8]>
         ensures { MatchOption result ((self.old ≡ []) × (self.new ≡ []))
             (λ word. self.old ≡ word.now ∷ self.new) }
@@ -68,7 +68,7 @@ impl<'a> Words<'a> {
         }
     }
 
-    /// Takes the next word as a number; `None` exactly where there is none.
+    /// Takes the next word as a number; `None` exactly if there is none.
     pub(crate) fn number(&mut self) -> Option<u32>
         ensures { MatchOption result (first_number self.old ≡ None)
             (λ i. first_number self.old ≡ Some (i, self.new)) }
@@ -76,7 +76,7 @@ impl<'a> Words<'a> {
         read_number(self.next()?)
     }
 
-    /// Takes the next word as a vertex; `None` exactly where there is none.
+    /// Takes the next word as a vertex; `None` exactly if there is none.
     pub(crate) fn cell(&mut self, size: Size) -> Option<Cell>
         ensures { MatchOption result (first_cell size self.old ≡ None)
             (λ k. first_cell size self.old ≡ Some (k, self.new)) }
@@ -84,7 +84,7 @@ impl<'a> Words<'a> {
         read_cell(self.next()?, size)
     }
 
-    /// Takes the next word as an end; `None` exactly where there is none.
+    /// Takes the next word as an end; `None` exactly if there is none.
     pub(crate) fn end(&mut self, size: Size) -> Option<End>
         ensures { MatchOption result (first_end size self.old ≡ None)
             (λ end. first_end size self.old ≡ Some (end, self.new)) }
@@ -100,7 +100,7 @@ impl<'a> Words<'a> {
         if self.next()? == name { Some(()) } else { None }
     }
 
-    /// Takes all words as numbers; `None` exactly where one of them is none.
+    /// Takes all words as numbers; `None` exactly if one of them is none.
     pub(crate) fn numbers(&mut self, alloc: Global) -> Result<Option<Vec<u32>>, AllocError>
         ensures { IfOk result
             (λ numbers. option_map (λ v. v.items) numbers ≡ numbers_named self.old) }
@@ -117,7 +117,7 @@ impl<'a> Words<'a> {
         }
     }
 
-    /// Takes all words as vertices in rising order; `None` exactly where they are not.
+    /// Takes all words as vertices in rising order; `None` exactly if they are not.
     pub(crate) fn cells(&mut self, size: Size) -> Option<CellSet>
         ensures { result ≡ set_named size 0 0 self.old }
     {
@@ -136,7 +136,7 @@ impl<'a> Words<'a> {
         }
     }
 
-    /// `Some` exactly where no word is left.
+    /// `Some` exactly if no word is left.
     pub(crate) fn nothing(&self) -> Option<()>
         ensures { MatchOption result (self.now ≢ []) (λ _. self.now ≡ []) }
     {
