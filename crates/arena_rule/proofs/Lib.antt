@@ -1,3 +1,23 @@
+-- How to read the proof of `arena_rule::steps`, `runs`, `closes`: a step that fits keeps the arena
+-- rule.
+-- 1. What is claimed: src/laws.rt; docs/change/TREE.md tells it in words. specs/Views.antt (what is
+--    known of a seat), Lookups and Adds (what its blocks tell), Fits (which steps it may make),
+--    Afters (what a step does), Answers (what it may be answered).
+-- 2. The rule: specs/Parts.antt, Bounds.antt, Rule.antt (`IsState`, `Rule`), Runs.antt (a run of
+--    events), Closed.antt and Shown.antt.
+-- 3. The state before a step, and the form of the law of each part: proofs/Before (`blocks_after`:
+--    the linked blocks after a step), Within, Frames, Changes, AddLaws. Numbers has `few`: numbers
+--    in hand and recorded walks are at most N together, which is why no count wraps.
+-- 4. A file a part: Apart (Fresh, Apart, Held), Linking (Linked, Known), SumsLinked and SumsLaw
+--    (Sums), Widths, Tickets, InHand, Sole; then AnswersCounts (what a Look at a count answers),
+--    and with it Loaded, FirstVisits, LeafBound, Room.
+-- 5. The other answers: AnswersBlocks, AnswersNumbers. Splits and joins: SeatsBlocks, SeatsNumbers,
+--    SeatsCounts, SeatsGrowth, SeatsRoom. The beginning: Firsts, Opening.
+-- 6. The end: LastSeat (the walks of the last seat are those of all playouts), Recorded (counts are
+--    those of the records), Closing (the five points of a closed tree).
+-- 7. All together: Law (`state-step`, and what `steps`, `begins` and `closes` cite), RunLaws
+--    (`runs`, `splits`, `joins`).
+
 -- Laws for the layers above.
 pub mod Options
 pub mod Before

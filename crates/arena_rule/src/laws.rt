@@ -13,8 +13,8 @@ ghost use Rattle.arena_rule.specs.Closed.{EndsClosed, EndsWithAllWalks, CountsRe
 ghost use Rattle.arena_rule.specs.Shown.{KnowsShown, KeepsKnown, HoldsUnnamed, WinsAmongVisits};
 ghost use Rattle.arena_rule.specs.Shown.{StepsKeepOrder, SplitsKeepOrder, JoinsKeepOrder};
 
-/// The law of a step: where a seat's view fits a step, the rule holds after it, and the answer is
-/// one that the step may give. It does nothing.
+/// The law of a step: if a seat's view fits a step, the rule holds after it, and the answer is one
+/// that the step may give. It does nothing.
 pub fn steps()
     ensures rule { (s : Setting) (a : Arena) → RuleHolds s a → StepsKeep s a }
     ensures answer { (s : Setting) (a : Arena) → RuleHolds s a → StepsMayAnswer a }
@@ -62,9 +62,8 @@ pub fn counts_are_of_records()
     ensures { (s : Setting) (a : Arena) (rule : RuleHolds s a) → CountsRecords s rule.blocks a }
 {}
 
-/// The law of the end: where one seat is left that stands for all workers, and they have ended,
-/// the tree is closed, and the number of each playout stands in the seat's walks once. It does
-/// nothing.
+/// The law of the end: if one seat is left that stands for all workers, and they have ended, the
+/// tree is closed, and the number of each playout stands in the seat's walks once. It does nothing.
 pub fn closes()
     ensures closed { (s : Setting) (a : Arena) → RuleHolds s a → EndsClosed s a }
     ensures walks { (s : Setting) (a : Arena) → RuleHolds s a → EndsWithAllWalks s a }

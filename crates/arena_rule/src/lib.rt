@@ -16,15 +16,40 @@
 //! give ([`steps`]); a split and a join keep it ([`splits`], [`joins`]); it holds of the opening
 //! words ([`begins`]); so it holds along every run ([`runs`]). The adds of a walk are those of the
 //! exact counts ([`adds_are_exact`]), and the counts are those of the records and of the adds in
-//! flight ([`counts_are_of_records`]). Where one seat is left and all workers have ended, the tree
-//! is closed ([`closes`]). A view stays in order ([`views_stay_in_order`]), what a seat knows is
-//! never false later ([`known_blocks_stay`]), and a held block is named by no link
+//! flight ([`counts_are_of_records`]). If one seat is left and all workers have ended, the tree is
+//! closed ([`closes`]). A view stays in order ([`views_stay_in_order`]), what a seat knows is never
+//! false later ([`known_blocks_stay`]), and a held block is named by no link
 //! ([`held_blocks_are_unnamed`]).
 //!
-//! **What is not said.** No law says which schedule happens, that a compare-exchange wins, or that
-//! there is progress.
+//! **What is only tested, or not said.** No law says which schedule happens, that a
+//! compare-exchange wins, or that there is progress.
 //!
 //! **Limits.** None of its own. It takes no memory and no handle.
+//!
+//! **Why so.**
+//!
+//! - The global invariant has a crate of its own above tree_words, so that a change in it doesn't
+//!   check anew what stands on the closed tree alone. It names `atomic_table` for that crate's
+//!   lemmas on lists alone.
+//! - A view is no struct: `SeatView` is a record of specs, and no value of [`View`] is made. So a
+//!   view can have the tree's own lists of blocks, and no law is stated twice.
+//! - What a seat knows is a list of whole blocks. A block is determined by its first word and its
+//!   parent's board, so a look at its header or moves teaches nothing.
+//! - A new link names a block that lies behind the node, inside the area, and shares no word with a
+//!   known block or the held one. Without this one word could be the tally of a node and the header
+//!   of another block, each answer being allowed.
+//! - The part Sums is in whole words: a tally is the sum of what all updates add, 2^32 and a win.
+//!   An Add is then one number more, with no bound; that visits and wins are the exact counts is
+//!   [`adds_are_exact`], that no half overflows follows from `few`, and that wins are at most
+//!   visits is [`wins_are_among_visits`].
+//! - Sums go over walks and not over records: an empty record would read as a visit of the root.
+//! - Spent views have width 0 and are empty, so each sum is 0 there and no part has an exception. A
+//!   joined view has nothing in hand: by the rule all its workers have ended, which a view alone
+//!   doesn't know.
+//! - A held block has a word at least, or it would not follow that no link names it. A Publish asks
+//!   what a Claim asks (`MayGetBlock`), so no block without a node is linked.
+//! - Done fits once all workers have ended, and changes nothing; a caller asks no Done. A Note
+//!   forgets all loads, so the bounds on growth rest on the loads of one walk alone.
 #![tactic(auto)]
 
 mod laws;

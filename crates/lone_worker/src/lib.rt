@@ -14,8 +14,8 @@
 //! **What is proved.** Where a walker has run alone and is done, the copy of the words shows the
 //! tree of the sequential search ([`one_worker_is_sequential`]).
 //!
-//! **What is not said.** How many steps it takes; the words that no tree shows, as NEXT, TICKET and
-//! the records, are bound by the arena rule alone.
+//! **What is only tested, or not said.** How many steps it takes; the words that no tree shows, as
+//! NEXT, TICKET and the records, are bound by the arena rule alone.
 //!
 //! **How it is proved.** Steps are not played after one by one. By the rule all counts are a
 //! function of the linked blocks and the recorded walks, so between two steps a search is the
@@ -27,6 +27,14 @@
 //! (proofs/Walked.antt).
 //!
 //! **Limits.** None of its own. It takes no memory and no handle.
+//!
+//! **Why so.**
+//!
+//! - The law is a crate of its own, above walker, so that a change in it doesn't check the walker
+//!   anew. It names the walker's definition and the view, and no table: a caller whose answers are
+//!   ones that the step may give can cite it.
+//! - Claims, publishes and the first updates of walks are at a node to which the choices lead and
+//!   that has no block or a full board, which Belongs says (`IsBare`).
 #![tactic(auto)]
 
 mod laws;

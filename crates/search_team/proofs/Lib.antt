@@ -1,3 +1,9 @@
+-- How to read the proof of `search_team::work`, `search`: a team makes a closed tree.
+-- 1. What is claimed: src/working.rt and searching.rt; specs/Works.antt.
+-- 2. A worker ends: specs/WorkLeft.antt (what it has left to do), proofs/Numbers and Falls. What a
+--    step keeps is walker's `op` and `got`, and tree_rule's `act`.
+-- 3. The team, by halves: proofs/Halves.
+
 -- Steps of this crate's own proofs.
 mod Numbers
 mod Falls

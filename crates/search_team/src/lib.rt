@@ -22,6 +22,21 @@
 //! number, how often and when the gate is passed, and speed.
 //!
 //! **Limits.** Those of a shape: 1 to 64 workers. The threads take their stacks from the system.
+//!
+//! **Why so.**
+//!
+//! - `genmove` and mode `bench` search by a team also with one worker, whose tree is that of the
+//!   sequential definition. The plain search over a vector is that definition's program, and tests
+//!   compare the two.
+//! - No clause says that two workers run side by side: a search that lets them work one after
+//!   another makes closed trees too. So each worker passes a gate once, before its first update,
+//!   and a test hands in a gate that holds workers until the others have come.
+//! - The scan's loop takes a whole child at a turn ([`walker::Scan::child_ops`]), by contracts that
+//!   say what three single calls do: so it doesn't ask in which word of a child it is, and its
+//!   state stays in a local. The order of the steps is the same. Looks after a child without visits
+//!   have a loop of their own, since nothing is chosen there any more.
+//! - Full scores stand in the loop too: kept out of it by a call they took 4 % more instructions of
+//!   a search, since a call's saved registers are paid for each child.
 #![tactic(auto)]
 
 mod climbing;

@@ -1,11 +1,11 @@
 //! The search of one worker, over a plain vector of words: the definition's plain program.
 //!
 //! **Nouns.** A *walk* goes from the root down to a *leaf*, a node without a block: at each node
-//! with a block to the child that Choice takes. Where the leaf has as many visits as the expand
-//! number says, an empty cell on its board and room in the area, it gets its block first, and the
-//! walk goes on to a child. Then comes the *playout* from the leaf's board, and its *adds*: to the
-//! tally of each node on the way, to the seen word of each node of their blocks whose cell holds a
-//! stone of its mover, and the playout's record.
+//! with a block to the child that Choice takes. If the leaf has as many visits as the expand number
+//! says, an empty cell on its board and room in the area, it gets its block first, and the walk
+//! goes on to a child. Then comes the *playout* from the leaf's board, and its *adds*: to the tally
+//! of each node on the way, to the seen word of each node of their blocks whose cell holds a stone
+//! of its mover, and the playout's record.
 //!
 //! **A caller** makes a `Shape` and calls [`plain_search`]: `plain_search(rt.alloc(), &shape)?`.
 //!
@@ -21,6 +21,12 @@
 //! those of the walks made so far, `Searched` both with the tree.
 //!
 //! **Limits.** Those of a `Shape`. One allocation of all words; a walk takes no memory.
+//!
+//! **Why so.**
+//!
+//! - After a new block a walk looks for its leaf again from the root. It could go on from the old
+//!   leaf; that costs one descent for each block made, which are few, and the code and its proof
+//!   have one way down.
 #![tactic(auto)]
 
 mod adding;

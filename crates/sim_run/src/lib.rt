@@ -23,6 +23,13 @@
 //! TICKET says how many draws are left at most.
 //!
 //! **Limits.** Those of a shape.
+//!
+//! **Why so.**
+//!
+//! - The views of a simulation stand in proofs alone: the loop's measure is told from the words and
+//!   the walkers, by the draws that are left and what the walks in hand have left. With one worker
+//!   the first view has its copy of the opening words; with several they are views of width 1,
+//!   joined at the end to one, which closes the tree.
 #![tactic(auto)]
 
 mod errors;

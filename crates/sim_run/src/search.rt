@@ -25,7 +25,7 @@ fn find_stray(shape: &Shape, schedule: &[u8]) -> Option<usize>
 /// are done. The entries of a worker that is done are passed over. One worker makes the tree of
 /// the sequential search.
 ///
-/// `NoSuchWalker` comes exactly where the schedule has a number that is no worker's, with its first
+/// `NoSuchWalker` comes exactly if the schedule has a number that is no worker's, with its first
 /// place, before memory is taken. All memory is taken before the first step.
 pub fn simulate(alloc: Global, shape: &Shape, schedule: &[u8]) -> Result<Closed, SimError>
     ensures shape { IfOk result (λ closed. closed.shape ≡ shape.now) }

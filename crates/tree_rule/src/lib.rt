@@ -21,11 +21,25 @@
 //! they are that copy. `make` takes all memory, of which its only refusal speaks; no other call
 //! takes any, and none waits.
 //!
-//! **What is not said.** Which worker draws which number, that two workers ran at the same time,
-//! that a publish wins its race, and progress.
+//! **What is only tested, or not said.** Which worker draws which number, that two workers ran at
+//! the same time, that a publish wins its race, and progress.
 //!
 //! **Limits.** Those of a shape: 1 to 64 workers, 1 to 1,000,000 playouts, 1,024 to 16,777,216
 //! words of blocks. Two allocations of all words stand from `make` to `close`.
+//!
+//! **Why so.**
+//!
+//! - A seat is of this tree (`IsOf`) if its table is the tree's and its view has the tree's shape.
+//!   The second is there because a join learns nothing of the rule, and views of two shapes could
+//!   not be joined in order.
+//! - A seat's number in its table is not seen, and no clause names a private field: tree and seat
+//!   are seen through models. Contracts of make, split, join and act say again that views are in
+//!   order, since a walker's Belongs asks it.
+//! - Each call says that the arena rule holds as far as it sees it. The kit gives a step the state
+//!   in which it was made, so `act` says that the rule holds before and after; it gives a split and
+//!   a join none, so they say that they keep the rule.
+//! - The closed words are the opening words, not cleared: `close` copies only the words below NEXT,
+//!   since behind NEXT both are 0. So no memory is taken after `make`.
 #![tactic(auto)]
 
 mod plays;

@@ -32,6 +32,18 @@
 //!
 //! **Limits.** 1 to 64 workers, 1 to 1,000,000 playouts, 1,024 to 16,777,216 words of blocks,
 //! blocks of at most 488 words. Only `report` and `make_opening` take memory.
+//!
+//! **Why so.**
+//!
+//! - That words show a tree (`IsTreeOf`) says that some list of linked blocks is named by their
+//!   links and shows that tree; the list is no part of the words.
+//! - In the sequential definition a leaf gets its block before the walk's updates, and is looked
+//!   for again: the same walk, since a new block changes no count and its first child has no visit.
+//! - One call, [`make_opening`], makes the opening words for the plain search, the shared tree and
+//!   the simulation, and a law says that no others are opening words.
+//! - Each linked block has a node (`HaveNodes`): kept by a search, and no part of the closed tree,
+//!   which an audit of words doesn't ask. The end of the root's block is read from the words
+//!   (`root_end`).
 #![tactic(auto)]
 
 mod closed_tree;

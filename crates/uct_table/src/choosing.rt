@@ -8,7 +8,7 @@ use super::scoring::{MOST_COUNT, MOST_WEIGHT, score};
 /// Whether the second child, with visits v2, wins w2, seen visits a2 and seen wins b2, is strictly
 /// preferred to the first, below p visits and with the weight c.
 ///
-/// True exactly where v1 is at least 1 and either v2 is 0 or the second score is the greater. So a
+/// True exactly if v1 is at least 1 and either v2 is 0 or the second score is the greater. So a
 /// child without visits is kept against every other, and equal scores keep the first. Counts are
 /// from 0 to 1,048,576, v1 and v2 may be 0, and c is from 0 to 1,024.
 #[tactic(auto, unfolding(crate::specs::Choice::is_better))]

@@ -138,7 +138,7 @@ impl Climb {
         }
     }
 
-    /// The next add; Done where none is left.
+    /// The next add; Done if none is left.
     #[inline(always)]
     pub fn op(&self) -> Op
         ensures { result ≡ add_op self.now }

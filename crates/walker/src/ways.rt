@@ -77,7 +77,7 @@ impl Way {
         self.depth += 1;
     }
 
-    /// Takes the deepest level away; `None` exactly where there is none.
+    /// Takes the deepest level away; `None` exactly if there is none.
     pub(crate) fn pop(&mut self) -> Option<Level>
         ensures { MatchOption result ((self.old ≡ []) × (self.new ≡ []))
             (λ level. self.old ≡ level ∷ self.new) }
