@@ -13,38 +13,63 @@
 //! let status = run(alloc, &words, &mut devices, &mut errors);
 //! ```
 //!
-//! **What is proved**, in the words of `specs/Runs.antt`, `specs/Causes.antt`, `specs/Modes.antt`
-//! and htp_session's `specs/Endings.antt`: where the link tells it, what was given is the talk over
-//! the lines of what was taken, as far as each status says, with the files that came of the shelf's
-//! fetches and the turns that the archive took. Each of these turns is good, in the words of
-//! hex_plan. With status 0 each line was answered, up to an answered `quit`, and all was used up.
-//! All whole lines taken were answered before the next read, and no read that was answered follows
-//! an answered `quit`. What fails first ends the run: a count of faults rose with its own status
-//! (3, 4 or 7) and is as before with every other. Status 2 comes only where the words are not well
-//! formed, 6 exactly where one byte more than [`INPUT_LIMIT`] was taken, 7 before a `genmove` that
-//! is not refused. With status 5 the lines that were answered used up all that was used up, so no
-//! turn is thrown away. The errors get the one line of the status. Each generated move of a run
-//! that is done is legal; its turn is for the board of the game before, and stands at its place of
-//! the archive; where it is certified it wins against every reply, and else it is the best of its
-//! closed tree (specs/Headline.antt). Each turn that was used up is good; a move outside the
-//! carrier of one of its threats loses, and where its plan says that the board is lost each move
-//! does (specs/Playing.antt). With one worker and without connections the words, the bytes read and
-//! the files determine what is given (specs/Determined.antt). In the modes that take their whole
-//! input the text is that of the bytes taken (specs/CertTexts.antt, specs/AuditTexts.antt,
-//! specs/SolveTexts.antt), with status 1 exactly where it does not accept them. In modes `sim` and
-//! `bench` the archive took one turn, and the text is that of this turn, in the words of
-//! turn_modes. The shelf stands idle in each mode but `htp`, and the archive where the input is
-//! taken whole. [`trace_name`] is the name that `--trace` says.
+//! **What is proved**, of links, shelves and archives that tell what they hold, in the words of
+//! specs/Runs.antt, Causes.antt and Modes.antt and of htp_session's specs/Endings.antt:
 //!
-//! **Only tested, or not said.** That memory suffices: a run may always end with status 5, which no
-//! clause ties to a refused growth; and a quiet answer that is dropped then can't be told from
-//! memory that ran out earlier. That a run which met a fault reads and writes no more, where it
-//! answers that fault's status all the same. That workers run side by side, which two gates show.
-//! How fast it is.
+//! - Mode `htp`: what was given is the talk over the lines of what was taken, as far as each status
+//!   says, with the files that came of the shelf's fetches and the turns that the archive took.
+//!   With status 0 each line was answered, up to an answered `quit`, and all was used up. All whole
+//!   lines taken were answered before the next read, and no read that was answered follows an
+//!   answered `quit`. With status 5 the lines that were answered used up all that was used up, so
+//!   no turn is thrown away.
+//! - Each generated move of a run that is done is legal; its turn is for the board of the game
+//!   before, and stands at its place in the archive; if it is certified it wins against every
+//!   reply, and otherwise it is the best of its closed tree (specs/Headline.antt).
+//! - Each turn that was used up is good; a move outside the carrier of one of its threats loses,
+//!   and if its plan says that the board is lost each move does (specs/Playing.antt).
+//! - With one worker and without connections the words, the bytes read and the files determine what
+//!   is given (specs/Determined.antt).
+//! - In the modes that take their whole input the text is that of the bytes taken
+//!   (specs/CertTexts.antt, AuditTexts.antt, SolveTexts.antt), with status 1 exactly if it does not
+//!   accept them.
+//! - In modes `sim` and `bench` the archive took one turn, and the text is that of this turn, in
+//!   the words of turn_modes.
+//! - What fails first ends the run: a count of faults rose with its own status (3, 4 or 7) and is
+//!   as before with every other. Status 2 comes only if the words are not well formed, 6 exactly if
+//!   one byte more than [`INPUT_LIMIT`] was taken, 7 before a `genmove` that is not refused. The
+//!   errors get the one line of the status.
+//! - The shelf is not used in any mode but `htp`, and the archive not if the input is taken whole.
+//! - [`trace_name`] is the name that `--trace` says.
+//!
+//! **What is only tested, or not said.** That memory suffices: a run may always end with status 5,
+//! which no clause ties to a refused growth; and a quiet answer that is dropped then can't be told
+//! from memory that ran out earlier. That a run which met a fault reads and writes no more, where
+//! it answers that fault's status all the same. That workers run side by side, which two gates
+//! show. How fast it is.
 //!
 //! **Limits.** An input of [`INPUT_LIMIT`] bytes. In mode `htp` each answer is given before the
 //! next line is looked at, so no memory grows with the input but the game's own; the modes that
 //! take their whole input keep it.
+//!
+//! **Why so.**
+//!
+//! - What is done in a mode is one relation by mode, behind private clauses; `run` has a clause for
+//!   each mode, and two on what is not used.
+//! - The clauses of the modes speak of one record, the words, the status and what the devices hold
+//!   before and after (`RunData`), and `InMode` says once for which words and which end: so a mode
+//!   is one relation that can be read aloud.
+//! - The headline names a plan's two forms and not what a plan is (`IsGeneratedMove`,
+//!   `WinsOrIsBest`), so who asks about searched moves reads nothing of connections. `good_turns`
+//!   and `threats` are clauses of their own for the same reason. Each clause of mode `htp` but
+//!   `determined` says of a list of loads and turns that the session used up just this (`PlaysBy`).
+//!   An archive that tells fixes the turns; one that doesn't leaves each clause its own list.
+//! - The mover of mode `solve` is the other of who made the last step, and Black before any: never
+//!   by the count of stones, since a record may set stones up, a swap changes no count, and a
+//!   player may move twice. A decided board is answered by `over`. What is said of a position is
+//!   any answer that meets the solver's clauses (`IsSolved`), so it names no order of the search.
+//! - A body that goes on after a fault and answers that fault's status at the end meets the clauses
+//!   on counts, which say that a count rose and not how often. The test `faults_each` of
+//!   session_tests refuses it.
 #![tactic(auto)]
 
 mod audits;

@@ -11,7 +11,7 @@ use std::alloc::Global;
 
 /// The name of the file for traces, which is the value of `--trace`.
 ///
-/// There is none exactly where the words are refused or don't have the option. The words are those
+/// There is none exactly if the words are refused or don't have the option. The words are those
 /// that [`run`](crate::run) reads; what it answers doesn't depend on the option, but that an empty
 /// name is refused. Memory may run out.
 pub fn trace_name(alloc: Global, words: &[Word]) -> Result<Option<Word>, Memory>

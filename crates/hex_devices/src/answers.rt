@@ -31,11 +31,11 @@ pub trait InputReader {
         ensures { IfOk result (λ a. answers self.now input.now a.text.items a.accepted) };
 }
 
-/// Takes all that is to come, where it has at most `limit` bytes, and gives the text that answers
-/// it. It says whether the input was accepted. The reader answers so many bytes.
+/// Takes all that is to come, if it has at most `limit` bytes, and gives the text that answers it.
+/// It says whether the input was accepted. The reader answers so many bytes.
 ///
-/// `ReadFault` and `WriteFault` come only where the link counted that fault, `TooLong` exactly
-/// where `limit + 1` bytes were taken. It refuses nothing else but for want of memory.
+/// `ReadFault` and `WriteFault` come only if the link counted that fault, `TooLong` exactly if
+/// `limit + 1` bytes were taken. It refuses nothing else but for want of memory.
 pub fn answer_input<L: Link, R: InputReader>(
     alloc: Global,
     link: &mut L,

@@ -85,7 +85,7 @@ impl<L: Link, F: Shelf, A: Archive, R: Threads + Sync, G: Gate + Sync> Devices<
         }
     }
 
-    /// Gives all of the bytes. At a fault a front of them was given.
+    /// Gives all of the bytes. At a fault a prefix of them was given.
     pub fn give(&mut self, bytes: &[u8]) -> Result<(), Stop>
         ensures gives { GivesAll self.old self.new bytes.now result }
         ensures shelf_and_archive { shelf_and_archive self.new ≡ shelf_and_archive self.old }

@@ -7,7 +7,7 @@ ghost use Rattle.hex_devices.specs.Devices.{RisesWith};
 use crate::stops::Stop;
 use hex_io::{Link, give};
 
-/// Gives all of the text. At a write fault a front of it was given that is not all of it; it
+/// Gives all of the text. At a write fault a prefix of it was given that is not all of it; it
 /// refuses nothing else.
 pub fn give_text<L: Link>(link: &mut L, text: &[u8]) -> Result<(), Stop>
     ensures all { OnOk result (Gave (L.told link.old) (L.told link.new) text.now) }

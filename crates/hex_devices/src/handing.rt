@@ -10,9 +10,9 @@ use hex_io::Link;
 use hex_plan::{Archive, Turn};
 
 /// Hands the turn to the archive, and then gives the text. It reads nothing, and the text is given
-/// only where the archive took the turn.
+/// only if the archive took the turn.
 ///
-/// `ArchiveFault` and `WriteFault` come only where the archive or the link counted that fault. It
+/// `ArchiveFault` and `WriteFault` come only if the archive or the link counted that fault. It
 /// refuses nothing else, and takes no memory.
 pub fn hand_over<L: Link, A: Archive>(
     link: &mut L,

@@ -25,11 +25,11 @@ pub fn read_some<L: Link>(link: &mut L, buffer: &mut [u8], room: usize) -> Resul
     link.read(&mut buffer[..room])
 }
 
-/// Takes all that is to come, where it has at most `limit` bytes. One byte more ends it, as does
-/// the first fault; nothing is read after either.
+/// Takes all that is to come, if it has at most `limit` bytes. One byte more ends it, as does the
+/// first fault; nothing is read after either.
 ///
-/// `ReadFault` comes only where the link counted a fault, `TooLong` exactly where `limit + 1` bytes
-/// were taken. It refuses nothing else but for want of memory.
+/// `ReadFault` comes only if the link counted a fault, `TooLong` exactly if `limit + 1` bytes were
+/// taken. It refuses nothing else but for want of memory.
 pub fn take_all<L: Link>(alloc: Global, link: &mut L, limit: usize) -> Result<Vec<u8>, Stop>
     ensures takes { TakesAll (L.told link.old) (L.told link.new) limit result }
     ensures read_fault { RisesWith Stop.ReadFault

@@ -18,15 +18,32 @@
 //! **What is proved.** [`take_all`] takes all that is to come, up to a limit, in the words of
 //! specs/Inputs.antt. [`answer_input`] gives the text by which an [`InputReader`] answers it. A
 //! turn that is handed over was taken before the first byte of its text was given ([`hand_over`],
-//! specs/Handing.antt). At a write fault a front of its text was given that is not all of it, and
+//! specs/Handing.antt). At a write fault a prefix of its text was given that is not all of it, and
 //! with every other stop nothing (specs/Giving.antt). A count of faults rose with its own [`Stop`]
 //! and is as before with every other outcome (specs/Devices.antt). No two ends have one status
 //! (specs/Statuses.antt).
 //!
-//! **Only tested, or not said.** That memory suffices. That after a fault nothing is read or
-//! written.
+//! **What is only tested, or not said.** That memory suffices. That after a fault nothing is read
+//! or written.
 //!
 //! **Limits.** None of its own: each caller says the most bytes of an input.
+//!
+//! **Why so.**
+//!
+//! - What a run is made over is one value, [`Devices`], and contracts see one record of it: what
+//!   link, shelf and archive hold and their counts of faults. Its `names` are the three references:
+//!   whoever takes the devices apart again has to know that they are the same, and `run` says so.
+//! - It is a crate below the session: what takes a whole input or hands in one turn needs no
+//!   engine.
+//! - Both programs end by [`End`], so one place names each fault, status and line. A run of
+//!   hexmatch has four of these ends, and says so (`IsMatchStatus`).
+//! - A text is given by one relation, `GivesText`: all of it, at a write fault a prefix that is not
+//!   all of it, and nothing at any other stop. A whole input's answer has its own, `AnswersInput`,
+//!   since the same link first gave the input.
+//! - A mode that takes a whole input is a reader with a ghost relation between the bytes, the text
+//!   and whether they are accepted; so how input is taken, the limit, the faults and the status are
+//!   proved once. The reader says how many bytes it answers, since an audit counts trees in 32
+//!   bits.
 #![tactic(auto)]
 
 mod answers;

@@ -76,7 +76,7 @@ pub const COMMANDS: [Command; 18] = [
 ];
 
 impl Command {
-    /// The command of that name, compared byte by byte. `None` exactly where no command has it.
+    /// The command of that name, compared byte by byte. `None` exactly if no command has it.
     #[tactic(auto, unfolding(crate::specs::Commands::command_named))]
     pub fn named(word: &[u8]) -> Option<Command>
         ensures { result ≡ command_named word.now }

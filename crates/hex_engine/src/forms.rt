@@ -93,7 +93,7 @@ pub fn read_sizes(args: &[Bytes]) -> Option<(u32, u32)>
     }
 }
 
-/// The colour, where it is the only argument.
+/// The colour, if it is the only argument.
 pub fn lone_colour(args: &[Bytes]) -> Option<Colour>
     ensures { result ≡ lone_colour args.now }
 {
@@ -103,7 +103,7 @@ pub fn lone_colour(args: &[Bytes]) -> Option<Colour>
     }
 }
 
-/// The name of a file, where it is the only argument and valid UTF-8.
+/// The name of a file, if it is the only argument and valid UTF-8.
 #[tactic(auto, using(crate::proofs::Names::name_is, crate::proofs::Names::name_is_none))]
 pub fn file_name(args: &[Bytes]) -> Option<&str>
     ensures { option_map (λ name. name.now) result ≡ file_named args.now }

@@ -13,7 +13,7 @@
 //!
 //! **What is proved.** The reply and what stands after it are a function of what stood before, of
 //! what was used up, and of the request (specs/Requests.antt). Each load is what the shelf's fetch
-//! gave: the game of which the file is a record, or a refusal exactly where it is of none
+//! gave: the game of which the file is a record, or a refusal exactly if it is of none
 //! (specs/Uses.antt). Each turn is good: it was planned, and searched among the allowed cells where
 //! its plan is no win. The archive has it before its cell is played; its answer and its texts were
 //! made before, and the answer is brief. After want of memory or an archive's fault nothing
@@ -29,6 +29,25 @@
 //! table of commands.
 //!
 //! **Limits.** Boards of size 1 to 11, and 1 to 64 workers.
+//!
+//! **Why so.**
+//!
+//! - The answer to `loadsgf` depends on a file, and that to `genmove` on a search. So a
+//!   conversation is a function of the lines and of two lists, of loads and of searched turns, each
+//!   used in turn: it computes, and needs neither files nor searches. The contract of `run` says
+//!   that there are such lists and where they came from. A load has the name that was asked for and
+//!   what came of it, since whether bytes are a record of a game is a relation and no function. A
+//!   load or turn that doesn't fit stops the conversation.
+//! - `Engine::line` is made for every number of turns; the count is a `u64`, and a `genmove` that
+//!   would pass its end is answered as out of memory, which no session reaches.
+//! - The engine keeps the last turn's texts and neither its tree nor its reports, so that their
+//!   memory is free before the next turn. What a turn needs (its texts, its vertex, the count) is
+//!   made before it is handed over: after `archive.take` nothing can fail.
+//! - A quiet command is a type of its own. What it does is a reply and the game after it, so
+//!   options, number of turns and last texts stay by construction, and no proof has a table of
+//!   commands.
+//! - Contracts use the declared types `Request`, `Parsed` and `Loaded`, with no record in specs/
+//!   that mirrors one.
 #![tactic(auto)]
 
 mod answers;

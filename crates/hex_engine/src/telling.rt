@@ -60,9 +60,8 @@ pub fn name_of_winner(board: &Board) -> &'static [u8]
     }
 }
 
-/// `known_command`, with a word.
-/// Fails: `syntax error`.
-/// Answers `true` exactly where a command has this name, else `false`.
+/// `known_command`, with a word. Fails: `syntax error`. Answers `true` exactly if a command has
+/// this name, else `false`.
 pub fn know(alloc: Global, args: &[Bytes]) -> Result<Answer, Memory>
     ensures { IfOk result (Tells (knowing args.now)) }
 {

@@ -1,3 +1,21 @@
+-- How to read the proof of `hex_plan::plan`, `plans_tell_who_wins`, `certified_moves_win`: what is
+-- planned, and that certified moves win.
+-- 1. What is claimed: src/planning.rt, `plan`, and laws.rt; specs/Plans.antt (`IsPlanned`),
+--    Turns.antt, Good.antt, Laws.antt. Behind these stand the report (hsearch, specs/Closed.antt),
+--    the cut (win_cert, specs/Cuts.antt) and winning (hex_board, specs/Wins.antt).
+-- 2. The plan: win_cert's src/edges.rt with proofs/EdgeNumbers (the entries between the two edges),
+--    and src/edges.rt here with EdgeNumbers (whether there is one), winning.rt with Middles (a semi
+--    entry between the edges follows over an empty cell, and the carrier of a full one has a cell),
+--    MiddleOf and WinningCells (the cell by which such an entry wins), collecting.rt with Collected
+--    (the threats, by rising carriers), regions.rt (the mustplay region); specs/Planning.antt,
+--    which only private clauses cite; proofs/PlanLaws and Allowing (the allowed cells are empty,
+--    and there is one).
+-- 3. Turns: src/turns.rt with proofs/Decides; their texts: src/texts.rt, report_texts.rt,
+--    mustplay_texts.rt with proofs/Rows and Lines.
+-- 4. The laws: proofs/SureWins (who is sure of joining his edges on a later board wins it, by
+--    conn_store's laws `truth_goes_on` and `connected_edges_win`), CertifiedMoves (of plans, and so
+--    of good turns). With one worker: Reports and Same.
+
 -- Laws for the layers above.
 pub mod CertifiedMoves
 pub mod Reports

@@ -10,8 +10,8 @@ use conn_store::Kind;
 use hsearch::Report;
 use win_cert::edge_numbers;
 
-/// The number of an entry between the edges of the player, who is not joined: a semi one, where
-/// there is one. `None` exactly where there is none of either kind.
+/// The number of an entry between the edges of the player, who is not joined: a semi one, if there
+/// is one. `None` exactly if there is none of either kind.
 pub(crate) fn edge_entry(report: &Report) -> Option<u32>
     requires { are_joined report.now.elements ≡ false }
     ensures some { IfSome result (HasEdgeEntryAt report.now) }

@@ -11,7 +11,7 @@ use super::turns::Turn;
 use std::alloc::Global;
 use std::marker::Model;
 
-/// An archive in memory. It tells all its turns, and is at fault exactly where it is full.
+/// An archive in memory. It tells all its turns, and is at fault exactly if it is full.
 #[derive(Drop)]
 pub struct MemArchive {
     turns: Vec<Turn>,

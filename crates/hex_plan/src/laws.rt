@@ -9,9 +9,9 @@ ghost use Rattle.hex_plan.specs.Laws.{WinsAsPlanned};
 ghost use Rattle.hex_plan.specs.Reports.{reported_rows, sequential_rows};
 ghost use Rattle.hex_plan.specs.Turns.{TurnData};
 
-/// A law, with nothing to run, of what [`plan`](super::plan) answers, whoever asks for it. Where it
-/// is a win, the player wins after its cell against every reply. After a move outside the carrier
-/// of one of its threats, and, where it says that the board is lost, after every move, the other
+/// A law, with nothing to run, of what [`plan`](super::plan) answers, whoever asks for it. If it is
+/// a win, the player wins after its cell against every reply. After a move outside the carrier of
+/// one of its threats, and, where it says that the board is lost, after every move, the other
 /// player wins with himself to move.
 pub fn plans_tell_who_wins()
     ensures wins { HoldsOfPlans WinsAsPlanned }
@@ -19,8 +19,8 @@ pub fn plans_tell_who_wins()
     ensures lost { HoldsOfPlans LosesAsPlanned }
 {}
 
-/// A law, with nothing to run: where the plan of a good turn is a win, its player wins after its
-/// cell against every reply.
+/// A law, with nothing to run: if the plan of a good turn is a win, its player wins after its cell
+/// against every reply.
 pub fn certified_moves_win()
     ensures { (options : Knobs) (hsearch : Bool) (t : TurnData) → IsGood options hsearch t
         → IsCertified t }
@@ -33,15 +33,15 @@ pub fn moves_outside_a_threat_lose()
         → LosesOutsideThreats t }
 {}
 
-/// A law, with nothing to run: where the plan of a good turn says that the board is lost, the
-/// other player wins after each move.
+/// A law, with nothing to run: if the plan of a good turn says that the board is lost, the other
+/// player wins after each move.
 pub fn lost_boards_lose()
     ensures { (options : Knobs) (hsearch : Bool) (t : TurnData) → IsGood options hsearch t
         → LosesWhereLost t }
 {}
 
-/// A law, with nothing to run: with one worker, where no connections are looked for, the report of
-/// a good turn is that of the sequential search, and the options, the board, the player and the
+/// A law, with nothing to run: with one worker, if no connections are looked for, the report of a
+/// good turn is that of the sequential search, and the options, the board, the player and the
 /// number determine the turn's cell, its report and its texts.
 pub fn one_worker_decides()
     ensures report { (options : Knobs) (t : TurnData) → options.workers ≡ 1 →

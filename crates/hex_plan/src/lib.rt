@@ -9,36 +9,41 @@
 //! *archive* takes each turn ([`Archive`]). A turn is *good* for a session's options where it is
 //! what the session owes at that board: the definition `IsGood` of specs/Good.antt.
 //!
-//! **A caller** asks [`may_move`], plans, searches where the plan is a search, makes the turn and
-//! its texts, and hands it to an archive:
+//! **A caller** asks [`may_move`], plans, searches if the plan is a search, makes the turn and its
+//! texts, and hands it to an archive (`decided_turn` of turn_search is this up to the texts):
 //!
 //! ```text
 //! let planned = plan(alloc, board, colour, hsearch)?;
 //! let turn = match planned.allowed() {
 //!     None => Turn::won(board, colour, number, planned),
 //!     Some(allowed) => {
-//!         let shape = turn_shape(board, colour, allowed, &options, number);
-//!         Turn::searched(search(alloc, &shape)?, number, planned)
+//!         let shape = turn_shape(board, colour, allowed, &knobs, number);
+//!         Turn::searched(search(rt, alloc, &shape, &gate)?, number, planned)
 //!     }
 //! };
 //! let texts = turn_texts(alloc, &turn)?;
 //! archive.take(turn)?;
 //! ```
 //!
-//! **What is proved.** [`plan`] is that of specs/Plans.antt: a win exactly where the player's own
-//! report has an entry between his two edges, and else a search among the cells that lie in the
-//! carrier of each semi entry of the other player between his edges, or among all empty cells
-//! where there is none such and the board is lost. Each certificate is accepted, and has the kind
-//! and the carrier of its entry. After the cell of a win its player wins against every reply
-//! ([`certified_moves_win`]); each move outside the carrier of a threat loses
-//! ([`moves_outside_a_threat_lose`]), and each move on a lost board ([`lost_boards_lose`]); so it
-//! is of each plan, also without a turn ([`plans_tell_who_wins`]). The shape of a turn has the
-//! board, the player, the allowed cells, and the options' knobs with the seed `S + number·2^32`
-//! modulo 2^64. The turns that are made here are good. With one worker, where no connections are
-//! looked for, the cell and the texts of a good turn are determined ([`one_worker_decides`]). The
-//! texts are those of specs/TurnTexts.antt ([`turn_texts`]). An archive that tells its turns has
-//! exactly this turn more at the end; a fault comes only where its count rose, and then no turn
-//! changed. A [`MemArchive`] is at fault exactly where it is full, [`NoArchive`] never.
+//! **What is proved.**
+//!
+//! - The plan ([`plan`], specs/Plans.antt) is a win exactly if the player's own report has an entry
+//!   between his two edges. Otherwise it is a search: among the cells that lie in the carrier of
+//!   each semi entry of the other player between his edges, or, if there is none such and the board
+//!   is lost, among all empty cells.
+//! - Each certificate is accepted, and has the kind and the carrier of its entry.
+//! - After the cell of a win its player wins against every reply ([`certified_moves_win`]). Each
+//!   move outside the carrier of a threat loses ([`moves_outside_a_threat_lose`]), and each move on
+//!   a lost board ([`lost_boards_lose`]). So it is of each plan, also without a turn
+//!   ([`plans_tell_who_wins`]).
+//! - The shape of a turn has the board, the player, the allowed cells, and the knobs with the seed
+//!   `S + number·2^32` modulo 2^64.
+//! - The turns that are made here are good. With one worker, if no connections are looked for, the
+//!   cell and the texts of a good turn are determined ([`one_worker_decides`]).
+//! - The texts are those of specs/TurnTexts.antt ([`turn_texts`]).
+//! - An archive that tells its turns has exactly this turn more at the end; a fault comes only if
+//!   its count rose, and then no turn changed. A [`MemArchive`] is at fault exactly if it is full,
+//!   [`NoArchive`] never.
 //!
 //! **What is only tested, or not said.** That [`plan`], [`turn_texts`] and `MemArchive::make` get
 //! their memory; which entry a certificate is cut from where several would serve; that a report
@@ -49,6 +54,22 @@
 //! call takes any.
 //!
 //! Source: the mustplay region is this project's own definition.
+//!
+//! **Why so.**
+//!
+//! - A turn has a tree if its plan is a search. If connections join the mover's edges the move is
+//!   certified, and nothing is searched. The laws of one worker have connections off as a premise,
+//!   since the cell of a certified move depends on which connection was cut.
+//! - A threat is a certificate and a carrier. The claim gives the carrier too; it stands beside it
+//!   so that `mustplay` prints it without a look into the report. `IsThreat` ties both to one semi
+//!   entry.
+//! - Threats are one for each carrier. Two semi entries of one pair never have one carrier, but no
+//!   clause of conn_store says so. They are found one after another, each time the least carrier
+//!   from a bound on, so that no list is sorted.
+//! - A win is by a semi entry if there is one, the first by number, since its certificate is
+//!   shorter. No clause says which.
+//! - [`IsGood`](specs/Good.antt) says that no stones of the turn's board overlap or lie off it: the
+//!   law of certified moves needs it, and of a win no search's shape says it.
 #![tactic(auto)]
 
 mod archives;

@@ -8,7 +8,7 @@ use hex_cells::CellSet;
 use hsearch::Report;
 
 /// A plan, and the reports that it rests on: of a win the player's own one, of a search his and
-/// that of the other player, and none where no connections were looked for.
+/// that of the other player, and none if no connections were looked for.
 #[derive(Drop)]
 pub struct Planned {
     pub plan: Plan,
@@ -17,7 +17,7 @@ pub struct Planned {
 }
 
 impl Planned {
-    /// The cells among which is searched; `None` exactly where the plan is a win.
+    /// The cells among which is searched; `None` exactly if the plan is a win.
     pub fn allowed(&self) -> Option<CellSet>
         ensures win { IsNone result ↔ IsWin self.now.plan }
         ensures search { IfSome result (IsSearchAmong self.now.plan) }

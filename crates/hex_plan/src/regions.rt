@@ -16,8 +16,8 @@ pub(crate) struct Region {
     pub lost: bool,
 }
 
-/// The empty cells that lie in each threat's carrier; where there is none, the board is lost, and
-/// all empty cells are allowed.
+/// The empty cells that lie in each threat's carrier; if there is none, the board is lost, and all
+/// empty cells are allowed.
 pub(crate) fn mustplay_region(board: &Board, threats: &[Threat]) -> Region
     ensures { IsMustplay board.now threats.now result.allowed result.lost }
 {

@@ -54,8 +54,8 @@ fn push_rows(alloc: Global, text: &mut Vec<u8>, rows: &[Row], size: Size) -> Res
     Ok(())
 }
 
-/// The text of a turn's report: none where it has no tree. It is `playouts` and their number, and
-/// then a line for each child of the root, in rising order of cells: its vertex, visits and wins.
+/// The text of a turn's report: none if it has no tree. It is `playouts` and their number, and then
+/// a line for each child of the root, in rising order of cells: its vertex, visits and wins.
 pub(crate) fn report_text(alloc: Global, turn: &Turn) -> Result<Option<Vec<u8>>, AllocError>
     ensures { IfOk result (λ report. option_map (λ text. text.items) report ≡ report_of turn.now) }
 {

@@ -35,7 +35,7 @@ impl Model for TurnTexts {
 }
 
 impl TurnTexts {
-    /// The report of the turn's tree; `None` exactly where it has no tree.
+    /// The report of the turn's tree; `None` exactly if it has no tree.
     pub fn report(&self) -> Option<&[u8]>
         ensures { option_map (λ text. text.now) result ≡ self.now.report }
     {
@@ -53,7 +53,7 @@ impl TurnTexts {
         &self.mustplay
     }
 
-    /// The certificate of a win, without its last line feed; `None` exactly where the plan is a
+    /// The certificate of a win, without its last line feed; `None` exactly if the plan is a
     /// search.
     pub fn wincert(&self) -> Option<&[u8]>
         ensures { option_map (λ text. text.now) result ≡ self.now.wincert }

@@ -12,8 +12,8 @@ pub enum Plan {
         cert: Cert,
         cell: Cell,
     },
-    /// A search among the allowed cells. Each move outside the carrier of a threat loses. Where
-    /// the board is lost, no cell lies in all carriers, and all empty cells are allowed.
+    /// A search among the allowed cells. Each move outside the carrier of a threat loses. If the
+    /// board is lost, no cell lies in all carriers, and all empty cells are allowed.
     Search {
         threats: Threats,
         allowed: CellSet,

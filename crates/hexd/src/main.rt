@@ -11,8 +11,8 @@
 //! proved of [`hex_cli::run`], the name of the file of [`hex_cli::trace_name`], and what is written
 //! to it of [`trace_audit::TraceArchive`].
 //!
-//! **Only tested, or not said.** What the terminal or another program gave or got, and what a file
-//! holds.
+//! **What is only tested, or not said.** What the terminal or another program gave or got, and what
+//! a file holds.
 //!
 //! **Limits.** An argument that is no text is a wrong word.
 #![tactic(auto)]
@@ -74,7 +74,7 @@ fn run_with<R: Threads + Sync, A: Archive>(
     run(rt.alloc(), words, &mut devices, errors)
 }
 
-/// The archive over the file that the words name for traces, or none where they name none.
+/// The archive over the file that the words name for traces, or none if they name none.
 fn archive_of<'a>(
     rt: &'a HostRuntime,
     words: &[Word],

@@ -6,7 +6,7 @@
 //! has the mode and the value of each option, given or default. The ranges and defaults are beside
 //! its fields.
 //!
-//! **A caller** hands in the words and gets the options, or none where the words are wrong:
+//! **A caller** hands in the words and gets the options, or none if the words are wrong:
 //!
 //! ```text
 //! let Some(options) = read_words(alloc, &words)? else {
@@ -14,16 +14,26 @@
 //! };
 //! ```
 //!
-//! **What is proved.** [`read_words`] answers options exactly where the words are well formed with
-//! these values, `WellFormed` of `specs/Reading.antt`, and none exactly where no options make them
-//! so. The grammar on which that stands is the crate option_words', for hexd's table of options,
+//! **What is proved.** [`read_words`] answers options exactly if the words are well formed with
+//! these values, `WellFormed` of `specs/Reading.antt`, and none exactly if no options make them so.
+//! The grammar on which that stands is the crate option_words', for hexd's table of options,
 //! `hexd_form` of `specs/Table.antt`.
 //!
-//! **Only tested, or not said.** That memory suffices: a call may always answer [`Memory`]. The
-//! tests have a table of lines, each with its answer by the rules above.
+//! **What is only tested, or not said.** That memory suffices: a call may always answer [`Memory`].
+//! The tests have a table of lines, each with its answer by the rules above.
 //!
 //! **Limits.** The modes are those of [`Mode`]; each other name is refused. There are no short
 //! options, no shortened names, no `--help` and no `--version`. Every word has to be text.
+//!
+//! **Why so.**
+//!
+//! - All options of the table are read and tested in every mode, so that scripts go on working when
+//!   an option gets its effect.
+//! - The name, default, least and greatest number of an option are a constant each, which code and
+//!   definitions name. They are pairs and fours and no struct, since definitions can name no
+//!   constant of a struct's type. The limits of the search stand there by their names in tree_words
+//!   and uct_table. Tests write the numbers out: a test that took them from the table would follow
+//!   it wherever it went.
 #![tactic(auto)]
 
 mod command;

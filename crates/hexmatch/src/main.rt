@@ -8,7 +8,7 @@
 //! **What is proved.** That it is safe and ends whenever its games do. What it answers is proved of
 //! [`match_ref::run_match`].
 //!
-//! **Only tested, or not said.** What the terminal or another program got.
+//! **What is only tested, or not said.** What the terminal or another program got.
 //!
 //! **Limits.** An argument that is no text is a wrong word.
 #![tactic(auto)]

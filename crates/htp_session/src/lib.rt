@@ -15,22 +15,34 @@
 //! let outcome = converse(alloc, &mut devices, &options, size, limit);
 //! ```
 //!
-//! **What is proved**, in the words of `specs/Endings.antt`: where the link tells it, what was
-//! given is the talk over the lines of what was taken, as far as each outcome says, with the files
-//! that came of the shelf's fetches and the turns that the archive took, each of which is good. All
+//! **What is proved**, in the words of `specs/Endings.antt`: if the link tells it, what was given
+//! is the talk over the lines of what was taken, as far as each outcome says, with the files that
+//! came of the shelf's fetches and the turns that the archive took, each of which is good. All
 //! whole lines taken were answered before the next read, and no read that was answered follows an
-//! answered `quit`. What fails first ends it: a count of faults rose with its own `Stop` and is
-//! as before with every other outcome. More at the end of what a talk has to use up changes nothing
-//! of it ([`more_left_is_not_used`]); with one worker it is determined
-//! ([`one_worker_is_determined`], [`one_worker_and_one_shelf_determine`]); and the move of a good
-//! turn is legal where it is played ([`searched_moves_are_legal`]).
+//! answered `quit`. What fails first ends it: a count of faults rose with its own `Stop` and is as
+//! before with every other outcome. More at the end of what a talk has to use up changes nothing of
+//! it ([`more_left_is_not_used`]); with one worker it is determined ([`one_worker_is_determined`],
+//! [`one_worker_and_one_shelf_determine`]); and the move of a good turn is legal where it is played
+//! ([`searched_moves_are_legal`]).
 //!
-//! **Only tested, or not said.** That memory suffices: it may always stop for want of memory, which
-//! no clause ties to a refused growth. That after a fault nothing is read or written. That searches
-//! run in the threads of the runtime, and pass the gate.
+//! **What is only tested, or not said.** That memory suffices: it may always stop for want of
+//! memory, which no clause ties to a refused growth. That after a fault nothing is read or written.
+//! That searches run in the threads of the runtime, and pass the gate.
 //!
 //! **Limits.** Each answer is given before the next line is looked at, so no memory grows with the
 //! input but the game's own.
+//!
+//! **Why so.**
+//!
+//! - Each answer goes out before the next line is looked at. Were answers gathered, a write could
+//!   fail after the archive had, and a run that ends with one fault would have counted the other.
+//! - No turn is taken whose answer can't be given: the text of a `genmove`'s answer is made before
+//!   its turn is handed over, and room for the longest answer of a command that uses something up
+//!   is reserved before the engine is asked. An answer is written into room that its caller
+//!   reserved.
+//! - With status 5 what was written is the transcript over the first m lines, if line m exists, or
+//!   nothing was taken at all. That line m is the one that ran out of memory can't be said: no
+//!   contract sees a refused allocation.
 #![tactic(auto)]
 
 mod answering;

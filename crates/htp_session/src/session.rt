@@ -102,7 +102,7 @@ impl Session {
         }
     }
 
-    /// Takes the last line, where no line feed ends it. `out` is the answer to it then.
+    /// Takes the last line, if no line feed ends it. `out` is the answer to it then.
     fn last<L: Link, F: Shelf, A: Archive, R: Threads + Sync, G: Gate + Sync>(
         &mut self,
         alloc: Global,
@@ -155,7 +155,7 @@ impl Session {
         Ok(false)
     }
 
-    /// Answers the last line, where no line feed ends it.
+    /// Answers the last line, if no line feed ends it.
     pub fn finish<L: Link, F: Shelf, A: Archive, R: Threads + Sync, G: Gate + Sync>(
         &mut self,
         alloc: Global,

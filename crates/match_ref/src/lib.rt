@@ -15,17 +15,32 @@
 //!
 //! **What is proved.** The games of [`play_match`] are the match games of specs/Matches.antt, as
 //! many as the match says and in order, whatever the number of threads and the schedule; each step
-//! is legal; and [`match_games_are_determined`]. [`read_match_words`] answers a match exactly where
+//! is legal; and [`match_games_are_determined`]. [`read_match_words`] answers a match exactly if
 //! the words ask for it. What [`run_match`] gives is the text of the match games of its words, or a
-//! front of it with the status of a write fault, and else nothing; each status has its cause.
+//! prefix of it with the status of a write fault, and else nothing; each status has its cause.
 //!
 //! **What is only tested, or not said.** That games are played side by side: a gate holds each of
 //! two games until the other has come. That memory suffices, that more threads are faster, and
 //! which side is the better one.
 //!
 //! **Limits.** Those of [`Match`] and [`Side`]. A thread holds one tree at a time: 16 bytes for
-//! each of a side's words, its playouts and six more. Where no thread can be made, games are played
-//! in turn.
+//! each of a side's words, its playouts and six more. If no thread can be made, games are played in
+//! turn.
+//!
+//! **Why so.**
+//!
+//! - A half of the games gets every other one, so that games 0 and 1 are the first of two halves in
+//!   every setting: games that take unequally long are shared out, and the test with a gate holds
+//!   for any numbers of games and threads.
+//! - The match game is a relation between a number and a game, as a good turn is; that it
+//!   determines the game is a law of its own.
+//! - The record of a game is made from a game that takes its steps again on the empty board. An
+//!   option of the sides is one line of the table with two names. hexmatch says `hexd: usage`, so
+//!   that scripts look for one line.
+//! - Wrong bodies that stand as no edit, with what refuses them: sides that search with two workers
+//!   (`value` of `side_knobs`); a match without its last game (`one_by_one`, by `AreGamesBy`);
+//!   status 2 whatever happened (`usage`, `untouched`, `played`, `write_fault`, `complete` of
+//!   [`run_match`]). No clause refuses a match on one thread: the tests with a gate do.
 #![tactic(auto)]
 
 mod command;

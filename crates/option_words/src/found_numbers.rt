@@ -14,8 +14,8 @@ pub type NumberOption = (&'static str, &'static str, u32, u32);
 /// The same of a number of 64 bits.
 pub type LongNumberOption = (&'static str, &'static str, u64, u64);
 
-/// The number that was found for this option: what the words say, or the default. There is none
-/// where it is no number as [`small_number`] reads it, or out of the option's range.
+/// The number that was found for this option: what the words say, or the default. There is none if
+/// it is no number as [`small_number`] reads it, or out of the option's range.
 pub fn found_number(found: &ArgMatches<'_>, option: NumberOption) -> Option<u32>
     ensures { (n : ℕ) → (result ≡ Some n)
         ↔ IsNumberFrom option.entry.2 option.entry.3

@@ -18,20 +18,29 @@
 //! let size = found_number(&found, ("size", "11", 1, 11))?;
 //! ```
 //!
-//! **What is proved.** [`find`] finds something only where the words are a line of the form,
-//! `IsLine` of `specs/Lines.antt`, and in every line but one whose positional word is a hyphen
-//! alone; and what it finds of a name is what the line says, or the default. That
-//! definition and the grammar that it stands on, `specs/Grammar.antt`, do not speak of `clap`,
-//! which reads the words here; [`clap_reads_lines`] is the law that both say the same. Numbers are
-//! read by this crate: `clap` takes a plus sign and more than twenty digits.
+//! **What is proved.** [`find`] finds something only if the words are a line of the form, `IsLine`
+//! of `specs/Lines.antt`, and in every line but one whose positional word is a hyphen alone; and
+//! what it finds of a name is what the line says, or the default. That definition and the grammar
+//! that it stands on, `specs/Grammar.antt`, do not speak of `clap`, which reads the words here;
+//! [`clap_reads_lines`] is the law that both say the same. Numbers are read by this crate: `clap`
+//! takes a plus sign and more than twenty digits.
 //!
-//! **Only tested, or not said.** That memory suffices: a call may always answer [`Memory`]. That
-//! nothing is found in a line whose positional word is a hyphen alone. The tables of lines stand in
-//! the tests of the crates above.
+//! **What is only tested, or not said.** That memory suffices: a call may always answer [`Memory`].
+//! That nothing is found in a line whose positional word is a hyphen alone. The tables of lines
+//! stand in the tests of the crates above.
 //!
 //! **Limits.** There are no short options, no shortened names, no `--help` and no `--version`.
 //! Every word has to be text. That a command reads its form, `ReadsForm` of `specs/Command.antt`,
 //! is shown for a given table by computing it.
+//!
+//! **Why so.**
+//!
+//! - Two programs read their words by the same rules, so the grammar, and the proof that `clap`
+//!   reads it, are a crate below both. That a program's command reads its table is computed for
+//!   that table (`ReadsForm`), and not proved of every table: names have to be told apart anyway,
+//!   by computation too.
+//! - A form says only whether a positional word is required; match_ref, which wants none, refuses
+//!   one when it reads the values. So the grammar has no second kind of line.
 #![tactic(auto)]
 
 mod command;

@@ -12,8 +12,8 @@ ghost use Rattle.option_words.specs.Values.{IsNumberFrom, IsShortNumeral, switch
 // The digits of 2^64 - 1: no number in its range needs more.
 const MOST_DIGITS: usize = 20;
 
-/// The number that the text writes in one to twenty decimal digits, without a sign, where it is
-/// from `least` to `most`.
+/// The number that the text writes in one to twenty decimal digits, without a sign, if it is from
+/// `least` to `most`.
 pub fn number(text: Option<&str>, least: u64, most: u64) -> Option<u64>
     ensures { (n : ℕ) → (result ≡ Some n)
         ↔ IsNumberFrom least most (option_map (λ t. t.now) text.entry) n }
@@ -54,7 +54,7 @@ fn are_digits(text: &str) -> bool
     text.as_bytes().iter().all(|b| b.is_ascii_digit())
 }
 
-/// Whether the text turns a thing on; none where it is neither `on` nor `off`.
+/// Whether the text turns a thing on; none if it is neither `on` nor `off`.
 pub fn switch(text: Option<&str>) -> Option<bool>
     ensures { (b : Bool) → (result ≡ Some b)
         ↔ (option_map (λ t. t.now) text.entry ≡ Some (switch_word b)) }

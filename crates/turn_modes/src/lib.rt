@@ -16,9 +16,9 @@
 //! the archive has exactly one turn more, where it tells; the turn is good for a session that looks
 //! for no connections, and has number 0. In sim it is that of the board without stones, with Black
 //! to move, and its tree is that of the schedule; in bench it is that of the position, whose stones
-//! are the longest front of a third of the shuffled cells of which none joins its player. The text
+//! are the longest prefix of a third of the shuffled cells of which none joins its player. The text
 //! is that of the turn. In bench, and in sim with one worker, the options determine it. At a write
-//! fault a front of it was given; at an archive fault or for want of memory nothing was, and the
+//! fault a prefix of it was given; at an archive fault or for want of memory nothing was, and the
 //! archive has the same turns. Counts of faults rise exactly with their stops, and nothing is read
 //! or fetched.
 //!
@@ -26,6 +26,18 @@
 //! suffices. That with several workers sim gives one text for the same options.
 //!
 //! **Limits.** Those of a search; the schedule takes a byte for each step.
+//!
+//! **Why so.**
+//!
+//! - The position of `bench` is the longest prefix, within the first third of the shuffled cells,
+//!   after no stone of which somebody is joined. If nobody was joined before, a new stone joins
+//!   nobody but its player, so that is where placing stops before a stone that would join its
+//!   player.
+//! - A text can be a function of the options only if its cell is one, so the best cell is a
+//!   function of rows (`best_cell`); that it is the cell of `IsBest` is proved.
+//! - The tree of `sim` is that of its schedule by a clause of [`simulation`] and by none of `run`,
+//!   which would ask the reader for the worker as a machine of single steps, some 130 definitions.
+//!   With one worker it is also the sequential search's.
 #![tactic(auto)]
 
 mod modes;

@@ -19,7 +19,7 @@ use std::thread::Threads;
 /// Mode sim: searches the board without stones, with Black to move, by simulated workers whose
 /// schedule is drawn from the seed, and hands in the turn and then its text.
 ///
-/// `ArchiveFault` and `WriteFault` come only where the archive or the link counted that fault. It
+/// `ArchiveFault` and `WriteFault` come only if the archive or the link counted that fault. It
 /// refuses nothing else but for want of memory, before the turn is handed in. It reads nothing, and
 /// fetches nothing from the shelf.
 pub fn simulation<L: Link, F: Shelf, A: Archive, R: Threads + Sync, G: Gate + Sync>(
@@ -43,7 +43,7 @@ pub fn simulation<L: Link, F: Shelf, A: Archive, R: Threads + Sync, G: Gate + Sy
 /// Mode bench: searches the position that the seed and the size make by a team of workers, and
 /// hands in the turn and then its text.
 ///
-/// `ArchiveFault` and `WriteFault` come only where the archive or the link counted that fault. It
+/// `ArchiveFault` and `WriteFault` come only if the archive or the link counted that fault. It
 /// refuses nothing else but for want of memory, before the turn is handed in. It reads nothing, and
 /// fetches nothing from the shelf.
 pub fn benchmark<L: Link, F: Shelf, A: Archive, R: Threads + Sync, G: Gate + Sync>(

@@ -15,7 +15,7 @@ use play_out::{MOST_EMPTIES, write_order};
 pub struct BenchPosition {
     /// The board.
     pub board: Board,
-    /// The player to move: the other than who placed the last stone, Black where none was placed.
+    /// The player to move: the other than who placed the last stone, Black if none was placed.
     pub colour: Colour,
     /// How many stones were placed: at most a third of the cells.
     pub stones: u32,
