@@ -54,6 +54,7 @@ pub fn check(alloc: Global, cert: &Cert) -> Result<Verdict, Memory>
 fn boards_are_positions(board: &Board)
     ensures { IsPosition board.now.size board.now.black board.now.white }
 {
+    // What each board keeps of itself.
     let _size = board.size();
     let _black = board.stones(Colour::Black);
     let _white = board.stones(Colour::White);

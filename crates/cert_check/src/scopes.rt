@@ -14,6 +14,7 @@ impl Checker {
     pub fn put(&self, cells: CellSet) -> Result<(), Reason>
         ensures { AllowsLine self.now (Line.Put cells) result }
     {
+        // What each set keeps of itself.
         let _bits = cells.bits();
         if cells.inside(self.base.empties()) {
             Ok(())

@@ -21,6 +21,7 @@ impl Board {
         requires white_on { Within size white }
         ensures { result ≡ record { size = size; black = black; white = white } }
     {
+        // What each size keeps of itself.
         let _n = size.get();
         Board { size, black, white }
     }

@@ -112,6 +112,7 @@ impl Game {
         self.before.clear();
     }
 
+    /// The board before the first step.
     pub fn start(&self) -> &Board
         ensures { result.now ≡ self.now.start }
     {
@@ -125,6 +126,7 @@ impl Game {
         &self.board
     }
 
+    /// The history: the steps from the start board on, the oldest first.
     pub fn steps(&self) -> &[Step]
         ensures { result.now ≡ self.now.steps }
     {

@@ -40,6 +40,7 @@ fn record_is_read_back(game: &Game)
     ensures { game_of (record_of game.now) ≡ Ok game.now }
 {
     let start = game.start();
+    // What each board keeps of itself.
     let _size = start.size();
     let _black = start.stones(Colour::Black);
     let _white = start.stones(Colour::White);
