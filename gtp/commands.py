@@ -1,5 +1,5 @@
-"""The commands that bin/hexd-gtp answers itself (docs/use/MANUAL.md, "More commands"), by what hexd
-answers. There is no rule of the game here. gtp/filter.py hands hexd all else."""
+"""The commands that bin/hexd-gtp answers itself (docs/use/OTHER-PROGRAMS.md), by what hexd answers.
+There is no rule of the game here. gtp/filter.py hands hexd all else."""
 
 import os
 import re

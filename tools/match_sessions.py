@@ -18,7 +18,12 @@ SETTINGS = [
     {"size": 4, "games": 4, "seed": 7, "a": {"playouts": 60, "weight": 0}, "b": {"playouts": 200, "expand": 3}},
     {"size": 3, "games": 3, "seed": 2**64 - 1, "a": {"playouts": 30}, "b": {"playouts": 30, "words": 1024}},
 ]
-DEFAULTS = {"playouts": 1000, "words": 65536, "expand": 8, "weight": 180}
+
+
+def defaults():
+    """What a side has by default: the lines of hexmatch's table that have a name for each side."""
+    table = (ROOT / "crates" / "match_ref" / "src" / "table.rt").read_text(encoding="utf-8")
+    return dict(re.findall(r'^pub const \w+: SideNumber = \("(\w+)-a", "\w+-b", "(\d+)"', table, re.M))
 
 
 def match_records(setting):
@@ -31,7 +36,7 @@ def match_records(setting):
 
 def session(setting, side, game):
     seed = (setting["seed"] + (2 * game + "ab".index(side)) * 2**40) % 2**64
-    words = [f"--{name}={value}" for name, value in {**DEFAULTS, **setting[side]}.items()]
+    words = [f"--{name}={value}" for name, value in {**defaults(), **setting[side]}.items()]
     return Engine("--hsearch", "off", f"--size={setting['size']}", f"--seed={seed}", *words)
 
 
