@@ -25,7 +25,7 @@ pub trait InputReader {
     /// The most bytes that it answers.
     ghost most: { Self → ℕ };
 
-    /// The answer to an input. The only refusal is want of memory.
+    /// The answer to an input. It refuses only if memory runs out.
     fn answer(&self, alloc: Global, input: &[u8]) -> Result<InputAnswer, AllocError>
         requires { length input.now ≤ most self.now }
         ensures { IfOk result (λ a. answers self.now input.now a.text.items a.accepted) };
@@ -35,7 +35,7 @@ pub trait InputReader {
 /// It says whether the input was accepted. The reader answers so many bytes.
 ///
 /// `ReadFault` and `WriteFault` come only if the link counted that fault, `TooLong` exactly if
-/// `limit + 1` bytes were taken. It refuses nothing else but for want of memory.
+/// `limit + 1` bytes were taken. It refuses otherwise only if memory runs out.
 pub fn answer_input<L: Link, R: InputReader>(
     alloc: Global,
     link: &mut L,

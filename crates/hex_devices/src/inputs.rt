@@ -29,7 +29,7 @@ pub fn read_some<L: Link>(link: &mut L, buffer: &mut [u8], room: usize) -> Resul
 /// first fault; nothing is read after either.
 ///
 /// `ReadFault` comes only if the link counted a fault, `TooLong` exactly if `limit + 1` bytes were
-/// taken. It refuses nothing else but for want of memory.
+/// taken. It refuses otherwise only if memory runs out.
 pub fn take_all<L: Link>(alloc: Global, link: &mut L, limit: usize) -> Result<Vec<u8>, Stop>
     ensures takes { TakesAll (L.told link.old) (L.told link.new) limit result }
     ensures read_fault { RisesWith Stop.ReadFault

@@ -16,9 +16,9 @@
 //! gave: the game of which the file is a record, or a refusal exactly if it is of none
 //! (specs/Uses.antt). Each turn is good: it was planned, and searched among the allowed cells where
 //! its plan is no win. The archive has it before its cell is played; its answer and its texts were
-//! made before, and the answer is brief. After want of memory or an archive's fault nothing
-//! changed, and one fetch at most came to nothing. A count of faults changes only with the answer
-//! that tells the fault.
+//! made before, and the answer is brief. If memory ran out or the archive failed, nothing changed,
+//! and one fetch at most came to nothing. A count of faults changes only with the answer that tells
+//! the fault.
 //!
 //! **What is only tested, or not said.** That memory suffices. How strong a move is. That a win is
 //! not searched: a turn with such a plan has no tree, but no clause says that none was made.

@@ -49,8 +49,8 @@ pub trait Shelf {
     /// are.
     ///
     /// A file of more than [`FILE_LIMIT`] bytes is `TooLong`. `Fault` comes only if the count of
-    /// faults rose, and with every other answer the count is as before. After want of memory
-    /// nothing changed.
+    /// faults rose, and with every other answer the count is as before. If memory ran out nothing
+    /// changed.
     fn fetch(&mut self, alloc: Global, name: &str) -> Result<Option<Vec<u8>>, ShelfError>
         ensures told { Fetches (told self.old) (told self.new) name.now
             (says (λ file. file.items) result) }

@@ -30,7 +30,7 @@ use win_cert::cut;
 /// player's report has an entry between his two edges; else it is a search among the empty cells
 /// that lie in the carrier of each threat of the other player.
 ///
-/// It refuses for want of memory alone.
+/// It refuses only if memory runs out.
 pub fn plan(alloc: Global, board: &Board, colour: Colour, hsearch: bool) -> Result<Planned, Memory>
     requires nobody { winner_of board.now ≡ None }
     requires room { (k : ℕ) × (is_empty_at board.now k ≡ true) }

@@ -65,7 +65,7 @@ impl TurnTexts {
     }
 }
 
-/// The texts of a turn. It refuses for want of memory alone.
+/// The texts of a turn. It refuses only if memory runs out.
 pub fn turn_texts(alloc: Global, turn: &Turn) -> Result<TurnTexts, AllocError>
     ensures { IfOk result (λ texts. texts ≡ texts_of turn.now) }
 {

@@ -1,4 +1,4 @@
-//! The answer for want of memory.
+//! The answer if memory runs out.
 
 /// Memory ran out.
 #[derive(Debug, Clone, Copy, PartialEq, Eq)]

@@ -12,7 +12,7 @@
 //! opening words and new walkers on, each entry is one step of the walker with its number, and then
 //! come rounds, in each a step of each walker by rising number, until none has a step left
 //! (specs/Steps.antt, specs/BetweenSteps.antt). A number that no worker has is refused with its
-//! first place, before anything is simulated, and nothing else is refused but for want of memory.
+//! first place, before anything is simulated, and it refuses otherwise only if memory runs out.
 //! `simulate` returns, takes all its memory before the first step, and waits for nobody.
 //!
 //! **What is only tested, or not said.** That it gets its memory.

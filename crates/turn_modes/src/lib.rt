@@ -18,7 +18,7 @@
 //! to move, and its tree is that of the schedule; in bench it is that of the position, whose stones
 //! are the longest prefix of a third of the shuffled cells of which none joins its player. The text
 //! is that of the turn. In bench, and in sim with one worker, the options determine it. At a write
-//! fault a prefix of it was given; at an archive fault or for want of memory nothing was, and the
+//! fault a prefix of it was given; at an archive fault or out of memory nothing was, and the
 //! archive has the same turns. Counts of faults rise exactly with their stops, and nothing is read
 //! or fetched.
 //!

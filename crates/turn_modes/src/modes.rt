@@ -20,7 +20,7 @@ use std::thread::Threads;
 /// schedule is drawn from the seed, and hands in the turn and then its text.
 ///
 /// `ArchiveFault` and `WriteFault` come only if the archive or the link counted that fault. It
-/// refuses nothing else but for want of memory, before the turn is handed in. It reads nothing, and
+/// refuses otherwise only if memory runs out, before the turn is handed in. It reads nothing, and
 /// fetches nothing from the shelf.
 pub fn simulation<L: Link, F: Shelf, A: Archive, R: Threads + Sync, G: Gate + Sync>(
     alloc: Global,
@@ -44,7 +44,7 @@ pub fn simulation<L: Link, F: Shelf, A: Archive, R: Threads + Sync, G: Gate + Sy
 /// hands in the turn and then its text.
 ///
 /// `ArchiveFault` and `WriteFault` come only if the archive or the link counted that fault. It
-/// refuses nothing else but for want of memory, before the turn is handed in. It reads nothing, and
+/// refuses otherwise only if memory runs out, before the turn is handed in. It reads nothing, and
 /// fetches nothing from the shelf.
 pub fn benchmark<L: Link, F: Shelf, A: Archive, R: Threads + Sync, G: Gate + Sync>(
     alloc: Global,

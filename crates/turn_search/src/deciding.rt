@@ -18,8 +18,8 @@ use tree_words::Knobs;
 /// cells that it allows by the workers of the knobs, which pass the gate. The search's seed is that
 /// of the knobs plus `turns·2^32`, modulo 2^64.
 ///
-/// No player is joined on the board, a cell is empty, and the knobs are in their ranges. The only
-/// refusal is want of memory. The call returns where its workers do.
+/// No player is joined on the board, a cell is empty, and the knobs are in their ranges. It refuses
+/// only if memory runs out. The call returns where its workers do.
 pub fn decided_turn<R: Threads + Sync, G: Gate + Sync>(
     rt: &R,
     alloc: Global,

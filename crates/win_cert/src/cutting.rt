@@ -22,7 +22,7 @@ use std::alloc::{AllocError, Global};
 /// A certificate of an entry of the report between the player's two edges. It has the first
 /// version, the report's board and player, a line for each entry on which the entry rests, in the
 /// order of the report's entries, and no other line, and the entry's kind as its claim. It is
-/// accepted, with the entry's carrier, and can be written. It refuses for want of memory alone.
+/// accepted, with the entry's carrier, and can be written. It refuses only if memory runs out.
 pub fn cut(alloc: Global, report: &Report, entry: u32) -> Result<Cert, Memory>
     requires { HasEdgeEntryAt report.now entry }
     ensures certifies { IfOk result (CertifiesEntryAt report.now entry) }

@@ -8,7 +8,7 @@ use super::{Cert, LATEST_VERSION, Line, Lines, Memory, Numbers};
 use std::alloc::{AllocError, Global};
 
 /// The same certificate in the latest version. It can be written, and there are the same verdicts
-/// on it. It refuses for want of memory alone.
+/// on it. It refuses only if memory runs out.
 pub fn raise(alloc: Global, cert: &Cert) -> Result<Cert, Memory>
     requires { IsWritable cert.now }
     ensures raised { IfOk result (λ new. new ≡ raised cert.now) }

@@ -15,7 +15,7 @@ use conn_store::Kind;
 use hex_cells::{Colour, Size};
 use std::alloc::{AllocError, Global};
 
-/// The text of a certificate. It refuses for want of memory alone.
+/// The text of a certificate. It refuses only if memory runs out.
 pub fn write(alloc: Global, cert: &Cert) -> Result<Bytes, Memory>
     requires { IsWritable cert.now }
     ensures { IfOk result (λ text. text ≡ cert_text cert.now) }
