@@ -1,7 +1,7 @@
 #!/usr/bin/env python3
-"""Makes the inputs that cost an audit most: SECURITY.md has the figures.
+"""Makes the inputs that cost an audit or a checker most: SECURITY.md has the figures.
 
-    tools/hostile_traces.py KIND OUT [BYTES]
+    tools/hostile_inputs.py KIND OUT [BYTES]
 
 Fills OUT with at most so many bytes, 67108864 where none are given. The kinds:
 
@@ -9,6 +9,7 @@ Fills OUT with at most so many bytes, 67108864 where none are given. The kinds:
     small   one tree on size 3 with each position of the game: the most blocks that fit
     deep    one tree of at most a million playouts, each of which ends 110 levels below the root
     short   texts of 344 bytes that claim the largest tree
+    numbers a certificate whose lines have the most numbers
 
 The texts of `short` are closed trees, and all are read. In the others all links and records are
 right, and all counts are 0: an audit reads the whole text, makes each playout again and finds the
@@ -99,21 +100,27 @@ def short(limit):
     return one * (limit // len(one))
 
 
+def numbers(limit):
+    """A certificate. Its line 1 names lines that don't stand before it, and is the first bad one."""
+    head, claim = b"hexcert 2\nsize 3\nplayer black\nblack\nwhite\nadj a1 edge1\n", b"semi 1\n"
+    line = b"cases" + 127 * b" 199999" + b"\n"
+    return head + line * ((limit - len(head) - len(claim)) // len(line)) + claim
+
+
+MAKERS = {
+    "broad": lambda limit: whole(11, JOINED, limit),
+    "small": lambda limit: whole(3, 0, limit),
+    "deep": deep,
+    "short": short,
+    "numbers": numbers,
+}
+
+
 def main():
-    if len(sys.argv) not in (3, 4):
+    if len(sys.argv) not in (3, 4) or sys.argv[1] not in MAKERS:
         sys.exit(__doc__)
-    kind, name = sys.argv[1:3]
-    limit = int(sys.argv[3]) if len(sys.argv) == 4 else LIMIT
-    makers = {
-        "broad": lambda: whole(11, JOINED, limit),
-        "small": lambda: whole(3, 0, limit),
-        "deep": lambda: deep(limit),
-        "short": lambda: short(limit),
-    }
-    if kind not in makers:
-        sys.exit(__doc__)
-    with open(name, "wb") as file:
-        file.write(makers[kind]())
+    with open(sys.argv[2], "wb") as file:
+        file.write(MAKERS[sys.argv[1]](*map(int, sys.argv[3:] or [LIMIT])))
 
 
 if __name__ == "__main__":
