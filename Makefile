@@ -8,13 +8,9 @@
 #   make uninstall [..]                   takes away what `make install` with the same words has put there
 #   make deb                              makes a Debian package in out/; its maintainer is DEBFULLNAME <DEBEMAIL>
 
-# Each program has its crate, a page in man/ and three completions.
+# The programs, each with its crate; and what stands beside them in Python. Each of all has a page in man/ and three completions.
 programs = hexd hexmatch
-
-# What a user reads. README.md names these files as they lie here, so they keep their places.
-documents = README.md SECURITY.md docs/use/MANUAL.md docs/use/CERTIFICATES.md docs/change/TREE.md \
-    docs/trust/PROMISES.md docs/trust/GLOSSARY.md docs/use/pictures/search.png
-folders = use/pictures use trust change
+wrappers = hexd-board hexd-report hexd-gtp
 
 PREFIX = /usr/local
 bindir = $(PREFIX)/bin
@@ -24,22 +20,52 @@ docdir = $(datadir)/doc/hexd
 bashdir = $(datadir)/bash-completion/completions
 zshdir = $(datadir)/zsh/site-functions
 fishdir = $(datadir)/fish/vendor_completions.d
+# What the wrappers need, and what is there to be used beside them, as it lies here.
+share = $(datadir)/hexd
 
-# Each installed file: its mode, its place here, and its place there.
-files = $(foreach name,$(programs),755:$$(bin/start --where $(name)):$(bindir)/$(name) \
-    644:man/$(name).6:$(mandir)/man6/$(name).6 \
-    644:completions/$(name).bash:$(bashdir)/$(name) \
-    644:completions/_$(name):$(zshdir)/_$(name) \
-    644:completions/$(name).fish:$(fishdir)/$(name).fish) \
-    $(foreach document,$(documents),644:$(document):$(docdir)/$(document))
+# Folders whose files lie in share, and stand among the documents by a link.
+folders = board examples gtp openings
+scripts = $(wildcard examples/*.py openings/check openings/draw.py openings/find.py tools/second_checker.py)
+texts = $(filter-out %/test.py $(scripts),$(wildcard $(folders:%=%/*.md) $(folders:%=%/*.py) \
+    board/page/* board/report.html openings/Makefile openings/*.tsv tools/programs.py tools/python.bash))
+others = $(wildcard examples/certificates/* openings/*.xz openings/pictures/*)
+# Documents name one another by their places here, so they keep these.
+pages = $(wildcard *.md docs/*/*.md crates/README.md tools/README.md tools/*/README.md release/NOTICES)
+pictures = $(wildcard docs/*/pictures/*)
+
+# Each installed file as KIND:PLACE-HERE:PLACE-THERE, and each link as link:WHERE-IT-LEADS:PLACE-THERE.
+files = $(foreach name,$(programs),program:$(name):$(bindir)/$(name) \
+        link:$(bindir)/$(name):$(share)/bin/$(name)) \
+    $(foreach name,$(wrappers),wrapper:bin/$(name):$(bindir)/$(name)) \
+    $(foreach name,$(programs) $(wrappers),file:man/$(name).6:$(mandir)/man6/$(name).6 \
+        file:completions/$(name).bash:$(bashdir)/$(name) \
+        file:completions/_$(name):$(zshdir)/_$(name) \
+        file:completions/$(name).fish:$(fishdir)/$(name).fish) \
+    $(foreach path,$(scripts),script:$(path):$(share)/$(path)) \
+    $(foreach path,$(texts),text:$(path):$(share)/$(path)) \
+    $(foreach path,$(others),file:$(path):$(share)/$(path)) \
+    $(foreach path,$(pages),text:$(path):$(docdir)/$(path)) \
+    $(foreach path,$(pictures),file:$(path):$(docdir)/$(path)) \
+    $(foreach name,$(folders),link:$(share)/$(name):$(docdir)/$(name)) \
+    link:$(docdir)/docs:$(share)/docs
+
+# What is installed is started without a path. A link and a wrapper lead from their folder, so that all may be moved together.
+unpathed = sed -E 's,(^|[^[:alnum:]_/.$$])bin/(hexd|hexmatch),\1\2,g'
+from = $$(realpath -sm --relative-to="$(dir $1)" "$2")
+install_program = install -D -m 755 "$$(bin/start --where $1)" "$(DESTDIR)$2"
+install_file = install -D -m 644 $1 "$(DESTDIR)$2"
+install_text = $(unpathed) $1 | install -D -m 644 /dev/stdin "$(DESTDIR)$2"
+install_script = $(unpathed) $1 | install -D -m 755 /dev/stdin "$(DESTDIR)$2"
+install_wrapper = sed "s,^share=.*,share=\$$bin/$(call from,$2,$(share))," $1 | install -D -m 755 /dev/stdin "$(DESTDIR)$2"
+install_link = mkdir -p "$(DESTDIR)$(dir $2)" && ln -sfn "$(call from,$2,$1)" "$(DESTDIR)$2"
 
 # The two commands of a file; the empty line at the end of each ends the command.
 part = $(word $1,$(subst :, ,$2))
-define install_file
-install -D -m $(call part,1,$1) "$(call part,2,$1)" "$(DESTDIR)$(call part,3,$1)"
+define install_one
+$(call install_$(call part,1,$1),$(call part,2,$1),$(call part,3,$1))
 
 endef
-define remove_file
+define remove_one
 rm -f "$(DESTDIR)$(call part,3,$1)"
 
 endef
@@ -60,12 +86,14 @@ release:
 	tools/release $(programs)
 
 install: build
-	$(foreach file,$(files),$(call install_file,$(file)))
+	$(foreach file,$(files),$(call install_one,$(file)))
 
-# Folders that others use too stay.
+# What Python has kept of its programs goes too. Folders that others use stay.
 uninstall:
-	$(foreach file,$(files),$(call remove_file,$(file)))
-	for folder in $(folders:%=/docs/%) /docs ''; do rmdir "$(DESTDIR)$(docdir)$$folder" || exit 0; done 2>/dev/null
+	$(foreach file,$(files),$(call remove_one,$(file)))
+	for folder in "$(DESTDIR)$(share)" "$(DESTDIR)$(docdir)"; do \
+	    find "$$folder" -depth \( -path '*/__pycache__/*.pyc' -o -type d -empty \) -delete 2>/dev/null; \
+	done || true
 
 # Where Debian has games and what belongs to its zsh.
 deb: build

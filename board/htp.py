@@ -6,14 +6,15 @@
 It knows how lines and answers are cut (docs/use/MANUAL.md) and what a command's name is, and no rule of the game.
 """
 
+import os
 import signal
 import subprocess
 import threading
 from dataclasses import dataclass
 from pathlib import Path
 
-# The built program. bin/hexd-board and bin/hexd-report build it before they start their Python program.
-PROGRAM = Path(__file__).resolve().parent.parent / "crates" / "hexd" / "out" / "hexd"
+# The program: HEXD in the environment, as bin/hexd-board and bin/hexd-report set it, else bin/hexd of the tree.
+PROGRAM = Path(os.environ.get("HEXD") or Path(__file__).resolve().parent.parent / "bin" / "hexd")
 # The name under which a record lies in a session's folder. It has no space, so that `loadsgf` can name it.
 RECORD = "record.sgf"
 # How long a process may take to end once its input has ended or it was killed, in seconds.

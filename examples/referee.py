@@ -1,11 +1,13 @@
 #!/usr/bin/env python3
 """Drives `bin/hexd htp` as a referee does: one command at a time, each answer read to its empty line."""
 
+import os
 import subprocess
 import sys
 from pathlib import Path
 
-PROGRAM = Path(__file__).resolve().parent.parent / "bin" / "hexd"
+# HEXD in the environment names the program; else it is bin/hexd of the folder above.
+PROGRAM = Path(os.environ.get("HEXD") or Path(__file__).resolve().parent.parent / "bin" / "hexd")
 
 
 class Engine:
