@@ -3,15 +3,19 @@
 import json
 import re
 import secrets
+import socket
 import socketserver
 import sys
 from http.server import BaseHTTPRequestHandler, ThreadingHTTPServer
 from pathlib import Path
 
 import htp
+import records
+import settings
 from sessions import Refusal
 
-HOST = "127.0.0.1"
+# This machine alone, and each of its addresses.
+HERE, EVERY = "127.0.0.1", ("0.0.0.0", "::")
 MOST_BYTES = 1_048_576
 # Who was sent a link meets this.
 NO_TOKEN = "the token is missing: open the address that bin/hexd-board printed, and paste a link into its page"
@@ -21,7 +25,7 @@ MOST_DROPPED_BYTES = 16 * MOST_BYTES
 QUIET_SECONDS = 60
 PAGE = Path(__file__).resolve().with_name("page")
 KINDS = {".html": "text/html", ".css": "text/css", ".js": "text/javascript", ".svg": "image/svg+xml"}
-TEXT = "text/plain"
+TEXT, JSON = "text/plain", "application/json"
 HEADERS = {
     # The page runs its own files alone; its pictures are made in it (blob:), and it talks to nobody but this server.
     "Content-Security-Policy": "default-src 'none'; script-src 'self'; style-src 'self'; img-src 'self' blob: data:; "
@@ -50,6 +54,23 @@ def taken_line(body):
     if name == "loadsgf":
         raise Refusal(400, "loadsgf by name is refused: the bytes of a record are sent to /record")
     return line
+
+
+def taken_playouts(body):
+    """How many playouts a new session's searches have, from the body of a request; None where it doesn't say."""
+    try:
+        return settings.number(*settings.RANGES["playouts"])(body.decode("latin-1")) if body else None
+    except settings.argparse.ArgumentTypeError as why:
+        raise Refusal(400, f"playouts: {why}") from None
+
+
+def converted(body):
+    """The bytes of a record in hexd's form, with what was changed."""
+    try:
+        record = records.read(body)
+    except records.Refused as why:
+        raise Refusal(400, str(why)) from None
+    return json.dumps({"record": record.text, "notes": record.notes})
 
 
 class Handler(BaseHTTPRequestHandler):
@@ -82,9 +103,9 @@ class Handler(BaseHTTPRequestHandler):
 
     def admit(self):
         """Refuses who isn't this server's page: neither a page elsewhere nor another user of the machine may drive it."""
-        hosts = [f"{host}:{self.server.server_port}" for host in (HOST, "localhost")]
+        hosts = self.server.hosts(self.connection.getsockname()[0])
         if self.headers.get_all("Host", []) not in [[host] for host in hosts]:
-            raise Refusal(403, "the Host of the request is not this server")
+            raise Refusal(403, f"the Host of the request is not this server, which is {hosts[0]}")
         if self.headers.get("Origin") not in [None, *("http://" + host for host in hosts)]:
             raise Refusal(403, "the Origin of the request is not this server")
         given = self.path.split("/")[1] if self.path.startswith("/") else ""
@@ -109,21 +130,30 @@ class Handler(BaseHTTPRequestHandler):
             case (name,) if (name or "index.html") in self.server.files:
                 file = PAGE / (name or "index.html")
                 return file.read_bytes(), KINDS[file.suffix]
-            case ("openings", opening) if found := re.fullmatch("([1-9]|1[01])-([a-k][1-9][0-9]?)", opening):
-                return json.dumps(self.server.openings.winner(int(found[1]), found[2])), "application/json"
+            case ("settings",):
+                return json.dumps(self.server.sessions.given), JSON
+            case ("openings", opening) if found := re.fullmatch("([1-9]|1[01])(?:-([a-k][1-9][0-9]?))?", opening):
+                size, vertex, openings = int(found[1]), found[2], self.server.openings
+                return json.dumps(openings.winner(size, vertex) if vertex else openings.winners(size)), JSON
         raise Refusal(404, "there is no such file")
 
     def post(self, *path):
         sessions, body = self.server.sessions, self.body()
         match path:
             case ("session",):
-                return sessions.make(), TEXT
+                return sessions.make(taken_playouts(body)), TEXT
+            case ("room",):
+                return sessions.make_room(), TEXT
+            case ("convert",):
+                return converted(body), JSON
             case ("session", name, "htp"):
                 return sessions.ask(name, taken_line(body)), TEXT
             case ("session", name, "record"):
                 return sessions.load(name, body), TEXT
             case ("session", name, "check"):
                 return sessions.check(name, body), TEXT
+            case ("session", name, "solve", budget) if re.fullmatch("[1-9][0-9]{0,17}", budget):
+                return sessions.solve(name, body, budget), TEXT
         raise Refusal(404, "there is no such request")
 
     def delete(self, *path):
@@ -159,15 +189,16 @@ class Handler(BaseHTTPRequestHandler):
 
 
 class Server(ThreadingHTTPServer):
-    """The server on one port of this machine alone, with its token, sessions and openings."""
+    """The server on one port, with its token, sessions and openings."""
 
     daemon_threads = True
 
-    def __init__(self, port, sessions, openings):
+    def __init__(self, address, port, sessions, openings):
         self.token = secrets.token_urlsafe(16)
         self.sessions, self.openings = sessions, openings
         self.files = {file.name for file in PAGE.iterdir() if file.suffix in KINDS}
-        super().__init__((HOST, port), Handler)
+        self.address_family, _, _, _, place = socket.getaddrinfo(address, port, type=socket.SOCK_STREAM)[0]
+        super().__init__(place[:2], Handler)
 
     def server_bind(self):
         # The one of HTTPServer asks the system for the host's full name, which may take long.
@@ -178,5 +209,19 @@ class Server(ThreadingHTTPServer):
         if not isinstance(sys.exc_info()[1], (ConnectionError, TimeoutError)):
             super().handle_error(request, client_address)
 
+    def is_local(self):
+        """Whether this machine alone can reach it."""
+        return self.server_name.startswith("127.") or self.server_name == "::1"
+
+    def hosts(self, reached):
+        """The names by which a request may call it that has reached it at this address; the first is the one that is told."""
+        names = [reached.removeprefix("::ffff:") if self.server_name in EVERY else self.server_name]
+        if self.is_local():
+            names.append("localhost")
+        elif self.server_name in EVERY:
+            names += ["localhost", socket.gethostname()]
+        return [f"[{name}]:{self.server_port}" if ":" in name else f"{name}:{self.server_port}" for name in names]
+
     def address(self):
-        return f"http://{HOST}:{self.server_port}/{self.token}/"
+        name = socket.gethostname() if self.server_name in EVERY else self.server_name
+        return f"http://{self.hosts(name)[0]}/{self.token}/"

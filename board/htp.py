@@ -145,3 +145,21 @@ def check(program, certificate, seconds):
     if run.returncode not in (0, 1):
         raise EngineEnded(why_ended(run.returncode, run.stderr.decode(errors="replace")))
     return run.stdout.decode().strip()
+
+
+class Solver:
+    """One process `hexd solve`, which can be ended while it works."""
+
+    def __init__(self, program, budget):
+        command = [str(program), "solve", "--budget", str(budget)]
+        self.process = subprocess.Popen(command, stdin=subprocess.PIPE, stdout=subprocess.PIPE, stderr=subprocess.PIPE)
+
+    def answer(self, record):
+        """What it says of the position of a record, in bytes. EngineEnded where it ends without a word on it."""
+        said, errors = self.process.communicate(record)
+        if self.process.returncode not in (0, 1):
+            raise EngineEnded(why_ended(self.process.returncode, errors.decode(errors="replace")))
+        return said.decode().rstrip("\n")
+
+    def kill(self):
+        self.process.kill()

@@ -56,6 +56,16 @@ class Openings:
                 self.found[size, vertex] = self._winner(size, vertex)
             return self.found[size, vertex]
 
+    def winners(self, size):
+        """Who is proved to win, by the opening's vertex, for those of a size that are known."""
+        vertices = [f"{chr(ord('a') + column)}{row + 1}" for row in range(size) for column in range(size)]
+        found = {vertex: self.winner(size, vertex) for vertex in vertices if self.is_kept(size, vertex)}
+        return {vertex: winner for vertex, winner in found.items() if winner}
+
+    def is_kept(self, size, vertex):
+        """Whether there is a file for an opening or its opposite one."""
+        return any((self.folder / f"{size}-{cell}.cert.xz").exists() for cell in (vertex, turned_cell(vertex, size)))
+
     def _winner(self, size, vertex):
         opposite = turned_cell(vertex, size)
         return self._proved(self._certificate(size, vertex), size, vertex) or self._proved(

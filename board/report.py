@@ -3,11 +3,10 @@
 
     report.py [--playouts N] [--weight N] [--workers N] GAME.sgf >GAME.html
 
-For each position hexd is asked for a move, its plan, its search and its certificate, which a second process checks; then the
-record's own move is played. How far it is stands on standard error, and why it stops.
+GAME.sgf may be `-`, standard input. For each position hexd is asked for a move, its plan, its search and its certificate, which a
+second process checks; then the record's own move is played. How far it is stands on standard error, and why it stops.
 """
 
-import argparse
 import base64
 import hashlib
 import html
@@ -19,27 +18,21 @@ import tempfile
 from pathlib import Path
 
 import htp
+import records
+import settings
 from openings import Openings
 
 PAGE = Path(__file__).resolve().with_name("page")
 TEMPLATE = PAGE.parent / "report.html"
-SCRIPTS = ["elements.js", "board.js", "certificate.js", "thought.js", "plot.js", "report.js"]
-# The options of hexd that it takes and hands on.
-OPTIONS = ("playouts", "weight", "workers")
-SWAP = "swap-pieces"
+SCRIPTS = ["elements", "cells", "board", "certificate", "thought", "proofs", "plot", "report"]
 CHECK_SECONDS = 120
 
 
-class Stop(Exception):
-    """Why there is no report, in words."""
-
-
 def steps_of(record):
-    """The size, the number of start stones and the steps of a record as `printsgf` writes it."""
+    """The number of start stones of each colour, and the steps, of a record as `printsgf` writes it."""
     root, *nodes = record[2:-1].split(";")
-    size = int(re.search(r"SZ\[(\d+)\]", root)[1])
     start = {colour: len(re.findall(r"\[", "".join(re.findall(rf"A{colour}((?:\[\w+\])+)", root)))) for colour in "BW"}
-    return size, start, [{"colour": node[0].lower(), "move": node[2:-1]} for node in nodes]
+    return start, [{"colour": node[0].lower(), "move": node[2:-1]} for node in nodes]
 
 
 def stones_of(board):
@@ -49,31 +42,6 @@ def stones_of(board):
         marks = line.split()[1:]
         stones += [(f"{chr(97 + column)}{row}", mark.lower()) for column, mark in enumerate(marks) if mark != "."]
     return stones
-
-
-def main_line(record):
-    """The moves along the main line of a text in SGF, as pairs of a colour and a value: only to say which one is illegal."""
-    moves, behind = [], ""
-    for token in re.findall(r"\[(?:\\.|[^\]\\])*\]|[A-Z]+|[();]", record, re.DOTALL):
-        if token == ")":
-            return moves
-        if token[0] == "[" and behind in ("B", "W"):
-            moves.append((behind.lower(), token[1:-1].strip().lower()))
-        behind = token if token[0] != "[" else ""
-    return moves
-
-
-def why_refused(engine, record):
-    """Why hexd doesn't load a record: the first move of its main line that hexd refuses, where there is one."""
-    text = record.decode(errors="replace")
-    size = re.search(r"SZ\s*\[\s*(\d+)", text)
-    if "AB" not in text and "AW" not in text and engine.ask(f"boardsize {size[1] if size else 11}").done:
-        for number, (colour, move) in enumerate(main_line(text), 1):
-            if move in ("resign", "forfeit"):
-                break
-            if not move.isascii() or not move.isprintable() or not engine.ask(f"play {colour} {move}").done:
-                return f"move {number} of the record is illegal: {'Black' if colour == 'b' else 'White'} {move!r}"
-    return "it is no record of a game of Hex (hexd: cannot load file)"
 
 
 class Reporter:
@@ -89,7 +57,7 @@ class Reporter:
 
     def may_swap(self, mover, stones):
         """Whether White may swap, by this move or by the next. That it is legal is hexd's answer, which is taken back."""
-        if mover == "b" or self.ask(f"play w {SWAP}") is None:
+        if mover == "b" or self.ask(f"play w {records.SWAP}") is None:
             return mover == "b" and not stones
         self.ask("undo")
         return True
@@ -114,14 +82,14 @@ class Reporter:
             "thought": self.thought(mover, self.may_swap(mover, stones)),
             "step": step,
             # After a swap the one stone that lies there is the last one.
-            "last": stones[0][0] if last == SWAP else last,
+            "last": stones[0][0] if last == records.SWAP else last,
         }
 
     def report(self, record, name):
-        """All of a record: its size, its positions, and the proved winner of its opening."""
-        if not self.engine.load(record).done:
-            raise Stop(why_refused(self.engine, record))
-        size, start, steps = steps_of(self.ask("printsgf"))
+        """All of a record: its size, its positions, and the proved winner of its opening. records.Refused where it can't be played."""
+        if not self.engine.load(record.main.encode()).done:
+            raise records.Refused(records.why_refused(self.ask, record))
+        start, steps = steps_of(self.ask("printsgf"))
         for _ in steps:
             self.ask("undo")
         positions, last, mover = [], None, "w" if start["B"] > start["W"] else "b"
@@ -133,8 +101,9 @@ class Reporter:
                 last, mover = step["move"], "w" if step["colour"] == "b" else "b"
         opening = None
         if steps and not any(start.values()) and steps[0]["colour"] == "b":
-            opening = Openings(self.program).winner(size, steps[0]["move"])
-        return {"name": name, "size": size, "positions": positions, "opening": opening and opening[0]}
+            opening = Openings(self.program).winner(record.size, steps[0]["move"])
+        notes = record.notes
+        return {"name": name, "size": record.size, "positions": positions, "opening": opening and opening[0], "notes": notes}
 
 
 def hashed(text):
@@ -142,15 +111,17 @@ def hashed(text):
     return f"'sha256-{base64.b64encode(hashlib.sha256(text.encode()).digest()).decode()}'"
 
 
-def page_of(report, words):
+def page_of(report, given):
     """The file, which needs nothing else: style and scripts are in it, and its policy lets nothing else run."""
     style = (PAGE / "board.css").read_text()
-    script = "".join((PAGE / name).read_text() for name in SCRIPTS)
+    script = "".join((PAGE / f"{name}.js").read_text() for name in SCRIPTS)
     moves = len(report["positions"]) - 1
+    summary = f"{moves} moves on size {report['size']}, each position looked at by hexd with {settings.told(given)}"
     return string.Template(TEMPLATE.read_text()).substitute(
         policy=f"default-src 'none'; style-src {hashed(style)}; script-src {hashed(script)}",
         title=html.escape(report["name"]),
-        summary=html.escape(f"{moves} moves on size {report['size']}, each position looked at by hexd {' '.join(words)}"),
+        summary=html.escape(summary),
+        notes="".join(f"<p>{html.escape(note)}</p>" for note in report["notes"]),
         style=style,
         # In a script element only `</` and `<!--` would end or change the text.
         game=json.dumps(report, separators=(",", ":")).replace("<", "\\u003c"),
@@ -158,24 +129,31 @@ def page_of(report, words):
     )
 
 
-def main():
-    parser = argparse.ArgumentParser(prog="hexd-report", description="Writes a report of a game as HTML on standard output.")
-    for name in OPTIONS:
-        parser.add_argument(f"--{name}", metavar="N", help="the option of hexd")
+def wanted(words):
+    parser = settings.Parser(prog="hexd-report", description="Writes a report of a game as HTML on standard output.")
+    settings.add_options(parser)
     parser.add_argument("--program", type=Path, default=htp.PROGRAM, help="the program in place of the built one")
-    parser.add_argument("record", type=Path, metavar="GAME.sgf")
-    options = parser.parse_args()
-    values = {name: getattr(options, name) for name in OPTIONS}
-    words = [f"--{name}={value}" for name, value in values.items() if value is not None]
+    parser.add_argument("record", metavar="GAME.sgf", help="the record of the game; -: standard input")
+    return parser.parse_args(words)
+
+
+def made(options):
+    """The page of a record; records.Refused, EngineEnded or OSError where there is none."""
+    is_standard = options.record == "-"
+    content = sys.stdin.buffer.read() if is_standard else Path(options.record).read_bytes()
+    record, given, program = records.read(content), settings.given_of(options), options.program.resolve()
+    name = "Standard input" if is_standard else Path(options.record).name
+    with tempfile.TemporaryDirectory(prefix="hexd-report-") as folder:
+        with htp.Engine([program, "htp", *settings.words_of(given)], folder) as engine:
+            return page_of(Reporter(engine, program).report(record, name), given)
+
+
+def main():
+    options = wanted(sys.argv[1:])
     try:
-        record = options.record.read_bytes()
-        program = options.program.resolve()
-        with tempfile.TemporaryDirectory(prefix="hexd-report-") as folder:
-            with htp.Engine([program, "htp", *words], folder) as engine:
-                report = Reporter(engine, program).report(record, options.record.name)
-        sys.stdout.write(page_of(report, words))
+        sys.stdout.write(made(options))
         return 0
-    except (Stop, htp.EngineEnded) as why:
+    except (records.Refused, htp.EngineEnded) as why:
         print(f"hexd-report: {options.record}: {why}", file=sys.stderr)
     except OSError as fault:
         print(f"hexd-report: {fault.filename or options.record}: {fault.strerror}", file=sys.stderr)

@@ -1,22 +1,25 @@
 #!/usr/bin/env python3
-"""Serves the board for a browser on this machine: the files of page/, and sessions that are processes `hexd htp`.
+"""Serves the board for a browser: the files of page/, and sessions that are processes `hexd htp`.
 
-    serve.py [--port N] [--program PATH] [-- OPTIONS OF HEXD]
+    serve.py [--playouts N] [--weight N] [--workers N] [--open] [--port N] [--listen ADDRESS] [-- OPTIONS OF HEXD]
 
 It prints one address, whose random token each request needs as the first part of its path. README.md beside this file has
-the requests, and what each refusal is for. It listens on 127.0.0.1 alone and never runs a shell.
+the requests, and what each refusal is for. It listens on 127.0.0.1 alone where nothing else is said, and never runs a shell.
 """
 
 import argparse
 import signal
+import socket
 import subprocess
 import sys
 import tempfile
 import threading
+import webbrowser
 from pathlib import Path
 
 import htp
-from handler import Server
+import settings
+from handler import HERE, Server
 from openings import Openings
 from sessions import Sessions
 
@@ -24,15 +27,18 @@ PORT = 8642
 # Without --port so many ports are tried, from PORT on.
 PORTS_TRIED = 100
 SWEEP_SECONDS = 60
+WARNING = """\
+hexd-board: warning: other machines can reach this server. Who knows the address above, with its token, can play and search on
+hexd-board: this machine; what goes over the network is not encrypted."""
 
 
-def bound(port, *parts):
+def bound(address, port, *parts):
     """A server on this port; without one on the first free port from PORT on."""
     if port is not None:
-        return Server(port, *parts)
+        return Server(address, port, *parts)
     for tried in range(PORT, PORT + PORTS_TRIED):
         try:
-            return Server(tried, *parts)
+            return Server(address, tried, *parts)
         except OSError as fault:
             last = fault
     raise last
@@ -41,23 +47,37 @@ def bound(port, *parts):
 def wanted(words):
     """The words of the command line: our own, and behind `--` those for hexd."""
     place = words.index("--") if "--" in words else len(words)
-    parser = argparse.ArgumentParser(prog="hexd-board", usage="hexd-board [--port N] [-- OPTIONS OF HEXD]")
-    parser.add_argument("--port", type=int, help=f"the port (0: any); without it {PORT} or the next free one")
+    parser = settings.Parser(prog="hexd-board", usage="hexd-board [OPTIONS] [-- OPTIONS OF HEXD]")
+    settings.add_options(parser)
+    parser.add_argument("--open", action="store_true", help="open the page in a browser")
+    parser.add_argument("--port", type=settings.number(0, 65_535), help=f"the port (0: any); {PORT} or the next free one by default")
+    parser.add_argument("--listen", metavar="ADDRESS", default=HERE, help=f"whose port; {HERE}, this machine alone, by default")
     parser.add_argument("--program", type=Path, default=htp.PROGRAM, help="the program in place of the built one")
     options = parser.parse_args(words[:place])
-    if options.port is not None and not 0 <= options.port <= 65_535:
-        parser.error("a port is 0 to 65535")
-    options.hexd = words[place + 1 :]
+    options.given, options.others = split(parser, words[place + 1 :], settings.given_of(options))
     return options
 
 
-def is_fit(program, options):
-    """Whether hexd takes these words; it says itself why not."""
+def split(parser, words, given):
+    """The settings with those among hexd's own words, and the others of these words."""
+    inner = argparse.ArgumentParser(add_help=False, allow_abbrev=False, prog=parser.prog)
+    inner.error = parser.error
+    for name, value in given.items():
+        inner.add_argument(f"--{name}", type=settings.number(*settings.RANGES[name]), default=value)
+    found, others = inner.parse_known_args(words)
+    return settings.given_of(found), others
+
+
+def is_fit(program, words):
+    """Whether hexd takes these words; where not, a line says so behind its own."""
     try:
-        return subprocess.run([program, "htp", *options], stdin=subprocess.DEVNULL).returncode == 0
+        fit = subprocess.run([program, "htp", *words], stdin=subprocess.DEVNULL).returncode == 0
     except OSError as fault:
         print(f"hexd-board: hexd can't be started: {fault}", file=sys.stderr)
         return False
+    if not fit:
+        print(f"hexd-board: hexd refuses these words: {' '.join(words)}", file=sys.stderr)
+    return fit
 
 
 def end_by_signal(number, _):
@@ -69,32 +89,50 @@ def sweep(sessions, ended):
         sessions.end_idle()
 
 
+def tell(server, options):
+    """Prints the address, and what there is to say of it; opens it where that is wanted."""
+    print(server.address(), flush=True)
+    print(f"hexd searches {settings.told(options.given)}. Ctrl-C ends the server.", file=sys.stderr)
+    if not server.is_local():
+        print(WARNING, file=sys.stderr)
+    if options.open:
+        # Beside the server, for some browsers hold up who starts them.
+        threading.Thread(target=webbrowser.open, args=(server.address(),), daemon=True).start()
+    else:
+        print("Open the address in a browser.", file=sys.stderr)
+
+
+def serve(options, server, sessions):
+    """Serves until a signal comes."""
+    ended = threading.Event()
+    threading.Thread(target=sweep, args=(sessions, ended), daemon=True).start()
+    try:
+        tell(server, options)
+        server.serve_forever()
+    finally:
+        for number in (signal.SIGINT, signal.SIGTERM, signal.SIGHUP):
+            signal.signal(number, signal.SIG_IGN)
+        ended.set()
+        server.server_close()
+        sessions.close()
+
+
 def main():
     options = wanted(sys.argv[1:])
-    if not is_fit(options.program, options.hexd):
+    if not is_fit(options.program, [*settings.words_of(options.given), *options.others]):
         return 2
     for number in (signal.SIGINT, signal.SIGTERM, signal.SIGHUP):
         if number != signal.SIGHUP or signal.getsignal(number) != signal.SIG_IGN:
             signal.signal(number, end_by_signal)
-    ended = threading.Event()
+    program = options.program.resolve()
     with tempfile.TemporaryDirectory(prefix="hexd-board-") as folder:
-        sessions = Sessions(options.program.resolve(), options.hexd, folder)
+        sessions = Sessions(program, options.given, options.others, folder)
         try:
-            server = bound(options.port, sessions, Openings(options.program.resolve()))
-        except OSError as fault:
+            server = bound(options.listen, options.port, sessions, Openings(program))
+        except (OSError, socket.gaierror) as fault:
             print(f"hexd-board: it can't listen: {fault}", file=sys.stderr)
             return 1
-        threading.Thread(target=sweep, args=(sessions, ended), daemon=True).start()
-        try:
-            print(server.address(), flush=True)
-            print("Open this address in a browser. Ctrl-C ends the server.", file=sys.stderr)
-            server.serve_forever()
-        finally:
-            for number in (signal.SIGINT, signal.SIGTERM, signal.SIGHUP):
-                signal.signal(number, signal.SIG_IGN)
-            ended.set()
-            server.server_close()
-            sessions.close()
+        serve(options, server, sessions)
 
 
 if __name__ == "__main__":

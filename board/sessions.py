@@ -7,7 +7,8 @@ import time
 from dataclasses import dataclass, field
 from pathlib import Path
 
-from htp import Engine, EngineEnded, check
+import settings
+from htp import Engine, EngineEnded, Solver, check
 
 # A page that is opened again and again must not fill the machine with processes.
 MOST_SESSIONS = 16
@@ -32,17 +33,27 @@ class Session:
     engine: Engine
     folder: Path
     used: float = field(default_factory=time.monotonic)
+    solvers: list = field(default_factory=list)
+
+    def kill(self):
+        for process in (*self.solvers, self.engine):
+            process.kill()
 
 
 class Sessions:
-    """The sessions that are open, and of others why they ended."""
+    """The sessions that are open, and of others why they ended. `given` are hexd's settings, `others` its further words."""
 
-    def __init__(self, program, options, folder):
-        self.program, self.options, self.folder = program, options, Path(folder)
+    def __init__(self, program, given, others, folder):
+        self.program, self.given, self.others, self.folder = program, given, others, Path(folder)
         self.open, self.reasons = {}, {}
         self.turn = threading.Lock()
 
-    def make(self):
+    def words(self, playouts):
+        """The words for a process whose searches have so many playouts; without a number as many as the settings say."""
+        given = self.given if playouts is None else {**self.given, "playouts": playouts}
+        return [*settings.words_of(given), *self.others]
+
+    def make(self, playouts=None):
         """Starts a process and gives its session's name."""
         with self.turn:
             if len(self.open) >= MOST_SESSIONS:
@@ -51,7 +62,7 @@ class Sessions:
             folder = self.folder / name
             try:
                 folder.mkdir()
-                engine = Engine([self.program, "htp", *self.options], folder)
+                engine = Engine([self.program, "htp", *self.words(playouts)], folder)
             except OSError as fault:
                 raise Refusal(500, f"hexd could not be started: {fault}") from None
             self.open[name] = Session(engine, folder)
@@ -73,6 +84,30 @@ class Sessions:
         except (EngineEnded, OSError) as fault:
             raise Refusal(500, str(fault)) from None
 
+    def solve(self, name, record, budget):
+        """What `hexd solve` says of the position of a record, in a process that ends with the session."""
+        session = self._find(name)
+        try:
+            solver = Solver(self.program, budget)
+            session.solvers.append(solver)
+            # A session that was ended meanwhile has ended those alone that it had.
+            if self.open.get(name) is not session:
+                solver.kill()
+            return solver.answer(record)
+        except EngineEnded as ended:
+            raise Refusal(410 if name in self.reasons else 500, self.reasons.get(name, str(ended))) from None
+        except OSError as fault:
+            raise Refusal(500, f"hexd could not be started: {fault}") from None
+        finally:
+            session.used = time.monotonic()
+            session.solvers.clear()
+
+    def make_room(self):
+        """Ends the session that was not used for the longest time, where there are as many as may be."""
+        with self.turn:
+            oldest = min(self.open, key=lambda name: self.open[name].used) if len(self.open) >= MOST_SESSIONS else None
+        return "ended" if oldest and self.end(oldest, "another page needed its place") else "there is room"
+
     def end(self, name, why=None):
         """Ends a session and its process, and takes its folder away. With a reason, later requests are told it."""
         with self.turn:
@@ -82,7 +117,7 @@ class Sessions:
                 while len(self.reasons) > MOST_REASONS:
                     del self.reasons[next(iter(self.reasons))]
         if session is not None:
-            session.engine.kill()
+            session.kill()
             shutil.rmtree(session.folder, ignore_errors=True)
         return session is not None
 

@@ -27,7 +27,7 @@ sys.path.insert(0, str(HERE))
 # Debian's packages are for this Python, which need not be the first on the path.
 SYSTEM_PYTHON = "/usr/bin/python3"
 # Longer than any run takes; then something hangs.
-LIMIT_SECONDS = 420
+LIMIT_SECONDS = 900
 
 
 def missing():
@@ -66,10 +66,10 @@ def tests(options):
     loader, why = unittest.TestLoader(), missing()
     suites = [loader.loadTestsFromModule(of_server), loader.loadTestsFromTestCase(of_report.Reports)]
     if why is None:
-        from tests import of_page
+        from tests import of_games, of_records, of_thoughts, of_windows, pages
 
-        of_page.Pages.shots = options.shots
-        suites.append(loader.loadTestsFromModule(of_page))
+        pages.Pages.shots = options.shots
+        suites += [loader.loadTestsFromModule(module) for module in (of_games, of_thoughts, of_records, of_windows)]
         suites.append(loader.loadTestsFromTestCase(of_report.in_browser(options.shots)))
     return unittest.TestSuite(chosen(suites, options.names)), why
 

@@ -1,6 +1,6 @@
 # Completion of hexd-board's words for bash: each option once, and none behind `--`. A number is the user's own.
 _hexd_board() {
-    local options=' --port --program --help '
+    local options=' --playouts --weight --workers --open --port --listen --program --help '
     local at word name=${COMP_WORDS[COMP_CWORD-1]}
     # bash cuts `--name=value` in three at the sign.
     [ "$name" = = ] && name=${COMP_WORDS[COMP_CWORD-2]}
@@ -9,7 +9,7 @@ _hexd_board() {
             compopt -o filenames 2>/dev/null
             mapfile -t COMPREPLY < <(compgen -f -- "$2")
             return ;;
-        --port)
+        --playouts | --weight | --workers | --port | --listen)
             return ;;
     esac
     for ((at = 1; at < COMP_CWORD; at++)); do

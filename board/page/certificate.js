@@ -1,6 +1,6 @@
 'use strict';
-// What a certificate of version 1 says, line by line, so that it can be drawn: the two elements that a line links, the cell
-// or group between them, and the carrier. Whether the certificate is right is hexd's to say (`hexd check`), not this file's.
+// What a certificate says, line by line, so that it can be drawn and followed: the two elements that a line links, the cell or
+// group between them, and the carrier. Whether the certificate is right is hexd's to say (`hexd check`), not this file's.
 
 /** The neighbours of a cell on a board. */
 function neighboursOf(vertex, size) {
@@ -13,14 +13,14 @@ function neighboursOf(vertex, size) {
 
 /** The ends as lines name them (vertices, edge1, edge2), each to its element: an empty cell, or a group of the player. */
 function elementsOf({size, player, own}) {
-  const found = new Map(), index = {b: rowOf, w: columnOf}[player];
+  const found = new Map(), index = {b: rowOf, w: columnOf}[player], stones = new Set(own);
   const next = end => {
     if (end === 'edge1') return own.filter(vertex => index(vertex) === 0);
     if (end === 'edge2') return own.filter(vertex => index(vertex) === size - 1);
     const edges = [];
     if (index(end) === 0) edges.push('edge1');
     if (index(end) === size - 1) edges.push('edge2');
-    return edges.concat(neighboursOf(end, size).filter(vertex => own.includes(vertex)));
+    return edges.concat(neighboursOf(end, size).filter(vertex => stones.has(vertex)));
   };
   for (const start of ['edge1', 'edge2', ...own]) {
     if (found.has(start)) continue;
@@ -53,46 +53,78 @@ function joined(one, two) {
   return {shared: null, ends: one.ends};
 }
 
-const union = (...sets) => new Set(sets.flatMap(set => [...set]));
+/** A set of cells as the bits of a number: quick to join for the many lines of a solver's certificate. */
+const bitOf = (vertex, size) => 1n << BigInt(rowOf(vertex) * size + columnOf(vertex));
 
-/** What one line gives, from its words and the lines before it. */
-function entryOf([rule, ...given], entries, elementOf, player) {
-  const parts = given.map(number => entries[Number(number)]);
-  const names = ends => `${ends[0].name} and ${ends[1].name}`;
-  if (rule === 'adj') {
-    const ends = given.map(elementOf);
-    return {ends, between: null, carrier: new Set(), words: `${names(ends)} touch`};
+/** The entry of one line. `parts` are the entries that it takes, `cell` the one where its player moves, `mask` its carrier. */
+class Entry {
+  constructor(text, rule, given, board) {
+    Object.assign(this, {text, rule, given, board, parts: [], ends: null, between: null, cell: null, mask: 0n});
   }
-  const carrier = union(...parts.map(part => part.carrier));
-  if (rule === 'or') {
-    const ends = parts[0].ends, lines = given.join(given.length > 2 ? ', ' : ' or ');
-    return {ends, between: null, carrier, words: `${names(ends)} are linked: whatever comes, line ${lines} is left`};
+
+  has(vertex) { return (this.mask & bitOf(vertex, this.board.size)) !== 0n; }
+
+  get carrier() {
+    const {size} = this.board, cells = new Set();
+    for (let at = 0; at < size * size; at++) if (this.mask >> BigInt(at) & 1n) cells.add(vertexAt(at % size, Math.floor(at / size)));
+    return cells;
   }
-  const {shared, ends} = joined(parts[0], parts[1]);
-  if (rule === 'and') return {ends, between: shared, carrier, words: `${names(ends)} are linked, through ${shared.name}`};
-  shared.cells.forEach(cell => carrier.add(cell));
-  return {ends, between: shared, carrier, words: `${names(ends)} are linked once ${COLOURS[player]} plays ${shared.name}`};
+
+  /** What the line says, in words. */
+  get words() {
+    const {rule, given, between, cell, board: {player}} = this, mine = COLOURS[player];
+    if (rule === 'put') return given.length ? `now with stones of ${mine}'s on ${given.join(' ')} too` : 'now with the stones that are there';
+    const names = `${this.ends[0].name} and ${this.ends[1].name}`, lines = given.join(given.length > 2 ? ', ' : ' or ');
+    if (rule === 'adj') return `${names} touch`;
+    if (rule === 'or' || rule === 'cases') return `${names} are linked: whatever comes, line ${lines} is left`;
+    if (rule === 'and') return `${names} are linked, through ${between.name}`;
+    if (rule === 'done') return `${names} are linked by stones`;
+    return `${names} are linked once ${mine} plays ${cell}`;
+  }
 }
 
-/** A certificate of version 1: {size, player, claim ('full' or 'semi'), lines, claimed (the line that the claim names)}. */
+/** Fills in what one line gives, from the entries that it takes. */
+function fill(entry, elementOf) {
+  const {rule, given, parts, board: {size}} = entry;
+  for (const {mask} of parts) entry.mask |= mask;
+  if (rule === 'adj') entry.ends = given.map(elementOf);
+  else if (rule === 'or') entry.ends = parts[0].ends;
+  else if (rule === 'and' || rule === 'key') [entry.between, entry.ends] = (({shared, ends}) => [shared, ends])(joined(...parts));
+  else if (rule !== 'put') entry.ends = [elementOf('edge1'), elementOf('edge2')];
+  if (rule === 'key') [entry.cell] = entry.between.cells;
+  if (rule === 'move') [entry.cell] = given;
+  if (entry.cell) entry.mask |= bitOf(entry.cell, size);
+  return entry;
+}
+
+/** A certificate: {size, player, claim ('full' or 'semi'), lines, claimed (the entry that the claim names)}. */
 function readCertificate(text) {
   const [, sizeLine, playerLine, black, white, ...rest] = text.trimEnd().split('\n').map(line => line.split(' '));
   const size = Number(sizeLine[1]), player = playerLine[1][0], claim = rest.pop();
-  const own = (player === 'b' ? black : white).slice(1), elementOf = elementsOf({size, player, own});
-  const entries = [];
-  for (const words of rest) {
-    entries.push({text: words.join(' '), ...entryOf(words, entries, elementOf, player)});
+  const own = (player === 'b' ? black : white).slice(1), board = {size, player}, scopes = new Map(), lines = [];
+  let elementOf = elementsOf({size, player, own});
+  for (const [rule, ...given] of rest) {
+    const entry = new Entry([rule, ...given].join(' '), rule, given, board);
+    const numbers = {adj: [], put: [], done: [], move: given.slice(1)}[rule] ?? given;
+    entry.parts = numbers.map(number => lines[Number(number)]);
+    if (rule === 'put') {
+      const key = given.join(' ');
+      if (!scopes.has(key)) scopes.set(key, elementsOf({size, player, own: [...own, ...given]}));
+      elementOf = scopes.get(key);
+    }
+    lines.push(fill(entry, elementOf));
   }
-  return {size, player, claim: claim[0], lines: entries, claimed: entries[Number(claim[1])]};
+  return {size, player, claim: claim[0], lines, claimed: lines[Number(claim[1])]};
 }
 
 /** What is marked on a board for one line: its ends, what lies between them, and its carrier. */
-function lineMarks(line, player) {
-  const edges = line.ends.concat(line.between ?? []).flatMap(element => element.edges)
+function lineMarks({ends, between, carrier, given, rule}, player) {
+  if (rule === 'put') return {ends: new Set(given)};
+  const edges = ends.concat(between ?? []).flatMap(element => element.edges)
     .map(edge => (edge === 'edge1' ? 0 : 1) + (player === 'b' ? 0 : 2));
-  const middle = line.between?.empty ? line.between.cells[0] : null;
-  const ends = line.ends.concat(middle ? [] : line.between ?? []).flatMap(element => element.cells);
-  return {carrier: line.carrier, ends: new Set(ends), edges: new Set(edges), middle};
+  const middle = between?.empty ? between.cells[0] : null;
+  const cells = ends.concat(middle ? [] : between ?? []).flatMap(element => element.cells);
+  return {carrier, ends: new Set(cells), edges: new Set(edges), middle};
 }
 
 /** The claim in words. */
@@ -101,3 +133,6 @@ function claimWords({size, player, claim}) {
   const when = claim === 'semi' ? `if ${mine} moves first` : `even if ${his} moves first`;
   return `${mine} joins ${first} and ${second} ${when}, whatever ${his} replies, inside the marked cells.`;
 }
+
+/** What the second process said of a certificate, in words. */
+const checkWords = said => (/^yes (full|semi)$/.test(said) ? 'hexd check accepts it, in a process of its own.' : `hexd check refuses it: ${said}`);

@@ -1,53 +1,6 @@
 'use strict';
-// A game as hexd holds it, read from its answers after each change; with the steps that were taken back and can be played
-// again, and what hexd said of each position. Which moves are legal, and who has won, hexd alone says.
-
-/** A game in the form of a link: its size, start stones (`+b-c3`) and moves; a move out of turn has its colour before it. */
-function linkOf({size, start, steps}) {
-  const parts = [size, ...start.map(([colour, vertex]) => `+${colour}-${vertex}`)];
-  let turn = 'b';
-  for (const {colour, move} of steps) {
-    parts.push((colour === turn ? '' : `${colour}-`) + (move === SWAP ? 'swap' : move));
-    turn = other(colour);
-  }
-  return parts.join(',');
-}
-
-/** The text of a record, from a link or its part behind `#`; Refused where it has not the form. */
-function recordOf(link) {
-  const [size, ...parts] = decodeURIComponent(link.slice(link.indexOf('#') + 1)).trim().split(/[\s,]+/);
-  let start = '', steps = '', turn = 'b';
-  for (const part of parts) {
-    const found = /^(\+?)(?:([bw])-)?([a-k][1-9][0-9]?|swap)$/.exec(part);
-    if (!found) throw new Refused(`'${part}' is no move`);
-    const [, plus, given, move] = found, colour = given ?? turn;
-    if (plus) {
-      start += `A${colour.toUpperCase()}[${move}]`;
-    } else {
-      steps += `;${colour.toUpperCase()}[${move === 'swap' ? SWAP : move}]`;
-      turn = other(colour);
-    }
-  }
-  if (!/^([1-9]|1[01])$/.test(size)) throw new Refused('a link begins with the size of the board, 1 to 11');
-  // A property stands once in a node, with all its values.
-  const stones = ['AB', 'AW'].map(name => {
-    const values = start.match(new RegExp(`${name}(\\[[a-k0-9]+\\])`, 'g')) ?? [];
-    return values.length ? name + values.map(value => value.slice(2)).join('') : '';
-  });
-  return `(;FF[4]GM[11]SZ[${size}]${stones.join('')}${steps})`;
-}
-
-/** What `printsgf` says: size, start stones and steps. */
-function gameOf(record) {
-  const [, root, ...nodes] = record.slice(1, -1).split(';');
-  const stones = (name, colour) => (new RegExp(`${name}((?:\\[[a-k0-9]+\\])+)`).exec(root)?.[1] ?? '')
-    .split(/[[\]]+/).filter(Boolean).map(vertex => [colour, vertex]);
-  return {
-    size: Number(/SZ\[(\d+)\]/.exec(root)[1]),
-    start: [...stones('AB', 'b'), ...stones('AW', 'w')],
-    steps: nodes.map(node => ({colour: node[0].toLowerCase(), move: node.slice(2, -1)})),
-  };
-}
+// The game on the page: a tree of moves, and the session of hexd, which holds the moves up to one of its positions. What is true
+// of a position (its stones, the winner, whether a swap may come) are hexd's answers, and so are the moves that are legal.
 
 /** The stones that `showboard` shows. */
 function stonesOf(board) {
@@ -61,125 +14,170 @@ function stonesOf(board) {
 }
 
 class Game {
-  constructor(session) {
-    Object.assign(this, {session, size: 11, start: [], steps: [], stones: new Map(), winner: null, canSwap: false,
-      future: [], thoughts: new Map()});
+  constructor() {
+    Object.assign(this, {session: null, tree: new Tree(11), held: null});
+    this.tree.root.facts = {stones: new Map(), winner: null, canSwap: false};
   }
 
-  /** Who is to move: Black first, and then whoever did not move last. */
-  get mover() {
-    if (this.steps.length) return other(this.steps.at(-1).colour);
-    const black = this.start.filter(([colour]) => colour === 'b').length;
-    return 2 * black > this.start.length ? 'w' : 'b';
-  }
+  get at() { return this.tree.at; }
+
+  get size() { return this.tree.size; }
+
+  get mover() { return this.at.mover; }
+
+  get steps() { return this.tree.steps; }
+
+  get stones() { return this.at.facts.stones; }
+
+  get canSwap() { return this.at.facts.canSwap; }
+
+  /** Who is joined, or whose opponent has resigned; null where neither is. */
+  get winner() { return this.at.facts.winner ?? (this.at.end ? other(this.at.end.colour) : null); }
 
   /** Where the stone of a swap lies: the one stone that no later step has put there. */
   get swapped() {
-    if (this.steps[1]?.move !== SWAP) return null;
-    const later = new Set(this.steps.slice(2).map(({move}) => move));
+    const {steps} = this;
+    if (steps[1]?.move !== SWAP) return null;
+    const later = new Set(steps.slice(2).map(({move}) => move));
     return [...this.stones.keys()].find(vertex => !later.has(vertex));
   }
 
-  /** The moves of the whole line: those on the board, and those that were taken back. */
-  get line() { return [...this.steps, ...this.future]; }
-
-  keyAt(position) { return linkOf({...this, steps: this.line.slice(0, position)}); }
-
-  thoughtAt(position) { return this.thoughts.get(this.keyAt(position)) ?? null; }
-
   /** What hexd said of this position, and else of the move that led to it: with whether it is of this one. */
   get shown() {
-    const here = this.thoughtAt(this.steps.length);
-    if (here) return {thought: here, here: true};
-    const thought = this.steps.length ? this.thoughtAt(this.steps.length - 1) : null;
-    return thought && thought.cell === this.steps.at(-1).move ? {thought, here: false} : null;
+    const {at} = this, before = at.parent?.thought;
+    if (at.thought) return {thought: at.thought, here: true};
+    return before && before.cell === at.step.move ? {thought: before, here: false} : null;
   }
 
-  /** Reads the game from hexd's answers. */
-  async read() {
-    Object.assign(this, gameOf(await this.session.ask('printsgf')));
-    this.stones = stonesOf(await this.session.ask('showboard'));
+  /** Has the session hold the moves up to a position: one more or one less, or all of them anew by one record. */
+  async hold(position) {
+    const {held} = this;
+    if (held === position) return;
+    this.held = null;
+    const line = !held ? null : held === position.parent ? `play ${position.step.colour} ${position.step.move}`
+      : held.parent === position ? 'undo' : null;
+    if (!line || await this.session.tell(line) === null) await this.loadMoves(position);
+    this.held = position;
+  }
+
+  async loadMoves(position) {
+    try {
+      await this.session.load(recordOfPath(position));
+    } catch (fault) {
+      throw fault instanceof Refused ? new Refused(await this.whyNot(position)) : fault;
+    }
+  }
+
+  /** Which move of those up to a position hexd refuses, and why, in words. */
+  async whyNot(position) {
+    const {session} = this, {tree} = position;
+    if (tree.start.length) return 'hexd can\'t play it: two stones of the start lie on one cell, or a move is illegal';
+    await session.ask(`boardsize ${tree.size}`);
+    for (const {step: {colour, move}, number} of position.path.slice(1)) {
+      if (await session.tell(`play ${colour} ${move}`) === null) {
+        return `move ${number} is illegal: ${COLOURS[colour]} ${move}, for ${await this.whyIllegal(move, tree.size)}`;
+      }
+    }
+    return 'hexd can\'t play it';
+  }
+
+  /** Why hexd refuses a move in the position that its session holds. */
+  async whyIllegal(move, size) {
     const winner = await this.session.ask('winner');
-    this.winner = winner === 'none' ? null : winner[0];
-    await this.trySwap();
+    if (winner !== 'none') return `${winner === 'black' ? 'Black' : 'White'} has won before`;
+    if (move === SWAP) return 'only White may swap, and only Black\'s first stone';
+    if (columnOf(move) >= size || rowOf(move) >= size) return `the board of size ${size} has no such cell`;
+    return 'there is a stone on it';
+  }
+
+  /** Asks hexd what is true of a position, once. */
+  async learn(position) {
+    if (position.facts) return;
+    await this.hold(position);
+    const stones = stonesOf(await this.session.ask('showboard')), winner = await this.session.ask('winner');
+    const facts = {stones, winner: winner === 'none' ? null : winner[0], canSwap: false};
+    if (!facts.winner && position.mover === 'w') facts.canSwap = await this.maySwap();
+    position.facts = facts;
   }
 
   /** Whether a swap is legal is hexd's answer to it, which is taken back. */
-  async trySwap() {
-    this.canSwap = this.mover === 'w' && !this.winner && await this.session.tell(`play w ${SWAP}`) !== null;
-    if (this.canSwap) await this.session.ask('undo');
+  async maySwap() {
+    if (await this.session.tell(`play w ${SWAP}`) === null) return false;
+    await this.session.ask('undo');
+    return true;
   }
 
-  async begin(size) {
-    await this.session.ask(`boardsize ${size}`);
-    this.future = [];
-    await this.read();
+  /** Goes to a position, once hexd holds it. */
+  async goTo(position) {
+    await this.learn(position);
+    this.tree.goTo(position);
   }
 
-  /** Plays a move for who is to move. What was taken back is dropped, unless this move was the next of it. */
+  /** Takes another tree in place of this one, which stays where hexd refuses it. */
+  async take(tree) {
+    await this.learn(tree.at);
+    this.tree = tree;
+  }
+
+  /** Plays a move for who is to move. In the past of a line another move than its next one begins a side line. */
   async play(move) {
-    await this.session.ask(`play ${this.mover} ${move}`);
-    this.played(move);
-    await this.read();
+    const {at, mover: colour} = this;
+    await this.hold(at);
+    if (await this.session.tell(`play ${colour} ${move}`) === null) {
+      throw new Refused(`illegal move: ${await this.whyIllegal(move, this.size)}`);
+    }
+    await this.moved(colour, move);
   }
 
-  played(move) {
-    const next = this.future[0];
-    this.future = next && next.move === move && next.colour === this.mover ? this.future.slice(1) : [];
+  async moved(colour, move) {
+    const position = this.tree.after(this.at, {colour, move});
+    this.held = position;
+    await this.goTo(position);
   }
 
   /** Lets hexd move for who is to move, and keeps what it says of it. */
   async generate() {
-    const mover = this.mover, position = this.steps.length;
+    const {at, mover} = this;
+    await this.hold(at);
+    this.held = null;
     const cell = await this.session.ask(`genmove ${mover}`);
-    const thought = await this.ask(mover, cell);
-    this.thoughts.set(this.keyAt(position), thought);
-    this.played(cell);
-    await this.read();
+    at.thought = await this.ask(at, cell);
+    await this.moved(mover, cell);
   }
 
-  /** Asks hexd what it would play here, and leaves the game as it is. */
-  async hint() {
-    const mover = this.mover, cell = await this.session.ask(`genmove ${mover}`);
-    const thought = await this.ask(mover, cell);
+  /** Asks hexd what it would play in a position, and leaves the game as it is. */
+  async think(position) {
+    await this.learn(position);
+    if (position.facts.winner) return;
+    await this.hold(position);
+    this.held = null;
+    const cell = await this.session.ask(`genmove ${position.mover}`);
+    position.thought = await this.ask(position, cell);
     await this.session.ask('undo');
-    this.thoughts.set(this.keyAt(this.steps.length), thought);
+    this.held = position;
   }
 
-  async ask(mover, cell) {
-    const mustplay = await this.session.ask('mustplay');
-    const swap = this.canSwap || (mover === 'b' && !this.steps.length && !this.start.length);
-    const report = await this.session.tell('search-report'), certificate = await this.session.tell('wincert');
-    const checked = certificate === null ? null : await this.session.check(`${certificate}\n`);
+  /** Whether White may swap, by this move or by the next. */
+  mayStillSwap(position) {
+    return position.facts.canSwap || (position.mover === 'b' && !position.number && !position.tree.start.length);
+  }
+
+  async ask(position, cell) {
+    const {session} = this, mover = position.mover, swap = this.mayStillSwap(position);
+    const mustplay = await session.ask('mustplay');
+    const report = await session.tell('search-report'), certificate = await session.tell('wincert');
+    const checked = certificate === null ? null : await session.check(`${certificate}\n`);
     return readThought({mover, cell, swap, mustplay, report, certificate, checked});
   }
 
-  /** Goes to a position of the line, by taking steps back or playing them again. */
-  async goTo(position) {
-    while (this.steps.length > position) {
-      await this.session.ask('undo');
-      this.future.unshift(this.steps.pop());
-    }
-    while (this.steps.length < position && this.future.length) {
-      const step = this.future.shift();
-      await this.session.ask(`play ${step.colour} ${step.move}`);
-      this.steps.push(step);
-    }
-    await this.read();
+  /** Asks the solver who wins a position, and keeps what it says. */
+  async solve(position, budget) {
+    const {session} = this, said = await session.solve(recordOfPath(position), budget);
+    const [first, ...lines] = said.split('\n'), certificate = lines.join('\n');
+    const checked = certificate ? await session.check(`${certificate}\n`) : null;
+    position.solved = readSolved(first, certificate, checked, position.mover, this.mayStillSwap(position));
   }
 
-  /** Loads the text of a record in place of this game. */
-  async load(record) {
-    await this.session.load(record);
-    this.future = [];
-    await this.read();
-  }
-
-  /** Goes on in a new session with the game as it was. */
-  async move(session) {
-    const record = recordOf(linkOf({...this, steps: this.line})), position = this.steps.length;
-    this.session = session;
-    await this.load(record);
-    await this.goTo(position);
-  }
+  /** Goes on in a new session. */
+  renew(session) { Object.assign(this, {session, held: null}); }
 }

@@ -1,112 +1,85 @@
 'use strict';
-// What the page shows beside and on the board: from the game, from what hexd said of it, and from the switches.
+// What the page shows: the board with its marks, the words beside it, and which buttons can be used.
+
+// From this size on an empty board shows no map of openings.
+const LARGEST_MAP = 7;
 
 class Panel {
   constructor(game, view) {
-    Object.assign(this, {game, view, pointed: null, pinned: null, drawn: null, opening: null, said: ''});
+    Object.assign(this, {game, view, drawn: null, openings: new Map(), cell: null});
+    this.choices = new Choices(() => this.drawBoard());
   }
 
-  get marks() { return this.pointed ?? this.pinned; }
-
-  /** Draws all of it. `state` has `busy`, `thinking`, `lost` and `players`. */
+  /** Draws all of it. `state` has `busy`, `thinking`, `lost`, `full` and `players`. */
   draw(state) {
-    const shown = this.game.shown;
-    if (shown?.thought !== this.drawn) {
-      Object.assign(this, {pointed: null, pinned: null, drawn: shown?.thought});
-      this.drawThreats(shown?.thought);
-      this.drawProof(shown?.thought);
+    const {game} = this, line = game.tree.line, said = game.at.solved?.proof ? game.at.solved : game.shown?.thought;
+    this.state = state;
+    this.proofs = provedAlong(line);
+    this.proof = this.proofs[game.at.number];
+    if (said !== this.drawn) {
+      this.choices.clear();
+      this.drawn = said;
+      this.choices.drawThreats(game.shown?.thought);
+      this.choices.drawProof(said);
     }
     this.drawStatus(state);
-    this.drawWords(shown);
+    byId('words').replaceChildren(...thoughtElements(game, this.proof, this.map));
     this.drawBoard();
-    this.drawCourse(state);
+    drawCourse(game, this.proofs, position => this.onGoTo(position));
     this.drawControls(state);
   }
 
-  drawStatus({thinking, busy, players}) {
-    const {winner, mover} = this.game, name = COLOURS[winner ?? mover];
-    const who = players[winner ?? mover] === 'hexd' ? 'hexd' : 'I';
-    const words = winner ? `${name} (${who}) has won.` : thinking ? `hexd thinks for ${name} ..` : `${name} (${who}) to move.`;
-    const status = byId('status');
-    status.replaceChildren(htmlElement('span', {class: `dot ${winner ?? mover}`}), words);
-    status.classList.toggle('thinking', Boolean(thinking));
-    document.body.setAttribute('aria-busy', Boolean(busy));
+  drawStatus(state) {
+    const {text, look} = stateOf(this.game, state), status = byId('status');
+    const dot = htmlElement('span', {class: `dot ${this.game.winner ?? this.game.mover}`});
+    if (byId('state').textContent !== text) byId('state').replaceChildren(dot, text);
+    status.className = state.thinking ? `${look} thinking` : look;
+    document.body.setAttribute('aria-busy', Boolean(state.busy));
   }
 
-  drawWords(shown) {
-    const lines = [];
-    if (this.opening) {
-      const {vertex, winner} = this.opening, swap = winner === 'b' ? 'a swap takes the win' : 'a swap gives the win away';
-      lines.push(htmlElement('p', {class: 'proved'}, `Proved: after Black's ${vertex} ${COLOURS[winner]} wins; ${swap}.`));
-    }
-    if (shown) {
-      const {thought, here} = shown, name = COLOURS[thought.mover];
-      const head = here ? `With ${name} to move here:` : `Of ${name}'s ${thought.cell}, move ${this.game.steps.length}:`;
-      lines.push(htmlElement('p', {class: 'of'}, head), ...thoughtWords(thought).map(text => htmlElement('p', {}, text)));
-    } else {
-      lines.push(htmlElement('p', {class: 'none'}, 'Of this position hexd has said nothing yet.'));
-    }
-    byId('words').replaceChildren(...lines);
-  }
-
-  /** A button that marks something on the board while it is pointed at or has the focus, and longer when it is pressed. */
-  choice(marksOf, ...words) {
-    const button = htmlElement('button', {type: 'button', 'aria-pressed': 'false'}, ...words);
-    const point = marks => { this.pointed = marks; this.drawBoard(); };
-    button.addEventListener('pointerenter', () => point(marksOf()));
-    button.addEventListener('focus', () => point(marksOf()));
-    button.addEventListener('pointerleave', () => point(null));
-    button.addEventListener('blur', () => point(null));
-    button.addEventListener('click', () => {
-      const was = button.getAttribute('aria-pressed') === 'true';
-      for (const pressed of document.querySelectorAll('.choices [aria-pressed=true]')) {
-        pressed.setAttribute('aria-pressed', 'false');
-      }
-      button.setAttribute('aria-pressed', String(!was));
-      this.pinned = was ? null : marksOf();
-      this.drawBoard();
-    });
-    return htmlElement('li', {}, button);
-  }
-
-  drawThreats(thought) {
-    const choices = (thought?.threats ?? []).map((carrier, at) =>
-      this.choice(() => ({carrier: new Set(carrier)}), `Threat ${at + 1}: ${counted(carrier.length, 'cell')}`));
-    byId('threats').replaceChildren(...choices);
-  }
-
-  drawProof(thought) {
-    const proof = thought?.proof;
-    byId('proof').hidden = !proof;
-    byId('lines').replaceChildren();
-    if (!proof) return;
-    byId('claim').textContent = claimWords(proof);
-    byId('checked').textContent = `Checked by a second process: ${thought.checked}`;
-    byId('lines').replaceChildren(...proof.lines.map(line =>
-      this.choice(() => lineMarks(line, proof.player), htmlElement('code', {}, line.text), ` ${line.words}`)));
+  /** The map of openings, where the empty board has one. */
+  get map() {
+    const {game} = this;
+    return game.tree.start.length || game.at.number ? null : this.openings.get(game.size) ?? null;
   }
 
   drawBoard() {
-    const {game} = this, shown = game.shown, thought = shown?.thought, view = {stones: game.stones, last: this.last()};
-    if (byId('show-numbers').checked) view.numbers = this.numbers();
-    if (this.marks) {
-      Object.assign(view, this.marks);
-    } else if (thought) {
-      if (byId('show-visits').checked && !thought.win) view.visits = visitsOf(thought);
-      if (byId('show-mustplay').checked) view.dimmed = dimmedOf(thought, game.size);
-      if (byId('show-carrier').checked && thought.proof) view.carrier = thought.proof.claimed.carrier;
-      if (shown.here) view.chosen = thought.cell;
-    }
-    this.shownView = view;
+    const {game} = this;
+    if (!game.at.facts) return;
+    this.shownView = {stones: game.stones, last: this.last(), ...this.marks()};
     this.view.shape(game.size, this.layout());
-    this.view.show(view);
+    this.view.show(this.shownView);
     this.view.svg.setAttribute('aria-label', `Board, ${game.size} by ${game.size}`);
     this.drawReadout();
   }
 
+  /** What is marked on the board beside its stones. */
+  marks() {
+    const {game, choices, proof} = this, {shown, at, mover} = game, on = id => byId(id).checked, marks = {};
+    if (on('show-numbers')) marks.numbers = this.numbers();
+    if (this.state && !game.winner && this.state.players[mover] === 'I') marks.ghost = mover;
+    if (at.facts.winner) marks.chain = chainOf(at.facts.stones, at.facts.winner, game.size);
+    if (choices.marks) return Object.assign(marks, choices.marks);
+    if (this.map) marks.openings = this.map;
+    const solved = at.solved?.proof ? at.solved : null;
+    if (on('show-carrier') && (solved ?? shown?.thought)?.proof) marks.carrier = (solved ?? shown.thought).proof.claimed.carrier;
+    if (solved) return Object.assign(marks, {chosen: solved.cell});
+    if (shown) Object.assign(marks, this.thoughtMarks(shown.thought, shown.here, on));
+    if (!shown?.here && proof && !proof.here && proof.player === mover) marks.answers = new Set(proof.answers);
+    return marks;
+  }
+
+  thoughtMarks(thought, here, on) {
+    const marks = {};
+    if (on('show-visits') && !thought.win) marks.visits = visitsOf(thought);
+    if (on('show-mustplay')) marks.dimmed = dimmedOf(thought, this.game.size);
+    if (here) marks.chosen = thought.cell;
+    return marks;
+  }
+
   /** The cell of the last step's stone. */
   last() {
-    const step = this.game.steps.at(-1);
+    const {step} = this.game.at;
     return step?.move === SWAP ? this.game.swapped : step?.move ?? null;
   }
 
@@ -116,50 +89,41 @@ class Panel {
   }
 
   layout() {
-    const stage = byId('stage');
-    return stage.clientHeight > 1.05 * stage.clientWidth ? 'tall' : 'wide';
+    const wanted = byId('orientation').value, {clientWidth, clientHeight} = byId('stage');
+    return wanted !== 'auto' ? wanted : clientHeight > 1.05 * clientWidth ? 'upright' : 'wide';
   }
 
-  /** What was refused last, until another cell is pointed at, and else what is on the cell that is pointed at. */
+  /** What is on the cell that is pointed at. */
   drawReadout(vertex = this.cell) {
-    if (vertex && vertex !== this.cell) this.said = '';
     this.cell = vertex;
-    byId('said').textContent = this.said;
-    byId('pointed').textContent = !this.said && this.view.cells.has(vertex) ? cellWords(vertex, this.shownView) : '\u00a0';
+    byId('readout').textContent = this.view.cells.has(vertex) ? cellWords(vertex, this.shownView) : '\u00a0';
   }
 
-  drawCourse({busy}) {
-    const {game} = this, line = game.line, at = game.steps.length, points = [];
-    for (let position = 0; position <= line.length; position++) {
-      const thought = game.thoughtAt(position), share = thought && blackShare(thought);
-      if (share) points.push([position, share]);
-    }
-    drawPlot(byId('plot'), {count: line.length, points, at, onPick: position => this.onGoTo(position)});
-    byId('moves').replaceChildren(...line.map((step, index) => {
-      const button = htmlElement('button', {type: 'button'}, ...moveLabel(step));
-      if (index + 1 === at) button.setAttribute('aria-current', 'true');
-      button.className = index < at ? '' : 'ahead';
-      button.onclick = () => this.onGoTo(index + 1);
-      return htmlElement('li', {}, button);
-    }));
-    const list = byId('moves'), current = list.querySelector('[aria-current]');
-    if (current) list.scrollTop = current.parentElement.offsetTop - list.offsetTop - list.clientHeight / 2;
-    for (const id of ['first', 'back']) byId(id).disabled = busy || at === 0;
-    for (const id of ['forth', 'end']) byId(id).disabled = busy || !game.future.length;
-  }
-
-  drawControls({busy, lost, players}) {
-    const {game} = this, both = players.b === 'hexd' && players.w === 'hexd', off = busy || lost;
-    for (const id of ['new', 'size', 'save', 'open', 'player-b', 'player-w']) byId(id).disabled = off;
-    byId('undo').disabled = off || !game.steps.length;
-    byId('swap').disabled = off || !game.canSwap;
-    byId('swap').hidden = !game.canSwap;
-    byId('hint').disabled = off || Boolean(game.winner);
-    byId('go').textContent = both && busy ? 'Pause' : 'hexd moves';
-    byId('go').disabled = lost || Boolean(game.winner) || (busy && !both);
+  drawControls({busy, thinking, lost, full, analysing, players, settings}) {
+    const {game} = this, {at} = game, size = game.tree;
+    const enable = (id, can) => { byId(id).disabled = Boolean(lost) || !can; };
+    for (const id of ['first', 'back', 'undo']) enable(id, at.parent);
+    for (const id of ['forth', 'end']) enable(id, at.next);
+    for (const id of ['new', 'size', 'save', 'open', 'player-b', 'player-w', 'strength']) enable(id, true);
+    for (const id of ['hint', 'go']) enable(id, !game.winner);
+    enable('analyse', size.line.length > 1);
+    enable('prove', !game.winner && game.size <= LARGEST_PROVED);
+    enable('swap', game.canSwap);
+    byId('swap').classList.toggle('away', !game.canSwap);
+    byId('stop').classList.toggle('away', !thinking);
+    byId('go').classList.toggle('away', Boolean(thinking));
+    byId('new').classList.toggle('wanted', Boolean(game.winner));
     byId('size').value = game.size;
     byId('alert').hidden = !lost;
+    byId('room').hidden = !full;
+    byId('again').textContent = full ? 'Try again' : 'Go on with a new process';
     byId('alert-text').textContent = lost ?? '';
-    if (document.activeElement !== byId('link')) byId('link').value = `${Session.address}#${linkOf(game)}`;
+    if (settings) byId('strength-words').textContent = strengthWords(settings);
+    if (document.activeElement !== byId('link')) byId('link').value = `${Session.address}#${linkOfTree(game.tree)}`;
   }
+}
+
+/** How hexd searches, in words. */
+function strengthWords({weight, workers}) {
+  return `hexd searches with ${grouped(byId('strength').value)} playouts a move, weight ${weight}, ${counted(workers, 'worker')}.`;
 }

@@ -1,16 +1,20 @@
 'use strict';
-// The page at work: what each button does, whose turn is hexd's, and what happens where the session or the server is lost.
+// The page at work: what each button and key does, whose turn is hexd's, and what happens where a session or the server is lost.
+
+// The solver is offered up to this size, and may enter so many positions.
+const LARGEST_PROVED = 6;
+const BUDGET = 1_000_000;
 
 class Play {
   constructor() {
-    Object.assign(this, {busy: false, thinking: false, running: false, lost: null});
-    this.view = new BoardView(byId('board'), {
-      onPick: vertex => this.pick(vertex),
-      onPoint: vertex => this.panel.drawReadout(vertex),
-    });
-    this.game = new Game(null);
+    Object.assign(this, {busy: false, thinking: null, running: false, stopping: false, lost: null, full: false, waiting: [],
+      settings: null, entered: false, isNew: false});
+    this.view = new BoardView(byId('board'), {onPick: vertex => this.pick(vertex), onPoint: vertex => this.panel.drawReadout(vertex)});
+    this.game = new Game();
     this.panel = new Panel(this.game, this.view);
     this.panel.onGoTo = position => this.act(() => this.game.goTo(position));
+    this.message = new Message(byId('said'));
+    this.keeping = new Keeping();
   }
 
   get players() { return {b: byId('player-b').value, w: byId('player-w').value}; }
@@ -19,162 +23,280 @@ class Play {
 
   draw() { this.panel.draw(this); }
 
-  /** Does one thing at a time; then, where `goOn` says so, hexd moves as long as it is its turn. */
+  /** Does one thing after another, in the order in which they come. `goOn`: then hexd moves as long as it is its turn. */
   async act(use, goOn = false) {
-    if (this.busy || this.lost) return;
-    Object.assign(this, {busy: true, running: goOn});
-    this.panel.said = '';
+    if (this.lost) return;
+    this.waiting.push({use, goOn});
+    if (this.busy) return;
+    this.busy = true;
+    while (this.waiting.length && !this.lost) await this.doOne(this.waiting.shift());
+    Object.assign(this, {busy: false, running: false, waiting: []});
+    this.draw();
+  }
+
+  async doOne({use, goOn}) {
+    this.running = goOn;
+    this.message.clear();
     this.draw();
     try {
       await use();
       await this.settle();
       while (this.running && this.isHexdsTurn) await this.letHexdMove();
     } catch (fault) {
-      this.fail(fault);
-    } finally {
-      Object.assign(this, {busy: false, running: false, thinking: false});
-      this.draw();
+      await this.fail(fault);
     }
+    this.stopClock();
+    if (this.stopping && !this.lost) await this.renew();
   }
 
-  /** After each change: what the certificates prove of an opening, the link in the address, and the page. */
+  /** After each change: the game in the address, who is proved to win the opening, and the page. */
   async settle() {
-    keepAddress(`#${linkOf(this.game)}`);
-    this.panel.opening = await this.provedOpening();
+    const {game, keeping} = this, {at} = game;
+    keeping.keep(game.tree, this.isNew);
+    this.isNew = false;
+    if (at.number === 1 && !game.tree.start.length && at.step.colour === 'b' && at.opening === undefined) {
+      at.opening = (await Session.winner(game.size, at.step.move))?.[0] ?? null;
+    }
+    if (game.tree.isEmpty) this.drawMap(game.size);
     this.draw();
   }
 
-  async provedOpening() {
-    const {size, start, steps} = this.game;
-    if (start.length || steps.length !== 1 || steps[0].colour !== 'b') return null;
-    const winner = await Session.winner(size, steps[0].move);
-    return winner && {vertex: steps[0].move, winner: winner[0]};
+  /** The map of openings comes when it is there: nothing waits for it. */
+  async drawMap(size) {
+    const {openings} = this.panel;
+    if (size > LARGEST_MAP || openings.has(size)) return;
+    openings.set(size, null);
+    const found = Object.entries(await Session.winners(size).catch(() => ({})));
+    if (found.length) openings.set(size, new Map(found.map(([vertex, winner]) => [vertex, winner[0]])));
+    this.draw();
+  }
+
+  /** Says that hexd is at work, and for how many seconds. */
+  startClock(what) {
+    const begun = Date.now(), tell = () => { byId('seconds').textContent = `${Math.floor((Date.now() - begun) / 1000)} s`; };
+    this.stopClock();
+    this.thinking = what;
+    tell();
+    this.clock = setInterval(tell, 250);
+    this.draw();
+  }
+
+  stopClock() {
+    clearInterval(this.clock);
+    this.thinking = null;
+    byId('seconds').textContent = '';
   }
 
   async letHexdMove() {
-    this.thinking = true;
-    this.draw();
+    this.startClock(`thinks for ${COLOURS[this.game.mover]}`);
     await this.game.generate();
-    this.thinking = false;
+    this.stopClock();
     await this.settle();
+    // A click that came meanwhile has its turn between two moves of hexd's against itself.
+    if (this.waiting.length && this.players.b === this.players.w) this.running = false;
   }
 
-  fail(fault) {
-    if (fault instanceof SessionLost) this.lost = fault.message;
-    else if (fault instanceof Refused) this.panel.said = `hexd: ${fault.message}`;
-    else throw fault;
+  /** Ends what hexd does: its process goes, and another one takes the game over. */
+  stop() {
+    this.running = false;
+    if (!this.thinking) return;
+    this.stopping = true;
+    this.game.session.close();
+  }
+
+  async renew() {
+    this.stopping = false;
+    try {
+      this.game.renew(await Session.open(byId('strength').value));
+    } catch (fault) {
+      await this.fail(fault);
+    }
+  }
+
+  async fail(fault) {
+    if (fault instanceof SessionLost) {
+      if (!this.stopping) Object.assign(this, {lost: fault.message, full: Boolean(fault.full)});
+    } else if (fault instanceof Refused) {
+      this.message.say(`hexd: ${fault.message}`);
+    } else {
+      this.message.say(`The page has a fault: ${fault.message}`);
+      throw fault;
+    }
   }
 
   pick(vertex) {
-    if (this.isHexdsTurn && !this.busy) {
-      this.panel.said = `It is hexd's turn: 'hexd moves' lets it move.`;
-      this.panel.drawReadout();
+    if (this.thinking) {
+      this.message.say('hexd is at work: Stop ends it.');
       return;
     }
-    this.act(() => this.game.play(vertex), true);
+    this.act(async () => {
+      if (this.isHexdsTurn) throw new Refused('it is hexd\'s turn: \'hexd moves\' lets it move');
+      await this.game.play(vertex);
+    }, true);
   }
 
   /** One move back; against hexd as many as lead to a move of mine. */
   async undo() {
-    const position = this.game.steps.length, {b, w} = this.players;
-    await this.game.goTo(position - 1);
-    if (b !== w && this.isHexdsTurn && this.game.steps.length) await this.game.goTo(position - 2);
+    const {game} = this, {b, w} = this.players;
+    if (game.at.parent) await game.goTo(game.at.parent);
+    if (b !== w && this.isHexdsTurn && game.at.parent) await game.goTo(game.at.parent);
   }
 
-  async again() {
-    this.lost = null;
-    await this.act(async () => this.game.move(await Session.open()));
+  /** Puts another game in the place of this one, which Back brings again. */
+  async take(tree) {
+    const {tree: old} = this.game;
+    await this.game.take(tree);
+    this.isNew = !old.isEmpty;
+    // An empty game leaves its place to another.
+    if (!this.isNew) tree.id = old.id;
   }
 
-  open(record) { return this.act(() => this.game.load(record)); }
+  begin(size) {
+    this.stop();
+    this.act(() => this.take(new Tree(size)), true);
+  }
 
-  openLink(link) { return this.act(async () => this.game.load(link.trim().startsWith('(') ? link : recordOf(link))); }
+  /** Opens a record, of whatever program. */
+  open(blob) {
+    this.stop();
+    return this.act(async () => {
+      const {record, notes} = await Session.convert(await blob.arrayBuffer()), {tree, notes: more} = treeOfRecord(record);
+      await this.take(tree);
+      this.message.say([...notes, ...more].join(' '));
+    });
+  }
 
-  async picture(kind) {
-    const style = getComputedStyle(document.body), text = this.view.picture(style.backgroundColor);
-    const drawn = new Blob([text], {type: 'image/svg+xml'});
-    saveFile(`hexd-board.${kind}`, kind === 'svg' ? drawn : await painted(drawn));
+  openText(text) {
+    if (text.trim().startsWith('(')) return this.open(new Blob([text]));
+    this.stop();
+    return this.act(async () => this.take(treeOfMoves(gameOfText(text, this.game.size))));
+  }
+
+  async copy(text, why) {
+    if (text === null) return this.message.say(why);
+    byId('link').value = text;
+    byId('link').select();
+    await navigator.clipboard?.writeText(text).catch(() => {});
+  }
+
+  /** A search of each position of the line of which hexd has said nothing, while the game stays where it is. */
+  async analyse() {
+    const {line} = this.game.tree;
+    for (const position of line) {
+      if (position.thought) continue;
+      this.startClock(`looks at position ${position.number + 1} of ${line.length}`);
+      await this.game.think(position);
+    }
+  }
+
+  async prove() {
+    this.startClock('solves this position');
+    await this.game.solve(this.game.at, BUDGET);
+  }
+
+  async hint() {
+    this.startClock(`thinks for ${COLOURS[this.game.mover]}`);
+    await this.game.think(this.game.at);
+  }
+
+  /** Tries again after a session was lost, or could not be had. */
+  again(makeRoom) {
+    Object.assign(this, {lost: null, full: false});
+    return this.act(async () => {
+      if (makeRoom) await Session.makeRoom();
+      await this.enter();
+    });
+  }
+
+  /** Opens a session for the game: the one that is there, and at the start of the page the one of the address. */
+  async enter() {
+    if (!this.settings) {
+      this.settings = await Session.settings();
+      this.drawStrengths(this.settings);
+      kept.restore();
+    }
+    this.game.renew(await Session.open(byId('strength').value));
+    if (this.entered) return this.game.hold(this.game.at);
+    const {state, hash} = {state: history.state, hash: location.hash}, tree = this.keeping.treeOf(state);
+    this.entered = true;
+    if (tree) await this.game.take(tree);
+    else if (hash.length > 1) await this.game.take(treeOfMoves(gameOfText(hash, this.game.size)));
+    // After a reload hexd moves where it is its turn.
+    this.running = Boolean(tree) && !tree.at.next;
   }
 
   wire() {
-    const {game} = this, on = (id, use) => byId(id).addEventListener('click', use);
+    const {game} = this, on = (id, use) => byId(id).addEventListener('click', use), go = position => position && game.goTo(position);
     for (let size = 1; size <= LETTERS.length; size++) byId('size').append(htmlElement('option', {value: size}, `${size}`));
-    byId('size').addEventListener('change', ({target: {value}}) => this.act(() => game.begin(value), true));
-    for (const id of ['player-b', 'player-w']) {
-      byId(id).addEventListener('change', () => this.act(async () => {}, !game.future.length));
-    }
-    on('new', () => this.act(() => game.begin(game.size), true));
+    byId('size').addEventListener('change', ({target: {value}}) => this.begin(Number(value)));
+    on('new', () => this.begin(game.size));
     on('undo', () => this.act(() => this.undo()));
     on('swap', () => this.act(() => game.play(SWAP), true));
-    on('go', () => { if (this.busy) this.running = false; else this.act(() => this.letHexdMove(), true); });
-    on('hint', () => this.act(async () => { this.thinking = true; this.draw(); await game.hint(); this.thinking = false; }));
-    on('first', () => this.act(() => game.goTo(0)));
-    on('back', () => this.act(() => game.goTo(game.steps.length - 1)));
-    on('forth', () => this.act(() => game.goTo(game.steps.length + 1)));
-    on('end', () => this.act(() => game.goTo(game.line.length)));
-    on('again', () => this.again());
-    this.wireFiles();
-    for (const id of ['show-visits', 'show-mustplay', 'show-carrier', 'show-numbers']) {
-      byId(id).addEventListener('change', () => this.panel.drawBoard());
-    }
-    new ResizeObserver(() => this.panel.drawBoard()).observe(byId('stage'));
-    addEventListener('hashchange', () => this.openLink(location.hash));
+    on('go', () => this.act(() => this.letHexdMove(), true));
+    on('hint', () => this.act(() => this.hint()));
+    on('stop', () => this.stop());
+    on('analyse', () => this.act(() => this.analyse()));
+    on('prove', () => this.act(() => this.prove()));
+    on('first', () => this.act(() => go(game.tree.root)));
+    on('back', () => this.act(() => go(game.at.parent)));
+    on('forth', () => this.act(() => go(game.at.next)));
+    on('end', () => this.act(() => go(game.tree.line.at(-1))));
+    on('again', () => this.again(false));
+    on('room', () => this.again(true));
+    wireFiles(this);
+    this.wireSwitches();
+    addEventListener('keydown', event => this.press(event));
+    addEventListener('popstate', ({state}) => this.goBack(state));
     addEventListener('pagehide', () => game.session?.close());
   }
 
-  wireFiles() {
-    const {game} = this, on = (id, use) => byId(id).addEventListener('click', use);
-    on('save', () => this.act(async () => saveFile('game.sgf', new Blob([`${await game.session.ask('printsgf')}\n`]))));
-    byId('open').addEventListener('change', async event => {
-      const [file] = event.target.files;
-      if (file) await this.open(file);
-      event.target.value = '';
+  wireSwitches() {
+    for (const element of kept.elements()) element.addEventListener('change', () => { kept.save(); this.draw(); });
+    for (const id of ['player-b', 'player-w']) {
+      byId(id).addEventListener('change', () => this.act(async () => {}, !this.game.at.next));
+    }
+    byId('strength').addEventListener('change', () => this.act(async () => {
+      this.game.session.close();
+      await this.renew();
+    }));
+    new ResizeObserver(() => { this.panel.drawBoard(); this.view.scale(); }).observe(byId('stage'));
+  }
+
+  press(event) {
+    const {key, ctrlKey, metaKey, altKey, shiftKey, target} = event;
+    if (target.closest('input[type=text], select, textarea') || altKey || shiftKey) return;
+    const keys = {ArrowLeft: 'back', ArrowRight: 'forth', Home: 'first', End: 'end', u: 'undo'};
+    const id = ctrlKey || metaKey ? (key === 'z' ? 'undo' : null) : keys[key];
+    // On the board the arrows go over the cells.
+    if (!id || (key.startsWith('Arrow') && target.closest('#board'))) return;
+    event.preventDefault();
+    byId(id).click();
+  }
+
+  /** Another entry of the browser's history: its game, or the one of the link that was put into the address. */
+  goBack(state) {
+    this.stop();
+    this.act(async () => {
+      const tree = this.keeping.treeOf(state);
+      if (tree) await this.game.take(tree);
+      else if (location.hash.length > 1) await this.game.take(treeOfMoves(gameOfText(location.hash, this.game.size)));
     });
-    byId('link-form').addEventListener('submit', event => { event.preventDefault(); this.openLink(byId('link').value); });
-    on('copy', async () => {
-      byId('link').select();
-      await navigator.clipboard?.writeText(byId('link').value).catch(() => {});
-    });
-    on('svg', () => this.picture('svg'));
-    on('png', () => this.picture('png'));
-    on('save-proof', () => saveFile(`${game.shown.thought.cell}.cert`, new Blob([`${game.shown.thought.certificate}\n`])));
+  }
+
+  /** The strengths, with the one that the page was started with where it is none of them. */
+  drawStrengths({playouts}) {
+    const select = byId('strength');
+    if (![...select.options].some(({value}) => Number(value) === playouts)) {
+      select.prepend(htmlElement('option', {value: playouts}, `as started (${grouped(playouts)})`));
+    }
+    select.value = playouts;
   }
 
   async start() {
     this.wire();
-    await this.act(async () => {
-      this.game.session = await Session.open();
-      await this.game.read();
-      if (location.hash.length > 1) await this.game.load(recordOf(location.hash)).catch(fault => this.fail(fault));
-    });
+    await this.act(() => this.enter());
     document.body.dataset.ready = 'yes';
   }
-}
-
-/** Puts the game into the address, so that a reload finds it. Some browsers refuse where it comes often in a short time. */
-function keepAddress(link) {
-  try {
-    history.replaceState(null, '', link);
-  } catch {
-    // The next change comes with its own.
-  }
-}
-
-function saveFile(name, blob) {
-  const link = htmlElement('a', {href: URL.createObjectURL(blob), download: name});
-  link.click();
-  setTimeout(() => URL.revokeObjectURL(link.href), 60_000);
-}
-
-/** The picture of an SVG as a PNG. */
-async function painted(drawn) {
-  const image = new Image(), canvas = document.createElement('canvas'), address = URL.createObjectURL(drawn);
-  image.src = address;
-  await image.decode();
-  [canvas.width, canvas.height] = [image.naturalWidth, image.naturalHeight];
-  canvas.getContext('2d').drawImage(image, 0, 0);
-  URL.revokeObjectURL(address);
-  return new Promise(done => { canvas.toBlob(done, 'image/png'); });
 }
 
 const play = new Play();

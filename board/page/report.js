@@ -1,51 +1,75 @@
 'use strict';
-// A report: from what report.py has put into the page, a section for each position, the plot, and the list of moves.
+// A report: from what report.py has put into the page, one board that steps through the game, the plot, the table of moves with what
+// each of them lost, and for print a section for each position.
 
 const report = JSON.parse(byId('game').textContent);
 report.thoughts = report.positions.map(position => position.thought && readThought(position.thought));
+const LAST = report.positions.length - 1;
+// The positions as proofs.js takes them.
+const line = report.positions.map((_, number) => ({
+  number, thought: report.thoughts[number], solved: null, opening: number === 1 ? report.opening : null,
+  step: number ? report.positions[number - 1].step : null,
+}));
+const proofs = provedAlong(line);
+const MOST_LOSSES = 5;
 
 const moveWords = ({colour, move}) => `${COLOURS[colour]} ${move === SWAP ? 'swaps' : move}`;
 
+/** The share of wins for Black in a position: {value, proved, swap}, or null. */
+function shareAt(at) {
+  const {winner} = report.positions[at], proof = proofs[at], thought = report.thoughts[at];
+  if (winner) return {value: winner === 'b' ? 1 : 0, proved: true};
+  if (proof) return {value: proof.player === 'b' ? 1 : 0, proved: true, swap: proof.swap};
+  return thought && blackShare(thought);
+}
+
+/** What a move made of the share of wins of who moved: {before, after, loss}, where both are known. */
+function lossAt(at) {
+  const {step} = report.positions[at], [before, after] = [shareAt(at), shareAt(at + 1)];
+  // A share that a swap may turn around says nothing of what a move lost.
+  if (!before || !after || before.swap || after.swap || step.move === SWAP) return {before, after, loss: null};
+  const of = share => (step.colour === 'b' ? share.value : 1 - share.value);
+  return {before, after, loss: of(before) - of(after)};
+}
+
 /** What the record's own move makes of what hexd proved: `[words]` where it is proved to be bad, else none. */
 function faults(at) {
-  const {step} = report.positions[at], thought = report.thoughts[at], after = report.thoughts[at + 1];
+  const {step} = report.positions[at], thought = report.thoughts[at], after = proofs[at + 1];
   if (!step || !thought || thought.mover !== step.colour) return [];
   // What is proved is of stones: a first move that would have been swapped gives nothing away, and a swap is no stone.
   if (thought.swap && (thought.mover === 'b' || step.move === SWAP)) return [];
-  if (thought.win && after?.win && after.mover !== thought.mover) return ['This move gives the win away.'];
+  if (thought.win && after && after.player !== step.colour) return ['This move gives the win away.'];
   if (!thought.win && !thought.lost && thought.threats.length && !thought.allowed.has(step.move)) {
     return [`This move is outside a threat: after it ${COLOURS[other(step.colour)]} wins.`];
   }
   return [];
 }
 
-function boardOf(at) {
-  const {stones, last, step} = report.positions[at], thought = report.thoughts[at];
-  const view = {stones: new Map(stones), last, next: step?.move};
+function drawBoard(view, at) {
+  const {stones, last, step, winner} = report.positions[at], thought = report.thoughts[at];
+  const shown = {stones: new Map(stones), last, next: step?.move};
+  if (winner) shown.chain = chainOf(shown.stones, winner, report.size);
   if (thought) {
-    Object.assign(view, {visits: visitsOf(thought), dimmed: dimmedOf(thought, report.size), chosen: thought.cell});
-    if (thought.proof) view.carrier = thought.proof.claimed.carrier;
+    Object.assign(shown, {visits: visitsOf(thought), dimmed: dimmedOf(thought, report.size), chosen: thought.cell});
+    if (thought.proof) shown.carrier = thought.proof.claimed.carrier;
   }
-  const svg = svgElement('svg', {class: 'board', role: 'img', 'aria-label': `The board after ${counted(at, 'move')}`});
-  const board = new BoardView(svg);
-  board.shape(report.size, 'wide');
-  board.show(view);
-  return svg;
+  view.svg.setAttribute('aria-label', `The board after ${counted(at, 'move')}`);
+  view.shape(report.size, 'wide');
+  view.show(shown);
 }
 
 function wordsOf(at) {
-  const {winner, step} = report.positions[at], thought = report.thoughts[at], said = [];
+  const {winner, step} = report.positions[at], thought = report.thoughts[at], proof = proofs[at], said = [];
   const add = (text, name = '') => said.push(htmlElement('p', {class: name}, text));
   if (winner) add(`${COLOURS[winner]} has won.`, 'proved');
-  if (at === 1 && report.opening) {
-    add(`Proved: after this opening ${COLOURS[report.opening]} wins, unless White swaps.`, 'proved');
-  }
+  if (at === 1 && report.opening) add(`Proved: after this opening ${COLOURS[report.opening]} wins, unless White swaps.`, 'proved');
+  else if (proof && !proof.here && !winner) add(proofWords(proof, {mover: thought?.mover ?? other(line[at].step.colour)}), 'proved');
   if (thought) {
     add(`With ${COLOURS[thought.mover]} to move:`, 'of');
     thoughtWords(thought).forEach(text => add(text));
   }
   if (thought?.proof) {
-    add(`${claimWords(thought.proof)} Checked by a second process: ${thought.checked}.`);
+    add(`${claimWords(thought.proof)} ${checkWords(thought.checked)}`);
     said.push(htmlElement('details', {}, htmlElement('summary', {}, 'The certificate'),
       htmlElement('pre', {}, thought.certificate)));
   }
@@ -54,23 +78,73 @@ function wordsOf(at) {
   return said;
 }
 
-function positionSection(at) {
-  const before = report.positions[at - 1]?.step;
-  const head = before ? `After move ${at}: ${moveWords(before)}` : 'The start';
-  return htmlElement('section', {class: 'position', id: `position-${at}`},
-    htmlElement('div', {class: 'picture'}, boardOf(at)),
-    htmlElement('div', {class: 'said'}, htmlElement('h2', {}, head), ...wordsOf(at)));
+const headOf = at => (at ? `After move ${at}: ${moveWords(line[at].step)}` : 'The start');
+
+/** The long form, one section for each position, as it is printed. */
+function drawPositions() {
+  if (byId('positions').children.length) return;
+  byId('positions').append(...line.map((_, at) => {
+    const svg = svgElement('svg', {class: 'board', role: 'img'});
+    drawBoard(new BoardView(svg), at);
+    return htmlElement('section', {class: 'position', id: `position-${at}`}, htmlElement('div', {class: 'picture'}, svg),
+      htmlElement('div', {class: 'said'}, htmlElement('h2', {}, headOf(at)), ...wordsOf(at)));
+  }));
 }
 
-function moveLink(at) {
-  const link = htmlElement('a', {href: `#position-${at + 1}`}, `${at + 1} `, ...moveLabel(report.positions[at].step));
-  if (faults(at).length) link.className = 'bad';
-  return htmlElement('li', {}, link);
+/** A button that goes to the position before a move. */
+function moveButton(at, ...words) {
+  const button = htmlElement('button', {type: 'button', class: 'move'}, `${at + 1} `, ...moveLabel(report.positions[at].step), ...words);
+  button.onclick = () => goTo(at);
+  return button;
 }
 
-const count = report.positions.length - 1;
-const shares = report.thoughts.map((thought, at) => [at, thought && blackShare(thought)]).filter(([, share]) => share);
-drawPlot(byId('plot'), {count, points: shares, onPick: at => byId(`position-${at}`).scrollIntoView()});
-byId('moves').append(...[...Array(count).keys()].map(moveLink));
-byId('positions').append(...report.positions.map((_, at) => positionSection(at)));
+const points = value => `${Math.round(100 * value)}`;
+const shareWords = (share, colour) => (!share ? '' : share.proved ? ((share.value === 1) === (colour === 'b') ? 'wins' : 'lost')
+  : percent(colour === 'b' ? share.value : 1 - share.value));
+
+function moveRow(at) {
+  const {step} = report.positions[at], thought = report.thoughts[at], {before, after, loss} = lossAt(at);
+  const row = htmlElement('tr', {}, htmlElement('td', {}, moveButton(at)), ...[
+    thought?.cell ?? '', shareWords(before, step.colour), shareWords(after, step.colour), loss > 0 ? points(loss) : '',
+  ].map(text => htmlElement('td', {}, text)));
+  if (faults(at).length) row.className = 'bad';
+  return row;
+}
+
+/** The moves that lost most, those that lost a point at least. */
+function lossItems() {
+  const losses = report.positions.slice(0, LAST).map((_, at) => ({at, ...lossAt(at)})).filter(({loss}) => loss >= 0.01);
+  losses.sort((one, two) => two.loss - one.loss || one.at - two.at);
+  return losses.slice(0, MOST_LOSSES).map(({at, before, after, loss}) => {
+    const {colour} = report.positions[at].step;
+    return htmlElement('li', {}, moveButton(at), ` loses ${points(loss)}: from ${shareWords(before, colour)} to ${
+      shareWords(after, colour)}; hexd's move ${report.thoughts[at]?.cell ?? 'is none'}`);
+  });
+}
+
+const view = new BoardView(svgElement('svg', {class: 'board', role: 'img'}));
+let here = 0;
+
+function goTo(at) {
+  here = Math.min(LAST, Math.max(0, at));
+  drawBoard(view, here);
+  byId('said').replaceChildren(htmlElement('h2', {}, headOf(here)), ...wordsOf(here));
+  drawPlot(byId('plot'), {count: LAST, points: shares, at: here, onPick: goTo});
+  [...document.querySelectorAll('#moves tbody tr')].forEach((row, number) => row.classList.toggle('current', number === here));
+  for (const [id, off] of [['first', here === 0], ['back', here === 0], ['forth', here === LAST], ['end', here === LAST]]) byId(id).disabled = off;
+}
+
+const shares = line.map((_, at) => [at, shareAt(at)]).filter(([, share]) => share);
+byId('stage').append(view.svg);
+document.querySelector('#moves tbody').append(...line.slice(0, LAST).map((_, at) => moveRow(at)));
+byId('losses').append(...lossItems());
+const steps = {first: () => 0, back: () => here - 1, forth: () => here + 1, end: () => LAST};
+for (const [id, to] of Object.entries(steps)) byId(id).addEventListener('click', () => goTo(to()));
+addEventListener('keydown', ({key}) => {
+  const id = {ArrowLeft: 'back', ArrowRight: 'forth', Home: 'first', End: 'end'}[key];
+  if (id) goTo(steps[id]());
+});
+addEventListener('beforeprint', drawPositions);
+new ResizeObserver(() => view.scale()).observe(byId('stage'));
+goTo(0);
 document.body.dataset.ready = 'yes';

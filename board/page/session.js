@@ -1,7 +1,9 @@
 'use strict';
-// A session of the server: one process `hexd htp`, to which lines are sent and by which they are answered.
+// A session of the server: one process `hexd htp`, to which lines are sent and by which they are answered. All that the page
+// asks of a network stands in this file. Another class Session with the same interface may take its place, as one whose hexd
+// runs in the page itself.
 
-/** The session is no more, or the server isn't there; the message says why. */
+/** The session is no more, or the server isn't there; the message says why. `full`: `Session.makeRoom` may help. */
 class SessionLost extends Error {}
 
 /** hexd, or the server, refused a request; the message is its line. */
@@ -17,6 +19,7 @@ async function request(method, path, body) {
   }
   const text = (await response.text()).trimEnd();
   if (response.ok) return text;
+  if (response.status === 429) throw Object.assign(new SessionLost(`The server has no place: ${text}.`), {full: true});
   throw [404, 410].includes(response.status) ? new SessionLost(`The session has ended: ${text}.`) : new Refused(text);
 }
 
@@ -30,7 +33,20 @@ function answered(answer) {
 class Session {
   constructor(name) { this.path = `session/${name}`; }
 
-  static async open() { return new Session(await request('POST', 'session')); }
+  /** How hexd is started where nothing else is said: {playouts, weight, workers}, numbers. */
+  static async settings() { return JSON.parse(await request('GET', 'settings')); }
+
+  /** Opens a session whose searches have so many playouts; without a number as many as the settings say. */
+  static async open(playouts = '') { return new Session(await request('POST', 'session', `${playouts}`)); }
+
+  /** Ends the session that was not used for the longest time, so that there is room for one more. */
+  static async makeRoom() { await request('POST', 'room'); }
+
+  /** The bytes of a record, of whatever program, in hexd's form: {record, notes}, a text and sentences; Refused with why not. */
+  static async convert(bytes) { return JSON.parse(await request('POST', 'convert', bytes)); }
+
+  /** Who is proved to win after Black's first stone on each cell of a size for which it is known: 'black' or 'white' by vertex. */
+  static async winners(size) { return JSON.parse(await request('GET', `openings/${size}`)); }
 
   /** Who is proved to win after Black's first stone on this cell: 'black', 'white' or null. */
   static async winner(size, vertex) { return JSON.parse(await request('GET', `openings/${size}-${vertex}`)); }
@@ -51,12 +67,15 @@ class Session {
     }
   }
 
-  /** Has hexd load the text of a record. */
+  /** Has hexd load the text of a record in its form. */
   async load(record) { answered(await request('POST', `${this.path}/record`, record)); }
 
   /** What a second process says of a certificate. */
   async check(certificate) { return request('POST', `${this.path}/check`, certificate); }
 
-  /** Ends the session, also while the page goes away. */
+  /** What `hexd solve` says of the position of a record, by a process of its own, which `close` ends too. */
+  async solve(record, budget) { return request('POST', `${this.path}/solve/${budget}`, record); }
+
+  /** Ends the session, also while the page goes away. Who waits for an answer meets SessionLost. */
   close() { fetch(this.path, {method: 'DELETE', keepalive: true}).catch(() => {}); }
 }

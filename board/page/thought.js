@@ -77,3 +77,38 @@ function thoughtWords(thought) {
   }
   return said;
 }
+
+/** The moves with most visits, at most five of them: [vertex, visits, won]. */
+const bestMoves = thought => thought.rows.filter(([, visits]) => visits).sort((one, two) => two[1] - one[1]).slice(0, 5);
+
+/** A table of the best moves, with visits and the share of wins for who is to move; null where none was searched. */
+function bestTable(thought) {
+  const best = bestMoves(thought);
+  if (!best.length) return null;
+  const cells = (tag, ...texts) => htmlElement('tr', {}, ...texts.map(text => htmlElement(tag, {}, text)));
+  return htmlElement('table', {class: 'best'},
+    htmlElement('thead', {}, cells('th', 'Move', 'Visits', `${COLOURS[thought.mover]} wins`)),
+    htmlElement('tbody', {}, ...best.map(([vertex, visits, won]) => cells('td', vertex, grouped(visits), percent(won / visits)))));
+}
+
+/** Reads what the solver said of a position, in whose first line `won COLOUR` has a certificate behind it. */
+function readSolved(first, certificate, checked, mover, swap) {
+  const [word, ...rest] = first.split(' ');
+  const proof = word === 'won' && certificate ? readCertificate(certificate) : null;
+  const winner = {won: rest[0], over: rest[0], too: rest[1]}[word]?.[0] ?? null;
+  return {first, certificate, checked, proof, mover, swap, winner, cell: proof?.claimed.cell ?? null, win: winner === mover};
+}
+
+/** What the solver said, as a sentence. */
+function solvedWords({first, winner, cell, proof, mover}) {
+  const [word, , ...rest] = first.split(' '), name = COLOURS[winner];
+  if (word === 'won') {
+    const lines = counted(proof.lines.length, 'line');
+    return cell ? `Solved: ${name} wins by ${cell}, against every reply (${lines}).`
+      : `Solved: ${name} wins, whatever ${COLOURS[mover]} plays (${lines}).`;
+  }
+  if (word === 'unknown') return `The solver entered ${grouped(first.split(' ')[1])} positions and did not come to an end.`;
+  if (word === 'too') return `Solved: ${name} wins; the certificate would have ${grouped(rest[1])} lines, more than there may be.`;
+  if (word === 'short') return `The solver's answer: ${first}.`;
+  return winner ? `${name} has won.` : `The solver's answer: ${first}.`;
+}

@@ -10,6 +10,7 @@ from pathlib import Path
 from selenium import webdriver
 from selenium.webdriver.common.action_chains import ActionChains
 from selenium.webdriver.common.by import By
+from selenium.webdriver.common.keys import Keys
 from selenium.webdriver.chrome.service import Service
 from selenium.webdriver.support.ui import Select
 
@@ -31,7 +32,9 @@ ARGUMENTS = [
     # Over a pipe Chromium ends when its driver does, however that comes.
     "--remote-debugging-pipe",
 ]
-WIDE, NARROW = (1440, 900), (390, 844)
+WIDE, LAPTOP, TABLET = (1440, 900), (1280, 680), (820, 1180)
+NARROW, LYING = (390, 844), (844, 390)
+PHONES = (NARROW, LYING)
 
 
 class Browser:
@@ -72,10 +75,14 @@ class Browser:
 
     def window(self, size, dark=False):
         width, height = size
-        metrics = {"width": width, "height": height, "deviceScaleFactor": 1, "mobile": size == NARROW}
+        metrics = {"width": width, "height": height, "deviceScaleFactor": 1, "mobile": size in PHONES}
         self.driver.execute_cdp_cmd("Emulation.setDeviceMetricsOverride", metrics)
         scheme = {"name": "prefers-color-scheme", "value": "dark" if dark else "light"}
         self.driver.execute_cdp_cmd("Emulation.setEmulatedMedia", {"features": [scheme]})
+
+    def print_form(self, on):
+        """Shows the page as it is printed, or as in the window again."""
+        self.driver.execute_cdp_cmd("Emulation.setEmulatedMedia", {"media": "print" if on else ""})
 
     def open(self, address):
         # A change behind the # alone would not load the page again.
@@ -109,6 +116,29 @@ class Browser:
         self.run("arguments[0].scrollIntoView({block: 'nearest'})", element)
         element.click()
         self.ready()
+
+    def press(self, css):
+        """A click after which the page may be at work for long."""
+        self.find(css).click()
+
+    def place(self, css):
+        """Where an element stands in the window."""
+        return self.run("const {x, y} = document.querySelector(arguments[0]).getBoundingClientRect(); return [x, y]", css)
+
+    def reload(self):
+        self.driver.refresh()
+        self.ready()
+
+    def back(self):
+        self.driver.back()
+        self.ready()
+
+    def forward(self):
+        self.driver.forward()
+        self.ready()
+
+    def shift_tab(self):
+        ActionChains(self.driver).key_down(Keys.SHIFT).send_keys(Keys.TAB).key_up(Keys.SHIFT).perform()
 
     def cell(self, vertex):
         self.click(f"[data-vertex='{vertex}']")

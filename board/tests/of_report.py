@@ -11,11 +11,14 @@ from tests.support import LIMIT_SECONDS, ROOT, SMALL, dying
 # White has a certified win before move 4, Black after it, and White again after move 5.
 GAME = "(;FF[4]GM[11]SZ[5]PB[<b>&]C[a ';B[a1\\]'];B[c2];W[c3];B[d3];W[a1];B[a2];W[c4];B[d4];W[d2];B[b3];W[b4];B[a5];W[a4])"
 SWAPPED = "(;GM[11]SZ[3];B[b2];W[swap-pieces];B[a2];W[c1];B[resign])"
+# White plays by his certificate of move 4, and answers by it.
+PROVED = "(;GM[11]SZ[5];B[c2];W[c3];B[d3];W[c4];B[a1];W[a2])"
 
 
-def reported(*words):
+def reported(*words, given=None):
     command = dying(ROOT / "bin/hexd-report", *words)
-    return subprocess.run(command, stdin=subprocess.DEVNULL, capture_output=True, text=True, timeout=LIMIT_SECONDS)
+    how = {"input": given} if given is not None else {"stdin": subprocess.DEVNULL}
+    return subprocess.run(command, capture_output=True, text=True, timeout=LIMIT_SECONDS, **how)
 
 
 class Reports(unittest.TestCase):
@@ -36,22 +39,33 @@ class Reports(unittest.TestCase):
         self.assertEqual([f"{number} of {moves}" for number in range(moves + 1)], run.stderr.splitlines())
         self.assertEqual([], re.findall(r"""(?:src|href)=["'](?!#)""", run.stdout))
         self.assertNotIn("http://", run.stdout.replace("http://www.w3.org/2000/svg", ""))
+        self.assertIn("looked at by hexd with 200 playouts a move, weight 0, 1 worker", run.stdout)
+
+    def test_standard_input(self):
+        run = reported(*SMALL, "-", given="\ufefftext (;SZ[3];B[B2];W[swap];B[cc];W[])")
+        self.assertEqual(0, run.returncode, run.stderr)
+        self.assertIn("<h1>Standard input</h1>", run.stdout)
+        self.assertIn("<p>Move 4 is a pass of White&#x27;s, which Hex hasn&#x27;t: it is left out.</p>", run.stdout)
 
     def test_what_is_refused(self):
         missing = reported(self.folder / "none.sgf")
         self.assertEqual((1, ""), (missing.returncode, missing.stdout))
         self.assertIn("none.sgf: No such file or directory", missing.stderr)
         for record, why in (
-            ("(;GM[1]SZ[9])", "it is no record of a game of Hex (hexd: cannot load file)"),
-            ("", "it is no record of a game of Hex (hexd: cannot load file)"),
-            (GAME.replace("d4", "c4"), "move 7 of the record is illegal: Black 'c4'"),
-            ("(;GM[11]SZ[3];B[b2];W[b1](;B[z9])(;B[a1]))", "move 3 of the record is illegal: Black 'z9'"),
+            ("(;GM[1]SZ[9])", "it is a record of another game than Hex: GM[1]"),
+            ("", "it is no record of a game"),
+            ("(;SZ[14];B[a1])", "size 14: hexd plays 1 to 11"),
+            (GAME.replace("d4", "c4"), "move 7 is illegal: Black c4, for there is a stone on it"),
+            ("(;GM[11]SZ[3];B[b2];W[b1](;B[z9])(;B[a1]))", "move 3 is illegal: Black z9, for the board of size 3 has no such cell"),
+            ("(;GM[11]SZ[1];B[a1];W[a1])", "move 2 is illegal: White a1, for Black has won before"),
         ):
             run = self.report(record)
             self.assertEqual((1, ""), (run.returncode, run.stdout))
-            self.assertIn(why, run.stderr)
-        self.assertEqual(2, reported().returncode)
-        self.assertIn("hexd ended with status 2 (hexd: usage)", reported("--playouts", "0", self.folder / "a game.sgf").stderr)
+            self.assertEqual(f"hexd-report: {self.folder / 'a game.sgf'}: {why}\n", run.stderr)
+        for words, named in ((("--playouts", "0", "x"), "'0'"), (("--plyouts=3", "x"), "--plyouts=3"), ((), "GAME.sgf")):
+            run = reported(*words)
+            self.assertEqual((2, "", 1), (run.returncode, run.stdout, len(run.stderr.splitlines())))
+            self.assertIn(named, run.stderr)
 
 
 def in_browser(shots):
@@ -72,39 +86,93 @@ def in_browser(shots):
             self.browser.open(file.as_uri())
             self.assertEqual([], self.browser.faults())
 
+        def to(self, position):
+            """Goes to a position by the buttons of the page."""
+            self.browser.click("#first") if self.browser.find("#first").is_enabled() else None
+            for _ in range(position):
+                self.browser.click("#forth")
+            return self.browser.text("#said")
+
         def test_a_whole_game(self):
             self.open(GAME)
             browser = self.browser
-            self.assertEqual(13, len(browser.all(".position")))
-            self.assertEqual(12, len(browser.all("#moves li")))
+            self.assertEqual(12, len(browser.all("#moves tbody tr")))
+            self.assertEqual(1, len(browser.all("svg.board")))
             self.assertTrue(browser.all("#plot .mark.proved"))
-            self.assertIn("Checked by a second process: yes semi.", browser.text("#positions"))
-            self.assertEqual(2, browser.text("#positions").count("This move gives the win away."))
+            self.assertEqual(2, len(browser.all("#moves tr.bad")))
             self.assertEqual("a game.sgf", browser.text("h1"))
-            self.shot("report-top")
-            browser.run("document.getElementById('position-3').scrollIntoView()")
+            self.assertIn("The start", browser.text("#said"))
+            self.assertIn("hexd check accepts it, in a process of its own.", self.to(3))
+            self.assertIn("This move gives the win away.", browser.text("#said"))
+            self.assertEqual(4, len(browser.all("#stage .stone")) + 1)
             self.shot("report")
-            for size in (NARROW, WIDE):
-                browser.window(size)
-                self.assertTrue(browser.run("return document.documentElement.scrollWidth <= innerWidth"))
-                self.shot(f"report-{size[0]}")
+            browser.click("#end")
+            self.assertIn("After move 12: White a4", browser.text("#said"))
+            browser.click("#plot")
+            self.assertIn("After move 6", browser.text("#said"))
+
+        def test_a_game_to_its_end(self):
+            self.open("(;SZ[2];B[a2];W[b2];B[a1])")
+            self.browser.click("#end")
+            self.assertIn("Black has won.", self.browser.text("#said"))
+            self.assertEqual(2, len(self.browser.find("#stage .chain").get_attribute("points").split()))
+
+        def test_losses(self):
+            self.open(GAME)
+            browser = self.browser
+            losses = [item.text for item in browser.all("#losses li")]
+            self.assertTrue(2 <= len(losses) <= 5)
+            # The moves that gave a proved win away lost all of it.
+            self.assertRegex(losses[0], r"^4 a1 loses 100: from wins to lost; hexd's move [a-e][1-5]$")
+            self.assertRegex(losses[1], r"^5 a2 loses 100: from wins to lost; hexd's move [a-e][1-5]$")
+            cells = [cell.text for cell in browser.all("#moves tbody tr:nth-child(4) td")]
+            self.assertEqual(["4 a1", "wins", "lost", "100"], cells[:1] + cells[2:])
+            browser.click("#losses li:nth-child(2) button")
+            self.assertIn("After move 4: White a1", browser.text("#said"))
+
+        def test_print(self):
+            self.open(GAME)
+            browser = self.browser
+            browser.run("dispatchEvent(new Event('beforeprint'))")
+            self.assertEqual(13, len(browser.all(".position")))
+            self.assertFalse(browser.find("#positions").is_displayed())
+            browser.print_form(True)
+            self.assertTrue(browser.find("#position-12").is_displayed())
+            self.assertFalse(browser.find("#stage").is_displayed())
+            self.assertEqual(2, browser.text("#positions").count("This move gives the win away."))
+            self.shot("report-print")
+            browser.print_form(False)
+
+        def test_windows(self):
+            self.open(GAME)
+            for size, dark in ((NARROW, False), (WIDE, False), (WIDE, True)):
+                self.browser.window(size, dark)
+                self.assertTrue(self.browser.run("return document.documentElement.scrollWidth <= innerWidth"))
+                self.shot(f"report-{size[0]}{'-dark' if dark else ''}")
 
         def shot(self, name):
             if shots is not None:
                 self.browser.shot(Path(shots) / f"{name}.png")
 
+        def test_a_proof_stays_a_proof(self):
+            self.open(PROVED)
+            self.assertIn("Black has lost: White's certificate of move 4.", self.to(4))
+            self.assertIn("White wins by", self.to(5))
+            # The record's move is another one, but also one by the first certificate.
+            self.assertIn("Black has lost: White's certificate of move 4.", self.to(6))
+            self.assertNotIn("Black won", self.browser.text("#said").split("With Black to move")[0])
+
         def test_a_swapped_game(self):
             self.open(SWAPPED)
-            self.assertEqual(5, len(self.browser.all(".position")))
-            said = self.browser.text("#positions")
-            self.assertIn("a certified win, against every reply but a swap.", said)
-            self.assertIn("White loses with every move but a swap", said)
-            self.assertIn("White swaps", said)
+            self.assertEqual(4, len(self.browser.all("#moves tbody tr")))
             # The swap and the move before it give nothing away; the two moves after it do.
-            self.assertEqual([], self.browser.all("#position-0 .bad, #position-1 .bad"))
-            self.assertIn("This move is outside a threat: after it White wins.", self.browser.text("#position-2"))
-            self.assertIn("This move gives the win away.", self.browser.text("#position-3"))
+            self.assertEqual(["3 a2", "4 c1"], [row.text.split("\n")[0][:4] for row in self.browser.all("#moves tr.bad")])
+            self.assertIn("a certified win, against every reply but a swap.", self.to(0))
+            self.assertIn("White loses with every move but a swap", self.to(1))
+            self.assertIn("White swaps", self.browser.text("#said"))
+            self.assertIn("This move is outside a threat: after it White wins.", self.to(2))
+            self.assertIn("This move gives the win away.", self.to(3))
 
-        test_a_report_stands_alone = test_what_is_refused = None
+        test_a_report_stands_alone = test_what_is_refused = test_standard_input = None
 
     return Opened

@@ -1,6 +1,7 @@
 """The server over its socket: what it refuses, sessions and their processes, and how it ends."""
 
 import http.client
+import json
 import lzma
 import os
 import resource
@@ -18,6 +19,7 @@ from tests.support import LIMIT_SECONDS, ROOT, SMALL, Server, children, dying, i
 
 import htp
 import sessions
+import settings
 from openings import Openings
 
 RECORD = "(;FF[4]GM[11]SZ[3];B[a2];W[swap-pieces];B[c3])"
@@ -56,7 +58,8 @@ class Requests(unittest.TestCase):
         self.refused(403, self.server.request("GET", "", token="x" * len(self.server.token)))
         self.refused(403, self.server.request("POST", "session", b"", token=""))
         for host in ("example.org", f"example.org:{self.server.port}", "127.0.0.1", "127.0.0.1:1", ""):
-            self.refused(403, self.server.request("POST", "session", b"", headers={"Host": host}))
+            got = self.server.request("POST", "session", b"", headers={"Host": host})
+            self.assertEqual((403, f"the Host of the request is not this server, which is 127.0.0.1:{self.server.port}"), got)
         for origin in ("null", "http://example.org", "http://127.0.0.1:1", own.replace("http", "https")):
             self.refused(403, self.server.request("POST", "session", b"", headers={"Origin": origin}))
 
@@ -100,6 +103,13 @@ class Requests(unittest.TestCase):
         self.refused(429, self.server.post("session"))
         self.assertEqual(sessions.MOST_SESSIONS, len(self.server.engines()))
         self.server.request("DELETE", f"session/{self.names[0]}")
+        self.assertEqual((200, "there is room"), self.server.post("room"))
+        self.session()
+        # Room is made of the one that was idle longest.
+        self.server.ask(self.names[1], "name")
+        self.assertEqual((200, "ended"), self.server.post("room"))
+        self.assertEqual((410, "another page needed its place"), self.server.post(f"session/{self.names[2]}/htp", b"name"))
+        self.assertEqual("= hexd", self.server.ask(self.names[1], "name"))
         self.session()
 
     def test_a_game_to_its_end(self):
@@ -142,6 +152,65 @@ class Requests(unittest.TestCase):
         for wrong in (b"", b"(;GM[1])", RECORD.replace("c3", "z9").encode(), b"\xff" * 9):
             self.assertEqual((200, "? cannot load file"), self.server.post(f"session/{name}/record", wrong))
         self.assertEqual(f"= {RECORD}", self.server.ask(name, "printsgf"))
+
+    def test_settings(self):
+        status, text = self.server.request("GET", "settings")
+        self.assertEqual((200, {"playouts": 200, "weight": 0, "workers": 1}), (status, json.loads(text)))
+        for playouts in (b"0", b"x", b"1000001", b"-1", b"1e3"):
+            self.refused(400, self.server.post("session", playouts))
+        status, name = self.server.post("session", b"7")
+        self.names = [name]
+        self.server.ask(name, "boardsize 4")
+        self.server.ask(name, "genmove b")
+        said = self.server.ask(name, "search-report")
+        self.assertIn(said.splitlines()[0], ("= playouts 7", "? no search"))
+
+    def test_records_of_other_programs(self):
+        status, text = self.server.post("convert", b"\xef\xbb\xbf x (;SZ[3]C[\xe9];B[A2];W[swap];B[cc];W[resign])")
+        want = {"record": "(;FF[4]GM[11]SZ[3]C[\u00e9];B[a2];W[swap-pieces];B[c3];W[resign])", "notes": ["White resigns at move 4."]}
+        self.assertEqual((200, want), (status, json.loads(text)))
+        for wrong, why in (
+            (b"", "it is no record of a game"),
+            (b"(;SZ[14])", "size 14: hexd plays 1 to 11"),
+            (b"(;GM[1])", "it is a record of another game than Hex: GM[1]"),
+            (b"(;B[a1]W[a2])", "node 1 has two moves"),
+            (b"(;;B[a1];AB[a2])", "stones are set or taken away at move 2, and hexd takes those of the start alone"),
+            (b"(;AB[x];B[a1])", "a stone of the start lies on no cell: 'x'"),
+        ):
+            self.assertEqual((400, why), self.server.post("convert", wrong))
+
+    def test_the_solver(self):
+        name = self.session()
+        status, said = self.server.post(f"session/{name}/solve/100000", b"(;GM[11]SZ[3];B[b2])")
+        first, _, certificate = said.partition("\n")
+        self.assertEqual((200, "won black"), (status, first))
+        self.assertEqual((200, "yes full"), self.server.post(f"session/{name}/check", f"{certificate}\n".encode()))
+        self.assertEqual((200, "not a game"), self.server.post(f"session/{name}/solve/1", b"x"))
+        self.assertEqual(200, self.server.post(f"session/{name}/solve/1", b"(;GM[11]SZ[5])")[0])
+        for budget in ("0", "x", "01", "-1", ""):
+            self.refused(404, self.server.post(f"session/{name}/solve/{budget}", b""))
+        self.refused(404, self.server.post("session/none/solve/1", b""))
+
+    def test_a_session_that_ends_ends_its_solver(self):
+        name, got = self.session(), []
+        record = b"(;GM[11]SZ[9];B[a1])"
+        asking = threading.Thread(target=lambda: got.append(self.server.post(f"session/{name}/solve/1000000000", record)))
+        before = set(self.server.engines())
+        asking.start()
+        until(lambda: len(set(self.server.engines()) - before) == 1, "the solver is at work")
+        self.server.request("DELETE", f"session/{name}")
+        asking.join(LIMIT_SECONDS)
+        self.assertIn(got[0][0], (410, 500))
+        self.assertEqual(set(), set(self.server.engines()) - before)
+
+    def test_openings_of_a_size(self):
+        status, text = self.server.request("GET", "openings/3")
+        found = json.loads(text)
+        self.assertEqual((200, 9, "black", "white"), (status, len(found), found["b2"], found["a1"]))
+        self.assertEqual((200, '"white"'), self.server.request("GET", "openings/3-c3"))
+        self.assertEqual((200, "{}"), self.server.request("GET", "openings/11"))
+        for path in ("openings/12", "openings/0", "openings/", "openings/3-"):
+            self.refused(404, self.server.request("GET", path))
 
     def test_certificates(self):
         name = self.session()
@@ -225,13 +294,63 @@ class Ends(unittest.TestCase):
         with Server() as server, self.assertRaises(OSError):
             socket.create_connection(("127.0.0.2", server.port), LIMIT_SECONDS)
 
-    def test_words_that_hexd_refuses(self):
-        run = ran("--port", "0", "--", "--size", "12")
-        self.assertEqual((2, "", "hexd: usage\n"), (run.returncode, run.stdout, run.stderr))
+    def test_wrong_words(self):
+        hexds = "hexd: usage\nhexd-board: hexd refuses these words: "
+        for words, said in (
+            (["--", "--size", "12"], hexds + f"{BEST} --size 12\n"),
+            (["--plyouts", "5"], "hexd-board: unrecognized arguments: --plyouts 5 (--help has all words)\n"),
+            (["--playouts", "0"], wrong("playouts", "0", "1 to 1,000,000")),
+            (["--weight", "2000"], wrong("weight", "2000", "0 to 1,024")),
+            (["--workers=x"], wrong("workers", "x", "1 to 64")),
+            (["--port", "99999"], wrong("port", "99999", "0 to 65,535")),
+            (["--", "--playouts", "0"], wrong("playouts", "0", "1 to 1,000,000")),
+        ):
+            with self.subTest(words=words):
+                run = ran("--port", "0", *words)
+                self.assertEqual((2, "", said), (run.returncode, run.stdout, run.stderr))
+
+    def test_what_it_searches_with(self):
+        for words, want in (
+            ([], {"playouts": 100_000, "weight": 0, "workers": settings.BEST["workers"]}),
+            (["--playouts", "500", "--weight", "180", "--workers", "2"], {"playouts": 500, "weight": 180, "workers": 2}),
+        ):
+            with Server(words=words, small=False) as server:
+                self.assertEqual(want, json.loads(server.request("GET", "settings")[1]))
+                session = server.session()
+                (pid,) = server.engines()
+                given = Path(f"/proc/{pid}/cmdline").read_text().split("\0")
+                self.assertEqual({f"--{name}={value}" for name, value in want.items()}, {word for word in given if word.startswith("--")})
+                self.assertEqual(200, server.request("DELETE", f"session/{session}")[0])
+                server.end()
+                self.assertIn(f"hexd searches {settings.told(want)}.", server.errors)
+
+    def test_it_opens_a_browser(self):
+        with tempfile.TemporaryDirectory() as folder:
+            browser, opened = Path(folder) / "browser", Path(folder) / "opened"
+            browser.write_text(f'#!/bin/sh\necho "$1" >{opened}.new; mv {opened}.new {opened}\n')
+            browser.chmod(0o755)
+            with Server(words=["--open"], environment={"BROWSER": f"{browser} %s"}) as server:
+                until(opened.exists, "the browser is started")
+                self.assertEqual(server.address, opened.read_text().strip())
+
+    def test_it_listens_elsewhere(self):
+        with Server(words=["--listen", "127.0.0.2"]) as server:
+            self.assertEqual("127.0.0.2", server.host)
+            self.assertEqual(200, server.request("GET", "")[0])
+        with Server(words=["--listen", "0.0.0.0"]) as server:
+            for host in ("127.0.0.1", "127.0.0.2"):
+                server.host = host
+                self.assertEqual(200, server.request("GET", "")[0])
+                self.assertEqual(403, server.request("GET", "", token="x")[0])
+                got = server.request("GET", "", headers={"Host": "example.org"})
+                self.assertEqual((403, f"the Host of the request is not this server, which is {host}:{server.port}"), got)
+            server.end()
+            self.assertIn("hexd-board: warning: other machines can reach this server.", server.errors)
+        self.assertEqual(1, ran("--port", "0", "--listen", "192.0.2.1").returncode)
 
     def test_an_idle_session(self):
         with tempfile.TemporaryDirectory() as folder:
-            table = sessions.Sessions(htp.PROGRAM, SMALL, folder)
+            table = sessions.Sessions(htp.PROGRAM, settings.BEST, [], folder)
             idle, used = table.make(), table.make()
             table.open[idle].used -= sessions.IDLE_SECONDS + 1
             table.end_idle()
@@ -268,6 +387,13 @@ class Shelves(unittest.TestCase):
             self.assertEqual({"a1": "white", "c3": "white"}, {vertex: winner for vertex, winner in found.items() if winner})
             self.assertIsNone(openings.winner(4, "a1"))
             self.assertIsNone(Openings(htp.PROGRAM, Path(folder) / "none").winner(3, "a1"))
+
+
+BEST = " ".join(settings.words_of(settings.BEST))
+
+
+def wrong(name, word, span):
+    return f"hexd-board: argument --{name}: '{word}' is no number from {span} (--help has all words)\n"
 
 
 def ran(*words):

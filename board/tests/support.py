@@ -17,7 +17,7 @@ ROOT = Path(__file__).resolve().parent.parent.parent
 sys.path.insert(0, str(ROOT / "board"))
 
 # A small search: the tests are not about its strength.
-SMALL = ["--playouts", "200"]
+SMALL = ["--playouts", "200", "--workers", "1"]
 # Long enough for a machine that is busy with other work. No test asserts a time.
 LIMIT_SECONDS = 90
 
@@ -71,20 +71,22 @@ def first_line(stream):
 class Server:
     """The server as a user starts it, on a free port."""
 
-    def __init__(self, *options, port=("--port", "0"), command=(ROOT / "bin" / "hexd-board",)):
+    def __init__(self, *options, port=("--port", "0"), command=(ROOT / "bin" / "hexd-board",), words=(), environment=None, small=True):
+        """`options` are hexd's own words, those of a small search where none are given, and `words` the server's."""
         self.process = subprocess.Popen(
-            dying(*command, *port, "--", *(options or SMALL)),
+            dying(*command, *port, *words, "--", *(options or (SMALL if small else ()))),
             stdin=subprocess.DEVNULL,
             stdout=subprocess.PIPE,
             stderr=subprocess.PIPE,
             text=True,
+            env={**os.environ, **(environment or {})},
         )
         atexit.register(self.end)
         self.address = first_line(self.process.stdout).strip()
         if not self.address:
             raise AssertionError(f"the server did not start: {self.process.stderr.read()}")
         parts = urlsplit(self.address)
-        self.port, self.token = parts.port, parts.path.strip("/")
+        self.host, self.port, self.token = parts.hostname, parts.port, parts.path.strip("/")
 
     def __enter__(self):
         return self
@@ -104,12 +106,14 @@ class Server:
             self.process.wait()
             raise
         self.process.stdout.close()
-        self.process.stderr.close()
+        if not self.process.stderr.closed:
+            self.errors = self.process.stderr.read()
+            self.process.stderr.close()
         return status
 
     def request(self, method, path, body=None, headers=None, token=None):
         """The status and the text of one request. `path` is behind the token."""
-        connection = http.client.HTTPConnection("127.0.0.1", self.port, timeout=LIMIT_SECONDS)
+        connection = http.client.HTTPConnection(self.host, self.port, timeout=LIMIT_SECONDS)
         try:
             token = self.token if token is None else token
             connection.request(method, f"/{token}/{path}" if token else f"/{path}", body, headers or {})

@@ -1,0 +1,29 @@
+'use strict';
+// Files, links and copies: what is saved, opened, and put on the clipboard.
+
+/** Wires the section 'Keep and open' of the page. */
+function wireFiles(play) {
+  const {game} = play, on = (id, use) => byId(id).addEventListener('click', use);
+  on('save', () => saveFile('game.sgf', new Blob([`${recordOfTree(game.tree)}\n`])));
+  byId('open').addEventListener('change', async event => {
+    const [file] = event.target.files;
+    if (file) await play.open(file);
+    event.target.value = '';
+  });
+  byId('link-form').addEventListener('submit', event => {
+    event.preventDefault();
+    play.openText(byId('link').value);
+  });
+  on('copy', () => play.copy(`${Session.address}#${linkOfTree(game.tree)}`));
+  on('copy-moves', () => play.copy(movesText(lineOf(game).steps).join(' ')));
+  on('copy-hexworld', () => play.copy(hexWorldLink(lineOf(game)), 'HexWorld has no form for start stones and moves out of turn'));
+  for (const kind of ['svg', 'png']) on(kind, () => savePicture(play.view, kind));
+  on('save-proof', () => {
+    const {thought} = game.shown ?? {}, said = game.at.solved?.proof ? game.at.solved : thought;
+    saveFile(`${said.cell ?? 'position'}.cert`, new Blob([`${said.certificate}\n`]));
+  });
+}
+
+/** The line of a game as the forms of links take it. */
+const lineOf = ({tree}) =>
+  ({size: tree.size, start: tree.start, steps: tree.line.slice(1).map(({step}) => step), position: tree.at.number});

@@ -1,0 +1,87 @@
+'use strict';
+// Games as links and as moves in a row. A link has the size, start stones (`+b-c3`), moves, of which one out of turn has its colour
+// before it (`w-a1`), and at the end `@N` where the game stands after N moves and not after all. HexWorld's links and moves
+// without a size are read too.
+
+const HEXWORLD = 'https://hexworld.org/board/#';
+// What HexWorld writes for what is no cell. Of these a swap alone has a place in a game here.
+const HEXWORLD_SWAP = ':s';
+const PART = /^(\+?)(?:([bw])-)?([a-k][1-9][0-9]?|swap)$/;
+
+/** The moves in the form of a link. */
+function movesText(steps) {
+  let turn = 'b';
+  return steps.map(({colour, move}) => {
+    const text = (colour === turn ? '' : `${colour}-`) + (move === SWAP ? 'swap' : move);
+    turn = other(colour);
+    return text;
+  });
+}
+
+/** A game as the part of a link behind `#`: {size, start, steps, position}. */
+function linkOf({size, start, steps, position}) {
+  const parts = [size, ...start.map(([colour, vertex]) => `+${colour}-${vertex}`), ...movesText(steps)];
+  return (position < steps.length ? [...parts, `@${position}`] : parts).join(',');
+}
+
+/** The link of a tree: its line, and where it stands on it. */
+const linkOfTree = tree =>
+  linkOf({size: tree.size, start: tree.start, steps: tree.line.slice(1).map(({step}) => step), position: tree.at.number});
+
+/** A link to HexWorld with the same moves; null where that has no form for them. */
+function hexWorldLink({size, start, steps, position}) {
+  if (start.length || steps.some(({colour}, at) => colour !== 'bw'[at % 2])) return null;
+  const text = part => part.map(({move}) => (move === SWAP ? HEXWORLD_SWAP : move)).join('');
+  const later = text(steps.slice(position));
+  return `${HEXWORLD}${size},${text(steps.slice(0, position))}${later && `,${later}`}`;
+}
+
+/** A text from a box or an address: percent signs that stand for characters are taken so, and others as they are. */
+function unescaped(text) {
+  try {
+    return decodeURIComponent(text);
+  } catch {
+    return text;
+  }
+}
+
+/** What HexWorld's link holds: its parts are the moves up to where it stands, and those behind. */
+function readHexWorld(text) {
+  const [head, played = '', later = ''] = text.split(',');
+  const cut = part => part.match(/[a-z][0-9]+|:(?:[rf][bw]|[a-z])/g) ?? [];
+  const words = [...cut(played), ...cut(later)].map(word => (word === HEXWORLD_SWAP ? 'swap' : word));
+  const size = /^\d+/.exec(head)?.[0];
+  return {size, parts: words, position: cut(played).length};
+}
+
+/** What other texts hold: moves may stand together, be numbered, and be without a size before them. */
+function readPlain(text, sizeHere) {
+  const words = text.split(/[\s,;]+/).filter(Boolean);
+  const size = /^\d+$/.test(words[0]) ? words.shift() : String(sizeHere);
+  const at = words.findIndex(word => /^@\d+$/.test(word)), position = at < 0 ? undefined : Number(words.splice(at, 1)[0].slice(1));
+  const parts = words.map(word => word.replace(/^\d+\./, '').replace('swap-pieces', 'swap')).filter(Boolean)
+    .flatMap(word => (/^([a-k][1-9][0-9]?){2,}$/.test(word) ? word.match(/[a-k][1-9][0-9]?/g) : [word]));
+  return {size, parts, position};
+}
+
+/** The game that a text names: {size, start, steps, position}; Refused where it names none. `sizeHere` is that of moves alone. */
+function gameOfText(given, sizeHere) {
+  const whole = unescaped(given.trim()).toLowerCase(), text = whole.slice(whole.indexOf('#') + 1).trim();
+  const {size, parts, position} = whole.includes('hexworld') ? readHexWorld(text) : readPlain(text, sizeHere);
+  if (!/^\d{1,4}$/.test(size ?? '')) throw new Refused('a link begins with the size of the board, 1 to 11');
+  if (!(size >= 1 && size <= LETTERS.length)) throw new Refused(`size ${size}: hexd plays 1 to ${LETTERS.length}`);
+  const game = {size: Number(size), start: [], steps: [], position};
+  let turn = 'b';
+  for (const part of parts) {
+    const found = PART.exec(part);
+    if (!found) throw new Refused(`'${part}' is no move`);
+    const [, plus, colour = turn, move] = found;
+    if (plus) {
+      game.start.push([colour, move]);
+    } else {
+      game.steps.push({colour, move: move === 'swap' ? SWAP : move});
+      turn = other(colour);
+    }
+  }
+  return game;
+}

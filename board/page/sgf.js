@@ -1,0 +1,49 @@
+'use strict';
+// Text of records (SGF): reads a text in hexd's form into nodes with their properties, and writes them. It knows no game.
+
+/** A node of a record: its properties, each a name with its values as they stand in the text, and the nodes that follow. */
+const sgfNode = (properties = {}) => ({properties, children: []});
+
+/** The root of the first tree of a text; null where there is none. */
+function readSgf(text) {
+  const below = [];
+  let root = null, node = null, last = null;
+  for (const [token] of text.matchAll(/\[(?:\\[^]|[^\]\\])*\]|[A-Z]+|[();]/g)) {
+    if (token === '(') {
+      below.push(node);
+    } else if (token === ')') {
+      node = below.pop() ?? null;
+      if (!below.length) break;
+    } else if (token === ';') {
+      const made = sgfNode();
+      root ??= made;
+      node?.children.push(made);
+      [node, last] = [made, null];
+    } else if (token[0] !== '[') {
+      last = token;
+    } else if (node && last) {
+      (node.properties[last] ??= []).push(token.slice(1, -1));
+    }
+  }
+  return root;
+}
+
+/** The text of a tree. */
+function writeSgf(root) {
+  const parts = [], left = [root];
+  while (left.length) {
+    const item = left.pop();
+    if (typeof item === 'string') {
+      parts.push(item);
+      continue;
+    }
+    const {properties, children} = item;
+    parts.push(';', ...Object.entries(properties).map(([name, values]) => name + values.map(value => `[${value}]`).join('')));
+    if (children.length === 1) left.push(children[0]);
+    else for (const child of [...children].reverse()) left.push(')', child, '(');
+  }
+  return `(${parts.join('')})`;
+}
+
+/** A value as it is read: what stands behind a backslash is itself, and a line break behind one is none. */
+const plainValue = value => value.replace(/\\(\r\n|\n\r|[^])/g, (_, given) => (/[\r\n]/.test(given) ? '' : given));

@@ -1,0 +1,59 @@
+'use strict';
+// What the page says of the game in words: who is to move or has won, what is proved, and what hexd said.
+
+/** The line above the board, and its look: {text, look}. `players` says of each colour whether it is 'I' or 'hexd'. */
+function stateOf(game, {thinking, players}) {
+  const {winner, mover, at} = game, name = COLOURS[winner ?? mover];
+  if (thinking) return {text: `hexd ${thinking} ..`, look: 'theirs'};
+  if (winner) {
+    const why = at.facts.winner ? '' : `: ${COLOURS[other(winner)]} resigns`;
+    if (players.b === players.w) return {text: `${name} has won${why}.`, look: 'won'};
+    return players[winner] === 'I' ? {text: `You have won (${name})${why}.`, look: 'won'} : {text: `hexd has won (${name})${why}.`, look: 'lost'};
+  }
+  return players[mover] === 'hexd' ? {text: `hexd's turn (${name})`, look: 'theirs'} : {text: `Your turn (${name})`, look: 'mine'};
+}
+
+/** Who joins what, where the board is empty. */
+function aimWords(size) {
+  const {b, w} = edgeNames(size);
+  return `Black joins ${b[0]} and ${b[1]}, White joins ${w[0]} and ${w[1]}: by a chain of own stones, past the other's.`;
+}
+
+/** What the map of openings on an empty board means. */
+const mapWords = 'Proved, of each opening with a mark: a black one wins for Black, so White swaps; a white one for White, so he does not.';
+
+const openingWords = (vertex, winner) =>
+  `Proved: after Black's ${vertex} ${COLOURS[winner]} wins; ${winner === 'b' ? 'a swap takes the win' : 'a swap gives the win away'}.`;
+
+/** What stands under 'What hexd thinks', as elements: what is proved first, then what hexd said. */
+function thoughtElements(game, proof, openings) {
+  const {at, shown} = game, made = [], add = (text, name = '') => made.push(htmlElement('p', {class: name}, text));
+  if (game.tree.isEmpty) {
+    add(aimWords(game.size));
+    if (openings) add(mapWords);
+  }
+  if (at.opening) add(openingWords(at.step.move, at.opening), 'proved');
+  else if (proof && !proof.here && !game.winner) add(proofWords(proof, {mover: game.mover}), 'proved');
+  if (at.solved) add(solvedWords(at.solved), at.solved.winner ? 'proved' : '');
+  if (shown) {
+    const {thought, here} = shown, name = COLOURS[thought.mover];
+    add(here ? `With ${name} to move here:` : `Of ${name}'s ${thought.cell}, move ${at.number}:`, 'of');
+    thoughtWords(thought).forEach(text => add(text));
+    made.push(...[bestTable(thought)].filter(Boolean));
+  } else if (!game.tree.isEmpty) {
+    add('Of this position hexd has said nothing yet.', 'none');
+  }
+  return made;
+}
+
+/** The names, the result and the comment of a record, as elements. */
+function recordElements(game) {
+  const of = game.tree.root.properties, value = name => (of[name] ?? []).map(plainValue).join(' '), made = [];
+  const players = [['Black', 'PB'], ['White', 'PW']].filter(([, name]) => value(name)).map(([colour, name]) => `${colour}: ${value(name)}`);
+  const facts = ['GN', 'EV', 'DT', 'PC'].map(value).filter(Boolean);
+  if (players.length) made.push(htmlElement('p', {class: 'names'}, players.join(', ')));
+  if (facts.length) made.push(htmlElement('p', {class: 'none'}, facts.join(', ')));
+  if (value('RE')) made.push(htmlElement('p', {class: 'result'}, `Result: ${value('RE')}`));
+  if (game.at.comment) made.push(htmlElement('p', {class: 'comment'}, game.at.comment));
+  return made;
+}

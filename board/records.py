@@ -1,0 +1,278 @@
+"""Records of games (SGF) of whatever program, in the form in which hexd reads them.
+
+    read(b"(;SZ[5];B[C3];W[ce];B[resign])")     # Record: .text, .main, .notes; Refused with why not
+
+What another program writes otherwise is put right here: a byte order mark or other text before the record, other character
+sets, capitals, `swap`, cells in two letters (`ce` for c5), passes, and White as the first to move where Black swaps. All of
+the tree is kept, with its properties. Of the game this file knows what a move is called, and no rule: what is legal hexd says.
+"""
+
+import re
+from dataclasses import dataclass, field
+
+LETTERS = "abcdefghijk"
+SIZES = range(1, len(LETTERS) + 1)
+SWAP = "swap-pieces"
+COLOURS = {"B": "Black", "W": "White"}
+OTHER = {"B": "W", "W": "B"}
+TOKEN = re.compile(r"\[(?:\\.|[^\]\\])*\]|[A-Za-z]+|[();]", re.DOTALL)
+# What belongs to a player, and changes sides with him.
+OF_PLAYERS = {"PB": "PW", "PW": "PB", "BR": "WR", "WR": "BR", "BT": "WT", "WT": "BT", "BL": "WL", "WL": "BL"}
+
+
+class Refused(Exception):
+    """Why hexd can't play a record, in words."""
+
+
+@dataclass
+class Node:
+    """A node: its properties with their values as they stand in the text, and the nodes that follow."""
+
+    properties: dict = field(default_factory=dict)
+    children: list = field(default_factory=list)
+
+    def moves(self):
+        return [(name, value) for name in "BW" for value in self.properties.get(name, [])]
+
+
+@dataclass(frozen=True)
+class Record:
+    """A record in hexd's form: all of its text, that of its main line alone, its size, and what was changed or left out."""
+
+    text: str
+    main: str
+    size: int
+    notes: list
+
+
+def decoded(content):
+    """The text of a file: in UTF-8, else in the character set that it names, else in one that has a character for each byte."""
+    named = re.search(rb"CA\[([\w.:-]+)\]", content)
+    for name in ("utf-8-sig", named and named[1].decode(), "latin-1"):
+        try:
+            return content.decode(name or "latin-1")
+        except (LookupError, UnicodeDecodeError):
+            continue
+
+
+def tree_of(text):
+    """The root of the first tree in a text, and how many trees there are; Refused where there is none."""
+    start = re.search(r"\(\s*;", text)
+    if not start:
+        raise Refused("it is no record of a game")
+    root, node, last, trees = None, None, None, 0
+    below = []
+    for token in TOKEN.findall(text, start.start()):
+        if token == "(":
+            below.append(node)
+            trees += len(below) == 1
+        elif token == ")":
+            if not below:
+                break
+            node = below.pop()
+        elif trees > 1:
+            continue
+        elif token == ";":
+            made = Node()
+            root = root or made
+            if node:
+                node.children.append(made)
+            node, last = made, None
+        elif token[0] != "[":
+            # Older records have small letters in the names, which don't count.
+            last = re.sub("[a-z]", "", token)
+        elif node and last:
+            node.properties.setdefault(last, []).append(token[1:-1])
+    return root, trees
+
+
+def printed(node):
+    """The text of a node and what follows it."""
+    parts, left = [], [node]
+    while left:
+        item = left.pop()
+        if isinstance(item, str):
+            parts.append(item)
+            continue
+        parts.append(";" + "".join(f"{name}{''.join(f'[{value}]' for value in values)}" for name, values in item.properties.items()))
+        if len(item.children) == 1:
+            left.append(item.children[0])
+        else:
+            for child in reversed(item.children):
+                left += [")", child, "("]
+    return f"({''.join(parts)})"
+
+
+def cell_of(value, crossed):
+    """A cell in hexd's form, from `c5` or `ce`; None where it is none."""
+    found = re.fullmatch(r"([a-z])([1-9][0-9]?|[a-z])", value.strip().lower())
+    if not found:
+        return None
+    column, row = ord(found[1]) - ord("a"), int(found[2]) - 1 if found[2].isdigit() else ord(found[2]) - ord("a")
+    if crossed:
+        column, row = row, column
+    return f"{chr(ord('a') + column)}{row + 1}" if column < 26 else None
+
+
+class Reader:
+    """Puts the nodes of a tree into hexd's form, and notes what it changes."""
+
+    def __init__(self, root):
+        self.root, self.notes = root, []
+        self.size = self.size_of(root)
+        self.crossed = self.white_begins()
+
+    def size_of(self, root):
+        game = root.properties.get("GM", ["11"])[0].strip()
+        if game != "11":
+            raise Refused(f"it is a record of another game than Hex: GM[{game}]")
+        given = root.properties.get("SZ", ["11"])[0].strip()
+        found = re.fullmatch(r"(\d{1,4})(?::\1)?", given)
+        if not found or int(found[1]) not in SIZES:
+            raise Refused(f"size {given}: hexd plays 1 to {SIZES[-1]}")
+        return int(found[1])
+
+    def white_begins(self):
+        """Whether White has the first move and Black swaps it: then the colours are exchanged, and rows with columns."""
+        moves, node = [], self.root
+        while len(moves) < 2 and node:
+            moves += node.moves()
+            node = node.children[0] if node.children else None
+        swapped = [name for name, _ in moves[:2]] == ["W", "B"] and moves[1][1].strip().lower() in ("swap", SWAP)
+        if swapped:
+            self.notes.append("White begins in the record, and Black swaps: colours, and rows with columns, are exchanged.")
+        return swapped
+
+    def turn_players(self, properties):
+        """The properties with those of the players exchanged."""
+        result = {OF_PLAYERS.get(name, name): values for name, values in properties.items()}
+        if "RE" in result:
+            result["RE"] = [OTHER.get(value[:1], value[:1]) + value[1:] for value in result["RE"]]
+        return result
+
+    def convert(self):
+        """Puts each node into hexd's form. A side line from a node on that can't be is left out; Refused in the main line."""
+        left = [(self.root, 0, True)]
+        while left:
+            node, number, is_main = left.pop()
+            number += self.convert_node(node, number + 1)
+            kept = []
+            for at, child in enumerate(node.children):
+                try:
+                    self.probe(child, number + 1)
+                    kept.append((child, number, is_main and at == 0))
+                except Refused as why:
+                    if is_main and at == 0:
+                        raise
+                    self.notes.append(f"A side line is left out: {why}.")
+            node.children = [child for child, _, _ in kept]
+            left += reversed(kept)
+
+    def probe(self, node, number):
+        """Refused where a node can't be put into hexd's form."""
+        moves = node.moves()
+        if len(moves) > 1:
+            raise Refused(f"node {number} has two moves")
+        if any(name in node.properties for name in ("AB", "AW", "AE")):
+            raise Refused(f"stones are set or taken away at move {number}, and hexd takes those of the start alone")
+        if moves:
+            self.move_of(*moves[0], number)
+
+    def move_of(self, name, value, number):
+        """The move of a value, in hexd's form; None for a pass."""
+        word = value.strip().lower()
+        if word in ("", "pass") or word == "tt" and self.size < 20:
+            return None
+        if word in ("swap", SWAP, "swap-sides", "resign", "forfeit"):
+            return SWAP if word == "swap" else word
+        cell = cell_of(word, self.crossed)
+        if cell is None:
+            raise Refused(f"move {number} is no move: {COLOURS[name]} {value.strip()[:20]!r}")
+        return cell
+
+    def convert_node(self, node, number):
+        """Puts one node into hexd's form; 1 where it holds a move."""
+        if self.crossed:
+            node.properties = self.turn_players(node.properties)
+        result, found = {}, node.moves()
+        for name, values in node.properties.items():
+            if name in ("B", "W"):
+                move = self.move_of(name, values[0], number)
+                if move is not None and move != "swap-sides":
+                    result[OTHER[name] if self.crossed else name] = [move]
+                self.note_move(name, move, number)
+            elif name in ("AB", "AW"):
+                result["A" + OTHER[name[1]] if self.crossed else name] = [self.stone_of(value) for value in values]
+            elif name != "CA":
+                result[name] = values
+        node.properties = result
+        return len(found)
+
+    def stone_of(self, value):
+        cell = cell_of(value, self.crossed)
+        if cell is None:
+            raise Refused(f"a stone of the start lies on no cell: {value.strip()[:20]!r}")
+        return cell
+
+    def note_move(self, name, move, number):
+        player = COLOURS[OTHER[name] if self.crossed else name]
+        if move is None:
+            self.notes.append(f"Move {number} is a pass of {player}'s, which Hex hasn't: it is left out.")
+        elif move == "swap-sides":
+            self.notes.append(f"Move {number} swaps sides: the stones stay, and the players have changed their colours.")
+        elif move in ("resign", "forfeit"):
+            self.notes.append(f"{player} resigns at move {number}.")
+
+
+def main_line(root):
+    """A tree of the moves and start stones of the main line alone: all that hexd reads."""
+    first = last = Node({name: root.properties[name] for name in ("FF", "GM", "SZ", "AB", "AW") if name in root.properties})
+    node = root
+    while True:
+        for name, value in node.moves():
+            if value in ("resign", "forfeit"):
+                return first
+            last.children.append(Node({name: [value]}))
+            last = last.children[0]
+        if not node.children:
+            return first
+        node = node.children[0]
+
+
+def read(content):
+    """The record in the bytes of a file."""
+    root, trees = tree_of(decoded(content))
+    reader = Reader(root)
+    reader.probe(Node({name: root.properties[name] for name in "BW" if name in root.properties}), 1)
+    reader.convert()
+    if trees > 1:
+        reader.notes.append(f"The file has {trees} games; this is the first.")
+    head = {"FF": ["4"], "GM": ["11"], "SZ": [str(reader.size)]}
+    root.properties = {**head, **{name: values for name, values in root.properties.items() if name not in head}}
+    return Record(printed(root), printed(main_line(root)), reader.size, reader.notes)
+
+
+def why_refused(ask, record):
+    """Why hexd doesn't load a record in its form: which move it refuses, and why. `ask` gives an answer's text, None of a failure."""
+    root, _ = tree_of(record.main)
+    if any(name in root.properties for name in ("AB", "AW")):
+        return "hexd can't play it: two stones of the start lie on one cell, or a move is illegal"
+    ask(f"boardsize {record.size}")
+    node, number = root, 0
+    while node.children:
+        node, number = node.children[0], number + 1
+        ((colour, move),) = node.moves()
+        if ask(f"play {colour} {move}") is None:
+            return f"move {number} is illegal: {COLOURS[colour]} {move}, for {why_illegal(ask, move, record.size)}"
+    return "hexd can't play it"
+
+
+def why_illegal(ask, move, size):
+    winner = ask("winner")
+    if winner != "none":
+        return f"{winner.capitalize()} has won before"
+    if move == SWAP:
+        return "only White may swap, and only Black's first stone"
+    if LETTERS.find(move[0]) not in range(size) or int(move[1:]) > size:
+        return f"the board of size {size} has no such cell"
+    return "there is a stone on it"

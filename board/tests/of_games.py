@@ -1,0 +1,305 @@
+"""Games on the page: by clicks and by keys, against hexd, and that none of them is lost."""
+
+import os
+import re
+import signal
+
+from selenium.webdriver.common.action_chains import ActionChains
+from selenium.webdriver.common.keys import Keys
+
+from tests.pages import Pages
+from tests.support import Server, until
+
+
+class Games(Pages):
+    def test_size_3_by_clicks(self):
+        browser = self.start()
+        browser.choose("#size", "3")
+        self.soon(9, self.marks("[data-vertex]"))
+        self.soon_in("Black joins row 1 and row 3, White joins column a and column c", "#words")
+        self.soon("Your turn (Black)", self.words("#state"))
+        for vertex in ("b2", "a1", "b1", "c3"):
+            browser.cell(vertex)
+        browser.cell("b1")
+        self.soon("hexd: illegal move: there is a stone on it", self.words("#said"))
+        self.assertTrue(self.is_beside("#said", "[data-vertex=b1]"))
+        browser.cell("b3")
+        self.soon("Black has won.", self.words("#state"))
+        self.assertEqual("won", browser.find("#status").get_attribute("class"))
+        self.assertEqual(3, len(browser.find(".chain").get_attribute("points").split()))
+        self.assertIn("wanted", browser.find("#new").get_attribute("class"))
+        self.soon(["b2", "a1", "b1", "c3", "b3"], self.moves)
+        self.soon(3, self.marks(".stone.b"))
+        self.soon(2, self.marks(".stone.w"))
+        self.assertEqual("b3, Black, last move", browser.find("[data-vertex=b3]").get_attribute("aria-label"))
+        self.shot("won")
+
+    def is_beside(self, css, other):
+        """Whether one element stands near another, which was clicked."""
+        boxes = "return arguments[0].map(css => document.querySelector(css).getBoundingClientRect())"
+        one, two = self.browser.run(boxes, [css, other])
+        return abs(one["top"] - two["bottom"]) < 60 and one["left"] < two["right"] and two["left"] < one["right"]
+
+    def test_size_11_by_clicks_and_keys_against_hexd(self):
+        browser = self.start(players=("I", "hexd"))
+        self.soon(121, self.marks("[data-vertex]"))
+        for move in range(61):
+            if browser.text("#state") != "Your turn (Black)":
+                break
+            vertex = browser.vertices("[data-vertex]:not(:has(.stone))")[0]
+            self.play_by_keys(vertex) if move % 2 else browser.cell(vertex)
+            self.assertIn(vertex, self.moves())
+            if move == 3:
+                self.shot("game")
+        self.assertRegex(browser.text("#state"), "^(hexd has won .White.|You have won .Black.)")
+        self.soon(len(self.moves()), self.marks("#moves li"))
+        self.assertTrue(browser.all("#plot .mark"))
+        self.shot("game-over")
+
+    def play_by_keys(self, vertex):
+        """From the cell that the Tab key reaches, by arrows and Enter."""
+        browser = self.browser
+        while not browser.run("return document.activeElement.dataset.vertex"):
+            browser.run("if (document.activeElement === document.body) document.getElementById('new').focus()")
+            browser.shift_tab()
+        at = browser.run("return document.activeElement.dataset.vertex")
+        columns, rows = ord(vertex[0]) - ord(at[0]), int(vertex[1:]) - int(at[1:])
+        keys = [Keys.ARROW_RIGHT if columns > 0 else Keys.ARROW_LEFT] * abs(columns)
+        keys += [Keys.ARROW_DOWN if rows > 0 else Keys.ARROW_UP] * abs(rows)
+        if keys:
+            browser.keys(*keys)
+        self.assertTrue(browser.text("#readout").startswith(f"{vertex}, "), browser.text("#readout"))
+        browser.keys(Keys.ENTER)
+
+    def test_hexd_against_itself(self):
+        browser = self.start("4", players=("hexd", "I"))
+        browser.choose("#player-w", "hexd")
+        until(lambda: "has won" in browser.text("#state"), "the game has ended")
+        browser.ready()
+        self.assertGreater(len(self.moves()), 3)
+
+    def test_undo(self):
+        browser = self.start("3", players=("I", "hexd"))
+        browser.cell("a1")
+        self.soon(2, lambda: len(self.moves()))
+        browser.click("#undo")
+        self.soon([], self.moves)
+        self.soon(2, self.marks("#moves .ahead"))
+        browser.choose("#player-w", "I")
+        browser.cell("a2")
+        browser.cell("b2")
+        browser.click("#undo")
+        self.soon(["a2"], self.moves)
+
+    def test_swap(self):
+        browser = self.start("3,a2")
+        self.assertTrue(browser.find("#swap").is_displayed())
+        browser.click("#swap")
+        self.soon(["a2", "swap"], self.moves)
+        self.assertEqual("b1, White, last move", browser.find("[data-vertex=b1]").get_attribute("aria-label"))
+        self.assertFalse(browser.find("#swap").is_displayed())
+        browser.click("#show-numbers")
+        self.soon("2", self.words("[data-vertex=b1] .number"))
+        browser.click("#undo")
+        self.assertTrue(browser.find("#swap").is_displayed())
+
+
+class Lasting(Pages):
+    """No game is lost."""
+
+    def test_to_a_position_and_back(self):
+        browser = self.start("5,c3,b3,d2")
+        browser.click("#moves li:nth-child(1) .move")
+        self.soon("5,c3,b3,d2,@1", self.link)
+        browser.click("#end")
+        self.soon("5,c3,b3,d2", self.link)
+        browser.cell("a1")
+        # The middle of the plot of four moves.
+        browser.click("#plot")
+        self.soon(["c3", "b3"], self.moves)
+        browser.click("#first")
+        self.soon("5,c3,b3,d2,a1,@0", self.link)
+        browser.click("#forth")
+        browser.cell("b3")
+        self.soon("5,c3,b3,d2,a1,@2", self.link)
+
+    def test_a_reload_keeps_the_line_and_the_position(self):
+        browser = self.start("5,c3,b3,d2,a1,@2")
+        self.soon(["c3", "b3"], self.moves)
+        browser.click("#back")
+        browser.reload()
+        self.soon("5,c3,b3,d2,a1,@1", self.link)
+        self.soon(3, self.marks("#moves .ahead"))
+        self.soon(1, self.marks(".stone"))
+
+    def test_a_side_line_is_kept_and_reached(self):
+        browser = self.start("5,c3,b3,d2,a1")
+        browser.click("#moves li:nth-child(2) .move")
+        browser.cell("e5")
+        self.soon("5,c3,b3,e5", self.link)
+        browser.cell("d4")
+        self.soon(1, self.marks("#moves .side"))
+        self.shot("side-line")
+        # Of this record each line is left after a reload too.
+        browser.reload()
+        browser.click("#moves .side")
+        self.soon("5,c3,b3,d2,a1,@3", self.link)
+        browser.click("#moves .side")
+        self.soon("5,c3,b3,e5,d4,@3", self.link)
+        browser.click("#save")
+        record = browser.saved("game.sgf")
+        self.assertEqual(b"(;FF[4]GM[11]SZ[5];B[c3];W[b3](;B[d2];W[a1])(;B[e5]HERE[1];W[d4]))\n", record)
+        browser.click("#new")
+        self.opened(record)
+        self.soon("5,c3,b3,e5,d4,@3", self.link)
+        self.soon(1, self.marks("#moves .side"))
+
+    def test_back_brings_the_game_before(self):
+        browser = self.start("5,c3,b3,d2,@2")
+        browser.click("#new")
+        self.soon("5", self.link)
+        browser.choose("#size", "4")
+        browser.cell("a2")
+        browser.choose("#size", "6")
+        self.soon("6", self.link)
+        # A key on the box of sizes takes an empty game's place, and one before it is there still.
+        browser.keys(Keys.ARROW_DOWN)
+        self.soon("7", self.link)
+        self.opened(b"(;GM[11]SZ[3];B[b2])")
+        self.soon("3,b2", self.link)
+        browser.back()
+        # A game that was empty has left its place to the next one.
+        self.soon("4,a2", self.link)
+        browser.back()
+        self.soon("5,c3,b3,d2,@2", self.link)
+        self.soon(2, self.marks(".stone"))
+        browser.click("#forth")
+        self.soon(["c3", "b3", "d2"], self.moves)
+        browser.forward()
+        self.soon("4,a2", self.link)
+
+    def test_clicks_wait_their_turn(self):
+        browser = self.start("6")
+        browser.run("for (const id of ['b2', 'c3', 'd4', 'e5']) document.querySelector(`[data-vertex=${id}]`)"
+                    ".dispatchEvent(new MouseEvent('click', {bubbles: true, detail: 1}))")
+        self.soon(["b2", "c3", "d4", "e5"], self.moves)
+        browser.ready()
+
+    def test_the_bar_stays_where_it_is(self):
+        browser = self.start("5," + ",".join(f"{column}{row}" for row in (1, 2, 4) for column in "abcde")[:-3])
+        self.assertEqual(14, len(self.moves()))
+        places = [browser.place("#back")]
+        for _ in range(14):
+            ActionChains(browser.driver).move_to_element(browser.find("#back")).click().perform()
+            places.append(browser.place("#back"))
+        browser.ready()
+        self.soon([], self.moves)
+        self.assertEqual(1, len({str(place) for place in places}))
+
+    def test_keys(self):
+        browser = self.start("5,c3,b3,d2,a1")
+        browser.cell("e5")
+        for key, moves in ((Keys.ARROW_LEFT, 4), (Keys.ARROW_LEFT, 3), (Keys.ARROW_RIGHT, 4), (Keys.HOME, 0), (Keys.END, 5), ("u", 4)):
+            browser.keys(key)
+            self.soon(moves, lambda: len(self.moves()))
+        ActionChains(browser.driver).key_down(Keys.CONTROL).send_keys("z").key_up(Keys.CONTROL).perform()
+        self.soon(3, lambda: len(self.moves()))
+        browser.ready()
+
+    def test_to_the_start_by_one_record(self):
+        browser = self.start("5,c3,b3,d2,a1,e5,e4")
+        browser.run("performance.clearResourceTimings()")
+        browser.click("#first")
+        self.soon([], self.moves)
+        names = browser.run("return performance.getEntriesByType('resource').map(entry => entry.name.split('/').at(-1))")
+        self.assertEqual(["record", "htp", "htp"], names)
+
+    def test_choices_last_over_a_reload(self):
+        browser = self.start("5,c3", players=("hexd", "I"))
+        browser.choose("#strength", "10000")
+        browser.click("#show-visits")
+        browser.choose("#orientation", "flipped")
+        browser.cell("a1")
+        browser.choose("#player-b", "I")
+        self.soon(3, lambda: len(self.moves()))
+        browser.reload()
+        value = lambda css: lambda: browser.find(css).get_attribute("value")  # noqa: E731
+        self.soon("I", value("#player-w"))
+        self.soon("10000", value("#strength"))
+        self.soon("flipped", value("#orientation"))
+        self.assertFalse(browser.find("#show-visits").is_selected())
+        self.assertIn("10,000 playouts a move", browser.text("#strength-words"))
+        browser.choose("#strength", "200")
+
+    def test_hexd_moves_after_a_reload(self):
+        browser = self.start("4,b2,c3", players=("I", "I"))
+        browser.click("#back")
+        browser.choose("#player-w", "hexd")
+        browser.reload()
+        self.assertEqual(1, len(self.moves()))
+        browser.choose("#player-w", "I")
+        browser.click("#end")
+        browser.cell("a1")
+        browser.run("const select = document.getElementById('player-w'); select.value = 'hexd'; kept.save()")
+        browser.reload()
+        self.soon(4, lambda: len(self.moves()))
+        self.soon("Your turn (Black)", self.words("#state"))
+
+    def test_a_lost_process(self):
+        browser = self.start("5,c3,b3,d2")
+        browser.click("#back")
+        for pid in self.server.engines():
+            os.kill(pid, signal.SIGKILL)
+        browser.cell("a1")
+        self.soon_in("hexd was ended by signal 9 (Killed)", "#alert")
+        self.shot("lost")
+        self.browser.faults()
+        browser.click("#again")
+        self.assertFalse(browser.find("#alert").is_displayed())
+        self.soon("5,c3,b3,d2,@2", self.link)
+        browser.cell("a1")
+        self.soon(["c3", "b3", "a1"], self.moves)
+
+    def test_stop_ends_a_search(self):
+        with Server("--playouts", "1000000", "--hsearch", "off", "--workers", "1") as server:
+            browser = self.start("11,f6", players=("I", "I"), server=server)
+            self.assertFalse(browser.find("#stop").is_displayed())
+            browser.press("#go")
+            until(lambda: browser.find("#stop").is_displayed(), "there is Stop")
+            self.soon("hexd thinks for White ..", self.words("#state"))
+            until(lambda: re.fullmatch("[1-9][0-9]* s", browser.text("#seconds")), "seconds are told")
+            browser.press("[data-vertex=a1]")
+            self.soon("hexd is at work: Stop ends it.", self.words("#said"))
+            browser.press("#stop")
+            browser.ready()
+            self.soon(["f6"], self.moves)
+            self.browser.faults()
+            browser.cell("a1")
+            self.soon(["f6", "a1"], self.moves)
+            self.assertEqual(1, len(server.engines()))
+            browser.driver.get("about:blank")
+
+    def test_a_page_that_goes_ends_its_session(self):
+        browser = self.start("3")
+        until(lambda: len(self.server.engines()) == 1, "there is one process")
+        for _ in range(3):
+            browser.open(self.server.address)
+        until(lambda: len(self.server.engines()) == 1, "there is one process")
+        browser.driver.get("about:blank")
+        until(lambda: not self.server.engines(), "there is none")
+
+    def test_the_page_after_the_last_place(self):
+        with Server() as server:
+            names = [server.session() for _ in range(16)]
+            browser = self.browser
+            browser.open(server.address)
+            self.soon_in("there are 16 sessions", "#alert")
+            self.browser.faults()
+            browser.press("#again")
+            self.soon_in("there are 16 sessions", "#alert")
+            self.browser.faults()
+            browser.press("#room")
+            until(lambda: not browser.find("#alert").is_displayed(), "the page goes on")
+            browser.ready()
+            self.assertEqual(404, server.request("DELETE", f"session/{names[0]}")[0])
+            browser.driver.get("about:blank")

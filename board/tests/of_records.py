@@ -1,0 +1,130 @@
+"""Records, links, copies and pictures."""
+
+from selenium.webdriver.common.keys import Keys
+
+from tests.pages import Pages
+from tests.support import until
+
+
+class Records(Pages):
+    def test_save_and_open(self):
+        browser = self.start("4,b2,swap,c3,w-a1")
+        browser.click("#save")
+        record = browser.saved("game.sgf")
+        self.assertEqual(b"(;FF[4]GM[11]SZ[4];B[b2];W[swap-pieces];B[c3];W[a1])\n", record)
+        browser.click("#new")
+        self.soon([], self.moves)
+        self.opened(record)
+        self.soon("4,b2,swap,c3,a1", self.link)
+
+    def test_what_is_refused_says_why(self):
+        browser = self.start("4,b2")
+        for record, why in (
+            (b"(;GM[1])", "hexd: it is a record of another game than Hex: GM[1]"),
+            (b"none", "hexd: it is no record of a game"),
+            (b"(;SZ[14];B[a1])", "hexd: size 14: hexd plays 1 to 11"),
+            (b"(;SZ[3];B[b2];W[b2])", "hexd: move 2 is illegal: White b2, for there is a stone on it"),
+            (b"(;SZ[3];B[b2];W[d1])", "hexd: move 2 is illegal: White d1, for the board of size 3 has no such cell"),
+            (b"(;SZ[3];B[b2];W[c3];B[swap])", "hexd: move 3 is illegal: Black swap-pieces, for only White may swap, and only Black's first stone"),
+            (b"(;SZ[3];B[b2];W[x-y])", "hexd: move 2 is no move: White 'x-y'"),
+        ):
+            with self.subTest(record=record):
+                self.opened(record)
+                self.soon(why, self.words("#said"))
+                browser.ready()
+                self.browser.faults()
+                self.soon("4,b2", self.link)
+        browser.cell("c3")
+        self.soon("4,b2,c3", self.link)
+
+    def test_what_a_record_says_is_kept(self):
+        browser = self.start()
+        record = ("(;FF[4]GM[11]SZ[5]PB[An\\]na]PW[\u00c5se]RE[B+R]GN[A game]C[Begins];B[c3]C[The middle];W[b3](;B[d2];W[resign])"
+                  "(;B[a1]C[Weak];W[a2]))")
+        self.opened(record.encode())
+        self.soon("5,c3,b3,d2", self.link)
+        self.soon("Black: An]na, White: \u00c5se", self.words("#record .names"))
+        self.soon("Result: B+R", self.words("#record .result"))
+        self.soon("Black has won: White resigns.", self.words("#state"))
+        self.soon("White resigns at move 4.", self.words("#said"))
+        browser.click("#first")
+        self.soon("Begins", self.words("#record .comment"))
+        browser.click("#forth")
+        self.soon("The middle", self.words("#record .comment"))
+        browser.click("#end")
+        browser.click("#moves .side")
+        self.soon("Weak", self.words("#record .comment"))
+        browser.click("#moves .side")
+        browser.click("#save")
+        self.assertEqual(record + "\n", browser.saved("game.sgf").decode())
+
+    def test_a_record_of_another_program(self):
+        browser = self.start()
+        record = b"\xef\xbb\xbfFrom a mail (2):\r\n(;SZ[5]PB[Jos\xe9];B[C3];W[Swap];B[ee];W[];B[A1](;W[b1])(;W[q-q]))"
+        self.opened(record)
+        self.soon("5,c3,swap,e5,b-a1,b1", self.link)
+        said = browser.text("#said")
+        self.assertIn("Move 4 is a pass of White's, which Hex hasn't: it is left out.", said)
+        self.assertIn("A side line is left out: move 6 is no move: White 'q-q'.", said)
+        self.assertIn("Jos\u00e9", browser.text("#record .names"))
+
+    def test_links(self):
+        browser = self.start("5,+b-c3,+w-b3,+b-e5,w-a1,a2")
+        self.soon("5,+b-c3,+w-b3,+b-e5,w-a1,a2", self.link)
+        self.soon(5, self.marks(".stone"))
+        sent = browser.find("#link").get_attribute("value")
+        self.assertNotIn(self.server.token, sent)
+        browser.click("#new")
+        self.soon([], self.moves)
+        self.enter(sent)
+        self.soon("5,+b-c3,+w-b3,+b-e5,w-a1,a2", self.link)
+        for wrong in ("5,c3,c3", "12,a1", "5,z9", "nothing", "100%", "%", "5,%41"):
+            self.enter(wrong)
+            until(lambda: browser.text("#said").startswith("hexd: "), f"{wrong} is refused")
+            browser.ready()
+            self.browser.faults()
+            browser.click("#back")
+            browser.click("#end")
+        self.soon(2, lambda: len(self.moves()))
+
+    def enter(self, text):
+        """Puts a text into the box for links, and Enter."""
+        field = self.browser.find("#link")
+        field.clear()
+        field.send_keys(text, Keys.ENTER)
+        self.browser.ready()
+
+    def test_what_the_box_takes(self):
+        browser = self.start("6")
+        for text, link in (
+            ("B2 c3", "6,b2,c3"),
+            ("1. A3 2. swap-pieces 3. d4", "6,a3,swap,d4"),
+            ("11,A3,swap,F6", "11,a3,swap,f6"),
+            ("11 a3b4c5", "11,a3,b4,c5"),
+            ("https://hexworld.org/board/#9c1,a3:sf6", "9,a3,swap,f6"),
+            ("https://hexworld.org/board/#9,a3b4,c5d6", "9,a3,b4,c5,d6,@2"),
+            ("7,a3,swap,b2,@1", "7,a3,swap,b2,@1"),
+            ("(;SZ[4];B[b2];W[C3])", "4,b2,c3"),
+        ):
+            with self.subTest(text=text):
+                self.enter(text)
+                self.soon(link, self.link)
+
+    def test_copies(self):
+        browser = self.start("9,a3,swap,b4,c5,@2")
+        value = lambda: browser.find("#link").get_attribute("value")  # noqa: E731
+        browser.click("#copy-moves")
+        self.soon("a3 swap b4 c5", value)
+        browser.click("#copy-hexworld")
+        self.soon("https://hexworld.org/board/#9,a3:s,b4c5", value)
+        browser.click("#copy")
+        self.soon(f"http://127.0.0.1:{self.server.port}/#9,a3,swap,b4,c5,@2", value)
+
+    def test_pictures(self):
+        browser = self.start("3,b2,a1")
+        browser.click("#svg")
+        drawn = browser.saved("hexd-board.svg").decode()
+        self.assertNotIn("class=", drawn)
+        self.assertEqual(2, drawn.count("<circle") - drawn.count('r="4.4"'))
+        browser.click("#png")
+        self.assertTrue(browser.saved("hexd-board.png").startswith(b"\x89PNG\r\n\x1a\n"))

@@ -1,0 +1,52 @@
+"""The page in windows of several sizes, in light and dark, and boards of all sizes and orientations."""
+
+from tests.browser import LAPTOP, LYING, NARROW, TABLET, WIDE
+from tests.pages import Pages
+
+WINDOWS = (("wide", WIDE), ("laptop", LAPTOP), ("tablet", TABLET), ("phone", NARROW), ("phone-lying", LYING))
+
+
+class Windows(Pages):
+    def test_board_and_bar_are_in_view(self):
+        for name, size in WINDOWS:
+            for dark in (False, True):
+                with self.subTest(window=name, dark=dark):
+                    self.browser.window(size, dark)
+                    self.start("11,f6,e7,g5,d8,c9,w-b10,h3,a1,k11")
+                    self.browser.click("#hint")
+                    self.browser.run("scrollTo(0, 0)")
+                    self.assertTrue(self.fits())
+                    self.assertTrue(self.browser.run("const side = document.querySelector('aside'); return side.scrollWidth <= side.clientWidth"))
+                    for css in ("#status", "#board", "#back", "#undo", "#hint", "#go", "#new"):
+                        self.assertTrue(self.is_seen(css, size), css)
+                    if name in ("wide", "laptop", "tablet", "phone-lying"):
+                        self.assertTrue(self.is_seen("#player-b", size))
+                    self.shot(f"{name}-{'dark' if dark else 'light'}")
+
+    def is_seen(self, css, size):
+        """Whether all of an element is inside the window."""
+        box = self.browser.run("return document.querySelector(arguments[0]).getBoundingClientRect().toJSON()", css)
+        return box["width"] > 0 and box["left"] >= 0 and box["top"] >= 0 and box["right"] <= size[0] and box["bottom"] <= size[1]
+
+    def test_sizes_from_1_to_11(self):
+        browser = self.start()
+        for size in range(1, 12):
+            browser.choose("#size", str(size))
+            self.soon(size * size, self.marks("[data-vertex]"))
+        browser.choose("#size", "1")
+        browser.cell("a1")
+        self.soon("Black has won.", self.words("#state"))
+
+    def test_labels_and_lines_do_not_grow_with_a_small_board(self):
+        browser = self.start("2")
+        height = "return document.querySelector('.labels text').getBoundingClientRect().height"
+        self.assertLess(browser.run(height), 32)
+
+    def test_orientations(self):
+        browser = self.start("5,a5")
+        for orientation, above in (("wide", "a1"), ("upright", "a1"), ("flipped", "a5")):
+            browser.choose("#orientation", orientation)
+            places = {vertex: browser.place(f"[data-vertex={vertex}] .cell") for vertex in ("a1", "a5")}
+            self.assertEqual(above, min(places, key=lambda vertex: places[vertex][1]))
+            self.shot(f"orientation-{orientation}")
+        browser.choose("#orientation", "auto")
