@@ -40,7 +40,7 @@ function thoughtElements(game, proof, openings) {
     add(here ? `With ${name} to move here:` : `Of ${name}'s ${thought.cell}, move ${at.number}:`, 'of');
     thoughtWords(thought).forEach(text => add(text));
     made.push(...[bestTable(thought)].filter(Boolean));
-  } else if (!game.tree.isEmpty) {
+  } else if (!game.tree.isEmpty && !game.winner) {
     add('Of this position hexd has said nothing yet.', 'none');
   }
   return made;
