@@ -4,45 +4,26 @@ There is no rule of the game here. gtp/filter.py hands hexd all else."""
 import os
 import re
 
-from programs import Hexd, HexdEnded
+from engine import Engine, Refused, time_of
+from loading import load_other
 
 LARGEST_SEED = 2**64 - 1
 COLOURS = {b"b": b"B", b"black": b"B", b"w": b"W", b"white": b"W"}
 OTHER = {b"B": b"W", b"W": b"B"}
 WINS = {b"black": b"B+", b"white": b"W+"}
-# HexGui's form: how an answer is shown, the menu's entry, the command.
+# The form of HexGui and GoGui: how an answer is shown, the menu's entry, the command. `plist` is cells in a row, `pspairs` each of them
+# with a word, and `varc` a move; `%c` is the colour to move.
 ANALYZE_COMMANDS = b"""\
 string/Winner/winner
-string/Legal moves/all_legal_moves
+plist/Legal moves/all_legal_moves
+varc/Move without playing it/reg_genmove %c
+pspairs/Visits/search-visits
+plist/Mustplay cells/mustplay-cells
 string/Search report/search-report
 string/Mustplay/mustplay
 string/Certificate/wincert"""
-
-
-class Refused(Exception):
-    """A command's failure, with its message."""
-
-
-class Request:
-    """What a line asks: its id or nothing, the command's name or nothing, and what stands behind the name."""
-
-    def __init__(self, number, name, rest):
-        self.number, self.name, self.rest = number, name, rest
-        self.args = rest.split()
-
-
-class Engine(Hexd):
-    """A session of hexd, of which commands are asked."""
-
-    def ask(self, command):
-        """The text of a command's success."""
-        self.send(command + b"\n")
-        answer = self.answer()
-        if not answer.endswith(b"\n\n"):
-            raise HexdEnded
-        if answer[:1] == b"?":
-            raise Refused(answer[2:-2])
-        return answer[2:-2]
+# The numbers behind each word of kgs-time_settings.
+KGS_NUMBERS = {b"none": 0, b"absolute": 1, b"byoyomi": 3, b"canadian": 3}
 
 
 def is_number(word, largest):
@@ -69,6 +50,8 @@ class Session:
     def __init__(self, words):
         self.words, self.hexd = words, Engine(words)
         self.resigned = None
+        # The processor's time of those that were ended.
+        self.spent = 0.0
 
     def is_over(self):
         return self.resigned is not None or self.hexd.ask(b"winner") != b"none"
@@ -82,6 +65,37 @@ class Session:
         """A search has as many playouts as --playouts says, however long that takes."""
         needs_forms(request.args, rb"[0-9]+", rb"[0-9]+", rb"[0-9]+")
         return b""
+
+    def kgs_time_settings(self, request):
+        """As time_settings."""
+        numbers = KGS_NUMBERS.get(request.args[0].lower()) if request.args else None
+        needs(numbers is not None)
+        needs_forms(request.args[1:], *[rb"[0-9]+"] * numbers)
+        return b""
+
+    def cputime(self, request):
+        """The processor's time of hexd so far, in seconds."""
+        needs(not request.args)
+        return b"%.2f" % (self.spent + time_of(self.hexd.process))
+
+    def reg_genmove(self, request):
+        """A genmove that is taken back."""
+        needs(len(request.args) == 1 and is_colour(request.args[0]))
+        cell = self.hexd.ask(b"genmove %s" % request.args[0])
+        self.hexd.ask(b"undo")
+        return cell
+
+    def search_visits(self, request):
+        """The cells that were searched, each with its visits."""
+        needs(not request.args)
+        rows = [line.split() for line in self.hexd.ask(b"search-report").splitlines()[1:]]
+        return b" ".join(b"%s %s" % (row[0], row[1]) for row in rows if row[1] != b"0")
+
+    def mustplay_cells(self, request):
+        """The cells among which was searched, or the one that wins."""
+        needs(not request.args)
+        rows = [line.split() for line in self.hexd.ask(b"mustplay").splitlines()]
+        return b" ".join(next(row[1:] for row in rows if row[0] in (b"win", b"allowed")))
 
     def time_left(self, request):
         needs_forms(request.args, rb"\w+", rb"[0-9]+", rb"[0-9]+")
@@ -103,6 +117,7 @@ class Session:
             last, self.hexd = self.hexd, last
             raise
         finally:
+            self.spent += time_of(last.process)
             last.close()
         return b""
 
@@ -122,8 +137,9 @@ class Session:
             os.close(file)
 
     def loadsgf(self, request):
-        """hexd takes a name without a space: one with spaces it gets as the number of an open file."""
-        if len(request.args) < 2:
+        """hexd takes a name without a space, and its own form: with spaces it gets the number of an open file, and a record of another
+        form it gets in its own."""
+        if not request.args:
             return None
         try:
             # By its path alone: hexd looks first whether it is a regular file, and opens no other.
@@ -132,7 +148,14 @@ class Session:
             raise Refused(b"cannot load file") from None
         except OSError:
             raise Refused(b"read fault") from None
-        self.load(file)
+        try:
+            self.hexd.ask(b"loadsgf /proc/%d/fd/%d" % (os.getpid(), file))
+        except Refused as refused:
+            if refused.args[0] != b"cannot load file":
+                raise
+            load_other(self, file)
+        finally:
+            os.close(file)
         self.resigned = None
         return b""
 
@@ -204,11 +227,24 @@ class Session:
         return b"\n".join(names + [name for name in OWN if name not in names])
 
 
+    def help(self, request):
+        """The same list."""
+        needs(not request.args)
+        return self.list_commands(request)
+
+
 OWN = {
     b"all_legal_moves": Session.all_legal_moves,
+    b"cputime": Session.cputime,
     b"final_score": Session.final_score,
+    b"gogui-analyze_commands": Session.analyze_commands,
+    b"help": Session.help,
     b"hexgui-analyze_commands": Session.analyze_commands,
+    b"kgs-time_settings": Session.kgs_time_settings,
     b"komi": Session.komi,
+    b"mustplay-cells": Session.mustplay_cells,
+    b"reg_genmove": Session.reg_genmove,
+    b"search-visits": Session.search_visits,
     b"set_random_seed": Session.set_random_seed,
     b"time_left": Session.time_left,
     b"time_settings": Session.time_settings,

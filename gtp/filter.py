@@ -15,7 +15,8 @@ import sys
 from pathlib import Path
 
 sys.path.insert(0, str(Path(__file__).resolve().parent.parent / "tools"))
-from commands import OWN, Refused, Request, Session, is_number
+from commands import OWN, Session, is_number
+from engine import Refused, Request
 from programs import HexdEnded
 
 # hexd answers a line of more bytes `line too long`, whatever it holds.

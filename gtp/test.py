@@ -3,6 +3,7 @@
 ends. It says nothing where all is as it has to be."""
 
 import os
+import re
 import resource
 import subprocess
 import sys
@@ -55,7 +56,28 @@ ROWS = [
     ("clear_board", "= \n\n"),
     ("known_command time_left", "= true\n\n"),
     ("known_command genmove", "= true\n\n"),
-    ("known_command cputime", "= false\n\n"),
+    ("known_command cputime", "= true\n\n"),
+    ("known_command gogui-setup", "= false\n\n"),
+    ("cputime 1", "? syntax error\n\n"),
+    ("help me", "? syntax error\n\n"),
+    ("gogui-analyze_commands 1", "? syntax error\n\n"),
+    ("kgs-time_settings none", "= \n\n"),
+    ("kgs-time_settings byoyomi 30 60 5", "= \n\n"),
+    ("kgs-time_settings byoyomi 30", "? syntax error\n\n"),
+    ("kgs-time_settings fischer", "? syntax error\n\n"),
+    ("kgs-time_settings", "? syntax error\n\n"),
+    ("search-visits", "? no search\n\n"),
+    ("mustplay-cells", "? no search\n\n"),
+    ("play b b2", "= \n\n"),
+    ("play w a1", "= \n\n"),
+    ("printsgf", "= (;FF[4]GM[11]SZ[3];B[b2];W[a1])\n\n"),
+    ("reg_genmove red", "? syntax error\n\n"),
+    ("reg_genmove", "? syntax error\n\n"),
+    # Black joins by b1 or c1 above, and by a3 or b3 below.
+    ("3 reg_genmove b", "=3 b1\n\n"),
+    ("mustplay-cells", "= b1\n\n"),
+    ("search-visits", "? no search\n\n"),
+    ("printsgf", "= (;FF[4]GM[11]SZ[3];B[b2];W[a1])\n\n"),
     ("known_command", "? syntax error\n\n"),
     ("2147483648 komi 6.5", "? unknown command\n\n"),
     ("loadsgf {folder}/a  game.sgf # with two spaces", "= \n\n"),
@@ -63,7 +85,14 @@ ROWS = [
     ("loadsgf {folder}/no game.sgf", "? cannot load file\n\n"),
     ("loadsgf {folder}/a  game.sgf/x", "? read fault\n\n"),
     ("loadsgf {folder}/a pipe", "? read fault\n\n"),
-    ("loadsgf {folder}/a text", "? cannot load file\n\n"),
+    ("loadsgf {folder}/a text", "? cannot load file: it is no record of a game\n\n"),
+    ("loadsgf {folder}/large.sgf", "? cannot load file: size 14: hexd plays 1 to 11\n\n"),
+    ("loadsgf {folder}/wrong.sgf", "? cannot load file: move 2 is illegal: White b2, for there is a stone on it\n\n"),
+    ("loadsgf {folder}", "? read fault\n\n"),
+    ("printsgf", "= (;FF[4]GM[11]SZ[2];B[a2])\n\n"),
+    ("loadsgf {folder}/other.sgf", "= \n\n"),
+    ("printsgf", "= (;FF[4]GM[11]SZ[3];B[b1];W[swap-pieces];B[c3])\n\n"),
+    ("loadsgf {folder}/a  game.sgf", "= \n\n"),
     ("loadsgf", "? syntax error\n\n"),
     ("printsgf", "= (;FF[4]GM[11]SZ[2];B[a2])\n\n"),
     ("quit now", "? syntax error\n\n"),
@@ -107,6 +136,10 @@ def rows_fault():
     with tempfile.TemporaryDirectory() as folder:
         Path(folder, "a  game.sgf").write_text("(;GM[11]SZ[2];B[a2])")
         Path(folder, "a text").write_text("no record")
+        Path(folder, "large.sgf").write_text("(;SZ[14];B[a1])")
+        Path(folder, "wrong.sgf").write_text("(;SZ[3];B[b2];W[B2])")
+        # As another program may write it: text before it, capitals, cells in two letters, a pass at the end.
+        Path(folder, "other.sgf").write_text("\ufeffGame 1 (;SZ[3];B[B1];W[Swap];B[cc];W[])")
         os.mkfifo(Path(folder, "a pipe"))
         given = "".join(command + "\n" for command, _ in ROWS).format(folder=folder)
         status, got, errors = run(WITH, SMALL, given.encode())
@@ -149,9 +182,28 @@ def lists_fault():
     mine = run(WITH, SMALL, b"list_commands\n")[1][2:-2].split(b"\n")
     menu = run(WITH, SMALL, b"hexgui-analyze_commands\n")[1][2:-2].split(b"\n")
     known = run(WITH, SMALL, b"".join(b"known_command %s\n" % name for name in mine))[1]
-    lost = [entry for entry in menu if entry.split(b"/")[2] not in mine]
+    lost = [entry for entry in menu if entry.split(b"/")[2].split()[0] not in mine]
+    for name in (b"help", b"gogui-analyze_commands"):
+        same = {b"help": mine, b"gogui-analyze_commands": menu}[name]
+        lost += [] if run(WITH, SMALL, name + b"\n")[1][2:-2].split(b"\n") == same else [name]
     if mine[: len(names)] != names or len(set(mine)) != len(mine) or lost or known != b"= true\n\n" * len(mine):
         return f"the lists: {mine}, {menu}, {known}"
+    return None
+
+
+def search_fault():
+    """Whether a genmove that is taken back is the one that is played, with its search in the forms of a menu."""
+    words = ["--size", "5", "--playouts", "300", "--hsearch", "off"]
+    _, got, _ = run(WITH, words, b"reg_genmove b\nsearch-visits\nmustplay-cells\nprintsgf\ncputime\n")
+    _, want, _ = run(WITHOUT, words, b"genmove b\nsearch-report\n")
+    (move, visits, cells, record, spent), (same, report) = (
+        [answer[2:].decode() for answer in text.split(b"\n\n")[:-1]] for text in (got, want)
+    )
+    rows = [line.split() for line in report.splitlines()[1:]]
+    shown = " ".join(f"{vertex} {count}" for vertex, count, _ in rows if count != "0")
+    names = " ".join(vertex for vertex, *_ in rows)
+    if (move, visits, cells, record) != (same, shown, names, "(;FF[4]GM[11]SZ[5])") or not re.fullmatch(r"\d+\.\d\d", spent):
+        return f"a move that is taken back: {got}, and {want}"
     return None
 
 
@@ -199,7 +251,7 @@ def stream_faults():
 
 
 def main():
-    single = [rows_fault(), seed_fault(), trace_fault(), lists_fault()]
+    single = [rows_fault(), seed_fault(), trace_fault(), lists_fault(), search_fault()]
     faults = [fault for fault in single if fault] + [*same_faults(), *stream_faults(), *ending_faults()]
     for fault in faults:
         print(f"gtp/test.py: {fault}")

@@ -17,6 +17,8 @@ class Windows(Pages):
                     self.browser.run("scrollTo(0, 0)")
                     self.assertTrue(self.fits())
                     self.assertTrue(self.browser.run("const side = document.querySelector('aside'); return side.scrollWidth <= side.clientWidth"))
+                    if name in ("wide", "laptop"):
+                        self.assertEqual(size[0], self.browser.run("return document.documentElement.clientWidth"))
                     for css in ("#status", "#board", "#back", "#undo", "#hint", "#go", "#new"):
                         self.assertTrue(self.is_seen(css, size), css)
                     if name in ("wide", "laptop", "tablet", "phone-lying"):

@@ -1,0 +1,49 @@
+"""Records of other programs, which hexd is given in its own form (board/records.py)."""
+
+import os
+import stat
+import sys
+from pathlib import Path
+
+from engine import Engine, Refused
+
+sys.path.append(str(Path(__file__).resolve().parent.parent / "board"))
+import records
+
+# hexd reads no longer record.
+MOST_BYTES = 1_048_576
+
+
+def load_other(session, file):
+    """Has hexd load a record in its own form, from an open file of another one. Refused with which move can't be played, and why."""
+    kind = os.fstat(file)
+    if kind.st_size > MOST_BYTES or not stat.S_ISREG(kind.st_mode):
+        raise Refused(b"cannot load file")
+    try:
+        record = records.read(Path(f"/proc/self/fd/{file}").read_bytes())
+    except records.Refused as why:
+        raise Refused(b"cannot load file: " + str(why).encode()) from None
+    except OSError:
+        raise Refused(b"read fault") from None
+    text = os.memfd_create("game")
+    os.write(text, record.main.encode())
+    try:
+        session.load(text)
+    except Refused:
+        raise Refused(b"cannot load file: " + why_refused(session.words, record).encode()) from None
+
+
+def why_refused(words, record):
+    """Which move of a record hexd refuses, and why. Another hexd is asked, so that the game stays."""
+    other = Engine(words)
+
+    def ask(line):
+        try:
+            return other.ask(line.encode()).decode()
+        except Refused:
+            return None
+
+    try:
+        return records.why_refused(ask, record)
+    finally:
+        other.close()
