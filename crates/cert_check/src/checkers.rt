@@ -77,7 +77,7 @@ impl Checker {
             let _bits = cells.bits();
             self.scope = *cells;
             self.board = with_stones(&self.base, self.player, *cells);
-            self.elements = self.board.elements(self.player);
+            number_elements(&mut self.elements, &self.board, self.player);
         }
         Ok(())
     }
@@ -92,6 +92,17 @@ impl Checker {
             None => None,
         }
     }
+}
+
+// Numbers the player's elements on the board anew.
+//
+// Few lines are a `put`, and a function pays at entry for the size of its locals: so the new
+// elements are a local here, and not in the function that keeps each line.
+#[inline(never)]
+fn number_elements(elements: &mut Elements, board: &Board, player: Colour)
+    ensures { elements.new ≡ record { board = board.now; player = player } }
+{
+    *elements = board.elements(player);
 }
 
 // The board with the player's stones on these empty cells too.

@@ -1,6 +1,6 @@
 //! A gate for tests: it counts who passes, and holds workers until others have come.
 
-use super::gates::Gate;
+use seq_search::Gate;
 use std::sync::atomic::{AtomicBool, AtomicU32, Ordering};
 use std::thread;
 

@@ -1,12 +1,14 @@
-//! A team of threads over one shared tree.
+//! A team of threads over one shared tree, or one worker over a plain vector.
 //!
 //! **Nouns.** A *worker* is a walker with a seat of its own, stepped until its draw answers that no
 //! playout is left ([`work`]). A *team* is the workers of one shape, each in a thread. A [`Gate`]
 //! is what a worker passes once, between its first looks and its first add; a test counts and holds
 //! workers there with a [`CountingGate`], and [`OpenGate`] holds none.
 //!
-//! **A caller** calls [`search`]. It makes the tree, splits its seat by halves until each part
-//! stands for one worker, lets each work in a thread, joins the seats and closes the tree.
+//! **A caller** calls [`search`]. It first cuts the area to what the workers can use; the closed
+//! tree is one of the whole shape. One worker has nobody to share with, and searches alone
+//! (seq_search). For more it makes the tree, splits its seat by halves until each part stands for
+//! one worker, lets each work in a thread, joins the seats and closes the tree.
 //!
 //! **Speed.** The looks at a block's children and the adds to its seen words are most of a walk,
 //! and the words of a new block come many at a time. A worker takes the walker's small machine for
@@ -16,18 +18,26 @@
 //! **What is proved.** `work` ends: each draw gives a number that its worker hasn't drawn, and a
 //! walk has a bounded number of steps. It takes no memory and never waits. `search` gives a closed
 //! tree of its shape for every number of workers, and with one the tree of the sequential search.
-//! Its only refusal is for want of memory, which is taken before any worker begins.
+//! Its only refusal is out of memory, which it takes before any worker begins, and once more if a
+//! claim passed the end of the cut area.
 //!
 //! **What is only tested, or not said.** That workers run side by side, which worker draws which
-//! number, how often and when the gate is passed, and speed.
+//! number, how often and when the gate is passed, that no claim passes the end of the cut area, and
+//! speed.
 //!
 //! **Limits.** Those of a shape: 1 to 64 workers. The threads take their stacks from the system.
 //!
 //! **Why so.**
 //!
-//! - `genmove` and mode `bench` search by a team also with one worker, whose tree is that of the
-//!   sequential definition. The plain search over a vector is that definition's program, and tests
-//!   compare the two.
+//! - One worker shares the words with nobody: `search` hands over to the sequential definition's
+//!   program, which makes no atomic operation and copies nothing back. A lone walker on the table
+//!   makes the same tree, as `work` promises, and a test compares the two. A trait by which the
+//!   walker's loops step on a table or on a vector was the other way: a plain vector has no view of
+//!   a seat, so each loop's contract would have spoken of all views that the words may have.
+//! - The area is cut before a search, since most of a short search's time went into clearing words
+//!   that it never used. How many a search can use is counted in one function (`first_words`) and
+//!   not proved: if that is too low, the search is made again with all words. What no claim reached
+//!   is 0, so the tree is the same.
 //! - No clause says that two workers run side by side: a search that lets them work one after
 //!   another makes closed trees too. So each worker passes a gate once, before its first update,
 //!   and a test hands in a gate that holds workers until the others have come.
@@ -41,13 +51,12 @@
 
 mod climbing;
 mod counting;
-mod gates;
 mod scanning;
 mod searching;
 mod working;
 mod writing;
 
 pub use counting::CountingGate;
-pub use gates::{Gate, OpenGate};
 pub use searching::search;
+pub use seq_search::{Gate, OpenGate};
 pub use working::work;

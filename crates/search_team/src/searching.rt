@@ -1,18 +1,20 @@
-//! The search of a team: one worker a thread, by halves.
+//! The search of a team: one worker alone, or one worker a thread, by halves.
 
 ghost use Rattle.std.specs.Prelude.{◌≡◌, ◌+◌, ◌≤◌, IfOk};
 ghost use Rattle.std.specs.Thread.{IsSync};
 ghost use Rattle.tree_words.specs.Sequence.{seq_of};
 ghost use Rattle.tree_words.specs.Trees.{IsTreeOf};
-ghost use Rattle.tree_words.specs.declared.settings.TheConstants.{MOST_WORKERS};
+ghost use Rattle.tree_words.specs.Words.{next_in};
+ghost use Rattle.tree_words.specs.declared.settings.TheConstants.{LEAST_WORDS, MOST_WORKERS};
 ghost use Rattle.search_team.specs.Works.{IsFresh, IsDone, WorksAsSequence};
 
-use super::gates::Gate;
 use super::working::work;
+use seq_search::{Gate, search_alone};
 use std::alloc::Global;
 use std::thread::{Threads, join};
 use tree_rule::{Tree, TreeSeat};
-use tree_words::{Closed, Memory, Shape};
+use tree_words::layout::{HEADER_WORDS, NODE_WORDS};
+use tree_words::{Closed, LEAST_WORDS, Memory, Shape};
 
 // Lets so many workers work, from the worker `first` on. The seat stands for them, and the one that
 // is given back too.
@@ -56,9 +58,55 @@ fn team<R: Threads + Sync, G: Gate + Sync>(
     left
 }
 
-/// The closed tree that the workers of the shape make together, each in a thread of its own. One
-/// worker makes the tree of the sequential search. The only refusal is for want of memory, which
-/// is taken before any worker begins.
+// The closed tree that the workers of the shape make together, over all words of the shape. One
+// worker shares them with nobody, and searches a plain vector; of more each has its own thread.
+fn search_whole<R: Threads + Sync, G: Gate + Sync>(
+    rt: &R,
+    alloc: Global,
+    shape: &Shape,
+    gate: &G,
+) -> Result<Closed, Memory>
+    ensures shape { IfOk result (λ closed. closed.shape ≡ shape.now) }
+    ensures one { shape.now.knobs.workers ≡ 1
+        → IfOk result (λ closed. IsTreeOf shape.now closed.words (seq_of shape.now).0) }
+    ensures next { shape.now.knobs.workers ≡ 1
+        → IfOk result (λ closed. next_in closed.words ≡ (seq_of shape.now).1) }
+{
+    // What each shape keeps of itself.
+    let workers = shape.knobs().workers;
+    if workers == 1 {
+        return search_alone(alloc, shape, gate);
+    }
+    let (tree, seat) = Tree::make(alloc, shape)?;
+    let seat = team(rt, &tree, seat, shape, 0, workers, gate);
+    Ok(tree.close(seat))
+}
+
+// How many words of blocks a search is given at first. A leaf is claimed once so many playouts
+// ended there as the expand number says, by each worker once at most, and no block has more nodes
+// than the board has empty cells: so no search claims more. Nothing is proved of this number but
+// its range: if it were too small, the search would be made again.
+fn first_words(shape: &Shape) -> u32
+    ensures least { LEAST_WORDS ≤ result }
+    ensures most { result ≤ shape.now.knobs.words }
+{
+    let knobs = shape.knobs();
+    let words = u64::from(knobs.words);
+    let leaves = u64::from(knobs.playouts / knobs.expand + 1);
+    let claims = (u64::from(knobs.workers) * leaves).min(words);
+    let nodes = u64::from(shape.board().empties().count());
+    let block = HEADER_WORDS as u64 + NODE_WORDS as u64 * nodes;
+    let wanted = (block * (claims + 1)).max(u64::from(LEAST_WORDS));
+    wanted.min(words) as u32
+}
+
+/// The closed tree that the workers of the shape make together, each in a thread of its own, or one
+/// worker alone in this one. One worker makes the tree of the sequential search. The only refusal
+/// is out of memory.
+///
+/// They search in a table whose area is as large as they can use, as far as is known, and all
+/// memory is taken before any worker begins. If a claim passed its end all the same, they search
+/// once more, in a table of all the shape's words, which is taken then, and pass the gate again.
 pub fn search<R: Threads + Sync, G: Gate + Sync>(
     rt: &R,
     alloc: Global,
@@ -69,9 +117,10 @@ pub fn search<R: Threads + Sync, G: Gate + Sync>(
     ensures one { shape.now.knobs.workers ≡ 1
         → IfOk result (λ closed. IsTreeOf shape.now closed.words (seq_of shape.now).0) }
 {
-    // What each shape keeps of itself.
-    let workers = shape.knobs().workers;
-    let (tree, seat) = Tree::make(alloc, shape)?;
-    let seat = team(rt, &tree, seat, shape, 0, workers, gate);
-    Ok(tree.close(seat))
+    let narrow = shape.narrowed(first_words(shape));
+    let closed = search_whole(rt, alloc, &narrow, gate)?;
+    match closed.widened(shape) {
+        Some(whole) => Ok(whole),
+        None => search_whole(rt, alloc, shape, gate),
+    }
 }

@@ -10,9 +10,9 @@ ghost use Rattle.search_team.specs.WorkLeft.{work_left};
 ghost use Rattle.search_team.specs.Works.{IsFresh, IsDone, WorksAsSequence};
 
 use super::climbing::make_seen_adds;
-use super::gates::Gate;
 use super::scanning::look_at_children;
 use super::writing::write_new_nodes;
+use seq_search::Gate;
 use tree_rule::{Tree, TreeSeat};
 use tree_words::{Op, Shape};
 use walker::Walker;

@@ -1,5 +1,5 @@
 -- What a walk adds, word by word.
-use Rattle.std.proofs.Common.{◌≡◌, ◌≢◌, ◌⊎◌, ℕ, ◌+◌, ◌<◌, Bool, true, false, cond, List, length, set as set_at, length-set, get_or-set_same, get_or-set_other, slice_index, sym, ap, ◌∙◌, subst, ⊎_elim, arith}
+use Rattle.std.proofs.Common.{◌≡◌, ◌≢◌, ◌⊎◌, ℕ, ◌+◌, ◌<◌, true, cond, List, length, set as set_at, length-set, get_or-set_same, get_or-set_other, slice_index, sym, ap, ◌∙◌, subst, ⊎_elim, arith}
 use Rattle.hex_cells.specs.Sets.{has as has_cell}
 use Rattle.hex_cells.specs.declared.colours.Colour.{Colour}
 use Rattle.tree_words.specs.Words.{cell_in, root_at, tally_in, seen_in, node_at}
@@ -22,34 +22,17 @@ module _ (b n set amount : ℕ) (before now : List ℕ) (s : Sighted b n set amo
   pub sighted-word : slice_index now (node_at b n + 3) ≡ slice_index before (node_at b n + 3)
   sighted-word = s.others (node_at b n + 3) (λ k l e. omega arith)
 
-  -- the next node is not seen
-  pub sighted-past : has_cell set (cell_in (slice_index before (node_at b n))) ≡ false → Sighted b (n + 1) set amount before now
-  sighted-past h = record {
-    long = s.long;
-    seen = λ k l. ⊎_elim (λ (m : k < n). s.seen k m)
-        (λ (e : k ≡ n). ap (λ (j : ℕ). slice_index now (node_at b j + 3)) e ∙ sighted-word ∙ sym (plain (slice_index before (node_at b n + 3)) (has_cell set (cell_in (slice_index before (node_at b n)))) h)
-        ∙ sym (ap (λ (j : ℕ). slice_index before (node_at b j + 3) + cond (has_cell set (cell_in (slice_index before (node_at b j)))) amount 0) e))
-        (last k l);
-    others = λ i h'. s.others i (λ k l. h' k (omega (arith, l)));
-  }
-    where
-      last : (k : ℕ) → k < n + 1 → (k < n) ⊎ (k ≡ n)
-      last k l = grind arith
-
-      plain : (v : ℕ) (t : Bool) → t ≡ false → v + cond t amount 0 ≡ v
-      plain v t e = ap (λ (u : Bool). v + cond u amount 0) e ∙ (let z : v + 0 ≡ v = omega arith in z)
-
-  -- or it is seen
-  pub sighted-next : has_cell set (cell_in (slice_index before (node_at b n))) ≡ true → node_at b n + 3 < length before → (after : List ℕ)
-      → after ≡ set_at now (node_at b n + 3) (slice_index now (node_at b n + 3) + amount) → Sighted b (n + 1) set amount before after
-  sighted-next h l after is =
+  -- the next node gains the amount where its cell is in the set, and else nothing
+  pub sighted-next : (gain : ℕ) → gain ≡ cond (has_cell set (cell_in (slice_index before (node_at b n)))) amount 0 → node_at b n + 3 < length before → (after : List ℕ)
+      → after ≡ set_at now (node_at b n + 3) (slice_index now (node_at b n + 3) + gain) → Sighted b (n + 1) set amount before after
+  sighted-next gain h l after is =
       let j : ℕ = node_at b n + 3 in
-      let v : ℕ = slice_index now j + amount in
+      let v : ℕ = slice_index now j + gain in
       let lj : j < length now = omega (arith, l, s.long) in
       let other : (i : ℕ) → i ≢ j → slice_index after i ≡ slice_index now i = λ i ne. ap (λ (w : List ℕ). slice_index w i) is ∙ get_or-set_other now j i v 0 ne in
       let same : slice_index after j ≡ v = ap (λ (w : List ℕ). slice_index w j) is ∙ get_or-set_same now j v 0 lj in
       let seen : slice_index after j ≡ slice_index before j + cond (has_cell set (cell_in (slice_index before (node_at b n)))) amount 0
-      = same ∙ ap (λ (w : ℕ). w + amount) sighted-word ∙ sym (ap (λ (u : Bool). slice_index before j + cond u amount 0) h) in
+      = same ∙ (λ i. sighted-word i + h i) in
       record {
         long = ap length is ∙ length-set now j v ∙ s.long;
         seen = λ k lk. ⊎_elim (λ (m : k < n). other (node_at b k + 3) (λ e. omega (arith, m, e)) ∙ s.seen k m)

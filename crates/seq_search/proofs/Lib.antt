@@ -1,6 +1,6 @@
--- How to read the proof of `seq_search::plain_search`: the search of one worker makes the tree of
+-- How to read the proof of `seq_search::search_alone`: the search of one worker makes the tree of
 -- Seq.
--- 1. What is claimed: src/search.rt, `plain_search`; in tree_words specs/Walks.antt (a tree, and
+-- 1. What is claimed: src/search.rt, `search_alone`; in tree_words specs/Walks.antt (a tree, and
 --    one walk on it), Sequence.antt (`seq_of`), Trees.antt (`IsTreeOf`), Closing.antt (`IsClosed`)
 --    with Complete, Records, Counts and Growth.
 -- 2. What stands between the steps of a search: in seq_search specs/Steps.antt (`Holds`: the words
@@ -15,7 +15,7 @@
 --    src/adding.rt with Additions, Paces and Recordings.
 -- 5. All walks: proofs/Openers (the opening words), Standings and Turns (what k walks leave, and
 --    one more), Searches (`searched-opening`, `searched-more`, `searched-closed`), and
---    src/search.rt with the answers of `walk`, `make_walks` and `plain_search`.
+--    src/search.rt with the answers of `walk`, `make_walks` and `search_alone`.
 
 -- Steps of this crate's own proofs.
 mod Ways

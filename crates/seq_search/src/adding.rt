@@ -1,7 +1,8 @@
 //! What a walk adds: its playout's result to the counts and to the records.
 
 ghost use Rattle.std.specs.Prelude.{◌≡◌, ℕ, ◌+◌, ◌*◌, ◌^◌, ◌≤◌, ◌<◌, length, set, slice_index};
-ghost use Rattle.std.specs.Prelude.{List};
+ghost use Rattle.std.specs.Prelude.{List, if◌then◌else◌};
+ghost use Rattle.hex_cells.specs.Sets.{has as has_cell};
 ghost use Rattle.hex_cells.specs.declared.colours.Colour.TheVariants.{White};
 ghost use Rattle.hex_cells.specs.Colours.{is_same};
 ghost use Rattle.tree_words.specs.Blocks.{LinkedBlock, one_if, block_size};
@@ -37,6 +38,15 @@ fn gain(words: &mut [u64], node: usize, amount: u64)
     words[node + TALLY_WORD] += amount;
 }
 
+// What a node with this cell gains: the second if the cell is in the set, and else the first.
+#[inline(always)]
+fn gain_at(gains: &[u64; 2], cell: Cell, set: CellSet) -> u64
+    ensures { result
+        ≡ (if has_cell set cell then slice_index gains.now 1 else slice_index gains.now 0) }
+{
+    gains[usize::from(set.has(cell))]
+}
+
 // Adds to the seen word of each node of the block whose cell is in the set.
 fn see(words: &mut [u64], block: usize, stones: CellSet, amount: u64)
     requires within { block + block_size (nodes_in words.old block) ≤ length words.old }
@@ -46,12 +56,13 @@ fn see(words: &mut [u64], block: usize, stones: CellSet, amount: u64)
         → slice_index words.old (node_at block k + SEEN_WORD) + amount < 2 ^ 64 }
     ensures { Sighted block (nodes_in words.old block) stones amount words.old words.new }
 {
+    // Which cells are in the set can't be guessed, so a table stands for the branch, and 0 is added
+    // if nothing is gained.
+    let gains = [0, amount];
     let count = words[block + COUNT_WORD] as usize;
     'nodes: for place in 0..count {
         let at = block + HEADER_WORDS + NODE_WORDS * place;
-        if stones.has(Cell::numbered(cell_of(words[at]))) {
-            words[at + SEEN_WORD] += amount;
-        }
+        words[at + SEEN_WORD] += gain_at(&gains, Cell::numbered(cell_of(words[at])), stones);
     }
 }
 

@@ -36,15 +36,9 @@ pub(crate) struct Descent {
 }
 
 impl Descent {
-    // At the root.
-    fn begin(shape: &Shape) -> Descent
-        ensures board { result.board ≡ shape.now.board }
-        ensures player { result.player ≡ shape.now.player }
-        ensures node { result.node ≡ root_at shape.now }
-        ensures count { result.count ≡ 0 }
-        ensures room { HasRoom result }
-        ensures setting { IsSetting shape.now }
-    {
+    /// One at the root of the shape's tree. All walks of a search use it in turn, so that no steps
+    /// are copied, and no room for them is cleared again.
+    pub(crate) fn new(shape: &Shape) -> Descent {
         Descent {
             board: *shape.board(),
             player: shape.colour(),
@@ -52,6 +46,21 @@ impl Descent {
             steps: [0; MOST_STEPS],
             count: 0,
         }
+    }
+
+    // Goes back to the root.
+    fn begin(&mut self, shape: &Shape)
+        ensures board { self.new.board ≡ shape.now.board }
+        ensures player { self.new.player ≡ shape.now.player }
+        ensures node { self.new.node ≡ root_at shape.now }
+        ensures count { self.new.count ≡ 0 }
+        ensures room { HasRoom self.new }
+        ensures setting { IsSetting shape.now }
+    {
+        self.board = *shape.board();
+        self.player = shape.colour();
+        self.node = shape.knobs().playouts as usize + RECORDS_AT;
+        self.count = 0;
     }
 
     // Goes on to a child of the node.
@@ -75,16 +84,15 @@ impl Descent {
     }
 }
 
-/// The walk from the root to its leaf: at each node with a block it goes to the child that Choice
-/// takes.
-pub(crate) fn descend(words: &[u64], shape: &Shape) -> Descent
+/// Walks from the root to a leaf: at each node with a block it goes to the child that Choice takes.
+pub(crate) fn descend(words: &[u64], shape: &Shape, walk: &mut Descent)
     requires { (bs : List LinkedBlock) × (k : ℕ) × (k ≤ shape.now.knobs.playouts)
         × Holds shape.now bs words.now k }
     ensures leaf { (bs : List LinkedBlock) (k : ℕ) → k ≤ shape.now.knobs.playouts
-        → Holds shape.now bs words.now k → Descended shape.now bs words.now result }
+        → Holds shape.now bs words.now k → Descended shape.now bs words.now walk.new }
 {
     let weight = shape.knobs().weight;
-    let mut walk = Descent::begin(shape);
+    walk.begin(shape);
     let mut block = words[walk.node + LINK_WORD] as usize;
     'down: while block != 0 {
         let visits = visits_of(words[walk.node + TALLY_WORD]);
@@ -92,5 +100,4 @@ pub(crate) fn descend(words: &[u64], shape: &Shape) -> Descent
         walk.step(words, block + HEADER_WORDS + NODE_WORDS * place);
         block = words[walk.node + LINK_WORD] as usize;
     }
-    walk
 }

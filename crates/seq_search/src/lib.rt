@@ -1,4 +1,5 @@
-//! The search of one worker, over a plain vector of words: the definition's plain program.
+//! The search of one worker, over a plain vector of words: the definition's plain program, and what
+//! a team of one runs.
 //!
 //! **Nouns.** A *walk* goes from the root down to a *leaf*, a node without a block: at each node
 //! with a block to the child that Choice takes. If the leaf has as many visits as the expand number
@@ -7,13 +8,17 @@
 //! of each node on the way, to the seen word of each node of their blocks whose cell holds a stone
 //! of its mover, and the playout's record.
 //!
-//! **A caller** makes a `Shape` and calls [`plain_search`]: `plain_search(rt.alloc(), &shape)?`.
+//! A [`Gate`] is what a worker passes once, between its first looks and its first add.
+//!
+//! **A caller** makes a `Shape` and calls [`search_alone`] with a gate, or [`plain_search`]:
+//! `plain_search(rt.alloc(), &shape)?`.
 //!
 //! **What is proved.** The answer has this shape, it is a closed tree, as its type keeps, and the
 //! tree that its words show is that of the sequential search: the fold of one walk over all playout
 //! numbers, which has no words, links or blocks. The only refusal is `Memory`.
 //!
-//! **What is only tested, or not said.** Speed. That the vector gets its memory.
+//! **What is only tested, or not said.** Speed, and that the gate is passed once. That the vector
+//! gets its memory.
 //!
 //! **How it is proved.** The words are read as a list of linked blocks, and one walk on these
 //! blocks is one walk on the tree. `specs/` says what stands between the steps of a walk: `Holds`
@@ -27,13 +32,19 @@
 //! - After a new block a walk looks for its leaf again from the root. It could go on from the old
 //!   leaf; that costs one descent for each block made, which are few, and the code and its proof
 //!   have one way down.
+//! - A node's seen word is added to also if the add is 0: whether a cell of the full board has a
+//!   stone of the mover can't be guessed, so a branch would be taken wrongly at every other node.
+//! - All walks of a search use one record of their way in turn, since to clear and to copy one for
+//!   each walk took a twelfth of the time.
 #![tactic(auto)]
 
 mod adding;
 mod choosing;
 mod descending;
 mod expanding;
+mod gates;
 mod reaching;
 mod search;
 
-pub use search::plain_search;
+pub use gates::{Gate, OpenGate};
+pub use search::{plain_search, search_alone};

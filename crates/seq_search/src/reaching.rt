@@ -6,18 +6,17 @@ use super::descending::{Descent, descend};
 use super::expanding::expand;
 use tree_words::Shape;
 
-/// The walk down to its leaf. Where that asks for a block it gets it first, and the walk goes on to
-/// a child.
-pub(crate) fn reach(words: &mut [u64], shape: &Shape) -> Descent
+/// Walks down to a leaf. Where that asks for a block it gets it first, and the walk goes on to a
+/// child.
+pub(crate) fn reach(words: &mut [u64], shape: &Shape, walk: &mut Descent)
     requires { HoldsRooted shape.now words.old }
-    ensures { ReachesLeaf shape.now words.old words.new result }
+    ensures { ReachesLeaf shape.now words.old words.new walk.new }
 {
     // What each shape keeps of itself.
     let _board = shape.board();
-    let walk = descend(words, shape);
+    descend(words, shape, walk);
     if expand(words, shape, walk.node, &walk.board) {
         // A new block changes no count on the way, so this comes to the same node first.
-        return descend(words, shape);
+        descend(words, shape, walk);
     }
-    walk
 }

@@ -9,7 +9,7 @@ use Rattle.tree_words.proofs.Blocks.BlockLaws.{root_node}
 use Rattle.trace_audit.specs.declared.sites.Table.{Table}
 use Rattle.trace_audit.specs.Tables.{IsInLastBlock, Scanned}
 use Rattle.trace_audit.proofs.Scanning.{advance, scan_none}
-use Rattle.trace_audit.proofs.WordBytes.{none_left}
+use Rattle.tree_words.proofs.Areas.CutAreas.{none_left}
 
 module _ (s : Setting) (words : List ℕ) (h : IsSetting s) (root : ℕ) (at : root ≡ root_at s) where
   pub first_scan : (t : Table) (n : ℕ) → n ≡ end_of s → t.index ≡ replicate n 0 → t.sites.items ≡ [] → t.others ≡ 0 → Scanned s words t root (root + 4) []

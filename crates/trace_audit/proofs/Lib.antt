@@ -20,8 +20,9 @@
 --    not), HandedAll, HandingSteps.
 -- 5. The points of a closed tree: src/counts.rt, ends.rt and growth.rt; specs/Points.antt;
 --    proofs/InBlock, Verifying (what the tests of all sites say of the blocks). Then all texts:
---    proofs/TextLists. A text's tree is audited with an area that ends with its words:
---    specs/Texts.antt (`IsCut`), proofs/CutAreas (it fails if the whole tree does) and CutTexts.
+--    proofs/TextLists. A text's tree is audited with an area that ends with its words: `IsCut`
+--    and its laws of tree_words (specs/Areas.antt, proofs/Areas/CutAreas), proofs/CutAreas (it
+--    fails if the whole tree does) and CutTexts.
 -- 6. The laws, in src/laws.rt: that a closed tree's text tells a closed tree, proofs/SameWords,
 --    Reading, TracesTold; that bytes have one verdict, OneList (what holds of one list of blocks
 --    that the words link holds of another), OneGrown (growth by one list of blocks is growth by

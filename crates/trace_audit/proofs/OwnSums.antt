@@ -26,7 +26,7 @@ use Rattle.trace_audit.specs.Sums.{AreOwn, Counts, HaveCounts, IsFullBoard, choo
 use Rattle.trace_audit.proofs.Downward.{parent_low}
 use Rattle.trace_audit.proofs.Gained.{counts_gained, gained_move, head_apart, node_inside, own_node}
 use Rattle.trace_audit.proofs.Sums.{IsSmall, one_word, tally_next, tally_small, word_of, word_small}
-use Rattle.trace_audit.proofs.WordBytes.{none_left}
+use Rattle.tree_words.proofs.Areas.CutAreas.{none_left}
 
 -- no playout
 pub own_none : (s : Setting) (bs : List LinkedBlock) (words sums : List ℕ) (n : ℕ) → n ≡ end_of s → sums ≡ replicate n 0 → AreOwn s bs words sums 0

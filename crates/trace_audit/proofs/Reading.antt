@@ -12,7 +12,7 @@ use Rattle.tree_words.specs.Words.{next_in, area_at}
 use Rattle.trace_audit.specs.Traces.{bytes_of, fields_of, trace_text, written_count}
 use Rattle.trace_audit.specs.Told.{AreWords, TellsClosed}
 use Rattle.trace_audit.proofs.SameWords.{closed_same, front_below}
-use Rattle.trace_audit.proofs.WordBytes.{none_left}
+use Rattle.tree_words.proofs.Areas.CutAreas.{none_left}
 
 -- the first q words, and 0 in place of the others
 abbrev read_back : List ℕ → ℕ → List ℕ

@@ -5,7 +5,7 @@ use Rattle.std.proofs.lemmas.Bool.{cases_eq, eq-eqb, ne_eqb}
 use Rattle.std.proofs.lemmas.Grind.{same_number_lists}
 use Rattle.std.proofs.lemmas.List.{length-replicate}
 use Rattle.trace_audit.specs.Slots.{AreSlots, IsNearTaken, entries_from, entry_in}
-use Rattle.trace_audit.proofs.WordBytes.{none_left}
+use Rattle.tree_words.proofs.Areas.CutAreas.{none_left}
 
 pub entries_long : (i n : ℕ) (slots : List ℕ) → length (entries_from i n slots) ≡ n
 unfolding entries_from

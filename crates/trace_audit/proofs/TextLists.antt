@@ -7,7 +7,8 @@ use Rattle.std.proofs.Math.Seq.{drop-length, take-length}
 use Rattle.tree_words.specs.Closing.{ClosedTree, IsClosed}
 use Rattle.trace_audit.specs.Traces.{trace_text}
 use Rattle.trace_audit.specs.Told.{IsReadTree}
-use Rattle.trace_audit.specs.Texts.{IsText, all_words, closed_tree_of}
+use Rattle.tree_words.specs.Areas.{all_words}
+use Rattle.trace_audit.specs.Texts.{IsText, closed_tree_of}
 use Rattle.trace_audit.specs.Verdicts.{AreTexts, BeginsWithTree, FailsFirst, HasFlaw}
 use Rattle.trace_audit.specs.declared.parsing.Text.{Text}
 use Rattle.trace_audit.specs.declared.types.Flaw.{Flaw}

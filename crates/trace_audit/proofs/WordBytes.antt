@@ -1,6 +1,5 @@
 -- Words as bytes: read one by one, and told by their bytes.
 use Rattle.std.proofs.Common.{◌≡◌, ℕ, zero, suc, ◌+◌, ◌*◌, ◌<◌, ◌^◌, List, [], ◌∷◌, ◌++◌, length, take, drop, set, replicate, refl, sym, ap, ◌∙◌, arith, append_assoc, length-append}
-use Rattle.std.specs.Prelude.{slice_index}
 use Rattle.std.specs.Int.{w64, to_le_bytes, from_le_bytes}
 use Rattle.std.proofs.Math.Seq.{take-add}
 use Rattle.std.proofs.lemmas.List.{take_more_set, append-nil, drop-drop, append_cancel_left}
@@ -68,8 +67,3 @@ pub no_words : (n : ℕ) → AreWords (replicate n 0)
 no_words zero k = omega arith
 no_words (suc n) zero = omega arith
 no_words (suc n) (suc k) = no_words n k
-
-pub none_left : (n i : ℕ) → slice_index (replicate n 0) i ≡ 0
-none_left zero i = refl
-none_left (suc n) zero = refl
-none_left (suc n) (suc i) = none_left n i

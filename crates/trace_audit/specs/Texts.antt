@@ -1,9 +1,9 @@
 -- Words and texts in bytes. No clause of a public call cites this.
-use Rattle.std.specs.Prelude.{◌≡◌, ℕ, ◌+◌, ◌-◌, ◌*◌, ◌≤◌, List, ◌++◌, length, min, take, drop}
-use Rattle.std.specs.Prelude.{replicate, codes}
+use Rattle.std.specs.Prelude.{◌≡◌, ℕ, ◌+◌, ◌*◌, ◌≤◌, List, ◌++◌, length, take, drop, codes}
+use Rattle.tree_words.specs.Areas.{IsCut, all_words}
 use Rattle.tree_words.specs.Closing.{ClosedTree}
 use Rattle.tree_words.specs.Settings.{Setting, IsSetting}
-use Rattle.tree_words.specs.Words.{area_at, end_of, next_in}
+use Rattle.tree_words.specs.Words.{area_at, end_of}
 use Rattle.trace_audit.specs.Traces.{bytes_of, fields_of, trace_text}
 use Rattle.trace_audit.specs.Told.{AreWords, IsReadTree}
 use Rattle.trace_audit.specs.Verdicts.{BeginsWithTree}
@@ -49,22 +49,6 @@ pub record IsFront (bytes : List ℕ) (s : Setting) (count : ℕ) : Type 0 where
   pub least : area_at s ≤ count
   pub most : count ≤ end_of s
   pub long : FRONT_BYTES + WORD_BYTES * count ≤ length bytes
-
--- the shape with an area of so many words
-abbrev pub with_area : Setting → ℕ → Setting
-with_area s words = record s { knobs = record s.knobs { words = words } }
-
--- The shape c is that of s with an area that may end earlier, but not before all words are in front
--- of its end that are written, and these words are those up to there.
-pub record IsCut (s : Setting) (words : List ℕ) (c : Setting) : Type 0 where
-  pub area : c ≡ with_area s c.knobs.words
-  pub long : length words ≡ end_of c
-  pub less : end_of c ≤ end_of s
-  pub enough : min (next_in words) (end_of s) ≤ end_of c
-
--- all words of a tree of this shape, where these are the first and the others are 0
-abbrev pub all_words : Setting → List ℕ → List ℕ
-all_words s words = words ++ replicate (end_of s - length words) 0
 
 -- the tree of what was read
 abbrev pub closed_tree_of : Text → ClosedTree

@@ -4,7 +4,8 @@ ghost use Rattle.std.specs.Prelude.{◌≡◌, ℕ, ◌+◌, ◌*◌, ◌<◌, �
 ghost use Rattle.std.specs.Prelude.{length, slice_index, take, drop};
 ghost use Rattle.std.specs.Int.{w64, to_le_bytes};
 ghost use Rattle.trace_audit.specs.Texts.{AreFields, IsFront, IsText, LacksFields, MayFollow};
-ghost use Rattle.trace_audit.specs.Texts.{BeginsWithNoTree, StandAt, with_area};
+ghost use Rattle.trace_audit.specs.Texts.{BeginsWithNoTree, StandAt};
+ghost use Rattle.tree_words.specs.Areas.{with_area};
 ghost use Rattle.tree_words.specs.Words.{area_at, end_of};
 ghost use Rattle.trace_audit.specs.Told.{AreWords};
 

@@ -13,3 +13,4 @@ pub mod Blocks
 pub mod Boards
 pub mod NewBlocks
 pub mod Walks
+pub mod Areas

@@ -15,3 +15,4 @@ pub mod Opening
 pub mod Roots
 pub mod Writing
 pub mod Told
+pub mod Areas

@@ -5,27 +5,30 @@
 //! the player to move, the cells that he may play, and the knobs. A *word* is a `u64` of the tree's
 //! table. A *node* has four words: move, link, tally and seen. A *block* has the children of a
 //! node, behind a header of four words. A *record* has the leaf and the result of a playout. A
-//! [`Closed`] tree is a shape with its words, all playouts made. [`types`] has the fields of a node
+//! [`Closed`] tree is a shape with its words, all playouts made. It may hold the *first words*
+//! alone, with all that were written: those behind them are 0. [`types`] has the fields of a node
 //! and of a header.
 //!
 //! **A caller** makes a [`Shape`], searches, and asks of the [`Closed`] tree the [`best`] cell or a
 //! [`report`] of all. A search begins with the opening words, which [`make_opening`] gives, and
 //! writes a new block by [`write_block`]. A reader of words takes them apart by [`node`] and
-//! [`block`]; [`layout`] says where each part stands. [`Op`] names the steps of a worker.
+//! [`block`]; [`layout`] says where each part stands. [`Op`] names the steps of a worker. A search
+//! that needs few words of its area is made for the shape with fewer ([`Shape::narrowed`]), and its
+//! tree is then one of the whole shape ([`Closed::widened`]).
 //!
 //! **What is proved.** A closed tree keeps what its name says: complete blocks that share no word,
 //! a right record of each playout, exact counts, bounds of growth. `best` is the root's child with
 //! most visits and of these the least cell, and `report` has a row for each in rising order of
-//! cells. Each reading gives the fields of the layout, and each write the words of its block and no
-//! others. Laws say that the opening words are a function of the setting
-//! ([`opening_words_are_told`]), that a link and its node's board tell the linked block
-//! ([`told_blocks_are_linked`]), and that words show one tree ([`words_show_one_tree`]). The
-//! definitions in `specs/` are what the crates above are proved against: the layout, the tree that
-//! words show, and the search of one worker.
+//! cells. A tree that is widened has the same words, and zeros behind them. Each reading gives the
+//! fields of the layout, and each write the words of its block and no others. Laws say that the
+//! opening words are a function of the setting ([`opening_words_are_told`]), that a link and its
+//! node's board tell the linked block ([`told_blocks_are_linked`]), and that words show one tree
+//! ([`words_show_one_tree`]). The definitions in `specs/` are what the crates above are proved
+//! against: the layout, the tree that words show, and the search of one worker.
 //!
 //! **Where to look.** specs/ has the layout (Settings, Words, Blocks, Writing, Opening), the closed
-//! tree (Paths, Complete, Records, Counts, Growth, Closing, Roots, Told) and the walk (Trees,
-//! Walks, Sequence, Descents). proofs/ has a folder for each kind of law.
+//! tree (Paths, Complete, Records, Counts, Growth, Closing, Roots, Told, Areas) and the walk
+//! (Trees, Walks, Sequence, Descents). proofs/ has a folder for each kind of law.
 //!
 //! **What is only tested, or not said.** How strong a tree plays; that `report` and `make_opening`
 //! get their memory.

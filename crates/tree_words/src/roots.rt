@@ -1,7 +1,8 @@
 //! The root's children: the best one, and a report of all.
 
-ghost use Rattle.std.specs.Prelude.{◌≡◌, ◌+◌, ◌*◌, ◌<◌, ◌≤◌, IfOk};
+ghost use Rattle.std.specs.Prelude.{◌≡◌, ◌+◌, ◌*◌, ◌^◌, ◌<◌, ◌≤◌, IfOk};
 ghost use Rattle.std.specs.Prelude.{IsTrue, ◌↔◌};
+ghost use Rattle.tree_words.specs.Growth.{root_end};
 ghost use Rattle.tree_words.specs.Roots.{HasRoot, IsBest, root_count, root_link, row_at, rows_of};
 ghost use Rattle.tree_words.specs.Roots.{Beats, Rise};
 
@@ -36,16 +37,19 @@ impl Closed {
         ensures root { HasRoot self.now.shape self.now.words }
     {
         let link = self.root_link();
-        self.words()[link + COUNT_WORD] as usize
+        self.word(link + COUNT_WORD) as usize
     }
 
     // The first word of the root's block.
     fn root_link(&self) -> usize
         ensures value { result ≡ root_link self.now.shape self.now.words }
         ensures root { HasRoot self.now.shape self.now.words }
+        ensures range { root_end self.now.shape self.now.words < 2 ^ 32 }
     {
+        // What the tree keeps of its words.
+        let _words = self.words();
         let root = self.shape().knobs().playouts as usize + RECORDS_AT;
-        self.words()[root + LINK_WORD] as usize
+        self.word(root + LINK_WORD) as usize
     }
 
     // The row of the root's child of a place.
@@ -53,11 +57,10 @@ impl Closed {
         requires { place < root_count self.now.shape self.now.words }
         ensures { result ≡ row_at self.now.shape self.now.words place }
     {
-        let words = self.words();
         let at = self.root_link() + HEADER_WORDS + NODE_WORDS * place;
-        let tally = words[at + TALLY_WORD];
+        let tally = self.word(at + TALLY_WORD);
         Row {
-            cell: Cell::numbered(cell_of(words[at])),
+            cell: Cell::numbered(cell_of(self.word(at))),
             visits: visits_of(tally),
             wins: wins_of(tally),
         }

@@ -1,9 +1,11 @@
 //! The shape of a tree: what it is searched for.
 
-ghost use Rattle.std.specs.Prelude.{◌≡◌};
+ghost use Rattle.std.specs.Prelude.{◌≡◌, ◌≤◌};
 ghost use Rattle.hex_board.specs.Positions.{AllEmpty};
+ghost use Rattle.tree_words.specs.Areas.{IsNarrower, with_area};
 ghost use Rattle.tree_words.specs.Settings.{AreInRange, IsAny, IsSetting};
 ghost use Rattle.tree_words.specs.Words.{end_of};
+ghost use Rattle.tree_words.specs.declared.settings.TheConstants.{LEAST_WORDS};
 
 use super::layout::FRONT_WORDS;
 use super::settings::Knobs;
@@ -104,6 +106,20 @@ impl Shape {
         ensures ranges { AreInRange result.now }
     {
         &self.knobs
+    }
+
+    /// The shape with an area of so many words, which are at most its own.
+    pub fn narrowed(&self, words: u32) -> Shape
+        requires least { LEAST_WORDS ≤ words }
+        requires most { words ≤ self.now.knobs.words }
+        ensures value { result ≡ with_area self.now words }
+        ensures narrower { IsNarrower result self.now }
+    {
+        let knobs = Knobs {
+            words,
+            ..*self.knobs()
+        };
+        Shape::make(self.board(), self.colour(), self.allowed(), &knobs)
     }
 
     /// The number of words of the tree: one for NEXT, one for TICKET, one for each record, four for

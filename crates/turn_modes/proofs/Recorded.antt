@@ -1,13 +1,14 @@
 -- No record word of a closed tree is 0.
-use Rattle.std.proofs.Common.{◌≡◌, ℕ, zero, suc, ◌+◌, ◌-◌, ◌/◌, ◌<◌, ◌≤◌, ◌==◌, not, Bool, true, List, length, take, drop, get_or, refl, sym, ap, ◌∙◌, ⊎_elim, arith}
+use Rattle.std.proofs.Common.{◌≡◌, ℕ, zero, suc, ◌+◌, ◌-◌, ◌/◌, ◌<◌, ◌≤◌, ◌==◌, not, Bool, true, List, length, take, drop, replicate, get_or, refl, sym, ap, ◌∙◌, ⊎_elim, arith}
 use Rattle.std.specs.Prelude.{slice_range}
 use Rattle.std.specs.List.{count_by}
 use Rattle.std.proofs.Math.Seq.{take-length}
 use Rattle.std.proofs.lemmas.Bool.{ne_eqb}
-use Rattle.std.proofs.lemmas.List.{length-take-le, length-drop, get_or-take, get_or-drop}
+use Rattle.std.proofs.lemmas.List.{length-take-le, length-drop, take-append-le, drop-append-le, get_or-take, get_or-drop}
 use Rattle.std.proofs.lemmas.List.Sums.{count_by_more_yes}
 use Rattle.tree_words.specs.Settings.{Setting}
-use Rattle.tree_words.specs.Words.{root_at, area_at, record_in, next_in}
+use Rattle.tree_words.specs.Words.{root_at, area_at, end_of, record_in, next_in}
+use Rattle.tree_words.specs.Areas.{all_words}
 use Rattle.tree_words.specs.Closing.{IsClosed}
 use Rattle.tree_words.specs.Records.{leaf_of}
 use Rattle.tree_words.proofs.Blocks.NodeLaws.{node-lies}
@@ -41,3 +42,10 @@ all_recorded s words closed =
     ap (λ m. count_by (λ word. not (word == 0)) (take m (drop 2 words))) width
     ∙ ap (count_by (λ word. not (word == 0))) (sym (take-length front))
     ∙ all_pass (λ word. not (word == 0)) front (length front) (omega arith) each ∙ many
+
+-- a range of the first words is one of all words
+pub first_range : (s : Setting) (words : List ℕ) (i j : ℕ) → i ≤ j → j ≤ length words → slice_range (all_words s words) i j ≡ slice_range words i j
+first_range s words i j l h =
+    let zeros : List ℕ = replicate (end_of s - length words) 0 in
+    ap (take (j - i)) (drop-append-le i words zeros (omega (arith, l, h)))
+    ∙ take-append-le (j - i) (drop i words) zeros (omega (arith, length-drop i words, h))

@@ -1,20 +1,28 @@
-use Rattle.std.proofs.Common.{◌≡◌, ◌+◌, ◌<◌, ℕ, List, slice_index, length, sym, ap, ◌∙◌, subst, arith}
+use Rattle.std.proofs.Common.{◌≡◌, ◌+◌, ◌<◌, ◌≤◌, ℕ, Bool, true, false, cond, slice_index, length, refl, ap, ◌∙◌, arith}
 use Rattle.hex_cells.specs.Sets.{has as has_cell}
 use Rattle.tree_words.specs.Words.{cell_in, node_at}
-use Rattle.seq_search.specs.Adding.{Sighted}
-use Rattle.seq_search.proofs.Additions.{sighted-move, sighted-past, sighted-next}
+use Rattle.seq_search.proofs.Additions.{sighted-move, sighted-word, sighted-next}
 use Rattle.seq_search.proofs.adding.see.Goals as goal
-use Rattle.seq_search.proofs.adding.see.Goals.{then-has, else-has}
+
+-- no gain is more than the amount
+at-most : (t : Bool) (amount : ℕ) → cond t amount 0 ≤ amount
+at-most true amount = omega arith
+at-most false amount = omega arith
+
+pub overflow_add-words : goal.overflow_add-words
+overflow_add-words c =
+    let b : ℕ = c.args.block in let n : ℕ = c.nodes.place in
+    let same = sighted-word b n c.args.stones c.args.amount c.args.words.now c.nodes.words c.nodes.invariant in
+    let room = c.requires.small n c.nodes-test.true in
+    let gain = at-most (has_cell c.args.stones c.numbered.result) c.args.amount in
+    omega (arith, same, room, c.gain_at.ensures, gain)
 
 pub nodes-preserved : goal.nodes-preserved
 nodes-preserved c =
     let b : ℕ = c.args.block in let n : ℕ = c.nodes.place in
     let cell : c.numbered.result ≡ cell_in (slice_index c.args.words.now (node_at b n))
     = c.numbered.ensures ∙ c.cell_of.ensures ∙ ap cell_in (sighted-move b n c.args.stones c.args.amount c.args.words.now c.nodes.words c.nodes.invariant) in
-    let is : c.has.result ≡ has_cell c.args.stones (cell_in (slice_index c.args.words.now (node_at b n))) = c.has.ensures ∙ ap (has_cell c.args.stones) cell in
+    let is : c.gain_at.result ≡ cond (has_cell c.args.stones (cell_in (slice_index c.args.words.now (node_at b n)))) c.args.amount 0
+    = c.gain_at.ensures ∙ ap (λ (x : ℕ). cond (has_cell c.args.stones x) c.args.amount 0) cell in
     let fits : node_at b n + 3 < length c.args.words.now = omega (arith, c.requires.within, c.nodes-test.true) in
-    elim c.if-has.branch [
-      | then-has w ↦ sighted-next b n c.args.stones c.args.amount c.args.words.now c.nodes.words c.nodes.invariant (sym is ∙ w.if-has.true) fits c.if-has.words w.words-is
-      | else-has w ↦ subst (λ (l : List ℕ). Sighted b (n + 1) c.args.stones c.args.amount c.args.words.now l) (sym w.words-is)
-          (sighted-past b n c.args.stones c.args.amount c.args.words.now c.nodes.words c.nodes.invariant (sym is ∙ w.if-has.false))
-    ]
+    sighted-next b n c.args.stones c.args.amount c.args.words.now c.nodes.words c.nodes.invariant c.gain_at.result is fits _ refl

@@ -2,4 +2,4 @@ use Rattle.seq_search.specs.Searching.{Searched}
 use Rattle.seq_search.proofs.search.make_walks.Given as goal
 
 abbrev pub invariant-loop-k : goal.invariant-loop-k
-invariant-loop-k l = Searched l.shape l.words l.k
+invariant-loop-k g l = Searched l.shape l.words l.k

@@ -2,7 +2,8 @@ use Rattle.std.proofs.Common.{ℕ, ◌+◌, List, drop, length-drop, refl, subst
 use Rattle.tree_words.specs.Closing.{ClosedTree}
 use Rattle.trace_audit.specs.Texts.{IsText, closed_tree_of}
 use Rattle.trace_audit.specs.Verdicts.{BeginsWithTree}
-use Rattle.trace_audit.proofs.CutAreas.{cut_fails, cut_closed}
+use Rattle.tree_words.proofs.Areas.CutAreas.{cut_closed}
+use Rattle.trace_audit.proofs.CutAreas.{cut_fails}
 use Rattle.trace_audit.proofs.Matches.{if_none, if_some}
 use Rattle.trace_audit.proofs.TextLists.{bad_form, flaw_is, rest_all, text_stands, texts_more}
 use Rattle.trace_audit.proofs.auditing.audit.Goals as goal

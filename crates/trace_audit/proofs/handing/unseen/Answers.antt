@@ -3,7 +3,7 @@ use Rattle.std.proofs.lemmas.List.{length-replicate}
 use Rattle.tree_words.specs.Words.{cell_in}
 use Rattle.trace_audit.specs.Gains.{cell_of_node}
 use Rattle.trace_audit.proofs.Unseen.{unseen_next, unseen_none}
-use Rattle.trace_audit.proofs.WordBytes.{none_left}
+use Rattle.tree_words.proofs.Areas.CutAreas.{none_left}
 use Rattle.trace_audit.proofs.handing.unseen.Goals as goal
 
 pub nodes-init : goal.nodes-init

@@ -23,7 +23,7 @@ invariant_of-self-in-Put c =
     let mine : IsGivenOnIf base c.args.given = subst (λ (n : Context). IsGivenOnIf n.base c.args.given) (sym c.self.view_is) c.requires.2 in
     record {
       is_board = c.with_stones-self-inside.ensures;
-      are_elements = c.elements-self-inside.ensures ∙ ap (λ (p : _). record { board = p; player = c.self.inside.player }) c.with_stones-self-inside.ensures;
+      are_elements = c.number_elements.ensures ∙ ap (λ (p : _). record { board = p; player = c.self.inside.player }) c.with_stones-self-inside.ensures;
       are_given = subst (All (IsGivenOnIf base)) (sym c.in-Ok.ensures.items) (All-push (IsGivenOnIf base) c.self.inside.given.items c.args.given c.self.invariant.are_given mine);
     }
 

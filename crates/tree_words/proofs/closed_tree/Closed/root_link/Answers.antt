@@ -1,5 +1,5 @@
-use Rattle.std.proofs.Common.{List, subst, ℕ}
-use Rattle.tree_words.specs.Closing.{IsClosed}
+use Rattle.std.proofs.Common.{subst, arith}
+use Rattle.tree_words.specs.Roots.{HasRoot}
 use Rattle.tree_words.specs.Settings.{Setting, IsSetting}
 use Rattle.tree_words.proofs.Boards.RootLaws.{has_root}
 use Rattle.tree_words.proofs.closed_tree.Closed.root_link.Goals as goal
@@ -8,6 +8,11 @@ pub returns-clause-root : goal.returns-clause-root
 returns-clause-root c =
     let s : Setting = c.args.self.now.shape in
     let set : IsSetting s = subst IsSetting c.shape.ensures.value c.shape.ensures.setting in
-    let words : List ℕ = c.args.self.now.words in
-    let closed : IsClosed s words = subst (λ w. IsClosed s w) c.words.ensures.value c.words.ensures.closed in
-    has_root s words set closed
+    has_root s c.args.self.now.words set c.words-words.ensures.closed
+
+pub returns-clause-range : goal.returns-clause-range
+returns-clause-range c =
+    let s : Setting = c.args.self.now.shape in
+    let set : IsSetting s = subst IsSetting c.shape.ensures.value c.shape.ensures.setting in
+    let root : HasRoot s c.args.self.now.words = has_root s c.args.self.now.words set c.words-words.ensures.closed in
+    omega (arith, root.within, c.words-words.ensures.closed.long, set.ranges.playouts.1, set.ranges.words.1)
