@@ -55,7 +55,7 @@ fn link_block(words: &mut [u64], start: usize, leaf: usize, board: &Board)
 }
 
 /// Gives the leaf, whose board this is, its block where it asks for one and the block fits inside
-/// the area, and answers whether it did. NEXT grows also where it doesn't fit.
+/// the area, and answers whether it did. NEXT grows also if it doesn't fit.
 pub(crate) fn expand(words: &mut [u64], shape: &Shape, leaf: usize, board: &Board) -> bool
     requires long { length words.old ≡ end_of shape.now }
     requires leaf { leaf + NODE_WORDS ≤ length words.old }

@@ -1,4 +1,4 @@
-//! The way of a walk to a leaf that has its block, where it is to have one.
+//! The way of a walk to a leaf that has its block, if it is to have one.
 
 ghost use Rattle.seq_search.specs.Searching.{HoldsRooted, ReachesLeaf};
 
@@ -6,7 +6,7 @@ use super::descending::{Descent, descend};
 use super::expanding::expand;
 use tree_words::Shape;
 
-/// Walks down to a leaf. Where that asks for a block it gets it first, and the walk goes on to a
+/// Walks down to a leaf. If that asks for a block it gets it first, and the walk goes on to a
 /// child.
 pub(crate) fn reach(words: &mut [u64], shape: &Shape, walk: &mut Descent)
     requires { HoldsRooted shape.now words.old }

@@ -86,7 +86,7 @@ fn begin(alloc: Global, shape: &Shape, words: &Words) -> Result<Option<Table>, M
     }
 }
 
-/// The linked blocks, where there are such.
+/// The linked blocks, if there are such.
 pub(crate) fn link(alloc: Global, shape: &Shape, words: &Words) -> Result<Option<Table>, Memory>
     requires { length words.now ≡ end_of shape.now }
     ensures { IfOk result (λ table. MatchOption table (AreUnlinked shape.now words.now)

@@ -23,7 +23,7 @@ const BUFFER_WORDS: usize = BUFFER_BYTES / WORD_BYTES;
 /// So many words stand between the name of a text and the words of the tree.
 pub(crate) const FIELDS: usize = 15;
 
-/// Gives the text of the tree. At a fault a front of it was given that is not all of it.
+/// Gives the text of the tree. At a fault a prefix of it was given that is not all of it.
 pub fn give_text<W: Link>(
     link: &mut W,
     buffer: &mut Vec<u8>,
@@ -106,7 +106,7 @@ fn high_word(set: CellSet) -> u64
     (set.bits() >> HIGH_EMPTIES_SHIFT) as u64
 }
 
-/// Gives the bytes of these words, as many at a time as the buffer holds. At a fault a front of
+/// Gives the bytes of these words, as many at a time as the buffer holds. At a fault a prefix of
 /// them was given that is not all of them.
 fn give_words<W: Link>(link: &mut W, buffer: &mut Vec<u8>, words: &[u64]) -> Result<(), LinkFault>
     requires { BUFFER_BYTES ≤ vec_capacity buffer.old }

@@ -35,8 +35,8 @@ pub fn write_moves(words: &mut [u64], start: usize, cells: CellSet, size: Size) 
 
 /// Writes the header and the moves of the block that begins at `start`, below the node at `parent`
 /// whose board has these empty cells: its nodes have the given cells of the board in rising order.
-/// Answers how many they are. No other word changes: where the words of the block were 0, its
-/// links, tallies and seen words are 0.
+/// Answers how many they are. No other word changes: if the words of the block were 0, its links,
+/// tallies and seen words are 0.
 pub fn write_block(
     words: &mut [u64],
     start: usize,
