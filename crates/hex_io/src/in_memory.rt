@@ -177,4 +177,18 @@ impl MemLink {
     {
         &self.given
     }
+
+    /// How many reads began so far, those that failed among them.
+    pub fn read_count(&self) -> usize
+        ensures { result ≡ self.now.next_read }
+    {
+        self.next_read
+    }
+
+    /// How many writes began so far, those that failed among them.
+    pub fn write_count(&self) -> usize
+        ensures { result ≡ self.now.next_write }
+    {
+        self.next_write
+    }
 }

@@ -1,9 +1,13 @@
-//! A word of a command line.
+//! A word of a command line, and all words of the process's own.
 
 ghost use Rattle.std.specs.Prelude.{◌≡◌, string_bytes};
 
+use super::refusals::Memory;
+use std::alloc::Global;
 use std::convert::AsStr;
 use std::marker::Model;
+use std::rt::HostRuntime;
+use std::{env, io};
 
 /// One word of a command line, which contracts see as the list of its bytes.
 #[derive(Debug, Drop)]
@@ -25,6 +29,18 @@ impl Word {
         ensures { result ≡ string_bytes text }
     {
         Word { text }
+    }
+
+    /// The words of the process after the program's name; none if one of them is no text. What they
+    /// are is the caller's affair, so no clause says it.
+    pub fn all(rt: &HostRuntime) -> Result<Option<Vec<Word>>, Memory> {
+        let arguments = match env::args(rt) {
+            Err(error) if error.kind() == io::ErrorKind::OutOfMemory => return Err(Memory),
+            Err(_) => return Ok(None),
+            Ok(arguments) => arguments,
+        };
+        let words = arguments.skip(1).map(Word::of).collect(rt.alloc())?;
+        Ok(Some(words))
     }
 
     /// Lends the text.

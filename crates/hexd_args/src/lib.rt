@@ -3,8 +3,7 @@
 //! **What it is.** The *words* are those after the program's name. One of them is positional and
 //! names the *mode*; each *option* stands at most once, before or after it, as `--name value` or
 //! `--name=value`. A word `--` ends the options, and every word after it is positional. [`Options`]
-//! has the mode and the value of each option, given or default. The ranges and defaults are beside
-//! its fields.
+//! has the mode and the value of each option, given or default.
 //!
 //! **A caller** hands in the words and gets the options, or none if the words are wrong:
 //!
@@ -17,7 +16,8 @@
 //! **What is proved.** [`read_words`] answers options exactly if the words are well formed with
 //! these values, `WellFormed` of `specs/Reading.antt`, and none exactly if no options make them so.
 //! The grammar on which that stands is the crate option_words', for hexd's table of options,
-//! `hexd_form` of `specs/Table.antt`.
+//! `hexd_form` of `specs/Table.antt`. The names, defaults and ranges of that table are the
+//! manual's: [`options_are_those_of_the_manual`] has them as numbers and texts.
 //!
 //! **What is only tested, or not said.** That memory suffices: a call may always answer [`Memory`].
 //! The tests have a table of lines, each with its answer by the rules above.
@@ -37,11 +37,13 @@
 #![tactic(auto)]
 
 mod command;
+mod laws;
 mod modes;
 mod reading;
 mod settings;
 mod table;
 
+pub use laws::options_are_those_of_the_manual;
 pub use option_words::Memory;
 pub use reading::read_words;
 pub use settings::{Mode, Options};

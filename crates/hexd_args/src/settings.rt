@@ -22,28 +22,26 @@ pub enum Mode {
     Solve,
 }
 
-/// The mode, and the value of each option, given or default.
+/// The mode, and the value of each option, given or default. The ranges and the defaults are those
+/// of [`options_are_those_of_the_manual`](crate::options_are_those_of_the_manual).
 ///
 /// An option that the mode does not use was read and tested all the same, and has no effect.
 #[derive(Debug, Drop)]
 pub struct Options {
     /// What the program does.
     pub mode: Mode,
-    /// `--size`: cells on a side of the first board, 1 to 11, by default 11.
+    /// `--size`: cells on a side of the first board.
     pub size: u32,
-    /// What a search is told: `--workers`, 1 to 64, by default 1; `--playouts`, 1 to 1,000,000, by
-    /// default 10,000; `--seed`, where the random numbers begin, any number of 64 bits, by default
-    /// 0; `--words`, the room of its tree in words, 1,024 to 16,777,216, by default 4,194,304;
-    /// `--expand`, the visits at which a node gets its children, 1 to 1,000, by default 8; and
-    /// `--weight`, how much exploration weighs, 0 to 1,024, by default 180.
+    /// What a search is told: `--workers`, `--playouts`, `--seed`, where the random numbers begin,
+    /// `--words`, the room of its tree in words, `--expand`, the visits at which a node gets its
+    /// children, and `--weight`, how much exploration weighs.
     pub knobs: Knobs,
-    /// `--hsearch`: whether connections are searched for, `on` or `off`, by default `on`.
+    /// `--hsearch`: whether connections are searched for.
     pub hsearch: bool,
-    /// `--steps`: how many steps the schedule of a simulation has, 0 to 1,000,000, by default
-    /// 10,000.
+    /// `--steps`: how many steps the schedule of a simulation has.
     pub steps: u32,
-    /// `--budget`: how many positions the solver may enter, at least 1, by default 1,000,000.
+    /// `--budget`: how many positions the solver may enter.
     pub budget: u64,
-    /// `--trace`: the name of the file for traces, of at least one byte; by default there is none.
+    /// `--trace`: the name of the file for traces, of at least one byte, if there is one.
     pub trace: Option<Word>,
 }

@@ -1,12 +1,14 @@
 //! The options of hexd, a line each. The code and the definitions of specs/Table.antt and
-//! specs/Values.antt read them here, and tools/check_install compares the documents with them.
+//! specs/Values.antt read them here; laws.rt says what stands in them, and tools/check_install
+//! compares the documents with them.
 
+use hex_cells::Size;
 use option_words::{LongNumberOption, NumberOption};
 use tree_words::{LEAST_WORDS, MOST_EXPAND, MOST_PLAYOUTS, MOST_WORDS, MOST_WORKERS};
 use uct_table::MOST_WEIGHT;
 
 /// `--size`: the cells on a side of the first board.
-pub const SIZE: NumberOption = ("size", "11", 1, 11);
+pub const SIZE: NumberOption = ("size", "11", 1, Size::MAX);
 
 /// `--workers`: how many workers search.
 pub const WORKERS: NumberOption = ("workers", "1", 1, MOST_WORKERS);
@@ -33,7 +35,7 @@ pub const HSEARCH: (&'static str, &'static str) = ("hsearch", "on");
 /// `--steps`: how many steps the schedule of a simulation has.
 pub const STEPS: NumberOption = ("steps", "10000", 0, 1_000_000);
 
-/// `--budget`: how many steps a solver may take.
+/// `--budget`: how many positions the solver may enter.
 pub const BUDGET: LongNumberOption = ("budget", "1000000", 1, u64::MAX);
 
 /// `--trace`: the name of the file for traces. Where it is not said there is none.

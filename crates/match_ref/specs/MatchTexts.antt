@@ -3,8 +3,8 @@
 use Rattle.std.specs.Prelude.{ℕ, ◌+◌, Bool, true, false, not, if◌then◌else◌}
 use Rattle.std.specs.Prelude.{List, [], ◌∷◌, ◌++◌, length, codes, Option, Some, None}
 use Rattle.std.specs.Fmt.{decimal}
+use Rattle.hex_cells.specs.Colours.{colour_word}
 use Rattle.hex_cells.specs.declared.colours.Colour.{Colour}
-use Rattle.hex_cells.specs.declared.colours.Colour.TheVariants.{Black, White}
 use Rattle.sgf_game.specs.Record.{record_of}
 use Rattle.sgf_tree.specs.Printing.{trees_print}
 use Rattle.match_ref.specs.Matches.{game_with, is_side_a}
@@ -15,15 +15,11 @@ use Rattle.match_ref.specs.declared.words.MatchWords.{MatchWords}
 abbrev pub side_word : Bool → List ℕ
 side_word is_a = if is_a then codes "a" else codes "b"
 
-abbrev pub colour_name : Colour → List ℕ
-colour_name Black = codes "black"
-colour_name White = codes "white"
-
 -- the side and the colour that won game i, with a space at each end
 abbrev pub winner_words : ℕ → Option Colour → List ℕ
 winner_words i None = codes " none none "
 winner_words i (Some player) =
-    codes " " ++ side_word (is_side_a i player) ++ codes " " ++ colour_name player ++ codes " "
+    codes " " ++ side_word (is_side_a i player) ++ codes " " ++ colour_word player ++ codes " "
 
 -- the number of the game, who won it, and how many steps it has
 abbrev pub game_line : ℕ → Played → List ℕ

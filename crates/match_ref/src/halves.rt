@@ -7,6 +7,7 @@ ghost use Rattle.match_ref.specs.Dealt.{AreGamesBy, DealsNext, dealt_in_turn};
 ghost use Rattle.match_ref.specs.Matches.{IsMatch};
 ghost use Rattle.match_ref.specs.declared.settings.TheConstants.{MOST_GAMES};
 
+use super::passes::pass_gate;
 use super::played::Played;
 use super::playing::play_game;
 use super::refusals::Memory;
@@ -59,8 +60,8 @@ fn one_by_one<R: Threads + Sync, G: Gate + Sync>(
     let mut games = Vec::new(alloc);
     let mut number = first;
     'games: while number < setup.games {
-        gate.pass(number);
-        let game = play_game(rt, alloc, setup, number)?;
+        let pass = pass_gate(gate, number);
+        let game = play_game(rt, alloc, setup, pass)?;
         let Ok(()) = games.push(game) else {
             return Err(Memory);
         };

@@ -15,13 +15,16 @@
 //!
 //! **What is proved.** The games of [`play_match`] are the match games of specs/Matches.antt, as
 //! many as the match says and in order, whatever the number of threads and the schedule; each step
-//! is legal; and [`match_games_are_determined`]. [`read_match_words`] answers a match exactly if
-//! the words ask for it. What [`run_match`] gives is the text of the match games of its words, or a
-//! prefix of it with the status of a write fault, and else nothing; each status has its cause.
+//! is legal; and [`match_games_are_determined`]. A game takes a pass that is had at the gate alone,
+//! so it was there before its first move. [`read_match_words`] answers a match exactly if the words
+//! ask for it, and the options are [the manual's](options_are_those_of_the_manual). What
+//! [`run_match`] gives is the text of the match games of its words, or a prefix of it with the
+//! status of a write fault, and else nothing; each status has its cause.
 //!
-//! **What is only tested, or not said.** That games are played side by side: a gate holds each of
-//! two games until the other has come. That memory suffices, that more threads are faster, and
-//! which side is the better one.
+//! **What is only tested, or not said.** That games are played side by side, and no more at once
+//! than there are threads: a gate holds each of two games until the other has come, and another
+//! counts how many are at it at once. That memory suffices, that more threads are faster, and which
+//! side is the better one.
 //!
 //! **Limits.** Those of [`Match`] and [`Side`]. A thread holds one tree at a time: 16 bytes for
 //! each of a side's words, its playouts and six more. If no thread can be made, games are played in
@@ -40,13 +43,16 @@
 //! - Wrong bodies that stand as no edit, with what refuses them: sides that search with two workers
 //!   (`value` of `side_knobs`); a match without its last game (`one_by_one`, by `AreGamesBy`);
 //!   status 2 whatever happened (`usage`, `untouched`, `played`, `write_fault`, `complete` of
-//!   [`run_match`]). No clause refuses a match on one thread: the tests with a gate do.
+//!   [`run_match`]). No clause refuses a match on one thread, or with a thread for each game: the
+//!   tests with gates do. The runtime's `join` calls nothing of the handle that it is passed, so no
+//!   handle could count threads.
 #![tactic(auto)]
 
 mod command;
 mod halves;
 mod laws;
 mod matches;
+mod passes;
 mod played;
 mod playing;
 mod records;
@@ -57,7 +63,7 @@ mod table;
 mod texts;
 mod words;
 
-pub use laws::match_games_are_determined;
+pub use laws::{match_games_are_determined, options_are_those_of_the_manual};
 pub use matches::play_match;
 pub use played::{Played, Steps};
 pub use refusals::Memory;

@@ -19,8 +19,8 @@ use std::thread::Threads;
 /// Plays the games of the match, side by side in its threads, and answers them in order. They are
 /// those of one thread, whatever the number of threads and the schedule.
 ///
-/// The gate is passed with the game's number before its first move. The only refusal is want of
-/// memory. The call returns where its threads do.
+/// The gate is passed with the game's number before its first move, as the type of a game's pass
+/// says (src/passes.rt). The only refusal is want of memory. The call returns where its threads do.
 pub fn play_match<R: Threads + Sync, G: Gate + Sync>(
     rt: &R,
     alloc: Global,

@@ -13,6 +13,7 @@ ghost use Rattle.match_ref.specs.Matches.{IsMatch, IsMatchGame, IsTurnCell, is_s
 ghost use Rattle.match_ref.specs.Matches.{turns_made};
 ghost use Rattle.match_ref.specs.declared.settings.TheConstants.{MOST_GAMES};
 
+use super::passes::GatePass;
 use super::played::{Played, Steps};
 use super::refusals::Memory;
 use super::settings::{Match, Side};
@@ -123,17 +124,18 @@ fn played(alloc: Global, game: &Game) -> Result<Played, AllocError>
     })
 }
 
-/// Match game `number`.
+/// The match game that has this pass.
 pub fn play_game<R: Threads + Sync>(
     rt: &R,
     alloc: Global,
     setup: &Match,
-    number: u32,
+    pass: GatePass,
 ) -> Result<Played, Memory>
     requires setup { IsMatch setup.now }
-    requires few { number < MOST_GAMES }
-    ensures { IfOk result (IsMatchGame setup.now number) }
+    requires few { pass < MOST_GAMES }
+    ensures { IfOk result (IsMatchGame setup.now pass) }
 {
+    let number = pass.number();
     let bare = bare_board(setup.size);
     let Ok(mut game) = Game::make(alloc, &bare) else {
         return Err(Memory);

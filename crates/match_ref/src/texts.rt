@@ -4,7 +4,8 @@ ghost use Rattle.std.specs.Prelude.{◌≡◌, ◌++◌, All, IfOk, OnOk};
 ghost use Rattle.std.specs.Fmt.{decimal};
 ghost use Rattle.hex_board.specs.Positions.{empty_board};
 ghost use Rattle.hex_game.specs.Games.{AreLegal};
-ghost use Rattle.match_ref.specs.MatchTexts.{colour_name, game_line, game_text, games_text};
+ghost use Rattle.hex_cells.specs.Colours.{colour_word};
+ghost use Rattle.match_ref.specs.MatchTexts.{game_line, game_text, games_text};
 ghost use Rattle.match_ref.specs.MatchTexts.{has_won, match_text, side_word, winner_words, wins_of};
 ghost use Rattle.match_ref.specs.Matches.{is_side_a};
 
@@ -30,7 +31,7 @@ fn side_word(is_a: bool) -> &'static [u8]
 }
 
 fn colour_name(colour: Colour) -> &'static [u8]
-    ensures { result.now ≡ colour_name colour }
+    ensures { result.now ≡ colour_word colour }
 {
     match colour {
         Colour::Black => b"black",

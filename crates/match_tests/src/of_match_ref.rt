@@ -10,8 +10,9 @@ use match_ref::{
 };
 use search_team::{CountingGate, Gate, OpenGate};
 use std::alloc::Global;
+use std::sync::atomic::{AtomicU32, Ordering};
 use std::test::Fail;
-use std::thread::Threads;
+use std::thread::{self, Threads};
 
 // A match of so many games of one stone in so many threads, where they are in their ranges.
 fn small_match(games: u32, threads: u32) -> Option<Match>
@@ -48,6 +49,52 @@ fn games_meet_at_the_gate(rt: HostRuntime) -> Result<(), Fail> {
         assert_eq!(rt; played.len(), games as usize);
         assert_eq!(rt; gate.counts(), [1, 1, third], "{games} {threads}");
         assert!(rt; !gate.was_missed(), "{games} {threads}");
+    }
+    Ok(())
+}
+
+/// How often a game at a crowded gate looks whether more have come.
+const MOST_LOOKS: u32 = 20_000;
+
+/// A gate that counts how many games are at it at once. Each stays until more are there than are to
+/// be, or for some looks.
+#[derive(Drop)]
+struct CrowdGate {
+    inside: AtomicU32,
+    most: AtomicU32,
+    threads: u32,
+}
+
+impl Gate for CrowdGate {
+    fn pass(&self, _game: u32) {
+        let others = self.inside.fetch_add(1, Ordering::SeqCst);
+        self.most
+            .fetch_max(others.saturating_add(1), Ordering::SeqCst);
+        for _ in 0..MOST_LOOKS {
+            if self.most.load(Ordering::SeqCst) > self.threads {
+                break;
+            }
+            thread::yield_now();
+        }
+        self.inside.fetch_sub(1, Ordering::SeqCst);
+    }
+}
+
+/// `match-crowd`: no more games are played at once than there are threads. A match with a thread
+/// for each game would have more of them at the gate.
+#[test]
+fn games_keep_to_the_threads(rt: HostRuntime) -> Result<(), Fail> {
+    for (games, threads) in [(4, 1), (6, 2), (12, 3), (16, 5)] {
+        let gate = CrowdGate {
+            inside: AtomicU32::new(0),
+            most: AtomicU32::new(0),
+            threads,
+        };
+        let setup = small_match(games, threads).ok_or("a match")?;
+        let played = play_match(&rt, rt.alloc(), &setup, &gate)?;
+        assert_eq!(rt; played.len(), games as usize);
+        let most = gate.most.load(Ordering::SeqCst);
+        assert!(rt; 0 < most && most <= threads, "{games} {threads}");
     }
     Ok(())
 }
@@ -187,13 +234,15 @@ fn plays_by_default(rt: HostRuntime) -> Result<(), Fail> {
     Ok(())
 }
 
-/// A write that fails at each byte of a text.
+/// A write that fails at each byte of a text is the last one. Nothing is read.
 #[test]
 fn faults_each(rt: HostRuntime) -> Result<(), Fail> {
     for room in 0..TWO_GAMES.len() {
         let left = run_of(&rt, MATCH_TWO, room, &OpenGate)?;
         assert_eq!(rt; left.status, 4, "{room}");
         assert_eq!(rt; left.link.given(), TWO_GAMES.as_bytes().split_at(room).0);
+        assert_eq!(rt; left.link.write_count(), room.saturating_add(1));
+        assert_eq!(rt; left.link.read_count(), 0);
         assert!(rt; left.errors.given().is_empty());
     }
     Ok(())
