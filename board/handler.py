@@ -9,7 +9,7 @@ import sys
 from http.server import BaseHTTPRequestHandler, ThreadingHTTPServer
 from pathlib import Path
 
-import htp
+import hexd
 import records
 import settings
 from sessions import Refusal
@@ -46,7 +46,7 @@ def taken_line(body):
     if not all(32 <= byte <= 126 for byte in body):
         raise Refusal(400, "a line is of printable ASCII characters")
     line = body.decode("ascii")
-    name = htp.command_name(line)
+    name = hexd.command_name(line)
     if name is None:
         raise Refusal(400, "there is no command in the line")
     if name == "quit":

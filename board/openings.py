@@ -10,7 +10,7 @@ import re
 import threading
 from pathlib import Path
 
-import htp
+import hexd
 
 try:
     import lzma
@@ -79,8 +79,8 @@ class Openings:
             return None
         player = head[2].removeprefix("player ")
         try:
-            verdict = htp.check(self.program, certificate.encode(), CHECK_SECONDS)
-        except htp.EngineEnded:
+            verdict = hexd.check(certificate.encode(), self.program, CHECK_SECONDS)
+        except hexd.EngineEnded:
             return None
         return player if verdict == CLAIMS.get(player) else None
 

@@ -17,7 +17,7 @@ import sys
 import tempfile
 from pathlib import Path
 
-import htp
+import hexd
 import records
 import settings
 from openings import Openings
@@ -70,7 +70,7 @@ class Reporter:
         said = {"mover": mover, "cell": cell, "mustplay": self.ask("mustplay"), "report": self.ask("search-report")}
         said["certificate"] = certificate = self.ask("wincert")
         said["swap"] = swap
-        said["checked"] = certificate and htp.check(self.program, f"{certificate}\n".encode(), CHECK_SECONDS)
+        said["checked"] = certificate and hexd.check(f"{certificate}\n".encode(), self.program, CHECK_SECONDS)
         self.ask("undo")
         return said
 
@@ -132,7 +132,7 @@ def page_of(report, given):
 def wanted(words):
     parser = settings.Parser(prog="hexd-report", description="Writes a report of a game as HTML on standard output.")
     settings.add_options(parser)
-    parser.add_argument("--program", type=Path, default=htp.PROGRAM, help="the program in place of the built one")
+    parser.add_argument("--program", type=Path, default=hexd.PROGRAM, help="the program in place of the built one")
     parser.add_argument("record", metavar="GAME.sgf", help="the record of the game; -: standard input")
     return parser.parse_args(words)
 
@@ -144,7 +144,7 @@ def made(options):
     record, given, program = records.read(content), settings.given_of(options), options.program.resolve()
     name = "Standard input" if is_standard else Path(options.record).name
     with tempfile.TemporaryDirectory(prefix="hexd-report-") as folder:
-        with htp.Engine([program, "htp", *settings.words_of(given)], folder) as engine:
+        with hexd.Engine([program, "htp", *settings.words_of(given)], folder) as engine:
             return page_of(Reporter(engine, program).report(record, name), given)
 
 
@@ -153,7 +153,7 @@ def main():
     try:
         sys.stdout.write(made(options))
         return 0
-    except (records.Refused, htp.EngineEnded) as why:
+    except (records.Refused, hexd.EngineEnded) as why:
         print(f"hexd-report: {options.record}: {why}", file=sys.stderr)
     except OSError as fault:
         print(f"hexd-report: {fault.filename or options.record}: {fault.strerror}", file=sys.stderr)

@@ -17,7 +17,7 @@ import threading
 import webbrowser
 from pathlib import Path
 
-import htp
+import hexd
 import settings
 from handler import HERE, Server
 from openings import Openings
@@ -52,7 +52,7 @@ def wanted(words):
     parser.add_argument("--open", action="store_true", help="open the page in a browser")
     parser.add_argument("--port", type=settings.number(0, 65_535), help=f"the port (0: any); {PORT} or the next free one by default")
     parser.add_argument("--listen", metavar="ADDRESS", default=HERE, help=f"whose port; {HERE}, this machine alone, by default")
-    parser.add_argument("--program", type=Path, default=htp.PROGRAM, help="the program in place of the built one")
+    parser.add_argument("--program", type=Path, default=hexd.PROGRAM, help="the program in place of the built one")
     options = parser.parse_args(words[:place])
     options.given, options.others = split(parser, words[place + 1 :], settings.given_of(options))
     return options

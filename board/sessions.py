@@ -8,7 +8,7 @@ from dataclasses import dataclass, field
 from pathlib import Path
 
 import settings
-from htp import Engine, EngineEnded, Solver, check
+from hexd import Engine, EngineEnded, Solver, check
 
 # A page that is opened again and again must not fill the machine with processes.
 MOST_SESSIONS = 16
@@ -80,7 +80,7 @@ class Sessions:
         """What a second process says of a certificate."""
         self._find(name)
         try:
-            return check(self.program, certificate, CHECK_SECONDS)
+            return check(certificate, self.program, CHECK_SECONDS)
         except (EngineEnded, OSError) as fault:
             raise Refusal(500, str(fault)) from None
 
@@ -88,12 +88,12 @@ class Sessions:
         """What `hexd solve` says of the position of a record, in a process that ends with the session."""
         session = self._find(name)
         try:
-            solver = Solver(self.program, budget)
+            solver = Solver(budget, self.program)
             session.solvers.append(solver)
             # A session that was ended meanwhile has ended those alone that it had.
             if self.open.get(name) is not session:
                 solver.kill()
-            return solver.answer(record)
+            return solver.answer(record).rstrip("\n")
         except EngineEnded as ended:
             raise Refusal(410 if name in self.reasons else 500, self.reasons.get(name, str(ended))) from None
         except OSError as fault:

@@ -13,13 +13,13 @@ memory that the session held after its first move and after its last. It ends wi
 """
 
 import argparse
-import subprocess
 import sys
 import tempfile
 import time
 from pathlib import Path
 
-from referee import PROGRAM, Engine
+sys.path.append(str(Path(__file__).resolve().parent.parent / "board"))
+from hexd import Engine, EngineEnded, check
 
 COLOURS = ("black", "white")
 
@@ -49,10 +49,8 @@ def fault_of(certificate, size, stones, colour):
     head += [" ".join([name, *cells]) for name, cells in zip(COLOURS, stones)]
     if certificate.splitlines()[: len(head)] != head:
         return "it is of another board or player"
-    done = subprocess.run([str(PROGRAM), "check"], input=certificate, capture_output=True, text=True)
-    if (done.returncode, done.stdout) not in [(0, "yes full\n"), (0, "yes semi\n")]:
-        return f"status {done.returncode}, {done.stdout.rstrip()!r}"
-    return None
+    said = check(certificate.encode())
+    return None if said in ("yes full", "yes semi") else f"hexd check says {said!r}"
 
 
 class Games:
@@ -60,27 +58,28 @@ class Games:
 
     def __init__(self, size, playouts, folder, words):
         self.size, self.folder = size, Path(folder)
-        self.engine = Engine("--size", size, "--playouts", playouts, *words)
+        self.engine = Engine.start("--size", size, "--playouts", playouts, *words)
         self.seconds, self.certified, self.memory = [], 0, []
 
     def move(self, colour):
         """Makes a move; False where its certificate is refused."""
-        stones = stones_of(self.engine.ask("showboard")[1])
+        stones = stones_of(self.engine.ask("showboard").text)
         begun = time.monotonic()
-        done, vertex = self.engine.ask(f"genmove {colour}")
+        move = self.engine.ask(f"genmove {colour}")
         self.seconds.append(time.monotonic() - begun)
         self.memory.append(memory_of(self.engine.process))
-        if not done:
-            print(f"{colour}: {vertex}")
+        if not move.done:
+            print(f"{colour}: {move.text}")
             return False
-        certified, text = self.engine.ask("wincert")
-        print(f"{colour} {vertex}{', certified' if certified else ''}")
-        if not certified:
+        certificate = self.engine.ask("wincert")
+        print(f"{colour} {move.text}{', certified' if certificate.done else ''}")
+        if not certificate.done:
             return True
         self.certified += 1
         # An answer ends with one line feed less than the certificate has.
-        (self.folder / f"{len(self.seconds)}.cert").write_text(text + "\n")
-        fault = fault_of(text + "\n", self.size, stones, colour)
+        text = certificate.text + "\n"
+        (self.folder / f"{len(self.seconds)}.cert").write_text(text)
+        fault = fault_of(text, self.size, stones, colour)
         if fault:
             print(f"the certificate of move {len(self.seconds)} is refused: {fault}")
         return fault is None
@@ -89,11 +88,11 @@ class Games:
         """Plays a game to its end; False where a move fails."""
         self.engine.ask("clear_board")
         turn = 0
-        while self.engine.ask("winner")[1] == "none":
+        while self.engine.ask("winner").text == "none":
             if not self.move(COLOURS[turn % 2]):
                 return False
             turn += 1
-        print(f"winner: {self.engine.ask('winner')[1]}")
+        print(f"winner: {self.engine.ask('winner').text}")
         return True
 
     def report(self):
@@ -138,18 +137,17 @@ def words_of(given):
 
 def main():
     words = words_of(sys.argv[1:])
-    with tempfile.TemporaryDirectory() as spare:
-        games = Games(str(words.size), str(words.playouts), words.folder or spare, words.words)
-        try:
+    try:
+        with tempfile.TemporaryDirectory() as spare:
+            games = Games(str(words.size), str(words.playouts), words.folder or spare, words.words)
             while len(games.seconds) < words.moves:
                 if not games.play():
                     return 1
-        except (EOFError, BrokenPipeError):
-            status = games.engine.process.wait()
-            print(f"selfplay.py: hexd ended with status {status}", file=sys.stderr)
-            return status
-    games.report()
-    return games.engine.close()
+        games.report()
+        return games.engine.close()
+    except (EngineEnded, OSError) as why:
+        print(f"selfplay.py: {why}", file=sys.stderr)
+        return getattr(why, "status", None) or 1
 
 
 if __name__ == "__main__":

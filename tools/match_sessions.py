@@ -11,8 +11,8 @@ import sys
 
 from programs import ROOT
 
-sys.path.insert(0, str(ROOT / "examples"))
-from referee import Engine
+sys.path.append(str(ROOT / "board"))
+from hexd import Engine
 
 SETTINGS = [
     {"size": 4, "games": 4, "seed": 7, "a": {"playouts": 60, "weight": 0}, "b": {"playouts": 200, "expand": 3}},
@@ -37,18 +37,18 @@ def match_records(setting):
 def session(setting, side, game):
     seed = (setting["seed"] + (2 * game + "ab".index(side)) * 2**40) % 2**64
     words = [f"--{name}={value}" for name, value in {**defaults(), **setting[side]}.items()]
-    return Engine("--hsearch", "off", f"--size={setting['size']}", f"--seed={seed}", *words)
+    return Engine.start("--hsearch", "off", f"--size={setting['size']}", f"--seed={seed}", *words)
 
 
 def session_record(setting, game):
     black, white = [session(setting, side, game) for side in ("ab" if game % 2 == 0 else "ba")]
     mover, other, colour = black, white, "black"
-    while black.ask("winner")[1] == "none":
-        done, vertex = mover.ask(f"genmove {colour}")
-        if not (done and other.ask(f"play {colour} {vertex}")[0]):
-            return f"game {game}: {colour} {vertex}"
+    while black.ask("winner").text == "none":
+        move = mover.ask(f"genmove {colour}")
+        if not (move.done and other.ask(f"play {colour} {move.text}").done):
+            return f"game {game}: {colour} {move.text}"
         mover, other, colour = other, mover, "white" if colour == "black" else "black"
-    record = black.ask("printsgf")[1]
+    record = black.ask("printsgf").text
     black.close()
     white.close()
     return record

@@ -17,7 +17,7 @@ from pathlib import Path
 
 from tests.support import LIMIT_SECONDS, ROOT, SMALL, Server, children, dying, is_running, until
 
-import htp
+import hexd
 import sessions
 import settings
 from openings import Openings
@@ -350,7 +350,7 @@ class Ends(unittest.TestCase):
 
     def test_an_idle_session(self):
         with tempfile.TemporaryDirectory() as folder:
-            table = sessions.Sessions(htp.PROGRAM, settings.BEST, [], folder)
+            table = sessions.Sessions(hexd.PROGRAM, settings.BEST, [], folder)
             idle, used = table.make(), table.make()
             table.open[idle].used -= sessions.IDLE_SECONDS + 1
             table.end_idle()
@@ -366,7 +366,7 @@ class Shelves(unittest.TestCase):
     """Openings whose winner a certificate shows."""
 
     def test_an_opening(self):
-        with tempfile.TemporaryDirectory() as folder, htp.Engine([htp.PROGRAM, "htp", "--size", "3"], folder) as engine:
+        with tempfile.TemporaryDirectory() as folder, hexd.Engine([hexd.PROGRAM, "htp", "--size", "3"], folder) as engine:
             engine.ask("play b a1")
             engine.ask("genmove w")
             certificate = engine.ask("wincert").text + "\n"
@@ -381,12 +381,12 @@ class Shelves(unittest.TestCase):
             ):
                 (Path(folder) / f"{name}.cert.xz").write_bytes(lzma.compress(text.encode()))
             (Path(folder) / "3-b2.cert.xz").write_bytes(b"no such format")
-            openings = Openings(htp.PROGRAM, folder)
+            openings = Openings(hexd.PROGRAM, folder)
             found = {vertex: openings.winner(3, vertex) for vertex in ("a1", "b1", "c1", "a2", "b2", "a3", "c3")}
             # c3 is opposite to a1.
             self.assertEqual({"a1": "white", "c3": "white"}, {vertex: winner for vertex, winner in found.items() if winner})
             self.assertIsNone(openings.winner(4, "a1"))
-            self.assertIsNone(Openings(htp.PROGRAM, Path(folder) / "none").winner(3, "a1"))
+            self.assertIsNone(Openings(hexd.PROGRAM, Path(folder) / "none").winner(3, "a1"))
 
 
 BEST = " ".join(settings.words_of(settings.BEST))

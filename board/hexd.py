@@ -1,28 +1,38 @@
-"""A client of the Hex Text Protocol: one process `hexd htp` behind pipes, and `hexd check` on a text.
+"""A client of hexd in Python's standard library: sessions of the Hex Text Protocol, `hexd check`, `hexd solve`, and records.
 
-    with Engine(["hexd", "htp", "--size", "5"]) as engine:
-        answer = engine.ask("genmove b")        # Answer(done=True, text="c3")
+    import hexd
+    with hexd.Engine.start("--size", "5") as engine:
+        answer = engine.ask("genmove b")                    # Answer(done=True, text="c3", ..)
+    hexd.check(b"hexcert 1\\n..")                            # "yes semi"
+    hexd.solve(b"(;GM[11]SZ[3];B[b2])").first               # "won black"
+    hexd.records.read(b"(;SZ[5];B[C3];W[ce])").main         # "(;FF[4]GM[11]SZ[5];B[c3];W[c5])"
 
-It knows how lines and answers are cut (docs/use/MANUAL.md) and what a command's name is, and no rule of the game.
+It knows how lines and answers are cut (docs/use/MANUAL.md) and what a command's name is, and no rule of the game. Who copies it
+takes records.py with it.
 """
 
 import os
 import signal
 import subprocess
+import tempfile
 import threading
 from dataclasses import dataclass
 from pathlib import Path
 
+import records  # noqa: F401  A caller's hexd.records.
+
 # The program: HEXD in the environment, as bin/hexd-board and bin/hexd-report set it, else bin/hexd of the tree.
 PROGRAM = Path(os.environ.get("HEXD") or Path(__file__).resolve().parent.parent / "bin" / "hexd")
-# The name under which a record lies in a session's folder. It has no space, so that `loadsgf` can name it.
-RECORD = "record.sgf"
 # How long a process may take to end once its input has ended or it was killed, in seconds.
 GRACE = 30
 
 
 class EngineEnded(Exception):
-    """The process has ended; its text says why, in words for a reader."""
+    """The process has ended; its text says why, in words for a reader, and `status` how (None: it was not waited for)."""
+
+    def __init__(self, why, status=None):
+        super().__init__(why)
+        self.status = status
 
 
 @dataclass(frozen=True)
@@ -59,9 +69,9 @@ def why_ended(status, errors):
 
 
 class Engine:
-    """One process that speaks HTP. Its calls may come from several threads: one line is asked at a time."""
+    """One process that speaks HTP, in a folder. Its calls may come from several threads: one line is asked at a time."""
 
-    def __init__(self, command, folder=None):
+    def __init__(self, command, folder=None, errors=subprocess.PIPE):
         self.folder = folder
         self.turn = threading.Lock()
         self.process = subprocess.Popen(
@@ -69,8 +79,13 @@ class Engine:
             cwd=folder,
             stdin=subprocess.PIPE,
             stdout=subprocess.PIPE,
-            stderr=subprocess.PIPE,
+            stderr=errors,
         )
+
+    @classmethod
+    def start(cls, *words, program=PROGRAM):
+        """A session with these words of hexd, whose lines on standard error go where this process's go."""
+        return cls([program, "htp", *words], errors=None)
 
     def __enter__(self):
         return self
@@ -84,21 +99,27 @@ class Engine:
             return self._ask(line)
 
     def load(self, record):
-        """Puts the bytes of a record into the process's folder, has it loaded, and gives the answer to that."""
+        """Has the bytes of a record loaded from a file in the process's folder, and gives the answer to that."""
+        with self.turn, tempfile.NamedTemporaryFile(dir=self.folder, suffix=".sgf") as file:
+            file.write(record)
+            file.flush()
+            # A name of its folder has no space, as `loadsgf` wants it.
+            return self._ask(f"loadsgf {Path(file.name).name if self.folder else file.name}")
+
+    def close(self):
+        """Ends the session by the end of its input, and gives the process's status."""
         with self.turn:
-            file = Path(self.folder) / RECORD
-            file.write_bytes(record)
-            try:
-                return self._ask(f"loadsgf {RECORD}")
-            finally:
-                file.unlink()
+            for pipe in (self.process.stdin, self.process.stdout, self.process.stderr):
+                if pipe:
+                    pipe.close()
+        return self.process.wait(GRACE)
 
     def _ask(self, line):
         try:
             self.process.stdin.write(line.encode() + b"\n")
             self.process.stdin.flush()
         except (OSError, ValueError):
-            raise EngineEnded(self._reason()) from None
+            raise self._ended() from None
         lines = []
         while True:
             try:
@@ -106,35 +127,35 @@ class Engine:
             except ValueError:
                 got = b""
             if not got.endswith(b"\n"):
-                raise EngineEnded(self._reason())
+                raise self._ended()
             if got == b"\n":
                 return Answer.of("\n".join(lines))
             lines.append(got[:-1].decode())
 
-    def _reason(self):
+    def _ended(self):
         try:
             status = self.process.wait(GRACE)
-            errors = self.process.stderr.read().decode(errors="replace")
+            errors = self.process.stderr.read().decode(errors="replace") if self.process.stderr else ""
         except subprocess.TimeoutExpired:
-            return "hexd has closed its output"
+            return EngineEnded("hexd has closed its output")
         except ValueError:
             errors = ""
-        return why_ended(status, errors)
+        return EngineEnded(why_ended(status, errors), status)
 
     def kill(self):
         """Ends the process, whatever it does, and waits for its end. Who asks it just then meets EngineEnded."""
         self.process.kill()
         self.process.wait(GRACE)
         with self.turn:
-            for pipe in (self.process.stdin, self.process.stdout, self.process.stderr):
+            for pipe in filter(None, (self.process.stdin, self.process.stdout, self.process.stderr)):
                 try:
                     pipe.close()
                 except OSError:
                     pass
 
 
-def check(program, certificate, seconds):
-    """What a second process says of the bytes of a certificate: the line that `hexd check` writes.
+def check(certificate, program=PROGRAM, seconds=None):
+    """What a process of its own says of the bytes of a certificate: the line that `hexd check` writes.
 
     EngineEnded where it ends otherwise than with a verdict, or takes longer than this.
     """
@@ -143,23 +164,41 @@ def check(program, certificate, seconds):
     except subprocess.TimeoutExpired:
         raise EngineEnded(f"hexd check took longer than {seconds} seconds") from None
     if run.returncode not in (0, 1):
-        raise EngineEnded(why_ended(run.returncode, run.stderr.decode(errors="replace")))
+        raise EngineEnded(why_ended(run.returncode, run.stderr.decode(errors="replace")), run.returncode)
     return run.stdout.decode().strip()
+
+
+@dataclass(frozen=True)
+class Solved:
+    """What `hexd solve` says of a position: its first line, as `won black`, and the certificate behind it or an empty text."""
+
+    first: str
+    certificate: str
+
+    @classmethod
+    def of(cls, text):
+        first, _, certificate = text.partition("\n")
+        return cls(first, certificate)
 
 
 class Solver:
     """One process `hexd solve`, which can be ended while it works."""
 
-    def __init__(self, program, budget):
-        command = [str(program), "solve", "--budget", str(budget)]
+    def __init__(self, budget=None, program=PROGRAM):
+        command = [str(program), "solve", *([] if budget is None else ["--budget", str(budget)])]
         self.process = subprocess.Popen(command, stdin=subprocess.PIPE, stdout=subprocess.PIPE, stderr=subprocess.PIPE)
 
     def answer(self, record):
-        """What it says of the position of a record, in bytes. EngineEnded where it ends without a word on it."""
+        """All that it says of the position of a record's bytes. EngineEnded where it ends without a word on it."""
         said, errors = self.process.communicate(record)
         if self.process.returncode not in (0, 1):
-            raise EngineEnded(why_ended(self.process.returncode, errors.decode(errors="replace")))
-        return said.decode().rstrip("\n")
+            raise EngineEnded(why_ended(self.process.returncode, errors.decode(errors="replace")), self.process.returncode)
+        return said.decode()
 
     def kill(self):
         self.process.kill()
+
+
+def solve(record, budget=None, program=PROGRAM):
+    """Who wins the position of a record's bytes: Solved. EngineEnded as with Solver."""
+    return Solved.of(Solver(budget, program).answer(record))
