@@ -10,6 +10,7 @@ find.py makes size 3 anew, openings/check accepts what it makes, and a second st
 HEXD names the program; where it isn't set that is bin/hexd.
 """
 
+import os
 import shutil
 import signal
 import subprocess
@@ -130,6 +131,15 @@ def expect_whole_files(folder):
     expect(status == 1 and said[-1] == "3 accepted, 2 refused", f"a changed byte and a missing file: {said}")
 
 
+def expect_other_statuses():
+    """What can't be checked at all is told from what is refused, in one line."""
+    for words, program, status in ((["9"], None, 2), (["3"], "/dev/null", 3), (["3"], "/bin/true", 3)):
+        env = {**os.environ, **({"HEXD": program} if program else {})}
+        done = subprocess.run([FOLDER / "check", *words], capture_output=True, text=True, env=env)
+        got = (done.returncode, done.stdout, len(done.stderr.splitlines()))
+        expect(got == (status, "", 1), f"openings/check {words} with {program}: {got}, {done.stderr}")
+
+
 def find(*words):
     """The status of find.py, and its lines."""
     done = subprocess.run([FOLDER / "find.py", *words], capture_output=True, text=True)
@@ -163,6 +173,7 @@ def expect_interrupted(folder):
 
 def main():
     expect_refusals()
+    expect_other_statuses()
     for trial in (expect_other_names, expect_other_claim, expect_whole_files, expect_found, expect_interrupted):
         with tempfile.TemporaryDirectory() as folder:
             trial(Path(folder))
