@@ -231,6 +231,16 @@ class Lasting(Pages):
         self.assertIn("10,000 playouts a move", browser.text("#strength-words"))
         browser.choose("#strength", "200")
 
+    def test_strengths(self):
+        browser = self.start("5,a1,e5,e1")
+        for playouts, name in (("10000", "10,000"), ("100000", "100,000")):
+            browser.choose("#strength", playouts)
+            self.soon_in(f"with {name} playouts a move", "#strength-words")
+            browser.click("#hint")
+            self.soon_in(f"of {name} visits", "#words")
+        options = [(option.get_attribute("value"), option.text) for option in browser.all("#strength option")]
+        self.assertEqual([("200", "as started (200)"), ("10000", "quick"), ("100000", "normal"), ("1000000", "strong")], options)
+
     def test_hexd_moves_after_a_reload(self):
         browser = self.start("4,b2,c3", players=("I", "I"))
         browser.click("#back")
@@ -273,6 +283,11 @@ class Lasting(Pages):
             browser.press("#stop")
             browser.ready()
             self.soon(["f6"], self.moves)
+            browser.press("#analyse")
+            self.soon("hexd looks at position 1 of 2 ..", self.words("#state"))
+            browser.press("#stop")
+            browser.ready()
+            self.soon("Your turn (White)", self.words("#state"))
             self.browser.faults()
             browser.cell("a1")
             self.soon(["f6", "a1"], self.moves)

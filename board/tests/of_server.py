@@ -169,6 +169,18 @@ class Requests(unittest.TestCase):
         status, text = self.server.post("convert", b"\xef\xbb\xbf x (;SZ[3]C[\xe9];B[A2];W[swap];B[cc];W[resign])")
         want = {"record": "(;FF[4]GM[11]SZ[3]C[\u00e9];B[a2];W[swap-pieces];B[c3];W[resign])", "notes": ["White resigns at move 4."]}
         self.assertEqual((200, want), (status, json.loads(text)))
+        for given, record, note in (
+            # Colours, players and result are exchanged, and rows with columns.
+            (b"(;SZ[11]PB[a]PW[b]RE[W+R];W[fc];B[swap];W[ab])", "SZ[11]PW[a]PB[b]RE[B+R];B[c6];W[swap-pieces];B[b1])", "White begins"),
+            (b"(;SZ[5:5];B[a3];W[swap-sides];W[b2])", "SZ[5];B[a3];;W[b2])", "Move 2 swaps sides"),
+            (b"(;SZ[3];B[tt];W[PASS];B[C1])", "SZ[3];;;B[c1])", "Move 1 is a pass of Black's"),
+            (b"(;SZ[3]AB[A1][bb];W[c2])(;SZ[9])", "SZ[3]AB[a1][b2];W[c2])", "The file has 2 games"),
+            (b"(;GaMe[11]SiZe[3];B[a1]C[\\]]LB[a1:x])", "SZ[3];B[a1]C[\\]]LB[a1:x])", None),
+        ):
+            status, text = self.server.post("convert", given)
+            got = json.loads(text)
+            self.assertEqual((200, f"(;FF[4]GM[11]{record}"), (status, got["record"]))
+            self.assertTrue(got["notes"][0].startswith(note) if note else not got["notes"], got["notes"])
         for wrong, why in (
             (b"", "it is no record of a game"),
             (b"(;SZ[14])", "size 14: hexd plays 1 to 11"),

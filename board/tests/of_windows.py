@@ -44,6 +44,28 @@ class Windows(Pages):
         height = "return document.querySelector('.labels text').getBoundingClientRect().height"
         self.assertLess(browser.run(height), 32)
 
+    def test_switches_explain_themselves(self):
+        browser = self.start("3")
+        labels = browser.all("#looks label:has(input)")
+        self.assertEqual(4, len(labels))
+        for label in labels:
+            self.assertRegex(label.text, "^[A-Z][a-z ]+, [a-z ]+$")
+            self.assertGreater(len(label.get_attribute("title").split()), 6)
+
+    def test_corners_of_two_colours_are_split(self):
+        browser = self.start("11")
+        # Of a point in the bands the colour on top, at each corner on both sides of the line through its cell.
+        colour = """
+            const [column, row] = arguments, {bands, svg, layout} = play.view, point = svg.createSVGPoint();
+            [point.x, point.y] = centreOf(column, row, layout);
+            return bands.filter(band => band.isPointInFill(point)).at(-1)?.classList[1]"""
+        for orientation in ("wide", "upright", "flipped"):
+            browser.choose("#orientation", orientation)
+            for column, row, want in ((10.7, -0.9, "b"), (10.9, -0.7, "w"), (-0.7, 10.9, "b"), (-0.9, 10.7, "w"),
+                                      (-0.1, -0.8, "b"), (-0.8, -0.1, "w"), (10.1, 10.8, "b"), (10.8, 10.1, "w")):
+                self.assertEqual(want, browser.run(colour, column, row), (orientation, column, row))
+        browser.choose("#orientation", "auto")
+
     def test_orientations(self):
         browser = self.start("5,a5")
         for orientation, above in (("wide", "a1"), ("upright", "a1"), ("flipped", "a5")):
