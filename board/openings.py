@@ -6,6 +6,7 @@ The board turned by half a circle is the same board, with first and second edges
 the opening on the opposite cell: it is turned, and the second process is given the turned one.
 """
 
+import collections
 import re
 import threading
 from pathlib import Path
@@ -47,11 +48,12 @@ class Openings:
     def __init__(self, program, folder=FOLDER):
         self.program, self.folder = program, Path(folder)
         self.found = {}
-        self.turn = threading.Lock()
+        # One lock for each opening: who asks for one doesn't wait for the others of a map.
+        self.turns = collections.defaultdict(threading.Lock)
 
     def winner(self, size, vertex):
         """`black` or `white` where it is proved who wins after Black's first stone on this cell, and else None."""
-        with self.turn:
+        with self.turns[size, vertex]:
             if (size, vertex) not in self.found:
                 self.found[size, vertex] = self._winner(size, vertex)
             return self.found[size, vertex]

@@ -221,8 +221,8 @@ class Play {
     this.entered = true;
     if (tree) await this.game.take(tree);
     else if (hash.length > 1) await this.game.take(treeOfMoves(gameOfText(hash, this.game.size)));
-    // After a reload hexd moves where it is its turn.
-    this.running = Boolean(tree) && !tree.at.next;
+    // After a reload, and on an empty board, hexd moves where it is its turn; in a game that was sent it waits.
+    this.running = (Boolean(tree) || hash.length <= 1) && !this.game.at.next;
   }
 
   wire() {
@@ -275,6 +275,8 @@ class Play {
 
   /** Another entry of the browser's history: its game, or the one of the link that was put into the address. */
   goBack(state) {
+    // Without a session it is opened with the next one.
+    if (this.lost) this.entered = false;
     this.stop();
     this.act(async () => {
       const tree = this.keeping.treeOf(state);

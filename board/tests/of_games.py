@@ -270,6 +270,20 @@ class Lasting(Pages):
         browser.cell("a1")
         self.soon(["c3", "b3", "a1"], self.moves)
 
+    def test_back_without_a_process(self):
+        browser = self.start("5,c3,b3")
+        browser.click("#new")
+        for pid in self.server.engines():
+            os.kill(pid, signal.SIGKILL)
+        browser.cell("a1")
+        self.soon_in("hexd was ended by signal 9 (Killed)", "#alert")
+        self.browser.faults()
+        browser.driver.back()
+        browser.click("#again")
+        self.soon("5,c3,b3", self.link)
+        browser.cell("a1")
+        self.soon("5,c3,b3,a1", self.link)
+
     def test_stop_ends_a_search(self):
         with Server("--playouts", "1000000", "--hsearch", "off", "--workers", "1") as server:
             browser = self.start("11,f6", players=("I", "I"), server=server)
