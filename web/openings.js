@@ -1,0 +1,60 @@
+'use strict';
+// Openings of small boards whose winner is proved: their certificates stand in the page, and a run of hexd checks each that
+// is used. board/openings.py does the same for the server.
+
+// What `hexd check` says of a certificate by which a player wins after Black's first stone.
+const CLAIMS = {white: 'yes semi', black: 'yes full'};
+
+const certificatesOfPage = once(async () =>
+  JSON.parse(new TextDecoder().decode(await unpacked(document.getElementById('openings')))));
+
+/** The cell opposite to this one. */
+function turnedCell(vertex, size) {
+  const column = LETTERS[size - 1 - LETTERS.indexOf(vertex[0])];
+  return `${column}${size + 1 - Number(vertex.slice(1))}`;
+}
+
+/** The certificate of the board that is turned by half a circle. Lists of cells rise, and so they are turned around too. */
+function turned(certificate, size) {
+  const edges = {edge1: 'edge2', edge2: 'edge1'};
+  return certificate.split('\n').map(line => {
+    const [name, ...words] = line.split(' ').map(word =>
+      /^[a-k][0-9]+$/.test(word) ? turnedCell(word, size) : edges[word] ?? word);
+    return [name, ...(['black', 'white', 'put'].includes(name) ? words.reverse() : words)].join(' ');
+  }).join('\n');
+}
+
+/** Who wins by a certificate, if it is one of this opening and a run of hexd accepts it; else null. */
+async function provedBy(certificate, size, vertex) {
+  const [, sized, player, black, white] = (certificate ?? '').split('\n');
+  if (sized !== `size ${size}` || black !== `black ${vertex}` || white !== 'white') return null;
+  const name = player.replace('player ', '');
+  return await checked(certificate) === CLAIMS[name] ? name : null;
+}
+
+/** Who is proved to win after Black's first stone on this cell: 'black', 'white' or null. */
+const winnerOf = (() => {
+  const found = new Map();
+  return (size, vertex) => {
+    const name = `${size}-${vertex}`;
+    if (!found.has(name)) found.set(name, findWinner(size, vertex));
+    return found.get(name);
+  };
+})();
+
+async function findWinner(size, vertex) {
+  const certificates = await certificatesOfPage(), opposite = certificates[`${size}-${turnedCell(vertex, size)}`];
+  return await provedBy(certificates[`${size}-${vertex}`], size, vertex) ??
+    provedBy(opposite && turned(opposite, size), size, vertex);
+}
+
+/** The same of all cells of a size of which it is known, by vertex. */
+async function winnersOf(size) {
+  const winners = {};
+  for (const name of Object.keys(await certificatesOfPage())) {
+    const [of, vertex] = name.split('-');
+    if (of !== `${size}`) continue;
+    for (const cell of [vertex, turnedCell(vertex, size)]) winners[cell] = await winnerOf(size, cell);
+  }
+  return winners;
+}

@@ -1,0 +1,168 @@
+#!/usr/bin/env python3
+"""Writes hexd.html, the board of board/page with hexd in it: one file that a browser opens from a disk or from any host.
+
+    page.py [--module FILE] [--playouts N] [OUT]     OUT is web/out/hexd.html if it isn't named
+    page.py --compare FILE                           whether FILE is what its sources make; the status is 1 if it isn't
+
+Without --module it makes the module anew (build.py). The page names the sum of its sources and the kit: if these are others,
+it isn't compared, which is said. The board's files stand in it as they are, and those of SESSION in the place of its
+session.js. It makes no request: a policy in the file forbids it, and lets only its own scripts run.
+"""
+
+import argparse
+import base64
+import gzip
+import hashlib
+import json
+import lzma
+import re
+import sys
+import tempfile
+from pathlib import Path
+
+import build
+
+HERE = Path(__file__).resolve().parent
+ROOT = HERE.parent
+BOARD = ROOT / "board" / "page"
+OPENINGS = ROOT / "openings"
+# What stands in the place of the board's session.js.
+SESSION = [HERE / name for name in ("run.js", "openings.js", "session.js")]
+# The certificates of these sizes are small.
+SIZES = "345"
+PLAYOUTS = 100_000
+TRIED = "Chromium 156 and Firefox 153"
+SAID = "What hexd answers is proved; this page, which draws it, is not."
+SAID_HERE = "hexd runs in this page. Its code is proved; how WebAssembly runs it, and the page, are tested alone."
+# Elements with bytes packed by gzip, whose versions pack in different ways.
+PACKED = re.compile(r'(?<=data-packed>)[^<]*')
+
+
+def packed(content):
+    return base64.b64encode(gzip.compress(content, 9, mtime=0)).decode()
+
+
+def unpacked(text):
+    return gzip.decompress(base64.b64decode(text))
+
+
+def hash_of(text):
+    """How a policy names a script or a style."""
+    return f"'sha256-{base64.b64encode(hashlib.sha256(text.encode()).digest()).decode()}'"
+
+
+def certificates():
+    """The files of the openings of small boards."""
+    return sorted(file for size in SIZES for file in OPENINGS.glob(f"{size}-*.cert.xz"))
+
+
+def openings():
+    """The certificates of small boards, by size and cell."""
+    return {file.name.removesuffix(".cert.xz"): lzma.decompress(file.read_bytes()).decode() for file in certificates()}
+
+
+def sources():
+    """The sum of the names and the contents of all that the page is made of."""
+    sum_of_all = hashlib.sha256()
+    own = [*SESSION, HERE / "worker.js", HERE / "page.py"]
+    for file in sorted({*build.sources(), *own, *BOARD.iterdir(), *certificates()}):
+        sum_of_all.update(f"{file.relative_to(ROOT)} {hashlib.sha256(file.read_bytes()).hexdigest()}\n".encode())
+    return sum_of_all.hexdigest()
+
+
+def scripts_of(page):
+    """The page without its scripts, and their texts."""
+    pattern = re.compile(r'<script src="([^"]+)" defer></script>\n')
+    files = [file for name in pattern.findall(page) for file in (SESSION if name == "session.js" else [BOARD / name])]
+    texts = [file.read_text() for file in files]
+    assert not any("</script" in text for text in texts)
+    return pattern.sub("", page), texts
+
+
+def policy(scripts, style):
+    rules = {
+        "default-src": ["'none'"],
+        "script-src": [*map(hash_of, scripts), "'wasm-unsafe-eval'"],
+        "style-src": [hash_of(style)],
+        "worker-src": ["blob:"],
+        "img-src": ["blob:", "data:"],
+        "base-uri": ["'none'"],
+        "form-action": ["'none'"],
+    }
+    return "; ".join(" ".join([name, *values]) for name, values in rules.items())
+
+
+def put(text, old, new):
+    """The text with `old`, which is there once, replaced."""
+    assert text.count(old) == 1, old
+    return text.replace(old, new)
+
+
+def page(module, playouts):
+    """The text of the file."""
+    text, scripts = scripts_of((BOARD / "index.html").read_text())
+    style = (BOARD / "board.css").read_text()
+    icon = base64.b64encode((BOARD / "icon.svg").read_bytes()).decode()
+    text = put(text, '<link rel="stylesheet" href="board.css">', f"<style>{style}</style>")
+    text = put(text, 'href="icon.svg"', f'href="data:image/svg+xml;base64,{icon}"')
+    text = put(text, SAID, SAID_HERE)
+    rules = f'<meta http-equiv="Content-Security-Policy" content="{policy(scripts, style)}">\n'
+    text = put(text, "<title>", f"{rules}<title>")
+    said = {"tried": TRIED, "playouts": playouts, "sources": sources(), "kit": build.kit_said()}
+    words = " ".join(f'data-{name}="{value}"' for name, value in said.items())
+    parts = [
+        f'<script type="text/plain" id="worker">{(HERE / "worker.js").read_text()}</script>',
+        f'<script type="text/plain" id="hexd" {words} data-packed>{packed(module)}</script>',
+        f'<script type="text/plain" id="openings" data-packed>{packed(json.dumps(openings()).encode())}</script>',
+        *(f"<script>{script}</script>" for script in scripts),
+    ]
+    return put(text, "</body>", "\n".join([*parts, "</body>"]))
+
+
+def content(text):
+    """The page with what is packed in it in words that don't depend on how it was packed."""
+    return PACKED.sub(lambda found: hashlib.sha256(unpacked(found[0])).hexdigest(), text)
+
+
+def module_of(file):
+    """The module's bytes, made anew if no file is named."""
+    if file:
+        return file.read_bytes()
+    with tempfile.TemporaryDirectory(prefix="hexd-page-") as folder:
+        made = Path(folder) / "hexd.wasm"
+        build.build(made)
+        return made.read_bytes()
+
+
+def is_same(shipped, module):
+    """Whether a shipped page is what its sources make; if they aren't those of the tree there is nothing to compare."""
+    said = dict(re.findall(r'data-(playouts|sources|kit)="([^"]*)"', shipped))
+    for name, here in (("sources", sources()), ("kit", build.kit_said())):
+        if said.get(name) != here:
+            print(f"web/page.py: the page is of other {name} ({said.get(name)}), so it isn't compared", file=sys.stderr)
+            return True
+    return content(shipped) == content(page(module_of(module), int(said["playouts"])))
+
+
+def main():
+    parser = argparse.ArgumentParser(prog="web/page.py")
+    parser.add_argument("--module", type=Path, metavar="FILE")
+    parser.add_argument("--playouts", type=int, default=PLAYOUTS, metavar="N")
+    parser.add_argument("--compare", type=Path, metavar="FILE")
+    parser.add_argument("out", type=Path, nargs="?", default=HERE / "out" / "hexd.html", metavar="OUT")
+    options = parser.parse_args()
+    try:
+        if not options.compare:
+            made = page(module_of(options.module), options.playouts)
+            options.out.parent.mkdir(parents=True, exist_ok=True)
+            options.out.write_text(made)
+        elif not is_same(options.compare.read_text(), options.module):
+            raise build.Refused(f"{options.compare} is not what its sources make")
+    except (build.Refused, OSError) as fault:
+        print(f"web/page.py: {fault}", file=sys.stderr)
+        return 1
+    return 0
+
+
+if __name__ == "__main__":
+    sys.exit(main())

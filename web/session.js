@@ -1,0 +1,83 @@
+'use strict';
+// A session in the page itself: a run of hexd in a worker, in place of a server's process. It has the interface of
+// board/page/session.js, and page.py puts it in its place.
+
+/** hexd refused a request; the message is its line. */
+class Refused extends Error {}
+
+// A page's hexd has one thread.
+const SETTINGS = {playouts: Number(HEXD.dataset.playouts), weight: 0, workers: 1};
+// The file that stands for a record (worker.js).
+const RECORD = 'record.sgf';
+
+/** The text of an answer of HTP, behind `=` and a space; Refused with it if it is a failure. */
+function answered(answer) {
+  const text = answer.slice(answer.indexOf(' ') + 1);
+  if (answer.startsWith('=')) return text;
+  throw new Refused(text);
+}
+
+class Session {
+  constructor(run) {
+    this.run = run;
+    this.solving = null;
+  }
+
+  static async settings() { return SETTINGS; }
+
+  /** Opens a session whose searches have so many playouts; without a number as many as the settings say. */
+  static async open(playouts = '') {
+    const options = Object.entries({...SETTINGS, ...playouts && {playouts}});
+    return new Session(await Run.start(['htp', ...options.flatMap(([name, value]) => [`--${name}`, `${value}`])]));
+  }
+
+  /** There is always room. */
+  static async makeRoom() {}
+
+  /** The text of a record in hexd's form, which is all that is read here: {record, notes}. */
+  static async convert(bytes) {
+    const text = new TextDecoder().decode(bytes), begin = text.indexOf('(;');
+    if (begin < 0) throw new Refused('this is no record in SGF');
+    return {record: text.slice(begin), notes: []};
+  }
+
+  /** Who is proved to win after Black's first stone on each cell of which it is known: 'black' or 'white' by vertex. */
+  static async winners(size) { return winnersOf(size); }
+
+  /** Who is proved to win after Black's first stone on this cell: 'black', 'white' or null. */
+  static async winner(size, vertex) { return winnerOf(size, vertex); }
+
+  /** What stands before the `#` of a link: nothing if the page lies on a disk, which nobody else has. */
+  static get address() { return location.protocol === 'file:' ? '' : location.href.replace(/#.*/, ''); }
+
+  /** The text that answers a line; Refused with hexd's words where it is a failure. */
+  async ask(line) { return answered(await this.run.ask(line)); }
+
+  /** The same, with null for a failure. */
+  async tell(line) {
+    try {
+      return await this.ask(line);
+    } catch (fault) {
+      if (fault instanceof Refused) return null;
+      throw fault;
+    }
+  }
+
+  /** Has hexd load a record, a text or a file. */
+  async load(record) {
+    this.run.give({file: new Uint8Array(await new Blob([record]).arrayBuffer())});
+    await this.ask(`loadsgf ${RECORD}`);
+  }
+
+  /** What a second run says of a certificate. */
+  async check(certificate) { return checked(certificate); }
+
+  /** What `hexd solve` says of the position of a record, in a run of its own, which `close` ends too. */
+  async solve(record, budget) {
+    this.solving = await Run.start(['solve', '--budget', `${budget}`]);
+    return this.solving.all(record);
+  }
+
+  /** Ends the session. Who waits for an answer meets SessionLost. */
+  close() { for (const run of [this.run, this.solving]) run?.stop('it was closed'); }
+}
