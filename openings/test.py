@@ -122,7 +122,8 @@ def expect_whole_files(folder):
     copied.mkdir()
     for path in [FOLDER / "check", *FOLDER.glob("*.py"), *FOLDER.glob("*.tsv"), *FOLDER.glob("3-*")]:
         shutil.copy(path, copied)
-    (folder / "tools").symlink_to(FOLDER.parent / "tools")
+    for name in ("tools", "board"):
+        (folder / name).symlink_to(FOLDER.parent / name)
     packed = bytearray((copied / f"3-a1{ENDING}").read_bytes())
     packed[len(packed) // 2] ^= 1
     (copied / f"3-a1{ENDING}").write_bytes(packed)

@@ -104,7 +104,7 @@ class Panel {
     const enable = (id, can) => { byId(id).disabled = Boolean(lost) || !can; };
     for (const id of ['first', 'back', 'undo']) enable(id, at.parent);
     for (const id of ['forth', 'end']) enable(id, at.next);
-    for (const id of ['new', 'size', 'save', 'open', 'player-b', 'player-w', 'strength']) enable(id, true);
+    for (const id of ['new', 'size', 'open', 'player-b', 'player-w', 'strength']) enable(id, true);
     for (const id of ['hint', 'go']) enable(id, !game.winner);
     enable('analyse', size.line.length > 1);
     enable('prove', !game.winner && game.size <= LARGEST_PROVED);
