@@ -14,6 +14,8 @@ mod of_hex_board;
 #[cfg(test)]
 mod of_hex_cells;
 #[cfg(test)]
+mod of_hex_found;
+#[cfg(test)]
 mod of_hex_game;
 #[cfg(test)]
 mod of_hex_io;

@@ -1,6 +1,7 @@
 //! The solver from end to end: who wins small boards by which claim, the checker's word on each
 //! certificate, and what is spent where it is unknown.
 
+use super::of_hex_found::sought;
 use super::of_hsearch::board_of;
 use cert_check::check;
 use conn_store::Kind;
@@ -56,18 +57,16 @@ fn small_boards(rt: HostRuntime) {
     use Kind::{Full, Semi};
     // 3^k for Black's stone on cell k, twice that for White's.
     let (after_a2, file_a, after_two) = (9, 1 + 81 + 6_561, 1 + 2 * 81);
-    let after_d1 = 27;
     // Size, stones, the mover, connections, the budget, and what is told.
-    let rows: [(u32, u32, Colour, bool, u64, Answer); 10] = [
+    let rows: [(u32, u32, Colour, bool, u64, Answer); 9] = [
         // `budget-one` and `budget-for-four-cells`: four empty cells have the bound 65.
         (2, 0, Black, false, 1, Answer::Unknown(1, false)),
         (2, 0, Black, false, 65, Answer::Won(Black, Semi)),
         // `the-other-moves`: Black wins, though White moves.
         (2, after_a2, White, true, 65, Answer::Won(Black, Full)),
         (2, after_a2, White, false, 65, Answer::Won(Black, Full)),
-        // Black's two threats have no cell in common, so one position is enough; not so after d1.
+        // Black's two threats have no cell in common, so one position is enough.
         (2, after_a2, White, true, 1, Answer::Won(Black, Full)),
-        (4, after_d1, White, true, 1, Answer::Unknown(1, true)),
         // `over-already`.
         (1, 1, White, false, 1, Answer::Over(Black)),
         // `semi-at-the-root`: a4 alone joins Black's a1, a2 and a3 to his second edge.
@@ -80,6 +79,25 @@ fn small_boards(rt: HostRuntime) {
         let size = Size::of(size).expect(&rt, "a size");
         let board = board_of(size, stones);
         let Ok(answer) = told(rt.alloc(), &board, mover, hsearch, budget) else {
+            panic!(rt; "there is memory");
+        };
+        assert_eq!(rt; answer, expected);
+    }
+}
+
+#[test]
+fn budget_of_connections(rt: HostRuntime) {
+    // Size 4 after d1, of which the search without connections needs far more positions.
+    let enough = sought(&rt, rt.alloc(), u64::MAX).entered;
+    assert!(rt; 1 < enough);
+    let rows = [
+        (enough, Answer::Won(Colour::Black, Kind::Full)),
+        (enough - 1, Answer::Unknown(enough - 1, true)),
+        (1, Answer::Unknown(1, true)),
+    ];
+    let board = board_of(Size::of(4).expect(&rt, "a size"), 27);
+    for (budget, expected) in rows {
+        let Ok(answer) = told(rt.alloc(), &board, Colour::White, true, budget) else {
             panic!(rt; "there is memory");
         };
         assert_eq!(rt; answer, expected);

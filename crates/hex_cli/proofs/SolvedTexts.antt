@@ -10,7 +10,7 @@ use Rattle.hex_cli.specs.SolveTexts.{IsSolved, next_mover}
 
 -- what the solver promises of each answer
 pub solved_by : (hsearch : Bool) (budget : ℕ) (p : Position) (mover : Colour) (solved : Solved)
-    → WinnerWins p mover solved → WonIsCertified p mover solved → WonIsShort p mover hsearch solved → UnknownNeedsMore p mover hsearch budget solved → TooLongNeedsMany p mover hsearch budget solved → OpenIsFull p solved
+    → WinnerWins p mover solved → WonIsCertified p mover solved → WonIsShort p mover hsearch solved → UnknownNeedsMore p mover hsearch budget solved → TooLongNeedsMany p mover solved → OpenIsFull p solved
     → IsSolved hsearch budget p mover solved
 solved_by hsearch budget p mover (Won winner cert) wins won short unknown long filled = (wins, won, short)
 solved_by hsearch budget p mover (Unknown spent own) wins won short unknown long filled = unknown

@@ -17,7 +17,8 @@ use Rattle.hex_game.specs.Games.{GameData, board_of}
 use Rattle.hex_game.specs.declared.moves.Step.{Step}
 use Rattle.sgf_game.specs.RecordOf.{IsGameOf}
 use Rattle.hex_solve.specs.Deciding.{need}
-use Rattle.hex_solve.specs.Solved.{Certifies, IsBeyond, IsOpenBoard, IsOwnReport, few_cells}
+use Rattle.hex_found.specs.Found.{Certifies}
+use Rattle.hex_solve.specs.Solved.{IsOpenBoard, IsOwnReport, few_cells}
 use Rattle.hex_solve.specs.declared.answers.Solved.{Solved}
 use Rattle.hex_solve.specs.declared.answers.Solved.TheVariants.{Won, Unknown, TooLong, Open}
 
@@ -45,18 +46,16 @@ CanBeWritten (Open full) = Unit {0}
 -- What the solver may answer, with connections or without and with this budget, of the position p
 -- with `mover` to place. Who is told to win does, whatever the other does. His certificate shows
 -- it, and without connections it has at most two lines for each position that the search needs; or
--- it would have more lines than one may have, and then more cells are empty than a few, and the
--- search without connections needs more than half as many positions, or, with connections, more
--- than the budget. Where nobody is told to win, the budget is spent, and the search needs more; or
--- a full board keeps the stones of p, and nobody is joined on it.
+-- it would have more lines than one may have, at most two for each of these positions, and then
+-- more cells are empty than a few. Where nobody is told to win, the budget is spent, and the search
+-- needs more; or a full board keeps the stones of p, and nobody is joined on it.
 abbrev pub IsSolved : Bool → ℕ → Position → Colour → Solved → Type 0
 IsSolved hsearch budget p mover (Won winner cert) = Wins winner p mover
     × Certifies p mover winner cert × (hsearch ≡ false → length cert.lines ≤ 2 * need p mover)
 IsSolved hsearch budget p mover (Unknown spent own) =
     (spent ≡ budget) × (budget < need p mover) × IsOwnReport p mover hsearch own
 IsSolved hsearch budget p mover (TooLong winner lines) = Wins winner p mover
-    × (MOST_LINES < lines) × (few_cells < empty_count p)
-    × ((MOST_LINES < 2 * need p mover) ⊎ IsBeyond p mover hsearch budget)
+    × (MOST_LINES < lines) × (lines ≤ 2 * need p mover) × (few_cells < empty_count p)
 IsSolved hsearch budget p mover (Open full) = IsOpenBoard p full
 
 -- a player is joined on the game's board, and the text says who

@@ -16,15 +16,14 @@ use Rattle.win_cert.specs.Entries.{ScopedEntry, entry_at}
 use Rattle.win_cert.specs.Reasons.{reason_against}
 use Rattle.win_cert.specs.declared.statements.Statement.TheVariants.{Derivation}
 use Rattle.win_cert.specs.Writable.{IsLineOf}
-use Rattle.win_cert.specs.declared.certs.TheConstants.{LATEST_VERSION}
+use Rattle.win_cert.specs.declared.certs.TheConstants.{LATEST_VERSION, MOST_LINES}
 use Rattle.win_cert.specs.declared.lines.Line.{Line}
 use Rattle.win_cert.specs.declared.lines.Line.TheVariants.{Put, Done, Move}
 use Rattle.win_cert.specs.declared.lines.TheConstants.{MOST_NUMBER}
-use Rattle.hex_solve.specs.declared.known.TheConstants.{LEDGER_LINES}
 use Rattle.hex_solve.specs.Ledgers.{GrowsBy, IsLedger, LedgerData, MayStandNext, ShowsWin, read_of, with_one_line}
 use Rattle.win_cert.specs.Contexts.{AreClear, after_lines}
 use Rattle.win_cert.specs.Showing.{IsReached, Keeps, Shows, scope_of}
-use Rattle.hex_solve.proofs.TwoLines.{TwoShow, base_same, room_same, second_follows, two_shown}
+use Rattle.hex_solve.proofs.TwoLines.{TwoShow, base_same, second_follows, two_shown}
 use Rattle.hex_solve.proofs.LedgerLaws.{base_of, grows_on, grows_one, no_room, number_next, small_on}
 use Rattle.win_cert.proofs.Reaching.{kept_reached, scope_own}
 use Rattle.win_cert.proofs.Shown.{put_done, put_move}
@@ -32,25 +31,22 @@ use Rattle.win_cert.proofs.ScopeLines.{put_right}
 
 -- ---- room
 
-pub none_lost : (d : LedgerData) → IsLedger d → length d.lines < d.room → d.lost ≡ 0
+pub none_lost : (d : LedgerData) → IsLedger d → length d.lines < MOST_LINES → d.lost ≡ 0
 none_lost d w l = elim (cases_eq d.lost 0) [
   | inl e ↦ e
-  | inr n ↦ let e : length d.lines ≡ d.room = w.full (omega arith) in absurd (omega arith)
+  | inr n ↦ let e : length d.lines ≡ MOST_LINES = w.full (omega arith) in absurd (omega arith)
 ]
 
-room_back : (d : LedgerData) (line : Line) → length (with_one_line d line).lines < d.room → length d.lines < d.room
-room_back d line l = elim (cases_lt (length d.lines) d.room) [
+room_back : (d : LedgerData) (line : Line) → length (with_one_line d line).lines < MOST_LINES → length d.lines < MOST_LINES
+room_back d line l = elim (cases_lt (length d.lines) MOST_LINES) [
   | inl m ↦ m
   | inr m ↦ let e : length (with_one_line d line).lines ≡ length d.lines = ap (λ (e : LedgerData). length e.lines) (no_room d line m) in omega arith
 ]
 
-room_left : (d e : LedgerData) (line : Line) → e ≡ with_one_line d line → length e.lines < e.room → length (with_one_line d line).lines < d.room
-room_left d e line q l = subst (λ v. length (with_one_line d line).lines < v) (room_same d line) (subst (λ (v : LedgerData). length v.lines < v.room) q l)
-
-pub follows_second : (d e : LedgerData) (line next : Line) → IsLedger d → e ≡ with_one_line d line → (d.lost ≡ 0 → AreClear (read_of d) (line ∷ next ∷ [])) → length e.lines < e.room
+pub follows_second : (d e : LedgerData) (line next : Line) → IsLedger d → e ≡ with_one_line d line → (d.lost ≡ 0 → AreClear (read_of d) (line ∷ next ∷ [])) → length e.lines < MOST_LINES
     → reason_against (read_of e) (Derivation next) ≡ None
 follows_second d e line next w q f l =
-    let m : length (with_one_line d line).lines < d.room = room_left d e line q l in
+    let m : length (with_one_line d line).lines < MOST_LINES = subst (λ (v : LedgerData). length v.lines < MOST_LINES) q l in
     subst (λ (v : LedgerData). reason_against (read_of v) (Derivation next) ≡ None) (sym q)
     (second_follows d line next (f (none_lost d w (room_back d line m))) m)
 
@@ -111,8 +107,7 @@ number_below d i a h =
 pub shown_below : (d : LedgerData) (p : Position) (kind : Kind) (s i : ℕ) → IsLedger d → Shows (read_of d) p kind s i → i ≤ MOST_NUMBER
 shown_below d p kind s i w h =
     let l : i < length d.lines = number_below d i h.gives.entry h.gives.at in
-    let m : length d.lines ≤ d.room = w.few in
-    let b : d.room ≤ LEDGER_LINES = w.bounded in
+    let m : length d.lines ≤ MOST_LINES = w.few in
     omega arith
 
 pub move_form : (d : LedgerData) (p : Position) (k i : ℕ) → IsLedger d → Keeps d.base.board p → is_empty_at p k ≡ true → ShowsWin d (placed p d.base.player k) Full i → d.lost ≡ 0
@@ -125,8 +120,8 @@ move_form d p k i w e h f z = (
 
 -- ---- as the code goes
 
-pub room_had : (d e : LedgerData) (line : Line) → e ≡ with_one_line d line → length e.lines < e.room → length d.lines < d.room
-room_had d e line q l = room_back d line (room_left d e line q l)
+pub room_had : (d e : LedgerData) (line : Line) → e ≡ with_one_line d line → length e.lines < MOST_LINES → length d.lines < MOST_LINES
+room_had d e line q l = room_back d line (subst (λ (v : LedgerData). length v.lines < MOST_LINES) q l)
 
 pub base_kept : (d e : LedgerData) (line : Line) → e ≡ with_one_line d line → e.base ≡ d.base
 base_kept d e line q = ap (λ (v : LedgerData). v.base) q ∙ base_same d line

@@ -13,11 +13,11 @@ use Rattle.hex_solve.specs.Deciding.{need}
 use Rattle.hex_solve.specs.Ledgers.{GrowsBy, IsLedger, LedgerData, ShowsWin, count_of}
 use Rattle.hex_solve.specs.Marks.{IsBefore, mark_of}
 use Rattle.hex_solve.specs.Solved.{IsOpenBoard}
-use Rattle.hex_solve.specs.Searching.{IsSearch, IsShownBy, IsStop, tree_lines}
+use Rattle.hex_solve.specs.PlainSearch.{IsSearch, IsShownBy, IsStop, tree_lines}
 use Rattle.std.specs.Prelude.{Ok}
-use Rattle.hex_solve.specs.declared.searching.Found.{Found}
-use Rattle.hex_solve.specs.declared.searching.Stop.{Stop}
-use Rattle.hex_solve.specs.declared.searching.Stop.TheVariants.{Spent, Open, Memory}
+use Rattle.hex_solve.specs.declared.plain_search.Found.{Found}
+use Rattle.hex_solve.specs.declared.plain_search.Stop.{Stop}
+use Rattle.hex_solve.specs.declared.plain_search.Stop.TheVariants.{Spent, Open, Memory}
 use Rattle.win_cert.specs.Showing.{Keeps}
 use Rattle.hex_solve.specs.declared.ledgers.Mark.{Mark}
 use Rattle.hex_solve.proofs.LedgerLaws.{grows_on}
@@ -63,7 +63,7 @@ pub mover_wins : (p : Position) (mover : Colour) (begun own start other mine the
 mover_wins p mover begun own start other mine theirs last back most left rest numbers cells k i line mark w e a h n ledger at (r, (g, s, q, f, b)) grow show undo =
     let m : ℕ = need (placed p mover k) (other_of mover) in
     let win = trying_won p mover own start other most left rest numbers cells k w a h n r f in
-    let before : IsBefore start mark theirs = record { ledger = ledger; mark_is = at; base = ap (λ (d : LedgerData). d.base) q ∙ w.grows.base; room = ap (λ (d : LedgerData). d.room) q ∙ w.grows.room; more = w.grows.more; lines = ap (λ (d : LedgerData). d.lines) q ∙ w.grows.lines; learnt = w.grows.learnt; known = ap (λ (d : LedgerData). d.known) q ∙ w.grows.known } in (
+    let before : IsBefore start mark theirs = record { ledger = ledger; mark_is = at; base = ap (λ (d : LedgerData). d.base) q ∙ w.grows.base; more = w.grows.more; lines = ap (λ (d : LedgerData). d.lines) q ∙ w.grows.lines } in (
       win.entered,
       (
         subst (λ (d : LedgerData). GrowsBy (2 * need p mover) d last) e (grows_wider (2 * m + 2) (2 * need p mover) own last (wide m (need p mover) win.more) (grows_on (2 * m) 2 own mine last g grow)),

@@ -12,9 +12,9 @@ use Rattle.win_cert.proofs.Appending.{after_append}
 use Rattle.win_cert.proofs.Appending.{shown_on}
 
 pub grows_wider : (a b : ℕ) (d e : LedgerData) → a ≤ b → GrowsBy a d e → GrowsBy b d e
-grows_wider a b d e l g = record { base = g.base; room = g.room; more = g.more; lines = g.lines; lost = g.lost; count = omega (arith, g.count); learnt = g.learnt; known = g.known }
+grows_wider a b d e l g = record { base = g.base; more = g.more; lines = g.lines; lost = g.lost; count = omega (arith, g.count) }
 
-pub read_grown : (a : ℕ) (d e : LedgerData) (g : GrowsBy a d e) → read_of e ≡ after_lines (read_of d) g.more
+read_grown : (a : ℕ) (d e : LedgerData) (g : GrowsBy a d e) → read_of e ≡ after_lines (read_of d) g.more
 read_grown a d e g =
     ap (λ (b : PlayerBoard). after_lines (first_context b.board b.player) e.lines) g.base
     ∙ ap (after_lines (first_context d.base.board d.base.player)) g.lines

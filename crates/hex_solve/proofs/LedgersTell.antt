@@ -1,6 +1,6 @@
 -- The end of the plain search: the certificate of a ledger, or why there is none.
-use Rattle.std.proofs.Common.{◌≡◌, ℕ, ◌+◌, ◌-◌, ◌*◌, ◌^◌, ◌<◌, ◌≤◌, ◌&&◌, not, true, false, Bool, List, Some, length, min, refl, sym, ◌∙◌, ap, subst, inl, inr, arith}
-use Rattle.std.proofs.lemmas.Bool.{cases_eq, cases_lt}
+use Rattle.std.proofs.Common.{◌≡◌, ℕ, ◌+◌, ◌-◌, ◌*◌, ◌^◌, ◌<◌, ◌≤◌, ◌&&◌, not, true, false, Bool, All, Some, length, min, refl, sym, ◌∙◌, ap, subst, inl, inr, arith}
+use Rattle.std.proofs.lemmas.Bool.{cases_lt}
 use Rattle.hex_cells.specs.Colours.{other_of}
 use Rattle.hex_cells.specs.Sets.{has, without_cells}
 use Rattle.hex_cells.specs.declared.colours.Colour.{Colour}
@@ -11,22 +11,17 @@ use Rattle.hex_board.specs.Positions.{Position, stones_of}
 use Rattle.hex_board.specs.Wins.{empty_count}
 use Rattle.conn_store.specs.declared.entries.Kind.{Kind}
 use Rattle.conn_store.specs.declared.entries.Kind.TheVariants.{Full, Semi}
-use Rattle.win_cert.specs.Writable.{HasBoard, IsWritable}
-use Rattle.win_cert.specs.Verdicts.{Accepted}
-use Rattle.win_cert.specs.Laws.{WinsAsClaimed, first_mover}
-use Rattle.hex_board.specs.Wins.{Wins}
-use Rattle.hex_board.specs.Positions.{IsPosition}
-use Rattle.hex_solve.specs.Strong.{IsWonIn}
+use Rattle.win_cert.specs.Scopes.{player_board}
+use Rattle.win_cert.specs.Writable.{IsLineOf}
 use Rattle.win_cert.specs.declared.certs.Cert.{Cert}
-use Rattle.win_cert.specs.declared.lines.Line.{Line}
 use Rattle.win_cert.specs.declared.certs.TheConstants.{LATEST_VERSION, MOST_LINES}
 use Rattle.hex_solve.specs.Deciding.{need}
-use Rattle.hex_solve.specs.declared.known.TheConstants.{LEDGER_LINES}
 use Rattle.hex_solve.specs.Ledgers.{IsLedger, LedgerData, ShowsWin, count_of, read_of}
-use Rattle.hex_solve.specs.Solved.{claim_for, few_cells}
-use Rattle.hex_solve.specs.Searching.{IsShownBy, tree_lines}
+use Rattle.hex_found.specs.Found.{IsCertifiedWinner, claim_for}
+use Rattle.hex_solve.specs.Solved.{few_cells}
+use Rattle.hex_solve.specs.PlainSearch.{IsShownBy, tree_lines}
 use Rattle.win_cert.specs.Showing.{GivesEdges, Shows, scope_of}
-use Rattle.hex_solve.specs.Telling.{IsCertOf, IsCertifiedWinner, IsToldBy, IsOverlong}
+use Rattle.hex_solve.specs.PlainAnswer.{IsCertOf, IsToldBy, IsOverlong}
 use Rattle.win_cert.proofs.Accepting.{accepted}
 use Rattle.hex_solve.proofs.AddedLines.{shown_below}
 use Rattle.hex_solve.proofs.FirstWins.{first_wins}
@@ -42,66 +37,41 @@ no_more false = refl
 pub no_scope : (base : PlayerBoard) → scope_of base base.board ≡ 0
 no_scope base = let s = stones_of base.board base.player in same_set (without_cells s s) 0 (λ k. has_without_cells s s k ∙ (no_more (has s k) ∙ sym (has_none k)))
 
--- the certificate of the lines, of any length
-abbrev cert_with : LedgerData → Kind → ℕ → Cert
-cert_with d claim entry = record { version = LATEST_VERSION; board = d.base.board; player = d.base.player; lines = d.lines; claim = claim; entry = entry }
+pub certified : (d : LedgerData) (claim : Kind) (cert : Cert) → IsLedger d → d.lost ≡ 0 → ShowsWin d d.base.board claim cert.entry → cert.version ≡ LATEST_VERSION → cert.board ≡ d.base.board
+    → cert.player ≡ d.base.player → cert.claim ≡ claim → cert.lines ≡ d.lines → IsCertOf d claim cert
+certified d claim cert w z f v b p k l =
+    let base : PlayerBoard = player_board cert in
+    let same : base ≡ d.base = ap (λ (x : Position). record { board = x; player = cert.player }) b ∙ ap (λ (c : Colour). record { board = d.base.board; player = c }) p in
+    let e : LedgerData = record { base = base; lines = cert.lines; lost = d.lost } in
+    let is : e ≡ d = ap (λ (x : PlayerBoard). record { base = x; lines = cert.lines; lost = d.lost }) same ∙ ap (λ xs. record { base = d.base; lines = xs; lost = d.lost }) l in
+    let ledger : IsLedger e = subst IsLedger (sym is) w in
+    let shown : Shows (read_of d) d.base.board claim (scope_of d.base d.base.board) cert.entry = f z in
+    let gives : GivesEdges (read_of d) claim 0 shown.carrier cert.entry = subst (λ s. GivesEdges (read_of d) claim s shown.carrier cert.entry) (no_scope d.base) shown.gives in
+    let there : GivesEdges (read_of e) cert.claim 0 shown.carrier cert.entry = subst (λ (x : Kind). GivesEdges (read_of e) x 0 shown.carrier cert.entry) (sym k)
+    (subst (λ (x : LedgerData). GivesEdges (read_of x) claim 0 shown.carrier cert.entry) (sym is) gives) in
+    record {
+      latest = v;
+      board = b;
+      player = p;
+      claims = k;
+      lines = l;
+      writable = (
+        record {
+          version = inr v;
+          lines = subst (λ n. All (IsLineOf n cert.board.size) cert.lines) (sym v) ledger.form;
+          entry = shown_below d d.base.board claim (scope_of d.base d.base.board) cert.entry w shown;
+        },
+        ledger.few,
+      );
+      accepted = (accepted cert shown.carrier ledger.clear there).0;
+    }
 
-accepted_with : (d : LedgerData) (claim : Kind) (entry : ℕ) → IsLedger d → d.lost ≡ 0 → ShowsWin d d.base.board claim entry → Accepted (cert_with d claim entry)
-accepted_with d claim entry w z f =
-    let shown : Shows (read_of d) d.base.board claim (scope_of d.base d.base.board) entry = f z in
-    (accepted (cert_with d claim entry) shown.carrier w.clear (subst (λ s. GivesEdges (read_of d) claim s shown.carrier entry) (no_scope d.base) shown.gives)).0
-
-writable_with : (d : LedgerData) (claim : Kind) (entry : ℕ) → IsLedger d → d.lost ≡ 0 → length d.lines ≤ MOST_LINES → ShowsWin d d.base.board claim entry → IsWritable (cert_with d claim entry)
-writable_with d claim entry w z l f = (record { version = inr refl; lines = w.form; entry = shown_below d d.base.board claim (scope_of d.base d.base.board) entry w (f z) }, l)
-
-pub certified : (d : LedgerData) (claim : Kind) (cert : Cert) → IsLedger d → d.lost ≡ 0 → length d.lines ≤ MOST_LINES → ShowsWin d d.base.board claim cert.entry → cert ≡ cert_with d claim cert.entry → IsCertOf d claim cert
-certified d claim cert w z l f e = record {
-  board = ap (λ (c : Cert). c.board) e;
-  player = ap (λ (c : Cert). c.player) e;
-  claims = ap (λ (c : Cert). c.claim) e;
-  lines = ap (λ (c : Cert). c.lines) e;
-  writable = subst IsWritable (sym e) (writable_with d claim cert.entry w z l f);
-  accepted = subst Accepted (sym e) (accepted_with d claim cert.entry w z f);
-}
-
--- the same, as the code goes
-pub certified_from : (d x : LedgerData) (claim : Kind) (entry : ℕ) (lines : List Line) → x ≡ d → IsLedger x → x.lost ≡ 0 → length x.lines ≤ MOST_LINES → ShowsWin d d.base.board claim entry → lines ≡ x.lines
-    → IsCertOf d claim (record { version = LATEST_VERSION; board = x.base.board; player = x.base.player; lines = lines; claim = claim; entry = entry })
-certified_from d x claim entry lines e w z l f q =
-    let g : ShowsWin x x.base.board claim entry = subst (λ (v : LedgerData). ShowsWin v v.base.board claim entry) (sym e) f in
-    let cert : List Line → Cert = λ ys. record { version = LATEST_VERSION; board = x.base.board; player = x.base.player; lines = ys; claim = claim; entry = entry } in
-    subst (λ (v : LedgerData). IsCertOf v claim (cert lines)) e (subst (λ ys. IsCertOf x claim (cert ys)) (sym q) (certified x claim (cert_with x claim entry) w z l g refl))
-
--- a ledger's certificate would have so many lines
-pub too_many : (d x : LedgerData) (n l : ℕ) → x ≡ d → IsLedger x → (x.lost ≡ 0 → MOST_LINES < length x.lines) → l ≡ length x.lines → n ≡ min (l + x.lost) (2 ^ 64 - 1) → (MOST_LINES < n) × (MOST_LINES < count_of d)
-too_many d x n l q w f m e = elim (cases_eq x.lost 0) [
-  | inl z ↦ let k : MOST_LINES < length x.lines = f z in let b : length x.lines ≤ x.room = w.few in let c : x.room ≤ LEDGER_LINES = w.bounded in (omega arith, subst (λ (v : LedgerData). MOST_LINES < count_of v) q (omega arith))
-  | inr z ↦
-      let full : length x.lines ≡ x.room = w.full (omega arith) in
-      let k : MOST_LINES ≤ x.room = w.enough in
-      let c : x.room ≤ LEDGER_LINES = w.bounded in
-      (omega arith, subst (λ (v : LedgerData). MOST_LINES < count_of v) q (omega arith))
-]
-
--- the law of accepted certificates
-abbrev pub AcceptedWins : Type 0
-AcceptedWins = (cert : Cert) → HasBoard cert → Accepted cert → WinsAsClaimed cert
-
-first_for : (c mover : Colour) → first_mover (claim_for c mover) c ≡ mover
-first_for Black Black = refl
-first_for Black White = refl
-first_for White Black = refl
-first_for White White = refl
-
--- lines of any length show that the player wins
-pub wins_long : (p : Position) (mover winner : Colour) (claim : Kind) (line : ℕ) (d : LedgerData) → IsWonIn p mover claim line d → winner ≡ d.base.player → IsLedger d → d.lost ≡ 0 → IsPosition p.size p.black p.white → AcceptedWins
-    → Wins winner p mover
-wins_long p mover winner claim line d t e w z on law =
-    let cert = cert_with d claim line in
-    let there : HasBoard cert = subst (λ (x : Position). IsPosition x.size x.black x.white) (sym t.board) on in
-    let wins : Wins d.base.player d.base.board (first_mover claim d.base.player) = law cert there (accepted_with d claim line w z t.shows) in
-    let first : first_mover claim d.base.player ≡ mover = ap (λ (k : Kind). first_mover k d.base.player) t.claims ∙ first_for d.base.player mover in
-    subst (λ (c : Colour). Wins c p mover) (sym e) (subst (λ (x : Position). Wins d.base.player x mover) t.board (subst (λ (c : Colour). Wins d.base.player d.base.board c) first wins))
+-- the lines were too many
+pub too_many : (d x : LedgerData) (n l : ℕ) → x ≡ d → IsLedger x → ¬ (x.lost ≡ 0) → l ≡ length x.lines → n ≡ min (l + x.lost) (2 ^ 64 - 1) → (MOST_LINES < n) × (n ≤ count_of d)
+too_many d x n l q w f m e =
+    let full : length x.lines ≡ MOST_LINES = w.full (omega (arith, f)) in
+    let small : x.lost < 2 ^ 64 = w.small in
+    (omega (arith, f), subst (λ (v : LedgerData). n ≤ count_of v) q (omega arith))
 
 -- ---- what is told
 
@@ -110,6 +80,7 @@ pub won_told : (p : Position) (mover : Colour) (claim : Kind) (line : ℕ) (d : 
 won_told p mover claim line d cert winner t c w = (
   record {
     certified = record {
+      latest = c.latest;
       writable = c.writable;
       accepted = c.accepted;
       board = c.board ∙ t.board;
@@ -130,14 +101,15 @@ over_nine p claim n l m = elim (cases_lt 9 (empty_count p)) [
   | inr h ↦ let t : tree_lines claim (empty_count p) ≤ 7220 = tree_few claim (empty_count p) h in absurd (omega arith)
 ]
 
-pub long_told : (p : Position) (mover : Colour) (claim : Kind) (line : ℕ) (d : LedgerData) (winner : Colour) (lines : ℕ) → IsToldBy p mover claim line d → winner ≡ d.base.player → MOST_LINES < count_of d → MOST_LINES < lines
+pub long_told : (p : Position) (mover : Colour) (claim : Kind) (line : ℕ) (d : LedgerData) (winner : Colour) (lines : ℕ) → IsToldBy p mover claim line d → winner ≡ d.base.player → (MOST_LINES < lines) × (lines ≤ count_of d)
     → IsOverlong p mover winner lines
-long_told p mover claim line d winner lines t w many l =
+long_told p mover claim line d winner lines t w (l, m) =
+    let many : MOST_LINES < count_of d = omega arith in
     record {
       wins = first_wins p mover winner (t.first_is ∙ ap Some (sym w));
       long = l;
       large = over_nine p claim (count_of d) t.tree many;
-      needs = let e : count_of d ≤ 2 * need p mover = t.entered in omega arith;
+      fewer = let e : count_of d ≤ 2 * need p mover = t.entered in omega arith;
     }
 
 -- ---- the two ledgers at the end

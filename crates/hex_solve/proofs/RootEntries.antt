@@ -10,17 +10,21 @@ use Rattle.conn_store.specs.declared.entries.Held.{Held}
 use Rattle.conn_store.specs.declared.entries.Kind.{Kind}
 use Rattle.conn_store.specs.declared.entries.Kind.TheVariants.{Semi}
 use Rattle.win_cert.specs.Cuts.{AreEdgeNumbers, CertifiesEntry}
-use Rattle.win_cert.specs.Laws.{first_mover}
-use Rattle.win_cert.specs.Verdicts.{HaveSameVerdict, IsVerdict, raised}
+use Rattle.win_cert.specs.Laws.{WinsAsClaimed, first_mover}
+use Rattle.win_cert.specs.Verdicts.{Accepted, HaveSameVerdict, IsVerdict, raised}
 use Rattle.win_cert.specs.Writable.{HasBoard, IsWritable}
 use Rattle.win_cert.specs.declared.certs.Cert.{Cert}
 use Rattle.win_cert.specs.declared.verdicts.Verdict.TheVariants.{Yes}
 use Rattle.hex_solve.specs.Solved.{IsUndecided}
-use Rattle.hex_solve.specs.Telling.{IsCertifiedWinner}
-use Rattle.hex_solve.proofs.LedgersTell.{AcceptedWins, semi_for}
+use Rattle.hex_found.specs.Found.{IsCertifiedWinner}
+use Rattle.hex_solve.proofs.LedgersTell.{semi_for}
 
 pub no_semi : (d : StoreData) (h : Held) → AreEdgeNumbers d Semi h → h.count ≤ 0 → IsUndecided d
 no_semi d h g l n a w k = let p = g.all n a w k in absurd (omega (arith, p.1))
+
+-- the law of accepted certificates
+abbrev pub AcceptedWins : Type 0
+AcceptedWins = (cert : Cert) → HasBoard cert → Accepted cert → WinsAsClaimed cert
 
 -- the certificate of a semi entry, in the latest version, shows that the mover wins
 pub certified_win : (e : PlayerBoard) (d : StoreData) (a : Entry) (cert new : Cert) → d.elements ≡ e → a.kind ≡ Semi → CertifiesEntry d a cert → new ≡ raised cert → IsWritable new → HaveSameVerdict cert new
@@ -33,6 +37,6 @@ certified_win e d a cert new is k c r w same on law =
     let there : HasBoard new = subst (λ (x : Position). IsPosition x.size x.black x.white) (sym board) on in
     let wins : Wins new.player new.board new.player = subst (λ (x : Kind). Wins new.player new.board (first_mover x new.player)) claims (law new there v.0) in
     record {
-      certified = record { writable = w; accepted = v.0; board = board; player = player; claims = claims ∙ semi_for e.player };
+      certified = record { latest = ap (λ (x : Cert). x.version) r; writable = w; accepted = v.0; board = board; player = player; claims = claims ∙ semi_for e.player };
       wins = subst (λ (x : Colour). Wins x e.board x) player (subst (λ (x : Position). Wins new.player x new.player) board wins);
     }

@@ -2,7 +2,7 @@
 use Rattle.std.proofs.Common.{◌≡◌, ℕ, ◌+◌, ◌*◌, ◌≤◌, refl, subst, zero, suc, arith}
 use Rattle.conn_store.specs.declared.entries.Kind.{Kind}
 use Rattle.conn_store.specs.declared.entries.Kind.TheVariants.{Full, Semi}
-use Rattle.hex_solve.specs.Searching.{tree_lines}
+use Rattle.hex_solve.specs.PlainSearch.{tree_lines}
 
 pub tree_least : (kind : Kind) (m : ℕ) → 2 ≤ tree_lines kind m
 tree_least Full zero = omega arith

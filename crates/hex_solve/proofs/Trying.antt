@@ -20,7 +20,7 @@ use Rattle.win_cert.proofs.CutDerivations.{longer}
 use Rattle.hex_solve.proofs.FirstWins.{less_suc}
 use Rattle.hex_solve.specs.Deciding.{first, is_for, need, sum_up_to}
 use Rattle.hex_solve.specs.Ledgers.{AreAnswers, GrowsBy, IsAmong, LedgerData, ShowsWin, count_of}
-use Rattle.hex_solve.specs.Searching.{IsPairOfLedgers, tree_lines}
+use Rattle.hex_solve.specs.PlainSearch.{IsPairOfLedgers, tree_lines}
 use Rattle.win_cert.specs.Showing.{Keeps}
 use Rattle.hex_solve.proofs.FirstWins.{other_back}
 use Rattle.hex_solve.proofs.LedgerLaws.{grows_none, grows_on}

@@ -12,7 +12,7 @@ use Rattle.hex_board.specs.Wins.{empty_count}
 use Rattle.conn_store.specs.declared.entries.Kind.TheVariants.{Full, Semi}
 use Rattle.hex_solve.specs.Deciding.{first, is_for, need, sum_up_to}
 use Rattle.hex_solve.specs.Ledgers.{AnswerAll, GrowsBy, LedgerData, count_of}
-use Rattle.hex_solve.specs.Searching.{tree_lines}
+use Rattle.hex_solve.specs.PlainSearch.{tree_lines}
 use Rattle.hex_solve.proofs.FirstWins.{other_back}
 use Rattle.hex_solve.proofs.NextNeed.{first_other, first_own, need_after, wins_by}
 use Rattle.hex_solve.proofs.Sums.{sum_none}

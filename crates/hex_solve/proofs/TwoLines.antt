@@ -6,6 +6,7 @@ use Rattle.hex_board.specs.Positions.{Position}
 use Rattle.conn_store.specs.declared.entries.Kind.{Kind}
 use Rattle.win_cert.specs.Reasons.{reason_against}
 use Rattle.win_cert.specs.declared.statements.Statement.TheVariants.{Derivation}
+use Rattle.win_cert.specs.declared.certs.TheConstants.{MOST_LINES}
 use Rattle.win_cert.specs.declared.lines.Line.{Line}
 use Rattle.hex_solve.specs.Ledgers.{LedgerData, ShowsWin, read_of, with_one_line}
 use Rattle.win_cert.specs.Contexts.{AreClear, after_lines, context_after}
@@ -20,23 +21,17 @@ abbrev pub TwoShow : LedgerData → Position → Kind → Line → Line → Type
 TwoShow d p kind line next = AreClear (read_of d) (line ∷ next ∷ [])
     × Shows (after_lines (read_of d) (line ∷ next ∷ [])) p kind (scope_of d.base p) (length (read_of d).earlier + 1)
 
-pub second_follows : (d : LedgerData) (line next : Line) → AreClear (read_of d) (line ∷ next ∷ []) → length (with_one_line d line).lines < d.room
+pub second_follows : (d : LedgerData) (line next : Line) → AreClear (read_of d) (line ∷ next ∷ []) → length (with_one_line d line).lines < MOST_LINES
     → reason_against (read_of (with_one_line d line)) (Derivation next) ≡ None
-second_follows d line next h l = elim (cases_lt (length d.lines) d.room) [
+second_follows d line next h l = elim (cases_lt (length d.lines) MOST_LINES) [
   | inl m ↦ subst (λ c. reason_against c (Derivation next) ≡ None) (sym (read_next d line m)) h.1.0
   | inr m ↦ let e : length (with_one_line d line).lines ≡ length d.lines = ap (λ (e : LedgerData). length e.lines) (no_room d line m) in absurd (omega arith)
 ]
 
 pub base_same : (d : LedgerData) (line : Line) → (with_one_line d line).base ≡ d.base
-base_same d line = elim (cases_lt (length d.lines) d.room) [
+base_same d line = elim (cases_lt (length d.lines) MOST_LINES) [
   | inl l ↦ ap (λ (e : LedgerData). e.base) (with_room d line l)
   | inr l ↦ ap (λ (e : LedgerData). e.base) (no_room d line l)
-]
-
-pub room_same : (d : LedgerData) (line : Line) → (with_one_line d line).room ≡ d.room
-room_same d line = elim (cases_lt (length d.lines) d.room) [
-  | inl l ↦ ap (λ (e : LedgerData). e.room) (with_room d line l)
-  | inr l ↦ ap (λ (e : LedgerData). e.room) (no_room d line l)
 ]
 
 pub two_shown : (d : LedgerData) (p : Position) (kind : Kind) (line next : Line) → (d.lost ≡ 0 → TwoShow d p kind line next) → ShowsWin (with_two d line next) p kind (length d.lines + 1)

@@ -14,41 +14,26 @@ use Rattle.win_cert.specs.Writable.{IsLineOf}
 use Rattle.win_cert.specs.declared.certs.TheConstants.{LATEST_VERSION, MOST_LINES}
 use Rattle.win_cert.specs.declared.lines.Line.{Line}
 use Rattle.win_cert.specs.Contexts.{AreClear, after_lines, first_context}
-use Rattle.conn_store.specs.Laws.{IsSubset}
-use Rattle.win_cert.specs.Showing.{GivesEdges, HasFirstCell, Shows, scope_of}
-use Rattle.hex_solve.specs.declared.known.Known.{Known}
-use Rattle.hex_solve.specs.declared.known.TheConstants.{LEDGER_LINES}
+use Rattle.win_cert.specs.Showing.{Shows, scope_of}
 
--- the lines of a player's certificate on a board, the most that there may be, and how many more
--- there was no room for; and what is kept in mind of them
+-- the lines of a player's certificate on a board, and how many more there were no room for
 pub record LedgerData : Type 0 where
   pub base : PlayerBoard
-  pub room : ℕ
   pub lines : List Line
   pub lost : ℕ
-  pub known : List Known
 
 -- what the next line is read over
 abbrev pub read_of : LedgerData → Context
 read_of d = after_lines (first_context d.base.board d.base.player) d.lines
 
--- where there was room for all lines, the line gave the entry of that kind and scope between the
--- player's edges, inside these cells
-abbrev pub IsKnown : LedgerData → Known → Type 0
-IsKnown d k = d.lost ≡ 0 → (c : ℕ) × GivesEdges (read_of d) k.kind k.scope c k.line
-    × IsSubset c k.carrier × HasFirstCell k.kind c
-
 -- the lines are clear and can be written, they are not too many, and where some had no room all
--- the room is taken; what is kept in mind of them is so
+-- the room is taken
 pub record IsLedger (d : LedgerData) : Type 0 where
   pub clear : AreClear (first_context d.base.board d.base.player) d.lines
   pub form : All (IsLineOf LATEST_VERSION d.base.board.size) d.lines
-  pub few : length d.lines ≤ d.room
-  pub full : 0 < d.lost → length d.lines ≡ d.room
+  pub few : length d.lines ≤ MOST_LINES
+  pub full : 0 < d.lost → length d.lines ≡ MOST_LINES
   pub small : d.lost < 2 ^ 64
-  pub enough : MOST_LINES ≤ d.room
-  pub bounded : d.room ≤ LEDGER_LINES
-  pub known : All (IsKnown d) d.known
 
 -- how many lines it would have
 abbrev pub count_of : LedgerData → ℕ
@@ -57,7 +42,7 @@ count_of d = length d.lines + d.lost
 -- the ledger with one line more, or one more that there is no room for
 abbrev pub with_one_line : LedgerData → Line → LedgerData
 with_one_line d line =
-    if nat_lt (length d.lines) d.room then record d { lines = d.lines ++ line ∷ [] }
+    if nat_lt (length d.lines) MOST_LINES then record d { lines = d.lines ++ line ∷ [] }
     else record d { lost = min (d.lost + 1) (2 ^ 64 - 1) }
 
 -- the line may stand after the others
@@ -65,16 +50,13 @@ abbrev pub MayStandNext : LedgerData → Line → Type 0
 MayStandNext d line = (reason_against (read_of d) (Derivation line) ≡ None)
     × IsLineOf LATEST_VERSION d.base.board.size line
 
--- new is old with more lines, at most so many, and more is kept in mind
+-- new is old with more lines, at most so many
 pub record GrowsBy (most : ℕ) (old new : LedgerData) : Type 0 where
   pub base : new.base ≡ old.base
-  pub room : new.room ≡ old.room
   pub more : List Line
   pub lines : new.lines ≡ old.lines ++ more
   pub lost : old.lost ≤ new.lost
   pub count : count_of new ≤ count_of old + most
-  pub learnt : List Known
-  pub known : new.known ≡ old.known ++ learnt
 
 -- where there was room for all lines, line i shows that the player wins p
 abbrev pub ShowsWin : LedgerData → Position → Kind → ℕ → Type 0

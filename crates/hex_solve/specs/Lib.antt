@@ -2,6 +2,5 @@ pub mod Deciding
 pub mod Solved
 pub mod Ledgers
 pub mod Marks
-pub mod Searching
-pub mod Telling
-pub mod Strong
+pub mod PlainSearch
+pub mod PlainAnswer

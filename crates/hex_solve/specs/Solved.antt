@@ -1,40 +1,24 @@
 -- What the solver tells of a position p with `mover` to place next: a clause for each answer.
-use Rattle.std.specs.Prelude.{◌≡◌, ℕ, ◌*◌, ◌<◌, ◌≤◌, ◌⊎◌, Bool, true, false, Option, Some, None}
+use Rattle.std.specs.Prelude.{◌≡◌, ℕ, ◌*◌, ◌<◌, ◌≤◌, Bool, true, false, Option, Some, None}
 use Rattle.std.specs.Prelude.{length}
-use Rattle.std.specs.Prelude.{if◌then◌else◌}
-use Rattle.hex_cells.specs.Colours.{is_same}
 use Rattle.hex_cells.specs.declared.colours.Colour.{Colour}
 use Rattle.hex_board.specs.Joined.{is_joined}
 use Rattle.hex_board.specs.Positions.{Position, is_empty_at, stones_of}
 use Rattle.hex_board.specs.Wins.{Wins, empty_count}
 use Rattle.conn_store.specs.Stores.{StoreData}
 use Rattle.conn_store.specs.declared.entries.Entry.{Entry}
-use Rattle.conn_store.specs.declared.entries.Kind.{Kind}
-use Rattle.conn_store.specs.declared.entries.Kind.TheVariants.{Full, Semi}
+use Rattle.conn_store.specs.declared.entries.Kind.TheVariants.{Semi}
 use Rattle.hsearch.specs.Closed.{IsReportOf}
 use Rattle.win_cert.specs.Cuts.{IsEdgeEntryAt}
-use Rattle.win_cert.specs.Verdicts.{Accepted}
-use Rattle.win_cert.specs.Writable.{IsWritable}
 use Rattle.win_cert.specs.declared.certs.Cert.{Cert}
 use Rattle.win_cert.specs.declared.certs.TheConstants.{MOST_LINES}
+use Rattle.hex_found.specs.Found.{Certifies}
 use Rattle.hex_solve.specs.Deciding.{need}
 use Rattle.win_cert.specs.Showing.{Keeps}
 use Rattle.hex_solve.specs.declared.answers.Solved.{Solved}
 use Rattle.hex_solve.specs.declared.answers.Solved.TheVariants.{Won, Unknown, TooLong, Open}
 
 -- ---- a winner
-
--- what is claimed for the winner: that he wins by moving first, or even with the other to move
-abbrev pub claim_for : Colour → Colour → Kind
-claim_for winner mover = if is_same winner mover then Semi else Full
-
--- the certificate can be written, is accepted, is of this board and player, and claims that he wins
-pub record Certifies (p : Position) (mover winner : Colour) (cert : Cert) : Type 0 where
-  pub writable : IsWritable cert
-  pub accepted : Accepted cert
-  pub board : cert.board ≡ p
-  pub player : cert.player ≡ winner
-  pub claims : cert.claim ≡ claim_for winner mover
 
 -- whoever is told to win does, whatever the other does
 abbrev pub WinnerWins : Position → Colour → Solved → Type 0
@@ -62,19 +46,14 @@ WonIsShort p mover hsearch (Open full) = Unit {0}
 abbrev pub few_cells : ℕ
 few_cells = 9
 
--- with connections, the search without them needs more than the budget
-abbrev pub IsBeyond : Position → Colour → Bool → ℕ → Type 0
-IsBeyond p mover hsearch budget = (hsearch ≡ true) × (budget < need p mover)
-
--- the winner's certificate had more lines than one may have: more cells are empty than a few, and
--- the search without connections needs more than half as many positions, or more than the budget
-abbrev pub TooLongNeedsMany : Position → Colour → Bool → ℕ → Solved → Type 0
-TooLongNeedsMany p mover hsearch budget (Won winner cert) = Unit {0}
-TooLongNeedsMany p mover hsearch budget (Unknown spent own) = Unit {0}
-TooLongNeedsMany p mover hsearch budget (TooLong winner lines) =
-    (MOST_LINES < lines) × (few_cells < empty_count p)
-    × ((MOST_LINES < 2 * need p mover) ⊎ IsBeyond p mover hsearch budget)
-TooLongNeedsMany p mover hsearch budget (Open full) = Unit {0}
+-- the winner's certificate had more lines than one may have, at most two for each position that the
+-- search without connections needs; and more cells are empty than a few
+abbrev pub TooLongNeedsMany : Position → Colour → Solved → Type 0
+TooLongNeedsMany p mover (Won winner cert) = Unit {0}
+TooLongNeedsMany p mover (Unknown spent own) = Unit {0}
+TooLongNeedsMany p mover (TooLong winner lines) =
+    (MOST_LINES < lines) × (lines ≤ 2 * need p mover) × (few_cells < empty_count p)
+TooLongNeedsMany p mover (Open full) = Unit {0}
 
 -- ---- none
 

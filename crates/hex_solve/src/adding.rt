@@ -10,13 +10,13 @@ ghost use Rattle.conn_store.specs.declared.entries.Kind.{Kind};
 ghost use Rattle.hex_solve.specs.Ledgers.{AnswerAll, GrowsBy, MayStandNext, ShowsWin};
 ghost use Rattle.hex_solve.specs.Ledgers.{with_one_line};
 ghost use Rattle.win_cert.specs.Showing.{Keeps, scope_of};
-ghost use Rattle.hex_solve.specs.Strong.{MovesInside, ShowsIn};
+ghost use Rattle.win_cert.specs.declared.certs.TheConstants.{MOST_LINES};
 
 use super::ledgers::Ledger;
 use hex_board::Board;
 use hex_cells::{Cell, CellSet};
 use std::alloc::AllocError;
-use win_cert::{Line, Numbers};
+use win_cert::{Line, MOST_LINES, Numbers};
 
 impl Ledger {
     /// Adds that the player, who is joined on the board, has won; answers the number of the line.
@@ -26,7 +26,6 @@ impl Ledger {
             (stones_of board.now self.old.base.player) ≡ true }
         ensures grows { OnOk result (GrowsBy 2 self.old self.new) }
         ensures shows { IfOk result (ShowsWin self.new board.now Kind.Full) }
-        ensures inside { IfOk result (ShowsIn self.new board.now Kind.Full 0) }
     {
         let scope = self.scope(board);
         let number = self.lines.len() as u32 + 1;
@@ -44,7 +43,6 @@ impl Ledger {
             Kind.Full line }
         ensures grows { OnOk result (GrowsBy 2 self.old self.new) }
         ensures shows { IfOk result (ShowsWin self.new board.now Kind.Semi) }
-        ensures inside { IfOk result (MovesInside self.old self.new board.now cell line) }
     {
         let scope = self.scope(board);
         let number = self.lines.len() as u32 + 1;
@@ -71,7 +69,7 @@ impl Ledger {
     }
 
     // The cells on which the player has stones on this board and had none on the first.
-    pub(super) fn scope(&self, board: &Board) -> CellSet
+    fn scope(&self, board: &Board) -> CellSet
         ensures { result ≡ scope_of self.now.base board.now }
     {
         board
@@ -80,11 +78,11 @@ impl Ledger {
     }
 
     // Adds a line that may follow, where there is room for it, and counts it elsewhere.
-    pub(super) fn add(&mut self, line: Line) -> Result<(), AllocError>
-        requires { length self.old.lines < self.old.room → MayStandNext self.old line }
+    fn add(&mut self, line: Line) -> Result<(), AllocError>
+        requires { length self.old.lines < MOST_LINES → MayStandNext self.old line }
         ensures { OnOk result (self.new ≡ with_one_line self.old line) }
     {
-        if self.lines.len() < self.room {
+        if self.lines.len() < MOST_LINES {
             self.lines.push(line)?;
         } else {
             self.lost = self.lost.saturating_add(1);

@@ -1,15 +1,11 @@
-//! Ledgers: the lines of a player's certificate, which grow while a search goes on, and what is
-//! kept in mind of them.
+//! Ledgers: the lines of a player's certificate, which grow while a search goes on.
 
-ghost use Rattle.std.specs.Prelude.{◌≡◌, ◌<◌, ◌≤◌, ◌↔◌, [], IsTrue, MatchResult};
+ghost use Rattle.std.specs.Prelude.{◌≡◌, ◌<◌, ◌≤◌, [], MatchResult};
 ghost use Rattle.win_cert.specs.declared.certs.TheConstants.{MOST_LINES};
-ghost use Rattle.hex_solve.specs.declared.known.TheConstants.{LEDGER_LINES};
 ghost use Rattle.hex_solve.specs.Ledgers.{IsLedger, LedgerData, ShowsWin, count_of};
 ghost use Rattle.hex_solve.specs.Marks.{IsBefore, WasAt, mark_of};
-ghost use Rattle.hex_solve.specs.Telling.{IsCertOf};
+ghost use Rattle.hex_solve.specs.PlainAnswer.{IsCertOf};
 
-use super::buckets::go_back;
-use super::known::Known;
 use conn_store::Kind;
 use hex_board::Board;
 use hex_cells::Colour;
@@ -17,19 +13,15 @@ use std::alloc::Global;
 use std::marker::Model;
 use win_cert::{Cert, LATEST_VERSION, Line, Lines, MOST_LINES};
 
-/// The lines of a player's certificate on a board. Lines for which there is no room are counted.
+/// The lines of a player's certificate on a board. Lines for which a certificate has no room are
+/// counted.
 #[derive(Drop)]
 pub(crate) struct Ledger {
     pub(super) base: Board,
     pub(super) player: Colour,
-    // The most lines.
-    pub(super) room: usize,
     pub(super) lines: Vec<Line>,
     // How many lines there was no room for, up to the greatest count.
     pub(super) lost: u64,
-    // What is kept in mind of the lines, and for each bucket the newest place in it.
-    pub(super) known: Vec<Known>,
-    pub(super) heads: Vec<u32>,
 }
 
 impl Model for Ledger {
@@ -39,18 +31,14 @@ impl Model for Ledger {
 
     ghost view = { λ l. record {
       base = record { board = l.base; player = l.player };
-      room = l.room;
       lines = l.lines.items;
       lost = l.lost;
-      known = l.known.items;
     } };
 
     ghost invariant = { λ l. IsLedger (record {
       base = record { board = l.base; player = l.player };
-      room = l.room;
       lines = l.lines.items;
       lost = l.lost;
-      known = l.known.items;
     }) };
 }
 
@@ -59,30 +47,22 @@ impl Model for Ledger {
 pub(crate) struct Mark {
     lines: usize,
     lost: u64,
-    known: usize,
 }
 
 impl Ledger {
-    /// The ledger of a player on a board, with room for so many lines, and without any.
-    pub fn make(alloc: Global, board: &Board, player: Colour, room: usize) -> Ledger
-        requires enough { MOST_LINES ≤ room }
-        requires small { room ≤ LEDGER_LINES }
+    /// The ledger of a player on a board, without lines.
+    pub fn make(alloc: Global, board: &Board, player: Colour) -> Ledger
         ensures { result ≡ record {
           base = record { board = board.now; player = player };
-          room = room;
           lines = [];
           lost = 0;
-          known = [];
         } }
     {
         Ledger {
             base: *board,
             player,
-            room,
             lines: Vec::new(alloc),
             lost: 0,
-            known: Vec::new(alloc),
-            heads: Vec::new(alloc),
         }
     }
 
@@ -102,7 +82,6 @@ impl Ledger {
         Mark {
             lines: self.lines.len(),
             lost: self.lost,
-            known: self.known.len(),
         }
     }
 
@@ -111,27 +90,18 @@ impl Ledger {
         requires { WasAt mark self.old }
         ensures { (old : LedgerData) → IsBefore old mark self.old → self.new ≡ old }
     {
-        go_back(&mut self.heads, &self.known, mark.known);
-        self.known.truncate(mark.known);
         self.lines.truncate(mark.lines);
         self.lost = mark.lost;
     }
 
-    /// Whether there was room for all lines.
-    pub fn has_all(&self) -> bool
-        ensures { IsTrue result ↔ (self.now.lost ≡ 0) }
-    {
-        self.lost == 0
-    }
-
     /// The certificate of the lines, whose claim names this one; or how many lines there would be,
-    /// where a certificate has no room for all.
+    /// if there was no room for all.
     pub fn into_cert(self, claim: Kind, entry: u32) -> Result<Cert, u64>
         requires { ShowsWin self self.base.board claim entry }
         ensures { MatchResult result (IsCertOf self claim)
-            (λ lines. (MOST_LINES < lines) × (MOST_LINES < count_of self)) }
+            (λ lines. (MOST_LINES < lines) × (lines ≤ count_of self)) }
     {
-        if self.lost == 0 && self.lines.len() <= MOST_LINES {
+        if self.lost == 0 {
             Ok(Cert {
                 version: LATEST_VERSION,
                 board: self.base,

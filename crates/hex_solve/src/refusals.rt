@@ -15,3 +15,9 @@ impl From<win_cert::Memory> for Memory {
         Memory
     }
 }
+
+impl From<hex_found::Memory> for Memory {
+    fn from(_refused: hex_found::Memory) -> Memory {
+        Memory
+    }
+}

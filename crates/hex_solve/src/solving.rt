@@ -1,38 +1,36 @@
 //! The solver.
 
-ghost use Rattle.std.specs.Prelude.{◌≡◌, ◌<◌, IfNone, IfOk, IfSome, None, Some};
+ghost use Rattle.std.specs.Prelude.{◌≡◌, IfNone, IfOk, IfSome, None, Some};
 ghost use Rattle.hex_board.specs.Joined.{winner_of};
+ghost use Rattle.hex_board.specs.Positions.{IsPosition};
 ghost use Rattle.hsearch.specs.Closed.{IsReportOf};
-ghost use Rattle.win_cert.specs.declared.certs.TheConstants.{MOST_LINES};
+ghost use Rattle.hex_found.specs.Found.{IsCertifiedWinner};
 ghost use Rattle.hex_solve.specs.Solved.{IsUndecided, OpenIsFull, TooLongNeedsMany};
 ghost use Rattle.hex_solve.specs.Solved.{UnknownNeedsMore, WinnerWins, WonIsCertified, WonIsShort};
-ghost use Rattle.hex_solve.specs.Telling.{IsCertifiedWinner, IsSolverAnswer, TellsWinner};
+ghost use Rattle.hex_solve.specs.PlainAnswer.{IsSolverAnswer};
 
 use super::answers::Solved;
+use super::plain_answer::search_plainly;
 use super::refusals::Memory;
-use super::telling::search_plainly;
-use super::winning::{boards_are_positions, search_strongly};
 use conn_store::Kind;
 use hex_board::Board;
 use hex_cells::Colour;
+use hex_found::find;
 use hsearch::{Report, connect};
 use std::alloc::Global;
 use win_cert::{Cert, accepted_certificates_win, cut, edge_numbers, raise};
 
-// With this many empty cells or fewer no certificate is too long.
-const FEW_CELLS: u32 = 9;
-
 /// Who wins the board, on which no player is joined, with `mover` to place next.
 ///
 /// With `hsearch` it first asks for the mover's report: a semi entry between his edges is a win.
-/// Else a search with connections looks for a winner, which enters at most `budget` positions.
-/// Where that finds none, or one whose certificate would be too long, and without `hsearch`, a
-/// search goes depth first and tries the cells in rising order, up to the first that wins; it
-/// enters at most `budget` positions, each as often as a list of moves leads to it.
+/// Otherwise a search with connections looks for a certificate, which enters at most `budget`
+/// positions. If that finds none, and without `hsearch`, a search goes depth first and tries the
+/// cells in rising order, up to the first that wins; it enters at most `budget` positions, each as
+/// often as a list of moves leads to it.
 ///
 /// It answers the winner with a certificate of the latest version, that the budget is spent, the
-/// winner alone where the certificate would have too many lines, or a full board on which nobody is
-/// joined, if there is one. It refuses for want of memory alone.
+/// winner alone if the certificate of the search without connections would have too many lines, or
+/// a full board on which nobody is joined, if there is one. It refuses for want of memory alone.
 pub fn solve(
     alloc: Global,
     board: &Board,
@@ -45,7 +43,7 @@ pub fn solve(
     ensures won { IfOk result (WonIsCertified board.now mover) }
     ensures short { IfOk result (WonIsShort board.now mover hsearch) }
     ensures unknown { IfOk result (UnknownNeedsMore board.now mover hsearch budget) }
-    ensures too_long { IfOk result (TooLongNeedsMany board.now mover hsearch budget) }
+    ensures too_long { IfOk result (TooLongNeedsMany board.now mover) }
     ensures open { IfOk result (OpenIsFull board.now) }
 {
     if !hsearch {
@@ -61,8 +59,8 @@ pub fn solve(
     }
 }
 
-// What the search with connections tells, where it tells a winner with a certificate; else what the
-// one without tells, or the winner alone.
+// The winner by the certificate that the search with connections found, if it found one; else what
+// the search without them tells.
 fn search_both(
     alloc: Global,
     board: &Board,
@@ -73,31 +71,12 @@ fn search_both(
     requires { winner_of board.now ≡ None }
     ensures { IfOk result (IsSolverAnswer board.now mover (Some own) budget) }
 {
-    match search_strongly(alloc, board, mover, budget)? {
-        Some(Solved::TooLong { winner, lines }) => {
-            let plain = search_plainly(alloc, board, mover, Some(own), budget)?;
-            Ok(winner_told(board, plain, winner, lines))
-        }
-        Some(told) => Ok(told),
+    match find(alloc, board, mover, budget)? {
+        Some(cert) => Ok(Solved::Won {
+            winner: cert.player,
+            cert,
+        }),
         None => search_plainly(alloc, board, mover, Some(own), budget),
-    }
-}
-
-// What the search without connections told; where that is nothing and more than a few cells are
-// empty, the winner, whose certificate would have so many lines.
-fn winner_told(board: &Board, plain: Solved, winner: Colour, lines: u64) -> Solved
-    requires { MOST_LINES < lines }
-    ensures { TellsWinner board.now winner plain result }
-{
-    match plain {
-        Solved::Unknown { spent, own } => {
-            if FEW_CELLS < board.empties().count() {
-                Solved::TooLong { winner, lines }
-            } else {
-                Solved::Unknown { spent, own }
-            }
-        }
-        told => told,
     }
 }
 
@@ -122,4 +101,13 @@ fn by_connections(
     }
     let cert = cut(alloc, own, semi.at[0])?;
     Ok(Some(raise(alloc, &cert)?))
+}
+
+// The board has 1 to 11 rows, and its stones lie on it and have no cell in common.
+fn boards_are_positions(board: &Board)
+    ensures { IsPosition board.now.size board.now.black board.now.white }
+{
+    let _size = board.size();
+    let _black = board.stones(Colour::Black);
+    let _white = board.stones(Colour::White);
 }

@@ -9,10 +9,13 @@ budget-one|solve --hsearch off --budget 1|(;GM[11]SZ[2])|0|unknown 1~
 over-already|solve|(;GM[11]SZ[1];B[a1])|0|over black~
 no-record|solve||1|not a game~";
 
-/// Names, words, records, the first lines of the texts, and what mode `check` answers to the rest.
+/// Names, words, records, the first lines of the texts, and what mode `check` answers to the rest,
+/// which is a certificate in version 2.
 static WON: &str = "\
 budget-for-four-cells|solve --hsearch off --budget 65|(;GM[11]SZ[2])|won black~|yes semi~
 the-other-moves|solve|(;GM[11]SZ[2];B[a2])|won black~|yes full~
+found-for-the-other|solve|(;GM[11]SZ[4];B[d1])|won black~|yes full~
+found-for-the-mover|solve|(;GM[11]SZ[4];B[d2])|won white~|yes semi~
 semi-at-the-root|solve --budget 1|(;GM[11]SZ[4]AB[a1][a2][a3])|won black~|yes semi~";
 
 #[test]
@@ -33,6 +36,7 @@ fn solutions(rt: HostRuntime) -> Result<(), Fail> {
             .given()
             .strip_prefix(head.as_slice())
             .ok_or("a winner")?;
+        assert!(rt; certificate.starts_with(b"hexcert 2\n"), "{name}");
         check(&rt, name, &ample("check", certificate), &verdict, 0)?;
     }
     Ok(())

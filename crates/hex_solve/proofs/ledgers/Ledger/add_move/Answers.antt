@@ -6,8 +6,6 @@ use Rattle.hex_solve.proofs.AddedLines.{base_kept, follows_second, grows_second,
 use Rattle.hex_board.specs.Elements.{PlayerBoard}
 use Rattle.win_cert.specs.Writable.{IsLineOf}
 use Rattle.win_cert.specs.declared.certs.TheConstants.{LATEST_VERSION}
-use Rattle.hex_cells.specs.Sets.{with_cell}
-use Rattle.hex_solve.proofs.InsideLines.{inside_second, move_inside}
 use Rattle.hex_solve.proofs.ledgers.Ledger.add_move.Goals as goal
 
 pub add-requires : goal.add-requires
@@ -32,11 +30,3 @@ returns-clause-shows c =
 
 pub returns-clause-grows : goal.returns-clause-grows
 returns-clause-grows c = grows_second c.args.self.now c.add.new.self c.add-2.new.self (Put c.scope-scope.result) (Move c.args.cell c.args.line) (subst IsLedger c.self.view_is c.self.invariant) c.in_ok-add.ensures c.in_ok-add-2.ensures
-
-pub returns-clause-inside : goal.returns-clause-inside
-returns-clause-inside c = λ u f.
-    let same : length c.self.inside.lines.items ≡ length c.args.self.now.lines = ap (λ (d : LedgerData). length d.lines) c.self.view_is in
-    let number : c.len.result ≡ length c.args.self.now.lines = omega (arith, c.len.ensures, same) in
-    inside_second c.args.self.now c.add.new.self c.add-2.new.self c.args.board.now Semi (with_cell u c.args.cell) (Put c.scope-scope.result) (Move c.args.cell c.args.line) (c.len.result + 1) c.in_ok-add.ensures c.in_ok-add-2.ensures
-    (ap (λ v. v + 1) number)
-    (λ z. move_inside c.args.self.now c.args.board.now c.scope-scope.result c.args.cell c.args.line u c.requires.keeps c.scope-scope.ensures c.requires.empty f z)

@@ -1,14 +1,14 @@
-use Rattle.std.proofs.Common.{arith}
-use Rattle.hex_solve.proofs.LedgersTell.{certified_from, too_many}
-use Rattle.hex_solve.proofs.ledgers.Ledger.into_cert.Goals.{else-self-eq0-via-else-self-eq0, else-self-eq0-via-then-self-eq0+else-len-le-MOST_LINES}
+use Rattle.std.proofs.Common.{◌≡◌, refl, ◌∙◌, ap, subst, arith}
+use Rattle.hex_solve.specs.Ledgers.{IsLedger, LedgerData}
+use Rattle.hex_solve.proofs.LedgersTell.{certified, too_many}
 use Rattle.hex_solve.proofs.ledgers.Ledger.into_cert.Goals as goal
 
-pub returns-then-len-le-MOST_LINES : goal.returns-then-len-le-MOST_LINES
-returns-then-len-le-MOST_LINES c =
-    certified_from c.args.self _ c.args.claim c.args.entry c.of.result c.self.view_is c.self.invariant (omega (arith, c.if-self-eq0.true)) (omega (arith, c.if-len-le-MOST_LINES.true, c.len.ensures)) c.requires c.of.ensures
+pub returns-then-self-eq0 : goal.returns-then-self-eq0
+returns-then-self-eq0 c =
+    let same : c.self.inside.lost ≡ c.args.self.lost = ap (λ (d : LedgerData). d.lost) c.self.view_is in
+    let none : c.args.self.lost ≡ 0 = omega (arith, c.if-self-eq0.true, same) in
+    certified c.args.self c.args.claim _ (subst IsLedger c.self.view_is c.self.invariant) none c.requires refl (ap (λ (d : LedgerData). d.base.board) c.self.view_is) (ap (λ (d : LedgerData). d.base.player) c.self.view_is) refl
+    (c.of.ensures ∙ ap (λ (d : LedgerData). d.lines) c.self.view_is)
 
 pub returns-else-self-eq0 : goal.returns-else-self-eq0
-returns-else-self-eq0 c = too_many c.args.self _ c.saturating_add.result c.len-else-self-eq0.result c.self.view_is c.self.invariant (λ z. elim c.else-self-eq0.branch [
-  | else-self-eq0-via-then-self-eq0+else-len-le-MOST_LINES w ↦ omega (arith, w.if-len-le-MOST_LINES.false, w.len.ensures)
-  | else-self-eq0-via-else-self-eq0 w ↦ absurd (w.if-self-eq0.false z)
-]) (omega (arith, c.len-else-self-eq0.ensures)) c.saturating_add.ensures
+returns-else-self-eq0 c = too_many c.args.self _ c.saturating_add.result c.len.result c.self.view_is c.self.invariant c.if-self-eq0.false (omega (arith, c.len.ensures)) c.saturating_add.ensures

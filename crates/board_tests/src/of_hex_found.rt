@@ -1,0 +1,129 @@
+//! Certificates that are found: whose they are, texts that are none, and how many positions at most
+//! are entered.
+
+use super::of_hsearch::board_of;
+use cert_check::check;
+use conn_store::Kind;
+use hex_board::Board;
+use hex_cells::{Colour, Size};
+use hex_found::{Memory, Sought, certified, find, seek};
+use std::alloc::Global;
+use std::process::Abort;
+use std::rt::HostRuntime;
+use std::test::Fail;
+use win_cert::{MOST_LINES, Verdict};
+
+// That Black wins the empty board of size 2, in the latest version.
+const BLACK_WINS: &[u8] = b"hexcert 2\nsize 2\nplayer black\nblack\nwhite\n\
+    adj a2 a1\nadj a1 edge1\nadj a2 b1\nadj b1 edge1\n\
+    key 0 1\nkey 2 3\nor 4 5\nadj a2 edge2\nkey 6 7\nsemi 8\n";
+
+// The same in the first version.
+const FIRST_VERSION: &[u8] = b"hexcert 1\nsize 2\nplayer black\nblack\nwhite\n\
+    adj a2 a1\nadj a1 edge1\nadj a2 b1\nadj b1 edge1\n\
+    key 0 1\nkey 2 3\nor 4 5\nadj a2 edge2\nkey 6 7\nsemi 8\n";
+
+// The same with the cases taken twice from one line, which the checker refuses.
+const REFUSED: &[u8] = b"hexcert 2\nsize 2\nplayer black\nblack\nwhite\n\
+    adj a2 a1\nadj a1 edge1\nadj a2 b1\nadj b1 edge1\n\
+    key 0 1\nkey 2 3\nor 4 4\nadj a2 edge2\nkey 6 7\nsemi 8\n";
+
+// Enough for the boards of these tests.
+const BUDGET: u64 = 10_000;
+
+// 3^3 for Black's stone on d1 of size 4.
+const AFTER_D1: u32 = 27;
+
+// The board of this size with these stones.
+fn board(rt: &impl Abort, size: u32, stones: u32) -> Board {
+    board_of(Size::of(size).expect(rt, "a size"), stones)
+}
+
+// Who wins by what claim, as the checker says of the certificate that is found.
+fn found(alloc: Global, board: &Board, mover: Colour) -> Result<Option<(Colour, Kind)>, Memory> {
+    match find(alloc, board, mover, BUDGET)? {
+        Some(cert) => match check(alloc, &cert) {
+            Ok(Verdict::Yes { claim, carrier: _ }) => Ok(Some((cert.player, claim))),
+            _ => Ok(None),
+        },
+        None => Ok(None),
+    }
+}
+
+#[test]
+fn small_boards_are_decided(rt: HostRuntime) {
+    use Colour::{Black, White};
+    use Kind::{Full, Semi};
+    // Size, stones, the mover, and who wins by what claim.
+    let rows = [
+        (1, 0, White, Some((White, Semi))),
+        (3, 0, Black, Some((Black, Semi))),
+        // After a1 White wins, and after c1 Black.
+        (3, 1, White, Some((White, Semi))),
+        (3, 9, White, Some((Black, Full))),
+        (4, AFTER_D1, White, Some((Black, Full))),
+        // Black is joined already.
+        (1, 1, White, None),
+    ];
+    for (size, stones, mover, expected) in rows {
+        let Ok(answer) = found(rt.alloc(), &board(&rt, size, stones), mover) else {
+            panic!(rt; "there is memory");
+        };
+        assert_eq!(rt; answer, expected);
+    }
+}
+
+#[test]
+fn texts_are_compared(rt: HostRuntime) {
+    use Colour::{Black, White};
+    // The text, the size, the stones and the mover, and whether it is answered.
+    let rows = [
+        (BLACK_WINS, 2, 0, Black, true),
+        (BLACK_WINS, 2, 0, White, false),
+        (BLACK_WINS, 2, 1, Black, false),
+        (BLACK_WINS, 3, 0, Black, false),
+        (FIRST_VERSION, 2, 0, Black, false),
+        (REFUSED, 2, 0, Black, false),
+        (b"", 2, 0, Black, false),
+    ];
+    for (text, size, stones, mover, expected) in rows {
+        let Ok(answer) = certified(rt.alloc(), &board(&rt, size, stones), mover, text) else {
+            panic!(rt; "there is memory");
+        };
+        assert_eq!(rt; answer.is_some(), expected);
+    }
+}
+
+// What is sought on size 4 after d1, where more than one position has to be entered.
+pub(crate) fn sought(rt: &impl Abort, alloc: Global, budget: u64) -> Sought {
+    let Ok(sought) = seek(
+        alloc,
+        &board(rt, 4, AFTER_D1),
+        Colour::White,
+        budget,
+        MOST_LINES,
+    ) else {
+        panic!(rt; "there is memory");
+    };
+    sought
+}
+
+#[test]
+fn budget_is_spent(rt: HostRuntime) -> Result<(), Fail> {
+    let whole = sought(&rt, rt.alloc(), BUDGET);
+    assert_eq!(rt; whole.by_mover, Some(false));
+    assert!(rt; 1 < whole.entered && whole.entered < BUDGET);
+    // As many positions are enough, and one fewer is not.
+    let same = sought(&rt, rt.alloc(), whole.entered);
+    assert_eq!(rt; same.text.as_slice(), whole.text.as_slice());
+    assert_eq!(rt; (same.entered, same.lines), (whole.entered, whole.lines));
+    for budget in [whole.entered - 1, 1, 0] {
+        let short = sought(&rt, rt.alloc(), budget);
+        assert_eq!(rt;
+            (short.by_mover, short.entered, short.lines),
+            (None, budget, 0)
+        );
+        assert!(rt; short.text.is_empty());
+    }
+    Ok(())
+}

@@ -1,0 +1,64 @@
+//! Certificates that are found, and checked.
+
+ghost use Rattle.std.specs.Prelude.{◌≡◌, IfOk, IfSome};
+ghost use Rattle.hex_found.specs.Found.{IsFound, claim_for};
+
+use super::refusals::Memory;
+use super::text_search::seek;
+use cert_check::check;
+use conn_store::Kind;
+use hex_board::Board;
+use hex_cells::Colour;
+use std::alloc::Global;
+use win_cert::{Cert, CertError, LATEST_VERSION, MOST_LINES, Verdict, read};
+
+/// A certificate of who wins the position, found by entering at most `budget` states. `None` where
+/// that found none, or one that is too long; no clause says when.
+pub fn find(
+    alloc: Global,
+    board: &Board,
+    mover: Colour,
+    budget: u64,
+) -> Result<Option<Cert>, Memory>
+    ensures found { IfOk result (λ r. IfSome r (IsFound board.now mover)) }
+{
+    let sought = seek(alloc, board, mover, budget, MOST_LINES)?;
+    certified(alloc, board, mover, sought.text.as_slice())
+}
+
+/// What is claimed for a winner: that he wins by moving first, or even with the other to move.
+pub(crate) fn claim_for(winner: Colour, mover: Colour) -> Kind
+    ensures { result ≡ claim_for winner mover }
+{
+    if winner == mover {
+        Kind::Semi
+    } else {
+        Kind::Full
+    }
+}
+
+/// The certificate that the text is, if it has the latest version, is of this board, is accepted,
+/// and claims that its player wins with `mover` to place next; `None` if it is none, whatever the
+/// text.
+pub fn certified(
+    alloc: Global,
+    board: &Board,
+    mover: Colour,
+    text: &[u8],
+) -> Result<Option<Cert>, Memory>
+    ensures found { IfOk result (λ r. IfSome r (IsFound board.now mover)) }
+{
+    let cert = match read(alloc, text) {
+        Ok(cert) => cert,
+        Err(CertError::Memory) => return Err(Memory),
+        Err(_) => return Ok(None),
+    };
+    let is_claimed = cert.claim == claim_for(cert.player, mover);
+    if cert.board != *board || !is_claimed || cert.version != LATEST_VERSION {
+        return Ok(None);
+    }
+    match check(alloc, &cert)? {
+        Verdict::Yes { .. } => Ok(Some(cert)),
+        Verdict::No { .. } => Ok(None),
+    }
+}

@@ -1,0 +1,334 @@
+//! Proof-number search without recursion. A round goes from the root down to a state that is new,
+//! looks at it, and goes back up.
+
+use super::counters::Counter;
+use super::covers::{Saving, choices_of, cover, together};
+use super::distances::add_ways;
+use super::edges::edge_held;
+use super::lists::value_at;
+use super::nodes::{Effort, NEVER, Nodes};
+use super::orders::{Order, in_order};
+use super::states::{State, key_on};
+use super::stops::Stop;
+use super::tables::{EdgeEntry, Key, Measure, Origin, Tables};
+use conn_store::{Kind, Store};
+use hex_cells::{Cell, CellSet, Colour, MOST_CELLS};
+use hsearch::connect;
+use std::alloc::Global;
+
+// A round enters a state or decides a node that was not decided, so there are at most two for each
+// state that may be entered, and a few at the root.
+const SPARE_ROUNDS: u64 = 1_000;
+
+/// A search: what it knows, and how many states it may still enter.
+#[derive(Drop)]
+pub struct Search {
+    tables: Tables,
+    nodes: Nodes,
+    counter: Counter,
+    left: u64,
+    order: Order,
+}
+
+impl Search {
+    /// A search that may enter so many states, and knows nothing.
+    pub fn make(alloc: Global, budget: u64, order: Order) -> Result<Search, Stop> {
+        let tables = Tables::make(alloc)?;
+        let nodes = Nodes::make(alloc)?;
+        let counter = Counter::make(alloc)?;
+        Ok(Search {
+            tables,
+            nodes,
+            counter,
+            left: budget,
+            order,
+        })
+    }
+
+    /// How many states it may still enter.
+    pub fn left(&self) -> u64 {
+        self.left
+    }
+
+    /// The entries that it found.
+    pub fn tables(&self) -> &Tables {
+        &self.tables
+    }
+
+    /// The same, to be changed.
+    pub fn tables_mut(&mut self) -> &mut Tables {
+        &mut self.tables
+    }
+
+    /// Takes what another search found, and what is left of that one's budget in place of its own.
+    pub fn take(&mut self, other: &Search) -> Result<(), Stop> {
+        self.left = other.left;
+        self.tables.put_all(&other.tables)
+    }
+
+    /// Goes on until it is known who wins: whether the player to move does.
+    pub fn decide(&mut self, alloc: Global, root: &State) -> Result<bool, Stop> {
+        let most = self.left.saturating_mul(2).saturating_add(SPARE_ROUNDS);
+        let mut path = Vec::new(alloc);
+        for _round in 0..most {
+            if let Some(by_mover) = self.known(root) {
+                return Ok(by_mover);
+            }
+            path.clear();
+            self.down(alloc, root, &mut path)?;
+            self.up(alloc, &path)?;
+        }
+        Err(Stop::Spent)
+    }
+
+    // Whether the player to move wins, if an entry says so.
+    fn known(&self, state: &State) -> Option<bool> {
+        let empties = state.board.empties();
+        if self.tables.has(&state.own_key(Kind::Semi), empties) {
+            return Some(true);
+        }
+        if self.tables.has(&state.other_key(Kind::Full), empties) {
+            return Some(false);
+        }
+        None
+    }
+
+    // The cells on which a stone isn't answered yet: those that all semi entries of the other's
+    // have in common.
+    fn replies(&self, state: &State) -> CellSet {
+        let key = state.other_key(Kind::Semi);
+        self.tables.common(&key, state.board.empties())
+    }
+
+    // Down from the root, to a state that is decided or new.
+    fn down(&mut self, alloc: Global, root: &State, path: &mut Vec<State>) -> Result<(), Stop> {
+        let mut state = *root;
+        for _depth in 0..MOST_CELLS {
+            if self.settle(alloc, &state)? {
+                return Ok(());
+            }
+            let place = self.nodes.find_board(&state.board);
+            if !self.nodes.is_at(place) {
+                return self.enter(alloc, &state);
+            }
+            let (_effort, Some(cell)) = self.next(&state, place) else {
+                return Err(Stop::Spent);
+            };
+            path.push(state)?;
+            state = state.after(cell);
+        }
+        Ok(())
+    }
+
+    // Back up the path.
+    fn up(&mut self, alloc: Global, path: &[State]) -> Result<(), Stop> {
+        for place in (0..path.len()).rev() {
+            if let Some(state) = path.get(place) {
+                self.renew(alloc, state)?;
+            }
+        }
+        Ok(())
+    }
+
+    // Settles a state, or sets its effort anew.
+    fn renew(&mut self, alloc: Global, state: &State) -> Result<(), Stop> {
+        if !self.settle(alloc, state)? {
+            let place = self.nodes.find_board(&state.board);
+            let (effort, _cell) = self.next(state, place);
+            self.nodes.set_effort(place, &effort);
+        }
+        Ok(())
+    }
+
+    // Whether it is known who wins; if so, the effort is set.
+    fn settle(&mut self, alloc: Global, state: &State) -> Result<bool, Stop> {
+        let place = self.nodes.find_board(&state.board);
+        let decided = self.winner(alloc, state, place)?;
+        if let Some(by_mover) = decided {
+            self.nodes.set_effort(place, &Effort::decided(by_mover));
+        }
+        Ok(decided.is_some())
+    }
+
+    // Whether the player to move wins, if that follows from what is known by one step.
+    fn winner(&mut self, alloc: Global, state: &State, place: u32) -> Result<Option<bool>, Stop> {
+        if let Some(by_mover) = self.known(state) {
+            return Ok(Some(by_mover));
+        }
+        let replies = self.replies(state);
+        if replies.is_empty() {
+            self.put_cases(alloc, state)?;
+            return Ok(Some(false));
+        }
+        let Some(entry) = self.winning_stone(state, place, replies) else {
+            return Ok(None);
+        };
+        self.tables.put(&entry)?;
+        Ok(Some(true))
+    }
+
+    // The semi entry of the mover by a stone after which he is known to win, that with the fewest
+    // cells.
+    fn winning_stone(&self, state: &State, place: u32, replies: CellSet) -> Option<EdgeEntry> {
+        let mut best: Option<EdgeEntry> = None;
+        for number in 0..self.nodes.cell_count(place) {
+            if let Some(cell) = self.nodes.cell(place, number)
+                && replies.has(cell)
+            {
+                best = narrower(best, self.after_stone(state, cell));
+            }
+        }
+        best
+    }
+
+    // The semi entry of the mover by a stone on this cell, if he is known to win then.
+    fn after_stone(&self, state: &State, cell: Cell) -> Option<EdgeEntry> {
+        let own = state.own_key(Kind::Semi);
+        let key = Key {
+            kind: Kind::Full,
+            stones: own.stones.with(cell),
+            ..own
+        };
+        let region = state.board.empties().without(cell);
+        let entry = self.tables.least(&key, region, Measure::Cells)?;
+        Some(EdgeEntry {
+            key: own,
+            carrier: entry.carrier.with(cell),
+            lines: entry.lines.saturating_add(2),
+            origin: Origin::Move(cell),
+        })
+    }
+
+    // Puts the full entry of the other player by cases, since no reply is left.
+    fn put_cases(&mut self, alloc: Global, state: &State) -> Result<(), Stop> {
+        let empties = state.board.empties();
+        let semi = state.other_key(Kind::Semi);
+        let list = choices_of(alloc, &self.tables.list(alloc, &semi, empties)?)?;
+        let chosen = cover(alloc, &list, empties, Saving::Cells)?;
+        let (carrier, lines) = together(&list, &chosen);
+        self.tables.put(&EdgeEntry {
+            key: Key {
+                kind: Kind::Full,
+                ..semi
+            },
+            carrier,
+            lines,
+            origin: Origin::Cases,
+        })
+    }
+
+    // The effort of a node, by those after the first of its cells that are left, and the best of
+    // these cells. What is left are the replies, since they were its cells and become fewer.
+    fn next(&self, state: &State, place: u32) -> (Effort, Option<Cell>) {
+        let replies = self.replies(state);
+        let mut focus = self.order.focus(replies.count());
+        let mut proof = NEVER - 1;
+        let mut disproof = 0u32;
+        let mut best = None;
+        for number in 0..self.nodes.cell_count(place) {
+            if let Some(cell) = self.nodes.cell(place, number)
+                && replies.has(cell)
+                && 0 < focus
+            {
+                focus -= 1;
+                let effort = self.child_effort(state, cell);
+                disproof = disproof.saturating_add(effort.proof);
+                if effort.disproof < proof || best.is_none() {
+                    proof = effort.disproof;
+                    best = Some(cell);
+                }
+            }
+        }
+        let effort = Effort {
+            proof: proof.min(NEVER - 1),
+            disproof: disproof.min(NEVER - 1),
+        };
+        (effort, best)
+    }
+
+    // The effort after a stone on the cell.
+    fn child_effort(&self, state: &State, cell: Cell) -> Effort {
+        let own = state.board.stones(state.mover).with(cell);
+        let other = state.board.stones(state.mover.other());
+        let place = match state.mover {
+            Colour::Black => self.nodes.find(own, other),
+            Colour::White => self.nodes.find(other, own),
+        };
+        self.nodes.effort(place)
+    }
+
+    // Enters a state: looks at the mover's report, and if that doesn't end it at the other's, and
+    // makes a node of it if these don't.
+    fn enter(&mut self, alloc: Global, state: &State) -> Result<(), Stop> {
+        if self.left == 0 {
+            return Err(Stop::Spent);
+        }
+        self.left -= 1;
+        let own = connect(alloc, &state.board, state.mover)?;
+        if 0 < self.keep(own.store(), Kind::Semi)? {
+            return Ok(());
+        }
+        let other = connect(alloc, &state.board, state.mover.other())?;
+        let _full = self.keep(other.store(), Kind::Full)?;
+        let _semi = self.keep(other.store(), Kind::Semi)?;
+        if self.settle(alloc, state)? {
+            return Ok(());
+        }
+        let sums = self.sums(alloc, own.store(), other.store())?;
+        let cells = in_order(alloc, self.replies(state), &sums)?;
+        self.nodes.put(&state.board, &cells)?;
+        self.renew(alloc, state)
+    }
+
+    // For each cell the sum of the distances by which cells are tried in order.
+    fn sums(&self, alloc: Global, own: &Store, other: &Store) -> Result<Vec<u32>, Stop> {
+        let mut sums = vec![in alloc; 0u32; MOST_CELLS as usize]?;
+        add_ways(own, &mut sums);
+        add_ways(other, &mut sums);
+        if self.order.other_twice {
+            add_ways(other, &mut sums);
+        }
+        Ok(sums)
+    }
+
+    // Puts the entries of a kind between the edges: how many there are.
+    fn keep(&mut self, store: &Store, kind: Kind) -> Result<u32, Stop> {
+        let held = edge_held(store, kind);
+        for place in 0..held.count {
+            self.keep_one(store, kind, value_at(&held.at, place as usize))?;
+        }
+        Ok(held.count)
+    }
+
+    // Puts an entry between the edges.
+    fn keep_one(&mut self, store: &Store, kind: Kind, number: u32) -> Result<(), Stop> {
+        let entries = store.entries();
+        let Some(entry) = entries.get(number as usize) else {
+            return Ok(());
+        };
+        let lines = self.counter.lines_of(entries, number)?;
+        self.tables.put(&EdgeEntry {
+            key: key_on(store.board(), store.colour(), kind),
+            carrier: entry.carrier,
+            lines,
+            origin: Origin::Cut(store.board().empties()),
+        })
+    }
+}
+
+// The one with fewer cells, and of as many with fewer lines.
+fn narrower(one: Option<EdgeEntry>, other: Option<EdgeEntry>) -> Option<EdgeEntry> {
+    if width(&other) < width(&one) {
+        other
+    } else {
+        one
+    }
+}
+
+// What makes an entry wide: its cells first. None is widest.
+fn width(entry: &Option<EdgeEntry>) -> u64 {
+    match entry {
+        Some(entry) => entry.amount(Measure::Cells),
+        None => u64::MAX,
+    }
+}

@@ -1,0 +1,265 @@
+//! Entries between the edges of each player, by his stones.
+
+use super::buckets::{Heads, NOWHERE, bucket_of, mixed};
+use super::stops::Stop;
+use conn_store::Kind;
+use hex_cells::{Cell, CellSet, Colour};
+use std::alloc::Global;
+
+/// The most entries of the tables: some 200 MB.
+const MOST_ENTRIES: usize = 2_000_000;
+
+/// Of whom an entry speaks: the player, who of the two may move first, and the player's stones.
+#[derive(Clone, Copy, Debug, PartialEq, Eq)]
+pub struct Key {
+    pub player: Colour,
+    pub kind: Kind,
+    pub stones: CellSet,
+}
+
+/// How an entry came.
+#[derive(Clone, Copy, Debug, PartialEq, Eq)]
+pub enum Origin {
+    /// It is in the player's report where he has these stones, the cells of this set are empty, and
+    /// the opponent has all others.
+    Cut(CellSet),
+    /// By the player's stone on the cell.
+    Move(Cell),
+    /// By other entries, one for each stone of the opponent's.
+    Cases,
+}
+
+/// An entry between a player's edges. It stands wherever he has these stones and its carrier is
+/// empty, whatever stones the opponent has.
+#[derive(Clone, Copy, Debug, PartialEq, Eq)]
+pub struct EdgeEntry {
+    pub key: Key,
+    pub carrier: CellSet,
+    /// About how many lines of a certificate show it.
+    pub lines: u32,
+    pub origin: Origin,
+}
+
+/// What the best of several entries has least of.
+#[derive(Clone, Copy, Debug, PartialEq, Eq)]
+pub enum Measure {
+    /// Lines.
+    Lines,
+    /// Cells in its carrier, and of as many cells lines.
+    Cells,
+}
+
+// An entry of a table, and the place of the one before it in its bucket.
+#[derive(Clone, Copy, Debug)]
+struct Slot {
+    entry: EdgeEntry,
+    before: u32,
+}
+
+/// The entries that are known.
+#[derive(Drop)]
+pub struct Tables {
+    slots: Vec<Slot>,
+    heads: Heads,
+}
+
+// The bucket of a key.
+fn bucket(key: &Key) -> usize {
+    let player = match key.player {
+        Colour::Black => 1u64,
+        Colour::White => 2u64,
+    };
+    let kind = match key.kind {
+        Kind::Full => 4u64,
+        Kind::Semi => 8u64,
+    };
+    bucket_of(mixed(key.stones), player | kind)
+}
+
+// Whether the entry has that key, and its carrier lies inside the region.
+fn fits(entry: &EdgeEntry, key: &Key, region: CellSet) -> bool {
+    entry.key == *key && entry.carrier.inside(region)
+}
+
+// Whether the one makes the other needless: its carrier lies inside the other's, and it has at most
+// twice as many lines, or if the carriers are equal at most as many.
+fn replaces(one: &EdgeEntry, other: &EdgeEntry) -> bool {
+    if one.carrier == other.carrier {
+        return one.lines <= other.lines;
+    }
+    one.carrier.inside(other.carrier) && one.lines <= other.lines.saturating_mul(2)
+}
+
+impl EdgeEntry {
+    /// How much it has of what is measured.
+    pub(crate) fn amount(&self, measure: Measure) -> u64 {
+        let lines = u64::from(self.lines);
+        match measure {
+            Measure::Lines => lines,
+            Measure::Cells => u64::from(self.carrier.count()) << u32::BITS | lines,
+        }
+    }
+}
+
+impl Tables {
+    /// Tables without entries.
+    pub fn make(alloc: Global) -> Result<Tables, Stop> {
+        let heads = Heads::make(alloc)?;
+        Ok(Tables {
+            slots: Vec::new(alloc),
+            heads,
+        })
+    }
+
+    /// How many entries were put, those among them that were made needless.
+    pub fn count(&self) -> usize {
+        self.slots.len()
+    }
+
+    /// The entry that was put at a place.
+    pub fn at(&self, place: usize) -> Option<EdgeEntry> {
+        let slot = self.slots.get(place)?;
+        Some(slot.entry)
+    }
+
+    /// Says how many lines the entry at a place has.
+    pub fn set_lines(&mut self, place: usize, lines: u32) {
+        if let Some(slot) = self.slots.get_mut(place) {
+            slot.entry.lines = lines;
+        }
+    }
+
+    /// Whether there is an entry with that key inside the region.
+    pub fn has(&self, key: &Key, region: CellSet) -> bool {
+        let mut place = self.heads.newest(bucket(key));
+        for _step in 0..MOST_ENTRIES {
+            let Some(slot) = self.slots.get(place as usize) else {
+                return false;
+            };
+            if fits(&slot.entry, key, region) {
+                return true;
+            }
+            place = slot.before;
+        }
+        false
+    }
+
+    /// The cells of the region that all carriers inside it have in common.
+    pub fn common(&self, key: &Key, region: CellSet) -> CellSet {
+        let mut cells = region;
+        let mut place = self.heads.newest(bucket(key));
+        for _step in 0..MOST_ENTRIES {
+            let Some(slot) = self.slots.get(place as usize) else {
+                return cells;
+            };
+            if fits(&slot.entry, key, region) {
+                cells = cells.meet(slot.entry.carrier);
+            }
+            place = slot.before;
+        }
+        cells
+    }
+
+    /// Of the entries with that key inside the region the one with the least of this.
+    pub fn least(&self, key: &Key, region: CellSet, measure: Measure) -> Option<EdgeEntry> {
+        let mut best = None;
+        let mut least = u64::MAX;
+        let mut place = self.heads.newest(bucket(key));
+        for _step in 0..MOST_ENTRIES {
+            let Some(slot) = self.slots.get(place as usize) else {
+                return best;
+            };
+            if fits(&slot.entry, key, region) && slot.entry.amount(measure) < least {
+                best = Some(slot.entry);
+                least = slot.entry.amount(measure);
+            }
+            place = slot.before;
+        }
+        best
+    }
+
+    /// The entries with that key inside the region.
+    pub fn list(&self, alloc: Global, key: &Key, region: CellSet) -> Result<Vec<EdgeEntry>, Stop> {
+        let mut list = Vec::new(alloc);
+        let mut place = self.heads.newest(bucket(key));
+        for _step in 0..MOST_ENTRIES {
+            let Some(slot) = self.slots.get(place as usize) else {
+                return Ok(list);
+            };
+            if fits(&slot.entry, key, region) {
+                list.push(slot.entry)?;
+            }
+            place = slot.before;
+        }
+        Ok(list)
+    }
+
+    /// Keeps an entry, unless one that is kept makes it needless; those that it makes needless go.
+    pub fn put(&mut self, entry: &EdgeEntry) -> Result<(), Stop> {
+        if self.is_needless(entry) {
+            return Ok(());
+        }
+        self.drop_needless(entry);
+        if MOST_ENTRIES <= self.slots.len() {
+            return Err(Stop::Spent);
+        }
+        let place = self.slots.len() as u32;
+        let bucket = bucket(&entry.key);
+        self.slots.push(Slot {
+            entry: *entry,
+            before: self.heads.newest(bucket),
+        })?;
+        self.heads.set_newest(bucket, place);
+        Ok(())
+    }
+
+    /// Puts all entries of others.
+    pub fn put_all(&mut self, others: &Tables) -> Result<(), Stop> {
+        for slot in others.slots.as_slice() {
+            self.put(&slot.entry)?;
+        }
+        Ok(())
+    }
+
+    // Whether an entry that is kept makes this one needless.
+    fn is_needless(&self, new: &EdgeEntry) -> bool {
+        let mut place = self.heads.newest(bucket(&new.key));
+        for _step in 0..MOST_ENTRIES {
+            let Some(slot) = self.slots.get(place as usize) else {
+                return false;
+            };
+            if slot.entry.key == new.key && replaces(&slot.entry, new) {
+                return true;
+            }
+            place = slot.before;
+        }
+        false
+    }
+
+    // Takes those out of their bucket that this one makes needless.
+    fn drop_needless(&mut self, new: &EdgeEntry) {
+        let bucket = bucket(&new.key);
+        let mut previous = NOWHERE;
+        let mut place = self.heads.newest(bucket);
+        for _step in 0..MOST_ENTRIES {
+            let Some(slot) = self.slots.get(place as usize) else {
+                return;
+            };
+            let next = slot.before;
+            if slot.entry.key == new.key && replaces(new, &slot.entry) {
+                self.link(bucket, previous, next);
+            } else {
+                previous = place;
+            }
+            place = next;
+        }
+    }
+
+    // Makes the one at `next` follow the one at `previous`, or the first of the bucket.
+    fn link(&mut self, bucket: usize, previous: u32, next: u32) {
+        match self.slots.get_mut(previous as usize) {
+            Some(slot) => slot.before = next,
+            None => self.heads.set_newest(bucket, next),
+        }
+    }
+}

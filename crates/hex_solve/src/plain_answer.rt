@@ -1,0 +1,76 @@
+//! What the search without connections tells.
+
+ghost use Rattle.std.specs.Prelude.{◌≡◌, ℕ, IfOk, None, Option};
+ghost use Rattle.hex_board.specs.Joined.{winner_of};
+ghost use Rattle.conn_store.specs.Stores.{StoreData};
+ghost use Rattle.hex_solve.specs.PlainSearch.{IsStop};
+ghost use Rattle.hex_solve.specs.PlainAnswer.{IsPlainAnswer, IsToldBy};
+
+use super::answers::Solved;
+use super::ledgers::Ledger;
+use super::plain_search::{Stop, position};
+use super::refusals::Memory;
+use conn_store::Kind;
+use hex_board::Board;
+use hex_cells::Colour;
+use hsearch::Report;
+use std::alloc::Global;
+
+/// Who wins the board, on which nobody is joined, with `mover` to place: by a search that tries the
+/// cells in rising order and enters at most `budget` positions. Where it is unknown, the report is
+/// handed on.
+pub(crate) fn search_plainly(
+    alloc: Global,
+    board: &Board,
+    mover: Colour,
+    own: Option<Report>,
+    budget: u64,
+) -> Result<Solved, Memory>
+    requires { winner_of board.now ≡ None }
+    ensures { IfOk result (IsPlainAnswer board.now mover own budget) }
+{
+    let mut mine = Ledger::make(alloc, board, mover);
+    let mut theirs = Ledger::make(alloc, board, mover.other());
+    let mut left = budget;
+    match position(alloc, board, mover, &mut mine, &mut theirs, &mut left) {
+        Ok(found) => {
+            if found.by_mover {
+                Ok(told(board, mover, mine, Kind::Semi, found.line))
+            } else {
+                Ok(told(board, mover, theirs, Kind::Full, found.line))
+            }
+        }
+        Err(stop) => stopped(board, mover, own, budget, stop),
+    }
+}
+
+// Why there is no winner.
+fn stopped(
+    board: &Board,
+    mover: Colour,
+    own: Option<Report>,
+    budget: u64,
+    stop: Stop,
+) -> Result<Solved, Memory>
+    requires { IsStop board.now mover budget stop }
+    ensures { IfOk result (IsPlainAnswer board.now mover own budget) }
+{
+    match stop {
+        Stop::Spent => Ok(Solved::Unknown { spent: budget, own }),
+        Stop::Open(full) => Ok(Solved::Open { full }),
+        Stop::Memory => Err(Memory),
+    }
+}
+
+// That the ledger's player wins the board, by a certificate where it is not too long.
+fn told(board: &Board, mover: Colour, ledger: Ledger, claim: Kind, line: u32) -> Solved
+    requires { IsToldBy board.now mover claim line ledger }
+    ensures { (own : Option StoreData) (budget : ℕ)
+        → IsPlainAnswer board.now mover own budget result }
+{
+    let winner = ledger.player();
+    match ledger.into_cert(claim, line) {
+        Ok(cert) => Solved::Won { winner, cert },
+        Err(lines) => Solved::TooLong { winner, lines },
+    }
+}
