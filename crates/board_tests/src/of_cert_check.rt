@@ -68,6 +68,6 @@ fn certify(rt: &impl Abort, alloc: Global, size: u32, expected: &[u8], carrier: 
 #[test]
 fn edge_entry_of_one_cell(rt: HostRuntime) {
     let text = b"hexcert 1\nsize 1\nplayer black\nblack\nwhite\n\
-        adj edge1 a1\nadj edge2 a1\nkey 0 1\nsemi 2\n";
+        adj edge1 a1\nadj edge2 a1\nkey 1 0\nsemi 2\n";
     certify(&rt, rt.alloc(), 1, text, CellSet::of_bits(0b1));
 }

@@ -36,11 +36,16 @@ fn add_adjacent(rt: &impl Abort, store: &mut Store, x: u8, y: u8) -> Put {
     store.add(entry)
 }
 
-// Adds the entry that follows from two entries by a rule of AND.
+// Adds the entry that follows from two entries by a rule of AND over the greater element of the
+// first.
 fn add_and(rt: &impl Abort, store: &mut Store, i: u32, j: u32) -> Put {
-    let count = store.entries().len();
+    let entries = store.entries();
+    let count = entries.len();
     assert!(rt; (i as usize) < count && (j as usize) < count);
-    let entry = store.by_and(i, j).expect(rt, "a rule of AND applies");
+    let entry = entries[i as usize];
+    assert!(rt; entry.kind == Kind::Full && entry.x < entry.y);
+    let first = store.over(i, entry.x, entry.y);
+    let entry = store.by_and(&first, j).expect(rt, "a rule of AND applies");
     store.add(entry)
 }
 

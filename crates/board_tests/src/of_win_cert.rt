@@ -146,6 +146,6 @@ fn lines_after_others(rt: HostRuntime) -> Result<(), Fail> {
     assert!(rt; matches!(&lines[0], Line::Put(_)));
     assert!(rt; matches!(&lines[1], Line::Adj(End::First, End::At(_))));
     assert!(rt; matches!(&lines[2], Line::Adj(End::Second, End::At(_))));
-    assert!(rt; matches!(&lines[3], Line::Key(1, 2)));
+    assert!(rt; matches!(&lines[3], Line::Key(2, 1)));
     Ok(())
 }

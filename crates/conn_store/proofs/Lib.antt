@@ -12,8 +12,8 @@
 --    are linked), and so the entries of a sound store are true, one after the other.
 -- 4. proofs/Pairs, Numbers and Tables: the store and its index; src/stores.rt `add` and `append`
 --    with their answers.
--- 5. proofs/Chains and RuleEntries: the calls `by_adjacent`, `by_and`, `by_or_two`, `by_or_three`
---    of src/rules.rt.
+-- 5. proofs/Chains, RuleEntries and Overs: the calls `over`, `by_adjacent`, `by_and`, `by_or_two`,
+--    `by_or_three` of src/rules.rt.
 -- 6. proofs/Edges and Winning: who is sure of linking his edges wins, in the words of hex_board's
 --    specs/Wins.antt.
 
@@ -27,5 +27,6 @@ pub mod Numbers
 pub mod Tables
 pub mod Chains
 pub mod RuleEntries
+pub mod Overs
 -- Steps of this crate's own proofs.
 mod Pairs

@@ -1,7 +1,7 @@
 -- The entries that the rules give.
 use Rattle.std.proofs.Common.{◌≡◌, ℕ, ◌<◌, ◌&&◌, true, false, Bool, bit_or, List, [], ◌∷◌, length, get_or, Some, refl, sym, ◌∙◌, ap, subst, inl, inr, arith}
 use Rattle.std.specs.List.{slice_get}
-use Rattle.std.proofs.lemmas.Bool.{both_ways, false_from_ne_true, and_parts}
+use Rattle.std.proofs.lemmas.Bool.{false_from_ne_true, and_parts}
 use Rattle.std.proofs.lemmas.List.Elements.{All-cons, All-head, All-nil}
 use Rattle.std.proofs.lemmas.Option.{same_Some, slice_get_read}
 use Rattle.hex_cells.specs.Sets.{has, with_cell}
@@ -9,6 +9,7 @@ use Rattle.hex_board.specs.Elements.{PlayerBoard, HasCell}
 use Rattle.hex_board.specs.Positions.{AllEmpty, Within, stones_of, is_empty_at}
 use Rattle.hex_board.proofs.Places.{empty_alone}
 use Rattle.conn_store.specs.Entries.{IsBetween, IsValid, Misses}
+use Rattle.conn_store.specs.Over.{IsOneCell}
 use Rattle.conn_store.specs.Rules.{AndRule, AreAt, AreWays, FollowsBy, IsCell, IsAndOf, IsChain, IsEntry, IsGroup, OrRule, both_of}
 use Rattle.conn_store.specs.Stores.{CanOr, GivesAnd, MayBeAdded, IsSound, StoreData}
 use Rattle.conn_store.specs.declared.entries.Cause.{Cause}
@@ -24,9 +25,6 @@ pub stands : (d : StoreData) (xs : List Entry) (i : ℕ) (a : Entry) → xs ≡ 
 stands d xs i a e l f = slice_get_read d.entries (length d.entries) i a refl l (f ∙ ap (λ (v : List Entry). get_or v i a) e)
 
 -- ---- an element and a set of empty cells
-
-pub misses_cell : (e : PlayerBoard) (x k c : ℕ) → Within e.board.size (stones_of e.board e.player) → is_empty_at e.board k ≡ true → HasCell e x k → has c k ≡ false → Misses e x c
-misses_cell e x k c on f h n j i g = both_ways (has c k) n (subst (λ v. has c v ≡ true) (sym (empty_alone e x k j on f h i)) g)
 
 pub is_group : (e f : PlayerBoard) (u : ℕ) → e ≡ f → ((k : ℕ) → is_empty_at e.board k ≡ true → ¬ (HasCell e u k)) → IsGroup f u
 is_group e f u q g = subst (λ v. IsGroup v u) q (λ k c. g k c.0 c.1)
@@ -60,18 +58,18 @@ cell_next d i j a b entry x u y k s h g r f n = (
 )
 
 -- of two entries the rules of AND give one entry alone
-same_cell_of : (e : PlayerBoard) (u k j : ℕ) → Within e.board.size (stones_of e.board e.player) → IsCell e u k → IsCell e u j → k ≡ j
+pub same_cell_of : (e : PlayerBoard) (u k j : ℕ) → Within e.board.size (stones_of e.board e.player) → IsCell e u k → IsCell e u j → k ≡ j
 same_cell_of e u k j on f g = empty_alone e u k j on f.0 f.1 g.1
 
 group_of : (e : PlayerBoard) (a b entry : Entry) (x u y : ℕ) (cause : Cause) → IsGroup e u → IsEntry entry Full x y (both_of a b) cause → IsAndOf e a b x u y entry
 group_of e a b entry x u y cause f n = record { pair = n.pair; group = λ q. (n.kind_is, n.carrier_is); cell = λ k q. absurd (f k q) }
 
-cell_of_and : (e : PlayerBoard) (a b entry : Entry) (x u y k : ℕ) (cause : Cause) → Within e.board.size (stones_of e.board e.player) → IsCell e u k
+cell_of_and : (e : PlayerBoard) (a b entry : Entry) (x u y k : ℕ) (cause : Cause) → IsOneCell e u k
     → IsEntry entry Semi x y (with_cell (both_of a b) k) cause → IsAndOf e a b x u y entry
-cell_of_and e a b entry x u y k cause on f n = record {
+cell_of_and e a b entry x u y k cause f n = record {
   pair = n.pair;
-  group = λ q. absurd (q k f);
-  cell = λ j q. (n.kind_is, n.carrier_is ∙ ap (λ v. with_cell (both_of a b) v) (same_cell_of e u k j on f q));
+  group = λ q. absurd (q k f.0);
+  cell = λ j q. (n.kind_is, n.carrier_is ∙ ap (λ v. with_cell (both_of a b) v) (f.1 j q));
 }
 
 gives_one : (d : StoreData) (i j : ℕ) (a b entry : Entry) (x u y : ℕ) → IsSound d → slice_get d.entries i ≡ Some a → slice_get d.entries j ≡ Some b → AndRule d.elements a b x u y
@@ -90,9 +88,9 @@ pub group_gives : (d : StoreData) (i j : ℕ) (a b entry : Entry) (x u y : ℕ) 
 group_gives d i j a b entry x u y cause s h g r f n = gives_one d i j a b entry x u y s h g r (group_of d.elements a b entry x u y cause f n)
 
 pub cell_gives : (d : StoreData) (i j : ℕ) (a b entry : Entry) (x u y k : ℕ) (cause : Cause) → IsSound d → slice_get d.entries i ≡ Some a → slice_get d.entries j ≡ Some b
-    → AndRule d.elements a b x u y → Within d.elements.board.size (stones_of d.elements.board d.elements.player) → IsCell d.elements u k
+    → AndRule d.elements a b x u y → IsOneCell d.elements u k
     → IsEntry entry Semi x y (with_cell (both_of a b) k) cause → GivesAnd d i j entry
-cell_gives d i j a b entry x u y k cause s h g r on f n = gives_one d i j a b entry x u y s h g r (cell_of_and d.elements a b entry x u y k cause on f n)
+cell_gives d i j a b entry x u y k cause s h g r f n = gives_one d i j a b entry x u y s h g r (cell_of_and d.elements a b entry x u y k cause f n)
 
 -- ---- OR
 

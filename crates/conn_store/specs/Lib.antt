@@ -5,4 +5,5 @@ pub mod Entries
 pub mod Laws
 pub mod Rules
 pub mod Stores
+pub mod Over
 pub mod Index

@@ -81,13 +81,6 @@ with_entry d entry = record d { entries = d.entries ++ entry ∷ [] }
 abbrev pub MayBeAdded : StoreData → Entry → Type 0
 MayBeAdded d entry = IsValid d.elements entry × FollowsFrom d.elements d.entries entry
 
--- a rule of AND applies to the entries with these numbers
-abbrev pub CanAnd : StoreData → ℕ → ℕ → Type 0
-CanAnd d i j =
-    (a : Entry) × (b : Entry) × (x : ℕ) × (u : ℕ) × (y : ℕ)
-    × AreAt d.entries (i ∷ j ∷ []) (a ∷ b ∷ [])
-    × AndRule d.elements a b x u y
-
 -- the entry is what the rules of AND give of the entries with these numbers
 abbrev pub GivesAnd : StoreData → ℕ → ℕ → Entry → Type 0
 GivesAnd d i j entry =

@@ -2,6 +2,7 @@
 
 ghost use Rattle.std.specs.Prelude.{◌≡◌, ℕ, ◌+◌, ◌<◌, ◌≤◌, ◌↔◌, IsTrue, length, slice_index};
 ghost use Rattle.std.specs.Prelude.{slice_set};
+ghost use Rattle.conn_store.specs.declared.entries.TheConstants.{MOST_SEMI};
 ghost use Rattle.conn_store.specs.Index.{AnyInside, number_of_pair, pairs_among};
 
 use super::entries::{Entry, Held};
@@ -32,7 +33,7 @@ pub(crate) fn pair_number(x: u8, y: u8) -> usize
 
 /// The numbers with one more at the end.
 pub(crate) fn with_number(held: Held, number: u32) -> Held
-    requires { held.count < 6 }
+    requires { held.count < MOST_SEMI }
     ensures { result ≡ record { count = held.count + 1; at = slice_set held.at held.count number } }
 {
     let mut at = held.at;
@@ -45,7 +46,7 @@ pub(crate) fn with_number(held: Held, number: u32) -> Held
 
 /// Whether one of the entries with these numbers has its carrier inside the set.
 pub(crate) fn has_inside(entries: &[Entry], held: &Held, carrier: CellSet) -> bool
-    requires count { held.now.count ≤ 6 }
+    requires count { held.now.count ≤ MOST_SEMI }
     requires numbers { (j : ℕ) → j < held.now.count
         → slice_index held.now.at j < length entries.now }
     ensures { IsTrue result ↔ AnyInside entries.now held.now carrier }

@@ -9,7 +9,8 @@
 //!
 //! **A caller** makes a [`Store`], adds entries that follow from those that it holds
 //! ([`Store::add`]), looks up those of a pair ([`Store::held`]), and goes over all
-//! ([`Store::entries`]).
+//! ([`Store::entries`]). What follows by AND is asked of an entry over its middle ([`EntryOver`])
+//! and any other, so that each is a few tests on two carriers ([`Store::by_and`]).
 //!
 //! **What is proved.** Each entry of a store is valid and follows by the four rules from earlier
 //! ones. So it is *true* ([`sound_entries_are_true`]): the truth of an entry (specs/Truth.antt,
@@ -49,4 +50,5 @@ mod stores;
 pub use entries::{Cause, Entry, Held, Kind, MOST_ENTRIES, MOST_FULL, MOST_SEMI, Put};
 pub use laws::{connected_edges_win, sound_entries_are_true, truth_goes_on};
 pub use refusals::Memory;
+pub use rules::EntryOver;
 pub use stores::Store;

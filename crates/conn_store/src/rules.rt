@@ -1,59 +1,44 @@
 //! The four rules: the entries that follow from those of a store.
 
-ghost use Rattle.std.specs.Prelude.{◌≡◌, ◌↔◌, ℕ, ◌<◌, ◌∷◌, [], IfNone, IfSome, IsTrue, false};
+ghost use Rattle.std.specs.Prelude.{◌≡◌, ◌↔◌, ℕ, ◌<◌, ◌∷◌, [], IfNone, IfSome, IsTrue, Some, false};
 ghost use Rattle.std.specs.Prelude.{length};
 ghost use Rattle.hex_board.specs.Elements.{element_count};
 ghost use Rattle.hex_board.specs.Places.{is_near};
-ghost use Rattle.hex_board.specs.Positions.{AllEmpty};
-ghost use Rattle.conn_store.specs.Entries.{IsValid, Misses};
-ghost use Rattle.conn_store.specs.Rules.{AndRule, AreWays, IsChain, IsEntry, OrRule};
-ghost use Rattle.conn_store.specs.Rules.{adjacent_entry};
-ghost use Rattle.conn_store.specs.Stores.{CanAnd, CanOr, GivesAnd, MayBeAdded};
+ghost use Rattle.std.specs.List.{slice_get};
+ghost use Rattle.conn_store.specs.Entries.{IsBetween};
+ghost use Rattle.conn_store.specs.Over.{AreApart, CanAnd, IsFullOf, IsOver};
+ghost use Rattle.conn_store.specs.Rules.{AreWays, IsEntry, OrRule, adjacent_entry};
+ghost use Rattle.conn_store.specs.Stores.{CanOr, GivesAnd, MayBeAdded};
+ghost use Rattle.conn_store.specs.declared.entries.Entry.{Entry};
 
 use super::Store;
 use super::entries::{Cause, Entry, Kind};
-use hex_cells::CellSet;
+use hex_cells::{Cell, CellSet};
 
-// Two entries that share the middle `u`: the first is one of `x` and `u`, the second one of `u`
-// and `y`.
-#[derive(Clone, Copy)]
-struct Chain {
-    x: u8,
-    u: u8,
-    y: u8,
+/// A full entry as the first of two that share a middle, with what the rules of AND ask of it.
+#[derive(Clone, Copy, Debug, PartialEq, Eq)]
+pub struct EntryOver {
+    pub number: u32,
+    /// The middle is one of the entry's elements, the end is the other.
+    pub end: u8,
+    pub middle: u8,
+    pub carrier: CellSet,
+    /// The cells of the end.
+    pub cells: CellSet,
+    /// The empty cell that the middle is; `None` for a group.
+    pub cell: Option<Cell>,
 }
 
-// How two entries share a middle, where their other ends differ. There is at most one such way.
-fn chain_of(a: &Entry, b: &Entry) -> Option<Chain>
-    requires first { a.now.x < a.now.y }
-    requires second { b.now.x < b.now.y }
-    ensures some { IfSome result (λ c. IsChain a.now b.now c.x c.u c.y) }
-    ensures none { IfNone result ((x u y : ℕ) → ¬ (IsChain a.now b.now x u y)) }
+// The other element of an entry; `None` exactly where this is none of its two.
+fn other_end(entry: &Entry, middle: u8) -> Option<u8>
+    requires { entry.now.x < entry.now.y }
+    ensures some { IfSome result (IsBetween entry.now middle) }
+    ensures none { IfNone result ((y : ℕ) → ¬ (IsBetween entry.now middle y)) }
 {
-    if a.y == b.x {
-        Some(Chain {
-            x: a.x,
-            u: a.y,
-            y: b.y,
-        })
-    } else if a.x == b.y {
-        Some(Chain {
-            x: a.y,
-            u: a.x,
-            y: b.x,
-        })
-    } else if a.x == b.x && a.y != b.y {
-        Some(Chain {
-            x: a.y,
-            u: a.x,
-            y: b.y,
-        })
-    } else if a.y == b.y && a.x != b.x {
-        Some(Chain {
-            x: a.x,
-            u: a.y,
-            y: b.x,
-        })
+    if entry.x == middle {
+        Some(entry.y)
+    } else if entry.y == middle {
+        Some(entry.x)
     } else {
         None
     }
@@ -94,60 +79,67 @@ impl Store {
         }
     }
 
-    /// The entry that follows from entries `i` and `j` by a rule of AND: over a group, or over an
-    /// empty cell; `None` exactly where neither applies.
-    pub fn by_and(&self, i: u32, j: u32) -> Option<Entry>
-        requires first { i < length self.now.entries }
-        requires second { j < length self.now.entries }
-        ensures next { IfSome result (MayBeAdded self.now) }
-        ensures gives { IfSome result (GivesAnd self.now i j) }
-        ensures none { IfNone result (¬ (CanAnd self.now i j)) }
+    /// A full entry over one of its elements, the middle.
+    pub fn over(&self, number: u32, end: u8, middle: u8) -> EntryOver
+        requires number { number < length self.now.entries }
+        requires entry { (a : Entry) → slice_get self.now.entries number ≡ Some a
+            → IsFullOf a end middle }
+        ensures over { IsOver self.now result }
+        ensures names { (result.number ≡ number) × (result.middle ≡ middle) }
     {
-        let a = self.entries()[i as usize];
-        let b = self.entries()[j as usize];
-        let chain = self.and_chain(&a, &b)?;
-        let both = a.carrier.union(b.carrier);
-        match self.elements.cell(chain.u) {
-            None => {
-                let cause = Cause::AndGroup(i, j);
-                Some(entry_of(Kind::Full, chain.x, chain.y, both, cause))
-            }
-            Some(cell) => {
-                let cause = Cause::AndEmpty(i, j);
-                Some(entry_of(Kind::Semi, chain.x, chain.y, both.with(cell), cause))
-            }
+        let entry = self.entries()[number as usize];
+        EntryOver {
+            number,
+            end,
+            middle,
+            carrier: entry.carrier,
+            cells: self.elements.cells(end),
+            cell: self.elements.cell(middle),
         }
     }
 
-    // The ends and the middle of two entries to which a rule of AND applies.
-    fn and_chain(&self, a: &Entry, b: &Entry) -> Option<Chain>
-        requires first { IsValid self.now.elements a.now }
-        requires second { IsValid self.now.elements b.now }
-        ensures some { IfSome result (λ c. AndRule self.now.elements a.now b.now c.x c.u c.y) }
-        ensures none { IfNone result ((x u y : ℕ)
-            → ¬ (AndRule self.now.elements a.now b.now x u y)) }
+    /// The entry that follows from `first` and entry `other` by a rule of AND over their middle, a
+    /// group or an empty cell; `None` exactly where neither applies.
+    pub fn by_and(&self, first: &EntryOver, other: u32) -> Option<Entry>
+        requires first { IsOver self.now first.now }
+        requires other { other < length self.now.entries }
+        ensures next { IfSome result (MayBeAdded self.now) }
+        ensures gives { IfSome result (GivesAnd self.now first.now.number other) }
+        ensures none { IfNone result (¬ (CanAnd self.now first.now.number other first.now.middle)) }
     {
-        if a.kind == Kind::Semi || b.kind == Kind::Semi || a.carrier.meets(b.carrier) {
+        let second = self.entries()[other as usize];
+        let y = other_end(&second, first.middle)?;
+        if !self.is_apart(first, &second, y) {
             return None;
         }
-        let chain = chain_of(a, b)?;
-        if self.misses(chain.x, b.carrier) && self.misses(chain.y, a.carrier) {
-            Some(chain)
-        } else {
-            None
+        let both = first.carrier.union(second.carrier);
+        match first.cell {
+            None => {
+                let cause = Cause::AndGroup(first.number, other);
+                Some(entry_of(Kind::Full, first.end, y, both, cause))
+            }
+            Some(cell) => {
+                let cause = Cause::AndEmpty(first.number, other);
+                Some(entry_of(Kind::Semi, first.end, y, both.with(cell), cause))
+            }
         }
     }
 
-    // Whether no cell of the element is in a set of empty cells.
-    fn misses(&self, element: u8, cells: CellSet) -> bool
-        requires element { element < element_count self.now.elements }
-        requires cells { AllEmpty self.now.elements.board cells }
-        ensures { IsTrue result ↔ Misses self.now.elements element cells }
+    // Whether two entries that share a middle are what the rules of AND ask: the second, which ends
+    // at `y`, is full too, the ends differ, and neither carrier has a cell of the other or of the
+    // other's end.
+    fn is_apart(&self, first: &EntryOver, second: &Entry, y: u8) -> bool
+        requires first { IsOver self.now first.now }
+        requires end { y < element_count self.now.elements }
+        ensures { IsTrue result ↔ AreApart self.now.elements first.now second.now y }
     {
-        match self.elements.cell(element) {
-            None => true,
-            Some(cell) => !cells.has(cell),
+        if second.kind == Kind::Semi || y == first.end {
+            return false;
         }
+        if first.carrier.meets(second.carrier) || first.cells.meets(second.carrier) {
+            return false;
+        }
+        !self.elements.cells(y).meets(first.carrier)
     }
 
     /// The entry that follows from entries `i` and `j` by the rule of OR; `None` exactly where it

@@ -15,7 +15,7 @@ use Rattle.conn_store.specs.declared.entries.Put.TheVariants.{Added, Dominated, 
 use Rattle.conn_store.proofs.Numbers.{counted_full, full_counted, numbers_over}
 use Rattle.conn_store.proofs.Tables.{of_itself}
 use Rattle.hsearch.specs.Closed.{SettlesAnd, SettlesOr, HoldsEdge, IsSettled}
-use Rattle.hsearch.specs.Taken.{Extends, IsOrSettled, IsCombined, IsAndSettled, IsAndSettledOver, IsAndSettledTo}
+use Rattle.hsearch.specs.Taken.{Extends, IsOrSettled, IsAndSettled, IsAndSettledOver}
 
 -- ---- more entries
 
@@ -102,9 +102,6 @@ joined_stays d f i j g l m h a b x u y at = and_stays d f a b x u y g (h a b x u
 pub over_stays : (d f : StoreData) (i j u : ℕ) → Extends d f → i < length d.entries → j < length d.entries → IsAndSettledOver d i j u → IsAndSettledOver f i j u
 over_stays d f i j u g l m h a b x y at = and_stays d f a b x u y g (h a b x y (two_were d f i j a b g l m at))
 
-pub to_stays : (d f : StoreData) (i j u y : ℕ) → Extends d f → i < length d.entries → j < length d.entries → IsAndSettledTo d i j u y → IsAndSettledTo f i j u y
-to_stays d f i j u y g l m h a b x at = and_stays d f a b x u y g (h a b x (two_were d f i j a b g l m at))
-
 -- the numbers are those of entries
 abbrev pub AreWithin : ℕ → List ℕ → Type 0
 AreWithin n [] = Unit {0}
@@ -121,13 +118,6 @@ ways_were d f (i ∷ numbers) (a ∷ ways) g l h =
 
 pub chosen_stays : (d f : StoreData) (numbers : List ℕ) → Extends d f → AreWithin (length d.entries) numbers → IsOrSettled d numbers → IsOrSettled f numbers
 chosen_stays d f numbers g l h ways x y at = or_stays d f ways x y g (h ways x y (ways_were d f numbers ways g l at))
-
-pub combined_stays : (d f : StoreData) (n : ℕ) → Extends d f → n < length d.entries → IsCombined d n → IsCombined f n
-combined_stays d f n g l h = record {
-  ands = λ i m. joined_stays d f n i g l (omega arith) (h.ands i m);
-  twos = λ i m. chosen_stays d f (n ∷ i ∷ []) g (l, (omega arith, tt)) (h.twos i m);
-  threes = λ i j m o. chosen_stays d f (n ∷ i ∷ j ∷ []) g (l, (omega arith, (omega arith, tt))) (h.threes i j m o);
-}
 
 -- ---- an entry that was handed to the store
 

@@ -1,32 +1,40 @@
 -- One step of the search: what is answered after it.
-use Rattle.std.proofs.Common.{◌≡◌, ℕ, ◌+◌, ◌<◌, ◌≤◌, ◌⊎◌, ◌∷◌, [], List, Some, length, get_or, map, take, min, max, true, false, All, refl, sym, ◌∙◌, ap, subst, inl, inr, arith}
-use Rattle.std.specs.List.{slice_get}
-use Rattle.std.proofs.lemmas.Bool.{both_ways, cases_lt, cases_order}
-use Rattle.std.proofs.lemmas.List.Elements.{All-head}
+use Rattle.std.proofs.Common.{◌↔◌, IsTrue, MatchOption, ◌≡◌, ℕ, ◌+◌, ◌<◌, ◌≤◌, ◌⊎◌, ◌∷◌, [], List, Some, length, get_or, set, map, take, Bool, min, max, true, false, All, refl, sym, ◌∙◌, ap, subst, inl, inr, zero, suc, ◌++◌, arith, below_more}
+use Rattle.std.specs.List.{Contains, slice_get}
+use Rattle.std.proofs.lemmas.Bool.{both_ways, cases_Bool, cases_eq, cases_lt, cases_order}
+use Rattle.std.proofs.lemmas.List.{get_or-set_other, get_or-set_same, get_or_default}
+use Rattle.std.proofs.lemmas.List.Elements.{All-head, Contains-get_or}
 use Rattle.std.proofs.lemmas.Option.{same_Some, slice_get_within}
 use Rattle.hex_cells.specs.Sets.{has, with_cell}
 use Rattle.hex_cells.proofs.Bits.{has_none}
-use Rattle.hex_board.specs.Elements.{PlayerBoard, element_count}
+use Rattle.hex_cells.proofs.WithCell.{with_cell-here}
+use Rattle.hex_board.specs.Elements.{HasCell, PlayerBoard, element_count}
 use Rattle.hex_board.specs.Places.{is_near}
 use Rattle.conn_store.specs.Entries.{IsBetween}
+use Rattle.conn_store.specs.Over.{CanAnd, IsFullOf, IsOneCell, IsOver}
 use Rattle.conn_store.specs.Rules.{AndRule, AreAt, FollowsBy, IsCell, IsGroup, OrRule, adjacent_entry, both_of, union_of}
-use Rattle.conn_store.specs.Stores.{GivesAnd, IsCovered, MayBeAdded, IsPairFull, IsSound, StoreData, after_put, held_of, is_of, numbers_of}
-use Rattle.conn_store.specs.declared.entries.Cause.TheVariants.{Or}
+use Rattle.conn_store.specs.Stores.{CanOr, GivesAnd, IsCovered, MayBeAdded, IsPairFull, IsSound, StoreData, after_put, held_of, is_of, numbers_of}
+use Rattle.conn_store.specs.declared.entries.Cause.{Cause}
+use Rattle.conn_store.specs.declared.entries.Cause.TheVariants.{Adjacent, AndEmpty, AndGroup, Or}
 use Rattle.conn_store.specs.declared.entries.Entry.{Entry}
 use Rattle.conn_store.specs.declared.entries.Held.{Held}
 use Rattle.conn_store.specs.declared.entries.Kind.{Kind}
 use Rattle.conn_store.specs.declared.entries.Kind.TheVariants.{Full, Semi}
 use Rattle.conn_store.specs.declared.entries.Put.{Put}
+use Rattle.conn_store.specs.declared.rules.EntryOver.{EntryOver}
 use Rattle.conn_store.specs.declared.entries.Put.TheVariants.{Added, Dominated, PairFull}
-use Rattle.conn_store.proofs.Chains.{ends_below}
 use Rattle.conn_store.proofs.Numbers.{full_counted, numbers_all, numbers_in}
+use Rattle.conn_store.proofs.Overs.{same_end}
 use Rattle.conn_store.proofs.RuleEntries.{at_three, at_two}
 use Rattle.conn_store.proofs.RuleTruth.{second_of, third_of}
 use Rattle.conn_store.proofs.Tables.{held_count, last_or_before, number_at, number_within, of_itself}
 use Rattle.hsearch.specs.Closed.{SettlesOr, IsRuleClosed, IsKept}
-use Rattle.hsearch.specs.Taken.{AreBare, AreNearBelow, Extends, IsOrSettled, IsCombined, IsAndSettled, IsAndSettledOver, IsAndSettledTo, IsOfPair, IsTaken}
-use Rattle.hsearch.proofs.Growth.{AreWithin, IsPut, answered, covered_stays, entry_stays, entry_was, grown_longer, grown_on, grown_put, put_answers, to_stays, two_were, ways_were}
-use Rattle.hsearch.proofs.Orders.{last_first, swapped_first, swapped_last, swapped_two, three_of, turned_and, two_of, way_twice}
+use Rattle.hsearch.specs.Listed.{AreListed, IsFullAt, Lists}
+use Rattle.hsearch.specs.Taken.{AreBare, AreNearBelow, Extends, IsOrSettled, IsCombined, IsAndSettled, IsAndSettledOver, IsOfPair, IsTaken, AreTaken, IsMarked, AreMarked, IsGrown}
+use Rattle.hsearch.specs.Waiting.{IsFilled, IsWith}
+use Rattle.hsearch.proofs.Growth.{AreWithin, IsPut, answered, chosen_stays, covered_stays, entry_stays, entry_was, grown_longer, grown_on, grown_put, joined_stays, over_stays, put_answers, two_were, ways_were}
+use Rattle.hsearch.proofs.Orders.{first_again, first_twice, last_first, swapped_first, swapped_last, swapped_two, three_of, turned_and, turned_pair, two_enough, two_of, way_twice}
+use Rattle.hsearch.proofs.Queues.{contains_none, with_cases}
 
 -- ---- two entries by AND
 
@@ -169,52 +177,56 @@ at_second entries i j a b h = cc
 pub at_first : (entries : List Entry) (i j : ℕ) (a b : Entry) → AreAt entries (i ∷ j ∷ []) (a ∷ b ∷ []) → slice_get entries i ≡ Some a
 at_first entries i j a b h = cc
 
--- all the held entries of u and y were joined
-pub joined_to : (d f : StoreData) (n u y : ℕ) (h : Held) → h ≡ held_of (numbers_of d Full (min u y) (max u y)) → Extends d f
-    → ((p : ℕ) → p < h.count → IsAndSettled f n (get_or h.at p 0)) → (i : ℕ) → i < length d.entries → IsAndSettledTo f n i u y
-joined_to d f n u y h e g done i l a b x at r m =
-    let s = entry_was d f i b g l (at_second f.entries n i a b at) in
-    let w = held_has d Full (min u y) (max u y) i h b e s r.second_kind r.chain.second.0 r.chain.second.1 in
-    subst (λ v. IsAndSettled f n v) w.2 (done w.0 w.1) a b x u y at r m
+pub at_place : (list : List ℕ) (q : ℕ) → q < length list → Contains list (get_or list q 0)
+at_place list q l = Contains-get_or list q 0 l
 
--- no entry is of an element and itself
-pub joined_itself : (d f : StoreData) (n u : ℕ) → IsSound d → Extends d f → (i : ℕ) → i < length d.entries → IsAndSettledTo f n i u u
-joined_itself d f n u s g i l a b x at r m =
-    let v = s.valid i b (entry_was d f i b g l (at_second f.entries n i a b at)) in
-    absurd ((ends_below d.elements b u u v r.chain.second).2 refl)
+place_of : (list : List ℕ) (i : ℕ) → Contains list i → (q : ℕ) × (q < length list) × (get_or list q 0 ≡ i)
+place_of list i (q, l, e) = (q, l, get_or_default list q 0 i l ∙ e)
 
--- what is known when the second ends below y were gone through
-pub record IsTried (d f : StoreData) (n u y : ℕ) : Type 0 where
+-- what the store answers over a middle
+pub over_put : (d f : StoreData) (i j u : ℕ) (entry : Entry) (put : Put) → i < length d.entries → j < length d.entries → GivesAnd d i j entry → IsPut d f entry put → IsAndSettledOver f i j u
+over_put d f i j u entry put l m g p a b x y at = joined_put d f i j entry put l m g p a b x u y at
+
+pub over_none : (d : StoreData) (i j u : ℕ) → ¬ (CanAnd d i j u) → IsAndSettledOver d i j u
+over_none d i j u n a b x y at r m = absurd (n (a, b, x, y, at, r))
+
+-- what is known when the numbers at the places below p of a list were gone through
+pub record IsJoined (d f : StoreData) (n u : ℕ) (list : List ℕ) (p : ℕ) : Type 0 where
   pub grown : Extends d f
-  pub done : (z : ℕ) → z < y → (i : ℕ) → i < length d.entries → IsAndSettledTo f n i u z
+  pub done : (q : ℕ) → q < p → IsAndSettledOver f n (get_or list q 0) u
 
-pub tried_more : (d f g : StoreData) (n u y : ℕ) → IsTried d f n u y → n < length d.entries → Extends f g → ((i : ℕ) → i < length f.entries → IsAndSettledTo g n i u y)
-    → IsTried d g n u (y + 1)
-tried_more d f g n u y t l e h =
-    let m : length d.entries ≤ length f.entries = grown_longer d f t.grown in
+pub joined_more : (d f g : StoreData) (n u : ℕ) (list : List ℕ) (p : ℕ) → IsJoined d f n u list p → Extends f g → n < length d.entries → p < length list
+    → ((i : ℕ) → Contains list i → i < length d.entries) → IsAndSettledOver g n (get_or list p 0) u → IsJoined d g n u list (p + 1)
+joined_more d f g n u list p j e l k w s =
+    let m : length d.entries ≤ length f.entries = grown_longer d f j.grown in
     record {
-      grown = grown_on d f g t.grown e;
-      done = λ z k i b. elim (cases_lt z y) [
-        | inl o ↦ to_stays f g n i u z e (omega arith) (omega arith) (t.done z o i b)
-        | inr o ↦ let same : y ≡ z = omega arith in subst (λ v. IsAndSettledTo g n i u v) same (h i (omega arith))
-      ];
+      grown = grown_on d f g j.grown e;
+      done = below_more (λ q. IsAndSettledOver g n (get_or list q 0) u) p
+          (λ q b. over_stays f g n (get_or list q 0) u e (omega arith) (let z : get_or list q 0 < length d.entries = w (get_or list q 0) (at_place list q (omega arith)) in omega arith) (j.done q b)) s;
     }
 
-pub tried_itself : (d f : StoreData) (n u y : ℕ) → IsTried d f n u y → IsSound d → y ≡ u → IsTried d f n u (y + 1)
-tried_itself d f n u y t s q = record {
-  grown = t.grown;
-  done = λ z k i b. elim (cases_lt z y) [
-    | inl o ↦ t.done z o i b
-    | inr o ↦ let same : u ≡ z = omega arith in subst (λ v. IsAndSettledTo f n i u v) same (joined_itself d f n u s t.grown i b)
-  ];
-}
+-- all numbers of the list were gone through
+pub joined_all : (f : StoreData) (n u : ℕ) (list : List ℕ) → ((q : ℕ) → q < length list → IsAndSettledOver f n (get_or list q 0) u) → (i : ℕ) → Contains list i → IsAndSettledOver f n i u
+joined_all f n u list done i c = let w = place_of list i c in subst (λ v. IsAndSettledOver f n v u) w.2 (done w.0 w.1)
 
--- all second ends were gone through
-pub joined_over : (d f : StoreData) (n u : ℕ) → IsSound d → Extends d f
-    → ((y : ℕ) → y < element_count d.elements → (i : ℕ) → i < length d.entries → IsAndSettledTo f n i u y) → (i : ℕ) → i < length d.entries → IsAndSettledOver f n i u
-joined_over d f n u s g done i l a b x y at r m =
-    let v = s.valid i b (entry_was d f i b g l (at_second f.entries n i a b at)) in
-    done y (ends_below d.elements b u y v r.chain.second).1 i l a b x at r m
+-- an entry over its middle stays what it is
+pub full_at : (d : StoreData) (n : ℕ) (a : Entry) → slice_get d.entries n ≡ Some a → a.kind ≡ Full → a.x < a.y → IsFullAt d n a.y a.x × IsFullAt d n a.x a.y
+full_at d n a h k l = (
+  λ b g. subst (λ (v : Entry). IsFullOf v a.y a.x) (same_Some a b (sym h ∙ g)) (record { kind = k; pair = (omega arith, omega arith) }),
+  λ b g. subst (λ (v : Entry). IsFullOf v a.x a.y) (same_Some a b (sym h ∙ g)) (record { kind = k; pair = (omega arith, omega arith) }),
+)
+
+pub full_grown : (d f : StoreData) (n x u : ℕ) → Extends d f → n < length d.entries → IsFullAt d n x u → IsFullAt f n x u
+full_grown d f n x u g l b a h = b a (entry_was d f n a g l h)
+
+pub over_kept : (d f : StoreData) (v : EntryOver) → Extends d f → IsOver d v → IsOver f v
+over_kept d f v g o =
+    let e = sym g.elements in
+    record {
+      entry = (o.entry.0, entry_stays d f v.number o.entry.0 g o.entry.1, o.entry.2, o.entry.3);
+      cells = subst (λ (z : PlayerBoard). (k : ℕ) → IsTrue (has v.cells k) ↔ HasCell z v.end k) e o.cells;
+      middle = subst (λ (z : PlayerBoard). MatchOption v.cell (IsGroup z v.middle) (IsOneCell z v.middle)) e o.middle;
+    }
 
 -- ---- all ways of a pair
 
@@ -237,13 +249,72 @@ like_first : (a b : Entry) (x y v w : ℕ) → IsBetween a v w → IsBetween b v
 like_first a b x y v w h g p q = (g.0 ∙ (sym h.0 ∙ p), g.1 ∙ (sym h.1 ∙ q))
 
 -- what the loops over the ways leave
-pub record AreChosen (f : StoreData) (n : ℕ) (h : Held) : Type 0 where
-  pub twos : (p : ℕ) → p < h.count → IsOrSettled f (n ∷ get_or h.at p 0 ∷ [])
-  pub threes : (p q : ℕ) → p < h.count → q < p → IsOrSettled f (n ∷ get_or h.at p 0 ∷ get_or h.at q 0 ∷ [])
+pub record AreChosen (f : StoreData) (taken : List Bool) (n : ℕ) (h : Held) (p : ℕ) : Type 0 where
+  pub twos : (q : ℕ) → q < p → IsMarked taken (get_or h.at q 0) → IsOrSettled f (n ∷ get_or h.at q 0 ∷ [])
+  pub threes : (q r : ℕ) → q < p → r < q → IsMarked taken (get_or h.at q 0) → IsMarked taken (get_or h.at r 0) → IsOrSettled f (n ∷ get_or h.at q 0 ∷ get_or h.at r 0 ∷ [])
 
-pub chosen_two : (d f : StoreData) (n x y : ℕ) (h : Held) → h ≡ held_of (numbers_of d Semi x y) → Extends d f → n < length d.entries → IsOfPair d n x y → AreChosen f n h
-    → (i : ℕ) → i < length d.entries → IsOrSettled f (n ∷ i ∷ [])
-chosen_two d f n x y h e g l o done i m ways v w at r =
+pub chosen_first : (f : StoreData) (taken : List Bool) (n : ℕ) (h : Held) → AreChosen f taken n h 0
+chosen_first f taken n h = record { twos = λ q l m. absurd (omega arith); threes = λ q r l m i j. absurd (omega arith) }
+
+-- the way at one place more
+pub chosen_more : (d f : StoreData) (taken : List Bool) (n : ℕ) (h : Held) (p : ℕ) → AreChosen d taken n h p → Extends d f → n < length d.entries
+    → ((q : ℕ) → q < h.count → get_or h.at q 0 < length d.entries) → p < h.count → IsOrSettled f (n ∷ get_or h.at p 0 ∷ [])
+    → ((q : ℕ) → q < p → IsMarked taken (get_or h.at q 0) → IsOrSettled f (n ∷ get_or h.at p 0 ∷ get_or h.at q 0 ∷ [])) → AreChosen f taken n h (p + 1)
+chosen_more d f taken n h p a g l w m two three = record {
+  twos = below_more (λ q. IsMarked taken (get_or h.at q 0) → IsOrSettled f (n ∷ get_or h.at q 0 ∷ [])) p
+      (λ q b k. chosen_stays d f (n ∷ get_or h.at q 0 ∷ []) g (l, (w q (omega arith), tt)) (a.twos q b k)) (λ k. two);
+  threes = λ q r b o i j. below_more (λ z. z ≤ p → (v : ℕ) → v < z → IsMarked taken (get_or h.at z 0) → IsMarked taken (get_or h.at v 0) → IsOrSettled f (n ∷ get_or h.at z 0 ∷ get_or h.at v 0 ∷ [])) p
+      (λ z b o v k s t. chosen_stays d f (n ∷ get_or h.at z 0 ∷ get_or h.at v 0 ∷ []) g (l, (w z (omega arith), (w v (omega arith), tt))) (a.threes z v b k s t))
+      (λ o v k s t. three v k t) q b (omega arith) r o i j;
+}
+
+-- the way at one place more was not taken
+pub chosen_none : (d : StoreData) (taken : List Bool) (n : ℕ) (h : Held) (p : ℕ) → AreChosen d taken n h p → ¬ (IsMarked taken (get_or h.at p 0)) → AreChosen d taken n h (p + 1)
+chosen_none d taken n h p a w = record {
+  twos = below_more (λ q. IsMarked taken (get_or h.at q 0) → IsOrSettled d (n ∷ get_or h.at q 0 ∷ [])) p (λ q b k. a.twos q b k) (λ k. absurd (w k));
+  threes = λ q r b o i j. below_more (λ z. z ≤ p → (v : ℕ) → v < z → IsMarked taken (get_or h.at z 0) → IsMarked taken (get_or h.at v 0) → IsOrSettled d (n ∷ get_or h.at z 0 ∷ get_or h.at v 0 ∷ [])) p
+      (λ z b o v k s t. a.threes z v b k s t) (λ o v k s t. absurd (w s)) q b (omega arith) r o i j;
+}
+
+-- two ways that will do: a third one adds nothing
+pub thirds_wider : (d f : StoreData) (n i : ℕ) → Extends d f → n < length d.entries → i < length d.entries → CanOr d (n ∷ i ∷ []) → IsOrSettled f (n ∷ i ∷ []) → (j : ℕ) → IsOrSettled f (n ∷ i ∷ j ∷ [])
+thirds_wider d f n i g l m (two, v, w, here, rule) h j ways x y at =
+    let t = of_three f.entries n i j ways at in
+    let u = of_two d.entries n i two here in
+    let p : u.0 ≡ t.0 = same_Some u.0 t.0 (sym (entry_stays d f n u.0 g u.3) ∙ t.4) in
+    let q : u.1 ≡ t.1 = same_Some u.1 t.1 (sym (entry_stays d f i u.1 g u.4) ∙ t.5) in
+    let r = two_of u.0 u.1 v w (subst (λ z. OrRule z v w) u.2 rule) in
+    subst (λ z. SettlesOr f z x y) (sym t.3) (two_enough f t.0 t.1 t.2 x y
+    (λ k a b. r.free k (subst (λ (z : Entry). has z.carrier k ≡ true) (sym p) a) (subst (λ (z : Entry). has z.carrier k ≡ true) (sym q) b))
+    (h (t.0 ∷ t.1 ∷ []) x y (at_two f.entries n i t.0 t.1 t.4 t.5)))
+
+-- what the loop over the third ways leaves
+pub record AreThirds (d f : StoreData) (taken : List Bool) (n i : ℕ) (h : Held) (p : ℕ) : Type 0 where
+  pub grown : Extends d f
+  pub two : IsOrSettled f (n ∷ i ∷ [])
+  pub threes : (q : ℕ) → q < p → IsMarked taken (get_or h.at q 0) → IsOrSettled f (n ∷ i ∷ get_or h.at q 0 ∷ [])
+
+pub thirds_more : (d f g : StoreData) (taken : List Bool) (n i : ℕ) (h : Held) (p : ℕ) → AreThirds d f taken n i h p → Extends f g → n < length d.entries → i < length d.entries
+    → ((q : ℕ) → q < p → get_or h.at q 0 < length d.entries) → IsOrSettled g (n ∷ i ∷ get_or h.at p 0 ∷ []) → AreThirds d g taken n i h (p + 1)
+thirds_more d f g taken n i h p a e l m w s =
+    let k : length d.entries ≤ length f.entries = grown_longer d f a.grown in
+    record {
+      grown = grown_on d f g a.grown e;
+      two = chosen_stays f g (n ∷ i ∷ []) e (omega arith, (omega arith, tt)) a.two;
+      threes = below_more (λ q. IsMarked taken (get_or h.at q 0) → IsOrSettled g (n ∷ i ∷ get_or h.at q 0 ∷ [])) p
+          (λ q b o. let z : get_or h.at q 0 < length d.entries = w q b in chosen_stays f g (n ∷ i ∷ get_or h.at q 0 ∷ []) e (omega arith, (omega arith, (omega arith, tt))) (a.threes q b o)) (λ o. s);
+    }
+
+pub thirds_none : (d f : StoreData) (taken : List Bool) (n i : ℕ) (h : Held) (p : ℕ) → AreThirds d f taken n i h p → ¬ (IsMarked taken (get_or h.at p 0)) → AreThirds d f taken n i h (p + 1)
+thirds_none d f taken n i h p a w = record {
+  grown = a.grown;
+  two = a.two;
+  threes = below_more (λ q. IsMarked taken (get_or h.at q 0) → IsOrSettled f (n ∷ i ∷ get_or h.at q 0 ∷ [])) p (λ q b o. a.threes q b o) (λ o. absurd (w o));
+}
+
+pub chosen_two : (d f : StoreData) (taken : List Bool) (n x y : ℕ) (h : Held) → h ≡ held_of (numbers_of d Semi x y) → Extends d f → n < length d.entries → IsOfPair d n x y → AreChosen f taken n h h.count
+    → (i : ℕ) → i < length d.entries → IsMarked taken i → IsOrSettled f (n ∷ i ∷ [])
+chosen_two d f taken n x y h e g l o done i m t_i ways v w at r =
     let t = of_two f.entries n i ways at in
     let s : OrRule (t.0 ∷ t.1 ∷ []) v w = subst (λ z. OrRule z v w) t.2 r in
     let u = two_of t.0 t.1 v w s in
@@ -252,11 +323,11 @@ chosen_two d f n x y h e g l o done i m ways v w at r =
     let p = o t.0 a in
     let q = like_first t.0 t.1 x y v w u.first_pair u.second_pair p.0 p.1 in
     let z = held_has d Semi x y i h t.1 e b u.second_kind q.0 q.1 in
-    subst (λ k. IsOrSettled f (n ∷ k ∷ [])) z.2 (done.twos z.0 z.1) ways v w at r
+    subst (λ k. IsOrSettled f (n ∷ k ∷ [])) z.2 (done.twos z.0 z.1 (subst (λ k. IsMarked taken k) (sym z.2) t_i)) ways v w at r
 
-pub chosen_three : (d f : StoreData) (n x y : ℕ) (h : Held) → h ≡ held_of (numbers_of d Semi x y) → Extends d f → n < length d.entries → IsOfPair d n x y → AreChosen f n h
-    → (i j : ℕ) → i < length d.entries → j < length d.entries → IsOrSettled f (n ∷ i ∷ j ∷ [])
-chosen_three d f n x y h e g l o done i j m k ways v w at r =
+pub chosen_three : (d f : StoreData) (taken : List Bool) (n x y : ℕ) (h : Held) → h ≡ held_of (numbers_of d Semi x y) → Extends d f → n < length d.entries → IsOfPair d n x y → AreChosen f taken n h h.count
+    → (i j : ℕ) → i < length d.entries → j < length d.entries → IsMarked taken i → IsMarked taken j → IsOrSettled f (n ∷ i ∷ j ∷ [])
+chosen_three d f taken n x y h e g l o done i j m k t_i t_j ways v w at r =
     let t = of_three f.entries n i j ways at in
     let s : OrRule (t.0 ∷ t.1 ∷ t.2 ∷ []) v w = subst (λ z. OrRule z v w) t.3 r in
     let u = three_of t.0 t.1 t.2 v w s in
@@ -268,40 +339,44 @@ chosen_three d f n x y h e g l o done i j m k ways v w at r =
     let z = like_first t.0 t.2 x y v w u.first_pair u.third_pair p.0 p.1 in
     let b_at = held_has d Semi x y i h t.1 e b u.second_kind q.0 q.1 in
     let c_at = held_has d Semi x y j h t.2 e c u.third_kind z.0 z.1 in
+    let b_in : IsMarked taken (get_or h.at b_at.0 0) = subst (λ p. IsMarked taken p) (sym b_at.2) t_i in
+    let c_in : IsMarked taken (get_or h.at c_at.0 0) = subst (λ p. IsMarked taken p) (sym c_at.2) t_j in
     subst (λ (z : List Entry). SettlesOr f z v w) (sym t.3) (elim (cases_order b_at.0 c_at.0) [
       | inl same ↦
           let ij : i ≡ j = sym b_at.2 ∙ (ap (λ p. get_or h.at p 0) same ∙ c_at.2) in
           let bc : t.1 ≡ t.2 = same_Some t.1 t.2 (sym t.5 ∙ (ap (λ p. slice_get f.entries p) ij ∙ t.6)) in
           subst (λ (z : Entry). SettlesOr f (t.0 ∷ t.1 ∷ z ∷ []) v w) bc
-          (way_twice f t.0 t.1 v w (subst (λ p. IsOrSettled f (n ∷ p ∷ [])) b_at.2 (done.twos b_at.0 b_at.1) (t.0 ∷ t.1 ∷ []) v w (at_two f.entries n i t.0 t.1 t.4 t.5)))
+          (way_twice f t.0 t.1 v w (subst (λ p. IsOrSettled f (n ∷ p ∷ [])) b_at.2 (done.twos b_at.0 b_at.1 b_in) (t.0 ∷ t.1 ∷ []) v w (at_two f.entries n i t.0 t.1 t.4 t.5)))
       | inr other ↦ elim other [
         | inl less ↦ swapped_last f t.0 t.1 t.2 v w
-            (subst (λ p. IsOrSettled f (n ∷ p ∷ i ∷ [])) c_at.2 (subst (λ p. IsOrSettled f (n ∷ get_or h.at c_at.0 0 ∷ p ∷ [])) b_at.2 (done.threes c_at.0 b_at.0 c_at.1 less))
+            (subst (λ p. IsOrSettled f (n ∷ p ∷ i ∷ [])) c_at.2 (subst (λ p. IsOrSettled f (n ∷ get_or h.at c_at.0 0 ∷ p ∷ [])) b_at.2 (done.threes c_at.0 b_at.0 c_at.1 less c_in b_in))
             (t.0 ∷ t.2 ∷ t.1 ∷ []) v w (at_three f.entries n j i t.0 t.2 t.1 t.4 t.6 t.5))
-        | inr more ↦ subst (λ p. IsOrSettled f (n ∷ p ∷ j ∷ [])) b_at.2 (subst (λ p. IsOrSettled f (n ∷ get_or h.at b_at.0 0 ∷ p ∷ [])) c_at.2 (done.threes b_at.0 c_at.0 b_at.1 more))
+        | inr more ↦ subst (λ p. IsOrSettled f (n ∷ p ∷ j ∷ [])) b_at.2 (subst (λ p. IsOrSettled f (n ∷ get_or h.at b_at.0 0 ∷ p ∷ [])) c_at.2 (done.threes b_at.0 c_at.0 b_at.1 more b_in c_in))
             (t.0 ∷ t.1 ∷ t.2 ∷ []) v w (at_three f.entries n i j t.0 t.1 t.2 t.4 t.5 t.6)
       ]
     ]) r
 
--- ---- entry n with all before it
+-- ---- entry n with all entries
 
 pub kinds_apart : (k : Kind) → k ≡ Full → k ≡ Semi → ⊥
 kinds_apart k h g = absurd (cc)
 
-middle_of : (a : Entry) (x u : ℕ) → IsBetween a x u → (u ≡ a.x) ⊎ (u ≡ a.y)
+pub middle_of : (a : Entry) (x u : ℕ) → IsBetween a x u → (u ≡ a.x) ⊎ (u ≡ a.y)
 middle_of a x u h = elim (cases_lt x u) [ inl l ↦ inr (omega (arith, h.1)) | inr l ↦ inl (omega (arith, h.0)) ]
 
-pub combined_full : (d f : StoreData) (n : ℕ) (a : Entry) → Extends d f → n < length d.entries → slice_get d.entries n ≡ Some a → a.kind ≡ Full
-    → ((i : ℕ) → i < length d.entries → IsAndSettledOver f n i a.x) → ((i : ℕ) → i < length d.entries → IsAndSettledOver f n i a.y) → IsCombined f n
-combined_full d f n a g l h k over_x over_y = record {
-  ands = λ i m b c x u y at r z.
+pub combined_full : (d f : StoreData) (taken : List Bool) (lists : List (List ℕ)) (n : ℕ) (a : Entry) → Extends d f → n < length d.entries → slice_get d.entries n ≡ Some a → a.kind ≡ Full
+    → AreListed d taken lists → ((i : ℕ) → Lists lists a.x i → IsAndSettledOver f n i a.x) → ((i : ℕ) → Lists lists a.y i → IsAndSettledOver f n i a.y)
+    → IsCombined f (length d.entries) taken n
+combined_full d f taken lists n a g l h k all over_x over_y = record {
+  ands = λ i m t b c x u y at r z.
       let q : b ≡ a = same_Some b a (sym (at_first f.entries n i b c at) ∙ entry_stays d f n a g h) in
+      let s : Lists lists u i = all.listed i y u c (entry_was d f i c g m (at_second f.entries n i b c at)) (record { kind = r.second_kind; pair = turned_pair c u y r.chain.second }) t in
       elim (middle_of a x u (subst (λ (v : Entry). IsBetween v x u) q r.chain.first)) [
-        | inl p ↦ subst (λ v. IsAndSettledOver f n i v) (sym p) (over_x i (omega arith)) b c x y at r z
-        | inr p ↦ subst (λ v. IsAndSettledOver f n i v) (sym p) (over_y i (omega arith)) b c x y at r z
+        | inl p ↦ subst (λ v. IsAndSettledOver f n i v) (sym p) (over_x i (subst (λ v. Lists lists v i) p s)) b c x y at r z
+        | inr p ↦ subst (λ v. IsAndSettledOver f n i v) (sym p) (over_y i (subst (λ v. Lists lists v i) p s)) b c x y at r z
       ];
-  twos = λ i m ways x y at r. absurd (no_way (n ∷ i ∷ []) ways x y (of_two f.entries n i ways at).0 (of_two f.entries n i ways at).3 (first_two i ways at) r);
-  threes = λ i j m o ways x y at r. absurd (no_way (n ∷ i ∷ j ∷ []) ways x y (of_three f.entries n i j ways at).0 (of_three f.entries n i j ways at).4 (first_three i j ways at) r);
+  twos = λ i m t ways x y at r. absurd (no_way (n ∷ i ∷ []) ways x y (of_two f.entries n i ways at).0 (of_two f.entries n i ways at).3 (first_two i ways at) r);
+  threes = λ i j m o s t ways x y at r. absurd (no_way (n ∷ i ∷ j ∷ []) ways x y (of_three f.entries n i j ways at).0 (of_three f.entries n i j ways at).4 (first_three i j ways at) r);
 }
   where
     no_way : (numbers : List ℕ) (ways : List Entry) (x y : ℕ) (b : Entry) → slice_get f.entries n ≡ Some b → ((rest : List Entry) × (ways ≡ b ∷ rest)) → OrRule ways x y → ⊥
@@ -315,51 +390,194 @@ combined_full d f n a g l h k over_x over_y = record {
     first_three : (i j : ℕ) (ways : List Entry) (at : AreAt f.entries (n ∷ i ∷ j ∷ []) ways) → (rest : List Entry) × (ways ≡ (of_three f.entries n i j ways at).0 ∷ rest)
     first_three i j ways at = let t = of_three f.entries n i j ways at in (t.1 ∷ t.2 ∷ [], t.3)
 
-pub combined_semi : (d f : StoreData) (n : ℕ) (a : Entry) → Extends d f → n < length d.entries → slice_get d.entries n ≡ Some a → a.kind ≡ Semi
-    → ((i : ℕ) → i < length d.entries → IsOrSettled f (n ∷ i ∷ [])) → ((i j : ℕ) → i < length d.entries → j < length d.entries → IsOrSettled f (n ∷ i ∷ j ∷ [])) → IsCombined f n
-combined_semi d f n a g l h k twos threes = record {
-  ands = λ i m b c x u y at r z.
+pub combined_semi : (d f : StoreData) (taken : List Bool) (n : ℕ) (a : Entry) → Extends d f → n < length d.entries → slice_get d.entries n ≡ Some a → a.kind ≡ Semi
+    → ((i : ℕ) → i < length d.entries → IsMarked taken i → IsOrSettled f (n ∷ i ∷ []))
+    → ((i j : ℕ) → i < length d.entries → j < length d.entries → IsMarked taken i → IsMarked taken j → IsOrSettled f (n ∷ i ∷ j ∷ [])) → IsCombined f (length d.entries) taken n
+combined_semi d f taken n a g l h k twos threes = record {
+  ands = λ i m t b c x u y at r z.
       let q : b ≡ a = same_Some b a (sym (at_first f.entries n i b c at) ∙ entry_stays d f n a g h) in
       absurd (kinds_apart a.kind (subst (λ (v : Entry). v.kind ≡ Full) q r.first_kind) k);
-  twos = λ i m. twos i (omega arith);
-  threes = λ i j m o. threes i j (omega arith) (omega arith);
+  twos = twos;
+  threes = threes;
 }
+
+-- ---- entry n with itself
+
+-- a semi entry has a cell in its carrier
+semi_has : (e : PlayerBoard) (entries : List Entry) (a : Entry) (cause : Cause) → FollowsBy e entries a cause → a.kind ≡ Semi → (k : ℕ) × (has a.carrier k ≡ true)
+semi_has e entries a Adjacent (r, k, c) s = absurd (kinds_apart a.kind k s)
+semi_has e entries a (AndGroup i j) (p, q, x, u, y, at, r, g, b, k, c) s = absurd (kinds_apart a.kind k s)
+semi_has e entries a (AndEmpty i j) (p, q, x, u, y, m, at, r, g, b, k, c) s = (m, subst (λ v. has v m ≡ true) (sym c) (with_cell-here (both_of p q) m))
+semi_has e entries a (Or numbers count) (ways, at, r, k, c) s = absurd (kinds_apart a.kind k s)
+
+self_and : (f : StoreData) (n : ℕ) → IsAndSettled f n n
+self_and f n a b x u y at r m =
+    let q : a ≡ b = same_Some a b (sym (at_first f.entries n n a b at) ∙ at_second f.entries n n a b at) in
+    absurd (r.chain.ends (same_end b x y u (subst (λ (v : Entry). IsBetween v x u) q r.chain.first) (turned_pair b u y r.chain.second)))
+
+self_two : (f : StoreData) (n : ℕ) → IsSound f → IsOrSettled f (n ∷ n ∷ [])
+self_two f n s ways x y at r =
+    let t = of_two f.entries n n ways at in
+    let u = two_of t.0 t.1 x y (subst (λ z. OrRule z x y) t.2 r) in
+    let q : t.0 ≡ t.1 = same_Some t.0 t.1 (sym t.3 ∙ t.4) in
+    let k = semi_has f.elements (take n f.entries) t.0 t.0.cause (s.follows n t.0 t.3) u.first_kind in
+    absurd (u.free k.0 k.1 (subst (λ (v : Entry). has v.carrier k.0 ≡ true) q k.1))
+
+self_three : (f : StoreData) (n : ℕ) → IsSound f → IsOrSettled f (n ∷ n ∷ n ∷ [])
+self_three f n s ways x y at r =
+    let t = of_three f.entries n n n ways at in
+    let u = three_of t.0 t.1 t.2 x y (subst (λ z. OrRule z x y) t.3 r) in
+    let p : t.0 ≡ t.1 = same_Some t.0 t.1 (sym t.4 ∙ t.5) in
+    let q : t.0 ≡ t.2 = same_Some t.0 t.2 (sym t.4 ∙ t.6) in
+    let k = semi_has f.elements (take n f.entries) t.0 t.0.cause (s.follows n t.0 t.4) u.first_kind in
+    absurd (u.free k.0 k.1 (subst (λ (v : Entry). has v.carrier k.0 ≡ true) p k.1) (subst (λ (v : Entry). has v.carrier k.0 ≡ true) q k.1))
+
+self_first : (f : StoreData) (n j : ℕ) → IsOrSettled f (n ∷ j ∷ []) → IsOrSettled f (n ∷ n ∷ j ∷ [])
+self_first f n j h ways x y at =
+    let t = of_three f.entries n n j ways at in
+    let q : t.0 ≡ t.1 = same_Some t.0 t.1 (sym t.4 ∙ t.5) in
+    subst (λ z. SettlesOr f z x y) (sym t.3) (subst (λ (v : Entry). SettlesOr f (t.0 ∷ v ∷ t.2 ∷ []) x y) q
+    (first_twice f t.0 t.2 x y (h (t.0 ∷ t.2 ∷ []) x y (at_two f.entries n j t.0 t.2 t.4 t.6))))
+
+self_last : (f : StoreData) (n i : ℕ) → IsOrSettled f (n ∷ i ∷ []) → IsOrSettled f (n ∷ i ∷ n ∷ [])
+self_last f n i h ways x y at =
+    let t = of_three f.entries n i n ways at in
+    let q : t.0 ≡ t.2 = same_Some t.0 t.2 (sym t.4 ∙ t.6) in
+    subst (λ z. SettlesOr f z x y) (sym t.3) (subst (λ (v : Entry). SettlesOr f (t.0 ∷ t.1 ∷ v ∷ []) x y) q
+    (first_again f t.0 t.1 x y (h (t.0 ∷ t.1 ∷ []) x y (at_two f.entries n i t.0 t.1 t.4 t.5))))
+
+-- the marks with that of entry n too
+pub combined_itself : (f : StoreData) (m : ℕ) (taken next : List Bool) (n : ℕ) → IsSound f → IsGrown taken next → IsCombined f m taken n → IsCombined f m (set next n true) n
+combined_itself f m taken next n s g c = record {
+  ands = λ i l k. elim (was i k) [ inl e ↦ subst (λ v. IsAndSettled f n v) (sym e) (self_and f n) | inr o ↦ c.ands i l o ];
+  twos = λ i l k. elim (was i k) [ inl e ↦ subst (λ v. IsOrSettled f (n ∷ v ∷ [])) (sym e) (self_two f n s) | inr o ↦ c.twos i l o ];
+  threes = λ i j l o k t. elim (was i k) [
+    | inl e ↦ subst (λ v. IsOrSettled f (n ∷ v ∷ j ∷ [])) (sym e) (elim (was j t) [
+      | inl h ↦ subst (λ v. IsOrSettled f (n ∷ n ∷ v ∷ [])) (sym h) (self_three f n s)
+      | inr h ↦ self_first f n j (c.twos j o h)
+    ])
+    | inr e ↦ elim (was j t) [
+      | inl h ↦ subst (λ v. IsOrSettled f (n ∷ i ∷ v ∷ [])) (sym h) (self_last f n i (c.twos i l e))
+      | inr h ↦ c.threes i j l o e h
+    ]
+  ];
+}
+  where
+    was : (i : ℕ) → IsMarked (set next n true) i → (i ≡ n) ⊎ IsMarked taken i
+    was i k = elim (cases_eq i n) [ inl e ↦ inl e | inr e ↦ inr (sym (g i) ∙ (sym (get_or-set_other next n i true false e) ∙ k)) ]
+
+-- ---- an entry that is taken
+
+-- two entries in the other order
+and_back : (d : StoreData) (i j : ℕ) → IsAndSettled d i j → IsAndSettled d j i
+and_back d i j h a b x u y at = turned_and d a b x u y (h b a y u x (at_two d.entries i j b a (at_second d.entries j i a b at) (at_first d.entries j i a b at)))
+
+-- the second of two ways first
+two_back : (d : StoreData) (i j : ℕ) → IsOrSettled d (i ∷ j ∷ []) → IsOrSettled d (j ∷ i ∷ [])
+two_back d i j h ways x y at =
+    let t = of_two d.entries j i ways at in
+    subst (λ z. SettlesOr d z x y) (sym t.2) (swapped_two d t.0 t.1 x y (h (t.1 ∷ t.0 ∷ []) x y (at_two d.entries i j t.1 t.0 t.4 t.3)))
+
+-- the first of three ways second
+first_back : (d : StoreData) (i j k : ℕ) → IsOrSettled d (i ∷ j ∷ k ∷ []) → IsOrSettled d (j ∷ i ∷ k ∷ [])
+first_back d i j k h ways x y at =
+    let t = of_three d.entries j i k ways at in
+    subst (λ z. SettlesOr d z x y) (sym t.3) (swapped_first d t.0 t.1 t.2 x y (h (t.1 ∷ t.0 ∷ t.2 ∷ []) x y (at_three d.entries i j k t.1 t.0 t.2 t.5 t.4 t.6)))
+
+-- the first of three ways last
+first_last : (d : StoreData) (i j k : ℕ) → IsOrSettled d (i ∷ j ∷ k ∷ []) → IsOrSettled d (j ∷ k ∷ i ∷ [])
+first_last d i j k h ways x y at =
+    let t = of_three d.entries j k i ways at in
+    subst (λ z. SettlesOr d z x y) (sym t.3) (last_first d t.0 t.1 t.2 x y (h (t.2 ∷ t.0 ∷ t.1 ∷ []) x y (at_three d.entries i j k t.2 t.0 t.1 t.6 t.4 t.5)))
+
+-- while all entries wait
+pub none_taken : (d : StoreData) (waiting : List ℕ) → ((i : ℕ) → i < length d.entries → Contains waiting i) → AreTaken d waiting
+none_taken d waiting h = record {
+  ands = λ i j t o. absurd (t.1 (h i t.0));
+  twos = λ i j t o. absurd (t.1 (h i t.0));
+  threes = λ i j k t o p. absurd (t.1 (h i t.0));
+}
+
+-- the entries that do not wait, with entry n, which was taken and combined, and those that it gave
+pub one_taken : (d f : StoreData) (taken : List Bool) (v w z : List ℕ) (n : ℕ) → AreTaken d v → IsWith w n v → n < length d.entries → Extends d f → AreMarked d taken w → IsCombined f (length d.entries) taken n
+    → IsFilled w z (length d.entries) (length f.entries) → AreTaken f z
+one_taken d f taken v w z n t o l g k c q = record {
+  ands = λ i j h r. elim (was i h) [
+    | inl e ↦ subst (λ p. IsAndSettled f p j) (sym e) (c.ands j (below j r) (marked j r))
+    | inr a ↦ elim (was j r) [
+      | inl e ↦ subst (λ p. IsAndSettled f i p) (sym e) (and_back f n i (c.ands i a.0 (marked i h)))
+      | inr b ↦ joined_stays d f i j g a.0 b.0 (t.ands i j a b)
+    ]
+  ];
+  twos = λ i j h r. elim (was i h) [
+    | inl e ↦ subst (λ p. IsOrSettled f (p ∷ j ∷ [])) (sym e) (c.twos j (below j r) (marked j r))
+    | inr a ↦ elim (was j r) [
+      | inl e ↦ subst (λ p. IsOrSettled f (i ∷ p ∷ [])) (sym e) (two_back f n i (c.twos i a.0 (marked i h)))
+      | inr b ↦ chosen_stays d f (i ∷ j ∷ []) g (a.0, (b.0, tt)) (t.twos i j a b)
+    ]
+  ];
+  threes = λ i j p h m r. elim (was i h) [
+    | inl e ↦ subst (λ v. IsOrSettled f (v ∷ j ∷ p ∷ [])) (sym e) (c.threes j p (below j m) (below p r) (marked j m) (marked p r))
+    | inr a ↦ elim (was j m) [
+      | inl e ↦ subst (λ v. IsOrSettled f (i ∷ v ∷ p ∷ [])) (sym e) (first_back f n i p (c.threes i p a.0 (below p r) (marked i h) (marked p r)))
+      | inr b ↦ elim (was p r) [
+        | inl e ↦ subst (λ v. IsOrSettled f (i ∷ j ∷ v ∷ [])) (sym e) (first_last f n i j (c.threes i j a.0 b.0 (marked i h) (marked j m)))
+        | inr s ↦ chosen_stays d f (i ∷ j ∷ p ∷ []) g (a.0, (b.0, (s.0, tt))) (t.threes i j p a b s)
+      ]
+    ]
+  ];
+}
+  where
+    below : (i : ℕ) → IsTaken f z i → i < length d.entries
+    below i h = elim (cases_lt i (length d.entries)) [ inl m ↦ m | inr m ↦ absurd (h.1 (q.added i m h.0)) ]
+
+    marked : (i : ℕ) → IsTaken f z i → IsMarked taken i
+    marked i h = elim (cases_Bool (get_or taken i false)) [ inl m ↦ m | inr m ↦ absurd (h.1 (q.kept i (k i (below i h) m))) ]
+
+    was : (i : ℕ) → IsTaken f z i → (i ≡ n) ⊎ IsTaken d v i
+    was i h = elim (cases_eq i n) [ inl e ↦ inl e | inr m ↦ inr (below i h, λ b. elim (with_cases w n v i o b) [ inl e ↦ m e | inr r ↦ h.1 (q.kept i r) ]) ]
+
+-- one mark more, which is false
+pub marks_push : (v w : List Bool) → IsGrown v w → IsGrown v (w ++ false ∷ [])
+marks_push v w g i = pushed w i ∙ g i
+  where
+    pushed : (w : List Bool) (i : ℕ) → get_or (w ++ false ∷ []) i false ≡ get_or w i false
+    pushed [] zero = refl
+    pushed [] (suc i) = refl
+    pushed (b ∷ w) zero = refl
+    pushed (b ∷ w) (suc i) = pushed w i
+
+pub marked_grown : (d : StoreData) (taken next : List Bool) (v : List ℕ) → AreMarked d taken v → IsGrown taken next → AreMarked d next v
+marked_grown d taken next v m g i l e = m i l (sym (g i) ∙ e)
+
+-- entry n was taken out and marked, and those that came wait
+pub marked_more : (d f : StoreData) (taken : List Bool) (v w z : List ℕ) (n : ℕ) → AreMarked d taken v → IsWith w n v → n < length taken → IsFilled w z (length d.entries) (length f.entries)
+    → (AreMarked d (set taken n true) w) × AreMarked f (set taken n true) z
+marked_more d f taken v w z n m o l q = (here, λ i b e. elim (cases_lt i (length d.entries)) [ inl k ↦ q.kept i (here i k e) | inr k ↦ q.added i k b ])
+  where
+    here : AreMarked d (set taken n true) w
+    here i b e = elim (cases_eq i n) [
+      | inl s ↦ absurd (both_ways true (sym (ap (λ j. get_or (set taken n true) j false) s ∙ get_or-set_same taken n true false l) ∙ e) refl)
+      | inr s ↦ elim (with_cases w n v i o (m i b (sym (get_or-set_other taken n i true false s) ∙ e))) [ inl t ↦ absurd (s t) | inr t ↦ t ]
+    ]
 
 -- ---- the end
 
-less_more : (i n : ℕ) → i ≤ n → i < n + 1
-less_more i n l = omega arith
-
-pub all_taken : (d : StoreData) (n : ℕ) → IsTaken d n → length d.entries ≤ n → AreNearBelow d (element_count d.elements) → IsRuleClosed d
-all_taken d n t l near = record {
+pub all_taken : (d : StoreData) (waiting : List ℕ) → AreTaken d waiting → waiting ≡ [] → AreNearBelow d (element_count d.elements) → IsRuleClosed d
+all_taken d waiting t e near = record {
   near = near;
-  ands = λ a b x u y (i, h) (j, g). elim (cases_lt i j) [
-    | inl m ↦ turned_and d a b x u y ((t j (within j b g)).ands i (less_more i j (omega arith)) b a y u x (at_two d.entries j i b a g h))
-    | inr m ↦ (t i (within i a h)).ands j (less_more j i m) a b x u y (at_two d.entries i j a b h g)
-  ];
+  ands = λ a b x u y (i, h) (j, g). t.ands i j (taken i a h) (taken j b g) a b x u y (at_two d.entries i j a b h g);
   ors = λ ways x y all r. closed_or ways x y all r r;
 }
   where
-    within : (i : ℕ) (a : Entry) → slice_get d.entries i ≡ Some a → i < n
-    within i a h = omega (arith, slice_get_within d.entries i a h)
+    taken : (i : ℕ) (a : Entry) → slice_get d.entries i ≡ Some a → IsTaken d waiting i
+    taken i a h = (slice_get_within d.entries i a h, λ k. contains_none i (subst (λ v. Contains v i) e k))
 
     closed_two : (a b : Entry) (x y : ℕ) → IsKept d a → IsKept d b → SettlesOr d (a ∷ b ∷ []) x y
-    closed_two a b x y (i, h) (j, g) = elim (cases_lt i j) [
-      | inl m ↦ swapped_two d a b x y ((t j (within j b g)).twos i (less_more i j (omega arith)) (b ∷ a ∷ []) x y (at_two d.entries j i b a g h))
-      | inr m ↦ (t i (within i a h)).twos j (less_more j i m) (a ∷ b ∷ []) x y (at_two d.entries i j a b h g)
-    ]
+    closed_two a b x y (i, h) (j, g) = t.twos i j (taken i a h) (taken j b g) (a ∷ b ∷ []) x y (at_two d.entries i j a b h g)
 
     closed_three : (a b c : Entry) (x y : ℕ) → IsKept d a → IsKept d b → IsKept d c → SettlesOr d (a ∷ b ∷ c ∷ []) x y
-    closed_three a b c x y (i, h) (j, g) (k, f) = elim (cases_lt i j) [
-      | inl m ↦ elim (cases_lt j k) [
-        | inl o ↦ last_first d a b c x y ((t k (within k c f)).threes i j (less_more i k (omega arith)) (less_more j k (omega arith)) (c ∷ a ∷ b ∷ []) x y (at_three d.entries k i j c a b f h g))
-        | inr o ↦ swapped_first d a b c x y ((t j (within j b g)).threes i k (less_more i j (omega arith)) (less_more k j o) (b ∷ a ∷ c ∷ []) x y (at_three d.entries j i k b a c g h f))
-      ]
-      | inr m ↦ elim (cases_lt i k) [
-        | inl o ↦ last_first d a b c x y ((t k (within k c f)).threes i j (less_more i k (omega arith)) (less_more j k (omega arith)) (c ∷ a ∷ b ∷ []) x y (at_three d.entries k i j c a b f h g))
-        | inr o ↦ (t i (within i a h)).threes j k (less_more j i m) (less_more k i o) (a ∷ b ∷ c ∷ []) x y (at_three d.entries i j k a b c h g f)
-      ]
-    ]
+    closed_three a b c x y (i, h) (j, g) (k, f) = t.threes i j k (taken i a h) (taken j b g) (taken k c f) (a ∷ b ∷ c ∷ []) x y (at_three d.entries i j k a b c h g f)
 
     closed_or : (ways : List Entry) (x y : ℕ) → All (IsKept d) ways → OrRule ways x y → SettlesOr d ways x y
     closed_or [] x y all r = elim r.number [ inl h ↦ absurd (omega arith) | inr h ↦ absurd (omega arith) ]
@@ -369,9 +587,6 @@ all_taken d n t l near = record {
     closed_or (a ∷ b ∷ c ∷ f ∷ ways) x y all r = elim r.number [ inl h ↦ absurd (omega arith) | inr h ↦ absurd (omega arith) ]
 
 -- ---- for the loops
-
-pub held_is : (d : StoreData) (h : Held) (m n u y : ℕ) → m ≡ min u y → n ≡ max u y → h ≡ held_of (numbers_of d Full m n) → h ≡ held_of (numbers_of d Full (min u y) (max u y))
-held_is d h m n u y p q e = e ∙ (ap (λ v. held_of (numbers_of d Full v n)) p ∙ ap (λ v. held_of (numbers_of d Full (min u y) v)) q)
 
 pub within_grown : (d f : StoreData) (kind : Kind) (x y : ℕ) (h : Held) (p : ℕ) → h ≡ held_of (numbers_of d kind x y) → Extends d f → p < h.count → get_or h.at p 0 < length f.entries
 within_grown d f kind x y h p e g l =

@@ -3,3 +3,5 @@ pub use Rattle.conn_store.specs.Rules
 pub use Rattle.conn_store.specs.Stores
 pub mod Closed
 pub mod Taken
+pub mod Listed
+pub mod Waiting

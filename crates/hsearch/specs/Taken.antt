@@ -1,6 +1,7 @@
 -- Stores on their way to a report. Only private clauses cite this.
-use Rattle.std.specs.Prelude.{◌≡◌, ℕ, ◌+◌, ◌<◌, true, List, [], ◌∷◌, ◌++◌, Some}
-use Rattle.std.specs.List.{slice_get}
+use Rattle.std.specs.Prelude.{◌≡◌, ℕ, ◌<◌, Bool, true, false, List, [], ◌∷◌, ◌++◌, Some, length}
+use Rattle.std.specs.Prelude.{slice_index_or}
+use Rattle.std.specs.List.{Contains, slice_get}
 use Rattle.hex_board.specs.Places.{is_near}
 use Rattle.conn_store.specs.Rules.{AreAt}
 use Rattle.conn_store.specs.Stores.{IsCovered, StoreData}
@@ -23,25 +24,41 @@ abbrev pub IsAndSettledOver : StoreData → ℕ → ℕ → ℕ → Type 0
 IsAndSettledOver d i j u =
     (a b : Entry) (x y : ℕ) → AreAt d.entries (i ∷ j ∷ []) (a ∷ b ∷ []) → SettlesAnd d a b x u y
 
--- the same where the middle is u and the second end is y
-abbrev pub IsAndSettledTo : StoreData → ℕ → ℕ → ℕ → ℕ → Type 0
-IsAndSettledTo d i j u y =
-    (a b : Entry) (x : ℕ) → AreAt d.entries (i ∷ j ∷ []) (a ∷ b ∷ []) → SettlesAnd d a b x u y
-
 -- what the rule of OR gives of the entries with these numbers is answered
 abbrev pub IsOrSettled : StoreData → List ℕ → Type 0
 IsOrSettled d numbers =
     (ways : List Entry) (x y : ℕ) → AreAt d.entries numbers ways → SettlesOr d ways x y
 
--- what the rules give of entry n and of entries up to it is answered
-pub record IsCombined (d : StoreData) (n : ℕ) : Type 0 where
-  pub ands : (i : ℕ) → i < n + 1 → IsAndSettled d n i
-  pub twos : (i : ℕ) → i < n + 1 → IsOrSettled d (n ∷ i ∷ [])
-  pub threes : (i j : ℕ) → i < n + 1 → j < n + 1 → IsOrSettled d (n ∷ i ∷ j ∷ [])
+-- entry i was taken
+abbrev pub IsMarked : List Bool → ℕ → Type 0
+IsMarked taken i = slice_index_or taken i false ≡ true
 
--- what the rules give of the first n entries is answered
-abbrev pub IsTaken : StoreData → ℕ → Type 0
-IsTaken d n = (i : ℕ) → i < n → IsCombined d i
+-- what the rules give of entry n and of those among the first m entries that were taken is answered
+pub record IsCombined (d : StoreData) (m : ℕ) (taken : List Bool) (n : ℕ) : Type 0 where
+  pub ands : (i : ℕ) → i < m → IsMarked taken i → IsAndSettled d n i
+  pub twos : (i : ℕ) → i < m → IsMarked taken i → IsOrSettled d (n ∷ i ∷ [])
+  pub threes : (i j : ℕ) → i < m → j < m → IsMarked taken i → IsMarked taken j
+      → IsOrSettled d (n ∷ i ∷ j ∷ [])
+
+-- w marks what v marks
+abbrev pub IsGrown : List Bool → List Bool → Type 0
+IsGrown v w = (i : ℕ) → slice_index_or w i false ≡ slice_index_or v i false
+
+-- each entry that is not marked as taken waits
+abbrev pub AreMarked : StoreData → List Bool → List ℕ → Type 0
+AreMarked d taken waiting =
+    (i : ℕ) → i < length d.entries → slice_index_or taken i false ≡ false → Contains waiting i
+
+-- entry i does not wait
+abbrev pub IsTaken : StoreData → List ℕ → ℕ → Type 0
+IsTaken d waiting i = (i < length d.entries) × (¬ Contains waiting i)
+
+-- what the rules give of the entries that do not wait is answered
+pub record AreTaken (d : StoreData) (waiting : List ℕ) : Type 0 where
+  pub ands : (i j : ℕ) → IsTaken d waiting i → IsTaken d waiting j → IsAndSettled d i j
+  pub twos : (i j : ℕ) → IsTaken d waiting i → IsTaken d waiting j → IsOrSettled d (i ∷ j ∷ [])
+  pub threes : (i j k : ℕ) → IsTaken d waiting i → IsTaken d waiting j → IsTaken d waiting k
+      → IsOrSettled d (i ∷ j ∷ k ∷ [])
 
 -- each entry has the empty carrier
 abbrev pub AreBare : StoreData → Type 0

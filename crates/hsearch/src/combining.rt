@@ -1,13 +1,19 @@
-//! What follows from one entry and those before it.
+//! What follows from one entry and those that a store has.
 
 ghost use Rattle.std.specs.Prelude.{◌≡◌, ℕ, ◌+◌, ◌<◌, ◌≤◌, ◌∷◌, [], ◌↔◌, IsTrue, length};
-ghost use Rattle.std.specs.Prelude.{slice_index};
+ghost use Rattle.std.specs.Prelude.{map, slice_index};
 ghost use Rattle.hex_board.specs.Elements.{element_count};
 ghost use Rattle.hsearch.specs.Closed.{HoldsEdge};
-ghost use Rattle.hsearch.specs.Taken.{AreBare, AreNearBelow, Extends, IsOrSettled, IsCombined};
-ghost use Rattle.hsearch.specs.Taken.{IsAndSettled, IsAndSettledOver, IsAndSettledTo, IsOfPair};
+ghost use Rattle.std.specs.List.{Contains};
+ghost use Rattle.conn_store.specs.Over.{IsOver};
+ghost use Rattle.conn_store.specs.declared.entries.TheConstants.{MOST_SEMI};
+ghost use Rattle.conn_store.specs.Stores.{CanOr};
+ghost use Rattle.hsearch.specs.Listed.{AreListed, IsFullAt};
+ghost use Rattle.hsearch.specs.Taken.{AreBare, AreNearBelow, Extends, IsCombined, IsOrSettled};
+ghost use Rattle.hsearch.specs.Taken.{IsAndSettledOver, IsMarked, IsOfPair};
 
-use conn_store::{Held, Kind, Store};
+use super::listing::list_of;
+use conn_store::{EntryOver, Held, Kind, Store};
 use hex_board::Elements;
 
 /// Adds the entries of the pairs that lie side by side.
@@ -41,20 +47,22 @@ fn add_near_to(store: &mut Store, y: u8)
     }
 }
 
-/// Adds what follows from entry `number` and the entries up to it.
-pub(crate) fn combine(store: &mut Store, number: u32)
-    requires { number < length store.old.entries }
+/// Adds what follows from entry `number` and those that were taken. For each element there is a
+/// list of the full ones among these.
+pub(crate) fn combine(store: &mut Store, number: u32, taken: &[bool], lists: &[Vec<u32>])
+    requires number { number < length store.old.entries }
+    requires lists { AreListed store.old taken.now (map (λ q. q.items) lists.now) }
     ensures extends { Extends store.old store.new }
-    ensures combined { IsCombined store.new number }
+    ensures combined { IsCombined store.new (length store.old.entries) taken.now number }
 {
     let entry = store.entries()[number as usize];
     let (x, y) = (entry.x, entry.y);
     match entry.kind {
         Kind::Full => {
-            join_over(store, number, x);
-            join_over(store, number, y);
+            join_over(store, number, y, x, list_of(lists, x));
+            join_over(store, number, x, y, list_of(lists, y));
         }
-        Kind::Semi => choose(store, number, x, y),
+        Kind::Semi => choose(store, number, x, y, taken),
     }
 }
 
@@ -65,102 +73,108 @@ fn holds_edge(elements: &Elements, u: u8) -> bool
     u == elements.edge(false) || u == elements.edge(true)
 }
 
-// Adds what follows by AND from entry `number` and others over the middle `u`. An element that
-// holds an edge is no middle.
-fn join_over(store: &mut Store, number: u32, u: u8)
+// Adds what follows by AND from entry `number`, a full one of the end and the middle, and those of
+// a list, over the middle. An element that holds an edge is no middle.
+fn join_over(store: &mut Store, number: u32, end: u8, middle: u8, list: &[u32])
     requires number { number < length store.old.entries }
-    requires middle { u < element_count store.old.elements }
+    requires entry { IsFullAt store.old number end middle }
+    requires list { (i : ℕ) → Contains list.now i → i < length store.old.entries }
     ensures extends { Extends store.old store.new }
-    ensures joined { (i : ℕ) → i < length store.old.entries
-        → IsAndSettledOver store.new number i u }
+    ensures joined { (i : ℕ) → Contains list.now i
+        → IsAndSettledOver store.new number i middle }
 {
-    if holds_edge(store.elements(), u) {
+    if holds_edge(store.elements(), middle) {
         return;
     }
-    // Each entry is one of two elements, which differ and are below the count.
-    let _entries = store.entries();
-    let count = store.elements().count();
-    'ends: for y in 0..count {
-        if u != y as u8 {
-            join_to(store, number, u, y as u8);
-        }
+    let first = store.over(number, end, middle);
+    'others: for place in 0..list.len() {
+        join(store, &first, list[place]);
     }
 }
 
-// Adds what follows by AND from entry `number` and those of the elements `u`, the middle, and `y`.
-fn join_to(store: &mut Store, number: u32, u: u8, y: u8)
-    requires number { number < length store.old.entries }
-    requires middle { u < element_count store.old.elements }
-    requires end { y < element_count store.old.elements }
-    requires apart { ¬ (u ≡ y) }
-    ensures extends { Extends store.old store.new }
-    ensures joined { (i : ℕ) → i < length store.old.entries
-        → IsAndSettledTo store.new number i u y }
+// Whether the entry was taken.
+fn is_marked(taken: &[bool], number: u32) -> bool
+    ensures { IsTrue result ↔ IsMarked taken.now number }
 {
-    let held = store.held(u.min(y), u.max(y), Kind::Full);
-    'others: for place in 0..held.count as usize {
-        join(store, number, held.at[place]);
+    match taken.get(number as usize) {
+        Some(mark) => *mark,
+        None => false,
     }
 }
 
-// Adds what follows by AND from two entries.
-fn join(store: &mut Store, i: u32, j: u32)
-    requires first { i < length store.old.entries }
-    requires second { j < length store.old.entries }
+// Adds what follows by AND from an entry over its middle and another.
+fn join(store: &mut Store, first: &EntryOver, other: u32)
+    requires first { IsOver store.old first.now }
+    requires other { other < length store.old.entries }
     ensures extends { Extends store.old store.new }
-    ensures joined { IsAndSettled store.new i j }
+    ensures joined { IsAndSettledOver store.new first.now.number other first.now.middle }
 {
-    if let Some(entry) = store.by_and(i, j) {
+    if let Some(entry) = store.by_and(first, other) {
         let _ = store.add(entry);
     }
 }
 
 // Adds what follows by OR from entry `number`, a semi entry of the elements `x` and `y`, and
-// others of theirs.
-fn choose(store: &mut Store, number: u32, x: u8, y: u8)
+// others of theirs that were taken.
+fn choose(store: &mut Store, number: u32, x: u8, y: u8, taken: &[bool])
     requires number { number < length store.old.entries }
     requires order { x < y }
     requires elements { y < element_count store.old.elements }
     requires pair { IsOfPair store.old number x y }
     ensures extends { Extends store.old store.new }
-    ensures twos { (i : ℕ) → i < length store.old.entries
+    ensures twos { (i : ℕ) → i < length store.old.entries → IsMarked taken.now i
         → IsOrSettled store.new (number ∷ i ∷ []) }
     ensures threes { (i j : ℕ) → i < length store.old.entries → j < length store.old.entries
+        → IsMarked taken.now i → IsMarked taken.now j
         → IsOrSettled store.new (number ∷ i ∷ j ∷ []) }
 {
     let held = store.held(x, y, Kind::Semi);
     'seconds: for place in 0..held.count as usize {
-        choose_two(store, number, held.at[place]);
-        choose_with(store, number, &held, place);
+        if is_marked(taken, held.at[place]) {
+            choose_at(store, number, &held, place, taken);
+        }
     }
 }
 
-// Adds what follows by OR from entry `number`, the one at this place, and one at a place before it.
-fn choose_with(store: &mut Store, number: u32, held: &Held, place: usize)
+// Adds what follows by OR from entry `number` and the one at this place, and from these and one at
+// a place before it that was taken.
+fn choose_at(store: &mut Store, number: u32, held: &Held, place: usize, taken: &[bool])
     requires number { number < length store.old.entries }
     requires place { place < held.now.count }
-    requires count { held.now.count ≤ 6 }
+    requires count { held.now.count ≤ MOST_SEMI }
     requires held { (p : ℕ) → p < held.now.count
         → slice_index held.now.at p < length store.old.entries }
     ensures extends { Extends store.old store.new }
-    ensures chosen { (q : ℕ) → q < place
+    ensures two { IsOrSettled store.new (number ∷ slice_index held.now.at place ∷ []) }
+    ensures threes { (q : ℕ) → q < place → IsMarked taken.now (slice_index held.now.at q)
         → IsOrSettled store.new
         (number ∷ slice_index held.now.at place ∷ slice_index held.now.at q ∷ []) }
 {
+    if choose_two(store, number, held.at[place]) {
+        return;
+    }
     'thirds: for other in 0..place {
-        choose_three(store, number, held.at[place], held.at[other]);
+        if is_marked(taken, held.at[other]) {
+            choose_three(store, number, held.at[place], held.at[other]);
+        }
     }
 }
 
-// Adds what follows by OR from two entries.
-fn choose_two(store: &mut Store, i: u32, j: u32)
+// Adds what follows by OR from two entries; whether the rule applies to them. Then a third way adds
+// nothing: the carrier is larger.
+fn choose_two(store: &mut Store, i: u32, j: u32) -> bool
     requires first { i < length store.old.entries }
     requires second { j < length store.old.entries }
     ensures extends { Extends store.old store.new }
     ensures chosen { IsOrSettled store.new (i ∷ j ∷ []) }
+    ensures applies { IsTrue result → CanOr store.old (i ∷ j ∷ []) }
 {
-    if let Some(entry) = store.by_or_two(i, j) {
-        let _ = store.add(entry);
+    match store.by_or_two(i, j) {
+        Some(entry) => {
+            let _ = store.add(entry);
+            true
+        }
+        None => false,
     }
 }
 

@@ -16,9 +16,9 @@
 //! empty carrier, and what the rules of AND, over a middle that holds no edge, and of OR give of
 //! its entries is settled (specs/Closed.antt). The definition knows neither rounds nor an order.
 //!
-//! **What is only tested, or not said.** That [`connect`] gets its memory; that it goes by a
-//! worklist, and its speed; which entries a report has beyond what closed says. H-search does not
-//! find every connection.
+//! **What is only tested, or not said.** That [`connect`] gets its memory; that it takes small
+//! carriers first, and its speed; which entries a report has beyond what closed says. H-search does
+//! not find every connection.
 //!
 //! **Limits.** Those of `conn_store`. Only [`connect`] takes memory.
 //!
@@ -28,16 +28,22 @@
 //!
 //! - [`connect`] asks nothing of its caller. If the colour is joined both edges are element 0, and
 //!   no pair of them has an entry.
-//! - The store's entries are the worklist: a search keeps one number, how many entries it has
-//!   taken; entries come in order, and each is combined with those before it. It ends since a store
-//!   has at most `MOST_ENTRIES`.
+//! - Entries wait by the sizes of their carriers, and a smallest one is taken first. What follows
+//!   from small carriers is small too: it meets less, makes shorter certificates, and most of what
+//!   comes later is refused, since its carrier has a smaller one inside.
+//! - An entry that is taken is combined with those that were taken before it alone, so each two are
+//!   met once; then it is marked, and listed for both of its elements if it is full. The search
+//!   ends since a store has at most `MOST_ENTRIES`, of which each turn takes one.
+//! - That its own pairs add nothing is a law and no test: a semi entry has a cell in its carrier.
 //! - An entry over three ways is made of ways at falling places of the index, so no set of ways is
-//!   tried twice.
+//!   tried twice, and of none of which the first two will do.
 #![tactic(auto)]
 
 mod combining;
+mod listing;
 mod refusals;
 mod reports;
+mod waiting;
 
 pub use refusals::Memory;
 pub use reports::{Report, connect};

@@ -1,14 +1,17 @@
 //! Reports: stores that are closed under the four rules, and the search that makes them.
 
-ghost use Rattle.std.specs.Prelude.{◌≡◌, IfOk};
+ghost use Rattle.std.specs.Prelude.{◌≡◌, ◌≤◌, IfOk, OnOk, length};
 ghost use Rattle.hsearch.specs.Closed.{IsReport};
+ghost use Rattle.hsearch.specs.Taken.{IsGrown};
 
 use super::combining::{add_near, combine};
+use super::listing::{empty_lists, enlist};
 use super::refusals::Memory;
+use super::waiting::Waiting;
 use conn_store::Store;
 use hex_board::Board;
 use hex_cells::Colour;
-use std::alloc::Global;
+use std::alloc::{AllocError, Global};
 use std::marker::Model;
 
 /// A player's entries on a board, closed under the four rules.
@@ -29,8 +32,8 @@ impl Model for Report {
 }
 
 /// The report of a player on a board, by H-search: it begins with the pairs that lie side by side,
-/// takes each entry once, in the order in which they came, and adds what follows from it and those
-/// before it. The entries of the store are themselves the list of what is still to be taken.
+/// takes each entry once, those with the smallest carriers first, and adds what follows from it
+/// and those that were taken before.
 ///
 /// It refuses for want of memory alone.
 pub fn connect(alloc: Global, board: &Board, colour: Colour) -> Result<Report, Memory>
@@ -40,12 +43,33 @@ pub fn connect(alloc: Global, board: &Board, colour: Colour) -> Result<Report, M
 {
     let mut store = Store::make(alloc, board, colour)?;
     add_near(&mut store);
-    let mut taken = 0;
-    'entries: while taken < store.entries().len() {
-        combine(&mut store, taken as u32);
-        taken += 1;
+    let mut waiting = Waiting::make(alloc)?;
+    waiting.put_from(store.entries(), 0)?;
+    let mut taken = Vec::new(alloc);
+    let mut lists = empty_lists(alloc, store.elements().count())?;
+    'entries: while let Some(number) = waiting.take() {
+        let count = store.entries().len();
+        combine(&mut store, number, &taken, &lists);
+        let entries = store.entries();
+        waiting.put_from(entries, count)?;
+        grow(&mut taken, entries.len())?;
+        taken[number as usize] = true;
+        let entry = entries[number as usize];
+        enlist(&mut lists, number, &entry)?;
     }
     Ok(Report { store })
+}
+
+// Makes the marks so many; those that come are false.
+fn grow(marks: &mut Vec<bool>, count: usize) -> Result<(), AllocError>
+    requires { length marks.old.items ≤ count }
+    ensures length { OnOk result (length marks.new.items ≡ count) }
+    ensures same { OnOk result (IsGrown marks.old.items marks.new.items) }
+{
+    'marks: for _place in marks.len()..count {
+        marks.push(false)?;
+    }
+    Ok(())
 }
 
 impl Report {

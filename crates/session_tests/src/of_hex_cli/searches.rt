@@ -18,7 +18,7 @@ ten-on-one-cell|htp --hsearch off --playouts 10|boardsize 1~genmove b~search-rep
 one-cell|htp|boardsize 1~mustplay~genmove b~mustplay~search-report~clear_board~mustplay~\
     wincert~|0|\
     = ~~? no search~~= a1~~= win a1~~? no search~~= ~~= win a1~~\
-    = hexcert 1~size 1~player black~black~white~adj edge1 a1~adj edge2 a1~key 0 1~semi 2~~
+    = hexcert 1~size 1~player black~black~white~adj edge1 a1~adj edge2 a1~key 1 0~semi 2~~
 lost-by-two-threats|htp --playouts 1|boardsize 2~play b a2~genmove w~mustplay~wincert~|0|\
     = ~~= ~~= a1~~= lost yes~allowed a1 b1 b2~threat a1~threat b1~~? no certificate~~
 no-connections|htp --hsearch off --playouts 1|boardsize 2~play b a2~genmove w~mustplay~|0|\

@@ -1,5 +1,6 @@
+use Rattle.std.proofs.lemmas.Option.{slice_get_within}
 use Rattle.hsearch.proofs.Growth.{IsPut, grown_put}
-use Rattle.hsearch.proofs.Steps.{joined_put}
+use Rattle.hsearch.proofs.Steps.{over_put}
 use Rattle.hsearch.proofs.combining.join.Goals as goal
 
 pub returns-in-Some-clause-extends : goal.returns-in-Some-clause-extends
@@ -9,4 +10,6 @@ pub returns-in-Some-clause-joined : goal.returns-in-Some-clause-joined
 returns-in-Some-clause-joined c =
     let p : IsPut c.args.store.now c.add.new.self c.in-Some.entry c.add.result =
     record { dominated = c.add.ensures.dominated.0; full = λ e. (c.add.ensures.full.0 e).1; after = c.add.ensures.after } in
-    joined_put c.args.store.now c.add.new.self c.args.i c.args.j c.in-Some.entry c.add.result c.requires.first c.requires.second c.in-Some.ensures.gives p
+    let o = c.requires.first in
+    over_put c.args.store.now c.add.new.self c.args.first.now.number c.args.other c.args.first.now.middle c.in-Some.entry c.add.result
+    (slice_get_within c.args.store.now.entries c.args.first.now.number o.entry.0 o.entry.1) c.requires.other c.in-Some.ensures.gives p

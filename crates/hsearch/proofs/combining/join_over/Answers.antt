@@ -1,20 +1,23 @@
-use Rattle.std.proofs.Common.{◌≡◌, ◌+◌, arith, ap, sym, ◌∙◌, subst}
-use Rattle.hex_board.specs.Elements.{element_count}
-use Rattle.conn_store.specs.Stores.{StoreData}
-use Rattle.hsearch.proofs.Steps.{IsTried, joined_over, tried_itself, tried_more}
+use Rattle.std.proofs.Common.{◌<◌, arith, get_or, length, subst, sym}
+use Rattle.hsearch.specs.Taken.{IsAndSettledOver}
+use Rattle.hsearch.proofs.Steps.{at_place, joined_all, joined_more, number_grown, over_kept}
 use Rattle.hsearch.proofs.combining.join_over.Goals as goal
-use Rattle.hsearch.proofs.combining.join_over.Goals.{then-u-y, else-u-y}
 
-pub ends-preserved : goal.ends-preserved
-ends-preserved c = elim c.if-u-y.branch [
-  | then-u-y w ↦ subst (λ (v : StoreData). IsTried c.args.store.now v c.args.number c.args.u (c.ends.y + 1)) (sym w.store-is)
-      (tried_more c.args.store.now c.ends.store w.join_to.new.store c.args.number c.args.u c.ends.y c.ends.invariant c.requires.number w.join_to.ensures.extends w.join_to.ensures.joined)
-  | else-u-y w ↦ subst (λ (v : StoreData). IsTried c.args.store.now v c.args.number c.args.u (c.ends.y + 1)) (sym w.store-is)
-      (tried_itself c.args.store.now c.ends.store c.args.number c.args.u c.ends.y c.ends.invariant c.entries-entries.ensures.sound (sym w.if-u-y.false))
-]
+pub join-requires-clause-first : goal.join-requires-clause-first
+join-requires-clause-first c = over_kept c.args.store.now c.others.store c.over-first.result c.others.invariant.grown c.over-first.ensures.over
+
+pub join-requires-clause-other : goal.join-requires-clause-other
+join-requires-clause-other c =
+    number_grown c.args.store.now c.others.store (get_or c.args.list.now c.others.place 0) c.others.invariant.grown
+    (c.requires.list (get_or c.args.list.now c.others.place 0) (at_place c.args.list.now c.others.place (omega arith)))
+
+pub others-preserved : goal.others-preserved
+others-preserved c =
+    joined_more c.args.store.now c.others.store c.join.new.store c.over-first.result.number c.over-first.result.middle c.args.list.now c.others.place c.others.invariant
+    c.join.ensures.extends (subst (λ n. n < length c.args.store.now.entries) (sym c.over-first.ensures.names.0) c.requires.number) (omega arith) c.requires.list c.join.ensures.joined
 
 pub returns-clause-joined : goal.returns-clause-joined
 returns-clause-joined c =
-    let e : element_count c.args.store.now.elements ≡ c.count-count.result = ap element_count (sym c.elements-2.ensures) ∙ sym c.count-count.ensures.value in
-    joined_over c.args.store.now c.ends.store c.args.number c.args.u c.entries-entries.ensures.sound c.ends.invariant.grown
-    (λ y l. c.ends.invariant.done y (omega arith))
+    λ i m. subst (λ n. IsAndSettledOver c.others.store n i c.args.middle) c.over-first.ensures.names.0
+    (subst (λ u. IsAndSettledOver c.others.store c.over-first.result.number i u) c.over-first.ensures.names.1
+    (joined_all c.others.store c.over-first.result.number c.over-first.result.middle c.args.list.now (λ q l. c.others.invariant.done q (omega arith)) i m))

@@ -1,5 +1,5 @@
-use Rattle.hsearch.proofs.Steps.{IsTried}
+use Rattle.hsearch.proofs.Steps.{IsJoined}
 use Rattle.hsearch.proofs.combining.join_over.Given as goal
 
-abbrev pub invariant-ends : goal.invariant-ends
-invariant-ends l = IsTried l.fn.store l.store l.number l.u l.y
+abbrev pub invariant-others : goal.invariant-others
+invariant-others l = IsJoined l.fn.store l.store l.first.number l.first.middle l.list l.place
