@@ -25,6 +25,8 @@ import sys
 import tempfile
 from pathlib import Path
 
+import second_checker
+
 TOP = Path(__file__).resolve().parent.parent
 PROGRAM = TOP / "tools" / "refused_memory" / "program.txt"
 NAME = "refused_memory"
@@ -69,6 +71,20 @@ class FirstCertificate(Row):
         return given == self.given
 
 
+class Solved(Row):
+    """A run of `solve` that White wins: the certificate is left open, but the second checker accepts it."""
+
+    def __init__(self, words, record):
+        super().__init__(words, record, None)
+
+    def fronts(self):
+        return {""}
+
+    def is_given(self, given):
+        winner, _, certificate = given.partition("\n")
+        return winner == "won white" and second_checker.answer(certificate.encode()) == "yes semi"
+
+
 class Match(Row):
     """A run of hexmatch, which reads nothing."""
 
@@ -100,6 +116,9 @@ ROWS = {
     ),
     "first-certificate": FirstCertificate(),
     "check-v1": Row("check", V1, "yes semi\n"),
+    "solve-two": Solved("solve", "(;GM[11]SZ[2];B[a1])"),
+    "solve-plainly": Solved("solve --hsearch off", "(;GM[11]SZ[2];B[a1])"),
+    "solve-nothing": Row("solve --hsearch off --budget 1", "(;GM[11]SZ[2])", "unknown 1\n"),
     "sim-one": Row(
         "sim --size 1 --workers 3 --playouts 10 --steps 100", "", "best a1\nplayouts 10\na1 10 10\n"
     ),

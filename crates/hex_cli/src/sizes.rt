@@ -6,7 +6,7 @@ use hex_cells::Size;
 
 /// The board size of this side.
 pub fn board_size(side: u32) -> Size
-    requires { (1 ≤ side) × (side ≤ 11) }
+    requires { (1 ≤ side) × (side ≤ Size.MAX) }
     ensures { result ≡ side }
 {
     Size::of(side).unwrap()

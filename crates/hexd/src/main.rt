@@ -24,7 +24,6 @@ use hex_plan::{Archive, NoArchive};
 use search_team::OpenGate;
 use std::process::ExitCode;
 use std::thread::Threads;
-use std::{env, io};
 use trace_audit::TraceArchive;
 
 fn main(rt: HostRuntime) -> ExitCode {
@@ -93,15 +92,9 @@ fn archive_of<'a>(
 
 /// The words after the program's name, or how a run ends that can't have them.
 fn words_of(rt: &HostRuntime) -> Result<Vec<Word>, End> {
-    let arguments = match env::args(rt) {
-        Err(error) if error.kind() == io::ErrorKind::OutOfMemory => return Err(End::Stopped(
-            Stop::Memory,
-        )),
-        Err(_) => return Err(End::Usage),
-        Ok(arguments) => arguments,
-    };
-    match arguments.skip(1).map(Word::of).collect(rt.alloc()) {
+    match Word::all(rt) {
+        Ok(Some(words)) => Ok(words),
+        Ok(None) => Err(End::Usage),
         Err(_) => Err(End::Stopped(Stop::Memory)),
-        Ok(words) => Ok(words),
     }
 }

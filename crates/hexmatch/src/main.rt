@@ -19,7 +19,6 @@ use match_ref::run_match;
 use search_team::OpenGate;
 use std::process::ExitCode;
 use std::thread::Threads;
-use std::{env, io};
 
 fn main(rt: HostRuntime) -> ExitCode {
     let mut errors = ErrLink::new(&rt);
@@ -47,15 +46,9 @@ fn run_with<R: Threads + Sync>(
 
 /// The words after the program's name, or how a run ends that can't have them.
 fn words_of(rt: &HostRuntime) -> Result<Vec<Word>, End> {
-    let arguments = match env::args(rt) {
-        Err(error) if error.kind() == io::ErrorKind::OutOfMemory => return Err(End::Stopped(
-            Stop::Memory,
-        )),
-        Err(_) => return Err(End::Usage),
-        Ok(arguments) => arguments,
-    };
-    match arguments.skip(1).map(Word::of).collect(rt.alloc()) {
+    match Word::all(rt) {
+        Ok(Some(words)) => Ok(words),
+        Ok(None) => Err(End::Usage),
         Err(_) => Err(End::Stopped(Stop::Memory)),
-        Ok(words) => Ok(words),
     }
 }

@@ -12,6 +12,13 @@ adj a2 b1~adj b1 edge1~key 0 1~key 2 3~or 4 5~adj a2 edge2~key 6 7~semi 8~";
 static INPUTS: &str = "\
 check-nothing|check||1|not a certificate at line 1~
 migrate-nothing|migrate||1|not a certificate at line 1~
+line-ends|check|hexcert 1\r~|1|not a certificate at line 1~
+line-ends|migrate|hexcert 1~size 2\r~|1|not a certificate at line 2~
+line-ends|solve|\r~(;GM[11]\r~SZ[1];B[a1])\r~|0|over black~
+byte-order-mark|check|\u{feff}hexcert 1~|1|not a certificate at line 1~
+byte-order-mark|migrate|\u{feff}hexcert 1~|1|not a certificate at line 1~
+byte-order-mark|solve|\u{feff}(;GM[11]SZ[1];B[a1])|1|not a game~
+byte-order-mark|audit|\u{feff}|1|no 0 1~
 audit-yes|audit||0|yes 0~
 audit-no-trace|audit|HEXTREE2|1|no 0 1~";
 

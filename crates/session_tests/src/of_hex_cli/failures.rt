@@ -1,7 +1,8 @@
-//! Devices that fail: each read, each write, and archives without room.
+//! Devices that fail: each read, each write, and archives without room. After a fault nothing is
+//! read and nothing written.
 
 use super::certificates::V1;
-use super::runs::{Case, ample, check, run_of};
+use super::runs::{Case, ample, check, checked, run_of};
 use super::tables::bytes_of;
 use std::alloc::Global;
 use std::process::Abort;
@@ -15,6 +16,8 @@ htp|boardsize 3~play b a2~undo~name~
 htp --playouts 2 --words 1024|loadsgf g.sgf~printsgf~boardsize 2~play b a2~genmove w~mustplay~\
     clear_board~genmove b~wincert~
 migrate|hexcert 1~
+audit|HEXTREE1~
+solve --hsearch off --budget 1|(;GM[11]SZ[2])
 sim --size 2 --playouts 3 --words 1024|
 bench --size 2 --playouts 3 --words 1024|";
 
@@ -34,8 +37,46 @@ fn front_of(text: &[u8], answers: usize) -> &[u8] {
     &text[..end.min(text.len())]
 }
 
+/// How many answers the text has.
+fn answers_in(text: &[u8]) -> usize {
+    let mut answers: usize = 0;
+    for pair in text.windows(2) {
+        if pair == b"\n\n".as_slice() {
+            answers = answers.saturating_add(1);
+        }
+    }
+    answers
+}
+
+/// How many bytes the first lines of the input have, with the line behind these.
+fn length_with(input: &[u8], lines: usize) -> usize {
+    let mut left = lines;
+    for (at, byte) in input.iter().enumerate() {
+        if *byte == b'\n' && left == 0 {
+            return at.saturating_add(1);
+        }
+        if *byte == b'\n' {
+            left = left.saturating_sub(1);
+        }
+    }
+    input.len()
+}
+
+/// How many reads, of one byte each, a run has made that gave these bytes and is about to give
+/// more: in a session up to the end of the next line, and in another mode all, with that at the
+/// end.
+fn reads_before(words: &str, input: &[u8], given: &[u8]) -> usize {
+    if words.starts_with("htp") {
+        length_with(input, answers_in(given))
+    } else if input.is_empty() {
+        0
+    } else {
+        input.len().saturating_add(1)
+    }
+}
+
 /// Each read fails in turn, in pieces of one byte. In a session the whole lines that were taken
-/// were answered, and in another mode nothing was given.
+/// were answered, and in another mode nothing was given. The read that fails is the last one.
 fn check_reads<R: Abort + Threads + Sync + Alloc<A = Global>>(
     rt: &R,
     words: &str,
@@ -54,12 +95,16 @@ fn check_reads<R: Abort + Threads + Sync + Alloc<A = Global>>(
             bad_read: Some(u32::try_from(length).unwrap_or(0)),
             ..ample(words, input)
         };
-        check(rt, "read-faults-each", &case, front_of(given, lines), 3)?;
+        let answers = front_of(given, lines);
+        let left = checked(rt, "read-faults-each", &case, answers, 3)?;
+        assert_eq!(rt; left.link.read_count(), length.saturating_add(1), "{words}");
+        assert_eq!(rt; left.link.write_count(), answers.len(), "{words}");
     }
     Ok(())
 }
 
-/// Each write fails in turn, in pieces of one byte: the bytes before it were given.
+/// Each write fails in turn, in pieces of one byte: the bytes before it were given. The write that
+/// fails is the last one, and nothing is read after it.
 fn check_writes<R: Abort + Threads + Sync + Alloc<A = Global>>(
     rt: &R,
     words: &str,
@@ -72,7 +117,14 @@ fn check_writes<R: Abort + Threads + Sync + Alloc<A = Global>>(
             bad_write: Some(u32::try_from(length).unwrap_or(0)),
             ..ample(words, input)
         };
-        check(rt, "write-faults-each", &case, &given[..length], 4)?;
+        let left = checked(rt, "write-faults-each", &case, &given[..length], 4)?;
+        let reads = reads_before(words, input, &given[..length]);
+        assert_eq!(rt;
+            left.link.write_count(),
+            length.saturating_add(1),
+            "{words}"
+        );
+        assert_eq!(rt; left.link.read_count(), reads, "{words}");
     }
     Ok(())
 }
@@ -113,7 +165,8 @@ fn faults_each(rt: HostRuntime) -> Result<(), Fail> {
     check_writes(&rt, "check", &input, b"yes semi\n")
 }
 
-/// Rooms of an archive, words, inputs, statuses and outputs.
+/// Rooms of an archive, words, inputs, statuses and outputs. Where there is no room for a turn, no
+/// read follows and no write.
 static ROOMS: &str = "\
 0|htp --hsearch off --playouts 1|name~genmove b~name~|7|= hexd~~
 0|htp --hsearch off --playouts 1 --seed 0|boardsize 2~genmove b~genmove w~|7|= ~~
@@ -135,9 +188,16 @@ fn archive_rooms(rt: HostRuntime) -> Result<(), Fail> {
         let given = bytes_of(alloc, fields.next().ok_or("an output")?)?;
         let case = Case {
             room,
+            piece: 1,
             ..ample(words, &input)
         };
-        check(&rt, "archive-rooms", &case, &given, status)?;
+        let left = checked(&rt, "archive-rooms", &case, &given, status)?;
+        let reads = match status {
+            7 => reads_before(words, &input, &given),
+            _ => input.len().saturating_add(1),
+        };
+        assert_eq!(rt; left.link.read_count(), reads, "{words}");
+        assert_eq!(rt; left.link.write_count(), given.len(), "{words}");
     }
     Ok(())
 }

@@ -156,7 +156,23 @@ pub(super) fn line_of(status: u8) -> &'static [u8] {
     }
 }
 
-/// The run of the case ends with this status and its line, and has given these bytes.
+/// The run of the case ends with this status and its line, and has given these bytes. It is what is
+/// left.
+pub(super) fn checked<R: Abort + Threads + Sync + Alloc<A = Global>>(
+    rt: &R,
+    name: &str,
+    case: &Case,
+    given: &[u8],
+    status: u8,
+) -> Result<RunResult, Fail> {
+    let left = run_of(rt, case)?;
+    assert_eq!(rt; left.status, status, "{name}");
+    assert_eq!(rt; left.link.given(), given, "{name}");
+    assert_eq!(rt; left.errors.given(), line_of(status), "{name}");
+    Ok(left)
+}
+
+/// The same, where no more is asked of it.
 pub(super) fn check<R: Abort + Threads + Sync + Alloc<A = Global>>(
     rt: &R,
     name: &str,
@@ -164,9 +180,6 @@ pub(super) fn check<R: Abort + Threads + Sync + Alloc<A = Global>>(
     given: &[u8],
     status: u8,
 ) -> Result<(), Fail> {
-    let left = run_of(rt, case)?;
-    assert_eq!(rt; left.status, status, "{name}");
-    assert_eq!(rt; left.link.given(), given, "{name}");
-    assert_eq!(rt; left.errors.given(), line_of(status), "{name}");
+    let _left = checked(rt, name, case, given, status)?;
     Ok(())
 }

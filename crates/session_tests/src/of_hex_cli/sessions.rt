@@ -15,6 +15,9 @@ known-commands|htp|known_command undo~known_command Undo~version|0|= true~~= fal
 play-refusals|htp|play b a1~play w A1~play w l1~play b~name~quit~play b b1~|0|\
     = ~~? illegal move~~? illegal move~~? syntax error~~= hexd~~= ~~
 carriage-return|htp|play b a1\r~1 quit~|0|= ~~=1 ~~
+line-ends|htp|name\r~\r~ \r~1 version\r~name|0|= hexd~~=1 1.0~~= hexd~~
+line-ends|htp|name~\r|0|= hexd~~
+byte-order-mark|htp|\u{feff}name~name~|0|? unknown command~~= hexd~~
 play-and-show|htp|boardsize 3~\tplay  B A1 # c\r~showboard~|0|\
     = ~~= ~~= ~   a b c~ 1 B . .~  2 . . .~   3 . . .~~
 sizes|htp|boardsize 12~boardsize 0~boardsize 5 4~boardsize 5 5~|0|\
