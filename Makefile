@@ -3,12 +3,13 @@
 #   make                                  takes the programs from release/, or builds them where it is of other sources
 #   make check                            tests these programs and what stands beside them, in some two minutes
 #   make prove                            builds them from the sources, whatever is shipped, and compares
-#   make release                          packs what .ci/run has just built into release/
+#   make page [OUT=..]                    makes hexd.html, hexd in one page for a browser, by what was built from the sources
+#   make release                          packs what .ci/run has just built into release/, and makes the page there
 #   make install [PREFIX=..] [DESTDIR=..] installs the programs, their manual pages, completions and documents
 #   make uninstall [..]                   takes away what `make install` with the same words has put there
 #   make deb                              makes a Debian package in out/; its maintainer is DEBFULLNAME <DEBEMAIL>
 
-# The programs, each with its crate; and what stands beside them in Python. Each of all has a page in man/ and three completions.
+# The programs, each with its crate; and what stands beside them in Python. Each has a page in man/ and three completions.
 programs = hexd hexmatch
 wrappers = hexd-board hexd-report hexd-gtp
 
@@ -30,8 +31,8 @@ texts = $(filter-out %/test.py $(scripts),$(wildcard $(folders:%=%/*.md) $(folde
     board/page/* board/report.html openings/Makefile openings/*.tsv tools/programs.py tools/python.bash))
 others = $(wildcard examples/certificates/* openings/*.xz openings/pictures/*)
 # Documents name one another by their places here, so they keep these.
-pages = $(wildcard *.md docs/*/*.md crates/README.md tools/README.md tools/*/README.md release/NOTICES)
-pictures = $(wildcard docs/*/pictures/*)
+pages = $(wildcard *.md docs/*/*.md crates/README.md web/README.md tools/README.md tools/*/README.md release/NOTICES)
+pictures = $(wildcard docs/*/pictures/* release/hexd.html)
 
 # Each installed file as KIND:PLACE-HERE:PLACE-THERE, and each link as link:WHERE-IT-LEADS:PLACE-THERE.
 files = $(foreach name,$(programs),program:$(name):$(bindir)/$(name) \
@@ -49,7 +50,7 @@ files = $(foreach name,$(programs),program:$(name):$(bindir)/$(name) \
     $(foreach name,$(folders),link:$(share)/$(name):$(docdir)/$(name)) \
     link:$(docdir)/docs:$(share)/docs
 
-# What is installed is started without a path. A link and a wrapper lead from their folder, so that all may be moved together.
+# What is installed is started without a path. Links and wrappers lead from their folder, so that all may be moved together.
 unpathed = sed -E 's,(^|[^[:alnum:]_/.$$])bin/(hexd|hexmatch),\1\2,g'
 from = $$(realpath -sm --relative-to="$(dir $1)" "$2")
 install_program = install -D -m 755 "$$(bin/start --where $1)" "$(DESTDIR)$2"
@@ -78,12 +79,19 @@ build-%:
 check: build
 	tools/check
 
-prove:
+built:
 	HEXD_BUILD=1 $(MAKE) build
+
+prove: built
 	tools/release --compare $(programs)
+	[ ! -f release/hexd.html ] || web/page.py --compare release/hexd.html
+
+page: built
+	web/page.py "$(or $(OUT),web/out/hexd.html)"
 
 release:
 	tools/release $(programs)
+	web/page.py release/hexd.html
 
 install: build
 	$(foreach file,$(files),$(call install_one,$(file)))
@@ -99,4 +107,4 @@ uninstall:
 deb: build
 	tools/make_deb "$(or $(OUT),out)" PREFIX=/usr bindir=/usr/games zshdir=/usr/share/zsh/vendor-completions
 
-.PHONY: build check prove release install uninstall deb
+.PHONY: build built check prove page release install uninstall deb

@@ -6,7 +6,8 @@ from pathlib import Path
 
 ROOT = Path(__file__).resolve().parent.parent
 SCRIPT = "tools/" + Path(sys.argv[0]).name
-SECONDS = 120
+# Far longer than any command here takes: only what waits for good reaches it.
+SECONDS = 600
 FAULTS = []
 
 
