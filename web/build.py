@@ -40,7 +40,7 @@ class Refused(Exception):
 
 
 def run(*words, **how):
-    """Runs a command, and gives what it wrote; what it says is shown where it fails."""
+    """Runs a command, and gives what it wrote; what it says is shown if it fails."""
     ran = subprocess.run(words, stdin=subprocess.DEVNULL, stdout=subprocess.PIPE, stderr=subprocess.STDOUT, text=True, **how)
     if ran.returncode:
         raise Refused(f"{ran.stdout[-2000:]}{Path(words[0]).name} ended with status {ran.returncode}")
@@ -97,7 +97,7 @@ def catch(kit, room):
 
 
 def compare(kit, room):
-    """Refused where what was caught is not the built program."""
+    """Refused if what was caught is not the built program."""
     words = ["--target", NATIVE, "--toolchain", kit / "toolchain", "-o", room / NAME, room / "native.o"]
     run(kit / "bin" / "rattle-link", *words, kit / "c" / "libos_c.a", kit / "c" / "liblibc_c.a")
     if (room / NAME).read_bytes() != (CRATES / NAME / "out" / NAME).read_bytes():

@@ -9,7 +9,7 @@ import time
 from pathlib import Path
 
 FIREFOX = shutil.which("firefox-esr") or shutil.which("firefox")
-LIMIT_SECONDS = 90
+LIMIT_SECONDS = 300
 PREFERENCES = {"marionette.port": 0, "datareporting.policy.dataSubmissionEnabled": False}
 
 

@@ -37,7 +37,7 @@ static _Bool grow(size_t pages) {
 // n or more, to the next multiple of the alignment.
 static size_t aligned(size_t n) { return (n + HEAD - 1) / HEAD * HEAD; }
 
-// A block of this kind behind all others, or none where the memory can't grow.
+// A block of this kind behind all others, or none if the memory can't grow.
 static struct block *new_block(size_t kind) {
     size_t bytes = HEAD + aligned(size_of(kind));
     if (!top) {

@@ -50,7 +50,7 @@ class Session {
   /** What stands before the `#` of a link: nothing if the page lies on a disk, which nobody else has. */
   static get address() { return location.protocol === 'file:' ? '' : location.href.replace(/#.*/, ''); }
 
-  /** The text that answers a line; Refused with hexd's words where it is a failure. */
+  /** The text that answers a line; Refused with hexd's words if it is a failure. */
   async ask(line) { return answered(await this.run.ask(line)); }
 
   /** The same, with null for a failure. */

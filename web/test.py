@@ -35,8 +35,8 @@ from firefox import FIREFOX, Firefox
 
 SYSTEM_PYTHON = "/usr/bin/python3"
 PROGRAM = Path(os.environ.get("HEXD") or ROOT / "crates" / "hexd" / "out" / "hexd")
-# How many runs are made in one call of the browser.
-AT_ONCE = 10
+# How many runs are made in one call of the browser, and longer than that takes on a machine that is busy.
+AT_ONCE, CALL_SECONDS = 5, 300
 # Sessions, openings and the largest board that is solved; and how many games a long session has.
 QUICK, LONG = (20, 4, 4), (120, 40, 5)
 QUICK_GAMES, LONG_GAMES = 1, 12
@@ -365,6 +365,7 @@ def run(options, folder):
     InBrowser.folder = folder
     InBrowser.file, InBrowser.small = pages(options, folder)
     InBrowser.browser = Browser()
+    InBrowser.browser.driver.set_script_timeout(CALL_SECONDS)
     if options.long:
         InBrowser.sizes, InBrowser.games = LONG, LONG_GAMES
     loader = unittest.TestLoader()
