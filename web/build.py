@@ -10,6 +10,7 @@ clang, and linked with memory.c and system.c. The same sources and kit give the 
 """
 
 import re
+import shutil
 import subprocess
 import sys
 import tempfile
@@ -142,12 +143,14 @@ def link(kit, room, objects, made):
 
 def kit_of():
     """The folder of the toolchain."""
+    if not shutil.which("rt"):
+        raise Refused("there is no rt, the toolchain's command, on the path")
     return Path(run("rt", "doc").strip()).parent
 
 
 def kit_said():
-    """What the toolchain says that it is."""
-    return run("rt", "version").split("\n")[0]
+    """What the toolchain says that it is; nothing if there is none."""
+    return run("rt", "version").split("\n")[0] if shutil.which("rt") else ""
 
 
 def build(made):

@@ -134,14 +134,24 @@ def module_of(file):
         return made.read_bytes()
 
 
+def said_in(shipped):
+    """What a page says of how it was made."""
+    return dict(re.findall(r'data-(playouts|sources|kit)="([^"]*)"', shipped))
+
+
+def is_of_others(shipped):
+    """Whether a page is of other sources or another kit than are here, which is said."""
+    said = said_in(shipped)
+    for name, here in (("sources", sources()), ("kit", build.kit_said())):
+        if here and said.get(name) != here:
+            print(f"web: the page is of other {name} ({said.get(name)})", file=sys.stderr)
+            return True
+    return False
+
+
 def is_same(shipped, module):
     """Whether a shipped page is what its sources make; if they aren't those of the tree there is nothing to compare."""
-    said = dict(re.findall(r'data-(playouts|sources|kit)="([^"]*)"', shipped))
-    for name, here in (("sources", sources()), ("kit", build.kit_said())):
-        if said.get(name) != here:
-            print(f"web/page.py: the page is of other {name} ({said.get(name)}), so it isn't compared", file=sys.stderr)
-            return True
-    return content(shipped) == content(page(module_of(module), int(said["playouts"])))
+    return is_of_others(shipped) or content(shipped) == content(page(module_of(module), int(said_in(shipped)["playouts"])))
 
 
 def main():

@@ -3,9 +3,9 @@
 
     test.py [--page FILE] [--long] [NAME..]
 
-It tests FILE, and if none is named one that it makes (page.py). It says one line if all is right. With --long it makes many
-more runs, in Firefox too if that is there, and all tests of the board's page; with names it runs the tests whose names have
-one of these in them. It needs what board/test.py needs, and says so if that is missing.
+It tests FILE; if none is named, or FILE is of other sources, one that it makes (page.py). It says one line if all is right.
+With --long it makes many more runs, in Firefox too if that is there, and all tests of the board's page; with names it runs
+the tests whose names have one of these in them. It needs what board/test.py needs, and says so if that is missing.
 """
 
 import argparse
@@ -173,8 +173,8 @@ class Heap(InBrowser):
         """memory.c alone: alignment, blocks apart from one another, growth, what is given back, and the end of memory."""
         try:
             kit = build.kit_of()
-        except OSError:
-            self.skipTest("there is no rt")
+        except build.Refused as fault:
+            self.skipTest(str(fault))
         module = self.folder / "heap.wasm"
         build.link(kit, self.folder, [build.compile_c(kit, self.folder, "heap")], module)
         self.open()
@@ -345,7 +345,9 @@ def pages(options, folder):
     """The page that is tested, and the same with small searches and with what the tests run in it."""
     made = folder / "page" / "hexd.html"
     made.parent.mkdir()
-    text = options.page.read_text() if options.page else page.page(page.module_of(None), page.PLAYOUTS)
+    text = options.page.read_text() if options.page else ""
+    if not text or page.is_of_others(text):
+        text = page.page(page.module_of(None), page.PLAYOUTS)
     made.write_text(text)
     driver = "".join((HERE / name).read_text() for name in ("driver.js", "heap.js"))
     for old, new in (
@@ -395,7 +397,11 @@ def main():
     folder = tempfile.mkdtemp(prefix="hexd-web-tests-")
     atexit.register(shutil.rmtree, folder, ignore_errors=True)
     os.environ["TMPDIR"] = tempfile.tempdir = folder
-    return run(options, Path(folder))
+    try:
+        return run(options, Path(folder))
+    except build.Refused as fault:
+        print(f"web/test.py: {fault}", file=sys.stderr)
+        return 1
 
 
 if __name__ == "__main__":
