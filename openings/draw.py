@@ -1,5 +1,6 @@
 #!/usr/bin/env python3
-"""Writes what the certificates here say at a glance: a list, a board of each size, and README.md's table.
+"""Writes what the certificates here say at a glance: a list, a board of each size, README.md's table; and the page
+docs/use/SOLVED.md, with what `hexd solve` took for openings, if there is measured.tsv, which it puts in order.
 
     openings/draw.py            writes them anew
     openings/draw.py --check    says nothing where they are as they would be written, and else ends with 1
@@ -15,14 +16,15 @@ own, so that they can be seen on light and on dark pages.
 import math
 import sys
 
-from openings import ENDING, FOLDER, KINDS, LIST, Listed, Opening, opening_named, text_of, vertex
+from openings import ENDING, FOLDER, KINDS, LIST, MEASURED, Listed, Opening, measured, opening_named, text_of, vertex
+from solved import page
 
-sys.path.insert(0, str(FOLDER.parent / "tools"))
-import second_checker
+sys.path.insert(0, str(FOLDER.parent / "examples"))
+from winning_move import winning_move
 
 README = FOLDER / "README.md"
+SOLVED = FOLDER.parent / "docs" / "use" / "SOLVED.md"
 TABLE = "## Each certificate\n"
-HEAD = 5
 
 # The circle around a cell has this radius; a row is 3/2 of it below the one before, and half a column to the right.
 RADIUS = 24
@@ -34,27 +36,13 @@ FILLS = {"black": ("#14181d", "#ffffff"), "white": ("#ffffff", "#14181d"), None:
 WORDS = {"black": "Black wins", "white": "White wins", None: "no certificate"}
 
 
-def answer_of(data):
-    """White's answer by a certificate that he wins: the cell of the `move` or the `key` that the claim names."""
-    lines = data.decode().splitlines()
-    name, *words = lines[HEAD + int(lines[-1].split()[1])].split()
-    if name == "move":
-        return words[0]
-    size, player, stones, read = second_checker.read(data)
-    checker = second_checker.Checker(size, player, stones)
-    for line in read[:-1]:
-        checker.reason_against(*line)
-    (shared,) = checker.given[int(words[0])].pair & checker.given[int(words[1])].pair
-    return vertex(size, shared.bit_length() - 1)
-
-
 def kept():
     """What the certificates say, in the order of their names."""
     found = {}
     for path in FOLDER.glob("*" + ENDING):
         data = text_of(path)
         winner = data.split(b"\n")[2].split()[1].decode()
-        answer = answer_of(data) if winner == "white" else "-"
+        answer = winning_move(data.decode()) or "-"
         found[opening_named(path.name.removesuffix(ENDING))] = Listed(winner, KINDS[winner], answer, data.count(b"\n"))
     return dict(sorted(found.items()))
 
@@ -62,6 +50,11 @@ def kept():
 def list_text(known):
     rows = [(str(opening), *map(str, entry)) for opening, entry in known.items()]
     return "".join("\t".join(row) + "\n" for row in [("opening", *Listed._fields), *rows])
+
+
+def measured_text():
+    rows = [(opening, winner, lines, f"{s:.2f}", megabytes) for opening, (winner, lines, s, megabytes) in measured().items()]
+    return "".join("\t".join(map(str, row)) + "\n" for row in rows)
 
 
 def table_text(known):
@@ -162,6 +155,8 @@ def main():
     known = kept()
     front = README.read_text().split(TABLE)[0]
     texts = {LIST: list_text(known), README: f"{front}{TABLE}\n{table_text(known)}"}
+    if measured():
+        texts |= {MEASURED: measured_text(), SOLVED: page(measured())}
     for size in sorted({opening.size for opening in known}):
         texts[FOLDER / "pictures" / f"{size}.svg"] = board(size, known)
     if sys.argv[1:] == ["--check"]:

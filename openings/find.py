@@ -1,77 +1,51 @@
 #!/usr/bin/env python3
-"""Finds certificates of openings by asking hexd: openings/find.py [--out FOLDER] [--seconds N] NAME..
+"""Finds certificates of openings by `hexd solve`: openings/find.py [--out FOLDER] [--budget N] [--again] [--whole] NAME..
 
-A NAME is that of an opening, as `6-a3`, or a size, which stands for all its openings up to the half turn of the board.
-Each certificate is written to FOLDER (this one by default) as NAME.cert.xz, once `hexd check` has accepted
-it. An opening whose file is there is passed over, so the same command goes on where it was ended. An opening that takes
-longer than N seconds is left open; without N there is no end to it.
+A NAME is that of an opening, as `6-a3`, or a size, which stands for its openings up to the half turn of the board, or
+with --whole for all. Each certificate is written to FOLDER (this one, if it isn't said) as NAME.cert.xz, once `hexd
+check` and tools/second_checker.py have accepted it; of an opening that has no file of its own, since its half turn has
+one, it is only checked. An opening whose file is there is passed over, so the same command goes on where it was ended;
+with --again it isn't. The budget is that of `hexd solve`, 10,000,000 if it isn't said.
 
-It is one process that asks one session of `hexd htp`. Every ten seconds a line on standard error says how far it is:
-the positions that hexd was asked, the seconds, and how many positions the search takes to be still needed for White to
-win the opening, and for Black. Ctrl-C ends it after the question at hand. It ends with 0 where each opening that was
-named has its certificate, else with 1, and after Ctrl-C with 130. `openings/find.py --list SIZE` prints the openings.
+For each opening it prints who wins, with the lines of the certificate, the processor time and the most memory of
+`hexd solve`, and adds the same as a row to FOLDER/measured.tsv. It ends with 0 if each opening that was named has its
+certificate, else with 1, and after Ctrl-C with 130. `openings/find.py --list SIZE` prints the openings of a size.
 
-HEXD names the program; where it isn't set that is bin/hexd. Nothing here is proved: what it writes is, by its checker.
+HEXD names the program; if it isn't set that is bin/hexd. Nothing here is proved: what it writes is, by its checker.
 """
 
 import argparse
+import os
 import signal
+import subprocess
 import sys
-import time
+import tempfile
 from pathlib import Path
 
-from assembly import MOST_LINES, certificate
-from grids import Grid
-from openings import ENDING, FOLDER, KINDS, can_unpack, opening_named, openings_of
-from search import Position, Search
-from sessions import COLOURS, Session
+from openings import ENDING, FOLDER, KINDS, MEASURED, can_unpack, opening_named, openings_of, vertex
 
 sys.path.insert(0, str(FOLDER.parent / "tools"))
-from programs import checked
+import second_checker
+from programs import HEXD, checked
 
-PROGRESS_SECONDS = 10
+BUDGET = 10_000_000
 INTERRUPTED = 130
-# A line of play has a few calls on the stack for each stone.
-DEPTH = 10_000
 
 
-class Clock:
-    """Says whether a search goes on, and from time to time how far it is."""
-
-    def __init__(self, seconds):
-        self.seconds, self.interrupted = seconds, False
-        self.begun = self.said = time.monotonic()
-        self.opening = self.search = None
-
-    def interrupt(self, *_):
-        """Ctrl-C: the search ends in order. A second one ends the program at once."""
-        self.interrupted = True
-        signal.signal(signal.SIGINT, signal.default_int_handler)
-
-    def start(self, opening, search):
-        self.opening, self.search = opening, search
-        self.begun = self.said = time.monotonic()
-
-    def elapsed(self):
-        return time.monotonic() - self.begun
-
-    def goes_on(self):
-        if time.monotonic() - self.said >= PROGRESS_SECONDS:
-            self.said = time.monotonic()
-            root = self.search.nodes.get(root_of(self.opening))
-            bounds = f"; White needs some {root.proof:,} more, Black {root.disproof:,}" if root else ""
-            asked = self.search.session.asked
-            print(f"{self.opening}: {asked:,} positions in {self.elapsed():.0f} s{bounds}", file=sys.stderr, flush=True)
-        return not self.interrupted and (self.seconds is None or self.elapsed() < self.seconds)
-
-
-def root_of(opening):
-    return Position(1 << opening.cell, 0, 1)
-
-
-def accepted(text, kind):
-    """Whether `hexd check` accepts a certificate with this claim."""
-    return checked(text.encode()) == (f"yes {kind}", 0)
+def solved(opening, budget):
+    """What `hexd solve` says of an opening, and the processor seconds and the most memory, in MB, that it took."""
+    with tempfile.TemporaryFile() as given, tempfile.TemporaryFile() as said:
+        given.write(f"(;GM[11]SZ[{opening.size}];B[{vertex(*opening)}])".encode())
+        given.seek(0)
+        process = subprocess.Popen([HEXD, "solve", "--budget", str(budget)], stdin=given, stdout=said)
+        try:
+            _, status, usage = os.wait4(process.pid, 0)
+        except KeyboardInterrupt:
+            process.kill()
+            raise
+        process.returncode = os.waitstatus_to_exitcode(status)
+        said.seek(0)
+        return said.read(), usage.ru_utime + usage.ru_stime, usage.ru_maxrss / 1024
 
 
 def write(path, text):
@@ -79,77 +53,79 @@ def write(path, text):
     import lzma
 
     part = path.with_name(path.name + ".part")
-    part.write_bytes(lzma.compress(text.encode(), preset=9 | lzma.PRESET_EXTREME))
-    part.replace(path)
+    try:
+        part.write_bytes(lzma.compress(text, preset=9 | lzma.PRESET_EXTREME))
+        part.replace(path)
+    finally:
+        part.unlink(missing_ok=True)
 
 
-def find(opening, search, clock, folder):
-    """Finds the certificate of an opening and writes it; what came of it, and whether it was written."""
-    clock.start(opening, search)
-    player = search.solve(root_of(opening))
-    found = certificate(search, root_of(opening), player) if player is not None else None
-    if found is None:
-        return "open", False
-    text, lines = found
-    winner = COLOURS[player]
-    if lines > MOST_LINES:
-        return f"{winner} wins, by a certificate of {lines:,} lines, which is too long", False
-    if not accepted(text, KINDS[winner]):
-        return f"{winner} wins, by a certificate that hexd check does not accept", False
-    write(folder / f"{opening}{ENDING}", text)
-    return f"{winner} wins, {text.count(chr(10)):,} lines", True
+def find(opening, budget, folder):
+    """Solves an opening and keeps its certificate: a sentence on it, and whether there is one."""
+    said, seconds, megabytes = solved(opening, budget)
+    head, _, text = said.partition(b"\n")
+    cost = f"{seconds:.1f} s, {megabytes:.0f} MB"
+    winner = head.decode().removeprefix("won ")
+    if winner not in KINDS:
+        return f"{head.decode() or 'no answer'}; {cost}", False
+    answers = checked(text), second_checker.answer(text)
+    if answers != ((f"yes {KINDS[winner]}", 0), f"yes {KINDS[winner]}"):
+        return f"{winner} wins, by a certificate of which the checkers say {answers}", False
+    if opening.has_file():
+        write(folder / f"{opening}{ENDING}", text)
+    lines = text.count(b"\n")
+    with open(folder / MEASURED.name, "a") as measured:
+        measured.write(f"{opening}\t{winner}\t{lines}\t{seconds:.2f}\t{megabytes:.0f}\n")
+    return f"{winner} wins, {lines:,} lines; {cost}", True
 
 
-def named(word):
-    """The openings that a word names."""
-    opening = opening_named(word)
-    if opening:
-        return [min(opening, opening.turned())]
-    if word.isdigit() and 1 <= int(word) <= 11:
-        return openings_of(int(word))
-    raise argparse.ArgumentTypeError(f"{word!r} is neither an opening, as 6-a3, nor a size from 1 to 11")
+def words():
+    parser = argparse.ArgumentParser(description=__doc__, formatter_class=argparse.RawDescriptionHelpFormatter)
+    parser.add_argument("names", metavar="NAME", nargs="*")
+    parser.add_argument("--out", type=Path, default=FOLDER, metavar="FOLDER")
+    parser.add_argument("--budget", type=int, default=BUDGET, metavar="N")
+    parser.add_argument("--again", action="store_true")
+    parser.add_argument("--whole", action="store_true")
+    parser.add_argument("--list", type=int, metavar="SIZE")
+    return parser.parse_args()
 
 
-def arguments():
-    parser = argparse.ArgumentParser(description=__doc__.split("\n\n")[0], epilog="Its first lines tell more.")
-    parser.add_argument("--out", metavar="FOLDER", type=Path, default=FOLDER, help="where certificates are kept")
-    parser.add_argument("--seconds", metavar="N", type=float, help="how long an opening may take")
-    parser.add_argument("--list", action="store_true", help="print the openings that are named, and find nothing")
-    parser.add_argument("names", metavar="NAME", type=named, nargs="+", help="an opening, as 6-a3, or a size")
-    words = parser.parse_args()
-    words.openings = [opening for openings in words.names for opening in openings]
-    return words
+def named(names, whole):
+    """The openings of these names and sizes, each once; None if one names nothing."""
+    found = []
+    for name in names:
+        if name.isdigit() and 1 <= int(name) <= 11:
+            found += openings_of(int(name), whole)
+        else:
+            found.append(opening_named(name))
+    return None if None in found else list(dict.fromkeys(found))
 
 
 def main():
-    words = arguments()
-    if words.list:
-        print(*words.openings, sep="\n")
+    options = words()
+    if options.list:
+        print(*openings_of(options.list), sep="\n")
         return 0
-    if not can_unpack():
-        print("openings/find.py: this python3 has no lzma, which compresses certificates", file=sys.stderr)
+    openings = named(options.names, options.whole)
+    if not openings or not can_unpack():
+        print("openings/find.py: no opening is named, or this python3 has no lzma", file=sys.stderr)
         return 1
-    words.out.mkdir(parents=True, exist_ok=True)
-    sys.setrecursionlimit(DEPTH)
-    clock, searches, missing = Clock(words.seconds), {}, 0
-    signal.signal(signal.SIGINT, clock.interrupt)
-    for opening in words.openings:
-        if (words.out / f"{opening}{ENDING}").exists():
+    options.out.mkdir(parents=True, exist_ok=True)
+    checked(b"")  # Where it has to be built.
+    missing = 0
+    for opening in openings:
+        if (options.out / f"{opening}{ENDING}").exists() and not options.again:
             continue
-        if clock.interrupted:
-            break
-        if opening.size not in searches:
-            grid = Grid(opening.size)
-            searches[opening.size] = Search(grid, Session(grid), clock.goes_on)
-        search = searches[opening.size]
-        before = search.session.asked
-        said, written = find(opening, search, clock, words.out)
-        missing += not written
-        print(f"{opening}: {said}; {search.session.asked - before:,} positions, {clock.elapsed():.1f} s", flush=True)
-    for search in searches.values():
-        search.session.close()
-    return INTERRUPTED if clock.interrupted else 1 if missing else 0
+        said, is_found = find(opening, options.budget, options.out)
+        missing += not is_found
+        print(f"{opening}: {said}", flush=True)
+    return 1 if missing else 0
 
 
 if __name__ == "__main__":
-    sys.exit(main())
+    # A shell has it ignored in the background.
+    signal.signal(signal.SIGINT, signal.default_int_handler)
+    try:
+        sys.exit(main())
+    except KeyboardInterrupt:
+        sys.exit(INTERRUPTED)

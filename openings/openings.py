@@ -12,6 +12,7 @@ from typing import NamedTuple
 
 FOLDER = Path(__file__).resolve().parent
 LIST = FOLDER / "openings.tsv"
+MEASURED = FOLDER / "measured.tsv"
 LETTERS = "abcdefghijk"
 ENDING = ".cert.xz"
 # Who wins claims this kind: Black with White to move, or White with himself to move.
@@ -28,6 +29,10 @@ class Opening(NamedTuple):
     def turned(self):
         """The same opening, seen from the other side of the board."""
         return Opening(self.size, self.size**2 - 1 - self.cell)
+
+    def has_file(self):
+        """Whether the file of a certificate is named for it, and not for its half turn."""
+        return self <= self.turned()
 
 
 class Listed(NamedTuple):
@@ -52,20 +57,37 @@ def opening_named(name):
     return Opening(size, row * size + column) if column < size and row < size else None
 
 
-def openings_of(size):
-    """The openings of a size up to the half turn, those nearest to the middle of the board first."""
+def openings_of(size, whole=False):
+    """The openings of a size up to the half turn, or all, those nearest to the middle of the board first."""
     middle = (size - 1) / 2
 
     def distance(cell):
         x, y = cell % size - middle, cell // size - middle
         return x * x + y * y + x * y
 
-    return [Opening(size, cell) for cell in sorted(range((size**2 + 1) // 2), key=distance)]
+    return [Opening(size, cell) for cell in sorted(range(size**2 if whole else (size**2 + 1) // 2), key=distance)]
 
 
 def head_of(opening, winner):
     """The first lines of the opening's certificate for this winner, behind the one with the version."""
     return [f"size {opening.size}", f"player {winner}", f"black {vertex(*opening)}", "white"]
+
+
+class Measured(NamedTuple):
+    """What `hexd solve` took for an opening: who wins, lines, processor seconds, and the most memory in MB."""
+
+    winner: str
+    lines: int
+    seconds: float
+    megabytes: int
+
+
+@functools.cache
+def measured():
+    """The measured openings in the order of their cells; of several rows of one the last counts."""
+    rows = [line.split("\t") for line in MEASURED.read_text().splitlines()] if MEASURED.exists() else []
+    found = {opening_named(name): Measured(winner, int(a), float(b), int(c)) for name, winner, a, b, c in rows}
+    return dict(sorted(found.items()))
 
 
 @functools.cache

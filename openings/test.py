@@ -5,7 +5,9 @@ Of each certificate of sizes 3 to 5, these are refused by `hexd check` and by to
 swapped of which one names the other, the other player, the other claim, and the last derivation line cut off; of those
 of size 3 also each other line cut off. openings/check refuses each file of size 3 under the names of the other openings, a
 true certificate with a claim that is not the opening's, a file with a byte changed, and an opening that is missing.
-find.py makes size 3 anew, openings/check accepts what it makes, and a second start finds nothing left to do.
+find.py makes size 3 anew, openings/check accepts what it makes, and a second start finds nothing left to do; a budget
+that is too small leaves an opening open; after Ctrl-C there is no part of a file. The rows that it adds are those that
+the page docs/use/SOLVED.md is made of.
 
 HEXD names the program; where it isn't set that is bin/hexd.
 """
@@ -18,7 +20,7 @@ import sys
 import tempfile
 from pathlib import Path
 
-from openings import ENDING, FOLDER, listed, text_of
+from openings import ENDING, FOLDER, MEASURED, listed, text_of
 
 sys.path.insert(0, str(FOLDER.parent / "tools"))
 import second_checker
@@ -148,14 +150,18 @@ def find(*words):
 
 
 def expect_found(folder):
-    """Size 3 is found anew; what is found is accepted, and found once."""
+    """Size 3 is found anew; what is found is accepted, and found once. Each has its row."""
     for lines in (5, 0):
         status, said = find("--out", folder, "3")
         expect(status == 0 and len(said) == lines, f"find.py 3: status {status}, {said}")
-    status, said = openings_check(*folder.iterdir())
+    status, said = openings_check(*folder.glob("*" + ENDING))
     expect(status == 0 and said[-1] == "5 accepted", f"what find.py made: {said}")
-    status, said = find("--out", folder, "--seconds", "0", "7-b3")
-    expect(status == 1 and len(said) == 1 and "open" in said[0], f"find.py without time: status {status}, {said}")
+    status, said = find("--out", folder, "--again", "--whole", "3")
+    expect(status == 0 and len(said) == 9, f"find.py --whole 3: status {status}, {said}")
+    rows = [line.split("\t") for line in (folder / MEASURED.name).read_text().splitlines()]
+    expect(len(rows) == 14 and {len(row) for row in rows} == {5}, f"the rows of find.py: {rows}")
+    status, said = find("--out", folder, "--budget", "1", "7-b3")
+    expect(status == 1 and len(said) == 1 and "unknown 1;" in said[0], f"find.py with a small budget: {status}, {said}")
 
 
 def expect_interrupted(folder):
@@ -165,11 +171,11 @@ def expect_interrupted(folder):
     first = process.stdout.readline()
     process.send_signal(signal.SIGINT)
     rest, errors = process.communicate()
-    # It may be ended before it begins with the second opening.
-    fits = first.startswith("3-a1: white wins") and (rest == "" or rest.startswith("7-b3: open; "))
-    expect(fits and "Traceback" not in errors, f"find.py after Ctrl-C: {first!r}, {rest!r}, {errors!r}")
+    fits = first.startswith("3-a1: white wins") and rest == "" and "Traceback" not in errors
+    expect(fits, f"find.py after Ctrl-C: {first!r}, {rest!r}, {errors!r}")
     expect(process.returncode == 130, f"find.py after Ctrl-C: status {process.returncode}")
-    expect([path.name for path in folder.iterdir()] == [f"3-a1{ENDING}"], "find.py after Ctrl-C: other files")
+    names = sorted(path.name for path in folder.iterdir())
+    expect(names == [f"3-a1{ENDING}", MEASURED.name], f"find.py after Ctrl-C: {names}")
 
 
 def main():
