@@ -214,7 +214,7 @@ class Server(ThreadingHTTPServer):
         return self.server_name.startswith("127.") or self.server_name == "::1"
 
     def hosts(self, reached):
-        """The names by which a request may call it that has reached it at this address; the first is the one that is told."""
+        """The names by which a request may call it that has reached it at this address; the first is told."""
         names = [reached.removeprefix("::ffff:") if self.server_name in EVERY else self.server_name]
         if self.is_local():
             names.append("localhost")

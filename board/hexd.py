@@ -7,8 +7,8 @@
     hexd.solve(b"(;GM[11]SZ[3];B[b2])").first               # "won black"
     hexd.records.read(b"(;SZ[5];B[C3];W[ce])").main         # "(;FF[4]GM[11]SZ[5];B[c3];W[c5])"
 
-It knows how lines and answers are cut (docs/use/MANUAL.md) and what a command's name is, and no rule of the game. Who copies it
-takes records.py with it.
+It knows how lines and answers are cut (docs/use/MANUAL.md) and what a command's name is, and no rule of the game. Who copies
+it takes records.py and sgf.py with it.
 """
 
 import os
@@ -170,7 +170,7 @@ def check(certificate, program=PROGRAM, seconds=None):
 
 @dataclass(frozen=True)
 class Solved:
-    """What `hexd solve` says of a position: its first line, as `won black`, and the certificate behind it or an empty text."""
+    """What `hexd solve` says of a position: its first line, as `won black`, and the certificate behind it, if any."""
 
     first: str
     certificate: str

@@ -32,7 +32,7 @@ def turned_cell(vertex, size):
 
 
 def turned(certificate, size):
-    """The certificate of the board that is turned by half a circle. Lists of cells rise, and so they are turned around too."""
+    """The certificate of the board that is turned by half a circle. Lists of cells rise, so they are turned around too."""
     edges = {"edge1": "edge2", "edge2": "edge1"}
     lines = []
     for line in certificate.split("\n"):

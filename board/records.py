@@ -4,35 +4,21 @@
 
 What another program writes otherwise is put right here: a byte order mark or other text before the record, other character
 sets, capitals, `swap`, cells in two letters (`ce` for c5), passes, and White as the first to move where Black swaps. All of
-the tree is kept, with its properties. Of the game this file knows what a move is called, and no rule: what is legal hexd says.
+the tree is kept, with its properties. This file knows what a move is called, and no rule: what is legal hexd says.
 """
 
 import re
-from dataclasses import dataclass, field
+from dataclasses import dataclass
+
+from sgf import Node, Refused, decoded, printed, tree_of
 
 LETTERS = "abcdefghijk"
 SIZES = range(1, len(LETTERS) + 1)
 SWAP = "swap-pieces"
 COLOURS = {"B": "Black", "W": "White"}
 OTHER = {"B": "W", "W": "B"}
-TOKEN = re.compile(r"\[(?:\\.|[^\]\\])*\]|[A-Za-z]+|[();]", re.DOTALL)
 # What belongs to a player, and changes sides with him.
 OF_PLAYERS = {"PB": "PW", "PW": "PB", "BR": "WR", "WR": "BR", "BT": "WT", "WT": "BT", "BL": "WL", "WL": "BL"}
-
-
-class Refused(Exception):
-    """Why hexd can't play a record, in words."""
-
-
-@dataclass
-class Node:
-    """A node: its properties with their values as they stand in the text, and the nodes that follow."""
-
-    properties: dict = field(default_factory=dict)
-    children: list = field(default_factory=list)
-
-    def moves(self):
-        return [(name, value) for name in "BW" for value in self.properties.get(name, [])]
 
 
 @dataclass(frozen=True)
@@ -43,64 +29,6 @@ class Record:
     main: str
     size: int
     notes: list
-
-
-def decoded(content):
-    """The text of a file: in UTF-8, else in the character set that it names, else in one that has a character for each byte."""
-    named = re.search(rb"CA\[([\w.:-]+)\]", content)
-    for name in ("utf-8-sig", named and named[1].decode(), "latin-1"):
-        try:
-            return content.decode(name or "latin-1")
-        except (LookupError, UnicodeDecodeError):
-            continue
-
-
-def tree_of(text):
-    """The root of the first tree in a text, and how many trees there are; Refused where there is none."""
-    start = re.search(r"\(\s*;", text)
-    if not start:
-        raise Refused("it is no record of a game")
-    root, node, last, trees = None, None, None, 0
-    below = []
-    for token in TOKEN.findall(text, start.start()):
-        if token == "(":
-            below.append(node)
-            trees += len(below) == 1
-        elif token == ")":
-            if not below:
-                break
-            node = below.pop()
-        elif trees > 1:
-            continue
-        elif token == ";":
-            made = Node()
-            root = root or made
-            if node:
-                node.children.append(made)
-            node, last = made, None
-        elif token[0] != "[":
-            # Older records have small letters in the names, which don't count.
-            last = re.sub("[a-z]", "", token)
-        elif node and last:
-            node.properties.setdefault(last, []).append(token[1:-1])
-    return root, trees
-
-
-def printed(node):
-    """The text of a node and what follows it."""
-    parts, left = [], [node]
-    while left:
-        item = left.pop()
-        if isinstance(item, str):
-            parts.append(item)
-            continue
-        parts.append(";" + "".join(f"{name}{''.join(f'[{value}]' for value in values)}" for name, values in item.properties.items()))
-        if len(item.children) == 1:
-            left.append(item.children[0])
-        else:
-            for child in reversed(item.children):
-                left += [")", child, "("]
-    return f"({''.join(parts)})"
 
 
 def cell_of(value, crossed):
@@ -151,7 +79,7 @@ class Reader:
         return result
 
     def convert(self):
-        """Puts each node into hexd's form. A side line from a node on that can't be is left out; Refused in the main line."""
+        """Puts each node into hexd's form. A side line is left out where it can't be; Refused in the main line."""
         left = [(self.root, 0, True)]
         while left:
             node, number, is_main = left.pop()
@@ -253,7 +181,7 @@ def read(content):
 
 
 def why_refused(ask, record):
-    """Why hexd doesn't load a record in its form: which move it refuses, and why. `ask` gives an answer's text, None of a failure."""
+    """Why hexd doesn't load a record: which move it refuses, and why. `ask` gives an answer's text, None of a failure."""
     root, _ = tree_of(record.main)
     if any(name in root.properties for name in ("AB", "AW")):
         return "hexd can't play it: two stones of the start lie on one cell, or a move is illegal"

@@ -3,8 +3,8 @@
 
     report.py [--playouts N] [--weight N] [--workers N] GAME.sgf >GAME.html
 
-GAME.sgf may be `-`, standard input. For each position hexd is asked for a move, its plan, its search and its certificate, which a
-second process checks; then the record's own move is played. How far it is stands on standard error, and why it stops.
+GAME.sgf may be `-`, standard input. For each position hexd is asked for a move, its plan, its search and its certificate,
+which a second process checks; then the record's own move is played. On standard error stands how far it is, and why it ends.
 """
 
 import base64
@@ -86,7 +86,7 @@ class Reporter:
         }
 
     def report(self, record, name):
-        """All of a record: its size, its positions, and the proved winner of its opening. records.Refused where it can't be played."""
+        """All of a record: size, positions, the proved winner of its opening. records.Refused where it can't be played."""
         if not self.engine.load(record.main.encode()).done:
             raise records.Refused(records.why_refused(self.ask, record))
         start, steps = steps_of(self.ask("printsgf"))

@@ -28,8 +28,8 @@ PORT = 8642
 PORTS_TRIED = 100
 SWEEP_SECONDS = 60
 WARNING = """\
-hexd-board: warning: other machines can reach this server. Who knows the address above, with its token, can play and search on
-hexd-board: this machine; what goes over the network is not encrypted."""
+hexd-board: warning: other machines can reach this server. Who knows the address above, with its token, can play and
+hexd-board: search on this machine; what goes over the network is not encrypted."""
 
 
 def bound(address, port, *parts):
@@ -50,8 +50,9 @@ def wanted(words):
     parser = settings.Parser(prog="hexd-board", usage="hexd-board [OPTIONS] [-- OPTIONS OF HEXD]")
     settings.add_options(parser)
     parser.add_argument("--open", action="store_true", help="open the page in a browser")
-    parser.add_argument("--port", type=settings.number(0, 65_535), help=f"the port (0: any); {PORT} or the next free one by default")
-    parser.add_argument("--listen", metavar="ADDRESS", default=HERE, help=f"whose port; {HERE}, this machine alone, by default")
+    port = f"the port (0: any); {PORT} or the next free one by default"
+    parser.add_argument("--port", type=settings.number(0, 65_535), help=port)
+    parser.add_argument("--listen", metavar="ADDRESS", default=HERE, help=f"whose port; {HERE}, this machine, by default")
     parser.add_argument("--program", type=Path, default=hexd.PROGRAM, help="the program in place of the built one")
     options = parser.parse_args(words[:place])
     options.given, options.others = split(parser, words[place + 1 :], settings.given_of(options))

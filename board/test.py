@@ -61,10 +61,11 @@ def open_standard_streams():
 
 def tests(options):
     """The cases, and what is skipped and why."""
-    from tests import of_report, of_server
+    from tests import of_ends, of_report, of_server
 
     loader, why = unittest.TestLoader(), missing()
-    suites = [loader.loadTestsFromModule(of_server), loader.loadTestsFromTestCase(of_report.Reports)]
+    suites = [loader.loadTestsFromModule(module) for module in (of_server, of_ends)]
+    suites.append(loader.loadTestsFromTestCase(of_report.Reports))
     if why is None:
         from tests import of_games, of_records, of_thoughts, of_windows, pages
 

@@ -11,8 +11,8 @@ LARGEST_SEED = 2**64 - 1
 COLOURS = {b"b": b"B", b"black": b"B", b"w": b"W", b"white": b"W"}
 OTHER = {b"B": b"W", b"W": b"B"}
 WINS = {b"black": b"B+", b"white": b"W+"}
-# The form of HexGui and GoGui: how an answer is shown, the menu's entry, the command. `plist` is cells in a row, `pspairs` each of them
-# with a word, and `varc` a move; `%c` is the colour to move.
+# The form of HexGui and GoGui: how an answer is shown, the menu's entry, the command. `plist` is cells in a row, `pspairs`
+# each of them with a word, and `varc` a move; `%c` is the colour to move.
 ANALYZE_COMMANDS = b"""\
 string/Winner/winner
 plist/Legal moves/all_legal_moves
@@ -137,8 +137,8 @@ class Session:
             os.close(file)
 
     def loadsgf(self, request):
-        """hexd takes a name without a space, and its own form: with spaces it gets the number of an open file, and a record of another
-        form it gets in its own."""
+        """hexd takes a name without a space, and its own form: with spaces it gets the number of an open file, and a record
+        of another form it gets in its own."""
         if not request.args:
             return None
         try:

@@ -15,7 +15,7 @@ MOST_BYTES = 1_048_576
 
 
 def load_other(session, file):
-    """Has hexd load a record in its own form, from an open file of another one. Refused with which move can't be played, and why."""
+    """Has hexd load a record in its own form, from an open file of another one. Refused with which move it can't play."""
     kind = os.fstat(file)
     if kind.st_size > MOST_BYTES or not stat.S_ISREG(kind.st_mode):
         raise Refused(b"cannot load file")

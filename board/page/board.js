@@ -1,6 +1,6 @@
 'use strict';
-// The drawing of a board as an SVG: cells, edges, stones, and what is marked on them. It knows where cells lie, and no rule of
-// the game.
+// The drawing of a board as an SVG: cells, edges, stones, and what is marked on them. It knows where cells lie, and no rule
+// of the game.
 
 // From this share of the visits on a cell is shaded and shows their number.
 const LEAST_SHARE = 0.01;
@@ -73,9 +73,9 @@ class BoardView {
   }
 
   pattern() {
-    const attributes = {id: this.hatch, width: HATCH, height: HATCH, patternUnits: 'userSpaceOnUse', patternTransform: 'rotate(45)'};
-    return svgElement('defs', {}, svgElement('pattern', attributes,
-      svgElement('rect', {class: 'hatched', width: HATCH, height: HATCH}),
+    const size = {width: HATCH, height: HATCH}, attributes = {id: this.hatch, ...size, patternUnits: 'userSpaceOnUse'};
+    return svgElement('defs', {}, svgElement('pattern', {...attributes, patternTransform: 'rotate(45)'},
+      svgElement('rect', {class: 'hatched', ...size}),
       svgElement('line', {class: 'hatching', x1: 0, x2: 0, y1: 0, y2: HATCH})));
   }
 
@@ -126,9 +126,9 @@ class BoardView {
 
   /**
    * Draws what stands on the board. All parts of a view may be left out:
-   * stones (Map to 'b' or 'w'), last, chosen and next (vertices), numbers (Map), visits (Map to {visits, won, share}), dimmed,
-   * carrier, ends and answers (Sets of vertices), middle (a vertex), edges (Set of 0 to 3), chain (vertices in a row), openings
-   * (Map to 'b' or 'w'), ghost ('b' or 'w': the colour that a click plays).
+   * stones (Map to 'b' or 'w'), last, chosen and next (vertices), numbers (Map), visits (Map to {visits, won, share}),
+   * dimmed, carrier, ends and answers (Sets of vertices), middle (a vertex), edges (Set of 0 to 3), chain (vertices in a
+   * row), openings (Map to 'b' or 'w'), ghost ('b' or 'w': the colour that a click plays).
    */
   show(view) {
     this.view = view;
@@ -190,7 +190,8 @@ class BoardView {
   drawGhost() {
     const {pointed, ghost, view, layout} = this;
     if (!ghost) return;
-    const shown = view.ghost && this.cells.has(pointed) && !view.stones?.has(pointed), [x, y] = shown ? centreOfVertex(pointed, layout) : [0, 0];
+    const shown = view.ghost && this.cells.has(pointed) && !view.stones?.has(pointed);
+    const [x, y] = shown ? centreOfVertex(pointed, layout) : [0, 0];
     ghost.setAttribute('class', shown ? `ghost ${view.ghost}` : 'ghost none');
     ghost.setAttribute('cx', x.toFixed(2));
     ghost.setAttribute('cy', y.toFixed(2));
@@ -225,14 +226,17 @@ class BoardView {
 
 /** What is said of a cell where it is read out or pointed at. */
 function cellWords(vertex, view) {
-  const stone = view.stones?.get(vertex), seen = view.visits?.get(vertex), parts = [vertex, stone ? COLOURS[stone] : 'empty'];
+  const stone = view.stones?.get(vertex), seen = view.visits?.get(vertex), winner = view.openings?.get(vertex);
+  const parts = [vertex, stone ? COLOURS[stone] : 'empty'];
   if (view.last === vertex) parts.push('last move');
   if (seen) parts.push(`${seen.visits} visits (${percent(seen.share)})`);
   if (seen?.visits) parts.push(`${percent(seen.won / seen.visits)} of them won`);
   if (view.dimmed?.has(vertex)) parts.push('outside a threat');
   if (view.carrier?.has(vertex)) parts.push('in the carrier');
   if (view.answers?.has(vertex)) parts.push('the answer by the certificate');
-  if (view.openings?.has(vertex)) parts.push(`proved: ${COLOURS[view.openings.get(vertex)]} wins after Black's first stone here, ${
-    view.openings.get(vertex) === 'b' ? 'so White swaps' : 'so White does not swap'}`);
+  if (winner) {
+    const answer = winner === 'b' ? 'White swaps' : 'White does not swap';
+    parts.push(`proved: ${COLOURS[winner]} wins after Black's first stone here, so ${answer}`);
+  }
   return parts.join(', ');
 }

@@ -1,6 +1,6 @@
 'use strict';
-// Where cells lie: names of cells, their centres in each orientation, and the bands of the edges. `wide` lays the rows level with row 1
-// on top, `flipped` with row 1 below, and `upright` stands the board on the corner opposite a1, for narrow windows.
+// Where cells lie: names of cells, their centres in each orientation, and the bands of the edges. `wide` lays the rows level
+// with row 1 on top, `flipped` with row 1 below, and `upright` stands the board on the corner opposite a1.
 
 const LETTERS = 'abcdefghijk';
 const RADIUS = 20;
@@ -37,8 +37,8 @@ function hexagon(x, y, radius) {
 }
 
 /**
- * The four bands, each from the board's middle to its edge: its colour and corners in cells. Where two colours meet the corner
- * belongs to both: the bands are cut along the line from the middle through the corner's cell.
+ * The four bands, each from the board's middle to its edge: its colour and corners in cells. A corner of two colours belongs
+ * to both: the bands are cut along the line from the middle through the corner's cell.
  */
 function bands(size) {
   const last = size - 1, far = last + BAND, middle = [last / 2, last / 2], half = (BAND + CUT) / 2;
@@ -58,10 +58,11 @@ function outline(size) {
     [end, last + CUT], [last + CUT, end], [-BAND, -CUT], [-CUT, -BAND]];
 }
 
-/** The cells of a shortest way over stones from the player's first edge to his second; none where the stones lead nowhere. */
+/** The cells of a shortest way over stones from the player's first edge to his second; none where there is no way. */
 function chainOf(stones, player, size) {
   const index = {b: rowOf, w: columnOf}[player], own = vertex => stones.get(vertex) === player;
-  const before = new Map(verticesOf(size).filter(vertex => own(vertex) && index(vertex) === 0).map(vertex => [vertex, null]));
+  const first = verticesOf(size).filter(vertex => own(vertex) && index(vertex) === 0);
+  const before = new Map(first.map(vertex => [vertex, null]));
   for (const vertex of before.keys()) {
     if (index(vertex) === size - 1) {
       const chain = [];

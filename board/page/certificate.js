@@ -1,6 +1,6 @@
 'use strict';
-// What a certificate says, line by line, so that it can be drawn and followed: the two elements that a line links, the cell or
-// group between them, and the carrier. Whether the certificate is right is hexd's to say (`hexd check`), not this file's.
+// What a certificate says, line by line, so that it can be drawn and followed: the two elements that a line links, the cell
+// or group between them, and the carrier. Whether the certificate is right is hexd's to say (`hexd check`), not this file's.
 
 /** The neighbours of a cell on a board. */
 function neighboursOf(vertex, size) {
@@ -56,7 +56,7 @@ function joined(one, two) {
 /** A set of cells as the bits of a number: quick to join for the many lines of a solver's certificate. */
 const bitOf = (vertex, size) => 1n << BigInt(rowOf(vertex) * size + columnOf(vertex));
 
-/** The entry of one line. `parts` are the entries that it takes, `cell` the one where its player moves, `mask` its carrier. */
+/** The entry of one line. `parts` are the entries that it takes, `cell` where its player moves, `mask` its carrier. */
 class Entry {
   constructor(text, rule, given, board) {
     Object.assign(this, {text, rule, given, board, parts: [], ends: null, between: null, cell: null, mask: 0n});
@@ -65,15 +65,13 @@ class Entry {
   has(vertex) { return (this.mask & bitOf(vertex, this.board.size)) !== 0n; }
 
   get carrier() {
-    const {size} = this.board, cells = new Set();
-    for (let at = 0; at < size * size; at++) if (this.mask >> BigInt(at) & 1n) cells.add(vertexAt(at % size, Math.floor(at / size)));
-    return cells;
+    return new Set(verticesOf(this.board.size).filter(vertex => this.has(vertex)));
   }
 
   /** What the line says, in words. */
   get words() {
     const {rule, given, between, cell, board: {player}} = this, mine = COLOURS[player];
-    if (rule === 'put') return given.length ? `now with stones of ${mine}'s on ${given.join(' ')} too` : 'now with the stones that are there';
+    if (rule === 'put') return given.length ? `now with ${mine}'s stones on ${given.join(' ')} too` : 'now with no stone more';
     const names = `${this.ends[0].name} and ${this.ends[1].name}`, lines = given.join(given.length > 2 ? ', ' : ' or ');
     if (rule === 'adj') return `${names} touch`;
     if (rule === 'or' || rule === 'cases') return `${names} are linked: whatever comes, line ${lines} is left`;
@@ -89,7 +87,7 @@ function fill(entry, elementOf) {
   for (const {mask} of parts) entry.mask |= mask;
   if (rule === 'adj') entry.ends = given.map(elementOf);
   else if (rule === 'or') entry.ends = parts[0].ends;
-  else if (rule === 'and' || rule === 'key') [entry.between, entry.ends] = (({shared, ends}) => [shared, ends])(joined(...parts));
+  else if (rule === 'and' || rule === 'key') ({shared: entry.between, ends: entry.ends} = joined(...parts));
   else if (rule !== 'put') entry.ends = [elementOf('edge1'), elementOf('edge2')];
   if (rule === 'key') [entry.cell] = entry.between.cells;
   if (rule === 'move') [entry.cell] = given;
@@ -135,4 +133,5 @@ function claimWords({size, player, claim}) {
 }
 
 /** What the second process said of a certificate, in words. */
-const checkWords = said => (/^yes (full|semi)$/.test(said) ? 'hexd check accepts it, in a process of its own.' : `hexd check refuses it: ${said}`);
+const checkWords = said =>
+  (/^yes (full|semi)$/.test(said) ? 'hexd check accepts it, in a process of its own.' : `hexd check refuses it: ${said}`);

@@ -22,7 +22,8 @@ class Choices {
     button.addEventListener('blur', () => point(null));
     button.addEventListener('click', () => {
       const was = button.getAttribute('aria-pressed') === 'true';
-      for (const pressed of document.querySelectorAll('.choices [aria-pressed=true]')) pressed.setAttribute('aria-pressed', 'false');
+      const pressed = document.querySelectorAll('.choices [aria-pressed=true]');
+      pressed.forEach(one => one.setAttribute('aria-pressed', 'false'));
       button.setAttribute('aria-pressed', String(!was));
       this.pinned = was ? null : marksOf();
       this.onChange();
@@ -45,7 +46,8 @@ class Choices {
     byId('claim').textContent = claimWords(proof);
     byId('checked').textContent = checkWords(said.checked);
     byId('lines-left').hidden = !skipped;
-    byId('lines-left').textContent = `The last ${lines.length} of ${grouped(proof.lines.length)} lines; the saved certificate has all.`;
+    const all = grouped(proof.lines.length);
+    byId('lines-left').textContent = `The last ${lines.length} of ${all} lines; the saved certificate has all.`;
     byId('lines').start = skipped;
     byId('lines').style.counterSet = `line ${skipped - 1}`;
     byId('lines').replaceChildren(...lines.map(line =>

@@ -13,7 +13,8 @@ function pointsOf(line, proofs) {
 
 function drawCourse(game, proofs, onGoTo) {
   const {line} = game.tree, at = game.at.number;
-  drawPlot(byId('plot'), {count: line.length - 1, points: pointsOf(line, proofs), at, onPick: number => onGoTo(line[number])});
+  const points = pointsOf(line, proofs);
+  drawPlot(byId('plot'), {count: line.length - 1, points, at, onPick: number => onGoTo(line[number])});
   byId('moves').replaceChildren(...line.slice(1).map(position => moveItem(position, at, onGoTo)));
   const list = byId('moves'), current = list.querySelector('[aria-current]');
   if (current) list.scrollTop = current.parentElement.offsetTop - list.offsetTop - list.clientHeight / 2;
@@ -24,13 +25,15 @@ function drawCourse(game, proofs, onGoTo) {
 
 /** A move of the line, and beside it those that were played in its place. */
 function moveItem(position, at, onGoTo) {
-  const button = htmlElement('button', {type: 'button', class: position.number <= at ? 'move' : 'move ahead'}, ...moveLabel(position.step));
+  const name = position.number <= at ? 'move' : 'move ahead';
+  const button = htmlElement('button', {type: 'button', class: name}, ...moveLabel(position.step));
   if (position.number === at) button.setAttribute('aria-current', 'true');
   button.onclick = () => onGoTo(position);
   const others = position.parent.children.filter(child => child !== position);
   return htmlElement('li', {}, button, ...others.map(child => {
-    const name = `Side line: ${COLOURS[child.step.colour]} ${child.step.move}`;
-    const side = htmlElement('button', {type: 'button', class: 'side', title: name, 'aria-label': name}, ...moveLabel(child.step));
+    const title = `Side line: ${COLOURS[child.step.colour]} ${child.step.move}`;
+    const name = {class: 'side', title, 'aria-label': title};
+    const side = htmlElement('button', {type: 'button', ...name}, ...moveLabel(child.step));
     side.onclick = () => onGoTo(child);
     return side;
   }));

@@ -16,7 +16,8 @@ function wireFiles(play) {
   });
   on('copy', () => play.copy(`${Session.address}#${linkOfTree(game.tree)}`));
   on('copy-moves', () => play.copy(movesText(lineOf(game).steps).join(' ')));
-  on('copy-hexworld', () => play.copy(hexWorldLink(lineOf(game)), 'HexWorld has no form for start stones and moves out of turn'));
+  const none = 'HexWorld has no form for start stones and moves out of turn';
+  on('copy-hexworld', () => play.copy(hexWorldLink(lineOf(game)), none));
   for (const kind of ['svg', 'png']) on(kind, () => savePicture(play.view, kind));
   on('save-proof', () => {
     const {thought} = game.shown ?? {}, said = game.at.solved?.proof ? game.at.solved : thought;

@@ -1,6 +1,6 @@
 'use strict';
-// The game on the page: a tree of moves, and the session of hexd, which holds the moves up to one of its positions. What is true
-// of a position (its stones, the winner, whether a swap may come) are hexd's answers, and so are the moves that are legal.
+// The game on the page: a tree of moves, and the session of hexd, which holds the moves up to one of its positions. What is
+// true of a position (its stones, the winner, whether a swap may come) hexd says, and which moves are legal.
 
 /** The stones that `showboard` shows. */
 function stonesOf(board) {

@@ -1,6 +1,6 @@
 'use strict';
-// What lasts: the game in the address and in the browser's history, so that a reload finds it and Back brings the one before; and the
-// players, the strength and the switches in the browser's store.
+// What lasts: the game in the address and in the browser's history, so that a reload finds it and Back brings the last one;
+// and the players, the strength and the switches in the browser's store.
 
 const KEPT = 'hexd-board';
 
@@ -9,9 +9,10 @@ const kept = {
   elements: () => [...document.querySelectorAll('.kept')],
 
   save() {
-    const values = this.elements().map(element => [element.id, element.type === 'checkbox' ? element.checked : element.value]);
+    const values = {};
+    for (const {id, type, checked, value} of this.elements()) values[id] = type === 'checkbox' ? checked : value;
     try {
-      localStorage.setItem(KEPT, JSON.stringify(Object.fromEntries(values)));
+      localStorage.setItem(KEPT, JSON.stringify(values));
     } catch {
       // Without a store they last as long as the page.
     }

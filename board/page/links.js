@@ -1,7 +1,7 @@
 'use strict';
-// Games as links and as moves in a row. A link has the size, start stones (`+b-c3`), moves, of which one out of turn has its colour
-// before it (`w-a1`), and at the end `@N` where the game stands after N moves and not after all. HexWorld's links and moves
-// without a size are read too.
+// Games as links and as moves in a row. A link has the size, start stones (`+b-c3`), moves, of which one out of turn has its
+// colour before it (`w-a1`), and at the end `@N` where the game stands after N moves and not after all. HexWorld's links and
+// moves without a size are read too.
 
 const HEXWORLD = 'https://hexworld.org/board/#';
 // What HexWorld writes for what is no cell. Of these a swap alone has a place in a game here.
@@ -58,13 +58,14 @@ function readHexWorld(text) {
 function readPlain(text, sizeHere) {
   const words = text.split(/[\s,;]+/).filter(Boolean);
   const size = /^\d+$/.test(words[0]) ? words.shift() : String(sizeHere);
-  const at = words.findIndex(word => /^@\d+$/.test(word)), position = at < 0 ? undefined : Number(words.splice(at, 1)[0].slice(1));
+  const at = words.findIndex(word => /^@\d+$/.test(word));
+  const position = at < 0 ? undefined : Number(words.splice(at, 1)[0].slice(1));
   const parts = words.map(word => word.replace(/^\d+\./, '').replace('swap-pieces', 'swap')).filter(Boolean)
     .flatMap(word => (/^([a-k][1-9][0-9]?){2,}$/.test(word) ? word.match(/[a-k][1-9][0-9]?/g) : [word]));
   return {size, parts, position};
 }
 
-/** The game that a text names: {size, start, steps, position}; Refused where it names none. `sizeHere` is that of moves alone. */
+/** The game that a text names: {size, start, steps, position}, or Refused. `sizeHere` is the size of moves without one. */
 function gameOfText(given, sizeHere) {
   const whole = unescaped(given.trim()).toLowerCase(), text = whole.slice(whole.indexOf('#') + 1).trim();
   const {size, parts, position} = whole.includes('hexworld') ? readHexWorld(text) : readPlain(text, sizeHere);

@@ -61,8 +61,8 @@ class Panel {
     if (at.facts.winner) marks.chain = chainOf(at.facts.stones, at.facts.winner, game.size);
     if (choices.marks) return Object.assign(marks, choices.marks);
     if (this.map) marks.openings = this.map;
-    const solved = at.solved?.proof ? at.solved : null;
-    if (on('show-carrier') && (solved ?? shown?.thought)?.proof) marks.carrier = (solved ?? shown.thought).proof.claimed.carrier;
+    const solved = at.solved?.proof ? at.solved : null, {proof: certificate} = solved ?? shown?.thought ?? {};
+    if (on('show-carrier') && certificate) marks.carrier = certificate.claimed.carrier;
     if (solved) return Object.assign(marks, {chosen: solved.cell});
     if (shown) Object.assign(marks, this.thoughtMarks(shown.thought, shown.here, on));
     if (!shown?.here && proof && !proof.here && proof.player === mover) marks.answers = new Set(proof.answers);
@@ -125,5 +125,6 @@ class Panel {
 
 /** How hexd searches, in words. */
 function strengthWords({weight, workers}) {
-  return `hexd searches with ${grouped(byId('strength').value)} playouts a move, weight ${weight}, ${counted(workers, 'worker')}.`;
+  const playouts = grouped(byId('strength').value);
+  return `hexd searches with ${playouts} playouts a move, weight ${weight}, ${counted(workers, 'worker')}.`;
 }

@@ -2,8 +2,8 @@
 // Pictures of the board as it stands, and files that the page saves.
 
 // What a picture keeps of the style sheet.
-const KEPT_STYLE = ['fill', 'fill-opacity', 'stroke', 'stroke-width', 'stroke-opacity', 'stroke-linejoin', 'stroke-linecap', 'opacity',
-  'font-family', 'font-size', 'font-weight', 'text-anchor', 'dominant-baseline', 'paint-order'];
+const KEPT_STYLE = ['fill', 'fill-opacity', 'stroke', 'stroke-width', 'stroke-opacity', 'stroke-linejoin', 'stroke-linecap',
+  'opacity', 'font-family', 'font-size', 'font-weight', 'text-anchor', 'dominant-baseline', 'paint-order'];
 
 /** A board as it stands, as the text of an SVG that needs no style sheet. */
 function pictureOf({svg, box}, background) {

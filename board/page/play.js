@@ -1,5 +1,5 @@
 'use strict';
-// The page at work: what each button and key does, whose turn is hexd's, and what happens where a session or the server is lost.
+// The page at work: one thing after another, whose turn is hexd's, and what happens where a session or the server is lost.
 
 // The solver is offered up to this size, and may enter so many positions.
 const LARGEST_PROVED = 6;
@@ -9,7 +9,10 @@ class Play {
   constructor() {
     Object.assign(this, {busy: false, thinking: null, running: false, stopping: false, lost: null, full: false, waiting: [],
       settings: null, entered: false, isNew: false});
-    this.view = new BoardView(byId('board'), {onPick: vertex => this.pick(vertex), onPoint: vertex => this.panel.drawReadout(vertex)});
+    this.view = new BoardView(byId('board'), {
+      onPick: vertex => this.pick(vertex),
+      onPoint: vertex => this.panel.drawReadout(vertex),
+    });
     this.game = new Game();
     this.panel = new Panel(this.game, this.view);
     this.panel.onGoTo = position => this.act(() => this.game.goTo(position));
@@ -225,54 +228,6 @@ class Play {
     this.running = (Boolean(tree) || hash.length <= 1) && !this.game.at.next;
   }
 
-  wire() {
-    const {game} = this, on = (id, use) => byId(id).addEventListener('click', use), go = position => position && game.goTo(position);
-    for (let size = 1; size <= LETTERS.length; size++) byId('size').append(htmlElement('option', {value: size}, `${size}`));
-    byId('size').addEventListener('change', ({target: {value}}) => this.begin(Number(value)));
-    on('new', () => this.begin(game.size));
-    on('undo', () => this.act(() => this.undo()));
-    on('swap', () => this.act(() => game.play(SWAP), true));
-    on('go', () => this.act(() => this.letHexdMove(), true));
-    on('hint', () => this.act(() => this.hint()));
-    on('stop', () => this.stop());
-    on('analyse', () => this.act(() => this.analyse()));
-    on('prove', () => this.act(() => this.prove()));
-    on('first', () => this.act(() => go(game.tree.root)));
-    on('back', () => this.act(() => go(game.at.parent)));
-    on('forth', () => this.act(() => go(game.at.next)));
-    on('end', () => this.act(() => go(game.tree.line.at(-1))));
-    on('again', () => this.again(false));
-    on('room', () => this.again(true));
-    wireFiles(this);
-    this.wireSwitches();
-    addEventListener('keydown', event => this.press(event));
-    addEventListener('popstate', ({state}) => this.goBack(state));
-    addEventListener('pagehide', () => game.session?.close());
-  }
-
-  wireSwitches() {
-    for (const element of kept.elements()) element.addEventListener('change', () => { kept.save(); this.draw(); });
-    for (const id of ['player-b', 'player-w']) {
-      byId(id).addEventListener('change', () => this.act(async () => {}, !this.game.at.next));
-    }
-    byId('strength').addEventListener('change', () => this.act(async () => {
-      this.game.session.close();
-      await this.renew();
-    }));
-    new ResizeObserver(() => { this.panel.drawBoard(); this.view.scale(); }).observe(byId('stage'));
-  }
-
-  press(event) {
-    const {key, ctrlKey, metaKey, altKey, shiftKey, target} = event;
-    if (target.closest('input[type=text], select, textarea') || altKey || shiftKey) return;
-    const keys = {ArrowLeft: 'back', ArrowRight: 'forth', Home: 'first', End: 'end', u: 'undo'};
-    const id = ctrlKey || metaKey ? (key === 'z' ? 'undo' : null) : keys[key];
-    // On the board the arrows go over the cells.
-    if (!id || (key.startsWith('Arrow') && target.closest('#board'))) return;
-    event.preventDefault();
-    byId(id).click();
-  }
-
   /** Another entry of the browser's history: its game, or the one of the link that was put into the address. */
   goBack(state) {
     // Without a session it is opened with the next one.
@@ -295,7 +250,7 @@ class Play {
   }
 
   async start() {
-    this.wire();
+    wire(this);
     await this.act(() => this.enter());
     document.body.dataset.ready = 'yes';
   }

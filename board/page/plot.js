@@ -18,7 +18,8 @@ function drawPlot(svg, {count, points, at = null, onPick = null}) {
     svgElement('rect', {class: 'rim w', x: 0.5, y: PLOT.height - 4.5, width: PLOT.width - 1, height: 4}),
     svgElement('line', {class: 'half', x1: 0, x2: PLOT.width, y1: up(0.5), y2: up(0.5)}),
   );
-  if (at !== null) svg.append(svgElement('line', {class: 'now', x1: across(at), x2: across(at), y1: 4, y2: PLOT.height - 4}));
+  const here = {x1: across(at), x2: across(at)};
+  if (at !== null) svg.append(svgElement('line', {class: 'now', ...here, y1: 4, y2: PLOT.height - 4}));
   const line = points.map(([position, {value}]) => [across(position), up(value)]);
   if (line.length > 1) svg.append(svgElement('polyline', {class: 'share', points: pointList(line)}));
   points.forEach(([position, share]) => svg.append(plotMark(across(position), up(share.value), position, share)));
@@ -31,8 +32,8 @@ function drawPlot(svg, {count, points, at = null, onPick = null}) {
 
 function plotMark(x, y, position, {value, proved, swap}) {
   const size = proved ? 3.6 : 2.4;
-  const mark = svgElement('rect', {class: proved ? 'mark proved' : 'mark', x: (x - size).toFixed(2), y: (y - size).toFixed(2),
-    width: 2 * size, height: 2 * size, rx: proved ? 0 : size});
+  const place = {x: (x - size).toFixed(2), y: (y - size).toFixed(2), width: 2 * size, height: 2 * size};
+  const mark = svgElement('rect', {class: proved ? 'mark proved' : 'mark', ...place, rx: proved ? 0 : size});
   if (proved) mark.setAttribute('transform', `rotate(45 ${x.toFixed(2)} ${y.toFixed(2)})`);
   const unless = swap ? ' unless White swaps' : '';
   const words = proved ? `${value ? 'Black' : 'White'} wins${unless}, proved` : `${percent(value)} for Black`;

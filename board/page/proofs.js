@@ -1,7 +1,7 @@
 'use strict';
-// A proof stays a proof. Where a position has a certificate and its player moves by it, the positions after it are proved for him as
-// long as he answers by it. The certificate itself says what an answer is: whatever the other player puts into a carrier,
-// some line that is left links what was linked, once a stone is on that line's cell.
+// A proof stays a proof. Where a position has a certificate and its player moves by it, the positions behind it are proved
+// for him as long as he answers by it. The certificate itself says what an answer is: whatever the other player puts into a
+// carrier, some line that is left links what was linked, once a stone is on that line's cell.
 
 const CHOICES = ['or', 'cases'], PARTS = ['and', 'key', 'move'];
 
@@ -64,8 +64,9 @@ function provedHere({thought, solved, opening, number}) {
     const {player, claimed} = said.proof, swap = said.swap && !isWhitesWin(said);
     return {player, number, swap, cell: claimed.cell, kind: 'certificate', claimed};
   }
-  if (thought?.lost) return {player: other(thought.mover), number, swap: thought.swap, cell: null, kind: 'lost', claimed: null};
-  if (opening) return {player: opening, number, swap: opening === 'b', cell: null, kind: 'opening', claimed: null};
+  const rest = {number, cell: null, claimed: null};
+  if (thought?.lost) return {player: other(thought.mover), swap: thought.swap, kind: 'lost', ...rest};
+  if (opening) return {player: opening, swap: opening === 'b', kind: 'opening', ...rest};
   return null;
 }
 
@@ -73,8 +74,8 @@ function provedHere({thought, solved, opening, number}) {
 const isAccepted = ({checked}) => /^yes/.test(checked ?? '');
 
 /**
- * For each position of a line what is proved of it, or null: `player` wins, by the certificate of position `number`. `here` says
- * that this very position has it; `swap` that White may still swap; `answers` are the cells of the next answer.
+ * For each position of a line what is proved of it, or null: `player` wins, by the certificate of position `number`. `here`
+ * says that this very position has it; `swap` that White may still swap; `answers` are the cells of the next answer.
  */
 function provedAlong(line) {
   let carried = null;

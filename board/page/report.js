@@ -1,6 +1,6 @@
 'use strict';
-// A report: from what report.py has put into the page, one board that steps through the game, the plot, the table of moves with what
-// each of them lost, and for print a section for each position.
+// A report: from what report.py has put into the page, one board that steps through the game, the plot, the table of moves
+// with what each of them lost, and for print a section for each position.
 
 const report = JSON.parse(byId('game').textContent);
 report.thoughts = report.positions.map(position => position.thought && readThought(position.thought));
@@ -62,8 +62,11 @@ function wordsOf(at) {
   const {winner, step} = report.positions[at], thought = report.thoughts[at], proof = proofs[at], said = [];
   const add = (text, name = '') => said.push(htmlElement('p', {class: name}, text));
   if (winner) add(`${COLOURS[winner]} has won.`, 'proved');
-  if (at === 1 && report.opening) add(`Proved: after this opening ${COLOURS[report.opening]} wins, unless White swaps.`, 'proved');
-  else if (proof && !proof.here && !winner) add(proofWords(proof, {mover: thought?.mover ?? other(line[at].step.colour)}), 'proved');
+  if (at === 1 && report.opening) {
+    add(`Proved: after this opening ${COLOURS[report.opening]} wins, unless White swaps.`, 'proved');
+  } else if (proof && !proof.here && !winner) {
+    add(proofWords(proof, {mover: thought?.mover ?? other(line[at].step.colour)}), 'proved');
+  }
   if (thought) {
     add(`With ${COLOURS[thought.mover]} to move:`, 'of');
     thoughtWords(thought).forEach(text => add(text));
@@ -93,14 +96,19 @@ function drawPositions() {
 
 /** A button that goes to the position before a move. */
 function moveButton(at, ...words) {
-  const button = htmlElement('button', {type: 'button', class: 'move'}, `${at + 1} `, ...moveLabel(report.positions[at].step), ...words);
+  const label = [`${at + 1} `, ...moveLabel(report.positions[at].step), ...words];
+  const button = htmlElement('button', {type: 'button', class: 'move'}, ...label);
   button.onclick = () => goTo(at);
   return button;
 }
 
 const points = value => `${Math.round(100 * value)}`;
-const shareWords = (share, colour) => (!share ? '' : share.proved ? ((share.value === 1) === (colour === 'b') ? 'wins' : 'lost')
-  : percent(colour === 'b' ? share.value : 1 - share.value));
+
+function shareWords(share, colour) {
+  if (!share) return '';
+  const value = colour === 'b' ? share.value : 1 - share.value;
+  return share.proved ? (value === 1 ? 'wins' : 'lost') : percent(value);
+}
 
 function moveRow(at) {
   const {step} = report.positions[at], thought = report.thoughts[at], {before, after, loss} = lossAt(at);
@@ -130,8 +138,10 @@ function goTo(at) {
   drawBoard(view, here);
   byId('said').replaceChildren(htmlElement('h2', {}, headOf(here)), ...wordsOf(here));
   drawPlot(byId('plot'), {count: LAST, points: shares, at: here, onPick: goTo});
-  [...document.querySelectorAll('#moves tbody tr')].forEach((row, number) => row.classList.toggle('current', number === here));
-  for (const [id, off] of [['first', here === 0], ['back', here === 0], ['forth', here === LAST], ['end', here === LAST]]) byId(id).disabled = off;
+  const rows = [...document.querySelectorAll('#moves tbody tr')];
+  rows.forEach((row, number) => row.classList.toggle('current', number === here));
+  for (const id of ['first', 'back']) byId(id).disabled = here === 0;
+  for (const id of ['forth', 'end']) byId(id).disabled = here === LAST;
 }
 
 const shares = line.map((_, at) => [at, shareAt(at)]).filter(([, share]) => share);

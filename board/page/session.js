@@ -42,10 +42,10 @@ class Session {
   /** Ends the session that was not used for the longest time, so that there is room for one more. */
   static async makeRoom() { await request('POST', 'room'); }
 
-  /** The bytes of a record, of whatever program, in hexd's form: {record, notes}, a text and sentences; Refused with why not. */
+  /** The bytes of a record, of whatever program, in hexd's form: {record, notes}, a text and sentences; or Refused. */
   static async convert(bytes) { return JSON.parse(await request('POST', 'convert', bytes)); }
 
-  /** Who is proved to win after Black's first stone on each cell of a size for which it is known: 'black' or 'white' by vertex. */
+  /** Who is proved to win after Black's first stone, by the cells of a size for which that is known: 'black' or 'white'. */
   static async winners(size) { return JSON.parse(await request('GET', `openings/${size}`)); }
 
   /** Who is proved to win after Black's first stone on this cell: 'black', 'white' or null. */

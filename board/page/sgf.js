@@ -38,7 +38,8 @@ function writeSgf(root) {
       continue;
     }
     const {properties, children} = item;
-    parts.push(';', ...Object.entries(properties).map(([name, values]) => name + values.map(value => `[${value}]`).join('')));
+    parts.push(';');
+    for (const [name, values] of Object.entries(properties)) parts.push(name, ...values.map(value => `[${value}]`));
     if (children.length === 1) left.push(children[0]);
     else for (const child of [...children].reverse()) left.push(')', child, '(');
   }

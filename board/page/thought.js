@@ -3,8 +3,8 @@
 // the answers and told in words.
 
 /**
- * Reads the answers. `mover` is 'b' or 'w', `cell` the move that hexd chose; answers that failed are null. What hexd proves is
- * of stones; `swap` says that White may still swap, by this move or by the next.
+ * Reads the answers. `mover` is 'b' or 'w', `cell` the move that hexd chose; answers that failed are null. What hexd proves
+ * is of stones; `swap` says that White may still swap, by this move or by the next.
  */
 function readThought({mover, cell, swap, mustplay, report, certificate, checked}) {
   const thought = {mover, cell, swap, certificate, checked, win: false, lost: false, allowed: null, threats: [], rows: []};
@@ -45,7 +45,8 @@ function dimmedOf(thought, size) {
 /** The share of wins for Black by what hexd said: {value, proved, swap}, a proved win being at the rim; or null. */
 function blackShare(thought) {
   if (thought.win || thought.lost) {
-    return {value: (thought.mover === 'b') === thought.win ? 1 : 0, proved: true, swap: thought.swap && !isWhitesWin(thought)};
+    const value = (thought.mover === 'b') === thought.win ? 1 : 0;
+    return {value, proved: true, swap: thought.swap && !isWhitesWin(thought)};
   }
   const row = thought.rows.find(([vertex]) => vertex === thought.cell);
   if (!row || !row[1]) return null;
@@ -63,7 +64,8 @@ function thoughtWords(thought) {
     return [`${mine} wins by ${thought.cell}: a certified win, against every reply${isWhitesWin(thought) ? '' : butSwap}.`];
   }
   if (thought.lost) {
-    said.push(`${mine} loses with every move${butSwap}: no cell lies in each of ${his}'s ${counted(thought.threats.length, 'threat')}.`);
+    const threats = counted(thought.threats.length, 'threat');
+    said.push(`${mine} loses with every move${butSwap}: no cell lies in each of ${his}'s ${threats}.`);
   } else if (thought.threats.length) {
     said.push(`${his} has ${counted(thought.threats.length, 'threat')}: a stone outside the ${
       counted(thought.allowed.size, 'allowed cell')} loses.`);
@@ -86,9 +88,9 @@ function bestTable(thought) {
   const best = bestMoves(thought);
   if (!best.length) return null;
   const cells = (tag, ...texts) => htmlElement('tr', {}, ...texts.map(text => htmlElement(tag, {}, text)));
-  return htmlElement('table', {class: 'best'},
-    htmlElement('thead', {}, cells('th', 'Move', 'Visits', `${COLOURS[thought.mover]} wins`)),
-    htmlElement('tbody', {}, ...best.map(([vertex, visits, won]) => cells('td', vertex, grouped(visits), percent(won / visits)))));
+  const rows = best.map(([vertex, visits, won]) => cells('td', vertex, grouped(visits), percent(won / visits)));
+  const head = cells('th', 'Move', 'Visits', `${COLOURS[thought.mover]} wins`);
+  return htmlElement('table', {class: 'best'}, htmlElement('thead', {}, head), htmlElement('tbody', {}, ...rows));
 }
 
 /** Reads what the solver said of a position, in whose first line `won COLOUR` has a certificate behind it. */
@@ -108,7 +110,6 @@ function solvedWords({first, winner, cell, proof, mover}) {
       : `Solved: ${name} wins, whatever ${COLOURS[mover]} plays (${lines}).`;
   }
   if (word === 'unknown') return `The solver entered ${grouped(first.split(' ')[1])} positions and did not come to an end.`;
-  if (word === 'too') return `Solved: ${name} wins; the certificate would have ${grouped(rest[1])} lines, more than there may be.`;
-  if (word === 'short') return `The solver's answer: ${first}.`;
+  if (word === 'too') return `Solved: ${name} wins; the certificate would have ${grouped(rest[1])} lines, too many.`;
   return winner ? `${name} has won.` : `The solver's answer: ${first}.`;
 }

@@ -9,9 +9,10 @@ const ENDINGS = ['resign', 'forfeit'];
 /** A position: the step that led to it ({colour, move}; null at the start), and all that is known of it. */
 class Position {
   constructor(tree, parent, step, properties = {}) {
-    // `seen` is the position after this one on the line that was seen last; `end` a resignation; `facts`, `thought` and `solved`
-    // are what hexd said.
-    Object.assign(this, {tree, parent, step, properties, children: [], seen: null, end: null, facts: null, thought: null, solved: null});
+    // `seen` is the position after this one on the line that was seen last, and `end` a resignation.
+    Object.assign(this, {tree, parent, step, properties, children: [], seen: null, end: null});
+    // What hexd and the solver said.
+    Object.assign(this, {facts: null, thought: null, solved: null});
     this.number = parent ? parent.number + 1 : 0;
   }
 
@@ -80,7 +81,7 @@ function treeOfMoves({size, start, steps, position = steps.length}) {
 
 const stonesIn = ({AB = [], AW = []}) => [...AB.map(vertex => ['b', vertex]), ...AW.map(vertex => ['w', vertex])];
 
-/** Adds what stands in a node that has no move to the position before it; `left` gets the names of what has no place there. */
+/** Adds what stands in a node without a move to the position before it; `left` gets the names of what has no place there. */
 function mergeProperties(position, properties, left) {
   for (const [name, values] of Object.entries(properties)) {
     if (name === 'C' && position.properties.C) position.properties.C = [[...position.properties.C, ...values].join('\n\n')];

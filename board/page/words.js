@@ -8,9 +8,11 @@ function stateOf(game, {thinking, players}) {
   if (winner) {
     const why = at.facts.winner ? '' : `: ${COLOURS[other(winner)]} resigns`;
     if (players.b === players.w) return {text: `${name} has won${why}.`, look: 'won'};
-    return players[winner] === 'I' ? {text: `You have won (${name})${why}.`, look: 'won'} : {text: `hexd has won (${name})${why}.`, look: 'lost'};
+    const isMine = players[winner] === 'I';
+    return {text: `${isMine ? 'You have' : 'hexd has'} won (${name})${why}.`, look: isMine ? 'won' : 'lost'};
   }
-  return players[mover] === 'hexd' ? {text: `hexd's turn (${name})`, look: 'theirs'} : {text: `Your turn (${name})`, look: 'mine'};
+  const isHexds = players[mover] === 'hexd';
+  return {text: `${isHexds ? 'hexd\'s' : 'Your'} turn (${name})`, look: isHexds ? 'theirs' : 'mine'};
 }
 
 /** Who joins what, where the board is empty. */
@@ -20,10 +22,13 @@ function aimWords(size) {
 }
 
 /** What the map of openings on an empty board means. */
-const mapWords = 'Proved, of each opening with a mark: a black one wins for Black, so White swaps; a white one for White, so he does not.';
+const mapWords = 'Proved, of each opening with a mark: a black one wins for Black, so White swaps; ' +
+  'a white one for White, so he does not.';
 
-const openingWords = (vertex, winner) =>
-  `Proved: after Black's ${vertex} ${COLOURS[winner]} wins; ${winner === 'b' ? 'a swap takes the win' : 'a swap gives the win away'}.`;
+function openingWords(vertex, winner) {
+  const swap = winner === 'b' ? 'takes the win' : 'gives the win away';
+  return `Proved: after Black's ${vertex} ${COLOURS[winner]} wins; a swap ${swap}.`;
+}
 
 /** What stands under 'What hexd thinks', as elements: what is proved first, then what hexd said. */
 function thoughtElements(game, proof, openings) {
@@ -49,7 +54,8 @@ function thoughtElements(game, proof, openings) {
 /** The names, the result and the comment of a record, as elements. */
 function recordElements(game) {
   const of = game.tree.root.properties, value = name => (of[name] ?? []).map(plainValue).join(' '), made = [];
-  const players = [['Black', 'PB'], ['White', 'PW']].filter(([, name]) => value(name)).map(([colour, name]) => `${colour}: ${value(name)}`);
+  const names = [['Black', 'PB'], ['White', 'PW']].filter(([, name]) => value(name));
+  const players = names.map(([colour, name]) => `${colour}: ${value(name)}`);
   const facts = ['GN', 'EV', 'DT', 'PC'].map(value).filter(Boolean);
   if (players.length) made.push(htmlElement('p', {class: 'names'}, players.join(', ')));
   if (facts.length) made.push(htmlElement('p', {class: 'none'}, facts.join(', ')));

@@ -199,7 +199,8 @@ class Lasting(Pages):
     def test_keys(self):
         browser = self.start("5,c3,b3,d2,a1")
         browser.cell("e5")
-        for key, moves in ((Keys.ARROW_LEFT, 4), (Keys.ARROW_LEFT, 3), (Keys.ARROW_RIGHT, 4), (Keys.HOME, 0), (Keys.END, 5), ("u", 4)):
+        left, right = Keys.ARROW_LEFT, Keys.ARROW_RIGHT
+        for key, moves in ((left, 4), (left, 3), (right, 4), (Keys.HOME, 0), (Keys.END, 5), ("u", 4)):
             browser.keys(key)
             self.soon(moves, lambda: len(self.moves()))
         ActionChains(browser.driver).key_down(Keys.CONTROL).send_keys("z").key_up(Keys.CONTROL).perform()
@@ -239,7 +240,8 @@ class Lasting(Pages):
             browser.click("#hint")
             self.soon_in(f"of {name} visits", "#words")
         options = [(option.get_attribute("value"), option.text) for option in browser.all("#strength option")]
-        self.assertEqual([("200", "as started (200)"), ("10000", "quick"), ("100000", "normal"), ("1000000", "strong")], options)
+        want = [("200", "as started (200)"), ("10000", "quick"), ("100000", "normal"), ("1000000", "strong")]
+        self.assertEqual(want, options)
 
     def test_hexd_moves_after_a_reload(self):
         browser = self.start("4,b2,c3", players=("I", "I"))
@@ -279,6 +281,7 @@ class Lasting(Pages):
         self.soon_in("hexd was ended by signal 9 (Killed)", "#alert")
         self.browser.faults()
         browser.driver.back()
+        self.soon("5,c3,b3", self.link)
         browser.click("#again")
         self.soon("5,c3,b3", self.link)
         browser.cell("a1")

@@ -25,7 +25,10 @@ class Records(Pages):
             (b"(;SZ[14];B[a1])", "hexd: size 14: hexd plays 1 to 11"),
             (b"(;SZ[3];B[b2];W[b2])", "hexd: move 2 is illegal: White b2, for there is a stone on it"),
             (b"(;SZ[3];B[b2];W[d1])", "hexd: move 2 is illegal: White d1, for the board of size 3 has no such cell"),
-            (b"(;SZ[3];B[b2];W[c3];B[swap])", "hexd: move 3 is illegal: Black swap-pieces, for only White may swap, and only Black's first stone"),
+            (
+                b"(;SZ[3];B[b2];W[c3];B[swap])",
+                "hexd: move 3 is illegal: Black swap-pieces, for only White may swap, and only Black's first stone",
+            ),
             (b"(;SZ[3];B[b2];W[x-y])", "hexd: move 2 is no move: White 'x-y'"),
         ):
             with self.subTest(record=record):
@@ -39,8 +42,10 @@ class Records(Pages):
 
     def test_what_a_record_says_is_kept(self):
         browser = self.start()
-        record = ("(;FF[4]GM[11]SZ[5]PB[An\\]na]PW[\u00c5se]RE[B+R]GN[A game]C[Begins];B[c3]C[The middle];W[b3](;B[d2];W[resign])"
-                  "(;B[a1]C[Weak];W[a2]))")
+        record = (
+            "(;FF[4]GM[11]SZ[5]PB[An\\]na]PW[\u00c5se]RE[B+R]GN[A game]C[Begins];B[c3]C[The middle];W[b3]"
+            "(;B[d2];W[resign])(;B[a1]C[Weak];W[a2]))"
+        )
         self.opened(record.encode())
         self.soon("5,c3,b3,d2", self.link)
         self.soon("Black: An]na, White: \u00c5se", self.words("#record .names"))

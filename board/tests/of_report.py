@@ -56,7 +56,7 @@ class Reports(unittest.TestCase):
             ("", "it is no record of a game"),
             ("(;SZ[14];B[a1])", "size 14: hexd plays 1 to 11"),
             (GAME.replace("d4", "c4"), "move 7 is illegal: Black c4, for there is a stone on it"),
-            ("(;GM[11]SZ[3];B[b2];W[b1](;B[z9])(;B[a1]))", "move 3 is illegal: Black z9, for the board of size 3 has no such cell"),
+            ("(;SZ[3];B[b2](;W[z9])(;W[a1]))", "move 2 is illegal: White z9, for the board of size 3 has no such cell"),
             ("(;GM[11]SZ[1];B[a1];W[a1])", "move 2 is illegal: White a1, for Black has won before"),
         ):
             run = self.report(record)

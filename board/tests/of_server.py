@@ -6,20 +6,16 @@ import lzma
 import os
 import resource
 import signal
-import socket
-import subprocess
-import sys
 import tempfile
 import threading
 import time
 import unittest
 from pathlib import Path
 
-from tests.support import LIMIT_SECONDS, ROOT, SMALL, Server, children, dying, is_running, until
+from tests.support import LIMIT_SECONDS, ROOT, Server, is_running, until
 
 import hexd
 import sessions
-import settings
 from openings import Openings
 
 RECORD = "(;FF[4]GM[11]SZ[3];B[a2];W[swap-pieces];B[c3])"
@@ -59,7 +55,8 @@ class Requests(unittest.TestCase):
         self.refused(403, self.server.request("POST", "session", b"", token=""))
         for host in ("example.org", f"example.org:{self.server.port}", "127.0.0.1", "127.0.0.1:1", ""):
             got = self.server.request("POST", "session", b"", headers={"Host": host})
-            self.assertEqual((403, f"the Host of the request is not this server, which is 127.0.0.1:{self.server.port}"), got)
+            why = f"the Host of the request is not this server, which is 127.0.0.1:{self.server.port}"
+            self.assertEqual((403, why), got)
         for origin in ("null", "http://example.org", "http://127.0.0.1:1", own.replace("http", "https")):
             self.refused(403, self.server.request("POST", "session", b"", headers={"Origin": origin}))
 
@@ -92,7 +89,8 @@ class Requests(unittest.TestCase):
         self.refused(404, self.server.request("DELETE", "session/none"))
         for path in ("none", f"session/{name}", f"session/{name}/other", "session/", f"session/{name}/htp/x"):
             self.refused(404, self.server.post(path, b"name"))
-        for path in ("none.js", "../serve.py", "..%2fserve.py", "session", "page/board.js", "openings/12-a1", "openings/../x"):
+        paths = ("none.js", "../serve.py", "..%2fserve.py", "session", "page/board.js", "openings/12-a1", "openings/../x")
+        for path in paths:
             self.refused(404, self.server.request("GET", path))
         self.assertEqual(200, self.server.request("DELETE", f"session/{name}")[0])
         self.refused(404, self.server.post(f"session/{name}/htp", b"name"))
@@ -167,11 +165,11 @@ class Requests(unittest.TestCase):
 
     def test_records_of_other_programs(self):
         status, text = self.server.post("convert", b"\xef\xbb\xbf x (;SZ[3]C[\xe9];B[A2];W[swap];B[cc];W[resign])")
-        want = {"record": "(;FF[4]GM[11]SZ[3]C[\u00e9];B[a2];W[swap-pieces];B[c3];W[resign])", "notes": ["White resigns at move 4."]}
-        self.assertEqual((200, want), (status, json.loads(text)))
+        record, notes = "(;FF[4]GM[11]SZ[3]C[\u00e9];B[a2];W[swap-pieces];B[c3];W[resign])", ["White resigns at move 4."]
+        self.assertEqual((200, {"record": record, "notes": notes}), (status, json.loads(text)))
         for given, record, note in (
             # Colours, players and result are exchanged, and rows with columns.
-            (b"(;SZ[11]PB[a]PW[b]RE[W+R];W[fc];B[swap];W[ab])", "SZ[11]PW[a]PB[b]RE[B+R];B[c6];W[swap-pieces];B[b1])", "White begins"),
+            (b"(;SZ[9]PB[a]RE[W+R];W[fc];B[swap];W[ab])", "SZ[9]PW[a]RE[B+R];B[c6];W[swap-pieces];B[b1])", "White begins"),
             (b"(;SZ[5:5];B[a3];W[swap-sides];W[b2])", "SZ[5];B[a3];;W[b2])", "Move 2 swaps sides"),
             (b"(;SZ[3];B[tt];W[PASS];B[C1])", "SZ[3];;;B[c1])", "Move 1 is a pass of Black's"),
             (b"(;SZ[3]AB[A1][bb];W[c2])(;SZ[9])", "SZ[3]AB[a1][b2];W[c2])", "The file has 2 games"),
@@ -269,111 +267,6 @@ class Requests(unittest.TestCase):
         return held if held == self.server.held() else None
 
 
-class Ends(unittest.TestCase):
-    """Servers that are started and ended, each in another way."""
-
-    def test_by_signals(self):
-        for number, status in ((signal.SIGINT, 0), (signal.SIGTERM, 143), (signal.SIGHUP, 129), (signal.SIGKILL, -9)):
-            with self.subTest(signal=number):
-                server = Server()
-                server.session(), server.session()
-                pids = server.engines()
-                self.assertEqual(2, len(pids))
-                self.assertEqual(status, server.end(number))
-                until(lambda: not any(map(is_running, pids)), "its processes have ended")
-
-    def test_while_it_thinks(self):
-        server = Server("--playouts", "1000000", "--hsearch", "off")
-        name, got = server.session(), []
-        thinking = threading.Thread(target=lambda: got.append(attempt(server, name)))
-        thinking.start()
-        pids = until(server.engines, "there is a process")
-        self.assertEqual(0, server.end())
-        until(lambda: not any(map(is_running, pids)), "its process has ended")
-        thinking.join(LIMIT_SECONDS)
-        self.assertFalse(thinking.is_alive())
-
-    def test_a_taken_port(self):
-        with Server() as server:
-            again = ran("--port", str(server.port))
-            self.assertEqual((1, ""), (again.returncode, again.stdout))
-            self.assertEqual(1, len(again.stderr.splitlines()))
-        with Server(port=()) as one, Server(port=()) as two:
-            self.assertLess(one.port, two.port)
-            self.assertEqual(200, two.request("GET", "")[0])
-
-    def test_on_this_machine_alone(self):
-        with Server() as server, self.assertRaises(OSError):
-            socket.create_connection(("127.0.0.2", server.port), LIMIT_SECONDS)
-
-    def test_wrong_words(self):
-        hexds = "hexd: usage\nhexd-board: hexd refuses these words: "
-        for words, said in (
-            (["--", "--size", "12"], hexds + f"{BEST} --size 12\n"),
-            (["--plyouts", "5"], "hexd-board: unrecognized arguments: --plyouts 5 (--help has all words)\n"),
-            (["--playouts", "0"], wrong("playouts", "0", "1 to 1,000,000")),
-            (["--weight", "2000"], wrong("weight", "2000", "0 to 1,024")),
-            (["--workers=x"], wrong("workers", "x", "1 to 64")),
-            (["--port", "99999"], wrong("port", "99999", "0 to 65,535")),
-            (["--", "--playouts", "0"], wrong("playouts", "0", "1 to 1,000,000")),
-        ):
-            with self.subTest(words=words):
-                run = ran("--port", "0", *words)
-                self.assertEqual((2, "", said), (run.returncode, run.stdout, run.stderr))
-
-    def test_what_it_searches_with(self):
-        for words, want in (
-            ([], {"playouts": 100_000, "weight": 0, "workers": settings.BEST["workers"]}),
-            (["--playouts", "500", "--weight", "180", "--workers", "2"], {"playouts": 500, "weight": 180, "workers": 2}),
-        ):
-            with Server(words=words, small=False) as server:
-                self.assertEqual(want, json.loads(server.request("GET", "settings")[1]))
-                session = server.session()
-                (pid,) = server.engines()
-                given = Path(f"/proc/{pid}/cmdline").read_text().split("\0")
-                self.assertEqual({f"--{name}={value}" for name, value in want.items()}, {word for word in given if word.startswith("--")})
-                self.assertEqual(200, server.request("DELETE", f"session/{session}")[0])
-                server.end()
-                self.assertIn(f"hexd searches {settings.told(want)}.", server.errors)
-
-    def test_it_opens_a_browser(self):
-        with tempfile.TemporaryDirectory() as folder:
-            browser, opened = Path(folder) / "browser", Path(folder) / "opened"
-            browser.write_text(f'#!/bin/sh\necho "$1" >{opened}.new; mv {opened}.new {opened}\n')
-            browser.chmod(0o755)
-            with Server(words=["--open"], environment={"BROWSER": f"{browser} %s"}) as server:
-                until(opened.exists, "the browser is started")
-                self.assertEqual(server.address, opened.read_text().strip())
-
-    def test_it_listens_elsewhere(self):
-        with Server(words=["--listen", "127.0.0.2"]) as server:
-            self.assertEqual("127.0.0.2", server.host)
-            self.assertEqual(200, server.request("GET", "")[0])
-        with Server(words=["--listen", "0.0.0.0"]) as server:
-            for host in ("127.0.0.1", "127.0.0.2"):
-                server.host = host
-                self.assertEqual(200, server.request("GET", "")[0])
-                self.assertEqual(403, server.request("GET", "", token="x")[0])
-                got = server.request("GET", "", headers={"Host": "example.org"})
-                self.assertEqual((403, f"the Host of the request is not this server, which is {host}:{server.port}"), got)
-            server.end()
-            self.assertIn("hexd-board: warning: other machines can reach this server.", server.errors)
-        self.assertEqual(1, ran("--port", "0", "--listen", "192.0.2.1").returncode)
-
-    def test_an_idle_session(self):
-        with tempfile.TemporaryDirectory() as folder:
-            table = sessions.Sessions(hexd.PROGRAM, settings.BEST, [], folder)
-            idle, used = table.make(), table.make()
-            table.open[idle].used -= sessions.IDLE_SECONDS + 1
-            table.end_idle()
-            self.assertEqual("= hexd", table.ask(used, "name"))
-            with self.assertRaises(sessions.Refusal) as refused:
-                table.ask(idle, "name")
-            self.assertEqual(410, refused.exception.status)
-            table.close()
-            self.assertEqual([], os.listdir(folder))
-
-
 class Shelves(unittest.TestCase):
     """Openings whose winner a certificate shows."""
 
@@ -399,23 +292,3 @@ class Shelves(unittest.TestCase):
             self.assertEqual({"a1": "white", "c3": "white"}, {vertex: winner for vertex, winner in found.items() if winner})
             self.assertIsNone(openings.winner(4, "a1"))
             self.assertIsNone(Openings(hexd.PROGRAM, Path(folder) / "none").winner(3, "a1"))
-
-
-BEST = " ".join(settings.words_of(settings.BEST))
-
-
-def wrong(name, word, span):
-    return f"hexd-board: argument --{name}: '{word}' is no number from {span} (--help has all words)\n"
-
-
-def ran(*words):
-    """A start of the server that is refused."""
-    command = dying(ROOT / "bin/hexd-board", *words)
-    return subprocess.run(command, stdin=subprocess.DEVNULL, capture_output=True, text=True, timeout=LIMIT_SECONDS)
-
-
-def attempt(server, name):
-    try:
-        return server.ask(name, "genmove b")
-    except (AssertionError, OSError, http.client.HTTPException) as fault:
-        return str(fault)

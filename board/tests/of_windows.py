@@ -16,7 +16,8 @@ class Windows(Pages):
                     self.browser.click("#hint")
                     self.browser.run("scrollTo(0, 0)")
                     self.assertTrue(self.fits())
-                    self.assertTrue(self.browser.run("const side = document.querySelector('aside'); return side.scrollWidth <= side.clientWidth"))
+                    across = "const side = document.querySelector('aside'); return side.scrollWidth - side.clientWidth"
+                    self.assertEqual(0, self.browser.run(across))
                     if name in ("wide", "laptop"):
                         self.assertEqual(size[0], self.browser.run("return document.documentElement.clientWidth"))
                     for css in ("#status", "#board", "#back", "#undo", "#hint", "#go", "#new"):
@@ -28,7 +29,8 @@ class Windows(Pages):
     def is_seen(self, css, size):
         """Whether all of an element is inside the window."""
         box = self.browser.run("return document.querySelector(arguments[0]).getBoundingClientRect().toJSON()", css)
-        return box["width"] > 0 and box["left"] >= 0 and box["top"] >= 0 and box["right"] <= size[0] and box["bottom"] <= size[1]
+        begins = box["width"] > 0 and box["left"] >= 0 and box["top"] >= 0
+        return begins and box["right"] <= size[0] and box["bottom"] <= size[1]
 
     def test_sizes_from_1_to_11(self):
         browser = self.start()

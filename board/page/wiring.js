@@ -1,0 +1,75 @@
+'use strict';
+// What each button, switch and key of the page does.
+
+// The keys that are buttons of the bar, and those with Ctrl.
+const KEYS = {ArrowLeft: 'back', ArrowRight: 'forth', Home: 'first', End: 'end', u: 'undo'};
+const CONTROL_KEYS = {z: 'undo'};
+
+function wire(play) {
+  wireBar(play);
+  wireChoices(play);
+  wireFiles(play);
+  wireSwitches(play);
+  addEventListener('keydown', press);
+  addEventListener('popstate', ({state}) => play.goBack(state));
+  addEventListener('pagehide', () => play.game.session?.close());
+}
+
+/** The bar below the board. */
+function wireBar(play) {
+  const {game} = play, on = (id, use) => byId(id).addEventListener('click', use);
+  const act = (use, goOn) => () => play.act(use, goOn);
+  const go = to => act(() => to() && game.goTo(to()));
+  on('first', go(() => game.tree.root));
+  on('back', go(() => game.at.parent));
+  on('forth', go(() => game.at.next));
+  on('end', go(() => game.tree.line.at(-1)));
+  on('undo', act(() => play.undo()));
+  on('hint', act(() => play.hint()));
+  on('go', act(() => play.letHexdMove(), true));
+  on('stop', () => play.stop());
+  on('swap', act(() => game.play(SWAP), true));
+  on('new', () => play.begin(game.size));
+  on('again', () => play.again(false));
+  on('room', () => play.again(true));
+}
+
+/** The size, and what is asked of hexd beside moves. */
+function wireChoices(play) {
+  const sizes = [...Array(LETTERS.length).keys()].map(at => htmlElement('option', {value: at + 1}, `${at + 1}`));
+  byId('size').append(...sizes);
+  byId('size').addEventListener('change', ({target: {value}}) => play.begin(Number(value)));
+  byId('analyse').addEventListener('click', () => play.act(() => play.analyse()));
+  byId('prove').addEventListener('click', () => play.act(() => play.prove()));
+}
+
+/** What lasts over a reload: players, strength, and what is shown. */
+function wireSwitches(play) {
+  for (const element of kept.elements()) {
+    element.addEventListener('change', () => {
+      kept.save();
+      play.draw();
+    });
+  }
+  for (const id of ['player-b', 'player-w']) {
+    byId(id).addEventListener('change', () => play.act(async () => {}, !play.game.at.next));
+  }
+  byId('strength').addEventListener('change', () => play.act(() => {
+    play.game.session.close();
+    return play.renew();
+  }));
+  new ResizeObserver(() => {
+    play.panel.drawBoard();
+    play.view.scale();
+  }).observe(byId('stage'));
+}
+
+/** A key that is a button's. In a box keys write, and on the board the arrows go over the cells. */
+function press(event) {
+  const {key, ctrlKey, metaKey, altKey, shiftKey, target} = event;
+  const id = (ctrlKey || metaKey ? CONTROL_KEYS : KEYS)[key];
+  if (!id || altKey || shiftKey || target.closest('input[type=text], select, textarea')) return;
+  if (key.startsWith('Arrow') && target.closest('#board')) return;
+  event.preventDefault();
+  byId(id).click();
+}
