@@ -34,8 +34,10 @@ function lossAt(at) {
 
 /** What the record's own move makes of what hexd proved: `[words]` where it is proved to be bad, else none. */
 function faults(at) {
-  const {step} = report.positions[at], thought = report.thoughts[at], after = proofs[at + 1];
+  const {step} = report.positions[at], thought = report.thoughts[at], [before, after] = [proofs[at], proofs[at + 1]];
   if (!step || !thought || thought.mover !== step.colour) return [];
+  // Who has lost by a proof can't lose more.
+  if (before && before.player !== step.colour) return [];
   // What is proved is of stones: a first move that would have been swapped gives nothing away, and a swap is no stone.
   if (thought.swap && (thought.mover === 'b' || step.move === SWAP)) return [];
   if (thought.win && after && after.player !== step.colour) return ['This move gives the win away.'];

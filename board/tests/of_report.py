@@ -93,15 +93,20 @@ def in_browser(shots):
                 self.browser.click("#forth")
             return self.browser.text("#said")
 
+        def bad(self):
+            """The moves of the table that are told to be bad."""
+            return [row.text.split("\n")[0][:4] for row in self.browser.all("#moves tr.bad")]
+
         def test_a_whole_game(self):
             self.open(GAME)
             browser = self.browser
             self.assertEqual(12, len(browser.all("#moves tbody tr")))
             self.assertEqual(1, len(browser.all("svg.board")))
             self.assertTrue(browser.all("#plot .mark.proved"))
-            self.assertEqual(2, len(browser.all("#moves tr.bad")))
+            self.assertEqual(["3 d3", "4 a1", "5 a2"], self.bad())
             self.assertEqual("a game.sgf", browser.text("h1"))
             self.assertIn("The start", browser.text("#said"))
+            self.assertIn("This move is outside a threat: after it White wins.", self.to(2))
             self.assertIn("hexd check accepts it, in a process of its own.", self.to(3))
             self.assertIn("This move gives the win away.", browser.text("#said"))
             self.assertEqual(4, len(browser.all("#stage .stone")) + 1)
@@ -165,12 +170,12 @@ def in_browser(shots):
         def test_a_swapped_game(self):
             self.open(SWAPPED)
             self.assertEqual(4, len(self.browser.all("#moves tbody tr")))
-            # The swap and the move before it give nothing away; the two moves after it do.
-            self.assertEqual(["3 a2", "4 c1"], [row.text.split("\n")[0][:4] for row in self.browser.all("#moves tr.bad")])
+            # Black has lost before his second move, so that White's second alone gives something away.
+            self.assertEqual(["4 c1"], self.bad())
             self.assertIn("a certified win, against every reply but a swap.", self.to(0))
             self.assertIn("White loses with every move but a swap", self.to(1))
             self.assertIn("White swaps", self.browser.text("#said"))
-            self.assertIn("This move is outside a threat: after it White wins.", self.to(2))
+            self.assertIn("Black loses with every move", self.to(2))
             self.assertIn("This move gives the win away.", self.to(3))
 
         test_a_report_stands_alone = test_what_is_refused = test_standard_input = None
