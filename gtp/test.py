@@ -15,6 +15,8 @@ WITH, WITHOUT = [str(BIN / "hexd-gtp")], [str(BIN / "hexd"), "htp"]
 # Far longer than any step takes: only what waits for good reaches it.
 LIMIT = 120
 SMALL = ["--size", "3", "--playouts", "200"]
+# A search whose tree may take 142 MB.
+LARGE = "--hsearch off --playouts 1000000 --expand 1 --words 16777216".split()
 
 # A session on size 3: each command with what is written for it.
 ROWS = [
@@ -73,9 +75,9 @@ ROWS = [
     ("printsgf", "= (;FF[4]GM[11]SZ[3];B[b2];W[a1])\n\n"),
     ("reg_genmove red", "? syntax error\n\n"),
     ("reg_genmove", "? syntax error\n\n"),
-    # Black joins by b1 or c1 above, and by a3 or b3 below.
-    ("3 reg_genmove b", "=3 b1\n\n"),
-    ("mustplay-cells", "= b1\n\n"),
+    # Black's stone joins both edges already, by b1 or c1 above and by a3 or b3 below: each of his moves wins.
+    ("3 reg_genmove b", "=3 c2\n\n"),
+    ("mustplay-cells", "= c2\n\n"),
     ("search-visits", "? no search\n\n"),
     ("printsgf", "= (;FF[4]GM[11]SZ[3];B[b2];W[a1])\n\n"),
     ("known_command", "? syntax error\n\n"),
@@ -213,7 +215,7 @@ def ending_faults():
     os.kill(hexd, 9)
     if process.wait(LIMIT) != 128 + 9:
         yield f"hexd was killed: status {process.returncode}"
-    process, hexd = start(SMALL + ["--hsearch", "off"], stderr=subprocess.PIPE)
+    process, hexd = start(LARGE, stderr=subprocess.PIPE)
     resource.prlimit(hexd, resource.RLIMIT_AS, (1 << 26, 1 << 26))
     process.stdin.write(b"play b a1\ngenmove w\nname\n")
     process.stdin.flush()

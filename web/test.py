@@ -130,7 +130,8 @@ class Module(InBrowser):
 
     def test_out_of_memory(self):
         self.open()
-        asked = [(Case(("htp",)), [b"name\ngenmove b\nname\n"]), (Case(("bench",)), [])]
+        large = ("--playouts", "1000000", "--expand", "1", "--words", "16777216")
+        asked = [(Case(("htp", *large)), [b"name\ngenmove b\nname\n"]), (Case(("bench", *large)), [])]
         for got in self.ran(asked, FEW_PAGES):
             self.assertEqual((5, "hexd: out of memory\n"), (got.get("status"), got["err"]), got)
 
