@@ -16,10 +16,12 @@ HEXD names the program; if it isn't set that is bin/hexd. Nothing here is proved
 
 import argparse
 import os
+import re
 import signal
 import subprocess
 import sys
 import tempfile
+import time
 from pathlib import Path
 
 from openings import ENDING, FOLDER, KINDS, MEASURED, can_unpack, opening_named, openings_of, vertex
@@ -30,6 +32,29 @@ from programs import HEXD, checked
 
 BUDGET = 10_000_000
 INTERRUPTED = 130
+# Between two looks at the memory, in seconds.
+TICK = 0.05
+
+
+def most_memory(process, before):
+    """The most memory that a process has had, in MB (VmHWM): what it was before, if the process has ended."""
+    try:
+        status = Path(f"/proc/{process.pid}/status").read_text()
+    except OSError:
+        return before
+    found = re.search(r"VmHWM:\s+(\d+)", status)
+    return int(found[1]) / 1024 if found else before
+
+
+def ended(process):
+    """Waits for a process: its use of the system, and the most memory that was seen. (wait4 would count this one's.)"""
+    megabytes = most_memory(process, 0)
+    while (found := os.wait4(process.pid, os.WNOHANG))[0] == 0:
+        time.sleep(TICK)
+        megabytes = most_memory(process, megabytes)
+    _, status, usage = found
+    process.returncode = os.waitstatus_to_exitcode(status)
+    return usage, megabytes
 
 
 def solved(opening, budget):
@@ -39,13 +64,12 @@ def solved(opening, budget):
         given.seek(0)
         process = subprocess.Popen([HEXD, "solve", "--budget", str(budget)], stdin=given, stdout=said)
         try:
-            _, status, usage = os.wait4(process.pid, 0)
+            usage, megabytes = ended(process)
         except KeyboardInterrupt:
             process.kill()
             raise
-        process.returncode = os.waitstatus_to_exitcode(status)
         said.seek(0)
-        return said.read(), usage.ru_utime + usage.ru_stime, usage.ru_maxrss / 1024
+        return said.read(), usage.ru_utime + usage.ru_stime, megabytes
 
 
 def write(path, text):

@@ -7,7 +7,8 @@ HEAD = """# Openings solved
 `openings/draw.py` writes this page from openings/measured.tsv, to which `openings/find.py` adds a row for each opening \
 that `hexd solve` wins, with a budget of 10,000,000. An opening and its half turn have a row each. Each certificate was \
 accepted by `hexd check` and by tools/second_checker.py. The seconds are processor time of one thread, on a machine that \
-was busy with other work, where the same run takes up to a third longer than alone. No test compares them.
+was busy with other work, where the same run takes up to a third longer than alone. MB is the most memory that was seen \
+by a look twenty times a second; a run that was too short for one has none. No test compares them.
 
 `openings/find.py --again --whole --out mine 6` makes all of 6 by 6 anew. `bin/hexd solve <GAME.sgf | \
 examples/winning_move.py` prints the winning move of an answer.
@@ -44,7 +45,7 @@ def page(measured):
     parts = [HEAD, table(head, [summary(size, entries) for size, entries in sizes.items()])]
     for size, entries in sizes.items():
         rows = [
-            (vertex(*opening), entry.winner, f"{entry.lines:,}", f"{entry.seconds:.1f}", entry.megabytes)
+            (vertex(*opening), entry.winner, f"{entry.lines:,}", f"{entry.seconds:.1f}", entry.megabytes or "-")
             for opening, entry in entries
         ]
         parts.append(f"\n## {size} by {size}\n\n" + table(("stone", "winner", "lines", "seconds", "MB"), rows))
