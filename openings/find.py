@@ -134,7 +134,12 @@ def main():
     if not openings or not can_unpack():
         print("openings/find.py: no opening is named, or this python3 has no lzma", file=sys.stderr)
         return 1
-    options.out.mkdir(parents=True, exist_ok=True)
+    try:
+        options.out.mkdir(parents=True, exist_ok=True)
+        open(options.out / MEASURED.name, "a").close()  # Before the search, which may take long.
+    except OSError as fault:
+        print(f"openings/find.py: {options.out} can't be written: {fault.strerror}", file=sys.stderr)
+        return 1
     checked(b"")  # Where it has to be built.
     missing = 0
     for opening in openings:

@@ -160,6 +160,10 @@ def expect_found(folder):
     expect(status == 0 and len(said) == 9, f"find.py --whole 3: status {status}, {said}")
     rows = [line.split("\t") for line in (folder / MEASURED.name).read_text().splitlines()]
     expect(len(rows) == 14 and {len(row) for row in rows} == {5}, f"the rows of find.py: {rows}")
+    done = subprocess.run([FOLDER / "find.py", "--out", FOLDER / "find.py", "3-a1"], capture_output=True, text=True)
+    seen = (done.returncode, done.stdout, done.stderr.splitlines())
+    want = (1, "", [f"openings/find.py: {FOLDER / 'find.py'} can't be written: File exists"])
+    expect(seen == want, f"find.py to a file in place of a folder: {seen}")
     status, said = find("--out", folder, "--budget", "1", "7-b3")
     expect(status == 1 and len(said) == 1 and "unknown 1;" in said[0], f"find.py with a small budget: {status}, {said}")
 
