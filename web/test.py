@@ -362,6 +362,15 @@ def pages(options, folder):
     return made, small
 
 
+def chosen(names, is_long):
+    """The tests whose names have one of these in them, or all."""
+    loader = unittest.TestLoader()
+    kinds = [Module, Heap, Page, *[InFirefox] * bool(is_long and FIREFOX)]
+    suite = [test for it in kinds for test in loader.loadTestsFromTestCase(it)]
+    suite += of_board(InBrowser.small, InBrowser.browser, is_long)
+    return unittest.TestSuite(test for test in suite if not names or any(name in test.id() for name in names))
+
+
 def run(options, folder):
     from tests.browser import Browser
 
@@ -371,16 +380,17 @@ def run(options, folder):
     InBrowser.browser.driver.set_script_timeout(CALL_SECONDS)
     if options.long:
         InBrowser.sizes, InBrowser.games = LONG, LONG_GAMES
-    loader = unittest.TestLoader()
-    kinds = [Module, Heap, Page, *[InFirefox] * bool(options.long and FIREFOX)]
-    suite = [test for it in kinds for test in loader.loadTestsFromTestCase(it)]
-    suite += of_board(InBrowser.small, InBrowser.browser, options.long)
-    chosen = [test for test in suite if not options.names or any(name in test.id() for name in options.names)]
     told = io.StringIO()
-    result = unittest.TextTestRunner(stream=told, verbosity=2).run(unittest.TestSuite(chosen))
-    if not result.wasSuccessful():
-        print(told.getvalue(), file=sys.stderr)
-        return 1
+    result = unittest.TextTestRunner(stream=told, verbosity=2).run(chosen(options.names, options.long))
+    late = [test.id() for test, _ in result.failures + result.errors]
+    # A browser on a busy machine may be late once, but not twice.
+    if late:
+        again = unittest.TextTestRunner(stream=io.StringIO()).run(chosen(late, options.long))
+        if not again.wasSuccessful() or again.testsRun != len(late):
+            print(told.getvalue(), file=sys.stderr)
+            return 1
+    for name in late:
+        print(f"web/test.py: passed at the second try alone: {name}", file=sys.stderr)
     print(f"web/test.py: {result.testsRun} tests passed", file=sys.stderr)
     return 0
 
