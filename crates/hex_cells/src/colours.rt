@@ -13,7 +13,7 @@ pub enum Colour {
 }
 
 impl Colour {
-    ghost use Rattle.hex_cells.specs.Colours.{other_of};
+    ghost use Rattle.hex_cells.specs.Colours.{colour_word, other_of};
 
     /// The other player.
     pub fn other(self) -> Colour
@@ -22,6 +22,16 @@ impl Colour {
         match self {
             Colour::Black => Colour::White,
             Colour::White => Colour::Black,
+        }
+    }
+
+    /// The player's name in text: `black` or `white`.
+    pub fn word(self) -> &'static [u8]
+        ensures { result.now ≡ colour_word self }
+    {
+        match self {
+            Colour::Black => b"black",
+            Colour::White => b"white",
         }
     }
 }

@@ -1,7 +1,10 @@
-//! Small numbers in decimal: the rows of vertices, of pictures and of records.
+//! Numbers in decimal: small ones (the rows of vertices, of pictures and of records) into bytes of
+//! the caller, and any at the end of a text.
 
-ghost use Rattle.std.specs.Prelude.{◌≡◌, ◌<◌, ◌≤◌, drop, length, take};
+ghost use Rattle.std.specs.Prelude.{◌≡◌, ◌<◌, ◌≤◌, ◌++◌, OnOk, drop, length, take};
 ghost use Rattle.std.specs.Fmt.{decimal};
+
+use std::alloc::{AllocError, Global};
 
 /// Bytes that are room for the decimal of any number below 100.
 pub const DECIMAL_LEN: usize = 2;
@@ -23,4 +26,12 @@ pub fn write_decimal(number: u32, out: &mut [u8]) -> usize
         out[1] = b'0' + (number % 10) as u8;
         2
     }
+}
+
+/// Writes a number in decimal, without leading zeros, at the end of the text. It refuses only if
+/// memory runs out.
+pub fn push_number(alloc: Global, text: &mut Vec<u8>, number: u64) -> Result<(), AllocError>
+    ensures { OnOk result (text.new.items ≡ text.old.items ++ decimal number) }
+{
+    text.extend_from_slice(number.to_string(alloc)?.as_bytes())
 }
