@@ -2,6 +2,7 @@
 pub mod Parts
 pub mod Roots
 pub mod Search
+pub mod EmptyBoards
 pub mod WinLaws
 pub mod GroupLaws
 pub mod Places

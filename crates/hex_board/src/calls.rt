@@ -5,8 +5,8 @@ ghost use Rattle.std.specs.Prelude.{IsTrue, MatchOption};
 ghost use Rattle.hex_cells.specs.Sets.{has};
 ghost use Rattle.hex_cells.specs.Colours.{other_of};
 ghost use Rattle.hex_board.specs.Joined.{Joined, is_joined, winner_of};
-ghost use Rattle.hex_board.specs.Positions.{Apart, HasStone, Within, stones_of, is_empty_at};
-ghost use Rattle.hex_board.specs.Positions.{placed, stone_at};
+ghost use Rattle.hex_board.specs.Positions.{Apart, HasStone, Within, empty_board, stones_of};
+ghost use Rattle.hex_board.specs.Positions.{is_empty_at, placed, stone_at};
 
 use super::boards::Board;
 use super::joined;
@@ -24,6 +24,14 @@ impl Board {
         // What each size keeps of itself.
         let _n = size.get();
         Board { size, black, white }
+    }
+
+    /// The board of this size without stones.
+    pub fn empty(size: Size) -> Board
+        ensures value { result ≡ empty_board size }
+        ensures nobody { winner_of result ≡ None }
+    {
+        Board::of(size, CellSet::none(), CellSet::none())
     }
 
     /// The size of the board.

@@ -5,9 +5,10 @@
 //! that is how Hex is won. A group is a connected part of a player's stones and his two edges, and
 //! his elements are his groups and the empty cells, by number ([`Elements`]).
 //!
-//! **A caller** makes a board by [`Board::of`], puts stones by [`Board::place`], asks
-//! [`Board::joined`] and [`Board::winner`], and goes over [`Board::elements`]. [`flood`],
-//! [`joined`] and [`roots_of`] work on sets of stones that are on no board yet.
+//! **A caller** makes a board by [`Board::empty`] or [`Board::of`], puts stones by
+//! [`Board::place`], asks [`Board::joined`] and [`Board::winner`], and goes over
+//! [`Board::elements`]. [`flood`], [`joined`] and [`roots_of`] work on sets of stones that are on
+//! no board yet.
 //!
 //! **What is proved.** `joined` answers yes exactly if there is a path of stones between the edges,
 //! and equals `is_joined`, a plain search of paths that callers may define things by
