@@ -1,7 +1,7 @@
 use Rattle.std.proofs.Common.{ap, ◌∙◌}
 use Rattle.hex_board.specs.Joined.{winner_of}
 use Rattle.hex_board.proofs.EmptyBoards.{empty_open}
-use Rattle.hex_board.proofs.calls.Board.empty.Goals as goal
+use Rattle.hex_board.proofs.boards.Board.empty.Goals as goal
 
 pub returns-clause-nobody : goal.returns-clause-nobody
 returns-clause-nobody c =
