@@ -20,7 +20,8 @@ nobody_joined n player true e =
 
 pub empty_open : (n : ℕ) → winner_of (empty_board n) ≡ None
 empty_open n =
-    ap (λ b. cond b (Some Black) (cond (is_joined n White 0) (Some White) None)) (nobody_joined n Black _ refl)
+    ap (λ b. cond b (Some Black) (cond (is_joined n White 0) (Some White) None))
+    (nobody_joined n Black _ refl)
     ∙ ap (λ b. cond b (Some White) None) (nobody_joined n White _ refl)
 
 pub all_empty : (n k : ℕ) → k < n * n → is_empty_at (empty_board n) k ≡ true

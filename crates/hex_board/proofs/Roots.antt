@@ -1,6 +1,10 @@
 -- The least cells of groups, found one group after another.
-use Rattle.std.proofs.Common.{◌≡◌, ℕ, ◌<◌, ◌≤◌, List, [], ◌∷◌, ◌++◌, Bool, true, false, refl, sym, ◌∙◌, ap, subst, arith, ◌&&◌, ◌||◌, ◌==◌, not, ◌↔◌, IsTrue, inl, inr}
-use Rattle.std.proofs.lemmas.Bool.{and_parts, and_from, or_cases, or_left, or_right, both_ways, false≢true, not_from_false, not_from_true, false_from_ne_true, not-true, cases_Bool, cases_eq, cases_order, and_right, eqb-true, eq-eqb}
+use Rattle.std.proofs.Common.{◌≡◌, ℕ, ◌<◌, ◌≤◌, List, [], ◌∷◌, ◌++◌, Bool, true, false, refl, sym}
+use Rattle.std.proofs.Common.{◌∙◌, ap, subst, arith, ◌&&◌, ◌||◌, ◌==◌, not, ◌↔◌, IsTrue, inl, inr}
+use Rattle.std.proofs.lemmas.Bool.{and_parts, and_from, or_cases, or_left, or_right, both_ways}
+use Rattle.std.proofs.lemmas.Bool.{false≢true, not_from_false, not_from_true, false_from_ne_true}
+use Rattle.std.proofs.lemmas.Bool.{not-true, cases_Bool, cases_eq, cases_order, and_right, eqb-true}
+use Rattle.std.proofs.lemmas.Bool.{eq-eqb}
 use Rattle.hex_cells.specs.Sets.{has}
 use Rattle.hex_cells.specs.Graph.{Neighbour}
 use Rattle.hex_board.specs.Joined.{Path, last_of, Leads}
@@ -8,7 +12,8 @@ use Rattle.hex_board.specs.Groups.{Links, IsRoot}
 use Rattle.hex_board.proofs.Reach.{back}
 
 -- one more cell at the end of a path
-longer : (n s x z : ℕ) (xs : List ℕ) → Path n s x xs → has s z ≡ true → Neighbour n (last_of x xs) z → Path n s x (xs ++ z ∷ [])
+longer : (n s x z : ℕ) (xs : List ℕ) → Path n s x xs → has s z ≡ true → Neighbour n (last_of x xs) z
+    → Path n s x (xs ++ z ∷ [])
 longer n s x z [] p h b = (p, b, h)
 longer n s x z (y ∷ ys) p h b = (p.0, p.1, longer n s y z ys p.2 h b)
 
@@ -21,14 +26,17 @@ along n s x z w l h b = (l.0 ++ z ∷ [], longer n s x z l.0 l.1 h (rw l.2 b), l
 
 pub turned_path : (n s x : ℕ) (xs : List ℕ) → Path n s x xs → Links n s (last_of x xs) x
 turned_path n s x [] p = ([], p, refl)
-turned_path n s x (y ∷ ys) p = along n s (last_of y ys) x y (turned_path n s y ys p.2) p.0 (back n x y p.1)
+turned_path n s x (y ∷ ys) p = along n s (last_of y ys) x y (turned_path n s y ys p.2) p.0
+    (back n x y p.1)
 
 pub turned_link : (n s a b : ℕ) → Links n s a b → Links n s b a
 turned_link n s a b l = subst (λ v. Links n s v a) l.2 (turned_path n s a l.0 l.1)
 
-joined_paths : (n s x z : ℕ) (xs : List ℕ) → Path n s x xs → Links n s (last_of x xs) z → Links n s x z
+joined_paths : (n s x z : ℕ) (xs : List ℕ) → Path n s x xs → Links n s (last_of x xs) z
+    → Links n s x z
 joined_paths n s x z [] p l = l
-joined_paths n s x z (y ∷ ys) p l = let r = joined_paths n s y z ys p.2 l in (y ∷ r.0, (p.0, p.1, r.1), r.2)
+joined_paths n s x z (y ∷ ys) p l = let r = joined_paths n s y z ys p.2 l in
+    (y ∷ r.0, (p.0, p.1, r.1), r.2)
 
 pub links_through : (n s a b c : ℕ) → Links n s a b → Links n s b c → Links n s a c
 links_through n s a b c l m = joined_paths n s a c l.0 l.1 (subst (λ v. Links n s v c) (sym l.2) m)
@@ -38,10 +46,12 @@ first_in n s a b ([], p, e) = p
 first_in n s a b (y ∷ ys, p, e) = p.0
 
 -- what a flood from the one cell c says
-pub links_from : (n s g c k : ℕ) → ((j : ℕ) → has g j ≡ (false || j == c)) → Leads n s g k → Links n s k c
+pub links_from : (n s g c k : ℕ) → ((j : ℕ) → has g j ≡ (false || j == c)) → Leads n s g k
+    → Links n s k c
 links_from n s g c k e l = (l.0, l.1, eqb-true _ c (sym (e (last_of k l.0)) ∙ l.2))
 
-pub leads_from : (n s g c k : ℕ) → ((j : ℕ) → has g j ≡ (false || j == c)) → Links n s k c → Leads n s g k
+pub leads_from : (n s g c k : ℕ) → ((j : ℕ) → has g j ≡ (false || j == c)) → Links n s k c
+    → Leads n s g k
 leads_from n s g c k e l = (l.0, l.1, e (last_of k l.0) ∙ eq-eqb _ c l.2)
 
 -- the roots found, where the cells of rest, whole groups, are still to come
@@ -51,23 +61,28 @@ pub record Found (n s roots rest : ℕ) : Type 0 where
   pub sound : (k : ℕ) → has roots k ≡ true → IsRoot n s k
   pub all : (k : ℕ) → IsRoot n s k → has rest k ≡ false → has roots k ≡ true
 
-least_root : (n s roots rest c : ℕ) → Found n s roots rest → has rest c ≡ true → ((k : ℕ) → k < c → has rest k ≡ false) → IsRoot n s c
-least_root n s roots rest c i h m = (i.within c h, λ j l k. both_ways (has rest j) (m j l) (i.whole c j h (turned_link n s j c k)))
+least_root : (n s roots rest c : ℕ) → Found n s roots rest → has rest c ≡ true
+    → ((k : ℕ) → k < c → has rest k ≡ false) → IsRoot n s c
+least_root n s roots rest c i h m
+    = (i.within c h, λ j l k. both_ways (has rest j) (m j l) (i.whole c j h (turned_link n s j c k)))
 
 left_over : (x y : Bool) → (x && not y) ≡ false → x ≡ true → y ≡ true
 left_over true true e h = refl
 left_over true false e h = absurd (false≢true (sym e))
 left_over false y e h = absurd (false≢true h)
 
-same_root : (n s rest c k : ℕ) → ((j : ℕ) → j < c → has rest j ≡ false) → has rest k ≡ true → IsRoot n s k → Links n s k c → k ≡ c
+same_root : (n s rest c k : ℕ) → ((j : ℕ) → j < c → has rest j ≡ false) → has rest k ≡ true
+    → IsRoot n s k → Links n s k c → k ≡ c
 same_root n s rest c k m w r l = elim (cases_order k c) [
   | inl e ↦ e
   | inr o ↦ elim o [ inl b ↦ absurd (both_ways (has rest k) (m k b) w) | inr b ↦ absurd (r.1 c b (turned_link n s k c l)) ]
 ]
 
-pub next_found : (n s roots rest c g fl more less : ℕ) → Found n s roots rest → has rest c ≡ true → ((k : ℕ) → k < c → has rest k ≡ false)
+pub next_found : (n s roots rest c g fl more less : ℕ) → Found n s roots rest → has rest c ≡ true
+    → ((k : ℕ) → k < c → has rest k ≡ false)
     → ((k : ℕ) → has g k ≡ (false || k == c)) → ((k : ℕ) → IsTrue (has fl k) ↔ Leads n s g k)
-    → ((k : ℕ) → has more k ≡ (has roots k || k == c)) → ((k : ℕ) → has less k ≡ (has rest k && not (has fl k)))
+    → ((k : ℕ) → has more k ≡ (has roots k || k == c))
+    → ((k : ℕ) → has less k ≡ (has rest k && not (has fl k)))
     → Found n s more less
 next_found n s roots rest c g fl more less i h m eg ef em el = record {
   within = λ k u. i.within k (and_parts (has rest k) (not (has fl k)) (sym (el k) ∙ u)).0;
@@ -86,7 +101,8 @@ next_found n s roots rest c g fl more less i h m eg ef em el = record {
   ];
 }
 
-pub no_more_roots : (n s roots rest : ℕ) → Found n s roots rest → ((k : ℕ) → has rest k ≡ false) → (k : ℕ) → IsTrue (has roots k) ↔ IsRoot n s k
+pub no_more_roots : (n s roots rest : ℕ) → Found n s roots rest → ((k : ℕ) → has rest k ≡ false)
+    → (k : ℕ) → IsTrue (has roots k) ↔ IsRoot n s k
 no_more_roots n s roots rest i e k = (i.sound k, λ r. i.all k r (e k))
 
 pub none_found : (n s roots : ℕ) → ((k : ℕ) → has roots k ≡ false) → Found n s roots s
@@ -97,8 +113,11 @@ none_found n s roots e = record {
   all = λ k r h. absurd (both_ways (has s k) h r.0);
 }
 
-pub fewer : (rest c fl less : ℕ) → has rest c ≡ true → ((k : ℕ) → has less k ≡ (has rest k && not (has fl k))) → has fl c ≡ true → less ≤ rest → less < rest
+pub fewer : (rest c fl less : ℕ) → has rest c ≡ true
+    → ((k : ℕ) → has less k ≡ (has rest k && not (has fl k))) → has fl c ≡ true → less ≤ rest
+    → less < rest
 fewer rest c fl less h e f l = elim (cases_eq less rest) [
-  | inl w ↦ absurd (both_ways (has rest c) (ap (λ v. has v c) (sym w) ∙ (e c ∙ and_right (has rest c) (not (has fl c)) (not_from_true (has fl c) f))) h)
+  | inl w ↦ absurd
+      (both_ways (has rest c) (ap (λ v. has v c) (sym w) ∙ (e c ∙ and_right (has rest c) (not (has fl c)) (not_from_true (has fl c) f))) h)
   | inr w ↦ omega arith
 ]

@@ -49,7 +49,7 @@ is_joined n colour s =
     list_any (λ x. on_edge colour false n x && leads_in (n * n) n s (on_edge colour true n) x)
     (cells_of n)
 
--- Black where Black is joined, else White where White is joined
+-- Black if Black is joined, else White if White is joined
 abbrev pub winner_of : Position → Option Colour
 winner_of p =
     if is_joined p.size Black p.black then Some Black

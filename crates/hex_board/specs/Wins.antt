@@ -1,4 +1,4 @@
--- Who wins, where both players place in turn.
+-- Who wins if both players place in turn.
 use Rattle.std.specs.Prelude.{◌≡◌, ℕ, ◌⊎◌, true, zero, suc, count_by, MatchBool}
 pub use Rattle.hex_cells.specs.Colours.{is_same}
 use Rattle.hex_cells.specs.Colours.{other_of}
@@ -10,7 +10,7 @@ use Rattle.hex_board.specs.Positions.{Position, stones_of, is_empty_at, placed}
 abbrev pub empty_count : Position → ℕ
 empty_count p = count_by (is_empty_at p) (cells_of p.size)
 
--- the player wins within `fuel` more stones, where `mover` is to place the next: he is joined, or a
+-- the player wins within `fuel` more stones, `mover` being to place the next: he is joined, or a
 -- cell is empty, and after some stone of his own, or after every stone of the other player, he wins
 -- with the other to move
 abbrev pub WinsIn : ℕ → Colour → Position → Colour → Type 0
@@ -22,8 +22,8 @@ WinsIn (suc fuel) player p mover =
     × ((k : ℕ) → is_empty_at p k ≡ true
     → WinsIn fuel player (placed p mover k) (other_of mover)))
 
--- the player wins the board whatever the other does, where `mover` is to place the next stone: the
--- players place in turn until the board is full, and he has won where he is joined
+-- the player wins the board whatever the other does, `mover` being to place the next stone: the
+-- players place in turn until the board is full, and he has won if he is joined
 abbrev pub Wins : Colour → Position → Colour → Type 0
 Wins player p mover = WinsIn (empty_count p) player p mover
 

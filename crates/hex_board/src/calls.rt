@@ -21,7 +21,7 @@ impl Board {
         requires white_on { Within size white }
         ensures { result ≡ record { size = size; black = black; white = white } }
     {
-        // What each size keeps of itself.
+        // Brings what the type keeps into scope.
         let _n = size.get();
         Board { size, black, white }
     }
@@ -100,7 +100,7 @@ impl Board {
         joined(self.stones(colour), colour, self.size)
     }
 
-    /// Black where Black is joined, else White where White is joined, else `None`.
+    /// Black if Black is joined, else White if White is joined, else `None`.
     pub fn winner(&self) -> Option<Colour>
         ensures value { result ≡ winner_of self.now }
         ensures black { (result ≡ Some Colour.Black)

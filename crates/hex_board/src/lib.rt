@@ -15,7 +15,7 @@
 //! ([`joined_is_decided`]). A board is told apart by its `Position`. The elements are those of the
 //! definitions in specs/Elements.antt, where an element's number is a count of least cells; what
 //! lies near is said in specs/Places.antt, where a place is a cell or an edge, and by the test
-//! `is_near` ([`near_is_decided`]). `Wins`, who wins where both play on, is a definition for the
+//! `is_near` ([`near_is_decided`]). `Wins`, who wins if both play on, is a definition for the
 //! crates above, with its laws ([`wins_go_on`]).
 //!
 //! **What is only tested, or not said.** That a full board has exactly one winner is nowhere used,

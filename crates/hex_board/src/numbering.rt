@@ -119,7 +119,7 @@ impl Numbering {
         self.board.empties()
     }
 
-    // The stones that are linked to a cell, itself among them where it has a stone of the player.
+    // The stones that are linked to a cell, itself among them if it has a stone of the player.
     fn linked(&self, cell: Cell) -> CellSet
         ensures { (k : ℕ) → has result k ≡ is_linked self.now k cell }
     {
@@ -135,6 +135,7 @@ impl Numbering {
         ensures other { (result ≡ None)
             ↔ (has (stones_of self.now.board (other_of self.now.player)) cell ≡ true) }
     {
+        // Brings what the type keeps into scope.
         let _heads = self.heads;
         self.find(cell)
     }

@@ -1,5 +1,7 @@
 -- Numbers of one and two digits in decimal.
-use Rattle.std.proofs.Common.{◌≡◌, ℕ, ◌+◌, ◌*◌, ◌/◌, ◌%◌, ◌<◌, ◌≤◌, ◌⊎◌, List, [], ◌∷◌, ◌++◌, length, get_or, set, take, drop, map, refl, sym, ◌∙◌, ap, arith, inl, inr, suc}
+use Rattle.std.proofs.Common.{◌≡◌, ℕ, ◌+◌, ◌*◌, ◌/◌, ◌%◌, ◌<◌, ◌≤◌, ◌⊎◌, List, [], ◌∷◌, ◌++◌}
+use Rattle.std.proofs.Common.{length, get_or, set, take, drop, map, refl, sym, ◌∙◌, ap, arith, inl}
+use Rattle.std.proofs.Common.{inr, suc}
 use Rattle.std.specs.Fmt.{decimal}
 use Rattle.std.specs.Int.Digits.{digits_of}
 use Rattle.std.proofs.lemmas.Bool.{cases_lt}
@@ -15,7 +17,8 @@ no_digits n e = rw e refl
 one_digit : (d : ℕ) → 0 < d → d < 10 → digits_of 10 d ≡ d ∷ []
 one_digit d p h =
     let e : d % 10 ≡ d = omega arith in
-    digits_of_step 10 d (omega arith) p ∙ (ap (λ v. v ++ (d % 10 ∷ [])) (no_digits (d / 10) (omega arith)) ∙ ap (λ v. v ∷ []) e)
+    digits_of_step 10 d (omega arith) p
+    ∙ (ap (λ v. v ++ (d % 10 ∷ [])) (no_digits (d / 10) (omega arith)) ∙ ap (λ v. v ∷ []) e)
 
 -- a number of two digits in decimal
 pub decimal_two : (m : ℕ) → 10 ≤ m → m < 100 → decimal m ≡ (48 + m / 10) ∷ (48 + m % 10) ∷ []
@@ -30,22 +33,28 @@ data Form (d : List ℕ) (m : ℕ) : Type 0 where
 
 form : (d : List ℕ) (m : ℕ) → 1 ≤ m → m ≤ 99 → d ≡ decimal m → Form d m
 form d m l h e = elim (cases_lt m 10) [
-  | inl s ↦ let f : d ≡ (48 + m) ∷ [] = e ∙ decimal_digit m s in short (ap length f) (ap (λ v. get_or v 0 0) f) s
+  | inl s ↦ let f : d ≡ (48 + m) ∷ [] = e ∙ decimal_digit m s in
+      short (ap length f) (ap (λ v. get_or v 0 0) f) s
   | inr s ↦ let f : d ≡ (48 + m / 10) ∷ (48 + m % 10) ∷ [] = e ∙ decimal_two m s (omega arith) in
       long (ap length f) (ap (λ v. get_or v 0 0) f) (ap (λ v. get_or v 1 0) f) s
 ]
 
-pub no_length : (d : List ℕ) (m : ℕ) → (length d ≡ 0) ⊎ ((length d ≡ 0 → ⊥) × 2 < length d) → 1 ≤ m → m ≤ 99 → d ≡ decimal m → ⊥
+pub no_length : (d : List ℕ) (m : ℕ) → (length d ≡ 0) ⊎ ((length d ≡ 0 → ⊥) × 2 < length d) → 1 ≤ m
+    → m ≤ 99 → d ≡ decimal m → ⊥
 no_length d m o l h e = elim (form d m l h e) [
   | short a b s ↦ elim o [ inl z ↦ absurd (omega arith) | inr z ↦ absurd (omega (arith, z.1)) ]
   | long a b g s ↦ elim o [ inl z ↦ absurd (omega arith) | inr z ↦ absurd (omega (arith, z.1)) ]
 ]
 
-pub no_first : (d : List ℕ) (m : ℕ) → ((k : ℕ) → 1 ≤ k → k < 10 → get_or d 0 0 ≡ 48 + k → ⊥) → 1 ≤ m → m ≤ 99 → d ≡ decimal m → ⊥
-no_first d m f l h e = elim (form d m l h e) [ short a b s ↦ f m l s b | long a b g s ↦ f (m / 10) (omega arith) (omega arith) b ]
+pub no_first : (d : List ℕ) (m : ℕ) → ((k : ℕ) → 1 ≤ k → k < 10 → get_or d 0 0 ≡ 48 + k → ⊥) → 1 ≤ m
+    → m ≤ 99 → d ≡ decimal m → ⊥
+no_first d m f l h e
+    = elim (form d m l h e) [ short a b s ↦ f m l s b | long a b g s ↦ f (m / 10) (omega arith) (omega arith) b ]
 
-pub no_second : (d : List ℕ) (m : ℕ) → (length d ≡ 1 → ⊥) → ((k : ℕ) → 0 ≤ k → k < 10 → get_or d 1 0 ≡ 48 + k → ⊥) → 1 ≤ m → m ≤ 99 → d ≡ decimal m → ⊥
-no_second d m n f l h e = elim (form d m l h e) [ short a b s ↦ absurd (n a) | long a b g s ↦ f (m % 10) (omega arith) (omega arith) g ]
+pub no_second : (d : List ℕ) (m : ℕ) → (length d ≡ 1 → ⊥)
+    → ((k : ℕ) → 0 ≤ k → k < 10 → get_or d 1 0 ≡ 48 + k → ⊥) → 1 ≤ m → m ≤ 99 → d ≡ decimal m → ⊥
+no_second d m n f l h e
+    = elim (form d m l h e) [ short a b s ↦ absurd (n a) | long a b g s ↦ f (m % 10) (omega arith) (omega arith) g ]
 
 one_item : (d : List ℕ) → length d ≡ 1 → d ≡ get_or d 0 0 ∷ []
 one_item [] e = absurd (omega arith)
@@ -58,10 +67,13 @@ two_items (x ∷ []) e = absurd (omega arith)
 two_items (x ∷ y ∷ []) e = refl
 two_items (x ∷ y ∷ z ∷ d) e = absurd (omega arith)
 
-pub some_one : (d : List ℕ) (k : ℕ) → length d ≡ 1 → 1 ≤ k → k < 10 → get_or d 0 0 ≡ 48 + k → (1 ≤ k) × (k ≤ 99) × (d ≡ decimal k)
-some_one d k e n l f = (omega arith, omega arith, one_item d e ∙ (ap (λ v. v ∷ []) f ∙ sym (decimal_digit k l)))
+pub some_one : (d : List ℕ) (k : ℕ) → length d ≡ 1 → 1 ≤ k → k < 10 → get_or d 0 0 ≡ 48 + k
+    → (1 ≤ k) × (k ≤ 99) × (d ≡ decimal k)
+some_one d k e n l f
+    = (omega arith, omega arith, one_item d e ∙ (ap (λ v. v ∷ []) f ∙ sym (decimal_digit k l)))
 
-pub some_two : (d : List ℕ) (q r : ℕ) → length d ≡ 2 → 1 ≤ q → q < 10 → r < 10 → get_or d 0 0 ≡ 48 + q → get_or d 1 0 ≡ 48 + r
+pub some_two : (d : List ℕ) (q r : ℕ) → length d ≡ 2 → 1 ≤ q → q < 10 → r < 10
+    → get_or d 0 0 ≡ 48 + q → get_or d 1 0 ≡ 48 + r
     → (1 ≤ 10 * q + r) × (10 * q + r ≤ 99) × (d ≡ decimal (10 * q + r))
 some_two d q r e n l h f g =
     let a : (10 * q + r) / 10 ≡ q = omega arith in
@@ -83,12 +95,16 @@ front_two (a ∷ []) x y e = absurd (omega arith)
 front_two (a ∷ b ∷ o) x y e = refl
 
 -- what stands at the front of bytes after one is written, and after it others
-pub front_then : (o d : List ℕ) (x w : ℕ) → 1 ≤ length o → w ≤ length d → take (1 + w) (put_mid 1 2 (set o 0 x) d) ≡ x ∷ take w d
+pub front_then : (o d : List ℕ) (x w : ℕ) → 1 ≤ length o → w ≤ length d
+    → take (1 + w) (put_mid 1 2 (set o 0 x) d) ≡ x ∷ take w d
 front_then [] d x w h l = absurd (omega arith)
-front_then (a ∷ o) d x w h l = ap (λ n. take n (x ∷ d ++ drop 2 o)) (one_more w) ∙ ap (λ v. x ∷ v) (take-append-le w d (drop 2 o) l)
+front_then (a ∷ o) d x w h l = ap (λ n. take n (x ∷ d ++ drop 2 o)) (one_more w)
+    ∙ ap (λ v. x ∷ v) (take-append-le w d (drop 2 o) l)
   where
     one_more : (w : ℕ) → 1 + w ≡ suc w
     one_more w = omega arith
 
-pub vertex_is : (n k c r : ℕ) (d : List ℕ) → c ≡ k % n → r ≡ k / n → d ≡ decimal (r + 1) → (97 + c) ∷ d ≡ vertex_of n k
-vertex_is n k c r d e f g = ap (λ v. (97 + c) ∷ v) g ∙ (ap (λ v. (97 + v) ∷ decimal (r + 1)) e ∙ ap (λ v. (97 + k % n) ∷ decimal (v + 1)) f)
+pub vertex_is : (n k c r : ℕ) (d : List ℕ) → c ≡ k % n → r ≡ k / n → d ≡ decimal (r + 1)
+    → (97 + c) ∷ d ≡ vertex_of n k
+vertex_is n k c r d e f g = ap (λ v. (97 + c) ∷ v) g
+    ∙ (ap (λ v. (97 + v) ∷ decimal (r + 1)) e ∙ ap (λ v. (97 + k % n) ∷ decimal (v + 1)) f)

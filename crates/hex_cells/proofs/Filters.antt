@@ -1,26 +1,33 @@
 -- The numbers of a range that pass a test.
-use Rattle.std.proofs.Common.{◌≡◌, ℕ, ◌+◌, ◌<◌, ◌≤◌, ◌==◌, ◌&&◌, not, Bool, true, false, cond, List, [], ◌∷◌, ◌++◌, refl, sym, ap, ◌∙◌, ⊎_elim, arith, zero, suc}
+use Rattle.std.proofs.Common.{◌≡◌, ℕ, ◌+◌, ◌<◌, ◌≤◌, ◌==◌, ◌&&◌, not, Bool, true, false, cond, List}
+use Rattle.std.proofs.Common.{[], ◌∷◌, ◌++◌, refl, sym, ap, ◌∙◌, ⊎_elim, arith, zero, suc}
 use Rattle.std.specs.List.{filter, range_with_len}
 use Rattle.std.proofs.lemmas.Bool.{cases_Bool, eqb-true}
 use Rattle.std.proofs.lemmas.Bool.Decides.{nat_tests}
 
 -- none passes
-pub none_pass : (p : ℕ → Bool) (a n : ℕ) → ((k : ℕ) → a ≤ k → p k ≡ false) → filter p (range_with_len a n) ≡ []
+pub none_pass : (p : ℕ → Bool) (a n : ℕ) → ((k : ℕ) → a ≤ k → p k ≡ false)
+    → filter p (range_with_len a n) ≡ []
 none_pass p a zero f = refl
 none_pass p a (suc n) f =
-    ap (λ b. cond b (a ∷ filter p (range_with_len (a + 1) n)) (filter p (range_with_len (a + 1) n))) (f a (omega arith))
+    ap (λ b. cond b (a ∷ filter p (range_with_len (a + 1) n)) (filter p (range_with_len (a + 1) n)))
+    (f a (omega arith))
     ∙ none_pass p (a + 1) n (λ k l. f k (omega arith))
 
 -- tests that agree from the first number on
-pub same_pass : (p q : ℕ → Bool) (a n : ℕ) → ((k : ℕ) → a ≤ k → p k ≡ q k) → filter p (range_with_len a n) ≡ filter q (range_with_len a n)
+pub same_pass : (p q : ℕ → Bool) (a n : ℕ) → ((k : ℕ) → a ≤ k → p k ≡ q k)
+    → filter p (range_with_len a n) ≡ filter q (range_with_len a n)
 same_pass p q a zero f = refl
 same_pass p q a (suc n) f =
-    ap (λ b. cond b (a ∷ filter p (range_with_len (a + 1) n)) (filter p (range_with_len (a + 1) n))) (f a (omega arith))
+    ap (λ b. cond b (a ∷ filter p (range_with_len (a + 1) n)) (filter p (range_with_len (a + 1) n)))
+    (f a (omega arith))
     ∙ ap (λ xs. cond (q a) (a ∷ xs) xs) (same_pass p q (a + 1) n (λ k l. f k (omega arith)))
 
 -- the least that passes is the first
-pub least_pass : (p q : ℕ → Bool) (a n c : ℕ) → a ≤ c → c < a + n → p c ≡ true → ((i : ℕ) → i < c → p i ≡ false)
-    → ((i : ℕ) → q i ≡ (p i && not (i == c))) → filter p (range_with_len a n) ≡ c ∷ filter q (range_with_len a n)
+pub least_pass : (p q : ℕ → Bool) (a n c : ℕ) → a ≤ c → c < a + n → p c ≡ true
+    → ((i : ℕ) → i < c → p i ≡ false)
+    → ((i : ℕ) → q i ≡ (p i && not (i == c)))
+    → filter p (range_with_len a n) ≡ c ∷ filter q (range_with_len a n)
 least_pass p q a zero c l m t below rest = absurd (omega arith)
 least_pass p q a (suc n) c l m t below rest = ⊎_elim
     (λ (e : (a == c) ≡ true).
@@ -56,20 +63,24 @@ least_pass p q a (suc n) c l m t below rest = ⊎_elim
     low a c k e = grind (arith, nat_tests)
 
 -- no number past a range passes
-pub longer_pass : (p : ℕ → Bool) (a n m : ℕ) → ((i : ℕ) → a + n ≤ i → p i ≡ false) → filter p (range_with_len a (n + m)) ≡ filter p (range_with_len a n)
-longer_pass p a zero m h = ap (λ (z : ℕ). filter p (range_with_len a z)) (none-plus m) ∙ none_pass p a m (λ i l. h i (omega arith))
+pub longer_pass : (p : ℕ → Bool) (a n m : ℕ) → ((i : ℕ) → a + n ≤ i → p i ≡ false)
+    → filter p (range_with_len a (n + m)) ≡ filter p (range_with_len a n)
+longer_pass p a zero m h = ap (λ (z : ℕ). filter p (range_with_len a z)) (none-plus m)
+    ∙ none_pass p a m (λ i l. h i (omega arith))
   where
     none-plus : (m : ℕ) → 0 + m ≡ m
     none-plus m = omega arith
 longer_pass p a (suc n) m h =
     ap (λ (z : ℕ). filter p (range_with_len a z)) (more n m)
-    ∙ ap (λ (xs : List ℕ). cond (p a) (a ∷ xs) xs) (longer_pass p (a + 1) n m (λ i l. h i (omega arith)))
+    ∙ ap (λ (xs : List ℕ). cond (p a) (a ∷ xs) xs)
+    (longer_pass p (a + 1) n m (λ i l. h i (omega arith)))
   where
     more : (n m : ℕ) → suc n + m ≡ suc (n + m)
     more n m = omega arith
 
 -- a range in two parts
-pub two_pass : (p : ℕ → Bool) (a n m : ℕ) → filter p (range_with_len a (n + m)) ≡ filter p (range_with_len a n) ++ filter p (range_with_len (a + n) m)
+pub two_pass : (p : ℕ → Bool) (a n m : ℕ) → filter p (range_with_len a (n + m)) ≡ filter p
+    (range_with_len a n) ++ filter p (range_with_len (a + n) m)
 two_pass p a zero m = (λ i. filter p (range_with_len (plus-none a i) (none-plus m i)))
   where
     none-plus : (m : ℕ) → 0 + m ≡ m
@@ -89,6 +100,7 @@ two_pass p a (suc n) m =
     shift : (a n : ℕ) → a + 1 + n ≡ a + suc n
     shift a n = omega arith
 
-    through : (t : Bool) (x : ℕ) (xs ys : List ℕ) → cond t (x ∷ (xs ++ ys)) (xs ++ ys) ≡ cond t (x ∷ xs) xs ++ ys
+    through : (t : Bool) (x : ℕ) (xs ys : List ℕ)
+        → cond t (x ∷ (xs ++ ys)) (xs ++ ys) ≡ cond t (x ∷ xs) xs ++ ys
     through true x xs ys = refl
     through false x xs ys = refl

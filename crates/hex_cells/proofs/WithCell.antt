@@ -1,5 +1,6 @@
 -- A set with one cell more: its cells and their number.
-use Rattle.std.proofs.Common.{◌≡◌, ℕ, ◌+◌, ◌^◌, ◌<◌, ◌≤◌, ◌==◌, ◌||◌, ◌⊎◌, true, false, Bool, cond, refl, sym, ◌∙◌, ap, arith, inl, inr, zero, suc}
+use Rattle.std.proofs.Common.{◌≡◌, ℕ, ◌+◌, ◌^◌, ◌<◌, ◌≤◌, ◌==◌, ◌||◌, ◌⊎◌, true, false, Bool, cond}
+use Rattle.std.proofs.Common.{refl, sym, ◌∙◌, ap, arith, inl, inr, zero, suc}
 use Rattle.std.proofs.lemmas.Bool.{cases_eq, or_cases, or_left, or_right, eq-eqb, eqb-true, ne_eqb}
 use Rattle.std.proofs.lemmas.Bool.Decides.{nat_tests}
 use Rattle.std.proofs.lemmas.Nat.Bits.{bit_at-pow_same, bit_at-pow_other}
@@ -48,29 +49,38 @@ there : (x y : Bool) (i c : ℕ) → i ≡ c → x ≡ (y || i == c) → x ≡ t
 there x y i c h e = grind (arith, nat_tests)
 
 -- below the new cell nothing changes
-members_same : (s t c j : ℕ) → ((i : ℕ) → has t i ≡ (has s i || i == c)) → j ≤ c → members t j ≡ members s j
+members_same : (s t c j : ℕ) → ((i : ℕ) → has t i ≡ (has s i || i == c)) → j ≤ c
+    → members t j ≡ members s j
 unfolding members
 members_same s t c zero e h = refl
 members_same s t c (suc j) e h =
     let m : members t j ≡ members s j = members_same s t c j e (omega arith) in
-    let x : has t j ≡ has s j = same_at (has t j) (has s j) j c (omega arith) (e j) in rw (m, x) refl
+    let x : has t j ≡ has s j = same_at (has t j) (has s j) j c (omega arith) (e j) in
+    rw (m, x) refl
 
-at_new : (x y : Bool) (m n : ℕ) → x ≡ true → y ≡ false → m ≡ n → cond {A = ℕ} x 1 0 + m ≡ cond {A = ℕ} y 1 0 + n + 1
+at_new : (x y : Bool) (m n : ℕ) → x ≡ true → y ≡ false → m ≡ n
+    → cond {A = ℕ} x 1 0 + m ≡ cond {A = ℕ} y 1 0 + n + 1
 at_new x y m n e f h = rw (e, f, h) (omega arith)
 
-past_new : (x y : Bool) (m n : ℕ) → x ≡ y → m ≡ n + 1 → cond {A = ℕ} x 1 0 + m ≡ cond {A = ℕ} y 1 0 + n + 1
+past_new : (x y : Bool) (m n : ℕ) → x ≡ y → m ≡ n + 1
+    → cond {A = ℕ} x 1 0 + m ≡ cond {A = ℕ} y 1 0 + n + 1
 past_new x y m n e h = rw (e, h) (omega arith)
 
 -- a new cell is one member more
-members_grown : (s t c j : ℕ) → ((i : ℕ) → has t i ≡ (has s i || i == c)) → has s c ≡ false → c < j → members t j ≡ members s j + 1
+members_grown : (s t c j : ℕ) → ((i : ℕ) → has t i ≡ (has s i || i == c)) → has s c ≡ false → c < j
+    → members t j ≡ members s j + 1
 unfolding members
 members_grown s t c zero e f h = absurd (omega arith)
 members_grown s t c (suc j) e f h = elim (cases_eq j c) [
-  | inl w ↦ at_new (has t j) (has s j) (members t j) (members s j) (there (has t j) (has s j) j c w (e j)) (ap (has s) w ∙ f) (members_same s t c j e (omega arith))
-  | inr w ↦ let l : c < j = omega arith in past_new (has t j) (has s j) (members t j) (members s j) (same_past (has t j) (has s j) j c l (e j)) (members_grown s t c j e f l)
+  | inl w ↦ at_new (has t j) (has s j) (members t j) (members s j)
+      (there (has t j) (has s j) j c w (e j)) (ap (has s) w ∙ f)
+      (members_same s t c j e (omega arith))
+  | inr w ↦ let l : c < j = omega arith in past_new (has t j) (has s j) (members t j) (members s j)
+      (same_past (has t j) (has s j) j c l (e j)) (members_grown s t c j e f l)
 ]
 
-pub members_with_cell : (s c j : ℕ) → has s c ≡ false → c < j → members (with_cell s c) j ≡ members s j + 1
+pub members_with_cell : (s c j : ℕ) → has s c ≡ false → c < j
+    → members (with_cell s c) j ≡ members s j + 1
 members_with_cell s c j f l = members_grown s (with_cell s c) c j (has_with_cell s c) f l
 
 -- a set with a cell in it has a member

@@ -9,7 +9,7 @@ use super::singles::single;
 use super::{Cell, MOST_CELLS, Size};
 use std::marker::Model;
 
-/// A set of cells: bit k of its number is set where cell k is in it. It is not tied to a size.
+/// A set of cells: bit k of its number is set if cell k is in it. It is not tied to a size.
 #[derive(Clone, Copy, Debug, PartialEq, Eq)]
 pub struct CellSet {
     bits: u128,
@@ -209,7 +209,7 @@ impl CellSet {
         (self.bits & (1u128 << end) - 1).count_ones()
     }
 
-    // The set with each number risen by `by`, where that is a cell of `all`.
+    // The set with each number risen by `by`, if that is a cell of `all`.
     pub(crate) fn up(self, by: u32, all: CellSet) -> CellSet
         requires { by ≤ 11 }
         ensures { (k : ℕ) → has result k ≡ (has all k && (not (nat_lt k by) && has self (k - by))) }

@@ -7,4 +7,5 @@ pub of_bits-requires : goal.of_bits-requires
 of_bits-requires c = rw c.get.ensures.value (first_column_below c.args.size (omega arith))
 
 pub returns : goal.returns
-returns c = λ k. ap (λ v. has v k) c.of_bits.ensures.value ∙ rw c.get.ensures.value (first_column_has c.args.size k (omega arith))
+returns c = λ k. ap (λ v. has v k) c.of_bits.ensures.value
+    ∙ rw c.get.ensures.value (first_column_has c.args.size k (omega arith))

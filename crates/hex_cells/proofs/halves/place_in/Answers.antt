@@ -18,7 +18,9 @@ loop-width-preserved c =
     (subst (λ v. c.args.k < v) (ranked_in c.args.half (c.loop-width.at + c.loop-width.width / 2) (omega (arith, i.on, c.loop-width-test.true))) (omega (arith, c.if-half-at.false)))
 
 pub returns-clause-inside : goal.returns-clause-inside
-returns-clause-inside c = (among_one c.args.half c.args.k c.loop-width.at c.loop-width.width c.loop-width.invariant (λ l. absurd (omega (arith, l, c.loop-width-test.false)))).0
+returns-clause-inside c
+    = (among_one c.args.half c.args.k c.loop-width.at c.loop-width.width c.loop-width.invariant (λ l. absurd (omega (arith, l, c.loop-width-test.false)))).0
 
 pub returns-clause-order : goal.returns-clause-order
-returns-clause-order c = (among_one c.args.half c.args.k c.loop-width.at c.loop-width.width c.loop-width.invariant (λ l. absurd (omega (arith, l, c.loop-width-test.false)))).1
+returns-clause-order c
+    = (among_one c.args.half c.args.k c.loop-width.at c.loop-width.width c.loop-width.invariant (λ l. absurd (omega (arith, l, c.loop-width-test.false)))).1

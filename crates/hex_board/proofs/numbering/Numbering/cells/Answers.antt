@@ -16,8 +16,10 @@ returns-then-self c =
         | inr t ↦ zero_in c.args.self.now k (sym i.joins ∙ c.if-self.true) (sym (i.to_second k) ∙ t)
       ]),
       (λ q. c.union.ensures.items k ∙ elim (zero_out c.args.self.now k i.on_board q) [
-        | inl t ↦ or_left (has c.self.inside.first k) (has c.self.inside.second k) (i.to_first k ∙ t)
-        | inr t ↦ or_right (has c.self.inside.first k) (has c.self.inside.second k) (i.to_second k ∙ t.1)
+        | inl t ↦ or_left (has c.self.inside.first k) (has c.self.inside.second k)
+            (i.to_first k ∙ t)
+        | inr t ↦ or_right (has c.self.inside.first k) (has c.self.inside.second k)
+            (i.to_second k ∙ t.1)
       ]),
     ))
 
@@ -29,7 +31,8 @@ returns-else-self c =
       (λ h. of_first c.args.self.now k (sym (i.to_first k) ∙ h)),
       (λ q. elim (zero_out c.args.self.now k i.on_board q) [
         | inl t ↦ i.to_first k ∙ t
-        | inr t ↦ absurd (both_ways (are_joined c.args.self.now) (sym i.joins ∙ c.if-self.false) t.0)
+        | inr t ↦ absurd
+            (both_ways (are_joined c.args.self.now) (sym i.joins ∙ c.if-self.false) t.0)
       ]),
     ))
 
@@ -37,7 +40,8 @@ pub returns-then-from-edge_elements : goal.returns-then-from-edge_elements
 returns-then-from-edge_elements c =
     let i : IsNumbered c.args.self.now c.self.inside.joined c.self.inside.first c.self.inside.second c.self.inside.heads =
     subst (λ v. IsNumbered v c.self.inside.joined c.self.inside.first c.self.inside.second c.self.inside.heads) c.self.view_is c.self.invariant in
-    let low = only_second (are_joined c.args.self.now) c.args.element c.if-element-eq0.false (omega arith) in
+    let low = only_second (are_joined c.args.self.now) c.args.element c.if-element-eq0.false
+    (omega arith) in
     rw low.0 (λ k. (
       (λ h. one_in c.args.self.now k low.1 (sym (i.to_second k) ∙ h)),
       (λ q. i.to_second k ∙ one_out c.args.self.now k i.on_board low.1 q),

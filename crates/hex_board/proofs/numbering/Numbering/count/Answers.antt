@@ -9,4 +9,5 @@ returns-clause-value c =
     let i : IsNumbered c.args.self.now c.self.inside.joined c.self.inside.first c.self.inside.second c.self.inside.heads =
     subst (λ v. IsNumbered v c.self.inside.joined c.self.inside.first c.self.inside.second c.self.inside.heads) c.self.view_is c.self.invariant in
     ap (λ v. v + c.count.result) c.edge_elements.ensures.value
-    ∙ ap (λ v. edge_elements c.args.self.now + v) (c.count.ensures.value ∙ all_heads c.args.self.now c.self.inside.heads i.on_board i.sized i.headed)
+    ∙ ap (λ v. edge_elements c.args.self.now + v)
+    (c.count.ensures.value ∙ all_heads c.args.self.now c.self.inside.heads i.on_board i.sized i.headed)

@@ -11,8 +11,10 @@ pub returns-then-has : goal.returns-then-has
 returns-then-has c =
     let i : IsNumbered c.args.self.now c.self.inside.joined c.self.inside.first c.self.inside.second c.self.inside.heads =
     subst (λ v. IsNumbered v c.self.inside.joined c.self.inside.first c.self.inside.second c.self.inside.heads) c.self.view_is c.self.invariant in
-    let free : (k : ℕ) → has c.empties.result k ≡ is_empty_at c.args.self.now.board k = λ k. c.empties.ensures k ∙ ap (λ v. is_empty_at v.board k) c.self.view_is in
-    let here : is_empty_at c.args.self.now.board c.args.head ≡ true = sym (free c.args.head) ∙ (sym c.has.ensures ∙ c.if-has.true) in
+    let free : (k : ℕ) → has c.empties.result k ≡ is_empty_at c.args.self.now.board k
+    = λ k. c.empties.ensures k ∙ ap (λ v. is_empty_at v.board k) c.self.view_is in
+    let here : is_empty_at c.args.self.now.board c.args.head ≡ true = sym (free c.args.head)
+    ∙ (sym c.has.ensures ∙ c.if-has.true) in
     λ k. (
       (λ h. subst (λ v. element_of c.args.self.now v ≡ Some (head_element c.args.self.now c.args.head))
           (sym (single_out c.with.result c.none.result c.args.head k (c.with.ensures.items k) (c.none.ensures.items k) h)) (of_free c.args.self.now c.args.head here)),
@@ -26,8 +28,10 @@ pub returns-else-has : goal.returns-else-has
 returns-else-has c =
     let i : IsNumbered c.args.self.now c.self.inside.joined c.self.inside.first c.self.inside.second c.self.inside.heads =
     subst (λ v. IsNumbered v c.self.inside.joined c.self.inside.first c.self.inside.second c.self.inside.heads) c.self.view_is c.self.invariant in
-    let free : (k : ℕ) → has c.empties.result k ≡ is_empty_at c.args.self.now.board k = λ k. c.empties.ensures k ∙ ap (λ v. is_empty_at v.board k) c.self.view_is in
-    let full : is_empty_at c.args.self.now.board c.args.head ≡ false = sym (free c.args.head) ∙ (sym c.has.ensures ∙ c.if-has.false) in
+    let free : (k : ℕ) → has c.empties.result k ≡ is_empty_at c.args.self.now.board k
+    = λ k. c.empties.ensures k ∙ ap (λ v. is_empty_at v.board k) c.self.view_is in
+    let full : is_empty_at c.args.self.now.board c.args.head ≡ false = sym (free c.args.head)
+    ∙ (sym c.has.ensures ∙ c.if-has.false) in
     λ k. (
       (λ h. head_in c.args.self.now c.args.head k i.on_board c.requires full (sym (c.linked.ensures k) ∙ h)),
       (λ q. elim (head_out c.args.self.now c.self.inside.heads c.args.head k i.on_board i.headed c.requires q) [

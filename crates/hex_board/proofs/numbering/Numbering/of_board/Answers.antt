@@ -11,10 +11,13 @@ use Rattle.hex_board.proofs.numbering.Numbering.of_board.Goals as goal
 pub invariant_of-result : goal.invariant_of-result
 invariant_of-result c =
     let e : PlayerBoard = record { board = c.args.board.now; player = c.args.colour } in
-    let on : Within c.size-size.result c.stones-stones.result = rw c.size-size.ensures.value c.stones-stones.ensures.on_board in
-    let first : (k : ℕ) → has c.flood-first.result k ≡ is_tied e false k = λ k. rw (← c.size-size.ensures.value, ← c.stones-stones.ensures.value)
+    let on : Within c.size-size.result c.stones-stones.result
+    = rw c.size-size.ensures.value c.stones-stones.ensures.on_board in
+    let first : (k : ℕ) → has c.flood-first.result k ≡ is_tied e false k
+    = λ k. rw (← c.size-size.ensures.value, ← c.stones-stones.ensures.value)
     (flood_test c.size-size.result c.stones-stones.result c.edge-first_edge.result (on_edge c.args.colour false c.size-size.result) c.flood-first.result k on c.edge-first_edge.ensures (c.flood-first.ensures k)) in
-    let second : (k : ℕ) → has c.flood-second.result k ≡ is_tied e true k = λ k. rw (← c.size-size.ensures.value, ← c.stones-stones.ensures.value)
+    let second : (k : ℕ) → has c.flood-second.result k ≡ is_tied e true k
+    = λ k. rw (← c.size-size.ensures.value, ← c.stones-stones.ensures.value)
     (flood_test c.size-size.result c.stones-stones.result c.edge.result (on_edge c.args.colour true c.size-size.result) c.flood-second.result k on c.edge.ensures (c.flood-second.ensures k)) in
     let on_board : Within e.board.size c.stones-stones.result = c.stones-stones.ensures.on_board in
     record {

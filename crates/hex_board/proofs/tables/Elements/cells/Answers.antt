@@ -6,15 +6,18 @@ use Rattle.hex_board.proofs.tables.Elements.cells.Goals as goal
 
 pub listed : goal.listed
 listed c =
-    let i : IsTabled c.args.self.now c.self.inside.parts c.self.inside.reaches = subst (λ v. IsTabled v c.self.inside.parts c.self.inside.reaches) c.self.view_is c.self.invariant in
+    let i : IsTabled c.args.self.now c.self.inside.parts c.self.inside.reaches
+    = subst (λ v. IsTabled v c.self.inside.parts c.self.inside.reaches) c.self.view_is c.self.invariant in
     omega (arith, i.few, c.requires)
 
 pub bounds-self-inside-element : goal.bounds-self-inside-element
 bounds-self-inside-element c =
-    let i : IsTabled c.args.self.now c.self.inside.parts c.self.inside.reaches = subst (λ v. IsTabled v c.self.inside.parts c.self.inside.reaches) c.self.view_is c.self.invariant in
+    let i : IsTabled c.args.self.now c.self.inside.parts c.self.inside.reaches
+    = subst (λ v. IsTabled v c.self.inside.parts c.self.inside.reaches) c.self.view_is c.self.invariant in
     omega (arith, i.few, c.requires)
 
 pub returns : goal.returns
 returns c =
-    let i : IsTabled c.args.self.now c.self.inside.parts c.self.inside.reaches = subst (λ v. IsTabled v c.self.inside.parts c.self.inside.reaches) c.self.view_is c.self.invariant in
+    let i : IsTabled c.args.self.now c.self.inside.parts c.self.inside.reaches
+    = subst (λ v. IsTabled v c.self.inside.parts c.self.inside.reaches) c.self.view_is c.self.invariant in
     λ k. read (HasCell c.args.self.now) c.self.inside.parts c.args.element c.index-self-element.result k (omega (arith, i.few, c.requires)) (i.held c.args.element k c.requires)

@@ -9,8 +9,10 @@ returns c = λ d.
       low = omega arith;
       on = c.all-all.ensures.items;
       whole = λ j. cc (c.meet-here.ensures.items j, c.all-all.ensures.items j);
-      not_last = λ j. cc (c.minus-left.ensures.items j, c.meet-here.ensures.items j, c.all-all.ensures.items j, c.last_column.ensures j);
-      not_first = λ j. cc (c.minus-right.ensures.items j, c.meet-here.ensures.items j, c.all-all.ensures.items j, c.first_column.ensures j);
+      not_last = λ j. cc
+          (c.minus-left.ensures.items j, c.meet-here.ensures.items j, c.all-all.ensures.items j, c.last_column.ensures j);
+      not_first = λ j. cc
+          (c.minus-right.ensures.items j, c.meet-here.ensures.items j, c.all-all.ensures.items j, c.first_column.ensures j);
     } in
     let b = c.get-by.result - 1 in
     let q : c.get-by.result - 1 ≡ c.args.size - 1 = ap (λ v. v - 1) c.get-by.ensures.value in

@@ -6,7 +6,8 @@ pub numbered-requires : goal.numbered-requires
 numbered-requires c = (least_of _ (omega arith) c.self.invariant).0
 
 pub returns-then-self-eq0 : goal.returns-then-self-eq0
-returns-then-self-eq0 c = λ k. (let e : c.args.self ≡ 0 = grind (arith, c.if-self-eq0.true) in rw e (has_none k))
+returns-then-self-eq0 c
+    = λ k. (let e : c.args.self ≡ 0 = grind (arith, c.if-self-eq0.true) in rw e (has_none k))
 
 pub returns-else-self-eq0 : goal.returns-else-self-eq0
 returns-else-self-eq0 c = let t = least_of c.self.inside.bits (omega arith) c.self.invariant in

@@ -14,10 +14,12 @@ returns-then-k-in_low c =
     record { inside = cc t.0; order = cc t.1 }
 
 pub place_in-requires-2 : goal.place_in-requires-2
-place_in-requires-2 c = in_high c.self.inside.bits c.args.k c.if-k-in_low.false (subst (λ v. c.args.k < members v 121) (sym c.self.view_is) c.requires)
+place_in-requires-2 c = in_high c.self.inside.bits c.args.k c.if-k-in_low.false
+    (subst (λ v. c.args.k < members v 121) (sym c.self.view_is) c.requires)
 
 pub numbered-requires-2 : goal.numbered-requires-2
-numbered-requires-2 c = cell_below c.self.inside.bits 121 (64 + c.place_in-2.result) c.self.invariant
+numbered-requires-2 c
+    = cell_below c.self.inside.bits 121 (64 + c.place_in-2.result) c.self.invariant
     ((found_high c.self.inside.bits c.place_in-2.result c.args.k c.if-k-in_low.false c.place_in-2.ensures.inside c.place_in-2.ensures.order).0)
 
 -- or in the upper one

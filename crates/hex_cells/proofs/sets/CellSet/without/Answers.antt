@@ -13,7 +13,9 @@ returns c =
     let e = c.single.ensures.value in
     let k = c.args.cell in
     let r : bit_and a (2 ^ 128 - 1 - s) ≤ a = and_le_l a (2 ^ 128 - 1 - s) in
-    let items : (j : ℕ) → has (bit_and a (2 ^ 128 - 1 - s)) j ≡ (has a j && not (j == k)) = λ j. has_minus a s j c.self.invariant l ∙ ap (λ v. has a j && not v) (ap (λ v. has v j) e ∙ has_pow k j) in
+    let items : (j : ℕ) → has (bit_and a (2 ^ 128 - 1 - s)) j ≡ (has a j && not (j == k))
+    = λ j. has_minus a s j c.self.invariant l
+    ∙ ap (λ v. has a j && not v) (ap (λ v. has v j) e ∙ has_pow k j) in
     rw (sym c.self.view_is) (record {
       value = cc (minus_value a s c.self.invariant l, e);
       shrinks = r;
