@@ -77,4 +77,13 @@ async function closedWhileAsked(line) {
   return asked;
 }
 
-Object.assign(window, {allRan, ofZeros, tried, closedWhileAsked});
+/** Which run the page's session has, by its worker's number among those that were asked for, and lets it have so much memory. */
+const workers = [];
+async function runOfPage(memory) {
+  const {run} = play.game.session;
+  run.memory = memory;
+  if (!workers.includes(run.worker)) workers.push(run.worker);
+  return workers.indexOf(run.worker);
+}
+
+Object.assign(window, {allRan, ofZeros, tried, closedWhileAsked, runOfPage});

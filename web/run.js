@@ -47,6 +47,7 @@ class Run {
     this.worker = new Worker(workerOfPage());
     this.decoder = new TextDecoder();
     this.text = '';
+    this.memory = 0;
     this.asked = [];
     this.ended = new Promise((done, lost) => { Object.assign(this, {done, lost}); });
     this.ended.catch(() => {});
@@ -55,7 +56,8 @@ class Run {
     this.worker.postMessage({module, words});
   }
 
-  hear({fd, bytes, status, fault}) {
+  hear({fd, bytes, memory, status, fault}) {
+    this.memory = memory ?? this.memory;
     if (fd === 1) {
       this.text += this.decoder.decode(bytes, {stream: true});
       this.answer();

@@ -9,6 +9,8 @@ class Refused extends Error {}
 const SETTINGS = {playouts: Number(HEXD.dataset.playouts), weight: 0, workers: 1};
 // The file that stands for a record (worker.js).
 const RECORD = 'record.sgf';
+// A module's memory never shrinks: past so many bytes the next game gets a new run.
+const GROWN = 150_000_000;
 
 /** The text of an answer of HTP, behind `=` and a space; Refused with it if it is a failure. */
 function answered(answer) {
@@ -18,17 +20,15 @@ function answered(answer) {
 }
 
 class Session {
-  constructor(run) {
-    this.run = run;
-    this.solving = null;
-  }
+  constructor(words, run) { Object.assign(this, {words, run, solving: null}); }
 
   static async settings() { return SETTINGS; }
 
   /** Opens a session whose searches have so many playouts; without a number as many as the settings say. */
   static async open(playouts = '') {
     const options = Object.entries({...SETTINGS, ...playouts && {playouts}});
-    return new Session(await Run.start(['htp', ...options.flatMap(([name, value]) => [`--${name}`, `${value}`])]));
+    const words = ['htp', ...options.flatMap(([name, value]) => [`--${name}`, `${value}`])];
+    return new Session(words, await Run.start(words));
   }
 
   /** There is always room. */
@@ -51,7 +51,18 @@ class Session {
   static get address() { return location.protocol === 'file:' ? '' : location.href.replace(/#.*/, ''); }
 
   /** The text that answers a line; Refused with hexd's words if it is a failure. */
-  async ask(line) { return answered(await this.run.ask(line)); }
+  async ask(line) {
+    if (line.startsWith('boardsize ')) await this.refresh();
+    return answered(await this.run.ask(line));
+  }
+
+  /** Before a game is begun or loaded, when nothing is left of the last one: a new run if this one's memory has grown. */
+  async refresh() {
+    if (this.run.memory <= GROWN) return;
+    const grown = this.run;
+    this.run = await Run.start(this.words);
+    grown.stop('its memory has grown');
+  }
 
   /** The same, with null for a failure. */
   async tell(line) {
@@ -65,6 +76,7 @@ class Session {
 
   /** Has hexd load a record, a text or a file. */
   async load(record) {
+    await this.refresh();
     this.run.give({file: new Uint8Array(await new Blob([record]).arrayBuffer())});
     await this.ask(`loadsgf ${RECORD}`);
   }

@@ -32,14 +32,16 @@ import build
 import page
 from cases import FILE_NAME, Case, cases, native
 from firefox import FIREFOX, Firefox
+from tests.support import until
 
 SYSTEM_PYTHON = "/usr/bin/python3"
 PROGRAM = Path(os.environ.get("HEXD") or ROOT / "crates" / "hexd" / "out" / "hexd")
 # How many runs are made in one call of the browser, and longer than that takes on a machine that is busy.
 AT_ONCE, CALL_SECONDS = 5, 300
-# Sessions, openings and the largest board that is solved; and how many games a long session has.
+# Sessions, openings and the largest board that is solved; and long sessions, each of so many games with so many playouts a
+# move. A player makes fewer moves in an hour.
 QUICK, LONG = (20, 4, 4), (120, 40, 5)
-QUICK_GAMES, LONG_GAMES = 1, 12
+QUICK_GAMES, LONG_GAMES = [(1, 100)], [(2, 100_000), (100, 1_000)]
 MOVES = 60
 # What a long session stays below.
 MOST_BYTES = 200_000_000
@@ -150,9 +152,10 @@ class Module(InBrowser):
         """Searches on the largest board, game after game."""
         self.open()
         moves = b"".join(b"genmove b\ngenmove w\n" for _ in range(MOVES // 2)) + b"clear_board\n"
-        [got] = self.ran([(Case(("htp", "--playouts", "100")), [moves] * self.games)])
-        self.assertEqual(0, got["status"])
-        self.assertTrue(0 < got["memory"] < MOST_BYTES, got["memory"])
+        for games, playouts in self.games:
+            [got] = self.ran([(Case(("htp", "--weight", "0", "--playouts", str(playouts))), [moves] * games)])
+            self.assertEqual(0, got["status"])
+            self.assertTrue(0 < got["memory"] < MOST_BYTES, got["memory"])
 
     def test_too_much_input(self):
         """What is no certificate, as long as one may be, and one byte longer."""
@@ -214,6 +217,35 @@ class Page(InBrowser):
     def test_a_link_from_a_disk(self):
         browser = self.open(f"{self.small.as_uri()}#3,b2")
         self.assertEqual("#3,b2", browser.find("#link").get_attribute("value"))
+
+    def test_a_game_on_size_5(self):
+        """hexd against itself to the end; the built program says of the same moves who has won."""
+        browser = self.open(f"{self.small.as_uri()}#5,c3,b3")
+        browser.choose("#player-b", "hexd")
+        browser.choose("#player-w", "hexd")
+        until(lambda: "has won" in browser.text("#state"), "the game has ended")
+        colours = "bw" * 13
+        lines = [f"play {colour} {move}" for colour, move in zip(colours, self.moves())]
+        asked = "\n".join(["boardsize 5", *lines, "winner"]) + "\n"
+        ran = subprocess.run([PROGRAM, "htp"], input=asked.encode(), stdout=subprocess.PIPE)
+        *answers, winner = ran.stdout.decode().split("\n\n")[:-1]
+        self.assertEqual({"="}, {answer.strip() for answer in answers})
+        self.assertTrue(browser.text("#state").startswith(f"{winner.split()[1].capitalize()} has won"), winner)
+
+    def test_memory_that_has_grown(self):
+        """The next game gets a new run if the memory of this one has grown; a game that is under way keeps its run."""
+        browser = self.open(f"{self.small.as_uri()}#4,b2")
+        first = self.in_page("runOfPage", 1)
+        browser.click("#new")
+        self.assertEqual(first, self.in_page("runOfPage", 1_000_000_000))
+        browser.click("#go")
+        self.assertEqual(first, self.in_page("runOfPage", 1_000_000_000))
+        browser.click("#new")
+        second = self.in_page("runOfPage", 1_000_000_000)
+        browser.click("#go")
+        self.assertEqual(second, self.in_page("runOfPage", 1))
+        self.assertNotEqual(first, second)
+        self.assertTrue(self.moves())
 
     def test_two_pages_at_once(self):
         browser = self.open(f"{self.small.as_uri()}#4,b2")

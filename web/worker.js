@@ -1,7 +1,7 @@
 'use strict';
 // The host of one run of hexd: it gives the module what Linux gives the program. It is sent {module, words}, and then pieces
 // of its standard input as {input}, an array of bytes; {over: true} ends that. {file} is what the name record.sgf stands
-// for. It sends {fd, bytes} for each write, and at the end {status} and {memory}, the bytes that it had, or {fault}.
+// for. It sends {fd, bytes} for each write, and at the end {status} or {fault}; with {memory}, the bytes that it has.
 
 const FILE_NAME = 'record.sgf';
 const FILE = 3;
@@ -53,7 +53,7 @@ const host = {
   read: new WebAssembly.Suspending(async (fd, place, room) =>
     BigInt(fd === FILE ? readFile(place, room) : await readInput(place, room))),
   write(fd, place, count) {
-    postMessage({fd, bytes: bytesAt(place, count).slice()});
+    postMessage({fd, bytes: bytesAt(place, count).slice(), memory: memory.buffer.byteLength});
     return count;
   },
   open(path) {

@@ -139,10 +139,17 @@ class Game {
   async generate() {
     const {at, mover} = this;
     await this.hold(at);
+    at.thought = await this.thoughtOf(at);
+    await this.moved(mover, at.thought.cell);
+  }
+
+  /** What hexd says of the position that it holds, with its move. How long it took for each playout is the game's pace. */
+  async thoughtOf(position) {
     this.held = null;
-    const cell = await this.session.ask(`genmove ${mover}`);
-    at.thought = await this.ask(at, cell);
-    await this.moved(mover, cell);
+    const begun = performance.now(), cell = await this.session.ask(`genmove ${position.mover}`);
+    const took = performance.now() - begun, thought = await this.ask(position, cell);
+    if (thought.playouts) this.pace = took / thought.playouts;
+    return thought;
   }
 
   /** Asks hexd what it would play in a position, and leaves the game as it is. */
@@ -150,9 +157,7 @@ class Game {
     await this.learn(position);
     if (position.facts.winner) return;
     await this.hold(position);
-    this.held = null;
-    const cell = await this.session.ask(`genmove ${position.mover}`);
-    position.thought = await this.ask(position, cell);
+    position.thought = await this.thoughtOf(position);
     await this.session.ask('undo');
     this.held = position;
   }

@@ -118,13 +118,16 @@ class Panel {
     byId('room').hidden = !full;
     byId('again').textContent = full ? 'Try again' : 'Go on with a new process';
     byId('alert-text').textContent = lost ?? '';
-    if (settings) byId('strength-words').textContent = strengthWords(settings);
+    if (settings) byId('strength-words').textContent = strengthWords(settings, game.pace);
     if (document.activeElement !== byId('link')) byId('link').value = `${Session.address}#${linkOfTree(game.tree)}`;
   }
 }
 
-/** How hexd searches, in words. */
-function strengthWords({weight, workers}) {
-  const playouts = grouped(byId('strength').value);
-  return `hexd searches with ${playouts} playouts a move, weight ${weight}, ${counted(workers, 'worker')}.`;
+/** How hexd searches, in words. `pace` is how many milliseconds a playout took in the last search, if there was one. */
+function strengthWords({weight, workers}, pace) {
+  const playouts = Number(byId('strength').value);
+  const how = `hexd searches with ${grouped(playouts)} playouts a move, weight ${weight}, ${counted(workers, 'worker')}`;
+  if (!pace) return `${how}.`;
+  const seconds = Math.round(pace * playouts / 1000);
+  return `${how}: ${seconds ? `some ${grouped(seconds)} s` : 'less than a second'} a move, as the last search went.`;
 }

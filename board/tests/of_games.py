@@ -239,6 +239,9 @@ class Lasting(Pages):
             self.soon_in(f"with {name} playouts a move", "#strength-words")
             browser.click("#hint")
             self.soon_in(f"of {name} visits", "#words")
+            browser.ready()
+        browser.choose("#strength", "1000000")
+        self.soon_in("s a move, as the last search went", "#strength-words")
         options = [(option.get_attribute("value"), option.text) for option in browser.all("#strength option")]
         want = [("200", "as started (200)"), ("10000", "quick"), ("100000", "normal"), ("1000000", "strong")]
         self.assertEqual(want, options)
