@@ -1,5 +1,6 @@
--- The end of a walk: defaults come in, and the positional word has to be there where one is required.
+-- The end of a walk: defaults come in, and the positional word has to be there if one is required.
 use Rattle.std.proofs.Common.{◌≡◌, ◌∙◌, ◌&&◌, ◌||◌, Bool, cond, not, true, false, refl, sym, ap, List, [], ◌∷◌, ◌++◌, map, Option, Some, None, option_map, true≢false}
+use Rattle.std.proofs.lemmas.Bool.{not-true}
 use Rattle.std.specs.Prelude.{slice_get, option_and_then}
 use Rattle.std.specs.List.{find, fold, list_any}
 use Rattle.std.specs.Option.{option_map_or}
@@ -16,7 +17,7 @@ use Rattle.clap.specs.declared.parser.matches.ValueSource.TheVariants.{DefaultVa
 use Rattle.clap.proofs.WalkLemmas.{both}
 use Rattle.option_words.specs.Command.{option_built, rules_with, shape_with, word_built}
 use Rattle.option_words.specs.Grammar.{Form, OptionTable, Saying, default_sayings, defaults_of, value_of, word_name}
-use Rattle.option_words.proofs.Rules.{KeepsWord, at_row-absent, differs_back, is_false, row_for, rows_for, same_bytes, says}
+use Rattle.option_words.proofs.Rules.{KeepsWord, at_row-absent, differs_back, row_for, rows_for, same_bytes, says}
 use Rattle.option_words.proofs.Turns.{both_none}
 
 -- ---- no default is at fault
@@ -175,7 +176,7 @@ no_word_default : (t : OptionTable) → KeepsWord t → default_in t word_name �
 no_word_default [] keeps = refl
 no_word_default (o ∷ t) keeps =
     let parts = both _ _ keeps in
-    let other : bytes_eq o.0 word_name ≡ false = differs_back word_name o.0 (is_false _ parts.0) in rw other (no_word_default t parts.1)
+    let other : bytes_eq o.0 word_name ≡ false = differs_back word_name o.0 (not-true _ parts.0) in rw other (no_word_default t parts.1)
 
 abbrev given_row : Option Row → Bool
 given_row r = option_map_or (λ (x : Row). explicit_source x.source) r false

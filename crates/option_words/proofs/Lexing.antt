@@ -26,7 +26,7 @@ take_one_more n x xs = let e : 1 + n ≡ suc n = omega arith in rw e refl
 drop_one_more : (n x : ℕ) (xs : TextBytes) → drop (1 + n + 1) (x ∷ xs) ≡ drop (n + 1) xs
 drop_one_more n x xs = let e : 1 + n + 1 ≡ suc (n + 1) = omega arith in rw e refl
 
--- where the first byte is not the one looked for
+-- if the first byte is not the one looked for
 before_next : (x : ℕ) (xs : TextBytes) → (x == 61) ≡ false → before_first (λ y. y == 61) (x ∷ xs) ≡ x ∷ before_first (λ y. y == 61) xs
 before_next x xs e = rw e (take_one_more (position_or_len (λ y. y == 61) xs) x xs)
 

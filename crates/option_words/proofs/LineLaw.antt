@@ -1,4 +1,4 @@
--- `clap` finds no fault in words exactly where they are a line by the grammar, and its values are what the line says.
+-- `clap` finds no fault in words exactly if they are a line by the grammar, and its values are what the line says.
 use Rattle.std.proofs.Common.{◌≡◌, ◌∙◌, ◌||◌, ◌<◌, ℕ, Bool, cond, true, false, refl, sym, ap, subst, List, [], ◌∷◌, map, length, Option, Some, None, true≢false, zero, suc, arith, All, Contains, IsSome}
 use Rattle.std.specs.Prelude.{is_some}
 use Rattle.std.specs.List.{slice_index_or}

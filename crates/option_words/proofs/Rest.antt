@@ -45,7 +45,7 @@ rows_none : (t : Form) (w : Walk) → end_rows t w [] ≡ finished (rules_with t
 unfolding end_rows
 rows_none t w = refl
 
--- ---- where there is no fault
+-- ---- without a fault
 
 pub no_turn_fault : (t : Form) (w : Walk) (x : TextBytes) (xs : List TextBytes) → rest_fault t w (x ∷ xs) ≡ [] → turn_fault (shape_with t) [] w x ≡ []
 no_turn_fault t w x xs e = (none_both _ _ (sym (rest_more t w x xs) ∙ e)).0

@@ -1,5 +1,5 @@
 -- The rules of a command that has a positional word and options, as a parse reads them, and one use of a rule.
-use Rattle.std.proofs.lemmas.Bool.{or_parts}
+use Rattle.std.proofs.lemmas.Bool.{not-true, or_parts}
 use Rattle.std.proofs.Common.{◌≡◌, ◌∙◌, ◌&&◌, ◌||◌, ℕ, Bool, cond, true, false, not, refl, sym, ap, subst, List, [], ◌∷◌, ◌++◌, map, Option, Some, None, option_map, append-nil, true≢false, ◌==◌}
 use Rattle.std.specs.List.{find, list_any, list_all}
 use Rattle.std.specs.Option.{option_map_or}
@@ -153,10 +153,6 @@ found_all p q (y ∷ xs) x e all = go (p y) e (λ rest. found_all p q xs x rest 
 abbrev pub KeepsWord : OptionTable → Type 0
 KeepsWord t = list_all (λ o. not (bytes_eq word_name o.0)) t ≡ true
 
-pub is_false : (b : Bool) → not b ≡ true → b ≡ false
-is_false true e = absurd (true≢false (sym e))
-is_false false e = refl
-
 -- the name is an option's
 pub record HasOption (t : Form) (name : TextBytes) : Type 0 where
   pub found : Found t name
@@ -169,7 +165,7 @@ pub record HasOption (t : Form) (name : TextBytes) : Type 0 where
 pub has_option : (t : Form) → KeepsWord t.options → (name : TextBytes) (o : TextBytes × List TextBytes) → option_in t.options name ≡ Some o → HasOption t name
 has_option t keeps name o e =
     let same : o.0 ≡ name = same_bytes _ _ (found_passes (λ p. bytes_eq p.0 name) t.options o e) in
-    let other : bytes_eq word_name name ≡ false = rw (← same) (is_false _ (found_all (λ p. bytes_eq p.0 name) (λ p. not (bytes_eq word_name p.0)) t.options o e keeps)) in
+    let other : bytes_eq word_name name ≡ false = rw (← same) (not-true _ (found_all (λ p. bytes_eq p.0 name) (λ p. not (bytes_eq word_name p.0)) t.options o e keeps)) in
     record {
       found = record {
         rule = option_built o;

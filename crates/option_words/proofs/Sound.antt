@@ -1,4 +1,4 @@
--- Where a parse finds no fault, the words are parts that say each thing once, and a positional word where one is
+-- If a parse finds no fault, the words are parts that say each thing once, and a positional word if one is
 -- required.
 use Rattle.std.proofs.Common.{◌≡◌, ◌≢◌, ◌∙◌, ◌==◌, ℕ, Bool, cond, true, false, refl, sym, ap, ap₂, subst, List, [], ◌∷◌, ◌++◌, map, Option, Some, None, option_map, append-nil, append_assoc}
 use Rattle.std.specs.Prelude.{unwrap_or, ⊤}
@@ -136,7 +136,7 @@ abbrev IsStand : Form → Stand → Type 0
 IsStand t (ready S q) = Pending t q × Once S
 IsStand t (asks S id) = HasOption t id × Once S
 
--- the words are parts from here on; where an option waits, its value comes first
+-- the words are parts from here on; if an option waits, its value comes first
 abbrev Spells : Form → Stand → List TextBytes → Type 0
 Spells t (ready S q) words = Spelling t (base S q) words
 Spells t (asks S id) words = (value : TextBytes) × (more : List TextBytes) × (words ≡ value ∷ more) × (begins_with_hyphen value ≡ false) × Spelling t (S ++ (id, value) ∷ []) more

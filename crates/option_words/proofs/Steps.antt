@@ -48,7 +48,7 @@ pub fault_unknown : (s : Shape) (h : Held) (w : Waiting) (position : ℕ) (word 
     → turn_fault s [] (at h w position) word ≡ kind.UnknownArgument ∷ []
 fault_unknown s h w position word name v none no_dashes long unknown = rw (none, no_dashes, long, unknown) refl
 
--- ---- short options, where the command has none
+-- ---- short options, of which the command has none
 
 pub fault_short : (s : Shape) (h : Held) (w : Waiting) (position : ℕ) (word : TextBytes) (y x : ℕ) (ys : TextBytes) → subcommand_met [] w word ≡ None → bytes_eq word dashes ≡ false → long_of word ≡ None → short_of word ≡ Some (y ∷ ys) → h.skip ≡ 0 → slice_get (chars (y ∷ ys)) 0 ≡ Some x → arg_by_short s.rules x ≡ None
     → turn_fault s [] (at h w position) word ≡ kind.UnknownArgument ∷ []

@@ -1,6 +1,6 @@
--- Where the words are parts that say each thing once, and a positional word where one is required, a parse finds no
+-- If the words are parts that say each thing once, and a positional word if one is required, a parse finds no
 -- fault in them, and its rows are what they say.
-use Rattle.std.proofs.lemmas.Bool.{or_parts}
+use Rattle.std.proofs.lemmas.Bool.{not-true, or_parts}
 use Rattle.std.proofs.Common.{◌≡◌, ◌∙◌, ◌==◌, ℕ, true, false, refl, sym, ap, ap₂, subst, List, [], ◌∷◌, ◌++◌, Option, Some, None, append-nil, append_assoc, true≢false}
 use Rattle.std.specs.List.{flat_map, list_all}
 use Rattle.std.specs.Str.{bytes_eq}
@@ -8,7 +8,7 @@ use Rattle.clap.specs.Lexer.{long_of}
 use Rattle.clap.specs.Walk.{Held, Text as TextBytes, Waiting, idle, next_position, option, settled}
 use Rattle.option_words.specs.Command.{is_name, rules_with, shape_with, word_built}
 use Rattle.option_words.specs.Grammar.{Form, OptionTable, Part, Saying, after_hyphens, apart, joined, part_words, plain, word_name}
-use Rattle.option_words.proofs.Rules.{KeepsWord, conflict, found_all, found_word, found_passes, has_option, is_false, option_in, same_bytes, says}
+use Rattle.option_words.proofs.Rules.{KeepsWord, conflict, found_all, found_word, found_passes, has_option, option_in, same_bytes, says}
 use Rattle.option_words.proofs.Steps.{at, dashes, fault_dashes, fault_joined, fault_named, fault_past, fault_plain, fault_value, past, walked_dashes, walked_joined, walked_named, walked_past, walked_plain, walked_value}
 use Rattle.option_words.proofs.Turns.{Pending, asking, clashes, held_with, or_nothing, react_passes, reacted_is, settle_is, settled_is}
 use Rattle.option_words.proofs.Lexing.{name_and_value_at, name_and_value_none, plain_facts}
@@ -28,11 +28,11 @@ named t well name o e =
 
 long_joined : (name v : TextBytes) → is_name name ≡ true → (bytes_eq (dashes ++ (name ++ (61 ∷ v))) dashes ≡ false) × (long_of (dashes ++ (name ++ (61 ∷ v))) ≡ Some (name, Some v))
 long_joined [] v h = absurd (true≢false (sym h))
-long_joined (b ∷ bs) v h = (refl, ap (λ p. Some p) (name_and_value_at (b ∷ bs) v (is_false _ h)))
+long_joined (b ∷ bs) v h = (refl, ap (λ p. Some p) (name_and_value_at (b ∷ bs) v (not-true _ h)))
 
 long_named : (name : TextBytes) → is_name name ≡ true → (bytes_eq (dashes ++ name) dashes ≡ false) × (long_of (dashes ++ name) ≡ Some (name, None))
 long_named [] h = absurd (true≢false (sym h))
-long_named (b ∷ bs) h = (refl, ap (λ p. Some p) (name_and_value_none (b ∷ bs) (is_false _ h)))
+long_named (b ∷ bs) h = (refl, ap (λ p. Some p) (name_and_value_none (b ∷ bs) (not-true _ h)))
 
 -- ---- what was not said before
 

@@ -23,7 +23,7 @@ abbrev pub FaultlessIsLine : App → Form → List TextBytes → Type 0
 FaultlessIsLine app form words =
     ArePlain words → HasNoFault app words → (said : List Saying) × IsLine form words said
 
--- the matches that clap finds in the words, or none where it finds a fault
+-- the matches that clap finds in the words, or none if it finds a fault
 abbrev pub FindsMatches : App → List TextBytes → Option ArgMatches → Type 0
 FindsMatches app words found = MatchOption found (fault_of app words ≢ [])
     (λ m. HasNoFault app words × (rows_of (found_of m) ≡ matches_of app words))

@@ -5,7 +5,7 @@ use Rattle.std.specs.List.{All, Contains, AllPairs, flat_map}
 use Rattle.std.specs.Str.{bytes_eq}
 use Rattle.option_words.specs.Values.{TextBytes}
 
--- the options by name, each with the text that stands for it where it is not said, if one does
+-- the options by name, each with the text that stands for it if it is not said, if one does
 abbrev pub OptionTable : Type 0
 OptionTable = List (TextBytes × List TextBytes)
 

@@ -4,7 +4,7 @@ use Rattle.option_words.specs.Grammar.{Form, Saying, SaysInOrder, SaysOnce, defa
 use Rattle.option_words.specs.Grammar.{word_name}
 use Rattle.option_words.specs.Values.{TextBytes}
 
--- The words say each thing at most once, and a positional word where one is required, whatever the
+-- The words say each thing at most once, and a positional word if one is required, whatever the
 -- values are.
 pub record IsLine (form : Form) (words : List TextBytes) (said : List Saying) : Type 0 where
   pub says : SaysInOrder form.options words said

@@ -16,9 +16,9 @@ use clap::error::ErrorKind;
 use clap::{ArgMatches, Command, Error};
 use hex_io::Word;
 
-/// What the words say by the command. Where something is found, they are a line of its form, and
-/// the value of each name is what the line says, or the default. Where nothing is, they are no line
-/// of it, or one whose positional word is a hyphen alone.
+/// What the words say by the command. If something is found, they are a line of its form, and the
+/// value of each name is what the line says, or the default. If nothing is, they are no line of it,
+/// or one whose positional word is a hyphen alone.
 pub fn find<'a>(command: Command<'a>, words: &'a [Word]) -> Result<Option<ArgMatches<'a>>, Memory>
     ensures { IfOk result (FindsByForm (app_of command.entry) words.now) }
 {
@@ -44,7 +44,7 @@ pub fn clap_reads_lines(words: &[Word])
 }
 
 // Whether one of the words is a hyphen alone. In a line only the positional word may be one, but
-// `clap` takes it for any value. Where none is, each word is text.
+// `clap` takes it for any value. If none is, each word is text.
 fn has_lone_hyphen(words: &[Word]) -> bool
     ensures found { IsTrue result ↔ Contains words.now lone_hyphen }
     ensures text { OnFalse result (All IsUtf8 words.now) }
@@ -57,7 +57,7 @@ fn has_lone_hyphen(words: &[Word]) -> bool
     false
 }
 
-// What `clap` finds in the words; none exactly where it finds a fault in them.
+// What `clap` finds in the words; none exactly if it finds a fault in them.
 fn matched<'a>(command: Command<'a>, words: &'a [Word]) -> Result<Option<ArgMatches<'a>>, Memory>
     ensures { IfOk result (λ found. (form : Form) → ReadsForm (app_of command.entry) form
         → FindsMatches (app_of command.entry) words.now found) }
@@ -68,7 +68,7 @@ fn matched<'a>(command: Command<'a>, words: &'a [Word]) -> Result<Option<ArgMatc
     }
 }
 
-// A fault of the words is no want of memory.
+// A fault of the words doesn't say that memory ran out.
 fn none_unless_full<'a>(error: &Error) -> Result<Option<ArgMatches<'a>>, Memory>
     ensures { IfOk result (λ r. (r ≡ None) × (kind_of error.now ≢ ErrorKind.OutOfMemory)) }
 {

@@ -7,7 +7,7 @@ ghost use Rattle.option_words.specs.Values.{IsNumberFrom};
 use crate::numbers::{number, small_number};
 use clap::ArgMatches;
 
-/// An option that is a number: its name, what stands for it where it is not said, and its least and
+/// An option that is a number: its name, what stands for it if it is not said, and its least and
 /// its greatest number.
 pub type NumberOption = (&'static str, &'static str, u32, u32);
 

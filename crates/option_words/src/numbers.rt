@@ -13,7 +13,7 @@ ghost use Rattle.option_words.specs.Values.{IsNumberFrom, IsShortNumeral, switch
 const MOST_DIGITS: usize = 20;
 
 /// The number that the text writes in one to twenty decimal digits, without a sign, if it is from
-/// `least` to `most`.
+/// `least` to `most`, bounds of 64 bits.
 pub fn number(text: Option<&str>, least: u64, most: u64) -> Option<u64>
     ensures { (n : ℕ) → (result ≡ Some n)
         ↔ IsNumberFrom least most (option_map (λ t. t.now) text.entry) n }
@@ -26,7 +26,8 @@ pub fn number(text: Option<&str>, least: u64, most: u64) -> Option<u64>
     }
 }
 
-/// As `number`, of a number that fits 32 bits.
+/// The number that the text writes in one to twenty decimal digits, without a sign, if it is from
+/// `least` to `most`. Both bounds fit 32 bits, and so does the number.
 pub fn small_number(text: Option<&str>, least: u32, most: u32) -> Option<u32>
     ensures { (n : ℕ) → (result ≡ Some n)
         ↔ IsNumberFrom least most (option_map (λ t. t.now) text.entry) n }
@@ -35,7 +36,7 @@ pub fn small_number(text: Option<&str>, least: u32, most: u32) -> Option<u32>
     Some(n as u32)
 }
 
-// The number that the text writes in one to twenty decimal digits, where it fits 64 bits.
+// The number that the text writes in one to twenty decimal digits, if it fits 64 bits.
 fn digits(text: &str) -> Option<u64>
     ensures { SomeIff result (IsShortNumeral text.now) (digits_value 10 text.now) }
 {
