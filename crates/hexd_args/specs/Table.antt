@@ -8,7 +8,7 @@ use Rattle.hexd_args.specs.declared.table.TheConstants.{SIZE, WORKERS, PLAYOUTS,
 use Rattle.hexd_args.specs.declared.table.TheConstants.{EXPAND, WEIGHT, HSEARCH, STEPS, BUDGET}
 use Rattle.hexd_args.specs.declared.table.TheConstants.{TRACE}
 
--- the options, each with the text that stands for it where it is not said; for `trace` there is
+-- the options, each with the text that stands for it if it is not said; for `trace` there is
 -- none
 abbrev pub knob_table : OptionTable
 knob_table = (SIZE.0.now, SIZE.1.now ∷ [])

@@ -9,7 +9,7 @@ use crate::table::{
     BUDGET, EXPAND, HSEARCH, PLAYOUTS, SEED, SIZE, STEPS, TRACE, WEIGHT, WORDS, WORKERS,
 };
 
-/// A law, with nothing to run: each option has this name, this value where it is not said, and this
+/// A law, with nothing to run: each option has this name, this value if it is not said, and this
 /// range.
 pub fn options_are_those_of_the_manual()
     ensures size { (SIZE.0.now ≡ codes "size") × (SIZE.1.now ≡ codes "11") }

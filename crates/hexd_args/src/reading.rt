@@ -20,7 +20,7 @@ use option_words::{find, found_long_number, found_number, switch};
 use std::alloc::Global;
 use tree_words::Knobs;
 
-/// The options that the words ask for; none exactly where the words are not well formed.
+/// The options that the words ask for; none exactly if the words are not well formed.
 pub fn read_words(alloc: Global, words: &[Word]) -> Result<Option<Options>, Memory>
     ensures exact { IfOk result (λ r. (o : Options) → (r ≡ Some o) ↔ WellFormed words.now o) }
     ensures ranges { IfOk result (λ r. IfSome r OptionsInRange) }
@@ -32,7 +32,7 @@ pub fn read_words(alloc: Global, words: &[Word]) -> Result<Option<Options>, Memo
     }
 }
 
-// The options that the matches say; none where a value is not as its option wants it.
+// The options that the matches say; none if a value is not as its option wants it.
 fn options_of(alloc: Global, matches: &ArgMatches<'_>) -> Result<Option<Options>, Memory>
     ensures { IfOk result (λ r. (o : Options)
         → (r ≡ Some o) ↔ AreOptions (first_value (found_of matches.now)) o) }
@@ -63,7 +63,7 @@ fn copied(alloc: Global, text: Option<&str>) -> Result<Option<Word>, Memory>
     }
 }
 
-// The options, where the name of the trace is at hand. The ranges are those of the table.
+// The options; the name of the trace is at hand. The ranges are those of the table.
 fn with_trace(matches: &ArgMatches<'_>, trace: Option<Word>) -> Option<Options>
     requires as_given { first_value (found_of matches.now) TRACE.now ≡ trace }
     requires named { trace ≢ Some [] }
@@ -81,7 +81,7 @@ fn with_trace(matches: &ArgMatches<'_>, trace: Option<Word>) -> Option<Options>
     })
 }
 
-// The knobs of a search; none where a value is not as its option wants it.
+// The knobs of a search; none if a value is not as its option wants it.
 fn knobs(matches: &ArgMatches<'_>) -> Option<Knobs>
     ensures { (k : Knobs)
         → (result ≡ Some k) ↔ AreKnobs (first_value (found_of matches.now)) k }

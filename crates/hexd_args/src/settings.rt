@@ -22,26 +22,25 @@ pub enum Mode {
     Solve,
 }
 
-/// The mode, and the value of each option, given or default. The ranges and the defaults are those
-/// of [`options_are_those_of_the_manual`](crate::options_are_those_of_the_manual).
+/// The mode, and the value of each option, given or default. What an option means, its default and
+/// its range stand in the constant of its name in src/table.rt, and the numbers in
+/// [`options_are_those_of_the_manual`](crate::options_are_those_of_the_manual).
 ///
 /// An option that the mode does not use was read and tested all the same, and has no effect.
 #[derive(Debug, Drop)]
 pub struct Options {
     /// What the program does.
     pub mode: Mode,
-    /// `--size`: cells on a side of the first board.
+    /// `SIZE`.
     pub size: u32,
-    /// What a search is told: `--workers`, `--playouts`, `--seed`, where the random numbers begin,
-    /// `--words`, the room of its tree in words, `--expand`, the visits at which a node gets its
-    /// children, and `--weight`, how much exploration weighs.
+    /// `WORKERS`, `PLAYOUTS`, `SEED`, `WORDS`, `EXPAND` and `WEIGHT`.
     pub knobs: Knobs,
-    /// `--hsearch`: whether connections are searched for.
+    /// Whether `HSEARCH` is on.
     pub hsearch: bool,
-    /// `--steps`: how many steps the schedule of a simulation has.
+    /// `STEPS`.
     pub steps: u32,
-    /// `--budget`: how many positions the solver may enter.
+    /// `BUDGET`.
     pub budget: u64,
-    /// `--trace`: the name of the file for traces, of at least one byte, if there is one.
+    /// `TRACE`: at least one byte, if there is one.
     pub trace: Option<Word>,
 }

@@ -14,7 +14,7 @@ use Rattle.hexd_args.proofs.reading.read_words.Goals as goal
 reads_now : (app : App) → app ≡ hexd_app → ReadsForm app hexd_form
 reads_now app is = subst (λ (a : App). ReadsForm a hexd_form) (sym is) hexd_reads
 
--- no options where the words are not well formed
+-- no options if the words are not well formed
 none_well : (words : List TextBytes) → ((o : Options) → WellFormed words o → ⊥) → (o : Options) → (let r : Option Options = None in r ≡ Some o) ↔ WellFormed words o
 none_well words never o = ((λ same. cc), λ well. absurd (never o well))
 
