@@ -9,7 +9,7 @@ MOST_WORKERS = 4
 BEST = {"playouts": 100_000, "weight": 0, "workers": min(MOST_WORKERS, len(os.sched_getaffinity(0)))}
 HELP = {
     "playouts": "how many playouts a search makes",
-    "weight": "how much few visits count in a score",
+    "weight": "how much exploration weighs in a score",
     "workers": "by how many workers",
 }
 

@@ -11,5 +11,5 @@ complete -c hexmatch -l words-a -x -d 'Words that the blocks of a tree of side a
 complete -c hexmatch -l words-b -x -d 'Words that the blocks of a tree of side b have: 1,024 to 16,777,216'
 complete -c hexmatch -l expand-a -x -d 'Visits from which on a node of side a gets children: 1 to 1,000'
 complete -c hexmatch -l expand-b -x -d 'Visits from which on a node of side b gets children: 1 to 1,000'
-complete -c hexmatch -l weight-a -x -d 'How much few visits count in a score of side a: 0 to 1,024'
-complete -c hexmatch -l weight-b -x -d 'How much few visits count in a score of side b: 0 to 1,024'
+complete -c hexmatch -l weight-a -x -d 'How much exploration weighs in a score of side a: 0 to 1,024'
+complete -c hexmatch -l weight-b -x -d 'How much exploration weighs in a score of side b: 0 to 1,024'
