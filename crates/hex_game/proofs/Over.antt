@@ -6,7 +6,8 @@ use Rattle.hex_board.specs.Positions.{Position}
 use Rattle.hex_board.specs.Joined.{is_joined, winner_of}
 use Rattle.hex_game.specs.Games.{is_over}
 
-none_joined : (a b : Bool) → cond a (Some Black) (cond b (Some White) None) ≡ None → (a || b) ≡ false
+none_joined : (a b : Bool) → cond a (Some Black) (cond b (Some White) None) ≡ None
+    → (a || b) ≡ false
 none_joined true b e = absurd (cc)
 none_joined false true e = absurd (cc)
 none_joined false false e = refl

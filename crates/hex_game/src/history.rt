@@ -11,7 +11,7 @@ ghost use Rattle.hex_game.specs.Games.{IsOnBoard, AreLegal};
 use super::moves::{MOST_STEPS, Memory, Move, NoMove, PlayError, Step};
 use super::rule::{board_after, cause_against};
 use hex_board::Board;
-use hex_cells::{Cell, CellSet, Colour, Size};
+use hex_cells::{Cell, Colour, Size};
 use std::alloc::Global;
 use std::marker::Model;
 
@@ -105,7 +105,7 @@ impl Game {
     pub fn clear(&mut self, size: Size)
         ensures { self.new ≡ new_game (empty_board size) }
     {
-        let board = Board::of(size, CellSet::none(), CellSet::none());
+        let board = Board::empty(size);
         self.start = board;
         self.board = board;
         self.steps.clear();
@@ -139,7 +139,8 @@ impl Game {
         ensures legal { AreLegal self.now.start self.now.steps }
         ensures few { length self.now.steps ≤ MOST_STEPS }
     {
-        // That the board's two sets of stones are apart bounds the steps.
+        // Brings what the type keeps into scope: that the two sets of stones are apart bounds
+        // the steps.
         let _stones = self.board.stones(Colour::Black);
     }
 }

@@ -57,7 +57,7 @@ fn is_bare(start: &Board) -> bool
     start.stones(Colour::Black) == CellSet::none() && start.stones(Colour::White) == CellSet::none()
 }
 
-/// The cell of Black's stone, where that one stone is the whole history.
+/// The cell of Black's stone, if that one stone is the whole history.
 fn lone_stone(steps: &[Step]) -> Option<Cell>
     ensures { result ≡ lone_black_stone steps.now }
 {
@@ -97,8 +97,8 @@ fn with_stone(now: &Board, colour: Colour, cell: Cell) -> Board
     ensures room { stones_on now.now < MOST_CELLS }
     ensures more { stones_on result ≡ stones_on now.now + 1 }
 {
-    // That the board has at most 121 cells and that its two sets are apart leaves room for one more
-    // stone.
+    // Brings what the type keeps into scope: at most 121 cells and two sets that are apart leave
+    // room for one more stone.
     let _size = now.size();
     let _stones = now.stones(Colour::Black);
     let mut next = *now;
