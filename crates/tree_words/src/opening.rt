@@ -4,7 +4,7 @@ ghost use Rattle.std.specs.Prelude.{◌≡◌, IfOk, replicate};
 ghost use Rattle.tree_words.specs.Words.{end_of};
 ghost use Rattle.tree_words.specs.Opening.{AreOpening, opening_words};
 
-use super::layout::{HEADER_WORDS, LINK_WORD, NEXT_AT, NODE_WORDS, RECORDS_AT};
+use super::layout::{HEADER_WORDS, LINK_WORD, NEXT_AT, NODE_WORDS};
 use super::roots::Memory;
 use super::shapes::Shape;
 use super::writing::write_block;
@@ -16,7 +16,7 @@ fn write_opening(words: &mut [u64], shape: &Shape)
     ensures opening { AreOpening shape.now words.new }
     ensures told { words.new ≡ opening_words shape.now }
 {
-    let root = shape.knobs().playouts as usize + RECORDS_AT;
+    let root = shape.root() as usize;
     let start = root + NODE_WORDS;
     let board = shape.board();
     let count = write_block(

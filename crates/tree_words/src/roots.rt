@@ -7,9 +7,7 @@ ghost use Rattle.tree_words.specs.Roots.{HasRoot, IsBest, root_count, root_link,
 ghost use Rattle.tree_words.specs.Roots.{Beats, Rise};
 
 use super::closed_tree::Closed;
-use super::layout::{
-    COUNT_WORD, HEADER_WORDS, LINK_WORD, MOST_NODES, NODE_WORDS, RECORDS_AT, TALLY_WORD,
-};
+use super::layout::{COUNT_WORD, HEADER_WORDS, LINK_WORD, MOST_NODES, NODE_WORDS, TALLY_WORD};
 use super::readings::{cell_of, visits_of, wins_of};
 use hex_cells::Cell;
 use std::alloc::Global;
@@ -48,7 +46,7 @@ impl Closed {
     {
         // What the tree keeps of its words.
         let _words = self.words();
-        let root = self.shape().knobs().playouts as usize + RECORDS_AT;
+        let root = self.shape().root() as usize;
         self.word(root + LINK_WORD) as usize
     }
 

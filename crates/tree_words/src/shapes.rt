@@ -4,10 +4,10 @@ ghost use Rattle.std.specs.Prelude.{◌≡◌, ◌≤◌};
 ghost use Rattle.hex_board.specs.Positions.{AllEmpty};
 ghost use Rattle.tree_words.specs.Areas.{IsNarrower, with_area};
 ghost use Rattle.tree_words.specs.Settings.{AreInRange, IsAny, IsSetting};
-ghost use Rattle.tree_words.specs.Words.{end_of};
+ghost use Rattle.tree_words.specs.Words.{area_at, end_of, root_at};
 ghost use Rattle.tree_words.specs.declared.settings.TheConstants.{LEAST_WORDS};
 
-use super::layout::FRONT_WORDS;
+use super::layout::{FRONT_WORDS, RECORDS_AT};
 use super::settings::Knobs;
 use hex_board::Board;
 use hex_cells::{CellSet, Colour};
@@ -120,6 +120,22 @@ impl Shape {
             ..*self.knobs()
         };
         Shape::make(self.board(), self.colour(), self.allowed(), &knobs)
+    }
+
+    /// The first word of the root node, behind NEXT, TICKET and the records.
+    #[inline]
+    pub fn root(&self) -> u32
+        ensures { result ≡ root_at self.now }
+    {
+        self.knobs.playouts + RECORDS_AT as u32
+    }
+
+    /// The first word of the block area, behind the root's four words.
+    #[inline]
+    pub fn area(&self) -> u32
+        ensures { result ≡ area_at self.now }
+    {
+        self.knobs.playouts + FRONT_WORDS as u32
     }
 
     /// The number of words of the tree: one for NEXT, one for TICKET, one for each record, four for
