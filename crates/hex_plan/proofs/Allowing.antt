@@ -23,19 +23,23 @@ use Rattle.std.specs.declared.option.Option.{Option}
 abbrev pub HasRoom : Position → Type 0
 HasRoom board = (k : ℕ) × (is_empty_at board k ≡ true)
 
-empties_allowed : (board : Position) (allowed : ℕ) → HasEmpties allowed board → HasRoom board → IsAny allowed × AllEmpty board allowed
+empties_allowed : (board : Position) (allowed : ℕ) → HasEmpties allowed board → HasRoom board
+    → IsAny allowed × AllEmpty board allowed
 empties_allowed board allowed h w = ((w.0, h.items w.0 ∙ w.1), λ k i. sym (h.items k) ∙ i)
 
 -- a set of empty cells that is not known to have none has one
-some_cell : (board : Position) (set : ℕ) → AllEmpty board set → (((k : ℕ) → has set k ≡ true → ⊥) → ⊥) → IsAny set
+some_cell : (board : Position) (set : ℕ) → AllEmpty board set
+    → (((k : ℕ) → has set k ≡ true → ⊥) → ⊥) → IsAny set
 some_cell board set empty f = by_test (list_any (has set) (cells_of board.size)) refl
   where
     by_test : (b : Bool) → list_any (has set) (cells_of board.size) ≡ b → IsAny set
     by_test true e = let w = any_out (has set) 0 (board.size * board.size) e in (w.0, w.2)
     by_test false e = absurd (f (λ k h.
-        both_ways (list_any (has set) (cells_of board.size)) e (any_in (has set) 0 (board.size * board.size) k (omega arith) (omega (arith, empty_on board k (empty k h))) h)))
+        both_ways (list_any (has set) (cells_of board.size)) e
+        (any_in (has set) 0 (board.size * board.size) k (omega arith) (omega (arith, empty_on board k (empty k h))) h)))
 
-region_allowed : (board : Position) (threats : List Threat) (allowed : ℕ) (lost : Bool) → IsMustplay board threats allowed lost → HasRoom board → IsAny allowed × AllEmpty board allowed
+region_allowed : (board : Position) (threats : List Threat) (allowed : ℕ) (lost : Bool)
+    → IsMustplay board threats allowed lost → HasRoom board → IsAny allowed × AllEmpty board allowed
 region_allowed board threats allowed true m w = empties_allowed board allowed (m.free refl) w
 region_allowed board threats allowed false m w =
     let n = m.narrowed refl in
@@ -45,14 +49,20 @@ region_allowed board threats allowed false m w =
     not_lost : false ≡ true → ⊥
     not_lost e = absurd (cc)
 
-by_plan : (board : Position) (player : Colour) (plan : Plan) (own other : Option StoreData) → IsPlannedBy board player plan own other → HasRoom board → AllowsEmpties board plan
+by_plan : (board : Position) (player : Colour) (plan : Plan) (own other : Option StoreData)
+    → IsPlannedBy board player plan own other → HasRoom board → AllowsEmpties board plan
 by_plan board player (Win cert cell) own other h w = tt
-by_plan board player (Search threats allowed lost) own other (d, e, p, q, n) w = region_allowed board threats allowed lost n.mustplay w
+by_plan board player (Search threats allowed lost) own other (d, e, p, q, n) w
+    = region_allowed board threats allowed lost n.mustplay w
 
-pub planned_allows : (board : Position) (player : Colour) (hsearch : Bool) (p : Planned) → IsPlanned board player hsearch p → HasRoom board → AllowsEmpties board p.plan
+pub planned_allows : (board : Position) (player : Colour) (hsearch : Bool) (p : Planned)
+    → IsPlanned board player hsearch p → HasRoom board → AllowsEmpties board p.plan
 planned_allows board player true p h w = by_plan board player p.plan p.own p.other h w
-planned_allows board player false p h w = subst (λ (v : Plan). AllowsEmpties board v) (sym h.plan) (empties_allowed board h.allowed h.empties w)
+planned_allows board player false p h w = subst (λ (v : Plan). AllowsEmpties board v) (sym h.plan)
+    (empties_allowed board h.allowed h.empties w)
 
-pub if_allows : {E : Type 0} (board : Position) (player : Colour) (hsearch : Bool) (r : Result Planned E) → HasRoom board → IfOk r (IsPlanned board player hsearch) → IfOk r (λ p. AllowsEmpties board p.plan)
+pub if_allows : {E : Type 0} (board : Position) (player : Colour) (hsearch : Bool)
+    (r : Result Planned E) → HasRoom board → IfOk r (IsPlanned board player hsearch)
+    → IfOk r (λ p. AllowsEmpties board p.plan)
 if_allows board player hsearch (Ok p) w h = planned_allows board player hsearch p h w
 if_allows board player hsearch (Err e) w h = tt

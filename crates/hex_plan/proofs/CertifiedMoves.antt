@@ -1,5 +1,6 @@
 -- What plans and good turns say of winning: certified moves win, and moves outside a threat lose.
-use Rattle.std.proofs.Common.{◌≡◌, ℕ, [], ◌∷◌, Bool, true, false, List, Option, Some, All, suc, refl, sym, ◌∙◌, subst, inl, inr}
+use Rattle.std.proofs.Common.{◌≡◌, ℕ, [], ◌∷◌, Bool, true, false, List, Option, Some, All, suc}
+use Rattle.std.proofs.Common.{refl, sym, ◌∙◌, subst, inl, inr}
 use Rattle.std.specs.List.{slice_get}
 use Rattle.std.proofs.lemmas.Bool.{cases_Bool}
 use Rattle.std.proofs.lemmas.List.Elements.{All-cons, All-nil}
@@ -24,9 +25,11 @@ use Rattle.tree_words.specs.declared.settings.Knobs.{Knobs}
 use Rattle.win_cert.specs.Cuts.{IsEdgeEntryAt}
 use Rattle.win_cert.specs.declared.certs.Cert.{Cert}
 use Rattle.hex_plan.specs.Good.{FollowsPlan, IsGood}
-use Rattle.hex_plan.specs.Laws.{HoldsOfPlans, IsCertified, LosesAsPlanned, LosesOutsideCarriers, LosesOutsideThreats, LosesWhereLost, WinsAsPlanned}
+use Rattle.hex_plan.specs.Laws.{HoldsOfPlans, IsCertified, LosesAsPlanned, LosesOutsideCarriers}
+use Rattle.hex_plan.specs.Laws.{LosesOutsideThreats, LosesWhereLost, WinsAsPlanned}
 use Rattle.hsearch.specs.Closed.{IsReportOf}
-use Rattle.hex_plan.specs.Plans.{IsCertifiedWin, IsInEach, IsMiddle, IsNarrowed, IsPlanned, IsPlannedBy, IsThreat, IsWin, IsWinBy, IsWinningCell}
+use Rattle.hex_plan.specs.Plans.{IsCertifiedWin, IsInEach, IsMiddle, IsNarrowed, IsPlanned}
+use Rattle.hex_plan.specs.Plans.{IsPlannedBy, IsThreat, IsWin, IsWinBy, IsWinningCell}
 use Rattle.hex_plan.specs.Turns.{TurnData}
 use Rattle.hex_plan.specs.declared.plans.Planned.{Planned}
 use Rattle.hex_plan.specs.declared.threats.Threat.{Threat}
@@ -34,36 +37,53 @@ use Rattle.hex_plan.specs.declared.types.Plan.{Plan}
 use Rattle.hex_plan.specs.declared.types.Plan.TheVariants.{Win, Search}
 use Rattle.hex_plan.proofs.Middles.{IsOverCell, over_cell}
 use Rattle.hex_plan.proofs.PlanLaws.{planned_win}
-use Rattle.hex_plan.proofs.SureWins.{EdgesLink, entry_says, full_wins, middle_wins, wins_after_other}
+use Rattle.hex_plan.proofs.SureWins.{EdgesLink, entry_says, full_wins, middle_wins}
+use Rattle.hex_plan.proofs.SureWins.{wins_after_other}
 use Rattle.hsearch.proofs.Steps.{at_second, at_first}
 use Rattle.win_cert.proofs.CutDerivations.{some_entry}
 
 -- the entries of a report are true
-report_true : (board : Position) (player : Colour) (d : StoreData) → IsPosition board.size board.black board.white → IsReportOf board player d → AreTrue d
-report_true board player d on r = sound_true d (board_small d.elements (subst AreOfBoard (sym r.elements) on)) r.report.sound
+report_true : (board : Position) (player : Colour) (d : StoreData)
+    → IsPosition board.size board.black board.white → IsReportOf board player d → AreTrue d
+report_true board player d on r
+    = sound_true d (board_small d.elements (subst AreOfBoard (sym r.elements) on)) r.report.sound
 
 -- ---- certified moves
 
 -- the element over which the entry follows is that of its middle
-the_middle : (d : StoreData) (a : Entry) (k : ℕ) (m : IsMiddle d a k) (o : IsOverCell d a m.numbers.0 m.numbers.1) → IsSound d → m.middle ≡ o.u
+the_middle : (d : StoreData) (a : Entry) (k : ℕ) (m : IsMiddle d a k)
+    (o : IsOverCell d a m.numbers.0 m.numbers.1) → IsSound d → m.middle ≡ o.u
 the_middle d a k m o s =
     let i = m.numbers.0 in
     let j = m.numbers.1 in
-    let one : m.parts.0 ≡ o.first = some_entry m.parts.0 o.first (sym (at_first d.entries i j m.parts.0 m.parts.1 m.at) ∙ o.first_at) in
-    let two : m.parts.1 ≡ o.second = some_entry m.parts.1 o.second (sym (at_second d.entries i j m.parts.0 m.parts.1 m.at) ∙ o.second_at) in
+    let one : m.parts.0 ≡ o.first
+    = some_entry m.parts.0 o.first
+    (sym (at_first d.entries i j m.parts.0 m.parts.1 m.at) ∙ o.first_at) in
+    let two : m.parts.1 ≡ o.second
+    = some_entry m.parts.1 o.second (sym (at_second d.entries i j m.parts.0 m.parts.1 m.at) ∙ o.second_at) in
     let chain : IsChain o.first o.second m.ends.0 m.middle m.ends.1
-    = subst (λ (v : Entry). IsChain o.first v m.ends.0 m.middle m.ends.1) two (subst (λ (v : Entry). IsChain v m.parts.1 m.ends.0 m.middle m.ends.1) one m.chain) in
+    = subst (λ (v : Entry). IsChain o.first v m.ends.0 m.middle m.ends.1) two
+    (subst (λ (v : Entry). IsChain v m.parts.1 m.ends.0 m.middle m.ends.1) one m.chain) in
     (one_chain o.first o.second m.ends.0 m.middle m.ends.1 o.x o.u o.y (s.valid i o.first o.first_at).order (s.valid j o.second o.second_at).order chain o.rule.chain).1
 
-cell_wins : (d : StoreData) (n : ℕ) (a : Entry) (kind : Kind) (k : ℕ) → IsSound d → AreTrue d → Within d.elements.board.size (stones_of d.elements.board d.elements.player) → IsEdgeEntryAt d n a → a.kind ≡ kind
-    → IsWinningCell d a kind k → Wins d.elements.player (placed d.elements.board d.elements.player k) (other_of d.elements.player)
-cell_wins d n a Full k s ts on at q w = full_wins d.elements a k on at.1 (s.valid n a at.0) (ts n a at.0) q w.0
+cell_wins : (d : StoreData) (n : ℕ) (a : Entry) (kind : Kind) (k : ℕ) → IsSound d → AreTrue d
+    → Within d.elements.board.size (stones_of d.elements.board d.elements.player)
+    → IsEdgeEntryAt d n a → a.kind ≡ kind
+    → IsWinningCell d a kind k
+    → Wins d.elements.player (placed d.elements.board d.elements.player k)
+    (other_of d.elements.player)
+cell_wins d n a Full k s ts on at q w = full_wins d.elements a k on at.1 (s.valid n a at.0)
+    (ts n a at.0) q w.0
 cell_wins d n a Semi k s ts on at q w =
-    let o : IsOverCell d a w.numbers.0 w.numbers.1 = over_cell d n a w.numbers.0 w.numbers.1 s at.0 w.cause in
-    middle_wins d.elements a o.first o.second o.x o.u o.y k on at.1 o.pair (s.valid _ o.first o.first_at) (s.valid _ o.second o.second_at) (ts _ o.first o.first_at)
-    (ts _ o.second o.second_at) o.rule (subst (λ v. IsCell d.elements v k) (the_middle d a k w o s) w.cell)
+    let o : IsOverCell d a w.numbers.0 w.numbers.1
+    = over_cell d n a w.numbers.0 w.numbers.1 s at.0 w.cause in
+    middle_wins d.elements a o.first o.second o.x o.u o.y k on at.1 o.pair
+    (s.valid _ o.first o.first_at) (s.valid _ o.second o.second_at) (ts _ o.first o.first_at)
+    (ts _ o.second o.second_at) o.rule
+    (subst (λ v. IsCell d.elements v k) (the_middle d a k w o s) w.cell)
 
-won_wins : (board : Position) (player : Colour) (cert : Cert) (k : ℕ) (d : StoreData) → IsPosition board.size board.black board.white → IsCertifiedWin board player cert k d
+won_wins : (board : Position) (player : Colour) (cert : Cert) (k : ℕ) (d : StoreData)
+    → IsPosition board.size board.black board.white → IsCertifiedWin board player cert k d
     → Wins player (placed board player k) (other_of player)
 won_wins board player cert k d on h =
     let e = h.report.elements in
@@ -71,83 +91,117 @@ won_wins board player cert k d on h =
     (cell_wins d h.edges.0 h.entry h.entry.kind k h.report.report.sound (report_true board player d on h.report)
     (subst (λ (v : PlayerBoard). Within v.board.size (stones_of v.board v.player)) (sym e) (stones_on board player on)) h.edges.1 refl h.winning)
 
-win_by : (options : Knobs) (t : TurnData) (plan : Plan) → FollowsPlan options t plan → IsWin plan → IsWinBy plan t.cell
-win_by options t (Win cert cell) f w = sym f.1
-win_by options t (Search threats allowed lost) f w = absurd w
+win_by : (knobs : Knobs) (t : TurnData) (plan : Plan) → FollowsPlan knobs t plan → IsWin plan
+    → IsWinBy plan t.cell
+win_by knobs t (Win cert cell) f w = sym f.1
+win_by knobs t (Search threats allowed lost) f w = absurd w
 
 pub plan_wins : HoldsOfPlans WinsAsPlanned
 plan_wins board player hsearch p on h k w =
     let (cert, d, is, won) = planned_win board player hsearch p k h w in
     won_wins board player cert k d on won
 
-pub is_certified : (options : Knobs) (hsearch : Bool) (t : TurnData) → IsGood options hsearch t → IsCertified t
-is_certified options hsearch t g w = plan_wins t.board t.player hsearch t.planned g.position g.planned t.cell (win_by options t t.planned.plan g.follows w)
+pub is_certified : (knobs : Knobs) (hsearch : Bool) (t : TurnData) → IsGood knobs hsearch t
+    → IsCertified t
+is_certified knobs hsearch t g w
+    = plan_wins t.board t.player hsearch t.planned g.position g.planned t.cell
+    (win_by knobs t t.planned.plan g.follows w)
 
 -- ---- threats
 
 -- what a semi entry of a player says of his edges
 abbrev pub SaysOf : PlayerBoard → Entry → Type 0
-SaysOf e a = IsSureIn (members a.carrier 121) Semi (EdgesLink e) (stones_of e.board e.player) a.carrier
+SaysOf e a = IsSureIn (members a.carrier 121) Semi (EdgesLink e)
+    (stones_of e.board e.player) a.carrier
 
-threat_wins : (board : Position) (player : Colour) (d : StoreData) (threat : Threat) (k : ℕ) → IsPosition board.size board.black board.white → IsReportOf board (other_of player) d → IsThreat d threat
-    → has threat.carrier k ≡ false → Wins (other_of player) (placed board player k) (other_of player)
+threat_wins : (board : Position) (player : Colour) (d : StoreData) (threat : Threat) (k : ℕ)
+    → IsPosition board.size board.black board.white → IsReportOf board (other_of player) d
+    → IsThreat d threat
+    → has threat.carrier k ≡ false → Wins (other_of player) (placed board player k)
+    (other_of player)
 threat_wins board player d threat k on r h out =
     let a = h.entry in
     let n = h.edges.0 in
     let at = h.edges.1 in
     let s = r.report.sound in
     let free = subst (λ (v : PlayerBoard). (j : ℕ) → has a.carrier j ≡ true → is_empty_at v.board j ≡ true) r.elements (s.valid n a at.0).empty in
-    wins_after_other board player _ k a.carrier (stones_on board (other_of player) on) free (subst (λ c. has c k ≡ false) h.carrier out)
+    wins_after_other board player _ k a.carrier (stones_on board (other_of player) on) free
+    (subst (λ c. has c k ≡ false) h.carrier out)
     (subst (λ (v : PlayerBoard). SaysOf v a) r.elements (entry_says d.elements a Semi at.1 (report_true board (other_of player) d on r n a at.0) h.semi))
 
-narrowed_by : (board : Position) (player : Colour) (plan : Plan) (own other : Option StoreData) (threats : List Threat) (allowed : ℕ) (lost : Bool) → IsPlannedBy board player plan own other
-    → plan ≡ Search threats allowed lost → (d : StoreData) × (e : StoreData) × IsNarrowed board player threats allowed lost d e
+narrowed_by : (board : Position) (player : Colour) (plan : Plan) (own other : Option StoreData)
+    (threats : List Threat) (allowed : ℕ) (lost : Bool) → IsPlannedBy board player plan own other
+    → plan ≡ Search threats allowed lost → (d : StoreData) × (e : StoreData)
+    × IsNarrowed board player threats allowed lost d e
 narrowed_by board player plan own other threats allowed lost h q =
-    let (d, e, p, r, n) = subst (λ (v : Plan). IsPlannedBy board player v own other) q h in (d, e, n)
+    let (d, e, p, r, n)
+    = subst (λ (v : Plan). IsPlannedBy board player v own other) q h in (d, e, n)
 
 -- what a search with a threat, or on a lost board, rests on
-with_threat : (board : Position) (player : Colour) (hsearch : Bool) (p : Planned) (threats : List Threat) (allowed : ℕ) (lost : Bool) (i : ℕ) (threat : Threat) → IsPlanned board player hsearch p
-    → p.plan ≡ Search threats allowed lost → slice_get threats i ≡ Some threat → (d : StoreData) × (e : StoreData) × IsNarrowed board player threats allowed lost d e
-with_threat board player true p threats allowed lost i threat h q s = narrowed_by board player p.plan p.own p.other threats allowed lost h q
-with_threat board player false p threats allowed lost i threat h q s = absurd (no_threat threats allowed h.allowed lost (sym h.plan ∙ q) s)
+with_threat : (board : Position) (player : Colour) (hsearch : Bool) (p : Planned)
+    (threats : List Threat) (allowed : ℕ) (lost : Bool) (i : ℕ) (threat : Threat)
+    → IsPlanned board player hsearch p
+    → p.plan ≡ Search threats allowed lost → slice_get threats i ≡ Some threat
+    → (d : StoreData) × (e : StoreData) × IsNarrowed board player threats allowed lost d e
+with_threat board player true p threats allowed lost i threat h q s
+    = narrowed_by board player p.plan p.own p.other threats allowed lost h q
+with_threat board player false p threats allowed lost i threat h q s
+    = absurd (no_threat threats allowed h.allowed lost (sym h.plan ∙ q) s)
   where
-    no_threat : (threats : List Threat) (a b : ℕ) (lost : Bool) → Search [] b false ≡ Search threats a lost → slice_get threats i ≡ Some threat → ⊥
+    no_threat : (threats : List Threat) (a b : ℕ) (lost : Bool)
+        → Search [] b false ≡ Search threats a lost → slice_get threats i ≡ Some threat → ⊥
     no_threat threats a b lost e s = absurd (cc)
 
-at_one : (P : Threat → Type 0) (threats : List Threat) (i : ℕ) (threat : Threat) → All P threats → slice_get threats i ≡ Some threat → P threat
-at_one P threats i threat h s = subst P (get_or_from_slice_get threats i threat threat s) (h i threat (slice_get_within threats i threat s))
+at_one : (P : Threat → Type 0) (threats : List Threat) (i : ℕ) (threat : Threat) → All P threats
+    → slice_get threats i ≡ Some threat → P threat
+at_one P threats i threat h s = subst P (get_or_from_slice_get threats i threat threat s)
+    (h i threat (slice_get_within threats i threat s))
 
 pub plan_loses_outside : HoldsOfPlans LosesOutsideCarriers
 plan_loses_outside board player hsearch p on h threats allowed lost q i threat s k empty out =
     let (d, e, n) = with_threat board player hsearch p threats allowed lost i threat h q s in
-    threat_wins board player e threat k on n.other_report (at_one (IsThreat e) threats i threat n.are_threats.cut s) out
+    threat_wins board player e threat k on n.other_report
+    (at_one (IsThreat e) threats i threat n.are_threats.cut s) out
 
-pub outside_loses : (options : Knobs) (hsearch : Bool) (t : TurnData) → IsGood options hsearch t → LosesOutsideThreats t
-outside_loses options hsearch t g = plan_loses_outside t.board t.player hsearch t.planned g.position g.planned
+pub outside_loses : (knobs : Knobs) (hsearch : Bool) (t : TurnData) → IsGood knobs hsearch t
+    → LosesOutsideThreats t
+outside_loses knobs hsearch t g
+    = plan_loses_outside t.board t.player hsearch t.planned g.position g.planned
 
 -- ---- lost boards
 
 -- one of the threats has not the cell in its carrier
-some_misses : (threats : List Threat) (k : ℕ) → (All (λ (t : Threat). has t.carrier k ≡ true) threats → ⊥) → (i : ℕ) × (t : Threat) × (slice_get threats i ≡ Some t) × (has t.carrier k ≡ false)
+some_misses : (threats : List Threat) (k : ℕ)
+    → (All (λ (t : Threat). has t.carrier k ≡ true) threats → ⊥) → (i : ℕ) × (t : Threat)
+    × (slice_get threats i ≡ Some t) × (has t.carrier k ≡ false)
 some_misses [] k h = absurd (h (All-nil (λ (t : Threat). has t.carrier k ≡ true)))
 some_misses (t ∷ threats) k h = elim (cases_Bool (has t.carrier k)) [
-  | inl e ↦ let w = some_misses threats k (λ a. h (All-cons (λ (v : Threat). has v.carrier k ≡ true) t threats e a)) in (suc w.0, w.1, w.2, w.3)
+  | inl e ↦ let w
+      = some_misses threats k
+      (λ a. h (All-cons (λ (v : Threat). has v.carrier k ≡ true) t threats e a)) in
+      (suc w.0, w.1, w.2, w.3)
   | inr e ↦ (0, t, refl, e)
 ]
 
-lost_region : (board : Position) (player : Colour) (hsearch : Bool) (p : Planned) (threats : List Threat) (allowed : ℕ) → IsPlanned board player hsearch p → p.plan ≡ Search threats allowed true
+lost_region : (board : Position) (player : Colour) (hsearch : Bool) (p : Planned)
+    (threats : List Threat) (allowed : ℕ) → IsPlanned board player hsearch p
+    → p.plan ≡ Search threats allowed true
     → (k : ℕ) → IsInEach board threats k → ⊥
 lost_region board player true p threats allowed h q =
-    let (d, e, n) = narrowed_by board player p.plan p.own p.other threats allowed true h q in n.mustplay.none.0 refl
-lost_region board player false p threats allowed h q = absurd (not_lost threats allowed h.allowed (sym h.plan ∙ q))
+    let (d, e, n) = narrowed_by board player p.plan p.own p.other threats allowed true h q in
+    n.mustplay.none.0 refl
+lost_region board player false p threats allowed h q
+    = absurd (not_lost threats allowed h.allowed (sym h.plan ∙ q))
   where
     not_lost : (threats : List Threat) (a b : ℕ) → Search [] b false ≡ Search threats a true → ⊥
     not_lost threats a b e = absurd (cc)
 
 pub plan_loses : HoldsOfPlans LosesAsPlanned
 plan_loses board player hsearch p on h threats allowed q k empty =
-    let w = some_misses threats k (λ a. lost_region board player hsearch p threats allowed h q k (empty, a)) in
+    let w = some_misses threats k
+    (λ a. lost_region board player hsearch p threats allowed h q k (empty, a)) in
     plan_loses_outside board player hsearch p on h threats allowed true q w.0 w.1 w.2 k empty w.3
 
-pub lost_loses : (options : Knobs) (hsearch : Bool) (t : TurnData) → IsGood options hsearch t → LosesWhereLost t
-lost_loses options hsearch t g = plan_loses t.board t.player hsearch t.planned g.position g.planned
+pub lost_loses : (knobs : Knobs) (hsearch : Bool) (t : TurnData) → IsGood knobs hsearch t
+    → LosesWhereLost t
+lost_loses knobs hsearch t g = plan_loses t.board t.player hsearch t.planned g.position g.planned

@@ -1,5 +1,6 @@
 -- Semi entries, which follow over an empty cell, and full ones, whose carriers have a cell.
-use Rattle.std.proofs.Common.{◌≡◌, ℕ, List, true, false, Some, get_or, take, zero, suc, refl, sym, ◌∙◌, ap, subst, inl, inr}
+use Rattle.std.proofs.Common.{◌≡◌, ℕ, List, true, false, Some, get_or, take, zero, suc, refl, sym}
+use Rattle.std.proofs.Common.{◌∙◌, ap, subst, inl, inr}
 use Rattle.std.specs.List.{slice_get}
 use Rattle.std.proofs.lemmas.Bool.{both_ways}
 use Rattle.std.proofs.lemmas.Option.{get_or_from_slice_get}
@@ -43,13 +44,16 @@ pub record IsOverCell (d : StoreData) (a : Entry) (i j : ℕ) : Type 0 where
   pub pair : IsBetween a x y
 
 -- a semi entry has this cause
-pub semi_cause : (e : PlayerBoard) (entries : List Entry) (a : Entry) (cause : Cause) → FollowsBy e entries a cause → a.kind ≡ Semi → (i : ℕ) × (j : ℕ) × (cause ≡ AndEmpty i j)
+pub semi_cause : (e : PlayerBoard) (entries : List Entry) (a : Entry) (cause : Cause)
+    → FollowsBy e entries a cause → a.kind ≡ Semi → (i : ℕ) × (j : ℕ) × (cause ≡ AndEmpty i j)
 semi_cause e entries a Adjacent f s = absurd (kinds_apart a.kind f.1 s)
-semi_cause e entries a (AndGroup i j) (v, w, x, u, y, at, r, g, h, q, c) s = absurd (kinds_apart a.kind q s)
+semi_cause e entries a (AndGroup i j) (v, w, x, u, y, at, r, g, h, q, c) s
+    = absurd (kinds_apart a.kind q s)
 semi_cause e entries a (AndEmpty i j) f s = (i, j, refl)
 semi_cause e entries a (Or numbers count) (ways, at, r, q, c) s = absurd (kinds_apart a.kind q s)
 
-over_by : (d : StoreData) (n : ℕ) (a : Entry) (i j : ℕ) → FollowsBy d.elements (take n d.entries) a (AndEmpty i j) → IsOverCell d a i j
+over_by : (d : StoreData) (n : ℕ) (a : Entry) (i j : ℕ)
+    → FollowsBy d.elements (take n d.entries) a (AndEmpty i j) → IsOverCell d a i j
 over_by d n a i j (v, w, x, u, y, k, at, r, g, h, q, c) = record {
   first = v;
   second = w;
@@ -64,17 +68,22 @@ over_by d n a i j (v, w, x, u, y, k, at, r, g, h, q, c) = record {
   pair = h;
 }
 
-pub over_cell : (d : StoreData) (n : ℕ) (a : Entry) (i j : ℕ) → IsSound d → slice_get d.entries n ≡ Some a → a.cause ≡ AndEmpty i j → IsOverCell d a i j
-over_cell d n a i j s at e = over_by d n a i j (subst (λ (v : Cause). FollowsBy d.elements (take n d.entries) a v) e (s.follows n a at))
+pub over_cell : (d : StoreData) (n : ℕ) (a : Entry) (i j : ℕ) → IsSound d
+    → slice_get d.entries n ≡ Some a → a.cause ≡ AndEmpty i j → IsOverCell d a i j
+over_cell d n a i j s at e
+    = over_by d n a i j
+    (subst (λ (v : Cause). FollowsBy d.elements (take n d.entries) a v) e (s.follows n a at))
 
-pub never_else : (d : StoreData) (entries : List Entry) (n : ℕ) (a r : Entry) → IsSound d → entries ≡ d.entries → slice_get d.entries n ≡ Some a → a.kind ≡ Semi
+pub never_else : (d : StoreData) (entries : List Entry) (n : ℕ) (a r : Entry) → IsSound d
+    → entries ≡ d.entries → slice_get d.entries n ≡ Some a → a.kind ≡ Semi
     → ((i j : ℕ) → (get_or entries n r).cause ≡ AndEmpty i j → ⊥) → ⊥
 never_else d entries n a r s q at k h =
     let w = semi_cause d.elements (take n d.entries) a a.cause (s.follows n a at) k in
     h w.0 w.1 (ap (λ (v : List Entry). (get_or v n r).cause) q ∙ (ap (λ (v : Entry). v.cause) (get_or_from_slice_get d.entries n a r at) ∙ w.2))
 
 -- the cell that its middle is
-pub is_middle : (d : StoreData) (a : Entry) (i j m k : ℕ) (o : IsOverCell d a i j) → a.cause ≡ AndEmpty i j → m ≡ o.u → IsCell d.elements m k → IsMiddle d a k
+pub is_middle : (d : StoreData) (a : Entry) (i j m k : ℕ) (o : IsOverCell d a i j)
+    → a.cause ≡ AndEmpty i j → m ≡ o.u → IsCell d.elements m k → IsMiddle d a k
 is_middle d a i j m k o e q g = record {
   numbers = (i, j);
   cause = e;
@@ -89,28 +98,35 @@ is_middle d a i j m k o e q g = record {
 
 -- ---- full entries
 
-empty_full : (n : ℕ) (G : ℕ → Type 0) (s c : ℕ) → ((k : ℕ) → has c k ≡ false) → IsSureIn n Full G s c → G s
+empty_full : (n : ℕ) (G : ℕ → Type 0) (s c : ℕ) → ((k : ℕ) → has c k ≡ false)
+    → IsSureIn n Full G s c → G s
 empty_full zero G s c f g = g
 empty_full (suc n) G s c f (inl g) = g
 empty_full (suc n) G s c f (inr (w, g)) = absurd (both_ways (has c w.0) (f w.0) w.1)
 
-edges_of : (e : PlayerBoard) (a : Entry) (s : ℕ) → are_joined e ≡ false → IsBetween a (edge_element e false) (edge_element e true) → StonesLink e a.x a.y s
+edges_of : (e : PlayerBoard) (a : Entry) (s : ℕ) → are_joined e ≡ false
+    → IsBetween a (edge_element e false) (edge_element e true) → StonesLink e a.x a.y s
     → StonesLink e (edge_element e false) (edge_element e true) s
 edges_of e a s j h l =
     let p : (a.x ≡ 0) × (a.y ≡ 1) = subst (λ v. IsBetween a 0 v) (high_apart (are_joined e) j) h in
-    subst (λ v. StonesLink e 0 v s) (p.1 ∙ sym (high_apart (are_joined e) j)) (subst (λ v. StonesLink e v a.y s) p.0 l)
+    subst (λ v. StonesLink e 0 v s) (p.1 ∙ sym (high_apart (are_joined e) j))
+    (subst (λ v. StonesLink e v a.y s) p.0 l)
 
 -- the carrier of a full entry between the edges of a player who is not joined has a cell
-pub full_has_cell : (d : StoreData) (n : ℕ) (a : Entry) → AreTrue d → IsEdgeEntryAt d n a → a.kind ≡ Full → Within d.elements.board.size (stones_of d.elements.board d.elements.player)
+pub full_has_cell : (d : StoreData) (n : ℕ) (a : Entry) → AreTrue d → IsEdgeEntryAt d n a
+    → a.kind ≡ Full → Within d.elements.board.size (stones_of d.elements.board d.elements.player)
     → are_joined d.elements ≡ false → ((k : ℕ) → has a.carrier k ≡ false) → ⊥
 full_has_cell d n a ts at k on j f =
     let stones : ℕ = stones_of d.elements.board d.elements.player in
     let t : IsSure Full (StonesLink d.elements a.x a.y) stones a.carrier
     = subst (λ v. IsSure v (StonesLink d.elements a.x a.y) stones a.carrier) k (ts n a at.0) in
-    let l : StonesLink d.elements a.x a.y stones = empty_full (members a.carrier 121) (StonesLink d.elements a.x a.y) stones a.carrier f t in
+    let l : StonesLink d.elements a.x a.y stones
+    = empty_full (members a.carrier 121) (StonesLink d.elements a.x a.y) stones a.carrier f t in
     both_ways (are_joined d.elements) j
     (joined_found d.elements.board.size d.elements.player stones (linked_joins d.elements stones on (same stones) (edges_of d.elements a stones j at.1 l)))
 
-pub within_of : (e : PlayerBoard) (b : Position) (p : Colour) (s : ℕ) → b ≡ e.board → p ≡ e.player → s ≡ stones_of b p → Within b.size s → Within e.board.size (stones_of e.board e.player)
+pub within_of : (e : PlayerBoard) (b : Position) (p : Colour) (s : ℕ) → b ≡ e.board → p ≡ e.player
+    → s ≡ stones_of b p → Within b.size s → Within e.board.size (stones_of e.board e.player)
 within_of e b p s h k q w =
-    subst (λ (v : Colour). Within e.board.size (stones_of e.board v)) k (subst (λ (v : Position). Within v.size (stones_of v p)) h (subst (λ v. Within b.size v) q w))
+    subst (λ (v : Colour). Within e.board.size (stones_of e.board v)) k
+    (subst (λ (v : Position). Within v.size (stones_of v p)) h (subst (λ v. Within b.size v) q w))

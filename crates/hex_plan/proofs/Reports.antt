@@ -1,5 +1,6 @@
 -- The root's rows in a closed tree's words are those of its tree.
-use Rattle.std.proofs.Common.{◌≡◌, ℕ, suc, ◌+◌, ◌*◌, ◌<◌, Bool, true, cond, List, [], ◌∷◌, length, get_or, map, refl, sym, ap, ◌∙◌, arith}
+use Rattle.std.proofs.Common.{◌≡◌, ℕ, suc, ◌+◌, ◌*◌, ◌<◌, Bool, true, cond, List, [], ◌∷◌, length}
+use Rattle.std.proofs.Common.{get_or, map, refl, sym, ap, ◌∙◌, arith}
 use Rattle.std.specs.Prelude.{◌==◌}
 use Rattle.std.specs.List.{range_with_len}
 use Rattle.tree_words.specs.Settings.{Setting, IsSetting}
@@ -31,47 +32,63 @@ rows_at : (ℕ → Count) → ℕ → List ℕ → List Row
 rows_at p a [] = []
 rows_at p a (c ∷ cs) = row c (p a) ∷ rows_at p (a + 4) cs
 
-row-tree : (p q : ℕ → Count) (bs : List LinkedBlock) (x c : ℕ) (e : Count) → row_in (tree_at p q bs x c e) ≡ row c (p x)
+row-tree : (p q : ℕ → Count) (bs : List LinkedBlock) (x c : ℕ) (e : Count)
+    → row_in (tree_at p q bs x c e) ≡ row c (p x)
 unfolding row
 row-tree p q [] x c e = refl
-row-tree p q (b ∷ bs) x c e = down-split (tree_leaf p) (tree_inner p q) (λ (t : ℕ → Count → Tree). row_in (t c e) ≡ row c (p x)) b bs x (λ t. refl) (λ t. row-tree p q bs x c e)
+row-tree p q (b ∷ bs) x c e
+    = down-split (tree_leaf p) (tree_inner p q)
+    (λ (t : ℕ → Count → Tree). row_in (t c e) ≡ row c (p x)) b bs x (λ t. refl)
+    (λ t. row-tree p q bs x c e)
 
-rows-row : (p q : ℕ → Count) (bs : List LinkedBlock) (a : ℕ) (cs : List ℕ) → rows_on (row_of (λ y d. tree_at p q bs y d (q y)) a cs) ≡ rows_at p a cs
+rows-row : (p q : ℕ → Count) (bs : List LinkedBlock) (a : ℕ) (cs : List ℕ)
+    → rows_on (row_of (λ y d. tree_at p q bs y d (q y)) a cs) ≡ rows_at p a cs
 unfolding rows_at
 rows-row p q bs a [] = refl
 rows-row p q bs a (c ∷ cs) = λ i. row-tree p q bs a c (q a) i ∷ rows-row p q bs (a + 4) cs i
 
-rows-down : (p q : ℕ → Count) (r : ℕ) (bs : List LinkedBlock) (b : LinkedBlock) (c : ℕ) (e : Count) → InOrder r bs → Names (oldest_first bs) r b
+rows-down : (p q : ℕ → Count) (r : ℕ) (bs : List LinkedBlock) (b : LinkedBlock) (c : ℕ) (e : Count)
+    → InOrder r bs → Names (oldest_first bs) r b
     → rows_in (tree_at p q (oldest_first bs) r c e) ≡ rows_at p (b.start + 4) b.cells
-rows-down p q r bs b c e g n = ap (λ (t : ℕ → Count → Tree). rows_in (t c e)) (tree-link p q r bs r b g n) ∙ rows-row p q (oldest_first bs) (b.start + 4) b.cells
+rows-down p q r bs b c e g n = ap (λ (t : ℕ → Count → Tree). rows_in (t c e))
+    (tree-link p q r bs r b g n) ∙ rows-row p q (oldest_first bs) (b.start + 4) b.cells
 
 -- rows by their places
-rows-map : (p : ℕ → Count) (g : ℕ → Row) (a k : ℕ) (cs : List ℕ) → ((i j x : ℕ) → i < length cs → j ≡ k + i → x ≡ a + 4 * i → g j ≡ row (get_or cs i 0) (p x)) → map g (range_with_len k (length cs)) ≡ rows_at p a cs
+rows-map : (p : ℕ → Count) (g : ℕ → Row) (a k : ℕ) (cs : List ℕ)
+    → ((i j x : ℕ) → i < length cs → j ≡ k + i → x ≡ a + 4 * i → g j ≡ row (get_or cs i 0) (p x))
+    → map g (range_with_len k (length cs)) ≡ rows_at p a cs
 unfolding rows_at
 rows-map p g a k [] h = refl
 rows-map p g a k (c ∷ cs) h =
     let head : g k ≡ row c (p a) = h 0 k a (omega arith) (omega arith) (omega arith) in
-    let tail : map g (range_with_len (k + 1) (length cs)) ≡ rows_at p (a + 4) cs = rows-map p g (a + 4) (k + 1) cs (λ i j x l e f. h (suc i) j x (omega arith) (omega arith) (omega arith)) in
+    let tail : map g (range_with_len (k + 1) (length cs)) ≡ rows_at p (a + 4) cs
+    = rows-map p g (a + 4) (k + 1) cs
+    (λ i j x l e f. h (suc i) j x (omega arith) (omega arith) (omega arith)) in
     λ i. head i ∷ tail i
 
 chosen : (t : Bool) (xs ys : List ℕ) → t ≡ true → cond t xs ys ≡ xs
 chosen t xs ys e = ap (λ (u : Bool). cond u xs ys) e
 
 -- some block is below the root
-linked-root : (s : Setting) (words : List ℕ) → IsSetting s → IsClosed s words → 0 < root_link s words
+linked-root : (s : Setting) (words : List ℕ) → IsSetting s → IsClosed s words
+    → 0 < root_link s words
 linked-root s words h c =
     let r : ℕ = root_at s in
     let first = c.recorded 0 (omega (arith, h.ranges.playouts.0)) in
     let f = root_of r c.blocks (leaf_of words 0) c.linked.order first.node first.below in
     let k = complete_in s (next_in words) c.blocks f.0 c.linked.complete f.1 in
-    let link : root_link s words ≡ f.0.start = c.linked.shows.links r (root_node r c.blocks) ∙ f.3 in
+    let link : root_link s words ≡ f.0.start
+    = c.linked.shows.links r (root_node r c.blocks) ∙ f.3 in
     omega (arith, link, k.1.inside.0)
 
-row-is : (s : Setting) (words : List ℕ) (i c x : ℕ) → (row_at s words i).cell ≡ c → root_link s words + 4 + 4 * i ≡ x → row_at s words i ≡ row c (tally_in words x)
+row-is : (s : Setting) (words : List ℕ) (i c x : ℕ) → (row_at s words i).cell ≡ c
+    → root_link s words + 4 + 4 * i ≡ x → row_at s words i ≡ row c (tally_in words x)
 unfolding row
-row-is s words i c x e f = λ j. record { cell = e j; visits = (tally_in words (f j)).visits; wins = (tally_in words (f j)).wins }
+row-is s words i c x e f
+    = λ j. record { cell = e j; visits = (tally_in words (f j)).visits; wins = (tally_in words (f j)).wins }
 
-pub rows_of_tree : (s : Setting) (words : List ℕ) (t : Tree) → IsSetting s → IsClosed s words → IsTreeOf s words t → rows_of s words ≡ rows_in t
+pub rows_of_tree : (s : Setting) (words : List ℕ) (t : Tree) → IsSetting s → IsClosed s words
+    → IsTreeOf s words t → rows_of s words ≡ rows_in t
 rows_of_tree s words t h c tree =
     let r : ℕ = root_at s in
     let bs : List LinkedBlock = tree.blocks in
@@ -80,10 +97,12 @@ rows_of_tree s words t h c tree =
     let b : LinkedBlock = n.0 in
     let at = names-in (oldest_first bs) r b n.1 in
     let k = complete_in s (next_in words) bs b tree.linked.complete (in-turned b bs at.0) in
-    let cells : b.cells ≡ allowed_cells s = k.1.cells ∙ chosen (b.parent == r) _ _ (eq-eqb b.parent r at.1) in
+    let cells : b.cells ≡ allowed_cells s = k.1.cells
+    ∙ chosen (b.parent == r) _ _ (eq-eqb b.parent r at.1) in
     let root : HasRoot s words = has_root s words h c in
     let count : root_count s words ≡ length b.cells = root.count ∙ sym (ap length cells) in
-    let each : (i j x : ℕ) → i < length b.cells → j ≡ 0 + i → x ≡ b.start + 4 + 4 * i → row_at s words j ≡ row (get_or b.cells i 0) (tally_in words x)
+    let each : (i j x : ℕ) → i < length b.cells → j ≡ 0 + i → x ≡ b.start + 4 + 4 * i
+    → row_at s words j ≡ row (get_or b.cells i 0) (tally_in words x)
     = λ i j x l e f.
     let m : j ≡ i = omega arith in
     row-is s words j (get_or b.cells i 0) x

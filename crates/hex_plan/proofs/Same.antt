@@ -1,5 +1,6 @@
 -- What determines a good turn.
-use Rattle.std.proofs.Common.{◌≡◌, ℕ, ◌<◌, false, List, [], ◌++◌, codes, get_or, Some, refl, sym, ap, ◌∙◌, subst, arith}
+use Rattle.std.proofs.Common.{◌≡◌, ℕ, ◌<◌, false, List, [], ◌++◌, codes, get_or, Some, refl, sym}
+use Rattle.std.proofs.Common.{ap, ◌∙◌, subst, arith}
 use Rattle.std.specs.Fmt.{decimal}
 use Rattle.std.specs.Prelude.{option_map}
 use Rattle.std.proofs.lemmas.List.FromFn.{get_or-map-range_with_len}
@@ -15,25 +16,31 @@ use Rattle.tree_words.proofs.Boards.RootLaws.{has_root}
 use Rattle.tree_words.specs.Closing.{ClosedTree}
 use Rattle.hex_plan.specs.Good.{FollowsPlan, IsTurnShape, IsGood, IsSearchedFor}
 use Rattle.hex_plan.specs.Reports.{rows_in, reported_rows, sequential_rows}
-use Rattle.hex_plan.specs.TurnTexts.{mustplay_of, report_lines, report_of, report_on, texts_of, wincert_of}
+use Rattle.hex_plan.specs.TurnTexts.{mustplay_of, report_lines, report_of, report_on, texts_of}
+use Rattle.hex_plan.specs.TurnTexts.{wincert_of}
 use Rattle.hex_plan.specs.Turns.{TurnData}
 use Rattle.hex_plan.specs.declared.types.Plan.{Plan}
 use Rattle.hex_plan.specs.declared.types.Plan.TheVariants.{Search}
 use Rattle.hex_plan.proofs.Reports.{rows_of_tree}
 
 -- there is one shape for a turn
-same_shape : (options : Knobs) (now : Position) (mover : Colour) (number cells : ℕ) (a b : Setting) → IsTurnShape options now mover number cells a → IsTurnShape options now mover number cells b → a ≡ b
-same_shape options now mover number cells a b h k =
+same_shape : (knobs : Knobs) (now : Position) (mover : Colour) (number cells : ℕ) (a b : Setting)
+    → IsTurnShape knobs now mover number cells a
+    → IsTurnShape knobs now mover number cells b → a ≡ b
+same_shape knobs now mover number cells a b h k =
     λ i. record { board = (h.board ∙ sym k.board) i; player = (h.player ∙ sym k.player) i; allowed = (h.allowed ∙ sym k.allowed) i; knobs = (h.knobs ∙ sym k.knobs) i }
 
-same_row : (s : Setting) (a b : List ℕ) (i : ℕ) → root_count s a ≡ root_count s b → rows_of s a ≡ rows_of s b → i < root_count s a → row_at s a i ≡ row_at s b i
+same_row : (s : Setting) (a b : List ℕ) (i : ℕ) → root_count s a ≡ root_count s b
+    → rows_of s a ≡ rows_of s b → i < root_count s a → row_at s a i ≡ row_at s b i
 same_row s a b i n e l =
     sym (get_or-map-range_with_len (row_at s a) 0 (root_count s a) i i (row_at s a 0) l (omega arith))
     ∙ ap (λ (rows : List Row). get_or rows i (row_at s a 0)) e
-    ∙ get_or-map-range_with_len (row_at s b) 0 (root_count s b) i i (row_at s a 0) (omega (arith, l, n)) (omega arith)
+    ∙ get_or-map-range_with_len (row_at s b) 0 (root_count s b) i i (row_at s a 0)
+    (omega (arith, l, n)) (omega arith)
 
 -- the rows determine the best cell
-same_best : (s : Setting) (a b : List ℕ) (x y : ℕ) → HasRoot s a → HasRoot s b → rows_of s a ≡ rows_of s b → IsBest s a x → IsBest s b y → x ≡ y
+same_best : (s : Setting) (a b : List ℕ) (x y : ℕ) → HasRoot s a → HasRoot s b
+    → rows_of s a ≡ rows_of s b → IsBest s a x → IsBest s b y → x ≡ y
 same_best s a b x y h k e p q =
     let n : root_count s a ≡ root_count s b = h.count ∙ sym k.count in
     let i : ℕ = p.place in
@@ -52,65 +59,91 @@ same_best s a b x y h k e p q =
     let ge = q.least i li (omega (arith, most_a, most_b, vi, vj)) in
     omega (arith, le, ge, p.is, q.is, ci, cj)
 
--- where no connections are looked for a good turn has a tree, which was searched for it among all empty cells
-tree_of : (options : Knobs) (t : TurnData) (g : IsGood options false t) → (c : ClosedTree) × (t.closed ≡ Some c) × IsSearchedFor options t g.planned.allowed c
-tree_of options t g = subst (λ (v : Plan). FollowsPlan options t v) g.planned.plan g.follows
+-- if no connections are looked for a good turn has a tree, which was searched for it among all
+-- empty cells
+tree_of : (knobs : Knobs) (t : TurnData) (g : IsGood knobs false t)
+    → (c : ClosedTree) × (t.closed ≡ Some c) × IsSearchedFor knobs t g.planned.allowed c
+tree_of knobs t g = subst (λ (v : Plan). FollowsPlan knobs t v) g.planned.plan g.follows
 
-rows_in_tree : (options : Knobs) (t : TurnData) (cells : ℕ) (c : ClosedTree) → options.workers ≡ 1 → IsSearchedFor options t cells c → rows_of c.shape c.words ≡ rows_in (seq_of c.shape).0
-rows_in_tree options t cells c one s = rows_of_tree c.shape c.words (seq_of c.shape).0 s.setting s.closed (s.sequential one)
+rows_in_tree : (knobs : Knobs) (t : TurnData) (cells : ℕ) (c : ClosedTree) → knobs.workers ≡ 1
+    → IsSearchedFor knobs t cells c → rows_of c.shape c.words ≡ rows_in (seq_of c.shape).0
+rows_in_tree knobs t cells c one s
+    = rows_of_tree c.shape c.words (seq_of c.shape).0 s.setting s.closed (s.sequential one)
 
 -- with one worker the report of a good turn is that of Seq
-pub report_is_seq : (options : Knobs) (t : TurnData) → options.workers ≡ 1 → IsGood options false t → reported_rows t ≡ sequential_rows t
-report_is_seq options t one g =
-    let tree = tree_of options t g in
+pub report_is_seq : (knobs : Knobs) (t : TurnData) → knobs.workers ≡ 1 → IsGood knobs false t
+    → reported_rows t ≡ sequential_rows t
+report_is_seq knobs t one g =
+    let tree = tree_of knobs t g in
     let c : ClosedTree = tree.0 in
-    ap (option_map (λ (z : ClosedTree). rows_of z.shape z.words)) tree.1 ∙ ap Some (rows_in_tree options t _ c one tree.2)
+    ap (option_map (λ (z : ClosedTree). rows_of z.shape z.words)) tree.1
+    ∙ ap Some (rows_in_tree knobs t _ c one tree.2)
     ∙ ap (option_map (λ (z : ClosedTree). rows_in (seq_of z.shape).0)) (sym tree.1)
 
 -- two trees of one shape that were searched for turns, with one worker
-twins : (options : Knobs) (s : Setting) (t u : TurnData) (m n : ℕ) (c d : ClosedTree) → options.workers ≡ 1 → IsSearchedFor options t m c → IsSearchedFor options u n d → c.shape ≡ s → d.shape ≡ s
+twins : (knobs : Knobs) (s : Setting) (t u : TurnData) (m n : ℕ) (c d : ClosedTree)
+    → knobs.workers ≡ 1 → IsSearchedFor knobs t m c → IsSearchedFor knobs u n d → c.shape ≡ s
+    → d.shape ≡ s
     → (t.cell ≡ u.cell) × (rows_of c.shape c.words ≡ rows_of d.shape d.words)
-twins options s t u m n c d one g h e f =
+twins knobs s t u m n c d one g h e f =
     let rows : rows_of c.shape c.words ≡ rows_of d.shape d.words
-    = rows_in_tree options t m c one g ∙ (ap (λ (z : Setting). rows_in (seq_of z).0) (e ∙ sym f) ∙ sym (rows_in_tree options u n d one h)) in
-    let rows' : rows_of s c.words ≡ rows_of s d.words = ap (λ (z : Setting). rows_of z c.words) (sym e) ∙ rows ∙ ap (λ (z : Setting). rows_of z d.words) f in
-    let root_t : HasRoot s c.words = subst (λ (z : Setting). HasRoot z c.words) e (has_root c.shape c.words g.setting g.closed) in
-    let root_u : HasRoot s d.words = subst (λ (z : Setting). HasRoot z d.words) f (has_root d.shape d.words h.setting h.closed) in
-    let best_t : IsBest s c.words t.cell = subst (λ (z : Setting). IsBest z c.words t.cell) e g.best in
-    let best_u : IsBest s d.words u.cell = subst (λ (z : Setting). IsBest z d.words u.cell) f h.best in
+    = rows_in_tree knobs t m c one g
+    ∙ (ap (λ (z : Setting). rows_in (seq_of z).0) (e ∙ sym f) ∙ sym (rows_in_tree knobs u n d one h)) in
+    let rows' : rows_of s c.words ≡ rows_of s d.words
+    = ap (λ (z : Setting). rows_of z c.words) (sym e) ∙ rows
+    ∙ ap (λ (z : Setting). rows_of z d.words) f in
+    let root_t : HasRoot s c.words
+    = subst (λ (z : Setting). HasRoot z c.words) e
+    (has_root c.shape c.words g.setting g.closed) in
+    let root_u : HasRoot s d.words
+    = subst (λ (z : Setting). HasRoot z d.words) f
+    (has_root d.shape d.words h.setting h.closed) in
+    let best_t : IsBest s c.words t.cell
+    = subst (λ (z : Setting). IsBest z c.words t.cell) e g.best in
+    let best_u : IsBest s d.words u.cell
+    = subst (λ (z : Setting). IsBest z d.words u.cell) f h.best in
     (same_best s c.words d.words t.cell u.cell root_t root_u rows' best_t best_u, rows)
 
 -- what is said of two turns without connections, of one board and with one set of allowed cells
-same_texts : (t u : TurnData) (m n : ℕ) (c d : ClosedTree) → t.board ≡ u.board → m ≡ n → t.planned.plan ≡ Search [] m false → u.planned.plan ≡ Search [] n false → t.closed ≡ Some c → u.closed ≡ Some d
-    → c.shape ≡ d.shape → rows_of c.shape c.words ≡ rows_of d.shape d.words → texts_of t ≡ texts_of u
+same_texts : (t u : TurnData) (m n : ℕ) (c d : ClosedTree) → t.board ≡ u.board → m ≡ n
+    → t.planned.plan ≡ Search [] m false → u.planned.plan ≡ Search [] n false → t.closed ≡ Some c
+    → u.closed ≡ Some d
+    → c.shape ≡ d.shape → rows_of c.shape c.words ≡ rows_of d.shape d.words
+    → texts_of t ≡ texts_of u
 unfolding report_of
 same_texts t u m n c d b a p q e f s r =
     let size : t.board.size ≡ u.board.size = ap (λ (z : Position). z.size) b in
     let plan : t.planned.plan ≡ u.planned.plan = p ∙ ap (λ k. Search [] k false) a ∙ sym q in
-    let playouts : c.shape.knobs.playouts ≡ d.shape.knobs.playouts = ap (λ (z : Setting). z.knobs.playouts) s in
+    let playouts : c.shape.knobs.playouts ≡ d.shape.knobs.playouts
+    = ap (λ (z : Setting). z.knobs.playouts) s in
     let tree : report_on t.board.size c ≡ report_on u.board.size d
     = λ i. codes "playouts " ++ decimal (playouts i) ++ report_lines (size i) (r i) in
     let report : report_of t ≡ report_of u
-    = ap (option_map (report_on t.board.size)) e ∙ ap Some tree ∙ sym (ap (option_map (report_on u.board.size)) f) in
+    = ap (option_map (report_on t.board.size)) e ∙ ap Some tree
+    ∙ sym (ap (option_map (report_on u.board.size)) f) in
     λ i. record { report = report i; mustplay = mustplay_of (size i) (plan i); wincert = wincert_of (plan i) }
 
--- with one worker the options, the board, the player and the number determine what a good turn plays and reports
-pub same_turn : (options : Knobs) (t u : TurnData) → options.workers ≡ 1 → IsGood options false t → IsGood options false u → t.board ≡ u.board → t.player ≡ u.player → t.number ≡ u.number
+-- with one worker the knobs, the board, the player and the number determine what a good turn plays
+-- and reports
+pub same_turn : (knobs : Knobs) (t u : TurnData) → knobs.workers ≡ 1 → IsGood knobs false t
+    → IsGood knobs false u → t.board ≡ u.board → t.player ≡ u.player → t.number ≡ u.number
     → (t.cell ≡ u.cell) × (reported_rows t ≡ reported_rows u) × (texts_of t ≡ texts_of u)
-same_turn options t u one g h b p n =
-    let mine = tree_of options t g in
-    let other = tree_of options u h in
+same_turn knobs t u one g h b p n =
+    let mine = tree_of knobs t g in
+    let other = tree_of knobs u h in
     let c : ClosedTree = mine.0 in
     let d : ClosedTree = other.0 in
     let cells : g.planned.allowed ≡ h.planned.allowed
-    = same_set g.planned.allowed h.planned.allowed (λ k. g.planned.empties.items k ∙ ap (λ (z : Position). is_empty_at z k) b ∙ sym (h.planned.empties.items k)) in
-    let moved : IsTurnShape options u.board u.player u.number h.planned.allowed c.shape
-    = subst (λ (m : ℕ). IsTurnShape options u.board u.player u.number m c.shape) cells
-    (subst (λ (m : ℕ). IsTurnShape options u.board u.player m g.planned.allowed c.shape) n
-    (subst (λ (k : Colour). IsTurnShape options u.board k t.number g.planned.allowed c.shape) p
-    (subst (λ (z : Position). IsTurnShape options z t.player t.number g.planned.allowed c.shape) b mine.2.shape))) in
-    let shape : c.shape ≡ d.shape = same_shape options u.board u.player u.number h.planned.allowed c.shape d.shape moved other.2.shape in
-    let same = twins options d.shape t u _ _ c d one mine.2 other.2 shape refl in (
+    = same_set g.planned.allowed h.planned.allowed
+    (λ k. g.planned.empties.items k ∙ ap (λ (z : Position). is_empty_at z k) b ∙ sym (h.planned.empties.items k)) in
+    let moved : IsTurnShape knobs u.board u.player u.number h.planned.allowed c.shape
+    = subst (λ (m : ℕ). IsTurnShape knobs u.board u.player u.number m c.shape) cells
+    (subst (λ (m : ℕ). IsTurnShape knobs u.board u.player m g.planned.allowed c.shape) n
+    (subst (λ (k : Colour). IsTurnShape knobs u.board k t.number g.planned.allowed c.shape) p
+    (subst (λ (z : Position). IsTurnShape knobs z t.player t.number g.planned.allowed c.shape) b mine.2.shape))) in
+    let shape : c.shape ≡ d.shape
+    = same_shape knobs u.board u.player u.number h.planned.allowed c.shape d.shape moved other.2.shape in
+    let same = twins knobs d.shape t u _ _ c d one mine.2 other.2 shape refl in (
       same.0,
       ap (option_map (λ (z : ClosedTree). rows_of z.shape z.words)) mine.1 ∙ ap Some same.1
           ∙ ap (option_map (λ (z : ClosedTree). rows_of z.shape z.words)) (sym other.1),

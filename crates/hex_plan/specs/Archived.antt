@@ -1,10 +1,10 @@
--- What an archive tells of itself, and how it changes where it takes a turn.
+-- What an archive tells of itself, and how it changes as it takes a turn.
 use Rattle.std.specs.Prelude.{◌≡◌, ℕ, List, [], ◌∷◌, ◌++◌, MatchResult, Result}
 use Rattle.std.specs.declared.option.Option.{Option}
 use Rattle.hex_io.specs.Told.{Both, Same}
 use Rattle.hex_plan.specs.Turns.{TurnData}
 
--- where the archive tells, the turn stands at the end of its turns now; or at a fault nothing
+-- if the archive tells, the turn stands at the end of its turns now; or at a fault nothing
 -- changed
 abbrev pub Archives : {X E : Type 0} → Option (List TurnData) → Option (List TurnData) → Result X E
     → TurnData → Type 0

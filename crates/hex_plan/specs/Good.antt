@@ -16,62 +16,61 @@ use Rattle.hex_plan.specs.declared.plans.Planned.{Planned}
 use Rattle.hex_plan.specs.declared.types.Plan.{Plan}
 use Rattle.hex_plan.specs.declared.types.Plan.TheVariants.{Win, Search}
 
--- the shape is that of the search of the turn with this number, where the mover is to place a stone
--- on one of these cells of the board now: these, and the options' knobs with the turn's seed
-pub record IsTurnShape (options : Knobs) (now : Position) (mover : Colour) (number cells : ℕ)
+-- the shape is that of the search of the turn with this number, at which the mover is to place a
+-- stone on one of these cells of the board now: these, and the given knobs with the turn's seed
+pub record IsTurnShape (given : Knobs) (now : Position) (mover : Colour) (number cells : ℕ)
     (shape : Setting) : Type 0 where
   pub board : shape.board ≡ now
   pub player : shape.player ≡ mover
   pub allowed : shape.allowed ≡ cells
-  pub knobs : shape.knobs ≡ turn_knobs options number
+  pub knobs : shape.knobs ≡ turn_knobs given number
 
--- the tree is that of Seq, where there is one worker
+-- the tree is that of Seq, if there is one worker
 abbrev pub IsSequential : Knobs → ClosedTree → Type 0
-IsSequential options closed = options.workers ≡ 1
+IsSequential knobs closed = knobs.workers ≡ 1
     → IsTreeOf closed.shape closed.words (seq_of closed.shape).0
 
--- the tree was searched for this turn of a session with these options, among the allowed cells
-pub record IsSearchedFor (options : Knobs) (t : TurnData) (allowed : ℕ)
+-- the tree was searched for this turn of a session with these knobs, among the allowed cells
+pub record IsSearchedFor (knobs : Knobs) (t : TurnData) (allowed : ℕ)
     (tree : ClosedTree) : Type 0 where
   -- its shape is that of the turn, and one that can be searched, and it is closed
-  pub shape : IsTurnShape options t.board t.player t.number allowed tree.shape
+  pub shape : IsTurnShape knobs t.board t.player t.number allowed tree.shape
   pub setting : IsSetting tree.shape
   pub closed : IsClosed tree.shape tree.words
   -- the turn's cell is the least among the cells of the root's children of most visits
   pub best : IsBest tree.shape tree.words t.cell
   -- with one worker the tree is that of Seq
-  pub sequential : IsSequential options tree
+  pub sequential : IsSequential knobs tree
 
 -- the turn is decided as planned: by the cell of a win, without a tree, or by a tree that was
 -- searched for it
 abbrev pub FollowsPlan : Knobs → TurnData → Plan → Type 0
-FollowsPlan options t (Win cert cell) = (t.closed ≡ None) × (t.cell ≡ cell)
-FollowsPlan options t (Search threats allowed lost) =
-    (tree : ClosedTree) × (t.closed ≡ Some tree) × IsSearchedFor options t allowed tree
+FollowsPlan knobs t (Win cert cell) = (t.closed ≡ None) × (t.cell ≡ cell)
+FollowsPlan knobs t (Search threats allowed lost) =
+    (tree : ClosedTree) × (t.closed ≡ Some tree) × IsSearchedFor knobs t allowed tree
 
--- Good: what is promised of each turn of a session with these options, which looks for connections
+-- Good: what is promised of each turn of a session with these knobs, which looks for connections
 -- or doesn't
-pub record IsGood (options : Knobs) (hsearch : Bool) (t : TurnData) : Type 0 where
+pub record IsGood (knobs : Knobs) (hsearch : Bool) (t : TurnData) : Type 0 where
   -- the turn's board is one, no player is joined there, and the turn's cell is empty
   pub position : IsPosition t.board.size t.board.black t.board.white
   pub nobody : winner_of t.board ≡ None
   pub empty : is_empty_at t.board t.cell ≡ true
   -- it was planned for its board and player, and decided as planned
   pub planned : IsPlanned t.board t.player hsearch t.planned
-  pub follows : FollowsPlan options t t.planned.plan
+  pub follows : FollowsPlan knobs t t.planned.plan
 
--- the turn, which was planned so for the player on the board, is good where no player is joined
--- there
+-- the turn, which was planned so for the player on the board, is good if no player is joined there
 abbrev pub IsGoodAsPlanned : TurnData → Position → Colour → Planned → Type 0
-IsGoodAsPlanned t board player planned = (options : Knobs) (hsearch : Bool)
-    → winner_of board ≡ None → IsPlanned board player hsearch planned → IsGood options hsearch t
+IsGoodAsPlanned t board player planned = (knobs : Knobs) (hsearch : Bool)
+    → winner_of board ≡ None → IsPlanned board player hsearch planned → IsGood knobs hsearch t
 
--- the turn with this number, which was planned so and which the tree decides, is good where no
+-- the turn with this number, which was planned so and which the tree decides, is good if no
 -- player is joined on the tree's board, the plan is one for this board and player, and the tree's
 -- shape is that of the turn; for one worker the tree has to be that of Seq
 abbrev pub IsGoodAsSearched : TurnData → ℕ → Planned → ClosedTree → Type 0
-IsGoodAsSearched t number planned tree = (options : Knobs) (hsearch : Bool)
+IsGoodAsSearched t number planned tree = (knobs : Knobs) (hsearch : Bool)
     → winner_of tree.shape.board ≡ None
     → IsPlanned tree.shape.board tree.shape.player hsearch planned
-    → IsTurnShape options tree.shape.board tree.shape.player number tree.shape.allowed tree.shape
-    → IsSequential options tree → IsGood options hsearch t
+    → IsTurnShape knobs tree.shape.board tree.shape.player number tree.shape.allowed tree.shape
+    → IsSequential knobs tree → IsGood knobs hsearch t

@@ -28,7 +28,7 @@ WinsBy board player k = Wins player (placed board player k) (other_of player)
 abbrev pub LosesBy : Position → Colour → ℕ → Type 0
 LosesBy board player k = Wins (other_of player) (placed board player k) (other_of player)
 
--- where the plan is a win, its cell wins
+-- if the plan is a win, its cell wins
 abbrev pub WinsAsPlanned : Position → Colour → Plan → Type 0
 WinsAsPlanned board player plan = (k : ℕ) → IsWinBy plan k → WinsBy board player k
 
@@ -40,7 +40,7 @@ LosesOutsideCarriers board player plan = (threats : List Threat) (allowed : ℕ)
     → (k : ℕ) → is_empty_at board k ≡ true → has threat.carrier k ≡ false
     → LosesBy board player k
 
--- where the plan says that the board is lost, each move loses
+-- if the plan says that the board is lost, each move loses
 abbrev pub LosesAsPlanned : Position → Colour → Plan → Type 0
 LosesAsPlanned board player plan = (threats : List Threat) (allowed : ℕ)
     → plan ≡ Search threats allowed true
@@ -54,7 +54,7 @@ HoldsOfPlans Holds = (board : Position) (player : Colour) (hsearch : Bool) (p : 
 
 -- ---- turns
 
--- where the turn's plan is a win, its cell wins
+-- if the turn's plan is a win, its cell wins
 abbrev pub IsCertified : TurnData → Type 0
 IsCertified t = IsWin t.planned.plan → WinsBy t.board t.player t.cell
 
@@ -62,13 +62,13 @@ IsCertified t = IsWin t.planned.plan → WinsBy t.board t.player t.cell
 abbrev pub LosesOutsideThreats : TurnData → Type 0
 LosesOutsideThreats t = LosesOutsideCarriers t.board t.player t.planned.plan
 
--- where the turn's plan says that the board is lost, each move loses
+-- if the turn's plan says that the board is lost, each move loses
 abbrev pub LosesWhereLost : TurnData → Type 0
 LosesWhereLost t = LosesAsPlanned t.board t.player t.planned.plan
 
 -- of good turns without a look for connections the board, the player and the number determine the
 -- cell, the report and the texts
 abbrev pub AreDetermined : Knobs → Type 0
-AreDetermined options = (t u : TurnData) → IsGood options false t → IsGood options false u
+AreDetermined knobs = (t u : TurnData) → IsGood knobs false t → IsGood knobs false u
     → t.board ≡ u.board → t.player ≡ u.player → t.number ≡ u.number
     → (t.cell ≡ u.cell) × (reported_rows t ≡ reported_rows u) × (texts_of t ≡ texts_of u)

@@ -39,7 +39,7 @@ pub record HasLeast (entries : List Entry) (h : Held) (bound m n : ℕ) : Type 0
   pub least : (j : ℕ) (a : Entry) → j < m → IsAt entries h j a → bound ≤ a.carrier
       → entry.carrier ≤ a.carrier
 
--- what is answered for the first m places: such a number, where there is one
+-- what is answered for the first m places: such a number, if there is one
 abbrev pub IsLeastOf : List Entry → Held → ℕ → ℕ → Option ℕ → Type 0
 IsLeastOf entries h bound m best =
     MatchOption best (AreBelow entries h bound m) (HasLeast entries h bound m)

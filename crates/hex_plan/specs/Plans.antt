@@ -89,7 +89,7 @@ abbrev pub IsInEach : Position → List Threat → ℕ → Type 0
 IsInEach board threats k =
     (is_empty_at board k ≡ true) × All (λ t. has t.carrier k ≡ true) threats
 
--- the mustplay region: the empty cells that lie in each threat's carrier; where there is none, the
+-- the mustplay region: the empty cells that lie in each threat's carrier; if there is none, the
 -- board is lost, and all empty cells are allowed
 pub record IsMustplay (board : Position) (threats : List Threat) (allowed : ℕ)
     (lost : Bool) : Type 0 where

@@ -11,8 +11,8 @@ use Rattle.hex_plan.specs.declared.types.Plan.{Plan}
 use Rattle.hex_plan.specs.declared.types.Plan.TheVariants.{Win, Search}
 use Rattle.hex_plan.specs.declared.plans.Planned.{Planned}
 
--- a turn without where it lies in memory: the board, the player to move there, the turn's number,
--- what was planned, the tree that was searched for it, if one was, and the cell that was chosen
+-- a turn, as a value: the board, the player to move there, the turn's number, what was planned, the
+-- tree that was searched for it, if one was, and the cell that was chosen
 pub record TurnData : Type 0 where
   pub board : Position
   pub player : Colour

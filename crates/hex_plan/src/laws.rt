@@ -11,7 +11,7 @@ ghost use Rattle.hex_plan.specs.Turns.{TurnData};
 
 /// A law, with nothing to run, of what [`plan`](super::plan) answers, whoever asks for it. If it is
 /// a win, the player wins after its cell against every reply. After a move outside the carrier of
-/// one of its threats, and, where it says that the board is lost, after every move, the other
+/// one of its threats, and, if it says that the board is lost, after every move, the other
 /// player wins with himself to move.
 pub fn plans_tell_who_wins()
     ensures wins { HoldsOfPlans WinsAsPlanned }
@@ -22,29 +22,29 @@ pub fn plans_tell_who_wins()
 /// A law, with nothing to run: if the plan of a good turn is a win, its player wins after its cell
 /// against every reply.
 pub fn certified_moves_win()
-    ensures { (options : Knobs) (hsearch : Bool) (t : TurnData) → IsGood options hsearch t
+    ensures { (knobs : Knobs) (hsearch : Bool) (t : TurnData) → IsGood knobs hsearch t
         → IsCertified t }
 {}
 
 /// A law, with nothing to run: after a move outside the carrier of a threat of a good turn, the
 /// other player wins with himself to move.
 pub fn moves_outside_a_threat_lose()
-    ensures { (options : Knobs) (hsearch : Bool) (t : TurnData) → IsGood options hsearch t
+    ensures { (knobs : Knobs) (hsearch : Bool) (t : TurnData) → IsGood knobs hsearch t
         → LosesOutsideThreats t }
 {}
 
 /// A law, with nothing to run: if the plan of a good turn says that the board is lost, the other
 /// player wins after each move.
 pub fn lost_boards_lose()
-    ensures { (options : Knobs) (hsearch : Bool) (t : TurnData) → IsGood options hsearch t
+    ensures { (knobs : Knobs) (hsearch : Bool) (t : TurnData) → IsGood knobs hsearch t
         → LosesWhereLost t }
 {}
 
 /// A law, with nothing to run: with one worker, if no connections are looked for, the report of a
-/// good turn is that of the sequential search, and the options, the board, the player and the
-/// number determine the turn's cell, its report and its texts.
+/// good turn is that of the sequential search, and the knobs, the board, the player and the number
+/// determine the turn's cell, its report and its texts.
 pub fn one_worker_decides()
-    ensures report { (options : Knobs) (t : TurnData) → options.workers ≡ 1 →
-        IsGood options false t → reported_rows t ≡ sequential_rows t }
-    ensures same { (options : Knobs) → options.workers ≡ 1 → AreDetermined options }
+    ensures report { (knobs : Knobs) (t : TurnData) → knobs.workers ≡ 1 →
+        IsGood knobs false t → reported_rows t ≡ sequential_rows t }
+    ensures same { (knobs : Knobs) → knobs.workers ≡ 1 → AreDetermined knobs }
 {}

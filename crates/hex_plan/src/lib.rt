@@ -2,12 +2,12 @@
 //!
 //! **Nouns.** A *plan* ([`types::Plan`]) is a win with its certificate, or a search among allowed
 //! cells. It rests on the *reports* of both players, sound and closed sets of connections
-//! ([`Planned`]). A *threat* ([`Threat`]) is a certificate that the other player wins where he is
-//! to place next, with its carrier; the *mustplay region* is the cells that lie in each threat's
+//! ([`Planned`]). A *threat* ([`Threat`]) is a certificate that the other player wins if he is to
+//! place next, with its carrier; the *mustplay region* is the cells that lie in each threat's
 //! carrier. A *turn* ([`Turn`]) is a board, the player to move there, its number, what was
 //! planned, the closed tree that was searched for it, if one was, and the cell that was chosen. An
-//! *archive* takes each turn ([`Archive`]). A turn is *good* for a session's options where it is
-//! what the session owes at that board: the definition `IsGood` of specs/Good.antt.
+//! *archive* takes each turn ([`Archive`]). A turn is *good* for a session's knobs if it is what
+//! the session owes at that board: the definition `IsGood` of specs/Good.antt.
 //!
 //! **A caller** asks [`may_move`], plans, searches if the plan is a search, makes the turn and its
 //! texts, and hands it to an archive (`decided_turn` of turn_search is this up to the texts):

@@ -84,7 +84,7 @@ fn push_cells(text: &mut Vec<u8>, set: CellSet, size: Size) -> Result<(), AllocE
     Ok(())
 }
 
-// The vertex of a cell of the board after a space, where the cell is in the set.
+// The vertex of a cell of the board after a space, if the cell is in the set.
 fn push_member(text: &mut Vec<u8>, cell: Cell, set: CellSet, size: Size) -> Result<(), AllocError>
     requires { cell < size * size }
     ensures { OnOk result (text.new.items

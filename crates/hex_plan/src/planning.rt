@@ -26,7 +26,7 @@ use win_cert::cut;
 /// What is planned on the board for the player to move, with a look for connections or without.
 /// No player is joined there, and a cell is empty.
 ///
-/// Without it, the plan is a search among all empty cells. With it, the plan is a win where the
+/// Without it, the plan is a search among all empty cells. With it, the plan is a win if the
 /// player's report has an entry between his two edges; else it is a search among the empty cells
 /// that lie in the carrier of each threat of the other player.
 ///
@@ -70,7 +70,7 @@ fn win_plan(alloc: Global, own: Report, number: u32) -> Result<Planned, Memory>
 {
     let cert = cut(alloc, &own, number)?;
     let cell = winning_cell(&own, number);
-    // What the report keeps of itself.
+    // Brings what the type keeps into scope.
     let _store = own.store();
     Ok(Planned {
         plan: Plan::Win { cert, cell },
@@ -79,7 +79,7 @@ fn win_plan(alloc: Global, own: Report, number: u32) -> Result<Planned, Memory>
     })
 }
 
-// The plan to search, where the player's own report has no entry between his two edges.
+// The plan to search, if the player's own report has no entry between his two edges.
 fn search_plan(alloc: Global, board: &Board, colour: Colour, own: Report) -> Result<Planned, Memory>
     requires nobody { winner_of board.now ≡ None }
     requires own { IsReportOf board.now colour own }

@@ -70,7 +70,7 @@ fn tree_text(alloc: Global, closed: &Closed, size: Size) -> Result<Vec<u8>, Allo
     requires { closed.now.shape.board.size ≡ size }
     ensures { IfOk result (λ text. text.items ≡ report_on size closed.now) }
 {
-    // That the tree is closed says that the cells of its root's children lie on the board.
+    // Brings what the type keeps into scope: the cells of the root's children lie on the board.
     let _words = closed.words();
     let Ok(rows) = report(alloc, closed) else {
         return Err(AllocError);

@@ -22,32 +22,31 @@ fn seed_of(seed: u64, number: u64) -> u64
 }
 
 // The knobs of the turn with this number.
-fn turn_knobs(options: &Knobs, number: u64) -> Knobs
-    requires { AreInRange options.now }
-    ensures value { result ≡ turn_knobs options.now number }
+fn turn_knobs(knobs: &Knobs, number: u64) -> Knobs
+    requires { AreInRange knobs.now }
+    ensures value { result ≡ turn_knobs knobs.now number }
     ensures ranges { AreInRange result }
 {
     Knobs {
-        seed: seed_of(options.seed, number),
-        ..*options
+        seed: seed_of(knobs.seed, number),
+        ..*knobs
     }
 }
 
-/// The shape of the search of the turn with this number, where `colour` is to move and to place a
-/// stone on an allowed cell: the seed is `S + number·2^32` modulo 2^64, S being that of the
-/// options. A cell is allowed, the allowed cells are empty, and the options are in their ranges.
+/// The shape of the search of the turn with this number, at which `colour` is to move and to place
+/// a stone on an allowed cell: the seed is `S + number·2^32` modulo 2^64, S being that of the
+/// knobs. A cell is allowed, the allowed cells are empty, and the knobs are in their ranges.
 pub fn turn_shape(
     board: &Board,
     colour: Colour,
     allowed: CellSet,
-    options: &Knobs,
+    knobs: &Knobs,
     number: u64,
 ) -> Shape
     requires any { IsAny allowed }
     requires empty { AllEmpty board.now allowed }
-    requires ranges { AreInRange options.now }
-    ensures { IsTurnShape options.now board.now colour number allowed result }
+    requires ranges { AreInRange knobs.now }
+    ensures { IsTurnShape knobs.now board.now colour number allowed result }
 {
-    let knobs = turn_knobs(options, number);
-    Shape::make(board, colour, allowed, &knobs)
+    Shape::make(board, colour, allowed, &turn_knobs(knobs, number))
 }

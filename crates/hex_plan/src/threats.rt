@@ -1,4 +1,4 @@
-//! Threats: ways in which the other player wins where he is to place next.
+//! Threats: ways in which the other player wins if he is to place next.
 
 ghost use Rattle.std.specs.Prelude.{◌≡◌};
 
@@ -6,8 +6,8 @@ use hex_cells::CellSet;
 use std::marker::Model;
 use win_cert::Cert;
 
-/// A certificate that the other player wins where he is to place next, and the carrier of its
-/// claim: each move outside it loses.
+/// A certificate that the other player wins if he is to place next, and the carrier of its claim:
+/// each move outside it loses.
 #[derive(Debug, Drop)]
 pub struct Threat {
     pub cert: Cert,

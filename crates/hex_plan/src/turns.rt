@@ -62,7 +62,7 @@ fn decided(closed: &Closed) -> Cell
     ensures best { IsBest closed.now.shape closed.now.words result }
     ensures empty { is_empty_at closed.now.shape.board result ≡ true }
 {
-    // What the tree keeps of its shape and its words.
+    // Brings what the type keeps into scope.
     let _shape = closed.shape();
     let _words = closed.words();
     best(closed)
@@ -80,8 +80,8 @@ fn won_cell(plan: &Plan) -> Cell
 }
 
 impl Turn {
-    /// The turn with this number on the board, where the plan is a win: its cell is that of the
-    /// win, and it has no tree.
+    /// The turn with this number on the board if the plan is a win: its cell is that of the win,
+    /// and it has no tree.
     pub fn won(board: &Board, colour: Colour, number: u64, planned: Planned) -> Turn
         requires win { IsWin planned.plan }
         requires planned { (hsearch : Bool) × IsPlanned board.now colour hsearch planned }
@@ -90,7 +90,7 @@ impl Turn {
         ensures empty { is_empty_at board.now result.cell ≡ true }
         ensures good { IsGoodAsPlanned result board.now colour planned }
     {
-        // What each board keeps of itself.
+        // Brings what the type keeps into scope.
         let _size = board.size();
         let _black = board.stones(Colour::Black);
         let _white = board.stones(Colour::White);
@@ -105,8 +105,8 @@ impl Turn {
         }
     }
 
-    /// The turn with this number that the tree decides, where the plan is a search among the
-    /// allowed cells of the tree: its board and player are those of the tree, and its cell is the
+    /// The turn with this number that the tree decides if the plan is a search among the allowed
+    /// cells of the tree: its board and player are those of the tree, and its cell is the
     /// tree's best.
     pub fn searched(closed: Closed, number: u64, planned: Planned) -> Turn
         requires { IsSearchAmong planned.plan closed.shape.allowed }

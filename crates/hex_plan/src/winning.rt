@@ -22,7 +22,7 @@ pub(crate) fn winning_cell(report: &Report, number: u32) -> Cell
         → IsWinningCell report.now a a.kind result }
 {
     let store = report.store();
-    // The player's stones lie on the board.
+    // Brings what the type keeps into scope: the player's stones lie on the board.
     let _stones = store.board().stones(store.colour());
     let entry = store.entries()[number as usize];
     match entry.kind {
@@ -47,7 +47,7 @@ fn middle_of(store: &Store, number: usize) -> Cell
     }
 }
 
-// The element that two entries share, where their other elements differ.
+// The element that two entries share, if their other elements differ.
 fn shared(a: &Entry, b: &Entry) -> u8
     requires first { a.now.x < a.now.y }
     requires second { b.now.x < b.now.y }

@@ -9,7 +9,8 @@ use Rattle.hex_plan.proofs.mustplay_texts.push_cells.Goals as goal
 
 pub cells-preserved : goal.cells-preserved
 cells-preserved c = record {
-  text = numbers_more (spaced_vertex c.args.size) (has c.args.set) c.cells.k c.args.text.now.items c.cells.text.items c.push_member.new.text.items c.cells.invariant.text
+  text = numbers_more (spaced_vertex c.args.size)
+      (has c.args.set) c.cells.k c.args.text.now.items c.cells.text.items c.push_member.new.text.items c.cells.invariant.text
       (c.in_ok-push_member.ensures ∙ ap (λ k. c.cells.text.items ++ flat_map (spaced_vertex c.args.size) (filter (has c.args.set) (k ∷ []))) c.numbered.ensures);
 }
 
@@ -17,5 +18,7 @@ pub returns : goal.returns
 returns c =
     let n : ℕ = c.args.size in
     let all : c.cells.k ≡ n * n = omega arith in
-    c.cells.invariant.text ∙ ap (λ k. c.args.text.now.items ++ flat_map (spaced_vertex n) (filter (has c.args.set) (range_with_len 0 k))) all
-    ∙ ap (λ t. c.args.text.now.items ++ t) (sym (flat_map-map (λ vertex. 32 ∷ vertex) (vertex_of n) (filter (has c.args.set) (range_with_len 0 (n * n)))))
+    c.cells.invariant.text
+    ∙ ap (λ k. c.args.text.now.items ++ flat_map (spaced_vertex n) (filter (has c.args.set) (range_with_len 0 k))) all
+    ∙ ap (λ t. c.args.text.now.items ++ t)
+    (sym (flat_map-map (λ vertex. 32 ∷ vertex) (vertex_of n) (filter (has c.args.set) (range_with_len 0 (n * n)))))

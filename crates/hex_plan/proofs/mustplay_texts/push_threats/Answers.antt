@@ -8,4 +8,5 @@ threats-preserved c =
     c.threats.invariant c.in_ok-push_threat.ensures
 
 pub returns : goal.returns
-returns c = text_end (threat_line c.args.size) c.args.threats.now c.threats.threat-index _ _ c.threats-test.false c.threats.invariant
+returns c = text_end
+    (threat_line c.args.size) c.args.threats.now c.threats.threat-index _ _ c.threats-test.false c.threats.invariant

@@ -12,4 +12,5 @@ returns-in-Some-clause-allowed c =
     (subst (λ (e : PlayerBoard). IfOk c.win_plan.result (IsPlanned e.board e.player true)) c.in_ok-own.ensures.elements c.win_plan.ensures)
 
 pub returns-in-None-clause-allowed : goal.returns-in-None-clause-allowed
-returns-in-None-clause-allowed c = if_allows c.args.board.now c.args.colour true c.search_plan.result c.requires.room c.search_plan.ensures
+returns-in-None-clause-allowed c
+    = if_allows c.args.board.now c.args.colour true c.search_plan.result c.requires.room c.search_plan.ensures

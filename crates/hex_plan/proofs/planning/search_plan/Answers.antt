@@ -14,7 +14,8 @@ returns c = (
     own_report = c.requires.own;
     unjoined = c.requires.unjoined;
     other_report = record {
-      elements = c.in_ok-other.ensures.elements ∙ ap (λ (p : Colour). record { board = c.args.board.now; player = p }) c.other.ensures;
+      elements = c.in_ok-other.ensures.elements
+          ∙ ap (λ (p : Colour). record { board = c.args.board.now; player = p }) c.other.ensures;
       report = c.in_ok-other.ensures.report;
     };
     are_threats = c.in_ok-threats.ensures;

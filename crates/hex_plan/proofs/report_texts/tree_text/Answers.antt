@@ -7,5 +7,6 @@ use Rattle.hex_plan.proofs.report_texts.tree_text.Goals as goal
 pub push_rows-requires : goal.push_rows-requires
 push_rows-requires c =
     let tree = c.args.closed.now in
-    let set : IsSetting tree.shape = subst IsSetting c.shape.ensures.value c.shape.ensures.setting in
+    let set : IsSetting tree.shape
+    = subst IsSetting c.shape.ensures.value c.shape.ensures.setting in
     turn_rows_on tree.shape tree.words c.args.size c.deref.result.now set c.words-words.ensures.closed c.requires (c.deref.ensures.value ∙ c.in-Ok.ensures.rows)

@@ -5,4 +5,5 @@ use Rattle.hex_plan.proofs.texts.wincert_text.Goals as goal
 
 pub returns-in_ok-cert_body-in-Win : goal.returns-in_ok-cert_body-in-Win
 returns-in_ok-cert_body-in-Win c =
-    ap Some c.in_ok-cert_body-in-Win.ensures ∙ ap wincert_of (sym c.in-Win.is ∙ ap (λ (p : Planned). p.plan) c.planned.ensures.value)
+    ap Some c.in_ok-cert_body-in-Win.ensures
+    ∙ ap wincert_of (sym c.in-Win.is ∙ ap (λ (p : Planned). p.plan) c.planned.ensures.value)

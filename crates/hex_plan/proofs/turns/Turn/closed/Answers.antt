@@ -7,7 +7,8 @@ use Rattle.hex_plan.proofs.PlanLaws.{tree_of_turn}
 use Rattle.hex_plan.proofs.turns.Turn.closed.Goals as goal
 
 -- what holds of the value that is lent, if one is
-lent : {A B : Type 0} (o : Option A) (p : Option B) (f : A → B) (P : B → Type 0) → option_map f o ≡ p → ForSome p P → IfSome o (λ x. P (f x))
+lent : {A B : Type 0} (o : Option A) (p : Option B) (f : A → B) (P : B → Type 0)
+    → option_map f o ≡ p → ForSome p P → IfSome o (λ x. P (f x))
 lent None p f P e h = tt
 lent (Some x) p f P e h = h (f x) (sym e)
 

@@ -4,12 +4,15 @@ use Rattle.hex_plan.proofs.PlanLaws.{decided_by_win, good_win, is_position, plan
 use Rattle.hex_plan.proofs.turns.Turn.won.Goals as goal
 
 pub invariant_of-result : goal.invariant_of-result
-invariant_of-result c = decided_by_win _ c.requires.planned.0 c.requires.planned.1 c.won_cell-cell.ensures refl
+invariant_of-result c
+    = decided_by_win _ c.requires.planned.0 c.requires.planned.1 c.won_cell-cell.ensures refl
 
 pub returns-clause-empty : goal.returns-clause-empty
-returns-clause-empty c = planned_empty _ _ c.requires.planned.0 _ _ c.requires.planned.1 c.won_cell-cell.ensures
+returns-clause-empty c
+    = planned_empty _ _ c.requires.planned.0 _ _ c.requires.planned.1 c.won_cell-cell.ensures
 
 pub returns-clause-good : goal.returns-clause-good
-returns-clause-good c = λ options hsearch n h.
-    good_win options _ hsearch (is_position c.args.board.now c.size-size.result c.stones-black.result c.stones-white.result c.size-size.ensures.value c.stones-black.ensures.value
+returns-clause-good c = λ knobs hsearch n h.
+    good_win knobs _ hsearch
+    (is_position c.args.board.now c.size-size.result c.stones-black.result c.stones-white.result c.size-size.ensures.value c.stones-black.ensures.value
     c.stones-white.ensures.value c.size-size.ensures.range.0 c.size-size.ensures.range.1 c.stones-black.ensures.on_board c.stones-black.ensures.apart c.stones-white.ensures.on_board) n h c.won_cell-cell.ensures refl
