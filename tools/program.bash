@@ -8,11 +8,6 @@ NOT_STARTED=125
 release=$here/release
 record=$release/RECORD
 
-# A search of many playouts opens a table of many megabytes, and most of the time that this takes goes into pages. So the C
-# library asks the system for pages of two megabytes, and keeps those of a search for the next one: it takes up to a gibibyte
-# from its heap, and gives back none of its end below that. A value that the environment has stands, an empty one too.
-KEPT_PAGES=glibc.malloc.hugetlb=1:glibc.malloc.mmap_threshold=1073741824:glibc.malloc.trim_threshold=1073741824
-
 say() { echo "$name: $*" >&2; }
 
 stop() {
@@ -67,7 +62,6 @@ become() {
         echo "$folder/$name"
         exit
     fi
-    export GLIBC_TUNABLES=${GLIBC_TUNABLES-$KEPT_PAGES}
     shopt -s execfail
     exec "$folder/$name" "$@"
     exit "$NOT_STARTED"
