@@ -29,7 +29,7 @@ pub record IsOver (d : StoreData) (v : EntryOver) : Type 0 where
 
 -- what the rules of AND ask of an entry over its middle and of a second one, which ends at y: it is
 -- full too, the ends differ, and neither carrier has a cell of the other or of the other's end
-pub record AreApart (e : PlayerBoard) (v : EntryOver) (b : Entry) (y : ℕ) : Type 0 where
+pub record AreDisjoint (e : PlayerBoard) (v : EntryOver) (b : Entry) (y : ℕ) : Type 0 where
   pub kind : b.kind ≡ Full
   pub ends : y ≢ v.end
   pub carriers : Apart v.carrier b.carrier

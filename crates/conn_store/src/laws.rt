@@ -17,7 +17,7 @@ pub fn sound_entries_are_true()
     ensures { (d : StoreData) → AreOfBoard d.elements → IsSound d → AreTrue d }
 {}
 
-/// The laws of truth. Who is sure where the opponent places first is sure where he does himself.
+/// The laws of truth. Who is sure if the opponent places first is sure if he does himself.
 /// More cells in the carrier keep truth, and so do more stones. With a stone of his on a cell of
 /// the carrier the player is sure inside the rest of it. It does nothing.
 pub fn truth_goes_on()
@@ -32,8 +32,8 @@ pub fn truth_goes_on()
 {}
 
 /// The law of the edges. On a board with the player's stones or more, a player who is sure of
-/// linking his edges wins: where he is sure though the opponent places first, with the opponent
-/// to move, and where he is sure if he places first, with himself to move. It does nothing.
+/// linking his edges wins: with the opponent to move if he is sure though the opponent places
+/// first, and with himself to move if he is sure when he places first. It does nothing.
 pub fn connected_edges_win()
     ensures full { (e : PlayerBoard) (p : Position) (c : ℕ)
         → IsSureOfEdges Kind.Full e p c → Wins e.player p (other_of e.player) }

@@ -6,7 +6,7 @@ ghost use Rattle.hex_board.specs.Elements.{element_count};
 ghost use Rattle.hex_board.specs.Places.{is_near};
 ghost use Rattle.std.specs.List.{slice_get};
 ghost use Rattle.conn_store.specs.Entries.{IsBetween};
-ghost use Rattle.conn_store.specs.Over.{AreApart, CanAnd, IsFullOf, IsOver};
+ghost use Rattle.conn_store.specs.Over.{AreDisjoint, CanAnd, IsFullOf, IsOver};
 ghost use Rattle.conn_store.specs.Rules.{AreWays, IsEntry, OrRule, adjacent_entry};
 ghost use Rattle.conn_store.specs.Stores.{CanOr, GivesAnd, MayBeAdded};
 ghost use Rattle.conn_store.specs.declared.entries.Entry.{Entry};
@@ -29,7 +29,7 @@ pub struct EntryOver {
     pub cell: Option<Cell>,
 }
 
-// The other element of an entry; `None` exactly where this is none of its two.
+// The other element of an entry; `None` exactly if this is none of its two.
 fn other_end(entry: &Entry, middle: u8) -> Option<u8>
     requires { entry.now.x < entry.now.y }
     ensures some { IfSome result (IsBetween entry.now middle) }
@@ -58,7 +58,7 @@ fn entry_of(kind: Kind, x: u8, y: u8, carrier: CellSet, cause: Cause) -> Entry
 }
 
 impl Store {
-    /// The entry of two elements that lie side by side; `None` exactly where they do not.
+    /// The entry of two elements that lie side by side; `None` exactly if they do not.
     pub fn by_adjacent(&self, x: u8, y: u8) -> Option<Entry>
         requires order { x < y }
         requires elements { y < element_count self.now.elements }
@@ -99,7 +99,7 @@ impl Store {
     }
 
     /// The entry that follows from `first` and entry `other` by a rule of AND over their middle, a
-    /// group or an empty cell; `None` exactly where neither applies.
+    /// group or an empty cell; `None` exactly if neither applies.
     pub fn by_and(&self, first: &EntryOver, other: u32) -> Option<Entry>
         requires first { IsOver self.now first.now }
         requires other { other < length self.now.entries }
@@ -131,7 +131,7 @@ impl Store {
     fn is_apart(&self, first: &EntryOver, second: &Entry, y: u8) -> bool
         requires first { IsOver self.now first.now }
         requires end { y < element_count self.now.elements }
-        ensures { IsTrue result ↔ AreApart self.now.elements first.now second.now y }
+        ensures { IsTrue result ↔ AreDisjoint self.now.elements first.now second.now y }
     {
         if second.kind == Kind::Semi || y == first.end {
             return false;
@@ -142,7 +142,7 @@ impl Store {
         !self.elements.cells(y).meets(first.carrier)
     }
 
-    /// The entry that follows from entries `i` and `j` by the rule of OR; `None` exactly where it
+    /// The entry that follows from entries `i` and `j` by the rule of OR; `None` exactly if it
     /// does not apply.
     pub fn by_or_two(&self, i: u32, j: u32) -> Option<Entry>
         requires first { i < length self.now.entries }
@@ -161,7 +161,7 @@ impl Store {
     }
 
     /// The entry that follows from entries `i`, `j` and `k` by the rule of OR; `None` exactly
-    /// where it does not apply.
+    /// if it does not apply.
     pub fn by_or_three(&self, i: u32, j: u32, k: u32) -> Option<Entry>
         requires first { i < length self.now.entries }
         requires second { j < length self.now.entries }

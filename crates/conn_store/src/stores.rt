@@ -47,7 +47,7 @@ impl Store {
     pub fn make(alloc: Global, board: &Board, colour: Colour) -> Result<Store, Memory>
         ensures { IfOk result (λ store. store ≡ empty_store board.now colour) }
     {
-        // A board has 1 to 121 cells, and its stones lie on it.
+        // Brings what the type keeps into scope: 1 to 121 cells, and stones that lie on them.
         let _size = board.size();
         let _stones = board.stones(colour);
         let elements = board.elements(colour);

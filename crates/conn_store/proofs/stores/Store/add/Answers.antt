@@ -1,9 +1,11 @@
 use Rattle.std.proofs.Common.{refl}
-use Rattle.conn_store.proofs.Tables.{IsLooked, looked_full, looked_in, looked_not_full, looked_out, looked_room, numbers_here}
+use Rattle.conn_store.proofs.Tables.{IsLooked, looked_full, looked_in, looked_not_full, looked_out}
+use Rattle.conn_store.proofs.Tables.{looked_room, numbers_here}
 use Rattle.conn_store.proofs.stores.Store.add.Goals as goal
 
 pub has_inside-requires-clause-numbers : goal.has_inside-requires-clause-numbers
-has_inside-requires-clause-numbers c = numbers_here c.args.self.now c.args.entry _ _ c.held-held.ensures.numbers c.entries.ensures.value
+has_inside-requires-clause-numbers c
+    = numbers_here c.args.self.now c.args.entry _ _ c.held-held.ensures.numbers c.entries.ensures.value
 
 pub returns-then-has_inside-clause-dominated : goal.returns-then-has_inside-clause-dominated
 returns-then-has_inside-clause-dominated c =

@@ -1,4 +1,5 @@
-use Rattle.std.proofs.Common.{◌≡◌, ℕ, ◌<◌, ◌≤◌, length, List, ◌∷◌, [], ◌++◌, set, arith, sym, ap, ◌∙◌, subst, inl, inr}
+use Rattle.std.proofs.Common.{◌≡◌, ℕ, ◌<◌, ◌≤◌, length, List, ◌∷◌, [], ◌++◌, set, arith, sym, ap}
+use Rattle.std.proofs.Common.{◌∙◌, subst, inl, inr}
 use Rattle.std.specs.Vec.{vec_capacity, with_item}
 use Rattle.conn_store.specs.Entries.{IsValid}
 use Rattle.conn_store.specs.Index.{number_of_pair}
@@ -9,13 +10,15 @@ use Rattle.conn_store.specs.declared.entries.Held.{Held}
 use Rattle.conn_store.specs.declared.entries.Kind.TheVariants.{Full, Semi}
 use Rattle.conn_store.specs.declared.entries.TheConstants.{MOST_ENTRIES}
 use Rattle.conn_store.specs.declared.stores.Store.TheInside.{Inside}
-use Rattle.conn_store.proofs.Tables.{Writes, more_held, place_here, room_more, stored_few, stored_more}
+use Rattle.conn_store.proofs.Tables.{Writes, more_held, place_here, room_more, stored_few}
+use Rattle.conn_store.proofs.Tables.{stored_more}
 use Rattle.conn_store.proofs.stores.Store.append.Goals as goal
 use Rattle.conn_store.proofs.stores.Store.append.Goals.{in-Full, in-Semi}
 
 pub overflow_cast-number : goal.overflow_cast-number
 overflow_cast-number c =
-    let l : length c.self.inside.entries.items ≤ MOST_ENTRIES = stored_few _ _ _ _ _ _ c.self.invariant in
+    let l : length c.self.inside.entries.items ≤ MOST_ENTRIES
+    = stored_few _ _ _ _ _ _ c.self.invariant in
     omega arith
 
 pub index_mut-requires : goal.index_mut-requires
@@ -36,7 +39,8 @@ record Written (i n : Inside) (a : Entry) (h : Held) : Type 0 where
   colour : n.colour ≡ i.colour
   elements : n.elements ≡ i.elements
   entries : n.entries ≡ i.entries
-  tables : Writes a (number_of_pair a.x a.y) (more_held h (length i.entries.items)) i.full.items i.semi.items n.full.items n.semi.items
+  tables : Writes a (number_of_pair a.x a.y)
+      (more_held h (length i.entries.items)) i.full.items i.semi.items n.full.items n.semi.items
 
 more_is : (h m : Held) (k l : ℕ) → m ≡ more_held h k → k ≡ l → m ≡ more_held h l
 more_is h m k l e f = e ∙ ap (λ v. more_held h v) f
@@ -44,7 +48,8 @@ more_is h m k l e f = e ∙ ap (λ v. more_held h v) f
 set_at : (xs : List Held) (p q : ℕ) (m w : Held) → p ≡ q → m ≡ w → set xs p m ≡ set xs q w
 set_at xs p q m w e f = cc
 
-full_written : (i n : Inside) (a : Entry) (h m : Held) (p k : ℕ) → m ≡ more_held h k → p ≡ number_of_pair a.x a.y → k ≡ length i.entries.items → a.kind ≡ Full
+full_written : (i n : Inside) (a : Entry) (h m : Held) (p k : ℕ) → m ≡ more_held h k
+    → p ≡ number_of_pair a.x a.y → k ≡ length i.entries.items → a.kind ≡ Full
     → n ≡ record i { full = with_item i.full p m } → Written i n a h
 full_written i n a h m p k e q l f w = record {
   board = ap (λ (v : Inside). v.board) w;
@@ -53,12 +58,14 @@ full_written i n a h m p k e q l f w = record {
   entries = ap (λ (v : Inside). v.entries) w;
   tables = inl (
     f,
-    ap (λ (v : Inside). v.full.items) w ∙ set_at i.full.items p (number_of_pair a.x a.y) m (more_held h (length i.entries.items)) q (more_is h m k (length i.entries.items) e l),
+    ap (λ (v : Inside). v.full.items) w ∙ set_at i.full.items p (number_of_pair a.x a.y) m
+        (more_held h (length i.entries.items)) q (more_is h m k (length i.entries.items) e l),
     ap (λ (v : Inside). v.semi.items) w,
   );
 }
 
-semi_written : (i n : Inside) (a : Entry) (h m : Held) (p k : ℕ) → m ≡ more_held h k → p ≡ number_of_pair a.x a.y → k ≡ length i.entries.items → a.kind ≡ Semi
+semi_written : (i n : Inside) (a : Entry) (h m : Held) (p k : ℕ) → m ≡ more_held h k
+    → p ≡ number_of_pair a.x a.y → k ≡ length i.entries.items → a.kind ≡ Semi
     → n ≡ record i { semi = with_item i.semi p m } → Written i n a h
 semi_written i n a h m p k e q l f w = record {
   board = ap (λ (v : Inside). v.board) w;
@@ -68,7 +75,8 @@ semi_written i n a h m p k e q l f w = record {
   tables = inr (
     f,
     ap (λ (v : Inside). v.full.items) w,
-    ap (λ (v : Inside). v.semi.items) w ∙ set_at i.semi.items p (number_of_pair a.x a.y) m (more_held h (length i.entries.items)) q (more_is h m k (length i.entries.items) e l),
+    ap (λ (v : Inside). v.semi.items) w ∙ set_at i.semi.items p (number_of_pair a.x a.y) m
+        (more_held h (length i.entries.items)) q (more_is h m k (length i.entries.items) e l),
   );
 }
 
@@ -76,10 +84,13 @@ semi_written i n a h m p k e q l f w = record {
 record Asked (i : Inside) (a : Entry) (h : Held) : Type 0 where
   valid : IsValid i.elements a
   follows : FollowsFrom i.elements i.entries.items a
-  held : h ≡ held_of (numbers_of (record { elements = i.elements; entries = i.entries.items }) a.kind a.x a.y)
+  held : h ≡ held_of
+      (numbers_of (record { elements = i.elements; entries = i.entries.items }) a.kind a.x a.y)
   room : h.count < most_of a.kind
 
-asked : (i : Inside) (d : StoreData) (a : Entry) (h : Held) → record { elements = i.elements; entries = i.entries.items } ≡ d → IsValid d.elements a → FollowsFrom d.elements d.entries a
+asked : (i : Inside) (d : StoreData) (a : Entry) (h : Held)
+    → record { elements = i.elements; entries = i.entries.items } ≡ d → IsValid d.elements a
+    → FollowsFrom d.elements d.entries a
     → h ≡ held_of (numbers_of d a.kind a.x a.y) → h.count < most_of a.kind → Asked i a h
 asked i d a h e v f q r = record {
   valid = subst (λ (w : StoreData). IsValid w.elements a) (sym e) v;
@@ -93,7 +104,8 @@ unwrap-requires c =
     let q : Asked c.self.inside c.args.entry c.args.held =
     asked c.self.inside c.args.self.now c.args.entry c.args.held c.self.view_is c.requires.valid c.requires.follows c.requires.held c.requires.room in
     let k : c.len-number.result ≡ length c.self.inside.entries.items = omega arith in
-    let w : Written c.self.inside c.match-entry.self-inside c.args.entry c.args.held = elim c.match-entry.branch [
+    let w : Written c.self.inside c.match-entry.self-inside c.args.entry c.args.held
+    = elim c.match-entry.branch [
       | in-Full w ↦ full_written _ _ _ _ _ _ _ c.with_number-more.ensures c.pair_number-pair.ensures k w.in-Full.is w.self-inside-is
       | in-Semi w ↦ semi_written _ _ _ _ _ _ _ c.with_number-more.ensures c.pair_number-pair.ensures k w.in-Semi.is w.self-inside-is
     ] in
@@ -106,11 +118,14 @@ invariant_of-self c =
     let q : Asked c.self.inside c.args.entry c.args.held =
     asked c.self.inside c.args.self.now c.args.entry c.args.held c.self.view_is c.requires.valid c.requires.follows c.requires.held c.requires.room in
     let k : c.len-number.result ≡ length c.self.inside.entries.items = omega arith in
-    let w : Written c.self.inside c.match-entry.self-inside c.args.entry c.args.held = elim c.match-entry.branch [
+    let w : Written c.self.inside c.match-entry.self-inside c.args.entry c.args.held
+    = elim c.match-entry.branch [
       | in-Full w ↦ full_written _ _ _ _ _ _ _ c.with_number-more.ensures c.pair_number-pair.ensures k w.in-Full.is w.self-inside-is
       | in-Semi w ↦ semi_written _ _ _ _ _ _ _ c.with_number-more.ensures c.pair_number-pair.ensures k w.in-Semi.is w.self-inside-is
     ] in
-    let items : c.push.new.self.items ≡ c.self.inside.entries.items ++ c.args.entry ∷ [] = rw (← w.entries) (rw c.unwrap.ensures at c.push.ensures.items) in
-    let room : vec_capacity c.self.inside.entries ≤ vec_capacity c.push.new.self = rw (← w.entries) (omega (arith, c.push.ensures.capacity)) in
+    let items : c.push.new.self.items ≡ c.self.inside.entries.items ++ c.args.entry ∷ []
+    = rw (← w.entries) (rw c.unwrap.ensures at c.push.ensures.items) in
+    let room : vec_capacity c.self.inside.entries ≤ vec_capacity c.push.new.self
+    = rw (← w.entries) (omega (arith, c.push.ensures.capacity)) in
     rw (w.board, w.colour, w.elements, items)
     (stored_more _ _ _ _ _ _ c.args.entry c.args.held _ _ _ c.self.invariant q.valid q.follows q.held q.room w.tables room)

@@ -4,7 +4,8 @@ use Rattle.hex_cells.specs.Sets.{with_cell}
 use Rattle.conn_store.specs.Over.{CanAnd}
 use Rattle.conn_store.proofs.Chains.{ends_below}
 use Rattle.conn_store.proofs.Overs.{no_end, no_rule, over_cell, over_group, rule_of}
-use Rattle.conn_store.proofs.RuleEntries.{cell_gives, cell_next, entry_with, group_gives, group_next, stands}
+use Rattle.conn_store.proofs.RuleEntries.{cell_gives, cell_next, entry_with, group_gives}
+use Rattle.conn_store.proofs.RuleEntries.{group_next, stands}
 use Rattle.conn_store.proofs.stores.Store.by_and.Goals as goal
 
 pub is_apart-requires-clause-end : goal.is_apart-requires-clause-end
@@ -47,7 +48,8 @@ returns-in-Some-clause-next c =
     let o = c.requires.first in
     let b = stands c.args.self.now _ _ _ c.entries.ensures.value c.requires.other c.index-entries-other.is in
     let r = rule_of c.args.self.now.elements c.args.first.now o.entry.0 c.index-entries-other.result c.in_ok-y.y o.entry.2 o.entry.3 c.in_ok-y.ensures.some (c.is_apart.ensures.0 c.if-not-is_apart.false) in
-    let q = c.union-both.ensures.value ∙ ap (λ v. bit_or v c.index-entries-other.result.carrier) (sym o.entry.3) in
+    let q = c.union-both.ensures.value ∙ ap (λ v. bit_or v c.index-entries-other.result.carrier)
+    (sym o.entry.3) in
     cell_next c.args.self.now c.args.first.now.number c.args.other o.entry.0 c.index-entries-other.result _ _ _ _ c.in-Some.cell c.entries.ensures.sound o.entry.1 b r
     (over_cell c.args.self.now c.args.first.now c.in-Some.cell o c.in-Some.is).0
     (entry_with _ _ _ _ _ _ _ (c.with.ensures.value ∙ ap (λ v. with_cell v c.in-Some.cell) q) c.entry_of-in-Some.ensures)
@@ -57,7 +59,8 @@ returns-in-Some-clause-gives c =
     let o = c.requires.first in
     let b = stands c.args.self.now _ _ _ c.entries.ensures.value c.requires.other c.index-entries-other.is in
     let r = rule_of c.args.self.now.elements c.args.first.now o.entry.0 c.index-entries-other.result c.in_ok-y.y o.entry.2 o.entry.3 c.in_ok-y.ensures.some (c.is_apart.ensures.0 c.if-not-is_apart.false) in
-    let q = c.union-both.ensures.value ∙ ap (λ v. bit_or v c.index-entries-other.result.carrier) (sym o.entry.3) in
+    let q = c.union-both.ensures.value ∙ ap (λ v. bit_or v c.index-entries-other.result.carrier)
+    (sym o.entry.3) in
     cell_gives c.args.self.now c.args.first.now.number c.args.other o.entry.0 c.index-entries-other.result _ _ _ _ c.in-Some.cell _ c.entries.ensures.sound o.entry.1 b r
     (over_cell c.args.self.now c.args.first.now c.in-Some.cell o c.in-Some.is)
     (entry_with _ _ _ _ _ _ _ (c.with.ensures.value ∙ ap (λ v. with_cell v c.in-Some.cell) q) c.entry_of-in-Some.ensures)

@@ -8,4 +8,5 @@ pub returns-clause-few : goal.returns-clause-few
 returns-clause-few c = rw c.deref.ensures.value (stored_few _ _ _ _ _ _ c.self.invariant)
 
 pub returns-clause-true_entries : goal.returns-clause-true_entries
-returns-clause-true_entries c = subst AreTrue c.self.view_is (sound_true _ c.self.invariant.small c.self.invariant.sound)
+returns-clause-true_entries c
+    = subst AreTrue c.self.view_is (sound_true _ c.self.invariant.small c.self.invariant.sound)

@@ -10,21 +10,24 @@ use Rattle.conn_store.proofs.stores.Store.over.Goals as goal
 
 pub cells-requires : goal.cells-requires
 cells-requires c =
-    let e : c.self.inside.elements ≡ c.args.self.now.elements = ap (λ (d : StoreData). d.elements) c.self.view_is in
+    let e : c.self.inside.elements ≡ c.args.self.now.elements
+    = ap (λ (d : StoreData). d.elements) c.self.view_is in
     let a = stands c.args.self.now _ _ _ c.entries.ensures.value c.requires.number c.index-entries-number.is in
     subst (λ (v : PlayerBoard). c.args.end < element_count v) (sym e)
     (ends_below c.args.self.now.elements c.index-entries-number.result c.args.end c.args.middle (c.entries.ensures.sound.valid _ _ a) (c.requires.entry _ a).pair).0
 
 pub cell-requires : goal.cell-requires
 cell-requires c =
-    let e : c.self.inside.elements ≡ c.args.self.now.elements = ap (λ (d : StoreData). d.elements) c.self.view_is in
+    let e : c.self.inside.elements ≡ c.args.self.now.elements
+    = ap (λ (d : StoreData). d.elements) c.self.view_is in
     let a = stands c.args.self.now _ _ _ c.entries.ensures.value c.requires.number c.index-entries-number.is in
     subst (λ (v : PlayerBoard). c.args.middle < element_count v) (sym e)
     (ends_below c.args.self.now.elements c.index-entries-number.result c.args.end c.args.middle (c.entries.ensures.sound.valid _ _ a) (c.requires.entry _ a).pair).1
 
 pub returns-clause-over : goal.returns-clause-over
 returns-clause-over c =
-    let e : c.self.inside.elements ≡ c.args.self.now.elements = ap (λ (d : StoreData). d.elements) c.self.view_is in
+    let e : c.self.inside.elements ≡ c.args.self.now.elements
+    = ap (λ (d : StoreData). d.elements) c.self.view_is in
     let a = stands c.args.self.now _ _ _ c.entries.ensures.value c.requires.number c.index-entries-number.is in
     record {
       entry = (c.index-entries-number.result, a, c.requires.entry _ a, refl);
