@@ -1,5 +1,6 @@
 -- The rules without an order of the entries.
-use Rattle.std.proofs.Common.{◌≡◌, ℕ, ◌⊎◌, ◌∷◌, [], min, max, bit_or, true, refl, sym, ◌∙◌, ap, subst, inl, inr}
+use Rattle.std.proofs.Common.{◌≡◌, ℕ, ◌⊎◌, ◌∷◌, [], min, max, bit_or, true, refl, sym, ◌∙◌, ap}
+use Rattle.std.proofs.Common.{subst, inl, inr}
 use Rattle.std.proofs.Math.Nat.{min_comm, max_comm}
 use Rattle.std.proofs.lemmas.List.Elements.{All-cons, All-head, All-nil}
 use Rattle.std.proofs.lemmas.Nat.{or_comm}
@@ -23,7 +24,8 @@ use Rattle.hsearch.proofs.Growth.{wider_answer}
 pub turned_pair : (a : Entry) (x y : ℕ) → IsBetween a x y → IsBetween a y x
 turned_pair a x y h = (h.0 ∙ min_comm x y, h.1 ∙ max_comm x y)
 
-turned_rule : (e : PlayerBoard) (a b : Entry) (x u y : ℕ) → AndRule e a b x u y → AndRule e b a y u x
+turned_rule : (e : PlayerBoard) (a b : Entry) (x u y : ℕ) → AndRule e a b x u y
+    → AndRule e b a y u x
 turned_rule e a b x u y r = record {
   first_kind = r.second_kind;
   second_kind = r.first_kind;
@@ -33,17 +35,20 @@ turned_rule e a b x u y r = record {
   second_end = r.first_end;
 }
 
-turned_answer : (d : StoreData) (kind : Kind) (x y b c : ℕ) → b ≡ c → IsSettled d kind y x b → IsSettled d kind x y c
+turned_answer : (d : StoreData) (kind : Kind) (x y b c : ℕ) → b ≡ c → IsSettled d kind y x b
+    → IsSettled d kind x y c
 turned_answer d kind x y b c q h = subst (λ v. IsSettled d kind x y v) q
     (subst (λ v. IsCovered d kind v (max x y) b ⊎ IsPairFull d kind v (max x y)) (min_comm y x)
     (subst (λ v. IsCovered d kind (min y x) v b ⊎ IsPairFull d kind (min y x) v) (max_comm y x) h))
 
-pub turned_and : (d : StoreData) (a b : Entry) (x u y : ℕ) → SettlesAnd d b a y u x → SettlesAnd d a b x u y
+pub turned_and : (d : StoreData) (a b : Entry) (x u y : ℕ) → SettlesAnd d b a y u x
+    → SettlesAnd d a b x u y
 turned_and d a b x u y h r n =
     let w = h (turned_rule d.elements a b x u y r) n in
     let q : both_of b a ≡ both_of a b = or_comm b.carrier a.carrier in (
       λ g. turned_answer d Full x y (both_of b a) (both_of a b) q (w.0 g),
-      λ k g. turned_answer d Semi x y (with_cell (both_of b a) k) (with_cell (both_of a b) k) (ap (λ v. with_cell v k) q) (w.1 k g),
+      λ k g. turned_answer d Semi x y (with_cell (both_of b a) k) (with_cell (both_of a b) k)
+          (ap (λ v. with_cell v k) q) (w.1 k g),
     )
 
 -- ---- OR
@@ -88,24 +93,30 @@ three_of a b c x y r = record {
 two_rule : (a b : Entry) (x y : ℕ) → AreTwo a b x y → OrRule (a ∷ b ∷ []) x y
 two_rule a b x y t = record {
   number = inl refl;
-  kinds = All-cons (λ (v : Entry). v.kind ≡ Semi) a (b ∷ []) t.first_kind (All-cons (λ (v : Entry). v.kind ≡ Semi) b [] t.second_kind (All-nil (λ (v : Entry). v.kind ≡ Semi)));
-  pairs = All-cons (λ (v : Entry). IsBetween v x y) a (b ∷ []) t.first_pair (All-cons (λ (v : Entry). IsBetween v x y) b [] t.second_pair (All-nil (λ (v : Entry). IsBetween v x y)));
+  kinds = All-cons (λ (v : Entry). v.kind ≡ Semi) a (b ∷ []) t.first_kind
+      (All-cons (λ (v : Entry). v.kind ≡ Semi) b [] t.second_kind (All-nil (λ (v : Entry). v.kind ≡ Semi)));
+  pairs = All-cons (λ (v : Entry). IsBetween v x y) a (b ∷ []) t.first_pair
+      (All-cons (λ (v : Entry). IsBetween v x y) b [] t.second_pair (All-nil (λ (v : Entry). IsBetween v x y)));
   free = λ k. both_full (has a.carrier k) (has b.carrier k) (t.free k);
 }
 
 three_rule : (a b c : Entry) (x y : ℕ) → AreThree a b c x y → OrRule (a ∷ b ∷ c ∷ []) x y
 three_rule a b c x y t = record {
   number = inr refl;
-  kinds = All-cons (λ (v : Entry). v.kind ≡ Semi) a (b ∷ c ∷ []) t.first_kind (All-cons (λ (v : Entry). v.kind ≡ Semi) b (c ∷ []) t.second_kind
+  kinds = All-cons (λ (v : Entry). v.kind ≡ Semi) a (b ∷ c ∷ []) t.first_kind
+      (All-cons (λ (v : Entry). v.kind ≡ Semi) b (c ∷ []) t.second_kind
       (All-cons (λ (v : Entry). v.kind ≡ Semi) c [] t.third_kind (All-nil (λ (v : Entry). v.kind ≡ Semi))));
-  pairs = All-cons (λ (v : Entry). IsBetween v x y) a (b ∷ c ∷ []) t.first_pair (All-cons (λ (v : Entry). IsBetween v x y) b (c ∷ []) t.second_pair
+  pairs = All-cons (λ (v : Entry). IsBetween v x y) a (b ∷ c ∷ []) t.first_pair
+      (All-cons (λ (v : Entry). IsBetween v x y) b (c ∷ []) t.second_pair
       (All-cons (λ (v : Entry). IsBetween v x y) c [] t.third_pair (All-nil (λ (v : Entry). IsBetween v x y))));
   free = λ k. all_full (has a.carrier k) (has b.carrier k) (has c.carrier k) (t.free k);
 }
 
 -- the cells of three carriers, whatever their order
-in_three : (a b c : ℕ) (k : ℕ) → has (bit_or a (bit_or b c)) k ≡ true → (has a k ≡ true) ⊎ ((has b k ≡ true) ⊎ (has c k ≡ true))
-in_three a b c k h = elim (in_union a (bit_or b c) k h) [ inl o ↦ inl o | inr o ↦ inr (in_union b c k o) ]
+in_three : (a b c : ℕ) (k : ℕ) → has (bit_or a (bit_or b c)) k ≡ true
+    → (has a k ≡ true) ⊎ ((has b k ≡ true) ⊎ (has c k ≡ true))
+in_three a b c k h
+    = elim (in_union a (bit_or b c) k h) [ inl o ↦ inl o | inr o ↦ inr (in_union b c k o) ]
 
 first_in : (a b c : ℕ) (k : ℕ) → has a k ≡ true → has (bit_or a (bit_or b c)) k ≡ true
 first_in a b c k h = union_left a (bit_or b c) k h
@@ -116,7 +127,8 @@ second_in a b c k h = union_right a (bit_or b c) k (union_left b c k h)
 third_in : (a b c : ℕ) (k : ℕ) → has c k ≡ true → has (bit_or a (bit_or b c)) k ≡ true
 third_in a b c k h = union_right a (bit_or b c) k (union_right b c k h)
 
-pub swapped_two : (d : StoreData) (a b : Entry) (x y : ℕ) → SettlesOr d (b ∷ a ∷ []) x y → SettlesOr d (a ∷ b ∷ []) x y
+pub swapped_two : (d : StoreData) (a b : Entry) (x y : ℕ) → SettlesOr d (b ∷ a ∷ []) x y
+    → SettlesOr d (a ∷ b ∷ []) x y
 swapped_two d a b x y h r =
     let t = two_of a b x y r in
     wider_answer d Full x y (union_of (b ∷ a ∷ [])) (union_of (a ∷ b ∷ []))
@@ -124,7 +136,8 @@ swapped_two d a b x y h r =
     (h (two_rule b a x y (record { first_kind = t.second_kind; second_kind = t.first_kind; first_pair = t.second_pair; second_pair = t.first_pair; free = λ k f g. t.free k g f })))
 
 -- the last two swapped
-pub swapped_last : (d : StoreData) (a b c : Entry) (x y : ℕ) → SettlesOr d (a ∷ c ∷ b ∷ []) x y → SettlesOr d (a ∷ b ∷ c ∷ []) x y
+pub swapped_last : (d : StoreData) (a b c : Entry) (x y : ℕ) → SettlesOr d (a ∷ c ∷ b ∷ []) x y
+    → SettlesOr d (a ∷ b ∷ c ∷ []) x y
 swapped_last d a b c x y h r =
     let t = three_of a b c x y r in
     wider_answer d Full x y (union_of (a ∷ c ∷ b ∷ [])) (union_of (a ∷ b ∷ c ∷ []))
@@ -143,7 +156,8 @@ swapped_last d a b c x y h r =
     })))
 
 -- the first two swapped
-pub swapped_first : (d : StoreData) (a b c : Entry) (x y : ℕ) → SettlesOr d (b ∷ a ∷ c ∷ []) x y → SettlesOr d (a ∷ b ∷ c ∷ []) x y
+pub swapped_first : (d : StoreData) (a b c : Entry) (x y : ℕ) → SettlesOr d (b ∷ a ∷ c ∷ []) x y
+    → SettlesOr d (a ∷ b ∷ c ∷ []) x y
 swapped_first d a b c x y h r =
     let t = three_of a b c x y r in
     wider_answer d Full x y (union_of (b ∷ a ∷ c ∷ [])) (union_of (a ∷ b ∷ c ∷ []))
@@ -162,11 +176,13 @@ swapped_first d a b c x y h r =
     })))
 
 -- the last brought to the front
-pub last_first : (d : StoreData) (a b c : Entry) (x y : ℕ) → SettlesOr d (c ∷ a ∷ b ∷ []) x y → SettlesOr d (a ∷ b ∷ c ∷ []) x y
+pub last_first : (d : StoreData) (a b c : Entry) (x y : ℕ) → SettlesOr d (c ∷ a ∷ b ∷ []) x y
+    → SettlesOr d (a ∷ b ∷ c ∷ []) x y
 last_first d a b c x y h = swapped_last d a b c x y (swapped_first d a c b x y h)
 
 -- one way twice
-pub way_twice : (d : StoreData) (a b : Entry) (x y : ℕ) → SettlesOr d (a ∷ b ∷ []) x y → SettlesOr d (a ∷ b ∷ b ∷ []) x y
+pub way_twice : (d : StoreData) (a b : Entry) (x y : ℕ) → SettlesOr d (a ∷ b ∷ []) x y
+    → SettlesOr d (a ∷ b ∷ b ∷ []) x y
 way_twice d a b x y h r =
     let t = three_of a b b x y r in
     wider_answer d Full x y (union_of (a ∷ b ∷ [])) (union_of (a ∷ b ∷ b ∷ []))
@@ -174,7 +190,9 @@ way_twice d a b x y h r =
     (h (two_rule a b x y (record { first_kind = t.first_kind; second_kind = t.second_kind; first_pair = t.first_pair; second_pair = t.second_pair; free = λ k f g. t.free k f g g })))
 
 -- two ways that share no cell: a third one adds nothing
-pub two_enough : (d : StoreData) (a b c : Entry) (x y : ℕ) → ((k : ℕ) → has a.carrier k ≡ true → has b.carrier k ≡ true → ⊥) → SettlesOr d (a ∷ b ∷ []) x y → SettlesOr d (a ∷ b ∷ c ∷ []) x y
+pub two_enough : (d : StoreData) (a b c : Entry) (x y : ℕ)
+    → ((k : ℕ) → has a.carrier k ≡ true → has b.carrier k ≡ true → ⊥) → SettlesOr d (a ∷ b ∷ []) x y
+    → SettlesOr d (a ∷ b ∷ c ∷ []) x y
 two_enough d a b c x y free h r =
     let t = three_of a b c x y r in
     wider_answer d Full x y (union_of (a ∷ b ∷ [])) (union_of (a ∷ b ∷ c ∷ []))
@@ -182,14 +200,16 @@ two_enough d a b c x y free h r =
     (h (two_rule a b x y (record { first_kind = t.first_kind; second_kind = t.second_kind; first_pair = t.first_pair; second_pair = t.second_pair; free = free })))
 
 -- the first way twice
-pub first_twice : (d : StoreData) (a b : Entry) (x y : ℕ) → SettlesOr d (a ∷ b ∷ []) x y → SettlesOr d (a ∷ a ∷ b ∷ []) x y
+pub first_twice : (d : StoreData) (a b : Entry) (x y : ℕ) → SettlesOr d (a ∷ b ∷ []) x y
+    → SettlesOr d (a ∷ a ∷ b ∷ []) x y
 first_twice d a b x y h r =
     let t = three_of a a b x y r in
     wider_answer d Full x y (union_of (a ∷ b ∷ [])) (union_of (a ∷ a ∷ b ∷ []))
     (λ k g. elim (in_union a.carrier b.carrier k g) [ inl o ↦ first_in a.carrier a.carrier b.carrier k o | inr o ↦ third_in a.carrier a.carrier b.carrier k o ])
     (h (two_rule a b x y (record { first_kind = t.first_kind; second_kind = t.third_kind; first_pair = t.first_pair; second_pair = t.third_pair; free = λ k f g. t.free k f f g })))
 
-pub first_again : (d : StoreData) (a b : Entry) (x y : ℕ) → SettlesOr d (a ∷ b ∷ []) x y → SettlesOr d (a ∷ b ∷ a ∷ []) x y
+pub first_again : (d : StoreData) (a b : Entry) (x y : ℕ) → SettlesOr d (a ∷ b ∷ []) x y
+    → SettlesOr d (a ∷ b ∷ a ∷ []) x y
 first_again d a b x y h r =
     let t = three_of a b a x y r in
     wider_answer d Full x y (union_of (a ∷ b ∷ [])) (union_of (a ∷ b ∷ a ∷ []))

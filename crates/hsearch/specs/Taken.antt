@@ -1,6 +1,6 @@
 -- Stores on their way to a report. Only private clauses cite this.
 use Rattle.std.specs.Prelude.{◌≡◌, ℕ, ◌<◌, Bool, true, false, List, [], ◌∷◌, ◌++◌, Some, length}
-use Rattle.std.specs.Prelude.{slice_index_or}
+use Rattle.std.specs.Prelude.{slice_index, slice_index_or}
 use Rattle.std.specs.List.{Contains, slice_get}
 use Rattle.hex_board.specs.Places.{is_near}
 use Rattle.conn_store.specs.Rules.{AreAt}
@@ -19,7 +19,7 @@ abbrev pub IsAndSettled : StoreData → ℕ → ℕ → Type 0
 IsAndSettled d i j =
     (a b : Entry) (x u y : ℕ) → AreAt d.entries (i ∷ j ∷ []) (a ∷ b ∷ []) → SettlesAnd d a b x u y
 
--- the same where the middle is u
+-- the same if the middle is u
 abbrev pub IsAndSettledOver : StoreData → ℕ → ℕ → ℕ → Type 0
 IsAndSettledOver d i j u =
     (a b : Entry) (x y : ℕ) → AreAt d.entries (i ∷ j ∷ []) (a ∷ b ∷ []) → SettlesAnd d a b x u y
@@ -33,12 +33,27 @@ IsOrSettled d numbers =
 abbrev pub IsMarked : List Bool → ℕ → Type 0
 IsMarked taken i = slice_index_or taken i false ≡ true
 
+-- what the rule of OR gives of entry n and one of those among the first m that were taken is
+-- answered
+abbrev pub AreTwosSettled : StoreData → ℕ → List Bool → ℕ → Type 0
+AreTwosSettled d m taken n = (i : ℕ) → i < m → IsMarked taken i → IsOrSettled d (n ∷ i ∷ [])
+
+-- the same of entry n and any two of those
+abbrev pub AreThreesSettled : StoreData → ℕ → List Bool → ℕ → Type 0
+AreThreesSettled d m taken n = (i j : ℕ) → i < m → j < m → IsMarked taken i → IsMarked taken j
+    → IsOrSettled d (n ∷ i ∷ j ∷ [])
+
+-- the same of entry n, the number at this place of a list, and one at a place before it that was
+-- taken
+abbrev pub AreThirdsSettled : StoreData → ℕ → List ℕ → ℕ → List Bool → Type 0
+AreThirdsSettled d n list place taken = (q : ℕ) → q < place → IsMarked taken (slice_index list q)
+    → IsOrSettled d (n ∷ slice_index list place ∷ slice_index list q ∷ [])
+
 -- what the rules give of entry n and of those among the first m entries that were taken is answered
 pub record IsCombined (d : StoreData) (m : ℕ) (taken : List Bool) (n : ℕ) : Type 0 where
   pub ands : (i : ℕ) → i < m → IsMarked taken i → IsAndSettled d n i
-  pub twos : (i : ℕ) → i < m → IsMarked taken i → IsOrSettled d (n ∷ i ∷ [])
-  pub threes : (i j : ℕ) → i < m → j < m → IsMarked taken i → IsMarked taken j
-      → IsOrSettled d (n ∷ i ∷ j ∷ [])
+  pub twos : AreTwosSettled d m taken n
+  pub threes : AreThreesSettled d m taken n
 
 -- w marks what v marks
 abbrev pub IsGrown : List Bool → List Bool → Type 0

@@ -10,7 +10,7 @@ IsWith v n w =
     (front : List ℕ) × (back : List ℕ) × (v ≡ front ++ back) × (w ≡ front ++ n ∷ back)
 
 -- w has what v has and the numbers from m up to n, and nothing else, and so many more
-pub record IsFilled (v w : List ℕ) (m n : ℕ) : Type 0 where
+pub record IsWithRange (v w : List ℕ) (m n : ℕ) : Type 0 where
   pub kept : (i : ℕ) → Contains v i → Contains w i
   pub added : (i : ℕ) → m ≤ i → i < n → Contains w i
   pub others : (i : ℕ) → Contains w i → Contains v i ⊎ ((m ≤ i) × (i < n))

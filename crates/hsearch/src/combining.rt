@@ -1,4 +1,4 @@
-//! What follows from one entry and those that a store has.
+//! What follows from one entry and those that were taken.
 
 ghost use Rattle.std.specs.Prelude.{◌≡◌, ℕ, ◌+◌, ◌<◌, ◌≤◌, ◌∷◌, [], ◌↔◌, IsTrue, length};
 ghost use Rattle.std.specs.Prelude.{map, slice_index};
@@ -9,8 +9,9 @@ ghost use Rattle.conn_store.specs.Over.{IsOver};
 ghost use Rattle.conn_store.specs.declared.entries.TheConstants.{MOST_SEMI};
 ghost use Rattle.conn_store.specs.Stores.{CanOr};
 ghost use Rattle.hsearch.specs.Listed.{AreListed, IsFullAt};
-ghost use Rattle.hsearch.specs.Taken.{AreBare, AreNearBelow, Extends, IsCombined, IsOrSettled};
-ghost use Rattle.hsearch.specs.Taken.{IsAndSettledOver, IsMarked, IsOfPair};
+ghost use Rattle.hsearch.specs.Taken.{AreBare, AreNearBelow, AreThirdsSettled, AreThreesSettled};
+ghost use Rattle.hsearch.specs.Taken.{AreTwosSettled, Extends, IsAndSettledOver, IsCombined};
+ghost use Rattle.hsearch.specs.Taken.{IsMarked, IsOfPair, IsOrSettled};
 
 use super::listing::list_of;
 use conn_store::{EntryOver, Held, Kind, Store};
@@ -122,11 +123,8 @@ fn choose(store: &mut Store, number: u32, x: u8, y: u8, taken: &[bool])
     requires elements { y < element_count store.old.elements }
     requires pair { IsOfPair store.old number x y }
     ensures extends { Extends store.old store.new }
-    ensures twos { (i : ℕ) → i < length store.old.entries → IsMarked taken.now i
-        → IsOrSettled store.new (number ∷ i ∷ []) }
-    ensures threes { (i j : ℕ) → i < length store.old.entries → j < length store.old.entries
-        → IsMarked taken.now i → IsMarked taken.now j
-        → IsOrSettled store.new (number ∷ i ∷ j ∷ []) }
+    ensures twos { AreTwosSettled store.new (length store.old.entries) taken.now number }
+    ensures threes { AreThreesSettled store.new (length store.old.entries) taken.now number }
 {
     let held = store.held(x, y, Kind::Semi);
     'seconds: for place in 0..held.count as usize {
@@ -146,9 +144,7 @@ fn choose_at(store: &mut Store, number: u32, held: &Held, place: usize, taken: &
         → slice_index held.now.at p < length store.old.entries }
     ensures extends { Extends store.old store.new }
     ensures two { IsOrSettled store.new (number ∷ slice_index held.now.at place ∷ []) }
-    ensures threes { (q : ℕ) → q < place → IsMarked taken.now (slice_index held.now.at q)
-        → IsOrSettled store.new
-        (number ∷ slice_index held.now.at place ∷ slice_index held.now.at q ∷ []) }
+    ensures threes { AreThirdsSettled store.new number held.now.at place taken.now }
 {
     if choose_two(store, number, held.at[place]) {
         return;

@@ -1,7 +1,7 @@
 //! H-search: the connections that the four rules lead to.
 //!
 //! **Nouns.** A *report* ([`Report`]) is a store of a player's entries on a board that is closed
-//! under the four rules of `conn_store`. What a rule gives is *settled* where the pair has an entry
+//! under the four rules of `conn_store`. What a rule gives is *settled* if the pair has an entry
 //! of that kind with a carrier inside the rule's, or its full number of that kind.
 //!
 //! **A caller** makes a report by [`connect`] and reads its entries by [`Report::store`]:

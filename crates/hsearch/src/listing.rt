@@ -31,7 +31,7 @@ pub(crate) fn list_of(lists: &[Vec<u32>], element: u8) -> &[u32]
     &lists[element as usize]
 }
 
-/// Lists the entry with this number for both of its elements, where it is full.
+/// Lists the entry with this number for both of its elements, if it is full.
 pub(crate) fn enlist(
     lists: &mut Vec<Vec<u32>>,
     number: u32,

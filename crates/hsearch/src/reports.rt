@@ -35,7 +35,7 @@ impl Model for Report {
 /// takes each entry once, those with the smallest carriers first, and adds what follows from it
 /// and those that were taken before.
 ///
-/// It refuses for want of memory alone.
+/// It refuses only if memory runs out.
 pub fn connect(alloc: Global, board: &Board, colour: Colour) -> Result<Report, Memory>
     ensures elements { IfOk result
         (λ r. r.elements ≡ record { board = board.now; player = colour }) }

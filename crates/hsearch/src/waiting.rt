@@ -2,7 +2,7 @@
 
 ghost use Rattle.std.specs.Prelude.{◌≡◌, ◌^◌, ◌<◌, ◌≤◌, [], IfOk, OnOk, MatchOption, length, map};
 ghost use Rattle.hex_cells.specs.declared.board_size.TheConstants.{MOST_CELLS};
-ghost use Rattle.hsearch.specs.Waiting.{AreFilledFrom, IsFilled, IsWith};
+ghost use Rattle.hsearch.specs.Waiting.{AreFilledFrom, IsWithRange, IsWith};
 
 use conn_store::Entry;
 use hex_cells::MOST_CELLS;
@@ -59,7 +59,7 @@ impl Waiting {
     pub(crate) fn put_from(&mut self, entries: &[Entry], first: usize) -> Result<(), AllocError>
         requires first { first ≤ length entries.now }
         requires number { length entries.now < 2 ^ 32 }
-        ensures { OnOk result (IsFilled self.old self.new first (length entries.now)) }
+        ensures { OnOk result (IsWithRange self.old self.new first (length entries.now)) }
     {
         'entries: for number in first..entries.len() {
             self.put(number as u32, entries[number].carrier.count())?;
@@ -80,7 +80,7 @@ impl Waiting {
     }
 }
 
-// The first place from `start` on at which a queue has a number; behind all where none has.
+// The first place from `start` on at which a queue has a number; behind all if none has.
 fn first_filled(queues: &[VecDeque<u32>], start: usize) -> usize
     requires { start ≤ length queues.now }
     ensures { AreFilledFrom (map (λ q. q.items) queues.now) start result }

@@ -20,7 +20,8 @@ join_over-requires-clause-entry c =
     (full_at c.args.store.now c.args.number c.index-entries-number.result a c.in-Full.is (c.entries.ensures.sound.valid _ _ a).order).0
 
 pub join_over-requires-clause-list : goal.join_over-requires-clause-list
-join_over-requires-clause-list c = λ i m. c.requires.lists.within c.index-entries-number.result.x i (subst (λ xs. Contains xs i) c.list_of.ensures m)
+join_over-requires-clause-list c = λ i m. c.requires.lists.within c.index-entries-number.result.x i
+    (subst (λ xs. Contains xs i) c.list_of.ensures m)
 
 pub list_of-requires-in-Full : goal.list_of-requires-in-Full
 list_of-requires-in-Full c =
@@ -29,7 +30,8 @@ list_of-requires-in-Full c =
 
 pub join_over-requires-in-Full-clause-list : goal.join_over-requires-in-Full-clause-list
 join_over-requires-in-Full-clause-list c =
-    λ i m. number_grown _ _ _ c.join_over.ensures.extends (c.requires.lists.within c.index-entries-number.result.y i (subst (λ xs. Contains xs i) c.list_of-in-Full.ensures m))
+    λ i m. number_grown _ _ _ c.join_over.ensures.extends
+    (c.requires.lists.within c.index-entries-number.result.y i (subst (λ xs. Contains xs i) c.list_of-in-Full.ensures m))
 
 pub returns-in-Full-clause-combined : goal.returns-in-Full-clause-combined
 returns-in-Full-clause-combined c =
@@ -43,14 +45,18 @@ returns-in-Full-clause-combined c =
     (λ i m. c.join_over-in-Full.ensures.joined i (subst (λ xs. Contains xs i) (sym c.list_of-in-Full.ensures) m))
 
 pub choose-requires-clause-order : goal.choose-requires-clause-order
-choose-requires-clause-order c = (c.entries.ensures.sound.valid _ _ (stands c.args.store.now _ _ _ c.entries.ensures.value c.requires.number c.index-entries-number.is)).order
+choose-requires-clause-order c
+    = (c.entries.ensures.sound.valid _ _ (stands c.args.store.now _ _ _ c.entries.ensures.value c.requires.number c.index-entries-number.is)).order
 
 pub choose-requires-clause-elements : goal.choose-requires-clause-elements
-choose-requires-clause-elements c = (c.entries.ensures.sound.valid _ _ (stands c.args.store.now _ _ _ c.entries.ensures.value c.requires.number c.index-entries-number.is)).elements
+choose-requires-clause-elements c
+    = (c.entries.ensures.sound.valid _ _ (stands c.args.store.now _ _ _ c.entries.ensures.value c.requires.number c.index-entries-number.is)).elements
 
 pub choose-requires-clause-pair : goal.choose-requires-clause-pair
 choose-requires-clause-pair c = λ a h.
-    let e : c.index-entries-number.result ≡ a = same_Some _ a (sym (stands c.args.store.now _ _ _ c.entries.ensures.value c.requires.number c.index-entries-number.is) ∙ h) in
+    let e : c.index-entries-number.result ≡ a
+    = same_Some _ a
+    (sym (stands c.args.store.now _ _ _ c.entries.ensures.value c.requires.number c.index-entries-number.is) ∙ h) in
     (ap (λ (v : Entry). v.x) (sym e), ap (λ (v : Entry). v.y) (sym e))
 
 pub returns-in-Semi-clause-combined : goal.returns-in-Semi-clause-combined

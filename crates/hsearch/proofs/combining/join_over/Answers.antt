@@ -4,17 +4,20 @@ use Rattle.hsearch.proofs.Steps.{at_place, joined_all, joined_more, number_grown
 use Rattle.hsearch.proofs.combining.join_over.Goals as goal
 
 pub join-requires-clause-first : goal.join-requires-clause-first
-join-requires-clause-first c = over_kept c.args.store.now c.others.store c.over-first.result c.others.invariant.grown c.over-first.ensures.over
+join-requires-clause-first c
+    = over_kept c.args.store.now c.others.store c.over-first.result c.others.invariant.grown c.over-first.ensures.over
 
 pub join-requires-clause-other : goal.join-requires-clause-other
 join-requires-clause-other c =
-    number_grown c.args.store.now c.others.store (get_or c.args.list.now c.others.place 0) c.others.invariant.grown
+    number_grown c.args.store.now c.others.store
+    (get_or c.args.list.now c.others.place 0) c.others.invariant.grown
     (c.requires.list (get_or c.args.list.now c.others.place 0) (at_place c.args.list.now c.others.place (omega arith)))
 
 pub others-preserved : goal.others-preserved
 others-preserved c =
     joined_more c.args.store.now c.others.store c.join.new.store c.over-first.result.number c.over-first.result.middle c.args.list.now c.others.place c.others.invariant
-    c.join.ensures.extends (subst (λ n. n < length c.args.store.now.entries) (sym c.over-first.ensures.names.0) c.requires.number) (omega arith) c.requires.list c.join.ensures.joined
+    c.join.ensures.extends
+    (subst (λ n. n < length c.args.store.now.entries) (sym c.over-first.ensures.names.0) c.requires.number) (omega arith) c.requires.list c.join.ensures.joined
 
 pub returns-clause-joined : goal.returns-clause-joined
 returns-clause-joined c =

@@ -5,8 +5,11 @@ use Rattle.hsearch.proofs.waiting.Waiting.make.Goals as goal
 
 pub sizes-preserved : goal.sizes-preserved
 sizes-preserved c =
-    let e : c.push.new.self.items ≡ c.sizes.queues.items ++ c.new.result ∷ [] = c.in_ok-push.ensures.items in
+    let e : c.push.new.self.items ≡ c.sizes.queues.items ++ c.new.result ∷ []
+    = c.in_ok-push.ensures.items in
     record {
-      count = ap length e ∙ (length-append c.sizes.queues.items (c.new.result ∷ []) ∙ ap (λ n. n + 1) c.sizes.invariant.count);
-      empty = ap (λ xs. concat (map (λ q. q.items) xs)) e ∙ one_empty (λ q. q.items) c.sizes.queues.items c.new.result c.sizes.invariant.empty c.new.ensures.items;
+      count = ap length e
+          ∙ (length-append c.sizes.queues.items (c.new.result ∷ []) ∙ ap (λ n. n + 1) c.sizes.invariant.count);
+      empty = ap (λ xs. concat (map (λ q. q.items) xs)) e
+          ∙ one_empty (λ q. q.items) c.sizes.queues.items c.new.result c.sizes.invariant.empty c.new.ensures.items;
     }

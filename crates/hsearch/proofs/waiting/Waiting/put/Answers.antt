@@ -10,7 +10,8 @@ invariant_of-self c =
 pub invariant_of-self-2 : goal.invariant_of-self-2
 invariant_of-self-2 c =
     queued_set (λ q. q.items) c.self.inside.queues.items c.self.inside.least c.min-self-inside.result c.args.size c.push_back.new.self c.self.invariant
-    (omega (arith, c.min-self-inside.ensures)) c.requires (λ k l m. c.self.invariant.empty k l (omega (arith, c.min-self-inside.ensures)))
+    (omega (arith, c.min-self-inside.ensures)) c.requires
+    (λ k l m. c.self.invariant.empty k l (omega (arith, c.min-self-inside.ensures)))
 
 pub returns : goal.returns
 returns c =

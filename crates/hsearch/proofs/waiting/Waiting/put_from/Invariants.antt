@@ -1,5 +1,5 @@
-use Rattle.hsearch.specs.Waiting.{IsFilled}
+use Rattle.hsearch.specs.Waiting.{IsWithRange}
 use Rattle.hsearch.proofs.waiting.Waiting.put_from.Given as goal
 
 abbrev pub invariant-entries : goal.invariant-entries
-invariant-entries l = IsFilled l.fn.self l.self l.first l.number
+invariant-entries l = IsWithRange l.fn.self l.self l.first l.number
