@@ -1,7 +1,6 @@
 -- The cells of a set, listed one by one.
 use Rattle.std.proofs.Common.{◌/◌, ◌%◌, ◌-◌, ◌^◌, ◌==◌, zero-add, bit_and, pow-add, subst, inl, inr, ◌≡◌, ℕ, ◌+◌, ◌*◌, ◌<◌, ◌≤◌, true, false, Bool, cond, List, [], ◌∷◌, ◌++◌, length, take, map, refl, sym, ◌∙◌, ap, arith, zero, suc, add-one, add-zero, append-nil, length-append}
 use Rattle.std.proofs.Math.ListN.{set, length-set}
-use Rattle.std.proofs.Math.Nat.{mul-le-mul}
 use Rattle.std.specs.List.{filter, range_with_len}
 use Rattle.std.proofs.lemmas.List.{take_more_set, take-set, length-map}
 use Rattle.std.proofs.lemmas.List.Elements.{filter_agree}
@@ -134,15 +133,20 @@ rest_next s rest k e =
 -- ---- the whole board
 
 -- the cells of a set below the last are those of the board that it lies on
-on_board : (s n : ℕ) → n ≤ 121 → ((k : ℕ) → n ≤ k → has s k ≡ false) → filter (has s) (range_with_len 0 121) ≡ filter (has s) (range_with_len 0 n)
-on_board s n l f =
-    let e : 121 ≡ n + (121 - n) = omega arith in
-    ap (λ v. filter (has s) (range_with_len 0 v)) e ∙ (two_pass (has s) 0 n (121 - n)
-    ∙ (ap (λ xs. filter (has s) (range_with_len 0 n) ++ xs) (none_pass (has s) (0 + n) (121 - n) (λ k m. f k (omega (arith, m)))) ∙ append-nil (filter (has s) (range_with_len 0 n))))
+on_board : (s n end : ℕ) → n ≤ end → ((k : ℕ) → n ≤ k → has s k ≡ false)
+    → filter (has s) (range_with_len 0 end) ≡ filter (has s) (range_with_len 0 n)
+on_board s n end l f =
+    let e : end ≡ n + (end - n) = omega (arith, l) in
+    let none = none_pass (has s) (0 + n) (end - n) (λ k m. f k (omega (arith, m))) in
+    let kept : List ℕ = filter (has s) (range_with_len 0 n) in
+    ap (λ v. filter (has s) (range_with_len 0 v)) e ∙ (two_pass (has s) 0 n (end - n)
+    ∙ (ap (λ xs. kept ++ xs) none ∙ append-nil kept))
 
 -- all cells are the empty ones
-pub all_empties : (p : Position) (s : ℕ) → p.size ≤ 11 → ((k : ℕ) → has s k ≡ is_empty_at p k) → filter (has s) (range_with_len 0 121) ≡ empties_of p
+pub all_empties : (p : Position) (s end : ℕ) → p.size * p.size ≤ end
+    → ((k : ℕ) → has s k ≡ is_empty_at p k)
+    → filter (has s) (range_with_len 0 end) ≡ empties_of p
 unfolding empties_of
-all_empties p s small f =
-    let most : p.size * p.size ≤ 11 * 11 = mul-le-mul small small in
-    on_board s (p.size * p.size) (omega (arith, most)) (λ k l. f k ∙ off_board p k l) ∙ filter_agree (has s) (is_empty_at p) f (cells_of p.size)
+all_empties p s end l f =
+    on_board s (p.size * p.size) end l (λ k m. f k ∙ off_board p k m)
+    ∙ filter_agree (has s) (is_empty_at p) f (cells_of p.size)

@@ -29,9 +29,6 @@ static ROWS: [[u32; 4]; 16] = [
     [0, 1, 2, 3],
 ];
 
-// The fours of the largest board; the last cell is over.
-const FOURS: u32 = MOST_CELLS / 4;
-
 fn rows() -> &'static [[u32; 4]; 16]
     ensures { result.now ≡ map padded_bits (range_with_len 0 16) }
 {
@@ -72,16 +69,15 @@ pub(crate) fn list_empties(board: &Board, cells: &mut [Cell; MOST_EMPTIES]) -> u
     ensures count { result ≡ length (empties_of board.now) }
     ensures range { result ≤ MOST_EMPTIES }
 {
-    // The size bounds the board's cells.
-    let _size = board.size();
-    let empties = board.empties();
-    let mut rest = empties.bits();
+    // The fours leave over the last cell at most.
+    let fours = (board.size().cells() + 2) / 4;
+    let mut rest = board.empties().bits();
     let mut count = 0;
-    for k in 0..FOURS {
+    for k in 0..fours {
         count = list_four(cells, count, 4 * k, (rest % 16) as usize);
         rest >>= 4;
     }
-    // If the last cell is not empty, it is left over.
-    cells[count] = Cell::numbered(4 * FOURS);
+    // If the cell behind them is not empty, or on no board, it is left over.
+    cells[count] = Cell::numbered(4 * fours);
     count + (rest & 1) as usize
 }

@@ -1,4 +1,4 @@
-use Rattle.std.proofs.Common.{◌≡◌, ◌+◌, ◌*◌, ◌/◌, ◌%◌, ◌^◌, subst, ap, ◌∙◌, arith, length}
+use Rattle.std.proofs.Common.{◌≡◌, ℕ, ◌+◌, ◌*◌, ◌/◌, ◌%◌, ◌^◌, subst, ap, ◌∙◌, arith, length}
 use Rattle.std.proofs.Math.ListN.{set}
 use Rattle.std.specs.List.{filter, range_with_len}
 use Rattle.std.specs.Prelude.{bit_and}
@@ -34,15 +34,27 @@ bounds-cells-count c =
     omega (arith, few, c.loop-k.auto.k-end)
 
 -- after the last cell
-all : (c : goal.After-index-cells-count) → Listed c.bits-rest.result (set c.loop-k.cells c.loop-k.count c.numbered.result) (c.loop-k.count + bit_and c.loop-k.rest 1) 121
+all : (c : goal.After-index-cells-count)
+    → Listed c.bits-rest.result (set c.loop-k.cells c.loop-k.count c.numbered.result)
+    (c.loop-k.count + bit_and c.loop-k.rest 1) (4 * ((c.cells.result + 2) / 4) + 1)
 all c =
-    let last : c.loop-k.k ≡ 30 = omega (arith, c.loop-k.auto.k-end, c.loop-k-test.false) in
-    listed_next c.bits-rest.result c.loop-k.rest c.loop-k.cells c.loop-k.count 120 c.numbered.result
-    (subst (λ k. Listed c.bits-rest.result c.loop-k.cells c.loop-k.count (4 * k)) last c.loop-k.invariant.listed)
-    (c.loop-k.invariant.rest ∙ ap (λ k. c.bits-rest.result / 2 ^ (4 * k)) last) (omega arith) c.numbered.ensures
+    let fours : ℕ = (c.cells.result + 2) / 4 in
+    let last : c.loop-k.k ≡ fours = omega (arith, c.loop-k.auto.k-end, c.loop-k-test.false) in
+    listed_next c.bits-rest.result c.loop-k.rest c.loop-k.cells c.loop-k.count (4 * fours)
+    c.numbered.result
+    (subst (λ k. Listed c.bits-rest.result c.loop-k.cells c.loop-k.count (4 * k)) last
+    c.loop-k.invariant.listed)
+    (c.loop-k.invariant.rest ∙ ap (λ k. c.bits-rest.result / 2 ^ (4 * k)) last)
+    (omega (arith, c.cells.ensures.range)) c.numbered.ensures
 
-same : (c : goal.After-index-cells-count) → filter (has c.bits-rest.result) (range_with_len 0 121) ≡ empties_of c.args.board.now
-same c = all_empties c.args.board.now c.bits-rest.result (omega (arith, c.size-size.ensures.value, c.size-size.ensures.range)) (λ k. c.bits-rest.ensures.items k ∙ c.empties-empties.ensures k)
+same : (c : goal.After-index-cells-count)
+    → filter (has c.bits-rest.result) (range_with_len 0 (4 * ((c.cells.result + 2) / 4) + 1))
+    ≡ empties_of c.args.board.now
+same c =
+    let n = c.cells.ensures.value ∙ ap (λ z. z * z) c.size.ensures.value in
+    all_empties c.args.board.now c.bits-rest.result (4 * ((c.cells.result + 2) / 4) + 1)
+    (omega (arith, n))
+    (λ k. c.bits-rest.ensures.items k ∙ c.empties.ensures k)
 
 pub returns-clause-list : goal.returns-clause-list
 returns-clause-list c = (all c).items ∙ same c
@@ -51,4 +63,5 @@ pub returns-clause-count : goal.returns-clause-count
 returns-clause-count c = (all c).many ∙ ap length (same c)
 
 pub returns-clause-range : goal.returns-clause-range
-returns-clause-range c = listed_few _ _ _ _ (all c)
+returns-clause-range c =
+    omega (arith, listed_few _ _ _ _ (all c), c.cells.ensures.range)
