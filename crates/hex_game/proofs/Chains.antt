@@ -26,31 +26,31 @@ leads_to_replay start steps boards last h = leads_on start [] start steps boards
 more_on : (start : Position) (done : List Step) (now : Position) (steps : List Step)
     (boards : List Position) (last next : Position) (step : Step)
     → StepsLead start done now steps boards last
-        → is_legal_on start (done ++ steps) last step ≡ true
-        → next ≡ after_step start (done ++ steps) last step
-        → IsFew (done ++ steps ++ step ∷ []) next
+    → is_legal_on start (done ++ steps) last step ≡ true
+    → next ≡ after_step start (done ++ steps) last step
+    → IsFew (done ++ steps ++ step ∷ []) next
     → StepsLead start done now (steps ++ step ∷ []) (boards ++ last ∷ []) next
 more_on start done now [] [] last next step h legal is_next few =
     let at_end : done ++ [] ≡ done = append-nil done in
     let is_after : next ≡ after_step start done now step =
     is_next ∙ ap (λ (d : List Step). after_step start d last step) at_end
-        ∙ ap (λ (p : Position). after_step start done p step) h.0 in (
+    ∙ ap (λ (p : Position). after_step start done p step) h.0 in (
       h.0,
       h.1,
       subst (λ (p : Position). is_legal_on start done p step ≡ true) h.0
-        (subst (λ (d : List Step). is_legal_on start d last step ≡ true) at_end legal),
+          (subst (λ (d : List Step). is_legal_on start d last step ≡ true) at_end legal),
       (is_after, subst (λ (p : Position). IsFew (done ++ step ∷ []) p) is_after (subst (λ (d : List Step). IsFew (d ++ step ∷ []) next) at_end few)),
     )
 more_on start done now [] (board ∷ boards) last next step h legal is_next few = absurd h
 more_on start done now (first ∷ steps) [] last next step h legal is_next few = absurd h
 more_on start done now (first ∷ steps) (board ∷ boards) last next step h legal is_next few =
     let regroup : done ++ (first ∷ steps) ≡ (done ++ first ∷ []) ++ steps
-        = sym (append_assoc done (first ∷ []) steps) in (
+    = sym (append_assoc done (first ∷ []) steps) in (
       h.0,
       h.1,
       h.2,
       more_on start (done ++ first ∷ [])
-        (after_step start done now first) steps boards last next step h.3
+          (after_step start done now first) steps boards last next step h.3
           (subst (λ (d : List Step). is_legal_on start d last step ≡ true) regroup legal)
           (is_next ∙ ap (λ (d : List Step). after_step start d last step) regroup)
           (subst (λ (d : List Step). IsFew (d ++ step ∷ []) next) regroup few),
@@ -60,7 +60,7 @@ more_on start done now (first ∷ steps) (board ∷ boards) last next step h leg
 less_on : (start : Position) (done : List Step) (now : Position) (steps : List Step)
     (boards : List Position) (last board : Position) (step : Step)
     → StepsLead start done now (steps ++ step ∷ []) (boards ++ board ∷ []) last
-        → StepsLead start done now steps boards board
+    → StepsLead start done now steps boards board
 less_on start done now [] [] last board step h = (h.0, h.1)
 less_on start done now [] (b ∷ []) last board step h = absurd h.3
 less_on start done now [] (b ∷ c ∷ boards) last board step h = absurd h.3
@@ -72,7 +72,7 @@ less_on start done now (first ∷ steps) (b ∷ boards) last board step h =
 pub one_less : (start : Position) (all steps : List Step) (old boards : List Position)
     (last board : Position) (step : Step)
     → all ≡ steps ++ step ∷ [] → old ≡ boards ++ board ∷ [] → StepsLead start [] start all old last
-        → StepsLead start [] start steps boards board
+    → StepsLead start [] start steps boards board
 one_less start all steps old boards last board step e f h =
     less_on start [] start steps boards last board step
     (subst (λ (bs : List Position). StepsLead start [] start (steps ++ step ∷ []) bs last) f (subst (λ (ss : List Step). StepsLead start [] start ss old last) e h))
@@ -98,7 +98,7 @@ few_on start done now [] (board ∷ boards) last h = absurd h
 few_on start done now (step ∷ steps) [] last h = absurd h
 few_on start done now (step ∷ steps) (board ∷ boards) last h =
     subst (λ (d : List Step). IsFew d last) (append_assoc done (step ∷ []) steps)
-        (few_on start (done ++ step ∷ []) (after_step start done now step) steps boards last h.3)
+    (few_on start (done ++ step ∷ []) (after_step start done now step) steps boards last h.3)
 
 after_legal : (b : Bool) (p q r : Position) → b ≡ true → p ≡ q → p ≡ cond b q r
 after_legal b p q r e f = rw e f
@@ -106,7 +106,7 @@ after_legal b p q r e f = rw e f
 pub one_more : (start : Position) (steps all : List Step) (boards old : List Position)
     (last next : Position) (step : Step)
     → StepsLead start [] start steps boards last → is_legal_on start steps last step ≡ true
-        → next ≡ moved last steps step.colour step.what → IsFew all next
+    → next ≡ moved last steps step.colour step.what → IsFew all next
     → all ≡ steps ++ step ∷ [] → old ≡ boards ++ last ∷ [] → StepsLead start [] start all old next
 one_more start steps all boards old last next step h legal is_next few e f =
     subst (λ (bs : List Position). StepsLead start [] start all bs next) (sym f)
@@ -124,7 +124,7 @@ before_last-push (first ∷ next ∷ steps) step
 replay_on-push : (start : Position) (done : List Step) (now : Position) (steps : List Step)
     (step : Step) →
     replay_on start done now (steps ++ step ∷ []) ≡ after_step start (done ++ steps)
-        (replay_on start done now steps) step
+    (replay_on start done now steps) step
 replay_on-push start done now [] step = ap (λ (d : List Step). after_step start d now step)
     (sym (append-nil done))
 replay_on-push start done now (first ∷ steps) step =
@@ -142,7 +142,7 @@ legal_on : (start : Position) (before : List Step) (now : Position) (steps : Lis
     (boards : List Position) (last : Position)
     → StepsLead start before now steps boards last → now ≡ replay start before
     → (done : List Step) (step : Step) (rest : List Step) → done ++ step ∷ rest ≡ steps
-        → is_legal_on start (before ++ done) (replay start (before ++ done)) step ≡ true
+    → is_legal_on start (before ++ done) (replay start (before ++ done)) step ≡ true
 legal_on start before now [] boards last h e [] step rest q = absurd (cc)
 legal_on start before now [] boards last h e (d ∷ done) step rest q = absurd (cc)
 legal_on start before now (s ∷ steps) [] last h e done step rest q = absurd h
@@ -156,7 +156,7 @@ legal_on start before now (s ∷ steps) (board ∷ boards) last h e (d ∷ done)
     let next : after_step start before now s ≡ replay start (before ++ s ∷ []) =
     ap (λ (p : Position). after_step start before p s) e ∙ sym (replay-push start before s) in
     let regroup : (before ++ s ∷ []) ++ done ≡ before ++ d ∷ done
-        = append_assoc before (s ∷ []) done ∙ ap (λ (t : Step). before ++ t ∷ done) (sym same) in
+    = append_assoc before (s ∷ []) done ∙ ap (λ (t : Step). before ++ t ∷ done) (sym same) in
     subst (λ (l : List Step). is_legal_on start l (replay start l) step ≡ true) regroup
     (legal_on start (before ++ s ∷ []) (after_step start before now s) steps boards last h.3 next done step rest more)
 

@@ -42,9 +42,9 @@ unfolding members
 members_free b w c zero a f g h = absurd (omega arith)
 members_free b w c (suc j) a f g h = elim (cases_eq j c) [
   | inl e ↦ none_lt (has b j) (has w j) (members b j) (members w j) j (ap (has b) e ∙ f)
-    (ap (has w) e ∙ g) (members_two b w j a)
+      (ap (has w) e ∙ g) (members_two b w j a)
   | inr n ↦ two_lt (has b j) (has w j) (members b j) (members w j) j (a j)
-    (members_free b w c j a f g (omega arith))
+      (members_free b w c j a f g (omega arith))
 ]
 
 pub room_for_stone : (b w c : ℕ) → Apart b w → has b c ≡ false → has w c ≡ false → c < 121

@@ -26,7 +26,7 @@ allowed_by false false first next e = absurd (cc)
 pub refused : (start : Position) (steps : List Step) (now : Position) (colour : Colour)
     (what : Move) (cause : PlayError)
     → refusal_on start steps now (record { colour = colour; what = what }) ≡ Some cause
-        → is_legal_on start steps now (record { colour = colour; what = what }) ≡ false
+    → is_legal_on start steps now (record { colour = colour; what = what }) ≡ false
 refused start steps now colour (Stone cell) cause e
     = refused_by (is_over now) (is_empty_at now cell) Over Occupied cause e
 refused start steps now colour Swap cause e
@@ -35,7 +35,7 @@ refused start steps now colour Swap cause e
 pub allowed : (start : Position) (steps : List Step) (now : Position) (colour : Colour)
     (what : Move)
     → refusal_on start steps now (record { colour = colour; what = what }) ≡ None
-        → is_legal_on start steps now (record { colour = colour; what = what }) ≡ true
+    → is_legal_on start steps now (record { colour = colour; what = what }) ≡ true
 allowed start steps now colour (Stone cell) e
     = allowed_by (is_over now) (is_empty_at now cell) Over Occupied e
 allowed start steps now colour Swap e
@@ -45,18 +45,18 @@ allowed start steps now colour Swap e
 pub same_rule : (start : Position) (steps : List Step) (now : Position) (game : GameData)
     (step : Step)
     → record { start = start; steps = steps } ≡ game → now ≡ replay start steps
-        → is_legal game step ≡ is_legal_on start steps now step
+    → is_legal game step ≡ is_legal_on start steps now step
 same_rule start steps now game step v e = ap (λ (g : GameData). is_legal g step) (sym v)
     ∙ ap (λ (p : Position). is_legal_on start steps p step) (sym e)
 
 pub same_refusal : (start : Position) (steps : List Step) (now : Position) (game : GameData)
     (step : Step)
     → record { start = start; steps = steps } ≡ game → now ≡ replay start steps
-        → refusal game step ≡ refusal_on start steps now step
+    → refusal game step ≡ refusal_on start steps now step
 same_refusal start steps now game step v e = ap (λ (g : GameData). refusal g step) (sym v)
     ∙ ap (λ (p : Position). refusal_on start steps p step) (sym e)
 
 pub same_board : (start : Position) (steps : List Step) (now : Position) (game : GameData)
     → record { start = start; steps = steps } ≡ game → now ≡ replay start steps
-        → now ≡ board_of game
+    → now ≡ board_of game
 same_board start steps now game v e = e ∙ ap (λ (g : GameData). board_of g) v

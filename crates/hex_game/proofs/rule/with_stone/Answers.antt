@@ -8,14 +8,14 @@ pub returns-clause-room : goal.returns-clause-room
 returns-clause-room c =
     let now = c.args.now.now in
     let free = empty_cell now c.args.cell
-        (subst (λ n. n ≤ 11) c.size-size.ensures.value c.size-size.ensures.range.1) c.requires in
+    (subst (λ n. n ≤ 11) c.size-size.ensures.value c.size-size.ensures.range.1) c.requires in
     let apart : Apart now.black now.white
-        = subst (λ s. Apart s now.white) c.stones-stones.ensures.value c.stones-stones.ensures.apart in
+    = subst (λ s. Apart s now.white) c.stones-stones.ensures.value c.stones-stones.ensures.apart in
     room_for_stone now.black now.white c.args.cell apart free.1 free.2 free.0
 
 pub returns-clause-more : goal.returns-clause-more
 returns-clause-more c =
     let now = c.args.now.now in
     let free = empty_cell now c.args.cell
-        (subst (λ n. n ≤ 11) c.size-size.ensures.value c.size-size.ensures.range.1) c.requires in
+    (subst (λ n. n ≤ 11) c.size-size.ensures.value c.size-size.ensures.range.1) c.requires in
     ap stones_on c.place.ensures ∙ one_placed now c.args.colour c.args.cell free.0 free.1 free.2

@@ -16,9 +16,9 @@ pub returns-clause-few : goal.returns-clause-few
 returns-clause-few c =
     let now = c.self.inside.board in
     let few : IsFew c.self.inside.steps.items now
-        = few_on c.self.inside.start [] c.self.inside.start _ _ now c.self.invariant.0 in
+    = few_on c.self.inside.start [] c.self.inside.start _ _ now c.self.invariant.0 in
     let apart : Apart now.black now.white
-        = subst (λ s. Apart s now.white) c.stones-stones.ensures.value c.stones-stones.ensures.apart in
+    = subst (λ s. Apart s now.white) c.stones-stones.ensures.value c.stones-stones.ensures.apart in
     let stones : members now.black 121 + members now.white 121 ≤ 121
-        = members_two now.black now.white 121 apart in
+    = members_two now.black now.white 121 apart in
     subst (λ (g : GameData). length g.steps ≤ 122) c.self.view_is (omega arith)

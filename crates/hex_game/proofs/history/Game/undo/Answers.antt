@@ -16,7 +16,7 @@ invariant_of-self-in-Some-pop c = (
 pub returns-in-Some-pop-clause-ok : goal.returns-in-Some-pop-clause-ok
 returns-in-Some-pop-clause-ok c =
     let e : before_last c.self.inside.steps.items ≡ c.pop.new.self.items
-        = ap before_last c.in-Some.ensures.items
-        ∙ before_last-push c.pop.new.self.items c.in-Some.field-0 in
+    = ap before_last c.in-Some.ensures.items
+    ∙ before_last-push c.pop.new.self.items c.in-Some.field-0 in
     ap (λ (s : List Step). record { start = c.self.inside.start; steps = s }) (sym e)
-        ∙ ap without_last c.self.view_is
+    ∙ ap without_last c.self.view_is
