@@ -16,7 +16,8 @@ both_have : (xs ys : List Prop) → HaveTexts xs → HaveTexts ys → HaveTexts 
 both_have [] ys h k = k
 both_have (x ∷ xs) ys h k = (h.0, h.1, both_have xs ys h.2 k)
 
-stones_have : (name : List ℕ) (values : List (List ℕ)) → IsName name → HaveTexts (prop_if name values)
+stones_have : (name : List ℕ) (values : List (List ℕ)) → IsName name
+    → HaveTexts (prop_if name values)
 stones_have name [] h = tt
 stones_have name (value ∷ values) h = (h, tt, tt)
 
@@ -33,7 +34,8 @@ root_has start = (
     (
       two_capitals 83 90 refl refl,
       tt,
-      both_have (prop_if (codes "AB") (vertices_of start.size start.black)) (prop_if (codes "AW") (vertices_of start.size start.white))
+      both_have (prop_if (codes "AB") (vertices_of start.size start.black))
+          (prop_if (codes "AW") (vertices_of start.size start.white))
           (stones_have (codes "AB") (vertices_of start.size start.black) (two_capitals 65 66 refl refl))
           (stones_have (codes "AW") (vertices_of start.size start.white) (two_capitals 65 87 refl refl)),
     ),
@@ -49,4 +51,5 @@ nodes_have n [] = tt
 nodes_have n (step ∷ steps) = ((letter_is_name step.colour, tt, tt), nodes_have n steps)
 
 pub record_has_text : (game : GameData) → HasText (record_of game)
-record_has_text game = (tt, (tt, (root_has game.start, nodes_have game.start.size game.steps), tt, tt))
+record_has_text game
+    = (tt, (tt, (root_has game.start, nodes_have game.start.size game.steps), tt, tt))

@@ -14,7 +14,7 @@
 //! that ends it, the root's values, the turns, and the first turn that is refused. `from_game`
 //! answers exactly the record of the game (`specs/Record.antt`), whose game by that definition is
 //! the same game, and which has a text: that of `game_text`, which `read_game` reads as the game.
-//! Every answer yields to want of memory.
+//! `Memory` may come in place of every answer.
 //!
 //! **What is only tested, or not said.** That calls succeed with ample memory, and the time: each
 //! value is read a few times, so it is linear in the collection's size.

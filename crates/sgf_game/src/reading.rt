@@ -20,13 +20,13 @@ use std::alloc::Global;
 /// the tree, then those of its first kid, and so on; it ends with the node that holds a move
 /// `resign` or `forfeit`. White space at both ends of a value is dropped.
 ///
-/// - `NotHex` comes exactly if the root has no GM, or the first value is not `11`. So it does where
+/// - `NotHex` comes exactly if the root has no GM, or the first value is not `11`. So it does if
 ///   the collection has no node at all.
 /// - Otherwise `BadSize` comes exactly if the root has SZ, and the first value is neither a number
 ///   from 1 to 11 without leading zero nor two equal such numbers with `:` between. Without SZ the
 ///   size is 11.
 /// - Otherwise `BadSetup` comes exactly if a node of the line behind the root has AB, AW or AE, or
-///   the root has AE; or where a value of the root's AB or AW is no vertex of the board, or two of
+///   the root has AE; or if a value of the root's AB or AW is no vertex of the board, or two of
 ///   them name one cell. They are the start stones.
 /// - Otherwise `BadMove` comes exactly if a move is refused, with the first such. The moves are the
 ///   values of B and W along the line, counted from 0, also those in the root. Refused is what is

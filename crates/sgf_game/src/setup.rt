@@ -68,7 +68,7 @@ pub fn start_of(root: &Node, behind: &[&Node], size: Size) -> Option<Board>
     if is_changed_late(root, behind) {
         return None;
     }
-    // What each size keeps of itself.
+    // Brings what the type keeps into scope.
     let _n = size.get();
     let black = stones_named(root, b"AB", CellSet::none(), size)?;
     let white = stones_named(root, b"AW", black, size)?;

@@ -23,7 +23,7 @@ pub enum MoveMeaning {
 #[derive(Clone, Copy)]
 pub struct Turn {
     pub colour: Colour,
-    /// `None` where the text is no move, or where the move is not alone in its node.
+    /// `None` if the text is no move, or if the move is not alone in its node.
     pub said: Option<MoveMeaning>,
 }
 

@@ -40,7 +40,7 @@ fn record_is_read_back(game: &Game)
     ensures { game_of (record_of game.now) ≡ Ok game.now }
 {
     let start = game.start();
-    // What each board keeps of itself.
+    // Brings what the type keeps into scope.
     let _size = start.size();
     let _black = start.stones(Colour::Black);
     let _white = start.stones(Colour::White);
@@ -70,7 +70,7 @@ fn record_of(alloc: Global, game: &Game) -> Result<Collection, AllocError>
     })
 }
 
-/// The root: FF, GM and SZ, and then AB and AW where there are such start stones.
+/// The root: FF, GM and SZ, and then AB and AW if there are such start stones.
 fn root_of(alloc: Global, start: &Board) -> Result<Node, AllocError>
     ensures { IfOk result (λ node. node ≡ root_of start.now) }
 {

@@ -1,5 +1,6 @@
 -- The clauses of `parse`, for each kind of answer.
-use Rattle.std.proofs.Common.{◌≡◌, ℕ, ◌<◌, ◌≤◌, refl, sym, ap, subst, List, ◌++◌, take, drop, inl, inr, Result, Ok, Err, IfOk, arith}
+use Rattle.std.proofs.Common.{◌≡◌, ℕ, ◌<◌, ◌≤◌, refl, sym, ap, subst, List, ◌++◌, take, drop, inl}
+use Rattle.std.proofs.Common.{inr, Result, Ok, Err, IfOk, arith}
 use Rattle.std.proofs.lemmas.List.{take-append-drop}
 use Rattle.sgf_tree.specs.declared.trees.Collection.{Collection}
 use Rattle.sgf_tree.specs.declared.error.SgfError.{SgfError}
@@ -15,7 +16,8 @@ use Rattle.sgf_tree.proofs.Printed.{text_has}
 pub record Answered (bytes : List ℕ) (result : Result Collection SgfError) : Type 0 where
   pub ok : IfOk result (λ c. Text c.trees bytes × (depth c.trees ≤ max_depth))
   pub printable : IfOk result (λ c. HasText c.trees)
-  pub text : (trees : GameTrees) → Text trees bytes → depth trees ≤ max_depth → OrMemory result (Ok (record { trees = trees }))
+  pub text : (trees : GameTrees) → Text trees bytes → depth trees ≤ max_depth
+      → OrMemory result (Ok (record { trees = trees }))
   pub too_deep : result ≡ Err TooDeep → IsTooDeep bytes
   pub deep : IsTooDeep bytes → OrMemory result (Err TooDeep)
   pub not_sgf : (at : ℕ) → result ≡ Err (NotSgf at) → IsRefusedAt bytes at
@@ -41,9 +43,11 @@ memory_is_not_sgf : (at : ℕ) → refusal Memory ≡ refusal (NotSgf at) → �
 memory_is_not_sgf at h = cc
 
 -- a text whose trees nest no deeper than may be is not too deep
-not_too_deep : (bytes : List ℕ) (trees : GameTrees) → Text trees bytes → depth trees ≤ max_depth → IsTooDeep bytes → ⊥
+not_too_deep : (bytes : List ℕ) (trees : GameTrees) → Text trees bytes → depth trees ≤ max_depth
+    → IsTooDeep bytes → ⊥
 not_too_deep bytes trees text low (n, longest, deep) =
-    let whole : Text trees (take n bytes ++ drop n bytes) = subst (Text trees) (sym (take-append-drop n bytes)) text in
+    let whole : Text trees (take n bytes ++ drop n bytes)
+    = subst (Text trees) (sym (take-append-drop n bytes)) text in
     let far : max_depth < depth trees = deep trees (drop n bytes) whole in
     omega arith
 
@@ -52,18 +56,21 @@ not_both bytes at refused (n, longest, deep) =
     let same = one_longest bytes n at longest refused.longest in
     refused.shallow (subst (λ m. IsDeep (take m bytes)) same deep)
 
-pub answers_ok : (bytes : List ℕ) (c : Collection) → Text c.trees bytes → depth c.trees ≤ max_depth → Answered bytes (Ok c)
+pub answers_ok : (bytes : List ℕ) (c : Collection) → Text c.trees bytes → depth c.trees ≤ max_depth
+    → Answered bytes (Ok c)
 answers_ok bytes c text low = record {
   ok = (text, low);
   printable = text_has c.trees bytes text;
-  text = λ trees other _. inl (ap (λ all. let one : Collection = record { trees = all } in let found : Result Collection SgfError = Ok one in found) (one_collection c.trees trees bytes text other));
+  text = λ trees other _. inl
+      (ap (λ all. let one : Collection = record { trees = all } in let found : Result Collection SgfError = Ok one in found) (one_collection c.trees trees bytes text other));
   too_deep = λ e. absurd (ok_is_no_err c TooDeep e);
   deep = λ deep. absurd (not_too_deep bytes c.trees text low deep);
   not_sgf = λ at e. absurd (ok_is_no_err c (NotSgf at) e);
   refused = λ at refused. absurd (refused.no_text c.trees text);
 }
 
-pub answers_not_sgf : (bytes : List ℕ) (at : ℕ) → IsRefusedAt bytes at → Answered bytes (Err (NotSgf at))
+pub answers_not_sgf : (bytes : List ℕ) (at : ℕ) → IsRefusedAt bytes at
+    → Answered bytes (Err (NotSgf at))
 answers_not_sgf bytes at here = record {
   ok = tt;
   printable = tt;
@@ -71,7 +78,8 @@ answers_not_sgf bytes at here = record {
   too_deep = λ e. absurd (not_sgf_is_not_too_deep at e);
   deep = λ deep. absurd (not_both bytes at here deep);
   not_sgf = λ other e. subst (IsRefusedAt bytes) (same_place at other e) here;
-  refused = λ other there. inl (ap (λ n. let found : Result Collection SgfError = Err (NotSgf n) in found) (one_longest bytes at other here.longest there.longest));
+  refused = λ other there. inl
+      (ap (λ n. let found : Result Collection SgfError = Err (NotSgf n) in found) (one_longest bytes at other here.longest there.longest));
 }
 
 pub answers_too_deep : (bytes : List ℕ) → IsTooDeep bytes → Answered bytes (Err TooDeep)
@@ -98,6 +106,8 @@ answers_memory bytes = record {
 
 -- what `read_all` refuses, `parse` refuses
 pub answers_err : (bytes : List ℕ) (e : SgfError) → Finds bytes (Err e) → Answered bytes (Err e)
-answers_err bytes (NotSgf at) (s, within, goes, stops) = answers_not_sgf bytes at (refused_of bytes at s within goes stops)
-answers_err bytes TooDeep (n, s, goes, many) = answers_too_deep bytes (too_deep_at bytes n s goes many)
+answers_err bytes (NotSgf at) (s, within, goes, stops)
+    = answers_not_sgf bytes at (refused_of bytes at s within goes stops)
+answers_err bytes TooDeep (n, s, goes, many)
+    = answers_too_deep bytes (too_deep_at bytes n s goes many)
 answers_err bytes Memory found = answers_memory bytes

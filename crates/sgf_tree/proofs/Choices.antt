@@ -1,5 +1,6 @@
 -- Choices by a test, and what the reader's tests of a byte say of each other.
-use Rattle.std.proofs.Common.{◌≡◌, ◌≢◌, ℕ, Bool, true, false, cond, refl, arith, ◌==◌, List, [], ◌∷◌, ◌++◌, ap}
+use Rattle.std.proofs.Common.{◌≡◌, ◌≢◌, ℕ, Bool, true, false, cond, refl, arith, ◌==◌, List, []}
+use Rattle.std.proofs.Common.{◌∷◌, ◌++◌, ap}
 use Rattle.std.proofs.lemmas.Bool.Decides.{nat_tests}
 use Rattle.sgf_tree.specs.Grammar.{is_white_space, is_capital}
 
@@ -10,7 +11,8 @@ pub cond_false : {A : Type 0} (b : Bool) (y z : A) → b ≡ false → cond b y 
 cond_false b y z e = ap (λ v. cond v y z) e
 
 -- what holds of both choices, each where it is taken, holds of the choice
-pub by_cond : {A : Type 0} (Q : A → Type 0) (b : Bool) (y z : A) → (b ≡ true → Q y) → (b ≡ false → Q z) → Q (cond b y z)
+pub by_cond : {A : Type 0} (Q : A → Type 0) (b : Bool) (y z : A) → (b ≡ true → Q y)
+    → (b ≡ false → Q z) → Q (cond b y z)
 by_cond Q true y z f g = f refl
 by_cond Q false y z f g = g refl
 

@@ -10,10 +10,10 @@
 //!
 //! **What is proved.** The grammar is a relation between trees and bytes (`specs/Grammar.antt`).
 //! `parse` answers exactly the collection that the bytes are a text of, up to 64 trees deep;
-//! `TooDeep` and `NotSgf` come exactly where its page says, and the place of a refusal is told from
+//! `TooDeep` and `NotSgf` come exactly when its page says, and the place of a refusal is told from
 //! the grammar alone (`specs/Places.antt`). `print` gives exactly the text of
 //! `specs/Printing.antt`, which `parse` reads again as the same collection. Bytes are a text of one
-//! collection at most ([`grammar_laws`]). Every answer yields to want of memory.
+//! collection at most ([`grammar_laws`]). `Memory` may come in place of every answer.
 //!
 //! **What is only tested, or not said.** That calls succeed with ample memory, and the time: a byte
 //! is read once, so it is linear in the length. That the grammar is SGF's is for a reader to judge.

@@ -12,7 +12,7 @@ use crate::reading::{Reading, Stop};
 use crate::trees::Collection;
 use std::alloc::Global;
 
-/// Parses SGF text: the collection that the bytes are a text of, where its trees nest at most 64
+/// Parses SGF text: the collection that the bytes are a text of, if its trees nest at most 64
 /// deep. `TooDeep` comes exactly if 65 trees are open at a place of the longest prefix that some
 /// collection's text begins with; a parenthesis inside a value opens none. Otherwise `NotSgf` comes
 /// exactly if the bytes are no collection's text, and `at` is the length of that prefix. `Memory`

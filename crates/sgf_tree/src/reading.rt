@@ -120,7 +120,7 @@ impl Reading {
         }
     }
 
-    /// The collection, where all that was read is a text.
+    /// The collection, if all that was read is a text.
     pub(crate) fn finish(self) -> Option<Collection>
         ensures some { IfSome result (λ c. IsFinal (state_of self) c.trees) }
         ensures none { IfNone result ((trees : GameTrees) → IsFinal (state_of self) trees → ⊥) }

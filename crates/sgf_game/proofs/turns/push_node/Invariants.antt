@@ -4,4 +4,5 @@ use Rattle.sgf_game.specs.Turns.{turn_of}
 use Rattle.sgf_game.proofs.turns.push_node.Given as goal
 
 abbrev pub invariant-loop-prop : goal.invariant-loop-prop
-invariant-loop-prop l = l.turns.items ≡ l.initial.turns.items ++ map (turn_of l.size l.alone) (flat_map entries_if (take l.prop-index l.node.props))
+invariant-loop-prop l = l.turns.items ≡ l.initial.turns.items ++ map (turn_of l.size l.alone)
+    (flat_map entries_if (take l.prop-index l.node.props))

@@ -11,16 +11,22 @@ pub loop-cell-preserved : goal.loop-cell-preserved
 loop-cell-preserved c =
     let n = c.args.size in
     let cell = c.in-Some.cell in
-    let pushed : c.push.new.self.items ≡ c.loop-cell.values.items ++ vertex_of n cell ∷ [] = grind (arith, common_steps) in
+    let pushed : c.push.new.self.items ≡ c.loop-cell.values.items ++ vertex_of n cell ∷ []
+    = grind (arith, common_steps) in
     let first : vertices_of n c.loop-cell.rest ≡ vertex_of n cell ∷ vertices_of n c.without-rest.result =
-    vertices_first n c.loop-cell.rest c.without-rest.result cell (c.loop-cell.invariant.within cell c.in-Some.ensures.0) c.in-Some.ensures.0 c.in-Some.ensures.1 c.without-rest.ensures.items in
+    vertices_first n c.loop-cell.rest c.without-rest.result cell
+    (c.loop-cell.invariant.within cell c.in-Some.ensures.0) c.in-Some.ensures.0 c.in-Some.ensures.1 c.without-rest.ensures.items in
     record {
       within = within_less n c.loop-cell.rest c.without-rest.result cell c.loop-cell.invariant.within c.without-rest.ensures.items;
-      told = ap (λ vs. vs ++ vertices_of n c.without-rest.result) pushed ∙ append_assoc c.loop-cell.values.items (vertex_of n cell ∷ []) (vertices_of n c.without-rest.result)
+      told = ap (λ vs. vs ++ vertices_of n c.without-rest.result) pushed
+          ∙ append_assoc c.loop-cell.values.items (vertex_of n cell ∷ [])
+          (vertices_of n c.without-rest.result)
           ∙ ap (λ vs. c.loop-cell.values.items ++ vs) (sym first) ∙ c.loop-cell.invariant.told;
     }
 
 pub returns : goal.returns
 returns c =
-    let none : vertices_of c.args.size c.loop-cell.rest ≡ [] = vertices_none c.args.size c.loop-cell.rest c.in_default.ensures in
-    sym (append-nil c.loop-cell.values.items) ∙ ap (λ vs. c.loop-cell.values.items ++ vs) (sym none) ∙ c.loop-cell.invariant.told
+    let none : vertices_of c.args.size c.loop-cell.rest ≡ []
+    = vertices_none c.args.size c.loop-cell.rest c.in_default.ensures in
+    sym (append-nil c.loop-cell.values.items) ∙ ap (λ vs. c.loop-cell.values.items ++ vs) (sym none)
+    ∙ c.loop-cell.invariant.told

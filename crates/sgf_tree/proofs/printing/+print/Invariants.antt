@@ -11,4 +11,5 @@ abbrev pub decreases-push_tree : goal.decreases-push_tree
 decreases-push_tree l = trees_size l.tree.now.kids + 1
 
 abbrev pub invariant-push_trees-loop-tree : goal.invariant-push_trees-loop-tree
-invariant-push_trees-loop-tree l = l.out.items ≡ l.initial.out.items ++ trees_print (row (take l.tree-index l.trees))
+invariant-push_trees-loop-tree l = l.out.items ≡ l.initial.out.items ++ trees_print
+    (row (take l.tree-index l.trees))

@@ -8,7 +8,8 @@ returns-clause-some c =
     let r = c.args.self in
     let ground : length r.outer.items ≡ 0 = grind (arith, nat_tests) in
     let some : 0 < length r.kids.items = grind (arith, nat_tests) in
-    rw c.of-trees.ensures (is_final r.place r.outer.items r.nodes.items r.kids.items r.props.items r.name.items r.values.items r.value.items c.in-Between.is ground some)
+    rw c.of-trees.ensures
+    (is_final r.place r.outer.items r.nodes.items r.kids.items r.props.items r.name.items r.values.items r.value.items c.in-Between.is ground some)
 
 pub returns-then-not-is_empty-clause-none : goal.returns-then-not-is_empty-clause-none
 returns-then-not-is_empty-clause-none c =
