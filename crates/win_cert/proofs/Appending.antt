@@ -1,5 +1,6 @@
 -- Lines that stand after others: what is read over, and the entries that stay.
-use Rattle.std.proofs.Common.{◌≡◌, ℕ, ◌+◌, List, [], ◌∷◌, ◌++◌, true, Option, Some, None, length, refl, sym, ◌∙◌, ap, subst, arith}
+use Rattle.std.proofs.Common.{◌≡◌, ℕ, ◌+◌, List, [], ◌∷◌, ◌++◌, true, Option, Some, None, length}
+use Rattle.std.proofs.Common.{refl, sym, ◌∙◌, ap, subst, arith}
 use Rattle.std.specs.List.{slice_get}
 use Rattle.std.specs.Option.{option_flatten}
 use Rattle.hex_board.specs.Positions.{Position}
@@ -12,11 +13,13 @@ use Rattle.win_cert.proofs.CutDerivations.{last_at, longer}
 use Rattle.win_cert.proofs.GivenEntries.{at_left}
 use Rattle.win_cert.specs.Contexts.{AreClear, after_lines, context_after}
 
-pub after_append : (c : Context) (xs ys : List Line) → after_lines c (xs ++ ys) ≡ after_lines (after_lines c xs) ys
+pub after_append : (c : Context) (xs ys : List Line)
+    → after_lines c (xs ++ ys) ≡ after_lines (after_lines c xs) ys
 after_append c [] ys = refl
 after_append c (x ∷ xs) ys = after_append (context_after c x) xs ys
 
-pub clear_append : (c : Context) (xs ys : List Line) → AreClear c xs → AreClear (after_lines c xs) ys → AreClear c (xs ++ ys)
+pub clear_append : (c : Context) (xs ys : List Line) → AreClear c xs
+    → AreClear (after_lines c xs) ys → AreClear c (xs ++ ys)
 clear_append c [] ys h g = g
 clear_append c (x ∷ xs) ys h g = (h.0, clear_append (context_after c x) xs ys h.1 g)
 
@@ -30,34 +33,45 @@ base_after c [] = refl
 base_after c (x ∷ xs) = base_after (context_after c x) xs
 
 -- the number of the next line
-pub length_after : (c : Context) (xs : List Line) → length (after_lines c xs).earlier ≡ length c.earlier + length xs
+pub length_after : (c : Context) (xs : List Line)
+    → length (after_lines c xs).earlier ≡ length c.earlier + length xs
 length_after c [] = omega arith
 length_after c (x ∷ xs) =
-    let e : length (after_lines (context_after c x) xs).earlier ≡ length (c.earlier ++ gives c x ∷ []) + length xs = length_after (context_after c x) xs in
-    let l : length (c.earlier ++ gives c x ∷ []) ≡ length c.earlier + 1 = longer c.earlier (gives c x) in
+    let e : length (after_lines (context_after c x) xs).earlier ≡ length
+    (c.earlier ++ gives c x ∷ []) + length xs = length_after (context_after c x) xs in
+    let l : length (c.earlier ++ gives c x ∷ []) ≡ length c.earlier + 1
+    = longer c.earlier (gives c x) in
     omega arith
 
 -- ---- entries stay
 
-flat_out : {A : Type 0} (o : Option (Option A)) (a : A) → option_flatten o ≡ Some a → o ≡ Some (Some a)
+flat_out : {A : Type 0} (o : Option (Option A)) (a : A) → option_flatten o ≡ Some a
+    → o ≡ Some (Some a)
 flat_out None a h = absurd (cc)
 flat_out (Some None) a h = absurd (cc)
 flat_out (Some (Some b)) a h = ap Some h
 
-pub entry_kept : (c : Context) (line : Line) (i : ℕ) (a : ScopedEntry) → entry_at c i ≡ Some a → entry_at (context_after c line) i ≡ Some a
-entry_kept c line i a h = ap option_flatten (at_left c.earlier (gives c line ∷ []) i (Some a) (flat_out (slice_get c.earlier i) a h))
+pub entry_kept : (c : Context) (line : Line) (i : ℕ) (a : ScopedEntry) → entry_at c i ≡ Some a
+    → entry_at (context_after c line) i ≡ Some a
+entry_kept c line i a h
+    = ap option_flatten
+    (at_left c.earlier (gives c line ∷ []) i (Some a) (flat_out (slice_get c.earlier i) a h))
 
-pub entry_stays : (c : Context) (lines : List Line) (i : ℕ) (a : ScopedEntry) → entry_at c i ≡ Some a → entry_at (after_lines c lines) i ≡ Some a
+pub entry_stays : (c : Context) (lines : List Line) (i : ℕ) (a : ScopedEntry)
+    → entry_at c i ≡ Some a → entry_at (after_lines c lines) i ≡ Some a
 entry_stays c [] i a h = h
-entry_stays c (line ∷ lines) i a h = entry_stays (context_after c line) lines i a (entry_kept c line i a h)
+entry_stays c (line ∷ lines) i a h
+    = entry_stays (context_after c line) lines i a (entry_kept c line i a h)
 
 -- the entry of the line itself
-pub entry_last : (c : Context) (line : Line) (a : ScopedEntry) → gives c line ≡ Some a → entry_at (context_after c line) (length c.earlier) ≡ Some a
+pub entry_last : (c : Context) (line : Line) (a : ScopedEntry) → gives c line ≡ Some a
+    → entry_at (context_after c line) (length c.earlier) ≡ Some a
 entry_last c line a h = ap option_flatten (last_at c.earlier (gives c line)) ∙ h
 
 -- ---- what is shown stays
 
-pub edges_stay : (c : Context) (lines : List Line) (kind : Kind) (s d i : ℕ) → GivesEdges c kind s d i → GivesEdges (after_lines c lines) kind s d i
+pub edges_stay : (c : Context) (lines : List Line) (kind : Kind) (s d i : ℕ)
+    → GivesEdges c kind s d i → GivesEdges (after_lines c lines) kind s d i
 edges_stay c lines kind s d i g = record {
   entry = g.entry;
   at = entry_stays c lines i g.entry g.at;
@@ -68,5 +82,7 @@ edges_stay c lines kind s d i g = record {
 }
 
 -- what is shown is shown by more lines too
-pub shown_on : (c : Context) (lines : List Line) (p : Position) (kind : Kind) (s i : ℕ) → Shows c p kind s i → Shows (after_lines c lines) p kind s i
-shown_on c lines p kind s i h = record { carrier = h.carrier; gives = edges_stay c lines kind s h.carrier i h.gives; empty = h.empty; first = h.first }
+pub shown_on : (c : Context) (lines : List Line) (p : Position) (kind : Kind) (s i : ℕ)
+    → Shows c p kind s i → Shows (after_lines c lines) p kind s i
+shown_on c lines p kind s i h
+    = record { carrier = h.carrier; gives = edges_stay c lines kind s h.carrier i h.gives; empty = h.empty; first = h.first }

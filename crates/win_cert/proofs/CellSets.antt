@@ -1,5 +1,7 @@
 -- Sets of cells and the vertices that name them in rising order.
-use Rattle.std.proofs.Common.{◌≡◌, ℕ, ◌+◌, ◌-◌, ◌*◌, ◌<◌, ◌≤◌, ◌⊎◌, inl, inr, zero, suc, leb, Bool, true, false, cond, List, [], ◌∷◌, map, Some, None, refl, ap, sym, ◌∙◌, subst, arith}
+use Rattle.std.proofs.Common.{◌≡◌, ℕ, ◌+◌, ◌-◌, ◌*◌, ◌<◌, ◌≤◌, ◌⊎◌, inl, inr, zero, suc, leb, Bool}
+use Rattle.std.proofs.Common.{true, false, cond, List, [], ◌∷◌, map, Some, None, refl, ap, sym, ◌∙◌}
+use Rattle.std.proofs.Common.{subst, arith}
 use Rattle.std.specs.List.{filter, range_with_len}
 use Rattle.std.specs.Option.{option_and_then}
 use Rattle.std.proofs.lemmas.Bool.{cases_eq, false_from_ne_true}
@@ -28,18 +30,22 @@ pick : (n s b l : ℕ) (c : Bool) (cells : List ℕ) (u : ℕ) → n ≤ 11 → 
     → set_named n s b (map (vertex_of n) (cond c (l ∷ cells) cells)) ≡ Some u
 pick n s b l true cells u size low on rest =
     let words = map (vertex_of n) cells in
-    ap (option_and_then (λ k. cond (leb b k) (set_named n (with_cell s k) (suc k) words) None)) (cell_back n l size on)
+    ap (option_and_then (λ k. cond (leb b k) (set_named n (with_cell s k) (suc k) words) None))
+    (cell_back n l size on)
     ∙ ap (λ t. cond t (set_named n (with_cell s l) (suc l) words) None) (leb_holds b l low)
     ∙ rest (suc l) (omega arith)
 pick n s b l false cells u size low on rest = rest b (omega arith)
 
 named_all : (n s t b l m : ℕ) → n ≤ 11 → b ≤ l → l + m ≤ n * n
-    → set_named n s b (map (vertex_of n) (filter (has t) (range_with_len l m))) ≡ Some (all_with s t l m)
+    → set_named n s b (map (vertex_of n) (filter (has t) (range_with_len l m))) ≡ Some
+    (all_with s t l m)
 unfolding all_with
 named_all n s t b l zero size low on = refl
 named_all n s t b l (suc m) size low on =
-    pick n s b l (has t l) (filter (has t) (range_with_len (l + 1) m)) (all_with (cond (has t l) (with_cell s l) s) t (l + 1) m)
-    size low (omega arith) (λ b low. named_all n (cond (has t l) (with_cell s l) s) t b (l + 1) m size low (omega arith))
+    pick n s b l (has t l) (filter (has t) (range_with_len (l + 1) m))
+    (all_with (cond (has t l) (with_cell s l) s) t (l + 1) m)
+    size low (omega arith)
+    (λ b low. named_all n (cond (has t l) (with_cell s l) s) t b (l + 1) m size low (omega arith))
 
 kept_if : (s l k : ℕ) (c : Bool) → has s k ≡ true → has (cond c (with_cell s l) s) k ≡ true
 kept_if s l k true h = with_cell-keeps s l k h
@@ -48,7 +54,8 @@ kept_if s l k false h = h
 all_keeps : (s t l m k : ℕ) → has s k ≡ true → has (all_with s t l m) k ≡ true
 unfolding all_with
 all_keeps s t l zero k h = h
-all_keeps s t l (suc m) k h = all_keeps (cond (has t l) (with_cell s l) s) t (l + 1) m k (kept_if s l k (has t l) h)
+all_keeps s t l (suc m) k h = all_keeps (cond (has t l) (with_cell s l) s) t (l + 1) m k
+    (kept_if s l k (has t l) h)
 
 taken_if : (s l : ℕ) (c : Bool) → c ≡ true → has (cond c (with_cell s l) s) l ≡ true
 taken_if s l true e = with_cell-here s l
@@ -62,10 +69,12 @@ all_takes s t l (suc m) k h low high = elim (cases_eq l k) [
       let here : has t l ≡ true = ap (has t) same ∙ h in
       subst (λ j. has (all_with s t l (suc m)) j ≡ true) same
       (all_keeps (cond (has t l) (with_cell s l) s) t (l + 1) m l (taken_if s l (has t l) here))
-  | inr other ↦ all_takes (cond (has t l) (with_cell s l) s) t (l + 1) m k h (omega (arith, other)) (omega arith)
+  | inr other ↦ all_takes (cond (has t l) (with_cell s l) s) t (l + 1) m k h (omega (arith, other))
+      (omega arith)
 ]
 
-only_if : (s t l k : ℕ) (c : Bool) → (c ≡ true → has t l ≡ true) → has (cond c (with_cell s l) s) k ≡ true → (has s k ≡ true) ⊎ (has t k ≡ true)
+only_if : (s t l k : ℕ) (c : Bool) → (c ≡ true → has t l ≡ true)
+    → has (cond c (with_cell s l) s) k ≡ true → (has s k ≡ true) ⊎ (has t k ≡ true)
 only_if s t l k true here h = elim (with_cell-cases s l k h) [
   | inl old ↦ inl old
   | inr new ↦ inr (ap (has t) new ∙ here refl)
@@ -81,17 +90,20 @@ all_only s t l (suc m) k h = elim (all_only (cond (has t l) (with_cell s l) s) t
 ]
 
 all_same : (n s : ℕ) → Within n s → all_with 0 s 0 (n * n) ≡ s
-all_same n s on = same_set (all_with 0 s 0 (n * n)) s (λ k. both_ways (has (all_with 0 s 0 (n * n)) k) (has s k)
+all_same n s on
+    = same_set (all_with 0 s 0 (n * n)) s (λ k. both_ways (has (all_with 0 s 0 (n * n)) k) (has s k)
     (λ h. elim (all_only 0 s 0 (n * n) k h) [ inl old ↦ let none = has_none k in absurd (cc) | inr new ↦ new ])
     (λ h. all_takes 0 s 0 (n * n) k h (omega arith) (let below = on k h in omega (arith, below))))
 
 -- the vertices of a set's cells name it
 pub cells_back : (n s : ℕ) → n ≤ 11 → Within n s → set_named n 0 0 (vertices_of n s) ≡ Some s
-cells_back n s size on = named_all n 0 s 0 0 (n * n) size (omega arith) (omega arith) ∙ ap Some (all_same n s on)
+cells_back n s size on = named_all n 0 s 0 0 (n * n) size (omega arith) (omega arith)
+    ∙ ap Some (all_same n s on)
 
 -- ---- from words to the set that they name
 
-filter_to : (p : ℕ → Bool) (b k m : ℕ) → b ≤ k → k < b + m → ((j : ℕ) → b ≤ j → j < k → p j ≡ false) → p k ≡ true
+filter_to : (p : ℕ → Bool) (b k m : ℕ) → b ≤ k → k < b + m → ((j : ℕ) → b ≤ j → j < k → p j ≡ false)
+    → p k ≡ true
     → filter p (range_with_len b m) ≡ k ∷ filter p (range_with_len (suc k) (b + m - suc k))
 filter_to p b k zero low high none passes = absurd (omega arith)
 filter_to p b k (suc m) low high none passes = elim (cases_eq b k) [
@@ -106,7 +118,8 @@ filter_to p b k (suc m) low high none passes = elim (cases_eq b k) [
   | inr other ↦
       let left : b + 1 + m - suc k ≡ b + suc m - suc k = omega arith in
       ap (λ t. cond t (b ∷ filter p (range_with_len (b + 1) m)) (filter p (range_with_len (b + 1) m))) (none b (omega arith) (omega (arith, other)))
-      ∙ filter_to p (b + 1) k m (omega (arith, other)) (omega arith) (λ j l h. none j (omega arith) h) passes
+      ∙ filter_to p (b + 1) k m (omega (arith, other)) (omega arith)
+      (λ j l h. none j (omega arith) h) passes
       ∙ ap (λ j. k ∷ filter p (range_with_len (suc k) j)) left
 ]
 
@@ -122,16 +135,19 @@ names n s b [] u e below high =
     subst (Names n s b []) same (record {
       keeps = λ j h. h;
       new = λ j h. inl h;
-      is = ap (map (vertex_of n)) (sym (none_pass (has s) b (n * n - b) (λ j low. false_from_ne_true (has s j) (λ h. let l = below j h in absurd (omega (arith, l))))));
+      is = ap (map (vertex_of n))
+          (sym (none_pass (has s) b (n * n - b) (λ j low. false_from_ne_true (has s j) (λ h. let l = below j h in absurd (omega (arith, l))))));
     })
 names n s b (word ∷ words) u e below high =
-    let found = some_of_then (λ k. cond (leb b k) (set_named n (with_cell s k) (suc k) words) None) (cell_named n word) u e in
+    let found = some_of_then (λ k. cond (leb b k) (set_named n (with_cell s k) (suc k) words) None)
+    (cell_named n word) u e in
     let k : ℕ = found.0 in
     let rest = some_of_test (leb b k) (set_named n (with_cell s k) (suc k) words) u found.2 in
     let low : b ≤ k = leb_says b k rest.0 in
     let means = cell_means n word k found.1 in
     let on : k < n * n = means.0 in
-    let under : (j : ℕ) → has (with_cell s k) j ≡ true → j < suc k = λ j h. elim (with_cell-cases s k j h) [
+    let under : (j : ℕ) → has (with_cell s k) j ≡ true → j < suc k
+    = λ j h. elim (with_cell-cases s k j h) [
       | inl old ↦ let l = below j old in omega (arith, l)
       | inr same ↦ omega (arith, same)
     ] in
@@ -140,7 +156,8 @@ names n s b (word ∷ words) u e below high =
       | inl with ↦ elim (with_cell-cases s k j with) [ inl old ↦ inl old | inr same ↦ inr (omega (arith, same)) ]
       | inr past ↦ inr (omega arith)
     ] in
-    let none : (j : ℕ) → b ≤ j → j < k → has u j ≡ false = λ j l h. false_from_ne_true (has u j) (λ passes. elim (others.new j passes) [
+    let none : (j : ℕ) → b ≤ j → j < k → has u j ≡ false
+    = λ j l h. false_from_ne_true (has u j) (λ passes. elim (others.new j passes) [
       | inl with ↦ elim (with_cell-cases s k j with) [ inl old ↦ let m = below j old in absurd (omega (arith, m)) | inr same ↦ absurd (omega (arith, same)) ]
       | inr past ↦ absurd (omega (arith, past))
     ]) in
@@ -149,7 +166,8 @@ names n s b (word ∷ words) u e below high =
       keeps = λ j h. others.keeps j (with_cell-keeps s k j h);
       new = new;
       is = ap (λ w. w ∷ words) means.1 ∙ ap (λ ws. vertex_of n k ∷ ws) others.is
-          ∙ ap (map (vertex_of n)) (sym (filter_to (has u) b k (n * n - b) low (omega arith) none (others.keeps k (with_cell-here s k))
+          ∙ ap (map (vertex_of n))
+          (sym (filter_to (has u) b k (n * n - b) low (omega arith) none (others.keeps k (with_cell-here s k))
           ∙ ap (λ m. k ∷ filter (has u) (range_with_len (suc k) m)) sum));
     }
 

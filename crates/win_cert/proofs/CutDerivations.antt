@@ -1,5 +1,7 @@
 -- The premises of an entry are earlier ones.
-use Rattle.std.proofs.Common.{◌≡◌, ℕ, ◌+◌, ◌<◌, ◌≤◌, ◌==◌, true, false, Bool, List, [], ◌∷◌, ◌++◌, Some, All, length, take, if◌then◌else◌, refl, ap, subst, inl, inr, ◌⊎◌, zero, suc, arith}
+use Rattle.std.proofs.Common.{◌≡◌, ℕ, ◌+◌, ◌<◌, ◌≤◌, ◌==◌, true, false, Bool, List, [], ◌∷◌, ◌++◌}
+use Rattle.std.proofs.Common.{Some, All, length, take, if◌then◌else◌, refl, ap, subst, inl, inr}
+use Rattle.std.proofs.Common.{◌⊎◌, zero, suc, arith}
 use Rattle.std.specs.List.{slice_get}
 use Rattle.std.proofs.lemmas.List.Elements.{All-cons, All-head, All-nil}
 use Rattle.hex_board.specs.Elements.{PlayerBoard}
@@ -15,20 +17,28 @@ use Rattle.win_cert.proofs.CutLines.{second_in, third_in, number_of_ways}
 
 -- ---- names of earlier entries
 
-all_below : (entries : List Entry) (n : ℕ) (numbers : List ℕ) (ways : List Entry) → AreAt (take n entries) numbers ways → All (λ j. j < n) numbers
+all_below : (entries : List Entry) (n : ℕ) (numbers : List ℕ) (ways : List Entry)
+    → AreAt (take n entries) numbers ways → All (λ j. j < n) numbers
 all_below entries n [] ways h = All-nil (λ j. j < n)
 all_below entries n (i ∷ numbers) [] h = absurd (cc)
-all_below entries n (i ∷ numbers) (a ∷ ways) h = All-cons (λ j. j < n) i numbers (taken_below entries n i a (cc)) (all_below entries n numbers ways (cc))
+all_below entries n (i ∷ numbers) (a ∷ ways) h
+    = All-cons (λ j. j < n) i numbers (taken_below entries n i a (cc))
+    (all_below entries n numbers ways (cc))
 
 two_or_three : (m : ℕ) → (m ≡ 2) ⊎ (m ≡ 3) → 2 ≤ m
 two_or_three m (inl h) = omega arith
 two_or_three m (inr h) = omega arith
 
-third_added : (n i j k : ℕ) (two : Bool) → i < n → j < n → k < n → All (λ v. v < n) (i ∷ j ∷ (if two then [] else k ∷ []))
-third_added n i j k true p q r = All-cons (λ v. v < n) i (j ∷ []) p (All-cons (λ v. v < n) j [] q (All-nil (λ v. v < n)))
-third_added n i j k false p q r = All-cons (λ v. v < n) i (j ∷ k ∷ []) p (All-cons (λ v. v < n) j (k ∷ []) q (All-cons (λ v. v < n) k [] r (All-nil (λ v. v < n))))
+third_added : (n i j k : ℕ) (two : Bool) → i < n → j < n → k < n
+    → All (λ v. v < n) (i ∷ j ∷ (if two then [] else k ∷ []))
+third_added n i j k true p q r
+    = All-cons (λ v. v < n) i (j ∷ []) p (All-cons (λ v. v < n) j [] q (All-nil (λ v. v < n)))
+third_added n i j k false p q r
+    = All-cons (λ v. v < n) i (j ∷ k ∷ []) p
+    (All-cons (λ v. v < n) j (k ∷ []) q (All-cons (λ v. v < n) k [] r (All-nil (λ v. v < n))))
 
-or_below : (n : ℕ) (numbers : List ℕ) (count : ℕ) → All (λ j. j < n) (take count numbers) → 2 ≤ length (take count numbers) → All (λ j. j < n) (premises (Or numbers count))
+or_below : (n : ℕ) (numbers : List ℕ) (count : ℕ) → All (λ j. j < n) (take count numbers)
+    → 2 ≤ length (take count numbers) → All (λ j. j < n) (premises (Or numbers count))
 or_below n numbers zero h l = absurd (omega arith)
 or_below n [] (suc count) h l = absurd (omega arith)
 or_below n (i ∷ numbers) (suc zero) h l = absurd (omega arith)
@@ -41,13 +51,18 @@ or_below n (i ∷ j ∷ []) (suc (suc (suc count))) h l =
 or_below n (i ∷ j ∷ m ∷ numbers) (suc (suc (suc count))) h l =
     let P : ℕ → Type 0 = λ j. j < n in
     let rest = m ∷ take count numbers in
-    third_added n i j m (suc (suc (suc count)) == 2) (All-head P i (j ∷ rest) h) (second_in P i j rest h) (third_in P i j m (take count numbers) h)
+    third_added n i j m (suc (suc (suc count)) == 2) (All-head P i (j ∷ rest) h)
+    (second_in P i j rest h) (third_in P i j m (take count numbers) h)
 
-by_below : (e : PlayerBoard) (entries : List Entry) (n : ℕ) (a : Entry) (cause : Cause) → FollowsBy e (take n entries) a cause → All (λ j. j < n) (premises cause)
+by_below : (e : PlayerBoard) (entries : List Entry) (n : ℕ) (a : Entry) (cause : Cause)
+    → FollowsBy e (take n entries) a cause → All (λ j. j < n) (premises cause)
 by_below e entries n a Adjacent f = All-nil (λ j. j < n)
-by_below e entries n a (AndGroup i j) (b, d, x, u, y, t, r, g, w, k, c) = all_below entries n (i ∷ j ∷ []) (b ∷ d ∷ []) t
-by_below e entries n a (AndEmpty i j) (b, d, x, u, y, z, t, r, g, w, k, c) = all_below entries n (i ∷ j ∷ []) (b ∷ d ∷ []) t
-by_below e entries n a (Or numbers count) (ways, t, r, k, c) = or_below n numbers count (all_below entries n (take count numbers) ways t)
+by_below e entries n a (AndGroup i j) (b, d, x, u, y, t, r, g, w, k, c)
+    = all_below entries n (i ∷ j ∷ []) (b ∷ d ∷ []) t
+by_below e entries n a (AndEmpty i j) (b, d, x, u, y, z, t, r, g, w, k, c)
+    = all_below entries n (i ∷ j ∷ []) (b ∷ d ∷ []) t
+by_below e entries n a (Or numbers count) (ways, t, r, k, c)
+    = or_below n numbers count (all_below entries n (take count numbers) ways t)
     (subst (λ v. 2 ≤ v) (number_of_ways (take n entries) (take count numbers) ways t) (two_or_three (length ways) r.number))
 
 -- each entry of a store names earlier ones
@@ -67,17 +82,13 @@ longer (y ∷ xs) x = let e : length (xs ++ x ∷ []) ≡ length xs + 1 = longer
 pub some_entry : (a b : Entry) → Some a ≡ Some b → a ≡ b
 some_entry a b h = cc
 
-pub some_at : {X : Type 0} (xs : List X) (k : ℕ) → k < length xs → (x : X) × (slice_get xs k ≡ Some x)
+pub some_at : {X : Type 0} (xs : List X) (k : ℕ) → k < length xs
+    → (x : X) × (slice_get xs k ≡ Some x)
 some_at [] k l = absurd (omega arith)
 some_at (x ∷ xs) zero l = (x, refl)
 some_at (x ∷ xs) (suc k) l = some_at xs k (omega arith)
 
-pub cases_at : (k n : ℕ) → (k < n) ⊎ ((k ≡ n) ⊎ (n < k))
-cases_at zero zero = inr (inl refl)
-cases_at zero (suc n) = inl (omega arith)
-cases_at (suc k) zero = inr (inr (omega arith))
-cases_at (suc k) (suc n) = elim (cases_at k n) [ inl l ↦ inl (omega arith) | inr (inl q) ↦ inr (inl (ap suc q)) | inr (inr l) ↦ inr (inr (omega arith)) ]
-
-pub all_at : {X : Type 0} (P : X → Type 0) (xs : List X) → ((i : ℕ) (x : X) → slice_get xs i ≡ Some x → P x) → All P xs
+pub all_at : {X : Type 0} (P : X → Type 0) (xs : List X)
+    → ((i : ℕ) (x : X) → slice_get xs i ≡ Some x → P x) → All P xs
 all_at P [] h = All-nil P
 all_at P (x ∷ xs) h = All-cons P x xs (h 0 x refl) (all_at P xs (λ i y q. h (suc i) y q))

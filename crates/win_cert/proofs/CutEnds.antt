@@ -1,5 +1,6 @@
 -- The end by which a line names an element.
-use Rattle.std.proofs.Common.{◌≡◌, ℕ, ◌*◌, ◌<◌, nat_lt, ◌&&◌, not, true, false, Option, Some, None, sym, ◌∙◌, subst}
+use Rattle.std.proofs.Common.{◌≡◌, ℕ, ◌*◌, ◌<◌, nat_lt, ◌&&◌, not, true, false, Option, Some, None}
+use Rattle.std.proofs.Common.{sym, ◌∙◌, subst}
 use Rattle.std.specs.Option.{MatchOption}
 use Rattle.std.proofs.lemmas.Bool.{and_parts, false_from_ne_true, ltb-true}
 use Rattle.hex_cells.specs.Sets.{has}
@@ -7,11 +8,13 @@ use Rattle.hex_cells.specs.Colours.{other_of}
 use Rattle.hex_board.specs.Elements.{PlayerBoard, HasCell}
 use Rattle.hex_board.specs.Positions.{Position, Within, stones_of}
 use Rattle.hex_cells.specs.declared.colours.Colour.{Colour}
-use Rattle.hex_board.proofs.Parts.{case_of, is_free, is_first, is_second, is_group, is_other, linked_last, none_other, tied_stone, none_some}
+use Rattle.hex_board.proofs.Parts.{case_of, is_free, is_first, is_second, is_group, is_other}
+use Rattle.hex_board.proofs.Parts.{linked_last, none_other, tied_stone, none_some}
 use Rattle.win_cert.specs.Cutting.{AreStonesOn, IsEndFor}
 use Rattle.win_cert.specs.declared.lines.End.TheVariants.{At}
 
-cell_below : (e : PlayerBoard) (k x : ℕ) → AreStonesOn e → HasCell e x k → k < e.board.size * e.board.size
+cell_below : (e : PlayerBoard) (k x : ℕ) → AreStonesOn e → HasCell e x k
+    → k < e.board.size * e.board.size
 cell_below e k x s h = elim (case_of e k s.own) [
   | is_free i t ↦ ltb-true k (e.board.size * e.board.size)
       (and_parts (nat_lt k (e.board.size * e.board.size)) (not (has e.board.black k))
@@ -29,15 +32,20 @@ cell_end e x k s h =
     record {
       element = h;
       place = l;
-      other = false_from_ne_true (has (stones_of e.board (other_of e.player)) k) (λ t. none_some x (sym ((none_other e k s.own s.apart l).1 t) ∙ h));
+      other = false_from_ne_true (has (stones_of e.board (other_of e.player)) k)
+          (λ t. none_some x (sym ((none_other e k s.own s.apart l).1 t) ∙ h));
     }
 
 -- what is said of the item of an option that has one
-pub some_case : (P : Type 0) (Q : ℕ → Type 0) (o : Option ℕ) (k : ℕ) → MatchOption o P Q → o ≡ Some k → Q k
+pub some_case : (P : Type 0) (Q : ℕ → Type 0) (o : Option ℕ) (k : ℕ) → MatchOption o P Q
+    → o ≡ Some k → Q k
 some_case P Q None k m h = absurd (cc)
 some_case P Q (Some v) k m h = let e : v ≡ k = cc in subst Q e m
 
 -- the player's stones, as they are asked for, lie on the board
-pub stones_within : (p : Position) (e : PlayerBoard) (c : Colour) (s : ℕ) → p ≡ e.board → c ≡ e.player → s ≡ stones_of p c → Within p.size s → Within e.board.size (stones_of e.board e.player)
+pub stones_within : (p : Position) (e : PlayerBoard) (c : Colour) (s : ℕ) → p ≡ e.board
+    → c ≡ e.player → s ≡ stones_of p c → Within p.size s
+    → Within e.board.size (stones_of e.board e.player)
 stones_within p e c s h k q on =
-    subst (λ (v : Position). Within v.size (stones_of v e.player)) h (subst (λ (v : Colour). Within p.size (stones_of p v)) k (subst (Within p.size) q on))
+    subst (λ (v : Position). Within v.size (stones_of v e.player)) h
+    (subst (λ (v : Colour). Within p.size (stones_of p v)) k (subst (Within p.size) q on))

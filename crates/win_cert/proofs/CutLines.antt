@@ -1,6 +1,8 @@
 -- The line for an entry that follows from earlier ones is right, in any scope, and is one of the
 -- first version.
-use Rattle.std.proofs.Common.{◌≡◌, ℕ, ◌<◌, ◌≤◌, ◌==◌, true, false, Bool, List, [], ◌∷◌, Some, All, length, take, get_or, refl, sym, ◌∙◌, ap, subst, inl, inr, ◌⊎◌, zero, suc, if◌then◌else◌, arith}
+use Rattle.std.proofs.Common.{◌≡◌, ℕ, ◌<◌, ◌≤◌, ◌==◌, true, false, Bool, List, [], ◌∷◌, Some, All}
+use Rattle.std.proofs.Common.{length, take, get_or, refl, sym, ◌∙◌, ap, subst, inl, inr, ◌⊎◌, zero}
+use Rattle.std.proofs.Common.{suc, if◌then◌else◌, arith}
 use Rattle.std.specs.List.{slice_get}
 use Rattle.std.proofs.lemmas.Bool.{ne_eqb, true≢false}
 use Rattle.std.proofs.lemmas.List.{length-map}
@@ -22,14 +24,17 @@ use Rattle.win_cert.specs.declared.certs.TheConstants.{FIRST_VERSION}
 use Rattle.win_cert.specs.declared.lines.Line.{Line}
 use Rattle.win_cert.specs.declared.lines.Line.TheVariants.{Or2, Or3}
 use Rattle.win_cert.specs.declared.lines.TheConstants.{MOST_NUMBER}
-use Rattle.win_cert.proofs.CutSteps.{IsChainAt, IsRight, IsWayAt, adj_right, and_right, key_right, three_right, two_right}
+use Rattle.win_cert.proofs.CutSteps.{IsChainAt, IsRight, IsWayAt, adj_right, and_right, key_right}
+use Rattle.win_cert.proofs.CutSteps.{three_right, two_right}
 use Rattle.conn_store.proofs.RuleEntries.{both_full, all_full}
 
 -- the entry with number i was given by the line with its new number
 abbrev pub IsPlaced : Context → List ℕ → List Entry → ℕ → Type 0
-IsPlaced cx renamed from i = (b : Entry) → slice_get from i ≡ Some b → entry_at cx (get_or renamed i 0) ≡ Some (scoped cx.scope b)
+IsPlaced cx renamed from i = (b : Entry) → slice_get from i ≡ Some b
+    → entry_at cx (get_or renamed i 0) ≡ Some (scoped cx.scope b)
 
-pub first_at : (from : List Entry) (i : ℕ) (numbers : List ℕ) (a : Entry) (ways : List Entry) → AreAt from (i ∷ numbers) (a ∷ ways) → (slice_get from i ≡ Some a) × AreAt from numbers ways
+pub first_at : (from : List Entry) (i : ℕ) (numbers : List ℕ) (a : Entry) (ways : List Entry)
+    → AreAt from (i ∷ numbers) (a ∷ ways) → (slice_get from i ≡ Some a) × AreAt from numbers ways
 first_at from i numbers a ways h = (cc, cc)
 
 pub second_in : (P : ℕ → Type 0) (i j : ℕ) (rest : List ℕ) → All P (i ∷ j ∷ rest) → P j
@@ -44,12 +49,15 @@ AreOrdered from = (i : ℕ) (b : Entry) → slice_get from i ≡ Some b → b.x 
 
 -- ---- `or`
 
-way_at : (cx : Context) (renamed : List ℕ) (from : List Entry) (a b : Entry) (i : ℕ) → a.x < a.y → slice_get from i ≡ Some b → IsPlaced cx renamed from i
+way_at : (cx : Context) (renamed : List ℕ) (from : List Entry) (a b : Entry) (i : ℕ) → a.x < a.y
+    → slice_get from i ≡ Some b → IsPlaced cx renamed from i
     → b.kind ≡ Semi → IsBetween b a.x a.y → IsWayAt cx (get_or renamed i 0) b a
 way_at cx renamed from a b i l h p k q = record { at = p b h; kind_is = k; order = l; pair = q }
 
-over_two : (cx : Context) (renamed : List ℕ) (from : List Entry) (a : Entry) (i j : ℕ) (ways : List Entry) → a.x < a.y
-    → AreAt from (i ∷ j ∷ []) ways → OrRule ways a.x a.y → a.kind ≡ Full → a.carrier ≡ union_of ways → IsPlaced cx renamed from i → IsPlaced cx renamed from j
+over_two : (cx : Context) (renamed : List ℕ) (from : List Entry) (a : Entry) (i j : ℕ)
+    (ways : List Entry) → a.x < a.y
+    → AreAt from (i ∷ j ∷ []) ways → OrRule ways a.x a.y → a.kind ≡ Full → a.carrier ≡ union_of ways
+    → IsPlaced cx renamed from i → IsPlaced cx renamed from j
     → IsRight cx (Or2 (get_or renamed i 0) (get_or renamed j 0)) a
 over_two cx renamed from a i j [] l t r k c p q = absurd (cc)
 over_two cx renamed from a i j (b ∷ []) l t r k c p q = absurd (cc)
@@ -57,12 +65,17 @@ over_two cx renamed from a i j (b ∷ d ∷ []) l t r k c p q =
     let u = first_at from i (j ∷ []) b (d ∷ []) t in
     let v = first_at from j [] d [] u.1 in
     let w = two_of b d a.x a.y r in
-    two_right cx (get_or renamed i 0) (get_or renamed j 0) b d a (way_at cx renamed from a b i l u.0 p w.first_kind w.first_pair)
-    (way_at cx renamed from a d j l v.0 q w.second_kind w.second_pair) (λ z. both_full (has b.carrier z) (has d.carrier z) (w.free z)) k c
+    two_right cx (get_or renamed i 0) (get_or renamed j 0) b d a
+    (way_at cx renamed from a b i l u.0 p w.first_kind w.first_pair)
+    (way_at cx renamed from a d j l v.0 q w.second_kind w.second_pair)
+    (λ z. both_full (has b.carrier z) (has d.carrier z) (w.free z)) k c
 over_two cx renamed from a i j (b ∷ d ∷ f ∷ ways) l t r k c p q = absurd (cc)
 
-over_three : (cx : Context) (renamed : List ℕ) (from : List Entry) (a : Entry) (i j m : ℕ) (ways : List Entry) → a.x < a.y
-    → AreAt from (i ∷ j ∷ m ∷ []) ways → OrRule ways a.x a.y → a.kind ≡ Full → a.carrier ≡ union_of ways → IsPlaced cx renamed from i → IsPlaced cx renamed from j → IsPlaced cx renamed from m
+over_three : (cx : Context) (renamed : List ℕ) (from : List Entry) (a : Entry) (i j m : ℕ)
+    (ways : List Entry) → a.x < a.y
+    → AreAt from (i ∷ j ∷ m ∷ []) ways → OrRule ways a.x a.y → a.kind ≡ Full
+    → a.carrier ≡ union_of ways → IsPlaced cx renamed from i → IsPlaced cx renamed from j
+    → IsPlaced cx renamed from m
     → IsRight cx (Or3 (get_or renamed i 0) (get_or renamed j 0) (get_or renamed m 0)) a
 over_three cx renamed from a i j m [] l t r k c p q s = absurd (cc)
 over_three cx renamed from a i j m (b ∷ []) l t r k c p q s = absurd (cc)
@@ -72,8 +85,10 @@ over_three cx renamed from a i j m (b ∷ d ∷ f ∷ []) l t r k c p q s =
     let v = first_at from j (m ∷ []) d (f ∷ []) u.1 in
     let x = first_at from m [] f [] v.1 in
     let w = three_of b d f a.x a.y r in
-    three_right cx (get_or renamed i 0) (get_or renamed j 0) (get_or renamed m 0) b d f a (way_at cx renamed from a b i l u.0 p w.first_kind w.first_pair)
-    (way_at cx renamed from a d j l v.0 q w.second_kind w.second_pair) (way_at cx renamed from a f m l x.0 s w.third_kind w.third_pair)
+    three_right cx (get_or renamed i 0) (get_or renamed j 0) (get_or renamed m 0) b d f a
+    (way_at cx renamed from a b i l u.0 p w.first_kind w.first_pair)
+    (way_at cx renamed from a d j l v.0 q w.second_kind w.second_pair)
+    (way_at cx renamed from a f m l x.0 s w.third_kind w.third_pair)
     (λ z. all_full (has b.carrier z) (has d.carrier z) (has f.carrier z) (w.free z)) k c
 over_three cx renamed from a i j m (b ∷ d ∷ f ∷ g ∷ ways) l t r k c p q s = absurd (cc)
 
@@ -85,26 +100,38 @@ few_ways ways x y n r h l = few r.number
     few (inr q) = absurd (omega arith)
 
 -- ways that two or three of the numbers name
-pub number_of_ways : (from : List Entry) (numbers : List ℕ) (ways : List Entry) → AreAt from numbers ways → length ways ≡ length numbers
-number_of_ways from numbers ways h = sym (length-map ways Some) ∙ sym (ap length h) ∙ length-map numbers (slice_get from)
+pub number_of_ways : (from : List Entry) (numbers : List ℕ) (ways : List Entry)
+    → AreAt from numbers ways → length ways ≡ length numbers
+number_of_ways from numbers ways h = sym (length-map ways Some) ∙ sym (ap length h)
+    ∙ length-map numbers (slice_get from)
 
-or_right : (cx : Context) (renamed : List ℕ) (from : List Entry) (a : Entry) (line : Line) (numbers : List ℕ) (count : ℕ) (ways : List Entry)
-    → a.x < a.y → length numbers ≡ 3 → AreAt from (take count numbers) ways → OrRule ways a.x a.y → a.kind ≡ Full → a.carrier ≡ union_of ways
-    → All (IsPlaced cx renamed from) (premises (Or numbers count)) → IsLineFor (elements_at cx) renamed a (Or numbers count) line → IsRight cx line a
+or_right : (cx : Context) (renamed : List ℕ) (from : List Entry) (a : Entry) (line : Line)
+    (numbers : List ℕ) (count : ℕ) (ways : List Entry)
+    → a.x < a.y → length numbers ≡ 3 → AreAt from (take count numbers) ways → OrRule ways a.x a.y
+    → a.kind ≡ Full → a.carrier ≡ union_of ways
+    → All (IsPlaced cx renamed from) (premises (Or numbers count))
+    → IsLineFor (elements_at cx) renamed a (Or numbers count) line → IsRight cx line a
 or_right cx renamed from a line [] count ways l n t r k c p h = absurd (cc)
 or_right cx renamed from a line (i ∷ []) count ways l n t r k c p h = absurd (cc)
 or_right cx renamed from a line (i ∷ j ∷ []) count ways l n t r k c p h = absurd (cc)
 or_right cx renamed from a line (i ∷ j ∷ m ∷ u ∷ numbers) count ways l n t r k c p h = absurd (cc)
-or_right cx renamed from a line (i ∷ j ∷ m ∷ []) zero ways l n t r k c p h = absurd (few_ways ways a.x a.y 0 r (number_of_ways from [] ways t) (omega arith))
-or_right cx renamed from a line (i ∷ j ∷ m ∷ []) (suc zero) ways l n t r k c p h = absurd (few_ways ways a.x a.y 1 r (number_of_ways from (i ∷ []) ways t) (omega arith))
-or_right cx renamed from a line (i ∷ j ∷ m ∷ []) (suc (suc zero)) ways l n t r k c p h = subst (λ v. IsRight cx v a) (sym h.1)
+or_right cx renamed from a line (i ∷ j ∷ m ∷ []) zero ways l n t r k c p h
+    = absurd (few_ways ways a.x a.y 0 r (number_of_ways from [] ways t) (omega arith))
+or_right cx renamed from a line (i ∷ j ∷ m ∷ []) (suc zero) ways l n t r k c p h
+    = absurd (few_ways ways a.x a.y 1 r (number_of_ways from (i ∷ []) ways t) (omega arith))
+or_right cx renamed from a line (i ∷ j ∷ m ∷ []) (suc (suc zero)) ways l n t r k c p h
+    = subst (λ v. IsRight cx v a) (sym h.1)
     (over_two cx renamed from a i j ways l t r k c (All-head (IsPlaced cx renamed from) i (j ∷ []) p) (second_in (IsPlaced cx renamed from) i j [] p))
-or_right cx renamed from a line (i ∷ j ∷ m ∷ []) (suc (suc (suc zero))) ways l n t r k c p h = subst (λ v. IsRight cx v a) (sym h.1)
+or_right cx renamed from a line (i ∷ j ∷ m ∷ []) (suc (suc (suc zero))) ways l n t r k c p h
+    = subst (λ v. IsRight cx v a) (sym h.1)
     (over_three cx renamed from a i j m ways l t r k c (All-head (IsPlaced cx renamed from) i (j ∷ m ∷ []) p) (second_in (IsPlaced cx renamed from) i j (m ∷ []) p) (third_in (IsPlaced cx renamed from) i j m [] p))
-or_right cx renamed from a line (i ∷ j ∷ m ∷ []) (suc (suc (suc (suc count)))) ways l n t r k c p h =
+or_right cx renamed from a line (i ∷ j ∷ m ∷ [])
+    (suc (suc (suc (suc count)))) ways l n t r k c p h =
     let P = IsPlaced cx renamed from in
-    let no : (suc (suc (suc (suc count))) == 2) ≡ false = ne_eqb (suc (suc (suc (suc count)))) 2 (λ q. absurd (omega arith)) in
-    let all : All P (i ∷ j ∷ m ∷ []) = subst (λ v. All P (i ∷ j ∷ (if v then [] else m ∷ []))) no p in
+    let no : (suc (suc (suc (suc count))) == 2) ≡ false
+    = ne_eqb (suc (suc (suc (suc count)))) 2 (λ q. absurd (omega arith)) in
+    let all : All P (i ∷ j ∷ m ∷ [])
+    = subst (λ v. All P (i ∷ j ∷ (if v then [] else m ∷ []))) no p in
     let two = Or2 (get_or renamed i 0) (get_or renamed j 0) in
     let three = Or3 (get_or renamed i 0) (get_or renamed j 0) (get_or renamed m 0) in
     subst (λ v. IsRight cx v a) (sym (h.1 ∙ ap (λ v. if v then two else three) no))
@@ -112,8 +139,10 @@ or_right cx renamed from a line (i ∷ j ∷ m ∷ []) (suc (suc (suc (suc count
 
 -- ---- each rule
 
-chain_at : (cx : Context) (renamed : List ℕ) (from : List Entry) (a b : Entry) (x u y i j : ℕ) → AreOrdered from → AreAt from (i ∷ j ∷ []) (a ∷ b ∷ [])
-    → AndRule (elements_at cx) a b x u y → IsPlaced cx renamed from i → IsPlaced cx renamed from j → IsChainAt cx (get_or renamed i 0) (get_or renamed j 0) a b x u y
+chain_at : (cx : Context) (renamed : List ℕ) (from : List Entry) (a b : Entry) (x u y i j : ℕ)
+    → AreOrdered from → AreAt from (i ∷ j ∷ []) (a ∷ b ∷ [])
+    → AndRule (elements_at cx) a b x u y → IsPlaced cx renamed from i → IsPlaced cx renamed from j
+    → IsChainAt cx (get_or renamed i 0) (get_or renamed j 0) a b x u y
 chain_at cx renamed from a b x u y i j o t r p q =
     let v = first_at from i (j ∷ []) a (b ∷ []) t in
     let w = first_at from j [] b [] v.1 in
@@ -125,11 +154,14 @@ chain_at cx renamed from a b x u y i j o t r p q =
       rule = r;
     }
 
-rule_right : (cx : Context) (renamed : List ℕ) (from : List Entry) (a : Entry) (line : Line) (cause : Cause) → AreOrdered from → a.x < a.y
-    → FollowsBy (elements_at cx) from a cause → IsLineFor (elements_at cx) renamed a cause line → All (IsPlaced cx renamed from) (premises cause) → IsRight cx line a
+rule_right : (cx : Context) (renamed : List ℕ) (from : List Entry) (a : Entry) (line : Line)
+    (cause : Cause) → AreOrdered from → a.x < a.y
+    → FollowsBy (elements_at cx) from a cause → IsLineFor (elements_at cx) renamed a cause line
+    → All (IsPlaced cx renamed from) (premises cause) → IsRight cx line a
 rule_right cx renamed from a line Adjacent o l f h p =
     let (x, y, q, v, w) = h in
-    subst (λ z. IsRight cx z a) (sym q) (adj_right cx a x y l f.0 f.1 f.2 v.element w.element v.other w.other)
+    subst (λ z. IsRight cx z a) (sym q)
+    (adj_right cx a x y l f.0 f.1 f.2 v.element w.element v.other w.other)
 rule_right cx renamed from a line (AndGroup i j) o l (b, d, x, u, y, t, r, g, w, k, c) h p =
     subst (λ z. IsRight cx z a) (sym h)
     (and_right cx (get_or renamed i 0) (get_or renamed j 0) b d a x u y
@@ -138,34 +170,47 @@ rule_right cx renamed from a line (AndEmpty i j) o l (b, d, x, u, y, z, t, r, g,
     subst (λ v. IsRight cx v a) (sym h)
     (key_right cx (get_or renamed i 0) (get_or renamed j 0) b d a x u y z
     (chain_at cx renamed from b d x u y i j o t r (All-head (IsPlaced cx renamed from) i (j ∷ []) p) (second_in (IsPlaced cx renamed from) i j [] p)) g w k c)
-rule_right cx renamed from a line (Or numbers count) o l (ways, t, r, k, c) h p = or_right cx renamed from a line numbers count ways l h.0 t r k c p h
+rule_right cx renamed from a line (Or numbers count) o l (ways, t, r, k, c) h p
+    = or_right cx renamed from a line numbers count ways l h.0 t r k c p h
 
 -- the line for an entry that follows from earlier ones is right
-pub line_right : (cx : Context) (renamed : List ℕ) (from : List Entry) (a : Entry) (line : Line) → AreOrdered from → a.x < a.y
-    → FollowsFrom (elements_at cx) from a → IsLineFor (elements_at cx) renamed a a.cause line → All (IsPlaced cx renamed from) (premises a.cause) → IsRight cx line a
+pub line_right : (cx : Context) (renamed : List ℕ) (from : List Entry) (a : Entry) (line : Line)
+    → AreOrdered from → a.x < a.y
+    → FollowsFrom (elements_at cx) from a → IsLineFor (elements_at cx) renamed a a.cause line
+    → All (IsPlaced cx renamed from) (premises a.cause) → IsRight cx line a
 line_right cx renamed from a line o l f h p = rule_right cx renamed from a line a.cause o l f h p
 
 -- ---- the form of the line
 
 two_numbers : (i j : ℕ) → i ≤ MOST_NUMBER → j ≤ MOST_NUMBER → AreNumbers (i ∷ j ∷ [])
-two_numbers i j h k = All-cons (λ v. v ≤ MOST_NUMBER) i (j ∷ []) h (All-cons (λ v. v ≤ MOST_NUMBER) j [] k (All-nil (λ v. v ≤ MOST_NUMBER)))
+two_numbers i j h k
+    = All-cons (λ v. v ≤ MOST_NUMBER) i (j ∷ []) h
+    (All-cons (λ v. v ≤ MOST_NUMBER) j [] k (All-nil (λ v. v ≤ MOST_NUMBER)))
 
 -- the new number of entry i can be written
 abbrev pub IsSmallAt : List ℕ → ℕ → Type 0
 IsSmallAt renamed i = get_or renamed i 0 ≤ MOST_NUMBER
 
-or_form : (e : PlayerBoard) (renamed : List ℕ) (n : ℕ) (line : Line) (p q r : ℕ) (two : Bool) → line ≡ (if two then Or2 p q else Or3 p q r) → p ≤ MOST_NUMBER → q ≤ MOST_NUMBER
+or_form : (e : PlayerBoard) (renamed : List ℕ) (n : ℕ) (line : Line) (p q r : ℕ) (two : Bool)
+    → line ≡ (if two then Or2 p q else Or3 p q r) → p ≤ MOST_NUMBER → q ≤ MOST_NUMBER
     → (two ≡ false → r ≤ MOST_NUMBER) → IsLineOf FIRST_VERSION n line
-or_form e renamed n line p q r true h i j k = subst (IsLineOf FIRST_VERSION n) (sym h) (two_numbers p q i j)
-or_form e renamed n line p q r false h i j k = subst (IsLineOf FIRST_VERSION n) (sym h) (All-cons (λ v. v ≤ MOST_NUMBER) p (q ∷ r ∷ []) i (two_numbers q r j (k refl)))
+or_form e renamed n line p q r true h i j k
+    = subst (IsLineOf FIRST_VERSION n) (sym h) (two_numbers p q i j)
+or_form e renamed n line p q r false h i j k
+    = subst (IsLineOf FIRST_VERSION n) (sym h)
+    (All-cons (λ v. v ≤ MOST_NUMBER) p (q ∷ r ∷ []) i (two_numbers q r j (k refl)))
 
-third_small : (renamed : List ℕ) (i j k : ℕ) (two : Bool) → All (IsSmallAt renamed) (i ∷ j ∷ (if two then [] else k ∷ [])) → two ≡ false → IsSmallAt renamed k
+third_small : (renamed : List ℕ) (i j k : ℕ) (two : Bool)
+    → All (IsSmallAt renamed) (i ∷ j ∷ (if two then [] else k ∷ [])) → two ≡ false
+    → IsSmallAt renamed k
 third_small renamed i j k true h e = absurd (true≢false e)
 third_small renamed i j k false h e = third_in (IsSmallAt renamed) i j k [] h
 
-pub line_form : (e : PlayerBoard) (renamed : List ℕ) (a : Entry) (line : Line) (cause : Cause) → IsLineFor e renamed a cause line → All (IsSmallAt renamed) (premises cause)
+pub line_form : (e : PlayerBoard) (renamed : List ℕ) (a : Entry) (line : Line) (cause : Cause)
+    → IsLineFor e renamed a cause line → All (IsSmallAt renamed) (premises cause)
     → IsLineOf FIRST_VERSION e.board.size line
-line_form e renamed a line Adjacent (x, y, q, v, w) s = subst (IsLineOf FIRST_VERSION e.board.size) (sym q) (v.place, w.place)
+line_form e renamed a line Adjacent (x, y, q, v, w) s
+    = subst (IsLineOf FIRST_VERSION e.board.size) (sym q) (v.place, w.place)
 line_form e renamed a line (AndGroup i j) h s = subst (IsLineOf FIRST_VERSION e.board.size) (sym h)
     (two_numbers (get_or renamed i 0) (get_or renamed j 0) (All-head (IsSmallAt renamed) i (j ∷ []) s) (second_in (IsSmallAt renamed) i j [] s))
 line_form e renamed a line (AndEmpty i j) h s = subst (IsLineOf FIRST_VERSION e.board.size) (sym h)
@@ -175,5 +220,7 @@ line_form e renamed a line (Or numbers count) h s =
     let j = get_or numbers 1 0 in
     let k = get_or numbers 2 0 in
     let rest = if count == 2 then [] else k ∷ [] in
-    or_form e renamed e.board.size line (get_or renamed i 0) (get_or renamed j 0) (get_or renamed k 0) (count == 2) h.1
-    (All-head (IsSmallAt renamed) i (j ∷ rest) s) (second_in (IsSmallAt renamed) i j rest s) (third_small renamed i j k (count == 2) s)
+    or_form e renamed e.board.size line (get_or renamed i 0) (get_or renamed j 0)
+    (get_or renamed k 0) (count == 2) h.1
+    (All-head (IsSmallAt renamed) i (j ∷ rest) s) (second_in (IsSmallAt renamed) i j rest s)
+    (third_small renamed i j k (count == 2) s)

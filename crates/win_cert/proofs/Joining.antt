@@ -5,28 +5,33 @@ use Rattle.std.proofs.lemmas.Grind.{flat_map-append}
 use Rattle.std.proofs.lemmas.List.{append-nil, append_assoc, map-append, map-id}
 use Rattle.std.proofs.lemmas.List.Elements.{filter-append}
 use Rattle.std.proofs.lemmas.List.FromFn.{map-range_with_len_more}
-use Rattle.win_cert.specs.Texts.{cert_text, claim_words, ended, head_words, line_words, space, words_before_claim}
+use Rattle.win_cert.specs.Texts.{cert_text, claim_words, ended, head_words, line_words, space}
+use Rattle.win_cert.specs.Texts.{words_before_claim}
 use Rattle.win_cert.specs.declared.certs.Cert.{Cert}
 use Rattle.win_cert.specs.Words.{after_spaces}
 
 -- a word and others: the word, and then each other after a space
-pub joined : (word : List ℕ) (words : List (List ℕ)) → join_with_byte space (word ∷ words) ≡ word ++ after_spaces words
+pub joined : (word : List ℕ) (words : List (List ℕ))
+    → join_with_byte space (word ∷ words) ≡ word ++ after_spaces words
 joined word [] = sym (append-nil word)
 joined word (other ∷ words) = ap (λ text. word ++ space ∷ text) (joined other words)
 
 -- the same, where it stands after a text
 pub joined_after : (text word : List ℕ) (words : List (List ℕ))
     → (text ++ word) ++ after_spaces words ≡ text ++ join_with_byte space (word ∷ words)
-joined_after text word words = append_assoc text word (after_spaces words) ∙ ap (λ t. text ++ t) (sym (joined word words))
+joined_after text word words = append_assoc text word (after_spaces words)
+    ∙ ap (λ t. text ++ t) (sym (joined word words))
 
 pub range_more : (k : ℕ) → range_with_len 0 (k + 1) ≡ range_with_len 0 k ++ k ∷ []
-range_more k = sym (map-id (range_with_len 0 (k + 1))) ∙ map-range_with_len_more (λ i. i) 0 k k (omega arith)
+range_more k = sym (map-id (range_with_len 0 (k + 1)))
+    ∙ map-range_with_len_more (λ i. i) 0 k k (omega arith)
     ∙ ap (λ xs. xs ++ k ∷ []) (map-id (range_with_len 0 k))
 
 -- the cells below k + 1 that pass are those below k, and then k where it passes
 pub cells_more : (vertex : ℕ → List ℕ) (test : ℕ → Bool) (k : ℕ)
     → after_spaces (map vertex (filter test (range_with_len 0 (k + 1))))
-    ≡ after_spaces (map vertex (filter test (range_with_len 0 k))) ++ after_spaces (map vertex (filter test (k ∷ [])))
+    ≡ after_spaces (map vertex (filter test (range_with_len 0 k))) ++ after_spaces
+    (map vertex (filter test (k ∷ [])))
 cells_more vertex test k =
     let below = filter test (range_with_len 0 k) in
     let own = filter test (k ∷ []) in
@@ -42,7 +47,8 @@ pub text_more : (vertex : ℕ → List ℕ) (test : ℕ → Bool) (k : ℕ) (sta
     → new ≡ start ++ after_spaces (map vertex (filter test (range_with_len 0 (k + 1))))
 text_more vertex test k start text new e more =
     more ∙ ap (λ t. t ++ after_spaces (map vertex (filter test (k ∷ [])))) e
-    ∙ append_assoc start (after_spaces (map vertex (filter test (range_with_len 0 k)))) (after_spaces (map vertex (filter test (k ∷ []))))
+    ∙ append_assoc start (after_spaces (map vertex (filter test (range_with_len 0 k))))
+    (after_spaces (map vertex (filter test (k ∷ []))))
     ∙ ap (λ t. start ++ t) (sym (cells_more vertex test k))
 
 -- the parts of a certificate's text
@@ -52,5 +58,6 @@ pub text_parts : (cert : Cert)
 text_parts cert =
     let lines = map (line_words cert.board.size) cert.lines in
     ap (λ t. t ++ ended (claim_words cert)) (sym (flat_map-append ended (head_words cert) lines))
-    ∙ ap (λ t. flat_map ended (words_before_claim cert) ++ t) (sym (append-nil (ended (claim_words cert))))
+    ∙ ap (λ t. flat_map ended (words_before_claim cert) ++ t)
+    (sym (append-nil (ended (claim_words cert))))
     ∙ sym (flat_map-append ended (words_before_claim cert) (claim_words cert ∷ []))

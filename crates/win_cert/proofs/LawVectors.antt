@@ -1,6 +1,8 @@
 -- Two certificates of a board with one cell, one with an empty cell as a middle and one with a
 -- scope: they are accepted, so by the law their player wins.
-use Rattle.std.proofs.Common.{◌≡◌, ℕ, ◌+◌, ◌<◌, ◌≤◌, [], ◌∷◌, Option, None, length, map, option_and_then, replicate, refl, sym, ◌∙◌, ap, subst, zero, suc, inl, inr, arith}
+use Rattle.std.proofs.Common.{◌≡◌, ℕ, ◌+◌, ◌<◌, ◌≤◌, [], ◌∷◌, Option, None, length, map}
+use Rattle.std.proofs.Common.{option_and_then, replicate, refl, sym, ◌∙◌, ap, subst, zero, suc, inl}
+use Rattle.std.proofs.Common.{inr, arith}
 use Rattle.std.specs.List.{range_with_len}
 use Rattle.std.proofs.lemmas.Bool.{both_ways, cases_lt}
 use Rattle.std.proofs.lemmas.Option.{slice_get_past}
@@ -43,18 +45,23 @@ by_scope = record {
 
 -- ---- from the reasons of all statements
 
-none_at : (f : ℕ → Option Reason) (a m j : ℕ) → map f (range_with_len a m) ≡ replicate m None → j < m → f (a + j) ≡ None
+none_at : (f : ℕ → Option Reason) (a m j : ℕ) → map f (range_with_len a m) ≡ replicate m None
+    → j < m → f (a + j) ≡ None
 none_at f a zero j h l = absurd (omega arith)
-none_at f a (suc m) zero h l = let e : f a ≡ None = cc in let q : a + 0 ≡ a = omega arith in ap f q ∙ e
+none_at f a (suc m) zero h l = let e : f a ≡ None = cc in
+    let q : a + 0 ≡ a = omega arith in ap f q ∙ e
 none_at f a (suc m) (suc j) h l =
     let e : map f (range_with_len (a + 1) m) ≡ replicate m None = cc in
     let q : a + suc j ≡ (a + 1) + j = omega arith in
     ap f q ∙ none_at f (a + 1) m j e (omega arith)
 
-all_good : (cert : Cert) (n : ℕ) → length (statements_of cert) ≤ n → map (reason_at cert) (range_with_len 0 n) ≡ replicate n None → Accepted cert
+all_good : (cert : Cert) (n : ℕ) → length (statements_of cert) ≤ n
+    → map (reason_at cert) (range_with_len 0 n) ≡ replicate n None → Accepted cert
 all_good cert n l h k = elim (cases_lt k n) [
-  | inl b ↦ let q : 0 + k ≡ k = omega arith in ap (reason_at cert) (sym q) ∙ none_at (reason_at cert) 0 n k h b
-  | inr b ↦ ap (option_and_then (reason_against (context_at cert k))) (slice_get_past (statements_of cert) k (omega arith))
+  | inl b ↦ let q : 0 + k ≡ k = omega arith in ap (reason_at cert) (sym q)
+      ∙ none_at (reason_at cert) 0 n k h b
+  | inr b ↦ ap (option_and_then (reason_against (context_at cert k)))
+      (slice_get_past (statements_of cert) k (omega arith))
 ]
 
 -- ---- the two
@@ -77,7 +84,9 @@ one_cell cert e = subst (λ p. IsPosition p.size p.black p.white) (sym e) (recor
 })
 
 key_wins : Wins Black (empty_board 1) Black
-key_wins = accepted_wins by_key (one_cell by_key refl) (all_good by_key 4 (omega arith) by_key_judged)
+key_wins = accepted_wins by_key (one_cell by_key refl)
+    (all_good by_key 4 (omega arith) by_key_judged)
 
 scope_wins : Wins Black (empty_board 1) Black
-scope_wins = accepted_wins by_scope (one_cell by_scope refl) (all_good by_scope 5 (omega arith) by_scope_judged)
+scope_wins = accepted_wins by_scope (one_cell by_scope refl)
+    (all_good by_scope 5 (omega arith) by_scope_judged)

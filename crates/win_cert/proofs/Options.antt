@@ -1,17 +1,16 @@
 -- Answers that may be missing.
-use Rattle.std.proofs.Common.{arith, ℕ, ◌≡◌, ◌≤◌, ◌&&◌, leb, Bool, true, false, cond, Option, Some, None, refl}
+use Rattle.std.proofs.Common.{arith, ℕ, ◌≡◌, ◌≤◌, ◌&&◌, leb, Bool, true, false, cond, Option, Some}
+use Rattle.std.proofs.Common.{None, refl}
 use Rattle.std.proofs.lemmas.Bool.Decides.{nat_tests}
 use Rattle.std.specs.Option.{option_and_then, option_map}
 
-pub some_of_test : {A : Type 0} (b : Bool) (o : Option A) (y : A) → cond b o None ≡ Some y → (b ≡ true) × (o ≡ Some y)
+pub some_of_test : {A : Type 0} (b : Bool) (o : Option A) (y : A) → cond b o None ≡ Some y
+    → (b ≡ true) × (o ≡ Some y)
 some_of_test true o y e = (refl, e)
 some_of_test false o y e = cc
 
-pub both_true : (a b : Bool) → (a && b) ≡ true → (a ≡ true) × (b ≡ true)
-both_true true b e = (refl, e)
-both_true false b e = cc
-
-pub some_of_then : {A B : Type 0} (f : A → Option B) (o : Option A) (y : B) → option_and_then f o ≡ Some y
+pub some_of_then : {A B : Type 0} (f : A → Option B) (o : Option A) (y : B)
+    → option_and_then f o ≡ Some y
     → (x : A) × (o ≡ Some x) × (f x ≡ Some y)
 some_of_then f (Some x) y e = (x, refl, e)
 some_of_then f None y e = cc

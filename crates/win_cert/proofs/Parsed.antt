@@ -27,21 +27,25 @@ bad_at bytes m e = record {
   good = good_lines_before bytes m e;
   bad = λ g. let past = good_before bytes m m g e in absurd (omega (arith, past));
   few = λ long. two_causes m (sym (long_back bytes long) ∙ e);
-  no_text = λ cert board good is. ok_is_none cert cert (NotCert m) (sym (ap (λ b. cert_in (lines_of b)) is ∙ read_back cert board good) ∙ e);
+  no_text = λ cert board good is. ok_is_none cert cert (NotCert m)
+      (sym (ap (λ b. cert_in (lines_of b)) is ∙ read_back cert board good) ∙ e);
 }
 
 -- the answer that is computed is what the bytes are read as
-pub parsed : (bytes : List ℕ) (r : Result Cert CertError) → (r ≢ Err Memory → r ≡ cert_in (lines_of bytes)) → IsParsedAs bytes r
+pub parsed : (bytes : List ℕ) (r : Result Cert CertError)
+    → (r ≢ Err Memory → r ≡ cert_in (lines_of bytes)) → IsParsedAs bytes r
 parsed bytes (Ok cert) h = read_means bytes cert (sym (h (λ e. cc)))
 parsed bytes (Err (NotCert m)) h = bad_at bytes m (sym (h (λ e. cc)))
 parsed bytes (Err TooManyLines) h = long_means bytes (sym (h (λ e. cc)))
 parsed bytes (Err Memory) h = tt
 
 -- a text that was written is read back
-pub written_again : (cert : Cert) (r : Result Cert CertError) → HasBoard cert → IsWritable cert → IsParsedAs (cert_text cert) r
+pub written_again : (cert : Cert) (r : Result Cert CertError) → HasBoard cert → IsWritable cert
+    → IsParsedAs (cert_text cert) r
     → r ≢ Err Memory → r ≡ Ok cert
 written_again cert (Ok other) board good (other_board, other_good, is) some =
-    sym (read_back other other_board other_good) ∙ ap (λ b. cert_in (lines_of b)) (sym is) ∙ read_back cert board good
+    sym (read_back other other_board other_good) ∙ ap (λ b. cert_in (lines_of b)) (sym is)
+    ∙ read_back cert board good
 written_again cert (Err (NotCert m)) board good bad some = absurd (bad.no_text cert board good refl)
 written_again cert (Err TooManyLines) board good long some =
     absurd (ok_is_none cert cert TooManyLines (sym (read_back cert board good) ∙ long_back (cert_text cert) long))

@@ -1,5 +1,7 @@
 -- The text of a certificate is read as the certificate.
-use Rattle.std.proofs.Common.{◌≡◌, ◌≢◌, ◌⊎◌, ℕ, ◌+◌, ◌≤◌, ◌&&◌, leb, eqb, suc, bit_and, inl, inr, Bool, true, false, cond, List, [], ◌∷◌, ◌++◌, length, map, Option, Some, None, Result, Ok, Err, refl, ap, sym, ◌∙◌, codes, arith}
+use Rattle.std.proofs.Common.{◌≡◌, ◌≢◌, ◌⊎◌, ℕ, ◌+◌, ◌≤◌, ◌&&◌, leb, eqb, suc, bit_and, inl, inr}
+use Rattle.std.proofs.Common.{Bool, true, false, cond, List, [], ◌∷◌, ◌++◌, length, map, Option}
+use Rattle.std.proofs.Common.{Some, None, Result, Ok, Err, refl, ap, sym, ◌∙◌, codes, arith}
 use Rattle.std.specs.Fmt.{decimal}
 use Rattle.std.specs.List.{All}
 use Rattle.std.specs.Option.{option_and_then, option_map}
@@ -13,9 +15,12 @@ use Rattle.hex_cells.specs.declared.colours.Colour.TheVariants.{Black, White}
 use Rattle.hex_cells.proofs.Bits.{has_and, has_none, same_set}
 use Rattle.hex_board.specs.Positions.{Apart, Within}
 use Rattle.conn_store.specs.declared.entries.Kind.{Kind}
-use Rattle.win_cert.specs.Lines.{◌>>=◌, steps_after, at_line, cert_in, cert_of, certs_of, head_in, line_in, lines_of, number_after, player_in, size_in, steps_in, stones_in, version_in, with_lines}
+use Rattle.win_cert.specs.Lines.{◌>>=◌, steps_after, at_line, cert_in, cert_of, certs_of, head_in}
+use Rattle.win_cert.specs.Lines.{line_in, lines_of, number_after, player_in, size_in, steps_in}
+use Rattle.win_cert.specs.Lines.{stones_in, version_in, with_lines}
 use Rattle.win_cert.specs.Named.{alone, set_named, first_number, statement_named}
-use Rattle.win_cert.specs.Texts.{cert_text, cert_words, claim_words, colour_word, kind_word, line_words, vertices_of}
+use Rattle.win_cert.specs.Texts.{cert_text, cert_words, claim_words, colour_word, kind_word}
+use Rattle.win_cert.specs.Texts.{line_words, vertices_of}
 use Rattle.win_cert.specs.Writable.{HasBoard, IsLineOf, IsWritable}
 use Rattle.win_cert.specs.declared.certs.Cert.{Cert}
 use Rattle.win_cert.specs.declared.certs.TheConstants.{FIRST_VERSION, LATEST_VERSION, MOST_LINES}
@@ -37,22 +42,26 @@ use Rattle.win_cert.proofs.WordParts.{Words, after_back, number_back}
 
 -- ---- the lines of a head
 
-pub line_back : {A : Type 0} (said : Words → Option A) (words : Words) (a : A) (rest : TextLines) → rest ≢ [] → said words ≡ Some a
+pub line_back : {A : Type 0} (said : Words → Option A) (words : Words) (a : A) (rest : TextLines)
+    → rest ≢ [] → said words ≡ Some a
     → line_in said (words ∷ rest) ≡ Some (a, rest)
 line_back {A} said words a rest some e =
-    ap (option_and_then (λ (l : Words × TextLines). option_map (λ (a : A). (a, l.1)) (said l.0))) (first_of_more words rest some)
+    ap (option_and_then (λ (l : Words × TextLines). option_map (λ (a : A). (a, l.1)) (said l.0)))
+    (first_of_more words rest some)
     ∙ ap (option_map (λ (a : A). (a, rest))) e
 
 pub number_after_back : (name : List ℕ) (least most i : ℕ) → least ≤ i → i ≤ most → i ≤ MOST_NUMBER
     → number_after name least most (name ∷ decimal i ∷ []) ≡ Some i
 number_after_back name least most i low high few =
     let test = λ (p : ℕ × Words). cond (leb least p.0 && leb p.0 most) (alone p.0 p.1) None in
-    ap (option_and_then (λ rest. option_and_then test (first_number rest))) (after_back name (decimal i ∷ []))
+    ap (option_and_then (λ rest. option_and_then test (first_number rest)))
+    (after_back name (decimal i ∷ []))
     ∙ ap (option_and_then test) (number_back i [] few)
     ∙ ap (λ b. cond (b && leb i most) (Some i) None) (leb_holds least i low)
     ∙ ap (λ b. cond b (Some i) None) (leb_holds i most high)
 
-pub player_back : (colour : Colour) → player_in (codes "player" ∷ colour_word colour ∷ []) ≡ Some colour
+pub player_back : (colour : Colour)
+    → player_in (codes "player" ∷ colour_word colour ∷ []) ≡ Some colour
 player_back Black = refl
 player_back White = refl
 
@@ -62,24 +71,32 @@ false_and true false h = refl
 false_and false b h = refl
 
 none_common : (s t : ℕ) → Apart s t → bit_and s t ≡ 0
-none_common s t apart = same_set (bit_and s t) 0 (λ k. has_and s t k ∙ false_and (has s k) (has t k) (apart k) ∙ sym (has_none k))
+none_common s t apart
+    = same_set (bit_and s t) 0
+    (λ k. has_and s t k ∙ false_and (has s k) (has t k) (apart k) ∙ sym (has_none k))
 
-pub stones_back : (name : List ℕ) (n taken s : ℕ) → n ≤ 11 → Within n s → Apart s taken → stones_in name n taken (name ∷ vertices_of n s) ≡ Some s
+pub stones_back : (name : List ℕ) (n taken s : ℕ) → n ≤ 11 → Within n s → Apart s taken
+    → stones_in name n taken (name ∷ vertices_of n s) ≡ Some s
 stones_back name n taken s size on apart =
     let test = λ (s : ℕ). cond (eqb (bit_and s taken) 0) (Some s) None in
-    ap (option_and_then (λ rest. option_and_then test (set_named n 0 0 rest))) (after_back name (vertices_of n s))
+    ap (option_and_then (λ rest. option_and_then test (set_named n 0 0 rest)))
+    (after_back name (vertices_of n s))
     ∙ ap (option_and_then test) (cells_back n s size on)
-    ∙ ap (λ b. cond b (Some s) None) ((Decides-eqb (bit_and s taken) 0).1 (none_common s taken apart))
+    ∙ ap (λ b. cond b (Some s) None)
+    ((Decides-eqb (bit_and s taken) 0).1 (none_common s taken apart))
 
-pub version_low : (v : ℕ) → ((v ≡ FIRST_VERSION) ⊎ (v ≡ LATEST_VERSION)) → (FIRST_VERSION ≤ v) × (v ≤ LATEST_VERSION)
+pub version_low : (v : ℕ) → ((v ≡ FIRST_VERSION) ⊎ (v ≡ LATEST_VERSION))
+    → (FIRST_VERSION ≤ v) × (v ≤ LATEST_VERSION)
 version_low v (inl e) = (omega (arith, e), omega (arith, e))
 version_low v (inr e) = (omega (arith, e), omega (arith, e))
 
-pub then_back : {A B : Type 0} (m : ℕ) (o : Option A) (a : A) (f : A → Result B CertError) → o ≡ Some a → (at_line m o >>= f) ≡ f a
+pub then_back : {A B : Type 0} (m : ℕ) (o : Option A) (a : A) (f : A → Result B CertError)
+    → o ≡ Some a → (at_line m o >>= f) ≡ f a
 then_back m o a f e = ap (λ o. at_line m o >>= f) e
 
 -- the lines of a head are read as it
-pub head_back : (head : Head) (rest : TextLines) → rest ≢ [] → IsHead head → head_in (head_lines head ++ rest) ≡ Ok (head, rest)
+pub head_back : (head : Head) (rest : TextLines) → rest ≢ [] → IsHead head
+    → head_in (head_lines head ++ rest) ≡ Ok (head, rest)
 head_back head rest some good =
     let n : ℕ = head.board.size in
     let size : n ≤ 11 = good.board.most in
@@ -107,29 +124,39 @@ head_back head rest some good =
 -- ---- steps
 
 pub steps_more : (v n k : ℕ) (words : Words) (rest : TextLines) → rest ≢ []
-    → steps_in v n k (words ∷ rest) ≡ steps_after k (statement_named v n words) rest (steps_in v n (suc k) rest)
+    → steps_in v n k (words ∷ rest) ≡ steps_after k (statement_named v n words) rest
+    (steps_in v n (suc k) rest)
 steps_more v n k words [] some = absurd (some refl)
 steps_more v n k words (next ∷ rest) some = refl
 
-pub append_some : (lines : TextLines) (words : Words) (rest : TextLines) → lines ++ words ∷ rest ≢ []
+pub append_some : (lines : TextLines) (words : Words) (rest : TextLines)
+    → lines ++ words ∷ rest ≢ []
 append_some [] words rest e = cc
 append_some (line ∷ lines) words rest e = cc
 
 -- the words of steps are read as them
-pub steps_back : (v n k : ℕ) (lines : List Line) (kind : Kind) (i : ℕ) → n ≤ 11 → All (IsLineOf v n) lines → i ≤ MOST_NUMBER
+pub steps_back : (v n k : ℕ) (lines : List Line) (kind : Kind) (i : ℕ) → n ≤ 11
+    → All (IsLineOf v n) lines → i ≤ MOST_NUMBER
     → k + length lines ≤ MOST_LINES
-    → steps_in v n k (map (line_words n) lines ++ (kind_word kind ∷ decimal i ∷ []) ∷ nothing) ≡ Ok (lines, (kind, i))
+    → steps_in v n k (map (line_words n) lines ++ (kind_word kind ∷ decimal i ∷ []) ∷ nothing) ≡ Ok
+    (lines, (kind, i))
 steps_back v n k [] kind i size good few room =
-    ap (λ o. steps_after k o nothing (steps_in v n (suc k) nothing)) (step_back v n (Claim kind i) size few)
+    ap (λ o. steps_after k o nothing (steps_in v n (suc k) nothing))
+    (step_back v n (Claim kind i) size few)
 steps_back v n k (line ∷ lines) kind i size good few room =
     let rest = map (line_words n) lines ++ (kind_word kind ∷ decimal i ∷ []) ∷ nothing in
-    steps_more v n k (line_words n line) rest (append_some (map (line_words n) lines) (kind_word kind ∷ decimal i ∷ []) nothing)
-    ∙ ap (λ o. steps_after k o rest (steps_in v n (suc k) rest)) (step_back v n (Derivation line) size (good 0 line (omega arith)))
-    ∙ ap (λ b. cond b (Err TooManyLines) (with_lines (line ∷ []) (steps_in v n (suc k) rest))) (ne_eqb k MOST_LINES (λ e. omega (arith, e, room)))
-    ∙ ap (with_lines (line ∷ [])) (steps_back v n (suc k) lines kind i size (All-tail (IsLineOf v n) line lines good) few (omega (arith, room)))
+    steps_more v n k (line_words n line) rest
+    (append_some (map (line_words n) lines) (kind_word kind ∷ decimal i ∷ []) nothing)
+    ∙ ap (λ o. steps_after k o rest (steps_in v n (suc k) rest))
+    (step_back v n (Derivation line) size (good 0 line (omega arith)))
+    ∙ ap (λ b. cond b (Err TooManyLines) (with_lines (line ∷ []) (steps_in v n (suc k) rest)))
+    (ne_eqb k MOST_LINES (λ e. omega (arith, e, room)))
+    ∙ ap (with_lines (line ∷ []))
+    (steps_back v n (suc k) lines kind i size (All-tail (IsLineOf v n) line lines good) few (omega (arith, room)))
 
 -- the text of a certificate that can be written is read as the certificate
-pub read_back : (cert : Cert) → HasBoard cert → IsWritable cert → cert_in (lines_of (cert_text cert)) ≡ Ok cert
+pub read_back : (cert : Cert) → HasBoard cert → IsWritable cert
+    → cert_in (lines_of (cert_text cert)) ≡ Ok cert
 read_back cert board good =
     let head : Head = record { version = cert.version; board = cert.board; player = cert.player } in
     let n : ℕ = cert.board.size in
@@ -138,7 +165,10 @@ read_back cert board good =
     let is_head : IsHead head = record { version = good.0.version; board = board } in
     ap (λ text. cert_in (lines_of text)) (sym (append-nil (cert_text cert)))
     ∙ ap cert_in (lines_before (cert_words cert) [] (plain_cert cert board good.0))
-    ∙ ap (λ rest. cert_in (head_lines head ++ rest)) (append_assoc lines (claim_words cert ∷ []) nothing)
-    ∙ ap (λ r. r >>= λ (h : Head × TextLines). certs_of h.0 h.1) (head_back head steps (append_some lines (claim_words cert) nothing) is_head)
-    ∙ ap (λ r. r >>= λ s. Ok (cert_of head s)) (steps_back cert.version n 0 cert.lines cert.claim cert.entry board.most good.0.lines good.0.entry
+    ∙ ap (λ rest. cert_in (head_lines head ++ rest))
+    (append_assoc lines (claim_words cert ∷ []) nothing)
+    ∙ ap (λ r. r >>= λ (h : Head × TextLines). certs_of h.0 h.1)
+    (head_back head steps (append_some lines (claim_words cert) nothing) is_head)
+    ∙ ap (λ r. r >>= λ s. Ok (cert_of head s))
+    (steps_back cert.version n 0 cert.lines cert.claim cert.entry board.most good.0.lines good.0.entry
     (let h = good.1 in omega (arith, h)))

@@ -1,9 +1,12 @@
 -- A line of a rule has no reason against it exactly where the rule applies to the entries that it
 -- names.
-use Rattle.std.proofs.Common.{◌≡◌, ℕ, ◌<◌, ◌≤◌, ◌==◌, ◌&&◌, ◌||◌, ◌⊎◌, not, min, max, true, false, Bool, List, [], ◌∷◌, Option, Some, None, map, bit_or, if◌then◌else◌, refl, sym, ◌∙◌, ap, inl, inr, arith}
+use Rattle.std.proofs.Common.{◌≡◌, ℕ, ◌<◌, ◌≤◌, ◌==◌, ◌&&◌, ◌||◌, ◌⊎◌, not, min, max, true, false}
+use Rattle.std.proofs.Common.{Bool, List, [], ◌∷◌, Option, Some, None, map, bit_or, if◌then◌else◌}
+use Rattle.std.proofs.Common.{refl, sym, ◌∙◌, ap, inl, inr, arith}
 use Rattle.std.specs.List.{list_all}
 use Rattle.std.specs.Option.{is_none, is_some, option_map_or}
-use Rattle.std.proofs.lemmas.Bool.{and_parts, both_ways, cases_eq, eq-eqb, eqb-true, false_from_ne_true, or_left, or_parts, or_right, true≢false}
+use Rattle.std.proofs.lemmas.Bool.{and_parts, both_ways, cases_eq, eq-eqb, eqb-true}
+use Rattle.std.proofs.lemmas.Bool.{false_from_ne_true, or_left, or_parts, or_right, true≢false}
 use Rattle.std.proofs.lemmas.List.Elements.{All-head}
 use Rattle.hex_cells.specs.Sets.{has, with_cell}
 use Rattle.hex_board.specs.Elements.{PlayerBoard}
@@ -20,33 +23,45 @@ use Rattle.conn_store.proofs.Tables.{kinds_are}
 use Rattle.conn_store.specs.Stores.{same_kind}
 use Rattle.hsearch.proofs.Orders.{turned_pair}
 use Rattle.win_cert.specs.Cuts.{scoped}
-use Rattle.win_cert.specs.Entries.{Context, ScopedEntry, elements_at, entries_at, entry_at, is_end, middle_of, other_end}
+use Rattle.win_cert.specs.Entries.{Context, ScopedEntry, elements_at, entries_at, entry_at, is_end}
+use Rattle.win_cert.specs.Entries.{middle_of, other_end}
 use Rattle.win_cert.specs.Reasons.{holds_of_chain}
-use Rattle.win_cert.specs.declared.reasons.Reason.TheVariants.{BadReference, CarriersMeet, CommonCell, EndInCarrier, EndsDiffer, MiddleKind, NoCommonMiddle}
+use Rattle.win_cert.specs.declared.reasons.Reason.TheVariants.{BadReference, CarriersMeet}
+use Rattle.win_cert.specs.declared.reasons.Reason.TheVariants.{CommonCell, EndInCarrier, EndsDiffer}
+use Rattle.win_cert.specs.declared.reasons.Reason.TheVariants.{MiddleKind, NoCommonMiddle}
 use Rattle.win_cert.specs.RuleLines.{AreNamed, IsClear, JoinOverCell, JoinOverGroup}
 use Rattle.win_cert.specs.declared.statements.Statement.{Statement}
 use Rattle.win_cert.specs.declared.statements.Statement.TheVariants.{Derivation}
-use Rattle.win_cert.specs.Statements.{have_same_ends, is_cell_in, is_chain, is_or, kind_taken, may_take, share_cell}
+use Rattle.win_cert.specs.Statements.{have_same_ends, is_cell_in, is_chain, is_or, kind_taken}
+use Rattle.win_cert.specs.Statements.{may_take, share_cell}
 use Rattle.win_cert.specs.declared.lines.Line.TheVariants.{And, Key, Or2, Or3}
 use Rattle.win_cert.proofs.CutChains.{three_at, two_at}
-use Rattle.win_cert.proofs.CutSteps.{IsChainAt, IsWayAt, and_right, key_right, three_right, two_right}
-use Rattle.win_cert.proofs.Middles.{IsEndOf, is_cell, is_group, middle_ends, misses_by, other_first, other_second, second_then}
+use Rattle.win_cert.proofs.CutSteps.{IsChainAt, IsWayAt, and_right, key_right, three_right}
+use Rattle.win_cert.proofs.CutSteps.{two_right}
+use Rattle.win_cert.proofs.Middles.{IsEndOf, is_cell, is_group, middle_ends, misses_by, other_first}
+use Rattle.win_cert.proofs.Middles.{other_second, second_then}
 use Rattle.win_cert.proofs.NamedEntries.{none_applies}
 use Rattle.win_cert.proofs.ScopeBoards.{empty_small, scope_small}
 
 -- ---- the entries that are named
 
-two_there : (c : Context) (i j : ℕ) (a b : Entry) → map (entry_at c) (i ∷ j ∷ []) ≡ map (λ (v : Entry). Some (scoped c.scope v)) (a ∷ b ∷ [])
+two_there : (c : Context) (i j : ℕ) (a b : Entry)
+    → map (entry_at c) (i ∷ j ∷ []) ≡ map (λ (v : Entry). Some (scoped c.scope v)) (a ∷ b ∷ [])
     → (entry_at c i ≡ Some (scoped c.scope a)) × (entry_at c j ≡ Some (scoped c.scope b))
 two_there c i j a b h = (cc, cc)
 
-three_there : (c : Context) (i j k : ℕ) (a b d : Entry) → map (entry_at c) (i ∷ j ∷ k ∷ []) ≡ map (λ (v : Entry). Some (scoped c.scope v)) (a ∷ b ∷ d ∷ [])
-    → (entry_at c i ≡ Some (scoped c.scope a)) × (entry_at c j ≡ Some (scoped c.scope b)) × (entry_at c k ≡ Some (scoped c.scope d))
+three_there : (c : Context) (i j k : ℕ) (a b d : Entry)
+    → map (entry_at c) (i ∷ j ∷ k ∷ []) ≡ map (λ (v : Entry). Some (scoped c.scope v))
+    (a ∷ b ∷ d ∷ [])
+    → (entry_at c i ≡ Some (scoped c.scope a)) × (entry_at c j ≡ Some (scoped c.scope b))
+    × (entry_at c k ≡ Some (scoped c.scope d))
 three_there c i j k a b d h = (cc, cc, cc)
 
-taken_kind : (s : Statement) (a : Entry) (scope : ℕ) (o : Option ScopedEntry) → o ≡ Some (scoped scope a) → may_take s o ≡ true → a.kind ≡ kind_taken s
+taken_kind : (s : Statement) (a : Entry) (scope : ℕ) (o : Option ScopedEntry)
+    → o ≡ Some (scoped scope a) → may_take s o ≡ true → a.kind ≡ kind_taken s
 taken_kind s a scope o e h =
-    kinds_are a.kind (kind_taken s) (and_parts (same_kind a.kind (kind_taken s)) (not ((is_chain s || is_or s) && a.x == a.y)) (ap (may_take s) (sym e) ∙ h)).0
+    kinds_are a.kind (kind_taken s)
+    (and_parts (same_kind a.kind (kind_taken s)) (not ((is_chain s || is_or s) && a.x == a.y)) (ap (may_take s) (sym e) ∙ h)).0
 
 one_taken : (p : Bool) → not (p && true) ≡ false → p ≡ true
 one_taken true h = refl
@@ -57,7 +72,8 @@ two_taken true true h = (refl, refl)
 two_taken true false h = absurd (true≢false h)
 two_taken false q h = absurd (true≢false h)
 
-three_taken : (p q r : Bool) → not (p && (q && (r && true))) ≡ false → (p ≡ true) × (q ≡ true) × (r ≡ true)
+three_taken : (p q r : Bool) → not (p && (q && (r && true))) ≡ false → (p ≡ true) × (q ≡ true)
+    × (r ≡ true)
 three_taken true true true h = (refl, refl, refl)
 three_taken true true false h = absurd (true≢false h)
 three_taken true false r h = absurd (true≢false h)
@@ -65,7 +81,8 @@ three_taken false q r h = absurd (true≢false h)
 
 -- ---- the middle of two entries
 
-picked : (p q : Bool) (v w u : ℕ) → (if p then (if q then None else Some v) else (if q then Some w else None)) ≡ Some u
+picked : (p q : Bool) (v w u : ℕ)
+    → (if p then (if q then None else Some v) else (if q then Some w else None)) ≡ Some u
     → ((p ≡ true) × (q ≡ false) × (v ≡ u)) ⊎ ((p ≡ false) × (q ≡ true) × (w ≡ u))
 picked true true v w u h = absurd (cc)
 picked true false v w u h = inl (refl, refl, cc)
@@ -75,18 +92,23 @@ picked false false v w u h = absurd (cc)
 -- an entry's other end is one of its elements
 other_in : (b : ScopedEntry) (u : ℕ) → is_end b (other_end b u) ≡ true
 other_in b u = elim (cases_eq b.x u) [
-  | inl q ↦ ap (is_end b) (other_second b u q) ∙ or_right (b.x == b.y) (b.y == b.y) (eq-eqb b.y b.y refl)
-  | inr n ↦ ap (is_end b) (other_first b u n) ∙ or_left (b.x == b.x) (b.y == b.x) (eq-eqb b.x b.x refl)
+  | inl q ↦ ap (is_end b) (other_second b u q)
+      ∙ or_right (b.x == b.y) (b.y == b.y) (eq-eqb b.y b.y refl)
+  | inr n ↦ ap (is_end b) (other_first b u n)
+      ∙ or_left (b.x == b.x) (b.y == b.x) (eq-eqb b.x b.x refl)
 ]
 
 not_low : (x y u : ℕ) → x < y → y ≡ u → x ≡ u → ⊥
 not_low x y u l q e = absurd (omega arith)
 
 -- two entries that share one element alone have two other ends
-others_differ : (a b : ScopedEntry) (u : ℕ) → a.x < a.y → middle_of a b ≡ Some u → other_end a u ≡ other_end b u → ⊥
+others_differ : (a b : ScopedEntry) (u : ℕ) → a.x < a.y → middle_of a b ≡ Some u
+    → other_end a u ≡ other_end b u → ⊥
 others_differ a b u l h e = elim (picked (is_end b a.x) (is_end b a.y) a.x a.y u h) [
-  | inl p ↦ both_ways (is_end b a.y) p.1 (ap (is_end b) (sym (other_second a u p.2) ∙ e) ∙ other_in b u)
-  | inr p ↦ both_ways (is_end b a.x) p.0 (ap (is_end b) (sym (other_first a u (not_low a.x a.y u l p.2)) ∙ e) ∙ other_in b u)
+  | inl p ↦ both_ways (is_end b a.y) p.1
+      (ap (is_end b) (sym (other_second a u p.2) ∙ e) ∙ other_in b u)
+  | inr p ↦ both_ways (is_end b a.x) p.0
+      (ap (is_end b) (sym (other_first a u (not_low a.x a.y u l p.2)) ∙ e) ∙ other_in b u)
 ]
 
 pair_second : (a : Entry) (u v : ℕ) → a.x < a.y → a.x ≡ u → v ≡ a.y → IsBetween a v u
@@ -95,13 +117,17 @@ pair_second a u v l q e = (omega arith, omega arith)
 pair_first : (a : Entry) (u v : ℕ) → a.x < a.y → a.y ≡ u → v ≡ a.x → IsBetween a v u
 pair_first a u v l q e = (omega arith, omega arith)
 
-pair_with : (a : Entry) (s u : ℕ) → a.x < a.y → IsEndOf (scoped s a) u → IsBetween a (other_end (scoped s a) u) u
+pair_with : (a : Entry) (s u : ℕ) → a.x < a.y → IsEndOf (scoped s a) u
+    → IsBetween a (other_end (scoped s a) u) u
 pair_with a s u l h = elim (cases_eq a.x u) [
   | inl q ↦ pair_second a u (other_end (scoped s a) u) l q (other_second (scoped s a) u q)
-  | inr n ↦ pair_first a u (other_end (scoped s a) u) l (second_then (scoped s a) u h n) (other_first (scoped s a) u n)
+  | inr n ↦ pair_first a u (other_end (scoped s a) u) l (second_then (scoped s a) u h n)
+      (other_first (scoped s a) u n)
 ]
 
-chain_of : (a b : Entry) (s u : ℕ) → a.x < a.y → b.x < b.y → middle_of (scoped s a) (scoped s b) ≡ Some u → IsChain a b (other_end (scoped s a) u) u (other_end (scoped s b) u)
+chain_of : (a b : Entry) (s u : ℕ) → a.x < a.y → b.x < b.y
+    → middle_of (scoped s a) (scoped s b) ≡ Some u
+    → IsChain a b (other_end (scoped s a) u) u (other_end (scoped s b) u)
 chain_of a b s u l m h =
     let t = middle_ends (scoped s a) (scoped s b) u h in
     record {
@@ -113,17 +139,24 @@ chain_of a b s u l m h =
 -- ---- carriers
 
 -- of entries with cells of a board, no cell is in all carriers
-none_in_all : (entries : List ScopedEntry) → ((k : ℕ) → list_all (λ (v : ScopedEntry). has v.carrier k) entries ≡ true → k < 121) → share_cell entries ≡ false
+none_in_all : (entries : List ScopedEntry)
+    → ((k : ℕ) → list_all (λ (v : ScopedEntry). has v.carrier k) entries ≡ true → k < 121)
+    → share_cell entries ≡ false
     → (k : ℕ) → list_all (λ (v : ScopedEntry). has v.carrier k) entries ≡ false
-none_in_all entries l f k = false_from_ne_true (list_all (λ (v : ScopedEntry). has v.carrier k) entries) (λ t. both_ways (share_cell entries) f
+none_in_all entries l f k
+    = false_from_ne_true (list_all (λ (v : ScopedEntry). has v.carrier k) entries)
+    (λ t. both_ways (share_cell entries) f
     (any_in (λ j. list_all (λ (v : ScopedEntry). has v.carrier j) entries) 0 121 k (omega arith) (omega (arith, l k t)) t))
 
-cell_small : (c : Context) (a : Entry) → c.base.board.size ≤ 11 → IsValid (elements_at c) a → (k : ℕ) → has a.carrier k ≡ true → k < 121
-cell_small c a m v k h = empty_small (elements_at c) a.carrier (scope_small c.base c.scope m) v.empty k h
+cell_small : (c : Context) (a : Entry) → c.base.board.size ≤ 11 → IsValid (elements_at c) a
+    → (k : ℕ) → has a.carrier k ≡ true → k < 121
+cell_small c a m v k h
+    = empty_small (elements_at c) a.carrier (scope_small c.base c.scope m) v.empty k h
 
 -- ---- `and` and `key`
 
-some_middle : (o : Option ℕ) → not (option_map_or (λ u. true) o false) ≡ false → (u : ℕ) × (o ≡ Some u)
+some_middle : (o : Option ℕ) → not (option_map_or (λ u. true) o false) ≡ false
+    → (u : ℕ) × (o ≡ Some u)
 some_middle None h = absurd (true≢false h)
 some_middle (Some u) h = (u, refl)
 
@@ -136,20 +169,26 @@ abbrev ends_meet : PlayerBoard → ScopedEntry → ScopedEntry → ℕ → Bool
 ends_meet e v w z = is_cell_in e (other_end v z) w.carrier || is_cell_in e (other_end w z) v.carrier
 
 -- a test of two entries and their middle
-at_middle : (test : ScopedEntry → ScopedEntry → ℕ → Bool) (c : Context) (i j u : ℕ) (v w : ScopedEntry) → entries_at c (i ∷ j ∷ []) ≡ v ∷ w ∷ [] → middle_of v w ≡ Some u
+at_middle : (test : ScopedEntry → ScopedEntry → ℕ → Bool) (c : Context) (i j u : ℕ)
+    (v w : ScopedEntry) → entries_at c (i ∷ j ∷ []) ≡ v ∷ w ∷ [] → middle_of v w ≡ Some u
     → holds_of_chain test (entries_at c (i ∷ j ∷ [])) ≡ test v w u
-at_middle test c i j u v w pair is = ap (holds_of_chain test) pair ∙ ap (λ o. option_map_or (test v w) o false) is
+at_middle test c i j u v w pair is = ap (holds_of_chain test) pair
+    ∙ ap (λ o. option_map_or (test v w) o false) is
 
 -- what both lines ask
 record IsChainLine (c : Context) (i j : ℕ) (a b : Entry) : Type 0 where
   pub pair : entries_at c (i ∷ j ∷ []) ≡ scoped c.scope a ∷ scoped c.scope b ∷ []
   pub middle : ℕ
   pub is : middle_of (scoped c.scope a) (scoped c.scope b) ≡ Some middle
-  pub rule : AndRule (elements_at c) a b (other_end (scoped c.scope a) middle) middle (other_end (scoped c.scope b) middle)
+  pub rule : AndRule (elements_at c) a b (other_end (scoped c.scope a) middle) middle
+      (other_end (scoped c.scope b) middle)
 
-chain_line : (c : Context) (i j : ℕ) (a b : Entry) → AreNamed c (i ∷ j ∷ []) (a ∷ b ∷ []) → a.kind ≡ Full → b.kind ≡ Full
-    → not (holds_of_chain (λ v w z. true) (entries_at c (i ∷ j ∷ []))) ≡ false → share_cell (entries_at c (i ∷ j ∷ [])) ≡ false
-    → holds_of_chain (ends_meet (elements_at c)) (entries_at c (i ∷ j ∷ [])) ≡ false → IsChainLine c i j a b
+chain_line : (c : Context) (i j : ℕ) (a b : Entry) → AreNamed c (i ∷ j ∷ []) (a ∷ b ∷ [])
+    → a.kind ≡ Full → b.kind ≡ Full
+    → not (holds_of_chain (λ v w z. true) (entries_at c (i ∷ j ∷ []))) ≡ false
+    → share_cell (entries_at c (i ∷ j ∷ [])) ≡ false
+    → holds_of_chain (ends_meet (elements_at c)) (entries_at c (i ∷ j ∷ [])) ≡ false
+    → IsChainLine c i j a b
 chain_line c i j a b n ka kb hm hs he =
     let e = elements_at c in
     let v = scoped c.scope a in
@@ -158,9 +197,13 @@ chain_line c i j a b n ka kb hm hs he =
     let pair : entries_at c (i ∷ j ∷ []) ≡ v ∷ w ∷ [] = two_at c i j v w t.0 t.1 in
     let va = All-head (IsValid e) a (b ∷ []) n.valid in
     let vb = second_of (IsValid e) a b [] n.valid in
-    let m = some_middle (middle_of v w) (ap (λ z. not (holds_of_chain (λ v w z. true) z)) (sym pair) ∙ hm) in
-    let free = none_in_all (v ∷ w ∷ []) (λ k h. cell_small c a n.size va k (and_parts (has a.carrier k) (has b.carrier k && true) h).0) (ap share_cell (sym pair) ∙ hs) in
-    let ends = or_parts (is_cell_in e (other_end v m.0) b.carrier) (is_cell_in e (other_end w m.0) a.carrier) (sym (at_middle (ends_meet e) c i j m.0 v w pair m.1) ∙ he) in
+    let m = some_middle (middle_of v w)
+    (ap (λ z. not (holds_of_chain (λ v w z. true) z)) (sym pair) ∙ hm) in
+    let free = none_in_all (v ∷ w ∷ [])
+    (λ k h. cell_small c a n.size va k (and_parts (has a.carrier k) (has b.carrier k && true) h).0) (ap share_cell (sym pair) ∙ hs) in
+    let ends = or_parts (is_cell_in e (other_end v m.0) b.carrier)
+    (is_cell_in e (other_end w m.0) a.carrier)
+    (sym (at_middle (ends_meet e) c i j m.0 v w pair m.1) ∙ he) in
     record {
       pair = pair;
       middle = m.0;
@@ -175,7 +218,8 @@ chain_line c i j a b n ka kb hm hs he =
       };
     }
 
-chain_at : (c : Context) (i j : ℕ) (a b : Entry) (x u y : ℕ) → AreNamed c (i ∷ j ∷ []) (a ∷ b ∷ []) → AndRule (elements_at c) a b x u y → IsChainAt c i j a b x u y
+chain_at : (c : Context) (i j : ℕ) (a b : Entry) (x u y : ℕ) → AreNamed c (i ∷ j ∷ []) (a ∷ b ∷ [])
+    → AndRule (elements_at c) a b x u y → IsChainAt c i j a b x u y
 chain_at c i j a b x u y n r =
     let t = two_there c i j a b n.at in
     record {
@@ -186,46 +230,58 @@ chain_at c i j a b x u y n r =
       rule = r;
     }
 
-pub and_means : (c : Context) (i j : ℕ) (a b : Entry) → AreNamed c (i ∷ j ∷ []) (a ∷ b ∷ []) → IsClear c (And i j) → JoinOverGroup (elements_at c) a b
+pub and_means : (c : Context) (i j : ℕ) (a b : Entry) → AreNamed c (i ∷ j ∷ []) (a ∷ b ∷ [])
+    → IsClear c (And i j) → JoinOverGroup (elements_at c) a b
 and_means c i j a b n h =
     let e = elements_at c in
     let s = Derivation (And i j) in
     let f = none_applies c s h in
     let t = two_there c i j a b n.at in
     let k = two_taken (may_take s (entry_at c i)) (may_take s (entry_at c j)) (f BadReference) in
-    let w = chain_line c i j a b n (taken_kind s a c.scope (entry_at c i) t.0 k.0) (taken_kind s b c.scope (entry_at c j) t.1 k.1) (f NoCommonMiddle) (f CarriersMeet) (f EndInCarrier) in (
+    let w = chain_line c i j a b n (taken_kind s a c.scope (entry_at c i) t.0 k.0)
+    (taken_kind s b c.scope (entry_at c j) t.1 k.1) (f NoCommonMiddle) (f CarriersMeet)
+    (f EndInCarrier) in (
       other_end (scoped c.scope a) w.middle,
       w.middle,
       other_end (scoped c.scope b) w.middle,
       w.rule,
-      is_group e w.middle (sym (at_middle (λ v w z. is_some (cell_of e z)) c i j w.middle (scoped c.scope a) (scoped c.scope b) w.pair w.is) ∙ f MiddleKind),
+      is_group e w.middle
+          (sym (at_middle (λ v w z. is_some (cell_of e z)) c i j w.middle (scoped c.scope a) (scoped c.scope b) w.pair w.is) ∙ f MiddleKind),
     )
 
-pub and_clear : (c : Context) (i j : ℕ) (a b : Entry) → AreNamed c (i ∷ j ∷ []) (a ∷ b ∷ []) → JoinOverGroup (elements_at c) a b → IsClear c (And i j)
+pub and_clear : (c : Context) (i j : ℕ) (a b : Entry) → AreNamed c (i ∷ j ∷ []) (a ∷ b ∷ [])
+    → JoinOverGroup (elements_at c) a b → IsClear c (And i j)
 and_clear c i j a b n (x, u, y, r, g) =
     (and_right c i j a b (record { kind = Full; x = min x y; y = max x y; carrier = both_of a b; cause = Adjacent }) x u y (chain_at c i j a b x u y n r) g (refl, refl) refl refl).1
 
-pub key_means : (c : Context) (i j : ℕ) (a b : Entry) → AreNamed c (i ∷ j ∷ []) (a ∷ b ∷ []) → IsClear c (Key i j) → JoinOverCell (elements_at c) a b
+pub key_means : (c : Context) (i j : ℕ) (a b : Entry) → AreNamed c (i ∷ j ∷ []) (a ∷ b ∷ [])
+    → IsClear c (Key i j) → JoinOverCell (elements_at c) a b
 key_means c i j a b n h =
     let e = elements_at c in
     let s = Derivation (Key i j) in
     let f = none_applies c s h in
     let t = two_there c i j a b n.at in
     let k = two_taken (may_take s (entry_at c i)) (may_take s (entry_at c j)) (f BadReference) in
-    let w = chain_line c i j a b n (taken_kind s a c.scope (entry_at c i) t.0 k.0) (taken_kind s b c.scope (entry_at c j) t.1 k.1) (f NoCommonMiddle) (f CarriersMeet) (f EndInCarrier) in
-    let q = some_cell (cell_of e w.middle) (sym (at_middle (λ v w z. is_none (cell_of e z)) c i j w.middle (scoped c.scope a) (scoped c.scope b) w.pair w.is) ∙ f MiddleKind) in
+    let w = chain_line c i j a b n (taken_kind s a c.scope (entry_at c i) t.0 k.0)
+    (taken_kind s b c.scope (entry_at c j) t.1 k.1) (f NoCommonMiddle) (f CarriersMeet)
+    (f EndInCarrier) in
+    let q = some_cell (cell_of e w.middle)
+    (sym (at_middle (λ v w z. is_none (cell_of e z)) c i j w.middle (scoped c.scope a) (scoped c.scope b) w.pair w.is) ∙ f MiddleKind) in
     (other_end (scoped c.scope a) w.middle, w.middle, other_end (scoped c.scope b) w.middle, q.0, w.rule, is_cell e w.middle q.0 q.1)
 
-pub key_clear : (c : Context) (i j : ℕ) (a b : Entry) → AreNamed c (i ∷ j ∷ []) (a ∷ b ∷ []) → JoinOverCell (elements_at c) a b → IsClear c (Key i j)
+pub key_clear : (c : Context) (i j : ℕ) (a b : Entry) → AreNamed c (i ∷ j ∷ []) (a ∷ b ∷ [])
+    → JoinOverCell (elements_at c) a b → IsClear c (Key i j)
 key_clear c i j a b n (x, u, y, k, r, g) =
     (key_right c i j a b (record { kind = Semi; x = min x y; y = max x y; carrier = with_cell (both_of a b) k; cause = Adjacent }) x u y k (chain_at c i j a b x u y n r) g (refl, refl) refl refl).1
 
 -- ---- `or`
 
 same_pair : (a b : Entry) → (a.x == b.x && a.y == b.y) ≡ true → (a.x ≡ b.x) × (a.y ≡ b.y)
-same_pair a b h = let t = and_parts (a.x == b.x) (a.y == b.y) h in (eqb-true a.x b.x t.0, eqb-true a.y b.y t.1)
+same_pair a b h = let t = and_parts (a.x == b.x) (a.y == b.y) h in
+    (eqb-true a.x b.x t.0, eqb-true a.y b.y t.1)
 
-pub two_means : (c : Context) (i j : ℕ) (a b : Entry) → AreNamed c (i ∷ j ∷ []) (a ∷ b ∷ []) → IsClear c (Or2 i j) → OrRule (a ∷ b ∷ []) a.x a.y
+pub two_means : (c : Context) (i j : ℕ) (a b : Entry) → AreNamed c (i ∷ j ∷ []) (a ∷ b ∷ [])
+    → IsClear c (Or2 i j) → OrRule (a ∷ b ∷ []) a.x a.y
 two_means c i j a b n h =
     let v = scoped c.scope a in
     let w = scoped c.scope b in
@@ -235,16 +291,21 @@ two_means c i j a b n h =
     let pair : entries_at c (i ∷ j ∷ []) ≡ v ∷ w ∷ [] = two_at c i j v w t.0 t.1 in
     let va = All-head (IsValid (elements_at c)) a (b ∷ []) n.valid in
     let k = two_taken (may_take s (entry_at c i)) (may_take s (entry_at c j)) (f BadReference) in
-    let q = same_pair a b (one_taken (a.x == b.x && a.y == b.y) (ap (λ z. not (have_same_ends z)) (sym pair) ∙ f EndsDiffer)) in
-    let free = none_in_all (v ∷ w ∷ []) (λ k g. cell_small c a n.size va k (and_parts (has a.carrier k) (has b.carrier k && true) g).0) (ap share_cell (sym pair) ∙ f CommonCell) in
-    two_ways a b va.order (taken_kind s a c.scope (entry_at c i) t.0 k.0, taken_kind s b c.scope (entry_at c j) t.1 k.1, q.0, q.1)
+    let q = same_pair a b
+    (one_taken (a.x == b.x && a.y == b.y) (ap (λ z. not (have_same_ends z)) (sym pair) ∙ f EndsDiffer)) in
+    let free = none_in_all (v ∷ w ∷ [])
+    (λ k g. cell_small c a n.size va k (and_parts (has a.carrier k) (has b.carrier k && true) g).0) (ap share_cell (sym pair) ∙ f CommonCell) in
+    two_ways a b va.order
+    (taken_kind s a c.scope (entry_at c i) t.0 k.0, taken_kind s b c.scope (entry_at c j) t.1 k.1, q.0, q.1)
     (λ k g l. both_not (has a.carrier k) (has b.carrier k) (free k) g l)
 
-way_at : (c : Context) (i : ℕ) (a : Entry) (x y carrier : ℕ) → entry_at c i ≡ Some (scoped c.scope a) → a.kind ≡ Semi → x < y → IsBetween a x y
+way_at : (c : Context) (i : ℕ) (a : Entry) (x y carrier : ℕ)
+    → entry_at c i ≡ Some (scoped c.scope a) → a.kind ≡ Semi → x < y → IsBetween a x y
     → IsWayAt c i a (record { kind = Full; x = x; y = y; carrier = carrier; cause = Adjacent })
 way_at c i a x y carrier t k l p = record { at = t; kind_is = k; order = l; pair = p }
 
-pub two_clear : (c : Context) (i j : ℕ) (a b : Entry) → AreNamed c (i ∷ j ∷ []) (a ∷ b ∷ []) → OrRule (a ∷ b ∷ []) a.x a.y → IsClear c (Or2 i j)
+pub two_clear : (c : Context) (i j : ℕ) (a b : Entry) → AreNamed c (i ∷ j ∷ []) (a ∷ b ∷ [])
+    → OrRule (a ∷ b ∷ []) a.x a.y → IsClear c (Or2 i j)
 two_clear c i j a b n r =
     let t = two_there c i j a b n.at in
     let l = (All-head (IsValid (elements_at c)) a (b ∷ []) n.valid).order in
@@ -254,7 +315,9 @@ two_clear c i j a b n r =
     (way_at c j b a.x a.y m t.1 (second_of (λ (z : Entry). z.kind ≡ Semi) a b [] r.kinds) l (second_of (λ (z : Entry). IsBetween z a.x a.y) a b [] r.pairs))
     r.free refl refl).1
 
-pub three_means : (c : Context) (i j k : ℕ) (a b d : Entry) → AreNamed c (i ∷ j ∷ k ∷ []) (a ∷ b ∷ d ∷ []) → IsClear c (Or3 i j k) → OrRule (a ∷ b ∷ d ∷ []) a.x a.y
+pub three_means : (c : Context) (i j k : ℕ) (a b d : Entry)
+    → AreNamed c (i ∷ j ∷ k ∷ []) (a ∷ b ∷ d ∷ []) → IsClear c (Or3 i j k)
+    → OrRule (a ∷ b ∷ d ∷ []) a.x a.y
 three_means c i j k a b d n h =
     let v = scoped c.scope a in
     let w = scoped c.scope b in
@@ -264,16 +327,22 @@ three_means c i j k a b d n h =
     let t = three_there c i j k a b d n.at in
     let all : entries_at c (i ∷ j ∷ k ∷ []) ≡ v ∷ w ∷ u ∷ [] = three_at c i j k v w u t.0 t.1 t.2 in
     let va = All-head (IsValid (elements_at c)) a (b ∷ d ∷ []) n.valid in
-    let p = three_taken (may_take s (entry_at c i)) (may_take s (entry_at c j)) (may_take s (entry_at c k)) (f BadReference) in
-    let q = two_taken (a.x == b.x && a.y == b.y) (a.x == d.x && a.y == d.y) (ap (λ z. not (have_same_ends z)) (sym all) ∙ f EndsDiffer) in
+    let p = three_taken (may_take s (entry_at c i)) (may_take s (entry_at c j))
+    (may_take s (entry_at c k)) (f BadReference) in
+    let q = two_taken (a.x == b.x && a.y == b.y) (a.x == d.x && a.y == d.y)
+    (ap (λ z. not (have_same_ends z)) (sym all) ∙ f EndsDiffer) in
     let one = same_pair a b q.0 in
     let two = same_pair a d q.1 in
-    let free = none_in_all (v ∷ w ∷ u ∷ []) (λ z g. cell_small c a n.size va z (and_parts (has a.carrier z) (has b.carrier z && (has d.carrier z && true)) g).0) (ap share_cell (sym all) ∙ f CommonCell) in
+    let free = none_in_all (v ∷ w ∷ u ∷ [])
+    (λ z g. cell_small c a n.size va z (and_parts (has a.carrier z) (has b.carrier z && (has d.carrier z && true)) g).0) (ap share_cell (sym all) ∙ f CommonCell) in
     let ka = taken_kind s a c.scope (entry_at c i) t.0 p.0 in
-    three_ways a b d va.order (ka, taken_kind s b c.scope (entry_at c j) t.1 p.1, one.0, one.1) (ka, taken_kind s d c.scope (entry_at c k) t.2 p.2, two.0, two.1)
+    three_ways a b d va.order (ka, taken_kind s b c.scope (entry_at c j) t.1 p.1, one.0, one.1)
+    (ka, taken_kind s d c.scope (entry_at c k) t.2 p.2, two.0, two.1)
     (λ z g l m. all_not (has a.carrier z) (has b.carrier z) (has d.carrier z) (free z) g l m)
 
-pub three_clear : (c : Context) (i j k : ℕ) (a b d : Entry) → AreNamed c (i ∷ j ∷ k ∷ []) (a ∷ b ∷ d ∷ []) → OrRule (a ∷ b ∷ d ∷ []) a.x a.y → IsClear c (Or3 i j k)
+pub three_clear : (c : Context) (i j k : ℕ) (a b d : Entry)
+    → AreNamed c (i ∷ j ∷ k ∷ []) (a ∷ b ∷ d ∷ []) → OrRule (a ∷ b ∷ d ∷ []) a.x a.y
+    → IsClear c (Or3 i j k)
 three_clear c i j k a b d n r =
     let t = three_there c i j k a b d n.at in
     let l = (All-head (IsValid (elements_at c)) a (b ∷ d ∷ []) n.valid).order in

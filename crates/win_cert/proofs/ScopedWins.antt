@@ -15,8 +15,10 @@ use Rattle.win_cert.proofs.ScopeBoards.{scope_size}
 use Rattle.win_cert.specs.Showing.{IsReached}
 
 -- the opponent may have stones there, anywhere outside the carrier
-pub scoped_wins : (base : PlayerBoard) (p : Position) (s c : ℕ) (kind : Kind) → IsReached base p s → AllEmpty p c
-    → IsSure kind (StonesLink (elements_in base s) (edge_element (elements_in base s) false) (edge_element (elements_in base s) true)) (stones_of (elements_in base s).board base.player) c
+pub scoped_wins : (base : PlayerBoard) (p : Position) (s c : ℕ) (kind : Kind) → IsReached base p s
+    → AllEmpty p c
+    → IsSure kind
+    (StonesLink (elements_in base s) (edge_element (elements_in base s) false) (edge_element (elements_in base s) true)) (stones_of (elements_in base s).board base.player) c
     → Wins base.player p (mover_of kind base.player)
 scoped_wins base p s c kind r f g =
     let e = elements_in base s in

@@ -1,24 +1,21 @@
 -- The parts of a list that is cut at elements.
 use Rattle.win_cert.specs.Words.{is_space_byte, words_in}
-use Rattle.std.proofs.Common.{IsTrue, not, ◌≡◌, ◌≢◌, ℕ, ◌+◌, ◌<◌, ◌≤◌, Bool, true, false, cond, ltb, List, [], ◌∷◌, length, take, drop, ◌-◌, Some, None, refl, ap, sym, ◌∙◌, subst, arith}
+use Rattle.std.proofs.Common.{IsTrue, not, ◌≡◌, ◌≢◌, ℕ, ◌+◌, ◌<◌, ◌≤◌, Bool, true, false, cond, ltb}
+use Rattle.std.proofs.Common.{List, [], ◌∷◌, length, take, drop, ◌-◌, Some, None, refl, ap, sym}
+use Rattle.std.proofs.Common.{◌∙◌, subst, arith}
 use Rattle.std.specs.List.{position, position_or_len, slice_split}
+use Rattle.std.proofs.lemmas.Bool.{false_from_ne_true}
 use Rattle.std.proofs.lemmas.Bool.Decides.{nat_tests}
-use Rattle.std.proofs.lemmas.List.{length-drop, take_all}
+use Rattle.std.proofs.lemmas.Option.{cond_some, none-some}
 use Rattle.std.proofs.lemmas.List.Splits.{length-slice_split, slice_split_first, slice_split_none}
 use Rattle.std.proofs.lemmas.List.Sums.{fails_before_first}
 
-none_if : (b : Bool) (i : ℕ) → cond b (Some i) None ≡ None → b ≡ false
-none_if true i e = cc
-none_if false i e = refl
-
-some_if : (b : Bool) (i k : ℕ) → cond b (Some i) None ≡ Some k → (b ≡ true) × (i ≡ k)
-some_if true i k e = (refl, cc)
-some_if false i k e = cc
-
--- where no element passes, the list is the one part
+-- if no element passes, the list is the one part
 pub split_whole : (p : ℕ → Bool) (xs : List ℕ) → position p xs ≡ None → slice_split p xs ≡ xs ∷ []
 split_whole p xs e =
-    let far = none_if (ltb (position_or_len p xs) (length xs)) (position_or_len p xs) e in
+    let far = false_from_ne_true (ltb (position_or_len p xs) (length xs)) (λ t.
+    none-some (position_or_len p xs)
+    (sym e ∙ ap (λ b. cond b (Some (position_or_len p xs)) None) t)) in
     let past : length xs ≤ position_or_len p xs = grind (arith, nat_tests) in
     slice_split_none p xs (λ k d l. fails_before_first p xs k d (omega arith))
 
@@ -26,7 +23,7 @@ split_whole p xs e =
 pub split_first : (p : ℕ → Bool) (xs : List ℕ) (i : ℕ) → position p xs ≡ Some i
     → slice_split p xs ≡ take i xs ∷ slice_split p (drop (i + 1) xs)
 split_first p xs i e =
-    let found = some_if (ltb (position_or_len p xs) (length xs)) (position_or_len p xs) i e in
+    let found = cond_some (ltb (position_or_len p xs) (length xs)) (position_or_len p xs) i e in
     let within : position_or_len p xs < length xs = grind (arith, nat_tests) in
     subst (λ j. slice_split p xs ≡ take j xs ∷ slice_split p (drop (j + 1) xs)) found.1
     (slice_split_first p xs 0 within)
@@ -35,12 +32,8 @@ split_first p xs i e =
 pub split_some : (p : ℕ → Bool) (xs : List ℕ) → slice_split p xs ≢ []
 split_some p xs e = let n = length-slice_split p xs in let z = ap length e in omega (arith, n, z)
 
--- no word is left exactly where there are no more
+-- no word is left exactly if there are no more
 pub done_where : (more : Bool) (rest : List ℕ) (words : List (List ℕ)) → words_in more rest ≡ words
     → (IsTrue (not more) → words ≡ []) × (words ≡ [] → IsTrue (not more))
 done_where true rest words v = (λ t. cc, λ e. absurd (split_some is_space_byte rest (v ∙ e)))
 done_where false rest words v = (λ t. sym v, λ e. refl)
-
--- all that stands from place i on
-pub rest_from : (xs : List ℕ) (i : ℕ) → take (length xs - i) (drop i xs) ≡ drop i xs
-rest_from xs i = let n = length-drop i xs in take_all (length xs - i) (drop i xs) (omega (arith, n))

@@ -1,5 +1,7 @@
 -- One step after others.
-use Rattle.std.proofs.Common.{◌≡◌, ◌≢◌, ℕ, suc, cond, List, [], ◌∷◌, ◌++◌, length, Option, Some, None, Result, Ok, Err, refl, ap, sym, ◌∙◌, length-append, subst, arith}
+use Rattle.std.proofs.Common.{◌≡◌, ◌≢◌, ℕ, suc, cond, List, [], ◌∷◌, ◌++◌, length, Option, Some}
+use Rattle.std.proofs.Common.{None, Result, Ok, Err, refl, ap, sym, ◌∙◌, length-append, subst}
+use Rattle.std.proofs.Common.{arith}
 use Rattle.std.specs.Option.{option_map}
 use Rattle.std.proofs.lemmas.Bool.{ne_eqb}
 use Rattle.std.proofs.lemmas.List.{append_assoc}
@@ -21,16 +23,20 @@ with_both old line (Err e) = refl
 abbrev pub Taken : Type 0
 Taken = Result (Statement × List (List (List ℕ))) CertError
 
-said : (v n k m : ℕ) (words next : List (List ℕ)) (lines rest : List (List (List ℕ))) (line : Line) (o : Option Statement)
+said : (v n k m : ℕ) (words next : List (List ℕ)) (lines rest : List (List (List ℕ))) (line : Line)
+    (o : Option Statement)
     → statement_named v n words ≡ o → k ≢ MOST_LINES
-    → ◌≡◌ {A = Taken} (Ok (Derivation line, rest)) (at_line m (option_map (λ a. (a, next ∷ lines)) o))
+    → ◌≡◌ {A = Taken} (Ok (Derivation line, rest))
+    (at_line m (option_map (λ a. (a, next ∷ lines)) o))
     → steps_in v n k (words ∷ next ∷ lines) ≡ with_lines (line ∷ []) (steps_in v n (suc k) rest)
 said v n k m words next lines rest line None is few e = cc
 said v n k m words next lines rest line (Some s) is few e =
-    let pair : ◌≡◌ {A = Statement × List (List (List ℕ))} (Derivation line, rest) (s, next ∷ lines) = cc in
+    let pair : ◌≡◌ {A = Statement × List (List (List ℕ))} (Derivation line, rest)
+    (s, next ∷ lines) = cc in
     let first : Derivation line ≡ s = ap (λ p. p.0) pair in
     let others : rest ≡ next ∷ lines = ap (λ p. p.1) pair in
-    ap (λ o. steps_after k o (next ∷ lines) (steps_in v n (suc k) (next ∷ lines))) (is ∙ ap Some (sym first))
+    ap (λ o. steps_after k o (next ∷ lines) (steps_in v n (suc k) (next ∷ lines)))
+    (is ∙ ap Some (sym first))
     ∙ ap (λ b. cond b (Err TooManyLines) (with_lines (line ∷ []) (steps_in v n (suc k) (next ∷ lines)))) (ne_eqb k MOST_LINES few)
     ∙ ap (λ rest. with_lines (line ∷ []) (steps_in v n (suc k) rest)) (sym others)
 
@@ -47,15 +53,18 @@ line_first v n k m (words ∷ next ∷ lines) rest line few e =
 pub line_added : (v n m : ℕ) (old new : List Line) (lines rest : List (List (List ℕ))) (line : Line)
     → length old ≢ MOST_LINES → new ≡ old ++ line ∷ []
     → ◌≡◌ {A = Taken} (Ok (Derivation line, rest)) (at_line m (line_in (statement_named v n) lines))
-    → with_lines old (steps_in v n (length old) lines) ≡ with_lines new (steps_in v n (length new) rest)
+    → with_lines old (steps_in v n (length old) lines) ≡ with_lines new
+    (steps_in v n (length new) rest)
 line_added v n m old new lines rest line few e first =
-    let long : suc (length old) ≡ length new = sym (ap length e ∙ length-append old (line ∷ []) ∙ omega arith) in
+    let long : suc (length old) ≡ length new
+    = sym (ap length e ∙ length-append old (line ∷ []) ∙ omega arith) in
     ap (with_lines old) (line_first v n (length old) m lines rest line few first)
     ∙ with_both old line (steps_in v n (suc (length old)) rest)
     ∙ ap (λ ls. with_lines ls (steps_in v n (suc (length old)) rest)) (sym e)
     ∙ ap (λ k. with_lines new (steps_in v n k rest)) long
 
 -- the same step, as the line that it is
-pub step_is : (s : Statement) (line : Line) (rest : List (List (List ℕ))) (said : Taken) → s ≡ Derivation line
+pub step_is : (s : Statement) (line : Line) (rest : List (List (List ℕ))) (said : Taken)
+    → s ≡ Derivation line
     → ◌≡◌ {A = Taken} (Ok (s, rest)) said → ◌≡◌ {A = Taken} (Ok (Derivation line, rest)) said
 step_is s line rest said is e = subst (λ s. ◌≡◌ {A = Taken} (Ok (s, rest)) said) is e

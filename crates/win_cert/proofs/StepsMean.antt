@@ -1,5 +1,7 @@
 -- The steps of a text are in its words.
-use Rattle.std.proofs.Common.{◌≡◌, ◌≢◌, ℕ, ◌+◌, ◌≤◌, eqb, suc, Bool, true, false, cond, List, [], ◌∷◌, ◌++◌, length, map, Option, Some, None, Result, Ok, Err, refl, ap, subst, arith}
+use Rattle.std.proofs.Common.{◌≡◌, ◌≢◌, ℕ, ◌+◌, ◌≤◌, eqb, suc, Bool, true, false, cond, List, []}
+use Rattle.std.proofs.Common.{◌∷◌, ◌++◌, length, map, Option, Some, None, Result, Ok, Err, refl, ap}
+use Rattle.std.proofs.Common.{subst, arith}
 use Rattle.std.specs.Fmt.{decimal}
 use Rattle.std.specs.List.{All}
 use Rattle.std.proofs.lemmas.Bool.Decides.{Decides-eqb, not_from_Decides}
@@ -39,22 +41,26 @@ pub record AreSteps (v n k : ℕ) (lines : TextLines) (s : Steps) : Type 0 where
   pub entry : s.1.1 ≤ MOST_NUMBER
   pub few : k + length s.0 ≤ MOST_LINES
 
-ok_of_if : {A : Type 0} (b : Bool) (d : CertError) (r : Result A CertError) (y : A) → cond b (Err d) r ≡ Ok y → (b ≡ false) × (r ≡ Ok y)
+ok_of_if : {A : Type 0} (b : Bool) (d : CertError) (r : Result A CertError) (y : A)
+    → cond b (Err d) r ≡ Ok y → (b ≡ false) × (r ≡ Ok y)
 ok_of_if true d r y e = cc
 ok_of_if false d r y e = (refl, e)
 
-ok_where : {A : Type 0} (b : Bool) (d : CertError) (x y : A) → cond b (Ok x) (Err d) ≡ Ok y → (b ≡ true) × (x ≡ y)
+ok_where : {A : Type 0} (b : Bool) (d : CertError) (x y : A) → cond b (Ok x) (Err d) ≡ Ok y
+    → (b ≡ true) × (x ≡ y)
 ok_where true d x y e = (refl, cc)
 ok_where false d x y e = cc
 
-one_step : (v n k : ℕ) (words : Words) (rest : TextLines) (later : Result Steps CertError) (o : Option Statement) (s : Steps)
+one_step : (v n k : ℕ) (words : Words) (rest : TextLines) (later : Result Steps CertError)
+    (o : Option Statement) (s : Steps)
     → statement_named v n words ≡ o → k ≤ MOST_LINES
     → ((t : Steps) → later ≡ Ok t → suc k ≤ MOST_LINES → AreSteps v n (suc k) rest t)
     → steps_after k o rest later ≡ Ok s → AreSteps v n k (words ∷ rest) s
 one_step v n k words rest later None s said few others e = cc
 one_step v n k words rest later (Some (Derivation line)) s said few others e =
     let room = ok_of_if (eqb k MOST_LINES) TooManyLines (with_lines (line ∷ []) later) s e in
-    let below : k ≢ MOST_LINES = not_from_Decides (eqb k MOST_LINES) (Decides-eqb k MOST_LINES) room.0 in
+    let below : k ≢ MOST_LINES
+    = not_from_Decides (eqb k MOST_LINES) (Decides-eqb k MOST_LINES) room.0 in
     let t = bind_ok later _ s room.1 in
     let steps = others t.0 t.1 (omega (arith, below)) in
     let means = step_means v n words (Derivation line) said in
@@ -76,9 +82,11 @@ one_step v n k words rest later (Some (Claim kind i)) s said few others e =
     })
 
 -- steps that are read are good, and the lines are their own
-pub steps_mean : (v n k : ℕ) (lines : TextLines) (s : Steps) → k ≤ MOST_LINES → steps_in v n k lines ≡ Ok s → AreSteps v n k lines s
+pub steps_mean : (v n k : ℕ) (lines : TextLines) (s : Steps) → k ≤ MOST_LINES
+    → steps_in v n k lines ≡ Ok s → AreSteps v n k lines s
 steps_mean v n k [] s few e = cc
 steps_mean v n k (words ∷ []) s few e = cc
 steps_mean v n k (words ∷ next ∷ lines) s few e =
-    one_step v n k words (next ∷ lines) (steps_in v n (suc k) (next ∷ lines)) (statement_named v n words) s refl few
+    one_step v n k words (next ∷ lines) (steps_in v n (suc k) (next ∷ lines))
+    (statement_named v n words) s refl few
     (λ t f room. steps_mean v n (suc k) (next ∷ lines) t room f) e

@@ -8,13 +8,18 @@ use Rattle.hex_cells.specs.declared.colours.Colour.TheVariants.{Black}
 use Rattle.conn_store.specs.declared.entries.Kind.TheVariants.{Full, Semi}
 use Rattle.win_cert.specs.Reasons.{reason_against}
 use Rattle.win_cert.specs.declared.reasons.Reason.{Reason}
-use Rattle.win_cert.specs.declared.reasons.Reason.TheVariants.{BadReference, BadStone, CarriersMeet, CommonCell, EndInCarrier, EndsDiffer, MiddleKind, NoCommonMiddle, NotEdges, NotJoined, NotNeighbours, WrongColour, WrongScope}
+use Rattle.win_cert.specs.declared.reasons.Reason.TheVariants.{BadReference, BadStone, CarriersMeet}
+use Rattle.win_cert.specs.declared.reasons.Reason.TheVariants.{CommonCell, EndInCarrier, EndsDiffer}
+use Rattle.win_cert.specs.declared.reasons.Reason.TheVariants.{MiddleKind, NoCommonMiddle, NotEdges}
+use Rattle.win_cert.specs.declared.reasons.Reason.TheVariants.{NotJoined, NotNeighbours}
+use Rattle.win_cert.specs.declared.reasons.Reason.TheVariants.{WrongColour, WrongScope}
 use Rattle.win_cert.specs.Texts.{cert_text}
 use Rattle.win_cert.specs.Verdicts.{claimed_entry, reason_at}
 use Rattle.win_cert.specs.declared.certs.Cert.{Cert}
 use Rattle.win_cert.specs.declared.lines.End.TheVariants.{At, First, Second}
 use Rattle.win_cert.specs.declared.lines.Line.{Line}
-use Rattle.win_cert.specs.declared.lines.Line.TheVariants.{Adj, And, Key, Or2, Put, Done, Move, Cases}
+use Rattle.win_cert.specs.declared.lines.Line.TheVariants.{Adj, And, Key, Or2, Put, Done, Move}
+use Rattle.win_cert.specs.declared.lines.Line.TheVariants.{Cases}
 
 abbrev v1 : Cert
 v1 = record {
@@ -109,7 +114,8 @@ adj_apart_judged : IsRefusedAt (with_line v1 0 (Adj (At 0) (At 3))) 0 NotNeighbo
 unfolding has is_joined leads_in reason_against
 adj_apart_judged = refl
 
-adj_to_white_judged : IsRefusedAt (record v1 { board = record { size = 2; black = 0; white = 1 } }) 0 WrongColour
+adj_to_white_judged : IsRefusedAt
+    (record v1 { board = record { size = 2; black = 0; white = 1 } }) 0 WrongColour
 unfolding has is_joined leads_in reason_against
 adj_to_white_judged = refl
 

@@ -32,8 +32,8 @@ pub record IsBadAt (bytes : List ℕ) (line : ℕ) : Type 0 where
   pub few : ¬ (HasTooManyLines bytes)
   pub no_text : (cert : Cert) → HasBoard cert → IsWritable cert → ¬ (bytes ≡ cert_text cert)
 
--- what the bytes are read as: their certificate, or why there is none; want of memory may come at
--- any bytes
+-- what the bytes are read as: their certificate, or why there is none; memory may run out at any
+-- bytes
 abbrev pub IsParsedAs : List ℕ → Result Cert CertError → Type 0
 IsParsedAs bytes (Ok cert) = HasBoard cert × IsWritable cert × (bytes ≡ cert_text cert)
 IsParsedAs bytes (Err (NotCert line)) = IsBadAt bytes line

@@ -68,7 +68,7 @@ fn stones_of(words: &mut Words<'_>, name: &[u8], size: Size, taken: CellSet) -> 
 }
 
 impl Reader<'_> {
-    // Takes the next line as a line of a name and a number; `None` exactly where it is none.
+    // Takes the next line as a line of a name and a number; `None` exactly if it is none.
     fn number(&mut self, name: &[u8], least: u32, most: u32) -> Option<u32>
         requires { self.old.line < 5 }
         ensures count { self.new.line ≡ self.old.line + 1 }
@@ -79,7 +79,7 @@ impl Reader<'_> {
         number_of(&mut words, name, least, most)
     }
 
-    // Takes the next line as that of the player; `None` exactly where it is not.
+    // Takes the next line as that of the player; `None` exactly if it is not.
     fn player(&mut self) -> Option<Colour>
         requires { self.old.line < 5 }
         ensures count { self.new.line ≡ self.old.line + 1 }
@@ -89,7 +89,7 @@ impl Reader<'_> {
         player_of(&mut words)
     }
 
-    // Takes the next line as a line of stones; `None` exactly where it is none.
+    // Takes the next line as a line of stones; `None` exactly if it is none.
     fn stones(&mut self, name: &[u8], size: Size, taken: CellSet) -> Option<CellSet>
         requires { self.old.line < 5 }
         ensures count { self.new.line ≡ self.old.line + 1 }

@@ -7,8 +7,8 @@ ghost use Rattle.win_cert.specs.Writable.{HasBoard};
 ghost use Rattle.win_cert.specs.declared.certs.Cert.{Cert};
 
 /// The law of accepted certificates. If a certificate is accepted, its player wins the board as it
-/// claims: with himself to move first where it claims semi, and even with the opponent to move
-/// first where it claims full. Winning speaks of placing in turn and of a path of stones, and of no
+/// claims: with himself to move first if it claims semi, and even with the opponent to move
+/// first if it claims full. Winning speaks of placing in turn and of a path of stones, and of no
 /// rule of connections. More closely, each entry that a line gives is true on the board of its
 /// scope. It does nothing.
 pub fn accepted_certificates_win()

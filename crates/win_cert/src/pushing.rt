@@ -10,7 +10,7 @@ ghost use Rattle.win_cert.specs.Words.{after_spaces};
 ghost use Rattle.win_cert.specs.Writable.{IsEndOn};
 
 use super::End;
-use hex_cells::{Cell, CellSet, Size, VERTEX_LEN, write_vertex};
+use hex_cells::{Cell, CellSet, Size, VERTEX_LEN, push_number, write_vertex};
 use std::alloc::{AllocError, Global};
 
 // A word after a space.
@@ -22,10 +22,11 @@ fn push_word(text: &mut Vec<u8>, word: &[u8]) -> Result<(), AllocError>
 }
 
 /// A number after a space.
-pub(crate) fn push_number(alloc: Global, text: &mut Vec<u8>, number: u32) -> Result<(), AllocError>
+pub(crate) fn push_count(alloc: Global, text: &mut Vec<u8>, number: u32) -> Result<(), AllocError>
     ensures { OnOk result (text.new.items ≡ text.old.items ++ space ∷ decimal number) }
 {
-    push_word(text, number.to_string(alloc)?.as_bytes())
+    text.push(b' ')?;
+    push_number(alloc, text, u64::from(number))
 }
 
 /// A line of a word and numbers, without its line feed.
@@ -40,7 +41,7 @@ pub(crate) fn push_numbers(
 {
     text.extend_from_slice(word)?;
     for number in numbers {
-        push_number(alloc, text, *number)?;
+        push_count(alloc, text, *number)?;
     }
     Ok(())
 }
@@ -56,7 +57,7 @@ pub(crate) fn push_number_line(
         (text.new.items ≡ text.old.items ++ ended (word.now ∷ decimal number ∷ [])) }
 {
     text.extend_from_slice(word)?;
-    push_number(alloc, text, number)?;
+    push_count(alloc, text, number)?;
     text.push(b'\n')?;
     Ok(())
 }
@@ -126,7 +127,7 @@ pub(crate) fn push_cells(
     Ok(())
 }
 
-// The vertex of a cell of the board after a space, where the cell is in the set.
+// The vertex of a cell of the board after a space, if the cell is in the set.
 fn push_member(text: &mut Vec<u8>, cell: Cell, set: CellSet, size: Size) -> Result<(), AllocError>
     requires { cell < size * size }
     ensures { OnOk result (text.new.items

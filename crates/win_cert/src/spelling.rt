@@ -7,7 +7,7 @@ ghost use Rattle.win_cert.specs.Writable.{HasBoard, IsWritable};
 ghost use Rattle.win_cert.specs.declared.certs.Cert.{Cert};
 ghost use Rattle.win_cert.specs.declared.refusals.CertError.{CertError};
 
-/// The text of a certificate is read back as that certificate, where memory suffices. With what
+/// The text of a certificate is read back as that certificate, if memory suffices. With what
 /// [`read`](crate::read) ensures, a certificate has one text, and a text is that of one certificate
 /// at most. It does nothing.
 pub fn written_text_is_read_back()

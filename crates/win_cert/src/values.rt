@@ -10,7 +10,7 @@ use hex_cells::{Cell, Size, VERTEX_LEN, read_vertex, write_vertex};
 // The most digits of a number that a certificate names.
 const MOST_DIGITS: usize = 6;
 
-// The value of at most six digits; `None` where the word has another byte.
+// The value of at most six digits; `None` if the word has another byte.
 fn value_of(word: &[u8]) -> Option<u32>
     requires { length word.now ≤ MOST_DIGITS }
     ensures { MatchOption result (¬ (AllDigits 10 word.now))

@@ -92,7 +92,7 @@ impl<'a> Words<'a> {
         read_end(self.next()?, size)
     }
 
-    /// Takes the next word where it is this one.
+    /// Takes the next word if it is this one.
     pub(crate) fn word(&mut self, name: &[u8]) -> Option<()>
         ensures { MatchOption result (after_word name.now self.old ≡ None)
             (λ _. after_word name.now self.old ≡ Some self.new) }

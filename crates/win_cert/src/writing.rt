@@ -2,12 +2,12 @@
 
 ghost use Rattle.std.specs.Prelude.{◌≡◌, ℕ, ◌++◌, map, All, IfOk, OnOk};
 ghost use Rattle.std.specs.List.{flat_map, join_with_byte};
-ghost use Rattle.win_cert.specs.Texts.{cert_text, claim_words, colour_word, ended, head_words};
+ghost use Rattle.win_cert.specs.Texts.{cert_text, claim_words, ended, head_words};
 ghost use Rattle.win_cert.specs.Texts.{kind_word, line_words, space};
 ghost use Rattle.win_cert.specs.Writable.{IsLineOf, IsWritable};
 
 use super::pushing::{
-    push_cells, push_end, push_name_line, push_number, push_number_line, push_numbers,
+    push_cells, push_count, push_end, push_name_line, push_number_line, push_numbers,
     push_stones_line, push_vertex,
 };
 use super::{Bytes, Cert, Line, Memory};
@@ -35,7 +35,7 @@ fn push_head(alloc: Global, text: &mut Vec<u8>, cert: &Cert) -> Result<(), Alloc
     let size = cert.board.size();
     push_number_line(alloc, text, b"hexcert", cert.version)?;
     push_number_line(alloc, text, b"size", size.get())?;
-    push_name_line(text, b"player", colour_name(cert.player))?;
+    push_name_line(text, b"player", cert.player.word())?;
     push_stones_line(text, b"black", cert.board.stones(Colour::Black), size)?;
     push_stones_line(text, b"white", cert.board.stones(Colour::White), size)
 }
@@ -86,18 +86,9 @@ fn push_line(alloc: Global, text: &mut Vec<u8>, line: &Line, size: Size) -> Resu
         Line::Move(cell, i) => {
             text.extend_from_slice(b"move")?;
             push_vertex(text, *cell, size)?;
-            push_number(alloc, text, *i)
+            push_count(alloc, text, *i)
         }
         Line::Cases(numbers) => push_numbers(alloc, text, b"cases", numbers.as_slice()),
-    }
-}
-
-fn colour_name(colour: Colour) -> &'static [u8]
-    ensures { result.now ≡ colour_word colour }
-{
-    match colour {
-        Colour::Black => b"black",
-        Colour::White => b"white",
     }
 }
 

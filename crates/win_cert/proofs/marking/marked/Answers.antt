@@ -1,5 +1,6 @@
 -- The entries that a marked one names are marked with it.
-use Rattle.std.proofs.Common.{◌≡◌, ℕ, ◌+◌, ◌-◌, ◌<◌, ◌≤◌, All, false, get_or, length, true, sym, ◌∙◌, ap, subst, arith}
+use Rattle.std.proofs.Common.{◌≡◌, ℕ, ◌+◌, ◌-◌, ◌<◌, ◌≤◌, All, false, get_or, length, true, sym}
+use Rattle.std.proofs.Common.{◌∙◌, ap, subst, arith}
 use Rattle.std.proofs.lemmas.List.{length-replicate}
 use Rattle.std.proofs.lemmas.List.Elements.{All-weaker}
 use Rattle.std.proofs.lemmas.Option.{slice_get-get_or}
@@ -19,7 +20,8 @@ entries-init c =
       left = omega arith;
       whole = c.mark_all.ensures.more;
       closed = none_closed entries marks;
-      least = λ s h. c.mark_all.ensures.least s h.whole (none_inside c.in_ok-marks.marks.items (length entries) s made);
+      least = λ s h. c.mark_all.ensures.least s h.whole
+          (none_inside c.in_ok-marks.marks.items (length entries) s made);
     }
 
 pub mark-requires : goal.mark-requires
@@ -30,7 +32,9 @@ mark-requires c =
     let long : length c.entries.marks.items ≡ length entries = c.entries.invariant.number in
     let left : c.entries.left ≤ length entries = c.entries.invariant.left in
     let e = get_or entries n a in
-    All-weaker (λ j. j < n) (λ j. j < length c.entries.marks.items) (λ j l. omega (arith, l, long, left)) (premises e.cause) (c.requires.earlier n e (slice_get-get_or entries n a (omega arith)))
+    All-weaker (λ j. j < n) (λ j. j < length c.entries.marks.items)
+    (λ j l. omega (arith, l, long, left)) (premises e.cause)
+    (c.requires.earlier n e (slice_get-get_or entries n a (omega arith)))
 
 pub entries-preserved-then-index : goal.entries-preserved-then-index
 entries-preserved-then-index c =
@@ -40,7 +44,9 @@ entries-preserved-then-index c =
     let up : c.entries.left ≡ n + 1 = omega arith in
     let l : c.entries.left ≤ length entries = c.entries.invariant.left in
     let long : length c.entries.marks.items ≡ length entries = c.entries.invariant.number in
-    let known : is_marked c.entries.marks.items n ≡ true = marked_at c.entries.marks.items n c.index.result.now (omega arith) c.index.ensures c.if-index.true in
+    let known : is_marked c.entries.marks.items n ≡ true
+    = marked_at c.entries.marks.items n c.index.result.now
+    (omega arith) c.index.ensures c.if-index.true in
     record {
       number = c.mark.ensures.number ∙ c.entries.invariant.number;
       left = omega arith;
@@ -48,7 +54,8 @@ entries-preserved-then-index c =
           (subst (λ (v : Entry). All (λ j. s j ≡ true) (premises v.cause)) c.index-entries-left.is
           (f.closed n a (c.entries.invariant.least s f n known) (read_at entries n a (omega arith) c.index-entries-left.is)))
           (c.entries.invariant.least s f);
-      whole = All-weaker (λ k. is_marked c.entries.marks.items k ≡ true) (λ k. is_marked c.mark.new.marks.items k ≡ true) c.mark.ensures.kept c.args.asked.now c.entries.invariant.whole;
+      whole = All-weaker (λ k. is_marked c.entries.marks.items k ≡ true)
+          (λ k. is_marked c.mark.new.marks.items k ≡ true) c.mark.ensures.kept c.args.asked.now c.entries.invariant.whole;
       closed = closed_more entries c.entries.marks.items c.mark.new.marks.items n a c.requires.earlier (subst (IsClosedFrom entries c.entries.marks.items) up c.entries.invariant.closed)
           (read_at entries n a (omega arith) c.index-entries-left.is)
           (subst (λ (v : Entry). IsMarkedBy c.entries.marks.items (premises v.cause) c.mark.new.marks.items) (sym c.index-entries-left.is) c.mark.ensures);

@@ -9,7 +9,8 @@ use Rattle.win_cert.proofs.pushing.push_cells.Goals as goal
 
 pub loop-k-preserved : goal.loop-k-preserved
 loop-k-preserved c = record {
-  text = text_more (vertex_of c.args.size) (has c.args.set) c.loop-k.k (c.args.text.now.items ++ c.args.word.now)
+  text = text_more (vertex_of c.args.size) (has c.args.set) c.loop-k.k
+      (c.args.text.now.items ++ c.args.word.now)
       c.loop-k.text.items c.push_member.new.text.items c.loop-k.invariant.text
       (c.in_ok-push_member.ensures ∙ ap (λ k. c.loop-k.text.items ++ after_spaces (map (vertex_of c.args.size) (filter (has c.args.set) (k ∷ [])))) c.numbered.ensures);
 }

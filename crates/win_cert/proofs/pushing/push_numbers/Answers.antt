@@ -10,5 +10,6 @@ returns c =
     let text = c.args.text.now.items in
     let word = c.args.word.now in
     c.loop-number.invariant.text
-    ∙ ap (λ numbers. text ++ word ++ after_spaces (map decimal numbers)) (take_all c.loop-number.number-index c.args.numbers.now (omega arith))
+    ∙ ap (λ numbers. text ++ word ++ after_spaces (map decimal numbers))
+    (take_all c.loop-number.number-index c.args.numbers.now (omega arith))
     ∙ joined_after text word (map decimal c.args.numbers.now)

@@ -7,7 +7,8 @@ use Rattle.win_cert.proofs.reading.read_steps.Given as goal
 abbrev pub invariant-lines : goal.invariant-lines
 invariant-lines l = record {
   steps : steps_in l.head.version l.head.board.size 0 (lines_of l.fn.reader.rest.now)
-      ≡ with_lines l.lines.items (steps_in l.head.version l.head.board.size (length l.lines.items) (lines_of l.reader.rest.now));
+      ≡ with_lines l.lines.items
+      (steps_in l.head.version l.head.board.size (length l.lines.items) (lines_of l.reader.rest.now));
   count : l.reader.line ≡ length l.lines.items + 5;
   few : length l.lines.items ≤ MOST_LINES;
 }

@@ -1,4 +1,5 @@
-use Rattle.win_cert.proofs.RuleLines.{and_clear, and_means, key_clear, key_means, three_clear, three_means, two_clear, two_means}
+use Rattle.win_cert.proofs.RuleLines.{and_clear, and_means, key_clear, key_means, three_clear}
+use Rattle.win_cert.proofs.RuleLines.{three_means, two_clear, two_means}
 use Rattle.win_cert.proofs.rule_lines.lines_are_rules.Goals as goal
 
 pub returns-clause-groups : goal.returns-clause-groups
@@ -11,4 +12,5 @@ pub returns-clause-twos : goal.returns-clause-twos
 returns-clause-twos c = λ d i j a b n. (two_means d i j a b n, two_clear d i j a b n)
 
 pub returns-clause-threes : goal.returns-clause-threes
-returns-clause-threes c = λ d i j k a b f n. (three_means d i j k a b f n, three_clear d i j k a b f n)
+returns-clause-threes c
+    = λ d i j k a b f n. (three_means d i j k a b f n, three_clear d i j k a b f n)

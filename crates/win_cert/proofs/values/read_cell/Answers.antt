@@ -5,7 +5,8 @@ use Rattle.win_cert.proofs.values.read_cell.Goals as goal
 
 pub returns-in_err-cell : goal.returns-in_err-cell
 returns-in_err-cell c =
-    c.from_residual.ensures ∙ sym (no_cell c.args.size c.args.word.now (sym c.in_err-cell.ensures.value))
+    c.from_residual.ensures
+    ∙ sym (no_cell c.args.size c.args.word.now (sym c.in_err-cell.ensures.value))
 
 pub returns-then-eq : goal.returns-then-eq
 returns-then-eq c =

@@ -1,5 +1,6 @@
 use Rattle.std.proofs.Common.{sym, inl, inr, arith}
-use Rattle.win_cert.proofs.NumberWords.{named_none_by_length, named_none_by_zero, named_value, named_zero}
+use Rattle.win_cert.proofs.NumberWords.{named_none_by_length, named_none_by_zero, named_value}
+use Rattle.win_cert.proofs.NumberWords.{named_zero}
 use Rattle.win_cert.proofs.values.read_number.Goals as goal
 
 pub returns-then-word-eq0 : goal.returns-then-word-eq0

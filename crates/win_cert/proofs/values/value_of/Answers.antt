@@ -17,5 +17,6 @@ loop-b-preserved c =
     record {
       value = grind (arith, common_steps, more);
       bound = grind (arith, common_steps);
-      digits = digits_more 10 word i (omega arith) c.loop-b.invariant.digits (grind (arith, common_steps));
+      digits = digits_more 10 word i (omega arith) c.loop-b.invariant.digits
+          (grind (arith, common_steps));
     }

@@ -5,5 +5,6 @@ use Rattle.win_cert.proofs.writing.push_lines.Given as goal
 
 abbrev pub invariant-loop-line : goal.invariant-loop-line
 invariant-loop-line l = record {
-  text : l.text.items ≡ l.fn.text.items ++ flat_map ended (map (line_words l.size) (take l.line-index l.lines));
+  text : l.text.items ≡ l.fn.text.items ++ flat_map ended
+      (map (line_words l.size) (take l.line-index l.lines));
 }

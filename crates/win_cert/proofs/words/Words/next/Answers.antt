@@ -1,6 +1,7 @@
 use Rattle.std.proofs.Common.{ap, sym, ◌∙◌, ◌+◌, ◌∷◌, take, drop}
 use Rattle.win_cert.specs.Words.{is_space_byte, words_in}
-use Rattle.win_cert.proofs.Splitting.{rest_from, split_first, split_whole}
+use Rattle.std.proofs.lemmas.List.{take_rest}
+use Rattle.win_cert.proofs.Splitting.{split_first, split_whole}
 use Rattle.win_cert.proofs.words.Words.next.Goals as goal
 
 pub returns-in-None : goal.returns-in-None
@@ -16,4 +17,4 @@ returns-in-Some c =
     sym c.self.view_is ∙ ap (λ b. words_in b rest) c.if-not-self.false
     ∙ split_first is_space_byte rest end (sym c.in-Some.ensures)
     ∙ ap (λ b. take end rest ∷ words_in b (drop (end + 1) rest)) (sym c.if-not-self.false)
-    ∙ ap (λ xs. take end rest ∷ words_in c.self.inside.more xs) (sym (rest_from rest (end + 1)))
+    ∙ ap (λ xs. take end rest ∷ words_in c.self.inside.more xs) (sym (take_rest rest (end + 1)))

@@ -6,4 +6,5 @@ use Rattle.win_cert.proofs.words.Words.nothing.Goals as goal
 pub returns-then-self : goal.returns-then-self
 returns-then-self c = λ e.
     let rest = c.self.inside.rest.now in
-    split_some is_space_byte rest (sym (ap (λ b. words_in b rest) c.if-self.true) ∙ c.self.view_is ∙ e)
+    split_some is_space_byte rest
+    (sym (ap (λ b. words_in b rest) c.if-self.true) ∙ c.self.view_is ∙ e)

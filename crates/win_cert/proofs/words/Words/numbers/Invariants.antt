@@ -6,7 +6,8 @@ use Rattle.win_cert.proofs.words.Words.numbers.Given as goal
 -- the numbers so far come before those of the words left
 abbrev pub invariant-words : goal.invariant-words
 invariant-words l = record {
-  value : numbers_named l.fn.self ≡ option_map (λ rest. l.numbers.items ++ rest) (numbers_named l.self);
+  value : numbers_named l.fn.self ≡ option_map (λ rest. l.numbers.items ++ rest)
+      (numbers_named l.self);
 }
 
 abbrev pub decreases-words : goal.decreases-words
