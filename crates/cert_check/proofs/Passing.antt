@@ -9,7 +9,8 @@ use Rattle.cert_check.specs.Keeping.{entry_of}
 use Rattle.cert_check.specs.declared.given.Given.{Given}
 
 passed : (c : Context) (xs : List ℕ) (i : ℕ) → i < length xs
-    → entries_at c (drop i xs) ≡ cons_option (entry_at c (get_or xs i 0)) (entries_at c (drop (i + 1) xs))
+    → entries_at c (drop i xs) ≡ cons_option (entry_at c (get_or xs i 0))
+    (entries_at c (drop (i + 1) xs))
 passed c xs i l = ap (entries_at c) (drop_more xs i 0 l)
 
 -- the next number names no entry

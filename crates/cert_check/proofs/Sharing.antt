@@ -1,7 +1,9 @@
 -- Cells that all carriers have, and those that one of them has.
-use Rattle.std.proofs.Common.{◌≡◌, ℕ, ◌&&◌, ◌||◌, ◌↔◌, not, IsTrue, true, false, Bool, List, ◌∷◌, sym, ◌∙◌, ap, arith, inl, inr, nat_lt}
+use Rattle.std.proofs.Common.{◌≡◌, ℕ, ◌&&◌, ◌||◌, ◌↔◌, not, IsTrue, true, false, Bool, List, ◌∷◌}
+use Rattle.std.proofs.Common.{sym, ◌∙◌, ap, arith, inl, inr, nat_lt}
 use Rattle.std.specs.List.{list_all}
-use Rattle.std.proofs.lemmas.Bool.{and_parts, and_from, cases_Bool, false_from_ne_true, true≢false, lt-ltb, ltb-true}
+use Rattle.std.proofs.lemmas.Bool.{and_parts, and_from, cases_Bool, false_from_ne_true, true≢false}
+use Rattle.std.proofs.lemmas.Bool.{lt-ltb, ltb-true}
 use Rattle.hex_cells.specs.Sets.{has}
 use Rattle.hex_cells.specs.declared.board_size.TheConstants.{MOST_CELLS}
 use Rattle.hex_cells.proofs.Bits.{has_or}
@@ -27,7 +29,8 @@ none_shared entries common empty is h =
           )) in
           ap not e ∙ sym t
       | inr f ↦ let e : empty ≡ true = h.1 (λ k. false_from_ne_true (has common k) (λ y.
-          let p = and_parts (nat_lt k MOST_CELLS) (list_all (λ a. has a.carrier k) entries) (sym (is k) ∙ y) in
+          let p = and_parts (nat_lt k MOST_CELLS) (list_all (λ a. has a.carrier k) entries)
+          (sym (is k) ∙ y) in
           true≢false (sym (any_in (λ j. list_all (λ a. has a.carrier j) entries) 0 MOST_CELLS k (omega arith) (ltb-true k MOST_CELLS p.0) p.1) ∙ f))) in
           ap not e ∙ sym f
     ]

@@ -1,12 +1,14 @@
 -- The lines of a certificate as the checker goes through them.
-use Rattle.std.proofs.Common.{◌≡◌, ℕ, ◌<◌, ◌≤◌, List, [], ◌∷◌, Some, length, get_or, sym, ap, subst, zero, suc, arith}
+use Rattle.std.proofs.Common.{◌≡◌, ℕ, ◌<◌, ◌≤◌, List, [], ◌∷◌, Some, length, get_or, sym, ap, subst}
+use Rattle.std.proofs.Common.{zero, suc, arith}
 use Rattle.std.specs.List.{slice_get}
 use Rattle.win_cert.specs.Entries.{Context, context_at}
 use Rattle.win_cert.specs.declared.certs.Cert.{Cert}
 use Rattle.win_cert.specs.declared.lines.Line.{Line}
 use Rattle.win_cert.proofs.Stepping.{AreClearTo}
 
-pub at_index : {X : Type 0} (xs : List X) (i : ℕ) (x : X) → i < length xs → x ≡ get_or xs i x → slice_get xs i ≡ Some x
+pub at_index : {X : Type 0} (xs : List X) (i : ℕ) (x : X) → i < length xs → x ≡ get_or xs i x
+    → slice_get xs i ≡ Some x
 at_index [] i x l e = absurd (omega (arith, l))
 at_index (y ∷ xs) zero x l e = ap Some (sym e)
 at_index (y ∷ xs) (suc i) x l e = at_index xs i x (omega (arith, l)) e
@@ -16,16 +18,20 @@ abbrev pub IsReadTo : Cert → Context → ℕ → ℕ → Type 0
 IsReadTo cert kept number k = (kept ≡ context_at cert k) × (number ≡ k) × AreClearTo cert k
 
 -- there is a line k
-pub is_line : {items : List Line} {k : ℕ} (cert : Cert) → items ≡ cert.lines → k < length items → k < length cert.lines
+pub is_line : {items : List Line} {k : ℕ} (cert : Cert) → items ≡ cert.lines → k < length items
+    → k < length cert.lines
 is_line {k = k} cert e l = subst (λ xs. k < length xs) e l
 
 -- and this is it
-pub next_line : {items : List Line} {k : ℕ} (cert : Cert) (line : Line) → items ≡ cert.lines → k < length items → line ≡ get_or items k line
+pub next_line : {items : List Line} {k : ℕ} (cert : Cert) (line : Line) → items ≡ cert.lines
+    → k < length items → line ≡ get_or items k line
     → slice_get cert.lines k ≡ Some line
-next_line {k = k} cert line e l is = at_index cert.lines k line (is_line cert e l) (subst (λ xs. line ≡ get_or xs k line) e is)
+next_line {k = k} cert line e l is
+    = at_index cert.lines k line (is_line cert e l) (subst (λ xs. line ≡ get_or xs k line) e is)
 
 -- at the end all lines were read
-pub all_read : {items : List Line} {kept : Context} {number k : ℕ} (cert : Cert) → items ≡ cert.lines → k ≤ length items → length items ≤ k → IsReadTo cert kept number k
+pub all_read : {items : List Line} {kept : Context} {number k : ℕ} (cert : Cert)
+    → items ≡ cert.lines → k ≤ length items → length items ≤ k → IsReadTo cert kept number k
     → IsReadTo cert kept number (length cert.lines)
 all_read {items = items} {kept = kept} {number = number} {k = k} cert e l m read =
     let same : length items ≡ length cert.lines = ap length e in

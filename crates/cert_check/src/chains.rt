@@ -14,7 +14,7 @@ use hex_cells::CellSet;
 use win_cert::Reason;
 
 impl Checker {
-    /// `and`, or `key` where the middle is to be a cell.
+    /// `and`, or `key` if the middle is to be a cell.
     pub fn chain(&self, i: u32, j: u32, over_cell: bool) -> Result<Given, Reason>
         ensures { DerivesLine self.now (chain_line over_cell i j) result }
     {

@@ -74,6 +74,7 @@ impl Checker {
             Err(_refused) => return Err(Memory),
         }
         if let Line::Put(cells) = line {
+            // Brings what the type keeps into scope.
             let _bits = cells.bits();
             self.scope = *cells;
             self.board = with_stones(&self.base, self.player, *cells);
@@ -82,7 +83,7 @@ impl Checker {
         Ok(())
     }
 
-    /// The entry with this number, where it is that of an earlier line that gave one.
+    /// The entry with this number, if it is that of an earlier line that gave one.
     pub fn entry(&self, number: u32) -> Option<Given>
         ensures value { option_map entry_of result ≡ entry_at self.now number }
         ensures given { IfSome result (IsGivenOn self.now.base) }

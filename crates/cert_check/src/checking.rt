@@ -17,7 +17,7 @@ use win_cert::{Cert, Verdict, accepted_certificates_win};
 /// Checks a certificate that can be written: whether it is accepted. If it is, the player wins as
 /// it claims; else the verdict names the first line against which there is a reason, the claim
 /// being the last, and the first reason in the order 1, 11, 12, 2 to 10, 13. The only refusal is
-/// want of memory, which may come at any certificate.
+/// that memory runs out, which may come at any certificate.
 pub fn check(alloc: Global, cert: &Cert) -> Result<Verdict, Memory>
     requires { IsWritable cert.now }
     ensures verdict { IfOk result (λ v. IsVerdict cert.now v) }
@@ -54,7 +54,7 @@ pub fn check(alloc: Global, cert: &Cert) -> Result<Verdict, Memory>
 fn boards_are_positions(board: &Board)
     ensures { IsPosition board.now.size board.now.black board.now.white }
 {
-    // What each board keeps of itself.
+    // Brings what the type keeps into scope.
     let _size = board.size();
     let _black = board.stones(Colour::Black);
     let _white = board.stones(Colour::White);

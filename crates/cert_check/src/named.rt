@@ -16,7 +16,7 @@ use conn_store::Kind;
 use hex_cells::{CellSet, MOST_CELLS};
 
 impl Checker {
-    /// Whether each number is that of an entry of this kind, and of two elements where they must
+    /// Whether each number is that of an entry of this kind, and of two elements if they must
     /// differ.
     pub fn takes_all(&self, numbers: &[u32], kind: Kind, apart: bool) -> bool
         ensures { (s : Statement) → TakesKind s kind apart

@@ -14,7 +14,7 @@ impl Checker {
     pub fn put(&self, cells: CellSet) -> Result<(), Reason>
         ensures { AllowsLine self.now (Line.Put cells) result }
     {
-        // What each set keeps of itself.
+        // Brings what the type keeps into scope.
         let _bits = cells.bits();
         if cells.inside(self.base.empties()) {
             Ok(())
@@ -27,7 +27,7 @@ impl Checker {
     pub fn done(&self) -> Result<Given, Reason>
         ensures { DerivesLine self.now Line.Done result }
     {
-        // Where the player is joined, both edges are in element 0.
+        // If the player is joined, both edges are in element 0.
         if self.elements.edge(true) == 0 {
             Ok(self.of_edges(Kind::Full, CellSet::none()))
         } else {

@@ -4,7 +4,8 @@ use Rattle.win_cert.specs.Verdicts.{Accepted, IsVerdict, reason_at}
 use Rattle.win_cert.specs.Writable.{IsLineOf}
 use Rattle.cert_check.specs.Answers.{IsYes}
 use Rattle.win_cert.specs.Contexts.{context_after}
-use Rattle.win_cert.proofs.Stepping.{AreClearTo, all_clear, claim_reason, clear_more, context_step, line_reason}
+use Rattle.win_cert.proofs.Stepping.{AreClearTo, all_clear, claim_reason, clear_more, context_step}
+use Rattle.win_cert.proofs.Stepping.{line_reason}
 use Rattle.cert_check.proofs.Stepping.{all_read, is_line, next_line}
 use Rattle.cert_check.proofs.checking.check.Goals as goal
 use Rattle.cert_check.proofs.checking.check.Goals.{in-Ok-claimed, in-Err-claimed}
@@ -17,8 +18,10 @@ read-requires c =
     let cert = c.args.cert.now in
     let i = c.lines.line-index in
     let item = c.line-item.result in
-    let is : item ≡ get_or cert.lines i item = subst (λ xs. item ≡ get_or xs i item) c.as_slice-line-items.ensures c.line-item.is in
-    let good : IsLineOf cert.version cert.board.size item = subst (IsLineOf cert.version cert.board.size) (sym is)
+    let is : item ≡ get_or cert.lines i item
+    = subst (λ xs. item ≡ get_or xs i item) c.as_slice-line-items.ensures c.line-item.is in
+    let good : IsLineOf cert.version cert.board.size item
+    = subst (IsLineOf cert.version cert.board.size) (sym is)
     (c.requires.0.lines i item (is_line cert c.as_slice-line-items.ensures c.lines-test.true)) in
     record { line = (cert.version, subst (λ (n : Context). IsLineOf cert.version n.base.board.size item) (sym c.lines.invariant.0) good) }
 
@@ -50,7 +53,8 @@ lines-preserved c =
     let at = next_line cert item c.as_slice-line-items.ensures c.lines-test.true c.line-item.is in
     let read = line_reason cert i item at c.lines.invariant.0 in
     let more : suc i ≡ i + 1 = omega arith in (
-      c.in_ok-keep-in-Ok.ensures ∙ ap (λ n. context_after n item) c.lines.invariant.0 ∙ sym (context_step cert i item at) ∙ ap (context_at cert) more,
+      c.in_ok-keep-in-Ok.ensures ∙ ap (λ n. context_after n item) c.lines.invariant.0
+          ∙ sym (context_step cert i item at) ∙ ap (context_at cert) more,
       ap (λ v. v + 1) c.lines.invariant.1,
       clear_more cert i c.lines.invariant.2 (read ∙ c.in-Ok.ensures.0),
     )
@@ -83,7 +87,8 @@ returns-clause-accepted c =
       | in-Ok-claimed w ↦ (λ y. all_clear cert read.2 (claimed ∙ w.in-Ok-claimed.ensures.0), λ accepted. subst IsYes (sym w.result-is) tt)
       | in-Err-claimed w ↦ (
         λ y. absurd (subst IsYes w.result-is y),
-        λ accepted. absurd (cc (sym (accepted (length cert.lines)) ∙ claimed ∙ w.in-Err-claimed.ensures)),
+        λ accepted. absurd
+            (cc (sym (accepted (length cert.lines)) ∙ claimed ∙ w.in-Err-claimed.ensures)),
       )
     ]
 

@@ -1,4 +1,5 @@
-use Rattle.std.proofs.Common.{◌≡◌, ℕ, Bool, true, false, ◌||◌, ◌↔◌, not, Option, Some, None, refl, ap, sym, ◌∙◌}
+use Rattle.std.proofs.Common.{◌≡◌, ℕ, Bool, true, false, ◌||◌, ◌↔◌, not, Option, Some, None, refl}
+use Rattle.std.proofs.Common.{ap, sym, ◌∙◌}
 use Rattle.std.proofs.lemmas.Bool.{false_from_ne_true, or_from, or_right}
 use Rattle.hex_board.specs.Places.{is_near}
 use Rattle.conn_store.specs.declared.entries.Kind.TheVariants.{Full}
@@ -25,11 +26,13 @@ returns-in_default-element c =
 pub returns-then-not-near : goal.returns-then-not-near
 returns-then-not-near c =
     let now = c.args.self.now in
-    let at : c.self.inside.elements ≡ elements_at now = c.self.invariant.are_elements ∙ ap elements_at c.self.view_is in
+    let at : c.self.inside.elements ≡ elements_at now = c.self.invariant.are_elements
+    ∙ ap elements_at c.self.view_is in
     let x = sym c.element.ensures.value ∙ c.in-Some.is in
     let y = sym c.element-2.ensures.value ∙ c.in-Some-element.is in
     adj_reasons now c.args.x c.args.y
-    ∙ told_next _ _ _ _ (or_from (is_other_stone (elements_at now) c.args.x) (is_other_stone (elements_at now) c.args.y)
+    ∙ told_next _ _ _ _
+    (or_from (is_other_stone (elements_at now) c.args.x) (is_other_stone (elements_at now) c.args.y)
     (own c.element.result c.in-Some.a _ c.in-Some.is c.element.ensures.other)
     (own c.element-2.result c.in-Some-element.b _ c.in-Some-element.is c.element-2.ensures.other))
     (told_first _ _ _ (ap (λ o. not (are_near (elements_at now) o (end_element (elements_at now) c.args.y))) x
@@ -39,11 +42,13 @@ returns-then-not-near c =
 pub returns : goal.returns
 returns c =
     let now = c.args.self.now in
-    let at : c.self.inside.elements ≡ elements_at now = c.self.invariant.are_elements ∙ ap elements_at c.self.view_is in
+    let at : c.self.inside.elements ≡ elements_at now = c.self.invariant.are_elements
+    ∙ ap elements_at c.self.view_is in
     let x = sym c.element.ensures.value ∙ c.in-Some.is in
     let y = sym c.element-2.ensures.value ∙ c.in-Some-element.is in (
       adj_reasons now c.args.x c.args.y
-          ∙ told_next _ _ _ _ (or_from (is_other_stone (elements_at now) c.args.x) (is_other_stone (elements_at now) c.args.y)
+          ∙ told_next _ _ _ _
+          (or_from (is_other_stone (elements_at now) c.args.x) (is_other_stone (elements_at now) c.args.y)
           (own c.element.result c.in-Some.a _ c.in-Some.is c.element.ensures.other)
           (own c.element-2.result c.in-Some-element.b _ c.in-Some-element.is c.element-2.ensures.other))
           (told_next _ _ _ _ (ap (λ o. not (are_near (elements_at now) o (end_element (elements_at now) c.args.y))) x

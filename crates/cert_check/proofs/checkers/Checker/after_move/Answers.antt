@@ -13,45 +13,61 @@ use Rattle.cert_check.proofs.checkers.Checker.after_move.Goals as goal
 
 pub returns-then-not-takes_all : goal.returns-then-not-takes_all
 returns-then-not-takes_all c =
-    move_tested c.args.self.now c.args.cell c.args.i (c.takes_all.ensures (Derivation (Move c.args.cell c.args.i)) (refl, refl)) refl refl refl
+    move_tested c.args.self.now c.args.cell c.args.i
+    (c.takes_all.ensures (Derivation (Move c.args.cell c.args.i)) (refl, refl)) refl refl refl
     ∙ told_first _ _ _ (ap not c.if-not-takes_all.true)
 
 pub returns-then-not-has : goal.returns-then-not-has
 returns-then-not-has c =
     let board = c.self.invariant.is_board ∙ ap (λ n. (elements_at n).board) c.self.view_is in
-    let empty = c.has.ensures ∙ c.empties.ensures c.args.cell ∙ ap (λ p. is_empty_at p c.args.cell) board in
-    move_tested c.args.self.now c.args.cell c.args.i (c.takes_all.ensures (Derivation (Move c.args.cell c.args.i)) (refl, refl)) empty refl refl
-    ∙ told_next _ _ _ _ (ap not c.if-not-takes_all.false) (told_first _ _ _ (ap not c.if-not-has.true))
+    let empty = c.has.ensures ∙ c.empties.ensures c.args.cell
+    ∙ ap (λ p. is_empty_at p c.args.cell) board in
+    move_tested c.args.self.now c.args.cell c.args.i
+    (c.takes_all.ensures (Derivation (Move c.args.cell c.args.i)) (refl, refl)) empty refl refl
+    ∙ told_next _ _ _ _ (ap not c.if-not-takes_all.false)
+    (told_first _ _ _ (ap not c.if-not-has.true))
 
 pub returns-then-not-are_in_scope : goal.returns-then-not-are_in_scope
 returns-then-not-are_in_scope c =
     let now = c.args.self.now in
     let board = c.self.invariant.is_board ∙ ap (λ n. (elements_at n).board) c.self.view_is in
-    let empty = c.has.ensures ∙ c.empties.ensures c.args.cell ∙ ap (λ p. is_empty_at p c.args.cell) board in
-    let inside = scope_is now (c.args.i ∷ []) (c.with.ensures.value ∙ ap (λ n. with_cell n.scope c.args.cell) c.self.view_is) c.are_in_scope.ensures in
-    move_tested now c.args.cell c.args.i (c.takes_all.ensures (Derivation (Move c.args.cell c.args.i)) (refl, refl)) empty inside refl
-    ∙ told_next _ _ _ _ (ap not c.if-not-takes_all.false) (told_next _ _ _ _ (ap not c.if-not-has.false)
+    let empty = c.has.ensures ∙ c.empties.ensures c.args.cell
+    ∙ ap (λ p. is_empty_at p c.args.cell) board in
+    let inside = scope_is now (c.args.i ∷ [])
+    (c.with.ensures.value ∙ ap (λ n. with_cell n.scope c.args.cell) c.self.view_is) c.are_in_scope.ensures in
+    move_tested now c.args.cell c.args.i
+    (c.takes_all.ensures (Derivation (Move c.args.cell c.args.i)) (refl, refl)) empty inside refl
+    ∙ told_next _ _ _ _ (ap not c.if-not-takes_all.false)
+    (told_next _ _ _ _ (ap not c.if-not-has.false)
     (told_first _ _ _ (ap not c.if-not-are_in_scope.true)))
 
 pub returns-then-not-are_of_edges : goal.returns-then-not-are_of_edges
 returns-then-not-are_of_edges c =
     let now = c.args.self.now in
     let board = c.self.invariant.is_board ∙ ap (λ n. (elements_at n).board) c.self.view_is in
-    let empty = c.has.ensures ∙ c.empties.ensures c.args.cell ∙ ap (λ p. is_empty_at p c.args.cell) board in
-    let inside = scope_is now (c.args.i ∷ []) (c.with.ensures.value ∙ ap (λ n. with_cell n.scope c.args.cell) c.self.view_is) c.are_in_scope.ensures in
-    move_tested now c.args.cell c.args.i (c.takes_all.ensures (Derivation (Move c.args.cell c.args.i)) (refl, refl)) empty inside c.are_of_edges.ensures
-    ∙ told_next _ _ _ _ (ap not c.if-not-takes_all.false) (told_next _ _ _ _ (ap not c.if-not-has.false)
+    let empty = c.has.ensures ∙ c.empties.ensures c.args.cell
+    ∙ ap (λ p. is_empty_at p c.args.cell) board in
+    let inside = scope_is now (c.args.i ∷ [])
+    (c.with.ensures.value ∙ ap (λ n. with_cell n.scope c.args.cell) c.self.view_is) c.are_in_scope.ensures in
+    move_tested now c.args.cell c.args.i
+    (c.takes_all.ensures (Derivation (Move c.args.cell c.args.i)) (refl, refl)) empty inside c.are_of_edges.ensures
+    ∙ told_next _ _ _ _ (ap not c.if-not-takes_all.false)
+    (told_next _ _ _ _ (ap not c.if-not-has.false)
     (told_next _ _ _ _ (ap not c.if-not-are_in_scope.false) (told_first _ _ _ (ap not c.if-not-are_of_edges.true))))
 
 pub returns-in-Some : goal.returns-in-Some
 returns-in-Some c =
     let now = c.args.self.now in
     let board = c.self.invariant.is_board ∙ ap (λ n. (elements_at n).board) c.self.view_is in
-    let empty = c.has.ensures ∙ c.empties.ensures c.args.cell ∙ ap (λ p. is_empty_at p c.args.cell) board in
-    let inside = scope_is now (c.args.i ∷ []) (c.with.ensures.value ∙ ap (λ n. with_cell n.scope c.args.cell) c.self.view_is) c.are_in_scope.ensures in
+    let empty = c.has.ensures ∙ c.empties.ensures c.args.cell
+    ∙ ap (λ p. is_empty_at p c.args.cell) board in
+    let inside = scope_is now (c.args.i ∷ [])
+    (c.with.ensures.value ∙ ap (λ n. with_cell n.scope c.args.cell) c.self.view_is) c.are_in_scope.ensures in
     let named = sym c.entry.ensures.value ∙ ap (option_map entry_of) c.in-Some.is in (
-      move_tested now c.args.cell c.args.i (c.takes_all.ensures (Derivation (Move c.args.cell c.args.i)) (refl, refl)) empty inside c.are_of_edges.ensures
-          ∙ told_next _ _ _ _ (ap not c.if-not-takes_all.false) (told_next _ _ _ _ (ap not c.if-not-has.false)
+      move_tested now c.args.cell c.args.i
+          (c.takes_all.ensures (Derivation (Move c.args.cell c.args.i)) (refl, refl)) empty inside c.are_of_edges.ensures
+          ∙ told_next _ _ _ _ (ap not c.if-not-takes_all.false)
+          (told_next _ _ _ _ (ap not c.if-not-has.false)
           (told_next _ _ _ _ (ap not c.if-not-are_in_scope.false) (told_next _ _ _ _ (ap not c.if-not-are_of_edges.false) refl))),
       ap (λ o. move_entry now c.args.cell (cons_option o [])) named
           ∙ ap Some (sym (c.of_edges.ensures.value ∙ ap (edge_entry now Semi) c.with-in-Some.ensures.value)),

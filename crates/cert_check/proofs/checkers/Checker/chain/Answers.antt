@@ -5,7 +5,8 @@ use Rattle.std.specs.Option.{IfSome}
 use Rattle.win_cert.specs.declared.statements.Statement.TheVariants.{Derivation}
 use Rattle.cert_check.specs.Keeping.{IsGivenOn, chain_line, entry_of}
 use Rattle.cert_check.proofs.ChainReasons.{chain_bad, chain_scopes, chain_takes, two_scopes}
-use Rattle.cert_check.proofs.ReasonLaws.{chain_reasons, kept_scope, missing, missing_next, told_first, told_next}
+use Rattle.cert_check.proofs.ReasonLaws.{chain_reasons, kept_scope, missing, missing_next}
+use Rattle.cert_check.proofs.ReasonLaws.{told_first, told_next}
 use Rattle.cert_check.proofs.checkers.Checker.chain.Goals as goal
 use Rattle.win_cert.proofs.CutChains.{two_at}
 
@@ -52,11 +53,15 @@ join-requires c =
       named = record {
         first = first;
         second = second;
-        references = chain_bad now o c.args.i c.args.j c.takes_all.result (c.takes_all.ensures s (chain_takes o c.args.i c.args.j)) ∙ ap not c.if-not-takes_all.false;
-        scopes = chain_scopes now o c.args.i c.args.j c.are_in_scope.result scope ∙ ap not c.if-not-are_in_scope.false;
+        references = chain_bad now o c.args.i c.args.j c.takes_all.result
+            (c.takes_all.ensures s (chain_takes o c.args.i c.args.j))
+            ∙ ap not c.if-not-takes_all.false;
+        scopes = chain_scopes now o c.args.i c.args.j c.are_in_scope.result scope
+            ∙ ap not c.if-not-are_in_scope.false;
         first_scope = scopes.0;
         second_scope = scopes.1;
         first_given = subst (λ o. IfSome o (IsGivenOn now.base)) c.in-Some.is c.entry.ensures.given;
-        second_given = subst (λ o. IfSome o (IsGivenOn now.base)) c.in-Some-entry.is c.entry-2.ensures.given;
+        second_given
+            = subst (λ o. IfSome o (IsGivenOn now.base)) c.in-Some-entry.is c.entry-2.ensures.given;
       };
     }

@@ -7,30 +7,37 @@ use Rattle.cert_check.proofs.checkers.Checker.claimed.Goals as goal
 
 pub returns-then-not-takes_all : goal.returns-then-not-takes_all
 returns-then-not-takes_all c =
-    claim_tested c.args.self.now c.args.kind c.args.i (c.takes_all.ensures (Claim c.args.kind c.args.i) (refl, refl)) refl refl
+    claim_tested c.args.self.now c.args.kind c.args.i
+    (c.takes_all.ensures (Claim c.args.kind c.args.i) (refl, refl)) refl refl
     ∙ told_first _ _ _ (ap not c.if-not-takes_all.true)
 
 pub returns-then-not-are_in_scope : goal.returns-then-not-are_in_scope
 returns-then-not-are_in_scope c =
     let now = c.args.self.now in
     let inside = scope_is now (c.args.i ∷ []) c.none.ensures.value c.are_in_scope.ensures in
-    claim_tested now c.args.kind c.args.i (c.takes_all.ensures (Claim c.args.kind c.args.i) (refl, refl)) inside refl
-    ∙ told_next _ _ _ _ (ap not c.if-not-takes_all.false) (told_first _ _ _ (ap not c.if-not-are_in_scope.true))
+    claim_tested now c.args.kind c.args.i
+    (c.takes_all.ensures (Claim c.args.kind c.args.i) (refl, refl)) inside refl
+    ∙ told_next _ _ _ _ (ap not c.if-not-takes_all.false)
+    (told_first _ _ _ (ap not c.if-not-are_in_scope.true))
 
 pub returns-then-not-are_of_edges : goal.returns-then-not-are_of_edges
 returns-then-not-are_of_edges c =
     let now = c.args.self.now in
     let inside = scope_is now (c.args.i ∷ []) c.none.ensures.value c.are_in_scope.ensures in
-    claim_tested now c.args.kind c.args.i (c.takes_all.ensures (Claim c.args.kind c.args.i) (refl, refl)) inside c.are_of_edges.ensures
-    ∙ told_next _ _ _ _ (ap not c.if-not-takes_all.false) (told_next _ _ _ _ (ap not c.if-not-are_in_scope.false)
+    claim_tested now c.args.kind c.args.i
+    (c.takes_all.ensures (Claim c.args.kind c.args.i) (refl, refl)) inside c.are_of_edges.ensures
+    ∙ told_next _ _ _ _ (ap not c.if-not-takes_all.false)
+    (told_next _ _ _ _ (ap not c.if-not-are_in_scope.false)
     (told_first _ _ _ (ap not c.if-not-are_of_edges.true)))
 
 pub returns-in-Some : goal.returns-in-Some
 returns-in-Some c =
     let now = c.args.self.now in
     let inside = scope_is now (c.args.i ∷ []) c.none.ensures.value c.are_in_scope.ensures in (
-      claim_tested now c.args.kind c.args.i (c.takes_all.ensures (Claim c.args.kind c.args.i) (refl, refl)) inside c.are_of_edges.ensures
-          ∙ told_next _ _ _ _ (ap not c.if-not-takes_all.false) (told_next _ _ _ _ (ap not c.if-not-are_in_scope.false)
+      claim_tested now c.args.kind c.args.i
+          (c.takes_all.ensures (Claim c.args.kind c.args.i) (refl, refl)) inside c.are_of_edges.ensures
+          ∙ told_next _ _ _ _ (ap not c.if-not-takes_all.false)
+          (told_next _ _ _ _ (ap not c.if-not-are_in_scope.false)
           (told_next _ _ _ _ (ap not c.if-not-are_of_edges.false) refl)),
       sym c.entry.ensures.value ∙ ap (option_map entry_of) c.in-Some.is,
     )

@@ -7,5 +7,6 @@ use Rattle.win_cert.specs.Entries.{entries_at}
 use Rattle.cert_check.proofs.checkers.Checker.common.Goals as goal
 
 pub numbers-init : goal.numbers-init
-numbers-init c = λ k. ap (λ b. b && list_all (λ a. has a.carrier k) (entries_at c.args.self.now c.args.numbers.now))
+numbers-init c
+    = λ k. ap (λ b. b && list_all (λ a. has a.carrier k) (entries_at c.args.self.now c.args.numbers.now))
     (sym (c.of_bits-cells.ensures.items k ∙ has_all MOST_CELLS k (omega arith)))

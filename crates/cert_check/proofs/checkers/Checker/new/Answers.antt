@@ -8,9 +8,11 @@ pub invariant_of-result : goal.invariant_of-result
 invariant_of-result c =
     let b = c.args.base.now in
     let p = c.args.player in
-    let e : b ≡ with_stones b p c.none.result = sym (ap (with_stones b p) c.none.ensures.value ∙ with_none b p) in
+    let e : b ≡ with_stones b p c.none.result
+    = sym (ap (with_stones b p) c.none.ensures.value ∙ with_none b p) in
     record {
       is_board = e;
       are_elements = c.elements.ensures ∙ ap (λ (q : _). record { board = q; player = p }) e;
-      are_given = subst (All (IsGivenOnIf (record { board = b; player = p }))) (sym c.in_ok-with_capacity.ensures.items) (λ k d l. absurd (omega (arith, l)));
+      are_given = subst (All (IsGivenOnIf (record { board = b; player = p })))
+          (sym c.in_ok-with_capacity.ensures.items) (λ k d l. absurd (omega (arith, l)));
     }

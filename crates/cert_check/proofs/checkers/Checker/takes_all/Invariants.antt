@@ -7,4 +7,6 @@ use Rattle.cert_check.specs.Keeping.{TakesKind}
 use Rattle.cert_check.proofs.checkers.Checker.takes_all.Given as goal
 
 abbrev pub invariant-numbers : goal.invariant-numbers
-invariant-numbers l = (s : Statement) → TakesKind s l.kind l.apart → list_all (λ i. may_take s (entry_at l.self i)) l.numbers ≡ list_all (λ i. may_take s (entry_at l.self i)) (drop l.number-index l.numbers)
+invariant-numbers l = (s : Statement) → TakesKind s l.kind l.apart
+    → list_all (λ i. may_take s (entry_at l.self i)) l.numbers ≡ list_all
+    (λ i. may_take s (entry_at l.self i)) (drop l.number-index l.numbers)
