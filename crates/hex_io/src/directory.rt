@@ -68,7 +68,7 @@ fn read_file(rt: &HostRuntime, alloc: Global, path: &str) -> Result<Option<Vec<u
     }
 }
 
-/// Opens the file of that path; `None` where it is there, and no regular file.
+/// Opens the file of that path; `None` if it is there, and no regular file.
 fn regular_file(rt: &HostRuntime, path: &str) -> io::Result<Option<File>> {
     if fs::metadata(rt, path)?.is_file() {
         Ok(Some(File::open(rt, path)?))

@@ -1,4 +1,4 @@
-//! A shelf in memory, which is at fault where it is told to be.
+//! A shelf in memory, which is at fault when it is told to be.
 
 ghost use Rattle.std.specs.Prelude.{◌≡◌, ◌≢◌, IfOk, IsTrue, ◌↔◌, Some};
 ghost use Rattle.std.specs.Prelude.{option_map};
@@ -73,8 +73,8 @@ impl Shelf for MemShelf {
 }
 
 impl MemShelf {
-    /// A shelf of these files, the first of a name counting, where the fetches whose numbers stand
-    /// in `bad` are at fault.
+    /// A shelf of these files, the first of a name counting. The fetches whose numbers stand in
+    /// `bad` are at fault.
     pub fn make(alloc: Global, files: Vec<File>, bad: Vec<u32>) -> Result<MemShelf, Memory>
         ensures { IfOk result (λ shelf. shelf ≡ new_shelf files.items bad.items) }
     {

@@ -1,4 +1,4 @@
-//! A link in memory, which fails where it is told to.
+//! A link in memory, which fails when it is told to.
 
 ghost use Rattle.std.specs.Prelude.{◌≡◌, ◌<◌, ◌≤◌, ◌-◌, length, IfOk, IsErr, Contains, IsTrue, ◌↔◌};
 ghost use Rattle.hex_io.specs.Told.{ReadsBytes, WritesBytes};
@@ -22,7 +22,7 @@ pub struct Ask {
 /// A link in memory: it reads from bytes that were handed to it and keeps those given.
 ///
 /// It tells all its meanings. A call fails exactly if its number, from 0, is among those that were
-/// named, where a read is past the last one, or where a write finds no room for a byte. Its reads
+/// named, if a read is past the last one, or if a write finds no room for a byte. Its reads
 /// and writes take no memory.
 #[derive(Drop)]
 pub struct MemLink {

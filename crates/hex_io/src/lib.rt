@@ -15,14 +15,14 @@
 //! ```text
 //! let count = link.read(&mut buffer)?;      // 0 only at the end
 //! give(link, answer)?;                      // all of it, or a front of it at a fault
-//! let file = shelf.fetch(alloc, "game.sgf")?; // `None` where there is no such file
+//! let file = shelf.fetch(alloc, "game.sgf")?; // `None` if there is no such file
 //! report(errors, b"hexd: read fault\n");    // whatever comes of it
 //! ```
 //!
-//! **What is proved.** Bytes are moved in order and none is lost or made up, where a link tells; a
+//! **What is proved.** Bytes are moved in order and none is lost or made up, if a link tells; a
 //! fault comes only if its count rose, and then no byte was moved; with every other answer the
 //! count is as before. Generic code can't change a count, so a body that gives up without a fault
-//! of its link is refused, and one that tries again after a fault where its contract says that no
+//! of its link is refused, and one that tries again after a fault if its contract says that no
 //! fault came. A fetch answers what the files hold. A `MemLink` and a `MemShelf` tell all and fail
 //! exactly if they were told to.
 //!

@@ -11,4 +11,5 @@ loop-at-preserved g c = record {
 }
 
 pub returns-in-Err-clause-proper : goal.returns-in-Err-clause-proper
-returns-in-Err-clause-proper g c = Gave-proper _ _ _ c.args.bytes.now c.loop-at.at c.loop-at-test.true c.loop-at.invariant.gave c.in-Err.ensures.told
+returns-in-Err-clause-proper g c
+    = Gave-proper _ _ _ c.args.bytes.now c.loop-at.at c.loop-at-test.true c.loop-at.invariant.gave c.in-Err.ensures.told

@@ -9,8 +9,10 @@ returns c =
     let xs : List ℕ = c.args.self.now.bytes.items in
     let i : ℕ = c.args.self.now.at in
     let n : ℕ = c.args.count in
-    let is_part : c.copy_from_slice.new.self ≡ take (i + n - i) (drop i xs) = rw (← c.deref.ensures.value) c.copy_from_slice.ensures.after in
-    let front : take n (c.copy_from_slice.new.self ++ drop n c.args.buf.now) ≡ take n (drop i xs) = copied_front xs _ _ i n (omega arith) is_part in
+    let is_part : c.copy_from_slice.new.self ≡ take (i + n - i) (drop i xs)
+    = rw (← c.deref.ensures.value) c.copy_from_slice.ensures.after in
+    let front : take n (c.copy_from_slice.new.self ++ drop n c.args.buf.now) ≡ take n (drop i xs)
+    = copied_front xs _ _ i n (omega arith) is_part in
     record {
       ahead = rw front (drop_parts xs i n);
       behind = rw front (take-add i n xs);
