@@ -98,7 +98,7 @@ mover-new : (s : Setting) (b : LinkedBlock) (bs : List LinkedBlock) (x : ℕ) �
 mover-new s b bs x h = sym (ap (λ (t : Bool). mover_at (cond t (state_after (node_state s bs b.parent) (cell_at b (place b x))) (node_state s bs x))) h ∙ other_again (node_state s bs b.parent).player)
 
 module _ (s : Setting) (o : Ending) (x : ℕ) where
-  -- the tally of a node on the path gets one visit, and one win where its mover won; no other tally
+  -- the tally of a node on the path gets one visit, and one win if its mover won; no other tally
   -- of a node gets anything
   pub tally-up : (bs : List LinkedBlock) (y : ℕ) → InOrder (root_at s) bs → is_node (root_at s) bs x ≡ true
       → amount_at (x + TALLY_WORD) (adds_up s o bs y).adds ≡ cond (is_on s bs x y) (amount_of (is_same o.winner (mover_of s bs x))) 0
@@ -150,8 +150,8 @@ module _ (s : Setting) (o : Ending) (x : ℕ) where
       tally true won e = hit (y + TALLY_WORD) (x + TALLY_WORD) won (let q = eqb-true y x e in omega (arith, q))
       tally false won e = miss (y + TALLY_WORD) (x + TALLY_WORD) won (λ q. clash (y == x) (eq-eqb y x (omega (arith, q))) e)
 
--- the seen word of a node whose block is met on the path gets one seen visit where the cell holds a
--- stone of its mover, and one seen win where that mover won; no other seen word gets anything
+-- the seen word of a node whose block is met on the path gets one seen visit if the cell holds a
+-- stone of its mover, and one seen win if that mover won; no other seen word gets anything
 module _ (s : Setting) (o : Ending) (c : LinkedBlock) (x : ℕ) (hc : has_node c x ≡ true) where
   abbrev seen : List LinkedBlock → ℕ
   seen bs = cond (has_cell (stones_of o.full (mover_of s bs x)) (cell_at c (place c x))) (amount_of (is_same o.winner (mover_of s bs x))) 0
@@ -229,7 +229,7 @@ module _ (s : Setting) (bs : List LinkedBlock) (order : InOrder (root_at s) bs) 
       ap (λ (p : NodeState). (adds_up s (o p) (b ∷ bs) leaf).adds) (spot-same s b bs leaf f n)
       ∙ ap (λ (a : Gathered). a.adds) (up_same (root_adds s (o (node_state s bs leaf))) (node_adds (o (node_state s bs leaf))) b bs leaf (apart (root_at s) b bs leaf f n))
 
-  -- at most one add of a walk counts in a word of a node: in the tally where the node is on the path
+  -- at most one add of a walk counts in a word of a node: in the tally if the node is on the path
   pub tally-adds : (x : ℕ) → is_node (root_at s) bs x ≡ true → adds_in (x + TALLY_WORD) (walk_adds s bs k leaf) ≡ cond (is_on s bs x leaf) 1 0
   tally-adds x n =
       let w : ℕ = x + TALLY_WORD in

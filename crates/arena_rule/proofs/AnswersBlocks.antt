@@ -91,7 +91,7 @@ module _ (s : Setting) (bs : List LinkedBlock) (words : List ℕ) (views : List 
       known-link ks x k.2 (omega (arith, l, at)) ∙ sym at)
       (cases_Bool (c.parent == x))
 
-  -- where no link is known, no block below is
+  -- if no link is known, no block below is
   link-none : (ks : List LinkedBlock) (x : ℕ) (c : LinkedBlock) → Knows (root_at s) bs ks → link_of ks x ≡ 0 → In c ks → c.parent ≢ x
   link-none [] x c k z n e = n
   link-none (d ∷ ks) x c k z n e = ⊎_elim

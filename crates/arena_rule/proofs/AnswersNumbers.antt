@@ -45,6 +45,6 @@ module _ (bs : List LinkedBlock) (words : List ℕ) (views : List SeatView) (id 
   found (Note k n) fits = sym (note-zero k n fits)
   found Done fits = refl
 
-  -- where the view has a copy of the words, the answer is the value there
+  -- if the view has a copy of the words, the answer is the value there
   pub answers-whole : (op : Op) → FitsStep v op → AgreesWithWhole v (word_of op) (answer_of op (slice_index words (word_of op)))
   answers-whole op fits copy e = found op fits ∙ ap (λ (ws : List ℕ). slice_index ws (word_of op)) (b.state.sole id v copy b.at e).0

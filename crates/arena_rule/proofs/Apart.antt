@@ -29,11 +29,11 @@ use Rattle.arena_rule.proofs.Frames.{in-range, write-word, held-claimed, held-st
 pub told-size : (v : SeatView) (x b : ℕ) → x ≢ root_at v.shape → size (told_below v x b) ≡ block_size (empties_at v x)
 told-size v x b ne = ap (λ (t : Bool). block_size (length (cond t (allowed_cells v.shape) (empties_of (node_board v.shape v.known x))))) (ne_eqb x (root_at v.shape) ne)
 
--- the words of the area below NEXT, where NEXT grows
+-- the words of the area below NEXT, if NEXT grows
 claimed-more : (low x y end i : ℕ) → x ≤ y → one_if (nat_le low i && (nat_lt i x && nat_lt i end)) ≤ one_if (nat_le low i && (nat_lt i y && nat_lt i end))
 claimed-more low x y end i h = grind (arith, nat_tests)
 
--- and where a block is claimed
+-- and if a block is claimed
 claimed-block : (low x s end i : ℕ) → low ≤ x → x + s ≤ end
     → one_if (nat_le low i && (nat_lt i x && nat_lt i end)) + one_if (nat_le x i && nat_lt i (x + s)) ≤ one_if (nat_le low i && (nat_lt i (x + s) && nat_lt i end))
 claimed-block low x s end i l h = grind (arith, nat_tests)
@@ -67,7 +67,7 @@ module _ (bs : List LinkedBlock) (words : List ℕ) (views : List SeatView) (id 
       let old : next_in words ≤ i = omega (arith, past, next-grows bs words views id v b op fits) in
       fresh-stays bs words views id v b op i fits low old ∙ b.state.fresh i low old high
 
-  -- where nothing that Apart reads has changed
+  -- if nothing that Apart reads has changed
   apart-frame : (u : SeatView) (words' : List ℕ) → ((i : ℕ) → held_at i u ≡ held_at i v) → next_in words' ≡ next_in words → AreApart v.shape bs words' (set views id u)
   apart-frame u words' h n i = omega (arith, total_set (held_at i) views id v u b.at, b.state.apart i, h i, ap (λ (z : ℕ). one_if (nat_le (area_at v.shape) i && (nat_lt i z && nat_lt i (end_of v.shape)))) n)
 

@@ -5,7 +5,7 @@
 --   P-split  after a split
 --   P-join   after a join
 --   P-first  of the opening words and the first views
--- where the blocks after a step are one more where a Publish wins.
+-- The blocks after a step are one more if a Publish wins.
 use Rattle.std.proofs.Common.{◌≡◌, ◌≢◌, ℕ, ◌<◌, List, [], ◌∷◌}
 use Rattle.std.specs.Prelude.{◌==◌, if◌then◌else◌, sum_by, slice_index}
 use mathlib.Core.Option.{some}
@@ -30,7 +30,7 @@ pub record Before (bs : List LinkedBlock) (words : List ℕ) (views : List SeatV
   pub at : get_elem? views id ≡ some v
   pub live : 0 < v.width
 
--- the linked blocks after a step: where a Publish finds 0, the told block is one more
+-- the linked blocks after a step: if a Publish finds 0, the told block is one more
 abbrev pub blocks_after : List LinkedBlock → List ℕ → SeatView → Op → List LinkedBlock
 blocks_after bs words v Draw = bs
 blocks_after bs words v (Look i) = bs

@@ -12,7 +12,7 @@ use Rattle.std.proofs.lemmas.Bool.Decides.{nat_tests}
 abbrev pub if_here : ℕ → (ℕ → ℕ) → Walked → ℕ
 if_here j g w = cond (w.number == j) (g w.value) 0
 
--- where a number has no walk, nothing counts
+-- if a number has no walk, nothing counts
 pub none-here : (j : ℕ) (g : ℕ → ℕ) (walks : List Walked) → times_walked j walks ≡ 0 → sum_by (if_here j g) walks ≡ 0
 none-here j g [] e = refl
 none-here j g (w ∷ walks) e = by (w.number == j) (times_walked j walks) (sum_by (if_here j g) walks) (g w.value) (sym (walked-cons j w walks) ∙ e) (none-here j g walks) (sum_by-cons (if_here j g) w walks)
@@ -21,7 +21,7 @@ none-here j g (w ∷ walks) e = by (w.number == j) (times_walked j walks) (sum_b
     by true c s x e h q = absurd (omega arith)
     by false c s x e h q = omega (arith, q, h (omega arith))
 
--- where a number has one walk, its value counts
+-- if a number has one walk, its value counts
 pub one-here : (j : ℕ) (g : ℕ → ℕ) (walks : List Walked) → times_walked j walks ≡ 1 → sum_by (if_here j g) walks ≡ g (value_walked j walks)
 one-here j g [] e = absurd (omega arith)
 one-here j g (w ∷ walks) e =
@@ -68,7 +68,7 @@ numbered n f walks low =
           keyed j ws,
         )
 
--- where each number below n has one walk, its value counts
+-- if each number below n has one walk, its value counts
 pub by-number : (n : ℕ) (f : ℕ → ℕ → ℕ) (walks : List Walked) → ((j : ℕ) → j < n → times_walked j walks ≡ 1) → ((w : Walked) → Contains walks w → w.number < n)
     → sum_by (λ w. f w.number w.value) walks ≡ sum_below n (λ j. f j (value_walked j walks))
 by-number n f walks once low = numbered n f walks low ∙ below_same n (λ j. sum_by (if_here j (f j)) walks) (λ j. f j (value_walked j walks)) (λ j l. one-here j (f j) walks (once j l))
@@ -80,7 +80,7 @@ pub record FoundWalk (j : ℕ) (walks : List Walked) : Type 0 where
   pub number : walk.number ≡ j
   pub value : walk.value ≡ value_walked j walks
 
--- where a number has one walk, this is found
+-- if a number has one walk, this is found
 pub find-walk : (j : ℕ) (walks : List Walked) → times_walked j walks ≡ 1 → FoundWalk j walks
 find-walk j [] e = absurd (omega arith)
 find-walk j (w ∷ walks) e = by (w.number == j) refl (sym (walked-cons j w walks) ∙ e) (value-cons j w walks) (find-walk j walks)

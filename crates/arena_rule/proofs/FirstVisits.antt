@@ -87,7 +87,7 @@ module _ (bs : List LinkedBlock) (words : List ℕ) (views : List SeatView) (id 
       by None t = absurd (none-some (sym ((b.state.in_hand j u at).idle t).0 ∙ e))
       by (Some k) t = ((b.state.in_hand j u at).flight k f t e).known
 
-  -- as many walks go through a node where more is known
+  -- as many walks go through a node if more is known
   through-known : (cs ks : List LinkedBlock) (x : ℕ) → InOrder (root_at v.shape) cs → Knows (root_at v.shape) cs v.known → Knows (root_at v.shape) cs ks
       → ((y : ℕ) → is_known v y ≡ true → is_node (root_at v.shape) ks y ≡ true) → walks_through (record v { known = ks }) x ≡ walks_through v x
   through-known cs ks x order kn ln more =
@@ -102,7 +102,7 @@ module _ (bs : List LinkedBlock) (words : List ℕ) (views : List SeatView) (id 
       by (Some f) e = let n = flight-known id v f b.at e in
           ap one_if (on-linked v.shape cs v.known x f.leaf order kn n ∙ sym (on-linked v.shape cs ks x f.leaf order ln (more f.leaf n)))
 
-  -- the walk that an Add begins goes through x only where no recorded walk of the view does
+  -- the walk that an Add begins goes through x only if no recorded walk of the view does
   abbrev BeginsFirst : ℕ → Type 0
   BeginsFirst x = (leaf : ℕ) → MayBegin v leaf → is_on v.shape v.known x leaf ≡ true → recorded_through v x ≡ 0
 
@@ -161,7 +161,7 @@ module _ (bs : List LinkedBlock) (words : List ℕ) (views : List SeatView) (id 
   make op x fits order kn begin old = each-set (λ u. walks_through u x ≤ u.width) views id (after v op (answer_of op (slice_index words (word_of op))))
       (λ j u _ e. old j u e) (through-changed op x fits order kn begin (old id v b.at))
 
-  -- a walk that begins goes through a child without visits where the block has one
+  -- a walk that begins goes through a child without visits if the block has one
   begins-first : (loads : AreLoads words views) (d : LinkedBlock) (x y : ℕ) → In d bs → has_node d x ≡ true → has_node d y ≡ true → (tally_in words y).visits ≡ 0 → BeginsFirst x
   begins-first loads d x y i hx hy z leaf may on =
       let r : ℕ = root_at v.shape in

@@ -195,7 +195,7 @@ module _ (bs : List LinkedBlock) (words : List ℕ) (views : List SeatView) (id 
   same-word : (w i : ℕ) → slice_index (set words w (slice_index words w)) i ≡ slice_index words i
   same-word w i = ap (λ (ws : List ℕ). slice_index ws i) (set-get_or words w 0)
 
-  -- A word at or behind the root stays where it is no link, tally or seen word of a node and the view does not hold it.
+  -- A word at or behind the root stays if it is no link, tally or seen word of a node and the view does not hold it.
   pub other-stays : (op : Op) (i : ℕ) → FitsStep v op → root_at v.shape ≤ i → ((x j : ℕ) → is_node (root_at v.shape) bs x ≡ true → 1 ≤ j → j < 4 → i ≢ x + j) → is_held v.held i ≢ true
       → slice_index (words_after words op) i ≡ slice_index words i
   other-stays Draw i fits low node held = else-word Draw i (λ e. omega arith)

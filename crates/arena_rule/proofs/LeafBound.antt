@@ -1,4 +1,4 @@
--- Each step keeps LeafBound: a walk begins at a leaf with an empty cell only where it was loaded with visits below T.
+-- Each step keeps LeafBound: a walk begins at a leaf with an empty cell only if it was loaded with visits below T.
 use Rattle.std.proofs.Common.{◌≡◌, ◌⊎◌, ℕ, ◌+◌, ◌-◌, ◌*◌, ◌≤◌, ◌<◌, Bool, true, false, cond, List, ◌∷◌, length, Option, Some, None, refl, sym, ap, ◌∙◌, subst, ⊎_elim, arith}
 use Rattle.std.specs.Prelude.{◌==◌, slice_index}
 use Rattle.std.proofs.lemmas.Bool.{cases_Bool, eqb-true, ne_eqb}
@@ -76,7 +76,7 @@ module _ (bs : List LinkedBlock) (words : List ℕ) (views : List SeatView) (id 
       flight None q = refl
       flight (Some f) q = ap one_if (off f.leaf (flight-known bs words views id v b j u f e q))
 
-  -- the walk that an Add begins has x as its leaf only where fewer than T recorded walks of the view have
+  -- the walk that an Add begins has x as its leaf only if fewer than T recorded walks of the view have
   abbrev BeginsFew : ℕ → Type 0
   BeginsFew x = MayBegin v x → recorded_at v x < v.shape.knobs.expand
 

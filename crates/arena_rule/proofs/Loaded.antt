@@ -126,7 +126,7 @@ module _ (bs : List LinkedBlock) (words : List ℕ) (views : List SeatView) (id 
       load : WordLoad
       load = record { word = i; value = slice_index words i }
 
-      -- where the new load is found, and where an older one is
+      -- if the new load is found, and if an older one is
       found : (t : Bool) (w n : ℕ) → (i == w) ≡ t → cond t (Some (slice_index words i)) (load_of v.loads w) ≡ Some n → ((i ≡ w) × (n ≡ slice_index words w)) ⊎ (load_of v.loads w ≡ Some n)
       found true w n t e = let q = eqb-true i w t in inl (q, sym (some-eq e) ∙ ap (slice_index words) q)
       found false w n t e = inr e

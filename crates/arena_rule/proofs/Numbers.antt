@@ -75,7 +75,7 @@ winner-recorded leaf White = ap (λ (t : Bool). cond t Black White) (odd leaf)
     odd : (n : ℕ) → ((2 * n + 1) % 2 == 0) ≡ false
     odd n = grind (arith, nat_tests)
 
--- 1 where a number is in hand
+-- 1 if a number is in hand
 abbrev pub has_number : Option ℕ → ℕ
 has_number None = 0
 has_number (Some k) = 1
@@ -86,7 +86,7 @@ holds_ticket v = has_number v.ticket
 abbrev pub walks_of : SeatView → ℕ
 walks_of v = length v.walks
 
--- 1 where k is below TICKET and below N
+-- 1 if k is below TICKET and below N
 abbrev pub due : ℕ → ℕ → ℕ → ℕ
 due k ticket n = one_if (nat_lt k ticket && nat_lt k n)
 

@@ -105,7 +105,7 @@ module _ (s : Setting) (bs : List LinkedBlock) (words : List ℕ) (views : List 
       (λ t. let l = t.0 in omega (arith, l, e))
       (node-lies s (next_in words) bs (leaf_in w.value) st.linked.blocks.complete (right w c).node)
 
-  -- a number counts where it has a record
+  -- a number counts if it has a record
   one-record : (k : ℕ) (g : ℕ → ℕ) → k < n → sum_by (if_here k g) walks ≡ cond (not (record_in words k == 0)) (g (record_in words k)) 0
   one-record k g l = by (times_walked k walks) refl
     where

@@ -26,7 +26,7 @@ use Rattle.arena_rule.proofs.KnownMore.{Grows, known_cases}
 use Rattle.arena_rule.proofs.Apart.{node-back, told-size}
 use Rattle.arena_rule.proofs.Widths.{few-words}
 
--- the words of a block where its link is known and it is not the root's
+-- the words of a block if its link is known and it is not the root's
 abbrev counted : ℕ → List LinkedBlock → LinkedBlock → ℕ
 counted r ks b = cond (not (b.parent == r) && not (link_of ks b.parent == 0)) (size b) 0
 
@@ -82,7 +82,7 @@ link-after v x y z e = ⊎_elim
     by true n m ne q = absurd (ne q)
     by false n m ne q = q
 
--- the told block is known, where no link was known and one is found
+-- the told block is known, if no link was known and one is found
 pub told-known : (v : SeatView) (x y : ℕ) → is_known v x ≡ true → known_link v x ≡ 0 → y ≢ 0 → known_after v x y ≡ told_below v x y ∷ v.known
 unfolding known_after
 told-known v x y n z found =
@@ -94,7 +94,7 @@ module _ (bs : List LinkedBlock) (words : List ℕ) (views : List SeatView) (id 
   room : Room v.shape bs words views
   room = b.state.room
 
-  -- where the view claims nothing and knows no less
+  -- if the view claims nothing and knows no less
   frame : (u : SeatView) (words' : List ℕ) → u.width ≡ v.width → u.claimed ≡ v.claimed → full_width u ≡ full_width v → words_held u.held ≡ words_held v.held → KnowMore v.known u.known
       → next_in words' ≡ next_in words → Room v.shape bs words' (set views id u)
   frame u words' w c f h more n =

@@ -102,7 +102,7 @@ module _ (bs : List LinkedBlock) (words : List ℕ) (views : List SeatView) (id 
       by None q = refl
       by (Some k) q = absurd (let one = (b.state.in_hand j u e).one k q in omega (arith, one.0, one.1, end))
 
-  -- a sum over the views where a view is joined with another
+  -- a sum over the views if a view is joined with another
   joined-sum : (f : SeatView → ℕ) (other : ℕ) (w : SeatView) → Other views id v other w → f (joined v w) ≡ f v + f w → f (spent_view v.shape) ≡ 0 → sum_by f (views_joined views id v other w) ≡ sum_by f views
   joined-sum f other w o e z = omega (arith, total_join f views id other v w (joined v w) (spent_view v.shape) o.differ b.at o.at, e, z)
 

@@ -86,7 +86,7 @@ module _ (bs : List LinkedBlock) (words : List ℕ) (views : List SeatView) (id 
         root = omega (arith, d (root_at v.shape) 3 (root_node (root_at v.shape) bs) (omega arith) (omega arith), old.root, r);
       }
 
-  -- where no amount changes, and the step is no Add
+  -- if no amount changes, and the step is no Add
   sums-frame : (op : Op) → FitsStep v op → IsNoAdd op
       → ((w : ℕ) → amount_counted v.shape bs w (after v op (answer_of op (slice_index words (word_of op)))) ≡ amount_counted v.shape bs w v)
       → Sums v.shape bs (words_after words op) (views_after words views id v op)

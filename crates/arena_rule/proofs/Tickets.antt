@@ -28,7 +28,7 @@ use Rattle.arena_rule.proofs.Numbers.{times_walked, value_walked, walked-cons, v
 use Rattle.arena_rule.proofs.Reach.{IsHigh, low-same}
 use Rattle.std.proofs.lemmas.Bool.{eq-eqb, ne_eqb}
 
--- a record stays right where a block is linked
+-- a record stays right if a block is linked
 pub right-more : (s : Setting) (c : LinkedBlock) (bs : List LinkedBlock) (w : Walked) → Follows (root_at s) c bs → IsRight s bs w → IsRight s (c ∷ bs) w
 right-more s c bs w f r = record {
   node = second (has_node c (leaf_in w.value)) (is_node (root_at s) bs (leaf_in w.value)) r.node;
@@ -47,7 +47,7 @@ past-due : (k x n : ℕ) → n ≤ x → due k (x + 1) n ≡ due k x n
 past-due k x n l = grind (arith, nat_tests)
 
 module _ (bs : List LinkedBlock) (words : List ℕ) (views : List SeatView) (id : ℕ) (v : SeatView) (b : Before bs words views id v) where
-  -- where the view has the same numbers, and the words below the root stay
+  -- if the view has the same numbers, and the words below the root stay
   pub tickets-frame : (u : SeatView) (words' : List ℕ) → u.ticket ≡ v.ticket → u.walks ≡ v.walks → ticket_in words' ≡ ticket_in words
       → ((k : ℕ) → k < v.shape.knobs.playouts → record_in words' k ≡ record_in words k) → Tickets v.shape bs words' (set views id u)
   tickets-frame u words' t w n r =

@@ -71,20 +71,20 @@ module _ {A : Type 0} where
   inside (x ∷ xs) zero v e = omega arith
   inside (x ∷ xs) (suc i) v e = omega (arith, inside xs i v e)
 
--- what holds of each view where one changes
+-- what holds of each view if one changes
 pub each-set : (P : SeatView → Type 0) (views : List SeatView) (id : ℕ) (u : SeatView) → ((j : ℕ) (v : SeatView) → j ≢ id → get_elem? views j ≡ some v → P v) → P u → Each P (set views id u)
 each-set P views id u others mine j v e = ⊎_elim
     (λ (t : (j ≡ id) × (u ≡ v)). subst P t.1 mine)
     (λ (t : (j ≢ id) × (get_elem? views j ≡ some v)). others j v t.0 t.1)
     (at_set views id j u v e)
 
--- where one is cut in two
+-- if one is cut in two
 pub each-split : (P : SeatView → Type 0) (views : List SeatView) (id : ℕ) (a b : SeatView) → ((j : ℕ) (v : SeatView) → j ≢ id → get_elem? views j ≡ some v → P v) → P a → P b → Each P (set views id a ++ b ∷ [])
 each-split P views id a b others left right j v e = ⊎_elim
     (λ (t : get_elem? (set views id a) j ≡ some v). each-set P views id a others left j v t)
     (λ (t : b ≡ v). subst P t right)
     (at_snoc (set views id a) b v j e)
 
--- where two change
+-- if two change
 pub each-join : (P : SeatView → Type 0) (views : List SeatView) (id other : ℕ) (a b : SeatView) → ((j : ℕ) (v : SeatView) → get_elem? views j ≡ some v → P v) → P a → P b → Each P (set (set views id a) other b)
 each-join P views id other a b others left right = each-set P (set views id a) other b (λ j v _ e. each-set P views id a (λ i w _ d. others i w d) left j v e) right

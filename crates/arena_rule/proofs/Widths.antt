@@ -32,7 +32,7 @@ module _ (bs : List LinkedBlock) (words : List ℕ) (views : List SeatView) (id 
   width-set u s w e = each-set (HasWidth v.shape) views id u (λ j x _ at. b.state.widths.each j x at)
       record { shape = s; ended = e; spent = λ z. absurd (let live = b.live in omega (arith, w, z)) }
 
-  -- where nothing that Widths reads has changed
+  -- if nothing that Widths reads has changed
   frame : (u : SeatView) (words' : List ℕ) → u.shape ≡ v.shape → u.width ≡ v.width → u.ended ≡ v.ended → full_width u ≡ full_width v
       → ticket_in words' ≡ ticket_in words → next_in words' ≡ next_in words → Widths v.shape words' (set views id u)
   frame u words' s w e f t n =

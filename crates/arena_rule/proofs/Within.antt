@@ -23,7 +23,7 @@ within-adds s bs ks k leaf g kn n =
     ap (λ (p : NodeState). (adds_up s (outcome_of s k p) ks leaf).adds) (within-state s bs ks leaf g kn n)
     ∙ ap (λ (a : Gathered). a.adds) (within-up (root_adds s o) (node_adds o) (root_at s) bs ks leaf g kn n)
 
--- a node stays one where one more block is known
+-- a node stays one if one more block is known
 pub node-more : (r : ℕ) (d : LinkedBlock) (ks : List LinkedBlock) (x : ℕ) → is_node r ks x ≡ true → is_node r (d ∷ ks) x ≡ true
 node-more r d ks x n = second (has_node d x) n
   where

@@ -18,7 +18,7 @@ pub record CountAdd : Type 0 where
   pub word : ℕ
   pub won : Bool
 
--- the adds of the seen words of a block's nodes whose cells are in the set, by rising place, where
+-- the adds of the seen words of a block's nodes whose cells are in the set, by rising place, if
 -- the first node begins at y
 abbrev pub seen_adds : ℕ → Bool → ℕ → List ℕ → List CountAdd
 seen_adds set won y [] = []
@@ -62,14 +62,14 @@ abbrev pub amount_at : ℕ → List CountAdd → ℕ
 amount_at w [] = 0
 amount_at w (a ∷ others) = (if a.word == w then amount_of a.won else 0) + amount_at w others
 
--- by the exact counts the walk of playout k to a leaf adds to the tally of a node x a visit where
--- the leaf has x on its path, and a win where Mover(x) won
+-- by the exact counts the walk of playout k to a leaf adds to the tally of a node x a visit if
+-- the leaf has x on its path, and a win if Mover(x) won
 abbrev pub tally_amount : Setting → List LinkedBlock → ℕ → ℕ → ℕ → ℕ
 tally_amount s bs k leaf x = let o : Ending = outcome_of s k (node_state s bs leaf) in
     if is_on s bs x leaf then amount_of (is_same o.winner (mover_of s bs x)) else 0
 
--- and to the seen word of a node y of the block b, where the leaf has a node of b on its path and
--- the filled board a stone of Mover(y) on the cell of y, a visit, and a win where Mover(y) won
+-- and to the seen word of a node y of the block b, if the leaf has a node of b on its path and
+-- the filled board a stone of Mover(y) on the cell of y, a visit, and a win if Mover(y) won
 abbrev pub seen_amount : Setting → List LinkedBlock → ℕ → ℕ → LinkedBlock → ℕ → ℕ
 seen_amount s bs k leaf b y = let o : Ending = outcome_of s k (node_state s bs leaf) in
     if enters s bs b leaf

@@ -24,7 +24,7 @@ word_of (Add i won) = i
 word_of (Note k value) = RECORDS_AT + k
 word_of Done = NEXT_AT
 
--- the word's new value, where x was found
+-- the word's new value, if x was found
 abbrev pub put : Op → ℕ → ℕ
 put Draw x = x + 1
 put (Look i) x = x
@@ -35,7 +35,7 @@ put (Add i won) x = x + amount_of won
 put (Note k value) x = value
 put Done x = x
 
--- what a step answers where x was found: a Write and a Note answer 0
+-- what a step answers if x was found: a Write and a Note answer 0
 abbrev pub answer_of : Op → ℕ → ℕ
 answer_of Draw x = x
 answer_of (Look i) x = x
@@ -52,7 +52,7 @@ drew v x =
     if nat_lt x v.shape.knobs.playouts then record v { ticket = Some x }
     else record v { ended = 1 }
 
--- the known blocks after the link of the node x was found to be b: where it is a known node without
+-- the known blocks after the link of the node x was found to be b: if it is a known node without
 -- a known block and b is not 0, the told block is known too
 unfoldable pub known_after : SeatView → ℕ → ℕ → List LinkedBlock
 known_after v x b =
@@ -95,13 +95,13 @@ written_more value h = record h { written = h.written ++ value ∷ [] }
 unfoldable pub wrote : SeatView → ℕ → SeatView
 wrote v value = record v { held = option_map (written_more value) v.held }
 
--- after a Publish of b at the link l that found x: where this was 0 the held block is known, else
+-- after a Publish of b at the link l that found x: if this was 0 the held block is known, else
 -- the one that the link names; in both cases nothing is held
 unfoldable pub published : SeatView → ℕ → ℕ → ℕ → SeatView
 published v l b x =
     record v { known = known_after v (node_of_link l) (if x == 0 then b else x); held = None }
 
--- the walk in flight after one more add, which is the leaf's tally where it is the first
+-- the walk in flight after one more add, which is the leaf's tally if it is the first
 abbrev pub flight_after : ℕ → Option Flight → Flight
 flight_after i None = record { leaf = i - TALLY_WORD; made = 1 }
 flight_after i (Some f) = record { leaf = f.leaf; made = f.made + 1 }
@@ -146,7 +146,7 @@ abbrev pub given_part : SeatView → ℕ → SeatView
 given_part v part = new_view v.shape part v.known
 
 -- a join: widths, ended workers and claimed words add up, known blocks and walks are those of both,
--- and it is full where one was
+-- and it is full if one was
 unfoldable pub joined : SeatView → SeatView → SeatView
 joined v other = record (new_view v.shape (v.width + other.width) (v.known ++ other.known)) {
   ended = v.ended + other.ended;

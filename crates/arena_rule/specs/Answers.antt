@@ -16,7 +16,7 @@ use Rattle.arena_rule.specs.Lookups.{is_known, known_link, told_below, recorded_
 use Rattle.arena_rule.specs.Lookups.{adds_in, is_held}
 use Rattle.arena_rule.specs.Afters.{word_of}
 
--- where the view has a copy of the words, the answer is the value there
+-- if the view has a copy of the words, the answer is the value there
 abbrev pub AgreesWithWhole : SeatView → ℕ → ℕ → Type 0
 AgreesWithWhole v i x = (words : List ℕ) → v.whole ≡ Some words → x ≡ slice_index words i
 
@@ -41,7 +41,7 @@ pub record AnswersLink (v : SeatView) (x b : ℕ) : Type 0 where
   pub other : known_link v x ≡ 0 → (b ≡ 0) ⊎ MayLieBelow v x b
 
 -- the tally of the known node x: visits and wins of at most N, and as many visits at least as the
--- view's own walks through the node, and one more where its adds in flight include that tally
+-- view's own walks through the node, and one more if its adds in flight include that tally
 pub record AnswersTally (v : SeatView) (x n : ℕ) : Type 0 where
   pub visits : visits_in n ≤ v.shape.knobs.playouts
   pub wins : wins_in n ≤ v.shape.knobs.playouts

@@ -23,7 +23,7 @@ pub record IsLast (s : Setting) (views : List SeatView) (id : ℕ) (v : SeatView
 abbrev pub HasAllWalks : Setting → SeatView → Type 0
 HasAllWalks s v = (k : ℕ) → k < s.knobs.playouts → count_by (λ w. w.number == k) v.walks ≡ 1
 
--- where one seat is left and its workers have ended, the tree is closed
+-- if one seat is left and its workers have ended, the tree is closed
 abbrev pub EndsClosed : Setting → Arena → Type 0
 EndsClosed s a = (id : ℕ) (v : SeatView) → IsLast s a.views id v → IsClosed s a.words
 

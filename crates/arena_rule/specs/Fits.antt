@@ -126,7 +126,7 @@ pub record FitsNote (v : SeatView) (k n : ℕ) : Type 0 where
   pub all : flight.made ≡ length (walk_adds v.shape v.known k flight.leaf)
   pub value : n ≡ record_told v k flight.leaf
 
--- the view fits the step; no step is left where all workers have ended
+-- the view fits the step; no step is left if all workers have ended
 abbrev pub FitsStep : SeatView → Op → Type 0
 FitsStep v Draw = FitsDraw v
 FitsStep v (Look i) = FitsLook v i

@@ -38,7 +38,7 @@ load_of (l ∷ loads) w = if l.word == w then Some l.value else load_of loads w
 abbrev pub IsLoaded : SeatView → ℕ → Type 0
 IsLoaded v w = (n : ℕ) × (load_of v.loads w ≡ Some n)
 
--- a load's number, and 0 where nothing was loaded
+-- a load's number, and 0 if nothing was loaded
 abbrev pub or_zero : Option ℕ → ℕ
 or_zero None = 0
 or_zero (Some n) = n
@@ -58,7 +58,7 @@ recorded_through v x = count_by (λ w. is_on v.shape v.known x (leaf_in w.value)
 abbrev pub recorded_at : SeatView → ℕ → ℕ
 recorded_at v x = count_by (λ w. leaf_in w.value == x) v.walks
 
--- 1 where a walk is in flight and its leaf passes the test: it goes through every node of its
+-- 1 if a walk is in flight and its leaf passes the test: it goes through every node of its
 -- leaf's path, whichever adds are made
 abbrev pub flying : (ℕ → Bool) → Option Flight → ℕ
 flying test None = 0

@@ -23,7 +23,7 @@ use Rattle.arena_rule.specs.Lookups.{is_known, adds_made, is_held}
 abbrev pub Each : (SeatView → Type 0) → List SeatView → Type 0
 Each P views = (i : ℕ) (v : SeatView) → get_elem? views i ≡ some v → P v
 
--- the workers of a view, those of them that have ended, and its workers where it is full
+-- the workers of a view, those of them that have ended, and its workers if it is full
 abbrev pub width_of : SeatView → ℕ
 width_of v = v.width
 
@@ -33,7 +33,7 @@ ended_of v = v.ended
 abbrev pub full_width : SeatView → ℕ
 full_width v = if v.full then v.width else 0
 
--- a view has the tree's shape, no more workers have ended than it stands for, and it is spent where
+-- a view has the tree's shape, no more workers have ended than it stands for, and it is spent if
 -- it stands for none
 pub record HasWidth (s : Setting) (v : SeatView) : Type 0 where
   pub shape : v.shape ≡ s
@@ -41,8 +41,8 @@ pub record HasWidth (s : Setting) (v : SeatView) : Type 0 where
   pub spent : v.width ≡ 0 → v ≡ spent_view s
 
 -- Widths: the widths add up to K. TICKET is at most N and the number of ended workers, and at least
--- N where one has ended. NEXT is at most the area's end and a largest block for each worker of the
--- full views, and past the end where there is one.
+-- N if one has ended. NEXT is at most the area's end and a largest block for each worker of the
+-- full views, and past the end if there is one.
 pub record Widths (s : Setting) (words : List ℕ) (views : List SeatView) : Type 0 where
   pub each : Each (HasWidth s) views
   pub sum : sum_by width_of views ≡ s.knobs.workers
@@ -55,7 +55,7 @@ pub record Widths (s : Setting) (words : List ℕ) (views : List SeatView) : Typ
 abbrev pub Fresh : Setting → List ℕ → Type 0
 Fresh s words = (i : ℕ) → area_at s ≤ i → next_in words ≤ i → i < end_of s → slice_index words i ≡ 0
 
--- 1 where the view holds the word i
+-- 1 if the view holds the word i
 abbrev pub held_at : ℕ → SeatView → ℕ
 held_at i v = one_if (is_held v.held i)
 

@@ -10,7 +10,7 @@ use Rattle.arena_rule.specs.Parts.{Widths, Fresh, AreApart, AreLinked, AreWritte
 use Rattle.arena_rule.specs.Parts.{Tickets, InHand, Sole}
 use Rattle.arena_rule.specs.Bounds.{AreLoads, FirstVisits, LeafBound, Room}
 
--- the parts of the rule hold, where bs are the linked blocks
+-- the parts of the rule hold, if bs are the linked blocks
 pub record IsState (s : Setting) (bs : List LinkedBlock)
     (words : List ℕ) (views : List SeatView) : Type 0 where
   pub setting : IsSetting s

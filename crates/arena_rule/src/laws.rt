@@ -38,7 +38,7 @@ pub fn begins()
 {}
 
 /// The law of a run: for every list of steps, splits and joins by any seats whose views fit, the
-/// rule holds after it where it holds before, and so between any two of them. It does nothing.
+/// rule holds after it if it holds before, and so between any two of them. It does nothing.
 pub fn runs()
     ensures { (s : Setting) (a : Arena) → RuleHolds s a → RunsKeep s a }
 {}
@@ -56,7 +56,7 @@ pub fn wins_are_among_visits()
     ensures { (s : Setting) (a : Arena) (rule : RuleHolds s a) → WinsAmongVisits s a rule }
 {}
 
-/// The law of records: the counts of each node are those of the records, where a record is not 0,
+/// The law of records: the counts of each node are those of the records, if a record is not 0,
 /// and of the adds made in flight. It does nothing.
 pub fn counts_are_of_records()
     ensures { (s : Setting) (a : Arena) (rule : RuleHolds s a) → CountsRecords s rule.blocks a }

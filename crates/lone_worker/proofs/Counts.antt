@@ -36,7 +36,7 @@ config_by s bs walks next = record {
 abbrev pub LoadsAgree : Setting → List LinkedBlock → List Walked → List WordLoad → Type 0
 LoadsAgree s bs walks loads = (w n : ℕ) → load_of loads w ≡ Some n → w ≢ root_at s + SEEN_WORD → n ≡ amount_recorded s bs w walks
 
--- where no adds are begun the view counts its recorded walks alone
+-- if no adds are begun the view counts its recorded walks alone
 none-made : (s : Setting) (bs : List LinkedBlock) (w : ℕ) (ticket : Option ℕ) (adds : Option Flight) → adds ≡ None → amount_at w (adds_made s bs ticket adds) ≡ 0
 none-made s bs w ticket adds e = ap (λ (o : Option Flight). amount_at w (adds_made s bs ticket o)) e ∙ by ticket
   where

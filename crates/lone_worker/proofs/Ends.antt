@@ -18,7 +18,7 @@ use Rattle.arena_rule.specs.Rule.{IsState}
 use Rattle.lone_worker.proofs.Counts.{tally_by, seen_by, config_by, tally-word, seen-word}
 use Rattle.lone_worker.proofs.Courses.{Stands, Lone}
 
--- the tree by the recorded walks is that of the words, where no adds are begun
+-- the tree by the recorded walks is that of the words, if no adds are begun
 module _ (s : Setting) (bs : List LinkedBlock) (words : List ℕ) (v : SeatView) (state : IsState s bs words (v ∷ [])) (none : v.adds ≡ None) where
   filled : Whole (root_at s) bs
   filled = record { order = state.linked.blocks.order; filled = state.linked.nodes }

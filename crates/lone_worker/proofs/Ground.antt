@@ -31,6 +31,6 @@ module _ (bs : List LinkedBlock) (words : List ℕ) (v : SeatView) (k : ℕ) (l 
   pub node-of : (x : ℕ) → is_known v x ≡ true → is_node (root_at v.shape) bs x ≡ true
   node-of x n = known-node bs words (v ∷ []) 0 v ground 0 v x refl n
 
-  -- nothing is in flight and nothing held where no number is in hand
+  -- nothing is in flight and nothing held if no number is in hand
   pub idle : v.ticket ≡ None → (v.adds ≡ None) × (v.held ≡ None)
   idle = (l.state.in_hand 0 v refl).idle

@@ -1,4 +1,4 @@
--- Where the view is full, and where the walk may stand.
+-- When the view is full, and where the walk may stand.
 use Rattle.std.proofs.Common.{◌≡◌, ℕ, ◌<◌, ◌≤◌, Bool, true, false, cond, List, [], ◌∷◌, None, ap, arith}
 use Rattle.std.proofs.lemmas.List.Sums.{sum_by-cons}
 use Rattle.tree_words.specs.Words.{root_at, end_of, next_in}
@@ -22,14 +22,14 @@ module _ (bs : List LinkedBlock) (words : List ℕ) (v : SeatView) (k : ℕ) (l 
   abbrev b : Before bs words (v ∷ []) 0 v
   b = ground bs words v k l
 
-  -- past the area's end where the view is full, and not past it where it is not
+  -- past the area's end if the view is full, and not past it if it is not
   pub past-end : v.full ≡ true → end_of v.shape < next
   past-end e = l.state.widths.full (omega (arith, sum_by-cons full_width v [], ap (λ (t : Bool). cond t v.width 0) e, l.course.width))
 
   pub within-end : v.full ≡ false → next ≤ end_of v.shape
   within-end e = omega (arith, l.state.widths.next, sum_by-cons full_width v [], ap (λ (t : Bool). cond t v.width 0) e)
 
-  -- the leaf, where no adds are begun
+  -- the leaf, if no adds are begun
   pub is-leaf : v.adds ≡ None → (x : ℕ) → IsAtLeaf v x → x ≡ leaf bs words v b
   is-leaf none x h = at-leaf bs words v b l.course.known (l.course.loads none) x h
 

@@ -40,7 +40,7 @@ word-more : (n : ℕ) (t u : Bool) → wins_in n + 1 < 2 ^ 32 → count_in (cond
 word-more n true u l = ap count_in (let z : amount_of u + n ≡ n + amount_of u = omega arith in z) ∙ count-more n u l
 word-more n false u l = ap count_in (let z : 0 + n ≡ n = omega arith in z) ∙ sym (plus-nothing (count_in n))
 
--- a sum of walks has few wins where each walk adds to the word once at most
+-- a sum of walks has few wins if each walk adds to the word once at most
 record Parts (n most : ℕ) : Type 0 where
   visits : ℕ
   wins : ℕ

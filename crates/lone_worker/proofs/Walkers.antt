@@ -25,7 +25,7 @@ module _ (w : Walker) (v : SeatView) (h : Belongs w v) where
   order : InOrder (root_at v.shape) v.known
   order = one-order v h.view h.width
 
-  -- where it may claim
+  -- if it may claim
   may : MayClaim w v → MayGetBlock v w.node (size_below (state_in w))
   may m =
       let same : length (empties_of w.board) ≡ empties_at v w.node = ap (λ (p : NodeState). length (empties_of p.board)) m.down.is in

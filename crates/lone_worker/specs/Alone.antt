@@ -20,7 +20,7 @@ pub record MakesStep (w : Walker) (v : SeatView) (later : Walker) (view : SeatVi
   pub walker_is : later ≡ next w answer
   pub view_is : view ≡ after v (op_of w) answer
 
--- After n steps the walker is w and its view v, where it began as a walker to whom the opening view
+-- After n steps the walker is w and its view v, if it began as a walker to whom the opening view
 -- belongs, with a view whose copy of the words is the opening words, whatever else that knew.
 abbrev pub RunsAlone : Setting → ℕ → Walker → SeatView → Type 0
 RunsAlone s zero w v = Belongs w (opening_view s) × (v.whole ≡ Some (opening_words s))
@@ -37,7 +37,7 @@ pub record ShowsSequence (s : Setting) (v : SeatView) : Type 0 where
   pub whole : v.whole ≡ Some words
   pub tree : IsTreeOf s words (seq_of s).0
 
--- where it has run alone and is done, the view's copy shows that tree
+-- if it has run alone and is done, the view's copy shows that tree
 abbrev pub EndsAsSequence : Setting → Type 0
 EndsAsSequence s = (w : Walker) (v : SeatView) → HasRunAlone s w v → op_of w ≡ Done
     → ShowsSequence s v

@@ -3,15 +3,15 @@
 //! This crate is that law and no more: it has no type and no code that runs, and its one function
 //! does nothing. search_team and sim_run, whose workers run, cite it.
 //!
-//! **Nouns.** A walker *runs alone* where it began as a new walker with a copy of the opening
+//! **Nouns.** A walker *runs alone* if it began as a new walker with a copy of the opening
 //! words, whatever else its view knew, and each of its steps was answered as the step may be, and
-//! so with the word that stands in the copy (specs/Alone.antt). It *is done* where its next step is
+//! so with the word that stands in the copy (specs/Alone.antt). It *is done* if its next step is
 //! Done.
 //!
 //! **A caller** makes no value here: it cites the law, and keeps in its loop that its walker has
 //! run alone. One step more is one number more.
 //!
-//! **What is proved.** Where a walker has run alone and is done, the copy of the words shows the
+//! **What is proved.** If a walker has run alone and is done, the copy of the words shows the
 //! tree of the sequential search ([`one_worker_is_sequential`]).
 //!
 //! **What is only tested, or not said.** How many steps it takes; the words that no tree shows, as

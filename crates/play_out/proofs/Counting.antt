@@ -19,7 +19,7 @@ counted_here k x xs e = count k x xs ∙ ap (λ b. cond b 1 0 + count_by (λ c. 
 pub counted_later : (k x : ℕ) (xs : List ℕ) → (x ≡ k → ⊥) → count_by (λ c. c == k) (x ∷ xs) ≡ count_by (λ c. c == k) xs
 counted_later k x xs n = count k x xs ∙ (ap (λ b. cond b 1 0 + count_by (λ c. c == k) xs) (ne_eqb x k n) ∙ zero-add (count_by (λ c. c == k) xs))
 
--- one more cell of a filter, where it is another cell
+-- one more cell of a filter, if it is another cell
 skipped : (p : ℕ → Bool) (b : Bool) (k x : ℕ) (xs : List ℕ) → (x ≡ k → ⊥) → count_by (λ c. c == k) (cond b (x ∷ xs) xs) ≡ count_by (λ c. c == k) xs
 skipped p true k x xs n = counted_later k x xs n
 skipped p false k x xs n = refl

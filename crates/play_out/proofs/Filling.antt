@@ -39,7 +39,7 @@ board_is p player seed k size black white s b w =
     let full = filled p player seed k in
     ap (λ v. position v black white) (s ∙ sym (filled_size p player seed k)) ∙ (ap (λ v. position full.size v white) b ∙ ap (λ v. position full.size full.black v) w)
 
--- one player's stones where the other's are b
+-- one player's stones if the other's are b
 other-of-full : (n c : ℕ) (b w : Bool) → ((nat_lt c n && not b) && not w) ≡ false → (w ≡ true → c < n) → (b ≡ true → w ≡ true → ⊥) → (nat_lt c n && not b) ≡ w
 other-of-full n c true true full within apart = absurd (apart refl refl)
 other-of-full n c true false full within apart = and_no (nat_lt c n)
@@ -98,7 +98,7 @@ unfolding playout_of
 result_is p player seed k size black s b =
     ap (λ v. winner_by v black) (s ∙ sym (filled_size p player seed k)) ∙ ap (λ v. winner_by (filled p player seed k).size v) b
 
--- the result is Black where a path of Black's stones joins his edges
+-- the result is Black if a path of Black's stones joins his edges
 pub black_joins : (p : Position) (player : Colour) (seed k : ℕ) (result : Colour) → result ≡ playout_of p player seed k
     → (result ≡ Black) ↔ Joined (filled p player seed k).size Black (filled p player seed k).black
 unfolding playout_of

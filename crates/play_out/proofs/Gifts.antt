@@ -10,7 +10,7 @@ use Rattle.hex_board.specs.Positions.{Position, stones_of}
 use Rattle.play_out.specs.Fills.{filled_by}
 use Rattle.play_out.proofs.Turns.{with_turns, turns}
 
--- the stones are those of before and of the even places from i on; i is 0 where there is no cell, else odd
+-- the stones are those of before and of the even places from i on; i is 0 if there is no cell, else odd
 pub record Dealt (before : ℕ) (cells : List ℕ) (i stones : ℕ) : Type 0 where
   pub none : i ≡ 0 → stones ≡ with_turns true before cells
   pub some : 0 < i → (i % 2 ≡ 1) × (stones ≡ with_turns false before (drop i cells))

@@ -73,7 +73,7 @@ cell_passed s cells count end c l e t =
       size = length-set cells count c ∙ l.size;
     }
 
--- a cell more, where the lowest bit of the rest tells whether the set has it
+-- a cell more, if the lowest bit of the rest tells whether the set has it
 pub listed_next : (s rest : ℕ) (cells : List ℕ) (count end c : ℕ) → Listed s cells count end → rest ≡ s / 2 ^ end → end < 121 → c ≡ end
     → Listed s (set cells count c) (count + bit_and rest 1) (end + 1)
 listed_next s rest cells count end c l r h e =

@@ -13,7 +13,7 @@ use Rattle.std.proofs.Math.Seq.{take-append_seam}
 use Rattle.play_out.specs.Fills.{empties_of, order_of}
 use Rattle.play_out.specs.Streams.{stream_at, state_for, words_of, place_of, shuffled}
 
--- the cells, and the state of the generator, where the places below i are still to be shuffled, and what began as start
+-- the cells, and the state of the generator, if the places below i are still to be shuffled, and what began as start
 pub record Shuffling (start : List ℕ) (first : List ℕ) (cells : List ℕ) (state : List ℕ) (i : ℕ) : Type 0 where
   pub order : shuffled (i - 1) (words_of (i - 1) (stream_at state)) cells ≡ shuffled (length start - 1) (words_of (length start - 1) (stream_at first)) start
   pub same : IsPermutation start cells

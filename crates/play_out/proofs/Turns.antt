@@ -66,7 +66,7 @@ size_after p player (c ∷ cells) = size_after (placed p player c) (other_of pla
 
 -- ---- the stones of one player
 
--- the set s with every second of the cells too: the first, the third and so on where the test passes, else the second,
+-- the set s with every second of the cells too: the first, the third and so on if the test passes, else the second,
 -- the fourth and so on
 unfoldable pub with_turns : Bool → ℕ → List ℕ → ℕ
 with_turns begins s [] = s

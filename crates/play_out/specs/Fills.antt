@@ -32,7 +32,7 @@ filled_by p player (c ∷ cells) = filled_by (placed p player c) (other_of playe
 unfoldable pub filled : Position → Colour → ℕ → ℕ → Position
 filled p player seed k = filled_by p player (order_of p seed k)
 
--- who has won on a filled board of this size where these are Black's stones: Black where he is
+-- who has won on a filled board of this size if these are Black's stones: Black if he is
 -- joined, else White
 abbrev pub winner_by : ℕ → ℕ → Colour
 winner_by size black = if is_joined size Black black then Black else White

@@ -6,7 +6,7 @@
 //! which begin in rising order: for each place `i` from the last down to 1 the next word gives the
 //! place `word * (i + 1) / 2^64`, rounded down, and the cells at both change places. The *filled
 //! board* has stones on these cells, in turn, the first of the player to move. Its *result* is
-//! Black where Black is joined on it, else White.
+//! Black if Black is joined on it, else White.
 //!
 //! **A caller** asks for the result, `playout(&board, Colour::Black, seed, k)`, for the filled
 //! board, `fill(&board, Colour::Black, seed, k)`, or for both, `play(&board, Colour::Black, seed,

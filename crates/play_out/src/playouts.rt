@@ -12,7 +12,7 @@ use super::dealing::movers_stones;
 use hex_board::{Board, joined};
 use hex_cells::{CellSet, Colour, Size};
 
-// Who has won on a filled board of this size where these are Black's stones: Black where he is
+// Who has won on a filled board of this size if these are Black's stones: Black if he is
 // joined, else White.
 fn winner(black: CellSet, size: Size) -> Colour
     ensures { result ≡ winner_by size black }
@@ -30,7 +30,7 @@ fn winner(black: CellSet, size: Size) -> Colour
 pub struct Ending {
     /// The filled board.
     pub full: Board,
-    /// Black where Black is joined on it, else White.
+    /// Black if Black is joined on it, else White.
     pub winner: Colour,
 }
 
@@ -43,7 +43,7 @@ pub fn fill(board: &Board, to_move: Colour, seed: u64, k: u64) -> Board
         → has (stones_of result owner) c ≡ true }
     ensures size { result.size ≡ board.now.size }
 {
-    // A board's stones lie on it and apart.
+    // Brings what the type keeps into scope: a board's stones lie on it, and apart.
     let (_before, _others_before) = (board.stones(to_move), board.stones(to_move.other()));
     let own = movers_stones(board, to_move, seed, k);
     let size = board.size();
@@ -54,7 +54,7 @@ pub fn fill(board: &Board, to_move: Colour, seed: u64, k: u64) -> Board
     }
 }
 
-/// The result of playout `k` of a search with this seed: Black where Black is joined on the filled
+/// The result of playout `k` of a search with this seed: Black if Black is joined on the filled
 /// board, else White. A player may be joined before the fill.
 pub fn playout(board: &Board, to_move: Colour, seed: u64, k: u64) -> Colour
     ensures value { result ≡ playout_of board.now to_move seed k }

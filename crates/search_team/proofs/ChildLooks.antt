@@ -1,4 +1,4 @@
--- The three looks at a child, where the walker lent its scan.
+-- The three looks at a child, if the walker lent its scan.
 use Rattle.std.proofs.Common.{◌≡◌, ℕ, ◌<◌, ◌≤◌, refl, sym, ap, subst, arith}
 use Rattle.tree_words.specs.declared.steps.Op.{Op}
 use Rattle.tree_words.specs.declared.steps.Op.TheVariants.{Look}

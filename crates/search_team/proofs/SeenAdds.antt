@@ -22,7 +22,7 @@ use Rattle.search_team.specs.WorkLeft.{work_left}
 use Rattle.search_team.specs.Runs.{HasRun}
 use Rattle.search_team.proofs.Going.{not-done, step-falls, run-begins}
 
--- where the walker is at a climb, it is not at its end
+-- if the walker is at a climb, it is not at its end
 pub more-adds : (w : Walker) (v : SeatView) → Belongs w v → w.stage ≡ Seeing → w.climb ≢ []
 more-adds w v b e = let a : AtSeen w v = subst (λ (t : Stage). Stands t w v) e b.stands in a.some
 

@@ -8,7 +8,7 @@ use Rattle.lone_worker.specs.Alone.{HasRunAlone}
 use Rattle.search_team.specs.WorkLeft.{work_left}
 
 -- The walker w over its view v has made some steps, or none, and is `later` over `view`: these
--- belong together, are those of a run alone where w and v are, and leave it no more to do.
+-- belong together, are those of a run alone if w and v are, and leave it no more to do.
 pub record HasRun (w : Walker) (v : SeatView) (later : Walker) (view : SeatView) : Type 0 where
   pub belongs : Belongs later view
   pub alone : (s : Setting) → HasRunAlone s w v → HasRunAlone s later view

@@ -21,7 +21,7 @@ pub record IsDone (tree : TreeData) (seat : SeatData) (workers : ℕ) : Type 0 w
   pub ended : HasEnded seat.view
   pub order : IsView seat.view
 
--- where one worker searches, from a copy of the opening words on, whatever else the view knew, the
+-- if one worker searches, from a copy of the opening words on, whatever else the view knew, the
 -- view's copy of the words shows the sequential tree
 abbrev pub WorksAsSequence : Setting → SeatView → SeatView → Type 0
 WorksAsSequence s before after =

@@ -30,7 +30,7 @@ fn add(tree: &Tree, seat: &mut TreeSeat, walker: &Walker, climb: &mut Climb)
     climb.got();
 }
 
-/// Where the walker adds to a block's seen words, makes all its adds there.
+/// If the walker adds to a block's seen words, makes all its adds there.
 #[inline(always)]
 pub(crate) fn make_seen_adds(tree: &Tree, seat: &mut TreeSeat, walker: &mut Walker)
     requires own { IsOf tree.now seat.old }

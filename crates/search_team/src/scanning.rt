@@ -57,7 +57,7 @@ fn look_while_choosing(tree: &Tree, seat: &mut TreeSeat, walker: &Walker, scan: 
     }
 }
 
-/// Where the walker looks at a block's children, makes all its looks there. A scan that was given
+/// If the walker looks at a block's children, makes all its looks there. A scan that was given
 /// back between two looks at one child is left to single steps, which no worker here ever needs.
 ///
 /// After a child without visits none is chosen any more: that part of the looks has a loop of its

@@ -34,7 +34,7 @@ fn step(tree: &Tree, seat: &mut TreeSeat, walker: &mut Walker, op: Op)
 }
 
 /// Lets one worker work until its draw answers that no playout is left. The seat is of this tree
-/// of this shape, stands for one worker and has drawn nothing. Where he is the only one and the
+/// of this shape, stands for one worker and has drawn nothing. If he is the only one and the
 /// seat's copy of the words was the opening words, the copy then shows the tree of the sequential
 /// search.
 ///

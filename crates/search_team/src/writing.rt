@@ -36,7 +36,7 @@ fn write_node(tree: &Tree, seat: &mut TreeSeat, walker: &Walker, nodes: &mut New
     nodes.got_node();
 }
 
-/// Where the walker has written the header of a new block and no node of it, writes all its nodes.
+/// If the walker has written the header of a new block and no node of it, writes all its nodes.
 #[inline(always)]
 pub(crate) fn write_new_nodes(tree: &Tree, seat: &mut TreeSeat, walker: &mut Walker)
     requires own { IsOf tree.now seat.old }

@@ -11,7 +11,7 @@ use hex_plan::{may_move, turn_shape};
 use std::test::Fail;
 use tree_words::Knobs;
 
-// The empty cells of the board, where it has one.
+// The empty cells of the board, if it has one.
 fn some_empties(board: &Board) -> Option<CellSet>
     ensures { IfSome result (λ set. IsAny set × AllEmpty board.now set) }
 {

@@ -11,7 +11,7 @@ use std::test::Fail;
 use tree_words::{Closed, Knobs, Shape, best, make_opening, report};
 
 // What a search is for: the size, Black's and White's stones and the allowed cells, all empty ones
-// where there is none, as the bits of a number, the player to move, and playouts, seed, words,
+// if there is none, as the bits of a number, the player to move, and playouts, seed, words,
 // expand number and weight.
 type Search = (u32, u32, u32, u32, Colour, [u64; 5]);
 
@@ -37,7 +37,7 @@ fn set_of(size: Size, bits: u32) -> CellSet {
     set
 }
 
-// The empty cells of the board whose bits are set, or else all; `None` where the board is full.
+// The empty cells of the board whose bits are set, or else all; `None` if the board is full.
 fn allowed_on(board: &Board, bits: u32) -> Option<CellSet>
     ensures { IfSome result (λ set. IsAny set × AllEmpty board.now set) }
 {
@@ -50,7 +50,7 @@ fn allowed_on(board: &Board, bits: u32) -> Option<CellSet>
     Some(all)
 }
 
-// The shape of a search, where its numbers are in their ranges.
+// The shape of a search, if its numbers are in their ranges.
 fn shape_of(search: &Search) -> Option<Shape> {
     let &(number, black, white, allowed, colour, [playouts, seed, words, expand, weight]) = search;
     let size = Size::of(number)?;
@@ -105,7 +105,7 @@ fn counts(visits: u64, wins: u64) -> u64 {
 }
 
 // Whether the nodes one after another, the first of which begins at this word, have these counts,
-// and blocks where they say so.
+// and blocks if they say so.
 fn has_children(closed: &Closed, first: u64, children: &[Child]) -> bool {
     let mut at = first;
     for &(visits, wins, seen, seen_wins, is_parent) in children {

@@ -19,7 +19,7 @@ type Child = (u64, u64, u64, u64);
 // The root's children, and NEXT, TICKET and the number of linked blocks.
 type Tree<'a> = (&'a [Child], (u64, u64, u64));
 
-// The empty board of the size, Black to move, all cells allowed, where the numbers are in their
+// The empty board of the size, Black to move, all cells allowed, if the numbers are in their
 // ranges.
 pub(crate) fn shape_of(search: Search) -> Option<Shape> {
     let (number, workers, playouts, expand) = search;

@@ -24,7 +24,7 @@ const ONE_PLAYOUT: [u64; 42] = [
     4, 0, 0, 4294967296, 4294967296, 257, 0, 0, 0, 514, 0, 0, 0, 771, 0, 0, 4294967296,
 ];
 
-// The empty cells of the board, where it has one.
+// The empty cells of the board, if it has one.
 fn some_empties(board: &Board) -> Option<CellSet>
     ensures { IfSome result (λ set. IsAny set × AllEmpty board.now set) }
 {

@@ -99,7 +99,7 @@ fn preferences(rt: HostRuntime) {
     assert!(rt; better(3, 2, 2, 2, 2, 1, 1, 1, 1, 180));
 }
 
-// What settles a child by products is near its score, for every level: where all won shares are 0
+// What settles a child by products is near its score, for every level: if all won shares are 0
 // the score is the bonus, and a bar above it is low by 6 for visits that the table of reciprocal
 // roots has, and by a 500th part and 6 for more.
 #[test]

@@ -22,7 +22,7 @@ module _ (b n set amount : ℕ) (before now : List ℕ) (s : Sighted b n set amo
   pub sighted-word : slice_index now (node_at b n + 3) ≡ slice_index before (node_at b n + 3)
   sighted-word = s.others (node_at b n + 3) (λ k l e. omega arith)
 
-  -- the next node gains the amount where its cell is in the set, and else nothing
+  -- the next node gains the amount if its cell is in the set, and else nothing
   pub sighted-next : (gain : ℕ) → gain ≡ cond (has_cell set (cell_in (slice_index before (node_at b n)))) amount 0 → node_at b n + 3 < length before → (after : List ℕ)
       → after ≡ set_at now (node_at b n + 3) (slice_index now (node_at b n + 3) + gain) → Sighted b (n + 1) set amount before after
   sighted-next gain h l after is =

@@ -35,7 +35,7 @@ fine-of s bs words k h =
       low = omega (arith, h.next.0);
     }
 
--- where a leaf gets its block, it has an empty cell and the block fits
+-- if a leaf gets its block, it has an empty cell and the block fits
 gets-facts : (s : Setting) (n : ℕ) (v : Count) (p : NodeState) → gets_block s n v p ≡ true → (0 < length (empties_of p.board)) × (n + size_below p ≤ end_of s)
 unfolding gets_block
 gets-facts s n v p e =
@@ -46,7 +46,7 @@ gets-facts s n v p e =
 pub at-most-none : (k : ℕ) (c : Count) → c ≡ nothing → AtMost k c
 at-most-none k c e = (omega (arith, ap (λ (c : Count). c.visits) e), omega (arith, ap (λ (c : Count). c.wins) e))
 
--- what is got of the leaf and its words, where the leaf of the walk gets the new block
+-- what is got of the leaf and its words, if the leaf of the walk gets the new block
 module _ (s : Setting) (bs : List LinkedBlock) (before after : List ℕ) (k : ℕ) (set_ : IsSetting s) (h : Holds s bs before k) (rooted : 0 < link_of bs (root_at s))
     (leaf e next : ℕ) (p : NodeState) (is_leaf : leaf ≡ leaf_at (search_game s) (tally_in before) (seen_in before) (oldest_first bs) (root_at s))
     (is_spot : p ≡ (state_at (search_game s) (tally_in before) (seen_in before) (oldest_first bs) (root_at s) (root_state s)).1)
@@ -251,7 +251,7 @@ module _ (s : Setting) (bs : List LinkedBlock) (before after : List ℕ) (k : �
   unfolding n
   new-all wide rule = (block_below (next_in before) leaf e p ∷ bs, new-holds, new-widened wide rule, new-keeps)
 
--- where no block is made
+-- if no block is made
 none-all : (s : Setting) (bs : List LinkedBlock) (before after : List ℕ) (k leaf : ℕ) (p : NodeState) → Holds s bs before k
     → leaf ≡ leaf_at (search_game s) (tally_in before) (seen_in before) (oldest_first bs) (root_at s)
     → p ≡ (state_at (search_game s) (tally_in before) (seen_in before) (oldest_first bs) (root_at s) (root_state s)).1
@@ -309,7 +309,7 @@ made-block s bs before after k leaf p set h rooted is_leaf is_spot w t =
     let m = w.made t in
     new-all s bs before after k set h rooted leaf m.0 (next_after s n v p) p is_leaf is_spot f.0 f.1 grown.1 m.1 m.2 t refl
 
--- They hold the same tree where it has got none; NEXT may have grown.
+-- They hold the same tree if it has got none; NEXT may have grown.
 pub no-block : (s : Setting) (bs : List LinkedBlock) (before after : List ℕ) (k leaf : ℕ) (p : NodeState) → IsSetting s → Holds s bs before k
     → leaf ≡ leaf_at (search_game s) (tally_in before) (seen_in before) (oldest_first bs) (root_at s)
     → p ≡ (state_at (search_game s) (tally_in before) (seen_in before) (oldest_first bs) (root_at s) (root_state s)).1

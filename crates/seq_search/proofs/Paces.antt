@@ -262,7 +262,7 @@ module _ (s : Setting) (bs : List LinkedBlock) (o : Ending) (before : List ℕ) 
               absurd (no-cons _ _ (sym (steps-link (search_game s) (fair_game s) (tally_in before) (seen_in before) (oldest_first bs) x m.0 (rooted-turned (root_at s) bs h.linked.order) m.1.names m.1.some) ∙ sym a.rest ∙ e)))
               (cases_Bool (link_in before x == 0))
 
-    -- where a step is left, the node has a block
+    -- if a step is left, the node has a block
     pub link-some : (y : ℕ) (rest : List ℕ) → left ≡ y ∷ rest → link_in before x ≢ 0
     link-some y rest cons e = no-cons y rest (sym cons ∙ a.rest ∙ steps-none x a.node e)
 

@@ -15,7 +15,7 @@ use Rattle.seq_search.specs.declared.descending.Descent.{Descent}
 use Rattle.tree_words.proofs.Blocks.NodeLaws.{node-lies}
 use Rattle.seq_search.proofs.Growing.{made-block, no-block}
 
--- a walk that has come to a leaf is there also where only NEXT changes
+-- a walk that has come to a leaf is there also if only NEXT changes
 descended-same : (s : Setting) (bs : List LinkedBlock) (before after : List ℕ) (d : Descent) → ((i : ℕ) → 1 ≤ i → get_or after i 0 ≡ get_or before i 0) → Descended s bs before d → Descended s bs after d
 descended-same s bs before after d same w =
     let tally : tally_in after ≡ tally_in before = λ i (x : ℕ). count_in (same (x + 2) (omega arith) i) in
@@ -31,7 +31,7 @@ descended-same s bs before after d same w =
       long = w.long;
     }
 
--- where the walk asks for its leaf's block, the words have room
+-- if the walk asks for its leaf's block, the words have room
 pub leaf-within : (s : Setting) (bs : List LinkedBlock) (words : List ℕ) (k : ℕ) (d : Descent) → Holds s bs words k → Descended s bs words d → d.node + 4 ≤ length words
 leaf-within s bs words k d h w = ⊎_elim
     (λ (q : d.node ≡ root_at s). omega (arith, h.long))

@@ -57,7 +57,7 @@ standing-opening s b words e begins n h =
       room = omega (arith, n, other);
     }
 
--- where no block is new, and NEXT may have grown
+-- if no block is new, and NEXT may have grown
 module _ (s : Setting) (bs : List LinkedBlock) (words after : List ℕ) (k : ℕ) (st : IsSearched s bs words k) (same : SameRecords k words after) where
   standing-kept : ((x : ℕ) → is_node (root_at s) bs x ≡ true → tally_in after x ≡ tally_in words x)
       → ((b : LinkedBlock) (y : ℕ) → In b bs → has_node b y ≡ true → seen_in after y ≡ seen_in words y)
@@ -82,7 +82,7 @@ module _ (s : Setting) (bs : List LinkedBlock) (words after : List ℕ) (k : ℕ
         room = room;
       }
 
-  -- where a block is new
+  -- if a block is new
   standing-grown : (n : LinkedBlock) → Follows (root_at s) n bs
       → ((x : ℕ) → is_node (root_at s) (n ∷ bs) x ≡ true → tally_in after x ≡ tally_in words x)
       → ((b : LinkedBlock) (y : ℕ) → In b (n ∷ bs) → has_node b y ≡ true → seen_in after y ≡ seen_in words y)

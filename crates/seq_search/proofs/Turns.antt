@@ -23,7 +23,7 @@ pub record-reads : (leaf n : ℕ) (c : Colour) → n ≡ 2 * leaf + one_if (is_s
 record-reads leaf n Black e = let even : n % 2 ≡ 0 = omega arith in (omega arith, ap (λ (t : Bool). cond t Black White) (eq-eqb (n % 2) 0 even))
 record-reads leaf n White e = let odd : n % 2 ≡ 1 = omega arith in (omega arith, ap (λ (t : Bool). cond t Black White) (ne_eqb (n % 2) 0 (λ z. omega (arith, odd, z))))
 
--- where the leaf has got its block, or none, it asks for none
+-- if the leaf has got its block, or none, it asks for none
 pub standing-asks : (s : Setting) (bs after_bs : List LinkedBlock) (words after : List ℕ) (k : ℕ) → IsSetting s → Holds s after_bs after k
     → Widened (search_game s) (root_state s) (root_at s) (config_of bs words) (config_of after_bs after)
     → asks s (next_in after) (walk_end (search_game s) (root_state s) (root_at s) (config_of after_bs after)).0 (walk_end (search_game s) (root_state s) (root_at s) (config_of after_bs after)).1 ≡ false

@@ -26,7 +26,7 @@ pub record Sighted (b n set amount : ℕ) (before after : List ℕ) : Type 0 whe
   pub others : (i : ℕ) → ((k : ℕ) → k < n → i ≢ node_at b k + SEEN_WORD)
       → slice_index after i ≡ slice_index before i
 
--- Each node has the counts that the walk adds where its playout gave o, and all other words are as
+-- Each node has the counts that the walk adds if its playout gave o, and all other words are as
 -- before.
 pub record Counted (s : Setting) (bs : List LinkedBlock) (o : Ending)
     (before after : List ℕ) : Type 0 where
@@ -41,7 +41,7 @@ pub record Counted (s : Setting) (bs : List LinkedBlock) (o : Ending)
       → ((w : ℕ) → is_node (root_at s) bs w ≡ true → (i ≢ w + TALLY_WORD) × (i ≢ w + SEEN_WORD))
       → slice_index after i ≡ slice_index before i
 
--- the words after a walk have what it adds where its playout gave o
+-- the words after a walk have what it adds if its playout gave o
 abbrev pub AddsWalk : Setting → List LinkedBlock → Ending → List ℕ → List ℕ → Type 0
 AddsWalk s bs o before after =
     Added (search_game s) (root_state s) (root_at s) o (config_of bs before) (config_of bs after)
@@ -51,13 +51,13 @@ abbrev pub HasWalked : Setting → List ℕ → Descent → Type 0
 HasWalked s words d = (bs : List LinkedBlock) × (k : ℕ) × (k < s.knobs.playouts)
     × Holds s bs words k × Descended s bs words d
 
--- Where the words hold the tree of some blocks after k walks, and walk k has come to its leaf, this
+-- If the words hold the tree of some blocks after k walks, and walk k has come to its leaf, this
 -- holds of the blocks.
 abbrev pub IfWalked : Setting → List ℕ → ℕ → Descent → (List LinkedBlock → Type 0) → Type 0
 IfWalked s words k d p =
     (bs : List LinkedBlock) → Holds s bs words k → Descended s bs words d → p bs
 
--- The walk's counts are added, where its playout gave o.
+-- The walk's counts are added, if its playout gave o.
 abbrev pub CountsWalk : Setting → Descent → Ending → List ℕ → List ℕ → Type 0
 CountsWalk s d o before after = (bs : List LinkedBlock) (k : ℕ) → k < s.knobs.playouts
     → Holds s bs before k → Descended s bs before d → Counted s bs o before after

@@ -13,7 +13,7 @@ use Rattle.hex_board.specs.Positions.{is_empty_at}
 
 -- After k walks of one worker: the counts are those of the k playouts, and each of these has
 -- its record; the root's block begins the area; in a block that has a child without visits no child
--- has more than one; where NEXT is at most the area's end, a node with an empty cell on its
+-- has more than one; if NEXT is at most the area's end, a node with an empty cell on its
 -- board is the leaf of at most T playouts, and NEXT is the end of the root's block and the other
 -- blocks' words; and past the end it is at most one largest block more.
 pub record IsSearched (s : Setting) (bs : List LinkedBlock) (words : List ℕ) (k : ℕ) : Type 0 where

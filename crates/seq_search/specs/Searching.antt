@@ -23,7 +23,7 @@ pub record Searched (s : Setting) (words : List ℕ) (k : ℕ) : Type 0 where
       ≡ walks (search_game s) (root_state s) (first_tree s) k
   pub ticket : ticket_in words ≡ s.knobs.playouts
 
--- The walk has come to its leaf, which has got its block before where it was to have one: the words
+-- The walk has come to its leaf, which has got its block before if it was to have one: the words
 -- hold the widened tree, with the same records.
 pub record Reached (s : Setting) (bs : List LinkedBlock) (k : ℕ) (before after : List ℕ)
     (d : Descent) : Type 0 where

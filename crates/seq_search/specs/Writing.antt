@@ -30,7 +30,7 @@ LinksBelow start leaf p before after =
     (empties : ℕ) × HasEmpties empties p.board
     × LinksBlock (block_below start leaf empties p) before after
 
--- The leaf of this spot gets its block where it is to have one, and NEXT grows where it asks for
+-- The leaf of this spot gets its block if it is to have one, and NEXT grows if it asks for
 -- one; no other word changes.
 pub record Grows (s : Setting) (leaf : ℕ) (p : NodeState) (before after : List ℕ) : Type 0 where
   pub next : next_in after ≡ next_after s (next_in before) (tally_in before leaf) p

@@ -21,7 +21,7 @@ use tree_words::layout::{
 };
 use tree_words::{Shape, cell_of};
 
-// One visit, and one win where the player is the winner.
+// One visit, and one win if the player is the winner.
 fn amount(player: Colour, winner: Colour) -> u64
     ensures { result ≡ amount_of (is_same winner player) }
 {
@@ -67,13 +67,13 @@ fn see(words: &mut [u64], block: usize, stones: CellSet, amount: u64)
 }
 
 // Adds the ending to the counts: each node of the walk's way has one visit more, and one win more
-// where its mover won; and each node of the blocks that it went through is seen where its cell
+// if its mover won; and each node of the blocks that it went through is seen if its cell
 // holds a stone of its mover.
 fn count(words: &mut [u64], shape: &Shape, walk: &Descent, ending: &Ending)
     requires walked { HasWalked shape.now words.old walk.now }
     ensures { CountsWalk shape.now walk.now ending.now words.old words.new }
 {
-    // What each shape keeps of itself.
+    // Brings what the type keeps into scope.
     let _board = shape.board();
     let mut node = shape.knobs().playouts as usize + RECORDS_AT;
     let mut player = shape.colour();

@@ -1,4 +1,4 @@
-//! A leaf's block, where it asks for one.
+//! A leaf's block, if it asks for one.
 
 ghost use Rattle.std.specs.Prelude.{◌≡◌, ◌+◌, ◌<◌, ◌≤◌, length};
 ghost use Rattle.tree_words.specs.Blocks.{block_size};
@@ -20,7 +20,7 @@ fn empty_count(board: &Board) -> usize
     ensures value { result ≡ length (empties_of board.now) }
     ensures range { result ≤ MOST_NODES }
 {
-    // The size bounds the board's cells.
+    // Brings what the type keeps into scope: the size bounds the board's cells.
     let _size = board.size();
     board.empties().count() as usize
 }
@@ -54,7 +54,7 @@ fn link_block(words: &mut [u64], start: usize, leaf: usize, board: &Board)
     words[leaf + LINK_WORD] = start as u64;
 }
 
-/// Gives the leaf, whose board this is, its block where it asks for one and the block fits inside
+/// Gives the leaf, whose board this is, its block if it asks for one and the block fits inside
 /// the area, and answers whether it did. NEXT grows also if it doesn't fit.
 pub(crate) fn expand(words: &mut [u64], shape: &Shape, leaf: usize, board: &Board) -> bool
     requires long { length words.old ≡ end_of shape.now }

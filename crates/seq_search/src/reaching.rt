@@ -12,7 +12,7 @@ pub(crate) fn reach(words: &mut [u64], shape: &Shape, walk: &mut Descent)
     requires { HoldsRooted shape.now words.old }
     ensures { ReachesLeaf shape.now words.old words.new walk.new }
 {
-    // What each shape keeps of itself.
+    // Brings what the type keeps into scope.
     let _board = shape.board();
     descend(words, shape, walk);
     if expand(words, shape, walk.node, &walk.board) {

@@ -29,7 +29,7 @@ fn walk<G: Gate>(words: &mut [u64], shape: &Shape, k: u32, descent: &mut Descent
     requires searched { Searched shape.now words.old k }
     ensures { Searched shape.now words.new (k + 1) }
 {
-    // What each shape keeps of itself.
+    // Brings what the type keeps into scope.
     let _board = shape.board();
     reach(words, shape, descent);
     pass_first(gate, k);
@@ -43,7 +43,7 @@ fn make_walks<G: Gate>(words: &mut [u64], shape: &Shape, gate: &G)
     requires { AreOpening shape.now words.old }
     ensures { Searched shape.now words.new shape.now.knobs.playouts }
 {
-    // What each shape keeps of itself.
+    // Brings what the type keeps into scope.
     let _board = shape.board();
     let playouts = shape.knobs().playouts;
     // One worker draws all playout numbers.
@@ -61,7 +61,7 @@ pub fn search_alone<G: Gate>(alloc: Global, shape: &Shape, gate: &G) -> Result<C
     ensures tree { IfOk result (λ closed. IsTreeOf shape.now closed.words (seq_of shape.now).0) }
     ensures next { IfOk result (λ closed. next_in closed.words ≡ (seq_of shape.now).1) }
 {
-    // What each shape keeps of itself.
+    // Brings what the type keeps into scope.
     let _board = shape.board();
     let mut words = make_opening(alloc, shape)?;
     make_walks(&mut words, shape, gate);

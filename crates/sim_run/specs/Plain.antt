@@ -5,7 +5,7 @@ use Rattle.tree_words.specs.declared.steps.Op.{Op}
 use Rattle.tree_words.specs.declared.steps.Op.TheVariants.{Draw, Look, Claim, Write, Publish, Add}
 use Rattle.tree_words.specs.declared.steps.Op.TheVariants.{Note, Done}
 
--- the word has room for what the step adds to it, where x stands there
+-- the word has room for what the step adds to it, if x stands there
 abbrev pub FitsWord : Op → ℕ → Type 0
 FitsWord Draw x = x + 1 < 2 ^ 64
 FitsWord (Look i) x = Unit {0}

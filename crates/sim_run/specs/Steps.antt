@@ -43,7 +43,7 @@ pub record IsPassedOver (old : SimulationData) (id : ℕ) (w : Walker)
   pub finished : IsFinished w
   pub same : new ≡ old
 
--- one entry of a schedule: a step of the walker id with its answer, or none where none is left
+-- one entry of a schedule: a step of the walker id with its answer, or none if none is left
 abbrev pub StepsOnce : SimulationData → ℕ → Option (Op × ℕ) → SimulationData → Type 0
 StepsOnce old id (Some made) new = (w : Walker) × HasStepped old id w made.0 made.1 new
 StepsOnce old id None new = (w : Walker) × IsPassedOver old id w new

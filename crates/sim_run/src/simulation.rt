@@ -30,7 +30,7 @@ impl Simulation {
         ensures walkers { IfOk result (λ run. AreNew shape.now run.walkers.items) }
         ensures underway { IfOk result IsUnderway }
     {
-        // What each shape keeps of itself.
+        // Brings what the type keeps into scope.
         let _board = shape.board();
         let words = make_opening(alloc, shape)?;
         let walkers = new_walkers(alloc, shape)?;
@@ -108,7 +108,7 @@ impl Simulation {
         }
     }
 
-    /// The closed tree, where all walkers are done.
+    /// The closed tree, if all walkers are done.
     pub(crate) fn close(self) -> Closed
         requires underway { IsUnderway self }
         requires finished { AreFinished self.walkers.items }

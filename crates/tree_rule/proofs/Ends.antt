@@ -1,4 +1,4 @@
--- What the words have of the last seat's view, where its workers have ended.
+-- What the words have of the last seat's view, if its workers have ended.
 use Rattle.std.proofs.Common.{◌≡◌, ℕ, ◌≤◌, Bool, cond, List, [], length, get_or, Some, refl, sym, ap, ◌∙◌, subst, inr, arith}
 use Rattle.std.proofs.lemmas.Bool.{eq-eqb}
 use mathlib.Core.Option.{some}

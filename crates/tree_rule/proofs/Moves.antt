@@ -33,7 +33,7 @@ use Rattle.tree_rule.specs.Plays.{IsStep, add_tells, note_tells}
 use Rattle.tree_rule.specs.Seats.{IsSeatOf}
 use Rattle.tree_rule.specs.Visits.{own_visits}
 
--- an operation that puts into the word what the step puts there, where the answer is one that it may give
+-- an operation that puts into the word what the step puts there, if the answer is one that it may give
 module _ (s : Setting) (slots id : ℕ) (m : Me ℕ SeatView) (op : Op) (iv : IsView m.0) (fits : FitsStep m.0 op) where
   -- the arena in which the step is made
   made-in : (words : List ℕ) (views : List SeatView) → Rule s words views → get_elem? views id ≡ some m.0 → 0 < m.0.width
@@ -133,7 +133,7 @@ note-allowed s slots id m k value iv fits =
     subst (λ (j : ℕ). Allows (HoldsArenaRule s) slots id m (2 + k) (λ _. value) (λ _ n. IsStep m (Note j value) 0 n)) (sym back)
     (acts s slots id m (Note k value) iv fits (λ _. value) (λ x low may. refl))
 
--- a split and a join, as the table asks for them, where the part and the spent view are picked
+-- a split and a join, as the table asks for them, if the part and the spent view are picked
 pub cuts : (s : Setting) (id part p : ℕ) (v : SeatView) → part ≡ p → IsView v → CanSplit v part → Splits (HoldsArenaRule s) id v (kept_part v p) (given_part v p)
 cuts s id part p v is iv can t h at =
     subst (λ (q : ℕ). Rule s t.words (views_split t.views id v q)) is (splits s t.words t.views h id v at (omega (arith, iv.width)) part can)

@@ -19,7 +19,7 @@ AreShown words blocks = (b : LinkedBlock) → In b blocks → IsShown words b
 abbrev pub AreRecords : Setting → List ℕ → SeatView → Type 0
 AreRecords s words v = (k : ℕ) → k < s.knobs.playouts → record_in words k ≡ value_noted k v
 
--- where the view has a copy of all words, the words are that copy
+-- if the view has a copy of all words, the words are that copy
 abbrev pub AreCopied : List ℕ → SeatView → Type 0
 AreCopied words v = (copy : List ℕ) → v.whole ≡ Some copy → words ≡ copy
 

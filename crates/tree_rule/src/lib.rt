@@ -17,7 +17,7 @@
 //! answer: what a seat knows only grows, and a look at a node's tally answers at least the visits
 //! that this seat itself made there. A split and a join give the views that the rule says. The
 //! words at the end are a closed tree; they show what the last seat knew, their records are those
-//! of its walks, which are the walks of all playouts, and where its view has a copy of all words
+//! of its walks, which are the walks of all playouts, and if its view has a copy of all words
 //! they are that copy. `make` takes all memory, of which its only refusal speaks; no other call
 //! takes any, and none waits.
 //!

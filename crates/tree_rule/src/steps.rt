@@ -70,7 +70,7 @@ fn publish(shared: &SharedWords, seat: &mut Seat<u8, View>, link: u32, block: u3
     shared.compare_exchange::<Publishes>(seat, link as usize, 0, block as u64)
 }
 
-// Adds a visit to a count, and a win where the flag says so.
+// Adds a visit to a count, and a win if the flag says so.
 #[inline(always)]
 fn add(shared: &SharedWords, seat: &mut Seat<u8, View>, i: u32, won: bool) -> u64
     requires own { IsSeatOf shared.now.table_id seat.old }

@@ -46,7 +46,7 @@ impl Model for Tree {
         × IsTableFor t.table.shared.key t.table.shared.table_id t.room.items };
 }
 
-// Copies the words below NEXT, where the others are the same already.
+// Copies the words below NEXT, if the others are the same already.
 fn copy_claimed(table: &ClosedTable, room: &mut [u64])
     requires full { IsFull table.now.words }
     requires long { slots_len table.now.words ≡ length room.old }
@@ -82,7 +82,7 @@ impl Tree {
         ensures order { IfOk result (λ t. IsView t.1.view) }
         ensures rule { IfOk result (λ t. BeginsInRule t.0.shape t.1.view) }
     {
-        // What each shape keeps of itself.
+        // Brings what the type keeps into scope.
         let _board = shape.board();
         let room = make_opening(alloc, shape)?;
         let Ok((table, seat)) = Table::of_words(alloc, room.as_slice(), shape) else {
@@ -96,7 +96,7 @@ impl Tree {
         Ok((tree, TreeSeat { seat }))
     }
 
-    /// The closed tree, where the seat stands for all workers and they have ended. It takes no
+    /// The closed tree, if the seat stands for all workers and they have ended. It takes no
     /// memory. Its words show what the seat knew, and its records are those of the seat's walks,
     /// which are the walks of all playouts.
     pub fn close(self, seat: TreeSeat) -> Closed

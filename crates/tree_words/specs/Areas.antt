@@ -20,7 +20,7 @@ pub record IsCut (s : Setting) (words : List ℕ) (c : Setting) : Type 0 where
   pub less : end_of c ≤ end_of s
   pub enough : min (next_in words) (end_of s) ≤ end_of c
 
--- all words of a tree of this shape, where these are the first and the others are 0
+-- all words of a tree of this shape, if these are the first and the others are 0
 abbrev pub all_words : Setting → List ℕ → List ℕ
 all_words s words = words ++ replicate (end_of s - length words) 0
 

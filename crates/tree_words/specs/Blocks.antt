@@ -87,7 +87,7 @@ abbrev pub InOrder : ℕ → List LinkedBlock → Type 0
 InOrder r [] = Unit {0}
 InOrder r (b ∷ bs) = Follows r b bs × InOrder r bs
 
--- word i of a block, where it is a header word or a move word: the parent, the two halves of the
+-- word i of a block, if it is a header word or a move word: the parent, the two halves of the
 -- empty cells, the count, and then each fourth word the move of a node
 abbrev pub header_or_move : LinkedBlock → ℕ → ℕ
 header_or_move b zero = b.parent

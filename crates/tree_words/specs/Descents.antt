@@ -97,7 +97,7 @@ pub record Config : Type 0 where
   pub seen : ℕ → Count
   pub next : ℕ
 
--- its tree, where the root's first word is r
+-- its tree, if the root's first word is r
 abbrev pub tree_in : ℕ → Config → Tree
 tree_in r c = tree_at c.tally c.seen c.blocks r 0 nothing
 
@@ -117,7 +117,7 @@ pub record NewBlock {S O : Type 0} (g : Game S O) (s : S) (r : ℕ) (c d : Confi
   pub some : 0 < length n.cells
   pub blank : (y : ℕ) → has_node n y ≡ true → (c.tally y ≡ nothing) × (c.seen y ≡ nothing)
 
--- the leaf of c gets its block in d, where it is to have one, and no count changes
+-- the leaf of c gets its block in d, if it is to have one, and no count changes
 pub record Widened {S O : Type 0} (g : Game S O) (s : S) (r : ℕ) (c d : Config) : Type 0 where
   pub next : d.next ≡ g.grown c.next (walk_end g s r c).0 (walk_end g s r c).1
   pub block : ((n : LinkedBlock) × NewBlock g s r c d n)
@@ -125,7 +125,7 @@ pub record Widened {S O : Type 0} (g : Game S O) (s : S) (r : ℕ) (c d : Config
   pub tally : (w : ℕ) → top d.blocks w ≡ r → d.tally w ≡ c.tally w
   pub seen : (w : ℕ) → top d.blocks w ≡ r → (w ≡ r → ⊥) → d.seen w ≡ c.seen w
 
--- the walk of c adds, in d, where its playout gave o
+-- the walk of c adds, in d, if its playout gave o
 pub record Added {S O : Type 0} (g : Game S O) (s : S) (r : ℕ) (o : O) (c d : Config) : Type 0 where
   pub next : d.next ≡ c.next
   pub blocks : d.blocks ≡ c.blocks

@@ -23,7 +23,7 @@ other_words s bs = sum_by size (filter (λ b. not (b.parent == root_at s)) bs)
 abbrev pub ends_at : List ℕ → ℕ → ℕ → ℕ
 ends_at words n x = count_below n (λ k. leaf_of words k == x)
 
--- Grown: in a block that has a child without visits no child has more than K; where NEXT
+-- Grown: in a block that has a child without visits no child has more than K; if NEXT
 -- is at most the area's end, a node with an empty cell on its board is the leaf of at most K·T
 -- records; and NEXT is at most the end of the root's block, K times the other blocks' words, and
 -- one largest block for each worker

@@ -10,7 +10,7 @@ use Rattle.tree_words.specs.declared.layout.TheConstants.{NEXT_AT, LINK_WORD}
 use Rattle.std.specs.List.{range_with_len}
 use Rattle.play_out.specs.Fills.{empties_of}
 
--- the root's block, where the empty cells of the board are this set
+-- the root's block, if the empty cells of the board are this set
 abbrev pub root_block : Setting → ℕ → LinkedBlock
 root_block s empties =
     record { start = area_at s; parent = root_at s; empties = empties; cells = allowed_cells s }

@@ -37,20 +37,20 @@ children_in words y zero = []
 children_in words y (suc n) =
     child_of (tally_in words y, seen_in words y) ∷ children_in words (y + NODE_WORDS) n
 
--- one visit, and one win where `wins`
+-- one visit, and one win if `wins`
 abbrev pub one : Bool → Count
 one wins = record { visits = 1; wins = (if wins then 1 else 0) }
 
--- one visit, and one win where `wins`, as a tally or a seen word counts them
+-- one visit, and one win if `wins`, as a tally or a seen word counts them
 abbrev pub amount_of : Bool → ℕ
 amount_of wins = VISIT + one_if wins
 
--- a node of the path has one visit more, and one win more where its mover won
+-- a node of the path has one visit more, and one win more if its mover won
 unfoldable pub gain_of : Ending → NodeState → Count
 gain_of o p = one (is_same o.winner (mover_at p))
 
--- a node of its block, whose parent has this spot, has one seen visit more where its cell holds a
--- stone of its mover on the filled board, and one seen win more where that mover won
+-- a node of its block, whose parent has this spot, has one seen visit more if its cell holds a
+-- stone of its mover on the filled board, and one seen win more if that mover won
 unfoldable pub glimpse_of : Ending → NodeState → ℕ → Count
 glimpse_of o p cell =
     if has (stones_of o.full p.player) cell then one (is_same o.winner p.player) else nothing
@@ -59,14 +59,14 @@ glimpse_of o p cell =
 abbrev pub size_below : NodeState → ℕ
 size_below p = block_size (length (empties_of p.board))
 
--- a leaf asks for a block where it has T visits, its board has an empty cell, and `next` is at most
+-- a leaf asks for a block if it has T visits, its board has an empty cell, and `next` is at most
 -- the area's end
 abbrev pub asks : Setting → ℕ → Count → NodeState → Bool
 asks s next v p =
     nat_le s.knobs.expand v.visits
     && (nat_lt 0 (length (empties_of p.board)) && nat_le next (end_of s))
 
--- it gets the block where this fits inside the area
+-- it gets the block if this fits inside the area
 unfoldable pub gets_block : Setting → ℕ → Count → NodeState → Bool
 gets_block s next v p = asks s next v p && nat_le (next + size_below p) (end_of s)
 

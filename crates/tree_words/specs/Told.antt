@@ -23,7 +23,7 @@ abbrev pub Knows : ℕ → List LinkedBlock → List LinkedBlock → Type 0
 Knows r blocks [] = Unit {0}
 Knows r blocks (k ∷ known) = In k blocks × (is_node r known k.parent ≡ true) × Knows r blocks known
 
--- the told block is the linked one: where the link of a known node is not 0, the block that it
+-- the told block is the linked one: if the link of a known node is not 0, the block that it
 -- names is the one that is told
 abbrev pub TellsLinkedBlocks : Setting → List ℕ → List LinkedBlock → Type 0
 TellsLinkedBlocks s words blocks =

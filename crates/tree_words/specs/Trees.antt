@@ -13,7 +13,7 @@ oldest_first [] = []
 oldest_first (b ∷ bs) = oldest_first bs ++ b ∷ []
 
 -- What is found from the node at x down, the blocks oldest first, so that the blocks below a block
--- stand behind it: `leaf` where x has no block, else `inner`, which has the block and what is found
+-- stand behind it: `leaf` if x has no block, else `inner`, which has the block and what is found
 -- at each node.
 module _ {A : Type 0} (leaf : ℕ → A) (inner : LinkedBlock → ℕ → (ℕ → A) → A) where
   abbrev pub down : List LinkedBlock → ℕ → A

@@ -12,7 +12,7 @@ abbrev pub plus : Count → Count → Count
 plus a b = record { visits = a.visits + b.visits; wins = a.wins + b.wins }
 
 -- a node has a cell, its visits and wins, its seen visits and seen wins, and its children, none
--- where it has no block
+-- if it has no block
 mutual
   pub data Tree : Type 0 where
     node : ℕ → Count → Count → Children → Tree
@@ -35,7 +35,7 @@ pub record Game (S O : Type 0) : Type 0 where
   pub gain : O → S → Count
   -- what a child of a node of the path, with this cell, gets as seen; S is the parent's
   pub glimpse : O → S → ℕ → Count
-  -- whether a leaf with these visits gets a block, where `next` is this number
+  -- whether a leaf with these visits gets a block, if `next` is this number
   pub wide : ℕ → Count → S → Bool
   -- `next` after the walk
   pub grown : ℕ → Count → S → ℕ
@@ -81,7 +81,7 @@ abbrev mutual
   leaf_row g v (more t ts) zero s = leaf_state g t (g.next s (node_cell t))
   leaf_row g v (more t ts) (suc i) s = leaf_row g v ts i s
 
--- what the walk adds where its playout gave o: each node of the path gains, and each node of its
+-- what the walk adds if its playout gave o: each node of the path gains, and each node of its
 -- block is seen or not
 abbrev mutual
   pub add : {S O : Type 0} → Game S O → O → Tree → S → Tree
@@ -95,7 +95,7 @@ abbrev mutual
   add_row g o (more t ts) (suc i) s =
       more (lit (g.glimpse o s (node_cell t)) t) (add_row g o ts i s)
 
--- the leaf of the walk gets its block, where it is to have one; n is `next`
+-- the leaf of the walk gets its block, if it is to have one; n is `next`
 abbrev mutual
   pub expand : {S O : Type 0} → Game S O → ℕ → Tree → S → Tree
   expand g n (node c v e row) s =

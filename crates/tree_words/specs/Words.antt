@@ -36,7 +36,7 @@ ticket_in words = slice_index words TICKET_AT
 abbrev pub record_in : List ℕ → ℕ → ℕ
 record_in words k = slice_index words (RECORDS_AT + k)
 
--- a record is twice its leaf's first word, and 1 more where White won
+-- a record is twice its leaf's first word, and 1 more if White won
 abbrev pub leaf_in : ℕ → ℕ
 leaf_in n = n / RECORD_UNIT
 

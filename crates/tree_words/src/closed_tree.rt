@@ -45,6 +45,7 @@ impl Closed {
         ensures value { result.now ≡ self.now.shape }
         ensures setting { IsSetting result.now }
     {
+        // Brings what the type keeps into scope.
         let _board = self.shape.board();
         &self.shape
     }
@@ -75,7 +76,7 @@ impl Closed {
         ensures inside { IfSome result (λ _.
             min (next_in self.words) (end_of shape.now) ≤ end_of self.shape) }
     {
-        // What each shape keeps of itself.
+        // Brings what the type keeps into scope.
         let _board = shape.board();
         let next = self.word(NEXT_AT);
         let Closed { shape: _, words } = self;

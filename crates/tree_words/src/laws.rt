@@ -19,7 +19,7 @@ pub fn opening_words_are_told()
 {}
 
 /// The law of told blocks: who knows some of the linked blocks knows the boards of their nodes, and
-/// where the link of such a node is not 0, the block told by the link and the node's board is the
+/// if the link of such a node is not 0, the block told by the link and the node's board is the
 /// linked one. It does nothing.
 pub fn told_blocks_are_linked()
     ensures nodes { (s : Setting) (words : List ℕ) (blocks : List LinkedBlock)

@@ -12,7 +12,7 @@
 //! a block          parent, empty cells 0 to 63, empty cells 64 to 120, count; then its nodes
 //! a move           256 * place + cell
 //! a tally, a seen  2^32 * visits + wins
-//! a record         2 * leaf, and 1 more where White won
+//! a record         2 * leaf, and 1 more if White won
 //! ```
 
 use hex_cells::MOST_CELLS;

@@ -64,7 +64,7 @@ impl Shape {
           knobs = knobs.now;
         } }
     {
-        // What each board keeps of itself, so that the shape keeps it too.
+        // Brings what the type keeps into scope, so that the shape keeps it too.
         let _size = board.size();
         let _black = board.stones(Colour::Black);
         let _white = board.stones(Colour::White);

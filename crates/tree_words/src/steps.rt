@@ -13,7 +13,7 @@ pub enum Op {
     Write(u32, u64),
     /// Puts the claimed block's first word into a link that is 0.
     Publish(u32, u32),
-    /// Adds a visit to a tally or a seen word, and a win where the flag says so.
+    /// Adds a visit to a tally or a seen word, and a win if the flag says so.
     Add(u32, bool),
     /// Stores the record of a playout.
     Note(u32, u64),

@@ -45,7 +45,7 @@ bonus_bound p v c k s factor root =
     let whole : (c * r / 256) * 256 ≤ c * r = div-mul-le_self (c * r) 256 in
     le-div (c * r / 256) (k * s) (2 ^ 28) (omega arith) (omega (arith, below, whole))
 
--- where v is no less than q times the square of t, the root of a quotient by v is no more than t-th the root of one by q
+-- if v is no less than q times the square of t, the root of a quotient by v is no more than t-th the root of one by q
 shared_root : (l r v q t : ℕ) → q * (t * t) ≤ v → r * r * v ≤ l → (r * t) * (r * t) * q ≤ l
 shared_root l r v q t less under =
     let all : r * r * (q * (t * t)) ≤ r * r * v = mul-le (r * r) (q * (t * t)) (r * r) v (omega arith) less in

@@ -6,7 +6,7 @@ use Rattle.uct_table.specs.Scores.{score_of}
 use Rattle.uct_table.specs.Choice.{Child, is_unvisited, score_in, largest, first_of_largest, choice_of}
 use Rattle.uct_table.proofs.Keeping.{first_here, first_later}
 
--- the place that Choice takes at the end, where none so far is without visits, the greatest score so far is `most`, first at `best`,
+-- the place that Choice takes at the end, if none so far is without visits, the greatest score so far is `most`, first at `best`,
 -- and these children stand from `place` on
 abbrev pub chosen_from : ℕ → ℕ → ℕ → ℕ → ℕ → List Child → ℕ
 chosen_from p c place best most rest =

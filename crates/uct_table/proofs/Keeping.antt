@@ -4,7 +4,7 @@ use Rattle.std.specs.List.{position_or_len, list_any}
 use Rattle.std.proofs.lemmas.Bool.{cases_lt}
 use Rattle.uct_table.specs.Choice.{Child, is_unvisited, score_in, largest, first_of_largest, choice_of, is_better, kept_from, kept_of}
 
--- the place kept at the end, where child i with this score is kept so far and these stand from j on
+-- the place kept at the end, if child i with this score is kept so far and these stand from j on
 abbrev kept_at : Bool → ℕ → ℕ → ℕ → Bool → ℕ → List ℕ → ℕ
 kept_at true i j score any first scores = i
 kept_at false i j score true first scores = j + first

@@ -1,4 +1,4 @@
--- A mean is at most a number where its unrounded parts are.
+-- A mean is at most a number if its unrounded parts are.
 use Rattle.std.proofs.Common.{◌≡◌, ℕ, zero, suc, ◌+◌, ◌*◌, ◌/◌, ◌<◌, ◌≤◌, ◌==◌, false, arith, inl, inr}
 use Rattle.std.proofs.lemmas.Nat.{mul-le, div_below}
 use Rattle.std.proofs.lemmas.Bool.{cases_lt}

@@ -14,7 +14,7 @@ greatest_is passes (suc top) n le holds none = elim (cases_lt n (suc top)) [
   | inr ge ↦ let same : suc top ≡ n = omega arith in rw (same, holds) refl
 ]
 
--- the greatest number that passes does pass, where 0 does
+-- the greatest number that passes does pass, if 0 does
 greatest_passes : (passes : ℕ → Bool) (top : ℕ) → passes 0 ≡ true → passes (greatest passes top) ≡ true
 unfolding greatest
 greatest_passes passes zero first = first

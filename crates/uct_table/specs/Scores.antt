@@ -11,7 +11,7 @@ greatest passes (suc n) = if passes (suc n) then suc n else greatest passes n
 unfoldable pub isqrt : ℕ → ℕ
 isqrt x = greatest (λ r. nat_le (r * r) x) x
 
--- the greatest b with 2 to the b at most p, where p is above 0
+-- the greatest b with 2 to the b at most p, if p is above 0
 unfoldable pub log2 : ℕ → ℕ
 log2 p = greatest (λ b. nat_le (2 ^ b) p) p
 

@@ -21,7 +21,7 @@
 //! `specs/Scores.antt`, [`Parent::score_above`] is such a score exactly if it is greater, a child
 //! of which [`Parent::is_low`] holds has no score above the bar, and [`better`] is exactly its word
 //! in `specs/Choice.antt`. The law [`going_through_gives_choice`] says that the child kept at the
-//! end is Choice. Floats are only guesses: a guess is taken where its square shows that it is
+//! end is Choice. Floats are only guesses: a guess is taken if its square shows that it is
 //! right.
 //!
 //! **What is only tested, or not said.** That scores choose well, and how long a call takes.

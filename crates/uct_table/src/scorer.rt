@@ -93,7 +93,7 @@ impl Parent {
         score(self.visits, v, w, a, b, self.weight)
     }
 
-    /// The score of a child where it is above `kept`. Counts are from 0 to 1,048,576, and v is at
+    /// The score of a child if it is above `kept`. Counts are from 0 to 1,048,576, and v is at
     /// least 1.
     #[inline(always)]
     pub fn score_above(&self, kept: u64, v: u32, w: u32, a: u32, b: u32) -> Option<u64>

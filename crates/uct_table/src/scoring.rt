@@ -51,7 +51,7 @@ pub fn level(p: u32) -> u32
 
 /// The greatest number whose square is at most x.
 ///
-/// The root that the processor gives is taken where its square shows that it is right, as it is
+/// The root that the processor gives is taken if its square shows that it is right, as it is
 /// for every x below 2^52.
 #[tactic(auto, using(crate::proofs::Roots::isqrt_is))]
 pub fn root(x: u64) -> u32
@@ -69,7 +69,7 @@ pub fn root(x: u64) -> u32
 /// the weight c.
 ///
 /// With `m = floor(65536·w / v)`, and `mean` the mean of m with weight v and of
-/// `floor(65536·b / a)` with weight 64, or m where a is 0, it is
+/// `floor(65536·b / a)` with weight 64, or m if a is 0, it is
 /// `mean + floor(c·root(floor(level(p)·2^24 / v)) / 256)`. Counts are from 0 to 1,048,576, v at
 /// least 1, and c is from 0 to 1,024. It is defined for w above v, b above a and p below v too.
 pub fn score(p: u32, v: u32, w: u32, a: u32, b: u32, c: u32) -> u64
@@ -151,7 +151,7 @@ fn share(wins: u32, visits: u32) -> u64
 }
 
 /// The root of n / d, rounded down. The root of a quotient that is not rounded is the same, so the
-/// processor's float root is taken where its square shows that it is right, as it is for every n
+/// processor's float root is taken if its square shows that it is right, as it is for every n
 /// below 2^48.
 #[tactic(auto, using(crate::proofs::Roots::root_is))]
 fn root_of_quotient(n: u64, d: u32) -> u32

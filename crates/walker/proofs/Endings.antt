@@ -25,7 +25,7 @@ draw-add : (climb : List CountAdd) → add_op climb ≡ Draw → ⊥
 draw-add [] e = cc
 draw-add (a ∷ climb) e = cc
 
--- only where a walker has ended its next step is Done
+-- only if a walker has ended its next step is Done
 done-at : (w : Walker) (v : SeatView) (t : Stage) → Stands t w v → op_at t w ≡ Done → t ≡ Ended
 done-at w v Drawing a e = absurd (cc)
 done-at w v Rooting a e = absurd (cc)

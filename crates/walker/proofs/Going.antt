@@ -36,7 +36,7 @@ pub record Untouched (c : LinkedBlock) (at : ℕ) : Type 0 where
   pub tally : (k : ℕ) → k < length c.cells → at ≢ child c k + 2
   pub seen : (k : ℕ) → k < length c.cells → at ≢ child c k + 3
 
--- a node's state where blocks may have become known
+-- a node's state if blocks may have become known
 pub state-known : (v : SeatView) (z b x : ℕ) → InOrder (root_at v.shape) (known_after v z b) → is_known v x ≡ true → node_state v.shape (known_after v z b) x ≡ node_state v.shape v.known x
 state-known v z b x g n = ⊎_elim
     (λ (q : Grows v z b). ap (λ (ks : List LinkedBlock). node_state v.shape ks x) q.is ∙ spot-same v.shape (told_below v z b) v.known x (subst (InOrder (root_at v.shape)) q.is g).0 n)
@@ -111,7 +111,7 @@ module _ (v u : SeatView) (at : ℕ) (g : Goes v u at) where
         choice = h.choice ∙ (λ i. child c ((search_game (sym g.shape i)).choose (sym (tally-goes c.parent t.parent) i) (sym pairs i)));
       }
 
-  -- the levels of a way stay, where none of their counts is touched
+  -- the levels of a way stay, if none of their counts is touched
   pub way-goes : (way : List Level) (x : ℕ) → ((c : LinkedBlock) → In c v.known → c.start < x → Untouched c at) → OnWay v way x
       → ((c : LinkedBlock) → In c v.known → c.parent < c.start) → OnWay u way x
   way-goes [] x t h above = h ∙ ap root_at (sym g.shape)

@@ -23,7 +23,7 @@ next-in first won cells left some small =
     adds-next first won cells left (bit_xor left (1 * 2 ^ c % 2 ^ 64)) c t.0 t.1 t.2 (turned_out left c t.0 t.1)
     ∙ ap (λ (m : ℕ). record { word = first + 4 * m; won = won } ∷ half_adds first won cells (bit_xor left (1 * 2 ^ c % 2 ^ 64))) (sym (ranked_in cells c t.0))
 
--- so a half is done exactly where no cell is left in it
+-- so a half is done exactly if no cell is left in it
 pub done-in : (first : ℕ) (won : Bool) (cells left : ℕ) (after : List CountAdd) → left < 2 ^ 64 → (half_adds first won cells left ++ after) ≡ [] → left ≡ 0
 done-in first won cells left after small e = ⊎_elim
     (λ (some : 0 < left). absurd (none (sym (ap (λ (xs : List CountAdd). xs ++ after) (next-in first won cells left some small)) ∙ e)))

@@ -32,7 +32,7 @@ module _ (w : Walker) (v : SeatView) (b : Belongs w v) (x : ℕ) where
   order : InOrder (root_at v.shape) v.known
   order = one-order v b.view b.width
 
-  -- a way stays where only the adds change
+  -- a way stays if only the adds change
   way-stays : (u : SeatView) → Goes v u 0 → (way : List Level) (y : ℕ) → OnWay v way y → OnWay u way y
   way-stays u g way y o = way-goes v u 0 g way y (λ c i l. no-touch c) o (λ c i. (known-lies v.shape v.known c order b.view.known i).above)
 

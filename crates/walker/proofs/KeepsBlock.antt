@@ -44,7 +44,7 @@ steps-go v u s k l = record {
 pub no-touch : (c : LinkedBlock) → Untouched c 0
 no-touch c = record { parent = λ e. omega arith; tally = λ k l e. omega arith; seen = λ k l e. omega arith }
 
--- a walk that goes down stays where loads stay
+-- a walk that goes down stays if loads stay
 pub still-down : (v u : SeatView) (number node visits : ℕ) (state : NodeState) (way : List Level) → IsView v → v.width ≡ 1 → Goes v u 0 → IsDown number node visits state way v
     → u.ended ≡ v.ended → u.ticket ≡ v.ticket → u.adds ≡ v.adds → IsDown number node visits state way u
 still-down v u number node visits state way iv one g d e t a =

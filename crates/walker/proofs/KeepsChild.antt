@@ -23,7 +23,7 @@ use Rattle.walker.proofs.KeepsChoice.{Looked, seen-looked}
 use Rattle.walker.proofs.KeepsLast.{looked-next, looked-last}
 use Rattle.walker.proofs.Cases.{scanned-next, scanned-last}
 
--- where the walker is at its node's link after the choice
+-- if the walker is at its node's link after the choice
 pub chosen-belongs : (w : Walker) (v : SeatView) → v.shape ≡ w.shape → IsView v → v.width ≡ 1 → v.full ≡ w.full → AtLink (chosen w) v → Belongs (chosen w) v
 unfolding chosen
 chosen-belongs w v s iv one f t = record { shape = s; view = iv; width = one; full = f; stands = t }

@@ -35,7 +35,7 @@ known-none v z = by (is_known v z) (known_link v z == 0)
     by true false = refl
     by false q = refl
 
--- A block below the node is known where its link was found.
+-- A block below the node is known if its link was found.
 pub found-below : (v : SeatView) (z b : ℕ) → is_known v z ≡ true → AnswersLink v z b → b ≢ 0 → ((c : LinkedBlock) → In c v.known → In c (known_after v z b))
     → (c : LinkedBlock) × In c (known_after v z b) × (c.start ≡ b) × (c.parent ≡ z)
 found-below v z b n a ne stays = ⊎_elim

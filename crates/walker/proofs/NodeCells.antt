@@ -19,7 +19,7 @@ pub by-number-none : (set : ℕ) → ((k : ℕ) → has_cell set k ≡ false) �
 unfolding cells_by_number
 by-number-none set none = none_pass (has_cell set) 0 121 (λ i l. none i)
 
--- where none is listed, the set has no cell
+-- if none is listed, the set has no cell
 pub by-number-empty : (set bits : ℕ) → bits ≡ set → bits < 2 ^ 121 → cells_by_number set ≡ [] → (k : ℕ) → has_cell set k ≡ false
 unfolding cells_by_number
 by-number-empty set bits is small e k = ⊎_elim

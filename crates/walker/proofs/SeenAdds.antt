@@ -33,7 +33,7 @@ adds-next first won cells left rest c l t below out =
 pub none-cons : (p : ℕ → Bool) (a n k : ℕ) → a ≤ k → k < a + n → p k ≡ true → filter p (range_with_len a n) ≡ [] → ⊥
 none-cons p a n k l m t e = let some = filter_some p a n k t l m in let none : length (filter p (range_with_len a n)) ≡ 0 = ap length e in omega (arith, some, none)
 
--- where a cell is left, so is an add
+-- if a cell is left, so is an add
 pub adds-some : (first : ℕ) (won : Bool) (cells left c : ℕ) → c < 64 → has_cell left c ≡ true → half_adds first won cells left ≡ [] → ⊥
 unfolding half_adds
 adds-some first won cells left c l t e =
@@ -60,7 +60,7 @@ moved f g p q d a (suc n) same is =
     first true x y xs ys e r = λ i. e i ∷ r i
     first false x y xs ys e r = r
 
--- the seen adds of the cells from a on, where the first node of all cells begins at b
+-- the seen adds of the cells from a on, if the first node of all cells begins at b
 module _ (stones cells left b : ℕ) (won : Bool) where
   abbrev add-at : ℕ → CountAdd
   add-at k = record { word = b + 3 + 4 * members cells k; won = won }

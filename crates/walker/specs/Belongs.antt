@@ -143,7 +143,7 @@ Stands Noting w v = AtNote w v
 Stands Ended w v = AtEnd w v
 
 -- The view belongs to the walker: it is in order and of the walker's shape, stands for one worker,
--- is full where the walker had a claim past the area's end, and is what the walker's stage says.
+-- is full if the walker had a claim past the area's end, and is what the walker's stage says.
 pub record Belongs (w : Walker) (v : SeatView) : Type 0 where
   pub shape : v.shape ≡ w.shape
   pub view : IsView v

@@ -27,7 +27,7 @@ pub record AreNodesOf (w : Walker) (d : NewNodesData) : Type 0 where
   pub at : d.at ≡ w.start + HEADER_WORDS + NODE_WORDS * d.place
   pub cells : d.cells ≡ drop d.place (empties_of w.board)
 
--- all nodes of the held block, exactly where the walker has written its header and none of them
+-- all nodes of the held block, exactly if the walker has written its header and none of them
 abbrev pub LendsNewNodes : Walker → Option NewNodesData → Type 0
 LendsNewNodes w nodes = MatchOption nodes (w.stage ≡ Writing → w.at ≢ w.start + HEADER_WORDS)
     (λ d. (w.stage ≡ Writing) × (w.at ≡ d.at) × (d.place ≡ 0) × AreNodesOf w d)

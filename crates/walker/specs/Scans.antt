@@ -48,7 +48,7 @@ scan_of block count parent weight = record {
 abbrev pub child_in : ScanData → ℕ → Child
 child_in d seen = child_of (count_in d.tally, count_in seen)
 
--- it is kept where no child without visits is kept, and it has none itself or the greater score;
+-- it is kept if no child without visits is kept, and it has none itself or the greater score;
 -- of the first child the visits are taken in any case
 unfoldable pub kept : ScanData → Child → ScanData
 kept d c =

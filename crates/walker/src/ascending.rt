@@ -43,7 +43,7 @@ impl Walker {
         self.go_up();
     }
 
-    /// The adds to the seen words of a block that are still to be made, where the walker is at
+    /// The adds to the seen words of a block that are still to be made, if the walker is at
     /// them; `None` exactly elsewhere.
     pub fn climb(&self) -> Option<Climb>
         ensures { MatchOption result (self.now.stage ≢ Stage.Seeing)

@@ -33,7 +33,7 @@ struct Half {
 #[derive(Drop)]
 pub struct Climb {
     won: bool,
-    // The half in hand, which is the last one where it has no add left.
+    // The half in hand, which is the last one if it has no add left.
     half: Half,
     next: Half,
 }
@@ -90,7 +90,7 @@ impl Climb {
         requires { block < PAST_WORDS }
         ensures { result ≡ seen_adds stones won (block + HEADER_WORDS) (listed size cells) }
     {
-        // The size bounds the cells.
+        // Brings what the type keeps into scope: the size bounds the cells.
         let _size = size.get();
         let added = cells.meet(stones).meet(CellSet::all(size));
         let (low_cells, high_cells) = halves(cells);

@@ -110,7 +110,7 @@ impl Walker {
             → Within self.now.shape.board.size result }
         ensures size { self.now.shape.board.size ≤ Size.MAX }
     {
-        // The board bounds its cells.
+        // Brings what the type keeps into scope: the board bounds its cells.
         let _size = self.shape.board().size();
         if self.way.is_none() {
             self.shape.allowed()
@@ -132,7 +132,7 @@ impl Walker {
         }
     }
 
-    /// The scan of the block below the node, where the walker is in one; `None` exactly elsewhere.
+    /// The scan of the block below the node, if the walker is in one; `None` exactly elsewhere.
     pub fn scan(&self) -> Option<Scan>
         ensures { MatchOption result (self.now.stage ≢ Stage.Scanning)
             (λ scan. (self.now.stage ≡ Stage.Scanning) × (scan ≡ self.now.scan)) }

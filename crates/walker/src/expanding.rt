@@ -22,7 +22,7 @@ impl Walker {
         ensures value { result ≡ length (empties_of self.now.board) }
         ensures range { result ≤ MOST_NODES }
     {
-        // The size bounds the board's cells.
+        // Brings what the type keeps into scope: the size bounds the board's cells.
         let _size = self.board.size();
         self.board.empties().count()
     }
@@ -77,7 +77,7 @@ impl Walker {
         }
     }
 
-    // Word i of those behind the header: a move where it begins a node, else 0.
+    // Word i of those behind the header: a move if it begins a node, else 0.
     fn move_to_write(&self, i: usize) -> u64
         requires { i < 2 ^ 32 }
         ensures { result ≡ word_of_block (own_block self.now) (HEADER_WORDS + i) }
@@ -94,7 +94,7 @@ impl Walker {
         ensures value { result ≡ slice_index (empties_of self.now.board) place }
         ensures range { result < 2 ^ 8 }
     {
-        // The size bounds the board's cells.
+        // Brings what the type keeps into scope: the size bounds the board's cells.
         let _size = self.board.size();
         if place < self.empty_count() {
             self.board.empties().nth(place).number()
@@ -119,12 +119,12 @@ impl Walker {
         }
     }
 
-    /// The nodes of the held block, where the walker has written its header and none of them;
+    /// The nodes of the held block, if the walker has written its header and none of them;
     /// `None` exactly elsewhere.
     pub fn new_nodes(&self) -> Option<NewNodes>
         ensures { LendsNewNodes self.now result }
     {
-        // The size bounds the board's cells.
+        // Brings what the type keeps into scope: the size bounds the board's cells.
         let _size = self.board.size();
         let written = self.at.saturating_sub(self.start);
         match self.stage {

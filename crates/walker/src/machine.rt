@@ -47,7 +47,7 @@ pub struct Walker {
     pub(crate) full: bool,
     // The number in hand.
     pub(crate) number: u32,
-    // The next word, where the stage has one.
+    // The next word, if the stage has one.
     pub(crate) at: u32,
     // The node at which the walk stands, its board and the player to move there, and the levels of
     // its way.

@@ -56,7 +56,7 @@ impl NewNodes {
     pub fn is_done(&self) -> bool
         ensures { IsTrue result ↔ (self.now.cells ≡ []) }
     {
-        // No bit past the cells of a board is set.
+        // Brings what the type keeps into scope: no bit past the cells of a board is set.
         let _bits = self.left.bits();
         self.left.is_empty()
     }
@@ -114,7 +114,7 @@ fn least_and_rest(cells: CellSet) -> (Cell, CellSet)
 {
     match cells.least() {
         Some(cell) => {
-            // The cell is one of a board.
+            // Brings what the type keeps into scope: the cell is one of a board.
             let _number = cell.number();
             (cell, cells.without(cell))
         }

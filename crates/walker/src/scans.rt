@@ -142,7 +142,7 @@ impl Scan {
         }
     }
 
-    /// The three looks at the child in hand, where its move is next: those that three calls of
+    /// The three looks at the child in hand, if its move is next: those that three calls of
     /// `op` give, whatever is answered in between.
     #[inline(always)]
     pub fn child_ops(&self) -> (Op, Op, Op)
@@ -159,7 +159,7 @@ impl Scan {
         )
     }
 
-    /// Takes the answers of the three looks at the child in hand, where its move is next: what
+    /// Takes the answers of the three looks at the child in hand, if its move is next: what
     /// three calls of `got` make of it. Of the move's word nothing is kept.
     #[inline(always)]
     pub fn got_child(&mut self, moved: u64, tally: u64, seen: u64)
@@ -173,7 +173,7 @@ impl Scan {
         self.at += NODE_WORDS as u32;
     }
 
-    // Keeps the child in hand, whose seen word this is, where Choice prefers it, and goes on to the
+    // Keeps the child in hand, whose seen word this is, if Choice prefers it, and goes on to the
     // next place. Nearly every child is settled by the bar; the first one never is.
     #[tactic(auto, unfolding(crate::specs::Scans::kept))]
     #[inline(always)]

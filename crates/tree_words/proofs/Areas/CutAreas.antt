@@ -1,4 +1,4 @@
--- The points of a closed tree look at the area's end only where NEXT lies behind it: what holds of a tree whose area ends behind the written words holds of the whole tree, and the other way round.
+-- The points of a closed tree look at the area's end only if NEXT lies behind it: what holds of a tree whose area ends behind the written words holds of the whole tree, and the other way round.
 use Rattle.std.proofs.Common.{◌≡◌, ◌≢◌, ℕ, zero, suc, ◌+◌, ◌-◌, ◌*◌, ◌≤◌, true, cond, List, [], ◌∷◌, ◌++◌, length, replicate, refl, sym, ap, ◌∙◌, subst, arith, length-append}
 use Rattle.std.specs.Prelude.{slice_index, min, ◌&&◌, ◌==◌}
 use Rattle.std.proofs.lemmas.List.{length-replicate}

@@ -8,7 +8,7 @@ use Rattle.tree_words.specs.Closing.{IsClosed}
 use Rattle.tree_words.specs.Areas.{with_area, all_words, AreFirst, IsCut, IsNarrower}
 use Rattle.tree_words.proofs.Areas.CutAreas.{all_long, cut_closed, zeros_behind}
 
--- where no word is left out, the first words are all
+-- if no word is left out, the first words are all
 pub all_full : (s : Setting) (words : List ℕ) → length words ≡ end_of s → all_words s words ≡ words
 all_full s words long =
     let none : end_of s - length words ≡ 0 = omega (arith, long) in
@@ -45,7 +45,7 @@ narrower_ends s c n =
     let end : end_of c ≡ end_of (with_area s c.knobs.words) = ap end_of n.area in
     (omega (arith, end, n.less), ap area_at n.area)
 
--- the same words as first words of a shape whose area goes on, where none was written behind them
+-- the same words as first words of a shape whose area goes on, if none was written behind them
 module _ (s c : Setting) (words : List ℕ) (n : IsNarrower c s) (f : AreFirst c words) (l : min (next_in words) (end_of s) ≤ length words) where
   less : end_of c ≤ end_of s
   less = (narrower_ends s c n).0

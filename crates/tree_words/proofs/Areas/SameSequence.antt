@@ -1,4 +1,4 @@
--- The search of one worker with an area that ends earlier, where `next` stays inside it: it goes the same way.
+-- The search of one worker with an area that ends earlier, if `next` stays inside it: it goes the same way.
 use Rattle.std.proofs.Common.{◌≡◌, ℕ, zero, suc, ◌+◌, ◌<◌, ◌≤◌, Bool, true, false, cond, List, length, refl, sym, ap, ◌∙◌, subst, ⊎_elim, arith}
 use Rattle.std.specs.Prelude.{slice_index, min, nat_le, nat_lt, ◌&&◌}
 use Rattle.std.proofs.lemmas.Bool.{le-leb, cases_lt}
@@ -52,7 +52,7 @@ module _ {S O : Type 0} (g : Game S O) (w : ℕ → Count → S → Bool) (r : �
   block-same n v done i s q e = ap (λ (b : Bool). cond b (fresh (g.cells s)) done) q
   block-same n v (more t ts) i s q e = e
 
-  -- where the leaf gets a block in both or in none, it has grown the same
+  -- if the leaf gets a block in both or in none, it has grown the same
   mutual
     expand-same : (n : ℕ) (t : Tree) (s : S) → g.wide n (leaf_state g t s).0 (leaf_state g t s).1 ≡ w n (leaf_state g t s).0 (leaf_state g t s).1 → expand g n t s ≡ expand h n t s
     expand-same n (node c v e row) s q =
@@ -88,7 +88,7 @@ gets : (b : Bool) (n z e d : ℕ) → cond b (n + z) n ≤ e → e ≤ d → (b 
 gets true n z e d l m = le-leb (n + z) e l ∙ sym (le-leb (n + z) d (omega (arith, l, m)))
 gets false n z e d l m = refl
 
--- a leaf asks, and gets its block, with both areas or with none, where `next` stays inside the first
+-- a leaf asks, and gets its block, with both areas or with none, if `next` stays inside the first
 module _ (s : Setting) (m : ℕ) (less : m ≤ s.knobs.words) where
   abbrev c : Setting
   c = with_area s m
@@ -136,7 +136,7 @@ module _ (s : Setting) (m : ℕ) (less : m ≤ s.knobs.words) where
       ∙ walks-same s.knobs.playouts (subst (λ (f : Tree × ℕ). (walks (search_game c) (root_state s) f s.knobs.playouts).1 ≤ end_of c) first-is l)
       ∙ ap (λ (g : Game NodeState Ending). walks g (root_state s) (first_tree s) s.knobs.playouts) mixed-is
 
-  -- where `next` has stayed inside, or the area is the whole one
+  -- if `next` has stayed inside, or the area is the whole one
   sequence-of : (n : ℕ) → min n (end_of s) ≤ end_of c → n ≡ (seq_of c).1 → seq_of c ≡ seq_of s
   sequence-of n l e = ⊎_elim
       (λ (h : end_of c < (seq_of c).1). let whole : m ≡ s.knobs.words = omega (arith, l, e, h, less) in ap (λ (k : ℕ). seq_of (with_area s k)) whole)

@@ -40,7 +40,7 @@ link-in r (c ∷ bs) b g i = ⊎_elim
     ap (λ (u : Bool). cond u c.start (link_of bs b.parent)) other ∙ h)
     i
 
--- blocks in order, each named by its parent's link, are known where the words link some blocks
+-- blocks in order, each named by its parent's link, are known if the words link some blocks
 among : (s : Setting) (words : List ℕ) (next : ℕ) (bs cs : List LinkedBlock) → s.board.size ≤ 11 → InOrder (root_at s) bs → AreComplete s next bs → Linked s words cs
     → ((b : LinkedBlock) → In b bs → link_in words b.parent ≡ b.start) → Knows (root_at s) cs bs
 among s words next [] cs small g c lk links = tt

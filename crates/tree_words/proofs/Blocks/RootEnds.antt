@@ -22,7 +22,7 @@ module _ (s : Setting) (words : List ℕ) (bs : List LinkedBlock) (set : IsSetti
       = ap (λ (t : Bool). length (cond t (allowed_cells s) (empties_of (node_board s [] (root_at s))))) (eq-eqb (root_at s) (root_at s) refl) in
       linked.shows.blocks (told_block s [] (root_at s) b) 3 here (omega arith) refl ∙ cells
 
-  -- where it begins the area, it ends where the opening words' block does
+  -- if it begins the area, it ends where the opening words' block does
   pub root-end-first : link_in words (root_at s) ≡ area_at s → root_end s words ≡ opening_next s
   root-end-first link =
       let nodes = root-nodes (area_at s) link (omega arith) in

@@ -59,7 +59,7 @@ rising_range p n = IsStrictlyIncreasing-filter p (range_with_len 0 n) up
     up : (k : ℕ) → k + 1 < length (range_with_len 0 n) → get_or (range_with_len 0 n) k 0 < get_or (range_with_len 0 n) (k + 1) 0
     up k l = omega (arith, l, length-range_with_len 0 n, get_or-range_with_len 0 n k 0 (omega (arith, l, length-range_with_len 0 n)), get_or-range_with_len 0 n (k + 1) 0 (omega (arith, l, length-range_with_len 0 n)))
 
--- the root's block, where any block is linked
+-- the root's block, if any block is linked
 pub find_root : (r : ℕ) (b : LinkedBlock) (bs : List LinkedBlock) → InOrder r (b ∷ bs) → (c : LinkedBlock) × In c (b ∷ bs) × (c.parent ≡ r) × (link_of (b ∷ bs) r ≡ c.start)
 find_root r b [] g =
     let e : b.parent ≡ r = eqb-true b.parent r g.0.parent in

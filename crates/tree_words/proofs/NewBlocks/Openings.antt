@@ -29,7 +29,7 @@ pub few-allowed : (s : Setting) → IsSetting s → length (allowed_cells s) ≤
 unfolding allowed_cells
 few-allowed s h = few_cells s.board.size (has_cell s.allowed) h.position.most
 
--- the opening words, where the root's block is written over words that are 0, and then its link and NEXT
+-- the opening words, if the root's block is written over words that are 0, and then its link and NEXT
 pub opening-written : (s : Setting) (root e count : ℕ) (cells before words : List ℕ) → IsSetting s → before ≡ replicate (end_of s) 0 → root ≡ root_at s → cells ≡ allowed_cells s → HasEmpties e s.board
     → WritesBlock (block_of (root + 4) root e cells) before words → count ≡ length cells
     → AreOpening s (set_word (set_word words (root + 1) (root + 4)) 0 (root + 4 + 4 + 4 * count))

@@ -118,7 +118,7 @@ cells-fewer set k (suc n) = omega (arith, cells-fewer set k n, cells-step set (k
     shift : (k n : ℕ) → k + suc n ≡ suc (k + n)
     shift k n = omega arith
 
--- where cell k is in the set, there are more cells than those below it
+-- if cell k is in the set, there are more cells than those below it
 pub few_places : (start set all k n : ℕ) (before words : List ℕ) → Moved start set before words n k → k < all → has_cell set k ≡ true → n < length (filter (has_cell set) (range_with_len 0 all))
 few_places start set all k n before words m l h =
     let cs : List ℕ = filter (has_cell set) (range_with_len 0 k) in

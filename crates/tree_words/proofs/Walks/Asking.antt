@@ -1,4 +1,4 @@
--- Where a leaf asks for a block.
+-- When a leaf asks for a block.
 use Rattle.std.proofs.Common.{◌≡◌, ℕ, ◌+◌, ◌*◌, ◌<◌, ◌≤◌, Bool, true, false, cond, List, [], ◌∷◌, ◌++◌, length, refl, sym, ap, ◌∙◌, ⊎_elim, arith}
 use Rattle.std.specs.Prelude.{◌==◌, ◌&&◌, nat_le, nat_lt}
 use Rattle.std.proofs.lemmas.Bool.Decides.{nat_tests}
@@ -45,7 +45,7 @@ asks-then s next v p e =
     let t = and_parts (nat_le s.knobs.expand v.visits) (nat_lt 0 (length (empties_of p.board)) && nat_le next (end_of s)) e in
     (leb-true _ _ t.0, leb-true _ _ (and_parts (nat_lt 0 (length (empties_of p.board))) (nat_le next (end_of s)) t.1).1)
 
--- where it asks for none though it could have one, it has too few visits
+-- if it asks for none though it could have one, it has too few visits
 pub asks-not : (s : Setting) (next : ℕ) (v : Count) (p : NodeState) → asks s next v p ≡ false → 0 < length (empties_of p.board) → next ≤ end_of s → v.visits < s.knobs.expand
 asks-not s next v p e l m = few s.knobs.expand v.visits (length (empties_of p.board)) next (end_of s) e l m
   where
@@ -66,7 +66,7 @@ past-asks s next v p l = none (nat_le s.knobs.expand v.visits) (nat_lt 0 (length
     none : (t u : Bool) (a b : ℕ) → b < a → (t && (u && nat_le a b)) ≡ false
     none t u a b l = grind (arith, nat_tests)
 
--- a leaf that asks gets its block where that fits, one that asks in vain gets none, and one that does not ask gets none
+-- a leaf that asks gets its block if that fits, one that asks in vain gets none, and one that does not ask gets none
 pub gets-made : (s : Setting) (next : ℕ) (v : Count) (p : NodeState) → asks s next v p ≡ true → next + size_below p ≤ end_of s → gets_block s next v p ≡ true
 unfolding gets_block
 gets-made s next v p a l = ap (λ (t : Bool). t && nat_le (next + size_below p) (end_of s)) a ∙ le-leb (next + size_below p) (end_of s) l

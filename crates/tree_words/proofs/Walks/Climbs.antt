@@ -59,7 +59,7 @@ path-meets test r (b ∷ bs) y = by (has_node b y) (path-meets test r bs b.paren
     by true e f = ap (λ (u : Bool). test y || u) e
     by false e f = f
 
--- b is none of these blocks where x is its node and none of theirs
+-- b is none of these blocks if x is its node and none of theirs
 pub in-out : (os : List LinkedBlock) (b : LinkedBlock) (x : ℕ) → In b os → Out os x → has_node b x ≡ false
 in-out [] b x i out = absurd i
 in-out (c ∷ os) b x i out = ⊎_elim (λ (e : b ≡ c). ap (λ (d : LinkedBlock). has_node d x) e ∙ out.0) (λ (j : In b os). in-out os b x j out.1) i
@@ -86,7 +86,7 @@ module _ {S O : Type 0} (g : Game S O) (fair : Fair g) (p q : ℕ → Count) whe
       meets-on test os (over (meets test) on b) y sp.1 (sp.0.apart y h) (over-in (meets test) on b x y h (eqb-true b.parent x t) ∙ or_right (test y) (on x) e))
       (λ (t : (b.parent == x) ≡ false). meets-on test os (over (meets test) on b) x sp.1 out.1 (over-past (meets test) on b x out.0 ∙ e))
 
-  -- nothing is met where no node of the blocks passes the test
+  -- nothing is met if no node of the blocks passes the test
   pub meets-none : (test : ℕ → Bool) (os : List LinkedBlock) (on : ℕ → Bool) (x : ℕ) → Sprouts os → Out os x → ((y : ℕ) → test y ≡ true → Out os y) → on x ≡ false
       → climb (meets test) on os (leaf_at g p q os x) ≡ false
   meets-none test [] on x sp out no-one e = e

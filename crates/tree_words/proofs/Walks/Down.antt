@@ -144,7 +144,7 @@ module _ {S O : Type 0} (g : Game S O) (fair : Fair g) (p q : ℕ → Count) (o 
       ap (λ (u : Bool). cond u (g.glimpse o s (get_or b.cells (place b w) 0)) (sees g p q o bs (child b i) (g.next s (get_or b.cells i 0)) w)) far ∙ rest)
       (λ (t : (b.parent == x) ≡ false). sees-off bs x w s sp.1 out.1 (λ e. n (top-past b bs w x e out.0)))
 
--- where the counts below x are the same, so is the tree
+-- if the counts below x are the same, so is the tree
 pub same-under : (p q p' q' : ℕ → Count) (bs : List LinkedBlock) (x c : ℕ) (e : Count) → Sprouts bs → Out bs x
     → ((w : ℕ) → top bs w ≡ x → p' w ≡ p w) → ((w : ℕ) → top bs w ≡ x → (w ≡ x → ⊥) → q' w ≡ q w)
     → tree_at p' q' bs x c e ≡ tree_at p q bs x c e

@@ -88,7 +88,7 @@ module _ {S O : Type 0} (g : Game S O) (fair : Fair g) (p q : ℕ → Count) whe
       (λ (e : ((b.parent == x) ≡ false) × Names os x c). subst (Inside (b ∷ os)) (sym (down-else (λ (y : ℕ). y) (leaf_inner g p q) b os x e.0)) (inr (leaf-inside os x c sp.1 e.1)))
       n
 
-  -- the leaf is a node of a block, where the root has one
+  -- the leaf is a node of a block, if the root has one
   pub leaf-node : (r : ℕ) (bs : List LinkedBlock) → Whole r bs → 0 < link_of bs r
       → (is_node r bs (leaf_at g p q (oldest_first bs) r) ≡ true) × (leaf_at g p q (oldest_first bs) r ≢ r)
   leaf-node r bs w l =
@@ -150,7 +150,7 @@ module _ (s : Setting) (p q : ℕ → Count) (bs : List LinkedBlock) (w : Whole 
       let away : (r == x) ≡ false = ne_eqb r x (λ z. clash (has_node b x) h (ap (has_node b) (sym z) ∙ in-out os b r j out)) in
       on-picked g (fair_game s) p q os on r x b (sprouts-of r bs w) out (or_from (r == x) false away refl) j h (sym met ∙ e)
 
--- a child without visits is chosen, where there is one
+-- a child without visits is chosen, if there is one
 any-unvisited : (p q : ℕ → Count) (a y k : ℕ) (cs : List ℕ) → k < length cs → y ≡ a + 4 * k → (p y).visits ≡ 0 → list_any is_unvisited (map child_of (pairs_of p q a cs)) ≡ true
 any-unvisited p q a y k [] l e z = absurd (omega arith)
 any-unvisited p q a y zero (c ∷ cs) l e z = let at : y ≡ a = omega arith in ap (λ (n : ℕ). (n == 0) || list_any is_unvisited (map child_of (pairs_of p q (a + 4) cs))) (ap (λ (x : ℕ). (p x).visits) (sym at) ∙ z)

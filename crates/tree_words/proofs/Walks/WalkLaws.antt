@@ -40,7 +40,7 @@ sprouts-snoc n (b ∷ bs) sp e l =
     (record { apart = λ x h. out-snoc n bs x (sp.0.apart x h) (no-has n x (let u = has-below b x h in omega (arith, e.0, u.1))); some = sp.0.some }, sprouts-snoc n bs sp.1 e.1 l)
 
 module _ {S O : Type 0} (g : Game S O) (fair : Fair g) (p q : ℕ → Count) where
-  -- where the leaf is not wide, the tree stays
+  -- if the leaf is not wide, the tree stays
   pub stay-tree : (m : ℕ) (bs : List LinkedBlock) (x c : ℕ) (e : Count) (s : S) → Sprouts bs
       → g.wide m (state_at g p q bs x s).0 (state_at g p q bs x s).1 ≡ false
       → tree_at p q bs x c e ≡ expand g m (tree_at p q bs x c e) s
@@ -73,7 +73,7 @@ module _ {S O : Type 0} (g : Game S O) (fair : Fair g) (s : S) (r : ℕ) where
   pub next-grows : (c d : Config) → Widened g s r c d → c.next ≤ d.next
   next-grows c d w = subst (λ (z : ℕ). c.next ≤ z) (sym w.next) (fair.grows c.next (walk_end g s r c).0 (walk_end g s r c).1)
 
-  -- what is fine stays fine where the leaf gets its block
+  -- what is fine stays fine if the leaf gets its block
   pub fine-widened : (c d : Config) → Fine r c → Widened g s r c d → Fine r d
   fine-widened c d f w =
       let grow : c.next ≤ d.next = next-grows c d w in
@@ -118,7 +118,7 @@ module _ {S O : Type 0} (g : Game S O) (fair : Fair g) (s : S) (r : ℕ) where
     low = omega (arith, f.low, w.next);
   }
 
-  -- where a walk adds, its tree has the adds
+  -- if a walk adds, its tree has the adds
   pub added-tree : (o : O) (c d : Config) → Fine r c → Added g s r o c d → tree_in r d ≡ add g o (tree_in r c) s
   added-tree o c d f w =
       ap (λ (l : List LinkedBlock). tree_at d.tally d.seen l r 0 nothing) w.blocks

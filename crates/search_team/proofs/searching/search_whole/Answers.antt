@@ -1,4 +1,4 @@
--- Where one worker worked, from the opening words on, the tree is that of the sequential search.
+-- If one worker worked, from the opening words on, the tree is that of the sequential search.
 use Rattle.std.proofs.Common.{◌≡◌, Some, sym, ap, ◌∙◌, subst}
 use Rattle.tree_words.specs.Opening.{opening_words}
 use Rattle.tree_words.specs.Sequence.{seq_of}

@@ -1,4 +1,4 @@
--- A new walker begins; each step is one more of its run; where none is left the law tells the end.
+-- A new walker begins; each step is one more of its run; if none is left the law tells the end.
 use Rattle.std.proofs.Common.{rules, ◌≡◌, suc, refl, sym, ◌∙◌, subst}
 use Rattle.tree_words.specs.Settings.{IsSetting}
 use Rattle.tree_words.specs.declared.steps.Op.TheVariants.{Done}

@@ -1,4 +1,4 @@
--- No number is a stray one where none was found, and want of memory is another error.
+-- No number is a stray one if none was found, and want of memory is another error.
 use Rattle.std.proofs.Common.{rules, ◌≡◌, ℕ, ◌<◌, List, length, ◌++◌, None, Err, slice_index_or, sym, ◌∙◌, subst}
 use Rattle.arena_rule.proofs.Options.{none-some}
 use Rattle.sim_run.specs.Schedules.{first_stray}

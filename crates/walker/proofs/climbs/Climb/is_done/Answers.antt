@@ -1,4 +1,4 @@
--- No cell is left where no add is.
+-- No cell is left if no add is.
 use Rattle.std.proofs.Common.{◌++◌, sym, ◌∙◌, arith, eq-eqb}
 use Rattle.std.proofs.lemmas.Bool.{eqb-true}
 use Rattle.walker.specs.Climbs.{half_adds}

@@ -1,4 +1,4 @@
--- No node is left where no cell is.
+-- No node is left if no cell is.
 use Rattle.std.proofs.Common.{ap, sym, ◌∙◌}
 use Rattle.walker.proofs.NodeCells.{by-number-none, by-number-empty}
 use Rattle.walker.specs.NewNodes.{NewNodesData}

@@ -1,4 +1,4 @@
--- There is no level exactly where the depth is 0.
+-- There is no level exactly if the depth is 0.
 use Rattle.std.proofs.Common.{sym, ap, ◌∙◌, length, arith}
 use Rattle.std.proofs.lemmas.Bool.{eqb-true, eq-eqb}
 use Rattle.walker.proofs.Levels.{levels-at, levels-long}
