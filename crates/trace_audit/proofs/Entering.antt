@@ -1,5 +1,7 @@
 -- A block that is entered in the table.
-use Rattle.std.proofs.Common.{◌≡◌, ℕ, ◌+◌, ◌-◌, ◌<◌, ◌≤◌, ◌^◌, true, List, [], ◌∷◌, ◌++◌, length, set, sym, ap, ◌∙◌, subst, ⊎_elim, inl, inr, arith, length-append, get_or-set_same, get_or-set_other}
+use Rattle.std.proofs.Common.{◌≡◌, ℕ, ◌+◌, ◌-◌, ◌<◌, ◌≤◌, ◌^◌, true, List, [], ◌∷◌, ◌++◌, length}
+use Rattle.std.proofs.Common.{set, sym, ap, ◌∙◌, subst, ⊎_elim, inl, inr, arith, length-append}
+use Rattle.std.proofs.Common.{get_or-set_same, get_or-set_other}
 use Rattle.std.specs.Prelude.{slice_index, slice_index_or}
 use Rattle.std.proofs.lemmas.Bool.{cases_eq, cases_lt}
 use Rattle.std.proofs.Math.ListN.{length-set, get_or-append}
@@ -14,7 +16,8 @@ use Rattle.trace_audit.specs.declared.sites.Table.{Table}
 use Rattle.trace_audit.specs.Tables.{site_state, IsSite, IsSiteTable, IsFollowed, Scanned}
 
 -- where a node lies among all words
-pub node_inside : (s : Setting) (words : List ℕ) (t : Table) (done p : ℕ) (bs : List LinkedBlock) (x : ℕ) → IsSetting s → Scanned s words t done p bs → is_node (root_at s) bs x ≡ true
+pub node_inside : (s : Setting) (words : List ℕ) (t : Table) (done p : ℕ) (bs : List LinkedBlock)
+    (x : ℕ) → IsSetting s → Scanned s words t done p bs → is_node (root_at s) bs x ≡ true
     → (x + 4 ≤ end_of s) × (end_of s < 2 ^ 32)
 node_inside s words t done p bs x h sc n = (
   ⊎_elim
@@ -24,14 +27,20 @@ node_inside s words t done p bs x h sc n = (
   omega (arith, h.ranges.playouts, h.ranges.words),
 )
 
-module _ (s : Setting) (words : List ℕ) (t u : Table) (x p : ℕ) (bs : List LinkedBlock) (sc : Scanned s words t x p bs) (n : is_node (root_at s) bs x ≡ true) (site : Site) (start : ℕ)
-    (first : site.start ≡ start) (state : site_state site ≡ node_state s bs x) (link : link_in words x ≡ start) (free : p ≤ start) (inside : start < end_of s) (parent : slice_index words start ≡ x)
-    (index : u.index ≡ set t.index start (length t.sites.items + 1)) (sites : u.sites.items ≡ t.sites.items ++ site ∷ []) (others : u.others ≡ t.others) where
+module _ (s : Setting) (words : List ℕ) (t u : Table) (x p : ℕ) (bs : List LinkedBlock)
+    (sc : Scanned s words t x p bs) (n : is_node (root_at s) bs x ≡ true) (site : Site) (start : ℕ)
+    (first : site.start ≡ start) (state : site_state site ≡ node_state s bs x)
+    (link : link_in words x ≡ start) (free : p ≤ start) (inside : start < end_of s)
+    (parent : slice_index words start ≡ x)
+    (index : u.index ≡ set t.index start (length t.sites.items + 1))
+    (sites : u.sites.items ≡ t.sites.items ++ site ∷ []) (others : u.others ≡ t.others) where
   new_index : slice_index u.index start ≡ length t.sites.items + 1
-  new_index = let long = sc.table.long in ap (λ l. slice_index l start) index ∙ get_or-set_same t.index start (length t.sites.items + 1) 0 (omega (arith, inside, long))
+  new_index = let long = sc.table.long in ap (λ l. slice_index l start) index
+      ∙ get_or-set_same t.index start (length t.sites.items + 1) 0 (omega (arith, inside, long))
 
   old_index : (b : ℕ) → (b ≡ start → ⊥) → slice_index u.index b ≡ slice_index t.index b
-  old_index b d = ap (λ l. slice_index l b) index ∙ get_or-set_other t.index start b (length t.sites.items + 1) 0 d
+  old_index b d = ap (λ l. slice_index l b) index
+      ∙ get_or-set_other t.index start b (length t.sites.items + 1) 0 d
 
   more_index : (b : ℕ) → 0 < slice_index t.index b → 0 < slice_index u.index b
   more_index b l = ⊎_elim
@@ -39,11 +48,14 @@ module _ (s : Setting) (words : List ℕ) (t u : Table) (x p : ℕ) (bs : List L
       (λ (e : b ≡ start → ⊥). omega (arith, old_index b e, l))
       (cases_eq b start)
 
-  old_site : (k : ℕ) (d : Site) → k < length t.sites.items → slice_index_or u.sites.items k d ≡ slice_index_or t.sites.items k d
-  old_site k d l = ap (λ z. slice_index_or z k d) sites ∙ get_or-append t.sites.items (site ∷ []) d k l
+  old_site : (k : ℕ) (d : Site) → k < length t.sites.items
+      → slice_index_or u.sites.items k d ≡ slice_index_or t.sites.items k d
+  old_site k d l = ap (λ z. slice_index_or z k d) sites
+      ∙ get_or-append t.sites.items (site ∷ []) d k l
 
   new_site : (k : ℕ) (d : Site) → k ≡ length t.sites.items → slice_index_or u.sites.items k d ≡ site
-  new_site k d e = (λ i. slice_index_or (sites i) (e i) d) ∙ get_or-append_seam t.sites.items site [] d
+  new_site k d e = (λ i. slice_index_or (sites i) (e i) d)
+      ∙ get_or-append_seam t.sites.items site [] d
 
   sites_long : length u.sites.items ≡ length t.sites.items + 1
   sites_long = ap length sites ∙ length-append t.sites.items (site ∷ [])
@@ -68,13 +80,17 @@ module _ (s : Setting) (words : List ℕ) (t u : Table) (x p : ℕ) (bs : List L
         (cases_lt k (length t.sites.items));
     index = λ b d l. ⊎_elim
         (λ (e : b ≡ start).
-        let k : slice_index u.index b ≡ length t.sites.items + 1 = ap (slice_index u.index) e ∙ new_index in
+        let k : slice_index u.index b ≡ length t.sites.items + 1 = ap (slice_index u.index) e
+        ∙ new_index in
         (omega (arith, k, sites_long), ap (λ z. z.start) (new_site (slice_index u.index b - 1) d (omega (arith, k))) ∙ first ∙ sym e))
         (λ (e : b ≡ start → ⊥).
         let k : slice_index u.index b ≡ slice_index t.index b = old_index b e in
         let old = sc.table.index b d (omega (arith, k, l)) in
-        let at : slice_index_or u.sites.items (slice_index u.index b - 1) d ≡ slice_index_or t.sites.items (slice_index t.index b - 1) d
-        = ap (λ j. slice_index_or u.sites.items (j - 1) d) k ∙ old_site (slice_index t.index b - 1) d (omega (arith, old.0, k, l)) in
+        let at : slice_index_or u.sites.items
+        (slice_index u.index b - 1) d ≡ slice_index_or t.sites.items
+        (slice_index t.index b - 1) d
+        = ap (λ j. slice_index_or u.sites.items (j - 1) d) k
+        ∙ old_site (slice_index t.index b - 1) d (omega (arith, old.0, k, l)) in
         (omega (arith, k, old.0, sites_long), ap (λ z. z.start) at ∙ old.1))
         (cases_eq b start);
   }
@@ -96,7 +112,8 @@ module _ (s : Setting) (words : List ℕ) (t u : Table) (x p : ℕ) (bs : List L
         (sc.links y m k))
         (λ (k : x ≤ y).
         let at : x ≡ y = omega (arith, k, l) in
-        let here : IsFollowed words u p bs x = inr (sc.vacant x n (omega arith), omega (arith, link, free), omega (arith, ap (slice_index u.index) link, new_index), ap (slice_index words) link ∙ parent) in
+        let here : IsFollowed words u p bs x
+        = inr (sc.vacant x n (omega arith), omega (arith, link, free), omega (arith, ap (slice_index u.index) link, new_index), ap (slice_index words) link ∙ parent) in
         subst (IsFollowed words u p bs) at here)
         (cases_lt y x);
     vacant = λ y m l. sc.vacant y m (omega (arith, l));

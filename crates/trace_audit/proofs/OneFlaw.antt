@@ -4,7 +4,8 @@ use Rattle.tree_words.specs.Settings.{Setting, IsSetting}
 use Rattle.tree_words.specs.Closing.{IsClosed}
 use Rattle.trace_audit.specs.Verdicts.{FailsFirst}
 use Rattle.trace_audit.specs.declared.types.Flaw.{Flaw}
-use Rattle.trace_audit.specs.declared.types.Flaw.TheVariants.{BadForm, Block, Record, Count, End, Growth}
+use Rattle.trace_audit.specs.declared.types.Flaw.TheVariants.{BadForm, Block, Record, Count, End}
+use Rattle.trace_audit.specs.declared.types.Flaw.TheVariants.{Growth}
 use Rattle.trace_audit.proofs.OneList.{recorded_same, exact_same}
 use Rattle.trace_audit.proofs.OneGrown.{grown_same}
 

@@ -1,5 +1,6 @@
 -- Two lists of blocks that the words link: grown by one, grown by the other.
-use Rattle.std.proofs.Common.{◌≡◌, ℕ, ◌+◌, ◌*◌, ◌<◌, ◌≤◌, Bool, true, false, cond, List, [], ◌∷◌, refl, sym, ap, ◌∙◌, subst, ⊎_elim, inl, inr, arith}
+use Rattle.std.proofs.Common.{◌≡◌, ℕ, ◌+◌, ◌*◌, ◌<◌, ◌≤◌, Bool, true, false, cond, List, [], ◌∷◌}
+use Rattle.std.proofs.Common.{refl, sym, ap, ◌∙◌, subst, ⊎_elim, inl, inr, arith}
 use Rattle.std.specs.Prelude.{◌==◌}
 use Rattle.std.proofs.lemmas.Bool.{cases_Bool, cases_eq, eq-eqb}
 use Rattle.hex_board.specs.Positions.{is_empty_at}
@@ -50,7 +51,8 @@ without s b (c ∷ cs) i = ⊎_elim
     i
 
 -- the parent of a block has a link
-has_link : (r : ℕ) (bs : List LinkedBlock) (d : LinkedBlock) → InOrder r bs → In d bs → 0 < link_of bs d.parent
+has_link : (r : ℕ) (bs : List LinkedBlock) (d : LinkedBlock) → InOrder r bs → In d bs
+    → 0 < link_of bs d.parent
 has_link r [] d g i = absurd i
 has_link r (c ∷ bs) d g i = ⊎_elim
     (λ (t : (c.parent == d.parent) ≡ true).
@@ -71,7 +73,8 @@ has_link r (c ∷ bs) d g i = ⊎_elim
     apart f t = subst kind (sym t ∙ f) tt
 
 -- blocks in order are no more than those that they are among
-words_least : (s : Setting) (r : ℕ) (bs cs : List LinkedBlock) → InOrder r bs → AreAmong bs cs → other_words s bs ≤ other_words s cs
+words_least : (s : Setting) (r : ℕ) (bs cs : List LinkedBlock) → InOrder r bs → AreAmong bs cs
+    → other_words s bs ≤ other_words s cs
 words_least s r [] cs g a = omega arith
 words_least s r (b ∷ bs) cs g a =
     let w : Without s b cs = without s b cs (a b (inl refl)) in
@@ -86,7 +89,8 @@ words_least s r (b ∷ bs) cs g a =
 room_more : (w n m a : ℕ) → n ≤ m → w * n + a ≤ w * m + a
 room_more w n m a l = grind (arith, l)
 
-module _ (s : Setting) (words : List ℕ) (bs cs : List LinkedBlock) (h : IsSetting s) (p : Linked s words bs) (q : Linked s words cs) where
+module _ (s : Setting) (words : List ℕ) (bs cs : List LinkedBlock) (h : IsSetting s)
+    (p : Linked s words bs) (q : Linked s words cs) where
   abbrev r : ℕ
   r = root_at s
 
@@ -96,6 +100,7 @@ module _ (s : Setting) (words : List ℕ) (bs cs : List LinkedBlock) (h : IsSett
     leaves = λ l x c n e. g.leaves l x c (node_same s words bs cs h p q x ∙ n)
         (ap (λ (z : NodeState). is_empty_at z.board c) (state_same s words bs cs h p q x) ∙ e);
     room = let most = g.room in
-        let few : other_words s bs ≤ other_words s cs = words_least s r bs cs p.order (one-blocks s words bs cs h.position.most p q) in
+        let few : other_words s bs ≤ other_words s cs
+        = words_least s r bs cs p.order (one-blocks s words bs cs h.position.most p q) in
         omega (arith, most, room_more s.knobs.workers (other_words s bs) (other_words s cs) 0 few);
   }

@@ -1,5 +1,6 @@
 -- The blocks that are found one by one: what stands at first, and with one more.
-use Rattle.std.proofs.Common.{◌≡◌, ℕ, ◌+◌, ◌-◌, ◌<◌, ◌≤◌, true, List, [], length, refl, sym, ap, ◌∙◌, subst, ⊎_elim, inl, arith}
+use Rattle.std.proofs.Common.{◌≡◌, ℕ, ◌+◌, ◌-◌, ◌<◌, ◌≤◌, true, List, [], length, refl, sym, ap}
+use Rattle.std.proofs.Common.{◌∙◌, subst, ⊎_elim, inl, arith}
 use Rattle.std.specs.Prelude.{slice_index}
 use Rattle.std.proofs.lemmas.List.{get_or_past}
 use Rattle.std.proofs.lemmas.Bool.{cases_lt, eqb-true}
@@ -12,11 +13,13 @@ use Rattle.tree_words.proofs.Blocks.NodeLaws.{nodes-apart}
 use Rattle.tree_words.proofs.Blocks.OneTree.{knows-in}
 use Rattle.trace_audit.specs.declared.sites.Table.{Table}
 use Rattle.trace_audit.specs.Tables.{AreUnlinked, IsFollowed, IsInLastBlock, Scanned, IsLinked}
-use Rattle.trace_audit.proofs.LinkedBlocks.{apart_blocks, link_real, link_whole, first_word, node_below}
+use Rattle.trace_audit.proofs.LinkedBlocks.{apart_blocks, link_real, link_whole, first_word}
+use Rattle.trace_audit.proofs.LinkedBlocks.{node_below}
 
 module _ (s : Setting) (words : List ℕ) (h : IsSetting s) where
   -- a node without link is followed
-  pub enter_zero : (t : Table) (x p : ℕ) (bs : List LinkedBlock) → Scanned s words t x p bs → is_node (root_at s) bs x ≡ true → link_in words x ≡ 0 → Scanned s words t (x + 1) p bs
+  pub enter_zero : (t : Table) (x p : ℕ) (bs : List LinkedBlock) → Scanned s words t x p bs
+      → is_node (root_at s) bs x ≡ true → link_in words x ≡ 0 → Scanned s words t (x + 1) p bs
   enter_zero t x p bs sc n e = record {
     order = sc.order;
     shown = sc.shown;
@@ -39,7 +42,9 @@ module _ (s : Setting) (words : List ℕ) (h : IsSetting s) where
   }
 
   -- a node whose link names no block that may stand there
-  pub enter_none : (t : Table) (x p : ℕ) (bs : List LinkedBlock) → Scanned s words t x p bs → is_node (root_at s) bs x ≡ true → IsInLastBlock s p bs x → length words ≡ end_of s → 0 < link_in words x
+  pub enter_none : (t : Table) (x p : ℕ) (bs : List LinkedBlock) → Scanned s words t x p bs
+      → is_node (root_at s) bs x ≡ true → IsInLastBlock s p bs x → length words ≡ end_of s
+      → 0 < link_in words x
       → ((p ≤ link_in words x) × (link_in words x < length words) × (slice_index words (link_in words x) ≡ x) → ⊥) → AreUnlinked s words
   enter_none t x p bs sc n last long l not-so cs lk =
       let b : ℕ = link_in words x in
@@ -56,7 +61,10 @@ module _ (s : Setting) (words : List ℕ) (h : IsSetting s) where
       let at = has-at d x e.2 in
       ⊎_elim
       (λ (f : b < p).
-      let both : d ≡ c = apart_blocks (root_at s) cs d c b lk.order (knows-in (root_at s) cs bs d k e.1) i (covers_if b d (omega (arith, at.2, above)) (omega (arith, e.3, f))) (covers_if b c (omega arith) (omega arith)) in
+      let both : d ≡ c
+      = apart_blocks (root_at s) cs d c b lk.order (knows-in (root_at s) cs bs d k e.1) i
+      (covers_if b d (omega (arith, at.2, above)) (omega (arith, e.3, f)))
+      (covers_if b c (omega arith) (omega arith)) in
       let start : d.start ≡ b = ap (λ (z : LinkedBlock). z.start) both in
       absurd (omega (arith, start, at.2, above)))
       (λ (f : p ≤ b). f)
@@ -65,7 +73,8 @@ module _ (s : Setting) (words : List ℕ) (h : IsSetting s) where
       not-so (free, omega (arith, inside.1, long), first_word s words h cs c lk i)
 
   -- between the words of a node no other node begins
-  pub advance : (t : Table) (x p : ℕ) (bs : List LinkedBlock) → Scanned s words t (x + 1) p bs → is_node (root_at s) bs x ≡ true → Scanned s words t (x + 4) p bs
+  pub advance : (t : Table) (x p : ℕ) (bs : List LinkedBlock) → Scanned s words t (x + 1) p bs
+      → is_node (root_at s) bs x ≡ true → Scanned s words t (x + 4) p bs
   advance t x p bs sc n = record {
     order = sc.order;
     shown = sc.shown;
@@ -76,7 +85,8 @@ module _ (s : Setting) (words : List ℕ) (h : IsSetting s) where
     links = λ y m l. ⊎_elim
         (λ (k : y < x + 1). sc.links y m k)
         (λ (k : x + 1 ≤ y).
-        let same : y ≡ x = nodes-apart (root_at s) bs y x 0 (y - x) sc.order m n (omega arith) (omega (arith, l, k)) (omega (arith, k)) in
+        let same : y ≡ x = nodes-apart (root_at s) bs y x 0 (y - x) sc.order m n (omega arith)
+        (omega (arith, l, k)) (omega (arith, k)) in
         absurd (omega (arith, same, k)))
         (cases_lt y (x + 1));
     vacant = λ y m l. sc.vacant y m (omega (arith, l));
@@ -87,7 +97,8 @@ module _ (s : Setting) (words : List ℕ) (h : IsSetting s) where
   }
 
   -- before any block is found
-  pub scan_none : (t : Table) → length t.index ≡ end_of s → ((i : ℕ) → slice_index t.index i ≡ 0) → t.sites.items ≡ [] → t.others ≡ 0 → Scanned s words t (root_at s) (area_at s) []
+  pub scan_none : (t : Table) → length t.index ≡ end_of s → ((i : ℕ) → slice_index t.index i ≡ 0)
+      → t.sites.items ≡ [] → t.others ≡ 0 → Scanned s words t (root_at s) (area_at s) []
   scan_none t long none sites others = record {
     order = tt;
     shown = λ b i. absurd i;
@@ -108,7 +119,8 @@ module _ (s : Setting) (words : List ℕ) (h : IsSetting s) where
   }
 
   -- all words are passed
-  pub all_passed : (t : Table) (p : ℕ) (bs : List LinkedBlock) → Scanned s words t p p bs → end_of s ≤ p → p ≤ end_of s → IsLinked s words t bs
+  pub all_passed : (t : Table) (p : ℕ) (bs : List LinkedBlock) → Scanned s words t p p bs
+      → end_of s ≤ p → p ≤ end_of s → IsLinked s words t bs
   all_passed t p bs sc l m = record {
     linked = record {
       order = sc.order;

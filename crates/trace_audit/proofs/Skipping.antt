@@ -11,7 +11,9 @@ use Rattle.trace_audit.specs.Tables.{Scanned}
 use Rattle.trace_audit.proofs.LinkedBlocks.{node_below}
 
 -- where no block begins
-pub skip : (s : Setting) (words : List ℕ) (h : IsSetting s) (t : Table) (p : ℕ) (bs : List LinkedBlock) → Scanned s words t p p bs → slice_index t.index p ≡ 0 → Scanned s words t (p + 1) (p + 1) bs
+pub skip : (s : Setting) (words : List ℕ) (h : IsSetting s) (t : Table) (p : ℕ)
+    (bs : List LinkedBlock) → Scanned s words t p p bs → slice_index t.index p ≡ 0
+    → Scanned s words t (p + 1) (p + 1) bs
 skip s words h t p bs sc none = record {
   order = sc.order;
   shown = sc.shown;

@@ -43,7 +43,7 @@ HasGiftRoom words sums b amount unseen = (k : ℕ) → k < nodes_in words b
     (slice_index unseen c ≤ amount)
     × (slice_index sums (node_at b k + SEEN_WORD) + rest_gift amount unseen c < 2 ^ 64)
 
--- for the cell c: where one of the first n nodes of the block at b has it, its seen word, turned;
+-- for the cell c: if one of the first n nodes of the block at b has it, its seen word, turned;
 -- else 0
 abbrev pub IsUnseenAt : List ℕ → List ℕ → ℕ → ℕ → List ℕ → ℕ → Type 0
 IsUnseenAt words sums b n unseen c =

@@ -34,7 +34,7 @@ HasNodeAt bs at x =
 abbrev pub HasNoNode : List LinkedBlock → ℕ → Type 0
 HasNoNode bs x = (b : LinkedBlock) → In b bs → ¬ (has_node b x ≡ true)
 
--- the answer is where the linked block begins that has a node at x; `None` where none has
+-- the answer is where the linked block begins that has a node at x; `None` if none has
 abbrev pub IsBlockOf : List ℕ → Table → ℕ → Option ℕ → Type 0
 IsBlockOf words t x answer = (s : Setting) (bs : List LinkedBlock)
     → IsLinkedTree s bs words t

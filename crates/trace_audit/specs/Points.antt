@@ -19,7 +19,7 @@ AreSame words sums x = (tally_in words x ≡ tally_in sums x) × (seen_in words 
 abbrev pub place_visits : List ℕ → ℕ → ℕ → ℕ
 place_visits words b k = (tally_in words (node_at b k)).visits
 
--- the node of place k of the site's block is the leaf of at most so many records, where its board
+-- the node of place k of the site's block is the leaf of at most so many records, if its board
 -- has an empty cell
 abbrev pub IsFrugal : List ℕ → List ℕ → Site → ℕ → ℕ → Type 0
 IsFrugal words sums p most k = let x = node_at p.start k in
@@ -32,7 +32,7 @@ abbrev pub IsNextBounded : Setting → List ℕ → ℕ → Type 0
 IsNextBounded s words others = next_in words ≤ root_end s words + s.knobs.workers * others
     + MOST_BLOCK_WORDS * s.knobs.workers
 
--- where a node of the block at b has no visits, none has more than so many
+-- if a node of the block at b has no visits, none has more than so many
 abbrev pub IsFirst : List ℕ → ℕ → ℕ → Type 0
 IsFirst words most b = (i j : ℕ) → i < nodes_in words b → j < nodes_in words b
     → place_visits words b j ≡ 0 → place_visits words b i ≤ most

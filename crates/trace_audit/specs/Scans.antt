@@ -18,8 +18,8 @@ abbrev pub ShowsWords : List ℕ → ℕ → List ℕ → ℕ → Type 0
 ShowsWords words at block many = (i : ℕ) → i < many → is_header_or_move i ≡ true
     → slice_index words (at + i) ≡ slice_index block i
 
--- the answer is the word after the block that begins at `at`, where the block stands in the area;
--- it is `None` where the block does not stand there
+-- the answer is the word after the block that begins at `at`, if the block stands in the area; it
+-- is `None` if the block does not stand there
 abbrev pub IsBlockEnd : Setting → List ℕ → ℕ → LinkedBlock → Option ℕ → Type 0
 IsBlockEnd s words at b answer = MatchOption answer (¬ (StandsInArea s words b))
     (λ end. StandsInArea s words b × (end ≡ at + size b))

@@ -15,7 +15,7 @@ use Rattle.tree_words.specs.Counts.{count_below, visits_at, sights_at}
 use Rattle.tree_words.specs.Growth.{ends_at}
 
 -- the sums of the first n playouts: at each node its visits and wins, at each node of a block its
--- seen visits and seen wins, and where a node has its move the number of records whose leaf it is
+-- seen visits and seen wins, and in place of a node's move the number of records whose leaf it is
 pub record AreSums (s : Setting) (bs : List LinkedBlock) (words sums : List ℕ) (n : ℕ)
     : Type 0 where
   pub long : length sums ≡ end_of s

@@ -9,7 +9,8 @@ use Rattle.trace_audit.specs.Told.{AreWords, IsReadTree}
 use Rattle.trace_audit.specs.Verdicts.{BeginsWithTree}
 use Rattle.trace_audit.specs.declared.parsing.Text.{Text}
 use Rattle.trace_audit.specs.declared.parsing.TheConstants.{FRONT_BYTES}
-use Rattle.trace_audit.specs.declared.texts.TheConstants.{FIELDS, WORD_BYTES}
+use Rattle.trace_audit.specs.declared.places.TheConstants.{FIELDS}
+use Rattle.trace_audit.specs.declared.texts.TheConstants.{WORD_BYTES}
 
 -- the words stand in the bytes from byte `at` on
 abbrev pub StandAt : List ℕ → ℕ → List ℕ → Type 0

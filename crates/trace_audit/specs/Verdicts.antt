@@ -39,7 +39,7 @@ FailsFirst s words Growth =
     (bs : List LinkedBlock) × Linked s words bs × Recorded s bs words × Exact s bs words
     × KeepsEnds s words × ¬ (Grown s bs words)
 
--- the answer is the first point that fails; `None` where the tree is closed
+-- the answer is the first point that fails; `None` if the tree is closed
 abbrev pub IsFirstFailure : Setting → List ℕ → Option Flaw → Type 0
 IsFirstFailure s words answer = MatchOption answer (IsClosed s words) (FailsFirst s words)
 

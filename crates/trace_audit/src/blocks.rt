@@ -10,7 +10,7 @@ ghost use Rattle.trace_audit.specs.Tables.{block_at};
 use super::word_list::Words;
 use hex_board::Board;
 use hex_cells::CellSet;
-use tree_words::layout::{HEADER_WORDS, MOST_BLOCK_WORDS, NEXT_AT, NODE_WORDS, RECORDS_AT};
+use tree_words::layout::{HEADER_WORDS, MOST_BLOCK_WORDS, NEXT_AT, NODE_WORDS};
 use tree_words::{Shape, write_block};
 
 // Whether the words from `at` on are a block's: its header words and its moves.
@@ -19,7 +19,7 @@ fn same_block(words: &Words, at: usize, block: &[u64; MOST_BLOCK_WORDS], size: u
     requires few { size ≤ MOST_BLOCK_WORDS }
     ensures { IsTrue result ↔ ShowsWords words.now at block.now size }
 {
-    // What the words keep of themselves.
+    // Brings what the type keeps into scope.
     let _len = words.len();
     'words: for i in 0..size {
         if (i < HEADER_WORDS || i % NODE_WORDS == 0) && words.at(at + i) != block[i] {
@@ -35,16 +35,15 @@ fn cells_below(shape: &Shape, parent: usize, board: &Board) -> CellSet
     ensures { listed board.now.size result
         ≡ (block_at shape.now board.now parent 0).cells }
 {
-    let root = shape.knobs().playouts as usize + RECORDS_AT;
-    if parent == root {
+    if parent == shape.root() as usize {
         shape.allowed()
     } else {
         board.empties()
     }
 }
 
-/// The word after the block at `at` below a node with this board, where it stands there; `None`
-/// where it does not.
+/// The word after the block at `at` below a node with this board, if it stands there; `None` if it
+/// does not.
 pub(crate) fn block_end(
     words: &Words,
     shape: &Shape,
@@ -58,7 +57,7 @@ pub(crate) fn block_end(
     ensures { IsBlockEnd shape.now words.now at
         (block_at shape.now board.now parent at) result }
 {
-    // What each shape keeps of itself.
+    // Brings what the type keeps into scope.
     let _board = shape.board();
     let empties = board.empties();
     let cells = cells_below(shape, parent, board);

@@ -10,7 +10,7 @@ ghost use Rattle.trace_audit.specs.Points.{LiesWithin, TellsEach};
 use super::sites::Table;
 use super::word_list::Words;
 use tree_words::Shape;
-use tree_words::layout::{COUNT_WORD, HEADER_WORDS, NODE_WORDS, RECORDS_AT, SEEN_WORD, TALLY_WORD};
+use tree_words::layout::{COUNT_WORD, HEADER_WORDS, NODE_WORDS, SEEN_WORD, TALLY_WORD};
 
 // Whether the tally and the seen word of the node at `x` are the sums.
 fn has_same(words: &Words, sums: &[u64], x: usize) -> bool
@@ -59,9 +59,9 @@ pub(crate) fn is_exact(words: &Words, shape: &Shape, table: &Table, sums: &[u64]
     requires sums { HasSumsOf shape.now words.now table.now sums.now shape.now.knobs.playouts }
     ensures { TellsExact shape.now words.now table.now sums.now result }
 {
-    // What each shape keeps of itself.
+    // Brings what the type keeps into scope.
     let _board = shape.board();
-    let root = shape.knobs().playouts as usize + RECORDS_AT;
+    let root = shape.root() as usize;
     if words.at(root + TALLY_WORD) != sums[root + TALLY_WORD] {
         return false;
     }

@@ -7,14 +7,17 @@ ghost use Rattle.trace_audit.specs.Fields.{AreOfNoSet, AreOfSet, IsWithin, TellB
 ghost use Rattle.trace_audit.specs.Fields.{TellNoBoard, TellNoKnobs, TellNoShape, TellShape};
 ghost use Rattle.trace_audit.specs.Traces.{colour_number};
 
-use super::texts::FIELDS;
+use super::places::{
+    ALLOWED_FIELD, BLACK_FIELD, EXPAND_FIELD, FIELDS, PLAYER_FIELD, PLAYOUTS_FIELD, SEED_FIELD,
+    SIZE_FIELD, WEIGHT_FIELD, WHITE_FIELD, WORDS_FIELD, WORKERS_FIELD,
+};
 use hex_board::Board;
 use hex_cells::{CellSet, Colour, MOST_CELLS, Size};
 use tree_words::layout::HIGH_EMPTIES_SHIFT;
 use tree_words::{Knobs, LEAST_WORDS, MOST_EXPAND, MOST_PLAYOUTS, MOST_WORDS, MOST_WORKERS, Shape};
 use uct_table::MOST_WEIGHT;
 
-// The number, where it is in the range.
+// The number, if it is in the range.
 fn in_range(word: u64, least: u32, most: u32) -> Option<u32>
     ensures { MatchOption result (¬ (IsWithin least most word))
         (λ n. (n ≡ word) × IsWithin least most n) }
@@ -48,20 +51,20 @@ fn colour_of(word: u64) -> Option<Colour>
     }
 }
 
-// The board of the first five fields.
+// The board that the fields tell.
 fn board_of(fields: &[u64; FIELDS]) -> Option<Board>
     ensures { MatchOption result (TellNoBoard fields.now) (TellBoard fields.now) }
 {
-    let Some(number) = in_range(fields[0], 1, Size::MAX) else {
+    let Some(number) = in_range(fields[SIZE_FIELD], 1, Size::MAX) else {
         return None;
     };
     let Some(size) = Size::of(number) else {
         return None;
     };
-    let Some(black) = set_of(fields[1], fields[2]) else {
+    let Some(black) = set_of(fields[BLACK_FIELD], fields[BLACK_FIELD + 1]) else {
         return None;
     };
-    let Some(white) = set_of(fields[3], fields[4]) else {
+    let Some(white) = set_of(fields[WHITE_FIELD], fields[WHITE_FIELD + 1]) else {
         return None;
     };
     let all = CellSet::all(size);
@@ -71,22 +74,22 @@ fn board_of(fields: &[u64; FIELDS]) -> Option<Board>
     Some(Board::of(size, black, white))
 }
 
-// The knobs of the fields behind the allowed cells.
+// The knobs that the fields tell.
 fn knobs_of(fields: &[u64; FIELDS]) -> Option<Knobs>
     ensures { MatchOption result (TellNoKnobs fields.now)
         (λ k. TellKnobs fields.now k × AreInRange k) }
 {
     Some(Knobs {
-        workers: in_range(fields[8], 1, MOST_WORKERS)?,
-        playouts: in_range(fields[9], 1, MOST_PLAYOUTS)?,
-        seed: fields[10],
-        words: in_range(fields[11], LEAST_WORDS, MOST_WORDS)?,
-        expand: in_range(fields[12], 1, MOST_EXPAND)?,
-        weight: in_range(fields[13], 0, MOST_WEIGHT)?,
+        workers: in_range(fields[WORKERS_FIELD], 1, MOST_WORKERS)?,
+        playouts: in_range(fields[PLAYOUTS_FIELD], 1, MOST_PLAYOUTS)?,
+        seed: fields[SEED_FIELD],
+        words: in_range(fields[WORDS_FIELD], LEAST_WORDS, MOST_WORDS)?,
+        expand: in_range(fields[EXPAND_FIELD], 1, MOST_EXPAND)?,
+        weight: in_range(fields[WEIGHT_FIELD], 0, MOST_WEIGHT)?,
     })
 }
 
-/// The shape that the fields tell; `None` where one of them is out of its range, stones meet or lie
+/// The shape that the fields tell; `None` if one of them is out of its range, stones meet or lie
 /// off the board, or the allowed cells are none or not all empty.
 pub(crate) fn shape_of(fields: &[u64; FIELDS]) -> Option<Shape>
     ensures { MatchOption result (TellNoShape fields.now) (TellShape fields.now) }
@@ -94,10 +97,10 @@ pub(crate) fn shape_of(fields: &[u64; FIELDS]) -> Option<Shape>
     let Some(board) = board_of(fields) else {
         return None;
     };
-    let Some(colour) = colour_of(fields[5]) else {
+    let Some(colour) = colour_of(fields[PLAYER_FIELD]) else {
         return None;
     };
-    let Some(allowed) = set_of(fields[6], fields[7]) else {
+    let Some(allowed) = set_of(fields[ALLOWED_FIELD], fields[ALLOWED_FIELD + 1]) else {
         return None;
     };
     let Some(knobs) = knobs_of(fields) else {

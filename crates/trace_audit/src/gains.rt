@@ -17,7 +17,7 @@ use play_out::Ending;
 use tree_words::cell_of;
 use tree_words::layout::{COUNT_WORD, HEADER_WORDS, NODE_WORDS, SEEN_WORD, TALLY_WORD, VISIT};
 
-// One visit, and one win where the player is the winner.
+// One visit, and one win if the player is the winner.
 fn amount(player: Colour, winner: Colour) -> u64
     ensures value { result ≡ amount_of (is_same winner player) }
     ensures range { result ≤ VISIT + 1 }

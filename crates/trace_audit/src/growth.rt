@@ -14,8 +14,7 @@ use super::sites::{Site, Table};
 use super::word_list::Words;
 use hex_cells::Cell;
 use tree_words::layout::{
-    COUNT_WORD, HEADER_WORDS, LINK_WORD, MOST_BLOCK_WORDS, NEXT_AT, NODE_WORDS, RECORDS_AT,
-    TALLY_WORD,
+    COUNT_WORD, HEADER_WORDS, LINK_WORD, MOST_BLOCK_WORDS, NEXT_AT, NODE_WORDS, TALLY_WORD,
 };
 use tree_words::{Shape, cell_of, visits_of};
 
@@ -25,7 +24,7 @@ fn has_unvisited(words: &Words, block: usize) -> bool
     ensures { MatchBool result (IsSomeUnvisited words.now block)
         (AreVisited words.now block) }
 {
-    // What the words keep of themselves.
+    // Brings what the type keeps into scope.
     let _len = words.len();
     let count = words.at(block + COUNT_WORD) as usize;
     'nodes: for place in 0..count {
@@ -43,7 +42,7 @@ fn has_more(words: &Words, block: usize, most: u32) -> bool
     ensures { MatchBool result (IsSomeAbove words.now block most)
         (AreUpTo words.now block most) }
 {
-    // What the words keep of themselves.
+    // Brings what the type keeps into scope.
     let _len = words.len();
     let count = words.at(block + COUNT_WORD) as usize;
     'nodes: for place in 0..count {
@@ -93,9 +92,9 @@ fn is_next_bounded(words: &Words, shape: &Shape, others: usize) -> bool
     ensures { MatchBool result (IsNextBounded shape.now words.now others)
         (¬ (IsNextBounded shape.now words.now others)) }
 {
-    // What each shape keeps of itself.
+    // Brings what the type keeps into scope.
     let _board = shape.board();
-    let root = shape.knobs().playouts as usize + RECORDS_AT;
+    let root = shape.root() as usize;
     let block = words.at(root + LINK_WORD) as usize;
     let root_end = block + HEADER_WORDS + NODE_WORDS * words.at(block + COUNT_WORD) as usize;
     let workers = shape.knobs().workers as usize;
@@ -138,7 +137,7 @@ pub(crate) fn is_grown(words: &Words, shape: &Shape, table: &Table, sums: &[u64]
     requires sums { HasAllSums shape.now words.now table.now sums.now }
     ensures { TellsGrown shape.now words.now table.now sums.now result }
 {
-    // What each shape keeps of itself.
+    // Brings what the type keeps into scope.
     let _board = shape.board();
     let knobs = shape.knobs();
     if !each_first(words, table, knobs.workers) {

@@ -17,8 +17,7 @@ use super::sites::Table;
 use super::word_list::Words;
 use hex_cells::MOST_CELLS;
 use tree_words::layout::{
-    COUNT_WORD, FRONT_WORDS, HEADER_WORDS, NODE_WORDS, PLACE_UNIT, RECORDS_AT, SEEN_WORD,
-    TALLY_WORD, VISIT,
+    COUNT_WORD, HEADER_WORDS, NODE_WORDS, PLACE_UNIT, SEEN_WORD, TALLY_WORD, VISIT,
 };
 use tree_words::{Shape, cell_of, visits_of};
 
@@ -96,11 +95,11 @@ fn hand_up(words: &Words, shape: &Shape, sums: &mut [u64], at: usize)
     requires sums { MayHandUp shape.now words.now sums.old at }
     ensures { HandsUp shape.now words.now sums.old sums.new at }
 {
-    // What each shape keeps of itself.
+    // Brings what the type keeps into scope.
     let _board = shape.board();
     let amount = turned(sums[at]);
     let parent = words.at(at) as usize;
-    if parent == shape.knobs().playouts as usize + RECORDS_AT {
+    if parent == shape.root() as usize {
         gain(sums, parent + TALLY_WORD, amount);
     } else {
         let unseen = unseen(words, sums, at);
@@ -116,9 +115,9 @@ pub(crate) fn hand_all(words: &Words, shape: &Shape, table: &Table, sums: &mut [
     requires sums { HasOwnSums shape.now words.now table.now sums.old shape.now.knobs.playouts }
     ensures { HandsAll shape.now words.now table.now sums.old sums.new }
 {
-    // What each shape keeps of itself.
+    // Brings what the type keeps into scope.
     let _board = shape.board();
-    let area = shape.knobs().playouts as usize + FRONT_WORDS;
+    let area = shape.area() as usize;
     let mut at = words.len();
     'words: while area < at {
         at -= 1;

@@ -64,7 +64,7 @@ impl Index {
         }
     }
 
-    /// Gives the word this number. Answers whether it did: it does not where another word nearby
+    /// Gives the word this number. Answers whether it did: it does not if another word nearby
     /// has one.
     pub(crate) fn enter(&mut self, at: usize, number: u32) -> bool
         requires at { at < length self.old }

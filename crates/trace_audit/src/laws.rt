@@ -21,7 +21,7 @@ pub fn traces_are_texts_of_closed_trees()
         → AreTexts (length trees) [] (flat_map trace_text trees) }
 {}
 
-/// The law that bytes have one verdict: they are the texts of closed trees where an audit answers
+/// The law that bytes have one verdict: they are the texts of closed trees if an audit answers
 /// `Yes`, and nowhere else, and a `No` names their one first flaw. It does nothing.
 pub fn bytes_have_one_verdict()
     ensures { (bytes : List ℕ) (v w : Audit) → IsVerdictOn bytes v → IsVerdictOn bytes w → v ≡ w }

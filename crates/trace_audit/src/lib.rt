@@ -18,7 +18,7 @@
 //! text that is not that of a closed tree and its first [`types::Flaw`]. It makes each playout
 //! again and needs no search.
 //!
-//! **What is proved.** Where the link tells what it was given, a turn that was taken gave it
+//! **What is proved.** If the link tells what it was given, a turn that was taken gave it
 //! exactly its trace more. A fault comes only if the count of the link's writes at fault rose, and
 //! then it was given a prefix of the trace that is not all of it. What is read from the text of a
 //! closed tree is a closed tree again ([`traces_tell_closed_trees`]): the words that are not
@@ -73,6 +73,7 @@ mod index;
 mod laws;
 mod linking;
 mod parsing;
+mod places;
 mod recording;
 mod refusals;
 mod sites;

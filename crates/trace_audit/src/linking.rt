@@ -13,22 +13,22 @@ use super::sites::{Site, Table, has_entry};
 use super::word_list::Words;
 use std::alloc::Global;
 use tree_words::Shape;
-use tree_words::layout::{FRONT_WORDS, NODE_WORDS, RECORDS_AT};
+use tree_words::layout::NODE_WORDS;
 
-// The words of a block below this parent, where it is not the root's.
+// The words of a block below this parent, if it is not the root's.
 fn other_words(shape: &Shape, parent: usize, size: usize) -> usize
     ensures root { parent ≡ root_at shape.now → result ≡ 0 }
     ensures other { (parent ≡ root_at shape.now → ⊥) → result ≡ size }
     ensures range { result ≤ size }
 {
-    if parent == shape.knobs().playouts as usize + RECORDS_AT {
+    if parent == shape.root() as usize {
         0
     } else {
         size
     }
 }
 
-// Passes the block that was entered at `at`: the word after it, where it stands there alone.
+// Passes the block that was entered at `at`: the word after it, if it stands there alone.
 fn pass_block(
     words: &Words,
     shape: &Shape,
@@ -42,7 +42,7 @@ fn pass_block(
     ensures { IfOk result
         (λ to. PassesBlock shape.now words.now table.old table.new at to) }
 {
-    // What each shape keeps of itself.
+    // Brings what the type keeps into scope.
     let _board = shape.board();
     let site = table.sites[table.index.entry(at) as usize - 1];
     let parent = words.at(at) as usize;
@@ -66,14 +66,14 @@ fn begin(alloc: Global, shape: &Shape, words: &Words) -> Result<Option<Table>, M
     ensures { IfOk result (λ table. MatchOption table (AreUnlinked shape.now words.now)
         (IsScanBegun shape.now words.now)) }
 {
-    // What each shape keeps of itself.
+    // Brings what the type keeps into scope.
     let _board = shape.board();
     let mut table = Table {
         index: Index::empty(alloc, words.len())?,
         sites: Vec::new(alloc),
         others: 0,
     };
-    let root = shape.knobs().playouts as usize + RECORDS_AT;
+    let root = shape.root() as usize;
     let site = Site {
         start: 0,
         board: *shape.board(),
@@ -92,12 +92,12 @@ pub(crate) fn link(alloc: Global, shape: &Shape, words: &Words) -> Result<Option
     ensures { IfOk result (λ table. MatchOption table (AreUnlinked shape.now words.now)
         (IsLinkTable shape.now words.now)) }
 {
-    // What each shape keeps of itself.
+    // Brings what the type keeps into scope.
     let _board = shape.board();
     let Some(mut table) = begin(alloc, shape, words)? else {
         return Ok(None);
     };
-    let mut at = shape.knobs().playouts as usize + FRONT_WORDS;
+    let mut at = shape.area() as usize;
     'words: while at < words.len() {
         if table.index.entry(at) == 0 {
             at += 1;

@@ -10,16 +10,14 @@ ghost use Rattle.tree_words.specs.Words.{area_at, end_of};
 ghost use Rattle.trace_audit.specs.Told.{AreWords};
 
 use super::fields::shape_of;
-use super::texts::{FIELDS, WORD_BYTES};
+use super::places::{COUNT_FIELD, FIELDS};
+use super::texts::WORD_BYTES;
 use super::word_list::{Words, word_at};
-use tree_words::layout::{FRONT_WORDS, NEXT_AT};
-use tree_words::{Knobs, LEAST_WORDS, Shape};
+use tree_words::layout::NEXT_AT;
+use tree_words::{LEAST_WORDS, Shape};
 
 /// The name of a text and its fields have so many bytes.
 const FRONT_BYTES: usize = WORD_BYTES + WORD_BYTES * FIELDS;
-
-/// The number of the words that follow is the last field.
-const COUNT_FIELD: usize = FIELDS - 1;
 
 /// What is read from a text: the shape that it tells; the same shape with an area that ends behind
 /// the written words, and the words up to there, so that no memory is taken for words of which the
@@ -67,8 +65,7 @@ fn count_in(shape: &Shape, field: u64, bytes: usize) -> Option<usize>
     ensures { MatchOption result (¬ (MayFollow shape.now field bytes))
         (λ count. (count ≡ field) × MayFollow shape.now count bytes) }
 {
-    let front = u64::from(shape.knobs().playouts) + FRONT_WORDS as u64;
-    if field < front || u64::from(shape.total()) < field {
+    if field < u64::from(shape.area()) || u64::from(shape.total()) < field {
         return None;
     }
     let count = field as usize;
@@ -85,7 +82,7 @@ struct Front {
     count: usize,
 }
 
-// The front of the text that the bytes begin with; `None` where they begin with none.
+// The front of the text that the bytes begin with; `None` if they begin with none.
 fn read_front(bytes: &[u8]) -> Option<Front>
     ensures { MatchOption result (BeginsWithNoTree bytes.now)
         (λ front. IsFront bytes.now front.shape front.count) }
@@ -96,7 +93,7 @@ fn read_front(bytes: &[u8]) -> Option<Front>
     let Some(shape) = shape_of(&fields) else {
         return None;
     };
-    // What each shape keeps of itself.
+    // Brings what the type keeps into scope.
     let _board = shape.board();
     let Some(count) = count_in(&shape, fields[COUNT_FIELD], bytes.len() - FRONT_BYTES) else {
         return None;
@@ -112,23 +109,20 @@ fn cut_at(shape: &Shape, count: usize) -> Shape
     ensures less { end_of result ≤ end_of shape.now }
     ensures enough { count ≤ end_of result }
 {
-    let knobs = shape.knobs();
-    let written = count - knobs.playouts as usize - FRONT_WORDS;
-    let cut = Knobs {
-        words: (written as u32).max(LEAST_WORDS),
-        ..*knobs
-    };
-    Shape::make(shape.board(), shape.colour(), shape.allowed(), &cut)
+    // Brings what the type keeps into scope.
+    let _knobs = shape.knobs();
+    let written = count - shape.area() as usize;
+    shape.narrowed((written as u32).max(LEAST_WORDS))
 }
 
-/// The text that the bytes begin with; `None` where they begin with none.
+/// The text that the bytes begin with; `None` if they begin with none.
 pub(crate) fn read_text<'a>(bytes: &'a [u8]) -> Option<Text<'a>>
     ensures { MatchOption result (BeginsWithNoTree bytes.now) (IsText bytes.now) }
 {
     let Some(front) = read_front(bytes) else {
         return None;
     };
-    // What each shape keeps of itself.
+    // Brings what the type keeps into scope.
     let _board = front.shape.board();
     let cut = cut_at(&front.shape, front.count);
     let end = FRONT_BYTES + WORD_BYTES * front.count;

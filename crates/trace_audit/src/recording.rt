@@ -22,7 +22,7 @@ use tree_words::layout::{
 };
 use tree_words::{Shape, cell_of};
 
-// The first word of the block that has a node at `leaf`; `None` where there is none.
+// The first word of the block that has a node at `leaf`; `None` if there is none.
 fn block_of(words: &Words, table: &Table, leaf: u64) -> Option<usize>
     requires { IsTableOf words.now table.now }
     ensures { IsBlockOf words.now table.now leaf result }
@@ -80,7 +80,7 @@ fn ending_of(site: &Site, seed: u64, k: u64) -> Ending
     ensures filled { IsFullBoard site.now.board.size result.full }
 {
     let full = fill(&site.board, site.player, seed, k);
-    // A board's stones lie apart.
+    // Brings what the type keeps into scope: a board's stones lie apart.
     let _black = full.stones(Colour::Black);
     let winner = if full.joined(Colour::Black) {
         Colour::Black
@@ -90,14 +90,14 @@ fn ending_of(site: &Site, seed: u64, k: u64) -> Ending
     Ending { full, winner }
 }
 
-// Adds playout `k` to the sums of its leaf's block, where its record is right.
+// Adds playout `k` to the sums of its leaf's block, if its record is right.
 fn add(words: &Words, shape: &Shape, table: &Table, sums: &mut [u64], k: u32) -> bool
     requires long { length words.now ≡ end_of shape.now }
     requires number { k < shape.now.knobs.playouts }
     requires sums { HasOwnSums shape.now words.now table.now sums.old k }
     ensures { AddsPlayout shape.now words.now table.now sums.old sums.new k result }
 {
-    // What each shape keeps of itself.
+    // Brings what the type keeps into scope.
     let _board = shape.board();
     let word = words.at(RECORDS_AT + k as usize);
     let Some(block) = block_of(words, table, word / RECORD_UNIT) else {
@@ -113,7 +113,7 @@ fn add(words: &Words, shape: &Shape, table: &Table, sums: &mut [u64], k: u32) ->
     true
 }
 
-/// The sums of what the playouts add, where each has its record.
+/// The sums of what the playouts add, if each has its record.
 pub(crate) fn sum(
     alloc: Global,
     shape: &Shape,
@@ -124,7 +124,7 @@ pub(crate) fn sum(
     requires linked { IsLinkTable shape.now words.now table.now }
     ensures { IfOk result (λ sums. AddsPlayouts shape.now words.now table.now sums) }
 {
-    // What each shape keeps of itself.
+    // Brings what the type keeps into scope.
     let _board = shape.board();
     let mut sums = zeros(alloc, words.len())?;
     'records: for k in 0..shape.knobs().playouts {

@@ -6,6 +6,10 @@ ghost use Rattle.hex_io.specs.Grew.{Gave, GaveProperPart};
 ghost use Rattle.trace_audit.specs.Traces.{bytes_of, colour_number, fields_of, high_word, low_word};
 ghost use Rattle.trace_audit.specs.Traces.{trace_text, written_count};
 
+use super::places::{
+    ALLOWED_FIELD, BLACK_FIELD, COUNT_FIELD, EXPAND_FIELD, FIELDS, PLAYER_FIELD, PLAYOUTS_FIELD,
+    SEED_FIELD, SIZE_FIELD, WEIGHT_FIELD, WHITE_FIELD, WORDS_FIELD, WORKERS_FIELD,
+};
 use hex_cells::{CellSet, Colour};
 use hex_io::{Link, LinkFault, give};
 use tree_words::Closed;
@@ -19,9 +23,6 @@ pub(crate) const WORD_BYTES: usize = 8;
 
 /// So many words fill the buffer.
 const BUFFER_WORDS: usize = BUFFER_BYTES / WORD_BYTES;
-
-/// So many words stand between the name of a text and the words of the tree.
-pub(crate) const FIELDS: usize = 15;
 
 /// Gives the text of the tree. At a fault a prefix of it was given that is not all of it.
 pub fn give_text<W: Link>(
@@ -63,23 +64,23 @@ fn fields(closed: &Closed, count: usize) -> [u64; FIELDS]
     let white = board.stones(Colour::White);
     let allowed = shape.allowed();
     let knobs = shape.knobs();
-    [
-        u64::from(board.size().get()),
-        low_word(black),
-        high_word(black),
-        low_word(white),
-        high_word(white),
-        colour_number(shape.colour()),
-        low_word(allowed),
-        high_word(allowed),
-        u64::from(knobs.workers),
-        u64::from(knobs.playouts),
-        knobs.seed,
-        u64::from(knobs.words),
-        u64::from(knobs.expand),
-        u64::from(knobs.weight),
-        count as u64,
-    ]
+    let mut fields = [0; FIELDS];
+    fields[SIZE_FIELD] = u64::from(board.size().get());
+    fields[BLACK_FIELD] = low_word(black);
+    fields[BLACK_FIELD + 1] = high_word(black);
+    fields[WHITE_FIELD] = low_word(white);
+    fields[WHITE_FIELD + 1] = high_word(white);
+    fields[PLAYER_FIELD] = colour_number(shape.colour());
+    fields[ALLOWED_FIELD] = low_word(allowed);
+    fields[ALLOWED_FIELD + 1] = high_word(allowed);
+    fields[WORKERS_FIELD] = u64::from(knobs.workers);
+    fields[PLAYOUTS_FIELD] = u64::from(knobs.playouts);
+    fields[SEED_FIELD] = knobs.seed;
+    fields[WORDS_FIELD] = u64::from(knobs.words);
+    fields[EXPAND_FIELD] = u64::from(knobs.expand);
+    fields[WEIGHT_FIELD] = u64::from(knobs.weight);
+    fields[COUNT_FIELD] = count as u64;
+    fields
 }
 
 /// A player as a word.

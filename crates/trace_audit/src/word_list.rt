@@ -1,4 +1,4 @@
-//! The words of a text, read where they stand.
+//! The words of a text, read in their place.
 
 ghost use Rattle.std.specs.Prelude.{◌≡◌, ◌+◌, ◌<◌, ◌≤◌, ◌%◌, ◌^◌, length, slice_index, take, drop};
 ghost use Rattle.std.specs.Int.{w64, to_le_bytes};

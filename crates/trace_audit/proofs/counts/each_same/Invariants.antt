@@ -5,4 +5,5 @@ use Rattle.trace_audit.specs.Points.{HasSums}
 use Rattle.trace_audit.proofs.counts.each_same.Given as goal
 
 abbrev pub invariant-sites : goal.invariant-sites
-invariant-sites l = (k : ℕ) (d : Site) → k < l.i → HasSums l.words l.sums (slice_index_or l.table.sites.items k d)
+invariant-sites l = (k : ℕ) (d : Site) → k < l.i
+    → HasSums l.words l.sums (slice_index_or l.table.sites.items k d)

@@ -2,14 +2,18 @@ use Rattle.std.proofs.Common.{◌≡◌, ℕ, ◌+◌, ◌∷◌, ap, ◌∙◌,
 use Rattle.tree_words.specs.Words.{cell_in}
 use Rattle.trace_audit.specs.Tables.{IsEntered}
 use Rattle.trace_audit.proofs.Matches.{if_yes, if_no}
-use Rattle.trace_audit.proofs.EnterAll.{cell_empty, cell_small, cell_state, entered_more, entry_least, node_in, node_last, site_is}
+use Rattle.trace_audit.proofs.EnterAll.{cell_empty, cell_small, cell_state, entered_more}
+use Rattle.trace_audit.proofs.EnterAll.{entry_least, node_in, node_last, site_is}
 use Rattle.trace_audit.proofs.entries.enter_all.Goals as goal
 
 pub index-requires : goal.index-requires
-index-requires c = let r = c.requires in let k = entry_least r.0 c.args.words.now c.args.table.now (c.args.at + 4) c.args.at c.args.end r.1 r.2 r.3 c.entry.result c.entry.ensures in omega (arith, k.1, c.args.table.now.sites.ok.0)
+index-requires c = let r = c.requires in let k = entry_least r.0 c.args.words.now c.args.table.now
+    (c.args.at + 4) c.args.at c.args.end r.1 r.2 r.3 c.entry.result c.entry.ensures in
+    omega (arith, k.1, c.args.table.now.sites.ok.0)
 
 pub nodes-init : goal.nodes-init
-nodes-init c = let r = c.requires in let ends = r.3.ends in (omega (arith, ends), (0, omega arith), λ s b bs e. e)
+nodes-init c = let r = c.requires in let ends = r.3.ends in
+    (omega (arith, ends), (0, omega arith), λ s b bs e. e)
 
 pub numbered-requires : goal.numbered-requires
 numbered-requires c =
@@ -38,11 +42,13 @@ pub returns-then-not-branch : goal.returns-then-not-branch
 returns-then-not-branch c = λ s b bs e.
     let k = c.nodes.invariant.1 in
     let now = c.nodes.invariant.2 s b bs e in
-    let site = site_is s c.args.words.now c.args.table.now (c.args.at + 4) c.args.at c.args.end b bs e c.entry.result c.index.result.now c.entry.ensures c.index.ensures in
+    let site = site_is s c.args.words.now c.args.table.now
+    (c.args.at + 4) c.args.at c.args.end b bs e c.entry.result c.index.result.now c.entry.ensures c.index.ensures in
     let n = node_in s c.args.words.now c.nodes.table c.nodes.x c.args.at c.args.end b bs now k.0 c.nodes.x k.1 c.nodes-test.true in
     let last = node_last s c.args.words.now c.nodes.table c.nodes.x c.args.at c.args.end b bs now k.0 c.nodes.x k.1 c.nodes-test.true in
     let state = cell_state s c.args.words.now c.nodes.table c.nodes.x c.args.at c.args.end b bs now k.0 c.nodes.x c.numbered.result c.index.result.now k.1 c.nodes-test.true site (c.numbered.ensures ∙ (c.cell_of.ensures ∙ ap cell_in c.at.ensures)) c.after-after.result c.after-after.ensures in
-    if_no c.in_ok-enter.field-0 _ _ (c.in_ok-enter.ensures s (b ∷ bs) (now.setting, now.long, now.scanned, n) last state) c.if-not-branch.true
+    if_no c.in_ok-enter.field-0 _ _
+    (c.in_ok-enter.ensures s (b ∷ bs) (now.setting, now.long, now.scanned, n) last state) c.if-not-branch.true
 
 pub nodes-preserved : goal.nodes-preserved
 nodes-preserved c =
@@ -53,7 +59,8 @@ nodes-preserved c =
       (k.0 + 1, omega (arith, k.1)),
       λ s b bs e.
           let now = c.nodes.invariant.2 s b bs e in
-          let site = site_is s c.args.words.now c.args.table.now (c.args.at + 4) c.args.at c.args.end b bs e c.entry.result c.index.result.now c.entry.ensures c.index.ensures in
+          let site = site_is s c.args.words.now c.args.table.now
+          (c.args.at + 4) c.args.at c.args.end b bs e c.entry.result c.index.result.now c.entry.ensures c.index.ensures in
           let n = node_in s c.args.words.now c.nodes.table c.nodes.x c.args.at c.args.end b bs now k.0 c.nodes.x k.1 c.nodes-test.true in
           let last = node_last s c.args.words.now c.nodes.table c.nodes.x c.args.at c.args.end b bs now k.0 c.nodes.x k.1 c.nodes-test.true in
           let state = cell_state s c.args.words.now c.nodes.table c.nodes.x c.args.at c.args.end b bs now k.0 c.nodes.x c.numbered.result c.index.result.now k.1 c.nodes-test.true site (c.numbered.ensures ∙ (c.cell_of.ensures ∙ ap cell_in c.at.ensures)) c.after-after.result c.after-after.ensures in
@@ -64,4 +71,5 @@ nodes-preserved c =
 pub returns : goal.returns
 returns c = λ s b bs e.
     let all : c.nodes.x ≡ c.args.end = omega (arith, c.nodes.invariant.0, c.nodes-test.false) in
-    subst (λ (x : ℕ). IsEntered s c.args.words.now c.nodes.table x c.args.at c.args.end b bs) all (c.nodes.invariant.2 s b bs e)
+    subst (λ (x : ℕ). IsEntered s c.args.words.now c.nodes.table x c.args.at c.args.end b bs) all
+    (c.nodes.invariant.2 s b bs e)

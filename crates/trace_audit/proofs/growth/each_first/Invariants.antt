@@ -5,4 +5,5 @@ use Rattle.trace_audit.specs.Points.{IsFirst}
 use Rattle.trace_audit.proofs.growth.each_first.Given as goal
 
 abbrev pub invariant-sites : goal.invariant-sites
-invariant-sites l = (k : ℕ) (d : Site) → k < l.i → IsFirst l.words l.most (slice_index_or l.table.sites.items k d).start
+invariant-sites l = (k : ℕ) (d : Site) → k < l.i
+    → IsFirst l.words l.most (slice_index_or l.table.sites.items k d).start

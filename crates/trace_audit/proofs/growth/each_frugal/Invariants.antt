@@ -5,4 +5,5 @@ use Rattle.trace_audit.specs.Points.{AreFrugal}
 use Rattle.trace_audit.proofs.growth.each_frugal.Given as goal
 
 abbrev pub invariant-sites : goal.invariant-sites
-invariant-sites l = (k : ℕ) (d : Site) → k < l.i → AreFrugal l.words l.sums l.most (slice_index_or l.table.sites.items k d)
+invariant-sites l = (k : ℕ) (d : Site) → k < l.i
+    → AreFrugal l.words l.sums l.most (slice_index_or l.table.sites.items k d)

@@ -12,7 +12,8 @@ words-init c =
     let end : end_of s ≡ c.len-at.result = sym (c.len-at.ensures ∙ c.requires.long) in (
       omega (arith, end),
       omega (arith, end),
-      λ bs lk a. subst (AreHanded s bs c.args.words.now c.args.sums.now) end (handed_none s c.args.words.now bs c.board-board.ensures.setting lk.linked c.args.sums.now a),
+      λ bs lk a. subst (AreHanded s bs c.args.words.now c.args.sums.now) end
+          (handed_none s c.args.words.now bs c.board-board.ensures.setting lk.linked c.args.sums.now a),
     )
 
 pub hand_up-requires-clause-sums : goal.hand_up-requires-clause-sums
@@ -26,7 +27,8 @@ hand_up-requires-clause-sums c =
     let at : ℕ = c.words.at - 1 in
     let next : c.words.at ≡ at + 1 = omega (arith, c.words-test.true) in
     let some = c.entry.ensures in
-    let f = entry_block s c.args.words.now c.args.table.now bs h lk at (omega (arith, some, c.if-entry-ne0.true)) in
+    let f = entry_block s c.args.words.now c.args.table.now bs h lk at
+    (omega (arith, some, c.if-entry-ne0.true)) in
     (bs, f.0, lk.linked, f.1, f.2, subst (AreHanded s bs c.args.words.now c.words.sums) next (i.2 bs lk c.requires.sums.2))
 
 pub words-preserved-then-entry-ne0 : goal.words-preserved-then-entry-ne0
@@ -37,12 +39,14 @@ words-preserved-then-entry-ne0 c =
     let at : ℕ = c.words.at - 1 in
     let next : c.words.at ≡ at + 1 = omega (arith, c.words-test.true) in (
       omega (arith, i.0),
-      omega (arith, c.words-test.true, ap (λ k. k.playouts) c.knobs.ensures.value),
+      omega (arith, c.words-test.true, c.area-area.ensures),
       λ bs lk a.
           let long = lk.table.long in
           let some = c.entry.ensures in
-          let f = entry_block s c.args.words.now c.args.table.now bs h lk at (omega (arith, some, c.if-entry-ne0.true)) in
-          c.hand_up.ensures bs f.0 lk.linked f.1 f.2 (subst (AreHanded s bs c.args.words.now c.words.sums) next (i.2 bs lk a)),
+          let f = entry_block s c.args.words.now c.args.table.now bs h lk at
+          (omega (arith, some, c.if-entry-ne0.true)) in
+          c.hand_up.ensures bs f.0 lk.linked f.1 f.2
+          (subst (AreHanded s bs c.args.words.now c.words.sums) next (i.2 bs lk a)),
     )
 
 pub words-preserved : goal.words-preserved
@@ -51,7 +55,7 @@ words-preserved c =
     let h = c.board-board.ensures.setting in
     let i = c.words.invariant in
     let at : ℕ = c.words.at - 1 in
-    let area = ap (λ k. k.playouts) c.knobs.ensures.value in
+    let area = c.area-area.ensures in
     let next : c.words.at ≡ at + 1 = omega (arith, c.words-test.true) in (
       omega (arith, i.0),
       omega (arith, c.words-test.true, area),
@@ -67,6 +71,6 @@ words-preserved c =
 pub returns : goal.returns
 returns c = λ bs lk a.
     let i = c.words.invariant in
-    let area = ap (λ k. k.playouts) c.knobs.ensures.value in
+    let area = c.area-area.ensures in
     let low = i.1 in
     all_handed c.args.shape.now c.args.words.now bs c.board-board.ensures.setting lk.linked c.words.sums c.words.at (omega (arith, c.words-test.false, area)) (omega (arith, low)) (i.2 bs lk a)

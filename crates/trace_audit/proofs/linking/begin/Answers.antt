@@ -1,4 +1,4 @@
-use Rattle.std.proofs.Common.{◌≡◌, ℕ, ◌+◌, [], refl, ap, ◌∙◌}
+use Rattle.std.proofs.Common.{◌≡◌, ℕ, [], refl, ◌∙◌}
 use Rattle.tree_words.specs.Words.{root_at}
 use Rattle.trace_audit.proofs.Matches.{if_yes, if_no}
 use Rattle.trace_audit.proofs.Beginning.{first_scan, first_node, first_last, first_done}
@@ -8,14 +8,15 @@ pub enter-requires : goal.enter-requires
 enter-requires c =
     let s = c.args.shape.now in
     let h = c.board-board.ensures.setting in
-    let root : c.knobs.result.now.playouts + 2 ≡ root_at s = ap (λ k. k.playouts + 2) c.knobs.ensures.value in (
+    let root : c.root-root.result ≡ root_at s = c.root-root.ensures in (
       s,
       [],
       (
         h,
         c.requires,
-        first_scan s c.args.words.now h (c.knobs.result.now.playouts + 2) root _ _ (c.len.ensures ∙ c.requires) c.in_ok-empty.ensures c.new.ensures.items refl,
-        first_node s c.args.words.now h (c.knobs.result.now.playouts + 2) root,
+        first_scan s c.args.words.now h c.root-root.result root _ _
+            (c.len.ensures ∙ c.requires) c.in_ok-empty.ensures c.new.ensures.items refl,
+        first_node s c.args.words.now h c.root-root.result root,
       ),
     )
 
@@ -23,13 +24,14 @@ pub returns-then-branch : goal.returns-then-branch
 returns-then-branch c =
     let s = c.args.shape.now in
     let h = c.board-board.ensures.setting in
-    let at : ℕ = c.knobs.result.now.playouts + 2 in
-    let root : at ≡ root_at s = ap (λ k. k.playouts + 2) c.knobs.ensures.value in
+    let at : ℕ = c.root-root.result in
+    let root : at ≡ root_at s = c.root-root.ensures in
     first_done s c.args.words.now h at root c.enter.new.table
     (if_yes c.in_ok-enter.field-0 _ _ (c.in_ok-enter.ensures s [] (
       h,
       c.requires,
-      first_scan s c.args.words.now h at root _ _ (c.len.ensures ∙ c.requires) c.in_ok-empty.ensures c.new.ensures.items refl,
+      first_scan s c.args.words.now h at root _ _
+          (c.len.ensures ∙ c.requires) c.in_ok-empty.ensures c.new.ensures.items refl,
       first_node s c.args.words.now h at root,
     ) (first_last s c.args.words.now h at root) (λ i. record { board = c.board.ensures.value i; player = c.colour.ensures i })) c.if-branch.true)
 
@@ -37,11 +39,12 @@ pub returns-else-branch : goal.returns-else-branch
 returns-else-branch c =
     let s = c.args.shape.now in
     let h = c.board-board.ensures.setting in
-    let at : ℕ = c.knobs.result.now.playouts + 2 in
-    let root : at ≡ root_at s = ap (λ k. k.playouts + 2) c.knobs.ensures.value in
+    let at : ℕ = c.root-root.result in
+    let root : at ≡ root_at s = c.root-root.ensures in
     if_no c.in_ok-enter.field-0 _ _ (c.in_ok-enter.ensures s [] (
       h,
       c.requires,
-      first_scan s c.args.words.now h at root _ _ (c.len.ensures ∙ c.requires) c.in_ok-empty.ensures c.new.ensures.items refl,
+      first_scan s c.args.words.now h at root _ _
+          (c.len.ensures ∙ c.requires) c.in_ok-empty.ensures c.new.ensures.items refl,
       first_node s c.args.words.now h at root,
     ) (first_last s c.args.words.now h at root) (λ i. record { board = c.board.ensures.value i; player = c.colour.ensures i })) c.if-branch.false

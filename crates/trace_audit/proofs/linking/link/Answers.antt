@@ -13,5 +13,6 @@ words-preserved-then-entry-eq0 c =
 pub words-preserved : goal.words-preserved
 words-preserved c =
     let i = c.words.invariant.1 in
-    let r = if_some c.in_ok-end.field-0 c.in-Some-2.end _ _ (c.in_ok-end.ensures i.0 i.1) c.in-Some-2.is in
+    let r = if_some c.in_ok-end.field-0 c.in-Some-2.end _ _
+    (c.in_ok-end.ensures i.0 i.1) c.in-Some-2.is in
     (r.1, r.2)

@@ -6,12 +6,14 @@ use Rattle.trace_audit.proofs.WordBytes.{no_words}
 use Rattle.trace_audit.proofs.parsing.fields_in.Goals as goal
 
 pub returns-then-bytes-lt-FRONT_BYTES : goal.returns-then-bytes-lt-FRONT_BYTES
-returns-then-bytes-lt-FRONT_BYTES c = λ fields l b. omega (arith, front_long c.args.bytes.now fields l b, c.if-bytes-lt-FRONT_BYTES.true)
+returns-then-bytes-lt-FRONT_BYTES c
+    = λ fields l b. omega (arith, front_long c.args.bytes.now fields l b, c.if-bytes-lt-FRONT_BYTES.true)
 
 pub returns : goal.returns
 returns c =
     let fields : List ℕ = c.read_words.new.words in
-    let all : take 15 fields ≡ fields = ap (λ (n : ℕ). take n fields) (sym c.read_words.ensures.long) ∙ take-length fields in
+    let all : take 15 fields ≡ fields
+    = ap (λ (n : ℕ). take n fields) (sym c.read_words.ensures.long) ∙ take-length fields in
     record {
       count = c.read_words.ensures.long;
       words = c.read_words.ensures.range (no_words 15);

@@ -6,10 +6,12 @@ use Rattle.trace_audit.proofs.HeldTexts.{held_long, text_long, text_range, text_
 use Rattle.trace_audit.proofs.parsing.read_text.Goals as goal
 
 pub of-words-requires-clause-whole : goal.of-words-requires-clause-whole
-of-words-requires-clause-whole c = omega (arith, held_long c.args.bytes.now (λ k. (c.type_inv.bytes k).fits) c.in-Some.front.shape c.cut_at-cut.result c.in-Some.front.count c.total.result _ c.in-Some.ensures refl c.total.ensures c.cut_at-cut.ensures.enough)
+of-words-requires-clause-whole c
+    = omega (arith, held_long c.args.bytes.now (λ k. (c.type_inv.bytes k).fits) c.in-Some.front.shape c.cut_at-cut.result c.in-Some.front.count c.total.result _ c.in-Some.ensures refl c.total.ensures c.cut_at-cut.ensures.enough)
 
 pub at-requires : goal.at-requires
-at-requires c = omega (arith, text_long c.args.bytes.now (λ k. (c.type_inv.bytes k).fits) c.in-Some.front.shape c.cut_at-cut.result c.in-Some.front.count c.total.result _ c.in-Some.ensures refl c.total.ensures c.cut_at-cut.ensures.enough c.of-words.result c.of-words.ensures)
+at-requires c
+    = omega (arith, text_long c.args.bytes.now (λ k. (c.type_inv.bytes k).fits) c.in-Some.front.shape c.cut_at-cut.result c.in-Some.front.count c.total.result _ c.in-Some.ensures refl c.total.ensures c.cut_at-cut.ensures.enough c.of-words.result c.of-words.ensures)
 
 pub returns-then-min-front : goal.returns-then-min-front
 returns-then-min-front c =
@@ -21,7 +23,8 @@ returns-then-min-front c =
     let front = c.in-Some.ensures in
     let enough = c.cut_at-cut.ensures.enough in
     let words : List ℕ = c.of-words.result in
-    let written : c.min.result ≡ min (next_in words) (end_of s) = c.min.ensures ∙ (λ i. min (c.at.ensures i) ((c.from.ensures ∙ c.total-2.ensures) i)) in
+    let written : c.min.result ≡ min (next_in words) (end_of s) = c.min.ensures
+    ∙ (λ i. min (c.at.ensures i) ((c.from.ensures ∙ c.total-2.ensures) i)) in
     cut_none bytes words s cut q front c.cut_at-cut.ensures.less enough
     (text_long bytes (λ k. (c.type_inv.bytes k).fits) s cut q n _ front refl c.total.ensures enough words c.of-words.ensures)
     (text_range bytes (λ k. (c.type_inv.bytes k).fits) s cut q n _ front refl c.total.ensures enough words c.of-words.ensures)
@@ -38,7 +41,8 @@ returns c =
     let front = c.in-Some.ensures in
     let enough = c.cut_at-cut.ensures.enough in
     let words : List ℕ = c.of-words.result in
-    let written : c.min.result ≡ min (next_in words) (end_of s) = c.min.ensures ∙ (λ i. min (c.at.ensures i) ((c.from.ensures ∙ c.total-2.ensures) i)) in
+    let written : c.min.result ≡ min (next_in words) (end_of s) = c.min.ensures
+    ∙ (λ i. min (c.at.ensures i) ((c.from.ensures ∙ c.total-2.ensures) i)) in
     let t = cut_text bytes words s cut q front c.cut_at-cut.ensures.less enough
     (text_long bytes (λ k. (c.type_inv.bytes k).fits) s cut q n _ front refl c.total.ensures enough words c.of-words.ensures)
     (text_range bytes (λ k. (c.type_inv.bytes k).fits) s cut q n _ front refl c.total.ensures enough words c.of-words.ensures)

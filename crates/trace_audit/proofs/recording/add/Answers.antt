@@ -1,4 +1,5 @@
-use Rattle.std.proofs.Common.{ℕ, ◌+◌, ◌≤◌, ◌^◌, ◌/◌, List, length, slice_index, sym, ap, ◌∙◌, subst, arith}
+use Rattle.std.proofs.Common.{ℕ, ◌+◌, ◌≤◌, ◌^◌, ◌/◌, List, length, slice_index, sym, ap, ◌∙◌, subst}
+use Rattle.std.proofs.Common.{arith}
 use Rattle.hex_board.specs.Positions.{stones_of}
 use Rattle.hex_cells.specs.Colours.{is_same}
 use Rattle.tree_words.specs.Sequence.{amount_of}
@@ -12,7 +13,9 @@ use Rattle.trace_audit.proofs.OwnSums.{leaf_room, seen_room, tally_room, total_r
 use Rattle.trace_audit.proofs.recording.add.Goals as goal
 
 pub returns-in_default : goal.returns-in_default
-returns-in_default c = λ bs lk a. no_record c.args.shape.now bs c.args.words.now c.args.k _ (ap (λ (w : ℕ). w / 2) (sym c.at-word.ensures)) (c.in_default.ensures c.args.shape.now bs (c.board-board.ensures.setting, c.requires.long, lk))
+returns-in_default c = λ bs lk a. no_record c.args.shape.now bs c.args.words.now c.args.k _
+    (ap (λ (w : ℕ). w / 2) (sym c.at-word.ensures))
+    (c.in_default.ensures c.args.shape.now bs (c.board-board.ensures.setting, c.requires.long, lk))
 
 pub gain_leaf-requires-clause-within : goal.gain_leaf-requires-clause-within
 gain_leaf-requires-clause-within c =
@@ -22,7 +25,8 @@ gain_leaf-requires-clause-within c =
     let lk = c.requires.sums.1 in
     let a = c.requires.sums.2 in
     let f = c.in-Some.ensures s bs (h, c.requires.long, lk) in
-    subst (λ (q : ℕ). q + block_size (nodes_in c.args.words.now q) ≤ length c.args.words.now) f.2 (block_within s c.args.words.now bs h lk.linked f.0 f.1 c.requires.long)
+    subst (λ (q : ℕ). q + block_size (nodes_in c.args.words.now q) ≤ length c.args.words.now) f.2
+    (block_within s c.args.words.now bs h lk.linked f.0 f.1 c.requires.long)
 
 pub gain_leaf-requires-clause-cells : goal.gain_leaf-requires-clause-cells
 gain_leaf-requires-clause-cells c =
@@ -42,7 +46,8 @@ gain_leaf-requires-clause-node c =
     let lk = c.requires.sums.1 in
     let a = c.requires.sums.2 in
     let f = c.in-Some.ensures s bs (h, c.requires.long, lk) in
-    subst (λ (q : ℕ). IsNodeOf c.args.words.now q (c.at-word.result / 2)) f.2 (node_of s c.args.words.now bs h lk.linked f.0 _ f.1 f.3)
+    subst (λ (q : ℕ). IsNodeOf c.args.words.now q (c.at-word.result / 2)) f.2
+    (node_of s c.args.words.now bs h lk.linked f.0 _ f.1 f.3)
 
 pub gain_leaf-requires-clause-small : goal.gain_leaf-requires-clause-small
 gain_leaf-requires-clause-small c =
@@ -52,7 +57,8 @@ gain_leaf-requires-clause-small c =
     let lk = c.requires.sums.1 in
     let a = c.requires.sums.2 in
     let f = c.in-Some.ensures s bs (h, c.requires.long, lk) in
-    subst (λ (q : ℕ). CanGain c.args.words.now c.args.sums.now q (2 ^ 32 + 1)) f.2 (seen_room s c.args.words.now bs h lk.linked c.args.sums.now c.args.k a c.requires.number f.0 f.1 _ f.3)
+    subst (λ (q : ℕ). CanGain c.args.words.now c.args.sums.now q (2 ^ 32 + 1)) f.2
+    (seen_room s c.args.words.now bs h lk.linked c.args.sums.now c.args.k a c.requires.number f.0 f.1 _ f.3)
 
 pub gain_leaf-requires-clause-tally : goal.gain_leaf-requires-clause-tally
 gain_leaf-requires-clause-tally c =
@@ -92,7 +98,8 @@ returns-then-not-is_winner c = λ bs lk a.
     let h = c.board-board.ensures.setting in
     let f = c.in-Some.ensures s bs (h, c.requires.long, lk) in
     let state = c.site_of-site.ensures s bs (h, c.requires.long, lk) f in
-    wrong_record s bs c.args.words.now c.args.k h lk.linked _ (ap (λ (w : ℕ). w / 2) (sym c.at-word.ensures)) f.0 f.1 f.3 c.site_of-site.result state c.ending_of-ending.result _ _ (ap (λ k. k.seed) c.knobs.ensures.value) c.from.ensures c.ending_of-ending.ensures.full c.ending_of-ending.ensures.winner
+    wrong_record s bs c.args.words.now c.args.k h lk.linked _
+    (ap (λ (w : ℕ). w / 2) (sym c.at-word.ensures)) f.0 f.1 f.3 c.site_of-site.result state c.ending_of-ending.result _ _ (ap (λ k. k.seed) c.knobs.ensures.value) c.from.ensures c.ending_of-ending.ensures.full c.ending_of-ending.ensures.winner
     (λ z. if_no c.is_winner.result _ _ c.is_winner.ensures c.if-not-is_winner.true (z ∙ ap winner_in (sym c.at-word.ensures)))
 
 pub returns : goal.returns
@@ -101,9 +108,11 @@ returns c = λ bs lk a.
     let h = c.board-board.ensures.setting in
     let f = c.in-Some.ensures s bs (h, c.requires.long, lk) in
     let state = c.site_of-site.ensures s bs (h, c.requires.long, lk) f in (
-      right_record s bs c.args.words.now c.args.k h lk.linked _ (ap (λ (w : ℕ). w / 2) (sym c.at-word.ensures)) f.0 f.1 f.3 c.site_of-site.result state c.ending_of-ending.result _ _ (ap (λ k. k.seed) c.knobs.ensures.value) c.from.ensures c.ending_of-ending.ensures.full c.ending_of-ending.ensures.winner
+      right_record s bs c.args.words.now c.args.k h lk.linked _
+          (ap (λ (w : ℕ). w / 2) (sym c.at-word.ensures)) f.0 f.1 f.3 c.site_of-site.result state c.ending_of-ending.result _ _ (ap (λ k. k.seed) c.knobs.ensures.value) c.from.ensures c.ending_of-ending.ensures.full c.ending_of-ending.ensures.winner
           (if_yes c.is_winner.result _ _ c.is_winner.ensures c.if-not-is_winner.false ∙ ap winner_in c.at-word.ensures),
-      playout_added s bs c.args.words.now c.args.k h lk.linked _ (ap (λ (w : ℕ). w / 2) (sym c.at-word.ensures)) f.0 f.1 f.3 c.site_of-site.result state c.ending_of-ending.result _ _ (ap (λ k. k.seed) c.knobs.ensures.value) c.from.ensures c.ending_of-ending.ensures.full c.ending_of-ending.ensures.winner
+      playout_added s bs c.args.words.now c.args.k h lk.linked _
+          (ap (λ (w : ℕ). w / 2) (sym c.at-word.ensures)) f.0 f.1 f.3 c.site_of-site.result state c.ending_of-ending.result _ _ (ap (λ k. k.seed) c.knobs.ensures.value) c.from.ensures c.ending_of-ending.ensures.full c.ending_of-ending.ensures.winner
           c.args.sums.now c.gain_leaf.new.sums c.other.result a c.requires.number c.other.ensures c.ending_of-ending.ensures.filled
           (subst (λ (q : ℕ). GainsLeaf c.args.words.now q (c.at-word.result / 2) (amount_of (is_same c.ending_of-ending.result.winner c.other.result)) (stones_of c.ending_of-ending.result.full c.other.result) c.args.sums.now c.gain_leaf.new.sums) (sym f.2) c.gain_leaf.ensures),
     )

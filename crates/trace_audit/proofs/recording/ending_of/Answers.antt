@@ -10,6 +10,8 @@ unfolding playout_of
 returns-clause-winner c =
     let same : winner_by c.fill-full.result.size c.fill-full.result.black ≡ playout_of c.args.site.now.board c.args.site.now.player c.args.seed c.args.k = ap (λ (p : Position). winner_by p.size p.black) c.fill-full.ensures.value in
     elim c.if-joined.branch [
-      | then-joined w ↦ w.winner-is ∙ sym (ap (λ t. cond t Black White) (sym c.joined.ensures.value ∙ w.if-joined.true)) ∙ same
-      | else-joined w ↦ w.winner-is ∙ sym (ap (λ t. cond t Black White) (sym c.joined.ensures.value ∙ w.if-joined.false)) ∙ same
+      | then-joined w ↦ w.winner-is
+          ∙ sym (ap (λ t. cond t Black White) (sym c.joined.ensures.value ∙ w.if-joined.true)) ∙ same
+      | else-joined w ↦ w.winner-is
+          ∙ sym (ap (λ t. cond t Black White) (sym c.joined.ensures.value ∙ w.if-joined.false)) ∙ same
     ]

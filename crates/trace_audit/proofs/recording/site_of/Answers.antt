@@ -1,6 +1,7 @@
 use Rattle.std.proofs.Common.{ap, ◌∙◌, arith}
 use Rattle.tree_words.specs.Words.{cell_in}
-use Rattle.trace_audit.proofs.LinkedLaws.{cell_empty, cell_small, cell_state, entry_least, lies_in, node_most}
+use Rattle.trace_audit.proofs.LinkedLaws.{cell_empty, cell_small, cell_state, entry_least, lies_in}
+use Rattle.trace_audit.proofs.LinkedLaws.{node_most}
 use Rattle.trace_audit.proofs.recording.site_of.Goals as goal
 
 pub entry-requires : goal.entry-requires

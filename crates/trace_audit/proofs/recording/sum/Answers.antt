@@ -11,9 +11,12 @@ records-preserved c = λ bs lk.
     let s = c.args.shape.now in
     let k : ℕ = c.records.k in
     let i = c.records.invariant bs lk in
-    let old : AreOwn s bs c.args.words.now c.deref_mut.result.now k = subst (λ (l : List ℕ). AreOwn s bs c.args.words.now l k) (sym c.deref_mut.ensures.value) i.1 in
+    let old : AreOwn s bs c.args.words.now c.deref_mut.result.now k
+    = subst (λ (l : List ℕ). AreOwn s bs c.args.words.now l k)
+    (sym c.deref_mut.ensures.value) i.1 in
     let r = if_yes c.add.result _ _ (c.add.ensures bs lk old) c.if-not-add.false in
-    let same = with_items_is c.records.sums c.add.new.sums (omega (arith, c.add.auto.sums, c.deref_mut.ensures.len)) in (
+    let same = with_items_is c.records.sums c.add.new.sums
+    (omega (arith, c.add.auto.sums, c.deref_mut.ensures.len)) in (
       λ j l. ⊎_elim
           (λ (e : j ≡ k). subst (IsRecord s bs c.args.words.now) (sym e) r.0)
           (λ (e : j ≡ k → ⊥). i.0 j (omega (arith, l, e)))

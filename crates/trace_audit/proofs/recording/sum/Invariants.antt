@@ -7,4 +7,5 @@ use Rattle.trace_audit.proofs.recording.sum.Given as goal
 
 abbrev pub invariant-records : goal.invariant-records
 invariant-records l = (bs : List LinkedBlock) → IsLinked l.shape l.words l.table bs
-    → ((j : ℕ) → j < l.k → IsRecord l.shape bs l.words j) × AreOwn l.shape bs l.words l.sums.items l.k
+    → ((j : ℕ) → j < l.k → IsRecord l.shape bs l.words j)
+    × AreOwn l.shape bs l.words l.sums.items l.k

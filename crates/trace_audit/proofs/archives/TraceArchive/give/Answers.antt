@@ -10,5 +10,6 @@ use Rattle.trace_audit.proofs.archives.TraceArchive.give.Goals as goal
 pub returns-in_default-clause-all : goal.returns-in_default-clause-all
 returns-in_default-clause-all g c =
     let told = g.W.Link.told c.args.self.now in
-    let none : c.args.turn.now.closed ≡ None = sym c.closed.ensures.value ∙ ap (option_map (λ tree. tree.now)) c.in_default.is in
+    let none : c.args.turn.now.closed ≡ None = sym c.closed.ensures.value
+    ∙ ap (option_map (λ tree. tree.now)) c.in_default.is in
     subst (λ (o : Option ClosedTree). Gave told told (text_if o)) (sym none) (Gave-nothing told)
