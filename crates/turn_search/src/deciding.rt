@@ -14,12 +14,12 @@ use std::thread::Threads;
 use tree_words::Knobs;
 
 /// The turn after so many `turns` of a session, on this board with `colour` to move: planned, with
-/// a look for connections (`hsearch`) or without, and where the plan is no win, searched among the
+/// a look for connections (`hsearch`) or without, and if the plan is no win, searched among the
 /// cells that it allows by the workers of the knobs, which pass the gate. The search's seed is that
 /// of the knobs plus `turns·2^32`, modulo 2^64.
 ///
 /// No player is joined on the board, a cell is empty, and the knobs are in their ranges. It refuses
-/// only if memory runs out. The call returns where its workers do.
+/// only if memory runs out. The call returns if its workers do.
 pub fn decided_turn<R: Threads + Sync, G: Gate + Sync>(
     rt: &R,
     alloc: Global,

@@ -1,4 +1,4 @@
-//! One turn, from its board to its cell: planned, and searched where its plan is no win.
+//! One turn, from its board to its cell: planned, and searched if its plan is no win.
 //!
 //! **A caller** says on which board, with whom to move, and after how many turns, and with which
 //! settings, and gets the turn that is owed there:
