@@ -75,7 +75,7 @@ fn count(words: &mut [u64], shape: &Shape, walk: &Descent, ending: &Ending)
 {
     // Brings what the type keeps into scope.
     let _board = shape.board();
-    let mut node = shape.knobs().playouts as usize + RECORDS_AT;
+    let mut node = shape.root() as usize;
     let mut player = shape.colour();
     'down: for i in 0..walk.count {
         gain(words, node, amount(player.other(), ending.winner));

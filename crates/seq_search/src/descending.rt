@@ -12,7 +12,7 @@ ghost use Rattle.seq_search.specs.Descending.{Descended, HasRoom};
 use super::choosing::choose;
 use hex_board::Board;
 use hex_cells::{Cell, Colour};
-use tree_words::layout::{HEADER_WORDS, LINK_WORD, MOST_NODES, NODE_WORDS, RECORDS_AT, TALLY_WORD};
+use tree_words::layout::{HEADER_WORDS, LINK_WORD, MOST_NODES, NODE_WORDS, TALLY_WORD};
 use tree_words::{Shape, cell_of, visits_of};
 
 /// Each step places a stone on an empty cell, of which there are no more than nodes of the largest
@@ -42,7 +42,7 @@ impl Descent {
         Descent {
             board: *shape.board(),
             player: shape.colour(),
-            node: shape.knobs().playouts as usize + RECORDS_AT,
+            node: shape.root() as usize,
             steps: [0; MOST_STEPS],
             count: 0,
         }
@@ -59,7 +59,7 @@ impl Descent {
     {
         self.board = *shape.board();
         self.player = shape.colour();
-        self.node = shape.knobs().playouts as usize + RECORDS_AT;
+        self.node = shape.root() as usize;
         self.count = 0;
     }
 

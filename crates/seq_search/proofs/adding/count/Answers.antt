@@ -5,7 +5,7 @@ use Rattle.hex_cells.proofs.Tables.{square_small}
 use Rattle.seq_search.proofs.adding.count.Goals as goal
 
 pub down-init : goal.down-init
-down-init c = adds-begin c.args.shape.now c.args.words.now c.args.walk.now c.args.ending.now _ c.colour-player.result (ap (λ k. k.playouts + 2) c.knobs.ensures.value) c.colour-player.ensures
+down-init c = adds-begin c.args.shape.now c.args.words.now c.args.walk.now c.args.ending.now _ c.colour-player.result c.root-node.ensures c.colour-player.ensures
 
 pub gain-requires-clause-within : goal.gain-requires-clause-within
 gain-requires-clause-within c =
