@@ -37,7 +37,7 @@ from tests.support import until
 SYSTEM_PYTHON = "/usr/bin/python3"
 PROGRAM = Path(os.environ.get("HEXD") or ROOT / "crates" / "hexd" / "out" / "hexd")
 # How many runs are made in one call of the browser, and longer than that takes on a machine that is busy.
-AT_ONCE, CALL_SECONDS = 5, 300
+AT_ONCE, CALL_SECONDS, LONG_SECONDS = 5, 300, 3_600
 # Sessions, openings and the largest board that is solved; and long sessions, each of so many games with so many playouts a
 # move. A player makes fewer moves in an hour.
 QUICK, LONG = (20, 4, 4), (120, 40, 5)
@@ -409,7 +409,7 @@ def run(options, folder):
     InBrowser.folder = folder
     InBrowser.file, InBrowser.small = pages(options, folder)
     InBrowser.browser = Browser()
-    InBrowser.browser.driver.set_script_timeout(CALL_SECONDS)
+    InBrowser.browser.driver.set_script_timeout(LONG_SECONDS if options.long else CALL_SECONDS)
     if options.long:
         InBrowser.sizes, InBrowser.games = LONG, LONG_GAMES
     told = io.StringIO()
