@@ -3,7 +3,7 @@
 //! **What it is.** The words of the command line, standard input and output as the link, standard
 //! error for the one line of a failure, the files of the system as the shelf, and the status as the
 //! exit code. The archive writes the traces of its turns to the file that `--trace` names, or drops
-//! its turns where there is no such option.
+//! its turns if there is no such option.
 //!
 //! **A caller** is the shell: `printf 'boardsize 3\nshowboard\n' | hexd htp`.
 //!

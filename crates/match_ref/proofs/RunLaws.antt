@@ -9,14 +9,17 @@ use Rattle.match_ref.specs.MatchRuns.{IsMatchRefusal, IsMatchStatus}
 use Rattle.match_ref.specs.declared.words.MatchWords.{MatchWords}
 
 -- what is neither a usage nor a write fault is done, or memory ran out
-pub complete_at : (end : End) (status : ℕ) → status ≡ status_of end → IsMatchStatus (status_of end) → end ≢ Usage → end ≢ Stopped WriteFault → (status ≡ status_of Done) ⊎ HasStopped status Memory
+pub complete_at : (end : End) (status : ℕ) → status ≡ status_of end → IsMatchStatus (status_of end)
+    → end ≢ Usage → end ≢ Stopped WriteFault → (status ≡ status_of Done) ⊎ HasStopped status Memory
 complete_at end status e (inl done) usage fault = inl (e ∙ done)
 complete_at end status e (inr (inl used)) usage fault = absurd (usage (same_end end Usage used))
-complete_at end status e (inr (inr (inl failed))) usage fault = absurd (fault (same_end end (Stopped WriteFault) failed))
+complete_at end status e (inr (inr (inl failed))) usage fault
+    = absurd (fault (same_end end (Stopped WriteFault) failed))
 complete_at end status e (inr (inr (inr memory))) usage fault = inr (e ∙ memory)
 
 -- a refusal is a usage, or memory ran out
-pub refused_end : (end : End) (status : ℕ) → status ≡ status_of end → IsMatchRefusal status → (end ≡ Usage) ⊎ (end ≡ Stopped Memory)
+pub refused_end : (end : End) (status : ℕ) → status ≡ status_of end → IsMatchRefusal status
+    → (end ≡ Usage) ⊎ (end ≡ Stopped Memory)
 refused_end end status e (inl used) = inl (same_end end Usage (sym e ∙ used))
 refused_end end status e (inr memory) = inr (same_end end (Stopped Memory) (sym e ∙ memory))
 

@@ -1,5 +1,6 @@
 -- Words that are well formed, and what is found in them.
-use Rattle.std.proofs.Common.{◌≡◌, ◌∙◌, ◌↔◌, refl, sym, subst, List, Option, Some, None, IfSome, arith}
+use Rattle.std.proofs.Common.{◌≡◌, ◌∙◌, ◌↔◌, refl, sym, subst, List, Option, Some, None, IfSome}
+use Rattle.std.proofs.Common.{arith}
 use Rattle.clap.specs.Words.{first_value, found_of}
 use Rattle.clap.specs.declared.parser.matches.ArgMatches.{ArgMatches}
 use Rattle.option_words.specs.Command.{ReadsForm}
@@ -17,28 +18,41 @@ use Rattle.match_ref.specs.declared.words.MatchWords.{MatchWords}
 
 pub match_reads : ReadsForm match_app match_form
 unfolding match_app
-match_reads = record { built = refl; simple = refl; free = refl; apart = refl; named = refl; top = refl }
+match_reads = record {
+  built = refl;
+  simple = refl;
+  free = refl;
+  apart = refl;
+  named = refl;
+  top = refl;
+}
 
-no_word : (words : List TextBytes) (w : MatchWords) → (g : AskFor words w) → value_of g.said word_name ≡ None
+no_word : (words : List TextBytes) (w : MatchWords) → (g : AskFor words w)
+    → value_of g.said word_name ≡ None
 no_word words w g = said_without_default match_form g.said word_name refl ∙ g.values.word
 
-pub none_found : (words : List TextBytes) (w : MatchWords) → FindsIn match_form words None → AskFor words w → ⊥
+pub none_found : (words : List TextBytes) (w : MatchWords) → FindsIn match_form words None
+    → AskFor words w → ⊥
 none_found words w none g =
     none g.said g.line (λ same. let no = no_word words w g in cc)
 
-pub found : (words : List TextBytes) (m : ArgMatches) (w : MatchWords) → FindsLine match_form words m → AreMatchWords (first_value (found_of m)) w ↔ AskFor words w
+pub found : (words : List TextBytes) (m : ArgMatches) (w : MatchWords)
+    → FindsLine match_form words m → AreMatchWords (first_value (found_of m)) w ↔ AskFor words w
 found words m w f = (
   λ values. record {
     said = f.said;
     line = f.line;
-    values = subst (λ (value : TextBytes → Option TextBytes). AreMatchWords value w) (f.values f.said f.line) values;
+    values = subst (λ (value : TextBytes → Option TextBytes). AreMatchWords value w)
+        (f.values f.said f.line) values;
   },
-  λ g. subst (λ (value : TextBytes → Option TextBytes). AreMatchWords value w) (sym (f.values g.said g.line)) g.values,
+  λ g. subst (λ (value : TextBytes → Option TextBytes). AreMatchWords value w)
+      (sym (f.values g.said g.line)) g.values,
 )
 
 -- ---- ranges
 
-side_in_range : (value : TextBytes → Option TextBytes) (p n e k : TextBytes) (s : Side) → IsSaidSide value p n e k s → IsSide s
+side_in_range : (value : TextBytes → Option TextBytes) (p n e k : TextBytes) (s : Side)
+    → IsSaidSide value p n e k s → IsSide s
 side_in_range value p n e k s h seed below = record {
   workers = (omega arith, omega arith);
   playouts = number_in_range _ _ _ (value p) h.playouts_is;
@@ -48,7 +62,8 @@ side_in_range value p n e k s h seed below = record {
   weight = (number_in_range _ _ _ (value k) h.weight_is).1;
 }
 
-in_range : (value : TextBytes → Option TextBytes) (w : MatchWords) → AreMatchWords value w → IsMatch w.setup
+in_range : (value : TextBytes → Option TextBytes) (w : MatchWords) → AreMatchWords value w
+    → IsMatch w.setup
 in_range value w h = record {
   games = number_in_range _ _ _ (value GAMES.0.now) h.games;
   threads = number_in_range _ _ _ (value THREADS.0.now) h.threads;
@@ -56,6 +71,7 @@ in_range value w h = record {
   side_b = side_in_range _ _ _ _ _ w.setup.b h.b;
 }
 
-pub ranges_from : (value : TextBytes → Option TextBytes) (r : Option MatchWords) → ((w : MatchWords) → (r ≡ Some w) ↔ AreMatchWords value w) → IfSome r (λ w. IsMatch w.setup)
+pub ranges_from : (value : TextBytes → Option TextBytes) (r : Option MatchWords)
+    → ((w : MatchWords) → (r ≡ Some w) ↔ AreMatchWords value w) → IfSome r (λ w. IsMatch w.setup)
 ranges_from value None h = tt
 ranges_from value (Some w) h = in_range value w ((h w).0 refl)

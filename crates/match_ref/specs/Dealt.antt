@@ -16,7 +16,7 @@ dealt_in_turn [] ys = []
 dealt_in_turn (x ∷ xs) [] = x ∷ dealt_in_turn xs []
 dealt_in_turn (x ∷ xs) (y ∷ ys) = x ∷ y ∷ dealt_in_turn xs ys
 
--- where some are left, the next of them was moved to the end of the list
+-- if some are left, the next of them was moved to the end of the list
 abbrev pub DealsNext : List Played → List Played → List Played → List Played → Type 0
 DealsNext all [] all_now rest_now = (all_now ≡ all) × (rest_now ≡ [])
 DealsNext all (y ∷ ys) all_now rest_now = (all_now ≡ all ++ y ∷ []) × (rest_now ≡ ys)

@@ -15,8 +15,8 @@ use Rattle.match_ref.specs.MatchWords.{AskFor}
 use Rattle.match_ref.specs.declared.played.Played.{Played}
 use Rattle.match_ref.specs.declared.words.MatchWords.{MatchWords}
 
--- The text of the match games was given, or a front of it that is not all of it where a write
--- failed. Where memory ran out, the link tells what it told before. There is no other end.
+-- The text of the match games was given, or a prefix of it that is not all of it if a write
+-- failed. If memory ran out, the link tells what it told before. There is no other end.
 abbrev pub Referees : End → MatchWords → Option Told → Option Told → Type 0
 Referees Done w old new =
     (games : List Played) × AreGamesOf w.setup games × GivesText None (match_text w games) old new
@@ -34,7 +34,7 @@ abbrev pub RefereesBy : {L : Type 0} → links.Ghosts L → List (List ℕ) → 
 RefereesBy l words status old new = (end : End) → status ≡ status_of end
     → (w : MatchWords) → AskFor words w → Referees end w (l.told old) (l.told new)
 
--- the status is that of a usage or that of want of memory
+-- the status is that of a usage or that of a run that was out of memory
 abbrev pub IsMatchRefusal : ℕ → Type 0
 IsMatchRefusal status = (status ≡ status_of Usage) ⊎ HasStopped status Memory
 
@@ -53,7 +53,7 @@ abbrev pub CountsMatchWrites : {L : Type 0} → links.Ghosts L → ℕ → L →
 CountsMatchWrites l status old new =
     CountsFault (l.write_faults old) (l.write_faults new) (HasStopped status WriteFault)
 
--- with well-formed words, where no write failed, the match was played, or memory ran out
+-- with well-formed words, if no write failed, the match was played, or memory ran out
 abbrev pub CompletesMatch : {L : Type 0} → links.Ghosts L → List (List ℕ) → ℕ → L → L → Type 0
 CompletesMatch l words status old new = (w : MatchWords) → AskFor words w
     → ¬ Rose (l.write_faults old) (l.write_faults new)

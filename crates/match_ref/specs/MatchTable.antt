@@ -7,7 +7,7 @@ use Rattle.option_words.specs.Values.{TextBytes}
 use Rattle.match_ref.specs.declared.table.TheConstants.{SIZE, GAMES, THREADS, SEED, RECORDS}
 use Rattle.match_ref.specs.declared.table.TheConstants.{PLAYOUTS, WORDS, EXPAND, WEIGHT}
 
--- the options of the match, each with the text that stands for it where it is not said
+-- the options of the match, each with its default
 abbrev pub match_table : OptionTable
 match_table = (SIZE.0.now, SIZE.1.now ∷ [])
     ∷ (GAMES.0.now, GAMES.1.now ∷ [])

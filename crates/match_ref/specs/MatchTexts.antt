@@ -1,4 +1,4 @@
--- The text of a match: a line for each game, with its record where records are wanted, and then how
+-- The text of a match: a line for each game, with its record if records are wanted, and then how
 -- many games the sides won.
 use Rattle.std.specs.Prelude.{ℕ, ◌+◌, Bool, true, false, not, if◌then◌else◌}
 use Rattle.std.specs.Prelude.{List, [], ◌∷◌, ◌++◌, length, codes, Option, Some, None}

@@ -54,12 +54,12 @@ pub record IsTurnCell (knobs : Knobs) (now : Position) (mover : Colour)
   pub owed : IsOwed knobs false now mover turns turn
   pub cell_is : turn.cell ≡ cell
 
--- how many turns the mover made before, where the players take turns: half of the steps so far
+-- how many turns the mover made before, when the players take turns: half of the steps so far
 abbrev pub turns_made : GameData → ℕ
 turns_made game = length game.steps / 2
 
 -- These steps are the rest of match game i, from this game on, with this player to move. The game
--- ends where a player is joined or no cell is empty.
+-- ends when a player is joined or no cell is empty.
 abbrev pub PlaysOn : Match → ℕ → GameData → Colour → List Step → Type 0
 PlaysOn m i game mover [] = may_move (board_of game) ≡ false
 PlaysOn m i game mover (step ∷ steps) =

@@ -12,7 +12,7 @@ use clap::Command;
 use option_words::{plain_command, with_option};
 use std::alloc::{AllocError, Global};
 
-/// The command: the options. A positional word is none of them, and refused where it is read.
+/// The command: the options. A positional word is none of them, and refused when it is read.
 pub fn command<'a>(alloc: Global) -> Result<Command<'a>, AllocError>
     ensures { IfOk result (λ c. app_of c ≡ match_app) }
 {

@@ -62,9 +62,7 @@ fn one_by_one<R: Threads + Sync, G: Gate + Sync>(
     'games: while number < setup.games {
         let pass = pass_gate(gate, number);
         let game = play_game(rt, alloc, setup, pass)?;
-        let Ok(()) = games.push(game) else {
-            return Err(Memory);
-        };
+        games.push(game)?;
         number += step;
     }
     Ok(games)

@@ -20,7 +20,7 @@ use std::thread::Threads;
 /// those of one thread, whatever the number of threads and the schedule.
 ///
 /// The gate is passed with the game's number before its first move, as the type of a game's pass
-/// says (src/passes.rt). The only refusal is want of memory. The call returns where its threads do.
+/// says (src/passes.rt). It refuses only if memory runs out. The call returns if its threads do.
 pub fn play_match<R: Threads + Sync, G: Gate + Sync>(
     rt: &R,
     alloc: Global,

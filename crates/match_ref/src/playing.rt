@@ -87,9 +87,7 @@ fn turn_cell<R: Threads + Sync>(
     ensures turn { IfOk result (IsTurnCell knobs.now board.now mover turns) }
     ensures on_board { IfOk result (λ cell. cell < board.now.size * board.now.size) }
 {
-    let Ok(turn) = decided_turn(rt, alloc, board, mover, turns, knobs, false, &OpenGate) else {
-        return Err(Memory);
-    };
+    let turn = decided_turn(rt, alloc, board, mover, turns, knobs, false, &OpenGate)?;
     Ok(turn.cell())
 }
 
@@ -137,9 +135,7 @@ pub fn play_game<R: Threads + Sync>(
 {
     let number = pass.number();
     let bare = bare_board(setup.size);
-    let Ok(mut game) = Game::make(alloc, &bare) else {
-        return Err(Memory);
-    };
+    let mut game = Game::make(alloc, &bare)?;
     let mut mover = Colour::Black;
     'moves: while may_move(game.board()) {
         let knobs = side_knobs(setup, number, mover);
@@ -148,8 +144,6 @@ pub fn play_game<R: Threads + Sync>(
         put_stone(&mut game, mover, cell);
         mover = mover.other();
     }
-    match played(alloc, &game) {
-        Ok(played) => Ok(played),
-        Err(_) => Err(Memory),
-    }
+    let played = played(alloc, &game)?;
+    Ok(played)
 }

@@ -28,9 +28,7 @@ fn game_again(alloc: Global, setup: &Match, played: &Played) -> Result<Game, Mem
     ensures { IfOk result (λ game. game ≡ game_with setup.now played.now.steps) }
 {
     let bare = bare_board(setup.size);
-    let Ok(mut game) = Game::make(alloc, &bare) else {
-        return Err(Memory);
-    };
+    let mut game = Game::make(alloc, &bare)?;
     for step in played.steps.as_slice() {
         take_step(&mut game, step);
     }
@@ -49,9 +47,7 @@ pub fn push_record(
         (text.new.items ≡ text.old.items ++ record_line setup.now played.now) }
 {
     let game = game_again(alloc, setup, played)?;
-    let Ok(record) = game_text(alloc, &game) else {
-        return Err(Memory);
-    };
+    let record = game_text(alloc, &game)?;
     text.extend_from_slice(record.as_slice())?;
     text.extend_from_slice(b"\n")?;
     Ok(())

@@ -23,14 +23,14 @@ use std::thread::Threads;
 ///
 /// The words are those of the command line after the program's name. The games are played side by
 /// side in threads of `rt`, each after it passed the gate; no clause speaks of these. The text has
-/// a line for each game, in order, with its record after it where records are wanted, and then how
+/// a line for each game, in order, with its record after it if records are wanted, and then how
 /// many games each side won. It is given when all games were played. Nothing is read.
 ///
 /// | status | comes | line for the errors |
 /// |---|---|---|
 /// | 0 | the match was played, and its text given | |
-/// | 2 | exactly where the words ask for no match; nothing was given | `hexd: usage` |
-/// | 4 | only where a write failed; a front of the text was given | |
+/// | 2 | exactly if the words ask for no match; nothing was given | `hexd: usage` |
+/// | 4 | only if a write failed; a prefix of the text was given | |
 /// | 5 | memory ran out; nothing was given | `hexd: out of memory` |
 ///
 /// A fault of the errors changes nothing of the status. Status 5 may come in place of any other.

@@ -7,8 +7,8 @@ use option_words::{LongNumberOption, NumberOption};
 use tree_words::{LEAST_WORDS, MOST_EXPAND, MOST_PLAYOUTS, MOST_WORDS};
 use uct_table::MOST_WEIGHT;
 
-/// An option of the sides that is a number: its name for side a, that for side b, what stands for
-/// it where it is not said, and its least and its greatest number.
+/// An option of the sides that is a number: its name for side a, that for side b, its default, and
+/// its least and its greatest number.
 pub type SideNumber = (&'static str, &'static str, &'static str, u32, u32);
 
 /// `--size`: the cells on a side of the board.
@@ -23,8 +23,7 @@ pub const THREADS: NumberOption = ("threads", "1", 1, MOST_THREADS);
 /// `--seed`: where the random numbers begin.
 pub const SEED: LongNumberOption = ("seed", "0", 0, u64::MAX);
 
-/// `--records`: whether the record of each game is wanted, `on` or `off`; what stands for it where
-/// it is not said.
+/// `--records`: whether the record of each game is wanted, `on` or `off`; and its default.
 pub const RECORDS: (&'static str, &'static str) = ("records", "off");
 
 /// `--playouts-a`, `--playouts-b`: how many playouts the side makes for a move.
@@ -36,5 +35,5 @@ pub const WORDS: SideNumber = ("words-a", "words-b", "65536", LEAST_WORDS, MOST_
 /// `--expand-a`, `--expand-b`: the visits at which a node of such a tree gets its children.
 pub const EXPAND: SideNumber = ("expand-a", "expand-b", "8", 1, MOST_EXPAND);
 
-/// `--weight-a`, `--weight-b`: how much exploration weighs for the side.
+/// `--weight-a`, `--weight-b`: how much exploration weighs in the side's scores.
 pub const WEIGHT: SideNumber = ("weight-a", "weight-b", "180", 0, MOST_WEIGHT);

@@ -54,8 +54,8 @@ fn push_winner(text: &mut Vec<u8>, number: usize, winner: Option<Colour>) -> Res
     Ok(())
 }
 
-/// The line of a game: its number, who won it, and how many steps it has. It refuses for want of
-/// memory alone.
+/// The line of a game: its number, who won it, and how many steps it has. It refuses only
+/// if memory runs out.
 pub fn game_line(alloc: Global, number: usize, game: &Played) -> Result<Vec<u8>, AllocError>
     ensures { IfOk result (λ line. line.items ≡ game_line number game.now) }
 {
@@ -80,7 +80,7 @@ fn push_line(
     text.extend_from_slice(&line)
 }
 
-// Writes the line of a game, and its record where records are wanted.
+// Writes the line of a game, and its record if records are wanted.
 fn push_game(
     alloc: Global,
     text: &mut Vec<u8>,

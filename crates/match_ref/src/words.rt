@@ -35,15 +35,14 @@ pub fn read_match_words(alloc: Global, words: &[Word]) -> Result<Option<MatchWor
     ensures ranges { IfOk result (λ r. IfSome r (λ w. IsMatch w.setup)) }
 {
     let command = command(alloc)?;
-    match find(command, words) {
-        Ok(Some(found)) => Ok(said_match(&found)),
-        Ok(None) => Ok(None),
-        Err(_) => Err(Memory),
+    match find(command, words)? {
+        Some(found) => Ok(said_match(&found)),
+        None => Ok(None),
     }
 }
 
-// The match that was found; none where a positional word was, or where a value is not as its option
-// wants it.
+// The match that was found; none if a positional word was, or if a value is not as its option wants
+// it.
 fn said_match(found: &ArgMatches<'_>) -> Option<MatchWords>
     ensures { (w : MatchWords)
         → (result ≡ Some w) ↔ AreMatchWords (first_value (found_of found.now)) w }

@@ -16,4 +16,5 @@ returns c =
     IfOk-weaker c.with_both-4.result _ _ (λ m h. h
     ∙ ap (with_both_of WEIGHT.0.now WEIGHT.1.now WEIGHT.2.now) (c.in_ok-command-3.ensures
     ∙ ap (with_both_of EXPAND.0.now EXPAND.1.now EXPAND.2.now) (c.in_ok-command-2.ensures
-    ∙ ap (with_both_of WORDS.0.now WORDS.1.now WORDS.2.now) c.in_ok-command.ensures))) c.with_both-4.ensures
+    ∙ ap (with_both_of WORDS.0.now WORDS.1.now WORDS.2.now) c.in_ok-command.ensures)))
+    c.with_both-4.ensures

@@ -1,4 +1,5 @@
-use Rattle.std.proofs.Common.{◌≡◌, ◌+◌, ◌++◌, ◌∷◌, ◌∙◌, true, [], take, drop, ap, sym, subst, append_assoc, arith}
+use Rattle.std.proofs.Common.{◌≡◌, ◌+◌, ◌++◌, ◌∷◌, ◌∙◌, true, [], take, drop, ap, sym, subst}
+use Rattle.std.proofs.Common.{append_assoc, arith}
 use Rattle.std.proofs.lemmas.Grind.{common_steps}
 use Rattle.std.proofs.lemmas.List.{take-append-drop}
 use Rattle.hex_game.specs.Games.{GameData, is_legal}
@@ -11,5 +12,7 @@ take_step-requires c =
     let step = c.step-item.result in
     let more : take (i + 1) steps ≡ take i steps ++ step ∷ [] = grind (arith, common_steps) in
     let all : take i steps ++ step ∷ drop (i + 1) steps ≡ steps =
-    sym (append_assoc (take i steps) (step ∷ []) (drop (i + 1) steps)) ∙ ap (λ front. front ++ drop (i + 1) steps) (sym more) ∙ take-append-drop (i + 1) steps in
-    subst (λ (g : GameData). is_legal g step ≡ true) (sym c.loop-step.invariant) (c.requires (take i steps) step (drop (i + 1) steps) all)
+    sym (append_assoc (take i steps) (step ∷ []) (drop (i + 1) steps))
+    ∙ ap (λ front. front ++ drop (i + 1) steps) (sym more) ∙ take-append-drop (i + 1) steps in
+    subst (λ (g : GameData). is_legal g step ≡ true) (sym c.loop-step.invariant)
+    (c.requires (take i steps) step (drop (i + 1) steps) all)

@@ -1,4 +1,5 @@
-use Rattle.std.proofs.Common.{◌≡◌, ◌+◌, ◌++◌, ◌∷◌, ◌∙◌, [], length, take, ap, sym, append_assoc, arith}
+use Rattle.std.proofs.Common.{◌≡◌, ◌+◌, ◌++◌, ◌∷◌, ◌∙◌, [], length, take, ap, sym, append_assoc}
+use Rattle.std.proofs.Common.{arith}
 use Rattle.std.proofs.lemmas.Grind.{common_steps}
 use Rattle.match_ref.specs.MatchTexts.{game_text, games_text}
 use Rattle.match_ref.proofs.TextLaws.{games_more}
@@ -14,4 +15,5 @@ loop-number-preserved c =
     let many : length (take n games) ≡ n = grind (arith, common_steps) in
     c.in_ok-push_game.ensures ∙ ap (λ text. text ++ game_text w n game) c.loop-number.invariant
     ∙ append_assoc c.args.text.now.items (games_text w 0 (take n games)) (game_text w n game)
-    ∙ ap (λ text. c.args.text.now.items ++ text) (sym (games_more w n (take n games) (take (n + 1) games) game more many))
+    ∙ ap (λ text. c.args.text.now.items ++ text)
+    (sym (games_more w n (take n games) (take (n + 1) games) game more many))

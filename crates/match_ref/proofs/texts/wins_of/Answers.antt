@@ -18,7 +18,9 @@ loop-number-preserved c =
     let won : has_won c.args.is_a n game.winner ≡ c.has_won.result = sym c.has_won.ensures in
     elim c.if-has_won.branch [
       | then-has_won w ↦ let is : win c.args.is_a n game ≡ 1 = rw (won ∙ w.if-has_won.true) refl in
-          let now = w.wins-is in record { wins = omega (arith, next, before, is, now); few = omega (arith, few, now) }
+          let now = w.wins-is in
+          record { wins = omega (arith, next, before, is, now); few = omega (arith, few, now) }
       | else-has_won w ↦ let is : win c.args.is_a n game ≡ 0 = rw (won ∙ w.if-has_won.false) refl in
-          let now = w.wins-is in record { wins = omega (arith, next, before, is, now); few = omega (arith, few, now) }
+          let now = w.wins-is in
+          record { wins = omega (arith, next, before, is, now); few = omega (arith, few, now) }
     ]

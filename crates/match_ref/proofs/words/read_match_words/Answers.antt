@@ -9,20 +9,26 @@ use Rattle.match_ref.proofs.words.read_match_words.Goals as goal
 reads_now : (app : App) → app ≡ match_app → ReadsForm app match_form
 reads_now app is = subst (λ (a : App). ReadsForm a match_form) (sym is) match_reads
 
-pub returns-in-Ok-Some-clause-exact : goal.returns-in-Ok-Some-clause-exact
-returns-in-Ok-Some-clause-exact c =
+pub returns-in-Some-clause-exact : goal.returns-in-Some-clause-exact
+returns-in-Some-clause-exact c =
     let words = c.args.words.now in
-    let met : FindsLine match_form words c.in-Ok-Some.found = subst (FindsIn match_form words) c.in-Ok-Some.field-0-is (c.in-Ok-Some.ensures match_form (reads_now _ c.in_ok-command.ensures)) in
-    λ w. let both = found words c.in-Ok-Some.found w met in (
+    let met : FindsLine match_form words c.in-Some.found
+    = subst (FindsIn match_form words) c.in-Some.is
+    (c.in_ok-found.ensures match_form (reads_now _ c.in_ok-command.ensures)) in
+    λ w. let both = found words c.in-Some.found w met in (
       λ is. both.0 ((c.said_match.ensures w).0 is),
       λ well. (c.said_match.ensures w).1 (both.1 well),
     )
 
-pub returns-in-Ok-Some-clause-ranges : goal.returns-in-Ok-Some-clause-ranges
-returns-in-Ok-Some-clause-ranges c = ranges_from (first_value (found_of c.in-Ok-Some.found)) c.said_match.result c.said_match.ensures
+pub returns-in-Some-clause-ranges : goal.returns-in-Some-clause-ranges
+returns-in-Some-clause-ranges c
+    = ranges_from
+    (first_value (found_of c.in-Some.found)) c.said_match.result c.said_match.ensures
 
-pub returns-in-Ok-None-clause-exact : goal.returns-in-Ok-None-clause-exact
-returns-in-Ok-None-clause-exact c =
+pub returns-in-None-clause-exact : goal.returns-in-None-clause-exact
+returns-in-None-clause-exact c =
     let words = c.args.words.now in
-    let none : FindsIn match_form words None = subst (FindsIn match_form words) c.in-Ok-None.field-0-is (c.in-Ok-None.ensures match_form (reads_now _ c.in_ok-command.ensures)) in
+    let none : FindsIn match_form words None
+    = subst (FindsIn match_form words) c.in-None.is
+    (c.in_ok-found.ensures match_form (reads_now _ c.in_ok-command.ensures)) in
     λ w. ((λ same. cc), λ well. absurd (none_found words w none well))
