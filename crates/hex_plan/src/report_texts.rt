@@ -7,10 +7,9 @@ ghost use Rattle.tree_words.specs.Roots.{rows_of};
 ghost use Rattle.hex_plan.specs.Turns.{IsDecided};
 ghost use Rattle.hex_plan.specs.TurnTexts.{AreOn, report_of, report_on, report_line};
 ghost use Rattle.hex_plan.specs.TurnTexts.{report_lines};
-ghost use Rattle.std.specs.Fmt.{decimal};
 
 use super::turns::Turn;
-use hex_cells::{Cell, Size, VERTEX_LEN, write_vertex};
+use hex_cells::{Cell, Size, VERTEX_LEN, push_number, write_vertex};
 use std::alloc::{AllocError, Global};
 use tree_words::{Closed, Row, report};
 
@@ -24,12 +23,6 @@ pub(crate) fn push_vertex(text: &mut Vec<u8>, cell: Cell, size: Size) -> Result<
     text.extend_from_slice(&vertex[..length])
 }
 
-fn push_number(alloc: Global, text: &mut Vec<u8>, number: u32) -> Result<(), AllocError>
-    ensures { OnOk result (text.new.items ≡ text.old.items ++ decimal number) }
-{
-    text.extend_from_slice(number.to_string(alloc)?.as_bytes())
-}
-
 /// A line feed, and a row's vertex, visits and wins.
 fn push_row(alloc: Global, text: &mut Vec<u8>, row: &Row, size: Size) -> Result<(), AllocError>
     requires { row.now.cell < size * size }
@@ -38,9 +31,9 @@ fn push_row(alloc: Global, text: &mut Vec<u8>, row: &Row, size: Size) -> Result<
     text.push(b'\n')?;
     push_vertex(text, row.cell, size)?;
     text.push(b' ')?;
-    push_number(alloc, text, row.visits)?;
+    push_number(alloc, text, u64::from(row.visits))?;
     text.push(b' ')?;
-    push_number(alloc, text, row.wins)
+    push_number(alloc, text, u64::from(row.wins))
 }
 
 /// The line of each row.
@@ -76,7 +69,8 @@ fn tree_text(alloc: Global, closed: &Closed, size: Size) -> Result<Vec<u8>, Allo
         return Err(AllocError);
     };
     let mut text = b"playouts ".to_vec(alloc)?;
-    push_number(alloc, &mut text, closed.shape().knobs().playouts)?;
+    let playouts = closed.shape().knobs().playouts;
+    push_number(alloc, &mut text, u64::from(playouts))?;
     push_rows(alloc, &mut text, &rows, size)?;
     Ok(text)
 }
