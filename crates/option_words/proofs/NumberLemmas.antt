@@ -15,10 +15,12 @@ digits_pass [] h = refl
 digits_pass (c ∷ cs) h =
     let range = digit_from_value c h.0 in rw (is_digit c range.0 range.1) (digits_pass cs h.1)
 
-pub number_at_most : (least most n : ℕ) (text : Option TextBytes) → IsNumberFrom least most text n → n ≤ most
+pub number_at_most : (least most n : ℕ) (text : Option TextBytes)
+    → IsNumberFrom least most text n → n ≤ most
 number_at_most least most n None h = absurd h
 number_at_most least most n (Some text) h = h.4
 
-pub number_in_range : (least most n : ℕ) (text : Option TextBytes) → IsNumberFrom least most text n → (least ≤ n) × (n ≤ most)
+pub number_in_range : (least most n : ℕ) (text : Option TextBytes) → IsNumberFrom least most text n
+    → (least ≤ n) × (n ≤ most)
 number_in_range least most n None h = absurd h
 number_in_range least most n (Some text) h = (h.3, h.4)

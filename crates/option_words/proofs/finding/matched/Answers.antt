@@ -28,5 +28,6 @@ pub returns-in-Err : goal.returns-in-Err
 returns-in-Err c =
     let app : App = app_of c.args.command in
     IfOk-weaker c.none_unless_full.result _ _ (λ r h form reads.
-    let has = subst (λ (ws : List (List ℕ)). HasKind (fault_of app ws) c.in-Err.error) (same c.args.words.now) (c.in-Err.ensures.kinds reads.free) in
+    let has = subst (λ (ws : List (List ℕ)). HasKind (fault_of app ws) c.in-Err.error)
+    (same c.args.words.now) (c.in-Err.ensures.kinds reads.free) in
     rw h.0 (fault_shown _ c.in-Err.error has h.1)) c.none_unless_full.ensures
