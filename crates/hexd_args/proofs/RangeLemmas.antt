@@ -9,7 +9,8 @@ use Rattle.hexd_args.specs.declared.settings.Options.{Options}
 use Rattle.hexd_args.specs.declared.table.TheConstants.{SIZE, WORKERS, PLAYOUTS, SEED, WORDS}
 use Rattle.hexd_args.specs.declared.table.TheConstants.{EXPAND, WEIGHT, STEPS, BUDGET}
 
-knobs_in_range : (value : TextBytes → Option TextBytes) (k : Knobs) → AreKnobs value k → AreInRange k
+knobs_in_range : (value : TextBytes → Option TextBytes) (k : Knobs) → AreKnobs value k
+    → AreInRange k
 knobs_in_range value k h =
     let seed = number_in_range _ _ _ (value SEED.0.now) h.seed in
     record {
@@ -21,7 +22,8 @@ knobs_in_range value k h =
       weight = (number_in_range _ _ _ (value WEIGHT.0.now) h.weight).1;
     }
 
-pub in_range : (value : TextBytes → Option TextBytes) (o : Options) → AreOptions value o → OptionsInRange o
+pub in_range : (value : TextBytes → Option TextBytes) (o : Options) → AreOptions value o
+    → OptionsInRange o
 in_range value o h = record {
   size = number_in_range _ _ _ (value SIZE.0.now) h.size;
   knobs = knobs_in_range value o.knobs h.knobs;
@@ -29,6 +31,7 @@ in_range value o h = record {
   budget = (number_in_range _ _ _ (value BUDGET.0.now) h.budget).0;
 }
 
-pub ranges_from : (value : TextBytes → Option TextBytes) (r : Option Options) → ((o : Options) → (r ≡ Some o) ↔ AreOptions value o) → IfSome r OptionsInRange
+pub ranges_from : (value : TextBytes → Option TextBytes) (r : Option Options)
+    → ((o : Options) → (r ≡ Some o) ↔ AreOptions value o) → IfSome r OptionsInRange
 ranges_from value None h = tt
 ranges_from value (Some o) h = in_range value o ((h o).0 refl)

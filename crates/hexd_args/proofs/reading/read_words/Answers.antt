@@ -15,13 +15,16 @@ reads_now : (app : App) → app ≡ hexd_app → ReadsForm app hexd_form
 reads_now app is = subst (λ (a : App). ReadsForm a hexd_form) (sym is) hexd_reads
 
 -- no options if the words are not well formed
-none_well : (words : List TextBytes) → ((o : Options) → WellFormed words o → ⊥) → (o : Options) → (let r : Option Options = None in r ≡ Some o) ↔ WellFormed words o
+none_well : (words : List TextBytes) → ((o : Options) → WellFormed words o → ⊥) → (o : Options)
+    → (let r : Option Options = None in r ≡ Some o) ↔ WellFormed words o
 none_well words never o = ((λ same. cc), λ well. absurd (never o well))
 
 pub returns-in-Some-clause-exact : goal.returns-in-Some-clause-exact
 returns-in-Some-clause-exact c =
     let words = c.args.words.now in
-    let met : FindsLine hexd_form words c.in-Some.matches = subst (FindsIn hexd_form words) c.in-Some.is (c.in_ok-matches.ensures hexd_form (reads_now _ c.in_ok-command.ensures)) in
+    let met : FindsLine hexd_form words c.in-Some.matches
+    = subst (FindsIn hexd_form words) c.in-Some.is
+    (c.in_ok-matches.ensures hexd_form (reads_now _ c.in_ok-command.ensures)) in
     let both = λ (o : Options). found words c.in-Some.matches o met in
     IfOk-weaker c.options_of.result _ _ (λ r h o. (
       (λ is. (both o).0 ((h o).0 is)),
@@ -31,9 +34,12 @@ returns-in-Some-clause-exact c =
 pub returns-in-None-clause-exact : goal.returns-in-None-clause-exact
 returns-in-None-clause-exact c =
     let words = c.args.words.now in
-    let none : FindsIn hexd_form words None = subst (FindsIn hexd_form words) c.in-None.is (c.in_ok-matches.ensures hexd_form (reads_now _ c.in_ok-command.ensures)) in
+    let none : FindsIn hexd_form words None
+    = subst (FindsIn hexd_form words) c.in-None.is
+    (c.in_ok-matches.ensures hexd_form (reads_now _ c.in_ok-command.ensures)) in
     none_well words (λ o well. none_found words o none well)
 
 pub returns-in-Some-clause-ranges : goal.returns-in-Some-clause-ranges
 returns-in-Some-clause-ranges c =
-    IfOk-weaker c.options_of.result _ _ (λ r h. ranges_from (first_value (found_of c.in-Some.matches)) r h) c.options_of.ensures
+    IfOk-weaker c.options_of.result _ _
+    (λ r h. ranges_from (first_value (found_of c.in-Some.matches)) r h) c.options_of.ensures
