@@ -7,26 +7,23 @@ use Rattle.hex_cells.specs.Sets.{with_cell}
 use Rattle.hex_board.specs.Positions.{is_empty_at}
 use Rattle.conn_store.specs.declared.entries.Kind.{Kind}
 use Rattle.win_cert.specs.Entries.{Context, elements_at, entries_at, entry_at}
-use Rattle.win_cert.specs.Reasons.{reason_against, is_bad_reference, is_bad_stone, is_wrong_scope}
-use Rattle.win_cert.specs.Reasons.{is_wrong_colour, are_not_neighbours, has_no_middle}
+use Rattle.win_cert.specs.Reasons.{reason_against, is_bad_reference, is_wrong_scope}
+use Rattle.win_cert.specs.Reasons.{has_no_middle}
 use Rattle.win_cert.specs.Reasons.{do_carriers_meet, is_end_in_carrier, is_middle_wrong}
-use Rattle.win_cert.specs.Reasons.{is_cell_common, is_no_edge_entry, is_not_joined}
 use Rattle.win_cert.specs.declared.reasons.Reason.{Reason}
-use Rattle.win_cert.specs.declared.reasons.Reason.TheVariants.{BadReference, WrongColour}
-use Rattle.win_cert.specs.declared.reasons.Reason.TheVariants.{NotNeighbours, NoCommonMiddle}
+use Rattle.win_cert.specs.declared.reasons.Reason.TheVariants.{BadReference}
+use Rattle.win_cert.specs.declared.reasons.Reason.TheVariants.{NoCommonMiddle}
 use Rattle.win_cert.specs.declared.reasons.Reason.TheVariants.{CarriersMeet, EndInCarrier}
 use Rattle.win_cert.specs.declared.reasons.Reason.TheVariants.{MiddleKind, CommonCell, NotEdges}
-use Rattle.win_cert.specs.declared.reasons.Reason.TheVariants.{BadStone, WrongScope, NotJoined}
+use Rattle.win_cert.specs.declared.reasons.Reason.TheVariants.{BadStone, WrongScope}
 use Rattle.win_cert.specs.Statements.{is_edge_entry, may_take, share_cell}
 use Rattle.win_cert.specs.declared.statements.Statement.{Statement}
 use Rattle.win_cert.specs.declared.statements.Statement.TheVariants.{Claim, Derivation}
-use Rattle.win_cert.specs.declared.lines.End.{End}
-use Rattle.win_cert.specs.declared.lines.Line.TheVariants.{Adj, Put, Done, Move, Cases}
+use Rattle.win_cert.specs.declared.lines.Line.TheVariants.{Move, Cases}
 use Rattle.cert_check.specs.Keeping.{chain_line}
-
--- the reason, where the test holds, and else another
-abbrev pub told : Bool → Reason → Option Reason → Option Reason
-told test reason other = if test then Some reason else other
+pub use Rattle.win_cert.proofs.CutSteps.{told, adj_reasons}
+pub use Rattle.win_cert.proofs.ScopeLines.{put_reasons, done_reasons, move_reasons, cases_reasons}
+pub use Rattle.win_cert.proofs.Accepting.{claim_reasons}
 
 pub told_first : (b : Bool) (r : Reason) (o : Option Reason) → b ≡ true → told b r o ≡ Some r
 told_first true r o h = refl
@@ -40,44 +37,6 @@ told_next false r o p h e = e
 pub told_none : (b : Bool) (r : Reason) (o : Option Reason) → told b r o ≡ None → b ≡ false
 told_none true r o h = absurd (cc)
 told_none false r o h = refl
-
-pub put_reasons : (c : Context) (cells : ℕ)
-    → reason_against c (Derivation (Put cells)) ≡ told
-    (is_bad_stone c (Derivation (Put cells))) BadStone None
-unfolding reason_against
-put_reasons c cells = refl
-
-pub done_reasons : (c : Context)
-    → reason_against c (Derivation Done) ≡ told (is_not_joined c (Derivation Done)) NotJoined None
-unfolding reason_against
-done_reasons c = refl
-
-pub adj_reasons : (c : Context) (x y : End)
-    → reason_against c (Derivation (Adj x y)) ≡ told
-    (is_wrong_colour c (Derivation (Adj x y))) WrongColour
-    (told (are_not_neighbours c (Derivation (Adj x y))) NotNeighbours None)
-unfolding reason_against
-adj_reasons c x y = refl
-
-pub move_reasons : (c : Context) (k i : ℕ)
-    → reason_against c (Derivation (Move k i)) ≡ told
-    (is_bad_reference c (Derivation (Move k i))) BadReference
-    (told (is_bad_stone c (Derivation (Move k i))) BadStone (told (is_wrong_scope c (Derivation (Move k i))) WrongScope (told (is_no_edge_entry c (Derivation (Move k i))) NotEdges None)))
-unfolding reason_against
-move_reasons c k i = refl
-
-pub cases_reasons : (c : Context) (numbers : List ℕ)
-    → reason_against c (Derivation (Cases numbers)) ≡ told
-    (is_bad_reference c (Derivation (Cases numbers))) BadReference
-    (told (is_wrong_scope c (Derivation (Cases numbers))) WrongScope (told (is_cell_common c (Derivation (Cases numbers))) CommonCell (told (is_no_edge_entry c (Derivation (Cases numbers))) NotEdges None)))
-unfolding reason_against
-cases_reasons c numbers = refl
-
-pub claim_reasons : (c : Context) (kind : Kind) (i : ℕ)
-    → reason_against c (Claim kind i) ≡ told (is_bad_reference c (Claim kind i)) BadReference
-    (told (is_wrong_scope c (Claim kind i)) WrongScope (told (is_no_edge_entry c (Claim kind i)) NotEdges None))
-unfolding reason_against
-claim_reasons c kind i = refl
 
 pub chain_reasons : (c : Context) (over_cell : Bool) (i j : ℕ)
     → reason_against c (Derivation (chain_line over_cell i j)) ≡ told

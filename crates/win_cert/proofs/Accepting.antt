@@ -58,7 +58,7 @@ read_all cert = read_over cert (length cert.lines) (omega arith)
 
 -- ---- the claim
 
-claim_reasons : (c : Context) (kind : Kind) (i : ℕ)
+pub claim_reasons : (c : Context) (kind : Kind) (i : ℕ)
     → reason_against c (Claim kind i) ≡ told (is_bad_reference c (Claim kind i)) BadReference
     (told (is_wrong_scope c (Claim kind i)) WrongScope (told (is_no_edge_entry c (Claim kind i)) NotEdges None))
 unfolding reason_against

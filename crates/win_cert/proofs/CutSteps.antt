@@ -93,7 +93,7 @@ IsRight c line a = (gives c line ≡ Some (scoped c.scope a))
 
 -- ---- `adj`
 
-adj_reasons : (c : Context) (x y : End)
+pub adj_reasons : (c : Context) (x y : End)
     → reason_against c (Derivation (Adj x y)) ≡ told
     (is_wrong_colour c (Derivation (Adj x y))) WrongColour
     (told (are_not_neighbours c (Derivation (Adj x y))) NotNeighbours None)

@@ -30,7 +30,7 @@ use Rattle.win_cert.proofs.Appending.{entry_last}
 
 -- ---- `put`
 
-put_reasons : (c : Context) (cells : ℕ) → reason_against c (Derivation (Put cells)) ≡ told
+pub put_reasons : (c : Context) (cells : ℕ) → reason_against c (Derivation (Put cells)) ≡ told
     (is_bad_stone c (Derivation (Put cells))) BadStone None
 unfolding reason_against
 put_reasons c cells = refl
@@ -72,7 +72,7 @@ given_edges c line kind carrier h = record {
 
 -- ---- `done`
 
-done_reasons : (c : Context)
+pub done_reasons : (c : Context)
     → reason_against c (Derivation Done) ≡ told (is_not_joined c (Derivation Done)) NotJoined None
 unfolding reason_against
 done_reasons c = refl
@@ -87,7 +87,7 @@ done_gives c = given_edges c Done Full 0 refl
 
 -- ---- `move`
 
-move_reasons : (c : Context) (k i : ℕ) → reason_against c (Derivation (Move k i))
+pub move_reasons : (c : Context) (k i : ℕ) → reason_against c (Derivation (Move k i))
     ≡ told (is_bad_reference c (Derivation (Move k i))) BadReference
     (told (is_bad_stone c (Derivation (Move k i))) BadStone
     (told (is_wrong_scope c (Derivation (Move k i))) WrongScope (told (is_no_edge_entry c (Derivation (Move k i))) NotEdges None)))
@@ -129,7 +129,7 @@ pub data Leaves (k : ℕ) : List ℕ → Type 0 where
   here : (d : ℕ) (carriers : List ℕ) → has d k ≡ false → Leaves k (d ∷ carriers)
   later : (d : ℕ) (carriers : List ℕ) → Leaves k carriers → Leaves k (d ∷ carriers)
 
-cases_reasons : (c : Context) (numbers : List ℕ) → reason_against c (Derivation (Cases numbers))
+pub cases_reasons : (c : Context) (numbers : List ℕ) → reason_against c (Derivation (Cases numbers))
     ≡ told (is_bad_reference c (Derivation (Cases numbers))) BadReference
     (told (is_wrong_scope c (Derivation (Cases numbers))) WrongScope
     (told (is_cell_common c (Derivation (Cases numbers))) CommonCell (told (is_no_edge_entry c (Derivation (Cases numbers))) NotEdges None)))
