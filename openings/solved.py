@@ -8,7 +8,8 @@ HEAD = """# Openings solved
 that `hexd solve` wins, with a budget of 10,000,000. An opening and its half turn have a row each. Each certificate was \
 accepted by `hexd check` and by tools/second_checker.py. The seconds are processor time of one thread, on a machine that \
 was busy with other work, where the same run takes up to a third longer than alone. MB is the most memory that was seen \
-by a look twenty times a second; a run that was too short for one has none. No test compares them.
+by a look twenty times a second; a run that was too short for one has none. How many positions were entered is not \
+in the table, since the answer of `solve` doesn't tell it. No test compares these figures.
 
 `openings/find.py --again --whole --out mine 6` makes all of 6 by 6 anew. `bin/hexd solve <GAME.sgf | \
 examples/winning_move.py` prints the winning move of an answer.

@@ -34,6 +34,9 @@ const BUDGET: u64 = 10_000;
 // 3^3 for Black's stone on d1 of size 4.
 const AFTER_D1: u32 = 27;
 
+// The least budget by which a program that was built before states were counted so won after d1.
+const ENTERED: u64 = 5;
+
 // The board of this size with these stones.
 fn board(rt: &impl Abort, size: u32, stones: u32) -> Board {
     board_of(Size::of(size).expect(rt, "a size"), stones)
@@ -113,6 +116,7 @@ fn budget_is_spent(rt: HostRuntime) -> Result<(), Fail> {
     let whole = sought(&rt, rt.alloc(), BUDGET);
     assert_eq!(rt; whole.by_mover, Some(false));
     assert!(rt; 1 < whole.entered && whole.entered < BUDGET);
+    assert_eq!(rt; whole.entered, ENTERED);
     // As many positions are enough, and one fewer is not.
     let same = sought(&rt, rt.alloc(), whole.entered);
     assert_eq!(rt; same.text.as_slice(), whole.text.as_slice());

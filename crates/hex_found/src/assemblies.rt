@@ -7,8 +7,9 @@ use super::certificates::claim_for;
 use super::derivations::{Room, cut_board, derive};
 use super::prices::{priced, prices_of};
 use conn_store::Kind;
+use edge_tables::{Choice, EdgeEntry, Key, NOWHERE, Origin, Saving, Stop, Tables, cover};
 use hex_cells::{Cell, CellSet, Colour, Size};
-use hex_scout::{Choice, EdgeEntry, Key, NOWHERE, Origin, Saving, State, Stop, Tables, cover};
+use hex_scout::State;
 use std::alloc::Global;
 use win_cert::MOST_CASES;
 

@@ -2,8 +2,8 @@
 //! lines. A block has the lines of a scope; equal lines of a block stand there once.
 
 use conn_store::Kind;
+use edge_tables::{Heads, NOWHERE, Stop, bucket_of, mixed};
 use hex_cells::{Cell, CellSet};
-use hex_scout::{Heads, NOWHERE, Stop, bucket_of, mixed};
 use std::alloc::Global;
 
 /// The most lines, scopes, needs or cases: more than a certificate may have lines.

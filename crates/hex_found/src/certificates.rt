@@ -12,8 +12,11 @@ use hex_cells::Colour;
 use std::alloc::Global;
 use win_cert::{Cert, CertError, LATEST_VERSION, MOST_LINES, Verdict, read};
 
-/// A certificate of who wins the position, found by entering at most `budget` states. `None` where
-/// that found none, or one that is too long; no clause says when.
+/// A certificate of who wins the position, found by entering at most `budget` states. `None` if
+/// that found none, or one that is too long.
+///
+/// No clause says when a certificate is found: a body that always answers `None`, or that memory
+/// ran out, is proved, and refused by the tests.
 pub fn find(
     alloc: Global,
     board: &Board,
@@ -40,6 +43,8 @@ pub(crate) fn claim_for(winner: Colour, mover: Colour) -> Kind
 /// The certificate that the text is, if it has the latest version, is of this board, is accepted,
 /// and claims that its player wins with `mover` to place next; `None` if it is none, whatever the
 /// text.
+///
+/// That such a text is answered is only tested: a body that always answers `None` is proved.
 pub fn certified(
     alloc: Global,
     board: &Board,

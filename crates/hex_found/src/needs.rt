@@ -2,8 +2,8 @@
 
 use super::blocks::{Blocks, MOST_PARTS, Need};
 use conn_store::Kind;
+use edge_tables::NOWHERE;
 use hex_cells::CellSet;
-use hex_scout::NOWHERE;
 
 // Whether the need is of this kind, open, and served by an entry with such a carrier.
 fn is_served(need: &Need, kind: Kind, carrier: CellSet) -> bool {

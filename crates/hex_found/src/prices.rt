@@ -2,8 +2,8 @@
 
 use super::blocks::{Blocks, MOST_PARTS, Need};
 use conn_store::Kind;
+use edge_tables::{Choice, EdgeEntry, Key, Origin, Stop, Tables};
 use hex_cells::CellSet;
-use hex_scout::{Choice, EdgeEntry, Key, Origin, Stop, Tables};
 use std::alloc::Global;
 
 // A line costs so much, and no entry costs less than a tenth of one.
@@ -11,8 +11,8 @@ const LINE: u64 = 100;
 
 const LEAST: u64 = LINE / 10;
 
-// Of its lines an entry by a stone costs so many hundredths: fewer where the scope with that stone
-// is wanted, and fewest where what is wanted there may serve it too. By trial.
+// Of its lines an entry by a stone costs so many hundredths: fewer if the scope with that stone is
+// wanted, and fewest if what is wanted there may serve it too. By trial.
 const OF_WANTED_SCOPE: u64 = 90;
 
 const OF_WANTED_ENTRY: u64 = 9;

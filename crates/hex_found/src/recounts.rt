@@ -1,10 +1,10 @@
 //! The lines of entries, counted anew: what was found later may show them with fewer.
 
 use conn_store::Kind;
-use hex_cells::{Colour, MOST_CELLS};
-use hex_scout::{
+use edge_tables::{
     EdgeEntry, Key, Measure, Origin, Saving, Stop, Tables, choices_of, cover, together,
 };
+use hex_cells::{Colour, MOST_CELLS};
 use std::alloc::Global;
 
 /// Counts the lines of the player's entries anew, those with the most stones first.

@@ -1,20 +1,23 @@
 //! The search for a certificate: who wins, and the shortest text that was made of what was found.
 
+ghost use Rattle.std.specs.Prelude.{◌≡◌, ◌≤◌, IfOk};
+
 use super::assemblies::assemble;
 use super::recounts::recount;
 use super::refusals::Memory;
 use super::texts::text_of;
+use edge_tables::Stop;
 use hex_board::Board;
 use hex_cells::Colour;
-use hex_scout::{Order, Search, State, Stop};
+use hex_scout::{Order, Search, State};
 use std::alloc::Global;
 
-/// What a search found. No clause says that it is so.
+/// What a search found. No clause says that it is so, but for the budget.
 #[derive(Debug, Drop)]
 pub struct Sought {
     /// Whether the player to move wins, if the search came to an end.
     pub by_mover: Option<bool>,
-    /// How many states it entered.
+    /// How many states it entered, all searches together.
     pub entered: u64,
     /// How many lines the text has before its claim.
     pub lines: usize,
@@ -25,13 +28,17 @@ pub struct Sought {
 /// Searches who wins the position, entering at most `budget` states. If the text has more lines
 /// than are wanted, what is left of the budget goes into searches by other orders, which find
 /// shorter entries.
+///
+/// A body that enters none, and finds nothing, is proved; tests tell how many are entered.
 pub fn seek(
     alloc: Global,
     board: &Board,
     mover: Colour,
     budget: u64,
     wanted: usize,
-) -> Result<Sought, Memory> {
+) -> Result<Sought, Memory>
+    ensures within { IfOk result (λ (s : Sought). s.entered ≤ budget) }
+{
     let root = State {
         board: *board,
         mover,
@@ -58,11 +65,14 @@ fn search(
     budget: u64,
     wanted: usize,
     sought: &mut Sought,
-) -> Result<(), Stop> {
-    let mut search = Search::make(alloc, budget, Order::BEST)?;
-    let decided = search.decide(alloc, root);
-    sought.entered = budget.saturating_sub(search.left());
-    let by_mover = decided?;
+) -> Result<(), Stop>
+    requires none { sought.old.entered ≡ 0 }
+    ensures within { sought.new.entered ≤ budget }
+{
+    let mut search = Search::make(alloc, Order::BEST)?;
+    let outcome = search.decide(alloc, root, budget);
+    sought.entered = outcome.entered;
+    let by_mover = outcome.by_mover?;
     sought.by_mover = Some(by_mover);
     let player = if by_mover {
         root.mover
@@ -74,8 +84,7 @@ fn search(
         if sought.lines <= wanted {
             return Ok(());
         }
-        search_again(alloc, &mut search, root, order)?;
-        sought.entered = budget.saturating_sub(search.left());
+        search_again(alloc, &mut search, root, order, budget, sought)?;
         write(alloc, &mut search, root, player, sought)?;
     }
     Ok(())
@@ -88,9 +97,16 @@ fn search_again(
     search: &mut Search,
     root: &State,
     order: Order,
-) -> Result<(), Stop> {
-    let mut other = Search::make(alloc, search.left(), order)?;
-    match other.decide(alloc, root) {
+    budget: u64,
+    sought: &mut Sought,
+) -> Result<(), Stop>
+    requires within { sought.old.entered ≤ budget }
+    ensures within { sought.new.entered ≤ budget }
+{
+    let mut other = Search::make(alloc, order)?;
+    let outcome = other.decide(alloc, root, budget - sought.entered);
+    sought.entered += outcome.entered;
+    match outcome.by_mover {
         Err(Stop::Memory) => Err(Stop::Memory),
         _ => search.take(&other),
     }
@@ -103,7 +119,9 @@ fn write(
     root: &State,
     player: Colour,
     sought: &mut Sought,
-) -> Result<(), Stop> {
+) -> Result<(), Stop>
+    ensures kept { sought.new.entered ≡ sought.old.entered }
+{
     recount(alloc, search.tables_mut(), player)?;
     let Some(blocks) = assemble(alloc, search.tables(), root, player)? else {
         return Ok(());

@@ -4,8 +4,9 @@ use super::blocks::{Blocks, Part, Step};
 use super::certificates::claim_for;
 use super::derivations::{FIRST_EDGE, SECOND_EDGE};
 use conn_store::Kind;
+use edge_tables::{NOWHERE, value_at};
 use hex_cells::{Cell, CellSet, Colour, MOST_CELLS, Size, VERTEX_LEN, write_vertex};
-use hex_scout::{NOWHERE, State, value_at};
+use hex_scout::State;
 use std::alloc::{AllocError, Global};
 
 // By what lines are written: for each scope the number of its first line less the place of that

@@ -1,8 +1,8 @@
 //! How near each cell lies to a shortest way between a player's edges, where each full entry is a
 //! step and a cell between two steps has to be taken.
 
-use super::lists::value_at;
 use conn_store::{Entry, Kind, Store};
+use edge_tables::value_at;
 use hex_board::{Elements, MOST_ELEMENTS};
 
 // The distance of what can't be reached: more than any other, of which there are 123.

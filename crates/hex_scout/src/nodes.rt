@@ -1,13 +1,12 @@
 //! The nodes of a proof-number search: the states that were entered.
 
-use super::buckets::{Heads, bucket_of, mixed};
-use super::stops::Stop;
+use edge_tables::{Heads, Stop, bucket_of, mixed};
 use hex_board::Board;
 use hex_cells::{Cell, CellSet, Colour, MOST_CELLS};
 use std::alloc::Global;
 
 /// The most nodes: some 200 MB with their cells.
-const MOST_NODES: usize = 1_000_000;
+pub(crate) const MOST_NODES: usize = 1_000_000;
 
 /// What can't be shown has this number. It is more than any sum of others, and two of them still
 /// are a number of 32 bits.

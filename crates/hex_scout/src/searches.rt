@@ -1,38 +1,42 @@
 //! Proof-number search without recursion. A round goes from the root down to a state that is new,
-//! looks at it, and goes back up.
+//! enters it, and goes back up.
 
-use super::counters::Counter;
-use super::covers::{Saving, choices_of, cover, together};
+ghost use Rattle.std.specs.Prelude.{◌≤◌};
+
 use super::distances::add_ways;
-use super::edges::edge_held;
-use super::lists::value_at;
-use super::nodes::{Effort, NEVER, Nodes};
+use super::nodes::{Effort, MOST_NODES, NEVER, Nodes};
 use super::orders::{Order, in_order};
 use super::states::{State, key_on};
-use super::stops::Stop;
-use super::tables::{EdgeEntry, Key, Measure, Origin, Tables};
 use conn_store::{Kind, Store};
+use edge_tables::{
+    Counter, EdgeEntry, Key, Measure, Origin, Saving, Stop, Tables, choices_of, cover, edge_held,
+    together, value_at,
+};
 use hex_cells::{Cell, CellSet, Colour, MOST_CELLS};
 use hsearch::connect;
 use std::alloc::Global;
 
-// A round enters a state or decides a node that was not decided, so there are at most two for each
-// state that may be entered, and a few at the root.
-const SPARE_ROUNDS: u64 = 1_000;
+/// What a search came to.
+#[derive(Debug, Drop)]
+pub struct Outcome {
+    /// Whether the player to move wins, or why that isn't known.
+    pub by_mover: Result<bool, Stop>,
+    /// How many states were entered, with the one at which it stopped.
+    pub entered: u64,
+}
 
-/// A search: what it knows, and how many states it may still enter.
+/// A search, with what it knows.
 #[derive(Drop)]
 pub struct Search {
     tables: Tables,
     nodes: Nodes,
     counter: Counter,
-    left: u64,
     order: Order,
 }
 
 impl Search {
-    /// A search that may enter so many states, and knows nothing.
-    pub fn make(alloc: Global, budget: u64, order: Order) -> Result<Search, Stop> {
+    /// A search that knows nothing.
+    pub fn make(alloc: Global, order: Order) -> Result<Search, Stop> {
         let tables = Tables::make(alloc)?;
         let nodes = Nodes::make(alloc)?;
         let counter = Counter::make(alloc)?;
@@ -40,14 +44,8 @@ impl Search {
             tables,
             nodes,
             counter,
-            left: budget,
             order,
         })
-    }
-
-    /// How many states it may still enter.
-    pub fn left(&self) -> u64 {
-        self.left
     }
 
     /// The entries that it found.
@@ -60,23 +58,80 @@ impl Search {
         &mut self.tables
     }
 
-    /// Takes what another search found, and what is left of that one's budget in place of its own.
+    /// Takes what another search found.
     pub fn take(&mut self, other: &Search) -> Result<(), Stop> {
-        self.left = other.left;
         self.tables.put_all(&other.tables)
     }
 
-    /// Goes on until it is known who wins: whether the player to move does.
-    pub fn decide(&mut self, alloc: Global, root: &State) -> Result<bool, Stop> {
-        let most = self.left.saturating_mul(2).saturating_add(SPARE_ROUNDS);
+    /// Goes on until it is known who wins, or so many states were entered.
+    ///
+    /// Each turn of its loop enters one. That none enters two is by the code, and no clause says
+    /// it.
+    pub fn decide(&mut self, alloc: Global, root: &State, budget: u64) -> Outcome
+        ensures within { result.entered ≤ budget }
+    {
         let mut path = Vec::new(alloc);
-        for _round in 0..most {
+        for entered in 0..budget {
+            match self.enter_next(alloc, root, &mut path) {
+                Ok(None) => {}
+                Ok(Some(by_mover)) => {
+                    return Outcome {
+                        by_mover: Ok(by_mover),
+                        entered,
+                    };
+                }
+                Err(stop) => {
+                    return Outcome {
+                        by_mover: Err(stop),
+                        entered: entered + 1,
+                    };
+                }
+            }
+        }
+        let by_mover = match self.go_down(alloc, root, &mut path) {
+            Ok(known) => known.ok_or(Stop::Spent),
+            Err(stop) => Err(stop),
+        };
+        Outcome {
+            by_mover,
+            entered: budget,
+        }
+    }
+
+    // Enters the next state, unless it is known whether the player to move wins.
+    fn enter_next(
+        &mut self,
+        alloc: Global,
+        root: &State,
+        path: &mut Vec<State>,
+    ) -> Result<Option<bool>, Stop> {
+        let known = self.go_down(alloc, root, path)?;
+        if known.is_none()
+            && let Some(state) = path.last()
+        {
+            self.enter(alloc, state)?;
+            self.up(alloc, path)?;
+        }
+        Ok(known)
+    }
+
+    // Rounds until the path leads to a state that is new, or it is known whether the player to move
+    // wins. One that meets no new state decides a node, so there are at most as many.
+    fn go_down(
+        &mut self,
+        alloc: Global,
+        root: &State,
+        path: &mut Vec<State>,
+    ) -> Result<Option<bool>, Stop> {
+        for _round in 0..MOST_NODES {
             if let Some(by_mover) = self.known(root) {
-                return Ok(by_mover);
+                return Ok(Some(by_mover));
             }
             path.clear();
-            self.down(alloc, root, &mut path)?;
-            self.up(alloc, &path)?;
+            if self.down(alloc, root, path)? {
+                return Ok(None);
+            }
+            self.up(alloc, path)?;
         }
         Err(Stop::Spent)
     }
@@ -100,24 +155,24 @@ impl Search {
         self.tables.common(&key, state.board.empties())
     }
 
-    // Down from the root, to a state that is decided or new.
-    fn down(&mut self, alloc: Global, root: &State, path: &mut Vec<State>) -> Result<(), Stop> {
+    // The path down from the root, to a state that is decided or new: whether it is new.
+    fn down(&mut self, alloc: Global, root: &State, path: &mut Vec<State>) -> Result<bool, Stop> {
         let mut state = *root;
         for _depth in 0..MOST_CELLS {
+            path.push(state)?;
             if self.settle(alloc, &state)? {
-                return Ok(());
+                return Ok(false);
             }
             let place = self.nodes.find_board(&state.board);
             if !self.nodes.is_at(place) {
-                return self.enter(alloc, &state);
+                return Ok(true);
             }
             let (_effort, Some(cell)) = self.next(&state, place) else {
                 return Err(Stop::Spent);
             };
-            path.push(state)?;
             state = state.after(cell);
         }
-        Ok(())
+        Ok(false)
     }
 
     // Back up the path.
@@ -260,10 +315,6 @@ impl Search {
     // Enters a state: looks at the mover's report, and if that doesn't end it at the other's, and
     // makes a node of it if these don't.
     fn enter(&mut self, alloc: Global, state: &State) -> Result<(), Stop> {
-        if self.left == 0 {
-            return Err(Stop::Spent);
-        }
-        self.left -= 1;
         let own = connect(alloc, &state.board, state.mover)?;
         if 0 < self.keep(own.store(), Kind::Semi)? {
             return Ok(());
@@ -276,8 +327,7 @@ impl Search {
         }
         let sums = self.sums(alloc, own.store(), other.store())?;
         let cells = in_order(alloc, self.replies(state), &sums)?;
-        self.nodes.put(&state.board, &cells)?;
-        self.renew(alloc, state)
+        self.nodes.put(&state.board, &cells)
     }
 
     // For each cell the sum of the distances by which cells are tried in order.

@@ -1,7 +1,7 @@
 //! States of the game.
 
-use super::tables::Key;
 use conn_store::Kind;
+use edge_tables::Key;
 use hex_board::Board;
 use hex_cells::{Cell, Colour};
 

@@ -58,14 +58,14 @@ fn premises(cause: Cause) -> ([u32; 3], usize) {
 
 /// Room to count in, used again and again. Between two counts nothing is marked.
 #[derive(Drop)]
-pub(crate) struct Counter {
+pub struct Counter {
     marks: Vec<bool>,
     list: Vec<u32>,
 }
 
 impl Counter {
     /// Room for the entries of a report.
-    pub(crate) fn make(alloc: Global) -> Result<Counter, AllocError> {
+    pub fn make(alloc: Global) -> Result<Counter, AllocError> {
         let marks = vec![in alloc; false; MOST_ENTRIES]?;
         Ok(Counter {
             marks,
@@ -75,7 +75,7 @@ impl Counter {
 
     /// How many entries the entry with this number rests on, itself among them. It costs what
     /// these are, and not what the report is.
-    pub(crate) fn lines_of(&mut self, entries: &[Entry], number: u32) -> Result<u32, Stop> {
+    pub fn lines_of(&mut self, entries: &[Entry], number: u32) -> Result<u32, Stop> {
         self.list.clear();
         self.want(number)?;
         for place in 0..MOST_ENTRIES {

@@ -92,7 +92,7 @@ fn replaces(one: &EdgeEntry, other: &EdgeEntry) -> bool {
 
 impl EdgeEntry {
     /// How much it has of what is measured.
-    pub(crate) fn amount(&self, measure: Measure) -> u64 {
+    pub fn amount(&self, measure: Measure) -> u64 {
         let lines = u64::from(self.lines);
         match measure {
             Measure::Lines => lines,
