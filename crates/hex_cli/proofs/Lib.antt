@@ -5,13 +5,15 @@
 --    src/quiet.rt for the commands that use nothing up, src/genmove.rt for `genmove` with
 --    src/next_turn.rt for its turn, src/loadsgf.rt for `loadsgf`, by specs/Calls.antt; proofs/Using
 --    (what a fetch uses up) and Legal (the cell of a good turn that is next makes a legal move).
--- 3. One line: htp_session, src/answering.rt and in src/session.rt `advance` and `last`. For each
---    source file whose calls take the devices a file of specs/Calls/ says what they do, over
---    `DevicesState` of hex_devices, specs/Usage.antt and Sessions.antt; none of these two stands
---    behind the contract of `run`. proofs/TalkLaws (a talk goes on by one line), EndedLines,
+-- 3. One line: htp_session, src/answering.rt and asking.rt, and in src/session.rt `advance` and
+--    `last`. For each source file whose calls take the devices a file of specs/Calls/ says what
+--    they do, over `DevicesState` of hex_devices, specs/Usage.antt and Sessions.antt; none of these
+--    two stands behind the contract of `run`. proofs/Speaking (what is said at once, and what is
+--    asked over the devices), TalkLaws (a talk goes on by one line), EndedLines,
 --    LastLines, KeptOptions, MoreLeft, TakenTurns, SupplyLaws (what is left after it is not looked
 --    at), UsageLaws, Advances.
--- 4. One piece of input: `feed` in src/session.rt; proofs/Pieces, Given, Feeding, Calling.
+-- 4. One piece of input: `take` and `feed` in src/session.rt, src/holding.rt (what was answered and
+--    not given yet); proofs/Pieces, Given, Feeding, Calling.
 -- 5. All pieces: src/conversation.rt, `converse`, whose invariant
 --    (proofs/conversation/converse/Invariants.antt) is that what was taken so far was answered and
 --    no fault was counted; proofs/Keeping, Ends, BrokenEnds, EndLaws, Conversations, PieceEnds,

@@ -47,9 +47,9 @@
 //! it answers that fault's status all the same. That workers run side by side, which two gates
 //! show. How fast it is.
 //!
-//! **Limits.** An input of [`INPUT_LIMIT`] bytes. In mode `htp` each answer is given before the
-//! next line is looked at, so no memory grows with the input but the game's own; the modes that
-//! take their whole input keep it.
+//! **Limits.** An input of [`INPUT_LIMIT`] bytes. In mode `htp` answers are given before the next
+//! read, and before many are held, so no memory grows with the input but the game's own; the modes
+//! that take their whole input keep it.
 //!
 //! **Why so.**
 //!

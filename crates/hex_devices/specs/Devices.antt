@@ -7,7 +7,7 @@ use Rattle.hex_plan.specs.Turns.{TurnData}
 use Rattle.hex_devices.specs.declared.stops.Stop.{Stop}
 use Rattle.hex_devices.specs.declared.stops.Stop.TheVariants.{ReadFault, WriteFault, ArchiveFault}
 
--- What a link, a shelf and an archive tell, where they do, and their counts of faults. The names
+-- What a link, a shelf and an archive tell, if they do, and their counts of faults. The names
 -- are those of the three references, and stand still.
 pub record DevicesState : Type 0 where
   pub link : Option Told
@@ -19,11 +19,11 @@ pub record DevicesState : Type 0 where
   pub archive_faults : ℕ
   pub names : ℕ × ℕ × ℕ
 
--- what a shelf and an archive tell, where they do
+-- what a shelf and an archive tell, if they do
 abbrev pub ShelfAndArchive : Type 0
 ShelfAndArchive = Option Shelved × Option (List TurnData)
 
--- what a link and an archive tell, where they do
+-- what a link and an archive tell, if they do
 abbrev pub LinkAndArchive : Type 0
 LinkAndArchive = Option Told × Option (List TurnData)
 
@@ -58,3 +58,8 @@ pub record CountsStop (old new : DevicesState) (stop : Option Stop) : Type 0 whe
 -- the same of a call that answers so
 abbrev pub CountsFaults : {T : Type 0} → DevicesState → DevicesState → Result T Stop → Type 0
 CountsFaults old new result = CountsStop old new (stop_of result)
+
+-- the same of a call whose one refusal is told as this stop
+abbrev pub CountsOnly : {T E : Type 0} → Stop → DevicesState → DevicesState → Result T E → Type 0
+CountsOnly stop old new (Ok value) = CountsStop old new None
+CountsOnly stop old new (Err fault) = CountsStop old new (Some stop)

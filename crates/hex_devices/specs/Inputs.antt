@@ -25,7 +25,7 @@ TookTooMany limit old new =
     (bytes : List ℕ) × (length bytes ≡ limit + 1) × TookBytes bytes old new
 
 -- All bytes to come were taken, and they are the answer. At a read fault or for want of memory at
--- most the limit was taken; the input is too long where one byte more was taken.
+-- most the limit was taken; the input is too long if one byte more was taken.
 abbrev pub TakesAll : Option Told → Option Told → ℕ → Result (Vec ℕ Global) Stop → Type 0
 TakesAll old new limit (Ok bytes) = (length bytes.items ≤ limit)
     × Both old new (λ o n. TookBytes bytes.items o n × (n.to_come ≡ []))
@@ -59,8 +59,8 @@ abbrev pub AnsweredPart : TextOf → ℕ → Told → Told → Type 0
 AnsweredPart Answers limit old new = (accepted : Bool) × (front : List ℕ) × (others : List ℕ)
     × (0 < length others) × IsAnswer Answers accepted limit old new (front ++ others) front
 
--- The whole input was answered by its text, or a front of it that is not all where a write failed.
--- Where it was not taken whole, or memory ran out, nothing was given.
+-- The whole input was answered by its text, or a front of it that is not all if a write failed.
+-- If it was not taken whole, or memory ran out, nothing was given.
 abbrev pub AnswersInput : TextOf → Option Told → Option Told → ℕ → Result Bool Stop → Type 0
 AnswersInput Answers old new limit (Ok accepted) =
     Both old new (AnsweredAll Answers accepted limit)

@@ -1,12 +1,14 @@
 //! The devices of a run: a link, a shelf and an archive, a runtime and a gate.
 
 ghost use Rattle.std.specs.Prelude.{◌≡◌, ◌<◌, ◌≤◌, length, IfOk};
-ghost use Rattle.hex_devices.specs.Devices.{CountsFaults, shelf_and_archive};
-ghost use Rattle.hex_devices.specs.Calls.{ReadsSome, GivesAll};
+ghost use Rattle.hex_io.specs.Told.{ReadsBytes};
+ghost use Rattle.hex_devices.specs.Devices.{CountsOnly, shelf_and_archive};
+ghost use Rattle.hex_devices.specs.Calls.{GivesAll};
+ghost use Rattle.hex_devices.specs.declared.stops.Stop.{Stop};
 
+use crate::faults::{ReadFault, WriteFault};
 use crate::giving::give_text;
 use crate::inputs::read_some;
-use crate::stops::Stop;
 use hex_io::{Link, Shelf};
 use hex_plan::Archive;
 use search_team::Gate;
@@ -15,7 +17,7 @@ use std::thread::Threads;
 
 /// What a run is made over.
 ///
-/// Contracts see what the first three tell, where they do, and their counts of faults. No clause
+/// Contracts see what the first three tell, if they do, and their counts of faults. No clause
 /// depends on the runtime or the gate.
 #[derive(Drop)]
 pub struct Devices<
@@ -70,26 +72,26 @@ impl<L: Link, F: Shelf, A: Archive, R: Threads + Sync, G: Gate + Sync> Devices<
     R,
     G,
 > {
-    /// Reads at most `room` bytes to the front of the buffer.
-    pub fn read(&mut self, buffer: &mut [u8], room: usize) -> Result<usize, Stop>
+    /// Reads at most `room` bytes to the front of the buffer. At a fault no byte was taken.
+    pub fn read(&mut self, buffer: &mut [u8], room: usize) -> Result<usize, ReadFault>
         requires some { 0 < room }
         requires fits { room ≤ length buffer.old }
         ensures bound { IfOk result (λ n. n ≤ room) }
-        ensures reads { ReadsSome self.old self.new buffer.new result }
+        ensures reads { ReadsBytes self.old.link self.new.link result buffer.new }
         ensures shelf_and_archive { shelf_and_archive self.new ≡ shelf_and_archive self.old }
-        ensures counts { CountsFaults self.old self.new result }
+        ensures counts { CountsOnly Stop.ReadFault self.old self.new result }
     {
         match read_some(&mut *self.link, buffer, room) {
-            Err(_) => Err(Stop::ReadFault),
+            Err(_) => Err(ReadFault),
             Ok(count) => Ok(count),
         }
     }
 
-    /// Gives all of the bytes. At a fault a prefix of them was given.
-    pub fn give(&mut self, bytes: &[u8]) -> Result<(), Stop>
+    /// Gives all of the bytes. At a fault a prefix of them was given that is not all of them.
+    pub fn give(&mut self, bytes: &[u8]) -> Result<(), WriteFault>
         ensures gives { GivesAll self.old self.new bytes.now result }
         ensures shelf_and_archive { shelf_and_archive self.new ≡ shelf_and_archive self.old }
-        ensures counts { CountsFaults self.old self.new result }
+        ensures counts { CountsOnly Stop.WriteFault self.old self.new result }
     {
         give_text(&mut *self.link, bytes)
     }

@@ -31,5 +31,8 @@ pub fn hand_over<L: Link, A: Archive>(
     let Ok(()) = archive.take(turn) else {
         return Err(Stop::ArchiveFault);
     };
-    give_text(link, text)
+    match give_text(link, text) {
+        Err(_) => Err(Stop::WriteFault),
+        Ok(()) => Ok(()),
+    }
 }

@@ -40,6 +40,9 @@
 //! - A text is given by one relation, `GivesText`: all of it, at a write fault a prefix that is not
 //!   all of it, and nothing at any other stop. A whole input's answer has its own, `AnswersInput`,
 //!   since the same link first gave the input.
+//! - What the devices do by themselves refuses only what can happen then: a read by [`ReadFault`],
+//!   a write by [`WriteFault`]. Each becomes a [`Stop`] by `?`, and no contract of theirs has a
+//!   case that can't come.
 //! - A mode that takes a whole input is a reader with a ghost relation between the bytes, the text
 //!   and whether they are accepted; so how input is taken, the limit, the faults and the status are
 //!   proved once. The reader says how many bytes it answers, since an audit counts trees in 32
@@ -49,6 +52,7 @@
 mod answers;
 mod devices;
 mod ends;
+mod faults;
 mod giving;
 mod handing;
 mod inputs;
@@ -57,6 +61,7 @@ mod stops;
 pub use answers::{InputAnswer, InputReader, answer_input};
 pub use devices::Devices;
 pub use ends::End;
+pub use faults::{ReadFault, WriteFault};
 pub use handing::hand_over;
 pub use inputs::{PIECE, take_all};
 pub use stops::Stop;

@@ -1,5 +1,6 @@
 -- What answers a request, and what stands then.
-use Rattle.std.specs.Prelude.{◌≡◌, ℕ, ◌≤◌, length, List, Option, Some, None, Result, Ok}
+use Rattle.std.specs.Prelude.{◌≡◌, ℕ, ◌≤◌, length, Bool, true, false, List, Option, Some, None}
+use Rattle.std.specs.Prelude.{Result, Ok}
 use Rattle.htp_line.specs.declared.request.Request.{Request}
 use Rattle.hex_game.specs.Games.{GameData}
 use Rattle.hex_engine.specs.Commands.{command_named}
@@ -10,7 +11,7 @@ use Rattle.hex_engine.specs.BoardReplies.{QuietReaction, in_conversation}
 use Rattle.hex_engine.specs.QuietReplies.{quiet_reaction}
 use Rattle.hex_engine.specs.Replies.{Reply, Done, Quit, Failed, Reaction, Turned, Missing}
 use Rattle.hex_engine.specs.Replies.{unchanged, unused}
-use Rattle.hex_engine.specs.Supply.{Supply, and_then}
+use Rattle.hex_engine.specs.Supply.{Supply, and_then, nothing_left}
 use Rattle.hex_engine.specs.declared.answers.Answer.{Answer}
 use Rattle.hex_engine.specs.declared.answers.Answer.TheVariants as answer
 use Rattle.hex_engine.specs.declared.answers.Fail.TheVariants.{UnknownCommand, ReadFault}
@@ -34,6 +35,17 @@ reaction_by engine left (Some command) args = obeyed engine left command args
 unfoldable pub reaction : EngineState → Supply → Request → Result Turned Missing
 reaction engine left request =
     reaction_by engine left (command_named request.name) request.args
+
+-- whether a command uses nothing up; one that is not built doesn't
+abbrev pub is_quiet_command : Option Command → Bool
+is_quiet_command None = true
+is_quiet_command (Some (command.Quiet _)) = true
+is_quiet_command (Some command.GenMove) = false
+is_quiet_command (Some command.LoadSgf) = false
+
+-- whether a request uses nothing up
+abbrev pub is_quiet : Request → Bool
+is_quiet request = is_quiet_command (command_named request.name)
 
 -- an answer, as a reply
 abbrev pub replied : Answer → Reply
@@ -64,6 +76,13 @@ abbrev pub ReactsWith : (Supply → Result Turned Missing) → Supply → Answer
 ReactsWith react used answer after = (later : Supply)
     → react (and_then used later)
     ≡ Ok (record { reply = replied answer; after = after; left = later })
+
+-- The answer, if there is one, and what stands after it, are the reaction, for which nothing is
+-- used up; with none all stands as before.
+abbrev pub AnsweredQuietly : EngineState → Request → EngineState → Option Answer → Type 0
+AnsweredQuietly engine request after None = after ≡ engine
+AnsweredQuietly engine request after (Some answer) =
+    ReactsWith (λ supply. reaction engine supply request) nothing_left answer after
 
 -- the answer has no text longer than a vertex, or it is a failure
 abbrev pub IsBrief : Answer → Type 0

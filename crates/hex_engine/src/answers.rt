@@ -74,6 +74,12 @@ impl From<AllocError> for Memory {
     }
 }
 
+impl From<htp_line::Memory> for Memory {
+    fn from(_error: htp_line::Memory) -> Memory {
+        Memory
+    }
+}
+
 /// Why a request got no answer. Nothing changed then.
 #[derive(Clone, Copy, Debug, PartialEq, Eq, Drop, Error)]
 pub enum EngineError {
@@ -97,6 +103,14 @@ impl From<Memory> for EngineError {
     ghost from_gives = { λ _ error. error ≡ Memory };
 
     fn from(_error: Memory) -> EngineError {
+        EngineError::Memory
+    }
+}
+
+impl From<htp_line::Memory> for EngineError {
+    ghost from_gives = { λ _ error. error ≡ Memory };
+
+    fn from(_error: htp_line::Memory) -> EngineError {
         EngineError::Memory
     }
 }

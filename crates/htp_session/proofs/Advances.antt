@@ -1,19 +1,14 @@
 -- What a line does: how its answer, or the want of one, moves a session.
-use Rattle.std.proofs.Common.{refl, ◌≡◌, ℕ, Bool, true, false, List, [], ◌++◌, ap, ◌∙◌, subst, Result, Ok, Err, take, drop, arith}
-use Rattle.std.specs.Prelude.{IfOk, OnOk}
+use Rattle.std.proofs.Common.{refl, ◌≡◌, ℕ, Bool, true, false, List, [], subst, take, drop, arith}
 use Rattle.std.proofs.lemmas.List.{take-append-drop}
 use Rattle.htp_line.specs.Lines.{whole, lines}
 use Rattle.htp_line.specs.Splitting.{SplitterData, Ends, Advances, StandsAfter}
 use Rattle.hex_engine.specs.declared.options.Options.{Options}
 use Rattle.hex_engine.specs.EngineState.{EngineState}
 use Rattle.hex_engine.specs.Supply.{Supply, nothing_left, and_then}
-use Rattle.htp_session.specs.Talk.{TalkState, Going, ending_if}
+use Rattle.htp_session.specs.Talk.{TalkState, ending_if}
 use Rattle.htp_session.specs.Usage.{UsesUp, UsesUpNothing, AnswersWith, Responds, Lacks}
 use Rattle.hex_devices.specs.Devices.{ShelfAndArchive}
-use Rattle.hex_devices.specs.Devices.{DevicesState, shelf_and_archive}
-use Rattle.htp_session.specs.Calls.Answering.{Writes}
-use Rattle.hex_devices.specs.declared.stops.Stop.{Stop}
-use Rattle.hex_devices.specs.declared.stops.Stop.TheVariants.{ReadFault, WriteFault, Memory, TooLong, ArchiveFault}
 use Rattle.htp_session.specs.Sessions.{IsSessionAfter, Does, DoesSome, Advanced, EndsLine, StopsBefore, AnswersShort, AnswersLast, StopsBeforeLast, LastIsShort}
 use Rattle.htp_session.proofs.SupplyLaws.{stands_options}
 use Rattle.htp_session.proofs.UsageLaws.{After, uses_nothing, does_nothing}
@@ -29,18 +24,6 @@ says_nothing_used options a says text at quit is = record { used = nothing_left;
 pub nothing_used : (options : Options) (a : ShelfAndArchive) → UsesUpNothing options a a
 nothing_used options a = record { in_vain = []; few = omega arith; uses = uses_nothing options a }
 
--- a refusal was written, and nothing was used up
-pub refused : (d : DevicesState) (engine : EngineState) (says : Supply → TalkState) (text old out : List ℕ) (result : Result Bool Stop)
-    → ((later : Supply) → says later ≡ record { text = text; at = engine; left = later; ending = Going })
-    → OnOk result (out ≡ old ++ text) → IfOk result (λ quit. quit ≡ false) → ((s : Stop) → result ≡ Err s → s ≡ Memory)
-    → Writes d d engine engine says old out result
-refused d engine says text old out (Ok quit) is wrote none only = (text, wrote, rw none (says_nothing_used engine.options (shelf_and_archive d) says text engine false is))
-refused d engine says text old out (Err Memory) is wrote none only = nothing_used engine.options (shelf_and_archive d)
-refused d engine says text old out (Err ReadFault) is wrote none only = let e = only ReadFault refl in absurd (cc)
-refused d engine says text old out (Err WriteFault) is wrote none only = let e = only WriteFault refl in absurd (cc)
-refused d engine says text old out (Err TooLong) is wrote none only = let e = only TooLong refl in absurd (cc)
-refused d engine says text old out (Err ArchiveFault) is wrote none only = let e = only ArchiveFault refl in absurd (cc)
-
 -- ---- a line
 
 -- the engine's options are those of the conversation
@@ -48,30 +31,26 @@ uses_of_start : (a b : ShelfAndArchive) (used : Supply) (in_vain : List Bool) (s
     → IsSessionAfter start all later engine held seen → UsesUp engine.options a b used in_vain → UsesUp start.options a b used in_vain
 uses_of_start a b used in_vain start all later engine held seen stands uses = subst (λ o. UsesUp o a b used in_vain) (stands_options start all later engine held seen stands) uses
 
--- what was written where nothing stood before
-pub written : (old out bytes : List ℕ) → old ≡ [] → out ≡ old ++ bytes → out ≡ bytes
-written old out bytes none grew = grew ∙ ap (λ l. l ++ bytes) none
+pub answered_line : (a b : ShelfAndArchive) (engine after : EngineState)
+    (held new now : SplitterData) (front bytes : List ℕ) (quit : Bool)
+    → ((seen : List ℕ) → StandsAfter held seen → Advances new seen front) → new.ended ≡ true
+    → now ≡ new → Responds a b engine new.line bytes after quit
+    → Does a b [] engine held (λ start all later seen. Advanced quit start all later after now bytes seen front)
+answered_line a b engine after held new now front bytes quit stream ended same r = record {
+  used = r.used;
+  stood = λ start all later seen here. (
+    uses_of_start a b r.used [] start all (and_then r.used later) engine held seen here r.uses,
+    rw same (line_advanced start all (and_then r.used later) later engine after held new seen front bytes quit here
+        (stream seen here.in_hand) ended (r.is later)),
+  );
+}
 
-pub answered_line : (a b : ShelfAndArchive) (engine after : EngineState) (held new now : SplitterData) (front old_out out : List ℕ) (quit : Bool)
-    → ((seen : List ℕ) → StandsAfter held seen → Advances new seen front) → new.ended ≡ true → now ≡ new → old_out ≡ []
-    → (bytes : List ℕ) × (out ≡ old_out ++ bytes) × Responds a b engine new.line bytes after quit
-    → Does a b [] engine held (λ start all later seen. Advanced quit start all later after now out seen front)
-answered_line a b engine after held new now front old_out out quit stream ended same none r =
-    let text : out ≡ r.0 = written old_out out r.0 none r.1 in
-    record {
-      used = r.2.used;
-      stood = λ start all later seen here. (
-        uses_of_start a b r.2.used [] start all (and_then r.2.used later) engine held seen here r.2.uses,
-        rw (same, text) (line_advanced start all (and_then r.2.used later) later engine after held new seen front r.0 quit here (stream seen here.in_hand) ended (r.2.is later)),
-      );
-    }
-
-pub open_line : (a : ShelfAndArchive) (engine : EngineState) (held new : SplitterData) (front out : List ℕ)
-    → ((seen : List ℕ) → StandsAfter held seen → Advances new seen front) → new.ended ≡ false → out ≡ []
-    → Does a a [] engine held (λ start all later seen. Advanced false start all later engine new out seen front)
-open_line a engine held new front out stream ended none =
-    does_nothing a engine held (λ start all later seen. Advanced false start all later engine new out seen front)
-    (λ start all later seen here. none_advanced start all later engine held new seen front out here (stream seen here.in_hand) ended none)
+pub open_line : (a : ShelfAndArchive) (engine : EngineState) (held new : SplitterData) (front : List ℕ)
+    → ((seen : List ℕ) → StandsAfter held seen → Advances new seen front) → new.ended ≡ false
+    → Does a a [] engine held (λ start all later seen. Advanced false start all later engine new [] seen front)
+open_line a engine held new front stream ended =
+    does_nothing a engine held (λ start all later seen. Advanced false start all later engine new [] seen front)
+    (λ start all later seen here. none_advanced start all later engine held new seen front [] here (stream seen here.in_hand) ended refl)
 
 -- memory ran out, and nothing was used up
 pub stopped : (a b : ShelfAndArchive) (engine : EngineState) (held : SplitterData) (Now : After) → ((start : EngineState) (all later : Supply) (seen : List ℕ) → IsSessionAfter start all later engine held seen → Now start all later seen)
@@ -111,26 +90,27 @@ short_line a b engine held new piece n stream ended s = record {
 
 -- ---- the last line
 
-pub answered_last : (a b : ShelfAndArchive) (engine after : EngineState) (held new : SplitterData) (old_out out : List ℕ) (quit : Bool)
-    → ((seen : List ℕ) → StandsAfter held seen → Ends new.ended new.line (whole seen) (lines seen)) → new.ended ≡ true → old_out ≡ []
-    → (bytes : List ℕ) × (out ≡ old_out ++ bytes) × Responds a b engine new.line bytes after quit
-    → Does a b [] engine held (λ start all later seen. AnswersLast start all later out seen)
-answered_last a b engine after held new old_out out quit stream ended none r =
-    let text : out ≡ r.0 = written old_out out r.0 none r.1 in
-    record {
-      used = r.2.used;
-      stood = λ start all later seen here. (
-        uses_of_start a b r.2.used [] start all (and_then r.2.used later) engine held seen here r.2.uses,
-        rw text (last_answers start all (and_then r.2.used later) later engine after held new seen r.0 quit here (stream seen here.in_hand) ended (r.2.is later)),
-      );
-    }
+pub answered_last : (a b : ShelfAndArchive) (engine after : EngineState) (held new : SplitterData)
+    (bytes : List ℕ) (quit : Bool)
+    → ((seen : List ℕ) → StandsAfter held seen → Ends new.ended new.line (whole seen) (lines seen))
+    → new.ended ≡ true → Responds a b engine new.line bytes after quit
+    → Does a b [] engine held (λ start all later seen. AnswersLast start all later bytes seen)
+answered_last a b engine after held new bytes quit stream ended r = record {
+  used = r.used;
+  stood = λ start all later seen here. (
+    uses_of_start a b r.used [] start all (and_then r.used later) engine held seen here r.uses,
+    last_answers start all (and_then r.used later) later engine after held new seen bytes quit here
+        (stream seen here.in_hand) ended (r.is later),
+  );
+}
 
-pub no_last : (a : ShelfAndArchive) (engine : EngineState) (held new : SplitterData) (out : List ℕ)
-    → ((seen : List ℕ) → StandsAfter held seen → Ends new.ended new.line (whole seen) (lines seen)) → new.ended ≡ false → out ≡ []
-    → Does a a [] engine held (λ start all later seen. AnswersLast start all later out seen)
-no_last a engine held new out stream ended none =
-    does_nothing a engine held (λ start all later seen. AnswersLast start all later out seen)
-    (λ start all later seen here. last_none start all later engine held new seen out here (stream seen here.in_hand) ended none)
+pub no_last : (a : ShelfAndArchive) (engine : EngineState) (held new : SplitterData)
+    → ((seen : List ℕ) → StandsAfter held seen → Ends new.ended new.line (whole seen) (lines seen))
+    → new.ended ≡ false
+    → Does a a [] engine held (λ start all later seen. AnswersLast start all later [] seen)
+no_last a engine held new stream ended =
+    does_nothing a engine held (λ start all later seen. AnswersLast start all later [] seen)
+    (λ start all later seen here. last_none start all later engine held new seen [] here (stream seen here.in_hand) ended refl)
 
 pub stopped_last : (a b : ShelfAndArchive) (engine : EngineState) (held new : SplitterData)
     → ((seen : List ℕ) → StandsAfter held seen → Ends new.ended new.line (whole seen) (lines seen)) → new.ended ≡ true

@@ -1,114 +1,211 @@
 -- What the calls of a session do, by their results.
-use Rattle.std.proofs.Common.{◌≡◌, ℕ, Bool, true, List, [], take, Result, Ok, Err, refl, sym, ◌∙◌, subst, arith}
-use Rattle.hex_io.specs.Causes.{CountsFault}
-use Rattle.hex_io.specs.Told.{Same}
-use Rattle.hex_io.proofs.BothLaws.{Both-refl}
+use Rattle.std.proofs.Common.{◌≡◌, ℕ, ◌+◌, Bool, true, false, List, [], ◌++◌, length, take, drop, Ok, Err, sym, ap}
+use Rattle.std.proofs.Common.{◌∙◌, subst, append-nil, append_assoc, length-append, arith}
+use Rattle.std.proofs.lemmas.List.{take-append-drop}
+use Rattle.hex_io.specs.Told.{Told, Same}
+use Rattle.hex_io.specs.Grew.{Gave, GaveProperPart}
+use Rattle.hex_io.proofs.BothLaws.{Both-weaker}
+use Rattle.hex_io.proofs.GaveLaws.{Gave-then}
 use Rattle.htp_line.specs.Lines.{whole, lines}
 use Rattle.htp_line.specs.Splitting.{SplitterData, Advances, Ends, StandsAfter}
 use Rattle.hex_engine.specs.EngineState.{EngineState}
-use Rattle.htp_session.specs.Sessions.{Does, DoesSome, Advanced, GaveUp, HeldBack}
-use Rattle.hex_devices.specs.Devices.{DevicesState, shelf_and_archive, CountsStop}
-use Rattle.hex_devices.specs.Calls.{GivesAll}
+use Rattle.htp_session.specs.Sessions.{Does, Holding}
+use Rattle.hex_devices.specs.Devices.{DevicesState, shelf_and_archive}
 use Rattle.htp_session.specs.Calls.Answering.{WritesAnswer}
-use Rattle.htp_session.specs.Calls.Session.{AdvancesBy, AnswersEnd, Feeds, Finishes}
+use Rattle.htp_session.specs.Calls.Holding.{Passes}
+use Rattle.htp_session.specs.Calls.Session.{AdvancesBy, AnswersEnd, TakesPiece, FeedsUpTo, Feeds, Finishes}
+use Rattle.htp_session.specs.declared.session.Moved.{Moved}
 use Rattle.htp_session.specs.declared.session.Session.{Session}
 use Rattle.hex_devices.specs.declared.stops.Stop.{Stop}
 use Rattle.hex_devices.specs.declared.stops.Stop.TheVariants.{ReadFault, WriteFault, Memory, TooLong, ArchiveFault}
-use Rattle.std.specs.Prelude.{Option, None, Some}
-use Rattle.htp_session.proofs.Advances.{stopped_line, short_line, stopped_last, lacking_last}
-use Rattle.htp_session.proofs.Feeding.{FedTo, rest_of, fed_broke_off, fed_gave_up, fed_held_back, last_given, last_broke_off}
-
--- ---- the counts of faults
-
-count_then : (a b c : ℕ) (t : Stop) (stop : Option Stop) → CountsFault a b (None ≡ Some t) → CountsFault b c (stop ≡ Some t) → CountsFault a c (stop ≡ Some t)
-count_then a b c t stop p q = subst (λ n. CountsFault n c (stop ≡ Some t)) (p.kept (λ e. absurd (cc))) q
-
--- a call that did not stop, and one after it
-pub counts_then : (a b c : DevicesState) (stop : Option Stop) → CountsStop a b None → CountsStop b c stop → CountsStop a c stop
-counts_then a b c stop p q = record {
-  reads = count_then a.read_faults b.read_faults c.read_faults ReadFault stop p.reads q.reads;
-  writes = count_then a.write_faults b.write_faults c.write_faults WriteFault stop p.writes q.writes;
-  archives = count_then a.archive_faults b.archive_faults c.archive_faults ArchiveFault stop p.archives q.archives;
-  names = q.names ∙ p.names;
-}
-
-count_same : (n : ℕ) (t : Stop) (stop : Option Stop) → (stop ≡ Some t → ⊥) → CountsFault n n (stop ≡ Some t)
-count_same n t stop none = record { later = omega arith; rose = λ e. absurd (none e); kept = λ e. refl }
-
--- where nothing was read, written or handed over
-pub counts_nothing : (a : DevicesState) → CountsStop a a None
-counts_nothing a = record {
-  reads = count_same a.read_faults ReadFault None (λ e. cc);
-  writes = count_same a.write_faults WriteFault None (λ e. cc);
-  archives = count_same a.archive_faults ArchiveFault None (λ e. cc);
-  names = refl;
-}
+use Rattle.std.specs.Prelude.{Option}
+use Rattle.htp_session.proofs.Advances.{stopped_line, short_line, answered_last, stopped_last, lacking_last}
+use Rattle.htp_session.proofs.Feeding.{rest_of, held_on, held_less, held_all, held_fed, held_quit, held_unwritten}
+use Rattle.htp_session.proofs.Feeding.{fed_gave_up, fed_held_back, last_given, last_broke_off}
 
 -- ---- a line for which memory or a turn was wanted
 
-pub stopped_advance : (old new : DevicesState) (before after : Session) (engine : EngineState) (held : SplitterData) (piece : List ℕ) (n : ℕ) (out out_now : List ℕ) (stop : Stop)
-    → ((seen : List ℕ) → StandsAfter before.splitter seen → Advances held seen (take n piece)) → held.ended ≡ true
-    → WritesAnswer old new before.engine engine held.line out out_now (Err stop) → AdvancesBy old new before after piece (Err stop)
-stopped_advance old new before after engine held piece n out out_now ReadFault stream ended w = absurd w
-stopped_advance old new before after engine held piece n out out_now WriteFault stream ended w = absurd w
-stopped_advance old new before after engine held piece n out out_now Memory stream ended w = stopped_line (shelf_and_archive old) (shelf_and_archive new) before.engine before.splitter held piece n stream ended w
-stopped_advance old new before after engine held piece n out out_now TooLong stream ended w = absurd w
-stopped_advance old new before after engine held piece n out out_now ArchiveFault stream ended w = short_line (shelf_and_archive old) (shelf_and_archive new) before.engine before.splitter held piece n stream ended w
+pub stopped_advance : (old new : DevicesState) (before after : Session) (engine : EngineState)
+    (held : SplitterData) (piece : List ℕ) (n : ℕ) (out_now : List ℕ) (stop : Stop)
+    → ((seen : List ℕ) → StandsAfter before.splitter seen → Advances held seen (take n piece))
+    → held.ended ≡ true
+    → WritesAnswer old new before.engine engine held.line before.out.items out_now (Err stop)
+    → AdvancesBy old new before after piece (Err stop)
+stopped_advance old new before after engine held piece n out_now ReadFault stream ended w = absurd w
+stopped_advance old new before after engine held piece n out_now WriteFault stream ended w = w
+stopped_advance old new before after engine held piece n out_now Memory stream ended w =
+    (w.0, stopped_line (shelf_and_archive old) (shelf_and_archive new) before.engine before.splitter held piece n stream ended w.1)
+stopped_advance old new before after engine held piece n out_now TooLong stream ended w = absurd w
+stopped_advance old new before after engine held piece n out_now ArchiveFault stream ended w =
+    (w.0, short_line (shelf_and_archive old) (shelf_and_archive new) before.engine before.splitter held piece n stream ended w.1)
 
-pub stopped_end : (old new : DevicesState) (before after : Session) (engine : EngineState) (held : SplitterData) (out out_now : List ℕ) (stop : Stop)
-    → ((seen : List ℕ) → StandsAfter before.splitter seen → Ends held.ended held.line (whole seen) (lines seen)) → held.ended ≡ true
-    → WritesAnswer old new before.engine engine held.line out out_now (Err stop) → AnswersEnd old new before after (Err stop)
-stopped_end old new before after engine held out out_now ReadFault stream ended w = absurd w
-stopped_end old new before after engine held out out_now WriteFault stream ended w = absurd w
-stopped_end old new before after engine held out out_now Memory stream ended w = stopped_last (shelf_and_archive old) (shelf_and_archive new) before.engine before.splitter held stream ended w
-stopped_end old new before after engine held out out_now TooLong stream ended w = absurd w
-stopped_end old new before after engine held out out_now ArchiveFault stream ended w = lacking_last (shelf_and_archive old) (shelf_and_archive new) before.engine before.splitter held stream ended w
+-- nothing has a front that is not all of it
+no_proper_part : (a b : Option Told) (out : List ℕ) → out ≡ [] → GaveProperPart a b out → ⊥
+no_proper_part a b out none part =
+    let all : 0 ≡ length part.0 + length part.1 =
+        ap length (sym none ∙ part.2) ∙ length-append part.0 part.1 in
+    absurd (omega (arith, all, part.3))
+
+pub stopped_end : (old new : DevicesState) (before after : Session) (engine : EngineState)
+    (held : SplitterData) (out out_now : List ℕ) (stop : Stop) → out ≡ []
+    → ((seen : List ℕ) → StandsAfter before.splitter seen → Ends held.ended held.line (whole seen) (lines seen))
+    → held.ended ≡ true
+    → WritesAnswer old new before.engine engine held.line out out_now (Err stop)
+    → AnswersEnd old new before after (Err stop)
+stopped_end old new before after engine held out out_now ReadFault none stream ended w = absurd w
+stopped_end old new before after engine held out out_now WriteFault none stream ended w =
+    absurd (no_proper_part old.link new.link out none w.0)
+stopped_end old new before after engine held out out_now Memory none stream ended w =
+    (subst (Gave old.link new.link) none w.0, stopped_last (shelf_and_archive old) (shelf_and_archive new) before.engine before.splitter held stream ended w.1)
+stopped_end old new before after engine held out out_now TooLong none stream ended w = absurd w
+stopped_end old new before after engine held out out_now ArchiveFault none stream ended w =
+    (subst (Gave old.link new.link) none w.0, lacking_last (shelf_and_archive old) (shelf_and_archive new) before.engine before.splitter held stream ended w.1)
+
+pub last_answered : (old new : DevicesState) (before after : Session) (held : SplitterData)
+    (out : List ℕ) (quit : Bool) → out ≡ []
+    → ((seen : List ℕ) → StandsAfter before.splitter seen → Ends held.ended held.line (whole seen) (lines seen))
+    → held.ended ≡ true
+    → WritesAnswer old new before.engine after.engine held.line out after.out.items (Ok quit)
+    → AnswersEnd old new before after (Ok tt)
+last_answered old new before after held out quit none stream ended w = (
+  w.0,
+  subst (λ l. Passes old.link new.link l w.0 after.out.items) none w.1,
+  answered_last (shelf_and_archive old) (shelf_and_archive new) before.engine after.engine before.splitter held w.0 quit stream ended w.2,
+)
 
 -- ---- a piece
 
--- memory or a turn was wanted for the next line
-pub fed_stopped : (old mid new : DevicesState) (before session after : Session) (piece : List ℕ) (at : ℕ) (stop : Stop)
-    → Does (shelf_and_archive old) (shelf_and_archive mid) [] before.engine before.splitter (FedTo old.link mid.link session.engine session.splitter (take at piece))
-    → AdvancesBy mid new session after (rest_of piece at) (Err stop) → new.link ≡ mid.link → Feeds old new before after piece (Err stop)
-fed_stopped old mid new before session after piece at ReadFault fed a link = absurd a
-fed_stopped old mid new before session after piece at WriteFault fed a link = absurd a
-fed_stopped old mid new before session after piece at Memory fed a link =
-    subst (λ x. DoesSome (shelf_and_archive old) (shelf_and_archive new) before.engine before.splitter (λ start all later seen. GaveUp old.link x start all later seen piece)) (sym link)
-    (fed_gave_up old.link mid.link (shelf_and_archive old) (shelf_and_archive mid) (shelf_and_archive new) before.engine session.engine before.splitter session.splitter piece at fed a)
-fed_stopped old mid new before session after piece at TooLong fed a link = absurd a
-fed_stopped old mid new before session after piece at ArchiveFault fed a link =
-    subst (λ x. Does (shelf_and_archive old) (shelf_and_archive new) [] before.engine before.splitter (λ start all later seen. HeldBack old.link x start all later seen piece)) (sym link)
-    (fed_held_back old.link mid.link (shelf_and_archive old) (shelf_and_archive mid) (shelf_and_archive new) before.engine session.engine before.splitter session.splitter piece at fed a)
+-- what the session holds after the first bytes of a piece
+abbrev pub HoldsTo : DevicesState → DevicesState → Session → List ℕ → EngineState → SplitterData
+    → List ℕ → Type 0
+HoldsTo old now before out engine held front =
+    Does (shelf_and_archive old) (shelf_and_archive now) [] before.engine before.splitter
+    (Holding false old.link now.link out engine held front)
 
 -- an answer was not given whole
-pub fed_unwritten : (old mid asked new : DevicesState) (before session after : Session) (piece : List ℕ) (at n : ℕ) (quit : Bool) (stop : Stop)
-    → Does (shelf_and_archive old) (shelf_and_archive mid) [] before.engine before.splitter (FedTo old.link mid.link session.engine session.splitter (take at piece))
-    → Does (shelf_and_archive mid) (shelf_and_archive asked) [] session.engine session.splitter (λ start all later seen. Advanced quit start all later after.engine after.splitter after.out.items seen (take n (rest_of piece at)))
-    → asked.link ≡ mid.link → shelf_and_archive new ≡ shelf_and_archive asked → GivesAll asked new after.out.items (Err stop) → Feeds old new before after piece (Err stop)
-fed_unwritten old mid asked new before session after piece at n quit ReadFault fed a link same g = absurd g
-fed_unwritten old mid asked new before session after piece at n quit WriteFault fed a link same g =
-    rw same (fed_broke_off old.link mid.link new.link (shelf_and_archive old) (shelf_and_archive mid) (shelf_and_archive asked) before.engine session.engine after.engine before.splitter session.splitter after.splitter after.out.items piece at n quit fed a (rw (← link) g))
-fed_unwritten old mid asked new before session after piece at n quit Memory fed a link same g = absurd g
-fed_unwritten old mid asked new before session after piece at n quit TooLong fed a link same g = absurd g
-fed_unwritten old mid asked new before session after piece at n quit ArchiveFault fed a link same g = absurd g
+pub take_unwritten : (old mid new : DevicesState) (before : Session) (engine : EngineState)
+    (held : SplitterData) (out piece : List ℕ) (at : ℕ)
+    → HoldsTo old mid before out engine held (take at piece)
+    → GaveProperPart mid.link new.link out → shelf_and_archive new ≡ shelf_and_archive mid
+    → FeedsUpTo old new before piece WriteFault
+take_unwritten old mid new before engine held out piece at holds part same =
+    rw same (held_unwritten old.link mid.link new.link (shelf_and_archive old) (shelf_and_archive mid) before.engine engine before.splitter held out
+    (take at piece) (drop at piece) piece false (take-append-drop at piece) holds part)
+
+-- some answers were given before the next line
+pub take_relieved : (old mid new : DevicesState) (before : Session) (engine : EngineState)
+    (held : SplitterData) (out out_now front : List ℕ)
+    → HoldsTo old mid before out engine held front
+    → Passes mid.link new.link out [] out_now → shelf_and_archive new ≡ shelf_and_archive mid
+    → HoldsTo old new before out_now engine held front
+take_relieved old mid new before engine held out out_now front holds pass same =
+    rw same (held_less old.link mid.link new.link (shelf_and_archive old) (shelf_and_archive mid) before.engine engine before.splitter held out out_now front holds pass)
+
+-- the next line was not answered
+pub take_stopped : (old mid new : DevicesState) (before session after : Session)
+    (piece : List ℕ) (at : ℕ) (stop : Stop)
+    → HoldsTo old mid before session.out.items session.engine session.splitter (take at piece)
+    → AdvancesBy mid new session after (rest_of piece at) (Err stop)
+    → FeedsUpTo old new before piece stop
+take_stopped old mid new before session after piece at ReadFault holds a = absurd a
+take_stopped old mid new before session after piece at WriteFault holds a =
+    take_unwritten old mid new before session.engine session.splitter session.out.items piece at holds a.0 a.1
+take_stopped old mid new before session after piece at Memory holds a =
+    fed_gave_up old.link new.link (shelf_and_archive old) (shelf_and_archive mid) (shelf_and_archive new) before.engine session.engine before.splitter session.splitter piece at
+    (held_all old.link mid.link new.link (shelf_and_archive old) (shelf_and_archive mid) before.engine session.engine before.splitter session.splitter session.out.items (take at piece) holds a.0) a.1
+take_stopped old mid new before session after piece at TooLong holds a = absurd a
+take_stopped old mid new before session after piece at ArchiveFault holds a =
+    fed_held_back old.link new.link (shelf_and_archive old) (shelf_and_archive mid) (shelf_and_archive new) before.engine session.engine before.splitter session.splitter piece at
+    (held_all old.link mid.link new.link (shelf_and_archive old) (shelf_and_archive mid) before.engine session.engine before.splitter session.splitter session.out.items (take at piece) holds a.0) a.1
+
+-- the next line was answered
+take_line : (old mid new : DevicesState) (before session after : Session) (piece : List ℕ)
+    (at : ℕ) (m : Moved) (quit : Bool) → m.quit ≡ quit
+    → HoldsTo old mid before session.out.items session.engine session.splitter (take at piece)
+    → AdvancesBy mid new session after (rest_of piece at) (Ok m)
+    → Does (shelf_and_archive old) (shelf_and_archive new) [] before.engine before.splitter
+        (Holding quit old.link new.link after.out.items after.engine after.splitter (take (at + m.used) piece))
+take_line old mid new before session after piece at m quit is holds a =
+    subst (λ q. Does (shelf_and_archive old) (shelf_and_archive new) [] before.engine before.splitter
+    (Holding q old.link new.link after.out.items after.engine after.splitter (take (at + m.used) piece))) is
+    (held_on old.link mid.link new.link (shelf_and_archive old) (shelf_and_archive mid) (shelf_and_archive new) before.engine session.engine after.engine before.splitter session.splitter after.splitter
+    session.out.items a.0 after.out.items piece at m.used m.quit holds a.2 a.1)
+
+pub take_on : (old mid new : DevicesState) (before session after : Session) (piece : List ℕ)
+    (at : ℕ) (m : Moved) → m.quit ≡ false
+    → HoldsTo old mid before session.out.items session.engine session.splitter (take at piece)
+    → AdvancesBy mid new session after (rest_of piece at) (Ok m)
+    → HoldsTo old new before after.out.items after.engine after.splitter (take (at + m.used) piece)
+take_on old mid new before session after piece at m is holds a =
+    take_line old mid new before session after piece at m false is holds a
+
+-- the same, and it was a quit
+pub take_quit : (old mid new : DevicesState) (before session after : Session) (piece : List ℕ)
+    (at : ℕ) (m : Moved) → m.quit ≡ true
+    → HoldsTo old mid before session.out.items session.engine session.splitter (take at piece)
+    → AdvancesBy mid new session after (rest_of piece at) (Ok m)
+    → TakesPiece old new before after piece (Ok true)
+take_quit old mid new before session after piece at m is holds a =
+    held_quit old.link new.link (shelf_and_archive old) (shelf_and_archive new) before.engine after.engine before.splitter after.splitter after.out.items piece (at + m.used)
+    (take_line old mid new before session after piece at m true is holds a)
+
+-- each line of the piece was answered
+pub take_ended : (old now : DevicesState) (before session : Session) (front piece : List ℕ)
+    → front ≡ piece
+    → HoldsTo old now before session.out.items session.engine session.splitter front
+    → TakesPiece old now before session piece (Ok false)
+take_ended old now before session front piece whole holds =
+    subst (HoldsTo old now before session.out.items session.engine session.splitter) whole holds
+
+-- ---- the end of a piece
+
+pub fed_given : (old mid new : DevicesState) (before after given : Session) (piece : List ℕ)
+    (quit : Bool) → TakesPiece old mid before after piece (Ok quit)
+    → Gave mid.link new.link after.out.items → shelf_and_archive new ≡ shelf_and_archive mid
+    → given.engine ≡ after.engine → given.splitter ≡ after.splitter
+    → Feeds old new before given piece (Ok quit)
+fed_given old mid new before after given piece quit t gave same engine splitter =
+    rw (same, engine, splitter) (held_fed old.link mid.link new.link (shelf_and_archive old) (shelf_and_archive mid) before.engine after.engine before.splitter after.splitter after.out.items piece quit t gave)
+
+pub fed_unwritten : (old mid new : DevicesState) (before after : Session) (piece : List ℕ)
+    (quit : Bool) → TakesPiece old mid before after piece (Ok quit)
+    → GaveProperPart mid.link new.link after.out.items
+    → shelf_and_archive new ≡ shelf_and_archive mid → FeedsUpTo old new before piece WriteFault
+fed_unwritten old mid new before after piece quit t part same =
+    rw same (held_unwritten old.link mid.link new.link (shelf_and_archive old) (shelf_and_archive mid) before.engine after.engine before.splitter after.splitter after.out.items
+    piece [] piece quit (append-nil piece) t part)
 
 -- ---- the last line
 
-same_link : (d : DevicesState) → Same d.link d.link
-same_link d = Both-refl d.link (λ o n. n ≡ o) (λ o. refl)
+-- where no byte was given, nothing changed
+gave_nothing : (a b : Option Told) → Gave a b [] → Same a b
+gave_nothing a b p =
+    Both-weaker a b _ _ (λ x y e. e ∙ ap (λ l. record x { given = l }) (append-nil x.given)) p
 
-pub end_stopped : (old new : DevicesState) (before after : Session) (stop : Stop) → AnswersEnd old new before after (Err stop) → new.link ≡ old.link → Finishes old new before (Err stop)
-end_stopped old new before after ReadFault a link = absurd a
-end_stopped old new before after WriteFault a link = absurd a
-end_stopped old new before after Memory a link = (rw link (same_link old), a)
-end_stopped old new before after TooLong a link = absurd a
-end_stopped old new before after ArchiveFault a link = (rw link (same_link old), a)
+pub end_stopped : (old new : DevicesState) (before after : Session) (stop : Stop)
+    → AnswersEnd old new before after (Err stop) → Finishes old new before (Err stop)
+end_stopped old new before after ReadFault a = absurd a
+end_stopped old new before after WriteFault a = absurd a
+end_stopped old new before after Memory a = (gave_nothing old.link new.link a.0, a.1)
+end_stopped old new before after TooLong a = absurd a
+end_stopped old new before after ArchiveFault a = (gave_nothing old.link new.link a.0, a.1)
 
-pub end_given : (old mid new : DevicesState) (before after : Session) (result : Result (Unit {0}) Stop)
-    → AnswersEnd old mid before after (Ok tt) → mid.link ≡ old.link → shelf_and_archive new ≡ shelf_and_archive mid → GivesAll mid new after.out.items result → Finishes old new before result
-end_given old mid new before after (Ok done) a link same g = rw same (last_given old.link new.link (shelf_and_archive old) (shelf_and_archive mid) before.engine before.splitter after.out.items a (rw (← link) g))
-end_given old mid new before after (Err ReadFault) a link same g = absurd g
-end_given old mid new before after (Err WriteFault) a link same g = rw same (last_broke_off old.link new.link (shelf_and_archive old) (shelf_and_archive mid) before.engine before.splitter after.out.items a (rw (← link) g))
-end_given old mid new before after (Err Memory) a link same g = absurd g
-end_given old mid new before after (Err TooLong) a link same g = absurd g
-end_given old mid new before after (Err ArchiveFault) a link same g = absurd g
+pub end_given : (old mid new : DevicesState) (before after : Session)
+    → AnswersEnd old mid before after (Ok tt) → Gave mid.link new.link after.out.items
+    → shelf_and_archive new ≡ shelf_and_archive mid → Finishes old new before (Ok tt)
+end_given old mid new before after a gave same =
+    rw same (last_given old.link new.link (shelf_and_archive old) (shelf_and_archive mid) before.engine before.splitter a.0 a.2
+    (subst (Gave old.link new.link) (sym a.1.1) (Gave-then old.link mid.link new.link a.1.0 after.out.items a.1.2 gave)))
+
+pub end_unwritten : (old mid new : DevicesState) (before after : Session)
+    → AnswersEnd old mid before after (Ok tt) → GaveProperPart mid.link new.link after.out.items
+    → shelf_and_archive new ≡ shelf_and_archive mid → Finishes old new before (Err WriteFault)
+end_unwritten old mid new before after a part same =
+    let given = a.1.0 in
+    rw same (last_broke_off old.link new.link (shelf_and_archive old) (shelf_and_archive mid) before.engine before.splitter a.0 a.2
+    (
+      given ++ part.0,
+      part.1,
+      a.1.1 ∙ ap (λ l. given ++ l) part.2 ∙ sym (append_assoc given part.0 part.1),
+      Gave-then old.link mid.link new.link given part.0 a.1.2 part.4,
+    ))

@@ -17,6 +17,7 @@ mod KeptOptions
 mod MoreLeft
 mod UsageLaws
 mod Advances
+mod Speaking
 mod Feeding
 mod Calling
 mod PieceEnds

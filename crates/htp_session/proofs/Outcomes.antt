@@ -1,10 +1,9 @@
 -- The outcomes of a conversation, by the results of its calls.
 use Rattle.std.proofs.Common.{◌≡◌, ◌≤◌, ◌+◌, ℕ, List, length, length-append, true, Ok, Err, subst, arith}
-use Rattle.hex_io.specs.Told.{Both, TakesBytes}
+use Rattle.hex_io.specs.Told.{Both, Same, TakesBytes}
 use Rattle.hex_engine.specs.declared.options.Options.{Options}
 use Rattle.hex_devices.specs.Devices.{DevicesState, shelf_and_archive}
 use Rattle.hex_devices.specs.Devices.{Outcome}
-use Rattle.hex_devices.specs.Calls.{ReadsSome}
 use Rattle.htp_session.specs.Calls.Session.{Feeds, Finishes}
 use Rattle.htp_session.specs.Calls.Conversation.{Converses}
 use Rattle.htp_session.specs.declared.session.Session.{Session}
@@ -16,14 +15,12 @@ use Rattle.htp_session.proofs.InputEnds.{last_complete, last_unwritten, last_unf
 use Rattle.htp_session.proofs.ReadLaws.{GoesOn, GoesOnAfter, same_stock, TookPiece}
 
 -- a read failed
-pub by_read : (options : Options) (size limit : ℕ) (old mid new : DevicesState) (session : Session) (buf : List ℕ) (total : ℕ) (stop : Stop) → total ≤ limit
-    → GoesOnAfter options size old mid session total → shelf_and_archive new ≡ shelf_and_archive mid → ReadsSome mid new buf (Err stop) → Converses options size limit old new (Err stop)
-by_read options size limit old mid new session buf total ReadFault few goes same r =
+pub by_read : (options : Options) (size limit : ℕ) (old mid new : DevicesState) (session : Session)
+    (total : ℕ) → total ≤ limit → GoesOnAfter options size old mid session total
+    → shelf_and_archive new ≡ shelf_and_archive mid → Same mid.link new.link
+    → Converses options size limit old new (Err ReadFault)
+by_read options size limit old mid new session total few goes same r =
     ends_unread options size limit (shelf_and_archive old) (shelf_and_archive new) old.link mid.link new.link session.engine session.splitter goes.0 (omega (arith, goes.1)) (same_stock options size old mid session goes.0 (shelf_and_archive new) same goes.2) r
-by_read options size limit old mid new session buf total WriteFault few goes same r = absurd r
-by_read options size limit old mid new session buf total Memory few goes same r = absurd r
-by_read options size limit old mid new session buf total TooLong few goes same r = absurd r
-by_read options size limit old mid new session buf total ArchiveFault few goes same r = absurd r
 
 -- the input had ended, and the last line was answered or not
 by_finish : (options : Options) (size limit : ℕ) (old mid read new : DevicesState) (session : Session) (seen buf : List ℕ) (outcome : Outcome) → length seen ≤ limit
@@ -41,7 +38,7 @@ by_finish options size limit old mid read new session seen buf (Err ArchiveFault
 
 -- a read took nothing, and so the input had ended
 pub by_last : (options : Options) (size limit : ℕ) (old mid read new : DevicesState) (session : Session) (buf : List ℕ) (total count : ℕ) (outcome : Outcome) → total ≤ limit → count ≡ 0
-    → GoesOnAfter options size old mid session total → shelf_and_archive read ≡ shelf_and_archive mid → ReadsSome mid read buf (Ok count) → Finishes read new session outcome → Converses options size limit old new outcome
+    → GoesOnAfter options size old mid session total → shelf_and_archive read ≡ shelf_and_archive mid → Both mid.link read.link (λ o t. TakesBytes o t count buf) → Finishes read new session outcome → Converses options size limit old new outcome
 by_last options size limit old mid read new session buf total count outcome few none goes same reads f =
     by_finish options size limit old mid read new session goes.0 buf outcome (omega (arith, goes.1)) goes.2 same (subst (λ n. Both mid.link read.link (λ o t. TakesBytes o t n buf)) none reads) f
 

@@ -1,10 +1,10 @@
 -- A session before and after a read of its conversation.
-use Rattle.std.proofs.Common.{◌≡◌, ◌≤◌, ◌+◌, ℕ, List, ◌++◌, length, take, sym, subst, Ok}
+use Rattle.std.proofs.Common.{◌≡◌, ◌≤◌, ◌+◌, ℕ, List, ◌++◌, length, take, sym, subst}
 use Rattle.hex_engine.specs.declared.options.Options.{Options}
 use Rattle.hex_engine.specs.EngineState.{opening}
 use Rattle.hex_devices.specs.Devices.{ShelfAndArchive}
 use Rattle.hex_devices.specs.Devices.{DevicesState, shelf_and_archive}
-use Rattle.hex_devices.specs.Calls.{ReadsSome}
+use Rattle.hex_io.specs.Told.{Both, TakesBytes}
 use Rattle.htp_session.specs.declared.session.Session.{Session}
 use Rattle.htp_session.proofs.Pieces.{length-taken}
 use Rattle.htp_session.proofs.Conversations.{Goes, Took, goes_taking}
@@ -29,7 +29,7 @@ pub record TookPiece (options : Options) (size : ℕ) (old read : DevicesState) 
   pub took : Took (opening options size) (shelf_and_archive old) (shelf_and_archive read) old.link read.link session.engine session.splitter seen piece
 
 pub took_piece : (options : Options) (size : ℕ) (old mid read : DevicesState) (session : Session) (buf : List ℕ) (total count : ℕ) → GoesOnAfter options size old mid session total
-    → count ≤ length buf → shelf_and_archive read ≡ shelf_and_archive mid → ReadsSome mid read buf (Ok count) → TookPiece options size old read session (take count buf) (total + count)
+    → count ≤ length buf → shelf_and_archive read ≡ shelf_and_archive mid → Both mid.link read.link (λ o t. TakesBytes o t count buf) → TookPiece options size old read session (take count buf) (total + count)
 took_piece options size old mid read session buf total count goes fits same reads = record {
   seen = goes.0;
   many = length-taken goes.0 buf total count goes.1 fits;

@@ -101,14 +101,14 @@ pub record Ended (end : Outcome) (start : EngineState) (all : Supply) (limit : �
   pub course : Course start all old new
   pub ends : EndsAs end start all limit old new
 
--- a fetch came to nothing only where memory ran out, and then one at most
+-- a fetch came to nothing only if memory ran out, and then one at most
 abbrev pub IsInVain : Outcome → List Bool → Type 0
 IsInVain (Err Memory) in_vain = length in_vain ≤ 1
 IsInVain _ in_vain = in_vain ≡ []
 
 -- A conversation with these options, from an empty board of that size to this end, which used up
--- just this: where the shelf tells it, the files stay and each load came of a fetch, in turn; where
--- the archive tells it, it took just these turns; and what stands where the link tells it.
+-- just this: if the shelf tells it, the files stay and each load came of a fetch, in turn; if the
+-- archive tells it, it took just these turns; and what stands if the link tells it.
 pub record Conversed (end : Outcome) (options : Options) (size limit : ℕ) (used : Supply)
     (old new : ShelfAndArchive) (link link_now : Option Told) : Type 0 where
   pub in_vain : List Bool

@@ -36,7 +36,7 @@ pub record ServesAlike (start : EngineState) (one other : Supply) : Type 0 where
   pub good : AreGood start.options one.turns
   pub other_good : AreGood start.options other.turns
 
--- the same, where the loads of both came of these files and fetches
+-- the same, if the loads of both came of these files and fetches
 pub record ServesAlikeFrom (files : List File) (tries : List Bool) (start : EngineState)
     (one other : Supply) : Type 0 where
   pub worker : HasOneWorker start.options
@@ -45,13 +45,13 @@ pub record ServesAlikeFrom (files : List File) (tries : List Bool) (start : Engi
   pub good : AreGood start.options one.turns
   pub other_good : AreGood start.options other.turns
 
--- of two such supplies, where both talks over some lines were answered, they say the same
+-- of two such supplies, if both talks over some lines were answered, they say the same
 abbrev pub AnsweredAlike : (EngineState → Supply → Supply → Type 0) → Type 0
 AnsweredAlike Alike = (start : EngineState) → (one other : Supply) → Alike start one other
     → (lines : List (List ℕ)) → IsAnswered (talk start one lines)
     → IsAnswered (talk start other lines) → SaySame (talk start one lines) (talk start other lines)
 
--- of two such supplies, where both talks over some lines are through, they are the same
+-- of two such supplies, if both talks over some lines are through, they are the same
 abbrev pub ThroughAlike : (EngineState → Supply → Supply → Type 0) → Type 0
 ThroughAlike Alike = (start : EngineState) → (one other : Supply) → Alike start one other
     → (lines : List (List ℕ)) → IsThrough (talk start one lines)

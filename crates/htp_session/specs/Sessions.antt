@@ -22,7 +22,7 @@ pub record IsSessionAfter (start : EngineState) (all later : Supply) (engine : E
   pub in_hand : StandsAfter held seen
 
 -- What a call did. It used something up, whatever the conversation is and whatever it uses up
--- later; and where engine and splitter were a session's after a text before the call, this holds
+-- later; and if engine and splitter were a session's after a text before the call, this holds
 -- now.
 pub record Does (old new : ShelfAndArchive) (in_vain : List Bool) (engine : EngineState)
     (held : SplitterData) (Now : EngineState → Supply → Supply → List ℕ → Type 0) : Type 0 where
@@ -31,7 +31,7 @@ pub record Does (old new : ShelfAndArchive) (in_vain : List Bool) (engine : Engi
       → IsSessionAfter start all (and_then used later) engine held seen →
       UsesUp start.options old new used in_vain × Now start all later seen
 
--- the same, where one fetch at most came to nothing at the end
+-- the same, if one fetch at most came to nothing at the end
 abbrev pub DoesSome : ShelfAndArchive → ShelfAndArchive → EngineState → SplitterData
     → (EngineState → Supply → Supply → List ℕ → Type 0) → Type 0
 DoesSome old new engine held Now = (in_vain : List Bool) × (length in_vain ≤ 1)
@@ -69,7 +69,7 @@ pub record WantsTurn (s : TalkState) : Type 0 where
   pub ending : s.ending ≡ Short NoTurn
   pub left : s.left ≡ nothing_left
 
--- where nothing is left, these bytes are what more lines are answered before a turn is wanted
+-- if nothing is left, these bytes are what more lines are answered before a turn is wanted
 abbrev pub AnswersShort : EngineState → Supply → Supply → List ℕ → List ℕ → List ℕ → Type 0
 AnswersShort start all later bytes seen more = later ≡ nothing_left
     → AnswersLines start all bytes seen more × WantsTurn (talk_to start all (seen ++ more))
@@ -84,6 +84,19 @@ pub record Advanced (quit : Bool) (start : EngineState) (all later : Supply) (en
 pub record AnswersAll (old new : Option Told) (start : EngineState) (all : Supply)
     (seen more : List ℕ) : Type 0 where
   pub gave : (bytes : List ℕ) × Gave old new bytes × AnswersLines start all bytes seen more
+
+-- what was given, and after it what is held, answer all that more bytes ask
+pub record HoldsAnswers (old new : Option Told) (held : List ℕ) (start : EngineState) (all : Supply)
+    (seen more : List ℕ) : Type 0 where
+  pub gave : (bytes : List ℕ) × Gave old new bytes
+      × AnswersLines start all (bytes ++ held) seen more
+
+-- the same, and this stands then
+abbrev pub Holding : Bool → Option Told → Option Told → List ℕ → EngineState → SplitterData
+    → List ℕ → EngineState → Supply → Supply → List ℕ → Type 0
+Holding quit old new out engine held piece start all later seen =
+    HoldsAnswers old new out start all seen piece
+    × Moves quit start all later engine held (seen ++ piece)
 
 -- all that a piece asks was answered, and this stands then
 pub record Fed (quit : Bool) (old new : Option Told) (start : EngineState) (all later : Supply)
@@ -111,7 +124,7 @@ pub record HeldBack (old new : Option Told) (start : EngineState) (all later : S
     (seen more : List ℕ) : Type 0 where
   pub gave : (bytes : List ℕ) × Gave old new bytes × AnswersShort start all later bytes seen more
 
--- these bytes answer the last line too, where no line feed ends it, and this is left
+-- these bytes answer the last line too, if no line feed ends it, and this is left
 pub record AnswersLast (start : EngineState) (all later : Supply)
     (bytes seen : List ℕ) : Type 0 where
   pub answers : (talk start all (lines seen)).text ≡ (talk_to start all seen).text ++ bytes
@@ -127,7 +140,7 @@ pub record StopsBeforeLast (start : EngineState) (all later : Supply) (seen : Li
   pub left : later ≡ (talk_to start all seen).left
   pub line : HasLast seen
 
--- where nothing is left, the last line wants a turn
+-- if nothing is left, the last line wants a turn
 abbrev pub LastIsShort : EngineState → Supply → Supply → List ℕ → Type 0
 LastIsShort start all later seen = later ≡ nothing_left
     → ((talk start all (lines seen)).text ≡ (talk_to start all seen).text)

@@ -65,7 +65,7 @@ after_reading at left
 after_reading at left (Request request) =
     after_reaction at left request.id (reaction at left request)
 
--- what is said to a line as far as it is kept, which is nothing where the line is too long
+-- what is said to a line as far as it is kept, which is nothing if the line is too long
 abbrev pub after_line : EngineState → Supply → Option (List ℕ) → TalkState
 after_line at left None =
     record { text = failure None (codes "line too long"); at = at; left = left; ending = Going }
@@ -82,7 +82,7 @@ goes_on Going = true
 goes_on AfterQuit = false
 goes_on (Short missing) = false
 
--- one more line: where the talk has ended it changes nothing
+-- one more line: if the talk has ended it changes nothing
 unfoldable pub with_line : TalkState → List ℕ → TalkState
 with_line so_far raw = if goes_on so_far.ending then followed_by so_far
     (after_line so_far.at so_far.left (kept_line raw)) else so_far

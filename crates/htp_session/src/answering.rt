@@ -1,4 +1,4 @@
-//! Answers one raw line.
+//! Answers one raw line: at once if nothing is asked for it over the devices.
 
 ghost use Rattle.std.specs.Prelude.{◌≡◌, ◌+◌, ◌≤◌, ◌++◌, length, codes, IfOk, IfSome, IsOk};
 ghost use Rattle.std.specs.Prelude.{OnOk, OnErr, option_map, false, Some};
@@ -6,26 +6,37 @@ ghost use Rattle.htp_line.specs.Answering.{failure, WritesFor, HasSpareRoom};
 ghost use Rattle.hex_engine.specs.Requests.{IsBrief, replied};
 ghost use Rattle.htp_session.specs.Talk.{reply_text, is_quit};
 ghost use Rattle.hex_devices.specs.Devices.{CountsFaults};
-ghost use Rattle.htp_session.specs.Calls.Answering.{WritesAnswer, WritesReply};
+ghost use Rattle.htp_session.specs.Calls.Answering.{SpeaksTo, SpeaksToRequest, WritesAnswer};
+ghost use Rattle.htp_session.specs.declared.answering.Said.{Said};
 
-use crate::asking::ask;
+use crate::asking::respond_to;
+use crate::holding::give_held;
 use hex_devices::{Devices, Stop};
-use hex_engine::{Answer, Engine, Fail};
+use hex_engine::{Answer, Engine, Fail, Memory};
 use hex_io::{Link, Shelf};
 use hex_plan::Archive;
 use htp_line::{
-    FRAME, ID_LIMIT, LINE_LIMIT, Memory, Parsed, Request, id_text, push_failure, push_success,
-    read_line,
+    FRAME, ID_LIMIT, LINE_LIMIT, Parsed, Request, id_text, push_failure, push_success, read_line,
 };
 use search_team::Gate;
 use std::alloc::Global;
 use std::thread::Threads;
 
 /// The most bytes of a brief answer beside its id: those round it, and a message of 17 bytes.
-const BRIEF: usize = FRAME + 17;
+pub const BRIEF: usize = FRAME + 17;
+
+/// What a raw line comes to before anything is asked over the devices.
+#[derive(Drop)]
+pub enum Said {
+    /// All that answers it was written. It says whether quit was answered.
+    Whole(bool),
+    /// It is a request that has to be asked over the devices. Nothing was written.
+    Open(Request),
+}
 
 /// Answers a raw line, or one that is too long, at the end of `out`, and says whether quit was
-/// answered.
+/// answered. What `out` held is given before anything is asked over the devices, and before it
+/// stops because memory ran out.
 pub fn respond<L: Link, F: Shelf, A: Archive, R: Threads + Sync, G: Gate + Sync>(
     alloc: Global,
     engine: &mut Engine,
@@ -36,57 +47,65 @@ pub fn respond<L: Link, F: Shelf, A: Archive, R: Threads + Sync, G: Gate + Sync>
     requires short { IfSome raw (λ raw. length raw.now ≤ LINE_LIMIT) }
     ensures writes { WritesAnswer devices.old devices.new engine.old engine.new
         (option_map (λ raw. raw.now) raw.entry) out.old.items out.new.items result }
-    ensures err { OnErr result (out.new.items ≡ out.old.items) }
-    ensures link { devices.new.link ≡ devices.old.link }
     ensures counts { CountsFaults devices.old devices.new result }
+{
+    match say(alloc, engine, raw, out) {
+        Ok(said) => match said {
+            Said::Whole(quit) => Ok(quit),
+            Said::Open(request) => respond_to(alloc, engine, devices, &request, out),
+        },
+        Err(_) => match give_held(devices, out) {
+            Ok(()) => Err(Stop::Memory),
+            Err(_) => Err(Stop::WriteFault),
+        },
+    }
+}
+
+/// Answers a raw line, or one that is too long, at the end of `out`, if that uses nothing up.
+fn say(
+    alloc: Global,
+    engine: &mut Engine,
+    raw: Option<&[u8]>,
+    out: &mut Vec<u8>,
+) -> Result<Said, Memory>
+    requires short { IfSome raw (λ raw. length raw.now ≤ LINE_LIMIT) }
+    ensures speaks { IfOk result (SpeaksTo engine.old engine.new
+        (option_map (λ raw. raw.now) raw.entry) out.old.items out.new.items) }
+    ensures err { OnErr result (out.new.items ≡ out.old.items) }
 {
     let Some(raw) = raw else {
         return refuse(out, b"", b"line too long");
     };
     let Ok(parsed) = read_line(alloc, raw) else {
-        return Err(Stop::Memory);
+        return Err(Memory);
     };
     match parsed {
-        Parsed::Blank => Ok(false),
+        Parsed::Blank => Ok(Said::Whole(false)),
         Parsed::Bare(id) => refuse_bare(alloc, id, out),
-        Parsed::Request(request) => respond_to(alloc, engine, devices, &request, out),
+        Parsed::Request(request) => say_quietly(alloc, engine, request, out),
     }
 }
 
-/// Answers a request at the end of `out`, and says whether quit was answered. There is room for a
-/// brief answer before the engine is asked, so the answer of each turn that the archive took is
-/// written.
-fn respond_to<L: Link, F: Shelf, A: Archive, R: Threads + Sync, G: Gate + Sync>(
+/// Answers a request at the end of `out`, if that uses nothing up.
+fn say_quietly(
     alloc: Global,
     engine: &mut Engine,
-    devices: &mut Devices<'_, '_, '_, '_, L, F, A, R, G>,
-    request: &Request,
+    request: Request,
     out: &mut Vec<u8>,
-) -> Result<bool, Stop>
-    ensures writes { WritesReply devices.old devices.new engine.old engine.new
-        request.now out.old.items out.new.items result }
+) -> Result<Said, Memory>
+    ensures speaks { IfOk result (SpeaksToRequest engine.old engine.new request
+        out.old.items out.new.items) }
     ensures err { OnErr result (out.new.items ≡ out.old.items) }
-    ensures link { devices.new.link ≡ devices.old.link }
-    ensures counts { CountsFaults devices.old devices.new result }
 {
-    let Ok(id) = id_text(alloc, request.id) else {
-        return Err(Stop::Memory);
+    let id = id_text(alloc, request.id)?;
+    let Some(answer) = engine.quiet_line(&request)? else {
+        return Ok(Said::Open(request));
     };
-    let Ok(()) = out.reserve(id.len() + BRIEF) else {
-        return Err(Stop::Memory);
-    };
-    let answer = match ask(devices, engine, request) {
-        Err(stop) => return Err(stop),
-        Ok(answer) => answer,
-    };
-    match push_answer(out, &id, &answer) {
-        Err(_) => Err(Stop::Memory),
-        Ok(quit) => Ok(quit),
-    }
+    Ok(Said::Whole(push_answer(out, &id, &answer)?))
 }
 
 /// Writes an answer at the end of `out`, and says whether it is that to quit.
-fn push_answer(out: &mut Vec<u8>, id: &[u8], answer: &Answer) -> Result<bool, Memory>
+pub fn push_answer(out: &mut Vec<u8>, id: &[u8], answer: &Answer) -> Result<bool, Memory>
     requires id { length id.now ≤ ID_LIMIT }
     ensures text { WritesFor id.now (λ n. reply_text n (replied answer.now))
         out.old.items out.new.items result }
@@ -111,30 +130,28 @@ fn push_answer(out: &mut Vec<u8>, id: &[u8], answer: &Answer) -> Result<bool, Me
 }
 
 /// Writes a failure at the end of `out`. It is no answer to quit.
-fn refuse(out: &mut Vec<u8>, id: &[u8], message: &[u8]) -> Result<bool, Stop>
+fn refuse(out: &mut Vec<u8>, id: &[u8], message: &[u8]) -> Result<Said, Memory>
     requires id { length id.now ≤ ID_LIMIT }
     ensures text { WritesFor id.now (λ n. failure n message.now)
         out.old.items out.new.items result }
-    ensures quit { IfOk result (λ quit. quit ≡ false) }
+    ensures whole { IfOk result (λ said. said ≡ Said.Whole false) }
     ensures err { OnErr result (out.new.items ≡ out.old.items) }
-    ensures memory { (s : Stop) → result ≡ Err s → s ≡ Stop.Memory }
 {
     match push_failure(out, id, message) {
-        Err(_) => Err(Stop::Memory),
-        Ok(()) => Ok(false),
+        Err(_) => Err(Memory),
+        Ok(()) => Ok(Said::Whole(false)),
     }
 }
 
 /// Refuses an id that stands alone.
-fn refuse_bare(alloc: Global, id: u32, out: &mut Vec<u8>) -> Result<bool, Stop>
+fn refuse_bare(alloc: Global, id: u32, out: &mut Vec<u8>) -> Result<Said, Memory>
     ensures text { OnOk result
         (out.new.items ≡ out.old.items ++ failure (Some id) (codes "syntax error")) }
-    ensures quit { IfOk result (λ quit. quit ≡ false) }
+    ensures whole { IfOk result (λ said. said ≡ Said.Whole false) }
     ensures err { OnErr result (out.new.items ≡ out.old.items) }
-    ensures memory { (s : Stop) → result ≡ Err s → s ≡ Stop.Memory }
 {
     match id_text(alloc, Some(id)) {
-        Err(_) => Err(Stop::Memory),
+        Err(_) => Err(Memory),
         Ok(id) => refuse(out, &id, Fail::Syntax.message().as_bytes()),
     }
 }

@@ -1,26 +1,93 @@
 //! Asks the engine for an answer, over the devices.
 
 ghost use Rattle.std.specs.Prelude.{◌≡◌};
-ghost use Rattle.hex_devices.specs.Devices.{CountsFaults};
-ghost use Rattle.htp_session.specs.Calls.Asking.{Asks};
+ghost use Rattle.hex_devices.specs.Devices.{CountsFaults, CountsStop};
+ghost use Rattle.htp_session.specs.Calls.Answering.{WritesReply};
+ghost use Rattle.htp_session.specs.Calls.Asking.{Asks, Replies, stop_of_engine, stop_in_asking};
 
+use crate::answering::{BRIEF, push_answer};
+use crate::holding::give_held;
 use hex_devices::{Devices, Stop};
 use hex_engine::{Answer, Engine, EngineError};
 use hex_io::{Link, Shelf};
 use hex_plan::Archive;
-use htp_line::Request;
+use htp_line::{Request, id_text};
 use search_team::Gate;
+use std::alloc::Global;
 use std::thread::Threads;
 
+/// Why a session stops whose engine gave no answer.
+fn stop_for(error: EngineError) -> Stop
+    ensures { result ≡ stop_of_engine error }
+{
+    match error {
+        EngineError::Memory => Stop::Memory,
+        EngineError::Archive => Stop::ArchiveFault,
+    }
+}
+
+/// Gives what `out` holds, so that a request which takes long holds back no answer; and then
+/// answers the request at the end of `out`, and says whether quit was answered.
+pub fn respond_to<L: Link, F: Shelf, A: Archive, R: Threads + Sync, G: Gate + Sync>(
+    alloc: Global,
+    engine: &mut Engine,
+    devices: &mut Devices<'_, '_, '_, '_, L, F, A, R, G>,
+    request: &Request,
+    out: &mut Vec<u8>,
+) -> Result<bool, Stop>
+    ensures writes { WritesReply devices.old devices.new engine.old engine.new
+        request.now out.old.items out.new.items result }
+    ensures counts { CountsFaults devices.old devices.new result }
+{
+    match give_held(devices, out) {
+        Err(_) => Err(Stop::WriteFault),
+        Ok(()) => match reply(alloc, engine, devices, request, out) {
+            Err(error) => Err(stop_for(error)),
+            Ok(quit) => Ok(quit),
+        },
+    }
+}
+
+/// Answers a request at the end of `out`, and says whether quit was answered. There is room for a
+/// brief answer before the engine is asked, so the answer of each turn that the archive took is
+/// written.
+fn reply<L: Link, F: Shelf, A: Archive, R: Threads + Sync, G: Gate + Sync>(
+    alloc: Global,
+    engine: &mut Engine,
+    devices: &mut Devices<'_, '_, '_, '_, L, F, A, R, G>,
+    request: &Request,
+    out: &mut Vec<u8>,
+) -> Result<bool, EngineError>
+    ensures replies { Replies devices.old devices.new engine.old engine.new
+        request.now out.old.items out.new.items result }
+    ensures link { devices.new.link ≡ devices.old.link }
+    ensures counts { CountsStop devices.old devices.new (stop_in_asking result) }
+{
+    let Ok(id) = id_text(alloc, request.id) else {
+        return Err(EngineError::Memory);
+    };
+    let Ok(()) = out.reserve(id.len() + BRIEF) else {
+        return Err(EngineError::Memory);
+    };
+    let answer = match ask(devices, engine, request) {
+        Err(error) => return Err(error),
+        Ok(answer) => answer,
+    };
+    match push_answer(out, &id, &answer) {
+        Err(_) => Err(EngineError::Memory),
+        Ok(quit) => Ok(quit),
+    }
+}
+
 /// Asks the engine for its answer to a request.
-pub fn ask<L: Link, F: Shelf, A: Archive, R: Threads + Sync, G: Gate + Sync>(
+fn ask<L: Link, F: Shelf, A: Archive, R: Threads + Sync, G: Gate + Sync>(
     devices: &mut Devices<'_, '_, '_, '_, L, F, A, R, G>,
     engine: &mut Engine,
     request: &Request,
-) -> Result<Answer, Stop>
+) -> Result<Answer, EngineError>
     ensures asks { Asks devices.old devices.new engine.old engine.new request.now result }
     ensures link { devices.new.link ≡ devices.old.link }
-    ensures counts { CountsFaults devices.old devices.new result }
+    ensures counts { CountsStop devices.old devices.new (stop_in_asking result) }
 {
     match engine.line(
         devices.rt,
@@ -29,8 +96,8 @@ pub fn ask<L: Link, F: Shelf, A: Archive, R: Threads + Sync, G: Gate + Sync>(
         &mut *devices.archive,
         devices.gate,
     ) {
-        Err(EngineError::Memory) => Err(Stop::Memory),
-        Err(EngineError::Archive) => Err(Stop::ArchiveFault),
+        Err(EngineError::Memory) => Err(EngineError::Memory),
+        Err(EngineError::Archive) => Err(EngineError::Archive),
         Ok(answer) => Ok(answer),
     }
 }

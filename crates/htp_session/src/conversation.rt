@@ -38,7 +38,7 @@ pub fn converse<L: Link, F: Shelf, A: Archive, R: Threads + Sync, G: Gate + Sync
     'pieces: loop {
         let room = buffer.len().min((limit - total).max(1));
         let count = match devices.read(&mut buffer, room) {
-            Err(stop) => return Err(stop),
+            Err(_) => return Err(Stop::ReadFault),
             Ok(count) => count,
         };
         if count == 0 {

@@ -22,7 +22,7 @@ pub fn one_worker_is_determined()
 /// With one worker and a told shelf a talk is determined by the lines, the options, the files and
 /// which fetches were at fault: what came of the files need not be given, for bytes are a record of
 /// one game at most. Two talks whose loads came of these files and faults, and whose turns are
-/// good, say the same and stand at the same then, where they were answered; if they are through,
+/// good, say the same and stand at the same then, if they were answered; if they are through,
 /// they are the same in all.
 pub fn one_worker_and_one_shelf_determine()
     ensures answered { (files : List File) → (tries : List Bool) →

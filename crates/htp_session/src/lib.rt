@@ -29,13 +29,16 @@
 //! memory, which no clause ties to a refused growth. That after a fault nothing is read or written.
 //! That searches run in the threads of the runtime, and pass the gate.
 //!
-//! **Limits.** Each answer is given before the next line is looked at, so no memory grows with the
-//! input but the game's own.
+//! **Limits.** At most 65,536 bytes of answers are held, and one answer more; so no memory grows
+//! with the input but the game's own.
 //!
 //! **Why so.**
 //!
-//! - Each answer goes out before the next line is looked at. Were answers gathered, a write could
-//!   fail after the archive had, and a run that ends with one fault would have counted the other.
+//! - The answers to the lines of one read are held, and given together before the next read: a
+//!   write for each would take longer than the answer. What is held is given first whenever a
+//!   request would use something up, since a search may take long, and since a write that fails
+//!   after the archive did would count two faults in a run that ends with one. So a line is
+//!   answered at once, by the engine alone, or it is asked over the devices with nothing held.
 //! - No turn is taken whose answer can't be given: the text of a `genmove`'s answer is made before
 //!   its turn is handed over, and room for the longest answer of a command that uses something up
 //!   is reserved before the engine is asked. An answer is written into room that its caller
@@ -48,6 +51,7 @@
 mod answering;
 mod asking;
 mod conversation;
+mod holding;
 mod laws;
 mod session;
 

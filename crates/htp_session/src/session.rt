@@ -7,6 +7,7 @@ ghost use Rattle.hex_engine.specs.Supply.{Supply};
 ghost use Rattle.hex_devices.specs.Devices.{CountsFaults};
 
 use crate::answering::respond;
+use crate::holding::{give_held, relieve};
 use hex_cells::Size;
 use hex_devices::{Devices, Stop};
 use hex_engine::{Engine, Memory, Options};
@@ -24,7 +25,7 @@ struct Moved {
     quit: bool,
 }
 
-/// The engine, the line in hand, and the answer to the last line.
+/// The engine, the line in hand, and the answers that are held: written, and not given yet.
 #[derive(Drop)]
 pub struct Session {
     engine: Engine,
@@ -35,7 +36,7 @@ pub struct Session {
 impl Session {
     ghost use Rattle.htp_session.specs.Sessions.{IsSessionAfter};
     ghost use Rattle.htp_session.specs.Calls.Answering.{WritesAnswer};
-    ghost use Rattle.htp_session.specs.Calls.Session.{AdvancesBy, AnswersEnd};
+    ghost use Rattle.htp_session.specs.Calls.Session.{AdvancesBy, AnswersEnd, TakesPiece};
 
     /// A session before its first byte.
     pub fn make(alloc: Global, options: &Options, size: Size) -> Result<Session, Memory>
@@ -55,7 +56,7 @@ impl Session {
         })
     }
 
-    /// Answers the line that ended, at the end of `out`, and says whether quit was answered.
+    /// Answers the line that ended after what is held, and says whether quit was answered.
     fn answer<L: Link, F: Shelf, A: Archive, R: Threads + Sync, G: Gate + Sync>(
         &mut self,
         alloc: Global,
@@ -65,14 +66,13 @@ impl Session {
         ensures writes { WritesAnswer devices.old devices.new self.old.engine self.new.engine
             self.old.splitter.line self.old.out.items self.new.out.items result }
         ensures splitter { self.new.splitter ≡ self.old.splitter }
-        ensures link { devices.new.link ≡ devices.old.link }
         ensures counts { CountsFaults devices.old devices.new result }
     {
         let raw = self.splitter.line();
         respond(alloc, &mut self.engine, devices, raw, &mut self.out)
     }
 
-    /// Takes up to one line off the front of the piece. `out` is the answer to it then.
+    /// Takes up to one line off the front of the piece, and answers it after what is held.
     fn advance<L: Link, F: Shelf, A: Archive, R: Threads + Sync, G: Gate + Sync>(
         &mut self,
         alloc: Global,
@@ -82,10 +82,8 @@ impl Session {
         requires some { 0 < length piece.now }
         ensures used { IfOk result (λ m. (0 < m.used) × (m.used ≤ length piece.now)) }
         ensures advances { AdvancesBy devices.old devices.new self.old self.new piece.now result }
-        ensures link { devices.new.link ≡ devices.old.link }
         ensures counts { CountsFaults devices.old devices.new result }
     {
-        self.out.clear();
         let fed = self.splitter.push(piece);
         if !fed.ended {
             return Ok(Moved {
@@ -102,14 +100,43 @@ impl Session {
         }
     }
 
-    /// Takes the last line, if no line feed ends it. `out` is the answer to it then.
+    /// Takes a piece, and answers each line that ends in it. The last answers are held. It says
+    /// whether quit was answered.
+    fn take<L: Link, F: Shelf, A: Archive, R: Threads + Sync, G: Gate + Sync>(
+        &mut self,
+        alloc: Global,
+        devices: &mut Devices<'_, '_, '_, '_, L, F, A, R, G>,
+        piece: &[u8],
+    ) -> Result<bool, Stop>
+        ensures takes { TakesPiece devices.old devices.new self.old self.new piece.now result }
+        ensures counts { CountsFaults devices.old devices.new result }
+    {
+        self.out.clear();
+        let mut at = 0;
+        'lines: while at < piece.len() {
+            match relieve(devices, &mut self.out) {
+                Err(_) => return Err(Stop::WriteFault),
+                Ok(()) => {}
+            }
+            let moved = match self.advance(alloc, devices, &piece[at..]) {
+                Err(stop) => return Err(stop),
+                Ok(moved) => moved,
+            };
+            if moved.quit {
+                return Ok(true);
+            }
+            at += moved.used;
+        }
+        Ok(false)
+    }
+
+    /// Takes the last line, if no line feed ends it. Its answer is held then.
     fn last<L: Link, F: Shelf, A: Archive, R: Threads + Sync, G: Gate + Sync>(
         &mut self,
         alloc: Global,
         devices: &mut Devices<'_, '_, '_, '_, L, F, A, R, G>,
     ) -> Result<(), Stop>
         ensures answers { AnswersEnd devices.old devices.new self.old self.new result }
-        ensures link { devices.new.link ≡ devices.old.link }
         ensures counts { CountsFaults devices.old devices.new result }
     {
         self.out.clear();
@@ -126,8 +153,9 @@ impl Session {
 impl Session {
     ghost use Rattle.htp_session.specs.Calls.Session.{Feeds, Finishes};
 
-    /// Takes a piece and answers each line that ends in it, each before the next is looked at. It
-    /// says whether quit was answered.
+    /// Takes a piece and answers each line that ends in it. All answers are given then; those
+    /// before a `genmove` or a `loadsgf` are given before it is asked. It says whether quit was
+    /// answered.
     pub fn feed<L: Link, F: Shelf, A: Archive, R: Threads + Sync, G: Gate + Sync>(
         &mut self,
         alloc: Global,
@@ -137,22 +165,13 @@ impl Session {
         ensures feeds { Feeds devices.old devices.new self.old self.new piece.now result }
         ensures counts { CountsFaults devices.old devices.new result }
     {
-        let mut at = 0;
-        'lines: while at < piece.len() {
-            let moved = match self.advance(alloc, devices, &piece[at..]) {
-                Err(stop) => return Err(stop),
-                Ok(moved) => moved,
-            };
-            match devices.give(&self.out) {
-                Err(stop) => return Err(stop),
-                Ok(()) => {}
-            }
-            if moved.quit {
-                return Ok(true);
-            }
-            at += moved.used;
+        match self.take(alloc, devices, piece) {
+            Err(stop) => Err(stop),
+            Ok(quit) => match give_held(devices, &mut self.out) {
+                Err(_) => Err(Stop::WriteFault),
+                Ok(()) => Ok(quit),
+            },
         }
-        Ok(false)
     }
 
     /// Answers the last line, if no line feed ends it.
@@ -166,7 +185,10 @@ impl Session {
     {
         match self.last(alloc, devices) {
             Err(stop) => Err(stop),
-            Ok(()) => devices.give(&self.out),
+            Ok(()) => match give_held(devices, &mut self.out) {
+                Err(_) => Err(Stop::WriteFault),
+                Ok(()) => Ok(()),
+            },
         }
     }
 }

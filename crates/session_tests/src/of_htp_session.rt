@@ -45,11 +45,11 @@ struct Row<'a> {
     given: &'a [u8],
 }
 
-/// The outcome of a conversation.
+/// The outcome of a conversation, and by how many writes its answers were given.
 fn end_of(
     rt: &(impl Abort + Alloc<A = Global> + Threads + Sync),
     row: &Row<'_>,
-) -> Result<Result<(), Stop>, Fail> {
+) -> Result<(Result<(), Stop>, usize), Fail> {
     let alloc = rt.alloc();
     let size = Size::of(11).ok_or("no size")?;
     let (reads, writes) = (Vec::new(alloc), Vec::new(alloc));
@@ -66,7 +66,7 @@ fn end_of(
     };
     let end = converse(alloc, &mut devices, &options(), size, row.limit);
     assert_eq!(rt; link.given(), row.given);
-    Ok(end)
+    Ok((end, link.write_count()))
 }
 
 #[test]
@@ -86,8 +86,35 @@ fn limits(rt: HostRuntime) -> Result<(), Fail> {
                 limit,
                 given,
             };
-            assert_eq!(rt; end_of(&rt, &row)?, outcome);
+            let (end, _writes) = end_of(&rt, &row)?;
+            assert_eq!(rt; end, outcome);
         }
+    }
+    Ok(())
+}
+
+/// The answers to the lines of one read are given by one write. Those before a request that uses
+/// something up are given before it is asked.
+#[test]
+fn given_together(rt: HostRuntime) -> Result<(), Fail> {
+    let rows: [(&[u8], &[u8], usize); 6] = [
+        (b"name\nname\n\nname\n", b"= hexd\n\n= hexd\n\n= hexd\n\n", 1),
+        (b"name\nname", b"= hexd\n\n= hexd\n\n", 2),
+        (b"name\nquit\nname\n", b"= hexd\n\n= \n\n", 1),
+        (b"name\ngenmove\nname\n", b"= hexd\n\n? syntax error\n\n= hexd\n\n", 2),
+        (b"name\nloadsgf a\n", b"= hexd\n\n? cannot load file\n\n", 2),
+        (b"genmove\nloadsgf a\n", b"? syntax error\n\n? cannot load file\n\n", 2),
+    ];
+    for (input, given, writes) in rows {
+        let row = Row {
+            input,
+            piece: 100,
+            limit: 100,
+            given,
+        };
+        let (end, made) = end_of(&rt, &row)?;
+        assert_eq!(rt; end, Ok(()));
+        assert_eq!(rt; made, writes);
     }
     Ok(())
 }

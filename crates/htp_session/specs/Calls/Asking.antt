@@ -1,28 +1,52 @@
--- What it does to ask the engine. No clause of a public call cites this.
-use Rattle.std.specs.Prelude.{◌≡◌, [], Result, Ok, Err}
+-- What it does to ask the engine over the devices. No clause of a public call cites this.
+use Rattle.std.specs.Prelude.{◌≡◌, ℕ, Bool, List, [], ◌++◌, Option, None, Some, Result, Ok, Err}
 use Rattle.htp_line.specs.declared.request.Request.{Request}
+use Rattle.htp_line.specs.declared.request.Parsed.TheVariants as parsed
 use Rattle.hex_engine.specs.EngineState.{EngineState}
 use Rattle.hex_engine.specs.Supply.{nothing_left}
 use Rattle.hex_engine.specs.Uses.{Answered}
 use Rattle.hex_engine.specs.Replies.{NoTurn}
 use Rattle.hex_engine.specs.Requests.{reaction}
 use Rattle.hex_engine.specs.declared.answers.Answer.{Answer}
-use Rattle.htp_session.specs.Usage.{UsesUp, UsesUpNothing}
+use Rattle.hex_engine.specs.declared.answers.EngineError.{EngineError}
+use Rattle.hex_engine.specs.declared.answers.EngineError.TheVariants.{Memory, Archive}
+use Rattle.htp_session.specs.Talk.{after_reading}
+use Rattle.htp_session.specs.Usage.{AnswersWith, Wants, UsesUp, UsesUpNothing}
 use Rattle.hex_devices.specs.Devices.{DevicesState, shelf_and_archive}
 use Rattle.hex_devices.specs.declared.stops.Stop.{Stop}
-use Rattle.hex_devices.specs.declared.stops.Stop.TheVariants.{ReadFault, WriteFault, Memory}
-use Rattle.hex_devices.specs.declared.stops.Stop.TheVariants.{TooLong, ArchiveFault}
+use Rattle.hex_devices.specs.declared.stops.Stop.TheVariants as stop
+
+-- why a session stops whose engine gave no answer
+abbrev pub stop_of_engine : EngineError → Stop
+stop_of_engine Memory = stop.Memory
+stop_of_engine Archive = stop.ArchiveFault
+
+-- the same of what asks the engine, if it got no answer
+abbrev pub stop_in_asking : {T : Type 0} → Result T EngineError → Option Stop
+stop_in_asking (Ok value) = None
+stop_in_asking (Err error) = Some (stop_of_engine error)
 
 -- the engine answered a request, or wanted memory or a turn, and then it stands as before
 abbrev pub Asks : DevicesState → DevicesState → EngineState → EngineState → Request
-    → Result Answer Stop → Type 0
+    → Result Answer EngineError → Type 0
 Asks old new before after request (Ok answer) =
     Answered before old.shelf new.shelf old.turns new.turns request answer after
-Asks old new before after request (Err ReadFault) = ⊥
-Asks old new before after request (Err WriteFault) = ⊥
 Asks old new before after request (Err Memory) =
     UsesUpNothing before.options (shelf_and_archive old) (shelf_and_archive new)
-Asks old new before after request (Err TooLong) = ⊥
-Asks old new before after request (Err ArchiveFault) =
+Asks old new before after request (Err Archive) =
     UsesUp before.options (shelf_and_archive old) (shelf_and_archive new) nothing_left []
     × (reaction before nothing_left request ≡ Err NoTurn)
+
+-- a request was answered at the end of these bytes; or nothing was used up, and memory or a turn
+-- was wanted
+abbrev pub Replies : DevicesState → DevicesState → EngineState → EngineState → Request
+    → List ℕ → List ℕ → Result Bool EngineError → Type 0
+Replies old new before after request out out_now (Ok quit) =
+    (bytes : List ℕ) × (out_now ≡ out ++ bytes)
+    × AnswersWith before.options (shelf_and_archive old) (shelf_and_archive new)
+    (λ left. after_reading before left (parsed.Request request)) bytes after quit
+Replies old new before after request out out_now (Err Memory) =
+    UsesUpNothing before.options (shelf_and_archive old) (shelf_and_archive new)
+Replies old new before after request out out_now (Err Archive) =
+    Wants before.options (shelf_and_archive old) (shelf_and_archive new) before
+    (λ left. after_reading before left (parsed.Request request))

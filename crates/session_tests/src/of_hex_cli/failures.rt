@@ -198,6 +198,13 @@ fn archive_rooms(rt: HostRuntime) -> Result<(), Fail> {
         };
         assert_eq!(rt; left.link.read_count(), reads, "{words}");
         assert_eq!(rt; left.link.write_count(), given.len(), "{words}");
+        // The answers before a turn were given, also when one read took all lines.
+        let whole = Case {
+            room,
+            piece: 100,
+            ..ample(words, &input)
+        };
+        check(&rt, "archive-rooms-in-one-read", &whole, &given, status)?;
     }
     Ok(())
 }

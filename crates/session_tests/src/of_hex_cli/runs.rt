@@ -172,7 +172,7 @@ pub(super) fn checked<R: Abort + Threads + Sync + Alloc<A = Global>>(
     Ok(left)
 }
 
-/// The same, where no more is asked of it.
+/// The same, if no more is asked of it.
 pub(super) fn check<R: Abort + Threads + Sync + Alloc<A = Global>>(
     rt: &R,
     name: &str,

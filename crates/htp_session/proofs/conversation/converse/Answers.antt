@@ -3,7 +3,7 @@ use Rattle.std.proofs.Common.{◌≡◌, ◌≤◌, ◌+◌, [], ◌++◌, lengt
 use Rattle.hex_engine.specs.EngineState.{opening}
 use Rattle.hex_devices.specs.Devices.{shelf_and_archive}
 use Rattle.htp_session.proofs.Pieces.{length-front}
-use Rattle.htp_session.proofs.Calling.{counts_nothing, counts_then}
+use Rattle.hex_devices.proofs.CountLaws.{counts_nothing, counts_then}
 use Rattle.htp_session.proofs.Conversations.{goes_nothing, goes_on_feeding, conversed_nothing}
 use Rattle.htp_session.proofs.ReadLaws.{took_piece}
 use Rattle.htp_session.proofs.Outcomes.{by_read, by_last, by_feed, by_quit, by_overlong}
@@ -21,7 +21,7 @@ returns-in_default-clause-converses g c = conversed_nothing c.args.options.now c
 
 pub returns-in-Err-clause-converses : goal.returns-in-Err-clause-converses
 returns-in-Err-clause-converses g c =
-    by_read c.args.options.now c.args.size c.args.limit c.args.devices.now c.pieces.devices c.read.new.self c.pieces.session c.read.new.buffer c.pieces.total c.in-Err.stop c.pieces.invariant.in_limit c.pieces.invariant.goes c.in-Err.ensures.shelf_and_archive c.in-Err.ensures.reads
+    by_read c.args.options.now c.args.size c.args.limit c.args.devices.now c.pieces.devices c.read.new.self c.pieces.session c.pieces.total c.pieces.invariant.in_limit c.pieces.invariant.goes c.in-Err.ensures.shelf_and_archive c.in-Err.ensures.reads
 
 pub returns-in-Err-clause-counts : goal.returns-in-Err-clause-counts
 returns-in-Err-clause-counts g c = counts_then c.args.devices.now c.pieces.devices _ _ c.pieces.invariant.counts c.in-Err.ensures.counts

@@ -1,20 +1,21 @@
 -- The answer to the last line.
-use Rattle.std.proofs.Common.{◌≡◌, true, false, rules}
-use Rattle.htp_session.proofs.Advances.{answered_last, no_last}
-use Rattle.htp_session.proofs.Calling.{stopped_end}
+use Rattle.std.proofs.Common.{◌≡◌, true, false, [], rules, sym}
+use Rattle.hex_io.proofs.GaveLaws.{Gave-nothing}
+use Rattle.htp_session.proofs.Advances.{no_last}
+use Rattle.htp_session.proofs.Calling.{stopped_end, last_answered}
 use Rattle.htp_session.proofs.session.Session.last.Goals as goal
 
 pub returns-then-not-finish-clause-answers : goal.returns-then-not-finish-clause-answers
 returns-then-not-finish-clause-answers g c =
     let ended : c.finish.new.self.ended ≡ false = search rules in
-    no_last _ _ _ c.finish.new.self _ c.finish.ensures.stream ended c.clear.ensures.items
+    ([], ([], sym c.clear.ensures.items, Gave-nothing _), no_last _ _ _ c.finish.new.self c.finish.ensures.stream ended)
 
 pub returns-in-Err-clause-answers : goal.returns-in-Err-clause-answers
 returns-in-Err-clause-answers g c =
     let ended : c.finish.new.self.ended ≡ true = search rules in
-    stopped_end c.args.devices.now c.answer.new.devices c.args.self.now c.answer.new.self c.answer.new.self.engine c.finish.new.self c.clear.new.self.items c.answer.new.self.out.items c.in-Err.stop c.finish.ensures.stream ended c.in-Err.ensures.writes
+    stopped_end c.args.devices.now c.answer.new.devices c.args.self.now c.answer.new.self c.answer.new.self.engine c.finish.new.self c.clear.new.self.items c.answer.new.self.out.items c.in-Err.stop c.clear.ensures.items c.finish.ensures.stream ended c.in-Err.ensures.writes
 
 pub returns-in-Ok-clause-answers : goal.returns-in-Ok-clause-answers
 returns-in-Ok-clause-answers g c =
     let ended : c.finish.new.self.ended ≡ true = search rules in
-    answered_last _ _ _ c.answer.new.self.engine _ c.finish.new.self _ _ c.in-Ok.field-0 c.finish.ensures.stream ended c.clear.ensures.items c.in-Ok.ensures.writes
+    last_answered c.args.devices.now c.answer.new.devices c.args.self.now c.answer.new.self c.finish.new.self c.clear.new.self.items c.in-Ok.field-0 c.clear.ensures.items c.finish.ensures.stream ended c.in-Ok.ensures.writes

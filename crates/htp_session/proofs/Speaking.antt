@@ -1,0 +1,131 @@
+-- What is said to a line at once, and what is asked for it.
+use Rattle.std.proofs.Common.{◌≡◌, ◌++◌, ◌∙◌, ℕ, Bool, true, false, List, [], Option, Some, None, Result, Ok, Err, refl, ap, sym, subst}
+use Rattle.std.specs.Prelude.{IfOk, OnOk}
+use Rattle.hex_io.specs.Grew.{Gave, GaveProperPart}
+use Rattle.hex_io.proofs.GaveLaws.{Gave-nothing}
+use Rattle.htp_line.specs.declared.request.Request.{Request}
+use Rattle.htp_line.specs.declared.request.Parsed.TheVariants as parsed
+use Rattle.hex_engine.specs.EngineState.{EngineState}
+use Rattle.hex_engine.specs.Supply.{Supply}
+use Rattle.hex_engine.specs.Requests.{AnsweredQuietly, replied}
+use Rattle.hex_engine.specs.declared.answers.Answer.{Answer}
+use Rattle.hex_engine.specs.declared.answers.EngineError.{EngineError}
+use Rattle.hex_engine.specs.declared.answers.EngineError.TheVariants as engine
+use Rattle.hex_devices.specs.Devices.{DevicesState, shelf_and_archive}
+use Rattle.hex_devices.specs.declared.stops.Stop.{Stop}
+use Rattle.hex_devices.specs.declared.stops.Stop.TheVariants.{WriteFault, Memory}
+use Rattle.htp_session.specs.Talk.{TalkState, Going, after_reaction, after_reading, ending_if, is_quit, reply_text}
+use Rattle.htp_session.specs.Usage.{AnswersWith, Wants, UsesUpNothing}
+use Rattle.htp_session.specs.Calls.Answering.{Speaks, SpeaksToRequest, Writes, WritesReply}
+use Rattle.htp_session.specs.Calls.Asking.{Replies, stop_of_engine}
+use Rattle.htp_session.specs.declared.answering.Said.{Said}
+use Rattle.htp_session.specs.declared.answering.Said.TheVariants.{Whole, Open}
+use Rattle.htp_session.proofs.Advances.{says_nothing_used, nothing_used}
+
+-- ---- at once
+
+-- a refusal was written
+pub refused : {E : Type 0} (at : EngineState) (says : Supply → TalkState) (text old out : List ℕ)
+    (result : Result Said E)
+    → ((later : Supply) → says later ≡ record { text = text; at = at; left = later; ending = Going })
+    → OnOk result (out ≡ old ++ text) → IfOk result (λ said. said ≡ Whole false)
+    → IfOk result (Speaks at at says old out)
+refused at says text old out (Ok said) is wrote whole = rw whole (text, wrote, is)
+refused at says text old out (Err error) is wrote whole = tt
+
+-- a request that uses nothing up was answered
+pub spoken : (before after : EngineState) (request : Request) (answered : Option Answer)
+    (answer : Answer) (old out : List ℕ) (quit : Bool)
+    → AnsweredQuietly before request after answered → answered ≡ Some answer
+    → out ≡ old ++ reply_text request.id (replied answer) → quit ≡ is_quit (replied answer)
+    → SpeaksToRequest before after request old out (Whole quit)
+spoken before after request answered answer old out quit quietly is wrote q =
+    let reacts = subst (AnsweredQuietly before request after) is quietly in
+    rw q (
+      reply_text request.id (replied answer),
+      wrote,
+      λ later. ap (after_reaction before later request.id) (reacts later),
+    )
+
+-- one that uses something up was not
+pub unspoken : (before after : EngineState) (request : Request) (answered : Option Answer)
+    (out : List ℕ) → AnsweredQuietly before request after answered → answered ≡ None
+    → SpeaksToRequest before after request out out (Open request)
+unspoken before after request answered out quietly is =
+    (refl, subst (AnsweredQuietly before request after) is quietly, λ later. refl)
+
+-- ---- over the devices
+
+-- what was said at once is held
+pub held_whole : (d : DevicesState) (before after : EngineState) (says : Supply → TalkState)
+    (held held_now : List ℕ) (quit : Bool)
+    → Speaks before after says held held_now (Whole quit)
+    → Writes d d before after says held held_now (Ok quit)
+held_whole d before after says held held_now quit s = (
+  s.0,
+  ([], sym s.1, Gave-nothing d.link),
+  says_nothing_used before.options (shelf_and_archive d) says s.0 after quit s.2,
+)
+
+-- what a request comes to, the line comes to
+pub written_line : (old new : DevicesState) (before mid after : EngineState)
+    (says : Supply → TalkState) (held held_mid held_now : List ℕ) (request : Request)
+    (result : Result Bool Stop)
+    → Speaks before mid says held held_mid (Open request)
+    → WritesReply old new mid after request held_mid held_now result
+    → Writes old new before after says held held_now result
+written_line old new before mid after says held held_mid held_now request result s w =
+    let at_first : WritesReply old new before after request held held_now result =
+        subst (λ h. WritesReply old new before after request h held_now result) s.0
+        (subst (λ e. WritesReply old new e after request held_mid held_now result) s.1 w) in
+    subst (λ said. Writes old new before after said held held_now result)
+    (λ i later. sym (s.2 later) i) at_first
+
+-- memory ran out: what was held was given, or a front of it
+pub ran_out : (old new : DevicesState) (before after : EngineState) (says : Supply → TalkState)
+    (held held_mid held_now : List ℕ) → held_mid ≡ held → Gave old.link new.link held_mid
+    → shelf_and_archive new ≡ shelf_and_archive old
+    → Writes old new before after says held held_now (Err Memory)
+ran_out old new before after says held held_mid held_now is gave same =
+    (
+      subst (Gave old.link new.link) is gave,
+      subst (UsesUpNothing before.options (shelf_and_archive old)) (sym same)
+          (nothing_used before.options (shelf_and_archive old)),
+    )
+
+pub ran_out_unwritten : (old new : DevicesState) (before after : EngineState)
+    (says : Supply → TalkState) (held held_mid held_now : List ℕ) → held_mid ≡ held
+    → GaveProperPart old.link new.link held_mid → shelf_and_archive new ≡ shelf_and_archive old
+    → Writes old new before after says held held_now (Err WriteFault)
+ran_out_unwritten old new before after says held held_mid held_now is part same =
+    (subst (GaveProperPart old.link new.link) is part, same)
+
+-- a request was answered after what was held had been given
+pub replied_after : (old mid new : DevicesState) (before after : EngineState) (request : Request)
+    (held none held_now : List ℕ) (quit : Bool) → Gave old.link mid.link held → none ≡ []
+    → shelf_and_archive mid ≡ shelf_and_archive old → new.link ≡ mid.link
+    → Replies mid new before after request none held_now (Ok quit)
+    → WritesReply old new before after request held held_now (Ok quit)
+replied_after old mid new before after request held none held_now quit gave empty same link r =
+    let is : held_now ≡ r.0 = r.1 ∙ ap (λ l. l ++ r.0) empty in
+    let says : Supply → TalkState = λ left. after_reading before left (parsed.Request request) in (
+      r.0,
+      (held, ap (λ l. held ++ l) (sym is), subst (λ l. Gave old.link l held) (sym link) gave),
+      subst (λ a. AnswersWith before.options a (shelf_and_archive new) says r.0 after quit) same r.2,
+    )
+
+pub unreplied_after : (old mid new : DevicesState) (before after : EngineState)
+    (request : Request) (held none held_now : List ℕ) (error : EngineError)
+    → Gave old.link mid.link held → shelf_and_archive mid ≡ shelf_and_archive old
+    → new.link ≡ mid.link → Replies mid new before after request none held_now (Err error)
+    → WritesReply old new before after request held held_now (Err (stop_of_engine error))
+unreplied_after old mid new before after request held none held_now engine.Memory gave same link r =
+    (
+      subst (λ l. Gave old.link l held) (sym link) gave,
+      subst (λ a. UsesUpNothing before.options a (shelf_and_archive new)) same r,
+    )
+unreplied_after old mid new before after request held none held_now engine.Archive gave same link r =
+    let says : Supply → TalkState = λ left. after_reading before left (parsed.Request request) in (
+      subst (λ l. Gave old.link l held) (sym link) gave,
+      subst (λ a. Wants before.options a (shelf_and_archive new) before says) same r,
+    )

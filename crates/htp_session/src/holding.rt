@@ -1,0 +1,55 @@
+//! Gives what is held: the answers that were written and not given yet.
+
+ghost use Rattle.std.specs.Prelude.{◌≡◌, [], OnErr, OnOk};
+ghost use Rattle.hex_io.specs.Grew.{GaveProperPart};
+ghost use Rattle.hex_devices.specs.Calls.{GivesAll};
+ghost use Rattle.hex_devices.specs.Devices.{CountsOnly, shelf_and_archive};
+ghost use Rattle.hex_devices.specs.declared.stops.Stop.{Stop};
+ghost use Rattle.htp_session.specs.Calls.Holding.{Passes};
+
+use hex_devices::{Devices, WriteFault};
+use hex_io::{Link, Shelf};
+use hex_plan::Archive;
+use search_team::Gate;
+use std::thread::Threads;
+
+/// So many bytes are held at most before the next line is looked at: as many as a pipe takes, so
+/// that one who reads along needn't wait for more.
+const MOST_HELD: usize = 65_536;
+
+/// Gives all that is held. Nothing is held then.
+pub fn give_held<L: Link, F: Shelf, A: Archive, R: Threads + Sync, G: Gate + Sync>(
+    devices: &mut Devices<'_, '_, '_, '_, L, F, A, R, G>,
+    held: &mut Vec<u8>,
+) -> Result<(), WriteFault>
+    ensures gives { GivesAll devices.old devices.new held.old.items result }
+    ensures empty { OnOk result (held.new.items ≡ []) }
+    ensures shelf_and_archive { shelf_and_archive devices.new ≡ shelf_and_archive devices.old }
+    ensures counts { CountsOnly Stop.WriteFault devices.old devices.new result }
+{
+    match devices.give(&*held) {
+        Err(fault) => Err(fault),
+        Ok(()) => {
+            held.clear();
+            Ok(())
+        }
+    }
+}
+
+/// Gives all that is held, if that is much.
+pub fn relieve<L: Link, F: Shelf, A: Archive, R: Threads + Sync, G: Gate + Sync>(
+    devices: &mut Devices<'_, '_, '_, '_, L, F, A, R, G>,
+    held: &mut Vec<u8>,
+) -> Result<(), WriteFault>
+    ensures passes { OnOk result
+        (Passes devices.old.link devices.new.link held.old.items [] held.new.items) }
+    ensures part { OnErr result
+        (GaveProperPart devices.old.link devices.new.link held.old.items) }
+    ensures shelf_and_archive { shelf_and_archive devices.new ≡ shelf_and_archive devices.old }
+    ensures counts { CountsOnly Stop.WriteFault devices.old devices.new result }
+{
+    if held.len() <= MOST_HELD {
+        return Ok(());
+    }
+    give_held(devices, held)
+}
