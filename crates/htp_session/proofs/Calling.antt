@@ -43,7 +43,7 @@ stopped_advance old new before after engine held piece n out_now ArchiveFault st
 no_proper_part : (a b : Option Told) (out : List ℕ) → out ≡ [] → GaveProperPart a b out → ⊥
 no_proper_part a b out none part =
     let all : 0 ≡ length part.0 + length part.1 =
-        ap length (sym none ∙ part.2) ∙ length-append part.0 part.1 in
+    ap length (sym none ∙ part.2) ∙ length-append part.0 part.1 in
     absurd (omega (arith, all, part.3))
 
 pub stopped_end : (old new : DevicesState) (before after : Session) (engine : EngineState)
@@ -124,7 +124,7 @@ take_line : (old mid new : DevicesState) (before session after : Session) (piece
     → HoldsTo old mid before session.out.items session.engine session.splitter (take at piece)
     → AdvancesBy mid new session after (rest_of piece at) (Ok m)
     → Does (shelf_and_archive old) (shelf_and_archive new) [] before.engine before.splitter
-        (Holding quit old.link new.link after.out.items after.engine after.splitter (take (at + m.used) piece))
+    (Holding quit old.link new.link after.out.items after.engine after.splitter (take (at + m.used) piece))
 take_line old mid new before session after piece at m quit is holds a =
     subst (λ q. Does (shelf_and_archive old) (shelf_and_archive new) [] before.engine before.splitter
     (Holding q old.link new.link after.out.items after.engine after.splitter (take (at + m.used) piece))) is
@@ -202,8 +202,7 @@ pub end_unwritten : (old mid new : DevicesState) (before after : Session)
     → shelf_and_archive new ≡ shelf_and_archive mid → Finishes old new before (Err WriteFault)
 end_unwritten old mid new before after a part same =
     let given = a.1.0 in
-    rw same (last_broke_off old.link new.link (shelf_and_archive old) (shelf_and_archive mid) before.engine before.splitter a.0 a.2
-    (
+    rw same (last_broke_off old.link new.link (shelf_and_archive old) (shelf_and_archive mid) before.engine before.splitter a.0 a.2 (
       given ++ part.0,
       part.1,
       a.1.1 ∙ ap (λ l. given ++ l) part.2 ∙ sym (append_assoc given part.0 part.1),

@@ -73,7 +73,7 @@ holds_then a b c start all held bytes now seen m n p pass answers =
     let given = pass.0 in
     let gave = p.gave.0 in
     let same : (gave ++ held) ++ bytes ≡ (gave ++ given) ++ now =
-        append_assoc gave held bytes ∙ ap (λ l. gave ++ l) pass.1 ∙ sym (append_assoc gave given now) in
+    append_assoc gave held bytes ∙ ap (λ l. gave ++ l) pass.1 ∙ sym (append_assoc gave given now) in
     record {
       gave = (
         gave ++ given,
@@ -91,7 +91,7 @@ holds_less a b c start all held now seen m p pass =
     let given = pass.0 in
     let gave = p.gave.0 in
     let same : gave ++ held ≡ (gave ++ given) ++ now =
-        ap (λ l. gave ++ l) (sym (append-nil held) ∙ pass.1) ∙ sym (append_assoc gave given now) in
+    ap (λ l. gave ++ l) (sym (append-nil held) ∙ pass.1) ∙ sym (append_assoc gave given now) in
     record {
       gave = (
         gave ++ given,

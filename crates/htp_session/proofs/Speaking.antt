@@ -76,8 +76,8 @@ pub written_line : (old new : DevicesState) (before mid after : EngineState)
     → Writes old new before after says held held_now result
 written_line old new before mid after says held held_mid held_now request result s w =
     let at_first : WritesReply old new before after request held held_now result =
-        subst (λ h. WritesReply old new before after request h held_now result) s.0
-        (subst (λ e. WritesReply old new e after request held_mid held_now result) s.1 w) in
+    subst (λ h. WritesReply old new before after request h held_now result) s.0
+    (subst (λ e. WritesReply old new e after request held_mid held_now result) s.1 w) in
     subst (λ said. Writes old new before after said held held_now result)
     (λ i later. sym (s.2 later) i) at_first
 
@@ -86,12 +86,11 @@ pub ran_out : (old new : DevicesState) (before after : EngineState) (says : Supp
     (held held_mid held_now : List ℕ) → held_mid ≡ held → Gave old.link new.link held_mid
     → shelf_and_archive new ≡ shelf_and_archive old
     → Writes old new before after says held held_now (Err Memory)
-ran_out old new before after says held held_mid held_now is gave same =
-    (
-      subst (Gave old.link new.link) is gave,
-      subst (UsesUpNothing before.options (shelf_and_archive old)) (sym same)
-          (nothing_used before.options (shelf_and_archive old)),
-    )
+ran_out old new before after says held held_mid held_now is gave same = (
+  subst (Gave old.link new.link) is gave,
+  subst (UsesUpNothing before.options (shelf_and_archive old)) (sym same)
+      (nothing_used before.options (shelf_and_archive old)),
+)
 
 pub ran_out_unwritten : (old new : DevicesState) (before after : EngineState)
     (says : Supply → TalkState) (held held_mid held_now : List ℕ) → held_mid ≡ held
@@ -119,11 +118,10 @@ pub unreplied_after : (old mid new : DevicesState) (before after : EngineState)
     → Gave old.link mid.link held → shelf_and_archive mid ≡ shelf_and_archive old
     → new.link ≡ mid.link → Replies mid new before after request none held_now (Err error)
     → WritesReply old new before after request held held_now (Err (stop_of_engine error))
-unreplied_after old mid new before after request held none held_now engine.Memory gave same link r =
-    (
-      subst (λ l. Gave old.link l held) (sym link) gave,
-      subst (λ a. UsesUpNothing before.options a (shelf_and_archive new)) same r,
-    )
+unreplied_after old mid new before after request held none held_now engine.Memory gave same link r = (
+  subst (λ l. Gave old.link l held) (sym link) gave,
+  subst (λ a. UsesUpNothing before.options a (shelf_and_archive new)) same r,
+)
 unreplied_after old mid new before after request held none held_now engine.Archive gave same link r =
     let says : Supply → TalkState = λ left. after_reading before left (parsed.Request request) in (
       subst (λ l. Gave old.link l held) (sym link) gave,

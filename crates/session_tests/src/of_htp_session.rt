@@ -98,12 +98,24 @@ fn limits(rt: HostRuntime) -> Result<(), Fail> {
 #[test]
 fn given_together(rt: HostRuntime) -> Result<(), Fail> {
     let rows: [(&[u8], &[u8], usize); 6] = [
-        (b"name\nname\n\nname\n", b"= hexd\n\n= hexd\n\n= hexd\n\n", 1),
+        (
+            b"name\nname\n\nname\n",
+            b"= hexd\n\n= hexd\n\n= hexd\n\n",
+            1,
+        ),
         (b"name\nname", b"= hexd\n\n= hexd\n\n", 2),
         (b"name\nquit\nname\n", b"= hexd\n\n= \n\n", 1),
-        (b"name\ngenmove\nname\n", b"= hexd\n\n? syntax error\n\n= hexd\n\n", 2),
+        (
+            b"name\ngenmove\nname\n",
+            b"= hexd\n\n? syntax error\n\n= hexd\n\n",
+            2,
+        ),
         (b"name\nloadsgf a\n", b"= hexd\n\n? cannot load file\n\n", 2),
-        (b"genmove\nloadsgf a\n", b"? syntax error\n\n? cannot load file\n\n", 2),
+        (
+            b"genmove\nloadsgf a\n",
+            b"? syntax error\n\n? cannot load file\n\n",
+            2,
+        ),
     ];
     for (input, given, writes) in rows {
         let row = Row {

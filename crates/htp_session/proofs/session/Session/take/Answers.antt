@@ -50,7 +50,7 @@ lines-preserved g c = record {
   in_piece = grind (arith, common_steps, c.in-Ok-advance.ensures.used.1);
   holds = take_on c.args.devices.now c.relieve.new.devices c.advance.new.devices c.args.self.now (record c.lines.self { out = c.relieve.new.held }) c.advance.new.self c.args.piece.now c.lines.at c.in-Ok-advance.moved c.if-moved.false
       (take_relieved c.args.devices.now c.lines.devices c.relieve.new.devices c.args.self.now c.lines.self.engine c.lines.self.splitter _ c.relieve.new.held.items _
-    c.lines.invariant.holds c.in-Ok.ensures.passes c.in-Ok.ensures.shelf_and_archive)
+      c.lines.invariant.holds c.in-Ok.ensures.passes c.in-Ok.ensures.shelf_and_archive)
       c.in-Ok-advance.ensures.advances;
   counts = counts_then c.args.devices.now c.lines.devices _ _ c.lines.invariant.counts
       (counts_then c.lines.devices c.relieve.new.devices _ _ c.in-Ok.ensures.counts c.in-Ok-advance.ensures.counts);
