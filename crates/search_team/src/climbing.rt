@@ -12,9 +12,10 @@ ghost use Rattle.search_team.specs.Runs.{HasRun};
 use tree_rule::{Tree, TreeSeat};
 use walker::{Climb, Walker};
 
-// Makes the next add of the climb, which the walker lent.
+// Makes the next add of the climb, which the walker lent, and answers whether the half in hand has
+// another.
 #[inline(always)]
-fn add(tree: &Tree, seat: &mut TreeSeat, walker: &Walker, climb: &mut Climb)
+fn add(tree: &Tree, seat: &mut TreeSeat, walker: &Walker, climb: &mut Climb) -> bool
     requires own { IsOf tree.now seat.old }
     requires belongs { Belongs (with_climb walker.now climb.old) seat.old.view }
     requires more { climb.old ≢ [] }
@@ -27,10 +28,28 @@ fn add(tree: &Tree, seat: &mut TreeSeat, walker: &Walker, climb: &mut Climb)
     ensures node { walker.now.node < PAST_WORDS }
 {
     let _answer = seat.act(tree, climb.op());
-    climb.got();
+    climb.got()
 }
 
-/// If the walker adds to a block's seen words, makes all its adds there.
+// Makes the adds of the climb, which the walker lent, of the half in hand.
+#[inline(always)]
+fn add_half(tree: &Tree, seat: &mut TreeSeat, walker: &Walker, climb: &mut Climb)
+    requires own { IsOf tree.now seat.old }
+    requires belongs { Belongs (with_climb walker.now climb.old) seat.old.view }
+    ensures own { IsOf tree.now seat.new }
+    ensures run { HasRun (with_climb walker.now climb.old) seat.old.view
+        (with_climb walker.now climb.new) seat.new.view }
+    ensures node { climb.old ≢ [] → walker.now.node < PAST_WORDS }
+{
+    'adds: while !climb.is_done() {
+        if !add(tree, seat, walker, climb) {
+            return;
+        }
+    }
+}
+
+/// If the walker adds to a block's seen words, makes all its adds there, each half's in a loop of
+/// its own.
 #[inline(always)]
 pub(crate) fn make_seen_adds(tree: &Tree, seat: &mut TreeSeat, walker: &mut Walker)
     requires own { IsOf tree.now seat.old }
@@ -41,8 +60,7 @@ pub(crate) fn make_seen_adds(tree: &Tree, seat: &mut TreeSeat, walker: &mut Walk
     let Some(mut climb) = walker.climb() else {
         return;
     };
-    'adds: while !climb.is_done() {
-        add(tree, seat, walker, &mut climb);
-    }
+    add_half(tree, seat, walker, &mut climb);
+    add_half(tree, seat, walker, &mut climb);
     walker.put_climb(climb);
 }

@@ -12,8 +12,8 @@
 //!
 //! **Speed.** The looks at a block's children and the adds to its seen words are most of a walk,
 //! and the words of a new block come many at a time. A worker takes the walker's small machine for
-//! them out, runs it in a loop of its own, and puts it back: the steps and their order are the
-//! same.
+//! them out, runs it in a loop of its own, and puts it back. The four looks at a block's header
+//! have a loop in which the stage is known. The steps and their order are the same.
 //!
 //! **What is proved.** `work` ends: each draw gives a number that its worker hasn't drawn, and a
 //! walk has a bounded number of steps. It takes no memory and never waits. `search` gives a closed
@@ -45,14 +45,18 @@
 //!   say what three single calls do: so it doesn't ask in which word of a child it is, and its
 //!   state stays in a local. The order of the steps is the same. Looks after a child without visits
 //!   have a loop of their own, since nothing is chosen there any more.
+//! - The adds of each half of a block have a loop of their own, which keeps one half in registers:
+//!   a loop over both moved six registers about for each add.
 //! - Full scores stand in the loop too: kept out of it by a call they took 4 % more instructions of
 //!   a search, since a call's saved registers are paid for each child.
 #![tactic(auto)]
 
 mod climbing;
 mod counting;
+mod heading;
 mod scanning;
 mod searching;
+mod stepping;
 mod working;
 mod writing;
 

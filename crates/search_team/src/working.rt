@@ -1,37 +1,20 @@
 //! One worker's loop.
 
-ghost use Rattle.std.specs.Prelude.{◌≡◌, ◌≢◌, ◌<◌};
-ghost use Rattle.tree_words.specs.declared.steps.Op.TheVariants.{Done};
-ghost use Rattle.walker.specs.Machine.{op_of};
+ghost use Rattle.std.specs.Prelude.{◌≡◌};
 ghost use Rattle.walker.specs.Belongs.{Belongs};
-ghost use Rattle.lone_worker.specs.Alone.{MakesStep};
 ghost use Rattle.tree_rule.specs.Seats.{IsOf};
 ghost use Rattle.search_team.specs.WorkLeft.{work_left};
 ghost use Rattle.search_team.specs.Works.{IsFresh, IsDone, WorksAsSequence};
 
 use super::climbing::make_seen_adds;
+use super::heading::look_at_header;
 use super::scanning::look_at_children;
+use super::stepping::step;
 use super::writing::write_new_nodes;
 use seq_search::Gate;
 use tree_rule::{Tree, TreeSeat};
 use tree_words::{Op, Shape};
 use walker::Walker;
-
-// Makes the walker's next step on the words of the tree.
-#[inline(always)]
-fn step(tree: &Tree, seat: &mut TreeSeat, walker: &mut Walker, op: Op)
-    requires own { IsOf tree.now seat.old }
-    requires belongs { Belongs walker.old seat.old.view }
-    requires next { op ≡ op_of walker.old }
-    requires some { op ≢ Done }
-    ensures own { IsOf tree.now seat.new }
-    ensures belongs { Belongs walker.new seat.new.view }
-    ensures step { MakesStep walker.old seat.old.view walker.new seat.new.view }
-    ensures fewer { work_left walker.new seat.new.view < work_left walker.old seat.old.view }
-{
-    let answer = seat.act(tree, op);
-    walker.got(answer);
-}
 
 /// Lets one worker work until its draw answers that no playout is left. The seat is of this tree
 /// of this shape, stands for one worker and has drawn nothing. If he is the only one and the
@@ -60,6 +43,7 @@ pub fn work<G: Gate>(tree: &Tree, seat: &mut TreeSeat, shape: &Shape, worker: u3
         // Most of a walk's steps are these: each kind has a loop of its own. A walk's first add is
         // no seen add.
         write_new_nodes(tree, seat, &mut walker);
+        look_at_header(tree, seat, &mut walker);
         look_at_children(tree, seat, &mut walker);
         make_seen_adds(tree, seat, &mut walker);
     }

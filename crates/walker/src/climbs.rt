@@ -151,22 +151,24 @@ impl Climb {
         Op::Add(self.half.first + NODE_WORDS as u32 * place, self.won)
     }
 
-    /// Goes on after the next add was made.
+    /// Goes on after the next add was made, and answers whether the half in hand has another: a
+    /// loop over one half needs no more than that half in registers.
     #[inline(always)]
-    pub fn got(&mut self)
+    pub fn got(&mut self) -> bool
         ensures { self.new ≡ adds_after self.old }
     {
         let left = self.half.left;
         if left == 0 {
-            return;
+            return false;
         }
         let rest = left ^ 1 << left.trailing_zeros();
-        if rest != 0 {
-            self.half.left = rest;
-        } else {
+        if rest == 0 {
             self.half = self.next;
             self.next = Half::none();
+            return false;
         }
+        self.half.left = rest;
+        true
     }
 
     /// Whether no add is left.

@@ -1,6 +1,6 @@
 //! The way down: from the root to a node, by its link, its block's header and its children.
 
-ghost use Rattle.std.specs.Prelude.{◌≡◌, ◌≢◌, ◌<◌, ◌≤◌, MatchOption};
+ghost use Rattle.std.specs.Prelude.{◌≡◌, ◌≢◌, ◌+◌, ◌<◌, ◌≤◌, IsTrue, MatchOption};
 ghost use Rattle.hex_board.specs.Positions.{Within};
 ghost use Rattle.walker.specs.Machine.{at_block, at_leaf, at_node, chosen, drawn, headed};
 ghost use Rattle.walker.specs.Machine.{linked, rooted, scanned, set_in, with_scan};
@@ -13,7 +13,7 @@ use super::stages::Stage;
 use super::ways::Level;
 use hex_cells::{CellSet, Size};
 use play_out::play;
-use tree_words::layout::{HEADER_WORDS, LINK_WORD, NODE_WORDS, RECORDS_AT, TALLY_WORD};
+use tree_words::layout::{HEADER_WORDS, LINK_WORD, NODE_WORDS, TALLY_WORD};
 use tree_words::visits_of;
 use uct_table::MOST_COUNT;
 
@@ -27,7 +27,7 @@ impl Walker {
         if answer < u64::from(playouts) {
             self.number = answer as u32;
             self.stage = Stage::Rooting;
-            self.at = playouts + (RECORDS_AT + TALLY_WORD) as u32;
+            self.at = self.shape.root() + TALLY_WORD as u32;
         } else {
             self.stage = Stage::Ended;
         }
@@ -39,7 +39,7 @@ impl Walker {
         ensures { self.new ≡ rooted self.old answer }
     {
         self.way.clear();
-        self.node = self.shape.knobs().playouts + RECORDS_AT as u32;
+        self.node = self.shape.root();
         self.board = *self.shape.board();
         self.player = self.shape.colour();
         self.visits = visits_of(answer);
@@ -82,6 +82,7 @@ impl Walker {
 
     /// After a look at a header word.
     #[tactic(auto, unfolding(crate::specs::Machine::headed))]
+    #[inline(always)]
     pub(crate) fn head(&mut self)
         requires node { self.old.node < PAST_WORDS }
         requires start { self.old.start < PAST_WORDS }
@@ -92,8 +93,21 @@ impl Walker {
     {
         if self.at + 1 < self.start + HEADER_WORDS as u32 {
             self.at += 1;
-            return;
+        } else {
+            self.begin_scan();
         }
+    }
+
+    // After the last header word: the children are next, if there are any.
+    #[inline(never)]
+    fn begin_scan(&mut self)
+        requires node { self.old.node < PAST_WORDS }
+        requires start { self.old.start < PAST_WORDS }
+        requires last { self.old.start + HEADER_WORDS ≤ self.old.at + 1 }
+        requires visits { self.old.visits ≤ MOST_COUNT }
+        requires size { self.old.board.size ≡ self.old.shape.board.size }
+        ensures { self.new ≡ headed self.old }
+    {
         let count = self.cells().count();
         if count == 0 {
             self.play_out();
@@ -110,7 +124,7 @@ impl Walker {
             → Within self.now.shape.board.size result }
         ensures size { self.now.shape.board.size ≤ Size.MAX }
     {
-        // Brings what the type keeps into scope: the board bounds its cells.
+        // The board bounds its cells.
         let _size = self.shape.board().size();
         if self.way.is_none() {
             self.shape.allowed()
@@ -130,6 +144,14 @@ impl Walker {
         if self.scan.is_done() {
             self.choose();
         }
+    }
+
+    /// Whether a header word of the block below the node is looked at next.
+    #[inline(always)]
+    pub fn is_at_header(&self) -> bool
+        ensures { IsTrue result → self.now.stage ≡ Stage.Heading }
+    {
+        matches!(self.stage, Stage::Heading)
     }
 
     /// The scan of the block below the node, if the walker is in one; `None` exactly elsewhere.

@@ -10,7 +10,7 @@ use super::ways::Way;
 use hex_board::Board;
 use hex_cells::Colour;
 use play_out::Ending;
-use tree_words::layout::{HEADER_WORDS, MOST_BLOCK_WORDS, MOST_NODES, RECORD_UNIT, RECORDS_AT};
+use tree_words::layout::{HEADER_WORDS, MOST_BLOCK_WORDS, MOST_NODES, RECORD_UNIT};
 use tree_words::{Op, Shape};
 
 /// The looks at a child: its move, its tally and its seen word.
@@ -92,7 +92,7 @@ impl Walker {
             full: false,
             number: 0,
             at: 0,
-            node: shape.knobs().playouts + RECORDS_AT as u32,
+            node: shape.root(),
             board,
             player: shape.colour(),
             way: Way::none(),

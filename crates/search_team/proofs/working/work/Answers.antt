@@ -27,7 +27,10 @@ steps-preserved g c = record {
   alone = λ one e.
       let run = c.steps.invariant.alone one e in
       let one_more : HasRunAlone c.args.shape.now c.step.new.walker c.step.new.seat.view = (suc run.0, (c.steps.walker, c.steps.seat.view, run.1, c.step.ensures.step)) in
-      c.make_seen_adds.ensures.run.alone c.args.shape.now (c.look_at_children.ensures.run.alone c.args.shape.now (c.write_new_nodes.ensures.run.alone c.args.shape.now one_more));
+      let s = c.args.shape.now in
+      let written = c.write_new_nodes.ensures.run.alone s one_more in
+      let headed = c.look_at_header.ensures.run.alone s written in
+      c.make_seen_adds.ensures.run.alone s (c.look_at_children.ensures.run.alone s headed);
 }
 
 pub returns-then-eq-clause-sequence : goal.returns-then-eq-clause-sequence

@@ -1,17 +1,18 @@
--- The walker has run to where the climb stands.
-use Rattle.std.proofs.Common.{◌≡◌, ◌<◌, []}
+-- The walker has run on from where the climb stood to where it stands.
+use Rattle.std.proofs.Common.{◌≡◌, ◌≢◌, ◌<◌, []}
 use Rattle.walker.specs.Machine.{with_climb}
 use Rattle.walker.specs.declared.TheConstants.{PAST_WORDS}
 use Rattle.tree_rule.specs.Seats.{IsOf}
 use Rattle.search_team.specs.WorkLeft.{work_left}
 use Rattle.search_team.specs.Runs.{HasRun}
-use Rattle.search_team.proofs.climbing.make_seen_adds.Given as goal
+use Rattle.search_team.proofs.climbing.add_half.Given as goal
 
 abbrev pub invariant-adds : goal.invariant-adds
 invariant-adds l = record {
   own : IsOf l.tree l.seat;
-  run : HasRun l.fn.walker l.fn.seat.view (with_climb l.walker l.climb) l.seat.view;
-  node : l.climb ≡ [] → l.walker.node < PAST_WORDS;
+  run : HasRun (with_climb l.walker l.fn.climb) l.fn.seat.view
+      (with_climb l.walker l.climb) l.seat.view;
+  node : l.climb ≡ [] → l.fn.climb ≢ [] → l.walker.node < PAST_WORDS;
 }
 
 abbrev pub decreases-adds : goal.decreases-adds

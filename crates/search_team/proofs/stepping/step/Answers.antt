@@ -5,7 +5,7 @@ use Rattle.arena_rule.specs.Fits.{FitsStep}
 use Rattle.walker.proofs.Fitting.{fits}
 use Rattle.search_team.specs.WorkLeft.{work_left}
 use Rattle.search_team.proofs.Falls.{falls}
-use Rattle.search_team.proofs.working.step.Goals as goal
+use Rattle.search_team.proofs.stepping.step.Goals as goal
 
 pub act-answer-requires-clause-fits : goal.act-answer-requires-clause-fits
 act-answer-requires-clause-fits c =
