@@ -1,5 +1,6 @@
 -- What the calls of a session do, by their results.
-use Rattle.std.proofs.Common.{◌≡◌, ℕ, ◌+◌, Bool, true, false, List, [], ◌++◌, length, take, drop, Ok, Err, sym, ap}
+use Rattle.std.proofs.Common.{◌≡◌, ℕ, ◌+◌, Bool, true, false, List, [], ◌++◌, length, take, drop}
+use Rattle.std.proofs.Common.{Ok, Err, sym, ap}
 use Rattle.std.proofs.Common.{◌∙◌, subst, append-nil, append_assoc, length-append, arith}
 use Rattle.std.proofs.lemmas.List.{take-append-drop}
 use Rattle.hex_io.specs.Told.{Told, Same}
@@ -13,14 +14,18 @@ use Rattle.htp_session.specs.Sessions.{Does, Holding}
 use Rattle.hex_devices.specs.Devices.{DevicesState, shelf_and_archive}
 use Rattle.htp_session.specs.Calls.Answering.{WritesAnswer}
 use Rattle.htp_session.specs.Calls.Holding.{Passes}
-use Rattle.htp_session.specs.Calls.Session.{AdvancesBy, AnswersEnd, TakesPiece, FeedsUpTo, Feeds, Finishes}
+use Rattle.htp_session.specs.Calls.Session.{AdvancesBy, AnswersEnd, TakesPiece, FeedsUpTo, Feeds}
+use Rattle.htp_session.specs.Calls.Session.{Finishes}
 use Rattle.htp_session.specs.declared.session.Moved.{Moved}
 use Rattle.htp_session.specs.declared.session.Session.{Session}
 use Rattle.hex_devices.specs.declared.stops.Stop.{Stop}
-use Rattle.hex_devices.specs.declared.stops.Stop.TheVariants.{ReadFault, WriteFault, Memory, TooLong, ArchiveFault}
+use Rattle.hex_devices.specs.declared.stops.Stop.TheVariants.{ReadFault, WriteFault, Memory}
+use Rattle.hex_devices.specs.declared.stops.Stop.TheVariants.{TooLong, ArchiveFault}
 use Rattle.std.specs.Prelude.{Option}
-use Rattle.htp_session.proofs.Advances.{stopped_line, short_line, answered_last, stopped_last, lacking_last}
-use Rattle.htp_session.proofs.Feeding.{rest_of, held_on, held_less, held_all, held_fed, held_quit, held_unwritten}
+use Rattle.htp_session.proofs.Advances.{stopped_line, short_line, answered_last, stopped_last}
+use Rattle.htp_session.proofs.Advances.{lacking_last}
+use Rattle.htp_session.proofs.Feeding.{rest_of, held_on, held_less, held_all, held_fed, held_quit}
+use Rattle.htp_session.proofs.Feeding.{held_unwritten}
 use Rattle.htp_session.proofs.Feeding.{fed_gave_up, fed_held_back, last_given, last_broke_off}
 
 -- ---- a line for which memory or a turn was wanted
@@ -70,7 +75,8 @@ pub last_answered : (old new : DevicesState) (before after : Session) (held : Sp
 last_answered old new before after held out quit none stream ended w = (
   w.0,
   subst (λ l. Passes old.link new.link l w.0 after.out.items) none w.1,
-  answered_last (shelf_and_archive old) (shelf_and_archive new) before.engine after.engine before.splitter held w.0 quit stream ended w.2,
+  answered_last (shelf_and_archive old)
+      (shelf_and_archive new) before.engine after.engine before.splitter held w.0 quit stream ended w.2,
 )
 
 -- ---- a piece
@@ -111,11 +117,13 @@ take_stopped old mid new before session after piece at ReadFault holds a = absur
 take_stopped old mid new before session after piece at WriteFault holds a =
     take_unwritten old mid new before session.engine session.splitter session.out.items piece at holds a.0 a.1
 take_stopped old mid new before session after piece at Memory holds a =
-    fed_gave_up old.link new.link (shelf_and_archive old) (shelf_and_archive mid) (shelf_and_archive new) before.engine session.engine before.splitter session.splitter piece at
+    fed_gave_up old.link new.link (shelf_and_archive old) (shelf_and_archive mid)
+    (shelf_and_archive new) before.engine session.engine before.splitter session.splitter piece at
     (held_all old.link mid.link new.link (shelf_and_archive old) (shelf_and_archive mid) before.engine session.engine before.splitter session.splitter session.out.items (take at piece) holds a.0) a.1
 take_stopped old mid new before session after piece at TooLong holds a = absurd a
 take_stopped old mid new before session after piece at ArchiveFault holds a =
-    fed_held_back old.link new.link (shelf_and_archive old) (shelf_and_archive mid) (shelf_and_archive new) before.engine session.engine before.splitter session.splitter piece at
+    fed_held_back old.link new.link (shelf_and_archive old) (shelf_and_archive mid)
+    (shelf_and_archive new) before.engine session.engine before.splitter session.splitter piece at
     (held_all old.link mid.link new.link (shelf_and_archive old) (shelf_and_archive mid) before.engine session.engine before.splitter session.splitter session.out.items (take at piece) holds a.0) a.1
 
 -- the next line was answered
@@ -146,7 +154,8 @@ pub take_quit : (old mid new : DevicesState) (before session after : Session) (p
     → AdvancesBy mid new session after (rest_of piece at) (Ok m)
     → TakesPiece old new before after piece (Ok true)
 take_quit old mid new before session after piece at m is holds a =
-    held_quit old.link new.link (shelf_and_archive old) (shelf_and_archive new) before.engine after.engine before.splitter after.splitter after.out.items piece (at + m.used)
+    held_quit old.link new.link (shelf_and_archive old)
+    (shelf_and_archive new) before.engine after.engine before.splitter after.splitter after.out.items piece (at + m.used)
     (take_line old mid new before session after piece at m true is holds a)
 
 -- each line of the piece was answered
@@ -165,7 +174,8 @@ pub fed_given : (old mid new : DevicesState) (before after given : Session) (pie
     → given.engine ≡ after.engine → given.splitter ≡ after.splitter
     → Feeds old new before given piece (Ok quit)
 fed_given old mid new before after given piece quit t gave same engine splitter =
-    rw (same, engine, splitter) (held_fed old.link mid.link new.link (shelf_and_archive old) (shelf_and_archive mid) before.engine after.engine before.splitter after.splitter after.out.items piece quit t gave)
+    rw (same, engine, splitter)
+    (held_fed old.link mid.link new.link (shelf_and_archive old) (shelf_and_archive mid) before.engine after.engine before.splitter after.splitter after.out.items piece quit t gave)
 
 pub fed_unwritten : (old mid new : DevicesState) (before after : Session) (piece : List ℕ)
     (quit : Bool) → TakesPiece old mid before after piece (Ok quit)

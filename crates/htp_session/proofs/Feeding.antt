@@ -1,5 +1,6 @@
 -- What one line after another does.
-use Rattle.std.proofs.Common.{◌≡◌, ℕ, ◌+◌, ◌-◌, Bool, true, false, List, [], ◌++◌, Option, sym, subst}
+use Rattle.std.proofs.Common.{◌≡◌, ℕ, ◌+◌, ◌-◌, Bool, true, false, List, [], ◌++◌, Option, sym}
+use Rattle.std.proofs.Common.{subst}
 use Rattle.std.proofs.Common.{append-nil, length, take, drop}
 use Rattle.std.proofs.lemmas.List.{take-append-drop}
 use Rattle.hex_io.specs.Told.{Told}
@@ -9,13 +10,17 @@ use Rattle.htp_line.specs.Splitting.{SplitterData}
 use Rattle.hex_engine.specs.EngineState.{EngineState}
 use Rattle.hex_devices.specs.Devices.{ShelfAndArchive}
 use Rattle.htp_session.specs.Calls.Holding.{Passes}
-use Rattle.htp_session.specs.Sessions.{IsSessionAfter, Quits, Moves, Does, DoesSome, StopsBefore, AnswersShort}
-use Rattle.htp_session.specs.Sessions.{Advanced, AnswersAll, HoldsAnswers, Holding, Fed, BrokeOff, GaveUp, HeldBack}
+use Rattle.htp_session.specs.Sessions.{IsSessionAfter, Quits, Moves, Does, DoesSome, StopsBefore}
+use Rattle.htp_session.specs.Sessions.{AnswersShort}
+use Rattle.htp_session.specs.Sessions.{Advanced, AnswersAll, HoldsAnswers, Holding, Fed, BrokeOff}
+use Rattle.htp_session.specs.Sessions.{GaveUp, HeldBack}
 use Rattle.htp_session.specs.Sessions.{AnswersLast, AnsweredLast, BrokeOffLast}
 use Rattle.htp_session.proofs.Pieces.{next_part, next_seen, parts_make}
 use Rattle.htp_session.proofs.UsageLaws.{After, does_then, does_weaker, does_nothing}
-use Rattle.htp_session.proofs.Given.{GaveUp-then, HeldBack-then, quits_stay, gave_up_at_once, held_back_at_once}
-use Rattle.htp_session.proofs.Given.{holds_then, holds_less, held_given, held_broke_off, holds_quit, holds_nothing}
+use Rattle.htp_session.proofs.Given.{GaveUp-then, HeldBack-then, quits_stay, gave_up_at_once}
+use Rattle.htp_session.proofs.Given.{held_back_at_once}
+use Rattle.htp_session.proofs.Given.{holds_then, holds_less, held_given, held_broke_off, holds_quit}
+use Rattle.htp_session.proofs.Given.{holds_nothing}
 
 -- the rest of a piece
 abbrev pub rest_of : List ℕ → ℕ → List ℕ
@@ -25,12 +30,15 @@ rest_of piece i = take (length piece - i) (drop i piece)
 
 -- all that the first bytes ask was answered, and the session stands after them
 abbrev pub FedTo : Option Told → Option Told → EngineState → SplitterData → List ℕ → After
-FedTo old new engine held front = λ start all later seen. AnswersAll old new start all seen front × IsSessionAfter start all later engine held (seen ++ front)
+FedTo old new engine held front = λ start all later seen. AnswersAll old new start all seen front
+    × IsSessionAfter start all later engine held (seen ++ front)
 
 -- what up to one line more does
-abbrev pub LineMore : Bool → ShelfAndArchive → ShelfAndArchive → EngineState → SplitterData → EngineState → SplitterData → List ℕ → ℕ → List ℕ → Type 0
+abbrev pub LineMore : Bool → ShelfAndArchive → ShelfAndArchive → EngineState → SplitterData
+    → EngineState → SplitterData → List ℕ → ℕ → List ℕ → Type 0
 LineMore quit old new engine held after then out n piece =
-    Does old new [] engine held (λ start all later seen. Advanced quit start all later after then out seen (take n piece))
+    Does old new [] engine held
+    (λ start all later seen. Advanced quit start all later after then out seen (take n piece))
 
 -- a line more was answered, after what was held
 pub held_on : (x y z : Option Told) (a b c : ShelfAndArchive) (engine mid after : EngineState)
@@ -69,14 +77,16 @@ pub held_all : (x y z : Option Told) (a b : ShelfAndArchive) (engine after : Eng
     → Does a b [] engine held (Holding false x y out after then front) → Gave y z out
     → Does a b [] engine held (FedTo x z after then front)
 held_all x y z a b engine after held then out front p gave =
-    does_weaker a b [] engine held (Holding false x y out after then front) (FedTo x z after then front)
+    does_weaker a b [] engine held (Holding false x y out after then front)
+    (FedTo x z after then front)
     (λ start all later seen t. (held_given x y z start all out seen front t.0 gave, t.1)) p
 
 -- the same at the end of a piece
 pub held_fed : (x y z : Option Told) (a b : ShelfAndArchive) (engine after : EngineState)
     (held then : SplitterData) (out piece : List ℕ) (quit : Bool)
     → Does a b [] engine held (Holding quit x y out after then piece) → Gave y z out
-    → Does a b [] engine held (λ start all later seen. Fed quit x z start all later after then seen piece)
+    → Does a b [] engine held
+    (λ start all later seen. Fed quit x z start all later after then seen piece)
 held_fed x y z a b engine after held then out piece quit p gave =
     does_weaker a b [] engine held (Holding quit x y out after then piece)
     (λ start all later seen. Fed quit x z start all later after then seen piece)
@@ -116,13 +126,18 @@ held_quit x y a b engine after held then out piece i p =
     )) p
 
 -- memory ran out at the next line, and nothing more was given
-pub fed_gave_up : (x y : Option Told) (a b c : ShelfAndArchive) (engine mid : EngineState) (held mid_held : SplitterData) (piece : List ℕ) (i : ℕ)
-    → Does a b [] engine held (FedTo x y mid mid_held (take i piece)) → DoesSome b c mid mid_held (λ start all later seen. StopsBefore start all later seen (rest_of piece i))
+pub fed_gave_up : (x y : Option Told) (a b c : ShelfAndArchive) (engine mid : EngineState)
+    (held mid_held : SplitterData) (piece : List ℕ) (i : ℕ)
+    → Does a b [] engine held (FedTo x y mid mid_held (take i piece))
+    → DoesSome b c mid mid_held
+    (λ start all later seen. StopsBefore start all later seen (rest_of piece i))
     → DoesSome a c engine held (λ start all later seen. GaveUp x y start all later seen piece)
 fed_gave_up x y a b c engine mid held mid_held piece i p q = (
   q.0,
   q.1,
-  does_then a b c q.0 engine mid held mid_held (take i piece) (FedTo x y mid mid_held (take i piece)) (λ start all later seen. StopsBefore start all later seen (rest_of piece i))
+  does_then a b c q.0 engine mid held mid_held (take i piece)
+      (FedTo x y mid mid_held (take i piece))
+      (λ start all later seen. StopsBefore start all later seen (rest_of piece i))
       (λ start all later seen. GaveUp x y start all later seen piece)
       (λ start all later seen t. t.1)
       (λ start all between later seen t s. subst (GaveUp x y start all later seen) (parts_make piece i)
@@ -130,11 +145,16 @@ fed_gave_up x y a b c engine mid held mid_held piece i p q = (
 )
 
 -- a turn is wanted at the next line, and nothing more was given
-pub fed_held_back : (x y : Option Told) (a b c : ShelfAndArchive) (engine mid : EngineState) (held mid_held : SplitterData) (piece : List ℕ) (i : ℕ)
-    → Does a b [] engine held (FedTo x y mid mid_held (take i piece)) → Does b c [] mid mid_held (λ start all later seen. AnswersShort start all later [] seen (rest_of piece i))
+pub fed_held_back : (x y : Option Told) (a b c : ShelfAndArchive) (engine mid : EngineState)
+    (held mid_held : SplitterData) (piece : List ℕ) (i : ℕ)
+    → Does a b [] engine held (FedTo x y mid mid_held (take i piece))
+    → Does b c [] mid mid_held
+    (λ start all later seen. AnswersShort start all later [] seen (rest_of piece i))
     → Does a c [] engine held (λ start all later seen. HeldBack x y start all later seen piece)
 fed_held_back x y a b c engine mid held mid_held piece i p q =
-    does_then a b c [] engine mid held mid_held (take i piece) (FedTo x y mid mid_held (take i piece)) (λ start all later seen. AnswersShort start all later [] seen (rest_of piece i))
+    does_then a b c [] engine mid held mid_held (take i piece)
+    (FedTo x y mid mid_held (take i piece))
+    (λ start all later seen. AnswersShort start all later [] seen (rest_of piece i))
     (λ start all later seen. HeldBack x y start all later seen piece)
     (λ start all later seen t. t.1)
     (λ start all between later seen t s. subst (HeldBack x y start all later seen) (parts_make piece i)
@@ -154,14 +174,22 @@ held_nothing x a engine held out none =
 
 -- ---- the last line
 
-pub last_given : (x y : Option Told) (a b : ShelfAndArchive) (engine : EngineState) (held : SplitterData) (out : List ℕ) → Does a b [] engine held (λ start all later seen. AnswersLast start all later out seen) → Gave x y out
+pub last_given : (x y : Option Told) (a b : ShelfAndArchive) (engine : EngineState)
+    (held : SplitterData) (out : List ℕ)
+    → Does a b [] engine held (λ start all later seen. AnswersLast start all later out seen)
+    → Gave x y out
     → Does a b [] engine held (λ start all later seen. AnsweredLast x y start all later seen)
 last_given x y a b engine held out p gave =
-    does_weaker a b [] engine held (λ start all later seen. AnswersLast start all later out seen) (λ start all later seen. AnsweredLast x y start all later seen)
+    does_weaker a b [] engine held (λ start all later seen. AnswersLast start all later out seen)
+    (λ start all later seen. AnsweredLast x y start all later seen)
     (λ start all later seen t. record { gave = (out, gave, t) }) p
 
-pub last_broke_off : (x y : Option Told) (a b : ShelfAndArchive) (engine : EngineState) (held : SplitterData) (out : List ℕ) → Does a b [] engine held (λ start all later seen. AnswersLast start all later out seen) → GavePart x y out
+pub last_broke_off : (x y : Option Told) (a b : ShelfAndArchive) (engine : EngineState)
+    (held : SplitterData) (out : List ℕ)
+    → Does a b [] engine held (λ start all later seen. AnswersLast start all later out seen)
+    → GavePart x y out
     → Does a b [] engine held (λ start all later seen. BrokeOffLast x y start all later seen)
 last_broke_off x y a b engine held out p part =
-    does_weaker a b [] engine held (λ start all later seen. AnswersLast start all later out seen) (λ start all later seen. BrokeOffLast x y start all later seen)
+    does_weaker a b [] engine held (λ start all later seen. AnswersLast start all later out seen)
+    (λ start all later seen. BrokeOffLast x y start all later seen)
     (λ start all later seen t. record { gave = (out, part, t) }) p

@@ -1,5 +1,6 @@
 -- What is given for one piece after another.
-use Rattle.std.proofs.Common.{◌≡◌, ℕ, List, [], ◌++◌, Option, refl, ap, sym, ◌∙◌, append-nil, append_assoc, subst, Result, Ok, Err}
+use Rattle.std.proofs.Common.{◌≡◌, ℕ, List, [], ◌++◌, Option, refl, ap, sym, ◌∙◌, append-nil}
+use Rattle.std.proofs.Common.{append_assoc, subst, Result, Ok, Err}
 use Rattle.std.specs.Prelude.{OnOk, OnErr}
 use Rattle.hex_io.specs.Told.{Told}
 use Rattle.hex_io.specs.Grew.{Gave, GavePart, GaveProperPart}
@@ -10,18 +11,26 @@ use Rattle.hex_engine.specs.EngineState.{EngineState}
 use Rattle.hex_engine.specs.Supply.{Supply}
 use Rattle.htp_session.specs.Talk.{TalkState, Going, AfterQuit, talk_to}
 use Rattle.htp_session.specs.Calls.Holding.{Passes}
-use Rattle.htp_session.specs.Sessions.{Quits, AnswersLines, AnswersAll, HoldsAnswers, AnswersShort, StopsBefore, BrokeOff, GaveUp, HeldBack}
+use Rattle.htp_session.specs.Sessions.{Quits, AnswersLines, AnswersAll, HoldsAnswers, AnswersShort}
+use Rattle.htp_session.specs.Sessions.{StopsBefore, BrokeOff, GaveUp, HeldBack}
 use Rattle.htp_session.proofs.TalkLaws.{talk_to_quit}
 
-pub answers_then : (start : EngineState) (all : Supply) (seen m n xs ys : List ℕ) → AnswersLines start all xs seen m → AnswersLines start all ys (seen ++ m) n → AnswersLines start all (xs ++ ys) seen (m ++ n)
+pub answers_then : (start : EngineState) (all : Supply) (seen m n xs ys : List ℕ)
+    → AnswersLines start all xs seen m → AnswersLines start all ys (seen ++ m) n
+    → AnswersLines start all (xs ++ ys) seen (m ++ n)
 answers_then start all seen m n xs ys p q =
-    ap (λ l. (talk_to start all l).text) (sym (append_assoc seen m n)) ∙ q ∙ ap (λ l. l ++ ys) p ∙ append_assoc (talk_to start all seen).text xs ys
+    ap (λ l. (talk_to start all l).text) (sym (append_assoc seen m n)) ∙ q ∙ ap (λ l. l ++ ys) p
+    ∙ append_assoc (talk_to start all seen).text xs ys
 
 -- nothing more was asked of what was answered
-answers_nothing : (start : EngineState) (all : Supply) (seen : List ℕ) → AnswersLines start all [] seen []
-answers_nothing start all seen = ap (λ l. (talk_to start all l).text) (append-nil seen) ∙ sym (append-nil (talk_to start all seen).text)
+answers_nothing : (start : EngineState) (all : Supply) (seen : List ℕ)
+    → AnswersLines start all [] seen []
+answers_nothing start all seen = ap (λ l. (talk_to start all l).text) (append-nil seen)
+    ∙ sym (append-nil (talk_to start all seen).text)
 
-pub GaveUp-then : (a b c : Option Told) (start : EngineState) (all later : Supply) (seen m n : List ℕ) → AnswersAll a b start all seen m → GaveUp b c start all later (seen ++ m) n → GaveUp a c start all later seen (m ++ n)
+pub GaveUp-then : (a b c : Option Told) (start : EngineState) (all later : Supply)
+    (seen m n : List ℕ) → AnswersAll a b start all seen m → GaveUp b c start all later (seen ++ m) n
+    → GaveUp a c start all later seen (m ++ n)
 GaveUp-then a b c start all later seen m n p r =
     let front = r.gave.0 in let others = r.gave.1 in let ys = r.gave.2 in
     record {
@@ -38,9 +47,12 @@ GaveUp-then a b c start all later seen m n p r =
     }
 
 -- after an answered quit more bytes ask nothing
-pub quits_stay : (start : EngineState) (all later : Supply) (seen m n : List ℕ) → Quits start all later (seen ++ m) → Quits start all later (seen ++ (m ++ n))
+pub quits_stay : (start : EngineState) (all later : Supply) (seen m n : List ℕ)
+    → Quits start all later (seen ++ m) → Quits start all later (seen ++ (m ++ n))
 quits_stay start all later seen m n quit =
-    let same : talk_to start all (seen ++ (m ++ n)) ≡ talk_to start all (seen ++ m) = ap (talk_to start all) (sym (append_assoc seen m n)) ∙ talk_to_quit start all (seen ++ m) n quit.ending in
+    let same : talk_to start all (seen ++ (m ++ n)) ≡ talk_to start all (seen ++ m)
+    = ap (talk_to start all) (sym (append_assoc seen m n))
+    ∙ talk_to_quit start all (seen ++ m) n quit.ending in
     record { ending = ap (λ (t : TalkState). t.ending) same ∙ quit.ending; left = quit.left ∙ sym (ap (λ (t : TalkState). t.left) same) }
 
 -- ---- answers that are held
@@ -157,7 +169,9 @@ holds_nothing a held start all seen none = record {
 }
 
 -- lines that want a turn, after lines that were answered
-pub HeldBack-then : (a b c : Option Told) (start : EngineState) (all later : Supply) (seen m n : List ℕ) → AnswersAll a b start all seen m → HeldBack b c start all later (seen ++ m) n → HeldBack a c start all later seen (m ++ n)
+pub HeldBack-then : (a b c : Option Told) (start : EngineState) (all later : Supply)
+    (seen m n : List ℕ) → AnswersAll a b start all seen m
+    → HeldBack b c start all later (seen ++ m) n → HeldBack a c start all later seen (m ++ n)
 HeldBack-then a b c start all later seen m n p r = record {
   gave = (
     p.gave.0 ++ r.gave.0,
@@ -172,10 +186,14 @@ HeldBack-then a b c start all later seen m n p r = record {
 
 -- ---- one line more
 
-pub gave_up_at_once : (a : Option Told) (start : EngineState) (all later : Supply) (seen piece : List ℕ) → (talk_to start all seen).ending ≡ Going → StopsBefore start all later seen piece → GaveUp a a start all later seen piece
+pub gave_up_at_once : (a : Option Told) (start : EngineState) (all later : Supply)
+    (seen piece : List ℕ) → (talk_to start all seen).ending ≡ Going
+    → StopsBefore start all later seen piece → GaveUp a a start all later seen piece
 gave_up_at_once a start all later seen piece going stops =
     let same : seen ++ [] ≡ seen = append-nil seen in
     record { gave = ([], piece, [], refl, Gave-nothing a, answers_nothing start all seen, ap (λ l. (talk_to start all l).ending) same ∙ going, rw same stops) }
 
-pub held_back_at_once : (a : Option Told) (start : EngineState) (all later : Supply) (seen piece : List ℕ) → AnswersShort start all later [] seen piece → HeldBack a a start all later seen piece
+pub held_back_at_once : (a : Option Told) (start : EngineState) (all later : Supply)
+    (seen piece : List ℕ) → AnswersShort start all later [] seen piece
+    → HeldBack a a start all later seen piece
 held_back_at_once a start all later seen piece short = record { gave = ([], Gave-nothing a, short) }

@@ -1,4 +1,5 @@
--- What came of a file is settled by its fetch, so of one name the same came in both of two talks over the same files and faults.
+-- What came of a file is settled by its fetch, so of one name the same came in both of two talks
+-- over the same files and faults.
 use Rattle.std.proofs.Common.{◌≡◌, ℕ, Bool, List, [], ◌∷◌, refl, sym, ap, ◌∙◌, subst}
 use Rattle.hex_io.specs.declared.files.File.{File}
 use Rattle.hex_io.specs.Shelves.{Fetched, Failed, Missing, Long, Contents, fetched_of}
@@ -14,7 +15,8 @@ use Rattle.hex_engine.specs.Uses.{IsReadAs, IsLoadOf, CameOf}
 abbrev pub SameLoads : List Load → List Load → Type 0
 SameLoads [] others = Unit {0}
 SameLoads (load ∷ loads) [] = Unit {0}
-SameLoads (load ∷ loads) (other ∷ others) = (load.name ≡ other.name → load.what ≡ other.what) × SameLoads loads others
+SameLoads (load ∷ loads) (other ∷ others) = (load.name ≡ other.name → load.what ≡ other.what)
+    × SameLoads loads others
 
 -- ---- equal loads
 
@@ -50,11 +52,13 @@ one_load Missing a b p q = p ∙ sym q
 one_load Long a b p q = p ∙ sym q
 one_load (Contents bytes) a b p q = one_reading bytes a b p q
 
-pub told_loads : (files : List File) (tries : List Bool) (loads others : List Load) → CameOf files tries loads → CameOf files tries others → SameLoads loads others
+pub told_loads : (files : List File) (tries : List Bool) (loads others : List Load)
+    → CameOf files tries loads → CameOf files tries others → SameLoads loads others
 told_loads files tries [] others p q = tt
 told_loads files tries (load ∷ loads) [] p q = tt
 told_loads files [] (load ∷ loads) (other ∷ others) p q = absurd p
 told_loads files (failed ∷ tries) (load ∷ loads) (other ∷ others) p q = (
-  λ e. one_load (fetched_of files failed other.name) load.what other.what (subst (λ (name : List ℕ). IsLoadOf (fetched_of files failed name) load.what) e p.0) q.0,
+  λ e. one_load (fetched_of files failed other.name) load.what other.what
+      (subst (λ (name : List ℕ). IsLoadOf (fetched_of files failed name) load.what) e p.0) q.0,
   told_loads files tries loads others p.1 q.1,
 )

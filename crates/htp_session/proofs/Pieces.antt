@@ -1,23 +1,32 @@
 -- The parts of a piece.
-use Rattle.std.proofs.Common.{◌≡◌, ◌≤◌, ℕ, ◌+◌, ◌-◌, List, ◌++◌, length, take, drop, ap, sym, ◌∙◌, append_assoc, length-append, arith}
+use Rattle.std.proofs.Common.{◌≡◌, ◌≤◌, ℕ, ◌+◌, ◌-◌, List, ◌++◌, length, take, drop, ap, sym, ◌∙◌}
+use Rattle.std.proofs.Common.{append_assoc, length-append, arith}
 use Rattle.std.proofs.lemmas.Grind.{common_steps}
 use Rattle.std.proofs.Math.Seq.{take-add}
 use Rattle.std.proofs.lemmas.List.{take-append-drop, take_rest}
 
 -- what is taken next of the rest of a piece
-pub next_part : (piece : List ℕ) (i n : ℕ) → take i piece ++ take n (take (length piece - i) (drop i piece)) ≡ take (i + n) piece
-next_part piece i n = ap (λ l. take i piece ++ take n l) (take_rest piece i) ∙ sym (take-add i n piece)
+pub next_part : (piece : List ℕ) (i n : ℕ)
+    → take i piece ++ take n (take (length piece - i) (drop i piece)) ≡ take (i + n) piece
+next_part piece i n = ap (λ l. take i piece ++ take n l) (take_rest piece i)
+    ∙ sym (take-add i n piece)
 
 -- the same after a text
-pub next_seen : (seen piece : List ℕ) (i n : ℕ) → (seen ++ take i piece) ++ take n (take (length piece - i) (drop i piece)) ≡ seen ++ take (i + n) piece
-next_seen seen piece i n = append_assoc seen (take i piece) (take n (take (length piece - i) (drop i piece))) ∙ ap (λ l. seen ++ l) (next_part piece i n)
+pub next_seen : (seen piece : List ℕ) (i n : ℕ)
+    → (seen ++ take i piece) ++ take n (take (length piece - i) (drop i piece)) ≡ seen ++ take
+    (i + n) piece
+next_seen seen piece i n
+    = append_assoc seen (take i piece) (take n (take (length piece - i) (drop i piece)))
+    ∙ ap (λ l. seen ++ l) (next_part piece i n)
 
 -- the first bytes and the rest are the piece
-pub parts_make : (piece : List ℕ) (i : ℕ) → take i piece ++ take (length piece - i) (drop i piece) ≡ piece
+pub parts_make : (piece : List ℕ) (i : ℕ)
+    → take i piece ++ take (length piece - i) (drop i piece) ≡ piece
 parts_make piece i = ap (λ l. take i piece ++ l) (take_rest piece i) ∙ take-append-drop i piece
 
 -- the bytes taken, with a piece more
-pub length-taken : (seen buf : List ℕ) (total count : ℕ) → length seen ≡ total → count ≤ length buf → length (seen ++ take count buf) ≡ total + count
+pub length-taken : (seen buf : List ℕ) (total count : ℕ) → length seen ≡ total → count ≤ length buf
+    → length (seen ++ take count buf) ≡ total + count
 length-taken seen buf total count many fits =
     let front : length (take count buf) ≡ count = grind (arith, common_steps) in
     rw (length-append seen (take count buf)) (omega (arith, many, front))

@@ -1,5 +1,6 @@
 -- What is said to a line at once, and what is asked for it.
-use Rattle.std.proofs.Common.{◌≡◌, ◌++◌, ◌∙◌, ℕ, Bool, true, false, List, [], Option, Some, None, Result, Ok, Err, refl, ap, sym, subst}
+use Rattle.std.proofs.Common.{◌≡◌, ◌++◌, ◌∙◌, ℕ, Bool, true, false, List, [], Option, Some, None}
+use Rattle.std.proofs.Common.{Result, Ok, Err, refl, ap, sym, subst}
 use Rattle.std.specs.Prelude.{IfOk, OnOk}
 use Rattle.hex_io.specs.Grew.{Gave, GaveProperPart}
 use Rattle.hex_io.proofs.GaveLaws.{Gave-nothing}
@@ -14,7 +15,8 @@ use Rattle.hex_engine.specs.declared.answers.EngineError.TheVariants as engine
 use Rattle.hex_devices.specs.Devices.{DevicesState, shelf_and_archive}
 use Rattle.hex_devices.specs.declared.stops.Stop.{Stop}
 use Rattle.hex_devices.specs.declared.stops.Stop.TheVariants.{WriteFault, Memory}
-use Rattle.htp_session.specs.Talk.{TalkState, Going, after_reaction, after_reading, ending_if, is_quit, reply_text}
+use Rattle.htp_session.specs.Talk.{TalkState, Going, after_reaction, after_reading, ending_if}
+use Rattle.htp_session.specs.Talk.{is_quit, reply_text}
 use Rattle.htp_session.specs.Usage.{AnswersWith, Wants, UsesUpNothing}
 use Rattle.htp_session.specs.Calls.Answering.{Speaks, SpeaksToRequest, Writes, WritesReply}
 use Rattle.htp_session.specs.Calls.Asking.{Replies, stop_of_engine}

@@ -1,5 +1,6 @@
 -- Whether an answered request takes a turn.
-use Rattle.std.proofs.Common.{◌≡◌, ℕ, Bool, true, false, cond, List, [], ◌∷◌, Option, Some, None, Result, Ok, Err, ◌⊎◌, inl, inr, refl}
+use Rattle.std.proofs.Common.{◌≡◌, ℕ, Bool, true, false, cond, List, [], ◌∷◌, Option, Some, None}
+use Rattle.std.proofs.Common.{Result, Ok, Err, ◌⊎◌, inl, inr, refl}
 use Rattle.std.specs.Str.{bytes_eq}
 use Rattle.htp_line.specs.declared.request.Request.{Request}
 use Rattle.hex_cells.specs.declared.colours.Colour.{Colour}
@@ -18,7 +19,8 @@ use Rattle.hex_engine.specs.Requests.{obeyed, reaction_by, reaction}
 use Rattle.hex_engine.specs.declared.commands.Command.{Command}
 use Rattle.hex_engine.specs.declared.commands.Command.TheVariants as command
 
--- the next turn was taken: it is the conversation's next of this colour, and its cell was played and answered
+-- the next turn was taken: it is the conversation's next of this colour, and its cell was played
+-- and answered
 pub record TakesTurn (at : EngineState) (left : Supply) (t : Turned) : Type 0 where
   pub turn : TurnData
   pub colour : Colour
@@ -29,7 +31,8 @@ pub record TakesTurn (at : EngineState) (left : Supply) (t : Turned) : Type 0 wh
 
 -- where there is an answer, no turn was taken, or the next one
 abbrev pub MayTakeTurn : EngineState → Supply → Result Turned Missing → Type 0
-MayTakeTurn at left (Ok t) = ((t.left.turns ≡ left.turns) × (t.after.turns ≡ at.turns)) ⊎ TakesTurn at left t
+MayTakeTurn at left (Ok t)
+    = ((t.left.turns ≡ left.turns) × (t.after.turns ≡ at.turns)) ⊎ TakesTurn at left t
 MayTakeTurn at left (Err missing) = Unit {0}
 
 loaded_turns : (at : EngineState) (what : Loaded) → (loaded at what).after.turns ≡ at.turns
@@ -37,36 +40,47 @@ loaded_turns at Unread = refl
 loaded_turns at Refused = refl
 loaded_turns at (Loads game) = refl
 
-either_takes : (b : Bool) (at : EngineState) (left : Supply) (r s : Result Turned Missing) → (b ≡ true → MayTakeTurn at left r) → MayTakeTurn at left s → MayTakeTurn at left (cond b r s)
+either_takes : (b : Bool) (at : EngineState) (left : Supply) (r s : Result Turned Missing)
+    → (b ≡ true → MayTakeTurn at left r) → MayTakeTurn at left s → MayTakeTurn at left (cond b r s)
 either_takes true at left r s p q = p refl
 either_takes false at left r s p q = q
 
-loading_next_takes : (at : EngineState) (left : Supply) (loads : List Load) (name : List ℕ) → MayTakeTurn at left (loading_next at left loads name)
+loading_next_takes : (at : EngineState) (left : Supply) (loads : List Load) (name : List ℕ)
+    → MayTakeTurn at left (loading_next at left loads name)
 loading_next_takes at left [] name = tt
-loading_next_takes at left (load ∷ loads) name = either_takes (bytes_eq load.name name) at left _ _ (λ e. inl (refl, loaded_turns at load.what)) tt
+loading_next_takes at left (load ∷ loads) name = either_takes (bytes_eq load.name name) at left _ _
+    (λ e. inl (refl, loaded_turns at load.what)) tt
 
-loading_takes : (at : EngineState) (left : Supply) (name : Option (List ℕ)) → MayTakeTurn at left (loading_by at left name)
+loading_takes : (at : EngineState) (left : Supply) (name : Option (List ℕ))
+    → MayTakeTurn at left (loading_by at left name)
 loading_takes at left None = inl (refl, refl)
 loading_takes at left (Some name) = loading_next_takes at left left.loads name
 
-moving_next_takes : (at : EngineState) (left : Supply) (turns : List TurnData) (colour : Colour) → left.turns ≡ turns → MayTakeTurn at left (moving_next at left turns colour)
+moving_next_takes : (at : EngineState) (left : Supply) (turns : List TurnData) (colour : Colour)
+    → left.turns ≡ turns → MayTakeTurn at left (moving_next at left turns colour)
 moving_next_takes at left [] colour was = tt
 moving_next_takes at left (turn ∷ turns) colour was =
-    either_takes (is_next at colour turn) at left _ _ (λ e. inr (record { turn = turn; colour = colour; was = was; next = e; after = refl; reply = refl })) tt
+    either_takes (is_next at colour turn) at left _ _
+    (λ e. inr (record { turn = turn; colour = colour; was = was; next = e; after = refl; reply = refl })) tt
 
-moving_by_takes : (at : EngineState) (left : Supply) (colour : Option Colour) → MayTakeTurn at left (moving_by at left colour)
+moving_by_takes : (at : EngineState) (left : Supply) (colour : Option Colour)
+    → MayTakeTurn at left (moving_by at left colour)
 moving_by_takes at left None = inl (refl, refl)
-moving_by_takes at left (Some colour) = either_takes (may_move (board_of at.game)) at left _ _ (λ e. moving_next_takes at left left.turns colour refl) (inl (refl, refl))
+moving_by_takes at left (Some colour) = either_takes (may_move (board_of at.game)) at left _ _
+    (λ e. moving_next_takes at left left.turns colour refl) (inl (refl, refl))
 
-obeyed_takes : (at : EngineState) (left : Supply) (what : Command) (args : List (List ℕ)) → MayTakeTurn at left (obeyed at left what args)
+obeyed_takes : (at : EngineState) (left : Supply) (what : Command) (args : List (List ℕ))
+    → MayTakeTurn at left (obeyed at left what args)
 obeyed_takes at left command.GenMove args = moving_by_takes at left (lone_colour args)
 obeyed_takes at left command.LoadSgf args = loading_takes at left (file_named args)
 obeyed_takes at left (command.Quiet quiet) args = inl (refl, refl)
 
-by_takes : (at : EngineState) (left : Supply) (what : Option Command) (args : List (List ℕ)) → MayTakeTurn at left (reaction_by at left what args)
+by_takes : (at : EngineState) (left : Supply) (what : Option Command) (args : List (List ℕ))
+    → MayTakeTurn at left (reaction_by at left what args)
 by_takes at left None args = inl (refl, refl)
 by_takes at left (Some what) args = obeyed_takes at left what args
 
-pub reaction_takes : (at : EngineState) (left : Supply) (asked : Request) → MayTakeTurn at left (reaction at left asked)
+pub reaction_takes : (at : EngineState) (left : Supply) (asked : Request)
+    → MayTakeTurn at left (reaction at left asked)
 unfolding reaction
 reaction_takes at left asked = by_takes at left (command_named asked.name) asked.args

@@ -6,7 +6,8 @@ use Rattle.htp_session.proofs.answering.respond.Goals as goal
 
 pub returns-in-Whole-clause-writes : goal.returns-in-Whole-clause-writes
 returns-in-Whole-clause-writes g c =
-    held_whole c.args.devices.now c.args.engine.now c.say.new.engine _ _ _ c.in-Whole.quit (rw c.in-Whole.is at c.in-Ok.ensures.speaks)
+    held_whole c.args.devices.now c.args.engine.now c.say.new.engine _ _ _ c.in-Whole.quit
+    (rw c.in-Whole.is at c.in-Ok.ensures.speaks)
 
 pub returns-in-Open-clause-writes : goal.returns-in-Open-clause-writes
 returns-in-Open-clause-writes g c =
@@ -14,11 +15,14 @@ returns-in-Open-clause-writes g c =
 
 pub returns-in-Ok-give_held-clause-writes : goal.returns-in-Ok-give_held-clause-writes
 returns-in-Ok-give_held-clause-writes g c =
-    ran_out c.args.devices.now c.give_held.new.devices c.args.engine.now c.say.new.engine (talk_start c.args.engine.now) _ _ c.args.out.now.items c.in-Err.ensures.err c.in-Ok-give_held.ensures.gives c.in-Ok-give_held.ensures.shelf_and_archive
+    ran_out c.args.devices.now c.give_held.new.devices c.args.engine.now c.say.new.engine
+    (talk_start c.args.engine.now) _ _ c.args.out.now.items c.in-Err.ensures.err c.in-Ok-give_held.ensures.gives c.in-Ok-give_held.ensures.shelf_and_archive
 
 pub returns-in-Ok-give_held-clause-counts : goal.returns-in-Ok-give_held-clause-counts
-returns-in-Ok-give_held-clause-counts g c = counts_memory c.args.devices.now c.give_held.new.devices c.in-Ok-give_held.ensures.counts
+returns-in-Ok-give_held-clause-counts g c
+    = counts_memory c.args.devices.now c.give_held.new.devices c.in-Ok-give_held.ensures.counts
 
 pub returns-in-Err-give_held-clause-writes : goal.returns-in-Err-give_held-clause-writes
 returns-in-Err-give_held-clause-writes g c =
-    ran_out_unwritten c.args.devices.now c.give_held.new.devices c.args.engine.now c.say.new.engine (talk_start c.args.engine.now) _ _ c.args.out.now.items c.in-Err.ensures.err c.in-Err-give_held.ensures.gives c.in-Err-give_held.ensures.shelf_and_archive
+    ran_out_unwritten c.args.devices.now c.give_held.new.devices c.args.engine.now c.say.new.engine
+    (talk_start c.args.engine.now) _ _ c.args.out.now.items c.in-Err.ensures.err c.in-Err-give_held.ensures.gives c.in-Err-give_held.ensures.shelf_and_archive

@@ -17,14 +17,16 @@ pieces-init g c = record {
 }
 
 pub returns-in_default-clause-converses : goal.returns-in_default-clause-converses
-returns-in_default-clause-converses g c = conversed_nothing c.args.options.now c.args.size c.args.limit _ _
+returns-in_default-clause-converses g c
+    = conversed_nothing c.args.options.now c.args.size c.args.limit _ _
 
 pub returns-in-Err-clause-converses : goal.returns-in-Err-clause-converses
 returns-in-Err-clause-converses g c =
     by_read c.args.options.now c.args.size c.args.limit c.args.devices.now c.pieces.devices c.read.new.self c.pieces.session c.pieces.total c.pieces.invariant.in_limit c.pieces.invariant.goes c.in-Err.ensures.shelf_and_archive c.in-Err.ensures.reads
 
 pub returns-in-Err-clause-counts : goal.returns-in-Err-clause-counts
-returns-in-Err-clause-counts g c = counts_then c.args.devices.now c.pieces.devices _ _ c.pieces.invariant.counts c.in-Err.ensures.counts
+returns-in-Err-clause-counts g c
+    = counts_then c.args.devices.now c.pieces.devices _ _ c.pieces.invariant.counts c.in-Err.ensures.counts
 
 pub returns-then-count-eq0-clause-converses : goal.returns-then-count-eq0-clause-converses
 returns-then-count-eq0-clause-converses g c =
@@ -32,7 +34,8 @@ returns-then-count-eq0-clause-converses g c =
 
 pub returns-then-total-limit-clause-converses : goal.returns-then-total-limit-clause-converses
 returns-then-total-limit-clause-converses g c =
-    let fits : c.in-Ok-read.count ≤ length c.read.new.buffer = omega (arith, c.in-Ok-read.ensures.bound) in
+    let fits : c.in-Ok-read.count ≤ length c.read.new.buffer
+    = omega (arith, c.in-Ok-read.ensures.bound) in
     let p = took_piece c.args.options.now c.args.size c.args.devices.now c.pieces.devices c.read.new.self c.pieces.session c.read.new.buffer c.pieces.total c.in-Ok-read.count c.pieces.invariant.goes fits c.in-Ok-read.ensures.shelf_and_archive c.in-Ok-read.ensures.reads in
     let one : c.in-Ok-read.count ≡ 1 = omega (arith, c.in-Ok-read.ensures.bound) in
     let many : c.pieces.total + c.in-Ok-read.count ≡ c.args.limit + 1 = omega (arith, one) in
@@ -40,28 +43,36 @@ returns-then-total-limit-clause-converses g c =
 
 pub returns-in-Err-feed-clause-converses : goal.returns-in-Err-feed-clause-converses
 returns-in-Err-feed-clause-converses g c =
-    let fits : c.in-Ok-read.count ≤ length c.read.new.buffer = omega (arith, c.in-Ok-read.ensures.bound) in
+    let fits : c.in-Ok-read.count ≤ length c.read.new.buffer
+    = omega (arith, c.in-Ok-read.ensures.bound) in
     let p = took_piece c.args.options.now c.args.size c.args.devices.now c.pieces.devices c.read.new.self c.pieces.session c.read.new.buffer c.pieces.total c.in-Ok-read.count c.pieces.invariant.goes fits c.in-Ok-read.ensures.shelf_and_archive c.in-Ok-read.ensures.reads in
-    let few : c.pieces.total + c.in-Ok-read.count ≤ c.args.limit = omega (arith, c.in-Ok-read.ensures.bound) in
+    let few : c.pieces.total + c.in-Ok-read.count ≤ c.args.limit
+    = omega (arith, c.in-Ok-read.ensures.bound) in
     by_feed c.args.options.now c.args.size c.args.limit c.args.devices.now c.read.new.self c.feed.new.devices c.pieces.session c.feed.new.self _ _ c.in-Err-feed.stop few p c.in-Err-feed.ensures.feeds
 
 pub returns-in-Ok-true-clause-converses : goal.returns-in-Ok-true-clause-converses
 returns-in-Ok-true-clause-converses g c =
-    let fits : c.in-Ok-read.count ≤ length c.read.new.buffer = omega (arith, c.in-Ok-read.ensures.bound) in
+    let fits : c.in-Ok-read.count ≤ length c.read.new.buffer
+    = omega (arith, c.in-Ok-read.ensures.bound) in
     let p = took_piece c.args.options.now c.args.size c.args.devices.now c.pieces.devices c.read.new.self c.pieces.session c.read.new.buffer c.pieces.total c.in-Ok-read.count c.pieces.invariant.goes fits c.in-Ok-read.ensures.shelf_and_archive c.in-Ok-read.ensures.reads in
-    let few : c.pieces.total + c.in-Ok-read.count ≤ c.args.limit = omega (arith, c.in-Ok-read.ensures.bound) in
+    let few : c.pieces.total + c.in-Ok-read.count ≤ c.args.limit
+    = omega (arith, c.in-Ok-read.ensures.bound) in
     by_quit c.args.options.now c.args.size c.args.limit c.args.devices.now c.read.new.self c.feed.new.devices c.pieces.session c.feed.new.self _ _ few p (rw c.in-Ok-true.field-0-test at c.in-Ok-true.ensures.feeds)
 
 pub pieces-preserved : goal.pieces-preserved
 pieces-preserved g c =
-    let fits : c.in-Ok-read.count ≤ length c.read.new.buffer = omega (arith, c.in-Ok-read.ensures.bound) in
+    let fits : c.in-Ok-read.count ≤ length c.read.new.buffer
+    = omega (arith, c.in-Ok-read.ensures.bound) in
     let p = took_piece c.args.options.now c.args.size c.args.devices.now c.pieces.devices c.read.new.self c.pieces.session c.read.new.buffer c.pieces.total c.in-Ok-read.count c.pieces.invariant.goes fits c.in-Ok-read.ensures.shelf_and_archive c.in-Ok-read.ensures.reads in
     record {
       in_limit = omega (arith, c.in-Ok-read.ensures.bound);
-      counts = counts_then c.args.devices.now c.pieces.devices _ _ c.pieces.invariant.counts (counts_then c.pieces.devices c.read.new.self _ _ c.in-Ok-read.ensures.counts c.in-Ok-false.ensures.counts);
+      counts = counts_then c.args.devices.now c.pieces.devices _ _ c.pieces.invariant.counts
+          (counts_then c.pieces.devices c.read.new.self _ _ c.in-Ok-read.ensures.counts c.in-Ok-false.ensures.counts);
       goes = (
         p.seen ++ take c.in-Ok-read.count c.read.new.buffer,
         p.many,
-        goes_on_feeding (opening c.args.options.now c.args.size) (shelf_and_archive c.args.devices.now) (shelf_and_archive c.read.new.self) (shelf_and_archive c.feed.new.devices) c.args.devices.now.link c.read.new.self.link c.feed.new.devices.link c.pieces.session.engine c.feed.new.self.engine c.pieces.session.splitter c.feed.new.self.splitter p.seen (take c.in-Ok-read.count c.read.new.buffer) p.took (rw c.in-Ok-false.field-0-test at c.in-Ok-false.ensures.feeds),
+        goes_on_feeding (opening c.args.options.now c.args.size)
+            (shelf_and_archive c.args.devices.now) (shelf_and_archive c.read.new.self)
+            (shelf_and_archive c.feed.new.devices) c.args.devices.now.link c.read.new.self.link c.feed.new.devices.link c.pieces.session.engine c.feed.new.self.engine c.pieces.session.splitter c.feed.new.self.splitter p.seen (take c.in-Ok-read.count c.read.new.buffer) p.took (rw c.in-Ok-false.field-0-test at c.in-Ok-false.ensures.feeds),
       );
     }

@@ -10,7 +10,8 @@ returns-in-Err-give_held-clause-feeds g c =
     c.in-Ok.ensures.takes c.in-Err-give_held.ensures.gives c.in-Err-give_held.ensures.shelf_and_archive
 
 pub returns-in-Err-give_held-clause-counts : goal.returns-in-Err-give_held-clause-counts
-returns-in-Err-give_held-clause-counts g c = counts_then c.args.devices.now c.take.new.devices _ _ c.in-Ok.ensures.counts c.in-Err-give_held.ensures.counts
+returns-in-Err-give_held-clause-counts g c
+    = counts_then c.args.devices.now c.take.new.devices _ _ c.in-Ok.ensures.counts c.in-Err-give_held.ensures.counts
 
 pub returns-in-Ok-give_held-clause-feeds : goal.returns-in-Ok-give_held-clause-feeds
 returns-in-Ok-give_held-clause-feeds g c =
@@ -18,4 +19,5 @@ returns-in-Ok-give_held-clause-feeds g c =
     c.in-Ok.ensures.takes c.in-Ok-give_held.ensures.gives c.in-Ok-give_held.ensures.shelf_and_archive refl refl
 
 pub returns-in-Ok-give_held-clause-counts : goal.returns-in-Ok-give_held-clause-counts
-returns-in-Ok-give_held-clause-counts g c = counts_then c.args.devices.now c.take.new.devices _ _ c.in-Ok.ensures.counts c.in-Ok-give_held.ensures.counts
+returns-in-Ok-give_held-clause-counts g c
+    = counts_then c.args.devices.now c.take.new.devices _ _ c.in-Ok.ensures.counts c.in-Ok-give_held.ensures.counts

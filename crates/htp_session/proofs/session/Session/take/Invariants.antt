@@ -7,7 +7,8 @@ use Rattle.htp_session.proofs.session.Session.take.Given as goal
 abbrev pub invariant-lines : goal.invariant-lines
 invariant-lines g l = record {
   in_piece : l.at ≤ length l.piece;
-  holds : HoldsTo l.fn.devices l.devices l.fn.self l.self.out.items l.self.engine l.self.splitter (take l.at l.piece);
+  holds : HoldsTo l.fn.devices l.devices l.fn.self l.self.out.items l.self.engine l.self.splitter
+      (take l.at l.piece);
   counts : CountsStop l.fn.devices l.devices None;
 }
 
