@@ -39,7 +39,7 @@ abbrev pub is_vertex : List ℕ → Bool
 is_vertex [] = false
 is_vertex (letter ∷ row) = is_ascii_alphabetic letter && is_row row
 
--- what a vertex says, where it lies on the board or not
+-- what a vertex says, whether it lies on the board or not
 abbrev pub on_board : Option ℕ → MoveWord
 on_board None = OffBoard
 on_board (Some cell) = Says (Stone cell)

@@ -24,7 +24,7 @@ loading_next engine left (load ∷ loads) name =
     if bytes_eq load.name name then
     unused (record left { loads = loads }) (loaded engine load.what) else Err NoLoad
 
--- the file's name, where it is the only argument and valid UTF-8
+-- the file's name, if it is the only argument and valid UTF-8
 abbrev pub file_named : List (List ℕ) → Option (List ℕ)
 file_named [] = None
 file_named (name ∷ []) = if is_utf8 name then Some name else None

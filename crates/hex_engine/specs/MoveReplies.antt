@@ -54,7 +54,7 @@ moving_by engine left (Some colour) =
     if may_move (board_of engine.game) then moving_next engine left left.turns colour
     else unused left (unchanged engine (Failed Over))
 
--- the colour, where it is the only argument
+-- the colour, if it is the only argument
 abbrev pub lone_colour : List (List ℕ) → Option Colour
 lone_colour [] = None
 lone_colour (word ∷ []) = colour_of word

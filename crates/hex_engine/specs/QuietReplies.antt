@@ -31,7 +31,7 @@ abbrev pub bare_reply : List (List ℕ) → Reply → Reply
 bare_reply [] reply = reply
 bare_reply (word ∷ words) reply = Failed Syntax
 
--- a text where there is one, and else this failure
+-- a text if there is one, and else this failure
 abbrev pub text_or : Fail → Option (List ℕ) → Reply
 text_or fail None = Failed fail
 text_or fail (Some text) = Done text
@@ -44,7 +44,7 @@ knowing (word ∷ []) =
 knowing (word ∷ other ∷ words) = Failed Syntax
 
 -- What a command with these arguments does that uses nothing up. The three that ask for the last
--- turn answer its report, what `mustplay` says of it, and its certificate, where there is one.
+-- turn answer its report, what `mustplay` says of it, and its certificate, if there is one.
 unfoldable pub quiet_reaction : EngineState → Quiet → List (List ℕ) → QuietReaction
 quiet_reaction engine BoardSize args = resized engine.game (sizes_of args)
 quiet_reaction engine ClearBoard args =

@@ -70,7 +70,7 @@ Tells reply answer = (replied answer ≡ reply) × TellsNoFault answer
 abbrev pub ReactsQuietly : QuietReaction → Answer → GameData → Type 0
 ReactsQuietly quiet answer after = Tells quiet.reply answer × (after ≡ quiet.game)
 
--- This answer, and what stands after it, are the reaction where this is used up, whatever is left
+-- This answer, and what stands after it, are the reaction if this is used up, whatever is left
 -- then.
 abbrev pub ReactsWith : (Supply → Result Turned Missing) → Supply → Answer → EngineState → Type 0
 ReactsWith react used answer after = (later : Supply)

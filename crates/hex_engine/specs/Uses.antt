@@ -17,7 +17,7 @@ use Rattle.hex_engine.specs.Requests.{ReactsWith, IsBrief, reaction}
 use Rattle.hex_engine.specs.declared.answers.Answer.{Answer}
 use Rattle.hex_engine.specs.declared.options.Options.{Options}
 
--- what comes of bytes: the game of which they are a record, or, where there is none, a refusal
+-- what comes of bytes: the game of which they are a record, or, if there is none, a refusal
 abbrev pub IsReadAs : List ℕ → Loaded → Type 0
 IsReadAs bytes Unread = ⊥
 IsReadAs bytes Refused = (game : GameData) → ¬ IsRecordOf bytes game
@@ -46,7 +46,7 @@ pub record FetchesLoads (old new : Shelved) (loads : List Load) (in_vain : List 
   pub tried : new ≡ record old { tries = old.tries ++ (tries ++ in_vain) }
   pub came : CameOf old.files tries loads
 
--- the same, where the shelf tells it
+-- the same, if the shelf tells it
 abbrev pub Loading : Option Shelved → Option Shelved → Supply → List Bool → Type 0
 Loading old new used in_vain = Both old new (λ o n. FetchesLoads o n used.loads in_vain)
 
@@ -61,7 +61,7 @@ pub record HasOneWorker (options : Options) : Type 0 where
   pub workers : options.knobs.workers ≡ 1
   pub no_connections : options.hsearch ≡ false
 
--- the archive, where it tells it, took these turns, and each is good
+-- the archive, if it tells it, took these turns, and each is good
 pub record Moving (options : Options) (old new : Option (List TurnData))
     (used : Supply) : Type 0 where
   pub took : Both old new (λ o n. n ≡ o ++ used.turns)

@@ -9,12 +9,13 @@
 //! **A caller** makes an [`Engine`] on a board's size, with the options of its turns, and hands it
 //! the requests one by one, with the runtime and the gate of its searches, a shelf that has the
 //! files and an archive that takes the turns:
-//! `engine.line(rt, &request, &mut shelf, &mut archive, &gate)`.
+//! `engine.line(rt, &request, &mut shelf, &mut archive, &gate)`. One that uses nothing up is
+//! answered by `engine.quiet_line(&request)` too, which takes none of these.
 //!
 //! **What is proved.** The reply and what stands after it are a function of what stood before, of
 //! what was used up, and of the request (specs/Requests.antt). Each load is what the shelf's fetch
 //! gave: the game of which the file is a record, or a refusal exactly if it is of none
-//! (specs/Uses.antt). Each turn is good: it was planned, and searched among the allowed cells where
+//! (specs/Uses.antt). Each turn is good: it was planned, and searched among the allowed cells if
 //! its plan is no win. The archive has it before its cell is played; its answer and its texts were
 //! made before, and the answer is brief. If memory ran out or the archive failed, nothing changed,
 //! and one fetch at most came to nothing. A count of faults changes only with the answer that tells
